@@ -1,0 +1,3 @@
+pub mod Weights
+pub mod Written
+pub mod Found

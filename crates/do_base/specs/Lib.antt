@@ -1,0 +1,11 @@
+pub mod formers
+pub mod Values
+pub mod Names
+pub mod Induction
+pub mod Equal
+pub mod Lent
+pub mod Reserved
+pub mod Bytes
+pub mod Causes
+pub mod Files
+pub mod Memory

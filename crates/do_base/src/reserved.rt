@@ -1,0 +1,132 @@
+//! A queue with room that is made beforehand.
+ghost use Rattle.std.specs.Prelude.{◌≡◌, [], ◌∷◌, ◌++◌, ◌+◌, ◌<◌, ◌≤◌, ◌↔◌, length, slice_get, IsTrue, IsNone, OnOk, OnErr, MatchOption};
+ghost use Rattle.std.specs.Option.{option_copied};
+
+use crate::items::Items;
+use std::alloc::{AllocError, Global};
+use std::collections::VecDeque;
+use std::marker::Model;
+
+/// A `VecDeque` that contracts see as the list of its items, front first, and the room that is left.
+///
+/// A step reserves first, where memory may run out, and then posts, which always succeeds. The
+/// form is this project's own.
+#[derive(Debug, Drop)]
+pub struct Reserved<T> {
+    items: VecDeque<T>,
+    spare: usize,
+}
+
+impl<T> Model for Reserved<T> {
+    ghost use Rattle.std.specs.Prelude.{◌+◌, ◌≤◌};
+    ghost use Rattle.std.specs.VecDeque.{deque_len, deque_capacity};
+    ghost use Rattle.do_base.specs.Reserved.{Reserved, reserved_code};
+
+    ghost Value = { Reserved T };
+
+    ghost coded = { reserved_code T.code };
+
+    ghost view = { λ r. record { items = r.items.items; spare = r.spare } };
+
+    ghost invariant = { λ r. deque_len r.items + r.spare ≤ deque_capacity r.items };
+}
+
+impl<T> Reserved<T> {
+    /// An empty queue with no room, for which no memory is taken.
+    pub fn new(alloc: Global) -> Reserved<T>
+        ensures { result ≡ record { items = []; spare = 0 } }
+    {
+        Reserved {
+            items: VecDeque::new(alloc),
+            spare: 0,
+        }
+    }
+
+    /// How many more items can be posted.
+    pub fn spare(&self) -> usize
+        ensures { result ≡ self.now.spare }
+    {
+        self.spare
+    }
+
+    /// How many items there are.
+    pub fn len(&self) -> usize
+        ensures { result ≡ length self.now.items }
+    {
+        self.items.len()
+    }
+
+    /// Whether there is no item.
+    pub fn is_empty(&self) -> bool
+        ensures { IsTrue result ↔ (self.now.items ≡ []) }
+    {
+        self.items.is_empty()
+    }
+
+    /// The item at a place, counted from 0 at the front. None exactly where the queue ends before it.
+    pub fn get(&self, at: usize) -> Option<&T>
+        ensures { option_copied result ≡ slice_get self.now.items at }
+    {
+        self.items.get(at)
+    }
+
+    /// The oldest item. None exactly where the queue is empty.
+    pub fn front(&self) -> Option<&T>
+        ensures none { IsNone result ↔ (self.now.items ≡ []) }
+        ensures value { option_copied result ≡ slice_get self.now.items 0 }
+    {
+        self.items.front()
+    }
+
+    /// Makes room for `more` items at least.
+    pub fn reserve(&mut self, more: usize) -> Result<(), AllocError>
+        ensures items { self.new.items ≡ self.old.items }
+        ensures ok { OnOk result (more ≤ self.new.spare) }
+        ensures kept { self.old.spare ≤ self.new.spare }
+        ensures err { OnErr result (self.new ≡ self.old) }
+    {
+        self.items.reserve(more)?;
+        if self.spare < more {
+            self.spare = more;
+        }
+        Ok(())
+    }
+
+    /// Appends an item, into room that was made before.
+    pub fn post(&mut self, item: T)
+        requires { 0 < self.old.spare }
+        ensures items { self.new.items ≡ self.old.items ++ item ∷ [] }
+        ensures spare { self.new.spare + 1 ≡ self.old.spare }
+    {
+        self.items.push_back_reserved(item);
+        self.spare -= 1;
+    }
+
+    /// Takes out the last item, and its place is room again. None exactly where the queue was empty.
+    pub fn pop(&mut self) -> Option<T>
+        ensures { MatchOption result ((self.old.items ≡ []) × (self.new ≡ self.old))
+            (λ last. (self.old.items ≡ self.new.items ++ last ∷ []) × (self.new.spare ≡ self.old.spare + 1)) }
+    {
+        let last = self.items.pop_back()?;
+        self.spare += 1;
+        Some(last)
+    }
+
+    /// Takes out the oldest item, and its place is room again. None exactly where the queue was empty.
+    pub fn pop_front(&mut self) -> Option<T>
+        ensures { MatchOption result ((self.old.items ≡ []) × (self.new ≡ self.old))
+            (λ oldest. (self.old.items ≡ oldest ∷ self.new.items) × (self.new.spare ≡ self.old.spare + 1)) }
+    {
+        let oldest = self.items.pop_front()?;
+        self.spare += 1;
+        Some(oldest)
+    }
+
+    /// Gives the items as a list, with no memory and no copy of an item.
+    pub fn into_items(self) -> Items<T>
+        ensures { result ≡ self.items }
+    {
+        let Reserved { items, spare: _ } = self;
+        Items::from_vec(items.into_vec())
+    }
+}

@@ -1,0 +1,69 @@
+//! Where output is written to.
+ghost use Rattle.std.specs.Prelude.{◌≡◌, ◌<◌, ◌≤◌, ℕ, List, length, take, IfOk, OnOk, OnErr, IsErrOf};
+ghost use Rattle.std.specs.declared.option.Option.{Option};
+ghost use Rattle.do_base.specs.Causes.{Rose};
+ghost use Rattle.do_base.specs.Bytes.{with_more, HasTaken};
+
+use crate::items::Items;
+use std::alloc::AllocError;
+
+/// Why a sink took nothing. The form is this project's own.
+#[derive(Clone, Copy, Debug, PartialEq, Eq)]
+pub enum PutFail {
+    /// The bytes could not be written.
+    Failed,
+    /// Memory ran out.
+    Memory,
+}
+
+impl From<AllocError> for PutFail {
+    ghost use Rattle.do_base.specs.declared.sink.PutFail.TheVariants.{Memory};
+
+    ghost from_gives = { λ _ e. e ≡ Memory };
+
+    fn from(_e: AllocError) -> PutFail {
+        PutFail::Memory
+    }
+}
+
+/// The numbers of the calls that fail, counted from 1.
+pub type CallList = Items<u64>;
+
+/// What bytes are written to.
+///
+/// Its ghost members are the bytes that it has taken so far, where it tells them, and a count of
+/// its faults, which ends at 2^64 - 1 and is taken as risen there. The form is this project's own.
+pub trait Sink {
+    ghost held: { Self → Option (List ℕ) };
+
+    ghost faults: { Self → ℕ };
+
+    /// Takes some of the bytes from the front of a piece that is not empty, and tells how many, one at least.
+    ///
+    /// After an error it has taken none of them. `Failed` comes only where the count of faults rose.
+    fn put(&mut self, piece: &[u8]) -> Result<usize, PutFail>
+        requires { 0 < length piece.now }
+        ensures count { IfOk result (λ n. (0 < n) × (n ≤ length piece.now)) }
+        ensures ok { IfOk result (λ n. held self.new ≡ with_more (held self.old) (take n piece.now)) }
+        ensures err { OnErr result (held self.new ≡ held self.old) }
+        ensures later { faults self.old ≤ faults self.new }
+        ensures failed { IsErrOf result PutFail.Failed → Rose (faults self.old) (faults self.new) };
+}
+
+/// Writes all of the bytes, in as many pieces as the sink likes.
+///
+/// After an error the sink has taken some of them from the front, and no others. `Failed` comes
+/// only where its count of faults rose. No bytes are written by no call.
+pub fn write_all<K: Sink>(out: &mut K, bytes: &[u8]) -> Result<(), PutFail>
+    ensures ok { OnOk result (K.held out.new ≡ with_more (K.held out.old) bytes.now) }
+    ensures prefix { HasTaken (K.held out.old) (K.held out.new) bytes.now }
+    ensures later { K.faults out.old ≤ K.faults out.new }
+    ensures failed { IsErrOf result PutFail.Failed → Rose (K.faults out.old) (K.faults out.new) }
+{
+    let mut done = 0;
+    while done < bytes.len() {
+        let count = out.put(&bytes[done..])?;
+        done += count;
+    }
+    Ok(())
+}

@@ -1,0 +1,73 @@
+ghost use Rattle.std.specs.Prelude.{Some};
+
+use super::*;
+
+fn shelf(rt: &HostRuntime, fail: &[u64]) -> Result<MemShelf, AllocError> {
+    let mut files = FileList::new(rt.alloc());
+    files.push(NamedFile {
+        name: text(rt, b"three")?,
+        bytes: text(rt, b"abc")?,
+    })?;
+    MemShelf::new(rt.alloc(), files, numbers(rt, fail)?)
+}
+
+#[test]
+fn fetches(rt: HostRuntime) -> Result<(), Fail> {
+    let cases = [
+        (b"three".as_slice(), 3, Ok(text(&rt, b"abc")?)),
+        (
+            b"three".as_slice(),
+            2,
+            Err(FetchFail::Long { read: 3, limit: 2 }),
+        ),
+        (b"threes".as_slice(), 3, Err(FetchFail::Failed)),
+    ];
+    for (name, limit, want) in &cases {
+        let got = shelf(&rt, &[2])?.fetch(&text(&rt, name)?, *limit);
+        assert!(rt; got == *want);
+    }
+    Ok(())
+}
+
+#[test]
+fn fails_by_number(rt: HostRuntime) -> Result<(), Fail> {
+    let mut shelf = shelf(&rt, &[2])?;
+    let name = text(&rt, b"three")?;
+    for want in [true, false, true] {
+        assert_eq!(rt; shelf.fetch(&name, 3).is_ok(), want);
+    }
+    let mut sink = MemSink::new(rt.alloc(), numbers(&rt, &[2])?)?;
+    assert_eq!(rt; write_all(&mut sink, b"ab"), Ok(()));
+    assert_eq!(rt; write_all(&mut sink, b"cd"), Err(PutFail::Failed));
+    assert_eq!(rt; write_all(&mut sink, b""), Ok(()));
+    assert_eq!(rt; write_all(&mut sink, b"ef"), Ok(()));
+    assert!(rt; sink.bytes().is(b"abef"));
+    Ok(())
+}
+
+// It takes a byte at a time.
+#[derive(Drop)]
+struct Narrow {
+    taken: Text,
+}
+
+impl Sink for Narrow {
+    ghost held = { λ s. Some s.taken };
+
+    ghost faults = { λ s. 0 };
+
+    fn put(&mut self, piece: &[u8]) -> Result<usize, PutFail> {
+        self.taken.push(piece[0])?;
+        Ok(1)
+    }
+}
+
+#[test]
+fn writes_bit_by_bit(rt: HostRuntime) -> Result<(), Fail> {
+    let mut sink = Narrow {
+        taken: Text::new(rt.alloc()),
+    };
+    assert_eq!(rt; write_all(&mut sink, b"hello"), Ok(()));
+    assert!(rt; sink.taken.is(b"hello"));
+    Ok(())
+}

@@ -1,0 +1,206 @@
+-- Readers that read a grammar exactly: nothing, one after the other, one byte.
+use Rattle.std.proofs.Common.{◌≡◌, ℕ, suc, Bool, true, false, cond, List, [], ◌∷◌, ◌++◌, length, Result, Ok, Err, refl, sym, ap, subst, ◌∙◌, append_assoc}
+use Rattle.do_grammar.specs.Reader.{Stop, short, bad, Reader, ◌>>=◌, done, and_then, byte_of}
+use Rattle.do_grammar.specs.Grammar.{IsBytes, Begins}
+use Rattle.do_grammar.specs.Forms.{Done, Then, Byte, Passes}
+
+-- what a reader of a grammar that stops at a byte tells
+pub record StopsAt {K A : Type 0} (G : List ℕ → A → Type 0) (r : Reader K A) (bytes : List ℕ) (k : K) (left : ℕ) : Type 0 where
+  pub front : List ℕ
+  pub byte : ℕ
+  pub rest : List ℕ
+  pub parts : bytes ≡ front ++ byte ∷ rest
+  pub place : left ≡ suc (length rest)
+  pub goes_on : Begins G front
+  pub stays : (after : List ℕ) → r (front ++ byte ∷ after) ≡ Err (bad k (suc (length after)))
+
+pub record Takes {A : Type 0} (G : List ℕ → A → Type 0) (bytes : List ℕ) (x : A) (rest : List ℕ) : Type 0 where
+  pub text : List ℕ
+  pub parts : bytes ≡ text ++ rest
+  pub spelled : G text x
+
+pub record Reads {K A : Type 0} (G : List ℕ → A → Type 0) (r : Reader K A) : Type 0 where
+  pub bytes : (text : List ℕ) (x : A) → G text x → IsBytes text
+  pub live : Begins G []
+  pub again : (text : List ℕ) (x : A) (rest : List ℕ) → G text x → r (text ++ rest) ≡ Ok (x, rest)
+  pub takes : (bytes : List ℕ) (x : A) (rest : List ℕ) → IsBytes bytes → r bytes ≡ Ok (x, rest) → Takes G bytes x rest
+  pub ends : (bytes : List ℕ) → IsBytes bytes → r bytes ≡ Err short → Begins G bytes
+  pub stops : (bytes : List ℕ) (k : K) (left : ℕ) → IsBytes bytes → r bytes ≡ Err (bad k left) → StopsAt G r bytes k left
+
+pub IsBytes-append : (a b : List ℕ) → IsBytes a → IsBytes b → IsBytes (a ++ b)
+IsBytes-append [] b p q = q
+IsBytes-append (x ∷ a) b p q = (p.0, IsBytes-append a b p.1 q)
+
+pub IsBytes-rest : (a b : List ℕ) → IsBytes (a ++ b) → IsBytes b
+IsBytes-rest [] b p = p
+IsBytes-rest (x ∷ a) b p = IsBytes-rest a b p.1
+
+pub bind_ok : {K A B : Type 0} (r : Result A (Stop K)) (f : A → Result B (Stop K)) (y : B) → (r >>= f) ≡ Ok y → (x : A) × (r ≡ Ok x) × (f x ≡ Ok y)
+bind_ok (Ok x) f y e = (x, refl, e)
+bind_ok (Err d) f y e = absurd cc
+
+abbrev okay : {E A : Type 0} → A → Result A E
+okay x = Ok x
+
+ok_is : {E A : Type 0} (x y : A) → okay {E = E} x ≡ okay y → x ≡ y
+ok_is x y e = cc
+
+-- the value and the rest of a reader that did not fail
+pub ok_value : {E A : Type 0} (x y : A) (xs ys : List ℕ) → okay {E = E} {A = A × List ℕ} (x, xs) ≡ okay (y, ys) → x ≡ y
+ok_value {A = A} x y xs ys e = ap (λ (p : A × List ℕ). p.0) (ok_is (x, xs) (y, ys) e)
+
+pub ok_rest : {E A : Type 0} (x y : A) (xs ys : List ℕ) → okay {E = E} {A = A × List ℕ} (x, xs) ≡ okay (y, ys) → xs ≡ ys
+ok_rest {A = A} x y xs ys e = ap (λ (p : A × List ℕ). p.1) (ok_is (x, xs) (y, ys) e)
+
+-- a chain that stopped did so in its first step or behind it
+pub data Stopped {K A B : Type 0} (r : Result A (Stop K)) (f : A → Result B (Stop K)) (s : Stop K) : Type 0 where
+  first : r ≡ Err s → Stopped r f s
+  later : (x : A) → r ≡ Ok x → f x ≡ Err s → Stopped r f s
+
+pub bind_err : {K A B : Type 0} (r : Result A (Stop K)) (f : A → Result B (Stop K)) (s : Stop K) → (r >>= f) ≡ Err s → Stopped r f s
+bind_err (Ok x) f s e = later x refl e
+bind_err (Err d) f s e = first cc
+
+-- ---- nothing
+
+pub Reads-done : {K A : Type 0} (x : A) → Reads {K = K} (Done x) (done x)
+Reads-done x = record {
+  bytes = λ text y g. subst IsBytes (sym g.nothing) tt;
+  live = record { more = []; value = x; spelled = record { nothing = refl; same = refl } };
+  again = λ text y rest g. rw (g.nothing, g.same) refl;
+  takes = λ bytes y rest b e. record { text = []; parts = ok_rest x y bytes rest e; spelled = record { nothing = refl; same = ok_value x y bytes rest e } };
+  ends = λ bytes b e. absurd cc;
+  stops = λ bytes k left b e. absurd cc;
+}
+
+-- ---- one after the other
+
+module _ {K A B : Type 0} (G : List ℕ → A → Type 0) (H : A → List ℕ → B → Type 0) (r : Reader K A) (f : A → Reader K B) (R : Reads G r) (S : (x : A) (text : List ℕ) → G text x → Reads (H x) (f x)) where
+  then_bytes : (text : List ℕ) (y : B) → Then G H text y → IsBytes text
+  then_bytes text y g = subst IsBytes (sym g.parts) (IsBytes-append g.front g.back (R.bytes g.front g.value g.first) ((S g.value g.front g.first).bytes g.back y g.second))
+
+  -- what begins a spelling of the first begins one of both
+  then_begins : (front : List ℕ) → Begins G front → Begins (Then G H) front
+  then_begins front b =
+      let l = (S b.value (front ++ b.more) b.spelled).live in
+      record { more = b.more ++ l.more; value = l.value; spelled = record { value = b.value; front = front ++ b.more; back = l.more; parts = sym (append_assoc front b.more l.more); first = b.spelled; second = l.spelled } }
+
+  -- what begins a spelling of the second, behind one of the first
+  then_begins_later : (text : List ℕ) (x : A) (front : List ℕ) → G text x → Begins (H x) front → Begins (Then G H) (text ++ front)
+  then_begins_later text x front g b =
+      record { more = b.more; value = b.value; spelled = record { value = x; front = text; back = front ++ b.more; parts = append_assoc text front b.more; first = g; second = b.spelled } }
+
+  then_again : (text : List ℕ) (y : B) (rest : List ℕ) → Then G H text y → and_then r f (text ++ rest) ≡ Ok (y, rest)
+  then_again text y rest g =
+      let regrouped : text ++ rest ≡ g.front ++ (g.back ++ rest) = ap (λ (t : List ℕ). t ++ rest) g.parts ∙ append_assoc g.front g.back rest in
+      ap (and_then r f) regrouped ∙ rw (R.again g.front g.value (g.back ++ rest) g.first) ((S g.value g.front g.first).again g.back y rest g.second)
+
+  then_takes : (bytes : List ℕ) (y : B) (rest : List ℕ) → IsBytes bytes → and_then r f bytes ≡ Ok (y, rest) → Takes (Then G H) bytes y rest
+  then_takes bytes y rest b e =
+      let c = bind_ok (r bytes) (λ x. f x.0 x.1) (y, rest) e in
+      let t = R.takes bytes c.0.0 c.0.1 b c.1 in
+      let u = (S c.0.0 t.text t.spelled).takes c.0.1 y rest (IsBytes-rest t.text c.0.1 (subst IsBytes t.parts b)) c.2 in
+      record {
+        text = t.text ++ u.text;
+        parts = t.parts ∙ ap (λ (x : List ℕ). t.text ++ x) u.parts ∙ sym (append_assoc t.text u.text rest);
+        spelled = record { value = c.0.0; front = t.text; back = u.text; parts = refl; first = t.spelled; second = u.spelled };
+      }
+
+  then_ends : (bytes : List ℕ) → IsBytes bytes → and_then r f bytes ≡ Err short → Begins (Then G H) bytes
+  then_ends bytes b e = go (bind_err (r bytes) (λ x. f x.0 x.1) short e)
+    where
+      go : Stopped (r bytes) (λ x. f x.0 x.1) short → Begins (Then G H) bytes
+      go (first h) = then_begins bytes (R.ends bytes b h)
+      go (later x h h') =
+          let t = R.takes bytes x.0 x.1 b h in
+          subst (Begins (Then G H)) (sym t.parts) (then_begins_later t.text x.0 x.1 t.spelled ((S x.0 t.text t.spelled).ends x.1 (IsBytes-rest t.text x.1 (subst IsBytes t.parts b)) h'))
+
+  then_stops : (bytes : List ℕ) (k : K) (left : ℕ) → IsBytes bytes → and_then r f bytes ≡ Err (bad k left) → StopsAt (Then G H) (and_then r f) bytes k left
+  then_stops bytes k left b e = go (bind_err (r bytes) (λ x. f x.0 x.1) (bad k left) e)
+    where
+      go : Stopped (r bytes) (λ x. f x.0 x.1) (bad k left) → StopsAt (Then G H) (and_then r f) bytes k left
+      go (first h) =
+          let s = R.stops bytes k left b h in
+          record { front = s.front; byte = s.byte; rest = s.rest; parts = s.parts; place = s.place; goes_on = then_begins s.front s.goes_on; stays = λ after. rw (s.stays after) refl }
+      go (later x h h') =
+          let t = R.takes bytes x.0 x.1 b h in
+          let s = (S x.0 t.text t.spelled).stops x.1 k left (IsBytes-rest t.text x.1 (subst IsBytes t.parts b)) h' in
+          record {
+            front = t.text ++ s.front;
+            byte = s.byte;
+            rest = s.rest;
+            parts = t.parts ∙ ap (λ (w : List ℕ). t.text ++ w) s.parts ∙ sym (append_assoc t.text s.front (s.byte ∷ s.rest));
+            place = s.place;
+            goes_on = then_begins_later t.text x.0 s.front t.spelled s.goes_on;
+            stays = λ after. ap (and_then r f) (append_assoc t.text s.front (s.byte ∷ after)) ∙ rw (R.again t.text x.0 (s.front ++ s.byte ∷ after) t.spelled) (s.stays after);
+          }
+
+  pub Reads-then : Reads (Then G H) (and_then r f)
+  Reads-then = record { bytes = then_bytes; live = then_begins [] R.live; again = then_again; takes = then_takes; ends = then_ends; stops = then_stops }
+
+-- ---- one byte
+
+-- a test that passed, and one that did not
+pub guard_ok : {E A : Type 0} (b : Bool) (s : E) (x y : A) → cond b (okay x) (Err s) ≡ Ok y → (b ≡ true) × (x ≡ y)
+guard_ok true s x y e = (refl, ok_is x y e)
+guard_ok false s x y e = absurd cc
+
+pub guard_err : {E A : Type 0} (b : Bool) (s t : E) (x : A) → cond b (okay x) (Err s) ≡ Err t → (b ≡ false) × (t ≡ s)
+guard_err true s t x e = absurd cc
+guard_err false s t x e = (refl, cc)
+
+pub past_ok : {E A : Type 0} (b : Bool) (s : E) (x y : A) → cond b (Err s) (okay x) ≡ Ok y → (b ≡ false) × (x ≡ y)
+past_ok true s x y e = absurd cc
+past_ok false s x y e = (refl, ok_is x y e)
+
+pub past_err : {E A : Type 0} (b : Bool) (s t : E) (x : A) → cond b (Err s) (okay x) ≡ Err t → (b ≡ true) × (t ≡ s)
+past_err true s t x e = (refl, cc)
+past_err false s t x e = absurd cc
+
+pub Reads-byte : {K : Type 0} (ok : ℕ → Bool) (why : ℕ → K) → Passes ok → Reads (Byte ok) (byte_of ok why)
+Reads-byte {K = K} ok why some = record {
+  bytes = λ text b g. subst IsBytes (sym g.alone) (g.small, tt);
+  live = begins;
+  again = λ text b rest g. rw g.alone (rw g.passes refl);
+  takes = takes;
+  ends = ends;
+  stops = stops;
+}
+  where
+    begins : Begins (Byte ok) []
+    begins = record { more = some.byte ∷ []; value = some.byte; spelled = record { alone = refl; passes = some.passes; small = some.small } }
+
+    takes : (bytes : List ℕ) (x : ℕ) (rest : List ℕ) → IsBytes bytes → byte_of ok why bytes ≡ Ok (x, rest) → Takes (Byte ok) bytes x rest
+    takes [] x rest h e = absurd cc
+    takes (b ∷ bytes) x rest h e =
+        let c = guard_ok (ok b) (bad (why b) (suc (length bytes))) (b, bytes) (x, rest) e in
+        let same : b ≡ x = ap (λ (w : ℕ × List ℕ). w.0) c.1 in
+        record { text = b ∷ []; parts = ap (λ (w : ℕ × List ℕ). b ∷ w.1) c.1; spelled = record { alone = ap (λ (w : ℕ). w ∷ []) same; passes = rw (← same) c.0; small = rw (← same) h.0 } }
+
+    ends : (bytes : List ℕ) → IsBytes bytes → byte_of ok why bytes ≡ Err short → Begins (Byte ok) bytes
+    ends [] h e = begins
+    ends (b ∷ bytes) h e = let c = guard_err (ok b) (bad (why b) (suc (length bytes))) short (b, bytes) e in absurd cc
+
+    stops : (bytes : List ℕ) (k : K) (left : ℕ) → IsBytes bytes → byte_of ok why bytes ≡ Err (bad k left) → StopsAt (Byte ok) (byte_of ok why) bytes k left
+    stops [] k left h e = absurd cc
+    stops (b ∷ bytes) k left h e =
+        let c = guard_err (ok b) (bad (why b) (suc (length bytes))) (bad k left) (b, bytes) e in
+        let kind : k ≡ why b = cc in
+        record { front = []; byte = b; rest = bytes; parts = refl; place = cc; goes_on = begins; stays = λ after. rw (c.0, kind) refl }
+
+-- ---- the same reader, the same grammar
+
+pub Reads-as : {K A : Type 0} (G H : List ℕ → A → Type 0) (r s : Reader K A) → ((text : List ℕ) (x : A) → G text x → H text x) → ((text : List ℕ) (x : A) → H text x → G text x) → ((bytes : List ℕ) → r bytes ≡ s bytes) → Reads G r → Reads H s
+Reads-as G H r s there back same R = record {
+  bytes = λ text x h. R.bytes text x (back text x h);
+  live = begins [] R.live;
+  again = λ text x rest h. sym (same (text ++ rest)) ∙ R.again text x rest (back text x h);
+  takes = λ bytes x rest b e. let t = R.takes bytes x rest b (same bytes ∙ e) in record { text = t.text; parts = t.parts; spelled = there t.text x t.spelled };
+  ends = λ bytes b e. begins bytes (R.ends bytes b (same bytes ∙ e));
+  stops = λ bytes k left b e.
+      let t = R.stops bytes k left b (same bytes ∙ e) in
+      record { front = t.front; byte = t.byte; rest = t.rest; parts = t.parts; place = t.place; goes_on = begins t.front t.goes_on; stays = λ after. sym (same (t.front ++ t.byte ∷ after)) ∙ t.stays after };
+}
+  where
+    begins : (front : List ℕ) → Begins G front → Begins H front
+    begins front b = record { more = b.more; value = b.value; spelled = there (front ++ b.more) b.value b.spelled }

@@ -1,0 +1,250 @@
+-- Readers of all the bytes, and of bytes that lead from state to state.
+use Rattle.std.proofs.Common.{◌≡◌, ℕ, suc, ◌+◌, ◌<◌, ◌≤◌, List, [], ◌∷◌, ◌++◌, length, take, Option, Some, None, Result, Ok, Err, refl, sym, ap, subst, ◌∙◌, append_assoc, arith}
+use Rattle.std.specs.Prelude.{◌-◌}
+use Rattle.std.proofs.lemmas.List.{append-nil, length-append, take_at}
+use Rattle.do_grammar.specs.Reader.{Stop, short, bad, Reader, Whole, ended, whole_of, then_whole, accepted, by_result, run}
+use Rattle.do_grammar.specs.Grammar.{IsBytes, Begins, IsProperFront, IsFirstBadWhole}
+use Rattle.do_grammar.specs.Forms.{Then, OnGo, Runs}
+use Rattle.do_grammar.proofs.Exact.{Reads, Stopped, first, later, bind_ok, bind_err, IsBytes-append, IsBytes-rest}
+
+pub record StopsWhole {K A : Type 0} (G : List ℕ → A → Type 0) (w : Whole K A) (bytes : List ℕ) (k : K) (left : ℕ) : Type 0 where
+  pub front : List ℕ
+  pub byte : ℕ
+  pub rest : List ℕ
+  pub parts : bytes ≡ front ++ byte ∷ rest
+  pub place : left ≡ suc (length rest)
+  pub goes_on : Begins G front
+  pub stays : (after : List ℕ) → w (front ++ byte ∷ after) ≡ Err (bad k (suc (length after)))
+
+pub record ReadsWhole {K A : Type 0} (G : List ℕ → A → Type 0) (w : Whole K A) : Type 0 where
+  pub bytes : (text : List ℕ) (x : A) → G text x → IsBytes text
+  pub live : Begins G []
+  pub again : (text : List ℕ) (x : A) → G text x → w text ≡ Ok x
+  pub takes : (bytes : List ℕ) (x : A) → IsBytes bytes → w bytes ≡ Ok x → G bytes x
+  pub ends : (bytes : List ℕ) → IsBytes bytes → w bytes ≡ Err short → Begins G bytes
+  pub stops : (bytes : List ℕ) (k : K) (left : ℕ) → IsBytes bytes → w bytes ≡ Err (bad k left) → StopsWhole G w bytes k left
+
+-- ---- nothing left over
+
+ended_ok : {K A : Type 0} (why : K) (x : A × List ℕ) (y : A) → ended why x ≡ Ok y → (x.0 ≡ y) × (x.1 ≡ [])
+ended_ok why (x, []) y e = (cc, refl)
+ended_ok why (x, b ∷ rest) y e = absurd cc
+
+pub Reads-whole : {K A : Type 0} (why : K) (G : List ℕ → A → Type 0) (r : Reader K A) → Reads G r → ReadsWhole G (whole_of why r)
+Reads-whole {K = K} {A = A} why G r R = record {
+  bytes = R.bytes;
+  live = R.live;
+  again = λ text x g. ap (λ (w : List ℕ). whole_of why r w) (sym (append-nil text)) ∙ rw (R.again text x [] g) refl;
+  takes = takes;
+  ends = ends;
+  stops = stops;
+}
+  where
+    takes : (bytes : List ℕ) (x : A) → IsBytes bytes → whole_of why r bytes ≡ Ok x → G bytes x
+    takes bytes x small e =
+        let c = bind_ok (r bytes) (ended why) x e in
+        let d = ended_ok why c.0 x c.2 in
+        let t = R.takes bytes c.0.0 c.0.1 small c.1 in
+        let same : t.text ≡ bytes = sym (append-nil t.text) ∙ ap (λ (w : List ℕ). t.text ++ w) (sym d.1) ∙ sym t.parts in
+        subst (λ (w : A). G bytes w) d.0 (subst (λ (w : List ℕ). G w c.0.0) same t.spelled)
+
+    ended_err : (x : A × List ℕ) (s : Stop K) → ended why x ≡ Err s → (b : ℕ) × (rest : List ℕ) × (x.1 ≡ b ∷ rest) × (s ≡ bad why (suc (length rest)))
+    ended_err (x, []) s e = absurd cc
+    ended_err (x, b ∷ rest) s e = (b, rest, refl, cc)
+
+    ends : (bytes : List ℕ) → IsBytes bytes → whole_of why r bytes ≡ Err short → Begins G bytes
+    ends bytes small e = go (bind_err (r bytes) (ended why) short e)
+      where
+        go : Stopped (r bytes) (ended why) short → Begins G bytes
+        go (first h) = R.ends bytes small h
+        go (later x h h') = let d = ended_err x short h' in let f = d.3 in absurd cc
+
+    stops : (bytes : List ℕ) (k : K) (left : ℕ) → IsBytes bytes → whole_of why r bytes ≡ Err (bad k left) → StopsWhole G (whole_of why r) bytes k left
+    stops bytes k left small e = go (bind_err (r bytes) (ended why) (bad k left) e)
+      where
+        go : Stopped (r bytes) (ended why) (bad k left) → StopsWhole G (whole_of why r) bytes k left
+        go (first h) = let s = R.stops bytes k left small h in record { front = s.front; byte = s.byte; rest = s.rest; parts = s.parts; place = s.place; goes_on = s.goes_on; stays = λ after. rw (s.stays after) refl }
+        go (later x h h') =
+            let d = ended_err x (bad k left) h' in
+            let f = d.3 in
+            let kind : k ≡ why = cc in
+            let t = R.takes bytes x.0 x.1 small h in
+            record {
+              front = t.text;
+              byte = d.0;
+              rest = d.1;
+              parts = t.parts ∙ ap (λ (w : List ℕ). t.text ++ w) d.2;
+              place = cc;
+              goes_on = record { more = []; value = x.0; spelled = subst (λ (w : List ℕ). G w x.0) (sym (append-nil t.text)) t.spelled };
+              stays = λ after. rw (R.again t.text x.0 (d.0 ∷ after) t.spelled, kind) refl;
+            }
+
+-- ---- a reader, and then all the rest
+
+module _ {K A B : Type 0} (G : List ℕ → A → Type 0) (H : A → List ℕ → B → Type 0) (r : Reader K A) (f : A → Whole K B) (R : Reads G r) (S : (x : A) (text : List ℕ) → G text x → ReadsWhole (H x) (f x)) where
+  whole_begins : (front : List ℕ) → Begins G front → Begins (Then G H) front
+  whole_begins front b =
+      let l = (S b.value (front ++ b.more) b.spelled).live in
+      record { more = b.more ++ l.more; value = l.value; spelled = record { value = b.value; front = front ++ b.more; back = l.more; parts = sym (append_assoc front b.more l.more); first = b.spelled; second = l.spelled } }
+
+  whole_begins_later : (text : List ℕ) (x : A) (front : List ℕ) → G text x → Begins (H x) front → Begins (Then G H) (text ++ front)
+  whole_begins_later text x front g b = record { more = b.more; value = b.value; spelled = record { value = x; front = text; back = front ++ b.more; parts = append_assoc text front b.more; first = g; second = b.spelled } }
+
+  whole_ends : (bytes : List ℕ) → IsBytes bytes → then_whole r f bytes ≡ Err short → Begins (Then G H) bytes
+  whole_ends bytes small e = go (bind_err (r bytes) (λ x. f x.0 x.1) short e)
+    where
+      go : Stopped (r bytes) (λ x. f x.0 x.1) short → Begins (Then G H) bytes
+      go (first h) = whole_begins bytes (R.ends bytes small h)
+      go (later x h h') =
+          let t = R.takes bytes x.0 x.1 small h in
+          subst (Begins (Then G H)) (sym t.parts) (whole_begins_later t.text x.0 x.1 t.spelled ((S x.0 t.text t.spelled).ends x.1 (IsBytes-rest t.text x.1 (subst IsBytes t.parts small)) h'))
+
+  whole_stops : (bytes : List ℕ) (k : K) (left : ℕ) → IsBytes bytes → then_whole r f bytes ≡ Err (bad k left) → StopsWhole (Then G H) (then_whole r f) bytes k left
+  whole_stops bytes k left small e = go (bind_err (r bytes) (λ x. f x.0 x.1) (bad k left) e)
+    where
+      go : Stopped (r bytes) (λ x. f x.0 x.1) (bad k left) → StopsWhole (Then G H) (then_whole r f) bytes k left
+      go (first h) =
+          let s = R.stops bytes k left small h in
+          record { front = s.front; byte = s.byte; rest = s.rest; parts = s.parts; place = s.place; goes_on = whole_begins s.front s.goes_on; stays = λ after. rw (s.stays after) refl }
+      go (later x h h') =
+          let t = R.takes bytes x.0 x.1 small h in
+          let s = (S x.0 t.text t.spelled).stops x.1 k left (IsBytes-rest t.text x.1 (subst IsBytes t.parts small)) h' in
+          record {
+            front = t.text ++ s.front;
+            byte = s.byte;
+            rest = s.rest;
+            parts = t.parts ∙ ap (λ (w : List ℕ). t.text ++ w) s.parts ∙ sym (append_assoc t.text s.front (s.byte ∷ s.rest));
+            place = s.place;
+            goes_on = whole_begins_later t.text x.0 s.front t.spelled s.goes_on;
+            stays = λ after. ap (then_whole r f) (append_assoc t.text s.front (s.byte ∷ after)) ∙ rw (R.again t.text x.0 (s.front ++ s.byte ∷ after) t.spelled) (s.stays after);
+          }
+
+  pub Reads-then_whole : ReadsWhole (Then G H) (then_whole r f)
+  Reads-then_whole = record {
+    bytes = λ text y g. subst IsBytes (sym g.parts) (IsBytes-append g.front g.back (R.bytes g.front g.value g.first) ((S g.value g.front g.first).bytes g.back y g.second));
+    live = whole_begins [] R.live;
+    again = λ text y g. ap (then_whole r f) g.parts ∙ rw (R.again g.front g.value g.back g.first) ((S g.value g.front g.first).again g.back y g.second);
+    takes = λ bytes y small e.
+        let c = bind_ok (r bytes) (λ x. f x.0 x.1) y e in
+        let t = R.takes bytes c.0.0 c.0.1 small c.1 in
+        record { value = c.0.0; front = t.text; back = c.0.1; parts = t.parts; first = t.spelled; second = (S c.0.0 t.text t.spelled).takes c.0.1 y (IsBytes-rest t.text c.0.1 (subst IsBytes t.parts small)) c.2 };
+    ends = whole_ends;
+    stops = whole_stops;
+  }
+
+pub Whole-as : {K A : Type 0} (G H : List ℕ → A → Type 0) (r s : Whole K A) → ((text : List ℕ) (x : A) → G text x → H text x) → ((text : List ℕ) (x : A) → H text x → G text x) → ((bytes : List ℕ) → r bytes ≡ s bytes) → ReadsWhole G r → ReadsWhole H s
+Whole-as G H r s there back same R = record {
+  bytes = λ text x h. R.bytes text x (back text x h);
+  live = begins [] R.live;
+  again = λ text x h. sym (same text) ∙ R.again text x (back text x h);
+  takes = λ bytes x b e. there bytes x (R.takes bytes x b (same bytes ∙ e));
+  ends = λ bytes b e. begins bytes (R.ends bytes b (same bytes ∙ e));
+  stops = λ bytes k left b e.
+      let t = R.stops bytes k left b (same bytes ∙ e) in
+      record { front = t.front; byte = t.byte; rest = t.rest; parts = t.parts; place = t.place; goes_on = begins t.front t.goes_on; stays = λ after. sym (same (t.front ++ t.byte ∷ after)) ∙ t.stays after };
+}
+  where
+    begins : (front : List ℕ) → Begins G front → Begins H front
+    begins front b = record { more = b.more; value = b.value; spelled = there (front ++ b.more) b.value b.spelled }
+
+-- ---- bytes from state to state, up to their end
+
+module _ {S K A : Type 0} (step : S → ℕ → Result S K) (accept : S → Option A) (Good : S → Type 0) (stays_good : (s : S) (b : ℕ) (t : S) → Good s → step s b ≡ Ok t → Good t) (live : (s : S) → Good s → Begins (Runs step accept s) []) where
+  run_bytes : (text : List ℕ) (s : S) (x : A) → Runs step accept s text x → IsBytes text
+  run_bytes [] s x g = tt
+  run_bytes (b ∷ text) s x g = (g.0, on (λ u h. run_bytes text u x h) (step s b) g.1)
+    where
+      on : ((u : S) → Runs step accept u text x → IsBytes text) → (t : Result S K) → OnGo t (λ u. Runs step accept u text x) → IsBytes text
+      on again (Ok u) h = again u h
+      on again (Err k) h = absurd h
+
+  run_again : (text : List ℕ) (s : S) (x : A) → Runs step accept s text x → run step accept s text ≡ Ok x
+  run_again [] s x g = rw g refl
+  run_again (b ∷ text) s x g = on (λ u h. run_again text u x h) (step s b) g.1
+    where
+      on : ((u : S) → Runs step accept u text x → run step accept u text ≡ Ok x) → (t : Result S K) → OnGo t (λ u. Runs step accept u text x) → by_result t (λ u. run step accept u text) (λ k. Err (bad k (suc (length text)))) ≡ Ok x
+      on again (Ok u) h = again u h
+      on again (Err k) h = absurd h
+
+  run_takes : (bytes : List ℕ) (s : S) (x : A) → IsBytes bytes → run step accept s bytes ≡ Ok x → Runs step accept s bytes x
+  run_takes [] s x small e = on (accept s) e
+    where
+      on : (o : Option A) → accepted {K = K} o ≡ Ok x → o ≡ Some x
+      on None h = absurd cc
+      on (Some y) h = cc
+  run_takes (b ∷ bytes) s x small e = (small.0, on (λ u h. run_takes bytes u x small.1 h) (step s b) e)
+    where
+      on : ((u : S) → run step accept u bytes ≡ Ok x → Runs step accept u bytes x) → (t : Result S K) → by_result t (λ u. run step accept u bytes) (λ k. Err (bad k (suc (length bytes)))) ≡ Ok x → OnGo t (λ u. Runs step accept u bytes x)
+      on again (Ok u) h = again u h
+      on again (Err k) h = absurd cc
+
+  run_begins : (b : ℕ) (s t : S) (front : List ℕ) → b < 256 → step s b ≡ Ok t → Begins (Runs step accept t) front → Begins (Runs step accept s) (b ∷ front)
+  run_begins b s t front small e h = record { more = h.more; value = h.value; spelled = (small, subst (λ (w : Result S K). OnGo w (λ u. Runs step accept u (front ++ h.more) h.value)) (sym e) h.spelled) }
+
+  run_ends : (bytes : List ℕ) (s : S) → Good s → IsBytes bytes → run step accept s bytes ≡ Err short → Begins (Runs step accept s) bytes
+  run_ends [] s good small e = live s good
+  run_ends (b ∷ bytes) s good small e = on (λ u g h. run_ends bytes u g small.1 h) (step s b) refl e
+    where
+      on : ((u : S) → Good u → run step accept u bytes ≡ Err short → Begins (Runs step accept u) bytes) → (t : Result S K) → step s b ≡ t → by_result t (λ u. run step accept u bytes) (λ k. Err (bad k (suc (length bytes)))) ≡ Err short → Begins (Runs step accept s) (b ∷ bytes)
+      on again (Ok u) h h' = run_begins b s u bytes small.0 h (again u (stays_good s b u good h) h')
+      on again (Err k) h h' = absurd cc
+
+  run_stops : (bytes : List ℕ) (s : S) (k : K) (left : ℕ) → Good s → IsBytes bytes → run step accept s bytes ≡ Err (bad k left) → StopsWhole (Runs step accept s) (run step accept s) bytes k left
+  run_stops [] s k left good small e = on (accept s) e
+    where
+      on : (o : Option A) → accepted o ≡ Err (bad k left) → StopsWhole (Runs step accept s) (run step accept s) [] k left
+      on None h = absurd cc
+      on (Some y) h = absurd cc
+  run_stops (b ∷ bytes) s k left good small e = on (λ u g h. run_stops bytes u k left g small.1 h) (step s b) refl e
+    where
+      on : ((u : S) → Good u → run step accept u bytes ≡ Err (bad k left) → StopsWhole (Runs step accept u) (run step accept u) bytes k left) → (t : Result S K) → step s b ≡ t → by_result t (λ u. run step accept u bytes) (λ k. Err (bad k (suc (length bytes)))) ≡ Err (bad k left) → StopsWhole (Runs step accept s) (run step accept s) (b ∷ bytes) k left
+      on again (Ok u) h h' =
+          let t = again u (stays_good s b u good h) h' in
+          record { front = b ∷ t.front; byte = t.byte; rest = t.rest; parts = ap (λ (w : List ℕ). b ∷ w) t.parts; place = t.place; goes_on = run_begins b s u t.front small.0 h t.goes_on; stays = λ after. rw h (t.stays after) }
+      on again (Err j) h h' = let kind : j ≡ k = cc in record { front = []; byte = b; rest = bytes; parts = refl; place = cc; goes_on = live s good; stays = λ after. rw (h, kind) refl }
+
+  pub Reads-run : (s : S) → Good s → ReadsWhole (Runs step accept s) (run step accept s)
+  Reads-run s good = record {
+    bytes = λ text x g. run_bytes text s x g;
+    live = live s good;
+    again = λ text x g. run_again text s x g;
+    takes = λ bytes x small e. run_takes bytes s x small e;
+    ends = λ bytes small e. run_ends bytes s good small e;
+    stops = λ bytes k left small e. run_stops bytes s k left good small e;
+  }
+
+-- ---- what an exact reader of all the bytes tells
+
+pub left_within_whole : {K A : Type 0} (G : List ℕ → A → Type 0) (w : Whole K A) → ReadsWhole G w → (bytes : List ℕ) (k : K) (left : ℕ) → IsBytes bytes → w bytes ≡ Err (bad k left) → left ≤ length bytes
+left_within_whole G w R bytes k left small e =
+    let s = R.stops bytes k left small e in
+    let place = s.place in
+    omega (arith, ap length s.parts ∙ length-append s.front (s.byte ∷ s.rest))
+
+pub proper_front_whole : {K A : Type 0} (G : List ℕ → A → Type 0) (w : Whole K A) → ReadsWhole G w → (bytes : List ℕ) → IsBytes bytes → w bytes ≡ Err short → IsProperFront G bytes
+proper_front_whole {A = A} G w R bytes small e = go (R.ends bytes small e)
+  where
+    from : (more : List ℕ) (x : A) → G (bytes ++ more) x → IsProperFront G bytes
+    from [] x g = let got = R.again (bytes ++ []) x g in let same = ap w (append-nil bytes) in absurd cc
+    from (b ∷ more) x g = record { next = b; more = more; value = x; spelled = g }
+
+    go : Begins G bytes → IsProperFront G bytes
+    go b = from b.more b.value b.spelled
+
+pub first_bad_whole : {K A : Type 0} (G : List ℕ → A → Type 0) (w : Whole K A) → ReadsWhole G w → (bytes : List ℕ) (k : K) (left : ℕ) → IsBytes bytes → w bytes ≡ Err (bad k left) → IsFirstBadWhole G bytes (length bytes - left)
+first_bad_whole {A = A} G w R bytes k left small e =
+    let s = R.stops bytes k left small e in
+    let place = s.place in
+    let len : length bytes ≡ length s.front + suc (length s.rest) = ap length s.parts ∙ length-append s.front (s.byte ∷ s.rest) in
+    let at : length bytes - left ≡ length s.front = omega arith in
+    let front : take (length bytes - left) bytes ≡ s.front = ap (take (length bytes - left)) s.parts ∙ take_at s.front (s.byte ∷ s.rest) (length bytes - left) (sym at) in
+    let one : length (s.front ++ s.byte ∷ []) ≡ length bytes - left + 1 = length-append s.front (s.byte ∷ []) ∙ omega arith in
+    let more : take (length bytes - left + 1) bytes ≡ s.front ++ s.byte ∷ [] = ap (take (length bytes - left + 1)) (s.parts ∙ sym (append_assoc s.front (s.byte ∷ []) s.rest)) ∙ take_at (s.front ++ s.byte ∷ []) s.rest (length bytes - left + 1) one in
+    record {
+      inside = omega arith;
+      before = subst (Begins G) (sym front) s.goes_on;
+      dead = λ after x g.
+          let got = R.again (s.front ++ s.byte ∷ after) x (subst (λ (v : List ℕ). G v x) (ap (λ (v : List ℕ). v ++ after) more ∙ append_assoc s.front (s.byte ∷ []) after) g) in
+          let stop = s.stays after in
+          absurd cc;
+    }

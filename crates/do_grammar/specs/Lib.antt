@@ -1,0 +1,11 @@
+pub mod Reader
+pub mod Grammar
+pub mod Forms
+pub mod Num
+pub mod Gives
+pub mod Tells
+pub mod Words
+pub mod Lines
+pub mod Dec
+pub mod Names
+pub mod Quoted

@@ -1,0 +1,102 @@
+ghost use Rattle.std.specs.Prelude.{◌≡◌, ◌≤◌, ◌^◌, ◌++◌, OnOk, IfSome};
+ghost use Rattle.std.specs.Fmt.{decimal, signed_decimal};
+ghost use Rattle.do_grammar.specs.Dec.{dec_from, dec_in, int_in, minus};
+
+use crate::byte::split_byte;
+use do_base::Text;
+use std::alloc::AllocError;
+
+/// The number between two bounds that all the bytes spell in decimal digits.
+///
+/// A zero stands in front of no other digit: `0` alone is zero, and `07` is no spelling. None
+/// where the bytes are no such spelling or the number is outside the bounds. The form is this
+/// project's own.
+#[tactic(auto, unfolding(crate::specs::Dec::dec_in))]
+pub fn dec_of(bytes: &[u8], low: u64, high: u64) -> Option<u64>
+    ensures value { result ≡ dec_in low high bytes.now }
+    ensures within { IfSome result (λ n. (low ≤ n) × (n ≤ high)) }
+{
+    let (first, rest) = split_byte(bytes)?;
+    let n = if first == b'0' {
+        if !rest.is_empty() {
+            return None;
+        }
+        0
+    } else {
+        number_from(bytes, high, 0)?
+    };
+    (low <= n).then_some(n)
+}
+
+/// The number that goes on with these digits, up to `high`.
+fn number_from(bytes: &[u8], high: u64, n: u64) -> Option<u64>
+    requires { n ≤ high }
+    ensures value { result ≡ dec_from high n bytes.now }
+    ensures within { IfSome result (λ m. m ≤ high) }
+{
+    let Some((b, rest)) = split_byte(bytes) else {
+        return Some(n);
+    };
+    if b < b'0' || b > b'9' {
+        return None;
+    }
+    let next = n.checked_mul(10)?.checked_add(u64::from(b - b'0'))?;
+    if next > high {
+        return None;
+    }
+    number_from(rest, high, next)
+}
+
+/// The signed number that all the bytes spell: decimal digits, behind a `-` where it is below 0.
+///
+/// None for `-0`, for a zero in front of other digits, and where the number does not fit 64 bits.
+/// The form is this project's own.
+#[tactic(auto, unfolding(crate::specs::Dec::int_in))]
+pub fn int_of(bytes: &[u8]) -> Option<i64>
+    ensures { result ≡ int_in bytes.now }
+{
+    let (first, digits) = split_byte(bytes)?;
+    if first == b'-' {
+        let n = dec_of(digits, 1, 1 << 63)?;
+        Some(below_zero(n))
+    } else {
+        let n = dec_of(bytes, 0, i64::MAX as u64)?;
+        Some(n as i64)
+    }
+}
+
+/// The number below zero of this size.
+fn below_zero(n: u64) -> i64
+    requires positive { 1 ≤ n }
+    requires fits { n ≤ 2 ^ 63 }
+    ensures { result ≡ minus n }
+{
+    -((n - 1) as i64) - 1
+}
+
+/// Adds the decimal digits of a number, with no zero in front.
+///
+/// Where memory ran out, a part of them may have been added.
+pub fn push_dec(out: &mut Text, n: u64) -> Result<(), AllocError>
+    ensures { OnOk result (out.new ≡ out.old ++ decimal n) }
+{
+    if n < 10 {
+        return out.push(b'0' + n as u8);
+    }
+    push_dec(out, n / 10)?;
+    out.push(b'0' + (n % 10) as u8)
+}
+
+/// Adds the decimal digits of a signed number, behind a `-` where it is below 0.
+///
+/// Where memory ran out, a part of them may have been added.
+pub fn push_int(out: &mut Text, x: i64) -> Result<(), AllocError>
+    ensures { OnOk result (out.new ≡ out.old ++ signed_decimal x) }
+{
+    if x >= 0 {
+        push_dec(out, x as u64)
+    } else {
+        out.push(b'-')?;
+        push_dec(out, (-(x + 1)) as u64 + 1)
+    }
+}

@@ -1,0 +1,28 @@
+//! What exact readers of bytes share: what it is to read a grammar exactly (specs/ and proofs/), and
+//! numbers, texts, names and lines, read with the first byte at which reading has to stop.
+#![tactic(auto)]
+
+mod byte;
+mod counted;
+mod decimal;
+mod fault;
+mod line;
+mod name;
+mod number;
+mod quoted;
+mod signed;
+mod skipped;
+
+pub use byte::split_byte;
+pub use counted::{push_text, text_of};
+pub use decimal::{dec_of, int_of, push_dec, push_int};
+pub use fault::{CodeFault, ReadError};
+pub use line::{is_text, line_of, part_of, word_of};
+pub use name::{colons_in, is_name, is_selector};
+pub use number::{num_of, push_num};
+pub use quoted::{push_quoted, quoted_of};
+pub use signed::{push_signed, signed_of};
+pub use skipped::skip_quoted;
+
+#[cfg(test)]
+mod tests;

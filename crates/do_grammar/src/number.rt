@@ -1,0 +1,141 @@
+ghost use Rattle.std.specs.Prelude.{◌≡◌, ◌+◌, ◌<◌, ◌≤◌, ◌^◌, ◌++◌, [], ◌∷◌, length, OnOk};
+ghost use Rattle.do_grammar.specs.Num.{span, least_of, digits, digits_at, num, num_at, counted, counted_at, size, zigzag, signed_at};
+ghost use Rattle.do_grammar.specs.Reader.{plain};
+ghost use Rattle.do_grammar.specs.Gives.{Gives};
+
+use crate::fault::ReadError;
+use do_base::Text;
+use std::alloc::AllocError;
+
+/// How many numbers k bytes have.
+fn span_of(k: u8) -> u128
+    requires { k ≤ 8 }
+    ensures value { result ≡ span k }
+    ensures small { k < 8 → result ≤ 2 ^ 56 }
+    ensures positive { 0 < result }
+    ensures most { result ≤ 2 ^ 64 }
+{
+    match k {
+        0 => 1,
+        1 => 0x100,
+        2 => 0x1_0000,
+        3 => 0x100_0000,
+        4 => 0x1_0000_0000,
+        5 => 0x100_0000_0000,
+        6 => 0x1_0000_0000_0000,
+        7 => 0x100_0000_0000_0000,
+        _ => 0x1_0000_0000_0000_0000,
+    }
+}
+
+/// The least number that needs n bytes.
+fn least_number(n: u8) -> u128
+    requires { n ≤ 8 }
+    ensures value { result ≡ least_of n }
+    ensures small { result ≤ 2 ^ 56 }
+{
+    if n == 0 { 0 } else { span_of(n - 1) }
+}
+
+/// The next k bytes of a number, of which the bytes before begin the numbers from least on.
+#[tactic(auto, using(crate::proofs::NumSteps::steps))]
+fn digits_of(
+    bytes: &[u8],
+    low: u64,
+    high: u64,
+    least: u64,
+    k: u8,
+) -> Result<(u64, &[u8]), ReadError>
+    requires { k ≤ 8 }
+    ensures { Gives (λ x. (x.0, x.1.now)) result (digits_at plain low high k least bytes.now) }
+{
+    if k == 0 {
+        return Ok((least, bytes));
+    }
+    let [b, after @ ..] = bytes else {
+        return Err(ReadError::Short);
+    };
+    let step = span_of(k - 1);
+    let next = u128::from(least) + u128::from(*b) * step;
+    if next > u128::from(high) {
+        return Err(ReadError::Bad(bytes.len()));
+    }
+    if next + step <= u128::from(low) {
+        return Err(ReadError::Bad(bytes.len()));
+    }
+    digits_of(after, low, high, next as u64, k - 1)
+}
+
+/// The number between two bounds that begins the bytes, and the bytes behind it.
+///
+/// A number is one byte n, at most 8, and the n bytes of the number, the highest first, of which
+/// the first is not 0; zero is a single byte 0. `Bad` is at the first byte with which no number
+/// between the bounds goes on, and `Short` where the bytes end before one does. The form is this
+/// project's own.
+#[tactic(auto, unfolding(crate::specs::Num::num_at))]
+pub fn num_of(bytes: &[u8], low: u64, high: u64) -> Result<(u64, &[u8]), ReadError>
+    ensures { Gives (λ x. (x.0, x.1.now)) result (num_at plain low high bytes.now) }
+{
+    let [n, rest @ ..] = bytes else {
+        return Err(ReadError::Short);
+    };
+    let n = *n;
+    if n <= 8 && least_number(n) <= u128::from(high) && u128::from(low) < span_of(n) {
+        let least = least_number(n) as u64;
+        digits_of(rest, low.max(least), high, 0, n)
+    } else {
+        Err(ReadError::Bad(bytes.len()))
+    }
+}
+
+#[tactic(auto, unfolding(crate::specs::Num::size))]
+fn bytes_needed(x: u64) -> u8
+    ensures value { result ≡ size x }
+    ensures most { result ≤ 8 }
+{
+    if x >= 0x100_0000_0000_0000 {
+        8
+    } else if x >= 0x1_0000_0000_0000 {
+        7
+    } else if x >= 0x100_0000_0000 {
+        6
+    } else if x >= 0x1_0000_0000 {
+        5
+    } else if x >= 0x100_0000 {
+        4
+    } else if x >= 0x1_0000 {
+        3
+    } else if x >= 0x100 {
+        2
+    } else if x >= 1 {
+        1
+    } else {
+        0
+    }
+}
+
+#[tactic(auto, using(crate::proofs::NumSteps::push_steps))]
+fn push_digits(out: &mut Text, k: u8, x: u64) -> Result<(), AllocError>
+    requires few { k ≤ 8 }
+    requires fits { x < span k }
+    ensures { OnOk result (out.new ≡ out.old ++ digits k x) }
+{
+    if k == 0 {
+        return Ok(());
+    }
+    let step = span_of(k - 1) as u64;
+    out.push((x / step) as u8)?;
+    push_digits(out, k - 1, x % step)
+}
+
+/// Adds a number: one byte that says how many follow, and those bytes, the highest first.
+///
+/// Where memory ran out, a part of it may have been added.
+#[tactic(auto, unfolding(crate::specs::Num::num))]
+pub fn push_num(out: &mut Text, x: u64) -> Result<(), AllocError>
+    ensures { OnOk result (out.new ≡ out.old ++ num x) }
+{
+    let n = bytes_needed(x);
+    out.push(n)?;
+    push_digits(out, n, x)
+}

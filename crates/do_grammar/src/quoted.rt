@@ -1,0 +1,147 @@
+ghost use Rattle.std.specs.Prelude.{◌≡◌, ◌<◌, ◌+◌, ◌*◌, ◌++◌, IfOk, IfSome, OnOk};
+ghost use Rattle.std.specs.List.{flat_map};
+ghost use Rattle.do_grammar.specs.Quoted.{is_plain, hex_digit, hex_value, quoted_byte, quoted, escape_at, piece_at, closing, denoted, quoted_at, front_view, slice_view};
+
+use crate::byte::split_byte;
+use do_base::Text;
+use std::alloc::{AllocError, Global};
+
+/// The text in quotes that begins the bytes, and the bytes behind it; none where none begins them
+/// that denotes at most `limit` bytes.
+///
+/// A byte from the space to `~` other than `"` and `\` stands for itself, and every other byte is
+/// `\` and two hexadecimal digits in lower case. The form is this project's own.
+#[tactic(auto, unfolding(crate::specs::Quoted::quoted_at))]
+pub fn quoted_of(
+    alloc: Global,
+    bytes: &[u8],
+    limit: usize,
+) -> Result<Option<(Text, &[u8])>, AllocError>
+    ensures { IfOk result (λ text. front_view text ≡ quoted_at limit bytes.now) }
+{
+    let Some((first, behind)) = split_byte(bytes) else {
+        return Ok(None);
+    };
+    if first != b'"' {
+        return Ok(None);
+    }
+    denoted_of(alloc, behind, limit)
+}
+
+/// At most `limit` bytes that are denoted, up to the quote that ends them.
+#[tactic(auto, using(crate::proofs::QuotedTurns::turns))]
+fn denoted_of(
+    alloc: Global,
+    bytes: &[u8],
+    limit: usize,
+) -> Result<Option<(Text, &[u8])>, AllocError>
+    ensures { IfOk result (λ text. front_view text ≡ denoted limit bytes.now) }
+{
+    let mut text = Text::new(alloc);
+    let mut rest = bytes;
+    for _i in 0..limit {
+        if let Some(behind) = closing_of(rest) {
+            return Ok(Some((text, behind)));
+        }
+        let Some((byte, after)) = piece_of(rest) else {
+            return Ok(None);
+        };
+        text.push(byte)?;
+        rest = after;
+    }
+    match closing_of(rest) {
+        Some(behind) => Ok(Some((text, behind))),
+        None => Ok(None),
+    }
+}
+
+/// The bytes behind the quote that stands first.
+pub(crate) fn closing_of(bytes: &[u8]) -> Option<&[u8]>
+    ensures { slice_view result ≡ closing bytes.now }
+{
+    let (first, rest) = split_byte(bytes)?;
+    if first == b'"' { Some(rest) } else { None }
+}
+
+/// The first byte that is denoted, and the bytes behind it.
+pub(crate) fn piece_of(bytes: &[u8]) -> Option<(u8, &[u8])>
+    ensures { front_view result ≡ piece_at bytes.now }
+{
+    let (first, rest) = split_byte(bytes)?;
+    if is_plain(first) {
+        Some((first, rest))
+    } else if first == b'\\' {
+        escape_of(rest)
+    } else {
+        None
+    }
+}
+
+fn escape_of(bytes: &[u8]) -> Option<(u8, &[u8])>
+    ensures { front_view result ≡ escape_at bytes.now }
+{
+    let (high, rest) = split_byte(bytes)?;
+    let (low, rest) = split_byte(rest)?;
+    let byte = hex_value(high)? * 16 + hex_value(low)?;
+    if is_plain(byte) {
+        None
+    } else {
+        Some((byte, rest))
+    }
+}
+
+/// Whether a byte stands for itself.
+fn is_plain(byte: u8) -> bool
+    ensures { result ≡ is_plain byte }
+{
+    32 <= byte && byte <= 126 && byte != b'"' && byte != b'\\'
+}
+
+fn hex_value(digit: u8) -> Option<u8>
+    ensures value { result ≡ hex_value digit }
+    ensures small { IfSome result (λ n. n < 16) }
+{
+    match digit {
+        b'0'..=b'9' => Some(digit - b'0'),
+        b'a'..=b'f' => Some(digit - b'a' + 10),
+        _ => None,
+    }
+}
+
+fn hex_digit(n: u8) -> u8
+    requires { n < 16 }
+    ensures { result ≡ hex_digit n }
+{
+    if n < 10 { b'0' + n } else { b'a' + (n - 10) }
+}
+
+/// Adds a text in quotes, a byte that does not stand for itself as `\` and two hexadecimal digits.
+///
+/// Where memory ran out, a part of it may have been added.
+pub fn push_quoted(out: &mut Text, text: &[u8]) -> Result<(), AllocError>
+    ensures { OnOk result (out.new ≡ out.old ++ quoted text.now) }
+{
+    out.push(b'"')?;
+    push_inside(out, text)?;
+    out.push(b'"')
+}
+
+fn push_inside(out: &mut Text, text: &[u8]) -> Result<(), AllocError>
+    ensures { OnOk result (out.new ≡ out.old ++ flat_map quoted_byte text.now) }
+{
+    for byte in text {
+        push_byte(out, *byte)?;
+    }
+    Ok(())
+}
+
+fn push_byte(out: &mut Text, byte: u8) -> Result<(), AllocError>
+    ensures { OnOk result (out.new ≡ out.old ++ quoted_byte byte) }
+{
+    if is_plain(byte) {
+        return out.push(byte);
+    }
+    out.push(b'\\')?;
+    out.push(hex_digit(byte / 16))?;
+    out.push(hex_digit(byte % 16))
+}

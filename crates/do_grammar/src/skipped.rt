@@ -1,0 +1,35 @@
+ghost use Rattle.std.specs.Prelude.{◌≡◌};
+ghost use Rattle.std.specs.Option.{option_map};
+ghost use Rattle.do_grammar.specs.Quoted.{denoted, quoted_at, slice_view};
+
+use crate::byte::split_byte;
+use crate::quoted::{closing_of, piece_of};
+
+/// The bytes behind the text in quotes that begins the bytes; none where none begins them that
+/// denotes at most `limit` bytes. The text itself is not made, so no memory is taken.
+#[tactic(auto, unfolding(crate::specs::Quoted::quoted_at))]
+pub fn skip_quoted(bytes: &[u8], limit: usize) -> Option<&[u8]>
+    ensures { slice_view result ≡ option_map (λ x. x.1) (quoted_at limit bytes.now) }
+{
+    let (first, behind) = split_byte(bytes)?;
+    if first != b'"' {
+        return None;
+    }
+    skip_denoted(behind, limit)
+}
+
+/// The bytes behind at most `limit` bytes that are denoted and the quote that ends them.
+#[tactic(auto, using(crate::proofs::SkippedTurns::turns))]
+fn skip_denoted(bytes: &[u8], limit: usize) -> Option<&[u8]>
+    ensures { slice_view result ≡ option_map (λ x. x.1) (denoted limit bytes.now) }
+{
+    let mut rest = bytes;
+    for _i in 0..limit {
+        if let Some(behind) = closing_of(rest) {
+            return Some(behind);
+        }
+        let (_, after) = piece_of(rest)?;
+        rest = after;
+    }
+    closing_of(rest)
+}
