@@ -1,0 +1,32 @@
+-- How a list of methods grows.
+use Rattle.std.proofs.Common.{◌≡◌, ◌<◌, ℕ, List, [], ◌∷◌, ◌++◌, length, None, sym, subst, arith, length-append}
+use Rattle.std.specs.List.{IsDistinct}
+use Rattle.std.specs.Str.{bytes_eq}
+use Rattle.std.proofs.lemmas.Cmp.{nat_list_eq_equiv}
+use Rattle.std.proofs.lemmas.List.{map-append}
+use Rattle.std.proofs.lemmas.List.Elements.{All-push}
+use Rattle.std.proofs.lemmas.Map.Keys.{IsDistinct-push}
+use Rattle.do_sig.specs.Calls.{arg_count}
+use Rattle.do_sig.specs.Names.{colons}
+use Rattle.do_class.specs.Class.{AreMethods, place_of, selectors_of}
+use Rattle.do_class.specs.declared.method.Method.{Method}
+use Rattle.do_class.proofs.Places.{list_any-none}
+
+none : (k : ℕ) → k < 0 → ⊥
+none k within = omega arith
+
+pub AreMethods-none : AreMethods []
+unfolding IsDistinct
+AreMethods-none = record { few = omega arith; distinct = tt; colons = λ k d within. absurd (none k within) }
+
+-- one more method, of a selector that is not there yet
+pub AreMethods-push : (methods : List Method) (m : Method) → AreMethods methods → length methods < 64 → place_of m.selector (selectors_of methods) ≡ None
+    → colons m.selector ≡ arg_count m.signature → AreMethods (methods ++ m ∷ [])
+AreMethods-push methods m are room absent fits =
+    let grown : selectors_of (methods ++ m ∷ []) ≡ selectors_of methods ++ m.selector ∷ [] = map-append (λ (n : Method). n.selector) methods (m ∷ []) in
+    let apart = IsDistinct-push nat_list_eq_equiv (selectors_of methods) m.selector are.distinct (list_any-none (bytes_eq m.selector) (selectors_of methods) absent) in
+    record {
+      few = omega (arith, length-append methods (m ∷ []));
+      distinct = subst (IsDistinct bytes_eq) (sym grown) apart;
+      colons = All-push (λ (n : Method). colons n.selector ≡ arg_count n.signature) methods m are.colons fits;
+    }

@@ -1,0 +1,22 @@
+use do_base::{Items, Text};
+
+/// A class, by its place in the table, from 0.
+#[derive(Clone, Copy, Debug, PartialEq, Eq, PartialOrd, Ord, Hash)]
+pub struct ClassId(pub u32);
+
+/// A method, by its class and its place there, from 0.
+#[derive(Clone, Copy, Debug, PartialEq, Eq, PartialOrd, Ord, Hash)]
+pub struct MethodId {
+    pub class: ClassId,
+    pub index: u32,
+}
+
+/// A slot of a class. What a `copy` slot holds is copied with an object that is passed bycopy.
+#[derive(Debug, Drop)]
+pub struct Slot {
+    pub name: Text,
+    pub copy: bool,
+}
+
+/// The slots of a class, in order.
+pub type Slots = Items<Slot>;

@@ -1,0 +1,16 @@
+pub mod Loops
+pub mod Pairs
+pub mod Steps
+pub mod TypeSteps
+pub mod TypeExact
+pub mod Members
+pub mod OutermostSteps
+pub mod OffsetSteps
+pub mod EncodingExact
+pub mod Told
+pub mod ScanAll
+pub mod SignatureExact
+pub mod SignatureSteps
+pub mod TypeSpelling
+pub mod EncodingSpelling
+pub mod SignatureSpelling

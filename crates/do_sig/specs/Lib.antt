@@ -1,0 +1,16 @@
+pub mod Names
+pub mod Fits
+pub mod Calls
+pub mod Bare
+pub mod Gives
+pub mod Codes
+pub mod Types
+pub mod TypeGrammar
+pub mod Offsets
+pub mod Outermost
+pub mod Grammar
+pub mod Told
+pub mod Ending
+pub mod Signatures
+pub mod SignatureGrammar
+pub mod Spelling

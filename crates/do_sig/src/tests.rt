@@ -1,0 +1,4 @@
+mod fitting;
+mod passing;
+mod printing;
+mod refusing;
