@@ -1,0 +1,17 @@
+pub mod Limits
+pub mod Ready
+pub mod Answers
+pub mod Steps
+pub mod Numbers
+pub mod Lists
+pub mod Script
+pub mod Programs
+pub mod Made
+pub mod Nesting
+pub mod Levels
+pub mod Keeping
+pub mod LimitsKept
+pub mod ObjectsKept
+pub mod ScriptLaw
+pub mod Counter
+pub mod CounterLaw

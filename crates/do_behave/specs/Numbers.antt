@@ -1,0 +1,58 @@
+-- Arithmetic and comparison, where nil counts as 0.
+use Rattle.std.specs.Prelude.{ℕ, ◌^◌, Bool, true, false, nat_lt, ◌==◌, if◌then◌else◌, ℤ, pos, negsuc, int_lt, Option, Some, None}
+use Rattle.do_base.specs.declared.value.Value.{Value, out-Value}
+use Rattle.do_base.specs.declared.value.Value.TheVariants.{Num}
+use Rattle.do_base.specs.declared.value.Value.TheOpen.{Value-F}
+use Rattle.do_base.specs.declared.shown.Exc.TheVariants.{Range}
+use Rattle.do_behave.specs.Steps.{local, gives, type_fault}
+use Rattle.do_behave.specs.declared.invocation.Invocation.{Invocation}
+use Rattle.do_behave.specs.declared.act.Act.{Act}
+use Rattle.do_behave.specs.declared.act.Act.TheVariants.{Raise}
+
+abbrev pub number_in : Value-F Value → Option ℤ
+number_in Value-F.Nil = Some (pos 0)
+number_in (Value-F.Num z) = Some z
+number_in _ = None
+
+-- the number that a value counts as
+abbrev pub number_of : Value → Option ℤ
+number_of value = number_in (out-Value value)
+
+-- a number of 64 bits with a sign
+abbrev pub is_i64 : ℤ → Bool
+is_i64 (pos n) = nat_lt n (2 ^ 63)
+is_i64 (negsuc n) = nat_lt n (2 ^ 63)
+
+-- the number, where there is one of 64 bits
+abbrev pub checked : ℤ → Option ℤ
+checked z = if is_i64 z then Some z else None
+
+abbrev pub truth : Bool → ℤ
+truth true = pos 1
+truth false = pos 0
+
+-- gives a number, or raises Range where there is none
+abbrev pub gives_number : Invocation → ℕ → Option ℤ → Act
+gives_number inv into None = Raise Range
+gives_number inv into (Some z) = gives inv into (Num z)
+
+abbrev pub with_numbers : Option ℤ → Option ℤ → (ℤ → ℤ → Act) → Act
+with_numbers (Some x) (Some y) f = f x y
+with_numbers _ _ f = type_fault
+
+-- gives what two locals make as numbers
+abbrev pub calculates : (ℤ → ℤ → Option ℤ) → Invocation → ℕ → ℕ → ℕ → Act
+calculates f inv into left right =
+    with_numbers (number_of (local inv left)) (number_of (local inv right)) (λ x y. gives_number inv into (f x y))
+
+abbrev pub less : ℤ → ℤ → Option ℤ
+less x y = Some (truth (int_lt x y))
+
+abbrev pub zero_in : Value-F Value → Bool
+zero_in Value-F.Nil = true
+zero_in (Value-F.Num (pos n)) = n == 0
+zero_in _ = false
+
+-- nil or 0
+abbrev pub is_zero : Value → Bool
+is_zero value = zero_in (out-Value value)

@@ -1,0 +1,16 @@
+-- A program, as the listings of its methods by class and by place there.
+use Rattle.std.specs.Prelude.{ℕ, ◌≤◌, List, length}
+use Rattle.std.specs.List.{AllZip}
+use Rattle.do_class.specs.Class.{Class}
+use Rattle.do_script.specs.Listing.{Listing, IsValid}
+
+-- valid code for a class of so many slots in a table of so many classes
+pub record Suits (slots classes : ℕ) (code : Listing) : Type 0 where
+  pub valid : IsValid code
+  pub few_slots : code.slots ≤ slots
+  pub few_classes : code.classes ≤ classes
+
+-- one code for each method of the table, which names only slots and classes that are there
+abbrev pub IsMadeFor : List (List Listing) → List Class → Type 0
+IsMadeFor codes table =
+    AllZip (λ of_class c. AllZip (λ code method. Suits (length c.slots) (length table) code) of_class c.methods) codes table

@@ -1,0 +1,4 @@
+pub mod FirstWord
+pub mod Found
+pub mod Reached
+pub mod Texts

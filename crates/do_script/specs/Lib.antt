@@ -1,0 +1,10 @@
+pub mod Listing
+pub mod Table
+pub mod Fault
+pub mod Quoted
+pub mod Words
+pub mod Operands
+pub mod Program
+pub mod Said
+pub mod Labels
+pub mod Assembled

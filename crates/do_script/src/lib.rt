@@ -1,0 +1,24 @@
+//! The method language: the instructions of a method's code, and the assembler that reads them
+//! from text.
+#![tactic(auto)]
+
+mod assembler;
+mod code;
+mod fault;
+mod form;
+mod instruction;
+mod labels;
+mod operands;
+mod reading;
+mod statement;
+mod table;
+mod vocabulary;
+mod words;
+
+pub use assembler::{Names, assemble};
+pub use code::Code;
+pub use fault::AsmFault;
+pub use instruction::{Instruction, Locals};
+
+#[cfg(test)]
+mod tests;
