@@ -1,0 +1,121 @@
+//! The shelf of real files.
+ghost use Rattle.std.specs.Prelude.{◌≡◌, ◌+◌, ◌^◌, ◌<◌, ◌≤◌, None, IsErrOf};
+ghost use Rattle.do_base.specs.Causes.{next_count};
+ghost use Rattle.do_base.specs.Files.{FetchCause};
+ghost use Rattle.do_host.specs.Reading.{KeepsLimit};
+
+use do_base::{FetchFail, Shelf, Text, Word};
+use std::alloc::Global;
+use std::fs::{File, Files};
+use std::io::{ErrorKind, Read};
+use std::marker::Model;
+use std::str;
+
+/// The files that paths name, those without a leading `/` from the current folder on.
+///
+/// It tells none of its files. Contracts see it as its count of faults: fetches that answered
+/// `Failed`, a missing file's among them. The form is this project's own.
+#[derive(Drop)]
+pub struct FileShelf<R: Files> {
+    rt: R,
+    alloc: Global,
+    faults: u64,
+}
+
+impl<R: Files> Model for FileShelf<R> {
+    ghost use Rattle.std.specs.Prelude.{ℕ};
+
+    ghost Value = { ℕ };
+
+    ghost view = { λ s. s.faults };
+}
+
+impl<R: Files> FileShelf<R> {
+    /// A shelf before its first fetch. It takes no memory yet.
+    pub fn new(alloc: Global, rt: R) -> FileShelf<R>
+        ensures { result ≡ 0 }
+    {
+        FileShelf {
+            rt,
+            alloc,
+            faults: 0,
+        }
+    }
+}
+
+// How many bytes are read at once.
+const BLOCK: usize = 65_536;
+
+// What is answered for a file of more bytes than the limit.
+fn too_long(limit: u64) -> FetchFail
+    requires { limit < 2 ^ 63 }
+    ensures { result ≡ FetchFail.Long (limit + 1) limit }
+{
+    FetchFail::Long {
+        read: limit + 1,
+        limit,
+    }
+}
+
+// The rest of a file, where it is at most `limit` bytes. No more than one byte past them is read.
+fn read_within<F: Read>(file: &mut F, alloc: Global, limit: u64) -> Result<Text, FetchFail>
+    requires { limit < 2 ^ 63 }
+    ensures { KeepsLimit limit result }
+{
+    let most = limit as usize;
+    let mut text = Text::new(alloc);
+    let mut block = vec![in alloc; 0u8; BLOCK].map_err(|_| FetchFail::Memory)?;
+    for _ in 0..u64::MAX {
+        let room = (most + 1 - text.len()).min(BLOCK);
+        match file.read(&mut block[..room]) {
+            Ok(0) => return Ok(text),
+            Ok(count) => text.push_bytes(&block[..count])?,
+            Err(e) if e.kind() == ErrorKind::Interrupted => {}
+            Err(_) => return Err(FetchFail::Failed),
+        }
+        if text.len() > most {
+            return Err(too_long(limit));
+        }
+    }
+    Err(FetchFail::Failed)
+}
+
+fn read_file(rt: &impl Files, alloc: Global, name: &Word, limit: u64) -> Result<Text, FetchFail>
+    requires { limit < 2 ^ 63 }
+    ensures { KeepsLimit limit result }
+{
+    let Ok(path) = str::from_utf8(name.as_slice()) else {
+        return Err(FetchFail::Failed);
+    };
+    match File::open(rt, path) {
+        Ok(mut file) => read_within(&mut file, alloc, limit),
+        Err(_) => Err(FetchFail::Failed),
+    }
+}
+
+impl<R: Files> Shelf for FileShelf<R> {
+    ghost files = { λ _. None };
+
+    ghost faults = { λ s. s };
+
+    /// Reads the file at a path.
+    ///
+    /// `Failed` is for a file that is missing or is a folder, for a name that is not UTF-8, and for
+    /// what the system refuses. A read that a signal interrupts begins again. At most one byte past
+    /// the limit is read.
+    fn fetch(&mut self, name: &Word, limit: u64) -> Result<Text, FetchFail>
+        requires { limit < 2 ^ 63 }
+        ensures cause { FetchCause None self.old self.new name.now limit result }
+        ensures later { self.old ≤ self.new }
+
+        // The count of faults rises exactly where the answer is `Failed`.
+        ensures fault { IsErrOf result FetchFail.Failed → self.new ≡ next_count self.old }
+        ensures no_fault { ¬ (IsErrOf result FetchFail.Failed) → self.new ≡ self.old }
+    {
+        let answer = read_file(&self.rt, self.alloc, name, limit);
+        if matches!(&answer, Err(FetchFail::Failed)) {
+            self.faults = self.faults.saturating_add(1);
+        }
+        answer
+    }
+}

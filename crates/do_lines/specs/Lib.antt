@@ -1,0 +1,6 @@
+pub mod Value
+pub mod Shown
+pub mod Lines
+pub mod Check
+pub mod Block
+pub mod Transcript

@@ -1,0 +1,13 @@
+//! The lines of a transcript: each block is the line of the schedule and what was shown for it.
+#![tactic(auto)]
+
+mod check;
+mod line;
+mod shown;
+mod value;
+
+pub use check::{check_text, push_check};
+pub use line::{line_text, port_of, push_head, push_outcome};
+
+#[cfg(test)]
+mod tests;

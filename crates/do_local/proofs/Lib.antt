@@ -1,0 +1,17 @@
+pub mod Fitting
+pub mod Counted
+pub mod Tables
+pub mod Changes
+pub mod Posting
+pub mod Runs
+pub mod Leaves
+pub mod Padding
+pub mod Entries
+pub mod Answering
+pub mod Settling
+pub mod Moving
+pub mod Takes
+pub mod Dropping
+pub mod Numbers
+pub mod Listing
+pub mod CounterWorld

@@ -1,0 +1,53 @@
+-- A schedule's lines, each with what it came to.
+use Rattle.std.specs.Prelude.{ℕ, zero, suc, ◌||◌, List, [], ◌∷◌, ◌++◌, Option, Some, None}
+use Rattle.do_base.specs.declared.shown.Event.TheVariants as events
+use Rattle.do_sched.specs.declared.line.Line.{Line}
+use Rattle.do_sched.specs.declared.line.Line.TheVariants.{Start, Run, Take, Check}
+use Rattle.do_local.specs.Laws.{Laws}
+use Rattle.do_local.specs.declared.outcome.Outcome.{Outcome}
+use Rattle.do_local.specs.declared.outcome.Snapshot.{Snapshot}
+use Rattle.do_local.specs.State.{State}
+use Rattle.do_local.specs.Step.{Stepped, step, skipped}
+use Rattle.do_local.specs.Check.{snapshot}
+
+-- one event after another: enabled where one of the two was, and what both showed
+abbrev pub followed : Stepped → Stepped → Stepped
+followed a b = record {
+  state = b.state;
+  outcome = record { enabled = a.outcome.enabled || b.outcome.enabled; shown = a.outcome.shown ++ b.outcome.shown };
+}
+
+-- so many runs of a node behind what was stepped before
+abbrev pub runs : ℕ → Laws → ℕ → Stepped → Stepped
+runs zero laws port s = s
+runs (suc k) laws port s = runs k laws port (followed s (step laws s.state (events.Run port)))
+
+-- what a line does: one event, or several runs of a node
+abbrev pub line_step : Laws → State → Line → Stepped
+line_step laws S (Start port selector values) = step laws S (events.Start port selector values)
+line_step laws S (Run port count) = runs count laws port (skipped S)
+line_step laws S (Take port from) = step laws S (events.Take port from)
+line_step laws S Check = step laws S events.Check
+
+-- a line, its outcome, and where it is a check what that lists
+pub record Block : Type 0 where
+  pub line : Line
+  pub outcome : Outcome
+  pub listed : Option Snapshot
+
+abbrev listed_at : State → Line → Option Snapshot
+listed_at S Check = Some (snapshot S)
+listed_at S _ = None
+
+abbrev pub block : Laws → State → Line → Block
+block laws S line = record { line = line; outcome = (line_step laws S line).outcome; listed = listed_at S line }
+
+-- the state after a list of lines
+abbrev pub after : Laws → State → List Line → State
+after laws S [] = S
+after laws S (l ∷ ls) = after laws (line_step laws S l).state ls
+
+-- the lines with what each came to, one after another
+abbrev pub blocks : Laws → State → List Line → List Block
+blocks laws S [] = []
+blocks laws S (l ∷ ls) = block laws S l ∷ blocks laws (line_step laws S l).state ls

@@ -1,0 +1,17 @@
+pub mod Tables
+pub mod State
+pub mod Names
+pub mod Entry
+pub mod Act
+pub mod Laws
+pub mod Rules
+pub mod Effect
+pub mod Taking
+pub mod Leaving
+pub mod Step
+pub mod World
+pub mod Check
+pub mod Blocks
+pub mod Places
+pub mod Machine
+pub mod Room

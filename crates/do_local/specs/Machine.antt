@@ -1,0 +1,31 @@
+-- A machine, as a contract sees it.
+use Rattle.std.specs.Prelude.{ℕ, suc, List}
+use Rattle.do_base.specs.declared.shown.Event.{Event}
+use Rattle.do_class.specs.Class.{Class}
+use Rattle.do_local.specs.declared.outcome.Outcome.{Outcome}
+use Rattle.do_local.specs.declared.world.WorldNode.{WorldNode}
+use Rattle.do_local.specs.Laws.{laws_of}
+use Rattle.do_local.specs.State.{State}
+use Rattle.do_local.specs.Step.{Stepped, step}
+use Rattle.do_local.specs.World.{opening}
+
+-- the classes of its world, its state, and how many events it was given
+pub record Machine : Type 0 where
+  pub table : List Class
+  pub state : State
+  pub steps : ℕ
+
+-- a machine before its first event
+abbrev pub opened : List Class → List WorldNode → Machine
+opened table nodes = record { table = table; state = opening table nodes; steps = 0 }
+
+abbrev stepped : Machine → Event → Stepped
+stepped m event = step (laws_of m.table) m.state event
+
+-- the machine after an event
+abbrev pub moved_on : Machine → Event → Machine
+moved_on m event = record m { state = (stepped m event).state; steps = suc m.steps }
+
+-- what an event comes to
+abbrev pub outcome_of : Machine → Event → Outcome
+outcome_of m event = (stepped m event).outcome

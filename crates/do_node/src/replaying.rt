@@ -1,0 +1,48 @@
+ghost use Rattle.std.specs.Prelude.{◌≡◌, ◌+◌, ◌≤◌, ◌^◌, OnOk, IsErrOf};
+ghost use Rattle.do_base.specs.Bytes.{with_more, HasTaken};
+ghost use Rattle.do_base.specs.Causes.{Rose};
+ghost use Rattle.do_sched.specs.Spelling.{steps_of};
+ghost use Rattle.do_node.specs.Replayed.{transcript_from, counter_transcript};
+
+use crate::blocks::push_block;
+use crate::output::{flush, flush_if_long};
+use do_base::{PutFail, Sink, Text};
+use do_local::{Local, counter_machine};
+use do_sched::Lines;
+use std::alloc::Global;
+
+/// Does what the lines say, one after another, and writes the transcript.
+pub fn write_transcript<K: Sink>(
+    alloc: Global,
+    local: &mut Local,
+    lines: Lines,
+    out: &mut K,
+) -> Result<(), PutFail>
+    requires { local.old.steps + steps_of lines ≤ 2 ^ 40 }
+    ensures ok { OnOk result (K.held out.new ≡ with_more (K.held out.old) (transcript_from local.old lines)) }
+    ensures prefix { HasTaken (K.held out.old) (K.held out.new) (transcript_from local.old lines) }
+    ensures later { K.faults out.old ≤ K.faults out.new }
+    ensures failed { IsErrOf result PutFail.Failed → Rose (K.faults out.old) (K.faults out.new) }
+{
+    let mut waiting = Text::from_slice(alloc, b"transcript 1\n")?;
+    for line in lines.into_vec() {
+        push_block(alloc, local, line, &mut waiting)?;
+        flush_if_long(&mut waiting, out)?;
+    }
+    waiting.push_bytes(b"> end\n")?;
+    flush(&mut waiting, out)?;
+    Ok(())
+}
+
+/// Replays the lines over the counter world, and writes the transcript.
+#[tactic(auto, unfolding(crate::specs::Replayed::counter_transcript))]
+pub fn replay_counter<K: Sink>(alloc: Global, lines: Lines, out: &mut K) -> Result<(), PutFail>
+    requires { steps_of lines ≤ 2 ^ 40 }
+    ensures ok { OnOk result (K.held out.new ≡ with_more (K.held out.old) (counter_transcript lines)) }
+    ensures prefix { HasTaken (K.held out.old) (K.held out.new) (counter_transcript lines) }
+    ensures later { K.faults out.old ≤ K.faults out.new }
+    ensures failed { IsErrOf result PutFail.Failed → Rose (K.faults out.old) (K.faults out.new) }
+{
+    let mut machine = counter_machine(alloc)?;
+    write_transcript(alloc, &mut machine, lines, out)
+}

@@ -1,0 +1,54 @@
+ghost use Rattle.std.specs.Prelude.{◌≡◌};
+ghost use Rattle.do_node.specs.Status.{number_of};
+
+use std::fmt;
+
+/// What a run of the program came to.
+#[derive(Clone, Copy, Debug, PartialEq, Eq)]
+pub enum Status {
+    /// The whole output was written.
+    Ok,
+    /// No form goes on at this word, counted from 1.
+    Usage(usize),
+    /// A file could not be read.
+    ReadFault,
+    /// A file is longer than its limit. So many of its bytes were read, one more than the limit.
+    TooLong { read: u64, limit: u64 },
+    /// The schedule is faulty at this line, counted from 1.
+    BadSchedule(u64),
+    /// The output could not be written.
+    WriteFault,
+    /// Memory ran out.
+    Memory,
+}
+
+impl Status {
+    /// The number that the program ends with.
+    pub fn number(&self) -> u8
+        ensures { result ≡ number_of self.now }
+    {
+        match *self {
+            Status::Ok => 0,
+            Status::Usage(_) => 2,
+            Status::ReadFault => 3,
+            Status::TooLong { .. } => 4,
+            Status::BadSchedule(_) => 6,
+            Status::WriteFault => 7,
+            Status::Memory => 10,
+        }
+    }
+}
+
+impl fmt::Display for Status {
+    fn fmt<W: fmt::Write>(&self, f: &mut fmt::Formatter<W>) -> fmt::Result {
+        match *self {
+            Status::Ok => write!(f, "ok"),
+            Status::Usage(word) => write!(f, "usage: word {word}"),
+            Status::ReadFault => write!(f, "read fault"),
+            Status::TooLong { limit, .. } => write!(f, "file longer than {limit} bytes"),
+            Status::BadSchedule(line) => write!(f, "bad line {line}"),
+            Status::WriteFault => write!(f, "write fault"),
+            Status::Memory => write!(f, "out of memory"),
+        }
+    }
+}

@@ -1,0 +1,8 @@
+use Rattle.do_sched.proofs.Once.{accepted, refused}
+use Rattle.do_sched.proofs.reading.read_schedule.Goals as goal
+
+pub returns-clause-accepts : goal.returns-clause-accepts
+returns-clause-accepts c = accepted c.args.bytes.now c.lines_of.result c.lines_of.ensures
+
+pub returns-clause-refuses : goal.returns-clause-refuses
+returns-clause-refuses c = refused c.args.bytes.now c.lines_of.result c.lines_of.ensures

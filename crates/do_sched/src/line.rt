@@ -1,0 +1,27 @@
+use do_base::{Items, NodeId, Text, Values};
+
+/// A line of a schedule between its first line and `end`. The form is this project's own.
+#[derive(Clone, Debug, PartialEq, Eq, Drop)]
+pub enum Line {
+    /// The root of a node is sent a selector with plain values, one for each colon.
+    Start {
+        node: NodeId,
+        selector: Text,
+        values: Values,
+    },
+    /// So many single steps of a node's top invocation, 1 to 1,000.
+    Run {
+        node: NodeId,
+        count: u64,
+    },
+    /// A node takes the first item that waits from a peer.
+    Take {
+        node: NodeId,
+        from: NodeId,
+    },
+    /// The stored objects, entries and closed ends of every node are shown.
+    Check,
+}
+
+/// The lines of a schedule, in order.
+pub type Lines = Items<Line>;
