@@ -12,7 +12,8 @@ use std::marker::Model;
 /// A `Vec` that contracts see as the list of its items.
 ///
 /// It keeps the allocator that it was made with. A type may hold itself through it. The form is
-/// this project's own, and its calls have the names and the order of arguments of `Vec`.
+/// this project's own. Most calls have the names and the order of arguments of `Vec`; `from_vec`,
+/// `into_vec`, `at_mut`, `set`, `replace` and `try_push` are this project's.
 #[derive(Debug, Drop)]
 pub struct Items<T> {
     items: Vec<T>,
@@ -45,7 +46,7 @@ impl<T> Items<T> {
         }
     }
 
-    /// An empty list that grows to `capacity` items without moving them.
+    /// An empty list with room for `capacity` items. No clause tells of the room: it serves speed alone.
     pub fn with_capacity(alloc: Global, capacity: usize) -> Result<Items<T>, AllocError>
         ensures { IfOk result (λ list. list ≡ []) }
     {

@@ -53,8 +53,8 @@ pub trait Shelf {
 
     /// Gives the whole file of that name, of at most `limit` bytes.
     ///
-    /// `Failed` comes only where the count of faults rose, or where the shelf tells its files and
-    /// has none of that name. `Long` carries the limit and one more. `Memory` is want of memory.
+    /// Every `Failed` has a cause: a rise of the count of faults, or a told list of files in which
+    /// the name is missing. `Long` carries the limit and one more. `Memory` is want of memory.
     fn fetch(&mut self, name: &Word, limit: u64) -> Result<Text, FetchFail>
         requires { limit < 2 ^ 63 }
         ensures cause { FetchCause (files self.old) (faults self.old) (faults self.new) name.now limit result }

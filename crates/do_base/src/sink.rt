@@ -26,7 +26,7 @@ impl From<AllocError> for PutFail {
     }
 }
 
-/// The numbers of the calls that fail, counted from 1.
+/// Which calls are to fail: the first call is 1.
 pub type CallList = Items<u64>;
 
 /// What bytes are written to.

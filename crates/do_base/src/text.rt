@@ -10,7 +10,8 @@ use std::marker::Model;
 /// A text: bytes of any kind, which contracts see as the list of them.
 ///
 /// It keeps the allocator that it was made with, and compares byte by byte. The form is this
-/// project's own, and its calls have the names of those of `Vec`.
+/// project's own. Most calls have the names of those of `Vec`; `from_vec`, `into_vec`, `push_bytes`
+/// and `is` are this project's.
 #[derive(Debug, Drop)]
 pub struct Text {
     bytes: Vec<u8>,
@@ -107,7 +108,7 @@ impl Text {
         self.bytes.extend_from_slice(bytes)
     }
 
-    /// Makes room for so many more bytes, which then go in without a move of the text.
+    /// Makes room for so many more bytes. No clause tells of the room: it serves speed alone.
     pub fn reserve(&mut self, more: usize) -> Result<(), AllocError>
         ensures { self.new ≡ self.old }
     {

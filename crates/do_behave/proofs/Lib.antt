@@ -1,3 +1,3 @@
 pub mod Locals
 pub mod Checked
-pub mod Light
+pub mod TwoClasses

@@ -7,7 +7,9 @@ use Rattle.do_base.specs.declared.value.Value.{Value}
 use Rattle.do_class.specs.Class.{Class}
 use Rattle.do_grammar.specs.Names.{is_selector, colons}
 use Rattle.do_behave.specs.Limits.{IsLimited, IsLimitedExc}
-use Rattle.do_behave.specs.Ready.{IsLocal, IsHandler}
+use Rattle.do_script.specs.Listing.{IsLocal}
+use Rattle.do_behave.specs.Ready.{IsHandler}
+use Rattle.do_behave.specs.Standing.{WeighsWithin}
 use Rattle.do_behave.specs.declared.invocation.Invocation.{Invocation}
 use Rattle.do_behave.specs.declared.act.Act.{Act}
 use Rattle.do_behave.specs.declared.act.Act.TheVariants.{Step, New, Send, Root, Vend, Say, Return, Raise}
@@ -45,9 +47,10 @@ abbrev pub RaisesLimited : Act → Type 0
 RaisesLimited (Raise exc) = IsLimitedExc exc
 RaisesLimited _ = Unit {0}
 
--- The limits are kept, but that a value which the arguments hold may weigh more than a value may otherwise; and no object is
--- named that the arguments do not name.
+-- What the arguments hold keeps the limits on texts, items and nesting, and then what is answered does. A value that is made keeps the
+-- limit on weight, and one that the arguments hold may weigh more. No object is named that the arguments do not name.
 pub record AnswersWell (table : List Class) (inv : Invocation) (slots : List Value) (act : Act) : Type 0 where
   pub range : IsInRange table slots act
   pub limits : (most : ℕ) → 2097152 ≤ most → All (IsLimited most) (inv.locals ++ slots) → All (IsLimited most) (values_of act) × RaisesLimited act
+  pub weights : All (WeighsWithin (inv.locals ++ slots)) (values_of act)
   pub objects : All (NamesOnly (objects_named inv slots)) (values_of act)

@@ -1,4 +1,5 @@
 pub mod Limits
+pub mod Standing
 pub mod Ready
 pub mod Answers
 pub mod Steps
@@ -11,6 +12,7 @@ pub mod Nesting
 pub mod Levels
 pub mod Keeping
 pub mod LimitsKept
+pub mod WeightsKept
 pub mod ObjectsKept
 pub mod ScriptLaw
 pub mod Counter

@@ -1,17 +1,15 @@
 -- When an invocation can act.
-use Rattle.std.specs.Prelude.{◌≡◌, ℕ, ◌<◌, ◌^◌, List, ◌++◌, length, Option, Some}
+use Rattle.std.specs.Prelude.{◌≡◌, ◌<◌, ◌^◌, List, ◌++◌, length, Option, Some}
 use Rattle.std.specs.List.{All}
 use Rattle.std.specs.Option.{option_map, IsSome, IfSome}
 use Rattle.do_base.specs.Values.{weight_of}
 use Rattle.do_base.specs.declared.value.Value.{Value}
 use Rattle.do_class.specs.Class.{Class}
 use Rattle.do_class.specs.Table.{method_at, slots_of}
+use Rattle.do_script.specs.Listing.{IsLocal}
 use Rattle.do_behave.specs.declared.invocation.Handler.{Handler}
 use Rattle.do_behave.specs.declared.invocation.Invocation.{Invocation}
 use Rattle.do_behave.specs.declared.invocation.InvState.TheVariants.{Running}
-
-abbrev pub IsLocal : ℕ → Type 0
-IsLocal k = k < 16
 
 -- the handler's local is there
 abbrev pub IsHandler : Option Handler → Type 0

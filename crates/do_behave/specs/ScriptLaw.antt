@@ -1,5 +1,5 @@
 -- Scripts answer well.
-use Rattle.std.proofs.Common.{◌≡◌, ℕ, ◌≤◌, List as Listed, [], length, Option, Some, None, refl, arith}
+use Rattle.std.proofs.Common.{◌≡◌, ℕ, ◌≤◌, ◌++◌, List as Listed, [], length, Option, Some, None, refl, arith}
 use Rattle.std.specs.Prelude.{slice_get}
 use Rattle.std.specs.List.{All}
 use Rattle.std.proofs.lemmas.List.Elements.{All-nil, All-cons}
@@ -13,6 +13,8 @@ use Rattle.do_behave.specs.Keeping.{IsKept, IsSound, RaisesOnly, performs_sound}
 use Rattle.do_behave.specs.Limits.{IsLimited}
 use Rattle.do_behave.specs.LimitsKept.{limits_kept}
 use Rattle.do_behave.specs.ObjectsKept.{arguments_among, objects_kept}
+use Rattle.do_behave.specs.Standing.{WeighsWithin}
+use Rattle.do_behave.specs.WeightsKept.{weights_kept, shown_weighs}
 use Rattle.do_base.specs.declared.shown.Exc.TheVariants.{User, TypeFault}
 use Rattle.do_behave.specs.declared.act.Act.{Act}
 use Rattle.do_behave.specs.declared.act.Act.TheVariants.{Return, Raise}
@@ -38,6 +40,10 @@ module _ (table : Listed Class) (inv : Invocation) (slots : Listed Value) (ready
         limits = λ most high all.
             let by_limits = sound (IsLimited most) (λ s. length s ≤ 65535) (limits_kept inv most high) (All-first (IsLimited most) inv.locals slots all) (All-second (IsLimited most) inv.locals slots all) in
             (by_limits.values, limited-raise act by_limits.raises);
+        weights =
+            let shown = inv.locals ++ slots in
+            let weighs = shown_weighs shown in
+            (sound (WeighsWithin shown) (λ _. Unit {0}) (weights_kept inv shown) (All-first (WeighsWithin shown) inv.locals slots weighs) (All-second (WeighsWithin shown) inv.locals slots weighs)).values;
         objects = by_objects.values;
       }
 

@@ -1,10 +1,9 @@
 use crate::invocation::Handler;
-use do_base::{Exc, Items, Text, Value, Values};
+use do_base::{Exc, Items, Locals, Text, Value, Values};
 use do_class::ClassId;
-use do_script::Locals;
 
 /// A value for a slot of the own object.
-#[derive(Debug, Drop)]
+#[derive(Debug, PartialEq, Eq, Drop)]
 pub struct Write {
     pub slot: usize,
     pub value: Value,
@@ -15,7 +14,7 @@ pub type Writes = Items<Write>;
 
 /// What an invocation does in one step. `pc` is the place at which it goes on, and `into` the local
 /// that takes what the act gives.
-#[derive(Debug, Drop)]
+#[derive(Debug, PartialEq, Eq, Drop)]
 pub enum Act {
     /// Sets all locals and the handler, and writes slots.
     Step {

@@ -1,101 +1,61 @@
 ghost use Rattle.std.specs.Prelude.{◌≡◌, ◌<◌, ◌+◌, ◌^◌, [], ◌∷◌, length, IfOk, codes};
-ghost use Rattle.do_behave.specs.Counter.{stores, counter, client};
+ghost use Rattle.do_behave.specs.Counter.{add_act, go_act};
 ghost use Rattle.do_behave.specs.Steps.{local};
 
-use crate::act::{Act, Write, Writes};
+use crate::act::Act;
 use crate::behaviour::Behaviour;
 use crate::invocation::Invocation;
-use crate::numbers::{number_of, sum};
-use crate::steps::{local, locals_with};
-use do_base::{Exc, Text, Value, Values, copy_value};
+use crate::numbers::add;
+use crate::script::{give_back, root, say, send};
+use crate::steps::{gives, local, writes};
+use do_base::{Locals, Text, Value, Values, copy_value};
 use do_class::ClassTable;
-use do_script::Locals;
 use std::alloc::AllocError;
 
-/// A behaviour that is written in code: a counter, and a client that asks the counter of node 7002.
+/// The two methods of the counter world, written in code: `add:` of a counter and `go:` of a client.
 #[derive(Clone, Copy, Debug)]
 pub struct CounterWorld;
 
-/// Writes the sum to the slot, and keeps it for the answer.
-fn stores(inv: &Invocation, sum: Option<i64>) -> Result<Act, AllocError>
-    requires all { length inv.now.locals ≡ 16 }
-    requires room { inv.now.pc + 1 < 2 ^ 32 }
-    ensures { IfOk result (λ a. a ≡ stores inv.now sum) }
-{
-    let Some(sum) = sum else {
-        return Ok(Act::Raise(Exc::Range));
-    };
-    let mut writes = Writes::new(inv.locals.allocator());
-    writes.push(Write {
-        slot: 0,
-        value: Value::Num(sum),
-    })?;
-    Ok(Act::Step {
-        pc: inv.pc + 1,
-        locals: locals_with(inv, 1, Value::Num(sum))?,
-        handler: inv.handler,
-        writes,
-    })
-}
-
 /// Adds the argument to the slot, then answers the sum.
-fn counter(inv: &Invocation, slots: &Values) -> Result<Act, AllocError>
+fn add_act(inv: &Invocation, slots: &Values) -> Result<Act, AllocError>
     requires all { length inv.now.locals ≡ 16 }
     requires slot { 0 < length slots.now }
-    ensures { IfOk result (λ a. a ≡ counter inv.now slots.now) }
+    ensures { IfOk result (λ a. a ≡ add_act inv.now slots.now) }
 {
-    if inv.pc == 0 {
-        match (number_of(&slots.as_slice()[0]), number_of(local(inv, 0))) {
-            (Some(x), Some(y)) => stores(inv, sum(x, y)),
-            _ => Ok(Act::Raise(Exc::TypeFault)),
-        }
-    } else {
-        let value = copy_value(local(inv, 1))?;
-        Ok(Act::Return { value })
+    match inv.pc {
+        0 => gives(inv, 1, copy_value(&slots.as_slice()[0])?),
+        1 => add(inv, 1, 1, 0),
+        2 => writes(inv, 0, copy_value(local(inv, 1))?),
+        3 => give_back(inv, 1),
+        _ => Ok(Act::Return { value: Value::Nil }),
     }
 }
 
 /// Sends the argument to the counter as `add:`.
-fn sends(inv: &Invocation) -> Result<Act, AllocError>
+fn send_add(inv: &Invocation) -> Result<Act, AllocError>
     requires all { length inv.now.locals ≡ 16 }
     requires room { inv.now.pc + 1 < 2 ^ 32 }
     ensures { IfOk result (λ a. a ≡ Act.Send (local inv.now 2) (codes "add:") (local inv.now 0 ∷ []) 3 (0 ∷ []) (inv.now.pc + 1)) }
 {
     let alloc = inv.locals.allocator();
-    let mut args = Values::new(alloc);
-    args.push(copy_value(local(inv, 0))?)?;
+    let selector = Text::from_slice(alloc, b"add:")?;
     let mut from = Locals::new(alloc);
     from.push(0)?;
-    Ok(Act::Send {
-        target: copy_value(local(inv, 2))?,
-        selector: Text::from_slice(alloc, b"add:")?,
-        args,
-        into: 3,
-        from,
-        pc: inv.pc + 1,
-    })
+    send(inv, 3, 2, &selector, &from)
 }
 
 /// Asks for the counter, sends to it, and shows and answers the sum.
-fn client(inv: &Invocation) -> Result<Act, AllocError>
+fn go_act(inv: &Invocation) -> Result<Act, AllocError>
     requires all { length inv.now.locals ≡ 16 }
-    ensures { IfOk result (λ a. a ≡ client inv.now) }
+    ensures { IfOk result (λ a. a ≡ go_act inv.now) }
 {
     match inv.pc {
-        0 => Ok(Act::Root {
-            port: Value::Num(7002),
-            into: 2,
-            pc: 1,
-        }),
-        1 => sends(inv),
-        2 => {
-            let value = copy_value(local(inv, 3))?;
-            Ok(Act::Say { value, pc: 3 })
-        }
-        _ => {
-            let value = copy_value(local(inv, 3))?;
-            Ok(Act::Return { value })
-        }
+        0 => gives(inv, 1, Value::Num(7002)),
+        1 => root(inv, 2, 1),
+        2 => send_add(inv),
+        3 => say(inv, 3),
+        4 => give_back(inv, 3),
+        _ => Ok(Act::Return { value: Value::Nil }),
     }
 }
 
@@ -116,9 +76,9 @@ impl Behaviour for CounterWorld {
         slots: &Values,
     ) -> Result<Act, AllocError> {
         if inv.method.class.0 == 0 {
-            counter(inv, slots)
+            add_act(inv, slots)
         } else {
-            client(inv)
+            go_act(inv)
         }
     }
 }

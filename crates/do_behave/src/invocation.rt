@@ -1,6 +1,5 @@
-use do_base::{CallId, Exc, NodeId, Oid, Value, Values};
+use do_base::{CallId, Exc, Locals, NodeId, Oid, Value, Values};
 use do_class::MethodId;
-use do_script::Locals;
 
 /// Where an invocation goes on after an exception, and the local that then holds its name.
 #[derive(Clone, Copy, Debug, PartialEq, Eq)]

@@ -14,7 +14,6 @@ mod steps;
 
 pub use act::{Act, Write, Writes};
 pub use behaviour::Behaviour;
-pub use do_script::Locals;
 pub use invocation::{Answer, Handler, InvState, Invocation, Reason, Waited};
 pub use program::{ClassCodes, Codes, Program};
 

@@ -1,7 +1,8 @@
 ghost use Rattle.std.specs.Prelude.{◌≡◌, ◌<◌, ◌+◌, ◌^◌, [], ◌∷◌, ◌++◌, length, IfOk};
 ghost use Rattle.std.specs.List.{list_all};
 ghost use Rattle.std.specs.Option.{option_copied};
-ghost use Rattle.do_behave.specs.Ready.{IsLocal, IsLight};
+ghost use Rattle.do_script.specs.Listing.{IsLocal};
+ghost use Rattle.do_behave.specs.Ready.{IsLight};
 ghost use Rattle.do_behave.specs.Lists.{pushes, picks, counts, gives_found, can_be, push_in, item_in};
 ghost use Rattle.do_behave.specs.Steps.{local};
 ghost use Rattle.do_behave.specs.Limits.{nests_within};

@@ -1,5 +1,5 @@
 ghost use Rattle.std.specs.Prelude.{◌≡◌, ◌<◌, ◌+◌, ◌^◌, ◌+ℤ◌, ◌-ℤ◌, ◌*ℤ◌, length, IfOk};
-ghost use Rattle.do_behave.specs.Ready.{IsLocal};
+ghost use Rattle.do_script.specs.Listing.{IsLocal};
 ghost use Rattle.do_behave.specs.Numbers.{number_of, is_zero, calculates, checked, gives_number, less, truth};
 
 use crate::act::Act;

@@ -1,8 +1,8 @@
 ghost use Rattle.std.specs.Prelude.{◌≡◌, ◌<◌, ◌+◌, ◌^◌, [], length, map, IfOk, if◌then◌else◌};
 ghost use Rattle.std.specs.List.{All};
 ghost use Rattle.do_class.specs.Table.{class_id};
-ghost use Rattle.do_script.specs.Listing.{IsWithin};
-ghost use Rattle.do_behave.specs.Ready.{IsLocal, IsLight};
+ghost use Rattle.do_script.specs.Listing.{IsLocal, IsWithin};
+ghost use Rattle.do_behave.specs.Ready.{IsLight};
 ghost use Rattle.do_behave.specs.Steps.{local, next, gives, goes_to, handles};
 ghost use Rattle.do_base.specs.Equal.{value_eq};
 ghost use Rattle.do_behave.specs.Numbers.{truth, is_zero};
@@ -13,9 +13,9 @@ use crate::invocation::{Handler, Invocation};
 use crate::lists::{count, item, push};
 use crate::numbers::{add, is_zero, less, multiply, subtract, truth};
 use crate::steps::{gives, goes_to, handles, local, writes};
-use do_base::{Exc, Text, Value, Values, copy_value};
+use do_base::{Exc, Locals, Text, Value, Values, copy_value};
 use do_class::ClassId;
-use do_script::{Instruction, Locals};
+use do_script::Instruction;
 use std::alloc::AllocError;
 
 /// Raises the text in a local.
@@ -44,7 +44,7 @@ fn values_of(inv: &Invocation, from: &Locals) -> Result<Values, AllocError>
 }
 
 /// Sends a message.
-fn send(
+pub(crate) fn send(
     inv: &Invocation,
     into: u8,
     target: u8,
@@ -121,7 +121,7 @@ fn make(inv: &Invocation, into: u8, class: usize) -> Result<Act, AllocError>
 }
 
 /// Asks for the root of the node with the port that a local holds.
-fn root(inv: &Invocation, into: u8, port: u8) -> Result<Act, AllocError>
+pub(crate) fn root(inv: &Invocation, into: u8, port: u8) -> Result<Act, AllocError>
     requires all { length inv.now.locals ≡ 16 }
     requires known { IsLocal port }
     requires room { inv.now.pc + 1 < 2 ^ 32 }
@@ -145,7 +145,7 @@ fn vend(inv: &Invocation, value: u8) -> Result<Act, AllocError>
 }
 
 /// Shows what a local holds.
-fn say(inv: &Invocation, value: u8) -> Result<Act, AllocError>
+pub(crate) fn say(inv: &Invocation, value: u8) -> Result<Act, AllocError>
     requires all { length inv.now.locals ≡ 16 }
     requires known { IsLocal value }
     requires room { inv.now.pc + 1 < 2 ^ 32 }
@@ -157,7 +157,7 @@ fn say(inv: &Invocation, value: u8) -> Result<Act, AllocError>
 }
 
 /// Ends with what a local holds.
-fn give_back(inv: &Invocation, value: u8) -> Result<Act, AllocError>
+pub(crate) fn give_back(inv: &Invocation, value: u8) -> Result<Act, AllocError>
     requires all { length inv.now.locals ≡ 16 }
     requires known { IsLocal value }
     ensures { IfOk result (λ a. a ≡ Act.Return (local inv.now value)) }

@@ -1,5 +1,5 @@
 ghost use Rattle.std.specs.Prelude.{◌≡◌, ◌<◌, ◌+◌, ◌^◌, length, IfOk, slice_set};
-ghost use Rattle.do_behave.specs.Ready.{IsLocal};
+ghost use Rattle.do_script.specs.Listing.{IsLocal};
 ghost use Rattle.do_behave.specs.Steps.{local, gives, goes_to, writes, handles, next};
 
 use crate::act::{Act, Write, Writes};

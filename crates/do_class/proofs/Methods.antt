@@ -7,7 +7,7 @@ use Rattle.std.proofs.lemmas.List.{map-append}
 use Rattle.std.proofs.lemmas.List.Elements.{All-push}
 use Rattle.std.proofs.lemmas.Map.Keys.{IsDistinct-push}
 use Rattle.do_sig.specs.Calls.{arg_count}
-use Rattle.do_sig.specs.Names.{colons}
+use Rattle.do_grammar.specs.Names.{colons}
 use Rattle.do_class.specs.Class.{AreMethods, place_of, selectors_of}
 use Rattle.do_class.specs.declared.method.Method.{Method}
 use Rattle.do_class.proofs.Places.{list_any-none}

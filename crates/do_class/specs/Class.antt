@@ -3,15 +3,17 @@ use Rattle.std.specs.Prelude.{◌≡◌, ℕ, ◌≤◌, List, length, map, Opti
 use Rattle.std.specs.List.{All, IsDistinct, position}
 use Rattle.std.specs.Str.{bytes_eq}
 use Rattle.do_sig.specs.Calls.{arg_count}
-use Rattle.do_sig.specs.Names.{colons}
+use Rattle.do_grammar.specs.Names.{colons}
 use Rattle.do_class.specs.declared.ids.Slot.{Slot}
 use Rattle.do_class.specs.declared.method.Method.{Method}
 
+-- a class: its name, and its slots and its methods in order
 pub record Class : Type 0 where
   pub name : List ℕ
   pub slots : List Slot
   pub methods : List Method
 
+-- the selectors of methods, in order
 abbrev pub selectors_of : List Method → List (List ℕ)
 selectors_of methods = map (λ m. m.selector) methods
 

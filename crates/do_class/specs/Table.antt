@@ -10,6 +10,7 @@ use Rattle.do_class.specs.declared.ids.Slot.{Slot}
 use Rattle.do_class.specs.declared.method.Method.{Method}
 use Rattle.do_sig.specs.declared.signature.Signature.{Signature}
 
+-- the names of the classes, in order
 abbrev pub names_of : List Class → List (List ℕ)
 names_of table = map (λ c. c.name) table
 
@@ -23,9 +24,11 @@ pub record IsTable (table : List Class) : Type 0 where
 abbrev pub class_at : List Class → ClassId → Option Class
 class_at table class = slice_get table class.0
 
+-- the name of a class
 abbrev pub name_of : List Class → ClassId → Option (List ℕ)
 name_of table class = option_map (λ c. c.name) (class_at table class)
 
+-- the slots of a class
 abbrev pub slots_of : List Class → ClassId → Option (List Slot)
 slots_of table class = option_map (λ c. c.slots) (class_at table class)
 
@@ -33,15 +36,19 @@ slots_of table class = option_map (λ c. c.slots) (class_at table class)
 abbrev pub method_at : List Class → MethodId → Option Method
 method_at table method = option_and_then (λ c. slice_get c.methods method.index) (class_at table method.class)
 
+-- the signature of a method
 abbrev pub signature_of : List Class → MethodId → Option Signature
 signature_of table method = option_map (λ m. m.signature) (method_at table method)
 
+-- the selector of a method
 abbrev pub selector_of : List Class → MethodId → Option (List ℕ)
 selector_of table method = option_map (λ m. m.selector) (method_at table method)
 
+-- the id of the class at a place
 abbrev pub class_id : ℕ → ClassId
 class_id place = record { 0 = place }
 
+-- the id of the method at a place of a class
 abbrev pub method_id : ClassId → ℕ → MethodId
 method_id class place = record { class = class; index = place }
 

@@ -1,6 +1,6 @@
 ghost use Rattle.std.specs.Prelude.{◌≡◌, length, IfOk};
 ghost use Rattle.do_sig.specs.Calls.{arg_count};
-ghost use Rattle.do_sig.specs.Names.{colons};
+ghost use Rattle.do_grammar.specs.Names.{colons};
 ghost use Rattle.do_class.specs.Class.{AreMethods};
 
 use super::*;

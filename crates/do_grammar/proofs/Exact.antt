@@ -4,8 +4,8 @@ use Rattle.do_grammar.specs.Reader.{Stop, short, bad, Reader, ◌>>=◌, done, a
 use Rattle.do_grammar.specs.Grammar.{IsBytes, Begins}
 use Rattle.do_grammar.specs.Forms.{Done, Then, Byte, Passes}
 
--- what a reader of a grammar that stops at a byte tells
-pub record StopsAt {K A : Type 0} (G : List ℕ → A → Type 0) (r : Reader K A) (bytes : List ℕ) (k : K) (left : ℕ) : Type 0 where
+-- what reading that stops at a byte tells, whatever it gives else
+pub record StopsAt {K A C : Type 0} (G : List ℕ → A → Type 0) (r : List ℕ → Result C (Stop K)) (bytes : List ℕ) (k : K) (left : ℕ) : Type 0 where
   pub front : List ℕ
   pub byte : ℕ
   pub rest : List ℕ
@@ -14,11 +14,13 @@ pub record StopsAt {K A : Type 0} (G : List ℕ → A → Type 0) (r : Reader K 
   pub goes_on : Begins G front
   pub stays : (after : List ℕ) → r (front ++ byte ∷ after) ≡ Err (bad k (suc (length after)))
 
+-- a spelling of the value begins the bytes, and the rest stands behind it
 pub record Takes {A : Type 0} (G : List ℕ → A → Type 0) (bytes : List ℕ) (x : A) (rest : List ℕ) : Type 0 where
   pub text : List ℕ
   pub parts : bytes ≡ text ++ rest
   pub spelled : G text x
 
+-- what is spelled is read whatever stands behind it, and what is read, or stops, tells what is spelled
 pub record Reads {K A : Type 0} (G : List ℕ → A → Type 0) (r : Reader K A) : Type 0 where
   pub bytes : (text : List ℕ) (x : A) → G text x → IsBytes text
   pub live : Begins G []
@@ -75,20 +77,63 @@ Reads-done x = record {
 
 -- ---- one after the other
 
-module _ {K A B : Type 0} (G : List ℕ → A → Type 0) (H : A → List ℕ → B → Type 0) (r : Reader K A) (f : A → Reader K B) (R : Reads G r) (S : (x : A) (text : List ℕ) → G text x → Reads (H x) (f x)) where
-  then_bytes : (text : List ℕ) (y : B) → Then G H text y → IsBytes text
-  then_bytes text y g = subst IsBytes (sym g.parts) (IsBytes-append g.front g.back (R.bytes g.front g.value g.first) ((S g.value g.front g.first).bytes g.back y g.second))
+-- where reading ends too early the bytes begin a spelling, and where it stops at a byte no spelling goes on with it
+pub record StopsBy {K B C : Type 0} (H : List ℕ → B → Type 0) (f : List ℕ → Result C (Stop K)) : Type 0 where
+  pub live : Begins H []
+  pub ends : (bytes : List ℕ) → IsBytes bytes → f bytes ≡ Err short → Begins H bytes
+  pub stops : (bytes : List ℕ) (k : K) (left : ℕ) → IsBytes bytes → f bytes ≡ Err (bad k left) → StopsAt H f bytes k left
+
+-- a reader, and behind it what reads the rest or all of it
+module _ {K A B C : Type 0} (G : List ℕ → A → Type 0) (H : A → List ℕ → B → Type 0) (r : Reader K A) (f : A → List ℕ → Result C (Stop K)) (R : Reads G r) (S : (x : A) (text : List ℕ) → G text x → StopsBy (H x) (f x)) where
+  abbrev chained : List ℕ → Result C (Stop K)
+  chained bytes = r bytes >>= λ x. f x.0 x.1
 
   -- what begins a spelling of the first begins one of both
-  then_begins : (front : List ℕ) → Begins G front → Begins (Then G H) front
-  then_begins front b =
+  chain_begins : (front : List ℕ) → Begins G front → Begins (Then G H) front
+  chain_begins front b =
       let l = (S b.value (front ++ b.more) b.spelled).live in
       record { more = b.more ++ l.more; value = l.value; spelled = record { value = b.value; front = front ++ b.more; back = l.more; parts = sym (append_assoc front b.more l.more); first = b.spelled; second = l.spelled } }
 
   -- what begins a spelling of the second, behind one of the first
-  then_begins_later : (text : List ℕ) (x : A) (front : List ℕ) → G text x → Begins (H x) front → Begins (Then G H) (text ++ front)
-  then_begins_later text x front g b =
+  chain_begins_later : (text : List ℕ) (x : A) (front : List ℕ) → G text x → Begins (H x) front → Begins (Then G H) (text ++ front)
+  chain_begins_later text x front g b =
       record { more = b.more; value = b.value; spelled = record { value = x; front = text; back = front ++ b.more; parts = append_assoc text front b.more; first = g; second = b.spelled } }
+
+  chain_ends : (bytes : List ℕ) → IsBytes bytes → chained bytes ≡ Err short → Begins (Then G H) bytes
+  chain_ends bytes b e = go (bind_err (r bytes) (λ x. f x.0 x.1) short e)
+    where
+      go : Stopped (r bytes) (λ x. f x.0 x.1) short → Begins (Then G H) bytes
+      go (first h) = chain_begins bytes (R.ends bytes b h)
+      go (later x h h') =
+          let t = R.takes bytes x.0 x.1 b h in
+          subst (Begins (Then G H)) (sym t.parts) (chain_begins_later t.text x.0 x.1 t.spelled ((S x.0 t.text t.spelled).ends x.1 (IsBytes-rest t.text x.1 (subst IsBytes t.parts b)) h'))
+
+  chain_stops : (bytes : List ℕ) (k : K) (left : ℕ) → IsBytes bytes → chained bytes ≡ Err (bad k left) → StopsAt (Then G H) chained bytes k left
+  chain_stops bytes k left b e = go (bind_err (r bytes) (λ x. f x.0 x.1) (bad k left) e)
+    where
+      go : Stopped (r bytes) (λ x. f x.0 x.1) (bad k left) → StopsAt (Then G H) chained bytes k left
+      go (first h) =
+          let s = R.stops bytes k left b h in
+          record { front = s.front; byte = s.byte; rest = s.rest; parts = s.parts; place = s.place; goes_on = chain_begins s.front s.goes_on; stays = λ after. rw (s.stays after) refl }
+      go (later x h h') =
+          let t = R.takes bytes x.0 x.1 b h in
+          let s = (S x.0 t.text t.spelled).stops x.1 k left (IsBytes-rest t.text x.1 (subst IsBytes t.parts b)) h' in
+          record {
+            front = t.text ++ s.front;
+            byte = s.byte;
+            rest = s.rest;
+            parts = t.parts ∙ ap (λ (w : List ℕ). t.text ++ w) s.parts ∙ sym (append_assoc t.text s.front (s.byte ∷ s.rest));
+            place = s.place;
+            goes_on = chain_begins_later t.text x.0 s.front t.spelled s.goes_on;
+            stays = λ after. ap chained (append_assoc t.text s.front (s.byte ∷ after)) ∙ rw (R.again t.text x.0 (s.front ++ s.byte ∷ after) t.spelled) (s.stays after);
+          }
+
+  pub StopsBy-chain : StopsBy (Then G H) chained
+  StopsBy-chain = record { live = chain_begins [] R.live; ends = chain_ends; stops = chain_stops }
+
+module _ {K A B : Type 0} (G : List ℕ → A → Type 0) (H : A → List ℕ → B → Type 0) (r : Reader K A) (f : A → Reader K B) (R : Reads G r) (S : (x : A) (text : List ℕ) → G text x → Reads (H x) (f x)) where
+  then_bytes : (text : List ℕ) (y : B) → Then G H text y → IsBytes text
+  then_bytes text y g = subst IsBytes (sym g.parts) (IsBytes-append g.front g.back (R.bytes g.front g.value g.first) ((S g.value g.front g.first).bytes g.back y g.second))
 
   then_again : (text : List ℕ) (y : B) (rest : List ℕ) → Then G H text y → and_then r f (text ++ rest) ≡ Ok (y, rest)
   then_again text y rest g =
@@ -106,37 +151,11 @@ module _ {K A B : Type 0} (G : List ℕ → A → Type 0) (H : A → List ℕ �
         spelled = record { value = c.0.0; front = t.text; back = u.text; parts = refl; first = t.spelled; second = u.spelled };
       }
 
-  then_ends : (bytes : List ℕ) → IsBytes bytes → and_then r f bytes ≡ Err short → Begins (Then G H) bytes
-  then_ends bytes b e = go (bind_err (r bytes) (λ x. f x.0 x.1) short e)
-    where
-      go : Stopped (r bytes) (λ x. f x.0 x.1) short → Begins (Then G H) bytes
-      go (first h) = then_begins bytes (R.ends bytes b h)
-      go (later x h h') =
-          let t = R.takes bytes x.0 x.1 b h in
-          subst (Begins (Then G H)) (sym t.parts) (then_begins_later t.text x.0 x.1 t.spelled ((S x.0 t.text t.spelled).ends x.1 (IsBytes-rest t.text x.1 (subst IsBytes t.parts b)) h'))
-
-  then_stops : (bytes : List ℕ) (k : K) (left : ℕ) → IsBytes bytes → and_then r f bytes ≡ Err (bad k left) → StopsAt (Then G H) (and_then r f) bytes k left
-  then_stops bytes k left b e = go (bind_err (r bytes) (λ x. f x.0 x.1) (bad k left) e)
-    where
-      go : Stopped (r bytes) (λ x. f x.0 x.1) (bad k left) → StopsAt (Then G H) (and_then r f) bytes k left
-      go (first h) =
-          let s = R.stops bytes k left b h in
-          record { front = s.front; byte = s.byte; rest = s.rest; parts = s.parts; place = s.place; goes_on = then_begins s.front s.goes_on; stays = λ after. rw (s.stays after) refl }
-      go (later x h h') =
-          let t = R.takes bytes x.0 x.1 b h in
-          let s = (S x.0 t.text t.spelled).stops x.1 k left (IsBytes-rest t.text x.1 (subst IsBytes t.parts b)) h' in
-          record {
-            front = t.text ++ s.front;
-            byte = s.byte;
-            rest = s.rest;
-            parts = t.parts ∙ ap (λ (w : List ℕ). t.text ++ w) s.parts ∙ sym (append_assoc t.text s.front (s.byte ∷ s.rest));
-            place = s.place;
-            goes_on = then_begins_later t.text x.0 s.front t.spelled s.goes_on;
-            stays = λ after. ap (and_then r f) (append_assoc t.text s.front (s.byte ∷ after)) ∙ rw (R.again t.text x.0 (s.front ++ s.byte ∷ after) t.spelled) (s.stays after);
-          }
+  then_early : StopsBy (Then G H) (and_then r f)
+  then_early = StopsBy-chain G H r f R (λ x text g. let s = S x text g in record { live = s.live; ends = s.ends; stops = s.stops })
 
   pub Reads-then : Reads (Then G H) (and_then r f)
-  Reads-then = record { bytes = then_bytes; live = then_begins [] R.live; again = then_again; takes = then_takes; ends = then_ends; stops = then_stops }
+  Reads-then = record { bytes = then_bytes; live = then_early.live; again = then_again; takes = then_takes; ends = then_early.ends; stops = then_early.stops }
 
 -- ---- one byte
 

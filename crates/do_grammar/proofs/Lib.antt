@@ -1,7 +1,9 @@
 pub mod Exact
 pub mod Combined
+pub mod Place
 pub mod Told
 pub mod Num
+pub mod PairExact
 pub mod NumSteps
 pub mod Loop
 pub mod Whole

@@ -1,9 +1,10 @@
 -- What the answer of an exact reader tells of the bytes.
-use Rattle.std.proofs.Common.{◌≡◌, ℕ, suc, ◌+◌, ◌<◌, ◌≤◌, List, [], ◌∷◌, ◌++◌, length, get_or, take, Ok, Err, sym, ap, subst, ◌∙◌, append_assoc, arith}
+use Rattle.std.proofs.Common.{◌≡◌, ℕ, suc, ◌+◌, ◌<◌, ◌≤◌, List, [], ◌∷◌, ◌++◌, length, get_or, take, Ok, Err, sym, ap, subst, ◌∙◌, arith}
 use Rattle.std.specs.Prelude.{◌-◌}
 use Rattle.std.proofs.lemmas.List.{append-nil, length-append, take_at}
 use Rattle.do_grammar.specs.Reader.{Stop, short, bad, Reader}
 use Rattle.do_grammar.specs.Grammar.{IsBytes, Begins, IsProperFront, IsFirstBad}
+use Rattle.do_grammar.proofs.Place.{is_placed}
 use Rattle.do_grammar.proofs.Exact.{StopsAt, Reads, IsBytes-rest, ok_value, ok_rest}
 
 -- ---- what an exact reader tells of all its input
@@ -47,16 +48,11 @@ front_goes_on {A = A} G r R bytes k left s = from s.goes_on.more s.goes_on.value
 pub first_bad : {K A : Type 0} (G : List ℕ → A → Type 0) (r : Reader K A) → Reads G r → (bytes : List ℕ) (k : K) (left : ℕ) → IsBytes bytes → r bytes ≡ Err (bad k left) → IsFirstBad G bytes (length bytes - left)
 first_bad {A = A} G r R bytes k left small e =
     let s = R.stops bytes k left small e in
-    let place = s.place in
-    let len : length bytes ≡ length s.front + suc (length s.rest) = ap length s.parts ∙ length-append s.front (s.byte ∷ s.rest) in
-    let at : length bytes - left ≡ length s.front = omega arith in
-    let front : take (length bytes - left) bytes ≡ s.front = ap (take (length bytes - left)) s.parts ∙ take_at s.front (s.byte ∷ s.rest) (length bytes - left) (sym at) in
-    let one : length (s.front ++ s.byte ∷ []) ≡ length bytes - left + 1 = length-append s.front (s.byte ∷ []) ∙ omega arith in
-    let more : take (length bytes - left + 1) bytes ≡ s.front ++ s.byte ∷ [] = ap (take (length bytes - left + 1)) (s.parts ∙ sym (append_assoc s.front (s.byte ∷ []) s.rest)) ∙ take_at (s.front ++ s.byte ∷ []) s.rest (length bytes - left + 1) one in
+    let p = is_placed bytes s.front s.byte s.rest left s.parts s.place in
     record {
-      inside = omega arith;
-      before = subst (IsProperFront G) (sym front) (front_goes_on G r R bytes k left s);
-      dead = λ after x g. dead G r R bytes k left s after x (subst (λ (w : List ℕ). G w x) (ap (λ (w : List ℕ). w ++ after) more ∙ append_assoc s.front (s.byte ∷ []) after) g);
+      inside = p.inside;
+      before = subst (IsProperFront G) (sym p.before) (front_goes_on G r R bytes k left s);
+      dead = λ after x g. dead G r R bytes k left s after x (subst (λ (w : List ℕ). G w x) (p.through after) g);
     }
 
 -- bytes by their places
@@ -69,8 +65,7 @@ bytes_from_each (b ∷ bytes) h = (h 0, bytes_from_each bytes (λ i. h (suc i)))
 pub left_within : {K A : Type 0} (G : List ℕ → A → Type 0) (r : Reader K A) → Reads G r → (bytes : List ℕ) (k : K) (left : ℕ) → IsBytes bytes → r bytes ≡ Err (bad k left) → left ≤ length bytes
 left_within G r R bytes k left small e =
     let s = R.stops bytes k left small e in
-    let place = s.place in
-    omega (arith, ap length s.parts ∙ length-append s.front (s.byte ∷ s.rest))
+    (is_placed bytes s.front s.byte s.rest left s.parts s.place).within
 
 pub found : {K A : Type 0} (G : List ℕ → A → Type 0) (r : Reader K A) → Reads G r → (bytes : List ℕ) (x : A) (rest : List ℕ) → IsBytes bytes → r bytes ≡ Ok (x, rest) → (length rest ≤ length bytes) × G (take (length bytes - length rest) bytes) x
 found {A = A} G r R bytes x rest small e =

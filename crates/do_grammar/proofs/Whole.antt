@@ -1,21 +1,18 @@
 -- Readers of all the bytes, and of bytes that lead from state to state.
-use Rattle.std.proofs.Common.{◌≡◌, ℕ, suc, ◌+◌, ◌<◌, ◌≤◌, List, [], ◌∷◌, ◌++◌, length, take, Option, Some, None, Result, Ok, Err, refl, sym, ap, subst, ◌∙◌, append_assoc, arith}
+use Rattle.std.proofs.Common.{◌≡◌, ℕ, suc, ◌<◌, ◌≤◌, List, [], ◌∷◌, ◌++◌, length, Option, Some, None, Result, Ok, Err, refl, sym, ap, subst, ◌∙◌}
 use Rattle.std.specs.Prelude.{◌-◌}
-use Rattle.std.proofs.lemmas.List.{append-nil, length-append, take_at}
+use Rattle.std.proofs.lemmas.List.{append-nil}
 use Rattle.do_grammar.specs.Reader.{Stop, short, bad, Reader, Whole, ended, whole_of, then_whole, accepted, by_result, run}
 use Rattle.do_grammar.specs.Grammar.{IsBytes, Begins, IsProperFront, IsFirstBadWhole}
 use Rattle.do_grammar.specs.Forms.{Then, OnGo, Runs}
-use Rattle.do_grammar.proofs.Exact.{Reads, Stopped, first, later, bind_ok, bind_err, IsBytes-append, IsBytes-rest}
+use Rattle.do_grammar.proofs.Place.{is_placed}
+use Rattle.do_grammar.proofs.Exact.{StopsAt, StopsBy, StopsBy-chain, Reads, Stopped, first, later, bind_ok, bind_err, IsBytes-append, IsBytes-rest}
 
-pub record StopsWhole {K A : Type 0} (G : List ℕ → A → Type 0) (w : Whole K A) (bytes : List ℕ) (k : K) (left : ℕ) : Type 0 where
-  pub front : List ℕ
-  pub byte : ℕ
-  pub rest : List ℕ
-  pub parts : bytes ≡ front ++ byte ∷ rest
-  pub place : left ≡ suc (length rest)
-  pub goes_on : Begins G front
-  pub stays : (after : List ℕ) → w (front ++ byte ∷ after) ≡ Err (bad k (suc (length after)))
+-- what a reader of all the bytes that stops at a byte tells
+abbrev pub StopsWhole : {K A : Type 0} → (List ℕ → A → Type 0) → Whole K A → List ℕ → K → ℕ → Type 0
+StopsWhole G w bytes k left = StopsAt G w bytes k left
 
+-- the same of a reader of all the bytes, behind which nothing stands
 pub record ReadsWhole {K A : Type 0} (G : List ℕ → A → Type 0) (w : Whole K A) : Type 0 where
   pub bytes : (text : List ℕ) (x : A) → G text x → IsBytes text
   pub live : Begins G []
@@ -82,54 +79,20 @@ Reads-whole {K = K} {A = A} why G r R = record {
 -- ---- a reader, and then all the rest
 
 module _ {K A B : Type 0} (G : List ℕ → A → Type 0) (H : A → List ℕ → B → Type 0) (r : Reader K A) (f : A → Whole K B) (R : Reads G r) (S : (x : A) (text : List ℕ) → G text x → ReadsWhole (H x) (f x)) where
-  whole_begins : (front : List ℕ) → Begins G front → Begins (Then G H) front
-  whole_begins front b =
-      let l = (S b.value (front ++ b.more) b.spelled).live in
-      record { more = b.more ++ l.more; value = l.value; spelled = record { value = b.value; front = front ++ b.more; back = l.more; parts = sym (append_assoc front b.more l.more); first = b.spelled; second = l.spelled } }
-
-  whole_begins_later : (text : List ℕ) (x : A) (front : List ℕ) → G text x → Begins (H x) front → Begins (Then G H) (text ++ front)
-  whole_begins_later text x front g b = record { more = b.more; value = b.value; spelled = record { value = x; front = text; back = front ++ b.more; parts = append_assoc text front b.more; first = g; second = b.spelled } }
-
-  whole_ends : (bytes : List ℕ) → IsBytes bytes → then_whole r f bytes ≡ Err short → Begins (Then G H) bytes
-  whole_ends bytes small e = go (bind_err (r bytes) (λ x. f x.0 x.1) short e)
-    where
-      go : Stopped (r bytes) (λ x. f x.0 x.1) short → Begins (Then G H) bytes
-      go (first h) = whole_begins bytes (R.ends bytes small h)
-      go (later x h h') =
-          let t = R.takes bytes x.0 x.1 small h in
-          subst (Begins (Then G H)) (sym t.parts) (whole_begins_later t.text x.0 x.1 t.spelled ((S x.0 t.text t.spelled).ends x.1 (IsBytes-rest t.text x.1 (subst IsBytes t.parts small)) h'))
-
-  whole_stops : (bytes : List ℕ) (k : K) (left : ℕ) → IsBytes bytes → then_whole r f bytes ≡ Err (bad k left) → StopsWhole (Then G H) (then_whole r f) bytes k left
-  whole_stops bytes k left small e = go (bind_err (r bytes) (λ x. f x.0 x.1) (bad k left) e)
-    where
-      go : Stopped (r bytes) (λ x. f x.0 x.1) (bad k left) → StopsWhole (Then G H) (then_whole r f) bytes k left
-      go (first h) =
-          let s = R.stops bytes k left small h in
-          record { front = s.front; byte = s.byte; rest = s.rest; parts = s.parts; place = s.place; goes_on = whole_begins s.front s.goes_on; stays = λ after. rw (s.stays after) refl }
-      go (later x h h') =
-          let t = R.takes bytes x.0 x.1 small h in
-          let s = (S x.0 t.text t.spelled).stops x.1 k left (IsBytes-rest t.text x.1 (subst IsBytes t.parts small)) h' in
-          record {
-            front = t.text ++ s.front;
-            byte = s.byte;
-            rest = s.rest;
-            parts = t.parts ∙ ap (λ (w : List ℕ). t.text ++ w) s.parts ∙ sym (append_assoc t.text s.front (s.byte ∷ s.rest));
-            place = s.place;
-            goes_on = whole_begins_later t.text x.0 s.front t.spelled s.goes_on;
-            stays = λ after. ap (then_whole r f) (append_assoc t.text s.front (s.byte ∷ after)) ∙ rw (R.again t.text x.0 (s.front ++ s.byte ∷ after) t.spelled) (s.stays after);
-          }
+  whole_early : StopsBy (Then G H) (then_whole r f)
+  whole_early = StopsBy-chain G H r f R (λ x text g. let s = S x text g in record { live = s.live; ends = s.ends; stops = s.stops })
 
   pub Reads-then_whole : ReadsWhole (Then G H) (then_whole r f)
   Reads-then_whole = record {
     bytes = λ text y g. subst IsBytes (sym g.parts) (IsBytes-append g.front g.back (R.bytes g.front g.value g.first) ((S g.value g.front g.first).bytes g.back y g.second));
-    live = whole_begins [] R.live;
+    live = whole_early.live;
     again = λ text y g. ap (then_whole r f) g.parts ∙ rw (R.again g.front g.value g.back g.first) ((S g.value g.front g.first).again g.back y g.second);
     takes = λ bytes y small e.
         let c = bind_ok (r bytes) (λ x. f x.0 x.1) y e in
         let t = R.takes bytes c.0.0 c.0.1 small c.1 in
         record { value = c.0.0; front = t.text; back = c.0.1; parts = t.parts; first = t.spelled; second = (S c.0.0 t.text t.spelled).takes c.0.1 y (IsBytes-rest t.text c.0.1 (subst IsBytes t.parts small)) c.2 };
-    ends = whole_ends;
-    stops = whole_stops;
+    ends = whole_early.ends;
+    stops = whole_early.stops;
   }
 
 pub Whole-as : {K A : Type 0} (G H : List ℕ → A → Type 0) (r s : Whole K A) → ((text : List ℕ) (x : A) → G text x → H text x) → ((text : List ℕ) (x : A) → H text x → G text x) → ((bytes : List ℕ) → r bytes ≡ s bytes) → ReadsWhole G r → ReadsWhole H s
@@ -218,8 +181,7 @@ module _ {S K A : Type 0} (step : S → ℕ → Result S K) (accept : S → Opti
 pub left_within_whole : {K A : Type 0} (G : List ℕ → A → Type 0) (w : Whole K A) → ReadsWhole G w → (bytes : List ℕ) (k : K) (left : ℕ) → IsBytes bytes → w bytes ≡ Err (bad k left) → left ≤ length bytes
 left_within_whole G w R bytes k left small e =
     let s = R.stops bytes k left small e in
-    let place = s.place in
-    omega (arith, ap length s.parts ∙ length-append s.front (s.byte ∷ s.rest))
+    (is_placed bytes s.front s.byte s.rest left s.parts s.place).within
 
 pub proper_front_whole : {K A : Type 0} (G : List ℕ → A → Type 0) (w : Whole K A) → ReadsWhole G w → (bytes : List ℕ) → IsBytes bytes → w bytes ≡ Err short → IsProperFront G bytes
 proper_front_whole {A = A} G w R bytes small e = go (R.ends bytes small e)
@@ -234,17 +196,12 @@ proper_front_whole {A = A} G w R bytes small e = go (R.ends bytes small e)
 pub first_bad_whole : {K A : Type 0} (G : List ℕ → A → Type 0) (w : Whole K A) → ReadsWhole G w → (bytes : List ℕ) (k : K) (left : ℕ) → IsBytes bytes → w bytes ≡ Err (bad k left) → IsFirstBadWhole G bytes (length bytes - left)
 first_bad_whole {A = A} G w R bytes k left small e =
     let s = R.stops bytes k left small e in
-    let place = s.place in
-    let len : length bytes ≡ length s.front + suc (length s.rest) = ap length s.parts ∙ length-append s.front (s.byte ∷ s.rest) in
-    let at : length bytes - left ≡ length s.front = omega arith in
-    let front : take (length bytes - left) bytes ≡ s.front = ap (take (length bytes - left)) s.parts ∙ take_at s.front (s.byte ∷ s.rest) (length bytes - left) (sym at) in
-    let one : length (s.front ++ s.byte ∷ []) ≡ length bytes - left + 1 = length-append s.front (s.byte ∷ []) ∙ omega arith in
-    let more : take (length bytes - left + 1) bytes ≡ s.front ++ s.byte ∷ [] = ap (take (length bytes - left + 1)) (s.parts ∙ sym (append_assoc s.front (s.byte ∷ []) s.rest)) ∙ take_at (s.front ++ s.byte ∷ []) s.rest (length bytes - left + 1) one in
+    let p = is_placed bytes s.front s.byte s.rest left s.parts s.place in
     record {
-      inside = omega arith;
-      before = subst (Begins G) (sym front) s.goes_on;
+      inside = p.inside;
+      before = subst (Begins G) (sym p.before) s.goes_on;
       dead = λ after x g.
-          let got = R.again (s.front ++ s.byte ∷ after) x (subst (λ (v : List ℕ). G v x) (ap (λ (v : List ℕ). v ++ after) more ∙ append_assoc s.front (s.byte ∷ []) after) g) in
+          let got = R.again (s.front ++ s.byte ∷ after) x (subst (λ (v : List ℕ). G v x) (p.through after) g) in
           let stop = s.stays after in
           absurd cc;
     }

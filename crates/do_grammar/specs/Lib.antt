@@ -9,3 +9,4 @@ pub mod Lines
 pub mod Dec
 pub mod Names
 pub mod Quoted
+pub mod Pair

@@ -18,6 +18,7 @@ abbrev pub size_within : ℕ → ℕ → ℕ
 size_within zero x = 0
 size_within (suc k) x = if nat_lt x (span k) then size_within k x else suc k
 
+-- how many bytes a number of 64 bits needs
 unfoldable pub size : ℕ → ℕ
 size x = size_within 8 x
 
@@ -51,6 +52,7 @@ num_at why low high = and_then (byte_of (sized low high) (λ b. why)) (λ n. dig
 abbrev pub counted : List ℕ → List ℕ
 counted bytes = num (length bytes) ++ bytes
 
+-- a text of at most so many bytes: its length, and the bytes
 unfoldable pub counted_at : {K : Type 0} → K → ℕ → Reader K (List ℕ)
 counted_at why limit = and_then (num_at why 0 limit) (λ n. bytes_of n)
 
@@ -59,9 +61,11 @@ abbrev pub zigzag : ℤ → ℕ
 zigzag (pos n) = 2 * n
 zigzag (negsuc n) = 2 * n + 1
 
+-- the signed number that an unsigned one stands for: its half, from 0 on where it is even, else below 0
 abbrev pub unzigzag : ℕ → ℤ
 unzigzag n = if n % 2 == 0 then pos (n / 2) else negsuc (n / 2)
 
+-- a signed number, read as the unsigned one of 64 bits that stands for it
 unfoldable pub signed_at : {K : Type 0} → K → Reader K ℤ
 signed_at why = mapped unzigzag (num_at why 0 18446744073709551615)
 

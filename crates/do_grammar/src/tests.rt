@@ -3,6 +3,8 @@ use do_base::Text;
 use std::alloc::AllocError;
 use std::test::Fail;
 
+mod pair;
+
 /// The number that begins the bytes, with how many bytes are left behind it.
 fn number(bytes: &[u8]) -> Option<(u64, usize)> {
     match num_of(bytes, 0, u64::MAX) {

@@ -1,5 +1,5 @@
 -- How reading a file within a limit may end.
-use Rattle.std.specs.Prelude.{◌≡◌, ℕ, ◌+◌, ◌≤◌, List, length, Result, Ok, Err}
+use Rattle.std.specs.Prelude.{◌≡◌, ℕ, ◌+◌, ◌<◌, ◌≤◌, List, length, Result, Ok, Err}
 use Rattle.do_base.specs.declared.shelf.FetchFail.{FetchFail}
 use Rattle.do_base.specs.declared.shelf.FetchFail.TheVariants.{Failed, Long, Memory}
 
@@ -9,3 +9,10 @@ KeepsLimit limit (Ok text) = length text ≤ limit
 KeepsLimit limit (Err (Long read most)) = (read ≡ limit + 1) × (most ≡ limit)
 KeepsLimit limit (Err Failed) = Unit {0}
 KeepsLimit limit (Err Memory) = Unit {0}
+
+-- a text is all that the file had left, and a file that is too long had more than the limit
+abbrev pub TellsOf : ℕ → List ℕ → Result (List ℕ) FetchFail → Type 0
+TellsOf limit known (Ok text) = text ≡ known
+TellsOf limit known (Err (Long read most)) = limit < length known
+TellsOf limit known (Err Failed) = Unit {0}
+TellsOf limit known (Err Memory) = Unit {0}

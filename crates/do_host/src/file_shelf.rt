@@ -1,13 +1,14 @@
 //! The shelf of real files.
-ghost use Rattle.std.specs.Prelude.{◌≡◌, ◌+◌, ◌^◌, ◌<◌, ◌≤◌, None, IsErrOf};
+ghost use Rattle.std.specs.Prelude.{◌≡◌, ◌+◌, ◌^◌, ◌<◌, ◌≤◌, ◌⊎◌, ◌↔◌, None, IfSome, IsErrOf};
+ghost use Rattle.std.specs.IoError.{error_kind};
 ghost use Rattle.do_base.specs.Causes.{next_count};
 ghost use Rattle.do_base.specs.Files.{FetchCause};
-ghost use Rattle.do_host.specs.Reading.{KeepsLimit};
+ghost use Rattle.do_host.specs.Reading.{KeepsLimit, TellsOf};
 
 use do_base::{FetchFail, Shelf, Text, Word};
 use std::alloc::Global;
 use std::fs::{File, Files};
-use std::io::{ErrorKind, Read};
+use std::io::{Error, ErrorKind, Read};
 use std::marker::Model;
 use std::str;
 
@@ -43,9 +44,6 @@ impl<R: Files> FileShelf<R> {
     }
 }
 
-// How many bytes are read at once.
-const BLOCK: usize = 65_536;
-
 // What is answered for a file of more bytes than the limit.
 fn too_long(limit: u64) -> FetchFail
     requires { limit < 2 ^ 63 }
@@ -57,27 +55,35 @@ fn too_long(limit: u64) -> FetchFail
     }
 }
 
-// The rest of a file, where it is at most `limit` bytes. No more than one byte past them is read.
-fn read_within<F: Read>(file: &mut F, alloc: Global, limit: u64) -> Result<Text, FetchFail>
-    requires { limit < 2 ^ 63 }
-    ensures { KeepsLimit limit result }
+// Why a file could not be opened or read.
+fn fail_of(e: &Error) -> FetchFail
+    ensures two { (result ≡ FetchFail.Memory) ⊎ (result ≡ FetchFail.Failed) }
+    ensures memory { (result ≡ FetchFail.Memory) ↔ (error_kind e.now ≡ ErrorKind.OutOfMemory) }
 {
-    let most = limit as usize;
-    let mut text = Text::new(alloc);
-    let mut block = vec![in alloc; 0u8; BLOCK].map_err(|_| FetchFail::Memory)?;
-    for _ in 0..u64::MAX {
-        let room = (most + 1 - text.len()).min(BLOCK);
-        match file.read(&mut block[..room]) {
-            Ok(0) => return Ok(text),
-            Ok(count) => text.push_bytes(&block[..count])?,
-            Err(e) if e.kind() == ErrorKind::Interrupted => {}
-            Err(_) => return Err(FetchFail::Failed),
-        }
-        if text.len() > most {
-            return Err(too_long(limit));
-        }
+    if e.kind() == ErrorKind::OutOfMemory {
+        FetchFail::Memory
+    } else {
+        FetchFail::Failed
     }
-    Err(FetchFail::Failed)
+}
+
+// The bytes that a file has left, where they are at most `limit`. No more than one byte past them is read.
+#[tactic(auto, using(crate::proofs::Known::within_is_all))]
+pub(crate) fn read_within<F: Read + Drop>(
+    file: F,
+    alloc: Global,
+    limit: u64,
+) -> Result<Text, FetchFail>
+    requires { limit < 2 ^ 63 }
+    ensures cause { KeepsLimit limit result }
+    ensures bytes { IfSome (F.remaining file) (λ known. TellsOf limit known result) }
+{
+    let mut bytes = Vec::new(alloc);
+    match file.take(limit + 1).read_to_end(&mut bytes) {
+        Ok(count) if count as u64 > limit => Err(too_long(limit)),
+        Ok(_) => Ok(Text::from_vec(bytes)),
+        Err(e) => Err(fail_of(&e)),
+    }
 }
 
 fn read_file(rt: &impl Files, alloc: Global, name: &Word, limit: u64) -> Result<Text, FetchFail>
@@ -88,8 +94,8 @@ fn read_file(rt: &impl Files, alloc: Global, name: &Word, limit: u64) -> Result<
         return Err(FetchFail::Failed);
     };
     match File::open(rt, path) {
-        Ok(mut file) => read_within(&mut file, alloc, limit),
-        Err(_) => Err(FetchFail::Failed),
+        Ok(file) => read_within(file, alloc, limit),
+        Err(e) => Err(fail_of(&e)),
     }
 }
 
@@ -101,8 +107,8 @@ impl<R: Files> Shelf for FileShelf<R> {
     /// Reads the file at a path.
     ///
     /// `Failed` is for a file that is missing or is a folder, for a name that is not UTF-8, and for
-    /// what the system refuses. A read that a signal interrupts begins again. At most one byte past
-    /// the limit is read.
+    /// what the system refuses. `Memory` is for want of memory, the system's own too. A read that a
+    /// signal interrupts begins again. At most one byte past the limit is read.
     fn fetch(&mut self, name: &Word, limit: u64) -> Result<Text, FetchFail>
         requires { limit < 2 ^ 63 }
         ensures cause { FetchCause None self.old self.new name.now limit result }

@@ -1,5 +1,6 @@
 //! The sink over an output of the system.
-ghost use Rattle.std.specs.Prelude.{◌≡◌, ◌<◌, ◌≤◌, length, None, Err, IfOk, IfSome, IsErrOf, OnOk, OnErr};
+ghost use Rattle.std.specs.Prelude.{◌≡◌, ◌<◌, ◌≤◌, length, take, None, Err, IfOk, IfSome, MatchOption, IsErrOf, OnOk, OnErr};
+ghost use Rattle.std.specs.Io.KnownBytes.{Keeps, Appends, WriteAppends};
 ghost use Rattle.do_base.specs.Bytes.{with_more};
 ghost use Rattle.do_base.specs.Causes.{next_count, Rose};
 
@@ -9,8 +10,9 @@ use std::marker::Model;
 
 /// An output of the system, as standard output, with no buffer between.
 ///
-/// It tells nothing of what was written. Contracts see it as its count of faults: puts that
-/// answered `Failed`. The form is this project's own.
+/// Contracts see it as the output and a count of faults: puts that answered `Failed`. What an
+/// output of the system holds is told to no contract; one in memory may tell. The form is this
+/// project's own.
 #[derive(Drop)]
 pub struct StdSink<W: Write> {
     out: W,
@@ -18,17 +20,19 @@ pub struct StdSink<W: Write> {
 }
 
 impl<W: Write> Model for StdSink<W> {
-    ghost use Rattle.std.specs.Prelude.{ℕ};
+    ghost use Rattle.do_host.specs.Counting.{Counting, counting_code};
 
-    ghost Value = { ℕ };
+    ghost Value = { Counting W };
 
-    ghost view = { λ s. s.faults };
+    ghost coded = { counting_code W.code };
+
+    ghost view = { λ s. record { output = s.out; faults = s.faults } };
 }
 
 impl<W: Write> StdSink<W> {
     /// A sink before its first put.
     pub fn new(out: W) -> StdSink<W>
-        ensures { result ≡ 0 }
+        ensures { result ≡ record { output = out; faults = 0 } }
     {
         StdSink { out, faults: 0 }
     }
@@ -37,9 +41,12 @@ impl<W: Write> StdSink<W> {
 // How often a put that a signal interrupted begins again.
 const TRIES: u32 = 1_000;
 
-// Writes some of a piece, and tells how many bytes, one at least.
+// Writes some of a piece from its front, and tells how many bytes, one at least; none after an error.
+#[tactic(auto, using(crate::proofs::Known::keeps_refl, crate::proofs::Known::keeps_then, crate::proofs::Known::appends_after, crate::proofs::Known::appends_none))]
 fn write_some<W: Write>(out: &mut W, piece: &[u8]) -> Option<usize>
-    ensures { IfSome result (λ n. (0 < n) × (n ≤ length piece.now)) }
+    ensures count { IfSome result (λ n. (0 < n) × (n ≤ length piece.now)) }
+    ensures bytes { MatchOption result (Keeps (W.contents out.old) (W.contents out.new))
+        (λ n. Appends (W.contents out.old) (W.contents out.new) (take n piece.now)) }
 {
     for _ in 0..TRIES {
         match out.write(piece) {
@@ -55,7 +62,7 @@ fn write_some<W: Write>(out: &mut W, piece: &[u8]) -> Option<usize>
 impl<W: Write> Sink for StdSink<W> {
     ghost held = { λ _. None };
 
-    ghost faults = { λ s. s };
+    ghost faults = { λ s. s.faults };
 
     /// Writes some of a piece by one call of the system.
     ///
@@ -64,12 +71,15 @@ impl<W: Write> Sink for StdSink<W> {
     fn put(&mut self, piece: &[u8]) -> Result<usize, PutFail>
         requires { 0 < length piece.now }
         ensures count { IfOk result (λ n. (0 < n) × (n ≤ length piece.now)) }
-        ensures later { self.old ≤ self.new }
-        ensures failed { IsErrOf result PutFail.Failed → Rose self.old self.new }
+        ensures later { self.old.faults ≤ self.new.faults }
+        ensures failed { IsErrOf result PutFail.Failed → Rose self.old.faults self.new.faults }
+
+        // The bytes that are counted were written from the piece's front, and no others.
+        ensures bytes { WriteAppends (W.contents self.old.output) (W.contents self.new.output) result piece.now }
 
         // The count of faults rises exactly where the answer is `Failed`, the only error.
-        ensures fault { OnErr result ((result ≡ Err PutFail.Failed) × (self.new ≡ next_count self.old)) }
-        ensures no_fault { OnOk result (self.new ≡ self.old) }
+        ensures fault { OnErr result ((result ≡ Err PutFail.Failed) × (self.new.faults ≡ next_count self.old.faults)) }
+        ensures no_fault { OnOk result (self.new.faults ≡ self.old.faults) }
     {
         match write_some(&mut self.out, piece) {
             Some(count) => Ok(count),

@@ -6,7 +6,8 @@ use Rattle.do_base.specs.declared.shown.Took.{Took}
 use Rattle.do_base.specs.declared.shown.Took.TheVariants.{Call, Oneway, Reply, Raised, RootAsk, RootAnswer, Ask, Granted, Gone, Left, Settled, End}
 use Rattle.do_base.specs.declared.shown.Shown.{Shown}
 use Rattle.do_base.specs.declared.shown.Shown.TheVariants as shown
-use Rattle.do_lines.specs.Value.{quoted, object_name, value_text}
+use Rattle.do_grammar.specs.Quoted.{quoted}
+use Rattle.do_lines.specs.Value.{object_name, value_text}
 
 -- the exception's name, and for one that a program raised its text
 abbrev pub exception_text : Exc → List ℕ

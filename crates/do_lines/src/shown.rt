@@ -3,9 +3,9 @@ ghost use Rattle.do_lines.specs.Value.{object_name, value_text};
 ghost use Rattle.do_lines.specs.Shown.{exception_text, took_text, shown_text};
 ghost use Rattle.do_lines.specs.Lines.{joined};
 
-use crate::value::{push_object, push_quoted, push_value};
+use crate::value::{push_object, push_value};
 use do_base::{Exc, Oid, Shown, ShownList, Text, Took, Value};
-use do_grammar::push_dec;
+use do_grammar::{push_dec, push_quoted};
 use std::alloc::AllocError;
 
 /// Adds the name of an exception, and the text of one that a program raised.

@@ -1,38 +1,9 @@
-ghost use Rattle.std.specs.Prelude.{◌≡◌, ◌++◌, ◌<◌, OnOk, map};
-ghost use Rattle.do_lines.specs.Value.{hex_digit, quoted, object_name, value_text, between};
+ghost use Rattle.std.specs.Prelude.{◌≡◌, ◌++◌, OnOk, map};
+ghost use Rattle.do_lines.specs.Value.{object_name, value_text, between};
 
 use do_base::{Oid, Text, Value, Values};
-use do_grammar::{push_dec, push_int};
+use do_grammar::{push_dec, push_int, push_quoted};
 use std::alloc::AllocError;
-
-/// The digit of a number below 16, in lower case.
-fn hex_digit(number: u8) -> u8
-    requires { number < 16 }
-    ensures value { result ≡ hex_digit number }
-{
-    if number < 10 {
-        b'0' + number
-    } else {
-        b'a' + (number - 10)
-    }
-}
-
-/// Adds a text in quotes: a printing byte other than `"` and `\` stands for itself, every other one
-/// is `\` and two hexadecimal digits in lower case.
-pub fn push_quoted(out: &mut Text, text: &[u8]) -> Result<(), AllocError>
-    ensures { OnOk result (out.new ≡ out.old ++ quoted text.now) }
-{
-    out.push(b'"')?;
-    for byte in text {
-        let byte = *byte;
-        if (0x20..=0x7e).contains(&byte) && byte != b'"' && byte != b'\\' {
-            out.push(byte)?;
-        } else {
-            out.push_bytes(&[b'\\', hex_digit(byte / 16), hex_digit(byte % 16)])?;
-        }
-    }
-    out.push(b'"')
-}
 
 /// Adds an object's name, `#PORT.SERIAL`.
 pub fn push_object(out: &mut Text, object: &Oid) -> Result<(), AllocError>

@@ -1,11 +1,11 @@
 -- The invocation that waits for a call becomes answered.
-use Rattle.std.proofs.Common.{◌≡◌, ℕ, List, Some, None, refl, ap, sym, ◌∙◌}
+use Rattle.std.proofs.Common.{◌≡◌, ℕ, List, Some, None, ap, sym, ◌∙◌}
 use Rattle.std.specs.Prelude.{slice_get, slice_set}
 use Rattle.std.specs.List.{position}
 use Rattle.do_local.specs.declared.invocation.Answer.{Answer}
 use Rattle.do_local.specs.declared.invocation.Invocation.{Invocation}
 use Rattle.do_local.specs.declared.invocation.InvState.TheVariants.{Answered}
-use Rattle.do_local.specs.Taking.{answered, awaits}
+use Rattle.do_local.specs.Answers.{answered, awaits}
 use Rattle.do_local.proofs.Tables.{change_first_at, change_first_none}
 
 pub answered_at : (number peer : ℕ) (a : Answer) (stack : List Invocation) (at : ℕ) (i j : Invocation) → position (λ i. awaits number peer i.state) stack ≡ Some at → slice_get stack at ≡ Some i → j ≡ record i { state = Answered a } → slice_set stack at j ≡ answered number peer a stack

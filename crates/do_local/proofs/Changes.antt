@@ -1,12 +1,12 @@
 -- Changes of the top of a stack, and of one member of a list.
-use Rattle.std.proofs.Common.{◌≡◌, ℕ, zero, suc, ◌≤◌, ◌<◌, List, [], ◌∷◌, length, ◌==◌, Some, None, refl, ap, sym, ◌∙◌, arith}
+use Rattle.std.proofs.Common.{◌≡◌, ℕ, zero, suc, ◌≤◌, List, [], ◌∷◌, length, ◌==◌, Some, None, refl, ap, sym, ◌∙◌, arith}
 use Rattle.std.specs.Prelude.{slice_get, slice_set}
 use Rattle.do_local.specs.declared.invocation.Invocation.{Invocation}
 use Rattle.std.specs.List.{position}
 use Rattle.do_base.specs.declared.value.Value.{Value}
 use Rattle.do_local.specs.declared.node.Node.{Node}
 use Rattle.do_local.specs.declared.node.Stored.{Stored}
-use Rattle.do_local.specs.Effect.{change_top, heap_with, written_by, write_slot}
+use Rattle.do_local.specs.Changes.{change_top, heap_with, written_by, write_slot}
 use Rattle.do_local.proofs.Tables.{change_first_at, change_first_none}
 
 pub set_top : (f : Invocation → Invocation) (is : List Invocation) (i j : Invocation) → slice_get is 0 ≡ Some i → j ≡ f i → slice_set is 0 j ≡ change_top f is

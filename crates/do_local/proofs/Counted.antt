@@ -17,7 +17,8 @@ use Rattle.do_local.specs.Blocks.{Block, blocks}
 use Rattle.do_local.specs.Laws.{laws_of}
 use Rattle.do_local.proofs.Fitting.{number_laws, counter_laws_compute}
 
-abbrev go : ℕ → Line
+-- a start of the client with a number
+abbrev pub go : ℕ → Line
 go k = Start 7001 (codes "go:") (Num (pos k) ∷ [])
 
 abbrev five_lines : Listed Line
@@ -69,7 +70,8 @@ five_blocks =
     skip (Run 7001 1) ∷
     checked (lists 5 []) ∷ []
 
-abbrev start : State
+-- the counter world before its first event
+abbrev pub start : State
 start = opening counter_classes counter_nodes
 
 five_computed : blocks number_laws start five_lines ≡ five_blocks

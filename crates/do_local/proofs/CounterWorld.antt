@@ -1,25 +1,21 @@
 -- What the counter world's classes and nodes keep to.
 use Rattle.std.proofs.Common.{◌≡◌, ℕ, ◌<◌, List, [], ◌∷◌, length, arith, subst, sym}
 use Rattle.std.specs.Prelude.{IsNone, IsSome}
-use Rattle.std.specs.List.{All, AllPairs, IsDistinct}
+use Rattle.std.specs.List.{All, IsDistinct}
 use Rattle.std.proofs.lemmas.List.Elements.{All-cons}
-use Rattle.std.proofs.lemmas.List.Kept.{AllPairs-cons}
 use Rattle.do_class.specs.Class.{AreMethods, Class}
 use Rattle.do_class.specs.Table.{class_named}
 use Rattle.do_class.specs.declared.method.Method.{Method}
-use Rattle.do_local.specs.World.{IsWorld, counter_classes, counter_nodes, number_to_number}
+use Rattle.do_local.specs.World.{counter_classes, counter_nodes, number_to_number}
 use Rattle.do_local.specs.declared.world.WorldNode.{WorldNode}
 use Rattle.do_sig.specs.Calls.{arg_count}
-use Rattle.do_sig.specs.Names.{colons}
+use Rattle.do_grammar.specs.Names.{colons}
 
 less-zero : (k : ℕ) → k < 0 → ⊥
 less-zero k within = omega arith
 
 all_none : {X : Type 0} (P : X → Type 0) → All P []
 all_none P = λ k d within. absurd (less-zero k within)
-
-all_pairs_none : {X : Type 0} (R : X → X → Type 0) → AllPairs R []
-all_pairs_none R = λ i j d before within. absurd (less-zero j within)
 
 one_is_methods : (m : Method) → colons m.selector ≡ arg_count m.signature → AreMethods (m ∷ [])
 unfolding IsDistinct
@@ -38,22 +34,19 @@ client = record { node = 7001; root = record { 0 = 1 } }
 abbrev counter : WorldNode
 counter = record { node = 7002; root = record { 0 = 0 } }
 
-abbrev before : WorldNode → WorldNode → Type 0
-before a b = a.node < b.node
+-- the class of each root is there
+abbrev AreRooted : List Class → List WorldNode → Type 0
+AreRooted table nodes = All (λ w. w.root.0 < length table) nodes
 
-abbrev rooted : WorldNode → Type 0
-rooted w = w.root.0 < length counter_classes
+counter_rooted : AreRooted counter_classes counter_nodes
+counter_rooted =
+    let rooted = λ (w : WorldNode). w.root.0 < length counter_classes in
+    All-cons rooted client (counter ∷ []) (omega arith) (All-cons rooted counter [] (omega arith) (all_none rooted))
 
-pub counter_is_world : IsWorld counter_classes counter_nodes
-counter_is_world = record {
-  rising = AllPairs-cons before client (counter ∷ []) (All-cons (before client) counter [] (omega arith) (all_none (before client))) (AllPairs-cons before counter [] (all_none (before counter)) (all_pairs_none before));
-  rooted = All-cons rooted client (counter ∷ []) (omega arith) (All-cons rooted counter [] (omega arith) (all_none rooted));
-}
+pub is_rooted : (table : List Class) (nodes : List WorldNode) → table ≡ counter_classes → nodes ≡ counter_nodes → AreRooted table nodes
+is_rooted table nodes t n = subst (λ table. AreRooted table nodes) (sym t) (subst (AreRooted counter_classes) (sym n) counter_rooted)
 
-pub is_counter_world : (table : List _) (nodes : List WorldNode) → table ≡ counter_classes → nodes ≡ counter_nodes → IsWorld table nodes
-is_counter_world table nodes t n = subst (λ table. IsWorld table nodes) (sym t) (subst (IsWorld counter_classes) (sym n) counter_is_world)
-
-pub ruleset counter_steps = (one_method, is_counter_world)
+pub ruleset counter_steps = (one_method, is_rooted)
 
 pub not_taken : (table : List Class) (name given : List ℕ) → name ≡ given → IsNone (class_named table given) → IsSome (class_named table name) → ⊥
 not_taken table name given e none some = let taken : IsSome (class_named table given) = subst (λ n. IsSome (class_named table n)) e some in cc

@@ -1,5 +1,5 @@
 -- Loops that look for an item.
-use Rattle.std.proofs.Common.{◌≡◌, ℕ, zero, suc, ◌+◌, ◌≤◌, ◌<◌, Bool, true, false, List, [], ◌∷◌, length, take, Some, None, refl, ap, sym, ◌∙◌, subst, arith}
+use Rattle.std.proofs.Common.{◌≡◌, ℕ, zero, suc, ◌+◌, ◌≤◌, Bool, true, false, List, [], ◌∷◌, length, take, refl, ap, ◌∙◌, subst, arith}
 use Rattle.std.specs.Prelude.{slice_get, ◌||◌}
 use Rattle.std.specs.List.{list_any}
 use Rattle.do_local.specs.Tables.{some_passes}

@@ -1,5 +1,5 @@
 -- A node that leaves objects, one after another.
-use Rattle.std.proofs.Common.{◌≡◌, ℕ, zero, suc, ◌+◌, ◌-◌, ◌≤◌, ◌<◌, Bool, true, false, cond, List, [], ◌∷◌, ◌++◌, length, get_or, map, take, drop, Some, None, refl, ap, sym, ◌∙◌, subst, arith, append_assoc}
+use Rattle.std.proofs.Common.{◌≡◌, ℕ, zero, suc, ◌+◌, ◌-◌, ◌≤◌, ◌<◌, Bool, true, false, List, [], ◌∷◌, ◌++◌, length, get_or, take, drop, Some, None, refl, ap, sym, ◌∙◌, subst, arith}
 use Rattle.std.specs.Prelude.{slice_get, not, filter}
 use Rattle.std.specs.List.{remove}
 use Rattle.std.proofs.lemmas.Grind.{common_steps}
@@ -11,7 +11,7 @@ use Rattle.do_local.specs.Leaving.{leaving, told}
 use Rattle.do_local.specs.Names.{refers}
 use Rattle.do_local.specs.Places.{Becomes, queues_of}
 use Rattle.do_local.specs.Room.{HasRoom, LeftSoFar}
-use Rattle.do_local.specs.Step.{posted, with_sent}
+use Rattle.do_local.specs.Commit.{posted, with_sent}
 
 module _ {X : Type 0} where
   pub at_within : (xs : List X) (i : ℕ) (x : X) → slice_get xs i ≡ Some x → i < length xs

@@ -1,5 +1,6 @@
 pub mod Fitting
 pub mod Counted
+pub mod Examples
 pub mod Tables
 pub mod Changes
 pub mod Posting

@@ -3,7 +3,6 @@ use Rattle.std.proofs.Common.{◌≡◌, ℕ, zero, suc, ◌+◌, List, [], ◌�
 use Rattle.std.specs.Prelude.{slice_get}
 use Rattle.std.specs.List.{flat_map}
 use Rattle.do_local.specs.declared.place.Place.{Place}
-use Rattle.do_local.specs.declared.outcome.NodeLine.{NodeLine}
 use Rattle.do_local.specs.Check.{node_line}
 use Rattle.do_local.specs.State.{State}
 use Rattle.do_local.specs.Tables.{keys}

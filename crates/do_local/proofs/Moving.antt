@@ -1,7 +1,7 @@
 -- Steps of one place are steps of the state.
-use Rattle.std.proofs.Common.{◌≡◌, ℕ, zero, suc, ◌+◌, ◌≤◌, ◌<◌, Bool, true, false, cond, List, [], ◌∷◌, ◌++◌, length, get_or, map, Option, Some, None, refl, ap, sym, ◌∙◌, subst, arith, eq-eqb}
+use Rattle.std.proofs.Common.{◌≡◌, ℕ, zero, suc, ◌≤◌, ◌<◌, Bool, true, false, cond, List, [], ◌∷◌, ◌++◌, length, Option, Some, None, refl, ap, sym, ◌∙◌, subst, arith, eq-eqb}
 use Rattle.std.specs.Prelude.{slice_get, slice_set, ◌==◌, OnErr, Result, Ok, Err}
-use Rattle.std.specs.List.{position, position_or_len, All}
+use Rattle.std.specs.List.{position, position_or_len}
 use Rattle.std.specs.Option.{option_map}
 use Rattle.do_base.specs.declared.shown.Shown.{Shown}
 use Rattle.do_base.specs.declared.value.Value.{Value}
@@ -9,15 +9,17 @@ use Rattle.do_local.specs.declared.invocation.Invocation.{Invocation}
 use Rattle.do_local.specs.declared.node.Node.{Node}
 use Rattle.do_local.specs.declared.place.Place.{Place}
 use Rattle.do_local.specs.declared.verdict.Verdict.{Verdict}
-use Rattle.do_local.specs.Effect.{Effect, done, top_rule, verdict}
+use Rattle.do_local.specs.Effect.{Effect}
+use Rattle.do_local.specs.Verdicts.{done, top_rule, verdict}
 use Rattle.do_local.specs.Laws.{Laws}
 use Rattle.do_local.specs.Leaving.{leaving}
 use Rattle.do_local.specs.Rules.{Sees}
 use Rattle.do_local.specs.Places.{FewCalls, IsSame, Settles, Steps, queues_of, state_of}
-use Rattle.do_local.specs.State.{State, node}
-use Rattle.do_local.specs.Step.{moved, moved_at, pushed, run, sees, start, started, with_sent}
-use Rattle.do_local.specs.Tables.{Table, change, get}
-use Rattle.do_local.proofs.Settling.{Keeps, done_keeps}
+use Rattle.do_local.specs.State.{node}
+use Rattle.do_local.specs.Commit.{moved, with_sent}
+use Rattle.do_local.specs.Step.{moved_at, pushed, run, sees, start, started}
+use Rattle.do_local.specs.Tables.{Table, change}
+use Rattle.do_local.proofs.Settling.{done_keeps}
 use Rattle.do_local.proofs.Tables.{change_set, get_at, get_none, here, is_at, step}
 
 pub change_twice : {X : Type 0} (k : ℕ) (f g : X → X) (t : Table X) → change k f (change k g t) ≡ change k (λ x. f (g x)) t

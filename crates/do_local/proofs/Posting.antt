@@ -1,13 +1,12 @@
 -- Queues whose items are posted into room that was made before.
-use Rattle.std.proofs.Common.{◌≡◌, ℕ, zero, suc, ◌+◌, ◌≤◌, ◌<◌, ◌≢◌, List, [], ◌∷◌, ◌++◌, length, map, get_or, Some, None, refl, ap, sym, ◌∙◌, subst, arith, get_or-set_other, get_or-set_same}
+use Rattle.std.proofs.Common.{◌≡◌, ℕ, zero, suc, ◌+◌, ◌≤◌, ◌<◌, List, [], ◌∷◌, ◌++◌, length, get_or, Some, None, refl, ap, sym, ◌∙◌, subst, arith}
 use Rattle.std.specs.Prelude.{slice_get, slice_set, ◌==◌}
-use Rattle.std.specs.List.{position, All}
-use Rattle.std.proofs.lemmas.Grind.{common_steps}
+use Rattle.std.specs.List.{position}
 use Rattle.do_local.specs.declared.item.Item.{Item}
 use Rattle.do_local.specs.declared.place.Queue.{Queue}
 use Rattle.do_local.specs.Places.{queues_of}
 use Rattle.do_local.specs.Room.{HasRoom}
-use Rattle.do_local.specs.Step.{posted}
+use Rattle.do_local.specs.Commit.{posted}
 use Rattle.do_local.proofs.Tables.{change_set, change_none}
 
 -- the first queues have room

@@ -1,6 +1,6 @@
 -- An effect and what is left after it, one after the other.
-use Rattle.std.proofs.Common.{◌≡◌, ℕ, zero, suc, ◌≤◌, ◌+◌, Bool, true, false, cond, List, [], ◌∷◌, length, Option, Some, None, refl, ap, sym, ◌∙◌, subst, arith}
-use Rattle.do_base.specs.Names.{CallName, Name}
+use Rattle.std.proofs.Common.{◌≡◌, ℕ, suc, ◌≤◌, true, false, cond, List, [], ◌∷◌, Option, Some, None, refl, ap, ◌∙◌, arith}
+use Rattle.do_base.specs.Names.{CallName}
 use Rattle.do_base.specs.declared.value.Value.{Value}
 use Rattle.do_local.specs.declared.arrival.Arrival.{Arrival}
 use Rattle.do_local.specs.declared.arrival.Arrival.TheVariants.{Invokes, Sends, Answers, Nothing}
@@ -8,15 +8,16 @@ use Rattle.do_local.specs.declared.invocation.Answer.{Answer}
 use Rattle.do_local.specs.declared.invocation.Invocation.{Invocation}
 use Rattle.do_local.specs.declared.node.Node.{Node}
 use Rattle.do_local.specs.declared.place.Place.{Place}
-use Rattle.do_local.specs.declared.place.Queue.{Queue}
 use Rattle.do_local.specs.declared.verdict.Verdict.{Verdict}
 use Rattle.do_local.specs.declared.verdict.Verdict.TheVariants.{Goes, Writes, Says, Asks, Ends}
-use Rattle.do_local.specs.Effect.{Effect, answer_item, caller_of, delivered, done, ended, only, sending, written_by}
+use Rattle.do_local.specs.Effect.{Effect, only, sending}
+use Rattle.do_local.specs.Answers.{answer_item, caller_of, delivered, ended}
+use Rattle.do_local.specs.Verdicts.{done}
+use Rattle.do_local.specs.Changes.{written_by}
 use Rattle.do_local.specs.Leaving.{leaving}
-use Rattle.do_local.specs.Places.{Becomes, IsSame, Settles, queues_of}
-use Rattle.do_local.specs.Room.{HasRoom}
+use Rattle.do_local.specs.Places.{Becomes, Settles, queues_of}
 use Rattle.do_local.specs.State.{is_open}
-use Rattle.do_local.specs.Step.{with_sent}
+use Rattle.do_local.specs.Commit.{with_sent}
 use Rattle.do_local.specs.Taking.{arrived}
 
 -- what no effect of this world changes, and how fast call numbers are used up

@@ -1,5 +1,5 @@
 -- Taking an item is a step of the state.
-use Rattle.std.proofs.Common.{◌≡◌, ℕ, zero, suc, ◌+◌, ◌≤◌, ◌<◌, Bool, true, false, cond, List, [], ◌∷◌, ◌++◌, length, map, drop, Option, Some, None, refl, ap, sym, ◌∙◌, subst, arith, eq-eqb}
+use Rattle.std.proofs.Common.{◌≡◌, ℕ, suc, ◌≤◌, true, false, cond, List, [], ◌∷◌, ◌++◌, drop, Option, Some, None, refl, ap, sym, ◌∙◌, subst, arith}
 use Rattle.std.specs.Prelude.{slice_get, slice_set, ◌==◌, ◌&&◌, not}
 use Rattle.std.specs.List.{position}
 use Rattle.std.proofs.lemmas.Grind.{common_steps}
@@ -11,19 +11,20 @@ use Rattle.do_local.specs.declared.arrival.Arrival.TheVariants.{Invokes, Sends, 
 use Rattle.do_local.specs.declared.item.Item.{Item}
 use Rattle.do_local.specs.declared.node.Node.{Node}
 use Rattle.do_local.specs.declared.place.Place.{Place}
-use Rattle.do_local.specs.declared.place.Queue.{Queue}
 use Rattle.do_local.specs.Effect.{Effect}
 use Rattle.do_local.specs.Laws.{Laws}
 use Rattle.do_local.specs.Leaving.{leaving}
 use Rattle.do_local.specs.Names.{carried}
-use Rattle.do_local.specs.Places.{FewCalls, Settles, Steps, queues_of, state_of}
+use Rattle.do_local.specs.Places.{Settles, Steps, queues_of, state_of}
 use Rattle.do_local.specs.State.{State, node, queue}
-use Rattle.do_local.specs.Step.{Stepped, can_take, moved, sees, skipped, take, take_at, take_first, with_sent, without_first}
+use Rattle.do_local.specs.Commit.{Stepped, moved, skipped, with_sent}
+use Rattle.do_local.specs.Taking.{can_take, arrival, arrived, taken, took}
+use Rattle.do_local.specs.Step.{sees, take, take_at, take_first, without_first}
 use Rattle.do_local.specs.Tables.{Table, change}
-use Rattle.do_local.specs.Taking.{arrival, arrived, held_with, holding, taken, took}
+use Rattle.do_local.specs.Holding.{held_with, holding}
 use Rattle.do_local.proofs.Moving.{at_port, calls_kept, few_kept, node_at, place_moved, port_at, same_state}
 use Rattle.do_local.proofs.Settling.{arrived_keeps}
-use Rattle.do_local.proofs.Tables.{change_none, change_set, get_none}
+use Rattle.do_local.proofs.Tables.{get_none}
 
 clash : (p f k : ℕ) → (p == f) ≡ false → (p == k) ≡ true → (f == k) ≡ false
 clash p f k d e = grind (arith, common_steps)

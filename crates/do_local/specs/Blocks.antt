@@ -7,7 +7,8 @@ use Rattle.do_local.specs.Laws.{Laws}
 use Rattle.do_local.specs.declared.outcome.Outcome.{Outcome}
 use Rattle.do_local.specs.declared.outcome.Snapshot.{Snapshot}
 use Rattle.do_local.specs.State.{State}
-use Rattle.do_local.specs.Step.{Stepped, step, skipped}
+use Rattle.do_local.specs.Commit.{Stepped, skipped}
+use Rattle.do_local.specs.Step.{step}
 use Rattle.do_local.specs.Check.{snapshot}
 
 -- one event after another: enabled where one of the two was, and what both showed

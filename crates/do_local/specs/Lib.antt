@@ -6,8 +6,14 @@ pub mod Act
 pub mod Laws
 pub mod Rules
 pub mod Effect
+pub mod Changes
+pub mod Holding
+pub mod Requests
+pub mod Answers
+pub mod Verdicts
 pub mod Taking
 pub mod Leaving
+pub mod Commit
 pub mod Step
 pub mod World
 pub mod Check

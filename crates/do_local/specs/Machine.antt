@@ -6,7 +6,8 @@ use Rattle.do_local.specs.declared.outcome.Outcome.{Outcome}
 use Rattle.do_local.specs.declared.world.WorldNode.{WorldNode}
 use Rattle.do_local.specs.Laws.{laws_of}
 use Rattle.do_local.specs.State.{State}
-use Rattle.do_local.specs.Step.{Stepped, step}
+use Rattle.do_local.specs.Commit.{Stepped}
+use Rattle.do_local.specs.Step.{step}
 use Rattle.do_local.specs.World.{opening}
 
 -- the classes of its world, its state, and how many events it was given

@@ -1,5 +1,5 @@
 -- Which objects values, invocations, nodes and items name. A value of this world holds no list.
-use Rattle.std.specs.Prelude.{ℕ, Bool, false, ◌||◌, ◌==◌, List, [], ◌∷◌, ◌++◌, filter}
+use Rattle.std.specs.Prelude.{ℕ, Bool, false, ◌||◌, ◌==◌, List, [], ◌∷◌}
 use Rattle.std.specs.List.{list_any}
 use Rattle.do_base.specs.Names.{Name}
 use Rattle.do_base.specs.declared.value.Value.{Value, out-Value}

@@ -10,7 +10,7 @@ use Rattle.do_local.specs.State.{State}
 use Rattle.do_local.specs.Effect.{Effect}
 use Rattle.do_local.specs.Leaving.{leaving}
 use Rattle.do_local.specs.declared.outcome.Outcome.{Outcome}
-use Rattle.do_local.specs.Step.{Stepped, with_sent}
+use Rattle.do_local.specs.Commit.{Stepped, with_sent}
 
 abbrev pub queues_of : List Queue → Table (List Item)
 queues_of queues = map (λ q. (q.to, q.items.items)) queues

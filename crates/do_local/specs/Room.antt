@@ -6,7 +6,7 @@ use Rattle.do_local.specs.declared.place.Queue.{Queue}
 use Rattle.do_local.specs.Leaving.{told}
 use Rattle.do_local.specs.Names.{refers}
 use Rattle.do_local.specs.Places.{queues_of}
-use Rattle.do_local.specs.Step.{with_sent}
+use Rattle.do_local.specs.Commit.{with_sent}
 
 -- each queue takes so many more items without memory
 abbrev pub HasRoom : ℕ → List Queue → Type 0

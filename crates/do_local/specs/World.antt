@@ -1,6 +1,5 @@
 -- The counter world, and how a machine opens.
-use Rattle.std.specs.Prelude.{ℕ, not, ◌==◌, ◌<◌, List, [], ◌∷◌, Option, Some, None, codes, false, map, filter, length, replicate}
-use Rattle.std.specs.List.{All, AllPairs}
+use Rattle.std.specs.Prelude.{ℕ, not, ◌==◌, List, [], ◌∷◌, Option, Some, None, codes, false, map, filter, length, replicate}
 use Rattle.do_base.specs.declared.value.Value.{Value}
 use Rattle.do_base.specs.declared.value.Value.TheVariants.{Nil}
 use Rattle.do_sig.specs.Bare.{simple_encoding}
@@ -33,11 +32,6 @@ counter_classes =
 -- node 7001 has a client as its root, and 7002 a counter
 abbrev pub counter_nodes : List WorldNode
 counter_nodes = record { node = 7001; root = record { 0 = 1 } } ∷ record { node = 7002; root = record { 0 = 0 } } ∷ []
-
--- what a machine needs of a world: the nodes stand by rising port, and each root class is in the table
-pub record IsWorld (table : List Class) (nodes : List WorldNode) : Type 0 where
-  pub rising : AllPairs (λ a b. a.node < b.node) nodes
-  pub rooted : All (λ w. w.root.0 < length table) nodes
 
 abbrev nil_slots : Option (List Slot) → List Value
 nil_slots None = []

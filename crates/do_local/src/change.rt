@@ -1,5 +1,5 @@
 ghost use Rattle.std.specs.Prelude.{◌≡◌, ◌<◌, ◌+◌, ◌^◌, length, remove, slice_set};
-ghost use Rattle.do_local.specs.Effect.{at_place, counted, goes_on, heap_with, waits_on, with_top, written};
+ghost use Rattle.do_local.specs.Changes.{at_place, counted, goes_on, heap_with, waits_on, with_top, written};
 
 use crate::find::stored_at;
 use crate::invocation::{InvState, Waited};

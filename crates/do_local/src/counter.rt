@@ -3,7 +3,7 @@ ghost use Rattle.do_class.specs.Class.{AreMethods};
 ghost use Rattle.do_class.specs.Table.{class_named};
 ghost use Rattle.do_local.specs.Machine.{opened};
 ghost use Rattle.do_local.specs.World.{counter_classes, counter_nodes, number_to_number};
-ghost use Rattle.do_sig.specs.Names.{colons};
+ghost use Rattle.do_grammar.specs.Names.{colons};
 
 use crate::local::Local;
 use crate::world::{NodeList, WorldNode};

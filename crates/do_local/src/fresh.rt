@@ -1,5 +1,5 @@
 ghost use Rattle.std.specs.Prelude.{◌≡◌, ◌++◌, ◌-◌, IfOk, length, replicate};
-ghost use Rattle.do_local.specs.Taking.{fresh};
+ghost use Rattle.do_local.specs.Requests.{fresh};
 
 use crate::invocation::{InvState, Invocation, Reason};
 use do_base::{Oid, Value, Values};

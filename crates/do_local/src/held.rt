@@ -2,7 +2,7 @@ ghost use Rattle.std.specs.Prelude.{◌≡◌, ◌<◌, IfOk, IfSome, OnOk, leng
 ghost use Rattle.do_base.specs.declared.value.Value.{out-Value};
 ghost use Rattle.std.specs.List.{position};
 ghost use Rattle.do_local.specs.State.{has_object};
-ghost use Rattle.do_local.specs.Taking.{held_with, joined, object_lt, with_object};
+ghost use Rattle.do_local.specs.Holding.{held_with, joined, object_lt, with_object};
 
 use do_base::{NodeId, Oid, Oids, Value, Values};
 use std::alloc::AllocError;

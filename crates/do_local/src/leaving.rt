@@ -3,7 +3,7 @@ ghost use Rattle.do_local.specs.declared.place.Place.{Place};
 ghost use Rattle.do_local.specs.Leaving.{leaving};
 ghost use Rattle.do_local.specs.Places.{Becomes, queues_of};
 ghost use Rattle.do_local.specs.Room.{HasRoom, LeftSoFar};
-ghost use Rattle.do_local.specs.Step.{posted};
+ghost use Rattle.do_local.specs.Commit.{posted};
 
 use crate::item::Item;
 use crate::place::{Place, Queue};

@@ -37,3 +37,6 @@ pub use counter::{counter_machine, counter_nodes, counter_table};
 pub use local::Local;
 pub use outcome::{Entry, EntryList, NodeLine, NodeLines, ObjLine, ObjLines, Outcome, Snapshot};
 pub use world::{NodeList, WorldNode};
+
+#[cfg(test)]
+mod tests;

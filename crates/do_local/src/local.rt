@@ -4,7 +4,7 @@ ghost use Rattle.do_local.specs.Machine.{opened, moved_on, outcome_of};
 ghost use Rattle.do_local.specs.Step.{IsBuilt, step};
 ghost use Rattle.do_local.specs.Laws.{laws_of};
 ghost use Rattle.do_local.specs.Places.{FewCalls, Steps, outcome_with, state_of};
-ghost use Rattle.do_local.specs.World.{IsWorld};
+ghost use Rattle.do_local.specs.World.{counter_classes, counter_nodes};
 
 use crate::check::list;
 use crate::opening::places_of;
@@ -43,10 +43,12 @@ impl Model for Local {
 }
 
 impl Local {
-    /// The machine of a world before its first event.
-    #[tactic(auto, using(crate::proofs::Numbers::machine_steps))]
+    /// The machine of a world before its first event. So far the definitions are those of the counter
+    /// world, and it takes no other.
+    #[tactic(auto, using(crate::proofs::Numbers::machine_steps, crate::proofs::CounterWorld::counter_steps))]
     pub fn new(alloc: Global, table: ClassTable, nodes: &NodeList) -> Result<Local, AllocError>
-        requires { IsWorld table nodes.now }
+        requires classes { table ≡ counter_classes }
+        requires nodes { nodes.now ≡ counter_nodes }
         ensures { IfOk result (λ m. m ≡ opened table nodes.now) }
     {
         let places = places_of(alloc, &table, nodes)?;
@@ -92,8 +94,7 @@ fn step(
     places: &mut Places,
     event: &Event,
 ) -> Result<Option<ShownList>, AllocError>
-    requires built { IsBuilt event.now }
-    requires few { FewCalls (2 ^ 63) places.old }
+    requires { FewCalls (2 ^ 63) places.old }
     ensures ok { IfOk result (λ shown. Steps places.new shown (step (laws_of table.now) (state_of places.old) event.now)) }
     ensures calls { (k : ℕ) → FewCalls k places.old → FewCalls (suc k) places.new }
     ensures err { OnErr result (state_of places.new ≡ state_of places.old) }
@@ -107,7 +108,8 @@ fn step(
         } => start(table, places, *node, selector, values),
         Event::Run { node } => run(table, places, *node),
         Event::Take { node, from } => take(table, places, *node, *from),
-        _ => Ok(Some(ShownList::new(places.allocator()))),
+        Event::Check => Ok(Some(ShownList::new(places.allocator()))),
+        Event::Close { .. } | Event::Lose { .. } => Ok(None),
     }
 }
 

@@ -1,7 +1,7 @@
 ghost use Rattle.std.specs.Prelude.{◌≡◌, ◌<◌, ℕ, suc, OnOk, OnErr};
 ghost use Rattle.do_local.specs.Places.{queues_of};
 ghost use Rattle.do_local.specs.Room.{HasRoom};
-ghost use Rattle.do_local.specs.Step.{posted};
+ghost use Rattle.do_local.specs.Commit.{posted};
 
 use crate::find::queue_at;
 use crate::item::Item;

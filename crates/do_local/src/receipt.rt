@@ -4,8 +4,9 @@ ghost use Rattle.do_local.specs.Laws.{laws_of};
 ghost use Rattle.do_local.specs.Names.{carried};
 ghost use Rattle.do_local.specs.Places.{state_of};
 ghost use Rattle.do_local.specs.State.{queue};
-ghost use Rattle.do_local.specs.Step.{can_take, is_idle, sees};
-ghost use Rattle.do_local.specs.Taking.{arrival, held_with, took};
+ghost use Rattle.do_local.specs.Taking.{can_take, is_idle, arrival, took};
+ghost use Rattle.do_local.specs.Step.{sees};
+ghost use Rattle.do_local.specs.Holding.{held_with};
 
 use crate::arrival::Arrival;
 use crate::find::queue_of;

@@ -1,7 +1,9 @@
 ghost use Rattle.std.specs.Prelude.{◌≡◌, ◌<◌, ◌+◌, ◌^◌, ℕ, suc, [], ◌∷◌, length, IfOk, OnOk, OnErr, Option, Some};
-ghost use Rattle.do_local.specs.Effect.{answer_item, asked_for, caller_of, counted, delivered, done, ended, request_item, shown_answer, waits_on, with_top, at_place};
+ghost use Rattle.do_local.specs.Answers.{answer_item, caller_of, delivered, ended, shown_answer};
+ghost use Rattle.do_local.specs.Verdicts.{asked_for, done, request_item};
+ghost use Rattle.do_local.specs.Changes.{counted, waits_on, with_top, at_place};
 ghost use Rattle.do_local.specs.Places.{Becomes, queues_of};
-ghost use Rattle.do_local.specs.Step.{with_sent};
+ghost use Rattle.do_local.specs.Commit.{with_sent};
 ghost use Rattle.do_local.specs.Room.{HasRoom};
 
 use crate::invocation::{Answer, Reason, Waited};

@@ -1,9 +1,10 @@
 ghost use Rattle.std.specs.Prelude.{◌≡◌, ◌<◌, ◌≤◌, ◌+◌, ◌^◌, ℕ, suc, ◌∷◌, ◌++◌, [], length, IfOk, OnOk, OnErr};
-ghost use Rattle.do_local.specs.Effect.{done};
+ghost use Rattle.do_local.specs.Verdicts.{done};
 ghost use Rattle.do_local.specs.Step.{pushed};
 ghost use Rattle.do_local.specs.Places.{Becomes, IsSame, Settles};
 ghost use Rattle.do_local.specs.Room.{HasRoom};
-ghost use Rattle.do_local.specs.Taking.{arrived, held_with};
+ghost use Rattle.do_local.specs.Taking.{arrived};
+ghost use Rattle.do_local.specs.Holding.{held_with};
 
 use crate::arrival::Arrival;
 use crate::invocation::Invocation;

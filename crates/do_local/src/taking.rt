@@ -5,7 +5,9 @@ ghost use Rattle.do_local.specs.Laws.{laws_of};
 ghost use Rattle.do_local.specs.Places.{state_of};
 ghost use Rattle.do_local.specs.Step.{sees};
 ghost use Rattle.do_local.specs.Rules.{root_value};
-ghost use Rattle.do_local.specs.Taking.{answer_arrival, arrival, awaited, call_arrival, own_method, refusal, took, values_answer};
+ghost use Rattle.do_local.specs.Answers.{answer_arrival, awaited, values_answer};
+ghost use Rattle.do_local.specs.Taking.{arrival, took};
+ghost use Rattle.do_local.specs.Requests.{call_arrival, own_method, refusal};
 
 use crate::arrival::Arrival;
 use crate::entry::has_entry;

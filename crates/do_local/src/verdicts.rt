@@ -1,6 +1,6 @@
 ghost use Rattle.std.specs.Prelude.{◌≡◌, ◌<◌, ◌^◌, ℕ, IfOk, OnOk, OnErr};
 ghost use Rattle.std.specs.Option.{option_copied};
-ghost use Rattle.do_local.specs.Effect.{slots_at, state_rule, verdict};
+ghost use Rattle.do_local.specs.Verdicts.{slots_at, state_rule, verdict};
 ghost use Rattle.do_local.specs.Act.{act};
 ghost use Rattle.do_local.specs.Laws.{laws_of};
 ghost use Rattle.do_local.specs.Places.{state_of};

@@ -1,7 +1,7 @@
 ghost use Rattle.std.specs.Prelude.{◌≡◌, IfOk};
 ghost use Rattle.std.specs.List.{find, position};
 ghost use Rattle.std.specs.Option.{option_copied};
-ghost use Rattle.do_local.specs.Taking.{answered, awaited, awaits, value_answer, values_answer};
+ghost use Rattle.do_local.specs.Answers.{answered, awaited, awaits, value_answer, values_answer};
 ghost use Rattle.do_local.specs.Laws.{laws_of};
 
 use crate::invocation::{Answer, InvState, Invocation, Waited};

@@ -7,7 +7,8 @@ use Rattle.do_local.specs.declared.outcome.Outcome.{Outcome}
 use Rattle.do_local.specs.Laws.{Laws, laws_of}
 use Rattle.do_local.specs.Blocks.{runs, followed}
 use Rattle.do_local.specs.Machine.{Machine, moved_on, outcome_of}
-use Rattle.do_local.specs.Step.{Stepped, step}
+use Rattle.do_local.specs.Commit.{Stepped}
+use Rattle.do_local.specs.Step.{step}
 
 -- what was to come before a run comes behind it, one run fewer
 runs_further : (count done : ℕ) (laws : Laws) (port : ℕ) (s end : Stepped) → done < count

@@ -30,6 +30,10 @@ pub record IsRead (told : Option (List NamedFile)) (name : List ℕ) (lines : Li
   pub short : length bytes ≤ most_bytes
   pub spelled : IsSchedule bytes lines
 
+-- some schedule was read, from the file of that name where the shelf tells its files
+abbrev pub IsReadable : Option (List NamedFile) → List ℕ → Type 0
+IsReadable told name = (lines : List Line) × IsRead told name lines
+
 -- what was read is no schedule, and this line of it is the first faulty one
 pub record IsFaulty (told : Option (List NamedFile)) (name : List ℕ) (line : ℕ) : Type 0 where
   pub bytes : List ℕ

@@ -1,8 +1,9 @@
--- The number that the program ends with, for each status.
-use Rattle.std.specs.Prelude.{ℕ}
+-- What the program tells of each status.
+use Rattle.std.specs.Prelude.{ℕ, List, ◌++◌, codes, decimal}
 use Rattle.do_node.specs.declared.status.Status.{Status}
 use Rattle.do_node.specs.declared.status.Status.TheVariants.{Ok, Usage, ReadFault, TooLong, BadSchedule, WriteFault, Memory}
 
+-- the number that the program ends with
 abbrev pub number_of : Status → ℕ
 number_of Ok = 0
 number_of (Usage word) = 2
@@ -11,3 +12,13 @@ number_of (TooLong read limit) = 4
 number_of (BadSchedule line) = 6
 number_of WriteFault = 7
 number_of Memory = 10
+
+-- the text of each
+abbrev pub status_text : Status → List ℕ
+status_text Ok = codes "ok"
+status_text (Usage word) = codes "usage: word " ++ decimal word
+status_text ReadFault = codes "read fault"
+status_text (TooLong read limit) = codes "file longer than " ++ decimal limit ++ codes " bytes"
+status_text (BadSchedule line) = codes "bad line " ++ decimal line
+status_text WriteFault = codes "write fault"
+status_text Memory = codes "out of memory"

@@ -1,4 +1,4 @@
-ghost use Rattle.std.specs.Prelude.{◌≡◌, ◌≤◌, ◌++◌, [], List, ℕ, OnOk, IsErrOf};
+ghost use Rattle.std.specs.Prelude.{◌≡◌, ◌<◌, ◌≤◌, ◌++◌, [], List, ℕ, length, OnOk, IsErrOf};
 ghost use Rattle.do_base.specs.Bytes.{with_more, HasTaken};
 ghost use Rattle.do_base.specs.Causes.{Rose};
 
@@ -22,6 +22,7 @@ pub fn flush<K: Sink>(waiting: &mut Text, out: &mut K) -> Result<(), PutFail>
 
 /// Writes what waits once there is enough of it.
 pub fn flush_if_long<K: Sink>(waiting: &mut Text, out: &mut K) -> Result<(), PutFail>
+    ensures short { OnOk result (length waiting.new < JOINED) }
     ensures ok { OnOk result ((sent : List ℕ) × (K.held out.new ≡ with_more (K.held out.old) sent) × (sent ++ waiting.new ≡ waiting.old)) }
     ensures prefix { HasTaken (K.held out.old) (K.held out.new) waiting.old }
     ensures later { K.faults out.old ≤ K.faults out.new }

@@ -40,6 +40,11 @@ impl Status {
 }
 
 impl fmt::Display for Status {
+    ghost use Rattle.std.specs.Prelude.{Some};
+    ghost use Rattle.do_node.specs.Status.{status_text};
+
+    ghost output = { λ s. Some (status_text s) };
+
     fn fmt<W: fmt::Write>(&self, f: &mut fmt::Formatter<W>) -> fmt::Result {
         match *self {
             Status::Ok => write!(f, "ok"),

@@ -2,7 +2,7 @@ ghost use Rattle.std.specs.Prelude.{◌≡◌, ◌+◌, ◌-◌, ◌≤◌, ◌^
 ghost use Rattle.do_sched.specs.Spelling.{steps};
 ghost use Rattle.do_local.specs.Laws.{laws_of};
 ghost use Rattle.do_local.specs.Blocks.{line_step, runs};
-ghost use Rattle.do_local.specs.Step.{skipped};
+ghost use Rattle.do_local.specs.Commit.{skipped};
 
 use do_base::{Event, Items, NodeId};
 use do_local::{Local, Outcome};

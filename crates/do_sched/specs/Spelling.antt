@@ -12,6 +12,7 @@ abbrev pub plain_of : Value-F Value → Listed ℕ
 plain_of (Value-F.Num n) = signed_decimal n
 plain_of _ = []
 
+-- the spelling of a value, where it has one
 abbrev pub plain_spelling : Value → Listed ℕ
 plain_spelling v = plain_of (out-Value v)
 
@@ -26,10 +27,11 @@ line_spelling (Run node count) = codes "run " ++ decimal node ++ 32 ∷ decimal 
 line_spelling (Take node from) = codes "take " ++ decimal node ++ 32 ∷ decimal from
 line_spelling Check = codes "check"
 
--- the first line and the last
+-- the first line of a schedule
 abbrev pub header : Listed ℕ
 header = codes "schedule 1"
 
+-- the last line of a schedule
 abbrev pub footer : Listed ℕ
 footer = codes "end"
 
@@ -41,10 +43,11 @@ fed text = text ++ 10 ∷ []
 abbrev pub spelling : Listed Line → Listed ℕ
 spelling lines = fed header ++ flat_map (λ l. fed (line_spelling l)) lines ++ fed footer
 
--- the single steps of a line, and of all lines
+-- the single steps of a line
 abbrev pub steps : Line → ℕ
 steps (Run node count) = count
 steps _ = 1
 
+-- the single steps of all lines together
 abbrev pub steps_of : Listed Line → ℕ
 steps_of lines = sum_by steps lines

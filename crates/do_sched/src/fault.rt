@@ -6,11 +6,11 @@ use std::alloc::{AllocError, AllocFailed};
 /// Why bytes are no schedule, with the number of the line, from 1. The first faulty line counts.
 #[derive(Debug, PartialEq, Eq, Drop)]
 pub enum SchedFault {
-    /// The line is none that may stand there, or stands behind `end`, or has no line feed.
+    /// A line that is not of the kind wanted at its place, that follows `end`, or whose line feed is missing.
     BadLine(u64),
-    /// A good line with which the single steps of the schedule pass 1,000,000.
+    /// A good line that brings the single steps of the schedule above 1,000,000.
     TooMany(u64),
-    /// All lines are good and `end` is missing; the number is theirs and one.
+    /// Nothing is wrong but that the bytes stop without `end`. The number is that of the line after the last.
     NoEnd(u64),
     /// No memory was left for the lines.
     Memory,

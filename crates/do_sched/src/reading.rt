@@ -18,8 +18,9 @@ const MOST_STEPS: u64 = 1_000_000;
 
 /// The lines of a schedule between its first line and `end`.
 ///
-/// Each line ends with a line feed and has one spelling, with single spaces. Where the bytes are
-/// no schedule, the first line at fault is told; see `SchedFault`. The form is this project's own.
+/// Every line, the last one too, is closed by a line feed. One space parts its words, and there is
+/// no second way to write it. Where the bytes are no schedule, the first line at fault is told; see
+/// `SchedFault`. The form is this project's own.
 pub fn read_schedule(alloc: Global, bytes: &[u8]) -> Result<Lines, SchedFault>
     ensures exact { Tells bytes.now result }
     ensures accepts { (lines : List line.Line) → IsSchedule bytes.now lines → AnswersWith (Ok lines) result }

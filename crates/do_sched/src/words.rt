@@ -19,7 +19,7 @@ fn node_of(digits: &[u8]) -> Option<NodeId>
 fn values_of(alloc: Global, bytes: &[u8], count: usize) -> Result<Option<Values>, AllocError>
     ensures { IfOk result (λ values. values ≡ values_at count bytes.now) }
 {
-    let mut values = Items::new(alloc);
+    let mut values = Items::with_capacity(alloc, count)?;
     let mut rest = bytes;
     for _i in 0..count {
         let Some((first, behind)) = split_byte(rest) else {

@@ -52,6 +52,7 @@ impl Code {
     pub fn len(&self) -> usize
         ensures value { result ≡ length self.now.instructions }
         ensures short { result ≤ 4096 }
+        ensures valid { IsValid self.now }
     {
         self.instructions.len()
     }

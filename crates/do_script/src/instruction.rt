@@ -1,7 +1,4 @@
-use do_base::{Items, Text};
-
-/// Numbers of locals, each below 16.
-pub type Locals = Items<u8>;
+use do_base::{Locals, Text};
 
 /// One instruction of a method's code, which is one act of an invocation.
 ///

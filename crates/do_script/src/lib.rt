@@ -18,7 +18,7 @@ mod words;
 pub use assembler::{Names, assemble};
 pub use code::Code;
 pub use fault::AsmFault;
-pub use instruction::{Instruction, Locals};
+pub use instruction::Instruction;
 
 #[cfg(test)]
 mod tests;

@@ -9,9 +9,8 @@ ghost use Rattle.do_script.specs.Quoted.{quoted_in};
 ghost use Rattle.do_script.specs.Operands.{local, locals, selector, named, label, no_word, one_word, two_words, three_words};
 
 use crate::fault::{Kind, LineFault};
-use crate::instruction::Locals;
 use crate::words::split_word;
-use do_base::{Items, Text, Texts};
+use do_base::{Locals, Text, Texts};
 use do_grammar::{colons_in, dec_of, int_of, is_name, is_selector, quoted_of, split_byte};
 use std::alloc::Global;
 
@@ -141,7 +140,7 @@ pub(crate) fn locals_of(alloc: Global, operands: &[u8]) -> Result<Locals, LineFa
     ensures within { IfOk result (All (λ k. k < 16)) }
     ensures count { IfOk result (λ ks. length ks ≡ length (words operands.now)) }
 {
-    let mut locals = Items::new(alloc);
+    let mut locals = Locals::new(alloc);
     let mut rest = operands;
     while let Some((word, more)) = split_word(rest) {
         locals.push(local_of(word)?)?;

@@ -1,4 +1,3 @@
-pub mod Names
 pub mod Fits
 pub mod Calls
 pub mod Bare

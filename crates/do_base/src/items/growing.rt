@@ -15,7 +15,7 @@ impl<T> Items<T> {
         self.items.push(item)
     }
 
-    /// Makes room for so many more items, which then go in without a move of the list.
+    /// Makes room for so many more items. No clause tells of the room: it serves speed alone.
     pub fn reserve(&mut self, more: usize) -> Result<(), AllocError>
         ensures { self.new ≡ self.old }
     {

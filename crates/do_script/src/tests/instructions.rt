@@ -1,5 +1,5 @@
 use super::*;
-use do_base::Items;
+use do_base::Locals;
 use std::test::Fail;
 
 /// Each instruction once.
@@ -36,11 +36,9 @@ catch l13 @again
 nocatch
 @end";
 
-fn expected(alloc: Global) -> Result<Vec<Instruction>, AllocError> {
+/// The instructions that make a value, and those for slots.
+fn values(alloc: Global) -> Result<Vec<Instruction>, AllocError> {
     let text = Text::from_slice(alloc, b"a \n")?;
-    let two = Text::from_slice(alloc, b"a:b:")?;
-    let go = Text::from_slice(alloc, b"go")?;
-    let from = Items::from_slice(alloc, &[3, 4])?;
     let code = vec![in alloc;
         Instruction::Nil { into: 0 },
         Instruction::Number {
@@ -52,6 +50,13 @@ fn expected(alloc: Global) -> Result<Vec<Instruction>, AllocError> {
         Instruction::Move { into: 4, from: 5 },
         Instruction::Get { into: 6, slot: 3 },
         Instruction::Set { slot: 5, from: 7 },
+    ]?;
+    Ok(code)
+}
+
+/// Those that calculate and compare.
+fn numbers(alloc: Global) -> Result<Vec<Instruction>, AllocError> {
+    let code = vec![in alloc;
         Instruction::Add {
             into: 8,
             left: 9,
@@ -77,6 +82,13 @@ fn expected(alloc: Global) -> Result<Vec<Instruction>, AllocError> {
             left: 5,
             right: 6
         },
+    ]?;
+    Ok(code)
+}
+
+/// The jumps, and those for lists.
+fn jumps_and_lists(alloc: Global) -> Result<Vec<Instruction>, AllocError> {
+    let code = vec![in alloc;
         Instruction::Jump { to: 28 },
         Instruction::IfNot { test: 7, to: 7 },
         Instruction::List { into: 8 },
@@ -87,6 +99,16 @@ fn expected(alloc: Global) -> Result<Vec<Instruction>, AllocError> {
             index: 13
         },
         Instruction::Count { into: 14, of: 15 },
+    ]?;
+    Ok(code)
+}
+
+/// Those for objects and messages, and for the end and its handler.
+fn messages(alloc: Global) -> Result<Vec<Instruction>, AllocError> {
+    let two = Text::from_slice(alloc, b"a:b:")?;
+    let go = Text::from_slice(alloc, b"go")?;
+    let from = Locals::from_slice(alloc, &[3, 4])?;
+    let code = vec![in alloc;
         Instruction::New { into: 0, class: 2 },
         Instruction::Send {
             into: 1,
@@ -98,7 +120,7 @@ fn expected(alloc: Global) -> Result<Vec<Instruction>, AllocError> {
             into: 5,
             target: 6,
             selector: go,
-            from: Items::new(alloc)
+            from: Locals::new(alloc)
         },
         Instruction::Root { into: 7, port: 8 },
         Instruction::Vend { value: 9 },
@@ -108,6 +130,15 @@ fn expected(alloc: Global) -> Result<Vec<Instruction>, AllocError> {
         Instruction::Catch { into: 13, to: 7 },
         Instruction::EndCatch,
     ]?;
+    Ok(code)
+}
+
+/// All of them, as they stand in the text.
+fn expected(alloc: Global) -> Result<Vec<Instruction>, AllocError> {
+    let mut code = values(alloc)?;
+    code.append(&mut numbers(alloc)?)?;
+    code.append(&mut jumps_and_lists(alloc)?)?;
+    code.append(&mut messages(alloc)?)?;
     Ok(code)
 }
 

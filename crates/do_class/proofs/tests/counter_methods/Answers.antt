@@ -1,7 +1,7 @@
 use Rattle.std.proofs.Common.{◌≡◌, [], ◌∷◌, ◌++◌, length, None, refl, sym, ◌∙◌, ap, subst, arith}
 use Rattle.std.specs.Prelude.{codes}
 use Rattle.do_sig.specs.Calls.{arg_count}
-use Rattle.do_sig.specs.Names.{colons}
+use Rattle.do_grammar.specs.Names.{colons}
 use Rattle.do_class.specs.Class.{AreMethods, place_of}
 use Rattle.do_class.specs.declared.method.Method.{Method}
 use Rattle.do_class.proofs.Methods.{AreMethods-none, AreMethods-push}

@@ -1,5 +1,4 @@
-use Rattle.std.proofs.Common.{◌≡◌, ◌∙◌, ◌++◌, ap, take}
-use Rattle.std.specs.List.{flat_map}
+use Rattle.std.proofs.Common.{◌∙◌, ◌++◌, ap}
 use Rattle.do_local.specs.Check.{entry_of}
 use Rattle.do_local.specs.Places.{state_of}
 use Rattle.do_local.proofs.Leaves.{get_here}

@@ -1,4 +1,4 @@
-use Rattle.std.proofs.Common.{◌∙◌, ◌≤◌, subst, sym}
+use Rattle.std.proofs.Common.{◌∙◌, ◌≤◌, subst}
 use Rattle.do_local.proofs.Padding.{padded_all}
 use Rattle.do_local.proofs.fresh.locals.Goals as goal
 

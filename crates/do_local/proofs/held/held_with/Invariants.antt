@@ -1,5 +1,5 @@
 use Rattle.std.proofs.Common.{◌≡◌, drop}
-use Rattle.do_local.specs.Taking.{held_with}
+use Rattle.do_local.specs.Holding.{held_with}
 use Rattle.do_local.proofs.held.held_with.Given as goal
 
 abbrev pub invariant-loop-value : goal.invariant-loop-value

@@ -2,7 +2,7 @@ use Rattle.std.proofs.Common.{◌≡◌, ◌∙◌, ap, sym, arith}
 use Rattle.do_local.specs.declared.place.Place.{Place}
 use Rattle.do_local.specs.Laws.{laws_of}
 use Rattle.do_local.specs.Places.{state_of}
-use Rattle.do_local.specs.Effect.{verdict}
+use Rattle.do_local.specs.Verdicts.{verdict}
 use Rattle.do_local.specs.Step.{sees}
 use Rattle.do_local.proofs.Moving.{calls_done, calls_kept, few_after, few_at, moves_none, run_idle, run_moves}
 use Rattle.do_local.proofs.stepping.run.Goals as goal

@@ -4,8 +4,9 @@ use Rattle.do_local.specs.Laws.{laws_of}
 use Rattle.do_local.specs.Places.{FewCalls, state_of}
 use Rattle.do_base.specs.declared.shown.Shown.TheVariants as shows
 use Rattle.do_local.specs.Names.{carried}
-use Rattle.do_local.specs.Step.{can_take, sees}
-use Rattle.do_local.specs.Taking.{arrival, held_with, took}
+use Rattle.do_local.specs.Taking.{can_take, arrival, took}
+use Rattle.do_local.specs.Step.{sees}
+use Rattle.do_local.specs.Holding.{held_with}
 use Rattle.do_local.proofs.Moving.{calls_kept, few_after, few_kept, on_err}
 use Rattle.do_local.proofs.Takes.{calls_arrived, take_moves}
 use Rattle.do_local.proofs.stepping.take.Goals as goal

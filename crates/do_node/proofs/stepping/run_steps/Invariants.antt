@@ -3,7 +3,7 @@ use Rattle.std.proofs.Common.{◌≡◌, ◌+◌, ◌-◌}
 use Rattle.do_base.specs.declared.shown.Event.TheVariants as events
 use Rattle.do_local.specs.Laws.{laws_of}
 use Rattle.do_local.specs.Blocks.{runs}
-use Rattle.do_local.specs.Step.{skipped}
+use Rattle.do_local.specs.Commit.{skipped}
 use Rattle.do_node.proofs.stepping.run_steps.Given as goal
 
 abbrev pub invariant-loop-step : goal.invariant-loop-step

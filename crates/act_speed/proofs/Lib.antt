@@ -1,0 +1,2 @@
+mod Goes
+mod Settings

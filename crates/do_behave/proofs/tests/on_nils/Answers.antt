@@ -1,5 +1,0 @@
-use Rattle.do_behave.proofs.Light.{light-Num}
-use Rattle.do_behave.proofs.tests.on_nils.Goals as goal
-
-pub act_on-requires-clause-light : goal.act_on-requires-clause-light
-act_on-requires-clause-light c = (c.in_ok-list.ensures, light-Num _)
