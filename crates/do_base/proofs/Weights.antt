@@ -1,6 +1,6 @@
 -- The weight of each kind of value, and that no value weighs nothing.
 use Rattle.std.proofs.Common.{◌≡◌, ℕ, ℤ, List as Listed, ◌≤◌, ◌+◌, length, sum, map, arith, rules}
-use Rattle.do_base.specs.Names.{Name}
+use Rattle.do_base.specs.Names.{ObjectName}
 use Rattle.do_base.specs.Values.{weight_of}
 use Rattle.do_base.specs.Induction.{value_induction}
 use Rattle.do_base.specs.declared.value.Value.{Value, List, the_lemmas}
@@ -15,7 +15,7 @@ weight_of-Num n = search (rules, the_lemmas)
 pub weight_of-Text : (s : Listed ℕ) → weight_of (Text s) ≡ 16 + length s
 weight_of-Text s = search (rules, the_lemmas)
 
-pub weight_of-Obj : (o : Name) → weight_of (Obj o) ≡ 48
+pub weight_of-Obj : (o : ObjectName) → weight_of (Obj o) ≡ 48
 weight_of-Obj o = search (rules, the_lemmas)
 
 pub weight_of-List : (vs : Listed Value) → weight_of (List vs) ≡ 16 + sum (map weight_of vs)

@@ -2,7 +2,7 @@
 use Rattle.std.specs.Prelude.{ℕ}
 
 -- an object's name: its home and its serial
-pub record Name : Type 0 where
+pub record ObjectName : Type 0 where
   pub node : ℕ
   pub serial : ℕ
 

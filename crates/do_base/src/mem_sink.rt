@@ -51,7 +51,7 @@ impl MemSink {
 }
 
 impl Sink for MemSink {
-    ghost held = { λ s. Some s.bytes };
+    ghost written = { λ s. Some s.bytes };
 
     ghost faults = { λ s. s.faults };
 

@@ -59,9 +59,9 @@ pub struct Oid {
 }
 
 impl Model for Oid {
-    ghost use Rattle.do_base.specs.Names.{Name};
+    ghost use Rattle.do_base.specs.Names.{ObjectName};
 
-    ghost Value = { Name };
+    ghost Value = { ObjectName };
 
     ghost view = { λ o. record { node = o.node; serial = o.serial } };
 

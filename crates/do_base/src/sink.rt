@@ -34,7 +34,7 @@ pub type CallList = Items<u64>;
 /// Its ghost members are the bytes that it has taken so far, where it tells them, and a count of
 /// its faults, which ends at 2^64 - 1 and is taken as risen there. The form is this project's own.
 pub trait Sink {
-    ghost held: { Self → Option (List ℕ) };
+    ghost written: { Self → Option (List ℕ) };
 
     ghost faults: { Self → ℕ };
 
@@ -44,8 +44,8 @@ pub trait Sink {
     fn put(&mut self, piece: &[u8]) -> Result<usize, PutFail>
         requires { 0 < length piece.now }
         ensures count { IfOk result (λ n. (0 < n) × (n ≤ length piece.now)) }
-        ensures ok { IfOk result (λ n. held self.new ≡ with_more (held self.old) (take n piece.now)) }
-        ensures err { OnErr result (held self.new ≡ held self.old) }
+        ensures ok { IfOk result (λ n. written self.new ≡ with_more (written self.old) (take n piece.now)) }
+        ensures err { OnErr result (written self.new ≡ written self.old) }
         ensures later { faults self.old ≤ faults self.new }
         ensures failed { IsErrOf result PutFail.Failed → Rose (faults self.old) (faults self.new) };
 }
@@ -55,8 +55,8 @@ pub trait Sink {
 /// After an error the sink has taken some of them from the front, and no others. `Failed` comes
 /// only where its count of faults rose. No bytes are written by no call.
 pub fn write_all<K: Sink>(out: &mut K, bytes: &[u8]) -> Result<(), PutFail>
-    ensures ok { OnOk result (K.held out.new ≡ with_more (K.held out.old) bytes.now) }
-    ensures prefix { HasTaken (K.held out.old) (K.held out.new) bytes.now }
+    ensures ok { OnOk result (K.written out.new ≡ with_more (K.written out.old) bytes.now) }
+    ensures prefix { HasTaken (K.written out.old) (K.written out.new) bytes.now }
     ensures later { K.faults out.old ≤ K.faults out.new }
     ensures failed { IsErrOf result PutFail.Failed → Rose (K.faults out.old) (K.faults out.new) }
 {

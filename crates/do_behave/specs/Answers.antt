@@ -1,7 +1,7 @@
 -- What holds of every answer of a behaviour.
 use Rattle.std.specs.Prelude.{◌≡◌, ℕ, ◌<◌, ◌≤◌, List, [], ◌∷◌, ◌++◌, length, map, IsTrue}
 use Rattle.std.specs.List.{All, Contains, flat_map}
-use Rattle.do_base.specs.Names.{Name}
+use Rattle.do_base.specs.Names.{ObjectName}
 use Rattle.do_base.specs.Values.{objects_of}
 use Rattle.do_base.specs.declared.value.Value.{Value}
 use Rattle.do_class.specs.Class.{Class}
@@ -26,11 +26,11 @@ values_of (Return value) = value ∷ []
 values_of (Raise exc) = []
 
 -- the objects that an invocation names, its own among them, and those in the slots
-abbrev pub objects_named : Invocation → List Value → List Name
+abbrev pub objects_named : Invocation → List Value → List ObjectName
 objects_named inv slots = inv.object ∷ flat_map objects_of (inv.locals ++ slots)
 
 -- a value in which no other objects stand than these
-abbrev pub NamesOnly : List Name → Value → Type 0
+abbrev pub NamesOnly : List ObjectName → Value → Type 0
 NamesOnly objects value = All (Contains objects) (objects_of value)
 
 -- Locals, slots and classes are there, and a message has a selector with one argument and one local for each colon.

@@ -1,6 +1,6 @@
 -- A value by its kind, with what shows of it.
 use Rattle.std.proofs.Common.{◌≡◌, ℕ, ℤ, List as Listed, subst, sym, rules}
-use Rattle.do_base.specs.Names.{Name}
+use Rattle.do_base.specs.Names.{ObjectName}
 use Rattle.do_base.specs.Induction.{value_induction}
 use Rattle.do_base.specs.declared.value.Value.{Value, List, out-Value, the_lemmas}
 use Rattle.do_base.specs.declared.value.Value.TheVariants.{Nil, Num, Text, Obj}
@@ -15,7 +15,7 @@ out-Num z = search (rules, the_lemmas)
 out-Text : (s : Listed ℕ) → out-Value (Text s) ≡ Value-F.Text s
 out-Text s = search (rules, the_lemmas)
 
-out-Obj : (o : Name) → out-Value (Obj o) ≡ Value-F.Obj o
+out-Obj : (o : ObjectName) → out-Value (Obj o) ≡ Value-F.Obj o
 out-Obj o = search (rules, the_lemmas)
 
 out-List : (vs : Listed Value) → out-Value (List vs) ≡ Value-F.List vs
@@ -23,7 +23,7 @@ out-List vs = search (rules, the_lemmas)
 
 -- what holds of each kind with what shows of it holds of every value
 pub by_level : (P : Value-F Value → Value → Type 0) → P Value-F.Nil Nil → ((z : ℤ) → P (Value-F.Num z) (Num z)) → ((s : Listed ℕ) → P (Value-F.Text s) (Text s))
-    → ((o : Name) → P (Value-F.Obj o) (Obj o)) → ((vs : Listed Value) → P (Value-F.List vs) (List vs)) → (v : Value) → P (out-Value v) v
+    → ((o : ObjectName) → P (Value-F.Obj o) (Obj o)) → ((vs : Listed Value) → P (Value-F.List vs) (List vs)) → (v : Value) → P (out-Value v) v
 by_level P nil num text obj list =
     value_induction (λ v. P (out-Value v) v)
     (subst (λ level. P level Nil) (sym out-Nil) nil)

@@ -3,7 +3,7 @@ use Rattle.std.proofs.Common.{◌≡◌, ℕ, List as Listed, [], ◌∷◌, ◌
 use Rattle.std.specs.List.{All, Contains, flat_map}
 use Rattle.std.proofs.lemmas.List.Concat.{flat_map-append}
 use Rattle.std.proofs.lemmas.List.Elements.{All-nil, All-cons, All-append, All-weaker, All-contains_itself, Contains-append_left, Contains-append_right}
-use Rattle.do_base.specs.Names.{Name}
+use Rattle.do_base.specs.Names.{ObjectName}
 use Rattle.do_base.specs.Values.{objects_of}
 use Rattle.do_base.specs.declared.value.Value.{Value, List, the_lemmas}
 use Rattle.do_base.specs.declared.value.Value.TheVariants.{Nil, Num, Text, Obj}
@@ -21,13 +21,13 @@ objects_of-Num z = search (rules, the_lemmas)
 objects_of-Text : (s : Listed ℕ) → objects_of (Text s) ≡ []
 objects_of-Text s = search (rules, the_lemmas)
 
-objects_of-Obj : (o : Name) → objects_of (Obj o) ≡ o ∷ []
+objects_of-Obj : (o : ObjectName) → objects_of (Obj o) ≡ o ∷ []
 objects_of-Obj o = search (rules, the_lemmas)
 
 objects_of-List : (vs : Listed Value) → objects_of (List vs) ≡ flat_map (λ os. os) (map objects_of vs)
 objects_of-List vs = search (rules, the_lemmas)
 
-joined : (vs : Listed Value) → flat_map (λ (os : Listed Name). os) (map objects_of vs) ≡ flat_map objects_of vs
+joined : (vs : Listed Value) → flat_map (λ (os : Listed ObjectName). os) (map objects_of vs) ≡ flat_map objects_of vs
 joined [] = refl
 joined (v ∷ vs) = ap (λ os. objects_of v ++ os) (joined vs)
 
@@ -36,7 +36,7 @@ objects_of-items : (vs : Listed Value) → objects_of (List vs) ≡ flat_map obj
 objects_of-items vs = objects_of-List vs ∙ joined vs
 
 -- each value names only what stands among these and the objects of all the values
-each_among : (front : Listed Name) (vs : Listed Value) → All (NamesOnly (front ++ flat_map objects_of vs)) vs
+each_among : (front : Listed ObjectName) (vs : Listed Value) → All (NamesOnly (front ++ flat_map objects_of vs)) vs
 each_among front [] = All-nil (NamesOnly (front ++ []))
 each_among front (v ∷ vs) =
     let os = objects_of v in
@@ -48,7 +48,7 @@ each_among front (v ∷ vs) =
 pub arguments_among : (inv : Invocation) (slots : Listed Value) → All (NamesOnly (objects_named inv slots)) (inv.locals ++ slots)
 arguments_among inv slots = each_among (inv.object ∷ []) (inv.locals ++ slots)
 
-module _ (named : Listed Name) where
+module _ (named : Listed ObjectName) where
   items_among : (vs : Listed Value) → All (Contains named) (flat_map objects_of vs) → All (NamesOnly named) vs
   items_among [] all = All-nil (NamesOnly named)
   items_among (v ∷ vs) all =

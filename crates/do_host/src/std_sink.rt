@@ -60,7 +60,7 @@ fn write_some<W: Write>(out: &mut W, piece: &[u8]) -> Option<usize>
 }
 
 impl<W: Write> Sink for StdSink<W> {
-    ghost held = { λ _. None };
+    ghost written = { λ _. None };
 
     ghost faults = { λ s. s.faults };
 

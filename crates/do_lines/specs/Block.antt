@@ -1,5 +1,6 @@
 -- How a line of a schedule is written with what it showed.
-use Rattle.std.specs.Prelude.{ℕ, List, [], ◌∷◌, ◌++◌, map, codes, if◌then◌else◌}
+use Rattle.std.specs.Prelude.{ℕ, List, [], ◌∷◌, ◌++◌, map, codes, if◌then◌else◌, Option, Some, None}
+use Rattle.do_base.specs.declared.shown.Shown.{Shown}
 use Rattle.do_sched.specs.declared.line.Line.{Line}
 use Rattle.do_sched.specs.declared.line.Line.TheVariants.{Start, Run, Take, Check}
 use Rattle.do_sched.specs.Spelling.{line_spelling}
@@ -7,16 +8,21 @@ use Rattle.do_local.specs.declared.outcome.Outcome.{Outcome}
 use Rattle.do_lines.specs.Shown.{shown_text}
 use Rattle.do_lines.specs.Lines.{joined}
 
--- the node of a line; a check has none
-abbrev pub port_of : Line → ℕ
-port_of (Start port selector values) = port
-port_of (Run port count) = port
-port_of (Take port from) = port
-port_of Check = 0
+-- the node that a line steps; a check steps none
+abbrev pub stepped_node : Line → Option ℕ
+stepped_node (Start port selector values) = Some port
+stepped_node (Run port count) = Some port
+stepped_node (Take port from) = Some port
+stepped_node Check = None
 
--- what was shown, line by line, or `skip` alone where nothing was enabled
-abbrev pub shown_lines : ℕ → Outcome → List ℕ
-shown_lines port outcome = if outcome.enabled then joined (map (shown_text port) outcome.shown) else joined (codes "skip" ∷ [])
+-- what a node showed, line by line
+abbrev pub shown_by : Option ℕ → List Shown → List ℕ
+shown_by None shown = []
+shown_by (Some port) shown = joined (map (shown_text port) shown)
+
+-- what was shown, or `skip` alone where nothing was enabled
+abbrev pub shown_lines : Option ℕ → Outcome → List ℕ
+shown_lines node outcome = if outcome.enabled then shown_by node outcome.shown else joined (codes "skip" ∷ [])
 
 -- an angle bracket, a space and the line
 abbrev pub head_line : Line → List ℕ
@@ -24,4 +30,4 @@ head_line line = joined ((codes "> " ++ line_spelling line) ∷ [])
 
 -- a line, and what it showed
 abbrev pub line_lines : Line → Outcome → List ℕ
-line_lines line outcome = head_line line ++ shown_lines (port_of line) outcome
+line_lines line outcome = head_line line ++ shown_lines (stepped_node line) outcome

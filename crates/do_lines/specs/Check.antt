@@ -1,7 +1,7 @@
 -- How a check is written.
 use Rattle.std.specs.Prelude.{ℕ, List, [], ◌∷◌, ◌++◌, map, Option, Some, None, codes, decimal}
 use Rattle.std.specs.List.{flat_map}
-use Rattle.do_base.specs.Names.{Name}
+use Rattle.do_base.specs.Names.{ObjectName}
 use Rattle.do_base.specs.declared.value.Value.{Value}
 use Rattle.do_class.specs.Class.{Class}
 use Rattle.do_class.specs.Table.{name_of, slots_of}
@@ -24,19 +24,19 @@ class_words (Some name) (Some slots) values = spaced (name ∷ slot_words slots 
 class_words name slots values = []
 
 -- a stored object: its name, its class and its slots
-abbrev pub object_line : List Class → ObjLine → List ℕ
-object_line table o = codes "object " ++ object_name o.oid ++ class_words (name_of table o.class) (slots_of table o.class) o.slots
+abbrev pub object_text : List Class → ObjLine → List ℕ
+object_text table o = codes "object " ++ object_name o.oid ++ class_words (name_of table o.class) (slots_of table o.class) o.slots
 
 -- a peer towards which the end is closed
 abbrev pub closed_line : ℕ → List ℕ
 closed_line peer = codes "closed " ++ decimal peer
 
--- a peer, and an object that it or a message under way holds
+-- a peer, and an object that is in use there
 abbrev pub entry_line : Entry → List ℕ
 entry_line e = codes "entry " ++ decimal e.peer ++ 32 ∷ object_name e.object
 
 -- the root's name, or `nil`
-abbrev pub root_word : Option Name → List ℕ
+abbrev pub root_word : Option ObjectName → List ℕ
 root_word (Some o) = object_name o
 root_word None = codes "nil"
 
@@ -49,7 +49,7 @@ abbrev pub node_text : List Class → NodeLine → List ℕ
 node_text table n =
     joined (root_line n ∷ [])
     ++ joined (map closed_line n.closed)
-    ++ joined (map (object_line table) n.objects)
+    ++ joined (map (object_text table) n.objects)
     ++ joined (map entry_line n.entries)
 
 -- every node in turn

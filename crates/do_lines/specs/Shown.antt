@@ -35,7 +35,7 @@ took_text (Left object) = codes "left " ++ object_name object
 took_text Settled = codes "settled"
 took_text End = codes "end"
 
--- what a node shows, behind the node's port where that isn't told by the object
+-- what a node shows; a value or an exception stands behind the node's port
 abbrev pub shown_text : ℕ → Shown → List ℕ
 shown_text port (shown.Took took) = codes "took " ++ took_text took
 shown_text port (shown.Say value) = codes "say " ++ decimal port ++ 32 ∷ value_text value

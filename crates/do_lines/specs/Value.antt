@@ -2,13 +2,13 @@
 use Rattle.std.specs.Prelude.{ℕ, List, [], ◌∷◌, ◌++◌, codes, decimal}
 use Rattle.std.specs.List.{flat_map}
 use Rattle.std.specs.Fmt.{signed_decimal}
-use Rattle.do_base.specs.Names.{Name}
+use Rattle.do_base.specs.Names.{ObjectName}
 use Rattle.do_base.specs.declared.value.Value.{Value, fold-Value}
 use Rattle.do_base.specs.declared.value.Value.TheOpen.{Value-F}
 use Rattle.do_grammar.specs.Quoted.{quoted}
 
 -- a hash, the port of the home, a dot and the serial
-abbrev pub object_name : Name → List ℕ
+abbrev pub object_name : ObjectName → List ℕ
 object_name o = 35 ∷ decimal o.node ++ 46 ∷ decimal o.serial
 
 -- words with a space before each

@@ -2,7 +2,7 @@ ghost use Rattle.std.specs.Prelude.{◌≡◌, ◌++◌, [], ◌∷◌, OnOk, If
 ghost use Rattle.do_class.specs.Table.{name_of, slots_of};
 ghost use Rattle.do_lines.specs.Value.{spaced};
 ghost use Rattle.do_lines.specs.Lines.{joined};
-ghost use Rattle.do_lines.specs.Check.{slot_words, class_words, object_line, closed_line, entry_line, root_word, root_line, node_text, check_lines};
+ghost use Rattle.do_lines.specs.Check.{slot_words, class_words, object_text, closed_line, entry_line, root_word, root_line, node_text, check_lines};
 
 use crate::value::{push_object, push_value};
 use do_base::{Oid, Peers, Text, Value, Values};
@@ -47,7 +47,7 @@ fn push_class(
 
 /// Adds the lines of stored objects.
 fn push_objects(out: &mut Text, table: &ClassTable, objects: &ObjLines) -> Result<(), AllocError>
-    ensures { OnOk result (out.new ≡ out.old ++ joined (map (object_line table.now) objects.now)) }
+    ensures { OnOk result (out.new ≡ out.old ++ joined (map (object_text table.now) objects.now)) }
 {
     for object in objects.as_slice() {
         out.push_bytes(b"object ")?;
@@ -109,7 +109,7 @@ fn push_node(out: &mut Text, table: &ClassTable, node: &NodeLine) -> Result<(), 
 }
 
 /// Adds the lines that a check shows: each node with its root, its closed ends, its stored objects
-/// with their slots, and the entries that a peer or a message under way holds.
+/// with their slots, and the entries that its peers have of them.
 ///
 /// The classes are of the table; an object of another class is shown without one. Where memory ran
 /// out, a part of the lines may have been added. The form is this project's own.

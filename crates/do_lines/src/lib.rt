@@ -7,7 +7,7 @@ mod shown;
 mod value;
 
 pub use check::{check_text, push_check};
-pub use line::{line_text, port_of, push_head, push_outcome};
+pub use line::{line_text, push_head, push_outcome, stepped_node};
 
 #[cfg(test)]
 mod tests;

@@ -1,19 +1,19 @@
 ghost use Rattle.std.specs.Prelude.{◌≡◌, ◌++◌, OnOk, IfOk};
-ghost use Rattle.do_lines.specs.Block.{port_of, head_line, shown_lines, line_lines};
+ghost use Rattle.do_lines.specs.Block.{head_line, line_lines, stepped_node, shown_lines};
 
 use crate::shown::push_all_shown;
-use do_base::Text;
+use do_base::{NodeId, Text};
 use do_local::Outcome;
 use do_sched::{Line, push_line};
 use std::alloc::{AllocError, Global};
 
-/// The port that the shown lines of a line carry: its node's. A check has no node, and none shown.
-pub fn port_of(line: &Line) -> u16
-    ensures { result ≡ port_of line.now }
+/// The node that a line steps. A check steps none.
+pub fn stepped_node(line: &Line) -> Option<NodeId>
+    ensures { result ≡ stepped_node line.now }
 {
     match line {
-        Line::Start { node, .. } | Line::Run { node, .. } | Line::Take { node, .. } => node.port(),
-        Line::Check => 0,
+        Line::Start { node, .. } | Line::Run { node, .. } | Line::Take { node, .. } => Some(*node),
+        Line::Check => None,
     }
 }
 
@@ -28,16 +28,23 @@ pub fn push_head(out: &mut Text, line: &Line) -> Result<(), AllocError>
     out.push(b'\n')
 }
 
-/// Adds the lines that a node with this port showed, or `skip` alone where no step was enabled.
+/// Adds the lines that a node showed, or `skip` alone where no step was enabled. Where no node was
+/// stepped, none are shown.
 ///
 /// Where memory ran out, a part of them may have been added.
-pub fn push_outcome(out: &mut Text, port: u16, outcome: &Outcome) -> Result<(), AllocError>
-    ensures { OnOk result (out.new ≡ out.old ++ shown_lines port outcome.now) }
+pub fn push_outcome(
+    out: &mut Text,
+    node: Option<NodeId>,
+    outcome: &Outcome,
+) -> Result<(), AllocError>
+    ensures { OnOk result (out.new ≡ out.old ++ shown_lines node outcome.now) }
 {
-    if outcome.enabled {
-        push_all_shown(out, port, &outcome.shown)
-    } else {
-        out.push_bytes(b"skip\n")
+    if !outcome.enabled {
+        return out.push_bytes(b"skip\n");
+    }
+    match node {
+        Some(node) => push_all_shown(out, node.port(), &outcome.shown),
+        None => Ok(()),
     }
 }
 
@@ -50,6 +57,6 @@ pub fn line_text(alloc: Global, line: &Line, outcome: &Outcome) -> Result<Text, 
 {
     let mut text = Text::new(alloc);
     push_head(&mut text, line)?;
-    push_outcome(&mut text, port_of(line), outcome)?;
+    push_outcome(&mut text, stepped_node(line), outcome)?;
     Ok(text)
 }

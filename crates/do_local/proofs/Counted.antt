@@ -11,7 +11,8 @@ use Rattle.do_sched.specs.declared.line.Line.{Line}
 use Rattle.do_sched.specs.declared.line.Line.TheVariants.{Start, Run, Take, Check}
 use Rattle.do_local.specs.declared.outcome.Snapshot.{Snapshot}
 use Rattle.do_local.specs.declared.outcome.Entry.{Entry}
-use Rattle.do_local.specs.World.{counter_classes, counter_nodes, opening}
+use Rattle.do_local.specs.CounterWorld.{counter_classes, counter_nodes}
+use Rattle.do_local.specs.World.{opening}
 use Rattle.do_local.specs.State.{State}
 use Rattle.do_local.specs.Blocks.{Block, blocks}
 use Rattle.do_local.specs.Laws.{laws_of}
@@ -71,15 +72,15 @@ five_blocks =
     checked (lists 5 []) ∷ []
 
 -- the counter world before its first event
-abbrev pub start : State
-start = opening counter_classes counter_nodes
+abbrev pub at_first : State
+at_first = opening counter_classes counter_nodes
 
-five_computed : blocks number_laws start five_lines ≡ five_blocks
+five_computed : blocks number_laws at_first five_lines ≡ five_blocks
 unfolding Rattle.do_base.specs.declared.value.Value.out-Value denote.Hole.Carrier.out
 five_computed = refl
 
 pub adding_five : blocks (laws_of counter_classes) (opening counter_classes counter_nodes) five_lines ≡ five_blocks
-adding_five = ap (λ laws. blocks laws start five_lines) counter_laws_compute ∙ five_computed
+adding_five = ap (λ laws. blocks laws at_first five_lines) counter_laws_compute ∙ five_computed
 
 -- the greatest number, and then one more
 abbrev most : ℕ
@@ -113,9 +114,9 @@ over_blocks =
     shown (Take 7001 7002) (shows.Took (tooks.Raised excs.Range) ∷ []) ∷
     shown (Run 7001 1) (shows.Raise excs.Range ∷ []) ∷ []
 
-over_computed : blocks number_laws start over_lines ≡ over_blocks
+over_computed : blocks number_laws at_first over_lines ≡ over_blocks
 unfolding Rattle.do_base.specs.declared.value.Value.out-Value denote.Hole.Carrier.out
 over_computed = refl
 
 pub adding_past_the_most : blocks (laws_of counter_classes) (opening counter_classes counter_nodes) over_lines ≡ over_blocks
-adding_past_the_most = ap (λ laws. blocks laws start over_lines) counter_laws_compute ∙ over_computed
+adding_past_the_most = ap (λ laws. blocks laws at_first over_lines) counter_laws_compute ∙ over_computed

@@ -1,12 +1,13 @@
 -- What the counter world's classes and nodes keep to.
-use Rattle.std.proofs.Common.{◌≡◌, ℕ, ◌<◌, List, [], ◌∷◌, length, arith, subst, sym}
-use Rattle.std.specs.Prelude.{IsNone, IsSome}
+use Rattle.std.proofs.Common.{◌≡◌, ℕ, ◌<◌, ◌≤◌, List, [], ◌∷◌, length, false, refl, ap, arith, subst, sym}
+use Rattle.std.specs.Prelude.{IsNone, IsSome, codes}
 use Rattle.std.specs.List.{All, IsDistinct}
 use Rattle.std.proofs.lemmas.List.Elements.{All-cons}
-use Rattle.do_class.specs.Class.{AreMethods, Class}
-use Rattle.do_class.specs.Table.{class_named}
+use Rattle.do_class.specs.Class.{AreMethods, Class, IsClass}
+use Rattle.do_class.specs.Table.{IsTable, class_named}
 use Rattle.do_class.specs.declared.method.Method.{Method}
-use Rattle.do_local.specs.World.{counter_classes, counter_nodes, number_to_number}
+use Rattle.do_local.specs.CounterWorld.{IsCounterWorld, counter_classes, counter_nodes, number_to_number}
+use Rattle.do_local.specs.World.{IsWorld, by_port}
 use Rattle.do_local.specs.declared.world.WorldNode.{WorldNode}
 use Rattle.do_sig.specs.Calls.{arg_count}
 use Rattle.do_grammar.specs.Names.{colons}
@@ -28,11 +29,11 @@ one_is_methods m same = record {
 pub one_method : (selector : List ℕ) (methods : List Method) → methods ≡ record { selector = selector; signature = number_to_number } ∷ [] → colons selector ≡ 1 → AreMethods methods
 one_method selector methods e same = subst AreMethods (sym e) (one_is_methods (record { selector = selector; signature = number_to_number }) same)
 
-abbrev client : WorldNode
-client = record { node = 7001; root = record { 0 = 1 } }
+abbrev client_there : WorldNode
+client_there = record { node = 7001; root = record { 0 = 1 } }
 
-abbrev counter : WorldNode
-counter = record { node = 7002; root = record { 0 = 0 } }
+abbrev counter_there : WorldNode
+counter_there = record { node = 7002; root = record { 0 = 0 } }
 
 -- the class of each root is there
 abbrev AreRooted : List Class → List WorldNode → Type 0
@@ -41,12 +42,75 @@ AreRooted table nodes = All (λ w. w.root.0 < length table) nodes
 counter_rooted : AreRooted counter_classes counter_nodes
 counter_rooted =
     let rooted = λ (w : WorldNode). w.root.0 < length counter_classes in
-    All-cons rooted client (counter ∷ []) (omega arith) (All-cons rooted counter [] (omega arith) (all_none rooted))
+    All-cons rooted client_there (counter_there ∷ []) (omega arith) (All-cons rooted counter_there [] (omega arith) (all_none rooted))
 
-pub is_rooted : (table : List Class) (nodes : List WorldNode) → table ≡ counter_classes → nodes ≡ counter_nodes → AreRooted table nodes
+pub is_rooted : (table : List Class) (nodes : List WorldNode) → table ≡ counter_classes → nodes ≡ counter_nodes
+    → AreRooted table nodes
 is_rooted table nodes t n = subst (λ table. AreRooted table nodes) (sym t) (subst (AreRooted counter_classes) (sym n) counter_rooted)
 
-pub ruleset counter_steps = (one_method, is_rooted)
+abbrev method : List ℕ → Method
+method selector = record { selector = selector; signature = number_to_number }
 
-pub not_taken : (table : List Class) (name given : List ℕ) → name ≡ given → IsNone (class_named table given) → IsSome (class_named table name) → ⊥
+is_class : (c : Class) (selector : List ℕ) → c.methods ≡ method selector ∷ [] → colons selector ≡ 1
+    → length c.slots ≤ 16 → IsClass c
+is_class c selector e one few = record { slots = few; methods = one_method selector c.methods e one }
+
+abbrev counter_class : Class
+counter_class = record {
+  name = codes "Counter";
+  slots = record { name = codes "value"; copy = false } ∷ [];
+  methods = method (codes "add:") ∷ [];
+}
+
+abbrev client_class : Class
+client_class = record { name = codes "Client"; slots = []; methods = method (codes "go:") ∷ [] }
+
+counter_class_kept : IsClass counter_class
+counter_class_kept = is_class counter_class (codes "add:") refl refl (omega arith)
+
+client_class_kept : IsClass client_class
+client_class_kept = is_class client_class (codes "go:") refl refl (omega arith)
+
+counter_table : IsTable counter_classes
+unfolding IsDistinct
+counter_table = record {
+  few = omega arith;
+  names = ((refl, tt), (tt, tt));
+  classes = All-cons IsClass counter_class (client_class ∷ []) counter_class_kept (All-cons IsClass client_class [] client_class_kept (all_none IsClass));
+}
+
+pub is_world : IsWorld counter_classes counter_nodes
+unfolding IsDistinct
+is_world = record { classes = counter_table; some = omega arith; few = omega arith; distinct = ((refl, tt), (tt, tt)); roots = counter_rooted }
+
+pub is_counter_world : IsCounterWorld counter_classes counter_nodes
+is_counter_world = record { same_classes = refl; same_nodes = refl }
+
+-- the nodes with the higher port first
+abbrev falling : List WorldNode
+falling = counter_there ∷ client_there ∷ []
+
+falling_rooted : AreRooted counter_classes falling
+falling_rooted =
+    let rooted = λ (w : WorldNode). w.root.0 < length counter_classes in
+    All-cons rooted counter_there (client_there ∷ []) (omega arith) (All-cons rooted client_there [] (omega arith) (all_none rooted))
+
+falling_world : IsWorld counter_classes falling
+unfolding IsDistinct
+falling_world = record { classes = counter_table; some = omega arith; few = omega arith; distinct = ((refl, tt), (tt, tt)); roots = falling_rooted }
+
+pub is_falling_world : (table : List Class) (nodes : List WorldNode) → table ≡ counter_classes → nodes ≡ falling
+    → IsWorld table nodes
+is_falling_world table nodes t n = subst (λ table. IsWorld table nodes) (sym t) (subst (IsWorld counter_classes) (sym n) falling_world)
+
+pub is_falling_counter : (table : List Class) (nodes : List WorldNode) → table ≡ counter_classes
+    → nodes ≡ falling → IsCounterWorld table nodes
+is_falling_counter table nodes t n = record { same_classes = t; same_nodes = ap by_port n }
+
+pub ruleset falling_steps = (is_falling_world, is_falling_counter)
+
+pub ruleset counter_steps = (one_method, is_rooted, is_world, is_counter_world)
+
+pub not_taken : (table : List Class) (name given : List ℕ) → name ≡ given → IsNone (class_named table given)
+    → IsSome (class_named table name) → ⊥
 not_taken table name given e none some = let taken : IsSome (class_named table given) = subst (λ n. IsSome (class_named table n)) e some in cc

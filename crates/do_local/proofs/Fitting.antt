@@ -9,10 +9,10 @@ use Rattle.do_sig.specs.declared.value_type.ValueType.{the_lemmas}
 use Rattle.do_sig.specs.declared.value_type.ValueType.TheVariants.{Simple}
 use Rattle.do_class.specs.Table.{find_method, signature_of}
 use Rattle.do_class.specs.declared.ids.MethodId.{MethodId}
-use Rattle.do_local.specs.Act.{act}
+use Rattle.do_local.specs.Counter.{act}
 use Rattle.do_local.specs.Laws.{Laws, laws_of}
 use Rattle.do_local.specs.Tables.{some_passes}
-use Rattle.do_local.specs.World.{counter_classes}
+use Rattle.do_local.specs.CounterWorld.{counter_classes}
 
 is_number : (v : Value) → fits (Simple LongLong) v ≡ simple_fits LongLong v
 is_number v = search (rules, the_lemmas)
@@ -23,24 +23,28 @@ is_method class index = record { class = record { 0 = class }; index = index }
 abbrev numbers_fit : Listed Value → Signature → Bool
 numbers_fit values s = each_takes (map (λ e. simple_fits LongLong) s.args) values
 
-one_number : (values : Listed Value) → each_takes (fits (Simple LongLong) ∷ []) values ≡ each_takes (simple_fits LongLong ∷ []) values
+one_number : (values : Listed Value)
+    → each_takes (fits (Simple LongLong) ∷ []) values ≡ each_takes (simple_fits LongLong ∷ []) values
 one_number values = ap (λ f. each_takes (f ∷ []) values) (λ i v. is_number v i)
 
-values_same : (class index : ℕ) (values : Listed Value) → some_passes (λ s. args_fit s values) (signature_of counter_classes (is_method class index)) ≡ some_passes (numbers_fit values) (signature_of counter_classes (is_method class index))
+values_same : (class index : ℕ) (values : Listed Value)
+    → some_passes (λ s. args_fit s values) (signature_of counter_classes (is_method class index)) ≡ some_passes (numbers_fit values) (signature_of counter_classes (is_method class index))
 values_same zero zero values = one_number values
 values_same zero (suc k) values = refl
 values_same (suc zero) zero values = one_number values
 values_same (suc zero) (suc k) values = refl
 values_same (suc (suc n)) k values = refl
 
-inputs_same : (class index : ℕ) (values : Listed Value) → some_passes (λ s. inputs_fit s values) (signature_of counter_classes (is_method class index)) ≡ some_passes (numbers_fit values) (signature_of counter_classes (is_method class index))
+inputs_same : (class index : ℕ) (values : Listed Value)
+    → some_passes (λ s. inputs_fit s values) (signature_of counter_classes (is_method class index)) ≡ some_passes (numbers_fit values) (signature_of counter_classes (is_method class index))
 inputs_same zero zero values = one_number values
 inputs_same zero (suc k) values = refl
 inputs_same (suc zero) zero values = one_number values
 inputs_same (suc zero) (suc k) values = refl
 inputs_same (suc (suc n)) k values = refl
 
-result_same : (class index : ℕ) (v : Value) → some_passes (λ s. returned_fits s v) (signature_of counter_classes (is_method class index)) ≡ some_passes (λ s. simple_fits LongLong v) (signature_of counter_classes (is_method class index))
+result_same : (class index : ℕ) (v : Value)
+    → some_passes (λ s. returned_fits s v) (signature_of counter_classes (is_method class index)) ≡ some_passes (λ s. simple_fits LongLong v) (signature_of counter_classes (is_method class index))
 result_same zero zero v = is_number v
 result_same zero (suc k) v = refl
 result_same (suc zero) zero v = is_number v

@@ -1,6 +1,8 @@
 pub mod Fitting
 pub mod Counted
-pub mod Examples
+pub mod ExamplesOfActs
+pub mod ExamplesOfItems
+pub mod ExamplesOfSteps
 pub mod Tables
 pub mod Changes
 pub mod Posting
@@ -9,10 +11,15 @@ pub mod Leaves
 pub mod Padding
 pub mod Entries
 pub mod Answering
-pub mod Settling
-pub mod Moving
+pub mod Effects
+pub mod Named
+pub mod Holding
+pub mod Moves
 pub mod Takes
 pub mod Dropping
 pub mod Numbers
 pub mod Listing
 pub mod CounterWorld
+pub mod Inserting
+pub mod Rising
+pub mod Skipped

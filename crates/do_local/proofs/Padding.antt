@@ -11,7 +11,8 @@ no_more : (vs : Listed Value) → vs ++ [] ≡ vs
 no_more [] = refl
 no_more (v ∷ vs) = ap (λ ws. v ∷ ws) (no_more vs)
 
-pub padded_more : (vs : Listed Value) (at : ℕ) → length vs ≤ at → (vs ++ replicate (at - length vs) Nil) ++ Nil ∷ [] ≡ vs ++ replicate (at + 1 - length vs) Nil
+pub padded_more : (vs : Listed Value) (at : ℕ) → length vs ≤ at
+    → (vs ++ replicate (at - length vs) Nil) ++ Nil ∷ [] ≡ vs ++ replicate (at + 1 - length vs) Nil
 padded_more vs at h =
     let more : suc (at - length vs) ≡ at + 1 - length vs = omega (arith, h) in
     append_assoc vs (replicate (at - length vs) Nil) (Nil ∷ []) ∙ ap (λ ns. vs ++ ns) (one_more (at - length vs)) ∙ ap (λ k. vs ++ replicate k Nil) more
@@ -19,7 +20,9 @@ padded_more vs at h =
 pub padded_none : (vs : Listed Value) → vs ≡ vs ++ replicate (length vs - length vs) Nil
 padded_none vs = let none : 0 ≡ length vs - length vs = omega arith in sym (no_more vs) ∙ ap (λ k. vs ++ replicate k Nil) none
 
-pub padded_all : (vs : Listed Value) (at : ℕ) → 16 ≤ at → (length vs ≤ 16 → at ≤ 16) → (16 ≤ length vs → at ≡ length vs) → vs ++ replicate (at - length vs) Nil ≡ vs ++ replicate (16 - length vs) Nil
+pub padded_all : (vs : Listed Value) (at : ℕ) → 16 ≤ at → (length vs ≤ 16 → at ≤ 16)
+    → (16 ≤ length vs → at ≡ length vs)
+    → vs ++ replicate (at - length vs) Nil ≡ vs ++ replicate (16 - length vs) Nil
 padded_all vs at h few many = let same : at - length vs ≡ 16 - length vs = grind (arith, few, many) in ap (λ k. vs ++ replicate k Nil) same
 
 pub ruleset pad_steps = (padded_more, padded_none)

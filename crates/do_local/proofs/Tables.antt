@@ -4,14 +4,15 @@ use Rattle.std.specs.Prelude.{slice_get, slice_set, ◌==◌}
 use Rattle.std.specs.List.{position, position_or_len, find}
 use Rattle.std.specs.Option.{option_map}
 use Rattle.std.proofs.lemmas.Grind.{common_steps}
-use Rattle.do_local.specs.declared.place.Place.{Place}
-use Rattle.do_local.specs.declared.place.Queue.{Queue}
-use Rattle.do_local.specs.Places.{queues_of}
+use Rattle.do_local.specs.declared.station.Station.{Station}
+use Rattle.do_local.specs.declared.station.Queue.{Queue}
+use Rattle.do_local.specs.Stations.{queues_of}
 use Rattle.do_local.specs.Tables.{Table, get, change, change_first}
 
 module _ {X : Type 0} (p : X → Bool) where
   -- a first place is the head, or a first place behind it
-  pub step : (x : X) (xs : List X) (i : ℕ) → p x ≡ false → position p (x ∷ xs) ≡ Some i → (position p xs ≡ Some (position_or_len p xs)) × (i ≡ suc (position_or_len p xs))
+  pub step : (x : X) (xs : List X) (i : ℕ) → p x ≡ false → position p (x ∷ xs) ≡ Some i
+      → (position p xs ≡ Some (position_or_len p xs)) × (i ≡ suc (position_or_len p xs))
   step x xs i h e = (grind (arith, common_steps), grind (arith, common_steps))
 
   pub here : (x : X) (xs : List X) (i : ℕ) → p x ≡ true → position p (x ∷ xs) ≡ Some i → i ≡ 0
@@ -20,7 +21,8 @@ module _ {X : Type 0} (p : X → Bool) where
   pub none_later : (x : X) (xs : List X) → position p (x ∷ xs) ≡ None → (p x ≡ false) × (position p xs ≡ None)
   none_later x xs e = (grind (arith, common_steps), grind (arith, common_steps))
 
-  pub change_first_at : (f : X → X) (xs : List X) (i : ℕ) (x : X) → position p xs ≡ Some i → slice_get xs i ≡ Some x → change_first p f xs ≡ slice_set xs i (f x)
+  pub change_first_at : (f : X → X) (xs : List X) (i : ℕ) (x : X) → position p xs ≡ Some i
+      → slice_get xs i ≡ Some x → change_first p f xs ≡ slice_set xs i (f x)
   change_first_at f [] i x e g = cc
   change_first_at f (y ∷ ys) i x e g =
       elim (p y) as (λ b. p y ≡ b → cond b (f y ∷ ys) (y ∷ change_first p f ys) ≡ slice_set (y ∷ ys) i (f x)) [
@@ -33,7 +35,8 @@ module _ {X : Type 0} (p : X → Bool) where
   change_first_none f [] e = refl
   change_first_none f (y ∷ ys) e = let s = none_later y ys e in rw s.0 (ap (λ t. y ∷ t) (change_first_none f ys s.1))
 
-  pub find_position : (xs : List X) (i : ℕ) (x : X) → position p xs ≡ Some i → slice_get xs i ≡ Some x → find p xs ≡ Some x
+  pub find_position : (xs : List X) (i : ℕ) (x : X) → position p xs ≡ Some i → slice_get xs i ≡ Some x
+      → find p xs ≡ Some x
   find_position [] i x e g = cc
   find_position (y ∷ ys) i x e g =
       elim (p y) as (λ b. p y ≡ b → cond b (Some y) (find p ys) ≡ Some x) [
@@ -62,7 +65,9 @@ module _ {X V : Type 0} (key : X → ℕ) (value : X → V) (k : ℕ) where
   is_at x h = grind (arith, common_steps)
 
   -- changing the value at the key is changing the first member that has it
-  pub change_set : (f : V → V) (xs : List X) (i : ℕ) (x y : X) → position has_key xs ≡ Some i → slice_get xs i ≡ Some x → key y ≡ key x → value y ≡ f (value x) → change k f (table xs) ≡ table (slice_set xs i y)
+  pub change_set : (f : V → V) (xs : List X) (i : ℕ) (x y : X) → position has_key xs ≡ Some i
+      → slice_get xs i ≡ Some x → key y ≡ key x → value y ≡ f (value x)
+      → change k f (table xs) ≡ table (slice_set xs i y)
   change_set f [] i x y e g same new = cc
   change_set f (z ∷ zs) i x y e g same new =
       elim (has_key z) as (λ b. has_key z ≡ b → cond b ((k, f (value z)) ∷ table zs) ((key z, value z) ∷ change k f (table zs)) ≡ table (slice_set (z ∷ zs) i y)) [
@@ -80,21 +85,25 @@ module _ {X V : Type 0} (key : X → ℕ) (value : X → V) (k : ℕ) where
   change_none f [] e = refl
   change_none f (z ∷ zs) e = let s = none_later has_key z zs e in rw s.0 (ap (λ t. (key z, value z) ∷ t) (change_none f zs s.1))
 
-  pub get_at : (xs : List X) (i : ℕ) (x : X) → position has_key xs ≡ Some i → slice_get xs i ≡ Some x → get (table xs) k ≡ Some (value x)
+  pub get_at : (xs : List X) (i : ℕ) (x : X) → position has_key xs ≡ Some i → slice_get xs i ≡ Some x
+      → get (table xs) k ≡ Some (value x)
   get_at xs i x e g = get_find xs ∙ ap (option_map value) (find_position has_key xs i x e g)
 
   pub get_none : (xs : List X) → position has_key xs ≡ None → get (table xs) k ≡ None
   get_none xs e = get_find xs ∙ ap (option_map value) (find_none has_key xs e)
 
 -- a node is found as its place is
-pub get_node : (places : List Place) (port : ℕ) → get (map (λ p. (p.node.port, p.node)) places) port ≡ option_map (λ p. p.node) (find (λ p. port == p.node.port) places)
-get_node places port = get_find (λ p. p.node.port) (λ p. p.node) port places
+pub get_node : (stations : List Station) (port : ℕ)
+    → get (map (λ p. (p.node.port, p.node)) stations) port ≡ option_map (λ p. p.node) (find (λ p. port == p.node.port) stations)
+get_node stations port = get_find (λ p. p.node.port) (λ p. p.node) port stations
 
 -- and so are its queues
-pub get_queues : (places : List Place) (port : ℕ) → get (map (λ p. (p.node.port, queues_of p.queues)) places) port ≡ option_map (λ p. queues_of p.queues) (find (λ p. port == p.node.port) places)
-get_queues places port = get_find (λ p. p.node.port) (λ p. queues_of p.queues) port places
+pub get_queues : (stations : List Station) (port : ℕ)
+    → get (map (λ p. (p.node.port, queues_of p.queues)) stations) port ≡ option_map (λ p. queues_of p.queues) (find (λ p. port == p.node.port) stations)
+get_queues stations port = get_find (λ p. p.node.port) (λ p. queues_of p.queues) port stations
 
-pub get_queue : (queues : List Queue) (to : ℕ) → get (queues_of queues) to ≡ option_map (λ q. q.items.items) (find (λ q. to == q.to) queues)
+pub get_queue : (queues : List Queue) (to : ℕ)
+    → get (queues_of queues) to ≡ option_map (λ q. q.items.items) (find (λ q. to == q.to) queues)
 get_queue queues to = get_find (λ (q : Queue). q.to) (λ (q : Queue). q.items.items) to queues
 
-pub ruleset place_steps = (get_node, get_queues, get_queue)
+pub ruleset station_steps = (get_node, get_queues, get_queue)

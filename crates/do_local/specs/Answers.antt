@@ -8,6 +8,7 @@ use Rattle.do_base.specs.declared.shown.Shown.{Shown}
 use Rattle.do_base.specs.declared.shown.Shown.TheVariants as shows
 use Rattle.do_local.specs.Laws.{Laws}
 use Rattle.do_local.specs.declared.item.Item.{Item}
+use Rattle.do_local.specs.declared.item.Item.TheVariants as items
 use Rattle.do_local.specs.declared.invocation.Answer.{Answer}
 use Rattle.do_local.specs.declared.invocation.Answer.TheVariants.{Given, Raised}
 use Rattle.do_local.specs.declared.invocation.Invocation.{Invocation}
@@ -18,12 +19,9 @@ use Rattle.do_local.specs.declared.invocation.Reason.TheVariants.{Call, Start}
 use Rattle.do_local.specs.declared.invocation.Waited.{Waited}
 use Rattle.do_local.specs.declared.invocation.Waited.TheVariants.{Method, Root}
 use Rattle.do_local.specs.declared.node.Node.{Node}
-use Rattle.do_local.specs.declared.arrival.Arrival.{Arrival}
-use Rattle.do_local.specs.declared.arrival.Arrival.TheVariants.{Answers, Nothing}
-use Rattle.do_local.specs.declared.item.Item.TheVariants as items
 use Rattle.do_local.specs.State.{is_open}
 use Rattle.do_local.specs.Tables.{change_first}
-use Rattle.do_local.specs.Effect.{Effect, only, sending, showing}
+use Rattle.do_local.specs.Effect.{Effect, only, queueing, showing}
 
 -- how an answer goes to a caller
 abbrev pub answer_item : ℕ → Answer → Item
@@ -31,24 +29,24 @@ answer_item number (Given v) = items.Reply number (v ∷ [])
 answer_item number (Raised e) = items.Raised number e
 
 -- how the answer to a start is shown
-abbrev pub shown_answer : Answer → Shown
-shown_answer (Given v) = shows.Return v
-shown_answer (Raised e) = shows.Raise e
+abbrev pub answer_line : Answer → Shown
+answer_line (Given v) = shows.Return v
+answer_line (Raised e) = shows.Raise e
 
 -- the call that an invocation answers; a start answers none
 abbrev pub caller_of : Reason → Option CallName
 caller_of Start = None
 caller_of (Call peer number) = Some (record { node = peer; number = number })
 
--- the answer of an invocation that is popped: a start shows it, and a caller gets it where the end towards it is open
-abbrev pub delivered : Answer → Node → Option CallName → Effect
-delivered a n None = showing (shown_answer a) n
-delivered a n (Some call) = if is_open n call.node then sending call.node (answer_item call.number a) n else only n
+-- an answer is shown where a start asked for it, and goes to its caller where the end towards it is open
+abbrev pub delivery : Answer → Node → Option CallName → Effect
+delivery a n None = showing (answer_line a) n
+delivery a n (Some call) = if is_open n call.node then queueing call.node (answer_item call.number a) n else only n
 
--- the top invocation is popped with its answer
-abbrev pub ended : Answer → Node → List Invocation → Effect
-ended a n [] = only n
-ended a n (i ∷ below) = delivered a (record n { stack = below }) (caller_of i.reason)
+-- the top invocation is popped, and its answer delivered
+abbrev pub ending : Answer → Node → List Invocation → Effect
+ending a n [] = only n
+ending a n (i ∷ below) = delivery a (record n { stack = below }) (caller_of i.reason)
 
 -- an invocation of this state waits for the call of a number to a peer
 abbrev pub awaits : ℕ → ℕ → InvState → Bool
@@ -65,8 +63,8 @@ abbrev pub awaited : ℕ → ℕ → List Invocation → Option Waited
 awaited number peer stack = option_and_then (λ i. awaited_by i.state) (find (λ i. awaits number peer i.state) stack)
 
 -- that invocation becomes answered
-abbrev pub answered : ℕ → ℕ → Answer → List Invocation → List Invocation
-answered number peer a stack = change_first (λ i. awaits number peer i.state) (λ i. record i { state = Answered a }) stack
+abbrev pub with_answer : ℕ → ℕ → Answer → List Invocation → List Invocation
+with_answer number peer a stack = change_first (λ i. awaits number peer i.state) (λ i. record i { state = Answered a }) stack
 
 -- what a value is as an answer: it fits the result of the method that was called, and a root fits always
 abbrev pub value_answer : Laws → Waited → Value → Answer
@@ -77,8 +75,3 @@ value_answer laws Root v = Given v
 abbrev pub values_answer : Laws → Waited → List Value → Answer
 values_answer laws what (v ∷ []) = value_answer laws what v
 values_answer laws what _ = Raised TypeFault
-
--- an answer to a call for which nothing waits does nothing
-abbrev pub answer_arrival : ℕ → (Waited → Answer) → Option Waited → Arrival
-answer_arrival number f None = Nothing
-answer_arrival number f (Some what) = Answers number (f what)

@@ -15,7 +15,10 @@ use Rattle.do_local.specs.Check.{snapshot}
 abbrev pub followed : Stepped → Stepped → Stepped
 followed a b = record {
   state = b.state;
-  outcome = record { enabled = a.outcome.enabled || b.outcome.enabled; shown = a.outcome.shown ++ b.outcome.shown };
+  outcome = record {
+    enabled = a.outcome.enabled || b.outcome.enabled;
+    shown = a.outcome.shown ++ b.outcome.shown;
+  };
 }
 
 -- so many runs of a node behind what was stepped before
@@ -36,12 +39,18 @@ pub record Block : Type 0 where
   pub outcome : Outcome
   pub listed : Option Snapshot
 
+-- a check lists the state, and no other line lists anything
 abbrev listed_at : State → Line → Option Snapshot
 listed_at S Check = Some (snapshot S)
 listed_at S _ = None
 
+-- what a line comes to
 abbrev pub block : Laws → State → Line → Block
-block laws S line = record { line = line; outcome = (line_step laws S line).outcome; listed = listed_at S line }
+block laws S line = record {
+  line = line;
+  outcome = (line_step laws S line).outcome;
+  listed = listed_at S line;
+}
 
 -- the state after a list of lines
 abbrev pub after : Laws → State → List Line → State

@@ -17,35 +17,39 @@ change_top f (i ∷ below) = f i ∷ below
 abbrev pub with_top : (Invocation → Invocation) → Node → Node
 with_top f n = record n { stack = change_top f n.stack }
 
--- the invocation at a place of its method
-abbrev pub at_place : ℕ → Invocation → Invocation
-at_place pc i = record i { pc = pc }
+-- the node with an invocation on top
+abbrev pub pushed : Invocation → Node → Node
+pushed i n = record n { stack = i ∷ n.stack }
 
--- the invocation with a value in a local, running
+-- the invocation goes on at a place of its method
+abbrev pub goes_to : ℕ → Invocation → Invocation
+goes_to pc i = record i { pc = pc }
+
+-- the invocation goes on with a value in a local
 abbrev pub goes_on : ℕ → Value → ℕ → Invocation → Invocation
 goes_on into value pc i = record i { pc = pc; locals = slice_set i.locals into value; state = Running }
 
 -- the invocation waits for an answer
-abbrev pub waits_on : ℕ → ℕ → Waited → ℕ → ℕ → Invocation → Invocation
-waits_on number peer what into pc i = record i { pc = pc; into = into; state = Waits number peer what }
+abbrev pub waits_for : ℕ → ℕ → Waited → ℕ → ℕ → Invocation → Invocation
+waits_for number peer what into pc i = record i { pc = pc; into = into; state = Waits number peer what }
 
 -- the object with a value in a slot
-abbrev pub write_slot : ℕ → Value → Stored → Stored
-write_slot slot value x = record x { slots = slice_set x.slots slot value }
+abbrev pub with_slot : ℕ → Value → Stored → Stored
+with_slot slot value x = record x { slots = slice_set x.slots slot value }
 
 -- the heap with a value in a slot of the object of a serial
 abbrev pub heap_with : ℕ → ℕ → Value → List Stored → List Stored
-heap_with serial slot value heap = change_first (λ x. x.serial == serial) (write_slot slot value) heap
+heap_with serial slot value heap = change_first (λ x. x.serial == serial) (with_slot slot value) heap
 
 -- the node with a value in a slot of the object of its top invocation, where it has one
-abbrev pub written_by : List Invocation → ℕ → Value → Node → Node
-written_by [] slot value n = n
-written_by (i ∷ below) slot value n = record n { heap = heap_with i.object.serial slot value n.heap }
+abbrev pub writes_by : List Invocation → ℕ → Value → Node → Node
+writes_by [] slot value n = n
+writes_by (i ∷ below) slot value n = record n { heap = heap_with i.object.serial slot value n.heap }
 
 -- the object of the top invocation has a value in a slot
-abbrev pub written : ℕ → Value → Node → Node
-written slot value n = written_by n.stack slot value n
+abbrev pub writes : ℕ → Value → Node → Node
+writes slot value n = writes_by n.stack slot value n
 
 -- the node's next call number is used up
-abbrev pub counted : Node → Node
-counted n = record n { next_call = suc n.next_call }
+abbrev pub uses_number : Node → Node
+uses_number n = record n { next_call = suc n.next_call }

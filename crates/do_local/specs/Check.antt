@@ -2,7 +2,7 @@
 use Rattle.std.specs.Prelude.{ℕ, Bool, not, ◌&&◌, ◌==◌, if◌then◌else◌, List, [], ◌∷◌, map, filter}
 use Rattle.std.specs.List.{flat_map}
 use Rattle.std.specs.Option.{option_map}
-use Rattle.do_base.specs.Names.{Name}
+use Rattle.do_base.specs.Names.{ObjectName}
 use Rattle.do_local.specs.declared.node.Node.{Node}
 use Rattle.do_local.specs.declared.node.Stored.{Stored}
 use Rattle.do_local.specs.declared.outcome.Entry.{Entry}
@@ -13,23 +13,27 @@ use Rattle.do_local.specs.Tables.{keys}
 use Rattle.do_local.specs.State.{State, is_open, own}
 use Rattle.do_local.specs.Entry.{has_entry}
 
+-- a stored object, as a check lists it
 abbrev pub object_line : Node → Stored → ObjLine
 object_line n x = record { oid = own n x.serial; class = x.class; slots = x.slots }
 
-abbrev pub entry_if : Bool → ℕ → Name → List Entry
-entry_if there peer object = if there then record { peer = peer; object = object } ∷ [] else []
+-- the names of a node's stored objects
+abbrev pub own_objects : Node → List ObjectName
+own_objects n = map (λ x. own n x.serial) n.heap
 
-abbrev pub entry_of : State → Node → ℕ → Stored → List Entry
-entry_of S n peer x = entry_if (has_entry S peer (own n x.serial)) peer (own n x.serial)
+-- an entry of a peer
+abbrev pub entry_of : ℕ → ObjectName → Entry
+entry_of peer o = record { peer = peer; object = o }
 
 -- the entries that a peer has of a node's objects, by rising serial
 abbrev pub entries_of : State → Node → ℕ → List Entry
-entries_of S n peer = flat_map (entry_of S n peer) n.heap
+entries_of S n peer = map (entry_of peer) (filter (has_entry S peer) (own_objects n))
 
 -- the peers towards which a node's end is closed
 abbrev pub closed_ends : State → Node → List ℕ
 closed_ends S n = filter (λ p. not (p == n.port) && not (is_open n p)) (keys S.nodes)
 
+-- a node, as a check lists it
 abbrev pub node_line : State → Node → NodeLine
 node_line S n = record {
   node = n.port;

@@ -14,10 +14,10 @@ pub record Effect : Type 0 where
 abbrev pub only : Node → Effect
 only n = record { node = n; sent = []; shown = [] }
 
--- the node changes and sends one item
-abbrev pub sending : ℕ → Item → Node → Effect
-sending peer item n = record { node = n; sent = (peer, item) ∷ []; shown = [] }
+-- the node changes, and one item is queued to a peer
+abbrev pub queueing : ℕ → Item → Node → Effect
+queueing peer item n = record { node = n; sent = (peer, item) ∷ []; shown = [] }
 
--- the node changes and shows one thing
+-- the node changes, and one thing is shown
 abbrev pub showing : Shown → Node → Effect
 showing s n = record { node = n; sent = []; shown = s ∷ [] }

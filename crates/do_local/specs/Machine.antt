@@ -14,18 +14,19 @@ use Rattle.do_local.specs.World.{opening}
 pub record Machine : Type 0 where
   pub table : List Class
   pub state : State
-  pub steps : ℕ
+  pub events : ℕ
 
 -- a machine before its first event
 abbrev pub opened : List Class → List WorldNode → Machine
-opened table nodes = record { table = table; state = opening table nodes; steps = 0 }
+opened table nodes = record { table = table; state = opening table nodes; events = 0 }
 
+-- what an event does to a machine's state
 abbrev stepped : Machine → Event → Stepped
 stepped m event = step (laws_of m.table) m.state event
 
 -- the machine after an event
 abbrev pub moved_on : Machine → Event → Machine
-moved_on m event = record m { state = (stepped m event).state; steps = suc m.steps }
+moved_on m event = record m { state = (stepped m event).state; events = suc m.events }
 
 -- what an event comes to
 abbrev pub outcome_of : Machine → Event → Outcome

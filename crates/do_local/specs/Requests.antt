@@ -1,28 +1,34 @@
 -- A call of a peer: the method that it invokes, or why it is refused.
-use Rattle.std.specs.Prelude.{ℕ, Bool, not, nat_le, if◌then◌else◌, List, ◌++◌, length, replicate, ◌-◌, Option, Some, None, option_and_then}
-use Rattle.do_base.specs.Names.{Name}
+use Rattle.std.specs.Prelude.{ℕ, Bool, not, nat_le, if◌then◌else◌, List, ◌++◌, length, replicate, ◌-◌, Some, None, Result, Ok, Err}
+use Rattle.do_base.specs.Names.{ObjectName}
 use Rattle.do_base.specs.declared.value.Value.{Value}
 use Rattle.do_base.specs.declared.value.Value.TheVariants.{Nil}
 use Rattle.do_base.specs.declared.shown.Exc.{Exc}
 use Rattle.do_base.specs.declared.shown.Exc.TheVariants.{TypeFault, Deep, NotUnderstood, NotVended}
 use Rattle.do_class.specs.declared.ids.MethodId.{MethodId}
-use Rattle.do_local.specs.Laws.{Laws}
 use Rattle.do_local.specs.declared.invocation.Invocation.{Invocation}
 use Rattle.do_local.specs.declared.invocation.InvState.TheVariants.{Running}
 use Rattle.do_local.specs.declared.invocation.Reason.{Reason}
 use Rattle.do_local.specs.declared.invocation.Reason.TheVariants.{Call}
+use Rattle.do_local.specs.declared.message.Message.{Message}
 use Rattle.do_local.specs.declared.node.Node.{Node}
 use Rattle.do_local.specs.declared.arrival.Arrival.{Arrival}
-use Rattle.do_local.specs.declared.arrival.Arrival.TheVariants.{Invokes, Sends, Nothing}
+use Rattle.do_local.specs.declared.arrival.Arrival.TheVariants.{Invokes, Sends}
 use Rattle.do_local.specs.declared.item.Item.TheVariants as items
-use Rattle.do_local.specs.State.{own, stored}
+use Rattle.do_local.specs.Context.{Context}
+use Rattle.do_local.specs.Laws.{own_method}
+use Rattle.do_local.specs.State.{own}
 
 -- a node has no more invocations than this
 abbrev pub most_invocations : ℕ
 most_invocations = 256
 
+-- a node that has no room for another invocation
+abbrev pub is_full : Node → Bool
+is_full n = nat_le most_invocations (length n.stack)
+
 -- an invocation of an own object, with these values in its first locals and nil in the others
-abbrev pub fresh : Name → MethodId → Reason → List Value → Invocation
+abbrev pub fresh : ObjectName → MethodId → Reason → List Value → Invocation
 fresh object method reason values = record {
   object = object;
   method = method;
@@ -33,34 +39,22 @@ fresh object method reason values = record {
   state = Running;
 }
 
--- the method that an own object has for a selector
-abbrev pub own_method : Laws → Node → ℕ → List ℕ → Option MethodId
-own_method laws n serial selector =
-    option_and_then (λ x. laws.method_of x.class selector) (stored serial n.heap)
+-- the method that a message of a peer invokes, or why it is refused: the first of these rules that applies decides
+abbrev pub admission : Context → ℕ → Message → Result MethodId Exc
+admission c peer m =
+    if not (c.sees.entry peer m.target) then Err NotVended
+    else elim (own_method c.laws c.node m.target m.selector) [
+      | None ↦ Err NotUnderstood
+      | Some method ↦
+          if not (c.laws.values_fit method m.values) then Err TypeFault
+          else if is_full c.node then Err Deep
+          else Ok method
+    ]
 
--- why a call of an entered object is refused
-abbrev pub method_refusal : Laws → Node → List Value → Option MethodId → Option Exc
-method_refusal laws n values None = Some NotUnderstood
-method_refusal laws n values (Some method) =
-    if not (laws.values_fit method values) then Some TypeFault
-    else if nat_le most_invocations (length n.stack) then Some Deep
-    else None
-
--- why a call is refused: the sender has no entry of the target, the target has no such method, the values do not fit, or the stack is full
-abbrev pub refusal : Laws → Bool → Node → List Value → Option MethodId → Option Exc
-refusal laws has_entry n values method = if not has_entry then Some NotVended else method_refusal laws n values method
-
--- a call is refused, or invokes the method
-abbrev pub invocation_of : Name → Reason → List Value → Option MethodId → Arrival
-invocation_of object reason values None = Nothing
-invocation_of object reason values (Some method) = Invokes (fresh object method reason values)
-
--- a refused call is answered at once by its exception
-abbrev pub judged : ℕ → Arrival → Option Exc → Arrival
-judged number invokes None = invokes
-judged number invokes (Some e) = Sends (items.Raised number e)
-
--- what a call of a peer comes to
-abbrev pub call_arrival : Laws → Bool → ℕ → Node → ℕ → ℕ → List Value → Option MethodId → Arrival
-call_arrival laws has_entry peer n number target values method =
-    judged number (invocation_of (own n target) (Call peer number) values method) (refusal laws has_entry n values method)
+-- a call is refused by an exception at once, or invokes its method
+abbrev pub call_arrival : Context → ℕ → ℕ → Message → Arrival
+call_arrival c peer number m =
+    elim (admission c peer m) [
+      | Err e ↦ Sends (items.Raised number e)
+      | Ok method ↦ Invokes (fresh (own c.node m.target) method (Call peer number) m.values)
+    ]

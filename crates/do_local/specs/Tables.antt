@@ -1,6 +1,7 @@
 -- Tables: lists of keys with values, the keys rising.
 use Rattle.std.specs.Prelude.{ℕ, Bool, false, ◌==◌, if◌then◌else◌, List, [], ◌∷◌, Option, Some, None, map}
 
+-- keys with values
 abbrev pub Table : Type 0 → Type 0
 Table X = List (ℕ × X)
 
@@ -14,6 +15,7 @@ abbrev pub change : {X : Type 0} → ℕ → (X → X) → Table X → Table X
 change k f [] = []
 change k f (e ∷ t) = if k == e.0 then (k, f e.1) ∷ t else e ∷ change k f t
 
+-- the keys, in order
 abbrev pub keys : {X : Type 0} → Table X → List ℕ
 keys t = map (λ e. e.0) t
 

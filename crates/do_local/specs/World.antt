@@ -1,38 +1,33 @@
--- The counter world, and how a machine opens.
-use Rattle.std.specs.Prelude.{ℕ, not, ◌==◌, List, [], ◌∷◌, Option, Some, None, codes, false, map, filter, length, replicate}
+-- Worlds, and how a machine opens.
+use Rattle.std.specs.Prelude.{ℕ, Bool, not, ◌==◌, ◌<◌, ◌≤◌, nat_lt, List, [], ◌∷◌, Option, Some, None, map, filter, length, replicate}
+use Rattle.std.specs.List.{All, IsDistinct}
 use Rattle.do_base.specs.declared.value.Value.{Value}
 use Rattle.do_base.specs.declared.value.Value.TheVariants.{Nil}
-use Rattle.do_sig.specs.Bare.{simple_encoding}
-use Rattle.do_sig.specs.declared.signature.Signature.{Signature}
-use Rattle.do_sig.specs.declared.value_type.Scalar.TheVariants.{LongLong}
 use Rattle.do_class.specs.Class.{Class}
-use Rattle.do_class.specs.Table.{slots_of}
+use Rattle.do_class.specs.Table.{IsTable, slots_of}
 use Rattle.do_class.specs.declared.ids.Slot.{Slot}
 use Rattle.do_local.specs.declared.node.Node.{Node}
 use Rattle.do_local.specs.declared.world.WorldNode.{WorldNode}
+use Rattle.do_local.specs.Order.{all_inserted}
 use Rattle.do_local.specs.State.{State}
 
--- takes a number and gives a number
-abbrev pub number_to_number : Signature
-number_to_number = record { returned = simple_encoding LongLong; args = simple_encoding LongLong ∷ [] }
+-- a world: a class table, and one to 64 nodes of distinct ports, each with a root of one of the classes
+pub record IsWorld (table : List Class) (nodes : List WorldNode) : Type 0 where
+  pub classes : IsTable table
+  pub some : 0 < length nodes
+  pub few : length nodes ≤ 64
+  pub distinct : IsDistinct (λ (p q : ℕ). p == q) (map (λ (w : WorldNode). w.node) nodes)
+  pub roots : All (λ w. w.root.0 < length table) nodes
 
--- a counter has a value, and `add:` takes and gives a number; a client has no slot, and `go:` takes and gives a number
-abbrev pub counter_classes : List Class
-counter_classes =
-    record {
-      name = codes "Counter";
-      slots = record { name = codes "value"; copy = false } ∷ [];
-      methods = record { selector = codes "add:"; signature = number_to_number } ∷ [];
-    } ∷ record {
-      name = codes "Client";
-      slots = [];
-      methods = record { selector = codes "go:"; signature = number_to_number } ∷ [];
-    } ∷ []
+-- a node stands before another of a higher port
+abbrev pub is_before : WorldNode → WorldNode → Bool
+is_before v w = nat_lt v.node w.node
 
--- node 7001 has a client as its root, and 7002 a counter
-abbrev pub counter_nodes : List WorldNode
-counter_nodes = record { node = 7001; root = record { 0 = 1 } } ∷ record { node = 7002; root = record { 0 = 0 } } ∷ []
+-- the nodes by rising port
+abbrev pub by_port : List WorldNode → List WorldNode
+by_port nodes = all_inserted is_before nodes []
 
+-- so many nils as a class has slots; none of a class that is not there
 abbrev nil_slots : Option (List Slot) → List Value
 nil_slots None = []
 nil_slots (Some slots) = replicate (length slots) Nil
@@ -41,6 +36,7 @@ nil_slots (Some slots) = replicate (length slots) Nil
 abbrev pub others : List WorldNode → ℕ → List ℕ
 others nodes port = filter (λ p. not (p == port)) (map (λ w. w.node) nodes)
 
+-- a node with its root alone, whose slots are nil, and with open ends towards the others
 abbrev pub opening_node : List Class → List WorldNode → WorldNode → Node
 opening_node table nodes w = record {
   port = w.node;
@@ -53,9 +49,13 @@ opening_node table nodes w = record {
   held = [];
 }
 
--- each node has one object, its root, with nil slots; ends are open and queues empty
-abbrev pub opening : List Class → List WorldNode → State
-opening table nodes = record {
+-- the state of nodes that rise by port, each as it opens, and with an empty queue to each other
+abbrev pub opened_at : List Class → List WorldNode → State
+opened_at table nodes = record {
   nodes = map (λ w. (w.node, opening_node table nodes w)) nodes;
   queues = map (λ w. (w.node, map (λ p. (p, [])) (others nodes w.node))) nodes;
 }
+
+-- the state before the first event: in whatever order a world lists its nodes, they stand by rising port
+abbrev pub opening : List Class → List WorldNode → State
+opening table nodes = opened_at table (by_port nodes)

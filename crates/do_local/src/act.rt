@@ -1,6 +1,6 @@
 use do_base::{Exc, Text, Value, Values};
 
-/// What a running invocation does next. Places of locals and slots count from 0, and `pc` is the place
+/// What a running invocation does next. Indexes of locals and slots count from 0, and `pc` is the place
 /// in the method at which it goes on.
 #[derive(Debug, Drop)]
 pub enum Act {

@@ -1,5 +1,5 @@
 ghost use Rattle.std.specs.Prelude.{◌≡◌, ◌<◌, ◌+◌, ◌^◌, length, remove, slice_set};
-ghost use Rattle.do_local.specs.Changes.{at_place, counted, goes_on, heap_with, waits_on, with_top, written};
+ghost use Rattle.do_local.specs.Changes.{goes_on, goes_to, heap_with, uses_number, waits_for, with_top, writes};
 
 use crate::find::stored_at;
 use crate::invocation::{InvState, Waited};
@@ -19,21 +19,21 @@ impl Node {
         set_at(&mut top.locals, into, value);
     }
 
-    /// The top invocation goes on at a place.
+    /// The top invocation goes on at a place of its method.
     #[tactic(auto, using(crate::proofs::Changes::top_steps))]
     pub fn go_to(&mut self, pc: u32)
         requires { 0 < length self.old.stack }
-        ensures { self.new ≡ with_top (at_place pc) self.old }
+        ensures { self.new ≡ with_top (goes_to pc) self.old }
     {
         self.stack.at_mut(0).pc = pc;
     }
 
     /// The top invocation waits for an answer of a peer, under the next call number, which is told.
     #[tactic(auto, using(crate::proofs::Changes::top_steps))]
-    pub fn wait_on(&mut self, peer: NodeId, what: Waited, into: u8, pc: u32) -> u64
+    pub fn wait_for(&mut self, peer: NodeId, what: Waited, into: u8, pc: u32) -> u64
         requires top { 0 < length self.old.stack }
         requires number { self.old.next_call + 1 < 2 ^ 64 }
-        ensures node { self.new ≡ counted (with_top (waits_on self.old.next_call peer what into pc) self.old) }
+        ensures node { self.new ≡ uses_number (with_top (waits_for self.old.next_call peer what into pc) self.old) }
         ensures number { result ≡ self.old.next_call }
     {
         let number = self.next_call;
@@ -57,7 +57,7 @@ impl Node {
     #[tactic(auto, using(crate::proofs::Changes::top_steps))]
     pub fn write(&mut self, slot: u8, value: Value, pc: u32)
         requires { 0 < length self.old.stack }
-        ensures { self.new ≡ with_top (at_place pc) (written slot value self.old) }
+        ensures { self.new ≡ with_top (goes_to pc) (writes slot value self.old) }
     {
         let object = &self.stack.as_slice()[0].object;
         let serial = object.serial;
@@ -68,11 +68,11 @@ impl Node {
 
 /// A local or a slot becomes a value; past their number nothing does.
 #[tactic(auto, using(crate::proofs::Changes::top_steps))]
-fn set_at(values: &mut Values, place: u8, value: Value)
-    ensures { values.new ≡ slice_set values.old place value }
+fn set_at(values: &mut Values, at: u8, value: Value)
+    ensures { values.new ≡ slice_set values.old at value }
 {
-    if (place as usize) < values.len() {
-        values.set(place as usize, value);
+    if (at as usize) < values.len() {
+        values.set(at as usize, value);
     }
 }
 

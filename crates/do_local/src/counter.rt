@@ -2,7 +2,7 @@ ghost use Rattle.std.specs.Prelude.{◌≡◌, ◌<◌, ◌≤◌, ◌∷◌, []
 ghost use Rattle.do_class.specs.Class.{AreMethods};
 ghost use Rattle.do_class.specs.Table.{class_named};
 ghost use Rattle.do_local.specs.Machine.{opened};
-ghost use Rattle.do_local.specs.World.{counter_classes, counter_nodes, number_to_number};
+ghost use Rattle.do_local.specs.CounterWorld.{counter_classes, counter_nodes, number_to_number};
 ghost use Rattle.do_grammar.specs.Names.{colons};
 
 use crate::local::Local;
@@ -77,7 +77,8 @@ fn counter_slots(alloc: Global) -> Result<Slots, AllocError>
     Ok(slots)
 }
 
-/// The classes of the counter world: 0 is `Counter` with a slot and `add:`, and 1 is `Client` with `go:`.
+/// The classes of the counter world: 0 is `Counter` with a slot and `add:`, 1 is `Client` with `go:`.
+/// Its one error is want of memory.
 pub fn counter_table(alloc: Global) -> Result<ClassTable, AllocError>
     ensures { IfOk result (λ table. table ≡ counter_classes) }
 {
@@ -102,7 +103,8 @@ fn world_node(port: u16, root: u32) -> WorldNode
     }
 }
 
-/// The nodes of the counter world: 7001 with a client, 7002 with a counter.
+/// The nodes of the counter world: 7001 with a client, 7002 with a counter. Its one error is want of
+/// memory.
 pub fn counter_nodes(alloc: Global) -> Result<NodeList, AllocError>
     ensures { IfOk result (λ nodes. nodes ≡ counter_nodes) }
 {
@@ -112,7 +114,7 @@ pub fn counter_nodes(alloc: Global) -> Result<NodeList, AllocError>
     Ok(nodes)
 }
 
-/// The machine of the counter world before its first event.
+/// The machine of the counter world before its first event. Its one error is want of memory.
 #[tactic(auto, using(crate::proofs::CounterWorld::counter_steps))]
 pub fn counter_machine(alloc: Global) -> Result<Local, AllocError>
     ensures { IfOk result (λ machine. machine ≡ opened counter_classes counter_nodes) }

@@ -1,24 +1,27 @@
-ghost use Rattle.std.specs.Prelude.{◌≡◌, ◌<◌, ◌==◌, IfSome, Some, length, slice_get};
+ghost use Rattle.std.specs.Prelude.{◌≡◌, ◌<◌, ◌==◌, IfSome, IsSome, Some, length, slice_get};
 ghost use Rattle.std.specs.List.{find, position};
 ghost use Rattle.std.specs.Option.{option_copied, option_map};
-ghost use Rattle.do_local.specs.Places.{state_of};
-ghost use Rattle.do_local.specs.State.{class_of, node, queue_at, stored};
+ghost use Rattle.do_class.specs.Table.{method_at};
+ghost use Rattle.do_local.specs.Laws.{laws_of, own_method};
+ghost use Rattle.do_local.specs.Stations.{state_of};
+ghost use Rattle.do_local.specs.State.{class_of, node, queue, stored};
 
 use crate::item::Item;
+use crate::laws::method_for;
 use crate::node::{Node, Stored};
-use crate::place::{Place, Places, Queue};
-use do_base::{Items, NodeId, Oid, Reserved};
-use do_class::ClassId;
+use crate::station::{Queue, Station, Stations};
+use do_base::{Items, NodeId, Oid, Reserved, Text};
+use do_class::{ClassId, ClassTable, MethodId};
 
-/// Where a node stands among the places.
-pub fn place_at(places: &Places, port: NodeId) -> Option<usize>
-    ensures place { result ≡ position (λ p. port == p.node.port) places.now }
-    ensures within { IfSome result (λ at. at < length places.now) }
+/// Where a node stands among the stations.
+pub fn station_at(stations: &Stations, port: NodeId) -> Option<usize>
+    ensures index { result ≡ position (λ p. port == p.node.port) stations.now }
+    ensures within { IfSome result (λ at. at < length stations.now) }
 {
-    places
+    stations
         .as_slice()
         .iter()
-        .position(|place| place.node.port == port)
+        .position(|station| station.node.port == port)
 }
 
 /// Where the queue to a peer stands.
@@ -37,14 +40,14 @@ pub fn stored_at(heap: &Items<Stored>, serial: u64) -> Option<usize>
         .position(|stored| stored.serial == serial)
 }
 
-/// The place of a node.
-pub fn place_of(places: &Places, port: NodeId) -> Option<&Place>
-    ensures { option_copied result ≡ find (λ p. port == p.node.port) places.now }
+/// The station of a node.
+pub fn station_of(stations: &Stations, port: NodeId) -> Option<&Station>
+    ensures { option_copied result ≡ find (λ p. port == p.node.port) stations.now }
 {
-    places
+    stations
         .as_slice()
         .iter()
-        .find(|place| place.node.port == port)
+        .find(|station| station.node.port == port)
 }
 
 /// The stored object of a serial.
@@ -57,27 +60,36 @@ pub fn stored(heap: &Items<Stored>, serial: u64) -> Option<&Stored>
 }
 
 /// The node of a port.
-#[tactic(auto, using(crate::proofs::Tables::place_steps))]
-pub fn node_of(places: &Places, port: NodeId) -> Option<&Node>
-    ensures { option_copied result ≡ node (state_of places.now) port }
+#[tactic(auto, using(crate::proofs::Tables::station_steps))]
+pub fn node_of(stations: &Stations, port: NodeId) -> Option<&Node>
+    ensures { option_copied result ≡ node (state_of stations.now) port }
 {
-    match place_of(places, port) {
-        Some(place) => Some(&place.node),
+    match station_of(stations, port) {
+        Some(station) => Some(&station.node),
         None => None,
     }
 }
 
 /// The class of an object, as its home's heap tells it.
-pub fn class_of(places: &Places, object: &Oid) -> Option<ClassId>
-    ensures { result ≡ class_of (state_of places.now) object.now }
+pub fn class_of(stations: &Stations, object: &Oid) -> Option<ClassId>
+    ensures { result ≡ class_of (state_of stations.now) object.now }
 {
-    match node_of(places, object.node) {
+    match node_of(stations, object.node) {
         Some(home) => match stored(&home.heap, object.serial) {
             Some(stored) => Some(stored.class),
             None => None,
         },
         None => None,
     }
+}
+
+/// The method that an own object of a node has for a selector.
+pub fn own_method(table: &ClassTable, node: &Node, serial: u64, selector: &Text) -> Option<MethodId>
+    ensures value { result ≡ own_method (laws_of table.now) node.now serial selector.now }
+    ensures known { IfSome result (λ method. IsSome (method_at table.now method)) }
+{
+    let class = stored(&node.heap, serial).map(|stored| stored.class);
+    method_for(table, class, selector)
 }
 
 /// The queue to a peer.
@@ -88,12 +100,12 @@ pub fn queue_to(queues: &Items<Queue>, to: NodeId) -> Option<&Queue>
 }
 
 /// The queue from a node to another.
-#[tactic(auto, using(crate::proofs::Tables::place_steps))]
-pub fn queue_of(places: &Places, from: NodeId, to: NodeId) -> Option<&Reserved<Item>>
-    ensures { option_map (λ r. r.now.items) result ≡ queue_at (state_of places.now) from to }
+#[tactic(auto, using(crate::proofs::Tables::station_steps))]
+pub fn queue_of(stations: &Stations, from: NodeId, to: NodeId) -> Option<&Reserved<Item>>
+    ensures { option_map (λ r. r.now.items) result ≡ queue (state_of stations.now) from to }
 {
-    match place_of(places, from) {
-        Some(place) => match queue_to(&place.queues, to) {
+    match station_of(stations, from) {
+        Some(station) => match queue_to(&station.queues, to) {
             Some(queue) => Some(&queue.items),
             None => None,
         },
@@ -101,11 +113,11 @@ pub fn queue_of(places: &Places, from: NodeId, to: NodeId) -> Option<&Reserved<I
     }
 }
 
-/// The place at an index.
+/// The station at an index.
 #[tactic(auto, using(crate::proofs::Leaves::here_steps))]
-pub fn place(places: &Places, at: usize) -> &Place
-    requires { at < length places.now }
-    ensures { slice_get places.now at ≡ Some result.now }
+pub fn station(stations: &Stations, at: usize) -> &Station
+    requires { at < length stations.now }
+    ensures { slice_get stations.now at ≡ Some result.now }
 {
-    &places.as_slice()[at]
+    &stations.as_slice()[at]
 }

@@ -1,36 +1,19 @@
-use do_base::{Exc, Text, Values};
+use crate::message::Message;
+use do_base::{Exc, Values};
 
-/// A message in the queue from one node to another.
+/// What stands in the queue from one node to another.
 #[derive(Debug, Drop)]
 pub enum Item {
     /// A message to an object of the receiver, under a number of the sender.
-    Call {
-        number: u64,
-        target: u64,
-        selector: Text,
-        values: Values,
-    },
+    Call { number: u64, message: Message },
     /// The answer to a call.
-    Reply {
-        number: u64,
-        values: Values,
-    },
+    Reply { number: u64, values: Values },
     /// The exception that a call ended with.
-    Raised {
-        number: u64,
-        exc: Exc,
-    },
+    Raised { number: u64, exc: Exc },
     /// The receiver's root is asked for.
-    RootAsk {
-        number: u64,
-    },
+    RootAsk { number: u64 },
     /// The root that was asked for.
-    RootAnswer {
-        number: u64,
-        values: Values,
-    },
+    RootAnswer { number: u64, values: Values },
     /// An object of the receiver that the sender no longer holds.
-    Left {
-        serial: u64,
-    },
+    Left { serial: u64 },
 }

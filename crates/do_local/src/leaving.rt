@@ -1,16 +1,16 @@
 ghost use Rattle.std.specs.Prelude.{◌≡◌, ◌<◌, ◌-◌, ℕ, suc, length};
-ghost use Rattle.do_local.specs.declared.place.Place.{Place};
+ghost use Rattle.do_local.specs.declared.station.Station.{Station};
 ghost use Rattle.do_local.specs.Leaving.{leaving};
-ghost use Rattle.do_local.specs.Places.{Becomes, queues_of};
+ghost use Rattle.do_local.specs.Stations.{Becomes, queues_of};
 ghost use Rattle.do_local.specs.Room.{HasRoom, LeftSoFar};
 ghost use Rattle.do_local.specs.Commit.{posted};
 
 use crate::item::Item;
-use crate::place::{Place, Queue};
 use crate::post::post;
+use crate::station::{Queue, Station};
 use do_base::{Items, Oid};
 
-impl Place {
+impl Station {
     /// The node leaves each foreign object that it no longer refers to, and tells the home.
     #[tactic(auto, using(crate::proofs::Leaves::leave_steps))]
     pub fn leave(&mut self)
@@ -26,9 +26,9 @@ impl Place {
     /// A held object is left, if it is no longer referred to. Tells which is looked at next.
     #[tactic(auto, using(crate::proofs::Leaves::leave_steps))]
     fn leave_at(&mut self, at: usize) -> usize
-        requires place { at < length self.old.node.held }
+        requires within { at < length self.old.node.held }
         requires room { HasRoom (length self.old.node.held - at) self.old.queues }
-        ensures so_far { (first : Place) → LeftSoFar first self.old at → LeftSoFar first self.new result }
+        ensures so_far { (first : Station) → LeftSoFar first self.old at → LeftSoFar first self.new result }
         ensures less { length self.new.node.held - result < length self.old.node.held - at }
     {
         let object = self.node.held.as_slice()[at];

@@ -3,7 +3,9 @@
 #![tactic(auto)]
 
 mod act;
+mod acts;
 mod arrival;
+mod behaviour;
 mod change;
 mod check;
 mod counter;
@@ -13,19 +15,21 @@ mod fresh;
 mod held;
 mod invocation;
 mod item;
+mod laws;
 mod leaving;
 mod local;
-mod methods;
-mod names;
+mod message;
+mod moving;
+mod naming;
 mod node;
 mod opening;
+mod order;
 mod outcome;
-mod place;
+mod performing;
 mod post;
 mod receipt;
-mod rules;
-mod run;
-mod settle;
+mod send;
+mod station;
 mod stepping;
 mod taking;
 mod verdict;

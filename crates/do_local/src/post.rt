@@ -1,11 +1,11 @@
 ghost use Rattle.std.specs.Prelude.{◌≡◌, ◌<◌, ℕ, suc, OnOk, OnErr};
-ghost use Rattle.do_local.specs.Places.{queues_of};
+ghost use Rattle.do_local.specs.Stations.{queues_of};
 ghost use Rattle.do_local.specs.Room.{HasRoom};
 ghost use Rattle.do_local.specs.Commit.{posted};
 
 use crate::find::queue_at;
 use crate::item::Item;
-use crate::place::Queue;
+use crate::station::Queue;
 use do_base::{Items, NodeId};
 use std::alloc::AllocError;
 

@@ -1,56 +1,55 @@
 ghost use Rattle.std.specs.Prelude.{◌≡◌, ◌^◌, ℕ, suc, [], IfOk, OnErr, drop};
 ghost use Rattle.do_local.specs.Laws.{laws_of};
-ghost use Rattle.do_local.specs.Places.{FewCalls, Steps, queues_of, state_of};
-ghost use Rattle.do_local.specs.Step.{run, start, started, take, without_first};
+ghost use Rattle.do_local.specs.Stations.{ComesTo, FewCalls, queues_of, state_of};
+ghost use Rattle.do_local.specs.Step.{begun, run, start, take, without_first};
 ghost use Rattle.do_local.specs.Tables.{change};
 
-use crate::find::{place, place_at, queue_at};
+use crate::find::{own_method, queue_at, station, station_at};
 use crate::fresh::fresh;
 use crate::invocation::{Invocation, Reason};
 use crate::item::Item;
+use crate::laws::values_fit;
 use crate::node::Node;
-use crate::place::{Places, Queue};
 use crate::receipt::{Receipt, can_take, examine, next_item};
-use crate::rules::values_fit;
-use crate::taking::own_method;
+use crate::station::{Queue, Stations};
 use crate::verdicts::verdict;
 use do_base::{Items, NodeId, Reserved, ShownList, Text, Values};
 use do_class::ClassTable;
 use std::alloc::AllocError;
 
 /// A run of a node: what it shows, where it is enabled.
-#[tactic(auto, using(crate::proofs::Moving::run_steps))]
+#[tactic(auto, using(crate::proofs::Moves::run_steps))]
 pub fn run(
     table: &ClassTable,
-    places: &mut Places,
+    stations: &mut Stations,
     port: NodeId,
 ) -> Result<Option<ShownList>, AllocError>
-    requires { FewCalls (2 ^ 63) places.old }
-    ensures ok { IfOk result (λ shown. Steps places.new shown (run (laws_of table.now) (state_of places.old) port)) }
-    ensures calls { (k : ℕ) → FewCalls k places.old → FewCalls (suc k) places.new }
-    ensures err { OnErr result (state_of places.new ≡ state_of places.old) }
-    ensures kept { OnErr result ((k : ℕ) → FewCalls k places.old → FewCalls k places.new) }
+    requires { FewCalls (2 ^ 63) stations.old }
+    ensures ok { IfOk result (λ shown. ComesTo stations.new shown (run (laws_of table.now) (state_of stations.old) port)) }
+    ensures calls { (k : ℕ) → FewCalls k stations.old → FewCalls (suc k) stations.new }
+    ensures err { OnErr result (state_of stations.new ≡ state_of stations.old) }
+    ensures kept { OnErr result ((k : ℕ) → FewCalls k stations.old → FewCalls k stations.new) }
 {
-    let Some(at) = place_at(places, port) else {
+    let Some(at) = station_at(stations, port) else {
         return Ok(None);
     };
-    let Some(verdict) = verdict(table, places, &place(places, at).node)? else {
+    let Some(verdict) = verdict(table, stations, &station(stations, at).node)? else {
         return Ok(None);
     };
-    let place = places.at_mut(at);
-    Ok(Some(place.run(verdict)?))
+    let station = stations.at_mut(at);
+    Ok(Some(station.run(verdict)?))
 }
 
-/// An invocation of the root, where a start is enabled.
-fn started(
+/// The invocation that a start begins, where it is enabled.
+fn begun(
     table: &ClassTable,
-    node: &Node,
     selector: &Text,
     values: &Values,
+    node: &Node,
 ) -> Result<Option<Invocation>, AllocError>
-    ensures { IfOk result (λ i. i ≡ started (laws_of table.now) selector.now values.now node.now) }
+    ensures { IfOk result (λ i. i ≡ begun (laws_of table.now) selector.now values.now node.now) }
 {
-    if !node.stack.is_empty() {
+    if !node.is_idle() {
         return Ok(None);
     }
     let Some(root) = node.root else {
@@ -66,28 +65,28 @@ fn started(
 }
 
 /// A start of a node: it shows nothing, where it is enabled.
-#[tactic(auto, using(crate::proofs::Moving::start_steps))]
+#[tactic(auto, using(crate::proofs::Moves::start_steps))]
 pub fn start(
     table: &ClassTable,
-    places: &mut Places,
+    stations: &mut Stations,
     port: NodeId,
     selector: &Text,
     values: &Values,
 ) -> Result<Option<ShownList>, AllocError>
-    ensures ok { IfOk result (λ shown. Steps places.new shown (start (laws_of table.now) (state_of places.old) port selector.now values.now)) }
-    ensures calls { (k : ℕ) → FewCalls k places.old → FewCalls (suc k) places.new }
-    ensures err { OnErr result (state_of places.new ≡ state_of places.old) }
-    ensures kept { OnErr result ((k : ℕ) → FewCalls k places.old → FewCalls k places.new) }
+    ensures ok { IfOk result (λ shown. ComesTo stations.new shown (start (laws_of table.now) (state_of stations.old) port selector.now values.now)) }
+    ensures calls { (k : ℕ) → FewCalls k stations.old → FewCalls (suc k) stations.new }
+    ensures err { OnErr result (state_of stations.new ≡ state_of stations.old) }
+    ensures kept { OnErr result ((k : ℕ) → FewCalls k stations.old → FewCalls k stations.new) }
 {
-    let Some(at) = place_at(places, port) else {
+    let Some(at) = station_at(stations, port) else {
         return Ok(None);
     };
-    let Some(invocation) = started(table, &place(places, at).node, selector, values)? else {
+    let Some(invocation) = begun(table, selector, values, &station(stations, at).node)? else {
         return Ok(None);
     };
-    let place = places.at_mut(at);
-    place.begin(invocation)?;
-    Ok(Some(ShownList::new(places.allocator())))
+    let station = stations.at_mut(at);
+    station.begin(invocation)?;
+    Ok(Some(ShownList::new(stations.allocator())))
 }
 
 /// The first item is taken out, where there is one.
@@ -111,13 +110,13 @@ fn pop_first(queues: &mut Items<Queue>, to: NodeId)
 
 /// The first item from a node to another is taken out.
 #[tactic(auto, using(crate::proofs::Dropping::drop_steps))]
-fn drop_first(places: &mut Places, from: NodeId, to: NodeId)
-    ensures state { state_of places.new ≡ without_first (state_of places.old) from to }
-    ensures calls { (k : ℕ) → FewCalls k places.old → FewCalls k places.new }
+fn drop_first(stations: &mut Stations, from: NodeId, to: NodeId)
+    ensures state { state_of stations.new ≡ without_first (state_of stations.old) from to }
+    ensures calls { (k : ℕ) → FewCalls k stations.old → FewCalls k stations.new }
 {
-    if let Some(at) = place_at(places, from) {
-        let place = places.at_mut(at);
-        pop_first(&mut place.queues, to);
+    if let Some(at) = station_at(stations, from) {
+        let station = stations.at_mut(at);
+        pop_first(&mut station.queues, to);
     }
 }
 
@@ -125,35 +124,35 @@ fn drop_first(places: &mut Places, from: NodeId, to: NodeId)
 #[tactic(auto, using(crate::proofs::Takes::take_steps))]
 pub fn take(
     table: &ClassTable,
-    places: &mut Places,
+    stations: &mut Stations,
     port: NodeId,
     from: NodeId,
 ) -> Result<Option<ShownList>, AllocError>
-    ensures ok { IfOk result (λ shown. Steps places.new shown (take (laws_of table.now) (state_of places.old) port from)) }
-    ensures calls { (k : ℕ) → FewCalls k places.old → FewCalls (suc k) places.new }
-    ensures err { OnErr result (state_of places.new ≡ state_of places.old) }
-    ensures kept { OnErr result ((k : ℕ) → FewCalls k places.old → FewCalls k places.new) }
+    ensures ok { IfOk result (λ shown. ComesTo stations.new shown (take (laws_of table.now) (state_of stations.old) port from)) }
+    ensures calls { (k : ℕ) → FewCalls k stations.old → FewCalls (suc k) stations.new }
+    ensures err { OnErr result (state_of stations.new ≡ state_of stations.old) }
+    ensures kept { OnErr result ((k : ℕ) → FewCalls k stations.old → FewCalls k stations.new) }
 {
     if port == from {
         return Ok(None);
     }
-    let Some(at) = place_at(places, port) else {
+    let Some(at) = station_at(stations, port) else {
         return Ok(None);
     };
-    if !can_take(&place(places, at).node, &from) {
+    if !can_take(&station(stations, at).node, &from) {
         return Ok(None);
     }
-    let Some(item) = next_item(places, from, port) else {
+    let Some(item) = next_item(stations, from, port) else {
         return Ok(None);
     };
-    let receipt = examine(table, places, &place(places, at).node, from, item)?;
+    let receipt = examine(table, stations, &station(stations, at).node, from, item)?;
     let Receipt {
         arrival,
         held,
         shown,
     } = receipt;
-    let place = places.at_mut(at);
-    place.accept(&from, held, arrival)?;
-    drop_first(places, from, port);
+    let station = stations.at_mut(at);
+    station.accept(&from, held, arrival)?;
+    drop_first(stations, from, port);
     Ok(Some(shown))
 }

@@ -1,108 +1,71 @@
-ghost use Rattle.std.specs.Prelude.{◌≡◌, ◌<◌, ◌∷◌, [], ℕ, suc, List, length, IfOk, OnOk, OnErr, IfSome, IsSome};
-ghost use Rattle.std.specs.Option.{option_map};
-ghost use Rattle.do_class.specs.Table.{method_at};
+ghost use Rattle.std.specs.Prelude.{◌≡◌, ◌∷◌, [], IfOk, Result};
+ghost use Rattle.do_local.specs.Acts.{root_value};
+ghost use Rattle.do_local.specs.Answers.{values_answer};
 ghost use Rattle.do_local.specs.Laws.{laws_of};
-ghost use Rattle.do_local.specs.Places.{state_of};
-ghost use Rattle.do_local.specs.Step.{sees};
-ghost use Rattle.do_local.specs.Rules.{root_value};
-ghost use Rattle.do_local.specs.Answers.{answer_arrival, awaited, values_answer};
-ghost use Rattle.do_local.specs.Taking.{arrival, took};
-ghost use Rattle.do_local.specs.Requests.{call_arrival, own_method, refusal};
+ghost use Rattle.do_local.specs.Requests.{admission, call_arrival};
+ghost use Rattle.do_local.specs.Stations.{context_of};
+ghost use Rattle.do_local.specs.Taking.{answer_arrival, arrival, item_line};
 
 use crate::arrival::Arrival;
 use crate::entry::has_entry;
-use crate::find::stored;
+use crate::find::own_method;
 use crate::fresh::fresh;
 use crate::invocation::{Answer, Reason};
 use crate::item::Item;
+use crate::laws::values_fit;
+use crate::message::Message;
 use crate::node::Node;
-use crate::place::Places;
-use crate::rules::{find, values_fit};
+use crate::station::Stations;
 use crate::waiting::{awaited, values_answer};
-use do_base::{Exc, NodeId, Text, Took, Values};
+use do_base::{Exc, NodeId, Took, Values};
 use do_class::{ClassTable, MethodId};
 use std::alloc::{AllocError, Global};
 
-/// The most invocations of a node.
-const MOST: usize = 256;
-
-/// The method that an own object has for a selector.
-pub fn own_method(table: &ClassTable, node: &Node, serial: u64, selector: &Text) -> Option<MethodId>
-    ensures value { result ≡ own_method (laws_of table.now) node.now serial selector.now }
-    ensures known { IfSome result (λ method. IsSome (method_at table.now method)) }
-{
-    match stored(&node.heap, serial) {
-        Some(stored) => find(table, stored.class, selector),
-        None => None,
-    }
-}
-
-/// Why a call is refused, if it is.
-fn refusal(
+/// The method that a message of a peer invokes, or why it is refused. The first rule that applies decides.
+fn admission(
     table: &ClassTable,
-    entered: bool,
+    stations: &Stations,
     node: &Node,
-    values: &Values,
-    method: &Option<MethodId>,
-) -> Option<Exc>
-    ensures { result ≡ refusal (laws_of table.now) entered node.now values.now method.now }
+    from: NodeId,
+    message: &Message,
+) -> Result<MethodId, Exc>
+    ensures { result ≡ admission (context_of table.now stations.now node.now) from message.now }
 {
-    if !entered {
-        return Some(Exc::NotVended);
+    if !has_entry(stations, from, &node.own(message.target)) {
+        return Err(Exc::NotVended);
     }
-    let Some(method) = *method else {
-        return Some(Exc::NotUnderstood);
+    let Some(method) = own_method(table, node, message.target, &message.selector) else {
+        return Err(Exc::NotUnderstood);
     };
-    if !values_fit(table, method, values) {
-        return Some(Exc::TypeFault);
+    if !values_fit(table, method, &message.values) {
+        return Err(Exc::TypeFault);
     }
-    if node.stack.len() >= MOST {
-        Some(Exc::Deep)
-    } else {
-        None
+    if node.is_full() {
+        return Err(Exc::Deep);
     }
+    Ok(method)
 }
 
-/// What a call of a peer comes to: its method is invoked, or it is refused.
+/// What a call of a peer comes to: it is refused at once, or its method is invoked.
 fn call_arrival(
     table: &ClassTable,
-    entered: bool,
+    stations: &Stations,
     node: &Node,
     from: NodeId,
     number: u64,
-    target: u64,
-    values: &Values,
-    method: Option<MethodId>,
+    message: &Message,
 ) -> Result<Arrival, AllocError>
-    ensures { IfOk result (λ a. a ≡ call_arrival (laws_of table.now) entered from node.now number target values.now method) }
+    ensures { IfOk result (λ a. a ≡ call_arrival (context_of table.now stations.now node.now) from number message.now) }
 {
-    if let Some(exc) = refusal(table, entered, node, values, &method) {
-        return Ok(Arrival::Sends(Item::Raised { number, exc }));
+    match admission(table, stations, node, from, message) {
+        Err(exc) => Ok(Arrival::Sends(Item::Raised { number, exc })),
+        Ok(method) => {
+            let reason = Reason::Call { peer: from, number };
+            let object = node.own(message.target);
+            let invocation = fresh(object, method, reason, &message.values)?;
+            Ok(Arrival::Invokes(invocation))
+        }
     }
-    let Some(method) = method else {
-        return Ok(Arrival::Nothing);
-    };
-    let reason = Reason::Call { peer: from, number };
-    Ok(Arrival::Invokes(fresh(node.own(target), method, reason, values)?))
-}
-
-/// What a call of a peer comes to, by what the node sees.
-fn called(
-    table: &ClassTable,
-    places: &Places,
-    node: &Node,
-    from: NodeId,
-    number: u64,
-    target: u64,
-    selector: &Text,
-    values: &Values,
-) -> Result<Arrival, AllocError>
-    ensures { IfOk result (λ a. a ≡ call_arrival (laws_of table.now) ((sees (state_of places.now) node.now.port).entry from target)
-        from node.now number target values.now (own_method (laws_of table.now) node.now target selector.now)) }
-{
-    let entered = has_entry(places, from, &node.own(target));
-    let method = own_method(table, node, target, selector);
-    call_arrival(table, entered, node, from, number, target, values, method)
 }
 
 /// What an answer comes to, where an invocation waits for it.
@@ -113,7 +76,7 @@ fn answer_arrival(
     number: u64,
     values: &Values,
 ) -> Result<Arrival, AllocError>
-    ensures { IfOk result (λ a. a ≡ answer_arrival number (λ what. values_answer (laws_of table.now) what values.now) (awaited number from.now node.now.stack)) }
+    ensures { IfOk result (λ a. a ≡ answer_arrival node.now from.now number (λ what. values_answer (laws_of table.now) what values.now)) }
 {
     match awaited(&node.stack, number, from) {
         Some(what) => {
@@ -126,7 +89,7 @@ fn answer_arrival(
 
 /// What an exception comes to, where an invocation waits for the answer.
 fn raised_arrival(node: &Node, from: &NodeId, number: u64, exc: &Exc) -> Result<Arrival, AllocError>
-    ensures { IfOk result (λ a. a ≡ answer_arrival number (λ what. Answer.Raised exc.now) (awaited number from.now node.now.stack)) }
+    ensures { IfOk result (λ a. a ≡ answer_arrival node.now from.now number (λ what. Answer.Raised exc.now)) }
 {
     match awaited(&node.stack, number, from) {
         Some(_) => {
@@ -149,42 +112,35 @@ fn root_answer(alloc: Global, node: &Node, number: u64) -> Result<Item, AllocErr
 /// What an item comes to at the node that takes it.
 pub fn arrival(
     table: &ClassTable,
-    places: &Places,
+    stations: &Stations,
     node: &Node,
     from: NodeId,
     item: &Item,
 ) -> Result<Arrival, AllocError>
-    ensures { IfOk result (λ a. a ≡ arrival (laws_of table.now) (sees (state_of places.now) node.now.port) from node.now item.now) }
+    ensures { IfOk result (λ a. a ≡ arrival (context_of table.now stations.now node.now) from item.now) }
 {
     match item {
-        Item::Call {
-            number,
-            target,
-            selector,
-            values,
-        } => {
-            called(
-                table, places, node, from, *number, *target, selector, values,
-            )
+        Item::Call { number, message } => {
+            call_arrival(table, stations, node, from, *number, message)
         }
-        Item::Reply { number, values } => answer_arrival(table, node, &from, *number, values),
-        Item::RootAnswer { number, values } => answer_arrival(table, node, &from, *number, values),
+        Item::Reply { number, values } | Item::RootAnswer { number, values } => {
+            answer_arrival(table, node, &from, *number, values)
+        }
         Item::Raised { number, exc } => raised_arrival(node, &from, *number, exc),
-        Item::RootAsk { number } => Ok(Arrival::Sends(root_answer(
-            places.allocator(),
-            node,
-            *number,
-        )?)),
+        Item::RootAsk { number } => {
+            let answer = root_answer(stations.allocator(), node, *number)?;
+            Ok(Arrival::Sends(answer))
+        }
         Item::Left { .. } => Ok(Arrival::Nothing),
     }
 }
 
 /// What is shown of an item that is taken.
-pub fn took(node: &Node, item: &Item) -> Result<Took, AllocError>
-    ensures { IfOk result (λ t. t ≡ took node.now item.now) }
+pub fn item_line(node: &Node, item: &Item) -> Result<Took, AllocError>
+    ensures { IfOk result (λ t. t ≡ item_line node.now item.now) }
 {
     match item {
-        Item::Call { selector, .. } => Ok(Took::Call(selector.clone()?)),
+        Item::Call { message, .. } => Ok(Took::Call(message.selector.clone()?)),
         Item::Reply { .. } => Ok(Took::Reply),
         Item::Raised { exc, .. } => Ok(Took::Raised(exc.clone()?)),
         Item::RootAsk { .. } => Ok(Took::RootAsk),

@@ -1,20 +1,18 @@
 use crate::invocation::Answer;
-use do_base::{NodeId, Oid, Text, Value, Values};
+use crate::message::Message;
+use do_base::{NodeId, Value};
 use do_class::MethodId;
 
 /// What is asked of a peer.
 #[derive(Debug, Drop)]
 pub enum Request {
     Root,
-    Call {
-        target: u64,
-        method: MethodId,
-        selector: Text,
-        values: Values,
-    },
+    /// A method of an object of the peer.
+    Call { method: MethodId, message: Message },
 }
 
-/// What the rules decide of the top invocation's next act.
+/// What the rules decide of the top invocation's next act. `pc` is the place in the method at which
+/// it goes on, and `into` the local that takes what comes.
 #[derive(Debug, Drop)]
 pub enum Verdict {
     /// It goes on, with a value in a local.
@@ -43,14 +41,4 @@ pub enum Verdict {
     },
     /// It is popped with its answer.
     Ends(Answer),
-}
-
-/// A message to an object, with the local for its answer and the place to go on at.
-#[derive(Debug, Drop)]
-pub struct Message {
-    pub target: Oid,
-    pub selector: Text,
-    pub args: Values,
-    pub into: u8,
-    pub pc: u32,
 }

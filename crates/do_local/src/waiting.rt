@@ -1,11 +1,11 @@
 ghost use Rattle.std.specs.Prelude.{◌≡◌, IfOk};
 ghost use Rattle.std.specs.List.{find, position};
 ghost use Rattle.std.specs.Option.{option_copied};
-ghost use Rattle.do_local.specs.Answers.{answered, awaited, awaits, value_answer, values_answer};
+ghost use Rattle.do_local.specs.Answers.{awaited, awaits, value_answer, values_answer, with_answer};
 ghost use Rattle.do_local.specs.Laws.{laws_of};
 
 use crate::invocation::{Answer, InvState, Invocation, Waited};
-use crate::rules::result_fits;
+use crate::laws::result_fits;
 use do_base::{Exc, Items, NodeId, Value, Values, copy_value};
 use do_class::ClassTable;
 use std::alloc::AllocError;
@@ -22,6 +22,7 @@ impl InvState {
     }
 }
 
+/// The invocation that waits for a call.
 fn waiting<'a>(stack: &'a Items<Invocation>, number: u64, peer: &NodeId) -> Option<&'a Invocation>
     ensures { option_copied result ≡ find (λ i. awaits number peer.now i.state) stack.now }
 {
@@ -31,6 +32,7 @@ fn waiting<'a>(stack: &'a Items<Invocation>, number: u64, peer: &NodeId) -> Opti
         .find(|invocation| invocation.state.awaits(number, peer))
 }
 
+/// Where the invocation that waits for a call stands.
 fn waiting_at(stack: &Items<Invocation>, number: u64, peer: &NodeId) -> Option<usize>
     ensures { result ≡ position (λ i. awaits number peer.now i.state) stack.now }
 {
@@ -56,7 +58,7 @@ pub fn awaited(stack: &Items<Invocation>, number: u64, peer: &NodeId) -> Option<
 /// The invocation that waits for a call becomes answered.
 #[tactic(auto, using(crate::proofs::Answering::answer_steps))]
 pub fn give(stack: &mut Items<Invocation>, number: u64, peer: &NodeId, answer: Answer)
-    ensures { stack.new ≡ answered number peer.now answer stack.old }
+    ensures { stack.new ≡ with_answer number peer.now answer stack.old }
 {
     if let Some(at) = waiting_at(stack, number, peer) {
         let invocation = stack.at_mut(at);

@@ -45,9 +45,9 @@ ahead_end before now waiting text whole m lines none added ahead =
     rw added (ahead_more before now waiting last_line (rest_from m lines) [] whole (rw (none, rest_last m) refl) ahead)
 
 -- before the first line its own first line waits
-pub ahead_start : (held : Option (List ℕ)) (waiting : List ℕ) (m : Machine) (lines items : List Line)
-    → waiting ≡ first_line → items ≡ lines → IsAhead held held waiting (rest_from m items) (transcript_from m lines)
-ahead_start held waiting m lines items first same = rw (first, same) (ahead_first held first_line (rest_from m lines) _ (rest_whole m lines))
+pub ahead_start : (written : Option (List ℕ)) (waiting : List ℕ) (m : Machine) (lines items : List Line)
+    → waiting ≡ first_line → items ≡ lines → IsAhead written written waiting (rest_from m items) (transcript_from m lines)
+ahead_start written waiting m lines items first same = rw (first, same) (ahead_first written first_line (rest_from m lines) _ (rest_whole m lines))
 
 -- the steps that are left fit behind those of the next line
 pub counted_next : (before after : ℕ) (line : Line) (lines rest : List Line) → lines ≡ line ∷ rest → after ≡ before + steps line

@@ -6,14 +6,14 @@ use Rattle.do_base.specs.Bytes.{with_more, HasTaken}
 -- a sink took some bytes, and they, what waits and the rest are the whole
 pub record IsAhead (before now : Option (List ℕ)) (waiting rest whole : List ℕ) : Type 0 where
   pub sent : List ℕ
-  pub held : now ≡ with_more before sent
+  pub written : now ≡ with_more before sent
   pub joins : (sent ++ waiting) ++ rest ≡ whole
 
-pub with_none : (held : Option (List ℕ)) → held ≡ with_more held []
+pub with_none : (written : Option (List ℕ)) → written ≡ with_more written []
 with_none None = refl
 with_none (Some bytes) = ap Some (grind (arith, common_steps))
 
-pub with_both : (held : Option (List ℕ)) (xs ys : List ℕ) → with_more (with_more held xs) ys ≡ with_more held (xs ++ ys)
+pub with_both : (written : Option (List ℕ)) (xs ys : List ℕ) → with_more (with_more written xs) ys ≡ with_more written (xs ++ ys)
 with_both None xs ys = refl
 with_both (Some bytes) xs ys = ap Some (append_assoc bytes xs ys)
 
@@ -30,15 +30,15 @@ take_past n (x ∷ xs) ys =
     rw one (ap (λ w. x ∷ w) (take_past n xs ys))
 
 -- nothing was sent yet
-pub ahead_first : (held : Option (List ℕ)) (waiting rest whole : List ℕ) → waiting ++ rest ≡ whole → IsAhead held held waiting rest whole
-ahead_first held waiting rest whole e = record { sent = []; held = with_none held; joins = e }
+pub ahead_first : (written : Option (List ℕ)) (waiting rest whole : List ℕ) → waiting ++ rest ≡ whole → IsAhead written written waiting rest whole
+ahead_first written waiting rest whole e = record { sent = []; written = with_none written; joins = e }
 
 -- more waits, and less is to come
 pub ahead_more : (before now : Option (List ℕ)) (waiting more rest later whole : List ℕ) → rest ≡ more ++ later
     → IsAhead before now waiting rest whole → IsAhead before now (waiting ++ more) later whole
 ahead_more before now waiting more rest later whole e ahead = record {
   sent = ahead.sent;
-  held = ahead.held;
+  written = ahead.written;
   joins = grind (arith, common_steps, ahead.joins, e);
 }
 
@@ -47,7 +47,7 @@ pub ahead_sent : (before now then : Option (List ℕ)) (waiting sent left rest w
     → IsAhead before now waiting rest whole → IsAhead before then left rest whole
 ahead_sent before now then waiting sent left rest whole took parts ahead = record {
   sent = ahead.sent ++ sent;
-  held = took ∙ ap (λ held. with_more held sent) ahead.held ∙ with_both before ahead.sent sent;
+  written = took ∙ ap (λ written. with_more written sent) ahead.written ∙ with_both before ahead.sent sent;
   joins = grind (arith, common_steps, ahead.joins, parts);
 }
 
@@ -57,7 +57,7 @@ ahead_prefix before now waiting rest whole ahead =
     let split : ahead.sent ++ (waiting ++ rest) ≡ whole = sym (append_assoc ahead.sent waiting rest) ∙ ahead.joins in
     let within : length ahead.sent ≤ length whole = subst (λ (w : List ℕ). length ahead.sent ≤ length w) split (omega (arith, length-append ahead.sent (waiting ++ rest))) in
     let front : ahead.sent ≡ take (length ahead.sent) whole = sym (take_front ahead.sent (waiting ++ rest)) ∙ ap (λ w. take (length ahead.sent) w) split in
-    (length ahead.sent, within, ahead.held ∙ ap (λ w. with_more before w) front)
+    (length ahead.sent, within, ahead.written ∙ ap (λ w. with_more before w) front)
 
 -- and so it does behind some of what waits
 pub ahead_part : (before now then : Option (List ℕ)) (waiting rest whole : List ℕ) → HasTaken now then waiting
@@ -68,11 +68,11 @@ ahead_part before now then waiting rest whole taken ahead =
     let within : m ≤ length whole = subst (λ (w : List ℕ). m ≤ length w) split (omega (arith, taken.1, length-append ahead.sent (waiting ++ rest), length-append waiting rest)) in
     let front : ahead.sent ++ take taken.0 waiting ≡ take m whole =
     ap (λ w. ahead.sent ++ w) (sym (take_within taken.0 waiting rest taken.1)) ∙ sym (take_past taken.0 ahead.sent (waiting ++ rest)) ∙ ap (λ w. take m w) split in
-    (m, within, taken.2 ∙ ap (λ held. with_more held (take taken.0 waiting)) ahead.held ∙ with_both before ahead.sent (take taken.0 waiting) ∙ ap (λ w. with_more before w) front)
+    (m, within, taken.2 ∙ ap (λ written. with_more written (take taken.0 waiting)) ahead.written ∙ with_both before ahead.sent (take taken.0 waiting) ∙ ap (λ w. with_more before w) front)
 
 -- nothing is to come, and all that waits was sent
 pub ahead_whole : (before now then : Option (List ℕ)) (waiting whole : List ℕ) → then ≡ with_more now waiting
     → IsAhead before now waiting [] whole → then ≡ with_more before whole
 ahead_whole before now then waiting whole took ahead =
     let all : ahead.sent ++ waiting ≡ whole = grind (arith, common_steps, ahead.joins) in
-    took ∙ ap (λ held. with_more held waiting) ahead.held ∙ with_both before ahead.sent waiting ∙ ap (λ w. with_more before w) all
+    took ∙ ap (λ written. with_more written waiting) ahead.written ∙ with_both before ahead.sent waiting ∙ ap (λ w. with_more before w) all

@@ -4,7 +4,7 @@ use Rattle.do_sched.specs.declared.line.Line.{Line}
 use Rattle.do_local.specs.Laws.{laws_of}
 use Rattle.do_local.specs.Blocks.{blocks}
 use Rattle.do_local.specs.Machine.{Machine, opened}
-use Rattle.do_local.specs.World.{counter_classes, counter_nodes}
+use Rattle.do_local.specs.CounterWorld.{counter_classes, counter_nodes}
 use Rattle.do_lines.specs.Transcript.{transcript}
 
 -- the transcript of these lines, from a machine on

@@ -4,14 +4,14 @@ use Rattle.do_node.specs.declared.status.Status.{Status}
 use Rattle.do_node.specs.declared.status.Status.TheVariants.{Ok, Usage, ReadFault, TooLong, BadSchedule, WriteFault, Memory}
 
 -- the number that the program ends with
-abbrev pub number_of : Status → ℕ
-number_of Ok = 0
-number_of (Usage word) = 2
-number_of ReadFault = 3
-number_of (TooLong read limit) = 4
-number_of (BadSchedule line) = 6
-number_of WriteFault = 7
-number_of Memory = 10
+abbrev pub exit_number : Status → ℕ
+exit_number Ok = 0
+exit_number (Usage word) = 2
+exit_number ReadFault = 3
+exit_number (TooLong read limit) = 4
+exit_number (BadSchedule line) = 6
+exit_number WriteFault = 7
+exit_number Memory = 10
 
 -- the text of each
 abbrev pub status_text : Status → List ℕ

@@ -20,7 +20,7 @@ abbrev pub going : List (List ℕ → Bool) → List (List ℕ) → ℕ
 going (test ∷ tests) (word ∷ words) = if test word then suc (going tests words) else 0
 going tests words = 0
 
--- the first word, from 1, at which no form goes on: a missing one stands behind the last, and a surplus one behind the form's
+-- the first word, from 1, at which no form goes on; a missing one stands behind the last, a surplus one behind the form's
 abbrev pub stuck_at : List (List ℕ) → ℕ
 stuck_at words = suc (going replay_form words)
 

@@ -7,7 +7,7 @@ ghost use Rattle.do_lines.specs.Transcript.{block_lines, listed_lines};
 use crate::stepping::step_line;
 use do_base::Text;
 use do_class::ClassTable;
-use do_lines::{port_of, push_check, push_head, push_outcome};
+use do_lines::{push_check, push_head, push_outcome, stepped_node};
 use do_local::{Local, Snapshot};
 use do_sched::Line;
 use std::alloc::{AllocError, Global};
@@ -45,16 +45,16 @@ pub fn push_block(
     line: Line,
     text: &mut Text,
 ) -> Result<(), AllocError>
-    requires { local.old.steps + steps line ≤ 2 ^ 40 }
+    requires { local.old.events + steps line ≤ 2 ^ 40 }
     ensures text { OnOk result (text.new ≡ text.old ++ block_lines local.old.table (block (laws_of local.old.table) local.old.state line)) }
     ensures state { OnOk result (local.new.state ≡ (line_step (laws_of local.old.table) local.old.state line).state) }
     ensures table { OnOk result (local.new.table ≡ local.old.table) }
-    ensures counted { OnOk result (local.new.steps ≡ local.old.steps + steps line) }
+    ensures counted { OnOk result (local.new.events ≡ local.old.events + steps line) }
 {
     push_head(text, &line)?;
-    let port = port_of(&line);
+    let node = stepped_node(&line);
     let listed = listed_at(local, &line)?;
     let outcome = step_line(alloc, local, line)?;
-    push_outcome(text, port, &outcome)?;
+    push_outcome(text, node, &outcome)?;
     push_listed(text, local.table(), &listed)
 }

@@ -41,10 +41,10 @@ pub fn run<H: Shelf, K: Sink>(alloc: Global, words: &[Word], shelf: &mut H, out:
         → IsSomeAnd (schedule_named words.now) (IsReadable (H.files shelf.old)) }
 
     // What is written, whatever the answer, and that good input is answered by it.
-    ensures whole { result ≡ Status.Ok → WritesAll (H.files shelf.old) words.now (K.held out.old) (K.held out.new) }
-    ensures prefix { (K.held out.new ≡ K.held out.old)
-        ⊎ WritesSome (H.files shelf.old) words.now (K.held out.old) (K.held out.new) }
-    ensures refused { IsRefusal result → K.held out.new ≡ K.held out.old }
+    ensures whole { result ≡ Status.Ok → WritesAll (H.files shelf.old) words.now (K.written out.old) (K.written out.new) }
+    ensures prefix { (K.written out.new ≡ K.written out.old)
+        ⊎ WritesSome (H.files shelf.old) words.now (K.written out.old) (K.written out.new) }
+    ensures refused { IsRefusal result → K.written out.new ≡ K.written out.old }
     ensures complete { (bytes : List ℕ) (lines : List Line) → IsGiven (H.files shelf.old) words.now bytes
         → length bytes ≤ most_bytes → IsSchedule bytes lines
         → ¬ Rose (H.faults shelf.old) (H.faults shelf.new) → ¬ Rose (K.faults out.old) (K.faults out.new)

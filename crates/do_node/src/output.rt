@@ -10,8 +10,8 @@ const JOINED: usize = 65_536;
 /// Writes what waits, and leaves nothing that waits.
 pub fn flush<K: Sink>(waiting: &mut Text, out: &mut K) -> Result<(), PutFail>
     ensures emptied { OnOk result (waiting.new ≡ []) }
-    ensures ok { OnOk result (K.held out.new ≡ with_more (K.held out.old) waiting.old) }
-    ensures prefix { HasTaken (K.held out.old) (K.held out.new) waiting.old }
+    ensures ok { OnOk result (K.written out.new ≡ with_more (K.written out.old) waiting.old) }
+    ensures prefix { HasTaken (K.written out.old) (K.written out.new) waiting.old }
     ensures later { K.faults out.old ≤ K.faults out.new }
     ensures failed { IsErrOf result PutFail.Failed → Rose (K.faults out.old) (K.faults out.new) }
 {
@@ -23,8 +23,8 @@ pub fn flush<K: Sink>(waiting: &mut Text, out: &mut K) -> Result<(), PutFail>
 /// Writes what waits once there is enough of it.
 pub fn flush_if_long<K: Sink>(waiting: &mut Text, out: &mut K) -> Result<(), PutFail>
     ensures short { OnOk result (length waiting.new < JOINED) }
-    ensures ok { OnOk result ((sent : List ℕ) × (K.held out.new ≡ with_more (K.held out.old) sent) × (sent ++ waiting.new ≡ waiting.old)) }
-    ensures prefix { HasTaken (K.held out.old) (K.held out.new) waiting.old }
+    ensures ok { OnOk result ((sent : List ℕ) × (K.written out.new ≡ with_more (K.written out.old) sent) × (sent ++ waiting.new ≡ waiting.old)) }
+    ensures prefix { HasTaken (K.written out.old) (K.written out.new) waiting.old }
     ensures later { K.faults out.old ≤ K.faults out.new }
     ensures failed { IsErrOf result PutFail.Failed → Rose (K.faults out.old) (K.faults out.new) }
 {

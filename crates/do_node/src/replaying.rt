@@ -18,9 +18,9 @@ pub fn write_transcript<K: Sink>(
     lines: Lines,
     out: &mut K,
 ) -> Result<(), PutFail>
-    requires { local.old.steps + steps_of lines ≤ 2 ^ 40 }
-    ensures ok { OnOk result (K.held out.new ≡ with_more (K.held out.old) (transcript_from local.old lines)) }
-    ensures prefix { HasTaken (K.held out.old) (K.held out.new) (transcript_from local.old lines) }
+    requires { local.old.events + steps_of lines ≤ 2 ^ 40 }
+    ensures ok { OnOk result (K.written out.new ≡ with_more (K.written out.old) (transcript_from local.old lines)) }
+    ensures prefix { HasTaken (K.written out.old) (K.written out.new) (transcript_from local.old lines) }
     ensures later { K.faults out.old ≤ K.faults out.new }
     ensures failed { IsErrOf result PutFail.Failed → Rose (K.faults out.old) (K.faults out.new) }
 {
@@ -38,8 +38,8 @@ pub fn write_transcript<K: Sink>(
 #[tactic(auto, unfolding(crate::specs::Replayed::counter_transcript))]
 pub fn replay_counter<K: Sink>(alloc: Global, lines: Lines, out: &mut K) -> Result<(), PutFail>
     requires { steps_of lines ≤ 2 ^ 40 }
-    ensures ok { OnOk result (K.held out.new ≡ with_more (K.held out.old) (counter_transcript lines)) }
-    ensures prefix { HasTaken (K.held out.old) (K.held out.new) (counter_transcript lines) }
+    ensures ok { OnOk result (K.written out.new ≡ with_more (K.written out.old) (counter_transcript lines)) }
+    ensures prefix { HasTaken (K.written out.old) (K.written out.new) (counter_transcript lines) }
     ensures later { K.faults out.old ≤ K.faults out.new }
     ensures failed { IsErrOf result PutFail.Failed → Rose (K.faults out.old) (K.faults out.new) }
 {

@@ -1,5 +1,5 @@
 ghost use Rattle.std.specs.Prelude.{◌≡◌};
-ghost use Rattle.do_node.specs.Status.{number_of};
+ghost use Rattle.do_node.specs.Status.{exit_number};
 
 use std::fmt;
 
@@ -25,7 +25,7 @@ pub enum Status {
 impl Status {
     /// The number that the program ends with.
     pub fn number(&self) -> u8
-        ensures { result ≡ number_of self.now }
+        ensures { result ≡ exit_number self.now }
     {
         match *self {
             Status::Ok => 0,

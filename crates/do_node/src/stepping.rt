@@ -29,11 +29,11 @@ fn run_steps(
     node: NodeId,
     count: u64,
 ) -> Result<Outcome, AllocError>
-    requires { local.old.steps + count ≤ 2 ^ 40 }
+    requires { local.old.events + count ≤ 2 ^ 40 }
     ensures outcome { IfOk result (λ outcome. outcome ≡ (runs count (laws_of local.old.table) node (skipped local.old.state)).outcome) }
     ensures state { OnOk result (local.new.state ≡ (runs count (laws_of local.old.table) node (skipped local.old.state)).state) }
     ensures table { OnOk result (local.new.table ≡ local.old.table) }
-    ensures counted { OnOk result (local.new.steps ≡ local.old.steps + count) }
+    ensures counted { OnOk result (local.new.events ≡ local.old.events + count) }
 {
     let event = Event::Run { node };
     let mut all = Outcome {
@@ -49,11 +49,11 @@ fn run_steps(
 
 /// What a line does: one event, or several single steps of a node.
 pub fn step_line(alloc: Global, local: &mut Local, line: Line) -> Result<Outcome, AllocError>
-    requires { local.old.steps + steps line ≤ 2 ^ 40 }
+    requires { local.old.events + steps line ≤ 2 ^ 40 }
     ensures outcome { IfOk result (λ outcome. outcome ≡ (line_step (laws_of local.old.table) local.old.state line).outcome) }
     ensures state { OnOk result (local.new.state ≡ (line_step (laws_of local.old.table) local.old.state line).state) }
     ensures table { OnOk result (local.new.table ≡ local.old.table) }
-    ensures counted { OnOk result (local.new.steps ≡ local.old.steps + steps line) }
+    ensures counted { OnOk result (local.new.events ≡ local.old.events + steps line) }
 {
     match line {
         Line::Start {

@@ -4,9 +4,9 @@ use Rattle.do_sig.specs.declared.value_type.Scalar.{Scalar}
 use Rattle.do_sig.specs.declared.value_type.Scalar.TheVariants.{SignedChar, Short, Int, Long, LongLong, UnsignedChar, UnsignedShort, UnsignedInt, UnsignedLong, UnsignedLongLong, Boolean, CString, Object, Class, Selector}
 
 -- a byte is among these
-abbrev pub is_in : ℕ → List ℕ → Bool
-is_in b [] = false
-is_in b (c ∷ cs) = b == c || is_in b cs
+abbrev pub is_one_of : ℕ → List ℕ → Bool
+is_one_of b [] = false
+is_one_of b (c ∷ cs) = b == c || is_one_of b cs
 
 -- the letter of each type that is made of no others: c s i l q C S I L Q B * @ # :
 abbrev pub code_of : Scalar → ℕ
@@ -52,11 +52,11 @@ scalar_of b = scalar_in letters b
 
 -- f d D b ( ? j A, and v and ^, which runtimes know but which cannot stand within another type
 abbrev pub is_unsupported : ℕ → Bool
-is_unsupported b = is_in b (102 ∷ 100 ∷ 68 ∷ 98 ∷ 40 ∷ 63 ∷ 106 ∷ 65 ∷ 118 ∷ 94 ∷ [])
+is_unsupported b = is_one_of b (102 ∷ 100 ∷ 68 ∷ 98 ∷ 40 ∷ 63 ∷ 106 ∷ 65 ∷ 118 ∷ 94 ∷ [])
 
 -- V r n N o O R
 abbrev pub is_qualifier : ℕ → Bool
-is_qualifier b = is_in b (86 ∷ 114 ∷ 110 ∷ 78 ∷ 111 ∷ 79 ∷ 82 ∷ [])
+is_qualifier b = is_one_of b (86 ∷ 114 ∷ 110 ∷ 78 ∷ 111 ∷ 79 ∷ 82 ∷ [])
 
 -- a byte from 0 to 9
 abbrev pub is_digit : ℕ → Bool

@@ -52,7 +52,7 @@ struct Narrow {
 }
 
 impl Sink for Narrow {
-    ghost held = { λ s. Some s.taken };
+    ghost written = { λ s. Some s.taken };
 
     ghost faults = { λ s. 0 };
 

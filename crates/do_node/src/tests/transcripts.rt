@@ -118,7 +118,7 @@ struct Narrow {
 impl Sink for Narrow {
     ghost use Rattle.std.specs.Prelude.{Some};
 
-    ghost held = { λ s. Some s.taken };
+    ghost written = { λ s. Some s.taken };
 
     ghost faults = { λ s. 0 };
 

@@ -1,8 +1,8 @@
 -- The lines up to here were added.
 use Rattle.std.proofs.Common.{◌≡◌, ◌++◌, take, map}
 use Rattle.do_lines.specs.Lines.{joined}
-use Rattle.do_lines.specs.Check.{object_line}
+use Rattle.do_lines.specs.Check.{object_text}
 use Rattle.do_lines.proofs.check.push_objects.Given as goal
 
 abbrev pub invariant-loop-object : goal.invariant-loop-object
-invariant-loop-object l = l.out ≡ l.fn.out ++ joined (map (object_line l.table) (take l.object-index l.object-items))
+invariant-loop-object l = l.out ≡ l.fn.out ++ joined (map (object_text l.table) (take l.object-index l.object-items))

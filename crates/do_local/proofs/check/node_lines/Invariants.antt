@@ -1,8 +1,8 @@
 use Rattle.std.proofs.Common.{◌≡◌, map, take}
-use Rattle.do_local.specs.declared.place.Place.{Place}
+use Rattle.do_local.specs.declared.station.Station.{Station}
 use Rattle.do_local.specs.Check.{node_line}
-use Rattle.do_local.specs.Places.{state_of}
+use Rattle.do_local.specs.Stations.{state_of}
 use Rattle.do_local.proofs.check.node_lines.Given as goal
 
-abbrev pub invariant-loop-place : goal.invariant-loop-place
-invariant-loop-place l = l.lines ≡ map (λ (p : Place). node_line (state_of l.places) p.node) (take l.place-index l.place-items)
+abbrev pub invariant-loop-station : goal.invariant-loop-station
+invariant-loop-station l = l.lines ≡ map (λ (p : Station). node_line (state_of l.stations) p.node) (take l.station-index l.station-items)

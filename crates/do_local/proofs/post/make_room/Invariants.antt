@@ -1,5 +1,5 @@
 use Rattle.std.proofs.Common.{◌≡◌, length}
-use Rattle.do_local.specs.Places.{queues_of}
+use Rattle.do_local.specs.Stations.{queues_of}
 use Rattle.do_local.proofs.Posting.{RoomBelow}
 use Rattle.do_local.proofs.post.make_room.Given as goal
 

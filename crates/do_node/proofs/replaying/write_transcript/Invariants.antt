@@ -9,7 +9,7 @@ use Rattle.do_node.proofs.replaying.write_transcript.Given as goal
 
 abbrev pub invariant-loop-line : goal.invariant-loop-line
 invariant-loop-line g l = record {
-  written : IsAhead (g.K.Sink.held l.fn.out) (g.K.Sink.held l.out) l.waiting (rest_from l.local (into_iter_items l.line-iterator)) (transcript_from l.fn.local l.fn.lines);
-  counted : l.local.steps + steps_of (into_iter_items l.line-iterator) ≤ 2 ^ 40;
+  written : IsAhead (g.K.Sink.written l.fn.out) (g.K.Sink.written l.out) l.waiting (rest_from l.local (into_iter_items l.line-iterator)) (transcript_from l.fn.local l.fn.lines);
+  counted : l.local.events + steps_of (into_iter_items l.line-iterator) ≤ 2 ^ 40;
   later : g.K.Sink.faults l.fn.out ≤ g.K.Sink.faults l.out;
 }

@@ -12,5 +12,5 @@ invariant-loop-step l = record {
   ahead : runs (l.count - l._step) (laws_of l.fn.local.table) l.fn.node (record { state = l.local.state; outcome = l.all })
       ≡ runs l.count (laws_of l.fn.local.table) l.fn.node (skipped l.fn.local.state);
   table : l.local.table ≡ l.fn.local.table;
-  counted : l.local.steps ≡ l.fn.local.steps + l._step;
+  counted : l.local.events ≡ l.fn.local.events + l._step;
 }

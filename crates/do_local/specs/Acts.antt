@@ -1,0 +1,68 @@
+-- What becomes of each act of an invocation.
+use Rattle.std.specs.Prelude.{ℕ, not, if◌then◌else◌, ◌==◌, Option, Some, None, ℤ, pos, negsuc, nat_lt, ◌&&◌}
+use Rattle.do_base.specs.declared.value.Value.{Value, out-Value}
+use Rattle.do_base.specs.declared.value.Value.TheOpen.{Value-F}
+use Rattle.do_base.specs.declared.value.Value.TheVariants.{Nil, Obj}
+use Rattle.do_base.specs.declared.shown.Exc.TheVariants.{TypeFault, ConnectionDied}
+use Rattle.do_class.specs.declared.ids.MethodId.{MethodId}
+use Rattle.do_local.specs.declared.act.Act.{Act}
+use Rattle.do_local.specs.declared.act.Act.TheVariants.{Assign, Write, Root, Send, Say, Return, Raise}
+use Rattle.do_local.specs.declared.invocation.Answer.TheVariants as answers
+use Rattle.do_local.specs.declared.node.Node.{Node}
+use Rattle.do_local.specs.declared.verdict.Verdict.{Verdict}
+use Rattle.do_local.specs.declared.verdict.Verdict.TheVariants.{Goes, Writes, Says, Asks, Ends}
+use Rattle.do_local.specs.declared.verdict.Request.TheVariants as requests
+use Rattle.do_local.specs.Laws.{Laws}
+use Rattle.do_local.specs.Context.{Context}
+use Rattle.do_local.specs.Sending.{fails, send_rule}
+use Rattle.do_local.specs.State.{is_open, own}
+
+-- a node's root, or nil
+abbrev pub root_value : Node → Value
+root_value n = elim n.root [ None ↦ Nil | Some serial ↦ Obj (own n serial) ]
+
+-- a number that names a port
+abbrev pub port_of : ℤ → Option ℕ
+port_of (pos n) = if nat_lt 0 n && nat_lt n 65536 then Some n else None
+port_of (negsuc m) = None
+
+-- one level of a value as a number
+abbrev level_number : Value-F Value → Option ℤ
+level_number (Value-F.Num n) = Some n
+level_number _ = None
+
+-- the number that a value is
+abbrev pub number_in : Value → Option ℤ
+number_in v = level_number (out-Value v)
+
+-- a root is asked for by a number; the own one is there at once, and another is asked for over an open end
+abbrev pub root_rule : Node → Value → ℕ → ℕ → Verdict
+root_rule n value into pc =
+    elim (number_in value) [
+      | None ↦ fails TypeFault
+      | Some number ↦
+          elim (port_of number) [
+            | None ↦ fails ConnectionDied
+            | Some port ↦
+                if port == n.port then Goes into (root_value n) pc
+                else if not (is_open n port) then fails ConnectionDied
+                else Asks port requests.Root into pc
+          ]
+    ]
+
+-- what is returned fits the method's result
+abbrev pub return_rule : Laws → MethodId → Value → Verdict
+return_rule laws method v =
+    if not (laws.result_fits method v) then fails TypeFault
+    else Ends (answers.Given v)
+
+-- what becomes of an act of an invocation of a method
+abbrev pub act_rule : Context → MethodId → Act → Verdict
+act_rule c method (Assign into value pc) = Goes into value pc
+act_rule c method (Write slot value pc) = Writes slot value pc
+act_rule c method (Root port into pc) = root_rule c.node port into pc
+act_rule c method (Send target selector args into pc) =
+    send_rule c (record { target = target; selector = selector; args = args; into = into; pc = pc })
+act_rule c method (Say value pc) = Says value pc
+act_rule c method (Return value) = return_rule c.laws method value
+act_rule c method (Raise e) = fails e

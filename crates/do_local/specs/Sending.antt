@@ -1,0 +1,65 @@
+-- What becomes of a message that an invocation sends.
+use Rattle.std.specs.Prelude.{Bool, true, false, not, if◌then◌else◌, Option, Some, None}
+use Rattle.do_base.specs.Names.{ObjectName}
+use Rattle.do_base.specs.declared.value.Value.{Value, out-Value}
+use Rattle.do_base.specs.declared.value.Value.TheOpen.{Value-F}
+use Rattle.do_base.specs.declared.value.Value.TheVariants.{Nil}
+use Rattle.do_base.specs.declared.shown.Exc.{Exc}
+use Rattle.do_base.specs.declared.shown.Exc.TheVariants.{TypeFault, NotUnderstood, ConnectionDied, NotVended}
+use Rattle.do_class.specs.declared.ids.MethodId.{MethodId}
+use Rattle.do_local.specs.declared.invocation.Answer.TheVariants as answers
+use Rattle.do_local.specs.declared.message.Message.{Message}
+use Rattle.do_local.specs.declared.send.SendAct.{SendAct}
+use Rattle.do_local.specs.declared.verdict.Verdict.{Verdict}
+use Rattle.do_local.specs.declared.verdict.Verdict.TheVariants.{Goes, Asks, Ends}
+use Rattle.do_local.specs.declared.verdict.Request.TheVariants as requests
+use Rattle.do_local.specs.State.{is_open, holds}
+use Rattle.do_local.specs.Context.{Context}
+use Rattle.do_local.specs.Laws.{method_for}
+
+-- an exception ends an invocation, since no method of this world sets a handler
+abbrev pub fails : Exc → Verdict
+fails e = Ends (answers.Raised e)
+
+-- one level of a value is nil
+abbrev pub level_is_nil : Value-F Value → Bool
+level_is_nil Value-F.Nil = true
+level_is_nil _ = false
+
+-- the object that one level of a value is
+abbrev pub level_object : Value-F Value → Option ObjectName
+level_object (Value-F.Obj o) = Some o
+level_object _ = None
+
+-- a value is nil
+abbrev pub is_nil : Value → Bool
+is_nil v = level_is_nil (out-Value v)
+
+-- the object that a value is
+abbrev pub object_of : Value → Option ObjectName
+object_of v = level_object (out-Value v)
+
+-- what a send says to its target
+abbrev pub message_of : ObjectName → SendAct → Message
+message_of o s = record { target = o.serial; selector = s.selector; values = s.args }
+
+-- the sender waits for what a method of the target answers
+abbrev pub calls : ObjectName → MethodId → SendAct → Verdict
+calls o method s = Asks o.node (requests.Call method (message_of o s)) s.into s.pc
+
+-- what becomes of a send: the first of these rules that applies decides; no method of this world sends to an own object
+abbrev pub send_rule : Context → SendAct → Verdict
+send_rule c s =
+    if is_nil s.target then Goes s.into Nil s.pc
+    else elim (object_of s.target) [
+      | None ↦ fails TypeFault
+      | Some o ↦
+          if not (is_open c.node o.node) then fails ConnectionDied
+          else if not (holds c.node o) then fails NotVended
+          else elim (method_for c.laws (c.sees.class_of o) s.selector) [
+            | None ↦ fails NotUnderstood
+            | Some method ↦
+                if not (c.laws.inputs_fit method s.args) then fails TypeFault
+                else calls o method s
+          ]
+    ]

@@ -1,0 +1,98 @@
+ghost use Rattle.std.specs.Prelude.{◌≡◌};
+ghost use Rattle.do_local.specs.Acts.{act_rule, port_of, return_rule, root_rule};
+ghost use Rattle.do_local.specs.Laws.{laws_of};
+ghost use Rattle.do_local.specs.Stations.{context_of};
+
+use crate::act::Act;
+use crate::invocation::Answer;
+use crate::laws::result_fits;
+use crate::node::Node;
+use crate::send::{SendAct, fails, send_rule};
+use crate::station::Stations;
+use crate::verdict::{Request, Verdict};
+use do_base::{Exc, NodeId, Value};
+use do_class::{ClassTable, MethodId};
+
+/// The node of a number; none where the number is no port.
+fn node_id(number: i64) -> Option<NodeId>
+    ensures { result ≡ port_of number }
+{
+    match u16::try_from(number) {
+        Ok(port) => NodeId::new(port),
+        Err(_) => None,
+    }
+}
+
+/// The root of a port is asked for; the own one is there at once.
+fn root_rule(node: &Node, port: &Value, into: u8, pc: u32) -> Verdict
+    ensures { result ≡ root_rule node.now port.now into pc }
+{
+    let Value::Num(number) = port else {
+        return fails(Exc::TypeFault);
+    };
+    let Some(port) = node_id(*number) else {
+        return fails(Exc::ConnectionDied);
+    };
+    if port == node.port {
+        return Verdict::Goes {
+            into,
+            value: node.root_value(),
+            pc,
+        };
+    }
+    if !node.is_open(&port) {
+        return fails(Exc::ConnectionDied);
+    }
+    Verdict::Asks {
+        peer: port,
+        request: Request::Root,
+        into,
+        pc,
+    }
+}
+
+/// What is returned fits the method's result.
+fn return_rule(table: &ClassTable, method: MethodId, value: Value) -> Verdict
+    ensures { result ≡ return_rule (laws_of table.now) method value }
+{
+    if !result_fits(table, method, &value) {
+        return fails(Exc::TypeFault);
+    }
+    Verdict::Ends(Answer::Given { result: value })
+}
+
+/// What becomes of an act of an invocation of a method.
+pub fn act_rule(
+    table: &ClassTable,
+    stations: &Stations,
+    node: &Node,
+    method: MethodId,
+    act: Act,
+) -> Verdict
+    ensures { result ≡ act_rule (context_of table.now stations.now node.now) method act }
+{
+    match act {
+        Act::Assign { into, value, pc } => Verdict::Goes { into, value, pc },
+        Act::Write { slot, value, pc } => Verdict::Writes { slot, value, pc },
+        Act::Root { port, into, pc } => root_rule(node, &port, into, pc),
+        Act::Send {
+            target,
+            selector,
+            args,
+            into,
+            pc,
+        } => {
+            let send = SendAct {
+                target,
+                selector,
+                args,
+                into,
+                pc,
+            };
+            send_rule(table, stations, node, send)
+        }
+        Act::Say { value, pc } => Verdict::Says { value, pc },
+        Act::Return { value } => return_rule(table, method, value),
+        Act::Raise(exc) => fails(exc),
+    }
+}
