@@ -66,6 +66,10 @@ holder = record client { held = counter_object ∷ [] }
 abbrev pub closed : Node → Node
 closed n = record n { open_to = [] }
 
+-- a node that has no root
+abbrev pub rootless : Node → Node
+rootless n = record n { root = None }
+
 abbrev pub go_method : MethodId
 go_method = record { class = record { 0 = 1 }; index = 0 }
 
@@ -159,6 +163,12 @@ the_own_root_is_there_at_once : (c : Context) →
     act_rule (record c { node = client }) go_method (Root (Num (pos 7001)) 2 2) ≡ Goes 2 (Obj client_object) 2
 unfolding Rattle.do_base.specs.declared.value.Value.out-Value denote.Hole.Carrier.out
 the_own_root_is_there_at_once c = refl
+
+-- and nil where the node has no root
+an_own_root_that_is_not_there_is_nil : (c : Context) →
+    act_rule (record c { node = rootless client }) go_method (Root (Num (pos 7001)) 2 2) ≡ Goes 2 Nil 2
+unfolding Rattle.do_base.specs.declared.value.Value.out-Value denote.Hole.Carrier.out
+an_own_root_that_is_not_there_is_nil c = refl
 
 -- ---- a value that is returned
 

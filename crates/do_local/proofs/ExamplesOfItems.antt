@@ -3,7 +3,7 @@ use Rattle.std.proofs.Common.{◌≡◌, ℕ, true, List as Listed, [], ◌∷�
 use Rattle.std.specs.Prelude.{Result, Err, codes}
 use Rattle.do_base.specs.Names.{CallName}
 use Rattle.do_base.specs.declared.value.Value.{Value}
-use Rattle.do_base.specs.declared.value.Value.TheVariants.{Obj}
+use Rattle.do_base.specs.declared.value.Value.TheVariants.{Nil, Obj}
 use Rattle.do_base.specs.declared.shown.Exc.{Exc}
 use Rattle.do_base.specs.declared.shown.Exc.TheVariants.{TypeFault, Deep, NotUnderstood, NotVended}
 use Rattle.do_base.specs.declared.shown.Shown.TheVariants as shows
@@ -30,7 +30,7 @@ use Rattle.do_local.specs.Answers.{delivery, values_answer}
 use Rattle.do_local.specs.Taking.{arrival, take_effect}
 use Rattle.do_local.specs.Items.{Exported, Mentioned, Released, exported, names, released}
 use Rattle.do_local.proofs.Counted.{at_first}
-use Rattle.do_local.proofs.ExamplesOfActs.{a_text, client, client_object, closed, computed, counter_laws, counter_object, five}
+use Rattle.do_local.proofs.ExamplesOfActs.{a_text, client, client_object, closed, computed, counter_laws, counter_object, five, rootless}
 
 -- ---- calls
 
@@ -38,7 +38,7 @@ use Rattle.do_local.proofs.ExamplesOfActs.{a_text, client, client_object, closed
 abbrev counter : Node
 counter = opening_node counter_classes counter_nodes (record { node = 7002; root = record { 0 = 0 } })
 
-abbrev add_method : MethodId
+abbrev pub add_method : MethodId
 add_method = record { class = record { 0 = 0 }; index = 0 }
 
 -- the counter's node with as many invocations as a node has
@@ -105,6 +105,12 @@ a_type_fault_goes_before_a_full_stack =
     computed (admitted full_counter (codes "add:") (a_text ∷ [])) (Err TypeFault) refl
 
 -- ---- answers
+
+-- the answer to the question for a root is nil where the node has none
+a_root_that_is_not_there_is_answered_by_nil : (c : Context) (number peer : ℕ) →
+    arrival (record c { node = rootless client }) peer (items.RootAsk number) ≡
+    Sends (items.RootAnswer number (Nil ∷ []))
+a_root_that_is_not_there_is_answered_by_nil c number peer = refl
 
 -- an answer that no invocation waits for is shown, and does nothing else
 a_late_answer_is_only_shown : (c : Context) →

@@ -27,7 +27,7 @@ use Rattle.do_local.specs.Blocks.{after}
 use Rattle.do_local.specs.Check.{snapshot}
 use Rattle.do_local.proofs.Fitting.{number_laws}
 use Rattle.do_local.proofs.Counted.{go, at_first}
-use Rattle.do_local.proofs.ExamplesOfActs.{a_text, client, closed, computed, counter_laws, counter_object, five, going, holder, named}
+use Rattle.do_local.proofs.ExamplesOfActs.{a_text, client, closed, computed, counter_laws, counter_object, five, going, holder, named, rootless}
 
 -- ---- the state before the first event
 
@@ -48,6 +48,14 @@ running = after number_laws at_first (go 5 ∷ [])
 -- the client waits for the root of the counter's node, and the counter runs a method of its own
 abbrev waiting : State
 waiting = after number_laws at_first (go 5 ∷ lines.Run 7001 2 ∷ lines.Start 7002 (codes "add:") (five ∷ []) ∷ [])
+
+-- a state with the ends of one node closed
+abbrev closed_at : ℕ → State → State
+closed_at port S = record S { nodes = change port closed S.nodes }
+
+-- the counter world with one item under way
+abbrev under_way : ℕ → ℕ → Item → State
+under_way from to item = record at_first { queues = change from (change to (λ items. item ∷ [])) at_first.queues }
 
 -- a start of the client's method
 abbrev begin : Listed Value → Event
@@ -83,6 +91,15 @@ a_port_without_a_node_starts_nothing : (laws : Laws) →
     step laws at_first (events.Start 7003 (codes "go:") (five ∷ [])) ≡ skipped at_first
 a_port_without_a_node_starts_nothing laws = refl
 
+-- the counter world with a client's node that has no root
+abbrev without_root : State
+without_root = record at_first { nodes = change 7001 rootless at_first.nodes }
+
+-- a node without a root starts nothing
+a_node_without_a_root_starts_nothing : (laws : Laws) →
+    step laws without_root (begin (five ∷ [])) ≡ skipped without_root
+a_node_without_a_root_starts_nothing laws = refl
+
 -- a node without an invocation does not run
 an_idle_node_does_not_run : (laws : Laws) → step laws at_first (events.Run 7001) ≡ skipped at_first
 an_idle_node_does_not_run laws = refl
@@ -105,19 +122,20 @@ a_running_node_takes_nothing : (laws : Laws) → step laws waiting (events.Take 
 unfolding Rattle.do_base.specs.declared.value.Value.out-Value denote.Hole.Carrier.out
 a_running_node_takes_nothing laws = refl
 
+-- the question for the counter's root is under way, and the counter's node has closed its ends
+abbrev closed_to_the_question : State
+closed_to_the_question = closed_at 7002 (under_way 7001 7002 (items.RootAsk 1))
+
+-- a node takes nothing over a closed end
+nothing_is_taken_over_a_closed_end : (laws : Laws) →
+    step laws closed_to_the_question (events.Take 7002 7001) ≡ skipped closed_to_the_question
+nothing_is_taken_over_a_closed_end laws = refl
+
 -- ---- entries
 
 -- the counter world with a client that holds the counter
-abbrev held : State
+abbrev pub held : State
 held = record at_first { nodes = change 7001 (λ n. holder) at_first.nodes }
-
--- a state with the ends of one node closed
-abbrev closed_at : ℕ → State → State
-closed_at port S = record S { nodes = change port closed S.nodes }
-
--- the counter world with one item under way
-abbrev under_way : ℕ → ℕ → Item → State
-under_way from to item = record at_first { queues = change from (change to (λ items. item ∷ [])) at_first.queues }
 
 -- the client neither holds the counter, nor is an item under way
 an_object_that_is_not_in_use_has_no_entry : has_entry at_first 7001 counter_object ≡ false

@@ -3,6 +3,9 @@ pub mod Counted
 pub mod ExamplesOfActs
 pub mod ExamplesOfItems
 pub mod ExamplesOfSteps
+pub mod ExamplesOfAnswers
+pub mod ExamplesOfMethods
+pub mod ExamplesOfStates
 pub mod Tables
 pub mod Changes
 pub mod Posting

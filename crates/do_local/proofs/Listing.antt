@@ -1,7 +1,5 @@
 -- What is listed of the stations is what is listed of their state.
-use Rattle.std.proofs.Common.{◌≡◌, ℕ, zero, suc, ◌+◌, List, [], ◌∷◌, ◌++◌, map, take, Some, refl, ap, sym, ◌∙◌, subst, arith, append_assoc}
-use Rattle.std.specs.Prelude.{slice_get}
-use Rattle.std.specs.List.{flat_map}
+use Rattle.std.proofs.Common.{◌≡◌, List, [], ◌∷◌, map, refl, ap}
 use Rattle.do_local.specs.declared.station.Station.{Station}
 use Rattle.do_local.specs.Check.{node_line}
 use Rattle.do_local.specs.State.{State}

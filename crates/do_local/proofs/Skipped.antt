@@ -1,5 +1,5 @@
 -- An event that is not enabled changes nothing and shows nothing.
-use Rattle.std.proofs.Common.{◌≡◌, ℕ, Bool, false, true, cond, List, [], ◌∷◌, Option, Some, None, refl, ap, sym, ◌∙◌}
+use Rattle.std.proofs.Common.{◌≡◌, ℕ, Bool, false, true, cond, [], Option, Some, None, refl, ap, sym, ◌∙◌}
 use Rattle.std.specs.Prelude.{not, ◌&&◌, ◌==◌}
 use Rattle.do_base.specs.declared.shown.Event.{Event}
 use Rattle.do_base.specs.declared.shown.Event.TheVariants.{Start, Run, Take, Close, Lose, Check}

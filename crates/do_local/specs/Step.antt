@@ -1,5 +1,5 @@
 -- The machine: what each event does to a state.
-use Rattle.std.specs.Prelude.{ℕ, Bool, true, not, ◌&&◌, ◌==◌, if◌then◌else◌, List, [], ◌∷◌, length, Option, Some, None, option_and_then, drop, option_map}
+use Rattle.std.specs.Prelude.{ℕ, Bool, true, not, ◌&&◌, ◌==◌, if◌then◌else◌, List, [], length, Option, Some, None, option_and_then, drop, option_map}
 use Rattle.do_base.specs.declared.value.Value.{Value}
 use Rattle.do_base.specs.declared.shown.Event.{Event}
 use Rattle.do_base.specs.declared.shown.Event.TheVariants.{Start, Run, Take, Close, Lose, Check}
