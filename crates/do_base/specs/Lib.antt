@@ -3,7 +3,7 @@ pub mod Values
 pub mod Names
 pub mod Induction
 pub mod Equal
-pub mod Lent
+pub mod Borrowed
 pub mod Reserved
 pub mod Bytes
 pub mod Causes

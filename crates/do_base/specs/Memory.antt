@@ -10,7 +10,7 @@ pub record ShelfState : Type 0 where
   pub calls : ℕ
   pub faults : ℕ
 
--- what a sink has taken, the numbers of the puts that fail, and the counts of puts and of faults
+-- the bytes written to a sink, the numbers of the puts that fail, and the counts of puts and of faults
 pub record SinkState : Type 0 where
   pub bytes : List ℕ
   pub fail : List ℕ

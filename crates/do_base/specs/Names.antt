@@ -11,7 +11,7 @@ pub record CallName : Type 0 where
   pub node : ℕ
   pub number : ℕ
 
--- a lend's name: the node that lent and its number there
+-- a loan's name: the node that lent and its number there
 pub record TokenName : Type 0 where
   pub lender : ℕ
   pub number : ℕ

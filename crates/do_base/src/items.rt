@@ -20,9 +20,14 @@ pub struct Items<T> {
 }
 
 /// A list of truth values.
+///
+/// The list keeps no limit on how many there are. The form is this project's own.
 pub type Flags = Items<bool>;
 
-/// A list of places of locals in an invocation, each below 16.
+/// A list of places of locals in an invocation, counted from 0.
+///
+/// An invocation has locals 0 to 15. The list itself keeps no limit on its numbers or on how many
+/// there are. The form is this project's own.
 pub type Locals = Items<u8>;
 
 impl<T> Model for Items<T> {

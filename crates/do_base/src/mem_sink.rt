@@ -55,7 +55,7 @@ impl Sink for MemSink {
 
     ghost faults = { λ s. s.faults };
 
-    /// Takes the whole piece.
+    /// Writes the whole piece.
     ///
     /// `Failed` comes exactly where this put is listed. A put that memory ran out in is not counted,
     /// and leaves all as it was.
@@ -67,7 +67,7 @@ impl Sink for MemSink {
         ensures later { self.old.faults ≤ self.new.faults }
         ensures failed { IsErrOf result PutFail.Failed → Rose self.old.faults self.new.faults }
 
-        // The whole piece is taken.
+        // The whole piece is written.
         ensures whole { IfOk result (λ n. n ≡ length piece.now) }
 
         // One more put, unless memory ran out, and the list of those that fail stays.

@@ -1,11 +1,13 @@
 //! A queue with room that is made beforehand.
-ghost use Rattle.std.specs.Prelude.{◌≡◌, [], ◌∷◌, ◌++◌, ◌+◌, ◌<◌, ◌≤◌, ◌↔◌, length, slice_get, IsTrue, IsNone, OnOk, OnErr, MatchOption};
+ghost use Rattle.std.specs.Prelude.{◌≡◌, [], ◌∷◌, ◌++◌, ◌+◌, ◌-◌, ◌<◌, ◌≤◌, ◌↔◌, length, slice_get, IsTrue, IsNone};
+ghost use Rattle.std.specs.Prelude.{OnOk, OnErr, MatchOption, Some, slice_set, take, remove};
 ghost use Rattle.std.specs.Option.{option_copied};
 
 use crate::items::Items;
 use std::alloc::{AllocError, Global};
 use std::collections::VecDeque;
 use std::marker::Model;
+use std::mem;
 
 /// A `VecDeque` that contracts see as the list of its items, front first, and the room that is left.
 ///
@@ -32,6 +34,9 @@ impl<T> Model for Reserved<T> {
 }
 
 impl<T> Reserved<T> {
+    ghost use Rattle.std.specs.Borrow.{sem};
+    ghost use Rattle.do_base.specs.Borrowed.{BorrowsReserved};
+
     /// An empty queue with no room, for which no memory is taken.
     pub fn new(alloc: Global) -> Reserved<T>
         ensures { result ≡ record { items = []; spare = 0 } }
@@ -122,11 +127,66 @@ impl<T> Reserved<T> {
         Some(oldest)
     }
 
+    /// Borrows an item to be changed in place. What stands there at the end of the borrow stays.
+    pub fn at_mut(&mut self, at: usize) -> &mut T
+        requires { at < length self.old.items }
+        ensures* writes_back { sem 𝓛 (BorrowsReserved T.row self.entry at result) }
+        ensures value { slice_get self.old.items at ≡ Some result.now }
+    {
+        &mut self.items[at]
+    }
+
+    /// Puts an item at a place, and hands back what stood there.
+    pub fn replace(&mut self, at: usize, item: T) -> T
+        requires { at < length self.old.items }
+        ensures before { slice_get self.old.items at ≡ Some result }
+        ensures after { self.new.items ≡ slice_set self.old.items at item }
+        ensures spare { self.new.spare ≡ self.old.spare }
+    {
+        mem::replace(&mut self.items[at], item)
+    }
+
+    /// Takes out the item at a place. Those behind it move one place forward, and there is room for one more.
+    pub fn remove(&mut self, at: usize) -> T
+        requires { at < length self.old.items }
+        ensures item { slice_get self.old.items at ≡ Some result }
+        ensures rest { self.new.items ≡ remove self.old.items at }
+        ensures spare { self.new.spare ≡ self.old.spare + 1 }
+    {
+        let Some(item) = self.items.remove(at) else {
+            unreachable!();
+        };
+        self.spare += 1;
+        item
+    }
+
     /// Gives the items as a list, with no memory and no copy of an item.
     pub fn into_items(self) -> Items<T>
         ensures { result ≡ self.items }
     {
         let Reserved { items, spare: _ } = self;
         Items::from_vec(items.into_vec())
+    }
+}
+
+impl<T: Drop> Reserved<T> {
+    /// Keeps the first `len` items and drops the others, whose places are room again.
+    pub fn truncate(&mut self, len: usize)
+        ensures items { self.new.items ≡ take len self.old.items }
+        ensures spare { self.new.spare ≡ self.old.spare + (length self.old.items - len) }
+    {
+        let more = self.items.len().saturating_sub(len);
+        self.items.truncate(len);
+        self.spare += more;
+    }
+
+    /// Drops every item, and their places are room again.
+    pub fn clear(&mut self)
+        ensures items { self.new.items ≡ [] }
+        ensures spare { self.new.spare ≡ self.old.spare + length self.old.items }
+    {
+        let more = self.items.len();
+        self.items.clear();
+        self.spare += more;
     }
 }

@@ -16,6 +16,8 @@ pub struct NamedFile {
 }
 
 /// A list of files, of which the first of a name counts.
+///
+/// The list keeps no limit on the files or on their bytes. The form is this project's own.
 pub type FileList = Items<NamedFile>;
 
 /// Why a fetch gave no file. The form is this project's own.
@@ -42,7 +44,7 @@ impl From<AllocError> for FetchFail {
 /// A shelf of files, from which a program reads.
 ///
 /// Its ghost members are its files, where it tells them, and a count of its faults, which ends at
-/// 2^64 - 1 and is taken as risen there. The form is this project's own.
+/// 2^64 - 1 and counts as risen there. The form is this project's own.
 pub trait Shelf {
     ghost use Rattle.do_base.specs.declared.shelf.NamedFile.{NamedFile};
     ghost use Rattle.do_base.specs.Files.{FetchCause};

@@ -15,7 +15,7 @@ pub enum Exc {
     TypeFault,
     /// A number or a size is out of its range.
     Range,
-    /// The node has as many invocations as it may have.
+    /// The node has as many invocations as it may have: 256.
     Deep,
     /// The object's class has no method of that selector.
     NotUnderstood,
@@ -23,7 +23,7 @@ pub enum Exc {
     ConnectionDied,
     /// The foreign object is not held by this node.
     NotVended,
-    /// The message is over a limit on messages.
+    /// The message is over a limit on messages. This type sets no limit, and nothing raises it so far.
     TooLarge,
     /// Raised by a method, with a text of its own.
     User(Text),

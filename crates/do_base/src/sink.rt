@@ -2,12 +2,12 @@
 ghost use Rattle.std.specs.Prelude.{◌≡◌, ◌<◌, ◌≤◌, ℕ, List, length, take, IfOk, OnOk, OnErr, IsErrOf};
 ghost use Rattle.std.specs.declared.option.Option.{Option};
 ghost use Rattle.do_base.specs.Causes.{Rose};
-ghost use Rattle.do_base.specs.Bytes.{with_more, HasTaken};
+ghost use Rattle.do_base.specs.Bytes.{with_more, HasWritten};
 
 use crate::items::Items;
 use std::alloc::AllocError;
 
-/// Why a sink took nothing. The form is this project's own.
+/// Why a put wrote nothing. The form is this project's own.
 #[derive(Clone, Copy, Debug, PartialEq, Eq)]
 pub enum PutFail {
     /// The bytes could not be written.
@@ -26,21 +26,23 @@ impl From<AllocError> for PutFail {
     }
 }
 
-/// Which calls are to fail: the first call is 1.
+/// Which calls are to fail, by their numbers, in any order: the first call is 1.
+///
+/// The list keeps no limit, and a number may stand twice. The form is this project's own.
 pub type CallList = Items<u64>;
 
 /// What bytes are written to.
 ///
-/// Its ghost members are the bytes that it has taken so far, where it tells them, and a count of
-/// its faults, which ends at 2^64 - 1 and is taken as risen there. The form is this project's own.
+/// Its ghost members are the bytes that were written so far, where it tells them, and a count of
+/// its faults, which ends at 2^64 - 1 and counts as risen there. The form is this project's own.
 pub trait Sink {
     ghost written: { Self → Option (List ℕ) };
 
     ghost faults: { Self → ℕ };
 
-    /// Takes some of the bytes from the front of a piece that is not empty, and tells how many, one at least.
+    /// Writes bytes from the front of a piece that is not empty, and tells how many, one at least.
     ///
-    /// After an error it has taken none of them. `Failed` comes only where the count of faults rose.
+    /// After an error it has written none of them. `Failed` comes only where the count of faults rose.
     fn put(&mut self, piece: &[u8]) -> Result<usize, PutFail>
         requires { 0 < length piece.now }
         ensures count { IfOk result (λ n. (0 < n) × (n ≤ length piece.now)) }
@@ -52,11 +54,12 @@ pub trait Sink {
 
 /// Writes all of the bytes, in as many pieces as the sink likes.
 ///
-/// After an error the sink has taken some of them from the front, and no others. `Failed` comes
-/// only where its count of faults rose. No bytes are written by no call.
+/// After an error some of them from the front were written, and no others. `Failed` comes only
+/// where the sink's count of faults rose. For no bytes the sink is not called. There is no limit on
+/// how many bytes there are. The form is this project's own.
 pub fn write_all<K: Sink>(out: &mut K, bytes: &[u8]) -> Result<(), PutFail>
     ensures ok { OnOk result (K.written out.new ≡ with_more (K.written out.old) bytes.now) }
-    ensures prefix { HasTaken (K.written out.old) (K.written out.new) bytes.now }
+    ensures prefix { HasWritten (K.written out.old) (K.written out.new) bytes.now }
     ensures later { K.faults out.old ≤ K.faults out.new }
     ensures failed { IsErrOf result PutFail.Failed → Rose (K.faults out.old) (K.faults out.new) }
 {

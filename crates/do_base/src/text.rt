@@ -9,9 +9,9 @@ use std::marker::Model;
 
 /// A text: bytes of any kind, which contracts see as the list of them.
 ///
-/// It keeps the allocator that it was made with, and compares byte by byte. The form is this
-/// project's own. Most calls have the names of those of `Vec`; `from_vec`, `into_vec`, `push_bytes`
-/// and `is` are this project's.
+/// It keeps the allocator that it was made with, and compares byte by byte. The type itself keeps
+/// no limit on how many bytes there are. The form is this project's own. Most calls have the names of
+/// those of `Vec`; `from_vec`, `into_vec`, `push_bytes` and `is` are this project's.
 #[derive(Debug, Drop)]
 pub struct Text {
     bytes: Vec<u8>,

@@ -13,8 +13,8 @@ pub type Values = Items<Value>;
 
 /// A value that objects keep and messages carry.
 ///
-/// Contracts see it as a plain tree. Clones are exact, and `==` is equality of trees. The form is
-/// this project's own.
+/// Contracts see it as a plain tree. Clones are exact, and `==` is equality of trees. The type
+/// itself keeps no limit on texts, lists, nesting or weight. The form is this project's own.
 #[derive(Debug, Drop)]
 pub enum Value {
     /// No value.
@@ -31,8 +31,9 @@ pub enum Value {
 
 /// What a value counts for against the limits on values and messages.
 ///
-/// A nil weighs 1, a number 16, an object 48, a text 16 and its bytes, a list 16 and its items'
-/// weights. It needs a value that weighs less than 2^32, and takes no memory.
+/// A nil weighs 1, a number 16, an object 48, a text 16 and 1 for each byte, a list 16 and its
+/// items' weights. It needs a value that weighs less than 2^32, and takes no memory. The unit and
+/// the numbers are this project's own.
 #[cycle(weight)]
 #[tactic(auto, using(crate::proofs::Weights::weight_of_above))]
 pub fn weight(value: &Value) -> u64
@@ -61,6 +62,9 @@ fn weights(values: &Values) -> u64
 }
 
 /// An exact copy of a value, whose parts keep the allocators of their originals.
+///
+/// No limit is set on the value; the calls go as deep as its lists nest. An error is want of memory
+/// alone. The form is this project's own.
 #[cycle(copy)]
 pub fn copy_value(value: &Value) -> Result<Value, AllocError>
     ensures { IfOk result (λ v. v ≡ value.now) }
@@ -86,6 +90,9 @@ fn copy_values(values: &Values) -> Result<Values, AllocError>
 }
 
 /// Whether two values are the same tree. It takes no memory.
+///
+/// No limit is set on the values; the calls go as deep as their lists nest. Texts are compared byte
+/// by byte, and objects by their names. The form is this project's own.
 #[cycle(same)]
 pub fn same_value(a: &Value, b: &Value) -> bool
     ensures { IsTrue result ↔ (a.now ≡ b.now) }

@@ -4,9 +4,9 @@ use Rattle.std.specs.Prelude.{◌-◌}
 use Rattle.std.proofs.lemmas.Bool.{ltb-true, ltb-false, le-ltb}
 use Rattle.std.proofs.lemmas.List.{append-nil, length-append, take_at, drop_at, take-append-drop, length-take-le}
 use Rattle.do_grammar.specs.Reader.{short, bad, Reader, done, and_then, mapped, bytes_of, times}
-use Rattle.do_grammar.specs.Grammar.{IsBytes, Begins}
+use Rattle.do_grammar.specs.Grammar.{IsBytes, Begins, Takes}
 use Rattle.do_grammar.specs.Forms.{Done, Then, Times, Mapped, Bytes, Either}
-use Rattle.do_grammar.proofs.Exact.{StopsAt, Takes, Reads, IsBytes-append, past_ok, past_err, Reads-done, Reads-then, Reads-as}
+use Rattle.do_grammar.proofs.Exact.{StopsAt, Reads, IsBytes-append, past_ok, past_err, Reads-done, Reads-then, Reads-as}
 
 -- ---- one reader so many times
 

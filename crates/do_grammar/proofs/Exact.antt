@@ -1,7 +1,7 @@
 -- Readers that read a grammar exactly: nothing, one after the other, one byte.
 use Rattle.std.proofs.Common.{◌≡◌, ℕ, suc, Bool, true, false, cond, List, [], ◌∷◌, ◌++◌, length, Result, Ok, Err, refl, sym, ap, subst, ◌∙◌, append_assoc}
 use Rattle.do_grammar.specs.Reader.{Stop, short, bad, Reader, ◌>>=◌, done, and_then, byte_of}
-use Rattle.do_grammar.specs.Grammar.{IsBytes, Begins}
+use Rattle.do_grammar.specs.Grammar.{IsBytes, Begins, Takes}
 use Rattle.do_grammar.specs.Forms.{Done, Then, Byte, Passes}
 
 -- what reading that stops at a byte tells, whatever it gives else
@@ -13,12 +13,6 @@ pub record StopsAt {K A C : Type 0} (G : List ℕ → A → Type 0) (r : List �
   pub place : left ≡ suc (length rest)
   pub goes_on : Begins G front
   pub stays : (after : List ℕ) → r (front ++ byte ∷ after) ≡ Err (bad k (suc (length after)))
-
--- a spelling of the value begins the bytes, and the rest stands behind it
-pub record Takes {A : Type 0} (G : List ℕ → A → Type 0) (bytes : List ℕ) (x : A) (rest : List ℕ) : Type 0 where
-  pub text : List ℕ
-  pub parts : bytes ≡ text ++ rest
-  pub spelled : G text x
 
 -- what is spelled is read whatever stands behind it, and what is read, or stops, tells what is spelled
 pub record Reads {K A : Type 0} (G : List ℕ → A → Type 0) (r : Reader K A) : Type 0 where

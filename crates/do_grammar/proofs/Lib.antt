@@ -1,7 +1,9 @@
 pub mod Exact
 pub mod Combined
 pub mod Place
+pub mod Partly
 pub mod Told
+pub mod ToldRest
 pub mod Num
 pub mod PairExact
 pub mod NumSteps
@@ -16,6 +18,8 @@ pub mod Cut
 pub mod Lines
 pub mod Dec
 pub mod Int
+pub mod ToldDec
 pub mod QuotedExact
+pub mod ToldQuoted
 pub mod QuotedTurns
 pub mod SkippedTurns

@@ -1,9 +1,9 @@
 -- Bytes that lead from state to state as long as they do, and what comes behind.
 use Rattle.std.proofs.Common.{◌≡◌, ℕ, suc, ◌<◌, List, [], ◌∷◌, ◌++◌, length, Ok, Err, refl, ap}
 use Rattle.do_grammar.specs.Reader.{short, bad, Reader, ◌>>=◌, and_then, Step, goes, leaves, fails, by_step, scan, scan_to}
-use Rattle.do_grammar.specs.Grammar.{IsBytes, Begins}
+use Rattle.do_grammar.specs.Grammar.{IsBytes, Begins, Takes}
 use Rattle.do_grammar.specs.Forms.{OnStep, Scans}
-use Rattle.do_grammar.proofs.Exact.{Reads, StopsAt, Takes, Reads-as}
+use Rattle.do_grammar.proofs.Exact.{Reads, StopsAt, Reads-as}
 
 cons_head : (a b : ℕ) (xs ys : List ℕ) → a ∷ xs ≡ b ∷ ys → a ≡ b
 cons_head a b xs ys e = cc

@@ -4,11 +4,11 @@ use Rattle.std.specs.Prelude.{◌⊎◌}
 use Rattle.std.proofs.lemmas.Bool.{eqb-true, eqb-false, eq-eqb, ne_eqb}
 use Rattle.std.proofs.lemmas.List.{length-append}
 use Rattle.do_grammar.specs.Reader.{Stop, short, bad, Reader, ◌>>=◌, until_within, until}
-use Rattle.do_grammar.specs.Grammar.{IsBytes, Begins}
+use Rattle.do_grammar.specs.Grammar.{IsBytes, Begins, Takes}
 use Rattle.do_grammar.specs.Forms.{Untils, Apart}
 use Rattle.do_grammar.proofs.Loop.{with_front, regroup}
 use Rattle.std.proofs.lemmas.List.{append-nil}
-use Rattle.do_grammar.proofs.Exact.{Reads, Takes, Stopped, first, later, bind_ok, bind_err, ok_value, ok_rest, IsBytes-append, IsBytes-rest}
+use Rattle.do_grammar.proofs.Exact.{Reads, Stopped, first, later, bind_ok, bind_err, ok_value, ok_rest, IsBytes-append, IsBytes-rest}
 
 cases_eq : (a b : ℕ) → (a ≡ b) ⊎ (a ≢ b)
 cases_eq a b = go (eqb a b) refl

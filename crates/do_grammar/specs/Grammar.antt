@@ -1,5 +1,5 @@
 -- Grammars: which lists of bytes spell which values, and what can be said of bytes by one.
-use Rattle.std.specs.Prelude.{ℕ, ◌+◌, ◌<◌, List, [], ◌∷◌, ◌++◌, length, take}
+use Rattle.std.specs.Prelude.{◌≡◌, ℕ, ◌+◌, ◌<◌, List, [], ◌∷◌, ◌++◌, length, take}
 
 -- every number is a byte
 abbrev pub IsBytes : List ℕ → Type 0
@@ -11,6 +11,12 @@ pub record Begins {A : Type 0} (G : List ℕ → A → Type 0) (front : List ℕ
   pub more : List ℕ
   pub value : A
   pub spelled : G (front ++ more) value
+
+-- a spelling of the value begins the bytes, and the rest stands behind it
+pub record Takes {A : Type 0} (G : List ℕ → A → Type 0) (bytes : List ℕ) (x : A) (rest : List ℕ) : Type 0 where
+  pub text : List ℕ
+  pub parts : bytes ≡ text ++ rest
+  pub spelled : G text x
 
 -- the bytes are a proper front of a spelling
 pub record IsProperFront {A : Type 0} (G : List ℕ → A → Type 0) (bytes : List ℕ) : Type 0 where

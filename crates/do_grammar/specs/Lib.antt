@@ -4,6 +4,8 @@ pub mod Forms
 pub mod Num
 pub mod Gives
 pub mod Tells
+pub mod TellsRest
+pub mod Partly
 pub mod Words
 pub mod Lines
 pub mod Dec

@@ -1,8 +1,9 @@
 -- Texts in quotes, in which each byte stands for itself or as `\` and two hexadecimal digits.
-use Rattle.std.specs.Prelude.{ℕ, zero, suc, ◌+◌, ◌-◌, ◌*◌, ◌/◌, ◌%◌, ◌==◌, ◌&&◌, Bool, not, nat_le, nat_lt, List, [], ◌∷◌, ◌++◌, Option, Some, None, if◌then◌else◌}
+use Rattle.std.specs.Prelude.{◌≡◌, ℕ, zero, suc, ◌+◌, ◌-◌, ◌*◌, ◌/◌, ◌%◌, ◌≤◌, ◌==◌, ◌&&◌, Bool, not, nat_le, nat_lt, List, [], ◌∷◌, ◌++◌, length, Option, Some, None, if◌then◌else◌}
 use Rattle.std.specs.List.{flat_map}
 use Rattle.std.specs.Borrow.{Bor}
 use Rattle.do_grammar.specs.Words.{◌>>?◌}
+use Rattle.do_grammar.specs.Grammar.{IsBytes}
 
 -- a byte that stands for itself: from the space to `~`, but neither `"` nor `\`
 abbrev pub is_plain : ℕ → Bool
@@ -19,6 +20,12 @@ quoted_byte b = if is_plain b then b ∷ [] else (92 ∷ hex_digit (b / 16) ∷ 
 -- a text in quotes
 abbrev pub quoted : List ℕ → List ℕ
 quoted text = 34 ∷ (flat_map quoted_byte text ++ 34 ∷ [])
+
+-- the spelling in quotes of a text within a limit
+pub record Quoted (limit : ℕ) (text bytes : List ℕ) : Type 0 where
+  pub spelled : text ≡ quoted bytes
+  pub within : length bytes ≤ limit
+  pub small : IsBytes bytes
 
 -- the number that a hexadecimal digit is worth
 abbrev pub hex_value : ℕ → Option ℕ

@@ -1,7 +1,10 @@
-ghost use Rattle.std.specs.Prelude.{◌≡◌, ◌++◌, OnOk};
-ghost use Rattle.do_grammar.specs.Num.{counted, counted_at};
+ghost use Rattle.std.specs.Prelude.{◌≡◌, ◌++◌, List, ℕ, OnOk, OnErr};
+ghost use Rattle.do_grammar.specs.Num.{counted, counted_at, Text as TextSpelling};
 ghost use Rattle.do_grammar.specs.Reader.{plain};
 ghost use Rattle.do_grammar.specs.Gives.{Gives};
+ghost use Rattle.do_grammar.specs.Grammar.{Takes};
+ghost use Rattle.do_grammar.specs.TellsRest.{TellsRest, FindsRest};
+ghost use Rattle.do_grammar.specs.Partly.{AddedPartly};
 
 use crate::fault::ReadError;
 use crate::number::{num_of, push_num};
@@ -10,11 +13,22 @@ use std::alloc::{AllocError, Global};
 
 /// The text that begins the bytes, of at most `limit` bytes, and the bytes behind it.
 ///
-/// A text is the number of its bytes and then these. `Bad` is at the first byte of that number
-/// with which none up to the limit goes on, and `Short` where the bytes end before the text does.
-/// The form is this project's own.
-#[tactic(auto, unfolding(crate::specs::Num::counted_at))]
+/// A text is the number of its bytes and then these. The form is this project's own.
+///
+/// `Bad` is at the first byte of that number with which none up to the limit goes on, `Short`
+/// where the bytes end before the text does, and `Memory` where none is left for the text.
 pub fn text_of(alloc: Global, bytes: &[u8], limit: u64) -> Result<(Text, &[u8]), ReadError>
+    ensures gives { Gives (λ x. (x.0, x.1.now)) result (counted_at plain limit bytes.now) }
+    ensures exact { TellsRest (TextSpelling limit) (λ t. t) bytes.now result }
+    ensures only { (t rest : List ℕ) → Takes (TextSpelling limit) bytes.now t rest
+        → FindsRest (λ t. t) t rest result }
+{
+    front_text(alloc, bytes, limit)
+}
+
+/// What the reader of specs/ gives.
+#[tactic(auto, unfolding(crate::specs::Num::counted_at))]
+fn front_text(alloc: Global, bytes: &[u8], limit: u64) -> Result<(Text, &[u8]), ReadError>
     ensures { Gives (λ x. (x.0, x.1.now)) result (counted_at plain limit bytes.now) }
 {
     let (n, rest) = num_of(bytes, 0, limit)?;
@@ -28,9 +42,11 @@ pub fn text_of(alloc: Global, bytes: &[u8], limit: u64) -> Result<(Text, &[u8]),
 
 /// Adds a text: the number of its bytes, and then these.
 ///
-/// Where memory ran out, a part of it may have been added.
+/// A text of any length is added. The form is this project's own. `AllocError` comes where memory
+/// ran out, and a front of the text's spelling may then have been added.
 pub fn push_text(out: &mut Text, text: &[u8]) -> Result<(), AllocError>
-    ensures { OnOk result (out.new ≡ out.old ++ counted text.now) }
+    ensures ok { OnOk result (out.new ≡ out.old ++ counted text.now) }
+    ensures partly { OnErr result (AddedPartly out.old (counted text.now) out.new) }
 {
     push_num(out, text.len() as u64)?;
     out.push_bytes(text)

@@ -1,6 +1,8 @@
-ghost use Rattle.std.specs.Prelude.{◌≡◌, ◌≤◌, ◌^◌, ◌++◌, OnOk, IfSome};
+ghost use Rattle.std.specs.Prelude.{◌≡◌, ◌≤◌, ◌^◌, ◌++◌, ℕ, ℤ, Some, FitsSigned, OnOk, OnErr, IfSome};
+ghost use Rattle.std.specs.Int.{w64};
 ghost use Rattle.std.specs.Fmt.{decimal, signed_decimal};
 ghost use Rattle.do_grammar.specs.Dec.{dec_from, dec_in, int_in, minus};
+ghost use Rattle.do_grammar.specs.Partly.{AddedPartly};
 
 use crate::byte::split_byte;
 use do_base::Text;
@@ -9,10 +11,20 @@ use std::alloc::AllocError;
 /// The number between two bounds that all the bytes spell in decimal digits.
 ///
 /// A zero stands in front of no other digit: `0` alone is zero, and `07` is no spelling. None
-/// where the bytes are no such spelling or the number is outside the bounds. The form is this
-/// project's own.
-#[tactic(auto, unfolding(crate::specs::Dec::dec_in))]
+/// where the bytes are no such spelling or the number is outside the bounds, which have 64 bits
+/// at most. The form is this project's own.
 pub fn dec_of(bytes: &[u8], low: u64, high: u64) -> Option<u64>
+    ensures value { result ≡ dec_in low high bytes.now }
+    ensures within { IfSome result (λ n. (low ≤ n) × (n ≤ high)) }
+    ensures exact { IfSome result (λ n. bytes.now ≡ decimal n) }
+    ensures only { (n : ℕ) → bytes.now ≡ decimal n → low ≤ n → n ≤ high → result ≡ Some n }
+{
+    whole_dec(bytes, low, high)
+}
+
+/// What the reader of specs/ gives.
+#[tactic(auto, unfolding(crate::specs::Dec::dec_in))]
+fn whole_dec(bytes: &[u8], low: u64, high: u64) -> Option<u64>
     ensures value { result ≡ dec_in low high bytes.now }
     ensures within { IfSome result (λ n. (low ≤ n) × (n ≤ high)) }
 {
@@ -49,10 +61,19 @@ fn number_from(bytes: &[u8], high: u64, n: u64) -> Option<u64>
 
 /// The signed number that all the bytes spell: decimal digits, behind a `-` where it is below 0.
 ///
-/// None for `-0`, for a zero in front of other digits, and where the number does not fit 64 bits.
-/// The form is this project's own.
-#[tactic(auto, unfolding(crate::specs::Dec::int_in))]
+/// None where the bytes are no such spelling, as `-0`, `+1` and a zero in front of other digits,
+/// and where the number does not fit 64 bits. The form is this project's own.
 pub fn int_of(bytes: &[u8]) -> Option<i64>
+    ensures value { result ≡ int_in bytes.now }
+    ensures exact { IfSome result (λ z. bytes.now ≡ signed_decimal z) }
+    ensures only { (z : ℤ) → bytes.now ≡ signed_decimal z → FitsSigned w64 z → result ≡ Some z }
+{
+    whole_int(bytes)
+}
+
+/// What the reader of specs/ gives.
+#[tactic(auto, unfolding(crate::specs::Dec::int_in))]
+fn whole_int(bytes: &[u8]) -> Option<i64>
     ensures { result ≡ int_in bytes.now }
 {
     let (first, digits) = split_byte(bytes)?;
@@ -76,9 +97,11 @@ fn below_zero(n: u64) -> i64
 
 /// Adds the decimal digits of a number, with no zero in front.
 ///
-/// Where memory ran out, a part of them may have been added.
+/// There are at most 20. The form is this project's own. `AllocError` comes where memory ran out,
+/// and a front of them may then have been added.
 pub fn push_dec(out: &mut Text, n: u64) -> Result<(), AllocError>
-    ensures { OnOk result (out.new ≡ out.old ++ decimal n) }
+    ensures ok { OnOk result (out.new ≡ out.old ++ decimal n) }
+    ensures partly { OnErr result (AddedPartly out.old (decimal n) out.new) }
 {
     if n < 10 {
         return out.push(b'0' + n as u8);
@@ -89,9 +112,11 @@ pub fn push_dec(out: &mut Text, n: u64) -> Result<(), AllocError>
 
 /// Adds the decimal digits of a signed number, behind a `-` where it is below 0.
 ///
-/// Where memory ran out, a part of them may have been added.
+/// There are at most 19. The form is this project's own. `AllocError` comes where memory ran out,
+/// and a front of them may then have been added.
 pub fn push_int(out: &mut Text, x: i64) -> Result<(), AllocError>
-    ensures { OnOk result (out.new ≡ out.old ++ signed_decimal x) }
+    ensures ok { OnOk result (out.new ≡ out.old ++ signed_decimal x) }
+    ensures partly { OnErr result (AddedPartly out.old (signed_decimal x) out.new) }
 {
     if x >= 0 {
         push_dec(out, x as u64)

@@ -2,7 +2,9 @@ ghost use Rattle.std.specs.Prelude.{◌≡◌, ◌<◌, ◌≤◌, [], ◌∷◌
 ghost use Rattle.do_grammar.specs.Words.{word, part, text_view, same};
 ghost use Rattle.do_grammar.specs.Lines.{cut};
 
-/// The bytes before the first of a byte, and those after it; none where it stands nowhere.
+/// The bytes before the first byte `end`, and those after it; none where `end` stands nowhere.
+///
+/// The form is this project's own. Bytes of any length are read, and no memory is taken.
 #[tactic(auto, using(crate::proofs::Words::turns))]
 pub fn word_of(bytes: &[u8], end: u8) -> Option<(&[u8], &[u8])>
     ensures { text_view result ≡ word end bytes.now }
@@ -15,8 +17,10 @@ pub fn word_of(bytes: &[u8], end: u8) -> Option<(&[u8], &[u8])>
     None
 }
 
-/// The bytes before the first of a byte, and those from it on; where it stands nowhere all the
-/// bytes and none.
+/// The bytes before the first byte `end`, and those from it on; where `end` stands nowhere all
+/// the bytes and none.
+///
+/// The form is this project's own. Bytes of any length are read, and no memory is taken.
 #[tactic(auto, using(crate::proofs::Parts::turns))]
 pub fn part_of(bytes: &[u8], end: u8) -> (&[u8], &[u8])
     ensures before { result.0.now ≡ (part end bytes.now).0 }
@@ -31,7 +35,10 @@ pub fn part_of(bytes: &[u8], end: u8) -> (&[u8], &[u8])
 }
 
 /// The first line of a text without its line feed, whether it has one, and the bytes after it;
-/// none where the text is empty. Only a text's last line may have no line feed.
+/// none where the text is empty.
+///
+/// A line feed is the byte 10, and only a text's last line may have none. The form is this
+/// project's own. A line of any length is read, and no memory is taken.
 #[tactic(auto, using(crate::proofs::Cut::cutting))]
 pub fn line_of(bytes: &[u8]) -> Option<(&[u8], bool, &[u8])>
     ensures line { MatchOption result (cut bytes.now ≡ []) (λ l. cut bytes.now ≡ record { text = l.0.now; fed = l.1 } ∷ cut l.2.now) }
@@ -46,7 +53,7 @@ pub fn line_of(bytes: &[u8]) -> Option<(&[u8], bool, &[u8])>
     }
 }
 
-/// Whether two texts are equal.
+/// Whether two texts are equal, byte by byte.
 #[tactic(auto, using(crate::proofs::Words::same_is))]
 pub fn is_text(a: &[u8], b: &[u8]) -> bool
     ensures { result ≡ same a.now b.now }

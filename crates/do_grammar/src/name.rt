@@ -73,6 +73,8 @@ fn ends_in_colon(bytes: &[u8]) -> bool
 }
 
 /// The number of colons, which is the number of a selector's arguments.
+///
+/// The form of selectors is that of `is_selector`; here any bytes are counted.
 pub fn colons_in(bytes: &[u8]) -> usize
     ensures { result ≡ colons bytes.now }
 {

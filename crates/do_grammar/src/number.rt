@@ -1,7 +1,10 @@
-ghost use Rattle.std.specs.Prelude.{◌≡◌, ◌+◌, ◌<◌, ◌≤◌, ◌^◌, ◌++◌, [], ◌∷◌, length, OnOk};
-ghost use Rattle.do_grammar.specs.Num.{span, least_of, digits, digits_at, num, num_at, counted, counted_at, size, zigzag, signed_at};
+ghost use Rattle.std.specs.Prelude.{◌≡◌, ◌+◌, ◌<◌, ◌≤◌, ◌^◌, ◌++◌, [], ◌∷◌, length, ℕ, List, OnOk, OnErr};
+ghost use Rattle.do_grammar.specs.Num.{span, least_of, digits, digits_at, num, num_at, size, Num};
 ghost use Rattle.do_grammar.specs.Reader.{plain};
 ghost use Rattle.do_grammar.specs.Gives.{Gives};
+ghost use Rattle.do_grammar.specs.Grammar.{Takes};
+ghost use Rattle.do_grammar.specs.TellsRest.{TellsRest, FindsRest};
+ghost use Rattle.do_grammar.specs.Partly.{AddedPartly};
 
 use crate::fault::ReadError;
 use do_base::Text;
@@ -69,11 +72,23 @@ fn digits_of(
 /// The number between two bounds that begins the bytes, and the bytes behind it.
 ///
 /// A number is one byte n, at most 8, and the n bytes of the number, the highest first, of which
-/// the first is not 0; zero is a single byte 0. `Bad` is at the first byte with which no number
-/// between the bounds goes on, and `Short` where the bytes end before one does. The form is this
-/// project's own.
-#[tactic(auto, unfolding(crate::specs::Num::num_at))]
+/// the first is not 0; zero is a single byte 0. The form is this project's own.
+///
+/// `Bad` is at the first byte with which no number between the bounds goes on, and `Short` where
+/// the bytes end before such a number does. No memory is taken.
 pub fn num_of(bytes: &[u8], low: u64, high: u64) -> Result<(u64, &[u8]), ReadError>
+    requires { low ≤ high }
+    ensures gives { Gives (λ x. (x.0, x.1.now)) result (num_at plain low high bytes.now) }
+    ensures exact { TellsRest (Num low high) (λ n. n) bytes.now result }
+    ensures only { (n : ℕ) (rest : List ℕ) → Takes (Num low high) bytes.now n rest
+        → FindsRest (λ n. n) n rest result }
+{
+    front_num(bytes, low, high)
+}
+
+/// What the reader of specs/ gives.
+#[tactic(auto, unfolding(crate::specs::Num::num_at))]
+fn front_num(bytes: &[u8], low: u64, high: u64) -> Result<(u64, &[u8]), ReadError>
     ensures { Gives (λ x. (x.0, x.1.now)) result (num_at plain low high bytes.now) }
 {
     let [n, rest @ ..] = bytes else {
@@ -118,7 +133,8 @@ fn bytes_needed(x: u64) -> u8
 fn push_digits(out: &mut Text, k: u8, x: u64) -> Result<(), AllocError>
     requires few { k ≤ 8 }
     requires fits { x < span k }
-    ensures { OnOk result (out.new ≡ out.old ++ digits k x) }
+    ensures ok { OnOk result (out.new ≡ out.old ++ digits k x) }
+    ensures partly { OnErr result (AddedPartly out.old (digits k x) out.new) }
 {
     if k == 0 {
         return Ok(());
@@ -130,10 +146,12 @@ fn push_digits(out: &mut Text, k: u8, x: u64) -> Result<(), AllocError>
 
 /// Adds a number: one byte that says how many follow, and those bytes, the highest first.
 ///
-/// Where memory ran out, a part of it may have been added.
+/// It has at most 9 bytes. The form is this project's own. `AllocError` comes where memory ran
+/// out, and a front of the number's bytes may then have been added.
 #[tactic(auto, unfolding(crate::specs::Num::num))]
 pub fn push_num(out: &mut Text, x: u64) -> Result<(), AllocError>
-    ensures { OnOk result (out.new ≡ out.old ++ num x) }
+    ensures ok { OnOk result (out.new ≡ out.old ++ num x) }
+    ensures partly { OnErr result (AddedPartly out.old (num x) out.new) }
 {
     let n = bytes_needed(x);
     out.push(n)?;

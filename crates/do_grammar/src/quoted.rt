@@ -1,6 +1,8 @@
-ghost use Rattle.std.specs.Prelude.{◌≡◌, ◌<◌, ◌+◌, ◌*◌, ◌++◌, IfOk, IfSome, OnOk};
+ghost use Rattle.std.specs.Prelude.{◌≡◌, ◌<◌, ◌+◌, ◌*◌, ◌++◌, ℕ, List, Some, IfOk, IfSome, OnOk, OnErr};
 ghost use Rattle.std.specs.List.{flat_map};
-ghost use Rattle.do_grammar.specs.Quoted.{is_plain, hex_digit, hex_value, quoted_byte, quoted, escape_at, piece_at, closing, denoted, quoted_at, front_view, slice_view};
+ghost use Rattle.do_grammar.specs.Quoted.{is_plain, hex_digit, hex_value, quoted_byte, quoted, escape_at, piece_at, closing, denoted, quoted_at, front_view, slice_view, Quoted};
+ghost use Rattle.do_grammar.specs.Grammar.{Takes};
+ghost use Rattle.do_grammar.specs.Partly.{AddedPartly};
 
 use crate::byte::split_byte;
 use do_base::Text;
@@ -10,9 +12,24 @@ use std::alloc::{AllocError, Global};
 /// that denotes at most `limit` bytes.
 ///
 /// A byte from the space to `~` other than `"` and `\` stands for itself, and every other byte is
-/// `\` and two hexadecimal digits in lower case. The form is this project's own.
-#[tactic(auto, unfolding(crate::specs::Quoted::quoted_at))]
+/// `\` and two hexadecimal digits in lower case. The form is this project's own. `AllocError`
+/// comes where no memory is left for the text.
 pub fn quoted_of(
+    alloc: Global,
+    bytes: &[u8],
+    limit: usize,
+) -> Result<Option<(Text, &[u8])>, AllocError>
+    ensures value { IfOk result (λ text. front_view text ≡ quoted_at limit bytes.now) }
+    ensures exact { IfOk result (λ text. IfSome text (λ x. Takes (Quoted limit) bytes.now x.0 x.1.now)) }
+    ensures only { (text rest : List ℕ) → Takes (Quoted limit) bytes.now text rest
+        → IfOk result (λ found. front_view found ≡ Some (text, rest)) }
+{
+    front_quoted(alloc, bytes, limit)
+}
+
+/// What the reader of specs/ gives.
+#[tactic(auto, unfolding(crate::specs::Quoted::quoted_at))]
+fn front_quoted(
     alloc: Global,
     bytes: &[u8],
     limit: usize,
@@ -117,9 +134,11 @@ fn hex_digit(n: u8) -> u8
 
 /// Adds a text in quotes, a byte that does not stand for itself as `\` and two hexadecimal digits.
 ///
-/// Where memory ran out, a part of it may have been added.
+/// A text of any length is added. The form is this project's own. `AllocError` comes where memory
+/// ran out, and a front of the text's spelling may then have been added.
 pub fn push_quoted(out: &mut Text, text: &[u8]) -> Result<(), AllocError>
-    ensures { OnOk result (out.new ≡ out.old ++ quoted text.now) }
+    ensures ok { OnOk result (out.new ≡ out.old ++ quoted text.now) }
+    ensures partly { OnErr result (AddedPartly out.old (quoted text.now) out.new) }
 {
     out.push(b'"')?;
     push_inside(out, text)?;
@@ -127,7 +146,8 @@ pub fn push_quoted(out: &mut Text, text: &[u8]) -> Result<(), AllocError>
 }
 
 fn push_inside(out: &mut Text, text: &[u8]) -> Result<(), AllocError>
-    ensures { OnOk result (out.new ≡ out.old ++ flat_map quoted_byte text.now) }
+    ensures ok { OnOk result (out.new ≡ out.old ++ flat_map quoted_byte text.now) }
+    ensures partly { OnErr result (AddedPartly out.old (flat_map quoted_byte text.now) out.new) }
 {
     for byte in text {
         push_byte(out, *byte)?;
@@ -136,7 +156,8 @@ fn push_inside(out: &mut Text, text: &[u8]) -> Result<(), AllocError>
 }
 
 fn push_byte(out: &mut Text, byte: u8) -> Result<(), AllocError>
-    ensures { OnOk result (out.new ≡ out.old ++ quoted_byte byte) }
+    ensures ok { OnOk result (out.new ≡ out.old ++ quoted_byte byte) }
+    ensures partly { OnErr result (AddedPartly out.old (quoted_byte byte) out.new) }
 {
     if is_plain(byte) {
         return out.push(byte);

@@ -1,7 +1,10 @@
-ghost use Rattle.std.specs.Prelude.{◌≡◌, ◌++◌, OnOk};
-ghost use Rattle.do_grammar.specs.Num.{num, zigzag, signed_at};
+ghost use Rattle.std.specs.Prelude.{◌≡◌, ◌++◌, ℤ, List, ℕ, OnOk, OnErr};
+ghost use Rattle.do_grammar.specs.Num.{num, zigzag, signed_at, Signed};
 ghost use Rattle.do_grammar.specs.Reader.{plain};
 ghost use Rattle.do_grammar.specs.Gives.{Gives};
+ghost use Rattle.do_grammar.specs.Grammar.{Takes};
+ghost use Rattle.do_grammar.specs.TellsRest.{TellsRest, FindsRest};
+ghost use Rattle.do_grammar.specs.Partly.{AddedPartly};
 
 use crate::fault::ReadError;
 use crate::number::{num_of, push_num};
@@ -10,10 +13,23 @@ use std::alloc::AllocError;
 
 /// The signed number that begins the bytes, and the bytes behind it.
 ///
-/// It is spelled as an unsigned one: twice the number from 0 on, and below 0 twice its size less
-/// one. `Bad` and `Short` are as for that number. The form is this project's own.
-#[tactic(auto, unfolding(crate::specs::Num::signed_at))]
+/// It is spelled as an unsigned one of 64 bits: twice the number from 0 on, and below 0 twice its
+/// size less one. The form is this project's own.
+///
+/// `Bad` is at the first byte with which no such number goes on, and `Short` where the bytes end
+/// before one does. No memory is taken.
 pub fn signed_of(bytes: &[u8]) -> Result<(i64, &[u8]), ReadError>
+    ensures gives { Gives (λ x. (x.0, x.1.now)) result (signed_at plain bytes.now) }
+    ensures exact { TellsRest Signed (λ z. z) bytes.now result }
+    ensures only { (z : ℤ) (rest : List ℕ) → Takes Signed bytes.now z rest
+        → FindsRest (λ z. z) z rest result }
+{
+    front_signed(bytes)
+}
+
+/// What the reader of specs/ gives.
+#[tactic(auto, unfolding(crate::specs::Num::signed_at))]
+fn front_signed(bytes: &[u8]) -> Result<(i64, &[u8]), ReadError>
     ensures { Gives (λ x. (x.0, x.1.now)) result (signed_at plain bytes.now) }
 {
     let (n, rest) = num_of(bytes, 0, u64::MAX)?;
@@ -28,9 +44,11 @@ pub fn signed_of(bytes: &[u8]) -> Result<(i64, &[u8]), ReadError>
 /// Adds a signed number, spelled as twice the number from 0 on, and below 0 as twice its size less
 /// one.
 ///
-/// Where memory ran out, a part of it may have been added.
+/// It has at most 9 bytes. The form is this project's own. `AllocError` comes where memory ran
+/// out, and a front of the number's bytes may then have been added.
 pub fn push_signed(out: &mut Text, x: i64) -> Result<(), AllocError>
-    ensures { OnOk result (out.new ≡ out.old ++ num (zigzag x)) }
+    ensures ok { OnOk result (out.new ≡ out.old ++ num (zigzag x)) }
+    ensures partly { OnErr result (AddedPartly out.old (num (zigzag x)) out.new) }
 {
     if x >= 0 {
         push_num(out, 2 * (x as u64))

@@ -1,14 +1,28 @@
-ghost use Rattle.std.specs.Prelude.{◌≡◌};
+ghost use Rattle.std.specs.Prelude.{◌≡◌, ℕ, List, Some, IfSome};
 ghost use Rattle.std.specs.Option.{option_map};
-ghost use Rattle.do_grammar.specs.Quoted.{denoted, quoted_at, slice_view};
+ghost use Rattle.do_grammar.specs.Quoted.{denoted, quoted_at, slice_view, Quoted};
+ghost use Rattle.do_grammar.specs.Grammar.{Takes};
 
 use crate::byte::split_byte;
 use crate::quoted::{closing_of, piece_of};
 
 /// The bytes behind the text in quotes that begins the bytes; none where none begins them that
-/// denotes at most `limit` bytes. The text itself is not made, so no memory is taken.
-#[tactic(auto, unfolding(crate::specs::Quoted::quoted_at))]
+/// denotes at most `limit` bytes.
+///
+/// The form is that of `quoted_of`, this project's own. The text itself is not made, so no memory
+/// is taken.
 pub fn skip_quoted(bytes: &[u8], limit: usize) -> Option<&[u8]>
+    ensures value { slice_view result ≡ option_map (λ x. x.1) (quoted_at limit bytes.now) }
+    ensures exact { IfSome result (λ rest. (text : List ℕ) × Takes (Quoted limit) bytes.now text rest.now) }
+    ensures only { (text rest : List ℕ) → Takes (Quoted limit) bytes.now text rest
+        → slice_view result ≡ Some rest }
+{
+    behind_quoted(bytes, limit)
+}
+
+/// What the reader of specs/ gives.
+#[tactic(auto, unfolding(crate::specs::Quoted::quoted_at))]
+fn behind_quoted(bytes: &[u8], limit: usize) -> Option<&[u8]>
     ensures { slice_view result ≡ option_map (λ x. x.1) (quoted_at limit bytes.now) }
 {
     let (first, behind) = split_byte(bytes)?;

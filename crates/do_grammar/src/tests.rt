@@ -1,3 +1,5 @@
+ghost use Rattle.std.specs.Prelude.{◌≤◌};
+
 use super::*;
 use do_base::Text;
 use std::alloc::AllocError;
@@ -14,7 +16,9 @@ fn number(bytes: &[u8]) -> Option<(u64, usize)> {
 }
 
 /// Where reading a number between two bounds has to stop.
-fn stop(bytes: &[u8], low: u64, high: u64) -> Option<usize> {
+fn stop(bytes: &[u8], low: u64, high: u64) -> Option<usize>
+    requires { low ≤ high }
+{
     match num_of(bytes, low, high) {
         Err(ReadError::Bad(left)) if left <= bytes.len() => Some(bytes.len() - left),
         _ => None,

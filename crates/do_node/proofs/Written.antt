@@ -1,7 +1,7 @@
 -- What was sent, what waits and what is to come, which make up a whole.
 use Rattle.std.proofs.Common.{◌≡◌, ℕ, ◌+◌, ◌≤◌, List, [], ◌++◌, length, take, Option, Some, None, refl, sym, ap, ◌∙◌, subst, suc, ◌∷◌, append_assoc, zero-add, length-append, arith}
 use Rattle.std.proofs.lemmas.Grind.{common_steps}
-use Rattle.do_base.specs.Bytes.{with_more, HasTaken}
+use Rattle.do_base.specs.Bytes.{with_more, HasWritten}
 
 -- a sink took some bytes, and they, what waits and the rest are the whole
 pub record IsAhead (before now : Option (List ℕ)) (waiting rest whole : List ℕ) : Type 0 where
@@ -52,7 +52,7 @@ ahead_sent before now then waiting sent left rest whole took parts ahead = recor
 }
 
 -- what was sent begins the whole
-pub ahead_prefix : (before now : Option (List ℕ)) (waiting rest whole : List ℕ) → IsAhead before now waiting rest whole → HasTaken before now whole
+pub ahead_prefix : (before now : Option (List ℕ)) (waiting rest whole : List ℕ) → IsAhead before now waiting rest whole → HasWritten before now whole
 ahead_prefix before now waiting rest whole ahead =
     let split : ahead.sent ++ (waiting ++ rest) ≡ whole = sym (append_assoc ahead.sent waiting rest) ∙ ahead.joins in
     let within : length ahead.sent ≤ length whole = subst (λ (w : List ℕ). length ahead.sent ≤ length w) split (omega (arith, length-append ahead.sent (waiting ++ rest))) in
@@ -60,8 +60,8 @@ ahead_prefix before now waiting rest whole ahead =
     (length ahead.sent, within, ahead.written ∙ ap (λ w. with_more before w) front)
 
 -- and so it does behind some of what waits
-pub ahead_part : (before now then : Option (List ℕ)) (waiting rest whole : List ℕ) → HasTaken now then waiting
-    → IsAhead before now waiting rest whole → HasTaken before then whole
+pub ahead_part : (before now then : Option (List ℕ)) (waiting rest whole : List ℕ) → HasWritten now then waiting
+    → IsAhead before now waiting rest whole → HasWritten before then whole
 ahead_part before now then waiting rest whole taken ahead =
     let m = length ahead.sent + taken.0 in
     let split : ahead.sent ++ (waiting ++ rest) ≡ whole = sym (append_assoc ahead.sent waiting rest) ∙ ahead.joins in

@@ -1,7 +1,7 @@
 -- What a run answers and writes.
 use Rattle.std.specs.Prelude.{◌≡◌, ℕ, ◌⊎◌, List, Option, Some}
 use Rattle.std.specs.Option.{IsSomeAnd}
-use Rattle.do_base.specs.Bytes.{with_more, HasTaken}
+use Rattle.do_base.specs.Bytes.{with_more, HasWritten}
 use Rattle.do_base.specs.declared.shelf.NamedFile.{NamedFile}
 use Rattle.do_sched.specs.declared.line.Line.{Line}
 use Rattle.do_node.specs.Words.{schedule_named}
@@ -26,7 +26,7 @@ pub record WritesAll (told : Option (List NamedFile)) (words : List (List ℕ)) 
 pub record WritesSome (told : Option (List NamedFile)) (words : List (List ℕ)) (old new : Option (List ℕ)) : Type 0 where
   pub lines : List Line
   pub read : IsSomeAnd (schedule_named words) (λ name. IsRead told name lines)
-  pub written : HasTaken old new (counter_transcript lines)
+  pub written : HasWritten old new (counter_transcript lines)
 
 -- the answer is this one, unless the shelf could not be read or memory ran out
 abbrev pub OrUnread : Status → Status → Type 0

@@ -1,5 +1,5 @@
 ghost use Rattle.std.specs.Prelude.{◌≡◌, ◌<◌, ◌≤◌, ◌++◌, [], List, ℕ, length, OnOk, IsErrOf};
-ghost use Rattle.do_base.specs.Bytes.{with_more, HasTaken};
+ghost use Rattle.do_base.specs.Bytes.{with_more, HasWritten};
 ghost use Rattle.do_base.specs.Causes.{Rose};
 
 use do_base::{PutFail, Sink, Text, write_all};
@@ -11,7 +11,7 @@ const JOINED: usize = 65_536;
 pub fn flush<K: Sink>(waiting: &mut Text, out: &mut K) -> Result<(), PutFail>
     ensures emptied { OnOk result (waiting.new ≡ []) }
     ensures ok { OnOk result (K.written out.new ≡ with_more (K.written out.old) waiting.old) }
-    ensures prefix { HasTaken (K.written out.old) (K.written out.new) waiting.old }
+    ensures prefix { HasWritten (K.written out.old) (K.written out.new) waiting.old }
     ensures later { K.faults out.old ≤ K.faults out.new }
     ensures failed { IsErrOf result PutFail.Failed → Rose (K.faults out.old) (K.faults out.new) }
 {
@@ -24,7 +24,7 @@ pub fn flush<K: Sink>(waiting: &mut Text, out: &mut K) -> Result<(), PutFail>
 pub fn flush_if_long<K: Sink>(waiting: &mut Text, out: &mut K) -> Result<(), PutFail>
     ensures short { OnOk result (length waiting.new < JOINED) }
     ensures ok { OnOk result ((sent : List ℕ) × (K.written out.new ≡ with_more (K.written out.old) sent) × (sent ++ waiting.new ≡ waiting.old)) }
-    ensures prefix { HasTaken (K.written out.old) (K.written out.new) waiting.old }
+    ensures prefix { HasWritten (K.written out.old) (K.written out.new) waiting.old }
     ensures later { K.faults out.old ≤ K.faults out.new }
     ensures failed { IsErrOf result PutFail.Failed → Rose (K.faults out.old) (K.faults out.new) }
 {

@@ -1,5 +1,5 @@
 ghost use Rattle.std.specs.Prelude.{◌≡◌, ◌+◌, ◌≤◌, ◌^◌, OnOk, IsErrOf};
-ghost use Rattle.do_base.specs.Bytes.{with_more, HasTaken};
+ghost use Rattle.do_base.specs.Bytes.{with_more, HasWritten};
 ghost use Rattle.do_base.specs.Causes.{Rose};
 ghost use Rattle.do_sched.specs.Spelling.{steps_of};
 ghost use Rattle.do_node.specs.Replayed.{transcript_from, counter_transcript};
@@ -20,7 +20,7 @@ pub fn write_transcript<K: Sink>(
 ) -> Result<(), PutFail>
     requires { local.old.events + steps_of lines ≤ 2 ^ 40 }
     ensures ok { OnOk result (K.written out.new ≡ with_more (K.written out.old) (transcript_from local.old lines)) }
-    ensures prefix { HasTaken (K.written out.old) (K.written out.new) (transcript_from local.old lines) }
+    ensures prefix { HasWritten (K.written out.old) (K.written out.new) (transcript_from local.old lines) }
     ensures later { K.faults out.old ≤ K.faults out.new }
     ensures failed { IsErrOf result PutFail.Failed → Rose (K.faults out.old) (K.faults out.new) }
 {
@@ -39,7 +39,7 @@ pub fn write_transcript<K: Sink>(
 pub fn replay_counter<K: Sink>(alloc: Global, lines: Lines, out: &mut K) -> Result<(), PutFail>
     requires { steps_of lines ≤ 2 ^ 40 }
     ensures ok { OnOk result (K.written out.new ≡ with_more (K.written out.old) (counter_transcript lines)) }
-    ensures prefix { HasTaken (K.written out.old) (K.written out.new) (counter_transcript lines) }
+    ensures prefix { HasWritten (K.written out.old) (K.written out.new) (counter_transcript lines) }
     ensures later { K.faults out.old ≤ K.faults out.new }
     ensures failed { IsErrOf result PutFail.Failed → Rose (K.faults out.old) (K.faults out.new) }
 {

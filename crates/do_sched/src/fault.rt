@@ -3,7 +3,9 @@ ghost use Rattle.do_sched.specs.declared.fault.SchedFault.TheVariants.{Memory};
 
 use std::alloc::{AllocError, AllocFailed};
 
-/// Why bytes are no schedule, with the number of the line, from 1. The first faulty line counts.
+/// Why bytes are no schedule, with the number of the line, counted from 1. The first faulty line counts.
+///
+/// The form is this project's own.
 #[derive(Debug, PartialEq, Eq, Drop)]
 pub enum SchedFault {
     /// A line that is not of the kind wanted at its place, that follows `end`, or whose line feed is missing.

@@ -23,5 +23,8 @@ pub enum Line {
     Check,
 }
 
-/// The lines of a schedule, in order.
+/// The lines of a schedule between its first line and `end`, in order.
+///
+/// The list itself keeps no limit; those of a schedule have 1,000,000 single steps at most. The form
+/// is this project's own.
 pub type Lines = Items<Line>;

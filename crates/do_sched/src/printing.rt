@@ -9,7 +9,8 @@ use std::alloc::{AllocError, Global};
 
 /// A line of a schedule as it is written, without its line feed.
 ///
-/// A value that is no number has no spelling yet, and nothing is written for it.
+/// A value that is no number has no spelling yet, and nothing is written for it. There is no limit
+/// on the line. The form is this project's own.
 pub fn print_line(alloc: Global, line: &Line) -> Result<Text, AllocError>
     ensures { IfOk result (λ text. text ≡ line_spelling line.now) }
 {
@@ -20,8 +21,9 @@ pub fn print_line(alloc: Global, line: &Line) -> Result<Text, AllocError>
 
 /// Adds a line of a schedule as it is written, without its line feed.
 ///
-/// A value that is no number has no spelling yet, and nothing is written for it. Where memory ran
-/// out, a part of the line may have been added.
+/// A value that is no number has no spelling yet, and nothing is written for it. There is no limit
+/// on the line. Where memory ran out, a part of it may have been added. The form is this project's
+/// own.
 pub fn push_line(out: &mut Text, line: &Line) -> Result<(), AllocError>
     ensures { OnOk result (out.new ≡ out.old ++ line_spelling line.now) }
 {

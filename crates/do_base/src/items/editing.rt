@@ -7,7 +7,7 @@ use std::mem;
 
 impl<T> Items<T> {
     ghost use Rattle.std.specs.Borrow.{sem};
-    ghost use Rattle.do_base.specs.Lent.{LendsItem, LendsItemIf};
+    ghost use Rattle.do_base.specs.Borrowed.{BorrowsItem, BorrowsItemIf};
 
     /// Takes out the last item. None exactly where the list was empty.
     pub fn pop(&mut self) -> Option<T>
@@ -16,18 +16,18 @@ impl<T> Items<T> {
         self.items.pop()
     }
 
-    /// Lends an item to be changed in place. What stands there at the end of the loan stays.
+    /// Borrows an item to be changed in place. What stands there at the end of the borrow stays.
     pub fn at_mut(&mut self, at: usize) -> &mut T
         requires { at < length self.old }
-        ensures* writes_back { sem 𝓛 (LendsItem T.row self.entry at result) }
+        ensures* writes_back { sem 𝓛 (BorrowsItem T.row self.entry at result) }
         ensures value { slice_get self.old at ≡ Some result.now }
     {
         &mut self.items[at]
     }
 
-    /// Lends the last item to be changed in place. None exactly where the list is empty.
+    /// Borrows the last item to be changed in place. None exactly where the list is empty.
     pub fn last_mut(&mut self) -> Option<&mut T>
-        ensures* writes_back { sem 𝓛 (LendsItemIf T.row self.entry (length self.old - 1) result) }
+        ensures* writes_back { sem 𝓛 (BorrowsItemIf T.row self.entry (length self.old - 1) result) }
         ensures there { IsSome result ↔ (0 < length self.old) }
         ensures value { option_copied_mut result ≡ slice_get self.old (length self.old - 1) }
     {

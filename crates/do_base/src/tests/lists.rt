@@ -40,6 +40,29 @@ fn queues_in_order(rt: HostRuntime) -> Result<(), Fail> {
 }
 
 #[test]
+fn edits_with_room(rt: HostRuntime) -> Result<(), Fail> {
+    let mut queue = Reserved::new(rt.alloc());
+    queue.reserve(3)?;
+    queue.post(2u64);
+    queue.post(3);
+    queue.post(4);
+    assert!(rt; queue.len() == 3 && queue.spare() == 0);
+    assert_eq!(rt; queue.replace(1, 7), 3);
+    *queue.at_mut(2) = 8;
+    assert_eq!(rt; queue.remove(0), 2);
+    assert_eq!(rt; queue.get(1), Some(&8));
+    queue.truncate(1);
+    assert_eq!(rt; queue.spare(), 2);
+    queue.post(9);
+    assert_eq!(rt; queue.pop(), Some(9));
+    assert_eq!(rt; queue.pop(), Some(7));
+    queue.post(5);
+    queue.clear();
+    assert!(rt; queue.is_empty() && queue.spare() == 3);
+    Ok(())
+}
+
+#[test]
 fn grows_texts(rt: HostRuntime) -> Result<(), Fail> {
     let mut word = text(&rt, b"ab")?;
     word.push(b'c')?;

@@ -45,19 +45,19 @@ fn fails_by_number(rt: HostRuntime) -> Result<(), Fail> {
     Ok(())
 }
 
-// It takes a byte at a time.
+// It writes a byte at a time.
 #[derive(Drop)]
 struct Narrow {
-    taken: Text,
+    written: Text,
 }
 
 impl Sink for Narrow {
-    ghost written = { λ s. Some s.taken };
+    ghost written = { λ s. Some s.written };
 
     ghost faults = { λ s. 0 };
 
     fn put(&mut self, piece: &[u8]) -> Result<usize, PutFail> {
-        self.taken.push(piece[0])?;
+        self.written.push(piece[0])?;
         Ok(1)
     }
 }
@@ -65,9 +65,9 @@ impl Sink for Narrow {
 #[test]
 fn writes_bit_by_bit(rt: HostRuntime) -> Result<(), Fail> {
     let mut sink = Narrow {
-        taken: Text::new(rt.alloc()),
+        written: Text::new(rt.alloc()),
     };
     assert_eq!(rt; write_all(&mut sink, b"hello"), Ok(()));
-    assert!(rt; sink.taken.is(b"hello"));
+    assert!(rt; sink.written.is(b"hello"));
     Ok(())
 }

@@ -5,6 +5,6 @@ use Rattle.do_base.proofs.sink.write_all.Goals as goal
 pub loop-done-preserved : goal.loop-done-preserved
 loop-done-preserved g c = record {
   within = search rules;
-  taken = rw (c.in_ok-count.ensures.ok, c.loop-done.invariant.taken) (with_more-take (g.K.Sink.written c.args.out.now) c.args.bytes.now c.loop-done.done c.in_ok-count.count);
+  written = rw (c.in_ok-count.ensures.ok, c.loop-done.invariant.written) (with_more-take (g.K.Sink.written c.args.out.now) c.args.bytes.now c.loop-done.done c.in_ok-count.count);
   later = omega (arith, c.put.ensures.later);
 }

@@ -5,7 +5,7 @@ use Rattle.do_base.proofs.sink.write_all.Given as goal
 abbrev pub invariant-loop-done : goal.invariant-loop-done
 invariant-loop-done g l = record {
   within : l.done ≤ length l.bytes;
-  taken : g.K.Sink.written l.out ≡ with_more (g.K.Sink.written l.initial.out) (take l.done l.bytes);
+  written : g.K.Sink.written l.out ≡ with_more (g.K.Sink.written l.initial.out) (take l.done l.bytes);
   later : g.K.Sink.faults l.initial.out ≤ g.K.Sink.faults l.out;
 }
 
