@@ -13,7 +13,8 @@ pub mod Scan
 pub mod Until
 pub mod Words
 pub mod Names
-pub mod Parts
+pub mod WordTurns
+pub mod WordCuts
 pub mod Cut
 pub mod Lines
 pub mod Dec

@@ -3,7 +3,7 @@ use Rattle.std.proofs.Common.{◌≡◌, ℕ, suc, ◌-◌, ◌+◌, ◌≤◌, 
 use Rattle.std.proofs.lemmas.List.{append-nil}
 use Rattle.do_grammar.specs.declared.fault.ReadError.{ReadError}
 use Rattle.do_grammar.specs.declared.fault.ReadError.TheVariants.{Memory, Short, Bad}
-use Rattle.do_grammar.specs.Reader.{Stop, plain, short, bad, Reader, ◌>>=◌, times}
+use Rattle.do_grammar.specs.Reader.{Stop, no_kind, short, bad, Reader, ◌>>=◌, times}
 use Rattle.do_grammar.specs.Gives.{Fails}
 
 -- what was read before, and what is still read
@@ -30,7 +30,7 @@ ends Short r front count i bytes total lt h so_far =
     sym so_far ∙ one
 ends (Bad left) r front count i bytes total lt h so_far =
     let k : count - i ≡ suc (count - (i + 1)) = omega arith in
-    let one : with_front front (times r (count - i) bytes) ≡ Err (bad plain left) = rw (k, h) refl in
+    let one : with_front front (times r (count - i) bytes) ≡ Err (bad no_kind left) = rw (k, h) refl in
     sym so_far ∙ one
 
 pub is_done : {K A : Type 0} (r : Reader K A) (front : List A) (count i : ℕ) (bytes : List ℕ) (total : Result (List A × List ℕ) (Stop K)) → count ≤ i → with_front front (times r (count - i) bytes) ≡ total → total ≡ Ok (front, bytes)

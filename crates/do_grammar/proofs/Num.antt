@@ -6,7 +6,7 @@ use Rattle.std.proofs.lemmas.Bool.Decides.{nat_tests}
 use Rattle.std.proofs.lemmas.Nat.{mul-add-lt, div-mul-add, mod-mul-add, div_below, div-add-mod', mod_below}
 use Rattle.do_grammar.specs.Reader.{Reader, done, byte_of, bytes_of}
 use Rattle.do_grammar.specs.Forms.{Then, Done, Byte, Bytes, Passes, Mapped}
-use Rattle.do_grammar.specs.Num.{span, digits, size_within, size, least_of, num, reaches, digits_at, sized, num_at, counted_at, zigzag, unzigzag, signed_at, Num, Text, Signed}
+use Rattle.do_grammar.specs.Num.{span, digits, size_within, size, least_of, num, reaches, digits_at, sized, num_at, counted_at, zigzag, unzigzag, signed_at, Num, CountedText, Signed}
 use Rattle.do_grammar.proofs.Exact.{Reads, Reads-done, Reads-then, Reads-byte, Reads-as}
 use Rattle.do_grammar.proofs.Combined.{Reads-mapped, Reads-bytes}
 
@@ -219,19 +219,19 @@ Reads-num {K = K} why low high order fits =
 
 -- ---- a text within a limit
 
-pub Reads-text : {K : Type 0} (why : K) (limit : ℕ) → limit < 2 ^ 64 → Reads (Text limit) (counted_at why limit)
+pub Reads-counted_text : {K : Type 0} (why : K) (limit : ℕ) → limit < 2 ^ 64 → Reads (CountedText limit) (counted_at why limit)
 unfolding counted_at
-Reads-text why limit fits =
-    Reads-as (Then (Num 0 limit) Bytes) (Text limit) (counted_at why limit) (counted_at why limit) there back (λ bytes. refl)
+Reads-counted_text why limit fits =
+    Reads-as (Then (Num 0 limit) Bytes) (CountedText limit) (counted_at why limit) (counted_at why limit) there back (λ bytes. refl)
     (Reads-then (Num 0 limit) Bytes (num_at why 0 limit) (λ n. bytes_of n) (Reads-num why 0 limit (omega arith) fits) (λ n text g. Reads-bytes n))
   where
-    there : (text bytes : List ℕ) → Then (Num 0 limit) Bytes text bytes → Text limit text bytes
+    there : (text bytes : List ℕ) → Then (Num 0 limit) Bytes text bytes → CountedText limit text bytes
     there text bytes g =
         let len = g.second.len in
         let most = g.first.at_most in
         record { spelled = g.parts ∙ ap (λ (w : List ℕ). w ++ g.back) (g.first.spelled ∙ ap num (sym len)) ∙ ap (λ (w : List ℕ). num (length bytes) ++ w) g.second.same; within = omega arith; small = g.second.small }
 
-    back : (text bytes : List ℕ) → Text limit text bytes → Then (Num 0 limit) Bytes text bytes
+    back : (text bytes : List ℕ) → CountedText limit text bytes → Then (Num 0 limit) Bytes text bytes
     back text bytes g = record { value = length bytes; front = num (length bytes); back = bytes; parts = g.spelled; first = record { spelled = refl; at_least = omega arith; at_most = g.within }; second = record { same = refl; len = refl; small = g.small } }
 
 -- ---- a signed number

@@ -3,7 +3,7 @@ use Rattle.std.proofs.Common.{ℕ, List, Result, Ok, Err, sym, ap, ◌∙◌}
 use Rattle.std.specs.Borrow.{Bor}
 use Rattle.do_grammar.specs.declared.fault.ReadError.{ReadError}
 use Rattle.do_grammar.specs.declared.fault.ReadError.TheVariants.{Memory, Short, Bad}
-use Rattle.do_grammar.specs.Reader.{Reader, plain, short, bad}
+use Rattle.do_grammar.specs.Reader.{Reader, no_kind, short, bad}
 use Rattle.do_grammar.specs.Grammar.{IsBytes, Takes}
 use Rattle.do_grammar.specs.Gives.{Gives}
 use Rattle.do_grammar.specs.TellsRest.{TellsRest, FindsRest}
@@ -15,7 +15,7 @@ module _ {X A : Type 0} (G : List ℕ → A → Type 0) (r : Reader (Unit {0}) A
   tells_rest (Ok x) small e = R.takes bytes (view x.0) x.1.now small e
   tells_rest (Err Memory) small e = tt
   tells_rest (Err Short) small e = proper_front G r R bytes small e
-  tells_rest (Err (Bad left)) small e = (left_within G r R bytes plain left small e, first_bad G r R bytes plain left small e)
+  tells_rest (Err (Bad left)) small e = (left_within G r R bytes no_kind left small e, first_bad G r R bytes no_kind left small e)
 
   pub finds_rest : (answer : Result (X × Bor (List ℕ)) ReadError) → Gives (λ x. (view x.0, x.1.now)) answer (r bytes) → (v : A) (rest : List ℕ) → Takes G bytes v rest → FindsRest view v rest answer
   finds_rest (Ok x) e v rest t =
@@ -23,4 +23,4 @@ module _ {X A : Type 0} (G : List ℕ → A → Type 0) (r : Reader (Unit {0}) A
       (ok_value (view x.0) v x.1.now rest same, ok_rest (view x.0) v x.1.now rest same)
   finds_rest (Err Memory) e v rest t = tt
   finds_rest (Err Short) e v rest t = not_stopped G r R bytes short e t.text rest v t.spelled t.parts
-  finds_rest (Err (Bad left)) e v rest t = not_stopped G r R bytes (bad plain left) e t.text rest v t.spelled t.parts
+  finds_rest (Err (Bad left)) e v rest t = not_stopped G r R bytes (bad no_kind left) e t.text rest v t.spelled t.parts

@@ -76,7 +76,7 @@ pub record Num (low high : ℕ) (text : List ℕ) (x : ℕ) : Type 0 where
   pub at_most : x ≤ high
 
 -- the spelling of a text within a limit
-pub record Text (limit : ℕ) (text bytes : List ℕ) : Type 0 where
+pub record CountedText (limit : ℕ) (text bytes : List ℕ) : Type 0 where
   pub spelled : text ≡ counted bytes
   pub within : length bytes ≤ limit
   pub small : IsBytes bytes

@@ -6,9 +6,9 @@ pub data Stop (K : Type 0) : Type 0 where
   short : Stop K
   bad : K → ℕ → Stop K
 
--- the one kind, where a grammar has no kinds of faults
-abbrev pub plain : Unit {0}
-plain = tt
+-- what stands for the kind of a fault where a grammar tells no kinds apart
+abbrev pub no_kind : Unit {0}
+no_kind = tt
 
 -- a reader gives a value and the bytes after it
 abbrev pub Reader : Type 0 → Type 0 → Type 0

@@ -1,6 +1,6 @@
 ghost use Rattle.std.specs.Prelude.{◌≡◌, ◌++◌, List, ℕ, OnOk, OnErr};
-ghost use Rattle.do_grammar.specs.Num.{counted, counted_at, Text as TextSpelling};
-ghost use Rattle.do_grammar.specs.Reader.{plain};
+ghost use Rattle.do_grammar.specs.Num.{counted, counted_at, CountedText};
+ghost use Rattle.do_grammar.specs.Reader.{no_kind};
 ghost use Rattle.do_grammar.specs.Gives.{Gives};
 ghost use Rattle.do_grammar.specs.Grammar.{Takes};
 ghost use Rattle.do_grammar.specs.TellsRest.{TellsRest, FindsRest};
@@ -18,9 +18,9 @@ use std::alloc::{AllocError, Global};
 /// `Bad` is at the first byte of that number with which none up to the limit goes on, `Short`
 /// where the bytes end before the text does, and `Memory` where none is left for the text.
 pub fn text_of(alloc: Global, bytes: &[u8], limit: u64) -> Result<(Text, &[u8]), ReadError>
-    ensures gives { Gives (λ x. (x.0, x.1.now)) result (counted_at plain limit bytes.now) }
-    ensures exact { TellsRest (TextSpelling limit) (λ t. t) bytes.now result }
-    ensures only { (t rest : List ℕ) → Takes (TextSpelling limit) bytes.now t rest
+    ensures gives { Gives (λ x. (x.0, x.1.now)) result (counted_at no_kind limit bytes.now) }
+    ensures exact { TellsRest (CountedText limit) (λ t. t) bytes.now result }
+    ensures only { (t rest : List ℕ) → Takes (CountedText limit) bytes.now t rest
         → FindsRest (λ t. t) t rest result }
 {
     front_text(alloc, bytes, limit)
@@ -29,7 +29,7 @@ pub fn text_of(alloc: Global, bytes: &[u8], limit: u64) -> Result<(Text, &[u8]),
 /// What the reader of specs/ gives.
 #[tactic(auto, unfolding(crate::specs::Num::counted_at))]
 fn front_text(alloc: Global, bytes: &[u8], limit: u64) -> Result<(Text, &[u8]), ReadError>
-    ensures { Gives (λ x. (x.0, x.1.now)) result (counted_at plain limit bytes.now) }
+    ensures { Gives (λ x. (x.0, x.1.now)) result (counted_at no_kind limit bytes.now) }
 {
     let (n, rest) = num_of(bytes, 0, limit)?;
     let n = n as usize;

@@ -1,13 +1,15 @@
-ghost use Rattle.std.specs.Prelude.{◌≡◌, ◌<◌, ◌≤◌, [], ◌∷◌, length, MatchOption, IfSome};
-ghost use Rattle.do_grammar.specs.Words.{word, part, text_view, same};
+ghost use Rattle.std.specs.Prelude.{◌≡◌, ◌<◌, [], ◌∷◌, ◌++◌, length, MatchOption, IfSome};
+ghost use Rattle.std.specs.Str.{bytes_eq};
+ghost use Rattle.do_grammar.specs.Words.{Without, EndsBefore};
 ghost use Rattle.do_grammar.specs.Lines.{cut};
 
 /// The bytes before the first byte `end`, and those after it; none where `end` stands nowhere.
 ///
 /// The form is this project's own. Bytes of any length are read, and no memory is taken.
-#[tactic(auto, using(crate::proofs::Words::turns))]
+#[tactic(auto, using(crate::proofs::WordTurns::turns))]
 pub fn word_of(bytes: &[u8], end: u8) -> Option<(&[u8], &[u8])>
-    ensures { text_view result ≡ word end bytes.now }
+    ensures parts { MatchOption result (Without end bytes.now) (λ w. bytes.now ≡ w.0.now ++ end ∷ w.1.now) }
+    ensures first { IfSome result (λ w. Without end w.0.now) }
 {
     for n in 0..bytes.len() {
         if bytes[n] == end {
@@ -21,10 +23,11 @@ pub fn word_of(bytes: &[u8], end: u8) -> Option<(&[u8], &[u8])>
 /// the bytes and none.
 ///
 /// The form is this project's own. Bytes of any length are read, and no memory is taken.
-#[tactic(auto, using(crate::proofs::Parts::turns))]
+#[tactic(auto, using(crate::proofs::WordTurns::turns))]
 pub fn part_of(bytes: &[u8], end: u8) -> (&[u8], &[u8])
-    ensures before { result.0.now ≡ (part end bytes.now).0 }
-    ensures after { result.1.now ≡ (part end bytes.now).1 }
+    ensures parts { bytes.now ≡ result.0.now ++ result.1.now }
+    ensures before { Without end result.0.now }
+    ensures after { EndsBefore end result.1.now }
 {
     for n in 0..bytes.len() {
         if bytes[n] == end {
@@ -54,9 +57,8 @@ pub fn line_of(bytes: &[u8]) -> Option<(&[u8], bool, &[u8])>
 }
 
 /// Whether two texts are equal, byte by byte.
-#[tactic(auto, using(crate::proofs::Words::same_is))]
 pub fn is_text(a: &[u8], b: &[u8]) -> bool
-    ensures { result ≡ same a.now b.now }
+    ensures { result ≡ bytes_eq a.now b.now }
 {
     a == b
 }

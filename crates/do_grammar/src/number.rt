@@ -1,6 +1,6 @@
 ghost use Rattle.std.specs.Prelude.{◌≡◌, ◌+◌, ◌<◌, ◌≤◌, ◌^◌, ◌++◌, [], ◌∷◌, length, ℕ, List, OnOk, OnErr};
 ghost use Rattle.do_grammar.specs.Num.{span, least_of, digits, digits_at, num, num_at, size, Num};
-ghost use Rattle.do_grammar.specs.Reader.{plain};
+ghost use Rattle.do_grammar.specs.Reader.{no_kind};
 ghost use Rattle.do_grammar.specs.Gives.{Gives};
 ghost use Rattle.do_grammar.specs.Grammar.{Takes};
 ghost use Rattle.do_grammar.specs.TellsRest.{TellsRest, FindsRest};
@@ -50,7 +50,7 @@ fn digits_of(
     k: u8,
 ) -> Result<(u64, &[u8]), ReadError>
     requires { k ≤ 8 }
-    ensures { Gives (λ x. (x.0, x.1.now)) result (digits_at plain low high k least bytes.now) }
+    ensures { Gives (λ x. (x.0, x.1.now)) result (digits_at no_kind low high k least bytes.now) }
 {
     if k == 0 {
         return Ok((least, bytes));
@@ -78,7 +78,7 @@ fn digits_of(
 /// the bytes end before such a number does. No memory is taken.
 pub fn num_of(bytes: &[u8], low: u64, high: u64) -> Result<(u64, &[u8]), ReadError>
     requires { low ≤ high }
-    ensures gives { Gives (λ x. (x.0, x.1.now)) result (num_at plain low high bytes.now) }
+    ensures gives { Gives (λ x. (x.0, x.1.now)) result (num_at no_kind low high bytes.now) }
     ensures exact { TellsRest (Num low high) (λ n. n) bytes.now result }
     ensures only { (n : ℕ) (rest : List ℕ) → Takes (Num low high) bytes.now n rest
         → FindsRest (λ n. n) n rest result }
@@ -89,7 +89,7 @@ pub fn num_of(bytes: &[u8], low: u64, high: u64) -> Result<(u64, &[u8]), ReadErr
 /// What the reader of specs/ gives.
 #[tactic(auto, unfolding(crate::specs::Num::num_at))]
 fn front_num(bytes: &[u8], low: u64, high: u64) -> Result<(u64, &[u8]), ReadError>
-    ensures { Gives (λ x. (x.0, x.1.now)) result (num_at plain low high bytes.now) }
+    ensures { Gives (λ x. (x.0, x.1.now)) result (num_at no_kind low high bytes.now) }
 {
     let [n, rest @ ..] = bytes else {
         return Err(ReadError::Short);

@@ -1,4 +1,5 @@
 ghost use Rattle.std.specs.Prelude.{◌≡◌, ◌++◌, OnOk, IfOk};
+ghost use Rattle.do_sched.specs.Good.{IsLine};
 ghost use Rattle.do_lines.specs.Block.{head_line, line_lines, stepped_node, shown_lines};
 
 use crate::shown::push_all_shown;
@@ -19,8 +20,10 @@ pub fn stepped_node(line: &Line) -> Option<NodeId>
 
 /// Adds `> ` and a line as it is written in a schedule, which begin the line's block.
 ///
-/// Where memory ran out, a part of it may have been added.
+/// The line is one that may stand in a schedule. Where memory ran out, a part of it may have been
+/// added.
 pub fn push_head(out: &mut Text, line: &Line) -> Result<(), AllocError>
+    requires { IsLine line.now }
     ensures { OnOk result (out.new ≡ out.old ++ head_line line.now) }
 {
     out.push_bytes(b"> ")?;
@@ -50,9 +53,10 @@ pub fn push_outcome(
 
 /// The block of a line: `> ` and the line as it is written in a schedule, and what it showed.
 ///
-/// For a run of several steps the outcome has what they showed one after another, and is enabled
-/// where one of them was. The form is this project's own.
+/// The line is one that may stand in a schedule. For a run of several steps the outcome has what they
+/// showed one after another, and is enabled where one of them was. The form is this project's own.
 pub fn line_text(alloc: Global, line: &Line, outcome: &Outcome) -> Result<Text, AllocError>
+    requires { IsLine line.now }
     ensures { IfOk result (λ text. text ≡ line_lines line.now outcome.now) }
 {
     let mut text = Text::new(alloc);

@@ -58,6 +58,15 @@ fn kinds(rt: &HostRuntime) -> Result<ShownList, Fail> {
     Ok(shown)
 }
 
+/// Each of the values, said.
+fn said(rt: &HostRuntime) -> Result<ShownList, Fail> {
+    let mut shown = ShownList::new(rt.alloc());
+    for value in values(rt)?.into_vec() {
+        shown.push(Shown::Say(value))?;
+    }
+    Ok(shown)
+}
+
 const KINDS: &[u8] = b"> run 7001 9\n\
 took call add:\n\
 took oneway go\n\
@@ -91,10 +100,7 @@ fn blocks(rt: HostRuntime) -> Result<(), Fail> {
         shown,
     };
     assert!(rt; line_text(rt.alloc(), &line, &outcome)?.is(KINDS));
-    let mut shown = ShownList::new(rt.alloc());
-    for value in values(&rt)?.into_vec() {
-        shown.push(Shown::Say(value))?;
-    }
+    let shown = said(&rt)?;
     let outcome = Outcome {
         enabled: true,
         shown,

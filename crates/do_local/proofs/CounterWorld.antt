@@ -29,11 +29,11 @@ one_is_methods m same = record {
 pub one_method : (selector : List ℕ) (methods : List Method) → methods ≡ record { selector = selector; signature = number_to_number } ∷ [] → colons selector ≡ 1 → AreMethods methods
 one_method selector methods e same = subst AreMethods (sym e) (one_is_methods (record { selector = selector; signature = number_to_number }) same)
 
-abbrev client_there : WorldNode
-client_there = record { node = 7001; root = record { 0 = 1 } }
+abbrev node_with_client : WorldNode
+node_with_client = record { node = 7001; root = record { 0 = 1 } }
 
-abbrev counter_there : WorldNode
-counter_there = record { node = 7002; root = record { 0 = 0 } }
+abbrev node_with_counter : WorldNode
+node_with_counter = record { node = 7002; root = record { 0 = 0 } }
 
 -- the class of each root is there
 abbrev AreRooted : List Class → List WorldNode → Type 0
@@ -42,7 +42,7 @@ AreRooted table nodes = All (λ w. w.root.0 < length table) nodes
 counter_rooted : AreRooted counter_classes counter_nodes
 counter_rooted =
     let rooted = λ (w : WorldNode). w.root.0 < length counter_classes in
-    All-cons rooted client_there (counter_there ∷ []) (omega arith) (All-cons rooted counter_there [] (omega arith) (all_none rooted))
+    All-cons rooted node_with_client (node_with_counter ∷ []) (omega arith) (All-cons rooted node_with_counter [] (omega arith) (all_none rooted))
 
 pub is_rooted : (table : List Class) (nodes : List WorldNode) → table ≡ counter_classes → nodes ≡ counter_nodes
     → AreRooted table nodes
@@ -88,12 +88,12 @@ is_counter_world = record { same_classes = refl; same_nodes = refl }
 
 -- the nodes with the higher port first
 abbrev falling : List WorldNode
-falling = counter_there ∷ client_there ∷ []
+falling = node_with_counter ∷ node_with_client ∷ []
 
 falling_rooted : AreRooted counter_classes falling
 falling_rooted =
     let rooted = λ (w : WorldNode). w.root.0 < length counter_classes in
-    All-cons rooted counter_there (client_there ∷ []) (omega arith) (All-cons rooted client_there [] (omega arith) (all_none rooted))
+    All-cons rooted node_with_counter (node_with_client ∷ []) (omega arith) (All-cons rooted node_with_client [] (omega arith) (all_none rooted))
 
 falling_world : IsWorld counter_classes falling
 unfolding IsDistinct

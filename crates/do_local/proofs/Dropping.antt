@@ -1,7 +1,10 @@
 -- The first item of a queue is taken out.
-use Rattle.std.proofs.Common.{◌≡◌, ℕ, zero, suc, ◌≤◌, List, [], ◌∷◌, drop, Some, None, refl, ap, sym, ◌∙◌, subst, arith}
+use Rattle.std.proofs.Common.{◌≡◌, ℕ, ◌≤◌, List, ◌∷◌, drop, Some, None, ap, sym, ◌∙◌, subst}
 use Rattle.std.specs.Prelude.{slice_get, slice_set, ◌==◌}
 use Rattle.std.specs.List.{position}
+use Rattle.std.proofs.Math.Seq.{map-set_same}
+use Rattle.std.proofs.lemmas.List.Elements.{All-set}
+use Rattle.std.proofs.lemmas.Option.{get_or_from_slice_get}
 use Rattle.do_local.specs.declared.item.Item.{Item}
 use Rattle.do_local.specs.declared.node.Node.{Node}
 use Rattle.do_local.specs.declared.station.Station.{Station}
@@ -9,7 +12,7 @@ use Rattle.do_local.specs.declared.station.Queue.{Queue}
 use Rattle.do_local.specs.Stations.{FewCalls, queues_of, state_of}
 use Rattle.do_local.specs.Step.{without_first}
 use Rattle.do_local.specs.Tables.{change}
-use Rattle.do_local.proofs.Moves.{at_port}
+use Rattle.do_local.proofs.Moves.{at_port, few_at}
 use Rattle.do_local.proofs.Tables.{change_none, change_set}
 
 pub popped_at : (queues : List Queue) (to at : ℕ) (old new : Queue)
@@ -24,9 +27,10 @@ popped_none queues to p = change_none (λ (q : Queue). q.to) (λ (q : Queue). q.
 
 same_nodes : (ps : List Station) (k : ℕ) (old new : Station) → slice_get ps k ≡ Some old → new.node ≡ old.node
     → (state_of (slice_set ps k new)).nodes ≡ (state_of ps).nodes
-same_nodes [] k old new g s = refl
-same_nodes (p ∷ ps) zero old new g s = let same : p ≡ old = cc in let n : new.node ≡ p.node = s ∙ ap (λ (q : Station). q.node) (sym same) in ap (λ (m : Node). (m.port, m) ∷ (state_of ps).nodes) n
-same_nodes (p ∷ ps) (suc k) old new g s = ap (λ t. (p.node.port, p.node) ∷ t) (same_nodes ps k old new g s)
+same_nodes ps k old new g s =
+    let here = sym (get_or_from_slice_get ps k old old g) in
+    map-set_same (λ (p : Station). (p.node.port, p.node)) ps k new old
+    (ap (λ (n : Node). (n.port, n)) s ∙ ap (λ (p : Station). (p.node.port, p.node)) here)
 
 pub dropped_at : (stations : List Station) (from to at : ℕ) (old new : Station)
     → position (at_port from) stations ≡ Some at → slice_get stations at ≡ Some old → new.node ≡ old.node
@@ -45,11 +49,9 @@ dropped_none stations from to p =
 
 pub few_same : (k : ℕ) (stations : List Station) (at : ℕ) (old new : Station) → slice_get stations at ≡ Some old
     → new.node ≡ old.node → FewCalls k stations → FewCalls k (slice_set stations at new)
-few_same k [] at old new g n few j d lt = absurd (omega (arith, lt))
-few_same k (p ∷ ps) zero old new g n few zero d lt = let same : p ≡ old = cc in let e : new.node ≡ p.node = n ∙ ap (λ (q : Station). q.node) (sym same) in let h = few 0 p (omega arith) in subst (λ (m : Node). m.next_call ≤ k) (sym e) h
-few_same k (p ∷ ps) zero old new g n few (suc j) d lt = few (suc j) d lt
-few_same k (p ∷ ps) (suc at) old new g n few zero d lt = few 0 d (omega arith)
-few_same k (p ∷ ps) (suc at) old new g n few (suc j) d lt = few_same k ps at old new g n (λ i c l. few (suc i) c (omega (arith, l))) j d (omega (arith, lt))
+few_same k stations at old new g n few =
+    let here = few_at k stations at old few g in
+    All-set (λ (s : Station). s.node.next_call ≤ k) stations at new (subst (λ (m : Node). m.next_call ≤ k) (sym n) here) few
 
 pub rest_of : (items : List Item) (rest : List Item) (x : Item) → items ≡ x ∷ rest → rest ≡ drop 1 items
 rest_of items rest x e = ap (drop 1) (sym e)

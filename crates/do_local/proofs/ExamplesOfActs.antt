@@ -1,4 +1,5 @@
 -- Examples beyond the worked schedules: what becomes of an invocation's acts, and what a run of a node comes to.
+use Rattle.do_local.specs.Stations.{decided}
 use Rattle.std.proofs.Common.{◌≡◌, ℕ, List as Listed, [], ◌∷◌, pos, negsuc, Some, None, refl, ap, ◌∙◌}
 use Rattle.std.specs.Prelude.{codes}
 use Rattle.do_base.specs.Names.{ObjectName}
@@ -16,15 +17,16 @@ use Rattle.do_local.specs.declared.invocation.InvState.TheVariants.{Running, Wai
 use Rattle.do_local.specs.declared.invocation.Reason.TheVariants as reasons
 use Rattle.do_local.specs.declared.invocation.Waited.{Waited}
 use Rattle.do_local.specs.declared.node.Node.{Node}
+use Rattle.do_local.specs.declared.node.Stored.{Stored}
 use Rattle.do_local.specs.declared.verdict.Verdict.{Verdict}
-use Rattle.do_local.specs.declared.verdict.Verdict.TheVariants.{Goes, Ends}
+use Rattle.do_local.specs.declared.verdict.Verdict.TheVariants.{Goes, Writes, Ends}
 use Rattle.do_local.specs.Laws.{Laws, laws_of}
-use Rattle.do_local.specs.World.{opening_node}
+use Rattle.do_local.specs.World.{opening_node, opening_root}
 use Rattle.do_local.specs.CounterWorld.{counter_classes, counter_nodes}
-use Rattle.do_local.specs.Context.{Context, Sees, context}
-use Rattle.do_local.specs.Acts.{act_rule}
+use Rattle.do_local.specs.Context.{Context, context}
+use Rattle.do_local.specs.RunContext.{RunContext, run_context}
+use Rattle.do_local.specs.Acts.{act_rule, port_of}
 use Rattle.do_local.specs.Requests.{fresh}
-use Rattle.do_local.specs.Verdicts.{verdict}
 use Rattle.do_local.proofs.Fitting.{number_laws, counter_laws_compute}
 use Rattle.do_local.proofs.Counted.{at_first}
 
@@ -80,46 +82,46 @@ going value = fresh client_object go_method reasons.Start (value ∷ [])
 -- ---- a message that is sent
 
 -- a target is sent a message of one argument
-abbrev sent : Value → Listed ℕ → Value → Act
-sent target selector value = Send target selector (value ∷ []) 3 3
+abbrev a_send : Value → Listed ℕ → Value → Act
+a_send target selector value = Send target selector (value ∷ []) 3 3
 
 -- a node sends to no foreign object that it does not hold
-an_object_not_held_gets_no_message : (c : Context) →
-    act_rule (record c { node = client }) go_method (sent (Obj counter_object) (codes "add:") five) ≡
+an_object_not_held_gets_no_message : (t : RunContext) →
+    act_rule (record t { node = client }) (a_send (Obj counter_object) (codes "add:") five) ≡
     Ends (answers.Raised NotVended)
 unfolding Rattle.do_base.specs.declared.value.Value.out-Value denote.Hole.Carrier.out
-an_object_not_held_gets_no_message c = refl
+an_object_not_held_gets_no_message t = refl
 
 -- nor over a closed end
-no_message_goes_over_a_closed_end : (c : Context) →
-    act_rule (record c { node = closed holder }) go_method (sent (Obj counter_object) (codes "add:") five) ≡
+no_message_goes_over_a_closed_end : (t : RunContext) →
+    act_rule (record t { node = closed holder }) (a_send (Obj counter_object) (codes "add:") five) ≡
     Ends (answers.Raised ConnectionDied)
 unfolding Rattle.do_base.specs.declared.value.Value.out-Value denote.Hole.Carrier.out
-no_message_goes_over_a_closed_end c = refl
+no_message_goes_over_a_closed_end t = refl
 
 -- which is what it is told also of an object that it does not hold
-a_closed_end_goes_before_an_object_not_held : (c : Context) →
-    act_rule (record c { node = closed client }) go_method (sent (Obj counter_object) (codes "add:") five) ≡
+a_closed_end_goes_before_an_object_not_held : (t : RunContext) →
+    act_rule (record t { node = closed client }) (a_send (Obj counter_object) (codes "add:") five) ≡
     Ends (answers.Raised ConnectionDied)
 unfolding Rattle.do_base.specs.declared.value.Value.out-Value denote.Hole.Carrier.out
-a_closed_end_goes_before_an_object_not_held c = refl
+a_closed_end_goes_before_an_object_not_held t = refl
 
 -- a number understands no message
-a_number_understands_no_message : (c : Context) →
-    act_rule (record c { node = client }) go_method (sent five (codes "add:") five) ≡ Ends (answers.Raised TypeFault)
+a_number_understands_no_message : (t : RunContext) →
+    act_rule (record t { node = client }) (a_send five (codes "add:") five) ≡ Ends (answers.Raised TypeFault)
 unfolding Rattle.do_base.specs.declared.value.Value.out-Value denote.Hole.Carrier.out
-a_number_understands_no_message c = refl
+a_number_understands_no_message t = refl
 
 -- a message to nil gives nil at once
-nil_gives_nil_at_once : (c : Context) →
-    act_rule (record c { node = client }) go_method (sent Nil (codes "add:") five) ≡ Goes 3 Nil 3
+nil_gives_nil_at_once : (t : RunContext) →
+    act_rule (record t { node = client }) (a_send Nil (codes "add:") five) ≡ Goes 3 Nil 3
 unfolding Rattle.do_base.specs.declared.value.Value.out-Value denote.Hole.Carrier.out
-nil_gives_nil_at_once c = refl
+nil_gives_nil_at_once t = refl
 
 -- what a message of the holder to the counter comes to
 abbrev holder_sends : Listed ℕ → Value → Laws → Verdict
 holder_sends selector value laws =
-    act_rule (context laws at_first holder) go_method (sent (Obj counter_object) selector value)
+    act_rule (run_context (context laws at_first holder) (going five) []) (a_send (Obj counter_object) selector value)
 
 -- a counter has no method of this selector
 a_counter_does_not_understand_go : holder_sends (codes "go:") five counter_laws ≡ Ends (answers.Raised NotUnderstood)
@@ -140,46 +142,51 @@ an_unknown_selector_goes_before_values_that_do_not_fit = refl
 -- ---- a root that is asked for
 
 -- the root of a port that is no node
-a_port_without_a_node_has_no_root : (c : Context) →
-    act_rule (record c { node = client }) go_method (Root (Num (pos 7003)) 2 2) ≡ Ends (answers.Raised ConnectionDied)
+a_port_without_a_node_has_no_root : (t : RunContext) →
+    act_rule (record t { node = client }) (Root (Num (pos 7003)) 2 2) ≡ Ends (answers.Raised ConnectionDied)
 unfolding Rattle.do_base.specs.declared.value.Value.out-Value denote.Hole.Carrier.out
-a_port_without_a_node_has_no_root c = refl
+a_port_without_a_node_has_no_root t = refl
 
 -- a number below 0 is no port
-a_negative_number_is_no_port : (c : Context) →
-    act_rule (record c { node = client }) go_method (Root (Num (negsuc 7001)) 2 2) ≡
+a_negative_number_is_no_port : (t : RunContext) →
+    act_rule (record t { node = client }) (Root (Num (negsuc 7001)) 2 2) ≡
     Ends (answers.Raised ConnectionDied)
 unfolding Rattle.do_base.specs.declared.value.Value.out-Value denote.Hole.Carrier.out
-a_negative_number_is_no_port c = refl
+a_negative_number_is_no_port t = refl
+
+-- 0 is no port, and neither is 65536; 65535 is one
+ports_are_1_to_65535 :
+    (port_of (pos 0) ≡ None) × (port_of (pos 1) ≡ Some 1) × (port_of (pos 65535) ≡ Some 65535) × (port_of (pos 65536) ≡ None)
+ports_are_1_to_65535 = (refl, refl, refl, refl)
 
 -- a text names no port
-a_text_names_no_port : (c : Context) →
-    act_rule (record c { node = client }) go_method (Root a_text 2 2) ≡ Ends (answers.Raised TypeFault)
+a_text_names_no_port : (t : RunContext) →
+    act_rule (record t { node = client }) (Root a_text 2 2) ≡ Ends (answers.Raised TypeFault)
 unfolding Rattle.do_base.specs.declared.value.Value.out-Value denote.Hole.Carrier.out
-a_text_names_no_port c = refl
+a_text_names_no_port t = refl
 
 -- the own root is there at once
-the_own_root_is_there_at_once : (c : Context) →
-    act_rule (record c { node = client }) go_method (Root (Num (pos 7001)) 2 2) ≡ Goes 2 (Obj client_object) 2
+the_own_root_is_there_at_once : (t : RunContext) →
+    act_rule (record t { node = client }) (Root (Num (pos 7001)) 2 2) ≡ Goes 2 (Obj client_object) 2
 unfolding Rattle.do_base.specs.declared.value.Value.out-Value denote.Hole.Carrier.out
-the_own_root_is_there_at_once c = refl
+the_own_root_is_there_at_once t = refl
 
 -- and nil where the node has no root
-an_own_root_that_is_not_there_is_nil : (c : Context) →
-    act_rule (record c { node = rootless client }) go_method (Root (Num (pos 7001)) 2 2) ≡ Goes 2 Nil 2
+an_own_root_that_is_not_there_is_nil : (t : RunContext) →
+    act_rule (record t { node = rootless client }) (Root (Num (pos 7001)) 2 2) ≡ Goes 2 Nil 2
 unfolding Rattle.do_base.specs.declared.value.Value.out-Value denote.Hole.Carrier.out
-an_own_root_that_is_not_there_is_nil c = refl
+an_own_root_that_is_not_there_is_nil t = refl
 
 -- ---- a value that is returned
 
 -- what a text comes to that the client returns
-abbrev text_returned : Sees → Laws → Verdict
-text_returned s laws = act_rule (record { laws = laws; sees = s; node = client }) go_method (Return a_text)
+abbrev text_returned : RunContext → Laws → Verdict
+text_returned t laws = act_rule (record t { laws = laws; top = going five }) (Return a_text)
 
 -- `go:` returns a number
-go_returns_no_text : (s : Sees) → text_returned s counter_laws ≡ Ends (answers.Raised TypeFault)
+go_returns_no_text : (t : RunContext) → text_returned t counter_laws ≡ Ends (answers.Raised TypeFault)
 unfolding Rattle.do_base.specs.declared.value.Value.out-Value denote.Hole.Carrier.out
-go_returns_no_text s = computed (text_returned s) (Ends (answers.Raised TypeFault)) refl
+go_returns_no_text t = computed (text_returned t) (Ends (answers.Raised TypeFault)) refl
 
 -- ---- what a run comes to
 
@@ -189,19 +196,68 @@ in_state s = record client { stack = record (going five) { state = s } ∷ [] }
 
 -- a node whose top invocation waits has nothing to do
 a_waiting_invocation_does_nothing : (c : Context) (number peer : ℕ) (what : Waited) →
-    verdict (record c { node = in_state (Waits number peer what) }) ≡ None
+    decided (record c { node = in_state (Waits number peer what) }) ≡ None
 a_waiting_invocation_does_nothing c number peer what = refl
 
 -- nor has a node without an invocation
-a_node_without_an_invocation_does_nothing : (c : Context) → verdict (record c { node = client }) ≡ None
+a_node_without_an_invocation_does_nothing : (c : Context) → decided (record c { node = client }) ≡ None
 a_node_without_an_invocation_does_nothing c = refl
 
 -- nor one whose top invocation runs a method of an object that is not stored
 a_method_of_an_object_not_stored_does_nothing : (c : Context) →
-    verdict (record c { node = record (in_state Running) { heap = [] } }) ≡ None
+    decided (record c { node = record (in_state Running) { heap = [] } }) ≡ None
 a_method_of_an_object_not_stored_does_nothing c = refl
 
 -- an exception that came as the answer ends the invocation
 an_exception_that_came_ends_the_invocation : (c : Context) (e : Exc) →
-    verdict (record c { node = in_state (Answered (answers.Raised e)) }) ≡ Some (Ends (answers.Raised e))
+    decided (record c { node = in_state (Answered (answers.Raised e)) }) ≡ Some (Ends (answers.Raised e))
 an_exception_that_came_ends_the_invocation c e = refl
+
+-- ---- a local or a slot that is not there
+
+-- a node with an invocation on top
+abbrev with_invocation : Invocation → Node
+with_invocation i = record client { stack = i ∷ [] }
+
+-- the client's method begins with its local 1, and does nothing where it has local 0 alone
+a_local_past_their_number_is_not_written : (c : Context) →
+    decided (record c { laws = counter_laws; node = with_invocation (record (going five) { locals = five ∷ [] }) }) ≡ None
+a_local_past_their_number_is_not_written c = refl
+
+-- an answer for a local that is not there does nothing
+an_answer_for_no_local_is_not_used : (c : Context) →
+    decided (record c { node = with_invocation (record (going five) { into = 16; state = Answered (answers.Given five) }) }) ≡ None
+an_answer_for_no_local_is_not_used c = refl
+
+-- one for the last is used
+an_answer_for_the_last_local_is_used : (c : Context) →
+    decided (record c { node = with_invocation (record (going five) { into = 15; state = Answered (answers.Given five) }) }) ≡ Some (Goes 15 five 0)
+an_answer_for_the_last_local_is_used c = refl
+
+-- the counter's method where it writes its slot, at a node whose object has these slots
+abbrev writing : Listed Value → Node
+writing slots =
+    let method : MethodId = record { class = record { 0 = 0 }; index = 0 } in
+    let x : Stored = record { serial = 1; class = record { 0 = 0 }; slots = slots } in
+    record (with_invocation (record (going five) { method = method; pc = 2; locals = five ∷ five ∷ [] })) { heap = x ∷ [] }
+
+-- a slot that is not there is not written
+a_slot_that_is_not_there_is_not_written : (c : Context) → decided (record c { laws = counter_laws; node = writing [] }) ≡ None
+a_slot_that_is_not_there_is_not_written c = refl
+
+-- one that is there is
+a_slot_that_is_there_is_written : (c : Context) → decided (record c { laws = counter_laws; node = writing (Nil ∷ []) }) ≡ Some (Writes 0 five 3)
+a_slot_that_is_there_is_written c = refl
+
+-- a send that is refused raises, whether or not a local for its answer is there
+a_refused_send_needs_no_local : (c : Context) →
+    let sends : Laws = record counter_laws { act = λ i slots. Some (Send five (codes "add:") [] 16 3) } in
+    decided (record c { laws = sends; node = with_invocation (going five) }) ≡ Some (Ends (answers.Raised TypeFault))
+unfolding Rattle.do_base.specs.declared.value.Value.out-Value denote.Hole.Carrier.out
+a_refused_send_needs_no_local c = refl
+
+-- ---- how a root opens
+
+-- a class that is not there has no root
+a_class_that_is_not_there_has_no_root : opening_root counter_classes (record { 0 = 2 }) ≡ None
+a_class_that_is_not_there_has_no_root = refl

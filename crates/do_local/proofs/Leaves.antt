@@ -1,8 +1,10 @@
 -- A node that leaves objects, one after another.
-use Rattle.std.proofs.Common.{◌≡◌, ℕ, zero, suc, ◌+◌, ◌-◌, ◌≤◌, ◌<◌, Bool, true, false, List, [], ◌∷◌, ◌++◌, length, get_or, take, drop, Some, None, refl, ap, sym, ◌∙◌, subst, arith}
+use Rattle.std.proofs.Common.{◌≡◌, ℕ, zero, suc, ◌+◌, ◌-◌, ◌≤◌, ◌<◌, Bool, true, false, List, [], ◌∷◌, ◌++◌, length, take, drop, Some, refl, ap, sym, ◌∙◌, subst, arith}
 use Rattle.std.specs.Prelude.{slice_get, not, filter}
 use Rattle.std.specs.List.{remove}
 use Rattle.std.proofs.lemmas.Grind.{common_steps}
+use Rattle.std.proofs.lemmas.List.{append-nil, drop_all, take_all}
+use Rattle.std.proofs.lemmas.Option.{slice_get_read, slice_get_within}
 use Rattle.do_base.specs.Names.{ObjectName}
 use Rattle.do_local.specs.declared.item.Item.TheVariants.{Left}
 use Rattle.do_local.specs.declared.node.Node.{Node}
@@ -10,36 +12,10 @@ use Rattle.do_local.specs.declared.station.Station.{Station}
 use Rattle.do_local.specs.Leaving.{leaving, left_items}
 use Rattle.do_local.specs.Refers.{refers}
 use Rattle.do_local.specs.Stations.{Becomes, queues_of}
-use Rattle.do_local.specs.Room.{HasRoom, LeftSoFar}
+use Rattle.do_local.specs.Room.{HasRoom}
 use Rattle.do_local.specs.Commit.{posted, with_sent}
 
 module _ {X : Type 0} where
-  pub at_within : (xs : List X) (i : ℕ) (x : X) → slice_get xs i ≡ Some x → i < length xs
-  at_within [] i x e = cc
-  at_within (y ∷ ys) zero x e = omega arith
-  at_within (y ∷ ys) (suc i) x e = let h = at_within ys i x e in omega (arith, h)
-
-  past_end : (xs : List X) (i : ℕ) → length xs ≤ i → slice_get xs i ≡ None
-  past_end [] i h = refl
-  past_end (y ∷ ys) zero h = absurd (omega (arith, h))
-  past_end (y ∷ ys) (suc i) h = past_end ys i (omega (arith, h))
-
-  take_end : (xs : List X) (i : ℕ) → slice_get xs i ≡ None → take i xs ≡ xs
-  take_end [] zero e = refl
-  take_end [] (suc i) e = refl
-  take_end (y ∷ ys) zero e = cc
-  take_end (y ∷ ys) (suc i) e = ap (λ t. y ∷ t) (take_end ys i e)
-
-  drop_end : (xs : List X) (i : ℕ) → slice_get xs i ≡ None → drop i xs ≡ []
-  drop_end [] zero e = refl
-  drop_end [] (suc i) e = refl
-  drop_end (y ∷ ys) zero e = cc
-  drop_end (y ∷ ys) (suc i) e = drop_end ys i e
-
-  add_nil : (xs : List X) → xs ++ [] ≡ xs
-  add_nil [] = refl
-  add_nil (x ∷ xs) = ap (λ t. x ∷ t) (add_nil xs)
-
   passed : (p : X → Bool) (xs : List X) (i : ℕ) (x : X) → slice_get xs i ≡ Some x → p x ≡ true
       → take (suc i) xs ++ filter p (drop (suc i) xs) ≡ take i xs ++ filter p (drop i xs)
   passed p [] i x e h = cc
@@ -68,13 +44,19 @@ module _ {X : Type 0} where
   drop_front [] ys (suc i) h = absurd (omega (arith, h))
   drop_front (x ∷ xs) ys (suc i) h = drop_front xs ys i (omega (arith, h))
 
-  pub get_here : (xs : List X) (i : ℕ) (x : X) → i < length xs → x ≡ get_or xs i x → slice_get xs i ≡ Some x
-  get_here [] i x h e = absurd (omega (arith, h))
-  get_here (y ∷ ys) zero x h e = ap Some (sym e)
-  get_here (y ∷ ys) (suc i) x h e = get_here ys i x (omega (arith, h)) e
-
   length_removed : (xs : List X) (i : ℕ) → i < length xs → suc (length (remove xs i)) ≡ length xs
   length_removed xs i h = grind (arith, common_steps)
+
+-- of the objects that a node held at first those before a place were looked at and stay, and those from it on are still
+-- to be looked at: what is left of the way leads where the whole way leads
+pub record LeftSoFar (first now : Station) (at : ℕ) : Type 0 where
+  pub node : now.node ≡ record first.node { held = now.node.held }
+  pub kept : take at now.node.held ++ filter (refers first.node) (drop at now.node.held) ≡ filter (refers first.node) first.node.held
+  pub sent :
+      with_sent (left_items (filter (λ o. not (refers first.node o)) (drop at now.node.held))) (queues_of now.queues) ≡
+      with_sent (left_items (filter (λ o. not (refers first.node o)) first.node.held)) (queues_of first.queues)
+  pub room : HasRoom (length now.node.held - at) now.queues
+  pub within : at ≤ length now.node.held
 
 refers_same : (first now : Station) (at : ℕ) (o : ObjectName) → LeftSoFar first now at
     → refers now.node o ≡ refers first.node o
@@ -85,7 +67,7 @@ pub keeps : (first now : Station) (at : ℕ) (o : ObjectName) → LeftSoFar firs
 keeps first now at o s g r =
     let names : refers first.node o ≡ true = sym (refers_same first now at o s) ∙ r in
     let names_not : not (refers first.node o) ≡ false = ap not names in
-    let lt : at < length now.node.held = at_within now.node.held at o g in
+    let lt : at < length now.node.held = slice_get_within now.node.held at o g in
     subst (λ n. LeftSoFar first now n) (let e : suc at ≡ at + 1 = omega arith in e) (record {
       node = s.node;
       kept = passed (refers first.node) now.node.held at o g names ∙ s.kept;
@@ -98,7 +80,7 @@ pub leaves : (first now new : Station) (at : ℕ) (o : ObjectName) → LeftSoFar
 leaves first now new at o s g r node queues room =
     let names : refers first.node o ≡ false = sym (refers_same first now at o s) ∙ r in
     let names_not : not (refers first.node o) ≡ true = ap not names in
-    let lt : at < length now.node.held = at_within now.node.held at o g in
+    let lt : at < length now.node.held = slice_get_within now.node.held at o g in
     let held : new.node.held ≡ remove now.node.held at = ap (λ (n : Node). n.held) node in
     let fewer : suc (length new.node.held) ≡ length now.node.held = ap (λ os. suc (length os)) held ∙ length_removed now.node.held at lt in
     let front : take at new.node.held ≡ take at now.node.held = ap (take at) held ∙ take_front now.node.held (drop (suc at) now.node.held) at (omega (arith, lt)) in
@@ -120,10 +102,9 @@ starts first room = record { node = refl; kept = refl; sent = refl; room = subst
 pub ends : (first now : Station) (at : ℕ) → LeftSoFar first now at → length now.node.held ≤ at
     → Becomes first now (leaving first.node)
 ends first now at s past =
-    let g : slice_get now.node.held at ≡ None = past_end now.node.held at past in
-    let none : drop at now.node.held ≡ [] = drop_end now.node.held at g in
+    let none : drop at now.node.held ≡ [] = drop_all at now.node.held past in
     let whole : now.node.held ≡ filter (refers first.node) first.node.held =
-    sym (add_nil now.node.held) ∙ ap (λ os. os ++ []) (sym (take_end now.node.held at g)) ∙ ap (λ os. take at now.node.held ++ filter (refers first.node) os) (sym none) ∙ s.kept in
+    sym (append-nil now.node.held) ∙ ap (λ os. os ++ []) (sym (take_all at now.node.held past)) ∙ ap (λ os. take at now.node.held ++ filter (refers first.node) os) (sym none) ∙ s.kept in
     record {
       node = s.node ∙ ap (λ os. record first.node { held = os }) whole;
       queues = ap (λ os. with_sent (left_items (filter (λ x. not (refers first.node x)) os)) (queues_of now.queues)) (sym none) ∙ s.sent;
@@ -138,6 +119,9 @@ pub less_left : (now : Station) (at : ℕ) → at < length now.node.held
     → length now.node.held - (at + 1) < length now.node.held - at
 less_left now at lt = omega (arith, lt)
 
-pub ruleset leave_steps = (keeps, leaves, starts, ends, at_within, fewer_left, less_left)
+-- there is room for an object that is still to be told of
+pub room_for_one : (first now : Station) (at : ℕ) → LeftSoFar first now at → at < length now.node.held
+    → HasRoom 1 now.queues
+room_for_one first now at s lt k d l = let h = s.room k d l in omega (arith, h, lt)
 
-pub ruleset here_steps = (get_here)
+pub ruleset leave_steps = (keeps, leaves, starts, ends, room_for_one, slice_get_read, fewer_left, less_left)

@@ -6,10 +6,12 @@ pub mod ExamplesOfSteps
 pub mod ExamplesOfAnswers
 pub mod ExamplesOfMethods
 pub mod ExamplesOfStates
+pub mod Equality
 pub mod Tables
 pub mod Changes
 pub mod Posting
 pub mod Runs
+pub mod Below
 pub mod Leaves
 pub mod Padding
 pub mod Entries

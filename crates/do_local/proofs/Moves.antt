@@ -1,6 +1,6 @@
 -- Steps of one station are steps of the state.
-use Rattle.std.proofs.Common.{◌≡◌, ℕ, zero, suc, ◌≤◌, ◌<◌, Bool, true, false, cond, List, [], ◌∷◌, ◌++◌, length, Option, Some, None, refl, ap, sym, ◌∙◌, subst, arith, eq-eqb}
-use Rattle.std.specs.Prelude.{slice_get, slice_set, ◌==◌, option_and_then, OnErr, Result, Ok, Err}
+use Rattle.std.proofs.Common.{◌≡◌, ℕ, zero, suc, ◌≤◌, Bool, true, false, cond, List, [], ◌∷◌, Option, Some, None, refl, ap, sym, ◌∙◌, subst, arith, eq-eqb}
+use Rattle.std.specs.Prelude.{slice_get, slice_set, ◌==◌, OnErr, Result, Ok, Err}
 use Rattle.std.specs.List.{position, position_or_len}
 use Rattle.std.specs.Option.{option_map}
 use Rattle.do_base.specs.declared.shown.Shown.{Shown}
@@ -12,15 +12,20 @@ use Rattle.do_local.specs.declared.verdict.Verdict.{Verdict}
 use Rattle.do_local.specs.Effect.{Effect, only}
 use Rattle.do_local.specs.Changes.{pushed}
 use Rattle.do_local.specs.Context.{Context, context}
-use Rattle.do_local.specs.Verdicts.{effect_of, run_effect, state_rule, verdict}
+use Rattle.do_local.specs.RunContext.{RunContext}
+use Rattle.do_local.specs.Verdicts.{effect_of, run_effect}
 use Rattle.do_local.specs.Laws.{Laws}
 use Rattle.do_local.specs.Leaving.{leaving}
-use Rattle.do_local.specs.Stations.{ComesTo, FewCalls, IsSame, Moves, queues_of, state_of}
+use Rattle.do_local.specs.Stations.{ComesTo, FewCalls, IsSame, Moves, queues_of, state_of, IsRunContextOf, decided}
 use Rattle.do_local.specs.State.{node}
 use Rattle.do_local.specs.Commit.{moved, with_sent}
 use Rattle.do_local.specs.Step.{begun, moved_at, run, start, start_effect}
 use Rattle.do_local.specs.Tables.{Table, change}
 use Rattle.do_local.proofs.Effects.{effect_keeps}
+use Rattle.do_local.proofs.Changes.{still_run_context}
+use Rattle.do_local.proofs.Runs.{decided_on, decided_top, undecided}
+use Rattle.std.proofs.lemmas.List.{append-nil}
+use Rattle.std.proofs.lemmas.List.Elements.{All-set}
 use Rattle.do_local.proofs.Tables.{change_set, get_at, get_none, here, is_at, step}
 
 pub change_twice : {X : Type 0} (k : ℕ) (f g : X → X) (t : Table X)
@@ -49,10 +54,6 @@ station_moved stations port at old new e p g s same =
     let nodes = change_twice port (λ n. d.node) (λ n. e.node) (state_of stations).nodes ∙ change_set (λ (p : Station). p.node.port) (λ (p : Station). p.node) port (λ n. d.node) stations at old new p g same s.node in
     let queues = change_twice port (with_sent d.sent) (with_sent e.sent) (state_of stations).queues ∙ change_set (λ (p : Station). p.node.port) (λ (p : Station). queues_of p.queues) port (λ q. with_sent d.sent (with_sent e.sent q)) stations at old new p g same s.queues in
     λ i. record { nodes = sym nodes i; queues = sym queues i }
-
-add_nil : {X : Type 0} (xs : List X) → xs ++ [] ≡ xs
-add_nil [] = refl
-add_nil (x ∷ xs) = ap (λ t. x ∷ t) (add_nil xs)
 
 pub same_state : (stations : List Station) (at : ℕ) (old new : Station) → slice_get stations at ≡ Some old
     → IsSame old new → state_of (slice_set stations at new) ≡ state_of stations
@@ -113,7 +114,7 @@ module _ (stations : List Station) (port : ℕ) (effect : Node → Option Effect
   moves_on at old new d shown e g moves s same told =
       rw (node_at stations port at old e g, moves) (record {
         state = station_moved stations port at old new d e g s same;
-        outcome = ap (λ ss. record { enabled = true; shown = ss }) (told ∙ sym (add_nil d.shown));
+        outcome = ap (λ ss. record { enabled = true; shown = ss }) (told ∙ sym (append-nil d.shown));
       })
 
 -- ---- a run and a start
@@ -131,23 +132,19 @@ pub port_at : (stations : List Station) (port at : ℕ) (p : Station) → positi
     → slice_get stations at ≡ Some p → p.node.port ≡ port
 port_at stations port at p e g = sym (is_at (λ (p : Station). p.node.port) (λ (p : Station). p.node) port p (passes_at (at_port port) stations at p e g))
 
-top_there : (c : Context) (is : List Invocation) (v : Verdict)
-    → Some v ≡ option_and_then (λ (i : Invocation). state_rule c i i.state) (slice_get is 0) → 0 < length is
-top_there c [] v e = cc
-top_there c (i ∷ is) v e = omega arith
-
-pub verdict_top : (c : Context) (v : Verdict) → Some v ≡ verdict c → 0 < length c.node.stack
-verdict_top c v e = top_there c c.node.stack v e
-
 pub calls_kept : (old new : Station) → IsSame old new → new.node.next_call ≤ suc old.node.next_call
 calls_kept old new s =
     let h : new.node.next_call ≡ old.node.next_call = ap (λ (n : Node). n.next_call) s.node in omega (arith, h)
 
-pub calls_moved : (old new : Station) (v : Verdict) → Moves old new (effect_of old.node v)
-    → new.node.next_call ≤ suc old.node.next_call
-calls_moved old new v s =
-    let h : new.node.next_call ≡ (effect_of old.node v).node.next_call = ap (λ (n : Node). n.next_call) s.node in
-    let k = (effect_keeps old.node v).calls in omega (arith, h, k)
+pub calls_moved : (old new : Station) (c : Context) (v : Verdict) → c.node ≡ old.node → Some v ≡ decided c
+    → ((t : RunContext) → IsRunContextOf old.node t → Moves old new (effect_of t v)) → new.node.next_call ≤ suc old.node.next_call
+calls_moved old new c v same is moves =
+    let d = decided_on c v is in
+    let mine = still_run_context c.node old.node d.on (sym same) d.own in
+    let h : new.node.next_call ≡ (effect_of d.on v).node.next_call = ap (λ (n : Node). n.next_call) (moves d.on mine).node in
+    let k = (effect_keeps d.on v).calls in
+    let n : d.on.node.next_call ≡ old.node.next_call = ap (λ (n : Node). n.next_call) mine.same in
+    omega (arith, h, k, n)
 
 pub calls_pushed : (old new : Station) (i : Invocation) → Moves old new (only (pushed i old.node))
     → new.node.next_call ≤ suc old.node.next_call
@@ -156,18 +153,21 @@ calls_pushed old new i s =
 
 module _ (laws : Laws) (stations : List Station) (port at : ℕ) (old : Station)
     (found : position (at_port port) stations ≡ Some at) (here : slice_get stations at ≡ Some old) where
-  pub run_idle : None ≡ verdict (context laws (state_of stations) old.node)
+  pub run_idle : None ≡ decided (context laws (state_of stations) old.node)
       → ComesTo stations None (run laws (state_of stations) port)
   run_idle v =
       moves_idle stations port (λ n. run_effect (context laws (state_of stations) n)) at old found here
-      (ap (option_map (effect_of old.node)) (sym v))
+      (undecided (context laws (state_of stations) old.node) v)
 
   pub run_moves : (new : Station) (v : Verdict) (shown : List Shown)
-      → Some v ≡ verdict (context laws (state_of stations) old.node) → Moves old new (effect_of old.node v)
-      → shown ≡ (effect_of old.node v).shown → ComesTo (slice_set stations at new) (Some shown) (run laws (state_of stations) port)
-  run_moves new v shown is s told =
-      moves_on stations port (λ n. run_effect (context laws (state_of stations) n)) at old new (effect_of old.node v) shown found here
-      (ap (option_map (effect_of old.node)) (sym is)) s (ap (λ (n : Node). n.port) s.node ∙ (effect_keeps old.node v).port) told
+      → Some v ≡ decided (context laws (state_of stations) old.node)
+      → ((t : RunContext) → IsRunContextOf old.node t → Moves old new (effect_of t v))
+      → ((t : RunContext) → IsRunContextOf old.node t → shown ≡ (effect_of t v).shown) → ComesTo (slice_set stations at new) (Some shown) (run laws (state_of stations) port)
+  run_moves new v shown is moves told =
+      let d = decided_on (context laws (state_of stations) old.node) v is in
+      let s = moves d.on d.own in
+      moves_on stations port (λ n. run_effect (context laws (state_of stations) n)) at old new (effect_of d.on v) shown found here
+      d.effect s (ap (λ (n : Node). n.port) s.node ∙ (effect_keeps d.on v).port ∙ ap (λ (n : Node). n.port) d.own.same) (told d.on d.own)
 
   pub start_idle : (selector : List ℕ) (values : List Value) → None ≡ begun laws selector values old.node
       → ComesTo stations None (start laws (state_of stations) port selector values)
@@ -187,12 +187,11 @@ on_err (Err e) P p = p
 
 pub few_kept : (k : ℕ) (stations : List Station) (at : ℕ) (old new : Station) → slice_get stations at ≡ Some old
     → IsSame old new → FewCalls k stations → FewCalls k (slice_set stations at new)
-few_kept k [] at old new g s few j d lt = absurd (omega (arith, lt))
-few_kept k (p ∷ ps) zero old new g s few zero d lt = let same : p ≡ old = cc in let e : new.node ≡ p.node = s.node ∙ ap (λ (q : Station). q.node) (sym same) in let h = few 0 p (omega arith) in subst (λ (m : Node). m.next_call ≤ k) (sym e) h
-few_kept k (p ∷ ps) zero old new g s few (suc j) d lt = few (suc j) d lt
-few_kept k (p ∷ ps) (suc at) old new g s few zero d lt = few 0 d (omega arith)
-few_kept k (p ∷ ps) (suc at) old new g s few (suc j) d lt = few_kept k ps at old new g s (λ i c l. few (suc i) c (omega (arith, l))) j d (omega (arith, lt))
+few_kept k stations at old new g same few =
+    let before = few_at k stations at old few g in
+    let calls = ap (λ (m : Node). m.next_call) same.node in
+    All-set (λ (p : Station). p.node.next_call ≤ k) stations at new (omega (arith, before, calls)) few
 
-pub ruleset run_steps = (moves_none, run_idle, run_moves, verdict_top, calls_kept, calls_moved, same_state, few_more, few_after, few_at, few_kept)
+pub ruleset run_steps = (moves_none, run_idle, run_moves, decided_top, calls_kept, calls_moved, same_state, few_more, few_after, few_at, few_kept)
 
 pub ruleset start_steps = (moves_none, start_idle, start_moves, calls_kept, calls_pushed, same_state, few_more, few_after, few_kept)

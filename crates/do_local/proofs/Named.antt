@@ -11,6 +11,7 @@ use Rattle.do_local.specs.declared.item.Item.TheVariants.{Left}
 use Rattle.do_local.specs.Items.{Naming, Exported, Mentioned, is_exported, is_released, named_as, named_in, naming, released}
 use Rattle.do_local.specs.Refers.{objects_in, value_names, values_name}
 use Rattle.do_local.specs.State.{has_object, same_object}
+use Rattle.do_local.proofs.Equality.{equal_either_way}
 
 or_false : (b : Bool) → (b || false) ≡ b
 or_false true = refl
@@ -79,7 +80,7 @@ released_none from (o ∷ os) =
     ]
 
 elsewhere : (o p : ObjectName) → (p.node == o.node) ≡ false → same_object o p ≡ false
-elsewhere o p d = let e : (o.node == p.node) ≡ false = grind (arith, common_steps) in ap (λ b. b && (o.serial == p.serial)) e
+elsewhere o p d = ap (λ b. b && (o.serial == p.serial)) (equal_either_way o.node p.node ∙ d)
 
 -- an object is among those of its home exactly where it is among all
 own_kept : (o : ObjectName) (os : Listed ObjectName)

@@ -1,15 +1,12 @@
 -- A list that is filled up with nil.
 use Rattle.std.proofs.Common.{◌≡◌, ℕ, zero, suc, ◌+◌, ◌-◌, ◌≤◌, List as Listed, [], ◌∷◌, ◌++◌, length, replicate, refl, ap, sym, ◌∙◌, arith, append_assoc}
+use Rattle.std.proofs.lemmas.List.{append-nil}
 use Rattle.do_base.specs.declared.value.Value.{Value}
 use Rattle.do_base.specs.declared.value.Value.TheVariants.{Nil}
 
 one_more : (k : ℕ) → replicate k Nil ++ Nil ∷ [] ≡ replicate (suc k) Nil
 one_more zero = refl
 one_more (suc k) = ap (λ vs. Nil ∷ vs) (one_more k)
-
-no_more : (vs : Listed Value) → vs ++ [] ≡ vs
-no_more [] = refl
-no_more (v ∷ vs) = ap (λ ws. v ∷ ws) (no_more vs)
 
 pub padded_more : (vs : Listed Value) (at : ℕ) → length vs ≤ at
     → (vs ++ replicate (at - length vs) Nil) ++ Nil ∷ [] ≡ vs ++ replicate (at + 1 - length vs) Nil
@@ -18,7 +15,7 @@ padded_more vs at h =
     append_assoc vs (replicate (at - length vs) Nil) (Nil ∷ []) ∙ ap (λ ns. vs ++ ns) (one_more (at - length vs)) ∙ ap (λ k. vs ++ replicate k Nil) more
 
 pub padded_none : (vs : Listed Value) → vs ≡ vs ++ replicate (length vs - length vs) Nil
-padded_none vs = let none : 0 ≡ length vs - length vs = omega arith in sym (no_more vs) ∙ ap (λ k. vs ++ replicate k Nil) none
+padded_none vs = let none : 0 ≡ length vs - length vs = omega arith in sym (append-nil vs) ∙ ap (λ k. vs ++ replicate k Nil) none
 
 pub padded_all : (vs : Listed Value) (at : ℕ) → 16 ≤ at → (length vs ≤ 16 → at ≤ 16)
     → (16 ≤ length vs → at ≡ length vs)

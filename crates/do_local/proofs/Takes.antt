@@ -25,20 +25,18 @@ use Rattle.do_local.specs.Tables.{Table, change}
 use Rattle.do_local.specs.Holding.{all_joined, holding}
 use Rattle.do_local.proofs.Moves.{at_port, calls_kept, few_kept, node_at, same_state, station_moved}
 use Rattle.do_local.proofs.Effects.{arrival_keeps}
+use Rattle.do_local.proofs.Equality.{equal_either_way}
 use Rattle.do_local.proofs.Tables.{get_none}
 
 clash : (p f k : ℕ) → (p == f) ≡ false → (p == k) ≡ true → (f == k) ≡ false
 clash p f k d e = grind (arith, common_steps)
-
-other_way : (p q : ℕ) → (p == q) ≡ false → (q == p) ≡ false
-other_way p q d = grind (arith, common_steps)
 
 pub change_commutes : {X : Type 0} (p q : ℕ) (f g : X → X) (t : Table X) → (p == q) ≡ false
     → change q g (change p f t) ≡ change p f (change q g t)
 change_commutes p q f g [] d = refl
 change_commutes p q f g (e ∷ t) d =
     elim (p == e.0) as (λ b. (p == e.0) ≡ b → change q g (cond b ((p, f e.1) ∷ t) (e ∷ change p f t)) ≡ change p f (change q g (e ∷ t))) [
-      | true ↦ λ hp. let hq : (q == e.0) ≡ false = clash p q e.0 d hp in let qp : (q == p) ≡ false = other_way p q d in rw (hq, hp, qp) refl
+      | true ↦ λ hp. let hq : (q == e.0) ≡ false = clash p q e.0 d hp in let qp : (q == p) ≡ false = equal_either_way q p ∙ d in rw (hq, hp, qp) refl
       | false ↦ λ hp.
           elim (q == e.0) as (λ b. (q == e.0) ≡ b → cond b ((q, g e.1) ∷ change p f t) (e ∷ change q g (change p f t)) ≡ change p f (cond b ((q, g e.1) ∷ t) (e ∷ change q g t))) [
             | true ↦ λ hq. rw d refl

@@ -4,7 +4,6 @@ use Rattle.do_base.specs.declared.value.Value.{Value, out-Value}
 use Rattle.do_base.specs.declared.value.Value.TheOpen.{Value-F}
 use Rattle.do_base.specs.declared.value.Value.TheVariants.{Nil, Obj}
 use Rattle.do_base.specs.declared.shown.Exc.TheVariants.{TypeFault, ConnectionDied}
-use Rattle.do_class.specs.declared.ids.MethodId.{MethodId}
 use Rattle.do_local.specs.declared.act.Act.{Act}
 use Rattle.do_local.specs.declared.act.Act.TheVariants.{Assign, Write, Root, Send, Say, Return, Raise}
 use Rattle.do_local.specs.declared.invocation.Answer.TheVariants as answers
@@ -12,8 +11,7 @@ use Rattle.do_local.specs.declared.node.Node.{Node}
 use Rattle.do_local.specs.declared.verdict.Verdict.{Verdict}
 use Rattle.do_local.specs.declared.verdict.Verdict.TheVariants.{Goes, Writes, Says, Asks, Ends}
 use Rattle.do_local.specs.declared.verdict.Request.TheVariants as requests
-use Rattle.do_local.specs.Laws.{Laws}
-use Rattle.do_local.specs.Context.{Context}
+use Rattle.do_local.specs.RunContext.{RunContext}
 use Rattle.do_local.specs.Sending.{fails, send_rule}
 use Rattle.do_local.specs.State.{is_open, own}
 
@@ -36,33 +34,33 @@ abbrev pub number_in : Value → Option ℤ
 number_in v = level_number (out-Value v)
 
 -- a root is asked for by a number; the own one is there at once, and another is asked for over an open end
-abbrev pub root_rule : Node → Value → ℕ → ℕ → Verdict
-root_rule n value into pc =
+abbrev pub root_rule : RunContext → Value → ℕ → ℕ → Verdict
+root_rule r value into pc =
     elim (number_in value) [
       | None ↦ fails TypeFault
       | Some number ↦
           elim (port_of number) [
             | None ↦ fails ConnectionDied
             | Some port ↦
-                if port == n.port then Goes into (root_value n) pc
-                else if not (is_open n port) then fails ConnectionDied
+                if port == r.node.port then Goes into (root_value r.node) pc
+                else if not (is_open r.node port) then fails ConnectionDied
                 else Asks port requests.Root into pc
           ]
     ]
 
--- what is returned fits the method's result
-abbrev pub return_rule : Laws → MethodId → Value → Verdict
-return_rule laws method v =
-    if not (laws.result_fits method v) then fails TypeFault
+-- what is returned fits the result of the method that returns it
+abbrev pub return_rule : RunContext → Value → Verdict
+return_rule r v =
+    if not (r.laws.result_fits r.top.method v) then fails TypeFault
     else Ends (answers.Given v)
 
--- what becomes of an act of an invocation of a method
-abbrev pub act_rule : Context → MethodId → Act → Verdict
-act_rule c method (Assign into value pc) = Goes into value pc
-act_rule c method (Write slot value pc) = Writes slot value pc
-act_rule c method (Root port into pc) = root_rule c.node port into pc
-act_rule c method (Send target selector args into pc) =
-    send_rule c (record { target = target; selector = selector; args = args; into = into; pc = pc })
-act_rule c method (Say value pc) = Says value pc
-act_rule c method (Return value) = return_rule c.laws method value
-act_rule c method (Raise e) = fails e
+-- what becomes of the next act
+abbrev pub act_rule : RunContext → Act → Verdict
+act_rule r (Assign into value pc) = Goes into value pc
+act_rule r (Write slot value pc) = Writes slot value pc
+act_rule r (Root port into pc) = root_rule r port into pc
+act_rule r (Send target selector args into pc) =
+    send_rule r (record { target = target; selector = selector; args = args; into = into; pc = pc })
+act_rule r (Say value pc) = Says value pc
+act_rule r (Return value) = return_rule r value
+act_rule r (Raise e) = fails e

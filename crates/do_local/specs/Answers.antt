@@ -20,6 +20,8 @@ use Rattle.do_local.specs.declared.invocation.Waited.{Waited}
 use Rattle.do_local.specs.declared.invocation.Waited.TheVariants.{Method, Root}
 use Rattle.do_local.specs.declared.node.Node.{Node}
 use Rattle.do_local.specs.State.{is_open}
+use Rattle.do_local.specs.RunContext.{RunContext}
+use Rattle.do_local.specs.Changes.{without_top}
 use Rattle.do_local.specs.Tables.{change_first}
 use Rattle.do_local.specs.Effect.{Effect, only, queueing, showing}
 
@@ -44,9 +46,8 @@ delivery a n None = showing (answer_line a) n
 delivery a n (Some call) = if is_open n call.node then queueing call.node (answer_item call.number a) n else only n
 
 -- the top invocation is popped, and its answer delivered
-abbrev pub ending : Answer → Node → List Invocation → Effect
-ending a n [] = only n
-ending a n (i ∷ below) = delivery a (record n { stack = below }) (caller_of i.reason)
+abbrev pub ending : Answer → RunContext → Effect
+ending a r = delivery a (without_top r) (caller_of r.top.reason)
 
 -- an invocation of this state waits for the call of a number to a peer
 abbrev pub awaits : ℕ → ℕ → InvState → Bool

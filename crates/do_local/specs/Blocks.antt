@@ -21,15 +21,19 @@ followed a b = record {
   };
 }
 
--- so many runs of a node behind what was stepped before
-abbrev pub runs : ℕ → Laws → ℕ → Stepped → Stepped
-runs zero laws port s = s
-runs (suc k) laws port s = runs k laws port (followed s (step laws s.state (events.Run port)))
+-- one run of a node more, behind what was stepped before
+abbrev pub and_a_run : Laws → ℕ → Stepped → Stepped
+and_a_run laws port s = followed s (step laws s.state (events.Run port))
+
+-- so many runs of a node, one after another
+abbrev pub runs : ℕ → Laws → ℕ → State → Stepped
+runs zero laws port S = skipped S
+runs (suc k) laws port S = and_a_run laws port (runs k laws port S)
 
 -- what a line does: one event, or several runs of a node
 abbrev pub line_step : Laws → State → Line → Stepped
 line_step laws S (Start port selector values) = step laws S (events.Start port selector values)
-line_step laws S (Run port count) = runs count laws port (skipped S)
+line_step laws S (Run port count) = runs count laws port S
 line_step laws S (Take port from) = step laws S (events.Take port from)
 line_step laws S Check = step laws S events.Check
 

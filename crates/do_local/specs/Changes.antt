@@ -1,5 +1,5 @@
 -- How a step changes its node: the top invocation, a slot of its object, the next call number.
-use Rattle.std.specs.Prelude.{ℕ, ◌==◌, List, [], ◌∷◌, suc, slice_set}
+use Rattle.std.specs.Prelude.{ℕ, ◌==◌, List, ◌∷◌, suc, slice_set}
 use Rattle.do_base.specs.declared.value.Value.{Value}
 use Rattle.do_local.specs.declared.invocation.Invocation.{Invocation}
 use Rattle.do_local.specs.declared.invocation.InvState.TheVariants.{Running, Waits}
@@ -7,15 +7,15 @@ use Rattle.do_local.specs.declared.invocation.Waited.{Waited}
 use Rattle.do_local.specs.declared.node.Node.{Node}
 use Rattle.do_local.specs.declared.node.Stored.{Stored}
 use Rattle.do_local.specs.Tables.{change_first}
+use Rattle.do_local.specs.RunContext.{RunContext}
 
--- the stack with its top invocation changed
-abbrev pub change_top : (Invocation → Invocation) → List Invocation → List Invocation
-change_top f [] = []
-change_top f (i ∷ below) = f i ∷ below
+-- the node with the top invocation changed
+abbrev pub with_top : (Invocation → Invocation) → RunContext → Node
+with_top f r = record r.node { stack = f r.top ∷ r.below }
 
--- the node with its top invocation changed
-abbrev pub with_top : (Invocation → Invocation) → Node → Node
-with_top f n = record n { stack = change_top f n.stack }
+-- the node without the top invocation
+abbrev pub without_top : RunContext → Node
+without_top r = record r.node { stack = r.below }
 
 -- the node with an invocation on top
 abbrev pub pushed : Invocation → Node → Node
@@ -41,14 +41,9 @@ with_slot slot value x = record x { slots = slice_set x.slots slot value }
 abbrev pub heap_with : ℕ → ℕ → Value → List Stored → List Stored
 heap_with serial slot value heap = change_first (λ x. x.serial == serial) (with_slot slot value) heap
 
--- the node with a value in a slot of the object of its top invocation, where it has one
-abbrev pub writes_by : List Invocation → ℕ → Value → Node → Node
-writes_by [] slot value n = n
-writes_by (i ∷ below) slot value n = record n { heap = heap_with i.object.serial slot value n.heap }
-
--- the object of the top invocation has a value in a slot
-abbrev pub writes : ℕ → Value → Node → Node
-writes slot value n = writes_by n.stack slot value n
+-- the heap with a value in a slot of the object of the top invocation
+abbrev pub written_heap : ℕ → Value → RunContext → List Stored
+written_heap slot value r = heap_with r.top.object.serial slot value r.node.heap
 
 -- the node's next call number is used up
 abbrev pub uses_number : Node → Node

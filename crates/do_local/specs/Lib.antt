@@ -7,6 +7,7 @@ pub mod Entry
 pub mod Counter
 pub mod Laws
 pub mod Context
+pub mod RunContext
 pub mod Sending
 pub mod Acts
 pub mod Effect

@@ -14,7 +14,7 @@ use Rattle.do_local.specs.declared.verdict.Verdict.{Verdict}
 use Rattle.do_local.specs.declared.verdict.Verdict.TheVariants.{Goes, Asks, Ends}
 use Rattle.do_local.specs.declared.verdict.Request.TheVariants as requests
 use Rattle.do_local.specs.State.{is_open, holds}
-use Rattle.do_local.specs.Context.{Context}
+use Rattle.do_local.specs.RunContext.{RunContext}
 use Rattle.do_local.specs.Laws.{method_for}
 
 -- an exception ends an invocation, since no method of this world sets a handler
@@ -48,18 +48,18 @@ abbrev pub calls : ObjectName → MethodId → SendAct → Verdict
 calls o method s = Asks o.node (requests.Call method (message_of o s)) s.into s.pc
 
 -- what becomes of a send: the first of these rules that applies decides; no method of this world sends to an own object
-abbrev pub send_rule : Context → SendAct → Verdict
-send_rule c s =
+abbrev pub send_rule : RunContext → SendAct → Verdict
+send_rule r s =
     if is_nil s.target then Goes s.into Nil s.pc
     else elim (object_of s.target) [
       | None ↦ fails TypeFault
       | Some o ↦
-          if not (is_open c.node o.node) then fails ConnectionDied
-          else if not (holds c.node o) then fails NotVended
-          else elim (method_for c.laws (c.sees.class_of o) s.selector) [
+          if not (is_open r.node o.node) then fails ConnectionDied
+          else if not (holds r.node o) then fails NotVended
+          else elim (method_for r.laws (r.sees.class_of o) s.selector) [
             | None ↦ fails NotUnderstood
             | Some method ↦
-                if not (c.laws.inputs_fit method s.args) then fails TypeFault
+                if not (r.laws.inputs_fit method s.args) then fails TypeFault
                 else calls o method s
           ]
     ]

@@ -1,5 +1,5 @@
--- The state that the machine's stations are.
-use Rattle.std.specs.Prelude.{◌≡◌, ℕ, suc, ◌≤◌, true, false, List, [], map, Option, Some, None}
+-- The state that the machine's stations are, and what is decided of a run among them.
+use Rattle.std.specs.Prelude.{◌≡◌, ℕ, suc, ◌≤◌, true, false, List, [], ◌∷◌, map, Option, Some, None, option_and_then}
 use Rattle.std.specs.List.{All}
 use Rattle.std.specs.List.Sorted.{IsStrictlyIncreasing}
 use Rattle.do_base.specs.declared.shown.Shown.{Shown}
@@ -7,12 +7,15 @@ use Rattle.do_local.specs.declared.item.Item.{Item}
 use Rattle.do_local.specs.declared.station.Queue.{Queue}
 use Rattle.do_local.specs.declared.station.Station.{Station}
 use Rattle.do_local.specs.declared.outcome.Outcome.{Outcome}
+use Rattle.do_local.specs.declared.verdict.Verdict.{Verdict}
 use Rattle.do_class.specs.Class.{Class}
 use Rattle.do_local.specs.declared.node.Node.{Node}
 use Rattle.do_local.specs.Tables.{Table, keys}
 use Rattle.do_local.specs.State.{State}
 use Rattle.do_local.specs.Laws.{laws_of}
 use Rattle.do_local.specs.Context.{Context, context}
+use Rattle.do_local.specs.RunContext.{RunContext, run_context_of}
+use Rattle.do_local.specs.Verdicts.{verdict}
 use Rattle.do_local.specs.Effect.{Effect}
 use Rattle.do_local.specs.Leaving.{leaving}
 use Rattle.do_local.specs.Commit.{Stepped, with_sent}
@@ -31,6 +34,15 @@ state_of stations = record {
 -- a node among the stations of a machine, by which its steps are judged
 abbrev pub context_of : List Class → List Station → Node → Context
 context_of table stations n = context (laws_of table) (state_of stations) n
+
+-- what is decided of a run, where there is an invocation that can act
+abbrev pub decided : Context → Option Verdict
+decided c = option_and_then verdict (run_context_of c)
+
+-- its node is this one, and its invocations are that node's stack, whatever its laws and what it sees
+pub record IsRunContextOf (n : Node) (r : RunContext) : Type 0 where
+  pub same : r.node ≡ n
+  pub stack : n.stack ≡ r.top ∷ r.below
 
 -- a station after an effect of its node
 pub record Becomes (old new : Station) (e : Effect) : Type 0 where
@@ -58,7 +70,7 @@ pub record IsMachine (stations : List Station) (events : ℕ) : Type 0 where
   -- the nodes stand by rising port
   pub rising : IsStrictlyIncreasing (keys (state_of stations).nodes)
 
--- a step that showed something was enabled
+-- the outcome of a step that was not enabled, or of one that showed this
 abbrev pub outcome_with : Option (List Shown) → Outcome
 outcome_with None = record { enabled = false; shown = [] }
 outcome_with (Some shown) = record { enabled = true; shown = shown }

@@ -18,7 +18,7 @@ use Rattle.do_local.specs.Verdicts.{run_effect}
 use Rattle.do_local.specs.Taking.{can_take, take_effect}
 use Rattle.do_local.specs.Commit.{Stepped, skipped, moved, moved_by}
 
--- what a node of its own accord may do
+-- what a start or a run of a node comes to: its effect, or nothing where it has none
 abbrev pub moved_at : State → ℕ → (Node → Option Effect) → Stepped
 moved_at S port effect = moved_by port S (option_and_then effect (node S port))
 

@@ -1,12 +1,13 @@
 -- Worlds, and how a machine opens.
-use Rattle.std.specs.Prelude.{ℕ, Bool, not, ◌==◌, ◌<◌, ◌≤◌, nat_lt, List, [], ◌∷◌, Option, Some, None, map, filter, length, replicate}
+use Rattle.std.specs.Prelude.{ℕ, Bool, not, ◌==◌, ◌<◌, ◌≤◌, nat_lt, List, [], ◌∷◌, Option, Some, None, map, filter, length, replicate, option_map}
 use Rattle.std.specs.List.{All, IsDistinct}
-use Rattle.do_base.specs.declared.value.Value.{Value}
 use Rattle.do_base.specs.declared.value.Value.TheVariants.{Nil}
 use Rattle.do_class.specs.Class.{Class}
 use Rattle.do_class.specs.Table.{IsTable, slots_of}
+use Rattle.do_class.specs.declared.ids.ClassId.{ClassId}
 use Rattle.do_class.specs.declared.ids.Slot.{Slot}
 use Rattle.do_local.specs.declared.node.Node.{Node}
+use Rattle.do_local.specs.declared.node.Stored.{Stored}
 use Rattle.do_local.specs.declared.world.WorldNode.{WorldNode}
 use Rattle.do_local.specs.Order.{all_inserted}
 use Rattle.do_local.specs.State.{State}
@@ -25,23 +26,31 @@ is_before v w = nat_lt v.node w.node
 
 -- the nodes by rising port
 abbrev pub by_port : List WorldNode → List WorldNode
-by_port nodes = all_inserted is_before nodes []
+by_port nodes = all_inserted is_before nodes
 
--- so many nils as a class has slots; none of a class that is not there
-abbrev nil_slots : Option (List Slot) → List Value
-nil_slots None = []
-nil_slots (Some slots) = replicate (length slots) Nil
+-- the first object of a node, with nil in each slot
+abbrev pub first_object : ClassId → List Slot → Stored
+first_object class slots = record { serial = 1; class = class; slots = replicate (length slots) Nil }
+
+-- a root as it opens; a class that is not there has none
+abbrev pub opening_root : List Class → ClassId → Option Stored
+opening_root table class = option_map (first_object class) (slots_of table class)
+
+-- an object alone, where there is one
+abbrev pub alone : Option Stored → List Stored
+alone None = []
+alone (Some x) = x ∷ []
 
 -- the other nodes' ports
 abbrev pub others : List WorldNode → ℕ → List ℕ
 others nodes port = filter (λ p. not (p == port)) (map (λ w. w.node) nodes)
 
--- a node with its root alone, whose slots are nil, and with open ends towards the others
+-- a node with its root alone, and with open ends towards the others
 abbrev pub opening_node : List Class → List WorldNode → WorldNode → Node
 opening_node table nodes w = record {
   port = w.node;
-  heap = record { serial = 1; class = w.root; slots = nil_slots (slots_of table w.root) } ∷ [];
-  root = Some 1;
+  heap = alone (opening_root table w.root);
+  root = option_map (λ x. x.serial) (opening_root table w.root);
   stack = [];
   next_serial = 2;
   next_call = 1;

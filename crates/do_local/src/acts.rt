@@ -1,10 +1,11 @@
-ghost use Rattle.std.specs.Prelude.{◌≡◌};
+ghost use Rattle.std.specs.Prelude.{◌≡◌, List};
 ghost use Rattle.do_local.specs.Acts.{act_rule, port_of, return_rule, root_rule};
 ghost use Rattle.do_local.specs.Laws.{laws_of};
 ghost use Rattle.do_local.specs.Stations.{context_of};
+ghost use Rattle.do_local.specs.RunContext.{RunContext, run_context};
 
 use crate::act::Act;
-use crate::invocation::Answer;
+use crate::invocation::{Answer, Invocation};
 use crate::laws::result_fits;
 use crate::node::Node;
 use crate::send::{SendAct, fails, send_rule};
@@ -25,7 +26,7 @@ fn node_id(number: i64) -> Option<NodeId>
 
 /// The root of a port is asked for; the own one is there at once.
 fn root_rule(node: &Node, port: &Value, into: u8, pc: u32) -> Verdict
-    ensures { result ≡ root_rule node.now port.now into pc }
+    ensures { (r : RunContext) → r.node ≡ node.now → result ≡ root_rule r port.now into pc }
 {
     let Value::Num(number) = port else {
         return fails(Exc::TypeFault);
@@ -53,7 +54,7 @@ fn root_rule(node: &Node, port: &Value, into: u8, pc: u32) -> Verdict
 
 /// What is returned fits the method's result.
 fn return_rule(table: &ClassTable, method: MethodId, value: Value) -> Verdict
-    ensures { result ≡ return_rule (laws_of table.now) method value }
+    ensures { (r : RunContext) → r.laws ≡ laws_of table.now → r.top.method ≡ method → result ≡ return_rule r value }
 {
     if !result_fits(table, method, &value) {
         return fails(Exc::TypeFault);
@@ -61,15 +62,15 @@ fn return_rule(table: &ClassTable, method: MethodId, value: Value) -> Verdict
     Verdict::Ends(Answer::Given { result: value })
 }
 
-/// What becomes of an act of an invocation of a method.
+/// What becomes of the next act of a node's top invocation.
 pub fn act_rule(
     table: &ClassTable,
     stations: &Stations,
     node: &Node,
-    method: MethodId,
+    top: &Invocation,
     act: Act,
 ) -> Verdict
-    ensures { result ≡ act_rule (context_of table.now stations.now node.now) method act }
+    ensures { (below : List Invocation) → result ≡ act_rule (run_context (context_of table.now stations.now node.now) top.now below) act }
 {
     match act {
         Act::Assign { into, value, pc } => Verdict::Goes { into, value, pc },
@@ -92,7 +93,7 @@ pub fn act_rule(
             send_rule(table, stations, node, send)
         }
         Act::Say { value, pc } => Verdict::Says { value, pc },
-        Act::Return { value } => return_rule(table, method, value),
+        Act::Return { value } => return_rule(table, top.method, value),
         Act::Raise(exc) => fails(exc),
     }
 }

@@ -1,5 +1,7 @@
-ghost use Rattle.std.specs.Prelude.{◌≡◌, ◌<◌, ◌+◌, ◌^◌, length, remove, slice_set};
-ghost use Rattle.do_local.specs.Changes.{goes_on, goes_to, heap_with, uses_number, waits_for, with_top, writes};
+ghost use Rattle.do_local.specs.Stations.{IsRunContextOf};
+ghost use Rattle.std.specs.Prelude.{◌≡◌, ◌<◌, ◌+◌, ◌^◌, length, slice_set};
+ghost use Rattle.do_local.specs.Changes.{goes_on, goes_to, heap_with, uses_number, waits_for, with_top, without_top, written_heap};
+ghost use Rattle.do_local.specs.RunContext.{RunContext};
 
 use crate::find::stored_at;
 use crate::invocation::{InvState, Waited};
@@ -11,7 +13,7 @@ impl Node {
     #[tactic(auto, using(crate::proofs::Changes::top_steps))]
     pub fn go_on(&mut self, into: u8, value: Value, pc: u32)
         requires { 0 < length self.old.stack }
-        ensures { self.new ≡ with_top (goes_on into value pc) self.old }
+        ensures { (r : RunContext) → IsRunContextOf self.old r → self.new ≡ with_top (goes_on into value pc) r }
     {
         let top = self.stack.at_mut(0);
         top.pc = pc;
@@ -23,7 +25,7 @@ impl Node {
     #[tactic(auto, using(crate::proofs::Changes::top_steps))]
     pub fn go_to(&mut self, pc: u32)
         requires { 0 < length self.old.stack }
-        ensures { self.new ≡ with_top (goes_to pc) self.old }
+        ensures { (r : RunContext) → IsRunContextOf self.old r → self.new ≡ with_top (goes_to pc) r }
     {
         self.stack.at_mut(0).pc = pc;
     }
@@ -33,7 +35,7 @@ impl Node {
     pub fn wait_for(&mut self, peer: NodeId, what: Waited, into: u8, pc: u32) -> u64
         requires top { 0 < length self.old.stack }
         requires number { self.old.next_call + 1 < 2 ^ 64 }
-        ensures node { self.new ≡ uses_number (with_top (waits_for self.old.next_call peer what into pc) self.old) }
+        ensures node { (r : RunContext) → IsRunContextOf self.old r → self.new ≡ uses_number (with_top (waits_for self.old.next_call peer what into pc) r) }
         ensures number { result ≡ self.old.next_call }
     {
         let number = self.next_call;
@@ -46,9 +48,10 @@ impl Node {
     }
 
     /// The top invocation is over.
+    #[tactic(auto, using(crate::proofs::Changes::top_steps))]
     pub fn pop_top(&mut self)
         requires { 0 < length self.old.stack }
-        ensures { self.new ≡ record self.old { stack = remove self.old.stack 0 } }
+        ensures { (r : RunContext) → IsRunContextOf self.old r → self.new ≡ without_top r }
     {
         self.stack.remove(0);
     }
@@ -57,12 +60,12 @@ impl Node {
     #[tactic(auto, using(crate::proofs::Changes::top_steps))]
     pub fn write(&mut self, slot: u8, value: Value, pc: u32)
         requires { 0 < length self.old.stack }
-        ensures { self.new ≡ with_top (goes_to pc) (writes slot value self.old) }
+        ensures { (r : RunContext) → IsRunContextOf self.old r → self.new ≡ record (with_top (goes_to pc) r) { heap = written_heap slot value r } }
     {
         let object = &self.stack.as_slice()[0].object;
         let serial = object.serial;
-        write_slot(&mut self.heap, serial, slot, value);
         self.go_to(pc);
+        write_slot(&mut self.heap, serial, slot, value);
     }
 }
 

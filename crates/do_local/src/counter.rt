@@ -90,7 +90,7 @@ pub fn counter_table(alloc: Global) -> Result<ClassTable, AllocError>
 }
 
 /// A node of a port that is not 0, with the class of its root.
-fn world_node(port: u16, root: u32) -> WorldNode
+pub fn world_node(port: u16, root: u32) -> WorldNode
     requires { 0 < port }
     ensures { result ≡ record { node = port; root = record { 0 = root } } }
 {

@@ -114,7 +114,7 @@ pub fn queue_of(stations: &Stations, from: NodeId, to: NodeId) -> Option<&Reserv
 }
 
 /// The station at an index.
-#[tactic(auto, using(crate::proofs::Leaves::here_steps))]
+#[tactic(auto, using(std::proofs::lemmas::Option::slice_get_read))]
 pub fn station(stations: &Stations, at: usize) -> &Station
     requires { at < length stations.now }
     ensures { slice_get stations.now at ≡ Some result.now }

@@ -1,14 +1,12 @@
-ghost use Rattle.std.specs.Prelude.{◌≡◌, ◌<◌, ◌-◌, ℕ, suc, length};
-ghost use Rattle.do_local.specs.declared.station.Station.{Station};
+ghost use Rattle.std.specs.Prelude.{◌≡◌, ◌<◌, ℕ, suc, IfSome, length, remove, slice_get};
 ghost use Rattle.do_local.specs.Leaving.{leaving};
 ghost use Rattle.do_local.specs.Stations.{Becomes, queues_of};
-ghost use Rattle.do_local.specs.Room.{HasRoom, LeftSoFar};
+ghost use Rattle.do_local.specs.Room.{HasRoom};
 ghost use Rattle.do_local.specs.Commit.{posted};
 
 use crate::item::Item;
 use crate::post::post;
-use crate::station::{Queue, Station};
-use do_base::{Items, Oid};
+use crate::station::Station;
 
 impl Station {
     /// The node leaves each foreign object that it no longer refers to, and tells the home.
@@ -19,39 +17,30 @@ impl Station {
     {
         let mut at = 0;
         while at < self.node.held.len() {
-            at = self.leave_at(at);
+            let object = self.node.held.as_slice()[at];
+            if self.node.refers(&object) {
+                at += 1;
+            } else {
+                self.leave_at(at);
+            }
         }
     }
 
-    /// A held object is left, if it is no longer referred to. Tells which is looked at next.
-    #[tactic(auto, using(crate::proofs::Leaves::leave_steps))]
-    fn leave_at(&mut self, at: usize) -> usize
+    /// The object at a place of those held is held no longer, and its home is told.
+    fn leave_at(&mut self, at: usize)
         requires within { at < length self.old.node.held }
-        requires room { HasRoom (length self.old.node.held - at) self.old.queues }
-        ensures so_far { (first : Station) → LeftSoFar first self.old at → LeftSoFar first self.new result }
-        ensures less { length self.new.node.held - result < length self.old.node.held - at }
+        requires room { HasRoom 1 self.old.queues }
+        ensures node { self.new.node ≡ record self.old.node { held = remove self.old.node.held at } }
+        ensures told { IfSome (slice_get self.old.node.held at) (λ o. queues_of self.new.queues ≡ posted (queues_of self.old.queues) (o.node, Item.Left o.serial)) }
+        ensures room { (k : ℕ) → HasRoom (suc k) self.old.queues → HasRoom k self.new.queues }
     {
-        let object = self.node.held.as_slice()[at];
-        if self.node.refers(&object) {
-            return at + 1;
-        }
-        self.node.held.remove(at);
-        tell(&mut self.queues, &object);
-        at
+        let object = self.node.held.remove(at);
+        post(
+            &mut self.queues,
+            object.node,
+            Item::Left {
+                serial: object.serial,
+            },
+        );
     }
-}
-
-/// The home of an object is told that it was left.
-fn tell(queues: &mut Items<Queue>, object: &Oid)
-    requires { HasRoom 1 queues.old }
-    ensures items { queues_of queues.new ≡ posted (queues_of queues.old) (object.now.node, Item.Left object.now.serial) }
-    ensures room { (k : ℕ) → HasRoom (suc k) queues.old → HasRoom k queues.new }
-{
-    post(
-        queues,
-        object.node,
-        Item::Left {
-            serial: object.serial,
-        },
-    );
 }

@@ -2,8 +2,9 @@ ghost use Rattle.std.specs.Prelude.{◌≡◌, ◌<◌, ◌≤◌, ◌+◌, ◌^
 ghost use Rattle.do_local.specs.Changes.{pushed};
 ghost use Rattle.do_local.specs.Effect.{only};
 ghost use Rattle.do_local.specs.Verdicts.{effect_of};
-ghost use Rattle.do_local.specs.Stations.{Becomes, IsSame, Moves};
+ghost use Rattle.do_local.specs.Stations.{Becomes, IsSame, Moves, IsRunContextOf};
 ghost use Rattle.do_local.specs.Room.{HasRoom};
+ghost use Rattle.do_local.specs.RunContext.{RunContext};
 ghost use Rattle.do_local.specs.Taking.{arrival_effect};
 
 use crate::arrival::Arrival;
@@ -16,7 +17,7 @@ use do_base::{NodeId, Oids, ShownList};
 use std::alloc::AllocError;
 
 impl Station {
-    /// What an item comes to is done, and what it names is held.
+    /// What an item comes to is done, and what it exports is held.
     fn arrive(&mut self, from: &NodeId, held: Oids, arrival: Arrival) -> Result<(), AllocError>
         requires { HasRoom 1 self.old.queues }
         ensures ok { OnOk result (Becomes self.old self.new (arrival_effect from.now arrival (record self.old.node { held = held }))) }
@@ -38,8 +39,8 @@ impl Station {
     pub fn run(&mut self, verdict: Verdict) -> Result<ShownList, AllocError>
         requires top { 0 < length self.old.node.stack }
         requires number { self.old.node.next_call + 1 < 2 ^ 64 }
-        ensures shown { IfOk result (λ shown. shown ≡ (effect_of self.old.node verdict).shown) }
-        ensures ok { OnOk result (Moves self.old self.new (effect_of self.old.node verdict)) }
+        ensures shown { IfOk result (λ shown. (r : RunContext) → IsRunContextOf self.old.node r → shown ≡ (effect_of r verdict).shown) }
+        ensures ok { OnOk result ((r : RunContext) → IsRunContextOf self.old.node r → Moves self.old self.new (effect_of r verdict)) }
         ensures err { OnErr result (IsSame self.old self.new) }
     {
         self.make_room()?;

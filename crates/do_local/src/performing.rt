@@ -2,9 +2,10 @@ ghost use Rattle.std.specs.Prelude.{◌≡◌, ◌<◌, ◌+◌, ◌^◌, ℕ, s
 ghost use Rattle.do_local.specs.Answers.{answer_item, answer_line, caller_of, delivery, ending};
 ghost use Rattle.do_local.specs.Verdicts.{awaited_after, effect_of, request_item};
 ghost use Rattle.do_local.specs.Changes.{goes_to, uses_number, waits_for, with_top};
-ghost use Rattle.do_local.specs.Stations.{Becomes, queues_of};
+ghost use Rattle.do_local.specs.Stations.{Becomes, queues_of, IsRunContextOf};
 ghost use Rattle.do_local.specs.Commit.{with_sent};
 ghost use Rattle.do_local.specs.Room.{HasRoom};
+ghost use Rattle.do_local.specs.RunContext.{RunContext};
 
 use crate::invocation::{Answer, Reason, Waited};
 use crate::item::Item;
@@ -69,8 +70,8 @@ impl Station {
         requires top { 0 < length self.old.node.stack }
         requires number { self.old.node.next_call + 1 < 2 ^ 64 }
         requires room { HasRoom 1 self.old.queues }
-        ensures shown { IfOk result (λ shown. shown ≡ (effect_of self.old.node verdict).shown) }
-        ensures ok { OnOk result (Becomes self.old self.new (effect_of self.old.node verdict)) }
+        ensures shown { IfOk result (λ shown. (r : RunContext) → IsRunContextOf self.old.node r → shown ≡ (effect_of r verdict).shown) }
+        ensures ok { OnOk result ((r : RunContext) → IsRunContextOf self.old.node r → Becomes self.old self.new (effect_of r verdict)) }
         ensures room { (k : ℕ) → HasRoom (suc k) self.old.queues → HasRoom k self.new.queues }
         ensures err { OnErr result (self.new ≡ self.old) }
     {
@@ -107,7 +108,7 @@ impl Station {
         requires top { 0 < length self.old.node.stack }
         requires number { self.old.node.next_call + 1 < 2 ^ 64 }
         requires room { HasRoom 1 self.old.queues }
-        ensures after { Becomes self.old self.new (effect_of self.old.node (Verdict.Asks peer request into pc)) }
+        ensures after { (r : RunContext) → IsRunContextOf self.old.node r → Becomes self.old self.new (effect_of r (Verdict.Asks peer request into pc)) }
         ensures room { (k : ℕ) → HasRoom (suc k) self.old.queues → HasRoom k self.new.queues }
     {
         let (what, item) = asked(self.node.next_call, request);
@@ -120,8 +121,8 @@ impl Station {
     fn end(&mut self, answer: Answer) -> Result<ShownList, AllocError>
         requires top { 0 < length self.old.node.stack }
         requires room { HasRoom 1 self.old.queues }
-        ensures shown { IfOk result (λ shown. shown ≡ (ending answer self.old.node self.old.node.stack).shown) }
-        ensures ok { OnOk result (Becomes self.old self.new (ending answer self.old.node self.old.node.stack)) }
+        ensures shown { IfOk result (λ shown. (r : RunContext) → IsRunContextOf self.old.node r → shown ≡ (ending answer r).shown) }
+        ensures ok { OnOk result ((r : RunContext) → IsRunContextOf self.old.node r → Becomes self.old self.new (ending answer r)) }
         ensures room { (k : ℕ) → HasRoom (suc k) self.old.queues → HasRoom k self.new.queues }
         ensures err { OnErr result (self.new ≡ self.old) }
     {

@@ -1,9 +1,10 @@
-ghost use Rattle.std.specs.Prelude.{◌≡◌};
+ghost use Rattle.std.specs.Prelude.{◌≡◌, List};
 ghost use Rattle.do_local.specs.Sending.{calls, fails, send_rule};
 ghost use Rattle.do_local.specs.Stations.{context_of};
+ghost use Rattle.do_local.specs.RunContext.{run_context};
 
 use crate::find::class_of;
-use crate::invocation::Answer;
+use crate::invocation::{Answer, Invocation};
 use crate::laws::{inputs_fit, method_for};
 use crate::message::Message;
 use crate::node::Node;
@@ -48,7 +49,7 @@ fn calls(object: Oid, method: MethodId, send: SendAct) -> Verdict
 
 /// What becomes of a message. The first rule that applies decides.
 pub fn send_rule(table: &ClassTable, stations: &Stations, node: &Node, send: SendAct) -> Verdict
-    ensures { result ≡ send_rule (context_of table.now stations.now node.now) send }
+    ensures { (top : Invocation) (below : List Invocation) → result ≡ send_rule (run_context (context_of table.now stations.now node.now) top below) send }
 {
     let object = match &send.target {
         Value::Nil => {

@@ -12,7 +12,7 @@ use crate::laws::values_fit;
 use crate::node::Node;
 use crate::receipt::{Receipt, can_take, examine, next_item};
 use crate::station::{Queue, Stations};
-use crate::verdicts::verdict;
+use crate::verdicts::decided;
 use do_base::{Items, NodeId, Reserved, ShownList, Text, Values};
 use do_class::ClassTable;
 use std::alloc::AllocError;
@@ -33,7 +33,7 @@ pub fn run(
     let Some(at) = station_at(stations, port) else {
         return Ok(None);
     };
-    let Some(verdict) = verdict(table, stations, &station(stations, at).node)? else {
+    let Some(verdict) = decided(table, stations, &station(stations, at).node)? else {
         return Ok(None);
     };
     let station = stations.at_mut(at);

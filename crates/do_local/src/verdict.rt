@@ -11,8 +11,8 @@ pub enum Request {
     Call { method: MethodId, message: Message },
 }
 
-/// What the rules decide of the top invocation's next act. `pc` is the place in the method at which
-/// it goes on, and `into` the local that takes what comes.
+/// What the rules decide of the top invocation, by its next act or by an answer that came. `pc` is the
+/// place in the method at which it goes on, and `into` the local that takes what comes.
 #[derive(Debug, Drop)]
 pub enum Verdict {
     /// It goes on, with a value in a local.

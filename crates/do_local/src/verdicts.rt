@@ -1,8 +1,8 @@
-ghost use Rattle.std.specs.Prelude.{◌≡◌, IfOk, option_and_then};
-ghost use Rattle.do_local.specs.Stations.{context_of};
+ghost use Rattle.std.specs.Prelude.{◌≡◌, IfOk, List};
+ghost use Rattle.do_local.specs.Stations.{context_of, decided};
 ghost use Rattle.do_local.specs.Counter.{act};
-ghost use Rattle.do_local.specs.State.{stored};
-ghost use Rattle.do_local.specs.Verdicts.{answer_rule, state_rule, verdict};
+ghost use Rattle.do_local.specs.RunContext.{RunContext, run_context};
+ghost use Rattle.do_local.specs.Verdicts.{act_among, answer_rule, has_slot, state_rule, verdict, writes_within};
 
 use crate::act::Act;
 use crate::acts::act_rule;
@@ -17,9 +17,10 @@ use do_base::copy_value;
 use do_class::ClassTable;
 use std::alloc::AllocError;
 
-/// The next act of a running invocation of a node.
+/// The next act of a running invocation of a node; none where its method, its object, or what it reads
+/// is not there.
 fn next_act(node: &Node, invocation: &Invocation) -> Result<Option<Act>, AllocError>
-    ensures { IfOk result (λ a. a ≡ option_and_then (λ x. act invocation.now x.slots) (stored invocation.now.object.serial node.now.heap)) }
+    ensures { IfOk result (λ a. a ≡ act_among act invocation.now node.now.heap) }
 {
     match stored(&node.heap, invocation.object.serial) {
         Some(stored) => act(invocation, &stored.slots),
@@ -29,7 +30,7 @@ fn next_act(node: &Node, invocation: &Invocation) -> Result<Option<Act>, AllocEr
 
 /// What an answered invocation does with its answer.
 fn answer_rule(invocation: &Invocation, answer: &Answer) -> Result<Verdict, AllocError>
-    ensures { IfOk result (λ v. v ≡ answer_rule invocation.now answer.now) }
+    ensures { IfOk result (λ v. (r : RunContext) → r.top ≡ invocation.now → v ≡ answer_rule r answer.now) }
 {
     match answer {
         Answer::Given { result } => {
@@ -44,18 +45,18 @@ fn answer_rule(invocation: &Invocation, answer: &Answer) -> Result<Verdict, Allo
     }
 }
 
-/// What the top invocation comes to, where it can act.
-fn top_rule(
+/// What the state of the top invocation comes to, where it can act.
+fn state_rule(
     table: &ClassTable,
     stations: &Stations,
     node: &Node,
     top: &Invocation,
 ) -> Result<Option<Verdict>, AllocError>
-    ensures { IfOk result (λ v. v ≡ state_rule (context_of table.now stations.now node.now) top.now top.now.state) }
+    ensures { IfOk result (λ v. (below : List Invocation) → v ≡ state_rule (run_context (context_of table.now stations.now node.now) top.now below) top.now.state) }
 {
     match &top.state {
         InvState::Running => match next_act(node, top)? {
-            Some(act) => Ok(Some(act_rule(table, stations, node, top.method, act))),
+            Some(act) => Ok(Some(act_rule(table, stations, node, top, act))),
             None => Ok(None),
         },
         InvState::Answered(answer) => Ok(Some(answer_rule(top, answer)?)),
@@ -63,16 +64,58 @@ fn top_rule(
     }
 }
 
-/// What a run of a node comes to, where it has a top invocation that can act.
-pub fn verdict(
+/// The object of the top invocation has a slot.
+fn has_slot(node: &Node, top: &Invocation, slot: u8) -> bool
+    ensures { (r : RunContext) → r.node ≡ node.now → r.top ≡ top.now → result ≡ has_slot r slot }
+{
+    match stored(&node.heap, top.object.serial) {
+        Some(stored) => (slot as usize) < stored.slots.len(),
+        None => false,
+    }
+}
+
+/// The local or the slot that a verdict writes, now or by its answer, is there.
+fn writes_within(node: &Node, top: &Invocation, verdict: &Verdict) -> bool
+    ensures { (r : RunContext) → r.node ≡ node.now → r.top ≡ top.now → result ≡ writes_within r verdict.now }
+{
+    match verdict {
+        Verdict::Goes { into, .. } | Verdict::Asks { into, .. } => {
+            (*into as usize) < top.locals.len()
+        }
+        Verdict::Writes { slot, .. } => has_slot(node, top, *slot),
+        Verdict::Says { .. } | Verdict::Ends(_) => true,
+    }
+}
+
+/// What is decided of the top invocation, where it can act and what it would write is there.
+fn verdict(
+    table: &ClassTable,
+    stations: &Stations,
+    node: &Node,
+    top: &Invocation,
+) -> Result<Option<Verdict>, AllocError>
+    ensures { IfOk result (λ v. (below : List Invocation) → v ≡ verdict (run_context (context_of table.now stations.now node.now) top.now below)) }
+{
+    let Some(verdict) = state_rule(table, stations, node, top)? else {
+        return Ok(None);
+    };
+    if !writes_within(node, top, &verdict) {
+        return Ok(None);
+    }
+    Ok(Some(verdict))
+}
+
+/// What is decided of a run of a node, where it has a top invocation that can act.
+#[tactic(auto, using(crate::proofs::Runs::decide_steps))]
+pub fn decided(
     table: &ClassTable,
     stations: &Stations,
     node: &Node,
 ) -> Result<Option<Verdict>, AllocError>
-    ensures { IfOk result (λ v. v ≡ verdict (context_of table.now stations.now node.now)) }
+    ensures { IfOk result (λ v. v ≡ decided (context_of table.now stations.now node.now)) }
 {
     match node.stack.first() {
-        Some(top) => top_rule(table, stations, node, top),
+        Some(top) => verdict(table, stations, node, top),
         None => Ok(None),
     }
 }

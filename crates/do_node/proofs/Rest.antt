@@ -1,8 +1,9 @@
 -- What of a transcript is to come.
-use Rattle.std.proofs.Common.{◌≡◌, ℕ, List, [], ◌∷◌, ◌++◌, ◌+◌, ◌≤◌, ◌^◌, refl, sym, ap, ◌∙◌, Option, append_assoc, arith}
-use Rattle.std.specs.List.{flat_map}
+use Rattle.std.proofs.Common.{◌≡◌, ℕ, List, [], ◌∷◌, ◌++◌, ◌+◌, ◌≤◌, ◌^◌, refl, sym, ap, subst, ◌∙◌, Option, append_assoc, arith}
+use Rattle.std.specs.List.{flat_map, AllByRecursion}
 use Rattle.std.proofs.lemmas.List.Sums.{sum_by-cons}
 use Rattle.do_sched.specs.declared.line.Line.{Line}
+use Rattle.do_sched.specs.Good.{IsLine}
 use Rattle.do_sched.specs.Spelling.{steps, steps_of}
 use Rattle.do_local.specs.Laws.{laws_of}
 use Rattle.do_local.specs.Blocks.{block, blocks, line_step}
@@ -55,3 +56,7 @@ pub counted_next : (before after : ℕ) (line : Line) (lines rest : List Line) �
 counted_next before after line lines rest first counted fits =
     let total : steps_of lines ≡ steps line + steps_of rest = ap steps_of first ∙ sum_by-cons steps line rest in
     omega arith
+
+-- where all the lines may stand in a schedule, so may the next one and those behind it
+pub good_next : (line : Line) (lines rest : List Line) → lines ≡ line ∷ rest → AllByRecursion IsLine lines → IsLine line × AllByRecursion IsLine rest
+good_next line lines rest first good = subst (λ (w : List Line). AllByRecursion IsLine w) first good

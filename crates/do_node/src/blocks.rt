@@ -1,4 +1,5 @@
 ghost use Rattle.std.specs.Prelude.{◌≡◌, ◌+◌, ◌≤◌, ◌^◌, ◌++◌, OnOk, IfOk};
+ghost use Rattle.do_sched.specs.Good.{IsLine};
 ghost use Rattle.do_sched.specs.Spelling.{steps};
 ghost use Rattle.do_local.specs.Laws.{laws_of};
 ghost use Rattle.do_local.specs.Blocks.{block, line_step};
@@ -38,14 +39,16 @@ fn push_listed(
 
 /// Does what a line says, and adds its block.
 ///
-/// Where memory ran out, a part of the block may have been added.
+/// The line is one that may stand in a schedule. Where memory ran out, a part of the block may have
+/// been added.
 pub fn push_block(
     alloc: Global,
     local: &mut Local,
     line: Line,
     text: &mut Text,
 ) -> Result<(), AllocError>
-    requires { local.old.events + steps line ≤ 2 ^ 40 }
+    requires good { IsLine line }
+    requires room { local.old.events + steps line ≤ 2 ^ 40 }
     ensures text { OnOk result (text.new ≡ text.old ++ block_lines local.old.table (block (laws_of local.old.table) local.old.state line)) }
     ensures state { OnOk result (local.new.state ≡ (line_step (laws_of local.old.table) local.old.state line).state) }
     ensures table { OnOk result (local.new.table ≡ local.old.table) }

@@ -2,7 +2,6 @@ ghost use Rattle.std.specs.Prelude.{◌≡◌, ◌+◌, ◌-◌, ◌≤◌, ◌^
 ghost use Rattle.do_sched.specs.Spelling.{steps};
 ghost use Rattle.do_local.specs.Laws.{laws_of};
 ghost use Rattle.do_local.specs.Blocks.{line_step, runs};
-ghost use Rattle.do_local.specs.Commit.{skipped};
 
 use do_base::{Event, Items, NodeId};
 use do_local::{Local, Outcome};
@@ -30,8 +29,8 @@ fn run_steps(
     count: u64,
 ) -> Result<Outcome, AllocError>
     requires { local.old.events + count ≤ 2 ^ 40 }
-    ensures outcome { IfOk result (λ outcome. outcome ≡ (runs count (laws_of local.old.table) node (skipped local.old.state)).outcome) }
-    ensures state { OnOk result (local.new.state ≡ (runs count (laws_of local.old.table) node (skipped local.old.state)).state) }
+    ensures outcome { IfOk result (λ outcome. outcome ≡ (runs count (laws_of local.old.table) node local.old.state).outcome) }
+    ensures state { OnOk result (local.new.state ≡ (runs count (laws_of local.old.table) node local.old.state).state) }
     ensures table { OnOk result (local.new.table ≡ local.old.table) }
     ensures counted { OnOk result (local.new.events ≡ local.old.events + count) }
 {

@@ -3,13 +3,14 @@ use Rattle.std.proofs.Common.{◌≡◌, ℕ, ◌<◌, ◌≤◌, ◌^◌, Bool,
 use Rattle.std.specs.Prelude.{codes}
 use Rattle.std.specs.List.{flat_map}
 use Rattle.std.specs.Fmt.{decimal}
+use Rattle.std.specs.Str.{bytes_eq}
+use Rattle.std.proofs.lemmas.Slice.Eq.{bytes_eq-Decides}
 use Rattle.do_base.specs.declared.value.Value.{Value}
 use Rattle.do_grammar.specs.Dec.{dec_in}
 use Rattle.do_grammar.specs.Names.{is_selector, colons}
-use Rattle.do_grammar.specs.Words.{◌>>?◌, word, part, same}
-use Rattle.do_grammar.proofs.Words.{some_is, chain_some, word_takes, word_again, same_true}
+use Rattle.do_grammar.specs.Words.{◌>>?◌, word, part}
+use Rattle.do_grammar.proofs.Words.{some_is, chain_some}
 use Rattle.do_grammar.proofs.Names.{Without-selector}
-use Rattle.do_grammar.proofs.Parts.{part_takes, part_again}
 use Rattle.do_grammar.proofs.Dec.{dec_takes, dec_again, cond_some}
 use Rattle.do_grammar.proofs.Int.{Without-decimal}
 use Rattle.do_sched.specs.declared.line.Line.{Line}
@@ -17,6 +18,7 @@ use Rattle.do_sched.specs.declared.line.Line.TheVariants.{Start, Run, Take, Chec
 use Rattle.do_sched.specs.Spelling.{spaced, line_spelling}
 use Rattle.do_sched.specs.Good.{IsPort, IsLine}
 use Rattle.do_sched.specs.Reading.{pair_at, values_at, called_at, start_at, run_at, take_at, form_at, line_at}
+use Rattle.do_grammar.proofs.WordCuts.{word_takes, word_again, part_takes, part_again}
 use Rattle.do_sched.proofs.Values.{values_takes, values_again, spaced_first}
 
 -- ---- a node's number and one more
@@ -90,7 +92,7 @@ record IsText (text : Listed ℕ) (l : Line) : Type 0 where
   good : IsLine l
 
 form_takes : (w : Listed ℕ × Listed ℕ) (l : Line) → form_at w ≡ Some l → IsText (w.0 ++ 32 ∷ w.1) l
-form_takes w l h = is_run (same w.0 (codes "run")) refl h
+form_takes w l h = is_run (bytes_eq w.0 (codes "run")) refl h
   where
     behind : (first : Listed ℕ) (rest : Listed ℕ) → w.0 ≡ first → w.1 ≡ rest → w.0 ++ 32 ∷ w.1 ≡ first ++ 32 ∷ rest
     behind first rest p q = ap (λ (v : Listed ℕ). v ++ 32 ∷ w.1) p ∙ ap (λ (v : Listed ℕ). first ++ 32 ∷ v) q
@@ -112,24 +114,24 @@ form_takes w l h = is_run (same w.0 (codes "run")) refl h
         let t = start_takes w.1 l q in
         subst (IsText (w.0 ++ 32 ∷ w.1)) (sym t.line) (record { spelled = behind (codes "start") (decimal t.node ++ 32 ∷ (t.selector ++ flat_map spaced t.values)) p t.spelled; good = t.good })
 
-    is_start : (u : Bool) → same w.0 (codes "start") ≡ u → cond u (start_at w.1) None ≡ Some l → IsText (w.0 ++ 32 ∷ w.1) l
-    is_start true p q = start (same_true w.0 (codes "start") p) q
+    is_start : (u : Bool) → bytes_eq w.0 (codes "start") ≡ u → cond u (start_at w.1) None ≡ Some l → IsText (w.0 ++ 32 ∷ w.1) l
+    is_start true p q = start ((bytes_eq-Decides w.0 (codes "start")).0 p) q
     is_start false p q = absurd cc
 
-    is_take : (u : Bool) → same w.0 (codes "take") ≡ u → cond u (take_at w.1) (cond (same w.0 (codes "start")) (start_at w.1) None) ≡ Some l → IsText (w.0 ++ 32 ∷ w.1) l
-    is_take true p q = take (same_true w.0 (codes "take") p) q
-    is_take false p q = is_start (same w.0 (codes "start")) refl q
+    is_take : (u : Bool) → bytes_eq w.0 (codes "take") ≡ u → cond u (take_at w.1) (cond (bytes_eq w.0 (codes "start")) (start_at w.1) None) ≡ Some l → IsText (w.0 ++ 32 ∷ w.1) l
+    is_take true p q = take ((bytes_eq-Decides w.0 (codes "take")).0 p) q
+    is_take false p q = is_start (bytes_eq w.0 (codes "start")) refl q
 
-    is_run : (u : Bool) → same w.0 (codes "run") ≡ u → cond u (run_at w.1) (cond (same w.0 (codes "take")) (take_at w.1) (cond (same w.0 (codes "start")) (start_at w.1) None)) ≡ Some l → IsText (w.0 ++ 32 ∷ w.1) l
-    is_run true p q = run (same_true w.0 (codes "run") p) q
-    is_run false p q = is_take (same w.0 (codes "take")) refl q
+    is_run : (u : Bool) → bytes_eq w.0 (codes "run") ≡ u → cond u (run_at w.1) (cond (bytes_eq w.0 (codes "take")) (take_at w.1) (cond (bytes_eq w.0 (codes "start")) (start_at w.1) None)) ≡ Some l → IsText (w.0 ++ 32 ∷ w.1) l
+    is_run true p q = run ((bytes_eq-Decides w.0 (codes "run")).0 p) q
+    is_run false p q = is_take (bytes_eq w.0 (codes "take")) refl q
 
 pub line_takes : (text : Listed ℕ) (l : Line) → line_at text ≡ Some l → (text ≡ line_spelling l) × IsLine l
 unfolding line_at
-line_takes text l h = go (same text (codes "check")) refl h
+line_takes text l h = go (bytes_eq text (codes "check")) refl h
   where
-    go : (u : Bool) → same text (codes "check") ≡ u → cond u (Some Check) (word 32 text >>? form_at) ≡ Some l → (text ≡ line_spelling l) × IsLine l
-    go true p q = subst (λ (w : Line). (text ≡ line_spelling w) × IsLine w) (some_is Check l q) (same_true text (codes "check") p, tt)
+    go : (u : Bool) → bytes_eq text (codes "check") ≡ u → cond u (Some Check) (word 32 text >>? form_at) ≡ Some l → (text ≡ line_spelling l) × IsLine l
+    go true p q = subst (λ (w : Line). (text ≡ line_spelling w) × IsLine w) (some_is Check l q) ((bytes_eq-Decides text (codes "check")).0 p, tt)
     go false p q =
         let a = chain_some (word 32 text) form_at l q in
         let f = form_takes a.0 l a.2 in

@@ -2,12 +2,12 @@
 use Rattle.std.proofs.Common.{◌≡◌, ◌≢◌, ℕ, ◌+◌, ◌<◌, ◌≤◌, Bool, true, false, cond, List as Listed, [], ◌∷◌, ◌++◌, length, map, Some, None, refl, sym, ap, subst, ◌∙◌, append_assoc, arith}
 use Rattle.std.specs.Prelude.{◌&&◌}
 use Rattle.std.specs.List.{flat_map, AllByRecursion}
+use Rattle.std.specs.Str.{bytes_eq}
 use Rattle.std.proofs.lemmas.List.{map-append}
 use Rattle.std.proofs.lemmas.List.Sums.{sum_by-append}
+use Rattle.std.proofs.lemmas.Slice.Eq.{bytes_eq-Decides}
 use Rattle.do_grammar.specs.Lines.{cut, line_bytes, in_front}
 use Rattle.do_grammar.specs.Lines as text
-use Rattle.do_grammar.specs.Words.{same}
-use Rattle.do_grammar.proofs.Words.{same_true, same_refl}
 use Rattle.do_grammar.proofs.Lines.{cut_whole}
 use Rattle.do_sched.specs.declared.line.Line.{Line}
 use Rattle.do_sched.specs.Spelling.{line_spelling, header, footer, fed, steps, steps_of}
@@ -21,12 +21,12 @@ use Rattle.do_sched.proofs.LineText.{line_takes, line_again}
 pub is_whole_true : (wanted : Listed ℕ) (t : text.Line) → is_whole wanted t ≡ true → t ≡ whole wanted
 is_whole_true wanted t e = go t.fed refl e
   where
-    go : (u : Bool) → t.fed ≡ u → (u && same t.text wanted) ≡ true → t ≡ whole wanted
-    go true p q = ap (λ (w : Listed ℕ). record { text = w; fed = t.fed }) (same_true t.text wanted q) ∙ ap (λ (w : Bool). record { text = wanted; fed = w }) p
+    go : (u : Bool) → t.fed ≡ u → (u && bytes_eq t.text wanted) ≡ true → t ≡ whole wanted
+    go true p q = ap (λ (w : Listed ℕ). record { text = w; fed = t.fed }) ((bytes_eq-Decides t.text wanted).0 q) ∙ ap (λ (w : Bool). record { text = wanted; fed = w }) p
     go false p q = absurd cc
 
 pub is_whole_false : (wanted : Listed ℕ) (t : text.Line) → is_whole wanted t ≡ false → t ≢ whole wanted
-is_whole_false wanted t e = λ (same_line : t ≡ whole wanted). let f = ap (is_whole wanted) same_line in let g = same_refl wanted wanted refl in absurd cc
+is_whole_false wanted t e = λ (same_line : t ≡ whole wanted). let f = ap (is_whole wanted) same_line in let g = (bytes_eq-Decides wanted wanted).1 refl in absurd cc
 
 -- a line of text that is a line of a schedule
 pub line_in_takes : (t : text.Line) (l : Line) → line_in t ≡ Some l → (t ≡ whole (line_spelling l)) × IsLine l

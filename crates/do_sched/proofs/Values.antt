@@ -9,11 +9,11 @@ use Rattle.do_base.specs.declared.value.Value.TheVariants.{Num}
 use Rattle.do_grammar.specs.Dec.{int_in}
 use Rattle.do_grammar.specs.Words.{◌>>?◌, part, EndsBefore}
 use Rattle.do_grammar.proofs.Words.{some_is, chain_some}
-use Rattle.do_grammar.proofs.Parts.{part_takes, part_again}
 use Rattle.do_grammar.proofs.Int.{int_takes, int_again, Without-signed}
 use Rattle.do_sched.specs.Spelling.{plain_spelling, spaced}
 use Rattle.do_sched.specs.Good.{IsPlain}
 use Rattle.do_sched.specs.Reading.{values_at}
+use Rattle.do_grammar.proofs.WordCuts.{part_takes, part_again}
 
 pub plain_spelling-Num : (n : ℤ) → plain_spelling (Num n) ≡ signed_decimal n
 plain_spelling-Num n = search (rules, the_lemmas)

@@ -1,11 +1,12 @@
 -- The line that a text spells, as it is read word by word.
 use Rattle.std.specs.Prelude.{Bool, ◌&&◌, ℕ, zero, suc, ◌==◌, List as Listed, [], ◌∷◌, Option, Some, None, if◌then◌else◌, codes}
+use Rattle.std.specs.Str.{bytes_eq}
 use Rattle.do_base.specs.declared.value.Value.{Value}
 use Rattle.do_base.specs.declared.value.Value.TheVariants.{Num}
 use Rattle.do_grammar.specs.Dec.{dec_in, int_in}
 use Rattle.do_grammar.specs.Names.{is_selector, colons}
 use Rattle.do_grammar.specs.Lines as text
-use Rattle.do_grammar.specs.Words.{◌>>?◌, word, part, same}
+use Rattle.do_grammar.specs.Words.{◌>>?◌, word, part}
 use Rattle.do_sched.specs.declared.line.Line.{Line}
 use Rattle.do_sched.specs.declared.line.Line.TheVariants.{Start, Run, Take, Check}
 
@@ -38,15 +39,15 @@ take_at bytes = pair_at 65535 bytes >>? λ x. Some (Take x.0 x.1)
 
 -- by the first word, what stands behind it
 abbrev pub form_at : Listed ℕ × Listed ℕ → Option Line
-form_at w = if same w.0 (codes "run") then run_at w.1 else (if same w.0 (codes "take") then take_at w.1 else (if same w.0 (codes "start") then start_at w.1 else None))
+form_at w = if bytes_eq w.0 (codes "run") then run_at w.1 else (if bytes_eq w.0 (codes "take") then take_at w.1 else (if bytes_eq w.0 (codes "start") then start_at w.1 else None))
 
 -- the line that a text spells, if it spells one
 unfoldable pub line_at : Listed ℕ → Option Line
-line_at text = if same text (codes "check") then Some Check else (word 32 text >>? form_at)
+line_at text = if bytes_eq text (codes "check") then Some Check else (word 32 text >>? form_at)
 
 -- whether a line of text is this text with its line feed
 abbrev pub is_whole : Listed ℕ → text.Line → Bool
-is_whole wanted t = t.fed && same t.text wanted
+is_whole wanted t = t.fed && bytes_eq t.text wanted
 
 -- the line of a schedule that a line of text is
 abbrev pub line_in : text.Line → Option Line

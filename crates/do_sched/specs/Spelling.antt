@@ -7,20 +7,20 @@ use Rattle.do_base.specs.declared.value.Value.TheOpen.{Value-F}
 use Rattle.do_sched.specs.declared.line.Line.{Line}
 use Rattle.do_sched.specs.declared.line.Line.TheVariants.{Start, Run, Take, Check}
 
--- the spelling of a plain value: of a number, since no other stands in a schedule yet
+-- a number's spelling; no other value stands in a schedule yet, so of others no clause asks it
 abbrev pub plain_of : Value-F Value → Listed ℕ
 plain_of (Value-F.Num n) = signed_decimal n
 plain_of _ = []
 
--- the spelling of a value, where it has one
+-- the spelling of a plain value
 abbrev pub plain_spelling : Value → Listed ℕ
 plain_spelling v = plain_of (out-Value v)
 
--- a space, and the value
+-- a space, and a plain value
 abbrev pub spaced : Value → Listed ℕ
 spaced v = 32 ∷ plain_spelling v
 
--- a line without its line feed
+-- a line that may stand in a schedule, without its line feed
 abbrev pub line_spelling : Line → Listed ℕ
 line_spelling (Start node selector values) = codes "start " ++ decimal node ++ 32 ∷ (selector ++ flat_map spaced values)
 line_spelling (Run node count) = codes "run " ++ decimal node ++ 32 ∷ decimal count

@@ -1,5 +1,6 @@
 ghost use Rattle.std.specs.Prelude.{◌≡◌, ◌++◌, ◌∷◌, OnOk, IfOk, map, take};
-ghost use Rattle.std.specs.List.{flat_map};
+ghost use Rattle.std.specs.List.{flat_map, AllByRecursion};
+ghost use Rattle.do_sched.specs.Good.{IsLine, IsPlain};
 ghost use Rattle.do_sched.specs.Spelling.{line_spelling, plain_spelling, spaced};
 
 use crate::line::Line;
@@ -9,9 +10,9 @@ use std::alloc::{AllocError, Global};
 
 /// A line of a schedule as it is written, without its line feed.
 ///
-/// A value that is no number has no spelling yet, and nothing is written for it. There is no limit
-/// on the line. The form is this project's own.
+/// The line is one that may stand in a schedule. The form is this project's own.
 pub fn print_line(alloc: Global, line: &Line) -> Result<Text, AllocError>
+    requires { IsLine line.now }
     ensures { IfOk result (λ text. text ≡ line_spelling line.now) }
 {
     let mut text = Text::new(alloc);
@@ -21,10 +22,10 @@ pub fn print_line(alloc: Global, line: &Line) -> Result<Text, AllocError>
 
 /// Adds a line of a schedule as it is written, without its line feed.
 ///
-/// A value that is no number has no spelling yet, and nothing is written for it. There is no limit
-/// on the line. Where memory ran out, a part of it may have been added. The form is this project's
-/// own.
+/// The line is one that may stand in a schedule. Where memory ran out, a part of it may have been
+/// added. The form is this project's own.
 pub fn push_line(out: &mut Text, line: &Line) -> Result<(), AllocError>
+    requires { IsLine line.now }
     ensures { OnOk result (out.new ≡ out.old ++ line_spelling line.now) }
 {
     match line {
@@ -56,6 +57,7 @@ pub fn push_line(out: &mut Text, line: &Line) -> Result<(), AllocError>
 }
 
 fn push_values(out: &mut Text, values: &[Value]) -> Result<(), AllocError>
+    requires { AllByRecursion IsPlain values.now }
     ensures { OnOk result (out.new ≡ out.old ++ flat_map spaced values.now) }
 {
     for value in values {
@@ -66,10 +68,11 @@ fn push_values(out: &mut Text, values: &[Value]) -> Result<(), AllocError>
 }
 
 fn push_plain(out: &mut Text, value: &Value) -> Result<(), AllocError>
+    requires { IsPlain value.now }
     ensures { OnOk result (out.new ≡ out.old ++ plain_spelling value.now) }
 {
     match value {
         Value::Num(n) => push_int(out, *n),
-        _ => Ok(()),
+        _ => unreachable!(),
     }
 }

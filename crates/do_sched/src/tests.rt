@@ -1,3 +1,6 @@
+ghost use Rattle.std.specs.List.{AllByRecursion};
+ghost use Rattle.do_sched.specs.Good.{IsLine};
+
 use super::*;
 use do_base::{Text, Value};
 use std::alloc::AllocError;
@@ -8,7 +11,9 @@ const COUNTER: &[u8] =
     b"schedule 1\nstart 7001 go: 5\nrun 7001 2\ntake 7002 7001\ntake 7001 7002\nrun 7001 2\ntake 7002 7001\nrun 7002 4\ntake 7001 7002\nrun 7001 3\ncheck\ntake 7002 7001\nrun 7001 1\ncheck\nend\n";
 
 /// A whole schedule, printed line by line.
-fn printed(rt: &HostRuntime, lines: &Lines) -> Result<Text, AllocError> {
+fn printed(rt: &HostRuntime, lines: &Lines) -> Result<Text, AllocError>
+    requires { AllByRecursion IsLine lines.now }
+{
     let mut out = Text::from_slice(rt.alloc(), b"schedule 1\n")?;
     for line in lines.as_slice() {
         push_line(&mut out, line)?;

@@ -1,11 +1,29 @@
 ghost use Rattle.std.specs.Prelude.{◌≡◌, ◌≤◌, IfOk, IfSome, length};
 ghost use Rattle.do_grammar.specs.Dec.{dec_in};
+ghost use Rattle.do_grammar.specs.Words.{word, part, text_view};
 ghost use Rattle.do_sched.specs.Reading.{pair_at, values_at, start_at, run_at, take_at, line_at};
 
 use crate::line::Line;
 use do_base::{Items, NodeId, Text, Value, Values};
 use do_grammar::{colons_in, dec_of, int_of, is_selector, is_text, part_of, split_byte, word_of};
 use std::alloc::{AllocError, Global};
+
+/// The bytes before the first space, and those after it; none where there is no space.
+#[tactic(auto, using(do_grammar::proofs::WordCuts::word_found))]
+fn word_in(bytes: &[u8]) -> Option<(&[u8], &[u8])>
+    ensures { text_view result ≡ word 32 bytes.now }
+{
+    word_of(bytes, b' ')
+}
+
+/// The bytes before the first space, and those from it on; where there is no space all and none.
+#[tactic(auto, using(do_grammar::proofs::WordCuts::part_found))]
+fn part_in(bytes: &[u8]) -> (&[u8], &[u8])
+    ensures before { result.0.now ≡ (part 32 bytes.now).0 }
+    ensures after { result.1.now ≡ (part 32 bytes.now).1 }
+{
+    part_of(bytes, b' ')
+}
 
 /// The node whose number these digits are.
 fn node_of(digits: &[u8]) -> Option<NodeId>
@@ -28,7 +46,7 @@ fn values_of(alloc: Global, bytes: &[u8], count: usize) -> Result<Option<Values>
         if first != b' ' {
             return Ok(None);
         }
-        let (digits, after) = part_of(behind, b' ');
+        let (digits, after) = part_in(behind);
         let Some(n) = int_of(digits) else {
             return Ok(None);
         };
@@ -45,13 +63,13 @@ fn values_of(alloc: Global, bytes: &[u8], count: usize) -> Result<Option<Values>
 fn start_of(alloc: Global, bytes: &[u8]) -> Result<Option<Line>, AllocError>
     ensures { IfOk result (λ line. line ≡ start_at bytes.now) }
 {
-    let Some((digits, called)) = word_of(bytes, b' ') else {
+    let Some((digits, called)) = word_in(bytes) else {
         return Ok(None);
     };
     let Some(node) = node_of(digits) else {
         return Ok(None);
     };
-    let (selector, numbers) = part_of(called, b' ');
+    let (selector, numbers) = part_in(called);
     if !is_selector(selector) {
         return Ok(None);
     }
@@ -70,7 +88,7 @@ fn start_of(alloc: Global, bytes: &[u8]) -> Result<Option<Line>, AllocError>
 fn run_of(bytes: &[u8]) -> Option<Line>
     ensures { result ≡ run_at bytes.now }
 {
-    let (digits, count) = word_of(bytes, b' ')?;
+    let (digits, count) = word_in(bytes)?;
     let node = node_of(digits)?;
     let count = dec_of(count, 1, 1000)?;
     Some(Line::Run { node, count })
@@ -80,7 +98,7 @@ fn run_of(bytes: &[u8]) -> Option<Line>
 fn take_of(bytes: &[u8]) -> Option<Line>
     ensures { result ≡ take_at bytes.now }
 {
-    let (digits, from) = word_of(bytes, b' ')?;
+    let (digits, from) = word_in(bytes)?;
     let node = node_of(digits)?;
     let from = node_of(from)?;
     Some(Line::Take { node, from })
@@ -94,7 +112,7 @@ pub fn line_from(alloc: Global, text: &[u8]) -> Result<Option<Line>, AllocError>
     if is_text(text, b"check") {
         return Ok(Some(Line::Check));
     }
-    let Some((first, rest)) = word_of(text, b' ') else {
+    let Some((first, rest)) = word_in(text) else {
         return Ok(None);
     };
     if is_text(first, b"run") {

@@ -1,7 +1,7 @@
 //! A grammar of our own, from its definition to its reader: two numbers from 1 to 9 in order.
 
 ghost use Rattle.std.specs.Prelude.{◌≡◌, ℕ, List, ◌++◌, length};
-ghost use Rattle.do_grammar.specs.Reader.{plain};
+ghost use Rattle.do_grammar.specs.Reader.{no_kind};
 ghost use Rattle.do_grammar.specs.Gives.{Gives};
 ghost use Rattle.do_grammar.specs.Tells.{Tells, Finds};
 ghost use Rattle.do_grammar.specs.Pair.{Pair, pair_at};
@@ -11,7 +11,7 @@ use crate::{CodeFault, ReadError, num_of};
 /// Two numbers that begin the bytes, the second not below the first, and the bytes behind them.
 #[tactic(auto, unfolding(crate::specs::Pair::pair_at))]
 fn pair_of(bytes: &[u8]) -> Result<((u64, u64), &[u8]), ReadError>
-    ensures { Gives (λ x. (x.0, x.1.now)) result (pair_at plain bytes.now) }
+    ensures { Gives (λ x. (x.0, x.1.now)) result (pair_at no_kind bytes.now) }
 {
     let (first, rest) = num_of(bytes, 1, 9)?;
     let (second, rest) = num_of(rest, first, 9)?;

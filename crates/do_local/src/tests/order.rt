@@ -1,32 +1,21 @@
 ghost use Rattle.std.specs.Prelude.{◌≡◌, ◌∷◌, [], IfOk};
 
 use super::events::node;
-use crate::counter::counter_table;
+use crate::counter::{counter_table, world_node};
 use crate::local::Local;
 use crate::outcome::Snapshot;
-use crate::world::{NodeList, WorldNode};
+use crate::world::NodeList;
 use do_base::NodeId;
-use do_class::ClassId;
 use std::alloc::Global;
 use std::test::Fail;
-
-/// A node of a world with the class of its root.
-fn world_node(port: u16, root: u32) -> Result<WorldNode, Fail>
-    ensures { IfOk result (λ w. w ≡ record { node = port; root = record { 0 = root } }) }
-{
-    Ok(WorldNode {
-        node: node(port)?,
-        root: ClassId(root),
-    })
-}
 
 /// The nodes of the counter world, the higher port first.
 fn falling_nodes(alloc: Global) -> Result<NodeList, Fail>
     ensures { IfOk result (λ nodes. nodes ≡ record { node = 7002; root = record { 0 = 0 } } ∷ record { node = 7001; root = record { 0 = 1 } } ∷ []) }
 {
     let mut nodes = NodeList::new(alloc);
-    nodes.push(world_node(7002, 0)?)?;
-    nodes.push(world_node(7001, 1)?)?;
+    nodes.push(world_node(7002, 0))?;
+    nodes.push(world_node(7001, 1))?;
     Ok(nodes)
 }
 

@@ -1,7 +1,7 @@
 use Rattle.std.proofs.Common.{◌≡◌, [], sym, ◌∙◌, rules}
 use Rattle.std.specs.Vec.Iter.{into_iter_items}
 use Rattle.std.proofs.lemmas.List.{nil_from_length}
-use Rattle.do_node.proofs.Rest.{ahead_start, ahead_block, ahead_end, counted_next}
+use Rattle.do_node.proofs.Rest.{ahead_start, ahead_block, ahead_end, counted_next, good_next}
 use Rattle.do_node.proofs.Written.{ahead_sent, ahead_prefix, ahead_part, ahead_whole}
 use Rattle.do_node.proofs.replaying.write_transcript.Goals as goal
 
@@ -10,14 +10,19 @@ loop-line-init g c =
     let items : into_iter_items c.into_iter-line-iterator.result ≡ c.args.lines = search rules in
     record {
       written = ahead_start _ _ c.args.local.now c.args.lines _ c.in_ok-waiting.ensures items;
-      counted = rw items c.requires;
+      good = rw items c.requires.good;
+      counted = rw items c.requires.room;
       later = search rules;
     }
+
+pub push_block-requires-clause-good : goal.push_block-requires-clause-good
+push_block-requires-clause-good g c = (good_next c.in-Some.line _ _ c.in-Some.ensures.steps.0 c.loop-line.invariant.good).0
 
 pub loop-line-preserved : goal.loop-line-preserved
 loop-line-preserved g c = let a = c.in-Some.ensures.steps in let d = c.in_ok-flush_if_long.ensures.ok in record {
   written = ahead_sent _ _ _ _ d.0 _ _ _ d.1 d.2
       (ahead_block _ _ _ _ _ c.loop-line.local c.push_block.new.local c.in-Some.line _ _ a.0 c.in_ok-push_block.ensures.text c.in_ok-push_block.ensures.state c.in_ok-push_block.ensures.table c.loop-line.invariant.written);
+  good = (good_next c.in-Some.line _ _ a.0 c.loop-line.invariant.good).1;
   counted = counted_next _ _ c.in-Some.line _ _ a.0 c.in_ok-push_block.ensures.counted c.loop-line.invariant.counted;
   later = search rules;
 }

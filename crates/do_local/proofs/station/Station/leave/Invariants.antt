@@ -1,5 +1,5 @@
 use Rattle.std.proofs.Common.{◌-◌, length}
-use Rattle.do_local.specs.Room.{LeftSoFar}
+use Rattle.do_local.proofs.Leaves.{LeftSoFar}
 use Rattle.do_local.proofs.station.Station.leave.Given as goal
 
 abbrev pub invariant-loop-at : goal.invariant-loop-at
