@@ -1,16 +1,28 @@
 #!/bin/sh
-# Builds crates/act_speed and bench/acts.rs, runs one after the other, and prints the nanoseconds of
-# an act in both with their ratio.
+# Builds crates/act_speed and bench/plain.rs, runs one after the other five times, and prints the best
+# nanoseconds of an act in both, with their ratio.
 # sh bench/acts.sh
 set -e
 cd "$(dirname "$0")/.."
 work=$(mktemp -d)
 trap 'rm -rf "$work"' EXIT
 (cd crates/act_speed && rt run) > "$work/build" 2>&1 || { cat "$work/build" >&2; exit 1; }
-rustc -O bench/acts.rs -o "$work/plain"
-crates/act_speed/out/act_speed 2> "$work/rattle.figures"
-"$work/plain" 2> "$work/plain.figures"
-awk -F ': | acts, | ns each' '
-    NR == FNR { rattle[$1] = $3; next }
-    { printf "%-24s %8d ns %8.2f ns %8.0f times\n", $1, rattle[$1], $3, rattle[$1] / $3 }
+rustc --edition 2021 -O bench/plain.rs -o "$work/plain"
+for _ in 1 2 3 4 5; do
+    crates/act_speed/out/act_speed 2>> "$work/rattle.figures"
+    "$work/plain" 2>> "$work/plain.figures"
+done
+awk -F ': | acts, | hundredths' '
+    NR == FNR { if (!($1 in rattle) || $3 < rattle[$1]) rattle[$1] = $3; next }
+    !($1 in plain) { order[++count] = $1 }
+    !($1 in plain) || $3 < plain[$1] { plain[$1] = $3 }
+    END {
+        printf "%-24s %11s %14s %6s\n", "method", "Rattle", "plain Rust", "ratio"
+        for (i = 1; i <= count; i++) {
+            name = order[i]
+            ours = rattle[name] / 100
+            theirs = plain[name] / 100
+            printf "%-24s %8.2f ns %11.2f ns %6.2f\n", name, ours, theirs, ours / theirs
+        }
+    }
 ' "$work/rattle.figures" "$work/plain.figures"

@@ -1,2 +1,0 @@
-mod Goes
-mod Settings

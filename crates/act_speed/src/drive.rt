@@ -1,38 +1,33 @@
-ghost use Rattle.std.specs.Prelude.{◌≡◌, ◌≤◌, ◌<◌, ◌+◌, IfOk, IsSome, IsNone};
-ghost use Rattle.do_behave.specs.Programs.{IsMadeFor};
-ghost use Rattle.act_speed.specs.Going.{IsGoing, goes_on, after};
+ghost use Rattle.std.specs.Prelude.{◌≡◌, ◌≤◌, ◌<◌, ◌+◌, IfOk, IsSome, IsNone, Some, None, if◌then◌else◌};
+ghost use Rattle.act_speed.specs.Driven.{after, moved_on};
 
 use do_base::Values;
-use do_behave::{Act, Behaviour, Invocation, Program};
+use do_behave::{Act, Invocation, Program, act_in_place};
 use do_class::ClassTable;
 use std::alloc::AllocError;
 
-/// The invocation behind an act that nothing answers. None exactly where the act ends it.
-fn goes_on(mut inv: Invocation, act: Act) -> Option<Invocation>
-    ensures { result ≡ goes_on inv act }
+/// Goes on behind an act that is left to do, which nothing answers. False exactly where it ends the
+/// invocation.
+fn move_on(inv: &mut Invocation, left: Option<Act>) -> bool
+    ensures { moved_on inv.old left ≡ (if result then Some inv.new else None) }
 {
-    match act {
-        Act::Step {
-            pc,
-            locals,
-            handler,
-            ..
-        } => {
-            inv.locals = locals;
-            inv.handler = handler;
+    match left {
+        None => true,
+        Some(
+            Act::New { pc, .. }
+            | Act::Send { pc, .. }
+            | Act::Root { pc, .. }
+            | Act::Vend { pc, .. }
+            | Act::Say { pc, .. },
+        ) => {
             inv.pc = pc;
+            true
         }
-        Act::New { pc, .. }
-        | Act::Send { pc, .. }
-        | Act::Root { pc, .. }
-        | Act::Vend { pc, .. }
-        | Act::Say { pc, .. } => inv.pc = pc,
-        Act::Return { .. } | Act::Raise(_) => return None,
+        Some(_) => false,
     }
-    Some(inv)
 }
 
-/// Does acts of a method, at most so many and only before the one that ends it, and tells how many.
+/// Does acts of a method, at most `acts` and only before the one that ends it, and says how many.
 ///
 /// Nothing answers: behind a message, and behind a question for a root, the method goes on at once
 /// with the locals that it had.
@@ -40,20 +35,17 @@ pub fn drive(
     program: &Program,
     table: &ClassTable,
     mut inv: Invocation,
-    slots: &Values,
+    mut slots: Values,
     acts: u32,
 ) -> Result<u32, AllocError>
-    requires made { IsMadeFor program.now table.now }
-    requires going { IsGoing table.now inv slots.now }
     ensures most { IfOk result (λ done. done ≤ acts) }
-    ensures done { IfOk result (λ done. IsSome (after program.now table.now inv slots.now done)) }
-    ensures all { IfOk result (λ done. done < acts → IsNone (after program.now table.now inv slots.now (done + 1))) }
+    ensures done { IfOk result (λ done. IsSome (after program.now table.now inv slots done)) }
+    ensures all { IfOk result (λ done. done < acts → IsNone (after program.now table.now inv slots (done + 1))) }
 {
     for done in 0..acts {
-        let act = program.act(table, &inv, slots)?;
-        match goes_on(inv, act) {
-            Some(next) => inv = next,
-            None => return Ok(done),
+        let left = act_in_place(program, table, &mut inv, &mut slots)?;
+        if !move_on(&mut inv, left) {
+            return Ok(done);
         }
     }
     Ok(acts)

@@ -11,7 +11,7 @@ send l3 l1 lookup: l2
 num l4 7104
 root l4 l4
 num l5 0
-num l6 1000000
+num l6 1000000000
 num l7 1
 text l8 \"N\"
 nil l9
@@ -32,7 +32,7 @@ pub const COUNTING_BESIDE_TEXTS: &[u8] = b"
 text l2 \"board\"
 num l4 7104
 num l5 0
-num l6 1000000
+num l6 1000000000
 num l7 1
 text l8 \"N\"
 num l13 0
@@ -49,7 +49,7 @@ jump @again
 pub const COUNTING: &[u8] = b"
 num l4 7104
 num l5 0
-num l6 1000000
+num l6 1000000000
 num l7 1
 num l13 0
 self l10
@@ -61,10 +61,19 @@ jump @again
 @done
 ";
 
-/// A method that grows a list to 1,024 items, over and over again.
-pub fn growing(alloc: Global) -> Result<Text, AllocError> {
+/// A method that moves a text from local to local.
+pub const MOVING: &[u8] = b"
+text l1 \"board\"
+@again
+move l2 l1
+move l3 l2
+jump @again
+";
+
+/// A method that grows a list to `items` items, over and over again.
+pub fn growing(alloc: Global, items: u32) -> Result<Text, AllocError> {
     let mut text = Text::from_slice(alloc, b"num l1 7\n@again\nlist l0\n")?;
-    for _push in 0..1024 {
+    for _push in 0..items {
         text.push_bytes(b"push l0 l1\n")?;
     }
     text.push_bytes(b"jump @again\n")?;

@@ -1,3 +1,3 @@
 pub mod Weights
-pub mod Written
-pub mod Found
+pub mod WrittenSoFar
+pub mod FileSearch

@@ -1,11 +1,5 @@
 pub mod formers
-pub mod Values
-pub mod Names
-pub mod Induction
-pub mod Equal
-pub mod Borrowed
-pub mod Reserved
-pub mod Bytes
-pub mod Causes
-pub mod Files
-pub mod Memory
+pub mod values
+pub mod names
+pub mod lists
+pub mod outside

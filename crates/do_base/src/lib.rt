@@ -2,29 +2,22 @@
 //! files and a sink for bytes, with both in memory.
 #![tactic(auto)]
 
-mod exact;
-mod items;
-mod mem_shelf;
-mod mem_sink;
-mod node;
-mod reserved;
-mod shelf;
-mod shown;
-mod sink;
-mod text;
-mod value;
+mod events;
+mod lists;
+mod names;
+mod outside;
+mod values;
 
-pub use exact::{ExactClone, ExactEq};
-pub use items::{Flags, Items, Locals};
-pub use mem_shelf::MemShelf;
-pub use mem_sink::MemSink;
-pub use node::{CallId, NodeId, Oid, Oids, Peers, Token};
-pub use reserved::Reserved;
-pub use shelf::{FetchFail, FileList, NamedFile, Shelf};
-pub use shown::{Event, Exc, Shown, ShownList, Took};
-pub use sink::{CallList, PutFail, Sink, write_all};
-pub use text::{Text, Texts, Word};
-pub use value::{Value, Values, copy_value, same_value, weight};
-
-#[cfg(test)]
-mod tests;
+pub use events::event::Event;
+pub use events::exception::Exc;
+pub use events::shown::{Shown, ShownList, Took};
+pub use lists::exact::{ExactClone, ExactEq};
+pub use lists::items::{Flags, Items, Locals};
+pub use lists::reserved::Reserved;
+pub use names::node::{CallId, NodeId, Oid, Oids, Peers, Token};
+pub use outside::mem_shelf::MemShelf;
+pub use outside::mem_sink::MemSink;
+pub use outside::shelf::{FetchFail, FileList, NamedFile, Shelf};
+pub use outside::sink::{CallList, PutFail, Sink, write_all};
+pub use values::text::{LONGEST_TEXT, Text, Texts, Word};
+pub use values::value::{Value, Values, copy_value, same_value, weight};

@@ -1,3 +1,4 @@
-pub mod Locals
+pub mod Weights
+pub mod ListUpdates
 pub mod Checked
-pub mod TwoClasses
+pub mod KnownWeights

@@ -1,22 +1,15 @@
 -- Arithmetic and comparison, where nil counts as 0.
-use Rattle.std.specs.Prelude.{ℕ, ◌^◌, Bool, true, false, nat_lt, ◌==◌, if◌then◌else◌, ℤ, pos, negsuc, int_lt, Option, Some, None}
-use Rattle.do_base.specs.declared.value.Value.{Value, out-Value}
-use Rattle.do_base.specs.declared.value.Value.TheVariants.{Num}
-use Rattle.do_base.specs.declared.value.Value.TheOpen.{Value-F}
-use Rattle.do_base.specs.declared.shown.Exc.TheVariants.{Range}
+use Rattle.std.specs.Prelude.{ℕ, ◌^◌, Bool, true, false, nat_lt, ◌==◌, if◌then◌else◌, ℤ, pos}
+use Rattle.std.specs.Prelude.{negsuc, int_lt, Option, Some, None}
+use Rattle.do_base.specs.values.Kinds.{counted}
+use Rattle.do_base.specs.declared.values.value.Value.{Value, out-Value}
+use Rattle.do_base.specs.declared.values.value.Value.TheVariants.{Num}
+use Rattle.do_base.specs.declared.values.value.Value.TheOpen.{Value-F}
+use Rattle.do_base.specs.declared.events.exception.Exc.TheVariants.{Range}
 use Rattle.do_behave.specs.Steps.{local, gives, type_fault}
 use Rattle.do_behave.specs.declared.invocation.Invocation.{Invocation}
 use Rattle.do_behave.specs.declared.act.Act.{Act}
 use Rattle.do_behave.specs.declared.act.Act.TheVariants.{Raise}
-
-abbrev pub number_in : Value-F Value → Option ℤ
-number_in Value-F.Nil = Some (pos 0)
-number_in (Value-F.Num z) = Some z
-number_in _ = None
-
--- the number that a value counts as
-abbrev pub number_of : Value → Option ℤ
-number_of value = number_in (out-Value value)
 
 -- a number of 64 bits with a sign
 abbrev pub is_i64 : ℤ → Bool
@@ -43,7 +36,8 @@ with_numbers _ _ f = type_fault
 -- gives what two locals make as numbers
 abbrev pub calculates : (ℤ → ℤ → Option ℤ) → Invocation → ℕ → ℕ → ℕ → Act
 calculates f inv into left right =
-    with_numbers (number_of (local inv left)) (number_of (local inv right)) (λ x y. gives_number inv into (f x y))
+    with_numbers (counted (local inv left)) (counted (local inv right))
+    (λ x y. gives_number inv into (f x y))
 
 abbrev pub less : ℤ → ℤ → Option ℤ
 less x y = Some (truth (int_lt x y))

@@ -10,7 +10,11 @@ pub record Suits (slots classes : ℕ) (code : Listing) : Type 0 where
   pub few_slots : code.slots ≤ slots
   pub few_classes : code.classes ≤ classes
 
+-- one code for each method of a class, in a table of so many classes
+abbrev pub HasCodes : ℕ → List Listing → Class → Type 0
+HasCodes classes codes class =
+    AllZip (λ code method. Suits (length class.slots) classes code) codes class.methods
+
 -- one code for each method of the table, which names only slots and classes that are there
 abbrev pub IsMadeFor : List (List Listing) → List Class → Type 0
-IsMadeFor codes table =
-    AllZip (λ of_class c. AllZip (λ code method. Suits (length c.slots) (length table) code) of_class c.methods) codes table
+IsMadeFor codes table = AllZip (HasCodes (length table)) codes table

@@ -1,9 +1,7 @@
 -- When an invocation can act.
-use Rattle.std.specs.Prelude.{◌≡◌, ◌<◌, ◌^◌, List, ◌++◌, length, Option, Some}
-use Rattle.std.specs.List.{All}
+use Rattle.std.specs.Prelude.{◌≡◌, List, length, Option, Some}
 use Rattle.std.specs.Option.{option_map, IsSome, IfSome}
-use Rattle.do_base.specs.Values.{weight_of}
-use Rattle.do_base.specs.declared.value.Value.{Value}
+use Rattle.do_base.specs.declared.values.value.Value.{Value}
 use Rattle.do_class.specs.Class.{Class}
 use Rattle.do_class.specs.Table.{method_at, slots_of}
 use Rattle.do_script.specs.Listing.{IsLocal}
@@ -15,16 +13,10 @@ use Rattle.do_behave.specs.declared.invocation.InvState.TheVariants.{Running}
 abbrev pub IsHandler : Option Handler → Type 0
 IsHandler handler = IfSome handler (λ h. IsLocal h.into)
 
--- a value whose weight can be counted
-abbrev pub IsLight : Value → Type 0
-IsLight value = weight_of value < 2 ^ 32
-
--- It runs a method of the table, has 16 locals, and its object has the slots of the method's class, and each
--- value can be weighed.
+-- it runs a method of the table, has 16 locals, and its object has the slots of the method's class
 pub record IsReady (table : List Class) (inv : Invocation) (slots : List Value) : Type 0 where
   pub running : inv.state ≡ Running
   pub method : IsSome (method_at table inv.method)
   pub locals : length inv.locals ≡ 16
   pub handler : IsHandler inv.handler
   pub slot_count : option_map length (slots_of table inv.method.class) ≡ Some (length slots)
-  pub weights : All IsLight (inv.locals ++ slots)

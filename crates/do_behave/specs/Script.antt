@@ -1,10 +1,12 @@
 -- What a script does: one instruction is one act.
-use Rattle.std.specs.Prelude.{ℕ, List, [], ◌+ℤ◌, ◌-ℤ◌, ◌*ℤ◌, map, if◌then◌else◌, Option, Some, None, option_and_then, slice_get, slice_index_or}
-use Rattle.do_base.specs.Equal.{value_eq}
-use Rattle.do_base.specs.declared.value.Value.{Value, List as ListValue, out-Value}
-use Rattle.do_base.specs.declared.value.Value.TheVariants as values
-use Rattle.do_base.specs.declared.value.Value.TheOpen.{Value-F}
-use Rattle.do_base.specs.declared.shown.Exc.TheVariants.{User}
+use Rattle.std.specs.Prelude.{ℕ, ℤ, ◌==◌, nat_le, Bool, ◌&&◌, List, [], ◌+ℤ◌, ◌-ℤ◌, ◌*ℤ◌, length}
+use Rattle.std.specs.Prelude.{map, if◌then◌else◌}
+use Rattle.std.specs.Prelude.{Option, Some, None, option_and_then, slice_get, slice_index_or}
+use Rattle.do_base.specs.values.Equal.{value_eq}
+use Rattle.do_base.specs.values.Kinds.{number, text}
+use Rattle.do_base.specs.declared.values.value.Value.{Value, List as ListValue}
+use Rattle.do_base.specs.declared.values.value.Value.TheVariants as values
+use Rattle.do_base.specs.declared.events.exception.Exc.TheVariants.{User}
 use Rattle.do_class.specs.Class.{Class}
 use Rattle.do_class.specs.Table.{class_id}
 use Rattle.do_class.specs.declared.ids.MethodId.{MethodId}
@@ -18,13 +20,21 @@ use Rattle.do_behave.specs.declared.invocation.Invocation.{Invocation}
 use Rattle.do_behave.specs.declared.act.Act.{Act}
 use Rattle.do_behave.specs.declared.act.Act.TheVariants.{New, Send, Root, Vend, Say, Return, Raise}
 
--- a text is raised as it is
-abbrev pub raise_in : Value-F Value → Act
-raise_in (Value-F.Text s) = Raise (User s)
-raise_in _ = type_fault
+abbrev pub raise_text : Option (List ℕ) → Act
+raise_text (Some s) = Raise (User s)
+raise_text None = type_fault
 
+-- a text is raised as it is
 abbrev pub raises : Invocation → ℕ → Act
-raises inv k = raise_in (out-Value (local inv k))
+raises inv k = raise_text (text (local inv k))
+
+abbrev pub root_of : Invocation → ℕ → Value → Option ℤ → Act
+root_of inv into port (Some z) = Root port into (next inv)
+root_of inv into port None = type_fault
+
+-- asks for the root of the node whose port is the number in a local
+abbrev pub asks_root : Invocation → ℕ → ℕ → Act
+asks_root inv into k = root_of inv into (local inv k) (number (local inv k))
 
 -- the act of each instruction
 abbrev pub performs : Invocation → List Value → Instruction → Act
@@ -39,7 +49,8 @@ performs inv slots (does.Add d a b) = calculates (λ x y. checked (x +ℤ y)) in
 performs inv slots (does.Subtract d a b) = calculates (λ x y. checked (x -ℤ y)) inv d a b
 performs inv slots (does.Multiply d a b) = calculates (λ x y. checked (x *ℤ y)) inv d a b
 performs inv slots (does.Less d a b) = calculates less inv d a b
-performs inv slots (does.Same d a b) = gives inv d (values.Num (truth (value_eq (local inv a) (local inv b))))
+performs inv slots (does.Same d a b) =
+    gives inv d (values.Num (truth (value_eq (local inv a) (local inv b))))
 performs inv slots (does.Jump to) = goes_to inv to
 performs inv slots (does.IfNot a to) = goes_to inv (if is_zero (local inv a) then to else next inv)
 performs inv slots (does.List d) = gives inv d (ListValue [])
@@ -47,8 +58,9 @@ performs inv slots (does.Push d s) = pushes inv d s
 performs inv slots (does.Item d a i) = picks inv d a i
 performs inv slots (does.Count d a) = counts inv d a
 performs inv slots (does.New d c) = New (class_id c) d (next inv)
-performs inv slots (does.Send d t selector from) = Send (local inv t) selector (map (local inv) from) d from (next inv)
-performs inv slots (does.Root d p) = Root (local inv p) d (next inv)
+performs inv slots (does.Send d t selector from) =
+    Send (local inv t) selector (map (local inv) from) d from (next inv)
+performs inv slots (does.Root d p) = asks_root inv d p
 performs inv slots (does.Vend s) = Vend (local inv s) (next inv)
 performs inv slots (does.Say s) = Say (local inv s) (next inv)
 performs inv slots (does.Return s) = Return (local inv s)
@@ -63,13 +75,23 @@ does_next inv slots (Some instruction) = performs inv slots instruction
 
 -- the code of a method
 abbrev pub code_of : List (List Listing) → MethodId → Option Listing
-code_of codes method = option_and_then (λ of_class. slice_get of_class method.index) (slice_get codes method.class.0)
+code_of codes method =
+    option_and_then (λ of_class. slice_get of_class method.index) (slice_get codes method.class.0)
 
--- the act of the code of an invocation's method, which a program made for the table has
-abbrev pub runs : Invocation → List Value → Option Listing → Act
-runs inv slots None = type_fault
-runs inv slots (Some code) = does_next inv slots (slice_get code.instructions inv.pc)
+-- sixteen locals, as many slots as the code names, and as many classes
+abbrev pub is_ready : List Class → Invocation → List Value → Listing → Bool
+is_ready table inv slots code =
+    (length inv.locals == 16) &&
+    (nat_le code.slots (length slots) && nat_le code.classes (length table))
+
+-- the act of the code of an invocation's method; where there is none, or the invocation lacks what
+-- the code names, a fault of type
+abbrev pub runs : List Class → Invocation → List Value → Option Listing → Act
+runs table inv slots None = type_fault
+runs table inv slots (Some code) =
+    if is_ready table inv slots code then does_next inv slots (slice_get code.instructions inv.pc)
+    else type_fault
 
 -- the behaviour of scripts
 abbrev pub script : List (List Listing) → List Class → Invocation → List Value → Act
-script codes table inv slots = runs inv slots (code_of codes inv.method)
+script codes table inv slots = runs table inv slots (code_of codes inv.method)

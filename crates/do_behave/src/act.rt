@@ -1,3 +1,4 @@
+use crate::held::Frame;
 use crate::invocation::Handler;
 use do_base::{Exc, Items, Locals, Text, Value, Values};
 use do_class::ClassId;
@@ -19,7 +20,7 @@ pub enum Act {
     /// Sets all locals and the handler, and writes slots.
     Step {
         pc: u32,
-        locals: Values,
+        locals: Frame,
         handler: Option<Handler>,
         writes: Writes,
     },

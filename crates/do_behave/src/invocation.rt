@@ -1,5 +1,7 @@
-use do_base::{CallId, Exc, Locals, NodeId, Oid, Value, Values};
+use crate::held::{Frame, Held};
+use do_base::{CallId, ExactClone, Exc, Locals, NodeId, Oid, Value, Values};
 use do_class::MethodId;
+use std::alloc::AllocError;
 
 /// Where an invocation goes on after an exception, and the local that then holds its name.
 #[derive(Clone, Copy, Debug, PartialEq, Eq)]
@@ -22,7 +24,7 @@ pub enum Reason {
 }
 
 /// How an invocation ended.
-#[derive(Debug, Drop)]
+#[derive(Clone, Debug, Drop)]
 pub enum Answer {
     /// With a result, and the values of the arguments that come out, in their order.
     Given { result: Value, outs: Values },
@@ -40,7 +42,7 @@ pub enum Waited {
 }
 
 /// Whether an invocation goes on, and with what.
-#[derive(Debug, Drop)]
+#[derive(Clone, Debug, Drop)]
 pub enum InvState {
     /// Does its next act.
     Running,
@@ -60,15 +62,81 @@ pub enum InvState {
 ///
 /// `pc` is its place in the method, from 0. The arguments are its first locals. `into` and `outs`
 /// are the locals that a message's result and out values go to, once they come.
-#[derive(Debug, Drop)]
+#[derive(Clone, Debug, Drop)]
 pub struct Invocation {
     pub object: Oid,
     pub method: MethodId,
     pub pc: u32,
-    pub locals: Values,
+    pub locals: Frame,
     pub handler: Option<Handler>,
     pub reason: Reason,
     pub into: u8,
     pub outs: Locals,
     pub state: InvState,
+}
+
+impl Invocation {
+    ghost use Rattle.std.specs.Prelude.{◌≡◌, OnOk, OnErr, slice_get, slice_set};
+    ghost use Rattle.do_behave.specs.LongerList.{FitsIn, longer};
+    ghost use Rattle.do_behave.specs.Steps.{local};
+
+    /// Sets a local, and goes on at a place. What the local held is handed back; where there is no
+    /// such local none is set.
+    #[tactic(auto, using(crate::proofs::ListUpdates::set_steps))]
+    pub fn set_local(&mut self, into: u8, value: Value, pc: u32) -> Option<Value>
+        ensures new { self.new
+            ≡ record self.old { pc = pc; locals = slice_set self.old.locals into value } }
+        ensures was { result ≡ slice_get self.old.locals into }
+    {
+        self.pc = pc;
+        let at = into as usize;
+        if at < self.locals.len() {
+            Some(self.locals.replace(at, Held::new(value)).into_value())
+        } else {
+            None
+        }
+    }
+
+    /// Appends an item to the list in a local, which then has this weight, and goes on at a place.
+    /// If memory runs out, the invocation is unchanged.
+    #[tactic(auto, using(crate::proofs::ListUpdates::set_steps))]
+    pub fn push_item(
+        &mut self,
+        list: u8,
+        item: Value,
+        weight: u64,
+        pc: u32,
+    ) -> Result<(), AllocError>
+        requires { FitsIn (local self.old list) item weight }
+        ensures ok { OnOk result (self.new ≡ record self.old {
+          pc = pc;
+          locals = slice_set self.old.locals list (longer (local self.old list) item);
+        }) }
+        ensures err { OnErr result (self.new ≡ self.old) }
+    {
+        let at = list as usize;
+        if at < self.locals.len() {
+            self.locals.at_mut(at).push(item, weight)?;
+        }
+        self.pc = pc;
+        Ok(())
+    }
+}
+
+impl ExactClone for Answer {
+    ghost use Rattle.std.proofs.Common.{rules};
+
+    ghost exact_clone = { λ x y h. Prim.search rules };
+}
+
+impl ExactClone for InvState {
+    ghost use Rattle.std.proofs.Common.{rules};
+
+    ghost exact_clone = { λ x y h. Prim.search rules };
+}
+
+impl ExactClone for Invocation {
+    ghost use Rattle.std.proofs.Common.{rules};
+
+    ghost exact_clone = { λ x y h. Prim.search rules };
 }

@@ -1,11 +1,18 @@
-//! What an invocation does next: acts, the trait of whatever decides them, and programs of scripts.
+//! What an invocation does next: its acts, the trait of whatever decides them, and programs of
+//! scripts.
+//!
+//! It stands on the values of do_base, the class tables of do_class and the method language of
+//! do_script. An act is exact: it is the one that the definition of the behaviour names, for every
+//! invocation. The language and the acts are this project's own.
 #![tactic(auto)]
 
 mod act;
 mod behaviour;
-#[cfg(test)]
-mod counter;
+mod change;
+mod held;
+mod in_place;
 mod invocation;
+mod limits;
 mod lists;
 mod numbers;
 mod program;
@@ -14,8 +21,8 @@ mod steps;
 
 pub use act::{Act, Write, Writes};
 pub use behaviour::Behaviour;
+pub use change::{Change, LocalSet, LocalSets};
+pub use held::{Frame, Held};
+pub use in_place::{act_in_place, make_change};
 pub use invocation::{Answer, Handler, InvState, Invocation, Reason, Waited};
 pub use program::{ClassCodes, Codes, Program};
-
-#[cfg(test)]
-mod tests;

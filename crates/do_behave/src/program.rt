@@ -1,10 +1,10 @@
-ghost use Rattle.std.specs.Prelude.{◌≡◌};
+ghost use Rattle.std.specs.Prelude.{◌≡◌, ◌≤◌, length};
 ghost use Rattle.std.specs.Option.{option_copied};
-ghost use Rattle.do_behave.specs.Programs.{IsMadeFor};
-ghost use Rattle.do_behave.specs.Script.{code_of};
+ghost use Rattle.do_behave.specs.Script.{code_of, is_ready};
 
 use crate::act::Act;
 use crate::behaviour::Behaviour;
+use crate::change::Change;
 use crate::invocation::Invocation;
 use crate::script::perform;
 use do_base::{Exc, Items, Value, Values};
@@ -21,8 +21,7 @@ pub type Codes = Items<ClassCodes>;
 
 /// A behaviour of scripts: one code for each method of a table.
 ///
-/// Contracts see a program as the list of its listings, by class and by place there. The language
-/// is this project's own.
+/// Contracts see a program as the list of its listings, by class and by place there.
 #[derive(Debug, Drop)]
 pub struct Program {
     by_class: Codes,
@@ -43,10 +42,11 @@ impl Model for Program {
 
 impl Program {
     /// A program for a table, with a code for each of its methods.
+    ///
+    /// Where it has other codes, its acts are still those of its codes, and a method without a code
+    /// raises Type.
     pub fn new(_table: &ClassTable, codes: Codes) -> Program
-        requires { IsMadeFor codes _table.now }
-        ensures codes { result ≡ codes }
-        ensures made { IsMadeFor result _table.now }
+        ensures { result ≡ codes }
     {
         Program { by_class: codes }
     }
@@ -60,26 +60,45 @@ impl Program {
     }
 }
 
+/// Whether there are sixteen locals, as many slots as the code names, and as many classes.
+fn is_ready(table: &ClassTable, inv: &Invocation, slots: &Values, code: &Code) -> bool
+    ensures ready { result ≡ is_ready table.now inv.now slots.now code.now }
+    ensures few { length table.now ≤ 256 }
+{
+    let locals = inv.locals.len() == 16;
+    let slots = code.slots() <= slots.len();
+    let classes = code.classes() <= table.count() as usize;
+    locals & (slots & classes)
+}
+
 impl Behaviour for Program {
     ghost use Rattle.do_behave.specs.Programs.{IsMadeFor};
     ghost use Rattle.do_behave.specs.Script.{script};
-    ghost use Rattle.do_behave.specs.ScriptLaw.{script_answers_well};
+    ghost use Rattle.do_behave.specs.laws.ScriptLaws.{script_names_shown, script_answers_well};
 
     ghost act = { script };
 
     ghost made_for = { IsMadeFor };
 
+    ghost names_shown = { script_names_shown };
+
     ghost answers_well = { script_answers_well };
 
-    fn act(&self, table: &ClassTable, inv: &Invocation, slots: &Values) -> Result<Act, AllocError> {
+    fn act(
+        &self,
+        table: &ClassTable,
+        inv: &Invocation,
+        slots: &Values,
+    ) -> Result<Change, AllocError> {
         let Some(code) = self.code_of(inv.method) else {
-            return Ok(Act::Raise(Exc::TypeFault));
+            return Ok(Change::Other(Act::Raise(Exc::TypeFault)));
         };
-        // A class is one of at most 256.
-        let _count = table.count();
+        if !is_ready(table, inv, slots, code) {
+            return Ok(Change::Other(Act::Raise(Exc::TypeFault)));
+        }
         match code.get(inv.pc as usize) {
             Some(instruction) => perform(inv, slots, instruction),
-            None => Ok(Act::Return { value: Value::Nil }),
+            None => Ok(Change::Other(Act::Return { value: Value::Nil })),
         }
     }
 }

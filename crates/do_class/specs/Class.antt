@@ -1,9 +1,9 @@
 -- A class, as a contract sees it.
-use Rattle.std.specs.Prelude.{◌≡◌, ℕ, ◌≤◌, List, length, map, Option}
+use Rattle.std.specs.Prelude.{◌≡◌, ℕ, ◌≤◌, List, length, map, Option, IsTrue}
 use Rattle.std.specs.List.{All, IsDistinct, position}
 use Rattle.std.specs.Str.{bytes_eq}
 use Rattle.do_sig.specs.Calls.{arg_count}
-use Rattle.do_grammar.specs.Names.{colons}
+use Rattle.do_grammar.specs.Names.{is_selector, colons}
 use Rattle.do_class.specs.declared.ids.Slot.{Slot}
 use Rattle.do_class.specs.declared.method.Method.{Method}
 
@@ -17,10 +17,12 @@ pub record Class : Type 0 where
 abbrev pub selectors_of : List Method → List (List ℕ)
 selectors_of methods = map (λ m. m.selector) methods
 
--- What the methods of a class are: at most 64, no two of one selector, and each selector with a colon for each argument.
+-- What the methods of a class are: at most 64, no two of one selector, and each selector one of the
+-- grammar, with a colon for each argument.
 pub record AreMethods (methods : List Method) : Type 0 where
   pub few : length methods ≤ 64
   pub distinct : IsDistinct bytes_eq (selectors_of methods)
+  pub selectors : All (λ m. IsTrue (is_selector m.selector)) methods
   pub colons : All (λ m. colons m.selector ≡ arg_count m.signature) methods
 
 -- a class within the limits

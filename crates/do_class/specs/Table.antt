@@ -1,4 +1,5 @@
--- A class table, as a plain list of classes: a class is named by its place in the list, and a method by its place in its class.
+-- A class table, as a plain list of classes: a class is named by its place in the list, and a
+-- method by its place in its class.
 use Rattle.std.specs.Prelude.{ℕ, ◌≤◌, List, length, map, Option, option_and_then, slice_get}
 use Rattle.std.specs.List.{All, IsDistinct}
 use Rattle.std.specs.Option.{option_map}
@@ -34,7 +35,8 @@ slots_of table class = option_map (λ c. c.slots) (class_at table class)
 
 -- the method at a place of a class
 abbrev pub method_at : List Class → MethodId → Option Method
-method_at table method = option_and_then (λ c. slice_get c.methods method.index) (class_at table method.class)
+method_at table method =
+    option_and_then (λ c. slice_get c.methods method.index) (class_at table method.class)
 
 -- the signature of a method
 abbrev pub signature_of : List Class → MethodId → Option Signature
@@ -59,4 +61,5 @@ class_named table name = option_map class_id (place_of name (names_of table))
 -- the method of a class with a selector
 abbrev pub find_method : List Class → ClassId → List ℕ → Option MethodId
 find_method table class selector =
-    option_and_then (λ c. option_map (method_id class) (place_of selector (selectors_of c.methods))) (class_at table class)
+    option_and_then (λ c. option_map (method_id class) (place_of selector (selectors_of c.methods)))
+    (class_at table class)

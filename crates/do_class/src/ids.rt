@@ -1,4 +1,4 @@
-use do_base::{Items, Text};
+use do_base::{ExactClone, Items, Text};
 
 /// A class, by its place in the table, from 0.
 #[derive(Clone, Copy, Debug, PartialEq, Eq, PartialOrd, Ord, Hash)]
@@ -20,3 +20,9 @@ pub struct Slot {
 
 /// The slots of a class, in order.
 pub type Slots = Items<Slot>;
+
+impl ExactClone for ClassId {
+    ghost use Rattle.std.proofs.Common.{rules};
+
+    ghost exact_clone = { λ x y h. Prim.search rules };
+}

@@ -1,4 +1,5 @@
-ghost use Rattle.std.specs.Prelude.{◌≡◌, ◌<◌, ◌≤◌, ℕ, length, nat_lt, IfOk, IfSome, slice_get, Some};
+ghost use Rattle.std.specs.Prelude.{◌≡◌, ◌<◌, ◌≤◌, ℕ, length, nat_lt, IfOk, IfSome, slice_get};
+ghost use Rattle.std.specs.Prelude.{Some};
 ghost use Rattle.std.specs.Option.{option_copied};
 ghost use Rattle.do_class.specs.Class.{AreMethods, place_of, selectors_of};
 ghost use Rattle.do_class.specs.Index.{IsIndexOf};
@@ -31,7 +32,8 @@ impl Model for IndexedClass {
 
     ghost view = { λ c. record { name = c.name; slots = c.slots; methods = c.methods } };
 
-    ghost invariant = { λ c. IsIndexed (record { name = c.name; slots = c.slots; methods = c.methods }) c.places };
+    ghost invariant = { λ c. IsIndexed (record
+        { name = c.name; slots = c.slots; methods = c.methods }) c.places };
 }
 
 impl IndexedClass {

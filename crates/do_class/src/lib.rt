@@ -13,6 +13,3 @@ pub use ids::{ClassId, MethodId, Slot, Slots};
 pub use method::{Method, Methods};
 pub use packet::{Copied, CopyList, Name, NameList, Packet, Part, Parts};
 pub use table::ClassTable;
-
-#[cfg(test)]
-mod tests;

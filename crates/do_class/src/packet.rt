@@ -1,5 +1,9 @@
+//! What messages hold: names of objects, copies and values.
+ghost use Rattle.std.specs.Prelude.{◌≡◌, IfOk};
+
 use crate::ids::ClassId;
-use do_base::{Items, Oid, Text};
+use do_base::{ExactClone, ExactEq, Items, Oid, Text};
+use std::alloc::AllocError;
 
 /// An object that a message names, by whose it is.
 #[derive(Clone, Copy, Debug, PartialEq, Eq)]
@@ -25,6 +29,8 @@ pub enum Name {
 pub type NameList = Items<Name>;
 
 /// A value inside a message, where an object is a place in the message's copies or names.
+///
+/// Clones are exact. The type itself keeps no limit on texts, lists, nesting or places.
 #[derive(Debug, PartialEq, Eq, Drop)]
 pub enum Part {
     Nil,
@@ -41,7 +47,7 @@ pub enum Part {
 pub type Parts = Items<Part>;
 
 /// An object that a message carries with its slots.
-#[derive(Debug, PartialEq, Eq, Drop)]
+#[derive(Clone, Debug, PartialEq, Eq, Drop)]
 pub struct Copied {
     pub class: ClassId,
     pub slots: Parts,
@@ -51,9 +57,73 @@ pub struct Copied {
 pub type CopyList = Items<Copied>;
 
 /// What a message holds.
-#[derive(Debug, PartialEq, Eq, Drop)]
+///
+/// The type itself keeps no limit on its lists, and no place in them is checked.
+#[derive(Clone, Debug, PartialEq, Eq, Drop)]
 pub struct Packet {
     pub names: NameList,
     pub copies: CopyList,
     pub values: Parts,
+}
+
+/// An exact copy of a value inside a message. The calls go as deep as its lists nest.
+#[cycle(copy)]
+fn copy_part(part: &Part) -> Result<Part, AllocError>
+    ensures { IfOk result (λ p. p ≡ part.now) }
+{
+    match part {
+        Part::Nil => Ok(Part::Nil),
+        Part::Num(n) => Ok(Part::Num(*n)),
+        Part::Text(text) => Ok(Part::Text(text.clone()?)),
+        Part::Copy(place) => Ok(Part::Copy(*place)),
+        Part::Named(place) => Ok(Part::Named(*place)),
+        Part::List(parts) => Ok(Part::List(copy_parts(parts)?)),
+    }
+}
+
+#[cycle(copy)]
+fn copy_parts(parts: &Parts) -> Result<Parts, AllocError>
+    ensures { IfOk result (λ ps. ps ≡ parts.now) }
+{
+    let mut copies = Items::new(parts.allocator());
+    for part in parts.as_slice() {
+        copies.push(copy_part(part)?)?;
+    }
+    Ok(copies)
+}
+
+impl Clone for Part {
+    ghost is_clone = { λ x y. y ≡ x };
+
+    fn clone(&self) -> Result<Part, AllocError> {
+        copy_part(self)
+    }
+}
+
+impl ExactClone for Part {
+    ghost exact_clone = { λ x y e. e };
+}
+
+impl ExactClone for Name {
+    ghost use Rattle.std.proofs.Common.{rules};
+
+    ghost exact_clone = { λ x y h. Prim.search rules };
+}
+
+impl ExactEq for Name {
+    ghost use Rattle.std.proofs.Common.{rules};
+
+    ghost exact_eq = { λ x y. Prim.search rules };
+}
+
+impl ExactClone for Copied {
+    ghost use Rattle.std.proofs.Common.{rules};
+
+    ghost exact_clone = { λ x y h. Prim.search rules };
+}
+
+impl ExactClone for Packet {
+    ghost use Rattle.std.proofs.Common.{rules};
+
+    ghost exact_clone = { λ x y h. Prim.search rules };
 }

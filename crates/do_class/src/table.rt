@@ -1,4 +1,5 @@
-ghost use Rattle.std.specs.Prelude.{◌≡◌, ◌<◌, ◌≤◌, ◌↔◌, IsTrue, [], ◌∷◌, ◌++◌, ℕ, length, IfOk, OnOk, OnErr, IsErrOf, IfSome, IsSome, IsNone, Some};
+ghost use Rattle.std.specs.Prelude.{◌≡◌, ◌<◌, ◌≤◌, ◌↔◌, IsTrue, [], ◌∷◌, ◌++◌, ℕ, length, IfOk};
+ghost use Rattle.std.specs.Prelude.{OnOk, OnErr, IsErrOf, IfSome, IsSome, IsNone, Some};
 ghost use Rattle.std.specs.BTreeMap.{Updates, IsUnchanged};
 ghost use Rattle.std.specs.Cmp.Lexicographic.{slice_cmp};
 ghost use Rattle.std.specs.Ordering.{nat_cmp};
@@ -43,8 +44,12 @@ impl Model for ClassTable {
 }
 
 impl ClassTable {
+    ghost use Rattle.std.specs.Option.{option_map};
+    ghost use Rattle.do_grammar.specs.Names.{is_selector, colons};
+    ghost use Rattle.do_sig.specs.Calls.{arg_count};
     ghost use Rattle.do_class.specs.Class.{AreMethods};
-    ghost use Rattle.do_class.specs.Table.{IsTable, name_of, slots_of, method_at, signature_of, selector_of, class_named, find_method};
+    ghost use Rattle.do_class.specs.Table.{IsTable, name_of, slots_of, method_at, signature_of};
+    ghost use Rattle.do_class.specs.Table.{selector_of, class_named, find_method};
 
     /// A table with no class.
     pub fn new(alloc: Global) -> ClassTable
@@ -58,7 +63,8 @@ impl ClassTable {
 
     /// Adds a class behind the others, and tells its id.
     ///
-    /// A name that is in the table is refused, then more than 16 slots. A refusal leaves the table as it was.
+    /// A name that is in the table is refused, then more than 16 slots. A refusal leaves the table
+    /// as it was.
     pub fn add_class(
         &mut self,
         name: Text,
@@ -68,7 +74,8 @@ impl ClassTable {
         requires room { length self.old < 256 }
         requires methods { AreMethods methods }
         ensures id { IfOk result (λ class. class.0 ≡ length self.old) }
-        ensures added { OnOk result (self.new ≡ self.old ++ record { name = name; slots = slots; methods = methods } ∷ []) }
+        ensures added { OnOk result (self.new ≡ self.old
+            ++ record { name = name; slots = slots; methods = methods } ∷ []) }
         ensures taken { IsErrOf result ClassFault.NameTaken ↔ IsSome (class_named self.old name) }
         ensures slots { (n : ℕ) → IsErrOf result (ClassFault.TooManySlots n)
             ↔ (IsNone (class_named self.old name) × (n ≡ length slots) × (16 < n)) }
@@ -148,10 +155,13 @@ impl ClassTable {
         self.classes.len() as u32
     }
 
-    /// The selector of a method.
+    /// The selector of a method, which has a colon for each of its arguments.
     pub fn selector(&self, method: MethodId) -> &Text
         requires { IsSome (method_at self.now method) }
-        ensures { selector_of self.now method ≡ Some result.now }
+        ensures value { selector_of self.now method ≡ Some result.now }
+        ensures selects { IsTrue (is_selector result.now) }
+        ensures colons { option_map arg_count (signature_of self.now method)
+            ≡ Some (colons result.now) }
     {
         let class = &self.classes.as_slice()[method.class.0 as usize];
         &class.method(method.index).selector
@@ -167,7 +177,8 @@ fn append(
 ) -> Result<(), AllocError>
     requires { length classes.old < 256 }
     ensures added { OnOk result (classes.new ≡ classes.old ++ added ∷ []) }
-    ensures placed { OnOk result (Updates (slice_cmp nat_cmp) places.old places.new key (Some (length classes.old))) }
+    ensures placed { OnOk result (Updates (slice_cmp nat_cmp) places.old places.new key
+        (Some (length classes.old))) }
     ensures classes_stay { OnErr result (classes.new ≡ classes.old) }
     ensures places_stay { OnErr result (IsUnchanged places.old places.new) }
 {

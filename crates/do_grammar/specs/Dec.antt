@@ -1,11 +1,14 @@
 -- Numbers and signed numbers in decimal digits, with no zero in front.
 use Rattle.std.specs.Option.{option_map}
-use Rattle.std.specs.Prelude.{ℤ, pos, negsuc, ℕ, ◌+◌, ◌-◌, ◌*◌, ◌≤◌, ◌==◌, ◌&&◌, nat_le, List, [], ◌∷◌, Option, Some, None, if◌then◌else◌}
+use Rattle.std.specs.Prelude.{ℤ, pos, negsuc, ℕ, ◌+◌, ◌-◌, ◌*◌, ◌≤◌, ◌==◌, ◌&&◌, nat_le, List, []}
+use Rattle.std.specs.Prelude.{◌∷◌, Option, Some, None, if◌then◌else◌}
 
 -- the number that goes on with these digits, up to a bound
 abbrev pub dec_from : ℕ → ℕ → List ℕ → Option ℕ
 dec_from high n [] = Some n
-dec_from high n (b ∷ bytes) = if (nat_le 48 b && nat_le b 57) && nat_le (n * 10 + (b - 48)) high then dec_from high (n * 10 + (b - 48)) bytes else None
+dec_from high n (b ∷ bytes) =
+    if (nat_le 48 b && nat_le b 57) && nat_le (n * 10 + (b - 48)) high then dec_from high
+    (n * 10 + (b - 48)) bytes else None
 
 -- the number, if it is at least so great
 abbrev pub at_least : ℕ → Option ℕ → Option ℕ
@@ -20,7 +23,8 @@ only_zero low (b ∷ bytes) = None
 -- the number between two bounds that all the bytes spell
 unfoldable pub dec_in : ℕ → ℕ → List ℕ → Option ℕ
 dec_in low high [] = None
-dec_in low high (b ∷ bytes) = if b == 48 then only_zero low bytes else at_least low (dec_from high 0 (b ∷ bytes))
+dec_in low high (b ∷ bytes) =
+    if b == 48 then only_zero low bytes else at_least low (dec_from high 0 (b ∷ bytes))
 
 -- each byte is a digit
 abbrev pub AllDecimal : List ℕ → Type 0
@@ -34,4 +38,6 @@ minus n = if n == 0 then pos 0 else negsuc (n - 1)
 -- the signed number of 64 bits that all the bytes spell
 unfoldable pub int_in : List ℕ → Option ℤ
 int_in [] = None
-int_in (b ∷ bytes) = if b == 45 then option_map minus (dec_in 1 9223372036854775808 bytes) else option_map (λ n. pos n) (dec_in 0 9223372036854775807 (b ∷ bytes))
+int_in (b ∷ bytes) =
+    if b == 45 then option_map minus (dec_in 1 9223372036854775808 bytes) else option_map (λ n.
+    pos n) (dec_in 0 9223372036854775807 (b ∷ bytes))

@@ -1,5 +1,7 @@
--- The forms of which grammars are made. Each has a reader in Reader, and a lemma `Reads-..` in proofs/ that this reader reads it exactly.
-use Rattle.std.specs.Prelude.{◌≡◌, ◌≢◌, ℕ, zero, suc, ◌<◌, Bool, true, false, List, [], ◌∷◌, ◌++◌, length, Option, Some, Result, Ok, Err}
+-- The forms of which grammars are made. Each has a reader in Reader, and a lemma `Reads-..` in
+-- proofs/ that this reader reads it exactly.
+use Rattle.std.specs.Prelude.{◌≡◌, ◌≢◌, ℕ, zero, suc, ◌<◌, Bool, true, false, List, [], ◌∷◌, ◌++◌}
+use Rattle.std.specs.Prelude.{length, Option, Some, Result, Ok, Err}
 use Rattle.do_grammar.specs.Reader.{Step, goes, leaves, fails}
 use Rattle.do_grammar.specs.Grammar.{IsBytes}
 
@@ -8,8 +10,10 @@ pub record Done {A : Type 0} (x : A) (text : List ℕ) (y : A) : Type 0 where
   pub nothing : text ≡ []
   pub same : x ≡ y
 
--- a spelling of a value of the first grammar, and behind it one of the grammar that this value chooses
-pub record Then {A B : Type 0} (G : List ℕ → A → Type 0) (H : A → List ℕ → B → Type 0) (text : List ℕ) (y : B) : Type 0 where
+-- a spelling of a value of the first grammar, and behind it one of the grammar that this value
+-- chooses
+pub record Then {A B : Type 0} (G : List ℕ → A → Type 0) (H : A → List ℕ → B
+    → Type 0) (text : List ℕ) (y : B) : Type 0 where
   pub value : A
   pub front : List ℕ
   pub back : List ℕ
@@ -30,7 +34,8 @@ pub record Passes (ok : ℕ → Bool) : Type 0 where
   pub passes : ok byte ≡ true
 
 -- the grammar that a test chooses
-abbrev pub Either : {A : Type 0} → Bool → (List ℕ → A → Type 0) → (List ℕ → A → Type 0) → List ℕ → A → Type 0
+abbrev pub Either : {A : Type 0} → Bool → (List ℕ → A → Type 0) → (List ℕ → A → Type 0) → List ℕ → A
+    → Type 0
 Either true G H text x = G text x
 Either false G H text x = H text x
 
@@ -40,7 +45,8 @@ Times G zero text xs = Done [] text xs
 Times G (suc n) text xs = Then G (λ x. Then (Times G n) (λ ys. Done (x ∷ ys))) text xs
 
 -- a spelling of the value that this one is made from
-pub record Mapped {A B : Type 0} (to : A → B) (G : List ℕ → A → Type 0) (text : List ℕ) (y : B) : Type 0 where
+pub record Mapped {A B : Type 0} (to : A → B) (G : List ℕ → A
+    → Type 0) (text : List ℕ) (y : B) : Type 0 where
   pub value : A
   pub spelled : G text value
   pub same : to value ≡ y
@@ -75,7 +81,8 @@ OnStep (goes s) P Q = P s
 OnStep leaves P Q = Q
 OnStep (fails k) P Q = ⊥
 
--- bytes that lead from state to state, and behind them a spelling of the grammar that the last state chooses
+-- bytes that lead from state to state, and behind them a spelling of the grammar that the last
+-- state chooses
 module _ {S K A : Type 0} (step : S → ℕ → Step S K) (H : S → List ℕ → A → Type 0) where
   abbrev pub Scans : S → List ℕ → A → Type 0
   Scans s [] x = ⊥
@@ -88,6 +95,6 @@ OnGo (Err k) P = ⊥
 
 -- bytes that lead from a state to one that is accepted
 module _ {S K A : Type 0} (step : S → ℕ → Result S K) (accept : S → Option A) where
-  abbrev pub Runs : S → List ℕ → A → Type 0
-  Runs s [] x = accept s ≡ Some x
-  Runs s (b ∷ text) x = (b < 256) × OnGo (step s b) (λ t. Runs t text x)
+  abbrev pub Accepts : S → List ℕ → A → Type 0
+  Accepts s [] x = accept s ≡ Some x
+  Accepts s (b ∷ text) x = (b < 256) × OnGo (step s b) (λ t. Accepts t text x)

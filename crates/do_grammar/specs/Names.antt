@@ -27,4 +27,6 @@ is_name bytes = begins_name bytes && list_all goes_in_name bytes && nat_le (leng
 
 -- a selector, of at most 255 bytes and 8 colons, the last of which ends it
 unfoldable pub is_selector : List ℕ → Bool
-is_selector bytes = begins_name bytes && list_all goes_in_selector bytes && nat_le (length bytes) 255 && nat_le (colons bytes) 8 && (colons bytes == 0 || ends_with_byte 58 bytes)
+is_selector bytes =
+    begins_name bytes && list_all goes_in_selector bytes && nat_le (length bytes) 255 && nat_le
+    (colons bytes) 8 && (colons bytes == 0 || ends_with_byte 58 bytes)

@@ -1,5 +1,7 @@
 -- Numbers and texts as bytes.
-use Rattle.std.specs.Prelude.{ℤ, pos, negsuc, ◌==◌, ◌≡◌, ℕ, zero, suc, ◌+◌, ◌*◌, ◌/◌, ◌%◌, ◌<◌, ◌≤◌, ◌^◌, Bool, List, [], ◌∷◌, ◌++◌, length, nat_lt, nat_le, max, ◌&&◌, if◌then◌else◌}
+use Rattle.std.specs.Prelude.{ℤ, pos, negsuc, ◌==◌, ◌≡◌, ℕ, zero, suc, ◌+◌, ◌*◌, ◌/◌, ◌%◌, ◌<◌, ◌≤◌}
+use Rattle.std.specs.Prelude.{◌^◌, Bool, List, [], ◌∷◌, ◌++◌, length, nat_lt, nat_le, max, ◌&&◌}
+use Rattle.std.specs.Prelude.{if◌then◌else◌}
 use Rattle.do_grammar.specs.Reader.{Reader, done, and_then, mapped, byte_of, bytes_of}
 use Rattle.do_grammar.specs.Grammar.{IsBytes}
 
@@ -31,14 +33,17 @@ least_of (suc k) = span k
 unfoldable pub num : ℕ → List ℕ
 num x = size x ∷ digits (size x) x
 
--- The bytes so far begin the numbers from least on, below span k more. Some of them lies between the bounds.
+-- The bytes so far begin the numbers from least on, below span k more. Some of them lies between
+-- the bounds.
 abbrev pub reaches : ℕ → ℕ → ℕ → ℕ → Bool
 reaches low high k least = nat_le least high && nat_lt low (least + span k)
 
 -- the next k bytes of a number between the bounds
 abbrev pub digits_at : {K : Type 0} → K → ℕ → ℕ → ℕ → ℕ → Reader K ℕ
 digits_at why low high zero least = done least
-digits_at why low high (suc k) least = and_then (byte_of (λ b. reaches low high k (least + b * span k)) (λ b. why)) (λ b. digits_at why low high k (least + b * span k))
+digits_at why low high (suc k) least =
+    and_then (byte_of (λ b. reaches low high k (least + b * span k)) (λ b. why)) (λ b.
+    digits_at why low high k (least + b * span k))
 
 -- some number of n bytes lies between the bounds
 abbrev pub sized : ℕ → ℕ → ℕ → Bool
@@ -46,7 +51,9 @@ sized low high n = nat_le n 8 && (nat_le (least_of n) high && nat_lt low (span n
 
 -- a number between two bounds
 unfoldable pub num_at : {K : Type 0} → K → ℕ → ℕ → Reader K ℕ
-num_at why low high = and_then (byte_of (sized low high) (λ b. why)) (λ n. digits_at why (max low (least_of n)) high n 0)
+num_at why low high =
+    and_then (byte_of (sized low high) (λ b. why)) (λ n.
+    digits_at why (max low (least_of n)) high n 0)
 
 -- a length within a limit, and the bytes
 abbrev pub counted : List ℕ → List ℕ
@@ -61,7 +68,8 @@ abbrev pub zigzag : ℤ → ℕ
 zigzag (pos n) = 2 * n
 zigzag (negsuc n) = 2 * n + 1
 
--- the signed number that an unsigned one stands for: its half, from 0 on where it is even, else below 0
+-- the signed number that an unsigned one stands for: its half, from 0 on where it is even, else
+-- below 0
 abbrev pub unzigzag : ℕ → ℤ
 unzigzag n = if n % 2 == 0 then pos (n / 2) else negsuc (n / 2)
 

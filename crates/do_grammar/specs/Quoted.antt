@@ -1,5 +1,7 @@
 -- Texts in quotes, in which each byte stands for itself or as `\` and two hexadecimal digits.
-use Rattle.std.specs.Prelude.{◌≡◌, ℕ, zero, suc, ◌+◌, ◌-◌, ◌*◌, ◌/◌, ◌%◌, ◌≤◌, ◌==◌, ◌&&◌, Bool, not, nat_le, nat_lt, List, [], ◌∷◌, ◌++◌, length, Option, Some, None, if◌then◌else◌}
+use Rattle.std.specs.Prelude.{◌≡◌, ℕ, zero, suc, ◌+◌, ◌-◌, ◌*◌, ◌/◌, ◌%◌, ◌≤◌, ◌==◌, ◌&&◌, Bool}
+use Rattle.std.specs.Prelude.{not, nat_le, nat_lt, List, [], ◌∷◌, ◌++◌, length, Option, Some, None}
+use Rattle.std.specs.Prelude.{if◌then◌else◌}
 use Rattle.std.specs.List.{flat_map}
 use Rattle.std.specs.Borrow.{Bor}
 use Rattle.do_grammar.specs.Words.{◌>>?◌}
@@ -29,7 +31,9 @@ pub record Quoted (limit : ℕ) (text bytes : List ℕ) : Type 0 where
 
 -- the number that a hexadecimal digit is worth
 abbrev pub hex_value : ℕ → Option ℕ
-hex_value b = if nat_le 48 b && nat_le b 57 then Some (b - 48) else (if nat_le 97 b && nat_le b 102 then Some (b - 87) else None)
+hex_value b =
+    if nat_le 48 b && nat_le b 57 then Some
+    (b - 48) else (if nat_le 97 b && nat_le b 102 then Some (b - 87) else None)
 
 -- a byte that two digits stand for, which is none that stands for itself
 abbrev pub escaped : ℕ → List ℕ → Option (ℕ × List ℕ)
@@ -39,12 +43,14 @@ escaped b rest = if is_plain b then None else Some (b, rest)
 abbrev pub escape_at : List ℕ → Option (ℕ × List ℕ)
 escape_at [] = None
 escape_at (high ∷ []) = None
-escape_at (high ∷ low ∷ rest) = hex_value high >>? λ h. hex_value low >>? λ l. escaped (h * 16 + l) rest
+escape_at (high ∷ low ∷ rest) =
+    hex_value high >>? λ h. hex_value low >>? λ l. escaped (h * 16 + l) rest
 
 -- the first byte that is denoted, and the bytes behind it
 abbrev pub piece_at : List ℕ → Option (ℕ × List ℕ)
 piece_at [] = None
-piece_at (b ∷ rest) = if is_plain b then Some (b, rest) else (if b == 92 then escape_at rest else None)
+piece_at (b ∷ rest) =
+    if is_plain b then Some (b, rest) else (if b == 92 then escape_at rest else None)
 
 -- the bytes behind the quote that ends a text
 abbrev pub closing : List ℕ → Option (List ℕ)
@@ -59,7 +65,8 @@ closed_or (Some rest) other = Some ([], rest)
 -- at most so many more bytes that are denoted, up to the quote, and the bytes behind it
 abbrev pub denoted : ℕ → List ℕ → Option (List ℕ × List ℕ)
 denoted zero bytes = closed_or (closing bytes) None
-denoted (suc n) bytes = closed_or (closing bytes) (piece_at bytes >>? λ p. denoted n p.1 >>? λ x. Some (p.0 ∷ x.0, x.1))
+denoted (suc n) bytes =
+    closed_or (closing bytes) (piece_at bytes >>? λ p. denoted n p.1 >>? λ x. Some (p.0 ∷ x.0, x.1))
 
 -- the text of at most so many bytes that stands in quotes at the front, and the bytes behind it
 unfoldable pub quoted_at : ℕ → List ℕ → Option (List ℕ × List ℕ)

@@ -1,7 +1,9 @@
 -- Readers of bytes: functions from bytes to a value and the bytes behind it.
-use Rattle.std.specs.Prelude.{ℕ, zero, suc, Bool, List, [], ◌∷◌, length, take, drop, Result, Ok, Err, nat_lt, Option, Some, None, ◌==◌, if◌then◌else◌}
+use Rattle.std.specs.Prelude.{ℕ, zero, suc, Bool, List, [], ◌∷◌, length, take, drop, Result, Ok}
+use Rattle.std.specs.Prelude.{Err, nat_lt, Option, Some, None, ◌==◌, if◌then◌else◌}
 
--- why reading stopped: the bytes end too early, or none goes on with the byte that has this many bytes from it to the end
+-- why reading stopped: the bytes end too early, or none goes on with the byte that has this many
+-- bytes from it to the end
 pub data Stop (K : Type 0) : Type 0 where
   short : Stop K
   bad : K → ℕ → Stop K
@@ -16,7 +18,8 @@ Reader K A = List ℕ → Result (A × List ℕ) (Stop K)
 
 infixl 10 ◌>>=◌
 -- what a value leads to, unless reading stopped
-abbrev pub ◌>>=◌ : {K A B : Type 0} → Result A (Stop K) → (A → Result B (Stop K)) → Result B (Stop K)
+abbrev pub ◌>>=◌ : {K A B : Type 0} → Result A (Stop K) → (A → Result B (Stop K))
+    → Result B (Stop K)
 (Ok x) >>= f = f x
 (Err e) >>= f = Err e
 
@@ -63,7 +66,8 @@ whole_of why r bytes = r bytes >>= ended why
 abbrev pub then_whole : {K A B : Type 0} → Reader K A → (A → Whole K B) → Whole K B
 then_whole r f bytes = r bytes >>= λ x. f x.0 x.1
 
--- what a byte does where a state is read on: it leads to a state, or it belongs to what comes behind, or nothing goes on with it
+-- what a byte does where a state is read on: it leads to a state, or it belongs to what comes
+-- behind, or nothing goes on with it
 pub data Step (S K : Type 0) : Type 0 where
   goes : S → Step S K
   leaves : Step S K
@@ -78,12 +82,16 @@ by_step (fails k) f x g = g k
 -- bytes that lead from state to state, and a reader behind them that the last state chooses
 abbrev pub scan : {S K A : Type 0} → (S → ℕ → Step S K) → (S → Reader K A) → S → Reader K A
 scan step f s [] = Err short
-scan step f s (b ∷ bytes) = by_step (step s b) (λ t. scan step f t bytes) (f s (b ∷ bytes)) (λ k. Err (bad k (suc (length bytes))))
+scan step f s (b ∷ bytes) =
+    by_step (step s b) (λ t. scan step f t bytes) (f s (b ∷ bytes)) (λ k.
+    Err (bad k (suc (length bytes))))
 
 -- the state that such bytes lead to, and what comes behind
 abbrev pub scan_to : {S K : Type 0} → (S → ℕ → Step S K) → S → Reader K S
 scan_to step s [] = Err short
-scan_to step s (b ∷ bytes) = by_step (step s b) (λ t. scan_to step t bytes) (Ok (s, b ∷ bytes)) (λ k. Err (bad k (suc (length bytes))))
+scan_to step s (b ∷ bytes) =
+    by_step (step s b) (λ t. scan_to step t bytes) (Ok (s, b ∷ bytes)) (λ k.
+    Err (bad k (suc (length bytes))))
 
 -- the value of the last state, if it has one
 abbrev pub accepted : {K A : Type 0} → Option A → Result A (Stop K)
@@ -96,15 +104,19 @@ by_result (Ok s) f g = f s
 by_result (Err k) f g = g k
 
 -- bytes that lead from state to state up to their end
-abbrev pub run : {S K A : Type 0} → (S → ℕ → Result S K) → (S → Option A) → S → Whole K A
-run step accept s [] = accepted (accept s)
-run step accept s (b ∷ bytes) = by_result (step s b) (λ t. run step accept t bytes) (λ k. Err (bad k (suc (length bytes))))
+abbrev pub automaton : {S K A : Type 0} → (S → ℕ → Result S K) → (S → Option A) → S → Whole K A
+automaton step accept s [] = accepted (accept s)
+automaton step accept s (b ∷ bytes) =
+    by_result (step s b) (λ t. automaton step accept t bytes) (λ k.
+    Err (bad k (suc (length bytes))))
 
 -- values up to a byte that ends them
 abbrev pub until_within : {K A : Type 0} → ℕ → Reader K A → ℕ → Reader K (List A)
 until_within end r zero bytes = Err short
 until_within end r (suc n) [] = Err short
-until_within end r (suc n) (b ∷ bytes) = if b == end then Ok ([], bytes) else (r (b ∷ bytes) >>= λ x. until_within end r n x.1 >>= λ xs. Ok (x.0 ∷ xs.0, xs.1))
+until_within end r (suc n) (b ∷ bytes) =
+    if b == end then Ok ([], bytes) else (r (b ∷ bytes) >>= λ x. until_within end r n x.1 >>= λ xs.
+    Ok (x.0 ∷ xs.0, xs.1))
 
 -- the same, with a bound that is never reached
 unfoldable pub until : {K A : Type 0} → ℕ → Reader K A → Reader K (List A)

@@ -1,12 +1,11 @@
 ghost use Rattle.std.specs.Prelude.{◌≡◌, ◌++◌, List, ℕ, OnOk, OnErr};
 ghost use Rattle.do_grammar.specs.Num.{counted, counted_at, CountedText};
 ghost use Rattle.do_grammar.specs.Reader.{no_kind};
-ghost use Rattle.do_grammar.specs.Gives.{Gives};
+ghost use Rattle.do_grammar.specs.RestAnswers.{Gives, TellsRest, FindsRest};
 ghost use Rattle.do_grammar.specs.Grammar.{Takes};
-ghost use Rattle.do_grammar.specs.TellsRest.{TellsRest, FindsRest};
-ghost use Rattle.do_grammar.specs.Partly.{AddedPartly};
+ghost use Rattle.do_grammar.specs.PartlyAdded.{AddedPartly};
 
-use crate::fault::ReadError;
+use crate::fault::ReadFault;
 use crate::number::{num_of, push_num};
 use do_base::Text;
 use std::alloc::{AllocError, Global};
@@ -17,7 +16,7 @@ use std::alloc::{AllocError, Global};
 ///
 /// `Bad` is at the first byte of that number with which none up to the limit goes on, `Short`
 /// where the bytes end before the text does, and `Memory` where none is left for the text.
-pub fn text_of(alloc: Global, bytes: &[u8], limit: u64) -> Result<(Text, &[u8]), ReadError>
+pub fn text_of(alloc: Global, bytes: &[u8], limit: u64) -> Result<(Text, &[u8]), ReadFault>
     ensures gives { Gives (λ x. (x.0, x.1.now)) result (counted_at no_kind limit bytes.now) }
     ensures exact { TellsRest (CountedText limit) (λ t. t) bytes.now result }
     ensures only { (t rest : List ℕ) → Takes (CountedText limit) bytes.now t rest
@@ -28,13 +27,13 @@ pub fn text_of(alloc: Global, bytes: &[u8], limit: u64) -> Result<(Text, &[u8]),
 
 /// What the reader of specs/ gives.
 #[tactic(auto, unfolding(crate::specs::Num::counted_at))]
-fn front_text(alloc: Global, bytes: &[u8], limit: u64) -> Result<(Text, &[u8]), ReadError>
+fn front_text(alloc: Global, bytes: &[u8], limit: u64) -> Result<(Text, &[u8]), ReadFault>
     ensures { Gives (λ x. (x.0, x.1.now)) result (counted_at no_kind limit bytes.now) }
 {
     let (n, rest) = num_of(bytes, 0, limit)?;
     let n = n as usize;
     if rest.len() < n {
-        return Err(ReadError::Short);
+        return Err(ReadFault::Short);
     }
     let (text, rest) = rest.split_at(n);
     Ok((Text::from_slice(alloc, text)?, rest))

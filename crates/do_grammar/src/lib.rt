@@ -1,7 +1,9 @@
-//! What exact readers of bytes share: what it is to read a grammar exactly (specs/ and proofs/), and
+//! What exact readers of bytes share: what it is to read a grammar exactly (specs/ and proofs/),
+//! and
 //! numbers, texts, names and lines, read with the first byte at which reading has to stop.
 #![tactic(auto)]
 
+mod beside;
 mod byte;
 mod counted;
 mod decimal;
@@ -13,16 +15,14 @@ mod quoted;
 mod signed;
 mod skipped;
 
+pub use beside::num_beside_of;
 pub use byte::split_byte;
 pub use counted::{push_text, text_of};
 pub use decimal::{dec_of, int_of, push_dec, push_int};
-pub use fault::{CodeFault, ReadError};
+pub use fault::{CodeFault, ReadFault};
 pub use line::{is_text, line_of, part_of, word_of};
 pub use name::{colons_in, is_name, is_selector};
-pub use number::{num_of, push_num};
+pub use number::{digits_of, num_of, push_num};
 pub use quoted::{push_quoted, quoted_of};
 pub use signed::{push_signed, signed_of};
 pub use skipped::skip_quoted;
-
-#[cfg(test)]
-mod tests;

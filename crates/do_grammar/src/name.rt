@@ -1,7 +1,8 @@
 ghost use Rattle.std.specs.Prelude.{◌≡◌};
 ghost use Rattle.std.specs.List.{list_all};
 ghost use Rattle.std.specs.Io.BufRead.{ends_with_byte};
-ghost use Rattle.do_grammar.specs.Names.{begins_name, goes_in_name, goes_in_selector, colons, is_name, is_selector};
+ghost use Rattle.do_grammar.specs.Names.{begins_name, goes_in_name, goes_in_selector, colons};
+ghost use Rattle.do_grammar.specs.Names.{is_name, is_selector};
 
 /// Whether the bytes are a name: a letter or `_`, then letters, digits and `_`, at most 64 bytes.
 ///

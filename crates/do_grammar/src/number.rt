@@ -1,17 +1,17 @@
-ghost use Rattle.std.specs.Prelude.{◌≡◌, ◌+◌, ◌<◌, ◌≤◌, ◌^◌, ◌++◌, [], ◌∷◌, length, ℕ, List, OnOk, OnErr};
+ghost use Rattle.std.specs.Prelude.{◌≡◌, ◌+◌, ◌<◌, ◌≤◌, ◌^◌, ◌++◌, [], ◌∷◌, length, ℕ, List, OnOk};
+ghost use Rattle.std.specs.Prelude.{OnErr};
 ghost use Rattle.do_grammar.specs.Num.{span, least_of, digits, digits_at, num, num_at, size, Num};
 ghost use Rattle.do_grammar.specs.Reader.{no_kind};
-ghost use Rattle.do_grammar.specs.Gives.{Gives};
+ghost use Rattle.do_grammar.specs.RestAnswers.{Gives, TellsRest, FindsRest};
 ghost use Rattle.do_grammar.specs.Grammar.{Takes};
-ghost use Rattle.do_grammar.specs.TellsRest.{TellsRest, FindsRest};
-ghost use Rattle.do_grammar.specs.Partly.{AddedPartly};
+ghost use Rattle.do_grammar.specs.PartlyAdded.{AddedPartly};
 
-use crate::fault::ReadError;
+use crate::fault::ReadFault;
 use do_base::Text;
 use std::alloc::AllocError;
 
 /// How many numbers k bytes have.
-fn span_of(k: u8) -> u128
+pub(crate) fn span_of(k: u8) -> u128
     requires { k ≤ 8 }
     ensures value { result ≡ span k }
     ensures small { k < 8 → result ≤ 2 ^ 56 }
@@ -32,7 +32,7 @@ fn span_of(k: u8) -> u128
 }
 
 /// The least number that needs n bytes.
-fn least_number(n: u8) -> u128
+pub(crate) fn least_number(n: u8) -> u128
     requires { n ≤ 8 }
     ensures value { result ≡ least_of n }
     ensures small { result ≤ 2 ^ 56 }
@@ -40,15 +40,21 @@ fn least_number(n: u8) -> u128
     if n == 0 { 0 } else { span_of(n - 1) }
 }
 
-/// The next k bytes of a number, of which the bytes before begin the numbers from least on.
-#[tactic(auto, using(crate::proofs::NumSteps::steps))]
-fn digits_of(
+/// The next k bytes of a number between two bounds, and the bytes behind them.
+///
+/// The bytes before them begin the numbers from `least` on, below 256^k more. There are at most 8.
+/// The form is that of `num_of`, this project's own.
+///
+/// `Bad` is at the first byte with which no number between the bounds goes on, and `Short` where
+/// the bytes end before such a number does. No memory is taken.
+#[tactic(auto, using(crate::proofs::loops::DigitsLoop::digits_facts))]
+pub fn digits_of(
     bytes: &[u8],
     low: u64,
     high: u64,
     least: u64,
     k: u8,
-) -> Result<(u64, &[u8]), ReadError>
+) -> Result<(u64, &[u8]), ReadFault>
     requires { k ≤ 8 }
     ensures { Gives (λ x. (x.0, x.1.now)) result (digits_at no_kind low high k least bytes.now) }
 {
@@ -56,15 +62,15 @@ fn digits_of(
         return Ok((least, bytes));
     }
     let [b, after @ ..] = bytes else {
-        return Err(ReadError::Short);
+        return Err(ReadFault::Short);
     };
     let step = span_of(k - 1);
     let next = u128::from(least) + u128::from(*b) * step;
     if next > u128::from(high) {
-        return Err(ReadError::Bad(bytes.len()));
+        return Err(ReadFault::Bad(bytes.len()));
     }
     if next + step <= u128::from(low) {
-        return Err(ReadError::Bad(bytes.len()));
+        return Err(ReadFault::Bad(bytes.len()));
     }
     digits_of(after, low, high, next as u64, k - 1)
 }
@@ -76,7 +82,7 @@ fn digits_of(
 ///
 /// `Bad` is at the first byte with which no number between the bounds goes on, and `Short` where
 /// the bytes end before such a number does. No memory is taken.
-pub fn num_of(bytes: &[u8], low: u64, high: u64) -> Result<(u64, &[u8]), ReadError>
+pub fn num_of(bytes: &[u8], low: u64, high: u64) -> Result<(u64, &[u8]), ReadFault>
     requires { low ≤ high }
     ensures gives { Gives (λ x. (x.0, x.1.now)) result (num_at no_kind low high bytes.now) }
     ensures exact { TellsRest (Num low high) (λ n. n) bytes.now result }
@@ -88,18 +94,18 @@ pub fn num_of(bytes: &[u8], low: u64, high: u64) -> Result<(u64, &[u8]), ReadErr
 
 /// What the reader of specs/ gives.
 #[tactic(auto, unfolding(crate::specs::Num::num_at))]
-fn front_num(bytes: &[u8], low: u64, high: u64) -> Result<(u64, &[u8]), ReadError>
+fn front_num(bytes: &[u8], low: u64, high: u64) -> Result<(u64, &[u8]), ReadFault>
     ensures { Gives (λ x. (x.0, x.1.now)) result (num_at no_kind low high bytes.now) }
 {
     let [n, rest @ ..] = bytes else {
-        return Err(ReadError::Short);
+        return Err(ReadFault::Short);
     };
     let n = *n;
     if n <= 8 && least_number(n) <= u128::from(high) && u128::from(low) < span_of(n) {
         let least = least_number(n) as u64;
         digits_of(rest, low.max(least), high, 0, n)
     } else {
-        Err(ReadError::Bad(bytes.len()))
+        Err(ReadFault::Bad(bytes.len()))
     }
 }
 
@@ -129,7 +135,7 @@ fn bytes_needed(x: u64) -> u8
     }
 }
 
-#[tactic(auto, using(crate::proofs::NumSteps::push_steps))]
+#[tactic(auto, using(crate::proofs::loops::DigitsLoop::push_facts))]
 fn push_digits(out: &mut Text, k: u8, x: u64) -> Result<(), AllocError>
     requires few { k ≤ 8 }
     requires fits { x < span k }

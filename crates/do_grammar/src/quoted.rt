@@ -1,8 +1,11 @@
-ghost use Rattle.std.specs.Prelude.{◌≡◌, ◌<◌, ◌+◌, ◌*◌, ◌++◌, ℕ, List, Some, IfOk, IfSome, OnOk, OnErr};
+ghost use Rattle.std.specs.Prelude.{◌≡◌, ◌<◌, ◌+◌, ◌*◌, ◌++◌, ℕ, List, Some, IfOk, IfSome, OnOk};
+ghost use Rattle.std.specs.Prelude.{OnErr};
 ghost use Rattle.std.specs.List.{flat_map};
-ghost use Rattle.do_grammar.specs.Quoted.{is_plain, hex_digit, hex_value, quoted_byte, quoted, escape_at, piece_at, closing, denoted, quoted_at, front_view, slice_view, Quoted};
+ghost use Rattle.do_grammar.specs.Quoted.{is_plain, hex_digit, hex_value, quoted_byte, quoted};
+ghost use Rattle.do_grammar.specs.Quoted.{escape_at, piece_at, closing, denoted, quoted_at};
+ghost use Rattle.do_grammar.specs.Quoted.{front_view, slice_view, Quoted};
 ghost use Rattle.do_grammar.specs.Grammar.{Takes};
-ghost use Rattle.do_grammar.specs.Partly.{AddedPartly};
+ghost use Rattle.do_grammar.specs.PartlyAdded.{AddedPartly};
 
 use crate::byte::split_byte;
 use do_base::Text;
@@ -20,7 +23,8 @@ pub fn quoted_of(
     limit: usize,
 ) -> Result<Option<(Text, &[u8])>, AllocError>
     ensures value { IfOk result (λ text. front_view text ≡ quoted_at limit bytes.now) }
-    ensures exact { IfOk result (λ text. IfSome text (λ x. Takes (Quoted limit) bytes.now x.0 x.1.now)) }
+    ensures exact { IfOk result (λ text. IfSome text
+        (λ x. Takes (Quoted limit) bytes.now x.0 x.1.now)) }
     ensures only { (text rest : List ℕ) → Takes (Quoted limit) bytes.now text rest
         → IfOk result (λ found. front_view found ≡ Some (text, rest)) }
 {
@@ -46,7 +50,7 @@ fn front_quoted(
 }
 
 /// At most `limit` bytes that are denoted, up to the quote that ends them.
-#[tactic(auto, using(crate::proofs::QuotedTurns::turns))]
+#[tactic(auto, using(crate::proofs::loops::QuotedLoop::quoted_facts))]
 fn denoted_of(
     alloc: Global,
     bytes: &[u8],

@@ -1,12 +1,11 @@
 ghost use Rattle.std.specs.Prelude.{◌≡◌, ◌++◌, ℤ, List, ℕ, OnOk, OnErr};
 ghost use Rattle.do_grammar.specs.Num.{num, zigzag, signed_at, Signed};
 ghost use Rattle.do_grammar.specs.Reader.{no_kind};
-ghost use Rattle.do_grammar.specs.Gives.{Gives};
+ghost use Rattle.do_grammar.specs.RestAnswers.{Gives, TellsRest, FindsRest};
 ghost use Rattle.do_grammar.specs.Grammar.{Takes};
-ghost use Rattle.do_grammar.specs.TellsRest.{TellsRest, FindsRest};
-ghost use Rattle.do_grammar.specs.Partly.{AddedPartly};
+ghost use Rattle.do_grammar.specs.PartlyAdded.{AddedPartly};
 
-use crate::fault::ReadError;
+use crate::fault::ReadFault;
 use crate::number::{num_of, push_num};
 use do_base::Text;
 use std::alloc::AllocError;
@@ -18,7 +17,7 @@ use std::alloc::AllocError;
 ///
 /// `Bad` is at the first byte with which no such number goes on, and `Short` where the bytes end
 /// before one does. No memory is taken.
-pub fn signed_of(bytes: &[u8]) -> Result<(i64, &[u8]), ReadError>
+pub fn signed_of(bytes: &[u8]) -> Result<(i64, &[u8]), ReadFault>
     ensures gives { Gives (λ x. (x.0, x.1.now)) result (signed_at no_kind bytes.now) }
     ensures exact { TellsRest Signed (λ z. z) bytes.now result }
     ensures only { (z : ℤ) (rest : List ℕ) → Takes Signed bytes.now z rest
@@ -29,7 +28,7 @@ pub fn signed_of(bytes: &[u8]) -> Result<(i64, &[u8]), ReadError>
 
 /// What the reader of specs/ gives.
 #[tactic(auto, unfolding(crate::specs::Num::signed_at))]
-fn front_signed(bytes: &[u8]) -> Result<(i64, &[u8]), ReadError>
+fn front_signed(bytes: &[u8]) -> Result<(i64, &[u8]), ReadFault>
     ensures { Gives (λ x. (x.0, x.1.now)) result (signed_at no_kind bytes.now) }
 {
     let (n, rest) = num_of(bytes, 0, u64::MAX)?;

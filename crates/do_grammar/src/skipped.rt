@@ -13,7 +13,8 @@ use crate::quoted::{closing_of, piece_of};
 /// is taken.
 pub fn skip_quoted(bytes: &[u8], limit: usize) -> Option<&[u8]>
     ensures value { slice_view result ≡ option_map (λ x. x.1) (quoted_at limit bytes.now) }
-    ensures exact { IfSome result (λ rest. (text : List ℕ) × Takes (Quoted limit) bytes.now text rest.now) }
+    ensures exact { IfSome result (λ rest. (text : List ℕ)
+        × Takes (Quoted limit) bytes.now text rest.now) }
     ensures only { (text rest : List ℕ) → Takes (Quoted limit) bytes.now text rest
         → slice_view result ≡ Some rest }
 {
@@ -33,7 +34,7 @@ fn behind_quoted(bytes: &[u8], limit: usize) -> Option<&[u8]>
 }
 
 /// The bytes behind at most `limit` bytes that are denoted and the quote that ends them.
-#[tactic(auto, using(crate::proofs::SkippedTurns::turns))]
+#[tactic(auto, using(crate::proofs::loops::SkippedLoop::skipped_facts))]
 fn skip_denoted(bytes: &[u8], limit: usize) -> Option<&[u8]>
     ensures { slice_view result ≡ option_map (λ x. x.1) (denoted limit bytes.now) }
 {

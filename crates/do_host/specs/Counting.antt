@@ -9,4 +9,5 @@ pub record Counting (W : Type 0) : Type 0 where
 
 -- how it is coded, by both
 abbrev pub counting_code : {W : Type 0} → Coded W → Coded (Counting W)
-counting_code {W} code = code_by (W × ℕ) (coded× code coded_ℕ) (λ c. (c.output, c.faults)) (λ p. record { output = p.0; faults = p.1 }) (λ _. refl)
+counting_code {W} code = code_by (W × ℕ) (coded× code coded_ℕ) (λ c. (c.output, c.faults))
+    (λ p. record { output = p.0; faults = p.1 }) (λ _. refl)

@@ -1,7 +1,7 @@
 -- How reading a file within a limit may end.
 use Rattle.std.specs.Prelude.{◌≡◌, ℕ, ◌+◌, ◌<◌, ◌≤◌, List, length, Result, Ok, Err}
-use Rattle.do_base.specs.declared.shelf.FetchFail.{FetchFail}
-use Rattle.do_base.specs.declared.shelf.FetchFail.TheVariants.{Failed, Long, Memory}
+use Rattle.do_base.specs.declared.outside.shelf.FetchFail.{FetchFail}
+use Rattle.do_base.specs.declared.outside.shelf.FetchFail.TheVariants.{Failed, Long, Memory}
 
 -- a text keeps the limit, and a file that is too long carries it and one more
 abbrev pub KeepsLimit : ℕ → Result (List ℕ) FetchFail → Type 0

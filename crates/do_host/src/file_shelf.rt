@@ -1,8 +1,8 @@
 //! The shelf of real files.
 ghost use Rattle.std.specs.Prelude.{◌≡◌, ◌+◌, ◌^◌, ◌<◌, ◌≤◌, ◌⊎◌, ◌↔◌, None, IfSome, IsErrOf};
 ghost use Rattle.std.specs.IoError.{error_kind};
-ghost use Rattle.do_base.specs.Causes.{next_count};
-ghost use Rattle.do_base.specs.Files.{FetchCause};
+ghost use Rattle.do_base.specs.outside.Causes.{next_count};
+ghost use Rattle.do_base.specs.outside.Files.{FetchCause};
 ghost use Rattle.do_host.specs.Reading.{KeepsLimit, TellsOf};
 
 use do_base::{FetchFail, Shelf, Text, Word};
@@ -67,13 +67,12 @@ fn fail_of(e: &Error) -> FetchFail
     }
 }
 
-// The bytes that a file has left, where they are at most `limit`. No more than one byte past them is read.
-#[tactic(auto, using(crate::proofs::Known::within_is_all))]
-pub(crate) fn read_within<F: Read + Drop>(
-    file: F,
-    alloc: Global,
-    limit: u64,
-) -> Result<Text, FetchFail>
+/// The bytes that a file or another input has left, if they are at most `limit`.
+///
+/// `Long` is for more; one byte past the limit is read, and no further one. `Failed` and `Memory`
+/// are for what the input answers. A read that a signal interrupts begins again.
+#[tactic(auto, using(crate::proofs::KnownBytes::within_is_all))]
+pub fn read_within<F: Read + Drop>(file: F, alloc: Global, limit: u64) -> Result<Text, FetchFail>
     requires { limit < 2 ^ 63 }
     ensures cause { KeepsLimit limit result }
     ensures bytes { IfSome (F.remaining file) (λ known. TellsOf limit known result) }
@@ -81,7 +80,7 @@ pub(crate) fn read_within<F: Read + Drop>(
     let mut bytes = Vec::new(alloc);
     match file.take(limit + 1).read_to_end(&mut bytes) {
         Ok(count) if count as u64 > limit => Err(too_long(limit)),
-        Ok(_) => Ok(Text::from_vec(bytes)),
+        Ok(_) => Text::from_vec(alloc, bytes).map_err(|_| FetchFail::Memory),
         Err(e) => Err(fail_of(&e)),
     }
 }
@@ -107,8 +106,8 @@ impl<R: Files> Shelf for FileShelf<R> {
     /// Reads the file at a path.
     ///
     /// `Failed` is for a file that is missing or is a folder, for a name that is not UTF-8, and for
-    /// what the system refuses. `Memory` is for want of memory, the system's own too. A read that a
-    /// signal interrupts begins again. At most one byte past the limit is read.
+    /// what the system refuses. `Memory` is for memory that ran out, the system's own too. A read
+    /// that a signal interrupts begins again. At most one byte past the limit is read.
     fn fetch(&mut self, name: &Word, limit: u64) -> Result<Text, FetchFail>
         requires { limit < 2 ^ 63 }
         ensures cause { FetchCause None self.old self.new name.now limit result }

@@ -1,8 +1,9 @@
 //! The sink over an output of the system.
-ghost use Rattle.std.specs.Prelude.{◌≡◌, ◌<◌, ◌≤◌, length, take, None, Err, IfOk, IfSome, MatchOption, IsErrOf, OnOk, OnErr};
+ghost use Rattle.std.specs.Prelude.{◌≡◌, ◌<◌, ◌≤◌, length, take, None, Err, IfOk, IfSome};
+ghost use Rattle.std.specs.Prelude.{MatchOption, IsErrOf, OnOk, OnErr};
 ghost use Rattle.std.specs.Io.KnownBytes.{Keeps, Appends, WriteAppends};
-ghost use Rattle.do_base.specs.Bytes.{with_more};
-ghost use Rattle.do_base.specs.Causes.{next_count, Rose};
+ghost use Rattle.do_base.specs.outside.Bytes.{with_more};
+ghost use Rattle.do_base.specs.outside.Causes.{next_count, Rose};
 
 use do_base::{PutFail, Sink};
 use std::io::{ErrorKind, Write};
@@ -10,8 +11,8 @@ use std::marker::Model;
 
 /// An output of the system, as standard output, with no buffer between.
 ///
-/// Contracts see it as the output and a count of faults: puts that answered `Failed`. What an
-/// output of the system holds is told to no contract; one in memory may tell. The form is this
+/// Contracts see it as the output and a count of faults: puts that answered `Failed`. No contract
+/// can see what an output of the system holds; one in memory may tell. The form is this
 /// project's own.
 #[derive(Drop)]
 pub struct StdSink<W: Write> {
@@ -41,8 +42,8 @@ impl<W: Write> StdSink<W> {
 // How often a put that a signal interrupted begins again.
 const TRIES: u32 = 1_000;
 
-// Writes some of a piece from its front, and tells how many bytes, one at least; none after an error.
-#[tactic(auto, using(crate::proofs::Known::keeps_refl, crate::proofs::Known::keeps_then, crate::proofs::Known::appends_after, crate::proofs::Known::appends_none))]
+// Writes some of a piece from its front. Gives how many bytes, at least one; none after an error.
+#[tactic(auto, using(crate::proofs::KnownBytes::known_facts))]
 fn write_some<W: Write>(out: &mut W, piece: &[u8]) -> Option<usize>
     ensures count { IfSome result (λ n. (0 < n) × (n ≤ length piece.now)) }
     ensures bytes { MatchOption result (Keeps (W.contents out.old) (W.contents out.new))
@@ -75,10 +76,12 @@ impl<W: Write> Sink for StdSink<W> {
         ensures failed { IsErrOf result PutFail.Failed → Rose self.old.faults self.new.faults }
 
         // The bytes that are counted were written from the piece's front, and no others.
-        ensures bytes { WriteAppends (W.contents self.old.output) (W.contents self.new.output) result piece.now }
+        ensures bytes { WriteAppends (W.contents self.old.output)
+            (W.contents self.new.output) result piece.now }
 
         // The count of faults rises exactly where the answer is `Failed`, the only error.
-        ensures fault { OnErr result ((result ≡ Err PutFail.Failed) × (self.new.faults ≡ next_count self.old.faults)) }
+        ensures fault { OnErr result
+            ((result ≡ Err PutFail.Failed) × (self.new.faults ≡ next_count self.old.faults)) }
         ensures no_fault { OnOk result (self.new.faults ≡ self.old.faults) }
     {
         match write_some(&mut self.out, piece) {

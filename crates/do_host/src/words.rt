@@ -14,7 +14,7 @@ const LONGEST: usize = 131_072;
 /// A word need not be UTF-8. Of a word over 131,072 bytes the first 131,072 are given; Linux gives
 /// none that long. It follows the list of arguments of the C standard, with its limit on Linux.
 ///
-/// No clause says which words these are, since what the system gives is told to no contract.
+/// No clause says which words these are, since no contract can see what the system gives.
 pub fn read_words(alloc: Global, rt: &impl Env) -> Result<Texts, AllocError>
     ensures { IfOk result (λ words. All (λ word. length word ≤ 131072) words) }
 {
@@ -22,7 +22,7 @@ pub fn read_words(alloc: Global, rt: &impl Env) -> Result<Texts, AllocError>
 }
 
 // The words after the program's name, of each no more than its first `longest` bytes.
-#[tactic(auto, using(crate::proofs::Known::short_push))]
+#[tactic(auto, using(crate::proofs::KnownBytes::short_push))]
 fn words_within(alloc: Global, rt: &impl Env, longest: usize) -> Result<Texts, AllocError>
     ensures { IfOk result (λ words. All (λ word. length word ≤ longest) words) }
 {

@@ -1,10 +1,10 @@
 -- How a line of a schedule is written with what it showed.
 use Rattle.std.specs.Prelude.{ℕ, List, [], ◌∷◌, ◌++◌, map, codes, if◌then◌else◌, Option, Some, None}
-use Rattle.do_base.specs.declared.shown.Shown.{Shown}
+use Rattle.do_base.specs.declared.events.shown.Shown.{Shown}
 use Rattle.do_sched.specs.declared.line.Line.{Line}
 use Rattle.do_sched.specs.declared.line.Line.TheVariants.{Start, Run, Take, Check}
 use Rattle.do_sched.specs.Spelling.{line_spelling}
-use Rattle.do_local.specs.declared.outcome.Outcome.{Outcome}
+use Rattle.do_trace.specs.declared.outcome.Outcome.{Outcome}
 use Rattle.do_lines.specs.Shown.{shown_text}
 use Rattle.do_lines.specs.Lines.{joined}
 
@@ -22,7 +22,8 @@ shown_by (Some port) shown = joined (map (shown_text port) shown)
 
 -- what was shown, or `skip` alone where nothing was enabled
 abbrev pub shown_lines : Option ℕ → Outcome → List ℕ
-shown_lines node outcome = if outcome.enabled then shown_by node outcome.shown else joined (codes "skip" ∷ [])
+shown_lines node outcome =
+    if outcome.enabled then shown_by node outcome.shown else joined (codes "skip" ∷ [])
 
 -- an angle bracket, a space and the line
 abbrev pub head_line : Line → List ℕ

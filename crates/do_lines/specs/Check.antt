@@ -1,21 +1,22 @@
 -- How a check is written.
 use Rattle.std.specs.Prelude.{ℕ, List, [], ◌∷◌, ◌++◌, map, Option, Some, None, codes, decimal}
 use Rattle.std.specs.List.{flat_map}
-use Rattle.do_base.specs.Names.{ObjectName}
-use Rattle.do_base.specs.declared.value.Value.{Value}
+use Rattle.do_base.specs.names.Names.{ObjectName}
+use Rattle.do_base.specs.declared.values.value.Value.{Value}
 use Rattle.do_class.specs.Class.{Class}
 use Rattle.do_class.specs.Table.{name_of, slots_of}
 use Rattle.do_class.specs.declared.ids.Slot.{Slot}
-use Rattle.do_local.specs.declared.outcome.ObjLine.{ObjLine}
-use Rattle.do_local.specs.declared.outcome.Entry.{Entry}
-use Rattle.do_local.specs.declared.outcome.NodeLine.{NodeLine}
-use Rattle.do_local.specs.declared.outcome.Snapshot.{Snapshot}
+use Rattle.do_trace.specs.declared.outcome.ObjLine.{ObjLine}
+use Rattle.do_trace.specs.declared.outcome.Entry.{Entry}
+use Rattle.do_trace.specs.declared.outcome.NodeLine.{NodeLine}
+use Rattle.do_trace.specs.declared.outcome.Snapshot.{Snapshot}
 use Rattle.do_lines.specs.Value.{object_name, value_text, spaced}
 use Rattle.do_lines.specs.Lines.{joined}
 
 -- a slot's name, an equals sign and its value, for each slot
 abbrev pub slot_words : List Slot → List Value → List (List ℕ)
-slot_words (slot ∷ slots) (value ∷ values) = (slot.name ++ 61 ∷ value_text value) ∷ slot_words slots values
+slot_words (slot ∷ slots) (value ∷ values) =
+    (slot.name ++ 61 ∷ value_text value) ∷ slot_words slots values
 slot_words slots values = []
 
 -- the name of a class, and its slots; a class that is not of the table has neither
@@ -25,7 +26,8 @@ class_words name slots values = []
 
 -- a stored object: its name, its class and its slots
 abbrev pub object_text : List Class → ObjLine → List ℕ
-object_text table o = codes "object " ++ object_name o.oid ++ class_words (name_of table o.class) (slots_of table o.class) o.slots
+object_text table o = codes "object " ++ object_name o.oid
+    ++ class_words (name_of table o.class) (slots_of table o.class) o.slots
 
 -- a peer towards which the end is closed
 abbrev pub closed_line : ℕ → List ℕ

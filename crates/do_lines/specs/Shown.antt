@@ -1,11 +1,15 @@
 -- How what a step shows is written.
 use Rattle.std.specs.Prelude.{ℕ, List, ◌∷◌, ◌++◌, codes, decimal}
-use Rattle.do_base.specs.declared.shown.Exc.{Exc}
-use Rattle.do_base.specs.declared.shown.Exc.TheVariants.{TypeFault, Range, Deep, NotUnderstood, ConnectionDied, NotVended, TooLarge, User}
-use Rattle.do_base.specs.declared.shown.Took.{Took}
-use Rattle.do_base.specs.declared.shown.Took.TheVariants.{Call, Oneway, Reply, Raised, RootAsk, RootAnswer, Ask, Granted, Gone, Left, Settled, End}
-use Rattle.do_base.specs.declared.shown.Shown.{Shown}
-use Rattle.do_base.specs.declared.shown.Shown.TheVariants as shown
+use Rattle.do_base.specs.declared.events.exception.Exc.{Exc}
+use Rattle.do_base.specs.declared.events.exception.Exc.TheVariants.{TypeFault, Range, Deep, NotUnderstood}
+use Rattle.do_base.specs.declared.events.exception.Exc.TheVariants.{ConnectionDied, NotVended, TooLarge, User}
+use Rattle.do_base.specs.declared.events.exception.Exc.TheVariants.{TimedOut}
+use Rattle.do_base.specs.declared.events.shown.Took.{Took}
+use Rattle.do_base.specs.declared.events.shown.Took.TheVariants.{Call, Oneway, Reply, Raised, RootAsk}
+use Rattle.do_base.specs.declared.events.shown.Took.TheVariants.{RootAnswer, Ask, Granted, Gone, Left}
+use Rattle.do_base.specs.declared.events.shown.Took.TheVariants.{Settled, End}
+use Rattle.do_base.specs.declared.events.shown.Shown.{Shown}
+use Rattle.do_base.specs.declared.events.shown.Shown.TheVariants as shown
 use Rattle.do_grammar.specs.Quoted.{quoted}
 use Rattle.do_lines.specs.Value.{object_name, value_text}
 
@@ -17,6 +21,7 @@ exception_text Deep = codes "Deep"
 exception_text NotUnderstood = codes "NotUnderstood"
 exception_text ConnectionDied = codes "ConnectionDied"
 exception_text NotVended = codes "NotVended"
+exception_text TimedOut = codes "TimedOut"
 exception_text TooLarge = codes "TooLarge"
 exception_text (User text) = codes "User " ++ quoted text
 
@@ -40,5 +45,6 @@ abbrev pub shown_text : ℕ → Shown → List ℕ
 shown_text port (shown.Took took) = codes "took " ++ took_text took
 shown_text port (shown.Say value) = codes "say " ++ decimal port ++ 32 ∷ value_text value
 shown_text port (shown.Return value) = codes "return " ++ decimal port ++ 32 ∷ value_text value
-shown_text port (shown.Raise exception) = codes "raise " ++ decimal port ++ 32 ∷ exception_text exception
+shown_text port (shown.Raise exception) =
+    codes "raise " ++ decimal port ++ 32 ∷ exception_text exception
 shown_text port (shown.Free object) = codes "free " ++ object_name object

@@ -2,8 +2,9 @@
 use Rattle.std.specs.Prelude.{ℕ, List, [], ◌∷◌, ◌++◌, codes, Option, Some, None}
 use Rattle.std.specs.List.{flat_map}
 use Rattle.do_class.specs.Class.{Class}
-use Rattle.do_local.specs.declared.outcome.Snapshot.{Snapshot}
-use Rattle.do_local.specs.Blocks.{Block}
+use Rattle.do_sched.specs.declared.line.Line.{Line}
+use Rattle.do_trace.specs.declared.outcome.Snapshot.{Snapshot}
+use Rattle.do_trace.specs.Block.{Block}
 use Rattle.do_lines.specs.Lines.{joined}
 use Rattle.do_lines.specs.Block.{line_lines}
 use Rattle.do_lines.specs.Check.{check_lines}
@@ -14,7 +15,7 @@ listed_lines table None = []
 listed_lines table (Some snapshot) = check_lines table snapshot
 
 -- a line, what it showed, and what it lists
-abbrev pub block_lines : List Class → Block → List ℕ
+abbrev pub block_lines : List Class → Block Line → List ℕ
 block_lines table b = line_lines b.line b.outcome ++ listed_lines table b.listed
 
 -- the line that begins a transcript
@@ -26,5 +27,5 @@ abbrev pub last_line : List ℕ
 last_line = joined (codes "> end" ∷ [])
 
 -- a first line, the blocks one after another, and a last line
-abbrev pub transcript : List Class → List Block → List ℕ
+abbrev pub transcript : List Class → List (Block Line) → List ℕ
 transcript table bs = first_line ++ flat_map (block_lines table) bs ++ last_line

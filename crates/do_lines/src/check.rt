@@ -2,13 +2,14 @@ ghost use Rattle.std.specs.Prelude.{◌≡◌, ◌++◌, [], ◌∷◌, OnOk, If
 ghost use Rattle.do_class.specs.Table.{name_of, slots_of};
 ghost use Rattle.do_lines.specs.Value.{spaced};
 ghost use Rattle.do_lines.specs.Lines.{joined};
-ghost use Rattle.do_lines.specs.Check.{slot_words, class_words, object_text, closed_line, entry_line, root_word, root_line, node_text, check_lines};
+ghost use Rattle.do_lines.specs.Check.{slot_words, class_words, object_text, closed_line};
+ghost use Rattle.do_lines.specs.Check.{entry_line, root_word, root_line, node_text, check_lines};
 
 use crate::value::{push_object, push_value};
 use do_base::{Oid, Peers, Text, Value, Values};
 use do_class::{ClassId, ClassTable, Slot};
 use do_grammar::push_dec;
-use do_local::{Entry, EntryList, NodeLine, ObjLine, ObjLines, Snapshot};
+use do_trace::{Entry, EntryList, NodeLine, ObjLine, ObjLines, Snapshot};
 use std::alloc::{AllocError, Global};
 
 /// Adds the slots of an object with their values, with a space before each.
@@ -28,14 +29,16 @@ fn push_slots(out: &mut Text, slots: &[Slot], values: &[Value]) -> Result<(), Al
     push_slots(out, slots, values)
 }
 
-/// Adds the name of a class and its slots with their values. A class that is not of the table adds nothing.
+/// Adds the name of a class and its slots with their values. A class that is not of the table adds
+/// nothing.
 fn push_class(
     out: &mut Text,
     table: &ClassTable,
     class: ClassId,
     values: &Values,
 ) -> Result<(), AllocError>
-    ensures { OnOk result (out.new ≡ out.old ++ class_words (name_of table.now class) (slots_of table.now class) values.now) }
+    ensures { OnOk result (out.new ≡ out.old ++ class_words (name_of table.now class)
+        (slots_of table.now class) values.now) }
 {
     if class.0 >= table.count() {
         return Ok(());
@@ -111,8 +114,8 @@ fn push_node(out: &mut Text, table: &ClassTable, node: &NodeLine) -> Result<(), 
 /// Adds the lines that a check shows: each node with its root, its closed ends, its stored objects
 /// with their slots, and the entries that its peers have of them.
 ///
-/// The classes are of the table; an object of another class is shown without one. Where memory ran
-/// out, a part of the lines may have been added. The form is this project's own.
+/// The classes are of the table; an object of another class is shown without one. If memory
+/// runs out, a part of the lines may have been added. The form is this project's own.
 pub fn push_check(out: &mut Text, table: &ClassTable, snapshot: &Snapshot) -> Result<(), AllocError>
     ensures { OnOk result (out.new ≡ out.old ++ check_lines table.now snapshot.now) }
 {

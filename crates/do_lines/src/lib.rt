@@ -8,6 +8,3 @@ mod value;
 
 pub use check::{check_text, push_check};
 pub use line::{line_text, push_head, push_outcome, stepped_node};
-
-#[cfg(test)]
-mod tests;

@@ -4,8 +4,8 @@ ghost use Rattle.do_lines.specs.Block.{head_line, line_lines, stepped_node, show
 
 use crate::shown::push_all_shown;
 use do_base::{NodeId, Text};
-use do_local::Outcome;
 use do_sched::{Line, push_line};
+use do_trace::Outcome;
 use std::alloc::{AllocError, Global};
 
 /// The node that a line steps. A check steps none.
@@ -20,8 +20,8 @@ pub fn stepped_node(line: &Line) -> Option<NodeId>
 
 /// Adds `> ` and a line as it is written in a schedule, which begin the line's block.
 ///
-/// The line is one that may stand in a schedule. Where memory ran out, a part of it may have been
-/// added.
+/// The line is one that may stand in a schedule. If memory runs out, a part of it may have
+/// been added.
 pub fn push_head(out: &mut Text, line: &Line) -> Result<(), AllocError>
     requires { IsLine line.now }
     ensures { OnOk result (out.new ≡ out.old ++ head_line line.now) }
@@ -34,7 +34,7 @@ pub fn push_head(out: &mut Text, line: &Line) -> Result<(), AllocError>
 /// Adds the lines that a node showed, or `skip` alone where no step was enabled. Where no node was
 /// stepped, none are shown.
 ///
-/// Where memory ran out, a part of them may have been added.
+/// If memory runs out, a part of them may have been added.
 pub fn push_outcome(
     out: &mut Text,
     node: Option<NodeId>,
@@ -53,8 +53,9 @@ pub fn push_outcome(
 
 /// The block of a line: `> ` and the line as it is written in a schedule, and what it showed.
 ///
-/// The line is one that may stand in a schedule. For a run of several steps the outcome has what they
-/// showed one after another, and is enabled where one of them was. The form is this project's own.
+/// The line is one that may stand in a schedule. For a run of several steps the outcome has what
+/// they showed one after another, and is enabled where one of them was. The form is this project's
+/// own.
 pub fn line_text(alloc: Global, line: &Line, outcome: &Outcome) -> Result<Text, AllocError>
     requires { IsLine line.now }
     ensures { IfOk result (λ text. text ≡ line_lines line.now outcome.now) }

@@ -19,6 +19,7 @@ pub fn push_exception(out: &mut Text, exception: &Exc) -> Result<(), AllocError>
         Exc::NotUnderstood => out.push_bytes(b"NotUnderstood"),
         Exc::ConnectionDied => out.push_bytes(b"ConnectionDied"),
         Exc::NotVended => out.push_bytes(b"NotVended"),
+        Exc::TimedOut => out.push_bytes(b"TimedOut"),
         Exc::TooLarge => out.push_bytes(b"TooLarge"),
         Exc::User(text) => {
             out.push_bytes(b"User ")?;
@@ -77,7 +78,8 @@ fn push_with_port(out: &mut Text, word: &[u8], port: u16) -> Result<(), AllocErr
 
 /// Adds a word with its space, the port of the node that shows a value, and the value.
 fn push_with_value(out: &mut Text, word: &[u8], port: u16, value: &Value) -> Result<(), AllocError>
-    ensures { OnOk result (out.new ≡ out.old ++ word.now ++ decimal port ++ 32 ∷ value_text value.now) }
+    ensures { OnOk result (out.new ≡ out.old ++ word.now ++ decimal port
+        ++ 32 ∷ value_text value.now) }
 {
     push_with_port(out, word, port)?;
     push_value(out, value)

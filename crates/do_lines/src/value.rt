@@ -15,7 +15,7 @@ pub fn push_object(out: &mut Text, object: &Oid) -> Result<(), AllocError>
     push_dec(out, object.serial)
 }
 
-/// Adds the spelling of a value. Where memory ran out, a part of it may have been added.
+/// Adds the spelling of a value. If memory runs out, a part of it may have been added.
 #[cycle(value)]
 pub fn push_value(out: &mut Text, value: &Value) -> Result<(), AllocError>
     ensures { OnOk result (out.new ≡ out.old ++ value_text value.now) }

@@ -1,6 +1,6 @@
 -- What a run leaves of the stack.
 use Rattle.std.proofs.Common.{◌≡◌, true, false, cond, ◌∷◌, Option, Some, None, refl, ◌⊎◌, inl, inr}
-use Rattle.do_base.specs.Names.{CallName}
+use Rattle.do_base.specs.names.Names.{CallName}
 use Rattle.do_local.specs.declared.invocation.Answer.{Answer}
 use Rattle.do_local.specs.declared.invocation.Invocation.{Invocation}
 use Rattle.do_local.specs.declared.node.Node.{Node}

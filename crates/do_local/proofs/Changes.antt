@@ -3,7 +3,7 @@ use Rattle.do_local.specs.Stations.{IsRunContextOf}
 use Rattle.std.proofs.Common.{◌≡◌, ℕ, zero, suc, ◌≤◌, List, [], ◌∷◌, length, ◌==◌, Some, None, refl, ap, sym, ◌∙◌, arith}
 use Rattle.std.specs.Prelude.{slice_get, slice_set}
 use Rattle.std.specs.List.{position, remove}
-use Rattle.do_base.specs.declared.value.Value.{Value}
+use Rattle.do_base.specs.declared.values.value.Value.{Value}
 use Rattle.do_local.specs.declared.invocation.Invocation.{Invocation}
 use Rattle.do_local.specs.declared.node.Node.{Node}
 use Rattle.do_local.specs.declared.node.Stored.{Stored}

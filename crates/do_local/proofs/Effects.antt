@@ -1,6 +1,6 @@
 -- What every effect keeps, and an effect with what is left after it.
 use Rattle.std.proofs.Common.{◌≡◌, ℕ, suc, ◌≤◌, ◌<◌, length, true, false, cond, List, [], ◌∷◌, Option, Some, None, refl, ap, ◌∙◌, arith}
-use Rattle.do_base.specs.Names.{CallName}
+use Rattle.do_base.specs.names.Names.{CallName}
 use Rattle.do_local.specs.declared.arrival.Arrival.{Arrival}
 use Rattle.do_local.specs.declared.arrival.Arrival.TheVariants.{Invokes, Sends, Answers, Nothing}
 use Rattle.do_local.specs.declared.invocation.Answer.{Answer}

@@ -3,9 +3,9 @@ use Rattle.std.proofs.Common.{◌≡◌, ℕ, zero, suc, ◌+◌, List as Listed
 use Rattle.std.specs.Prelude.{◌==◌, filter, slice_get}
 use Rattle.std.specs.List.{flat_map}
 use Rattle.std.proofs.lemmas.List.Elements.{filter-append}
-use Rattle.do_base.specs.Names.{ObjectName}
+use Rattle.do_base.specs.names.Names.{ObjectName}
 use Rattle.do_local.specs.Refers.{objects_in}
-use Rattle.do_base.specs.declared.value.Value.{Value}
+use Rattle.do_base.specs.declared.values.value.Value.{Value}
 use Rattle.do_local.specs.Holding.{all_joined, joined}
 use Rattle.do_local.specs.Items.{is_exported, named_as, named_in}
 use Rattle.do_local.proofs.Named.{exported_own, objects}

@@ -1,11 +1,3 @@
-pub mod Fitting
-pub mod Counted
-pub mod ExamplesOfActs
-pub mod ExamplesOfItems
-pub mod ExamplesOfSteps
-pub mod ExamplesOfAnswers
-pub mod ExamplesOfMethods
-pub mod ExamplesOfStates
 pub mod Equality
 pub mod Tables
 pub mod Changes

@@ -3,8 +3,8 @@ use Rattle.std.proofs.Common.{◌≡◌, ℕ, zero, suc, ◌≤◌, Bool, true, 
 use Rattle.std.specs.Prelude.{slice_get, slice_set, ◌==◌, OnErr, Result, Ok, Err}
 use Rattle.std.specs.List.{position, position_or_len}
 use Rattle.std.specs.Option.{option_map}
-use Rattle.do_base.specs.declared.shown.Shown.{Shown}
-use Rattle.do_base.specs.declared.value.Value.{Value}
+use Rattle.do_base.specs.declared.events.shown.Shown.{Shown}
+use Rattle.do_base.specs.declared.values.value.Value.{Value}
 use Rattle.do_local.specs.declared.invocation.Invocation.{Invocation}
 use Rattle.do_local.specs.declared.node.Node.{Node}
 use Rattle.do_local.specs.declared.station.Station.{Station}

@@ -4,9 +4,9 @@ use Rattle.std.specs.Prelude.{◌&&◌, ◌||◌, ◌==◌, filter}
 use Rattle.std.specs.List.{flat_map}
 use Rattle.std.proofs.lemmas.Grind.{common_steps}
 use Rattle.std.proofs.lemmas.List.Folds.{list_any-append}
-use Rattle.do_base.specs.Names.{ObjectName}
-use Rattle.do_base.specs.declared.value.Value.{Value, List, the_lemmas}
-use Rattle.do_base.specs.declared.value.Value.TheVariants.{Nil, Num, Text, Obj}
+use Rattle.do_base.specs.names.Names.{ObjectName}
+use Rattle.do_base.specs.declared.values.value.Value.{Value, List, the_lemmas}
+use Rattle.do_base.specs.declared.values.value.Value.TheVariants.{Nil, Num, Text, Obj}
 use Rattle.do_local.specs.declared.item.Item.TheVariants.{Left}
 use Rattle.do_local.specs.Items.{Naming, Exported, Mentioned, is_exported, is_released, named_as, named_in, naming, released}
 use Rattle.do_local.specs.Refers.{objects_in, value_names, values_name}

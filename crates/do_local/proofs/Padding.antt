@@ -1,8 +1,8 @@
 -- A list that is filled up with nil.
 use Rattle.std.proofs.Common.{◌≡◌, ℕ, zero, suc, ◌+◌, ◌-◌, ◌≤◌, List as Listed, [], ◌∷◌, ◌++◌, length, replicate, refl, ap, sym, ◌∙◌, arith, append_assoc}
 use Rattle.std.proofs.lemmas.List.{append-nil}
-use Rattle.do_base.specs.declared.value.Value.{Value}
-use Rattle.do_base.specs.declared.value.Value.TheVariants.{Nil}
+use Rattle.do_base.specs.declared.values.value.Value.{Value}
+use Rattle.do_base.specs.declared.values.value.Value.TheVariants.{Nil}
 
 one_more : (k : ℕ) → replicate k Nil ++ Nil ∷ [] ≡ replicate (suc k) Nil
 one_more zero = refl

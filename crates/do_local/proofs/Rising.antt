@@ -3,13 +3,13 @@ use Rattle.std.proofs.Common.{◌≡◌, ℕ, true, false, cond, List, [], ◌�
 use Rattle.std.specs.Prelude.{not, ◌&&◌, ◌==◌}
 use Rattle.std.specs.List.Sorted.{IsStrictlyIncreasing}
 use Rattle.std.proofs.lemmas.Bool.{eqb-true}
-use Rattle.do_base.specs.declared.shown.Event.{Event}
-use Rattle.do_base.specs.declared.shown.Event.TheVariants.{Start, Run, Take, Close, Lose, Check}
+use Rattle.do_base.specs.declared.events.event.Event.{Event}
+use Rattle.do_base.specs.declared.events.event.Event.TheVariants.{Start, Run, Take, Close, Lose, Timeout, Check}
 use Rattle.do_class.specs.Class.{Class}
 use Rattle.do_local.specs.declared.item.Item.{Item}
 use Rattle.do_local.specs.declared.node.Node.{Node}
-use Rattle.do_local.specs.declared.outcome.NodeLine.{NodeLine}
-use Rattle.do_local.specs.declared.outcome.Snapshot.{Snapshot}
+use Rattle.do_trace.specs.declared.outcome.NodeLine.{NodeLine}
+use Rattle.do_trace.specs.declared.outcome.Snapshot.{Snapshot}
 use Rattle.do_local.specs.declared.station.Station.{Station}
 use Rattle.do_local.specs.declared.world.WorldNode.{WorldNode}
 use Rattle.do_local.specs.Check.{node_line, snapshot}
@@ -69,6 +69,7 @@ step_keys laws S (Run port) = moved_by_keys port S _
 step_keys laws S (Take port from) = take_at_keys laws S port from (node S port)
 step_keys laws S (Close node peer) = refl
 step_keys laws S (Lose from to after) = refl
+step_keys laws S (Timeout node) = refl
 step_keys laws S Check = refl
 
 pub same_rises : (S last : State) → last ≡ S

@@ -1,11 +1,11 @@
 -- An event that is not enabled changes nothing and shows nothing.
 use Rattle.std.proofs.Common.{◌≡◌, ℕ, Bool, false, true, cond, [], Option, Some, None, refl, ap, sym, ◌∙◌}
 use Rattle.std.specs.Prelude.{not, ◌&&◌, ◌==◌}
-use Rattle.do_base.specs.declared.shown.Event.{Event}
-use Rattle.do_base.specs.declared.shown.Event.TheVariants.{Start, Run, Take, Close, Lose, Check}
+use Rattle.do_base.specs.declared.events.event.Event.{Event}
+use Rattle.do_base.specs.declared.events.event.Event.TheVariants.{Start, Run, Take, Close, Lose, Timeout, Check}
 use Rattle.do_local.specs.declared.item.Item.{Item}
 use Rattle.do_local.specs.declared.node.Node.{Node}
-use Rattle.do_local.specs.declared.outcome.Outcome.{Outcome}
+use Rattle.do_trace.specs.declared.outcome.Outcome.{Outcome}
 use Rattle.do_local.specs.Laws.{Laws}
 use Rattle.do_local.specs.State.{State, node, oldest}
 use Rattle.do_local.specs.Effect.{Effect}
@@ -42,6 +42,7 @@ step_skipped laws S (Run port) off = move_skipped port S _ off
 step_skipped laws S (Take port from) off = take_skipped laws S port from (node S port) off
 step_skipped laws S (Close node peer) off = refl
 step_skipped laws S (Lose from to after) off = refl
+step_skipped laws S (Timeout node) off = refl
 step_skipped laws S Check off = cc
 
 -- an outcome and a state that are those of an event which is not enabled

@@ -3,9 +3,9 @@ use Rattle.std.proofs.Common.{◌≡◌, ℕ, suc, ◌≤◌, true, false, cond,
 use Rattle.std.specs.Prelude.{slice_get, slice_set, ◌==◌, ◌&&◌, not}
 use Rattle.std.specs.List.{position}
 use Rattle.std.proofs.lemmas.Grind.{common_steps}
-use Rattle.do_base.specs.declared.shown.Shown.{Shown}
-use Rattle.do_base.specs.declared.shown.Shown.TheVariants as shows
-use Rattle.do_base.specs.Names.{ObjectName}
+use Rattle.do_base.specs.declared.events.shown.Shown.{Shown}
+use Rattle.do_base.specs.declared.events.shown.Shown.TheVariants as shows
+use Rattle.do_base.specs.names.Names.{ObjectName}
 use Rattle.do_local.specs.declared.arrival.Arrival.{Arrival}
 use Rattle.do_local.specs.declared.arrival.Arrival.TheVariants.{Invokes, Sends, Answers, Nothing}
 use Rattle.do_local.specs.declared.item.Item.{Item}

@@ -1,9 +1,9 @@
 -- What becomes of each act of an invocation.
 use Rattle.std.specs.Prelude.{ℕ, not, if◌then◌else◌, ◌==◌, Option, Some, None, ℤ, pos, negsuc, nat_lt, ◌&&◌}
-use Rattle.do_base.specs.declared.value.Value.{Value, out-Value}
-use Rattle.do_base.specs.declared.value.Value.TheOpen.{Value-F}
-use Rattle.do_base.specs.declared.value.Value.TheVariants.{Nil, Obj}
-use Rattle.do_base.specs.declared.shown.Exc.TheVariants.{TypeFault, ConnectionDied}
+use Rattle.do_base.specs.values.Kinds.{number}
+use Rattle.do_base.specs.declared.values.value.Value.{Value}
+use Rattle.do_base.specs.declared.values.value.Value.TheVariants.{Nil, Obj}
+use Rattle.do_base.specs.declared.events.exception.Exc.TheVariants.{TypeFault, ConnectionDied}
 use Rattle.do_local.specs.declared.act.Act.{Act}
 use Rattle.do_local.specs.declared.act.Act.TheVariants.{Assign, Write, Root, Send, Say, Return, Raise}
 use Rattle.do_local.specs.declared.invocation.Answer.TheVariants as answers
@@ -24,22 +24,13 @@ abbrev pub port_of : ℤ → Option ℕ
 port_of (pos n) = if nat_lt 0 n && nat_lt n 65536 then Some n else None
 port_of (negsuc m) = None
 
--- one level of a value as a number
-abbrev level_number : Value-F Value → Option ℤ
-level_number (Value-F.Num n) = Some n
-level_number _ = None
-
--- the number that a value is
-abbrev pub number_in : Value → Option ℤ
-number_in v = level_number (out-Value v)
-
 -- a root is asked for by a number; the own one is there at once, and another is asked for over an open end
 abbrev pub root_rule : RunContext → Value → ℕ → ℕ → Verdict
 root_rule r value into pc =
-    elim (number_in value) [
+    elim (number value) [
       | None ↦ fails TypeFault
-      | Some number ↦
-          elim (port_of number) [
+      | Some n ↦
+          elim (port_of n) [
             | None ↦ fails ConnectionDied
             | Some port ↦
                 if port == r.node.port then Goes into (root_value r.node) pc

@@ -1,11 +1,11 @@
 -- The answer of an invocation: where it goes, and at the other node the invocation that waits for it.
 use Rattle.std.specs.Prelude.{ℕ, Bool, false, ◌&&◌, ◌==◌, if◌then◌else◌, List, [], ◌∷◌, Option, Some, None, option_and_then}
 use Rattle.std.specs.List.{find}
-use Rattle.do_base.specs.declared.value.Value.{Value}
-use Rattle.do_base.specs.declared.shown.Exc.TheVariants.{TypeFault}
-use Rattle.do_base.specs.Names.{CallName}
-use Rattle.do_base.specs.declared.shown.Shown.{Shown}
-use Rattle.do_base.specs.declared.shown.Shown.TheVariants as shows
+use Rattle.do_base.specs.declared.values.value.Value.{Value}
+use Rattle.do_base.specs.declared.events.exception.Exc.TheVariants.{TypeFault}
+use Rattle.do_base.specs.names.Names.{CallName}
+use Rattle.do_base.specs.declared.events.shown.Shown.{Shown}
+use Rattle.do_base.specs.declared.events.shown.Shown.TheVariants as shows
 use Rattle.do_local.specs.Laws.{Laws}
 use Rattle.do_local.specs.declared.item.Item.{Item}
 use Rattle.do_local.specs.declared.item.Item.TheVariants as items

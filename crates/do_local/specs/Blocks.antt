@@ -1,11 +1,11 @@
 -- A schedule's lines, each with what it came to.
 use Rattle.std.specs.Prelude.{ℕ, zero, suc, ◌||◌, List, [], ◌∷◌, ◌++◌, Option, Some, None}
-use Rattle.do_base.specs.declared.shown.Event.TheVariants as events
+use Rattle.do_base.specs.declared.events.event.Event.TheVariants as events
 use Rattle.do_sched.specs.declared.line.Line.{Line}
 use Rattle.do_sched.specs.declared.line.Line.TheVariants.{Start, Run, Take, Check}
 use Rattle.do_local.specs.Laws.{Laws}
-use Rattle.do_local.specs.declared.outcome.Outcome.{Outcome}
-use Rattle.do_local.specs.declared.outcome.Snapshot.{Snapshot}
+use Rattle.do_trace.specs.declared.outcome.Snapshot.{Snapshot}
+use Rattle.do_trace.specs.Block.{Block}
 use Rattle.do_local.specs.State.{State}
 use Rattle.do_local.specs.Commit.{Stepped, skipped}
 use Rattle.do_local.specs.Step.{step}
@@ -37,19 +37,13 @@ line_step laws S (Run port count) = runs count laws port S
 line_step laws S (Take port from) = step laws S (events.Take port from)
 line_step laws S Check = step laws S events.Check
 
--- a line, its outcome, and where it is a check what that lists
-pub record Block : Type 0 where
-  pub line : Line
-  pub outcome : Outcome
-  pub listed : Option Snapshot
-
 -- a check lists the state, and no other line lists anything
 abbrev listed_at : State → Line → Option Snapshot
 listed_at S Check = Some (snapshot S)
 listed_at S _ = None
 
 -- what a line comes to
-abbrev pub block : Laws → State → Line → Block
+abbrev pub block : Laws → State → Line → Block Line
 block laws S line = record {
   line = line;
   outcome = (line_step laws S line).outcome;
@@ -62,6 +56,6 @@ after laws S [] = S
 after laws S (l ∷ ls) = after laws (line_step laws S l).state ls
 
 -- the lines with what each came to, one after another
-abbrev pub blocks : Laws → State → List Line → List Block
+abbrev pub blocks : Laws → State → List Line → List (Block Line)
 blocks laws S [] = []
 blocks laws S (l ∷ ls) = block laws S l ∷ blocks laws (line_step laws S l).state ls

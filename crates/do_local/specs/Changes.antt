@@ -1,6 +1,6 @@
 -- How a step changes its node: the top invocation, a slot of its object, the next call number.
 use Rattle.std.specs.Prelude.{ℕ, ◌==◌, List, ◌∷◌, suc, slice_set}
-use Rattle.do_base.specs.declared.value.Value.{Value}
+use Rattle.do_base.specs.declared.values.value.Value.{Value}
 use Rattle.do_local.specs.declared.invocation.Invocation.{Invocation}
 use Rattle.do_local.specs.declared.invocation.InvState.TheVariants.{Running, Waits}
 use Rattle.do_local.specs.declared.invocation.Waited.{Waited}

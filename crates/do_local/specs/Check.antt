@@ -2,13 +2,13 @@
 use Rattle.std.specs.Prelude.{ℕ, not, ◌&&◌, ◌==◌, List, map, filter}
 use Rattle.std.specs.List.{flat_map}
 use Rattle.std.specs.Option.{option_map}
-use Rattle.do_base.specs.Names.{ObjectName}
+use Rattle.do_base.specs.names.Names.{ObjectName}
 use Rattle.do_local.specs.declared.node.Node.{Node}
 use Rattle.do_local.specs.declared.node.Stored.{Stored}
-use Rattle.do_local.specs.declared.outcome.Entry.{Entry}
-use Rattle.do_local.specs.declared.outcome.NodeLine.{NodeLine}
-use Rattle.do_local.specs.declared.outcome.ObjLine.{ObjLine}
-use Rattle.do_local.specs.declared.outcome.Snapshot.{Snapshot}
+use Rattle.do_trace.specs.declared.outcome.Entry.{Entry}
+use Rattle.do_trace.specs.declared.outcome.NodeLine.{NodeLine}
+use Rattle.do_trace.specs.declared.outcome.ObjLine.{ObjLine}
+use Rattle.do_trace.specs.declared.outcome.Snapshot.{Snapshot}
 use Rattle.do_local.specs.Tables.{keys}
 use Rattle.do_local.specs.State.{State, is_open, own}
 use Rattle.do_local.specs.Entry.{has_entry}

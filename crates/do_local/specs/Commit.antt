@@ -1,7 +1,7 @@
 -- What a state is after an effect of one of its nodes.
 use Rattle.std.specs.Prelude.{ℕ, false, List, [], ◌∷◌, ◌++◌, Option, Some, None, true}
 use Rattle.do_local.specs.declared.item.Item.{Item}
-use Rattle.do_local.specs.declared.outcome.Outcome.{Outcome}
+use Rattle.do_trace.specs.declared.outcome.Outcome.{Outcome}
 use Rattle.do_local.specs.State.{State}
 use Rattle.do_local.specs.Tables.{Table, change}
 use Rattle.do_local.specs.Effect.{Effect}

@@ -1,6 +1,6 @@
 -- What the rules judge a step of a node by.
 use Rattle.std.specs.Prelude.{ℕ, Bool, if◌then◌else◌, Option, None}
-use Rattle.do_base.specs.Names.{ObjectName}
+use Rattle.do_base.specs.names.Names.{ObjectName}
 use Rattle.do_class.specs.declared.ids.ClassId.{ClassId}
 use Rattle.do_local.specs.declared.node.Node.{Node}
 use Rattle.do_local.specs.Laws.{Laws}

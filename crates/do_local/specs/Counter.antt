@@ -1,22 +1,12 @@
 -- What the two methods of the counter world do, act by act.
 use Rattle.std.specs.Prelude.{ℕ, suc, zero, Bool, if◌then◌else◌, ◌&&◌, List, [], ◌∷◌, Option, Some, None, codes, ℤ, pos, negsuc, ◌+ℤ◌, int_le, slice_get, option_map, option_and_then}
-use Rattle.do_base.specs.declared.value.Value.{Value, out-Value}
-use Rattle.do_base.specs.declared.value.Value.TheOpen.{Value-F}
-use Rattle.do_base.specs.declared.value.Value.TheVariants.{Nil, Num}
-use Rattle.do_base.specs.declared.shown.Exc.TheVariants.{TypeFault, Range}
+use Rattle.do_base.specs.values.Kinds.{counted}
+use Rattle.do_base.specs.declared.values.value.Value.{Value}
+use Rattle.do_base.specs.declared.values.value.Value.TheVariants.{Nil, Num}
+use Rattle.do_base.specs.declared.events.exception.Exc.TheVariants.{TypeFault, Range}
 use Rattle.do_local.specs.declared.act.Act.{Act}
 use Rattle.do_local.specs.declared.act.Act.TheVariants.{Assign, Write, Root, Send, Say, Return, Raise}
 use Rattle.do_local.specs.declared.invocation.Invocation.{Invocation}
-
--- one level of a value as a number to count with
-abbrev level_counted : Value-F Value → Option ℤ
-level_counted Value-F.Nil = Some (pos 0)
-level_counted (Value-F.Num n) = Some n
-level_counted _ = None
-
--- a value as a number, where nil counts as 0
-abbrev pub counted_number : Value → Option ℤ
-counted_number v = level_counted (out-Value v)
 
 -- a number of 64 bits with a sign
 abbrev pub is_i64 : ℤ → Bool
@@ -47,7 +37,7 @@ go_act _ locals = Some (Return Nil)
 -- `add:` of a counter adds the number that it got to its value, and returns the sum
 abbrev pub add_act : ℕ → List Value → List Value → Option Act
 add_act zero locals slots = with_value slots 0 (λ value. Assign 1 value 1)
-add_act (suc zero) locals slots = with_both locals 1 0 (λ value number. sum_act (counted_number value) (counted_number number))
+add_act (suc zero) locals slots = with_both locals 1 0 (λ value number. sum_act (counted value) (counted number))
 add_act (suc (suc zero)) locals slots = with_value locals 1 (λ sum. Write 0 sum 3)
 add_act (suc (suc (suc zero))) locals slots = with_value locals 1 Return
 add_act _ locals slots = Some (Return Nil)

@@ -1,6 +1,6 @@
 -- What one step of a node does.
 use Rattle.std.specs.Prelude.{ℕ, List, [], ◌∷◌}
-use Rattle.do_base.specs.declared.shown.Shown.{Shown}
+use Rattle.do_base.specs.declared.events.shown.Shown.{Shown}
 use Rattle.do_local.specs.declared.item.Item.{Item}
 use Rattle.do_local.specs.declared.node.Node.{Node}
 

@@ -1,7 +1,7 @@
 -- Which own objects of a node are in use at a peer, or on their way there or back.
 use Rattle.std.specs.Prelude.{ℕ, Bool, List, ◌&&◌, ◌||◌}
 use Rattle.std.specs.List.{list_any}
-use Rattle.do_base.specs.Names.{ObjectName}
+use Rattle.do_base.specs.names.Names.{ObjectName}
 use Rattle.do_local.specs.declared.item.Item.{Item}
 use Rattle.do_local.specs.declared.node.Node.{Node}
 use Rattle.do_local.specs.Tables.{some_passes}

@@ -1,8 +1,8 @@
 -- Which objects an item names, and how.
 use Rattle.std.specs.Prelude.{ℕ, Bool, true, false, ◌==◌, if◌then◌else◌, List, [], ◌∷◌, map, filter}
 use Rattle.std.specs.List.{flat_map}
-use Rattle.do_base.specs.Names.{ObjectName}
-use Rattle.do_base.specs.declared.value.Value.{Value}
+use Rattle.do_base.specs.names.Names.{ObjectName}
+use Rattle.do_base.specs.declared.values.value.Value.{Value}
 use Rattle.do_local.specs.Refers.{objects_in}
 use Rattle.do_local.specs.declared.item.Item.{Item}
 use Rattle.do_local.specs.declared.item.Item.TheVariants.{Call, Reply, RootAnswer, Left}

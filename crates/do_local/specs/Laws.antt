@@ -1,6 +1,6 @@
 -- The laws of a world, which never change in a run.
 use Rattle.std.specs.Prelude.{ℕ, Bool, List, Option, option_and_then, option_map}
-use Rattle.do_base.specs.declared.value.Value.{Value}
+use Rattle.do_base.specs.declared.values.value.Value.{Value}
 use Rattle.do_sig.specs.Calls.{args_fit, inputs_fit, returned_fits}
 use Rattle.do_class.specs.Class.{Class}
 use Rattle.do_class.specs.Table.{find_method, signature_of}

@@ -1,6 +1,6 @@
 -- What follows each step of a node.
 use Rattle.std.specs.Prelude.{ℕ, not, List, [], map, filter}
-use Rattle.do_base.specs.Names.{ObjectName}
+use Rattle.do_base.specs.names.Names.{ObjectName}
 use Rattle.do_local.specs.declared.item.Item.{Item}
 use Rattle.do_local.specs.declared.item.Item.TheVariants.{Left}
 use Rattle.do_local.specs.declared.node.Node.{Node}

@@ -1,8 +1,8 @@
 -- A machine, as a contract sees it.
 use Rattle.std.specs.Prelude.{ℕ, suc, List}
-use Rattle.do_base.specs.declared.shown.Event.{Event}
+use Rattle.do_base.specs.declared.events.event.Event.{Event}
 use Rattle.do_class.specs.Class.{Class}
-use Rattle.do_local.specs.declared.outcome.Outcome.{Outcome}
+use Rattle.do_trace.specs.declared.outcome.Outcome.{Outcome}
 use Rattle.do_local.specs.declared.world.WorldNode.{WorldNode}
 use Rattle.do_local.specs.Laws.{laws_of}
 use Rattle.do_local.specs.State.{State}

@@ -1,9 +1,9 @@
 -- Which objects values, invocations and nodes name. A value of this world holds no list.
 use Rattle.std.specs.Prelude.{Bool, ◌||◌, List, [], ◌∷◌}
 use Rattle.std.specs.List.{list_any}
-use Rattle.do_base.specs.Names.{ObjectName}
-use Rattle.do_base.specs.declared.value.Value.{Value, out-Value}
-use Rattle.do_base.specs.declared.value.Value.TheOpen.{Value-F}
+use Rattle.do_base.specs.names.Names.{ObjectName}
+use Rattle.do_base.specs.declared.values.value.Value.{Value, out-Value}
+use Rattle.do_base.specs.declared.values.value.Value.TheOpen.{Value-F}
 use Rattle.do_local.specs.declared.node.Node.{Node}
 use Rattle.do_local.specs.declared.node.Stored.{Stored}
 use Rattle.do_local.specs.declared.invocation.Invocation.{Invocation}

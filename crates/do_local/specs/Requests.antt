@@ -1,10 +1,10 @@
 -- A call of a peer: the method that it invokes, or why it is refused.
 use Rattle.std.specs.Prelude.{ℕ, Bool, not, nat_le, if◌then◌else◌, List, ◌++◌, length, replicate, ◌-◌, Some, None, Result, Ok, Err}
-use Rattle.do_base.specs.Names.{ObjectName}
-use Rattle.do_base.specs.declared.value.Value.{Value}
-use Rattle.do_base.specs.declared.value.Value.TheVariants.{Nil}
-use Rattle.do_base.specs.declared.shown.Exc.{Exc}
-use Rattle.do_base.specs.declared.shown.Exc.TheVariants.{TypeFault, Deep, NotUnderstood, NotVended}
+use Rattle.do_base.specs.names.Names.{ObjectName}
+use Rattle.do_base.specs.declared.values.value.Value.{Value}
+use Rattle.do_base.specs.declared.values.value.Value.TheVariants.{Nil}
+use Rattle.do_base.specs.declared.events.exception.Exc.{Exc}
+use Rattle.do_base.specs.declared.events.exception.Exc.TheVariants.{TypeFault, Deep, NotUnderstood, NotVended}
 use Rattle.do_class.specs.declared.ids.MethodId.{MethodId}
 use Rattle.do_local.specs.declared.invocation.Invocation.{Invocation}
 use Rattle.do_local.specs.declared.invocation.InvState.TheVariants.{Running}

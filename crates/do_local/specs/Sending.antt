@@ -1,11 +1,10 @@
 -- What becomes of a message that an invocation sends.
-use Rattle.std.specs.Prelude.{Bool, true, false, not, if◌then◌else◌, Option, Some, None}
-use Rattle.do_base.specs.Names.{ObjectName}
-use Rattle.do_base.specs.declared.value.Value.{Value, out-Value}
-use Rattle.do_base.specs.declared.value.Value.TheOpen.{Value-F}
-use Rattle.do_base.specs.declared.value.Value.TheVariants.{Nil}
-use Rattle.do_base.specs.declared.shown.Exc.{Exc}
-use Rattle.do_base.specs.declared.shown.Exc.TheVariants.{TypeFault, NotUnderstood, ConnectionDied, NotVended}
+use Rattle.std.specs.Prelude.{not, if◌then◌else◌, Some, None}
+use Rattle.do_base.specs.names.Names.{ObjectName}
+use Rattle.do_base.specs.values.Kinds.{is_nil, object}
+use Rattle.do_base.specs.declared.values.value.Value.TheVariants.{Nil}
+use Rattle.do_base.specs.declared.events.exception.Exc.{Exc}
+use Rattle.do_base.specs.declared.events.exception.Exc.TheVariants.{TypeFault, NotUnderstood, ConnectionDied, NotVended}
 use Rattle.do_class.specs.declared.ids.MethodId.{MethodId}
 use Rattle.do_local.specs.declared.invocation.Answer.TheVariants as answers
 use Rattle.do_local.specs.declared.message.Message.{Message}
@@ -21,24 +20,6 @@ use Rattle.do_local.specs.Laws.{method_for}
 abbrev pub fails : Exc → Verdict
 fails e = Ends (answers.Raised e)
 
--- one level of a value is nil
-abbrev pub level_is_nil : Value-F Value → Bool
-level_is_nil Value-F.Nil = true
-level_is_nil _ = false
-
--- the object that one level of a value is
-abbrev pub level_object : Value-F Value → Option ObjectName
-level_object (Value-F.Obj o) = Some o
-level_object _ = None
-
--- a value is nil
-abbrev pub is_nil : Value → Bool
-is_nil v = level_is_nil (out-Value v)
-
--- the object that a value is
-abbrev pub object_of : Value → Option ObjectName
-object_of v = level_object (out-Value v)
-
 -- what a send says to its target
 abbrev pub message_of : ObjectName → SendAct → Message
 message_of o s = record { target = o.serial; selector = s.selector; values = s.args }
@@ -51,7 +32,7 @@ calls o method s = Asks o.node (requests.Call method (message_of o s)) s.into s.
 abbrev pub send_rule : RunContext → SendAct → Verdict
 send_rule r s =
     if is_nil s.target then Goes s.into Nil s.pc
-    else elim (object_of s.target) [
+    else elim (object s.target) [
       | None ↦ fails TypeFault
       | Some o ↦
           if not (is_open r.node o.node) then fails ConnectionDied

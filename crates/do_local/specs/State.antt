@@ -1,7 +1,7 @@
 -- The state of the machine: what each node has, and the items under way between them.
 use Rattle.std.specs.Prelude.{ℕ, Bool, ◌&&◌, ◌==◌, List, Option, slice_get, option_map, option_and_then}
 use Rattle.std.specs.List.{list_any, find}
-use Rattle.do_base.specs.Names.{ObjectName}
+use Rattle.do_base.specs.names.Names.{ObjectName}
 use Rattle.do_class.specs.declared.ids.ClassId.{ClassId}
 use Rattle.do_local.specs.declared.node.Node.{Node}
 use Rattle.do_local.specs.declared.node.Stored.{Stored}

@@ -2,11 +2,11 @@
 use Rattle.std.specs.Prelude.{◌≡◌, ℕ, suc, ◌≤◌, true, false, List, [], ◌∷◌, map, Option, Some, None, option_and_then}
 use Rattle.std.specs.List.{All}
 use Rattle.std.specs.List.Sorted.{IsStrictlyIncreasing}
-use Rattle.do_base.specs.declared.shown.Shown.{Shown}
+use Rattle.do_base.specs.declared.events.shown.Shown.{Shown}
 use Rattle.do_local.specs.declared.item.Item.{Item}
 use Rattle.do_local.specs.declared.station.Queue.{Queue}
 use Rattle.do_local.specs.declared.station.Station.{Station}
-use Rattle.do_local.specs.declared.outcome.Outcome.{Outcome}
+use Rattle.do_trace.specs.declared.outcome.Outcome.{Outcome}
 use Rattle.do_local.specs.declared.verdict.Verdict.{Verdict}
 use Rattle.do_class.specs.Class.{Class}
 use Rattle.do_local.specs.declared.node.Node.{Node}

@@ -1,8 +1,8 @@
 -- The machine: what each event does to a state.
 use Rattle.std.specs.Prelude.{ℕ, Bool, true, not, ◌&&◌, ◌==◌, if◌then◌else◌, List, [], length, Option, Some, None, option_and_then, drop, option_map}
-use Rattle.do_base.specs.declared.value.Value.{Value}
-use Rattle.do_base.specs.declared.shown.Event.{Event}
-use Rattle.do_base.specs.declared.shown.Event.TheVariants.{Start, Run, Take, Close, Lose, Check}
+use Rattle.do_base.specs.declared.values.value.Value.{Value}
+use Rattle.do_base.specs.declared.events.event.Event.{Event}
+use Rattle.do_base.specs.declared.events.event.Event.TheVariants.{Start, Run, Take, Close, Lose, Timeout, Check}
 use Rattle.do_local.specs.Laws.{Laws, own_method}
 use Rattle.do_local.specs.declared.item.Item.{Item}
 use Rattle.do_local.specs.declared.invocation.Invocation.{Invocation}
@@ -78,6 +78,7 @@ start laws S port selector values = moved_at S port (λ n. start_effect laws sel
 abbrev pub IsCounterEvent : Event → Type 0
 IsCounterEvent (Close node peer) = ⊥
 IsCounterEvent (Lose from to after) = ⊥
+IsCounterEvent (Timeout node) = ⊥
 IsCounterEvent _ = Unit {0}
 
 -- one event; one that is not enabled changes nothing. A close and a loss are left out

@@ -1,8 +1,8 @@
 -- What an item that is taken does to the node that takes it.
 use Rattle.std.specs.Prelude.{ℕ, Bool, false, ◌&&◌, List, [], ◌∷◌, true, Some, None}
-use Rattle.do_base.specs.declared.shown.Took.{Took}
-use Rattle.do_base.specs.declared.shown.Took.TheVariants as tooks
-use Rattle.do_base.specs.declared.shown.Shown.TheVariants as shows
+use Rattle.do_base.specs.declared.events.shown.Took.{Took}
+use Rattle.do_base.specs.declared.events.shown.Took.TheVariants as tooks
+use Rattle.do_base.specs.declared.events.shown.Shown.TheVariants as shows
 use Rattle.do_local.specs.declared.item.Item.{Item}
 use Rattle.do_local.specs.declared.invocation.Answer.{Answer}
 use Rattle.do_local.specs.declared.invocation.Answer.TheVariants.{Raised}

@@ -1,7 +1,7 @@
 -- What a run does to its node: the verdict on the top invocation, and the effect of each verdict.
 use Rattle.std.specs.Prelude.{ℕ, Bool, true, false, List, length, nat_lt, if◌then◌else◌, Option, Some, None, option_map, option_and_then}
-use Rattle.do_base.specs.declared.value.Value.{Value}
-use Rattle.do_base.specs.declared.shown.Shown.TheVariants as shows
+use Rattle.do_base.specs.declared.values.value.Value.{Value}
+use Rattle.do_base.specs.declared.events.shown.Shown.TheVariants as shows
 use Rattle.do_local.specs.declared.act.Act.{Act}
 use Rattle.do_local.specs.declared.item.Item.{Item}
 use Rattle.do_local.specs.declared.invocation.Answer.{Answer}

@@ -1,7 +1,7 @@
 -- Worlds, and how a machine opens.
 use Rattle.std.specs.Prelude.{ℕ, Bool, not, ◌==◌, ◌<◌, ◌≤◌, nat_lt, List, [], ◌∷◌, Option, Some, None, map, filter, length, replicate, option_map}
 use Rattle.std.specs.List.{All, IsDistinct}
-use Rattle.do_base.specs.declared.value.Value.TheVariants.{Nil}
+use Rattle.do_base.specs.declared.values.value.Value.TheVariants.{Nil}
 use Rattle.do_class.specs.Class.{Class}
 use Rattle.do_class.specs.Table.{IsTable, slots_of}
 use Rattle.do_class.specs.declared.ids.ClassId.{ClassId}

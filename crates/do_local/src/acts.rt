@@ -28,10 +28,10 @@ fn node_id(number: i64) -> Option<NodeId>
 fn root_rule(node: &Node, port: &Value, into: u8, pc: u32) -> Verdict
     ensures { (r : RunContext) → r.node ≡ node.now → result ≡ root_rule r port.now into pc }
 {
-    let Value::Num(number) = port else {
+    let Some(number) = port.number() else {
         return fails(Exc::TypeFault);
     };
-    let Some(port) = node_id(*number) else {
+    let Some(port) = node_id(number) else {
         return fails(Exc::ConnectionDied);
     };
     if port == node.port {

@@ -1,5 +1,5 @@
 ghost use Rattle.std.specs.Prelude.{◌≡◌, [], IfOk, slice_get};
-ghost use Rattle.do_local.specs.Counter.{act, add_act, go_act, counted_number, sum_act};
+ghost use Rattle.do_local.specs.Counter.{act, add_act, go_act, sum_act};
 
 use crate::act::Act;
 use crate::invocation::Invocation;
@@ -13,17 +13,6 @@ fn copy_at(values: &Values, at: usize) -> Result<Option<Value>, AllocError>
     match values.get(at) {
         Some(value) => Ok(Some(copy_value(value)?)),
         None => Ok(None),
-    }
-}
-
-/// A value as a number, where nil counts as 0.
-fn counted_number(value: &Value) -> Option<i64>
-    ensures { result ≡ counted_number value.now }
-{
-    match value {
-        Value::Nil => Some(0),
-        Value::Num(number) => Some(*number),
-        _ => None,
     }
 }
 
@@ -49,7 +38,7 @@ fn add_numbers(locals: &Values) -> Option<Act>
     ensures { result ≡ add_act 1 locals.now [] }
 {
     match (locals.get(1), locals.get(0)) {
-        (Some(value), Some(number)) => Some(sum_act(counted_number(value), counted_number(number))),
+        (Some(value), Some(number)) => Some(sum_act(value.counted(), number.counted())),
         _ => None,
     }
 }

@@ -5,9 +5,9 @@ ghost use Rattle.do_local.specs.State.{own};
 
 use crate::entry::has_entry;
 use crate::node::{Node, Stored};
-use crate::outcome::{Entry, EntryList, NodeLine, NodeLines, ObjLine, ObjLines, Snapshot};
 use crate::station::Stations;
 use do_base::{NodeId, Oid, Peers};
+use do_trace::{Entry, EntryList, NodeLine, NodeLines, ObjLine, ObjLines, Snapshot};
 use std::alloc::AllocError;
 
 /// The peers towards which a node's end is closed.

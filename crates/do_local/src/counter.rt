@@ -1,33 +1,29 @@
-ghost use Rattle.std.specs.Prelude.{◌≡◌, ◌<◌, ◌≤◌, ◌∷◌, [], ◌++◌, length, IfOk, OnOk, IsNone, codes, false};
+ghost use Rattle.std.specs.Prelude.{◌≡◌, ◌<◌, ◌≤◌, ◌∷◌, [], ◌++◌, length, IfOk, OnOk, IsNone, IsTrue, codes, false};
 ghost use Rattle.do_class.specs.Class.{AreMethods};
 ghost use Rattle.do_class.specs.Table.{class_named};
 ghost use Rattle.do_local.specs.Machine.{opened};
 ghost use Rattle.do_local.specs.CounterWorld.{counter_classes, counter_nodes, number_to_number};
-ghost use Rattle.do_grammar.specs.Names.{colons};
+ghost use Rattle.do_grammar.specs.Names.{is_selector, colons};
 
 use crate::local::Local;
 use crate::world::{NodeList, WorldNode};
 use do_base::{NodeId, Text};
 use do_class::{ClassFault, ClassId, ClassTable, Method, Methods, Slot, Slots};
-use do_sig::{Encoding, Encodings, Scalar, Signature};
+use do_sig::{Scalar, Signature};
 use std::alloc::{AllocError, Global};
 
 /// The signature of a method that takes a number and gives a number.
 fn number_to_number(alloc: Global) -> Result<Signature, AllocError>
     ensures { IfOk result (λ signature. signature ≡ number_to_number) }
 {
-    let mut args = Encodings::new(alloc);
-    args.push(Encoding::simple(Scalar::LongLong))?;
-    Ok(Signature {
-        returned: Encoding::simple(Scalar::LongLong),
-        args,
-    })
+    Signature::simple(alloc, Some(Scalar::LongLong), &[Scalar::LongLong])
 }
 
 /// One method, which takes a number and gives a number.
 #[tactic(auto, using(crate::proofs::CounterWorld::counter_steps))]
 fn one_method(alloc: Global, selector: &[u8]) -> Result<Methods, AllocError>
-    requires { colons selector.now ≡ 1 }
+    requires selects { IsTrue (is_selector selector.now) }
+    requires colons { colons selector.now ≡ 1 }
     ensures value { IfOk result (λ methods. methods ≡ record { selector = selector.now; signature = number_to_number } ∷ []) }
     ensures limits { IfOk result AreMethods }
 {
@@ -52,7 +48,8 @@ fn add_class(
     requires room { length table.old < 256 }
     requires name { IsNone (class_named table.old name.now) }
     requires slots { length slots ≤ 16 }
-    requires selector { colons selector.now ≡ 1 }
+    requires selector { IsTrue (is_selector selector.now) }
+    requires colons { colons selector.now ≡ 1 }
     ensures { OnOk result (table.new ≡ table.old ++ record { name = name.now; slots = slots; methods = record { selector = selector.now; signature = number_to_number } ∷ [] } ∷ []) }
 {
     let name = Text::from_slice(alloc, name)?;
@@ -79,6 +76,7 @@ fn counter_slots(alloc: Global) -> Result<Slots, AllocError>
 
 /// The classes of the counter world: 0 is `Counter` with a slot and `add:`, 1 is `Client` with `go:`.
 /// Its one error is want of memory.
+#[tactic(auto, using(crate::proofs::CounterWorld::counter_steps))]
 pub fn counter_table(alloc: Global) -> Result<ClassTable, AllocError>
     ensures { IfOk result (λ table. table ≡ counter_classes) }
 {

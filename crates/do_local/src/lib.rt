@@ -24,7 +24,6 @@ mod naming;
 mod node;
 mod opening;
 mod order;
-mod outcome;
 mod performing;
 mod post;
 mod receipt;
@@ -39,8 +38,4 @@ mod world;
 
 pub use counter::{counter_machine, counter_nodes, counter_table};
 pub use local::Local;
-pub use outcome::{Entry, EntryList, NodeLine, NodeLines, ObjLine, ObjLines, Outcome, Snapshot};
 pub use world::{NodeList, WorldNode};
-
-#[cfg(test)]
-mod tests;

@@ -10,12 +10,12 @@ ghost use Rattle.do_local.specs.World.{IsWorld};
 
 use crate::check::list;
 use crate::opening::stations_of;
-use crate::outcome::{Outcome, Snapshot};
 use crate::station::Stations;
 use crate::stepping::{run, start, take};
 use crate::world::{NodeList, by_port};
 use do_base::{Event, ShownList};
 use do_class::ClassTable;
+use do_trace::{Outcome, Snapshot};
 use std::alloc::{AllocError, Global};
 use std::marker::Model;
 
@@ -29,7 +29,7 @@ pub struct Local {
 
 impl Model for Local {
     ghost use Rattle.std.specs.Coded.{codes};
-    ghost use Rattle.do_base.specs.contracts.value.Value as value;
+    ghost use Rattle.do_base.specs.contracts.values.value.Value as value;
     ghost use Rattle.do_sig.specs.contracts.value_type.ValueType as value_type;
     ghost use Rattle.do_local.specs.Machine.{Machine};
     ghost use Rattle.do_local.specs.Stations.{IsMachine, state_of};
@@ -119,7 +119,7 @@ fn step(
         Event::Run { node } => run(table, stations, *node),
         Event::Take { node, from } => take(table, stations, *node, *from),
         Event::Check => Ok(Some(ShownList::new(stations.allocator()))),
-        Event::Close { .. } | Event::Lose { .. } => Ok(None),
+        Event::Close { .. } | Event::Lose { .. } | Event::Timeout { .. } => Ok(None),
     }
 }
 

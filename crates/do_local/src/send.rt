@@ -51,16 +51,15 @@ fn calls(object: Oid, method: MethodId, send: SendAct) -> Verdict
 pub fn send_rule(table: &ClassTable, stations: &Stations, node: &Node, send: SendAct) -> Verdict
     ensures { (top : Invocation) (below : List Invocation) → result ≡ send_rule (run_context (context_of table.now stations.now node.now) top below) send }
 {
-    let object = match &send.target {
-        Value::Nil => {
-            return Verdict::Goes {
-                into: send.into,
-                value: Value::Nil,
-                pc: send.pc,
-            };
-        }
-        Value::Obj(object) => *object,
-        _ => return fails(Exc::TypeFault),
+    if send.target.is_nil() {
+        return Verdict::Goes {
+            into: send.into,
+            value: Value::Nil,
+            pc: send.pc,
+        };
+    }
+    let Some(object) = send.target.object() else {
+        return fails(Exc::TypeFault);
     };
     if !node.is_open(&object.node) {
         return fails(Exc::ConnectionDied);

@@ -1,4 +1,4 @@
-pub mod Faults
-pub mod Runs
-pub mod Written
-pub mod Rest
+pub mod FaultIsAnswered
+pub mod RunsStepByStep
+pub mod SentIsPrefix
+pub mod BlocksToCome

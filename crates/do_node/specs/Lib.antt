@@ -1,5 +1,5 @@
 pub mod Status
 pub mod Words
 pub mod Reading
-pub mod Replayed
-pub mod Run
+pub mod Replaying
+pub mod Call

@@ -1,9 +1,10 @@
 -- The schedule that a run reads.
-use Rattle.std.specs.Prelude.{◌≡◌, ℕ, ◌+◌, ◌<◌, ◌≤◌, ◌⊎◌, List, length, Option, Some, None, Result, Ok, Err}
+use Rattle.std.specs.Prelude.{◌≡◌, ℕ, ◌+◌, ◌<◌, ◌≤◌, ◌⊎◌, List, length, Option, Some, None, Result}
+use Rattle.std.specs.Prelude.{Ok, Err}
 use Rattle.std.specs.Option.{ForSome, IsSomeAnd}
-use Rattle.do_base.specs.Causes.{Rose}
-use Rattle.do_base.specs.Files.{file_named}
-use Rattle.do_base.specs.declared.shelf.NamedFile.{NamedFile}
+use Rattle.do_base.specs.outside.Causes.{Rose}
+use Rattle.do_base.specs.outside.Files.{file_named}
+use Rattle.do_base.specs.declared.outside.shelf.NamedFile.{NamedFile}
 use Rattle.do_sched.specs.declared.line.Line.{Line}
 use Rattle.do_sched.specs.Schedule.{IsSchedule, IsFaultAt}
 use Rattle.do_node.specs.declared.reading.ReadEnd.{ReadEnd}
@@ -24,7 +25,8 @@ pub record Has (told : Option (List NamedFile)) (name bytes : List ℕ) : Type 0
   pub named : file_named name files ≡ Some bytes
 
 -- a schedule of these lines was read, from the file of that name where the shelf tells its files
-pub record IsRead (told : Option (List NamedFile)) (name : List ℕ) (lines : List Line) : Type 0 where
+pub record IsRead (told : Option (List NamedFile)) (name : List ℕ)
+    (lines : List Line) : Type 0 where
   pub bytes : List ℕ
   pub named : MayHave told name bytes
   pub short : length bytes ≤ most_bytes
@@ -41,18 +43,22 @@ pub record IsFaulty (told : Option (List NamedFile)) (name : List ℕ) (line : �
   pub short : length bytes ≤ most_bytes
   pub fault : IsFaultAt bytes line
 
--- the file of that name is longer than may be, where the shelf tells its files, and one byte more was read
+-- the file of that name is longer than may be, where the shelf tells its files, and one byte more
+-- was read
 pub record IsLong (told : Option (List NamedFile)) (name : List ℕ) (read limit : ℕ) : Type 0 where
   pub at_limit : limit ≡ most_bytes
   pub past_limit : read ≡ limit + 1
-  pub longer : ForSome told (λ files. IsSomeAnd (file_named name files) (λ bytes. limit < length bytes))
+  pub longer : ForSome told
+      (λ files. IsSomeAnd (file_named name files) (λ bytes. limit < length bytes))
 
 -- the shelf's count of faults rose, or it tells its files and has none of that name
 abbrev pub IsUnread : Option (List NamedFile) → ℕ → ℕ → List ℕ → Type 0
-IsUnread told before now name = Rose before now ⊎ IsSomeAnd told (λ files. file_named name files ≡ None)
+IsUnread told before now name =
+    Rose before now ⊎ IsSomeAnd told (λ files. file_named name files ≡ None)
 
--- why reading answers so. Want of memory has no cause here
-abbrev pub ReadCause : Option (List NamedFile) → ℕ → ℕ → List ℕ → Result (List Line) ReadEnd → Type 0
+-- why reading answers so; that memory ran out has no cause here
+abbrev pub ReadCause : Option (List NamedFile) → ℕ → ℕ → List ℕ → Result (List Line) ReadEnd
+    → Type 0
 ReadCause told before now name (Ok lines) = IsRead told name lines
 ReadCause told before now name (Err Failed) = IsUnread told before now name
 ReadCause told before now name (Err (TooLong read limit)) = IsLong told name read limit

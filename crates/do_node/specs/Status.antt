@@ -1,7 +1,8 @@
 -- What the program tells of each status.
 use Rattle.std.specs.Prelude.{ℕ, List, ◌++◌, codes, decimal}
 use Rattle.do_node.specs.declared.status.Status.{Status}
-use Rattle.do_node.specs.declared.status.Status.TheVariants.{Ok, Usage, ReadFault, TooLong, BadSchedule, WriteFault, Memory}
+use Rattle.do_node.specs.declared.status.Status.TheVariants.{Ok, Usage, ReadFault, TooLong}
+use Rattle.do_node.specs.declared.status.Status.TheVariants.{BadSchedule, WriteFault, Memory}
 
 -- the number that the program ends with
 abbrev pub exit_number : Status → ℕ

@@ -1,5 +1,7 @@
--- The words of the command line, and the one form that they have so far: `replay :counter SCHEDULE`.
-use Rattle.std.specs.Prelude.{ℕ, suc, nat_le, ◌==◌, ◌&&◌, not, if◌then◌else◌, Bool, false, List, [], ◌∷◌, length, codes, Option, Some, None}
+-- The words of the command line, and the one form that they have so far: `replay :counter
+-- SCHEDULE`.
+use Rattle.std.specs.Prelude.{ℕ, suc, nat_le, ◌==◌, ◌&&◌, not, if◌then◌else◌, Bool, true, false}
+use Rattle.std.specs.Prelude.{List, [], ◌∷◌, length, codes, Option, None, slice_get}
 use Rattle.std.specs.Str.{bytes_eq}
 
 -- a file's name: 1 to 4,096 bytes, of which the first is neither a dash nor a colon
@@ -20,11 +22,17 @@ abbrev pub going : List (List ℕ → Bool) → List (List ℕ) → ℕ
 going (test ∷ tests) (word ∷ words) = if test word then suc (going tests words) else 0
 going tests words = 0
 
--- the first word, from 1, at which no form goes on; a missing one stands behind the last, a surplus one behind the form's
+-- the first word, from 1, at which no form goes on; a missing one stands behind the last, a surplus
+-- one behind the form's
 abbrev pub stuck_at : List (List ℕ) → ℕ
 stuck_at words = suc (going replay_form words)
 
--- the name of the schedule, where the words are of the form
+-- as many words as a form has, and each passes the test at its place
+abbrev pub follows : List (List ℕ → Bool) → List (List ℕ) → Bool
+follows [] [] = true
+follows (test ∷ tests) (word ∷ words) = if test word then follows tests words else false
+follows tests words = false
+
+-- the name of the schedule: the third word, if the words are of the form
 abbrev pub schedule_named : List (List ℕ) → Option (List ℕ)
-schedule_named (form ∷ world ∷ name ∷ []) = if bytes_eq form (codes "replay") && names_world world && names_file name then Some name else None
-schedule_named words = None
+schedule_named words = if follows replay_form words then slice_get words 2 else None

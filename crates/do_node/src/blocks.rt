@@ -9,13 +9,15 @@ use crate::stepping::step_line;
 use do_base::Text;
 use do_class::ClassTable;
 use do_lines::{push_check, push_head, push_outcome, stepped_node};
-use do_local::{Local, Snapshot};
+use do_local::Local;
 use do_sched::Line;
+use do_trace::Snapshot;
 use std::alloc::{AllocError, Global};
 
 /// What a line lists: all that a check shows, or nothing.
 fn listed_at(local: &Local, line: &Line) -> Result<Option<Snapshot>, AllocError>
-    ensures { IfOk result (λ listed. listed ≡ (block (laws_of local.now.table) local.now.state line.now).listed) }
+    ensures { IfOk result (λ listed. listed
+        ≡ (block (laws_of local.now.table) local.now.state line.now).listed) }
 {
     match line {
         Line::Check => Ok(Some(local.snapshot()?)),
@@ -39,8 +41,8 @@ fn push_listed(
 
 /// Does what a line says, and adds its block.
 ///
-/// The line is one that may stand in a schedule. Where memory ran out, a part of the block may have
-/// been added.
+/// The line is one that may stand in a schedule. If memory runs out, a part of the block may
+/// have been added.
 pub fn push_block(
     alloc: Global,
     local: &mut Local,
@@ -49,8 +51,11 @@ pub fn push_block(
 ) -> Result<(), AllocError>
     requires good { IsLine line }
     requires room { local.old.events + steps line ≤ 2 ^ 40 }
-    ensures text { OnOk result (text.new ≡ text.old ++ block_lines local.old.table (block (laws_of local.old.table) local.old.state line)) }
-    ensures state { OnOk result (local.new.state ≡ (line_step (laws_of local.old.table) local.old.state line).state) }
+    ensures text { OnOk result
+        (text.new ≡ text.old ++ block_lines local.old.table
+        (block (laws_of local.old.table) local.old.state line)) }
+    ensures state { OnOk result
+        (local.new.state ≡ (line_step (laws_of local.old.table) local.old.state line).state) }
     ensures table { OnOk result (local.new.table ≡ local.old.table) }
     ensures counted { OnOk result (local.new.events ≡ local.old.events + steps line) }
 {

@@ -1,10 +1,10 @@
 ghost use Rattle.std.specs.Prelude.{◌≡◌, ◌+◌, ◌≤◌, ◌^◌, OnOk, IsErrOf};
 ghost use Rattle.std.specs.List.{AllByRecursion};
-ghost use Rattle.do_base.specs.Bytes.{with_more, HasWritten};
-ghost use Rattle.do_base.specs.Causes.{Rose};
+ghost use Rattle.do_base.specs.outside.Bytes.{with_more, HasWritten};
+ghost use Rattle.do_base.specs.outside.Causes.{Rose};
 ghost use Rattle.do_sched.specs.Good.{IsLine};
 ghost use Rattle.do_sched.specs.Spelling.{steps_of};
-ghost use Rattle.do_node.specs.Replayed.{transcript_from, counter_transcript};
+ghost use Rattle.do_node.specs.Replaying.{transcript_from, counter_transcript};
 
 use crate::blocks::push_block;
 use crate::output::{flush, flush_if_long};
@@ -23,8 +23,10 @@ pub fn write_transcript<K: Sink>(
 ) -> Result<(), PutFail>
     requires good { AllByRecursion IsLine lines }
     requires room { local.old.events + steps_of lines ≤ 2 ^ 40 }
-    ensures ok { OnOk result (K.written out.new ≡ with_more (K.written out.old) (transcript_from local.old lines)) }
-    ensures prefix { HasWritten (K.written out.old) (K.written out.new) (transcript_from local.old lines) }
+    ensures ok { OnOk result
+        (K.written out.new ≡ with_more (K.written out.old) (transcript_from local.old lines)) }
+    ensures prefix { HasWritten (K.written out.old) (K.written out.new)
+        (transcript_from local.old lines) }
     ensures later { K.faults out.old ≤ K.faults out.new }
     ensures failed { IsErrOf result PutFail.Failed → Rose (K.faults out.old) (K.faults out.new) }
 {
@@ -38,13 +40,14 @@ pub fn write_transcript<K: Sink>(
     Ok(())
 }
 
-/// Replays the lines over the counter world, and writes the transcript. They are lines that may stand
-/// in a schedule.
-#[tactic(auto, unfolding(crate::specs::Replayed::counter_transcript))]
+/// Replays the lines over the counter world, and writes the transcript. They are lines that may
+/// stand in a schedule.
+#[tactic(auto, unfolding(crate::specs::Replaying::counter_transcript))]
 pub fn replay_counter<K: Sink>(alloc: Global, lines: Lines, out: &mut K) -> Result<(), PutFail>
     requires good { AllByRecursion IsLine lines }
     requires room { steps_of lines ≤ 2 ^ 40 }
-    ensures ok { OnOk result (K.written out.new ≡ with_more (K.written out.old) (counter_transcript lines)) }
+    ensures ok { OnOk result
+        (K.written out.new ≡ with_more (K.written out.old) (counter_transcript lines)) }
     ensures prefix { HasWritten (K.written out.old) (K.written out.new) (counter_transcript lines) }
     ensures later { K.faults out.old ≤ K.faults out.new }
     ensures failed { IsErrOf result PutFail.Failed → Rose (K.faults out.old) (K.faults out.new) }

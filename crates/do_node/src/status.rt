@@ -12,7 +12,7 @@ pub enum Status {
     Usage(usize),
     /// A file could not be read.
     ReadFault,
-    /// A file is longer than its limit. So many of its bytes were read, one more than the limit.
+    /// A file is longer than its limit. `read` bytes were read, one more than the limit.
     TooLong { read: u64, limit: u64 },
     /// The schedule is faulty at this line, counted from 1.
     BadSchedule(u64),

@@ -4,13 +4,19 @@ ghost use Rattle.do_local.specs.Laws.{laws_of};
 ghost use Rattle.do_local.specs.Blocks.{line_step, runs};
 
 use do_base::{Event, Items, NodeId};
-use do_local::{Local, Outcome};
+use do_local::Local;
 use do_sched::Line;
+use do_trace::Outcome;
 use std::alloc::{AllocError, Global};
 
 /// Adds what a further step came to: enabled where either was, and what both showed.
 fn join(all: &mut Outcome, outcome: Outcome) -> Result<(), AllocError>
-    ensures { OnOk result (all.new ≡ record { enabled = all.old.enabled || outcome.enabled; shown = all.old.shown ++ outcome.shown }) }
+    ensures { OnOk result (all.new
+        ≡ record {
+          enabled = all.old.enabled || outcome.enabled;
+          shown = all.old.shown
+              ++ outcome.shown;
+        }) }
 {
     let Outcome { enabled, shown } = outcome;
     all.shown.append(shown)?;
@@ -20,7 +26,7 @@ fn join(all: &mut Outcome, outcome: Outcome) -> Result<(), AllocError>
     Ok(())
 }
 
-/// So many single steps of a node's top invocation: what they showed, one after another, enabled
+/// `count` steps of a node's top invocation: what they showed, one after another, enabled
 /// where one of them was.
 fn run_steps(
     alloc: Global,
@@ -29,8 +35,10 @@ fn run_steps(
     count: u64,
 ) -> Result<Outcome, AllocError>
     requires { local.old.events + count ≤ 2 ^ 40 }
-    ensures outcome { IfOk result (λ outcome. outcome ≡ (runs count (laws_of local.old.table) node local.old.state).outcome) }
-    ensures state { OnOk result (local.new.state ≡ (runs count (laws_of local.old.table) node local.old.state).state) }
+    ensures outcome { IfOk result
+        (λ outcome. outcome ≡ (runs count (laws_of local.old.table) node local.old.state).outcome) }
+    ensures state { OnOk result
+        (local.new.state ≡ (runs count (laws_of local.old.table) node local.old.state).state) }
     ensures table { OnOk result (local.new.table ≡ local.old.table) }
     ensures counted { OnOk result (local.new.events ≡ local.old.events + count) }
 {
@@ -49,8 +57,10 @@ fn run_steps(
 /// What a line does: one event, or several single steps of a node.
 pub fn step_line(alloc: Global, local: &mut Local, line: Line) -> Result<Outcome, AllocError>
     requires { local.old.events + steps line ≤ 2 ^ 40 }
-    ensures outcome { IfOk result (λ outcome. outcome ≡ (line_step (laws_of local.old.table) local.old.state line).outcome) }
-    ensures state { OnOk result (local.new.state ≡ (line_step (laws_of local.old.table) local.old.state line).state) }
+    ensures outcome { IfOk result
+        (λ outcome. outcome ≡ (line_step (laws_of local.old.table) local.old.state line).outcome) }
+    ensures state { OnOk result
+        (local.new.state ≡ (line_step (laws_of local.old.table) local.old.state line).state) }
     ensures table { OnOk result (local.new.table ≡ local.old.table) }
     ensures counted { OnOk result (local.new.events ≡ local.old.events + steps line) }
 {

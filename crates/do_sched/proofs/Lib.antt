@@ -1,6 +1,6 @@
-pub mod Values
-pub mod ValueTurns
-pub mod LineText
-pub mod Opening
-pub mod Feeds
-pub mod Once
+pub mod ValuesExact
+pub mod ValuesLoop
+pub mod LineExact
+pub mod LinesSoFar
+pub mod LineWithoutFeed
+pub mod AnswerUnique

@@ -2,8 +2,8 @@
 use Rattle.std.specs.Prelude.{ℤ, ◌≡◌, ℕ, ◌<◌, ◌≤◌, ◌^◌, List as Listed, length, IsTrue}
 use Rattle.std.specs.List.{AllByRecursion}
 use Rattle.std.specs.Int.Signed.{mag}
-use Rattle.do_base.specs.declared.value.Value.{Value}
-use Rattle.do_base.specs.declared.value.Value.TheVariants.{Num}
+use Rattle.do_base.specs.declared.values.value.Value.{Value}
+use Rattle.do_base.specs.declared.values.value.Value.TheVariants.{Num}
 use Rattle.do_grammar.specs.Names.{is_selector, colons}
 use Rattle.do_sched.specs.declared.line.Line.{Line}
 use Rattle.do_sched.specs.declared.line.Line.TheVariants.{Start, Run, Take, Check}

@@ -1,5 +1,5 @@
 pub mod Spelling
 pub mod Good
 pub mod Schedule
-pub mod Told
+pub mod Answers
 pub mod Reading

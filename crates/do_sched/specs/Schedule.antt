@@ -1,5 +1,6 @@
 -- Which bytes are a schedule, and which line of other bytes is at fault.
-use Rattle.std.specs.Prelude.{true, ◌≡◌, ◌≢◌, ℕ, ◌+◌, ◌<◌, ◌≤◌, List as Listed, [], ◌∷◌, ◌++◌, length, map, ◌⊎◌}
+use Rattle.std.specs.Prelude.{true, ◌≡◌, ◌≢◌, ℕ, ◌+◌, ◌<◌, ◌≤◌, List as Listed, [], ◌∷◌, ◌++◌}
+use Rattle.std.specs.Prelude.{length, map, ◌⊎◌}
 use Rattle.std.specs.List.{AllByRecursion}
 use Rattle.do_grammar.specs.Lines.{cut}
 use Rattle.do_grammar.specs.Lines as text
@@ -36,13 +37,18 @@ pub record IsNoLine (t : text.Line) : Type 0 where
 
 -- line n may not stand where it stands: as the first, between the first and `end`, or behind `end`
 pub data IsBadLine (bytes : Listed ℕ) : ℕ → Type 0 where
-  at_first : (t : text.Line) (rest : Listed text.Line) → cut bytes ≡ t ∷ rest → t ≢ whole header → IsBadLine bytes 1
-  between : (lines : Listed Line) (t : text.Line) (rest : Listed text.Line) → Opens bytes lines (t ∷ rest) → IsNoLine t → IsBadLine bytes (length lines + 2)
-  behind : (lines : Listed Line) (t : text.Line) (rest : Listed text.Line) → Opens bytes lines (whole footer ∷ t ∷ rest) → IsBadLine bytes (length lines + 3)
+  at_first : (t : text.Line) (rest : Listed text.Line) → cut bytes ≡ t ∷ rest → t ≢ whole header
+      → IsBadLine bytes 1
+  between : (lines : Listed Line) (t : text.Line) (rest : Listed text.Line)
+      → Opens bytes lines (t ∷ rest) → IsNoLine t → IsBadLine bytes (length lines + 2)
+  behind : (lines : Listed Line) (t : text.Line) (rest : Listed text.Line)
+      → Opens bytes lines (whole footer ∷ t ∷ rest) → IsBadLine bytes (length lines + 3)
 
 -- line n is a good one with which the steps are too many
 pub data IsTooMany (bytes : Listed ℕ) : ℕ → Type 0 where
-  over : (lines : Listed Line) (l : Line) (rest : Listed text.Line) → Opens bytes lines (whole (line_spelling l) ∷ rest) → IsLine l → most_steps < steps_of lines + steps l → IsTooMany bytes (length lines + 2)
+  over : (lines : Listed Line) (l : Line) (rest : Listed text.Line)
+      → Opens bytes lines (whole (line_spelling l) ∷ rest) → IsLine l
+      → most_steps < steps_of lines + steps l → IsTooMany bytes (length lines + 2)
 
 -- the bytes end behind the first n lines less one, which are good, and without `end`
 pub data IsEndMissing (bytes : Listed ℕ) : ℕ → Type 0 where

@@ -2,8 +2,8 @@
 use Rattle.std.specs.Prelude.{ℕ, List as Listed, [], ◌∷◌, ◌++◌, sum_by, codes}
 use Rattle.std.specs.List.{flat_map}
 use Rattle.std.specs.Fmt.{decimal, signed_decimal}
-use Rattle.do_base.specs.declared.value.Value.{Value, out-Value}
-use Rattle.do_base.specs.declared.value.Value.TheOpen.{Value-F}
+use Rattle.do_base.specs.declared.values.value.Value.{Value, out-Value}
+use Rattle.do_base.specs.declared.values.value.Value.TheOpen.{Value-F}
 use Rattle.do_sched.specs.declared.line.Line.{Line}
 use Rattle.do_sched.specs.declared.line.Line.TheVariants.{Start, Run, Take, Check}
 
@@ -17,12 +17,13 @@ abbrev pub plain_spelling : Value → Listed ℕ
 plain_spelling v = plain_of (out-Value v)
 
 -- a space, and a plain value
-abbrev pub spaced : Value → Listed ℕ
-spaced v = 32 ∷ plain_spelling v
+abbrev pub spaced_value : Value → Listed ℕ
+spaced_value v = 32 ∷ plain_spelling v
 
 -- a line that may stand in a schedule, without its line feed
 abbrev pub line_spelling : Line → Listed ℕ
-line_spelling (Start node selector values) = codes "start " ++ decimal node ++ 32 ∷ (selector ++ flat_map spaced values)
+line_spelling (Start node selector values) =
+    codes "start " ++ decimal node ++ 32 ∷ (selector ++ flat_map spaced_value values)
 line_spelling (Run node count) = codes "run " ++ decimal node ++ 32 ∷ decimal count
 line_spelling (Take node from) = codes "take " ++ decimal node ++ 32 ∷ decimal from
 line_spelling Check = codes "check"

@@ -25,6 +25,7 @@ pub enum Line {
 
 /// The lines of a schedule between its first line and `end`, in order.
 ///
-/// The list itself keeps no limit; those of a schedule have 1,000,000 single steps at most. The form
+/// The list itself keeps no limit; those of a schedule have 1,000,000 single steps at most. The
+/// form
 /// is this project's own.
 pub type Lines = Items<Line>;

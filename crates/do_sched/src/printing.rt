@@ -1,7 +1,7 @@
 ghost use Rattle.std.specs.Prelude.{◌≡◌, ◌++◌, ◌∷◌, OnOk, IfOk, map, take};
 ghost use Rattle.std.specs.List.{flat_map, AllByRecursion};
 ghost use Rattle.do_sched.specs.Good.{IsLine, IsPlain};
-ghost use Rattle.do_sched.specs.Spelling.{line_spelling, plain_spelling, spaced};
+ghost use Rattle.do_sched.specs.Spelling.{line_spelling, plain_spelling, spaced_value};
 
 use crate::line::Line;
 use do_base::{Text, Value};
@@ -58,7 +58,7 @@ pub fn push_line(out: &mut Text, line: &Line) -> Result<(), AllocError>
 
 fn push_values(out: &mut Text, values: &[Value]) -> Result<(), AllocError>
     requires { AllByRecursion IsPlain values.now }
-    ensures { OnOk result (out.new ≡ out.old ++ flat_map spaced values.now) }
+    ensures { OnOk result (out.new ≡ out.old ++ flat_map spaced_value values.now) }
 {
     for value in values {
         out.push(b' ')?;

@@ -4,7 +4,7 @@ ghost use Rattle.do_sched.specs.declared.fault.SchedFault as fault;
 ghost use Rattle.do_sched.specs.Spelling.{steps};
 ghost use Rattle.do_sched.specs.Schedule.{IsSchedule, IsFault};
 ghost use Rattle.do_sched.specs.Reading.{is_whole, line_in};
-ghost use Rattle.do_sched.specs.Told.{Tells, AnswersWith};
+ghost use Rattle.do_sched.specs.Answers.{TellsSchedule, AnswersWith};
 
 use crate::fault::SchedFault;
 use crate::line::{Line, Lines};
@@ -22,15 +22,17 @@ const MOST_STEPS: u64 = 1_000_000;
 /// no second way to write it. Where the bytes are no schedule, the first line at fault is told; see
 /// `SchedFault`. The form is this project's own.
 pub fn read_schedule(alloc: Global, bytes: &[u8]) -> Result<Lines, SchedFault>
-    ensures exact { Tells bytes.now result }
-    ensures accepts { (lines : List line.Line) → IsSchedule bytes.now lines → AnswersWith (Ok lines) result }
-    ensures refuses { (fault : fault.SchedFault) → IsFault bytes.now fault → AnswersWith (Err fault) result }
+    ensures exact { TellsSchedule bytes.now result }
+    ensures accepts { (lines : List line.Line) → IsSchedule bytes.now lines
+        → AnswersWith (Ok lines) result }
+    ensures refuses { (fault : fault.SchedFault) → IsFault bytes.now fault
+        → AnswersWith (Err fault) result }
 {
     lines_of(alloc, bytes)
 }
 
 fn lines_of(alloc: Global, bytes: &[u8]) -> Result<Lines, SchedFault>
-    ensures { Tells bytes.now result }
+    ensures { TellsSchedule bytes.now result }
 {
     let Some((text, fed, behind)) = line_of(bytes) else {
         return Err(SchedFault::NoEnd(1));

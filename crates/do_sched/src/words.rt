@@ -1,7 +1,8 @@
 ghost use Rattle.std.specs.Prelude.{◌≡◌, ◌≤◌, IfOk, IfSome, length};
 ghost use Rattle.do_grammar.specs.Dec.{dec_in};
 ghost use Rattle.do_grammar.specs.Words.{word, part, text_view};
-ghost use Rattle.do_sched.specs.Reading.{pair_at, values_at, start_at, run_at, take_at, line_at};
+ghost use Rattle.do_sched.specs.Reading.{pair_at, values_at, start_line_at, run_line_at};
+ghost use Rattle.do_sched.specs.Reading.{take_line_at, line_at};
 
 use crate::line::Line;
 use do_base::{Items, NodeId, Text, Value, Values};
@@ -9,7 +10,7 @@ use do_grammar::{colons_in, dec_of, int_of, is_selector, is_text, part_of, split
 use std::alloc::{AllocError, Global};
 
 /// The bytes before the first space, and those after it; none where there is no space.
-#[tactic(auto, using(do_grammar::proofs::WordCuts::word_found))]
+#[tactic(auto, using(do_grammar::proofs::texts::WordExact::word_found))]
 fn word_in(bytes: &[u8]) -> Option<(&[u8], &[u8])>
     ensures { text_view result ≡ word 32 bytes.now }
 {
@@ -17,7 +18,7 @@ fn word_in(bytes: &[u8]) -> Option<(&[u8], &[u8])>
 }
 
 /// The bytes before the first space, and those from it on; where there is no space all and none.
-#[tactic(auto, using(do_grammar::proofs::WordCuts::part_found))]
+#[tactic(auto, using(do_grammar::proofs::texts::WordExact::part_found))]
 fn part_in(bytes: &[u8]) -> (&[u8], &[u8])
     ensures before { result.0.now ≡ (part 32 bytes.now).0 }
     ensures after { result.1.now ≡ (part 32 bytes.now).1 }
@@ -33,7 +34,7 @@ fn node_of(digits: &[u8]) -> Option<NodeId>
 }
 
 /// So many numbers, a space before each; none where the bytes are no such numbers.
-#[tactic(auto, using(crate::proofs::ValueTurns::turns))]
+#[tactic(auto, using(crate::proofs::ValuesLoop::values_facts))]
 fn values_of(alloc: Global, bytes: &[u8], count: usize) -> Result<Option<Values>, AllocError>
     ensures { IfOk result (λ values. values ≡ values_at count bytes.now) }
 {
@@ -61,7 +62,7 @@ fn values_of(alloc: Global, bytes: &[u8], count: usize) -> Result<Option<Values>
 
 /// What stands behind `start `.
 fn start_of(alloc: Global, bytes: &[u8]) -> Result<Option<Line>, AllocError>
-    ensures { IfOk result (λ line. line ≡ start_at bytes.now) }
+    ensures { IfOk result (λ line. line ≡ start_line_at bytes.now) }
 {
     let Some((digits, called)) = word_in(bytes) else {
         return Ok(None);
@@ -86,7 +87,7 @@ fn start_of(alloc: Global, bytes: &[u8]) -> Result<Option<Line>, AllocError>
 
 /// What stands behind `run `.
 fn run_of(bytes: &[u8]) -> Option<Line>
-    ensures { result ≡ run_at bytes.now }
+    ensures { result ≡ run_line_at bytes.now }
 {
     let (digits, count) = word_in(bytes)?;
     let node = node_of(digits)?;
@@ -96,7 +97,7 @@ fn run_of(bytes: &[u8]) -> Option<Line>
 
 /// What stands behind `take `.
 fn take_of(bytes: &[u8]) -> Option<Line>
-    ensures { result ≡ take_at bytes.now }
+    ensures { result ≡ take_line_at bytes.now }
 {
     let (digits, from) = word_in(bytes)?;
     let node = node_of(digits)?;

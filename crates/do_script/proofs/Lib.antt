@@ -1,4 +1,5 @@
 pub mod FirstWord
-pub mod Found
-pub mod Reached
+pub mod LabelsSoFar
+pub mod LinesRead
 pub mod Texts
+pub mod FirstFault

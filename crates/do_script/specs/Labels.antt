@@ -1,5 +1,6 @@
 -- The labels that the code has found.
-use Rattle.std.specs.Prelude.{◌≡◌, ℕ, ◌≤◌, List, length, Option, Some, None, Result, IfOk, if◌then◌else◌}
+use Rattle.std.specs.Prelude.{◌≡◌, ℕ, ◌≤◌, List, length, Option, Some, None, Result, IfOk}
+use Rattle.std.specs.Prelude.{if◌then◌else◌}
 use Rattle.std.specs.Str.{bytes_eq}
 use Rattle.std.specs.BTreeMap.{get_by}
 use Rattle.std.specs.Cmp.Lexicographic.{slice_cmp}
@@ -22,20 +23,25 @@ label_in found name = get_by (λ k. slice_cmp nat_cmp name k.now) found.labels
 
 -- the names that the code reads operands by
 abbrev pub scope_in : Vocabulary → Scope
-scope_in names = record { slots = names.slots.now; classes = names.classes.now; label = label_in names.labels }
+scope_in names =
+    record { slots = names.slots.now; classes = names.classes.now; label = label_in names.labels }
 
 -- no label stands behind the end
 abbrev pub PlacesWithin : Labels → Type 0
-PlacesWithin found = (name : List ℕ) (l : Label) → label_in found name ≡ Some l → l.place ≤ found.instructions
+PlacesWithin found = (name : List ℕ) (l : Label) → label_in found name ≡ Some l
+    → l.place ≤ found.instructions
 
 -- the instruction names only what is there
 abbrev pub IsInScope : Vocabulary → Instruction → Type 0
-IsInScope names i = IsWithin (length names.slots.now) (length names.classes.now) names.labels.instructions i
+IsInScope names i =
+    IsWithin (length names.slots.now) (length names.classes.now) names.labels.instructions i
 
--- unless memory ran out, what was read is what the form makes of the words, and names only what is there
+-- unless memory ran out, what was read is what the form makes of the words, and names only what is
+-- there
 abbrev pub IsReading : Vocabulary → Form → List ℕ → Result Instruction LineFault → Type 0
 IsReading names form operands result =
-    Reads (λ i. i) result (instruction (scope_in names) form (words operands)) × IfOk result (IsInScope names)
+    Reads (λ i. i) result (instruction (scope_in names) form (words operands))
+    × IfOk result (IsInScope names)
 
 -- a label, for its name
 abbrev pub if_named : List ℕ → Label → List ℕ → Option Label

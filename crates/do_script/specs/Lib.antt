@@ -1,10 +1,10 @@
 pub mod Listing
-pub mod Table
+pub mod InstructionNames
 pub mod Fault
 pub mod Quoted
 pub mod Words
 pub mod Operands
 pub mod Program
-pub mod Said
+pub mod StatementOf
 pub mod Labels
-pub mod Assembled
+pub mod Assembly

@@ -1,9 +1,17 @@
 -- Code: its instructions, and what makes it run without a test.
 use Rattle.std.specs.Prelude.{◌≡◌, true, ℕ, ◌<◌, ◌≤◌, List, length}
 use Rattle.std.specs.List.{All}
+use Rattle.do_base.specs.values.Texts.{longest_text}
 use Rattle.do_grammar.specs.Names.{is_selector, colons}
 use Rattle.do_script.specs.declared.instruction.Instruction.{Instruction}
-use Rattle.do_script.specs.declared.instruction.Instruction.TheVariants.{Nil, Number, Text, Own, Move, Get, Set, Add, Subtract, Multiply, Less, Same, Jump, IfNot, List as NewList, Push, Item, Count, New, Send, Root, Vend, Say, Return, Raise, Catch, EndCatch}
+use Rattle.do_script.specs.declared.instruction.Instruction.TheVariants.{Nil, Number, Text, Own}
+use Rattle.do_script.specs.declared.instruction.Instruction.TheVariants.{Move, Get, Set, Add}
+use Rattle.do_script.specs.declared.instruction.Instruction.TheVariants.{Subtract, Multiply, Less}
+use Rattle.do_script.specs.declared.instruction.Instruction.TheVariants.{Same, Jump, IfNot}
+use Rattle.do_script.specs.declared.instruction.Instruction.TheVariants.{List as NewList, Push}
+use Rattle.do_script.specs.declared.instruction.Instruction.TheVariants.{Item, Count, New, Send}
+use Rattle.do_script.specs.declared.instruction.Instruction.TheVariants.{Root, Vend, Say, Return}
+use Rattle.do_script.specs.declared.instruction.Instruction.TheVariants.{Raise, Catch, EndCatch}
 
 -- the instructions of a method, and how many slots its class has and how many classes there are
 pub record Listing : Type 0 where
@@ -21,11 +29,12 @@ pub record IsMessage (selector from : List ℕ) : Type 0 where
   pub count : length from ≡ colons selector
   pub locals : All IsLocal from
 
--- the locals, slots, classes and places that an instruction names are there, and its text is within the limit, for so many slots, classes and instructions
+-- the locals, slots, classes and places that an instruction names are there, and its text is within
+-- the limit, for so many slots, classes and instructions
 abbrev pub IsWithin : ℕ → ℕ → ℕ → Instruction → Type 0
 IsWithin slots classes len (Nil d) = IsLocal d
 IsWithin slots classes len (Number d z) = IsLocal d
-IsWithin slots classes len (Text d s) = IsLocal d × (length s ≤ 65535)
+IsWithin slots classes len (Text d s) = IsLocal d × (length s ≤ longest_text)
 IsWithin slots classes len (Own d) = IsLocal d
 IsWithin slots classes len (Move d s) = IsLocal d × IsLocal s
 IsWithin slots classes len (Get d k) = IsLocal d × (k < slots)
@@ -42,7 +51,8 @@ IsWithin slots classes len (Push d s) = IsLocal d × IsLocal s
 IsWithin slots classes len (Item d a i) = IsLocal d × IsLocal a × IsLocal i
 IsWithin slots classes len (Count d a) = IsLocal d × IsLocal a
 IsWithin slots classes len (New d c) = IsLocal d × (c < classes)
-IsWithin slots classes len (Send d t selector from) = IsLocal d × IsLocal t × IsMessage selector from
+IsWithin slots classes len (Send d t selector from) = IsLocal d × IsLocal t
+    × IsMessage selector from
 IsWithin slots classes len (Root d p) = IsLocal d × IsLocal p
 IsWithin slots classes len (Vend s) = IsLocal s
 IsWithin slots classes len (Say s) = IsLocal s

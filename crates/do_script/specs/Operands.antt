@@ -1,5 +1,6 @@
 -- Which instruction a name's form and the words behind the name make.
-use Rattle.std.specs.Prelude.{◌==◌, ℕ, ◌+◌, List, [], ◌∷◌, length, Option, Some, None, Result, Ok, Err, if◌then◌else◌}
+use Rattle.std.specs.Prelude.{◌==◌, ℕ, ◌+◌, List, [], ◌∷◌, length, Option, Some, None, Result, Ok}
+use Rattle.std.specs.Prelude.{Err, if◌then◌else◌}
 use Rattle.std.specs.Option.{ok_or, option_map}
 use Rattle.std.specs.Str.{bytes_eq}
 use Rattle.do_grammar.specs.Dec.{dec_in, int_in}
@@ -7,7 +8,8 @@ use Rattle.do_grammar.specs.Names.{is_name, is_selector, colons}
 use Rattle.do_script.specs.declared.instruction.Instruction.{Instruction}
 use Rattle.do_script.specs.declared.instruction.Instruction.TheVariants as made
 use Rattle.do_script.specs.declared.form.Form.{Form}
-use Rattle.do_script.specs.declared.form.Form.TheVariants.{Nothing, One, Two, Three, Number, Text, Get, Set, New, Send, Jump, IfNot, Catch}
+use Rattle.do_script.specs.declared.form.Form.TheVariants.{Nothing, One, Two, Three, Number, Text}
+use Rattle.do_script.specs.declared.form.Form.TheVariants.{Get, Set, New, Send, Jump, IfNot, Catch}
 use Rattle.do_script.specs.declared.form.OneLocal as one
 use Rattle.do_script.specs.declared.form.OneLocal.TheVariants as ones
 use Rattle.do_script.specs.declared.form.TwoLocals as two
@@ -20,7 +22,8 @@ use Rattle.do_script.specs.declared.fault.Kind.TheVariants.{Op, Local, Jump as N
 use Rattle.do_script.specs.Fault.{◌>>=◌}
 use Rattle.do_script.specs.Quoted.{quoted_in}
 
--- the names that a method's code can use: its class's slots, the classes, and where its labels are first defined
+-- the names that a method's code can use: its class's slots, the classes, and where its labels are
+-- first defined
 pub record Scope : Type 0 where
   pub slots : List (List ℕ)
   pub classes : List (List ℕ)
@@ -109,18 +112,35 @@ abbrev pub message_words : List (List ℕ) → Result (List ℕ × List ℕ × L
 message_words (d ∷ t ∷ w ∷ ws) = Ok (d, t, w, ws)
 message_words _ = Err Op
 
--- the instruction that a form makes of the words behind its name. Of several faults the operands' number and forms come first, then the locals, then the labels
+-- the instruction that a form makes of the words behind its name. Of several faults the operands'
+-- number and forms come first, then the locals, then the labels
 unfoldable pub instruction : Scope → Form → List (List ℕ) → Result Instruction Kind
 instruction s Nothing ws = no_word ws made.EndCatch
 instruction s (One op) ws = one_word ws >>= λ a. local a >>= λ d. Ok (with_one op d)
-instruction s (Two op) ws = two_words ws >>= λ x. local x.0 >>= λ d. local x.1 >>= λ a. Ok (with_two op d a)
-instruction s (Three op) ws = three_words ws >>= λ x. local x.0 >>= λ d. local x.1 >>= λ a. local x.2 >>= λ b. Ok (with_three op d a b)
-instruction s Number ws = two_words ws >>= λ x. ok_or (int_in x.1) Op >>= λ z. local x.0 >>= λ d. Ok (made.Number d z)
-instruction s Text ws = two_words ws >>= λ x. ok_or (quoted_in x.1) Op >>= λ t. local x.0 >>= λ d. Ok (made.Text d t)
-instruction s Get ws = two_words ws >>= λ x. named s.slots x.1 >>= λ k. local x.0 >>= λ d. Ok (made.Get d k)
-instruction s Set ws = two_words ws >>= λ x. named s.slots x.0 >>= λ k. local x.1 >>= λ a. Ok (made.Set k a)
-instruction s New ws = two_words ws >>= λ x. named s.classes x.1 >>= λ c. local x.0 >>= λ d. Ok (made.New d c)
-instruction s Send ws = message_words ws >>= λ x. selector x.2 (length x.3) >>= λ w. local x.0 >>= λ d. local x.1 >>= λ t. locals x.3 >>= λ ks. Ok (made.Send d t w ks)
-instruction s Jump ws = one_word ws >>= λ w. label w >>= λ name. place s name >>= λ p. Ok (made.Jump p)
-instruction s IfNot ws = two_words ws >>= λ x. label x.1 >>= λ name. local x.0 >>= λ a. place s name >>= λ p. Ok (made.IfNot a p)
-instruction s Catch ws = two_words ws >>= λ x. label x.1 >>= λ name. local x.0 >>= λ d. place s name >>= λ p. Ok (made.Catch d p)
+instruction s (Two op) ws =
+    two_words ws >>= λ x. local x.0 >>= λ d. local x.1 >>= λ a. Ok (with_two op d a)
+instruction s (Three op) ws =
+    three_words ws >>= λ x. local x.0 >>= λ d. local x.1 >>= λ a. local x.2 >>= λ b. Ok
+    (with_three op d a b)
+instruction s Number ws =
+    two_words ws >>= λ x. ok_or (int_in x.1) Op >>= λ z. local x.0 >>= λ d. Ok (made.Number d z)
+instruction s Text ws =
+    two_words ws >>= λ x. ok_or (quoted_in x.1) Op >>= λ t. local x.0 >>= λ d. Ok (made.Text d t)
+instruction s Get ws =
+    two_words ws >>= λ x. named s.slots x.1 >>= λ k. local x.0 >>= λ d. Ok (made.Get d k)
+instruction s Set ws =
+    two_words ws >>= λ x. named s.slots x.0 >>= λ k. local x.1 >>= λ a. Ok (made.Set k a)
+instruction s New ws =
+    two_words ws >>= λ x. named s.classes x.1 >>= λ c. local x.0 >>= λ d. Ok (made.New d c)
+instruction s Send ws =
+    message_words ws >>= λ x. selector x.2
+    (length x.3) >>= λ w. local x.0 >>= λ d. local x.1 >>= λ t. locals x.3 >>= λ ks. Ok
+    (made.Send d t w ks)
+instruction s Jump ws =
+    one_word ws >>= λ w. label w >>= λ name. place s name >>= λ p. Ok (made.Jump p)
+instruction s IfNot ws =
+    two_words ws >>= λ x. label x.1 >>= λ name. local x.0 >>= λ a. place s name >>= λ p. Ok
+    (made.IfNot a p)
+instruction s Catch ws =
+    two_words ws >>= λ x. label x.1 >>= λ name. local x.0 >>= λ d. place s name >>= λ p. Ok
+    (made.Catch d p)

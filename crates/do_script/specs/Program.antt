@@ -1,5 +1,7 @@
--- A method's text as a program: what each line says, where its labels are, and what is wrong with it.
-use Rattle.std.specs.Prelude.{ℕ, ◌+◌, ◌==◌, nat_le, Bool, true, false, List, [], ◌∷◌, ◌++◌, map, take, Option, Some, None, Result, Ok, Err, if◌then◌else◌, slice_get}
+-- A method's text as a program: what each line says, where its labels are, and what is wrong with
+-- it.
+use Rattle.std.specs.Prelude.{ℕ, ◌+◌, ◌==◌, nat_le, Bool, true, false, List, [], ◌∷◌, ◌++◌, map}
+use Rattle.std.specs.Prelude.{take, Option, Some, None, Result, Ok, Err, if◌then◌else◌, slice_get}
 use Rattle.std.specs.Option.{ok_or, option_and_then, option_map}
 use Rattle.std.specs.Str.{bytes_eq}
 use Rattle.do_grammar.specs.Lines.{cut}
@@ -9,11 +11,12 @@ use Rattle.do_script.specs.declared.fault.Kind.{Kind}
 use Rattle.do_script.specs.declared.fault.Kind.TheVariants.{Op, Jump, Long}
 use Rattle.do_script.specs.Fault.{◌>>=◌}
 use Rattle.do_script.specs.Words.{words}
-use Rattle.do_script.specs.Table.{form_of}
+use Rattle.do_script.specs.InstructionNames.{form_of}
 use Rattle.do_script.specs.Operands as operands
 use Rattle.do_script.specs.Operands.{Scope}
 
--- what a line says: nothing, the definition of a label, a faulty one, or an instruction by its name and the words behind it
+-- what a line says: nothing, the definition of a label, a faulty one, or an instruction by its name
+-- and the words behind it
 pub data Statement : Type 0 where
   nothing : Statement
   label : List ℕ → Statement
@@ -31,10 +34,13 @@ labelled (Ok name) [] = label name
 labelled (Ok name) (w ∷ ws) = no_label
 labelled (Err k) ws = no_label
 
--- a line with no word, or whose first word begins with `;`, says nothing; one that begins with `@` defines a label
+-- a line with no word, or whose first word begins with `;`, says nothing; one that begins with `@`
+-- defines a label
 abbrev pub statement_of : List (List ℕ) → Statement
 statement_of [] = nothing
-statement_of (w ∷ ws) = if begins_with 59 w then nothing else (if begins_with 64 w then labelled (operands.label w) ws else instruction w ws)
+statement_of (w ∷ ws) =
+    if begins_with 59 w then nothing else
+    (if begins_with 64 w then labelled (operands.label w) ws else instruction w ws)
 
 -- what the lines of a text say
 unfoldable pub program : List ℕ → List Statement
@@ -50,11 +56,14 @@ abbrev pub size : List Statement → ℕ
 size [] = 0
 size (x ∷ more) = (if is_instruction x then 1 else 0) + size more
 
--- where a label is first defined, in statements that begin at a line and behind so many instructions
+-- where a label is first defined, in statements that begin at a line and behind so many
+-- instructions
 abbrev pub label_from : ℕ → ℕ → List Statement → List ℕ → Option Label
 label_from line place [] name = None
 label_from line place (nothing ∷ more) name = label_from (line + 1) place more name
-label_from line place (label l ∷ more) name = if bytes_eq l name then Some (record { line = line; place = place }) else label_from (line + 1) place more name
+label_from line place (label l ∷ more) name =
+    if bytes_eq l name then Some (record { line = line; place = place }) else label_from
+    (line + 1) place more name
 label_from line place (no_label ∷ more) name = label_from (line + 1) place more name
 label_from line place (instruction w ws ∷ more) name = label_from (line + 1) (place + 1) more name
 
@@ -63,12 +72,15 @@ abbrev pub defined_at : ℕ → Option Label → Result (List Instruction) Kind
 defined_at line None = Err Jump
 defined_at line (Some l) = if l.line == line then Ok [] else Err Jump
 
--- the instructions that a statement makes, one or none, or what is wrong with it, at a line behind so many instructions
+-- the instructions that a statement makes, one or none, or what is wrong with it, at a line behind
+-- so many instructions
 abbrev pub made : Scope → ℕ → ℕ → Statement → Result (List Instruction) Kind
 made s line before nothing = Ok []
 made s line before (label name) = defined_at line (s.label name)
 made s line before no_label = Err Op
-made s line before (instruction w ws) = if nat_le 4096 before then Err Long else (ok_or (form_of w) Op >>= λ form. operands.instruction s form ws >>= λ i. Ok (i ∷ []))
+made s line before (instruction w ws) =
+    if nat_le 4096 before then Err Long else
+    (ok_or (form_of w) Op >>= λ form. operands.instruction s form ws >>= λ i. Ok (i ∷ []))
 
 -- the fault, if it is one
 abbrev pub fault_in : Result (List Instruction) Kind → Option Kind
@@ -82,7 +94,8 @@ code_in (Err k) = []
 
 -- what the statement at a line makes
 abbrev pub made_at : Scope → List Statement → ℕ → Option (Result (List Instruction) Kind)
-made_at s statements line = option_map (λ x. made s line (size (take line statements)) x) (slice_get statements line)
+made_at s statements line =
+    option_map (λ x. made s line (size (take line statements)) x) (slice_get statements line)
 
 -- what is wrong with a line, counted from 0
 abbrev pub fault_at : Scope → List Statement → ℕ → Option Kind
@@ -91,4 +104,5 @@ fault_at s statements line = option_and_then fault_in (made_at s statements line
 -- the instructions of statements that begin at a line and behind so many instructions
 abbrev pub code_from : Scope → ℕ → ℕ → List Statement → List Instruction
 code_from s line before [] = []
-code_from s line before (x ∷ more) = code_in (made s line before x) ++ code_from s (line + 1) (before + size (x ∷ [])) more
+code_from s line before (x ∷ more) =
+    code_in (made s line before x) ++ code_from s (line + 1) (before + size (x ∷ [])) more

@@ -1,5 +1,6 @@
 -- The words of a line.
-use Rattle.std.specs.Prelude.{ℕ, zero, suc, ◌+◌, ◌==◌, not, List, [], ◌∷◌, length, take, drop, Option, Some, None}
+use Rattle.std.specs.Prelude.{ℕ, zero, suc, ◌+◌, ◌==◌, not, List, [], ◌∷◌, length, take, drop}
+use Rattle.std.specs.Prelude.{Option, Some, None}
 use Rattle.std.specs.List.{prefix_len}
 use Rattle.std.specs.Option.{option_map_or}
 use Rattle.do_script.specs.Quoted.{quoted_size}
@@ -12,14 +13,16 @@ gap_size bytes = prefix_len (λ b. b == 32) bytes
 abbrev pub plain_size : List ℕ → ℕ
 plain_size bytes = prefix_len (λ b. not (b == 32)) bytes
 
--- how many bytes the word has with which the bytes begin: it goes up to a space, behind the text in quotes if one is in front
+-- how many bytes the word has with which the bytes begin: it goes up to a space, behind the text in
+-- quotes if one is in front
 abbrev pub word_size : List ℕ → ℕ
 word_size bytes = quoted_size bytes + plain_size (drop (quoted_size bytes) bytes)
 
 -- that word, and the bytes behind it
 abbrev pub cut_word : List ℕ → Option (List ℕ × List ℕ)
 cut_word [] = None
-cut_word (b ∷ bytes) = Some (take (word_size (b ∷ bytes)) (b ∷ bytes), drop (word_size (b ∷ bytes)) (b ∷ bytes))
+cut_word (b ∷ bytes) =
+    Some (take (word_size (b ∷ bytes)) (b ∷ bytes), drop (word_size (b ∷ bytes)) (b ∷ bytes))
 
 -- the first word of a line, and the bytes behind it
 unfoldable pub first_word : List ℕ → Option (List ℕ × List ℕ)

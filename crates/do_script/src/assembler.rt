@@ -1,18 +1,21 @@
-ghost use Rattle.std.specs.Prelude.{◌≡◌, ◌+◌, ◌++◌, ◌<◌, ◌≤◌, ◌^◌, All, length, IfOk, IfErr, IfSome, OnOk};
+ghost use Rattle.std.specs.Prelude.{◌≡◌, ◌+◌, ◌++◌, ◌<◌, ◌≤◌, ◌^◌, All, length, IfOk, IfErr};
+ghost use Rattle.std.specs.Prelude.{IfSome, OnOk};
+ghost use Rattle.std.specs.Prelude.{ℕ, ◌⊎◌, IsErrAnd};
 ghost use Rattle.std.specs.Option.{option_to_list};
 ghost use Rattle.do_script.specs.Fault.{Reads};
 ghost use Rattle.do_script.specs.Words.{words};
 ghost use Rattle.do_script.specs.Labels.{scope_in, PlacesWithin, IsInScope};
 ghost use Rattle.do_script.specs.Program.{program, statement_of, made, size};
-ghost use Rattle.do_script.specs.Assembled.{IsCode, IsCodeOf, IsFault, scope};
+ghost use Rattle.do_script.specs.Assembly.{IsCode, IsCodeOf, IsFault, scope};
+ghost use Rattle.do_script.specs.Assembly.{HasNoFault, IsFirstFault, refusal};
 
 use crate::code::Code;
 use crate::fault::{AsmFault, Kind, LineFault, answer_to};
 use crate::instruction::Instruction;
+use crate::instruction_names::form_named;
+use crate::instruction_reader::read_instruction;
 use crate::labels::{find_label, labels_of};
-use crate::reading::read_instruction;
 use crate::statement::{Said, said_in};
-use crate::table::form_named;
 use crate::vocabulary::Vocabulary;
 use do_base::Texts;
 use do_grammar::line_of;
@@ -30,7 +33,8 @@ fn read_line(
     names: &Vocabulary<'_>,
 ) -> Result<Option<Instruction>, LineFault>
     requires { PlacesWithin names.now.labels }
-    ensures value { Reads option_to_list result (made (scope_in names.now) number before (statement_of (words line.now))) }
+    ensures value { Reads option_to_list result
+        (made (scope_in names.now) number before (statement_of (words line.now))) }
     ensures within { IfOk result (λ made. IfSome made (IsInScope names.now)) }
 {
     match said_in(line) {
@@ -99,12 +103,14 @@ fn read_lines(
 /// at most 4,096; `Instruction` shows how each is written. The text behind the last line feed is a
 /// line too.
 ///
-/// `D`, `S`, `A`, `B`, `T`, `P` and `I` are locals, `l0` to `l15`. A text has at most 65,535 bytes.
+/// `D`, `S`, `A`, `B`, `T`, `P` and `I` are locals, `l0` to `l15`. A text has at most
+/// `LONGEST_TEXT` bytes.
 /// A slot or a class is the first of its name. A label may be defined behind the jump that names
 /// it, and each has one definition.
 ///
-/// The answers other than code are those of `AsmFault`; want of memory leaves nothing changed. The
-/// language is this project's own.
+/// A text with no faulty line is code. A text with a faulty line is refused with the first such
+/// line and what is wrong with it. Either may end with `AsmFault::Memory` in place of that answer,
+/// if memory runs out.
 pub fn assemble<'a>(
     alloc: Global,
     text: &'a [u8],
@@ -112,7 +118,27 @@ pub fn assemble<'a>(
     classes: &'a Names,
 ) -> Result<Code, AsmFault>
     ensures code { IfOk result (IsCodeOf slots.now classes.now text.now) }
-    ensures fault { IfErr result (IsFault (scope slots.now classes.now text.now) (program text.now)) }
+    ensures fault { IfErr result
+        (IsFault (scope slots.now classes.now text.now) (program text.now)) }
+    ensures accepted { HasNoFault (scope slots.now classes.now text.now) (program text.now)
+        → IfErr result (λ fault. fault ≡ AsmFault.Memory) }
+    ensures refused { (line : ℕ) (kind : Kind)
+        → IsFirstFault (scope slots.now classes.now text.now) (program text.now) line kind
+        → IsErrAnd result (λ fault. (fault ≡ AsmFault.Memory) ⊎ (fault ≡ refusal kind line)) }
+{
+    read_code(alloc, text, slots, classes)
+}
+
+/// The code that a text makes, or its first fault.
+fn read_code<'a>(
+    alloc: Global,
+    text: &'a [u8],
+    slots: &'a Names,
+    classes: &'a Names,
+) -> Result<Code, AsmFault>
+    ensures code { IfOk result (IsCodeOf slots.now classes.now text.now) }
+    ensures fault { IfErr result
+        (IsFault (scope slots.now classes.now text.now) (program text.now)) }
 {
     let labels = labels_of(alloc, text)?;
     let names = Vocabulary {

@@ -20,9 +20,11 @@ impl Model for Code {
 
     ghost Value = { Listing };
 
-    ghost view = { λ c. record { instructions = c.instructions.items; slots = c.slots; classes = c.classes } };
+    ghost view = { λ c.
+        record { instructions = c.instructions.items; slots = c.slots; classes = c.classes } };
 
-    ghost invariant = { λ c. IsValid (record { instructions = c.instructions.items; slots = c.slots; classes = c.classes }) };
+    ghost invariant = { λ c. IsValid
+        (record { instructions = c.instructions.items; slots = c.slots; classes = c.classes }) };
 }
 
 impl Code {
@@ -30,8 +32,10 @@ impl Code {
 
     /// The code of these instructions.
     pub(crate) fn new(instructions: Vec<Instruction>, slots: usize, classes: usize) -> Code
-        requires { IsValid (record { instructions = instructions.items; slots = slots; classes = classes }) }
-        ensures { result ≡ record { instructions = instructions.items; slots = slots; classes = classes } }
+        requires { IsValid
+            (record { instructions = instructions.items; slots = slots; classes = classes }) }
+        ensures { result
+            ≡ record { instructions = instructions.items; slots = slots; classes = classes } }
     {
         Code {
             instructions,
@@ -43,7 +47,9 @@ impl Code {
     /// The instruction at a place, counted from 0. There is none at the end or behind it.
     pub fn get(&self, place: usize) -> Option<&Instruction>
         ensures value { option_copied result ≡ slice_get self.now.instructions place }
-        ensures within { IfSome result (λ i. IsWithin self.now.slots self.now.classes (length self.now.instructions) i.now) }
+        ensures short { length self.now.instructions ≤ 4096 }
+        ensures within { IfSome result (λ i. IsWithin
+            self.now.slots self.now.classes (length self.now.instructions) i.now) }
     {
         self.instructions.get(place)
     }

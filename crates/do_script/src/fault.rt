@@ -1,9 +1,11 @@
 ghost use Rattle.std.specs.Prelude.{◌≡◌, ◌<◌, ◌^◌};
-ghost use Rattle.do_script.specs.Assembled.{answer};
+ghost use Rattle.do_script.specs.Assembly.{answer};
 ghost use Rattle.do_script.specs.declared.fault.LineFault.TheVariants.{Bad, Memory};
 ghost use Rattle.do_script.specs.declared.fault.AsmFault.TheVariants.{Memory as NoMemory};
 
 use std::alloc::{AllocError, AllocFailed};
+use std::error::Error;
+use std::fmt;
 
 /// What is wrong with a line: no instruction, no local, no place for a label, or one too many.
 #[derive(Clone, Copy, Debug, PartialEq, Eq)]
@@ -78,6 +80,27 @@ pub(crate) fn answer_to(fault: LineFault, line: usize) -> AsmFault
         LineFault::Memory => AsmFault::Memory,
     }
 }
+
+impl fmt::Display for AsmFault {
+    fn fmt<W: fmt::Write>(&self, f: &mut fmt::Formatter<W>) -> fmt::Result {
+        match self {
+            AsmFault::BadOp(line) => write!(f, "line {line} is no instruction"),
+            AsmFault::BadLocal(line) => {
+                write!(f, "line {line} has another word where a local must stand")
+            }
+            AsmFault::BadJump(line) => {
+                write!(
+                    f,
+                    "line {line} has a label that is not defined, or defined again"
+                )
+            }
+            AsmFault::TooLong => f.write_str("there are more than 4,096 instructions"),
+            AsmFault::Memory => f.write_str("memory ran out"),
+        }
+    }
+}
+
+impl Error for AsmFault {}
 
 impl From<AllocError> for AsmFault {
     ghost from_gives = { λ _ e. e ≡ NoMemory };

@@ -16,7 +16,7 @@ pub enum Instruction {
         into: u8,
         number: i64,
     },
-    /// `text D "TEXT"`: a text of at most 65,535 bytes.
+    /// `text D "TEXT"`: a text of at most `LONGEST_TEXT` bytes.
     Text {
         into: u8,
         text: Text,

@@ -2,7 +2,7 @@ ghost use Rattle.std.specs.Prelude.{◌≡◌, ◌+◌, ◌<◌, ◌^◌, ◌∷
 ghost use Rattle.std.specs.Option.{option_or};
 ghost use Rattle.do_script.specs.Labels.{label_in, if_named, AreLabelsOf};
 ghost use Rattle.do_script.specs.Program.{program, label_from, size};
-ghost use Rattle.do_script.specs.Said.{statement_in};
+ghost use Rattle.do_script.specs.StatementOf.{statement_in};
 
 use crate::statement::{Said, said_in};
 use do_grammar::line_of;
@@ -32,7 +32,8 @@ pub(crate) fn find_label(found: &Labels<'_>, name: &[u8]) -> Option<Label>
 
 /// Adds a label, unless one of that name is there.
 fn add_label<'a>(found: &mut Labels<'a>, name: &'a [u8], label: Label) -> Result<(), AllocError>
-    ensures labels { OnOk result ((q : List ℕ) → label_in found.new q ≡ option_or (label_in found.old q) (if_named name.now label q)) }
+    ensures labels { OnOk result ((q : List ℕ) →
+        label_in found.new q ≡ option_or (label_in found.old q) (if_named name.now label q)) }
     ensures count { OnOk result (found.new.instructions ≡ found.old.instructions) }
 {
     if !found.labels.contains_key(name) {
@@ -44,8 +45,11 @@ fn add_label<'a>(found: &mut Labels<'a>, name: &'a [u8], label: Label) -> Result
 /// Adds what a line defines, behind the lines that were added before.
 fn add_line<'a>(found: &mut Labels<'a>, said: Said<'a>, line: usize) -> Result<(), AllocError>
     requires { found.old.instructions < 2 ^ 63 }
-    ensures labels { OnOk result ((q : List ℕ) → label_in found.new q ≡ option_or (label_in found.old q) (label_from line found.old.instructions (statement_in said.entry ∷ []) q)) }
-    ensures count { OnOk result (found.new.instructions ≡ found.old.instructions + size (statement_in said.entry ∷ [])) }
+    ensures labels { OnOk result ((q : List ℕ) →
+        label_in found.new q ≡ option_or (label_in found.old q)
+        (label_from line found.old.instructions (statement_in said.entry ∷ []) q)) }
+    ensures count { OnOk result
+        (found.new.instructions ≡ found.old.instructions + size (statement_in said.entry ∷ [])) }
 {
     match said {
         Said::Label(name) => {
@@ -61,7 +65,7 @@ fn add_line<'a>(found: &mut Labels<'a>, said: Said<'a>, line: usize) -> Result<(
 }
 
 /// The labels of a text and the number of its instructions.
-#[tactic(auto, using(crate::proofs::Found::counting))]
+#[tactic(auto, using(crate::proofs::LabelsSoFar::counting))]
 pub(crate) fn labels_of(alloc: Global, text: &[u8]) -> Result<Labels<'_>, AllocError>
     ensures { IfOk result (AreLabelsOf (program text.now)) }
 {

@@ -7,11 +7,11 @@ mod code;
 mod fault;
 mod form;
 mod instruction;
+mod instruction_names;
+mod instruction_reader;
 mod labels;
 mod operands;
-mod reading;
 mod statement;
-mod table;
 mod vocabulary;
 mod words;
 
@@ -19,6 +19,3 @@ pub use assembler::{Names, assemble};
 pub use code::Code;
 pub use fault::AsmFault;
 pub use instruction::Instruction;
-
-#[cfg(test)]
-mod tests;

@@ -1,16 +1,18 @@
 ghost use Rattle.std.specs.Prelude.{◌≡◌, true, ◌<◌, ◌≤◌, length, All, IfOk};
 ghost use Rattle.std.specs.Option.{ok_or};
+ghost use Rattle.do_base.specs.values.Texts.{longest_text};
 ghost use Rattle.do_grammar.specs.Dec.{int_in};
 ghost use Rattle.do_script.specs.declared.fault.Kind.TheVariants.{Op};
 ghost use Rattle.do_grammar.specs.Names.{is_selector, colons as colons_of};
 ghost use Rattle.do_script.specs.Fault.{Gives, Reads};
 ghost use Rattle.do_script.specs.Words.{words};
 ghost use Rattle.do_script.specs.Quoted.{quoted_in};
-ghost use Rattle.do_script.specs.Operands.{local, locals, selector, named, label, no_word, one_word, two_words, three_words};
+ghost use Rattle.do_script.specs.Operands.{local, locals, selector, named, label, no_word};
+ghost use Rattle.do_script.specs.Operands.{one_word, two_words, three_words};
 
 use crate::fault::{Kind, LineFault};
 use crate::words::split_word;
-use do_base::{Locals, Text, Texts};
+use do_base::{LONGEST_TEXT, Locals, Text, Texts};
 use do_grammar::{colons_in, dec_of, int_of, is_name, is_selector, quoted_of, split_byte};
 use std::alloc::Global;
 
@@ -113,9 +115,9 @@ pub(crate) fn number_of(word: &[u8]) -> Result<i64, Kind>
 #[tactic(auto, unfolding(crate::specs::Quoted::quoted_in))]
 pub(crate) fn text_of(alloc: Global, word: &[u8]) -> Result<Text, LineFault>
     ensures value { Reads (λ t. t) result (ok_or (quoted_in word.now) Op) }
-    ensures short { IfOk result (λ t. length t ≤ 65535) }
+    ensures short { IfOk result (λ t. length t ≤ longest_text) }
 {
-    match quoted_of(alloc, word, 65_535)? {
+    match quoted_of(alloc, word, LONGEST_TEXT)? {
         Some((text, rest)) if rest.is_empty() => Ok(text),
         _ => Err(LineFault::Bad(Kind::Op)),
     }

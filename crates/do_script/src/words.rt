@@ -3,6 +3,7 @@ ghost use Rattle.do_grammar.specs.Words.{text_view};
 ghost use Rattle.do_script.specs.Quoted.{quoted_size};
 ghost use Rattle.do_script.specs.Words.{gap_size, plain_size, word_size, first_word, words};
 
+use do_base::LONGEST_TEXT;
 use do_grammar::skip_quoted;
 
 /// How many bytes the text in quotes has that begins the bytes, or 0.
@@ -11,7 +12,7 @@ fn quoted_len(bytes: &[u8]) -> usize
     ensures value { result ≡ quoted_size bytes.now }
     ensures within { result ≤ length bytes.now }
 {
-    match skip_quoted(bytes, 65_535) {
+    match skip_quoted(bytes, LONGEST_TEXT) {
         Some(rest) => bytes.len().saturating_sub(rest.len()),
         None => 0,
     }
@@ -46,7 +47,8 @@ fn word_len(bytes: &[u8]) -> usize
 #[tactic(auto, using(crate::proofs::FirstWord::splitting), unfolding(crate::specs::Words::first_word))]
 pub(crate) fn split_word(line: &[u8]) -> Option<(&[u8], &[u8])>
     ensures first { text_view result ≡ first_word line.now }
-    ensures words { MatchOption result (words line.now ≡ []) (λ w. words line.now ≡ w.0.now ∷ words w.1.now) }
+    ensures words { MatchOption result (words line.now ≡ [])
+        (λ w. words line.now ≡ w.0.now ∷ words w.1.now) }
     ensures shorter { IfSome result (λ w. length w.1.now < length line.now) }
 {
     let bytes = &line[gap_len(line)..];

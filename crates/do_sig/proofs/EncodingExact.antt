@@ -1,118 +1,565 @@
 -- Encodings are read exactly.
-use Rattle.std.proofs.Common.{◌≡◌, ℕ, suc, ◌<◌, Bool, true, false, cond, List, [], ◌∷◌, ◌++◌, length, Ok, Err, refl, ap, arith}
-use Rattle.std.specs.Prelude.{◌==◌}
-use Rattle.do_grammar.specs.Reader.{bad, done, mapped, byte_of, Step, goes, leaves, fails, by_step, by_result, run, ◌>>=◌}
-use Rattle.do_grammar.specs.Grammar.{Begins}
-use Rattle.do_grammar.specs.Forms.{Done, Byte, Passes, Mapped, Either, Scans, Runs}
-use Rattle.do_grammar.proofs.Exact.{Reads, Reads-done, Reads-then, Reads-byte}
-use Rattle.do_grammar.proofs.Combined.{Reads-mapped, Reads-either}
-use Rattle.do_grammar.proofs.Scan.{Reads-scan, Reads-scanned}
-use Rattle.do_grammar.proofs.Whole.{ReadsWhole, Whole-as, Reads-run, Reads-then_whole}
+use Rattle.std.proofs.Common.{◌≡◌, ℕ, suc, ◌<◌, Bool, true, false, cond, eqb, List, [], ◌∷◌, ◌++◌}
+use Rattle.std.proofs.Common.{Option, Some, None, refl, sym, ap, subst, ◌∙◌, arith}
+use Rattle.std.specs.Prelude.{◌==◌, ◌||◌, ◌&&◌, not}
+use Rattle.std.proofs.lemmas.Bool.{eqb-true, false≢true}
+use Rattle.std.proofs.lemmas.Bool.Decides.{nat_tests}
+use Rattle.do_grammar.specs.Reader.{done, mapped, byte_of, Step, goes, leaves, fails}
+use Rattle.do_grammar.specs.Grammar.{Begins, IsBytes}
+use Rattle.do_grammar.specs.Forms.{Then, Done, Byte, Passes, Mapped, Either, OnStep, Scans, Accepts}
+use Rattle.do_grammar.proofs.reads.ExactReader.{Reads, Reads-as, Reads-done, Reads-then, Reads-byte}
+use Rattle.do_grammar.proofs.reads.FormsExact.{Reads-mapped, Reads-either}
+use Rattle.do_grammar.proofs.reads.ScanExact.{Reads-scan, Reads-scanned}
+use Rattle.do_grammar.proofs.reads.WholeExact.{ReadsWhole, Reads-then_whole}
 use Rattle.do_sig.specs.declared.fault.Kind.{Kind}
 use Rattle.do_sig.specs.declared.fault.Kind.TheVariants.{BadChar}
-use Rattle.do_sig.specs.declared.reading.Place.{Place}
-use Rattle.do_sig.specs.declared.reading.Place.TheVariants.{Alone}
+use Rattle.do_sig.specs.declared.outermost.place.Place.{Place}
+use Rattle.do_sig.specs.declared.outermost.place.Place.TheVariants.{Alone}
 use Rattle.do_sig.specs.declared.qualifiers.Qualifiers.{Qualifiers}
+use Rattle.do_sig.specs.declared.qualifiers.Direction.{Direction}
+use Rattle.do_sig.specs.declared.qualifiers.Direction.TheVariants as ways
+use Rattle.do_sig.specs.declared.qualifiers.Passing.{Passing}
+use Rattle.do_sig.specs.declared.qualifiers.Passing.TheVariants as passings
 use Rattle.do_sig.specs.declared.value_type.Scalar.TheVariants.{SignedChar}
 use Rattle.do_sig.specs.declared.value_type.ValueType.TheVariants.{Simple}
 use Rattle.do_sig.specs.declared.value_type.OutermostType.{OutermostType}
 use Rattle.do_sig.specs.declared.value_type.OutermostType.TheVariants.{Void, Pointer, Plain}
-use Rattle.do_sig.specs.declared.encoding.Encoding.{Encoding}
+use Rattle.do_sig.specs.Letters.{is_letter, is_qualifier}
+use Rattle.do_sig.specs.Places.{may_return, may_point, MayStand}
+use Rattle.do_sig.specs.MethodTypes.{QualifiedType, IsEncodingOf}
 use Rattle.do_sig.specs.Bare.{bare}
-use Rattle.do_sig.specs.Types.{why_no_type, body_at, type_at}
-use Rattle.do_sig.specs.TypeGrammar.{IsType, IsBody}
-use Rattle.do_sig.specs.Offsets.{Offset, fresh, signed, digits, offset_step, offset_ends, skip, after_offset, nothing_left, last_step}
-use Rattle.do_sig.specs.Outermost.{qualifier_step, begins_outermost, outermost_body_at, outermost_at, qualified_at, encoding_at, alone_at}
-use Rattle.do_sig.specs.Grammar.{IsOutermostBody, IsOutermost, IsQualified, IsEncodingAt, IsEncoding}
+use Rattle.do_sig.specs.Blame.{begins_type, why_no_type}
+use Rattle.do_sig.specs.Offsets.{fresh, offset_ends, last_step}
+use Rattle.do_sig.specs.Marks.{free_way, free_passing, marked, goes_or_fails, qualifier_step}
+use Rattle.do_sig.specs.Spelling.{outermost_spelling}
+use Rattle.do_sig.specs.Encodings.{IsQualified, IsEncodingAt, IsEncoding}
+use Rattle.do_sig.specs.reading.Offsets.{after_offset, nothing_left}
+use Rattle.do_sig.specs.reading.Types.{body_at, type_at}
+use Rattle.do_sig.specs.reading.Outermost.{begins_outermost, outermost_body_at, outermost_at}
+use Rattle.do_sig.specs.reading.Outermost.{qualified_at, encoding_at, alone_at}
+use Rattle.do_sig.proofs.OffsetExact.{Reads-last}
+use Rattle.do_sig.proofs.TypeBySteps.{Body, ByStep}
 use Rattle.do_sig.proofs.TypeExact.{Reads-type, Reads-body, type_some, type_solid, type_apart}
+use Rattle.do_sig.proofs.TypeExact.{is_some_letter}
+use Rattle.do_sig.proofs.TypeIsSpelled.{type_is, body_is, is_read}
 
-Reads-outermost_body : (b : ℕ) → b < 256 → Reads (IsOutermostBody b) (outermost_body_at b)
-Reads-outermost_body b small =
-    Reads-either (b == 118) (Done Void) (Either (b == 94) (Mapped Pointer (IsType 7)) (Mapped Plain (IsBody (IsType 7) b))) (done Void) (cond (b == 94) (mapped Pointer (type_at 7)) (mapped Plain (body_at (type_at 7) b))) (λ e. Reads-done Void)
-    (λ e. Reads-either (b == 94) (Mapped Pointer (IsType 7)) (Mapped Plain (IsBody (IsType 7) b)) (mapped Pointer (type_at 7)) (mapped Plain (body_at (type_at 7) b))
-    (λ e'. Reads-mapped Pointer (IsType 7) (type_at 7) (Reads-type 7)) (λ e'. Reads-mapped Plain (IsBody (IsType 7) b) (body_at (type_at 7) b) (Reads-body (IsType 7) (type_at 7) (Reads-type 7) (type_some 7) (type_solid 7) (type_apart 7) b small)))
+-- ---- the type
 
-outermost_some : (place : Place) (oneway : Bool) → Passes (begins_outermost place oneway)
-outermost_some place true = record { byte = 118; small = omega arith; passes = refl }
-outermost_some place false = record { byte = 99; small = omega arith; passes = refl }
+-- what stands behind the first byte of an outermost type
+abbrev OuterBody : ℕ → List ℕ → OutermostType → Type 0
+OuterBody b =
+    Either (b == 118) (Done Void)
+    (Either (b == 94) (Mapped Pointer (ByStep 7)) (Mapped Plain (Body (ByStep 7) b)))
 
-Reads-outermost : (place : Place) (oneway : Bool) → Reads (IsOutermost place oneway) (outermost_at place oneway)
+-- an outermost type, as it is read
+abbrev OuterByStep : Place → Bool → List ℕ → OutermostType → Type 0
+OuterByStep place oneway = Then (Byte (begins_outermost place oneway)) OuterBody
+
+-- where neither v nor ^ stands, a type does
+plain_side : (t u v : Bool) → (t || ((u && false) || (v && false))) ≡ true → t ≡ true
+plain_side true u v h = refl
+plain_side false true true h = absurd cc
+plain_side false true false h = absurd cc
+plain_side false false true h = absurd cc
+plain_side false false false h = absurd cc
+
+-- an outermost type that is no v and no ^ begins as any type
+begins_plain : (place : Place) (oneway : Bool) (b : ℕ) → begins_outermost place oneway b ≡ true
+    → eqb b 118 ≡ false → eqb b 94 ≡ false → begins_type 8 b ≡ true
+begins_plain place true b e p q = let no : false ≡ true = sym p ∙ e in absurd (false≢true no)
+begins_plain place false b e p q =
+    plain_side (begins_type 8 b) (may_return place) (may_point place) (rw (p, q) at e)
+
+-- so what is no letter there is a bracket
+plain_letter : (place : Place) (oneway : Bool) (b : ℕ) → begins_outermost place oneway b ≡ true
+    → eqb b 118 ≡ false → eqb b 94 ≡ false → eqb b 91 ≡ false → eqb b 123 ≡ false
+    → is_letter b ≡ true
+plain_letter place oneway b e p q r s =
+    is_some_letter 8 b (begins_plain place oneway b e p q) r s
+
+-- what stands behind the first byte is read exactly
+Reads-outer_body : (place : Place) (oneway : Bool) (b : ℕ)
+    → begins_outermost place oneway b ≡ true → Reads (OuterBody b) (outermost_body_at b)
+Reads-outer_body place oneway b begins =
+    Reads-either (b == 118) (Done Void)
+    (Either (b == 94) (Mapped Pointer (ByStep 7)) (Mapped Plain (Body (ByStep 7) b)))
+    (done Void) (cond (b == 94) (mapped Pointer (type_at 7)) (mapped Plain (body_at (type_at 7) b)))
+    (λ e. Reads-done Void)
+    (λ e. Reads-either (b == 94) (Mapped Pointer (ByStep 7)) (Mapped Plain (Body (ByStep 7) b))
+    (mapped Pointer (type_at 7)) (mapped Plain (body_at (type_at 7) b))
+    (λ e'. Reads-mapped Pointer (ByStep 7) (type_at 7) (Reads-type 7))
+    (λ e'. Reads-mapped Plain (Body (ByStep 7) b) (body_at (type_at 7) b)
+    (Reads-body (ByStep 7) (type_at 7) (Reads-type 7) (type_some 7) (type_solid 7) (type_apart 7) b
+    (λ r s. plain_letter place oneway b begins e e' r s))))
+
+-- some byte begins an outermost type
+outer_some : (place : Place) (oneway : Bool) → Passes (begins_outermost place oneway)
+outer_some place true = record { byte = 118; small = omega arith; passes = refl }
+outer_some place false = record { byte = 99; small = omega arith; passes = refl }
+
+-- an outermost type is read exactly
+Reads-outer : (place : Place) (oneway : Bool)
+    → Reads (OuterByStep place oneway) (outermost_at place oneway)
 unfolding outermost_at
-Reads-outermost place oneway = Reads-then (Byte (begins_outermost place oneway)) IsOutermostBody (byte_of (begins_outermost place oneway) (why_no_type 8)) outermost_body_at (Reads-byte (begins_outermost place oneway) (why_no_type 8) (outermost_some place oneway)) (λ b text g. Reads-outermost_body b g.small)
+Reads-outer place oneway =
+    Reads-then (Byte (begins_outermost place oneway)) OuterBody
+    (byte_of (begins_outermost place oneway) (why_no_type 8)) outermost_body_at
+    (Reads-byte (begins_outermost place oneway) (why_no_type 8) (outer_some place oneway))
+    (λ b text g. Reads-outer_body place oneway b g.passes)
+
+-- ---- what is read is a type that may stand there
+
+-- v stands as a result alone
+void_side : (u v : Bool) → ((u && true) || (v && false)) ≡ true → u ≡ true
+void_side true v h = refl
+void_side false true h = absurd cc
+void_side false false h = absurd cc
+
+-- ^ stands as an argument alone
+pointer_side : (u v : Bool) → ((u && false) || (v && true)) ≡ true → v ≡ true
+pointer_side true true h = refl
+pointer_side true false h = absurd cc
+pointer_side false true h = refl
+pointer_side false false h = absurd cc
+
+-- v is read where a result may stand
+void_stands : (place : Place) (oneway : Bool) → (oneway ≡ true → may_return place ≡ true)
+    → begins_outermost place oneway 118 ≡ true → may_return place ≡ true
+void_stands place true may e = may refl
+void_stands place false may e = void_side (may_return place) (may_point place) e
+
+-- ^ is read where an argument may stand, with no V before it
+pointer_stands : (place : Place) (oneway : Bool) → begins_outermost place oneway 94 ≡ true
+    → (oneway ≡ false) × (may_point place ≡ true)
+pointer_stands place true e = absurd cc
+pointer_stands place false e = (refl, pointer_side (may_return place) (may_point place) e)
+
+-- behind V nothing but v is read
+not_oneway : (place : Place) (oneway : Bool) (b : ℕ) → eqb b 118 ≡ false
+    → begins_outermost place oneway b ≡ true → oneway ≡ false
+not_oneway place true b p e = let no : false ≡ true = sym p ∙ e in absurd (false≢true no)
+not_oneway place false b p e = refl
+
+-- a text spells an outermost type that may stand at a place
+record Outer (place : Place) (oneway : Bool) (text : List ℕ) (x : OutermostType) : Type 0 where
+  spelled : text ≡ outermost_spelling x
+  stands : MayStand place oneway x
+
+-- what is read is the spelling of a type that may stand there
+outer_is : (place : Place) (oneway : Bool) (text : List ℕ) (x : OutermostType)
+    → (oneway ≡ true → may_return place ≡ true) → OuterByStep place oneway text x
+    → Outer place oneway text x
+outer_is place oneway text x may g =
+    let made = first (eqb g.value 118) refl g.second in
+    record { spelled = front ∙ made.spelled; stands = made.stands }
+  where
+    front : text ≡ g.value ∷ g.back
+    front = g.parts ∙ ap (λ (w : List ℕ). w ++ g.back) g.first.alone
+
+    void : eqb g.value 118 ≡ true → Done Void g.back x → Outer place oneway (g.value ∷ g.back) x
+    void p h =
+        let byte = eqb-true g.value 118 p in
+        let begins =
+        subst (λ (b : ℕ). begins_outermost place oneway b ≡ true) byte g.first.passes in
+        let made : Outer place oneway (g.value ∷ g.back) Void = record {
+          spelled = ap (λ (c : ℕ). c ∷ g.back) byte ∙ ap (λ (w : List ℕ). 118 ∷ w) h.nothing;
+          stands = void_stands place oneway may begins;
+        } in
+        subst (Outer place oneway (g.value ∷ g.back)) h.same made
+
+    pointer : eqb g.value 94 ≡ true → Mapped Pointer (ByStep 7) g.back x
+        → Outer place oneway (g.value ∷ g.back) x
+    pointer q h =
+        let byte = eqb-true g.value 94 q in
+        let begins =
+        subst (λ (b : ℕ). begins_outermost place oneway b ≡ true) byte g.first.passes in
+        let may = pointer_stands place oneway begins in
+        let t = type_is 7 g.back h.value h.spelled in
+        let made : Outer place oneway (g.value ∷ g.back) (Pointer h.value) = record {
+          spelled = ap (λ (c : ℕ). c ∷ g.back) byte ∙ ap (λ (w : List ℕ). 94 ∷ w) t.spelled;
+          stands = (may.0, may.1, t.within);
+        } in
+        subst (Outer place oneway (g.value ∷ g.back)) h.same made
+
+    plain : eqb g.value 118 ≡ false → eqb g.value 94 ≡ false
+        → Mapped Plain (Body (ByStep 7) g.value) g.back x
+        → Outer place oneway (g.value ∷ g.back) x
+    plain p q h =
+        let t = body_is (ByStep 7) 7 (λ text y k. type_is 7 text y k) g.value g.back h.value
+        (λ r s. plain_letter place oneway g.value g.first.passes p q r s) h.spelled in
+        let made : Outer place oneway (g.value ∷ g.back) (Plain h.value) = record {
+          spelled = t.spelled;
+          stands = (not_oneway place oneway g.value p g.first.passes, t.within);
+        } in
+        subst (Outer place oneway (g.value ∷ g.back)) h.same made
+
+    second : (t : Bool) → eqb g.value 118 ≡ false → eqb g.value 94 ≡ t
+        → Either t (Mapped Pointer (ByStep 7)) (Mapped Plain (Body (ByStep 7) g.value)) g.back x
+        → Outer place oneway (g.value ∷ g.back) x
+    second true p q h = pointer q h
+    second false p q h = plain p q h
+
+    first : (t : Bool) → eqb g.value 118 ≡ t
+        → Either t (Done Void)
+        (Either (g.value == 94) (Mapped Pointer (ByStep 7))
+        (Mapped Plain (Body (ByStep 7) g.value))) g.back x
+        → Outer place oneway (g.value ∷ g.back) x
+    first true p h = void p h
+    first false p h = second (eqb g.value 94) p refl h
+
+-- ---- and a type that may stand there is read
+
+-- v begins a type where a result may stand
+void_begins : (place : Place) (oneway : Bool) → may_return place ≡ true
+    → begins_outermost place oneway 118 ≡ true
+void_begins place true e = refl
+void_begins place false e = rw e refl
+
+-- no other type begins with v or ^
+begins_other : (b : ℕ) → begins_type 8 b ≡ true → (eqb b 118 ≡ false) × (eqb b 94 ≡ false)
+begins_other b e = (grind (arith, nat_tests), grind (arith, nat_tests))
+
+-- the spelling of a type that may stand there is read
+outer_read : (place : Place) (oneway : Bool) (x : OutermostType) → MayStand place oneway x
+    → OuterByStep place oneway (outermost_spelling x) x
+outer_read place oneway Void may = record {
+  value = 118;
+  front = 118 ∷ [];
+  back = [];
+  parts = refl;
+  first = record { alone = refl; passes = void_begins place oneway may; small = omega arith };
+  second = record { nothing = refl; same = refl };
+}
+outer_read place true (Pointer t) may = let no = may.0 in absurd cc
+outer_read place false (Pointer t) may = record {
+  value = 94;
+  front = 94 ∷ [];
+  back = _;
+  parts = refl;
+  first = record { alone = refl; passes = pointed (may_return place) may.1; small = omega arith };
+  second = record { value = t; spelled = is_read t 7 may.2; same = refl };
+}
+  where
+    pointed : (u : Bool) → may_point place ≡ true
+        → ((u && false) || (may_point place && true)) ≡ true
+    pointed true e = rw e refl
+    pointed false e = rw e refl
+outer_read place true (Plain t) may = let no = may.0 in absurd cc
+outer_read place false (Plain t) may =
+    let g = is_read t 8 may.1 in
+    let other = begins_other g.value g.first.passes in
+    let p = other.0 in
+    let q = other.1 in
+    let begins = g.first.passes in
+    record {
+      value = g.value;
+      front = g.front;
+      back = g.back;
+      parts = g.parts;
+      first = record { alone = g.first.alone; passes = rw begins refl; small = g.first.small };
+      second = rw (p, q) (record { value = t; spelled = g.second; same = refl });
+    }
 
 -- ---- qualifiers
+
+-- what holds of both sides of a choice holds of the choice
+pick : (P : Qualifiers → Type 0) (t : Bool) (a b : Option Qualifiers)
+    → ((u : Qualifiers) → a ≡ Some u → P u) → ((u : Qualifiers) → b ≡ Some u → P u)
+    → (u : Qualifiers) → cond t a b ≡ Some u → P u
+pick P true a b f g u e = f u e
+pick P false a b f g u e = g u e
+
+-- two values of an option that are the same
+some_same : (q u : Qualifiers) → Some q ≡ Some u → q ≡ u
+some_same q u e = cc
+
+-- a direction more changes nothing else
+way_same : (d : Direction) (q u : Qualifiers) → free_way d q ≡ Some u → q ≡ u
+way_same ways.Unmarked q u e = some_same q u e
+way_same ways.In q u e = absurd cc
+way_same ways.InOut q u e = absurd cc
+way_same ways.Out q u e = absurd cc
+
+-- a way of passing more changes nothing else
+passing_same : (p : Passing) (q u : Qualifiers) → free_passing p q ≡ Some u → q ≡ u
+passing_same passings.Unmarked q u e = some_same q u e
+passing_same passings.ByCopy q u e = absurd cc
+passing_same passings.ByRef q u e = absurd cc
+
+-- a qualifier that goes on adds its letter
+goes_marked : (t : Bool) (o : Option Qualifiers) (u : Qualifiers)
+    → cond {A = Step Qualifiers Kind} t (goes_or_fails o) leaves ≡ goes u → o ≡ Some u
+goes_marked true None u e = absurd cc
+goes_marked true (Some q) u e = cc
+goes_marked false o u e = absurd cc
 
 -- a type of one letter: v behind V, else c
 letter : Bool → ℕ
 letter true = 118
 letter false = 99
 
+-- and the type itself
 of_letter : Bool → OutermostType
 of_letter true = Void
 of_letter false = Plain (Simple SignedChar)
 
+-- it is a byte
 letter_small : (t : Bool) → letter t < 256
 unfolding letter
 letter_small true = omega arith
 letter_small false = omega arith
 
-letter_leaves : (place : Place) (q : Qualifiers) (t : Bool) → qualifier_step place q (letter t) ≡ leaves
+-- it is no qualifier
+letter_leaves : (place : Place) (q : Qualifiers) (t : Bool)
+    → qualifier_step place q (letter t) ≡ leaves
 unfolding letter
 letter_leaves place q true = refl
 letter_leaves place q false = refl
 
-letter_spells : (place : Place) (t : Bool) → IsOutermost place t (letter t ∷ []) (of_letter t)
+-- it spells its type
+letter_spells : (place : Place) (t : Bool) → OuterByStep place t (letter t ∷ []) (of_letter t)
 unfolding letter of_letter
-letter_spells place true = record { value = 118; front = 118 ∷ []; back = []; parts = refl; first = record { alone = refl; passes = refl; small = omega arith }; second = record { nothing = refl; same = refl } }
-letter_spells place false = record { value = 99; front = 99 ∷ []; back = []; parts = refl; first = record { alone = refl; passes = refl; small = omega arith }; second = record { value = Simple SignedChar; spelled = record { nothing = refl; same = refl }; same = refl } }
+letter_spells place true = record {
+  value = 118;
+  front = 118 ∷ [];
+  back = [];
+  parts = refl;
+  first = record { alone = refl; passes = refl; small = omega arith };
+  second = record { nothing = refl; same = refl };
+}
+letter_spells place false = record {
+  value = 99;
+  front = 99 ∷ [];
+  back = [];
+  parts = refl;
+  first = record { alone = refl; passes = refl; small = omega arith };
+  second = record {
+    value = Simple SignedChar;
+    spelled = record { nothing = refl; same = refl };
+    same = refl;
+  };
+}
 
 module _ (place : Place) where
-  Reads-qualified : (q : Qualifiers) → Reads (IsQualified place q) (qualified_at place q)
-  Reads-qualified q = Reads-mapped (λ t. record { qualifiers = q; value_type = t }) (IsOutermost place q.oneway) (outermost_at place q.oneway) (Reads-outermost place q.oneway)
+  -- V stands before results alone
+  pub Lawful : Qualifiers → Type 0
+  Lawful q = q.oneway ≡ true → may_return place ≡ true
 
-  live : (q : Qualifiers) → Begins (Scans (qualifier_step place) (IsQualified place) q) []
+  -- the same qualifiers are lawful as well
+  kept : (q u : Qualifiers) → q ≡ u → Lawful q → Lawful u
+  kept q u e good = subst Lawful e good
+
+  -- qualifiers are lawful where V stands before results alone
+  pub lawful : (q : Qualifiers) → (q.oneway ≡ true → may_return place ≡ true) → Lawful q
+  unfolding Lawful
+  lawful q may = may
+
+  -- so are those with V
+  oneway_lawful : (q u : Qualifiers)
+      → cond (may_return place && not q.oneway) (Some (record q { oneway = true })) None ≡ Some u
+      → Lawful u
+  unfolding Lawful
+  oneway_lawful q u e = λ h. go (may_return place) (not q.oneway) e
+    where
+      go : (s t : Bool) → cond (s && t) (Some (record q { oneway = true })) None ≡ Some u → s ≡ true
+      go true t k = refl
+      go false t k = absurd cc
+
+  -- so are those with r
+  constant_lawful : (q u : Qualifiers) → Lawful q
+      → cond q.constant None (Some (record q { constant = true })) ≡ Some u → Lawful u
+  unfolding Lawful kept
+  constant_lawful q u good e = go q.constant e
+    where
+      go : (t : Bool) → cond t None (Some (record q { constant = true })) ≡ Some u → Lawful u
+      go true k = absurd cc
+      go false k =
+          kept (record q { constant = true }) u (some_same (record q { constant = true }) u k) good
+
+  -- so are those with a direction more
+  way_lawful : (q u : Qualifiers) (d : Direction) → Lawful q
+      → free_way q.direction (record q { direction = d }) ≡ Some u → Lawful u
+  unfolding Lawful kept
+  way_lawful q u d good e =
+      let next = record q { direction = d } in kept next u (way_same q.direction next u e) good
+
+  -- so are those with a way of passing more
+  passing_lawful : (q u : Qualifiers) (p : Passing) → Lawful q
+      → free_passing q.passing (record q { passing = p }) ≡ Some u → Lawful u
+  unfolding Lawful kept
+  passing_lawful q u p good e =
+      let next = record q { passing = p } in kept next u (passing_same q.passing next u e) good
+
+  -- no letter more changes that
+  stays : (q u : Qualifiers) (b : ℕ) → Lawful q → marked place q b ≡ Some u → Lawful u
+  stays q u b good e =
+      pick Lawful (b == 86) _ _ (λ u e. oneway_lawful q u e)
+      (pick Lawful (b == 114) _ _ (λ u e. constant_lawful q u good e)
+      (pick Lawful (b == 110) _ _ (λ u e. way_lawful q u ways.In good e)
+      (pick Lawful (b == 78) _ _ (λ u e. way_lawful q u ways.InOut good e)
+      (pick Lawful (b == 111) _ _ (λ u e. way_lawful q u ways.Out good e)
+      (pick Lawful (b == 79) _ _ (λ u e. passing_lawful q u passings.ByCopy good e)
+      (λ u e. passing_lawful q u passings.ByRef good e))))))
+      u e
+
+  -- a type behind these qualifiers, as it is read
+  abbrev ByMark : Qualifiers → List ℕ → QualifiedType → Type 0
+  ByMark q = Mapped (λ t. record { qualifiers = q; value_type = t }) (OuterByStep place q.oneway)
+
+  -- qualifiers and a type, as they are read
+  abbrev Steps : Qualifiers → List ℕ → QualifiedType → Type 0
+  Steps q text e = Scans (qualifier_step place) ByMark q text e
+
+  -- the same, as they are spelled
+  abbrev Behind : Qualifiers → List ℕ → QualifiedType → Type 0
+  Behind q text e = Scans (qualifier_step place) (IsQualified place) q text e
+
+  -- the type behind lawful qualifiers is spelled
+  at_type : (q : Qualifiers) (text : List ℕ) (e : QualifiedType) → Lawful q → ByMark q text e
+      → IsQualified place q text e
+  unfolding Lawful
+  at_type q text e good k =
+      let o = outer_is place q.oneway text k.value good k.spelled in
+      let made : IsQualified place q text (record { qualifiers = q; value_type = k.value }) =
+      record { marked = refl; spelled = o.spelled; stands = o.stands } in
+      subst (IsQualified place q text) k.same made
+
+  -- what is read by steps is spelled
+  to_spelled : (text : List ℕ) (q : Qualifiers) (e : QualifiedType) → Lawful q → Steps q text e
+      → Behind q text e
+  to_spelled [] q e good g = absurd g
+  to_spelled (b ∷ text) q e good g =
+      (g.0, on (λ u k h. to_spelled text u e k h) (qualifier_step place q b) refl g.1)
+    where
+      on : ((u : Qualifiers) → Lawful u → Steps u text e → Behind u text e)
+          → (t : Step Qualifiers Kind) → qualifier_step place q b ≡ t
+          → OnStep t (λ u. Steps u text e) (ByMark q (b ∷ text) e)
+          → OnStep t (λ u. Behind u text e) (IsQualified place q (b ∷ text) e)
+      on again (goes u) h k =
+          again u (stays q u b good (goes_marked (is_qualifier b) (marked place q b) u h)) k
+      on again leaves h k = at_type q (b ∷ text) e good k
+      on again (fails k) h l = absurd l
+
+  -- the type that is spelled behind qualifiers is read
+  by_mark : (q : Qualifiers) (text : List ℕ) (e : QualifiedType) → IsQualified place q text e
+      → ByMark q text e
+  by_mark q text e k =
+      let stands : MayStand place q.oneway e.value_type =
+      subst (λ (u : Qualifiers). MayStand place u.oneway e.value_type) (sym k.marked) k.stands in
+      let read = outer_read place q.oneway e.value_type stands in
+      record {
+        value = e.value_type;
+        spelled =
+            subst (λ (w : List ℕ). OuterByStep place q.oneway w e.value_type) (sym k.spelled) read;
+        same =
+            ap (λ (u : Qualifiers). record { qualifiers = u; value_type = e.value_type }) k.marked;
+      }
+
+  -- and what is spelled is read by steps
+  to_steps : (text : List ℕ) (q : Qualifiers) (e : QualifiedType) → Behind q text e
+      → Steps q text e
+  to_steps [] q e g = absurd g
+  to_steps (b ∷ text) q e g =
+      (g.0, on (λ u h. to_steps text u e h) (qualifier_step place q b) g.1)
+    where
+      on : ((u : Qualifiers) → Behind u text e → Steps u text e) → (t : Step Qualifiers Kind)
+          → OnStep t (λ u. Behind u text e) (IsQualified place q (b ∷ text) e)
+          → OnStep t (λ u. Steps u text e) (ByMark q (b ∷ text) e)
+      on again (goes u) k = again u k
+      on again leaves k = by_mark q (b ∷ text) e k
+      on again (fails k) l = absurd l
+
+  -- a type behind qualifiers is read exactly
+  Reads-mark : (q : Qualifiers) → Reads (ByMark q) (qualified_at place q)
+  Reads-mark q =
+      Reads-mapped (λ t. record { qualifiers = q; value_type = t }) (OuterByStep place q.oneway)
+      (outermost_at place q.oneway) (Reads-outer place q.oneway)
+
+  -- from any qualifiers on an encoding can be spelled
+  live : (q : Qualifiers) → Begins (Scans (qualifier_step place) ByMark q) []
   live q = record {
     more = letter q.oneway ∷ [];
     value = record { qualifiers = q; value_type = of_letter q.oneway };
-    spelled = (letter_small q.oneway, rw (letter_leaves place q q.oneway) (record { value = of_letter q.oneway; spelled = letter_spells place q.oneway; same = refl }));
+    spelled = (
+      letter_small q.oneway,
+      rw (letter_leaves place q q.oneway) (record {
+        value = of_letter q.oneway;
+        spelled = letter_spells place q.oneway;
+        same = refl;
+      }),
+    );
   }
 
-  solid : (q : Qualifiers) (x : Encoding) → IsQualified place q [] x → ⊥
-  solid q x g = let e = g.spelled.first.alone in let p = g.spelled.parts in let c = ap (λ (w : List ℕ). w ++ g.spelled.back) e in absurd cc
+  -- nothing is no type
+  solid : (q : Qualifiers) (x : QualifiedType) → ByMark q [] x → ⊥
+  solid q x g =
+      let e = g.spelled.first.alone in
+      let p = g.spelled.parts in
+      let c = ap (λ (w : List ℕ). w ++ g.spelled.back) e in
+      absurd cc
 
+  -- no qualifiers are lawful
+  none_lawful : Lawful bare
+  unfolding Lawful
+  none_lawful h = absurd (false≢true h)
+
+  -- an encoding at a place is read exactly
   pub Reads-encoding_at : Reads (IsEncodingAt place) (encoding_at place)
   unfolding encoding_at
   Reads-encoding_at =
-      Reads-scanned (IsEncodingAt place) (qualifier_step place) (qualified_at place) bare
-      (Reads-scan (qualifier_step place) (IsQualified place) (qualified_at place) (λ q. Unit {0}) (λ q b t good e. tt) (λ q good. live q) (λ q b good e. Reads-qualified q) solid bare tt)
+      Reads-as (Scans (qualifier_step place) ByMark bare) (IsEncodingAt place) (encoding_at place)
+      (encoding_at place) (λ text e g. to_spelled text bare e none_lawful g)
+      (λ text e g. to_steps text bare e g) (λ bytes. refl)
+      (Reads-scanned (Scans (qualifier_step place) ByMark bare) (qualifier_step place)
+      (qualified_at place) bare
+      (Reads-scan (qualifier_step place) ByMark (qualified_at place) (λ q. Unit {0})
+      (λ q b t good e. tt) (λ q good. live q) (λ q b good e. Reads-mark q) solid bare tt))
 
--- ---- sizes and offsets at the end
-
-module _ {A : Type 0} (x : A) where
-  -- running to the end is passing over the offset and finding nothing left
-  run-skip : (bytes : List ℕ) (s : Offset) → run last_step (offset_ends x) s bytes ≡ (skip s bytes >>= nothing_left x)
-  run-skip [] fresh = refl
-  run-skip [] signed = refl
-  run-skip [] digits = refl
-  run-skip (b ∷ bytes) s = on (λ t. run-skip bytes t) (offset_step s b)
+  -- what is spelled at a place may stand there
+  pub encoding_stands : (text : List ℕ) (q : Qualifiers) (e : QualifiedType) → Behind q text e
+      → IsEncodingOf place e
+  encoding_stands [] q e g = absurd g
+  encoding_stands (b ∷ text) q e g =
+      on (λ u h. encoding_stands text u e h) (qualifier_step place q b) g.1
     where
-      on : ((t : Offset) → run last_step (offset_ends x) t bytes ≡ (skip t bytes >>= nothing_left x)) → (t : Step Offset Kind)
-          → by_result (by_step t (λ t. Ok t) (Err BadChar) (λ k. Err k)) (λ t. run last_step (offset_ends x) t bytes) (λ k. Err (bad k (suc (length bytes))))
-          ≡ (by_step t (λ t. skip t bytes) (Ok (b ∷ bytes)) (λ k. Err (bad k (suc (length bytes)))) >>= nothing_left x)
-      on again (goes t) = again t
-      on again leaves = refl
-      on again (fails k) = refl
+      on : ((u : Qualifiers) → Behind u text e → IsEncodingOf place e)
+          → (t : Step Qualifiers Kind)
+          → OnStep t (λ u. Behind u text e) (IsQualified place q (b ∷ text) e)
+          → IsEncodingOf place e
+      on again (goes u) k = again u k
+      on again leaves k = k.stands
+      on again (fails k) l = absurd l
 
-  offset_live : (s : Offset) → Begins (Runs last_step (offset_ends x) s) []
-  offset_live fresh = record { more = []; value = x; spelled = refl }
-  offset_live signed = record { more = 48 ∷ []; value = x; spelled = (omega arith, refl) }
-  offset_live digits = record { more = []; value = x; spelled = refl }
+-- ---- the first byte
 
-  Reads-last : ReadsWhole (Runs last_step (offset_ends x) fresh) (after_offset (nothing_left x))
-  Reads-last =
-      Whole-as (Runs last_step (offset_ends x) fresh) (Runs last_step (offset_ends x) fresh) (run last_step (offset_ends x) fresh) (after_offset (nothing_left x)) (λ text y g. g) (λ text y g. g) (λ bytes. run-skip bytes fresh)
-      (Reads-run last_step (offset_ends x) (λ s. Unit {0}) (λ s b t u e. tt) (λ s u. offset_live s) fresh tt)
+-- the first byte of an outermost type
+pub record BeginsOuter (place : Place) (oneway : Bool) (text : List ℕ) : Type 0 where
+  pub byte : ℕ
+  pub rest : List ℕ
+  pub parts : text ≡ byte ∷ rest
+  pub begins : begins_outermost place oneway byte ≡ true
+  pub small : byte < 256
 
+-- the spelling of a type that may stand there begins with a byte that may
+pub outer_begins : (place : Place) (oneway : Bool) (x : OutermostType) → MayStand place oneway x
+    → BeginsOuter place oneway (outermost_spelling x)
+outer_begins place oneway x may =
+    let g = outer_read place oneway x may in
+    record {
+      byte = g.value;
+      rest = g.back;
+      parts = g.parts ∙ ap (λ (w : List ℕ). w ++ g.back) g.first.alone;
+      begins = g.first.passes;
+      small = g.first.small;
+    }
+
+-- ---- an encoding by itself
+
+-- an encoding by itself is read exactly
 pub Reads-alone : ReadsWhole IsEncoding alone_at
 unfolding alone_at
-Reads-alone = Reads-then_whole (IsEncodingAt Alone) (λ e. Runs last_step (offset_ends e) fresh) (encoding_at Alone) (λ e. after_offset (nothing_left e)) (Reads-encoding_at Alone) (λ e text g. Reads-last e)
+Reads-alone =
+    Reads-then_whole (IsEncodingAt Alone)
+    (λ e. Accepts (last_step (λ b. BadChar)) (offset_ends e) fresh) (encoding_at Alone)
+    (λ e. after_offset (nothing_left (λ b. BadChar) e)) (Reads-encoding_at Alone)
+    (λ e text g. Reads-last (λ b. BadChar) e)

@@ -1,62 +1,103 @@
 -- What is left behind a size or offset.
-use Rattle.std.proofs.Common.{◌≡◌, ◌≢◌, ℕ, suc, ◌<◌, ◌≤◌, true, false, leb, List, [], ◌∷◌, length, Ok, Err, refl, arith}
+use Rattle.std.proofs.Common.{◌≡◌, ◌≢◌, ℕ, suc, ◌<◌, ◌≤◌, true, false, leb, List, [], ◌∷◌, length}
+use Rattle.std.proofs.Common.{Ok, Err, refl, arith}
 use Rattle.std.specs.Prelude.{◌&&◌}
 use Rattle.std.proofs.lemmas.Bool.{ne_eqb}
 use Rattle.std.proofs.lemmas.Bool.Decides.{nat_tests}
 use Rattle.do_grammar.specs.Reader.{short, bad}
 use Rattle.do_sig.specs.declared.fault.Kind.TheVariants.{BadChar}
-use Rattle.do_sig.specs.Offsets.{fresh, digits, skip}
+use Rattle.do_sig.specs.Offsets.{fresh, digits}
+use Rattle.do_sig.specs.reading.Offsets.{skip}
 
+-- a byte below the digits is none
 is_low : (b : ℕ) → b < 48 → (leb 48 b && leb b 57) ≡ false
 is_low b h = grind (arith, nat_tests)
 
+-- a byte above them is none
 is_high : (b : ℕ) → 57 < b → (leb 48 b && leb b 57) ≡ false
 is_high b h = grind (arith, nat_tests)
 
+-- a byte between is one
 is_within : (b : ℕ) → 48 ≤ b → b ≤ 57 → (leb 48 b && leb b 57) ≡ true
 is_within b h k = grind (arith, nat_tests)
 
+-- behind digits nothing is left of nothing
 pub skip_end : (s : List ℕ) → s ≡ [] → skip digits s ≡ Ok s
 skip_end s e = rw e refl
 
+-- digits end at a byte below them
 pub skip_low : (b : ℕ) (rest : List ℕ) → b < 48 → skip digits (b ∷ rest) ≡ Ok (b ∷ rest)
 skip_low b rest h = let e = is_low b h in rw e refl
 
+-- digits end at a byte above them
 pub skip_high : (b : ℕ) (rest : List ℕ) → 57 < b → skip digits (b ∷ rest) ≡ Ok (b ∷ rest)
 skip_high b rest h = let e = is_high b h in rw e refl
 
-pub skip_digit : (b : ℕ) (rest : List ℕ) → 48 ≤ b → b ≤ 57 → skip digits (b ∷ rest) ≡ skip digits rest
+-- a digit more is passed over
+pub skip_digit : (b : ℕ) (rest : List ℕ) → 48 ≤ b → b ≤ 57
+    → skip digits (b ∷ rest) ≡ skip digits rest
 skip_digit b rest h k = let e = is_within b h k in rw e refl
 
+-- nothing is left of nothing
 pub fresh_end : (s : List ℕ) → s ≡ [] → skip fresh s ≡ Ok s
 fresh_end s e = rw e refl
 
 -- with no sign in front, it is the digits that are passed over
-pub no_sign : (b : ℕ) (rest : List ℕ) → b ≢ 43 → b ≢ 45 → skip fresh (b ∷ rest) ≡ skip digits (b ∷ rest)
+pub no_sign : (b : ℕ) (rest : List ℕ) → b ≢ 43 → b ≢ 45
+    → skip fresh (b ∷ rest) ≡ skip digits (b ∷ rest)
 no_sign b rest p q = let e = ne_eqb b 43 p in let f = ne_eqb b 45 q in rw (e, f) refl
 
+-- nothing may not stand behind +
 pub plus_end : (s : List ℕ) → s ≡ [] → skip fresh (43 ∷ s) ≡ Err short
 plus_end s e = rw e refl
 
+-- nothing may not stand behind -
 pub minus_end : (s : List ℕ) → s ≡ [] → skip fresh (45 ∷ s) ≡ Err short
 minus_end s e = rw e refl
 
-pub plus_digit : (d : ℕ) (rest : List ℕ) → 48 ≤ d → d ≤ 57 → skip fresh (43 ∷ d ∷ rest) ≡ skip digits rest
+-- a digit behind + is passed over
+pub plus_digit : (d : ℕ) (rest : List ℕ) → 48 ≤ d → d ≤ 57
+    → skip fresh (43 ∷ d ∷ rest) ≡ skip digits rest
 plus_digit d rest h k = let e = is_within d h k in rw e refl
 
-pub minus_digit : (d : ℕ) (rest : List ℕ) → 48 ≤ d → d ≤ 57 → skip fresh (45 ∷ d ∷ rest) ≡ skip digits rest
+-- a digit behind - is passed over
+pub minus_digit : (d : ℕ) (rest : List ℕ) → 48 ≤ d → d ≤ 57
+    → skip fresh (45 ∷ d ∷ rest) ≡ skip digits rest
 minus_digit d rest h k = let e = is_within d h k in rw e refl
 
-pub plus_low : (d : ℕ) (rest : List ℕ) → d < 48 → skip fresh (43 ∷ d ∷ rest) ≡ Err (bad BadChar (suc (length rest)))
+-- no byte below the digits stands behind +
+pub plus_low : (d : ℕ) (rest : List ℕ) → d < 48
+    → skip fresh (43 ∷ d ∷ rest) ≡ Err (bad BadChar (suc (length rest)))
 plus_low d rest h = let e = is_low d h in rw e refl
 
-pub plus_high : (d : ℕ) (rest : List ℕ) → 57 < d → skip fresh (43 ∷ d ∷ rest) ≡ Err (bad BadChar (suc (length rest)))
+-- no byte above the digits stands behind +
+pub plus_high : (d : ℕ) (rest : List ℕ) → 57 < d
+    → skip fresh (43 ∷ d ∷ rest) ≡ Err (bad BadChar (suc (length rest)))
 plus_high d rest h = let e = is_high d h in rw e refl
 
-pub minus_low : (d : ℕ) (rest : List ℕ) → d < 48 → skip fresh (45 ∷ d ∷ rest) ≡ Err (bad BadChar (suc (length rest)))
+-- no byte below the digits stands behind -
+pub minus_low : (d : ℕ) (rest : List ℕ) → d < 48
+    → skip fresh (45 ∷ d ∷ rest) ≡ Err (bad BadChar (suc (length rest)))
 minus_low d rest h = let e = is_low d h in rw e refl
 
-pub minus_high : (d : ℕ) (rest : List ℕ) → 57 < d → skip fresh (45 ∷ d ∷ rest) ≡ Err (bad BadChar (suc (length rest)))
+-- no byte above the digits stands behind -
+pub minus_high : (d : ℕ) (rest : List ℕ) → 57 < d
+    → skip fresh (45 ∷ d ∷ rest) ≡ Err (bad BadChar (suc (length rest)))
 minus_high d rest h = let e = is_high d h in rw e refl
 
-pub ruleset offset_steps = (skip_end, skip_low, skip_high, skip_digit, fresh_end, no_sign, plus_end, minus_end, plus_digit, minus_digit, plus_low, plus_high, minus_low, minus_high)
+pub ruleset offset_steps = (
+  skip_end,
+  skip_low,
+  skip_high,
+  skip_digit,
+  fresh_end,
+  no_sign,
+  plus_end,
+  minus_end,
+  plus_digit,
+  minus_digit,
+  plus_low,
+  plus_high,
+  minus_low,
+  minus_high,
+)

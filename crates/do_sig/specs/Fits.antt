@@ -1,12 +1,19 @@
 -- Which values fit which types.
-use Rattle.std.specs.Prelude.{ℕ, ◌==◌, ◌&&◌, ◌||◌, Bool, true, false, not, int_le, ℤ, pos, negsuc, List as Listed, [], ◌∷◌, length}
+use Rattle.std.specs.Prelude.{ℕ, ◌==◌, ◌&&◌, ◌||◌, Bool, true, false, not, int_le, ℤ, pos, negsuc}
+use Rattle.std.specs.Prelude.{List as Listed, [], ◌∷◌, length}
 use Rattle.std.specs.List.{list_all}
-use Rattle.do_base.specs.declared.value.Value.{Value, out-Value}
-use Rattle.do_base.specs.declared.value.Value.TheOpen.{Value-F, Nil, Num, Text, Obj, List}
+use Rattle.do_base.specs.declared.values.value.Value.{Value, out-Value}
+use Rattle.do_base.specs.declared.values.value.Value.TheOpen.{Value-F, Nil, Num, Text, Obj, List}
 use Rattle.do_sig.specs.declared.value_type.Scalar.{Scalar}
-use Rattle.do_sig.specs.declared.value_type.Scalar.TheVariants.{SignedChar, Short, Int, Long, LongLong, UnsignedChar, UnsignedShort, UnsignedInt, UnsignedLong, UnsignedLongLong, Boolean, CString, Object, Class, Selector}
+use Rattle.do_sig.specs.declared.value_type.Scalar.TheVariants.{SignedChar, Short, Int, Long}
+use Rattle.do_sig.specs.declared.value_type.Scalar.TheVariants.{LongLong, UnsignedChar}
+use Rattle.do_sig.specs.declared.value_type.Scalar.TheVariants.{UnsignedShort, UnsignedInt}
+use Rattle.do_sig.specs.declared.value_type.Scalar.TheVariants.{UnsignedLong, UnsignedLongLong}
+use Rattle.do_sig.specs.declared.value_type.Scalar.TheVariants.{Boolean, CString, Object, Class}
+use Rattle.do_sig.specs.declared.value_type.Scalar.TheVariants.{Selector}
 use Rattle.do_sig.specs.declared.value_type.ValueType.{ValueType, fold-ValueType}
-use Rattle.do_sig.specs.declared.value_type.ValueType.TheOpen.{ValueType-F, Simple, Array, Structure}
+use Rattle.do_sig.specs.declared.value_type.ValueType.TheOpen.{ValueType-F, Simple, Array}
+use Rattle.do_sig.specs.declared.value_type.ValueType.TheOpen.{Structure}
 use Rattle.do_sig.specs.declared.value_type.OutermostType.{OutermostType}
 use Rattle.do_sig.specs.declared.value_type.OutermostType.TheVariants.{Void, Pointer, Plain}
 use Rattle.do_grammar.specs.Names.{is_name, is_selector}
@@ -79,10 +86,11 @@ abbrev pub is_list_that : (Listed Value → Bool) → Value-F Value → Bool
 is_list_that test (List vs) = test vs
 is_list_that test _ = false
 
--- a list of so many values that fit one type, or of one for each type
+-- a list of as many values as the count says that fit one type, or of one for each type
 abbrev pub fits_step : ValueType-F (Value → Bool) → Value → Bool
 fits_step (Simple s) v = simple_fits s v
-fits_step (Array count item) v = is_list_that (λ vs. (length vs == count) && list_all item vs) (out-Value v)
+fits_step (Array count item) v =
+    is_list_that (λ vs. (length vs == count) && list_all item vs) (out-Value v)
 fits_step (Structure name members) v = is_list_that (each_takes members) (out-Value v)
 
 -- a value fits a type

@@ -1,9 +1,6 @@
 -- The one spelling that is printed.
 use Rattle.std.specs.Prelude.{ℕ, Bool, true, false, List, [], ◌∷◌, ◌++◌}
 use Rattle.std.specs.List.{flat_map}
-use Rattle.std.specs.Fmt.{decimal}
-use Rattle.do_sig.specs.declared.value_type.ValueType.{ValueType, fold-ValueType}
-use Rattle.do_sig.specs.declared.value_type.ValueType.TheOpen.{ValueType-F, Simple, Array, Structure}
 use Rattle.do_sig.specs.declared.value_type.OutermostType.{OutermostType}
 use Rattle.do_sig.specs.declared.value_type.OutermostType.TheVariants.{Void, Pointer, Plain}
 use Rattle.do_sig.specs.declared.qualifiers.Qualifiers.{Qualifiers}
@@ -11,19 +8,8 @@ use Rattle.do_sig.specs.declared.qualifiers.Direction.{Direction}
 use Rattle.do_sig.specs.declared.qualifiers.Direction.TheVariants as ways
 use Rattle.do_sig.specs.declared.qualifiers.Passing.{Passing}
 use Rattle.do_sig.specs.declared.qualifiers.Passing.TheVariants as passings
-use Rattle.do_sig.specs.declared.encoding.Encoding.{Encoding}
-use Rattle.do_sig.specs.declared.signature.Signature.{Signature}
-use Rattle.do_sig.specs.Codes.{code_of}
-
--- a letter, [count type], or {name=types}
-abbrev pub spelling_step : ValueType-F (List ℕ) → List ℕ
-spelling_step (Simple s) = code_of s ∷ []
-spelling_step (Array count item) = 91 ∷ (decimal count ++ (item ++ 93 ∷ []))
-spelling_step (Structure name members) = 123 ∷ (name ++ 61 ∷ (flat_map (λ m. m) members ++ 125 ∷ []))
-
--- what a type is printed as
-abbrev pub type_spelling : ValueType → List ℕ
-type_spelling = fold-ValueType (List ℕ) spelling_step
+use Rattle.do_sig.specs.MethodTypes.{QualifiedType, MethodType}
+use Rattle.do_sig.specs.Types.{type_spelling}
 
 -- what an outermost type is printed as
 abbrev pub outermost_spelling : OutermostType → List ℕ
@@ -51,12 +37,14 @@ passing_letters passings.ByRef = 82 ∷ []
 
 -- V, r, then n, N or o, then O or R
 abbrev pub qualifier_letters : Qualifiers → List ℕ
-qualifier_letters q = letter_if q.oneway 86 ++ (letter_if q.constant 114 ++ (way_letters q.direction ++ passing_letters q.passing))
+qualifier_letters q =
+    letter_if q.oneway 86
+    ++ (letter_if q.constant 114 ++ (way_letters q.direction ++ passing_letters q.passing))
 
 -- the qualifiers and the type
-abbrev pub encoding_spelling : Encoding → List ℕ
+abbrev pub encoding_spelling : QualifiedType → List ℕ
 encoding_spelling e = qualifier_letters e.qualifiers ++ outermost_spelling e.value_type
 
 -- the result, @, : and the arguments
-abbrev pub signature_spelling : Signature → List ℕ
+abbrev pub signature_spelling : MethodType → List ℕ
 signature_spelling s = encoding_spelling s.returned ++ 64 ∷ 58 ∷ flat_map encoding_spelling s.args

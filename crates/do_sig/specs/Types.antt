@@ -1,57 +1,49 @@
--- How a type is read.
-use Rattle.std.specs.Prelude.{ℕ, zero, suc, ◌+◌, ◌-◌, ◌*◌, ◌==◌, ◌&&◌, ◌||◌, not, Bool, true, false, nat_lt, nat_le, List, [], ◌∷◌, ◌++◌, length, Option, Some, None, if◌then◌else◌}
-use Rattle.do_grammar.specs.Reader.{Reader, done, and_then, mapped, byte_of, until, Step, goes, leaves, fails, scan_to}
-use Rattle.do_sig.specs.declared.fault.Kind.{Kind}
-use Rattle.do_sig.specs.declared.fault.Kind.TheVariants.{Unsupported, Deep, BadChar}
-use Rattle.do_sig.specs.declared.value_type.ValueType.{ValueType, Array, Structure}
-use Rattle.do_sig.specs.declared.value_type.ValueType.TheVariants.{Simple}
-use Rattle.do_sig.specs.Codes.{is_code, scalar_of, is_unsupported, is_digit, is_name_letter}
+-- Which types there are, and which text spells which of them.
+use Rattle.std.specs.Prelude.{◌≡◌, ℕ, zero, suc, ◌==◌, ◌&&◌, ◌||◌, Bool, true, false, nat_le}
+use Rattle.std.specs.Prelude.{nat_lt, List, [], ◌∷◌, ◌++◌, length}
+use Rattle.std.specs.List.{flat_map, list_all}
+use Rattle.std.specs.Fmt.{decimal}
+use Rattle.do_sig.specs.declared.value_type.ValueType.{ValueType, fold-ValueType}
+use Rattle.do_sig.specs.declared.value_type.ValueType.TheOpen.{ValueType-F, Simple, Array}
+use Rattle.do_sig.specs.declared.value_type.ValueType.TheOpen.{Structure}
+use Rattle.do_sig.specs.Letters.{letter_of, is_name_letter, is_digit}
 
--- a byte begins a type, where so many more may be open
-abbrev pub begins_type : ℕ → ℕ → Bool
-begins_type depth b = is_code b || ((b == 91 || b == 123) && nat_lt 0 depth)
+-- a letter, [count type], or {name=types}; a count is a decimal number
+abbrev pub spelling_step : ValueType-F (List ℕ) → List ℕ
+spelling_step (Simple s) = letter_of s ∷ []
+spelling_step (Array count item) = 91 ∷ (decimal count ++ (item ++ 93 ∷ []))
+spelling_step (Structure name members) =
+    123 ∷ (name ++ 61 ∷ (flat_map (λ m. m) members ++ 125 ∷ []))
 
--- why it does not
-abbrev pub why_no_type : ℕ → ℕ → Kind
-why_no_type depth b = if (b == 91 || b == 123) && depth == 0 then Deep else (if is_unsupported b then Unsupported else BadChar)
+-- the one spelling of a type
+abbrev pub type_spelling : ValueType → List ℕ
+type_spelling = fold-ValueType (List ℕ) spelling_step
 
--- a count up to 1,024 with no zero in front: nothing so far, or some number
-abbrev pub count_step : Option ℕ → ℕ → Step (Option ℕ) Kind
-count_step None b = if is_digit b then goes (Some (b - 48)) else fails BadChar
-count_step (Some n) b = if is_digit b then (if n == 0 then fails BadChar else (if nat_le (n * 10 + (b - 48)) 1024 then goes (Some (n * 10 + (b - 48))) else fails Unsupported)) else leaves
+-- a letter, a digit, an underscore or a dollar sign
+abbrev pub goes_in_name : ℕ → Bool
+goes_in_name b = is_name_letter b || is_digit b
 
--- a name goes on with a byte: one letter more, a digit behind a letter, or a ? alone
-abbrev pub goes_on_name : List ℕ → ℕ → Bool
-goes_on_name [] b = is_name_letter b || b == 63
-goes_on_name (c ∷ cs) b = (is_name_letter b || is_digit b) && (not (c == 63) && nat_lt (length (c ∷ cs)) 64)
+-- the name of a structure: a ? alone, or at most 64 letters and digits, the first no digit
+abbrev pub is_structure_name : List ℕ → Bool
+is_structure_name [] = false
+is_structure_name (b ∷ bytes) =
+    (b == 63 && length bytes == 0)
+    || (is_name_letter b && (list_all goes_in_name bytes && nat_lt (length bytes) 64))
 
--- a name is not empty
-abbrev pub is_some_name : List ℕ → Bool
-is_some_name [] = false
-is_some_name (c ∷ cs) = true
+-- counts up to 1,024, names of structures, and no more types open than may be
+abbrev pub within_step : ValueType-F (ℕ → Bool) → ℕ → Bool
+within_step (Simple s) depth = true
+within_step (Array count item) zero = false
+within_step (Array count item) (suc depth) = nat_le count 1024 && item depth
+within_step (Structure name members) zero = false
+within_step (Structure name members) (suc depth) =
+    is_structure_name name && list_all (λ member. member depth) members
 
--- the name of a structure, up to =
-abbrev pub name_step : List ℕ → ℕ → Step (List ℕ) Kind
-name_step s b = if goes_on_name s b then goes (s ++ b ∷ []) else (if b == 61 && is_some_name s then leaves else (if b == 125 then fails Unsupported else fails BadChar))
+-- the profile has a type where this many more may be open
+abbrev pub is_within : ValueType → ℕ → Bool
+is_within = fold-ValueType (ℕ → Bool) within_step
 
--- one byte, and no other
-abbrev pub exactly : ℕ → Reader Kind ℕ
-exactly c = byte_of (λ b. b == c) (λ b. BadChar)
-
--- behind [ and its count: one type and ]
-abbrev pub array_at : Reader Kind ValueType → Option ℕ → Reader Kind ValueType
-array_at r None = and_then r (λ t. done (Array 0 t))
-array_at r (Some n) = and_then r (λ t. mapped (λ b. Array n t) (exactly 93))
-
--- behind { and its name: =, types and }
-abbrev pub structure_at : Reader Kind ValueType → List ℕ → Reader Kind ValueType
-structure_at r name = and_then (exactly 61) (λ b. mapped (λ ts. Structure name ts) (until 125 r))
-
--- what follows a byte that begins a type
-abbrev pub body_at : Reader Kind ValueType → ℕ → Reader Kind ValueType
-body_at r b = if b == 91 then and_then (scan_to count_step None) (array_at r) else (if b == 123 then and_then (scan_to name_step []) (structure_at r) else done (Simple (scalar_of b)))
-
--- a type, where so many more may be open
-unfoldable pub type_at : ℕ → Reader Kind ValueType
-type_at zero = and_then (byte_of (begins_type 0) (why_no_type 0)) (λ b. done (Simple (scalar_of b)))
-type_at (suc d) = and_then (byte_of (begins_type (suc d)) (why_no_type (suc d))) (body_at (type_at d))
+-- a text spells a type that may stand where this many more may be open
+pub record IsType (depth : ℕ) (text : List ℕ) (t : ValueType) : Type 0 where
+  pub spelled : text ≡ type_spelling t
+  pub within : is_within t depth ≡ true

@@ -1,8 +1,10 @@
 ghost use Rattle.std.specs.Prelude.{◌≡◌};
-ghost use Rattle.do_sig.specs.Told.{fault_of_kind, fault_of, IsWithin};
+ghost use Rattle.do_sig.specs.Answers.{fault_of_kind, fault_of, IsWithin};
 ghost use Rattle.do_sig.specs.declared.fault.Stop.TheVariants.{Memory};
 
 use std::alloc::{AllocError, AllocFailed};
+use std::error::Error;
+use std::fmt;
 
 /// Why bytes are no encoding, with the place of the first byte with which none goes on.
 #[derive(Clone, Copy, Debug, PartialEq, Eq)]
@@ -23,8 +25,24 @@ pub enum EncFault {
     Memory,
 }
 
+impl fmt::Display for EncFault {
+    fn fmt<W: fmt::Write>(&self, f: &mut fmt::Formatter<W>) -> fmt::Result {
+        match self {
+            EncFault::BadChar(place) => write!(f, "nothing goes on with the byte at {place}"),
+            EncFault::Ends => write!(f, "the encoding ends too early"),
+            EncFault::Unsupported(place) => write!(f, "the type at {place} is not supported here"),
+            EncFault::Deep(place) => write!(f, "more than eight types are open at {place}"),
+            EncFault::NoSelf(place) => write!(f, "no bare `@` and `:` stand at {place}"),
+            EncFault::TooManyArgs(place) => write!(f, "a ninth argument begins at {place}"),
+            EncFault::Memory => write!(f, "memory ran out"),
+        }
+    }
+}
+
+impl Error for EncFault {}
+
 /// What is wrong with a byte.
-#[derive(Clone, Copy, Debug, PartialEq, Eq)]
+#[derive(Clone, Copy)]
 pub(crate) enum Kind {
     Unsupported,
     Deep,
@@ -34,12 +52,12 @@ pub(crate) enum Kind {
 }
 
 /// Why reading stopped.
-#[derive(Debug, Drop)]
+#[derive(Drop)]
 pub(crate) enum Stop {
     Memory,
     /// The bytes end before the spelling does.
     Short,
-    /// What is wrong with the byte from which on so many are left.
+    /// What is wrong with a byte, and how many bytes are left from it on.
     Bad(Kind, usize),
 }
 
@@ -59,6 +77,7 @@ impl<T: Drop> From<AllocFailed<T>> for Stop {
     }
 }
 
+/// The fault of a kind at a place.
 fn fault_at(kind: Kind, place: usize) -> EncFault
     ensures { result ≡ fault_of_kind kind place }
 {
@@ -72,7 +91,7 @@ fn fault_at(kind: Kind, place: usize) -> EncFault
 }
 
 impl Stop {
-    /// The fault, with its place in so many bytes.
+    /// The fault, with its place in bytes of a length.
     pub(crate) fn fault(self, len: usize) -> EncFault
         requires { IsWithin self len }
         ensures { result ≡ fault_of self len }

@@ -1,21 +1,22 @@
 //! The Objective-C runtimes' type encodings and method signatures: reading, printing, and what they
 //! say of the values of a call.
 //!
+//! It stands on do_base for values and texts, and on do_grammar for readers that are exact. It
+//! promises that every `Encoding` and every `Signature` has a spelling, that what is printed is
+//! read again as the same value, and that each refusal names the first byte that is wrong.
+//!
 //! The letters are those of "Type Encodings" in Apple's Objective-C Runtime Programming Guide, as
-//! `@encode` of clang and of GNUstep's and Apple's runtimes gives them. The profile, with its limits
-//! (eight types open at once, counts up to 1,024, names up to 64 bytes, eight arguments), is this
-//! project's own, and so is what fits which type.
+//! `@encode` of clang and of GNUstep's and Apple's runtimes gives them. The profile is this
+//! project's own, with its limits (eight types open at once, counts up to 1,024, names up to 64
+//! bytes, eight arguments), and so is what fits which type.
 #![tactic(auto)]
 
 mod encoding;
 mod fault;
-mod fits;
-mod offset;
-mod printing;
+mod letters;
+mod outermost;
 mod qualifiers;
-mod reading;
 mod signature;
-mod signature_reading;
 mod types;
 mod value_type;
 
@@ -24,6 +25,3 @@ pub use fault::EncFault;
 pub use qualifiers::{Direction, Passing, Qualifier, Qualifiers};
 pub use signature::Signature;
 pub use value_type::{OutermostType, Scalar, ValueType};
-
-#[cfg(test)]
-mod tests;

@@ -1,8 +1,11 @@
+ghost use Rattle.std.specs.Prelude.{◌≡◌};
+ghost use Rattle.do_sig.specs.Bare.{bare};
+
 /// Which way an argument's value goes, as `n`, `N` and `o` say.
 ///
 /// Apple's "The Objective-C Programming Language" has them as `in`, `inout` and `out`, under
 /// "Remote Messaging". They mean something for pointers alone.
-#[derive(Clone, Copy, Debug, PartialEq, Eq)]
+#[derive(Clone, Copy, Debug)]
 pub enum Direction {
     /// No letter.
     Unmarked,
@@ -15,7 +18,7 @@ pub enum Direction {
 }
 
 /// How an object is passed, as `O` and `R` say: `bycopy` and `byref` of Objective-C.
-#[derive(Clone, Copy, Debug, PartialEq, Eq)]
+#[derive(Clone, Copy, Debug)]
 pub enum Passing {
     /// No letter.
     Unmarked,
@@ -26,7 +29,7 @@ pub enum Passing {
 }
 
 /// What stands before an outermost type, each letter at most once and in any order.
-#[derive(Clone, Copy, Debug, PartialEq, Eq)]
+#[derive(Clone, Copy, Debug)]
 pub struct Qualifiers {
     /// `V`, which stands before a result of type `v` alone.
     pub oneway: bool,
@@ -39,7 +42,7 @@ pub struct Qualifiers {
 }
 
 /// What an argument's qualifiers and type mean for a call.
-#[derive(Clone, Copy, Debug, PartialEq, Eq)]
+#[derive(Clone, Copy, Debug)]
 pub struct Qualifier {
     /// Whether the caller's value goes to the receiver.
     pub goes_in: bool,
@@ -47,4 +50,18 @@ pub struct Qualifier {
     pub comes_out: bool,
     /// Whether objects are passed as copies.
     pub copy: bool,
+}
+
+impl Qualifiers {
+    /// No qualifiers.
+    pub fn none() -> Qualifiers
+        ensures { result ≡ bare }
+    {
+        Qualifiers {
+            oneway: false,
+            constant: false,
+            direction: Direction::Unmarked,
+            passing: Passing::Unmarked,
+        }
+    }
 }

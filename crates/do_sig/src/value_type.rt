@@ -5,7 +5,7 @@ use sqlite_items::Boxed;
 ///
 /// Letters are those of Apple's "Type Encodings". The width of `l` and `L`, and that values of `L`
 /// and `Q` end at 2^63 - 1, are this project's own.
-#[derive(Clone, Copy, Debug, PartialEq, Eq)]
+#[derive(Clone, Copy, Debug)]
 pub enum Scalar {
     /// `c`, 8 bits.
     SignedChar,
@@ -47,7 +47,7 @@ pub enum Scalar {
 pub enum ValueType {
     /// A type by itself.
     Simple(Scalar),
-    /// `[count type]`: a list of so many values of one type.
+    /// `[count type]`: a list of that many values of one type.
     Array(u16, Boxed<ValueType>),
     /// `{name=types}`: a list of one value for each type.
     Structure(Text, Items<ValueType>),

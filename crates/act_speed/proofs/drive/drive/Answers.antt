@@ -1,15 +1,18 @@
-use Rattle.std.proofs.Common.{◌≡◌, Some, sym, ◌∙◌, ap, add-one}
-use Rattle.std.specs.Prelude.{option_and_then}
+use Rattle.std.proofs.Common.{◌≡◌, Option, Some, None, sym, ◌∙◌, ap, add-one}
+use Rattle.std.specs.Prelude.{option_and_then, if◌then◌else◌}
+use Rattle.std.specs.Option.{option_map}
+use Rattle.do_behave.specs.InPlace.{after_act}
 use Rattle.do_behave.specs.Script.{script}
-use Rattle.act_speed.specs.Going.{goes_on}
-use Rattle.act_speed.proofs.Goes.{goes}
+use Rattle.do_behave.specs.declared.invocation.Invocation.{Invocation}
+use Rattle.act_speed.specs.Driven.{Driven, next}
 use Rattle.act_speed.proofs.drive.drive.Goals as goal
 
 pub loop-done-preserved : goal.loop-done-preserved
 loop-done-preserved c =
-    let act : goes_on c.loop-done.inv (script c.args.program.now c.args.table.now c.loop-done.inv c.args.slots.now) ≡ Some c.in-Some.next =
-    ap (goes_on c.loop-done.inv) (sym c.in_ok-act.ensures) ∙ sym c.in-Some.ensures in
-    record {
-      there = rw add-one (ap (option_and_then (λ i. goes_on i (script c.args.program.now c.args.table.now i c.args.slots.now))) c.loop-done.invariant.there ∙ act);
-      going = goes _ _ c.loop-done.inv _ c.requires.made c.loop-done.invariant.going c.in-Some.next act;
-    }
+    let step : Driven → Option Driven =
+    λ d. next (after_act (script c.args.program.now c.args.table.now d.inv d.slots) d.inv d.slots) in
+    let with_slots : Invocation → Driven = λ i. record { inv = i; slots = c.act_in_place.new.slots } in
+    let moved = c.move_on.ensures ∙ ap (λ b. if b then Some c.move_on.new.inv else None) c.if-not-move_on.false in
+    let here : step (record { inv = c.loop-done.inv; slots = c.loop-done.slots }) ≡ Some (with_slots c.move_on.new.inv) =
+    ap next (sym c.in_ok-left.ensures.ok) ∙ ap (option_map with_slots) moved in
+    rw add-one (ap (option_and_then step) c.loop-done.invariant ∙ here)

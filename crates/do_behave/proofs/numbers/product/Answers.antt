@@ -5,4 +5,7 @@ use Rattle.do_behave.proofs.Checked.{checked_is}
 use Rattle.do_behave.proofs.numbers.product.Goals as goal
 
 pub returns : goal.returns
-returns c = checked_is c.checked_mul.result (c.args.x *ℤ c.args.y) (rw (to_z-of_z w64 c.args.x c.ranges.x, to_z-of_z w64 c.args.y c.ranges.y) at c.checked_mul.ensures)
+returns c =
+    checked_is c.checked_mul.result (c.args.x *ℤ c.args.y)
+    (rw (to_z-of_z w64 c.args.x c.ranges.x, to_z-of_z w64 c.args.y c.ranges.y)
+    at c.checked_mul.ensures)

@@ -1,13 +1,20 @@
 use Rattle.std.proofs.Common.{arith}
 use Rattle.do_grammar.specs.Reader.{no_kind}
 use Rattle.do_grammar.specs.Num.{counted_at, CountedText}
-use Rattle.do_grammar.proofs.Told.{bytes_from_each}
-use Rattle.do_grammar.proofs.ToldRest.{tells_rest, finds_rest}
-use Rattle.do_grammar.proofs.Num.{Reads-counted_text}
+use Rattle.do_grammar.proofs.faults.AnswerExact.{bytes_from_each}
+use Rattle.do_grammar.proofs.faults.RestExact.{tells_rest, finds_rest}
+use Rattle.do_grammar.proofs.texts.NumExact.{Reads-counted_text}
 use Rattle.do_grammar.proofs.counted.text_of.Goals as goal
 
 pub returns-clause-exact : goal.returns-clause-exact
-returns-clause-exact c = tells_rest (CountedText c.args.limit) (counted_at no_kind c.args.limit) (Reads-counted_text no_kind c.args.limit c.ranges.limit.fits) (λ x. x) c.args.bytes.now c.front_text.result (bytes_from_each c.args.bytes.now (λ i. omega (arith, c.type_inv.bytes i))) c.front_text.ensures
+returns-clause-exact c =
+    tells_rest (CountedText c.args.limit) (counted_at no_kind c.args.limit)
+    (Reads-counted_text no_kind c.args.limit c.ranges.limit.fits) (λ x.
+    x) c.args.bytes.now c.front_text.result
+    (bytes_from_each c.args.bytes.now (λ i. omega (arith, c.type_inv.bytes i))) c.front_text.ensures
 
 pub returns-clause-only : goal.returns-clause-only
-returns-clause-only c = finds_rest (CountedText c.args.limit) (counted_at no_kind c.args.limit) (Reads-counted_text no_kind c.args.limit c.ranges.limit.fits) (λ x. x) c.args.bytes.now c.front_text.result c.front_text.ensures
+returns-clause-only c =
+    finds_rest (CountedText c.args.limit) (counted_at no_kind c.args.limit)
+    (Reads-counted_text no_kind c.args.limit c.ranges.limit.fits) (λ x.
+    x) c.args.bytes.now c.front_text.result c.front_text.ensures

@@ -1,4 +1,4 @@
-use Rattle.do_grammar.proofs.ToldDec.{int_told, int_found}
+use Rattle.do_grammar.proofs.texts.DecAnswer.{int_told, int_found}
 use Rattle.do_grammar.proofs.decimal.int_of.Goals as goal
 
 pub returns-clause-exact : goal.returns-clause-exact

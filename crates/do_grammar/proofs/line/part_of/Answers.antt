@@ -1,5 +1,6 @@
-use Rattle.do_grammar.proofs.WordTurns.{still_clear}
+use Rattle.do_grammar.proofs.loops.WordLoop.{still_clear}
 use Rattle.do_grammar.proofs.line.part_of.Goals as goal
 
 pub loop-n-preserved : goal.loop-n-preserved
-loop-n-preserved c = still_clear c.args.end c.loop-n.n c.args.bytes.now c.if-bytes-n.false c.loop-n.invariant
+loop-n-preserved c =
+    still_clear c.args.end c.loop-n.n c.args.bytes.now c.if-bytes-n.false c.loop-n.invariant

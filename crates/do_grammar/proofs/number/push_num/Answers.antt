@@ -1,5 +1,7 @@
-use Rattle.do_grammar.proofs.Num.{size_sized}
+use Rattle.do_grammar.proofs.texts.NumExact.{size_sized}
 use Rattle.do_grammar.proofs.number.push_num.Goals as goal
 
 pub push_digits-requires-clause-fits : goal.push_digits-requires-clause-fits
-push_digits-requires-clause-fits c = let s = size_sized c.args.x c.ranges.x.fits in rw c.bytes_needed-n.ensures.value s.below
+push_digits-requires-clause-fits c =
+    let s = size_sized c.args.x c.ranges.x.fits in
+    rw c.bytes_needed-n.ensures.value s.below

@@ -1,7 +1,8 @@
 use Rattle.std.proofs.Common.{◌≡◌, ◌-◌}
 use Rattle.do_grammar.specs.Quoted.{denoted}
-use Rattle.do_grammar.proofs.QuotedTurns.{with_text}
+use Rattle.do_grammar.proofs.loops.QuotedLoop.{with_text}
 use Rattle.do_grammar.proofs.quoted.denoted_of.Given as goal
 
 abbrev pub invariant-loop-i : goal.invariant-loop-i
-invariant-loop-i l = with_text l.text (denoted (l.limit - l._i) l.rest) ≡ denoted l.fn.limit l.fn.bytes
+invariant-loop-i l =
+    with_text l.text (denoted (l.limit - l._i) l.rest) ≡ denoted l.fn.limit l.fn.bytes

@@ -1,13 +1,19 @@
 use Rattle.std.proofs.Common.{arith}
 use Rattle.do_grammar.specs.Reader.{no_kind}
 use Rattle.do_grammar.specs.Num.{signed_at, Signed}
-use Rattle.do_grammar.proofs.Told.{bytes_from_each}
-use Rattle.do_grammar.proofs.ToldRest.{tells_rest, finds_rest}
-use Rattle.do_grammar.proofs.Num.{Reads-signed}
+use Rattle.do_grammar.proofs.faults.AnswerExact.{bytes_from_each}
+use Rattle.do_grammar.proofs.faults.RestExact.{tells_rest, finds_rest}
+use Rattle.do_grammar.proofs.texts.NumExact.{Reads-signed}
 use Rattle.do_grammar.proofs.signed.signed_of.Goals as goal
 
 pub returns-clause-exact : goal.returns-clause-exact
-returns-clause-exact c = tells_rest Signed (signed_at no_kind) (Reads-signed no_kind) (λ x. x) c.args.bytes.now c.front_signed.result (bytes_from_each c.args.bytes.now (λ i. omega (arith, c.type_inv.bytes i))) c.front_signed.ensures
+returns-clause-exact c =
+    tells_rest Signed (signed_at no_kind) (Reads-signed no_kind) (λ x.
+    x) c.args.bytes.now c.front_signed.result
+    (bytes_from_each c.args.bytes.now (λ i. omega (arith, c.type_inv.bytes i)))
+    c.front_signed.ensures
 
 pub returns-clause-only : goal.returns-clause-only
-returns-clause-only c = finds_rest Signed (signed_at no_kind) (Reads-signed no_kind) (λ x. x) c.args.bytes.now c.front_signed.result c.front_signed.ensures
+returns-clause-only c =
+    finds_rest Signed (signed_at no_kind) (Reads-signed no_kind) (λ x.
+    x) c.args.bytes.now c.front_signed.result c.front_signed.ensures

@@ -4,4 +4,6 @@ use Rattle.do_grammar.specs.Quoted.{denoted}
 use Rattle.do_grammar.proofs.skipped.skip_denoted.Given as goal
 
 abbrev pub invariant-loop-i : goal.invariant-loop-i
-invariant-loop-i l = option_map (λ x. x.1) (denoted (l.limit - l._i) l.rest) ≡ option_map (λ x. x.1) (denoted l.fn.limit l.fn.bytes)
+invariant-loop-i l =
+    option_map (λ x. x.1) (denoted (l.limit - l._i) l.rest)
+    ≡ option_map (λ x. x.1) (denoted l.fn.limit l.fn.bytes)

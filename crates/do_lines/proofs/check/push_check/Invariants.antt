@@ -5,4 +5,5 @@ use Rattle.do_lines.specs.Check.{node_text}
 use Rattle.do_lines.proofs.check.push_check.Given as goal
 
 abbrev pub invariant-loop-node : goal.invariant-loop-node
-invariant-loop-node l = l.out ≡ l.fn.out ++ flat_map (node_text l.table) (take l.node-index l.node-items)
+invariant-loop-node l =
+    l.out ≡ l.fn.out ++ flat_map (node_text l.table) (take l.node-index l.node-items)

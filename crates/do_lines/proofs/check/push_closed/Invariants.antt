@@ -5,4 +5,5 @@ use Rattle.do_lines.specs.Check.{closed_line}
 use Rattle.do_lines.proofs.check.push_closed.Given as goal
 
 abbrev pub invariant-loop-peer : goal.invariant-loop-peer
-invariant-loop-peer l = l.out ≡ l.fn.out ++ joined (map closed_line (take l.peer-index l.peer-items))
+invariant-loop-peer l =
+    l.out ≡ l.fn.out ++ joined (map closed_line (take l.peer-index l.peer-items))

@@ -5,4 +5,5 @@ use Rattle.do_lines.specs.Check.{entry_line}
 use Rattle.do_lines.proofs.check.push_entries.Given as goal
 
 abbrev pub invariant-loop-entry : goal.invariant-loop-entry
-invariant-loop-entry l = l.out ≡ l.fn.out ++ joined (map entry_line (take l.entry-index l.entry-items))
+invariant-loop-entry l =
+    l.out ≡ l.fn.out ++ joined (map entry_line (take l.entry-index l.entry-items))

@@ -5,4 +5,5 @@ use Rattle.do_lines.specs.Check.{object_text}
 use Rattle.do_lines.proofs.check.push_objects.Given as goal
 
 abbrev pub invariant-loop-object : goal.invariant-loop-object
-invariant-loop-object l = l.out ≡ l.fn.out ++ joined (map (object_text l.table) (take l.object-index l.object-items))
+invariant-loop-object l =
+    l.out ≡ l.fn.out ++ joined (map (object_text l.table) (take l.object-index l.object-items))

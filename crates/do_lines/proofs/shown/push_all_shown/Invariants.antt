@@ -5,4 +5,5 @@ use Rattle.do_lines.specs.Lines.{joined}
 use Rattle.do_lines.proofs.shown.push_all_shown.Given as goal
 
 abbrev pub invariant-loop-one : goal.invariant-loop-one
-invariant-loop-one l = l.out ≡ l.fn.out ++ joined (map (shown_text l.port) (take l.one-index l.one-items))
+invariant-loop-one l =
+    l.out ≡ l.fn.out ++ joined (map (shown_text l.port) (take l.one-index l.one-items))

@@ -4,4 +4,5 @@ use Rattle.do_lines.specs.Value.{value_text, spaced}
 use Rattle.do_lines.proofs.value.+value.Given as goal
 
 abbrev pub invariant-push_values-loop-value : goal.invariant-push_values-loop-value
-invariant-push_values-loop-value l = l.out ≡ l.initial.out ++ spaced (map value_text (take l.value-index l.rest))
+invariant-push_values-loop-value l =
+    l.out ≡ l.initial.out ++ spaced (map value_text (take l.value-index l.rest))

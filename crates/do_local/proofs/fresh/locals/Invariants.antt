@@ -1,5 +1,5 @@
 use Rattle.std.proofs.Common.{◌≡◌, ◌++◌, ◌-◌, ◌≤◌, length, replicate}
-use Rattle.do_base.specs.declared.value.Value.TheVariants.{Nil}
+use Rattle.do_base.specs.declared.values.value.Value.TheVariants.{Nil}
 use Rattle.do_local.proofs.fresh.locals.Given as goal
 
 abbrev pub invariant-loop-at : goal.invariant-loop-at

@@ -2,7 +2,7 @@ use Rattle.std.proofs.Common.{◌≡◌, ◌∙◌, ◌∷◌, [], ℕ, slice_se
 use Rattle.do_local.specs.declared.station.Station.{Station}
 use Rattle.do_local.specs.Laws.{laws_of}
 use Rattle.do_local.specs.Stations.{FewCalls, state_of}
-use Rattle.do_base.specs.declared.shown.Shown.TheVariants as shows
+use Rattle.do_base.specs.declared.events.shown.Shown.TheVariants as shows
 use Rattle.do_local.specs.Items.{exported}
 use Rattle.do_local.specs.Taking.{arrival, can_take, item_line}
 use Rattle.do_local.specs.Context.{context}

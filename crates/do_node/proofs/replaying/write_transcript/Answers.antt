@@ -1,8 +1,9 @@
 use Rattle.std.proofs.Common.{◌≡◌, [], sym, ◌∙◌, rules}
 use Rattle.std.specs.Vec.Iter.{into_iter_items}
 use Rattle.std.proofs.lemmas.List.{nil_from_length}
-use Rattle.do_node.proofs.Rest.{ahead_start, ahead_block, ahead_end, counted_next, good_next}
-use Rattle.do_node.proofs.Written.{ahead_sent, ahead_prefix, ahead_part, ahead_whole}
+use Rattle.do_node.proofs.BlocksToCome.{ahead_start, ahead_block, ahead_end, counted_next}
+use Rattle.do_node.proofs.BlocksToCome.{good_next}
+use Rattle.do_node.proofs.SentIsPrefix.{ahead_sent, ahead_prefix, ahead_part, ahead_whole}
 use Rattle.do_node.proofs.replaying.write_transcript.Goals as goal
 
 pub loop-line-init : goal.loop-line-init
@@ -16,16 +17,22 @@ loop-line-init g c =
     }
 
 pub push_block-requires-clause-good : goal.push_block-requires-clause-good
-push_block-requires-clause-good g c = (good_next c.in-Some.line _ _ c.in-Some.ensures.steps.0 c.loop-line.invariant.good).0
+push_block-requires-clause-good g c =
+    (good_next c.in-Some.line _ _ c.in-Some.ensures.steps.0 c.loop-line.invariant.good).0
 
 pub loop-line-preserved : goal.loop-line-preserved
-loop-line-preserved g c = let a = c.in-Some.ensures.steps in let d = c.in_ok-flush_if_long.ensures.ok in record {
-  written = ahead_sent _ _ _ _ d.0 _ _ _ d.1 d.2
-      (ahead_block _ _ _ _ _ c.loop-line.local c.push_block.new.local c.in-Some.line _ _ a.0 c.in_ok-push_block.ensures.text c.in_ok-push_block.ensures.state c.in_ok-push_block.ensures.table c.loop-line.invariant.written);
-  good = (good_next c.in-Some.line _ _ a.0 c.loop-line.invariant.good).1;
-  counted = counted_next _ _ c.in-Some.line _ _ a.0 c.in_ok-push_block.ensures.counted c.loop-line.invariant.counted;
-  later = search rules;
-}
+loop-line-preserved g c =
+    let a = c.in-Some.ensures.steps in
+    let d = c.in_ok-flush_if_long.ensures.ok in record {
+      written = ahead_sent _ _ _ _ d.0 _ _ _ d.1 d.2
+          (ahead_block _ _ _ _ _ c.loop-line.local c.push_block.new.local c.in-Some.line _ _ a.0
+          c.in_ok-push_block.ensures.text c.in_ok-push_block.ensures.state
+          c.in_ok-push_block.ensures.table c.loop-line.invariant.written);
+      good = (good_next c.in-Some.line _ _ a.0 c.loop-line.invariant.good).1;
+      counted = counted_next _ _ c.in-Some.line _ _ a.0 c.in_ok-push_block.ensures.counted
+          c.loop-line.invariant.counted;
+      later = search rules;
+    }
 
 pub returns-in_err-push_block-clause-prefix : goal.returns-in_err-push_block-clause-prefix
 returns-in_err-push_block-clause-prefix g c = ahead_prefix _ _ _ _ _ c.loop-line.invariant.written
@@ -36,16 +43,30 @@ returns-in_err-push_bytes-clause-prefix g c = ahead_prefix _ _ _ _ _ c.loop-line
 pub returns-in_err-flush_if_long-clause-prefix : goal.returns-in_err-flush_if_long-clause-prefix
 returns-in_err-flush_if_long-clause-prefix g c =
     ahead_part _ _ _ _ _ _ c.flush_if_long.ensures.prefix
-    (ahead_block _ _ _ _ _ c.loop-line.local c.push_block.new.local c.in-Some.line _ _ c.in-Some.ensures.steps.0 c.in_ok-push_block.ensures.text c.in_ok-push_block.ensures.state c.in_ok-push_block.ensures.table c.loop-line.invariant.written)
+    (ahead_block _ _ _ _ _ c.loop-line.local c.push_block.new.local c.in-Some.line _ _
+    c.in-Some.ensures.steps.0 c.in_ok-push_block.ensures.text c.in_ok-push_block.ensures.state
+    c.in_ok-push_block.ensures.table c.loop-line.invariant.written)
 
 pub returns-in_err-flush-clause-prefix : goal.returns-in_err-flush-clause-prefix
-returns-in_err-flush-clause-prefix g c = let none : into_iter_items c.loop-line.line-iterator ≡ [] = nil_from_length _ (sym c.loop-line.line-iterator.rest.ok.0 ∙ c.in-None.ensures.steps.0) in
-    ahead_part _ _ _ _ _ _ c.flush.ensures.prefix (ahead_end _ _ _ _ _ c.loop-line.local _ none c.in_ok-push_bytes.ensures.ok c.loop-line.invariant.written)
+returns-in_err-flush-clause-prefix g c =
+    let none : into_iter_items c.loop-line.line-iterator ≡ [] =
+    nil_from_length _ (sym c.loop-line.line-iterator.rest.ok.0 ∙ c.in-None.ensures.steps.0) in
+    ahead_part _ _ _ _ _ _ c.flush.ensures.prefix
+    (ahead_end _ _ _ _ _ c.loop-line.local _ none c.in_ok-push_bytes.ensures.ok
+    c.loop-line.invariant.written)
 
 pub returns-clause-ok : goal.returns-clause-ok
-returns-clause-ok g c = let none : into_iter_items c.loop-line.line-iterator ≡ [] = nil_from_length _ (sym c.loop-line.line-iterator.rest.ok.0 ∙ c.in-None.ensures.steps.0) in
-    ahead_whole _ _ _ _ _ c.in_ok-flush.ensures.ok (ahead_end _ _ _ _ _ c.loop-line.local _ none c.in_ok-push_bytes.ensures.ok c.loop-line.invariant.written)
+returns-clause-ok g c =
+    let none : into_iter_items c.loop-line.line-iterator ≡ [] =
+    nil_from_length _ (sym c.loop-line.line-iterator.rest.ok.0 ∙ c.in-None.ensures.steps.0) in
+    ahead_whole _ _ _ _ _ c.in_ok-flush.ensures.ok
+    (ahead_end _ _ _ _ _ c.loop-line.local _ none c.in_ok-push_bytes.ensures.ok
+    c.loop-line.invariant.written)
 
 pub returns-clause-prefix : goal.returns-clause-prefix
-returns-clause-prefix g c = let none : into_iter_items c.loop-line.line-iterator ≡ [] = nil_from_length _ (sym c.loop-line.line-iterator.rest.ok.0 ∙ c.in-None.ensures.steps.0) in
-    ahead_part _ _ _ _ _ _ c.flush.ensures.prefix (ahead_end _ _ _ _ _ c.loop-line.local _ none c.in_ok-push_bytes.ensures.ok c.loop-line.invariant.written)
+returns-clause-prefix g c =
+    let none : into_iter_items c.loop-line.line-iterator ≡ [] =
+    nil_from_length _ (sym c.loop-line.line-iterator.rest.ok.0 ∙ c.in-None.ensures.steps.0) in
+    ahead_part _ _ _ _ _ _ c.flush.ensures.prefix
+    (ahead_end _ _ _ _ _ c.loop-line.local _ none c.in_ok-push_bytes.ensures.ok
+    c.loop-line.invariant.written)

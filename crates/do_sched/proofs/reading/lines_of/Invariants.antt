@@ -5,7 +5,12 @@ use Rattle.do_sched.specs.Schedule.{Opens}
 use Rattle.do_sched.proofs.reading.lines_of.Given as goal
 
 abbrev pub invariant-lines : goal.invariant-lines
-invariant-lines l = record { opens : Opens l.bytes l.lines (cut l.rest); number : l.number ≡ length l.lines + 1; steps : l.steps ≡ steps_of l.lines; room : l.number + length l.rest ≤ length l.bytes }
+invariant-lines l = record {
+  opens : Opens l.bytes l.lines (cut l.rest);
+  number : l.number ≡ length l.lines + 1;
+  steps : l.steps ≡ steps_of l.lines;
+  room : l.number + length l.rest ≤ length l.bytes;
+}
 
 abbrev pub decreases-lines : goal.decreases-lines
 decreases-lines l = length l.rest

@@ -1,4 +1,4 @@
-use Rattle.do_sched.proofs.Once.{accepted, refused}
+use Rattle.do_sched.proofs.AnswerUnique.{accepted, refused}
 use Rattle.do_sched.proofs.reading.read_schedule.Goals as goal
 
 pub returns-clause-accepts : goal.returns-clause-accepts

@@ -1,7 +1,8 @@
 use Rattle.std.proofs.Common.{◌≡◌, ◌-◌}
 use Rattle.do_sched.specs.Reading.{values_at}
-use Rattle.do_sched.proofs.ValueTurns.{with_front}
+use Rattle.do_sched.proofs.ValuesLoop.{with_front}
 use Rattle.do_sched.proofs.words.values_of.Given as goal
 
 abbrev pub invariant-loop-i : goal.invariant-loop-i
-invariant-loop-i l = with_front l.values (values_at (l.count - l._i) l.rest) ≡ values_at l.fn.count l.fn.bytes
+invariant-loop-i l =
+    with_front l.values (values_at (l.count - l._i) l.rest) ≡ values_at l.fn.count l.fn.bytes

@@ -1,23 +1,16 @@
-use Rattle.std.proofs.Common.{rules, subst}
-use Rattle.do_script.specs.Operands.{Scope}
+use Rattle.do_script.specs.Assembly.{scope}
 use Rattle.do_script.specs.Program.{program}
-use Rattle.do_script.specs.Assembled.{IsCode}
-use Rattle.do_script.proofs.Found.{places_within, scope_same}
+use Rattle.do_script.proofs.FirstFault.{accepted_result, refused_result}
 use Rattle.do_script.proofs.assembler.assemble.Goals as goal
 
-pub read_lines-requires : goal.read_lines-requires
-read_lines-requires c = places_within (program c.args.text.now) c.in_ok-labels.labels c.in_ok-labels.ensures
+pub returns-clause-accepted : goal.returns-clause-accepted
+returns-clause-accepted c =
+    let names = scope c.args.slots.now c.args.classes.now c.args.text.now in
+    λ good. accepted_result names
+    (program c.args.text.now) c.read_code.result c.read_code.ensures.fault good
 
-pub returns-in_err-instructions-clause-fault : goal.returns-in_err-instructions-clause-fault
-returns-in_err-instructions-clause-fault c =
-    let same = scope_same c.args.slots.now c.args.classes.now c.args.text.now c.in_ok-labels.labels c.in_ok-labels.ensures in
-    rw (← same) (search rules)
-
-pub returns-clause-code : goal.returns-clause-code
-returns-clause-code c =
-    let same = scope_same c.args.slots.now c.args.classes.now c.args.text.now c.in_ok-labels.labels c.in_ok-labels.ensures in
-    rw c.new.ensures (record {
-      instructions = subst (λ (s : Scope). IsCode s (program c.args.text.now) c.in_ok-instructions.instructions.items) same c.in_ok-instructions.ensures.code;
-      slots_given = search rules;
-      classes_given = search rules;
-    })
+pub returns-clause-refused : goal.returns-clause-refused
+returns-clause-refused c =
+    λ line kind first.
+    refused_result c.args.slots.now c.args.classes.now c.args.text.now c.read_code.result
+    c.read_code.ensures.code c.read_code.ensures.fault line kind first

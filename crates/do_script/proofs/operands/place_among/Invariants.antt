@@ -3,4 +3,5 @@ use Rattle.do_script.specs.Operands.{place_from}
 use Rattle.do_script.proofs.operands.place_among.Given as goal
 
 abbrev pub invariant-loop-place : goal.invariant-loop-place
-invariant-loop-place l = place_from 0 l.names l.word ≡ place_from l.place (drop l.place l.names) l.word
+invariant-loop-place l =
+    place_from 0 l.names l.word ≡ place_from l.place (drop l.place l.names) l.word

@@ -5,4 +5,5 @@ use Rattle.do_script.proofs.operands.text_of.Goals as goal
 
 pub returns-in-Some-clause-short : goal.returns-in-Some-clause-short
 returns-in-Some-clause-short c =
-    quoted_short 65535 c.args.word.now (c.in-Some.text, c.in-Some.rest.now) (sym c.in_ok-rest.ensures.value ∙ ap front_view c.in-Some.is)
+    quoted_short 1048575 c.args.word.now (c.in-Some.text, c.in-Some.rest.now)
+    (sym c.in_ok-rest.ensures.value ∙ ap front_view c.in-Some.is)

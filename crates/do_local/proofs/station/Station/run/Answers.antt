@@ -1,5 +1,5 @@
 use Rattle.std.proofs.Common.{◌<◌, List, length, ap, sym, ◌∙◌, subst}
-use Rattle.do_base.specs.Names.{ObjectName}
+use Rattle.do_base.specs.names.Names.{ObjectName}
 use Rattle.do_local.specs.declared.node.Node.{Node}
 use Rattle.do_local.specs.Room.{HasRoom}
 use Rattle.do_local.proofs.Effects.{held_stays}

@@ -1,22 +1,44 @@
 use Rattle.std.proofs.Common.{arith}
-use Rattle.do_grammar.proofs.Told.{bytes_from_each}
-use Rattle.do_sig.specs.Outermost.{alone_at}
-use Rattle.do_sig.specs.Grammar.{IsEncoding}
+use Rattle.do_grammar.proofs.faults.AnswerExact.{bytes_from_each}
+use Rattle.do_sig.specs.Encodings.{IsEncoding}
+use Rattle.do_sig.specs.reading.Outermost.{alone_at}
 use Rattle.do_sig.proofs.EncodingExact.{Reads-alone}
-use Rattle.do_sig.proofs.Told.{within, fault_told, fault_only, value_only}
+use Rattle.do_sig.proofs.AnswerMeans.{within, fault_means, fault_only, value_only, fault_blames}
+use Rattle.do_sig.proofs.FaultBytes.{alone_blames}
 use Rattle.do_sig.proofs.encoding.Encoding.read.Goals as goal
 
 pub fault-requires : goal.fault-requires
-fault-requires c = within IsEncoding alone_at Reads-alone c.args.bytes.now (bytes_from_each c.args.bytes.now (λ i. omega (arith, c.type_inv.bytes i))) c.in-Err.stop c.in-Err.ensures.gives
+fault-requires c =
+    within IsEncoding alone_at Reads-alone c.args.bytes.now
+    (bytes_from_each c.args.bytes.now (λ i. omega (arith, c.type_inv.bytes i)))
+    c.in-Err.stop c.in-Err.ensures.gives
 
-pub returns-in-Ok-clause-told : goal.returns-in-Ok-clause-told
-returns-in-Ok-clause-told c = Reads-alone.takes c.args.bytes.now c.in-Ok.encoding (bytes_from_each c.args.bytes.now (λ i. omega (arith, c.type_inv.bytes i))) c.in-Ok.ensures.gives
+pub returns-in-Ok-clause-exact : goal.returns-in-Ok-clause-exact
+returns-in-Ok-clause-exact c =
+    Reads-alone.sound c.args.bytes.now c.in-Ok.encoding
+    (bytes_from_each c.args.bytes.now (λ i. omega (arith, c.type_inv.bytes i)))
+    c.in-Ok.ensures.gives
 
 pub returns-in-Ok-clause-only : goal.returns-in-Ok-clause-only
-returns-in-Ok-clause-only c = value_only IsEncoding alone_at Reads-alone c.args.bytes.now (bytes_from_each c.args.bytes.now (λ i. omega (arith, c.type_inv.bytes i))) c.in-Ok.encoding c.in-Ok.ensures.gives
+returns-in-Ok-clause-only c =
+    value_only IsEncoding alone_at Reads-alone c.args.bytes.now
+    (bytes_from_each c.args.bytes.now (λ i. omega (arith, c.type_inv.bytes i)))
+    c.in-Ok.encoding c.in-Ok.ensures.gives
 
-pub returns-in-Err-clause-told : goal.returns-in-Err-clause-told
-returns-in-Err-clause-told c = rw c.fault.ensures (fault_told IsEncoding alone_at Reads-alone c.args.bytes.now (bytes_from_each c.args.bytes.now (λ i. omega (arith, c.type_inv.bytes i))) c.in-Err.stop c.in-Err.ensures.gives)
+pub returns-in-Err-clause-exact : goal.returns-in-Err-clause-exact
+returns-in-Err-clause-exact c =
+    rw c.fault.ensures (fault_means IsEncoding alone_at Reads-alone c.args.bytes.now
+    (bytes_from_each c.args.bytes.now (λ i. omega (arith, c.type_inv.bytes i)))
+    c.in-Err.stop c.in-Err.ensures.gives)
 
 pub returns-in-Err-clause-only : goal.returns-in-Err-clause-only
-returns-in-Err-clause-only c = rw c.fault.ensures (fault_only IsEncoding alone_at Reads-alone c.args.bytes.now (bytes_from_each c.args.bytes.now (λ i. omega (arith, c.type_inv.bytes i))) c.in-Err.stop c.in-Err.ensures.gives)
+returns-in-Err-clause-only c =
+    rw c.fault.ensures (fault_only IsEncoding alone_at Reads-alone c.args.bytes.now
+    (bytes_from_each c.args.bytes.now (λ i. omega (arith, c.type_inv.bytes i)))
+    c.in-Err.stop c.in-Err.ensures.gives)
+
+pub returns-in-Err-clause-blame : goal.returns-in-Err-clause-blame
+returns-in-Err-clause-blame c =
+    rw c.fault.ensures (fault_blames alone_at alone_blames c.args.bytes.now
+    (bytes_from_each c.args.bytes.now (λ i. omega (arith, c.type_inv.bytes i)))
+    c.in-Err.stop c.in-Err.ensures.gives)

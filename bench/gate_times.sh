@@ -1,0 +1,45 @@
+#!/bin/sh
+# Runs the gate from nothing on a copy of this repository, and prints for each crate the processor
+# seconds of its proof, of its tests' proof and of its must-fail edits, then the sums and the time
+# on the clock. The gate's own last lines come first.
+# sh bench/gate_times.sh
+#
+# The seconds are read off the running checks twice a second, so up to half a second of each check
+# (of each edit: of some 20) is missed.
+set -e
+cd "$(dirname "$0")/.."
+work=$(mktemp -d)
+trap 'rm -rf "$work"' EXIT
+tar cf - --exclude=out crates crates.txt HANDLES | (mkdir "$work/copy" && cd "$work/copy" && tar xf -)
+began=$(date +%s)
+(cd "$work/copy" && rt ci --anew > "$work/log" 2>&1; echo "$?" > "$work/status") &
+gate=$!
+while kill -0 "$gate" 2> "$work/none"; do
+    ps -eo pid=,cputimes=,args= -ww
+    sleep 0.5
+done | awk '
+    !/\/rattle (check|build) / || !/--crate-name/ { next }
+    {
+        for (i = 4; i < NF; i++) if ($i == "--crate-name") crate = $(i + 1)
+        part = / --incremental [^ ]*rt-edits-/ ? "edits" : / --test / ? "tests" : "proof"
+        seconds[$1 " " crate " " part] = $2
+    }
+    END { for (key in seconds) print key, seconds[key] }
+' > "$work/seconds"
+tail -n 3 "$work/log"
+awk -v wall="$(($(date +%s) - began))" '
+    NR == FNR { if ($1 ~ /:$/) { sub(":", "", $1); order[++count] = $1 }; next }
+    { used[$2, $3] += $4; all[$3] += $4 }
+    END {
+        form = "%-18s %7d %7d %7d %7d\n"
+        printf "%-18s %7s %7s %7s %7s\n", "crate", "proof", "tests", "edits", "sum"
+        for (i = 1; i <= count; i++) {
+            crate = order[i]
+            printf form, crate, used[crate, "proof"], used[crate, "tests"], used[crate, "edits"],
+                used[crate, "proof"] + used[crate, "tests"] + used[crate, "edits"]
+        }
+        printf form, "all", all["proof"], all["tests"], all["edits"], all["proof"] + all["tests"] + all["edits"]
+        printf "%d s on the clock\n", wall
+    }
+' crates.txt "$work/seconds"
+exit "$(cat "$work/status")"

@@ -1,6 +1,0 @@
-use Rattle.std.proofs.Common.{◌≡◌, drop}
-use Rattle.do_base.specs.Files.{file_named}
-use Rattle.do_base.proofs.mem_shelf.find.Given as goal
-
-abbrev pub invariant-loop-file : goal.invariant-loop-file
-invariant-loop-file l = file_named l.name (drop l.file-index l.file-items) ≡ file_named l.name l.file-items

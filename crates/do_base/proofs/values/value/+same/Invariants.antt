@@ -1,0 +1,5 @@
+use Rattle.std.proofs.Common.{◌≡◌, take}
+use Rattle.do_base.proofs.values.value.+same.Given as goal
+
+abbrev pub invariant-same_values-loop-i : goal.invariant-same_values-loop-i
+invariant-same_values-loop-i l = take l.i l.xs ≡ take l.i l.ys

@@ -1,0 +1,4 @@
+pub mod Bytes
+pub mod Causes
+pub mod Files
+pub mod InMemory

@@ -1,0 +1,2 @@
+//! The names of nodes, objects, calls and loans.
+pub mod node;

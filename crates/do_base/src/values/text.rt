@@ -1,0 +1,247 @@
+//! Texts, which are bytes of any kind.
+ghost use Rattle.std.specs.Prelude.{◌≡◌, [], ◌∷◌, ◌++◌, length, ◌↔◌, IsTrue, IfOk, OnOk, OnErr};
+
+use crate::lists::exact::{ExactClone, ExactEq};
+use crate::lists::items::Items;
+use std::alloc::{AllocError, Global};
+use std::cmp::Ordering;
+use std::fmt;
+use std::marker::Model;
+use std::rc::Rc;
+
+/// A text: bytes of any kind, which contracts see as the list of them.
+///
+/// It keeps the allocator that it was made with, and compares byte by byte. The type itself keeps
+/// no limit on how many bytes there are. A clone shares the bytes and takes no memory; a text whose
+/// bytes are shared copies them before it changes. Most calls have the names of those of `Vec`;
+/// `push_bytes` and `is` are this project's.
+#[derive(Drop)]
+pub struct Text {
+    bytes: Option<Rc<Vec<u8>, Global>>,
+    alloc: Global,
+}
+
+/// How many bytes a text may have where a limit on texts is kept: of values, of exceptions, and of
+/// what schedules and worlds quote.
+pub const LONGEST_TEXT: usize = 1_048_575;
+
+/// A word of the command line, as bytes.
+pub type Word = Text;
+
+/// A list of texts.
+pub type Texts = Items<Text>;
+
+impl Model for Text {
+    ghost use Rattle.std.specs.Prelude.{List, ℕ};
+    ghost use Rattle.std.specs.Option.{option_map};
+    ghost use Rattle.do_base.specs.values.Shared.{or_empty};
+
+    ghost Value = { List ℕ };
+
+    ghost view = { λ t. or_empty (option_map (λ rc. rc.value.items) t.bytes) };
+}
+
+impl Text {
+    /// An empty text, for which no memory is taken.
+    pub fn new(alloc: Global) -> Text
+        ensures { result ≡ [] }
+    {
+        Text { bytes: None, alloc }
+    }
+
+    /// A text of these bytes.
+    pub fn from_slice(alloc: Global, bytes: &[u8]) -> Result<Text, AllocError>
+        ensures { IfOk result (λ t. t ≡ bytes.now) }
+    {
+        let bytes = Vec::from_slice(alloc, bytes)?;
+        let shared = Rc::new(alloc, bytes)?;
+        Ok(Text {
+            bytes: Some(shared),
+            alloc,
+        })
+    }
+
+    /// Takes over the bytes of a `Vec` with no copy; memory is taken for the count of sharers alone.
+    pub fn from_vec(alloc: Global, bytes: Vec<u8>) -> Result<Text, AllocError>
+        ensures { IfOk result (λ t. t ≡ bytes.items) }
+    {
+        let shared = Rc::new(alloc, bytes)?;
+        Ok(Text {
+            bytes: Some(shared),
+            alloc,
+        })
+    }
+
+    /// The allocator that the text was made with.
+    pub fn allocator(&self) -> Global {
+        self.alloc
+    }
+
+    /// The bytes, to be read.
+    pub fn as_slice(&self) -> &[u8]
+        ensures { result.now ≡ self.now }
+    {
+        match &self.bytes {
+            None => &[],
+            Some(bytes) => bytes.as_ref().as_slice(),
+        }
+    }
+
+    /// How many bytes there are.
+    pub fn len(&self) -> usize
+        ensures { result ≡ length self.now }
+    {
+        self.as_slice().len()
+    }
+
+    /// Whether there is no byte.
+    pub fn is_empty(&self) -> bool
+        ensures { IsTrue result ↔ (self.now ≡ []) }
+    {
+        self.as_slice().is_empty()
+    }
+
+    /// Appends a byte. If memory runs out, the text is unchanged.
+    pub fn push(&mut self, byte: u8) -> Result<(), AllocError>
+        ensures ok { OnOk result (self.new ≡ self.old ++ byte ∷ []) }
+        ensures err { OnErr result (self.new ≡ self.old) }
+    {
+        match &mut self.bytes {
+            None => {
+                let mut bytes = Vec::new(self.alloc);
+                bytes.push(byte)?;
+                self.bytes = Some(Rc::new(self.alloc, bytes)?);
+            }
+            Some(bytes) => {
+                Rc::make_mut(bytes)?.push(byte)?;
+            }
+        }
+        Ok(())
+    }
+
+    /// Appends these bytes. If memory runs out, the text is unchanged.
+    pub fn push_bytes(&mut self, bytes: &[u8]) -> Result<(), AllocError>
+        ensures ok { OnOk result (self.new ≡ self.old ++ bytes.now) }
+        ensures err { OnErr result (self.new ≡ self.old) }
+    {
+        match &mut self.bytes {
+            None => {
+                let bytes = Vec::from_slice(self.alloc, bytes)?;
+                self.bytes = Some(Rc::new(self.alloc, bytes)?);
+            }
+            Some(old) => {
+                Rc::make_mut(old)?.extend_from_slice(bytes)?;
+            }
+        }
+        Ok(())
+    }
+
+    /// Makes room for `more` bytes. An empty text takes none. No clause says how much room there is: it
+    /// serves speed alone.
+    pub fn reserve(&mut self, more: usize) -> Result<(), AllocError>
+        ensures { self.new ≡ self.old }
+    {
+        if let Some(bytes) = &mut self.bytes {
+            Rc::make_mut(bytes)?.reserve(more)?;
+        }
+        Ok(())
+    }
+
+    /// Takes out every byte.
+    pub fn clear(&mut self)
+        ensures { self.new ≡ [] }
+    {
+        self.bytes = None;
+    }
+
+    /// Whether the text has just these bytes.
+    pub fn is(&self, bytes: &[u8]) -> bool
+        ensures { IsTrue result ↔ (self.now ≡ bytes.now) }
+    {
+        self.as_slice() == bytes
+    }
+}
+
+impl Clone for Text {
+    ghost is_clone = { λ x y. y ≡ x };
+
+    fn clone(&self) -> Result<Text, AllocError> {
+        let bytes = match &self.bytes {
+            None => None,
+            Some(bytes) => Some(bytes.clone()?),
+        };
+        Ok(Text {
+            bytes,
+            alloc: self.alloc,
+        })
+    }
+}
+
+impl ExactClone for Text {
+    ghost exact_clone = { λ x y e. e };
+}
+
+impl PartialEq for Text {
+    ghost use Rattle.std.specs.Cmp.Lexicographic.{pointwise};
+    ghost use Rattle.std.specs.Prelude.{◌==◌};
+    ghost use Rattle.std.specs.Cmp.{partial_equiv_from_equiv};
+    ghost use Rattle.std.proofs.lemmas.Cmp.{nat_list_eq_equiv};
+
+    ghost eq = { pointwise ◌==◌ };
+
+    ghost laws = { partial_equiv_from_equiv nat_list_eq_equiv };
+
+    fn eq(&self, other: &Text) -> bool {
+        self.as_slice() == other.as_slice()
+    }
+}
+
+impl Eq for Text {
+    ghost use Rattle.std.proofs.lemmas.Cmp.{nat_list_eq_equiv};
+
+    ghost laws = { nat_list_eq_equiv };
+}
+
+impl Ord for Text {
+    ghost use Rattle.std.specs.Prelude.{refl};
+    ghost use Rattle.std.specs.Ordering.{nat_cmp};
+    ghost use Rattle.std.specs.Cmp.Lexicographic.{slice_cmp, nat_list_cmp_total, texts_ties};
+
+    ghost cmp = { slice_cmp nat_cmp };
+
+    ghost total = { nat_list_cmp_total };
+
+    ghost matches_partial_cmp = { λ x y. refl };
+
+    ghost matches_eq = { texts_ties };
+
+    fn cmp(&self, other: &Text) -> Ordering {
+        self.as_slice().cmp(other.as_slice())
+    }
+}
+
+impl PartialOrd for Text {
+    ghost use Rattle.std.specs.Ordering.{nat_cmp, as_partial_cmp};
+    ghost use Rattle.std.specs.Cmp.Lexicographic.{slice_cmp, texts_po};
+
+    ghost partial_cmp = { as_partial_cmp (slice_cmp nat_cmp) };
+
+    ghost laws = { texts_po };
+
+    fn partial_cmp(&self, other: &Text) -> Option<Ordering> {
+        Some(self.cmp(other))
+    }
+}
+
+impl ExactEq for Text {
+    ghost use Rattle.std.proofs.Common.{rules};
+    ghost use Rattle.std.proofs.lemmas.Slice.Eq.{bytes_eq-Decides};
+
+    ghost exact_eq = { bytes_eq-Decides };
+}
+
+impl fmt::Debug for Text {
+    fn fmt<W: fmt::Write>(&self, f: &mut fmt::Formatter<W>) -> fmt::Result {
+        self.as_slice().fmt(f)
+    }
+}

@@ -1,0 +1,63 @@
+-- Lists with items set.
+use Rattle.std.proofs.Common.{◌≡◌, ℕ, zero, suc, ◌≤◌, List, [], ◌∷◌, length, Some, None, refl, sym}
+use Rattle.std.proofs.Common.{◌∙◌, ap, arith}
+use Rattle.std.specs.Prelude.{slice_get, slice_set, slice_index_or, remove}
+use Rattle.do_behave.specs.InPlace.{written}
+use Rattle.do_behave.specs.Changes.{with_set}
+use Rattle.do_behave.specs.declared.act.Write.{Write}
+use Rattle.do_behave.specs.declared.change.LocalSet.{LocalSet}
+use Rattle.do_base.specs.declared.values.value.Value.{Value}
+use Rattle.do_base.specs.declared.values.value.Value.TheVariants.{Nil}
+use Rattle.do_behave.specs.LongerList.{longer}
+
+-- past the end nothing is set
+pub set_past : {X : Type 0} (xs : List X) (i : ℕ) (x : X) → length xs ≤ i → slice_set xs i x ≡ xs
+set_past [] i x h = refl
+set_past (y ∷ ys) zero x h = absurd (omega (arith, h))
+set_past (y ∷ ys) (suc i) x h = ap (λ t. y ∷ t) (set_past ys i x (omega arith))
+
+-- an item set to itself changes nothing
+pub set_same : {X : Type 0} (xs : List X) (i : ℕ) (x : X) → slice_get xs i ≡ Some x
+    → slice_set xs i x ≡ xs
+set_same [] i x e = refl
+set_same (y ∷ ys) zero x e = cc
+set_same (y ∷ ys) (suc i) x e = ap (λ t. y ∷ t) (set_same ys i x e)
+
+-- the item at a place is the one that stands there
+index_is : {X : Type 0} (xs : List X) (i : ℕ) (x d : X) → slice_get xs i ≡ Some x
+    → slice_index_or xs i d ≡ x
+index_is [] i x d e = cc
+index_is (y ∷ ys) zero x d e = cc
+index_is (y ∷ ys) (suc i) x d e = index_is ys i x d e
+
+-- an item more in the list at a place
+pub set_longer : (xs : List Value) (i : ℕ) (x y item : Value) → slice_get xs i ≡ Some x
+    → y ≡ longer x item
+    → slice_set xs i y ≡ slice_set xs i (longer (slice_index_or xs i Nil) item)
+set_longer xs i x y item found is =
+    ap (λ v. slice_set xs i v) (is ∙ ap (λ v. longer v item) (sym (index_is xs i x Nil found)))
+
+-- past the end there is no item
+pub get_past : {X : Type 0} (xs : List X) (i : ℕ) → length xs ≤ i → slice_get xs i ≡ None
+get_past [] i h = refl
+get_past (y ∷ ys) zero h = absurd (omega (arith, h))
+get_past (y ∷ ys) (suc i) h = get_past ys i (omega arith)
+
+pub ruleset set_steps = (set_past, set_same, set_longer, get_past)
+
+some_is : {A : Type 0} {x y : A} → Some x ≡ Some y → x ≡ y
+some_is e = cc
+
+-- the first write, and then the others
+pub written_first : (slots : List Value) (ws : List Write) (w : Write) → slice_get ws 0 ≡ Some w
+    → written (slice_set slots w.slot w.value) (remove ws 0) ≡ written slots ws
+written_first slots [] w e = cc
+written_first slots (x ∷ ws) w e =
+    ap (λ (v : Write). written (slice_set slots v.slot v.value) ws) (sym (some_is e))
+
+-- the first local that is set, and then the others
+pub set_first : (locals : List Value) (ss : List LocalSet) (s : LocalSet) → slice_get ss 0 ≡ Some s
+    → with_set (slice_set locals s.local s.value) (remove ss 0) ≡ with_set locals ss
+set_first locals [] s e = cc
+set_first locals (x ∷ ss) s e =
+    ap (λ (v : LocalSet). with_set (slice_set locals v.local v.value) ss) (sym (some_is e))

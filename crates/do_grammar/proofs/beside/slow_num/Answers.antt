@@ -1,0 +1,18 @@
+use Rattle.std.proofs.Common.{rules}
+use Rattle.do_grammar.proofs.loops.BesideLoop.{size_long, size_none, size_beyond}
+use Rattle.do_grammar.proofs.beside.slow_num.Goals as goal
+
+pub returns-then-n-gt8 : goal.returns-then-n-gt8
+returns-then-n-gt8 c =
+    size_long c.args.holes.now c.args.low c.args.high c.in-Some.n c.args.bytes.now
+    c.in-Some.rest.now c.in-Some.ensures (search rules)
+
+pub returns-else-from-span_of : goal.returns-else-from-span_of
+returns-else-from-span_of c =
+    size_beyond c.args.holes.now c.args.low c.args.high c.in-Some.n c.args.bytes.now
+    c.in-Some.rest.now c.in-Some.ensures (search rules)
+
+pub returns-in-None : goal.returns-in-None
+returns-in-None c =
+    size_none c.args.holes.now c.args.low c.args.high c.in-Some.n c.args.bytes.now
+    c.in-Some.rest.now c.in-Some.ensures (search rules)

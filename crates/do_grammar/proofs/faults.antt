@@ -1,0 +1,3 @@
+pub mod FaultPlace
+pub mod AnswerExact
+pub mod RestExact

@@ -1,0 +1,13 @@
+pub mod NumExact
+pub mod WordBytes
+pub mod NameBytes
+pub mod WordExact
+pub mod FirstLine
+pub mod LinesExact
+pub mod DecExact
+pub mod IntExact
+pub mod DecAnswer
+pub mod QuotedExact
+pub mod QuotedAnswer
+pub mod NextBeside
+pub mod BesideExact

@@ -1,0 +1,68 @@
+-- The class of an object stays.
+use Rattle.std.proofs.Common.{◌≡◌, ℕ, Bool, zero, suc, true, false, cond, List, [], ◌∷◌, ◌++◌}
+use Rattle.std.proofs.Common.{Option, Some, ◌==◌}
+use Rattle.std.specs.Prelude.{option_and_then, slice_get}
+use Rattle.std.specs.List.{find}
+use Rattle.do_base.specs.names.Names.{ObjectName}
+use Rattle.do_class.specs.declared.ids.ClassId.{ClassId}
+use Rattle.do_machine.specs.declared.state.Effect.{Effect}
+use Rattle.do_machine.specs.declared.state.Station.{Station}
+use Rattle.do_machine.specs.Commit.{committed}
+use Rattle.do_machine.specs.Lists.{change_first}
+use Rattle.do_machine.specs.State.{class_given}
+
+-- what stands at a place of a list stands there in a longer one
+more_given : (cs ds : List ClassId) (k : ℕ) (class : ClassId) → slice_get cs k ≡ Some class →
+    slice_get (cs ++ ds) k ≡ Some class
+more_given [] ds k class h = cc
+more_given (c ∷ cs) ds zero class h = h
+more_given (c ∷ cs) ds (suc k) class h = more_given cs ds k class h
+
+-- a class that was given with a serial stays, once more are given
+class_stays : (cs ds : List ClassId) (serial : ℕ) (class : ClassId) →
+    class_given cs serial ≡ Some class → class_given (cs ++ ds) serial ≡ Some class
+class_stays cs ds zero class h = cc
+class_stays cs ds (suc k) class h = more_given cs ds k class h
+
+-- the class of an object at the station that is found
+abbrev given_by : ObjectName → Option Station → Option ClassId
+given_by o found = option_and_then (λ s. class_given s.classes o.serial) found
+
+-- the station of an object's home
+abbrev home_in : ObjectName → List Station → Option Station
+home_in o ss = find (λ s. o.node == s.port) ss
+
+-- the stations after an effect
+abbrev after : ℕ → Effect → List Station → List Station
+after port e ss = change_first (λ s. port == s.port) (committed e) ss
+
+module _ (port : ℕ) (e : Effect) (o : ObjectName) (class : ClassId) where
+  -- the station of the effect gave the classes that it gave before
+  at_first : (s : Station) (ss : List Station) (b : Bool) →
+      given_by o (cond b (Some s) (home_in o ss)) ≡ Some class →
+      given_by o (cond b (Some (committed e s)) (home_in o ss)) ≡ Some class
+  at_first s ss true h = class_stays s.classes _ o.serial class h
+  at_first s ss false h = h
+
+  -- another station is as it was
+  at_rest : (s : Station) (ss : List Station) (b : Bool) →
+      (given_by o (home_in o ss) ≡ Some class →
+      given_by o (home_in o (after port e ss)) ≡ Some class) →
+      given_by o (cond b (Some s) (home_in o ss)) ≡ Some class →
+      given_by o (cond b (Some s) (home_in o (after port e ss))) ≡ Some class
+  at_rest s ss true k h = h
+  at_rest s ss false k h = k h
+
+  -- the class stays, whichever station is changed
+  pub stays : (ss : List Station) → given_by o (home_in o ss) ≡ Some class →
+      given_by o (home_in o (after port e ss)) ≡ Some class
+  stays [] h = h
+  stays (s ∷ ss) h = go (port == s.port) (stays ss) h
+    where
+      go : (b : Bool) →
+          (given_by o (home_in o ss) ≡ Some class →
+          given_by o (home_in o (after port e ss)) ≡ Some class) →
+          given_by o (home_in o (s ∷ ss)) ≡ Some class →
+          given_by o (home_in o (cond b (committed e s ∷ ss) (s ∷ after port e ss))) ≡ Some class
+      go true k q = at_first s ss (o.node == s.port) q
+      go false k q = at_rest s ss (o.node == s.port) k q

@@ -1,0 +1,12 @@
+pub mod Quiet
+pub mod RunsQuietly
+pub mod TakesQuietly
+pub mod Passes
+pub mod Leaves
+pub mod Closes
+pub mod Takes
+pub mod Lookups
+pub mod Linked
+pub mod NoQueue
+pub mod Commits
+pub mod Steps

@@ -1,0 +1,5 @@
+mod Prefixes
+mod Rounds
+mod Copying
+mod Once
+mod Named

@@ -1,0 +1,206 @@
+-- What the lines of a text that were read so far say of its bytes.
+use Rattle.std.proofs.Common.{◌≡◌, ◌≢◌, ℕ, ◌+◌, ◌<◌, ◌≤◌, Bool, true, false, cond, List as Listed}
+use Rattle.std.proofs.Common.{[], ◌∷◌, ◌++◌, length, map, Some, None, refl, sym, ap, subst, ◌∙◌}
+use Rattle.std.proofs.Common.{append_assoc, arith}
+use Rattle.std.specs.Prelude.{◌&&◌}
+use Rattle.std.specs.List.{flat_map, AllByRecursion}
+use Rattle.std.specs.Str.{bytes_eq}
+use Rattle.std.proofs.lemmas.List.{map-append}
+use Rattle.std.proofs.lemmas.List.Sums.{sum_by-append}
+use Rattle.std.proofs.lemmas.Slice.Eq.{bytes_eq-Decides}
+use Rattle.do_grammar.specs.Lines.{cut, line_bytes, in_front}
+use Rattle.do_grammar.specs.Lines as text
+use Rattle.do_grammar.proofs.texts.LinesExact.{cut_whole}
+use Rattle.do_sched.specs.declared.line.Line.{Line}
+use Rattle.do_sched.specs.Spelling.{line_spelling, header, footer, fed, steps, steps_of}
+use Rattle.do_sched.specs.Good.{IsLine}
+use Rattle.do_sched.specs.Schedule.{IsSchedule, Opens, IsBadLine, at_first, between, behind}
+use Rattle.do_sched.specs.Schedule.{IsTooMany, over, IsEndMissing, at_start, later, most_steps}
+use Rattle.do_sched.specs.Schedule.{whole}
+use Rattle.do_sched.specs.Reading.{line_at, is_whole, line_in}
+use Rattle.do_sched.proofs.LineExact.{line_takes, line_again}
+
+-- ---- whole lines
+
+-- a line that passes the test is this text with its line feed
+pub is_whole_true : (wanted : Listed ℕ) (t : text.Line) → is_whole wanted t ≡ true
+    → t ≡ whole wanted
+is_whole_true wanted t e = go t.fed refl e
+  where
+    go : (u : Bool) → t.fed ≡ u → (u && bytes_eq t.text wanted) ≡ true → t ≡ whole wanted
+    go true p q =
+        ap (λ (w : Listed ℕ). record { text = w; fed = t.fed })
+        ((bytes_eq-Decides t.text wanted).0 q)
+        ∙ ap (λ (w : Bool). record { text = wanted; fed = w }) p
+    go false p q = absurd cc
+
+-- one that fails it is not
+pub is_whole_false : (wanted : Listed ℕ) (t : text.Line) → is_whole wanted t ≡ false
+    → t ≢ whole wanted
+is_whole_false wanted t e = λ (same_line : t ≡ whole wanted). let f =
+    ap (is_whole wanted) same_line in let g = (bytes_eq-Decides wanted wanted).1 refl in absurd cc
+
+-- a line of text that is a line of a schedule
+pub line_in_takes : (t : text.Line) (l : Line) → line_in t ≡ Some l
+    → (t ≡ whole (line_spelling l)) × IsLine l
+line_in_takes t l e = go t.fed refl e
+  where
+    go : (u : Bool) → t.fed ≡ u → cond u (line_at t.text) None ≡ Some l
+        → (t ≡ whole (line_spelling l)) × IsLine l
+    go true p q =
+        let r = line_takes t.text l q in (
+          ap (λ (w : Listed ℕ). record { text = w; fed = t.fed }) r.0
+              ∙ ap (λ (w : Bool). record { text = line_spelling l; fed = w }) p,
+          r.1,
+        )
+    go false p q = absurd cc
+
+-- a whole line of a schedule is read as that line
+pub line_in_again : (l : Line) → IsLine l → line_in (whole (line_spelling l)) ≡ Some l
+line_in_again l h = line_again l h
+
+-- a line that reads as none is no line of a schedule
+no_line : (t : text.Line) → line_in t ≡ None → (l : Line) → IsLine l → t ≢ whole (line_spelling l)
+no_line t e l h = λ (p : t ≡ whole (line_spelling l)). let f = ap line_in p in let g =
+    line_in_again l h in absurd cc
+
+-- ---- the bytes of whole lines
+
+-- the bytes of whole lines stand one behind the other
+whole_lines : (lines : Listed Line) (rest : Listed text.Line)
+    → flat_map line_bytes (map (λ l. whole (line_spelling l)) lines ++ rest)
+    ≡ flat_map (λ l. fed (line_spelling l)) lines ++ flat_map line_bytes rest
+whole_lines [] rest = refl
+whole_lines (l ∷ lines) rest =
+    ap (λ (w : Listed ℕ). fed (line_spelling l) ++ w) (whole_lines lines rest)
+    ∙ sym (append_assoc (fed (line_spelling l)) (flat_map (λ m. fed (line_spelling m)) lines)
+    (flat_map line_bytes rest))
+
+-- the bytes of a schedule that begins with some lines
+opened_bytes : (bytes : Listed ℕ) (lines : Listed Line) (rest : Listed text.Line)
+    → Opens bytes lines rest
+    → bytes ≡ fed header
+    ++ (flat_map (λ l. fed (line_spelling l)) lines ++ flat_map line_bytes rest)
+opened_bytes bytes lines rest o = sym (cut_whole bytes) ∙ ap (flat_map line_bytes) o.spelled
+    ∙ ap (λ (w : Listed ℕ). fed header ++ w) (whole_lines lines rest)
+
+-- bytes without a line are none
+cut_none : (bytes : Listed ℕ) → cut bytes ≡ [] → bytes ≡ []
+cut_none bytes e = sym (cut_whole bytes) ∙ ap (flat_map line_bytes) e
+
+-- bytes have a first line
+cut_some : (bytes : Listed ℕ) → 0 < length bytes → (t : text.Line) × (rest : Listed text.Line)
+    × (cut bytes ≡ t ∷ rest)
+cut_some bytes lt = go (cut bytes) refl
+  where
+    go : (ls : Listed text.Line) → cut bytes ≡ ls → (t : text.Line) × (rest : Listed text.Line)
+        × (cut bytes ≡ t ∷ rest)
+    go [] e = absurd (omega (arith, ap length (cut_none bytes e)))
+    go (t ∷ rest) e = (t, rest, e)
+
+-- ---- the first line
+
+-- no line at all: the end is missing at line 1
+pub starts_missing : (bytes : Listed ℕ) → cut bytes ≡ [] → IsEndMissing bytes 1
+starts_missing bytes e = at_start (cut_none bytes e)
+
+-- the first line is not that of a schedule
+pub bad_first : (bytes : Listed ℕ) (t : text.Line) (rest : Listed text.Line) → cut bytes ≡ t ∷ rest
+    → is_whole header t ≡ false → IsBadLine bytes 1
+bad_first bytes t rest e h = at_first t rest e (is_whole_false header t h)
+
+-- the first line is, and no other was read yet
+pub opened : (bytes : Listed ℕ) (t : text.Line) (rest : Listed text.Line) → cut bytes ≡ t ∷ rest
+    → is_whole header t ≡ true → Opens bytes [] rest
+opened bytes t rest e h = record {
+  spelled = e ∙ ap (λ (w : text.Line). w ∷ rest) (is_whole_true header t h);
+  good = tt;
+  few = omega arith;
+}
+
+-- ---- a line between
+
+module _ (bytes rest : Listed ℕ) (lines : Listed Line) (o : Opens bytes lines (cut rest)) where
+  -- the line that is read next
+  next : (t : text.Line) (others : Listed text.Line) → cut rest ≡ t ∷ others
+      → Opens bytes lines (t ∷ others)
+  next t others e = subst (Opens bytes lines) e o
+
+  -- no line is left: the end is missing
+  pub end_missing : (n : ℕ) → cut rest ≡ [] → n ≡ length lines + 2 → IsEndMissing bytes n
+  end_missing n e k =
+      subst (IsEndMissing bytes) (sym k) (later lines (subst (Opens bytes lines) e o))
+
+  module _ (t : text.Line) (after : Listed ℕ) (e : cut rest ≡ t ∷ cut after) where
+    at_end : is_whole footer t ≡ true → Opens bytes lines (whole footer ∷ cut after)
+    at_end h =
+        subst (λ (w : text.Line). Opens bytes lines (w ∷ cut after)) (is_whole_true footer t h)
+        (next t (cut after) e)
+
+    pub ends_well : is_whole footer t ≡ true → length after ≡ 0 → IsSchedule bytes lines
+    ends_well h z = go after refl (at_end h)
+      where
+        go : (bs : Listed ℕ) → after ≡ bs → Opens bytes lines (whole footer ∷ cut after)
+            → IsSchedule bytes lines
+        go [] p q =
+            let r : Opens bytes lines (whole footer ∷ []) =
+            subst (λ (w : Listed ℕ). Opens bytes lines (whole footer ∷ cut w)) p q in
+            record {
+              spelled = opened_bytes bytes lines (whole footer ∷ []) r
+                  ∙ sym (append_assoc (fed header) (flat_map (λ l. fed (line_spelling l)) lines)
+                  (fed footer));
+              good = r.good;
+              few = r.few;
+            }
+        go (b ∷ bs) p q = absurd (omega (arith, ap length p))
+
+    pub bad_behind : (n : ℕ) → is_whole footer t ≡ true → 0 < length after → n ≡ length lines + 3
+        → IsBadLine bytes n
+    bad_behind n h lt k =
+        let c = cut_some after lt in
+        subst (IsBadLine bytes) (sym k)
+        (behind lines c.0 c.1
+        (subst (λ (w : Listed text.Line). Opens bytes lines (whole footer ∷ w)) c.2 (at_end h)))
+
+    pub bad_between : (n : ℕ) → is_whole footer t ≡ false → line_in t ≡ None → n ≡ length lines + 2
+        → IsBadLine bytes n
+    bad_between n h none k =
+        subst (IsBadLine bytes) (sym k)
+        (between lines t (cut after) (next t (cut after) e) (record {
+          no_end = is_whole_false footer t h;
+          no_line = no_line t none;
+        }))
+
+    at_line : (l : Line) → line_in t ≡ Some l
+        → Opens bytes lines (whole (line_spelling l) ∷ cut after)
+    at_line l h =
+        subst (λ (w : text.Line). Opens bytes lines (w ∷ cut after)) (line_in_takes t l h).0
+        (next t (cut after) e)
+
+    pub too_many : (n : ℕ) (l : Line) → line_in t ≡ Some l → most_steps < steps_of lines + steps l
+        → n ≡ length lines + 2 → IsTooMany bytes n
+    too_many n l h many k =
+        subst (IsTooMany bytes) (sym k)
+        (over lines l (cut after) (at_line l h) (line_in_takes t l h).1 many)
+
+    pub goes_on : (l : Line) → line_in t ≡ Some l → steps_of lines + steps l ≤ most_steps
+        → Opens bytes (lines ++ l ∷ []) (cut after)
+    goes_on l h few = record {
+      spelled = s;
+      good = all_more lines (at_line l h).good;
+      few = simp sum_by-append (omega arith);
+    }
+      where
+        s : cut bytes ≡ whole header ∷ map (λ m. whole (line_spelling m)) (lines ++ l ∷ [])
+            ++ cut after
+        s = (at_line l h).spelled
+            ∙ ap (λ (w : Listed text.Line). whole header ∷ w)
+            (sym (append_assoc (map (λ m. whole (line_spelling m)) lines)
+            (whole (line_spelling l) ∷ []) (cut after))
+            ∙ ap (λ (w : Listed text.Line). w ++ cut after)
+            (sym (map-append (λ m. whole (line_spelling m)) lines (l ∷ []))))
+
+        all_more : (ls : Listed Line) → AllByRecursion IsLine ls
+            → AllByRecursion IsLine (ls ++ l ∷ [])
+        all_more [] p = ((line_in_takes t l h).1, tt)
+        all_more (m ∷ ls) p = (p.0, all_more ls p.1)

@@ -1,7 +1,0 @@
-use Rattle.std.proofs.Common.{rules}
-use Rattle.do_script.specs.Operands.{instruction}
-use Rattle.do_script.proofs.reading.read_three.Goals as goal
-
-pub returns : goal.returns
-unfolding instruction
-returns c = (search rules, c.with_three.ensures.within _ _ _)

@@ -1,7 +1,0 @@
-use Rattle.std.proofs.Common.{◌≡◌, drop}
-use Rattle.std.specs.Prelude.{map}
-use Rattle.do_script.specs.Table.{form_in}
-use Rattle.do_script.proofs.table.form_among.Given as goal
-
-abbrev pub invariant-loop-word : goal.invariant-loop-word
-invariant-loop-word l = form_in (map (λ row. (row.0.now, row.1)) l.rows) l.name ≡ form_in (map (λ row. (row.0.now, row.1)) (drop l.word-index l.rows)) l.name

@@ -1,7 +1,0 @@
-use Rattle.std.proofs.Common.{◌≡◌, ◌++◌, take, map}
-use Rattle.std.specs.List.{flat_map}
-use Rattle.do_sig.specs.Spelling.{type_spelling}
-use Rattle.do_sig.proofs.printing.+print.Given as goal
-
-abbrev pub invariant-push_members-loop-member : goal.invariant-push_members-loop-member
-invariant-push_members-loop-member l = l.out ≡ l.fn.out ++ flat_map (λ m. m) (map type_spelling (take l.member-index l.member-items))

@@ -1,7 +1,0 @@
-use Rattle.std.proofs.Common.{◌≡◌, ◌++◌, take}
-use Rattle.std.specs.List.{flat_map}
-use Rattle.do_sig.specs.Spelling.{encoding_spelling}
-use Rattle.do_sig.proofs.printing.push_encodings.Given as goal
-
-abbrev pub invariant-loop-encoding : goal.invariant-loop-encoding
-invariant-loop-encoding l = l.out ≡ l.fn.out ++ flat_map encoding_spelling (take l.encoding-index l.encoding-items)

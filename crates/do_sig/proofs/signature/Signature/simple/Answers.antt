@@ -1,0 +1,8 @@
+use Rattle.do_sig.proofs.SignaturePrinted.{simple_limited}
+use Rattle.do_sig.proofs.signature.Signature.simple.Goals as goal
+
+pub invariant_of-result : goal.invariant_of-result
+invariant_of-result c =
+    simple_limited c.args.returned c.simple_returned-returned.result c.args.args.now
+    c.in_ok-args.args
+    c.requires c.simple_returned-returned.ensures c.in_ok-args.ensures

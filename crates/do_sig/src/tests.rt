@@ -1,4 +1,0 @@
-mod fitting;
-mod passing;
-mod printing;
-mod refusing;

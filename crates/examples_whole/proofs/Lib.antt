@@ -1,0 +1,4 @@
+mod Samples
+mod LateCalls
+mod OutValues
+mod Roles

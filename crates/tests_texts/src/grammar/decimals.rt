@@ -1,0 +1,52 @@
+//! Numbers in decimal digits.
+
+use do_base::Text;
+use do_grammar::{dec_of, int_of, push_int};
+use std::alloc::AllocError;
+use std::test::Fail;
+
+fn printed(rt: &HostRuntime, n: i64) -> Result<Text, AllocError> {
+    let mut out = Text::new(rt.alloc());
+    push_int(&mut out, n)?;
+    Ok(out)
+}
+
+#[test]
+fn decimals(rt: HostRuntime) -> Result<(), Fail> {
+    let table = [
+        (0, &b"0"[..]),
+        (7, b"7"),
+        (-1, b"-1"),
+        (-40, b"-40"),
+        (i64::MAX, b"9223372036854775807"),
+        (i64::MIN, b"-9223372036854775808"),
+    ];
+    for (n, digits) in table {
+        assert!(rt; printed(&rt, n)?.is(digits), "digits of {n}");
+        assert_eq!(rt; int_of(digits), Some(n));
+    }
+    for digits in [
+        &b""[..],
+        b"-",
+        b"-0",
+        b"00",
+        b"07",
+        b"-07",
+        b"+1",
+        b"1 ",
+        b"--1",
+        b"9223372036854775808",
+        b"-9223372036854775809",
+    ] {
+        assert_eq!(rt; int_of(digits), None);
+    }
+    assert_eq!(rt;
+        dec_of(b"18446744073709551615", 0, u64::MAX),
+        Some(u64::MAX)
+    );
+    assert_eq!(rt; dec_of(b"18446744073709551616", 0, u64::MAX), None);
+    assert_eq!(rt; dec_of(b"1000", 1, 1000), Some(1000));
+    assert_eq!(rt; dec_of(b"1001", 1, 1000), None);
+    assert_eq!(rt; dec_of(b"0", 1, 1000), None);
+    Ok(())
+}

@@ -1,0 +1,173 @@
+ghost use Rattle.std.specs.Prelude.{◌≡◌, IfOk};
+
+use do_base::{Exc, Items, NodeId, Oid, Peers, Shown, ShownList, Text, Took, Value, Values};
+use do_class::{ClassId, ClassTable, Methods, Slot, Slots};
+use do_lines::{check_text, line_text};
+use do_sched::Line;
+use do_trace::{Entry, EntryList, NodeLine, NodeLines, ObjLine, ObjLines, Outcome, Snapshot};
+use std::alloc::AllocError;
+use std::test::Fail;
+
+fn text(rt: &HostRuntime, bytes: &[u8]) -> Result<Text, AllocError>
+    ensures { IfOk result (λ t. t ≡ bytes.now) }
+{
+    Text::from_slice(rt.alloc(), bytes)
+}
+
+fn node(port: u16) -> Result<NodeId, Fail> {
+    Ok(NodeId::new(port).ok_or("no port is 0")?)
+}
+
+fn object(port: u16, serial: u64) -> Result<Oid, Fail> {
+    let node = node(port)?;
+    Ok(Oid { node, serial })
+}
+
+/// `nil`, a number, a text, an object, and a list with an empty list in it.
+fn values(rt: &HostRuntime) -> Result<Values, Fail> {
+    let mut inner = Values::new(rt.alloc());
+    inner.push(Value::Num(-1))?;
+    inner.push(Value::List(Values::new(rt.alloc())))?;
+    let mut values = Values::new(rt.alloc());
+    values.push(Value::Nil)?;
+    values.push(Value::Num(i64::MIN))?;
+    values.push(Value::Text(text(rt, b"~ \"\\\n\x7f\xff")?))?;
+    values.push(Value::Obj(object(7002, 10)?))?;
+    values.push(Value::List(inner))?;
+    Ok(values)
+}
+
+/// Each kind of what a step shows, but for values.
+fn kinds(rt: &HostRuntime) -> Result<ShownList, Fail> {
+    let other = object(7002, 1)?;
+    let mut shown = ShownList::new(rt.alloc());
+    shown.push(Shown::Took(Took::Call(text(rt, b"add:")?)))?;
+    shown.push(Shown::Took(Took::Oneway(text(rt, b"go")?)))?;
+    shown.push(Shown::Took(Took::Reply))?;
+    shown.push(Shown::Took(Took::Raised(Exc::User(text(rt, b"x\"")?))))?;
+    shown.push(Shown::Took(Took::RootAsk))?;
+    shown.push(Shown::Took(Took::RootAnswer))?;
+    shown.push(Shown::Took(Took::Ask(other)))?;
+    shown.push(Shown::Took(Took::Granted(other)))?;
+    shown.push(Shown::Took(Took::Gone(other)))?;
+    shown.push(Shown::Took(Took::Left(other)))?;
+    shown.push(Shown::Took(Took::Settled))?;
+    shown.push(Shown::Took(Took::End))?;
+    shown.push(Shown::Raise(Exc::TypeFault))?;
+    shown.push(Shown::Free(other))?;
+    Ok(shown)
+}
+
+/// Each of the values, said.
+fn said(rt: &HostRuntime) -> Result<ShownList, Fail> {
+    let mut shown = ShownList::new(rt.alloc());
+    for value in values(rt)?.into_vec() {
+        shown.push(Shown::Say(value))?;
+    }
+    Ok(shown)
+}
+
+const KINDS: &[u8] = b"> run 7001 9\n\
+took call add:\n\
+took oneway go\n\
+took reply\n\
+took raised User \"x\\22\"\n\
+took rootask\n\
+took rootanswer\n\
+took ask #7002.1\n\
+took granted #7002.1\n\
+took gone #7002.1\n\
+took left #7002.1\n\
+took settled\n\
+took end\n\
+raise 7001 Type\n\
+free #7002.1\n";
+
+const VALUES: &[u8] = b"> run 7001 9\n\
+say 7001 nil\n\
+say 7001 -9223372036854775808\n\
+say 7001 \"~ \\22\\5c\\0a\\7f\\ff\"\n\
+say 7001 #7002.10\n\
+say 7001 [-1 []]\n";
+
+#[test]
+fn blocks(rt: HostRuntime) -> Result<(), Fail> {
+    let node = node(7001)?;
+    let line = Line::Run { node, count: 9 };
+    let shown = kinds(&rt)?;
+    let outcome = Outcome {
+        enabled: true,
+        shown,
+    };
+    assert!(rt; line_text(rt.alloc(), &line, &outcome)?.is(KINDS));
+    let shown = said(&rt)?;
+    let outcome = Outcome {
+        enabled: true,
+        shown,
+    };
+    assert!(rt; line_text(rt.alloc(), &line, &outcome)?.is(VALUES));
+    let outcome = Outcome {
+        enabled: false,
+        shown: Items::new(rt.alloc()),
+    };
+    assert!(rt; line_text(rt.alloc(), &line, &outcome)?.is(b"> run 7001 9\nskip\n"));
+    Ok(())
+}
+
+/// A node with a closed end, a root with two slots, and an entry.
+fn snapshot(rt: &HostRuntime, class: ClassId) -> Result<Snapshot, Fail> {
+    let root = object(7001, 1)?;
+    let mut slots = Values::new(rt.alloc());
+    slots.push(Value::Num(5))?;
+    slots.push(Value::Nil)?;
+    let mut objects = ObjLines::new(rt.alloc());
+    objects.push(ObjLine {
+        oid: root,
+        class,
+        slots,
+    })?;
+    let mut closed = Peers::new(rt.alloc());
+    closed.push(node(7003)?)?;
+    let mut entries = EntryList::new(rt.alloc());
+    entries.push(Entry {
+        peer: node(7002)?,
+        object: root,
+    })?;
+    let mut nodes = NodeLines::new(rt.alloc());
+    nodes.push(NodeLine {
+        node: node(7001)?,
+        root: Some(root),
+        closed,
+        objects,
+        entries,
+    })?;
+    nodes.push(NodeLine {
+        node: node(7002)?,
+        root: None,
+        closed: Peers::new(rt.alloc()),
+        objects: ObjLines::new(rt.alloc()),
+        entries: EntryList::new(rt.alloc()),
+    })?;
+    Ok(Snapshot { nodes })
+}
+
+const CHECK: &[u8] = b"node 7001 root #7001.1\n\
+closed 7003\n\
+object #7001.1 Pair a=5 b=nil\n\
+entry 7002 #7001.1\n\
+node 7002 root nil\n";
+
+#[test]
+fn checks(rt: HostRuntime) -> Result<(), Fail> {
+    let mut table = ClassTable::new(rt.alloc());
+    let mut slots = Slots::new(rt.alloc());
+    for name in [b"a", b"b"] {
+        slots.push(Slot {
+            name: text(&rt, name)?,
+            copy: false,
+        })?;
+    }
+    let class = table.add_class(text(&rt, b"Pair")?, slots, Methods::new(rt.alloc()))?;
+    assert!(rt; check_text(rt.alloc(), &table, &snapshot(&rt, class)?)?.is(CHECK));
+    Ok(())
+}

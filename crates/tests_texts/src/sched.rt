@@ -1,0 +1,3 @@
+//! Tests of do_sched.
+
+mod schedules;
