@@ -1,5 +1,5 @@
 #!/bin/sh
-# Builds crates/act_speed and bench/plain.rs, runs one after the other five times, and prints the best
+# Builds crates/act_speed and bench/plain.rs, runs one after the other eight times, and prints the best
 # nanoseconds of an act in both, with their ratio.
 # sh bench/acts.sh
 set -e
@@ -8,7 +8,7 @@ work=$(mktemp -d)
 trap 'rm -rf "$work"' EXIT
 (cd crates/act_speed && rt run) > "$work/build" 2>&1 || { cat "$work/build" >&2; exit 1; }
 rustc --edition 2021 -O bench/plain.rs -o "$work/plain"
-for _ in 1 2 3 4 5; do
+for _ in 1 2 3 4 5 6 7 8; do
     crates/act_speed/out/act_speed 2>> "$work/rattle.figures"
     "$work/plain" 2>> "$work/plain.figures"
 done

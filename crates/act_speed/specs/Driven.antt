@@ -33,4 +33,5 @@ next done = option_map (λ i. record { inv = i; slots = done.slots }) (moved_on 
 abbrev pub after : List (List Listing) → List Class → Invocation → List Value → ℕ → Option Driven
 after codes table inv slots zero = Some (record { inv = inv; slots = slots })
 after codes table inv slots (suc n) =
-    option_and_then (λ d. next (after_act (script codes table d.inv d.slots) d.inv d.slots)) (after codes table inv slots n)
+    option_and_then (λ d. next (after_act (script codes table d.inv d.slots) d.inv d.slots))
+    (after codes table inv slots n)

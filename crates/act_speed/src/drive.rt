@@ -1,4 +1,5 @@
-ghost use Rattle.std.specs.Prelude.{◌≡◌, ◌≤◌, ◌<◌, ◌+◌, IfOk, IsSome, IsNone, Some, None, if◌then◌else◌};
+ghost use Rattle.std.specs.Prelude.{◌≡◌, ◌≤◌, ◌<◌, ◌+◌, IfOk, IsSome, IsNone, Some, None};
+ghost use Rattle.std.specs.Prelude.{if◌then◌else◌};
 ghost use Rattle.act_speed.specs.Driven.{after, moved_on};
 
 use do_base::Values;
@@ -40,7 +41,8 @@ pub fn drive(
 ) -> Result<u32, AllocError>
     ensures most { IfOk result (λ done. done ≤ acts) }
     ensures done { IfOk result (λ done. IsSome (after program.now table.now inv slots done)) }
-    ensures all { IfOk result (λ done. done < acts → IsNone (after program.now table.now inv slots (done + 1))) }
+    ensures all { IfOk result (λ done. done < acts
+        → IsNone (after program.now table.now inv slots (done + 1))) }
 {
     for done in 0..acts {
         let left = act_in_place(program, table, &mut inv, &mut slots)?;

@@ -1,5 +1,5 @@
 -- What is known of a list's weight, with one item more too.
-use Rattle.std.proofs.Common.{◌≡◌, ℕ, zero, suc, List as Listed, [], ◌∷◌, ◌++◌, ◌<◌, ◌≤◌, ◌+◌, ◌-◌}
+use Rattle.std.proofs.Common.{◌≡◌, ℕ, zero, suc, List as Listed, [], ◌∷◌, ◌++◌, ◌<◌, ◌+◌, ◌-◌}
 use Rattle.std.proofs.Common.{Some, None, Bool, refl, true, false, ◌&&◌, nat_lt, nat_le, length}
 use Rattle.std.proofs.Common.{sym, ◌∙◌, ap, subst, arith}
 use Rattle.std.specs.List.{list_all}

@@ -1,14 +1,13 @@
 -- Lists with items set.
 use Rattle.std.proofs.Common.{◌≡◌, ℕ, zero, suc, ◌≤◌, List, [], ◌∷◌, length, Some, None, refl, sym}
 use Rattle.std.proofs.Common.{◌∙◌, ap, arith}
-use Rattle.std.specs.Prelude.{slice_get, slice_set, slice_index_or, remove}
+use Rattle.std.specs.Prelude.{slice_get, slice_set, remove}
 use Rattle.do_behave.specs.InPlace.{written}
 use Rattle.do_behave.specs.Changes.{with_set}
 use Rattle.do_behave.specs.declared.act.Write.{Write}
 use Rattle.do_behave.specs.declared.change.LocalSet.{LocalSet}
 use Rattle.do_base.specs.declared.values.value.Value.{Value}
-use Rattle.do_base.specs.declared.values.value.Value.TheVariants.{Nil}
-use Rattle.do_behave.specs.LongerList.{longer}
+use Rattle.do_behave.specs.LongerList.{longer, longer_at}
 
 -- past the end nothing is set
 pub set_past : {X : Type 0} (xs : List X) (i : ℕ) (x : X) → length xs ≤ i → slice_set xs i x ≡ xs
@@ -23,19 +22,18 @@ set_same [] i x e = refl
 set_same (y ∷ ys) zero x e = cc
 set_same (y ∷ ys) (suc i) x e = ap (λ t. y ∷ t) (set_same ys i x e)
 
--- the item at a place is the one that stands there
-index_is : {X : Type 0} (xs : List X) (i : ℕ) (x d : X) → slice_get xs i ≡ Some x
-    → slice_index_or xs i d ≡ x
-index_is [] i x d e = cc
-index_is (y ∷ ys) zero x d e = cc
-index_is (y ∷ ys) (suc i) x d e = index_is ys i x d e
+-- what two answers of the same value have is the same
+pub some_is : {A : Type 0} {x y : A} → Some x ≡ Some y → x ≡ y
+some_is e = cc
 
 -- an item more in the list at a place
 pub set_longer : (xs : List Value) (i : ℕ) (x y item : Value) → slice_get xs i ≡ Some x
-    → y ≡ longer x item
-    → slice_set xs i y ≡ slice_set xs i (longer (slice_index_or xs i Nil) item)
-set_longer xs i x y item found is =
-    ap (λ v. slice_set xs i v) (is ∙ ap (λ v. longer v item) (sym (index_is xs i x Nil found)))
+    → y ≡ longer x item → slice_set xs i y ≡ longer_at xs i item
+set_longer [] i x y item found is = cc
+set_longer (z ∷ zs) zero x y item found is =
+    ap (λ v. v ∷ zs) (is ∙ ap (λ v. longer v item) (sym (some_is found)))
+set_longer (z ∷ zs) (suc i) x y item found is =
+    ap (λ t. z ∷ t) (set_longer zs i x y item found is)
 
 -- past the end there is no item
 pub get_past : {X : Type 0} (xs : List X) (i : ℕ) → length xs ≤ i → slice_get xs i ≡ None
@@ -44,9 +42,6 @@ get_past (y ∷ ys) zero h = absurd (omega (arith, h))
 get_past (y ∷ ys) (suc i) h = get_past ys i (omega arith)
 
 pub ruleset set_steps = (set_past, set_same, set_longer, get_past)
-
-some_is : {A : Type 0} {x y : A} → Some x ≡ Some y → x ≡ y
-some_is e = cc
 
 -- the first write, and then the others
 pub written_first : (slots : List Value) (ws : List Write) (w : Write) → slice_get ws 0 ≡ Some w

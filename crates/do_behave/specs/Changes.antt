@@ -1,7 +1,7 @@
 -- Which act a change is.
-use Rattle.std.specs.Prelude.{◌≡◌, ℕ, List, [], ◌∷◌, slice_set}
+use Rattle.std.specs.Prelude.{◌≡◌, List, [], ◌∷◌, slice_set, IsSomeAnd}
 use Rattle.do_base.specs.declared.values.value.Value.{Value}
-use Rattle.do_behave.specs.LongerList.{FitsIn, longer}
+use Rattle.do_behave.specs.LongerList.{FitsIn, longer_at}
 use Rattle.do_behave.specs.Steps.{local}
 use Rattle.do_behave.specs.declared.invocation.Invocation.{Invocation}
 use Rattle.do_behave.specs.declared.act.Act.{Act}
@@ -20,7 +20,7 @@ with_set locals (s ∷ more) = with_set (slice_set locals s.local s.value) more
 abbrev pub meaning : Invocation → Change → Act
 meaning inv (Local into value pc) = Step pc (slice_set inv.locals into value) inv.handler []
 meaning inv (Push list item weight pc) =
-    Step pc (slice_set inv.locals list (longer (local inv list) item)) inv.handler []
+    Step pc (longer_at inv.locals list item) inv.handler []
 meaning inv (Goto pc) = Step pc inv.locals inv.handler []
 meaning inv (Slot slot value pc) =
     Step pc inv.locals inv.handler (record { slot = slot; value = value } ∷ [])
@@ -28,9 +28,10 @@ meaning inv (Slots sets handler writes pc) = Step pc (with_set inv.locals sets) 
 meaning inv (Handler handler pc) = Step pc inv.locals handler []
 meaning inv (Other act) = act
 
--- a push keeps the limits, and its weight is that of the longer list
+-- a push is to a list that keeps the limits with the item, and then has this weight
 abbrev pub IsFitting : Invocation → Change → Type 0
-IsFitting inv (Push list item weight pc) = FitsIn (local inv list) item weight
+IsFitting inv (Push list item weight pc) =
+    IsSomeAnd (local inv list) (λ value. FitsIn value item weight)
 IsFitting inv _ = Unit {0}
 
 -- a change of an invocation that is this act

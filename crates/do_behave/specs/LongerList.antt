@@ -1,5 +1,6 @@
 -- A list with one item more.
-use Rattle.std.specs.Prelude.{◌≡◌, ℕ, [], ◌∷◌, ◌++◌, true, Option, Some, None, List as Listed}
+use Rattle.std.specs.Prelude.{◌≡◌, ℕ, zero, suc, [], ◌∷◌, ◌++◌, true, Option, Some, None}
+use Rattle.std.specs.Prelude.{List as Listed}
 use Rattle.do_base.specs.values.Kinds.{items}
 use Rattle.do_base.specs.values.Values.{weight_of}
 use Rattle.do_base.specs.declared.values.value.Value.{Value, List}
@@ -12,6 +13,12 @@ longer_than (Some vs) value item = List (vs ++ item ∷ [])
 -- a list with one item more; any other value stays
 abbrev pub longer : Value → Value → Value
 longer value item = longer_than (items value) value item
+
+-- values of which the one at a place has one item more, if it is there
+abbrev pub longer_at : Listed Value → ℕ → Value → Listed Value
+longer_at [] k item = []
+longer_at (v ∷ vs) zero item = longer v item ∷ vs
+longer_at (v ∷ vs) (suc k) item = v ∷ longer_at vs k item
 
 -- a list that keeps the limits with one item more, and then has this weight
 abbrev pub FitsIn : Value → Value → ℕ → Type 0

@@ -6,7 +6,8 @@ use Rattle.do_base.specs.declared.values.value.Value.{Value, out-Value}
 use Rattle.do_base.specs.declared.values.value.Value.TheVariants.{Num}
 use Rattle.do_base.specs.declared.values.value.Value.TheOpen.{Value-F}
 use Rattle.do_base.specs.declared.events.exception.Exc.TheVariants.{Range}
-use Rattle.do_behave.specs.Steps.{local, gives, type_fault}
+use Rattle.do_grammar.specs.Words.{◌>>?◌}
+use Rattle.do_behave.specs.Steps.{local, gives}
 use Rattle.do_behave.specs.declared.invocation.Invocation.{Invocation}
 use Rattle.do_behave.specs.declared.act.Act.{Act}
 use Rattle.do_behave.specs.declared.act.Act.TheVariants.{Raise}
@@ -29,15 +30,11 @@ abbrev pub gives_number : Invocation → ℕ → Option ℤ → Act
 gives_number inv into None = Raise Range
 gives_number inv into (Some z) = gives inv into (Num z)
 
-abbrev pub with_numbers : Option ℤ → Option ℤ → (ℤ → ℤ → Act) → Act
-with_numbers (Some x) (Some y) f = f x y
-with_numbers _ _ f = type_fault
-
 -- gives what two locals make as numbers
-abbrev pub calculates : (ℤ → ℤ → Option ℤ) → Invocation → ℕ → ℕ → ℕ → Act
+abbrev pub calculates : (ℤ → ℤ → Option ℤ) → Invocation → ℕ → ℕ → ℕ → Option Act
 calculates f inv into left right =
-    with_numbers (counted (local inv left)) (counted (local inv right))
-    (λ x y. gives_number inv into (f x y))
+    local inv left >>? counted >>? λ x. local inv right >>? counted >>? λ y.
+    Some (gives_number inv into (f x y))
 
 abbrev pub less : ℤ → ℤ → Option ℤ
 less x y = Some (truth (int_lt x y))

@@ -1,16 +1,21 @@
 -- How an act of a script goes on.
-use Rattle.std.specs.Prelude.{ℕ, ◌+◌, [], ◌∷◌, Option, slice_index_or, slice_set}
+use Rattle.std.specs.Prelude.{ℕ, ◌+◌, List, [], ◌∷◌, Option, Some, None, slice_get, slice_set}
 use Rattle.do_base.specs.declared.values.value.Value.{Value}
-use Rattle.do_base.specs.declared.values.value.Value.TheVariants.{Nil}
 use Rattle.do_base.specs.declared.events.exception.Exc.TheVariants.{TypeFault}
+use Rattle.do_grammar.specs.Words.{◌>>?◌}
 use Rattle.do_behave.specs.declared.invocation.Handler.{Handler}
 use Rattle.do_behave.specs.declared.invocation.Invocation.{Invocation}
 use Rattle.do_behave.specs.declared.act.Act.{Act}
 use Rattle.do_behave.specs.declared.act.Act.TheVariants.{Step, Raise}
 
--- what a local holds, of an invocation that has it: without sixteen locals an act is a fault of type
-abbrev pub local : Invocation → ℕ → Value
-local inv k = slice_index_or inv.locals k Nil
+-- what a local holds, if it is there
+abbrev pub local : Invocation → ℕ → Option Value
+local inv k = slice_get inv.locals k
+
+-- what several locals hold, if all are there
+abbrev pub local_values : Invocation → List ℕ → Option (List Value)
+local_values inv [] = Some []
+local_values inv (k ∷ ks) = local inv k >>? λ v. local_values inv ks >>? λ vs. Some (v ∷ vs)
 
 abbrev pub next : Invocation → ℕ
 next inv = inv.pc + 1
@@ -32,5 +37,7 @@ writes inv slot value =
 abbrev pub handles : Invocation → Option Handler → Act
 handles inv handler = Step (next inv) inv.locals handler []
 
-abbrev pub type_fault : Act
-type_fault = Raise TypeFault
+-- the act, or a fault of type where there is none
+abbrev pub or_fault : Option Act → Act
+or_fault None = Raise TypeFault
+or_fault (Some act) = act

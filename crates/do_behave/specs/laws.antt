@@ -1,6 +1,7 @@
 pub mod ValueKinds
 pub mod Nesting
 pub mod CodeSuits
+pub mod Sound
 pub mod ActsKeep
 pub mod LimitsKept
 pub mod WeightsKept

@@ -1,6 +1,6 @@
 use crate::act::{Act, Writes};
 use crate::invocation::Handler;
-use do_base::{Items, Value};
+use do_base::{Exc, Items, Value};
 
 /// A value for a local.
 #[derive(Debug, PartialEq, Eq, Drop)]
@@ -53,4 +53,16 @@ pub enum Change {
     },
     /// Any act.
     Other(Act),
+}
+
+impl Change {
+    ghost use Rattle.std.specs.Prelude.{◌≡◌, None};
+    ghost use Rattle.do_behave.specs.Steps.{or_fault};
+
+    /// The change of an act that finds no value, or none of its kind: it raises Type.
+    pub fn type_fault() -> Change
+        ensures { result ≡ Change.Other (or_fault None) }
+    {
+        Change::Other(Act::Raise(Exc::TypeFault))
+    }
 }

@@ -3,6 +3,7 @@ ghost use Rattle.std.specs.Prelude.{◌≡◌, OnOk, OnErr};
 ghost use Rattle.do_behave.specs.KnownWeight.{IsKnown};
 ghost use Rattle.do_behave.specs.LongerList.{FitsIn, longer};
 
+use crate::moving::{append, discard};
 use do_base::{ExactClone, Items, Value, copy_value};
 use std::alloc::AllocError;
 use std::marker::Model;
@@ -70,10 +71,12 @@ impl Held {
         ensures ok { OnOk result (self.new ≡ longer self.old item) }
         ensures err { OnErr result (self.new ≡ self.old) }
     {
-        if let Value::List(items) = &mut self.value {
-            items.push(item)?;
-            self.weight = weight;
-        }
+        let Value::List(items) = &mut self.value else {
+            discard(item);
+            return Ok(());
+        };
+        append(items, item)?;
+        self.weight = weight;
         Ok(())
     }
 }

@@ -8,17 +8,21 @@ use crate::behaviour::Behaviour;
 use crate::change::{Change, LocalSets};
 use crate::held::{Frame, Held};
 use crate::invocation::Invocation;
+use crate::moving::discard;
 use do_base::{Items, Values};
 use do_class::ClassTable;
 use std::alloc::AllocError;
 
 /// Puts an item at a place; past the end nothing is put.
 #[tactic(auto, using(crate::proofs::ListUpdates::set_steps))]
+#[inline(always)]
 fn put<T: Drop>(items: &mut Items<T>, at: usize, item: T)
     ensures { items.new ≡ slice_set items.old at item }
 {
     if at < items.len() {
         items.set(at, item);
+    } else {
+        discard(item);
     }
 }
 
@@ -58,7 +62,8 @@ pub fn make_change(
 {
     match change {
         Change::Local { into, value, pc } => {
-            let _was = inv.set_local(into, value, pc);
+            inv.pc = pc;
+            put(&mut inv.locals, into as usize, Held::new(value));
             Ok(None)
         }
         Change::Push {

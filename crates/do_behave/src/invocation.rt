@@ -1,4 +1,5 @@
 use crate::held::{Frame, Held};
+use crate::moving::copied;
 use do_base::{CallId, ExactClone, Exc, Locals, NodeId, Oid, Value, Values};
 use do_class::MethodId;
 use std::alloc::AllocError;
@@ -76,9 +77,27 @@ pub struct Invocation {
 }
 
 impl Invocation {
-    ghost use Rattle.std.specs.Prelude.{◌≡◌, OnOk, OnErr, slice_get, slice_set};
-    ghost use Rattle.do_behave.specs.LongerList.{FitsIn, longer};
+    ghost use Rattle.std.specs.Prelude.{◌≡◌, IfOk, OnOk, OnErr, IsSomeAnd, slice_get, slice_set};
+    ghost use Rattle.std.specs.Option.{option_copied};
+    ghost use Rattle.do_behave.specs.LongerList.{FitsIn, longer_at};
     ghost use Rattle.do_behave.specs.Steps.{local};
+
+    /// What a local holds; none where there is no such local.
+    pub fn local(&self, k: u8) -> Option<&Value>
+        ensures { option_copied result ≡ local self.now k }
+    {
+        Some(self.locals.get(k as usize)?.value())
+    }
+
+    /// A copy of what a local holds; none where there is no such local.
+    pub fn copy_local(&self, k: u8) -> Result<Option<Value>, AllocError>
+        ensures { IfOk result (λ value. value ≡ local self.now k) }
+    {
+        match self.local(k) {
+            Some(value) => Ok(Some(copied(value)?)),
+            None => Ok(None),
+        }
+    }
 
     /// Sets a local, and goes on at a place. What the local held is handed back; where there is no
     /// such local none is set.
@@ -107,10 +126,10 @@ impl Invocation {
         weight: u64,
         pc: u32,
     ) -> Result<(), AllocError>
-        requires { FitsIn (local self.old list) item weight }
+        requires { IsSomeAnd (local self.old list) (λ value. FitsIn value item weight) }
         ensures ok { OnOk result (self.new ≡ record self.old {
           pc = pc;
-          locals = slice_set self.old.locals list (longer (local self.old list) item);
+          locals = longer_at self.old.locals list item;
         }) }
         ensures err { OnErr result (self.new ≡ self.old) }
     {

@@ -14,6 +14,8 @@ mod in_place;
 mod invocation;
 mod limits;
 mod lists;
+mod messages;
+mod moving;
 mod numbers;
 mod program;
 mod script;

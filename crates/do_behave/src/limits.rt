@@ -17,6 +17,7 @@ pub(crate) const MAX_WEIGHT: u64 = 2_097_152;
 
 /// Whether no more than `depth` lists stand inside one another.
 #[cycle(nests)]
+#[inline(always)]
 pub(crate) fn nests_within(value: &Value, depth: u32) -> bool
     ensures { result ≡ nests_within value.now depth }
 {
@@ -48,6 +49,7 @@ pub(crate) fn left(most: u64, weight: u64) -> Option<u64>
 /// What is left of a limit behind the weight of a value; none where it is passed.
 #[cycle(left)]
 #[tactic(auto, using(crate::proofs::Weights::left_steps))]
+#[inline(always)]
 pub(crate) fn left_behind(value: &Value, most: u64) -> Option<u64>
     ensures { result ≡ left_of most (weight_of value.now) }
 {

@@ -2,9 +2,8 @@ ghost use Rattle.std.specs.Prelude.{◌≡◌, ◌<◌, ◌+◌, ◌^◌, [], �
 ghost use Rattle.std.specs.Prelude.{IfOk, IfSome, IfNone, false};
 ghost use Rattle.std.specs.List.{list_all};
 ghost use Rattle.std.specs.Option.{option_copied};
-ghost use Rattle.do_script.specs.Listing.{IsLocal};
 ghost use Rattle.do_behave.specs.Lists.{pushes, picks, counts, gives_found, can_be};
-ghost use Rattle.do_behave.specs.Steps.{local};
+ghost use Rattle.do_behave.specs.Steps.{or_fault};
 ghost use Rattle.do_behave.specs.Limits.{left_of, nests_within};
 ghost use Rattle.do_base.specs.values.Values.{weight_of};
 ghost use Rattle.do_behave.specs.Changes.{Means};
@@ -17,7 +16,8 @@ use crate::invocation::Invocation;
 use crate::limits::{
     MAX_ITEMS, MAX_NESTING, MAX_WEIGHT, all_nest_within, left, left_behind, nests_within,
 };
-use crate::steps::{gives, held, local};
+use crate::moving::copied;
+use crate::steps::gives;
 use do_base::{Exc, Value, Values, copy_value};
 use std::alloc::AllocError;
 
@@ -35,17 +35,16 @@ fn gives_found(inv: &Invocation, into: u8, found: Option<&Value>) -> Result<Chan
 
 /// Gives the item of a list at an index.
 pub(crate) fn item(inv: &Invocation, into: u8, list: u8, index: u8) -> Result<Change, AllocError>
-    requires all { length inv.now.locals ≡ 16 }
-    requires known { IsLocal list × IsLocal index }
     requires room { inv.now.pc + 1 < 2 ^ 32 }
-    ensures { IfOk result (λ change. Means inv.now change (picks inv.now into list index)) }
+    ensures { IfOk result (λ change.
+        Means inv.now change (or_fault (picks inv.now into list index))) }
 {
-    match (local(inv, list), local(inv, index)) {
-        (Value::List(items), Value::Num(at)) => {
+    match (inv.local(list), inv.local(index)) {
+        (Some(Value::List(items)), Some(Value::Num(at))) => {
             let found = usize::try_from(*at).ok().and_then(|at| items.get(at));
             gives_found(inv, into, found)
         }
-        _ => Ok(Change::Other(Act::Raise(Exc::TypeFault))),
+        _ => Ok(Change::type_fault()),
     }
 }
 
@@ -116,22 +115,22 @@ fn weight_with(list: &Value, items: &Values, known: u64, item: &Value) -> Option
 
 /// Appends a value to the list in a local.
 pub(crate) fn push(inv: &Invocation, list: u8, item: u8) -> Result<Change, AllocError>
-    requires all { length inv.now.locals ≡ 16 }
-    requires known { IsLocal list × IsLocal item }
     requires room { inv.now.pc + 1 < 2 ^ 32 }
-    ensures { IfOk result (λ change. Means inv.now change (pushes inv.now list item)) }
+    ensures { IfOk result (λ change.
+        Means inv.now change (or_fault (pushes inv.now list item))) }
 {
-    let held = held(inv, list);
+    let (Some(held), Some(item)) = (inv.locals.get(list as usize), inv.local(item)) else {
+        return Ok(Change::type_fault());
+    };
     let known = held.weight();
     let value = held.value();
-    let item = local(inv, item);
     let Value::List(items) = value else {
-        return Ok(Change::Other(Act::Raise(Exc::TypeFault)));
+        return Ok(Change::type_fault());
     };
     let Some(weight) = weight_with(value, items, known, item) else {
         return Ok(Change::Other(Act::Raise(Exc::Range)));
     };
-    let item = copy_value(item)?;
+    let item = copied(item)?;
     let pc = inv.pc + 1;
     Ok(Change::Push {
         list,
@@ -157,15 +156,13 @@ fn byte_count(bytes: &[u8]) -> i64
 
 /// Gives how many items a list has, or bytes a text.
 pub(crate) fn count(inv: &Invocation, into: u8, of: u8) -> Change
-    requires all { length inv.now.locals ≡ 16 }
-    requires known { IsLocal of }
     requires room { inv.now.pc + 1 < 2 ^ 32 }
-    ensures { Means inv.now result (counts inv.now into of) }
+    ensures { Means inv.now result (or_fault (counts inv.now into of)) }
 {
-    match local(inv, of) {
-        Value::Nil => gives(inv, into, Value::Num(0)),
-        Value::Text(text) => gives(inv, into, Value::Num(byte_count(text.as_slice()))),
-        Value::List(items) => gives(inv, into, Value::Num(item_count(items.as_slice()))),
-        _ => Change::Other(Act::Raise(Exc::TypeFault)),
+    match inv.local(of) {
+        Some(Value::Nil) => gives(inv, into, Value::Num(0)),
+        Some(Value::Text(text)) => gives(inv, into, Value::Num(byte_count(text.as_slice()))),
+        Some(Value::List(items)) => gives(inv, into, Value::Num(item_count(items.as_slice()))),
+        _ => Change::type_fault(),
     }
 }

@@ -1,12 +1,14 @@
-ghost use Rattle.std.specs.Prelude.{◌≡◌, ◌<◌, ◌+◌, ◌^◌, ◌+ℤ◌, ◌-ℤ◌, ◌*ℤ◌, length};
-ghost use Rattle.do_script.specs.Listing.{IsLocal};
+ghost use Rattle.std.specs.Prelude.{◌≡◌, ◌<◌, ◌+◌, ◌^◌, ◌+ℤ◌, ◌-ℤ◌, ◌*ℤ◌};
+ghost use Rattle.do_base.specs.values.Kinds.{counted};
+ghost use Rattle.do_grammar.specs.Words.{◌>>?◌};
+ghost use Rattle.do_behave.specs.Steps.{local, or_fault};
 ghost use Rattle.do_behave.specs.Changes.{Means};
 ghost use Rattle.do_behave.specs.Numbers.{is_zero, calculates, checked, gives_number, less, truth};
 
 use crate::act::Act;
 use crate::change::Change;
 use crate::invocation::Invocation;
-use crate::steps::{gives, local};
+use crate::steps::gives;
 use do_base::{Exc, Value};
 
 /// Whether a value is nil or 0.
@@ -38,55 +40,57 @@ fn gives_number(inv: &Invocation, into: u8, number: Option<i64>) -> Change
     }
 }
 
+/// The number that a local counts as, where nil counts as 0.
+fn counted(inv: &Invocation, k: u8) -> Option<i64>
+    ensures { result ≡ (local inv.now k >>? counted) }
+{
+    inv.local(k)?.counted()
+}
+
 /// Gives the sum of two locals.
 pub(crate) fn add(inv: &Invocation, into: u8, left: u8, right: u8) -> Change
-    requires all { length inv.now.locals ≡ 16 }
-    requires known { IsLocal left × IsLocal right }
     requires room { inv.now.pc + 1 < 2 ^ 32 }
-    ensures { Means inv.now result (calculates (λ x y. checked (x +ℤ y)) inv.now into left right) }
+    ensures { Means inv.now result
+        (or_fault (calculates (λ x y. checked (x +ℤ y)) inv.now into left right)) }
 {
-    match (local(inv, left).counted(), local(inv, right).counted()) {
+    match (counted(inv, left), counted(inv, right)) {
         (Some(x), Some(y)) => gives_number(inv, into, sum(x, y)),
-        _ => Change::Other(Act::Raise(Exc::TypeFault)),
+        _ => Change::type_fault(),
     }
 }
 
 /// Gives the difference of two locals.
 pub(crate) fn subtract(inv: &Invocation, into: u8, left: u8, right: u8) -> Change
-    requires all { length inv.now.locals ≡ 16 }
-    requires known { IsLocal left × IsLocal right }
     requires room { inv.now.pc + 1 < 2 ^ 32 }
-    ensures { Means inv.now result (calculates (λ x y. checked (x -ℤ y)) inv.now into left right) }
+    ensures { Means inv.now result
+        (or_fault (calculates (λ x y. checked (x -ℤ y)) inv.now into left right)) }
 {
-    match (local(inv, left).counted(), local(inv, right).counted()) {
+    match (counted(inv, left), counted(inv, right)) {
         (Some(x), Some(y)) => gives_number(inv, into, difference(x, y)),
-        _ => Change::Other(Act::Raise(Exc::TypeFault)),
+        _ => Change::type_fault(),
     }
 }
 
 /// Gives the product of two locals.
 pub(crate) fn multiply(inv: &Invocation, into: u8, left: u8, right: u8) -> Change
-    requires all { length inv.now.locals ≡ 16 }
-    requires known { IsLocal left × IsLocal right }
     requires room { inv.now.pc + 1 < 2 ^ 32 }
-    ensures { Means inv.now result (calculates (λ x y. checked (x *ℤ y)) inv.now into left right) }
+    ensures { Means inv.now result
+        (or_fault (calculates (λ x y. checked (x *ℤ y)) inv.now into left right)) }
 {
-    match (local(inv, left).counted(), local(inv, right).counted()) {
+    match (counted(inv, left), counted(inv, right)) {
         (Some(x), Some(y)) => gives_number(inv, into, product(x, y)),
-        _ => Change::Other(Act::Raise(Exc::TypeFault)),
+        _ => Change::type_fault(),
     }
 }
 
 /// Gives 1 where the first of two locals is below the second, else 0.
 pub(crate) fn less(inv: &Invocation, into: u8, left: u8, right: u8) -> Change
-    requires all { length inv.now.locals ≡ 16 }
-    requires known { IsLocal left × IsLocal right }
     requires room { inv.now.pc + 1 < 2 ^ 32 }
-    ensures { Means inv.now result (calculates less inv.now into left right) }
+    ensures { Means inv.now result (or_fault (calculates less inv.now into left right)) }
 {
-    match (local(inv, left).counted(), local(inv, right).counted()) {
+    match (counted(inv, left), counted(inv, right)) {
         (Some(x), Some(y)) => gives_number(inv, into, Some(truth(x < y))),
-        _ => Change::Other(Act::Raise(Exc::TypeFault)),
+        _ => Change::type_fault(),
     }
 }
 

@@ -7,7 +7,7 @@ use crate::behaviour::Behaviour;
 use crate::change::Change;
 use crate::invocation::Invocation;
 use crate::script::perform;
-use do_base::{Exc, Items, Value, Values};
+use do_base::{Items, Value, Values};
 use do_class::{ClassTable, MethodId};
 use do_script::Code;
 use std::alloc::AllocError;
@@ -91,10 +91,10 @@ impl Behaviour for Program {
         slots: &Values,
     ) -> Result<Change, AllocError> {
         let Some(code) = self.code_of(inv.method) else {
-            return Ok(Change::Other(Act::Raise(Exc::TypeFault)));
+            return Ok(Change::type_fault());
         };
         if !is_ready(table, inv, slots, code) {
-            return Ok(Change::Other(Act::Raise(Exc::TypeFault)));
+            return Ok(Change::type_fault());
         }
         match code.get(inv.pc as usize) {
             Some(instruction) => perform(inv, slots, instruction),

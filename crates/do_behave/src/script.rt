@@ -1,98 +1,44 @@
-ghost use Rattle.std.specs.Prelude.{◌≡◌, ◌<◌, ◌+◌, ◌^◌, [], length, map, IfOk, if◌then◌else◌};
-ghost use Rattle.std.specs.List.{All};
-ghost use Rattle.do_class.specs.Table.{class_id};
-ghost use Rattle.do_script.specs.Listing.{IsLocal, IsWithin};
-ghost use Rattle.do_behave.specs.Steps.{local, next, gives, goes_to, handles};
-ghost use Rattle.do_base.specs.values.Equal.{value_eq};
-ghost use Rattle.do_behave.specs.Numbers.{truth, is_zero};
+//! The act of each instruction.
+ghost use Rattle.std.specs.Prelude.{◌≡◌, ◌<◌, ◌+◌, ◌^◌, [], length, Some, IfOk};
+ghost use Rattle.std.specs.Option.{option_copied};
+ghost use Rattle.do_grammar.specs.Words.{◌>>?◌};
+ghost use Rattle.do_script.specs.Listing.{IsWithin};
+ghost use Rattle.do_behave.specs.Steps.{local, gives, writes, handles, or_fault};
 ghost use Rattle.do_behave.specs.Changes.{Means};
-ghost use Rattle.do_behave.specs.Script.{performs, raises, asks_root};
+ghost use Rattle.do_behave.specs.Script.{performs, compares, goes_if_zero};
 
-use crate::act::Act;
 use crate::change::Change;
 use crate::invocation::{Handler, Invocation};
 use crate::lists::{count, item, push};
+use crate::messages::{give_back, make, raise, root, say, send, vend};
+use crate::moving::copied;
 use crate::numbers::{add, is_zero, less, multiply, subtract, truth};
-use crate::steps::{gives, goes_to, handles, local, writes};
-use do_base::{Exc, Locals, Text, Value, Values, copy_value};
-use do_class::ClassId;
+use crate::steps::{gives, goes_to, handles, writes};
+use do_base::{Value, Values};
 use do_script::Instruction;
 use std::alloc::AllocError;
 
-/// Raises the text in a local.
-fn raise(inv: &Invocation, value: u8) -> Result<Change, AllocError>
-    requires all { length inv.now.locals ≡ 16 }
-    requires known { IsLocal value }
-    ensures { IfOk result (λ change. Means inv.now change (raises inv.now value)) }
-{
-    match local(inv, value) {
-        Value::Text(text) => Ok(Change::Other(Act::Raise(Exc::User(text.clone()?)))),
-        _ => Ok(Change::Other(Act::Raise(Exc::TypeFault))),
-    }
-}
-
-/// What these locals hold.
-fn values_of(inv: &Invocation, from: &Locals) -> Result<Values, AllocError>
-    requires all { length inv.now.locals ≡ 16 }
-    requires known { All IsLocal from.now }
-    ensures { IfOk result (λ vs. vs ≡ map (local inv.now) from.now) }
-{
-    let mut values = Values::with_capacity(inv.locals.allocator(), from.len())?;
-    for k in from.as_slice() {
-        values.push(copy_value(local(inv, *k))?)?;
-    }
-    Ok(values)
-}
-
-/// Sends a message.
-fn send(
-    inv: &Invocation,
-    into: u8,
-    target: u8,
-    selector: &Text,
-    from: &Locals,
-) -> Result<Change, AllocError>
-    requires all { length inv.now.locals ≡ 16 }
-    requires known { IsLocal target × All IsLocal from.now }
-    requires room { inv.now.pc + 1 < 2 ^ 32 }
-    ensures { IfOk result (λ change. Means inv.now change (Act.Send (local inv.now target)
-        selector.now (map (local inv.now) from.now) into from.now (inv.now.pc + 1))) }
-{
-    Ok(Change::Other(Act::Send {
-        target: copy_value(local(inv, target))?,
-        selector: selector.clone()?,
-        args: values_of(inv, from)?,
-        into,
-        from: from.clone()?,
-        pc: inv.pc + 1,
-    }))
-}
-
 /// Gives 1 where two locals hold the same value, else 0.
 fn same(inv: &Invocation, into: u8, left: u8, right: u8) -> Change
-    requires all { length inv.now.locals ≡ 16 }
-    requires known { IsLocal left × IsLocal right }
     requires room { inv.now.pc + 1 < 2 ^ 32 }
-    ensures { Means inv.now result (gives inv.now into
-        (Value.Num (truth (value_eq (local inv.now left) (local inv.now right))))) }
+    ensures { Means inv.now result (or_fault (compares inv.now into left right)) }
 {
-    let same = local(inv, left) == local(inv, right);
-    gives(inv, into, Value::Num(truth(same)))
+    match (inv.local(left), inv.local(right)) {
+        (Some(x), Some(y)) => gives(inv, into, Value::Num(truth(x == y))),
+        _ => Change::type_fault(),
+    }
 }
 
 /// Goes on at a place where a local holds nil or 0.
 fn if_not(inv: &Invocation, test: u8, to: usize) -> Change
-    requires all { length inv.now.locals ≡ 16 }
-    requires known { IsLocal test }
     requires room { inv.now.pc + 1 < 2 ^ 32 }
     requires place { to < 2 ^ 32 }
-    ensures { Means inv.now result (goes_to inv.now
-        (if is_zero (local inv.now test) then to else next inv.now)) }
+    ensures { Means inv.now result (or_fault (goes_if_zero inv.now test to)) }
 {
-    if is_zero(local(inv, test)) {
-        goes_to(inv, to)
-    } else {
-        goes_to(inv, inv.pc as usize + 1)
+    match inv.local(test) {
+        Some(value) if is_zero(value) => goes_to(inv, to),
+        Some(_) => goes_to(inv, inv.pc as usize + 1),
+        None => Change::type_fault(),
     }
 }
 
@@ -113,68 +59,28 @@ fn empty(slots: &Values) -> Values
     Values::new(slots.allocator())
 }
 
-/// Makes an object.
-fn make(inv: &Invocation, into: u8, class: usize) -> Change
+/// Gives a copy of a value, where there is one.
+fn gives_copy(inv: &Invocation, into: u8, from: Option<&Value>) -> Result<Change, AllocError>
     requires room { inv.now.pc + 1 < 2 ^ 32 }
-    requires class { class < 256 }
-    ensures { Means inv.now result (Act.New (class_id class) into (next inv.now)) }
+    ensures { IfOk result (λ change. Means inv.now change
+        (or_fault (option_copied from.entry >>? λ v. Some (gives inv.now into v)))) }
 {
-    let class = ClassId(class as u32);
-    let pc = inv.pc + 1;
-    Change::Other(Act::New { class, into, pc })
-}
-
-/// Asks for the root of the node whose port is the number in a local.
-fn root(inv: &Invocation, into: u8, port: u8) -> Change
-    requires all { length inv.now.locals ≡ 16 }
-    requires known { IsLocal port }
-    requires room { inv.now.pc + 1 < 2 ^ 32 }
-    ensures { Means inv.now result (asks_root inv.now into port) }
-{
-    match local(inv, port) {
-        Value::Num(number) => Change::Other(Act::Root {
-            port: Value::Num(*number),
-            into,
-            pc: inv.pc + 1,
-        }),
-        _ => Change::Other(Act::Raise(Exc::TypeFault)),
+    match from {
+        Some(value) => Ok(gives(inv, into, copied(value)?)),
+        None => Ok(Change::type_fault()),
     }
 }
 
-/// Makes what a local holds the root of the own node.
-fn vend(inv: &Invocation, value: u8) -> Result<Change, AllocError>
-    requires all { length inv.now.locals ≡ 16 }
-    requires known { IsLocal value }
+/// Sets a slot to what a local holds.
+fn set(inv: &Invocation, slot: usize, from: u8) -> Result<Change, AllocError>
     requires room { inv.now.pc + 1 < 2 ^ 32 }
-    ensures { IfOk result (λ change.
-        Means inv.now change (Act.Vend (local inv.now value) (next inv.now))) }
+    ensures { IfOk result (λ change. Means inv.now change
+        (or_fault (local inv.now from >>? λ v. Some (writes inv.now slot v)))) }
 {
-    let value = copy_value(local(inv, value))?;
-    let pc = inv.pc + 1;
-    Ok(Change::Other(Act::Vend { value, pc }))
-}
-
-/// Shows what a local holds.
-fn say(inv: &Invocation, value: u8) -> Result<Change, AllocError>
-    requires all { length inv.now.locals ≡ 16 }
-    requires known { IsLocal value }
-    requires room { inv.now.pc + 1 < 2 ^ 32 }
-    ensures { IfOk result (λ change.
-        Means inv.now change (Act.Say (local inv.now value) (next inv.now))) }
-{
-    let value = copy_value(local(inv, value))?;
-    let pc = inv.pc + 1;
-    Ok(Change::Other(Act::Say { value, pc }))
-}
-
-/// Ends with what a local holds.
-fn give_back(inv: &Invocation, value: u8) -> Result<Change, AllocError>
-    requires all { length inv.now.locals ≡ 16 }
-    requires known { IsLocal value }
-    ensures { IfOk result (λ change. Means inv.now change (Act.Return (local inv.now value))) }
-{
-    let value = copy_value(local(inv, value))?;
-    Ok(Change::Other(Act::Return { value }))
+    match inv.copy_local(from)? {
+        Some(value) => Ok(writes(inv, slot, value)),
+        None => Ok(Change::type_fault()),
+    }
 }
 
 /// The act of an instruction.
@@ -183,24 +89,19 @@ pub(crate) fn perform(
     slots: &Values,
     instruction: &Instruction,
 ) -> Result<Change, AllocError>
-    requires all { length inv.now.locals ≡ 16 }
     requires within { IsWithin (length slots.now) 256 4096 instruction.now }
     requires room { inv.now.pc + 1 < 2 ^ 32 }
     ensures { IfOk result (λ change.
-        Means inv.now change (performs inv.now slots.now instruction.now)) }
+        Means inv.now change (or_fault (performs inv.now slots.now instruction.now))) }
 {
     match instruction {
         Instruction::Nil { into } => Ok(gives(inv, *into, Value::Nil)),
         Instruction::Number { into, number } => Ok(gives(inv, *into, Value::Num(*number))),
         Instruction::Text { into, text } => Ok(gives(inv, *into, Value::Text(text.clone()?))),
         Instruction::Own { into } => Ok(gives(inv, *into, Value::Obj(inv.object))),
-        Instruction::Move { into, from } => Ok(gives(inv, *into, copy_value(local(inv, *from))?)),
-        Instruction::Get { into, slot } => Ok(gives(
-            inv,
-            *into,
-            copy_value(&slots.as_slice()[*slot])?,
-        )),
-        Instruction::Set { slot, from } => Ok(writes(inv, *slot, copy_value(local(inv, *from))?)),
+        Instruction::Move { into, from } => gives_copy(inv, *into, inv.local(*from)),
+        Instruction::Get { into, slot } => gives_copy(inv, *into, slots.get(*slot)),
+        Instruction::Set { slot, from } => set(inv, *slot, *from),
         Instruction::Add { into, left, right } => Ok(add(inv, *into, *left, *right)),
         Instruction::Subtract { into, left, right } => Ok(subtract(inv, *into, *left, *right)),
         Instruction::Multiply { into, left, right } => Ok(multiply(inv, *into, *left, *right)),

@@ -1,30 +1,10 @@
-ghost use Rattle.std.specs.Prelude.{◌≡◌, ◌<◌, ◌+◌, ◌^◌, length};
-ghost use Rattle.do_script.specs.Listing.{IsLocal};
-ghost use Rattle.do_behave.specs.Steps.{local, gives, goes_to, writes, handles};
+ghost use Rattle.std.specs.Prelude.{◌≡◌, ◌<◌, ◌+◌, ◌^◌};
+ghost use Rattle.do_behave.specs.Steps.{gives, goes_to, writes, handles};
 ghost use Rattle.do_behave.specs.Changes.{Means};
 
 use crate::change::Change;
-use crate::held::Held;
 use crate::invocation::{Handler, Invocation};
 use do_base::Value;
-
-/// What a local holds, with its weight where that is known.
-pub(crate) fn held(inv: &Invocation, k: u8) -> &Held
-    requires all { length inv.now.locals ≡ 16 }
-    requires known { IsLocal k }
-    ensures { result.now ≡ local inv.now k }
-{
-    &inv.locals.as_slice()[k as usize]
-}
-
-/// What a local holds.
-pub(crate) fn local(inv: &Invocation, k: u8) -> &Value
-    requires all { length inv.now.locals ≡ 16 }
-    requires known { IsLocal k }
-    ensures { result.now ≡ local inv.now k }
-{
-    held(inv, k).value()
-}
 
 /// Sets a local, and goes on.
 pub(crate) fn gives(inv: &Invocation, into: u8, value: Value) -> Change

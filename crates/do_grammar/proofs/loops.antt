@@ -6,3 +6,4 @@ pub mod QuotedLoop
 pub mod SkippedLoop
 pub mod TimesByLoop
 pub mod BesideLoop
+pub mod UntilLoop

@@ -1,3 +1,5 @@
+pub mod SizeExact
+pub mod DigitsExact
 pub mod NumExact
 pub mod WordBytes
 pub mod NameBytes

@@ -4,12 +4,13 @@ use Rattle.std.proofs.Common.{◌⊎◌, inl, inr}
 use Rattle.do_base.specs.names.Names.{ObjectName}
 use Rattle.do_packet.specs.Copies.{IsCopies, Placed, copies_of, grown, most_copies}
 use Rattle.do_packet.specs.Seen.{Sender}
-use Rattle.do_packet.proofs.Prefixes.{IsPrefix, prefix_length}
+use Rattle.do_packet.specs.walk.Walking.{IsPrefix}
+use Rattle.do_packet.proofs.Prefixes.{prefix_length}
 use Rattle.do_packet.proofs.Rounds.{Decided, rounds_decide, rounds_least}
 
 module _ (s : Sender) (values : List Placed) where
   -- what is computed is its own list of copies, or there are too many
-  computed : (grown s values (copies_of s values) ≡ copies_of s values)
+  pub computed : (grown s values (copies_of s values) ≡ copies_of s values)
       ⊎ (most_copies < length (copies_of s values))
   computed = go (rounds_decide s values (suc most_copies) [] (grown s values [], refl))
     where

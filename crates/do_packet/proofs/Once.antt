@@ -9,7 +9,7 @@ use Rattle.do_base.specs.names.Names.{ObjectName}
 use Rattle.do_packet.specs.Met.{has_object, met, met_one, same_object}
 
 -- names that pass the test are equal
-same_is : (a b : ObjectName) → same_object a b ≡ true → a ≡ b
+pub same_is : (a b : ObjectName) → same_object a b ≡ true → a ≡ b
 same_is a b h = search (Rattle.std.proofs.Common.rules, h)
 
 -- the test of two names is one of equality

@@ -1,12 +1,11 @@
 -- Lists of objects that begin with one another.
-use Rattle.std.proofs.Common.{◌≡◌, ◌≤◌, Bool, true, false, cond, List, [], ◌∷◌, ◌++◌, length}
+use Rattle.std.proofs.Common.{◌≡◌, ◌≤◌, ℕ, Bool, true, false, cond, List, [], ◌∷◌, ◌++◌, length}
+use Rattle.std.proofs.Common.{take}
+use Rattle.std.proofs.lemmas.List.{take-append-le}
 use Rattle.std.proofs.Common.{refl, sym, ap, ◌∙◌, arith, append_assoc, append-nil, length-append}
 use Rattle.do_base.specs.names.Names.{ObjectName}
 use Rattle.do_packet.specs.Met.{has_object, met, met_one}
-
--- ys begins as xs
-abbrev pub IsPrefix : List ObjectName → List ObjectName → Type 0
-IsPrefix xs ys = (rest : List ObjectName) × (ys ≡ xs ++ rest)
+use Rattle.do_packet.specs.walk.Walking.{IsPrefix}
 
 -- each list begins as itself
 pub prefix_refl : (xs : List ObjectName) → IsPrefix xs xs
@@ -20,6 +19,11 @@ prefix_trans xs ys zs p q =
 -- a beginning is no longer
 pub prefix_length : (xs ys : List ObjectName) → IsPrefix xs ys → length xs ≤ length ys
 prefix_length xs ys p = omega (arith, ap length p.1, length-append xs p.0)
+
+-- lists that begin alike have the same first items
+pub front_of : (k : ℕ) (xs ys : List ObjectName) → IsPrefix xs ys → k ≤ length xs →
+    take k ys ≡ take k xs
+front_of k xs ys p h = ap (take k) p.1 ∙ take-append-le k xs p.0 h
 
 -- what is no longer than its beginning is that
 pub prefix_long : (xs ys : List ObjectName) → IsPrefix xs ys → length ys ≤ length xs → ys ≡ xs

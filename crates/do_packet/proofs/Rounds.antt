@@ -8,7 +8,8 @@ use Rattle.do_base.specs.names.Names.{ObjectName}
 use Rattle.do_packet.specs.Met.{met, met_one}
 use Rattle.do_packet.specs.Copies.{Placed, contents, copied_at, grown, rounds, slots_at}
 use Rattle.do_packet.specs.Seen.{Sender}
-use Rattle.do_packet.proofs.Prefixes.{IsPrefix, prefix_length, prefix_long, prefix_met}
+use Rattle.do_packet.specs.walk.Walking.{IsPrefix}
+use Rattle.do_packet.proofs.Prefixes.{prefix_length, prefix_long, prefix_met}
 
 module _ (f : Placed → List ObjectName) (s : Sender) (values : List Placed) where
   -- the objects of a message with these copies

@@ -5,3 +5,6 @@ pub mod Parts
 pub mod Packing
 pub mod Unpacking
 pub mod Naming
+pub mod Limits
+pub mod RoundTrip
+pub mod walk

@@ -1,4 +1,6 @@
 use std::alloc::AllocError;
+use std::error::Error;
+use std::fmt;
 
 /// Why values were not packed.
 #[derive(Debug, PartialEq, Eq, Drop)]
@@ -9,6 +11,19 @@ pub enum PackFault {
     /// Memory ran out.
     Memory,
 }
+
+impl fmt::Display for PackFault {
+    fn fmt<W: fmt::Write>(&self, f: &mut fmt::Formatter<W>) -> fmt::Result {
+        match self {
+            PackFault::TooLarge { count, limit } => {
+                write!(f, "too large a message: {count}, and at most {limit}")
+            }
+            PackFault::Memory => write!(f, "out of memory"),
+        }
+    }
+}
+
+impl Error for PackFault {}
 
 impl From<AllocError> for PackFault {
     ghost use Rattle.std.specs.Prelude.{◌≡◌};

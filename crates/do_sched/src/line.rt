@@ -1,7 +1,7 @@
 use do_base::{Items, NodeId, Text, Values};
 
 /// A line of a schedule between its first line and `end`. The form is this project's own.
-#[derive(Clone, Debug, PartialEq, Eq, Drop)]
+#[derive(Debug, Drop)]
 pub enum Line {
     /// The root of a node is sent a selector with plain values, one for each colon.
     Start {
@@ -26,6 +26,5 @@ pub enum Line {
 /// The lines of a schedule between its first line and `end`, in order.
 ///
 /// The list itself keeps no limit; those of a schedule have 1,000,000 single steps at most. The
-/// form
-/// is this project's own.
+/// form is this project's own.
 pub type Lines = Items<Line>;

@@ -64,7 +64,11 @@ enough (suc n) (suc m) bytes p q =
     go (λ (rest : List ℕ) (h : length rest ≤ n) (k : length rest ≤ m). enough n m rest h k)
     (first_word bytes) refl
   where
-    go : ((rest : List ℕ) → length rest ≤ n → length rest ≤ m → words_within n rest ≡ words_within m rest) → (o : Option (List ℕ × List ℕ)) → first_word bytes ≡ o → option_map_or (λ x. x.0 ∷ words_within n x.1) o [] ≡ option_map_or (λ x. x.0 ∷ words_within m x.1) o []
+    go : ((rest : List ℕ) → length rest ≤ n → length rest ≤ m
+        → words_within n rest ≡ words_within m rest)
+        → (o : Option (List ℕ × List ℕ)) → first_word bytes ≡ o
+        → option_map_or (λ x. x.0 ∷ words_within n x.1) o []
+        ≡ option_map_or (λ x. x.0 ∷ words_within m x.1) o []
     go again None e = refl
     go again (Some x) e =
         let less =
@@ -88,6 +92,7 @@ words_some bytes x e = go (length bytes) (first_shorter bytes x e)
     go : (n : ℕ) → length x.1 < n → words_within n bytes ≡ x.0 ∷ words_within (length x.1) x.1
     go zero less = absurd (let z : ⊥ = omega arith in z)
     go (suc m) less =
-        rw e (ap (λ (ws : List (List ℕ)). x.0 ∷ ws) (enough m (length x.1) x.1 (omega arith) (omega arith)))
+        rw e (ap (λ (ws : List (List ℕ)). x.0 ∷ ws)
+        (enough m (length x.1) x.1 (omega arith) (omega arith)))
 
 pub ruleset splitting = (words_none, words_some, first_shorter)

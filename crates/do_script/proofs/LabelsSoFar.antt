@@ -90,4 +90,6 @@ pub scope_same : (slots classes : List (List ℕ)) (text : List ℕ) (found : La
     → ◌≡◌ {A = Scope} (record { slots = slots; classes = classes; label = label_in found })
     (scope slots classes text)
 scope_same slots classes text found h =
-    ap (λ (f : List ℕ → Option Label). let s : Scope = record { slots = slots; classes = classes; label = f } in s) (fun_ext h.labels)
+    ap (λ (f : List ℕ → Option Label).
+    let s : Scope = record { slots = slots; classes = classes; label = f } in s)
+    (fun_ext h.labels)

@@ -91,7 +91,8 @@ made_size s n before (instruction w ws) is e short = go (leb 4096 before) refl e
 
     go : (t : Bool) → leb 4096 before ≡ t
         → cond t (Err Long)
-        (ok_or (form_of w) Op >>= λ form. instruction_of s form ws >>= λ i. Ok (i ∷ [])) ≡ Ok is → (length is ≡ size (instruction w ws ∷ [])) × (before + length is ≤ 4096)
+        (ok_or (form_of w) Op >>= λ form. instruction_of s form ws >>= λ i. Ok (i ∷ [])) ≡ Ok is
+        → (length is ≡ size (instruction w ws ∷ [])) × (before + length is ≤ 4096)
     go true h k = absurd cc
     go false h k =
         let len : length is ≡ 1 = formed (ok_or (form_of w) Op) k in
@@ -110,7 +111,14 @@ pub record Reached (s : Scope) (xs : List Statement) (n : ℕ) (rest : List Stat
 
 pub reached_none : (s : Scope) (xs : List Statement) → Reached s xs 0 xs []
 reached_none s xs =
-    record { behind = refl; place = omega arith; good = λ line h. absurd (let z : ⊥ = omega arith in z); count = refl; made = refl; short = omega arith }
+    record {
+      behind = refl;
+      place = omega arith;
+      good = λ line h. absurd (let z : ⊥ = omega arith in z);
+      count = refl;
+      made = refl;
+      short = omega arith;
+    }
 
 pub reached_more : (s : Scope) (xs : List Statement) (n : ℕ) (x : Statement)
     (rest more : List Statement)
@@ -126,7 +134,8 @@ reached_more s xs n x rest more code is r e ok =
     ∙ ap fault_in ok in
     let last : code_from s n (length code) (x ∷ more) ≡ is ++ code_from s (n + 1)
     (length code + size (x ∷ [])) more =
-    ap (λ (w : Result (List Instruction) Kind). code_in w ++ code_from s (n + 1) (length code + size (x ∷ [])) more) ok in
+    ap (λ (w : Result (List Instruction) Kind).
+    code_in w ++ code_from s (n + 1) (length code + size (x ∷ [])) more) ok in
     record {
       behind = next_behind xs n x more parts;
       place = let in_it : n < length xs = inside xs n x more parts in omega arith;
@@ -151,7 +160,10 @@ reached_fault s xs n x rest more code fault r e err = go fault err
 
     first : (k : Kind) → made s n (length code) x ≡ Err k → IsFirstFault s xs n k
     first k h =
-        record { here = fault_here s xs n (length code) x more (r.behind ∙ e) r.count ∙ ap fault_in h; before = r.good }
+        record {
+          here = fault_here s xs n (length code) x more (r.behind ∙ e) r.count ∙ ap fault_in h;
+          before = r.good;
+        }
 
     go : (f : LineFault) → Reads option_to_list (Err f) (made s n (length code) x)
         → IsFault s xs (answer f n)
@@ -175,7 +187,10 @@ reached_end s xs n rest code r e =
       | inl below ↦ r.good line below
       | inr above ↦ past line (omega arith)
     ] in
-    (record { good = good; made = sym (r.made ∙ ap (λ (w : List Statement). code ++ code_from s n (length code) w) e ∙ append-nil code) }, sym r.count ∙ ap size whole)
+    let made : code_from s 0 0 xs ≡ code =
+    r.made ∙ ap (λ (w : List Statement). code ++ code_from s n (length code) w) e
+    ∙ append-nil code in
+    (record { good = good; made = sym made }, sym r.count ∙ ap size whole)
   where
     past : (line : ℕ) → length xs ≤ line → fault_at s xs line ≡ None
     past line h = rw (slice_get_past xs line h) refl

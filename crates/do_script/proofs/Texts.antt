@@ -29,7 +29,8 @@ denoted_short (suc n) bytes x e = go (λ b y h. denoted_short n b y h) (closing 
     go : ((b : List ℕ) (y : List ℕ × List ℕ) → denoted n b ≡ Some y → length y.0 ≤ n)
         → (o : Option (List ℕ))
         → closed_or o
-        (piece_at bytes >>? λ q. denoted n q.1 >>? λ y. Some (q.0 ∷ y.0, y.1)) ≡ Some x → length x.0 ≤ suc n
+        (piece_at bytes >>? λ q. denoted n q.1 >>? λ y. Some (q.0 ∷ y.0, y.1)) ≡ Some x
+        → length x.0 ≤ suc n
     go again None h = on again (piece_at bytes) h
     go again (Some rest) h = let none : [] ≡ x.0 = cc in rw (← none) (omega arith)
 

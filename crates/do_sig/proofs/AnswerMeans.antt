@@ -14,7 +14,8 @@ use Rattle.do_sig.specs.reading.Gives.{Fails, IsEarlyStop}
 use Rattle.do_sig.specs.Answers.{fault_of_kind, fault_of, IsWithin, answer_of, IsAnswer, Answers}
 use Rattle.do_sig.specs.Answers.{IsOfEncoding, BlamesByte}
 use Rattle.do_sig.specs.Blame.{IsBlamed}
-use Rattle.do_sig.proofs.FaultBytes.{Blames, blamed_at}
+use Rattle.do_sig.proofs.BlameForms.{Blames}
+use Rattle.do_sig.proofs.FaultBytes.{blamed_at}
 
 -- a value under one kind of error or another
 ok_same : {A : Type 0} (x y : A) → ◌≡◌ {A = Result A (Stop Kind)} (Ok x) (Ok y)

@@ -1,9 +1,8 @@
 -- What is printed of an encoding that may stand at a place spells it.
-use Rattle.std.proofs.Common.{◌≡◌, ℕ, ◌<◌, Bool, true, false, eqb, leb, List, [], ◌∷◌, ◌++◌, Ok}
-use Rattle.std.proofs.Common.{refl, sym, ap, subst, ◌∙◌, append_assoc, arith}
-use Rattle.std.specs.Prelude.{◌==◌, ◌||◌, ◌&&◌}
-use Rattle.std.proofs.lemmas.Bool.{false≢true}
-use Rattle.std.proofs.lemmas.Bool.Decides.{nat_tests}
+use Rattle.std.proofs.Common.{◌≡◌, ℕ, Bool, true, false, eqb, leb, List, [], ◌∷◌, ◌++◌, Ok, refl}
+use Rattle.std.proofs.Common.{sym, ap, subst, ◌∙◌, append_assoc, arith}
+use Rattle.std.specs.Prelude.{◌||◌, ◌&&◌, not}
+use Rattle.std.proofs.lemmas.Bool.{false≢true, eqb-true}
 use Rattle.std.proofs.lemmas.List.{append-nil}
 use Rattle.do_grammar.specs.Reader.{leaves, scan_to}
 use Rattle.do_grammar.specs.Grammar.{IsBytes}
@@ -27,7 +26,10 @@ use Rattle.do_sig.specs.Spelling.{outermost_spelling, letter_if, way_letters, pa
 use Rattle.do_sig.specs.Spelling.{qualifier_letters, encoding_spelling}
 use Rattle.do_sig.specs.Encodings.{IsQualified, IsEncodingAt, IsEncoding}
 use Rattle.do_sig.specs.reading.Outermost.{begins_outermost, outermost_at, encoding_at}
-use Rattle.do_sig.proofs.EncodingExact.{outer_begins, Reads-encoding_at, encoding_stands}
+use Rattle.do_sig.proofs.OuterExact.{outer_begins}
+use Rattle.do_sig.proofs.EncodingExact.{Reads-encoding_at, encoding_stands}
+use Rattle.do_sig.proofs.TestsPass.{not_true}
+use Rattle.do_sig.proofs.ByteAmong.{types_all}
 
 -- ---- the first byte of an outermost type
 
@@ -40,26 +42,25 @@ pub record IsFree (b : ℕ) : Type 0 where
 -- the first byte of a type is none of these
 type_free : (b : ℕ) → begins_type 8 b ≡ true → IsFree b
 type_free b e = record {
-  no_mark = grind (arith, nat_tests);
-  no_digit = grind (arith, nat_tests);
-  no_sign = grind (arith, nat_tests);
+  no_mark =
+      not_true (is_qualifier b) (types_all (λ c. not (is_qualifier c)) refl refl refl 8 b e);
+  no_digit =
+      not_true (leb 48 b && leb b 57)
+      (types_all (λ c. not (leb 48 c && leb c 57)) refl refl refl 8 b e);
+  no_sign =
+      not_true (eqb b 43 || eqb b 45)
+      (types_all (λ c. not (eqb c 43 || eqb c 45)) refl refl refl 8 b e);
 }
 
 -- v is none of these
 void_free : (b : ℕ) → eqb b 118 ≡ true → IsFree b
-void_free b e = record {
-  no_mark = grind (arith, nat_tests);
-  no_digit = grind (arith, nat_tests);
-  no_sign = grind (arith, nat_tests);
-}
+void_free b e = subst IsFree (sym (eqb-true b 118 e))
+    (record { no_mark = refl; no_digit = refl; no_sign = refl })
 
 -- ^ is none of these
 pointer_free : (b : ℕ) → eqb b 94 ≡ true → IsFree b
-pointer_free b e = record {
-  no_mark = grind (arith, nat_tests);
-  no_digit = grind (arith, nat_tests);
-  no_sign = grind (arith, nat_tests);
-}
+pointer_free b e = subst IsFree (sym (eqb-true b 94 e))
+    (record { no_mark = refl; no_digit = refl; no_sign = refl })
 
 -- an outermost type begins with none of these
 pub outer_free : (place : Place) (oneway : Bool) (b : ℕ) → begins_outermost place oneway b ≡ true

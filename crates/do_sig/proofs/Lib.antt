@@ -1,3 +1,6 @@
+pub mod TestsPass
+pub mod DigitTests
+pub mod ByteAmong
 pub mod TestLoops
 pub mod SideBySide
 pub mod ScalarLetters
@@ -6,12 +9,17 @@ pub mod NameSteps
 pub mod TypeSteps
 pub mod TypeBySteps
 pub mod TypeExact
+pub mod VariantSpelled
+pub mod StepTests
+pub mod NameGrows
 pub mod TypeIsSpelled
+pub mod TypeIsRead
 pub mod MemberLoop
 pub mod MarkSteps
 pub mod OuterSteps
 pub mod OffsetSteps
 pub mod OffsetExact
+pub mod OuterExact
 pub mod EncodingExact
 pub mod EncodingPrinted
 pub mod AnswerMeans
@@ -19,4 +27,6 @@ pub mod ScanAllExact
 pub mod SignatureExact
 pub mod ArgumentSteps
 pub mod SignaturePrinted
+pub mod BlameForms
+pub mod BlameSteps
 pub mod FaultBytes

@@ -2,7 +2,7 @@
 use Rattle.std.proofs.Common.{◌≡◌, ◌≢◌, ℕ, List, ◌∷◌, Result, arith}
 use Rattle.do_grammar.specs.Reader.{Stop, short, bad, until}
 use Rattle.do_grammar.proofs.loops.TimesLoop.{with_front}
-use Rattle.do_grammar.proofs.reads.UntilExact.{fault_turn}
+use Rattle.do_grammar.proofs.loops.UntilLoop.{fault_turn}
 use Rattle.do_sig.specs.declared.fault.Kind.{Kind}
 use Rattle.do_sig.specs.declared.fault.Stop as code
 use Rattle.do_sig.specs.declared.fault.Stop.TheVariants.{Memory, Short, Bad}

@@ -1,5 +1,5 @@
 -- A size or offset, and what may stand behind it, are read exactly.
-use Rattle.std.proofs.Common.{◌≡◌, ℕ, suc, ◌<◌, List, [], ◌∷◌, length, Ok, Err, refl, arith}
+use Rattle.std.proofs.Common.{◌≡◌, ℕ, suc, List, [], ◌∷◌, length, Ok, Err, refl, arith}
 use Rattle.do_grammar.specs.Reader.{bad, Step, goes, leaves, fails, by_step, by_result, automaton}
 use Rattle.do_grammar.specs.Reader.{◌>>=◌}
 use Rattle.do_grammar.specs.Grammar.{Begins}

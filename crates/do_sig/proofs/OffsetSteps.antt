@@ -1,25 +1,11 @@
 -- What is left behind a size or offset.
-use Rattle.std.proofs.Common.{◌≡◌, ◌≢◌, ℕ, suc, ◌<◌, ◌≤◌, true, false, leb, List, [], ◌∷◌, length}
-use Rattle.std.proofs.Common.{Ok, Err, refl, arith}
-use Rattle.std.specs.Prelude.{◌&&◌}
+use Rattle.std.proofs.Common.{◌≡◌, ◌≢◌, ℕ, suc, ◌<◌, ◌≤◌, List, [], ◌∷◌, length, Ok, Err, refl}
 use Rattle.std.proofs.lemmas.Bool.{ne_eqb}
-use Rattle.std.proofs.lemmas.Bool.Decides.{nat_tests}
 use Rattle.do_grammar.specs.Reader.{short, bad}
 use Rattle.do_sig.specs.declared.fault.Kind.TheVariants.{BadChar}
 use Rattle.do_sig.specs.Offsets.{fresh, digits}
 use Rattle.do_sig.specs.reading.Offsets.{skip}
-
--- a byte below the digits is none
-is_low : (b : ℕ) → b < 48 → (leb 48 b && leb b 57) ≡ false
-is_low b h = grind (arith, nat_tests)
-
--- a byte above them is none
-is_high : (b : ℕ) → 57 < b → (leb 48 b && leb b 57) ≡ false
-is_high b h = grind (arith, nat_tests)
-
--- a byte between is one
-is_within : (b : ℕ) → 48 ≤ b → b ≤ 57 → (leb 48 b && leb b 57) ≡ true
-is_within b h k = grind (arith, nat_tests)
+use Rattle.do_sig.proofs.DigitTests.{no_digit_below, no_digit_above, is_one_digit}
 
 -- behind digits nothing is left of nothing
 pub skip_end : (s : List ℕ) → s ≡ [] → skip digits s ≡ Ok s
@@ -27,16 +13,16 @@ skip_end s e = rw e refl
 
 -- digits end at a byte below them
 pub skip_low : (b : ℕ) (rest : List ℕ) → b < 48 → skip digits (b ∷ rest) ≡ Ok (b ∷ rest)
-skip_low b rest h = let e = is_low b h in rw e refl
+skip_low b rest h = let e = no_digit_below b h in rw e refl
 
 -- digits end at a byte above them
 pub skip_high : (b : ℕ) (rest : List ℕ) → 57 < b → skip digits (b ∷ rest) ≡ Ok (b ∷ rest)
-skip_high b rest h = let e = is_high b h in rw e refl
+skip_high b rest h = let e = no_digit_above b h in rw e refl
 
 -- a digit more is passed over
 pub skip_digit : (b : ℕ) (rest : List ℕ) → 48 ≤ b → b ≤ 57
     → skip digits (b ∷ rest) ≡ skip digits rest
-skip_digit b rest h k = let e = is_within b h k in rw e refl
+skip_digit b rest h k = let e = is_one_digit b h k in rw e refl
 
 -- nothing is left of nothing
 pub fresh_end : (s : List ℕ) → s ≡ [] → skip fresh s ≡ Ok s
@@ -58,32 +44,32 @@ minus_end s e = rw e refl
 -- a digit behind + is passed over
 pub plus_digit : (d : ℕ) (rest : List ℕ) → 48 ≤ d → d ≤ 57
     → skip fresh (43 ∷ d ∷ rest) ≡ skip digits rest
-plus_digit d rest h k = let e = is_within d h k in rw e refl
+plus_digit d rest h k = let e = is_one_digit d h k in rw e refl
 
 -- a digit behind - is passed over
 pub minus_digit : (d : ℕ) (rest : List ℕ) → 48 ≤ d → d ≤ 57
     → skip fresh (45 ∷ d ∷ rest) ≡ skip digits rest
-minus_digit d rest h k = let e = is_within d h k in rw e refl
+minus_digit d rest h k = let e = is_one_digit d h k in rw e refl
 
 -- no byte below the digits stands behind +
 pub plus_low : (d : ℕ) (rest : List ℕ) → d < 48
     → skip fresh (43 ∷ d ∷ rest) ≡ Err (bad BadChar (suc (length rest)))
-plus_low d rest h = let e = is_low d h in rw e refl
+plus_low d rest h = let e = no_digit_below d h in rw e refl
 
 -- no byte above the digits stands behind +
 pub plus_high : (d : ℕ) (rest : List ℕ) → 57 < d
     → skip fresh (43 ∷ d ∷ rest) ≡ Err (bad BadChar (suc (length rest)))
-plus_high d rest h = let e = is_high d h in rw e refl
+plus_high d rest h = let e = no_digit_above d h in rw e refl
 
 -- no byte below the digits stands behind -
 pub minus_low : (d : ℕ) (rest : List ℕ) → d < 48
     → skip fresh (45 ∷ d ∷ rest) ≡ Err (bad BadChar (suc (length rest)))
-minus_low d rest h = let e = is_low d h in rw e refl
+minus_low d rest h = let e = no_digit_below d h in rw e refl
 
 -- no byte above the digits stands behind -
 pub minus_high : (d : ℕ) (rest : List ℕ) → 57 < d
     → skip fresh (45 ∷ d ∷ rest) ≡ Err (bad BadChar (suc (length rest)))
-minus_high d rest h = let e = is_high d h in rw e refl
+minus_high d rest h = let e = no_digit_above d h in rw e refl
 
 pub ruleset offset_steps = (
   skip_end,

@@ -1,10 +1,10 @@
 -- The letters of types: each is its type's.
-use Rattle.std.proofs.Common.{◌≡◌, ℕ, Bool, true, false, cond, eqb, List, [], ◌∷◌, map, Option}
-use Rattle.std.proofs.Common.{Some, None, refl, sym}
+use Rattle.std.proofs.Common.{◌≡◌, ℕ, Bool, true, false, List, [], ◌∷◌, map}
+use Rattle.std.proofs.Common.{Some, refl, sym}
 use Rattle.std.specs.Prelude.{◌||◌, ◌==◌}
 use Rattle.std.proofs.lemmas.Bool.{eqb-true}
 use Rattle.do_sig.specs.declared.value_type.Scalar.{Scalar}
-use Rattle.do_sig.specs.Letters.{letter_of, scalars, with_letter, scalar_of, is_one_of, is_letter}
+use Rattle.do_sig.specs.Letters.{letter_of, scalars, with_letter, is_one_of, is_letter}
 
 -- the type of a letter is found, and has this letter
 pub record Named (ss : List Scalar) (b : ℕ) : Type 0 where

@@ -1,10 +1,9 @@
 -- What is printed of a signature spells it, and what is spelled keeps to the limits.
-use Rattle.std.proofs.Common.{◌≡◌, ℕ, zero, suc, ◌+◌, ◌<◌, ◌≤◌, Bool, true, false, cond, eqb, leb}
-use Rattle.std.proofs.Common.{List, [], ◌∷◌, ◌++◌, length, Option, Some, None, Result, Ok, Err, map}
-use Rattle.std.proofs.Common.{refl, sym, ap, subst, ◌∙◌, append_assoc, arith}
-use Rattle.std.specs.Prelude.{◌||◌, ◌&&◌}
+use Rattle.std.proofs.Common.{◌≡◌, ℕ, zero, suc, ◌≤◌, Bool, true, false, cond, eqb, leb, List, []}
+use Rattle.std.proofs.Common.{◌∷◌, ◌++◌, length, Option, Some, None, Result, Ok, Err, map, refl}
+use Rattle.std.proofs.Common.{sym, ap, subst, ◌∙◌, append_assoc, arith}
+use Rattle.std.specs.Prelude.{◌||◌, ◌&&◌, not}
 use Rattle.std.specs.List.{flat_map, AllByRecursion}
-use Rattle.std.proofs.lemmas.Bool.Decides.{nat_tests}
 use Rattle.std.proofs.lemmas.List.{append-nil, length-map}
 use Rattle.do_grammar.specs.Reader.{Step, goes, leaves, fails}
 use Rattle.do_grammar.specs.Grammar.{IsBytes}
@@ -20,14 +19,17 @@ use Rattle.do_sig.specs.Bare.{bare, simple_encoding, simple_result, simple_metho
 use Rattle.do_sig.specs.Blame.{why_no_more}
 use Rattle.do_sig.specs.Offsets.{Offset, fresh, signed, digits, offset_step, offset_ends, last_step}
 use Rattle.do_sig.specs.Marks.{marked, goes_or_fails, qualifier_step}
-use Rattle.do_sig.specs.Spelling.{outermost_spelling, encoding_spelling, signature_spelling}
+use Rattle.do_sig.specs.Spelling.{encoding_spelling, signature_spelling}
 use Rattle.do_sig.specs.Encodings.{IsQualified, IsEncodingAt}
 use Rattle.do_sig.specs.Signatures.{IsBare, IsArgs, IsSignature}
 use Rattle.do_sig.specs.reading.Ending.{ScansAll}
 use Rattle.do_sig.specs.reading.Signatures.{signature_of}
-use Rattle.do_sig.proofs.TypeIsSpelled.{within-Simple}
-use Rattle.do_sig.proofs.EncodingExact.{Reads-encoding_at, encoding_stands, outer_begins}
+use Rattle.do_sig.proofs.VariantSpelled.{within-Simple}
+use Rattle.do_sig.proofs.OuterExact.{outer_begins}
+use Rattle.do_sig.proofs.EncodingExact.{Reads-encoding_at, encoding_stands}
 use Rattle.do_sig.proofs.EncodingPrinted.{outer_free, encoding_printed}
+use Rattle.do_sig.proofs.TestsPass.{not_true}
+use Rattle.do_sig.proofs.ByteAmong.{one_of_all}
 
 -- ---- an encoding does not begin as an offset does
 
@@ -38,8 +40,16 @@ record IsApart (b : ℕ) : Type 0 where
 
 -- a qualifier is neither
 mark_apart : (b : ℕ) → is_qualifier b ≡ true → IsApart b
-mark_apart b e =
-    record { no_digit = grind (arith, nat_tests); no_sign = grind (arith, nat_tests) }
+mark_apart b e = record {
+  no_digit =
+      not_true (leb 48 b && leb b 57)
+      (one_of_all (λ c. not (leb 48 c && leb c 57)) marks refl b e);
+  no_sign =
+      not_true (eqb b 43 || eqb b 45) (one_of_all (λ c. not (eqb c 43 || eqb c 45)) marks refl b e);
+}
+  where
+    marks : List ℕ
+    marks = 86 ∷ 114 ∷ 110 ∷ 78 ∷ 111 ∷ 79 ∷ 82 ∷ []
 
 -- such a byte ends an offset
 apart_leaves : (b : ℕ) → IsApart b → offset_step fresh b ≡ leaves

@@ -1,18 +1,23 @@
 -- What the first byte of a type gives.
 use Rattle.std.proofs.Common.{◌≡◌, ℕ, zero, suc, ◌-◌, ◌<◌, true, false, eqb, List, [], ◌∷◌, length}
-use Rattle.std.proofs.Common.{Some, Ok, Err, refl, arith, sym, ◌∙◌}
+use Rattle.std.proofs.Common.{Some, Ok, Err, refl, arith}
 use Rattle.std.proofs.lemmas.Bool.{lt-ltb}
-use Rattle.std.proofs.lemmas.Bool.Decides.{nat_tests}
 use Rattle.do_grammar.specs.Reader.{short, bad}
 use Rattle.do_sig.specs.declared.value_type.Scalar.{Scalar}
 use Rattle.do_sig.specs.declared.value_type.ValueType.TheVariants.{Simple}
 use Rattle.do_sig.specs.Letters.{is_letter, scalar_of}
 use Rattle.do_sig.specs.Blame.{begins_type, why_no_type}
 use Rattle.do_sig.specs.reading.Types.{counted_at, named_at, type_at}
+use Rattle.std.specs.Prelude.{not}
+use Rattle.do_sig.proofs.TestsPass.{not_true}
+use Rattle.do_sig.proofs.ByteAmong.{letters_all}
 
 -- no letter is a bracket
 pub letter_apart : (b : ℕ) → is_letter b ≡ true → (eqb b 91 ≡ false) × (eqb b 123 ≡ false)
-letter_apart b e = (grind (arith, nat_tests), grind (arith, nat_tests))
+letter_apart b e = (
+  not_true (eqb b 91) (letters_all (λ c. not (eqb c 91)) refl b e),
+  not_true (eqb b 123) (letters_all (λ c. not (eqb c 123)) refl b e),
+)
 
 -- nothing is no type
 pub type_end : (d : ℕ) (bytes : List ℕ) → bytes ≡ [] → type_at d bytes ≡ Err short

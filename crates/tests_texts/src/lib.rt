@@ -1,4 +1,5 @@
-//! Tests of the public calls of the crates that read and write texts.
+//! Tests of the public calls of the crates that read and write texts: numbers and names,
+//! schedules, transcripts.
 #![tactic(auto)]
 
 #[cfg(test)]
@@ -7,7 +8,3 @@ mod grammar;
 mod lines;
 #[cfg(test)]
 mod sched;
-#[cfg(test)]
-mod script;
-#[cfg(test)]
-mod sig;

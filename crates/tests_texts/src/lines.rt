@@ -37,22 +37,39 @@ fn values(rt: &HostRuntime) -> Result<Values, Fail> {
     Ok(values)
 }
 
+/// Adds what a step took.
+fn add(shown: &mut ShownList, took: Took) -> Result<(), AllocError> {
+    shown.push(Shown::Took(took))
+}
+
+/// Adds a call, a message that waits for no answer, and what answers.
+fn add_calls(rt: &HostRuntime, shown: &mut ShownList) -> Result<(), Fail> {
+    add(shown, Took::Call(text(rt, b"add:")?))?;
+    add(shown, Took::Oneway(text(rt, b"go")?))?;
+    add(shown, Took::Reply)?;
+    add(shown, Took::Raised(Exc::User(text(rt, b"x\"")?)))?;
+    Ok(())
+}
+
+/// Adds what else a step may take, about this object.
+fn add_others(shown: &mut ShownList, other: Oid) -> Result<(), Fail> {
+    add(shown, Took::RootAsk)?;
+    add(shown, Took::RootAnswer)?;
+    add(shown, Took::Ask(other))?;
+    add(shown, Took::Granted(other))?;
+    add(shown, Took::Gone(other))?;
+    add(shown, Took::Left(other))?;
+    add(shown, Took::Settled)?;
+    add(shown, Took::End)?;
+    Ok(())
+}
+
 /// Each kind of what a step shows, but for values.
 fn kinds(rt: &HostRuntime) -> Result<ShownList, Fail> {
     let other = object(7002, 1)?;
     let mut shown = ShownList::new(rt.alloc());
-    shown.push(Shown::Took(Took::Call(text(rt, b"add:")?)))?;
-    shown.push(Shown::Took(Took::Oneway(text(rt, b"go")?)))?;
-    shown.push(Shown::Took(Took::Reply))?;
-    shown.push(Shown::Took(Took::Raised(Exc::User(text(rt, b"x\"")?))))?;
-    shown.push(Shown::Took(Took::RootAsk))?;
-    shown.push(Shown::Took(Took::RootAnswer))?;
-    shown.push(Shown::Took(Took::Ask(other)))?;
-    shown.push(Shown::Took(Took::Granted(other)))?;
-    shown.push(Shown::Took(Took::Gone(other)))?;
-    shown.push(Shown::Took(Took::Left(other)))?;
-    shown.push(Shown::Took(Took::Settled))?;
-    shown.push(Shown::Took(Took::End))?;
+    add_calls(rt, &mut shown)?;
+    add_others(&mut shown, other)?;
     shown.push(Shown::Raise(Exc::TypeFault))?;
     shown.push(Shown::Free(other))?;
     Ok(shown)
@@ -90,64 +107,66 @@ say 7001 \"~ \\22\\5c\\0a\\7f\\ff\"\n\
 say 7001 #7002.10\n\
 say 7001 [-1 []]\n";
 
-#[test]
-fn blocks(rt: HostRuntime) -> Result<(), Fail> {
+/// The block of a run of nine steps that shows this.
+fn block(rt: &HostRuntime, enabled: bool, shown: ShownList) -> Result<Text, Fail> {
     let node = node(7001)?;
     let line = Line::Run { node, count: 9 };
-    let shown = kinds(&rt)?;
-    let outcome = Outcome {
-        enabled: true,
-        shown,
-    };
-    assert!(rt; line_text(rt.alloc(), &line, &outcome)?.is(KINDS));
-    let shown = said(&rt)?;
-    let outcome = Outcome {
-        enabled: true,
-        shown,
-    };
-    assert!(rt; line_text(rt.alloc(), &line, &outcome)?.is(VALUES));
-    let outcome = Outcome {
-        enabled: false,
-        shown: Items::new(rt.alloc()),
-    };
-    assert!(rt; line_text(rt.alloc(), &line, &outcome)?.is(b"> run 7001 9\nskip\n"));
+    let outcome = Outcome { enabled, shown };
+    Ok(line_text(rt.alloc(), &line, &outcome)?)
+}
+
+#[test]
+fn blocks(rt: HostRuntime) -> Result<(), Fail> {
+    assert!(rt; block(&rt, true, kinds(&rt)?)?.is(KINDS));
+    assert!(rt; block(&rt, true, said(&rt)?)?.is(VALUES));
+    let nothing = Items::new(rt.alloc());
+    assert!(rt; block(&rt, false, nothing)?.is(b"> run 7001 9\nskip\n"));
     Ok(())
 }
 
-/// A node with a closed end, a root with two slots, and an entry.
-fn snapshot(rt: &HostRuntime, class: ClassId) -> Result<Snapshot, Fail> {
-    let root = object(7001, 1)?;
+/// The object of a class with two slots.
+fn root_line(rt: &HostRuntime, oid: Oid, class: ClassId) -> Result<ObjLine, Fail> {
     let mut slots = Values::new(rt.alloc());
     slots.push(Value::Num(5))?;
     slots.push(Value::Nil)?;
+    Ok(ObjLine { oid, class, slots })
+}
+
+/// A node with a closed end, a root with two slots, and an entry.
+fn full_node(rt: &HostRuntime, class: ClassId) -> Result<NodeLine, Fail> {
+    let root = object(7001, 1)?;
+    let peer = node(7002)?;
     let mut objects = ObjLines::new(rt.alloc());
-    objects.push(ObjLine {
-        oid: root,
-        class,
-        slots,
-    })?;
+    objects.push(root_line(rt, root, class)?)?;
     let mut closed = Peers::new(rt.alloc());
     closed.push(node(7003)?)?;
     let mut entries = EntryList::new(rt.alloc());
-    entries.push(Entry {
-        peer: node(7002)?,
-        object: root,
-    })?;
-    let mut nodes = NodeLines::new(rt.alloc());
-    nodes.push(NodeLine {
-        node: node(7001)?,
+    entries.push(Entry { peer, object: root })?;
+    Ok(NodeLine {
+        node: root.node,
         root: Some(root),
         closed,
         objects,
         entries,
-    })?;
-    nodes.push(NodeLine {
+    })
+}
+
+/// A node that has nothing.
+fn empty_node(rt: &HostRuntime) -> Result<NodeLine, Fail> {
+    Ok(NodeLine {
         node: node(7002)?,
         root: None,
         closed: Peers::new(rt.alloc()),
         objects: ObjLines::new(rt.alloc()),
         entries: EntryList::new(rt.alloc()),
-    })?;
+    })
+}
+
+/// Both nodes.
+fn snapshot(rt: &HostRuntime, class: ClassId) -> Result<Snapshot, Fail> {
+    let mut nodes = NodeLines::new(rt.alloc());
+    nodes.push(full_node(rt, class)?)?;
+    nodes.push(empty_node(rt)?)?;
     Ok(Snapshot { nodes })
 }
 
@@ -157,17 +176,22 @@ object #7001.1 Pair a=5 b=nil\n\
 entry 7002 #7001.1\n\
 node 7002 root nil\n";
 
+/// Two slots, `a` and `b`.
+fn slots(rt: &HostRuntime) -> Result<Slots, Fail> {
+    let mut slots = Slots::new(rt.alloc());
+    for name in [b"a", b"b"] {
+        let name = text(rt, name)?;
+        slots.push(Slot { name, copy: false })?;
+    }
+    Ok(slots)
+}
+
 #[test]
 fn checks(rt: HostRuntime) -> Result<(), Fail> {
     let mut table = ClassTable::new(rt.alloc());
-    let mut slots = Slots::new(rt.alloc());
-    for name in [b"a", b"b"] {
-        slots.push(Slot {
-            name: text(&rt, name)?,
-            copy: false,
-        })?;
-    }
-    let class = table.add_class(text(&rt, b"Pair")?, slots, Methods::new(rt.alloc()))?;
-    assert!(rt; check_text(rt.alloc(), &table, &snapshot(&rt, class)?)?.is(CHECK));
+    let name = text(&rt, b"Pair")?;
+    let class = table.add_class(name, slots(&rt)?, Methods::new(rt.alloc()))?;
+    let snapshot = snapshot(&rt, class)?;
+    assert!(rt; check_text(rt.alloc(), &table, &snapshot)?.is(CHECK));
     Ok(())
 }

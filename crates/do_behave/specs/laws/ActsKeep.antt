@@ -1,97 +1,41 @@
 -- What the acts of scripts keep: what holds of the values that they see and make holds of the
 -- values in their acts.
-use Rattle.std.proofs.Common.{◌≡◌, ℕ, zero, suc, ◌<◌, ◌≤◌, Bool, true, false, List as Listed, []}
+use Rattle.std.proofs.Common.{◌≡◌, ℕ, zero, suc, ◌<◌, Bool, true, false, List as Listed, []}
 use Rattle.std.proofs.Common.{◌∷◌, ◌++◌, length}
-use Rattle.std.proofs.Common.{Option, Some, None, ℤ, pos, negsuc, map, refl, ◌∙◌, arith}
-use Rattle.std.specs.Prelude.{slice_index_or, slice_set, slice_get, if◌then◌else◌, ◌+ℤ◌, ◌-ℤ◌, ◌*ℤ◌}
+use Rattle.std.proofs.Common.{Option, Some, None, ℤ, pos, negsuc, refl, ap, ◌∙◌}
+use Rattle.std.specs.Prelude.{slice_set, slice_get, if◌then◌else◌, ◌+ℤ◌, ◌-ℤ◌, ◌*ℤ◌}
 use Rattle.std.specs.List.{All}
 use Rattle.std.specs.Option.{IfSome}
-use Rattle.std.proofs.lemmas.List.{length-set, length-map}
+use Rattle.std.proofs.lemmas.List.{length-set}
 use Rattle.std.proofs.lemmas.List.Elements.{All-nil, All-cons, All-head, All-tail, All-set}
-use Rattle.std.proofs.lemmas.List.Elements.{All-append, All-map}
+use Rattle.std.proofs.lemmas.List.Elements.{All-append}
 use Rattle.do_base.specs.values.Equal.{value_eq}
 use Rattle.do_base.specs.values.Kinds.{counted, number, items, text}
-use Rattle.do_base.specs.declared.values.value.Value.{Value, List, out-Value}
+use Rattle.do_base.specs.declared.values.value.Value.{Value, List}
 use Rattle.do_base.specs.declared.values.value.Value.TheVariants.{Nil, Num, Text, Obj}
 use Rattle.do_base.specs.declared.events.exception.Exc.{Exc}
 use Rattle.do_base.specs.declared.events.exception.Exc.TheVariants.{User, Range, TypeFault}
 use Rattle.do_class.specs.Class.{Class}
-use Rattle.do_script.specs.Listing.{IsWithin}
+use Rattle.do_grammar.specs.Words.{◌>>?◌}
+use Rattle.do_script.specs.Listing.{IsMessage, IsWithin}
 use Rattle.do_script.specs.declared.instruction.Instruction.{Instruction}
 use Rattle.do_script.specs.declared.instruction.Instruction.TheVariants as does
 use Rattle.do_behave.specs.Answers.{values_of, HasLocals, IsInRange}
-use Rattle.do_behave.specs.Lists.{can_be, gives_list, push_onto, item_at, gives_found, gives_count}
-use Rattle.do_behave.specs.Lists.{count_in}
-use Rattle.do_behave.specs.Numbers.{with_numbers, gives_number, checked, less, truth, is_zero}
+use Rattle.do_behave.specs.Lists.{can_be, gives_list, gives_found, item_at, count}
+use Rattle.do_behave.specs.Lists.{pushes, picks, counts}
+use Rattle.do_behave.specs.Numbers.{calculates, gives_number, checked, less, truth, is_zero}
 use Rattle.do_behave.specs.Ready.{IsHandler}
-use Rattle.do_behave.specs.Script.{performs, raise_text, root_of}
-use Rattle.do_behave.specs.Steps.{local, next, gives, goes_to}
+use Rattle.do_behave.specs.Script.{performs, raises, asks_root, sends, compares}
+use Rattle.do_behave.specs.Steps.{local, local_values, next, gives, goes_to, writes, handles}
+use Rattle.do_behave.specs.Steps.{or_fault}
+use Rattle.do_behave.specs.declared.invocation.Handler.{Handler}
 use Rattle.do_behave.specs.declared.invocation.Invocation.{Invocation}
 use Rattle.do_behave.specs.declared.act.Act.{Act}
 use Rattle.do_behave.specs.declared.act.Write.{Write}
-use Rattle.do_behave.specs.declared.act.Act.TheVariants.{Raise}
+use Rattle.do_behave.specs.declared.act.Act.TheVariants.{Raise, Root, Return, Say, Send, Vend}
+use Rattle.do_behave.specs.laws.Sound.{IsKept, IsSound, HasText, RaisesOnly}
+use Rattle.do_behave.specs.laws.Sound.{choice, fault_sound, get_kept}
 use Rattle.do_behave.specs.laws.ValueKinds.{by_items, by_text}
-
--- what holds of the values that scripts make, where T holds of the texts that code has; of the own
--- object, of the items of lists, and of the texts that are raised
-pub record IsKept (inv : Invocation) (Q : Value → Type 0) (T L : Listed ℕ → Type 0) : Type 0 where
-  pub nil : Q Nil
-  pub number : (z : ℤ) → Q (Num z)
-  pub text : (s : Listed ℕ) → T s → Q (Text s)
-  pub own : Q (Obj inv.object)
-  pub empty : Q (List [])
-  pub items : (vs : Listed Value) → Q (List vs) → All Q vs
-  pub pushed : (vs : Listed Value) (v : Value) → Q (List vs) → Q v → can_be (vs ++ v ∷ []) ≡ true
-      → Q (List (vs ++ v ∷ []))
-  pub raised : (s : Listed ℕ) → Q (Text s) → L s
-
--- the text of an exception
-abbrev pub RaisesOnly : (Listed ℕ → Type 0) → Act → Type 0
-RaisesOnly L (Raise (User s)) = L s
-RaisesOnly L _ = Unit {0}
-
--- the text that an instruction has
-abbrev pub HasText : (Listed ℕ → Type 0) → Instruction → Type 0
-HasText T (does.Text d s) = T s
-HasText T _ = Unit {0}
-
--- an act whose values and texts are kept, which has the sixteen locals, and is in range where R
--- holds
-pub record IsSound (table : Listed Class) (slots : Listed Value) (Q : Value → Type 0)
-    (L : Listed ℕ → Type 0) (R : Type 0) (act : Act) : Type 0 where
-  pub values : All Q (values_of act)
-  pub locals : HasLocals act
-  pub range : R → IsInRange table slots act
-  pub raises : RaisesOnly L act
-
--- a fault holds no value
-pub fault_sound : (table : Listed Class) (slots : Listed Value) (Q : Value → Type 0)
-    (L : Listed ℕ → Type 0) (R : Type 0)
-    (e : Exc) → RaisesOnly L (Raise e) → IsSound table slots Q L R (Raise e)
-fault_sound table slots Q L R e only =
-    record { values = All-nil Q; locals = tt; range = λ _. tt; raises = only }
-
--- a choice of two acts is sound where both are
-pub choice_sound : (table : Listed Class) (slots : Listed Value) (Q : Value → Type 0)
-    (L : Listed ℕ → Type 0) (R : Type 0)
-    (b : Bool) (one other : Act) → (b ≡ true → IsSound table slots Q L R one)
-    → IsSound table slots Q L R other
-    → IsSound table slots Q L R (if b then one else other)
-choice_sound table slots Q L R true one other first second = first refl
-choice_sound table slots Q L R false one other first second = second
-
--- what holds of each item, and of the value past the end, holds of the one at a place
-at_kept : (Q : Value → Type 0) (vs : Listed Value) (k : ℕ) (d : Value) → All Q vs → Q d
-    → Q (slice_index_or vs k d)
-at_kept Q [] k d all q = q
-at_kept Q (v ∷ vs) zero d all q = All-head Q v vs all
-at_kept Q (v ∷ vs) (suc k) d all q = at_kept Q vs k d (All-tail Q v vs all) q
-
--- what holds of each item holds of one that is found
-get_kept : (Q : Value → Type 0) (vs : Listed Value) (k : ℕ) → All Q vs → IfSome (slice_get vs k) Q
-get_kept Q [] k all = tt
-get_kept Q (v ∷ vs) zero all = All-head Q v vs all
-get_kept Q (v ∷ vs) (suc k) all = get_kept Q vs k (All-tail Q v vs all)
 
 module _ (table : Listed Class) (inv : Invocation) (slots : Listed Value) (Q : Value → Type 0)
     (T L : Listed ℕ → Type 0) (R : Type 0)
@@ -100,12 +44,42 @@ module _ (table : Listed Class) (inv : Invocation) (slots : Listed Value) (Q : V
   abbrev Sound : Act → Type 0
   Sound act = IsSound table slots Q L R act
 
-  local_kept : (k : ℕ) → Q (local inv k)
-  local_kept k = at_kept Q inv.locals k Nil all kept.nil
-
+  -- a fault is sound where its text is kept
   fault : (e : Exc) → RaisesOnly L (Raise e) → Sound (Raise e)
   fault = fault_sound table slots Q L R
 
+  -- an act, or the fault of type where there is none
+  abbrev MaySound : Option Act → Type 0
+  MaySound o = Sound (or_fault o)
+
+  -- where there is no act the fault of type is sound
+  no_act : MaySound None
+  no_act = fault TypeFault tt
+
+  -- what each answer leads to is sound
+  then_sound : {A : Type 0} (P : A → Type 0) (o : Option A) (f : A → Option Act) → IfSome o P
+      → ((x : A) → P x → MaySound (f x)) → MaySound (o >>? f)
+  then_sound P None f q each = no_act
+  then_sound P (Some x) f q each = each x q
+
+  -- what the value in a local leads to is sound
+  local_sound : (k : ℕ) (f : Value → Option Act) → ((v : Value) → Q v → MaySound (f v))
+      → MaySound (local inv k >>? f)
+  local_sound k f each = then_sound Q (local inv k) f (get_kept Q inv.locals k all) each
+
+  -- the same of an answer about a local
+  local_then : {A : Type 0} (question : Value → Option A) (P : A → Type 0) (k : ℕ)
+      (f : A → Option Act) → ((v : Value) → Q v → IfSome (question v) P)
+      → ((x : A) → P x → MaySound (f x)) → MaySound (local inv k >>? question >>? f)
+  local_then question P k f answer each =
+      then_sound P (local inv k >>? question) f
+      (asked (local inv k) (get_kept Q inv.locals k all)) each
+    where
+      asked : (o : Option Value) → IfSome o Q → IfSome (o >>? question) P
+      asked None q = tt
+      asked (Some v) q = answer v q
+
+  -- giving a value that is kept is sound
   pub gives_sound : (d : ℕ) (v : Value) → Q v → Sound (gives inv d v)
   gives_sound d v q = record {
     values =
@@ -120,6 +94,7 @@ module _ (table : Listed Class) (inv : Invocation) (slots : Listed Value) (Q : V
     raises = tt;
   }
 
+  -- going on at a place is sound
   goes_sound : (place : ℕ) → Sound (goes_to inv place)
   goes_sound place = record {
     values = All-append Q inv.locals [] all (All-nil Q);
@@ -128,150 +103,205 @@ module _ (table : Listed Class) (inv : Invocation) (slots : Listed Value) (Q : V
     raises = tt;
   }
 
+  -- giving a number is sound, and so is a fault of range
   number_sound : (d : ℕ) (o : Option ℤ) → Sound (gives_number inv d o)
   number_sound d None = fault Range tt
   number_sound d (Some z) = gives_sound d (Num z) (kept.number z)
 
-  numbers_sound : (f : ℤ → ℤ → Option ℤ) (d : ℕ) (o p : Option ℤ)
-      → Sound (with_numbers o p (λ x y. gives_number inv d (f x y)))
-  numbers_sound f d None p = fault TypeFault tt
-  numbers_sound f d (Some x) None = fault TypeFault tt
-  numbers_sound f d (Some x) (Some y) = number_sound d (f x y)
+  -- of any answer nothing holds that need be shown
+  any : {A : Type 0} (o : Option A) → IfSome o (λ _. Unit {0})
+  any None = tt
+  any (Some x) = tt
 
+  -- what a number in a local leads to is sound
+  number_then : (question : Value → Option ℤ) (k : ℕ) (f : ℤ → Option Act)
+      → ((z : ℤ) → MaySound (f z)) → MaySound (local inv k >>? question >>? f)
+  number_then question k f each =
+      local_then question (λ _. Unit {0}) k f (λ v _. any (question v)) (λ z _. each z)
+
+  -- arithmetic is sound
+  calculates_sound : (f : ℤ → ℤ → Option ℤ) (d a b : ℕ) → MaySound (calculates f inv d a b)
+  calculates_sound f d a b =
+      number_then counted a
+      (λ x. local inv b >>? counted >>? λ y. Some (gives_number inv d (f x y)))
+      (λ x. number_then counted b (λ y. Some (gives_number inv d (f x y)))
+      (λ y. number_sound d (f x y)))
+
+  -- giving a list that keeps the limits is sound where it is kept then
   list_sound : (d : ℕ) (vs : Listed Value) → (can_be vs ≡ true → Q (List vs))
       → Sound (gives_list inv d vs)
   list_sound d vs q =
-      choice_sound table slots Q L R (can_be vs) (gives inv d (List vs)) (Raise Range)
+      choice Sound (can_be vs) (gives inv d (List vs)) (Raise Range)
       (λ fits. gives_sound d (List vs) (q fits)) (fault Range tt)
 
-  push_sound : (d : ℕ) (list item : Value) → Q list → Q item
-      → Sound (push_onto inv d (items list) item)
-  push_sound d list item of_list of_item =
-      by_items (λ o v. Q v → Sound (push_onto inv d o item)) (λ v _. fault TypeFault tt)
-      (λ vs q. list_sound d (vs ++ item ∷ []) (λ fits. kept.pushed vs item q of_item fits))
-      list of_list
+  -- what the list in a local leads to is sound
+  list_then : (k : ℕ) (f : Listed Value → Option Act)
+      → ((vs : Listed Value) → Q (List vs) → MaySound (f vs))
+      → MaySound (local inv k >>? items >>? f)
+  list_then k f each =
+      local_then items (λ vs. Q (List vs)) k f
+      (by_items (λ o v. Q v → IfSome o (λ vs. Q (List vs))) (λ v _. tt) (λ vs q. q)) each
 
+  -- a push is sound
+  pushes_sound : (list item : ℕ) → MaySound (pushes inv list item)
+  pushes_sound list item =
+      list_then list (λ vs. local inv item >>? λ v. Some (gives_list inv list (vs ++ v ∷ [])))
+      (λ vs of_list. local_sound item (λ v. Some (gives_list inv list (vs ++ v ∷ [])))
+      (λ v of_item. list_sound list (vs ++ v ∷ [])
+      (λ fits. kept.pushed vs v of_list of_item fits)))
+
+  -- giving what was found is sound
   found_sound : (d : ℕ) (o : Option Value) → IfSome o Q → Sound (gives_found inv d o)
   found_sound d None q = fault Range tt
   found_sound d (Some v) q = gives_sound d v q
 
-  index_sound : (d : ℕ) (vs : Listed Value) → Q (List vs) → (o : Option ℤ)
-      → Sound (item_at inv d (Some vs) o)
-  index_sound d vs q None = fault TypeFault tt
-  index_sound d vs q (Some (pos k)) =
-      found_sound d (slice_get vs k) (get_kept Q vs k (kept.items vs q))
-  index_sound d vs q (Some (negsuc k)) = fault Range tt
+  -- an item of a list that is kept is kept
+  item_kept : (vs : Listed Value) (at : ℤ) → Q (List vs) → IfSome (item_at vs at) Q
+  item_kept vs (pos k) q = get_kept Q vs k (kept.items vs q)
+  item_kept vs (negsuc k) q = tt
 
-  no_item_sound : (d : ℕ) (o : Option ℤ) → Sound (item_at inv d None o)
-  no_item_sound d None = fault TypeFault tt
-  no_item_sound d (Some z) = fault TypeFault tt
+  -- giving an item of a list is sound
+  picks_sound : (d list index : ℕ) → MaySound (picks inv d list index)
+  picks_sound d list index =
+      list_then list
+      (λ vs. local inv index >>? number >>? λ at. Some (gives_found inv d (item_at vs at)))
+      (λ vs q. number_then number index (λ at. Some (gives_found inv d (item_at vs at)))
+      (λ at. found_sound d (item_at vs at) (item_kept vs at q)))
 
-  item_sound : (d : ℕ) (list index : Value) → Q list
-      → Sound (item_at inv d (items list) (number index))
-  item_sound d list index of_list =
-      by_items (λ o v. Q v → Sound (item_at inv d o (number index)))
-      (λ v _. no_item_sound d (number index))
-      (λ vs q. index_sound d vs q (number index)) list of_list
+  -- counting is sound
+  counts_sound : (d of : ℕ) → MaySound (counts inv d of)
+  counts_sound d of =
+      local_then count (λ _. Unit {0}) of (λ n. Some (gives inv d (Num (pos n))))
+      (λ v _. any (count v)) (λ n _. gives_sound d (Num (pos n)) (kept.number (pos n)))
 
-  count_sound : (d : ℕ) (o : Option ℕ) → Sound (gives_count inv d o)
-  count_sound d None = fault TypeFault tt
-  count_sound d (Some n) = gives_sound d (Num (pos n)) (kept.number (pos n))
+  -- raising a text is sound
+  raises_sound : (k : ℕ) → MaySound (raises inv k)
+  raises_sound k =
+      local_then text L k (λ s. Some (Raise (User s)))
+      (by_text (λ o v. Q v → IfSome o L) (λ v _. tt) kept.raised) (λ s q. fault (User s) q)
 
-  raise_sound : (v : Value) → Q v → Sound (raise_text (text v))
-  raise_sound =
-      by_text (λ o v. Q v → Sound (raise_text o)) (λ v _. fault TypeFault tt)
-      (λ s q. fault (User s) (kept.raised s q))
-
+  -- a list of one value that is kept is kept
   one_kept : (v : Value) → Q v → All Q (v ∷ [])
   one_kept v q = All-cons Q v [] q (All-nil Q)
 
-  -- an act that holds one local alone
-  one_values : (k : ℕ) → All Q (local inv k ∷ [])
-  one_values k = one_kept (local inv k) (local_kept k)
+  -- asking for a root is sound
+  asks_sound : (d port : ℕ) → (R → d < 16) → MaySound (asks_root inv d port)
+  asks_sound d port there =
+      number_then number port (λ z. Some (Root (Num z) d (next inv)))
+      (λ z. record {
+        values = one_kept (Num z) (kept.number z);
+        locals = tt;
+        range = there;
+        raises = tt;
+      })
 
-  root_sound : (d : ℕ) (port : Value) (o : Option ℤ) → Q port → (R → d < 16)
-      → Sound (root_of inv d port o)
-  root_sound d port None q there = fault TypeFault tt
-  root_sound d port (Some z) q there =
-      record { values = one_kept port q; locals = tt; range = there; raises = tt }
+  -- what several locals hold is kept, and there is a value for each
+  each_kept : (from : Listed ℕ)
+      → IfSome (local_values inv from) (λ vs. All Q vs × (length vs ≡ length from))
+  each_kept [] = (All-nil Q, refl)
+  each_kept (k ∷ ks) =
+      one_more (local inv k) (local_values inv ks) (get_kept Q inv.locals k all) (each_kept ks)
+    where
+      one_more : (o : Option Value) (p : Option (Listed Value)) → IfSome o Q
+          → IfSome p (λ vs. All Q vs × (length vs ≡ length ks))
+          → IfSome (o >>? λ v. p >>? λ vs. Some (v ∷ vs))
+          (λ vs. All Q vs × (length vs ≡ suc (length ks)))
+      one_more None p q rest = tt
+      one_more (Some v) None q rest = tt
+      one_more (Some v) (Some vs) q rest = (All-cons Q v vs q rest.0, ap suc rest.1)
 
-  -- the act of an instruction is sound
-  pub performs_sound : All Q slots → (i : Instruction) → HasText T i
-      → (R → IsWithin (length slots) (length table) 4096 i) → Sound (performs inv slots i)
-  performs_sound of_slots (does.Nil d) t w = gives_sound d Nil kept.nil
-  performs_sound of_slots (does.Number d z) t w = gives_sound d (Num z) (kept.number z)
-  performs_sound of_slots (does.Text d s) t w = gives_sound d (Text s) (kept.text s t)
-  performs_sound of_slots (does.Own d) t w = gives_sound d (Obj inv.object) kept.own
-  performs_sound of_slots (does.Move d s) t w = gives_sound d (local inv s) (local_kept s)
-  performs_sound of_slots (does.Get d k) t w =
-      gives_sound d (slice_index_or slots k Nil) (at_kept Q slots k Nil of_slots kept.nil)
-  performs_sound of_slots (does.Set k s) t w = record {
-    values = All-append Q inv.locals (local inv s ∷ []) all (one_kept (local inv s) (local_kept s));
+  -- sending a message is sound
+  sends_sound : (d t : ℕ) (selector from : Listed ℕ)
+      → (R → (d < 16) × (t < 16) × IsMessage selector from)
+      → MaySound (sends inv d t selector from)
+  sends_sound d t selector from w =
+      local_sound t
+      (λ v. local_values inv from >>? λ args. Some (Send v selector args d from (next inv)))
+      (λ v q. then_sound (λ vs. All Q vs × (length vs ≡ length from)) (local_values inv from)
+      (λ args. Some (Send v selector args d from (next inv))) (each_kept from)
+      (λ args r. record {
+        values = All-cons Q v args q r.0;
+        locals = tt;
+        range =
+            λ h. ((w h).2.name, r.1 ∙ (w h).2.count, (w h).2.count, (w h).0, (w h).2.locals);
+        raises = tt;
+      }))
+
+  -- comparing is sound
+  compares_sound : (d a b : ℕ) → MaySound (compares inv d a b)
+  compares_sound d a b =
+      local_sound a
+      (λ v. local inv b >>? λ w. Some (gives inv d (Num (truth (value_eq v w)))))
+      (λ v _. local_sound b (λ w. Some (gives inv d (Num (truth (value_eq v w)))))
+      (λ w _. gives_sound d (Num (truth (value_eq v w))) (kept.number (truth (value_eq v w)))))
+
+  -- writing a value that is kept is sound
+  writes_sound : (k : ℕ) (v : Value) → Q v → (R → k < length slots) → Sound (writes inv k v)
+  writes_sound k v q there = record {
+    values = All-append Q inv.locals (v ∷ []) all (one_kept v q);
     locals = sixteen;
     range = λ r. (
       sixteen,
       handler r,
-      All-cons (λ (w : Write). w.slot < length slots) (record { slot = k; value = local inv s }) []
-          (w r).0 (All-nil (λ (w : Write). w.slot < length slots)),
+      All-cons (λ (w : Write). w.slot < length slots) (record { slot = k; value = v }) []
+          (there r) (All-nil (λ (w : Write). w.slot < length slots)),
     );
     raises = tt;
   }
+
+  -- a change of the handler is sound
+  handles_sound : (h : Option Handler) → (R → IsHandler h) → Sound (handles inv h)
+  handles_sound h there = record {
+    values = All-append Q inv.locals [] all (All-nil Q);
+    locals = sixteen;
+    range = λ r. (sixteen, there r, All-nil (λ (w : Write). w.slot < length slots));
+    raises = tt;
+  }
+
+  -- the act of an instruction is sound
+  pub performs_sound : All Q slots → (i : Instruction) → HasText T i
+      → (R → IsWithin (length slots) (length table) 4096 i) → MaySound (performs inv slots i)
+  performs_sound of_slots (does.Nil d) t w = gives_sound d Nil kept.nil
+  performs_sound of_slots (does.Number d z) t w = gives_sound d (Num z) (kept.number z)
+  performs_sound of_slots (does.Text d s) t w = gives_sound d (Text s) (kept.text s t)
+  performs_sound of_slots (does.Own d) t w = gives_sound d (Obj inv.object) kept.own
+  performs_sound of_slots (does.Move d s) t w =
+      local_sound s (λ v. Some (gives inv d v)) (gives_sound d)
+  performs_sound of_slots (does.Get d k) t w =
+      then_sound Q (slice_get slots k) (λ v. Some (gives inv d v)) (get_kept Q slots k of_slots)
+      (gives_sound d)
+  performs_sound of_slots (does.Set k s) t w =
+      local_sound s (λ v. Some (writes inv k v)) (λ v q. writes_sound k v q (λ r. (w r).0))
   performs_sound of_slots (does.Add d a b) t w =
-      numbers_sound (λ x y. checked (x +ℤ y)) d (counted (local inv a)) (counted (local inv b))
+      calculates_sound (λ x y. checked (x +ℤ y)) d a b
   performs_sound of_slots (does.Subtract d a b) t w =
-      numbers_sound (λ x y. checked (x -ℤ y)) d (counted (local inv a)) (counted (local inv b))
+      calculates_sound (λ x y. checked (x -ℤ y)) d a b
   performs_sound of_slots (does.Multiply d a b) t w =
-      numbers_sound (λ x y. checked (x *ℤ y)) d (counted (local inv a)) (counted (local inv b))
-  performs_sound of_slots (does.Less d a b) t w =
-      numbers_sound less d (counted (local inv a)) (counted (local inv b))
-  performs_sound of_slots (does.Same d a b) t w =
-      let same : ℤ =
-      truth (value_eq (local inv a) (local inv b)) in gives_sound d (Num same)
-      (kept.number same)
+      calculates_sound (λ x y. checked (x *ℤ y)) d a b
+  performs_sound of_slots (does.Less d a b) t w = calculates_sound less d a b
+  performs_sound of_slots (does.Same d a b) t w = compares_sound d a b
   performs_sound of_slots (does.Jump to) t w = goes_sound to
   performs_sound of_slots (does.IfNot a to) t w =
-      goes_sound (if is_zero (local inv a) then to else next inv)
+      local_sound a (λ v. Some (goes_to inv (if is_zero v then to else next inv)))
+      (λ v _. goes_sound (if is_zero v then to else next inv))
   performs_sound of_slots (does.List d) t w = gives_sound d (List []) kept.empty
-  performs_sound of_slots (does.Push d s) t w =
-      push_sound d (local inv d) (local inv s) (local_kept d) (local_kept s)
-  performs_sound of_slots (does.Item d a i) t w =
-      item_sound d (local inv a) (local inv i) (local_kept a)
-  performs_sound of_slots (does.Count d a) t w = count_sound d (count_in (out-Value (local inv a)))
+  performs_sound of_slots (does.Push d s) t w = pushes_sound d s
+  performs_sound of_slots (does.Item d a i) t w = picks_sound d a i
+  performs_sound of_slots (does.Count d a) t w = counts_sound d a
   performs_sound of_slots (does.New d k) t w =
       record { values = All-nil Q; locals = tt; range = λ r. ((w r).1, (w r).0); raises = tt }
-  performs_sound of_slots (does.Send d t selector from) u w = record {
-    values =
-        All-cons Q (local inv t) (map (local inv) from) (local_kept t)
-        (All-map Q (local inv) from (λ k d _. local_kept (slice_index_or from k d)));
-    locals = tt;
-    range =
-        λ r. (
-          (w r).2.name,
-          length-map from (local inv) ∙ (w r).2.count,
-          (w r).2.count,
-          (w r).0,
-          (w r).2.locals,
-        );
-    raises = tt;
-  }
-  performs_sound of_slots (does.Root d p) t w =
-      root_sound d (local inv p) (number (local inv p)) (local_kept p) (λ r. (w r).0)
+  performs_sound of_slots (does.Send d t selector from) u w = sends_sound d t selector from w
+  performs_sound of_slots (does.Root d p) t w = asks_sound d p (λ r. (w r).0)
   performs_sound of_slots (does.Vend s) t w =
-      record { values = one_values s; locals = tt; range = λ _. tt; raises = tt }
+      local_sound s (λ v. Some (Vend v (next inv)))
+      (λ v q. record { values = one_kept v q; locals = tt; range = λ _. tt; raises = tt })
   performs_sound of_slots (does.Say s) t w =
-      record { values = one_values s; locals = tt; range = λ _. tt; raises = tt }
+      local_sound s (λ v. Some (Say v (next inv)))
+      (λ v q. record { values = one_kept v q; locals = tt; range = λ _. tt; raises = tt })
   performs_sound of_slots (does.Return s) t w =
-      record { values = one_values s; locals = tt; range = λ _. tt; raises = tt }
-  performs_sound of_slots (does.Raise s) t w = raise_sound (local inv s) (local_kept s)
-  performs_sound of_slots (does.Catch d to) t w = record {
-    values = All-append Q inv.locals [] all (All-nil Q);
-    locals = sixteen;
-    range = λ r. (sixteen, (w r).0, All-nil (λ (w : Write). w.slot < length slots));
-    raises = tt;
-  }
-  performs_sound of_slots does.EndCatch t w = record {
-    values = All-append Q inv.locals [] all (All-nil Q);
-    locals = sixteen;
-    range = λ r. (sixteen, tt, All-nil (λ (w : Write). w.slot < length slots));
-    raises = tt;
-  }
+      local_sound s (λ v. Some (Return v))
+      (λ v q. record { values = one_kept v q; locals = tt; range = λ _. tt; raises = tt })
+  performs_sound of_slots (does.Raise s) t w = raises_sound s
+  performs_sound of_slots (does.Catch d to) t w =
+      handles_sound (Some (record { into = d; pc = to })) (λ r. (w r).0)
+  performs_sound of_slots does.EndCatch t w = handles_sound None (λ _. tt)

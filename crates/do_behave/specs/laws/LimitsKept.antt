@@ -14,7 +14,7 @@ use Rattle.do_base.specs.values.Induction.{value_induction}
 use Rattle.do_base.specs.values.Values.{weight_of}
 use Rattle.do_base.specs.declared.values.value.Value.{Value, List, the_lemmas}
 use Rattle.do_base.specs.declared.values.value.Value.TheVariants.{Text}
-use Rattle.do_behave.specs.laws.ActsKeep.{IsKept}
+use Rattle.do_behave.specs.laws.Sound.{IsKept}
 use Rattle.do_behave.specs.Limits.{IsLimited, has_small_parts, nests_within}
 use Rattle.do_behave.specs.Lists.{can_be}
 use Rattle.do_behave.specs.laws.Nesting.{nests_within-deeper, nests_within-List_none}

@@ -1,9 +1,8 @@
 -- How lists nest, kind by kind, and what a list weighs and nests with one more item.
-use Rattle.std.proofs.Common.{◌≡◌, ℕ, List as Listed, [], ◌∷◌, ◌++◌, ◌<◌, ◌≤◌, ◌+◌, ◌-◌, Bool, true}
-use Rattle.std.proofs.Common.{false, ◌&&◌, nat_lt, nat_le, ◌^◌, length, sum_by, map, suc, zero}
+use Rattle.std.proofs.Common.{◌≡◌, ℕ, List as Listed, [], ◌∷◌, ◌++◌, ◌<◌, ◌+◌, ◌-◌, Bool, true}
+use Rattle.std.proofs.Common.{false, ◌&&◌, nat_lt, nat_le, length, sum_by, map, suc, zero}
 use Rattle.std.proofs.Common.{length-append, refl, sym, ◌∙◌, ap, arith, rules}
 use Rattle.std.specs.List.{list_all}
-use Rattle.std.proofs.lemmas.Grind.{common_steps}
 use Rattle.std.proofs.lemmas.List.Folds.{list_all-map, list_all-append}
 use Rattle.std.proofs.lemmas.List.Sums.{sum_by-append, sum-map}
 use Rattle.do_base.specs.values.Values.{weight_of}

@@ -11,7 +11,7 @@ use Rattle.do_base.specs.values.Values.{objects_of}
 use Rattle.do_base.specs.declared.values.value.Value.{Value, List, the_lemmas}
 use Rattle.do_base.specs.declared.values.value.Value.TheVariants.{Nil, Num, Text, Obj}
 use Rattle.do_behave.specs.Answers.{NamesOnly, objects_named}
-use Rattle.do_behave.specs.laws.ActsKeep.{IsKept}
+use Rattle.do_behave.specs.laws.Sound.{IsKept}
 use Rattle.do_behave.specs.laws.CodeSuits.{All-first, All-second}
 use Rattle.do_behave.specs.declared.invocation.Invocation.{Invocation}
 

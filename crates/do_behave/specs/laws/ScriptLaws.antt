@@ -1,7 +1,7 @@
 -- The acts of scripts name only objects that were shown, and answer well where the code is made for
 -- the table.
-use Rattle.std.proofs.Common.{◌≡◌, ℕ, ◌≤◌, ◌++◌, true, List as Listed, [], ◌∷◌, length}
-use Rattle.std.proofs.Common.{Option, Some, None, refl}
+use Rattle.std.proofs.Common.{◌≡◌, ℕ, ◌≤◌, ◌++◌, List as Listed, [], length, Option, Some}
+use Rattle.std.proofs.Common.{None, refl}
 use Rattle.std.specs.Prelude.{slice_get}
 use Rattle.std.specs.List.{All}
 use Rattle.std.proofs.lemmas.List.Elements.{All-nil, All-cons}
@@ -10,6 +10,7 @@ use Rattle.do_base.specs.declared.values.value.Value.{Value}
 use Rattle.do_base.specs.declared.values.value.Value.TheVariants.{Nil}
 use Rattle.do_base.specs.declared.events.exception.Exc.TheVariants.{User, TypeFault}
 use Rattle.do_class.specs.Class.{Class}
+use Rattle.do_grammar.specs.Words.{◌>>?◌}
 use Rattle.do_script.specs.Listing.{Listing, IsWithin}
 use Rattle.do_script.specs.declared.instruction.Instruction.{Instruction}
 use Rattle.do_script.specs.declared.instruction.Instruction.TheVariants.{Text}
@@ -19,14 +20,15 @@ use Rattle.do_behave.specs.Limits.{IsLimited}
 use Rattle.do_behave.specs.Parts.{WeighsWithin}
 use Rattle.do_behave.specs.Programs.{IsMadeFor}
 use Rattle.do_behave.specs.Ready.{IsHandler, IsReady}
-use Rattle.do_behave.specs.Script.{script, runs, is_ready, does_next, performs, code_of}
+use Rattle.do_behave.specs.Script.{script, runs, is_ready, does_next, code_of}
+use Rattle.do_behave.specs.Steps.{or_fault}
 use Rattle.do_behave.specs.declared.invocation.Invocation.{Invocation}
 use Rattle.do_behave.specs.declared.act.Act.{Act}
 use Rattle.do_behave.specs.declared.act.Act.TheVariants.{Return, Raise}
 use Rattle.do_behave.specs.laws.CodeSuits.{ready-parts, code-suits, instruction-suits, All-first}
 use Rattle.do_behave.specs.laws.CodeSuits.{All-second}
-use Rattle.do_behave.specs.laws.ActsKeep.{IsKept, IsSound, HasText, RaisesOnly, performs_sound}
-use Rattle.do_behave.specs.laws.ActsKeep.{choice_sound, fault_sound}
+use Rattle.do_behave.specs.laws.Sound.{IsKept, IsSound, HasText, RaisesOnly, choice, fault_sound}
+use Rattle.do_behave.specs.laws.ActsKeep.{performs_sound}
 use Rattle.do_behave.specs.laws.LimitsKept.{limits_kept}
 use Rattle.do_behave.specs.laws.ObjectsKept.{arguments_among, objects_kept}
 use Rattle.do_behave.specs.laws.WeightsKept.{weights_kept, shown_weighs}
@@ -64,23 +66,28 @@ module _ (table : Listed Class) (inv : Invocation) (slots : Listed Value) (Q : V
 
   next_sound : length inv.locals ≡ 16 → (o : Option Instruction)
       → ((i : Instruction) → o ≡ Some i → IsAllowed i)
-      → IsSound table slots Q L R (does_next inv slots o)
+      → IsSound table slots Q L R (or_fault (does_next inv slots o))
   next_sound sixteen None allowed = nil_sound table slots Q L R kept.nil
   next_sound sixteen (Some i) allowed =
       performs_sound table inv slots Q T L R kept all sixteen handler of_slots i (allowed i refl).0
       (allowed i refl).1
 
-  pub runs_sound : (o : Option Listing)
+  runs_sound : (code : Listing)
+      → ((i : Instruction) → slice_get code.instructions inv.pc ≡ Some i → IsAllowed i)
+      → IsSound table slots Q L R (or_fault (runs table inv slots code))
+  runs_sound code allowed =
+      choice (λ o. IsSound table slots Q L R (or_fault o)) (is_ready table inv slots code)
+      (does_next inv slots (slice_get code.instructions inv.pc)) None
+      (λ ready. next_sound (ready-parts table inv slots code ready).0
+      (slice_get code.instructions inv.pc) allowed)
+      (fault_sound table slots Q L R TypeFault tt)
+
+  pub code_sound : (o : Option Listing)
       → ((code : Listing) → o ≡ Some code → (i : Instruction)
       → slice_get code.instructions inv.pc ≡ Some i → IsAllowed i)
-      → IsSound table slots Q L R (runs table inv slots o)
-  runs_sound None allowed = fault_sound table slots Q L R TypeFault tt
-  runs_sound (Some code) allowed =
-      choice_sound table slots Q L R (is_ready table inv slots code)
-      (does_next inv slots (slice_get code.instructions inv.pc)) (Raise TypeFault)
-      (λ ready. next_sound (ready-parts table inv slots code ready).0
-      (slice_get code.instructions inv.pc) (allowed code refl))
-      (fault_sound table slots Q L R TypeFault tt)
+      → IsSound table slots Q L R (or_fault (o >>? runs table inv slots))
+  code_sound None allowed = fault_sound table slots Q L R TypeFault tt
+  code_sound (Some code) allowed = runs_sound code (allowed code refl)
 
 -- an act that keeps whatever scripts keep, of whatever texts, names only objects that were shown
 pub shown : (table : Listed Class) (inv : Invocation) (slots : Listed Value) (act : Act)
@@ -124,7 +131,7 @@ pub script_names_shown : (codes : Listed (Listed Listing)) (table : Listed Class
 script_names_shown codes table inv slots =
     shown table inv slots (script codes table inv slots)
     (λ Q L kept all of_slots.
-    runs_sound table inv slots Q (λ _. Unit {0}) L ⊥ kept all of_slots (λ r. absurd r)
+    code_sound table inv slots Q (λ _. Unit {0}) L ⊥ kept all of_slots (λ r. absurd r)
     (code_of codes inv.method)
     (λ code found i there. (any_text i, λ r. absurd r)))
 
@@ -135,7 +142,7 @@ pub script_answers_well : (codes : Listed (Listed Listing)) (table : Listed Clas
 script_answers_well codes table inv slots made ready =
     well table inv slots (script codes table inv slots)
     (λ Q L kept all of_slots.
-    runs_sound table inv slots Q (λ s. length s ≤ longest_text) L (Unit {0}) kept all of_slots
+    code_sound table inv slots Q (λ s. length s ≤ longest_text) L (Unit {0}) kept all of_slots
     (λ _. ready.handler) (code_of codes inv.method)
     (λ code found i there.
     let suits = code-suits codes table inv.method code slots made found ready.slot_count in

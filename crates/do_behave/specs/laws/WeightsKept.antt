@@ -10,7 +10,7 @@ use Rattle.do_base.proofs.Weights.{weight_of-Nil, weight_of-Num, weight_of-Text,
 use Rattle.do_base.specs.values.Texts.{longest_text}
 use Rattle.do_base.specs.values.Values.{weight_of}
 use Rattle.do_base.specs.declared.values.value.Value.{Value, List}
-use Rattle.do_behave.specs.laws.ActsKeep.{IsKept}
+use Rattle.do_behave.specs.laws.Sound.{IsKept}
 use Rattle.do_behave.specs.Limits.{nests_within}
 use Rattle.do_behave.specs.Lists.{can_be}
 use Rattle.do_behave.specs.laws.Nesting.{weight_of-items}

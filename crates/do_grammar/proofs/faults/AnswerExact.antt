@@ -6,7 +6,8 @@ use Rattle.std.proofs.lemmas.List.{append-nil, length-append, take_at}
 use Rattle.do_grammar.specs.Reader.{Stop, short, bad, Reader}
 use Rattle.do_grammar.specs.Grammar.{IsBytes, Begins, IsProperFront, IsFirstBad}
 use Rattle.do_grammar.proofs.faults.FaultPlace.{is_placed}
-use Rattle.do_grammar.proofs.reads.ExactReader.{StopsAt, Reads, IsBytes-rest, ok_value, ok_rest}
+use Rattle.do_grammar.proofs.reads.ExactReader.{StopsAt, Reads, IsBytes-rest}
+use Rattle.do_grammar.proofs.reads.ChainAnswers.{ok_value, ok_rest}
 
 -- ---- what an exact reader tells of all its input
 

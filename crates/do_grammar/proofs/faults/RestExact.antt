@@ -6,8 +6,9 @@ use Rattle.do_grammar.specs.declared.fault.ReadFault.TheVariants.{Memory, Short,
 use Rattle.do_grammar.specs.Reader.{Reader, no_kind, short, bad}
 use Rattle.do_grammar.specs.Grammar.{IsBytes, Takes}
 use Rattle.do_grammar.specs.RestAnswers.{Gives, TellsRest, FindsRest}
-use Rattle.do_grammar.proofs.reads.ExactReader.{Reads, ok_value, ok_rest}
+use Rattle.do_grammar.proofs.reads.ExactReader.{Reads}
 use Rattle.do_grammar.proofs.faults.AnswerExact.{proper_front, left_within, first_bad, not_stopped}
+use Rattle.do_grammar.proofs.reads.ChainAnswers.{ok_value, ok_rest}
 
 module _ {X A : Type 0} (G : List ℕ → A
     → Type 0) (r : Reader (Unit {0}) A) (R : Reads G r) (view : X → A) (bytes : List ℕ) where

@@ -7,7 +7,7 @@ use Rattle.std.proofs.lemmas.Bool.{lt-ltb, le-ltb, le-leb, lt-leb}
 use Rattle.std.proofs.lemmas.Nat.{div_below}
 use Rattle.do_grammar.specs.Reader.{Stop, no_kind, short, bad, ◌>>=◌}
 use Rattle.do_grammar.specs.Num.{span, digits, digits_at}
-use Rattle.do_grammar.proofs.texts.NumExact.{span_pos}
+use Rattle.do_grammar.proofs.texts.SizeExact.{span_pos}
 
 -- no byte of the number is left
 pub at_last : (low high least k : ℕ) (bytes : List ℕ) → k ≡ 0

@@ -1,9 +1,11 @@
 -- Readers that read a grammar exactly: nothing, one after the other, one byte.
-use Rattle.std.proofs.Common.{◌≡◌, ℕ, suc, Bool, true, false, cond, List, [], ◌∷◌, ◌++◌, length}
-use Rattle.std.proofs.Common.{Result, Ok, Err, refl, sym, ap, subst, ◌∙◌, append_assoc}
+use Rattle.std.proofs.Common.{◌≡◌, ℕ, suc, Bool, List, [], ◌∷◌, ◌++◌, length, Result, Ok, Err, refl}
+use Rattle.std.proofs.Common.{sym, ap, subst, ◌∙◌, append_assoc}
 use Rattle.do_grammar.specs.Reader.{Stop, short, bad, Reader, ◌>>=◌, done, and_then, byte_of}
 use Rattle.do_grammar.specs.Grammar.{IsBytes, Begins, Takes}
 use Rattle.do_grammar.specs.Forms.{Done, Then, Byte, Passes}
+use Rattle.do_grammar.proofs.reads.ChainAnswers.{bind_ok, ok_value, ok_rest, Stopped, first, later}
+use Rattle.do_grammar.proofs.reads.ChainAnswers.{bind_err, guard_ok, guard_err}
 
 -- what reading that stops at a byte tells, whatever it gives else
 pub record StopsAt {K A C : Type 0} (G : List ℕ → A → Type 0) (r : List ℕ
@@ -38,41 +40,6 @@ IsBytes-append (x ∷ a) b p q = (p.0, IsBytes-append a b p.1 q)
 pub IsBytes-rest : (a b : List ℕ) → IsBytes (a ++ b) → IsBytes b
 IsBytes-rest [] b p = p
 IsBytes-rest (x ∷ a) b p = IsBytes-rest a b p.1
-
--- a chain that gives a value gave one at each step
-pub bind_ok : {K A B : Type 0} (r : Result A (Stop K)) (f : A → Result B (Stop K)) (y : B)
-    → (r >>= f) ≡ Ok y → (x : A) × (r ≡ Ok x) × (f x ≡ Ok y)
-bind_ok (Ok x) f y e = (x, refl, e)
-bind_ok (Err d) f y e = absurd cc
-
-abbrev okay : {E A : Type 0} → A → Result A E
-okay x = Ok x
-
--- equal answers have equal values
-ok_is : {E A : Type 0} (x y : A) → okay {E = E} x ≡ okay y → x ≡ y
-ok_is x y e = cc
-
--- the value and the rest of a reader that did not fail
-pub ok_value : {E A : Type 0} (x y : A) (xs ys : List ℕ)
-    → okay {E = E} {A = A × List ℕ} (x, xs) ≡ okay (y, ys) → x ≡ y
-ok_value {A = A} x y xs ys e = ap (λ (p : A × List ℕ). p.0) (ok_is (x, xs) (y, ys) e)
-
--- and equal rests
-pub ok_rest : {E A : Type 0} (x y : A) (xs ys : List ℕ)
-    → okay {E = E} {A = A × List ℕ} (x, xs) ≡ okay (y, ys) → xs ≡ ys
-ok_rest {A = A} x y xs ys e = ap (λ (p : A × List ℕ). p.1) (ok_is (x, xs) (y, ys) e)
-
--- a chain that stopped did so in its first step or behind it
-pub data Stopped {K A B : Type 0} (r : Result A (Stop K)) (f : A
-    → Result B (Stop K)) (s : Stop K) : Type 0 where
-  first : r ≡ Err s → Stopped r f s
-  later : (x : A) → r ≡ Ok x → f x ≡ Err s → Stopped r f s
-
--- a chain that stopped did so at its first step or behind it
-pub bind_err : {K A B : Type 0} (r : Result A (Stop K)) (f : A → Result B (Stop K)) (s : Stop K)
-    → (r >>= f) ≡ Err s → Stopped r f s
-bind_err (Ok x) f s e = later x refl e
-bind_err (Err d) f s e = first cc
 
 -- ---- nothing
 
@@ -263,30 +230,6 @@ module _ {K A B : Type 0} (G : List ℕ → A → Type 0) (H : A → List ℕ �
 
 -- ---- one byte
 
--- a test that passed, and one that did not
-pub guard_ok : {E A : Type 0} (b : Bool) (s : E) (x y : A) → cond b (okay x) (Err s) ≡ Ok y
-    → (b ≡ true) × (x ≡ y)
-guard_ok true s x y e = (refl, ok_is x y e)
-guard_ok false s x y e = absurd cc
-
--- a fault behind a test means that the test failed
-pub guard_err : {E A : Type 0} (b : Bool) (s t : E) (x : A) → cond b (okay x) (Err s) ≡ Err t
-    → (b ≡ false) × (t ≡ s)
-guard_err true s t x e = absurd cc
-guard_err false s t x e = (refl, cc)
-
--- a value behind a fault's test means that there was no fault
-pub past_ok : {E A : Type 0} (b : Bool) (s : E) (x y : A) → cond b (Err s) (okay x) ≡ Ok y
-    → (b ≡ false) × (x ≡ y)
-past_ok true s x y e = absurd cc
-past_ok false s x y e = (refl, ok_is x y e)
-
--- a fault there means that there was one
-pub past_err : {E A : Type 0} (b : Bool) (s t : E) (x : A) → cond b (Err s) (okay x) ≡ Err t
-    → (b ≡ true) × (t ≡ s)
-past_err true s t x e = (refl, cc)
-past_err false s t x e = absurd cc
-
 -- one byte that passes a test, where some byte does, is read exactly
 pub Reads-byte : {K : Type 0} (ok : ℕ → Bool) (why : ℕ → K) → Passes ok
     → Reads (Byte ok) (byte_of ok why)
@@ -347,6 +290,30 @@ Reads-byte {K = K} ok why some = record {
 
 -- ---- the same reader, the same grammar
 
+-- what begins a spelling of one grammar begins one of another that has its spellings
+pub Begins-as : {A : Type 0} (G H : List ℕ → A → Type 0)
+    → ((text : List ℕ) (x : A) → G text x → H text x) → (front : List ℕ) → Begins G front
+    → Begins H front
+Begins-as G H there front b = record {
+  more = b.more;
+  value = b.value;
+  spelled = there (front ++ b.more) b.value b.spelled;
+}
+
+-- the same reader stops at the same byte under other names
+pub StopsAt-as : {K A C : Type 0} (G H : List ℕ → A → Type 0) (r s : List ℕ → Result C (Stop K))
+    → ((text : List ℕ) (x : A) → G text x → H text x) → ((bytes : List ℕ) → r bytes ≡ s bytes)
+    → (bytes : List ℕ) (k : K) (left : ℕ) → StopsAt G r bytes k left → StopsAt H s bytes k left
+StopsAt-as G H r s there same bytes k left t = record {
+  front = t.front;
+  byte = t.byte;
+  rest = t.rest;
+  parts = t.parts;
+  place = t.place;
+  goes_on = Begins-as G H there t.front t.goes_on;
+  stays = λ after. sym (same (t.front ++ t.byte ∷ after)) ∙ t.stays after;
+}
+
 -- the same reader of the same grammar under other names
 pub Reads-as : {K A : Type 0} (G H : List ℕ → A → Type 0) (r s : Reader K A)
     → ((text : List ℕ) (x : A) → G text x → H text x)
@@ -354,7 +321,7 @@ pub Reads-as : {K A : Type 0} (G H : List ℕ → A → Type 0) (r s : Reader K 
     → Reads G r → Reads H s
 Reads-as G H r s there back same R = record {
   bytes = λ text x h. R.bytes text x (back text x h);
-  has_spelling = begins [] R.has_spelling;
+  has_spelling = Begins-as G H there [] R.has_spelling;
   reads_spelling = λ text x rest h. sym (same (text ++ rest))
       ∙ R.reads_spelling text x rest (back text x h);
   sound = λ bytes x rest b e. let t = R.sound bytes x rest b (same bytes ∙ e) in record {
@@ -362,23 +329,8 @@ Reads-as G H r s there back same R = record {
     parts = t.parts;
     spelled = there t.text x t.spelled;
   };
-  short_is_front = λ bytes b e. begins bytes (R.short_is_front bytes b (same bytes ∙ e));
+  short_is_front = λ bytes b e.
+      Begins-as G H there bytes (R.short_is_front bytes b (same bytes ∙ e));
   bad_is_first = λ bytes k left b e.
-      let t = R.bad_is_first bytes k left b (same bytes ∙ e) in
-      record {
-        front = t.front;
-        byte = t.byte;
-        rest = t.rest;
-        parts = t.parts;
-        place = t.place;
-        goes_on = begins t.front t.goes_on;
-        stays = λ after. sym (same (t.front ++ t.byte ∷ after)) ∙ t.stays after;
-      };
+      StopsAt-as G H r s there same bytes k left (R.bad_is_first bytes k left b (same bytes ∙ e));
 }
-  where
-    begins : (front : List ℕ) → Begins G front → Begins H front
-    begins front b = record {
-      more = b.more;
-      value = b.value;
-      spelled = there (front ++ b.more) b.value b.spelled;
-    }

@@ -9,8 +9,9 @@ use Rattle.std.proofs.lemmas.List.{length-take-le}
 use Rattle.do_grammar.specs.Reader.{short, bad, Reader, done, and_then, mapped, bytes_of, times}
 use Rattle.do_grammar.specs.Grammar.{IsBytes, Begins, Takes}
 use Rattle.do_grammar.specs.Forms.{Done, Then, Times, Mapped, Bytes, Either}
-use Rattle.do_grammar.proofs.reads.ExactReader.{StopsAt, Reads, IsBytes-append, past_ok, past_err}
+use Rattle.do_grammar.proofs.reads.ExactReader.{StopsAt, Reads, IsBytes-append}
 use Rattle.do_grammar.proofs.reads.ExactReader.{Reads-done, Reads-then, Reads-as}
+use Rattle.do_grammar.proofs.reads.ChainAnswers.{past_ok, past_err}
 
 -- ---- one reader so many times
 

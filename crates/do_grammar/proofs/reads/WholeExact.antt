@@ -8,9 +8,9 @@ use Rattle.do_grammar.specs.Reader.{accepted, by_result, automaton}
 use Rattle.do_grammar.specs.Grammar.{IsBytes, Begins, IsProperFront, IsFirstBadWhole}
 use Rattle.do_grammar.specs.Forms.{Then, OnGo, Accepts}
 use Rattle.do_grammar.proofs.faults.FaultPlace.{is_placed}
-use Rattle.do_grammar.proofs.reads.ExactReader.{StopsAt, StopsBy, StopsBy-chain, Reads, Stopped}
-use Rattle.do_grammar.proofs.reads.ExactReader.{first, later, bind_ok, bind_err, IsBytes-append}
-use Rattle.do_grammar.proofs.reads.ExactReader.{IsBytes-rest}
+use Rattle.do_grammar.proofs.reads.ExactReader.{StopsAt, StopsBy, StopsBy-chain, Reads}
+use Rattle.do_grammar.proofs.reads.ExactReader.{IsBytes-append, IsBytes-rest, Begins-as, StopsAt-as}
+use Rattle.do_grammar.proofs.reads.ChainAnswers.{Stopped, first, later, bind_ok, bind_err}
 
 -- what a reader of all the bytes that stops at a byte tells
 abbrev pub StopsWhole : {K A : Type 0} → (List ℕ → A → Type 0) → Whole K A → List ℕ → K → ℕ → Type 0
@@ -151,29 +151,14 @@ pub Whole-as : {K A : Type 0} (G H : List ℕ → A → Type 0) (r s : Whole K A
     → ReadsWhole G r → ReadsWhole H s
 Whole-as G H r s there back same R = record {
   bytes = λ text x h. R.bytes text x (back text x h);
-  has_spelling = begins [] R.has_spelling;
+  has_spelling = Begins-as G H there [] R.has_spelling;
   reads_spelling = λ text x h. sym (same text) ∙ R.reads_spelling text x (back text x h);
   sound = λ bytes x b e. there bytes x (R.sound bytes x b (same bytes ∙ e));
-  short_is_front = λ bytes b e. begins bytes (R.short_is_front bytes b (same bytes ∙ e));
+  short_is_front = λ bytes b e.
+      Begins-as G H there bytes (R.short_is_front bytes b (same bytes ∙ e));
   bad_is_first = λ bytes k left b e.
-      let t = R.bad_is_first bytes k left b (same bytes ∙ e) in
-      record {
-        front = t.front;
-        byte = t.byte;
-        rest = t.rest;
-        parts = t.parts;
-        place = t.place;
-        goes_on = begins t.front t.goes_on;
-        stays = λ after. sym (same (t.front ++ t.byte ∷ after)) ∙ t.stays after;
-      };
+      StopsAt-as G H r s there same bytes k left (R.bad_is_first bytes k left b (same bytes ∙ e));
 }
-  where
-    begins : (front : List ℕ) → Begins G front → Begins H front
-    begins front b = record {
-      more = b.more;
-      value = b.value;
-      spelled = there (front ++ b.more) b.value b.spelled;
-    }
 
 -- ---- bytes from state to state, up to their end
 

@@ -5,10 +5,21 @@ use do_grammar::{dec_of, int_of, push_int};
 use std::alloc::AllocError;
 use std::test::Fail;
 
+/// A number as its digits.
 fn printed(rt: &HostRuntime, n: i64) -> Result<Text, AllocError> {
     let mut out = Text::new(rt.alloc());
     push_int(&mut out, n)?;
     Ok(out)
+}
+
+/// The number of these digits, if they are the digits of one.
+fn read(digits: &[u8]) -> Option<i64> {
+    int_of(digits)
+}
+
+/// The same of a number between bounds.
+fn read_within(digits: &[u8], low: u64, high: u64) -> Option<u64> {
+    dec_of(digits, low, high)
 }
 
 #[test]
@@ -23,8 +34,13 @@ fn decimals(rt: HostRuntime) -> Result<(), Fail> {
     ];
     for (n, digits) in table {
         assert!(rt; printed(&rt, n)?.is(digits), "digits of {n}");
-        assert_eq!(rt; int_of(digits), Some(n));
+        assert_eq!(rt; read(digits), Some(n));
     }
+    Ok(())
+}
+
+#[test]
+fn digits_of_no_number(rt: HostRuntime) {
     for digits in [
         &b""[..],
         b"-",
@@ -38,15 +54,20 @@ fn decimals(rt: HostRuntime) -> Result<(), Fail> {
         b"9223372036854775808",
         b"-9223372036854775809",
     ] {
-        assert_eq!(rt; int_of(digits), None);
+        assert_eq!(rt; read(digits), None);
     }
-    assert_eq!(rt;
-        dec_of(b"18446744073709551615", 0, u64::MAX),
-        Some(u64::MAX)
-    );
-    assert_eq!(rt; dec_of(b"18446744073709551616", 0, u64::MAX), None);
-    assert_eq!(rt; dec_of(b"1000", 1, 1000), Some(1000));
-    assert_eq!(rt; dec_of(b"1001", 1, 1000), None);
-    assert_eq!(rt; dec_of(b"0", 1, 1000), None);
-    Ok(())
+}
+
+#[test]
+fn decimals_within_bounds(rt: HostRuntime) {
+    let table = [
+        (&b"18446744073709551615"[..], 0, u64::MAX, Some(u64::MAX)),
+        (b"18446744073709551616", 0, u64::MAX, None),
+        (b"1000", 1, 1000, Some(1000)),
+        (b"1001", 1, 1000, None),
+        (b"0", 1, 1000, None),
+    ];
+    for (digits, low, high, expected) in table {
+        assert_eq!(rt; read_within(digits, low, high), expected);
+    }
 }

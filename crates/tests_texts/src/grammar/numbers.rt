@@ -8,24 +8,33 @@ use do_grammar::{
     CodeFault, ReadFault, num_beside_of, num_of, push_num, push_signed, push_text, signed_of,
     text_of,
 };
+use std::alloc::AllocError;
 use std::test::Fail;
 
-/// The number that begins the bytes, with how many bytes are left behind it.
-fn number(bytes: &[u8]) -> Option<(u64, usize)> {
-    match num_of(bytes, 0, u64::MAX) {
-        Ok((n, rest)) => Some((n, rest.len())),
-        Err(_) => None,
+/// Where reading stopped: the place of the bad byte, or the length where the bytes end too early.
+fn place(fault: ReadFault, len: usize) -> Option<usize> {
+    match fault {
+        ReadFault::Bad(left) if left <= len => Some(len - left),
+        ReadFault::Short => Some(len),
+        _ => None,
     }
 }
 
-/// Where reading a number between two bounds has to stop.
-fn stop(bytes: &[u8], low: u64, high: u64) -> Option<usize>
+/// The number between bounds that begins the bytes, with how many bytes are left behind it.
+fn number(bytes: &[u8], low: u64, high: u64) -> Result<(u64, usize), Option<usize>>
     requires { low ≤ high }
 {
     match num_of(bytes, low, high) {
-        Err(ReadFault::Bad(left)) if left <= bytes.len() => Some(bytes.len() - left),
-        _ => None,
+        Ok((n, rest)) => Ok((n, rest.len())),
+        Err(fault) => Err(place(fault, bytes.len())),
     }
+}
+
+/// A number as its bytes.
+fn number_bytes(rt: &HostRuntime, n: u64) -> Result<Text, AllocError> {
+    let mut out = Text::new(rt.alloc());
+    push_num(&mut out, n)?;
+    Ok(out)
 }
 
 #[test]
@@ -39,28 +48,46 @@ fn numbers(rt: HostRuntime) -> Result<(), Fail> {
         (u64::MAX, b"\x08\xff\xff\xff\xff\xff\xff\xff\xff"),
     ];
     for (n, bytes) in table {
-        let mut out = Text::new(rt.alloc());
-        push_num(&mut out, n)?;
-        assert!(rt; out.is(bytes), "spelling of {n}");
-        assert_eq!(rt; number(bytes), Some((n, 0)));
+        assert!(rt; number_bytes(&rt, n)?.is(bytes), "spelling of {n}");
+        assert_eq!(rt; number(bytes, 0, u64::MAX), Ok((n, 0)));
     }
-    assert_eq!(rt; number(b"\x01\x05\x07"), Some((5, 1)));
-    for (place, bytes) in [
-        (1, &b"\x01\x00"[..]),
-        (0, b"\x09\x01"),
-        (1, b"\x02\x00\x05"),
-    ] {
-        assert_eq!(rt; stop(bytes, 0, u64::MAX), Some(place));
-    }
-    for (place, bytes) in [(0, &b"\x00"[..]), (1, b"\x01\x05"), (0, b"\x02\x01")] {
-        assert_eq!(rt; stop(bytes, 1, 4), Some(place));
-    }
-    assert!(rt; matches!(num_of(b"\x02\x01", 0, 300), Err(ReadFault::Short)));
+    assert_eq!(rt; number(b"\x01\x05\x07", 0, u64::MAX), Ok((5, 1)));
     Ok(())
 }
 
 #[test]
-fn signed_numbers_and_texts(rt: HostRuntime) -> Result<(), Fail> {
+fn bytes_of_no_number(rt: HostRuntime) {
+    let table = [
+        (1, &b"\x01\x00"[..]),
+        (0, b"\x09\x01"),
+        (1, b"\x02\x00\x05"),
+    ];
+    for (place, bytes) in table {
+        assert_eq!(rt; number(bytes, 0, u64::MAX), Err(Some(place)));
+    }
+    for (place, bytes) in [(0, &b"\x00"[..]), (1, b"\x01\x05"), (0, b"\x02\x01")] {
+        assert_eq!(rt; number(bytes, 1, 4), Err(Some(place)));
+    }
+    assert_eq!(rt; number(b"\x02\x01", 0, 300), Err(Some(2)));
+}
+
+/// The signed number that begins the bytes, with how many bytes are left behind it.
+fn signed(bytes: &[u8]) -> Option<(i64, usize)> {
+    match signed_of(bytes) {
+        Ok((n, rest)) => Some((n, rest.len())),
+        Err(_) => None,
+    }
+}
+
+/// A signed number as its bytes.
+fn signed_bytes(rt: &HostRuntime, n: i64) -> Result<Text, AllocError> {
+    let mut out = Text::new(rt.alloc());
+    push_signed(&mut out, n)?;
+    Ok(out)
+}
+
+#[test]
+fn signed_numbers(rt: HostRuntime) -> Result<(), Fail> {
     let table = [
         (0, &b"\x00"[..]),
         (-1, b"\x01\x01"),
@@ -69,59 +96,59 @@ fn signed_numbers_and_texts(rt: HostRuntime) -> Result<(), Fail> {
         (i64::MIN, b"\x08\xff\xff\xff\xff\xff\xff\xff\xff"),
     ];
     for (n, bytes) in table {
-        let mut out = Text::new(rt.alloc());
-        push_signed(&mut out, n)?;
-        assert!(rt; out.is(bytes), "spelling of {n}");
-        assert!(rt; matches!(signed_of(bytes), Ok((m, [])) if m == n));
+        assert!(rt; signed_bytes(&rt, n)?.is(bytes), "spelling of {n}");
+        assert_eq!(rt; signed(bytes), Some((n, 0)));
     }
-    let mut out = Text::new(rt.alloc());
-    push_text(&mut out, b"hi")?;
-    assert!(rt; out.is(b"\x01\x02hi"));
-    let (text, rest) = text_of(rt.alloc(), b"\x01\x02hi!", 2).ok().ok_or("a text")?;
-    assert!(rt; text.is(b"hi"));
-    assert_eq!(rt; rest.len(), 1);
-    assert!(rt;
-        matches!(
-            text_of(rt.alloc(), b"\x01\x03abc", 2),
-            Err(ReadFault::Bad(4))
-        )
-    );
-    assert!(rt; matches!(text_of(rt.alloc(), b"\x01\x02h", 2), Err(ReadFault::Short)));
     Ok(())
 }
 
-/// Where reading a number up to 257, beside some, has to stop.
-fn stop_beside(bytes: &[u8], holes: &[u64]) -> Option<usize>
+/// Whether the bytes begin with this text, with how many bytes are left behind it.
+fn text(rt: &HostRuntime, bytes: &[u8], expected: &[u8]) -> Result<(bool, usize), Option<usize>> {
+    match text_of(rt.alloc(), bytes, 2) {
+        Ok((text, rest)) => Ok((text.is(expected), rest.len())),
+        Err(fault) => Err(place(fault, bytes.len())),
+    }
+}
+
+#[test]
+fn texts(rt: HostRuntime) -> Result<(), Fail> {
+    let mut out = Text::new(rt.alloc());
+    push_text(&mut out, b"hi")?;
+    assert!(rt; out.is(b"\x01\x02hi"));
+    assert_eq!(rt; text(&rt, b"\x01\x02hi!", b"hi"), Ok((true, 1)));
+    assert_eq!(rt; text(&rt, b"\x01\x03abc", b""), Err(Some(1)));
+    assert_eq!(rt; text(&rt, b"\x01\x02h", b""), Err(Some(3)));
+    Ok(())
+}
+
+/// The number up to 257, beside some, that begins the bytes, with how many bytes are left.
+fn number_beside(bytes: &[u8], holes: &[u64]) -> Result<(u64, usize), Option<usize>>
     requires { next_beside holes.now 0 ≤ 257 }
 {
     match num_beside_of(bytes, 0, 257, holes) {
-        Err(ReadFault::Bad(left)) if left <= bytes.len() => Some(bytes.len() - left),
-        _ => None,
+        Ok((n, rest)) => Ok((n, rest.len())),
+        Err(fault) => Err(place(fault, bytes.len())),
     }
 }
 
 #[test]
 fn numbers_beside_holes(rt: HostRuntime) {
-    assert_eq!(rt; stop_beside(b"\x01\x05", &[5]), Some(1));
-    assert_eq!(rt; stop_beside(b"\x01\x06", &[5]), None);
-    assert_eq!(rt; stop_beside(b"\x02\x01\x00", &[256]), Some(2));
-    assert_eq!(rt; stop_beside(b"\x02\x01\x01", &[256]), None);
-    assert_eq!(rt; stop_beside(b"\x02\x01\x01", &[256, 257]), Some(0));
-    assert!(rt; matches!(num_beside_of(b"\x01\x06\x09", 0, 257, &[5]), Ok((6, [9]))));
-    assert!(rt;
-        matches!(
-            num_beside_of(b"\x02\x01", 0, 257, &[256]),
-            Err(ReadFault::Short)
-        )
-    );
+    assert_eq!(rt; number_beside(b"\x01\x05", &[5]), Err(Some(1)));
+    assert_eq!(rt; number_beside(b"\x01\x06", &[5]), Ok((6, 0)));
+    assert_eq!(rt; number_beside(b"\x02\x01\x00", &[256]), Err(Some(2)));
+    assert_eq!(rt; number_beside(b"\x02\x01\x01", &[256]), Ok((257, 0)));
+    assert_eq!(rt; number_beside(b"\x02\x01\x01", &[256, 257]), Err(Some(0)));
+    assert_eq!(rt; number_beside(b"\x01\x06\x09", &[5]), Ok((6, 1)));
+    assert_eq!(rt; number_beside(b"\x02\x01", &[256]), Err(Some(2)));
 }
 
 #[test]
 fn faults_as_text(rt: HostRuntime) -> Result<(), Fail> {
-    let text = format!(in rt.alloc(); "{}, {}", CodeFault::Bad(3), ReadFault::Short)?;
-    assert_eq!(rt;
-        text.as_str(),
-        "no spelling goes on with the byte at 3, the bytes end too early"
-    );
+    let bad = CodeFault::Bad(3);
+    let shown = format!(in rt.alloc(); "{bad}")?;
+    assert!(rt; shown.as_str() == "no spelling goes on with the byte at 3");
+    let short = ReadFault::Short;
+    let shown = format!(in rt.alloc(); "{short}")?;
+    assert!(rt; shown.as_str() == "the bytes end too early");
     Ok(())
 }

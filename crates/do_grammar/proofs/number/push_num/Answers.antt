@@ -1,4 +1,4 @@
-use Rattle.do_grammar.proofs.texts.NumExact.{size_sized}
+use Rattle.do_grammar.proofs.texts.SizeExact.{size_sized}
 use Rattle.do_grammar.proofs.number.push_num.Goals as goal
 
 pub push_digits-requires-clause-fits : goal.push_digits-requires-clause-fits

@@ -24,7 +24,8 @@ returns-clause-code c =
     rw c.new.ensures (record {
       instructions =
           subst
-          (λ (s : Scope). IsCode s (program c.args.text.now) c.in_ok-instructions.instructions.items)
+          (λ (s : Scope).
+          IsCode s (program c.args.text.now) c.in_ok-instructions.instructions.items)
           same c.in_ok-instructions.ensures.code;
       slots_given = search rules;
       classes_given = search rules;

@@ -23,7 +23,6 @@ perform-requires c =
     let below : inv.pc < length code.instructions =
     found_below code.instructions inv.pc i (sym get.value) in
     record {
-      all = parts.0;
       within =
           within-weaker code.slots code.classes (length code.instructions) (length slots) 256 4096
           parts.1 (omega (arith, parts.2, c.is_ready.ensures.few)) get.short i get.within;

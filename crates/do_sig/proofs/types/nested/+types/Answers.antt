@@ -2,7 +2,7 @@ use Rattle.std.proofs.Common.{arith}
 use Rattle.std.proofs.lemmas.Result.{err_from_is_err_and}
 use Rattle.do_grammar.specs.Reader.{until}
 use Rattle.do_grammar.proofs.faults.AnswerExact.{bytes_from_each, rest_small}
-use Rattle.do_grammar.proofs.reads.UntilExact.{short_turn, end_turn, value_turn, reads_less}
+use Rattle.do_grammar.proofs.loops.UntilLoop.{short_turn, end_turn, value_turn, reads_less}
 use Rattle.do_sig.specs.reading.Types.{type_at}
 use Rattle.do_sig.proofs.TypeBySteps.{ByStep}
 use Rattle.do_grammar.proofs.loops.TimesLoop.{front_none}

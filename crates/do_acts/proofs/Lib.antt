@@ -1,0 +1,3 @@
+pub mod SmallParts
+pub mod ChangesEnd
+pub mod MethodMissing

@@ -1,0 +1,6 @@
+pub mod Limited
+pub mod Rows
+pub mod Steps
+pub mod Places
+pub mod Faults
+pub mod laws

@@ -1,0 +1,84 @@
+-- A value is what was read from it, and what it is made of is read from it.
+use Rattle.std.proofs.Common.{◌≡◌, ◌∙◌, ℕ, ℤ, List as Listed, Some, None, sym, ap, rules}
+use Rattle.do_base.specs.names.Names.{ObjectName}
+use Rattle.do_base.specs.values.Induction.{value_induction}
+use Rattle.do_base.specs.values.Kinds.{text, number, object, items}
+use Rattle.do_base.specs.declared.values.value.Value.{Value, List, the_lemmas}
+use Rattle.do_base.specs.declared.values.value.Value.TheVariants.{Nil, Num, Text, Obj}
+use Rattle.do_behave.specs.laws.ValueKinds.{by_text, by_items}
+
+-- what two answers hold that are the same is the same
+pub some_same : {A : Type 0} {x y : A} → Some x ≡ Some y → x ≡ y
+some_same e = cc
+
+-- the bytes of a text are read from it
+pub text_of_Text : (s : Listed ℕ) → text (Text s) ≡ Some s
+text_of_Text s = search (rules, the_lemmas)
+
+-- a number is read from itself
+pub number_of_Num : (z : ℤ) → number (Num z) ≡ Some z
+number_of_Num z = search (rules, the_lemmas)
+
+-- an object is read from itself
+pub object_of_Obj : (o : ObjectName) → object (Obj o) ≡ Some o
+object_of_Obj o = search (rules, the_lemmas)
+
+-- the items of a list are read from it
+pub items_of_List : (vs : Listed Value) → items (List vs) ≡ Some vs
+items_of_List vs = search (rules, the_lemmas)
+
+-- a value whose text is read is that text
+pub text_read : (v : Value) (s : Listed ℕ) → text v ≡ Some s → Text s ≡ v
+text_read =
+    by_text (λ o v. (s : Listed ℕ) → o ≡ Some s → Text s ≡ v) (λ v s e. cc)
+    (λ t s e. ap Text (sym (some_same e)))
+
+-- a value whose items are read is their list
+pub items_read : (v : Value) (vs : Listed Value) → items v ≡ Some vs → List vs ≡ v
+items_read =
+    by_items (λ o v. (vs : Listed Value) → o ≡ Some vs → List vs ≡ v) (λ v vs e. cc)
+    (λ ws vs e. ap List (sym (some_same e)))
+
+no_number_of_Nil : number Nil ≡ None
+no_number_of_Nil = search (rules, the_lemmas)
+
+no_number_of_Text : (s : Listed ℕ) → number (Text s) ≡ None
+no_number_of_Text s = search (rules, the_lemmas)
+
+no_number_of_Obj : (o : ObjectName) → number (Obj o) ≡ None
+no_number_of_Obj o = search (rules, the_lemmas)
+
+no_number_of_List : (vs : Listed Value) → number (List vs) ≡ None
+no_number_of_List vs = search (rules, the_lemmas)
+
+-- a value whose number is read is that number
+pub number_read : (v : Value) (z : ℤ) → number v ≡ Some z → Num z ≡ v
+number_read =
+    value_induction (λ v. (z : ℤ) → number v ≡ Some z → Num z ≡ v)
+    (λ z e. cc (e, no_number_of_Nil))
+    (λ y z e. ap Num (sym (some_same (sym (number_of_Num y) ∙ e))))
+    (λ s z e. cc (e, no_number_of_Text s))
+    (λ o z e. cc (e, no_number_of_Obj o))
+    (λ vs _ z e. cc (e, no_number_of_List vs))
+
+no_object_of_Nil : object Nil ≡ None
+no_object_of_Nil = search (rules, the_lemmas)
+
+no_object_of_Num : (z : ℤ) → object (Num z) ≡ None
+no_object_of_Num z = search (rules, the_lemmas)
+
+no_object_of_Text : (s : Listed ℕ) → object (Text s) ≡ None
+no_object_of_Text s = search (rules, the_lemmas)
+
+no_object_of_List : (vs : Listed Value) → object (List vs) ≡ None
+no_object_of_List vs = search (rules, the_lemmas)
+
+-- a value whose object is read is that object
+pub object_read : (v : Value) (o : ObjectName) → object v ≡ Some o → Obj o ≡ v
+object_read =
+    value_induction (λ v. (o : ObjectName) → object v ≡ Some o → Obj o ≡ v)
+    (λ o e. cc (e, no_object_of_Nil))
+    (λ z o e. cc (e, no_object_of_Num z))
+    (λ s o e. cc (e, no_object_of_Text s))
+    (λ p o e. ap Obj (sym (some_same (sym (object_of_Obj p) ∙ e))))
+    (λ vs _ o e. cc (e, no_object_of_List vs))

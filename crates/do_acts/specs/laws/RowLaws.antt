@@ -1,0 +1,84 @@
+-- What a list in a slot is read as, and shown as again.
+use Rattle.std.proofs.Common.{◌≡◌, ℕ, ℤ, List as Listed, [], ◌∷◌, Option, Some, None, map, refl}
+use Rattle.std.proofs.Common.{sym, ◌∙◌, ap, rules}
+use Rattle.std.specs.List.{All}
+use Rattle.std.specs.Option.{option_map}
+use Rattle.std.proofs.lemmas.List.Elements.{All-head, All-tail}
+use Rattle.do_base.specs.names.Names.{ObjectName}
+use Rattle.do_base.specs.values.Induction.{value_induction}
+use Rattle.do_base.specs.declared.values.value.Value.{Value, List, the_lemmas}
+use Rattle.do_base.specs.declared.values.value.Value.TheVariants.{Nil, Num, Text, Obj}
+use Rattle.do_acts.specs.Rows.{with_first, read_all, rows_in, listed}
+use Rattle.do_acts.specs.laws.KindLaws.{some_same}
+
+rows_of_Nil : {A : Type 0} (read : Value → Option A) → rows_in read Nil ≡ Some []
+rows_of_Nil read = search (rules, the_lemmas)
+
+rows_of_Num : {A : Type 0} (read : Value → Option A) (z : ℤ) → rows_in read (Num z) ≡ None
+rows_of_Num read z = search (rules, the_lemmas)
+
+rows_of_Text : {A : Type 0} (read : Value → Option A) (s : Listed ℕ) → rows_in read (Text s) ≡ None
+rows_of_Text read s = search (rules, the_lemmas)
+
+rows_of_Obj : {A : Type 0} (read : Value → Option A) (o : ObjectName) → rows_in read (Obj o) ≡ None
+rows_of_Obj read o = search (rules, the_lemmas)
+
+rows_of_none : {A : Type 0} (read : Value → Option A) → rows_in read (List []) ≡ None
+rows_of_none read = search (rules, the_lemmas)
+
+rows_of_List : {A : Type 0} (read : Value → Option A) (v : Value) (vs : Listed Value)
+    → rows_in read (List (v ∷ vs)) ≡ read_all read (v ∷ vs)
+rows_of_List read v vs = search (rules, the_lemmas)
+
+module _ {A : Type 0} (read : Value → Option A) (shown : A → Value) where
+  all_shown : (xs : Listed A) → All (λ x. read (shown x) ≡ Some x) xs
+      → read_all read (map shown xs) ≡ Some xs
+  all_shown [] all = refl
+  all_shown (x ∷ xs) all =
+      ap (λ o. with_first o (read_all read (map shown xs)))
+      (All-head (λ (y : A). read (shown y) ≡ Some y) x xs all)
+      ∙ ap (λ o. option_map (λ ys. x ∷ ys) o)
+      (all_shown xs (All-tail (λ (y : A). read (shown y) ≡ Some y) x xs all))
+
+  -- a list of rows is read as it was shown
+  pub read_shown : (xs : Listed A) → All (λ x. read (shown x) ≡ Some x) xs
+      → rows_in read (listed (map shown xs)) ≡ Some xs
+  read_shown [] all = rows_of_Nil read
+  read_shown (x ∷ xs) all =
+      rows_of_List read (shown x) (map shown xs) ∙ all_shown (x ∷ xs) all
+
+  -- each row is shown as it was read
+  abbrev IsExact : Type 0
+  IsExact = (v : Value) (x : A) → read v ≡ Some x → shown x ≡ v
+
+  first_and_rest : (o : Option A) (p : Option (Listed A)) (xs : Listed A)
+      → with_first o p ≡ Some xs
+      → (x : A) × (ys : Listed A) × (o ≡ Some x) × (p ≡ Some ys) × (xs ≡ x ∷ ys)
+  first_and_rest None p xs e = cc
+  first_and_rest (Some x) None xs e = cc
+  first_and_rest (Some x) (Some ys) xs e = (x, ys, refl, refl, sym (some_same e))
+
+  all_read : IsExact → (vs : Listed Value) (xs : Listed A) → read_all read vs ≡ Some xs
+      → map shown xs ≡ vs
+  all_read exact [] xs e = ap (map shown) (sym (some_same e))
+  all_read exact (v ∷ vs) xs e =
+      let parts = first_and_rest (read v) (read_all read vs) xs e in
+      ap (map shown) parts.4 ∙ ap (λ w. w ∷ map shown parts.1) (exact v parts.0 parts.2)
+      ∙ ap (λ ws. v ∷ ws) (all_read exact vs parts.1 parts.3)
+
+  list_read : IsExact → (vs : Listed Value) (xs : Listed A) → rows_in read (List vs) ≡ Some xs
+      → listed (map shown xs) ≡ List vs
+  list_read exact [] xs e = cc (e, rows_of_none read)
+  list_read exact (v ∷ vs) xs e =
+      ap listed (all_read exact (v ∷ vs) xs (sym (rows_of_List read v vs) ∙ e))
+
+  -- and shown as it was read, where each row is
+  pub shown_read : IsExact → (v : Value) (xs : Listed A) → rows_in read v ≡ Some xs
+      → listed (map shown xs) ≡ v
+  shown_read exact =
+      value_induction (λ v. (xs : Listed A) → rows_in read v ≡ Some xs → listed (map shown xs) ≡ v)
+      (λ xs e. ap (λ ys. listed (map shown ys)) (sym (some_same (sym (rows_of_Nil read) ∙ e))))
+      (λ z xs e. cc (e, rows_of_Num read z))
+      (λ s xs e. cc (e, rows_of_Text read s))
+      (λ o xs e. cc (e, rows_of_Obj read o))
+      (λ vs _. list_read exact vs)

@@ -1,0 +1,4 @@
+pub mod RuleFound
+pub mod FirstLocals
+pub mod GuardGood
+pub mod CheckLaws

@@ -1,0 +1,4 @@
+pub mod tables
+pub mod names
+pub mod values
+pub mod packets

@@ -1,0 +1,2 @@
+pub mod NewName
+pub mod NamesExact

@@ -1,0 +1,2 @@
+pub mod PacketsExact
+pub mod PacketRead

@@ -1,0 +1,4 @@
+pub mod PartFacts
+pub mod PartsExact
+pub mod Items
+pub mod Slots

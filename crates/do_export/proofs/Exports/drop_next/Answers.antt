@@ -1,0 +1,21 @@
+use Rattle.std.proofs.Common.{arith, refl}
+use Rattle.do_export.proofs.Order.{without_is, lowest_is}
+use Rattle.do_export.proofs.Exports.drop_next.Goals as goal
+
+pub returns-in_default-clause-which : goal.returns-in_default-clause-which
+returns-in_default-clause-which c =
+    rw (← c.self.view_is) (
+      λ s. (rw (← c.self.view_is) at c.in_default.ensures) s (omega arith),
+      refl,
+    )
+
+pub invariant_of-self : goal.invariant_of-self
+invariant_of-self c =
+    (without_is _ _ c.self.invariant _ _ _ c.port.ensures.value c.remove.ensures.after).0
+
+pub returns-clause-which : goal.returns-clause-which
+returns-clause-which c =
+    rw (← c.self.view_is) (
+      lowest_is _ _ _ (rw (← c.self.view_is) at c.in-Some.ensures),
+      (without_is _ _ c.self.invariant _ _ _ c.port.ensures.value c.remove.ensures.after).1,
+    )

@@ -1,0 +1,3 @@
+pub mod selectors
+pub mod payloads
+pub mod streams

@@ -1,0 +1,3 @@
+pub mod SelectorBytes
+pub mod SelectorExact
+pub mod SelectorSteps

@@ -1,0 +1,2 @@
+pub mod FrontExact
+pub mod FrontPlaces

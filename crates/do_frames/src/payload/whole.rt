@@ -1,0 +1,87 @@
+//! The payload of each kind, and the frame that a whole payload of it spells.
+ghost use Rattle.std.specs.Prelude.{◌≡◌, ◌≤◌, ◌<◌, ◌^◌, IfOk, OnErr};
+ghost use Rattle.do_grammar.specs.Reader.{no_kind, whole_of as whole_reader};
+ghost use Rattle.do_grammar.specs.RestAnswers.{Gives};
+ghost use Rattle.do_coder.specs.Packets.{surroundings};
+ghost use Rattle.do_frames.specs.Frames.{after_frame};
+ghost use Rattle.do_frames.specs.Payloads.{payload_at};
+
+use crate::frame::Frame;
+use crate::kind::Kind;
+use crate::payload::packets::{call_of, oneway_of, reply_of, root_answer_of};
+use crate::payload::plain::{
+    gone_of, granted_of, raised_of, release_of, retain_of, root_ask_of, settle_of,
+};
+use do_base::NodeId;
+use do_class::ClassTable;
+use do_coder::{NameLog, Recent};
+use do_grammar::ReadFault;
+use std::alloc::Global;
+
+/// The frame of a kind whose payload begins the bytes, and the bytes behind it. The table is then
+/// the one after the frame.
+#[tactic(auto, using(crate::proofs::payloads::TableStays::table_stays))]
+fn payload_of<'a>(
+    alloc: Global,
+    kind: Kind,
+    bytes: &'a [u8],
+    table: &ClassTable,
+    from: NodeId,
+    to: NodeId,
+    recent: &mut NameLog,
+) -> Result<(Frame, &'a [u8]), ReadFault>
+    ensures gives { Gives (λ x. (x.0, x.1.now)) result
+        (payload_at (surroundings table.now from to) recent.old.now kind bytes.now) }
+    ensures after { IfOk result (λ x. recent.new
+        ≡ record { now = after_frame recent.old.now x.0; kept = recent.old.kept }) }
+    ensures err { OnErr result (recent.new.kept ≡ recent.old.kept) }
+{
+    match kind {
+        Kind::Call => call_of(alloc, bytes, table, from, to, recent),
+        Kind::Oneway => oneway_of(alloc, bytes, table, from, to, recent),
+        Kind::Reply => reply_of(alloc, bytes, table, from, to, recent),
+        Kind::Raised => raised_of(alloc, bytes),
+        Kind::RootAsk => root_ask_of(bytes),
+        Kind::RootAnswer => root_answer_of(alloc, bytes, table, from, to, recent),
+        Kind::Retain => retain_of(bytes),
+        Kind::Granted => granted_of(bytes),
+        Kind::Gone => gone_of(bytes),
+        Kind::Release => release_of(bytes),
+        Kind::Settle => settle_of(bytes),
+        Kind::Shutdown => Ok((Frame::Shutdown, bytes)),
+    }
+}
+
+/// The frame of a kind that the whole payload spells. The table is then the one after the frame;
+/// any refusal leaves it as it was.
+pub fn whole_of(
+    alloc: Global,
+    kind: Kind,
+    bytes: &[u8],
+    table: &ClassTable,
+    from: NodeId,
+    to: NodeId,
+    recent: &mut Recent,
+) -> Result<Frame, ReadFault>
+    ensures gives { Gives (λ f. f) result (whole_reader no_kind
+        (payload_at (surroundings table.now from to) recent.old kind) bytes.now) }
+    ensures after { IfOk result (λ f. recent.new ≡ after_frame recent.old f) }
+    ensures err { OnErr result (recent.new ≡ recent.old) }
+{
+    let mut log = recent.take_log();
+    match payload_of(alloc, kind, bytes, table, from, to, &mut log) {
+        Ok((frame, rest)) => {
+            if rest.is_empty() {
+                recent.keep(log);
+                Ok(frame)
+            } else {
+                recent.undo(log);
+                Err(ReadFault::Bad(rest.len()))
+            }
+        }
+        Err(e) => {
+            recent.undo(log);
+            Err(e)
+        }
+    }
+}

@@ -1,0 +1,3 @@
+//! Frames on a stream that comes in pieces.
+pub mod front;
+pub mod reader;

@@ -1,0 +1,5 @@
+mod AskRows
+mod Rooms
+mod Threads
+mod KeptClasses
+mod LendsOff

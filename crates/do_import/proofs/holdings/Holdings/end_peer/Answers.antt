@@ -1,0 +1,29 @@
+use Rattle.std.proofs.Common.{◌==◌, not, rules, arith, sym, subst, ap}
+use Rattle.std.proofs.lemmas.Fn.{filter_same}
+use Rattle.std.specs.FinMap as map
+use Rattle.do_import.specs.Held.{IsThread}
+use Rattle.do_import.proofs.Threads.{ended_threaded}
+use Rattle.do_import.proofs.Rooms.{len_others, min_keeps}
+use Rattle.do_import.proofs.holdings.Holdings.end_peer.Goals as goal
+
+pub invariant_of-self : goal.invariant_of-self
+invariant_of-self c =
+    let rows = filter_same _ (λ row. not (row.0.0 == c.args.home)) _
+    (λ x b f called. search rules) _ _ c.retain.ensures.filtered in
+    let fewer = len_others c.self.inside.received.counts c.args.home in
+    let is = ap map.len c.end_peer.ensures.counts in
+    record {
+      threads = subst (λ m. IsThread m c.self.inside.uses.counts c.retain.new.self.rows)
+          (sym c.end_peer.ensures.counts)
+          (ended_threaded _ _ c.self.inside.thread.rows _ c.args.home c.self.invariant.threads
+          rows);
+      room = omega (arith, c.self.invariant.room, c.retain.ensures.capacity, fewer, is);
+    }
+
+pub returns-clause-spare : goal.returns-clause-spare
+returns-clause-spare c =
+    let fewer = len_others c.self.inside.received.counts c.args.home in
+    let is = ap map.len c.end_peer.ensures.counts in
+    rw (← c.self.view_is)
+    (min_keeps _ _ _ _ _ _ c.end_peer.ensures.spare (omega arith)
+    (omega (arith, c.retain.ensures.capacity, fewer, is)))

@@ -1,0 +1,35 @@
+use Rattle.std.proofs.Common.{sym, ap, subst, arith, inr}
+use Rattle.std.specs.FinMap as map
+use Rattle.do_import.specs.Held.{IsThread}
+use Rattle.do_import.proofs.Threads.{got_kept}
+use Rattle.do_import.proofs.Rooms.{not_longer, len_named, room_of, one_off, min_falls}
+use Rattle.do_import.proofs.holdings.Holdings.got.Goals as goal
+
+pub thread_unless-requires : goal.thread_unless-requires
+thread_unless-requires c =
+    let old = c.self.invariant in
+    let room = room_of _ _ _ _ (rw (← c.self.view_is) at c.requires.room) in
+    record { room = inr (omega (arith, room, not_longer _ _ _ old.threads)) }
+
+pub invariant_of-self : goal.invariant_of-self
+invariant_of-self c =
+    let old = c.self.invariant in
+    let room = room_of _ _ _ _ (rw (← c.self.view_is) at c.requires.room) in
+    let kept = rw (← c.self.view_is) at c.is_kept-kept.ensures in
+    let more = len_named c.self.inside.received.counts c.oid.inside.node c.oid.inside.serial in
+    let is = ap map.len c.name.ensures.counts in
+    record {
+      threads = subst (λ m. IsThread m c.self.inside.uses.counts c.thread_unless.new.thread.rows)
+          (sym c.name.ensures.counts)
+          (got_kept _ _ c.self.inside.thread.rows old.threads _ _ c.is_kept-kept.result _ kept
+          c.thread_unless.ensures.rows);
+      room = omega (arith, room, more, is, c.thread_unless.ensures.capacity);
+    }
+
+pub returns-clause-spare : goal.returns-clause-spare
+returns-clause-spare c =
+    let more = len_named c.self.inside.received.counts c.oid.inside.node c.oid.inside.serial in
+    let is = ap map.len c.name.ensures.counts in
+    rw (← c.self.view_is)
+    (min_falls _ _ _ _ _ _ (one_off _ _ _ c.name.ensures.spare) (omega arith)
+    (omega (arith, more, is, c.thread_unless.ensures.capacity)))

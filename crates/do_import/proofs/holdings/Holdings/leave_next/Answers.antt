@@ -1,0 +1,28 @@
+use Rattle.std.proofs.Common.{sym, ap, subst, arith}
+use Rattle.std.specs.FinMap as map
+use Rattle.do_import.specs.Held.{IsThread}
+use Rattle.do_import.proofs.Threads.{leave_threaded}
+use Rattle.do_import.proofs.Rooms.{len_removed, min_keeps}
+use Rattle.do_import.proofs.holdings.Holdings.leave_next.Goals as goal
+
+pub invariant_of-self : goal.invariant_of-self
+invariant_of-self c =
+    let fewer = len_removed c.self.inside.received.counts (c.oid.inside.node, c.oid.inside.serial)
+    in
+    let is = ap map.len c.forget.ensures.counts in
+    record {
+      threads = subst (λ m. IsThread m c.self.inside.uses.counts c.remove.new.self.rows)
+          (sym c.forget.ensures.counts)
+          (leave_threaded _ _ c.self.inside.thread.rows c.self.invariant.threads _ _
+          c.remove.ensures.after);
+      room = omega (arith, c.self.invariant.room, c.remove.ensures.capacity, fewer, is);
+    }
+
+pub returns-clause-spare : goal.returns-clause-spare
+returns-clause-spare c =
+    let fewer = len_removed c.self.inside.received.counts (c.oid.inside.node, c.oid.inside.serial)
+    in
+    let is = ap map.len c.forget.ensures.counts in
+    rw (← c.self.view_is)
+    (min_keeps _ _ _ _ _ _ c.forget.ensures.spare (omega arith)
+    (omega (arith, c.remove.ensures.capacity, fewer, is)))

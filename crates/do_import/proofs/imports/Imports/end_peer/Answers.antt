@@ -1,0 +1,7 @@
+use Rattle.do_import.proofs.KeptClasses.{home_classes}
+use Rattle.do_import.proofs.imports.Imports.end_peer.Goals as goal
+
+pub invariant_of-self : goal.invariant_of-self
+invariant_of-self c =
+    rw (c.end_peer-2.ensures.received, c.take_lends_off.ensures.received, c.end_home.ensures.rows)
+    (home_classes _ _ _ c.self.invariant c.args.peer)

@@ -1,0 +1,11 @@
+use Rattle.do_export.proofs.Order.{put_is}
+use Rattle.do_import.proofs.lends.Lends.lend.Goals as goal
+
+pub invariant_of-self : goal.invariant_of-self
+invariant_of-self c =
+    (put_is _ _ c.self.invariant _ _ _ c.port.ensures.value _ c.put.ensures.after).0
+
+pub returns-clause-lends : goal.returns-clause-lends
+returns-clause-lends c =
+    rw (← c.self.view_is)
+    (put_is _ _ c.self.invariant _ _ _ c.port.ensures.value _ c.put.ensures.after).1

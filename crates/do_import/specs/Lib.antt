@@ -1,0 +1,5 @@
+pub mod Held
+pub mod Lent
+pub mod Asked
+pub mod ByObject
+pub mod Imported

@@ -1,0 +1,229 @@
+//! The foreign objects that a node received and that it uses, and which of them may leave.
+ghost use Rattle.std.specs.Prelude.{◌≡◌, ◌+◌, ◌-◌, ◌<◌, ◌≤◌, ◌^◌, ◌⊎◌, ◌||◌, IsTrue, length, OnOk};
+ghost use Rattle.std.specs.Prelude.{OnErr, MatchOption, if◌then◌else◌};
+ghost use Rattle.std.specs.FinMap as map;
+ghost use Rattle.std.specs.FinMap.{put};
+ghost use Rattle.do_sorted.specs.Rows.{without};
+ghost use Rattle.do_export.specs.Counts.{count_of, raised, lowered, entry_cmp, others_of};
+ghost use Rattle.do_import.specs.Held.{NoneLeaves, IsLowestLeaving};
+ghost use Rattle.do_import.specs.ByObject.{taken_off};
+
+use do_base::{NodeId, Oid};
+use do_export::Exports;
+use do_sorted::Sorted;
+use std::alloc::{AllocError, Global};
+use std::marker::Model;
+
+/// How often each foreign object was received and not given back, and how often it is used.
+///
+/// A use is each reason to keep the object: a slot, an invocation, a lend or an ask. Those that may
+/// leave stand in a thread of their own, so that no call looks at all objects.
+#[derive(Debug, Drop)]
+pub struct Holdings {
+    received: Exports,
+    uses: Exports,
+    thread: Sorted<(NodeId, u64), ()>,
+}
+
+impl Model for Holdings {
+    ghost use Rattle.std.specs.Prelude.{min, ◌+◌, ◌-◌, length};
+    ghost use Rattle.std.specs.FinMap as map;
+    ghost use Rattle.do_import.specs.Held.{Held, held_code, IsRoomy};
+
+    ghost Value = { Held };
+
+    ghost coded = { held_code };
+
+    ghost view = { λ h. record {
+      received = h.received.counts;
+      uses = h.uses.counts;
+      spare = min h.received.spare (min h.uses.spare
+          (length h.thread.rows + h.thread.spare - map.len h.received.counts));
+    } };
+
+    ghost invariant = { λ i. IsRoomy i.received.counts i.uses.counts i.thread.rows i.thread.spare };
+}
+
+/// Threads an object unless it is kept from leaving.
+fn thread_unless(thread: &mut Sorted<(NodeId, u64), ()>, kept: bool, home: NodeId, serial: u64)
+    requires room { IsTrue kept ⊎ (0 < thread.old.spare) }
+    ensures rows { thread.new.rows
+        ≡ (if kept then thread.old.rows else put entry_cmp (home, serial) tt thread.old.rows) }
+    ensures capacity { length thread.new.rows + thread.new.spare
+        ≡ length thread.old.rows + thread.old.spare }
+{
+    if kept {
+        return;
+    }
+    thread.put((home, serial), ());
+}
+
+impl Holdings {
+    /// No object and no room, for which no memory is taken.
+    pub fn new(alloc: Global) -> Holdings
+        ensures received { result.received ≡ map.empty }
+        ensures uses { result.uses ≡ map.empty }
+    {
+        Holdings {
+            received: Exports::new(alloc),
+            uses: Exports::new(alloc),
+            thread: Sorted::new(alloc),
+        }
+    }
+
+    /// Makes room for `more` objects at least.
+    ///
+    /// If memory runs out, the counts are unchanged.
+    pub fn reserve(&mut self, more: u64) -> Result<(), AllocError>
+        ensures received { self.new.received ≡ self.old.received }
+        ensures uses { self.new.uses ≡ self.old.uses }
+        ensures ok { OnOk result (more ≤ self.new.spare) }
+        ensures kept { self.old.spare ≤ self.new.spare }
+    {
+        let Some(threads) = more.checked_add(self.received.len()) else {
+            return Err(AllocError);
+        };
+        self.received.reserve(more)?;
+        self.uses.reserve(more)?;
+        self.thread.reserve(threads as usize)
+    }
+
+    /// How many more objects can be received or used with no memory taken.
+    pub fn spare(&self) -> u64
+        ensures { result ≡ self.now.spare }
+    {
+        let threads = self.thread.capacity() as u64 - self.received.len();
+        self.received.spare().min(self.uses.spare().min(threads))
+    }
+
+    /// Whether an object was received and not given back.
+    pub fn has(&self, oid: Oid) -> bool
+        ensures { result ≡ map.contains_key self.now.received (oid.node, oid.serial) }
+    {
+        self.received.has(oid.node, oid.serial)
+    }
+
+    /// How often an object was received and not given back.
+    pub fn received(&self, oid: Oid) -> u64
+        ensures { result ≡ count_of self.now.received oid.node oid.serial }
+    {
+        self.received.count(oid.node, oid.serial)
+    }
+
+    /// How often an object is used.
+    pub fn uses(&self, oid: Oid) -> u64
+        ensures { result ≡ count_of self.now.uses oid.node oid.serial }
+    {
+        self.uses.count(oid.node, oid.serial)
+    }
+
+    /// Counts an object as received once more, in room that was made before.
+    pub fn got(&mut self, oid: Oid)
+        requires room { 0 < self.old.spare }
+        requires small { count_of self.old.received oid.node oid.serial < 2 ^ 64 - 1 }
+        ensures received { self.new.received ≡ raised self.old.received oid.node oid.serial }
+        ensures uses { self.new.uses ≡ self.old.uses }
+        ensures spare { self.old.spare ≤ self.new.spare + 1 }
+    {
+        let home = oid.node;
+        let serial = oid.serial;
+        let kept = self.is_kept(home, serial);
+        thread_unless(&mut self.thread, kept, home, serial);
+        self.received.name(home, serial);
+    }
+
+    /// Counts one more use of an object, in room that was made before.
+    pub fn refer(&mut self, oid: Oid)
+        requires room { 0 < self.old.spare }
+        requires small { count_of self.old.uses oid.node oid.serial < 2 ^ 64 - 1 }
+        ensures received { self.new.received ≡ self.old.received }
+        ensures uses { self.new.uses ≡ raised self.old.uses oid.node oid.serial }
+        ensures spare { self.old.spare ≤ self.new.spare + 1 }
+    {
+        let home = oid.node;
+        let serial = oid.serial;
+        self.thread.remove(&(home, serial));
+        self.uses.name(home, serial);
+    }
+
+    /// Counts one use of an object less, for which no room is needed.
+    pub fn unrefer(&mut self, oid: Oid)
+        requires { 0 < count_of self.old.uses oid.node oid.serial }
+        ensures received { self.new.received ≡ self.old.received }
+        ensures uses { self.new.uses ≡ lowered self.old.uses oid.node oid.serial 1 }
+        ensures spare { self.old.spare ≤ self.new.spare }
+    {
+        let home = oid.node;
+        let serial = oid.serial;
+        let Ok(left) = self.uses.give_back(home, serial, 1) else {
+            unreachable!();
+        };
+        if left > 0 {
+            return;
+        }
+        let gone = !self.received.has(home, serial);
+        thread_unless(&mut self.thread, gone, home, serial);
+    }
+
+    /// Counts one use of an object less, where it is used.
+    pub fn take_off(&mut self, oid: Oid)
+        ensures received { self.new.received ≡ self.old.received }
+        ensures uses { self.new.uses ≡ taken_off self.old.uses oid }
+        ensures spare { self.old.spare ≤ self.new.spare }
+    {
+        if self.uses(oid) == 0 {
+            return;
+        }
+        self.unrefer(oid);
+    }
+
+    /// Takes out the lowest object that may leave, and tells how often it was received.
+    ///
+    /// None exactly where none may leave. An object may leave that was received and is not used.
+    pub fn leave_next(&mut self) -> Option<(Oid, u64)>
+        ensures which { MatchOption result
+            (NoneLeaves self.old.received self.old.uses × (self.new ≡ self.old))
+            (λ left. IsLowestLeaving self.old.received self.old.uses (left.0.node, left.0.serial)
+            × (left.1 ≡ count_of self.old.received left.0.node left.0.serial)
+            × (self.new.received ≡ map.remove self.old.received (left.0.node, left.0.serial))
+            × (self.new.uses ≡ self.old.uses)) }
+        ensures spare { self.old.spare ≤ self.new.spare }
+    {
+        let Some(oid) = self.lowest() else {
+            return None;
+        };
+        let count = self.received.count(oid.node, oid.serial);
+        self.thread.remove(&(oid.node, oid.serial));
+        self.received.forget(oid.node, oid.serial);
+        Some((oid, count))
+    }
+
+    /// Forgets how often the objects of a peer were received, in one go. Their uses stay.
+    pub fn end_peer(&mut self, home: NodeId)
+        ensures received { self.new.received ≡ others_of self.old.received home }
+        ensures uses { self.new.uses ≡ self.old.uses }
+        ensures spare { self.old.spare ≤ self.new.spare }
+    {
+        self.thread.retain(|row| row.0.0 != home);
+        self.received.end_peer(home);
+    }
+
+    /// Whether an object stays as it is in the thread when it is received.
+    fn is_kept(&self, home: NodeId, serial: u64) -> bool
+        ensures { result ≡ (map.contains_key self.now.uses (home, serial)
+            || map.contains_key self.now.received (home, serial)) }
+    {
+        self.uses.has(home, serial) || self.received.has(home, serial)
+    }
+
+    /// The lowest object that may leave.
+    fn lowest(&self) -> Option<Oid>
+        ensures { MatchOption result (NoneLeaves self.now.received self.now.uses)
+            (λ o. IsLowestLeaving self.now.received self.now.uses (o.node, o.serial)) }
+    {
+        let Some(&((node, serial), _)) = self.thread.first() else {
+            return None;
+        };
+        Some(Oid { node, serial })
+    }
+}

@@ -1,0 +1,211 @@
+-- What the walk over the copies keeps, and what it ends with.
+use Rattle.std.proofs.Common.{◌≡◌, ℕ, zero, suc, ◌+◌, ◌≤◌, ◌<◌, nat_lt, Bool, true, false, List, []}
+use Rattle.std.proofs.Common.{◌∷◌, ◌++◌, map, length, take, sum_by, Some, Ok, Err}
+use Rattle.std.proofs.Common.{refl, sym, ap, ◌∙◌, subst, arith, get_or, add-one, min}
+use Rattle.std.specs.List.{flat_map, zip}
+use Rattle.std.proofs.lemmas.Grind.{common_steps}
+use Rattle.std.proofs.lemmas.List.Folds.{fold-map}
+use Rattle.std.proofs.lemmas.Slice.Zip.{length-zip, seconds-zip}
+use Rattle.do_base.specs.names.Names.{ObjectName}
+use Rattle.do_base.specs.values.Values.{weight_of}
+use Rattle.do_base.specs.declared.values.value.Value.{Value}
+use Rattle.do_class.specs.Table.{slots_of}
+use Rattle.do_class.specs.declared.ids.ClassId.{ClassId}
+use Rattle.do_class.specs.declared.ids.Slot.{Slot}
+use Rattle.do_class.specs.declared.packet.Part.{Part}
+use Rattle.do_class.specs.declared.packet.Copied.{Copied}
+use Rattle.do_class.specs.declared.packet.Packet.{Packet}
+use Rattle.do_class.specs.declared.packet.Name.{Name}
+use Rattle.do_packet.specs.Copies.{Placed, copied_at, copies_of, most_copies, named_at, names_with}
+use Rattle.do_packet.specs.Copies.{slot_values, slots_at}
+use Rattle.do_packet.specs.Met.{met}
+use Rattle.do_packet.specs.Packing.{class_at, copied_of, message_weight, most_weight, names_to}
+use Rattle.do_packet.specs.Packing.{packed, packed_with, packet_with, part_at}
+use Rattle.do_packet.specs.Seen.{Sender}
+use Rattle.do_packet.specs.walk.Following.{Followed}
+use Rattle.do_packet.specs.walk.Walking.{IsPrefix, Walked}
+use Rattle.do_packet.specs.declared.packing.walk.Walk.{Walk}
+use Rattle.do_packet.specs.declared.fault.PackFault.TheVariants.{TooLarge}
+use Rattle.do_packet.proofs.Prefixes.{front_of, prefix_met, prefix_refl, prefix_trans}
+use Rattle.do_packet.proofs.Reaching.{reached_all, reached_many, reached_next, reached_start}
+
+-- the next pair of two lists
+zip_suc : {A B : Type 0} (ks : List A) (vs : List B) (i : ℕ) (k : A) (v : B) → i < length ks →
+    i < length vs → k ≡ get_or ks i k → v ≡ get_or vs i v →
+    take (suc i) (zip ks vs) ≡ take i (zip ks vs) ++ (k, v) ∷ []
+zip_suc [] vs i k v h l e f = absurd (omega arith)
+zip_suc (x ∷ ks) [] i k v h l e f = absurd (omega arith)
+zip_suc (x ∷ ks) (y ∷ vs) zero k v h l e f = cc
+zip_suc (x ∷ ks) (y ∷ vs) (suc i) k v h l e f =
+    ap (λ l. (x, y) ∷ l) (zip_suc ks vs i k v (omega arith) (omega arith) e f)
+
+-- the next pair, counted as the loops do
+pub zip_next : {A B : Type 0} (ks : List A) (vs : List B) (i : ℕ) (k : A) (v : B) → i < length ks →
+    i < length vs → k ≡ get_or ks i k → v ≡ get_or vs i v →
+    take (i + 1) (zip ks vs) ≡ take i (zip ks vs) ++ (k, v) ∷ []
+zip_next ks vs i k v h l e f = rw add-one (zip_suc ks vs i k v h l e f)
+
+-- all pairs
+pub zip_whole : {A B : Type 0} (ks : List A) (vs : List B) (i : ℕ) →
+    min (length ks) (length vs) ≤ i → take i (zip ks vs) ≡ zip ks vs
+zip_whole ks vs i h = let e = length-zip ks vs in grind (arith, common_steps)
+
+-- the weights of values with places are those of the values
+pub weights_zip : (ks : List Bool) (vs : List Value) → length ks ≡ length vs →
+    sum_by (λ p. weight_of p.1) (zip ks vs) ≡ sum_by weight_of vs
+weights_zip ks vs h =
+    sym (fold-map (λ a v. a + weight_of v) (λ p. p.1) 0 (zip ks vs))
+    ∙ ap (sum_by weight_of) (seconds-zip ks vs (sym h))
+
+-- where there are no values, there are no pairs
+pub zip_none : (ks : List Bool) → zip {K = Bool} {X = Value} ks [] ≡ []
+zip_none [] = refl
+zip_none (k ∷ ks) = refl
+
+-- a number below another
+pub lt_true : (a b : ℕ) → a < b → nat_lt a b ≡ true
+lt_true a b h = grind (arith, common_steps)
+
+-- a number that is not
+pub lt_false : (a b : ℕ) → b ≤ a → nat_lt a b ≡ false
+lt_false a b h = grind (arith, common_steps)
+
+module _ (s : Sender) (values : List Placed) where
+  -- before any copy is gone through, the values are packed
+  pub followed_start : (walk : Walk) (ps : List Part) (w : ℕ) →
+      Walked (flat_map (copied_at s) values) (flat_map (named_at s) values)
+      (λ C N. map (part_at s C N) values) (record { copies = []; names = [] }) walk ps →
+      w ≡ sum_by (λ p. weight_of p.1) values → w ≤ 4294967312 → Followed s values 0 walk ps [] w
+  followed_start walk ps w walked e small = record {
+    reached = reached_start s values walk.copies walk.names walked.copies walked.names;
+    parts_stand = walked.stands;
+    copied_stand = λ C N p q. refl;
+    weighed = omega (arith, e);
+    few = omega arith;
+    light = omega arith;
+  }
+
+  -- one more copy is packed
+  pub followed_next : (k : ℕ) (old new : Walk) (ps : List Part) (cs : List Copied) (c : Copied)
+      (w more : ℕ) (o : ObjectName) → Followed s values k old ps cs w → k < length old.copies →
+      length old.copies ≤ most_copies → take (k + 1) old.copies ≡ take k old.copies ++ o ∷ [] →
+      Walked (flat_map (copied_at s) (slots_at s o)) (flat_map (named_at s) (slots_at s o))
+      (λ C N. copied_of s C N o) old new c →
+      more ≡ sum_by weight_of (slot_values s o) → more < 4294967296 →
+      Followed s values (k + 1) new ps (cs ++ c ∷ []) (w + (16 + more))
+  followed_next k old new ps cs c w more o f h few e walked m light =
+      let pc : IsPrefix old.copies new.copies =
+      subst (λ (l : List ObjectName). IsPrefix old.copies l) (sym walked.copies)
+      (prefix_met old.copies (flat_map (copied_at s) (slots_at s o))) in
+      let pn : IsPrefix old.names new.names =
+      subst (λ (l : List ObjectName). IsPrefix old.names l) (sym walked.names)
+      (prefix_met old.names (flat_map (named_at s) (slots_at s o))) in
+      let front : take (k + 1) new.copies ≡ take k old.copies ++ o ∷ [] =
+      front_of (k + 1) old.copies new.copies pc (omega arith) ∙ e in
+      record {
+        reached =
+            reached_next s values k old.copies old.names new.copies new.names o f.reached h e
+            walked.copies walked.names;
+        parts_stand = λ C N p q.
+            f.parts_stand C N (prefix_trans old.copies new.copies C pc p)
+            (prefix_trans old.names new.names N pn q);
+        copied_stand = λ C N p q.
+            let a =
+            f.copied_stand C N (prefix_trans old.copies new.copies C pc p)
+            (prefix_trans old.names new.names N pn q) in
+            let b = walked.stands C N p q in
+            rw front (grind (arith, common_steps, a, b));
+        weighed = rw front (grind (arith, common_steps, f.weighed, m));
+        few = omega arith;
+        light = omega (arith, f.light);
+      }
+
+  module _ (to token k : ℕ) (walk : Walk) (ps : List Part) (cs : List Copied) (w : ℕ)
+      (f : Followed s values k walk ps cs w) where
+    -- where more copies than the limit were met, the message is refused
+    pub packed_many : most_copies < length walk.copies →
+        Err (TooLarge 4097 4096) ≡ packed s to token values
+    unfolding packed
+    packed_many h =
+        rw (lt_true most_copies (length (copies_of s values))
+        (reached_many s values k walk.copies walk.names f.reached h)) refl
+
+    module _ (h : length walk.copies ≤ k) where
+      -- there are no more copies than the limit
+      few : length walk.copies ≤ most_copies
+      few = omega (arith, f.few)
+
+      -- all copies were gone through
+      all : take k walk.copies ≡ walk.copies
+      all = grind (arith, common_steps)
+
+      -- what was summed is the weight of the message
+      weighed : w ≡ message_weight s values walk.copies
+      weighed = f.weighed ∙ ap (message_weight s values) all
+
+      -- with all copies gone through, the message is the one with those that were met
+      packed_is : packed s to token values ≡ packed_with s to token values walk.copies
+      unfolding packed
+      packed_is =
+          ap (packed_with s to token values)
+          (reached_all s values k walk.copies walk.names f.reached h few)
+
+      -- where it weighs more than the limit, it is refused
+      pub packed_heavy : most_weight < w → Err (TooLarge w 2097152) ≡ packed s to token values
+      packed_heavy heavy =
+          let d : packed_with s to token values walk.copies ≡ Err (TooLarge w 2097152) =
+          rw (lt_false most_copies (length walk.copies) few, ← weighed, lt_true most_weight w heavy)
+          refl in
+          sym (packed_is ∙ d)
+
+      -- else it is what was made
+      pub packed_fits : (ns : List Name) → w ≤ most_weight → ns ≡ names_to s to token walk.names →
+          Ok (record { names = ns; copies = cs; values = ps }) ≡ packed s to token values
+      packed_fits ns light n =
+          let named : walk.names ≡ names_with s values walk.copies =
+          f.reached.naming ∙ ap (names_with s values) all in
+          let pe =
+          f.parts_stand walk.copies walk.names (prefix_refl walk.copies)
+          (prefix_refl walk.names) in
+          let ce =
+          f.copied_stand walk.copies walk.names (prefix_refl walk.copies) (prefix_refl walk.names)
+          ∙ ap (map (copied_of s walk.copies walk.names)) all in
+          let packet : Packet = record { names = ns; copies = cs; values = ps } in
+          let p : packet ≡ packet_with s to token values walk.copies walk.names = cc in
+          let d : packed_with s to token values walk.copies ≡ Ok packet =
+          rw (
+            lt_false most_copies (length walk.copies) few,
+            ← weighed,
+            lt_false most_weight w light,
+            ← named,
+          ) (ap Ok (sym p)) in
+          sym (packed_is ∙ d)
+
+-- a copy whose slots are not there
+pub walked_bare : (s : Sender) (o : ObjectName) (walk : Walk) (class : ClassId) →
+    class ≡ class_at s o → slots_at s o ≡ [] →
+    Walked (flat_map (copied_at s) (slots_at s o)) (flat_map (named_at s) (slots_at s o))
+    (λ C N. copied_of s C N o) walk walk (record { class = class; slots = [] })
+walked_bare s o walk class e d = record {
+  copies = ap (λ l. met walk.copies (flat_map (copied_at s) l)) (sym d);
+  names = ap (λ l. met walk.names (flat_map (named_at s) l)) (sym d);
+  stands = λ C N p q. rw (d, ← e) refl;
+}
+
+-- a copy, from the parts of its slots
+pub walked_copied : (s : Sender) (o : ObjectName) (a b : Walk) (class : ClassId)
+    (slots : List Slot) (vs : List Value) (ps : List Part) → s.seen.class_of o ≡ Some class →
+    slots_of s.table class ≡ Some slots → s.seen.slots o ≡ Some vs →
+    Walked (flat_map (copied_at s) (zip (map (λ slot. slot.copy) slots) vs))
+    (flat_map (named_at s) (zip (map (λ slot. slot.copy) slots) vs))
+    (λ C N. map (part_at s C N) (zip (map (λ slot. slot.copy) slots) vs)) a b ps →
+    Walked (flat_map (copied_at s) (slots_at s o)) (flat_map (named_at s) (slots_at s o))
+    (λ C N. copied_of s C N o) a b (record { class = class; slots = ps })
+walked_copied s o a b class slots vs ps e f h w =
+    let d : slots_at s o ≡ zip (map (λ slot. slot.copy) slots) vs = rw (e, h) (rw f refl) in
+    let k : class_at s o ≡ class = rw e refl in
+    record {
+      copies = w.copies ∙ ap (λ l. met a.copies (flat_map (copied_at s) l)) (sym d);
+      names = w.names ∙ ap (λ l. met a.names (flat_map (named_at s) l)) (sym d);
+      stands = λ C N p q. let r = w.stands C N p q in rw (d, k, r) refl;
+    }

@@ -1,0 +1,8 @@
+use Rattle.std.proofs.Common.{◌≡◌, map, take}
+use Rattle.std.specs.List.{zip}
+use Rattle.do_packet.specs.Unpacking.{looked_value}
+use Rattle.do_packet.proofs.unpacking.name_meanings.Given as goal
+
+abbrev pub invariant-loop-i : goal.invariant-loop-i
+invariant-loop-i l =
+    l.list ≡ map (looked_value l.receipt) (take l.i (zip l.items (zip l.entered l.homes)))

@@ -1,0 +1,4 @@
+pub mod Places
+pub mod Sees
+pub mod Walking
+pub mod Following

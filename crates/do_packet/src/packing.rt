@@ -1,0 +1,95 @@
+//! Packing values into a message.
+mod met_objects;
+mod naming;
+mod places;
+mod walk;
+mod weights;
+
+ghost use Rattle.std.specs.Prelude.{◌≡◌, ◌<◌, ◌≤◌, ◌^◌, ◌⊎◌, Err, IfOk, length, sum_by};
+ghost use Rattle.std.specs.List.{zip};
+ghost use Rattle.do_base.specs.values.Values.{weight_of};
+ghost use Rattle.do_packet.specs.Limits.{KeepsLimits};
+ghost use Rattle.do_packet.specs.Packing.{packed};
+ghost use Rattle.do_packet.specs.Seen.{sender};
+ghost use Rattle.do_packet.specs.walk.Sees.{AreLight, IsTabled};
+ghost use Rattle.do_packet.specs.declared.fault.PackFault.TheVariants.{Memory};
+
+use crate::fault::PackFault;
+use crate::view::View;
+use do_base::{Flags, Items, NodeId, Values};
+use do_class::{ClassTable, Packet};
+use naming::names_of;
+use std::alloc::Global;
+use walk::Walk;
+use weights::{slots_weight, sum_of_weights};
+
+const MOST_COPIES: usize = 4096;
+
+const MOST_WEIGHT: u64 = 2_097_152;
+
+/// Packs values into a message from a node to another: `copy` says of each value whether its place
+/// is bycopy, and objects of third nodes are lent under tokens from `next_token` on.
+///
+/// `TooLarge` comes exactly where the message would have more than 4,096 copies, with 4,097 and
+/// 4,096, or else weighs more than 2,097,152, with its weight and that limit; and `Memory` where
+/// memory ran out. Nothing that was given changes, and a message that is refused uses no token.
+/// The time grows with the message and the logarithm of its objects, whatever these are called.
+pub fn pack<V: View>(
+    alloc: Global,
+    table: &ClassTable,
+    view: &V,
+    from: NodeId,
+    to: NodeId,
+    copy: &Flags,
+    values: &Values,
+    next_token: u64,
+) -> Result<Packet, PackFault>
+    requires classes { IsTabled table.now (V.sees view.now) }
+    requires slots { AreLight (V.sees view.now) }
+    requires places { length copy.now ≡ length values.now }
+    requires light { sum_by weight_of values.now < 2 ^ 32 }
+    requires token { next_token ≤ 2 ^ 62 }
+    ensures value { (result ≡ Err Memory) ⊎ (result ≡
+        packed (sender table.now from (V.sees view.now)) to next_token (zip copy.now values.now)) }
+    ensures limits { IfOk result KeepsLimits }
+{
+    let mut walk = Walk::new(alloc);
+    let parts = walk.values(table, view, from, copy, values)?;
+    let mut weight = sum_of_weights(values);
+    let mut copies = Items::new(alloc);
+    // The list of copies grows while it is gone through: it is its own worklist.
+    let mut k = 0;
+    while k < walk.copies.len() {
+        let found = walk.copies.as_slice();
+        if found.len() > MOST_COPIES {
+            return Err(PackFault::TooLarge {
+                count: 4097,
+                limit: 4096,
+            });
+        }
+        let oid = found[k];
+        copies.push(walk.copied(alloc, table, view, from, oid)?)?;
+        weight += 16 + slots_weight(table, view, from, oid);
+        k += 1;
+    }
+    if weight > MOST_WEIGHT {
+        return Err(PackFault::TooLarge {
+            count: weight,
+            limit: MOST_WEIGHT,
+        });
+    }
+    let names = names_of(
+        alloc,
+        table,
+        view,
+        from,
+        to,
+        walk.names.as_slice(),
+        next_token,
+    )?;
+    Ok(Packet {
+        names,
+        copies,
+        values: parts,
+    })
+}

@@ -1,0 +1,5 @@
+pub mod Chains
+pub mod EmptyQueues
+pub mod PostLast
+pub mod Regions
+pub mod TakeFirst

@@ -1,0 +1,214 @@
+//! A map in the order of its keys, with room that is made beforehand.
+//!
+//! It stands on a sorted `Vec`, which alone of std's containers has an order and can also make
+//! room before a key is put in. It promises each look-up and change exactly, and that a key can be
+//! put in wherever there is room. The form is this project's own.
+#![tactic(auto)]
+
+ghost use Rattle.std.specs.Prelude.{◌≡◌, ◌+◌, ◌-◌, ◌<◌, ◌≤◌, [], length, OnOk, OnErr, IfOk, IfErr};
+ghost use Rattle.std.specs.Prelude.{IsTrue, is_some, IsSome, Some, T, if◌then◌else◌, slice_get};
+ghost use Rattle.std.specs.Option.{option_copied};
+ghost use Rattle.std.specs.List.Retain.{IsFiltered};
+ghost use Rattle.std.specs.Fn.{CalledAt};
+ghost use Rattle.std.specs.FinMap.{find, put, is_sorted};
+ghost use Rattle.do_sorted.specs.Places.{IsRowOf, IsGapFor};
+ghost use Rattle.do_sorted.specs.Rows.{without, first_from};
+
+use std::alloc::{AllocError, Global};
+use std::marker::Model;
+use std::mem;
+
+/// A map that contracts see as the list of its keys and values, by rising key, and the room left.
+///
+/// A look-up takes steps as the logarithm of the length. A change at a key moves the rows of higher
+/// keys, so it is cheap where keys come in rising order.
+#[derive(Debug, Drop)]
+pub struct Sorted<K: Ord, V> {
+    rows: Vec<(K, V)>,
+}
+
+impl<K: Ord, V> Model for Sorted<K, V> {
+    ghost use Rattle.std.specs.Prelude.{T};
+    ghost use Rattle.std.specs.FinMap.{is_sorted};
+    ghost use Rattle.do_sorted.specs.Rows.{Rows, rows_code, rows_of};
+
+    ghost Value = { Rows K V };
+
+    ghost coded = { rows_code K.code V.code };
+
+    ghost view = { λ s. rows_of s.rows };
+
+    ghost invariant = { λ s. T (is_sorted K.cmp s.rows.items) };
+}
+
+impl<K: Ord + Copy, V: Drop> Sorted<K, V> {
+    /// An empty map, for which no memory is taken.
+    pub fn new(alloc: Global) -> Sorted<K, V>
+        ensures { result ≡ record { rows = []; spare = 0 } }
+    {
+        Sorted {
+            rows: Vec::new(alloc),
+        }
+    }
+
+    /// How many keys there are.
+    pub fn len(&self) -> usize
+        ensures { result ≡ length self.now.rows }
+    {
+        self.rows.len()
+    }
+
+    /// How many more keys can be put in with no memory taken.
+    pub fn spare(&self) -> usize
+        ensures { result ≡ self.now.spare }
+    {
+        self.rows.capacity() - self.rows.len()
+    }
+
+    /// How many keys fit with no memory taken, those that are there included.
+    pub fn capacity(&self) -> usize
+        ensures { result ≡ length self.now.rows + self.now.spare }
+    {
+        self.rows.capacity()
+    }
+
+    /// Makes room for `more` keys at least.
+    ///
+    /// If memory runs out, the map is unchanged.
+    pub fn reserve(&mut self, more: usize) -> Result<(), AllocError>
+        ensures rows { self.new.rows ≡ self.old.rows }
+        ensures ok { OnOk result (more ≤ self.new.spare) }
+        ensures kept { self.old.spare ≤ self.new.spare }
+        ensures err { OnErr result (self.new ≡ self.old) }
+    {
+        self.rows.reserve(more)
+    }
+
+    /// Where the key stands, or else where it would go.
+    fn search(&self, key: &K) -> Result<usize, usize>
+        ensures found { IfOk result (IsRowOf K.cmp key.now self.now.rows) }
+        ensures absent { IfErr result (IsGapFor K.cmp key.now self.now.rows) }
+        ensures sorted { T (is_sorted K.cmp self.now.rows) }
+    {
+        self.rows.binary_search_by_key(key, |row| row.0)
+    }
+
+    /// Where the first row from a key on stands.
+    fn place(&self, key: &K) -> usize
+        ensures { slice_get self.now.rows result ≡ first_from K.cmp key.now self.now.rows }
+    {
+        match self.search(key) {
+            Ok(at) => at,
+            Err(at) => at,
+        }
+    }
+
+    /// The value of a key. None exactly where the map does not have it.
+    pub fn get(&self, key: &K) -> Option<&V>
+        ensures { option_copied result ≡ find K.cmp key.now self.now.rows }
+    {
+        match self.search(key) {
+            Ok(at) => Some(&self.rows[at].1),
+            Err(_) => None,
+        }
+    }
+
+    /// Whether the map has the key.
+    pub fn has(&self, key: &K) -> bool
+        ensures { result ≡ is_some (find K.cmp key.now self.now.rows) }
+    {
+        self.get(key).is_some()
+    }
+
+    /// The first row from a key on. None exactly where all keys are below it.
+    pub fn first_from(&self, key: &K) -> Option<&(K, V)>
+        ensures { option_copied result ≡ first_from K.cmp key.now self.now.rows }
+    {
+        self.rows.get(self.place(key))
+    }
+
+    /// All rows, by rising key.
+    pub fn rows(&self) -> &[(K, V)]
+        ensures value { result.now ≡ self.now.rows }
+        ensures sorted { T (is_sorted K.cmp self.now.rows) }
+    {
+        self.rows.as_slice()
+    }
+
+    /// The allocator that the map was made with.
+    pub fn allocator(&self) -> Global {
+        *self.rows.allocator()
+    }
+
+    /// The row with the lowest key. None exactly where there is none.
+    pub fn first(&self) -> Option<&(K, V)>
+        ensures value { option_copied result ≡ slice_get self.now.rows 0 }
+        ensures sorted { T (is_sorted K.cmp self.now.rows) }
+    {
+        self.rows.get(0)
+    }
+
+    /// Puts a value at a key, into room that was made before, and hands back what stood there.
+    pub fn put(&mut self, key: K, value: V) -> Option<V>
+        requires { 0 < self.old.spare }
+        ensures before { result ≡ find K.cmp key self.old.rows }
+        ensures after { self.new.rows ≡ put K.cmp key value self.old.rows }
+        ensures spare { self.new.spare + (if is_some result then 0 else 1) ≡ self.old.spare }
+        ensures capacity { length self.new.rows + self.new.spare
+            ≡ length self.old.rows + self.old.spare }
+    {
+        match self.search(&key) {
+            Ok(at) => Some(mem::replace(&mut self.rows[at].1, value)),
+            Err(at) => {
+                let Ok(()) = self.rows.insert(at, (key, value)) else {
+                    unreachable!();
+                };
+                None
+            }
+        }
+    }
+
+    /// Puts another value at a key that is there, and hands back what stood there.
+    pub fn set(&mut self, key: &K, value: V) -> V
+        requires { IsSome (find K.cmp key.now self.old.rows) }
+        ensures before { find K.cmp key.now self.old.rows ≡ Some result }
+        ensures after { self.new.rows ≡ put K.cmp key.now value self.old.rows }
+        ensures spare { self.new.spare ≡ self.old.spare }
+    {
+        let Ok(at) = self.search(key) else {
+            unreachable!();
+        };
+        mem::replace(&mut self.rows[at].1, value)
+    }
+
+    /// Takes out a key, whose place is room again, and gives its value. None exactly where the map
+    /// does not have it.
+    pub fn remove(&mut self, key: &K) -> Option<V>
+        ensures before { result ≡ find K.cmp key.now self.old.rows }
+        ensures after { self.new.rows ≡ without K.cmp key.now self.old.rows }
+        ensures spare { self.new.spare ≡ self.old.spare + (if is_some result then 1 else 0) }
+        ensures capacity { length self.new.rows + self.new.spare
+            ≡ length self.old.rows + self.old.spare }
+    {
+        let Ok(at) = self.search(key) else {
+            return None;
+        };
+        let (_, value) = self.rows.remove(at);
+        Some(value)
+    }
+}
+
+impl<K: Ord + Copy, V: Copy> Sorted<K, V> {
+    /// Keeps the rows that pass a test, and takes out all others in one go.
+    ///
+    /// To take out many keys by `remove` would move the rows behind each of them.
+    pub fn retain<F: FnMut(&(K, V)) -> bool>(&mut self, keep: F)
+        requires { F.IsAlwaysCallable keep }
+        ensures filtered { IsFiltered (CalledAt F.FnMut) keep self.old.rows self.new.rows }
+        ensures spare { self.old.spare ≤ self.new.spare }
+        ensures capacity { length self.new.rows + self.new.spare
+            ≡ length self.old.rows + self.old.spare }
+    {
+        self.rows.retain(keep);
+    }
+}

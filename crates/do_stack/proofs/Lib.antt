@@ -1,0 +1,4 @@
+mod Answers
+pub mod UsesMove
+mod References
+pub mod ObjectsOnce

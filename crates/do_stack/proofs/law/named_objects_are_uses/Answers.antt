@@ -1,0 +1,5 @@
+use Rattle.do_stack.proofs.ObjectsOnce.{counts_once}
+use Rattle.do_stack.proofs.law.named_objects_are_uses.Goals as goal
+
+pub returns : goal.returns
+returns c = counts_once

@@ -1,0 +1,58 @@
+-- What a change puts into an invocation, what it takes out, and what is left to do.
+use Rattle.std.specs.Prelude.{Bool, false, ◌&&◌, List, [], ◌∷◌, Option, Some, None, map, slice_get}
+use Rattle.do_base.specs.names.Names.{ObjectName}
+use Rattle.do_base.specs.declared.values.value.Value.{Value}
+use Rattle.do_behave.specs.InPlace.{written}
+use Rattle.do_behave.specs.declared.act.Act.{Act}
+use Rattle.do_behave.specs.declared.act.Act.TheVariants.{Step}
+use Rattle.do_behave.specs.declared.change.Change.{Change}
+use Rattle.do_behave.specs.declared.change.Change.TheVariants as changes
+use Rattle.do_behave.specs.declared.invocation.Invocation.{Invocation}
+use Rattle.do_stack.specs.Uses.{names}
+use Rattle.do_stack.specs.declared.exchange.Left.{Left}
+use Rattle.do_stack.specs.declared.exchange.Left.TheVariants as lefts
+use Rattle.do_stack.specs.declared.exchange.Taken.{Taken}
+use Rattle.do_stack.specs.declared.exchange.Taken.TheVariants as takens
+
+-- the values that an act puts into locals
+abbrev pub act_values : Act → List Value
+act_values (Step pc locals handler writes) = locals
+act_values _ = []
+
+-- the values that a change puts into locals
+abbrev pub given : Change → List Value
+given (changes.Local into value pc) = value ∷ []
+given (changes.Push list item weight pc) = item ∷ []
+given (changes.Slots sets handler writes pc) = map (λ s. s.value) sets
+given (changes.Other act) = act_values act
+given _ = []
+
+-- the values that were taken out of locals
+abbrev pub taken : Taken → List Value
+taken takens.Nothing = []
+taken (takens.One value) = value ∷ []
+taken (takens.Many values) = values
+taken (takens.All locals) = locals
+
+-- there is a value, and it names an object
+abbrev pub some_names : ObjectName → Option Value → Bool
+some_names o None = false
+some_names o (Some v) = names o v
+
+-- an object is named by a pushed item and by the list before, which then still counts once
+abbrev pub named_again : ObjectName → Invocation → Change → Bool
+named_again o i (changes.Push list item weight pc) =
+    some_names o (slice_get i.locals list) && names o item
+named_again o i _ = false
+
+-- the slots of the object once what is left was done
+abbrev pub slots_after : Left → List Value → List Value
+slots_after (lefts.Slot slot value) slots =
+    written slots (record { slot = slot; value = value } ∷ [])
+slots_after (lefts.Slots writes) slots = written slots writes
+slots_after _ slots = slots
+
+-- the act that is left to do
+abbrev pub act_left : Left → Option Act
+act_left (lefts.Other act) = Some act
+act_left _ = None

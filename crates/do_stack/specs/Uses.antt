@@ -1,0 +1,42 @@
+-- How often objects are used: once for each value that names them.
+use Rattle.std.specs.Prelude.{◌≡◌, ◌<◌, ◌↔◌, ℕ, Bool, true, cond, List, [], ◌∷◌, ◌++◌, sum_by}
+use Rattle.do_base.specs.names.Names.{ObjectName}
+use Rattle.do_base.specs.values.Values.{objects_of}
+use Rattle.do_base.specs.declared.values.value.Value.{Value}
+use Rattle.do_base.specs.declared.values.value.Value.TheVariants.{Obj}
+use Rattle.do_behave.specs.declared.invocation.Invocation.{Invocation}
+use Rattle.do_machine.specs.held.Refers.{state_values, stack_objects}
+use Rattle.do_packet.specs.Met.{has_object, same_object, met}
+
+-- a value names an object, however often
+abbrev pub names : ObjectName → Value → Bool
+names o v = has_object (objects_of v) o
+
+-- how many of these values name an object
+abbrev pub uses : ObjectName → List Value → ℕ
+uses o = sum_by (λ v. cond (names o v) 1 0)
+
+-- the values of an invocation: its own object, its locals and its answer
+abbrev pub invocation_values : Invocation → List Value
+invocation_values i = Obj i.object ∷ (i.locals ++ state_values i.state)
+
+-- how many values of invocations name an object
+abbrev pub stack_uses : ObjectName → List Invocation → ℕ
+stack_uses o = sum_by (λ i. uses o (invocation_values i))
+
+-- an object is used by as many values as name it, so by none just where no invocation names it
+abbrev pub CountsReferences : Type 0
+CountsReferences = (stack : List Invocation) (o : ObjectName)
+    → (0 < stack_uses o stack) ↔ (has_object (stack_objects stack) o ≡ true)
+
+-- the objects that a value names, each once
+abbrev pub named_once : Value → List ObjectName
+named_once v = met [] (objects_of v)
+
+-- how often an object stands in a list
+abbrev pub times : ObjectName → List ObjectName → ℕ
+times o = sum_by (λ x. cond (same_object o x) 1 0)
+
+-- to count each object that a value names, once, is to count the value's uses
+abbrev pub CountsOnce : Type 0
+CountsOnce = (v : Value) (o : ObjectName) → times o (named_once v) ≡ uses o (v ∷ [])

@@ -1,0 +1,188 @@
+//! A change of an invocation in place, which hands back what it took out.
+ghost use Rattle.std.specs.Prelude.{◌≡◌, ◌+◌, ◌<◌, ◌≤◌, cond, List, ℕ, IfOk, OnOk, OnErr, map};
+ghost use Rattle.std.specs.Prelude.{◌∷◌, ◌++◌, vec_len, vec_capacity, slice_set, [], slice_get};
+ghost use Rattle.std.specs.Prelude.{Some};
+ghost use Rattle.do_base.specs.names.Names.{ObjectName};
+ghost use Rattle.do_base.specs.declared.values.value.Value.{Value};
+ghost use Rattle.do_behave.specs.Changes.{IsFitting, meaning, with_set};
+ghost use Rattle.do_behave.specs.InPlace.{after_act};
+ghost use Rattle.do_stack.specs.Exchange.{given, taken, named_again, slots_after, act_left};
+ghost use Rattle.do_stack.specs.Exchange.{act_values};
+ghost use Rattle.do_stack.specs.Uses.{uses};
+ghost use Rattle.do_stack.specs.declared.exchange.Taken.TheVariants.{Nothing};
+
+use do_base::{Value, Values};
+use do_behave::{Act, Change, Frame, Held, Invocation, LocalSet, LocalSets, Writes};
+use std::alloc::AllocError;
+use std::mem;
+
+/// What a change took out of the locals of an invocation.
+///
+/// Whoever counts uses takes these values off, and adds those that the change put in.
+#[derive(Debug, Drop)]
+pub enum Taken {
+    /// No value.
+    Nothing,
+    /// The value of one local.
+    One(Value),
+    /// The values of several locals.
+    Many(Values),
+    /// The values of all locals.
+    All(Frame),
+}
+
+/// What is left to do once an invocation was changed.
+#[derive(Debug, Drop)]
+pub enum Left {
+    /// Nothing.
+    Nothing,
+    /// To write a slot of the invocation's object.
+    Slot { slot: usize, value: Value },
+    /// To write slots of the invocation's object, in order.
+    Slots(Writes),
+    /// An act that is no step.
+    Other(Act),
+}
+
+/// What a change took out of an invocation, and what is left to do.
+#[derive(Debug, Drop)]
+pub struct Exchanged {
+    pub taken: Taken,
+    pub left: Left,
+}
+
+/// Puts a value into a local, and hands back what it held. Where there is no such local, none is
+/// set, and the value itself comes back.
+fn put(locals: &mut Frame, at: usize, value: Value) -> Value
+    ensures locals { locals.new ≡ slice_set locals.old at value }
+    ensures uses { (o : ObjectName) → uses o locals.new + uses o (result ∷ [])
+        ≡ uses o locals.old + uses o (value ∷ []) }
+{
+    if at >= locals.len() {
+        return value;
+    }
+    locals.replace(at, Held::new(value)).into_value()
+}
+
+/// Sets locals in order, and takes what each held before it was set.
+///
+/// If memory runs out, no local is set: room for all values is made first.
+fn put_all(locals: &mut Frame, mut sets: LocalSets) -> Result<Values, AllocError>
+    ensures locals { OnOk result (locals.new ≡ with_set locals.old sets) }
+    ensures uses { IfOk result (λ was. (o : ObjectName) → uses o locals.new + uses o was
+        ≡ uses o locals.old + uses o (map (λ s. s.value) sets)) }
+    ensures err { OnErr result (locals.new ≡ locals.old) }
+{
+    let mut was = Vec::with_capacity(sets.allocator(), sets.len())?;
+    while !sets.is_empty() {
+        let LocalSet { local, value } = sets.remove(0);
+        let before = put(locals, local as usize, value);
+        was.push_reserved(before);
+    }
+    Ok(Values::from_vec(was))
+}
+
+/// An exchange that took nothing.
+fn took_nothing(left: Left) -> Exchanged
+    ensures { result ≡ record { taken = Nothing; left = left } }
+{
+    Exchanged {
+        taken: Taken::Nothing,
+        left,
+    }
+}
+
+/// Does an act, where it is a step, but for its writes of slots; else hands it back.
+fn exchange_act(inv: &mut Invocation, act: Act) -> Exchanged
+    ensures done { (slots : List Value) → record {
+      inv = inv.new;
+      slots = slots_after result.left slots;
+      left = act_left result.left;
+    } ≡ after_act act inv.old slots }
+    ensures uses { (o : ObjectName) → uses o inv.new.locals + uses o (taken result.taken)
+        ≡ uses o inv.old.locals + uses o (act_values act) }
+{
+    match act {
+        Act::Step {
+            pc,
+            locals,
+            handler,
+            writes,
+        } => {
+            let was = mem::replace(&mut inv.locals, locals);
+            inv.pc = pc;
+            inv.handler = handler;
+            Exchanged {
+                taken: Taken::All(was),
+                left: Left::Slots(writes),
+            }
+        }
+        other => took_nothing(Left::Other(other)),
+    }
+}
+
+/// Makes a change of an invocation, where it is a step, but for its writes of slots. What it took
+/// out of the locals is handed back, and what is left to do.
+///
+/// If memory runs out, the invocation is unchanged.
+#[tactic(auto, using(crate::proofs::UsesMove::uses_push))]
+pub fn exchange(inv: &mut Invocation, change: Change) -> Result<Exchanged, AllocError>
+    requires { IsFitting inv.old change }
+    ensures done { IfOk result (λ e. (slots : List Value) → record {
+      inv = inv.new;
+      slots = slots_after e.left slots;
+      left = act_left e.left;
+    } ≡ after_act (meaning inv.old change) inv.old slots) }
+    ensures uses { IfOk result (λ e. (o : ObjectName) → uses o inv.new.locals
+        + uses o (taken e.taken) + cond (named_again o inv.old change) 1 0
+        ≡ uses o inv.old.locals + uses o (given change)) }
+    ensures err { OnErr result (inv.new ≡ inv.old) }
+{
+    match change {
+        Change::Local { into, value, pc } => {
+            inv.pc = pc;
+            let was = put(&mut inv.locals, into as usize, value);
+            Ok(Exchanged {
+                taken: Taken::One(was),
+                left: Left::Nothing,
+            })
+        }
+        Change::Push {
+            list,
+            item,
+            weight,
+            pc,
+        } => {
+            inv.push_item(list, item, weight, pc)?;
+            Ok(took_nothing(Left::Nothing))
+        }
+        Change::Goto { pc } => {
+            inv.pc = pc;
+            Ok(took_nothing(Left::Nothing))
+        }
+        Change::Slot { slot, value, pc } => {
+            inv.pc = pc;
+            Ok(took_nothing(Left::Slot { slot, value }))
+        }
+        Change::Slots {
+            sets,
+            handler,
+            writes,
+            pc,
+        } => {
+            let was = put_all(&mut inv.locals, sets)?;
+            inv.handler = handler;
+            inv.pc = pc;
+            Ok(Exchanged {
+                taken: Taken::Many(was),
+                left: Left::Slots(writes),
+            })
+        }
+        Change::Handler { handler, pc } => {
+            inv.handler = handler;
+            inv.pc = pc;
+            Ok(took_nothing(Left::Nothing))
+        }
+        Change::Other(act) => Ok(exchange_act(inv, act)),
+    }
+}

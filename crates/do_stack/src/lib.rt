@@ -1,0 +1,18 @@
+//! The invocations of a node, and the answers to the calls that they wait for.
+//!
+//! It stands on do_base and do_behave, and takes the words for waiting and late calls from
+//! do_machine. It promises the invocations and the late calls after each change, that an answer
+//! finds the invocation that waits for it, and what a change of the top takes out of it.
+#![tactic(auto)]
+
+mod exchange;
+mod late;
+mod law;
+mod naming;
+mod stack;
+mod waits;
+
+pub use exchange::{Exchanged, Left, Taken};
+pub use law::{named_objects_are_uses, uses_are_references};
+pub use naming::objects_named;
+pub use stack::{PushBack, Stack};

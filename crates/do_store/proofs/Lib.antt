@@ -1,0 +1,10 @@
+pub mod Listed
+pub mod FoundKey
+pub mod Edits
+pub mod Ledger
+pub mod StepsInARow
+pub mod Valued
+pub mod Turns
+pub mod QueueTurns
+pub mod Closed
+pub mod KeptLaw
