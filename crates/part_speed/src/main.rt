@@ -1,0 +1,36 @@
+//! Measures what one call of a part of a site costs, in processor time, and says so on standard
+//! error. `docs/PERFORMANCE.md` has the figures.
+#![tactic(auto)]
+
+ghost use Rattle.std.specs.Prelude.{◌<◌};
+
+mod counts;
+mod queues;
+
+use crate::counts::{closing, counting};
+use crate::queues::queueing;
+use std::alloc::Global;
+use std::io::{self, Eprint};
+use std::time::{CpuClock, Duration};
+
+/// Says what one of `calls` calls cost that took a time in all.
+pub fn say(rt: &impl Eprint, name: &str, members: u64, calls: u32, took: Duration) -> io::Result<()>
+    requires { 0 < calls }
+{
+    let hundredths = took.as_nanos() * 100 / calls as u128;
+    eprintln!(rt; "{name}, {members} members: {calls} calls, {hundredths} hundredths of a ns each")
+}
+
+/// Measures all parts at a number of members.
+fn measure(rt: &(impl CpuClock + Eprint), alloc: Global, members: u64) -> io::Result<()> {
+    queueing(rt, alloc, members)?;
+    counting(rt, alloc, members)
+}
+
+fn main(rt: HostRuntime) -> io::Result<()> {
+    let alloc = rt.alloc();
+    measure(&rt, alloc, 10)?;
+    measure(&rt, alloc, 1_000)?;
+    measure(&rt, alloc, 100_000)?;
+    closing(&rt, alloc, 100_000)
+}
