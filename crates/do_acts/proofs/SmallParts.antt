@@ -7,6 +7,7 @@ use Rattle.std.proofs.lemmas.List.Folds.{list_all-map}
 use Rattle.do_base.specs.declared.values.value.Value.{Value, List, the_lemmas}
 use Rattle.do_behave.specs.Limits.{has_small_parts}
 
+-- the parts of a list, as its items answer
 small_List : (vs : Listed Value)
     → has_small_parts (List vs)
     ≡ (nat_le (length (map has_small_parts vs)) 1024 && list_all (λ b. b) (map has_small_parts vs))
@@ -21,9 +22,11 @@ small_items vs =
     (length-map vs has_small_parts)
     ∙ ap (λ b. nat_le (length vs) 1024 && b) (list_all-map (λ (b : Bool). b) has_small_parts vs)
 
+-- as many items as may be pass
 few_pass : (n : ℕ) → n ≤ 1024 → nat_le n 1024 ≡ true
 few_pass n le = grind arith
 
+-- more fail
 many_fail : (n : ℕ) → 1024 < n → nat_le n 1024 ≡ false
 many_fail n lt = grind arith
 

@@ -15,6 +15,7 @@ abbrev pub read_all : {A : Type 0} → (Value → Option A) → Listed Value →
 read_all read [] = Some []
 read_all read (v ∷ vs) = with_first (read v) (read_all read vs)
 
+-- the rows that a level of a value holds
 abbrev rows_level : {A : Type 0} → (Value → Option A) → Value-F Value → Option (Listed A)
 rows_level read Value-F.Nil = Some []
 rows_level read (Value-F.List (v ∷ vs)) = read_all read (v ∷ vs)

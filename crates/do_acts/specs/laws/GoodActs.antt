@@ -33,6 +33,7 @@ pub record IsGood (made : Type 0) (table : Listed Class) (inv : Invocation) (slo
   pub shown : NamesShown inv slots act
   pub well : made → IsReady table inv slots → AnswersWell table inv slots act
 
+-- local 13 is a local, however often
 aside_locals : (args : Listed Value) → All IsLocal (aside args)
 aside_locals [] = All-nil IsLocal
 aside_locals (v ∷ vs) = All-cons IsLocal 13 (aside vs) (omega arith) (aside_locals vs)
@@ -100,6 +101,7 @@ module _ (made : Type 0) (table : Listed Class) (inv : Invocation) (slots : List
           then_good (selector_of table inv.method) does (each (eqb-true (length inv.locals) 16 is))
       by false is = type_good
 
+  -- a value that is kept may be returned
   returned_good : (o : Option Value)
       → ((Q : Value → Type 0) → All Q inv.locals → IfSome o Q)
       → MayGood (o >>? λ v. Some (Return v))
@@ -133,6 +135,7 @@ module _ (made : Type 0) (table : Listed Class) (inv : Invocation) (slots : List
   AreGood [] = Unit {0}
   AreGood (o ∷ rest) = MayGood o × AreGood rest
 
+  -- each place of a list that is good is good
   place_good : (places : Listed (Option Act)) (k : ℕ) → AreGood places
       → MayGood (slice_index_or places k None)
   place_good [] k all = type_good
@@ -143,6 +146,7 @@ module _ (made : Type 0) (table : Listed Class) (inv : Invocation) (slots : List
   pub places_good : (places : Listed (Option Act)) → AreGood places → MayGood (at_place inv places)
   places_good places all = place_good places inv.pc all
 
+  -- a message to a value that is kept is good
   sent_good : (o : Option Value) (selector : Listed ℕ) (args : Listed Value) (to : ℕ)
       → IsTrue (is_selector selector) → length args ≡ colons selector
       → ((Q : Value → Type 0) → All Q inv.locals → IfSome o Q)

@@ -110,9 +110,11 @@ all_mapped value P (x ∷ xs) all =
     (all_mapped value P xs (All-tail (λ y. P (value y)) x xs all))
 
 module _ (made : Type 0) (table : Listed Class) (inv : Invocation) (slots : Listed Value) where
+  -- what holds of each value that is set
   abbrev SetAll : (Value → Type 0) → Listed LocalSet → Type 0
   SetAll P sets = All (λ (s : LocalSet). P s.value) sets
 
+  -- what holds of each value that is written
   abbrev WrittenAll : (Value → Type 0) → Listed Write → Type 0
   WrittenAll P writes = All (λ (w : Write). P w.value) writes
 
@@ -120,6 +122,7 @@ module _ (made : Type 0) (table : Listed Class) (inv : Invocation) (slots : List
   abbrev pub AreSlots : Listed Write → Type 0
   AreSlots writes = All (λ (w : Write). w.slot < length slots) writes
 
+  -- what holds of the locals and of each new value holds of the values of a step
   step_values : (P : Value → Type 0) (sets : Listed LocalSet) (writes : Listed Write)
       → All P inv.locals → SetAll P sets → WrittenAll P writes
       → All P (with_set inv.locals sets ++ map (λ (w : Write). w.value) writes)
@@ -132,6 +135,7 @@ module _ (made : Type 0) (table : Listed Class) (inv : Invocation) (slots : List
       (handler : Option Handler) (writes : Listed Write)
       (small_sets : list_all (λ (s : LocalSet). is_limited s.value) sets ≡ true)
       (small_writes : list_all (λ (w : Write). is_limited w.value) writes ≡ true) where
+    -- what holds of all that was shown and of values that pass holds of the values of a step
     passed : (P : Value → Type 0) → ((v : Value) → is_limited v ≡ true → P v)
         → All P (inv.locals ++ slots)
         → All P (with_set inv.locals sets ++ map (λ (w : Write). w.value) writes)
@@ -140,6 +144,7 @@ module _ (made : Type 0) (table : Listed Class) (inv : Invocation) (slots : List
         (all_passed (λ (s : LocalSet). s.value) P sets each small_sets)
         (all_passed (λ (w : Write). w.value) P writes each small_writes)
 
+    -- a step whose new values may be named names only what was shown
     step_shown : SetAll (Named inv slots) sets → WrittenAll (Named inv slots) writes
         → NamesShown inv slots (Step to (with_set inv.locals sets) handler writes)
     step_shown set written = record {
@@ -147,6 +152,7 @@ module _ (made : Type 0) (table : Listed Class) (inv : Invocation) (slots : List
       objects = step_values (Named inv slots) sets writes (locals_named inv slots) set written;
     }
 
+    -- a step whose new values pass answers well
     step_well : IsHandler handler → AreSlots writes
         → AnswersWell table inv slots (Step to (with_set inv.locals sets) handler writes)
     step_well handled within = record {

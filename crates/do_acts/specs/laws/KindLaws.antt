@@ -39,15 +39,19 @@ items_read =
     by_items (λ o v. (vs : Listed Value) → o ≡ Some vs → List vs ≡ v) (λ v vs e. cc)
     (λ ws vs e. ap List (sym (some_same e)))
 
+-- nil is no number
 no_number_of_Nil : number Nil ≡ None
 no_number_of_Nil = search (rules, the_lemmas)
 
+-- nor is a text
 no_number_of_Text : (s : Listed ℕ) → number (Text s) ≡ None
 no_number_of_Text s = search (rules, the_lemmas)
 
+-- nor an object
 no_number_of_Obj : (o : ObjectName) → number (Obj o) ≡ None
 no_number_of_Obj o = search (rules, the_lemmas)
 
+-- nor a list
 no_number_of_List : (vs : Listed Value) → number (List vs) ≡ None
 no_number_of_List vs = search (rules, the_lemmas)
 
@@ -61,15 +65,19 @@ number_read =
     (λ o z e. cc (e, no_number_of_Obj o))
     (λ vs _ z e. cc (e, no_number_of_List vs))
 
+-- nil is no object
 no_object_of_Nil : object Nil ≡ None
 no_object_of_Nil = search (rules, the_lemmas)
 
+-- nor is a number
 no_object_of_Num : (z : ℤ) → object (Num z) ≡ None
 no_object_of_Num z = search (rules, the_lemmas)
 
+-- nor a text
 no_object_of_Text : (s : Listed ℕ) → object (Text s) ≡ None
 no_object_of_Text s = search (rules, the_lemmas)
 
+-- nor a list
 no_object_of_List : (vs : Listed Value) → object (List vs) ≡ None
 no_object_of_List vs = search (rules, the_lemmas)
 

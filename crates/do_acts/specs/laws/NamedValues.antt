@@ -15,6 +15,7 @@ use Rattle.do_behave.specs.laws.ObjectsKept.{arguments_among, objects_kept}
 use Rattle.do_behave.specs.laws.Sound.{get_kept}
 use Rattle.do_acts.specs.Rows.{listed}
 
+-- the objects of a list are those of its items
 objects_of_List : (vs : Listed Value)
     → objects_of (List vs) ≡ flat_map (λ os. os) (map objects_of vs)
 objects_of_List vs = search (rules, the_lemmas)
@@ -52,6 +53,7 @@ module _ (inv : Invocation) (slots : Listed Value) where
   pub local_named : (k : ℕ) → IfSome (local inv k) Named
   local_named k = get_kept Named inv.locals k locals_named
 
+  -- the objects of values that may be named stand among those named
   objects_among : (vs : Listed Value) → All Named vs
       → All (Contains (objects_named inv slots))
       (flat_map (λ (os : Listed ObjectName). os) (map objects_of vs))
@@ -80,6 +82,7 @@ module _ (inv : Invocation) (slots : Listed Value) where
       All-cons Named (value x) (map value xs) (All-head (λ y. Named (value y)) x xs all)
       (values_named value xs (All-tail (λ y. Named (value y)) x xs all))
 
+  -- values that may each be named may all be named
   each_named : {A : Type 0} (value : A → Value) → ((x : A) → Named (value x)) → (xs : Listed A)
       → All Named (map value xs)
   each_named value each [] = All-nil Named

@@ -11,26 +11,33 @@ use Rattle.do_base.specs.declared.values.value.Value.TheVariants.{Nil, Num, Text
 use Rattle.do_acts.specs.Rows.{with_first, read_all, rows_in, listed}
 use Rattle.do_acts.specs.laws.KindLaws.{some_same}
 
+-- nil holds no row
 rows_of_Nil : {A : Type 0} (read : Value → Option A) → rows_in read Nil ≡ Some []
 rows_of_Nil read = search (rules, the_lemmas)
 
+-- a number holds no list of rows
 rows_of_Num : {A : Type 0} (read : Value → Option A) (z : ℤ) → rows_in read (Num z) ≡ None
 rows_of_Num read z = search (rules, the_lemmas)
 
+-- nor does a text
 rows_of_Text : {A : Type 0} (read : Value → Option A) (s : Listed ℕ) → rows_in read (Text s) ≡ None
 rows_of_Text read s = search (rules, the_lemmas)
 
+-- nor an object
 rows_of_Obj : {A : Type 0} (read : Value → Option A) (o : ObjectName) → rows_in read (Obj o) ≡ None
 rows_of_Obj read o = search (rules, the_lemmas)
 
+-- nor the empty list, since nil stands for it
 rows_of_none : {A : Type 0} (read : Value → Option A) → rows_in read (List []) ≡ None
 rows_of_none read = search (rules, the_lemmas)
 
+-- a list holds what is read of each item
 rows_of_List : {A : Type 0} (read : Value → Option A) (v : Value) (vs : Listed Value)
     → rows_in read (List (v ∷ vs)) ≡ read_all read (v ∷ vs)
 rows_of_List read v vs = search (rules, the_lemmas)
 
 module _ {A : Type 0} (read : Value → Option A) (shown : A → Value) where
+  -- rows are read as they were shown
   all_shown : (xs : Listed A) → All (λ x. read (shown x) ≡ Some x) xs
       → read_all read (map shown xs) ≡ Some xs
   all_shown [] all = refl
@@ -51,6 +58,7 @@ module _ {A : Type 0} (read : Value → Option A) (shown : A → Value) where
   abbrev IsExact : Type 0
   IsExact = (v : Value) (x : A) → read v ≡ Some x → shown x ≡ v
 
+  -- where all are read, the first and the others are
   first_and_rest : (o : Option A) (p : Option (Listed A)) (xs : Listed A)
       → with_first o p ≡ Some xs
       → (x : A) × (ys : Listed A) × (o ≡ Some x) × (p ≡ Some ys) × (xs ≡ x ∷ ys)
@@ -58,6 +66,7 @@ module _ {A : Type 0} (read : Value → Option A) (shown : A → Value) where
   first_and_rest (Some x) None xs e = cc
   first_and_rest (Some x) (Some ys) xs e = (x, ys, refl, refl, sym (some_same e))
 
+  -- rows are shown as they were read
   all_read : IsExact → (vs : Listed Value) (xs : Listed A) → read_all read vs ≡ Some xs
       → map shown xs ≡ vs
   all_read exact [] xs e = ap (map shown) (sym (some_same e))
@@ -66,6 +75,7 @@ module _ {A : Type 0} (read : Value → Option A) (shown : A → Value) where
       ap (map shown) parts.4 ∙ ap (λ w. w ∷ map shown parts.1) (exact v parts.0 parts.2)
       ∙ ap (λ ws. v ∷ ws) (all_read exact vs parts.1 parts.3)
 
+  -- and so is the list of them
   list_read : IsExact → (vs : Listed Value) (xs : Listed A) → rows_in read (List vs) ≡ Some xs
       → listed (map shown xs) ≡ List vs
   list_read exact [] xs e = cc (e, rows_of_none read)

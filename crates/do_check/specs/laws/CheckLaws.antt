@@ -62,9 +62,11 @@ target_kept Q (v ∷ w ∷ vs) target all is = cc
 
 module _ (made : Type 0) (table : Listed Class) (inv : Invocation) (slots : Listed Value) where
   module _ (selector : Listed ℕ) (is : made → IsTrue (is_selector selector)) where
+    -- the locals of the arguments
     abbrev from : Listed ℕ
     from = firsts (colons selector)
 
+    -- there is one for each colon
     arg_count : length from ≡ colons selector
     arg_count = length-range_with_len 0 (colons selector)
 
@@ -92,6 +94,7 @@ module _ (made : Type 0) (table : Listed Class) (inv : Invocation) (slots : List
           raises = tt;
         })
 
+    -- passing a message on is good
     passes_good : MayGood made table inv slots (passes_on inv slots selector)
     passes_good =
         then_good made table inv slots (target_in slots)

@@ -13,6 +13,7 @@ pub few_colons : (s : Listed ℕ) → IsTrue (is_selector s) → colons s ≤ 8
 unfolding is_selector
 few_colons s is = grind (arith, common_steps)
 
+-- a range that is longer by one ends in the next number
 longer_range : (a n j : ℕ) → j ≡ a + n → range_with_len a (suc n) ≡ range_with_len a n ++ j ∷ []
 longer_range a zero j is =
     let same : a ≡ j = omega (arith, is) in
@@ -24,6 +25,7 @@ longer_range a (suc n) j is =
 pub firsts_more : (k : ℕ) → firsts (k + 1) ≡ firsts k ++ k ∷ []
 firsts_more k = ap firsts (add-one k) ∙ longer_range 0 k k (omega arith)
 
+-- a range below 16 has locals alone
 range_of_locals : (a n : ℕ) → a + n ≤ 16 → All IsLocal (range_with_len a n)
 range_of_locals a zero few = All-nil IsLocal
 range_of_locals a (suc n) few =

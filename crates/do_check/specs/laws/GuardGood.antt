@@ -39,6 +39,7 @@ module _ (made : Type 0) (table : Listed Class) (inv : Invocation) (slots : List
         };
   }
 
+  -- returning nil is good
   nil_good : IsGood made table inv slots (Return Nil)
   nil_good =
       kept_good made table inv slots (Return Nil)
@@ -49,9 +50,11 @@ module _ (made : Type 0) (table : Listed Class) (inv : Invocation) (slots : List
         raises = tt;
       })
 
+  -- a slot that is there
   abbrev SetIn : Write → Type 0
   SetIn w = w.slot < length slots
 
+  -- a value that may be named
   abbrev WritesNamed : Write → Type 0
   WritesNamed w = Named inv slots w.value
 
@@ -75,6 +78,7 @@ module _ (made : Type 0) (table : Listed Class) (inv : Invocation) (slots : List
   argument_named (Some v) found named is =
       subst (Named inv slots) (sym (object_read v found is)) named
 
+  -- setting the target is good
   sets_good : length inv.locals ≡ 16 → 0 < length slots
       → MayGood made table inv slots (sets_target inv)
   sets_good sixteen there =
@@ -90,6 +94,7 @@ module _ (made : Type 0) (table : Listed Class) (inv : Invocation) (slots : List
   slot_there (v ∷ []) target is = omega arith
   slot_there (v ∷ w ∷ vs) target is = cc
 
+  -- setting it once is good
   keeps_good : length inv.locals ≡ 16 → MayGood made table inv slots (keeps_target inv slots)
   keeps_good sixteen =
       then_good made table inv slots (target_in slots)

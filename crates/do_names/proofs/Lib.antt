@@ -1,0 +1,4 @@
+pub mod CoreLaws
+pub mod IsTold
+pub mod SlotsExact
+pub mod OneCallMore

@@ -1,0 +1,7 @@
+use Rattle.std.proofs.Common.{◌∙◌}
+use Rattle.do_names.proofs.IsTold.{port_told}
+use Rattle.do_names.proofs.names.Names.lookup.Goals as goal
+
+pub returns-clause-meaning : goal.returns-clause-meaning
+returns-clause-meaning c =
+    λ h is. c.port_of.ensures ∙ port_told h c.args.self.now c.args.name.now is

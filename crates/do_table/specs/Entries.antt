@@ -1,0 +1,36 @@
+-- A table as the list of its entries, each a name with its value.
+use Rattle.std.specs.Prelude.{ℕ, Bool, true, not, ◌&&◌, is_some, List, [], ◌∷◌, ◌++◌, Option}
+use Rattle.std.specs.Prelude.{Some, None, if◌then◌else◌}
+use Rattle.std.specs.Borrow.{Bor}
+use Rattle.std.specs.Map.{lookup, remove_entry}
+use Rattle.std.specs.Str.{bytes_eq}
+
+-- the value of a name
+abbrev pub value_of : {V : Type 0} → List (List ℕ × V) → List ℕ → Option V
+value_of es name = lookup (bytes_eq name) es
+
+-- the entries with a name that is new behind the others
+abbrev pub added : {V : Type 0} → List (List ℕ × V) → List ℕ → V → List (List ℕ × V)
+added es name value = if is_some (value_of es name) then es else es ++ (name, value) ∷ []
+
+-- the entries without a name
+abbrev pub removed : {V : Type 0} → List (List ℕ × V) → List ℕ → List (List ℕ × V)
+removed es name = remove_entry (bytes_eq name) es
+
+-- no name is there twice
+abbrev pub are_distinct : {V : Type 0} → List (List ℕ × V) → Bool
+are_distinct [] = true
+are_distinct (e ∷ es) = not (is_some (value_of es e.0)) && are_distinct es
+
+-- what a name has, or else this value where it is the name that is added
+abbrev pub given : {V : Type 0} → Option V → V → Bool → Option V
+given (Some had) value same = Some had
+given None value same = if same then Some value else None
+
+-- what a name has, unless it is the name that is taken out
+abbrev pub unless : {V : Type 0} → Bool → Option V → Option V
+unless same other = if same then None else other
+
+-- the name and the value that two references point to
+abbrev pub entry_shown : {V : Type 0} → Bor (List ℕ) × Bor V → List ℕ × V
+entry_shown w = (w.0.now, w.1.now)

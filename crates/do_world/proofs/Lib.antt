@@ -1,0 +1,2 @@
+mod CounterClasses
+mod CounterTexts

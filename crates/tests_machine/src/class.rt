@@ -1,0 +1,4 @@
+//! Tests of do_class.
+
+mod packets;
+mod tables;

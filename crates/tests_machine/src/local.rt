@@ -1,0 +1,3 @@
+mod events;
+mod order;
+mod rows;
