@@ -1,2 +1,3 @@
 pub mod FrontExact
 pub mod FrontPlaces
+pub mod PiecesExact

@@ -5,3 +5,4 @@ pub mod Exceptions
 pub mod Frames
 pub mod Payloads
 pub mod Streams
+pub mod Pieces

@@ -1,6 +1,6 @@
 //! What nodes send one another.
 use bytes::Bytes;
-use do_base::{Exc, Text, Token};
+use do_base::{Exc, Items, Text, Token};
 use do_class::Packet;
 
 /// A message from one node to another, on its way.
@@ -77,3 +77,6 @@ pub struct RawFrame {
     pub kind: u8,
     pub payload: Bytes,
 }
+
+/// Frames whose payloads are not read yet, in order.
+pub type RawFrames = Items<RawFrame>;

@@ -34,7 +34,8 @@ mod stream;
 mod writer;
 
 pub use fault::{RawFault, StreamFault};
-pub use frame::{Frame, RawFrame};
+pub use frame::{Frame, RawFrame, RawFrames};
 pub use payload::front::read_raw;
+pub use stream::pieces::frames_of;
 pub use stream::reader::Reader;
 pub use writer::{write, write_within};
