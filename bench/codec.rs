@@ -770,16 +770,16 @@ fn measure(what: &str, names: u64, values: u64, bytes: usize, turns: u64) {
     eprintln!("{what}: {turns} frames, {} ns", end - start);
 }
 
-/// Copies 100,000 bytes twice.
-fn measure_copies(turns: u64) {
-    let from = vec![7u8; 100_000];
+/// Copies each of so many texts of 100,000 bytes twice.
+fn measure_copies(what: &str, texts: usize, turns: usize) {
+    let texts = vec![vec![7u8; 100_000]; texts];
     let start = processor_time();
-    for _ in 0..turns {
-        let first = black_box(&from).to_vec();
+    for turn in 0..turns {
+        let first = black_box(&texts[turn % texts.len()]).to_vec();
         black_box(black_box(&first).to_vec());
     }
     let end = processor_time();
-    eprintln!("two copies of 100,000 bytes: {turns} frames, {} ns", end - start);
+    eprintln!("{what}: {turns} frames, {} ns", end - start);
 }
 
 fn main() {
@@ -795,5 +795,6 @@ fn main() {
     measure("16 values", 0, 16, 0, 10_000);
     measure("256 values", 0, 256, 0, 1_000);
     measure("4,096 values", 0, 4_096, 0, 60);
-    measure_copies(400);
+    measure_copies("two copies of one text of 100,000 bytes", 1, 400);
+    measure_copies("two copies of each of 400 such texts", 400, 400);
 }

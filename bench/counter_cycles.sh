@@ -2,7 +2,7 @@
 # Prints a schedule over :counter of N whole calls of `go:`, 17 single steps each but the first, which has 16.
 # sh bench/counter_cycles.sh N
 awk -v n="${1:-1000}" 'BEGIN {
-    print "schedule 1"
+    print "schedule 2"
     for (i = 0; i < n; i++) {
         print "start 7001 go: " i % 1000
         print "run 7001 2"

@@ -1,3 +1,4 @@
 pub mod Rules
 pub mod Acts
+pub mod Sent
 pub mod laws

@@ -2,17 +2,21 @@
 use Rattle.std.specs.Prelude.{ℕ, List, [], ◌∷◌, ◌++◌, map, codes, if◌then◌else◌, Option, Some, None}
 use Rattle.do_base.specs.declared.events.shown.Shown.{Shown}
 use Rattle.do_sched.specs.declared.line.Line.{Line}
-use Rattle.do_sched.specs.declared.line.Line.TheVariants.{Start, Run, Take, Check}
+use Rattle.do_sched.specs.declared.line.Line.TheVariants.{Start, Run, Take, Close, Lose, Timeout}
+use Rattle.do_sched.specs.declared.line.Line.TheVariants.{Check}
 use Rattle.do_sched.specs.Spelling.{line_spelling}
 use Rattle.do_trace.specs.declared.outcome.Outcome.{Outcome}
 use Rattle.do_lines.specs.Shown.{shown_text}
 use Rattle.do_lines.specs.Lines.{joined}
 
--- the node that a line steps; a check steps none
+-- the node that a line steps; a loss and a check step none
 abbrev pub stepped_node : Line → Option ℕ
 stepped_node (Start port selector values) = Some port
 stepped_node (Run port count) = Some port
 stepped_node (Take port from) = Some port
+stepped_node (Close port peer) = Some port
+stepped_node (Lose from to after) = None
+stepped_node (Timeout port) = Some port
 stepped_node Check = None
 
 -- what a node showed, line by line

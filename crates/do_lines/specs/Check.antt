@@ -10,7 +10,7 @@ use Rattle.do_trace.specs.declared.outcome.ObjLine.{ObjLine}
 use Rattle.do_trace.specs.declared.outcome.Entry.{Entry}
 use Rattle.do_trace.specs.declared.outcome.NodeLine.{NodeLine}
 use Rattle.do_trace.specs.declared.outcome.Snapshot.{Snapshot}
-use Rattle.do_lines.specs.Value.{object_name, value_text, spaced}
+use Rattle.do_sched.specs.Value.{object_name, value_text, spaced}
 use Rattle.do_lines.specs.Lines.{joined}
 
 -- a slot's name, an equals sign and its value, for each slot

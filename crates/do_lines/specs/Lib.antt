@@ -1,4 +1,3 @@
-pub mod Value
 pub mod Shown
 pub mod Lines
 pub mod Check

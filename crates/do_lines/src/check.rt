@@ -1,14 +1,14 @@
 ghost use Rattle.std.specs.Prelude.{◌≡◌, ◌++◌, [], ◌∷◌, OnOk, IfOk, map};
 ghost use Rattle.do_class.specs.Table.{name_of, slots_of};
-ghost use Rattle.do_lines.specs.Value.{spaced};
+ghost use Rattle.do_sched.specs.Value.{spaced};
 ghost use Rattle.do_lines.specs.Lines.{joined};
 ghost use Rattle.do_lines.specs.Check.{slot_words, class_words, object_text, closed_line};
 ghost use Rattle.do_lines.specs.Check.{entry_line, root_word, root_line, node_text, check_lines};
 
-use crate::value::{push_object, push_value};
 use do_base::{Oid, Peers, Text, Value, Values};
 use do_class::{ClassId, ClassTable, Slot};
 use do_grammar::push_dec;
+use do_sched::{push_object, push_value};
 use do_trace::{Entry, EntryList, NodeLine, ObjLine, ObjLines, Snapshot};
 use std::alloc::{AllocError, Global};
 

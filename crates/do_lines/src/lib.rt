@@ -4,7 +4,6 @@
 mod check;
 mod line;
 mod shown;
-mod value;
 
 pub use check::{check_text, push_check};
 pub use line::{line_text, push_head, push_outcome, stepped_node};

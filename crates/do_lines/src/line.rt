@@ -1,5 +1,4 @@
 ghost use Rattle.std.specs.Prelude.{◌≡◌, ◌++◌, OnOk, IfOk};
-ghost use Rattle.do_sched.specs.Good.{IsLine};
 ghost use Rattle.do_lines.specs.Block.{head_line, line_lines, stepped_node, shown_lines};
 
 use crate::shown::push_all_shown;
@@ -8,22 +7,21 @@ use do_sched::{Line, push_line};
 use do_trace::Outcome;
 use std::alloc::{AllocError, Global};
 
-/// The node that a line steps. A check steps none.
+/// The node that a line steps. A loss and a check step none.
 pub fn stepped_node(line: &Line) -> Option<NodeId>
     ensures { result ≡ stepped_node line.now }
 {
     match line {
         Line::Start { node, .. } | Line::Run { node, .. } | Line::Take { node, .. } => Some(*node),
-        Line::Check => None,
+        Line::Close { node, .. } | Line::Timeout { node } => Some(*node),
+        Line::Lose { .. } | Line::Check => None,
     }
 }
 
 /// Adds `> ` and a line as it is written in a schedule, which begin the line's block.
 ///
-/// The line is one that may stand in a schedule. If memory runs out, a part of it may have
-/// been added.
+/// If memory runs out, a part of it may have been added.
 pub fn push_head(out: &mut Text, line: &Line) -> Result<(), AllocError>
-    requires { IsLine line.now }
     ensures { OnOk result (out.new ≡ out.old ++ head_line line.now) }
 {
     out.push_bytes(b"> ")?;
@@ -53,11 +51,9 @@ pub fn push_outcome(
 
 /// The block of a line: `> ` and the line as it is written in a schedule, and what it showed.
 ///
-/// The line is one that may stand in a schedule. For a run of several steps the outcome has what
-/// they showed one after another, and is enabled where one of them was. The form is this project's
-/// own.
+/// For a run of several steps the outcome has what they showed one after another, and is enabled
+/// where one of them was. The form is this project's own.
 pub fn line_text(alloc: Global, line: &Line, outcome: &Outcome) -> Result<Text, AllocError>
-    requires { IsLine line.now }
     ensures { IfOk result (λ text. text ≡ line_lines line.now outcome.now) }
 {
     let mut text = Text::new(alloc);

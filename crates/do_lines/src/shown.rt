@@ -1,11 +1,11 @@
 ghost use Rattle.std.specs.Prelude.{◌≡◌, ◌∷◌, [], ◌++◌, OnOk, decimal, map};
-ghost use Rattle.do_lines.specs.Value.{object_name, value_text};
+ghost use Rattle.do_sched.specs.Value.{object_name, value_text};
 ghost use Rattle.do_lines.specs.Shown.{exception_text, took_text, shown_text};
 ghost use Rattle.do_lines.specs.Lines.{joined};
 
-use crate::value::{push_object, push_value};
 use do_base::{Exc, Oid, Shown, ShownList, Text, Took, Value};
 use do_grammar::{push_dec, push_quoted};
+use do_sched::{push_object, push_value};
 use std::alloc::AllocError;
 
 /// Adds the name of an exception, and the text of one that a program raised.

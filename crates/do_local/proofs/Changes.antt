@@ -1,44 +1,31 @@
--- Changes of the top of a stack, and of one member of a list.
-use Rattle.do_local.specs.Stations.{IsRunContextOf}
-use Rattle.std.proofs.Common.{◌≡◌, ℕ, zero, suc, ◌≤◌, List, [], ◌∷◌, length, ◌==◌, Some, None, refl, ap, sym, ◌∙◌, arith}
-use Rattle.std.specs.Prelude.{slice_get, slice_set}
-use Rattle.std.specs.List.{position, remove}
-use Rattle.do_base.specs.declared.values.value.Value.{Value}
-use Rattle.do_local.specs.declared.invocation.Invocation.{Invocation}
-use Rattle.do_local.specs.declared.node.Node.{Node}
-use Rattle.do_local.specs.declared.node.Stored.{Stored}
-use Rattle.do_local.specs.Changes.{heap_with, with_slot, without_top}
-use Rattle.do_local.specs.RunContext.{RunContext}
-use Rattle.do_local.proofs.Tables.{change_first_at, change_first_none}
+-- A state of which one station is another.
+use Rattle.std.proofs.Common.{◌≡◌, ℕ, ◌==◌, List, Some, None, ap, sym, ◌∙◌}
+use Rattle.std.specs.Prelude.{position, slice_get, slice_set}
+use Rattle.do_machine.specs.Lists.{change_first}
+use Rattle.do_machine.specs.State.{change}
+use Rattle.do_machine.specs.declared.state.State.{State}
+use Rattle.do_machine.specs.declared.state.Station.{Station}
+use Rattle.do_rules.proofs.Sets.{change_first_none, first_set}
 
--- the top of the stack is what a run is judged by
-pub top_is : (n : Node) (t : RunContext) (i : Invocation) → IsRunContextOf n t → slice_get n.stack 0 ≡ Some i → t.top ≡ i
-top_is n t i is e = let stack = is.stack in cc
+-- the state of these stations
+abbrev state_of : List Station → State
+state_of stations = record { stations = stations }
 
-pub still_run_context : (n m : Node) (t : RunContext) → m ≡ n → IsRunContextOf n t → IsRunContextOf m t
-still_run_context n m t e is = record { same = is.same ∙ sym e; stack = ap (λ (k : Node). k.stack) e ∙ is.stack }
+-- where no station has the port, the state is as it was
+pub unchanged : (port : ℕ) (f : Station → Station) (S T : State) → T ≡ S
+    → position (λ (s : Station). port == s.port) T.stations ≡ None → T ≡ change port f S
+unchanged port f S T same none =
+    let kept : change_first (λ (s : Station). port == s.port) f T.stations ≡ T.stations =
+    change_first_none (λ (s : Station). port == s.port) f T.stations none in
+    ap state_of (sym kept) ∙ ap (change port f) same
 
-pub top_set : (n : Node) (t : RunContext) (i j : Invocation) → IsRunContextOf n t → slice_get n.stack 0 ≡ Some i
-    → record n { stack = slice_set n.stack 0 j } ≡ record t.node { stack = j ∷ t.below }
-top_set n t i j is e = λ k. record (sym is.same k) { stack = (ap (λ s. slice_set s 0 j) is.stack) k }
-
-pub top_removed : (n : Node) (t : RunContext) → IsRunContextOf n t → record n { stack = remove n.stack 0 } ≡ without_top t
-top_removed n t is = λ k. record (sym is.same k) { stack = (ap (λ s. remove s 0) is.stack) k }
-
-pub set_past : {X : Type 0} (xs : List X) (i : ℕ) (x : X) → length xs ≤ i → slice_set xs i x ≡ xs
-set_past [] i x h = refl
-set_past (y ∷ ys) zero x h = absurd (omega (arith, h))
-set_past (y ∷ ys) (suc i) x h = ap (λ t. y ∷ t) (set_past ys i x (omega arith))
-
-pub ruleset top_steps = (top_is, top_set, top_removed, set_past)
-
-pub heap_at : (heap : List Stored) (serial at slot : ℕ) (value : Value) (x y : Stored)
-    → position (λ z. z.serial == serial) heap ≡ Some at → slice_get heap at ≡ Some x
-    → y ≡ with_slot slot value x → slice_set heap at y ≡ heap_with serial slot value heap
-heap_at heap serial at slot value x y p g e = ap (λ v. slice_set heap at v) e ∙ sym (change_first_at (λ z. z.serial == serial) (with_slot slot value) heap at x p g)
-
-pub heap_none : (heap : List Stored) (serial slot : ℕ) (value : Value)
-    → position (λ z. z.serial == serial) heap ≡ None → heap_with serial slot value heap ≡ heap
-heap_none heap serial slot value p = change_first_none (λ z. z.serial == serial) (with_slot slot value) heap p
-
-pub ruleset heap_steps = (heap_at, heap_none, set_past)
+-- where the first station of the port is set, the state is changed there
+pub changed : (port : ℕ) (f : Station → Station) (S T : State) (at : ℕ) (s t : Station)
+    (set : List Station) → T ≡ S
+    → position (λ (s : Station). port == s.port) T.stations ≡ Some at
+    → slice_get T.stations at ≡ Some s → t ≡ f s → set ≡ slice_set T.stations at t
+    → state_of set ≡ change port f S
+changed port f S T at s t set same found here done is_set =
+    ap state_of (is_set
+    ∙ first_set (λ (s : Station). port == s.port) f T.stations at s t found here done)
+    ∙ ap (change port f) same

@@ -1,22 +1,2 @@
-pub mod Equality
-pub mod Tables
-pub mod Changes
-pub mod Posting
-pub mod Runs
-pub mod Below
-pub mod Leaves
-pub mod Padding
-pub mod Entries
-pub mod Answering
-pub mod Effects
-pub mod Named
-pub mod Holding
-pub mod Moves
-pub mod Takes
-pub mod Dropping
-pub mod Numbers
-pub mod Listing
-pub mod CounterWorld
-pub mod Inserting
-pub mod Rising
-pub mod Skipped
+mod Changes
+mod Moves

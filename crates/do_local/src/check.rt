@@ -1,24 +1,37 @@
-ghost use Rattle.std.specs.Prelude.{◌≡◌, IfOk, flat_map, map, option_map};
-ghost use Rattle.do_local.specs.Check.{closed_ends, entries_of, node_line, object_line, snapshot};
-ghost use Rattle.do_local.specs.Stations.{state_of};
-ghost use Rattle.do_local.specs.State.{own};
+//! What a check lists of a state.
+ghost use Rattle.std.specs.Prelude.{◌≡◌, IfOk, map, option_map};
+ghost use Rattle.std.specs.List.{flat_map};
+ghost use Rattle.do_machine.specs.State.{own, ports};
+ghost use Rattle.do_machine.specs.check.Snapshot.{closed_ends, entries_for, node_line, object_line};
+ghost use Rattle.do_machine.specs.check.Snapshot.{snapshot};
 
-use crate::entry::has_entry;
-use crate::node::{Node, Stored};
-use crate::station::Stations;
 use do_base::{NodeId, Oid, Peers};
-use do_trace::{Entry, EntryList, NodeLine, NodeLines, ObjLine, ObjLines, Snapshot};
+use do_machine::{
+    Entry, EntryList, Node, NodeLine, NodeLines, ObjLine, ObjLines, Snapshot, State, Stored,
+};
+use do_rules::{has_entry, is_open, own};
 use std::alloc::AllocError;
 
-/// The peers towards which a node's end is closed.
-fn closed_ends(stations: &Stations, node: &Node) -> Result<Peers, AllocError>
-    ensures { IfOk result (λ closed. closed ≡ closed_ends (state_of stations.now) node.now) }
+/// The ports of a state's nodes.
+fn ports(state: &State) -> Result<Peers, AllocError>
+    ensures { IfOk result (λ ps. ps ≡ ports state.now) }
 {
-    let mut closed = Peers::new(stations.allocator());
-    for station in stations.as_slice() {
-        let port = station.node.port;
-        if port != node.port && !node.is_open(&port) {
-            closed.push(port)?;
+    let mut ports = Peers::new(state.stations.allocator());
+    for station in state.stations.as_slice() {
+        ports.push(station.get().port)?;
+    }
+    Ok(ports)
+}
+
+/// The peers towards which a node's end is closed.
+fn closed_ends(state: &State, node: &Node) -> Result<Peers, AllocError>
+    ensures { IfOk result (λ ps. ps ≡ closed_ends state.now node.now) }
+{
+    let ports = ports(state)?;
+    let mut closed = Peers::new(ports.allocator());
+    for port in ports.as_slice() {
+        if *port != node.port && !is_open(node, *port) {
+            closed.push(*port)?;
         }
     }
     Ok(closed)
@@ -29,7 +42,7 @@ fn object_line(node: &Node, stored: &Stored) -> Result<ObjLine, AllocError>
     ensures { IfOk result (λ line. line ≡ object_line node.now stored.now) }
 {
     Ok(ObjLine {
-        oid: node.own(stored.serial),
+        oid: own(node, stored.serial),
         class: stored.class,
         slots: stored.slots.clone()?,
     })
@@ -47,13 +60,13 @@ fn object_lines(node: &Node) -> Result<ObjLines, AllocError>
 }
 
 /// The entries that a peer has of a node's objects.
-fn entries_of(stations: &Stations, node: &Node, peer: NodeId) -> Result<EntryList, AllocError>
-    ensures { IfOk result (λ entries. entries ≡ entries_of (state_of stations.now) node.now peer) }
+fn entries_for(state: &State, node: &Node, peer: NodeId) -> Result<EntryList, AllocError>
+    ensures { IfOk result (λ entries. entries ≡ entries_for state.now node.now peer) }
 {
-    let mut entries = EntryList::new(stations.allocator());
+    let mut entries = EntryList::new(node.heap.allocator());
     for stored in node.heap.as_slice() {
-        let object = node.own(stored.serial);
-        if has_entry(stations, peer, &object) {
+        let object = own(node, stored.serial);
+        if has_entry(state, peer, &object) {
             entries.push(Entry { peer, object })?;
         }
     }
@@ -61,12 +74,13 @@ fn entries_of(stations: &Stations, node: &Node, peer: NodeId) -> Result<EntryLis
 }
 
 /// The entries that all peers have.
-fn all_entries(stations: &Stations, node: &Node) -> Result<EntryList, AllocError>
-    ensures { IfOk result (λ entries. entries ≡ flat_map (entries_of (state_of stations.now) node.now) node.now.open_to) }
+fn all_entries(state: &State, node: &Node) -> Result<EntryList, AllocError>
+    ensures { IfOk result (λ entries.
+        entries ≡ flat_map (entries_for state.now node.now) node.now.open_to) }
 {
-    let mut entries = EntryList::new(stations.allocator());
+    let mut entries = EntryList::new(node.heap.allocator());
     for peer in node.open_to.as_slice() {
-        entries.append(entries_of(stations, node, *peer)?)?;
+        entries.append(entries_for(state, node, *peer)?)?;
     }
     Ok(entries)
 }
@@ -76,41 +90,41 @@ fn root_name(node: &Node) -> Option<Oid>
     ensures { result ≡ option_map (own node.now) node.now.root }
 {
     match node.root {
-        Some(serial) => Some(node.own(serial)),
+        Some(serial) => Some(own(node, serial)),
         None => None,
     }
 }
 
 /// A node, as a check lists it.
-fn node_line(stations: &Stations, node: &Node) -> Result<NodeLine, AllocError>
-    ensures { IfOk result (λ line. line ≡ node_line (state_of stations.now) node.now) }
+fn node_line(state: &State, node: &Node) -> Result<NodeLine, AllocError>
+    ensures { IfOk result (λ line. line ≡ node_line state.now node.now) }
 {
     Ok(NodeLine {
         node: node.port,
         root: root_name(node),
-        closed: closed_ends(stations, node)?,
+        closed: closed_ends(state, node)?,
         objects: object_lines(node)?,
-        entries: all_entries(stations, node)?,
+        entries: all_entries(state, node)?,
     })
 }
 
 /// All nodes, as a check lists them.
-fn node_lines(stations: &Stations) -> Result<NodeLines, AllocError>
-    ensures { IfOk result (λ lines. lines ≡ map (λ p. node_line (state_of stations.now) p.node) stations.now) }
+fn node_lines(state: &State) -> Result<NodeLines, AllocError>
+    ensures { IfOk result (λ lines.
+        lines ≡ map (λ s. node_line state.now s.node) state.now.stations) }
 {
-    let mut lines = NodeLines::new(stations.allocator());
-    for station in stations.as_slice() {
-        lines.push(node_line(stations, &station.node)?)?;
+    let mut lines = NodeLines::new(state.stations.allocator());
+    for station in state.stations.as_slice() {
+        lines.push(node_line(state, &station.get().node)?)?;
     }
     Ok(lines)
 }
 
-/// What a check lists of the stations.
-#[tactic(auto, using(crate::proofs::Listing::listing_steps))]
-pub fn list(stations: &Stations) -> Result<Snapshot, AllocError>
-    ensures { IfOk result (λ listed. listed ≡ snapshot (state_of stations.now)) }
+/// The nodes by rising port, each with its root, its closed ends, its objects and their entries.
+pub(crate) fn snapshot(state: &State) -> Result<Snapshot, AllocError>
+    ensures { IfOk result (λ listed. listed ≡ snapshot state.now) }
 {
     Ok(Snapshot {
-        nodes: node_lines(stations)?,
+        nodes: node_lines(state)?,
     })
 }

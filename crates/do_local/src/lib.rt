@@ -1,41 +1,18 @@
-//! One local machine: every node of a world with its objects and the items under way, and the
-//! definitions of its steps.
+//! The machine as a plain program: a world's nodes, with what is under way between them.
+//!
+//! It stands on do_machine, whose definitions it runs, and on do_rules for what one step of a node
+//! does. It promises that each event comes to what its definition says, in every world, and that the
+//! machine is as it was if memory runs out. It is the reference that other machines are compared
+//! with: it may be slow, but a step costs what its nodes hold, and not what the others do.
 #![tactic(auto)]
 
-mod act;
-mod acts;
-mod arrival;
-mod behaviour;
-mod change;
 mod check;
-mod counter;
-mod entry;
-mod find;
-mod fresh;
-mod held;
-mod invocation;
-mod item;
-mod laws;
-mod leaving;
+mod commit;
+mod copies;
 mod local;
-mod message;
-mod moving;
-mod naming;
-mod node;
 mod opening;
-mod order;
-mod performing;
-mod post;
-mod receipt;
-mod send;
-mod station;
+mod stations;
 mod stepping;
-mod taking;
-mod verdict;
-mod verdicts;
-mod waiting;
-mod world;
 
-pub use counter::{counter_machine, counter_nodes, counter_table};
+pub use do_machine::{Seat, Seats};
 pub use local::Local;
-pub use world::{NodeList, WorldNode};

@@ -1,65 +1,41 @@
-ghost use Rattle.std.specs.Prelude.{◌≡◌, ◌<◌, ◌^◌, ℕ, suc, false, [], map, Option, IfOk, OnOk, OnErr};
-ghost use Rattle.std.specs.List.Sorted.{IsStrictlyIncreasing};
-ghost use Rattle.do_local.specs.Check.{snapshot};
-ghost use Rattle.do_local.specs.Machine.{opened, moved_on, outcome_of};
-ghost use Rattle.do_local.specs.Step.{IsCounterEvent, step};
-ghost use Rattle.do_local.specs.Laws.{laws_of};
-ghost use Rattle.do_local.specs.Stations.{ComesTo, FewCalls, outcome_with, state_of};
-ghost use Rattle.do_local.specs.CounterWorld.{IsCounterWorld};
-ghost use Rattle.do_local.specs.World.{IsWorld};
+ghost use Rattle.std.specs.Prelude.{◌≡◌, IfOk, OnErr, OnOk};
+ghost use Rattle.do_machine.specs.Step.{step};
+ghost use Rattle.do_machine.specs.World.{opening};
+ghost use Rattle.do_machine.specs.check.Snapshot.{snapshot};
 
-use crate::check::list;
-use crate::opening::stations_of;
-use crate::station::Stations;
-use crate::stepping::{run, start, take};
-use crate::world::{NodeList, by_port};
-use do_base::{Event, ShownList};
+use crate::check::snapshot;
+use crate::opening::opening;
+use crate::stepping::step;
+use do_base::Event;
+use do_behave::Behaviour;
 use do_class::ClassTable;
-use do_trace::{Outcome, Snapshot};
-use std::alloc::{AllocError, Global};
-use std::marker::Model;
+use do_machine::{Outcome, Seats, Snapshot, State};
+use std::alloc::AllocError;
 
-/// One local machine: all nodes of a world, with the items under way between them.
+/// One machine: all nodes of a world, with the items under way between them.
+///
+/// Contracts see its classes, its behaviour and its state.
 #[derive(Drop)]
-pub struct Local {
+pub struct Local<B> {
     table: ClassTable,
-    stations: Stations,
-    events: u64,
+    behaviour: B,
+    state: State,
 }
 
-impl Model for Local {
-    ghost use Rattle.std.specs.Coded.{codes};
-    ghost use Rattle.do_base.specs.contracts.values.value.Value as value;
-    ghost use Rattle.do_sig.specs.contracts.value_type.ValueType as value_type;
-    ghost use Rattle.do_local.specs.Machine.{Machine};
-    ghost use Rattle.do_local.specs.Stations.{IsMachine, state_of};
-
-    ghost Value = { Machine };
-
-    ghost coded = { Prim.hlevel (codes, value.the_row.coded, value_type.the_row.coded) };
-
-    ghost view = { λ l. record { table = l.table; state = state_of l.stations; events = l.events } };
-
-    ghost invariant = { λ l. IsMachine l.stations l.events };
-}
-
-impl Local {
+impl<B: Behaviour + Drop> Local<B> {
     /// The machine of a world before its first event, in whatever order the nodes are listed.
     ///
-    /// So far the definitions are those of the counter world, and it takes no other. Its one error is want
-    /// of memory.
-    #[tactic(auto, using(crate::proofs::Numbers::machine_steps, crate::proofs::CounterWorld::counter_steps))]
-    pub fn new(alloc: Global, table: ClassTable, nodes: &NodeList) -> Result<Local, AllocError>
-        requires world { IsWorld table nodes.now }
-        requires counter { IsCounterWorld table nodes.now }
-        ensures { IfOk result (λ m. m ≡ opened table nodes.now) }
+    /// Its one error is that memory ran out.
+    pub fn new(table: ClassTable, nodes: &Seats, behaviour: B) -> Result<Local<B>, AllocError>
+        ensures table { IfOk result (λ m. m.table ≡ table) }
+        ensures behaviour { IfOk result (λ m. m.behaviour ≡ behaviour) }
+        ensures state { IfOk result (λ m. m.state ≡ opening table nodes.now) }
     {
-        let nodes = by_port(alloc, nodes)?;
-        let stations = stations_of(alloc, &table, &nodes)?;
+        let state = opening(&table, nodes)?;
         Ok(Local {
             table,
-            stations,
-            events: 0,
+            behaviour,
+            state,
         })
     }
 
@@ -72,69 +48,29 @@ impl Local {
 
     /// One event. One that is not enabled shows nothing and leaves the state as it was.
     ///
-    /// It takes an event that the counter world can have, which is no close and no loss, and at most 2^40
-    /// events in all. Its one error is want of memory, which leaves the machine as it was.
-    #[tactic(auto, using(crate::proofs::Numbers::machine_steps, crate::proofs::Skipped::skipped_steps))]
+    /// Its one error is that memory ran out, or that a number would pass what a machine can count,
+    /// and leaves the machine as it was.
     pub fn step(&mut self, event: &Event) -> Result<Outcome, AllocError>
-        requires possible { IsCounterEvent event.now }
-        requires few { self.old.events < 2 ^ 40 }
-        ensures outcome { IfOk result (λ outcome. outcome ≡ outcome_of self.old event.now) }
-        ensures ok { OnOk result (self.new ≡ moved_on self.old event.now) }
-        ensures skipped_shows { IfOk result (λ outcome. outcome.enabled ≡ false → outcome.shown ≡ []) }
-        ensures skipped_keeps { IfOk result (λ outcome. outcome.enabled ≡ false → self.new.state ≡ self.old.state) }
+        ensures outcome { IfOk result (λ outcome. outcome ≡
+            (step self.old.table (B.act self.old.behaviour) self.old.state event.now).outcome) }
+        ensures ok { OnOk result (self.new ≡ record self.old {
+          state =
+              (step self.old.table (B.act self.old.behaviour) self.old.state event.now).state;
+        }) }
         ensures err { OnErr result (self.new ≡ self.old) }
     {
-        let shown = step(&self.table, &mut self.stations, event)?;
-        self.events += 1;
-        Ok(outcome(self.stations.allocator(), shown))
+        let stepped = step(&self.table, &self.behaviour, &self.state, event)?;
+        self.state = stepped.state;
+        Ok(stepped.outcome)
     }
 
-    /// What a check lists: the nodes by rising port. Its one error is want of memory.
+    /// What a check lists: the nodes by rising port, each with its root, its closed ends, its
+    /// objects and their entries.
+    ///
+    /// Its one error is that memory ran out.
     pub fn snapshot(&self) -> Result<Snapshot, AllocError>
-        ensures listed { IfOk result (λ listed. listed ≡ snapshot self.now.state) }
-        ensures rising { IfOk result (λ listed. IsStrictlyIncreasing (map (λ n. n.node) listed.nodes)) }
+        ensures { IfOk result (λ listed. listed ≡ snapshot self.now.state) }
     {
-        list(&self.stations)
-    }
-}
-
-/// What an event shows, where it is enabled.
-fn step(
-    table: &ClassTable,
-    stations: &mut Stations,
-    event: &Event,
-) -> Result<Option<ShownList>, AllocError>
-    requires { FewCalls (2 ^ 63) stations.old }
-    ensures ok { IfOk result (λ shown. ComesTo stations.new shown (step (laws_of table.now) (state_of stations.old) event.now)) }
-    ensures calls { (k : ℕ) → FewCalls k stations.old → FewCalls (suc k) stations.new }
-    ensures err { OnErr result (state_of stations.new ≡ state_of stations.old) }
-    ensures kept { OnErr result ((k : ℕ) → FewCalls k stations.old → FewCalls k stations.new) }
-{
-    match event {
-        Event::Start {
-            node,
-            selector,
-            values,
-        } => start(table, stations, *node, selector, values),
-        Event::Run { node } => run(table, stations, *node),
-        Event::Take { node, from } => take(table, stations, *node, *from),
-        Event::Check => Ok(Some(ShownList::new(stations.allocator()))),
-        Event::Close { .. } | Event::Lose { .. } | Event::Timeout { .. } => Ok(None),
-    }
-}
-
-/// What a step came to: what it showed, where it was enabled.
-fn outcome(alloc: Global, shown: Option<ShownList>) -> Outcome
-    ensures { result ≡ outcome_with shown }
-{
-    match shown {
-        Some(shown) => Outcome {
-            enabled: true,
-            shown,
-        },
-        None => Outcome {
-            enabled: false,
-            shown: ShownList::new(alloc),
-        },
+        snapshot(&self.state)
     }
 }

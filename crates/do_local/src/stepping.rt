@@ -1,158 +1,200 @@
-ghost use Rattle.std.specs.Prelude.{◌≡◌, ◌^◌, ℕ, suc, [], IfOk, OnErr, drop};
-ghost use Rattle.do_local.specs.Laws.{laws_of};
-ghost use Rattle.do_local.specs.Stations.{ComesTo, FewCalls, queues_of, state_of};
-ghost use Rattle.do_local.specs.Step.{begun, run, start, take, without_first};
-ghost use Rattle.do_local.specs.Tables.{change};
+//! What each event does to a state.
+ghost use Rattle.std.specs.Prelude.{◌≡◌, IfOk, drop};
+ghost use Rattle.std.specs.List.{insert};
+ghost use Rattle.do_machine.specs.Step.{close, enabled_step, moved_by, run, start, step, take};
+ghost use Rattle.do_machine.specs.Step.{timeout};
+ghost use Rattle.do_machine.specs.ends.Losing.{lost};
 
-use crate::find::{own_method, queue_at, station, station_at};
-use crate::fresh::fresh;
-use crate::invocation::{Invocation, Reason};
-use crate::item::Item;
-use crate::laws::values_fit;
-use crate::node::Node;
-use crate::receipt::{Receipt, can_take, examine, next_item};
-use crate::station::{Queue, Stations};
-use crate::verdicts::decided;
-use do_base::{Items, NodeId, Reserved, ShownList, Text, Values};
+use crate::commit::{moved, showed, skipped};
+use crate::copies::copy_items;
+use crate::stations::with_queue_of;
+use do_base::{Event, Items, NodeId, ShownList, Text, Values};
+use do_behave::Behaviour;
 use do_class::ClassTable;
+use do_machine::{Effect, Item, State, Stepped};
+use do_rules::{
+    Context, can_take, closing, is_open, node_at, queue, run_effect, start_effect, time_out,
+};
 use std::alloc::AllocError;
 
-/// A run of a node: what it shows, where it is enabled.
-#[tactic(auto, using(crate::proofs::Moves::run_steps))]
-pub fn run(
-    table: &ClassTable,
-    stations: &mut Stations,
+/// Where there is an effect, the node moves.
+fn moved_by(
     port: NodeId,
-) -> Result<Option<ShownList>, AllocError>
-    requires { FewCalls (2 ^ 63) stations.old }
-    ensures ok { IfOk result (λ shown. ComesTo stations.new shown (run (laws_of table.now) (state_of stations.old) port)) }
-    ensures calls { (k : ℕ) → FewCalls k stations.old → FewCalls (suc k) stations.new }
-    ensures err { OnErr result (state_of stations.new ≡ state_of stations.old) }
-    ensures kept { OnErr result ((k : ℕ) → FewCalls k stations.old → FewCalls k stations.new) }
+    state: &State,
+    effect: Option<Effect>,
+) -> Result<Option<Stepped>, AllocError>
+    ensures { IfOk result (λ s. s ≡ moved_by port state.now effect) }
 {
-    let Some(at) = station_at(stations, port) else {
-        return Ok(None);
-    };
-    let Some(verdict) = decided(table, stations, &station(stations, at).node)? else {
-        return Ok(None);
-    };
-    let station = stations.at_mut(at);
-    Ok(Some(station.run(verdict)?))
+    match effect {
+        Some(effect) => Ok(Some(moved(port, state, effect)?)),
+        None => Ok(None),
+    }
 }
 
-/// The invocation that a start begins, where it is enabled.
-fn begun(
+/// The node of a port is started.
+fn start(
     table: &ClassTable,
-    selector: &Text,
-    values: &Values,
-    node: &Node,
-) -> Result<Option<Invocation>, AllocError>
-    ensures { IfOk result (λ i. i ≡ begun (laws_of table.now) selector.now values.now node.now) }
-{
-    if !node.is_idle() {
-        return Ok(None);
-    }
-    let Some(root) = node.root else {
-        return Ok(None);
-    };
-    let Some(method) = own_method(table, node, root, selector) else {
-        return Ok(None);
-    };
-    if !values_fit(table, method, values) {
-        return Ok(None);
-    }
-    Ok(Some(fresh(node.own(root), method, Reason::Start, values)?))
-}
-
-/// A start of a node: it shows nothing, where it is enabled.
-#[tactic(auto, using(crate::proofs::Moves::start_steps))]
-pub fn start(
-    table: &ClassTable,
-    stations: &mut Stations,
+    state: &State,
     port: NodeId,
     selector: &Text,
     values: &Values,
-) -> Result<Option<ShownList>, AllocError>
-    ensures ok { IfOk result (λ shown. ComesTo stations.new shown (start (laws_of table.now) (state_of stations.old) port selector.now values.now)) }
-    ensures calls { (k : ℕ) → FewCalls k stations.old → FewCalls (suc k) stations.new }
-    ensures err { OnErr result (state_of stations.new ≡ state_of stations.old) }
-    ensures kept { OnErr result ((k : ℕ) → FewCalls k stations.old → FewCalls k stations.new) }
+) -> Result<Option<Stepped>, AllocError>
+    ensures { IfOk result (λ s. s ≡ start table.now state.now port selector.now values.now) }
 {
-    let Some(at) = station_at(stations, port) else {
+    let Some(node) = node_at(state, port) else {
         return Ok(None);
     };
-    let Some(invocation) = begun(table, selector, values, &station(stations, at).node)? else {
-        return Ok(None);
-    };
-    let station = stations.at_mut(at);
-    station.begin(invocation)?;
-    Ok(Some(ShownList::new(stations.allocator())))
+    moved_by(port, state, start_effect(table, selector, values, node)?)
 }
 
-/// The first item is taken out, where there is one.
-#[tactic(auto, using(crate::proofs::Dropping::drop_steps))]
-fn pop(items: &mut Reserved<Item>)
-    ensures { items.new.items ≡ drop 1 items.old.items }
-{
-    items.pop_front();
-}
-
-/// The first item of a queue is taken out.
-#[tactic(auto, using(crate::proofs::Dropping::drop_steps))]
-fn pop_first(queues: &mut Items<Queue>, to: NodeId)
-    ensures { queues_of queues.new ≡ change to (drop 1) (queues_of queues.old) }
-{
-    if let Some(at) = queue_at(queues, to) {
-        let queue = queues.at_mut(at);
-        pop(&mut queue.items);
-    }
-}
-
-/// The first item from a node to another is taken out.
-#[tactic(auto, using(crate::proofs::Dropping::drop_steps))]
-fn drop_first(stations: &mut Stations, from: NodeId, to: NodeId)
-    ensures state { state_of stations.new ≡ without_first (state_of stations.old) from to }
-    ensures calls { (k : ℕ) → FewCalls k stations.old → FewCalls k stations.new }
-{
-    if let Some(at) = station_at(stations, from) {
-        let station = stations.at_mut(at);
-        pop_first(&mut station.queues, to);
-    }
-}
-
-/// A node takes the first item of a peer: what it shows, where it is enabled.
-#[tactic(auto, using(crate::proofs::Takes::take_steps))]
-pub fn take(
+/// The top invocation of a node does one act.
+fn run<B: Behaviour>(
     table: &ClassTable,
-    stations: &mut Stations,
+    behaviour: &B,
+    state: &State,
+    port: NodeId,
+) -> Result<Option<Stepped>, AllocError>
+    ensures { IfOk result (λ s. s ≡ run table.now (B.act behaviour.now) state.now port) }
+{
+    let Some(node) = node_at(state, port) else {
+        return Ok(None);
+    };
+    let context = Context { table, state, node };
+    moved_by(port, state, run_effect(context, behaviour)?)
+}
+
+/// Items but the oldest.
+fn without_oldest(items: &Items<Item>) -> Result<Items<Item>, AllocError>
+    ensures { IfOk result (λ is. is ≡ drop 1 items.now) }
+{
+    let mut rest = copy_items(items)?;
+    if !rest.is_empty() {
+        rest.remove(0);
+    }
+    Ok(rest)
+}
+
+/// A node takes the oldest item that waits from another.
+fn take(
+    table: &ClassTable,
+    state: &State,
     port: NodeId,
     from: NodeId,
-) -> Result<Option<ShownList>, AllocError>
-    ensures ok { IfOk result (λ shown. ComesTo stations.new shown (take (laws_of table.now) (state_of stations.old) port from)) }
-    ensures calls { (k : ℕ) → FewCalls k stations.old → FewCalls (suc k) stations.new }
-    ensures err { OnErr result (state_of stations.new ≡ state_of stations.old) }
-    ensures kept { OnErr result ((k : ℕ) → FewCalls k stations.old → FewCalls k stations.new) }
+) -> Result<Option<Stepped>, AllocError>
+    ensures { IfOk result (λ s. s ≡ take table.now state.now port from) }
 {
-    if port == from {
-        return Ok(None);
-    }
-    let Some(at) = station_at(stations, port) else {
+    let Some(node) = node_at(state, port) else {
         return Ok(None);
     };
-    if !can_take(&station(stations, at).node, &from) {
+    if !can_take(node, from) {
         return Ok(None);
     }
-    let Some(item) = next_item(stations, from, port) else {
+    let Some(waiting) = queue(state, from, port) else {
         return Ok(None);
     };
-    let receipt = examine(table, stations, &station(stations, at).node, from, item)?;
-    let Receipt {
-        arrival,
-        held,
-        shown,
-    } = receipt;
-    let station = stations.at_mut(at);
-    station.accept(&from, held, arrival)?;
-    drop_first(stations, from, port);
-    Ok(Some(shown))
+    let Some(item) = waiting.get(0) else {
+        return Ok(None);
+    };
+    let taken = with_queue_of(from, port, without_oldest(waiting)?, state)?;
+    let context = Context {
+        table,
+        state: &taken,
+        node,
+    };
+    let effect = context.take_effect(from, item)?;
+    Ok(Some(moved(port, &taken, effect)?))
+}
+
+/// A node closes its end of the connection to a peer.
+fn close(state: &State, port: NodeId, peer: NodeId) -> Result<Option<Stepped>, AllocError>
+    ensures { IfOk result (λ s. s ≡ close state.now port peer) }
+{
+    let Some(node) = node_at(state, port) else {
+        return Ok(None);
+    };
+    if !is_open(node, peer) {
+        return Ok(None);
+    }
+    let effect = closing(peer, node)?;
+    Ok(Some(moved(port, state, effect)?))
+}
+
+/// The top invocation of a node waits no longer for its call.
+fn timeout(state: &State, port: NodeId) -> Result<Option<Stepped>, AllocError>
+    ensures { IfOk result (λ s. s ≡ timeout state.now port) }
+{
+    let Some(node) = node_at(state, port) else {
+        return Ok(None);
+    };
+    moved_by(port, state, time_out(node)?)
+}
+
+/// An end that names nothing stands behind so many items, where the reader's end is open.
+fn lost(state: &State, from: NodeId, to: NodeId, after: u64) -> Result<Option<State>, AllocError>
+    ensures { IfOk result (λ s. s ≡ lost state.now from to after) }
+{
+    let Some(node) = node_at(state, to) else {
+        return Ok(None);
+    };
+    if !is_open(node, from) {
+        return Ok(None);
+    }
+    let Some(waiting) = queue(state, from, to) else {
+        return Ok(None);
+    };
+    if (waiting.len() as u64) < after {
+        return Ok(None);
+    }
+    let mut items = copy_items(waiting)?;
+    let end = Item::End {
+        serials: Items::new(items.allocator()),
+    };
+    items.insert(after as usize, end)?;
+    Ok(Some(with_queue_of(from, to, items, state)?))
+}
+
+/// What an event does, where it is enabled.
+fn enabled_step<B: Behaviour>(
+    table: &ClassTable,
+    behaviour: &B,
+    state: &State,
+    event: &Event,
+) -> Result<Option<Stepped>, AllocError>
+    ensures { IfOk result (λ s.
+        s ≡ enabled_step table.now (B.act behaviour.now) state.now event.now) }
+{
+    match event {
+        Event::Start {
+            node,
+            selector,
+            values,
+        } => start(table, state, *node, selector, values),
+        Event::Run { node } => run(table, behaviour, state, *node),
+        Event::Take { node, from } => take(table, state, *node, *from),
+        Event::Close { node, peer } => close(state, *node, *peer),
+        Event::Lose { from, to, after } => match lost(state, *from, *to, *after)? {
+            Some(after) => Ok(Some(showed(ShownList::new(after.stations.allocator()), after))),
+            None => Ok(None),
+        },
+        Event::Timeout { node } => timeout(state, *node),
+        Event::Check => {
+            let shown = ShownList::new(state.stations.allocator());
+            Ok(Some(showed(shown, state.clone()?)))
+        }
+    }
+}
+
+/// What an event does: one that is not enabled changes nothing.
+pub(crate) fn step<B: Behaviour>(
+    table: &ClassTable,
+    behaviour: &B,
+    state: &State,
+    event: &Event,
+) -> Result<Stepped, AllocError>
+    ensures { IfOk result (λ s. s ≡ step table.now (B.act behaviour.now) state.now event.now) }
+{
+    match enabled_step(table, behaviour, state, event)? {
+        Some(stepped) => Ok(stepped),
+        None => Ok(skipped(state.clone()?)),
+    }
 }

@@ -9,4 +9,7 @@ pub mod Lookups
 pub mod Linked
 pub mod NoQueue
 pub mod Commits
+pub mod EntriesMoved
+pub mod EntriesTaken
+pub mod EntriesLost
 pub mod Steps

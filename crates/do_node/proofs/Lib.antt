@@ -1,4 +1,9 @@
-pub mod FaultIsAnswered
+pub mod FilesTold
 pub mod RunsStepByStep
 pub mod SentIsPrefix
 pub mod BlocksToCome
+pub mod OpenedWorld
+pub mod GivenWorld
+pub mod Obeying
+pub mod Replayed
+pub mod WordsRead

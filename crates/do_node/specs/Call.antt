@@ -1,45 +1,111 @@
--- What a run answers and writes.
-use Rattle.std.specs.Prelude.{◌≡◌, ℕ, ◌⊎◌, List, Option, Some}
-use Rattle.std.specs.Option.{IsSomeAnd}
+-- What a command writes, and why it is refused.
+use Rattle.std.specs.Prelude.{◌≡◌, ℕ, ◌⊎◌, List, Option, Some, None, Result, OnOk, IfErr, IsOk}
+use Rattle.std.specs.Prelude.{IsErrOf}
 use Rattle.do_base.specs.outside.Bytes.{with_more, HasWritten}
+use Rattle.do_base.specs.outside.Causes.{Rose}
 use Rattle.do_base.specs.declared.outside.shelf.NamedFile.{NamedFile}
+use Rattle.do_cli.specs.Help.{help_text, version_text}
+use Rattle.do_cli.specs.declared.command.Command.{Command}
+use Rattle.do_cli.specs.declared.command.Command.TheVariants.{Replay, Upgrade, Help, Version}
 use Rattle.do_sched.specs.declared.line.Line.{Line}
-use Rattle.do_node.specs.Words.{schedule_named}
-use Rattle.do_node.specs.Reading.{Has, IsRead}
-use Rattle.do_node.specs.Replaying.{counter_transcript}
+use Rattle.do_sched.specs.declared.version.Version.TheVariants.{First, Second}
+use Rattle.do_world.specs.Builtin.{builtin_world}
+use Rattle.do_world.specs.declared.world.World.{World}
 use Rattle.do_node.specs.declared.status.Status.{Status}
-use Rattle.do_node.specs.declared.status.Status.TheVariants.{Usage, ReadFault, TooLong, BadSchedule}
-use Rattle.do_node.specs.declared.status.Status.TheVariants.{Memory}
+use Rattle.do_node.specs.declared.status.Status.TheVariants as answer
+use Rattle.do_node.specs.Files.{IsUnread}
+use Rattle.do_node.specs.Reading.{GivesWorld, IsUpgrade, RefusesWorld, SaysLines, SaysNoLines}
+use Rattle.do_node.specs.Reading.{Stops}
+use Rattle.do_node.specs.Replaying.{world_transcript}
 
--- the words name a schedule, and the shelf tells that its file has these bytes
-pub record IsGiven (told : Option (List NamedFile)) (words : List (List ℕ))
-    (bytes : List ℕ) : Type 0 where
-  pub name : List ℕ
-  pub named : schedule_named words ≡ Some name
-  pub has : Has told name bytes
-
--- the whole transcript of the schedule that was read was added to a sink that tells what it holds
-pub record WritesAll (told : Option (List NamedFile)) (words : List (List ℕ))
-    (old new : Option (List ℕ)) : Type 0 where
+-- the text is the transcript of a schedule over a world
+pub record IsReplay (told : Option (List NamedFile)) (word name text : List ℕ) : Type 0 where
+  pub world : World
+  pub gives : GivesWorld told word world
   pub lines : List Line
-  pub read : IsSomeAnd (schedule_named words) (λ name. IsRead told name lines)
-  pub written : new ≡ with_more old (counter_transcript lines)
+  pub says : SaysLines Second told name lines
+  pub is : text ≡ world_transcript world lines
 
--- the first bytes of that transcript were added
-pub record WritesSome (told : Option (List NamedFile)) (words : List (List ℕ))
+-- what a command writes, where the shelf tells such files
+abbrev pub Writes : Option (List NamedFile) → Command → List ℕ → Type 0
+Writes told (Replay world schedule) text = IsReplay told world schedule text
+Writes told (Upgrade schedule) text = IsUpgrade told schedule text
+Writes told Help text = text ≡ help_text
+Writes told Version text = text ≡ version_text
+
+-- a world is given, and no schedule
+pub record RefusesSecond (told : Option (List NamedFile)) (word name : List ℕ)
+    (status : Status) : Type 0 where
+  pub world : World
+  pub gives : GivesWorld told word world
+  pub refuses : SaysNoLines Second told name status
+
+-- why a command is refused, where the shelf tells such files: the first of its words that gives
+-- nothing
+abbrev pub Refuses : Option (List NamedFile) → Command → Status → Type 0
+Refuses told (Replay world schedule) status =
+    RefusesWorld told world status ⊎ RefusesSecond told world schedule status
+Refuses told (Upgrade schedule) status = SaysNoLines First told schedule status
+Refuses told command status = ⊥
+
+-- a file that a command reads could not be read
+abbrev pub HasUnread : Option (List NamedFile) → ℕ → ℕ → Command → Type 0
+HasUnread told before now (Replay world schedule) =
+    ((builtin_world world ≡ None) × IsUnread told before now world)
+    ⊎ IsUnread told before now schedule
+HasUnread told before now (Upgrade schedule) = IsUnread told before now schedule
+HasUnread told before now command = ⊥
+
+-- all files of a command were read and say what they are to say
+pub record CanWrite (told : Option (List NamedFile)) (command : Command) : Type 0 where
+  pub text : List ℕ
+  pub writes : Writes told command text
+
+-- what a command writes was added to a sink that tells what it holds
+pub record WritesAll (told : Option (List NamedFile)) (command : Command)
     (old new : Option (List ℕ)) : Type 0 where
-  pub lines : List Line
-  pub read : IsSomeAnd (schedule_named words) (λ name. IsRead told name lines)
-  pub written : HasWritten old new (counter_transcript lines)
+  pub text : List ℕ
+  pub writes : Writes told command text
+  pub written : new ≡ with_more old text
 
--- the answer is this one, unless the shelf could not be read or memory ran out
-abbrev pub OrUnread : Status → Status → Type 0
-OrUnread wanted result = (result ≡ wanted) ⊎ (result ≡ ReadFault) ⊎ (result ≡ Memory)
+-- the first bytes of what a command writes were added
+pub record WritesSome (told : Option (List NamedFile)) (command : Command)
+    (old new : Option (List ℕ)) : Type 0 where
+  pub text : List ℕ
+  pub writes : Writes told command text
+  pub written : HasWritten old new text
 
--- what is answered before anything is written
+-- the answers that say what is wrong with a file
 abbrev pub IsRefusal : Status → Type 0
-IsRefusal (Usage word) = Unit {0}
-IsRefusal ReadFault = Unit {0}
-IsRefusal (TooLong read limit) = Unit {0}
-IsRefusal (BadSchedule line) = Unit {0}
-IsRefusal result = ⊥
+IsRefusal (answer.TooLong read limit) = Unit {0}
+IsRefusal (answer.BadWorld fault) = Unit {0}
+IsRefusal (answer.BadSchedule line) = Unit {0}
+IsRefusal status = ⊥
+
+-- the answers before which nothing is written
+abbrev pub WritesNothing : Status → Type 0
+WritesNothing (answer.Usage word) = Unit {0}
+WritesNothing answer.ReadFault = Unit {0}
+WritesNothing status = IsRefusal status
+
+-- a count, before and after a call
+pub record Counts : Type 0 where
+  pub before : ℕ
+  pub now : ℕ
+
+-- what a command comes to over a shelf, whose faults are counted, and a sink, of which it is told
+-- what it held and holds, and its faults
+pub record Obeys (told : Option (List NamedFile)) (command : Command) (reads : Counts)
+    (old new : Option (List ℕ)) (puts : Counts) (result : Result Unit Status) : Type 0 where
+  pub whole : OnOk result (WritesAll told command old new)
+  pub stopped : IfErr result (Stops (HasUnread told reads.before reads.now command)
+      (Rose puts.before puts.now × CanWrite told command) (Refuses told command))
+  pub prefix : (new ≡ old) ⊎ WritesSome told command old new
+  pub nothing : IfErr result (λ status. WritesNothing status → new ≡ old)
+  pub refuses : (files : List NamedFile) (status : Status) → told ≡ Some files
+      → Refuses (Some files) command status
+      → IsErrOf result status ⊎ IsErrOf result answer.ReadFault ⊎ IsErrOf result answer.Memory
+  pub complete : (files : List NamedFile) (text : List ℕ) → told ≡ Some files
+      → Writes (Some files) command text
+      → ¬ Rose reads.before reads.now → ¬ Rose puts.before puts.now
+      → IsOk result ⊎ IsErrOf result answer.Memory

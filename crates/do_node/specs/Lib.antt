@@ -1,5 +1,5 @@
 pub mod Status
-pub mod Words
+pub mod Files
 pub mod Reading
 pub mod Replaying
 pub mod Call

@@ -1,81 +1,104 @@
--- The schedule that a run reads.
-use Rattle.std.specs.Prelude.{◌≡◌, ℕ, ◌+◌, ◌<◌, ◌≤◌, ◌⊎◌, List, length, Option, Some, None, Result}
-use Rattle.std.specs.Prelude.{Ok, Err}
-use Rattle.std.specs.Option.{ForSome, IsSomeAnd}
-use Rattle.do_base.specs.outside.Causes.{Rose}
-use Rattle.do_base.specs.outside.Files.{file_named}
+-- What the words of a command give: a world, the lines of a schedule, an upgraded schedule.
+use Rattle.std.specs.Prelude.{◌≡◌, ℕ, ◌⊎◌, List, Option, Some, None, Result, Err}
 use Rattle.do_base.specs.declared.outside.shelf.NamedFile.{NamedFile}
 use Rattle.do_sched.specs.declared.line.Line.{Line}
-use Rattle.do_sched.specs.Schedule.{IsSchedule, IsFaultAt}
-use Rattle.do_node.specs.declared.reading.ReadEnd.{ReadEnd}
-use Rattle.do_node.specs.declared.reading.ReadEnd.TheVariants.{Failed, TooLong, Faulty, Memory}
+use Rattle.do_sched.specs.declared.fault.SchedFault.{SchedFault}
+use Rattle.do_sched.specs.declared.fault.SchedFault.TheVariants as sched
+use Rattle.do_sched.specs.declared.version.Version.{Version}
+use Rattle.do_sched.specs.declared.version.Version.TheVariants.{First, Second}
+use Rattle.do_sched.specs.Schedule.{IsScheduleOf, IsFaultOf}
+use Rattle.do_sched.specs.Spelling.{spelling}
+use Rattle.do_world.specs.Builtin.{builtin_world}
+use Rattle.do_world.specs.Reading.{IsWorldText, first_fault}
+use Rattle.do_document.specs.declared.fault.WorldFault.{WorldFault}
+use Rattle.do_world.specs.declared.world.World.{World}
+use Rattle.do_node.specs.declared.status.Status.{Status}
+use Rattle.do_node.specs.declared.status.Status.TheVariants.{ReadFault, BadWorld, BadSchedule}
+use Rattle.do_node.specs.declared.status.Status.TheVariants.{WriteFault, Memory}
+use Rattle.do_node.specs.Files.{IsFile, IsLong, most_of_schedule, most_of_world}
 
--- the most bytes of a schedule
-abbrev pub most_bytes : ℕ
-most_bytes = 67108864
-
--- a shelf that tells its files has one of this name with these bytes
-abbrev pub MayHave : Option (List NamedFile) → List ℕ → List ℕ → Type 0
-MayHave told name bytes = ForSome told (λ files. file_named name files ≡ Some bytes)
-
--- a shelf tells its files, and has one of this name with these bytes
-pub record Has (told : Option (List NamedFile)) (name bytes : List ℕ) : Type 0 where
-  pub files : List NamedFile
-  pub tells : told ≡ Some files
-  pub named : file_named name files ≡ Some bytes
-
--- a schedule of these lines was read, from the file of that name where the shelf tells its files
-pub record IsRead (told : Option (List NamedFile)) (name : List ℕ)
-    (lines : List Line) : Type 0 where
+-- the file of a name has a text that reads so
+pub record HasText {A : Type 0} (reads : List ℕ → A → Type 0) (told : Option (List NamedFile))
+    (name : List ℕ) (most : ℕ) (x : A) : Type 0 where
   pub bytes : List ℕ
-  pub named : MayHave told name bytes
-  pub short : length bytes ≤ most_bytes
-  pub spelled : IsSchedule bytes lines
+  pub file : IsFile told name most bytes
+  pub is_read : reads bytes x
 
--- some schedule was read, from the file of that name where the shelf tells its files
-abbrev pub IsReadable : Option (List NamedFile) → List ℕ → Type 0
-IsReadable told name = (lines : List Line) × IsRead told name lines
-
--- what was read is no schedule, and this line of it is the first faulty one
-pub record IsFaulty (told : Option (List NamedFile)) (name : List ℕ) (line : ℕ) : Type 0 where
-  pub bytes : List ℕ
-  pub named : MayHave told name bytes
-  pub short : length bytes ≤ most_bytes
-  pub fault : IsFaultAt bytes line
-
--- the file of that name is longer than may be, where the shelf tells its files, and one byte more
--- was read
-pub record IsLong (told : Option (List NamedFile)) (name : List ℕ) (read limit : ℕ) : Type 0 where
-  pub at_limit : limit ≡ most_bytes
-  pub past_limit : read ≡ limit + 1
-  pub longer : ForSome told
-      (λ files. IsSomeAnd (file_named name files) (λ bytes. limit < length bytes))
-
--- the shelf's count of faults rose, or it tells its files and has none of that name
-abbrev pub IsUnread : Option (List NamedFile) → ℕ → ℕ → List ℕ → Type 0
-IsUnread told before now name =
-    Rose before now ⊎ IsSomeAnd told (λ files. file_named name files ≡ None)
-
--- why reading answers so; that memory ran out has no cause here
-abbrev pub ReadCause : Option (List NamedFile) → ℕ → ℕ → List ℕ → Result (List Line) ReadEnd
+-- the file of a name is too long, or has a text that is refused so
+abbrev pub NamesNone : (List ℕ → Status → Type 0) → Option (List NamedFile) → List ℕ → ℕ → Status
     → Type 0
-ReadCause told before now name (Ok lines) = IsRead told name lines
-ReadCause told before now name (Err Failed) = IsUnread told before now name
-ReadCause told before now name (Err (TooLong read limit)) = IsLong told name read limit
-ReadCause told before now name (Err (Faulty line)) = IsFaulty told name line
-ReadCause told before now name (Err Memory) = Unit {0}
+NamesNone refuses told name most status =
+    IsLong told name most status ⊎ HasText refuses told name most status
 
--- what bytes are read as
-abbrev pub BytesCause : List ℕ → Result (List Line) ReadEnd → Type 0
-BytesCause bytes (Ok lines) = IsSchedule bytes lines
-BytesCause bytes (Err (Faulty line)) = IsFaultAt bytes line
-BytesCause bytes (Err Memory) = Unit {0}
-BytesCause bytes (Err end) = ⊥
+-- the bytes are no world's text, and the answer tells their first fault
+pub record IsNoWorld (bytes : List ℕ) (status : Status) : Type 0 where
+  pub fault : WorldFault
+  pub first : first_fault bytes ≡ Some fault
+  pub tells : status ≡ BadWorld fault
+
+-- the file of a name says this world
+abbrev pub SaysWorld : Option (List NamedFile) → List ℕ → World → Type 0
+SaysWorld told name world = HasText IsWorldText told name most_of_world world
+
+-- the file of a name is too long, or says no world
+abbrev pub SaysNoWorld : Option (List NamedFile) → List ℕ → Status → Type 0
+SaysNoWorld told name status = NamesNone IsNoWorld told name most_of_world status
+
+-- a word gives a world: it is the name of a built-in one, or else of a file that says it
+abbrev pub GivesWorld : Option (List NamedFile) → List ℕ → World → Type 0
+GivesWorld told word world = (builtin_world word ≡ Some world)
+    ⊎ ((builtin_world word ≡ None) × SaysWorld told word world)
+
+-- a word gives no world: it is the name of no built-in one, and its file says none
+abbrev pub RefusesWorld : Option (List NamedFile) → List ℕ → Status → Type 0
+RefusesWorld told word status = (builtin_world word ≡ None) × SaysNoWorld told word status
+
+-- what is told of a fault of a schedule: its line
+abbrev pub told_of : SchedFault → Status
+told_of (sched.BadLine line) = BadSchedule line
+told_of (sched.TooMany line) = BadSchedule line
+told_of (sched.NoEnd line) = BadSchedule line
+told_of sched.Memory = Memory
+
+-- the bytes are no schedule of a version, and the answer tells the line of their fault
+pub record IsNoSchedule (version : Version) (bytes : List ℕ) (status : Status) : Type 0 where
+  pub fault : SchedFault
+  pub is_fault : IsFaultOf version bytes fault
+  pub tells : status ≡ told_of fault
+
+-- the file of a name is the schedule of these lines, in a version
+abbrev pub SaysLines : Version → Option (List NamedFile) → List ℕ → List Line → Type 0
+SaysLines version told name lines =
+    HasText (IsScheduleOf version) told name most_of_schedule lines
+
+-- the file of a name is too long, or is no schedule of a version
+abbrev pub SaysNoLines : Version → Option (List NamedFile) → List ℕ → Status → Type 0
+SaysNoLines version told name status =
+    NamesNone (IsNoSchedule version) told name most_of_schedule status
+
+-- the bytes are a schedule of the first version, and the text is the one of the second that has the
+-- same lines
+pub record IsUpgraded (bytes text : List ℕ) : Type 0 where
+  pub lines : List Line
+  pub first : IsScheduleOf First bytes lines
+  pub spelled : text ≡ spelling Second lines
+
+-- the text is what the schedule in the file of a name is upgraded to
+abbrev pub IsUpgrade : Option (List NamedFile) → List ℕ → List ℕ → Type 0
+IsUpgrade told name text = HasText IsUpgraded told name most_of_schedule text
+
+-- what stops a command: memory that ran out, of which nothing is said, a file that could not be
+-- read, a sink that failed, or else a refusal
+abbrev pub Stops : (unread failed : Type 0) → (Status → Type 0) → Status → Type 0
+Stops unread failed refuses Memory = Unit {0}
+Stops unread failed refuses ReadFault = unread
+Stops unread failed refuses WriteFault = failed
+Stops unread failed refuses status = refuses status
 
 -- the answer is this one, unless memory ran out
-abbrev pub OrMemory : Result (List Line) ReadEnd → Result (List Line) ReadEnd → Type 0
+abbrev pub OrMemory : {A : Type 0} → Result A Status → Result A Status → Type 0
 OrMemory wanted result = (result ≡ wanted) ⊎ (result ≡ Err Memory)
 
--- the answer is this one, unless the shelf failed or memory ran out
-abbrev pub OrFails : Result (List Line) ReadEnd → Result (List Line) ReadEnd → Type 0
-OrFails wanted result = (result ≡ wanted) ⊎ (result ≡ Err Failed) ⊎ (result ≡ Err Memory)
+-- the answer is this one, unless a file could not be read or memory ran out
+abbrev pub OrUnread : {A : Type 0} → Result A Status → Result A Status → Type 0
+OrUnread wanted result = (result ≡ wanted) ⊎ (result ≡ Err ReadFault) ⊎ (result ≡ Err Memory)

@@ -1,16 +1,25 @@
 -- The transcript that a replay writes.
 use Rattle.std.specs.Prelude.{ℕ, List}
 use Rattle.do_sched.specs.declared.line.Line.{Line}
-use Rattle.do_local.specs.Laws.{laws_of}
-use Rattle.do_local.specs.Blocks.{blocks}
-use Rattle.do_local.specs.Machine.{Machine, opened}
-use Rattle.do_local.specs.CounterWorld.{counter_classes, counter_nodes}
+use Rattle.do_class.specs.Class.{Class}
+use Rattle.do_behave.specs.Script.{script}
+use Rattle.do_machine.specs.World.{opening}
+use Rattle.do_machine.specs.check.Blocks.{blocks}
+use Rattle.do_machine.specs.declared.state.State.{State}
+use Rattle.do_machine.specs.run.Run.{Acting}
+use Rattle.do_world.specs.Counter.{counter_world}
+use Rattle.do_world.specs.declared.world.World.{World}
 use Rattle.do_lines.specs.Transcript.{transcript}
 
--- the transcript of these lines, from a machine on
-unfoldable pub transcript_from : Machine → List Line → List ℕ
-transcript_from m lines = transcript m.table (blocks (laws_of m.table) m.state lines)
+-- the transcript of these lines, from a state on, of classes whose objects act so
+unfoldable pub transcript_from : List Class → Acting → State → List Line → List ℕ
+transcript_from table act S lines = transcript table (blocks table act S lines)
+
+-- the transcript of these lines over a world, from its opening on
+unfoldable pub world_transcript : World → List Line → List ℕ
+world_transcript w lines =
+    transcript_from w.table (script w.program) (opening w.table w.nodes) lines
 
 -- the transcript of these lines over the counter world
-unfoldable pub counter_transcript : List Line → List ℕ
-counter_transcript lines = transcript_from (opened counter_classes counter_nodes) lines
+abbrev pub counter_transcript : List Line → List ℕ
+counter_transcript lines = world_transcript counter_world lines

@@ -1,12 +1,10 @@
-ghost use Rattle.std.specs.Prelude.{◌≡◌, ◌+◌, ◌≤◌, ◌^◌, ◌++◌, OnOk, IfOk};
-ghost use Rattle.do_sched.specs.Good.{IsLine};
-ghost use Rattle.do_sched.specs.Spelling.{steps};
-ghost use Rattle.do_local.specs.Laws.{laws_of};
-ghost use Rattle.do_local.specs.Blocks.{block, line_step};
+ghost use Rattle.std.specs.Prelude.{◌≡◌, ◌++◌, OnOk, IfOk};
+ghost use Rattle.do_machine.specs.check.Blocks.{block, line_step, listed_at};
 ghost use Rattle.do_lines.specs.Transcript.{block_lines, listed_lines};
 
 use crate::stepping::step_line;
 use do_base::Text;
+use do_behave::Behaviour;
 use do_class::ClassTable;
 use do_lines::{push_check, push_head, push_outcome, stepped_node};
 use do_local::Local;
@@ -15,11 +13,15 @@ use do_trace::Snapshot;
 use std::alloc::{AllocError, Global};
 
 /// What a line lists: all that a check shows, or nothing.
-fn listed_at(local: &Local, line: &Line) -> Result<Option<Snapshot>, AllocError>
-    ensures { IfOk result (λ listed. listed
-        ≡ (block (laws_of local.now.table) local.now.state line.now).listed) }
+fn listed_at<B: Behaviour + Drop>(
+    local: &Local<B>,
+    line: &Line,
+) -> Result<Option<Snapshot>, AllocError>
+    ensures { IfOk result (λ listed. listed ≡ listed_at (line_step local.now.table
+        (B.act local.now.behaviour) local.now.state line.now).state line.now) }
 {
     match line {
+        // A check changes nothing, so it lists the state that it finds.
         Line::Check => Ok(Some(local.snapshot()?)),
         _ => Ok(None),
     }
@@ -41,23 +43,19 @@ fn push_listed(
 
 /// Does what a line says, and adds its block.
 ///
-/// The line is one that may stand in a schedule. If memory runs out, a part of the block may
-/// have been added.
-pub fn push_block(
+/// If memory runs out, a part of the block may have been added.
+pub fn push_block<B: Behaviour + Drop>(
     alloc: Global,
-    local: &mut Local,
+    local: &mut Local<B>,
     line: Line,
     text: &mut Text,
 ) -> Result<(), AllocError>
-    requires good { IsLine line }
-    requires room { local.old.events + steps line ≤ 2 ^ 40 }
-    ensures text { OnOk result
-        (text.new ≡ text.old ++ block_lines local.old.table
-        (block (laws_of local.old.table) local.old.state line)) }
-    ensures state { OnOk result
-        (local.new.state ≡ (line_step (laws_of local.old.table) local.old.state line).state) }
-    ensures table { OnOk result (local.new.table ≡ local.old.table) }
-    ensures counted { OnOk result (local.new.events ≡ local.old.events + steps line) }
+    ensures text { OnOk result (text.new ≡ text.old ++ block_lines local.old.table (block line
+        (line_step local.old.table (B.act local.old.behaviour) local.old.state line))) }
+    ensures state { OnOk result (local.new ≡ record local.old {
+      state = (line_step local.old.table
+          (B.act local.old.behaviour) local.old.state line).state;
+    }) }
 {
     push_head(text, &line)?;
     let node = stepped_node(&line);

@@ -1,9 +1,9 @@
-ghost use Rattle.std.specs.Prelude.{◌≡◌, ◌+◌, ◌-◌, ◌≤◌, ◌^◌, ◌||◌, ◌++◌, OnOk, IfOk};
-ghost use Rattle.do_sched.specs.Spelling.{steps};
-ghost use Rattle.do_local.specs.Laws.{laws_of};
-ghost use Rattle.do_local.specs.Blocks.{line_step, runs};
+ghost use Rattle.std.specs.Prelude.{◌≡◌, ◌||◌, ◌++◌, OnOk, IfOk};
+ghost use Rattle.do_sched.specs.declared.line.Line.TheVariants.{Run};
+ghost use Rattle.do_machine.specs.check.Blocks.{line_step};
 
 use do_base::{Event, Items, NodeId};
+use do_behave::Behaviour;
 use do_local::Local;
 use do_sched::Line;
 use do_trace::Outcome;
@@ -28,19 +28,18 @@ fn join(all: &mut Outcome, outcome: Outcome) -> Result<(), AllocError>
 
 /// `count` steps of a node's top invocation: what they showed, one after another, enabled
 /// where one of them was.
-fn run_steps(
+fn run_steps<B: Behaviour + Drop>(
     alloc: Global,
-    local: &mut Local,
+    local: &mut Local<B>,
     node: NodeId,
     count: u64,
 ) -> Result<Outcome, AllocError>
-    requires { local.old.events + count ≤ 2 ^ 40 }
-    ensures outcome { IfOk result
-        (λ outcome. outcome ≡ (runs count (laws_of local.old.table) node local.old.state).outcome) }
-    ensures state { OnOk result
-        (local.new.state ≡ (runs count (laws_of local.old.table) node local.old.state).state) }
-    ensures table { OnOk result (local.new.table ≡ local.old.table) }
-    ensures counted { OnOk result (local.new.events ≡ local.old.events + count) }
+    ensures outcome { IfOk result (λ outcome. outcome ≡ (line_step local.old.table
+        (B.act local.old.behaviour) local.old.state (Run node count)).outcome) }
+    ensures state { OnOk result (local.new ≡ record local.old {
+      state = (line_step local.old.table
+          (B.act local.old.behaviour) local.old.state (Run node count)).state;
+    }) }
 {
     let event = Event::Run { node };
     let mut all = Outcome {
@@ -55,14 +54,17 @@ fn run_steps(
 }
 
 /// What a line does: one event, or several single steps of a node.
-pub fn step_line(alloc: Global, local: &mut Local, line: Line) -> Result<Outcome, AllocError>
-    requires { local.old.events + steps line ≤ 2 ^ 40 }
-    ensures outcome { IfOk result
-        (λ outcome. outcome ≡ (line_step (laws_of local.old.table) local.old.state line).outcome) }
-    ensures state { OnOk result
-        (local.new.state ≡ (line_step (laws_of local.old.table) local.old.state line).state) }
-    ensures table { OnOk result (local.new.table ≡ local.old.table) }
-    ensures counted { OnOk result (local.new.events ≡ local.old.events + steps line) }
+pub fn step_line<B: Behaviour + Drop>(
+    alloc: Global,
+    local: &mut Local<B>,
+    line: Line,
+) -> Result<Outcome, AllocError>
+    ensures outcome { IfOk result (λ outcome. outcome ≡ (line_step local.old.table
+        (B.act local.old.behaviour) local.old.state line).outcome) }
+    ensures state { OnOk result (local.new ≡ record local.old {
+      state = (line_step local.old.table
+          (B.act local.old.behaviour) local.old.state line).state;
+    }) }
 {
     match line {
         Line::Start {
@@ -76,6 +78,9 @@ pub fn step_line(alloc: Global, local: &mut Local, line: Line) -> Result<Outcome
         }),
         Line::Run { node, count } => run_steps(alloc, local, node, count),
         Line::Take { node, from } => local.step(&Event::Take { node, from }),
+        Line::Close { node, peer } => local.step(&Event::Close { node, peer }),
+        Line::Lose { from, to, after } => local.step(&Event::Lose { from, to, after }),
+        Line::Timeout { node } => local.step(&Event::Timeout { node }),
         Line::Check => local.step(&Event::Check),
     }
 }

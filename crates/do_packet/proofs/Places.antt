@@ -2,8 +2,6 @@
 use Rattle.std.proofs.Common.{◌≡◌, ℕ, Bool, true, false, cond, List, [], ◌∷◌, ◌++◌, length}
 use Rattle.std.proofs.Common.{Option, Some, None, refl, sym, ap, ◌∙◌, arith, ⊎_elim}
 use Rattle.std.specs.BTreeMap.{BTreeMap, IsEmpty, Updates, get, is_at}
-use Rattle.std.specs.HashMap as Hashed
-use Rattle.std.specs.HashMap.{HashMap, get_by}
 use Rattle.std.specs.List.{list_any, position, position_or_len}
 use Rattle.std.specs.Map.{lookup}
 use Rattle.std.proofs.lemmas.Bool.{cases_Bool}
@@ -12,7 +10,7 @@ use Rattle.std.proofs.lemmas.List.Folds.{position_or_len_push}
 use Rattle.std.proofs.lemmas.List.Sums.{prefix_len-le-length}
 use Rattle.do_base.specs.names.Names.{ObjectName}
 use Rattle.do_packet.specs.Met.{met_one, place, same_object}
-use Rattle.do_packet.specs.walk.Places.{AreHashedPlaces, ArePlaces, key_eq, object_cmp}
+use Rattle.do_packet.specs.walk.Places.{ArePlaces, object_cmp}
 use Rattle.do_packet.proofs.Once.{same_is}
 use Rattle.do_packet.proofs.Walks.{same_object-refl}
 
@@ -88,15 +86,14 @@ met_new os o e = (
   none_place (same_object o) os e,
 )
 
--- what finds each object at its place goes on doing so where it finds one more at the end
-found_push : (os : List ObjectName) (o : ObjectName) (old new : ObjectName → Option ℕ) (k : ℕ) →
-    k ≡ length os → position (same_object o) os ≡ None →
-    ((q : ObjectName) → new q ≡ cond (same_object o q) (Some k) (old q)) →
-    ((q : ObjectName) → old q ≡ position (same_object q) os) →
-    (q : ObjectName) → new q ≡ position (same_object q) (os ++ o ∷ [])
-found_push os o old new k last absent updates places q =
+-- and so it is in the map
+pub places_push : (os : List ObjectName) (o : ObjectName) (old new : BTreeMap ObjectName ℕ)
+    (k : ℕ) → k ≡ length os → position (same_object o) os ≡ None →
+    Updates object_cmp old new o (Some k) → ArePlaces os old → ArePlaces (os ++ o ∷ []) new
+places_push os o old new k last absent updates places = λ q.
+    let before : Option ℕ = get object_cmp old q in
     let chosen = λ (b : Bool) (e : same_object o q ≡ b).
-    updates q ∙ ap (λ t. cond t (Some k) (old q)) e in
+    updates.0 q ∙ ap (λ t. cond t (Some k) before) (cmp_same o q ∙ e) in
     ⊎_elim
     (λ e.
     let here : same_object q o ≡ true = rw (same_is o q e) (same_object-refl q) in
@@ -107,21 +104,3 @@ found_push os o old new k last absent updates places q =
     let apart : same_object q o ≡ false = grind (arith, common_steps) in
     chosen false e ∙ places q ∙ sym (push_fail (same_object q) os o apart))
     (cases_Bool (same_object o q))
-
--- and so it is in the map
-pub places_push : (os : List ObjectName) (o : ObjectName) (old new : BTreeMap ObjectName ℕ)
-    (k : ℕ) → k ≡ length os → position (same_object o) os ≡ None →
-    Updates object_cmp old new o (Some k) → ArePlaces os old → ArePlaces (os ++ o ∷ []) new
-places_push os o old new k last absent updates places =
-    found_push os o (get object_cmp old) (get object_cmp new) k last absent
-    (λ q. updates.0 q ∙ ap (λ t. cond t (Some k) (get object_cmp old q)) (cmp_same o q)) places
-
--- and in the table of hashes
-pub hashed_push : {S : Type 0} (os : List ObjectName) (o : ObjectName)
-    (old new : HashMap (ℕ × ℕ) ℕ S) (k : ℕ) → k ≡ length os → position (same_object o) os ≡ None →
-    Hashed.Updates key_eq old new (o.node, o.serial) (Some k) → AreHashedPlaces os old →
-    AreHashedPlaces (os ++ o ∷ []) new
-hashed_push os o old new k last absent updates places =
-    found_push os o (λ q. get_by (key_eq (q.node, q.serial)) old)
-    (λ q. get_by (key_eq (q.node, q.serial)) new) k last absent
-    (λ q. updates.0 (q.node, q.serial)) places

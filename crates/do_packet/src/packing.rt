@@ -1,5 +1,4 @@
 //! Packing values into a message.
-mod met_copies;
 mod met_objects;
 mod naming;
 mod places;
@@ -34,8 +33,8 @@ const MOST_WEIGHT: u64 = 2_097_152;
 /// `TooLarge` comes exactly where the message would have more than 4,096 copies, with 4,097 and
 /// 4,096, or else weighs more than 2,097,152, with its weight and that limit; and `Memory` where
 /// memory ran out. Nothing that was given changes, and a message that is refused uses no token.
-/// The time grows with the message and, for an object that it names, with the logarithm of how many
-/// there are, whatever these are called.
+/// The time grows with the message and, for each object that it copies or names, with the logarithm
+/// of how many there are, whatever these are called.
 pub fn pack<V: View>(
     alloc: Global,
     table: &ClassTable,

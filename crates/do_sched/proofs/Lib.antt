@@ -4,3 +4,4 @@ pub mod LineExact
 pub mod LinesSoFar
 pub mod LineWithoutFeed
 pub mod AnswerUnique
+pub mod Upgraded

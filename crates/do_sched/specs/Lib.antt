@@ -1,3 +1,5 @@
+pub mod Value
+pub mod Version
 pub mod Spelling
 pub mod Good
 pub mod Schedule

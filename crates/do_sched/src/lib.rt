@@ -1,16 +1,22 @@
-//! Schedules as text: lists of lines, each one step or a run of steps, read exactly and printed.
+//! Schedules as text: lists of lines, each one step or a run of steps, read exactly and printed;
+//! and how values are written.
 //!
-//! Lines have four forms: a start with numbers as values, a run, a take and a check. Any other line
-//! is refused. The forms are this project's own.
+//! The second version of schedules is read, and one of the first is written anew as one of the
+//! second. The forms are this project's own.
 #![tactic(auto)]
 
 mod fault;
 mod line;
 mod printing;
 mod reading;
+mod upgrading;
+mod value;
+mod version;
 mod words;
 
 pub use fault::SchedFault;
 pub use line::{Line, Lines};
 pub use printing::{print_line, push_line};
 pub use reading::read_schedule;
+pub use upgrading::upgrade;
+pub use value::{push_object, push_value};

@@ -19,6 +19,21 @@ pub enum Line {
         node: NodeId,
         from: NodeId,
     },
+    /// A node closes its end of the connection to a peer.
+    Close {
+        node: NodeId,
+        peer: NodeId,
+    },
+    /// What `from` sent to `to` is lost behind the first `after` items. No node makes this step.
+    Lose {
+        from: NodeId,
+        to: NodeId,
+        after: u64,
+    },
+    /// The top invocation of a node waits no longer for its call. In no schedule of version 1.
+    Timeout {
+        node: NodeId,
+    },
     /// The stored objects, entries and closed ends of every node are shown.
     Check,
 }

@@ -1,12 +1,19 @@
 ghost use Rattle.std.specs.Prelude.{◌≡◌, ◌≤◌, IfOk, IfSome, length};
 ghost use Rattle.do_grammar.specs.Dec.{dec_in};
+ghost use Rattle.do_grammar.specs.Quoted.{front_view};
 ghost use Rattle.do_grammar.specs.Words.{word, part, text_view};
-ghost use Rattle.do_sched.specs.Reading.{pair_at, values_at, start_line_at, run_line_at};
-ghost use Rattle.do_sched.specs.Reading.{take_line_at, line_at};
+ghost use Rattle.do_sched.specs.Version.{longest};
+ghost use Rattle.do_sched.specs.Reading.{port_at, pair_at, word_value, is_quote_first, plain_at};
+ghost use Rattle.do_sched.specs.Reading.{values_at, start_line_at, run_line_at, take_line_at};
+ghost use Rattle.do_sched.specs.Reading.{close_line_at, lose_line_at, timeout_line_at, form_at};
+ghost use Rattle.do_sched.specs.Reading.{line_at};
 
 use crate::line::Line;
+use crate::version::Version;
 use do_base::{Items, NodeId, Text, Value, Values};
-use do_grammar::{colons_in, dec_of, int_of, is_selector, is_text, part_of, split_byte, word_of};
+use do_grammar::{
+    colons_in, dec_of, int_of, is_selector, is_text, part_of, quoted_of, split_byte, word_of,
+};
 use std::alloc::{AllocError, Global};
 
 /// The bytes before the first space, and those after it; none where there is no space.
@@ -28,15 +35,79 @@ fn part_in(bytes: &[u8]) -> (&[u8], &[u8])
 
 /// The node whose number these digits are.
 fn node_of(digits: &[u8]) -> Option<NodeId>
-    ensures { result ≡ dec_in 1 65535 digits.now }
+    ensures { result ≡ port_at digits.now }
 {
     NodeId::new(dec_of(digits, 1, 65535)? as u16)
 }
 
-/// So many numbers, a space before each; none where the bytes are no such numbers.
+/// A node's number, a space and a number between two bounds.
+fn pair_of(bytes: &[u8], low: u64, high: u64) -> Option<(NodeId, u64)>
+    ensures { result ≡ pair_at low high bytes.now }
+{
+    let (digits, number) = word_in(bytes)?;
+    let node = node_of(digits)?;
+    let number = dec_of(number, low, high)?;
+    Some((node, number))
+}
+
+/// Two nodes' numbers with a space between.
+fn nodes_of(bytes: &[u8]) -> Option<(NodeId, NodeId)>
+    ensures { result ≡ pair_at 1 65535 bytes.now }
+{
+    let (digits, others) = word_in(bytes)?;
+    let first = node_of(digits)?;
+    let second = node_of(others)?;
+    Some((first, second))
+}
+
+/// Nil or a number.
+fn word_value(word: &[u8]) -> Option<Value>
+    ensures { result ≡ word_value word.now }
+{
+    if is_text(word, b"nil") {
+        return Some(Value::Nil);
+    }
+    let number = int_of(word)?;
+    Some(Value::Num(number))
+}
+
+/// Whether a quote stands first.
+fn is_quote_first(bytes: &[u8]) -> bool
+    ensures { result ≡ is_quote_first bytes.now }
+{
+    match bytes {
+        [first, ..] => *first == b'"',
+        [] => false,
+    }
+}
+
+/// The plain value that begins the bytes, a text of at most `limit` bytes, and what stands behind
+/// it.
+fn plain_of(alloc: Global, bytes: &[u8], limit: usize) -> Result<Option<(Value, &[u8])>, AllocError>
+    ensures { IfOk result (λ found. front_view found ≡ plain_at limit bytes.now) }
+{
+    if is_quote_first(bytes) {
+        let Some((text, rest)) = quoted_of(alloc, bytes, limit)? else {
+            return Ok(None);
+        };
+        return Ok(Some((Value::Text(text), rest)));
+    }
+    let (word, rest) = part_in(bytes);
+    let Some(value) = word_value(word) else {
+        return Ok(None);
+    };
+    Ok(Some((value, rest)))
+}
+
+/// So many plain values, a space before each; none where the bytes are no such values.
 #[tactic(auto, using(crate::proofs::ValuesLoop::values_facts))]
-fn values_of(alloc: Global, bytes: &[u8], count: usize) -> Result<Option<Values>, AllocError>
-    ensures { IfOk result (λ values. values ≡ values_at count bytes.now) }
+fn values_of(
+    alloc: Global,
+    bytes: &[u8],
+    count: usize,
+    limit: usize,
+) -> Result<Option<Values>, AllocError>
+    ensures { IfOk result (λ values. values ≡ values_at limit count bytes.now) }
 {
     let mut values = Items::with_capacity(alloc, count)?;
     let mut rest = bytes;
@@ -47,11 +118,10 @@ fn values_of(alloc: Global, bytes: &[u8], count: usize) -> Result<Option<Values>
         if first != b' ' {
             return Ok(None);
         }
-        let (digits, after) = part_in(behind);
-        let Some(n) = int_of(digits) else {
+        let Some((value, after)) = plain_of(alloc, behind, limit)? else {
             return Ok(None);
         };
-        values.push(Value::Num(n))?;
+        values.push(value)?;
         rest = after;
     }
     if !rest.is_empty() {
@@ -61,8 +131,8 @@ fn values_of(alloc: Global, bytes: &[u8], count: usize) -> Result<Option<Values>
 }
 
 /// What stands behind `start `.
-fn start_of(alloc: Global, bytes: &[u8]) -> Result<Option<Line>, AllocError>
-    ensures { IfOk result (λ line. line ≡ start_line_at bytes.now) }
+fn start_of(alloc: Global, bytes: &[u8], limit: usize) -> Result<Option<Line>, AllocError>
+    ensures { IfOk result (λ line. line ≡ start_line_at limit bytes.now) }
 {
     let Some((digits, called)) = word_in(bytes) else {
         return Ok(None);
@@ -70,11 +140,11 @@ fn start_of(alloc: Global, bytes: &[u8]) -> Result<Option<Line>, AllocError>
     let Some(node) = node_of(digits) else {
         return Ok(None);
     };
-    let (selector, numbers) = part_in(called);
+    let (selector, values) = part_in(called);
     if !is_selector(selector) {
         return Ok(None);
     }
-    let Some(values) = values_of(alloc, numbers, colons_in(selector))? else {
+    let Some(values) = values_of(alloc, values, colons_in(selector), limit)? else {
         return Ok(None);
     };
     let selector = Text::from_slice(alloc, selector)?;
@@ -89,9 +159,7 @@ fn start_of(alloc: Global, bytes: &[u8]) -> Result<Option<Line>, AllocError>
 fn run_of(bytes: &[u8]) -> Option<Line>
     ensures { result ≡ run_line_at bytes.now }
 {
-    let (digits, count) = word_in(bytes)?;
-    let node = node_of(digits)?;
-    let count = dec_of(count, 1, 1000)?;
+    let (node, count) = pair_of(bytes, 1, 1000)?;
     Some(Line::Run { node, count })
 }
 
@@ -99,16 +167,73 @@ fn run_of(bytes: &[u8]) -> Option<Line>
 fn take_of(bytes: &[u8]) -> Option<Line>
     ensures { result ≡ take_line_at bytes.now }
 {
-    let (digits, from) = word_in(bytes)?;
-    let node = node_of(digits)?;
-    let from = node_of(from)?;
+    let (node, from) = nodes_of(bytes)?;
     Some(Line::Take { node, from })
+}
+
+/// What stands behind `close `.
+fn close_of(bytes: &[u8]) -> Option<Line>
+    ensures { result ≡ close_line_at bytes.now }
+{
+    let (node, peer) = nodes_of(bytes)?;
+    Some(Line::Close { node, peer })
+}
+
+/// What stands behind `lose `.
+fn lose_of(bytes: &[u8]) -> Option<Line>
+    ensures { result ≡ lose_line_at bytes.now }
+{
+    let (digits, rest) = word_in(bytes)?;
+    let from = node_of(digits)?;
+    let (to, after) = pair_of(rest, 0, u64::MAX)?;
+    Some(Line::Lose { from, to, after })
+}
+
+/// What stands behind `timeout `, where the version has time-outs.
+fn timeout_of(bytes: &[u8], version: Version) -> Option<Line>
+    ensures { result ≡ timeout_line_at version bytes.now }
+{
+    if !version.has_timeouts() {
+        return None;
+    }
+    let node = node_of(bytes)?;
+    Some(Line::Timeout { node })
+}
+
+/// The line that a first word and what stands behind it are.
+fn form_of(
+    alloc: Global,
+    first: &[u8],
+    rest: &[u8],
+    version: Version,
+) -> Result<Option<Line>, AllocError>
+    ensures { IfOk result (λ line. line ≡ form_at version (first.now, rest.now)) }
+{
+    if is_text(first, b"run") {
+        return Ok(run_of(rest));
+    }
+    if is_text(first, b"take") {
+        return Ok(take_of(rest));
+    }
+    if is_text(first, b"close") {
+        return Ok(close_of(rest));
+    }
+    if is_text(first, b"lose") {
+        return Ok(lose_of(rest));
+    }
+    if is_text(first, b"timeout") {
+        return Ok(timeout_of(rest, version));
+    }
+    if is_text(first, b"start") {
+        return start_of(alloc, rest, version.longest());
+    }
+    Ok(None)
 }
 
 /// The line that a text without its line feed spells, if it spells one.
 #[tactic(auto, unfolding(crate::specs::Reading::line_at))]
-pub fn line_from(alloc: Global, text: &[u8]) -> Result<Option<Line>, AllocError>
-    ensures { IfOk result (λ line. line ≡ line_at text.now) }
+pub fn line_from(alloc: Global, text: &[u8], version: Version) -> Result<Option<Line>, AllocError>
+    ensures { IfOk result (λ line. line ≡ line_at version text.now) }
 {
     if is_text(text, b"check") {
         return Ok(Some(Line::Check));
@@ -116,14 +241,5 @@ pub fn line_from(alloc: Global, text: &[u8]) -> Result<Option<Line>, AllocError>
     let Some((first, rest)) = word_in(text) else {
         return Ok(None);
     };
-    if is_text(first, b"run") {
-        return Ok(run_of(rest));
-    }
-    if is_text(first, b"take") {
-        return Ok(take_of(rest));
-    }
-    if is_text(first, b"start") {
-        return start_of(alloc, rest);
-    }
-    Ok(None)
+    form_of(alloc, first, rest, version)
 }

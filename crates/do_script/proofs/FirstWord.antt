@@ -95,4 +95,4 @@ words_some bytes x e = go (length bytes) (first_shorter bytes x e)
         rw e (ap (λ (ws : List (List ℕ)). x.0 ∷ ws)
         (enough m (length x.1) x.1 (omega arith) (omega arith)))
 
-pub ruleset splitting = (words_none, words_some, first_shorter)
+pub ruleset splits = (words_none, words_some, first_shorter)

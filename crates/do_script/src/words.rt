@@ -44,7 +44,7 @@ fn word_len(bytes: &[u8]) -> usize
 }
 
 /// The first word of a line and the bytes behind it; none where only spaces are left.
-#[tactic(auto, using(crate::proofs::FirstWord::splitting), unfolding(crate::specs::Words::first_word))]
+#[tactic(auto, using(crate::proofs::FirstWord::splits), unfolding(crate::specs::Words::first_word))]
 pub(crate) fn split_word(line: &[u8]) -> Option<(&[u8], &[u8])>
     ensures first { text_view result ≡ first_word line.now }
     ensures words { MatchOption result (words line.now ≡ [])

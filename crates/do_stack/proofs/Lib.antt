@@ -2,3 +2,4 @@ mod Answers
 pub mod UsesMove
 mod References
 pub mod ObjectsOnce
+pub mod UsesKept

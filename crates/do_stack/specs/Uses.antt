@@ -1,11 +1,16 @@
 -- How often objects are used: once for each value that names them.
-use Rattle.std.specs.Prelude.{◌≡◌, ◌<◌, ◌↔◌, ℕ, Bool, true, cond, List, [], ◌∷◌, ◌++◌, sum_by}
+use Rattle.std.specs.Prelude.{◌≡◌, ◌<◌, ◌↔◌, ◌+◌, ℕ, Bool, true, cond, List, [], ◌∷◌, ◌++◌, map}
+use Rattle.std.specs.Prelude.{sum_by}
 use Rattle.do_base.specs.names.Names.{ObjectName}
 use Rattle.do_base.specs.values.Values.{objects_of}
 use Rattle.do_base.specs.declared.values.value.Value.{Value}
 use Rattle.do_base.specs.declared.values.value.Value.TheVariants.{Obj}
 use Rattle.do_behave.specs.declared.invocation.Invocation.{Invocation}
-use Rattle.do_machine.specs.held.Refers.{state_values, stack_objects}
+use Rattle.do_machine.specs.declared.node.Node.{Node}
+use Rattle.do_machine.specs.declared.node.Stored.{Stored}
+use Rattle.do_machine.specs.State.{own}
+use Rattle.do_machine.specs.held.Kept.{is_root, stays}
+use Rattle.do_machine.specs.held.Refers.{state_values, stack_objects, node_objects}
 use Rattle.do_packet.specs.Met.{has_object, same_object, met}
 
 -- a value names an object, however often
@@ -40,3 +45,34 @@ times o = sum_by (λ x. cond (same_object o x) 1 0)
 -- to count each object that a value names, once, is to count the value's uses
 abbrev pub CountsOnce : Type 0
 CountsOnce = (v : Value) (o : ObjectName) → times o (named_once v) ≡ uses o (v ∷ [])
+
+-- ---- all of a node
+
+-- how many values in slots of stored objects name an object
+abbrev pub heap_uses : ObjectName → List Stored → ℕ
+heap_uses o = sum_by (λ x. uses o x.slots)
+
+-- how often a node uses an object: each value of a slot or an invocation that names it counts once,
+-- and so does each lend and each ask of it
+abbrev pub node_uses : ObjectName → Node → ℕ
+node_uses o n =
+    heap_uses o n.heap + stack_uses o n.stack
+    + times o (map (λ l. l.object) n.lent) + times o (map (λ w. w.object) n.asked)
+
+-- a node uses an object above 0 times just where it refers to it
+abbrev pub CountsNode : Type 0
+CountsNode = (n : Node) (o : ObjectName)
+    → (0 < node_uses o n) ↔ (has_object (node_objects n) o ≡ true)
+
+-- how many holders an own object has beside slots: the root counts once, and so does each value of
+-- an invocation that names the object and each peer that has an entry of it
+abbrev pub holders : (ℕ → ℕ → Bool) → Node → ℕ → ℕ
+holders entry n serial =
+    cond (is_root n serial) 1 0 + stack_uses (own n serial) n.stack
+    + sum_by (λ peer. cond (entry peer serial) 1 0) n.open_to
+
+-- an own object has a holder or is named in a slot just where it stays
+abbrev pub CountsHolders : Type 0
+CountsHolders = (entry : ℕ → ℕ → Bool) (n : Node) (heap : List Stored) (x : Stored)
+    → (0 < holders entry n x.serial + heap_uses (own n x.serial) heap)
+    ↔ (stays entry n heap x ≡ true)

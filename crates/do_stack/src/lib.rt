@@ -13,6 +13,8 @@ mod stack;
 mod waits;
 
 pub use exchange::{Exchanged, Left, Taken};
-pub use law::{named_objects_are_uses, uses_are_references};
+pub use law::{
+    counts_are_references, holders_are_references, named_objects_are_uses, uses_are_references,
+};
 pub use naming::objects_named;
 pub use stack::{PushBack, Stack};

@@ -2,12 +2,14 @@
 ghost use Rattle.std.specs.Prelude.{◌≡◌, map};
 ghost use Rattle.do_machine.specs.ends.Closing.{without_answer};
 ghost use Rattle.do_stack.specs.Waiting.{waits_for, asked_by};
+ghost use Rattle.do_stack.specs.Answered.{answer_of, answer_taken};
 ghost use Rattle.do_stack.specs.Late.{late_of};
 
 use do_base::{CallId, Exc, NodeId};
 use do_behave::{Answer, InvState, Invocation, Waited};
 use do_machine::LateCall;
 use std::collections::VecDeque;
+use std::mem;
 
 /// Whether an invocation waits for a call to a peer.
 pub fn waits(inv: &Invocation, call: CallId, peer: NodeId) -> bool
@@ -30,6 +32,20 @@ pub fn asked(inv: &Invocation) -> Option<Waited>
     match inv.state {
         InvState::Waits { what, .. } => Some(what),
         _ => None,
+    }
+}
+
+/// Takes the answer that an invocation has, which then runs.
+pub fn take_answer(inv: &mut Invocation) -> Option<Answer>
+    ensures which { result ≡ answer_of inv.old.state }
+    ensures after { inv.new ≡ answer_taken inv.old }
+{
+    match mem::replace(&mut inv.state, InvState::Running) {
+        InvState::Answered(answer) => Some(answer),
+        other => {
+            inv.state = other;
+            None
+        }
     }
 }
 

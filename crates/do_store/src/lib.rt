@@ -8,6 +8,7 @@
 mod counting;
 mod law;
 mod object;
+mod pairs;
 mod store;
 mod table;
 mod waiting;

@@ -1,14 +1,12 @@
 //! The stored objects by rising serial, in slots that are used again.
-ghost use Rattle.std.specs.Prelude.{◌≡◌, ◌≢◌, [], ◌∷◌, ◌++◌, ◌+◌, ◌<◌, ◌≤◌, ◌^◌, ℕ, length, get_or};
-ghost use Rattle.std.specs.Prelude.{slice_get, slice_set, IfOk, OnOk, OnErr, MatchOption, Some};
-ghost use Rattle.std.specs.Prelude.{None, Contains, IsSome, false, vec_len, vec_capacity, max};
-ghost use Rattle.std.specs.Prelude.{filter, map};
+ghost use Rattle.std.specs.Prelude.{◌≡◌, [], ◌∷◌, ◌++◌, ◌+◌, ◌<◌, ◌≤◌, ◌^◌, length, slice_get};
+ghost use Rattle.std.specs.Prelude.{slice_set, IfOk, OnOk, Some, max, map};
 ghost use Rattle.std.specs.Option.{option_copied};
-ghost use Rattle.slab.specs.Slab.{get};
-ghost use Rattle.do_store.specs.Listing.{Rising, pair_serial, object_serial, listed, is_live};
+ghost use Rattle.do_store.specs.Listing.{Rising, object_serial};
 ghost use Rattle.do_store.specs.Objects.{stored_at, edit, name_of};
 
 use crate::object::{Object, Pair, write_counts, write_slot};
+use crate::pairs::{close_up, find, leads, push_pair};
 use do_base::{Items, NodeId, Oid, Oids, Value, Values};
 use do_class::ClassId;
 use slab::Slab;
@@ -40,73 +38,6 @@ impl Model for Table {
     ghost view = { λ t. stock_of t.slots t.pairs.items t.next t.spare };
 
     ghost invariant = { λ t. Orderly t.slots t.pairs t.next t.spare };
-}
-
-/// The key that a serial leads to.
-fn key_of(pairs: &[Pair], serial: u64) -> Option<usize>
-    ensures { (top : ℕ) → Rising pair_serial 0 pairs.now top → MatchOption result
-        ((j : ℕ) (d : Pair) → j < length pairs.now → (get_or pairs.now j d).serial ≢ serial)
-        (λ key. Contains pairs.now (record { serial = serial; key = key })) }
-{
-    let mut low = 0;
-    let mut high = pairs.len();
-    while low < high {
-        let middle = low + (high - low) / 2;
-        let pair = pairs[middle];
-        if pair.serial == serial {
-            return Some(pair.key);
-        }
-        if pair.serial < serial {
-            low = middle + 1;
-        } else {
-            high = middle;
-        }
-    }
-    None
-}
-
-/// The key of the object with a serial. None exactly where it is not stored.
-fn find(slots: &Slab<Object>, pairs: &Vec<Pair>, serial: u64) -> Option<usize>
-    ensures { (top : ℕ) → Rising pair_serial 0 pairs.now.items top → MatchOption result
-        (stored_at (listed (get slots.now) pairs.now.items) serial ≡ None)
-        (λ key. Contains pairs.now.items (record { serial = serial; key = key }) × (o : Object)
-        × (get slots.now key ≡ Some o) × (o.serial ≡ serial)) }
-{
-    let key = key_of(pairs.as_slice(), serial)?;
-    let object = slots.get(key)?;
-    if object.serial != serial {
-        return None;
-    }
-    Some(key)
-}
-
-/// Whether a pair leads to its object.
-fn leads(slots: &Slab<Object>, pair: &Pair) -> bool
-    ensures { result ≡ is_live (get slots.now) pair.now }
-{
-    match slots.get(pair.key) {
-        Some(object) => object.serial == pair.serial,
-        None => false,
-    }
-}
-
-/// Drops the pairs that lead to no object of theirs.
-fn close_up(pairs: &mut Vec<Pair>, slots: &Slab<Object>)
-    ensures items { pairs.new.items ≡ filter (is_live (get slots.now)) pairs.old.items }
-    ensures len { vec_len pairs.new ≤ vec_len pairs.old }
-    ensures capacity { vec_capacity pairs.new ≡ vec_capacity pairs.old }
-{
-    pairs.retain(|pair| leads(slots, pair));
-}
-
-/// Appends a pair, in room that was made before.
-fn push_pair(pairs: &mut Vec<Pair>, pair: Pair)
-    requires { vec_len pairs.old + 1 ≤ vec_capacity pairs.old }
-    ensures items { pairs.new.items ≡ pairs.old.items ++ pair ∷ [] }
-    ensures len { vec_len pairs.new ≡ vec_len pairs.old + 1 }
-    ensures capacity { vec_capacity pairs.old ≤ vec_capacity pairs.new }
-{
-    let _ = pairs.push(pair);
 }
 
 impl Table {

@@ -1,1 +1,6 @@
+pub mod Worlds
+pub mod Faults
+pub mod Sound
+pub mod Reading
 pub mod Counter
+pub mod Builtin

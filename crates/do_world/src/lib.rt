@@ -1,12 +1,20 @@
 //! Worlds: classes with a code for each method, and the nodes that a machine opens with.
 //!
-//! It stands on the class table, the method language and the machine's definitions. It promises
-//! that the built-in world is the one that its definition names.
+//! It stands on documents and their classes, the method language and the machine's definitions. It
+//! promises that a text is read as the world that it says, or refused with its first fault, and
+//! that the built-in worlds are those that their definitions name.
 #![tactic(auto)]
 
+mod by_name;
 mod codes;
 mod counter_world;
+mod method_codes;
+mod reader;
+mod seats;
 mod world;
 
+pub use by_name::builtin;
 pub use counter_world::counter;
+pub use do_document::WorldFault;
+pub use reader::read_world;
 pub use world::World;

@@ -1,4 +1,9 @@
 mod Samples
+mod Counters
+mod Sending
+mod Disabled
+mod Taking
+mod Entries
 mod LateCalls
 mod OutValues
 mod Roles

@@ -1,7 +1,11 @@
-//! Tests of the public calls of do_class and do_local.
+//! Tests of the class table, of packets' types and of the plain machine.
 #![tactic(auto)]
 
 #[cfg(test)]
 mod class;
 #[cfg(test)]
-mod local;
+mod played;
+#[cfg(test)]
+mod schedules;
+#[cfg(test)]
+mod worlds;

@@ -124,6 +124,66 @@ fn blocks(rt: HostRuntime) -> Result<(), Fail> {
     Ok(())
 }
 
+/// The block of a line that shows an object freed.
+fn freeing(rt: &HostRuntime, line: &Line, enabled: bool) -> Result<Text, Fail> {
+    let mut shown = ShownList::new(rt.alloc());
+    if enabled {
+        shown.push(Shown::Free(object(7001, 2)?))?;
+    }
+    Ok(line_text(rt.alloc(), line, &Outcome { enabled, shown })?)
+}
+
+/// A start with the values.
+fn start(rt: &HostRuntime) -> Result<Line, Fail> {
+    let mut values = Values::new(rt.alloc());
+    values.push(Value::Nil)?;
+    values.push(Value::Text(text(rt, b"a\n")?))?;
+    let node = node(7001)?;
+    let selector = text(rt, b"set:to:")?;
+    Ok(Line::Start {
+        node,
+        selector,
+        values,
+    })
+}
+
+#[test]
+fn heads(rt: HostRuntime) -> Result<(), Fail> {
+    let near = node(7001)?;
+    let far = node(7002)?;
+    assert!(rt;
+        freeing(&rt, &start(&rt)?, false)?.is(b"> start 7001 set:to: nil \"a\\0a\"\nskip\n")
+    );
+    let take = Line::Take {
+        node: near,
+        from: far,
+    };
+    assert!(rt; freeing(&rt, &take, true)?.is(b"> take 7001 7002\nfree #7001.2\n"));
+    let close = Line::Close {
+        node: near,
+        peer: far,
+    };
+    assert!(rt; freeing(&rt, &close, true)?.is(b"> close 7001 7002\nfree #7001.2\n"));
+    let timeout = Line::Timeout { node: near };
+    assert!(rt; freeing(&rt, &timeout, true)?.is(b"> timeout 7001\nfree #7001.2\n"));
+    assert!(rt; freeing(&rt, &timeout, false)?.is(b"> timeout 7001\nskip\n"));
+    Ok(())
+}
+
+/// A loss and a check are steps of no node, which shows nothing.
+#[test]
+fn lines_of_no_node(rt: HostRuntime) -> Result<(), Fail> {
+    let lose = Line::Lose {
+        from: node(7001)?,
+        to: node(7002)?,
+        after: 3,
+    };
+    assert!(rt; freeing(&rt, &lose, true)?.is(b"> lose 7001 7002 3\n"));
+    assert!(rt; freeing(&rt, &lose, false)?.is(b"> lose 7001 7002 3\nskip\n"));
+    assert!(rt; freeing(&rt, &Line::Check, true)?.is(b"> check\n"));
+    Ok(())
+}
+
 /// The object of a class with two slots.
 fn root_line(rt: &HostRuntime, oid: Oid, class: ClassId) -> Result<ObjLine, Fail> {
     let mut slots = Values::new(rt.alloc());

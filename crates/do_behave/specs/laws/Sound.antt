@@ -64,7 +64,8 @@ choice P true one other first second = first refl
 choice P false one other first second = second
 
 -- what holds of each item holds of one that is found
-pub get_kept : (Q : Value → Type 0) (vs : Listed Value) (k : ℕ) → All Q vs → IfSome (slice_get vs k) Q
+pub get_kept : (Q : Value → Type 0) (vs : Listed Value) (k : ℕ) → All Q vs
+    → IfSome (slice_get vs k) Q
 get_kept Q [] k all = tt
 get_kept Q (v ∷ vs) zero all = All-head Q v vs all
 get_kept Q (v ∷ vs) (suc k) all = get_kept Q vs k (All-tail Q v vs all)

@@ -25,6 +25,7 @@ use Rattle.do_coder.proofs.tables.TableLaws.{place_got, got_place, known_at, IsK
 use Rattle.do_coder.proofs.tables.TakenPairs.{free_none, none_free, class_left, serial_left}
 use Rattle.do_coder.proofs.tables.TakenPairs.{some_serial}
 
+-- serials are read exactly
 Reads-serial : Reads (Spelled num IsSerial) serial_at
 Reads-serial = Reads-number 1 9223372036854775807 (omega arith) (omega arith)
 
@@ -33,35 +34,44 @@ begins_class : (classes : ℕ) (table : List Pair) (b : ℕ) → b ≡ 2
     → begins_name classes table b ≡ true
 begins_class classes table b e = grind (arith, nat_tests)
 
+-- the tag of a new name passes where there is a class
 begins_new : (classes : ℕ) (table : List Pair) → 0 < classes → begins_name classes table 1 ≡ true
 begins_new classes table h = grind (arith, nat_tests)
 
+-- so does the tag of a name that is lent
 begins_lent : (classes : ℕ) (table : List Pair) → 0 < classes → begins_name classes table 3 ≡ true
 begins_lent classes table h = grind (arith, nat_tests)
 
+-- the tag of a known name passes where the table has a pair
 begins_known : (classes : ℕ) (table : List Pair) → 0 < length table
     → begins_name classes table 4 ≡ true
 begins_known classes table h = grind (arith, nat_tests)
 
+-- where the tag of a new name passes there is a class
 new_begins : (classes : ℕ) (table : List Pair) → begins_name classes table 1 ≡ true → 0 < classes
 new_begins classes table e = grind (arith, nat_tests)
 
+-- so it is with the tag of a name that is lent
 lent_begins : (classes : ℕ) (table : List Pair) → begins_name classes table 3 ≡ true → 0 < classes
 lent_begins classes table e = grind (arith, nat_tests)
 
+-- where the tag of a known name passes the table has a pair
 known_begins : (classes : ℕ) (table : List Pair) → begins_name classes table 4 ≡ true
     → 0 < length table
 known_begins classes table e = grind (arith, nat_tests)
 
+-- 0 is no tag
 none_begins : (classes : ℕ) (table : List Pair) → begins_name classes table 0 ≡ true → ⊥
 none_begins classes table e = grind (arith, nat_tests)
 
+-- nor is any byte above 4
 no_more_begins : (classes : ℕ) (table : List Pair) (b : ℕ) → 4 < b
     → begins_name classes table b ≡ true → ⊥
 no_more_begins classes table b lt e = grind (arith, nat_tests)
 
 module _ (s : Sides) (table : List Pair) (few : s.classes < 2 ^ 32)
     (kept : IsKept (s.classes) table) where
+  -- how many classes there are
   abbrev classes : ℕ
   classes = s.classes
 
@@ -69,15 +79,18 @@ module _ (s : Sides) (table : List Pair) (few : s.classes < 2 ^ 32)
   abbrev Tagged : ℕ → Name → Type 0
   Tagged b x = (name_tag table x ≡ b) × IsName s x
 
+  -- a serial and a class that no pair of the table has together
   abbrev IsNew : ℕ × ℕ → Type 0
   IsNew p = IsBeside (taken_whole classes table) 1 9223372036854775807 p.0
       × IsBeside (taken_with p.0 table) 0 (classes - 1) p.1
 
+  -- a pair that is not in the table is spelled as a new name
   tag_mine : (serial class : ℕ) → place_in (pair serial class) table ≡ None
       → (name_tag table (mine (serial, class)) ≡ 1)
       × (name_body table (mine (serial, class)) ≡ num serial ++ num class)
   tag_mine serial class e = (rw e refl, rw e refl)
 
+  -- new names are read exactly
   new_name : 0 < classes → Reads (Spelled (name_body table) (Tagged 1)) (new_at classes table)
   unfolding new_at
   new_name some =
@@ -134,6 +147,7 @@ module _ (s : Sides) (table : List Pair) (few : s.classes < 2 ^ 32)
       back (Yours serial) h = let e = h.0 in absurd cc
       back (Lent oid class token) h = let e = h.0 in absurd cc
 
+  -- so are the receiver's objects
   yours_name : Reads (Spelled (name_body table) (Tagged 2))
       (mapped (λ serial. Yours serial) serial_at)
   yours_name =
@@ -151,10 +165,12 @@ module _ (s : Sides) (table : List Pair) (few : s.classes < 2 ^ 32)
           not_two (Some k) e = absurd cc
       back (Lent oid class token) h = let e = h.0 in absurd cc
 
+  -- a port that is neither side, a serial, a class and a token
   abbrev IsLent : ℕ × (ℕ × (ℕ × ℕ)) → Type 0
   IsLent p = IsBeside (s.from ∷ s.to ∷ []) 1 65535 p.0
       × (IsSerial p.1.0 × (((0 ≤ p.1.1.0) × (p.1.1.0 ≤ classes - 1)) × IsSerial p.1.1.1))
 
+  -- names that are lent are read exactly
   lent_name : 0 < classes → Reads (Spelled (name_body table) (Tagged 3)) (lent_at s)
   unfolding lent_at
   lent_name some =
@@ -198,6 +214,7 @@ module _ (s : Sides) (table : List Pair) (few : s.classes < 2 ^ 32)
           not_three (Some k) e = absurd cc
       back (Yours serial) h = let e = h.0 in absurd cc
 
+  -- known names are read exactly, by their places
   known_name : 0 < length table
       → Reads (Spelled (name_body table) (Tagged 4))
       (mapped (mine_at table) (num_at no_kind 0 (length table - 1)))
@@ -230,6 +247,7 @@ module _ (s : Sides) (table : List Pair) (few : s.classes < 2 ^ 32)
       back (Yours serial) h = let e = h.0 in absurd cc
       back (Lent oid class token) h = let e = h.0 in absurd cc
 
+  -- what follows a tag that passes is read exactly
   name_bodies : (b : ℕ) → begins_name classes table b ≡ true
       → Reads (Spelled (name_body table) (Tagged b)) (name_body_at s table b)
   name_bodies zero e = absurd (none_begins classes table e)
@@ -240,6 +258,7 @@ module _ (s : Sides) (table : List Pair) (few : s.classes < 2 ^ 32)
   name_bodies (suc (suc (suc (suc (suc b))))) e =
       absurd (no_more_begins classes table (suc (suc (suc (suc (suc b))))) (omega arith) e)
 
+  -- the tag of a name that fits passes
   tag_passes : (x : Name) → IsName s x → (begins_name classes table (name_tag table x) ≡ true)
       × (name_tag table x < 256)
   tag_passes (Mine serial class) h =
@@ -259,6 +278,7 @@ module _ (s : Sides) (table : List Pair) (few : s.classes < 2 ^ 32)
       let lt = h.1.1.0 in
       (begins_lent classes table (omega arith), omega arith)
 
+  -- a name is read exactly by the table
   pub Reads-name : Reads (Spelled (name_spelling table) (IsName s)) (name_at s table)
   unfolding name_at
   Reads-name =
@@ -282,6 +302,7 @@ kept_name s table (Lent oid class token) h fits = h
 abbrev pub AreNames : Sides → List Pair → List Name → Type 0
 AreNames s table = FitsList 0 65536 (λ n. FitBy name_spelling (λ t. IsName s) after_name table)
 
+-- the names of a packet are read exactly, each by the table that those before it leave
 pub Reads-names : (s : Sides) (table : List Pair) → s.classes < 2 ^ 32 → IsKept (s.classes) table
     → Reads (Spelled (names_spelling table) (AreNames s table)) (names_at s table)
 unfolding names_at

@@ -26,11 +26,13 @@ abbrev pub HasNames : Surroundings → List Name → Type 0
 HasNames s = FitsList 0 65536 (λ n. AllByRecursion (IsName (sides_of s)))
 
 module _ (s : Surroundings) where
+  -- names that fit do so by each table
   by_table : (table : List Pair) (xs : List Name) → AllByRecursion (IsName (sides_of s)) xs
       → FitBy name_spelling (λ t. IsName (sides_of s)) after_name table xs
   by_table table [] h = tt
   by_table table (x ∷ xs) h = (h.0, by_table (after_name table x) xs h.1)
 
+  -- and names that fit by their tables fit
   without : (table : List Pair) (xs : List Name)
       → FitBy name_spelling (λ t. IsName (sides_of s)) after_name table xs
       → AllByRecursion (IsName (sides_of s)) xs
@@ -46,6 +48,7 @@ module _ (s : Surroundings) where
 
 module _ (s : Surroundings) (few : length s.slots < 2 ^ 32) (small : (k : ℕ)
     → slots_of s.slots k < 2 ^ 64) where
+  -- the names of a packet are read exactly
   has_names : (table : List Pair) → IsKept (length s.slots) table
       → Reads (Spelled (names_spelling table) (HasNames s)) (names_at (sides_of s) table)
   has_names table kept =
@@ -71,14 +74,17 @@ module _ (s : Surroundings) (few : length s.slots < 2 ^ 32) (small : (k : ℕ)
       (λ bytes. refl) (Reads-names (sides_of s) table few kept)
 
   module _ (copies names : ℕ) (few_copies : copies < 2 ^ 64) (few_names : names < 2 ^ 64) where
+    -- as many slots as the class has, each with a value that fits
     abbrev AreSlots : ℕ → List Part → Type 0
     AreSlots class =
         FitsList (slots_of s.slots class) (slots_of s.slots class) (λ n.
         AllByRecursion (IsPart copies names 8))
 
+    -- a class and the slots that it has
     abbrev IsPlainCopy : ℕ × List Part → Type 0
     IsPlainCopy p = ((0 ≤ p.0) × (p.0 ≤ length s.slots - 1)) × AreSlots p.0 p.1
 
+    -- a copied object is read exactly
     Reads-copied : 0 < length s.slots
         → Reads (Spelled copied_spelling (IsCopied s.slots copies names))
         (copy_at s.slots copies names)
@@ -106,14 +112,17 @@ module _ (s : Surroundings) (few : length s.slots < 2 ^ 32) (small : (k : ℕ)
             list_at (slots_of s.slots class) (slots_of s.slots class)
             (times (part_at copies names 8))
 
+  -- there are at most 4,096 copies
   most_small : (slots : List ℕ) → most_copies slots ≤ 4096
   most_small [] = omega arith
   most_small (n ∷ slots) = omega arith
 
+  -- where a copy may be there is a class
   some_class : (slots : List ℕ) (n : ℕ) → 0 < n → n ≤ most_copies slots → 0 < length slots
   some_class [] n lt le = omega arith
   some_class (m ∷ slots) n lt le = omega arith
 
+  -- the copies of a packet are read exactly
   Reads-copies : (names : ℕ) → names < 2 ^ 64
       → Reads (Spelled (list_spelling (flat_map copied_spelling))
       (FitsList 0 (most_copies s.slots) (λ n. AllByRecursion (IsCopied s.slots n names))))
@@ -128,6 +137,7 @@ module _ (s : Surroundings) (few : length s.slots < 2 ^ 32) (small : (k : ℕ)
       (λ any. Reads-copied n names (omega (arith, most_small s.slots)) few_names
       (some_class s.slots n any most)))
 
+  -- the values of a packet are read exactly
   Reads-values : (copies names : ℕ) → copies < 2 ^ 64 → names < 2 ^ 64
       → Reads (Spelled (list_spelling (flat_map part_spelling))
       (FitsList 0 9 (λ n. AllByRecursion (IsPart copies names 8)))) (values_at copies names)
@@ -139,6 +149,7 @@ module _ (s : Surroundings) (few : length s.slots < 2 ^ 32) (small : (k : ℕ)
       Reads-many part_spelling (IsPart copies names 8) (part_at copies names 8) n (λ any.
       Reads-part copies names few_copies few_names 8))
 
+  -- a packet is read exactly
   pub Reads-packet : (table : List Pair) → IsKept (length s.slots) table
       → Reads (SpellsPacket s table) (packet_at s table)
   unfolding packet_at

@@ -14,6 +14,7 @@ use Rattle.do_coder.proofs.tables.TakenPairs.{free_none, none_free}
 is_over : (m n : ℕ) → n < m → nat_le m n ≡ false
 is_over m n lt = grind (arith, nat_tests)
 
+-- a number is at most another by the test, too
 is_within : (m n : ℕ) → m ≤ n → nat_le m n ≡ true
 is_within m n le = grind (arith, nat_tests)
 

@@ -16,6 +16,7 @@ use Rattle.do_coder.specs.Recent.{pair, same_pair, place_in, AllDiffer}
 use Rattle.do_coder.specs.NameLog.{pair_cmp, IsFound, AreFound, StandsAt}
 use Rattle.do_coder.proofs.tables.TableLaws.{same_is, same_self, place_got, got_place}
 
+-- a place in the later part of a log, counted from where that begins
 drop_at_place : (n : ℕ) (log : List Pair) (k : ℕ)
     → get_or (drop n log) k (pair 0 0) ≡ get_or log (n + k) (pair 0 0)
 drop_at_place n log k = get_or-drop n log k (pair 0 0)
@@ -84,6 +85,7 @@ not_stored log start index p begins found stored = go (place_in p (drop start lo
         ∙ f.stored in
         absurd cc
 
+-- pairs of the same serial and class are the same
 pub stands_same : (p q : Pair) → p.serial ≡ q.serial → p.class.0 ≡ q.class.0 → p ≡ q
 stands_same p q a b = ap (λ (n : ℕ). record { serial = n; class = p.class }) a
     ∙ ap (λ (n : ℕ). record { serial = q.serial; class = record { 0 = n } }) b
@@ -94,6 +96,7 @@ pub ruleset finding = (stood, not_stood, not_stored)
 
 -- ---- a pair that comes to the end
 
+-- the order has pairs as equal only where they are the same
 keys_exact : (p q : Pair) → pair_cmp p q ≡ Equal → p ≡ q
 keys_exact p q e =
     ap (λ (w : ℕ × ℕ). record { serial = w.0; class = record { 0 = w.1 } })
@@ -102,11 +105,13 @@ keys_exact p q e =
       q.class.0,
     ) e)
 
+-- the test of an order for equality is exact
 at_equal : (o : Ordering) → is_eq o ≡ true → o ≡ Equal
 at_equal Less e = absurd cc
 at_equal Equal e = refl
 at_equal Greater e = absurd cc
 
+-- a pair is not at the key of another
 key_apart : (p q : Pair) → (p ≡ q → ⊥) → is_at (pair_cmp p) q ≡ false
 key_apart p q ne = go (is_at (pair_cmp p) q) refl
   where
@@ -114,12 +119,14 @@ key_apart p q ne = go (is_at (pair_cmp p) q) refl
     go true t = absurd (ne (keys_exact p q (at_equal (pair_cmp p q) t)))
     go false t = t
 
+-- a pair at the end of a log leaves those before it in their places
 before_push : (log : List Pair) (p : Pair) (k : ℕ) → k < length log
     → get_or (log ++ p ∷ []) k (pair 0 0) ≡ get_or log k (pair 0 0)
 before_push [] p k lt = absurd (omega arith)
 before_push (q ∷ log) p zero lt = refl
 before_push (q ∷ log) p (suc k) lt = before_push log p k (omega arith)
 
+-- and stands there
 at_push : (log : List Pair) (p : Pair) → get_or (log ++ p ∷ []) (length log) (pair 0 0) ≡ p
 at_push [] p = refl
 at_push (q ∷ log) p = at_push log p
@@ -140,6 +147,7 @@ module _ (log : List Pair) (index after : BTreeMap Pair Places) (p : Pair) (plac
         here = f.here;
       }
 
+  -- the pair itself is found where one of its places is
   own_found : (k : ℕ) → get_or (log ++ p ∷ []) k (pair 0 0) ≡ p
       → (places.kept ≡ k) ⊎ (places.now ≡ k) → IsFound (log ++ p ∷ []) after k
   own_found k same here = record {
@@ -148,6 +156,7 @@ module _ (log : List Pair) (index after : BTreeMap Pair Places) (p : Pair) (plac
     here = here;
   }
 
+  -- each pair of the table is found in the longer log
   pub noted_now : (start : ℕ) → places.now ≡ length log → place_in p (drop start log) ≡ None
       → AllDiffer (drop start log) → AreFound log index start (length log)
       → AreFound (log ++ p ∷ []) after start (length log + 1)
@@ -161,6 +170,7 @@ module _ (log : List Pair) (index after : BTreeMap Pair Places) (p : Pair) (plac
             (inr last))
       ]
 
+  -- and each that was kept, if the pair has its kept place among its places
   pub noted_kept : (from to : ℕ) → to ≤ length log
       → ((k : ℕ) → from ≤ k → k < to → get_or log k (pair 0 0) ≡ p → places.kept ≡ k)
       → AreFound log index from to → AreFound (log ++ p ∷ []) after from to
@@ -178,6 +188,7 @@ module _ (log : List Pair) (index after : BTreeMap Pair Places) (p : Pair) (plac
 
 -- ---- where a pair stands in what was kept
 
+-- the front of a log has its pairs in their places
 pub take_at_place : (n : ℕ) (log : List Pair) (k : ℕ) → k < n
     → get_or (take n log) k (pair 0 0) ≡ get_or log k (pair 0 0)
 take_at_place zero log k lt = absurd (omega arith)
@@ -188,6 +199,7 @@ take_at_place (suc n) (q ∷ log) (suc k) lt = take_at_place n log k (omega arit
 module _ (log : List Pair) (index : BTreeMap Pair Places) (p : Pair) (from to : ℕ)
     (within : to ≤ length log) (differ : AllDiffer (drop from (take to log)))
     (found : AreFound log index from to) where
+  -- a pair that was kept stands in that front
   stands_kept : (k : ℕ) → from ≤ k → k < to → get_or log k (pair 0 0) ≡ p
       → StandsAt (take to log) from k p
   stands_kept k low high same = record {
@@ -222,6 +234,7 @@ module _ (log : List Pair) (index : BTreeMap Pair Places) (p : Pair) (from to : 
             ∙ ap (λ (s : Places). s.now) one) (stands_kept k low high same)))
       ]
 
+  -- a pair without places was not kept
   pub no_place : (k : ℕ) → get pair_cmp index p ≡ None → from ≤ k → k < to
       → get_or log k (pair 0 0) ≡ p → ⊥
   no_place k none low high same =

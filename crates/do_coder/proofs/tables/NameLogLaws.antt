@@ -70,6 +70,7 @@ module _ (log : List Pair) (start kept_start kept_end : ℕ) (index : BTreeMap P
 
 module _ (log : List Pair) (start kept_start kept_end : ℕ) (index : BTreeMap Pair Places)
     (h : IsNameLog log start kept_start kept_end index) where
+  -- what is found in a log is found in its front
   take_front : (k : ℕ) → k < kept_end → IsFound log index k → IsFound (take kept_end log) index k
   take_front k lt f =
       record {
@@ -131,6 +132,7 @@ new_here (q ∷ table) (suc i) d lt =
         absurd cc
     go false t rec = rw (t, rec) refl
 
+-- the front that ends one later has one pair more
 take_next : (table : List Pair) (i : ℕ) → i < length table
     → take i table ++ get_or table i (pair 0 0) ∷ [] ≡ take (suc i) table
 take_next [] i lt = absurd (omega arith)

@@ -19,6 +19,7 @@ same_is p q e =
     ap (λ (n : ℕ). record { serial = n; class = p.class }) a
     ∙ ap (λ (n : ℕ). record { serial = q.serial; class = record { 0 = n } }) b
 
+-- a pair is the same as itself
 pub same_self : (p : Pair) → same_pair p p ≡ true
 same_self p = rw (eq-eqb p.serial p.serial refl, eq-eqb p.class.0 p.class.0 refl) refl
 
@@ -65,6 +66,7 @@ got_place (q ∷ table) (suc k) d lt =
 
 -- ---- what stays after a name
 
+-- a pair without a place is not the first, and has none behind it
 none_head : (p q : Pair) (table : List Pair) → place_in p (q ∷ table) ≡ None
     → (same_pair q p ≡ false) × (place_in p table ≡ None)
 none_head p q table e = go (same_pair q p) refl (place_in p table) refl
@@ -75,6 +77,7 @@ none_head p q table e = go (same_pair q p) refl (place_in p table) refl
     go false t (Some j) f = let at : Some (suc j) ≡ None = sym (rw (t, f) refl) ∙ e in absurd cc
     go false t None f = (t, f)
 
+-- the test goes both ways
 differs : (p q : Pair) → same_pair q p ≡ false → same_pair p q ≡ false
 differs p q e = go (same_pair p q) refl
   where
@@ -85,6 +88,7 @@ differs p q e = go (same_pair p q) refl
         absurd cc
     go false t = t
 
+-- a pair without a place has none before another pair either
 none_push : (q p : Pair) (table : List Pair) → place_in q table ≡ None → same_pair p q ≡ false
     → place_in q (table ++ p ∷ []) ≡ None
 none_push q p [] e f = rw f refl
@@ -92,6 +96,7 @@ none_push q p (r ∷ table) e f =
     let h = none_head q r table e in
     rw (h.0, none_push q p table h.1 f) refl
 
+-- pairs that all differ do so with one more that had no place
 differ_push : (table : List Pair) (p : Pair) → AllDiffer table → place_in p table ≡ None
     → AllDiffer (table ++ p ∷ [])
 differ_push [] p d e = (refl, tt)
@@ -99,22 +104,26 @@ differ_push (q ∷ table) p d e =
     let h = none_head p q table e in
     (none_push q p table d.0 (differs p q h.0), differ_push table p d.1 h.1)
 
+-- and without the oldest
 differ_drop : (n : ℕ) (table : List Pair) → AllDiffer table → AllDiffer (drop n table)
 differ_drop zero table d = d
 differ_drop (suc n) [] d = tt
 differ_drop (suc n) (q ∷ table) d = differ_drop n table d.1
 
+-- what holds of each pair holds of each without the oldest
 known_drop : (P : Pair → Type 0) (n : ℕ) (table : List Pair) → AllByRecursion P table
     → AllByRecursion P (drop n table)
 known_drop P zero table d = d
 known_drop P (suc n) [] d = tt
 known_drop P (suc n) (q ∷ table) d = known_drop P n table d.1
 
+-- and with one more of which it holds
 known_push : (P : Pair → Type 0) (table : List Pair) (p : Pair) → AllByRecursion P table → P p
     → AllByRecursion P (table ++ p ∷ [])
 known_push P [] p d e = (e, tt)
 known_push P (q ∷ table) p d e = (d.0, known_push P table p d.1 e)
 
+-- and of the pair at a place
 pub known_at : (P : Pair → Type 0) (table : List Pair) (k : ℕ) → AllByRecursion P table
     → k < length table → P (get_or table k (pair 0 0))
 known_at P [] k d lt = absurd (omega arith)
@@ -126,6 +135,7 @@ pub record IsKept (classes : ℕ) (table : List Pair) : Type 0 where
   pub recent : IsRecent table
   pub known : AllByRecursion (IsKnown classes) table
 
+-- a table that a reader keeps stays one after a pair of a class that is there
 pub kept_pair : (classes : ℕ) (table : List Pair) (p : Pair) → IsKept classes table
     → IsKnown classes p → IsKept classes (after_pair (place_in p table) table p)
 kept_pair classes table p h known = go (place_in p table) refl
@@ -147,15 +157,18 @@ kept_pair classes table p h known = go (place_in p table) refl
 
 -- ---- the table while it changes
 
+-- a pair at the end of a log comes to the end of its later part
 drop_push : (n : ℕ) (log : List Pair) (p : Pair) → n ≤ length log
     → drop n (log ++ p ∷ []) ≡ drop n log ++ p ∷ []
 drop_push zero log p le = refl
 drop_push (suc n) [] p le = absurd (omega arith)
 drop_push (suc n) (q ∷ log) p le = drop_push n log p (omega arith)
 
+-- a part that begins one later is the part without its first pair
 drop_one : (n : ℕ) (log : List Pair) → drop (n + 1) log ≡ drop 1 (drop n log)
 drop_one n log = sym (drop-drop 1 n log)
 
+-- a pair at the end of a log leaves its front
 take_push : (n : ℕ) (log : List Pair) (p : Pair) → n ≤ length log
     → take n (log ++ p ∷ []) ≡ take n log
 take_push zero log p le = refl
@@ -165,17 +178,21 @@ take_push (suc n) (q ∷ log) p le = ap (λ (w : List Pair). q ∷ w) (take_push
 module _ (log : List Pair) (start kept_start kept_end : ℕ)
     (h : HasTables log start kept_start kept_end) (p : Pair) (new : place_in p (drop start log)
     ≡ None) where
+  -- the log with the pair at its end
   abbrev longer : List Pair
   longer = log ++ p ∷ []
 
+  -- it is longer by one
   longer-len : length longer ≡ length log + 1
   longer-len = length-append log (p ∷ [])
 
+  -- what was kept stays
   kept_stays : IsRecent (drop kept_start (take kept_end longer))
   kept_stays =
       subst (λ (w : List Pair). IsRecent (drop kept_start w))
       (sym (take_push kept_end log p h.ends)) h.kept
 
+  -- where the table would be too long it begins one pair later
   pub log_shift : 256 < length longer - start → HasTables longer (start + 1) kept_start kept_end
   log_shift over =
       let e : drop (start + 1) longer ≡ drop 1 (drop start log ++ p ∷ []) = drop_one start longer
@@ -197,6 +214,7 @@ module _ (log : List Pair) (start kept_start kept_end : ℕ)
         kept = kept_stays;
       }
 
+  -- else it begins where it did
   pub log_stay : length longer - start ≤ 256 → HasTables longer start kept_start kept_end
   log_stay under =
       let e : drop start longer ≡ drop start log ++ p ∷ [] = drop_push start log p h.begins in

@@ -12,6 +12,7 @@ use Rattle.do_grammar.proofs.texts.NextBeside.{next_least, next_near, free_stays
 
 -- a class is free beside a serial just where their pair doesn't stand in the table
 module _ (serial class : ℕ) where
+  -- by the first pair of the table
   free_turn : (q : Pair) (table : List Pair)
       → (is_hole (taken_with serial table) class ≡ false
       → place_in (pair serial class) table ≡ None) → (t u : Bool) → eqb q.serial serial ≡ t
@@ -28,12 +29,14 @@ module _ (serial class : ℕ) where
       let rest : is_hole (taken_with serial table) class ≡ false = sym (rw e refl) ∙ h in
       rw (e, rec rest) refl
 
+  -- a free class has no pair in the table
   pub free_none : (table : List Pair) → is_hole (taken_with serial table) class ≡ false
       → place_in (pair serial class) table ≡ None
   free_none [] h = refl
   free_none (q ∷ table) h =
       free_turn q table (free_none table) (eqb q.serial serial) (eqb q.class.0 class) refl refl h
 
+  -- by the first pair of the table
   none_turn : (q : Pair) (table : List Pair)
       → (place_in (pair serial class) table ≡ None
       → is_hole (taken_with serial table) class ≡ false) → (t u : Bool) → eqb q.serial serial ≡ t
@@ -53,6 +56,7 @@ module _ (serial class : ℕ) where
       let at : place_in (pair serial class) (q ∷ table) ≡ Some (suc k) = rw (e, g) refl in
       absurd cc
 
+  -- a class without a pair in the table is free
   pub none_free : (table : List Pair) → place_in (pair serial class) table ≡ None
       → is_hole (taken_with serial table) class ≡ false
   none_free [] h = refl
@@ -63,6 +67,7 @@ module _ (serial class : ℕ) where
 -- ---- holes that pass a test
 
 module _ (t : ℕ → Bool) (n : ℕ) where
+  -- by the first hole
   hole_passes : (h : ℕ) (holes : List ℕ)
       → (is_hole (filter t holes) n ≡ false → is_hole holes n ≡ true → t n ≡ false) → (a b : Bool)
       → eqb h n ≡ a → t h ≡ b → is_hole (filter t (h ∷ holes)) n ≡ false
@@ -83,6 +88,7 @@ module _ (t : ℕ → Bool) (n : ℕ) where
   no_hole_passes (h ∷ holes) p q =
       hole_passes h holes (no_hole_passes holes) (eqb h n) (t h) refl refl p q
 
+  -- by the first hole, for a number that does not pass
   hole_fails : (h : ℕ) (holes : List ℕ) → t n ≡ false → is_hole (filter t holes) n ≡ false
       → (a b : Bool) → eqb h n ≡ a → t h ≡ b → is_hole (filter t (h ∷ holes)) n ≡ false
   hole_fails h holes p rec true true e f =
@@ -92,12 +98,14 @@ module _ (t : ℕ → Bool) (n : ℕ) where
   hole_fails h holes p rec false true e f = rw (f, e) rec
   hole_fails h holes p rec a false e f = rw f rec
 
+  -- a number that does not pass is no hole among those that do
   pub no_hole : (holes : List ℕ) → t n ≡ false → is_hole (filter t holes) n ≡ false
   no_hole [] p = refl
   no_hole (h ∷ holes) p = hole_fails h holes p (no_hole holes p) (eqb h n) (t h) refl refl
 
 -- a serial that doesn't stand in the table has no class there
 module _ (serial : ℕ) where
+  -- by the first pair of the table
   unknown_turn : (q : Pair) (table : List Pair)
       → (is_hole (map (λ (p : Pair). p.serial) table) serial ≡ false → taken_with serial table ≡ [])
       → (t : Bool) → eqb q.serial serial ≡ t
@@ -111,15 +119,18 @@ module _ (serial : ℕ) where
       ∙ h in
       rw (e, rec rest) refl
 
+  -- so nothing is taken with it
   unknown : (table : List Pair) → is_hole (map (λ (p : Pair). p.serial) table) serial ≡ false
       → taken_with serial table ≡ []
   unknown [] h = refl
   unknown (q ∷ table) h = unknown_turn q table (unknown table) (eqb q.serial serial) refl h
 
+-- what is not false is true
 not_false : (b : Bool) → not b ≡ false → b ≡ true
 not_false true e = refl
 not_false false e = absurd cc
 
+-- what is true is not false
 true_not : (b : Bool) → b ≡ true → not b ≡ false
 true_not true e = refl
 true_not false e = absurd cc
@@ -162,6 +173,7 @@ serial_left classes serial class table lt h =
         → nat_le (next_beside (taken_with serial table) 0) (classes - 1) ≡ true
     le h = grind (arith, nat_tests)
 
+-- no more pass a test than there are
 length-filter_le : (t : ℕ → Bool) (xs : List ℕ) → length (filter t xs) ≤ length xs
 length-filter_le t [] = omega arith
 length-filter_le t (x ∷ xs) = go (t x) refl (length-filter_le t xs)
@@ -171,6 +183,7 @@ length-filter_le t (x ∷ xs) = go (t x) refl (length-filter_le t xs)
     go true e h = rw e (omega arith)
     go false e h = rw e (omega arith)
 
+-- there are as many serials as pairs
 length-serials : (table : List Pair) → length (map (λ (p : Pair). p.serial) table) ≡ length table
 length-serials [] = refl
 length-serials (p ∷ table) = ap suc (length-serials table)

@@ -27,6 +27,7 @@ use Rattle.do_coder.proofs.values.PartFacts.{fits_list, bytes_all, all_bytes}
 abbrev part_tag : Part → ℕ
 part_tag x = get_or (part_spelling x) 0 0
 
+-- what follows the tag of a value
 abbrev part_body : Part → Listed ℕ
 part_body x = drop 1 (part_spelling x)
 
@@ -39,11 +40,13 @@ OfTag (suc (suc (suc zero))) x = (k : ℕ) × (Copy k ≡ x)
 OfTag (suc (suc (suc (suc zero)))) x = (k : ℕ) × (Named k ≡ x)
 OfTag (suc (suc (suc (suc (suc b))))) x = (xs : Listed Part) × (List xs ≡ x)
 
+-- a value is spelled as its tag and what follows it
 record Cut (x : Part) : Type 0 where
   parts : part_spelling x ≡ part_tag x ∷ part_body x
   kind : OfTag (part_tag x) x
   small : part_tag x ≤ 5
 
+-- a value that is spelled so has this tag
 cut_as : (x : Part) (b : ℕ) (body : Listed ℕ) → part_spelling x ≡ b ∷ body → b ≤ 5 → OfTag b x
     → Cut x
 cut_as x b body e le kind =
@@ -55,6 +58,7 @@ cut_as x b body e le kind =
       small = omega arith;
     }
 
+-- each value is spelled so
 cut : (x : Part) → Cut x
 cut =
     part_cases Cut
@@ -66,56 +70,72 @@ cut =
     (λ xs. cut_as (List xs) 5 (list_spelling (flat_map part_spelling) xs) (spelling-List xs)
     (omega arith) (xs, refl))
 
+-- a value of a tag is of its kind
 of_tag : (x : Part) (b : ℕ) → part_tag x ≡ b → OfTag b x
 of_tag x b e = subst (λ (w : ℕ). OfTag w x) e (cut x).kind
 
+-- a value whose spelling begins with a byte has it as its tag
 tag_is : (x : Part) (b : ℕ) (body : Listed ℕ) → part_spelling x ≡ b ∷ body
     → (part_body x ≡ body) × (part_tag x ≡ b)
 tag_is x b body e = (ap (drop 1) e, ap (λ (w : Listed ℕ). get_or w 0 0) e)
 
 -- which tags pass
 module _ (copies names depth : ℕ) where
+  -- where the tag of a copy passes there is one
   begins_copy : begins_part copies names depth 3 ≡ true → 0 < copies
   begins_copy e = grind (arith, nat_tests)
 
+  -- where the tag of a name passes there is one
   begins_named : begins_part copies names depth 4 ≡ true → 0 < names
   begins_named e = grind (arith, nat_tests)
 
+  -- where the tag of a list passes one may be nested
   begins_list : begins_part copies names depth 5 ≡ true → 0 < depth
   begins_list e = grind (arith, nat_tests)
 
+  -- no byte above 5 is a tag
   begins_no_more : (b : ℕ) → 5 < b → begins_part copies names depth b ≡ true → ⊥
   begins_no_more b lt e = grind (arith, nat_tests)
 
+  -- the tags of nil, numbers and texts pass always
   few_begins : (b : ℕ) → b ≤ 2 → begins_part copies names depth b ≡ true
   few_begins b le = grind (arith, nat_tests)
 
+  -- the tag of a copy passes where there is one
   copy_begins : 0 < copies → begins_part copies names depth 3 ≡ true
   copy_begins h = grind (arith, nat_tests)
 
+  -- so does the tag of a name
   named_begins : 0 < names → begins_part copies names depth 4 ≡ true
   named_begins h = grind (arith, nat_tests)
 
+  -- the tag of a list passes where one may be nested
   list_begins : 0 < depth → begins_part copies names depth 5 ≡ true
   list_begins h = grind (arith, nat_tests)
 
+-- the test for less is exact
 less_true : (a b : ℕ) → nat_lt a b ≡ true → a < b
 less_true a b e = grind (arith, nat_tests)
 
+-- and complete
 true_less : (a b : ℕ) → a < b → nat_lt a b ≡ true
 true_less a b h = grind (arith, nat_tests)
 
+-- of two tests that hold together the first holds
 and_first : (a b : Bool) → (a && b) ≡ true → a ≡ true
 and_first true b e = refl
 and_first false b e = absurd cc
 
+-- and the second
 and_second : (a b : Bool) → (a && b) ≡ true → b ≡ true
 and_second true b e = e
 and_second false b e = absurd cc
 
+-- the test for at most is exact
 le_true : (a b : ℕ) → nat_le a b ≡ true → a ≤ b
 le_true a b e = grind (arith, nat_tests)
 
+-- and complete
 true_le : (a b : ℕ) → a ≤ b → nat_le a b ≡ true
 true_le a b e = grind (arith, nat_tests)
 
@@ -127,9 +147,11 @@ module _ (copies names depth : ℕ) (few_copies : copies < 2 ^ 64) (few_names : 
     (items : Reader (Unit {0}) (Listed Part)) (R : 0 < depth
     → Reads (Spelled (list_spelling (flat_map part_spelling)) (AreItems copies names (depth - 1)))
     items) where
+  -- a value with this tag that fits
   abbrev Tagged : ℕ → Part → Type 0
   Tagged b x = (part_tag x ≡ b) × IsPart copies names depth x
 
+  -- nil is read exactly behind its tag
   part_nil : Reads (Spelled part_body (Tagged 0)) (part_body_at copies names items 0)
   part_nil =
       let t = tag_is Nil 0 [] spelling-Nil in
@@ -138,6 +160,7 @@ module _ (copies names depth : ℕ) (few_copies : copies < 2 ^ 64) (few_names : 
         fits-Nil copies names depth,
       ) (λ y h. of_tag y 0 h.0)
 
+  -- so is a number
   part_number : Reads (Spelled part_body (Tagged 1)) (part_body_at copies names items 1)
   part_number =
       Reads-onto (λ z. Num z) (λ z. num (zigzag z)) (λ z. zigzag z < 2 ^ 64) part_body (Tagged 1)
@@ -155,6 +178,7 @@ module _ (copies names depth : ℕ) (few_copies : copies < 2 ^ 64) (few_names : 
             ∙ subst (IsPart copies names depth) (sym c.1) h.1),
       ))
 
+  -- so is a text
   part_text : Reads (Spelled part_body (Tagged 2)) (part_body_at copies names items 2)
   part_text =
       Reads-onto (λ t. Text t) counted (λ t. (length t ≤ 1048575)
@@ -191,6 +215,7 @@ module _ (copies names depth : ℕ) (few_copies : copies < 2 ^ 64) (few_names : 
         ),
       ))
 
+  -- so is the place of a copy
   part_copy : 0 < copies → Reads (Spelled part_body (Tagged 3)) (part_body_at copies names items 3)
   part_copy some =
       Reads-onto (λ k. Copy k) num (λ k. (0 ≤ k) × (k ≤ copies - 1)) part_body (Tagged 3)
@@ -202,6 +227,7 @@ module _ (copies names depth : ℕ) (few_copies : copies < 2 ^ 64) (few_names : 
       ∙ subst (IsPart copies names depth) (sym c.1) h.1) in
       (c.0, c.1, (omega arith, omega arith)))
 
+  -- so is the place of a name
   part_named : 0 < names → Reads (Spelled part_body (Tagged 4)) (part_body_at copies names items 4)
   part_named some =
       Reads-onto (λ k. Named k) num (λ k. (0 ≤ k)
@@ -214,6 +240,7 @@ module _ (copies names depth : ℕ) (few_copies : copies < 2 ^ 64) (few_names : 
       ∙ subst (IsPart copies names depth) (sym c.1) h.1) in
       (c.0, c.1, (omega arith, omega arith)))
 
+  -- so is a list whose items are
   part_list : 0 < depth → Reads (Spelled part_body (Tagged 5)) (part_body_at copies names items 5)
   part_list some =
       Reads-onto (λ xs. List xs) (list_spelling (flat_map part_spelling))
@@ -227,6 +254,7 @@ module _ (copies names depth : ℕ) (few_copies : copies < 2 ^ 64) (few_names : 
       list_fits copies names depth c.0 (subst (IsPart copies names depth) (sym c.1) h.1) in
       (c.0, c.1, record { at_least = omega arith; at_most = fits.1.0; each = fits.1.1 }))
 
+  -- what follows a tag that passes is read exactly
   part_bodies : (b : ℕ) → begins_part copies names depth b ≡ true
       → Reads (Spelled part_body (Tagged b)) (part_body_at copies names items b)
   part_bodies zero e = part_nil
@@ -260,6 +288,7 @@ module _ (copies names depth : ℕ) (few_copies : copies < 2 ^ 64) (few_names : 
       (list_fits copies names depth k.0 (subst (IsPart copies names depth) (sym k.1) h)).0
   passes (suc (suc (suc (suc (suc (suc b)))))) x le k h = absurd (omega arith)
 
+  -- a value is read exactly whose items are
   pub Reads-layer : Reads (Spelled part_spelling (IsPart copies names depth))
       (layer_at copies names depth items)
   Reads-layer =
@@ -274,6 +303,7 @@ module _ (copies names depth : ℕ) (few_copies : copies < 2 ^ 64) (few_names : 
       }) part_bodies
 
 module _ (copies names : ℕ) (few_copies : copies < 2 ^ 64) (few_names : names < 2 ^ 64) where
+  -- a value is read exactly in which so many lists may be nested
   pub Reads-part : (depth : ℕ)
       → Reads (Spelled part_spelling (IsPart copies names depth)) (part_at copies names depth)
   unfolding part_at

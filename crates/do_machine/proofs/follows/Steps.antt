@@ -5,8 +5,8 @@ use Rattle.std.specs.Prelude.{None, Option, Some, drop, length, nat_lt, option_a
 use Rattle.std.specs.Prelude.{option_map, slice_get, unwrap_or}
 use Rattle.std.specs.List.{insert}
 use Rattle.do_base.specs.declared.events.event.Event.{Event}
-use Rattle.do_base.specs.declared.events.event.Event.TheVariants.{Check, Close, Lose, Run, Start, Take}
-use Rattle.do_base.specs.declared.events.event.Event.TheVariants.{Timeout}
+use Rattle.do_base.specs.declared.events.event.Event.TheVariants.{Check, Close, Lose, Run, Start}
+use Rattle.do_base.specs.declared.events.event.Event.TheVariants.{Take, Timeout}
 use Rattle.do_base.specs.declared.values.value.Value.{Value}
 use Rattle.do_class.specs.Class.{Class}
 use Rattle.do_machine.specs.declared.item.Item.{Item}

@@ -34,6 +34,9 @@ abbrev pub events_of : Line → List Event
 events_of (lines.Start port selector values) = events.Start port selector values ∷ []
 events_of (lines.Run port count) = replicate count (events.Run port)
 events_of (lines.Take port from) = events.Take port from ∷ []
+events_of (lines.Close port peer) = events.Close port peer ∷ []
+events_of (lines.Lose from to after) = events.Lose from to after ∷ []
+events_of (lines.Timeout port) = events.Timeout port ∷ []
 events_of lines.Check = events.Check ∷ []
 
 -- what a line does: its events one after another

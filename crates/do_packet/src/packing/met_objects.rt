@@ -10,8 +10,8 @@ use std::marker::Model;
 #[derive(Drop)]
 pub(crate) struct MetObjects {
     oids: Oids,
-    // A peer chooses the serials of the objects that it names. A map in order stays fast whatever
-    // they are, where a table of hashes with a fixed seed would not.
+    // A peer chooses the serials of its own objects, and picks among the sender's. A map in order
+    // stays fast whatever they are, where a table of hashes with a fixed seed would not.
     places: BTreeMap<Oid, usize>,
 }
 

@@ -5,7 +5,6 @@ ghost use Rattle.do_packet.specs.Met.{copied_in, named_in};
 ghost use Rattle.do_packet.specs.Parts.{part_of};
 ghost use Rattle.do_packet.specs.walk.Walking.{Walked};
 
-use super::met_copies::MetCopies;
 use super::met_objects::MetObjects;
 use crate::role::{Role, role_at};
 use crate::view::View;
@@ -16,7 +15,7 @@ use std::alloc::{AllocError, Global};
 /// The objects that a message copies and those that it names, as far as they were met.
 #[derive(Drop)]
 pub(crate) struct Walk {
-    pub(crate) copies: MetCopies,
+    pub(crate) copies: MetObjects,
     pub(crate) names: MetObjects,
 }
 
@@ -26,7 +25,7 @@ impl Walk {
         ensures { result ≡ record { copies = []; names = [] } }
     {
         Walk {
-            copies: MetCopies::new(alloc),
+            copies: MetObjects::new(alloc),
             names: MetObjects::new(alloc),
         }
     }

@@ -1,33 +1,33 @@
-use super::{shelf, sink, text, words};
-use do_base::{Text, Word};
+use super::{answered, is_ok, shelf, shelf_of_two, sink, text, words};
+use do_base::Text;
 use do_node::{Status, run};
 use std::alloc::AllocError;
 use std::test::Fail;
 
-/// What the words come to with an empty schedule.
-fn answer(rt: &HostRuntime, words: &[Word]) -> Result<Status, AllocError> {
-    let mut shelf = shelf(rt, text(rt, b"schedule 1\nend\n")?, &[])?;
-    let mut sink = sink(rt, &[])?;
-    Ok(run(rt.alloc(), words, &mut shelf, &mut sink))
-}
-
 #[test]
 fn words_have_a_form(rt: HostRuntime) -> Result<(), Fail> {
     let cases = [
-        (b"fly".as_slice(), Status::Usage(1)),
-        (b"replay", Status::Usage(2)),
-        (b"replay :nope s", Status::Usage(2)),
-        (b"replay :counter", Status::Usage(3)),
-        (b"replay :counter -s", Status::Usage(3)),
-        (b"replay :counter :s", Status::Usage(3)),
-        (b"replay :counter s s", Status::Usage(4)),
-        (b"replay :counter other", Status::ReadFault),
-        (b"replay :counter s", Status::Ok),
+        (b"fly".as_slice(), b"usage: word 1".as_slice()),
+        (b"replay", b"usage: word 2"),
+        (b"replay :nope s", b"usage: word 2"),
+        (b"replay :counter", b"usage: word 3"),
+        (b"replay :counter -s", b"usage: word 3"),
+        (b"replay :counter :s", b"usage: word 3"),
+        (b"replay :counter s s", b"usage: word 4"),
+        (b"replay :counter other", b"read fault"),
+        (b"replay other s", b"read fault"),
+        (b"replay :counter s", b"ok"),
+        (b"upgrade", b"usage: word 2"),
+        (b"upgrade other", b"read fault"),
+        (b"--help s", b"usage: word 2"),
     ];
     for (line, want) in &cases {
-        assert!(rt; answer(&rt, words(&rt, line)?.as_slice())? == *want);
+        let mut shelf = shelf(&rt, text(&rt, b"schedule 2\nend\n")?, &[])?;
+        assert!(rt; answered(&rt, line, &mut shelf)?.status.is(want));
     }
-    assert!(rt; answer(&rt, &[])? == Status::Usage(1));
+    let mut shelf = shelf(&rt, text(&rt, b"schedule 2\nend\n")?, &[])?;
+    let status = run(rt.alloc(), &[], &mut shelf, &mut sink(&rt, &[])?);
+    assert!(rt; matches!(&status, Status::Usage(1)));
     Ok(())
 }
 
@@ -48,13 +48,14 @@ fn outcome(
 #[test]
 fn schedules_are_refused(rt: HostRuntime) -> Result<(), Fail> {
     let cases = [
-        (b"".as_slice(), Status::BadSchedule(1)),
-        (b"schedule 1\nrun 7001 0\n", Status::BadSchedule(2)),
-        (b"schedule 1\ncheck\n", Status::BadSchedule(3)),
+        (b"".as_slice(), 1),
+        (b"schedule 1\nend\n", 1),
+        (b"schedule 2\nrun 7001 0\n", 2),
+        (b"schedule 2\ncheck\n", 3),
     ];
     for (bytes, want) in &cases {
         let (status, unwritten) = outcome(&rt, text(&rt, bytes)?, &[], &[])?;
-        assert!(rt; status == *want);
+        assert!(rt; matches!(&status, Status::BadSchedule(line) if *line == *want));
         assert!(rt; unwritten);
     }
     Ok(())
@@ -62,12 +63,38 @@ fn schedules_are_refused(rt: HostRuntime) -> Result<(), Fail> {
 
 #[test]
 fn faults_are_told(rt: HostRuntime) -> Result<(), Fail> {
-    let (status, unwritten) = outcome(&rt, text(&rt, b"schedule 1\nend\n")?, &[1], &[])?;
-    assert!(rt; status == Status::ReadFault);
+    let (status, unwritten) = outcome(&rt, text(&rt, b"schedule 2\nend\n")?, &[1], &[])?;
+    assert!(rt; matches!(&status, Status::ReadFault));
     assert!(rt; unwritten);
-    let (status, unwritten) = outcome(&rt, text(&rt, b"schedule 1\nend\n")?, &[], &[1])?;
-    assert!(rt; status == Status::WriteFault);
+    let (status, unwritten) = outcome(&rt, text(&rt, b"schedule 2\nend\n")?, &[], &[1])?;
+    assert!(rt; matches!(&status, Status::WriteFault));
     assert!(rt; unwritten);
+    let (status, unwritten) = outcome(&rt, text(&rt, b"schedule 2\nend\n")?, &[], &[])?;
+    assert!(rt; is_ok(&status));
+    assert!(rt; !unwritten);
+    Ok(())
+}
+
+#[test]
+fn worlds_are_refused(rt: HostRuntime) -> Result<(), Fail> {
+    let cases = [
+        (b"x".as_slice(), b"the text is no TOML".as_slice()),
+        (b"version = 1", b"class is missing"),
+        (b"version = 2", b"version is wrong"),
+    ];
+    for (bytes, want) in &cases {
+        let words = words(&rt, b"replay w s")?;
+        let mut shelf = shelf_of_two(&rt, bytes, b"")?;
+        let mut sink = sink(&rt, &[])?;
+        let status = run(rt.alloc(), words.as_slice(), &mut shelf, &mut sink);
+        assert!(rt; sink.bytes().is_empty());
+        assert!(rt; status.number() == 5);
+        let Status::BadWorld(fault) = status else {
+            return Err(Fail::new("no bad world"));
+        };
+        let printed = format!(in rt.alloc(); "{fault}")?;
+        assert!(rt; printed.as_str().as_bytes() == *want);
+    }
     Ok(())
 }
 
@@ -76,14 +103,17 @@ fn long_files_are_refused(rt: HostRuntime) -> Result<(), Fail> {
     let most = 67_108_864;
     let at_limit = Text::from_vec(rt.alloc(), vec![in rt.alloc(); b'x'; most]?)?;
     let (status, _) = outcome(&rt, at_limit, &[], &[])?;
-    assert!(rt; status == Status::BadSchedule(1));
+    assert!(rt; matches!(&status, Status::BadSchedule(1)));
     let past_limit = Text::from_vec(rt.alloc(), vec![in rt.alloc(); b'x'; most + 1]?)?;
     let (status, _) = outcome(&rt, past_limit, &[], &[])?;
-    let want = Status::TooLong {
-        read: 67_108_865,
-        limit: 67_108_864,
-    };
-    assert!(rt; status == want);
+    let is_long = matches!(
+        &status,
+        Status::TooLong {
+            read: 67_108_865,
+            limit: 67_108_864,
+        }
+    );
+    assert!(rt; is_long);
     Ok(())
 }
 
@@ -94,16 +124,17 @@ fn statuses_are_printed(rt: HostRuntime) -> Result<(), Fail> {
         limit: 67_108_864,
     };
     let cases = [
-        (Status::Usage(3), "usage: word 3"),
-        (Status::ReadFault, "read fault"),
-        (long, "file longer than 67108864 bytes"),
-        (Status::BadSchedule(2), "bad line 2"),
-        (Status::WriteFault, "write fault"),
-        (Status::Memory, "out of memory"),
+        (Status::Usage(3), "usage: word 3", 2),
+        (Status::ReadFault, "read fault", 3),
+        (long, "file longer than 67108864 bytes", 4),
+        (Status::BadSchedule(2), "bad line 2", 6),
+        (Status::WriteFault, "write fault", 7),
+        (Status::Memory, "out of memory", 10),
     ];
-    for (status, want) in &cases {
+    for (status, want, number) in &cases {
         let printed = format!(in rt.alloc(); "{status}")?;
         assert!(rt; printed.as_str() == *want);
+        assert!(rt; status.number() == *number);
     }
     Ok(())
 }

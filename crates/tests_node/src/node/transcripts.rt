@@ -4,7 +4,7 @@ use do_node::{Status, run};
 use std::test::Fail;
 
 /// A client sends 5 to a counter, lets it go, and does no more.
-const FIVE: &[u8] = b"schedule 1\n\
+const FIVE: &[u8] = b"schedule 2\n\
 start 7001 go: 5\n\
 run 7001 2\n\
 take 7002 7001\n\
@@ -55,7 +55,7 @@ object #7002.1 Counter value=5\n\
 > end\n";
 
 /// A counter that holds the greatest number is sent 1.
-const GREATEST: &[u8] = b"schedule 1\n\
+const GREATEST: &[u8] = b"schedule 2\n\
 start 7001 go: 9223372036854775807\n\
 run 7001 2\n\
 take 7002 7001\n\
@@ -135,7 +135,7 @@ impl Sink for Narrow {
 fn transcripts_are_written(rt: HostRuntime) -> Result<(), Fail> {
     let cases = [
         (
-            b"schedule 1\nend\n".as_slice(),
+            b"schedule 2\nend\n".as_slice(),
             b"transcript 1\n> end\n".as_slice(),
         ),
         (FIVE, FIVE_WRITTEN),
@@ -145,12 +145,14 @@ fn transcripts_are_written(rt: HostRuntime) -> Result<(), Fail> {
     for (schedule, want) in &cases {
         let mut shelf = shelf(&rt, text(&rt, schedule)?, &[])?;
         let mut whole = sink(&rt, &[])?;
-        assert!(rt; run(rt.alloc(), words.as_slice(), &mut shelf, &mut whole) == Status::Ok);
+        let status = run(rt.alloc(), words.as_slice(), &mut shelf, &mut whole);
+        assert!(rt; matches!(&status, Status::Ok));
         assert!(rt; whole.bytes().is(want));
         let mut narrow = Narrow {
             taken: Text::new(rt.alloc()),
         };
-        assert!(rt; run(rt.alloc(), words.as_slice(), &mut shelf, &mut narrow) == Status::Ok);
+        let status = run(rt.alloc(), words.as_slice(), &mut shelf, &mut narrow);
+        assert!(rt; matches!(&status, Status::Ok));
         assert!(rt; narrow.taken.is(want));
     }
     Ok(())

@@ -1,4 +1,5 @@
-use Rattle.std.proofs.Common.{◌≡◌, ℕ, ◌+◌, List, Option, Some, None, refl, sym, ◌∙◌, ap, subst, add-one}
+use Rattle.std.proofs.Common.{◌≡◌, ℕ, ◌+◌, List, Option, Some, None, refl, sym, ◌∙◌, ap, subst}
+use Rattle.std.proofs.Common.{add-one}
 use Rattle.std.specs.Prelude.{option_and_then, if◌then◌else◌, IsNone}
 use Rattle.std.specs.Option.{option_map}
 use Rattle.do_base.specs.declared.values.value.Value.{Value}
@@ -15,7 +16,8 @@ use Rattle.act_speed.proofs.drive.drive.Goals as goal
 goes_on : (act : Act) (inv : Invocation) (slots : List Value) (done : AfterAct)
     (moved : Option Invocation) → done ≡ after_act act inv slots
     → moved_on done.inv done.left ≡ moved
-    → next (after_act act inv slots) ≡ option_map (λ i. record { inv = i; slots = done.slots }) moved
+    → next (after_act act inv slots)
+    ≡ option_map (λ i. record { inv = i; slots = done.slots }) moved
 goes_on act inv slots done moved is on =
     ap next (sym is) ∙ ap (option_map (λ i. record { inv = i; slots = done.slots })) on
 

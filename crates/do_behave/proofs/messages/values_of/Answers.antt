@@ -17,6 +17,7 @@ pub loop-k-preserved : goal.loop-k-preserved
 loop-k-preserved c =
     let found =
     slice_get-get_or c.as_slice-k-items.result.now c.loop-k.k-index 0 c.loop-k-test.true in
-    rw add-one (values_more c.args.inv.now c.as_slice-k-items.result.now c.loop-k.k-index _ c.loop-k.values
-    c.in-Some.value.now found c.loop-k.invariant (sym c.local.ensures ∙ ap option_copied c.in-Some.is)
+    rw add-one (values_more c.args.inv.now c.as_slice-k-items.result.now c.loop-k.k-index _
+    c.loop-k.values c.in-Some.value.now found c.loop-k.invariant
+    (sym c.local.ensures ∙ ap option_copied c.in-Some.is)
     ∙ ap Some (sym c.in_ok-append_copy.ensures.ok))

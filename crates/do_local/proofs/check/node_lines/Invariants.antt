@@ -1,8 +1,8 @@
+-- The nodes so far, as a check lists them.
 use Rattle.std.proofs.Common.{◌≡◌, map, take}
-use Rattle.do_local.specs.declared.station.Station.{Station}
-use Rattle.do_local.specs.Check.{node_line}
-use Rattle.do_local.specs.Stations.{state_of}
+use Rattle.do_machine.specs.check.Snapshot.{node_line}
 use Rattle.do_local.proofs.check.node_lines.Given as goal
 
 abbrev pub invariant-loop-station : goal.invariant-loop-station
-invariant-loop-station l = l.lines ≡ map (λ (p : Station). node_line (state_of l.stations) p.node) (take l.station-index l.station-items)
+invariant-loop-station l =
+    l.lines ≡ map (λ s. node_line l.state s.node) (take l.station-index l.station-items)

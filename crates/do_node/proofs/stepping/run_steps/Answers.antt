@@ -1,15 +1,16 @@
-use Rattle.std.proofs.Common.{rules}
+use Rattle.std.proofs.Common.{ap, rules}
 use Rattle.do_node.proofs.RunsStepByStep.{run_more}
 use Rattle.do_node.proofs.stepping.run_steps.Goals as goal
 
 pub loop-step-preserved : goal.loop-step-preserved
-loop-step-preserved c = record {
-  one = c.loop-step.invariant.one;
-  so_far = run_more c.loop-step._step c.args.local.now.table c.args.node c.args.local.now.state _
-      c.loop-step.local c.step.new.self c.loop-step.all c.in_ok-outcome.outcome c.join.new.all
-      c.loop-step.invariant.one c.loop-step.invariant.table
-      c.in_ok-outcome.ensures.ok c.in_ok-outcome.ensures.outcome c.in_ok-join.ensures
-      c.loop-step.invariant.so_far;
-  table = search rules;
-  counted = search rules;
-}
+loop-step-preserved g c =
+    let same = c.loop-step.invariant.same in
+    let ok = c.in_ok-outcome.ensures.ok in record {
+      one = c.loop-step.invariant.one;
+      so_far = run_more _ _ _ _ c.args.node c.loop-step._step _ _ _ c.step.new.self.state
+          c.loop-step.all c.in_ok-outcome.outcome c.join.new.all (ap (λ m. m.table) same)
+          (ap (λ m. g.B.Behaviour.act m.behaviour) same) c.loop-step.invariant.one
+          (ap (λ m. m.state) ok) c.in_ok-outcome.ensures.outcome c.in_ok-join.ensures
+          c.loop-step.invariant.so_far;
+      same = search rules;
+    }

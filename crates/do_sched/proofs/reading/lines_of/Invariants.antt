@@ -6,7 +6,7 @@ use Rattle.do_sched.proofs.reading.lines_of.Given as goal
 
 abbrev pub invariant-lines : goal.invariant-lines
 invariant-lines l = record {
-  opens : Opens l.bytes l.lines (cut l.rest);
+  opens : Opens l.version l.bytes l.lines (cut l.rest);
   number : l.number ≡ length l.lines + 1;
   steps : l.steps ≡ steps_of l.lines;
   room : l.number + length l.rest ≤ length l.bytes;

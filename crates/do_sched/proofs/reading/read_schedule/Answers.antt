@@ -1,8 +1,9 @@
 use Rattle.do_sched.proofs.AnswerUnique.{accepted, refused}
+use Rattle.do_sched.specs.declared.version.Version.TheVariants.{Second}
 use Rattle.do_sched.proofs.reading.read_schedule.Goals as goal
 
 pub returns-clause-accepts : goal.returns-clause-accepts
-returns-clause-accepts c = accepted c.args.bytes.now c.lines_of.result c.lines_of.ensures
+returns-clause-accepts c = accepted Second c.args.bytes.now c.lines_of.result c.lines_of.ensures
 
 pub returns-clause-refuses : goal.returns-clause-refuses
-returns-clause-refuses c = refused c.args.bytes.now c.lines_of.result c.lines_of.ensures
+returns-clause-refuses c = refused Second c.args.bytes.now c.lines_of.result c.lines_of.ensures

@@ -1,119 +1,110 @@
 use Rattle.std.proofs.Common.{length, arith, subst, sym}
 use Rattle.std.specs.List.{AllByRecursion}
 use Rattle.do_grammar.specs.Reader.{no_kind, short, bad}
-use Rattle.do_grammar.proofs.faults.AnswerExact.{bytes_from_each, found, found_only, not_stopped}
-use Rattle.do_grammar.proofs.faults.AnswerExact.{left_within, proper_front, first_bad}
+use Rattle.do_grammar.proofs.faults.AnswerExact.{bytes_from_each}
 use Rattle.do_coder.specs.Recent.{IsKnown}
-use Rattle.do_coder.specs.Packets.{surroundings, SpellsPacket, packet_at}
-use Rattle.do_coder.proofs.packets.PacketRead.{reads_here, stay_known}
+use Rattle.do_coder.proofs.packets.PacketRead.{packet_found, packet_only, packet_known, packet_short}
+use Rattle.do_coder.proofs.packets.PacketRead.{packet_left, packet_bad, packet_never}
 use Rattle.do_coder.proofs.read.front.decode.Goals as goal
 
+-- the rest is no longer than the bytes
 pub overflow_sub-result : goal.overflow_sub-result
 overflow_sub-result c =
-    let table = c.args.table.now in
-    let G = SpellsPacket (surroundings table c.args.from c.args.to) c.args.recent.now in
-    let r = packet_at (surroundings table c.args.from c.args.to) c.args.recent.now in
-    let R = reads_here table c.count-classes.ensures.table c.args.from c.args.to c.args.recent.now
-    c.len-few.ensures.recent c.requires.known in
-    let bytes = c.args.bytes.now in
-    let small = bytes_from_each bytes (λ i. omega (arith, c.type_inv.bytes i)) in
-    (found G r R bytes c.in-Ok.packet c.in-Ok.rest.now small c.in-Ok.ensures.gives).0
+    (packet_found c.args.table.now c.args.from c.args.to c.args.recent.now c.args.bytes.now
+    (record {
+      tabled = c.count-classes.ensures.table;
+      kept = c.len-few.ensures.recent;
+      known = c.requires.known;
+      small = bytes_from_each c.args.bytes.now (λ i. omega (arith, c.type_inv.bytes i));
+    }) c.in-Ok.packet c.in-Ok.rest.now c.in-Ok.ensures.gives).0
 
+-- nor is what is left at a bad byte
 pub overflow_sub-result-in-Err-Bad : goal.overflow_sub-result-in-Err-Bad
 overflow_sub-result-in-Err-Bad c =
-    let table = c.args.table.now in
-    let G = SpellsPacket (surroundings table c.args.from c.args.to) c.args.recent.now in
-    let r = packet_at (surroundings table c.args.from c.args.to) c.args.recent.now in
-    let R = reads_here table c.count-classes.ensures.table c.args.from c.args.to c.args.recent.now
-    c.len-few.ensures.recent c.requires.known in
-    let bytes = c.args.bytes.now in
-    let small = bytes_from_each bytes (λ i. omega (arith, c.type_inv.bytes i)) in
-    left_within G r R bytes no_kind c.in-Err-Bad.left small
-    (rw c.in-Err-Bad.field-0-is at c.in-Err-Bad.ensures.gives)
+    packet_left c.args.table.now c.args.from c.args.to c.args.recent.now c.args.bytes.now
+    (record {
+      tabled = c.count-classes.ensures.table;
+      kept = c.len-few.ensures.recent;
+      known = c.requires.known;
+      small = bytes_from_each c.args.bytes.now (λ i. omega (arith, c.type_inv.bytes i));
+    }) c.in-Err-Bad.left (rw c.in-Err-Bad.field-0-is at c.in-Err-Bad.ensures.gives)
 
+-- the packet was spelled
 pub returns-in-Ok-clause-exact : goal.returns-in-Ok-clause-exact
 returns-in-Ok-clause-exact c =
-    let table = c.args.table.now in
-    let G = SpellsPacket (surroundings table c.args.from c.args.to) c.args.recent.now in
-    let r = packet_at (surroundings table c.args.from c.args.to) c.args.recent.now in
-    let R = reads_here table c.count-classes.ensures.table c.args.from c.args.to c.args.recent.now
-    c.len-few.ensures.recent c.requires.known in
-    let bytes = c.args.bytes.now in
-    let small = bytes_from_each bytes (λ i. omega (arith, c.type_inv.bytes i)) in
-    let f = found G r R bytes c.in-Ok.packet c.in-Ok.rest.now small c.in-Ok.ensures.gives in
+    let f = packet_found c.args.table.now c.args.from c.args.to c.args.recent.now c.args.bytes.now
+    (record {
+      tabled = c.count-classes.ensures.table;
+      kept = c.len-few.ensures.recent;
+      known = c.requires.known;
+      small = bytes_from_each c.args.bytes.now (λ i. omega (arith, c.type_inv.bytes i));
+    }) c.in-Ok.packet c.in-Ok.rest.now c.in-Ok.ensures.gives in
     (omega arith, f.1)
 
+-- and no other
 pub returns-in-Ok-clause-only : goal.returns-in-Ok-clause-only
-returns-in-Ok-clause-only c =
-    let table = c.args.table.now in
-    let G = SpellsPacket (surroundings table c.args.from c.args.to) c.args.recent.now in
-    let r = packet_at (surroundings table c.args.from c.args.to) c.args.recent.now in
-    let R = reads_here table c.count-classes.ensures.table c.args.from c.args.to c.args.recent.now
-    c.len-few.ensures.recent c.requires.known in
-    let bytes = c.args.bytes.now in
-    let small = bytes_from_each bytes (λ i. omega (arith, c.type_inv.bytes i)) in
-    λ text rest v g e.
-    found_only G r R bytes c.in-Ok.packet c.in-Ok.rest.now c.in-Ok.ensures.gives text rest v g e
+returns-in-Ok-clause-only c = λ text rest v g e.
+    packet_only c.args.table.now c.args.from c.args.to c.args.recent.now c.args.bytes.now
+    (record {
+      tabled = c.count-classes.ensures.table;
+      kept = c.len-few.ensures.recent;
+      known = c.requires.known;
+      small = bytes_from_each c.args.bytes.now (λ i. omega (arith, c.type_inv.bytes i));
+    }) c.in-Ok.packet c.in-Ok.rest.now c.in-Ok.ensures.gives text rest v g e
 
+-- the table after it has classes that are there
 pub returns-in-Ok-clause-stay_known : goal.returns-in-Ok-clause-stay_known
 returns-in-Ok-clause-stay_known c =
-    let table = c.args.table.now in
-    let G = SpellsPacket (surroundings table c.args.from c.args.to) c.args.recent.now in
-    let r = packet_at (surroundings table c.args.from c.args.to) c.args.recent.now in
-    let R = reads_here table c.count-classes.ensures.table c.args.from c.args.to c.args.recent.now
-    c.len-few.ensures.recent c.requires.known in
-    let bytes = c.args.bytes.now in
-    let small = bytes_from_each bytes (λ i. omega (arith, c.type_inv.bytes i)) in
-    subst (AllByRecursion (IsKnown (length table))) (sym c.in-Ok.ensures.after)
-    (stay_known table c.count-classes.ensures.table c.args.from c.args.to c.args.recent.now
-    c.len-few.ensures.recent c.requires.known c.in-Ok.packet
-    (R.sound bytes c.in-Ok.packet c.in-Ok.rest.now small c.in-Ok.ensures.gives).spelled.fits)
+    subst (AllByRecursion (IsKnown (length c.args.table.now))) (sym c.in-Ok.ensures.after)
+    (packet_known c.args.table.now c.args.from c.args.to c.args.recent.now c.args.bytes.now
+    (record {
+      tabled = c.count-classes.ensures.table;
+      kept = c.len-few.ensures.recent;
+      known = c.requires.known;
+      small = bytes_from_each c.args.bytes.now (λ i. omega (arith, c.type_inv.bytes i));
+    }) c.in-Ok.packet c.in-Ok.rest.now c.in-Ok.ensures.gives)
 
+-- bytes that end too early are a proper front
 pub returns-in-Err-Short-clause-exact : goal.returns-in-Err-Short-clause-exact
 returns-in-Err-Short-clause-exact c =
-    let table = c.args.table.now in
-    let G = SpellsPacket (surroundings table c.args.from c.args.to) c.args.recent.now in
-    let r = packet_at (surroundings table c.args.from c.args.to) c.args.recent.now in
-    let R = reads_here table c.count-classes.ensures.table c.args.from c.args.to c.args.recent.now
-    c.len-few.ensures.recent c.requires.known in
-    let bytes = c.args.bytes.now in
-    let small = bytes_from_each bytes (λ i. omega (arith, c.type_inv.bytes i)) in
-    proper_front G r R bytes small (rw c.in-Err-Short.field-0-is at c.in-Err-Short.ensures.gives)
+    packet_short c.args.table.now c.args.from c.args.to c.args.recent.now c.args.bytes.now
+    (record {
+      tabled = c.count-classes.ensures.table;
+      kept = c.len-few.ensures.recent;
+      known = c.requires.known;
+      small = bytes_from_each c.args.bytes.now (λ i. omega (arith, c.type_inv.bytes i));
+    }) (rw c.in-Err-Short.field-0-is at c.in-Err-Short.ensures.gives)
 
+-- and begin with no packet
 pub returns-in-Err-Short-clause-only : goal.returns-in-Err-Short-clause-only
-returns-in-Err-Short-clause-only c =
-    let table = c.args.table.now in
-    let G = SpellsPacket (surroundings table c.args.from c.args.to) c.args.recent.now in
-    let r = packet_at (surroundings table c.args.from c.args.to) c.args.recent.now in
-    let R = reads_here table c.count-classes.ensures.table c.args.from c.args.to c.args.recent.now
-    c.len-few.ensures.recent c.requires.known in
-    let bytes = c.args.bytes.now in
-    let small = bytes_from_each bytes (λ i. omega (arith, c.type_inv.bytes i)) in
-    λ text rest v g e.
-    not_stopped G r R bytes short (rw c.in-Err-Short.field-0-is at c.in-Err-Short.ensures.gives)
-    text rest v g e
+returns-in-Err-Short-clause-only c = λ text rest v g e.
+    packet_never c.args.table.now c.args.from c.args.to c.args.recent.now c.args.bytes.now
+    (record {
+      tabled = c.count-classes.ensures.table;
+      kept = c.len-few.ensures.recent;
+      known = c.requires.known;
+      small = bytes_from_each c.args.bytes.now (λ i. omega (arith, c.type_inv.bytes i));
+    }) short (rw c.in-Err-Short.field-0-is at c.in-Err-Short.ensures.gives) text rest v g e
 
+-- a bad byte is the first one
 pub returns-in-Err-Bad-clause-exact : goal.returns-in-Err-Bad-clause-exact
 returns-in-Err-Bad-clause-exact c =
-    let table = c.args.table.now in
-    let G = SpellsPacket (surroundings table c.args.from c.args.to) c.args.recent.now in
-    let r = packet_at (surroundings table c.args.from c.args.to) c.args.recent.now in
-    let R = reads_here table c.count-classes.ensures.table c.args.from c.args.to c.args.recent.now
-    c.len-few.ensures.recent c.requires.known in
-    let bytes = c.args.bytes.now in
-    let small = bytes_from_each bytes (λ i. omega (arith, c.type_inv.bytes i)) in
-    first_bad G r R bytes no_kind c.in-Err-Bad.left small
-    (rw c.in-Err-Bad.field-0-is at c.in-Err-Bad.ensures.gives)
+    packet_bad c.args.table.now c.args.from c.args.to c.args.recent.now c.args.bytes.now
+    (record {
+      tabled = c.count-classes.ensures.table;
+      kept = c.len-few.ensures.recent;
+      known = c.requires.known;
+      small = bytes_from_each c.args.bytes.now (λ i. omega (arith, c.type_inv.bytes i));
+    }) c.in-Err-Bad.left (rw c.in-Err-Bad.field-0-is at c.in-Err-Bad.ensures.gives)
 
+-- and the bytes begin with no packet
 pub returns-in-Err-Bad-clause-only : goal.returns-in-Err-Bad-clause-only
-returns-in-Err-Bad-clause-only c =
-    let table = c.args.table.now in
-    let G = SpellsPacket (surroundings table c.args.from c.args.to) c.args.recent.now in
-    let r = packet_at (surroundings table c.args.from c.args.to) c.args.recent.now in
-    let R = reads_here table c.count-classes.ensures.table c.args.from c.args.to c.args.recent.now
-    c.len-few.ensures.recent c.requires.known in
-    let bytes = c.args.bytes.now in
-    let small = bytes_from_each bytes (λ i. omega (arith, c.type_inv.bytes i)) in
-    λ text rest v g e.
-    not_stopped G r R bytes (bad no_kind c.in-Err-Bad.left)
+returns-in-Err-Bad-clause-only c = λ text rest v g e.
+    packet_never c.args.table.now c.args.from c.args.to c.args.recent.now c.args.bytes.now
+    (record {
+      tabled = c.count-classes.ensures.table;
+      kept = c.len-few.ensures.recent;
+      known = c.requires.known;
+      small = bytes_from_each c.args.bytes.now (λ i. omega (arith, c.type_inv.bytes i));
+    }) (bad no_kind c.in-Err-Bad.left)
     (rw c.in-Err-Bad.field-0-is at c.in-Err-Bad.ensures.gives) text rest v g e

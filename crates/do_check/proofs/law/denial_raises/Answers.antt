@@ -1,0 +1,5 @@
+use Rattle.do_check.proofs.OnlyAllowed.{denial_raises}
+use Rattle.do_check.proofs.law.denial_raises.Goals as goal
+
+pub returns : goal.returns
+returns c = denial_raises

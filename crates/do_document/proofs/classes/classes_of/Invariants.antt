@@ -1,0 +1,19 @@
+use Rattle.std.proofs.Common.{◌≡◌, drop, length, map, take}
+use Rattle.std.specs.List.{All, AllZip, filter_map}
+use Rattle.toml.specs.View.{table_view}
+use Rattle.do_document.specs.Checks.{first_among, first_behind}
+use Rattle.do_document.specs.ClassFaults.{class_fault}
+use Rattle.do_document.specs.Classes.{class_of}
+use Rattle.do_document.specs.Sound.{HasTypes, IsClassOf}
+use Rattle.do_document.proofs.classes.classes_of.Given as goal
+
+abbrev pub invariant-loop-k : goal.invariant-loop-k
+invariant-loop-k l = record {
+  faults : first_behind class_fault (map (λ t. table_view t.now) (take l.k l.tables))
+      (map (λ t. table_view t.now) (drop l.k l.tables))
+      ≡ first_among class_fault (map (λ t. table_view t.now) l.tables);
+  made : l.classes ≡ filter_map class_of (map (λ t. table_view t.now) (take l.k l.tables));
+  all : length l.classes ≡ l.k;
+  said : AllZip IsClassOf (map (λ t. table_view t.now) (take l.k l.tables)) l.classes;
+  typed : All HasTypes l.classes;
+}

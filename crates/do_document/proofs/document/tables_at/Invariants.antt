@@ -1,0 +1,10 @@
+use Rattle.std.proofs.Common.{◌≡◌, map, take}
+use Rattle.std.specs.List.{filter_map}
+use Rattle.toml.specs.Data.{as_table}
+use Rattle.toml.specs.View.{table_view, view}
+use Rattle.do_document.proofs.document.tables_at.Given as goal
+
+abbrev pub invariant-loop-member : goal.invariant-loop-member
+invariant-loop-member l =
+    map (λ t. table_view t.now) l.tables.items
+    ≡ filter_map as_table (map view (take l.member-index l.members))

@@ -1,0 +1,7 @@
+-- What the map has at a key is the member of that key.
+use Rattle.toml.proofs.Views.{table_get}
+use Rattle.do_document.proofs.document.value_at.Goals as goal
+
+pub returns : goal.returns
+returns c =
+    table_get c.get.result c.args.key.now c.args.table.now.entries c.get.ensures.value

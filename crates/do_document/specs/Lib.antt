@@ -1,0 +1,7 @@
+pub mod Document
+pub mod Paths
+pub mod Checks
+pub mod Classes
+pub mod ClassFaults
+pub mod Sound
+pub mod Finding

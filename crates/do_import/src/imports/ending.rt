@@ -1,0 +1,55 @@
+//! A peer whose end closes.
+ghost use Rattle.std.specs.Prelude.{◌≡◌, ◌≤◌};
+ghost use Rattle.std.specs.FinMap as map;
+ghost use Rattle.do_export.specs.Counts.{others_of};
+ghost use Rattle.do_import.specs.ByObject.{home_ended};
+ghost use Rattle.do_import.specs.Imported.{all_off, lent_to};
+
+use super::Imports;
+use crate::by_object::ByObject;
+use crate::holdings::Holdings;
+use do_base::{NodeId, Oid};
+
+/// Takes the uses and names off that the lends to a borrower were.
+fn take_lends_off(
+    holdings: &mut Holdings,
+    named: &mut ByObject<u64>,
+    rows: &[((u16, u64), Oid)],
+    borrower: u16,
+)
+    ensures received { holdings.new.received ≡ holdings.old.received }
+    ensures uses { holdings.new.uses ≡ all_off holdings.old.uses (lent_to borrower rows.now) }
+    ensures spare { holdings.old.spare ≤ holdings.new.spare }
+    ensures named { named.new.rows ≡ all_off named.old.rows (lent_to borrower rows.now) }
+    ensures room { named.old.spare ≤ named.new.spare }
+{
+    for row in rows {
+        if row.0.0 == borrower {
+            holdings.take_off(row.1);
+            named.take_off(row.1);
+        }
+    }
+}
+
+impl Imports {
+    /// Forgets how often the objects of a peer were received, and ends the lends to it, each in one
+    /// go. Other uses and the asks stay.
+    pub fn end_peer(&mut self, peer: NodeId)
+        ensures same { self.new ≡ record self.old {
+          received = others_of self.old.received peer;
+          uses = all_off self.old.uses (lent_to peer (map.entries self.old.lends));
+          named = all_off self.old.named (lent_to peer (map.entries self.old.lends));
+          lends = others_of self.old.lends peer;
+          classes = home_ended self.old.classes peer self.old.asked;
+          spare = self.new.spare;
+        } }
+        ensures spare { self.old.spare ≤ self.new.spare }
+    {
+        let borrower = peer.port();
+        let rows = self.lends.rows();
+        take_lends_off(&mut self.holdings, &mut self.named, rows, borrower);
+        self.lends.end_peer(peer);
+        self.holdings.end_peer(peer);
+        self.classes.end_home(peer, &self.asked);
+    }
+}

@@ -1,8 +1,0 @@
--- What was added so far is the first value and those up to here, with a space before each.
-use Rattle.std.proofs.Common.{◌≡◌, ◌++◌, take, map}
-use Rattle.do_lines.specs.Value.{value_text, spaced}
-use Rattle.do_lines.proofs.value.+value.Given as goal
-
-abbrev pub invariant-push_values-loop-value : goal.invariant-push_values-loop-value
-invariant-push_values-loop-value l =
-    l.out ≡ l.initial.out ++ spaced (map value_text (take l.value-index l.rest))

@@ -1,0 +1,95 @@
+//! The stations of a state, and their queues.
+ghost use Rattle.std.specs.Prelude.{◌≡◌, ◌==◌, ◌<◌, IfOk, IfSome, Some, length, position};
+ghost use Rattle.std.specs.Prelude.{slice_get};
+ghost use Rattle.do_machine.specs.Lists.{change_first};
+ghost use Rattle.do_machine.specs.State.{change, with_items, with_queue};
+
+use crate::copies::copy_queues;
+use do_base::{Items, NodeId};
+use do_machine::{Item, Queue, Shared, State, Station};
+use do_rules::item_at;
+use std::alloc::AllocError;
+
+/// Where the station of a port stands.
+pub(crate) fn station_at(state: &State, port: NodeId) -> Option<usize>
+    ensures index { result ≡ position (λ s. port == s.port) state.now.stations }
+    ensures within { IfSome result (λ at. at < length state.now.stations) }
+{
+    state
+        .stations
+        .as_slice()
+        .iter()
+        .position(|station| station.get().port == port)
+}
+
+/// The station at a place.
+pub(crate) fn station_in(state: &State, at: usize) -> &Station
+    requires { at < length state.now.stations }
+    ensures { slice_get state.now.stations at ≡ Some result.now }
+{
+    item_at(&state.stations, at).get()
+}
+
+/// Where the queue to a peer stands.
+fn queue_at(queues: &Items<Queue>, to: NodeId) -> Option<usize>
+    ensures index { result ≡ position (λ q. to == q.to) queues.now }
+    ensures within { IfSome result (λ at. at < length queues.now) }
+{
+    queues.as_slice().iter().position(|queue| queue.to == to)
+}
+
+/// The queues, of which the one to a peer has other items.
+#[tactic(auto, using(do_rules::proofs::Sets::first_steps))]
+fn with_items_to(to: NodeId, items: Items<Item>, queues: Items<Queue>) -> Items<Queue>
+    ensures { result ≡ change_first (λ q. to == q.to) (with_items items) queues }
+{
+    let mut queues = queues;
+    let Some(at) = queue_at(&queues, to) else {
+        return queues;
+    };
+    let queue = Queue {
+        to: item_at(&queues, at).to,
+        items,
+    };
+    queues.set(at, queue);
+    queues
+}
+
+/// A station with other items in its queue to a peer.
+fn with_queue(
+    to: NodeId,
+    items: Items<Item>,
+    station: &Station,
+) -> Result<Shared<Station>, AllocError>
+    ensures { IfOk result (λ s. s ≡ with_queue to items station.now) }
+{
+    let node = station.node.clone()?;
+    let queues = copy_queues(&station.queues)?;
+    let classes = station.classes.clone()?;
+    let after = Station {
+        port: station.port,
+        node,
+        queues: with_items_to(to, items, queues),
+        classes,
+    };
+    Shared::new(station.queues.allocator(), after)
+}
+
+/// A state with other items in the queue from a node to another.
+#[tactic(auto, using(do_rules::proofs::Sets::first_steps))]
+pub(crate) fn with_queue_of(
+    from: NodeId,
+    to: NodeId,
+    items: Items<Item>,
+    state: &State,
+) -> Result<State, AllocError>
+    ensures { IfOk result (λ s. s ≡ change from (with_queue to items) state.now) }
+{
+    let mut after = state.clone()?;
+    let Some(at) = station_at(&after, from) else {
+        return Ok(after);
+    };
+    let station = with_queue(to, items, station_in(&after, at))?;
+    after.stations.set(at, station);
+    Ok(after)
+}

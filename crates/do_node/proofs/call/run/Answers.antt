@@ -1,0 +1,21 @@
+use Rattle.do_node.proofs.WordsRead.{memory_told, no_command, usage_told}
+use Rattle.do_node.proofs.call.run.Goals as goal
+
+pub returns-in-Err-Usage-clause-usage : goal.returns-in-Err-Usage-clause-usage
+returns-in-Err-Usage-clause-usage g c = rw c.in-Err-Usage.word-is
+    (usage_told c.args.words.now c.in-Err-Usage.word
+    (rw c.in-Err-Usage.field-0-is at c.in-Err-Usage.ensures.usage))
+
+pub returns-in-Err-Usage-clause-refuses : goal.returns-in-Err-Usage-clause-refuses
+returns-in-Err-Usage-clause-refuses g c = λ files command status is asks none.
+    absurd (no_command c.args.words.now c.in-Err-Usage.word command
+    (rw c.in-Err-Usage.field-0-is at c.in-Err-Usage.ensures.usage) asks)
+
+pub returns-in-Err-Usage-clause-complete : goal.returns-in-Err-Usage-clause-complete
+returns-in-Err-Usage-clause-complete g c = λ files command text is asks writes calm quiet.
+    absurd (no_command c.args.words.now c.in-Err-Usage.word command
+    (rw c.in-Err-Usage.field-0-is at c.in-Err-Usage.ensures.usage) asks)
+
+pub returns-in-Err-Memory-clause-usage : goal.returns-in-Err-Memory-clause-usage
+returns-in-Err-Memory-clause-usage g c =
+    memory_told c.args.words.now (rw c.in-Err-Memory.field-0-is at c.in-Err-Memory.ensures.usage)

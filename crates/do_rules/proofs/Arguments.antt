@@ -1,0 +1,273 @@
+-- The members of lists that stand beside the arguments of a signature, from one argument on.
+use Rattle.std.proofs.Common.{◌≡◌, ℕ, zero, suc, ◌+◌, ◌-◌, ◌<◌, ◌≤◌, Bool, true, false, cond, List, [], ◌∷◌}
+use Rattle.std.proofs.Common.{◌++◌, length, map, take, drop, Some, refl, ap, sym, ◌∙◌, subst, arith, rules}
+use Rattle.std.specs.Prelude.{get_or, not, option_map, slice_get, ◌&&◌}
+use Rattle.std.proofs.lemmas.Option.{slice_get-map}
+use Rattle.do_base.specs.declared.values.value.Value.{Value}
+use Rattle.do_base.specs.declared.values.value.Value.TheVariants.{Nil}
+use Rattle.do_sig.specs.MethodTypes.{MethodType, QualifiedType}
+use Rattle.do_sig.specs.Calls.{arg_fits, encoding_fits, is_oneway, qualifier_of, qualifiers_of}
+use Rattle.do_sig.specs.Calls.{some_fits}
+use Rattle.do_sig.specs.Fits.{each_takes}
+use Rattle.do_sig.specs.declared.qualifiers.Qualifier.{Qualifier}
+use Rattle.do_machine.specs.run.Send.{inputs_by, outs_by}
+
+-- An argument that stands first from a place on.
+record StandsFirst (oneway : Bool) (es : List QualifiedType) (k : ℕ) (q : Qualifier) : Type 0 where
+  first : QualifiedType
+  rest : drop k es ≡ first ∷ drop (suc k) es
+  is : qualifier_of oneway first ≡ q
+  there : slice_get es k ≡ Some first
+
+-- where there is an argument at a place, it stands first from there on
+stands_first : (oneway : Bool) (es : List QualifiedType) (k : ℕ) (q : Qualifier) →
+    slice_get (map (qualifier_of oneway) es) k ≡ Some q → StandsFirst oneway es k q
+stands_first oneway [] k q h = cc
+stands_first oneway (e ∷ es) zero q h = record { first = e; rest = refl; is = cc; there = refl }
+stands_first oneway (e ∷ es) (suc k) q h =
+    let s = stands_first oneway es k q h in
+    record { first = s.first; rest = s.rest; is = s.is; there = s.there }
+
+-- past the last argument there is none
+none_left : {X : Type 0} (xs : List X) (k : ℕ) → length xs ≤ k → drop k xs ≡ []
+none_left [] zero h = refl
+none_left [] (suc k) h = refl
+none_left (x ∷ xs) zero h = absurd (omega (arith, h))
+none_left (x ∷ xs) (suc k) h = none_left xs k (omega (arith, h))
+
+pub outs_end : {X : Type 0} (s : MethodType) (k : ℕ) (xs : List X) → length s.args ≤ k →
+    [] ≡ outs_by (is_oneway s) (drop k s.args) xs
+outs_end s k xs h = ap (λ es. outs_by (is_oneway s) es xs) (sym (none_left s.args k h))
+
+no_outs : {X : Type 0} (oneway : Bool) (es : List QualifiedType) (xs : List X) → xs ≡ [] →
+    [] ≡ outs_by oneway es xs
+no_outs oneway [] xs none = refl
+no_outs oneway (e ∷ es) [] none = refl
+no_outs oneway (e ∷ es) (x ∷ xs) none = cc
+
+pub outs_none : {X : Type 0} (s : MethodType) (k : ℕ) (xs : List X) → xs ≡ [] →
+    [] ≡ outs_by (is_oneway s) (drop k s.args) xs
+outs_none s k xs none = no_outs (is_oneway s) (drop k s.args) xs none
+
+-- the first argument from a place on, and those from the next place on
+first_is : (s : MethodType) (k : ℕ) (q : Qualifier) (f : StandsFirst (is_oneway s) s.args k q) →
+    drop k s.args ≡ f.first ∷ drop (k + 1) s.args
+first_is s k q f =
+    let next : suc k ≡ k + 1 = omega arith in
+    f.rest ∙ ap (λ n. f.first ∷ drop n s.args) next
+
+pub outs_taken : {X : Type 0} (s : MethodType) (k : ℕ) (q : Qualifier) (x : X) (xs rest : List X) →
+    slice_get (qualifiers_of s) k ≡ Some q → q.comes_out ≡ true →
+    rest ≡ outs_by (is_oneway s) (drop (k + 1) s.args) xs →
+    x ∷ rest ≡ outs_by (is_oneway s) (drop k s.args) (x ∷ xs)
+outs_taken s k q x xs rest h out is =
+    let f = stands_first (is_oneway s) s.args k q h in
+    let comes : (qualifier_of (is_oneway s) f.first).comes_out ≡ true =
+    ap (λ (w : Qualifier). w.comes_out) f.is ∙ out in
+    rw (first_is s k q f) (rw comes (ap (λ more. x ∷ more) is))
+
+pub outs_passed : {X : Type 0} (s : MethodType) (k : ℕ) (q : Qualifier) (x : X) (xs rest : List X) →
+    slice_get (qualifiers_of s) k ≡ Some q → q.comes_out ≡ false →
+    rest ≡ outs_by (is_oneway s) (drop (k + 1) s.args) xs →
+    rest ≡ outs_by (is_oneway s) (drop k s.args) (x ∷ xs)
+outs_passed s k q x xs rest h out is =
+    let f = stands_first (is_oneway s) s.args k q h in
+    let comes : (qualifier_of (is_oneway s) f.first).comes_out ≡ false =
+    ap (λ (w : Qualifier). w.comes_out) f.is ∙ out in
+    rw (first_is s k q f) (rw comes is)
+
+pub inputs_end : (s : MethodType) (k : ℕ) (vs : List Value) → length s.args ≤ k →
+    [] ≡ inputs_by (drop k s.args) vs
+inputs_end s k vs h = ap (λ es. inputs_by es vs) (sym (none_left s.args k h))
+
+no_inputs : (es : List QualifiedType) (vs : List Value) → vs ≡ [] → [] ≡ inputs_by es vs
+no_inputs [] vs none = refl
+no_inputs (e ∷ es) [] none = refl
+no_inputs (e ∷ es) (v ∷ vs) none = cc
+
+pub inputs_none : (s : MethodType) (k : ℕ) (vs : List Value) → vs ≡ [] →
+    [] ≡ inputs_by (drop k s.args) vs
+inputs_none s k vs none = no_inputs (drop k s.args) vs none
+
+pub input_next : (s : MethodType) (k : ℕ) (q : Qualifier) (v x : Value) (vs rest : List Value) →
+    slice_get (qualifiers_of s) k ≡ Some q → x ≡ cond q.goes_in v Nil →
+    rest ≡ inputs_by (drop (k + 1) s.args) vs →
+    x ∷ rest ≡ inputs_by (drop k s.args) (v ∷ vs)
+input_next s k q v x vs rest h input is =
+    let f = stands_first (is_oneway s) s.args k q h in
+    let goes : (qualifier_of (is_oneway s) f.first).goes_in ≡ q.goes_in =
+    ap (λ (w : Qualifier). w.goes_in) f.is in
+    rw (first_is s k q f)
+    (ap (λ w. w ∷ rest) (input ∙ ap (λ b. cond b v Nil) (sym goes))
+    ∙ ap (λ more. cond (qualifier_of (is_oneway s) f.first).goes_in v Nil ∷ more) is)
+
+-- the tests of the arguments from one on that come out
+abbrev tests : MethodType → ℕ → List (Value → Bool)
+tests s k = map encoding_fits (outs_by (is_oneway s) (drop k s.args) (drop k s.args))
+
+pub takes_passed : (s : MethodType) (k : ℕ) (q : Qualifier) (vs : List Value) (b : Bool) →
+    slice_get (qualifiers_of s) k ≡ Some q → q.comes_out ≡ false →
+    b ≡ each_takes (tests s (k + 1)) vs → b ≡ each_takes (tests s k) vs
+takes_passed s k q vs b h out is =
+    let f = stands_first (is_oneway s) s.args k q h in
+    let comes : (qualifier_of (is_oneway s) f.first).comes_out ≡ false =
+    ap (λ (w : Qualifier). w.comes_out) f.is ∙ out in
+    rw (first_is s k q f) (rw comes is)
+
+-- the tests where the first argument comes out
+tests_first : (s : MethodType) (k : ℕ) (q : Qualifier)
+    (f : StandsFirst (is_oneway s) s.args k q) → q.comes_out ≡ true →
+    tests s k ≡ encoding_fits f.first ∷ tests s (k + 1)
+tests_first s k q f out =
+    let comes : (qualifier_of (is_oneway s) f.first).comes_out ≡ true =
+    ap (λ (w : Qualifier). w.comes_out) f.is ∙ out in
+    rw (first_is s k q f) (rw comes refl)
+
+pub takes_none : (s : MethodType) (k : ℕ) (q : Qualifier) (vs : List Value) →
+    slice_get (qualifiers_of s) k ≡ Some q → q.comes_out ≡ true → vs ≡ [] →
+    false ≡ each_takes (tests s k) vs
+takes_none s k q vs h out none =
+    let f = stands_first (is_oneway s) s.args k q h in
+    rw none (rw (tests_first s k q f out) refl)
+
+pub takes_unfit : (s : MethodType) (k : ℕ) (q : Qualifier) (v : Value) (vs : List Value) →
+    slice_get (qualifiers_of s) k ≡ Some q → q.comes_out ≡ true → arg_fits s k v ≡ false →
+    false ≡ each_takes (tests s k) (v ∷ vs)
+takes_unfit s k q v vs h out unfit =
+    let f = stands_first (is_oneway s) s.args k q h in
+    let misfit : encoding_fits f.first v ≡ false =
+    subst (λ m. some_fits m v ≡ false) f.there unfit in
+    rw (tests_first s k q f out) (rw misfit refl)
+
+pub takes_fit : (s : MethodType) (k : ℕ) (q : Qualifier) (v : Value) (vs : List Value) (b : Bool) →
+    slice_get (qualifiers_of s) k ≡ Some q → q.comes_out ≡ true → arg_fits s k v ≡ true →
+    b ≡ each_takes (tests s (k + 1)) vs → b ≡ each_takes (tests s k) (v ∷ vs)
+takes_fit s k q v vs b h out fit is =
+    let f = stands_first (is_oneway s) s.args k q h in
+    let fits : encoding_fits f.first v ≡ true =
+    subst (λ m. some_fits m v ≡ true) f.there fit in
+    rw (tests_first s k q f out) (rw fits is)
+
+none_after : (s : MethodType) (k : ℕ) → length s.args ≤ k → tests s k ≡ []
+none_after s k h =
+    ap (λ es. map encoding_fits (outs_by (is_oneway s) es es)) (none_left s.args k h)
+
+pub takes_end : (s : MethodType) (k : ℕ) (vs : List Value) → length s.args ≤ k → vs ≡ [] →
+    true ≡ each_takes (tests s k) vs
+takes_end s k vs h none = rw none (rw (none_after s k h) refl)
+
+pub takes_past : (s : MethodType) (k : ℕ) (vs : List Value) → length s.args ≤ k →
+    0 < length vs → false ≡ each_takes (tests s k) vs
+takes_past s k [] h some = absurd (omega (arith, some))
+takes_past s k (v ∷ vs) h some = rw (none_after s k h) refl
+
+-- a list shorter than one is empty
+pub is_empty : {X : Type 0} (xs : List X) → length xs < 1 → xs ≡ []
+is_empty [] h = refl
+is_empty (x ∷ xs) h = absurd (omega (arith, h))
+
+pub outs_short : {X : Type 0} (s : MethodType) (k : ℕ) (xs : List X) → length xs < 1 →
+    [] ≡ outs_by (is_oneway s) (drop k s.args) xs
+outs_short s k xs h = outs_none s k xs (is_empty xs h)
+
+pub inputs_short : (s : MethodType) (k : ℕ) (vs : List Value) → length vs < 1 →
+    [] ≡ inputs_by (drop k s.args) vs
+inputs_short s k vs h = inputs_none s k vs (is_empty vs h)
+
+pub takes_short : (s : MethodType) (k : ℕ) (q : Qualifier) (vs : List Value) →
+    slice_get (qualifiers_of s) k ≡ Some q → q.comes_out ≡ true → length vs < 1 →
+    false ≡ each_takes (tests s k) vs
+takes_short s k q vs h out short = takes_none s k q vs h out (is_empty vs short)
+
+pub takes_all : (s : MethodType) (k : ℕ) (vs : List Value) → length s.args ≤ k → length vs < 1 →
+    true ≡ each_takes (tests s k) vs
+takes_all s k vs h short = takes_end s k vs h (is_empty vs short)
+
+pub ruleset argument_steps = (
+  outs_end,
+  outs_none,
+  outs_taken,
+  outs_passed,
+  inputs_end,
+  inputs_none,
+  input_next,
+  takes_passed,
+  takes_none,
+  takes_unfit,
+  takes_fit,
+  takes_end,
+  takes_past,
+)
+
+all_taken : {X : Type 0} (xs : List X) → take (length xs) xs ≡ xs
+all_taken [] = refl
+all_taken (x ∷ xs) = ap (λ ys. x ∷ ys) (all_taken xs)
+
+-- what stands behind the first element
+behind : {X : Type 0} (xs : List X) → take (suc (length xs) - 1) xs ≡ xs
+behind xs =
+    let less : suc (length xs) - 1 ≡ length xs = omega arith in
+    ap (λ n. take n xs) less ∙ all_taken xs
+
+pub not_false : (b : Bool) → not b ≡ false → b ≡ true
+not_false true h = refl
+not_false false h = cc
+
+-- the same of a list that is not empty, by its first element and the others
+pub input_at : (s : MethodType) (k : ℕ) (q : Qualifier) (xs : List Value) (v x : Value)
+    (rest : List Value) → 1 ≤ length xs → v ≡ get_or xs 0 v → slice_get (qualifiers_of s) k ≡ Some q →
+    x ≡ cond q.goes_in v Nil → rest ≡ inputs_by (drop (k + 1) s.args) (take (length xs - 1) (drop 1 xs)) →
+    x ∷ rest ≡ inputs_by (drop k s.args) xs
+input_at s k q [] v x rest some at h input is = absurd (omega (arith, some))
+input_at s k q (y ∷ ys) v x rest some at h input is =
+    input_next s k q y x ys rest h (input ∙ ap (λ z. cond q.goes_in z Nil) at)
+    (is ∙ ap (λ zs. inputs_by (drop (k + 1) s.args) zs) (behind ys))
+
+pub out_first : {X : Type 0} (s : MethodType) (k : ℕ) (q : Qualifier) (xs rest : List X) →
+    1 ≤ length xs → slice_get (qualifiers_of s) k ≡ Some q → q.comes_out ≡ true →
+    rest ≡ outs_by (is_oneway s) (drop (k + 1) s.args) (take (length xs - 1) (drop 1 xs)) →
+    take 1 xs ++ rest ≡ outs_by (is_oneway s) (drop k s.args) xs
+out_first s k q [] rest some h out is = absurd (omega (arith, some))
+out_first s k q (y ∷ ys) rest some h out is =
+    outs_taken s k q y ys rest h out
+    (is ∙ ap (λ zs. outs_by (is_oneway s) (drop (k + 1) s.args) zs) (behind ys))
+
+pub not_true : (b : Bool) → not b ≡ true → b ≡ false
+not_true true h = cc
+not_true false h = refl
+
+pub out_later : {X : Type 0} (s : MethodType) (k : ℕ) (q : Qualifier) (xs rest : List X) →
+    1 ≤ length xs → slice_get (qualifiers_of s) k ≡ Some q → q.comes_out ≡ false →
+    rest ≡ outs_by (is_oneway s) (drop (k + 1) s.args) (take (length xs - 1) (drop 1 xs)) →
+    rest ≡ outs_by (is_oneway s) (drop k s.args) xs
+out_later s k q [] rest some h out is = absurd (omega (arith, some))
+out_later s k q (y ∷ ys) rest some h out is =
+    outs_passed s k q y ys rest h out
+    (is ∙ ap (λ zs. outs_by (is_oneway s) (drop (k + 1) s.args) zs) (behind ys))
+
+pub takes_at : (s : MethodType) (k : ℕ) (q : Qualifier) (xs : List Value) (v : Value) (b : Bool) →
+    1 ≤ length xs → v ≡ get_or xs 0 v → slice_get (qualifiers_of s) k ≡ Some q →
+    q.comes_out ≡ true → arg_fits s k v ≡ true → b ≡ each_takes (tests s (k + 1)) (take (length xs - 1) (drop 1 xs)) →
+    b ≡ each_takes (tests s k) xs
+takes_at s k q [] v b some at h out fit is = absurd (omega (arith, some))
+takes_at s k q (y ∷ ys) v b some at h out fit is =
+    takes_fit s k q y ys b h out (subst (λ z. arg_fits s k z ≡ true) at fit)
+    (is ∙ ap (λ zs. each_takes (tests s (k + 1)) zs) (behind ys))
+
+one_suc : {X : Type 0} (xs : List X) (k : ℕ) (x : X) → slice_get xs k ≡ Some x →
+    take (suc k) xs ≡ take k xs ++ x ∷ []
+one_suc [] k x h = cc
+one_suc (y ∷ ys) zero x h = cc
+one_suc (y ∷ ys) (suc k) x h = ap (λ t. y ∷ t) (one_suc ys k x h)
+
+pub mark_more : (s : MethodType) (k : ℕ) (q : Qualifier) → slice_get (qualifiers_of s) k ≡ Some q →
+    take (k + 1) (map (λ (x : Qualifier). x.copy) (qualifiers_of s))
+    ≡ take k (map (λ (x : Qualifier). x.copy) (qualifiers_of s)) ++ q.copy ∷ []
+mark_more s k q h =
+    let more : k + 1 ≡ suc k = omega arith in
+    ap (λ n. take n (map (λ (x : Qualifier). x.copy) (qualifiers_of s))) more
+    ∙ one_suc (map (λ (x : Qualifier). x.copy) (qualifiers_of s)) k q.copy
+    (slice_get-map (λ (x : Qualifier). x.copy) (qualifiers_of s) k
+    ∙ ap (λ m. option_map (λ (x : Qualifier). x.copy) m) h)
+
+pub ruleset mark_steps = (mark_more)

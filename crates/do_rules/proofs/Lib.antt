@@ -1,0 +1,15 @@
+mod Arguments
+mod Arrivals
+mod Exports
+mod Filtered
+mod Known
+mod Left
+mod Nested
+mod Padding
+mod Pairs
+mod Received
+mod RootPackets
+mod Serials
+pub mod Sets
+mod Striking
+mod Weights

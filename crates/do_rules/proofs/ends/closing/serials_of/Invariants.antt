@@ -1,0 +1,7 @@
+use Rattle.std.proofs.Common.{◌≡◌, take, map, filter, not, ◌==◌}
+use Rattle.do_machine.specs.ends.Closing.{serials_of}
+use Rattle.do_rules.proofs.ends.closing.serials_of.Given as goal
+
+abbrev pub invariant-loop-object : goal.invariant-loop-object
+invariant-loop-object l =
+    l.serials ≡ serials_of l.peer (take l.object-index l.object-items)

@@ -1,0 +1,7 @@
+use Rattle.std.proofs.Common.{◌≡◌, take, map, filter, not, ◌==◌}
+use Rattle.do_machine.specs.ends.Closing.{without_answer}
+use Rattle.do_rules.proofs.ends.closing.stack_without.Given as goal
+
+abbrev pub invariant-loop-invocation : goal.invariant-loop-invocation
+invariant-loop-invocation l =
+    l.after ≡ map (without_answer l.peer) (take l.invocation-index l.invocation-items)

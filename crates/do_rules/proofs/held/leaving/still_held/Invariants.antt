@@ -1,0 +1,7 @@
+use Rattle.std.proofs.Common.{◌≡◌, take, map, filter, not, ◌==◌}
+use Rattle.do_packet.specs.Met.{has_object}
+use Rattle.do_rules.proofs.held.leaving.still_held.Given as goal
+
+abbrev pub invariant-loop-object : goal.invariant-loop-object
+invariant-loop-object l =
+    l.still ≡ filter (has_object l.referred) (take l.object-index l.object-items)

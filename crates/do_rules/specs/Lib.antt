@@ -1,0 +1,5 @@
+pub mod Judged
+pub mod Exporting
+pub mod Answering
+pub mod Receiving
+pub mod Packable

@@ -1,0 +1,180 @@
+//! How a node closes its end of the connection to a peer.
+ghost use Rattle.std.specs.Prelude.{◌≡◌, ◌==◌, IfOk, filter, map, not};
+ghost use Rattle.do_machine.specs.ends.Closing.{asked_of, closing, died, parted, serials_of};
+ghost use Rattle.do_machine.specs.ends.Closing.{without_answer};
+
+use crate::effect::{after, queueing};
+use crate::lend::asking::all_settling;
+use do_base::{Exc, Items, NodeId, Oids, Peers};
+use do_behave::{Answer, InvState, Invocation};
+use do_machine::{Effect, Item, LateCall, Lends, Node, Wanted};
+use std::alloc::AllocError;
+
+/// The serials of a peer's objects.
+fn serials_of(peer: NodeId, objects: &Oids) -> Result<Items<u64>, AllocError>
+    ensures { IfOk result (λ ss. ss ≡ serials_of peer objects.now) }
+{
+    let mut serials = Items::new(objects.allocator());
+    for object in objects.as_slice() {
+        if object.node == peer {
+            serials.push(object.serial)?;
+        }
+    }
+    Ok(serials)
+}
+
+/// The state of an invocation that loses a peer: one that waits for its answer has an exception.
+fn died(peer: NodeId, state: &InvState) -> Result<InvState, AllocError>
+    ensures { IfOk result (λ s. s ≡ died peer state.now) }
+{
+    match state {
+        InvState::Waits {
+            call,
+            peer: asked,
+            what,
+        } => {
+            let waits_on = *asked;
+            if waits_on == peer {
+                return Ok(InvState::Answered(Answer::Raised(Exc::ConnectionDied)));
+            }
+            Ok(InvState::Waits {
+                call: *call,
+                peer: *asked,
+                what: *what,
+            })
+        }
+        InvState::Running => Ok(InvState::Running),
+        InvState::Below => Ok(InvState::Below),
+        InvState::Answered(answer) => Ok(InvState::Answered(answer.clone()?)),
+    }
+}
+
+/// An invocation that loses a peer.
+fn without_answer(peer: NodeId, invocation: &Invocation) -> Result<Invocation, AllocError>
+    ensures { IfOk result (λ i. i ≡ without_answer peer invocation.now) }
+{
+    let mut next = invocation.clone()?;
+    next.state = died(peer, &invocation.state)?;
+    Ok(next)
+}
+
+/// Invocations that lose a peer.
+fn stack_without(peer: NodeId, stack: &Items<Invocation>) -> Result<Items<Invocation>, AllocError>
+    ensures { IfOk result (λ is. is ≡ map (without_answer peer) stack.now) }
+{
+    let mut after = Items::new(stack.allocator());
+    for invocation in stack.as_slice() {
+        after.push(without_answer(peer, invocation)?)?;
+    }
+    Ok(after)
+}
+
+/// The peers but one.
+fn ends_but(peer: NodeId, open_to: &Peers) -> Result<Peers, AllocError>
+    ensures { IfOk result (λ ps. ps ≡ filter (λ p. not (p == peer)) open_to.now) }
+{
+    let mut others = Peers::new(open_to.allocator());
+    for other in open_to.as_slice() {
+        if *other != peer {
+            others.push(*other)?;
+        }
+    }
+    Ok(others)
+}
+
+/// The objects but those of a peer.
+fn held_but(peer: NodeId, held: &Oids) -> Result<Oids, AllocError>
+    ensures { IfOk result (λ os. os ≡ filter (λ o. not (o.node == peer)) held.now) }
+{
+    let mut others = Oids::new(held.allocator());
+    for object in held.as_slice() {
+        if object.node != peer {
+            others.push(*object)?;
+        }
+    }
+    Ok(others)
+}
+
+/// The lends but those to a peer.
+fn lent_but(peer: NodeId, lent: &Lends) -> Result<Lends, AllocError>
+    ensures { IfOk result (λ ls. ls ≡ filter (λ l. not (l.borrower == peer)) lent.now) }
+{
+    let mut others = Lends::new(lent.allocator());
+    for lend in lent.as_slice() {
+        if lend.borrower != peer {
+            others.push(lend.clone()?)?;
+        }
+    }
+    Ok(others)
+}
+
+/// The asks but those that a peer was to answer.
+fn asked_but(peer: NodeId, asked: &Items<Wanted>) -> Result<Items<Wanted>, AllocError>
+    ensures { IfOk result (λ ws. ws ≡ filter (λ w. not (w.object.node == peer)) asked.now) }
+{
+    let mut others = Items::new(asked.allocator());
+    for wanted in asked.as_slice() {
+        if wanted.object.node != peer {
+            others.push(wanted.clone()?)?;
+        }
+    }
+    Ok(others)
+}
+
+/// The late calls but those to a peer.
+fn late_but(peer: NodeId, late: &Items<LateCall>) -> Result<Items<LateCall>, AllocError>
+    ensures { IfOk result (λ cs. cs ≡ filter (λ c. not (c.peer == peer)) late.now) }
+{
+    let mut others = Items::new(late.allocator());
+    for call in late.as_slice() {
+        if call.peer != peer {
+            others.push(call.clone()?)?;
+        }
+    }
+    Ok(others)
+}
+
+/// The node without what it had with the peer: objects held, lends, asks, late calls and calls.
+fn parted(peer: NodeId, node: &Node) -> Result<Node, AllocError>
+    ensures { IfOk result (λ n. n ≡ parted peer node.now) }
+{
+    Ok(Node {
+        port: node.port,
+        heap: node.heap.clone()?,
+        root: node.root,
+        stack: stack_without(peer, &node.stack)?,
+        next_serial: node.next_serial,
+        next_call: node.next_call,
+        next_token: node.next_token,
+        open_to: ends_but(peer, &node.open_to)?,
+        held: held_but(peer, &node.held)?,
+        lent: lent_but(peer, &node.lent)?,
+        asked: asked_but(peer, &node.asked)?,
+        late: late_but(peer, &node.late)?,
+    })
+}
+
+/// The asks that a peer was to answer.
+fn asked_of(peer: NodeId, node: &Node) -> Result<Items<Wanted>, AllocError>
+    ensures { IfOk result (λ ws. ws ≡ asked_of peer node.now) }
+{
+    let mut asks = Items::new(node.asked.allocator());
+    for wanted in node.asked.as_slice() {
+        if wanted.object.node == peer {
+            asks.push(wanted.clone()?)?;
+        }
+    }
+    Ok(asks)
+}
+
+/// The peer is told which of its objects are no longer held, and the lenders of those asked for
+/// that their lends are over.
+pub fn closing(peer: NodeId, node: &Node) -> Result<Effect, AllocError>
+    ensures { IfOk result (λ e. e ≡ closing peer node.now) }
+{
+    let serials = serials_of(peer, &node.held)?;
+    let first = queueing(peer, Item::End { serials }, parted(peer, node)?)?;
+    let asks = asked_of(peer, node)?;
+    let Effect { node, sent, shown } = first;
+    after(sent, shown, all_settling(asks.as_slice(), node)?)
+}

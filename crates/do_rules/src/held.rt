@@ -1,0 +1,3 @@
+//! What a node frees and leaves.
+pub(crate) mod kept;
+pub(crate) mod leaving;

@@ -1,0 +1,33 @@
+//! The rules of the machine as functions that change nothing: what a run, an item that is taken, a
+//! start, a closed end and a time-out come to at a node, and what the node then frees and leaves.
+//!
+//! It stands on do_machine, whose definitions it computes, and on do_packet for messages. It
+//! promises that each function gives exactly what its definition says, in every state; its one
+//! error is that memory ran out, or that a number would pass what a machine can count.
+#![tactic(auto)]
+
+mod effect;
+mod ends;
+mod held;
+mod judged;
+mod lend;
+mod lists;
+mod node;
+mod packing;
+mod run;
+mod start;
+mod state;
+mod take;
+
+pub use ends::closing::closing;
+pub use ends::time_out::time_out;
+pub use held::leaving::leaving;
+pub use judged::{Context, Run};
+pub use lists::{item_at, put_at};
+pub use node::entry::has_entry;
+pub use node::{has_object, is_open, own};
+pub use run::fresh::blank;
+pub use run::next::run_effect;
+pub use start::start_effect;
+pub use state::{node_at, queue, station};
+pub use take::arrival::can_take;

@@ -1,0 +1,104 @@
+//! What is asked of a node.
+ghost use Rattle.std.specs.Prelude.{◌≡◌};
+ghost use Rattle.std.specs.Option.{option_copied};
+ghost use Rattle.do_packet.specs.Met.{has_object};
+ghost use Rattle.do_machine.specs.Context.{own_class};
+ghost use Rattle.do_machine.specs.State.{has_asked, holds, is_known, is_open, own, stored};
+ghost use Rattle.do_machine.specs.run.Acts.{root_value};
+ghost use Rattle.do_machine.specs.run.Fresh.{is_full};
+
+pub(crate) mod entry;
+pub(crate) mod methods;
+pub(crate) mod naming;
+pub(crate) mod objects;
+
+use do_base::{Items, NodeId, Oid, Oids, Value};
+use do_class::ClassId;
+use do_machine::{Node, Stored};
+
+/// The most invocations of a node.
+const MOST: usize = 256;
+
+/// Whether the node's end towards a peer is open.
+pub fn is_open(node: &Node, peer: NodeId) -> bool
+    ensures { result ≡ is_open node.now peer }
+{
+    node.open_to.as_slice().iter().any(|port| *port == peer)
+}
+
+/// Whether an object is among others.
+pub fn has_object(objects: &Oids, object: &Oid) -> bool
+    ensures { result ≡ has_object objects.now object.now }
+{
+    objects.as_slice().iter().any(|other| *object == *other)
+}
+
+/// Whether the node counts as a holder of a foreign object.
+pub(crate) fn holds(node: &Node, object: &Oid) -> bool
+    ensures { result ≡ holds node.now object.now }
+{
+    has_object(&node.held, object)
+}
+
+/// Whether the node waits for a foreign object's home to let it hold it.
+fn has_asked(node: &Node, object: &Oid) -> bool
+    ensures { result ≡ has_asked node.now object.now }
+{
+    node.asked
+        .as_slice()
+        .iter()
+        .any(|wanted| *object == wanted.object)
+}
+
+/// Whether the node may use a foreign object.
+pub(crate) fn is_known(node: &Node, object: &Oid) -> bool
+    ensures { result ≡ is_known node.now object.now }
+{
+    holds(node, object) || has_asked(node, object)
+}
+
+/// The name of an own object.
+pub fn own(node: &Node, serial: u64) -> Oid
+    ensures { result ≡ own node.now serial }
+{
+    Oid {
+        node: node.port,
+        serial,
+    }
+}
+
+/// The stored object of a serial.
+pub(crate) fn stored(heap: &Items<Stored>, serial: u64) -> Option<&Stored>
+    ensures { option_copied result ≡ stored serial heap.now }
+{
+    heap.as_slice()
+        .iter()
+        .find(|stored| stored.serial == serial)
+}
+
+/// The class of an own object.
+pub(crate) fn own_class(node: &Node, serial: u64) -> Option<ClassId>
+    ensures { result ≡ own_class node.now serial }
+{
+    match stored(&node.heap, serial) {
+        Some(stored) => Some(stored.class),
+        None => None,
+    }
+}
+
+/// A node's root, or nil.
+pub(crate) fn root_value(node: &Node) -> Value
+    ensures { result ≡ root_value node.now }
+{
+    match node.root {
+        None => Value::Nil,
+        Some(serial) => Value::Obj(own(node, serial)),
+    }
+}
+
+/// Whether the node has as many invocations as it may have.
+pub(crate) fn is_full(node: &Node) -> bool
+    ensures { result ≡ is_full node.now }
+{
+    node.stack.len() >= MOST
+}

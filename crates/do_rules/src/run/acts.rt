@@ -1,0 +1,148 @@
+//! What becomes of each act of an invocation.
+ghost use Rattle.std.specs.Prelude.{◌≡◌, IfOk};
+ghost use Rattle.do_machine.specs.run.Acts.{act_rule, port_of, return_rule, root_rule, vend_rule};
+ghost use Rattle.do_rules.specs.Judged.{run_of};
+
+use crate::judged::Run;
+use crate::node::methods::signature_of;
+use crate::node::{is_open, root_value};
+use crate::run::answers::values_in;
+use crate::run::arguments::{outs_of, outs_take};
+use do_base::{Exc, Locals, NodeId, Value};
+use do_behave::Act;
+use do_machine::{Request, SendAct, Verdict};
+use std::alloc::AllocError;
+
+/// The node of a number; none where the number is no port.
+fn node_id(number: i64) -> Option<NodeId>
+    ensures { result ≡ port_of number }
+{
+    match u16::try_from(number) {
+        Ok(port) => NodeId::new(port),
+        Err(_) => None,
+    }
+}
+
+impl<'a> Run<'a> {
+    /// The root of a node: the own one is there at once, and another is asked for over an open end.
+    fn root_rule(&self, port: &Value, into: u8, pc: u32) -> Verdict
+        ensures { result ≡ root_rule (run_of self.now) port.now into pc }
+    {
+        let node = self.context.node;
+        let Value::Num(number) = port else {
+            return Verdict::Fails(Exc::TypeFault);
+        };
+        let Some(peer) = node_id(*number) else {
+            return Verdict::Fails(Exc::ConnectionDied);
+        };
+        if peer == node.port {
+            return Verdict::Goes {
+                into,
+                value: root_value(node),
+                pc,
+            };
+        }
+        if !is_open(node, peer) {
+            return Verdict::Fails(Exc::ConnectionDied);
+        }
+        Verdict::Asks {
+            peer,
+            request: Request::Root,
+            into,
+            outs: Locals::new(node.heap.allocator()),
+            pc,
+        }
+    }
+
+    /// An own object or nil becomes the root.
+    fn vend_rule(&self, value: &Value, pc: u32) -> Verdict
+        ensures { result ≡ vend_rule (run_of self.now) value.now pc }
+    {
+        match value {
+            Value::Nil => Verdict::Vends { root: None, pc },
+            Value::Obj(object) => {
+                let home = object.node;
+                if home == self.context.node.port {
+                    Verdict::Vends {
+                        root: Some(object.serial),
+                        pc,
+                    }
+                } else {
+                    Verdict::Fails(Exc::TypeFault)
+                }
+            }
+            _ => Verdict::Fails(Exc::TypeFault),
+        }
+    }
+
+    /// What is returned fits the result, if that is not void, and what comes out fits.
+    fn return_rule(&self, value: Value) -> Result<Verdict, AllocError>
+        ensures { IfOk result (λ v. v ≡ return_rule (run_of self.now) value) }
+    {
+        let Some(signature) = signature_of(self.context.table, self.top.method) else {
+            return Ok(Verdict::Fails(Exc::TypeFault));
+        };
+        let void = signature.result_is_void();
+        if !(void || signature.result_fits(&value)) {
+            return Ok(Verdict::Fails(Exc::TypeFault));
+        }
+        let locals = values_in(&self.top.locals)?;
+        let outs = outs_of(signature, &locals)?;
+        if !outs_take(signature, &outs) {
+            return Ok(Verdict::Fails(Exc::TypeFault));
+        }
+        if void {
+            return Ok(Verdict::Returns {
+                result: Value::Nil,
+                outs,
+            });
+        }
+        Ok(Verdict::Returns {
+            result: value,
+            outs,
+        })
+    }
+
+    /// What becomes of the next act.
+    pub(crate) fn act_rule(&self, act: Act) -> Result<Verdict, AllocError>
+        ensures { IfOk result (λ v. v ≡ act_rule (run_of self.now) act) }
+    {
+        match act {
+            Act::Step {
+                pc,
+                locals,
+                handler,
+                writes,
+            } => Ok(Verdict::Steps {
+                pc,
+                locals: values_in(&locals)?,
+                handler,
+                writes,
+            }),
+            Act::New { class, into, pc } => Ok(Verdict::Makes { class, into, pc }),
+            Act::Send {
+                target,
+                selector,
+                args,
+                into,
+                from,
+                pc,
+            } => {
+                let send = SendAct {
+                    target,
+                    selector,
+                    args,
+                    into,
+                    from,
+                    pc,
+                };
+                self.send_rule(&send)
+            }
+            Act::Root { port, into, pc } => Ok(self.root_rule(&port, into, pc)),
+            Act::Vend { value, pc } => Ok(self.vend_rule(&value, pc)),
+            Act::Say { value, pc } => Ok(Verdict::Says { value, pc }),
+            Act::Return { value } => self.return_rule(value),
+            Act::Raise(exc) => Ok(Verdict::Fails(exc)),
+        }
+    }
+}

@@ -1,0 +1,162 @@
+//! The next act of the top invocation, and what a run does.
+ghost use Rattle.std.specs.Prelude.{◌≡◌, [], IfOk};
+ghost use Rattle.do_behave.specs.Changes.{IsFitting, meaning, with_set};
+ghost use Rattle.do_machine.specs.run.Run.{answer_rule, next_act, run_effect, run_on, slots_seen};
+ghost use Rattle.do_machine.specs.run.Run.{state_rule};
+ghost use Rattle.do_machine.specs.State.{stored};
+ghost use Rattle.do_rules.specs.Judged.{run_of, step_of};
+
+use crate::judged::{Context, Run};
+use crate::lists::with_item;
+use crate::node::stored;
+use do_base::{Items, Value, Values, copy_value};
+use do_behave::{
+    Act, Answer, Behaviour, Change, Frame, Handler, Held, InvState, Invocation, LocalSet, Write,
+    Writes,
+};
+use do_machine::{Effect, Verdict};
+use std::alloc::AllocError;
+
+/// Locals after these are set, in order.
+fn with_set(locals: Frame, sets: &[LocalSet]) -> Result<Frame, AllocError>
+    ensures { IfOk result (λ vs. vs ≡ with_set locals sets.now) }
+{
+    let [first, rest @ ..] = sets else {
+        return Ok(locals);
+    };
+    let held = Held::new(copy_value(&first.value)?);
+    with_set(with_item(locals, first.local as usize, held), rest)
+}
+
+/// A step to a place, which sets these locals, keeps the handler and writes no slot.
+fn plain_step(inv: &Invocation, locals: Frame, pc: u32) -> Act
+    ensures { result ≡ Act.Step pc locals inv.now.handler [] }
+{
+    Act::Step {
+        pc,
+        handler: inv.handler,
+        writes: Writes::new(locals.allocator()),
+        locals,
+    }
+}
+
+/// The act that a change of an invocation is.
+fn act_of(inv: &Invocation, change: Change) -> Result<Act, AllocError>
+    requires { IsFitting inv.now change }
+    ensures { IfOk result (λ act. act ≡ meaning inv.now change) }
+{
+    let mut next = inv.clone()?;
+    match change {
+        Change::Local { into, value, pc } => {
+            let _was = next.set_local(into, value, pc);
+            Ok(plain_step(inv, next.locals, pc))
+        }
+        Change::Push {
+            list,
+            item,
+            weight,
+            pc,
+        } => {
+            next.push_item(list, item, weight, pc)?;
+            Ok(plain_step(inv, next.locals, pc))
+        }
+        Change::Goto { pc } => Ok(plain_step(inv, next.locals, pc)),
+        Change::Slot { slot, value, pc } => {
+            let mut writes = Writes::new(inv.locals.allocator());
+            writes.push(Write { slot, value })?;
+            Ok(Act::Step {
+                pc,
+                locals: next.locals,
+                handler: inv.handler,
+                writes,
+            })
+        }
+        Change::Slots {
+            sets,
+            handler,
+            writes,
+            pc,
+        } => Ok(Act::Step {
+            pc,
+            locals: with_set(next.locals, sets.as_slice())?,
+            handler,
+            writes,
+        }),
+        Change::Handler { handler, pc } => Ok(Act::Step {
+            pc,
+            locals: next.locals,
+            handler,
+            writes: Writes::new(inv.locals.allocator()),
+        }),
+        Change::Other(act) => Ok(act),
+    }
+}
+
+/// What an answer that came is to the one that waits: it is used, and an exception is raised.
+fn answer_rule(answer: &Answer) -> Result<Verdict, AllocError>
+    ensures { IfOk result (λ v. v ≡ answer_rule answer.now) }
+{
+    Ok(match answer.clone()? {
+        Answer::Given { result, outs } => Verdict::Uses { result, outs },
+        Answer::Raised(exc) => Verdict::Fails(exc),
+    })
+}
+
+impl<'a> Run<'a> {
+    /// The slots of the object of the top invocation; one that is not stored has none.
+    fn slots_seen(&self) -> Result<Values, AllocError>
+        ensures { IfOk result (λ vs. vs ≡ slots_seen
+            (stored (run_of self.now).top.object.serial (run_of self.now).context.node.heap)) }
+    {
+        let object = &self.top.object;
+        match stored(&self.context.node.heap, object.serial) {
+            Some(stored) => stored.slots.clone(),
+            None => Ok(Values::new(self.context.node.heap.allocator())),
+        }
+    }
+
+    /// The next act of the top invocation.
+    fn next_act<B: Behaviour>(&self, behaviour: &B) -> Result<Act, AllocError>
+        ensures { IfOk result (λ a. a ≡ next_act (B.act behaviour.now) (run_of self.now)) }
+    {
+        let slots = self.slots_seen()?;
+        let change = behaviour.act(self.context.table, self.top, &slots)?;
+        act_of(self.top, change)
+    }
+
+    /// What the state of the top invocation comes to, where it can act.
+    fn state_rule<B: Behaviour>(&self, behaviour: &B) -> Result<Option<Verdict>, AllocError>
+        ensures { IfOk result (λ v. v ≡
+            state_rule (B.act behaviour.now) (run_of self.now) (run_of self.now).top.state) }
+    {
+        match &self.top.state {
+            InvState::Running => {
+                let act = self.next_act(behaviour)?;
+                Ok(Some(self.act_rule(act)?))
+            }
+            InvState::Answered(answer) => Ok(Some(answer_rule(answer)?)),
+            InvState::Below | InvState::Waits { .. } => Ok(None),
+        }
+    }
+}
+
+/// What a run of a node does, where it has an invocation that can act.
+pub fn run_effect<B: Behaviour>(
+    context: Context<'_>,
+    behaviour: &B,
+) -> Result<Option<Effect>, AllocError>
+    ensures { IfOk result (λ e. e ≡ run_effect (B.act behaviour.now) (step_of context.entry)) }
+{
+    let [top, below @ ..] = context.node.stack.as_slice() else {
+        return Ok(None);
+    };
+    let run = Run {
+        context,
+        top,
+        below,
+    };
+    match run.state_rule(behaviour)? {
+        Some(verdict) => Ok(Some(run.effect_of(verdict)?)),
+        None => Ok(None),
+    }
+}

@@ -1,0 +1,58 @@
+//! How the slots of an object change.
+ghost use Rattle.std.specs.Prelude.{◌≡◌, ◌==◌, ◌<◌, IfOk, IfSome, length, position};
+ghost use Rattle.do_behave.specs.InPlace.{written};
+ghost use Rattle.do_machine.specs.run.Changes.{with_slots, with_writes};
+
+use crate::lists::{item_at, with_item};
+use do_base::{Items, Values, copy_value};
+use do_behave::{Write, Writes};
+use do_machine::{Node, Stored};
+use std::alloc::AllocError;
+
+/// The slots with values written into them, in order.
+fn written(writes: &[Write], slots: Values) -> Result<Values, AllocError>
+    ensures { IfOk result (λ vs. vs ≡ written slots writes.now) }
+{
+    match writes {
+        [] => Ok(slots),
+        [first, rest @ ..] => {
+            let slots = with_item(slots, first.slot, copy_value(&first.value)?);
+            written(rest, slots)
+        }
+    }
+}
+
+/// Where the stored object of a serial stands.
+fn stored_at(heap: &Items<Stored>, serial: u64) -> Option<usize>
+    ensures index { result ≡ position (λ x. x.serial == serial) heap.now }
+    ensures within { IfSome result (λ at. at < length heap.now) }
+{
+    heap.as_slice()
+        .iter()
+        .position(|stored| stored.serial == serial)
+}
+
+/// An object with slots written.
+fn with_writes(writes: &Writes, stored: &Stored) -> Result<Stored, AllocError>
+    ensures { IfOk result (λ x. x ≡ with_writes writes.now stored.now) }
+{
+    Ok(Stored {
+        serial: stored.serial,
+        class: stored.class,
+        slots: written(writes.as_slice(), stored.slots.clone()?)?,
+    })
+}
+
+/// The node with slots of an object written; of one that is not stored none is.
+#[tactic(auto, using(crate::proofs::Sets::first_steps))]
+pub(crate) fn with_slots(serial: u64, writes: &Writes, node: Node) -> Result<Node, AllocError>
+    ensures { IfOk result (λ n. n ≡ with_slots serial writes.now node) }
+{
+    let mut node = node;
+    let Some(at) = stored_at(&node.heap, serial) else {
+        return Ok(node);
+    };
+    let changed = with_writes(writes, item_at(&node.heap, at))?;
+    node.heap.set(at, changed);
+    Ok(node)
+}

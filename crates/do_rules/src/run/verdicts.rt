@@ -1,0 +1,199 @@
+//! The effect of each verdict on the top invocation.
+ghost use Rattle.std.specs.Prelude.{◌≡◌, IfOk};
+ghost use Rattle.do_machine.specs.run.Changes.{uses_number};
+ghost use Rattle.do_machine.specs.run.Verdicts.{awaited_after, effect_of, requesting, waits_for};
+ghost use Rattle.do_rules.specs.Judged.{run_of};
+
+use crate::effect::{only, queueing, showing};
+use crate::judged::Run;
+use crate::lend::lending::{lends_of, posting};
+use crate::node::own;
+use crate::run::changes::{goes_on, goes_to, stands, steps_to, uses};
+use crate::run::fresh::{as_locals, blank, fresh, pushed, with_objects};
+use crate::run::slots::with_slots;
+use do_base::{CallId, Items, Locals, NodeId, Oid, Shown, Value, Values};
+use do_behave::{Answer, InvState, Reason, Waited};
+use do_class::{ClassId, MethodId};
+use do_machine::{Effect, Item, Message, Node, Request, Verdict};
+use std::alloc::AllocError;
+
+/// What an invocation waits for, having asked so.
+fn awaited_after(request: &Request) -> Waited
+    ensures { result ≡ awaited_after request.now }
+{
+    match request {
+        Request::Root => Waited::Root,
+        Request::Call { method, .. } => Waited::Method(*method),
+    }
+}
+
+/// The state of an invocation that asked a peer.
+fn waits_for(node: &Node, peer: NodeId, request: &Request) -> InvState
+    ensures { result ≡ waits_for node.now peer request.now }
+{
+    InvState::Waits {
+        call: CallId {
+            node: node.port,
+            number: node.next_call,
+        },
+        peer,
+        what: awaited_after(request),
+    }
+}
+
+/// A request goes to a peer, under a number.
+fn requesting(peer: NodeId, number: u64, request: Request, node: Node) -> Result<Effect, AllocError>
+    ensures { IfOk result (λ e. e ≡ requesting peer number request node) }
+{
+    match request {
+        Request::Root => queueing(peer, Item::RootAsk { number }, node),
+        Request::Call { message, .. } => {
+            let lends = lends_of(peer, &message.packet)?;
+            posting(peer, lends, Item::Call { number, message }, node)
+        }
+    }
+}
+
+/// The node's next call number is used up. One past what a number can be is want of memory too.
+fn uses_number(node: Node) -> Result<Node, AllocError>
+    ensures { IfOk result (λ n. n ≡ uses_number node) }
+{
+    let mut node = node;
+    let Some(next) = node.next_call.checked_add(1) else {
+        return Err(AllocError);
+    };
+    node.next_call = next;
+    Ok(node)
+}
+
+impl<'a> Run<'a> {
+    /// An object is made, and its name goes to a local.
+    fn makes(&self, class: ClassId, into: u8, pc: u32) -> Result<Effect, AllocError>
+        ensures { IfOk result (λ e. e ≡ effect_of (run_of self.now) (Verdict.Makes class into pc)) }
+    {
+        let node = self.context.node;
+        let made = Value::Obj(own(node, node.next_serial));
+        let node = self.with_top(goes_on(self.top, into, made, pc)?)?;
+        let mut new = Items::new(node.heap.allocator());
+        new.push(blank(node.heap.allocator(), self.context.table, class)?)?;
+        Ok(only(with_objects(&new, node)?))
+    }
+
+    /// The top invocation waits for what is asked of a peer.
+    fn asks(
+        &self,
+        peer: NodeId,
+        request: Request,
+        into: u8,
+        outs: Locals,
+        pc: u32,
+    ) -> Result<Effect, AllocError>
+        ensures { IfOk result (λ e.
+            e ≡ effect_of (run_of self.now) (Verdict.Asks peer request into outs pc)) }
+    {
+        let node = self.context.node;
+        let number = node.next_call;
+        let state = waits_for(node, peer, &request);
+        let node = self.with_top(stands(self.top, pc, into, outs, state)?)?;
+        requesting(peer, number, request, uses_number(node)?)
+    }
+
+    /// The top invocation waits for a method of an own object, which begins.
+    fn begins(
+        &self,
+        object: Oid,
+        method: MethodId,
+        values: &Values,
+        into: u8,
+        outs: Locals,
+        pc: u32,
+    ) -> Result<Effect, AllocError>
+        ensures { IfOk result (λ e.
+            e ≡ effect_of (run_of self.now) (Verdict.Begins object method values.now into outs pc)) }
+    {
+        let waits = stands(self.top, pc, into, outs, InvState::Below)?;
+        let begun = fresh(object, method, Reason::Local, values)?;
+        Ok(only(pushed(begun, self.with_top(waits)?)?))
+    }
+
+    /// The top invocation goes on, and a peer gets a message that nobody waits for.
+    fn tells(&self, peer: NodeId, message: Message, into: u8, pc: u32) -> Result<Effect, AllocError>
+        ensures { IfOk result (λ e.
+            e ≡ effect_of (run_of self.now) (Verdict.Tells peer message into pc)) }
+    {
+        let node = self.with_top(goes_on(self.top, into, Value::Nil, pc)?)?;
+        let lends = lends_of(peer, &message.packet)?;
+        posting(peer, lends, Item::Oneway { message }, node)
+    }
+
+    /// The effect of a verdict.
+    pub(crate) fn effect_of(&self, verdict: Verdict) -> Result<Effect, AllocError>
+        ensures { IfOk result (λ e. e ≡ effect_of (run_of self.now) verdict) }
+    {
+        match verdict {
+            Verdict::Goes { into, value, pc } => {
+                let top = goes_on(self.top, into, value, pc)?;
+                Ok(only(self.with_top(top)?))
+            }
+            Verdict::Uses {
+                result: given,
+                outs,
+            } => {
+                let top = uses(self.top, given, &outs)?;
+                Ok(only(self.with_top(top)?))
+            }
+            Verdict::Steps {
+                pc,
+                locals,
+                handler,
+                writes,
+            } => {
+                let after = self.with_top(steps_to(self.top, pc, as_locals(&locals)?, handler)?)?;
+                let object = &self.top.object;
+                Ok(only(with_slots(object.serial, &writes, after)?))
+            }
+            Verdict::Makes { class, into, pc } => self.makes(class, into, pc),
+            Verdict::Vends { root, pc } => {
+                let mut after = self.with_top(goes_to(self.top, pc)?)?;
+                after.root = root;
+                Ok(only(after))
+            }
+            Verdict::Says { value, pc } => {
+                let after = self.with_top(goes_to(self.top, pc)?)?;
+                showing(Shown::Say(value), after)
+            }
+            Verdict::Asks {
+                peer,
+                request,
+                into,
+                outs,
+                pc,
+            } => self.asks(peer, request, into, outs, pc),
+            Verdict::Begins {
+                object,
+                method,
+                values,
+                into,
+                outs,
+                pc,
+            } => self.begins(object, method, &values, into, outs, pc),
+            Verdict::Tells {
+                peer,
+                message,
+                into,
+                pc,
+            } => self.tells(peer, message, into, pc),
+            Verdict::Returns {
+                result: given,
+                outs,
+            } => {
+                let answer = Answer::Given {
+                    result: given,
+                    outs,
+                };
+                self.delivery(answer, &self.top.reason)
+            }
+            Verdict::Fails(exc) => self.failing(exc, self.top.handler),
+        }
+    }
+}

@@ -1,0 +1,84 @@
+//! What is asked of a state.
+ghost use Rattle.std.specs.Prelude.{◌≡◌};
+ghost use Rattle.std.specs.Option.{option_copied};
+ghost use Rattle.do_machine.specs.State.{class_given, class_of, node, queue, queue_to, station};
+
+use do_base::{Items, NodeId, Oid};
+use do_class::ClassId;
+use do_machine::{Item, Node, Shared, State, Station};
+
+/// The station of a port, as it is shared.
+fn shared(state: &State, port: NodeId) -> Option<&Shared<Station>>
+    ensures { option_copied result ≡ station state.now port }
+{
+    state
+        .stations
+        .as_slice()
+        .iter()
+        .find(|station| station.get().port == port)
+}
+
+/// The station of a port.
+pub fn station(state: &State, port: NodeId) -> Option<&Station>
+    ensures { option_copied result ≡ station state.now port }
+{
+    match shared(state, port) {
+        Some(station) => Some(station.get()),
+        None => None,
+    }
+}
+
+/// The node of a port.
+pub fn node_at(state: &State, port: NodeId) -> Option<&Node>
+    ensures { option_copied result ≡ node state.now port }
+{
+    match station(state, port) {
+        Some(station) => Some(&station.node),
+        None => None,
+    }
+}
+
+/// The queue of a station to a peer.
+fn queue_to(station: &Station, to: NodeId) -> Option<&Items<Item>>
+    ensures { option_copied result ≡ queue_to to station.now }
+{
+    match station
+        .queues
+        .as_slice()
+        .iter()
+        .find(|queue| queue.to == to)
+    {
+        Some(queue) => Some(&queue.items),
+        None => None,
+    }
+}
+
+/// The queue from a node to another, the oldest item first.
+pub fn queue(state: &State, from: NodeId, to: NodeId) -> Option<&Items<Item>>
+    ensures { option_copied result ≡ queue state.now from to }
+{
+    match station(state, from) {
+        Some(station) => queue_to(station, to),
+        None => None,
+    }
+}
+
+/// The class that was given with a serial.
+fn class_given(classes: &Items<ClassId>, serial: u64) -> Option<ClassId>
+    ensures { result ≡ class_given classes.now serial }
+{
+    if serial == 0 {
+        return None;
+    }
+    classes.get(serial as usize - 1).copied()
+}
+
+/// The class of an object, also after it left the heap.
+pub(crate) fn class_of(state: &State, object: &Oid) -> Option<ClassId>
+    ensures { result ≡ class_of state.now object.now }
+{
+    match station(state, object.node) {
+        Some(station) => class_given(&station.classes, object.serial),
+        None => None,
+    }
+}

@@ -1,0 +1,8 @@
+//! What an item that is taken does to the node that takes it.
+pub(crate) mod arrival;
+pub(crate) mod awaiting;
+pub(crate) mod holding;
+pub(crate) mod lines;
+pub(crate) mod receipt;
+pub(crate) mod requests;
+pub(crate) mod root;

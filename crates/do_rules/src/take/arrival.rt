@@ -1,0 +1,204 @@
+//! What an item comes to at the node that takes it.
+ghost use Rattle.std.specs.Prelude.{◌≡◌, IfOk};
+ghost use Rattle.do_behave.specs.declared.invocation.Answer.TheVariants.{Raised};
+ghost use Rattle.do_machine.specs.take.Awaiting.{answering};
+ghost use Rattle.do_machine.specs.take.Receipt.{received};
+ghost use Rattle.do_machine.specs.take.Requests.{request};
+ghost use Rattle.do_machine.specs.take.Take.{arrival, can_serve, can_take, take_effect};
+ghost use Rattle.do_machine.specs.take.Take.{method_call, values_arrival};
+ghost use Rattle.do_machine.specs.lend.Asking.{ask_over, wanted};
+ghost use Rattle.do_machine.specs.Objects.{object_at};
+ghost use Rattle.do_rules.specs.Answering.{call_of};
+ghost use Rattle.do_rules.specs.Judged.{step_of};
+
+use crate::effect::{after, only, queueing};
+use crate::ends::closing::closing;
+use crate::judged::Context;
+use crate::lend::asking::{ask_over, granting};
+use crate::lend::lending::with_settled;
+use crate::node::is_open;
+use crate::node::naming::exported;
+use crate::take::awaiting::{Answered, Came, answering};
+use crate::take::holding::holding;
+use crate::take::lines::{item_line, object_at};
+use crate::take::receipt::Received;
+use do_base::{Exc, Items, NodeId, Shown, Token, Values};
+use do_behave::{InvState, Invocation, Reason};
+use do_class::Packet;
+use do_machine::{Effect, Item, Message, Node, Wanted};
+use std::alloc::AllocError;
+
+/// Whether there is no invocation, or the top one waits.
+fn can_serve(stack: &Items<Invocation>) -> bool
+    ensures { result ≡ can_serve stack.now }
+{
+    let [top, ..] = stack.as_slice() else {
+        return true;
+    };
+    match &top.state {
+        InvState::Waits { .. } => true,
+        InvState::Running => false,
+        InvState::Below => false,
+        InvState::Answered(_) => false,
+    }
+}
+
+/// Whether a node may take an item of a peer: its end is open, and it can serve.
+pub fn can_take(node: &Node, from: NodeId) -> bool
+    ensures { result ≡ can_take from node.now }
+{
+    is_open(node, from) && can_serve(&node.stack)
+}
+
+/// An exception, as what came.
+fn came_raised(exc: &Exc) -> Result<Came, AllocError>
+    ensures { IfOk result (λ came. came ≡ Came.Raised exc.now) }
+{
+    Ok(Came::Raised(exc.clone()?))
+}
+
+/// What an exception does to the invocation whose call ended with it.
+fn raised_arrival(
+    context: &Context,
+    from: NodeId,
+    number: u64,
+    exc: &Exc,
+    node: Node,
+) -> Result<Effect, AllocError>
+    ensures { IfOk result (λ e.
+        e ≡ answering (method_call from number) (λ what. Raised exc.now) node) }
+{
+    let call = Answered {
+        peer: from,
+        number,
+        root: false,
+    };
+    let came = came_raised(exc)?;
+    let effect = answering(context.table, &call, &came, node)?;
+    Ok(effect)
+}
+
+/// An ask of the node for an object of a peer is over.
+fn wanted_arrival(from: NodeId, serial: u64, token: Token, node: Node) -> Result<Effect, AllocError>
+    ensures { IfOk result (λ e. e ≡ ask_over (wanted (object_at from serial) token.lender token.number) node) }
+{
+    let wanted = Wanted {
+        object: object_at(from, serial),
+        token,
+    };
+    ask_over(&wanted, node)
+}
+
+impl<'a> Context<'a> {
+    /// A message is received, and then refused or invokes its method.
+    fn message_arrival(
+        &self,
+        from: NodeId,
+        reason: Reason,
+        message: &Message,
+        node: Node,
+    ) -> Result<Effect, AllocError>
+        ensures { IfOk result (λ e. e ≡ received (step_of self.now) from message.now.packet
+            (request (step_of self.now) from reason message.now) node) }
+    {
+        let Received { effect, values } = self.received(from, &message.packet, node)?;
+        let Effect { node, sent, shown } = effect;
+        let asked = self.request(from, reason, message, &values, node)?;
+        after(sent, shown, asked)
+    }
+
+    /// Values come as the answer to a call.
+    fn values_given(
+        &self,
+        call: &Answered,
+        values: Values,
+        node: Node,
+    ) -> Result<Effect, AllocError>
+        ensures { IfOk result (λ e.
+            e ≡ values_arrival (step_of self.now) (call_of call.now) values node) }
+    {
+        answering(self.table, call, &Came::Values(values), node)
+    }
+
+    /// A message is received, and its values come as the answer to a call.
+    fn values_arrival(
+        &self,
+        call: &Answered,
+        packet: &Packet,
+        node: Node,
+    ) -> Result<Effect, AllocError>
+        ensures { IfOk result (λ e. e ≡ received (step_of self.now) call.now.peer packet.now
+            (values_arrival (step_of self.now) (call_of call.now)) node) }
+    {
+        let Received { effect, values } = self.received(call.peer, packet, node)?;
+        let Effect { node, sent, shown } = effect;
+        let answered = self.values_given(call, values, node)?;
+        let last = after(sent, shown, answered)?;
+        Ok(last)
+    }
+
+    /// What an item comes to at the node that takes it.
+    pub(crate) fn arrival(
+        &self,
+        from: NodeId,
+        item: &Item,
+        node: Node,
+    ) -> Result<Effect, AllocError>
+        ensures { IfOk result (λ e. e ≡ arrival (step_of self.now) from item.now node) }
+    {
+        match item {
+            Item::Call { number, message } => {
+                let reason = Reason::Call {
+                    peer: from,
+                    number: *number,
+                };
+                self.message_arrival(from, reason, message, node)
+            }
+            Item::Oneway { message } => {
+                self.message_arrival(from, Reason::Oneway { peer: from }, message, node)
+            }
+            Item::Reply { number, packet } => {
+                let call = Answered {
+                    peer: from,
+                    number: *number,
+                    root: false,
+                };
+                self.values_arrival(&call, packet, node)
+            }
+            Item::Raised { number, exc } => raised_arrival(self, from, *number, exc, node),
+            Item::RootAsk { number } => {
+                let item = Item::RootAnswer {
+                    number: *number,
+                    packet: self.root_packet(from)?,
+                };
+                queueing(from, item, node)
+            }
+            Item::RootAnswer { number, packet } => {
+                let call = Answered {
+                    peer: from,
+                    number: *number,
+                    root: true,
+                };
+                self.values_arrival(&call, packet, node)
+            }
+            Item::Ask { serial, token } => granting(from, *serial, *token, node),
+            Item::Granted { serial, token } => wanted_arrival(from, *serial, *token, node),
+            Item::Gone { serial, token } => wanted_arrival(from, *serial, *token, node),
+            Item::Left { .. } => Ok(only(node)),
+            Item::Settled { number } => Ok(only(with_settled(from, *number, node)?)),
+            Item::End { .. } => closing(from, &node),
+        }
+    }
+
+    /// The item is shown, the node holds what it exports, and then it does what it comes to.
+    pub fn take_effect(&self, from: NodeId, item: &Item) -> Result<Effect, AllocError>
+        ensures { IfOk result (λ e. e ≡ take_effect (step_of self.now) from item.now) }
+    {
+        let node = self.node;
+        let line = item_line(from, node.port, item)?;
+        let objects = exported(node.heap.allocator(), from, node.port, item)?;
+        let mut effect = self.arrival(from, item, holding(&objects, node)?)?;
+        effect.shown.insert(0, Shown::Took(line))?;
+        Ok(effect)
+    }
+}

@@ -1,0 +1,211 @@
+//! What an answer is to the invocation that waits for it.
+ghost use Rattle.std.specs.Prelude.{◌≡◌, ◌<◌, ◌∷◌, IfOk, IfSome, filter, length, not, position};
+ghost use Rattle.std.specs.Option.{option_copied};
+ghost use Rattle.do_machine.specs.take.Awaiting.{answered_state, answering, awaits, is_answered};
+ghost use Rattle.do_machine.specs.take.Awaiting.{is_for_root, late_answered, method_answer};
+ghost use Rattle.do_machine.specs.take.Awaiting.{stack_answered, values_answer, with_answer};
+ghost use Rattle.do_rules.specs.Answering.{answer_by, call_of};
+
+use crate::effect::only;
+use crate::lists::item_at;
+use crate::node::methods::signature_of;
+use crate::run::arguments::outs_take;
+use do_base::{Exc, Items, NodeId, Value, Values, copy_value};
+use do_behave::{Answer, InvState, Invocation, Waited};
+use do_class::ClassTable;
+use do_machine::{Effect, LateCall, Node};
+use do_sig::Signature;
+use std::alloc::{AllocError, Global};
+
+/// A call, as its answer names it: the peer that answers, the number, and whether it was for a root.
+#[derive(Clone, Copy, Debug)]
+pub(crate) struct Answered {
+    pub(crate) peer: NodeId,
+    pub(crate) number: u64,
+    pub(crate) root: bool,
+}
+
+/// What came as the answer to a call.
+#[derive(Debug, Drop)]
+pub(crate) enum Came {
+    /// A result, and what comes out.
+    Values(Values),
+    /// An exception.
+    Raised(Exc),
+}
+
+/// Whether a root was asked for, and no method.
+fn is_for_root(what: &Waited) -> bool
+    ensures { result ≡ is_for_root what.now }
+{
+    match what {
+        Waited::Root => true,
+        Waited::Method(_) => false,
+    }
+}
+
+/// Whether a call that was asked so is the one that is answered.
+fn is_answered(call: &Answered, peer: NodeId, number: u64, what: &Waited) -> bool
+    ensures { result ≡ is_answered (call_of call.now) peer number what.now }
+{
+    let (asked, called) = (call.peer, call.number);
+    number == called && peer == asked && is_for_root(what) == call.root
+}
+
+/// Whether an invocation of this state waits for the answer.
+fn awaits(call: &Answered, state: &InvState) -> bool
+    ensures { result ≡ awaits (call_of call.now) state.now }
+{
+    match state {
+        InvState::Waits {
+            call: waits,
+            peer,
+            what,
+        } => is_answered(call, *peer, waits.number, what),
+        InvState::Running => false,
+        InvState::Below => false,
+        InvState::Answered(_) => false,
+    }
+}
+
+/// A result and out values that fit the method that was called.
+fn method_answer(
+    alloc: Global,
+    signature: &Signature,
+    value: &Value,
+    outs: &[Value],
+) -> Result<Answer, AllocError>
+    ensures { IfOk result (λ a. a ≡ method_answer signature.now value.now outs.now) }
+{
+    let mut given = Values::new(alloc);
+    given.extend_from_slice(outs)?;
+    if signature.result_fits(value) && outs_take(signature, &given) {
+        return Ok(Answer::Given {
+            result: copy_value(value)?,
+            outs: given,
+        });
+    }
+    Ok(Answer::Raised(Exc::TypeFault))
+}
+
+/// What values are as an answer.
+fn values_answer(table: &ClassTable, values: &Values, what: Waited) -> Result<Answer, AllocError>
+    ensures { IfOk result (λ a. a ≡ values_answer table.now values.now what) }
+{
+    match what {
+        Waited::Method(method) => {
+            let [value, outs @ ..] = values.as_slice() else {
+                return Ok(Answer::Raised(Exc::TypeFault));
+            };
+            match signature_of(table, method) {
+                Some(signature) => method_answer(values.allocator(), signature, value, outs),
+                None => Ok(Answer::Raised(Exc::TypeFault)),
+            }
+        }
+        Waited::Root => {
+            let [value] = values.as_slice() else {
+                return Ok(Answer::Raised(Exc::TypeFault));
+            };
+            Ok(Answer::Given {
+                result: copy_value(value)?,
+                outs: Values::new(values.allocator()),
+            })
+        }
+    }
+}
+
+/// What came, as an answer to what was asked for.
+fn answer_by(table: &ClassTable, came: &Came, what: Waited) -> Result<Answer, AllocError>
+    ensures { IfOk result (λ a. a ≡ answer_by table.now came.now what) }
+{
+    match came {
+        Came::Values(values) => values_answer(table, values, what),
+        Came::Raised(exc) => Ok(Answer::Raised(exc.clone()?)),
+    }
+}
+
+/// The state of an invocation that waited, by what it asked for.
+fn answered_state(table: &ClassTable, came: &Came, state: &InvState) -> Result<InvState, AllocError>
+    ensures { IfOk result (λ s. s ≡ answered_state (answer_by table.now came.now) state.now) }
+{
+    match state {
+        InvState::Waits { what, .. } => Ok(InvState::Answered(answer_by(table, came, *what)?)),
+        InvState::Running => Ok(InvState::Running),
+        InvState::Below => Ok(InvState::Below),
+        InvState::Answered(answer) => Ok(InvState::Answered(answer.clone()?)),
+    }
+}
+
+/// The invocation with its answer.
+fn with_answer(
+    table: &ClassTable,
+    came: &Came,
+    invocation: &Invocation,
+) -> Result<Invocation, AllocError>
+    ensures { IfOk result (λ i. i ≡ with_answer (answer_by table.now came.now) invocation.now) }
+{
+    let mut next = invocation.clone()?;
+    next.state = answered_state(table, came, &invocation.state)?;
+    Ok(next)
+}
+
+/// Where the invocation that waits for an answer stands.
+fn waiting_at(stack: &Items<Invocation>, call: &Answered) -> Option<usize>
+    ensures index { result ≡ position (λ i. awaits (call_of call.now) i.state) stack.now }
+    ensures within { IfSome result (λ at. at < length stack.now) }
+{
+    stack
+        .as_slice()
+        .iter()
+        .position(|invocation| awaits(call, &invocation.state))
+}
+
+/// The invocation that waits for the answer has it, wherever it stands.
+#[tactic(auto, using(crate::proofs::Sets::first_steps))]
+fn stack_answered(
+    table: &ClassTable,
+    call: &Answered,
+    came: &Came,
+    stack: Items<Invocation>,
+) -> Result<Items<Invocation>, AllocError>
+    ensures { IfOk result (λ is. is ≡
+        stack_answered (call_of call.now) (answer_by table.now came.now) stack) }
+{
+    let mut stack = stack;
+    let Some(at) = waiting_at(&stack, call) else {
+        return Ok(stack);
+    };
+    let invocation = with_answer(table, came, item_at(&stack, at))?;
+    stack.set(at, invocation);
+    Ok(stack)
+}
+
+/// The late calls but the one that is answered.
+fn late_answered(call: &Answered, late: &Items<LateCall>) -> Result<Items<LateCall>, AllocError>
+    ensures { IfOk result (λ cs. cs ≡ late_answered (call_of call.now) late.now) }
+{
+    let mut others = Items::new(late.allocator());
+    for other in late.as_slice() {
+        if !is_answered(call, other.peer, other.number, &other.what) {
+            others.push(other.clone()?)?;
+        }
+    }
+    Ok(others)
+}
+
+/// An answer goes to the invocation that waits for it, or ends a late call.
+pub(crate) fn answering(
+    table: &ClassTable,
+    call: &Answered,
+    came: &Came,
+    node: Node,
+) -> Result<Effect, AllocError>
+    ensures { IfOk result (λ e.
+        e ≡ answering (call_of call.now) (answer_by table.now came.now) node) }
+{
+    let mut node = node;
+    let stack = stack_answered(table, call, came, node.stack.clone()?)?;
+    node.stack = stack;
+    node.late = late_answered(call, &node.late)?;
+    Ok(only(node))
+}

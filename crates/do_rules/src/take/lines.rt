@@ -1,0 +1,35 @@
+//! What is shown of an item that is taken.
+ghost use Rattle.std.specs.Prelude.{◌≡◌, IfOk};
+ghost use Rattle.do_machine.specs.Objects.{object_at};
+ghost use Rattle.do_machine.specs.take.Lines.{item_line};
+
+use do_base::{NodeId, Oid, Took};
+use do_machine::Item;
+use std::alloc::AllocError;
+
+/// The object of a node with a serial.
+pub(crate) fn object_at(node: NodeId, serial: u64) -> Oid
+    ensures { result ≡ object_at node serial }
+{
+    Oid { node, serial }
+}
+
+/// An item on its way between two nodes, as it is shown.
+pub(crate) fn item_line(from: NodeId, to: NodeId, item: &Item) -> Result<Took, AllocError>
+    ensures { IfOk result (λ line. line ≡ item_line from to item.now) }
+{
+    Ok(match item {
+        Item::Call { message, .. } => Took::Call(message.selector.clone()?),
+        Item::Oneway { message } => Took::Oneway(message.selector.clone()?),
+        Item::Reply { .. } => Took::Reply,
+        Item::Raised { exc, .. } => Took::Raised(exc.clone()?),
+        Item::RootAsk { .. } => Took::RootAsk,
+        Item::RootAnswer { .. } => Took::RootAnswer,
+        Item::Ask { serial, .. } => Took::Ask(object_at(to, *serial)),
+        Item::Granted { serial, .. } => Took::Granted(object_at(from, *serial)),
+        Item::Gone { serial, .. } => Took::Gone(object_at(from, *serial)),
+        Item::Left { serial } => Took::Left(object_at(to, *serial)),
+        Item::Settled { .. } => Took::Settled,
+        Item::End { .. } => Took::End,
+    })
+}

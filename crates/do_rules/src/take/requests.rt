@@ -1,0 +1,73 @@
+//! A message of a peer: the method that it invokes, or why it is refused.
+ghost use Rattle.std.specs.Prelude.{◌≡◌, IfOk};
+ghost use Rattle.do_machine.specs.take.Requests.{admission, refusing, request};
+ghost use Rattle.do_rules.specs.Judged.{step_of};
+
+use crate::effect::{only, queueing, showing};
+use crate::judged::Context;
+use crate::node::entry::has_entry;
+use crate::node::methods::method_for;
+use crate::node::{is_full, own, own_class};
+use crate::run::fresh::{fresh, pushed};
+use do_base::{Exc, NodeId, Shown, Values};
+use do_behave::Reason;
+use do_class::MethodId;
+use do_machine::{Effect, Item, Message, Node};
+use std::alloc::AllocError;
+
+/// A call that is refused goes back as an exception, and of a oneway message that is shown.
+fn refusing(exc: Exc, reason: Reason, node: Node) -> Result<Effect, AllocError>
+    ensures { IfOk result (λ e. e ≡ refusing exc reason node) }
+{
+    match reason {
+        Reason::Call { peer, number } => queueing(peer, Item::Raised { number, exc }, node),
+        Reason::Start => showing(Shown::Raise(exc), node),
+        Reason::Local => showing(Shown::Raise(exc), node),
+        Reason::Oneway { .. } => showing(Shown::Raise(exc), node),
+    }
+}
+
+impl<'a> Context<'a> {
+    /// The method that a message invokes, or why it is refused: the first rule that applies decides.
+    fn admission(&self, from: NodeId, message: &Message, values: &Values) -> Result<MethodId, Exc>
+        ensures { result ≡ admission (step_of self.now) from message.now values.now }
+    {
+        let object = own(self.node, message.target);
+        if !has_entry(self.state, from, &object) {
+            return Err(Exc::NotVended);
+        }
+        let class = own_class(self.node, message.target);
+        let Some(method) = method_for(self.table, class, &message.selector) else {
+            return Err(Exc::NotUnderstood);
+        };
+        if !method.signature.args_fit(values) {
+            return Err(Exc::TypeFault);
+        }
+        if is_full(self.node) {
+            return Err(Exc::Deep);
+        }
+        Ok(method.id)
+    }
+
+    /// A message is refused at once, or invokes its method.
+    pub(crate) fn request(
+        &self,
+        from: NodeId,
+        reason: Reason,
+        message: &Message,
+        values: &Values,
+        node: Node,
+    ) -> Result<Effect, AllocError>
+        ensures { IfOk result (λ e.
+            e ≡ request (step_of self.now) from reason message.now values.now node) }
+    {
+        match self.admission(from, message, values) {
+            Err(exc) => refusing(exc, reason, node),
+            Ok(method) => {
+                let object = own(self.node, message.target);
+                let begun = fresh(object, method, reason, values)?;
+                Ok(only(pushed(begun, node)?))
+            }
+        }
+    }
+}

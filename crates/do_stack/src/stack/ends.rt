@@ -1,0 +1,88 @@
+//! The calls that are given up, with a peer or alone.
+ghost use Rattle.std.specs.Prelude.{◌≡◌, ◌+◌, ◌<◌, ◌≤◌, ◌==◌, OnOk, OnErr, IsOk, Some, IsSome, map};
+ghost use Rattle.std.specs.Prelude.{filter, not};
+ghost use Rattle.std.specs.List.{list_any};
+ghost use Rattle.do_base.specs.names.Names.{ObjectName};
+ghost use Rattle.do_base.specs.declared.events.exception.Exc.TheVariants.{TimedOut};
+ghost use Rattle.do_behave.specs.declared.invocation.Answer.TheVariants.{Raised};
+ghost use Rattle.do_machine.specs.Lists.{inserted};
+ghost use Rattle.do_machine.specs.ends.Closing.{without_answer};
+ghost use Rattle.do_machine.specs.ends.TimeOut.{late_lt};
+ghost use Rattle.do_machine.specs.run.Changes.{answered};
+ghost use Rattle.do_machine.specs.take.Awaiting.{is_answered, late_answered};
+ghost use Rattle.do_machine.specs.declared.node.LateCall.{LateCall};
+ghost use Rattle.do_stack.specs.Waiting.{with_top};
+ghost use Rattle.do_stack.specs.Late.{top_call};
+ghost use Rattle.do_stack.specs.Uses.{stack_uses};
+
+use super::Stack;
+use crate::late;
+use crate::waits::{fail_all, late_call};
+use do_base::{CallId, Exc, NodeId};
+use do_behave::{Answer, InvState};
+use do_machine::LateCall;
+use std::alloc::AllocError;
+
+impl Stack {
+    /// Answers all that wait for a peer with the connection's death, and forgets the late calls to
+    /// it.
+    #[tactic(auto, using(crate::proofs::UsesKept::kept_uses))]
+    pub fn fail_peer(&mut self, peer: NodeId)
+        ensures invocations { self.new.invocations
+            ≡ map (without_answer peer) self.old.invocations }
+        ensures late { self.new.late ≡ filter (λ c. not (c.peer == peer)) self.old.late }
+        ensures uses { (o : ObjectName) → stack_uses o self.new.invocations
+            ≡ stack_uses o self.old.invocations }
+    {
+        fail_all(&mut self.invs, peer);
+        late::forget(&mut self.late, peer);
+    }
+
+    /// The call that the top invocation waits for.
+    fn top_call(&self) -> Option<LateCall>
+        ensures { result ≡ top_call self.now.invocations }
+    {
+        let top = self.invs.get(0)?;
+        late_call(top)
+    }
+
+    /// Answers the top invocation, which waits for a call, with a time-out, and keeps its call as
+    /// late. If memory runs out, the stack is unchanged; with room it cannot fail.
+    #[tactic(auto, using(crate::proofs::UsesKept::kept_uses))]
+    pub fn abandon(&mut self) -> Result<(), AllocError>
+        requires { IsSome (top_call self.old.invocations) }
+        ensures invocations { OnOk result (self.new.invocations
+            ≡ with_top (answered (Raised TimedOut)) self.old.invocations) }
+        ensures late { OnOk result ((call : LateCall)
+            → top_call self.old.invocations ≡ Some call
+            → self.new.late ≡ inserted late_lt call self.old.late) }
+        ensures err { OnErr result ((self.new.invocations ≡ self.old.invocations)
+            × (self.new.late ≡ self.old.late)) }
+        ensures room { 0 < self.old.spare → IsOk result }
+        ensures spare { self.old.spare ≤ self.new.spare + 1 }
+        ensures uses { (o : ObjectName) → stack_uses o self.new.invocations
+            ≡ stack_uses o self.old.invocations }
+    {
+        let Some(call) = self.top_call() else {
+            unreachable!();
+        };
+        late::keep(&mut self.late, call)?;
+        self.invs[0].state = InvState::Answered(Answer::Raised(Exc::TimedOut));
+        Ok(())
+    }
+
+    /// Ends a late call to a peer, which was for its root or for a method. False exactly where no
+    /// such call is late, and then nothing changes.
+    pub fn late(&mut self, call: CallId, peer: NodeId, root: bool) -> bool
+        ensures which { result ≡ list_any (λ c. is_answered
+            (record { peer = peer; number = call.number; root = root })
+            c.peer c.number c.what) self.old.late }
+        ensures late { self.new.late ≡ late_answered
+            (record { peer = peer; number = call.number; root = root }) self.old.late }
+        ensures invocations { self.new.invocations ≡ self.old.invocations }
+    {
+        let there = late::has(&self.late, peer, call.number, root);
+        late::end(&mut self.late, peer, call.number, root);
+        there
+    }
+}

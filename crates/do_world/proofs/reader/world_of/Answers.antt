@@ -1,0 +1,43 @@
+use Rattle.std.proofs.Common.{map, ap, ◌∙◌}
+use Rattle.std.proofs.lemmas.Result.{err_from_is_err_and}
+use Rattle.toml.specs.View.{table_view}
+use Rattle.do_world.proofs.TopSteps.{fault_codes, fault_seats, world_found}
+use Rattle.do_world.proofs.reader.world_of.Goals as goal
+
+pub returns-in_err-codes : goal.returns-in_err-codes
+returns-in_err-codes c =
+    let p = err_from_is_err_and c.from_residual-in_err-codes.result
+    c.from_residual-in_err-codes.ensures.1 in
+    let listed = ap (map (λ t. table_view t.now)) c.as_slice-listed.ensures.value
+    ∙ c.in_ok-classes.ensures in
+    rw (p.1, p.2) (fault_codes (table_view c.args.document.now)
+    (map (λ t. table_view t.now) c.as_slice-listed.result.now) c.in_ok-table.table listed
+    c.in_ok-check_top.ensures.0 c.in_ok-table.ensures.0 c.in_ok-table.ensures.1.0
+    c.in_err-codes.field-0.0 c.in_err-codes.ensures)
+
+pub returns-in_err-nodes : goal.returns-in_err-nodes
+returns-in_err-nodes c =
+    let p = err_from_is_err_and c.from_residual-in_err-nodes.result
+    c.from_residual-in_err-nodes.ensures.1 in
+    let listed = ap (map (λ t. table_view t.now)) c.as_slice-listed.ensures.value
+    ∙ c.in_ok-classes.ensures in
+    let seated = ap (map (λ t. table_view t.now)) c.as_slice.ensures.value
+    ∙ c.in_ok-seats.ensures in
+    rw (p.1, p.2) (fault_seats (table_view c.args.document.now)
+    (map (λ t. table_view t.now) c.as_slice-listed.result.now) c.in_ok-table.table listed
+    c.in_ok-check_top.ensures.0 c.in_ok-table.ensures.0 c.in_ok-table.ensures.1.0
+    (map (λ t. table_view t.now) c.as_slice.result.now) seated c.in_ok-codes.ensures.0
+    c.in_err-nodes.field-0.0 c.in_err-nodes.ensures)
+
+pub returns : goal.returns
+returns c =
+    let listed = ap (map (λ t. table_view t.now)) c.as_slice-listed.ensures.value
+    ∙ c.in_ok-classes.ensures in
+    let seated = ap (map (λ t. table_view t.now)) c.as_slice.ensures.value
+    ∙ c.in_ok-seats.ensures in
+    world_found (table_view c.args.document.now)
+    (map (λ t. table_view t.now) c.as_slice-listed.result.now)
+    (map (λ t. table_view t.now) c.as_slice.result.now) c.in_ok-table.table c.in_ok-nodes.nodes
+    c.in_ok-codes.codes c.new-program.result listed seated c.in_ok-check_top.ensures.0
+    c.in_ok-check_top.ensures.1 c.in_ok-table.ensures c.in_ok-codes.ensures c.in_ok-nodes.ensures
+    c.new-program.ensures

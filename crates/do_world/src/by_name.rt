@@ -1,0 +1,102 @@
+//! The worlds that are built in, by their names.
+ghost use Rattle.std.specs.Prelude.{◌≡◌, IfOk};
+ghost use Rattle.do_world.specs.Builtin.{builtin_world, mesh_text, said};
+
+use crate::counter_world::counter;
+use crate::reader::read_world;
+use crate::world::World;
+use do_base::Text;
+use do_document::WorldFault;
+use do_grammar::is_text;
+use std::alloc::{AllocError, Global};
+
+/// The text of the world `:mesh`.
+#[tactic(auto, unfolding(crate::specs::Builtin::mesh_text))]
+fn mesh_text() -> &'static [u8]
+    ensures { result.now ≡ mesh_text }
+{
+    b"version = 1
+
+[[class]]
+name = 'Item'
+slots = ['link copy']
+
+[[class]]
+name = 'Peer'
+slots = ['a', 'b']
+
+[[class.method]]
+selector = 'go:'
+types = 'v@:S'
+code = '''
+root l1 l0
+new l2 Item
+set a l2
+send l3 l1 hold: l2
+get l4 b
+send l3 l1 pass: l4
+send l3 l1 copy: l2
+'''
+
+[[class.method]]
+selector = 'hold:'
+types = 'v@:@'
+code = 'set b l0'
+
+[[class.method]]
+selector = 'pass:'
+types = 'v@:@'
+code = 'set a l0'
+
+[[class.method]]
+selector = 'copy:'
+types = 'v@:O@'
+
+[[node]]
+port = 7001
+root = 'Peer'
+
+[[node]]
+port = 7002
+root = 'Peer'
+
+[[node]]
+port = 7003
+root = 'Peer'
+
+[[node]]
+port = 7004
+root = 'Peer'
+"
+}
+
+/// The world `:mesh`: four peers, each of which can make an item, and send it to another by its
+/// name and as a copy. None if its text had a fault, which a test shows that it has not.
+#[tactic(auto, unfolding(crate::specs::Builtin::said))]
+fn mesh(alloc: Global) -> Result<Option<World>, AllocError>
+    ensures { IfOk result (λ world. world ≡ said mesh_text) }
+{
+    match read_world(alloc, mesh_text()) {
+        Ok(world) => Ok(Some(world)),
+        Err(WorldFault::Memory) => Err(AllocError),
+        Err(_) => Ok(None),
+    }
+}
+
+/// The built-in world of a name. None exactly for another name than `:counter` and `:mesh`.
+///
+/// Fails where memory ran out.
+#[tactic(auto, unfolding(crate::specs::Builtin::builtin_world))]
+pub fn builtin(alloc: Global, name: &Text) -> Result<Option<World>, AllocError>
+    ensures value { IfOk result (λ world. world ≡ builtin_world name.now) }
+{
+    if is_text(name.as_slice(), b":counter") {
+        let world = counter(alloc)?;
+        return Ok(Some(world));
+    }
+    if is_text(name.as_slice(), b":mesh") {
+        let world = mesh(alloc)?;
+        return Ok(world);
+    }
+    Ok(None)
+}

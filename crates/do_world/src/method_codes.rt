@@ -1,0 +1,150 @@
+//! The codes of the methods, which are read once all classes are.
+ghost use Rattle.std.specs.Prelude.{◌≡◌, ◌≢◌, ◌⊎◌, IfOk, OnOk, Some, codes, length, map};
+ghost use Rattle.std.specs.List.{All, AllZip, filter_map};
+ghost use Rattle.toml.specs.View.{table_view};
+ghost use Rattle.do_behave.specs.Programs.{IsMadeFor, Suits};
+ghost use Rattle.do_class.specs.Table.{IsTable, names_of};
+ghost use Rattle.do_document.specs.Checks.{first_among, is_text, misfit};
+ghost use Rattle.do_document.specs.Document.{tables_at};
+ghost use Rattle.do_document.specs.Finding.{Finds};
+ghost use Rattle.do_document.specs.Paths.{path};
+ghost use Rattle.do_document.specs.Sound.{IsClassOf};
+ghost use Rattle.do_world.specs.Faults.{class_codes_fault, code_fault, codes_fault, method_code_fault};
+ghost use Rattle.do_world.specs.Worlds.{class_codes, code_text, codes_of, method_code, slot_names};
+
+use do_behave::{ClassCodes, Codes};
+use do_class::{ClassId, ClassTable, Slots};
+use do_document::{Place, WorldFault, tables_at, text_of, value_at};
+use do_script::{AsmFault, Code, Names, assemble};
+use std::alloc::{AllocError, Global};
+use toml::Table;
+
+/// The refusal of a text, which is no code.
+fn refusal(alloc: Global, place: Place, fault: AsmFault) -> WorldFault
+    ensures { (result ≡ WorldFault.Memory)
+        ⊎ ((fault ≢ AsmFault.Memory) × (result ≡ WorldFault.Asm (path place (codes "code")) fault)) }
+{
+    if matches!(&fault, AsmFault::Memory) {
+        return WorldFault::Memory;
+    }
+    match place.path(alloc, "code") {
+        Ok(at) => WorldFault::Asm(at, fault),
+        Err(_) => WorldFault::Memory,
+    }
+}
+
+/// The text of a method's code, which is empty where none stands.
+fn text_at<'a>(alloc: Global, table: &'a Table, place: Place) -> Result<&'a str, WorldFault>
+    ensures { Finds (misfit place (codes "code") is_text (table_view table.now))
+        (λ text. code_text (table_view table.now) ≡ Some text.now) result }
+{
+    match value_at(table, "code") {
+        Some(value) => text_of(alloc, value, place, "code"),
+        None => Ok(""),
+    }
+}
+
+/// The code of a method, in a class of these slots.
+fn code_at(
+    alloc: Global,
+    table: &Table,
+    place: Place,
+    slots: &Names,
+    classes: &Names,
+) -> Result<Code, WorldFault>
+    ensures { let t = table_view table.now in
+        Finds (code_fault place slots.now classes.now t)
+        (λ code. (method_code slots.now classes.now t ≡ Some code)
+        × Suits (length slots.now) (length classes.now) code) result }
+{
+    let text = text_at(alloc, table, place)?;
+    match assemble(alloc, text.as_bytes(), slots, classes) {
+        Ok(code) => Ok(code),
+        Err(fault) => Err(refusal(alloc, place, fault)),
+    }
+}
+
+/// The names of slots.
+fn names_of_slots(alloc: Global, slots: &Slots) -> Result<Names, AllocError>
+    ensures { IfOk result (λ names. names ≡ slot_names slots.now) }
+{
+    let mut names = Names::new(alloc);
+    for slot in slots.as_slice() {
+        names.push(slot.name.clone()?)?;
+    }
+    Ok(names)
+}
+
+/// The names of classes.
+fn names_of_classes(alloc: Global, classes: &ClassTable) -> Result<Names, AllocError>
+    ensures names { IfOk result (λ names. names ≡ names_of classes.now) }
+    ensures table { OnOk result (IsTable classes.now) }
+{
+    let mut names = Names::new(alloc);
+    for class in 0..classes.count() {
+        names.push(classes.name(ClassId(class)).clone()?)?;
+    }
+    Ok(names)
+}
+
+/// The codes of the tables of methods, in their order, of a class of a number.
+fn codes_of_methods(
+    alloc: Global,
+    tables: &[&Table],
+    k: usize,
+    slots: &Names,
+    classes: &Names,
+) -> Result<ClassCodes, WorldFault>
+    ensures { let ts = map (λ t. table_view t.now) tables.now in
+        Finds (first_among (method_code_fault k slots.now classes.now) ts)
+        (λ made. (made ≡ filter_map (method_code slots.now classes.now) ts)
+        × (length made ≡ length ts)
+        × All (Suits (length slots.now) (length classes.now)) made) result }
+{
+    let mut codes = ClassCodes::new(alloc);
+    for (j, method) in tables.iter().enumerate() {
+        let code = code_at(alloc, *method, Place::Method(k, j), slots, classes)?;
+        codes.push(code)?;
+    }
+    Ok(codes)
+}
+
+/// The codes of a class of a number.
+fn class_codes(
+    alloc: Global,
+    table: &Table,
+    k: usize,
+    slots: &Names,
+    classes: &Names,
+) -> Result<ClassCodes, WorldFault>
+    ensures { let t = table_view table.now in
+        Finds (class_codes_fault k slots.now classes.now t)
+        (λ made. (made ≡ class_codes slots.now classes.now t)
+        × (length made ≡ length (tables_at (codes "method") t))
+        × All (Suits (length slots.now) (length classes.now)) made) result }
+{
+    let tables = tables_at(alloc, table, "method")?;
+    codes_of_methods(alloc, tables.as_slice(), k, slots, classes)
+}
+
+/// The codes of all classes, which come from these tables.
+pub(crate) fn codes_for(
+    alloc: Global,
+    tables: &[&Table],
+    classes: &ClassTable,
+) -> Result<Codes, WorldFault>
+    requires { AllZip IsClassOf (map (λ t. table_view t.now) tables.now) classes.now }
+    ensures { let ts = map (λ t. table_view t.now) tables.now in
+        Finds (first_among (codes_fault (names_of classes.now)) ts)
+        (λ codes. (codes ≡ map (codes_of (names_of classes.now)) ts)
+        × IsMadeFor codes classes.now × IsTable classes.now) result }
+{
+    let names = names_of_classes(alloc, classes)?;
+    let mut codes = Codes::new(alloc);
+    for (k, table) in tables.iter().enumerate() {
+        let slots = names_of_slots(alloc, classes.slots(ClassId(k as u32)))?;
+        let of_class = class_codes(alloc, *table, k, &slots, &names)?;
+        codes.push(of_class)?;
+    }
+    Ok(codes)
+}

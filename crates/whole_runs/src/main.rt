@@ -1,0 +1,67 @@
+//! Replays schedules over worlds in files, one after another, and writes their transcripts.
+//!
+//! It stands on do_node and do_host alone, as the program does. What it must write was worked out by
+//! hand or by another program, and stands beside it.
+#![tactic(auto)]
+
+use do_base::{Items, Text, Texts};
+use do_host::{FileShelf, StdSink};
+use do_node::{Status, run};
+use std::alloc::AllocError;
+use std::process::ExitCode;
+
+/// Each schedule, and the world that it is for.
+const RUNS: [(&str, &str); 21] = [
+    (":counter", "counter_adds.schedule"),
+    (":counter", "counter_overflows.schedule"),
+    ("peers.world", "copies_of_a_cycle.schedule"),
+    ("peers.world", "reply_below_the_top.schedule"),
+    ("peers.world", "depth_of_calls.schedule"),
+    ("peers.world", "release_crosses_a_naming.schedule"),
+    ("peers.world", "round_trip_over_three.schedule"),
+    ("peers.world", "lend_and_drop.schedule"),
+    ("peers.world", "lend_and_close.schedule"),
+    ("peers.world", "order_of_calls.schedule"),
+    ("peers.world", "close_under_a_call.schedule"),
+    ("peers.world", "cycle_over_two_nodes.schedule"),
+    ("peers.world", "own_calls.schedule"),
+    ("peers.world", "remote_calls.schedule"),
+    ("peers.world", "lost_connection.schedule"),
+    ("peers.world", "timed_out.schedule"),
+    ("peers.world", "ask_and_answer.schedule"),
+    ("peers.world", "offer_and_keep.schedule"),
+    ("peers.world", "close_while_asking.schedule"),
+    ("peers.world", "close_before_asking.schedule"),
+    ("falling_ports.world", "nodes_out_of_order.schedule"),
+];
+
+/// The words that ask for a schedule to be replayed over a world.
+fn words(rt: &HostRuntime, world: &str, schedule: &str) -> Result<Texts, AllocError> {
+    let alloc = rt.alloc();
+    let mut words = Items::new(alloc);
+    words.push(Text::from_slice(alloc, b"replay")?)?;
+    words.push(Text::from_slice(alloc, world.as_bytes())?)?;
+    words.push(Text::from_slice(alloc, schedule.as_bytes())?)?;
+    Ok(words)
+}
+
+/// Replays all of them, as far as each is answered by its whole transcript.
+fn replay_all(rt: HostRuntime) -> Status {
+    let alloc = rt.alloc();
+    let mut out = StdSink::new(rt.stdout());
+    let mut shelf = FileShelf::new(alloc, rt);
+    for (world, schedule) in RUNS {
+        let Ok(words) = words(&rt, world, schedule) else {
+            return Status::Memory;
+        };
+        let status = run(alloc, words.as_slice(), &mut shelf, &mut out);
+        if !matches!(&status, Status::Ok) {
+            return status;
+        }
+    }
+    Status::Ok
+}
+
+fn main(rt: HostRuntime) -> ExitCode {
+    ExitCode::from(replay_all(rt).number())
+}
