@@ -1,28 +1,4 @@
 #!/bin/sh
-# Builds crates/act_speed and bench/plain.rs, runs one after the other eight times, and prints the best
-# nanoseconds of an act in both, with their ratio.
+# Prints what an act of a script costs, beside the same in plain Rust.
 # sh bench/acts.sh
-set -e
-cd "$(dirname "$0")/.."
-work=$(mktemp -d)
-trap 'rm -rf "$work"' EXIT
-(cd crates/act_speed && rt run) > "$work/build" 2>&1 || { cat "$work/build" >&2; exit 1; }
-rustc --edition 2021 -O bench/plain.rs -o "$work/plain"
-for _ in 1 2 3 4 5 6 7 8; do
-    crates/act_speed/out/act_speed 2>> "$work/rattle.figures"
-    "$work/plain" 2>> "$work/plain.figures"
-done
-awk -F ': | acts, | hundredths' '
-    NR == FNR { if (!($1 in rattle) || $3 < rattle[$1]) rattle[$1] = $3; next }
-    !($1 in plain) { order[++count] = $1 }
-    !($1 in plain) || $3 < plain[$1] { plain[$1] = $3 }
-    END {
-        printf "%-24s %11s %14s %6s\n", "method", "Rattle", "plain Rust", "ratio"
-        for (i = 1; i <= count; i++) {
-            name = order[i]
-            ours = rattle[name] / 100
-            theirs = plain[name] / 100
-            printf "%-24s %8.2f ns %11.2f ns %6.2f\n", name, ours, theirs, ours / theirs
-        }
-    }
-' "$work/rattle.figures" "$work/plain.figures"
+exec sh "$(dirname "$0")/beside_plain.sh" act_speed plain_acts 8 acts

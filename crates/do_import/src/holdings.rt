@@ -1,11 +1,11 @@
 //! The foreign objects that a node received and that it uses, and which of them may leave.
+mod leaving;
+
 ghost use Rattle.std.specs.Prelude.{◌≡◌, ◌+◌, ◌-◌, ◌<◌, ◌≤◌, ◌^◌, ◌⊎◌, ◌||◌, IsTrue, length, OnOk};
-ghost use Rattle.std.specs.Prelude.{OnErr, MatchOption, if◌then◌else◌};
+ghost use Rattle.std.specs.Prelude.{if◌then◌else◌};
 ghost use Rattle.std.specs.FinMap as map;
 ghost use Rattle.std.specs.FinMap.{put};
-ghost use Rattle.do_sorted.specs.Rows.{without};
-ghost use Rattle.do_export.specs.Counts.{count_of, raised, lowered, entry_cmp, others_of};
-ghost use Rattle.do_import.specs.Held.{NoneLeaves, IsLowestLeaving};
+ghost use Rattle.do_export.specs.Counts.{count_of, raised, lowered, entry_cmp};
 ghost use Rattle.do_import.specs.ByObject.{taken_off};
 
 use do_base::{NodeId, Oid};
@@ -177,53 +177,11 @@ impl Holdings {
         self.unrefer(oid);
     }
 
-    /// Takes out the lowest object that may leave, and tells how often it was received.
-    ///
-    /// None exactly where none may leave. An object may leave that was received and is not used.
-    pub fn leave_next(&mut self) -> Option<(Oid, u64)>
-        ensures which { MatchOption result
-            (NoneLeaves self.old.received self.old.uses × (self.new ≡ self.old))
-            (λ left. IsLowestLeaving self.old.received self.old.uses (left.0.node, left.0.serial)
-            × (left.1 ≡ count_of self.old.received left.0.node left.0.serial)
-            × (self.new.received ≡ map.remove self.old.received (left.0.node, left.0.serial))
-            × (self.new.uses ≡ self.old.uses)) }
-        ensures spare { self.old.spare ≤ self.new.spare }
-    {
-        let Some(oid) = self.lowest() else {
-            return None;
-        };
-        let count = self.received.count(oid.node, oid.serial);
-        self.thread.remove(&(oid.node, oid.serial));
-        self.received.forget(oid.node, oid.serial);
-        Some((oid, count))
-    }
-
-    /// Forgets how often the objects of a peer were received, in one go. Their uses stay.
-    pub fn end_peer(&mut self, home: NodeId)
-        ensures received { self.new.received ≡ others_of self.old.received home }
-        ensures uses { self.new.uses ≡ self.old.uses }
-        ensures spare { self.old.spare ≤ self.new.spare }
-    {
-        self.thread.retain(|row| row.0.0 != home);
-        self.received.end_peer(home);
-    }
-
     /// Whether an object stays as it is in the thread when it is received.
     fn is_kept(&self, home: NodeId, serial: u64) -> bool
         ensures { result ≡ (map.contains_key self.now.uses (home, serial)
             || map.contains_key self.now.received (home, serial)) }
     {
         self.uses.has(home, serial) || self.received.has(home, serial)
-    }
-
-    /// The lowest object that may leave.
-    fn lowest(&self) -> Option<Oid>
-        ensures { MatchOption result (NoneLeaves self.now.received self.now.uses)
-            (λ o. IsLowestLeaving self.now.received self.now.uses (o.node, o.serial)) }
-    {
-        let Some(&((node, serial), _)) = self.thread.first() else {
-            return None;
-        };
-        Some(Oid { node, serial })
     }
 }

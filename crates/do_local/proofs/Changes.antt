@@ -1,5 +1,9 @@
 -- A state of which one station is another.
-use Rattle.std.proofs.Common.{◌≡◌, ℕ, ◌==◌, List, Some, None, ap, sym, ◌∙◌}
+use Rattle.std.proofs.Common.{◌≡◌, ℕ, ◌==◌, List, [], ◌++◌, Some, None, ap, sym, ◌∙◌}
+use Rattle.std.proofs.lemmas.List.{append-nil}
+use Rattle.do_class.specs.declared.ids.ClassId.{ClassId}
+use Rattle.do_machine.specs.declared.item.Item.{Item}
+use Rattle.do_machine.specs.declared.state.Queue.{Queue}
 use Rattle.std.specs.Prelude.{position, slice_get, slice_set}
 use Rattle.do_machine.specs.Lists.{change_first}
 use Rattle.do_machine.specs.State.{change}
@@ -29,3 +33,16 @@ changed port f S T at s t set same found here done is_set =
     ap state_of (is_set
     ∙ first_set (λ (s : Station). port == s.port) f T.stations at s t found here done)
     ∙ ap (change port f) same
+
+-- a queue behind which nothing comes
+pub queue_stays : (q r : Queue) (more : List Item) → r ≡ q → more ≡ []
+    → r ≡ record q { items = q.items ++ more }
+queue_stays q r more same none =
+    same ∙ rw none (ap (λ items. record q { items = items }) (sym (append-nil q.items)))
+
+-- classes behind which none comes
+pub classes_stay : (classes after more : List ClassId) → after ≡ classes → more ≡ []
+    → after ≡ classes ++ more
+classes_stay classes after more same none = same ∙ rw none (sym (append-nil classes))
+
+pub ruleset none_steps = (queue_stays, classes_stay)

@@ -1,11 +1,12 @@
 //! What a check lists of a state.
-ghost use Rattle.std.specs.Prelude.{◌≡◌, IfOk, map, option_map};
+ghost use Rattle.std.specs.Prelude.{◌≡◌, IfOk, filter, map, option_map};
 ghost use Rattle.std.specs.List.{flat_map};
 ghost use Rattle.do_machine.specs.State.{own, ports};
 ghost use Rattle.do_machine.specs.check.Snapshot.{closed_ends, entries_for, node_line, object_line};
-ghost use Rattle.do_machine.specs.check.Snapshot.{snapshot};
+ghost use Rattle.do_machine.specs.check.Snapshot.{entry_of, snapshot};
+ghost use Rattle.do_machine.specs.Entry.{has_entry};
 
-use do_base::{NodeId, Oid, Peers};
+use do_base::{NodeId, Oid, Oids, Peers};
 use do_machine::{
     Entry, EntryList, Node, NodeLine, NodeLines, ObjLine, ObjLines, Snapshot, State, Stored,
 };
@@ -54,22 +55,57 @@ fn object_lines(node: &Node) -> Result<ObjLines, AllocError>
 {
     let mut lines = ObjLines::new(node.heap.allocator());
     for stored in node.heap.as_slice() {
-        lines.push(object_line(node, stored)?)?;
+        lines.push(object_line(node, stored.get())?)?;
     }
     Ok(lines)
+}
+
+/// The names of the stored objects of a node.
+fn names_of(node: &Node) -> Result<Oids, AllocError>
+    ensures { IfOk result (λ names. names ≡ map (λ x. own node.now x.serial) node.now.heap) }
+{
+    let mut names = Oids::new(node.heap.allocator());
+    for stored in node.heap.as_slice() {
+        names.push(own(node, stored.get().serial))?;
+    }
+    Ok(names)
+}
+
+/// Of these objects those of which a peer has an entry.
+#[tactic(auto, using(crate::proofs::Passing::passing_steps))]
+fn entered(state: &State, peer: NodeId, names: &Oids) -> Result<Oids, AllocError>
+    ensures { IfOk result (λ objects.
+        objects ≡ filter (has_entry state.now peer) names.now) }
+{
+    let mut objects = Oids::new(names.allocator());
+    for object in names.as_slice() {
+        if !has_entry(state, peer, object) {
+            continue;
+        }
+        objects.push(*object)?;
+    }
+    Ok(objects)
+}
+
+/// A peer's entries of these objects.
+fn entries_of(peer: NodeId, objects: &Oids) -> Result<EntryList, AllocError>
+    ensures { IfOk result (λ entries. entries ≡ map (entry_of peer) objects.now) }
+{
+    let mut entries = EntryList::new(objects.allocator());
+    for object in objects.as_slice() {
+        let object = *object;
+        entries.push(Entry { peer, object })?;
+    }
+    Ok(entries)
 }
 
 /// The entries that a peer has of a node's objects.
 fn entries_for(state: &State, node: &Node, peer: NodeId) -> Result<EntryList, AllocError>
     ensures { IfOk result (λ entries. entries ≡ entries_for state.now node.now peer) }
 {
-    let mut entries = EntryList::new(node.heap.allocator());
-    for stored in node.heap.as_slice() {
-        let object = own(node, stored.serial);
-        if has_entry(state, peer, &object) {
-            entries.push(Entry { peer, object })?;
-        }
-    }
+    let names = names_of(node)?;
+    let objects = entered(state, peer, &names)?;
+    let entries = entries_of(peer, &objects)?;
     Ok(entries)
 }
 
@@ -115,7 +151,7 @@ fn node_lines(state: &State) -> Result<NodeLines, AllocError>
 {
     let mut lines = NodeLines::new(state.stations.allocator());
     for station in state.stations.as_slice() {
-        lines.push(node_line(state, &station.get().node)?)?;
+        lines.push(node_line(state, station.get().node.get())?)?;
     }
     Ok(lines)
 }

@@ -1,10 +1,11 @@
 //! What a state is after an effect of one of its nodes.
-ghost use Rattle.std.specs.Prelude.{◌≡◌, IfOk, map};
+ghost use Rattle.std.specs.Prelude.{◌≡◌, ◌++◌, IfOk, map};
 ghost use Rattle.do_machine.specs.Commit.{born, commit, committed, items_to, moved, showed};
-ghost use Rattle.do_machine.specs.Commit.{skipped, with_sent};
+ghost use Rattle.do_machine.specs.Commit.{skipped, then_leaves, with_sent};
+ghost use Rattle.do_machine.specs.State.{with_items};
+ghost use Rattle.do_local.specs.Sending.{sending};
 
-use crate::copies::{copy_item, copy_items};
-use crate::stations::{station_at, station_in};
+use crate::stations::{station_at, station_in, with_items};
 use do_base::{Items, NodeId, ShownList};
 use do_class::ClassId;
 use do_machine::{Effect, Item, Node, Outcome, Parcel, Queue, Shared, State, Station, Stepped};
@@ -12,32 +13,38 @@ use do_rules::leaving;
 use std::alloc::AllocError;
 
 /// The items of parcels to a peer.
-fn items_to(to: NodeId, parcels: &Items<Parcel>) -> Result<Items<Item>, AllocError>
+fn items_to(to: NodeId, parcels: &Items<Parcel>) -> Result<Items<Shared<Item>>, AllocError>
     ensures { IfOk result (λ items. items ≡ items_to to parcels.now) }
 {
     let mut items = Items::new(parcels.allocator());
     for parcel in parcels.as_slice() {
         if parcel.to == to {
-            items.push(copy_item(&parcel.item)?)?;
+            items.push(parcel.item.clone()?)?;
         }
     }
     Ok(items)
 }
 
-/// A queue with what was sent to its peer.
-fn with_sent(sent: &Items<Parcel>, queue: &Queue) -> Result<Queue, AllocError>
+/// A queue with what was sent to its peer. One to which nothing was sent stays as it is, shared.
+#[tactic(auto, using(crate::proofs::Changes::none_steps))]
+fn with_sent(sent: &Items<Parcel>, queue: &Shared<Queue>) -> Result<Shared<Queue>, AllocError>
     ensures { IfOk result (λ q. q ≡ with_sent sent.now queue.now) }
 {
-    let mut items = copy_items(&queue.items)?;
-    items.append(items_to(queue.to, sent)?)?;
-    Ok(Queue {
-        to: queue.to,
-        items,
-    })
+    let more = items_to(queue.get().to, sent)?;
+    if more.is_empty() {
+        return Ok(queue.clone()?);
+    }
+    let mut items = queue.get().items.clone()?;
+    items.append(more)?;
+    let longer = with_items(items, queue.get())?;
+    Ok(longer)
 }
 
 /// The queues with what was sent.
-fn all_with_sent(sent: &Items<Parcel>, queues: &Items<Queue>) -> Result<Items<Queue>, AllocError>
+fn all_with_sent(
+    sent: &Items<Parcel>,
+    queues: &Items<Shared<Queue>>,
+) -> Result<Items<Shared<Queue>>, AllocError>
     ensures { IfOk result (λ qs. qs ≡ map (with_sent sent.now) queues.now) }
 {
     let mut after = Items::new(queues.allocator());
@@ -53,43 +60,60 @@ fn born(next: u64, node: &Node) -> Result<Items<ClassId>, AllocError>
 {
     let mut classes = Items::new(node.heap.allocator());
     for stored in node.heap.as_slice() {
-        if next <= stored.serial {
-            classes.push(stored.class)?;
+        if next <= stored.get().serial {
+            classes.push(stored.get().class)?;
         }
     }
     Ok(classes)
 }
 
-/// A station after an effect of its node.
-fn committed(effect: Effect, station: &Station) -> Result<Shared<Station>, AllocError>
-    ensures { IfOk result (λ s. s ≡ committed effect station.now) }
+/// The classes with those of the objects that were made. Where none was made they stay shared.
+#[tactic(auto, using(crate::proofs::Changes::none_steps))]
+fn classes_after(station: &Station, node: &Node) -> Result<Shared<Items<ClassId>>, AllocError>
+    ensures { IfOk result (λ classes.
+        classes ≡ station.now.classes ++ born station.now.node.next_serial node.now) }
 {
-    let Effect {
-        node,
-        sent,
-        shown: _shown,
-    } = effect;
-    let mut classes = station.classes.clone()?;
-    classes.append(born(station.node.next_serial, &node)?)?;
+    let born = born(station.node.get().next_serial, node)?;
+    if born.is_empty() {
+        return Ok(station.classes.clone()?);
+    }
+    let mut classes = station.classes.get().clone()?;
+    classes.append(born)?;
+    Shared::new(station.queues.allocator(), classes)
+}
+
+/// A station once its node is another and sent these parcels.
+fn committed(
+    node: &Shared<Node>,
+    sent: &Items<Parcel>,
+    station: &Station,
+) -> Result<Shared<Station>, AllocError>
+    ensures { IfOk result (λ s. s ≡ committed (sending sent.now node.now) station.now) }
+{
     let after = Station {
         port: station.port,
-        node,
-        queues: all_with_sent(&sent, &station.queues)?,
-        classes,
+        node: node.clone()?,
+        queues: all_with_sent(sent, &station.queues)?,
+        classes: classes_after(station, node.get())?,
     };
     Shared::new(station.queues.allocator(), after)
 }
 
-/// The state after an effect of one node.
+/// The state once one node is another and sent these parcels.
 #[tactic(auto, using(do_rules::proofs::Sets::first_steps))]
-fn commit(port: NodeId, effect: Effect, state: &State) -> Result<State, AllocError>
-    ensures { IfOk result (λ s. s ≡ commit port effect state.now) }
+fn commit(
+    port: NodeId,
+    node: &Shared<Node>,
+    sent: &Items<Parcel>,
+    state: &State,
+) -> Result<State, AllocError>
+    ensures { IfOk result (λ s. s ≡ commit port (sending sent.now node.now) state.now) }
 {
     let mut after = state.clone()?;
     let Some(at) = station_at(&after, port) else {
         return Ok(after);
     };
-    let station = committed(effect, station_in(&after, at))?;
+    let station = committed(node, sent, station_in(&after, at))?;
     after.stations.set(at, station);
     Ok(after)
 }
@@ -121,30 +145,35 @@ pub(crate) fn skipped(state: State) -> Stepped
     }
 }
 
-/// A copy of the node that an effect leaves.
-fn node_of(effect: &Effect) -> Result<Node, AllocError>
-    ensures { IfOk result (λ n. n ≡ effect.now.node) }
+/// A node leaves what nothing holds any more, judged in the state that it moved to.
+fn then_leaves(
+    port: NodeId,
+    shown: ShownList,
+    node: &Node,
+    state: &State,
+) -> Result<Stepped, AllocError>
+    ensures { IfOk result (λ s. s ≡ then_leaves port shown node.now state.now) }
 {
-    Ok(effect.node.clone()?)
-}
-
-/// A copy of what an effect shows.
-fn shown_of(effect: &Effect) -> Result<ShownList, AllocError>
-    ensures { IfOk result (λ shown. shown ≡ effect.now.shown) }
-{
-    Ok(effect.shown.clone()?)
+    let leaves = leaving(state, node)?;
+    let Effect {
+        node: after,
+        sent,
+        shown: freed,
+    } = leaves;
+    let mut shown = shown;
+    shown.append(freed)?;
+    let after = Shared::new(sent.allocator(), after)?;
+    let last = commit(port, &after, &sent, state)?;
+    Ok(showed(shown, last))
 }
 
 /// A node moves: its effect is committed, and then it leaves what nothing holds any more.
 pub(crate) fn moved(port: NodeId, state: &State, effect: Effect) -> Result<Stepped, AllocError>
     ensures { IfOk result (λ s. s ≡ moved port state.now effect) }
 {
-    let node = node_of(&effect)?;
-    let mut shown = shown_of(&effect)?;
-    let between = commit(port, effect, state)?;
-    let leaves = leaving(&between, &node)?;
-    let more = shown_of(&leaves)?;
-    shown.append(more)?;
-    let after = commit(port, leaves, &between)?;
-    Ok(showed(shown, after))
+    let Effect { node, sent, shown } = effect;
+    let shared = Shared::new(sent.allocator(), node)?;
+    let between = commit(port, &shared, &sent, state)?;
+    let stepped = then_leaves(port, shown, shared.get(), &between)?;
+    Ok(stepped)
 }

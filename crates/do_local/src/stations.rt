@@ -4,7 +4,6 @@ ghost use Rattle.std.specs.Prelude.{slice_get};
 ghost use Rattle.do_machine.specs.Lists.{change_first};
 ghost use Rattle.do_machine.specs.State.{change, with_items, with_queue};
 
-use crate::copies::copy_queues;
 use do_base::{Items, NodeId};
 use do_machine::{Item, Queue, Shared, State, Station};
 use do_rules::item_at;
@@ -31,48 +30,66 @@ pub(crate) fn station_in(state: &State, at: usize) -> &Station
 }
 
 /// Where the queue to a peer stands.
-fn queue_at(queues: &Items<Queue>, to: NodeId) -> Option<usize>
+fn queue_at(queues: &Items<Shared<Queue>>, to: NodeId) -> Option<usize>
     ensures index { result ≡ position (λ q. to == q.to) queues.now }
     ensures within { IfSome result (λ at. at < length queues.now) }
 {
-    queues.as_slice().iter().position(|queue| queue.to == to)
+    queues
+        .as_slice()
+        .iter()
+        .position(|queue| queue.get().to == to)
+}
+
+/// A queue with other items.
+pub(crate) fn with_items(
+    items: Items<Shared<Item>>,
+    queue: &Queue,
+) -> Result<Shared<Queue>, AllocError>
+    ensures { IfOk result (λ q. q ≡ with_items items queue.now) }
+{
+    let alloc = items.allocator();
+    let to = queue.to;
+    Shared::new(alloc, Queue { to, items })
 }
 
 /// The queues, of which the one to a peer has other items.
 #[tactic(auto, using(do_rules::proofs::Sets::first_steps))]
-fn with_items_to(to: NodeId, items: Items<Item>, queues: Items<Queue>) -> Items<Queue>
-    ensures { result ≡ change_first (λ q. to == q.to) (with_items items) queues }
+fn with_items_to(
+    to: NodeId,
+    items: Items<Shared<Item>>,
+    queues: Items<Shared<Queue>>,
+) -> Result<Items<Shared<Queue>>, AllocError>
+    ensures { IfOk result (λ qs. qs ≡ change_first (λ q. to == q.to) (with_items items) queues) }
 {
     let mut queues = queues;
     let Some(at) = queue_at(&queues, to) else {
-        return queues;
+        return Ok(queues);
     };
-    let queue = Queue {
-        to: item_at(&queues, at).to,
-        items,
-    };
+    let queue = with_items(items, item_at(&queues, at).get())?;
     queues.set(at, queue);
-    queues
+    Ok(queues)
 }
 
 /// A station with other items in its queue to a peer.
 fn with_queue(
     to: NodeId,
-    items: Items<Item>,
+    items: Items<Shared<Item>>,
     station: &Station,
 ) -> Result<Shared<Station>, AllocError>
     ensures { IfOk result (λ s. s ≡ with_queue to items station.now) }
 {
     let node = station.node.clone()?;
-    let queues = copy_queues(&station.queues)?;
     let classes = station.classes.clone()?;
+    let given = station.queues.clone()?;
+    let queues = with_items_to(to, items, given)?;
     let after = Station {
         port: station.port,
         node,
-        queues: with_items_to(to, items, queues),
+        queues,
         classes,
     };
-    Shared::new(station.queues.allocator(), after)
+    let shared = Shared::new(station.queues.allocator(), after)?;
+    Ok(shared)
 }
 
 /// A state with other items in the queue from a node to another.
@@ -80,7 +97,7 @@ fn with_queue(
 pub(crate) fn with_queue_of(
     from: NodeId,
     to: NodeId,
-    items: Items<Item>,
+    items: Items<Shared<Item>>,
     state: &State,
 ) -> Result<State, AllocError>
     ensures { IfOk result (λ s. s ≡ change from (with_queue to items) state.now) }

@@ -1,17 +1,17 @@
 //! What each event does to a state.
-ghost use Rattle.std.specs.Prelude.{◌≡◌, IfOk, drop};
+ghost use Rattle.std.specs.Prelude.{◌≡◌, IfOk, drop, slice_get};
+ghost use Rattle.std.specs.Option.{option_copied};
 ghost use Rattle.std.specs.List.{insert};
 ghost use Rattle.do_machine.specs.Step.{close, enabled_step, moved_by, run, start, step, take};
 ghost use Rattle.do_machine.specs.Step.{timeout};
 ghost use Rattle.do_machine.specs.ends.Losing.{lost};
 
 use crate::commit::{moved, showed, skipped};
-use crate::copies::copy_items;
 use crate::stations::with_queue_of;
 use do_base::{Event, Items, NodeId, ShownList, Text, Values};
 use do_behave::Behaviour;
 use do_class::ClassTable;
-use do_machine::{Effect, Item, State, Stepped};
+use do_machine::{Effect, Item, Shared, State, Stepped};
 use do_rules::{
     Context, can_take, closing, is_open, node_at, queue, run_effect, start_effect, time_out,
 };
@@ -63,11 +63,21 @@ fn run<B: Behaviour>(
     moved_by(port, state, run_effect(context, behaviour)?)
 }
 
+/// The oldest item.
+fn oldest(items: &Items<Shared<Item>>) -> Option<&Item>
+    ensures { option_copied result ≡ slice_get items.now 0 }
+{
+    match items.get(0) {
+        Some(item) => Some(item.get()),
+        None => None,
+    }
+}
+
 /// Items but the oldest.
-fn without_oldest(items: &Items<Item>) -> Result<Items<Item>, AllocError>
+fn without_oldest(items: &Items<Shared<Item>>) -> Result<Items<Shared<Item>>, AllocError>
     ensures { IfOk result (λ is. is ≡ drop 1 items.now) }
 {
-    let mut rest = copy_items(items)?;
+    let mut rest = items.clone()?;
     if !rest.is_empty() {
         rest.remove(0);
     }
@@ -92,7 +102,7 @@ fn take(
     let Some(waiting) = queue(state, from, port) else {
         return Ok(None);
     };
-    let Some(item) = waiting.get(0) else {
+    let Some(item) = oldest(waiting) else {
         return Ok(None);
     };
     let taken = with_queue_of(from, port, without_oldest(waiting)?, state)?;
@@ -145,11 +155,12 @@ fn lost(state: &State, from: NodeId, to: NodeId, after: u64) -> Result<Option<St
     if (waiting.len() as u64) < after {
         return Ok(None);
     }
-    let mut items = copy_items(waiting)?;
+    let mut items = waiting.clone()?;
+    let alloc = items.allocator();
     let end = Item::End {
-        serials: Items::new(items.allocator()),
+        serials: Items::new(alloc),
     };
-    items.insert(after as usize, end)?;
+    items.insert(after as usize, Shared::new(alloc, end)?)?;
     Ok(Some(with_queue_of(from, to, items, state)?))
 }
 

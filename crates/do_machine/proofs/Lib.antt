@@ -14,3 +14,4 @@ mod passing
 mod Answering
 mod Parting
 mod Version1
+pub mod first

@@ -1,5 +1,6 @@
 mod calls;
 mod entries;
+mod first_version;
 mod nodes;
 mod objects;
 mod states;
@@ -11,6 +12,7 @@ pub use calls::{
 pub use entries::{
     entries_change_by_own_steps, entries_of_others_stay, no_entry_over_a_closed_end,
 };
+pub use first_version::first_schedules_as_in_version_1;
 pub use nodes::{held_over_open_ends, late_stays_empty, numbers_never_fall};
 pub use objects::{held_is_referred_to, kept_is_greatest};
 pub use states::{

@@ -16,12 +16,12 @@ pub use do_trace::{Entry, EntryList, NodeLine, NodeLines, ObjLine, ObjLines, Out
 pub use item::{Item, Message};
 pub use laws::{
     answers_find_their_callers, as_in_version_1, classes_stay, closing_ends_all,
-    entries_change_by_own_steps, entries_of_others_stay, given_up_calls_are_late,
-    held_is_referred_to, held_over_open_ends, kept_is_greatest, late_stays_empty,
-    lends_last_while_asked, no_entry_over_a_closed_end, nodes_rise_by_port, numbers_never_fall,
-    others_stay, queues_grow_behind, skipped_is_nothing,
+    entries_change_by_own_steps, entries_of_others_stay, first_schedules_as_in_version_1,
+    given_up_calls_are_late, held_is_referred_to, held_over_open_ends, kept_is_greatest,
+    late_stays_empty, lends_last_while_asked, no_entry_over_a_closed_end, nodes_rise_by_port,
+    numbers_never_fall, others_stay, queues_grow_behind, skipped_is_nothing,
 };
-pub use node::{LateCall, Lend, Lends, Node, Stored, Wanted};
+pub use node::{Heap, LateCall, Lend, Lends, Node, Stored, Wanted};
 pub use shared::Shared;
 pub use state::{Effect, Parcel, Queue, Seat, Seats, State, Station, Stepped};
 pub use verdict::{Request, SendAct, Verdict};

@@ -6,20 +6,20 @@ use do_class::ClassId;
 use do_trace::Outcome;
 
 /// What a node sent to one peer and the peer did not take yet, the oldest first.
-#[derive(Debug, Drop)]
+#[derive(Drop)]
 pub struct Queue {
     pub to: NodeId,
-    pub items: Items<Item>,
+    pub items: Items<Shared<Item>>,
 }
 
 /// A node, with its queues to its peers by rising port, and the classes of all objects that it ever
 /// made, by serial from 1.
-#[derive(Debug, Drop)]
+#[derive(Drop)]
 pub struct Station {
     pub port: NodeId,
-    pub node: Node,
-    pub queues: Items<Queue>,
-    pub classes: Items<ClassId>,
+    pub node: Shared<Node>,
+    pub queues: Items<Shared<Queue>>,
+    pub classes: Shared<Items<ClassId>>,
 }
 
 /// The nodes of a machine, by rising port.
@@ -29,14 +29,14 @@ pub struct State {
 }
 
 /// An item with the peer that it goes to.
-#[derive(Debug, Drop)]
+#[derive(Drop)]
 pub struct Parcel {
     pub to: NodeId,
-    pub item: Item,
+    pub item: Shared<Item>,
 }
 
 /// The node after a step, what it sent, and what it showed.
-#[derive(Debug, Drop)]
+#[derive(Drop)]
 pub struct Effect {
     pub node: Node,
     pub sent: Items<Parcel>,

@@ -1,10 +1,10 @@
 use crate::item::Message;
 use do_base::{Exc, Locals, NodeId, Oid, Text, Value, Values};
-use do_behave::{Handler, Writes};
+use do_behave::{Frame, Handler, Writes};
 use do_class::{ClassId, MethodId};
 
 /// A message that an invocation sends. `from` has the local of each argument.
-#[derive(Debug, Drop)]
+#[derive(Drop)]
 pub struct SendAct {
     pub target: Value,
     pub selector: Text,
@@ -15,7 +15,7 @@ pub struct SendAct {
 }
 
 /// What is asked of a peer.
-#[derive(Debug, Drop)]
+#[derive(Drop)]
 pub enum Request {
     Root,
     /// A method of an object of the peer.
@@ -24,7 +24,7 @@ pub enum Request {
 
 /// What the rules decide of the top invocation. `pc` is the place at which it goes on, `into` the
 /// local that takes what comes, and `outs` those that take what comes out.
-#[derive(Debug, Drop)]
+#[derive(Drop)]
 pub enum Verdict {
     /// It goes on, with a value in a local.
     Goes {
@@ -34,13 +34,13 @@ pub enum Verdict {
     },
     /// It goes on with an answer.
     Uses {
-        result: Value,
+        value: Value,
         outs: Values,
     },
     /// It goes on with other locals and another handler, and slots of its object are written.
     Steps {
         pc: u32,
-        locals: Values,
+        locals: Frame,
         handler: Option<Handler>,
         writes: Writes,
     },
@@ -86,7 +86,7 @@ pub enum Verdict {
     },
     /// It is popped, and gives a result and out values back.
     Returns {
-        result: Value,
+        value: Value,
         outs: Values,
     },
     /// An exception goes to its handler, or ends it.

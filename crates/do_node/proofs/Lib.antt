@@ -7,3 +7,4 @@ pub mod GivenWorld
 pub mod Obeying
 pub mod Replayed
 pub mod WordsRead
+pub mod Upgraded

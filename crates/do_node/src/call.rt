@@ -5,9 +5,11 @@ ghost use Rattle.do_base.specs.outside.Causes.{Rose};
 ghost use Rattle.do_base.specs.declared.outside.shelf.NamedFile.{NamedFile};
 ghost use Rattle.do_cli.specs.Forms.{command_in, stuck_at};
 ghost use Rattle.do_cli.specs.declared.command.Command as commands;
+ghost use Rattle.do_cli.specs.declared.command.Command.TheVariants.{Upgrade};
 ghost use Rattle.do_node.specs.declared.status.Status as declared;
 ghost use Rattle.do_node.specs.Call.{CanWrite, HasUnread, IsRefusal, Refuses, Writes, WritesAll};
 ghost use Rattle.do_node.specs.Call.{WritesNothing, WritesSome};
+ghost use Rattle.do_node.specs.Upgrading.{IsReplayedAlike};
 
 use crate::commands::obey;
 use crate::status::Status;
@@ -54,6 +56,11 @@ pub fn run<H: Shelf, K: Sink>(alloc: Global, words: &[Word], shelf: &mut H, out:
         → ¬ Rose (H.faults shelf.old) (H.faults shelf.new)
         → ¬ Rose (K.faults out.old) (K.faults out.new)
         → (result ≡ Status.Ok) ⊎ (result ≡ Status.Memory) }
+
+    // That what `upgrade` writes is replayed as the rules of the first version say.
+    ensures upgraded { (schedule text : List ℕ)
+        → Writes (H.files shelf.old) (Upgrade schedule) text
+        → IsReplayedAlike (H.files shelf.old) schedule text }
 
     ensures same { H.files shelf.new ≡ H.files shelf.old }
     ensures shelf_faults { H.faults shelf.old ≤ H.faults shelf.new }

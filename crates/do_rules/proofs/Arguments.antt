@@ -1,6 +1,8 @@
 -- The members of lists that stand beside the arguments of a signature, from one argument on.
-use Rattle.std.proofs.Common.{◌≡◌, ℕ, zero, suc, ◌+◌, ◌-◌, ◌<◌, ◌≤◌, Bool, true, false, cond, List, [], ◌∷◌}
-use Rattle.std.proofs.Common.{◌++◌, length, map, take, drop, Some, refl, ap, sym, ◌∙◌, subst, arith, rules}
+use Rattle.std.proofs.Common.{◌≡◌, ℕ, zero, suc, ◌+◌, ◌-◌, ◌<◌, ◌≤◌, Bool, true, false, cond, List}
+use Rattle.std.proofs.Common.{[], ◌∷◌}
+use Rattle.std.proofs.Common.{◌++◌, length, map, take, drop, Some, refl, ap, sym, ◌∙◌, subst, arith}
+use Rattle.std.proofs.Common.{rules}
 use Rattle.std.specs.Prelude.{get_or, not, option_map, slice_get, ◌&&◌}
 use Rattle.std.proofs.lemmas.Option.{slice_get-map}
 use Rattle.do_base.specs.declared.values.value.Value.{Value}
@@ -10,7 +12,8 @@ use Rattle.do_sig.specs.Calls.{arg_fits, encoding_fits, is_oneway, qualifier_of,
 use Rattle.do_sig.specs.Calls.{some_fits}
 use Rattle.do_sig.specs.Fits.{each_takes}
 use Rattle.do_sig.specs.declared.qualifiers.Qualifier.{Qualifier}
-use Rattle.do_machine.specs.run.Send.{inputs_by, outs_by}
+use Rattle.do_machine.specs.run.Send.{input, inputs_by, outs_by}
+use Rattle.do_rules.specs.Beside.{coming_out, passed}
 
 -- An argument that stands first from a place on.
 record StandsFirst (oneway : Bool) (es : List QualifiedType) (k : ℕ) (q : Qualifier) : Type 0 where
@@ -35,71 +38,12 @@ none_left [] (suc k) h = refl
 none_left (x ∷ xs) zero h = absurd (omega (arith, h))
 none_left (x ∷ xs) (suc k) h = none_left xs k (omega (arith, h))
 
-pub outs_end : {X : Type 0} (s : MethodType) (k : ℕ) (xs : List X) → length s.args ≤ k →
-    [] ≡ outs_by (is_oneway s) (drop k s.args) xs
-outs_end s k xs h = ap (λ es. outs_by (is_oneway s) es xs) (sym (none_left s.args k h))
-
-no_outs : {X : Type 0} (oneway : Bool) (es : List QualifiedType) (xs : List X) → xs ≡ [] →
-    [] ≡ outs_by oneway es xs
-no_outs oneway [] xs none = refl
-no_outs oneway (e ∷ es) [] none = refl
-no_outs oneway (e ∷ es) (x ∷ xs) none = cc
-
-pub outs_none : {X : Type 0} (s : MethodType) (k : ℕ) (xs : List X) → xs ≡ [] →
-    [] ≡ outs_by (is_oneway s) (drop k s.args) xs
-outs_none s k xs none = no_outs (is_oneway s) (drop k s.args) xs none
-
 -- the first argument from a place on, and those from the next place on
 first_is : (s : MethodType) (k : ℕ) (q : Qualifier) (f : StandsFirst (is_oneway s) s.args k q) →
     drop k s.args ≡ f.first ∷ drop (k + 1) s.args
 first_is s k q f =
     let next : suc k ≡ k + 1 = omega arith in
     f.rest ∙ ap (λ n. f.first ∷ drop n s.args) next
-
-pub outs_taken : {X : Type 0} (s : MethodType) (k : ℕ) (q : Qualifier) (x : X) (xs rest : List X) →
-    slice_get (qualifiers_of s) k ≡ Some q → q.comes_out ≡ true →
-    rest ≡ outs_by (is_oneway s) (drop (k + 1) s.args) xs →
-    x ∷ rest ≡ outs_by (is_oneway s) (drop k s.args) (x ∷ xs)
-outs_taken s k q x xs rest h out is =
-    let f = stands_first (is_oneway s) s.args k q h in
-    let comes : (qualifier_of (is_oneway s) f.first).comes_out ≡ true =
-    ap (λ (w : Qualifier). w.comes_out) f.is ∙ out in
-    rw (first_is s k q f) (rw comes (ap (λ more. x ∷ more) is))
-
-pub outs_passed : {X : Type 0} (s : MethodType) (k : ℕ) (q : Qualifier) (x : X) (xs rest : List X) →
-    slice_get (qualifiers_of s) k ≡ Some q → q.comes_out ≡ false →
-    rest ≡ outs_by (is_oneway s) (drop (k + 1) s.args) xs →
-    rest ≡ outs_by (is_oneway s) (drop k s.args) (x ∷ xs)
-outs_passed s k q x xs rest h out is =
-    let f = stands_first (is_oneway s) s.args k q h in
-    let comes : (qualifier_of (is_oneway s) f.first).comes_out ≡ false =
-    ap (λ (w : Qualifier). w.comes_out) f.is ∙ out in
-    rw (first_is s k q f) (rw comes is)
-
-pub inputs_end : (s : MethodType) (k : ℕ) (vs : List Value) → length s.args ≤ k →
-    [] ≡ inputs_by (drop k s.args) vs
-inputs_end s k vs h = ap (λ es. inputs_by es vs) (sym (none_left s.args k h))
-
-no_inputs : (es : List QualifiedType) (vs : List Value) → vs ≡ [] → [] ≡ inputs_by es vs
-no_inputs [] vs none = refl
-no_inputs (e ∷ es) [] none = refl
-no_inputs (e ∷ es) (v ∷ vs) none = cc
-
-pub inputs_none : (s : MethodType) (k : ℕ) (vs : List Value) → vs ≡ [] →
-    [] ≡ inputs_by (drop k s.args) vs
-inputs_none s k vs none = no_inputs (drop k s.args) vs none
-
-pub input_next : (s : MethodType) (k : ℕ) (q : Qualifier) (v x : Value) (vs rest : List Value) →
-    slice_get (qualifiers_of s) k ≡ Some q → x ≡ cond q.goes_in v Nil →
-    rest ≡ inputs_by (drop (k + 1) s.args) vs →
-    x ∷ rest ≡ inputs_by (drop k s.args) (v ∷ vs)
-input_next s k q v x vs rest h input is =
-    let f = stands_first (is_oneway s) s.args k q h in
-    let goes : (qualifier_of (is_oneway s) f.first).goes_in ≡ q.goes_in =
-    ap (λ (w : Qualifier). w.goes_in) f.is in
-    rw (first_is s k q f)
-    (ap (λ w. w ∷ rest) (input ∙ ap (λ b. cond b v Nil) (sym goes))
-    ∙ ap (λ more. cond (qualifier_of (is_oneway s) f.first).goes_in v Nil ∷ more) is)
 
 -- the tests of the arguments from one on that come out
 abbrev tests : MethodType → ℕ → List (Value → Bool)
@@ -161,36 +105,7 @@ pub takes_past : (s : MethodType) (k : ℕ) (vs : List Value) → length s.args 
 takes_past s k [] h some = absurd (omega (arith, some))
 takes_past s k (v ∷ vs) h some = rw (none_after s k h) refl
 
--- a list shorter than one is empty
-pub is_empty : {X : Type 0} (xs : List X) → length xs < 1 → xs ≡ []
-is_empty [] h = refl
-is_empty (x ∷ xs) h = absurd (omega (arith, h))
-
-pub outs_short : {X : Type 0} (s : MethodType) (k : ℕ) (xs : List X) → length xs < 1 →
-    [] ≡ outs_by (is_oneway s) (drop k s.args) xs
-outs_short s k xs h = outs_none s k xs (is_empty xs h)
-
-pub inputs_short : (s : MethodType) (k : ℕ) (vs : List Value) → length vs < 1 →
-    [] ≡ inputs_by (drop k s.args) vs
-inputs_short s k vs h = inputs_none s k vs (is_empty vs h)
-
-pub takes_short : (s : MethodType) (k : ℕ) (q : Qualifier) (vs : List Value) →
-    slice_get (qualifiers_of s) k ≡ Some q → q.comes_out ≡ true → length vs < 1 →
-    false ≡ each_takes (tests s k) vs
-takes_short s k q vs h out short = takes_none s k q vs h out (is_empty vs short)
-
-pub takes_all : (s : MethodType) (k : ℕ) (vs : List Value) → length s.args ≤ k → length vs < 1 →
-    true ≡ each_takes (tests s k) vs
-takes_all s k vs h short = takes_end s k vs h (is_empty vs short)
-
 pub ruleset argument_steps = (
-  outs_end,
-  outs_none,
-  outs_taken,
-  outs_passed,
-  inputs_end,
-  inputs_none,
-  input_next,
   takes_passed,
   takes_none,
   takes_unfit,
@@ -213,41 +128,10 @@ pub not_false : (b : Bool) → not b ≡ false → b ≡ true
 not_false true h = refl
 not_false false h = cc
 
--- the same of a list that is not empty, by its first element and the others
-pub input_at : (s : MethodType) (k : ℕ) (q : Qualifier) (xs : List Value) (v x : Value)
-    (rest : List Value) → 1 ≤ length xs → v ≡ get_or xs 0 v → slice_get (qualifiers_of s) k ≡ Some q →
-    x ≡ cond q.goes_in v Nil → rest ≡ inputs_by (drop (k + 1) s.args) (take (length xs - 1) (drop 1 xs)) →
-    x ∷ rest ≡ inputs_by (drop k s.args) xs
-input_at s k q [] v x rest some at h input is = absurd (omega (arith, some))
-input_at s k q (y ∷ ys) v x rest some at h input is =
-    input_next s k q y x ys rest h (input ∙ ap (λ z. cond q.goes_in z Nil) at)
-    (is ∙ ap (λ zs. inputs_by (drop (k + 1) s.args) zs) (behind ys))
-
-pub out_first : {X : Type 0} (s : MethodType) (k : ℕ) (q : Qualifier) (xs rest : List X) →
-    1 ≤ length xs → slice_get (qualifiers_of s) k ≡ Some q → q.comes_out ≡ true →
-    rest ≡ outs_by (is_oneway s) (drop (k + 1) s.args) (take (length xs - 1) (drop 1 xs)) →
-    take 1 xs ++ rest ≡ outs_by (is_oneway s) (drop k s.args) xs
-out_first s k q [] rest some h out is = absurd (omega (arith, some))
-out_first s k q (y ∷ ys) rest some h out is =
-    outs_taken s k q y ys rest h out
-    (is ∙ ap (λ zs. outs_by (is_oneway s) (drop (k + 1) s.args) zs) (behind ys))
-
-pub not_true : (b : Bool) → not b ≡ true → b ≡ false
-not_true true h = cc
-not_true false h = refl
-
-pub out_later : {X : Type 0} (s : MethodType) (k : ℕ) (q : Qualifier) (xs rest : List X) →
-    1 ≤ length xs → slice_get (qualifiers_of s) k ≡ Some q → q.comes_out ≡ false →
-    rest ≡ outs_by (is_oneway s) (drop (k + 1) s.args) (take (length xs - 1) (drop 1 xs)) →
-    rest ≡ outs_by (is_oneway s) (drop k s.args) xs
-out_later s k q [] rest some h out is = absurd (omega (arith, some))
-out_later s k q (y ∷ ys) rest some h out is =
-    outs_passed s k q y ys rest h out
-    (is ∙ ap (λ zs. outs_by (is_oneway s) (drop (k + 1) s.args) zs) (behind ys))
-
 pub takes_at : (s : MethodType) (k : ℕ) (q : Qualifier) (xs : List Value) (v : Value) (b : Bool) →
     1 ≤ length xs → v ≡ get_or xs 0 v → slice_get (qualifiers_of s) k ≡ Some q →
-    q.comes_out ≡ true → arg_fits s k v ≡ true → b ≡ each_takes (tests s (k + 1)) (take (length xs - 1) (drop 1 xs)) →
+    q.comes_out ≡ true → arg_fits s k v ≡ true →
+    b ≡ each_takes (tests s (k + 1)) (take (length xs - 1) (drop 1 xs)) →
     b ≡ each_takes (tests s k) xs
 takes_at s k q [] v b some at h out fit is = absurd (omega (arith, some))
 takes_at s k q (y ∷ ys) v b some at h out fit is =
@@ -260,14 +144,29 @@ one_suc [] k x h = cc
 one_suc (y ∷ ys) zero x h = cc
 one_suc (y ∷ ys) (suc k) x h = ap (λ t. y ∷ t) (one_suc ys k x h)
 
-pub mark_more : (s : MethodType) (k : ℕ) (q : Qualifier) → slice_get (qualifiers_of s) k ≡ Some q →
-    take (k + 1) (map (λ (x : Qualifier). x.copy) (qualifiers_of s))
-    ≡ take k (map (λ (x : Qualifier). x.copy) (qualifiers_of s)) ++ q.copy ∷ []
-mark_more s k q h =
+-- the qualifiers up to one argument more
+pub qualifiers_more : (s : MethodType) (k : ℕ) (q : Qualifier) →
+    slice_get (qualifiers_of s) k ≡ Some q →
+    take (k + 1) (qualifiers_of s) ≡ take k (qualifiers_of s) ++ q ∷ []
+qualifiers_more s k q h =
     let more : k + 1 ≡ suc k = omega arith in
-    ap (λ n. take n (map (λ (x : Qualifier). x.copy) (qualifiers_of s))) more
-    ∙ one_suc (map (λ (x : Qualifier). x.copy) (qualifiers_of s)) k q.copy
-    (slice_get-map (λ (x : Qualifier). x.copy) (qualifiers_of s) k
-    ∙ ap (λ m. option_map (λ (x : Qualifier). x.copy) m) h)
+    ap (λ n. take n (qualifiers_of s)) more ∙ one_suc (qualifiers_of s) k q h
 
-pub ruleset mark_steps = (mark_more)
+pub ruleset qualifier_steps = (qualifiers_more)
+
+-- values are passed as their arguments say
+pub passed_is : (oneway : Bool) (es : List QualifiedType) (vs : List Value) →
+    passed (map (qualifier_of oneway) es) vs ≡ inputs_by es vs
+passed_is oneway [] vs = refl
+passed_is oneway (e ∷ es) [] = refl
+passed_is oneway (e ∷ es) (v ∷ vs) = ap (λ ws. input e v ∷ ws) (passed_is oneway es vs)
+
+-- members come out as their arguments say
+pub coming_out_is : {X : Type 0} (oneway : Bool) (es : List QualifiedType) (xs : List X) →
+    coming_out (map (qualifier_of oneway) es) xs ≡ outs_by oneway es xs
+coming_out_is oneway [] xs = refl
+coming_out_is oneway (e ∷ es) [] = refl
+coming_out_is oneway (e ∷ es) (x ∷ xs) =
+    ap (λ ys. cond (qualifier_of oneway e).comes_out (x ∷ ys) ys) (coming_out_is oneway es xs)
+
+pub ruleset beside_steps = (passed_is, coming_out_is)

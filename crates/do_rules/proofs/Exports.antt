@@ -12,12 +12,13 @@ use Rattle.do_machine.specs.Items.{exported, is_exported, is_released, name_nami
 use Rattle.do_machine.specs.Items.{naming, released}
 use Rattle.do_machine.specs.Items.Role.{Released}
 use Rattle.do_rules.specs.Exporting.{exports_it, exports_item, exports_of, mine_of}
-use Rattle.do_rules.specs.Exporting.{is_at, releases_item}
+use Rattle.do_rules.specs.Exporting.{is_at, releases_item, releases_of}
 use Rattle.std.specs.Prelude.{◌||◌}
 
 -- a message exports an object that one of its names is of
 pub any_exported : (from to : ℕ) (o : ObjectName) (ns : List Name) →
-    list_any (exports_it from o) ns ≡ has_object (named_as is_exported (map (name_naming from to) ns)) o
+    list_any (exports_it from o) ns
+    ≡ has_object (named_as is_exported (map (name_naming from to) ns)) o
 any_exported from to o [] = refl
 any_exported from to o (Mine serial class ∷ ns) =
     ap (λ b. same_object o (object_at from serial) || b) (any_exported from to o ns)
@@ -31,12 +32,22 @@ any_released to o [] = refl
 any_released to o (s ∷ ss) = ap (λ b. same_object o (object_at to s) || b) (any_released to o ss)
 
 -- a message releases no object
-pub none_released : (from to : ℕ) (o : ObjectName) (ns : List Name) →
+no_releases : (from to : ℕ) (ns : List Name) →
+    [] ≡ named_as is_released (map (name_naming from to) ns)
+no_releases from to [] = refl
+no_releases from to (Mine serial class ∷ ns) = no_releases from to ns
+no_releases from to (Yours serial ∷ ns) = no_releases from to ns
+no_releases from to (Lent p class token ∷ ns) = no_releases from to ns
+
+none_released : (from to : ℕ) (o : ObjectName) (ns : List Name) →
     has_object (named_as is_released (map (name_naming from to) ns)) o ≡ false
-none_released from to o [] = refl
-none_released from to o (Mine serial class ∷ ns) = none_released from to o ns
-none_released from to o (Yours serial ∷ ns) = none_released from to o ns
-none_released from to o (Lent p class token ∷ ns) = none_released from to o ns
+none_released from to o ns = sym (ap (λ os. has_object os o) (no_releases from to ns))
+
+-- the objects of released serials
+serials_released : (to : ℕ) (ss : List ℕ) →
+    map (object_at to) ss ≡ named_as is_released (map (naming Released to) ss)
+serials_released to [] = refl
+serials_released to (s ∷ ss) = ap (λ os. object_at to s ∷ os) (serials_released to ss)
 
 -- the objects that a message exports are those of its names as the sender's
 pub all_exported : (from to : ℕ) (ns : List Name) →
@@ -70,7 +81,8 @@ exports_is from to o (items.Raised number e) = refl
 exports_is from to o (items.RootAsk number) = refl
 exports_is from to o (items.RootAnswer number packet) = any_exported from to o packet.names
 exports_is from to o (items.Ask serial token) = refl
-exports_is from to o (items.Granted serial token) = sym (or-false (same_object o (object_at from serial)))
+exports_is from to o (items.Granted serial token) =
+    sym (or-false (same_object o (object_at from serial)))
 exports_is from to o (items.Gone serial token) = refl
 exports_is from to o (items.Left serial) = refl
 exports_is from to o (items.Settled number) = refl
@@ -121,3 +133,18 @@ all_exports from to (items.Gone serial token) = refl
 all_exports from to (items.Left serial) = refl
 all_exports from to (items.Settled number) = refl
 all_exports from to (items.End serials) = sym (ends_export to serials)
+
+-- the objects that an item releases
+pub all_releases : (from to : ℕ) (item : Item) → releases_of to item ≡ released from to item
+all_releases from to (items.Call number m) = no_releases from to m.packet.names
+all_releases from to (items.Oneway m) = no_releases from to m.packet.names
+all_releases from to (items.Reply number packet) = no_releases from to packet.names
+all_releases from to (items.Raised number e) = refl
+all_releases from to (items.RootAsk number) = refl
+all_releases from to (items.RootAnswer number packet) = no_releases from to packet.names
+all_releases from to (items.Ask serial token) = refl
+all_releases from to (items.Granted serial token) = refl
+all_releases from to (items.Gone serial token) = refl
+all_releases from to (items.Left serial) = refl
+all_releases from to (items.Settled number) = refl
+all_releases from to (items.End serials) = serials_released to serials

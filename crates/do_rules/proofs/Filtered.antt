@@ -1,11 +1,8 @@
 -- What is made of elements, without those of which nothing is made, up to one element more.
 use Rattle.std.proofs.Common.{◌≡◌, ℕ, zero, suc, ◌+◌, ◌<◌, List, [], ◌∷◌, ◌++◌, length, take, Option}
-use Rattle.std.proofs.Common.{Some, None, Bool, true, false, cond, filter, refl, ap, sym, ◌∙◌, arith}
+use Rattle.std.proofs.Common.{Some, None, refl, ap, sym, ◌∙◌, arith}
 use Rattle.std.specs.Prelude.{get_or}
 use Rattle.std.specs.List.{cons_option, filter_map}
-use Rattle.std.proofs.lemmas.List.{append-nil, map-append}
-use Rattle.std.specs.Prelude.{map, not}
-use Rattle.std.proofs.lemmas.List.Elements.{filter_more}
 
 cons_option-append : {X : Type 0} (m : Option X) (xs ys : List X) →
     cons_option m (xs ++ ys) ≡ cons_option m xs ++ ys
@@ -45,33 +42,4 @@ filtered_some f xs i x y h at some =
     let more : i + 1 ≡ suc i = omega arith in
     ap (λ n. filter_map f (take n xs)) more ∙ some_suc f xs i x y h at some
 
--- an element that passes joins those that pass
-pub passed_more : {X : Type 0} (p : X → Bool) (xs : List X) (i : ℕ) (x : X) → i < length xs →
-    x ≡ get_or xs i x → p x ≡ true → filter p (take (i + 1) xs) ≡ filter p (take i xs) ++ x ∷ []
-passed_more p xs i x h at passes =
-    filter_more p xs i x h
-    ∙ ap (λ y. filter p (take i xs) ++ cond (p y) (y ∷ []) []) (sym at)
-    ∙ ap (λ b. filter p (take i xs) ++ cond b (x ∷ []) []) passes
-
--- one that fails leaves them
-pub failed_more : {X : Type 0} (p : X → Bool) (xs : List X) (i : ℕ) (x : X) → i < length xs →
-    x ≡ get_or xs i x → p x ≡ false → filter p (take (i + 1) xs) ≡ filter p (take i xs)
-failed_more p xs i x h at fails =
-    filter_more p xs i x h
-    ∙ ap (λ y. filter p (take i xs) ++ cond (p y) (y ∷ []) []) (sym at)
-    ∙ ap (λ b. filter p (take i xs) ++ cond b (x ∷ []) []) fails
-    ∙ append-nil (filter p (take i xs))
-
--- the same of what is made of those that fail a test
-pub mapped_unless : {X Y : Type 0} (f : X → Y) (q : X → Bool) (xs : List X) (i : ℕ) (x : X) →
-    i < length xs → x ≡ get_or xs i x → q x ≡ false →
-    map f (filter (λ y. not (q y)) (take (i + 1) xs))
-    ≡ map f (filter (λ y. not (q y)) (take i xs)) ++ f x ∷ []
-mapped_unless f q xs i x h at fails =
-    ap (λ ys. map f ys)
-    (passed_more (λ y. not (q y)) xs i x h at (ap (λ b. not b) fails))
-    ∙ map-append f (filter (λ y. not (q y)) (take i xs)) (x ∷ [])
-
 pub ruleset filtered_steps = (filtered_none, filtered_some)
-
-pub ruleset passing_steps = (passed_more, failed_more)

@@ -1,5 +1,6 @@
 -- What a node that keeps no more than packing can count sees as a packer.
-use Rattle.std.proofs.Common.{◌≡◌, ◌<◌, ◌^◌, Bool, true, false, cond, List, [], ◌∷◌, length, Option, Some}
+use Rattle.std.proofs.Common.{◌≡◌, ◌<◌, ◌^◌, Bool, true, false, cond, List, [], ◌∷◌, length, Option}
+use Rattle.std.proofs.Common.{Some}
 use Rattle.std.proofs.Common.{None, refl, subst, sym, arith}
 use Rattle.std.specs.Prelude.{find, nat_lt, option_map, sum_by, ◌&&◌, ◌==◌, ◌||◌}
 use Rattle.std.specs.List.{list_all, list_any}
@@ -109,12 +110,14 @@ module _ (table : List Class) (S : State) (n : Node) (h : is_packable table S n 
             ] refl
       ]
 
-  light_slots : (vs : List Value) (m : Option Stored) → ((x : Stored) → m ≡ Some x → is_light x ≡ true) →
+  light_slots : (vs : List Value) (m : Option Stored) →
+      ((x : Stored) → m ≡ Some x → is_light x ≡ true) →
       option_map (λ x. x.slots) m ≡ Some vs → sum_by weight_of vs < 2 ^ 32
   light_slots vs None passes e = cc
   light_slots vs (Some x) passes e =
       ltb-true (sum_by weight_of vs) 4294967296
-      (subst (λ (ws : List Value). nat_lt (sum_by weight_of ws) 4294967296 ≡ true) (some_is e) (passes x refl))
+      (subst (λ (ws : List Value). nat_lt (sum_by weight_of ws) 4294967296 ≡ true) (some_is e)
+      (passes x refl))
 
   -- the slots of each object that it sees weigh little
   pub are_light : AreLight (seen_by (context table S n))

@@ -1,19 +1,27 @@
 -- What a node frees and leaves, from its parts.
-use Rattle.std.proofs.Common.{◌≡◌, ℕ, Bool, List, filter, map, not, ◌==◌, ap, sym}
-use Rattle.std.specs.List.{list_any}
-use Rattle.std.proofs.lemmas.List.{append-nil}
+use Rattle.std.proofs.Common.{[], ◌∷◌, refl, ◌∙◌, arith}
+use Rattle.std.proofs.lemmas.Bool.{eq-eqb}
+use Rattle.std.proofs.lemmas.Grind.{common_steps}
+use Rattle.std.proofs.lemmas.List.Elements.{filter_agree}
+use Rattle.std.proofs.Common.{◌≡◌, ℕ, Bool, true, false, List, filter, map, not, ◌==◌, ap, sym}
+use Rattle.std.specs.Prelude.{◌||◌}
+use Rattle.std.specs.List.{list_all, list_any}
 use Rattle.do_base.specs.names.Names.{ObjectName}
 use Rattle.do_base.specs.declared.events.shown.Shown.{Shown}
 use Rattle.do_base.specs.declared.events.shown.Shown.TheVariants.{Free}
 use Rattle.do_packet.specs.Met.{has_object}
 use Rattle.do_machine.specs.declared.node.Node.{Node}
 use Rattle.do_machine.specs.declared.node.Stored.{Stored}
-use Rattle.do_machine.specs.declared.state.Effect.{Effect}
-use Rattle.do_machine.specs.declared.state.Parcel.{Parcel}
+use Rattle.do_machine.specs.declared.state.State.{State}
+use Rattle.do_machine.specs.Effect.{only}
 use Rattle.do_machine.specs.Objects.{object_at}
+use Rattle.do_machine.specs.State.{own}
 use Rattle.do_machine.specs.held.Kept.{kept}
-use Rattle.do_machine.specs.held.Leaving.{leaving, left}
-use Rattle.do_machine.specs.held.Refers.{node_objects}
+use Rattle.do_machine.specs.held.Leaving.{freeing}
+use Rattle.do_machine.specs.held.Refers.{stack_objects}
+use Rattle.do_rules.proofs.HeldUp.{all_kept}
+use Rattle.do_rules.specs.HeldUp.{stays_by}
+use Rattle.do_rules.specs.Judged.{entry_in}
 
 -- the objects that are not in a heap any more, as they are shown
 abbrev pub freed_lines : ℕ → List Stored → List Stored → List Shown
@@ -21,15 +29,55 @@ freed_lines port before heap =
     map (λ x. Free (object_at port x.serial))
     (filter (λ x. not (list_any (λ y. y.serial == x.serial) heap)) before)
 
-pub leaving_is : (entry : ℕ → ℕ → Bool) (n : Node) (heap : List Stored) (after : Node)
-    (shown : List Shown) (referred : List ObjectName) (sent : List Parcel)
-    (held : List ObjectName) (last : Node) →
-    heap ≡ kept entry n → after ≡ record n { heap = heap } →
-    shown ≡ freed_lines n.port n.heap heap → referred ≡ node_objects after →
-    sent ≡ map left (filter (λ o. not (has_object referred o)) n.held) →
-    held ≡ filter (has_object referred) n.held → last ≡ record after { held = held } →
-    record { node = last; sent = sent; shown = shown } ≡ leaving entry n
-leaving_is entry n heap after shown referred sent held last h a s r t k l =
-    rw l (rw k (rw t (rw s (rw r (rw a (rw h
-    (ap (λ lines. record (leaving entry n) { shown = lines })
-    (sym (append-nil (freed_lines n.port n.heap (kept entry n)))))))))))
+-- a name is among those of stored objects where its serial is stored
+names_any : (port serial : ℕ) (heap : List Stored) →
+    has_object (map (λ x. object_at port x.serial) heap) (object_at port serial)
+    ≡ list_any (λ y. y.serial == serial) heap
+names_any port serial [] = refl
+names_any port serial (x ∷ xs) =
+    let rest = names_any port serial xs in
+    grind (arith, common_steps, rest)
+
+-- so what is freed are the objects whose serials are not stored
+pub freed_is : (port : ℕ) (before heap : List Stored) (left : List ObjectName)
+    (lines : List Shown) → left ≡ map (λ x. object_at port x.serial) heap →
+    lines ≡ map (λ x. Free (object_at port x.serial))
+    (filter (λ x. not (has_object left (object_at port x.serial))) before) →
+    lines ≡ freed_lines port before heap
+freed_is port before heap left lines names is =
+    is ∙ ap (λ xs. map (λ x. Free (object_at port x.serial)) xs)
+    (filter_agree (λ x. not (has_object left (object_at port x.serial)))
+    (λ x. not (list_any (λ y. y.serial == x.serial) heap))
+    (λ x. ap (λ os. not (has_object os (object_at port x.serial))) names
+    ∙ ap (λ b. not b) (names_any port x.serial heap)) before)
+
+-- what holds on the right holds of both
+or_right : (a b : Bool) → b ≡ true → (a || b) ≡ true
+or_right true b h = refl
+or_right false b h = h
+
+-- of objects that are all stored none is freed
+none_freed : (xs heap : List Stored) →
+    ((y : Stored) → list_any (λ x. x.serial == y.serial) xs ≡ true →
+    list_any (λ x. x.serial == y.serial) heap ≡ true) →
+    filter (λ y. not (list_any (λ x. x.serial == y.serial) heap)) xs ≡ []
+none_freed [] heap all = refl
+none_freed (x ∷ xs) heap all =
+    let here : list_any (λ y. y.serial == x.serial) heap ≡ true =
+    all x (ap (λ b. b || list_any (λ y. y.serial == x.serial) xs)
+    (eq-eqb x.serial x.serial refl)) in
+    rw here (none_freed xs heap (λ y h. all y (or_right _ _ h)))
+
+-- where each object stays even with no entry, a node frees nothing
+pub frees_nothing : (S : State) (n : Node) (m : Node) →
+    list_all (stays_by (stack_objects n.stack) n n.heap) n.heap ≡ true → m ≡ n →
+    only m ≡ freeing (kept (entry_in S n) n) n
+frees_nothing S n m all same =
+    same_only ∙ ap (λ heap. freeing heap n) (all_kept S n all)
+  where
+    same_only : only m ≡ freeing n.heap n
+    same_only =
+        ap only same ∙ ap (λ xs. record (only n) { shown = map (λ x. Free (own n x.serial)) xs })
+        (sym (none_freed n.heap n.heap (λ y h. h)))
+
+pub ruleset whole_steps = (frees_nothing)

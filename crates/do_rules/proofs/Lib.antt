@@ -2,8 +2,10 @@ mod Arguments
 mod Arrivals
 mod Exports
 mod Filtered
+mod HeldUp
 mod Known
 mod Left
+mod Naming
 mod Nested
 mod Padding
 mod Pairs

@@ -8,7 +8,8 @@ nested : (vs : Listed Value) → flat_map objects_of vs ≡ flat_map (λ os. os)
 nested [] = refl
 nested (v ∷ vs) = ap (λ os. objects_of v ++ os) (nested vs)
 
-objects_of-List : (vs : Listed Value) → objects_of (List vs) ≡ flat_map (λ os. os) (map objects_of vs)
+objects_of-List : (vs : Listed Value) →
+    objects_of (List vs) ≡ flat_map (λ os. os) (map objects_of vs)
 objects_of-List vs = search (rules, the_lemmas)
 
 pub objects_of_list : (vs : Listed Value) → flat_map objects_of vs ≡ objects_of (List vs)

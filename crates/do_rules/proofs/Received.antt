@@ -8,7 +8,8 @@ use Rattle.do_machine.specs.Context.{Context}
 use Rattle.do_machine.specs.take.Receipt.{arrived, received, receiving}
 
 pub received_is : (c : Context) (from : ℕ) (packet : Packet)
-    (next : List Value → Node → Effect) (n : Node) (e d : Effect) (vs : List Value) (last : Effect) →
+    (next : List Value → Node → Effect) (n : Node) (e d : Effect) (vs : List Value)
+    (last : Effect) →
     e ≡ receiving c from packet n → vs ≡ (arrived c from packet).values → d ≡ next vs e.node →
     last ≡ record { node = d.node; sent = e.sent ++ d.sent; shown = e.shown ++ d.shown } →
     last ≡ received c from packet next n

@@ -1,5 +1,6 @@
 -- The root, as a message.
-use Rattle.std.proofs.Common.{◌≡◌, ℕ, true, false, List as Listed, [], ◌∷◌, ◌++◌, Some, None, refl, ap}
+use Rattle.std.proofs.Common.{◌≡◌, ℕ, true, false, List as Listed, [], ◌∷◌, ◌++◌, Some, None, refl}
+use Rattle.std.proofs.Common.{ap}
 use Rattle.std.proofs.Common.{arith, sym, ◌∙◌, subst, filter, rules}
 use Rattle.std.specs.Prelude.{◌==◌}
 use Rattle.std.proofs.lemmas.Bool.{eq-eqb}
@@ -58,6 +59,11 @@ module _ (c : Context) (to : ℕ) where
   abbrev only_nil : Packet
   only_nil = record { names = []; copies = []; values = parts.Nil ∷ [] }
 
+  -- what a message of an own object alone has
+  abbrev only_root : ℕ → ClassId → Packet
+  only_root serial class =
+      record { names = Mine serial class ∷ []; copies = []; values = parts.Named 0 ∷ [] }
+
   nil_names : names_in Nil ≡ []
   nil_names = ap (λ os. met [] (filter (λ o. is_named (role_in o)) os ++ [])) objects_nil
 
@@ -76,7 +82,8 @@ module _ (c : Context) (to : ℕ) where
 
   object_names : (o : ObjectName) (r : Role) → role_in o ≡ r →
       names_in (Obj o) ≡ met [] (filter (λ p. is_named (role_in p)) (o ∷ []) ++ [])
-  object_names o r e = ap (λ os. met [] (filter (λ p. is_named (role_in p)) os ++ [])) (objects_one o)
+  object_names o r e =
+      ap (λ os. met [] (filter (λ p. is_named (role_in p)) os ++ [])) (objects_one o)
 
   -- a root that is not stored is nil
   pub root_lost : (serial : ℕ) → Some serial ≡ c.node.root → None ≡ own_class c.node serial →
@@ -90,9 +97,7 @@ module _ (c : Context) (to : ℕ) where
 
   -- a root that is stored is named
   pub root_there : (serial : ℕ) (class : ClassId) → Some serial ≡ c.node.root →
-      Some class ≡ own_class c.node serial →
-      record { names = Mine serial class ∷ []; copies = []; values = parts.Named 0 ∷ [] }
-      ≡ root_packet c to
+      Some class ≡ own_class c.node serial → only_root serial class ≡ root_packet c to
   root_there serial class is there =
       let o : ObjectName = own c.node serial in
       let class_there : class_seen c o ≡ Some class = class_is serial ∙ sym there in
@@ -103,9 +108,8 @@ module _ (c : Context) (to : ℕ) where
       object_is (o ∷ []) o ∙ rw role (rw same refl) in
       let named : names_to (packer c) to c.node.next_token (o ∷ []) ≡ Mine serial class ∷ [] =
       search (rules, here, class_there) in
-      let core : record { names = Mine serial class ∷ []; copies = []; values = parts.Named 0 ∷ [] }
-      ≡ packet_in (Obj o) = rw names (rw part (rw named refl)) in
-      subst (λ r. record { names = Mine serial class ∷ []; copies = []; values = parts.Named 0 ∷ [] }
+      let core : only_root serial class ≡ packet_in (Obj o) = rw names (rw part (rw named refl)) in
+      subst (λ r. only_root serial class
       ≡ packet_in (elim r [ None ↦ Nil | Some k ↦ Obj (own c.node k) ])) is core
 
 pub ruleset root_steps = (root_none, root_lost, root_there)

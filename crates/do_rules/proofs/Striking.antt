@@ -1,23 +1,36 @@
--- Rounds of striking, and what keeps an object in whatever order it is looked at.
-use Rattle.std.proofs.Common.{◌≡◌, ℕ, zero, suc, ◌-◌, ◌<◌, Bool, true, false, List, length, refl, ap, ◌∙◌}
-use Rattle.std.proofs.Common.{◌==◌, subst, arith}
+-- Rounds of striking.
+use Rattle.std.proofs.Common.{◌≡◌, ℕ, zero, suc, ◌+◌, ◌-◌, ◌<◌, ◌==◌, Bool, true, false, cond, List}
+use Rattle.std.proofs.Common.{[], ◌∷◌, filter, length, not, refl, ap, sym, ◌∙◌, subst, arith}
+use Rattle.std.proofs.lemmas.Bool.{eq-eqb, eqb-true}
+use Rattle.std.proofs.lemmas.List.Filters.{length-filter_both}
 use Rattle.do_machine.specs.declared.node.Node.{Node}
 use Rattle.do_machine.specs.declared.node.Stored.{Stored}
-use Rattle.do_machine.specs.held.Kept.{struck, struck_by}
-use Rattle.std.specs.Prelude.{◌||◌}
-use Rattle.std.proofs.lemmas.Bool.{eqb-true}
+use Rattle.do_machine.specs.held.Kept.{stays, struck, struck_by}
 
--- of four tests one passes, in whatever order they are made
-pub one_of_four : (a b c d : Bool) → (a || b || c || d) ≡ ((a || c || d) || b)
-one_of_four true b c d = refl
-one_of_four false true true d = refl
-one_of_four false true false true = refl
-one_of_four false true false false = refl
-one_of_four false false true d = refl
-one_of_four false false false true = refl
-one_of_four false false false false = refl
+-- where as many pass as there are, all do
+all_pass : {X : Type 0} (p : X → Bool) (xs : List X) → length (filter p xs) ≡ length xs →
+    filter p xs ≡ xs
+all_pass p [] h = refl
+all_pass p (x ∷ xs) h =
+    elim (p x) as (λ b. length (cond b (x ∷ filter p xs) (filter p xs)) ≡ suc (length xs) →
+    cond b (x ∷ filter p xs) (filter p xs) ≡ x ∷ xs) [
+      | true ↦ λ h. ap (λ ys. x ∷ ys) (all_pass p xs (omega (arith, h)))
+      | false ↦ λ h. absurd (omega
+          (arith, h, length-filter_both p (λ y. not (p y)) (λ y. refl) xs))
+    ] h
 
-pub ruleset stay_steps = (one_of_four)
+-- a round that strikes nothing is the last
+pub round_last : (rounds : ℕ) (entry : ℕ → ℕ → Bool) (n : Node)
+    (heap fewer whole : List Stored) → 0 < rounds → fewer ≡ struck entry n heap →
+    length fewer ≡ length heap → struck_by rounds entry n heap ≡ whole → fewer ≡ whole
+round_last zero entry n heap fewer whole more is same before = absurd (omega (arith, more))
+round_last (suc r) entry n heap fewer whole more is same before =
+    let many : length (struck entry n heap) ≡ length heap =
+    subst (λ xs. length xs ≡ length heap) is same in
+    let last : heap ≡ whole =
+    subst (λ b. elim b [ true ↦ heap | false ↦ struck_by r entry n (struck entry n heap) ]
+    ≡ whole) (eq-eqb (length (struck entry n heap)) (length heap) many) before in
+    is ∙ all_pass (stays entry n heap) heap many ∙ last
 
 not_equal : (a b : ℕ) → (a ≡ b → ⊥) → (a == b) ≡ false
 not_equal a b h =
@@ -41,5 +54,3 @@ round_more (suc r) entry n heap fewer whole more is differs before =
     subst (λ b. elim b [ true ↦ heap | false ↦ struck_by r entry n (struck entry n heap) ]
     ≡ whole) d before in
     ap (λ k. struck_by k entry n fewer) less ∙ ap (λ f. struck_by r entry n f) is ∙ next
-
-pub ruleset round_steps = (round_more)

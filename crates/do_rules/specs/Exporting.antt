@@ -1,5 +1,5 @@
 -- What a name in a message, a serial and an item are to an object.
-use Rattle.std.specs.Prelude.{Bool, List, None, Option, Some, [], false, ℕ, ◌∷◌}
+use Rattle.std.specs.Prelude.{Bool, List, None, Option, Some, [], false, map, ℕ, ◌∷◌}
 use Rattle.std.specs.List.{filter_map, list_any}
 use Rattle.do_base.specs.names.Names.{ObjectName}
 use Rattle.do_class.specs.declared.packet.Name.{Name}
@@ -46,3 +46,9 @@ exports_of from (items.Reply number packet) = filter_map (mine_of from) packet.n
 exports_of from (items.RootAnswer number packet) = filter_map (mine_of from) packet.names
 exports_of from (items.Granted serial token) = object_at from serial ∷ []
 exports_of from _ = []
+
+-- the objects that an item releases, as the receiver's
+abbrev pub releases_of : ℕ → Item → List ObjectName
+releases_of to (items.Left serial) = object_at to serial ∷ []
+releases_of to (items.End serials) = map (object_at to) serials
+releases_of to _ = []

@@ -1,5 +1,8 @@
 pub mod Judged
 pub mod Exporting
+pub mod Naming
+pub mod HeldUp
+pub mod Beside
 pub mod Answering
 pub mod Receiving
 pub mod Packable

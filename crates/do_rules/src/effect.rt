@@ -3,7 +3,7 @@ ghost use Rattle.std.specs.Prelude.{◌≡◌, ◌++◌, IfOk};
 ghost use Rattle.do_machine.specs.Effect.{only, queueing, showing};
 
 use do_base::{Items, NodeId, Shown, ShownList};
-use do_machine::{Effect, Item, Node, Parcel};
+use do_machine::{Effect, Item, Node, Parcel, Shared};
 use std::alloc::AllocError;
 
 /// The node alone changes.
@@ -22,6 +22,7 @@ pub(crate) fn only(node: Node) -> Effect
 pub(crate) fn queueing(peer: NodeId, item: Item, node: Node) -> Result<Effect, AllocError>
     ensures { IfOk result (λ e. e ≡ queueing peer item node) }
 {
+    let item = Shared::new(node.heap.allocator(), item)?;
     let mut effect = only(node);
     effect.sent.push(Parcel { to: peer, item })?;
     Ok(effect)

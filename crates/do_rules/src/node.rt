@@ -9,12 +9,13 @@ ghost use Rattle.do_machine.specs.run.Fresh.{is_full};
 
 pub(crate) mod entry;
 pub(crate) mod methods;
+pub(crate) mod named;
 pub(crate) mod naming;
 pub(crate) mod objects;
 
 use do_base::{Items, NodeId, Oid, Oids, Value};
 use do_class::ClassId;
-use do_machine::{Node, Stored};
+use do_machine::{Heap, Node, Shared, Stored};
 
 /// The most invocations of a node.
 const MOST: usize = 256;
@@ -67,13 +68,23 @@ pub fn own(node: &Node, serial: u64) -> Oid
     }
 }
 
-/// The stored object of a serial.
-pub(crate) fn stored(heap: &Items<Stored>, serial: u64) -> Option<&Stored>
+/// The stored object of a serial, as it is shared.
+fn shared(heap: &Heap, serial: u64) -> Option<&Shared<Stored>>
     ensures { option_copied result ≡ stored serial heap.now }
 {
     heap.as_slice()
         .iter()
-        .find(|stored| stored.serial == serial)
+        .find(|stored| stored.get().serial == serial)
+}
+
+/// The stored object of a serial.
+pub(crate) fn stored(heap: &Heap, serial: u64) -> Option<&Stored>
+    ensures { option_copied result ≡ stored serial heap.now }
+{
+    match shared(heap, serial) {
+        Some(stored) => Some(stored.get()),
+        None => None,
+    }
 }
 
 /// The class of an own object.

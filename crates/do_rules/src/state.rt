@@ -1,11 +1,11 @@
 //! What is asked of a state.
-ghost use Rattle.std.specs.Prelude.{◌≡◌};
+ghost use Rattle.std.specs.Prelude.{◌≡◌, ◌==◌, find};
 ghost use Rattle.std.specs.Option.{option_copied};
 ghost use Rattle.do_machine.specs.State.{class_given, class_of, node, queue, queue_to, station};
 
 use do_base::{Items, NodeId, Oid};
 use do_class::ClassId;
-use do_machine::{Item, Node, Shared, State, Station};
+use do_machine::{Item, Node, Queue, Shared, State, Station};
 
 /// The station of a port, as it is shared.
 fn shared(state: &State, port: NodeId) -> Option<&Shared<Station>>
@@ -33,28 +33,30 @@ pub fn node_at(state: &State, port: NodeId) -> Option<&Node>
     ensures { option_copied result ≡ node state.now port }
 {
     match station(state, port) {
-        Some(station) => Some(&station.node),
+        Some(station) => Some(station.node.get()),
         None => None,
     }
 }
 
+/// The queue to a peer, as it is shared.
+fn shared_queue(queues: &Items<Shared<Queue>>, to: NodeId) -> Option<&Shared<Queue>>
+    ensures { option_copied result ≡ find (λ q. to == q.to) queues.now }
+{
+    queues.as_slice().iter().find(|queue| queue.get().to == to)
+}
+
 /// The queue of a station to a peer.
-fn queue_to(station: &Station, to: NodeId) -> Option<&Items<Item>>
+fn queue_to(station: &Station, to: NodeId) -> Option<&Items<Shared<Item>>>
     ensures { option_copied result ≡ queue_to to station.now }
 {
-    match station
-        .queues
-        .as_slice()
-        .iter()
-        .find(|queue| queue.to == to)
-    {
-        Some(queue) => Some(&queue.items),
+    match shared_queue(&station.queues, to) {
+        Some(queue) => Some(&queue.get().items),
         None => None,
     }
 }
 
 /// The queue from a node to another, the oldest item first.
-pub fn queue(state: &State, from: NodeId, to: NodeId) -> Option<&Items<Item>>
+pub fn queue(state: &State, from: NodeId, to: NodeId) -> Option<&Items<Shared<Item>>>
     ensures { option_copied result ≡ queue state.now from to }
 {
     match station(state, from) {
@@ -78,7 +80,7 @@ pub(crate) fn class_of(state: &State, object: &Oid) -> Option<ClassId>
     ensures { result ≡ class_of state.now object.now }
 {
     match station(state, object.node) {
-        Some(station) => class_given(&station.classes, object.serial),
+        Some(station) => class_given(station.classes.get(), object.serial),
         None => None,
     }
 }

@@ -26,6 +26,12 @@ module _ {X : Type 0} (key : X → ℕ) where
   rising-top low top (x ∷ xs) rising = let r : low ≤ key x = rising.0 in
       let s = rising-top (key x + 1) top xs rising.1 in omega arith
 
+  -- no more items rise than there are numbers between the bounds
+  pub rising-many : (low top : ℕ) (xs : List X) → Rising key low xs top → low + length xs ≤ top
+  rising-many low top [] rising = let r : low ≤ top = rising in omega arith
+  rising-many low top (x ∷ xs) rising = let r : low ≤ key x = rising.0 in
+      let s = rising-many (key x + 1) top xs rising.1 in omega arith
+
   -- each key lies between the bounds
   pub rising-at : (low top : ℕ) (xs : List X) (j : ℕ) (d : X) → Rising key low xs top
       → j < length xs → (low ≤ key (get_or xs j d)) × (key (get_or xs j d) < top)

@@ -27,9 +27,9 @@ pub raises-then : (port : ℕ) (a b c : Stock) (d e f : ℕ → ℕ) → Raises 
 raises-then port a b c d e f first second sum = record {
   books = λ queue p p' books bound is.
       second.books queue (λ n. p n + d n) p'
-      (first.books queue p (λ n. p n + d n) books (λ n. let x = bound n in let y = sum n in
-      omega arith) (λ n. refl))
-      (λ n. let x = bound n in let y = sum n in
+      (first.books queue p (λ n. p n + d n) books
+      (λ n above. let y = sum n in let x = bound n (omega arith) in omega arith) (λ n. refl))
+      (λ n above. let y = sum n in let x = bound n (omega arith) in
       let z : named_in port n (map seen b.objects) ≡ named_in port n (map seen a.objects) =
       ap (named_in port n) first.seen in omega arith)
       (λ n. let x = is n in let y = sum n in omega arith);
@@ -81,7 +81,8 @@ pub raises-as : (port : ℕ) (a b : Stock) (d f : ℕ → ℕ) → Raises port a
     → Raises port a b f
 raises-as port a b d f r same = record {
   books = λ queue p p' books bound is.
-      r.books queue p p' books (λ n. let x = bound n in let y = same n in omega arith)
+      r.books queue p p' books
+      (λ n above. let y = same n in let x = bound n (omega arith) in omega arith)
       (λ n. let x = is n in let y = same n in omega arith);
   seen = r.seen;
   next = r.next;

@@ -44,6 +44,11 @@ abbrev pub find_stored : List Stored → ℕ → Option Stored
 find_stored [] serial = None
 find_stored (o ∷ os) serial = cond (eqb o.serial serial) (Some o) (find_stored os serial)
 
+-- how many holders an object has outside the slots; none where it is not stored
+abbrev pub held_of : Option Stored → ℕ
+held_of None = 0
+held_of (Some o) = o.held
+
 -- the list in which these stand in the place of the object with a serial
 abbrev pub replaced : ℕ → (Stored → List Stored) → List Stored → List Stored
 replaced serial by = flat_map (λ o. cond (eqb o.serial serial) (by o) (o ∷ []))

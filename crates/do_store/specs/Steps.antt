@@ -5,11 +5,12 @@ use Rattle.do_store.specs.Queue.{Queue}
 use Rattle.do_store.specs.Names.{named_in}
 use Rattle.do_store.specs.Books.{Books, seen}
 
--- these names are counted besides
+-- these names are counted besides, where each object that is named has room for them
 pub record Raises (port : ℕ) (old new : Stock) (names : ℕ → ℕ) : Type 0 where
   pub books : (queue : Queue) (pending pending' : ℕ → ℕ)
       → Books port old.objects old.spare queue pending
-      → ((n : ℕ) → named_in port n (map seen old.objects) + pending n + names n < 2 ^ 64)
+      → ((n : ℕ) → 0 < names n
+      → named_in port n (map seen old.objects) + pending n + names n < 2 ^ 64)
       → ((n : ℕ) → pending' n ≡ pending n + names n)
       → Books port new.objects new.spare queue pending'
   pub seen : map seen new.objects ≡ map seen old.objects

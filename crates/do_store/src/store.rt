@@ -5,9 +5,10 @@ mod writing;
 
 ghost use Rattle.std.specs.Prelude.{◌≡◌, ◌≢◌, [], ◌+◌, ◌<◌, ◌≤◌, ◌^◌, length, IfOk, OnOk, IsNone};
 ghost use Rattle.std.specs.Prelude.{MatchOption, Some, None, map};
-ghost use Rattle.do_store.specs.Names.{Stored, find_stored, stored_name};
-ghost use Rattle.do_store.specs.Books.{Books};
+ghost use Rattle.do_store.specs.Names.{Stored, find_stored, named_in, stored_name};
+ghost use Rattle.do_store.specs.Books.{Books, seen};
 
+use crate::object::Object;
 use crate::table::Table;
 use crate::waiting::Waiting;
 use do_base::{NodeId, Oid, Oids, Values};
@@ -90,11 +91,29 @@ impl Store {
         self.table.spare()
     }
 
-    /// The serial that the next object gets.
+    /// The serial that the next object gets. No more objects are stored than serials were given.
     pub fn next_serial(&self) -> u64
-        ensures { result ≡ self.now.next }
+        ensures next { result ≡ self.now.next }
+        ensures many { length self.now.objects ≤ self.now.next }
     {
         self.table.next()
+    }
+
+    /// An object with its counts. None exactly where it is not stored.
+    fn object(&self, oid: Oid) -> Option<&Object>
+        ensures own { oid.node ≡ self.now.node → MatchOption result
+            ((find_stored self.now.objects oid.serial ≡ None)
+            × (named_in self.now.node oid.serial self.now.objects ≡ 0))
+            (λ o. (find_stored self.now.objects oid.serial ≡ Some (seen o.now))
+            × (o.now.named ≡ named_in self.now.node oid.serial self.now.objects)) }
+        ensures foreign { oid.node ≢ self.now.node → IsNone result }
+    {
+        let home = oid.node.port();
+        if home != self.node.port() {
+            return None;
+        }
+        let object = self.table.get(oid.serial)?;
+        Some(object)
     }
 
     /// An object's class and slots. None exactly where it is not stored.
@@ -105,11 +124,7 @@ impl Store {
             × (p.0 ≡ o.class) × (p.1.now ≡ o.slots)) }
         ensures foreign { oid.node ≢ self.now.node → IsNone result }
     {
-        let home = oid.node.port();
-        if home != self.node.port() {
-            return None;
-        }
-        let object = self.table.get(oid.serial)?;
+        let object = self.object(oid)?;
         Some((object.class, &object.slots))
     }
 

@@ -79,7 +79,8 @@ impl Table {
 
     /// The serial that the next object gets.
     pub fn next(&self) -> u64
-        ensures { result ≡ self.now.next }
+        ensures next { result ≡ self.now.next }
+        ensures rising { Rising object_serial 0 self.now.objects self.now.next }
     {
         self.next
     }

@@ -46,8 +46,8 @@ first_line_some tell fault (suc ahead) (suc n) from kind within here before =
     rw none (rest ∙ line)
 
 -- the first faulty line, from the first line on
-first_line_is : {K : Type 0} (tell : K → ℕ → AsmFault) (fault : ℕ → Option K) (n line : ℕ) (kind : K)
-    → line < n → fault line ≡ Some kind
+first_line_is : {K : Type 0} (tell : K → ℕ → AsmFault) (fault : ℕ → Option K) (n line : ℕ)
+    (kind : K) → line < n → fault line ≡ Some kind
     → ((earlier : ℕ) → earlier < line → fault earlier ≡ None)
     → first_line tell fault 0 n ≡ Some (tell kind line)
 first_line_is tell fault n line kind within here before =
@@ -91,7 +91,7 @@ fault_is slots classes text (asm.BadOp n) is other =
     let line : (n - 1) + 1 ≡ n = omega (arith, low) in
     first_line_is refusal (fault_at (scope slots classes text) (program text))
     (length (program text)) (n - 1) _
-    (item_within (λ x. made (scope slots classes text) (n - 1) (size (take (n - 1) (program text))) x)
+    (item_within (made (scope slots classes text) (n - 1) (size (take (n - 1) (program text))))
     fault_in (program text) (n - 1) _ is.1.here) is.1.here is.1.before
     ∙ ap (λ k. Some (asm.BadOp k)) line
 fault_is slots classes text (asm.BadLocal n) is other =
@@ -99,7 +99,7 @@ fault_is slots classes text (asm.BadLocal n) is other =
     let line : (n - 1) + 1 ≡ n = omega (arith, low) in
     first_line_is refusal (fault_at (scope slots classes text) (program text))
     (length (program text)) (n - 1) _
-    (item_within (λ x. made (scope slots classes text) (n - 1) (size (take (n - 1) (program text))) x)
+    (item_within (made (scope slots classes text) (n - 1) (size (take (n - 1) (program text))))
     fault_in (program text) (n - 1) _ is.1.here) is.1.here is.1.before
     ∙ ap (λ k. Some (asm.BadLocal k)) line
 fault_is slots classes text (asm.BadJump n) is other =
@@ -107,12 +107,12 @@ fault_is slots classes text (asm.BadJump n) is other =
     let line : (n - 1) + 1 ≡ n = omega (arith, low) in
     first_line_is refusal (fault_at (scope slots classes text) (program text))
     (length (program text)) (n - 1) _
-    (item_within (λ x. made (scope slots classes text) (n - 1) (size (take (n - 1) (program text))) x)
+    (item_within (made (scope slots classes text) (n - 1) (size (take (n - 1) (program text))))
     fault_in (program text) (n - 1) _ is.1.here) is.1.here is.1.before
     ∙ ap (λ k. Some (asm.BadJump k)) line
 fault_is slots classes text asm.TooLong is other =
     first_line_is refusal (fault_at (scope slots classes text) (program text))
     (length (program text)) is.0 _
-    (item_within (λ x. made (scope slots classes text) is.0 (size (take is.0 (program text))) x)
+    (item_within (made (scope slots classes text) is.0 (size (take is.0 (program text))))
     fault_in (program text) is.0 _ is.1.here) is.1.here is.1.before
 fault_is slots classes text asm.Memory is other = absurd (other refl)

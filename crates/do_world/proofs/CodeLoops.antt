@@ -1,7 +1,7 @@
 -- What one more method or class does to the codes that were read so far.
 use Rattle.std.proofs.Common.{◌≡◌, ℕ, ◌+◌, ◌<◌, ◌≤◌, List, [], ◌∷◌, ◌++◌, length, map, take, drop}
-use Rattle.std.proofs.Common.{get_or, Option, Some, None, refl, sym, ◌∙◌, ap, arith, subst, zero, suc}
-use Rattle.std.proofs.Common.{Result, Ok, Err, inl, inr}
+use Rattle.std.proofs.Common.{get_or, Option, Some, None, refl, sym, ◌∙◌, ap, arith, subst, zero}
+use Rattle.std.proofs.Common.{suc, Result, Ok, Err, inl, inr}
 use Rattle.std.specs.List.{All, AllZip, filter_map}
 use Rattle.std.specs.Option.{option_map}
 use Rattle.std.specs.Prelude.{codes, slice_get}

@@ -1,5 +1,5 @@
--- The first fault of a document: all that may be wrong, in the order in which it counts. What may be
--- wrong with classes, but for the codes of their methods, stands in do_document.
+-- The first fault of a document: all that may be wrong, in the order in which it counts. What may
+-- be wrong with classes, but for the codes of their methods, stands in do_document.
 use Rattle.std.specs.Prelude.{ℕ, zero, suc, pos, ◌+◌, ◌==◌, Bool, false, not, is_some}
 use Rattle.std.specs.Prelude.{List, [], ◌∷◌, length, codes, Option, None, option_and_then}
 use Rattle.std.specs.List.{filter_map, list_any}
@@ -36,7 +36,8 @@ first_line tell fault line (suc more) =
 -- the first fault of a method's text, for the names of slots and classes
 abbrev pub assembly_fault : List (List ℕ) → List (List ℕ) → List ℕ → Option AsmFault
 assembly_fault slots classes text =
-    first_line refusal (fault_at (scope slots classes text) (program text)) 0 (length (program text))
+    first_line refusal (fault_at (scope slots classes text) (program text)) 0
+    (length (program text))
 
 -- a text that stands at `code`, or the empty one, is no code
 unfoldable pub text_fault : Place → List (List ℕ) → List (List ℕ) → Members → Option WorldFault

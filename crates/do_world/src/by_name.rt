@@ -1,6 +1,7 @@
 //! The worlds that are built in, by their names.
-ghost use Rattle.std.specs.Prelude.{◌≡◌, IfOk};
+ghost use Rattle.std.specs.Prelude.{◌≡◌, IfOk, IfSome};
 ghost use Rattle.do_world.specs.Builtin.{builtin_world, mesh_text, said};
+ghost use Rattle.do_world.specs.Sound.{IsSound};
 
 use crate::counter_world::counter;
 use crate::reader::read_world;
@@ -74,7 +75,8 @@ root = 'Peer'
 /// name and as a copy. None if its text had a fault, which a test shows that it has not.
 #[tactic(auto, unfolding(crate::specs::Builtin::said))]
 fn mesh(alloc: Global) -> Result<Option<World>, AllocError>
-    ensures { IfOk result (λ world. world ≡ said mesh_text) }
+    ensures value { IfOk result (λ world. world ≡ said mesh_text) }
+    ensures sound { IfOk result (λ world. IfSome world IsSound) }
 {
     match read_world(alloc, mesh_text()) {
         Ok(world) => Ok(Some(world)),
@@ -85,10 +87,11 @@ fn mesh(alloc: Global) -> Result<Option<World>, AllocError>
 
 /// The built-in world of a name. None exactly for another name than `:counter` and `:mesh`.
 ///
-/// Fails where memory ran out.
+/// A machine can open with either. Fails where memory ran out.
 #[tactic(auto, unfolding(crate::specs::Builtin::builtin_world))]
 pub fn builtin(alloc: Global, name: &Text) -> Result<Option<World>, AllocError>
     ensures value { IfOk result (λ world. world ≡ builtin_world name.now) }
+    ensures sound { IfOk result (λ world. IfSome world IsSound) }
 {
     if is_text(name.as_slice(), b":counter") {
         let world = counter(alloc)?;

@@ -8,6 +8,7 @@ ghost use Rattle.do_grammar.specs.Names.{is_selector, colons};
 ghost use Rattle.do_world.specs.Counter.{add_code, class_names, counter_classes, counter_codes};
 ghost use Rattle.do_world.specs.Counter.{counter_nodes, counter_world, go_code};
 ghost use Rattle.do_world.specs.Counter.{number_to_number};
+ghost use Rattle.do_world.specs.Sound.{IsSound};
 
 use crate::codes::code_of;
 use crate::world::World;
@@ -176,9 +177,10 @@ fn counter_codes(alloc: Global) -> Result<Codes, AllocError>
 /// The world `:counter`: node 7001 has a client as its root, and 7002 a counter.
 ///
 /// The client's `go:` takes a number, sends it to the counter with `add:`, and shows and returns
-/// the counter's new value. Fails where memory ran out.
+/// the counter's new value. A machine can open with it. Fails where memory ran out.
 pub fn counter(alloc: Global) -> Result<World, AllocError>
-    ensures { IfOk result (λ world. world ≡ counter_world) }
+    ensures value { IfOk result (λ world. world ≡ counter_world) }
+    ensures sound { IfOk result IsSound }
 {
     let table = counter_table(alloc)?;
     let codes = counter_codes(alloc)?;

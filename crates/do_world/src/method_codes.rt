@@ -9,7 +9,8 @@ ghost use Rattle.do_document.specs.Document.{tables_at};
 ghost use Rattle.do_document.specs.Finding.{Finds};
 ghost use Rattle.do_document.specs.Paths.{path};
 ghost use Rattle.do_document.specs.Sound.{IsClassOf};
-ghost use Rattle.do_world.specs.Faults.{class_codes_fault, code_fault, codes_fault, method_code_fault};
+ghost use Rattle.do_world.specs.Faults.{class_codes_fault, code_fault, codes_fault};
+ghost use Rattle.do_world.specs.Faults.{method_code_fault};
 ghost use Rattle.do_world.specs.Worlds.{class_codes, code_text, codes_of, method_code, slot_names};
 
 use do_behave::{ClassCodes, Codes};
@@ -21,8 +22,8 @@ use toml::Table;
 
 /// The refusal of a text, which is no code.
 fn refusal(alloc: Global, place: Place, fault: AsmFault) -> WorldFault
-    ensures { (result ≡ WorldFault.Memory)
-        ⊎ ((fault ≢ AsmFault.Memory) × (result ≡ WorldFault.Asm (path place (codes "code")) fault)) }
+    ensures { (result ≡ WorldFault.Memory) ⊎ ((fault ≢ AsmFault.Memory)
+        × (result ≡ WorldFault.Asm (path place (codes "code")) fault)) }
 {
     if matches!(&fault, AsmFault::Memory) {
         return WorldFault::Memory;

@@ -114,9 +114,9 @@ fn world_of(alloc: Global, document: &Table) -> Result<World, WorldFault>
 
 /// Reads the world that a text says, in TOML 1.1.
 ///
-/// What such a text is stands in docs/FORMATS.md. A text with a fault is refused with the first, in
-/// the order that stands there; `Memory` may come in place of either answer. A machine can open with
-/// every world that is read.
+/// What such a text is stands in docs/FORMATS.md. A text with a fault is refused with the first,
+/// in the order that stands there; `Memory` may come in place of either answer. A machine can open
+/// with every world that is read.
 pub fn read_world(alloc: Global, bytes: &[u8]) -> Result<World, WorldFault>
     ensures world { IfOk result (IsWorldText bytes.now) }
     ensures fault { IfErr result

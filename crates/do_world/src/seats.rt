@@ -71,7 +71,8 @@ fn root_at(
 ) -> Result<ClassId, WorldFault>
     ensures { let t = table_view table.now in
         Finds (required place (codes "root") (is_text_with (is_class classes.now)) t)
-        (λ class. (option_and_then (class_named classes.now) (text_at (codes "root") t) ≡ Some class)
+        (λ class.
+        (option_and_then (class_named classes.now) (text_at (codes "root") t) ≡ Some class)
         × (class.0 < length classes.now)) result }
 {
     let value = required(alloc, table, place, "root")?;

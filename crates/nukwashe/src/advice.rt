@@ -2,20 +2,12 @@
 use do_base::Word;
 use do_node::Status;
 
-/// The most bytes of a world's file, by which one that is too long is told from a schedule.
-const WORLD_LIMIT: u64 = 4_194_304;
-
 /// The words, of those on the command line, that name what a status speaks of.
 fn concerned<'a>(status: &Status, words: &'a [Word]) -> &'a [Word] {
-    let (world, schedule) = match words {
-        [_, world @ .., _] => (world, &words[words.len() - 1..]),
-        _ => (&words[..0], words),
-    };
-    match status {
-        Status::ReadFault => &words[words.len().min(1)..],
-        Status::BadWorld(_) => world,
-        Status::TooLong { limit, .. } if *limit == WORLD_LIMIT => world,
-        Status::TooLong { .. } | Status::BadSchedule(_) => schedule,
+    match (status, words) {
+        (Status::ReadFault | Status::TooLong { .. }, [_, files @ ..]) => files,
+        (Status::BadWorld(_), [_, world, _]) => std::slice::from_ref(world),
+        (Status::BadSchedule(_), [.., schedule]) => std::slice::from_ref(schedule),
         _ => &[],
     }
 }

@@ -1,7 +1,7 @@
 //! Which of two numbers is less, and whether two values are the same.
-use super::acts::Does::{Gives, TypeFault};
-use super::cases::{Case, check};
-use super::samples::Sample::{List, Nil, Num, Obj, Text};
+use act_samples::Does::{Gives, TypeFault};
+use act_samples::Sample::{List, Nil, Num, Obj, Text};
+use act_samples::{Case, first_wrong};
 use std::test::Fail;
 
 const MOST: i64 = i64::MAX;
@@ -125,15 +125,18 @@ const SAME_PARTS: [Case<'static>; 16] = [
 
 #[test]
 fn less_numbers(rt: HostRuntime) -> Result<(), Fail> {
-    check(&rt, rt.alloc(), &LESS)
+    assert_eq!(rt; first_wrong(rt.alloc(), &LESS)?, None);
+    Ok(())
 }
 
 #[test]
 fn same_plain_values(rt: HostRuntime) -> Result<(), Fail> {
-    check(&rt, rt.alloc(), &SAME_PLAIN)
+    assert_eq!(rt; first_wrong(rt.alloc(), &SAME_PLAIN)?, None);
+    Ok(())
 }
 
 #[test]
 fn same_lists_and_objects(rt: HostRuntime) -> Result<(), Fail> {
-    check(&rt, rt.alloc(), &SAME_PARTS)
+    assert_eq!(rt; first_wrong(rt.alloc(), &SAME_PARTS)?, None);
+    Ok(())
 }

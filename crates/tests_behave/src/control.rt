@@ -1,9 +1,7 @@
 //! Places to go on at, handlers, and the end.
-use super::acts::Does::{GoesTo, Handles, Return};
-use super::acts::{Frame, whole};
-use super::cases::{Case, check, comes_to};
-use super::samples::Sample::{List, Nil, Num, Obj, Text};
-use super::world::{held, outcome_of_line};
+use act_samples::Does::{GoesTo, Handles, Return};
+use act_samples::Sample::{List, Nil, Num, Obj, Text};
+use act_samples::{Case, Frame, comes_to, first_wrong, held, outcome_of_line, whole};
 use do_behave::Handler;
 use std::test::Fail;
 
@@ -49,12 +47,14 @@ const HANDLERS: [Case<'static>; 4] = [
 
 #[test]
 fn places(rt: HostRuntime) -> Result<(), Fail> {
-    check(&rt, rt.alloc(), &PLACES)
+    assert_eq!(rt; first_wrong(rt.alloc(), &PLACES)?, None);
+    Ok(())
 }
 
 #[test]
 fn handlers(rt: HostRuntime) -> Result<(), Fail> {
-    check(&rt, rt.alloc(), &HANDLERS)
+    assert_eq!(rt; first_wrong(rt.alloc(), &HANDLERS)?, None);
+    Ok(())
 }
 
 #[test]

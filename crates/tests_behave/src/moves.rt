@@ -1,7 +1,7 @@
 //! Values that are made or moved, and slots.
-use super::acts::Does::{Gives, Writes};
-use super::cases::{Case, check};
-use super::samples::Sample::{List, Nil, Num, Obj, Text};
+use act_samples::Does::{Gives, Writes};
+use act_samples::Sample::{List, Nil, Num, Obj, Text};
+use act_samples::{Case, first_wrong};
 use std::test::Fail;
 
 const MADE: [Case<'static>; 9] = [
@@ -64,15 +64,18 @@ const SLOTS: [Case<'static>; 10] = [
 
 #[test]
 fn made_values(rt: HostRuntime) -> Result<(), Fail> {
-    check(&rt, rt.alloc(), &MADE)
+    assert_eq!(rt; first_wrong(rt.alloc(), &MADE)?, None);
+    Ok(())
 }
 
 #[test]
 fn moved_values(rt: HostRuntime) -> Result<(), Fail> {
-    check(&rt, rt.alloc(), &MOVED)
+    assert_eq!(rt; first_wrong(rt.alloc(), &MOVED)?, None);
+    Ok(())
 }
 
 #[test]
 fn slots(rt: HostRuntime) -> Result<(), Fail> {
-    check(&rt, rt.alloc(), &SLOTS)
+    assert_eq!(rt; first_wrong(rt.alloc(), &SLOTS)?, None);
+    Ok(())
 }

@@ -1,7 +1,7 @@
 //! Arithmetic, at the edges of 64 bits.
-use super::acts::Does::{Gives, Range, TypeFault};
-use super::cases::{Case, check};
-use super::samples::Sample::{List, Nil, Num, Obj, Text};
+use act_samples::Does::{Gives, Range, TypeFault};
+use act_samples::Sample::{List, Nil, Num, Obj, Text};
+use act_samples::{Case, first_wrong};
 use std::test::Fail;
 
 const MOST: i64 = i64::MAX;
@@ -86,15 +86,18 @@ const PRODUCTS: [Case<'static>; 19] = [
 
 #[test]
 fn sums(rt: HostRuntime) -> Result<(), Fail> {
-    check(&rt, rt.alloc(), &SUMS)
+    assert_eq!(rt; first_wrong(rt.alloc(), &SUMS)?, None);
+    Ok(())
 }
 
 #[test]
 fn differences(rt: HostRuntime) -> Result<(), Fail> {
-    check(&rt, rt.alloc(), &DIFFERENCES)
+    assert_eq!(rt; first_wrong(rt.alloc(), &DIFFERENCES)?, None);
+    Ok(())
 }
 
 #[test]
 fn products(rt: HostRuntime) -> Result<(), Fail> {
-    check(&rt, rt.alloc(), &PRODUCTS)
+    assert_eq!(rt; first_wrong(rt.alloc(), &PRODUCTS)?, None);
+    Ok(())
 }

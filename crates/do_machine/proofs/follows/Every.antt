@@ -34,16 +34,24 @@ module _ (table : List Class) (act : Acting) (S : State) where
 there : (m : Node) (found : Option Node) → found ≡ Some m → found ≡ None → ⊥
 there m found h q = cc
 
-module _ (S T : State) (grows : EachNode Grows S T) (held : AllHoldOpen S) where
-  -- a node that was there holds over open ends
-  hold_of : (port : ℕ) (m : Node) → node T port ≡ Some m → (found : Option Node) →
-      node S port ≡ found → HoldsOpen m
-  hold_of port m h None q = absurd (there m (node T port) h (grows.absent port q))
-  hold_of port m h (Some n) q =
-      let x = grows.stands port n q in
+module _ (R : Node → Node → Type 0) (P : Node → Type 0)
+    (passes : (n m : Node) → R n m → P n → P m) (S T : State) (stands : EachNode R S T)
+    (held : (port : ℕ) (n : Node) → node S port ≡ Some n → P n) where
+  -- what passes on holds of a node, which was there
+  passed : (port : ℕ) (m : Node) → node T port ≡ Some m → (found : Option Node) →
+      node S port ≡ found → P m
+  passed port m h None q = absurd (there m (node T port) h (stands.absent port q))
+  passed port m h (Some n) q =
+      let x = stands.stands port n q in
       let e : x.0 ≡ m = ap (λ y. unwrap_or y m) (sym x.1 ∙ h) in
-      subst HoldsOpen e (x.2.holding (held.each port n q))
+      subst P e (passes n x.0 x.2 (held port n q))
 
-  -- and so do all nodes
-  pub all_hold : AllHoldOpen T
-  all_hold = record { each = λ port m h. hold_of port m h (node S port) refl }
+  -- and so of all nodes
+  pub all_passed : (port : ℕ) (m : Node) → node T port ≡ Some m → P m
+  all_passed port m h = passed port m h (node S port) refl
+
+-- all nodes hold over open ends, if they did
+pub all_hold : (S T : State) → EachNode Grows S T → AllHoldOpen S → AllHoldOpen T
+all_hold S T grows held = record {
+  each = all_passed Grows HoldsOpen (λ n m g h. g.holding h) S T grows held.each;
+}

@@ -44,16 +44,21 @@ by_name from (Mine serial class) n = same n
 by_name from (Yours serial) n = same n
 by_name from (Lent o class token) n = by_asking (wanted o from token) n
 
+-- a message that is received
+pub by_receiving : (c : Context) (from : ℕ) (packet : Packet) (n : Node) →
+    Follows n (receiving c from packet n).node
+by_receiving c from packet n =
+    let new = (arrived c from packet).copies in
+    let m = with_objects new n in
+    after n m _ (makes n new) (by_each (receiving_name from) (by_name from) packet.names m)
+
 -- a message that is received, and what its values come to
 by_received : (c : Context) (from : ℕ) (packet : Packet) (next : List Value → Node → Effect) →
     ((vs : List Value) (n : Node) → Follows n (next vs n).node) →
     (n : Node) → Follows n (received c from packet next n).node
 by_received c from packet next h n =
-    let new = (arrived c from packet).copies in
-    let m = with_objects new n in
-    after n (receiving c from packet n).node _
-    (after n m _ (makes n new) (by_each (receiving_name from) (by_name from) packet.names m))
-    (h (arrived c from packet).values (receiving c from packet n).node)
+    let m = (receiving c from packet n).node in
+    after n m _ (by_receiving c from packet n) (h (arrived c from packet).values m)
 
 -- a message that is refused
 by_refusing : (e : Exc) (reason : Reason) (n : Node) → Follows n (refusing e reason n).node

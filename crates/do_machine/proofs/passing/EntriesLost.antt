@@ -1,59 +1,25 @@
 -- The entries of a node's objects as a loss leaves them.
 use Rattle.std.proofs.Common.{◌≡◌, ◌==◌, ◌&&◌, ◌||◌, ℕ, Bool, true, false, cond, not, List, [], ◌∷◌}
-use Rattle.std.proofs.Common.{refl, sym, ap, ◌∙◌, subst, arith}
-use Rattle.std.specs.Prelude.{None, Option, Some, drop, length, nat_lt, option_and_then}
-use Rattle.std.specs.Prelude.{option_map, slice_get, unwrap_or}
+use Rattle.std.proofs.Common.{refl, sym, ap, ◌∙◌}
+use Rattle.std.specs.Prelude.{None, Option, Some, length, nat_lt}
+use Rattle.std.specs.Prelude.{option_map, unwrap_or}
 use Rattle.std.specs.List.{insert, list_any}
 use Rattle.std.proofs.lemmas.Bool.{eqb-true}
-use Rattle.std.proofs.lemmas.Grind.{common_steps}
 use Rattle.std.proofs.lemmas.List.Sorted.{IsPermutation-insert, list_any-IsPermutation}
 use Rattle.do_base.specs.names.Names.{ObjectName}
-use Rattle.do_base.specs.declared.events.event.Event.{Event}
-use Rattle.do_base.specs.declared.events.event.Event.TheVariants.{Check, Close, Lose, Run, Start}
-use Rattle.do_base.specs.declared.events.event.Event.TheVariants.{Take}
-use Rattle.do_base.specs.declared.events.event.Event.TheVariants.{Timeout}
-use Rattle.do_base.specs.declared.values.value.Value.{Value}
-use Rattle.do_class.specs.Class.{Class}
 use Rattle.do_packet.specs.Met.{has_object}
 use Rattle.do_machine.specs.declared.item.Item.{Item}
 use Rattle.do_machine.specs.declared.item.Item.TheVariants as items
 use Rattle.do_machine.specs.declared.node.Node.{Node}
-use Rattle.do_machine.specs.declared.state.Effect.{Effect}
 use Rattle.do_machine.specs.declared.state.State.{State}
-use Rattle.do_machine.specs.declared.state.Stepped.{Stepped}
-use Rattle.do_machine.specs.Commit.{commit, moved, showed, skipped}
-use Rattle.do_machine.specs.Context.{around, context}
+use Rattle.do_machine.specs.Commit.{showed, skipped}
 use Rattle.do_machine.specs.Entry.{has_entry, is_holder, is_on_its_way_back, is_reached}
 use Rattle.do_machine.specs.Entry.{is_under_way}
 use Rattle.do_machine.specs.Items.{exported, released}
 use Rattle.do_machine.specs.Lists.{some_passes}
-use Rattle.do_machine.specs.Start.{start_effect}
 use Rattle.do_machine.specs.State.{change, is_open, node, queue, with_queue}
-use Rattle.do_machine.specs.Step.{moved_by, run, start, step, take, timeout}
-use Rattle.do_machine.specs.ends.Closing.{closing}
-use Rattle.do_machine.specs.ends.TimeOut.{time_out}
-use Rattle.do_machine.specs.held.Leaving.{leaving}
-use Rattle.do_machine.specs.laws.Entries.{HasQueues, IsNoStepOf}
-use Rattle.do_machine.specs.laws.Follows.{AllHoldOpen, Grows, HoldsOpen}
-use Rattle.do_machine.specs.run.Run.{Acting, run_effect}
-use Rattle.do_machine.specs.take.Take.{can_serve, can_take, take_effect}
-use Rattle.do_machine.proofs.Entries.{entry_by, entry_stays}
-use Rattle.do_machine.proofs.follows.Ran.{by_run, by_start}
-use Rattle.do_machine.proofs.follows.Small.{by_closing}
-use Rattle.do_machine.proofs.follows.States.{changed, requeued}
-use Rattle.do_machine.proofs.follows.Steps.{first_of, grown_there, there}
-use Rattle.do_machine.proofs.follows.Taken.{by_take}
-use Rattle.do_machine.proofs.follows.TimedOut.{by_time_out}
-use Rattle.do_machine.proofs.Bools.{fails}
-use Rattle.do_machine.proofs.passing.Closes.{passes_closing}
-use Rattle.do_machine.proofs.passing.Commits.{Entered, entry_after}
-use Rattle.do_machine.proofs.passing.Leaves.{passes_leaving}
-use Rattle.do_machine.proofs.passing.Linked.{commit_leaves}
+use Rattle.do_machine.proofs.follows.States.{requeued}
 use Rattle.do_machine.proofs.passing.Lookups.{elsewhere_stays, other_stays, that_changed}
-use Rattle.do_machine.proofs.passing.Passes.{Passes, passes_quiet}
-use Rattle.do_machine.proofs.passing.Quiet.{Quiet}
-use Rattle.do_machine.proofs.passing.RunsQuietly.{QuietIf, run_quiet, start_quiet, time_out_quiet}
-use Rattle.do_machine.proofs.passing.Takes.{comes, passes_take}
 
 module _ (o : ObjectName) (S : State) where
   -- an end that names nothing changes no test that it fails

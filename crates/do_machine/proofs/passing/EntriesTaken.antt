@@ -1,58 +1,35 @@
 -- The entries of a node's objects as a take of another node leaves them.
 use Rattle.std.proofs.Common.{◌≡◌, ◌==◌, ◌&&◌, ◌||◌, ℕ, Bool, true, false, cond, not, List, [], ◌∷◌}
 use Rattle.std.proofs.Common.{refl, sym, ap, ◌∙◌, subst, arith}
-use Rattle.std.specs.Prelude.{None, Option, Some, drop, length, nat_lt, option_and_then}
-use Rattle.std.specs.Prelude.{option_map, slice_get, unwrap_or}
-use Rattle.std.specs.List.{insert, list_any}
+use Rattle.std.specs.Prelude.{None, Option, Some, drop}
+use Rattle.std.specs.Prelude.{slice_get}
+use Rattle.std.specs.List.{list_any}
 use Rattle.std.proofs.lemmas.Bool.{eqb-true}
 use Rattle.std.proofs.lemmas.Grind.{common_steps}
-use Rattle.std.proofs.lemmas.List.Sorted.{IsPermutation-insert, list_any-IsPermutation}
 use Rattle.do_base.specs.names.Names.{ObjectName}
-use Rattle.do_base.specs.declared.events.event.Event.{Event}
-use Rattle.do_base.specs.declared.events.event.Event.TheVariants.{Check, Close, Lose, Run, Start}
-use Rattle.do_base.specs.declared.events.event.Event.TheVariants.{Take}
-use Rattle.do_base.specs.declared.events.event.Event.TheVariants.{Timeout}
-use Rattle.do_base.specs.declared.values.value.Value.{Value}
 use Rattle.do_class.specs.Class.{Class}
 use Rattle.do_packet.specs.Met.{has_object}
 use Rattle.do_machine.specs.declared.item.Item.{Item}
-use Rattle.do_machine.specs.declared.item.Item.TheVariants as items
 use Rattle.do_machine.specs.declared.node.Node.{Node}
 use Rattle.do_machine.specs.declared.state.Effect.{Effect}
 use Rattle.do_machine.specs.declared.state.State.{State}
 use Rattle.do_machine.specs.declared.state.Stepped.{Stepped}
-use Rattle.do_machine.specs.Commit.{commit, moved, showed, skipped}
-use Rattle.do_machine.specs.Context.{around, context}
+use Rattle.do_machine.specs.Commit.{moved}
+use Rattle.do_machine.specs.Context.{context}
 use Rattle.do_machine.specs.Entry.{has_entry, is_holder, is_on_its_way_back, is_reached}
 use Rattle.do_machine.specs.Entry.{is_under_way}
 use Rattle.do_machine.specs.Items.{exported, released}
 use Rattle.do_machine.specs.Lists.{some_passes}
-use Rattle.do_machine.specs.Start.{start_effect}
 use Rattle.do_machine.specs.State.{change, is_open, node, queue, with_queue}
-use Rattle.do_machine.specs.Step.{moved_by, run, start, step, take, timeout}
-use Rattle.do_machine.specs.ends.Closing.{closing}
-use Rattle.do_machine.specs.ends.TimeOut.{time_out}
-use Rattle.do_machine.specs.held.Leaving.{leaving}
-use Rattle.do_machine.specs.laws.Entries.{HasQueues, IsNoStepOf}
-use Rattle.do_machine.specs.laws.Follows.{AllHoldOpen, Grows, HoldsOpen}
-use Rattle.do_machine.specs.run.Run.{Acting, run_effect}
+use Rattle.do_machine.specs.Step.{take}
+use Rattle.do_machine.specs.laws.Entries.{HasQueues}
+use Rattle.do_machine.specs.laws.Follows.{AllHoldOpen}
 use Rattle.do_machine.specs.take.Take.{can_serve, can_take, take_effect}
-use Rattle.do_machine.proofs.Entries.{entry_by, entry_stays}
-use Rattle.do_machine.proofs.follows.Ran.{by_run, by_start}
-use Rattle.do_machine.proofs.follows.Small.{by_closing}
-use Rattle.do_machine.proofs.follows.States.{changed, requeued}
-use Rattle.do_machine.proofs.follows.Steps.{first_of, grown_there, there}
+use Rattle.do_machine.proofs.Entries.{entry_by}
+use Rattle.do_machine.proofs.follows.States.{requeued}
+use Rattle.do_machine.proofs.follows.Steps.{first_of}
 use Rattle.do_machine.proofs.follows.Taken.{by_take}
-use Rattle.do_machine.proofs.follows.TimedOut.{by_time_out}
-use Rattle.do_machine.proofs.Bools.{fails}
-use Rattle.do_machine.proofs.passing.Closes.{passes_closing}
-use Rattle.do_machine.proofs.passing.Commits.{Entered, entry_after}
-use Rattle.do_machine.proofs.passing.Leaves.{passes_leaving}
-use Rattle.do_machine.proofs.passing.Linked.{commit_leaves}
 use Rattle.do_machine.proofs.passing.Lookups.{elsewhere_stays, other_stays, that_changed}
-use Rattle.do_machine.proofs.passing.Passes.{Passes, passes_quiet}
-use Rattle.do_machine.proofs.passing.Quiet.{Quiet}
-use Rattle.do_machine.proofs.passing.RunsQuietly.{QuietIf, run_quiet, start_quiet, time_out_quiet}
 use Rattle.do_machine.proofs.passing.Takes.{comes, passes_take}
 use Rattle.do_machine.proofs.passing.EntriesMoved.{Same, entered_none, other_moved, own_moved}
 use Rattle.do_machine.proofs.passing.EntriesMoved.{same_if}
@@ -131,7 +108,8 @@ module _ (o : ObjectName) (port : ℕ) (apart : (o.node == port) ≡ false) (S :
     -- entries of the node itself
     own_taken : has_entry (moved port taken effect).state port o ≡ has_entry S port o
     own_taken =
-        own_moved o port apart taken effect n (comes port o from item) still_here taken_linked reaches
+        own_moved o port apart taken effect n (comes port o from item) still_here taken_linked
+        reaches
         (by_take (context table taken n) from item ends).grows (held.each port n here)
         (passes_take port o from (context table taken n) item ends)
         ∙ ap (λ found. some_passes (λ m. is_open m port) found
@@ -150,7 +128,8 @@ module _ (o : ObjectName) (port : ℕ) (apart : (o.node == port) ≡ false) (S :
         has_entry (moved port taken effect).state peer o ≡ has_entry S peer o
     other_taken peer h =
         let f = entry_by peer o in
-        other_moved o port apart taken effect n (comes port o from item) still_here taken_linked reaches
+        other_moved o port apart taken effect n (comes port o from item) still_here taken_linked
+        reaches
         (by_take (context table taken n) from item ends).grows (held.each port n here)
         (passes_take port o from (context table taken n) item ends) peer h
         ∙ ap (λ x. f x (node taken peer) (queue taken o.node peer) (queue taken peer o.node))
@@ -200,7 +179,8 @@ module _ (o : ObjectName) (port : ℕ) (apart : (o.node == port) ≡ false) (S :
 
     -- such a take
     same_from : (n : Node) (waiting : Option (List Item)) → node S port ≡ Some n →
-        is_open n from ≡ true → queue S from port ≡ waiting → Same o port apart S held queues (take_from n waiting)
+        is_open n from ≡ true → queue S from port ≡ waiting →
+        Same o port apart S held queues (take_from n waiting)
     same_from n None h ends q = λ peer. refl
     same_from n (Some w) h ends q = same_oldest n w (slice_get w 0) h ends q refl
 
@@ -212,7 +192,8 @@ module _ (o : ObjectName) (port : ℕ) (apart : (o.node == port) ≡ false) (S :
     ]
 
     -- such a take
-    same_at : (found : Option Node) → node S port ≡ found → Same o port apart S held queues (take_at found)
+    same_at : (found : Option Node) → node S port ≡ found →
+        Same o port apart S held queues (take_at found)
     same_at None h = λ peer. refl
     same_at (Some n) h =
         same_if o port apart S held queues (not (can_take from n)) (take_from n (queue S from port))

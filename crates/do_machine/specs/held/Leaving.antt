@@ -33,7 +33,7 @@ abbrev pub left : ObjectName → Parcel
 left o = record { to = o.node; item = items.Left o.serial }
 
 -- what the node no longer refers to is left, and its home is told
-abbrev dropping : List ObjectName → Node → Effect
+abbrev pub dropping : List ObjectName → Node → Effect
 dropping referred n = record {
   node = record n { held = filter (has_object referred) n.held };
   sent = map left (filter (λ o. not (has_object referred o)) n.held);

@@ -5,8 +5,10 @@ use Rattle.do_base.specs.values.Kinds.{number}
 use Rattle.do_packet.specs.Copies.{Placed}
 use Rattle.do_base.specs.declared.values.value.Value.{Value}
 use Rattle.do_base.specs.declared.events.exception.Exc.{Exc}
-use Rattle.do_base.specs.declared.events.exception.Exc.TheVariants.{ConnectionDied, Deep, NotUnderstood}
-use Rattle.do_base.specs.declared.events.exception.Exc.TheVariants.{NotVended, Range, TimedOut, TooLarge}
+use Rattle.do_base.specs.declared.events.exception.Exc.TheVariants.{ConnectionDied, Deep}
+use Rattle.do_base.specs.declared.events.exception.Exc.TheVariants.{NotUnderstood}
+use Rattle.do_base.specs.declared.events.exception.Exc.TheVariants.{NotVended, Range, TimedOut}
+use Rattle.do_base.specs.declared.events.exception.Exc.TheVariants.{TooLarge}
 use Rattle.do_base.specs.declared.events.exception.Exc.TheVariants.{TypeFault, User}
 use Rattle.do_base.specs.declared.events.shown.Shown.{Shown}
 use Rattle.do_class.specs.Table.{signature_of}

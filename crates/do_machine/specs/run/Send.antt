@@ -6,7 +6,8 @@ use Rattle.do_base.specs.values.Kinds.{is_nil, object}
 use Rattle.do_packet.specs.Copies.{Placed}
 use Rattle.do_base.specs.declared.values.value.Value.{Value}
 use Rattle.do_base.specs.declared.values.value.Value.TheVariants.{Nil}
-use Rattle.do_base.specs.declared.events.exception.Exc.TheVariants.{ConnectionDied, Deep, NotUnderstood}
+use Rattle.do_base.specs.declared.events.exception.Exc.TheVariants.{ConnectionDied, Deep}
+use Rattle.do_base.specs.declared.events.exception.Exc.TheVariants.{NotUnderstood}
 use Rattle.do_base.specs.declared.events.exception.Exc.TheVariants.{NotVended, TooLarge, TypeFault}
 use Rattle.do_class.specs.declared.packet.Packet.{Packet}
 use Rattle.do_sig.specs.Calls.{inputs_fit, is_in, is_oneway, qualifier_of, qualifiers_of}

@@ -3,7 +3,8 @@ use Rattle.std.specs.Prelude.{Err, List, Ok, Result, not, ℕ}
 use Rattle.do_base.specs.values.Kinds.{number}
 use Rattle.do_base.specs.declared.values.value.Value.{Value}
 use Rattle.do_base.specs.declared.events.exception.Exc.{Exc}
-use Rattle.do_base.specs.declared.events.exception.Exc.TheVariants.{Deep, NotUnderstood, NotVended, TypeFault}
+use Rattle.do_base.specs.declared.events.exception.Exc.TheVariants.{Deep, NotUnderstood, NotVended}
+use Rattle.do_base.specs.declared.events.exception.Exc.TheVariants.{TypeFault}
 use Rattle.do_class.specs.declared.ids.MethodId.{MethodId}
 use Rattle.do_sig.specs.Calls.{args_fit}
 use Rattle.do_behave.specs.declared.invocation.Reason.{Reason}

@@ -1,18 +1,19 @@
 //! Which own objects a node keeps.
-ghost use Rattle.std.specs.Prelude.{◌≡◌, ◌||◌, IfOk};
-ghost use Rattle.std.specs.List.{list_any};
+ghost use Rattle.std.specs.Prelude.{◌≡◌, ◌||◌, IfOk, filter};
+ghost use Rattle.std.specs.List.{list_all};
 ghost use Rattle.do_packet.specs.Met.{has_object};
-ghost use Rattle.do_machine.specs.Entry.{has_entry};
 ghost use Rattle.do_machine.specs.State.{own};
-ghost use Rattle.do_machine.specs.held.Kept.{is_root, kept, struck};
+ghost use Rattle.do_machine.specs.held.Kept.{is_root, kept};
 ghost use Rattle.do_machine.specs.held.Refers.{heap_objects, stack_objects};
+ghost use Rattle.do_rules.specs.HeldUp.{stays_by};
 ghost use Rattle.do_rules.specs.Judged.{entry_in};
 
-use crate::node::entry::has_entry;
+use crate::held::entered::held_up;
+use crate::node::named::Named;
 use crate::node::objects::{heap_objects, stack_objects};
-use crate::node::{has_object, own};
-use do_base::{Items, Oid, Oids};
-use do_machine::{Node, State, Stored};
+use crate::node::own;
+use do_base::Items;
+use do_machine::{Heap, Node, State, Stored};
 use std::alloc::AllocError;
 
 /// Whether an own object is the root.
@@ -25,66 +26,70 @@ fn is_root(node: &Node, serial: u64) -> bool
     }
 }
 
-/// Whether a peer has an entry of an object.
-fn is_entered(state: &State, node: &Node, object: &Oid) -> bool
-    ensures { result ≡ list_any (λ peer. has_entry state.now peer object.now) node.now.open_to }
+/// Whether an object of a heap stays: it is the root, or held up, or a slot of the heap names it.
+fn stays(node: &Node, held_up: &Named, named: &Named, stored: &Stored) -> bool
+    ensures { result ≡ (is_root node.now stored.now.serial
+        || has_object held_up.now (own node.now stored.now.serial))
+        || has_object named.now (own node.now stored.now.serial) }
 {
-    node.open_to
+    let object = own(node, stored.serial);
+    is_root(node, stored.serial) || held_up.has(&object) || named.has(&object)
+}
+
+/// Whether each object of a node is the root, or among those that are held up, or among those that
+/// slots name.
+fn all_among(node: &Node, held_up: &Named, named: &Named) -> bool
+    ensures { result ≡ list_all (λ x. (is_root node.now x.serial
+        || has_object held_up.now (own node.now x.serial))
+        || has_object named.now (own node.now x.serial)) node.now.heap }
+{
+    node.heap
         .as_slice()
         .iter()
-        .any(|peer| has_entry(state, *peer, object))
+        .all(|stored| stays(node, held_up, named, stored.get()))
 }
 
-/// Whether an object stays: it is the root, an invocation or a slot names it, or a peer has an
-/// entry of it. What costs most is looked at last.
-#[tactic(auto, using(crate::proofs::Striking::stay_steps))]
-fn stays(state: &State, node: &Node, called: &Oids, stored: &Oids, serial: u64) -> bool
-    ensures { result ≡ (is_root node.now serial
-        || has_object called.now (own node.now serial)
-        || list_any (λ peer. has_entry state.now peer (own node.now serial)) node.now.open_to)
-        || has_object stored.now (own node.now serial) }
+/// Whether each object stays even with no entry: it is the root, or an invocation or a slot names
+/// it.
+pub(crate) fn all_stay(node: &Node) -> Result<bool, AllocError>
+    ensures { IfOk result (λ all. all ≡ list_all
+        (stays_by (stack_objects node.now.stack) node.now node.now.heap) node.now.heap) }
 {
-    let object = own(node, serial);
-    is_root(node, serial)
-        || has_object(stored, &object)
-        || has_object(called, &object)
-        || is_entered(state, node, &object)
+    let called = Named::new(stack_objects(&node.stack)?)?;
+    let named = Named::new(heap_objects(&node.heap)?)?;
+    let all = all_among(node, &called, &named);
+    Ok(all)
 }
 
-/// What is left of a heap once each object that is not held up is struck.
-#[tactic(auto, using(crate::proofs::Filtered::passing_steps))]
-fn struck(
-    state: &State,
-    node: &Node,
-    called: &Oids,
-    heap: &Items<Stored>,
-) -> Result<Items<Stored>, AllocError>
-    requires { called.now ≡ stack_objects node.now.stack }
-    ensures { IfOk result (λ xs. xs ≡ struck (entry_in state.now node.now) node.now heap.now) }
+/// What is left of a heap once each object that does not stay is struck.
+fn struck(node: &Node, held_up: &Named, heap: &Heap) -> Result<Heap, AllocError>
+    ensures { IfOk result (λ xs. xs ≡ filter (stays_by held_up.now node.now heap.now) heap.now) }
 {
-    let named = heap_objects(heap)?;
+    let named = Named::new(heap_objects(heap)?)?;
     let mut left = Items::new(heap.allocator());
-    for object in heap.as_slice() {
-        if !stays(state, node, called, &named, object.serial) {
-            continue;
+    for stored in heap.as_slice() {
+        if stays(node, held_up, &named, stored.get()) {
+            left.push(stored.clone()?)?;
         }
-        left.push(object.clone()?)?;
     }
     Ok(left)
 }
 
 /// The objects that are kept: rounds of striking, up to the first that strikes nothing.
-#[tactic(auto, using(crate::proofs::Striking::round_steps))]
-pub(crate) fn kept(state: &State, node: &Node) -> Result<Items<Stored>, AllocError>
+///
+/// A round takes as long as the heap and the logarithm of how many objects it names. Each but the
+/// last frees an object, so over many steps there are hardly more rounds than steps.
+pub(crate) fn kept(state: &State, node: &Node) -> Result<Heap, AllocError>
     ensures { IfOk result (λ xs. xs ≡ kept (entry_in state.now node.now) node.now) }
 {
-    let called = stack_objects(&node.stack)?;
+    let named = held_up(state, node)?;
+    let held = Named::new(named)?;
     let mut heap = node.heap.clone()?;
     let mut rounds = heap.len();
     while rounds > 0 {
-        let fewer = struck(state, node, &called, &heap)?;
+        let fewer = struck(node, &held, &heap)?;
         if fewer.len() == heap.len() {
-            return Ok(heap);
+            return Ok(fewer);
         }
         heap = fewer;
         rounds -= 1;

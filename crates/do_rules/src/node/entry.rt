@@ -1,9 +1,9 @@
 //! Which own objects of a node are in use at a peer.
 ghost use Rattle.std.specs.Prelude.{◌≡◌};
-ghost use Rattle.do_machine.specs.Entry.{has_entry, is_holder, is_on_its_way_back, is_reached};
+ghost use Rattle.do_machine.specs.Entry.{has_entry, is_holder, is_on_its_way_back};
 ghost use Rattle.do_machine.specs.Entry.{is_under_way};
 ghost use Rattle.do_machine.specs.Lists.{some_passes};
-ghost use Rattle.do_machine.specs.State.{node};
+ghost use Rattle.do_machine.specs.State.{is_open, node};
 
 use crate::node::naming::{one_exports, one_releases};
 use crate::node::{holds, is_open};
@@ -19,12 +19,12 @@ fn is_holder(node: &Node, object: &Oid) -> bool
     is_open(node, home) && holds(node, object)
 }
 
-/// Whether the object's home has its end towards the peer open.
-fn is_reached(state: &State, peer: NodeId, object: &Oid) -> bool
-    ensures { result ≡ is_reached state.now peer object.now }
+/// Whether an object's home has its end towards the peer open.
+pub(crate) fn is_reached(state: &State, peer: NodeId, home: NodeId) -> bool
+    ensures { result ≡ some_passes (λ n. is_open n peer) (node state.now home) }
 {
-    match node_at(state, object.node) {
-        Some(home) => is_open(home, peer),
+    match node_at(state, home) {
+        Some(node) => is_open(node, peer),
         None => false,
     }
 }
@@ -65,7 +65,8 @@ fn is_on_its_way_back(state: &State, peer: NodeId, object: &Oid) -> bool
 pub fn has_entry(state: &State, peer: NodeId, object: &Oid) -> bool
     ensures { result ≡ has_entry state.now peer object.now }
 {
-    is_reached(state, peer, object)
+    let home = object.node;
+    is_reached(state, peer, home)
         && (is_held(state, peer, object)
             || is_under_way(state, peer, object)
             || is_on_its_way_back(state, peer, object))

@@ -1,15 +1,15 @@
 //! Which objects items name, and how.
-ghost use Rattle.std.specs.Prelude.{◌≡◌, ◌∷◌, [], IfOk};
+ghost use Rattle.std.specs.Prelude.{◌≡◌, ◌∷◌, [], IfOk, map};
 ghost use Rattle.std.specs.List.{filter_map, list_any};
 ghost use Rattle.do_packet.specs.Met.{has_object};
 ghost use Rattle.do_machine.specs.Items.{exported, released};
 ghost use Rattle.do_machine.specs.Objects.{object_at};
 ghost use Rattle.do_rules.specs.Exporting.{exports_it, exports_item, exports_of, mine_of};
-ghost use Rattle.do_rules.specs.Exporting.{is_at, releases_item};
+ghost use Rattle.do_rules.specs.Exporting.{is_at, releases_item, releases_of};
 
 use do_base::{Items, NodeId, Oid, Oids};
 use do_class::{Name, Packet};
-use do_machine::Item;
+use do_machine::{Item, Shared};
 use std::alloc::{AllocError, Global};
 
 /// Whether an object is that of a node with a serial.
@@ -62,13 +62,13 @@ fn item_exports(from: NodeId, item: &Item, object: &Oid) -> bool
 }
 
 /// Whether one of the items exports an object of their sender.
-fn any_exports(from: NodeId, items: &Items<Item>, object: &Oid) -> bool
+fn any_exports(from: NodeId, items: &Items<Shared<Item>>, object: &Oid) -> bool
     ensures { result ≡ list_any (exports_item from object.now) items.now }
 {
     items
         .as_slice()
         .iter()
-        .any(|item| item_exports(from, item, object))
+        .any(|item| item_exports(from, item.get(), object))
 }
 
 /// Whether an object of a node has one of these serials.
@@ -102,13 +102,13 @@ fn item_releases(to: NodeId, item: &Item, object: &Oid) -> bool
 }
 
 /// Whether one of the items releases an object of their receiver.
-fn any_releases(to: NodeId, items: &Items<Item>, object: &Oid) -> bool
+fn any_releases(to: NodeId, items: &Items<Shared<Item>>, object: &Oid) -> bool
     ensures { result ≡ list_any (releases_item to object.now) items.now }
 {
     items
         .as_slice()
         .iter()
-        .any(|item| item_releases(to, item, object))
+        .any(|item| item_releases(to, item.get(), object))
 }
 
 /// The object of a name, as one of the sender's.
@@ -183,8 +183,61 @@ pub(crate) fn exported(
     Ok(objects)
 }
 
+/// The objects of a node with these serials.
+fn all_at(node: NodeId, serials: &Items<u64>) -> Result<Oids, AllocError>
+    ensures { IfOk result (λ os. os ≡ map (object_at node) serials.now) }
+{
+    let mut objects = Oids::new(serials.allocator());
+    for serial in serials.as_slice() {
+        objects.push(Oid {
+            node,
+            serial: *serial,
+        })?;
+    }
+    Ok(objects)
+}
+
+/// The receiver's objects that an item releases.
+fn releases_of(alloc: Global, to: NodeId, item: &Item) -> Result<Oids, AllocError>
+    ensures { IfOk result (λ os. os ≡ releases_of to item.now) }
+{
+    match item {
+        Item::Left { serial } => one_object(alloc, to, *serial),
+        Item::End { serials } => all_at(to, serials),
+        Item::Call { .. } => Ok(Oids::new(alloc)),
+        Item::Oneway { .. } => Ok(Oids::new(alloc)),
+        Item::Reply { .. } => Ok(Oids::new(alloc)),
+        Item::Raised { .. } => Ok(Oids::new(alloc)),
+        Item::RootAsk { .. } => Ok(Oids::new(alloc)),
+        Item::RootAnswer { .. } => Ok(Oids::new(alloc)),
+        Item::Ask { .. } => Ok(Oids::new(alloc)),
+        Item::Granted { .. } => Ok(Oids::new(alloc)),
+        Item::Gone { .. } => Ok(Oids::new(alloc)),
+        Item::Settled { .. } => Ok(Oids::new(alloc)),
+    }
+}
+
+/// The same, by what the item names from a node to another.
+pub(crate) fn released(
+    alloc: Global,
+    from: NodeId,
+    to: NodeId,
+    item: &Item,
+) -> Result<Oids, AllocError>
+    ensures { IfOk result (λ os. os ≡ released from to item.now) }
+{
+    let _from = from;
+    let objects = releases_of(alloc, to, item)?;
+    Ok(objects)
+}
+
 /// Whether one of the items from a node to another exports an object.
-pub(crate) fn one_exports(from: NodeId, to: NodeId, items: &Items<Item>, object: &Oid) -> bool
+pub(crate) fn one_exports(
+    from: NodeId,
+    to: NodeId,
+    items: &Items<Shared<Item>>,
+    object: &Oid,
+) -> bool
     ensures { result ≡
         list_any (λ item. has_object (exported from to item) object.now) items.now }
 {
@@ -193,7 +246,12 @@ pub(crate) fn one_exports(from: NodeId, to: NodeId, items: &Items<Item>, object:
 }
 
 /// Whether one of the items from a node to another releases an object.
-pub(crate) fn one_releases(from: NodeId, to: NodeId, items: &Items<Item>, object: &Oid) -> bool
+pub(crate) fn one_releases(
+    from: NodeId,
+    to: NodeId,
+    items: &Items<Shared<Item>>,
+    object: &Oid,
+) -> bool
     ensures { result ≡
         list_any (λ item. has_object (released from to item) object.now) items.now }
 {

@@ -6,7 +6,7 @@ ghost use Rattle.do_machine.specs.held.Refers.{objects_in, stack_objects, state_
 
 use do_base::{Items, Oids, Value, Values};
 use do_behave::{Answer, Frame, InvState, Invocation};
-use do_machine::{Lends, Node, Stored, Wanted};
+use do_machine::{Heap, Lends, Node, Wanted};
 use std::alloc::{AllocError, Global};
 
 /// The objects in a value. The calls go as deep as its lists nest.
@@ -73,12 +73,12 @@ fn invocation_objects(alloc: Global, invocation: &Invocation) -> Result<Oids, Al
 }
 
 /// The objects that the slots of stored objects name.
-pub(crate) fn heap_objects(heap: &Items<Stored>) -> Result<Oids, AllocError>
+pub(crate) fn heap_objects(heap: &Heap) -> Result<Oids, AllocError>
     ensures { IfOk result (λ os. os ≡ heap_objects heap.now) }
 {
     let mut objects = Oids::new(heap.allocator());
     for stored in heap.as_slice() {
-        objects.append(objects_in(heap.allocator(), &stored.slots)?)?;
+        objects.append(objects_in(heap.allocator(), &stored.get().slots)?)?;
     }
     Ok(objects)
 }

@@ -10,7 +10,7 @@ use crate::packing::weights::are_light;
 use crate::state::class_of;
 use do_base::{Items, Oid, Oids};
 use do_class::{ClassId, ClassTable};
-use do_machine::{Stored, Wanted};
+use do_machine::{Heap, Wanted};
 
 /// Whether a class, if it is known, is one of the table.
 fn is_class_in(table: &ClassTable, class: Option<ClassId>) -> bool
@@ -23,11 +23,11 @@ fn is_class_in(table: &ClassTable, class: Option<ClassId>) -> bool
 }
 
 /// Whether stored objects are of classes of the table.
-fn are_classed(table: &ClassTable, heap: &Items<Stored>) -> bool
+fn are_classed(table: &ClassTable, heap: &Heap) -> bool
     ensures { result ≡ list_all (λ x. nat_lt x.class.0 (length table.now)) heap.now }
 {
     for stored in heap.as_slice() {
-        if stored.class.0 >= table.count() {
+        if stored.get().class.0 >= table.count() {
             return false;
         }
     }
@@ -35,11 +35,11 @@ fn are_classed(table: &ClassTable, heap: &Items<Stored>) -> bool
 }
 
 /// Whether the slots of stored objects weigh less than packing can count.
-fn slots_are_light(heap: &Items<Stored>) -> bool
+fn slots_are_light(heap: &Heap) -> bool
     ensures { result ≡ list_all is_light heap.now }
 {
     for stored in heap.as_slice() {
-        if !are_light(&stored.slots) {
+        if !are_light(&stored.get().slots) {
             return false;
         }
     }

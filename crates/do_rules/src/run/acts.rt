@@ -93,14 +93,11 @@ impl<'a> Run<'a> {
         }
         if void {
             return Ok(Verdict::Returns {
-                result: Value::Nil,
+                value: Value::Nil,
                 outs,
             });
         }
-        Ok(Verdict::Returns {
-            result: value,
-            outs,
-        })
+        Ok(Verdict::Returns { value, outs })
     }
 
     /// What becomes of the next act.
@@ -115,7 +112,7 @@ impl<'a> Run<'a> {
                 writes,
             } => Ok(Verdict::Steps {
                 pc,
-                locals: values_in(&locals)?,
+                locals,
                 handler,
                 writes,
             }),

@@ -1,6 +1,7 @@
 //! Where the answer of an invocation goes.
 ghost use Rattle.std.specs.Prelude.{◌≡◌, IfOk};
-ghost use Rattle.do_machine.specs.run.Delivery.{below_answered, delivery, failing, popped, with_top};
+ghost use Rattle.do_machine.specs.run.Delivery.{below_answered, delivery, failing, popped};
+ghost use Rattle.do_machine.specs.run.Delivery.{with_top};
 ghost use Rattle.do_rules.specs.Judged.{run_of};
 
 use crate::effect::{only, showing};

@@ -7,7 +7,7 @@ use crate::judged::Run;
 use do_base::{Items, Locals, Oid, Value, Values, copy_value};
 use do_behave::{Frame, Held, InvState, Invocation, Reason};
 use do_class::{ClassId, ClassTable, MethodId};
-use do_machine::{Node, Stored};
+use do_machine::{Heap, Node, Shared, Stored};
 use do_packet::{Made, ObjList};
 use std::alloc::{AllocError, Global};
 
@@ -25,16 +25,26 @@ pub(crate) fn as_locals(values: &Values) -> Result<Frame, AllocError>
     Ok(locals)
 }
 
+/// So many nils.
+#[tactic(auto, using(crate::proofs::Padding::nil_steps))]
+fn nils(alloc: Global, count: usize) -> Result<Values, AllocError>
+    ensures { IfOk result (λ values. values ≡ replicate count Value.Nil) }
+{
+    let mut values = Values::new(alloc);
+    for _at in 0..count {
+        values.push(Value::Nil)?;
+    }
+    Ok(values)
+}
+
 /// Values in the first locals, and nil in the others.
-#[tactic(auto, using(crate::proofs::Padding::pad_steps))]
 fn first_locals(values: &Values) -> Result<Frame, AllocError>
     ensures { IfOk result (λ locals.
         locals ≡ values.now ++ replicate (16 - length values.now) Value.Nil) }
 {
+    let missing = LOCALS.saturating_sub(values.len());
     let mut locals = as_locals(values)?;
-    for _at in values.len()..LOCALS {
-        locals.push(Held::new(Value::Nil))?;
-    }
+    locals.append(as_locals(&nils(values.allocator(), missing)?)?)?;
     Ok(locals)
 }
 
@@ -89,18 +99,6 @@ pub(crate) fn pushed(invocation: Invocation, node: Node) -> Result<Node, AllocEr
     Ok(node)
 }
 
-/// So many nils.
-#[tactic(auto, using(crate::proofs::Padding::nil_steps))]
-fn nils(alloc: Global, count: usize) -> Result<Values, AllocError>
-    ensures { IfOk result (λ values. values ≡ replicate count Value.Nil) }
-{
-    let mut values = Values::new(alloc);
-    for _at in 0..count {
-        values.push(Value::Nil)?;
-    }
-    Ok(values)
-}
-
 /// An object of a class as it is made, with nil slots; one whose class is not there has none.
 #[tactic(auto, using(crate::proofs::Padding::as_many_nils))]
 pub fn blank(alloc: Global, table: &ClassTable, class: ClassId) -> Result<Made, AllocError>
@@ -114,20 +112,29 @@ pub fn blank(alloc: Global, table: &ClassTable, class: ClassId) -> Result<Made, 
     Ok(Made { class, slots })
 }
 
+/// An object as it is stored under a serial.
+fn stored_under(serial: u64, made: &Made) -> Result<Shared<Stored>, AllocError>
+    ensures { IfOk result (λ x. x ≡
+        record { serial = serial; class = made.now.class; slots = made.now.slots }) }
+{
+    let slots = made.slots.clone()?;
+    let stored = Stored {
+        serial,
+        class: made.class,
+        slots,
+    };
+    Shared::new(made.slots.allocator(), stored)
+}
+
 /// Objects under the serials from one on. A serial past what a number can be is want of memory too.
 #[tactic(auto, using(crate::proofs::Serials::serial_steps))]
-fn with_serials(serial: u64, new: &ObjList) -> Result<Items<Stored>, AllocError>
+fn with_serials(serial: u64, new: &ObjList) -> Result<Heap, AllocError>
     ensures { IfOk result (λ xs. xs ≡ with_serials serial new.now) }
 {
     let mut next = serial;
     let mut stored = Items::new(new.allocator());
     for made in new.as_slice() {
-        let slots = made.slots.clone()?;
-        stored.push(Stored {
-            serial: next,
-            class: made.class,
-            slots,
-        })?;
+        stored.push(stored_under(next, made)?)?;
         let Some(after) = next.checked_add(1) else {
             return Err(AllocError);
         };

@@ -97,7 +97,10 @@ fn answer_rule(answer: &Answer) -> Result<Verdict, AllocError>
     ensures { IfOk result (λ v. v ≡ answer_rule answer.now) }
 {
     Ok(match answer.clone()? {
-        Answer::Given { result, outs } => Verdict::Uses { result, outs },
+        Answer::Given { result, outs } => Verdict::Uses {
+            value: result,
+            outs,
+        },
         Answer::Raised(exc) => Verdict::Fails(exc),
     })
 }

@@ -6,7 +6,7 @@ ghost use Rattle.do_machine.specs.run.Changes.{with_slots, with_writes};
 use crate::lists::{item_at, with_item};
 use do_base::{Items, Values, copy_value};
 use do_behave::{Write, Writes};
-use do_machine::{Node, Stored};
+use do_machine::{Heap, Node, Shared, Stored};
 use std::alloc::AllocError;
 
 /// The slots with values written into them, in order.
@@ -23,24 +23,25 @@ fn written(writes: &[Write], slots: Values) -> Result<Values, AllocError>
 }
 
 /// Where the stored object of a serial stands.
-fn stored_at(heap: &Items<Stored>, serial: u64) -> Option<usize>
+fn stored_at(heap: &Heap, serial: u64) -> Option<usize>
     ensures index { result ≡ position (λ x. x.serial == serial) heap.now }
     ensures within { IfSome result (λ at. at < length heap.now) }
 {
     heap.as_slice()
         .iter()
-        .position(|stored| stored.serial == serial)
+        .position(|stored| stored.get().serial == serial)
 }
 
 /// An object with slots written.
-fn with_writes(writes: &Writes, stored: &Stored) -> Result<Stored, AllocError>
+fn with_writes(writes: &Writes, stored: &Stored) -> Result<Shared<Stored>, AllocError>
     ensures { IfOk result (λ x. x ≡ with_writes writes.now stored.now) }
 {
-    Ok(Stored {
+    let changed = Stored {
         serial: stored.serial,
         class: stored.class,
         slots: written(writes.as_slice(), stored.slots.clone()?)?,
-    })
+    };
+    Shared::new(stored.slots.allocator(), changed)
 }
 
 /// The node with slots of an object written; of one that is not stored none is.
@@ -52,7 +53,7 @@ pub(crate) fn with_slots(serial: u64, writes: &Writes, node: Node) -> Result<Nod
     let Some(at) = stored_at(&node.heap, serial) else {
         return Ok(node);
     };
-    let changed = with_writes(writes, item_at(&node.heap, at))?;
+    let changed = with_writes(writes, item_at(&node.heap, at).get())?;
     node.heap.set(at, changed);
     Ok(node)
 }

@@ -9,10 +9,10 @@ use crate::judged::Run;
 use crate::lend::lending::{lends_of, posting};
 use crate::node::own;
 use crate::run::changes::{goes_on, goes_to, stands, steps_to, uses};
-use crate::run::fresh::{as_locals, blank, fresh, pushed, with_objects};
+use crate::run::fresh::{blank, fresh, pushed, with_objects};
 use crate::run::slots::with_slots;
 use do_base::{CallId, Items, Locals, NodeId, Oid, Shown, Value, Values};
-use do_behave::{Answer, InvState, Reason, Waited};
+use do_behave::{Answer, Frame, Handler, InvState, Reason, Waited, Writes};
 use do_class::{ClassId, MethodId};
 use do_machine::{Effect, Item, Message, Node, Request, Verdict};
 use std::alloc::AllocError;
@@ -108,8 +108,8 @@ impl<'a> Run<'a> {
         outs: Locals,
         pc: u32,
     ) -> Result<Effect, AllocError>
-        ensures { IfOk result (λ e.
-            e ≡ effect_of (run_of self.now) (Verdict.Begins object method values.now into outs pc)) }
+        ensures { IfOk result (λ e. e ≡ effect_of (run_of self.now)
+            (Verdict.Begins object method values.now into outs pc)) }
     {
         let waits = stands(self.top, pc, into, outs, InvState::Below)?;
         let begun = fresh(object, method, Reason::Local, values)?;
@@ -126,42 +126,82 @@ impl<'a> Run<'a> {
         posting(peer, lends, Item::Oneway { message }, node)
     }
 
+    /// The top invocation goes on with a value in a local.
+    fn goes(&self, into: u8, value: Value, pc: u32) -> Result<Effect, AllocError>
+        ensures { IfOk result (λ e. e ≡ effect_of (run_of self.now) (Verdict.Goes into value pc)) }
+    {
+        let top = goes_on(self.top, into, value, pc)?;
+        Ok(only(self.with_top(top)?))
+    }
+
+    /// The top invocation goes on with its answer.
+    fn uses(&self, value: Value, outs: &Values) -> Result<Effect, AllocError>
+        ensures { IfOk result (λ e. e ≡ effect_of (run_of self.now) (Verdict.Uses value outs.now)) }
+    {
+        let top = uses(self.top, value, outs)?;
+        Ok(only(self.with_top(top)?))
+    }
+
+    /// The top invocation goes on with other locals, and slots of its object are written.
+    fn steps(
+        &self,
+        pc: u32,
+        locals: Frame,
+        handler: Option<Handler>,
+        writes: &Writes,
+    ) -> Result<Effect, AllocError>
+        ensures { IfOk result (λ e.
+            e ≡ effect_of (run_of self.now) (Verdict.Steps pc locals handler writes.now)) }
+    {
+        let after = self.with_top(steps_to(self.top, pc, locals, handler)?)?;
+        let object = &self.top.object;
+        Ok(only(with_slots(object.serial, writes, after)?))
+    }
+
+    /// An own object or none becomes the root.
+    fn vends(&self, root: Option<u64>, pc: u32) -> Result<Effect, AllocError>
+        ensures { IfOk result (λ e. e ≡ effect_of (run_of self.now) (Verdict.Vends root pc)) }
+    {
+        let mut after = self.with_top(goes_to(self.top, pc)?)?;
+        after.root = root;
+        Ok(only(after))
+    }
+
+    /// A value is shown.
+    fn says(&self, value: Value, pc: u32) -> Result<Effect, AllocError>
+        ensures { IfOk result (λ e. e ≡ effect_of (run_of self.now) (Verdict.Says value pc)) }
+    {
+        let after = self.with_top(goes_to(self.top, pc)?)?;
+        showing(Shown::Say(value), after)
+    }
+
+    /// The top invocation is popped, and gives a result and out values back.
+    fn returns(&self, value: Value, outs: Values) -> Result<Effect, AllocError>
+        ensures { IfOk result (λ e. e ≡ effect_of (run_of self.now) (Verdict.Returns value outs)) }
+    {
+        let answer = Answer::Given {
+            result: value,
+            outs,
+        };
+        self.delivery(answer, &self.top.reason)
+    }
+
     /// The effect of a verdict.
     pub(crate) fn effect_of(&self, verdict: Verdict) -> Result<Effect, AllocError>
         ensures { IfOk result (λ e. e ≡ effect_of (run_of self.now) verdict) }
     {
         match verdict {
-            Verdict::Goes { into, value, pc } => {
-                let top = goes_on(self.top, into, value, pc)?;
-                Ok(only(self.with_top(top)?))
-            }
-            Verdict::Uses {
-                result: given,
-                outs,
-            } => {
-                let top = uses(self.top, given, &outs)?;
-                Ok(only(self.with_top(top)?))
-            }
+            Verdict::Goes { into, value, pc } => self.goes(into, value, pc),
+            Verdict::Uses { value, outs } => self.uses(value, &outs),
             Verdict::Steps {
                 pc,
                 locals,
                 handler,
                 writes,
-            } => {
-                let after = self.with_top(steps_to(self.top, pc, as_locals(&locals)?, handler)?)?;
-                let object = &self.top.object;
-                Ok(only(with_slots(object.serial, &writes, after)?))
-            }
+            } => self.steps(pc, locals, handler, &writes),
             Verdict::Makes { class, into, pc } => self.makes(class, into, pc),
-            Verdict::Vends { root, pc } => {
-                let mut after = self.with_top(goes_to(self.top, pc)?)?;
-                after.root = root;
-                Ok(only(after))
-            }
-            Verdict::Says { value, pc } => {
-                let after = self.with_top(goes_to(self.top, pc)?)?;
-                showing(Shown::Say(value), after)
-            }
+            Verdict::Vends { root, pc } => self.vends(root, pc),
+            Verdict::Says { value, pc } => self.says(value, pc),
             Verdict::Asks {
                 peer,
                 request,
@@ -183,16 +223,7 @@ impl<'a> Run<'a> {
                 into,
                 pc,
             } => self.tells(peer, message, into, pc),
-            Verdict::Returns {
-                result: given,
-                outs,
-            } => {
-                let answer = Answer::Given {
-                    result: given,
-                    outs,
-                };
-                self.delivery(answer, &self.top.reason)
-            }
+            Verdict::Returns { value, outs } => self.returns(value, outs),
             Verdict::Fails(exc) => self.failing(exc, self.top.handler),
         }
     }

@@ -80,7 +80,8 @@ fn raised_arrival(
 
 /// An ask of the node for an object of a peer is over.
 fn wanted_arrival(from: NodeId, serial: u64, token: Token, node: Node) -> Result<Effect, AllocError>
-    ensures { IfOk result (λ e. e ≡ ask_over (wanted (object_at from serial) token.lender token.number) node) }
+    ensures { IfOk result (λ e.
+        e ≡ ask_over (wanted (object_at from serial) token.lender token.number) node) }
 {
     let wanted = Wanted {
         object: object_at(from, serial),

@@ -17,7 +17,8 @@ use do_machine::{Effect, LateCall, Node};
 use do_sig::Signature;
 use std::alloc::{AllocError, Global};
 
-/// A call, as its answer names it: the peer that answers, the number, and whether it was for a root.
+/// A call, as its answer names it: the peer that answers, the number, and whether it was for a
+/// root.
 #[derive(Clone, Copy, Debug)]
 pub(crate) struct Answered {
     pub(crate) peer: NodeId,

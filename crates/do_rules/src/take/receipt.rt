@@ -47,7 +47,7 @@ fn all_receiving(from: NodeId, names: &[Name], node: Node) -> Result<Effect, All
 }
 
 /// What a message that is received does, and the values that came in it.
-#[derive(Debug, Drop)]
+#[derive(Drop)]
 pub(crate) struct Received {
     pub(crate) effect: Effect,
     pub(crate) values: Values,

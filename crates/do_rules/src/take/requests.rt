@@ -28,7 +28,8 @@ fn refusing(exc: Exc, reason: Reason, node: Node) -> Result<Effect, AllocError>
 }
 
 impl<'a> Context<'a> {
-    /// The method that a message invokes, or why it is refused: the first rule that applies decides.
+    /// The method that a message invokes, or why it is refused: the first rule that applies
+    /// decides.
     fn admission(&self, from: NodeId, message: &Message, values: &Values) -> Result<MethodId, Exc>
         ensures { result ≡ admission (step_of self.now) from message.now values.now }
     {

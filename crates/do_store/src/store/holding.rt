@@ -1,6 +1,6 @@
 //! Holders of objects outside the slots.
-ghost use Rattle.std.specs.Prelude.{◌≡◌, [], ◌∷◌, ◌+◌, ◌-◌, ◌<◌, ◌^◌, Some};
-ghost use Rattle.do_store.specs.Names.{Stored, find_stored, replaced};
+ghost use Rattle.std.specs.Prelude.{◌≡◌, ◌≢◌, [], ◌∷◌, ◌+◌, ◌-◌, ◌<◌, ◌^◌, Some};
+ghost use Rattle.do_store.specs.Names.{Stored, find_stored, held_of, replaced};
 ghost use Rattle.std.specs.Prelude.{true, false, if◌then◌else◌};
 
 use super::Store;
@@ -20,6 +20,18 @@ fn after_holder(held: u64, comes: bool) -> u64
 }
 
 impl Store {
+    /// How many holders an own object has outside the slots; 0 where it is not stored.
+    pub fn holders(&self, oid: Oid) -> u64
+        ensures own { oid.node ≡ self.now.node
+            → result ≡ held_of (find_stored self.now.objects oid.serial) }
+        ensures foreign { oid.node ≢ self.now.node → result ≡ 0 }
+    {
+        match self.object(oid) {
+            Some(object) => object.held,
+            None => 0,
+        }
+    }
+
     /// Counts one holder of an object that came, or one less that went.
     fn count_holder(&mut self, serial: u64, comes: bool)
         requires { (o : Stored) × (find_stored self.old.objects serial ≡ Some o)

@@ -1,3 +1,4 @@
+use Rattle.do_node.proofs.Upgraded.{replayed_alike}
 use Rattle.do_node.proofs.WordsRead.{memory_told, no_command, usage_told}
 use Rattle.do_node.proofs.call.run.Goals as goal
 
@@ -19,3 +20,19 @@ returns-in-Err-Usage-clause-complete g c = λ files command text is asks writes 
 pub returns-in-Err-Memory-clause-usage : goal.returns-in-Err-Memory-clause-usage
 returns-in-Err-Memory-clause-usage g c =
     memory_told c.args.words.now (rw c.in-Err-Memory.field-0-is at c.in-Err-Memory.ensures.usage)
+
+pub returns-in-Err-Usage-clause-upgraded : goal.returns-in-Err-Usage-clause-upgraded
+returns-in-Err-Usage-clause-upgraded g c =
+    replayed_alike (g.H.Shelf.files c.args.shelf.now)
+
+pub returns-in-Err-Memory-clause-upgraded : goal.returns-in-Err-Memory-clause-upgraded
+returns-in-Err-Memory-clause-upgraded g c =
+    replayed_alike (g.H.Shelf.files c.args.shelf.now)
+
+pub returns-in-Ok-obey-clause-upgraded : goal.returns-in-Ok-obey-clause-upgraded
+returns-in-Ok-obey-clause-upgraded g c =
+    replayed_alike (g.H.Shelf.files c.args.shelf.now)
+
+pub returns-in-Err-clause-upgraded : goal.returns-in-Err-clause-upgraded
+returns-in-Err-clause-upgraded g c =
+    replayed_alike (g.H.Shelf.files c.args.shelf.now)

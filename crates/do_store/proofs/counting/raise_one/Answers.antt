@@ -15,7 +15,7 @@ returns c =
     record {
       books = λ queue p p' b bound is.
           let counted = b.counted c.args.serial c.in-Some.object.now stored in
-          let below = bound c.args.serial in
+          let below = bound c.args.serial (omega (arith, one)) in
           let sum = is c.args.serial in
           let more : c.saturating_add-more.result ≡ c.in-Some.object.now.named + 1 =
           omega (arith, c.saturating_add-more.ensures) in

@@ -12,7 +12,8 @@ invariant-loop-j l = record {
   faults : first_behind (method_code_fault l.k l.slots l.classes)
       (map (λ t. table_view t.now) (take l.j l.tables))
       (map (λ t. table_view t.now) (drop l.j l.tables))
-      ≡ first_among (method_code_fault l.k l.slots l.classes) (map (λ t. table_view t.now) l.tables);
+      ≡ first_among (method_code_fault l.k l.slots l.classes)
+      (map (λ t. table_view t.now) l.tables);
   made : l.codes ≡ filter_map (method_code l.slots l.classes)
       (map (λ t. table_view t.now) (take l.j l.tables));
   all : length l.codes ≡ l.j;

@@ -7,5 +7,5 @@ pub loop-class-preserved : goal.loop-class-preserved
 loop-class-preserved c =
     let added = made_at (λ (d : Class). d.name) c.args.classes.now c.loop-class.class
     c.loop-class.names c.name.result.now c.loop-class.invariant c.name.ensures in
-    c.in_ok-push.ensures.ok ∙ ap (λ name. c.loop-class.names ++ name ∷ []) c.in_ok-clone.ensures.cases
-    ∙ added
+    let pushed = c.in_ok-push.ensures.ok in
+    pushed ∙ ap (λ name. c.loop-class.names ++ name ∷ []) c.in_ok-clone.ensures.cases ∙ added

@@ -3,7 +3,7 @@ use Rattle.std.proofs.lemmas.Grind.{common_steps}
 use Rattle.std.proofs.lemmas.Result.{err_from_is_err_and}
 use Rattle.toml.specs.View.{view}
 use Rattle.do_document.proofs.InOrder.{required_absent}
-use Rattle.do_world.proofs.TopSteps.{version_right, version_wrong}
+use Rattle.do_world.proofs.TopLists.{version_right, version_wrong}
 use Rattle.do_world.proofs.reader.check_version.Goals as goal
 
 pub returns-in_err-version : goal.returns-in_err-version

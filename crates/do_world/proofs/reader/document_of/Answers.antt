@@ -1,5 +1,5 @@
 use Rattle.std.proofs.Common.{inr, refl}
-use Rattle.do_world.proofs.TopSteps.{bytes_read, bytes_refused}
+use Rattle.do_world.proofs.BytesTold.{bytes_read, bytes_refused}
 use Rattle.do_world.proofs.reader.document_of.Goals as goal
 
 pub returns-in-Ok : goal.returns-in-Ok

@@ -28,7 +28,8 @@ returns-then-not-is_free c =
     grind (arith, common_steps, c.if-not-is_free.true, c.is_free.ensures) in
     let fails : is_new_port c.args.seats.now (view c.in_ok-value.value.now) ≡ false =
     rw (port, taken) in
-    port_wrong _ _ _ (view c.in_ok-value.value.now) _ c.in_ok-value.ensures.1 fails c.wrong-then-not-is_free.ensures
+    port_wrong _ _ _ (view c.in_ok-value.value.now) _ c.in_ok-value.ensures.1 fails
+    c.wrong-then-not-is_free.ensures
 
 pub returns : goal.returns
 returns c =

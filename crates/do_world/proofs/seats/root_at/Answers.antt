@@ -37,8 +37,8 @@ returns-in-Some c =
     required_passed _ _ (is_class c.args.classes.now) _ (view c.in_ok-value.value.now)
     c.in_ok-text.text.now c.in_ok-value.ensures.1 c.in_ok-text.ensures passes in
     let text =
-    text_there (codes "root") (table_view c.args.table.now) (view c.in_ok-value.value.now) c.in_ok-text.text.now c.in_ok-value.ensures.1
-    c.in_ok-text.ensures in
+    text_there (codes "root") (table_view c.args.table.now) (view c.in_ok-value.value.now)
+    c.in_ok-text.text.now c.in_ok-value.ensures.1 c.in_ok-text.ensures in
     (none, (rw (text, named), c.in-Some.ensures.known))
 
 pub returns : goal.returns

@@ -5,7 +5,8 @@ use Rattle.do_rules.proofs.held.kept.kept.Given as goal
 
 abbrev pub invariant-loop-rounds : goal.invariant-loop-rounds
 invariant-loop-rounds l =
-    struck_by l.rounds (entry_in l.state l.node) l.node l.heap ≡ kept (entry_in l.state l.node) l.node
+    struck_by l.rounds (entry_in l.state l.node) l.node l.heap
+    ≡ kept (entry_in l.state l.node) l.node
 
 abbrev pub decreases-loop-rounds : goal.decreases-loop-rounds
 decreases-loop-rounds l = l.rounds

@@ -1,8 +1,7 @@
-use Rattle.std.proofs.Common.{◌≡◌, take, map, filter, not, ◌==◌}
-use Rattle.do_machine.specs.held.Kept.{stays}
-use Rattle.do_rules.specs.Judged.{entry_in}
+use Rattle.std.proofs.Common.{◌≡◌, take, filter}
+use Rattle.do_rules.specs.HeldUp.{stays_by}
 use Rattle.do_rules.proofs.held.kept.struck.Given as goal
 
-abbrev pub invariant-loop-object : goal.invariant-loop-object
-invariant-loop-object l =
-    l.left ≡ filter (stays (entry_in l.state l.node) l.node l.heap) (take l.object-index l.object-items)
+abbrev pub invariant-loop-stored : goal.invariant-loop-stored
+invariant-loop-stored l =
+    l.left ≡ filter (stays_by l.held_up l.node l.heap) (take l.stored-index l.stored-items)

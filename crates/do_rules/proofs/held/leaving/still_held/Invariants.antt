@@ -1,4 +1,4 @@
-use Rattle.std.proofs.Common.{◌≡◌, take, map, filter, not, ◌==◌}
+use Rattle.std.proofs.Common.{◌≡◌, filter, take}
 use Rattle.do_packet.specs.Met.{has_object}
 use Rattle.do_rules.proofs.held.leaving.still_held.Given as goal
 

@@ -27,8 +27,8 @@ invariant_of-self c =
     let bounds = rw (← c.self.view_is) at c.requires.bound in
     let known = rw (← c.self.view_is) at c.requires.stored in
     let b1 = r.books c.self.inside.queue (λ n. 0) (λ n. values_name node n c.args.slots)
-    c.self.invariant (λ n. let b = bounds n in omega arith) (λ n. omega arith) in
-    let serial : c.next-serial.result ≡ raised.next = c.next-serial.ensures ∙ sym r.next in
+    c.self.invariant (λ n above. let b = bounds n above in omega arith) (λ n. omega arith) in
+    let serial : c.next-serial.result ≡ raised.next = c.next-serial.ensures.next ∙ sym r.next in
     let posted = c.post.ensures.serials ∙ ap (λ m. c.self.inside.queue.serials ++ m ∷ []) serial in
     rw c.add.ensures.objects
     (books-added node raised.objects raised.spare c.add.new.self.spare c.self.inside.queue

@@ -52,7 +52,7 @@ invariant_of-self c =
     subst (λ (l : List Value). c.args.at < length l) (sym (ap (λ (s : Stored). s.slots) f.same))
     there.2 in
     let b1 = r.books c.self.inside.queue (λ n. 0) (λ n. value_names node n c.args.value)
-    c.self.invariant (λ n. let b = bounds n in omega arith) (λ n. omega arith) in
+    c.self.invariant (λ n above. let b = bounds n above in omega arith) (λ n. omega arith) in
     let w : Slotted node raised.objects (λ n. value_names node n c.args.value)
     (λ n. value_names node n old) serial c.args.at c.args.value old f.object = record {
       stored = f.stored;

@@ -1,7 +1,0 @@
--- The items so far.
-use Rattle.std.proofs.Common.{◌≡◌, take}
-use Rattle.do_local.proofs.copies.copy_items.Given as goal
-
-abbrev pub invariant-loop-item : goal.invariant-loop-item
-invariant-loop-item l =
-    l.copies ≡ take l.item-index l.item-items

@@ -1,0 +1,3 @@
+pub mod Takes
+pub mod Steps
+pub mod Lines

@@ -1,5 +1,0 @@
-use Rattle.std.proofs.Common.{length, ◌-◌}
-use Rattle.do_rules.proofs.run.arguments.+inputs_from.Given as goal
-
-abbrev pub decreases-inputs_from : goal.decreases-inputs_from
-decreases-inputs_from l = length l.values.now

@@ -1,0 +1,112 @@
+//! The own objects of a node that are held up beside the root and slots, as lists.
+ghost use Rattle.std.specs.Prelude.{◌≡◌, IfOk};
+ghost use Rattle.std.specs.List.{flat_map};
+ghost use Rattle.do_machine.specs.Items.{exported, released};
+ghost use Rattle.do_machine.specs.State.{node, queue};
+ghost use Rattle.do_rules.specs.HeldUp.{entered, held_of, held_up, named_by};
+
+use crate::node::entry::is_reached;
+use crate::node::is_open;
+use crate::node::naming::{exported, released};
+use crate::node::objects::stack_objects;
+use crate::state::{node_at, queue};
+use do_base::{Items, NodeId, Oids};
+use do_machine::{Item, Node, Shared, State};
+use std::alloc::{AllocError, Global};
+
+/// The objects of a home that a peer holds over an open end.
+fn held_at(alloc: Global, state: &State, home: NodeId, peer: NodeId) -> Result<Oids, AllocError>
+    ensures { IfOk result (λ os. os ≡ held_of home (node state.now peer)) }
+{
+    let Some(holder) = node_at(state, peer) else {
+        return Ok(Oids::new(alloc));
+    };
+    if !is_open(holder, home) {
+        return Ok(Oids::new(alloc));
+    }
+    let held = holder
+        .held
+        .as_slice()
+        .iter()
+        .copied()
+        .filter(|object| home == object.node);
+    Ok(Oids::from_vec(held.collect(alloc)?))
+}
+
+/// The objects of their sender that items export.
+fn all_exported(from: NodeId, to: NodeId, items: &Items<Shared<Item>>) -> Result<Oids, AllocError>
+    ensures { IfOk result (λ os. os ≡ flat_map (exported from to) items.now) }
+{
+    let mut objects = Oids::new(items.allocator());
+    for item in items.as_slice() {
+        objects.append(exported(items.allocator(), from, to, item.get())?)?;
+    }
+    Ok(objects)
+}
+
+/// The objects of their receiver that items release.
+fn all_released(from: NodeId, to: NodeId, items: &Items<Shared<Item>>) -> Result<Oids, AllocError>
+    ensures { IfOk result (λ os. os ≡ flat_map (released from to) items.now) }
+{
+    let mut objects = Oids::new(items.allocator());
+    for item in items.as_slice() {
+        objects.append(released(items.allocator(), from, to, item.get())?)?;
+    }
+    Ok(objects)
+}
+
+/// The objects of a home that are on their way to a peer.
+fn going(alloc: Global, state: &State, home: NodeId, peer: NodeId) -> Result<Oids, AllocError>
+    ensures { IfOk result (λ os. os ≡ named_by (exported home peer) (queue state.now home peer)) }
+{
+    match queue(state, home, peer) {
+        Some(items) => all_exported(home, peer, items),
+        None => Ok(Oids::new(alloc)),
+    }
+}
+
+/// The objects of a home that are on their way back from a peer.
+fn coming(alloc: Global, state: &State, home: NodeId, peer: NodeId) -> Result<Oids, AllocError>
+    ensures { IfOk result (λ os. os ≡ named_by (released peer home) (queue state.now peer home)) }
+{
+    match queue(state, peer, home) {
+        Some(items) => all_released(peer, home, items),
+        None => Ok(Oids::new(alloc)),
+    }
+}
+
+/// The objects of a home that have an entry for a peer.
+fn entered(alloc: Global, state: &State, home: NodeId, peer: NodeId) -> Result<Oids, AllocError>
+    ensures { IfOk result (λ os. os ≡ entered state.now home peer) }
+{
+    if !is_reached(state, peer, home) {
+        return Ok(Oids::new(alloc));
+    }
+    let mut under_way = going(alloc, state, home, peer)?;
+    under_way.append(coming(alloc, state, home, peer)?)?;
+    let mut objects = held_at(alloc, state, home, peer)?;
+    objects.append(under_way)?;
+    Ok(objects)
+}
+
+/// The objects of a node that have an entry for a peer.
+fn all_entered(state: &State, node: &Node) -> Result<Oids, AllocError>
+    ensures { IfOk result (λ os.
+        os ≡ flat_map (entered state.now node.now.port) node.now.open_to) }
+{
+    let alloc = node.heap.allocator();
+    let mut objects = Oids::new(alloc);
+    for peer in node.open_to.as_slice() {
+        objects.append(entered(alloc, state, node.port, *peer)?)?;
+    }
+    Ok(objects)
+}
+
+/// The objects of a node that an invocation names or that have an entry for a peer.
+pub(crate) fn held_up(state: &State, node: &Node) -> Result<Oids, AllocError>
+    ensures { IfOk result (λ os. os ≡ held_up state.now node.now) }
+{
+    let mut objects = stack_objects(&node.stack)?;
+    objects.append(all_entered(state, node)?)?;
+    Ok(objects)
+}

@@ -1,0 +1,8 @@
+use Rattle.std.proofs.Common.{◌∙◌}
+use Rattle.do_world.proofs.CounterSound.{sound_by_parts}
+use Rattle.do_world.proofs.counter_world.counter.Goals as goal
+
+pub returns-clause-sound : goal.returns-clause-sound
+returns-clause-sound c =
+    sound_by_parts _ _ _ (c.table.view_is ∙ c.in_ok-table.ensures) c.in_ok-counter_nodes.ensures
+    (c.new-program.ensures ∙ c.in_ok-codes.ensures)
