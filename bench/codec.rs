@@ -1,6 +1,7 @@
 // A plain codec of packets, frames and streams, for `bench/codec.sh`: the same format, read and
-// written in ordinary Rust. It prints what it answers to payloads and streams that are cut or changed
-// at each byte, as `crates/codec_speed` does, and then what frames cost, on standard error.
+// written in ordinary Rust. It prints what it answers to payloads and streams that are cut or
+// changed at each byte and what it writes for drawn frames, as `crates/codec_speed` does, and then
+// what frames cost, on standard error.
 use std::collections::{HashMap, VecDeque};
 use std::hint::black_box;
 
@@ -709,6 +710,150 @@ fn all_streams() -> u64 {
     sum
 }
 
+// ---- drawn frames, written and read in their order
+
+/// Draws the same numbers as `crates/drawn_numbers`.
+struct Generator {
+    state: u64,
+}
+
+impl Generator {
+    fn below(&mut self, bound: u64) -> u64 {
+        self.state =
+            self.state.wrapping_mul(6364136223846793005).wrapping_add(1442695040888963407);
+        (self.state >> 33) % bound
+    }
+
+    fn number(&mut self) -> u64 {
+        let bound = [3, 1_000, 2_147_483_648][self.below(3) as usize];
+        1 + self.below(bound)
+    }
+
+    fn signed(&mut self) -> i64 {
+        let high = self.below(2_147_483_648) as i64;
+        let low = self.below(2_147_483_648) as i64;
+        [high * low, -(high * low), low % 100][self.below(3) as usize]
+    }
+
+    fn text(&mut self) -> Vec<u8> {
+        let length = self.below(20);
+        (0..length).map(|_| self.below(256) as u8).collect()
+    }
+
+    fn class(&mut self) -> u32 {
+        self.below(2) as u32
+    }
+
+    fn name(&mut self) -> Name {
+        match self.below(4) {
+            0 | 1 => Name::Mine { serial: 1 + self.below(200), class: self.class() },
+            2 => Name::Yours { serial: self.number() },
+            _ => Name::Lent {
+                port: 7_003 + self.below(10) as u16,
+                serial: self.number(),
+                class: self.class(),
+                token: self.number(),
+            },
+        }
+    }
+
+    /// A value that is no list.
+    fn plain(&mut self, copies: u64, names: u64) -> Part {
+        match self.below(5) {
+            1 => Part::Num(self.signed()),
+            2 => Part::Text(self.text()),
+            3 if copies > 0 => Part::Copy(self.below(copies)),
+            4 if names > 0 => Part::Named(self.below(names)),
+            _ => Part::Nil,
+        }
+    }
+
+    fn part(&mut self, copies: u64, names: u64) -> Part {
+        let mut part = self.plain(copies, names);
+        let most = 1 + self.below(9);
+        for _ in 0..self.below(most) {
+            let count = self.below(3);
+            let mut items: Vec<Part> = (0..count).map(|_| self.plain(copies, names)).collect();
+            items.push(part);
+            part = Part::List(items);
+        }
+        part
+    }
+
+    fn parts(&mut self, count: u64, copies: u64, names: u64) -> Vec<Part> {
+        (0..count).map(|_| self.part(copies, names)).collect()
+    }
+
+    fn copied(&mut self, copies: u64, names: u64) -> Copied {
+        let class = self.class();
+        let slots = if class == 0 { 2 } else { 0 };
+        Copied { class, slots: self.parts(slots, copies, names) }
+    }
+
+    fn packet(&mut self) -> Packet {
+        let named = self.below(5);
+        let names = (0..named).map(|_| self.name()).collect();
+        let count = self.below(3);
+        let copies = (0..count).map(|_| self.copied(count, named)).collect();
+        let values = self.below(5);
+        let values = self.parts(values, count, named);
+        Packet { names, copies, values }
+    }
+
+    fn exception(&mut self) -> Exc {
+        match self.below(9) {
+            7 => Exc::User(self.text()),
+            number => Exc::Plain(number + 1),
+        }
+    }
+
+    fn with_packet(&mut self, kind: u64) -> Frame {
+        let (call, serial) = (self.number(), self.number());
+        let selector = [&b"go"[..], b"add:and:", b"_9:"][self.below(3) as usize].to_vec();
+        let packet = self.packet();
+        match kind {
+            0 => Frame::Call { call, serial, selector, packet },
+            1 => Frame::Oneway { serial, selector, packet },
+            2 => Frame::Reply { call, packet },
+            _ => Frame::RootAnswer { call, packet },
+        }
+    }
+
+    fn with_loan(&mut self, kind: u8) -> Frame {
+        let serial = self.number();
+        let port = 7_003 + self.below(10) as u16;
+        Frame::Held { kind, serial, token: Token { port, number: self.number() } }
+    }
+
+    fn frame(&mut self) -> Frame {
+        let kind = self.below(12);
+        match kind {
+            0..=3 => self.with_packet(kind),
+            4..=6 => self.with_loan(kind as u8 + 3),
+            7 => Frame::Raised { call: self.number(), exc: self.exception() },
+            8 => Frame::RootAsk { call: self.number() },
+            9 => Frame::Release { serial: self.number(), amount: self.number() },
+            10 => Frame::Settle { number: self.number() },
+            _ => Frame::Shutdown,
+        }
+    }
+}
+
+/// The sum of the bytes of so many drawn frames, each of which is read again.
+fn drawn_frames(count: u32) -> u64 {
+    let world = World { slots: vec![2, 0], from: 7_001, to: 7_002 };
+    let mut generator = Generator { state: 1 };
+    let (mut sent, mut known) = (Recent::default(), Recent::default());
+    let mut sum = 14_695_981_039_346_656_037;
+    for _ in 0..count {
+        let text = write(&generator.frame(), &mut sent);
+        assert!(read_raw(&world, &mut known, text[0], &text[5..]).is_ok());
+        assert!(sent.pairs == known.pairs);
+        sum = text.iter().fold(sum, |sum, byte| with_answer(sum, u64::from(*byte)));
+    }
+    sum
+}
+
 // ---- what frames cost
 
 #[repr(C)]
@@ -770,6 +915,28 @@ fn measure(what: &str, names: u64, values: u64, bytes: usize, turns: u64) {
     eprintln!("{what}: {turns} frames, {} ns", end - start);
 }
 
+/// Takes a frame of a text of 100,000 bytes from a stream that comes in such pieces.
+fn measure_pieces(what: &str, piece: usize, turns: usize) {
+    let text = write(&call(0, 0, 100_000, 0), &mut Recent::default());
+    let mut reader = Reader::default();
+    reader.feed(&[13, 0, 0, 0, 1, 2]);
+    let start = processor_time();
+    for _ in 0..turns {
+        let mut frames = 0;
+        for part in black_box(&text).chunks(piece) {
+            reader.feed(part);
+            match reader.next() {
+                Ok(Some(_)) => frames += 1,
+                Ok(None) => (),
+                Err(_) => panic!("no stream"),
+            }
+        }
+        assert!(frames == 1);
+    }
+    let end = processor_time();
+    eprintln!("{what}: {turns} frames, {} ns", end - start);
+}
+
 /// Copies each of so many texts of 100,000 bytes twice.
 fn measure_copies(what: &str, texts: usize, turns: usize) {
     let texts = vec![vec![7u8; 100_000]; texts];
@@ -785,6 +952,7 @@ fn measure_copies(what: &str, texts: usize, turns: usize) {
 fn main() {
     println!("payloads {}", all_payloads());
     println!("streams {}", all_streams());
+    println!("frames {}", drawn_frames(10_000));
     measure("call of two numbers", 0, 2, 0, 20_000);
     measure("text of 100,000 bytes", 0, 0, 100_000, 400);
     measure("1 name", 1, 0, 0, 20_000);
@@ -795,6 +963,9 @@ fn main() {
     measure("16 values", 0, 16, 0, 10_000);
     measure("256 values", 0, 256, 0, 1_000);
     measure("4,096 values", 0, 4_096, 0, 60);
+    measure_pieces("a text in pieces of 65,536", 65_536, 200);
+    measure_pieces("a text in pieces of 256", 256, 200);
+    measure_pieces("a text in pieces of 1", 1, 20);
     measure_copies("two copies of one text of 100,000 bytes", 1, 400);
     measure_copies("two copies of each of 400 such texts", 400, 400);
 }

@@ -1,5 +1,6 @@
 #!/bin/sh
-# Prints a schedule over :counter of N whole calls of `go:`, 17 single steps each but the first, which has 16.
+# Prints a schedule over :counter of N whole calls of `go:`, 17 single steps each but the first,
+# which has 16.
 # sh bench/counter_cycles.sh N
 awk -v n="${1:-1000}" 'BEGIN {
     print "schedule 2"

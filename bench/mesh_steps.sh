@@ -1,6 +1,7 @@
 #!/bin/sh
-# Replays schedules of up to a million single steps over :mesh, and prints for each the greatest memory, and for
-# the steps that it has more than the one before what a step took, with the ratio to the first.
+# Replays schedules of up to a million single steps over :mesh, three times each, and prints for
+# each its least processor time and greatest memory, and for the steps that it has more than the
+# one before what a step took, with the ratio to the first.
 # sh bench/mesh_steps.sh          the table; the program must be built (./replay builds it)
 # sh bench/mesh_steps.sh STEPS    the schedule of so many steps, on standard output
 set -e
@@ -36,14 +37,16 @@ trap 'rm -rf "$work"' EXIT
 for steps in 100000 200000 400000 600000 800000 1000000; do
     schedule "$steps" > "$work/schedule"
     for _ in 1 2 3; do
-        /usr/bin/time -f "$steps %e %M" "$program" replay :mesh "$work/schedule" 2>> "$work/figures" > "$work/transcript"
+        /usr/bin/time -f "$steps %U %S %M" "$program" replay :mesh "$work/schedule" 2>> "$work/figures" \
+            > "$work/transcript"
     done
     if grep -q '^skip$' "$work/transcript"; then echo "a line of the schedule does nothing" >&2; exit 1; fi
 done
 awk '
+    { took = $2 + $3 }
     !($1 in time) { order[++count] = $1 }
-    !($1 in time) || $2 < time[$1] { time[$1] = $2 }
-    $3 > memory[$1] { memory[$1] = $3 }
+    !($1 in time) || took < time[$1] { time[$1] = took }
+    $4 > memory[$1] { memory[$1] = $4 }
     END {
         printf "%10s %9s %16s %6s %9s\n", "steps", "time", "a step of them", "ratio", "memory"
         for (i = 1; i <= count; i++) {

@@ -1,5 +1,5 @@
-// A plain interpreter of the method language in Rust, over the same values, with the same limits, and
-// with locals that are changed in place. `sh bench/acts.sh` compares it with `Program`.
+// A plain interpreter of the method language in Rust, over the same values, with the same limits,
+// and with locals that are changed in place. `sh bench/acts.sh` compares it with `Program`.
 use std::hint::black_box;
 use std::rc::Rc;
 
@@ -293,8 +293,8 @@ fn processor_time() -> i64 {
     time.seconds * 1_000_000_000 + time.nanoseconds
 }
 
-/// Does acts of a method, at most `acts` and only before the one that ends it, and says how many. Behind
-/// a message the method goes on at once.
+/// Does acts of a method, at most `acts` and only before the one that ends it, and says how many.
+/// Behind a message the method goes on at once.
 #[inline(never)]
 fn drive(program: &Program, inv: &mut Invocation, slots: &mut [Value], acts: u32) -> u32 {
     for done in 0..acts {

@@ -1,5 +1,5 @@
-// Packing and unpacking in plain Rust: the same messages from the same objects, with std's HashMap in
-// its usual, keyed hash. `sh bench/packing.sh` compares it with `pack` and `unpack`.
+// Packing and unpacking in plain Rust: the same messages from the same objects, with std's HashMap
+// in its usual, keyed hash. `sh bench/packing.sh` compares it with `pack` and `unpack`.
 use std::collections::HashMap;
 use std::hint::black_box;
 use std::rc::Rc;

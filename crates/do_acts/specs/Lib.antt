@@ -1,5 +1,6 @@
 pub mod Limited
 pub mod Rows
+pub mod Ports
 pub mod Steps
 pub mod Places
 pub mod Faults

@@ -8,6 +8,7 @@
 mod answers;
 mod fault;
 mod limits;
+mod ports;
 mod rows;
 mod selectors;
 mod steps;
@@ -15,6 +16,7 @@ mod steps;
 pub use answers::{answer, send};
 pub use fault::CoreFault;
 pub use limits::is_limited;
-pub use rows::{Row, read_rows, show_rows};
+pub use ports::port_in;
+pub use rows::{Row, read_list, read_rows, show_list, show_rows};
 pub use selectors::selector_in;
 pub use steps::{answered, changes, step};

@@ -80,13 +80,13 @@ token_at = both serial_at (λ serial. mapped token (both port_at (λ port. seria
 
 -- ---- each kind
 
-unfoldable pub call_at : Surroundings → List Pair → Reader (Unit {0}) Frame
+abbrev pub call_at : Surroundings → List Pair → Reader (Unit {0}) Frame
 call_at s table = mapped call (both serial_at (λ number. message_at s table))
 
-unfoldable pub oneway_at : Surroundings → List Pair → Reader (Unit {0}) Frame
+abbrev pub oneway_at : Surroundings → List Pair → Reader (Unit {0}) Frame
 oneway_at s table = mapped oneway (message_at s table)
 
-unfoldable pub reply_at : Surroundings → List Pair → Reader (Unit {0}) Frame
+abbrev pub reply_at : Surroundings → List Pair → Reader (Unit {0}) Frame
 reply_at s table = mapped (λ p. Reply p.0 p.1) (answer_at s table)
 
 unfoldable pub raised_at : Reader (Unit {0}) Frame
@@ -95,7 +95,7 @@ raised_at = mapped (λ p. Raised p.0 p.1) (both serial_at (λ number. exc_at))
 unfoldable pub root_ask_at : Reader (Unit {0}) Frame
 root_ask_at = mapped (λ number. RootAsk number) serial_at
 
-unfoldable pub root_answer_at : Surroundings → List Pair → Reader (Unit {0}) Frame
+abbrev pub root_answer_at : Surroundings → List Pair → Reader (Unit {0}) Frame
 root_answer_at s table = mapped (λ p. RootAnswer p.0 p.1) (answer_at s table)
 
 unfoldable pub retain_at : Reader (Unit {0}) Frame

@@ -3,3 +3,4 @@ mod Rooms
 mod Threads
 mod KeptClasses
 mod LendsOff
+mod NextRow

@@ -1,6 +1,7 @@
 //! A map by foreign objects: counts of them, or their classes.
 ghost use Rattle.std.specs.Prelude.{◌≡◌, ◌+◌, ◌-◌, ◌<◌, ◌≤◌, ◌^◌, OnOk, OnErr, IfOk, IsSome};
-ghost use Rattle.std.specs.Prelude.{map as each};
+ghost use Rattle.std.specs.Prelude.{map as each, slice_get, length};
+ghost use Rattle.std.specs.Option.{option_copied};
 ghost use Rattle.std.specs.FinMap as map;
 ghost use Rattle.do_export.specs.Counts.{count_of};
 ghost use Rattle.do_import.specs.ByObject.{object_of, added, taken_off, first_kept, left_of};
@@ -58,6 +59,20 @@ impl<V: Copy + Drop> ByObject<V> {
         ensures { result ≡ self.now.spare }
     {
         self.rows.spare() as u64
+    }
+
+    /// How many objects have a value.
+    fn len(&self) -> usize
+        ensures { result ≡ length (map.entries self.now.rows) }
+    {
+        self.rows.len()
+    }
+
+    /// The object at a place, by port and serial, with its value. None from their number on.
+    fn row(&self, at: usize) -> Option<&((NodeId, u64), V)>
+        ensures { option_copied result ≡ slice_get (map.entries self.now.rows) at }
+    {
+        self.rows.row(at)
     }
 
     /// The value of an object. None exactly where it has none.
@@ -144,7 +159,10 @@ impl ByObject<u64> {
         ensures { IfOk result (λ oids. oids ≡ each object_of (map.keys self.now.rows)) }
     {
         let mut oids = Items::new(self.rows.allocator());
-        for row in self.rows.rows() {
+        for at in 0..self.len() {
+            let Some(row) = self.row(at) else {
+                unreachable!();
+            };
             let (node, serial) = row.0;
             oids.push(Oid { node, serial })?;
         }

@@ -1,6 +1,7 @@
 //! The names of foreign objects that a node lent to third nodes.
 ghost use Rattle.std.specs.Prelude.{◌≡◌, ◌+◌, ◌<◌, ◌≤◌, ◌^◌, is_some, OnOk, OnErr, MatchOption};
-ghost use Rattle.std.specs.Prelude.{Some, if◌then◌else◌};
+ghost use Rattle.std.specs.Prelude.{Some, if◌then◌else◌, slice_get, length};
+ghost use Rattle.std.specs.Option.{option_copied};
 ghost use Rattle.std.specs.FinMap as map;
 ghost use Rattle.do_export.specs.Counts.{HasNoneFrom, IsLowestFrom, others_of};
 
@@ -106,11 +107,18 @@ impl Lends {
         self.lends.get(&(borrower.port(), token)).copied()
     }
 
-    /// All lends, by borrower and number.
-    pub(crate) fn rows(&self) -> &[((u16, u64), Oid)]
-        ensures { result.now ≡ map.entries self.now.lends }
+    /// How many lends there are.
+    pub(crate) fn len(&self) -> usize
+        ensures { result ≡ length (map.entries self.now.lends) }
     {
-        self.lends.rows()
+        self.lends.len()
+    }
+
+    /// The lend at a place, by borrower and number. None exactly from their number on.
+    pub(crate) fn row(&self, at: usize) -> Option<&((u16, u64), Oid)>
+        ensures { option_copied result ≡ slice_get (map.entries self.now.lends) at }
+    {
+        self.lends.row(at)
     }
 
     /// The number of the borrower's first lend from `from` on. None exactly where there is none.

@@ -1,7 +1,6 @@
 -- A state of which one station is another.
 use Rattle.std.proofs.Common.{◌≡◌, ℕ, ◌==◌, List, [], ◌++◌, Some, None, ap, sym, ◌∙◌}
 use Rattle.std.proofs.lemmas.List.{append-nil}
-use Rattle.do_class.specs.declared.ids.ClassId.{ClassId}
 use Rattle.do_machine.specs.declared.item.Item.{Item}
 use Rattle.do_machine.specs.declared.state.Queue.{Queue}
 use Rattle.std.specs.Prelude.{position, slice_get, slice_set}
@@ -40,9 +39,4 @@ pub queue_stays : (q r : Queue) (more : List Item) → r ≡ q → more ≡ []
 queue_stays q r more same none =
     same ∙ rw none (ap (λ items. record q { items = items }) (sym (append-nil q.items)))
 
--- classes behind which none comes
-pub classes_stay : (classes after more : List ClassId) → after ≡ classes → more ≡ []
-    → after ≡ classes ++ more
-classes_stay classes after more same none = same ∙ rw none (sym (append-nil classes))
-
-pub ruleset none_steps = (queue_stays, classes_stay)
+pub ruleset none_steps = (queue_stays)

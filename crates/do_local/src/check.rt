@@ -53,8 +53,8 @@ fn object_line(node: &Node, stored: &Stored) -> Result<ObjLine, AllocError>
 fn object_lines(node: &Node) -> Result<ObjLines, AllocError>
     ensures { IfOk result (λ lines. lines ≡ map (object_line node.now) node.now.heap) }
 {
-    let mut lines = ObjLines::new(node.heap.allocator());
-    for stored in node.heap.as_slice() {
+    let mut lines = ObjLines::new(node.stack.allocator());
+    for stored in node.heap.get().as_slice() {
         lines.push(object_line(node, stored.get())?)?;
     }
     Ok(lines)
@@ -64,8 +64,8 @@ fn object_lines(node: &Node) -> Result<ObjLines, AllocError>
 fn names_of(node: &Node) -> Result<Oids, AllocError>
     ensures { IfOk result (λ names. names ≡ map (λ x. own node.now x.serial) node.now.heap) }
 {
-    let mut names = Oids::new(node.heap.allocator());
-    for stored in node.heap.as_slice() {
+    let mut names = Oids::new(node.stack.allocator());
+    for stored in node.heap.get().as_slice() {
         names.push(own(node, stored.get().serial))?;
     }
     Ok(names)
@@ -79,7 +79,7 @@ fn entered(state: &State, peer: NodeId, names: &Oids) -> Result<Oids, AllocError
 {
     let mut objects = Oids::new(names.allocator());
     for object in names.as_slice() {
-        if !has_entry(state, peer, object) {
+        if !has_entry(state, peer, object)? {
             continue;
         }
         objects.push(*object)?;
@@ -114,7 +114,7 @@ fn all_entries(state: &State, node: &Node) -> Result<EntryList, AllocError>
     ensures { IfOk result (λ entries.
         entries ≡ flat_map (entries_for state.now node.now) node.now.open_to) }
 {
-    let mut entries = EntryList::new(node.heap.allocator());
+    let mut entries = EntryList::new(node.stack.allocator());
     for peer in node.open_to.as_slice() {
         entries.append(entries_for(state, node, *peer)?)?;
     }

@@ -8,7 +8,9 @@ ghost use Rattle.do_local.specs.Sending.{sending};
 use crate::stations::{station_at, station_in, with_items};
 use do_base::{Items, NodeId, ShownList};
 use do_class::ClassId;
-use do_machine::{Effect, Item, Node, Outcome, Parcel, Queue, Shared, State, Station, Stepped};
+use do_machine::{
+    Classes, Effect, Item, Node, Outcome, Parcel, Queue, Shared, State, Station, Stepped,
+};
 use do_rules::leaving;
 use std::alloc::AllocError;
 
@@ -58,8 +60,8 @@ fn all_with_sent(
 fn born(next: u64, node: &Node) -> Result<Items<ClassId>, AllocError>
     ensures { IfOk result (λ classes. classes ≡ born next node.now) }
 {
-    let mut classes = Items::new(node.heap.allocator());
-    for stored in node.heap.as_slice() {
+    let mut classes = Items::new(node.stack.allocator());
+    for stored in node.heap.get().as_slice() {
         if next <= stored.get().serial {
             classes.push(stored.get().class)?;
         }
@@ -67,19 +69,25 @@ fn born(next: u64, node: &Node) -> Result<Items<ClassId>, AllocError>
     Ok(classes)
 }
 
-/// The classes with those of the objects that were made. Where none was made they stay shared.
-#[tactic(auto, using(crate::proofs::Changes::none_steps))]
-fn classes_after(station: &Station, node: &Node) -> Result<Shared<Items<ClassId>>, AllocError>
+/// The classes with more behind them.
+fn with_all(classes: &Classes, more: &Items<ClassId>) -> Result<Classes, AllocError>
+    ensures { IfOk result (λ all. all ≡ classes.now ++ more.now) }
+{
+    let mut all = classes.clone()?;
+    for class in more.as_slice() {
+        all = all.with(*class)?;
+    }
+    Ok(all)
+}
+
+/// The classes with those of the objects that were made.
+fn classes_after(station: &Station, node: &Node) -> Result<Classes, AllocError>
     ensures { IfOk result (λ classes.
         classes ≡ station.now.classes ++ born station.now.node.next_serial node.now) }
 {
     let born = born(station.node.get().next_serial, node)?;
-    if born.is_empty() {
-        return Ok(station.classes.clone()?);
-    }
-    let mut classes = station.classes.get().clone()?;
-    classes.append(born)?;
-    Shared::new(station.queues.allocator(), classes)
+    let all = with_all(&station.classes, &born)?;
+    Ok(all)
 }
 
 /// A station once its node is another and sent these parcels.

@@ -2,14 +2,16 @@
 //!
 //! It stands on do_machine, whose definitions it runs, and on do_rules for what one step of a node
 //! does. It promises that each event comes to what its definition says, in every world, and that
-//! the machine is as it was if memory runs out. It is the reference that other machines are compared
-//! with: it may be slow, but a step costs what the acting node, its stack and the message weigh, and
-//! of the rest of the state no more than a reference to each node.
+//! the machine is as it was if memory runs out. It is the reference that other machines are
+//! compared with, and may be slow: a step looks at all that the acting node keeps, once more for
+//! each round in which the node frees objects, and at what its peers hold of it. Of the rest of the
+//! state it copies a reference to each node. docs/PERFORMANCE.md has the figures.
 #![tactic(auto)]
 
 mod check;
 mod commit;
 mod local;
+mod losing;
 mod opening;
 mod stations;
 mod stepping;

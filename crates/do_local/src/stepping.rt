@@ -1,12 +1,11 @@
 //! What each event does to a state.
 ghost use Rattle.std.specs.Prelude.{◌≡◌, IfOk, drop, slice_get};
 ghost use Rattle.std.specs.Option.{option_copied};
-ghost use Rattle.std.specs.List.{insert};
 ghost use Rattle.do_machine.specs.Step.{close, enabled_step, moved_by, run, start, step, take};
 ghost use Rattle.do_machine.specs.Step.{timeout};
-ghost use Rattle.do_machine.specs.ends.Losing.{lost};
 
 use crate::commit::{moved, showed, skipped};
+use crate::losing::lost;
 use crate::stations::with_queue_of;
 use do_base::{Event, Items, NodeId, ShownList, Text, Values};
 use do_behave::Behaviour;
@@ -137,31 +136,6 @@ fn timeout(state: &State, port: NodeId) -> Result<Option<Stepped>, AllocError>
         return Ok(None);
     };
     moved_by(port, state, time_out(node)?)
-}
-
-/// An end that names nothing stands behind so many items, where the reader's end is open.
-fn lost(state: &State, from: NodeId, to: NodeId, after: u64) -> Result<Option<State>, AllocError>
-    ensures { IfOk result (λ s. s ≡ lost state.now from to after) }
-{
-    let Some(node) = node_at(state, to) else {
-        return Ok(None);
-    };
-    if !is_open(node, from) {
-        return Ok(None);
-    }
-    let Some(waiting) = queue(state, from, to) else {
-        return Ok(None);
-    };
-    if (waiting.len() as u64) < after {
-        return Ok(None);
-    }
-    let mut items = waiting.clone()?;
-    let alloc = items.allocator();
-    let end = Item::End {
-        serials: Items::new(alloc),
-    };
-    items.insert(after as usize, Shared::new(alloc, end)?)?;
-    Ok(Some(with_queue_of(from, to, items, state)?))
 }
 
 /// What an event does, where it is enabled.

@@ -1,3 +1,4 @@
+mod Blocks
 mod Equality
 mod Inserting
 mod Bools

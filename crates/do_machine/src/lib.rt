@@ -5,6 +5,7 @@
 //! sites of a network and the network itself are judged. No program that runs them stands here.
 #![tactic(auto)]
 
+mod classes;
 mod item;
 mod laws;
 mod node;
@@ -12,6 +13,7 @@ mod shared;
 mod state;
 mod verdict;
 
+pub use classes::Classes;
 pub use do_trace::{Entry, EntryList, NodeLine, NodeLines, ObjLine, ObjLines, Outcome, Snapshot};
 pub use item::{Item, Message};
 pub use laws::{

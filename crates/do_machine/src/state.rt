@@ -1,3 +1,4 @@
+use crate::classes::Classes;
 use crate::item::Item;
 use crate::node::Node;
 use crate::shared::Shared;
@@ -19,7 +20,7 @@ pub struct Station {
     pub port: NodeId,
     pub node: Shared<Node>,
     pub queues: Items<Shared<Queue>>,
-    pub classes: Shared<Items<ClassId>>,
+    pub classes: Classes,
 }
 
 /// The nodes of a machine, by rising port.

@@ -1,4 +1,3 @@
-pub mod CoreLaws
 pub mod IsTold
 pub mod SlotsExact
 pub mod OneCallMore

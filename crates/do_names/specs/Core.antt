@@ -1,14 +1,13 @@
 -- Names and their ports: in a list, and as slots.
-use Rattle.std.specs.Prelude.{ℕ, ℤ, pos, Bool, true, is_some, ◌&&◌, ◌==◌, nat_lt, nat_le}
+use Rattle.std.specs.Prelude.{ℕ, pos, Bool, true, is_some, ◌&&◌, ◌==◌, nat_lt}
 use Rattle.std.specs.Prelude.{Option, Some, None, List as Listed, [], ◌∷◌, ◌++◌, length, map}
 use Rattle.std.specs.Prelude.{if◌then◌else◌, option_and_then}
-use Rattle.std.specs.List.{list_all}
-use Rattle.std.specs.Option.{option_map}
-use Rattle.do_base.specs.values.Kinds.{text, number, items}
+use Rattle.do_base.specs.values.Kinds.{text}
 use Rattle.do_base.specs.declared.values.value.Value.{Value, List}
 use Rattle.do_base.specs.declared.values.value.Value.TheVariants.{Num, Text}
-use Rattle.do_acts.specs.Rows.{rows_in, listed}
-use Rattle.do_table.specs.Entries.{value_of, removed, are_distinct}
+use Rattle.do_acts.specs.Ports.{port_in}
+use Rattle.do_acts.specs.Rows.{rows_in, pair_in, listed}
+use Rattle.do_table.specs.Entries.{value_of, removed, is_table}
 
 -- a name and its port
 abbrev pub Entry : Type 0
@@ -35,30 +34,15 @@ is_entry e = nat_lt 0 (length e.0) && (nat_lt 0 e.1 && nat_lt e.1 65536)
 
 -- the names of a core: at most 512
 abbrev pub are_names : Listed Entry → Bool
-are_names es = nat_le (length es) 512 && (list_all is_entry es && are_distinct es)
+are_names es = is_table 512 is_entry es
 
 -- the text, where it is not empty
 abbrev pub name_in : Value → Option (Listed ℕ)
 name_in v = option_and_then (λ s. if nat_lt 0 (length s) then Some s else None) (text v)
 
--- a number, where it is one from 1 to 65,535
-abbrev pub port_number : ℤ → Option ℕ
-port_number (pos n) = if nat_lt 0 n && nat_lt n 65536 then Some n else None
-port_number _ = None
-
--- the number, where it is a port
-abbrev pub port_in : Value → Option ℕ
-port_in v = option_and_then port_number (number v)
-
--- the entry that items are: a name and a port
-abbrev pub entry_of : Listed Value → Option Entry
-entry_of (name ∷ port ∷ []) =
-    option_and_then (λ n. option_map (λ p. (n, p)) (port_in port)) (name_in name)
-entry_of _ = None
-
--- the entry that a value is
+-- the entry that a value is: a list of a name and a port
 abbrev pub entry_in : Value → Option Entry
-entry_in v = option_and_then entry_of (items v)
+entry_in v = pair_in name_in port_in v
 
 -- an entry as a value
 abbrev pub row : Entry → Value

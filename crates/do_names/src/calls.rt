@@ -6,14 +6,15 @@ ghost use Rattle.do_grammar.specs.Words.{◌>>?◌};
 ghost use Rattle.do_behave.specs.Numbers.{truth};
 ghost use Rattle.do_behave.specs.Steps.{local};
 ghost use Rattle.do_acts.specs.Faults.{FaultOf};
-ghost use Rattle.do_names.specs.Core.{name_in, port_in};
+ghost use Rattle.do_acts.specs.Ports.{port_in};
+ghost use Rattle.do_names.specs.Core.{name_in};
 ghost use Rattle.do_names.specs.Calls.{IsCall, does, call_in, call_with};
 ghost use Rattle.do_names.specs.History.{after};
 ghost use Rattle.do_names.specs.declared.calls.Call.{Call};
 
-use crate::entries::{name_in, port_in};
+use crate::entries::name_in;
 use crate::names::Names;
-use do_acts::CoreFault;
+use do_acts::{CoreFault, port_in};
 use do_base::{Text, Value};
 use do_behave::Invocation;
 use std::alloc::AllocError;

@@ -1,9 +1,9 @@
 //! Names with their ports, as a slot keeps them.
 ghost use Rattle.std.specs.Prelude.{◌≡◌, IfOk};
 ghost use Rattle.std.specs.Option.{option_copied};
-ghost use Rattle.do_names.specs.Core.{name_in, port_in, row};
+ghost use Rattle.do_names.specs.Core.{name_in, row};
 
-use do_acts::Row;
+use do_acts::{Row, port_in};
 use do_base::{Items, Text, Value, Values};
 use std::alloc::AllocError;
 use std::marker::Model;
@@ -34,14 +34,6 @@ pub(crate) fn name_in(value: &Value) -> Option<&Text>
     ensures { option_copied result ≡ name_in value.now }
 {
     value.text().filter(|name| !name.is_empty())
-}
-
-/// The port that a value is: a number from 1 to 65,535.
-pub(crate) fn port_in(value: &Value) -> Option<u16>
-    ensures { result ≡ port_in value.now }
-{
-    let port = u16::try_from(value.number()?).ok()?;
-    if port == 0 { None } else { Some(port) }
 }
 
 /// A name with its port as a value.
@@ -80,5 +72,17 @@ impl Row for Entry {
 
     fn shown(&self) -> Result<Value, AllocError> {
         row(&self.name, self.port)
+    }
+}
+
+impl do_table::Entry<u16> for Entry {
+    ghost entry = { λ e. e };
+
+    fn name(&self) -> Result<Text, AllocError> {
+        Ok(self.name.clone()?)
+    }
+
+    fn kept(&self) -> Result<u16, AllocError> {
+        Ok(self.port)
     }
 }

@@ -1,9 +1,9 @@
 ghost use Rattle.std.specs.Prelude.{◌≡◌, [], List, IsTrue, IfOk, IfErr, IfSome, OnErr, Some, None};
-ghost use Rattle.std.specs.Prelude.{map, if◌then◌else◌};
+ghost use Rattle.std.specs.Prelude.{map};
 ghost use Rattle.std.specs.List.{list_all};
 ghost use Rattle.do_acts.specs.Faults.{FaultOf};
 ghost use Rattle.do_acts.specs.Rows.{listed};
-ghost use Rattle.do_table.specs.Entries.{value_of, are_distinct};
+ghost use Rattle.do_table.specs.Entries.{value_of};
 ghost use Rattle.do_names.specs.Core.{is_entry, from_slots, to_slots, row};
 ghost use Rattle.do_names.specs.Core.{registered, unregistered};
 ghost use Rattle.do_names.specs.History.{after};
@@ -55,20 +55,6 @@ fn are_entries(entries: &Entries) -> bool
     true
 }
 
-/// The table of these entries; none where a name is there twice.
-fn table_of(entries: &Entries) -> Result<Option<Table<u16>>, AllocError>
-    ensures { IfOk result (λ table.
-        table ≡ (if are_distinct entries.now then Some entries.now else None)) }
-{
-    let mut table = Table::new(entries.allocator());
-    for entry in entries.as_slice() {
-        if !table.add(entry.name.clone()?, entry.port)? {
-            return Ok(None);
-        }
-    }
-    Ok(Some(table))
-}
-
 /// The entries of a table as a slot keeps them.
 fn shown(ports: &Table<u16>) -> Result<Value, AllocError>
     ensures { IfOk result (λ value. value ≡ listed (map row ports.now)) }
@@ -110,7 +96,7 @@ impl Names {
         if entries.len() > MAX_NAMES || !are_entries(&entries) {
             return Ok(None);
         }
-        match table_of(&entries)? {
+        match Table::of(entries.allocator(), entries.as_slice())? {
             Some(ports) => Ok(Some(Names { ports })),
             None => Ok(None),
         }

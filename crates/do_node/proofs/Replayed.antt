@@ -31,7 +31,8 @@ pub first_stops : (told : Option (List NamedFile)) (before now : ℕ) (word name
     (status : Status)
     → Stops ((builtin_world word ≡ None) × IsUnread told before now word) ⊥ (RefusesWorld told word)
     status
-    → Stops (HasUnread told before now (Replay word name)) ⊥ (Refuses told (Replay word name)) status
+    → Stops (HasUnread told before now (Replay word name)) ⊥ (Refuses told (Replay word name))
+    status
 first_stops told before now word name status stopped = stops_as
     {u = (builtin_world word ≡ None) × IsUnread told before now word}
     {v = HasUnread told before now (Replay word name)} {f = ⊥} {g = ⊥}
@@ -42,7 +43,8 @@ first_stops told before now word name status stopped = stops_as
 pub second_stops : (told same : Option (List NamedFile)) (before mid now : ℕ) (word name : List ℕ)
     (world : World) (status : Status) → same ≡ told → before ≤ mid → GivesWorld told word world
     → Stops (IsUnread same mid now name) ⊥ (SaysNoLines Second same name) status
-    → Stops (HasUnread told before now (Replay word name)) ⊥ (Refuses told (Replay word name)) status
+    → Stops (HasUnread told before now (Replay word name)) ⊥ (Refuses told (Replay word name))
+    status
 second_stops told same before mid now word name world status is le gives stopped = stops_as
     {u = IsUnread told mid now name} {v = HasUnread told before now (Replay word name)}
     {f = ⊥} {g = ⊥}

@@ -1,35 +1,15 @@
 -- Which of the objects that an item names are exported, and which released.
-use Rattle.std.proofs.Common.{◌≡◌, ℕ, Bool, true, false, List, [], ◌∷◌, map, Some, refl, ap, sym, ◌∙◌}
-use Rattle.std.specs.List.{filter_map, list_any}
-use Rattle.do_base.specs.names.Names.{ObjectName}
+use Rattle.std.proofs.Common.{◌≡◌, ℕ, List, [], ◌∷◌, map, refl, ap, sym}
+use Rattle.std.specs.List.{filter_map}
 use Rattle.do_class.specs.declared.packet.Name.{Name}
 use Rattle.do_class.specs.declared.packet.Name.TheVariants.{Lent, Mine, Yours}
-use Rattle.do_packet.specs.Met.{has_object, same_object}
 use Rattle.do_machine.specs.declared.item.Item.{Item}
 use Rattle.do_machine.specs.declared.item.Item.TheVariants as items
 use Rattle.do_machine.specs.Objects.{object_at}
 use Rattle.do_machine.specs.Items.{exported, is_exported, is_released, name_naming, named_as}
 use Rattle.do_machine.specs.Items.{naming, released}
 use Rattle.do_machine.specs.Items.Role.{Released}
-use Rattle.do_rules.specs.Exporting.{exports_it, exports_item, exports_of, mine_of}
-use Rattle.do_rules.specs.Exporting.{is_at, releases_item, releases_of}
-use Rattle.std.specs.Prelude.{◌||◌}
-
--- a message exports an object that one of its names is of
-pub any_exported : (from to : ℕ) (o : ObjectName) (ns : List Name) →
-    list_any (exports_it from o) ns
-    ≡ has_object (named_as is_exported (map (name_naming from to) ns)) o
-any_exported from to o [] = refl
-any_exported from to o (Mine serial class ∷ ns) =
-    ap (λ b. same_object o (object_at from serial) || b) (any_exported from to o ns)
-any_exported from to o (Yours serial ∷ ns) = any_exported from to o ns
-any_exported from to o (Lent p class token ∷ ns) = any_exported from to o ns
-
--- an end releases an object that one of its serials is of
-pub any_released : (to : ℕ) (o : ObjectName) (ss : List ℕ) →
-    list_any (is_at to o) ss ≡ has_object (named_as is_released (map (naming Released to) ss)) o
-any_released to o [] = refl
-any_released to o (s ∷ ss) = ap (λ b. same_object o (object_at to s) || b) (any_released to o ss)
+use Rattle.do_rules.specs.Exporting.{exports_of, mine_of, releases_of}
 
 -- a message releases no object
 no_releases : (from to : ℕ) (ns : List Name) →
@@ -39,10 +19,6 @@ no_releases from to (Mine serial class ∷ ns) = no_releases from to ns
 no_releases from to (Yours serial ∷ ns) = no_releases from to ns
 no_releases from to (Lent p class token ∷ ns) = no_releases from to ns
 
-none_released : (from to : ℕ) (o : ObjectName) (ns : List Name) →
-    has_object (named_as is_released (map (name_naming from to) ns)) o ≡ false
-none_released from to o ns = sym (ap (λ os. has_object os o) (no_releases from to ns))
-
 -- the objects of released serials
 serials_released : (to : ℕ) (ss : List ℕ) →
     map (object_at to) ss ≡ named_as is_released (map (naming Released to) ss)
@@ -50,7 +26,7 @@ serials_released to [] = refl
 serials_released to (s ∷ ss) = ap (λ os. object_at to s ∷ os) (serials_released to ss)
 
 -- the objects that a message exports are those of its names as the sender's
-pub all_exported : (from to : ℕ) (ns : List Name) →
+all_exported : (from to : ℕ) (ns : List Name) →
     filter_map (mine_of from) ns ≡ named_as is_exported (map (name_naming from to) ns)
 all_exported from to [] = refl
 all_exported from to (Mine serial class ∷ ns) =
@@ -62,62 +38,6 @@ all_exported from to (Lent p class token ∷ ns) = all_exported from to ns
 ends_export : (to : ℕ) (ss : List ℕ) → named_as is_exported (map (naming Released to) ss) ≡ []
 ends_export to [] = refl
 ends_export to (s ∷ ss) = ends_export to ss
-
-none_exported : (to : ℕ) (o : ObjectName) (ss : List ℕ) →
-    false ≡ has_object (named_as is_exported (map (naming Released to) ss)) o
-none_exported to o ss = rw (ends_export to ss) refl
-
-or-false : (b : Bool) → (b || false) ≡ b
-or-false true = refl
-or-false false = refl
-
--- what an item exports is among what it names so
-exports_is : (from to : ℕ) (o : ObjectName) (item : Item) →
-    exports_item from o item ≡ has_object (exported from to item) o
-exports_is from to o (items.Call number m) = any_exported from to o m.packet.names
-exports_is from to o (items.Oneway m) = any_exported from to o m.packet.names
-exports_is from to o (items.Reply number packet) = any_exported from to o packet.names
-exports_is from to o (items.Raised number e) = refl
-exports_is from to o (items.RootAsk number) = refl
-exports_is from to o (items.RootAnswer number packet) = any_exported from to o packet.names
-exports_is from to o (items.Ask serial token) = refl
-exports_is from to o (items.Granted serial token) =
-    sym (or-false (same_object o (object_at from serial)))
-exports_is from to o (items.Gone serial token) = refl
-exports_is from to o (items.Left serial) = refl
-exports_is from to o (items.Settled number) = refl
-exports_is from to o (items.End serials) = none_exported to o serials
-
--- what an item releases is among what it names so
-releases_is : (from to : ℕ) (o : ObjectName) (item : Item) →
-    releases_item to o item ≡ has_object (released from to item) o
-releases_is from to o (items.Call number m) = sym (none_released from to o m.packet.names)
-releases_is from to o (items.Oneway m) = sym (none_released from to o m.packet.names)
-releases_is from to o (items.Reply number packet) = sym (none_released from to o packet.names)
-releases_is from to o (items.Raised number e) = refl
-releases_is from to o (items.RootAsk number) = refl
-releases_is from to o (items.RootAnswer number packet) = sym (none_released from to o packet.names)
-releases_is from to o (items.Ask serial token) = refl
-releases_is from to o (items.Granted serial token) = refl
-releases_is from to o (items.Gone serial token) = refl
-releases_is from to o (items.Left serial) = sym (or-false (same_object o (object_at to serial)))
-releases_is from to o (items.Settled number) = refl
-releases_is from to o (items.End serials) = any_released to o serials
-
--- the same of one of many items
-pub any_item_exports : (from to : ℕ) (o : ObjectName) (is : List Item) →
-    list_any (exports_item from o) is ≡ list_any (λ item. has_object (exported from to item) o) is
-any_item_exports from to o [] = refl
-any_item_exports from to o (item ∷ is) =
-    rw (exports_is from to o item)
-    (ap (λ b. has_object (exported from to item) o || b) (any_item_exports from to o is))
-
-pub any_item_releases : (from to : ℕ) (o : ObjectName) (is : List Item) →
-    list_any (releases_item to o) is ≡ list_any (λ item. has_object (released from to item) o) is
-any_item_releases from to o [] = refl
-any_item_releases from to o (item ∷ is) =
-    rw (releases_is from to o item)
-    (ap (λ b. has_object (released from to item) o || b) (any_item_releases from to o is))
 
 -- the objects that an item exports
 pub all_exports : (from to : ℕ) (item : Item) → exports_of from item ≡ exported from to item

@@ -93,6 +93,13 @@ entered_is S home peer serial =
       | false ↦ refl
     ]
 
+-- so it is asked of the list
+pub entry_is : (S : State) (peer : ℕ) (o : ObjectName) (os : List ObjectName) →
+    os ≡ entered S o.node peer → has_object os o ≡ has_entry S peer o
+entry_is S peer o os is = ap (λ ps. has_object ps o) is ∙ entered_is S o.node peer o.serial
+
+pub ruleset entry_steps = (entry_is)
+
 -- an own object is the root or among those held up where it is held up beside slots
 held_up_is : (S : State) (n : Node) (serial : ℕ) →
     (is_root n serial || has_object (held_up S n) (own n serial))

@@ -13,5 +13,6 @@ mod Received
 mod RootPackets
 mod Serials
 pub mod Sets
+mod Sharing
 mod Striking
 mod Weights

@@ -1,37 +1,12 @@
--- What a name in a message, a serial and an item are to an object.
-use Rattle.std.specs.Prelude.{Bool, List, None, Option, Some, [], false, map, ℕ, ◌∷◌}
-use Rattle.std.specs.List.{filter_map, list_any}
+-- Which objects a name in a message and an item export or release, by their kinds.
+use Rattle.std.specs.Prelude.{List, None, Option, Some, [], map, ℕ, ◌∷◌}
+use Rattle.std.specs.List.{filter_map}
 use Rattle.do_base.specs.names.Names.{ObjectName}
 use Rattle.do_class.specs.declared.packet.Name.{Name}
 use Rattle.do_class.specs.declared.packet.Name.TheVariants.{Mine}
-use Rattle.do_packet.specs.Met.{same_object}
 use Rattle.do_machine.specs.declared.item.Item.{Item}
 use Rattle.do_machine.specs.Objects.{object_at}
 use Rattle.do_machine.specs.declared.item.Item.TheVariants as items
-
--- a name is that of the object, as one of the sender's
-abbrev pub exports_it : ℕ → ObjectName → Name → Bool
-exports_it from o (Mine serial class) = same_object o (object_at from serial)
-exports_it from o _ = false
-
--- the object is that of a node with a serial
-abbrev pub is_at : ℕ → ObjectName → ℕ → Bool
-is_at node o serial = same_object o (object_at node serial)
-
--- an item exports the object, as one of the sender's
-abbrev pub exports_item : ℕ → ObjectName → Item → Bool
-exports_item from o (items.Call number m) = list_any (exports_it from o) m.packet.names
-exports_item from o (items.Oneway m) = list_any (exports_it from o) m.packet.names
-exports_item from o (items.Reply number packet) = list_any (exports_it from o) packet.names
-exports_item from o (items.RootAnswer number packet) = list_any (exports_it from o) packet.names
-exports_item from o (items.Granted serial token) = same_object o (object_at from serial)
-exports_item from o _ = false
-
--- an item releases the object, as one of the receiver's
-abbrev pub releases_item : ℕ → ObjectName → Item → Bool
-releases_item to o (items.Left serial) = is_at to o serial
-releases_item to o (items.End serials) = list_any (is_at to o) serials
-releases_item to o _ = false
 
 -- the object of a name, as one of the sender's
 abbrev pub mine_of : ℕ → Name → Option ObjectName

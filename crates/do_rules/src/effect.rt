@@ -10,7 +10,7 @@ use std::alloc::AllocError;
 pub(crate) fn only(node: Node) -> Effect
     ensures { result ≡ only node }
 {
-    let alloc = node.heap.allocator();
+    let alloc = node.stack.allocator();
     Effect {
         node,
         sent: Items::new(alloc),
@@ -22,7 +22,7 @@ pub(crate) fn only(node: Node) -> Effect
 pub(crate) fn queueing(peer: NodeId, item: Item, node: Node) -> Result<Effect, AllocError>
     ensures { IfOk result (λ e. e ≡ queueing peer item node) }
 {
-    let item = Shared::new(node.heap.allocator(), item)?;
+    let item = Shared::new(node.stack.allocator(), item)?;
     let mut effect = only(node);
     effect.sent.push(Parcel { to: peer, item })?;
     Ok(effect)

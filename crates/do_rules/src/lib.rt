@@ -21,13 +21,13 @@ mod take;
 
 pub use ends::closing::closing;
 pub use ends::time_out::time_out;
+pub use held::entered::has_entry;
 pub use held::leaving::leaving;
 pub use judged::{Context, Run};
 pub use lists::{item_at, put_at};
-pub use node::entry::has_entry;
 pub use node::{has_object, is_open, own};
 pub use run::fresh::blank;
 pub use run::next::run_effect;
 pub use start::start_effect;
 pub use state::{node_at, queue, station};
-pub use take::arrival::can_take;
+pub use take::serving::can_take;

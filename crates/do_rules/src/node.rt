@@ -7,7 +7,6 @@ ghost use Rattle.do_machine.specs.State.{has_asked, holds, is_known, is_open, ow
 ghost use Rattle.do_machine.specs.run.Acts.{root_value};
 ghost use Rattle.do_machine.specs.run.Fresh.{is_full};
 
-pub(crate) mod entry;
 pub(crate) mod methods;
 pub(crate) mod named;
 pub(crate) mod naming;
@@ -91,7 +90,7 @@ pub(crate) fn stored(heap: &Heap, serial: u64) -> Option<&Stored>
 pub(crate) fn own_class(node: &Node, serial: u64) -> Option<ClassId>
     ensures { result ≡ own_class node.now serial }
 {
-    match stored(&node.heap, serial) {
+    match stored(node.heap.get(), serial) {
         Some(stored) => Some(stored.class),
         None => None,
     }

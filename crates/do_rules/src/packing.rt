@@ -9,8 +9,8 @@ mod limits;
 mod view;
 mod weights;
 
+use crate::held::entered::has_entry;
 use crate::judged::Context;
-use crate::node::entry::has_entry;
 use crate::node::{is_open, own};
 use do_base::{Flags, NodeId, Values};
 use do_class::{Name, Packet};
@@ -85,12 +85,12 @@ impl<'a> Context<'a> {
     }
 
     /// Whether the sender has an entry of the own object that a name names.
-    fn is_entered(&self, from: NodeId, name: &Name) -> bool
-        ensures { result ≡ is_entered (step_of self.now) from name.now }
+    fn is_entered(&self, from: NodeId, name: &Name) -> Result<bool, AllocError>
+        ensures { IfOk result (λ entry. entry ≡ is_entered (step_of self.now) from name.now) }
     {
         match name {
-            Name::Mine { .. } => false,
-            Name::Lent { .. } => false,
+            Name::Mine { .. } => Ok(false),
+            Name::Lent { .. } => Ok(false),
             Name::Yours { serial } => {
                 let object = own(self.node, *serial);
                 has_entry(self.state, from, &object)
@@ -116,7 +116,7 @@ impl<'a> Context<'a> {
     {
         let mut flags = Flags::new(packet.names.allocator());
         for name in packet.names.as_slice() {
-            flags.push(self.is_entered(from, name))?;
+            flags.push(self.is_entered(from, name)?)?;
         }
         Ok(flags)
     }

@@ -2,6 +2,7 @@
 pub(crate) mod acts;
 pub(crate) mod answers;
 pub(crate) mod arguments;
+pub(crate) mod asking;
 pub(crate) mod changes;
 pub(crate) mod delivery;
 pub(crate) mod fresh;

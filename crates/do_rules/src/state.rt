@@ -5,7 +5,7 @@ ghost use Rattle.do_machine.specs.State.{class_given, class_of, node, queue, que
 
 use do_base::{Items, NodeId, Oid};
 use do_class::ClassId;
-use do_machine::{Item, Node, Queue, Shared, State, Station};
+use do_machine::{Classes, Item, Node, Queue, Shared, State, Station};
 
 /// The station of a port, as it is shared.
 fn shared(state: &State, port: NodeId) -> Option<&Shared<Station>>
@@ -66,13 +66,13 @@ pub fn queue(state: &State, from: NodeId, to: NodeId) -> Option<&Items<Shared<It
 }
 
 /// The class that was given with a serial.
-fn class_given(classes: &Items<ClassId>, serial: u64) -> Option<ClassId>
+fn class_given(classes: &Classes, serial: u64) -> Option<ClassId>
     ensures { result ≡ class_given classes.now serial }
 {
     if serial == 0 {
         return None;
     }
-    classes.get(serial as usize - 1).copied()
+    classes.get(serial as usize - 1)
 }
 
 /// The class of an object, also after it left the heap.
@@ -80,7 +80,7 @@ pub(crate) fn class_of(state: &State, object: &Oid) -> Option<ClassId>
     ensures { result ≡ class_of state.now object.now }
 {
     match station(state, object.node) {
-        Some(station) => class_given(station.classes.get(), object.serial),
+        Some(station) => class_given(&station.classes, object.serial),
         None => None,
     }
 }

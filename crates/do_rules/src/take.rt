@@ -1,4 +1,5 @@
 //! What an item that is taken does to the node that takes it.
+pub(crate) mod answer;
 pub(crate) mod arrival;
 pub(crate) mod awaiting;
 pub(crate) mod holding;
@@ -6,3 +7,4 @@ pub(crate) mod lines;
 pub(crate) mod receipt;
 pub(crate) mod requests;
 pub(crate) mod root;
+pub(crate) mod serving;

@@ -20,7 +20,8 @@ use Rattle.do_sched.specs.Version.{header}
 use Rattle.do_sched.specs.Spelling.{line_spelling, footer, fed, steps, steps_of}
 use Rattle.do_sched.specs.Good.{IsLineOf}
 use Rattle.do_sched.specs.Schedule.{IsScheduleOf, Opens, IsNoLine, IsBadLine, at_first, between}
-use Rattle.do_sched.specs.Schedule.{behind, IsTooMany, over, IsEndMissing, at_start, later, IsFaultOf}
+use Rattle.do_sched.specs.Schedule.{behind, IsTooMany, over, IsEndMissing, at_start, later}
+use Rattle.do_sched.specs.Schedule.{IsFaultOf}
 use Rattle.do_sched.specs.Schedule.{most_steps, whole}
 use Rattle.do_sched.specs.Reading.{is_whole, line_in}
 use Rattle.do_sched.specs.Answers.{TellsSchedule, AnswersWith}
@@ -39,7 +40,8 @@ abbrev at_end : Listed Line → ℕ → Listed text.Line → Result (Listed Line
 at_end lines k [] = Ok lines
 at_end lines k (t ∷ rest) = Err (BadLine (k + 1))
 
-abbrev answer_behind : Version → Listed Line → ℕ → Listed text.Line → Result (Listed Line) SchedFault
+abbrev answer_behind : Version → Listed Line → ℕ → Listed text.Line
+    → Result (Listed Line) SchedFault
 answer_behind version lines k [] = Err (NoEnd k)
 answer_behind version lines k (t ∷ rest) =
     cond (is_whole footer t) (at_end lines k rest)
@@ -49,7 +51,8 @@ answer_behind version lines k (t ∷ rest) =
 
 abbrev answer : Version → Listed text.Line → Result (Listed Line) SchedFault
 answer version [] = Err (NoEnd 1)
-answer version (t ∷ rest) = cond (is_whole (header version) t) (answer_behind version [] 2 rest) (Err (BadLine 1))
+answer version (t ∷ rest) =
+    cond (is_whole (header version) t) (answer_behind version [] 2 rest) (Err (BadLine 1))
 
 -- a line of a schedule is not `end`
 no_footer : (l : Line) → is_whole footer (whole (line_spelling l)) ≡ false
@@ -67,7 +70,8 @@ header_whole First = refl
 header_whole Second = refl
 
 -- good lines in front lead to the answer behind them
-walk : (version : Version) (more lines : Listed Line) (k : ℕ) (rest : Listed text.Line) → AllByRecursion (IsLineOf version) more
+walk : (version : Version) (more lines : Listed Line) (k : ℕ) (rest : Listed text.Line)
+    → AllByRecursion (IsLineOf version) more
     → steps_of lines + steps_of more ≤ most_steps
     → answer_behind version lines k (map (λ l. whole (line_spelling l)) more ++ rest)
     ≡ answer_behind version (lines ++ more) (k + length more) rest
@@ -82,14 +86,20 @@ walk version (l ∷ more) lines k rest h few =
     let sums : steps_of (lines ++ l ∷ []) + steps_of more ≤ most_steps =
     simp sum_by-append (omega arith) in
     let again = walk version more (lines ++ l ∷ []) (k + 1) rest h.1 sums in
-    rw (no_footer l, line_in_again version l h.0, le-leb (steps_of lines + steps l) most_steps small)
+    rw (
+      no_footer l,
+      line_in_again version l h.0,
+      le-leb (steps_of lines + steps l) most_steps small,
+    )
     (again ∙ ap (λ (w : Listed Line). answer_behind version w (k + 1 + length more) rest)
     (append_assoc lines (l ∷ []) more)
     ∙ ap (λ (w : ℕ). answer_behind version (lines ++ l ∷ more) w rest) (omega arith))
 
 -- where a schedule begins with some lines, the answer is that behind them
-opens_answer : (version : Version) (bytes : Listed ℕ) (lines : Listed Line) (rest : Listed text.Line)
-    → Opens version bytes lines rest → answer version (cut bytes) ≡ answer_behind version lines (length lines + 2) rest
+opens_answer : (version : Version) (bytes : Listed ℕ) (lines : Listed Line)
+    (rest : Listed text.Line)
+    → Opens version bytes lines rest
+    → answer version (cut bytes) ≡ answer_behind version lines (length lines + 2) rest
 opens_answer version bytes lines rest o =
     let few = o.few in
     let all = walk version lines [] 2 rest o.good (omega arith) in
@@ -114,23 +124,27 @@ schedule_lines version (l ∷ lines) h =
     ∙ ap (λ (w : Listed text.Line). whole (line_spelling l) ∷ w) (schedule_lines version lines h.1)
 
 -- a schedule begins with all its lines, and `end` is left
-schedule_opens : (version : Version) (bytes : Listed ℕ) (lines : Listed Line) → IsScheduleOf version bytes lines
+schedule_opens : (version : Version) (bytes : Listed ℕ) (lines : Listed Line)
+    → IsScheduleOf version bytes lines
     → Opens version bytes lines (whole footer ∷ [])
 schedule_opens version bytes lines s = record {
   spelled =
       ap cut (s.spelled
-      ∙ append_assoc (fed (header version)) (flat_map (λ m. fed (line_spelling m)) lines) (fed footer)
+      ∙ append_assoc (fed (header version)) (flat_map (λ m. fed (line_spelling m)) lines)
+      (fed footer)
       ∙ append_assoc (header version) (10 ∷ []) (flat_map (λ m. fed (line_spelling m)) lines
       ++ fed footer))
       ∙ cut_line (header version) (flat_map (λ m. fed (line_spelling m)) lines ++ fed footer)
       (header_free version)
-      ∙ ap (λ (w : Listed text.Line). whole (header version) ∷ w) (schedule_lines version lines s.good);
+      ∙ ap (λ (w : Listed text.Line). whole (header version) ∷ w)
+      (schedule_lines version lines s.good);
   good = s.good;
   few = s.few;
 }
 
 -- a schedule is answered with its lines
-schedule_answer : (version : Version) (bytes : Listed ℕ) (lines : Listed Line) → IsScheduleOf version bytes lines
+schedule_answer : (version : Version) (bytes : Listed ℕ) (lines : Listed Line)
+    → IsScheduleOf version bytes lines
     → answer version (cut bytes) ≡ Ok lines
 schedule_answer version bytes lines s =
     opens_answer version bytes lines (whole footer ∷ []) (schedule_opens version bytes lines s)
@@ -152,18 +166,24 @@ none_in version t h = go (line_in version t) refl
     go (Some l) e = let r = line_in_takes version t l e in absurd (h.no_line l r.1 r.0)
 
 -- a line that may not stand at its place is answered as such
-bad_answer : (version : Version) (bytes : Listed ℕ) (n : ℕ) → IsBadLine version bytes n → answer version (cut bytes) ≡ Err (BadLine n)
-bad_answer version bytes n (at_first t rest e h) = ap (answer version) e ∙ rw (not_line (header version) t h) refl
-bad_answer version bytes n (between lines t rest o h) = opens_answer version bytes lines (t ∷ rest) o
+bad_answer : (version : Version) (bytes : Listed ℕ) (n : ℕ) → IsBadLine version bytes n
+    → answer version (cut bytes) ≡ Err (BadLine n)
+bad_answer version bytes n (at_first t rest e h) =
+    ap (answer version) e ∙ rw (not_line (header version) t h) refl
+bad_answer version bytes n (between lines t rest o h) =
+    opens_answer version bytes lines (t ∷ rest) o
     ∙ rw (not_line footer t h.no_end, none_in version t h) refl
-bad_answer version bytes n (behind lines t rest o) = opens_answer version bytes lines (whole footer ∷ t ∷ rest) o
+bad_answer version bytes n (behind lines t rest o) =
+    opens_answer version bytes lines (whole footer ∷ t ∷ rest) o
     ∙ ap (λ (w : ℕ). Err (BadLine w)) (omega arith)
 
 -- so is a line with which the steps are too many
-many_answer : (version : Version) (bytes : Listed ℕ) (n : ℕ) → IsTooMany version bytes n → answer version (cut bytes) ≡ Err (TooMany n)
+many_answer : (version : Version) (bytes : Listed ℕ) (n : ℕ) → IsTooMany version bytes n
+    → answer version (cut bytes) ≡ Err (TooMany n)
 many_answer version bytes n (over lines l rest o h many) =
     opens_answer version bytes lines (whole (line_spelling l) ∷ rest) o
-    ∙ rw (no_footer l, line_in_again version l h, lt-leb (steps_of lines + steps l) most_steps many) refl
+    ∙ rw (no_footer l, line_in_again version l h, lt-leb (steps_of lines + steps l) most_steps many)
+    refl
 
 -- so is an end that is missing
 missing_answer : (version : Version) (bytes : Listed ℕ) (n : ℕ) → IsEndMissing version bytes n
@@ -172,7 +192,8 @@ missing_answer version bytes n (at_start e) = ap (λ (w : Listed ℕ). answer ve
 missing_answer version bytes n (later lines o) = opens_answer version bytes lines [] o
 
 -- each fault of the bytes is answered
-fault_answer : (version : Version) (bytes : Listed ℕ) (fault : SchedFault) → IsFaultOf version bytes fault
+fault_answer : (version : Version) (bytes : Listed ℕ) (fault : SchedFault)
+    → IsFaultOf version bytes fault
     → answer version (cut bytes) ≡ Err fault
 fault_answer version bytes (BadLine n) h = bad_answer version bytes n h
 fault_answer version bytes (TooMany n) h = many_answer version bytes n h
@@ -181,7 +202,8 @@ fault_answer version bytes Memory h = absurd h
 
 -- what an answer tells makes it the one, unless memory ran out
 one : (version : Version) (bytes : Listed ℕ) (wanted result : Result (Listed Line) SchedFault)
-    → answer version (cut bytes) ≡ wanted → TellsSchedule version bytes result → AnswersWith wanted result
+    → answer version (cut bytes) ≡ wanted → TellsSchedule version bytes result
+    → AnswersWith wanted result
 one version bytes wanted (Ok lines) e h = sym (schedule_answer version bytes lines h) ∙ e
 one version bytes wanted (Err (BadLine n)) e h = sym (bad_answer version bytes n h) ∙ e
 one version bytes wanted (Err (TooMany n)) e h = sym (many_answer version bytes n h) ∙ e
@@ -192,10 +214,12 @@ one version bytes wanted (Err Memory) e h = tt
 pub accepted : (version : Version) (bytes : Listed ℕ) (result : Result (Listed Line) SchedFault)
     → TellsSchedule version bytes result → (lines : Listed Line) → IsScheduleOf version bytes lines
     → AnswersWith (Ok lines) result
-accepted version bytes result h lines s = one version bytes (Ok lines) result (schedule_answer version bytes lines s) h
+accepted version bytes result h lines s =
+    one version bytes (Ok lines) result (schedule_answer version bytes lines s) h
 
 -- what is answered of other bytes is their fault, unless memory ran out
 pub refused : (version : Version) (bytes : Listed ℕ) (result : Result (Listed Line) SchedFault)
     → TellsSchedule version bytes result → (fault : SchedFault) → IsFaultOf version bytes fault
     → AnswersWith (Err fault) result
-refused version bytes result h fault f = one version bytes (Err fault) result (fault_answer version bytes fault f) h
+refused version bytes result h fault f =
+    one version bytes (Err fault) result (fault_answer version bytes fault f) h

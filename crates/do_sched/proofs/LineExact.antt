@@ -22,7 +22,8 @@ use Rattle.do_sched.specs.declared.version.Version.{Version}
 use Rattle.do_sched.specs.Version.{longest, has_timeouts}
 use Rattle.do_sched.specs.Spelling.{spaced_value, number_pair, line_spelling}
 use Rattle.do_sched.specs.Good.{IsPort, IsLineOf}
-use Rattle.do_sched.specs.Reading.{port_at, pair_at, values_at, called_at, start_line_at, run_line_at}
+use Rattle.do_sched.specs.Reading.{port_at, pair_at, values_at, called_at, start_line_at}
+use Rattle.do_sched.specs.Reading.{run_line_at}
 use Rattle.do_sched.specs.Reading.{take_line_at, close_line_at, lose_line_at, timeout_line_at}
 use Rattle.do_sched.specs.Reading.{on_word, form_at, line_at}
 use Rattle.do_sched.proofs.ValuesExact.{values_takes, values_again, spaced_value_first}
@@ -137,7 +138,8 @@ lose_takes version bytes l h =
     let y = port_takes a.0.0 b.0 b.1 in
     let t = pair_takes 0 high a.0.1 d.0 (omega arith) d.1 in
     let most = t.most in
-    subst (Spells version (codes "lose") bytes) {x = Lose b.0 d.0.0 d.0.1} (some_is (Lose b.0 d.0.0 d.0.1) l d.2) (record {
+    subst (Spells version (codes "lose") bytes) {x = Lose b.0 d.0.0 d.0.1}
+    (some_is (Lose b.0 d.0.0 d.0.1) l d.2) (record {
       spelled = ap (λ (w : Listed ℕ). codes "lose" ++ 32 ∷ w) (word_takes 32 bytes a.0 a.1
           ∙ ap (λ (w : Listed ℕ). w ++ 32 ∷ a.0.1) y.0
           ∙ ap (λ (w : Listed ℕ). decimal b.0 ++ 32 ∷ w) t.spelled);
@@ -172,7 +174,8 @@ start_takes version bytes l h =
     Some (Start b.0 selector vs)) l c.1 in
     let y = port_takes a.0.0 b.0 b.1 in
     let t = values_takes limit (colons selector) rest d.0 d.1 in
-    subst (Spells version (codes "start") bytes) {x = Start b.0 selector d.0} (some_is (Start b.0 selector d.0) l d.2) (record {
+    subst (Spells version (codes "start") bytes) {x = Start b.0 selector d.0}
+    (some_is (Start b.0 selector d.0) l d.2) (record {
       spelled = ap (λ (w : Listed ℕ). codes "start" ++ 32 ∷ w) (word_takes 32 bytes a.0 a.1
           ∙ ap (λ (w : Listed ℕ). w ++ 32 ∷ a.0.1) y.0
           ∙ ap (λ (w : Listed ℕ). decimal b.0 ++ (32 ∷ w)) (part_takes 32 a.0.1

@@ -88,7 +88,8 @@ values_free limit (v ∷ vs) h = (
 -- nor have two numbers with a space between
 pair_free : (p n : ℕ) → p ≤ 65535 → n < 2 ^ 64 → Without 10 (number_pair p n)
 pair_free p n h k =
-    Without-append 10 (decimal p) (32 ∷ decimal n) (Without-decimal 10 p (omega arith) (omega arith)) (
+    Without-append 10 (decimal p) (32 ∷ decimal n)
+    (Without-decimal 10 p (omega arith) (omega arith)) (
       λ (e : 32 ≡ 10). omega arith,
       Without-decimal 10 n (omega arith) k,
     )

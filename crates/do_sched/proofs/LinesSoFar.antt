@@ -136,12 +136,14 @@ module _ (version : Version) (bytes rest : Listed ℕ) (lines : Listed Line)
   -- no line is left: the end is missing
   pub end_missing : (n : ℕ) → cut rest ≡ [] → n ≡ length lines + 2 → IsEndMissing version bytes n
   end_missing n e k =
-      subst (IsEndMissing version bytes) (sym k) (later lines (subst (Opens version bytes lines) e o))
+      subst (IsEndMissing version bytes) (sym k)
+      (later lines (subst (Opens version bytes lines) e o))
 
   module _ (t : text.Line) (after : Listed ℕ) (e : cut rest ≡ t ∷ cut after) where
     at_end : is_whole footer t ≡ true → Opens version bytes lines (whole footer ∷ cut after)
     at_end h =
-        subst (λ (w : text.Line). Opens version bytes lines (w ∷ cut after)) (is_whole_true footer t h)
+        subst (λ (w : text.Line). Opens version bytes lines (w ∷ cut after))
+        (is_whole_true footer t h)
         (next t (cut after) e)
 
     pub ends_well : is_whole footer t ≡ true → length after ≡ 0 → IsScheduleOf version bytes lines
@@ -154,7 +156,8 @@ module _ (version : Version) (bytes rest : Listed ℕ) (lines : Listed Line)
             subst (λ (w : Listed ℕ). Opens version bytes lines (whole footer ∷ cut w)) p q in
             record {
               spelled = opened_bytes version bytes lines (whole footer ∷ []) r
-                  ∙ sym (append_assoc (fed (header version)) (flat_map (λ l. fed (line_spelling l)) lines)
+                  ∙ sym (append_assoc (fed (header version))
+                  (flat_map (λ l. fed (line_spelling l)) lines)
                   (fed footer));
               good = r.good;
               few = r.few;
@@ -167,9 +170,11 @@ module _ (version : Version) (bytes rest : Listed ℕ) (lines : Listed Line)
         let c = cut_some after lt in
         subst (IsBadLine version bytes) (sym k)
         (behind lines c.0 c.1
-        (subst (λ (w : Listed text.Line). Opens version bytes lines (whole footer ∷ w)) c.2 (at_end h)))
+        (subst (λ (w : Listed text.Line). Opens version bytes lines (whole footer ∷ w)) c.2
+        (at_end h)))
 
-    pub bad_between : (n : ℕ) → is_whole footer t ≡ false → line_in version t ≡ None → n ≡ length lines + 2
+    pub bad_between : (n : ℕ) → is_whole footer t ≡ false → line_in version t ≡ None
+        → n ≡ length lines + 2
         → IsBadLine version bytes n
     bad_between n h none k =
         subst (IsBadLine version bytes) (sym k)
@@ -181,10 +186,12 @@ module _ (version : Version) (bytes rest : Listed ℕ) (lines : Listed Line)
     at_line : (l : Line) → line_in version t ≡ Some l
         → Opens version bytes lines (whole (line_spelling l) ∷ cut after)
     at_line l h =
-        subst (λ (w : text.Line). Opens version bytes lines (w ∷ cut after)) (line_in_takes version t l h).0
+        subst (λ (w : text.Line). Opens version bytes lines (w ∷ cut after))
+        (line_in_takes version t l h).0
         (next t (cut after) e)
 
-    pub too_many : (n : ℕ) (l : Line) → line_in version t ≡ Some l → most_steps < steps_of lines + steps l
+    pub too_many : (n : ℕ) (l : Line) → line_in version t ≡ Some l
+        → most_steps < steps_of lines + steps l
         → n ≡ length lines + 2 → IsTooMany version bytes n
     too_many n l h many k =
         subst (IsTooMany version bytes) (sym k)
@@ -198,7 +205,8 @@ module _ (version : Version) (bytes rest : Listed ℕ) (lines : Listed Line)
       few = simp sum_by-append (omega arith);
     }
       where
-        s : cut bytes ≡ whole (header version) ∷ map (λ m. whole (line_spelling m)) (lines ++ l ∷ [])
+        s : cut bytes ≡ whole (header version) ∷ map (λ m. whole (line_spelling m))
+            (lines ++ l ∷ [])
             ++ cut after
         s = (at_line l h).spelled
             ∙ ap (λ (w : Listed text.Line). whole (header version) ∷ w)

@@ -1,5 +1,6 @@
 -- A schedule of the first version, written anew, is one of the second version.
-use Rattle.std.proofs.Common.{◌≡◌, ℕ, ◌≤◌, List as Listed, [], ◌∷◌, ◌++◌, length, drop, Result, Ok, Err}
+use Rattle.std.proofs.Common.{◌≡◌, ℕ, ◌≤◌, List as Listed, [], ◌∷◌, ◌++◌, length, drop, Result}
+use Rattle.std.proofs.Common.{Ok, Err}
 use Rattle.std.proofs.Common.{ap, ◌∙◌, arith}
 use Rattle.std.specs.List.{AllByRecursion}
 use Rattle.do_base.specs.declared.values.value.Value.{Value}

@@ -1,5 +1,6 @@
 -- The line that a text spells, as it is read word by word.
-use Rattle.std.specs.Prelude.{Bool, false, ◌&&◌, ℕ, zero, suc, ◌==◌, List as Listed, [], ◌∷◌, Option}
+use Rattle.std.specs.Prelude.{Bool, false, ◌&&◌, ℕ, zero, suc, ◌==◌, List as Listed, [], ◌∷◌}
+use Rattle.std.specs.Prelude.{Option}
 use Rattle.std.specs.Prelude.{Some, None, if◌then◌else◌, codes}
 use Rattle.std.specs.Str.{bytes_eq}
 use Rattle.do_base.specs.declared.values.value.Value.{Value}

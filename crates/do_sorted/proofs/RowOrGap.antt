@@ -2,6 +2,9 @@
 use Rattle.std.proofs.Common.{◌≡◌, ℕ, zero, suc, ◌<◌, ◌≤◌, ◌&&◌, Bool, true, false, not, cond, T}
 use Rattle.std.proofs.Common.{List, [], ◌∷◌, length, get_or, set, Some, None, slice_get, refl, sym}
 use Rattle.std.proofs.Common.{ap, ◌∙◌, subst, arith}
+use mathlib.Core.Bool.{false≢true}
+use Rattle.std.specs.Option.{is_some}
+use Rattle.std.proofs.lemmas.Option.{get_or_from_slice_get}
 use Rattle.std.specs.List.{insert, remove}
 use Rattle.std.specs.Ordering.{is_eq, is_lt}
 use Rattle.std.specs.Cmp.{IsTotalOrder}
@@ -54,6 +57,19 @@ module _ {K V : Type 0} {R : K → K → Ordering} (o : IsTotalOrder R) where
   find_row k (e ∷ es) zero d h = ap (λ r. cond (is_eq r) (Some e.1) (find R k es)) h
   find_row k (e ∷ es) (suc i) d h = ap (λ r. cond (is_eq r) (Some e.1) (find R k es)) h.0
       ∙ find_row k es i d h.1
+
+  -- so is the value of the row that is read there
+  pub find_here : (k : K) (es : List (K × V)) (i : ℕ) (e : K × V) → IsRowOf R k es i
+      → slice_get es i ≡ Some e → find R k es ≡ Some e.1
+  find_here k es i e h is =
+      find_row k es i e h ∙ ap (λ x. Some x.1) (get_or_from_slice_get es i e e is)
+
+  -- there is a row to read
+  pub row_there : (k : K) (es : List (K × V)) (i : ℕ) → IsRowOf R k es i
+      → slice_get es i ≡ None → ⊥
+  row_there k [] i h n = h
+  row_there k (e ∷ es) zero h n = false≢true (sym (ap is_some n))
+  row_there k (e ∷ es) (suc i) h n = row_there k es i h.1 n
 
   -- a key below all rows is not found, and no row of it can be taken out
   pub find_below : (k : K) (es : List (K × V)) → T (below_all R k es) → find R k es ≡ None
@@ -110,6 +126,12 @@ module _ {K V : Type 0} {R : K → K → Ordering} (o : IsTotalOrder R) where
   put_row k v [] i d h = absurd h
   put_row k v (e ∷ es) zero d h = rw h refl
   put_row k v (e ∷ es) (suc i) d h = rw h.0 (ap (λ rest. e ∷ rest) (put_row k v es i d h.1))
+
+  -- the same of the row that is read there
+  pub put_here : (k : K) (v : V) (es : List (K × V)) (i : ℕ) (e : K × V) → IsRowOf R k es i
+      → slice_get es i ≡ Some e → put R k v es ≡ set es i (e.0, v)
+  put_here k v es i e h is =
+      put_row k v es i e h ∙ ap (λ x. set es i (x.0, v)) (get_or_from_slice_get es i e e is)
 
   -- to insert a row in the gap is to put it
   pub put_gap : (k : K) (v : V) (es : List (K × V)) (i : ℕ) → IsGapFor R k es i

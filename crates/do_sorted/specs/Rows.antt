@@ -1,6 +1,7 @@
 -- The rows of a map, by rising key.
-use Rattle.std.specs.Prelude.{ℕ, ◌-◌, not, Vec, vec_len, vec_capacity, cond, List, [], ◌∷◌, Some}
-use Rattle.std.specs.Prelude.{None, Option, refl}
+use Rattle.std.specs.Prelude.{ℕ, ◌+◌, ◌≤◌, not, Vec, vec_len, vec_capacity, cond, List, [], ◌∷◌}
+use Rattle.std.specs.Prelude.{Some}
+use Rattle.std.specs.Prelude.{None, Option, refl, length}
 use Rattle.std.specs.Coded.{Coded, code_by, coded×, coded_ℕ, coded_list}
 use Rattle.std.specs.Ordering.{eq_by_cmp, is_lt}
 use Rattle.std.specs.List.{filter}
@@ -17,9 +18,9 @@ rows_code {K} {V} k v =
     code_by (List (K × V) × ℕ) (coded× (coded_list (coded× k v)) coded_ℕ) (λ r. (r.rows, r.spare))
     (λ p. record { rows = p.0; spare = p.1 }) (λ _. refl)
 
--- what a vector of rows shows: its rows, and the room behind them
-abbrev pub rows_of : {K V A : Type 0} → Vec (K × V) A → Rows K V
-rows_of items = record { rows = items.items; spare = vec_capacity items - vec_len items }
+-- each row's places have room among the free ones once it is taken out
+abbrev pub HasPlaces : {X Y A : Type 0} → List X → Vec Y A → Type 0
+HasPlaces rows free = length rows + vec_len free ≤ vec_capacity free
 
 module _ {K V : Type 0} (R : K → K → Ordering) (k : K) where
   -- the rows of all other keys

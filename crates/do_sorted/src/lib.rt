@@ -1,13 +1,17 @@
 //! A map in the order of its keys, with room that is made beforehand.
 //!
-//! It stands on a sorted `Vec`, which alone of std's containers has an order and can also make
-//! room before a key is put in. It promises each look-up and change exactly, and that a key can be
+//! It stands on std alone: a balanced tree whose places are made before a key is put in, which the
+//! ordered map of std cannot do. It promises each look-up and change exactly, and that a key can be
 //! put in wherever there is room. The form is this project's own.
 #![tactic(auto)]
+
+mod tree;
 
 ghost use Rattle.std.specs.Prelude.{◌≡◌, ◌+◌, ◌-◌, ◌<◌, ◌≤◌, [], length, OnOk, OnErr, IfOk, IfErr};
 ghost use Rattle.std.specs.Prelude.{IsTrue, is_some, IsSome, Some, T, if◌then◌else◌, slice_get};
 ghost use Rattle.std.specs.Option.{option_copied};
+ghost use Rattle.std.specs.Prelude.{vec_len, vec_capacity};
+ghost use Rattle.std.specs.List.{remove};
 ghost use Rattle.std.specs.List.Retain.{IsFiltered};
 ghost use Rattle.std.specs.Fn.{CalledAt};
 ghost use Rattle.std.specs.FinMap.{find, put, is_sorted};
@@ -16,29 +20,30 @@ ghost use Rattle.do_sorted.specs.Rows.{without, first_from};
 
 use std::alloc::{AllocError, Global};
 use std::marker::Model;
-use std::mem;
+use tree::{Places, Tree};
 
 /// A map that contracts see as the list of its keys and values, by rising key, and the room left.
 ///
-/// A look-up takes steps as the logarithm of the length. A change at a key moves the rows of higher
-/// keys, so it is cheap where keys come in rising order.
+/// A look-up and a change take steps as the logarithm of the length. Room for a key is two places
+/// of a tree, which are made beforehand, and are free again when a key is taken out.
 #[derive(Debug, Drop)]
 pub struct Sorted<K: Ord, V> {
-    rows: Vec<(K, V)>,
+    rows: Tree<(K, V)>,
+    free: Vec<Places<(K, V)>>,
 }
 
 impl<K: Ord, V> Model for Sorted<K, V> {
-    ghost use Rattle.std.specs.Prelude.{T};
+    ghost use Rattle.std.specs.Prelude.{T, ◌+◌, ◌≤◌, length, vec_len, vec_capacity};
     ghost use Rattle.std.specs.FinMap.{is_sorted};
-    ghost use Rattle.do_sorted.specs.Rows.{Rows, rows_code, rows_of};
+    ghost use Rattle.do_sorted.specs.Rows.{Rows, rows_code, HasPlaces};
 
     ghost Value = { Rows K V };
 
     ghost coded = { rows_code K.code V.code };
 
-    ghost view = { λ s. rows_of s.rows };
+    ghost view = { λ s. record { rows = s.rows; spare = vec_len s.free } };
 
-    ghost invariant = { λ s. T (is_sorted K.cmp s.rows.items) };
+    ghost invariant = { λ s. T (is_sorted K.cmp s.rows) × HasPlaces s.rows s.free };
 }
 
 impl<K: Ord + Copy, V: Drop> Sorted<K, V> {
@@ -47,7 +52,8 @@ impl<K: Ord + Copy, V: Drop> Sorted<K, V> {
         ensures { result ≡ record { rows = []; spare = 0 } }
     {
         Sorted {
-            rows: Vec::new(alloc),
+            rows: Tree::new(),
+            free: Vec::new(alloc),
         }
     }
 
@@ -62,14 +68,14 @@ impl<K: Ord + Copy, V: Drop> Sorted<K, V> {
     pub fn spare(&self) -> usize
         ensures { result ≡ self.now.spare }
     {
-        self.rows.capacity() - self.rows.len()
+        self.free.len()
     }
 
     /// How many keys fit with no memory taken, those that are there included.
     pub fn capacity(&self) -> usize
         ensures { result ≡ length self.now.rows + self.now.spare }
     {
-        self.rows.capacity()
+        self.rows.len() + self.free.len()
     }
 
     /// Makes room for `more` keys at least.
@@ -81,7 +87,15 @@ impl<K: Ord + Copy, V: Drop> Sorted<K, V> {
         ensures kept { self.old.spare ≤ self.new.spare }
         ensures err { OnErr result (self.new ≡ self.old) }
     {
-        self.rows.reserve(more)
+        let had = self.free.len();
+        if more <= had {
+            return Ok(());
+        }
+        let Some(all) = (more - had).checked_add(self.rows.len()) else {
+            return Err(AllocError);
+        };
+        self.free.reserve(all)?;
+        add_places(&mut self.free, more - had)
     }
 
     /// Where the key stands, or else where it would go.
@@ -90,7 +104,7 @@ impl<K: Ord + Copy, V: Drop> Sorted<K, V> {
         ensures absent { IfErr result (IsGapFor K.cmp key.now self.now.rows) }
         ensures sorted { T (is_sorted K.cmp self.now.rows) }
     {
-        self.rows.binary_search_by_key(key, |row| row.0)
+        self.rows.search(key)
     }
 
     /// Where the first row from a key on stands.
@@ -107,10 +121,13 @@ impl<K: Ord + Copy, V: Drop> Sorted<K, V> {
     pub fn get(&self, key: &K) -> Option<&V>
         ensures { option_copied result ≡ find K.cmp key.now self.now.rows }
     {
-        match self.search(key) {
-            Ok(at) => Some(&self.rows[at].1),
-            Err(_) => None,
-        }
+        let Ok(at) = self.search(key) else {
+            return None;
+        };
+        let Some(row) = self.rows.get(at) else {
+            unreachable!();
+        };
+        Some(&row.1)
     }
 
     /// Whether the map has the key.
@@ -127,17 +144,17 @@ impl<K: Ord + Copy, V: Drop> Sorted<K, V> {
         self.rows.get(self.place(key))
     }
 
-    /// All rows, by rising key.
-    pub fn rows(&self) -> &[(K, V)]
-        ensures value { result.now ≡ self.now.rows }
+    /// The row at a place, by rising key. None exactly from the number of keys on.
+    pub fn row(&self, at: usize) -> Option<&(K, V)>
+        ensures value { option_copied result ≡ slice_get self.now.rows at }
         ensures sorted { T (is_sorted K.cmp self.now.rows) }
     {
-        self.rows.as_slice()
+        self.rows.get(at)
     }
 
     /// The allocator that the map was made with.
     pub fn allocator(&self) -> Global {
-        *self.rows.allocator()
+        *self.free.allocator()
     }
 
     /// The row with the lowest key. None exactly where there is none.
@@ -158,11 +175,12 @@ impl<K: Ord + Copy, V: Drop> Sorted<K, V> {
             ≡ length self.old.rows + self.old.spare }
     {
         match self.search(&key) {
-            Ok(at) => Some(mem::replace(&mut self.rows[at].1, value)),
+            Ok(at) => Some(self.rows.set_value(at, value).1),
             Err(at) => {
-                let Ok(()) = self.rows.insert(at, (key, value)) else {
+                let Some(places) = self.free.pop() else {
                     unreachable!();
                 };
+                self.rows.insert(at, (key, value), places);
                 None
             }
         }
@@ -178,7 +196,7 @@ impl<K: Ord + Copy, V: Drop> Sorted<K, V> {
         let Ok(at) = self.search(key) else {
             unreachable!();
         };
-        mem::replace(&mut self.rows[at].1, value)
+        self.rows.set_value(at, value).1
     }
 
     /// Takes out a key, whose place is room again, and gives its value. None exactly where the map
@@ -193,22 +211,67 @@ impl<K: Ord + Copy, V: Drop> Sorted<K, V> {
         let Ok(at) = self.search(key) else {
             return None;
         };
-        let (_, value) = self.rows.remove(at);
-        Some(value)
+        Some(self.remove_at(at).1)
+    }
+
+    /// Takes out the row at a place, which is room again.
+    fn remove_at(&mut self, at: usize) -> (K, V)
+        requires { at < length self.old.rows }
+        ensures row { slice_get self.old.rows at ≡ Some result }
+        ensures rest { self.new.rows ≡ remove self.old.rows at }
+        ensures spare { self.new.spare ≡ self.old.spare + 1 }
+    {
+        let (row, places) = self.rows.remove(at);
+        let Ok(()) = self.free.push(places) else {
+            unreachable!();
+        };
+        row
     }
 }
 
 impl<K: Ord + Copy, V: Copy> Sorted<K, V> {
-    /// Keeps the rows that pass a test, and takes out all others in one go.
-    ///
-    /// To take out many keys by `remove` would move the rows behind each of them.
-    pub fn retain<F: FnMut(&(K, V)) -> bool>(&mut self, keep: F)
+    /// Keeps the rows that pass a test, and takes out all others.
+    pub fn retain<F: FnMut(&(K, V)) -> bool>(&mut self, mut keep: F)
         requires { F.IsAlwaysCallable keep }
         ensures filtered { IsFiltered (CalledAt F.FnMut) keep self.old.rows self.new.rows }
         ensures spare { self.old.spare ≤ self.new.spare }
         ensures capacity { length self.new.rows + self.new.spare
             ≡ length self.old.rows + self.old.spare }
     {
-        self.rows.retain(keep);
+        let mut at = 0;
+        while at < self.len() {
+            let Some(row) = self.row(at) else {
+                unreachable!();
+            };
+            if keep(row) {
+                at += 1;
+            } else {
+                self.remove_at(at);
+            }
+        }
     }
+}
+
+/// Adds places that are free, for which there is room.
+///
+/// If memory runs out, there are as many as before.
+fn add_places<T: Drop>(free: &mut Vec<Places<T>>, more: usize) -> Result<(), AllocError>
+    requires { vec_len free.old + more ≤ vec_capacity free.old }
+    ensures ok { OnOk result (vec_len free.new ≡ vec_len free.old + more) }
+    ensures err { OnErr result (vec_len free.new ≡ vec_len free.old) }
+    ensures capacity { vec_capacity free.old ≤ vec_capacity free.new }
+{
+    let had = free.len();
+    let all = had + more;
+    let alloc = *free.allocator();
+    while free.len() < all {
+        let Ok(places) = Places::new(alloc) else {
+            free.truncate(had);
+            return Err(AllocError);
+        };
+        let Ok(()) = free.push(places) else {
+            unreachable!();
+        };
+    }
+    Ok(())
 }

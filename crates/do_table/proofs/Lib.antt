@@ -1,1 +1,2 @@
 pub mod AddedEntries
+pub mod ReplacedEntries

@@ -1,6 +1,7 @@
 -- A table as the list of its entries, each a name with its value.
 use Rattle.std.specs.Prelude.{ℕ, Bool, true, not, ◌&&◌, is_some, List, [], ◌∷◌, ◌++◌, Option}
-use Rattle.std.specs.Prelude.{Some, None, if◌then◌else◌}
+use Rattle.std.specs.Prelude.{Some, None, if◌then◌else◌, nat_le, length}
+use Rattle.std.specs.List.{list_all}
 use Rattle.std.specs.Borrow.{Bor}
 use Rattle.std.specs.Map.{lookup, remove_entry}
 use Rattle.std.specs.Str.{bytes_eq}
@@ -17,10 +18,24 @@ added es name value = if is_some (value_of es name) then es else es ++ (name, va
 abbrev pub removed : {V : Type 0} → List (List ℕ × V) → List ℕ → List (List ℕ × V)
 removed es name = remove_entry (bytes_eq name) es
 
+-- the entries with another value under a name, if it is there
+abbrev pub replaced : {V : Type 0} → List (List ℕ × V) → List ℕ → V → List (List ℕ × V)
+replaced [] name value = []
+replaced (e ∷ es) name value =
+    if bytes_eq name e.0 then (e.0, value) ∷ es else e ∷ replaced es name value
+
 -- no name is there twice
 abbrev pub are_distinct : {V : Type 0} → List (List ℕ × V) → Bool
 are_distinct [] = true
 are_distinct (e ∷ es) = not (is_some (value_of es e.0)) && are_distinct es
+
+-- at most as many entries, each of which passes, and no name twice
+abbrev pub is_table : {V : Type 0} → ℕ → (List ℕ × V → Bool) → List (List ℕ × V) → Bool
+is_table most test es = nat_le (length es) most && (list_all test es && are_distinct es)
+
+-- the entries, where no name is there twice
+abbrev pub once : {V : Type 0} → List (List ℕ × V) → Option (List (List ℕ × V))
+once es = if are_distinct es then Some es else None
 
 -- what a name has, or else this value where it is the name that is added
 abbrev pub given : {V : Type 0} → Option V → V → Bool → Option V

@@ -5,7 +5,9 @@
 //! a name moves the entries behind it. A name is told from another byte by byte.
 #![tactic(auto)]
 
+mod entry;
 mod key;
 mod table;
 
+pub use entry::Entry;
 pub use table::Table;

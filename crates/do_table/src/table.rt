@@ -1,10 +1,12 @@
 ghost use Rattle.std.specs.Prelude.{◌≡◌, ◌<◌, [], not, is_some, length, slice_get, Some};
-ghost use Rattle.std.specs.Prelude.{IfOk, OnOk, OnErr};
+ghost use Rattle.std.specs.Prelude.{IfOk, OnOk, OnErr, map, take};
+ghost use Rattle.std.specs.Map.{keys_of};
 ghost use Rattle.std.specs.Option.{option_copied};
-ghost use Rattle.do_table.specs.Entries.{added, entry_shown, removed, value_of};
+ghost use Rattle.do_table.specs.Entries.{added, entry_shown, once, removed, replaced, value_of};
 
+use crate::entry::Entry;
 use crate::key::Key;
-use do_base::Text;
+use do_base::{Text, Texts};
 use indexmap::IndexMap;
 use std::alloc::{AllocError, Global};
 use std::marker::Model;
@@ -38,6 +40,19 @@ impl<V: Drop> Table<V> {
         }
     }
 
+    /// The table of these rows, in their order; none exactly where a name is there twice.
+    pub fn of<E: Entry<V>>(alloc: Global, rows: &[E]) -> Result<Option<Table<V>>, AllocError>
+        ensures { IfOk result (λ table. table ≡ once (map E.entry rows.now)) }
+    {
+        let mut table = Table::new(alloc);
+        for row in rows {
+            if !table.add(row.name()?, row.kept()?)? {
+                return Ok(None);
+            }
+        }
+        Ok(Some(table))
+    }
+
     /// The allocator that the table was made with.
     pub fn allocator(&self) -> Global {
         *self.map.allocator()
@@ -68,6 +83,18 @@ impl<V: Drop> Table<V> {
         (key.text(), value)
     }
 
+    /// The names, in order.
+    pub fn names(&self) -> Result<Texts, AllocError>
+        ensures { IfOk result (λ names. names ≡ keys_of self.now) }
+    {
+        let mut names = Texts::with_capacity(self.allocator(), self.len())?;
+        for at in 0..self.len() {
+            let (name, _) = self.entry(at);
+            names.push(name.clone()?)?;
+        }
+        Ok(names)
+    }
+
     /// Adds a name behind the others, and answers whether it was new. A name that is there keeps
     /// its value and its place. If memory runs out, the table is unchanged.
     pub fn add(&mut self, name: Text, value: V) -> Result<bool, AllocError>
@@ -82,6 +109,28 @@ impl<V: Drop> Table<V> {
             Ok(_) => Ok(true),
             Err(_) => Err(AllocError),
         }
+    }
+
+    /// Puts a value in the place of that of a name, and answers whether the name is there. Names
+    /// and their order stay.
+    pub fn set(&mut self, name: &Text, value: V) -> bool
+        ensures there { result ≡ is_some (value_of self.old name.now) }
+        ensures new { self.new ≡ replaced self.old name.now value }
+    {
+        match self.map.get_index_of(name.as_slice()) {
+            Some(at) => {
+                self.map[at] = value;
+                true
+            }
+            None => false,
+        }
+    }
+
+    /// Keeps the first names, at most as many, and takes out those behind them.
+    pub fn truncate(&mut self, count: usize)
+        ensures { self.new ≡ take count self.old }
+    {
+        self.map.truncate(count);
     }
 
     /// Takes out a name, and answers with its value. The others keep their order.

@@ -12,6 +12,11 @@ fn concerned<'a>(status: &Status, words: &'a [Word]) -> &'a [Word] {
     }
 }
 
+/// Whether a word names a file: one that begins with `:` names a world that is built in.
+fn is_file(word: &Word) -> bool {
+    !matches!(word.as_slice(), [b':', ..])
+}
+
 /// Prints the name of a file, if it is text.
 fn tell_file(rt: &HostRuntime, name: &Word) {
     if let Ok(name) = std::str::from_utf8(name.as_slice()) {
@@ -30,7 +35,7 @@ fn tell_remedy(rt: &HostRuntime, status: &Status) {
         }
         Status::BadSchedule(1) => {
             let _ = eprintln!(rt;
-                "`upgrade SCHEDULE` writes one anew that begins with `schedule 1`"
+                "a schedule that begins with `schedule 1` is written anew by `upgrade SCHEDULE`"
             );
         }
         _ => {}
@@ -42,7 +47,9 @@ fn tell_remedy(rt: &HostRuntime, status: &Status) {
 pub fn tell(rt: &HostRuntime, status: &Status, words: &[Word]) {
     let _ = eprintln!(rt; "{status}");
     for name in concerned(status, words) {
-        tell_file(rt, name);
+        if is_file(name) {
+            tell_file(rt, name);
+        }
     }
     tell_remedy(rt, status);
 }

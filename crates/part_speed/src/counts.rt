@@ -27,7 +27,7 @@ fn filled(alloc: Global, peer: NodeId, members: u64) -> Result<Exports, AllocErr
 }
 
 /// The next number of a generator, by the multiplier and the step of Knuth's MMIX.
-fn next(state: u64) -> u64 {
+pub fn next(state: u64) -> u64 {
     state
         .wrapping_mul(6364136223846793005)
         .wrapping_add(1442695040888963407)

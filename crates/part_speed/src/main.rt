@@ -4,10 +4,16 @@
 
 ghost use Rattle.std.specs.Prelude.{◌<◌};
 
+mod chains;
 mod counts;
+mod foreign;
+mod holders;
 mod queues;
 
+use crate::chains::releasing;
 use crate::counts::{closing, counting};
+use crate::foreign::importing;
+use crate::holders::holding;
 use crate::queues::queueing;
 use std::alloc::Global;
 use std::io::{self, Eprint};
@@ -24,7 +30,9 @@ pub fn say(rt: &impl Eprint, name: &str, members: u64, calls: u32, took: Duratio
 /// Measures all parts at a number of members.
 fn measure(rt: &(impl CpuClock + Eprint), alloc: Global, members: u64) -> io::Result<()> {
     queueing(rt, alloc, members)?;
-    counting(rt, alloc, members)
+    counting(rt, alloc, members)?;
+    importing(rt, alloc, members)?;
+    holding(rt, alloc, members)
 }
 
 fn main(rt: HostRuntime) -> io::Result<()> {
@@ -32,5 +40,8 @@ fn main(rt: HostRuntime) -> io::Result<()> {
     measure(&rt, alloc, 10)?;
     measure(&rt, alloc, 1_000)?;
     measure(&rt, alloc, 100_000)?;
-    closing(&rt, alloc, 100_000)
+    closing(&rt, alloc, 100_000)?;
+    releasing(&rt, alloc, 1_000)?;
+    releasing(&rt, alloc, 100_000)?;
+    releasing(&rt, alloc, 1_000_000)
 }

@@ -3,142 +3,146 @@ use super::samples::{answer, classes, document, repeated};
 use do_class::ClassId;
 use std::test::Fail;
 
+/// Members of the list of classes, each list with what reading it answers.
+const CLASS_FAULTS: [(&str, &str); 29] = [
+    ("{}", "class[0].name is missing"),
+    ("{kind = 1}", "class[0].kind is wrong"),
+    ("{b = 1, Z = 1}", "class[0].Z is wrong"),
+    ("{name = 1}", "class[0].name is wrong"),
+    ("{name = \"9\"}", "class[0].name is wrong"),
+    ("{name = \"\"}", "class[0].name is wrong"),
+    ("{name = \"A\"}, {name = \"A\"}", "class[1].name is wrong"),
+    ("{name = \"A\"}, {name = \"B\"}", "read"),
+    ("{name = \"A\"}, {}", "class[1].name is missing"),
+    (
+        "{name = \"A\", native = \"names\"}",
+        "class[0].native is wrong",
+    ),
+    (
+        "{name = \"A\", native = \"names\", slots = 1}",
+        "class[0].native is wrong",
+    ),
+    ("{native = \"names\"}", "class[0].name is missing"),
+    ("{name = \"A\", allow = []}", "class[0].allow is wrong"),
+    ("{name = \"A\", slots = []}", "read"),
+    ("{name = \"A\", slots = [\"a\", \"b copy\"]}", "read"),
+    ("{name = \"A\", slots = \"a\"}", "class[0].slots is wrong"),
+    (
+        "{name = \"A\", slots = [\"a\", 5]}",
+        "class[0].slots[1] is wrong",
+    ),
+    (
+        "{name = \"A\", slots = [\"9\", 5]}",
+        "class[0].slots[1] is wrong",
+    ),
+    (
+        "{name = \"A\", slots = [\"a\", \"9\"]}",
+        "class[0].slots[1] is wrong",
+    ),
+    (
+        "{name = \"A\", slots = [\"a\", \"b\", \"a copy\"]}",
+        "class[0].slots[2] is wrong",
+    ),
+    (
+        "{name = \"A\", slots = [\"a ref\"]}",
+        "class[0].slots[0] is wrong",
+    ),
+    (
+        "{name = \"A\", slots = [\"a  copy\"]}",
+        "class[0].slots[0] is wrong",
+    ),
+    (
+        "{name = \"A\", slots = [\" copy\"]}",
+        "class[0].slots[0] is wrong",
+    ),
+    (
+        "{name = \"A\", slots = 1, method = 1}",
+        "class[0].slots is wrong",
+    ),
+    ("{name = \"A\", method = []}", "read"),
+    (
+        "{name = \"A\", method = \"go\"}",
+        "class[0].method is wrong",
+    ),
+    (
+        "{name = \"A\", method = [{}, 1]}",
+        "class[0].method[1] is wrong",
+    ),
+    (
+        "{name = \"A\", slots = [\"9\"], method = [{x = 1}]}",
+        "class[0].slots[0] is wrong",
+    ),
+    (
+        "{name = \"A\"}, {name = \"B\", slots = 1}",
+        "class[1].slots is wrong",
+    ),
+];
+
 #[test]
 fn class_faults(rt: HostRuntime) -> Result<(), Fail> {
-    let cases: [(&str, &str); 29] = [
-        ("{}", "class[0].name is missing"),
-        ("{kind = 1}", "class[0].kind is wrong"),
-        ("{b = 1, Z = 1}", "class[0].Z is wrong"),
-        ("{name = 1}", "class[0].name is wrong"),
-        ("{name = \"9\"}", "class[0].name is wrong"),
-        ("{name = \"\"}", "class[0].name is wrong"),
-        ("{name = \"A\"}, {name = \"A\"}", "class[1].name is wrong"),
-        ("{name = \"A\"}, {name = \"B\"}", "read"),
-        ("{name = \"A\"}, {}", "class[1].name is missing"),
-        (
-            "{name = \"A\", native = \"names\"}",
-            "class[0].native is wrong",
-        ),
-        (
-            "{name = \"A\", native = \"names\", slots = 1}",
-            "class[0].native is wrong",
-        ),
-        ("{native = \"names\"}", "class[0].name is missing"),
-        ("{name = \"A\", allow = []}", "class[0].allow is wrong"),
-        ("{name = \"A\", slots = []}", "read"),
-        ("{name = \"A\", slots = [\"a\", \"b copy\"]}", "read"),
-        ("{name = \"A\", slots = \"a\"}", "class[0].slots is wrong"),
-        (
-            "{name = \"A\", slots = [\"a\", 5]}",
-            "class[0].slots[1] is wrong",
-        ),
-        (
-            "{name = \"A\", slots = [\"9\", 5]}",
-            "class[0].slots[1] is wrong",
-        ),
-        (
-            "{name = \"A\", slots = [\"a\", \"9\"]}",
-            "class[0].slots[1] is wrong",
-        ),
-        (
-            "{name = \"A\", slots = [\"a\", \"b\", \"a copy\"]}",
-            "class[0].slots[2] is wrong",
-        ),
-        (
-            "{name = \"A\", slots = [\"a ref\"]}",
-            "class[0].slots[0] is wrong",
-        ),
-        (
-            "{name = \"A\", slots = [\"a  copy\"]}",
-            "class[0].slots[0] is wrong",
-        ),
-        (
-            "{name = \"A\", slots = [\" copy\"]}",
-            "class[0].slots[0] is wrong",
-        ),
-        (
-            "{name = \"A\", slots = 1, method = 1}",
-            "class[0].slots is wrong",
-        ),
-        ("{name = \"A\", method = []}", "read"),
-        (
-            "{name = \"A\", method = \"go\"}",
-            "class[0].method is wrong",
-        ),
-        (
-            "{name = \"A\", method = [{}, 1]}",
-            "class[0].method[1] is wrong",
-        ),
-        (
-            "{name = \"A\", slots = [\"9\"], method = [{x = 1}]}",
-            "class[0].slots[0] is wrong",
-        ),
-        (
-            "{name = \"A\"}, {name = \"B\", slots = 1}",
-            "class[1].slots is wrong",
-        ),
-    ];
-    for (list, want) in &cases {
+    for (list, want) in &CLASS_FAULTS {
         let text = format!(in rt.alloc(); "class = [{list}]")?;
         assert_eq!(rt; answer(&rt, text.as_str())?.as_str(), *want);
     }
     Ok(())
 }
 
+/// Members of a class's list of methods, each list with what reading it answers.
+const METHOD_FAULTS: [(&str, &str); 16] = [
+    ("{}", "class[0].method[0].selector is missing"),
+    ("{x = 1}", "class[0].method[0].x is wrong"),
+    (
+        "{types = \"v@:\"}",
+        "class[0].method[0].selector is missing",
+    ),
+    ("{selector = 1}", "class[0].method[0].selector is wrong"),
+    (
+        "{selector = \"a:b\"}",
+        "class[0].method[0].selector is wrong",
+    ),
+    ("{selector = \"\"}", "class[0].method[0].selector is wrong"),
+    ("{selector = \"a\"}", "class[0].method[0].types is missing"),
+    (
+        "{selector = \"a\", types = 1}",
+        "class[0].method[0].types is wrong",
+    ),
+    (
+        "{selector = \"a\", types = \"v@\"}",
+        "class[0].method[0].types spells no signature: the encoding ends too early",
+    ),
+    (
+        "{selector = \"a\", types = \"d@:\"}",
+        "class[0].method[0].types spells no signature: the type at 0 is not supported here",
+    ),
+    (
+        "{selector = \"a:\", types = \"v@:z\"}",
+        "class[0].method[0].types spells no signature: nothing goes on with the byte at 3",
+    ),
+    (
+        "{selector = \"a\", types = \"v@:q\"}",
+        "class[0].method[0].types is wrong",
+    ),
+    (
+        "{selector = \"a:\", types = \"v@:\"}",
+        "class[0].method[0].types is wrong",
+    ),
+    (
+        "{selector = \"a:b:\", types = \"v24@0:8q16@20\", code = 1}",
+        "read",
+    ),
+    (
+        "{selector = \"a\", types = \"v@:\"}, {selector = \"a\"}",
+        "class[0].method[1].selector is wrong",
+    ),
+    (
+        "{selector = \"a\", types = \"v@:\"}, {}",
+        "class[0].method[1].selector is missing",
+    ),
+];
+
 #[test]
 fn method_faults(rt: HostRuntime) -> Result<(), Fail> {
-    let cases: [(&str, &str); 16] = [
-        ("{}", "class[0].method[0].selector is missing"),
-        ("{x = 1}", "class[0].method[0].x is wrong"),
-        (
-            "{types = \"v@:\"}",
-            "class[0].method[0].selector is missing",
-        ),
-        ("{selector = 1}", "class[0].method[0].selector is wrong"),
-        (
-            "{selector = \"a:b\"}",
-            "class[0].method[0].selector is wrong",
-        ),
-        ("{selector = \"\"}", "class[0].method[0].selector is wrong"),
-        ("{selector = \"a\"}", "class[0].method[0].types is missing"),
-        (
-            "{selector = \"a\", types = 1}",
-            "class[0].method[0].types is wrong",
-        ),
-        (
-            "{selector = \"a\", types = \"v@\"}",
-            "class[0].method[0].types spells no signature: the encoding ends too early",
-        ),
-        (
-            "{selector = \"a\", types = \"d@:\"}",
-            "class[0].method[0].types spells no signature: the type at 0 is not supported here",
-        ),
-        (
-            "{selector = \"a:\", types = \"v@:z\"}",
-            "class[0].method[0].types spells no signature: nothing goes on with the byte at 3",
-        ),
-        (
-            "{selector = \"a\", types = \"v@:q\"}",
-            "class[0].method[0].types is wrong",
-        ),
-        (
-            "{selector = \"a:\", types = \"v@:\"}",
-            "class[0].method[0].types is wrong",
-        ),
-        (
-            "{selector = \"a:b:\", types = \"v24@0:8q16@20\", code = 1}",
-            "read",
-        ),
-        (
-            "{selector = \"a\", types = \"v@:\"}, {selector = \"a\"}",
-            "class[0].method[1].selector is wrong",
-        ),
-        (
-            "{selector = \"a\", types = \"v@:\"}, {}",
-            "class[0].method[1].selector is missing",
-        ),
-    ];
-    for (list, want) in &cases {
+    for (list, want) in &METHOD_FAULTS {
         let text = format!(in rt.alloc(); "class = [{{name = \"A\", method = [{list}]}}]")?;
         assert_eq!(rt; answer(&rt, text.as_str())?.as_str(), *want);
     }

@@ -1,7 +1,7 @@
 //! Replays schedules over worlds in files, one after another, and writes their transcripts.
 //!
-//! It stands on do_node and do_host alone, as the program does. What it must write was worked out by
-//! hand or by another program, and stands beside it.
+//! It stands on do_node and do_host alone, as the program does. What it must write was worked out
+//! by hand or by another program, and stands beside it.
 #![tactic(auto)]
 
 use do_base::{Items, Text, Texts};

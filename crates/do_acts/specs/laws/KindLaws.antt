@@ -1,5 +1,9 @@
 -- A value is what was read from it, and what it is made of is read from it.
-use Rattle.std.proofs.Common.{◌≡◌, ◌∙◌, ℕ, ℤ, List as Listed, Some, None, sym, ap, rules}
+use Rattle.std.proofs.Common.{◌≡◌, ◌∙◌, ℕ, ℤ, List as Listed, Option, Some, None, refl, sym, ap}
+use Rattle.std.proofs.Common.{rules, Bool, true, false, subst}
+use Rattle.std.specs.Prelude.{if◌then◌else◌}
+use Rattle.std.specs.Option.{option_map}
+use Rattle.do_grammar.specs.Words.{◌>>?◌}
 use Rattle.do_base.specs.names.Names.{ObjectName}
 use Rattle.do_base.specs.values.Induction.{value_induction}
 use Rattle.do_base.specs.values.Kinds.{text, number, object, items}
@@ -90,3 +94,27 @@ object_read =
     (λ s o e. cc (e, no_object_of_Text s))
     (λ p o e. ap Obj (sym (some_same (sym (object_of_Obj p) ∙ e))))
     (λ vs _ o e. cc (e, no_object_of_List vs))
+
+-- what is found leads to what is found of it
+pub found_of : {A B : Type 0} (o : Option A) (f : A → Option B) (b : B) → (o >>? f) ≡ Some b
+    → (a : A) × (o ≡ Some a) × (f a ≡ Some b)
+found_of None f b e = cc
+found_of (Some a) f b e = (a, refl, e)
+
+-- what is mapped is found
+pub mapped_of : {A B : Type 0} (f : A → B) (o : Option A) (b : B) → option_map f o ≡ Some b
+    → (a : A) × (o ≡ Some a) × (f a ≡ b)
+mapped_of f None b e = cc
+mapped_of f (Some a) b e = (a, refl, some_same e)
+
+-- what is found leads on
+pub then_is : {A B : Type 0} {o : Option A} {a : A} (f : A → Option B) → o ≡ Some a
+    → (o >>? f) ≡ f a
+then_is f e = ap (λ p. p >>? f) e
+
+-- what passes a test is what was tested
+pub passed : {A : Type 0} (x y : A) (test : A → Bool) (b : Bool) → test x ≡ b
+    → (if b then Some x else None) ≡ Some y → (x ≡ y) × (test y ≡ true)
+passed x y test true is e =
+    let same : x ≡ y = some_same e in (same, subst (λ z. test z ≡ true) same is)
+passed x y test false is e = cc

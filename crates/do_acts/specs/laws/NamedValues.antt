@@ -74,6 +74,26 @@ module _ (inv : Invocation) (slots : Listed Value) where
   listed_named [] all = nil_named
   listed_named (v ∷ vs) all = list_named (v ∷ vs) all
 
+  -- the objects of values that stand among those named are named by values that may be
+  each_among : (vs : Listed Value)
+      → All (Contains (objects_named inv slots))
+      (flat_map (λ (os : Listed ObjectName). os) (map objects_of vs)) → All Named vs
+  each_among [] all = All-nil Named
+  each_among (v ∷ vs) all =
+      let more = flat_map (λ (os : Listed ObjectName). os) (map objects_of vs) in
+      All-cons Named v vs (All-first (Contains (objects_named inv slots)) (objects_of v) more all)
+      (each_among vs (All-second (Contains (objects_named inv slots)) (objects_of v) more all))
+
+  -- the items of a list name what it names
+  pub items_named : (vs : Listed Value) → Named (List vs) → All Named vs
+  items_named vs named =
+      each_among vs (subst (All (Contains (objects_named inv slots))) (objects_of_List vs) named)
+
+  -- and so do those of a list as a slot keeps it
+  pub listed_items_named : (vs : Listed Value) → Named (listed vs) → All Named vs
+  listed_items_named [] named = All-nil Named
+  listed_items_named (v ∷ vs) named = items_named (v ∷ vs) named
+
   -- what holds of the value of each holds of their values
   pub values_named : {A : Type 0} (value : A → Value) (xs : Listed A)
       → All (λ x. Named (value x)) xs → All Named (map value xs)
@@ -83,7 +103,7 @@ module _ (inv : Invocation) (slots : Listed Value) where
       (values_named value xs (All-tail (λ y. Named (value y)) x xs all))
 
   -- values that may each be named may all be named
-  each_named : {A : Type 0} (value : A → Value) → ((x : A) → Named (value x)) → (xs : Listed A)
+  pub each_named : {A : Type 0} (value : A → Value) → ((x : A) → Named (value x)) → (xs : Listed A)
       → All Named (map value xs)
   each_named value each [] = All-nil Named
   each_named value each (x ∷ xs) =

@@ -100,7 +100,6 @@ module _ (s : Surroundings) (table : List Pair) (R : Reads (SpellsPacket s table
   ReadsKind k r = Reads (Spelled (payload_spelling table) (OfKind k)) r
 
   kind_call : ReadsKind kinds.Call (call_at s table)
-  unfolding call_at
   kind_call =
       Reads-kind kinds.Call (both serial_at (λ call. message_at s table))
       (Reads-both num (λ call p. num p.0 ++ (counted p.1.0 ++ packet_spelling table p.1.1)) IsSerial
@@ -108,11 +107,9 @@ module _ (s : Surroundings) (table : List Pair) (R : Reads (SpellsPacket s table
       message_at s table) Reads-serial (λ call h. Reads-message))
 
   kind_oneway : ReadsKind kinds.Oneway (oneway_at s table)
-  unfolding oneway_at
   kind_oneway = Reads-kind kinds.Oneway (message_at s table) Reads-message
 
   kind_reply : ReadsKind kinds.Reply (reply_at s table)
-  unfolding reply_at
   kind_reply = Reads-kind kinds.Reply (answer_at s table) Reads-answer
 
   kind_raised : ReadsKind kinds.Raised raised_at
@@ -127,7 +124,6 @@ module _ (s : Surroundings) (table : List Pair) (R : Reads (SpellsPacket s table
   kind_root_ask = Reads-kind kinds.RootAsk serial_at Reads-serial
 
   kind_root_answer : ReadsKind kinds.RootAnswer (root_answer_at s table)
-  unfolding root_answer_at
   kind_root_answer = Reads-kind kinds.RootAnswer (answer_at s table) Reads-answer
 
   kind_retain : ReadsKind kinds.Retain retain_at

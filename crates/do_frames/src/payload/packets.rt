@@ -1,10 +1,9 @@
-//! Reading the payloads that hold a packet.
+//! Reading what the payloads that hold a packet are made of.
 ghost use Rattle.std.specs.Prelude.{◌≡◌, ◌≤◌, ◌<◌, ◌^◌, IfOk, OnErr};
 ghost use Rattle.do_grammar.specs.RestAnswers.{Gives};
 ghost use Rattle.do_coder.specs.Packets.{surroundings, after_packet};
-ghost use Rattle.do_frames.specs.Frames.{after_frame};
-ghost use Rattle.do_frames.specs.Payloads.{message_at, answer_at, call_at, oneway_at, reply_at};
-ghost use Rattle.do_frames.specs.Payloads.{root_answer_at};
+ghost use Rattle.do_frames.specs.declared.frame.Frame.TheVariants.{Call, Oneway};
+ghost use Rattle.do_frames.specs.Payloads.{message_at, answer_at};
 
 use crate::frame::Frame;
 use crate::payload::plain::TOP;
@@ -17,15 +16,15 @@ use std::alloc::Global;
 
 /// What a message says to an object.
 #[derive(Drop)]
-struct Message {
-    serial: u64,
-    selector: Text,
-    packet: Packet,
+pub struct Message {
+    pub serial: u64,
+    pub selector: Text,
+    pub packet: Packet,
 }
 
 /// A serial, a selector and a packet, and the bytes behind them.
 #[tactic(auto, unfolding(crate::specs::Payloads::message_at))]
-fn message_of<'a>(
+pub fn message_of<'a>(
     alloc: Global,
     bytes: &'a [u8],
     table: &ClassTable,
@@ -56,9 +55,32 @@ fn message_of<'a>(
     }
 }
 
+/// A call of a message under a number.
+pub fn call(number: u64, message: Message) -> Frame
+    ensures { result ≡ Call number message.serial message.selector message.packet }
+{
+    Frame::Call {
+        call: number,
+        serial: message.serial,
+        selector: message.selector,
+        packet: message.packet,
+    }
+}
+
+/// A message that nobody waits for.
+pub fn oneway(message: Message) -> Frame
+    ensures { result ≡ Oneway message.serial message.selector message.packet }
+{
+    Frame::Oneway {
+        serial: message.serial,
+        selector: message.selector,
+        packet: message.packet,
+    }
+}
+
 /// The number of a call and a packet, and the bytes behind them.
 #[tactic(auto, unfolding(crate::specs::Payloads::answer_at))]
-fn answer_of<'a>(
+pub fn answer_of<'a>(
     alloc: Global,
     bytes: &'a [u8],
     table: &ClassTable,
@@ -75,110 +97,6 @@ fn answer_of<'a>(
     let (call, rest) = num_of(bytes, 1, TOP)?;
     match packet_of(alloc, rest, table, from, to, recent) {
         Ok((packet, rest)) => Ok(((call, packet), rest)),
-        Err(e) => Err(e),
-    }
-}
-
-/// The payload of a `Call`, and the bytes behind it.
-#[tactic(auto, unfolding(crate::specs::Payloads::call_at))]
-pub fn call_of<'a>(
-    alloc: Global,
-    bytes: &'a [u8],
-    table: &ClassTable,
-    from: NodeId,
-    to: NodeId,
-    recent: &mut NameLog,
-) -> Result<(Frame, &'a [u8]), ReadFault>
-    ensures gives { Gives (λ x. (x.0, x.1.now)) result
-        (call_at (surroundings table.now from to) recent.old.now bytes.now) }
-    ensures after { IfOk result (λ x. recent.new
-        ≡ record { now = after_frame recent.old.now x.0; kept = recent.old.kept }) }
-    ensures err { OnErr result (recent.new.kept ≡ recent.old.kept) }
-{
-    let (call, rest) = num_of(bytes, 1, TOP)?;
-    match message_of(alloc, rest, table, from, to, recent) {
-        Ok((message, rest)) => Ok((
-            Frame::Call {
-                call,
-                serial: message.serial,
-                selector: message.selector,
-                packet: message.packet,
-            },
-            rest,
-        )),
-        Err(e) => Err(e),
-    }
-}
-
-/// The payload of a `Oneway`, and the bytes behind it.
-#[tactic(auto, unfolding(crate::specs::Payloads::oneway_at))]
-pub fn oneway_of<'a>(
-    alloc: Global,
-    bytes: &'a [u8],
-    table: &ClassTable,
-    from: NodeId,
-    to: NodeId,
-    recent: &mut NameLog,
-) -> Result<(Frame, &'a [u8]), ReadFault>
-    ensures gives { Gives (λ x. (x.0, x.1.now)) result
-        (oneway_at (surroundings table.now from to) recent.old.now bytes.now) }
-    ensures after { IfOk result (λ x. recent.new
-        ≡ record { now = after_frame recent.old.now x.0; kept = recent.old.kept }) }
-    ensures err { OnErr result (recent.new.kept ≡ recent.old.kept) }
-{
-    match message_of(alloc, bytes, table, from, to, recent) {
-        Ok((message, rest)) => Ok((
-            Frame::Oneway {
-                serial: message.serial,
-                selector: message.selector,
-                packet: message.packet,
-            },
-            rest,
-        )),
-        Err(e) => Err(e),
-    }
-}
-
-/// The payload of a `Reply`, and the bytes behind it.
-#[tactic(auto, unfolding(crate::specs::Payloads::reply_at))]
-pub fn reply_of<'a>(
-    alloc: Global,
-    bytes: &'a [u8],
-    table: &ClassTable,
-    from: NodeId,
-    to: NodeId,
-    recent: &mut NameLog,
-) -> Result<(Frame, &'a [u8]), ReadFault>
-    ensures gives { Gives (λ x. (x.0, x.1.now)) result
-        (reply_at (surroundings table.now from to) recent.old.now bytes.now) }
-    ensures after { IfOk result (λ x. recent.new
-        ≡ record { now = after_frame recent.old.now x.0; kept = recent.old.kept }) }
-    ensures err { OnErr result (recent.new.kept ≡ recent.old.kept) }
-{
-    match answer_of(alloc, bytes, table, from, to, recent) {
-        Ok(((call, packet), rest)) => Ok((Frame::Reply { call, packet }, rest)),
-        Err(e) => Err(e),
-    }
-}
-
-/// The payload of a `RootAnswer`, and the bytes behind it.
-#[tactic(auto, unfolding(crate::specs::Payloads::root_answer_at))]
-pub fn root_answer_of<'a>(
-    alloc: Global,
-    bytes: &'a [u8],
-    table: &ClassTable,
-    from: NodeId,
-    to: NodeId,
-    recent: &mut NameLog,
-) -> Result<(Frame, &'a [u8]), ReadFault>
-    ensures gives { Gives (λ x. (x.0, x.1.now)) result
-        (root_answer_at (surroundings table.now from to) recent.old.now bytes.now) }
-    ensures after { IfOk result (λ x. recent.new
-        ≡ record { now = after_frame recent.old.now x.0; kept = recent.old.kept }) }
-    ensures err { OnErr result (recent.new.kept ≡ recent.old.kept) }
-{
-    match answer_of(alloc, bytes, table, from, to, recent) {
-        Ok(((call, packet), rest)) => Ok((Frame::RootAnswer { call, packet }, rest)),
         Err(e) => Err(e),
     }
 }

@@ -8,14 +8,14 @@ ghost use Rattle.do_frames.specs.Payloads.{payload_at};
 
 use crate::frame::Frame;
 use crate::kind::Kind;
-use crate::payload::packets::{call_of, oneway_of, reply_of, root_answer_of};
+use crate::payload::packets::{answer_of, call, message_of, oneway};
 use crate::payload::plain::{
-    gone_of, granted_of, raised_of, release_of, retain_of, root_ask_of, settle_of,
+    TOP, gone_of, granted_of, raised_of, release_of, retain_of, root_ask_of, settle_of,
 };
 use do_base::NodeId;
 use do_class::ClassTable;
 use do_coder::{NameLog, Recent};
-use do_grammar::ReadFault;
+use do_grammar::{ReadFault, num_of};
 use std::alloc::Global;
 
 /// The frame of a kind whose payload begins the bytes, and the bytes behind it. The table is then
@@ -37,12 +37,25 @@ fn payload_of<'a>(
     ensures err { OnErr result (recent.new.kept ≡ recent.old.kept) }
 {
     match kind {
-        Kind::Call => call_of(alloc, bytes, table, from, to, recent),
-        Kind::Oneway => oneway_of(alloc, bytes, table, from, to, recent),
-        Kind::Reply => reply_of(alloc, bytes, table, from, to, recent),
+        Kind::Call => {
+            let (number, rest) = num_of(bytes, 1, TOP)?;
+            let (message, rest) = message_of(alloc, rest, table, from, to, recent)?;
+            Ok((call(number, message), rest))
+        }
+        Kind::Oneway => {
+            let (message, rest) = message_of(alloc, bytes, table, from, to, recent)?;
+            Ok((oneway(message), rest))
+        }
+        Kind::Reply => {
+            let ((call, packet), rest) = answer_of(alloc, bytes, table, from, to, recent)?;
+            Ok((Frame::Reply { call, packet }, rest))
+        }
+        Kind::RootAnswer => {
+            let ((call, packet), rest) = answer_of(alloc, bytes, table, from, to, recent)?;
+            Ok((Frame::RootAnswer { call, packet }, rest))
+        }
         Kind::Raised => raised_of(alloc, bytes),
         Kind::RootAsk => root_ask_of(bytes),
-        Kind::RootAnswer => root_answer_of(alloc, bytes, table, from, to, recent),
         Kind::Retain => retain_of(bytes),
         Kind::Granted => granted_of(bytes),
         Kind::Gone => gone_of(bytes),

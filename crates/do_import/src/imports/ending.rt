@@ -8,22 +8,23 @@ ghost use Rattle.do_import.specs.Imported.{all_off, lent_to};
 use super::Imports;
 use crate::by_object::ByObject;
 use crate::holdings::Holdings;
-use do_base::{NodeId, Oid};
+use crate::lends::Lends;
+use do_base::NodeId;
 
 /// Takes the uses and names off that the lends to a borrower were.
-fn take_lends_off(
-    holdings: &mut Holdings,
-    named: &mut ByObject<u64>,
-    rows: &[((u16, u64), Oid)],
-    borrower: u16,
-)
+fn take_lends_off(holdings: &mut Holdings, named: &mut ByObject<u64>, lends: &Lends, borrower: u16)
     ensures received { holdings.new.received ≡ holdings.old.received }
-    ensures uses { holdings.new.uses ≡ all_off holdings.old.uses (lent_to borrower rows.now) }
+    ensures uses { holdings.new.uses
+        ≡ all_off holdings.old.uses (lent_to borrower (map.entries lends.now.lends)) }
     ensures spare { holdings.old.spare ≤ holdings.new.spare }
-    ensures named { named.new.rows ≡ all_off named.old.rows (lent_to borrower rows.now) }
+    ensures named { named.new.rows
+        ≡ all_off named.old.rows (lent_to borrower (map.entries lends.now.lends)) }
     ensures room { named.old.spare ≤ named.new.spare }
 {
-    for row in rows {
+    for at in 0..lends.len() {
+        let Some(row) = lends.row(at) else {
+            unreachable!();
+        };
         if row.0.0 == borrower {
             holdings.take_off(row.1);
             named.take_off(row.1);
@@ -46,8 +47,7 @@ impl Imports {
         ensures spare { self.old.spare ≤ self.new.spare }
     {
         let borrower = peer.port();
-        let rows = self.lends.rows();
-        take_lends_off(&mut self.holdings, &mut self.named, rows, borrower);
+        take_lends_off(&mut self.holdings, &mut self.named, &self.lends, borrower);
         self.lends.end_peer(peer);
         self.holdings.end_peer(peer);
         self.classes.end_home(peer, &self.asked);

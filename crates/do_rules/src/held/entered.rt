@@ -1,16 +1,18 @@
-//! The own objects of a node that are held up beside the root and slots, as lists.
+//! The own objects of a node that are held up beside the root and slots, as lists; which of them
+//! are in use at a peer.
 ghost use Rattle.std.specs.Prelude.{◌≡◌, IfOk};
 ghost use Rattle.std.specs.List.{flat_map};
+ghost use Rattle.do_machine.specs.Entry.{has_entry};
 ghost use Rattle.do_machine.specs.Items.{exported, released};
-ghost use Rattle.do_machine.specs.State.{node, queue};
+ghost use Rattle.do_machine.specs.Lists.{some_passes};
+ghost use Rattle.do_machine.specs.State.{is_open, node, queue};
 ghost use Rattle.do_rules.specs.HeldUp.{entered, held_of, held_up, named_by};
 
-use crate::node::entry::is_reached;
-use crate::node::is_open;
 use crate::node::naming::{exported, released};
 use crate::node::objects::stack_objects;
+use crate::node::{has_object, is_open};
 use crate::state::{node_at, queue};
-use do_base::{Items, NodeId, Oids};
+use do_base::{Items, NodeId, Oid, Oids};
 use do_machine::{Item, Node, Shared, State};
 use std::alloc::{AllocError, Global};
 
@@ -75,6 +77,16 @@ fn coming(alloc: Global, state: &State, home: NodeId, peer: NodeId) -> Result<Oi
     }
 }
 
+/// Whether a home has its end towards a peer open.
+fn is_reached(state: &State, peer: NodeId, home: NodeId) -> bool
+    ensures { result ≡ some_passes (λ n. is_open n peer) (node state.now home) }
+{
+    match node_at(state, home) {
+        Some(node) => is_open(node, peer),
+        None => false,
+    }
+}
+
 /// The objects of a home that have an entry for a peer.
 fn entered(alloc: Global, state: &State, home: NodeId, peer: NodeId) -> Result<Oids, AllocError>
     ensures { IfOk result (λ os. os ≡ entered state.now home peer) }
@@ -89,12 +101,25 @@ fn entered(alloc: Global, state: &State, home: NodeId, peer: NodeId) -> Result<O
     Ok(objects)
 }
 
+/// Whether an object of a node has an entry for a peer: it may be in use there.
+///
+/// Its one error is that memory ran out.
+#[tactic(auto, using(crate::proofs::HeldUp::entry_steps))]
+pub fn has_entry(state: &State, peer: NodeId, object: &Oid) -> Result<bool, AllocError>
+    ensures { IfOk result (λ entry. entry ≡ has_entry state.now peer object.now) }
+{
+    let home = object.node;
+    let entered = entered(state.stations.allocator(), state, home, peer)?;
+    let entry = has_object(&entered, object);
+    Ok(entry)
+}
+
 /// The objects of a node that have an entry for a peer.
 fn all_entered(state: &State, node: &Node) -> Result<Oids, AllocError>
     ensures { IfOk result (λ os.
         os ≡ flat_map (entered state.now node.now.port) node.now.open_to) }
 {
-    let alloc = node.heap.allocator();
+    let alloc = node.stack.allocator();
     let mut objects = Oids::new(alloc);
     for peer in node.open_to.as_slice() {
         objects.append(entered(alloc, state, node.port, *peer)?)?;

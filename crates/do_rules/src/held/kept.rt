@@ -44,6 +44,7 @@ fn all_among(node: &Node, held_up: &Named, named: &Named) -> bool
         || has_object named.now (own node.now x.serial)) node.now.heap }
 {
     node.heap
+        .get()
         .as_slice()
         .iter()
         .all(|stored| stays(node, held_up, named, stored.get()))
@@ -56,7 +57,7 @@ pub(crate) fn all_stay(node: &Node) -> Result<bool, AllocError>
         (stays_by (stack_objects node.now.stack) node.now node.now.heap) node.now.heap) }
 {
     let called = Named::new(stack_objects(&node.stack)?)?;
-    let named = Named::new(heap_objects(&node.heap)?)?;
+    let named = Named::new(heap_objects(node.heap.get())?)?;
     let all = all_among(node, &called, &named);
     Ok(all)
 }
@@ -77,14 +78,14 @@ fn struck(node: &Node, held_up: &Named, heap: &Heap) -> Result<Heap, AllocError>
 
 /// The objects that are kept: rounds of striking, up to the first that strikes nothing.
 ///
-/// A round takes as long as the heap and the logarithm of how many objects it names. Each but the
-/// last frees an object, so over many steps there are hardly more rounds than steps.
+/// A round takes as long as the heap and what its slots name. Each but the last frees an object, so
+/// over many steps there are hardly more rounds than steps.
 pub(crate) fn kept(state: &State, node: &Node) -> Result<Heap, AllocError>
     ensures { IfOk result (λ xs. xs ≡ kept (entry_in state.now node.now) node.now) }
 {
     let named = held_up(state, node)?;
     let held = Named::new(named)?;
-    let mut heap = node.heap.clone()?;
+    let mut heap = node.heap.get().clone()?;
     let mut rounds = heap.len();
     while rounds > 0 {
         let fewer = struck(node, &held, &heap)?;

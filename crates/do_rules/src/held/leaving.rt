@@ -114,7 +114,7 @@ fn with_heap(node: &Node, heap: Heap) -> Result<Node, AllocError>
     ensures { IfOk result (λ n. n ≡ record node.now { heap = heap }) }
 {
     let mut after = node.clone()?;
-    after.heap = heap;
+    after.heap = Shared::new(node.stack.allocator(), heap)?;
     Ok(after)
 }
 
@@ -138,10 +138,10 @@ fn freeing(state: &State, node: &Node) -> Result<Effect, AllocError>
         return Ok(only(node.clone()?));
     }
     let heap = kept(state, node)?;
-    let shown = freed(node.port, &node.heap, &heap)?;
+    let shown = freed(node.port, node.heap.get(), &heap)?;
     Ok(Effect {
         node: with_heap(node, heap)?,
-        sent: Items::new(node.heap.allocator()),
+        sent: Items::new(node.stack.allocator()),
         shown,
     })
 }
@@ -157,7 +157,7 @@ fn dropping(node: Node) -> Result<Effect, AllocError>
     let referred = Named::new(named)?;
     let sent = left_parcels(&node.held, &referred)?;
     let held = still_held(&node.held, &referred)?;
-    let shown = ShownList::new(node.heap.allocator());
+    let shown = ShownList::new(node.stack.allocator());
     Ok(Effect {
         node: with_held(node, held),
         sent,

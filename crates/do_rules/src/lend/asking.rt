@@ -142,7 +142,7 @@ pub(crate) fn granting(
 ) -> Result<Effect, AllocError>
     ensures { IfOk result (λ e. e ≡ granting peer serial token node) }
 {
-    match stored(&node.heap, serial) {
+    match stored(node.heap.get(), serial) {
         Some(_) => queueing(peer, Item::Granted { serial, token }, node),
         None => queueing(peer, Item::Gone { serial, token }, node),
     }

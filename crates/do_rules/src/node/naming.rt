@@ -1,115 +1,14 @@
 //! Which objects items name, and how.
 ghost use Rattle.std.specs.Prelude.{◌≡◌, ◌∷◌, [], IfOk, map};
-ghost use Rattle.std.specs.List.{filter_map, list_any};
-ghost use Rattle.do_packet.specs.Met.{has_object};
+ghost use Rattle.std.specs.List.{filter_map};
 ghost use Rattle.do_machine.specs.Items.{exported, released};
 ghost use Rattle.do_machine.specs.Objects.{object_at};
-ghost use Rattle.do_rules.specs.Exporting.{exports_it, exports_item, exports_of, mine_of};
-ghost use Rattle.do_rules.specs.Exporting.{is_at, releases_item, releases_of};
+ghost use Rattle.do_rules.specs.Exporting.{exports_of, mine_of, releases_of};
 
 use do_base::{Items, NodeId, Oid, Oids};
 use do_class::{Name, Packet};
-use do_machine::{Item, Shared};
+use do_machine::Item;
 use std::alloc::{AllocError, Global};
-
-/// Whether an object is that of a node with a serial.
-fn is_at(node: NodeId, serial: u64, object: &Oid) -> bool
-    ensures { result ≡ is_at node object.now serial }
-{
-    let named = Oid { node, serial };
-    *object == named
-}
-
-/// Whether a name in a message is that of an object of its sender.
-fn name_exports(from: NodeId, name: &Name, object: &Oid) -> bool
-    ensures { result ≡ exports_it from object.now name.now }
-{
-    match name {
-        Name::Mine { serial, .. } => is_at(from, *serial, object),
-        _ => false,
-    }
-}
-
-/// Whether a message exports an object of its sender.
-fn packet_exports(from: NodeId, packet: &Packet, object: &Oid) -> bool
-    ensures { result ≡ list_any (exports_it from object.now) packet.now.names }
-{
-    packet
-        .names
-        .as_slice()
-        .iter()
-        .any(|name| name_exports(from, name, object))
-}
-
-/// Whether an item exports an object of its sender: the receiver then holds it.
-fn item_exports(from: NodeId, item: &Item, object: &Oid) -> bool
-    ensures { result ≡ exports_item from object.now item.now }
-{
-    match item {
-        Item::Call { message, .. } => packet_exports(from, &message.packet, object),
-        Item::Oneway { message } => packet_exports(from, &message.packet, object),
-        Item::Reply { packet, .. } => packet_exports(from, packet, object),
-        Item::RootAnswer { packet, .. } => packet_exports(from, packet, object),
-        Item::Granted { serial, .. } => is_at(from, *serial, object),
-        Item::Raised { .. } => false,
-        Item::RootAsk { .. } => false,
-        Item::Ask { .. } => false,
-        Item::Gone { .. } => false,
-        Item::Left { .. } => false,
-        Item::Settled { .. } => false,
-        Item::End { .. } => false,
-    }
-}
-
-/// Whether one of the items exports an object of their sender.
-fn any_exports(from: NodeId, items: &Items<Shared<Item>>, object: &Oid) -> bool
-    ensures { result ≡ list_any (exports_item from object.now) items.now }
-{
-    items
-        .as_slice()
-        .iter()
-        .any(|item| item_exports(from, item.get(), object))
-}
-
-/// Whether an object of a node has one of these serials.
-fn has_serial(to: NodeId, serials: &Items<u64>, object: &Oid) -> bool
-    ensures { result ≡ list_any (is_at to object.now) serials.now }
-{
-    serials
-        .as_slice()
-        .iter()
-        .any(|serial| is_at(to, *serial, object))
-}
-
-/// Whether an item releases an object of its receiver: the sender holds it no more.
-fn item_releases(to: NodeId, item: &Item, object: &Oid) -> bool
-    ensures { result ≡ releases_item to object.now item.now }
-{
-    match item {
-        Item::Left { serial } => is_at(to, *serial, object),
-        Item::End { serials } => has_serial(to, serials, object),
-        Item::Call { .. } => false,
-        Item::Oneway { .. } => false,
-        Item::Reply { .. } => false,
-        Item::Raised { .. } => false,
-        Item::RootAsk { .. } => false,
-        Item::RootAnswer { .. } => false,
-        Item::Ask { .. } => false,
-        Item::Granted { .. } => false,
-        Item::Gone { .. } => false,
-        Item::Settled { .. } => false,
-    }
-}
-
-/// Whether one of the items releases an object of their receiver.
-fn any_releases(to: NodeId, items: &Items<Shared<Item>>, object: &Oid) -> bool
-    ensures { result ≡ list_any (releases_item to object.now) items.now }
-{
-    items
-        .as_slice()
-        .iter()
-        .any(|item| item_releases(to, item.get(), object))
-}
 
 /// The object of a name, as one of the sender's.
 fn mine_of(from: NodeId, name: &Name) -> Option<Oid>
@@ -229,32 +128,4 @@ pub(crate) fn released(
     let _from = from;
     let objects = releases_of(alloc, to, item)?;
     Ok(objects)
-}
-
-/// Whether one of the items from a node to another exports an object.
-pub(crate) fn one_exports(
-    from: NodeId,
-    to: NodeId,
-    items: &Items<Shared<Item>>,
-    object: &Oid,
-) -> bool
-    ensures { result ≡
-        list_any (λ item. has_object (exported from to item) object.now) items.now }
-{
-    let _to = to;
-    any_exports(from, items, object)
-}
-
-/// Whether one of the items from a node to another releases an object.
-pub(crate) fn one_releases(
-    from: NodeId,
-    to: NodeId,
-    items: &Items<Shared<Item>>,
-    object: &Oid,
-) -> bool
-    ensures { result ≡
-        list_any (λ item. has_object (released from to item) object.now) items.now }
-{
-    let _from = from;
-    any_releases(to, items, object)
 }

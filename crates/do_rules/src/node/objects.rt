@@ -1,5 +1,5 @@
 //! Which objects values, invocations and nodes name.
-ghost use Rattle.std.specs.Prelude.{◌≡◌, IfOk, map};
+ghost use Rattle.std.specs.Prelude.{◌≡◌, ◌++◌, IfOk, OnOk, map};
 ghost use Rattle.do_base.specs.values.Values.{objects_of};
 ghost use Rattle.do_machine.specs.held.Refers.{heap_objects, invocation_objects, node_objects};
 ghost use Rattle.do_machine.specs.held.Refers.{objects_in, stack_objects, state_values};
@@ -7,69 +7,64 @@ ghost use Rattle.do_machine.specs.held.Refers.{objects_in, stack_objects, state_
 use do_base::{Items, Oids, Value, Values};
 use do_behave::{Answer, Frame, InvState, Invocation};
 use do_machine::{Heap, Lends, Node, Wanted};
-use std::alloc::{AllocError, Global};
+use std::alloc::AllocError;
 
-/// The objects in a value. The calls go as deep as its lists nest.
+/// Appends the objects in a value. The calls go as deep as its lists nest.
 #[cycle(objects)]
-#[tactic(auto, using(crate::proofs::Nested::objects_of_list))]
-fn objects_of(alloc: Global, value: &Value) -> Result<Oids, AllocError>
-    ensures { IfOk result (λ os. os ≡ objects_of value.now) }
+#[tactic(auto, using(crate::proofs::Nested::object_steps))]
+fn push_objects(objects: &mut Oids, value: &Value) -> Result<(), AllocError>
+    ensures { OnOk result (objects.new ≡ objects.old ++ objects_of value.now) }
 {
     match value {
-        Value::Obj(object) => {
-            let mut objects = Oids::new(alloc);
-            objects.push(*object)?;
-            Ok(objects)
-        }
-        Value::List(values) => objects_in(alloc, values),
-        _ => Ok(Oids::new(alloc)),
+        Value::Obj(object) => objects.push(*object),
+        Value::List(values) => push_all(objects, values),
+        _ => Ok(()),
     }
 }
 
-/// The objects in values.
+/// Appends the objects in values.
 #[cycle(objects)]
-fn objects_in(alloc: Global, values: &Values) -> Result<Oids, AllocError>
-    ensures { IfOk result (λ os. os ≡ objects_in values.now) }
+#[tactic(auto, using(crate::proofs::Nested::object_steps))]
+fn push_all(objects: &mut Oids, values: &Values) -> Result<(), AllocError>
+    ensures { OnOk result (objects.new ≡ objects.old ++ objects_in values.now) }
 {
-    let mut objects = Oids::new(alloc);
     for value in values.as_slice() {
-        objects.append(objects_of(alloc, value)?)?;
+        push_objects(objects, value)?;
     }
-    Ok(objects)
+    Ok(())
 }
 
-/// The objects in locals.
-fn local_objects(alloc: Global, locals: &Frame) -> Result<Oids, AllocError>
-    ensures { IfOk result (λ os. os ≡ objects_in locals.now) }
+/// Appends the objects in locals.
+#[tactic(auto, using(crate::proofs::Nested::object_steps))]
+fn push_locals(objects: &mut Oids, locals: &Frame) -> Result<(), AllocError>
+    ensures { OnOk result (objects.new ≡ objects.old ++ objects_in locals.now) }
 {
-    let mut objects = Oids::new(alloc);
     for local in locals.as_slice() {
-        objects.append(objects_of(alloc, local.value())?)?;
+        push_objects(objects, local.value())?;
     }
-    Ok(objects)
+    Ok(())
 }
 
-/// The objects in an answer that was not used yet.
-fn state_objects(alloc: Global, state: &InvState) -> Result<Oids, AllocError>
-    ensures { IfOk result (λ os. os ≡ objects_in (state_values state.now)) }
+/// Appends the objects in an answer that was not used yet.
+#[tactic(auto, using(crate::proofs::Nested::object_steps))]
+fn push_state(objects: &mut Oids, state: &InvState) -> Result<(), AllocError>
+    ensures { OnOk result (objects.new ≡ objects.old ++ objects_in (state_values state.now)) }
 {
-    let mut objects = Oids::new(alloc);
     if let InvState::Answered(Answer::Given { result, outs }) = state {
-        objects.append(objects_of(alloc, result)?)?;
-        objects.append(objects_in(alloc, outs)?)?;
+        push_objects(objects, result)?;
+        push_all(objects, outs)?;
     }
-    Ok(objects)
+    Ok(())
 }
 
-/// The objects that an invocation names.
-fn invocation_objects(alloc: Global, invocation: &Invocation) -> Result<Oids, AllocError>
-    ensures { IfOk result (λ os. os ≡ invocation_objects invocation.now) }
+/// Appends the objects that an invocation names.
+#[tactic(auto, using(crate::proofs::Nested::object_steps))]
+fn push_invocation(objects: &mut Oids, invocation: &Invocation) -> Result<(), AllocError>
+    ensures { OnOk result (objects.new ≡ objects.old ++ invocation_objects invocation.now) }
 {
-    let mut objects = Oids::new(alloc);
     objects.push(invocation.object)?;
-    objects.append(local_objects(alloc, &invocation.locals)?)?;
-    objects.append(state_objects(alloc, &invocation.state)?)?;
-    Ok(objects)
+    push_locals(objects, &invocation.locals)?;
+    push_state(objects, &invocation.state)
 }
 
 /// The objects that the slots of stored objects name.
@@ -78,7 +73,7 @@ pub(crate) fn heap_objects(heap: &Heap) -> Result<Oids, AllocError>
 {
     let mut objects = Oids::new(heap.allocator());
     for stored in heap.as_slice() {
-        objects.append(objects_in(heap.allocator(), &stored.get().slots)?)?;
+        push_all(&mut objects, &stored.get().slots)?;
     }
     Ok(objects)
 }
@@ -89,7 +84,7 @@ pub(crate) fn stack_objects(stack: &Items<Invocation>) -> Result<Oids, AllocErro
 {
     let mut objects = Oids::new(stack.allocator());
     for invocation in stack.as_slice() {
-        objects.append(invocation_objects(stack.allocator(), invocation)?)?;
+        push_invocation(&mut objects, invocation)?;
     }
     Ok(objects)
 }
@@ -120,7 +115,7 @@ fn asked_objects(asked: &Items<Wanted>) -> Result<Oids, AllocError>
 pub(crate) fn node_objects(node: &Node) -> Result<Oids, AllocError>
     ensures { IfOk result (λ os. os ≡ node_objects node.now) }
 {
-    let mut objects = heap_objects(&node.heap)?;
+    let mut objects = heap_objects(node.heap.get())?;
     let mut others = stack_objects(&node.stack)?;
     let mut named = lent_objects(&node.lent)?;
     named.append(asked_objects(&node.asked)?)?;

@@ -79,8 +79,8 @@ impl<'a> Context<'a> {
         ensures { result ≡ is_packable self.now.table.now self.now.state.now self.now.node.now }
     {
         let node = self.node;
-        are_classed(self.table, &node.heap)
-            && slots_are_light(&node.heap)
+        are_classed(self.table, node.heap.get())
+            && slots_are_light(node.heap.get())
             && self.held_is_classed(&node.held)
             && self.asked_is_classed(&node.asked)
     }

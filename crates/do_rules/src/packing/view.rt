@@ -20,7 +20,7 @@ impl<'a> View for Context<'a> {
         if home != self.node.port {
             return None;
         }
-        match stored(&self.node.heap, oid.serial) {
+        match stored(self.node.heap.get(), oid.serial) {
             Some(stored) => Some(&stored.slots),
             None => None,
         }

@@ -49,7 +49,7 @@ impl<'a> Run<'a> {
             peer,
             request: Request::Root,
             into,
-            outs: Locals::new(node.heap.allocator()),
+            outs: Locals::new(node.stack.allocator()),
             pc,
         }
     }
@@ -124,17 +124,14 @@ impl<'a> Run<'a> {
                 into,
                 from,
                 pc,
-            } => {
-                let send = SendAct {
-                    target,
-                    selector,
-                    args,
-                    into,
-                    from,
-                    pc,
-                };
-                self.send_rule(&send)
-            }
+            } => self.send_rule(&SendAct {
+                target,
+                selector,
+                args,
+                into,
+                from,
+                pc,
+            }),
             Act::Root { port, into, pc } => Ok(self.root_rule(&port, into, pc)),
             Act::Vend { value, pc } => Ok(self.vend_rule(&value, pc)),
             Act::Say { value, pc } => Ok(Verdict::Says { value, pc }),

@@ -94,7 +94,7 @@ impl<'a> Run<'a> {
             Answer::Given { result, outs } => (result, outs),
         };
         let signature = signature_of(self.context.table, self.top.method);
-        let marks = answer_marks(node.heap.allocator(), signature)?;
+        let marks = answer_marks(node.stack.allocator(), signature)?;
         let mut values = outs;
         values.insert(0, given)?;
         let Some(packet) = self.context.packed_for(peer, marks, values)? else {

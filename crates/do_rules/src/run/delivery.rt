@@ -75,7 +75,7 @@ impl<'a> Run<'a> {
         match handler {
             None => self.delivery(Answer::Raised(exc), &self.top.reason),
             Some(handler) => {
-                let name = exc_name(self.context.node.heap.allocator(), &exc)?;
+                let name = exc_name(self.context.node.stack.allocator(), &exc)?;
                 let top = goes_on(self.top, handler.into, Value::Text(name), handler.pc)?;
                 Ok(only(self.with_top(top)?))
             }

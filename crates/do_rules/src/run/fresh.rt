@@ -144,15 +144,20 @@ fn with_serials(serial: u64, new: &ObjList) -> Result<Heap, AllocError>
 }
 
 /// The node with new objects, which take the next serials. A serial past what a number can be is
-/// want of memory too.
+/// want of memory too. Where none is new, the heap stays shared.
 pub(crate) fn with_objects(new: &ObjList, node: Node) -> Result<Node, AllocError>
     ensures { IfOk result (λ n. n ≡ with_objects new.now node) }
 {
+    if new.is_empty() {
+        return Ok(node);
+    }
     let mut node = node;
     let Some(next) = node.next_serial.checked_add(new.len() as u64) else {
         return Err(AllocError);
     };
-    node.heap.append(with_serials(node.next_serial, new)?)?;
+    let mut heap = node.heap.get().clone()?;
+    heap.append(with_serials(node.next_serial, new)?)?;
+    node.heap = Shared::new(new.allocator(), heap)?;
     node.next_serial = next;
     Ok(node)
 }

@@ -1,5 +1,5 @@
 //! The next act of the top invocation, and what a run does.
-ghost use Rattle.std.specs.Prelude.{◌≡◌, [], IfOk};
+ghost use Rattle.std.specs.Prelude.{◌≡◌, ◌∷◌, [], IfOk};
 ghost use Rattle.do_behave.specs.Changes.{IsFitting, meaning, with_set};
 ghost use Rattle.do_machine.specs.run.Run.{answer_rule, next_act, run_effect, run_on, slots_seen};
 ghost use Rattle.do_machine.specs.run.Run.{state_rule};
@@ -28,16 +28,31 @@ fn with_set(locals: Frame, sets: &[LocalSet]) -> Result<Frame, AllocError>
     with_set(with_item(locals, first.local as usize, held), rest)
 }
 
-/// A step to a place, which sets these locals, keeps the handler and writes no slot.
-fn plain_step(inv: &Invocation, locals: Frame, pc: u32) -> Act
-    ensures { result ≡ Act.Step pc locals inv.now.handler [] }
+/// A step to a place, which sets these locals and this handler, and writes no slot.
+fn plain_step(handler: Option<Handler>, locals: Frame, pc: u32) -> Act
+    ensures { result ≡ Act.Step pc locals handler [] }
 {
     Act::Step {
         pc,
-        handler: inv.handler,
+        handler,
         writes: Writes::new(locals.allocator()),
         locals,
     }
+}
+
+/// A step to a place, which sets no local, keeps the handler and writes one slot.
+fn slot_step(inv: &Invocation, slot: usize, value: Value, pc: u32) -> Result<Act, AllocError>
+    ensures { IfOk result (λ act. act ≡ Act.Step pc inv.now.locals inv.now.handler
+        (record { slot = slot; value = value } ∷ [])) }
+{
+    let mut writes = Writes::new(inv.locals.allocator());
+    writes.push(Write { slot, value })?;
+    Ok(Act::Step {
+        pc,
+        locals: inv.locals.clone()?,
+        handler: inv.handler,
+        writes,
+    })
 }
 
 /// The act that a change of an invocation is.
@@ -49,7 +64,7 @@ fn act_of(inv: &Invocation, change: Change) -> Result<Act, AllocError>
     match change {
         Change::Local { into, value, pc } => {
             let _was = next.set_local(into, value, pc);
-            Ok(plain_step(inv, next.locals, pc))
+            Ok(plain_step(inv.handler, next.locals, pc))
         }
         Change::Push {
             list,
@@ -58,19 +73,10 @@ fn act_of(inv: &Invocation, change: Change) -> Result<Act, AllocError>
             pc,
         } => {
             next.push_item(list, item, weight, pc)?;
-            Ok(plain_step(inv, next.locals, pc))
+            Ok(plain_step(inv.handler, next.locals, pc))
         }
-        Change::Goto { pc } => Ok(plain_step(inv, next.locals, pc)),
-        Change::Slot { slot, value, pc } => {
-            let mut writes = Writes::new(inv.locals.allocator());
-            writes.push(Write { slot, value })?;
-            Ok(Act::Step {
-                pc,
-                locals: next.locals,
-                handler: inv.handler,
-                writes,
-            })
-        }
+        Change::Goto { pc } => Ok(plain_step(inv.handler, next.locals, pc)),
+        Change::Slot { slot, value, pc } => slot_step(inv, slot, value, pc),
         Change::Slots {
             sets,
             handler,
@@ -82,12 +88,7 @@ fn act_of(inv: &Invocation, change: Change) -> Result<Act, AllocError>
             handler,
             writes,
         }),
-        Change::Handler { handler, pc } => Ok(Act::Step {
-            pc,
-            locals: next.locals,
-            handler,
-            writes: Writes::new(inv.locals.allocator()),
-        }),
+        Change::Handler { handler, pc } => Ok(plain_step(handler, next.locals, pc)),
         Change::Other(act) => Ok(act),
     }
 }
@@ -112,9 +113,9 @@ impl<'a> Run<'a> {
             (stored (run_of self.now).top.object.serial (run_of self.now).context.node.heap)) }
     {
         let object = &self.top.object;
-        match stored(&self.context.node.heap, object.serial) {
+        match stored(self.context.node.heap.get(), object.serial) {
             Some(stored) => stored.slots.clone(),
-            None => Ok(Values::new(self.context.node.heap.allocator())),
+            None => Ok(Values::new(self.context.node.stack.allocator())),
         }
     }
 

@@ -1,6 +1,7 @@
 //! How the slots of an object change.
 ghost use Rattle.std.specs.Prelude.{◌≡◌, ◌==◌, ◌<◌, IfOk, IfSome, length, position};
 ghost use Rattle.do_behave.specs.InPlace.{written};
+ghost use Rattle.do_machine.specs.Lists.{change_first};
 ghost use Rattle.do_machine.specs.run.Changes.{with_slots, with_writes};
 
 use crate::lists::{item_at, with_item};
@@ -44,16 +45,32 @@ fn with_writes(writes: &Writes, stored: &Stored) -> Result<Shared<Stored>, Alloc
     Shared::new(stored.slots.allocator(), changed)
 }
 
-/// The node with slots of an object written; of one that is not stored none is.
+/// The heap with slots of an object written; of one that is not stored none is.
 #[tactic(auto, using(crate::proofs::Sets::first_steps))]
+fn heap_with_slots(serial: u64, writes: &Writes, heap: Heap) -> Result<Heap, AllocError>
+    ensures { IfOk result (λ xs.
+        xs ≡ change_first (λ x. x.serial == serial) (with_writes writes.now) heap) }
+{
+    let mut heap = heap;
+    let Some(at) = stored_at(&heap, serial) else {
+        return Ok(heap);
+    };
+    let changed = with_writes(writes, item_at(&heap, at).get())?;
+    heap.set(at, changed);
+    Ok(heap)
+}
+
+/// The node with slots of an object written; of one that is not stored none is. Where none is
+/// written, the heap stays shared.
+#[tactic(auto, using(crate::proofs::Sharing::none_steps))]
 pub(crate) fn with_slots(serial: u64, writes: &Writes, node: Node) -> Result<Node, AllocError>
     ensures { IfOk result (λ n. n ≡ with_slots serial writes.now node) }
 {
-    let mut node = node;
-    let Some(at) = stored_at(&node.heap, serial) else {
+    if writes.is_empty() {
         return Ok(node);
-    };
-    let changed = with_writes(writes, item_at(&node.heap, at).get())?;
-    node.heap.set(at, changed);
+    }
+    let mut node = node;
+    let heap = heap_with_slots(serial, writes, node.heap.get().clone()?)?;
+    node.heap = Shared::new(node.stack.allocator(), heap)?;
     Ok(node)
 }

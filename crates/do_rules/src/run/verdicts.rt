@@ -1,70 +1,21 @@
 //! The effect of each verdict on the top invocation.
 ghost use Rattle.std.specs.Prelude.{◌≡◌, IfOk};
-ghost use Rattle.do_machine.specs.run.Changes.{uses_number};
-ghost use Rattle.do_machine.specs.run.Verdicts.{awaited_after, effect_of, requesting, waits_for};
+ghost use Rattle.do_machine.specs.run.Verdicts.{effect_of};
 ghost use Rattle.do_rules.specs.Judged.{run_of};
 
-use crate::effect::{only, queueing, showing};
+use crate::effect::{only, showing};
 use crate::judged::Run;
 use crate::lend::lending::{lends_of, posting};
 use crate::node::own;
+use crate::run::asking::{requesting, uses_number, waits_for};
 use crate::run::changes::{goes_on, goes_to, stands, steps_to, uses};
 use crate::run::fresh::{blank, fresh, pushed, with_objects};
 use crate::run::slots::with_slots;
-use do_base::{CallId, Items, Locals, NodeId, Oid, Shown, Value, Values};
-use do_behave::{Answer, Frame, Handler, InvState, Reason, Waited, Writes};
+use do_base::{Items, Locals, NodeId, Oid, Shown, Value, Values};
+use do_behave::{Answer, Frame, Handler, InvState, Reason, Writes};
 use do_class::{ClassId, MethodId};
-use do_machine::{Effect, Item, Message, Node, Request, Verdict};
+use do_machine::{Effect, Item, Message, Request, Verdict};
 use std::alloc::AllocError;
-
-/// What an invocation waits for, having asked so.
-fn awaited_after(request: &Request) -> Waited
-    ensures { result ≡ awaited_after request.now }
-{
-    match request {
-        Request::Root => Waited::Root,
-        Request::Call { method, .. } => Waited::Method(*method),
-    }
-}
-
-/// The state of an invocation that asked a peer.
-fn waits_for(node: &Node, peer: NodeId, request: &Request) -> InvState
-    ensures { result ≡ waits_for node.now peer request.now }
-{
-    InvState::Waits {
-        call: CallId {
-            node: node.port,
-            number: node.next_call,
-        },
-        peer,
-        what: awaited_after(request),
-    }
-}
-
-/// A request goes to a peer, under a number.
-fn requesting(peer: NodeId, number: u64, request: Request, node: Node) -> Result<Effect, AllocError>
-    ensures { IfOk result (λ e. e ≡ requesting peer number request node) }
-{
-    match request {
-        Request::Root => queueing(peer, Item::RootAsk { number }, node),
-        Request::Call { message, .. } => {
-            let lends = lends_of(peer, &message.packet)?;
-            posting(peer, lends, Item::Call { number, message }, node)
-        }
-    }
-}
-
-/// The node's next call number is used up. One past what a number can be is want of memory too.
-fn uses_number(node: Node) -> Result<Node, AllocError>
-    ensures { IfOk result (λ n. n ≡ uses_number node) }
-{
-    let mut node = node;
-    let Some(next) = node.next_call.checked_add(1) else {
-        return Err(AllocError);
-    };
-    node.next_call = next;
-    Ok(node)
-}
 
 impl<'a> Run<'a> {
     /// An object is made, and its name goes to a local.
@@ -74,8 +25,8 @@ impl<'a> Run<'a> {
         let node = self.context.node;
         let made = Value::Obj(own(node, node.next_serial));
         let node = self.with_top(goes_on(self.top, into, made, pc)?)?;
-        let mut new = Items::new(node.heap.allocator());
-        new.push(blank(node.heap.allocator(), self.context.table, class)?)?;
+        let mut new = Items::new(node.stack.allocator());
+        new.push(blank(node.stack.allocator(), self.context.table, class)?)?;
         Ok(only(with_objects(&new, node)?))
     }
 

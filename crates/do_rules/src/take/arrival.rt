@@ -4,8 +4,8 @@ ghost use Rattle.do_behave.specs.declared.invocation.Answer.TheVariants.{Raised}
 ghost use Rattle.do_machine.specs.take.Awaiting.{answering};
 ghost use Rattle.do_machine.specs.take.Receipt.{received};
 ghost use Rattle.do_machine.specs.take.Requests.{request};
-ghost use Rattle.do_machine.specs.take.Take.{arrival, can_serve, can_take, take_effect};
-ghost use Rattle.do_machine.specs.take.Take.{method_call, values_arrival};
+ghost use Rattle.do_machine.specs.take.Take.{arrival, take_effect};
+ghost use Rattle.do_machine.specs.take.Take.{method_call, root_call, values_arrival};
 ghost use Rattle.do_machine.specs.lend.Asking.{ask_over, wanted};
 ghost use Rattle.do_machine.specs.Objects.{object_at};
 ghost use Rattle.do_rules.specs.Answering.{call_of};
@@ -16,39 +16,16 @@ use crate::ends::closing::closing;
 use crate::judged::Context;
 use crate::lend::asking::{ask_over, granting};
 use crate::lend::lending::with_settled;
-use crate::node::is_open;
 use crate::node::naming::exported;
 use crate::take::awaiting::{Answered, Came, answering};
 use crate::take::holding::holding;
 use crate::take::lines::{item_line, object_at};
 use crate::take::receipt::Received;
-use do_base::{Exc, Items, NodeId, Shown, Token, Values};
-use do_behave::{InvState, Invocation, Reason};
+use do_base::{Exc, NodeId, Shown, Token, Values};
+use do_behave::Reason;
 use do_class::Packet;
 use do_machine::{Effect, Item, Message, Node, Wanted};
 use std::alloc::AllocError;
-
-/// Whether there is no invocation, or the top one waits.
-fn can_serve(stack: &Items<Invocation>) -> bool
-    ensures { result ≡ can_serve stack.now }
-{
-    let [top, ..] = stack.as_slice() else {
-        return true;
-    };
-    match &top.state {
-        InvState::Waits { .. } => true,
-        InvState::Running => false,
-        InvState::Below => false,
-        InvState::Answered(_) => false,
-    }
-}
-
-/// Whether a node may take an item of a peer: its end is open, and it can serve.
-pub fn can_take(node: &Node, from: NodeId) -> bool
-    ensures { result ≡ can_take from node.now }
-{
-    is_open(node, from) && can_serve(&node.stack)
-}
 
 /// An exception, as what came.
 fn came_raised(exc: &Exc) -> Result<Came, AllocError>
@@ -138,6 +115,44 @@ impl<'a> Context<'a> {
         Ok(last)
     }
 
+    /// The answer to a call of a method comes.
+    fn reply_arrival(
+        &self,
+        from: NodeId,
+        number: u64,
+        packet: &Packet,
+        node: Node,
+    ) -> Result<Effect, AllocError>
+        ensures { IfOk result (λ e. e ≡ received (step_of self.now) from packet.now
+            (values_arrival (step_of self.now) (method_call from number)) node) }
+    {
+        let call = Answered {
+            peer: from,
+            number,
+            root: false,
+        };
+        self.values_arrival(&call, packet, node)
+    }
+
+    /// The root of a peer comes, as the answer to a call for it.
+    fn root_arrival(
+        &self,
+        from: NodeId,
+        number: u64,
+        packet: &Packet,
+        node: Node,
+    ) -> Result<Effect, AllocError>
+        ensures { IfOk result (λ e. e ≡ received (step_of self.now) from packet.now
+            (values_arrival (step_of self.now) (root_call from number)) node) }
+    {
+        let call = Answered {
+            peer: from,
+            number,
+            root: true,
+        };
+        self.values_arrival(&call, packet, node)
+    }
+
     /// What an item comes to at the node that takes it.
     pub(crate) fn arrival(
         &self,
@@ -158,14 +173,7 @@ impl<'a> Context<'a> {
             Item::Oneway { message } => {
                 self.message_arrival(from, Reason::Oneway { peer: from }, message, node)
             }
-            Item::Reply { number, packet } => {
-                let call = Answered {
-                    peer: from,
-                    number: *number,
-                    root: false,
-                };
-                self.values_arrival(&call, packet, node)
-            }
+            Item::Reply { number, packet } => self.reply_arrival(from, *number, packet, node),
             Item::Raised { number, exc } => raised_arrival(self, from, *number, exc, node),
             Item::RootAsk { number } => {
                 let item = Item::RootAnswer {
@@ -174,14 +182,7 @@ impl<'a> Context<'a> {
                 };
                 queueing(from, item, node)
             }
-            Item::RootAnswer { number, packet } => {
-                let call = Answered {
-                    peer: from,
-                    number: *number,
-                    root: true,
-                };
-                self.values_arrival(&call, packet, node)
-            }
+            Item::RootAnswer { number, packet } => self.root_arrival(from, *number, packet, node),
             Item::Ask { serial, token } => granting(from, *serial, *token, node),
             Item::Granted { serial, token } => wanted_arrival(from, *serial, *token, node),
             Item::Gone { serial, token } => wanted_arrival(from, *serial, *token, node),
@@ -197,7 +198,7 @@ impl<'a> Context<'a> {
     {
         let node = self.node;
         let line = item_line(from, node.port, item)?;
-        let objects = exported(node.heap.allocator(), from, node.port, item)?;
+        let objects = exported(node.stack.allocator(), from, node.port, item)?;
         let mut effect = self.arrival(from, item, holding(&objects, node)?)?;
         effect.shown.insert(0, Shown::Took(line))?;
         Ok(effect)

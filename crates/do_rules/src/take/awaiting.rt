@@ -2,20 +2,18 @@
 ghost use Rattle.std.specs.Prelude.{◌≡◌, ◌<◌, ◌∷◌, IfOk, IfSome, filter, length, not, position};
 ghost use Rattle.std.specs.Option.{option_copied};
 ghost use Rattle.do_machine.specs.take.Awaiting.{answered_state, answering, awaits, is_answered};
-ghost use Rattle.do_machine.specs.take.Awaiting.{is_for_root, late_answered, method_answer};
-ghost use Rattle.do_machine.specs.take.Awaiting.{stack_answered, values_answer, with_answer};
+ghost use Rattle.do_machine.specs.take.Awaiting.{is_for_root, late_answered, stack_answered};
+ghost use Rattle.do_machine.specs.take.Awaiting.{with_answer};
 ghost use Rattle.do_rules.specs.Answering.{answer_by, call_of};
 
 use crate::effect::only;
 use crate::lists::item_at;
-use crate::node::methods::signature_of;
-use crate::run::arguments::outs_take;
-use do_base::{Exc, Items, NodeId, Value, Values, copy_value};
-use do_behave::{Answer, InvState, Invocation, Waited};
+use crate::take::answer::answer_by;
+use do_base::{Exc, Items, NodeId, Values};
+use do_behave::{InvState, Invocation, Waited};
 use do_class::ClassTable;
 use do_machine::{Effect, LateCall, Node};
-use do_sig::Signature;
-use std::alloc::{AllocError, Global};
+use std::alloc::AllocError;
 
 /// A call, as its answer names it: the peer that answers, the number, and whether it was for a
 /// root.
@@ -66,62 +64,6 @@ fn awaits(call: &Answered, state: &InvState) -> bool
         InvState::Running => false,
         InvState::Below => false,
         InvState::Answered(_) => false,
-    }
-}
-
-/// A result and out values that fit the method that was called.
-fn method_answer(
-    alloc: Global,
-    signature: &Signature,
-    value: &Value,
-    outs: &[Value],
-) -> Result<Answer, AllocError>
-    ensures { IfOk result (λ a. a ≡ method_answer signature.now value.now outs.now) }
-{
-    let mut given = Values::new(alloc);
-    given.extend_from_slice(outs)?;
-    if signature.result_fits(value) && outs_take(signature, &given) {
-        return Ok(Answer::Given {
-            result: copy_value(value)?,
-            outs: given,
-        });
-    }
-    Ok(Answer::Raised(Exc::TypeFault))
-}
-
-/// What values are as an answer.
-fn values_answer(table: &ClassTable, values: &Values, what: Waited) -> Result<Answer, AllocError>
-    ensures { IfOk result (λ a. a ≡ values_answer table.now values.now what) }
-{
-    match what {
-        Waited::Method(method) => {
-            let [value, outs @ ..] = values.as_slice() else {
-                return Ok(Answer::Raised(Exc::TypeFault));
-            };
-            match signature_of(table, method) {
-                Some(signature) => method_answer(values.allocator(), signature, value, outs),
-                None => Ok(Answer::Raised(Exc::TypeFault)),
-            }
-        }
-        Waited::Root => {
-            let [value] = values.as_slice() else {
-                return Ok(Answer::Raised(Exc::TypeFault));
-            };
-            Ok(Answer::Given {
-                result: copy_value(value)?,
-                outs: Values::new(values.allocator()),
-            })
-        }
-    }
-}
-
-/// What came, as an answer to what was asked for.
-fn answer_by(table: &ClassTable, came: &Came, what: Waited) -> Result<Answer, AllocError>
-    ensures { IfOk result (λ a. a ≡ answer_by table.now came.now what) }
-{
-    match came {
-        Came::Values(values) => values_answer(table, values, what),
-        Came::Raised(exc) => Ok(Answer::Raised(exc.clone()?)),
     }
 }
 

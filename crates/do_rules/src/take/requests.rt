@@ -1,11 +1,11 @@
 //! A message of a peer: the method that it invokes, or why it is refused.
 ghost use Rattle.std.specs.Prelude.{◌≡◌, IfOk};
 ghost use Rattle.do_machine.specs.take.Requests.{admission, refusing, request};
-ghost use Rattle.do_rules.specs.Judged.{step_of};
+ghost use Rattle.do_rules.specs.Judged.{entry_in, step_of};
 
 use crate::effect::{only, queueing, showing};
+use crate::held::entered::has_entry;
 use crate::judged::Context;
-use crate::node::entry::has_entry;
 use crate::node::methods::method_for;
 use crate::node::{is_full, own, own_class};
 use crate::run::fresh::{fresh, pushed};
@@ -29,12 +29,19 @@ fn refusing(exc: Exc, reason: Reason, node: Node) -> Result<Effect, AllocError>
 
 impl<'a> Context<'a> {
     /// The method that a message invokes, or why it is refused: the first rule that applies
-    /// decides.
-    fn admission(&self, from: NodeId, message: &Message, values: &Values) -> Result<MethodId, Exc>
+    /// decides. `entered` is whether the sender has an entry of the target.
+    fn admission(
+        &self,
+        from: NodeId,
+        entered: bool,
+        message: &Message,
+        values: &Values,
+    ) -> Result<MethodId, Exc>
+        requires { entered ≡ entry_in self.now.state.now self.now.node.now from message.now.target }
         ensures { result ≡ admission (step_of self.now) from message.now values.now }
     {
-        let object = own(self.node, message.target);
-        if !has_entry(self.state, from, &object) {
+        let _from = from;
+        if !entered {
             return Err(Exc::NotVended);
         }
         let class = own_class(self.node, message.target);
@@ -62,10 +69,11 @@ impl<'a> Context<'a> {
         ensures { IfOk result (λ e.
             e ≡ request (step_of self.now) from reason message.now values.now node) }
     {
-        match self.admission(from, message, values) {
+        let object = own(self.node, message.target);
+        let entered = has_entry(self.state, from, &object)?;
+        match self.admission(from, entered, message, values) {
             Err(exc) => refusing(exc, reason, node),
             Ok(method) => {
-                let object = own(self.node, message.target);
                 let begun = fresh(object, method, reason, values)?;
                 Ok(only(pushed(begun, node)?))
             }

@@ -47,7 +47,7 @@ impl<'a> Context<'a> {
         ensures { IfOk result (λ p. p ≡ root_packet (step_of self.now) to) }
     {
         let _to = to;
-        let alloc = self.node.heap.allocator();
+        let alloc = self.node.stack.allocator();
         let Some(serial) = self.node.root else {
             let packet = nil_packet(alloc)?;
             return Ok(packet);

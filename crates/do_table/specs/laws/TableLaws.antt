@@ -1,14 +1,17 @@
 -- The value of a name among one entry more or less, and names that stay distinct.
 use Rattle.std.proofs.Common.{◌≡◌, ℕ, ◌≤◌, zero, suc, Bool, true, false, not, ◌&&◌, List, [], ◌∷◌}
 use Rattle.std.proofs.Common.{◌++◌, length, Option, Some, None, refl, sym, ◌∙◌, ap, subst, arith}
-use Rattle.std.proofs.Common.{true≢false, is_some, take}
+use Rattle.std.proofs.Common.{true≢false, is_some, take, map, ◌+◌, ◌<◌, nat_le, length-append}
+use Rattle.std.proofs.Common.{add-one}
 use Rattle.std.specs.Prelude.{if◌then◌else◌, slice_get, cond}
 use Rattle.std.specs.List.{list_all}
 use Rattle.std.specs.Str.{bytes_eq}
-use Rattle.std.proofs.lemmas.Bool.{and_parts, and_from}
+use Rattle.std.proofs.lemmas.Bool.{and_parts, and_from, leb-true, le-leb}
+use Rattle.std.proofs.lemmas.List.Folds.{list_all-append}
 use Rattle.std.proofs.lemmas.Cmp.{nat_list_eq_equiv}
+use Rattle.std.proofs.lemmas.List.{map-append}
 use Rattle.std.proofs.lemmas.Slice.Eq.{bytes_eq-Decides}
-use Rattle.do_table.specs.Entries.{value_of, added, removed, are_distinct, given, unless}
+use Rattle.do_table.specs.Entries.{value_of, added, removed, are_distinct, is_table, given, unless}
 
 -- names with the same bytes are the same
 pub same_name : (a b : List ℕ) → bytes_eq a b ≡ true → a ≡ b
@@ -92,7 +95,7 @@ module _ {V : Type 0} where
   later_gone false false value rest all apart is = is
 
   -- the first name is not behind, and the others are distinct
-  first_alone : (x : List ℕ × V) (es : Entries V) → are_distinct (x ∷ es) ≡ true
+  pub first_alone : (x : List ℕ × V) (es : Entries V) → are_distinct (x ∷ es) ≡ true
       → (value_of es x.0 ≡ None) × (are_distinct es ≡ true)
   first_alone x es distinct =
       let parts = and_parts (not (is_some (value_of es x.0))) (are_distinct es) distinct in
@@ -276,3 +279,52 @@ module _ {V : Type 0} where
       named_twice es i e found
       (subst (λ xs. is_some (value_of xs e.0) ≡ true) so_far
       (not_false (is_some (value_of table e.0)) known))
+
+  -- what is shown of one entry more
+  pub shown_more : {A : Type 0} (show : List ℕ × V → A) (es : Entries V) (i : ℕ)
+      (e : List ℕ × V) (rows new : List A) (row : A) → slice_get es i ≡ Some e
+      → rows ≡ map show (take i es) → row ≡ show e → new ≡ rows ++ row ∷ []
+      → new ≡ map show (take (i + 1) es)
+  shown_more show es i e rows new row found so_far is pushed =
+      pushed ∙ ap (λ r. rows ++ r ∷ []) is ∙ ap (λ rs. rs ++ show e ∷ []) so_far
+      ∙ sym (ap (map show) (ap (λ n. take n es) (add-one i) ∙ take_one es i e found)
+      ∙ map-append show (take i es) (e ∷ []))
+
+  -- the parts of the test of entries within a limit
+  pub table_parts : (most : ℕ) (test : List ℕ × V → Bool) (es : Entries V)
+      → is_table most test es ≡ true
+      → (nat_le (length es) most ≡ true) × (list_all test es ≡ true) × (are_distinct es ≡ true)
+  table_parts most test es is =
+      let first = and_parts (nat_le (length es) most) (list_all test es && are_distinct es) is in
+      let second = and_parts (list_all test es) (are_distinct es) first.1 in
+      (first.0, second.0, second.1)
+
+  -- and entries of these parts pass it
+  pub table_of_parts : (most : ℕ) (test : List ℕ × V → Bool) (es : Entries V)
+      → nat_le (length es) most ≡ true → list_all test es ≡ true → are_distinct es ≡ true
+      → is_table most test es ≡ true
+  table_of_parts most test es few all distinct =
+      and_from (nat_le (length es) most) (list_all test es && are_distinct es) few
+      (and_from (list_all test es) (are_distinct es) all distinct)
+
+  -- entries within a limit are so without one
+  pub table_removed : (most : ℕ) (test : List ℕ × V → Bool) (es : Entries V) (gone : List ℕ)
+      → is_table most test es ≡ true → is_table most test (removed es gone) ≡ true
+  table_removed most test es gone is =
+      let parts = table_parts most test es is in
+      table_of_parts most test (removed es gone)
+      (le-leb (length (removed es gone)) most
+      (omega (arith, fewer_removed es gone, leb-true (length es) most parts.0)))
+      (all_removed test es gone parts.1) (distinct_removed es gone parts.2)
+
+  -- and with one more, where there is room and its name is new
+  pub table_pushed : (most : ℕ) (test : List ℕ × V → Bool) (es : Entries V) (e : List ℕ × V)
+      → length es < most → value_of es e.0 ≡ None → test e ≡ true → is_table most test es ≡ true
+      → is_table most test (es ++ e ∷ []) ≡ true
+  table_pushed most test es e few absent good is =
+      let parts = table_parts most test es is in
+      table_of_parts most test (es ++ e ∷ [])
+      (le-leb (length (es ++ e ∷ [])) most (omega (arith, length-append es (e ∷ []), few)))
+      (list_all-append test es (e ∷ [])
+      ∙ and_from (list_all test es) (test e && true) parts.1 (and_from (test e) true good refl))
+      (distinct_pushed es e (ap is_some absent) parts.2)

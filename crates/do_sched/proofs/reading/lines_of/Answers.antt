@@ -19,7 +19,8 @@ returns-then-not-is_whole_line c =
 
 pub lines-init : goal.lines-init
 lines-init c = record {
-  opens = subst (λ (w : List Line). Opens c.args.version c.args.bytes.now w (cut c.in-Some.behind.now))
+  opens = subst
+      (λ (w : List Line). Opens c.args.version c.args.bytes.now w (cut c.in-Some.behind.now))
       (sym c.new-lines.ensures)
       (opened c.args.version c.args.bytes.now _ _ c.in-Some.ensures.line (rw (← c.header.ensures)
       (sym c.is_whole_line.ensures ∙ search rules)));
@@ -30,32 +31,37 @@ lines-init c = record {
 
 pub returns-in_default-line_of : goal.returns-in_default-line_of
 returns-in_default-line_of c =
-    end_missing c.args.version c.args.bytes.now c.lines.rest.now c.lines.lines c.lines.invariant.opens
+    end_missing c.args.version c.args.bytes.now c.lines.rest.now c.lines.lines
+    c.lines.invariant.opens
     (c.lines.number + 1) c.in_default-line_of.ensures.line (omega (arith, c.lines.invariant.number))
 
 pub returns-then-is_empty : goal.returns-then-is_empty
 returns-then-is_empty c =
-    ends_well c.args.version c.args.bytes.now c.lines.rest.now c.lines.lines c.lines.invariant.opens _
+    ends_well c.args.version c.args.bytes.now c.lines.rest.now c.lines.lines c.lines.invariant.opens
+    _
     c.in-Some-line_of.after.now c.in-Some-line_of.ensures.line
     (sym c.is_whole_line-in-lines.ensures ∙ c.if-is_whole_line.true) (search rules)
 
 pub returns-then-is_whole_line : goal.returns-then-is_whole_line
 returns-then-is_whole_line c =
-    bad_behind c.args.version c.args.bytes.now c.lines.rest.now c.lines.lines c.lines.invariant.opens _
+    bad_behind c.args.version c.args.bytes.now c.lines.rest.now c.lines.lines
+    c.lines.invariant.opens _
     c.in-Some-line_of.after.now c.in-Some-line_of.ensures.line (c.lines.number + 1 + 1)
     (sym c.is_whole_line-in-lines.ensures
     ∙ c.if-is_whole_line.true) (search rules) (omega (arith, c.lines.invariant.number))
 
 pub returns-in_default-2 : goal.returns-in_default-2
 returns-in_default-2 c =
-    bad_between c.args.version c.args.bytes.now c.lines.rest.now c.lines.lines c.lines.invariant.opens _
+    bad_between c.args.version c.args.bytes.now c.lines.rest.now c.lines.lines
+    c.lines.invariant.opens _
     c.in-Some-line_of.after.now c.in-Some-line_of.ensures.line (c.lines.number + 1)
     (sym c.is_whole_line-in-lines.ensures ∙ c.if-is_whole_line.false) (sym c.in_ok-line.ensures
     ∙ c.in_default-2.is) (omega (arith, c.lines.invariant.number))
 
 pub returns-then-more-steps : goal.returns-then-more-steps
 returns-then-more-steps c =
-    too_many c.args.version c.args.bytes.now c.lines.rest.now c.lines.lines c.lines.invariant.opens _
+    too_many c.args.version c.args.bytes.now c.lines.rest.now c.lines.lines c.lines.invariant.opens
+    _
     c.in-Some-line_of.after.now c.in-Some-line_of.ensures.line
     (c.lines.number + 1) c.in-Some-2.line (sym c.in_ok-line.ensures
     ∙ c.in-Some-2.is) (omega (
@@ -78,9 +84,12 @@ lines-preserved c =
       c.lines.invariant.opens.few,
     ) in
     record {
-      opens = subst (λ (w : List Line). Opens c.args.version c.args.bytes.now w (cut c.in-Some-line_of.after.now))
+      opens = subst
+          (λ (w : List Line). Opens c.args.version c.args.bytes.now w
+          (cut c.in-Some-line_of.after.now))
           (sym c.in_ok-push.ensures.ok)
-          (goes_on c.args.version c.args.bytes.now c.lines.rest.now c.lines.lines c.lines.invariant.opens _
+          (goes_on c.args.version c.args.bytes.now c.lines.rest.now c.lines.lines
+          c.lines.invariant.opens _
           c.in-Some-line_of.after.now c.in-Some-line_of.ensures.line c.in-Some-2.line
           (sym c.in_ok-line.ensures ∙ c.in-Some-2.is) few);
       number =

@@ -1,19 +1,20 @@
-use Rattle.std.proofs.Common.{rules, sym, arith}
-use Rattle.do_sorted.proofs.RowOrGap.{row_within, find_row, find_gap}
+use Rattle.std.proofs.Common.{sym, arith, ◌∙◌, ap}
+use Rattle.std.specs.Option.{option_copied}
+use Rattle.do_sorted.proofs.RowOrGap.{find_here, find_gap, row_there}
 use Rattle.do_sorted.proofs.Sorted.get.Goals as goal
 
-pub index-requires : goal.index-requires
-index-requires g c =
-    let within = row_within g.met.K.Ord.total _ _ _ (rw (← c.self.view_is) at c.in-Ok.ensures.found)
-    in
-    search rules
+pub returns-in_default : goal.returns-in_default
+returns-in_default g c =
+    sym (find_gap g.met.K.Ord.total _ _ _ c.in_default.ensures.sorted c.in_default.ensures.absent)
 
-pub returns-in-Ok : goal.returns-in-Ok
-returns-in-Ok g c =
-    let value = find_row g.met.K.Ord.total _ _ _ c.index.result.now
-    (rw (← c.self.view_is) at c.in-Ok.ensures.found) in
+pub unreachable-requires : goal.unreachable-requires
+unreachable-requires g c =
+    row_there g.met.K.Ord.total _ _ _ (rw (← c.self.view_is) at c.in-Ok.ensures.found)
+    (sym c.get.ensures ∙ ap option_copied c.in_default-get.is)
+
+pub returns : goal.returns
+returns g c =
+    let value = find_here g.met.K.Ord.total _ _ _ c.in-Some.row.now
+    (rw (← c.self.view_is) at c.in-Ok.ensures.found)
+    (sym c.get.ensures ∙ ap option_copied c.in-Some.is) in
     rw (← c.self.view_is) (grind (arith, value))
-
-pub returns-in-Err : goal.returns-in-Err
-returns-in-Err g c =
-    sym (find_gap g.met.K.Ord.total _ _ _ c.in-Err.ensures.sorted c.in-Err.ensures.absent)

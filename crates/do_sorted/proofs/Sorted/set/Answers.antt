@@ -1,8 +1,9 @@
-use Rattle.std.proofs.Common.{rules, sym, arith, subst, T, IsSome}
+use Rattle.std.proofs.Common.{arith, sym, ap, ◌∙◌, length, subst, T, IsSome}
 use mathlib.Core.Bool.{false≢true}
 use Rattle.std.specs.FinMap.{is_sorted}
 use Rattle.std.specs.FinMap.Entries.{is_sorted-put}
-use Rattle.do_sorted.proofs.RowOrGap.{row_within, find_row, find_gap, put_row}
+use Rattle.std.proofs.lemmas.List.{length-set}
+use Rattle.do_sorted.proofs.RowOrGap.{row_within, find_here, find_gap, put_here}
 use Rattle.do_sorted.proofs.Sorted.set.Goals as goal
 
 pub unreachable-requires : goal.unreachable-requires
@@ -11,26 +12,33 @@ unreachable-requires g c =
     (find_gap g.met.K.Ord.total _ _ _ c.in_default.ensures.sorted c.in_default.ensures.absent)
     c.requires)
 
-pub index_mut-requires : goal.index_mut-requires
-index_mut-requires g c =
-    let within = row_within g.met.K.Ord.total _ _ _ (rw (← c.self.view_is) at c.in-Ok.ensures.found)
-    in
-    search rules
-
-pub returns-clause-before : goal.returns-clause-before
-returns-clause-before g c =
-    let value = find_row g.met.K.Ord.total _ _ _ c.index_mut.result.now
-    (rw (← c.self.view_is) at c.in-Ok.ensures.found) in
-    rw (← c.self.view_is) (grind (arith, value))
-
-pub returns-clause-after : goal.returns-clause-after
-returns-clause-after g c =
-    let is = put_row g.met.K.Ord.total _ c.args.value _ _ c.index_mut.result.now
-    (rw (← c.self.view_is) at c.in-Ok.ensures.found) in
-    rw (← c.self.view_is) (grind (arith, is))
+pub set_value-requires : goal.set_value-requires
+set_value-requires g c =
+    row_within g.met.K.Ord.total _ _ _ (rw (← c.self.view_is) at c.in-Ok.ensures.found)
 
 pub invariant_of-self : goal.invariant_of-self
 invariant_of-self g c =
-    let is = returns-clause-after g c in
-    subst (λ es. T (is_sorted g.K.Ord.cmp es)) (sym is)
-    (is_sorted-put g.K.Ord.cmp g.met.K.Ord.total _ _ _ c.in-Ok.ensures.sorted)
+    let found = rw (← c.self.view_is) at c.in-Ok.ensures.found in
+    let is = put_here g.met.K.Ord.total c.args.key.now c.args.value c.self.inside.rows c.in-Ok.at _
+    found c.set_value.ensures.before in
+    let same = ap length c.set_value.ensures.after
+    ∙ length-set c.self.inside.rows c.in-Ok.at (c.set_value.result.0, c.args.value) in
+    let places = c.self.invariant.1 in (
+      subst (λ es. T (is_sorted g.K.Ord.cmp es)) (is ∙ sym c.set_value.ensures.after)
+          (is_sorted-put g.K.Ord.cmp g.met.K.Ord.total _ _ _ c.self.invariant.0),
+      omega (arith, same, places),
+    )
+
+pub returns-clause-before : goal.returns-clause-before
+returns-clause-before g c =
+    let found = rw (← c.self.view_is) at c.in-Ok.ensures.found in
+    rw (← c.self.view_is)
+    (find_here g.met.K.Ord.total _ _ _ _ found c.set_value.ensures.before)
+
+pub returns-clause-after : goal.returns-clause-after
+returns-clause-after g c =
+    let found = rw (← c.self.view_is) at c.in-Ok.ensures.found in
+    rw (← c.self.view_is)
+    (c.set_value.ensures.after
+    ∙ sym (put_here g.met.K.Ord.total c.args.key.now c.args.value c.self.inside.rows c.in-Ok.at _
+    found c.set_value.ensures.before))

@@ -1,15 +1,28 @@
-use Rattle.std.proofs.Common.{sym, ap, ◌∙◌, arith, map as each}
+use Rattle.std.proofs.Common.{arith, ◌++◌, ◌∷◌, [], sym, ap, ◌∙◌, map as each}
+use Rattle.std.specs.Option.{option_copied}
+use Rattle.std.specs.FinMap as map
 use Rattle.std.proofs.lemmas.List.{take_all}
-use Rattle.std.specs.FinMap.{entries-from_sorted}
-use Rattle.do_export.specs.Counts.{entry_cmp}
 use Rattle.do_import.specs.ByObject.{object_of}
+use Rattle.do_import.proofs.NextRow.{read_row, no_row}
 use Rattle.do_import.proofs.by_object.ByObject+u64.objects.Goals as goal
+
+pub unreachable-requires : goal.unreachable-requires
+unreachable-requires c =
+    let ended = no_row (map.entries c.args.self.now.rows) c.loop-at.at
+    (sym c.row.ensures ∙ ap option_copied c.in_default.is) in
+    absurd (omega (arith, ended, c.loop-at-test.true, c.len-at-end.ensures))
+
+pub loop-at-preserved : goal.loop-at-preserved
+loop-at-preserved c =
+    let row = c.in-Some.row.now in
+    c.in_ok-push.ensures.ok
+    ∙ ap (λ l. l ++ object_of row.0 ∷ []) c.loop-at.invariant
+    ∙ sym (read_row object_of (λ e. e.0) (map.entries c.args.self.now.rows) c.loop-at.at row
+    (sym c.row.ensures ∙ ap option_copied c.in-Some.is))
 
 pub returns : goal.returns
 returns c =
-    let rows = c.self.inside.rows.rows in
-    let all = take_all c.loop-row.row-index c.rows-row-items.result.now
-    (omega (arith, c.loop-row-test.false)) in
-    rw (← c.self.view_is) (c.loop-row.invariant
-    ∙ ap (λ es. each object_of (each (λ e. e.0) es)) (all ∙ c.rows-row-items.ensures.value
-    ∙ sym (entries-from_sorted entry_cmp rows c.self.invariant)))
+    c.loop-at.invariant
+    ∙ ap (λ es. each object_of (each (λ e. e.0) es))
+    (take_all c.loop-at.at (map.entries c.args.self.now.rows)
+    (omega (arith, c.loop-at-test.false, c.len-at-end.ensures)))

@@ -1,9 +1,8 @@
 use Rattle.std.proofs.Common.{◌≡◌, None, arith}
 use Rattle.std.proofs.lemmas.Grind.{common_steps}
 use Rattle.do_table.specs.Entries.{value_of}
-use Rattle.do_table.specs.laws.TableLaws.{added_absent}
-use Rattle.do_names.specs.Core.{Entry}
-use Rattle.do_names.proofs.CoreLaws.{names_pushed}
+use Rattle.do_table.specs.laws.TableLaws.{added_absent, table_pushed}
+use Rattle.do_names.specs.Core.{Entry, is_entry}
 use Rattle.do_names.proofs.names.Names.register.Goals as goal
 
 pub invariant_of-self-in-None : goal.invariant_of-self-in-None
@@ -13,5 +12,6 @@ invariant_of-self-in-None c =
     let absent : value_of es e.0 ≡ None = grind (arith, common_steps) in
     let added = added_absent es e.0 e.1 absent in
     let longer =
-    names_pushed es e (grind (arith, common_steps)) absent c.requires c.self.invariant in
+    table_pushed 512 is_entry es e (grind (arith, common_steps)) absent c.requires
+    c.self.invariant in
     grind (arith, common_steps, added, longer)

@@ -1,0 +1,36 @@
+#!/bin/sh
+# Runs the form `memory` of a program once for each allocation that it makes, with that one refused.
+# Prints how many of the runs wrote what an undisturbed one writes, how many ended in an error since
+# what stands around the calls had no memory, and each that did anything else.
+# sh bench/memory.sh codec_speed    the program must be built (`rt run` in its folder builds it)
+set -e
+cd "$(dirname "$0")/.."
+program=crates/$1/out/$1
+work=$(mktemp -d)
+trap 'rm -rf "$work"' EXIT
+rustc --edition 2021 -O -C panic=abort --crate-type cdylib -o "$work/fail_alloc.so" \
+    bench/fail_alloc.rs
+run() {
+    FAIL_ALLOC=$1 LD_PRELOAD=$work/fail_alloc.so timeout 60 "$program" memory \
+        > "$work/out" 2> "$work/err"
+}
+run 0
+cp "$work/out" "$work/want"
+total=$(sed -n 's/^allocations //p' "$work/err")
+same=0 ended=0 other=0 number=1
+while [ "$number" -le "$total" ]; do
+    status=0
+    run "$number" || status=$?
+    if [ "$status" = 0 ] && cmp -s "$work/out" "$work/want"; then
+        same=$((same + 1))
+    elif [ "$status" = 1 ] && grep -qE 'OutOfMemory|no class' "$work/err"; then
+        ended=$((ended + 1))
+    else
+        other=$((other + 1))
+        echo "allocation $number: status $status"
+    fi
+    number=$((number + 1))
+done
+echo "$total allocations of $1, refused one by one: $same runs wrote the same,"
+echo "$ended had no memory around the calls, $other did anything else"
+[ "$other" = 0 ]

@@ -1,0 +1,63 @@
+use Rattle.std.proofs.Common.{arith, ◌+◌, drop, sym, ap, ◌∙◌}
+use Rattle.std.specs.Option.{option_copied}
+use Rattle.std.proofs.lemmas.List.{drop_all}
+use Rattle.std.specs.FinMap as map
+use Rattle.std.proofs.lemmas.Bool.{eq-eqb, ne_eqb}
+use Rattle.do_import.specs.Imported.{all_off, lent_to}
+use Rattle.do_import.proofs.NextRow.{no_row}
+use Rattle.do_import.proofs.LendsOff.{next_lent, next_other}
+use Rattle.do_import.proofs.imports.ending.take_lends_off.Goals as goal
+use Rattle.do_import.proofs.imports.ending.take_lends_off.Goals.{then-row-borrower}
+use Rattle.do_import.proofs.imports.ending.take_lends_off.Goals.{else-row-borrower}
+
+pub unreachable-requires : goal.unreachable-requires
+unreachable-requires c =
+    let ended = no_row (map.entries c.args.lends.now.lends) c.loop-at.at
+    (sym c.row.ensures ∙ ap option_copied c.in_default.is) in
+    absurd (omega (arith, ended, c.loop-at-test.true, c.len-at-end.ensures))
+
+pub loop-at-preserved : goal.loop-at-preserved
+loop-at-preserved c =
+    let so = c.loop-at.invariant in
+    let lends = map.entries c.args.lends.now.lends in
+    let at = sym c.row.ensures ∙ ap option_copied c.in-Some.is in
+    elim c.if-row-borrower.branch [
+      | then-row-borrower w ↦
+          let is = eq-eqb c.in-Some.row.now.0.0 c.args.borrower w.if-row-borrower.true in
+          rw (w.holdings-is, w.named-is) (
+            w.take_off.ensures.received ∙ so.0,
+            ap (λ n. all_off n (lent_to c.args.borrower (drop (c.loop-at.at + 1) lends)))
+                w.take_off.ensures.uses
+                ∙ next_lent _ c.args.borrower lends c.loop-at.at c.in-Some.row.now at is ∙ so.1,
+            omega (arith, so.2, w.take_off.ensures.spare),
+            ap (λ n. all_off n (lent_to c.args.borrower (drop (c.loop-at.at + 1) lends)))
+                w.take_off-then-row-borrower.ensures.rows
+                ∙ next_lent _ c.args.borrower lends c.loop-at.at c.in-Some.row.now at is ∙ so.3,
+            omega (arith, so.4, w.take_off-then-row-borrower.ensures.spare),
+          )
+      | else-row-borrower w ↦
+          let is = ne_eqb c.in-Some.row.now.0.0 c.args.borrower w.if-row-borrower.false in
+          rw (w.holdings-is, w.named-is) (
+            so.0,
+            next_other _ c.args.borrower lends c.loop-at.at c.in-Some.row.now at is ∙ so.1,
+            so.2,
+            next_other _ c.args.borrower lends c.loop-at.at c.in-Some.row.now at is ∙ so.3,
+            so.4,
+          )
+    ]
+
+pub returns-clause-uses : goal.returns-clause-uses
+returns-clause-uses c =
+    let lends = map.entries c.args.lends.now.lends in
+    let none = drop_all c.loop-at.at lends
+    (omega (arith, c.loop-at-test.false, c.len-at-end.ensures)) in
+    ap (λ l. all_off c.loop-at.holdings.uses (lent_to c.args.borrower l)) (sym none)
+    ∙ c.loop-at.invariant.1
+
+pub returns-clause-named : goal.returns-clause-named
+returns-clause-named c =
+    let lends = map.entries c.args.lends.now.lends in
+    let none = drop_all c.loop-at.at lends
+    (omega (arith, c.loop-at-test.false, c.len-at-end.ensures)) in
+    ap (λ l. all_off c.loop-at.named.rows (lent_to c.args.borrower l)) (sym none)
+    ∙ c.loop-at.invariant.3

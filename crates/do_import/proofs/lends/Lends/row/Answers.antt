@@ -1,0 +1,9 @@
+use Rattle.std.proofs.Common.{sym, ap, ◌∙◌, slice_get}
+use Rattle.std.specs.FinMap.{entries-from_sorted}
+use Rattle.do_export.specs.Counts.{entry_cmp}
+use Rattle.do_import.proofs.lends.Lends.row.Goals as goal
+
+pub returns : goal.returns
+returns c = rw (← c.self.view_is) (c.row.ensures.value
+    ∙ ap (λ es. slice_get es c.args.at)
+    (sym (entries-from_sorted entry_cmp c.self.inside.lends.rows c.self.invariant)))

@@ -1,8 +1,0 @@
-use Rattle.std.proofs.Common.{sym, ◌∙◌}
-use Rattle.std.specs.FinMap.{entries-from_sorted}
-use Rattle.do_export.specs.Counts.{entry_cmp}
-use Rattle.do_import.proofs.lends.Lends.rows.Goals as goal
-
-pub returns : goal.returns
-returns c = rw (← c.self.view_is) (c.rows.ensures.value
-    ∙ sym (entries-from_sorted entry_cmp c.self.inside.lends.rows c.self.invariant))

@@ -1,0 +1,119 @@
+-- What stays of what a pasteboard can be.
+use Rattle.std.proofs.Common.{◌≡◌, ℕ, ◌+◌, ◌<◌, ◌==◌, Bool, true, false, not, ◌&&◌, nat_lt, nat_le}
+use Rattle.std.proofs.Common.{List, [], ◌∷◌, ◌++◌, length, length-append, Option, None, refl}
+use Rattle.std.proofs.Common.{◌∙◌, ap, arith, is_some, IsTrue}
+use Rattle.std.specs.Prelude.{if◌then◌else◌}
+use Rattle.std.proofs.lemmas.Bool.{and_parts, and_from, le-leb, eqb-true, ltb-true}
+use Rattle.do_base.specs.names.Names.{ObjectName}
+use Rattle.do_table.specs.Entries.{value_of, are_distinct, replaced}
+use Rattle.do_table.specs.laws.TableLaws.{distinct_pushed}
+use Rattle.do_pboard.specs.Changes.{can_grow, declared, with_types}
+use Rattle.do_pboard.specs.Core.{Pasteboard, Declared, NamedBoard, are_declared, are_types}
+use Rattle.do_pboard.specs.Core.{bare, is_board}
+use Rattle.do_pboard.specs.laws.SlotsExact.{board_is, is_board_of}
+use Rattle.do_pboard.proofs.TypesAdded.{all_types, distinct_joined}
+use Rattle.do_pboard.proofs.TypesReplaced.{distinct_replaced}
+use Rattle.do_pboard.proofs.TypesAdded.{types_joined}
+use Rattle.do_pboard.proofs.TypesReplaced.{length_replaced, types_replaced}
+
+-- types are few, each is one, and none is there twice
+pub declared_parts : (ts : List Declared) → are_declared ts ≡ true
+    → (nat_le (length ts) 64 ≡ true) × (all_types ts ≡ true) × (are_distinct ts ≡ true)
+declared_parts ts is =
+    let first = and_parts (nat_le (length ts) 64) (all_types ts && are_distinct ts) is in
+    let second = and_parts (all_types ts) (are_distinct ts) first.1 in
+    (first.0, second.0, second.1)
+
+-- and so they can be a pasteboard's
+pub declared_of : (ts : List Declared) → nat_le (length ts) 64 ≡ true → all_types ts ≡ true
+    → are_distinct ts ≡ true → are_declared ts ≡ true
+declared_of ts few each distinct =
+    and_from (nat_le (length ts) 64) (all_types ts && are_distinct ts) few
+    (and_from (all_types ts) (are_distinct ts) each distinct)
+
+-- a pasteboard whose change count is above 0 begins in any way
+begins_later : (n : ℕ) (b : Bool) → 0 < n → (if n == 0 then b else true) ≡ true
+begins_later n b above = by (n == 0) refl
+  where
+    by : (t : Bool) → (n == 0) ≡ t → (if t then b else true) ≡ true
+    by true is = absurd (none (eqb-true n 0 is))
+      where
+        none : n ≡ 0 → ⊥
+        none e = omega (arith, e, above)
+    by false is = refl
+
+-- types are declared
+pub declared_board : (b : Pasteboard) (types : List (List ℕ)) (owner : Option ObjectName)
+    → IsTrue (is_board b) → are_types types ≡ true → can_grow b.count ≡ true
+    → IsTrue (is_board (declared b types owner))
+declared_board b types owner is good room =
+    let parts = board_is b is in
+    let new = declared b types owner in
+    is_board_of new (record {
+      count = room;
+      begins =
+          begins_later (b.count + 1) (not (is_some owner) && length (bare types) == 0)
+          (omega arith);
+      types = good;
+      boards = parts.boards;
+    })
+
+-- types are added
+pub added_board : (b : Pasteboard) (types : List (List ℕ)) → IsTrue (is_board b)
+    → are_types types ≡ true → nat_lt 0 b.count ≡ true
+    → nat_le (length (with_types b.types types)) 64 ≡ true
+    → IsTrue (is_board (record b { types = with_types b.types types }))
+added_board b types is good above few =
+    let parts = board_is b is in
+    let old = declared_parts b.types parts.types in
+    let more = declared_parts (bare types) good in
+    let all = with_types b.types types in
+    is_board_of (record b { types = all }) (record {
+      count = parts.count;
+      begins =
+          begins_later b.count (not (is_some b.owner) && length all == 0)
+          (ltb-true 0 b.count above);
+      types =
+          declared_of all few (types_joined b.types types old.1 more.1)
+          (distinct_joined b.types types old.2);
+      boards = parts.boards;
+    })
+
+-- a type takes data
+pub supplied_board : (b : Pasteboard) (kind : List ℕ) (content : Option (List ℕ))
+    → IsTrue (is_board b) → IsTrue (is_board (record b { types = replaced b.types kind content }))
+supplied_board b kind content is =
+    let parts = board_is b is in
+    let old = declared_parts b.types parts.types in
+    let new = replaced b.types kind content in
+    is_board_of (record b { types = new }) (record {
+      count = parts.count;
+      begins =
+          ap (λ n. if b.count == 0 then not (is_some b.owner) && n == 0 else true)
+          (length_replaced kind content b.types) ∙ parts.begins;
+      types =
+          declared_of new (ap (λ n. nat_le n 64) (length_replaced kind content b.types) ∙ old.0)
+          (types_replaced kind content b.types ∙ old.1)
+          (distinct_replaced kind content b.types ∙ old.2);
+      boards = parts.boards;
+    })
+
+-- a pasteboard is kept under a new name
+pub kept_board : (b : Pasteboard) (name : List ℕ) (board : ObjectName) → IsTrue (is_board b)
+    → value_of b.boards name ≡ None → length b.boards < 256
+    → IsTrue (is_board (record b { boards = b.boards ++ (name, board) ∷ [] }))
+kept_board b name board is absent few =
+    let parts = board_is b is in
+    let e : NamedBoard = (name, board) in
+    let all = b.boards ++ e ∷ [] in
+    let old =
+    and_parts (nat_le (length b.boards) 256) (are_distinct b.boards) parts.boards in
+    is_board_of (record b { boards = all }) (record {
+      count = parts.count;
+      begins = parts.begins;
+      types = parts.types;
+      boards =
+          and_from (nat_le (length all) 256) (are_distinct all)
+          (le-leb (length all) 256 (omega (arith, length-append b.boards (e ∷ []), few)))
+          (distinct_pushed b.boards e (ap is_some absent) old.1);
+    })

@@ -1,0 +1,11 @@
+pub mod OneCallMore
+pub mod TypesAdded
+pub mod TypesReplaced
+pub mod TypesLater
+pub mod CoreLaws
+pub mod Declared
+pub mod Added
+pub mod Supplied
+pub mod IsTold
+pub mod Places
+pub mod MergedRows

@@ -1,0 +1,7 @@
+pub mod Core
+pub mod Changes
+pub mod Calls
+pub mod History
+pub mod Meaning
+pub mod Acts
+pub mod laws
