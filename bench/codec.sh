@@ -1,7 +1,7 @@
 #!/bin/sh
 # Builds crates/codec_speed and bench/codec.rs, tells whether both answer alike to cut and changed
-# bytes, runs one after the other five times, and prints the best nanoseconds of a frame, written and
-# read, in both, with their ratio.
+# bytes, runs one after the other five times, and prints the best nanoseconds of a frame, written
+# and read, in both, with their ratio.
 # sh bench/codec.sh
 set -e
 cd "$(dirname "$0")/.."

@@ -8,7 +8,8 @@ awk -v n="${1:-1000}" 'BEGIN {
         print "start 7001 go: " i % 1000
         print "run 7001 2"
         if (i > 0) print "take 7002 7001"
-        print "take 7002 7001\ntake 7001 7002\nrun 7001 2\ntake 7002 7001\nrun 7002 4\ntake 7001 7002\nrun 7001 3"
+        print "take 7002 7001\ntake 7001 7002\nrun 7001 2"
+        print "take 7002 7001\nrun 7002 4\ntake 7001 7002\nrun 7001 3"
     }
     print "check\nend"
 }'

@@ -10,7 +10,8 @@ set -e
 cd "$(dirname "$0")/.."
 work=$(mktemp -d)
 trap 'rm -rf "$work"' EXIT
-tar cf - --exclude=out crates crates.txt HANDLES | (mkdir "$work/copy" && cd "$work/copy" && tar xf -)
+mkdir "$work/copy"
+tar cf - --exclude=out crates crates.txt HANDLES | (cd "$work/copy" && tar xf -)
 began=$(date +%s)
 (cd "$work/copy" && rt ci --anew > "$work/log" 2>&1; echo "$?" > "$work/status") &
 gate=$!
@@ -38,7 +39,8 @@ awk -v wall="$(($(date +%s) - began))" '
             printf form, crate, used[crate, "proof"], used[crate, "tests"], used[crate, "edits"],
                 used[crate, "proof"] + used[crate, "tests"] + used[crate, "edits"]
         }
-        printf form, "all", all["proof"], all["tests"], all["edits"], all["proof"] + all["tests"] + all["edits"]
+        printf form, "all", all["proof"], all["tests"], all["edits"],
+            all["proof"] + all["tests"] + all["edits"]
         printf "%d s on the clock\n", wall
     }
 ' crates.txt "$work/seconds"

@@ -8,12 +8,14 @@ set -e
 cd "$(dirname "$0")/.."
 program=crates/nukwashe/out/nukwashe
 
-# Whole calls of `go:`, by turns from 7001 to 7002 and from 7003 to 7004, until there are so many steps. A call is
-# 28 steps, and the first of each pair 27, since no item of an earlier one is freed.
+# Whole calls of `go:`, by turns from 7001 to 7002 and from 7003 to 7004, until there are so many
+# steps. A call is 28 steps, and the first of each pair 27, since no item of an earlier one is
+# freed.
 schedule() {
     awk -v steps="$1" '
         function call(p, q, first) {
-            print "start", p, "go:", q "\nrun", p, "1\ntake", q, p "\ntake", p, q "\nrun", p, "4\ntake", q, p
+            print "start", p, "go:", q "\nrun", p, "1\ntake", q, p "\ntake", p, q
+            print "run", p, "4\ntake", q, p
             print "run", q, "2\ntake", p, q
             if (!first) print "take", p, q
             print "run", p, "3\ntake", q, p "\nrun", q, "2\ntake", p, q "\nrun", p, "2\ntake", q, p
@@ -37,10 +39,13 @@ trap 'rm -rf "$work"' EXIT
 for steps in 100000 200000 400000 600000 800000 1000000; do
     schedule "$steps" > "$work/schedule"
     for _ in 1 2 3; do
-        /usr/bin/time -f "$steps %U %S %M" "$program" replay :mesh "$work/schedule" 2>> "$work/figures" \
-            > "$work/transcript"
+        /usr/bin/time -f "$steps %U %S %M" "$program" replay :mesh "$work/schedule" \
+            2>> "$work/figures" > "$work/transcript"
     done
-    if grep -q '^skip$' "$work/transcript"; then echo "a line of the schedule does nothing" >&2; exit 1; fi
+    if grep -q '^skip$' "$work/transcript"; then
+        echo "a line of the schedule does nothing" >&2
+        exit 1
+    fi
 done
 awk '
     { took = $2 + $3 }
@@ -53,7 +58,8 @@ awk '
             n = order[i]
             step = (time[n] - time[before]) / (n - before) * 1e9
             if (i == 1) first = step
-            printf "%10d %7.2f s %13.0f ns %6.2f %6.1f MB\n", n, time[n], step, step / first, memory[n] / 1024
+            printf "%10d %7.2f s %13.0f ns %6.2f %6.1f MB\n", n, time[n], step, step / first,
+                memory[n] / 1024
             before = n
         }
     }' "$work/figures"

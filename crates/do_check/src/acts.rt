@@ -2,7 +2,7 @@ ghost use Rattle.std.specs.Prelude.{◌≡◌, IfOk, IsTrue};
 ghost use Rattle.do_grammar.specs.Names.{is_selector};
 ghost use Rattle.do_behave.specs.Changes.{Means};
 ghost use Rattle.do_behave.specs.Steps.{or_fault};
-ghost use Rattle.do_check.specs.Acts.{checks};
+ghost use Rattle.do_check.specs.Acts.{check_act, checks};
 
 use crate::forward::forward;
 use crate::guard::guard;
@@ -33,6 +33,24 @@ fn check(
         None => Ok(Change::type_fault()),
         Some(Verdict::Forward) => forward(inv, slots, selector),
         Some(Verdict::Deny(text)) => Ok(Change::Other(Act::Raise(Exc::User(text)))),
+    }
+}
+
+/// The act of an invocation of a checker with these rules, whose object has these slots.
+///
+/// An error means that memory ran out.
+pub fn check_act(
+    rules: &Rules,
+    table: &ClassTable,
+    inv: &Invocation,
+    slots: &Values,
+) -> Result<Change, AllocError>
+    ensures { IfOk result (λ change.
+        Means inv.now change (check_act rules.now table.now inv.now slots.now)) }
+{
+    match selector_in(table, inv) {
+        Some(selector) => check(rules, inv, slots, selector),
+        None => Ok(Change::type_fault()),
     }
 }
 
@@ -92,9 +110,6 @@ impl Behaviour for Checker {
         inv: &Invocation,
         slots: &Values,
     ) -> Result<Change, AllocError> {
-        match selector_in(table, inv) {
-            Some(selector) => check(&self.rules, inv, slots, selector),
-            None => Ok(Change::type_fault()),
-        }
+        check_act(&self.rules, table, inv, slots)
     }
 }

@@ -15,7 +15,7 @@ mod law;
 mod lookup;
 mod rules;
 
-pub use acts::Checker;
+pub use acts::{Checker, check_act};
 pub use law::{denial_raises, only_allowed_is_sent, target_stays};
 pub use lookup::verdict;
 pub use rules::{Rule, Rules, Verdict};

@@ -1,23 +1,27 @@
 -- What the checks of a class come to, and the refusals of types.
-use Rattle.std.proofs.Common.{◌≡◌, ◌≢◌, ℕ, List, [], ◌∷◌, Some, None, false}
+use Rattle.std.proofs.Common.{◌≡◌, ◌≢◌, ℕ, List, Some, None}
 use Rattle.std.proofs.Common.{refl, sym, ◌⊎◌, inl, inr, Result, Err}
-use Rattle.std.specs.Prelude.{codes}
+use Rattle.std.specs.Prelude.{codes, option_and_then}
 use Rattle.toml.specs.Data.{Members}
 use Rattle.do_sig.specs.Answers.{IsAnswer, answer_of}
 use Rattle.do_sig.specs.declared.fault.EncFault.{EncFault}
 use Rattle.do_sig.specs.declared.fault.EncFault.TheVariants as enc
 use Rattle.do_sig.specs.reading.Signatures.{signature_at}
 use Rattle.do_class.specs.Class.{Class}
-use Rattle.do_document.specs.Checks.{first_of, is_text, is_text_with, misfit, required, unknown}
-use Rattle.do_document.specs.ClassFaults.{class_checks, class_keys, is_new_name, methods_fault}
-use Rattle.do_document.specs.ClassFaults.{slots_fault, types_fault}
+use Rattle.do_kinds.specs.declared.kind.Kind.{Kind}
+use Rattle.do_document.specs.Checks.{is_text, is_text_with, misfit, required, unknown}
+use Rattle.do_document.specs.ClassFaults.{class_checks, class_keys, is_kind, is_new_name}
+use Rattle.do_document.specs.ClassFaults.{parts_fault, types_fault}
+use Rattle.do_document.specs.Classes.{kind_of}
 use Rattle.do_document.specs.Document.{text_at}
 use Rattle.do_document.specs.Paths.{path}
 use Rattle.do_document.specs.declared.place.Place.{Place}
 use Rattle.do_document.specs.declared.place.Place.TheVariants as at
 use Rattle.do_document.specs.declared.fault.WorldFault.{WorldFault}
 use Rattle.do_document.specs.declared.fault.WorldFault.TheVariants.{Memory, Sig}
-use Rattle.do_document.proofs.InOrder.{Tells, in_first, types_refused}
+use Rattle.do_document.proofs.InOrder.{Tells, four_first, four_fourth, four_none, four_second}
+use Rattle.do_document.proofs.InOrder.{four_third, types_refused}
+use Rattle.do_document.proofs.InRow.{told_by}
 
 -- a refusal that is none of memory is the answer
 refusal_is : {A : Type 0} (f : EncFault) (x : Result A EncFault) → IsAnswer (Err f) x
@@ -46,72 +50,62 @@ types_told place t types f e there text is (inr told) =
 pub class_unknown : (k : ℕ) (classes : List Class) (t : Members) (e : WorldFault)
     → Tells (unknown (at.Class k) class_keys t) e → Tells (class_checks k classes t) e
 unfolding class_checks
-class_unknown k classes t e h = in_first (unknown (at.Class k) class_keys t) (first_of
-    (required (at.Class k) (codes "name") (is_text_with (is_new_name classes)) t
-    ∷ misfit (at.Class k) (codes "native") (λ d. false) t ∷ slots_fault (at.Class k) t
-    ∷ methods_fault k t ∷ [])) e h
-
--- the checks of a class behind its keys
-behind_keys : (k : ℕ) (classes : List Class) (t : Members)
-    → unknown (at.Class k) class_keys t ≡ None
-    → class_checks k classes t
-    ≡ first_of (required (at.Class k) (codes "name") (is_text_with (is_new_name classes)) t
-    ∷ misfit (at.Class k) (codes "native") (λ d. false) t ∷ slots_fault (at.Class k) t
-    ∷ methods_fault k t ∷ [])
-unfolding class_checks
-behind_keys k classes t known = rw known
+class_unknown k classes t e h =
+    four_first (unknown (at.Class k) class_keys t)
+    (required (at.Class k) (codes "name") (is_text_with (is_new_name classes)) t)
+    (misfit (at.Class k) (codes "native") (is_text_with is_kind) t)
+    (option_and_then (parts_fault k t) (kind_of t)) e h
 
 -- a class has no good name
 pub class_name : (k : ℕ) (classes : List Class) (t : Members) (e : WorldFault)
     → unknown (at.Class k) class_keys t ≡ None
     → Tells (required (at.Class k) (codes "name") (is_text_with (is_new_name classes)) t) e
     → Tells (class_checks k classes t) e
+unfolding class_checks
 class_name k classes t e known h =
-    let checks = behind_keys k classes t known in
-    rw checks (in_first (required (at.Class k) (codes "name") (is_text_with
-    (is_new_name classes)) t)
-    (first_of (misfit (at.Class k) (codes "native") (λ d. false) t ∷ slots_fault (at.Class k) t
-    ∷ methods_fault k t ∷ [])) e h)
+    four_second (unknown (at.Class k) class_keys t)
+    (required (at.Class k) (codes "name") (is_text_with (is_new_name classes)) t)
+    (misfit (at.Class k) (codes "native") (is_text_with is_kind) t)
+    (option_and_then (parts_fault k t) (kind_of t)) e known h
 
--- a class is native
-pub class_native : (k : ℕ) (classes : List Class) (t : Members) (e : WorldFault)
+-- a class names no kind
+pub class_kind : (k : ℕ) (classes : List Class) (t : Members) (e : WorldFault)
     → unknown (at.Class k) class_keys t ≡ None
     → required (at.Class k) (codes "name") (is_text_with (is_new_name classes)) t ≡ None
-    → Tells (misfit (at.Class k) (codes "native") (λ d. false) t) e
+    → Tells (misfit (at.Class k) (codes "native") (is_text_with is_kind) t) e
     → Tells (class_checks k classes t) e
-class_native k classes t e known named h =
-    let checks = behind_keys k classes t known in
-    rw (checks, named) (in_first (misfit (at.Class k) (codes "native") (λ d. false) t)
-    (first_of (slots_fault (at.Class k) t ∷ methods_fault k t ∷ [])) e h)
+unfolding class_checks
+class_kind k classes t e known named h =
+    four_third (unknown (at.Class k) class_keys t)
+    (required (at.Class k) (codes "name") (is_text_with (is_new_name classes)) t)
+    (misfit (at.Class k) (codes "native") (is_text_with is_kind) t)
+    (option_and_then (parts_fault k t) (kind_of t)) e known named h
 
--- the slots of a class have a fault
-pub class_slots : (k : ℕ) (classes : List Class) (t : Members) (e : WorldFault)
+-- the parts of a class of a kind have a fault
+pub class_parts : (k : ℕ) (classes : List Class) (t : Members) (kind : Kind) (e : WorldFault)
     → unknown (at.Class k) class_keys t ≡ None
     → required (at.Class k) (codes "name") (is_text_with (is_new_name classes)) t ≡ None
-    → misfit (at.Class k) (codes "native") (λ d. false) t ≡ None
-    → Tells (slots_fault (at.Class k) t) e → Tells (class_checks k classes t) e
-class_slots k classes t e known named plain h =
-    let checks = behind_keys k classes t known in
-    rw (checks, named, plain) (in_first (slots_fault (at.Class k) t)
-    (first_of (methods_fault k t ∷ [])) e h)
-
--- the methods of a class have a fault
-pub class_methods : (k : ℕ) (classes : List Class) (t : Members) (e : WorldFault)
-    → unknown (at.Class k) class_keys t ≡ None
-    → required (at.Class k) (codes "name") (is_text_with (is_new_name classes)) t ≡ None
-    → misfit (at.Class k) (codes "native") (λ d. false) t ≡ None
-    → slots_fault (at.Class k) t ≡ None
-    → Tells (methods_fault k t) e → Tells (class_checks k classes t) e
-class_methods k classes t e known named plain slots h =
-    let checks = behind_keys k classes t known in
-    rw (checks, named, plain, slots) (in_first (methods_fault k t) None e h)
+    → misfit (at.Class k) (codes "native") (is_text_with is_kind) t ≡ None
+    → kind_of t ≡ Some kind → Tells (parts_fault k t kind) e → Tells (class_checks k classes t) e
+unfolding class_checks
+class_parts k classes t kind e known named native is h =
+    let here : option_and_then (parts_fault k t) (kind_of t) ≡ parts_fault k t kind = rw is in
+    four_fourth (unknown (at.Class k) class_keys t)
+    (required (at.Class k) (codes "name") (is_text_with (is_new_name classes)) t)
+    (misfit (at.Class k) (codes "native") (is_text_with is_kind) t)
+    (option_and_then (parts_fault k t) (kind_of t)) e known named native
+    (told_by (option_and_then (parts_fault k t) (kind_of t)) (parts_fault k t kind) e here h)
 
 -- a class has no fault
-pub class_good : (k : ℕ) (classes : List Class) (t : Members)
+pub class_good : (k : ℕ) (classes : List Class) (t : Members) (kind : Kind)
     → unknown (at.Class k) class_keys t ≡ None
     → required (at.Class k) (codes "name") (is_text_with (is_new_name classes)) t ≡ None
-    → misfit (at.Class k) (codes "native") (λ d. false) t ≡ None
-    → slots_fault (at.Class k) t ≡ None → methods_fault k t ≡ None
-    → class_checks k classes t ≡ None
-class_good k classes t known named plain slots methods =
-    let checks = behind_keys k classes t known in rw (checks, named, plain, slots, methods)
+    → misfit (at.Class k) (codes "native") (is_text_with is_kind) t ≡ None
+    → kind_of t ≡ Some kind → parts_fault k t kind ≡ None → class_checks k classes t ≡ None
+unfolding class_checks
+class_good k classes t kind known named native is parts =
+    let here : option_and_then (parts_fault k t) (kind_of t) ≡ None = rw (is, parts) in
+    four_none (unknown (at.Class k) class_keys t)
+    (required (at.Class k) (codes "name") (is_text_with (is_new_name classes)) t)
+    (misfit (at.Class k) (codes "native") (is_text_with is_kind) t)
+    (option_and_then (parts_fault k t) (kind_of t)) known named native here

@@ -1,9 +1,10 @@
 -- How what is read of a list grows, member by member.
 use Rattle.std.proofs.Common.{◌≡◌, ℕ, ◌+◌, ◌<◌, ◌≤◌, ◌||◌, not, Bool, true, false, List, [], ◌∷◌}
 use Rattle.std.proofs.Common.{◌++◌, length, map, take, get_or, Option, Some, refl, sym}
-use Rattle.std.proofs.Common.{◌∙◌, ap, subst, arith, length-append}
+use Rattle.std.proofs.Common.{◌∙◌, ap, append_assoc, subst, arith, length-append}
 use Rattle.std.specs.Prelude.{IsTrue}
 use Rattle.std.specs.List.{AllZip, IsDistinct, filter_map, list_any}
+use Rattle.std.specs.Option.{option_to_list}
 use Rattle.std.specs.Str.{bytes_eq}
 use Rattle.std.proofs.lemmas.Bool.{and_parts}
 use Rattle.std.proofs.lemmas.Cmp.{nat_list_eq_equiv}
@@ -14,6 +15,7 @@ use Rattle.do_grammar.specs.Names.{colons, is_selector}
 use Rattle.do_sig.specs.Calls.{arg_count}
 use Rattle.do_class.specs.Class.{AreMethods, selectors_of}
 use Rattle.do_class.specs.declared.method.Method.{Method}
+use Rattle.do_kinds.proofs.Growing.{maybe_more}
 use Rattle.do_document.specs.ClassFaults.{is_new_selector}
 
 -- what is not so is false
@@ -41,6 +43,18 @@ made_more f v xs k d ys y within made is =
     let more = map_more v xs k d within in
     let split = filter_map-append f (map v (take k xs)) (v (get_or xs k d) ∷ []) in
     rw (more, split, is, ← made)
+
+-- what an item may make joins what those before it made, behind earlier ones
+pub behind_more : {A B C : Type 0} (f : B → Option C) (v : A → B) (xs : List A) (k : ℕ) (x : A)
+    (earlier old new : List C) → k < length xs → x ≡ get_or xs k x
+    → old ≡ earlier ++ filter_map f (map v (take k xs)) → new ≡ old ++ option_to_list (f (v x))
+    → new ≡ earlier ++ filter_map f (map v (take (k + 1) xs))
+behind_more f v xs k x earlier old new within is made grown =
+    let so_many = filter_map f (map v (take k xs)) in
+    let more = maybe_more v xs k x x within is so_many (so_many ++ option_to_list (f (v x))) f refl
+    refl in
+    grown ∙ ap (λ ys. ys ++ option_to_list (f (v x))) made
+    ∙ append_assoc earlier so_many (option_to_list (f (v x))) ∙ ap (λ ys. earlier ++ ys) more
 
 -- one more pair of two lists
 pub zip_push : {A B : Type 0} (R : A → B → Type 0) (xs : List A) (ys : List B) (x : A) (y : B)

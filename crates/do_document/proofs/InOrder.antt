@@ -13,12 +13,13 @@ use Rattle.do_sig.specs.MethodTypes.{MethodType}
 use Rattle.do_sig.specs.declared.fault.EncFault.{EncFault}
 use Rattle.do_sig.specs.reading.Signatures.{signature_at}
 use Rattle.do_class.specs.declared.method.Method.{Method}
+use Rattle.do_kinds.specs.Methods.{method_said, signature_of}
 use Rattle.do_document.specs.Checks.{first_of, is_text, is_text_with, misfit, missing, required}
 use Rattle.do_document.specs.Checks.{unknown, wrong_unless}
 use Rattle.do_document.specs.ClassFaults.{count_fault}
-use Rattle.do_document.specs.ClassFaults.{is_new_selector, method_checks, method_keys}
+use Rattle.do_document.specs.ClassFaults.{is_new_selector, method_checks}
 use Rattle.do_document.specs.ClassFaults.{signature_fault, types_fault}
-use Rattle.do_document.specs.Classes.{method_of, signature_of}
+use Rattle.do_document.specs.Classes.{method_of}
 use Rattle.do_document.specs.Document.{keys, text_at}
 use Rattle.do_document.specs.Paths.{path}
 use Rattle.do_document.specs.declared.place.Place.{Place}
@@ -187,72 +188,85 @@ types_read place t types s there text reads =
       said,
     )
 
--- the first, second, third and fourth of four in a row, and none of them
-four_first : (a b c d : Option WorldFault) (e : WorldFault) → Tells a e
+-- the first of four in a row
+pub four_first : (a b c d : Option WorldFault) (e : WorldFault) → Tells a e
     → Tells (first_of (a ∷ b ∷ c ∷ d ∷ [])) e
 four_first a b c d e h = in_first a (first_of (b ∷ c ∷ d ∷ [])) e h
 
-four_second : (a b c d : Option WorldFault) (e : WorldFault) → a ≡ None → Tells b e
+-- the second of four in a row
+pub four_second : (a b c d : Option WorldFault) (e : WorldFault) → a ≡ None → Tells b e
     → Tells (first_of (a ∷ b ∷ c ∷ d ∷ [])) e
 four_second a b c d e n h = rw n (in_first b (first_of (c ∷ d ∷ [])) e h)
 
-four_third : (a b c d : Option WorldFault) (e : WorldFault) → a ≡ None → b ≡ None → Tells c e
+-- the third of four in a row
+pub four_third : (a b c d : Option WorldFault) (e : WorldFault) → a ≡ None → b ≡ None → Tells c e
     → Tells (first_of (a ∷ b ∷ c ∷ d ∷ [])) e
 four_third a b c d e n m h = rw (n, m) (in_first c (first_of (d ∷ [])) e h)
 
-four_fourth : (a b c d : Option WorldFault) (e : WorldFault) → a ≡ None → b ≡ None → c ≡ None
+-- the last of four in a row
+pub four_fourth : (a b c d : Option WorldFault) (e : WorldFault) → a ≡ None → b ≡ None → c ≡ None
     → Tells d e → Tells (first_of (a ∷ b ∷ c ∷ d ∷ [])) e
 four_fourth a b c d e n m o h = rw (n, m, o) (in_first d None e h)
 
-four_none : (a b c d : Option WorldFault) → a ≡ None → b ≡ None → c ≡ None → d ≡ None
+-- none of four in a row
+pub four_none : (a b c d : Option WorldFault) → a ≡ None → b ≡ None → c ≡ None → d ≡ None
     → first_of (a ∷ b ∷ c ∷ d ∷ []) ≡ None
 four_none a b c d n m o p = rw (n, m, o, p)
 
 -- a method has an unknown key
-pub method_unknown : (place : Place) (methods : List Method) (t : Members) (e : WorldFault)
-    → Tells (unknown place method_keys t) e → Tells (method_checks place methods t) e
+pub method_unknown : (keys : List (List ℕ)) (place : Place) (methods : List Method) (t : Members) (e : WorldFault)
+    → Tells (unknown place keys t) e → Tells (method_checks keys place methods t) e
 unfolding method_checks
-method_unknown place methods t e h =
-    four_first (unknown place method_keys t)
+method_unknown keys place methods t e h =
+    four_first (unknown place keys t)
     (required place (codes "selector")
     (is_text_with (is_new_selector methods)) t) (types_fault place t) (count_fault place t) e h
 
 -- a method has no good selector
-pub method_selector : (place : Place) (methods : List Method) (t : Members) (e : WorldFault)
-    → unknown place method_keys t ≡ None
+pub method_selector : (keys : List (List ℕ)) (place : Place) (methods : List Method) (t : Members) (e : WorldFault)
+    → unknown place keys t ≡ None
     → Tells (required place (codes "selector")
     (is_text_with (is_new_selector methods)) t) e
-    → Tells (method_checks place methods t) e
+    → Tells (method_checks keys place methods t) e
 unfolding method_checks
-method_selector place methods t e known h =
-    four_second (unknown place method_keys t)
+method_selector keys place methods t e known h =
+    four_second (unknown place keys t)
     (required place (codes "selector")
     (is_text_with (is_new_selector methods)) t) (types_fault place t)
     (count_fault place t) e known h
 
 -- a method has no good types
-pub method_types : (place : Place) (methods : List Method) (t : Members) (e : WorldFault)
-    → unknown place method_keys t ≡ None
+pub method_types : (keys : List (List ℕ)) (place : Place) (methods : List Method) (t : Members) (e : WorldFault)
+    → unknown place keys t ≡ None
     → required place (codes "selector")
     (is_text_with (is_new_selector methods)) t ≡ None
-    → Tells (types_fault place t) e → Tells (method_checks place methods t) e
+    → Tells (types_fault place t) e → Tells (method_checks keys place methods t) e
 unfolding method_checks
-method_types place methods t e known selected h =
-    four_third (unknown place method_keys t)
+method_types keys place methods t e known selected h =
+    four_third (unknown place keys t)
     (required place (codes "selector")
     (is_text_with (is_new_selector methods)) t) (types_fault place t) (count_fault place t) e known
     selected h
+
+-- a selector and types that spell a signature say a method
+spelled : (selector : List ℕ) (s : MethodType) (types : Option (List ℕ))
+    → option_and_then signature_of types ≡ Some s
+    → option_and_then (method_said selector) types
+    ≡ Some (record { selector = selector; signature = s })
+spelled selector s None e = cc
+spelled selector s (Some types) e = rw e
 
 -- what a method's table says, by its parts
 said : (t : Members) (selector : List ℕ) (s : MethodType)
     → text_at (codes "selector") t ≡ Some selector
     → option_and_then signature_of (text_at (codes "types") t) ≡ Some s
     → method_of t ≡ Some (record { selector = selector; signature = s })
-said t selector s named typed = rw (named, typed)
+said t selector s named typed =
+    let whole = spelled selector s (text_at (codes "types") t) typed in rw (named, whole)
 
 -- a method's types have another number of arguments
-pub method_count : (place : Place) (methods : List Method) (t : Members) (selector : List ℕ)
-    (s : MethodType) (e : WorldFault) → unknown place method_keys t ≡ None
+pub method_count : (keys : List (List ℕ)) (place : Place) (methods : List Method) (t : Members) (selector : List ℕ)
+    (s : MethodType) (e : WorldFault) → unknown place keys t ≡ None
     → required place (codes "selector")
     (is_text_with (is_new_selector methods)) t ≡ None
     → types_fault place t ≡ None
@@ -260,34 +274,34 @@ pub method_count : (place : Place) (methods : List Method) (t : Members) (select
     → option_and_then signature_of (text_at (codes "types") t) ≡ Some s
     → (arg_count s == colons selector) ≡ false
     → Is (Wrong (path place (codes "types"))) e
-    → Tells (method_checks place methods t) e
+    → Tells (method_checks keys place methods t) e
 unfolding method_checks count_fault
-method_count place methods t selector s e known selected typed named spelled other is =
+method_count keys place methods t selector s e known selected typed named spelled other is =
     let whole = said t selector s named spelled in
     let same : count_fault place t ≡ Some (Wrong (path place (codes "types"))) =
     rw (whole, other) in
-    four_fourth (unknown place method_keys t)
+    four_fourth (unknown place keys t)
     (required place (codes "selector")
     (is_text_with (is_new_selector methods)) t) (types_fault place t) (count_fault place t) e known
     selected typed
     (told (count_fault place t) (Wrong (path place (codes "types"))) e same is)
 
 -- a good method
-pub method_good : (place : Place) (methods : List Method) (t : Members) (selector : List ℕ)
-    (s : MethodType) → unknown place method_keys t ≡ None
+pub method_good : (keys : List (List ℕ)) (place : Place) (methods : List Method) (t : Members) (selector : List ℕ)
+    (s : MethodType) → unknown place keys t ≡ None
     → required place (codes "selector")
     (is_text_with (is_new_selector methods)) t ≡ None
     → types_fault place t ≡ None
     → text_at (codes "selector") t ≡ Some selector
     → option_and_then signature_of (text_at (codes "types") t) ≡ Some s
     → (arg_count s == colons selector) ≡ true
-    → (method_checks place methods t ≡ None)
+    → (method_checks keys place methods t ≡ None)
     × (method_of t ≡ Some (record { selector = selector; signature = s }))
 unfolding method_checks count_fault
-method_good place methods t selector s known selected typed named spelled same =
+method_good keys place methods t selector s known selected typed named spelled same =
     let whole = said t selector s named spelled in
     let none : count_fault place t ≡ None = rw (whole, same) in (
-      four_none (unknown place method_keys t)
+      four_none (unknown place keys t)
           (required place (codes "selector")
           (is_text_with (is_new_selector methods)) t) (types_fault place t)
           (count_fault place t) known

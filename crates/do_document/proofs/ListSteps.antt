@@ -4,16 +4,16 @@ use Rattle.std.proofs.Common.{drop, get_or, Option, Some, None, true, false, ref
 use Rattle.std.proofs.Common.{ap, arith}
 use Rattle.std.specs.List.{cons_option, filter_map}
 use Rattle.std.specs.Option.{option_or, option_to_list}
-use Rattle.std.proofs.lemmas.List.{map_more, take_all}
-use Rattle.std.proofs.lemmas.List.Elements.{filter_map-append}
+use Rattle.std.proofs.lemmas.List.{take_all}
 use Rattle.toml.specs.Data.{Data, Members, as_array, as_str, as_table, get_member}
 use Rattle.toml.specs.View.{items_view, view}
 use Rattle.toml.specs.declared.value.Value.{Value}
+use Rattle.do_kinds.proofs.Growing.{maybe_more}
 use Rattle.do_document.specs.Checks.{first_among, first_behind, is_list, is_of_kind, list_fault}
 use Rattle.do_document.specs.Checks.{member_fault, misfit, wrong_unless}
 use Rattle.do_document.specs.Document.{members_at, tables_at, texts_at}
 use Rattle.do_document.specs.Paths.{numbered, path}
-use Rattle.do_document.specs.declared.document.Kind.{Kind}
+use Rattle.do_document.specs.declared.document.ItemKind.{ItemKind}
 use Rattle.do_document.specs.declared.place.Place.{Place}
 use Rattle.do_document.specs.declared.fault.WorldFault.{WorldFault}
 use Rattle.do_document.specs.declared.fault.WorldFault.TheVariants.{Wrong}
@@ -41,26 +41,13 @@ pub members_absent : (key : List ℕ) (t : Members) → get_member key t ≡ Non
 unfolding members_at
 members_absent key t none = rw none
 
--- an item that is there or not, before no others
-single : {A : Type 0} (o : Option A) → cons_option o [] ≡ option_to_list o
-single None = refl
-single (Some x) = refl
-
 -- what one more value makes
 pub step_made : {B : Type 0} (f : Data → Option B) (xs : List Value) (k : ℕ) (x : Value)
     (old new : List B) → k < length xs → x ≡ get_or xs k x
     → old ≡ filter_map f (map view (take k xs)) → new ≡ old ++ option_to_list (f (view x))
     → new ≡ filter_map f (map view (take (k + 1) xs))
 step_made f xs k x old new within is made grown =
-    let more = map_more view xs k x within in
-    let split = filter_map-append f (map view (take k xs)) (view (get_or xs k x) ∷ []) in
-    let last = single (f (view (get_or xs k x))) in
-    let whole : filter_map f (map view (take (k + 1) xs))
-    ≡ filter_map f (map view (take k xs)) ++ option_to_list (f (view (get_or xs k x))) =
-    rw (more, split, last) in
-    let here = ap (λ (y : Value). old ++ option_to_list (f (view y))) is in
-    let before = ap (λ ys. ys ++ option_to_list (f (view (get_or xs k x)))) made in
-    grown ∙ here ∙ before ∙ sym whole
+    maybe_more view xs k x x within is old new f made grown
 
 -- what all values make
 pub all_made : {B : Type 0} (f : Data → Option B) (xs : List Value) (k : ℕ) (made : List B)
@@ -103,7 +90,7 @@ unfolding texts_at
 few_texts key t = fewer as_str (members_at key t)
 
 -- where nothing stands at a key, no list there has a fault
-pub list_absent : (place : Place) (key : List ℕ) (least most : ℕ) (kind : Kind) (t : Members)
+pub list_absent : (place : Place) (key : List ℕ) (least most : ℕ) (kind : ItemKind) (t : Members)
     → get_member key t ≡ None → list_fault place key least most kind t ≡ None
 unfolding list_fault misfit members_at
 list_absent place key least most kind t none = rw none
@@ -114,7 +101,7 @@ or_end None = refl
 or_end (Some f) = refl
 
 -- what stands at a key is no list of a good length
-pub list_wrong : (place : Place) (key : List ℕ) (least most : ℕ) (kind : Kind) (t : Members)
+pub list_wrong : (place : Place) (key : List ℕ) (least most : ℕ) (kind : ItemKind) (t : Members)
     (d : Data) (e : WorldFault) → get_member key t ≡ Some d
     → Tells (wrong_unless (is_list least most d) (path place key)) e
     → Tells (list_fault place key least most kind t) e
@@ -123,7 +110,7 @@ list_wrong place key least most kind t d e there h =
     rw there (in_first (wrong_unless (is_list least most d) (path place key)) _ e h)
 
 -- a list of a good length has the first fault of its members
-pub list_members : (place : Place) (key : List ℕ) (least most : ℕ) (kind : Kind) (t : Members)
+pub list_members : (place : Place) (key : List ℕ) (least most : ℕ) (kind : ItemKind) (t : Members)
     (d : Data) (vs : List Value) → get_member key t ≡ Some d → as_array d ≡ Some (items_view vs)
     → wrong_unless (is_list least most d) (path place key) ≡ None
     → list_fault place key least most kind t
@@ -135,7 +122,7 @@ list_members place key least most kind t d vs there list fits =
     (or_end (first_among (member_fault (path place key) kind) (map view vs)))
 
 -- a member of another kind is the first fault of a list
-pub member_wrong : (at : List ℕ) (kind : Kind) (vs : List Value) (k : ℕ) (v : Value)
+pub member_wrong : (at : List ℕ) (kind : ItemKind) (vs : List Value) (k : ℕ) (v : Value)
     (all : Option WorldFault) → k < length vs → v ≡ get_or vs k v
     → first_behind (member_fault at kind) (map view (take k vs)) (map view (drop k vs)) ≡ all
     → is_of_kind kind (view v) ≡ false → all ≡ Some (Wrong (numbered at k))
@@ -148,7 +135,7 @@ member_wrong at kind vs k v all within is so other =
     turn_bad (member_fault at kind) view vs k v all (Wrong (numbered at k)) within so bad
 
 -- a member of the kind has no fault
-pub member_good : (at : List ℕ) (kind : Kind) (vs : List Value) (k : ℕ) (v : Value)
+pub member_good : (at : List ℕ) (kind : ItemKind) (vs : List Value) (k : ℕ) (v : Value)
     (all : Option WorldFault) → k < length vs → v ≡ get_or vs k v
     → first_behind (member_fault at kind) (map view (take k vs)) (map view (drop k vs)) ≡ all
     → is_of_kind kind (view v) ≡ true

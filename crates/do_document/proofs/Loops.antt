@@ -1,28 +1,30 @@
 -- What one more slot, method or class does to what was read so far, and what all come to.
-use Rattle.std.proofs.Common.{◌≡◌, ℕ, ◌+◌, ◌<◌, ◌≤◌, List, length, map, take, drop}
+use Rattle.std.proofs.Common.{◌≡◌, ℕ, ◌+◌, ◌-◌, ◌<◌, ◌≤◌, List, ◌++◌, length, map, take, drop}
 use Rattle.std.proofs.Common.{get_or, Option, Some, None, true, sym, ◌∙◌, ap}
 use Rattle.std.proofs.Common.{arith, Result, Ok, Err, inl, inr, subst}
 use Rattle.std.specs.List.{filter_map}
 use Rattle.std.specs.Prelude.{codes}
 use Rattle.std.proofs.lemmas.List.{length-map}
 use Rattle.toml.specs.Data.{Members}
-use Rattle.do_class.specs.Class.{AreMethods, Class}
+use Rattle.do_class.specs.Class.{Class}
 use Rattle.do_class.specs.declared.ids.Slot.{Slot}
 use Rattle.do_class.specs.declared.method.Method.{Method}
 use Rattle.do_document.specs.Checks.{first_among, first_behind, list_fault}
-use Rattle.do_document.specs.ClassFaults.{class_checks, class_fault, is_new_slot, method_checks}
-use Rattle.do_document.specs.ClassFaults.{method_fault, methods_fault, slot_fault, slots_fault}
-use Rattle.do_document.specs.Classes.{class_of, method_of, methods_in, slot_of, slots_in}
+use Rattle.do_document.specs.ClassFaults.{class_checks, class_fault, entry_checks, entry_fault}
+use Rattle.do_document.specs.ClassFaults.{is_new_slot, methods_fault, slot_fault, slots_fault}
+use Rattle.do_document.specs.Classes.{class_of, method_of, slot_of, slots_in}
 use Rattle.do_document.specs.Document.{members_at, tables_at, texts_at}
 use Rattle.do_document.specs.Finding.{Finds}
-use Rattle.do_document.specs.Sound.{AreTyped}
-use Rattle.do_document.specs.declared.document.Kind.TheVariants.{Text, Table}
+use Rattle.do_document.specs.Lists.{key_of, place_of}
+use Rattle.do_document.specs.declared.lists.MethodList.{MethodList}
+use Rattle.do_document.specs.declared.document.ItemKind.TheVariants.{Text, Table}
 use Rattle.do_document.specs.declared.place.Place.{Place}
 use Rattle.do_document.specs.declared.place.Place.TheVariants as at
 use Rattle.do_document.specs.declared.fault.WorldFault.{WorldFault}
 use Rattle.do_document.proofs.Finding.{turn_bad, turn_good}
 use Rattle.do_document.proofs.Growing.{so_far}
 use Rattle.do_document.proofs.InOrder.{Tells, two_first, two_none, two_second}
+use Rattle.do_document.proofs.InRow.{second_found}
 use Rattle.do_document.proofs.ListSteps.{few_tables, few_texts}
 
 module _ {A : Type 0} where
@@ -39,40 +41,43 @@ module _ {A : Type 0} where
       let good : slot_fault place (map v (take k xs)) (v (get_or xs k d)) ≡ None = rw (is, fresh) in
       turn_good (slot_fault place) v xs k d all within so good
 
-  -- what a method is checked for is its fault among the others
-  method_here : (class : ℕ) (v : A → Members) (xs : List A) (k : ℕ) (d : A)
-      (methods : List Method) → k < length xs
-      → methods ≡ filter_map method_of (map v (take k xs))
-      → method_fault class (map v (take k xs)) (v (get_or xs k d))
-      ≡ method_checks (at.Method class k) methods (v (get_or xs k d))
-  method_here class v xs k d methods within made =
-      let count = so_far v xs k (omega (arith, within)) in
-      ap (λ n. method_checks (at.Method class n) (filter_map method_of (map v (take k xs)))
-      (v (get_or xs k d))) count
-      ∙ ap (λ ms. method_checks (at.Method class k) ms (v (get_or xs k d))) (sym made)
+  module _ (list : MethodList) (class : ℕ) (earlier : List Method) where
+    -- what a table of a list is checked for is its fault among the others
+    entry_here : (v : A → Members) (xs : List A) (k : ℕ) (d : A) (methods : List Method)
+        → k < length xs → methods ≡ earlier ++ filter_map method_of (map v (take k xs))
+        → entry_fault list class earlier (map v (take k xs)) (v (get_or xs k d))
+        ≡ entry_checks list (place_of list class k) methods (v (get_or xs k d))
+    entry_here v xs k d methods within made =
+        let count = so_far v xs k (omega (arith, within)) in
+        ap (λ n. entry_checks list (place_of list class n)
+        (earlier ++ filter_map method_of (map v (take k xs))) (v (get_or xs k d))) count
+        ∙ ap (λ ms. entry_checks list (place_of list class k) ms (v (get_or xs k d))) (sym made)
 
-  -- a method has no fault
-  pub method_turn : (class : ℕ) (v : A → Members) (xs : List A) (k : ℕ) (d : A)
-      (methods : List Method) (all : Option WorldFault) → k < length xs
-      → first_behind (method_fault class) (map v (take k xs)) (map v (drop k xs)) ≡ all
-      → methods ≡ filter_map method_of (map v (take k xs))
-      → method_checks (at.Method class k) methods (v (get_or xs k d)) ≡ None
-      → first_behind (method_fault class) (map v (take (k + 1) xs)) (map v (drop (k + 1) xs))
-      ≡ all
-  method_turn class v xs k d methods all within so made none =
-      turn_good (method_fault class) v xs k d all within so
-      (method_here class v xs k d methods within made ∙ none)
+    -- a table has no fault
+    pub entry_turn : (v : A → Members) (xs : List A) (k : ℕ) (d : A) (methods : List Method)
+        (all : Option WorldFault) → k < length xs
+        → first_behind (entry_fault list class earlier) (map v (take k xs)) (map v (drop k xs))
+        ≡ all
+        → methods ≡ earlier ++ filter_map method_of (map v (take k xs))
+        → entry_checks list (place_of list class k) methods (v (get_or xs k d)) ≡ None
+        → first_behind (entry_fault list class earlier) (map v (take (k + 1) xs))
+        (map v (drop (k + 1) xs)) ≡ all
+    entry_turn v xs k d methods all within so made none =
+        turn_good (entry_fault list class earlier) v xs k d all within so
+        (entry_here v xs k d methods within made ∙ none)
 
-  -- the first method with a fault has the first fault of all
-  pub method_bad : (class : ℕ) (v : A → Members) (xs : List A) (k : ℕ) (d : A)
-      (methods : List Method) (all : Option WorldFault) (e : WorldFault) → k < length xs
-      → first_behind (method_fault class) (map v (take k xs)) (map v (drop k xs)) ≡ all
-      → methods ≡ filter_map method_of (map v (take k xs))
-      → Tells (method_checks (at.Method class k) methods (v (get_or xs k d))) e → Tells all e
-  method_bad class v xs k d methods all e within so made (inl m) = inl m
-  method_bad class v xs k d methods all e within so made (inr h) =
-      inr (turn_bad (method_fault class) v xs k d all e within so
-      (method_here class v xs k d methods within made ∙ h))
+    -- the first table with a fault has the first fault of all
+    pub entry_bad : (v : A → Members) (xs : List A) (k : ℕ) (d : A) (methods : List Method)
+        (all : Option WorldFault) (e : WorldFault) → k < length xs
+        → first_behind (entry_fault list class earlier) (map v (take k xs)) (map v (drop k xs))
+        ≡ all
+        → methods ≡ earlier ++ filter_map method_of (map v (take k xs))
+        → Tells (entry_checks list (place_of list class k) methods (v (get_or xs k d))) e
+        → Tells all e
+    entry_bad v xs k d methods all e within so made (inl m) = inl m
+    entry_bad v xs k d methods all e within so made (inr h) =
+        inr (turn_bad (entry_fault list class earlier) v xs k d all e within so
+        (entry_here v xs k d methods within made ∙ h))
 
   -- what a class is checked for is its fault among the others
   class_here : (v : A → Members) (xs : List A) (k : ℕ) (d : A) (classes : List Class)
@@ -139,39 +144,26 @@ slots_read place t ts (Err e) listed few texts (inr h) =
     (first_among (slot_fault place) (texts_at (codes "slots") t)) e listed
     (inr (subst (λ xs. first_among (slot_fault place) xs ≡ Some e) texts h))
 
--- the list of methods has a fault
-pub methods_listed : (class : ℕ) (t : Members) (e : WorldFault)
-    → Tells (list_fault (at.Class class) (codes "method") 0 64 Table t) e
-    → Tells (methods_fault class t) e
+-- a list of methods has a fault
+pub entries_listed : (list : MethodList) (earlier : List Method) (class : ℕ) (t : Members)
+    (e : WorldFault)
+    → Tells (list_fault (at.Class class) (key_of list) 0 (64 - length earlier) Table t) e
+    → Tells (methods_fault list earlier class t) e
 unfolding methods_fault
-methods_listed class t e h =
-    two_first (list_fault (at.Class class) (codes "method") 0 64 Table t)
-    (first_among (method_fault class) (tables_at (codes "method") t)) e h
+entries_listed list earlier class t e h =
+    two_first (list_fault (at.Class class) (key_of list) 0 (64 - length earlier) Table t)
+    (first_among (entry_fault list class earlier) (tables_at (key_of list) t)) e h
 
 -- a good list of methods is read as its tables are
-pub methods_read : (class : ℕ) (t : Members) (ts : List Members)
-    (result : Result (List Method) WorldFault)
-    → list_fault (at.Class class) (codes "method") 0 64 Table t ≡ None
-    → ts ≡ tables_at (codes "method") t
-    → Finds (first_among (method_fault class) ts)
-    (λ methods. (methods ≡ filter_map method_of ts) × AreMethods methods × AreTyped methods
-    × (length methods ≡ length ts)) result
-    → Finds (methods_fault class t)
-    (λ methods. (methods ≡ methods_in t) × AreMethods methods × AreTyped methods
-    × (length methods ≡ length (tables_at (codes "method") t))) result
-unfolding methods_fault methods_in
-methods_read class t ts (Ok methods) listed tables h =
-    let none : first_among (method_fault class) (tables_at (codes "method") t) ≡ None =
-    subst (λ xs. first_among (method_fault class) xs ≡ None) tables h.0 in (
-      two_none (list_fault (at.Class class) (codes "method") 0 64 Table t)
-          (first_among (method_fault class) (tables_at (codes "method") t)) listed none,
-      (h.1.0 ∙ ap (filter_map method_of) tables, h.1.1, h.1.2, h.1.3 ∙ ap length tables),
-    )
-methods_read class t ts (Err e) listed tables (inl m) = inl m
-methods_read class t ts (Err e) listed tables (inr h) =
-    two_second (list_fault (at.Class class) (codes "method") 0 64 Table t)
-    (first_among (method_fault class) (tables_at (codes "method") t)) e listed
-    (inr (subst (λ xs. first_among (method_fault class) xs ≡ Some e) tables h))
+pub entries_read : {B : Type 0} (list : MethodList) (earlier : List Method) (class : ℕ)
+    (t : Members) (says : B → Type 0) (result : Result B WorldFault)
+    → list_fault (at.Class class) (key_of list) 0 (64 - length earlier) Table t ≡ None
+    → Finds (first_among (entry_fault list class earlier) (tables_at (key_of list) t)) says result
+    → Finds (methods_fault list earlier class t) says result
+unfolding methods_fault
+entries_read list earlier class t says result listed h =
+    second_found (list_fault (at.Class class) (key_of list) 0 (64 - length earlier) Table t)
+    (first_among (entry_fault list class earlier) (tables_at (key_of list) t)) says result listed h
 
 -- the tables of a good list are few
 pub tables_few : {A : Type 0} (key : List ℕ) (t : Members) (v : A → Members) (xs : List A)

@@ -6,8 +6,8 @@ use Rattle.std.specs.List.{list_any}
 use Rattle.std.specs.Option.{option_map, option_map_or, option_or}
 use Rattle.std.specs.Str.{bytes_eq}
 use Rattle.toml.specs.Data.{Data, Members, get_member, as_array, as_str, as_table}
-use Rattle.do_document.specs.declared.document.Kind.{Kind}
-use Rattle.do_document.specs.declared.document.Kind.TheVariants.{Text, Table}
+use Rattle.do_document.specs.declared.document.ItemKind.{ItemKind}
+use Rattle.do_document.specs.declared.document.ItemKind.TheVariants.{Text, Table}
 use Rattle.do_document.specs.declared.place.Place.{Place}
 use Rattle.do_document.specs.declared.fault.WorldFault.{WorldFault}
 use Rattle.do_document.specs.declared.fault.WorldFault.TheVariants.{Missing, Wrong}
@@ -65,7 +65,7 @@ abbrev pub is_table : Data → Bool
 is_table d = is_some (as_table d)
 
 -- a value of a kind
-abbrev pub is_of_kind : Kind → Data → Bool
+abbrev pub is_of_kind : ItemKind → Data → Bool
 is_of_kind Text d = is_text d
 is_of_kind Table d = is_table d
 
@@ -81,11 +81,11 @@ is_list least most d =
     (as_array d) false
 
 -- a member of the list at a path, behind others, is wrong unless it is of a kind
-abbrev pub member_fault : List ℕ → Kind → List Data → Data → Option WorldFault
+abbrev pub member_fault : List ℕ → ItemKind → List Data → Data → Option WorldFault
 member_fault at kind before d = wrong_unless (is_of_kind kind d) (numbered at (length before))
 
 -- what stands at a key is no list of such a length, or a member of it is of another kind
-unfoldable pub list_fault : Place → List ℕ → ℕ → ℕ → Kind → Members → Option WorldFault
+unfoldable pub list_fault : Place → List ℕ → ℕ → ℕ → ItemKind → Members → Option WorldFault
 list_fault place key least most kind t = first_of
     (misfit place key (is_list least most) t
     ∷ first_among (member_fault (path place key) kind) (members_at key t)

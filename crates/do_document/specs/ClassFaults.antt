@@ -1,7 +1,8 @@
 -- What may be wrong with the classes of a document, in the order in which it counts; the codes of
 -- methods are judged once all classes are.
-use Rattle.std.specs.Prelude.{ℕ, ◌==◌, Bool, false, not, ◌&&◌, is_some, List, [], ◌∷◌, length}
-use Rattle.std.specs.Prelude.{codes, Option, Some, None, option_and_then, Result, Ok, Err}
+use Rattle.std.specs.Prelude.{ℕ, ◌-◌, ◌==◌, nat_le, Bool, false, not, ◌&&◌, is_some, List, []}
+use Rattle.std.specs.Prelude.{◌∷◌, ◌++◌, length, codes, Option, Some, None, option_and_then}
+use Rattle.std.specs.Prelude.{Result, Ok, Err}
 use Rattle.std.specs.List.{filter_map, list_any}
 use Rattle.std.specs.Option.{option_map, option_map_or}
 use Rattle.std.specs.Str.{bytes_eq}
@@ -15,12 +16,19 @@ use Rattle.do_class.specs.Class.{Class}
 use Rattle.do_class.specs.Table.{class_named}
 use Rattle.do_class.specs.declared.ids.Slot.{Slot}
 use Rattle.do_class.specs.declared.method.Method.{Method}
+use Rattle.do_kinds.specs.Kinds.{kind_named}
+use Rattle.do_kinds.specs.Native.{native_methods}
+use Rattle.do_kinds.specs.declared.kind.Kind.{Kind}
+use Rattle.do_kinds.specs.declared.kind.Kind.TheVariants as kinds
 use Rattle.do_document.specs.Checks.{first_among, first_of, is_text, is_text_with, list_fault}
 use Rattle.do_document.specs.Checks.{misfit, required, unknown, wrong_unless}
-use Rattle.do_document.specs.Classes.{class_of, method_of, slot_of}
+use Rattle.do_document.specs.Classes.{allowed_methods, class_of, kind_of, method_of, slot_of}
 use Rattle.do_document.specs.Document.{tables_at, text_at, texts_at}
+use Rattle.do_document.specs.Lists.{key_of, keys_of, place_of}
 use Rattle.do_document.specs.Paths.{numbered, path}
-use Rattle.do_document.specs.declared.document.Kind.TheVariants.{Text, Table}
+use Rattle.do_document.specs.declared.document.ItemKind.TheVariants.{Text, Table}
+use Rattle.do_document.specs.declared.lists.MethodList.{MethodList}
+use Rattle.do_document.specs.declared.lists.MethodList.TheVariants as lists
 use Rattle.do_document.specs.declared.place.Place.{Place}
 use Rattle.do_document.specs.declared.place.Place.TheVariants as at
 use Rattle.do_document.specs.declared.fault.WorldFault.{WorldFault}
@@ -75,47 +83,98 @@ count_fault place t =
     option_and_then (λ m. wrong_unless (arg_count m.signature == colons m.selector)
     (path place (codes "types"))) (method_of t)
 
--- the keys that a method may have
-abbrev pub method_keys : List (List ℕ)
-method_keys = codes "code" ∷ codes "selector" ∷ codes "types" ∷ []
-
--- a method at a place, behind others
-unfoldable pub method_checks : Place → List Method → Members → Option WorldFault
-method_checks place methods t = first_of
-    (unknown place method_keys t
+-- a method at a place, in a table that may have these keys, behind other methods
+unfoldable pub method_checks : List (List ℕ) → Place → List Method → Members → Option WorldFault
+method_checks keys place methods t = first_of
+    (unknown place keys t
     ∷ required place (codes "selector") (is_text_with (is_new_selector methods)) t
     ∷ types_fault place t
     ∷ count_fault place t
     ∷ [])
 
--- a method of a class, behind others
-abbrev pub method_fault : ℕ → List Members → Members → Option WorldFault
-method_fault class before t =
-    method_checks (at.Method class (length before)) (filter_map method_of before) t
+-- a rule's text has 1 to 255 bytes
+abbrev pub is_rule : List ℕ → Bool
+is_rule text = nat_le 1 (length text) && nat_le (length text) 255
 
--- the methods of a class of a number
-unfoldable pub methods_fault : ℕ → Members → Option WorldFault
-methods_fault k t = first_of
-    (list_fault (at.Class k) (codes "method") 0 64 Table t
-    ∷ first_among (method_fault k) (tables_at (codes "method") t)
+-- the rule of a method that is denied
+abbrev pub rule_fault : MethodList → Place → Members → Option WorldFault
+rule_fault lists.Denied place t = required place (codes "rule") (is_text_with is_rule) t
+rule_fault list place t = None
+
+-- a table of a list at a place, behind other methods
+unfoldable pub entry_checks : MethodList → Place → List Method → Members → Option WorldFault
+entry_checks list place methods t = first_of
+    (method_checks (keys_of list) place methods t
+    ∷ rule_fault list place t
     ∷ [])
+
+-- a table of a list of a class, behind methods and other tables
+abbrev pub entry_fault : MethodList → ℕ → List Method → List Members → Members
+    → Option WorldFault
+entry_fault list class methods before t =
+    entry_checks list (place_of list class (length before)) (methods ++ filter_map method_of before) t
+
+-- a list of a class of a number, behind methods that it has already; it has at most 64 in all
+unfoldable pub methods_fault : MethodList → List Method → ℕ → Members → Option WorldFault
+methods_fault list methods k t = first_of
+    (list_fault (at.Class k) (key_of list) 0 (64 - length methods) Table t
+    ∷ first_among (entry_fault list k methods) (tables_at (key_of list) t)
+    ∷ [])
+
+-- neither of two keys may stand in a table
+unfoldable pub neither : Place → List ℕ → List ℕ → Members → Option WorldFault
+neither place one other t = first_of
+    (misfit place one (λ d. false) t
+    ∷ misfit place other (λ d. false) t
+    ∷ [])
+
+-- a class has slots and methods of its own beside its kind
+abbrev pub own_fault : ℕ → Members → Option WorldFault
+own_fault k t = neither (at.Class k) (codes "slots") (codes "method") t
+
+-- a class that is no checker's has rules
+abbrev pub rules_fault : ℕ → Members → Option WorldFault
+rules_fault k t = neither (at.Class k) (codes "allow") (codes "deny") t
+
+-- a native class that is no checker's has slots or methods of its own, or rules
+abbrev pub native_fault : ℕ → Members → Option WorldFault
+native_fault k t = first_of (own_fault k t ∷ rules_fault k t ∷ [])
+
+-- what stands in a class of a number, behind its name and its kind
+unfoldable pub parts_fault : ℕ → Members → Kind → Option WorldFault
+parts_fault k t kinds.Script = first_of
+    (slots_fault (at.Class k) t
+    ∷ methods_fault lists.Own [] k t
+    ∷ rules_fault k t
+    ∷ [])
+parts_fault k t kinds.Checker = first_of
+    (own_fault k t
+    ∷ methods_fault lists.Allowed (native_methods kinds.Checker) k t
+    ∷ methods_fault lists.Denied (allowed_methods t) k t
+    ∷ [])
+parts_fault k t native = native_fault k t
 
 -- a name that none of these classes has
 abbrev pub is_new_name : List Class → List ℕ → Bool
 is_new_name classes text = is_name text && not (is_some (class_named classes text))
 
+-- a text names a kind
+abbrev pub is_kind : List ℕ → Bool
+is_kind text = is_some (kind_named text)
+
 -- the keys that a class may have
 abbrev pub class_keys : List (List ℕ)
-class_keys = codes "method" ∷ codes "name" ∷ codes "native" ∷ codes "slots" ∷ []
+class_keys =
+    codes "allow" ∷ codes "deny" ∷ codes "method" ∷ codes "name" ∷ codes "native" ∷ codes "slots"
+    ∷ []
 
--- a class of a number, behind others; no class can be native yet
+-- a class of a number, behind others
 unfoldable pub class_checks : ℕ → List Class → Members → Option WorldFault
-class_checks k classes t = let place = at.Class k in first_of
-    (unknown place class_keys t
-    ∷ required place (codes "name") (is_text_with (is_new_name classes)) t
-    ∷ misfit place (codes "native") (λ d. false) t
-    ∷ slots_fault place t
-    ∷ methods_fault k t
+class_checks k classes t = first_of
+    (unknown (at.Class k) class_keys t
+    ∷ required (at.Class k) (codes "name") (is_text_with (is_new_name classes)) t
+    ∷ misfit (at.Class k) (codes "native") (is_text_with is_kind) t
+    ∷ option_and_then (parts_fault k t) (kind_of t)
     ∷ [])
 
 -- a class, behind others

@@ -1,5 +1,6 @@
 pub mod Document
 pub mod Paths
+pub mod Lists
 pub mod Checks
 pub mod Classes
 pub mod ClassFaults

@@ -6,14 +6,15 @@ ghost use Rattle.std.specs.Option.{option_map, option_to_list};
 ghost use Rattle.std.specs.Str.{bytes_eq};
 ghost use Rattle.toml.specs.Data.{as_array, as_str, as_table, get_member};
 ghost use Rattle.toml.specs.View.{items_view, table_view, view};
-ghost use Rattle.do_document.specs.Checks.{is_list, is_of_kind, list_fault, missing, unknown};
-ghost use Rattle.do_document.specs.Checks.{wrong_unless};
-ghost use Rattle.do_document.specs.Document.{keys, members_at, tables_at, texts_at};
+ghost use Rattle.do_document.specs.Checks.{is_list, is_of_kind, is_text, list_fault, missing};
+ghost use Rattle.do_document.specs.Checks.{required, unknown, wrong_unless};
+ghost use Rattle.do_document.specs.Document.{keys, members_at, tables_at, text_at, texts_at};
 ghost use Rattle.do_document.specs.Paths.{path};
 ghost use Rattle.do_document.specs.Finding.{Finds};
 
 use crate::fault::WorldFault;
 use crate::place::Place;
+use do_base::Text;
 use do_grammar::is_text;
 use std::alloc::{AllocError, Global};
 use toml::{Table, Value};
@@ -100,9 +101,25 @@ pub fn text_of<'a>(
     }
 }
 
+/// The text that must stand at a key.
+pub(crate) fn text_required(
+    alloc: Global,
+    table: &Table,
+    place: Place,
+    key: &str,
+) -> Result<Text, WorldFault>
+    ensures { let t = table_view table.now in Finds (required place key.now is_text t)
+        (λ text. text_at key.now t ≡ Some text) result }
+{
+    let value = required(alloc, table, place, key)?;
+    let text = text_of(alloc, value, place, key)?;
+    let copy = Text::from_slice(alloc, text.as_bytes())?;
+    Ok(copy)
+}
+
 /// What the members of a list are to be.
 #[derive(Clone, Copy, Debug)]
-pub enum Kind {
+pub enum ItemKind {
     /// Texts.
     Text,
     /// Tables.
@@ -110,12 +127,12 @@ pub enum Kind {
 }
 
 /// Whether a value is of a kind.
-fn is_of(value: &Value, kind: Kind) -> bool
+fn is_of(value: &Value, kind: ItemKind) -> bool
     ensures { result ≡ is_of_kind kind (view value.now) }
 {
     match kind {
-        Kind::Text => value.is_str(),
-        Kind::Table => value.is_table(),
+        ItemKind::Text => value.is_str(),
+        ItemKind::Table => value.is_table(),
     }
 }
 
@@ -150,7 +167,7 @@ pub fn check_list(
     key: &str,
     least: usize,
     most: usize,
-    kind: Kind,
+    kind: ItemKind,
 ) -> Result<(), WorldFault>
     ensures { Finds (list_fault place key.now least most kind (table_view table.now))
         (λ _. length (members_at key.now (table_view table.now)) ≤ most) result }

@@ -1,22 +1,19 @@
-//! The methods of a class: selectors and signatures. Their codes are read once all classes are.
-ghost use Rattle.std.specs.Prelude.{◌≡◌, ◌≢◌, ◌⊎◌, ◌≤◌, ◌==◌, IsTrue, Some, codes, length, map};
+//! One method of a class: its selector and its signature. Its code is read once all classes are.
+ghost use Rattle.std.specs.Prelude.{◌≡◌, ◌≢◌, ◌⊎◌, ◌==◌, IsTrue, Some, codes, map};
 ghost use Rattle.std.specs.Prelude.{option_and_then};
-ghost use Rattle.std.specs.List.{filter_map};
 ghost use Rattle.toml.specs.View.{table_view};
 ghost use Rattle.do_grammar.specs.Names.{colons};
 ghost use Rattle.do_sig.specs.Calls.{arg_count};
 ghost use Rattle.do_sig.specs.MethodTypes.{IsMethodType};
-ghost use Rattle.do_class.specs.Class.{AreMethods};
-ghost use Rattle.do_document.specs.Checks.{first_among, is_text_with, required};
-ghost use Rattle.do_document.specs.ClassFaults.{is_new_selector, method_checks, method_fault};
-ghost use Rattle.do_document.specs.ClassFaults.{methods_fault, types_fault};
-ghost use Rattle.do_document.specs.Classes.{method_of, methods_in, signature_of};
-ghost use Rattle.do_document.specs.Document.{tables_at, text_at};
+ghost use Rattle.do_kinds.specs.Methods.{signature_of};
+ghost use Rattle.do_document.specs.Checks.{is_text_with, required};
+ghost use Rattle.do_document.specs.ClassFaults.{is_new_selector, method_checks, types_fault};
+ghost use Rattle.do_document.specs.Document.{text_at};
 ghost use Rattle.do_document.specs.Finding.{Finds};
 ghost use Rattle.do_document.specs.Paths.{path};
-ghost use Rattle.do_document.specs.Sound.{AreTyped, IsNextMethod};
+ghost use Rattle.do_document.specs.Sound.{IsNextMethod};
 
-use crate::document::{Kind, check_list, known_keys, required, tables_at, text_of};
+use crate::document::{known_keys, required, text_of, text_required};
 use crate::fault::WorldFault;
 use crate::place::Place;
 use do_base::Text;
@@ -25,12 +22,6 @@ use do_grammar::{colons_in, is_selector, is_text};
 use do_sig::{EncFault, Signature};
 use std::alloc::Global;
 use toml::Table;
-
-/// The most methods of a class.
-const MOST_METHODS: usize = 64;
-
-/// The keys that a method may have.
-const KEYS: [&str; 3] = ["code", "selector", "types"];
 
 /// Whether a text is a selector that no method has.
 fn is_new(methods: &Methods, selector: &[u8]) -> bool
@@ -59,9 +50,7 @@ fn selector_at(
         (λ selector. (text_at (codes "selector") t ≡ Some selector)
         × IsTrue (is_new_selector methods.now selector)) result }
 {
-    let value = required(alloc, table, place, "selector")?;
-    let text = text_of(alloc, value, place, "selector")?;
-    let selector = Text::from_slice(alloc, text.as_bytes())?;
+    let selector = text_required(alloc, table, place, "selector")?;
     if !is_new(methods, selector.as_slice()) {
         return Err(place.wrong(alloc, "selector"));
     }
@@ -105,17 +94,18 @@ fn is_counted(signature: &Signature, selector: &Text) -> bool
     signature.args() == colons_in(selector.as_slice())
 }
 
-/// A method of a class, behind others.
-fn method_at(
+/// A method of a class, from a table that may have these keys, behind other methods.
+pub(crate) fn method_at(
     alloc: Global,
     table: &Table,
     place: Place,
+    keys: &[&str],
     methods: &Methods,
 ) -> Result<Method, WorldFault>
-    ensures { Finds (method_checks place methods.now (table_view table.now))
-        (IsNextMethod methods.now (table_view table.now)) result }
+    ensures { Finds (method_checks (map (λ k. k.now) keys.now) place methods.now
+        (table_view table.now)) (IsNextMethod methods.now (table_view table.now)) result }
 {
-    known_keys(alloc, table, place, &KEYS)?;
+    known_keys(alloc, table, place, keys)?;
     let selector = selector_at(alloc, table, place, methods)?;
     let signature = signature_at(alloc, table, place)?;
     if !is_counted(&signature, &selector) {
@@ -125,41 +115,4 @@ fn method_at(
         selector,
         signature,
     })
-}
-
-/// The methods of tables, in their order, of a class of a number.
-fn methods_of(alloc: Global, tables: &[&Table], class: usize) -> Result<Methods, WorldFault>
-    requires { length tables.now ≤ 64 }
-    ensures { let ts = map (λ t. table_view t.now) tables.now in
-        Finds (first_among (method_fault class) ts)
-        (λ methods. (methods ≡ filter_map method_of ts) × AreMethods methods × AreTyped methods
-        × (length methods ≡ length ts)) result }
-{
-    let mut methods = Methods::new(alloc);
-    for (k, table) in tables.iter().enumerate() {
-        let method = method_at(alloc, *table, Place::Method(class, k), &methods)?;
-        methods.push(method)?;
-    }
-    Ok(methods)
-}
-
-/// The methods of a class, by its number, which come from the list at `method`; none where it is
-/// missing.
-pub(crate) fn methods_at(alloc: Global, table: &Table, class: usize) -> Result<Methods, WorldFault>
-    ensures { let t = table_view table.now in
-        Finds (methods_fault class t)
-        (λ methods. (methods ≡ methods_in t) × AreMethods methods × AreTyped methods
-        × (length methods ≡ length (tables_at (codes "method") t))) result }
-{
-    check_list(
-        alloc,
-        table,
-        Place::Class(class),
-        "method",
-        0,
-        MOST_METHODS,
-        Kind::Table,
-    )?;
-    let tables = tables_at(alloc, table, "method")?;
-    methods_of(alloc, tables.as_slice(), class)
 }

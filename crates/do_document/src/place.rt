@@ -1,13 +1,13 @@
 //! Where something stands in a document, and faults at such a place.
 ghost use Rattle.std.specs.Prelude.{◌≡◌, ◌⊎◌, ◌++◌, IfOk, OnOk};
-ghost use Rattle.do_document.specs.Paths.{front, numbered, path};
+ghost use Rattle.do_document.specs.Paths.{front, in_class, numbered, path};
 
 use crate::fault::WorldFault;
 use do_base::Text;
 use do_grammar::push_dec;
 use std::alloc::{AllocError, Global};
 
-/// A table of a document. Classes, the methods of a class and nodes are counted from 0.
+/// A table of a document. Classes, the members of a class's list and nodes are counted from 0.
 #[derive(Clone, Copy, Debug)]
 pub enum Place {
     /// The document itself.
@@ -16,6 +16,10 @@ pub enum Place {
     Class(usize),
     /// A method, by the number of its class and its own.
     Method(usize, usize),
+    /// A method that a checker's class allows, by the number of its class and its own.
+    Allowed(usize, usize),
+    /// A method that a checker's class denies, by the number of its class and its own.
+    Denied(usize, usize),
     /// A node.
     Node(usize),
 }
@@ -31,6 +35,16 @@ fn push_numbered(out: &mut Text, list: &[u8], k: usize) -> Result<(), AllocError
     out.push(b']')
 }
 
+/// Adds what stands in front of the keys of a member of a class's list.
+fn push_in_class(out: &mut Text, class: usize, list: &[u8], k: usize) -> Result<(), AllocError>
+    ensures { OnOk result (out.new ≡ out.old ++ in_class class list.now k) }
+{
+    push_numbered(out, b"class", class)?;
+    out.push(b'.')?;
+    push_numbered(out, list, k)?;
+    out.push(b'.')
+}
+
 impl Place {
     /// Adds what stands in front of the table's keys.
     fn push_front(self, out: &mut Text) -> Result<(), AllocError>
@@ -42,12 +56,9 @@ impl Place {
                 push_numbered(out, b"class", class)?;
                 out.push(b'.')
             }
-            Place::Method(class, method) => {
-                push_numbered(out, b"class", class)?;
-                out.push(b'.')?;
-                push_numbered(out, b"method", method)?;
-                out.push(b'.')
-            }
+            Place::Method(class, k) => push_in_class(out, class, b"method", k),
+            Place::Allowed(class, k) => push_in_class(out, class, b"allow", k),
+            Place::Denied(class, k) => push_in_class(out, class, b"deny", k),
             Place::Node(node) => {
                 push_numbered(out, b"node", node)?;
                 out.push(b'.')

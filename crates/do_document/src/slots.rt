@@ -7,7 +7,7 @@ ghost use Rattle.do_document.specs.ClassFaults.{is_new_slot, slot_fault, slots_f
 ghost use Rattle.do_document.specs.Classes.{slot_of, slots_in};
 ghost use Rattle.do_document.specs.Finding.{Finds};
 
-use crate::document::{Kind, check_list, texts_at};
+use crate::document::{ItemKind, check_list, texts_at};
 use crate::fault::WorldFault;
 use crate::place::Place;
 use do_base::Text;
@@ -68,7 +68,7 @@ pub(crate) fn slots_at(alloc: Global, table: &Table, place: Place) -> Result<Slo
     ensures { Finds (slots_fault place (table_view table.now))
         (λ slots. (slots ≡ slots_in (table_view table.now)) × (length slots ≤ 16)) result }
 {
-    check_list(alloc, table, place, "slots", 0, MOST_SLOTS, Kind::Text)?;
+    check_list(alloc, table, place, "slots", 0, MOST_SLOTS, ItemKind::Text)?;
     let texts = texts_at(alloc, table, "slots")?;
     slots_of(alloc, texts.as_slice(), place)
 }

@@ -1,7 +1,6 @@
 -- An upgraded schedule is replayed with the transcripts that the rules of the first version give.
 use Rattle.std.proofs.Common.{◌≡◌, ℕ, List, Option, ◌++◌, drop, ap, sym, ◌∙◌}
 use Rattle.do_base.specs.declared.outside.shelf.NamedFile.{NamedFile}
-use Rattle.do_behave.specs.Script.{script}
 use Rattle.do_sched.specs.Good.{IsLineOf}
 use Rattle.do_sched.specs.Version.{header}
 use Rattle.do_sched.specs.declared.line.Line.{Line}
@@ -9,10 +8,11 @@ use Rattle.do_sched.specs.declared.version.Version.TheVariants.{First, Second}
 use Rattle.do_sched.proofs.Upgraded.{upgrades}
 use Rattle.std.specs.List.{AllByRecursion}
 use Rattle.do_machine.proofs.first.Lines.{same_blocks}
+use Rattle.do_native.specs.Acts.{native_act}
 use Rattle.do_world.specs.declared.world.World.{World}
 use Rattle.do_lines.specs.Transcript.{transcript}
 use Rattle.do_node.specs.Reading.{IsUpgrade, IsUpgraded}
-use Rattle.do_node.specs.Replaying.{transcript_from, world_transcript}
+use Rattle.do_node.specs.Replaying.{behaviour_of, transcript_from, world_transcript}
 use Rattle.do_node.specs.Upgrading.{IsReplayedAlike, ReplaysAlike, first_transcript}
 
 -- over the lines of the first version a world has the transcript that the rules of it give
@@ -20,7 +20,8 @@ same_transcript : (lines : List Line) → AllByRecursion (IsLineOf First) lines 
     world_transcript w lines ≡ first_transcript w lines
 unfolding world_transcript transcript_from first_transcript
 same_transcript lines good w =
-    ap (transcript w.table) (same_blocks w.table (script w.program) w.nodes lines good)
+    ap (transcript w.table)
+    (same_blocks w.table (native_act (behaviour_of w)) w.nodes lines good)
 
 -- a text that is upgraded is replayed alike
 replays_alike : (bytes text : List ℕ) → IsUpgraded bytes text → ReplaysAlike bytes text

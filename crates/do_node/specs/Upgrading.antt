@@ -1,22 +1,23 @@
 -- What is replayed of an upgraded schedule.
 use Rattle.std.specs.Prelude.{◌≡◌, ℕ, List, Option}
 use Rattle.do_base.specs.declared.outside.shelf.NamedFile.{NamedFile}
-use Rattle.do_behave.specs.Script.{script}
 use Rattle.do_sched.specs.Schedule.{IsSchedule, IsScheduleOf}
 use Rattle.do_sched.specs.declared.line.Line.{Line}
 use Rattle.do_sched.specs.declared.version.Version.TheVariants.{First}
 use Rattle.do_machine.specs.World.{opening}
 use Rattle.do_machine.specs.laws.first.Blocks.{blocks_1}
+use Rattle.do_native.specs.Acts.{native_act}
 use Rattle.do_world.specs.declared.world.World.{World}
 use Rattle.do_lines.specs.Transcript.{transcript}
 use Rattle.do_node.specs.Files.{most_of_schedule}
 use Rattle.do_node.specs.Reading.{HasText}
-use Rattle.do_node.specs.Replaying.{world_transcript}
+use Rattle.do_node.specs.Replaying.{behaviour_of, world_transcript}
 
 -- the transcript of these lines over a world by the rules of the first version
 unfoldable pub first_transcript : World → List Line → List ℕ
 first_transcript w lines =
-    transcript w.table (blocks_1 w.table (script w.program) (opening w.table w.nodes) lines)
+    transcript w.table
+    (blocks_1 w.table (native_act (behaviour_of w)) (opening w.table w.nodes) lines)
 
 -- the text is a schedule that is replayed, over any world, with the transcript that the rules of
 -- the first version give for the bytes, which are a schedule of that version

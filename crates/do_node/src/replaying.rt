@@ -8,6 +8,7 @@ use crate::output::{flush, flush_if_long};
 use do_base::{PutFail, Sink, Text};
 use do_behave::Behaviour;
 use do_local::Local;
+use do_native::Native;
 use do_sched::Lines;
 use do_world::World;
 use std::alloc::Global;
@@ -53,9 +54,12 @@ pub fn replay<K: Sink>(
 {
     let World {
         table,
-        nodes,
+        kinds,
+        rules,
         program,
+        nodes,
     } = world;
-    let mut local = Local::new(table, &nodes, program)?;
+    let native = Native::new(kinds, program, rules);
+    let mut local = Local::new(table, &nodes, native)?;
     write_transcript(alloc, &mut local, lines, out)
 }

@@ -3,28 +3,25 @@ use Rattle.std.proofs.Common.{◌≡◌, ℕ, ◌+◌, ◌<◌, ◌≤◌, List,
 use Rattle.std.proofs.Common.{get_or, Option, Some, None, refl, sym, ◌∙◌, ap, arith, subst, zero}
 use Rattle.std.proofs.Common.{suc, Result, Ok, Err, inl, inr}
 use Rattle.std.specs.List.{All, AllZip, filter_map}
-use Rattle.std.specs.Option.{option_map}
-use Rattle.std.specs.Prelude.{codes, slice_get}
-use Rattle.std.proofs.lemmas.List.{length-map, map-append, map_more, take_all}
-use Rattle.std.proofs.lemmas.List.Elements.{recursion_from_All}
+use Rattle.std.specs.Option.{option_map_or}
+use Rattle.std.specs.Prelude.{IfSome, codes, option_and_then, slice_get}
+use Rattle.std.proofs.lemmas.List.{map-append, map_more, take_all}
 use Rattle.toml.specs.Data.{Members}
 use Rattle.do_script.specs.Listing.{Listing}
-use Rattle.do_behave.specs.Programs.{HasCodes, Suits}
 use Rattle.do_class.specs.Class.{Class}
-use Rattle.do_class.specs.declared.ids.Slot.{Slot}
+use Rattle.do_kinds.specs.declared.kind.Kind.{Kind}
 use Rattle.do_document.specs.Checks.{first_among, first_behind}
-use Rattle.do_document.specs.Classes.{methods_in, slots_in}
-use Rattle.do_document.specs.Document.{tables_at, text_at}
+use Rattle.do_document.specs.Classes.{kind_of}
+use Rattle.do_document.specs.Document.{tables_at}
 use Rattle.do_document.specs.Finding.{Finds}
-use Rattle.do_document.specs.Sound.{IsClassOf}
 use Rattle.do_document.specs.declared.place.Place.TheVariants as at
 use Rattle.do_document.specs.declared.fault.WorldFault.{WorldFault}
 use Rattle.do_document.proofs.Finding.{turn_bad, turn_good}
 use Rattle.do_document.proofs.Growing.{so_far, zip_push}
 use Rattle.do_document.proofs.InOrder.{Tells}
-use Rattle.do_world.specs.Faults.{class_codes_fault, code_fault, codes_fault, method_code_fault}
-use Rattle.do_world.specs.Worlds.{class_codes, codes_of, method_code, slot_names}
-use Rattle.do_world.proofs.CodeSteps.{zip_suits}
+use Rattle.do_world.specs.Faults.{class_codes_fault, code_fault, codes_fault, kind_codes_fault}
+use Rattle.do_world.specs.Faults.{method_code_fault}
+use Rattle.do_world.specs.Worlds.{class_codes, codes_by, codes_of, method_code}
 
 module _ {A : Type 0} (v : A → Members) (xs : List A) (j : ℕ) (x : A)
     (within : j < length xs) (there : x ≡ get_or xs j x) where
@@ -57,44 +54,40 @@ module _ {A : Type 0} (v : A → Members) (xs : List A) (j : ℕ) (x : A)
   code_said slots classes code said =
       subst (λ (z : A). method_code slots classes (v z) ≡ Some code) there said
 
-  -- the codes of a class are checked for its own number and slots
-  codes_here : (slots classes : List (List ℕ)) → slots ≡ slot_names (slots_in (v x))
-      → codes_fault classes (map v (take j xs)) (v (get_or xs j x))
-      ≡ class_codes_fault j slots classes (v x)
-  codes_here slots classes names =
-      ap (λ n. class_codes_fault n (slot_names (slots_in (v (get_or xs j x)))) classes
-      (v (get_or xs j x))) count
-      ∙ ap (λ (z : A). class_codes_fault j (slot_names (slots_in (v z))) classes (v z)) (sym there)
-      ∙ ap (λ ns. class_codes_fault j ns classes (v x)) (sym names)
+  module _ (classes : List (List ℕ)) (kind : Kind) (is : kind_of (v x) ≡ Some kind) where
+    -- the codes of a class are checked for its own number and kind
+    codes_here : codes_fault classes (map v (take j xs)) (v (get_or xs j x))
+        ≡ kind_codes_fault j classes (v x) kind
+    codes_here =
+        ap (λ n. option_and_then (kind_codes_fault n classes (v (get_or xs j x)))
+        (kind_of (v (get_or xs j x)))) count
+        ∙ ap (λ (z : A). option_and_then (kind_codes_fault j classes (v z)) (kind_of (v z)))
+        (sym there)
+        ∙ ap (option_and_then (kind_codes_fault j classes (v x))) is
 
-  -- the codes of a class have no fault
-  pub codes_turn : (slots classes : List (List ℕ)) (all : Option WorldFault)
-      → slots ≡ slot_names (slots_in (v x))
-      → first_behind (codes_fault classes) (map v (take j xs)) (map v (drop j xs)) ≡ all
-      → class_codes_fault j slots classes (v x) ≡ None
-      → first_behind (codes_fault classes) (map v (take (j + 1) xs)) (map v (drop (j + 1) xs))
-      ≡ all
-  codes_turn slots classes all names so none =
-      turn_good (codes_fault classes) v xs j x all within so
-      (codes_here slots classes names ∙ none)
+    -- the codes of a class have no fault
+    pub codes_turn : (all : Option WorldFault)
+        → first_behind (codes_fault classes) (map v (take j xs)) (map v (drop j xs)) ≡ all
+        → kind_codes_fault j classes (v x) kind ≡ None
+        → first_behind (codes_fault classes) (map v (take (j + 1) xs)) (map v (drop (j + 1) xs))
+        ≡ all
+    codes_turn all so none =
+        turn_good (codes_fault classes) v xs j x all within so (codes_here ∙ none)
 
-  -- the first class with a fault in its codes has the first fault of all
-  pub codes_bad : (slots classes : List (List ℕ)) (all : Option WorldFault) (e : WorldFault)
-      → slots ≡ slot_names (slots_in (v x))
-      → first_behind (codes_fault classes) (map v (take j xs)) (map v (drop j xs)) ≡ all
-      → Tells (class_codes_fault j slots classes (v x)) e → Tells all e
-  codes_bad slots classes all e names so (inl m) = inl m
-  codes_bad slots classes all e names so (inr h) =
-      inr (turn_bad (codes_fault classes) v xs j x all e within so
-      (codes_here slots classes names ∙ h))
+    -- the first class with a fault in its codes has the first fault of all
+    pub codes_bad : (all : Option WorldFault) (e : WorldFault)
+        → first_behind (codes_fault classes) (map v (take j xs)) (map v (drop j xs)) ≡ all
+        → Tells (kind_codes_fault j classes (v x) kind) e → Tells all e
+    codes_bad all e so (inl m) = inl m
+    codes_bad all e so (inr h) =
+        inr (turn_bad (codes_fault classes) v xs j x all e within so (codes_here ∙ h))
 
-  -- the codes of a class are those that its table says
-  pub codes_said : (slots classes : List (List ℕ)) (made : List Listing)
-      → slots ≡ slot_names (slots_in (v x)) → made ≡ class_codes slots classes (v x)
-      → codes_of classes (v (get_or xs j x)) ≡ made
-  codes_said slots classes made names is =
-      ap (λ (z : A). class_codes (slot_names (slots_in (v z))) classes (v z)) (sym there)
-      ∙ ap (λ ns. class_codes ns classes (v x)) (sym names) ∙ sym is
+    -- the codes of a class are those that its table says
+    pub codes_said : (made : List Listing) → made ≡ codes_by classes (v x) kind
+        → codes_of classes (v (get_or xs j x)) ≡ made
+    codes_said made same =
+        ap (λ (z : A). codes_of classes (v z)) (sym there)
+        ∙ ap (λ o. option_map_or (codes_by classes (v x)) o []) is ∙ sym same
 
 -- the codes of a class are read as those of its tables
 pub codes_read : (k : ℕ) (slots classes : List (List ℕ)) (t : Members) (ts : List Members)
@@ -119,90 +112,84 @@ codes_read k slots classes t ts P (Err e) tables (inl m) = inl m
 codes_read k slots classes t ts P (Err e) tables (inr h) =
     inr (subst (λ xs. first_among (method_code_fault k slots classes) xs ≡ Some e) tables h)
 
--- a class of a table has the slots that the table says
-pub slots_said : (t : Members) (c : Class) → IsClassOf t c → c.slots ≡ slots_in t
-slots_said t c is = from (text_at (codes "name") t) is.said
-  where
-    from : (o : Option (List ℕ)) → option_map (λ (name : List ℕ). record {
-      name = name;
-      slots = slots_in t;
-      methods = methods_in t;
-    }) o ≡ Some c → c.slots ≡ slots_in t
-    from None e = cc
-    from (Some name) e = cc
+-- a list goes beside another one of the same length
+pub as_many : {A B C : Type 0} (R : B → C → Type 0) (v : A → B) (xs : List A) (ys : List C)
+    → AllZip R (map v xs) ys → length xs ≡ length ys
+as_many R v [] [] all = refl
+as_many R v [] (y ∷ ys) all = absurd all
+as_many R v (x ∷ xs) [] all = absurd all
+as_many R v (x ∷ xs) (y ∷ ys) all =
+    let rest : length xs ≡ length ys = as_many R v xs ys all.1 in omega (arith, rest)
 
--- codes that suit a class are one for each of its methods
-pub codes_suit : (t : Members) (c : Class) (slots classes : List (List ℕ)) (n : ℕ)
-    (made : List Listing) → IsClassOf t c → slots ≡ slot_names c.slots → length classes ≡ n
-    → length made ≡ length (tables_at (codes "method") t)
-    → All (Suits (length slots) (length classes)) made → HasCodes n made c
-codes_suit t c slots classes n made is names many count suit =
-    let few : length slots ≡ length c.slots =
-    ap length names ∙ length-map c.slots (λ (s : Slot). s.name) in
-    let here : All (Suits (length c.slots) n) made =
-    subst (λ k. All (Suits k n) made) few
-    (subst (λ k. All (Suits (length slots) k) made) many suit) in
-    zip_suits (Suits (length c.slots) n) made c.methods (count ∙ sym is.all)
-    (recursion_from_All (Suits (length c.slots) n) made here)
+-- what goes beside an item
+beside : {A B C : Type 0} (R : B → C → Type 0) (v : A → B) (xs : List A) (ys : List C) (k : ℕ)
+    (x : A) → AllZip R (map v xs) ys → k < length xs
+    → IfSome (slice_get ys k) (R (v (get_or xs k x)))
+beside R v [] ys k x all within = absurd (omega (arith, within))
+beside R v (w ∷ ws) [] k x all within = absurd all
+beside R v (w ∷ ws) (y ∷ ys) zero x all within = all.0
+beside R v (w ∷ ws) (y ∷ ys) (suc k) x all within =
+    beside R v ws ys k x all.1 (omega (arith, within))
 
--- The class that stands at a place, which is that of its table.
-pub record Found (t : Members) (cs : List Class) (k : ℕ) (slots : List Slot) : Type 0 where
-  pub class : Class
-  pub there : slice_get cs k ≡ Some class
-  pub has : class.slots ≡ slots
-  pub of : IsClassOf t class
+-- the same of an item that was found
+pub found_beside : {A B C : Type 0} (R : B → C → Type 0) (v : A → B) (xs : List A) (ys : List C)
+    (k : ℕ) (x : A) → AllZip R (map v xs) ys → k < length xs → x ≡ get_or xs k x
+    → IfSome (slice_get ys k) (R (v x))
+found_beside {A} R v xs ys k x all within at =
+    subst (λ (z : A). IfSome (slice_get ys k) (R (v z))) (sym at) (beside R v xs ys k x all within)
 
--- at each place the class is that of the table
-found_at : {A : Type 0} (v : A → Members) (xs : List A) (cs : List Class) (k : ℕ) (x : A)
-    (slots : List Slot) → AllZip IsClassOf (map v xs) cs → k < length xs
-    → option_map (λ (c : Class). c.slots) (slice_get cs k) ≡ Some slots
-    → Found (v (get_or xs k x)) cs k slots
-found_at v [] cs k x slots all within is = absurd (omega (arith, within))
-found_at v (y ∷ ys) [] k x slots all within is = absurd all
-found_at v (y ∷ ys) (d ∷ ds) zero x slots all within is =
-    record { class = d; there = refl; has = cc; of = all.0 }
-found_at v (y ∷ ys) (d ∷ ds) (suc k) x slots all within is =
-    let f = found_at v ys ds k x slots all.1 (omega (arith, within)) is in
-    record { class = f.class; there = f.there; has = f.has; of = f.of }
+-- what goes beside an item, by its place in the other list
+beside_at : {A B C : Type 0} (R : B → C → Type 0) (v : A → B) (xs : List A) (ys : List C) (k : ℕ)
+    (x : A) (y : C) → AllZip R (map v xs) ys → k < length xs
+    → R (v (get_or xs k x)) (get_or ys k y)
+beside_at R v [] ys k x y all within = absurd (omega (arith, within))
+beside_at R v (w ∷ ws) [] k x y all within = absurd all
+beside_at R v (w ∷ ws) (z ∷ zs) zero x y all within = all.0
+beside_at R v (w ∷ ws) (z ∷ zs) (suc k) x y all within =
+    beside_at R v ws zs k x y all.1 (omega (arith, within))
 
-pub class_found : {A : Type 0} (v : A → Members) (xs : List A) (cs : List Class) (k : ℕ) (x : A)
-    (slots : List Slot) → AllZip IsClassOf (map v xs) cs → k < length xs → x ≡ get_or xs k x
-    → option_map (λ (c : Class). c.slots) (slice_get cs k) ≡ Some slots → Found (v x) cs k slots
-class_found {A} v xs cs k x slots all within at is =
-    subst (λ (z : A). Found (v z) cs k slots) (sym at) (found_at v xs cs k x slots all within is)
+-- the same of an item that was found
+pub found_at : {A B C : Type 0} (R : B → C → Type 0) (v : A → B) (xs : List A) (ys : List C)
+    (k : ℕ) (x : A) (y : C) → AllZip R (map v xs) ys → k < length xs → x ≡ get_or xs k x
+    → R (v x) (get_or ys k y)
+found_at {A} R v xs ys k x y all within at =
+    subst (λ (z : A). R (v z) (get_or ys k y)) (sym at) (beside_at R v xs ys k x y all within)
 
--- there are as many classes as tables
-pub as_many : {A : Type 0} (v : A → Members) (xs : List A) (cs : List Class)
-    → AllZip IsClassOf (map v xs) cs → length xs ≡ length cs
-as_many v [] [] all = refl
-as_many v [] (d ∷ ds) all = absurd all
-as_many v (x ∷ xs) [] all = absurd all
-as_many v (x ∷ xs) (d ∷ ds) all =
-    let rest : length xs ≡ length ds = as_many v xs ds all.1 in omega (arith, rest)
-
--- the names of a class's slots are those that its table says
-pub names_said : {t : Members} {cs : List Class} {k : ℕ} {slots : List Slot}
-    (names : List (List ℕ)) → Found t cs k slots → names ≡ slot_names slots
-    → names ≡ slot_names (slots_in t)
-names_said {t} names f is =
-    is ∙ ap slot_names (sym f.has) ∙ ap slot_names (slots_said t f.class f.of)
-
+-- the first items with one more
 take_suc : {X : Type 0} (xs : List X) (k : ℕ) (x : X) → slice_get xs k ≡ Some x
     → take (suc k) xs ≡ take k xs ++ x ∷ []
 take_suc [] k x is = cc
 take_suc (y ∷ ys) zero x is = cc
 take_suc (y ∷ ys) (suc k) x is = ap (λ zs. y ∷ zs) (take_suc ys k x is)
 
+-- the first items with one more, by its number
+pub take_one : {X : Type 0} (xs : List X) (k : ℕ) (x : X) → slice_get xs k ≡ Some x
+    → take (k + 1) xs ≡ take k xs ++ x ∷ []
+take_one xs k x is =
+    let more : k + 1 ≡ suc k = omega arith in ap (λ n. take n xs) more ∙ take_suc xs k x is
+
+-- past the end there is no item
+pub past_end : {X : Type 0} (xs : List X) (k : ℕ) → slice_get xs k ≡ None → length xs ≤ k
+past_end [] k none = omega arith
+past_end (x ∷ xs) zero none = cc
+past_end (x ∷ xs) (suc k) none = let rest = past_end xs k none in omega (arith, rest)
+
+-- one more beside those so far, by what stands at its place
+suit_by : {X Y : Type 0} (R : Y → X → Type 0) (made : List Y) (xs : List X) (k : ℕ) (y : Y)
+    (o : Option X) → slice_get xs k ≡ o → k < length xs → AllZip R made (take k xs)
+    → IfSome o (R y) → AllZip R (made ++ y ∷ []) (take (k + 1) xs)
+suit_by R made xs k y None at within all r =
+    let past = past_end xs k at in absurd (omega (arith, past, within))
+suit_by {X} {Y} R made xs k y (Some x) at within all r =
+    subst (λ (zs : List X). AllZip R (made ++ y ∷ []) zs) (sym (take_one xs k x at))
+    (zip_push R made (take k xs) y x all r)
+
 -- the codes of one class more suit the classes so far
-pub suit_more : (R : List Listing → Class → Type 0) (made : List (List Listing)) (cs : List Class)
-    (k : ℕ) (codes : List Listing) (c : Class) → slice_get cs k ≡ Some c
-    → AllZip R made (take k cs) → R codes c → AllZip R (made ++ codes ∷ []) (take (k + 1) cs)
-suit_more R made cs k codes c at all suits =
-    let more : k + 1 ≡ suc k = omega arith in
-    let whole : take (k + 1) cs ≡ take k cs ++ c ∷ [] =
-    ap (λ n. take n cs) more ∙ take_suc cs k c at in
-    subst (λ ds. AllZip R (made ++ codes ∷ []) ds) (sym whole)
-    (zip_push R made (take k cs) codes c all suits)
+pub suit_more : {X Y : Type 0} (R : Y → X → Type 0) (made : List Y) (xs : List X) (k : ℕ) (y : Y)
+    → k < length xs → AllZip R made (take k xs) → IfSome (slice_get xs k) (R y)
+    → AllZip R (made ++ y ∷ []) (take (k + 1) xs)
+suit_more R made xs k y within all r =
+    suit_by R made xs k y (slice_get xs k) refl within all r
 
 -- the codes of one class more are those of its table
 pub codes_more : {A : Type 0} (v : A → Members) (xs : List A) (k : ℕ) (x : A)

@@ -2,11 +2,16 @@
 use Rattle.std.proofs.Common.{◌≡◌, ℕ, List, [], ◌∷◌, refl, arith}
 use Rattle.std.specs.Prelude.{Some, codes}
 use Rattle.std.specs.List.{AllByRecursion, IsDistinct}
-use Rattle.std.proofs.lemmas.List.Elements.{All-from_recursion}
+use Rattle.std.proofs.lemmas.List.Elements.{All-from_recursion, All-nil}
 use Rattle.do_behave.specs.Programs.{Suits}
 use Rattle.do_class.specs.Class.{Class, IsClass}
 use Rattle.do_class.specs.Table.{IsTable}
-use Rattle.do_document.specs.Sound.{AreTyped, HasTypes}
+use Rattle.do_check.specs.Rules.{AreRules, IsRule}
+use Rattle.do_check.specs.declared.rules.Rule.{Rule}
+use Rattle.do_kinds.specs.Kinds.{AreKindsOf}
+use Rattle.do_kinds.specs.Methods.{AreTyped}
+use Rattle.do_kinds.specs.declared.kind.Kind.{Kind}
+use Rattle.do_document.specs.Sound.{HasTypes}
 use Rattle.do_grammar.specs.Names.{is_selector}
 use Rattle.do_machine.specs.World.{IsSeat, IsWorld}
 use Rattle.do_machine.specs.declared.state.Seat.{Seat}
@@ -15,8 +20,9 @@ use Rattle.do_sig.specs.Bare.{simple_encoding}
 use Rattle.do_sig.specs.MethodTypes.{IsMethodType}
 use Rattle.do_sig.specs.declared.value_type.Scalar.TheVariants.{LongLong}
 use Rattle.do_sig.proofs.SignaturePrinted.{simple_limited}
-use Rattle.do_world.specs.Counter.{add_code, counter_classes, counter_codes, counter_nodes}
-use Rattle.do_world.specs.Counter.{counter_world, go_code, number_to_number}
+use Rattle.do_world.specs.Counter.{add_code, counter_classes, counter_codes, counter_kinds}
+use Rattle.do_world.specs.Counter.{counter_nodes, counter_rules, counter_world, go_code}
+use Rattle.do_world.specs.Counter.{number_to_number}
 use Rattle.do_world.specs.Sound.{IsSound}
 use Rattle.do_world.proofs.CounterClasses.{add_selects, go_selects, one_method}
 
@@ -118,15 +124,34 @@ go_suits = record {
   few_classes = omega arith;
 }
 
+-- ---- the kinds
+
+-- each class has a kind, and no rules
+kinded : AreKindsOf counter_classes counter_kinds counter_rules
+kinded = record {
+  kind_each = refl;
+  rules_each = refl;
+  rules_good = All-from_recursion AreRules counter_rules (All-nil IsRule, (All-nil IsRule, tt));
+}
+
 -- the world is sound
 counter_sound : IsSound counter_world
 counter_sound = record {
   opens = opens;
   made = ((add_suits, tt), ((go_suits, tt), tt));
+  kinds = kinded;
 }
 
 -- and so is one of the same parts
-pub sound_by_parts : (table : List Class) (nodes : List Seat) (program : List (List Listing))
-    → table ≡ counter_classes → nodes ≡ counter_nodes → program ≡ counter_codes
-    → IsSound (record { table = table; nodes = nodes; program = program })
-sound_by_parts table nodes program t n p = rw (t, n, p) counter_sound
+pub sound_by_parts : (table : List Class) (kinds : List Kind) (rules : List (List Rule))
+    (program : List (List Listing)) (nodes : List Seat) → table ≡ counter_classes
+    → kinds ≡ counter_kinds → rules ≡ counter_rules → program ≡ counter_codes
+    → nodes ≡ counter_nodes
+    → IsSound (record {
+      table = table;
+      kinds = kinds;
+      rules = rules;
+      program = program;
+      nodes = nodes;
+    })
+sound_by_parts table kinds rules program nodes t k r p n = rw (t, k, r, p, n) counter_sound

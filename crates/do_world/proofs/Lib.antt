@@ -1,10 +1,11 @@
 mod CounterClasses
 mod CounterTexts
 mod CounterSound
+mod NoCode
 pub mod AssemblyFaults
 pub mod CodeSteps
 pub mod CodeLoops
-pub mod InRow
+mod CodeKinds
 pub mod SeatLoops
 pub mod SeatSteps
 pub mod TopLists

@@ -3,16 +3,19 @@ use Rattle.std.proofs.Common.{◌≡◌, ◌≤◌, List, [], ◌∷◌, length,
 use Rattle.std.proofs.Common.{None, refl, sym, ◌∙◌, ap, arith}
 use Rattle.std.proofs.Common.{subst}
 use Rattle.std.specs.Prelude.{codes}
-use Rattle.std.specs.List.{All, AllZip, filter_map}
+use Rattle.std.specs.List.{All, filter_map}
 use Rattle.toml.specs.Data.{Members}
 use Rattle.do_behave.specs.Programs.{IsMadeFor}
 use Rattle.do_class.specs.Class.{Class}
 use Rattle.do_class.specs.Table.{IsTable, names_of}
 use Rattle.do_document.specs.Checks.{first_among}
 use Rattle.do_document.specs.ClassFaults.{class_fault}
-use Rattle.do_document.specs.Classes.{class_of, classes_in}
+use Rattle.do_check.specs.declared.rules.Rule.{Rule}
+use Rattle.do_kinds.specs.Kinds.{AreKindsOf}
+use Rattle.do_kinds.specs.declared.kind.Kind.{Kind}
+use Rattle.do_document.specs.Classes.{class_of, class_rules, classes_in, kind_of}
 use Rattle.do_document.specs.Document.{tables_at}
-use Rattle.do_document.specs.Sound.{HasTypes, IsClassOf}
+use Rattle.do_document.specs.Sound.{HasTypes}
 use Rattle.do_document.specs.declared.fault.WorldFault.{WorldFault}
 use Rattle.do_document.proofs.InOrder.{Tells}
 use Rattle.do_script.specs.Listing.{Listing}
@@ -20,7 +23,7 @@ use Rattle.do_machine.specs.declared.state.Seat.{Seat}
 use Rattle.do_world.specs.Faults.{codes_fault, fault_of, seat_fault, top_fault}
 use Rattle.do_world.specs.Sound.{AreSeats, IsSound}
 use Rattle.do_world.specs.Worlds.{codes_of, seat_of, world_of}
-use Rattle.do_world.proofs.InRow.{row_first, row_next, row_none, told_by}
+use Rattle.do_document.proofs.InRow.{row_first, row_next, row_none, told_by}
 
 module _ (d : Members) where
   -- the nodes, then the codes before them, then the classes before these
@@ -94,20 +97,31 @@ module _ (d : Members) where
           (same_seats ∙ none) refl)))
 
 -- what a document says, by its parts
-pub world_said : (d : Members) (table : List Class) (nodes : List Seat)
-    (program : List (List Listing)) → table ≡ filter_map class_of (tables_at (codes "class") d)
-    → nodes ≡ filter_map (seat_of table) (tables_at (codes "node") d)
+pub world_said : (d : Members) (table : List Class) (kinds : List Kind) (rules : List (List Rule))
+    (program : List (List Listing)) (nodes : List Seat)
+    → table ≡ filter_map class_of (tables_at (codes "class") d)
+    → kinds ≡ filter_map kind_of (tables_at (codes "class") d)
+    → rules ≡ map class_rules (tables_at (codes "class") d)
     → program ≡ map (codes_of (names_of table)) (tables_at (codes "class") d)
-    → record { table = table; nodes = nodes; program = program } ≡ world_of d
+    → nodes ≡ filter_map (seat_of table) (tables_at (codes "node") d)
+    → record { table = table; kinds = kinds; rules = rules; program = program; nodes = nodes }
+    ≡ world_of d
 unfolding classes_in
-world_said d table nodes program t n p = rw (n, p, t) refl
+world_said d table kinds rules program nodes t k r p n = rw (n, p, r, k, t) refl
 
 -- a world of sound parts is sound
-pub world_sound : (table : List Class) (nodes : List Seat) (program : List (List Listing))
-    → IsTable table → All HasTypes table → 1 ≤ length nodes → length nodes ≤ 64
-    → AreSeats table nodes → IsMadeFor program table
-    → IsSound (record { table = table; nodes = nodes; program = program })
-world_sound table nodes program is typed some few seats made = record {
+pub world_sound : (table : List Class) (kinds : List Kind) (rules : List (List Rule))
+    (program : List (List Listing)) (nodes : List Seat) → IsTable table → All HasTypes table
+    → 1 ≤ length nodes → length nodes ≤ 64 → AreSeats table nodes → IsMadeFor program table
+    → AreKindsOf table kinds rules
+    → IsSound (record {
+      table = table;
+      kinds = kinds;
+      rules = rules;
+      program = program;
+      nodes = nodes;
+    })
+world_sound table kinds rules program nodes is typed some few seats made kinded = record {
   opens = record {
     classes = is;
     signatures = typed;
@@ -117,16 +131,25 @@ world_sound table nodes program is typed some few seats made = record {
     seated = seats.seated;
   };
   made = made;
+  kinds = kinded;
 }
 
+-- what reading the classes of a document gave
+pub record AreClasses (cs : List Members) (table : List Class) (kinds : List Kind)
+    (rules : List (List Rule)) : Type 0 where
+  pub table_said : table ≡ filter_map class_of cs
+  pub kinds_said : kinds ≡ filter_map kind_of cs
+  pub rules_said : rules ≡ map class_rules cs
+  pub typed : All HasTypes table
+  pub kinded : AreKindsOf table kinds rules
+
 -- the world of parts that were found is that of the document, and sound
-pub world_found : (d : Members) (cs ns : List Members) (table : List Class) (nodes : List Seat)
-    (coded program : List (List Listing)) → cs ≡ tables_at (codes "class") d
-    → ns ≡ tables_at (codes "node") d → top_fault d ≡ None
+pub world_found : (d : Members) (cs ns : List Members) (table : List Class) (kinds : List Kind)
+    (rules : List (List Rule)) (coded program : List (List Listing)) (nodes : List Seat)
+    → cs ≡ tables_at (codes "class") d → ns ≡ tables_at (codes "node") d → top_fault d ≡ None
     → (length (tables_at (codes "class") d) ≤ 256) × (1 ≤ length (tables_at (codes "node") d))
     × (length (tables_at (codes "node") d) ≤ 64)
-    → (first_among class_fault cs ≡ None)
-    × ((table ≡ filter_map class_of cs) × AllZip IsClassOf cs table × All HasTypes table)
+    → first_among class_fault cs ≡ None → AreClasses cs table kinds rules
     → (first_among (codes_fault (names_of table)) cs ≡ None)
     × ((coded ≡ map (codes_of (names_of table)) cs) × IsMadeFor coded table × IsTable table)
     → (first_among (seat_fault table) ns ≡ None)
@@ -134,19 +157,31 @@ pub world_found : (d : Members) (cs ns : List Members) (table : List Class) (nod
     × AreSeats table nodes)
     → program ≡ coded
     → (fault_of d ≡ None)
-    × ((record { table = table; nodes = nodes; program = program } ≡ world_of d)
-    × IsSound (record { table = table; nodes = nodes; program = program }))
-world_found d cs ns table nodes coded program listed seated top bounds cf pf nf same =
+    × ((record { table = table; kinds = kinds; rules = rules; program = program; nodes = nodes }
+    ≡ world_of d)
+    × IsSound (record {
+      table = table;
+      kinds = kinds;
+      rules = rules;
+      program = program;
+      nodes = nodes;
+    }))
+world_found d cs ns table kinds rules coded program nodes listed seated top bounds good cf pf nf
+    same =
     let some = bounds.1 in
     let few = bounds.2 in
     let listed_nodes = tables_at (codes "node") d in
     let counted : length nodes ≡ length listed_nodes = nf.1.1 ∙ ap length seated in (
-      fault_nowhere d cs table listed top cf.0 cf.1.0 ns seated pf.0 nf.0,
+      fault_nowhere d cs table listed top good cf.table_said ns seated pf.0 nf.0,
       (
-        world_said d table nodes program (cf.1.0 ∙ ap (filter_map class_of) listed)
-            (nf.1.0 ∙ ap (filter_map (seat_of table)) seated)
-            (same ∙ pf.1.0 ∙ ap (map (codes_of (names_of table))) listed),
-        world_sound table nodes program pf.1.2 cf.1.2 (omega arith) (omega arith) nf.1.2
-            (subst (λ (x : List (List Listing)). IsMadeFor x table) (sym same) pf.1.1),
+        world_said d table kinds rules program nodes
+            (cf.table_said ∙ ap (filter_map class_of) listed)
+            (cf.kinds_said ∙ ap (filter_map kind_of) listed)
+            (cf.rules_said ∙ ap (map class_rules) listed)
+            (same ∙ pf.1.0 ∙ ap (map (codes_of (names_of table))) listed)
+            (nf.1.0 ∙ ap (filter_map (seat_of table)) seated),
+        world_sound table kinds rules program nodes pf.1.2 cf.typed (omega arith) (omega arith)
+            nf.1.2 (subst (λ (x : List (List Listing)). IsMadeFor x table) (sym same) pf.1.1)
+            cf.kinded,
       ),
     )

@@ -13,15 +13,15 @@ use Rattle.do_document.specs.Checks.{wrong_unless}
 use Rattle.do_document.specs.Document.{members, members_at, tables_at}
 use Rattle.do_document.specs.Finding.{Finds}
 use Rattle.do_document.specs.Paths.{path}
-use Rattle.do_document.specs.declared.document.Kind.TheVariants.{Table}
+use Rattle.do_document.specs.declared.document.ItemKind.TheVariants.{Table}
 use Rattle.do_document.specs.declared.fault.WorldFault.{WorldFault}
 use Rattle.do_document.specs.declared.fault.WorldFault.TheVariants.{Wrong}
 use Rattle.do_document.specs.declared.place.Place.TheVariants as at
 use Rattle.do_document.proofs.Finding.{misfit_there, required_there}
-use Rattle.do_document.proofs.InOrder.{Is, Tells}
+use Rattle.do_document.proofs.InOrder.{Is, Tells, told}
 use Rattle.do_document.proofs.ListSteps.{few_tables}
 use Rattle.do_world.specs.Faults.{is_one, tables_fault}
-use Rattle.do_world.proofs.InRow.{row_first, row_next, row_none, told}
+use Rattle.do_document.proofs.InRow.{row_first, row_next, row_none}
 
 -- ---- the version
 

@@ -11,7 +11,7 @@ use Rattle.do_document.specs.declared.fault.WorldFault.{WorldFault}
 use Rattle.do_document.specs.declared.place.Place.TheVariants as at
 use Rattle.do_document.proofs.InOrder.{Tells}
 use Rattle.do_world.specs.Faults.{is_one, tables_fault, top_fault}
-use Rattle.do_world.proofs.InRow.{row_first, row_next, row_none}
+use Rattle.do_document.proofs.InRow.{row_first, row_next, row_none}
 
 -- the keys that a document may have
 abbrev pub top_keys : List (List ℕ)

@@ -4,6 +4,9 @@ use Rattle.do_sig.specs.Bare.{simple_encoding}
 use Rattle.do_sig.specs.declared.signature.Signature.{Signature}
 use Rattle.do_sig.specs.declared.value_type.Scalar.TheVariants.{LongLong}
 use Rattle.do_class.specs.Class.{Class}
+use Rattle.do_check.specs.declared.rules.Rule.{Rule}
+use Rattle.do_kinds.specs.declared.kind.Kind.{Kind}
+use Rattle.do_kinds.specs.declared.kind.Kind.TheVariants.{Script}
 use Rattle.do_script.specs.Listing.{Listing}
 use Rattle.do_script.specs.declared.instruction.Instruction.TheVariants as does
 use Rattle.do_machine.specs.declared.state.Seat.{Seat}
@@ -59,7 +62,21 @@ go_code = record {
 abbrev pub counter_codes : List (List Listing)
 counter_codes = (add_code ∷ []) ∷ (go_code ∷ []) ∷ []
 
+-- both classes are of scripts
+abbrev pub counter_kinds : List Kind
+counter_kinds = Script ∷ Script ∷ []
+
+-- so neither has rules
+abbrev pub counter_rules : List (List Rule)
+counter_rules = [] ∷ [] ∷ []
+
 -- the whole world
 abbrev pub counter_world : World
 counter_world =
-    record { table = counter_classes; nodes = counter_nodes; program = counter_codes }
+    record {
+      table = counter_classes;
+      kinds = counter_kinds;
+      rules = counter_rules;
+      program = counter_codes;
+      nodes = counter_nodes;
+    }

@@ -14,10 +14,12 @@ use Rattle.do_script.specs.declared.fault.AsmFault.{AsmFault}
 use Rattle.do_document.specs.Checks.{first_among, first_of, is_text, is_text_with, list_fault}
 use Rattle.do_document.specs.Checks.{misfit, missing, required, unknown}
 use Rattle.do_document.specs.ClassFaults.{class_fault}
-use Rattle.do_document.specs.Classes.{classes_in, slots_in}
+use Rattle.do_kinds.specs.declared.kind.Kind.{Kind}
+use Rattle.do_kinds.specs.declared.kind.Kind.TheVariants.{Script}
+use Rattle.do_document.specs.Classes.{classes_in, kind_of, slots_in}
 use Rattle.do_document.specs.Document.{tables_at}
 use Rattle.do_document.specs.Paths.{path}
-use Rattle.do_document.specs.declared.document.Kind.TheVariants.{Table}
+use Rattle.do_document.specs.declared.document.ItemKind.TheVariants.{Table}
 use Rattle.do_document.specs.declared.place.Place.{Place}
 use Rattle.do_document.specs.declared.place.Place.TheVariants as at
 use Rattle.do_document.specs.declared.fault.WorldFault.{WorldFault}
@@ -63,10 +65,15 @@ unfoldable pub class_codes_fault : ℕ → List (List ℕ) → List (List ℕ) �
 class_codes_fault k slots classes t =
     first_among (method_code_fault k slots classes) (tables_at (codes "method") t)
 
+-- the codes of a class of a number and a kind; a native class has none that could be wrong
+abbrev pub kind_codes_fault : ℕ → List (List ℕ) → Members → Kind → Option WorldFault
+kind_codes_fault k classes t Script = class_codes_fault k (slot_names (slots_in t)) classes t
+kind_codes_fault k classes t kind = None
+
 -- the codes of a class, behind other classes, for the names of all
 abbrev pub codes_fault : List (List ℕ) → List Members → Members → Option WorldFault
 codes_fault classes before t =
-    class_codes_fault (length before) (slot_names (slots_in t)) classes t
+    option_and_then (kind_codes_fault (length before) classes t) (kind_of t)
 
 -- none of these nodes has the port
 abbrev pub is_free : List Seat → ℕ → Bool

@@ -4,6 +4,7 @@ use Rattle.std.specs.List.{All, IsDistinct}
 use Rattle.toml.specs.Data.{Members}
 use Rattle.do_behave.specs.Programs.{IsMadeFor}
 use Rattle.do_class.specs.Class.{Class}
+use Rattle.do_kinds.specs.Kinds.{AreKindsOf}
 use Rattle.do_machine.specs.World.{IsSeat, IsWorld}
 use Rattle.do_machine.specs.declared.state.Seat.{Seat}
 use Rattle.do_world.specs.Faults.{is_free}
@@ -22,7 +23,9 @@ pub record AreSeats (classes : List Class) (seats : List Seat) : Type 0 where
   pub distinct : IsDistinct (λ (p q : ℕ). p == q) (map (λ (s : Seat). s.node) seats)
   pub seated : All (IsSeat classes) seats
 
--- a machine can open with this world, and its program is made for its table
+-- a machine can open with this world; its program is made for its table, and each class has a kind
+-- and rules
 pub record IsSound (world : World) : Type 0 where
   pub opens : IsWorld world.table world.nodes
   pub made : IsMadeFor world.program world.table
+  pub kinds : AreKindsOf world.table world.kinds world.rules

@@ -8,7 +8,10 @@ use Rattle.toml.specs.Data.{Data, Members, get_member, as_integer, as_str}
 use Rattle.do_class.specs.Class.{Class}
 use Rattle.do_class.specs.Table.{class_named, names_of}
 use Rattle.do_class.specs.declared.ids.Slot.{Slot}
-use Rattle.do_document.specs.Classes.{classes_in, slots_in}
+use Rattle.do_kinds.specs.declared.kind.Kind.{Kind}
+use Rattle.do_kinds.specs.declared.kind.Kind.TheVariants.{Script}
+use Rattle.do_document.specs.Classes.{classes_in, kind_of, kinds_in, methods_by, rule_lists}
+use Rattle.do_document.specs.Classes.{slots_in}
 use Rattle.do_document.specs.Document.{tables_at, text_at}
 use Rattle.do_script.specs.Assembly.{scope}
 use Rattle.do_script.specs.Listing.{Listing}
@@ -41,9 +44,18 @@ unfoldable pub class_codes : List (List ℕ) → List (List ℕ) → Members →
 class_codes slots classes t =
     filter_map (method_code slots classes) (tables_at (codes "method") t)
 
+-- the code of a method of a native class: no instruction
+abbrev pub no_code : Listing
+no_code = record { instructions = []; slots = 0; classes = 0 }
+
+-- the codes of a class of a kind, for the names of all classes
+abbrev pub codes_by : List (List ℕ) → Members → Kind → List Listing
+codes_by classes t Script = class_codes (slot_names (slots_in t)) classes t
+codes_by classes t kind = map (λ m. no_code) (methods_by kind t)
+
 -- the codes of a class, for the names of all classes
 abbrev pub codes_of : List (List ℕ) → Members → List Listing
-codes_of classes t = class_codes (slot_names (slots_in t)) classes t
+codes_of classes t = option_map_or (codes_by classes t) (kind_of t) []
 
 -- the codes of a document, for the names of its classes
 abbrev pub codes_in : List (List ℕ) → Members → List (List Listing)
@@ -73,6 +85,8 @@ seats_in table d = filter_map (seat_of table) (tables_at (codes "node") d)
 abbrev pub world_of : Members → World
 world_of d = record {
   table = classes_in d;
-  nodes = seats_in (classes_in d) d;
+  kinds = kinds_in d;
+  rules = rule_lists d;
   program = codes_in (names_of (classes_in d)) d;
+  nodes = seats_in (classes_in d) d;
 }

@@ -1,7 +1,8 @@
-//! The codes of built-in texts.
-ghost use Rattle.std.specs.Prelude.{IfOk};
+//! The codes of texts that have no fault.
+ghost use Rattle.std.specs.Prelude.{◌≡◌, IfOk};
 ghost use Rattle.do_script.specs.Assembly.{HasNoFault, IsCodeOf, scope};
 ghost use Rattle.do_script.specs.Program.{program};
+ghost use Rattle.do_world.specs.Worlds.{no_code};
 
 use do_script::{AsmFault, Code, Names, assemble};
 use std::alloc::{AllocError, Global};
@@ -21,4 +22,12 @@ pub(crate) fn code_of(
         Err(AsmFault::Memory) => Err(AllocError),
         Err(_) => unreachable!(),
     }
+}
+
+/// The code of a method of a native class, which has no instruction.
+pub(crate) fn no_code(alloc: Global) -> Result<Code, AllocError>
+    ensures { IfOk result (λ code. code ≡ no_code) }
+{
+    let none = Names::new(alloc);
+    code_of(alloc, b"", &none, &none)
 }

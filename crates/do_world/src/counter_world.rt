@@ -6,15 +6,17 @@ ghost use Rattle.do_class.specs.Class.{AreMethods};
 ghost use Rattle.do_class.specs.Table.{class_named};
 ghost use Rattle.do_grammar.specs.Names.{is_selector, colons};
 ghost use Rattle.do_world.specs.Counter.{add_code, class_names, counter_classes, counter_codes};
-ghost use Rattle.do_world.specs.Counter.{counter_nodes, counter_world, go_code};
-ghost use Rattle.do_world.specs.Counter.{number_to_number};
+ghost use Rattle.do_world.specs.Counter.{counter_kinds, counter_nodes, counter_rules};
+ghost use Rattle.do_world.specs.Counter.{counter_world, go_code, number_to_number};
 ghost use Rattle.do_world.specs.Sound.{IsSound};
 
 use crate::codes::code_of;
 use crate::world::World;
 use do_base::{NodeId, Text};
 use do_behave::{ClassCodes, Codes, Program};
+use do_check::Rules;
 use do_class::{ClassFault, ClassId, ClassTable, Method, Methods, Slot, Slots};
+use do_kinds::{Kind, Kinds, RuleTable};
 use do_machine::{Seat, Seats};
 use do_script::{Code, Names};
 use do_sig::{Scalar, Signature};
@@ -174,6 +176,26 @@ fn counter_codes(alloc: Global) -> Result<Codes, AllocError>
     Ok(codes)
 }
 
+/// The kinds of both classes, which are scripts.
+fn counter_kinds(alloc: Global) -> Result<Kinds, AllocError>
+    ensures { IfOk result (λ kinds. kinds ≡ counter_kinds) }
+{
+    let mut kinds = Kinds::new(alloc);
+    kinds.push(Kind::Script)?;
+    kinds.push(Kind::Script)?;
+    Ok(kinds)
+}
+
+/// The rules of both classes: none.
+fn counter_rules(alloc: Global) -> Result<RuleTable, AllocError>
+    ensures { IfOk result (λ rules. rules ≡ counter_rules) }
+{
+    let mut rules = RuleTable::new(alloc);
+    rules.push(Rules::new(alloc))?;
+    rules.push(Rules::new(alloc))?;
+    Ok(rules)
+}
+
 /// The world `:counter`: node 7001 has a client as its root, and 7002 a counter.
 ///
 /// The client's `go:` takes a number, sends it to the counter with `add:`, and shows and returns
@@ -183,11 +205,16 @@ pub fn counter(alloc: Global) -> Result<World, AllocError>
     ensures sound { IfOk result IsSound }
 {
     let table = counter_table(alloc)?;
+    let kinds = counter_kinds(alloc)?;
+    let rules = counter_rules(alloc)?;
+    let nodes = counter_nodes(alloc)?;
     let codes = counter_codes(alloc)?;
     let program = Program::new(&table, codes);
     Ok(World {
         table,
-        nodes: counter_nodes(alloc)?,
+        kinds,
+        rules,
         program,
+        nodes,
     })
 }

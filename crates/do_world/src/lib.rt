@@ -1,4 +1,4 @@
-//! Worlds: classes with a code for each method, and the nodes that a machine opens with.
+//! Worlds: classes with what decides their acts, and the nodes that a machine opens with.
 //!
 //! It stands on documents and their classes, the method language and the machine's definitions. It
 //! promises that a text is read as the world that it says, or refused with its first fault, and

@@ -1,24 +1,33 @@
 //! The codes of the methods, which are read once all classes are.
-ghost use Rattle.std.specs.Prelude.{◌≡◌, ◌≢◌, ◌⊎◌, IfOk, OnOk, Some, codes, length, map};
+ghost use Rattle.std.specs.Prelude.{◌≡◌, ◌≢◌, ◌⊎◌, ◌<◌, IfOk, IfSome, OnOk, Some, codes, length};
+ghost use Rattle.std.specs.Prelude.{map, slice_get};
 ghost use Rattle.std.specs.List.{All, AllZip, filter_map};
+ghost use Rattle.std.specs.Option.{option_map};
 ghost use Rattle.toml.specs.View.{table_view};
-ghost use Rattle.do_behave.specs.Programs.{IsMadeFor, Suits};
-ghost use Rattle.do_class.specs.Table.{IsTable, names_of};
+ghost use Rattle.do_behave.specs.Programs.{HasCodes, IsMadeFor, Suits};
+ghost use Rattle.do_class.specs.Table.{IsTable, class_at, names_of};
 ghost use Rattle.do_document.specs.Checks.{first_among, is_text, misfit};
+ghost use Rattle.do_document.specs.Classes.{kind_of};
 ghost use Rattle.do_document.specs.Document.{tables_at};
 ghost use Rattle.do_document.specs.Finding.{Finds};
 ghost use Rattle.do_document.specs.Paths.{path};
-ghost use Rattle.do_document.specs.Sound.{IsClassOf};
+ghost use Rattle.do_document.specs.Sound.{IsClassOf, IsKindOf};
 ghost use Rattle.do_world.specs.Faults.{class_codes_fault, code_fault, codes_fault};
-ghost use Rattle.do_world.specs.Faults.{method_code_fault};
-ghost use Rattle.do_world.specs.Worlds.{class_codes, code_text, codes_of, method_code, slot_names};
+ghost use Rattle.do_world.specs.Faults.{kind_codes_fault, method_code_fault};
+ghost use Rattle.do_world.specs.Worlds.{class_codes, code_text, codes_by, codes_of, method_code};
+ghost use Rattle.do_world.specs.Worlds.{no_code, slot_names};
 
+use crate::codes::no_code;
 use do_behave::{ClassCodes, Codes};
-use do_class::{ClassId, ClassTable, Slots};
+use do_class::{ClassId, ClassTable, MethodId, Slots};
 use do_document::{Place, WorldFault, tables_at, text_of, value_at};
+use do_kinds::{Kind, Kinds};
 use do_script::{AsmFault, Code, Names, assemble};
 use std::alloc::{AllocError, Global};
 use toml::Table;
+
+/// The most methods of a class.
+const MOST_METHODS: u32 = 64;
 
 /// The refusal of a text, which is no code.
 fn refusal(alloc: Global, place: Place, fault: AsmFault) -> WorldFault
@@ -128,13 +137,60 @@ fn class_codes(
     codes_of_methods(alloc, tables.as_slice(), k, slots, classes)
 }
 
-/// The codes of all classes, which come from these tables.
+/// An empty code for each method of a class.
+fn no_codes(alloc: Global, classes: &ClassTable, class: ClassId) -> Result<ClassCodes, AllocError>
+    requires there { class.0 < length classes.now }
+    requires table { IsTable classes.now }
+    ensures { IfOk result (λ codes. option_map (λ c. map (λ m. no_code) c.methods)
+        (class_at classes.now class) ≡ Some codes) }
+{
+    let mut codes = ClassCodes::new(alloc);
+    for index in 0..MOST_METHODS {
+        if classes.has_method(MethodId { class, index }) {
+            codes.push(no_code(alloc)?)?;
+        }
+    }
+    Ok(codes)
+}
+
+/// The codes of a class of a number and a kind, which comes from a table.
+fn codes_at(
+    alloc: Global,
+    table: &Table,
+    k: usize,
+    kind: Kind,
+    classes: &ClassTable,
+    names: &Names,
+) -> Result<ClassCodes, WorldFault>
+    requires there { k < length classes.now }
+    requires table { IsTable classes.now }
+    requires class { IfSome (slice_get classes.now k) (IsClassOf (table_view table.now)) }
+    requires kind { kind_of (table_view table.now) ≡ Some kind }
+    requires names { names.now ≡ names_of classes.now }
+    ensures { let t = table_view table.now in
+        Finds (kind_codes_fault k names.now t kind)
+        (λ made. (made ≡ codes_by names.now t kind)
+        × IfSome (slice_get classes.now k) (HasCodes (length classes.now) made)) result }
+{
+    let class = ClassId(k as u32);
+    match kind {
+        Kind::Script => {
+            let slots = names_of_slots(alloc, classes.slots(class))?;
+            class_codes(alloc, table, k, &slots, names)
+        }
+        _ => Ok(no_codes(alloc, classes, class)?),
+    }
+}
+
+/// The codes of all classes, which come from these tables and are of these kinds.
 pub(crate) fn codes_for(
     alloc: Global,
     tables: &[&Table],
     classes: &ClassTable,
+    kinds: &Kinds,
 ) -> Result<Codes, WorldFault>
-    requires { AllZip IsClassOf (map (λ t. table_view t.now) tables.now) classes.now }
+    requires classes { AllZip IsClassOf (map (λ t. table_view t.now) tables.now) classes.now }
+    requires kinds { AllZip IsKindOf (map (λ t. table_view t.now) tables.now) kinds.now }
     ensures { let ts = map (λ t. table_view t.now) tables.now in
         Finds (first_among (codes_fault (names_of classes.now)) ts)
         (λ codes. (codes ≡ map (codes_of (names_of classes.now)) ts)
@@ -143,8 +199,8 @@ pub(crate) fn codes_for(
     let names = names_of_classes(alloc, classes)?;
     let mut codes = Codes::new(alloc);
     for (k, table) in tables.iter().enumerate() {
-        let slots = names_of_slots(alloc, classes.slots(ClassId(k as u32)))?;
-        let of_class = class_codes(alloc, *table, k, &slots, &names)?;
+        let kind = kinds.as_slice()[k];
+        let of_class = codes_at(alloc, *table, k, kind, classes, &names)?;
         codes.push(of_class)?;
     }
     Ok(codes)

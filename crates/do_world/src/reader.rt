@@ -17,7 +17,7 @@ use crate::seats::seats_of;
 use crate::world::World;
 use do_behave::Program;
 use do_document::{
-    Kind, Place, WorldFault, check_list, classes_of, known_keys, required, tables_at,
+    Classes, ItemKind, Place, WorldFault, check_list, classes_of, known_keys, required, tables_at,
 };
 use std::alloc::Global;
 use toml::{Table, Value};
@@ -77,7 +77,7 @@ fn check_tables(alloc: Global, document: &Table, key: &str, most: usize) -> Resu
         (λ _. (1 ≤ length (tables_at key.now d)) × (length (tables_at key.now d) ≤ most)) result }
 {
     required(alloc, document, Place::Top, key)?;
-    check_list(alloc, document, Place::Top, key, 1, most, Kind::Table)
+    check_list(alloc, document, Place::Top, key, 1, most, ItemKind::Table)
 }
 
 /// Refuses a document whose keys, version or lists are not those of a world.
@@ -100,15 +100,22 @@ fn world_of(alloc: Global, document: &Table) -> Result<World, WorldFault>
     check_top(alloc, document)?;
     let classes = tables_at(alloc, document, "class")?;
     let listed = classes.as_slice();
-    let table = classes_of(alloc, listed)?;
-    let codes = codes_for(alloc, listed, &table)?;
+    let made = classes_of(alloc, listed)?;
+    let codes = codes_for(alloc, listed, &made.table, &made.kinds)?;
     let seats = tables_at(alloc, document, "node")?;
-    let nodes = seats_of(alloc, seats.as_slice(), &table)?;
-    let program = Program::new(&table, codes);
+    let nodes = seats_of(alloc, seats.as_slice(), &made.table)?;
+    let program = Program::new(&made.table, codes);
+    let Classes {
+        table,
+        kinds,
+        rules,
+    } = made;
     Ok(World {
         table,
-        nodes,
+        kinds,
+        rules,
         program,
+        nodes,
     })
 }
 

@@ -6,8 +6,10 @@ ghost use Rattle.do_class.specs.Class.{AreMethods};
 use crate::fault::SampleFault;
 use do_base::{NodeId, Text};
 use do_behave::{ClassCodes, Codes, Program};
+use do_check::Rules;
 use do_class::{ClassFault, ClassId, ClassTable, Method, Methods, Slot, Slots};
 use do_grammar::{colons_in, is_selector};
+use do_kinds::{Kind, Kinds, RuleTable};
 use do_machine::{Seat, Seats};
 use do_script::{AsmFault, Code, Names, assemble};
 use do_sig::{EncFault, Signature};
@@ -183,6 +185,17 @@ fn seats_of(alloc: Global, ports: &[u16], root: ClassId) -> Result<Seats, Sample
     Ok(seats)
 }
 
+/// The kinds and the rules of so many classes of scripts.
+fn scripts(alloc: Global, count: usize) -> Result<(Kinds, RuleTable), AllocError> {
+    let mut kinds = Kinds::new(alloc);
+    let mut rules = RuleTable::new(alloc);
+    for _ in 0..count {
+        kinds.push(Kind::Script)?;
+        rules.push(Rules::new(alloc))?;
+    }
+    Ok((kinds, rules))
+}
+
 /// The world of these classes, with a node at each of these ports whose root is of one class.
 ///
 /// `SampleFault::Text` where a text is none of its grammar, a name is there twice, or a port is 0.
@@ -194,9 +207,12 @@ pub fn world(
 ) -> Result<World, SampleFault> {
     let table = table_of(alloc, classes)?;
     let program = Program::new(&table, all_codes(alloc, classes)?);
+    let (kinds, rules) = scripts(alloc, classes.len())?;
     Ok(World {
         table,
-        nodes: seats_of(alloc, ports, root)?,
+        kinds,
+        rules,
         program,
+        nodes: seats_of(alloc, ports, root)?,
     })
 }

@@ -4,7 +4,7 @@ use do_class::ClassId;
 use std::test::Fail;
 
 /// Members of the list of classes, each list with what reading it answers.
-const CLASS_FAULTS: [(&str, &str); 29] = [
+const CLASS_FAULTS: [(&str, &str); 27] = [
     ("{}", "class[0].name is missing"),
     ("{kind = 1}", "class[0].kind is wrong"),
     ("{b = 1, Z = 1}", "class[0].Z is wrong"),
@@ -14,16 +14,8 @@ const CLASS_FAULTS: [(&str, &str); 29] = [
     ("{name = \"A\"}, {name = \"A\"}", "class[1].name is wrong"),
     ("{name = \"A\"}, {name = \"B\"}", "read"),
     ("{name = \"A\"}, {}", "class[1].name is missing"),
-    (
-        "{name = \"A\", native = \"names\"}",
-        "class[0].native is wrong",
-    ),
-    (
-        "{name = \"A\", native = \"names\", slots = 1}",
-        "class[0].native is wrong",
-    ),
     ("{native = \"names\"}", "class[0].name is missing"),
-    ("{name = \"A\", allow = []}", "class[0].allow is wrong"),
+    ("{native = 1, kind = 1}", "class[0].kind is wrong"),
     ("{name = \"A\", slots = []}", "read"),
     ("{name = \"A\", slots = [\"a\", \"b copy\"]}", "read"),
     ("{name = \"A\", slots = \"a\"}", "class[0].slots is wrong"),
@@ -182,7 +174,7 @@ fn classes_keep_their_order(rt: HostRuntime) -> Result<(), Fail> {
         {name = \"A\", method = [{types = \"v@:O@\", selector = \"keep:\"}]},
     ]";
     let document = document(&rt, text)?;
-    let table = classes(&rt, &document).map_err(|_| "refused")?;
+    let table = classes(&rt, &document).map_err(|_| "refused")?.table;
     assert_eq!(rt; table.count(), 2);
     assert!(rt; table.count() == 2 && table.name(ClassId(0)).is(b"B"));
     assert!(rt; table.count() == 2 && table.name(ClassId(1)).is(b"A"));

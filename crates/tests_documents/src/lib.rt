@@ -4,6 +4,8 @@
 #[cfg(test)]
 mod classes;
 #[cfg(test)]
+mod native;
+#[cfg(test)]
 mod parts;
 #[cfg(test)]
 mod samples;

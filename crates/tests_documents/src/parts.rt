@@ -2,16 +2,18 @@
 use super::samples::document;
 use do_base::Text;
 use do_document::{
-    Kind, Place, WorldFault, check_list, known_keys, required, tables_at, text_of, value_at,
+    ItemKind, Place, WorldFault, check_list, known_keys, required, tables_at, text_of, value_at,
 };
 use std::test::Fail;
 
 #[test]
 fn places_have_paths(rt: HostRuntime) -> Result<(), Fail> {
-    let cases: [(Place, &[u8]); 4] = [
+    let cases: [(Place, &[u8]); 6] = [
         (Place::Top, b"k"),
         (Place::Class(0), b"class[0].k"),
         (Place::Method(12, 3), b"class[12].method[3].k"),
+        (Place::Allowed(0, 62), b"class[0].allow[62].k"),
+        (Place::Denied(1, 10), b"class[1].deny[10].k"),
         (Place::Node(63), b"node[63].k"),
     ];
     for (place, want) in &cases {
@@ -38,10 +40,10 @@ fn keys_are_looked_up(rt: HostRuntime) -> Result<(), Fail> {
     assert!(rt; text == "x");
     let value = required(rt.alloc(), &table, Place::Top, "c").map_err(|_| "missing")?;
     assert!(rt; text_of(rt.alloc(), value, Place::Top, "c").is_err());
-    assert!(rt; check_list(rt.alloc(), &table, Place::Top, "b", 2, 2, Kind::Table).is_ok());
-    assert!(rt; check_list(rt.alloc(), &table, Place::Top, "b", 0, 1, Kind::Table).is_err());
-    assert!(rt; check_list(rt.alloc(), &table, Place::Top, "b", 2, 2, Kind::Text).is_err());
-    assert!(rt; check_list(rt.alloc(), &table, Place::Top, "d", 1, 2, Kind::Text).is_ok());
+    assert!(rt; check_list(rt.alloc(), &table, Place::Top, "b", 2, 2, ItemKind::Table).is_ok());
+    assert!(rt; check_list(rt.alloc(), &table, Place::Top, "b", 0, 1, ItemKind::Table).is_err());
+    assert!(rt; check_list(rt.alloc(), &table, Place::Top, "b", 2, 2, ItemKind::Text).is_err());
+    assert!(rt; check_list(rt.alloc(), &table, Place::Top, "d", 1, 2, ItemKind::Text).is_ok());
     assert!(rt; tables_at(rt.alloc(), &table, "b")?.len() == 2);
     assert!(rt; tables_at(rt.alloc(), &table, "c")?.len() == 0);
     Ok(())

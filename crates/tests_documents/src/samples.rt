@@ -1,5 +1,4 @@
-use do_class::ClassTable;
-use do_document::{WorldFault, classes_of, tables_at};
+use do_document::{Classes, WorldFault, classes_of, tables_at};
 use std::alloc::AllocError;
 use std::test::Fail;
 use toml::Table;
@@ -10,7 +9,7 @@ pub fn document(rt: &HostRuntime, text: &str) -> Result<Table, Fail> {
 }
 
 /// The classes of a document.
-pub fn classes(rt: &HostRuntime, document: &Table) -> Result<ClassTable, WorldFault> {
+pub fn classes(rt: &HostRuntime, document: &Table) -> Result<Classes, WorldFault> {
     let tables = tables_at(rt.alloc(), document, "class")?;
     if tables.len() > 256 {
         return Err(WorldFault::Memory);

@@ -10,8 +10,9 @@ use std::test::Fail;
 fn machine(world: World) -> Result<Local<Program>, Fail> {
     let World {
         table,
-        nodes,
         program,
+        nodes,
+        ..
     } = world;
     Ok(Local::new(table, &nodes, program)?)
 }

@@ -71,7 +71,7 @@ fn documents(rt: HostRuntime) -> Result<(), Fail> {
 /// Lines of a class, each with what reading a world with them answers.
 const CLASSES_AND_CODES: [(&str, &str); 8] = [
     ("", "read"),
-    ("deny = []\nnative = 1\n", "class[0].deny is wrong"),
+    ("deny = []\nnative = 1\n", "class[0].native is wrong"),
     ("slots = [\"a copy \"]\n", "class[0].slots[0] is wrong"),
     ("slots = [\"\"]\n", "class[0].slots[0] is wrong"),
     (

@@ -4,11 +4,13 @@ use do_document::Place;
 use std::alloc::AllocError;
 use std::test::Fail;
 
-/// A text with these keys at a place: at the top, in the second class, in its second method or in
-/// the second node.
+/// A text with these keys at a place: at the top, in the second class, in the second member of a list
+/// of that or in the second node.
 fn at(rt: &HostRuntime, place: Place, keys: &str) -> Result<String, AllocError> {
     let front = "version = 1\nclass = [{name = \"A\"}";
     let method = "{selector = \"a\", types = \"v@:\"}";
+    let denied = "{selector = \"a\", types = \"v@:\", rule = \"x\"}";
+    let checker = "{name = \"B\", native = \"checker\"";
     let node = "node = [{port = 1, root = \"A\"}";
     match place {
         Place::Top => String::from_str(rt.alloc(), keys),
@@ -16,12 +18,18 @@ fn at(rt: &HostRuntime, place: Place, keys: &str) -> Result<String, AllocError> 
         Place::Method(_, _) => format!(in rt.alloc();
             "{front}, {{name = \"B\", method = [{method}, {{{keys}}}]}}]\n{node}]"
         ),
+        Place::Allowed(_, _) => format!(in rt.alloc();
+            "{front}, {checker}, allow = [{method}, {{{keys}}}]}}]\n{node}]"
+        ),
+        Place::Denied(_, _) => format!(in rt.alloc();
+            "{front}, {checker}, deny = [{denied}, {{{keys}}}]}}]\n{node}]"
+        ),
         Place::Node(_) => format!(in rt.alloc(); "{front}]\n{node}, {{{keys}}}]"),
     }
 }
 
 /// Keys at a place, each with what reading a text with them answers.
-const FAULTS: [(Place, &str, &str); 40] = [
+const FAULTS: [(Place, &str, &str); 51] = [
     (Place::Top, "version = ", "the text is no TOML"),
     (Place::Top, "version = 1\nx = 1", "x is wrong"),
     (Place::Top, "", "version is missing"),
@@ -49,7 +57,7 @@ const FAULTS: [(Place, &str, &str); 40] = [
     (Place::Class(1), "name = \"A\"", "class[1].name is wrong"),
     (
         Place::Class(1),
-        "name = \"B\", native = \"names\"",
+        "name = \"B\", native = \"server\"",
         "class[1].native is wrong",
     ),
     (
@@ -122,6 +130,46 @@ const FAULTS: [(Place, &str, &str); 40] = [
         "selector = \"b\", types = \"v@:\", code = \"nil l0\\nhop\"",
         "class[1].method[1].code is no code: line 2 is no instruction",
     ),
+    (
+        Place::Class(1),
+        "name = \"B\", native = \"names\", slots = []",
+        "class[1].slots is wrong",
+    ),
+    (
+        Place::Class(1),
+        "name = \"B\", native = \"names\", method = []",
+        "class[1].method is wrong",
+    ),
+    (
+        Place::Class(1),
+        "name = \"B\", allow = []",
+        "class[1].allow is wrong",
+    ),
+    (
+        Place::Class(1),
+        "name = \"B\", native = \"center\", deny = []",
+        "class[1].deny is wrong",
+    ),
+    (
+        Place::Class(1),
+        "name = \"B\", native = \"checker\", allow = [{}, 1]",
+        "class[1].allow[1] is wrong",
+    ),
+    (
+        Place::Allowed(1, 1),
+        "selector = \"b\", types = \"v@:q\"",
+        "class[1].allow[1].types is wrong",
+    ),
+    (
+        Place::Denied(1, 1),
+        "selector = \"b\", types = \"v@:\"",
+        "class[1].deny[1].rule is missing",
+    ),
+    (
+        Place::Denied(1, 1),
+        "selector = \"b\", types = \"v@\"",
+        "class[1].deny[1].types spells no signature: the encoding ends too early",
+    ),
     (Place::Node(1), "x = 1", "node[1].x is wrong"),
     (Place::Node(1), "", "node[1].port is missing"),
     (Place::Node(1), "port = 1", "node[1].port is wrong"),
@@ -132,6 +180,17 @@ const FAULTS: [(Place, &str, &str); 40] = [
         "node[1].root is wrong",
     ),
     (Place::Class(1), "name = \"B\"", "read"),
+    (Place::Class(1), "name = \"B\", native = \"names\"", "read"),
+    (
+        Place::Allowed(1, 1),
+        "selector = \"b\", types = \"v@:\"",
+        "read",
+    ),
+    (
+        Place::Denied(1, 1),
+        "selector = \"b\", types = \"v@:\", rule = \"no\"",
+        "read",
+    ),
     (
         Place::Method(1, 1),
         "selector = \"b\", types = \"v@:\"",

@@ -2,6 +2,7 @@
 use super::samples::answer;
 use do_base::Text;
 use do_class::ClassId;
+use do_kinds::Kind;
 use do_world::{World, builtin, counter, read_world};
 use std::alloc::AllocError;
 use std::test::Fail;
@@ -54,6 +55,8 @@ fn counter_is_its_text(rt: HostRuntime) -> Result<(), Fail> {
     let name = Text::from_slice(rt.alloc(), b"Counter")?;
     assert!(rt; world.table.class_named(&name) == Some(ClassId(0)));
     assert!(rt; world.nodes.as_slice() == built_in.nodes.as_slice());
+    assert!(rt; world.kinds.as_slice() == built_in.kinds.as_slice());
+    assert!(rt; world.rules.as_slice() == built_in.rules.as_slice());
     let read = format!(in rt.alloc(); "{:?} {:?}", world.table, world.program)?;
     let made = format!(in rt.alloc(); "{:?} {:?}", built_in.table, built_in.program)?;
     assert!(rt; read.as_str() == made.as_str());
@@ -83,6 +86,39 @@ class = [
     let name = Text::from_slice(rt.alloc(), b"B")?;
     assert!(rt; world.table.class_named(&name) == Some(ClassId(1)));
     let nodes = [(7002u16, 1u32), (7001, 0)];
+    assert!(rt; seats(&rt, &world)?.as_slice() == nodes.as_slice());
+    Ok(())
+}
+
+/// A desk with a server of names, an owner that is a script, and a checker.
+const DESK: &[u8] = b"version = 1
+class = [
+    {name = \"Names\", native = \"names\"},
+    {name = \"Owner\", slots = [\"board\"], method = [
+        {selector = \"setup\", types = \"v@:\", code = \"new l0 Guard\\nget l1 board\"},
+    ]},
+    {name = \"Guard\", native = \"checker\",
+        allow = [{selector = \"seven\", types = \"q@:\"}],
+        deny = [{selector = \"boom\", types = \"v@:\", rule = \"no boom\"}]},
+]
+node = [{port = 7100, root = \"Names\"}, {port = 7102, root = \"Owner\"}]
+";
+
+#[test]
+fn native_classes_have_kinds_and_rules(rt: HostRuntime) -> Result<(), Fail> {
+    let world = read_world(rt.alloc(), DESK).map_err(|_| "refused")?;
+    let kinds = [Kind::Names, Kind::Script, Kind::Checker];
+    assert!(rt; world.kinds.as_slice() == kinds.as_slice());
+    let counts = [0usize, 0, 2];
+    assert_eq!(rt; world.rules.len(), 3);
+    for (rules, count) in world.rules.as_slice().iter().zip(counts) {
+        assert_eq!(rt; rules.len(), count);
+    }
+    let guard = Text::from_slice(rt.alloc(), b"guard:")?;
+    assert_eq!(rt; world.table.count(), 3);
+    let class = ClassId(2);
+    assert!(rt; class.0 < world.table.count() && world.table.find(class, &guard).is_some());
+    let nodes = [(7100u16, 0u32), (7102, 1)];
     assert!(rt; seats(&rt, &world)?.as_slice() == nodes.as_slice());
     Ok(())
 }

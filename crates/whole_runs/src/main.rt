@@ -11,7 +11,7 @@ use std::alloc::AllocError;
 use std::process::ExitCode;
 
 /// Each schedule, and the world that it is for.
-const RUNS: [(&str, &str); 21] = [
+const RUNS: [(&str, &str); 26] = [
     (":counter", "counter_adds.schedule"),
     (":counter", "counter_overflows.schedule"),
     ("peers.world", "copies_of_a_cycle.schedule"),
@@ -33,6 +33,11 @@ const RUNS: [(&str, &str); 21] = [
     ("peers.world", "close_while_asking.schedule"),
     ("peers.world", "close_before_asking.schedule"),
     ("falling_ports.world", "nodes_out_of_order.schedule"),
+    ("desk.world", "lazy_owner.schedule"),
+    ("desk.world", "desk_is_set_up.schedule"),
+    ("notices.world", "suspended_observers.schedule"),
+    ("services.world", "services_and_provider.schedule"),
+    ("guard.world", "guarded_peer.schedule"),
 ];
 
 /// The words that ask for a schedule to be replayed over a world.

@@ -4,5 +4,5 @@ use Rattle.do_world.proofs.counter_world.counter.Goals as goal
 
 pub returns-clause-sound : goal.returns-clause-sound
 returns-clause-sound c =
-    sound_by_parts _ _ _ (c.table.view_is ∙ c.in_ok-table.ensures) c.in_ok-counter_nodes.ensures
-    (c.new-program.ensures ∙ c.in_ok-codes.ensures)
+    sound_by_parts _ _ _ _ _ c.in_ok-table.ensures c.in_ok-kinds.ensures c.in_ok-rules.ensures
+    (c.new-program.ensures ∙ c.in_ok-codes.ensures) c.in_ok-nodes.ensures

@@ -1,0 +1,186 @@
+// Plain Rust beside the calls that crates/stack_calls times: a vector of invocations, the top last,
+// and one of late calls by rising number.
+use std::hint::black_box;
+use std::mem;
+
+const ROUNDS: u32 = 1_000_000;
+
+#[repr(C)]
+struct Timespec {
+    seconds: i64,
+    nanoseconds: i64,
+}
+
+extern "C" {
+    fn clock_gettime(clock: i32, time: *mut Timespec) -> i32;
+}
+
+// The processor time that this process took so far, in nanoseconds.
+fn now() -> u128 {
+    const PROCESS_CPU_TIME: i32 = 2;
+    let mut time = Timespec { seconds: 0, nanoseconds: 0 };
+    unsafe { clock_gettime(PROCESS_CPU_TIME, &mut time) };
+    time.seconds as u128 * 1_000_000_000 + time.nanoseconds as u128
+}
+
+fn say(name: &str, members: u64, done: u32, start: u128) {
+    let hundredths = (now() - start) * 100 / ROUNDS as u128;
+    assert!(done == ROUNDS);
+    eprintln!("{name}, {members} members: {ROUNDS} calls, {hundredths} hundredths of a ns each");
+}
+
+#[allow(dead_code)]
+enum Value {
+    Nil,
+    Num(i64),
+    Text(Vec<u8>),
+    List(Vec<Value>),
+}
+
+#[allow(dead_code)]
+enum Answer {
+    Given { result: Value, outs: Vec<Value> },
+    Raised(u8),
+}
+
+enum State {
+    Running,
+    Waits { number: u64, peer: u16, root: bool },
+    Answered(Answer),
+}
+
+#[allow(dead_code)]
+struct Invocation {
+    object: (u16, u64),
+    method: (u32, u32),
+    pc: u32,
+    locals: Vec<(Value, u64)>,
+    handler: Option<(u8, u32)>,
+    reason: Option<(u16, u64)>,
+    into: u8,
+    outs: Vec<u8>,
+    state: State,
+}
+
+#[derive(PartialEq)]
+struct Late {
+    number: u64,
+    peer: u16,
+    root: bool,
+}
+
+#[derive(Default)]
+struct Stack {
+    invocations: Vec<Invocation>,
+    late: Vec<Late>,
+}
+
+impl Stack {
+    fn push(&mut self) {
+        self.invocations.push(Invocation {
+            object: (7001, 1),
+            method: (0, 0),
+            pc: 0,
+            locals: vec![(Value::Num(0), 0)],
+            handler: None,
+            reason: None,
+            into: 0,
+            outs: Vec::new(),
+            state: State::Running,
+        });
+    }
+
+    fn wait(&mut self, number: u64, peer: u16) {
+        self.invocations.last_mut().unwrap().state = State::Waits { number, peer, root: true };
+    }
+
+    fn place(&self, number: u64, peer: u16) -> Option<usize> {
+        self.invocations.iter().rposition(|invocation| match invocation.state {
+            State::Waits { number: own, peer: from, .. } => own == number && from == peer,
+            _ => false,
+        })
+    }
+
+    fn answer(&mut self, number: u64, peer: u16, answer: Answer) -> bool {
+        let Some(at) = self.place(number, peer) else {
+            return false;
+        };
+        self.invocations[at].state = State::Answered(answer);
+        true
+    }
+
+    fn take_answer(&mut self) -> Option<Answer> {
+        let top = self.invocations.last_mut()?;
+        match mem::replace(&mut top.state, State::Running) {
+            State::Answered(answer) => Some(answer),
+            other => {
+                top.state = other;
+                None
+            }
+        }
+    }
+
+    fn give_up(&mut self) -> bool {
+        let Some(top) = self.invocations.last_mut() else {
+            return false;
+        };
+        let State::Waits { number, peer, root } = top.state else {
+            return false;
+        };
+        let place = self.late.iter().position(|other| number < other.number);
+        self.late.insert(place.unwrap_or(self.late.len()), Late { number, peer, root });
+        top.state = State::Answered(Answer::Raised(1));
+        true
+    }
+
+    fn late(&mut self, number: u64, peer: u16, root: bool) -> bool {
+        let before = self.late.len();
+        self.late.retain(|call| *call != Late { number, peer, root });
+        self.late.len() < before
+    }
+}
+
+fn times(mut call: impl FnMut(u32) -> bool) -> u32 {
+    (0..ROUNDS).map(|round| call(round) as u32).sum()
+}
+
+fn measure(depth: u64) {
+    let peer = black_box(7002);
+    let mut stack = Stack::default();
+    for number in 0..depth {
+        stack.push();
+        stack.wait(number, peer);
+    }
+    let start = now();
+    let done = times(|round| black_box(&stack).place(round as u64 % 2, peer).is_some());
+    say("the lowest that waits found", depth, done, start);
+    let start = now();
+    let done = times(|_| {
+        let top = black_box(stack.invocations.pop().unwrap());
+        stack.invocations.push(top);
+        true
+    });
+    say("an invocation taken off and put on", depth, done, start);
+    let start = now();
+    let done = times(|_| {
+        stack.wait(depth, peer);
+        stack.answer(depth, peer, Answer::Raised(0)) && stack.take_answer().is_some()
+    });
+    say("a call waited for and answered", depth, done, start);
+    for number in 0..depth {
+        stack.wait(number, peer);
+        stack.give_up();
+    }
+    let start = now();
+    let done = times(|_| {
+        stack.wait(depth, peer);
+        stack.give_up() && stack.late(depth, peer, true)
+    });
+    say("a call given up and then answered", depth, done, start);
+}
+
+fn main() {
+    for depth in [10, 100, 256] {
+        measure(depth);
+    }
+}

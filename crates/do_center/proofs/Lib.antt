@@ -1,0 +1,16 @@
+pub mod InfoDeeper
+pub mod FirstPlace
+pub mod FirstSeat
+pub mod FirstWaiting
+pub mod SeatedMore
+pub mod WaitingMore
+pub mod SameObject
+pub mod SeatsKept
+pub mod QueuesKept
+pub mod PostKept
+pub mod RemovedKept
+pub mod CoreKept
+pub mod SlotsExact
+pub mod OneCallMore
+pub mod RegistrationsTold
+pub mod SuspendedTold

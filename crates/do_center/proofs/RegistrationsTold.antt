@@ -1,0 +1,166 @@
+-- The registrations that the calls leave are those that they tell.
+use Rattle.std.proofs.Common.{◌≡◌, ℕ, zero, suc, Bool, true, false, List, [], ◌∷◌, ◌++◌}
+use Rattle.std.proofs.Common.{length}
+use Rattle.std.proofs.Common.{Option, Some, None, refl, sym, ◌∙◌, ap, nat_lt}
+use Rattle.std.proofs.Common.{nat_le}
+use Rattle.std.specs.Prelude.{if◌then◌else◌, not, slice_get}
+use Rattle.std.specs.List.{filter}
+use Rattle.std.specs.Option.{option_map}
+use Rattle.std.proofs.lemmas.List.{length-map, map-append}
+use Rattle.do_base.specs.names.Names.{ObjectName}
+use Rattle.do_center.specs.Calls.{added, suspended, with_suspended}
+use Rattle.do_center.specs.History.{after, left, registered, with_last}
+use Rattle.do_center.specs.Observers.{has_object}
+use Rattle.do_center.specs.Posting.{arrives, came, came_to_all, comes_to, due, held}
+use Rattle.do_center.specs.Posting.{posted_of}
+use Rattle.do_center.specs.Queues.{coalesced, deliveries, enqueued, queue_of}
+use Rattle.do_center.specs.Registrations.{matches}
+use Rattle.do_center.specs.Removing.{goes, moved, new_places, seats_left}
+use Rattle.do_center.specs.Seats.{Core, registrations}
+use Rattle.do_center.specs.declared.calls.Call.{Call}
+use Rattle.do_center.specs.declared.calls.Call.TheVariants.{Add, Remove, Suspend, Post}
+use Rattle.do_center.specs.declared.notes.Delivery.{Delivery}
+use Rattle.do_center.specs.declared.notes.Note.{Note}
+use Rattle.do_center.specs.declared.posting.Posting.{Posting}
+use Rattle.do_center.specs.declared.queues.Queued.{Queued}
+use Rattle.do_center.specs.declared.registrations.Registration.{Registration}
+use Rattle.do_center.specs.declared.seats.Seat.{Seat}
+use Rattle.do_center.specs.declared.suspension.Suspension.{Suspension}
+use Rattle.do_center.specs.declared.suspension.Suspension.TheVariants.{Drop, Coalesce, Hold}
+use Rattle.do_center.specs.declared.suspension.Suspension.TheVariants.{DeliverImmediately}
+use Rattle.do_center.proofs.CoreKept.{fresh}
+use Rattle.do_center.proofs.SeatsKept.{with_registrations}
+
+-- a notification that is held leaves the registrations
+held_same : (p : Posting) (o : ObjectName) (b : Suspension) (e : Queued)
+    → registrations (held p o b e).seats ≡ registrations p.seats
+held_same p o Drop e = refl
+held_same p o Coalesce e =
+    with_registrations p.seats o (enqueued (coalesced (queue_of p.seats o) e) e)
+held_same p o Hold e = with_registrations p.seats o (enqueued (queue_of p.seats o) e)
+held_same p o DeliverImmediately e = with_registrations p.seats o []
+
+module _ (note : Note) (immediate : Bool) (suspended : List ObjectName) where
+  -- and so does one that arrives
+  arrives_same : (p : Posting) (r : Registration) (e : Queued)
+      → registrations (arrives note immediate suspended p r e).seats ≡ registrations p.seats
+  arrives_same p r e = by (has_object suspended r.observer)
+    where
+      behaviour : Suspension
+      behaviour = if immediate then DeliverImmediately else r.behaviour
+
+      by : (b : Bool)
+          → registrations ((if b then held p r.observer behaviour e else due p e).seats)
+          ≡ registrations p.seats
+      by true = held_same p r.observer behaviour e
+      by false = refl
+
+  -- one that comes to a registration
+  comes_same : (p : Posting) (k : ℕ) (o : Option Seat)
+      → registrations (comes_to note immediate suspended p k o).seats ≡ registrations p.seats
+  comes_same p k None = refl
+  comes_same p k (Some s) = by (matches s.registration note)
+    where
+      e : Queued
+      e = record { place = k; note = note }
+
+      by : (b : Bool)
+          → registrations
+          ((if b then arrives note immediate suspended p s.registration e else p).seats)
+          ≡ registrations p.seats
+      by true = arrives_same p s.registration e
+      by false = refl
+
+  -- and one that comes to all
+  came_same : (ss : List Seat) (k : ℕ)
+      → registrations (came note immediate suspended ss k).seats ≡ registrations ss
+  came_same ss zero = refl
+  came_same ss (suc k) =
+      let p = came note immediate suspended ss k in
+      comes_same p k (slice_get p.seats k) ∙ came_same ss k
+
+-- those that stay are the registrations that do not go
+left_same : (out : Registration → Bool) (ps : List (Option ℕ)) (ss : List Seat)
+    → registrations (seats_left out ps ss) ≡ filter (λ r. not (out r)) (registrations ss)
+left_same out ps [] = refl
+left_same out ps (s ∷ ss) = by (out s.registration) (left_same out ps ss)
+  where
+    seat : Seat
+    seat = record { registration = s.registration; queue = moved ps s.queue }
+
+    by : (b : Bool)
+        → registrations (seats_left out ps ss) ≡ filter (λ r. not (out r)) (registrations ss)
+        → registrations ((if b then [] else seat ∷ []) ++ seats_left out ps ss)
+        ≡ (if not b then s.registration ∷ filter (λ r. not (out r)) (registrations ss)
+        else filter (λ r. not (out r)) (registrations ss))
+    by true rest = rest
+    by false rest = ap (λ rs. s.registration ∷ rs) rest
+
+-- a post leaves the registrations
+posted_same : (c : Core) (p : Posting) → registrations p.seats ≡ registrations c.0
+    → registrations (left c (posted_of c p)).0 ≡ registrations c.0
+posted_same c p same = by (nat_le (length p.due) 1024)
+  where
+    by : (b : Bool)
+        → registrations
+        (left c (if b then Some ((p.seats, c.1), deliveries c.0 p.due) else None)).0
+        ≡ registrations c.0
+    by true = same
+    by false = refl
+
+-- a registration more is the last, where there is room
+added_same : (c : Core) (r : Registration)
+    → registrations (left c (option_map (λ d. (d, [])) (added c r))).0
+    ≡ with_last (registrations c.0) r
+added_same c r =
+    by (nat_lt (length c.0) 256)
+    ∙ ap (λ n. if nat_lt n 256 then registrations c.0 ++ r ∷ [] else registrations c.0)
+    (sym (length-map c.0 (λ (s : Seat). s.registration)))
+  where
+    none : List Delivery
+    none = []
+
+    by : (b : Bool)
+        → registrations
+        (left c (option_map (λ d. (d, none))
+        (if b then Some (c.0 ++ fresh r ∷ [], c.1) else None))).0
+        ≡ (if b then registrations c.0 ++ r ∷ [] else registrations c.0)
+    by true = map-append (λ (s : Seat). s.registration) c.0 (fresh r ∷ [])
+    by false = refl
+
+-- suspending leaves the registrations
+suspended_same : (c : Core) (o : ObjectName) (on : Bool)
+    → registrations (left c (suspended c o on)).0 ≡ registrations c.0
+suspended_same c o true = by (with_suspended c.1 o)
+  where
+    none : List Delivery
+    none = []
+
+    by : (f : Option (List ObjectName))
+        → registrations (left c (option_map (λ os. ((c.0, os), none)) f)).0 ≡ registrations c.0
+    by None = refl
+    by (Some os) = refl
+suspended_same c o false = with_registrations c.0 o []
+
+-- the registrations that the calls leave are those that they tell
+registrations_told : (h : List Call) → registrations (after h).0 ≡ registered h
+registrations_told [] = refl
+registrations_told (Add r ∷ h) =
+    added_same (after h) r ∙ ap (λ rs. with_last rs r) (registrations_told h)
+registrations_told (Remove o name about ∷ h) =
+    let out = goes o name about in
+    let ps = new_places out 0 (after h).0 in
+    with_registrations (seats_left out ps (after h).0) o (moved ps (queue_of (after h).0 o))
+    ∙ left_same out ps (after h).0
+    ∙ ap (filter (λ r. not (out r))) (registrations_told h)
+registrations_told (Suspend o on ∷ h) =
+    suspended_same (after h) o on ∙ registrations_told h
+registrations_told (Post note immediate ∷ h) =
+    let c = after h in
+    posted_same c (came_to_all note immediate c.1 c.0)
+    (came_same note immediate c.1 c.0 (length c.0))
+    ∙ registrations_told h
+
+-- and so it is of a core that the calls left
+pub core_registered : (h : List Call) (c : Core) → c ≡ after h → registrations c.0 ≡ registered h
+core_registered h c is = ap (λ (d : Core). registrations d.0) is ∙ registrations_told h

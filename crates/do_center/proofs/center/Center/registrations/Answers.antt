@@ -1,0 +1,10 @@
+use Rattle.std.proofs.Common.{◌∙◌}
+use Rattle.std.proofs.lemmas.Result.{IfOk-weaker}
+use Rattle.do_center.proofs.RegistrationsTold.{core_registered}
+use Rattle.do_center.proofs.center.Center.registrations.Goals as goal
+
+pub returns-clause-meaning : goal.returns-clause-meaning
+returns-clause-meaning c h is =
+    let told = core_registered h (c.self.inside.seats, c.self.inside.suspended)
+    (c.self.view_is ∙ is) in
+    IfOk-weaker c.registrations_of.result _ _ (λ all e. e ∙ told) c.registrations_of.ensures

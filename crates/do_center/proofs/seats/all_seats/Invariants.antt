@@ -1,0 +1,8 @@
+use Rattle.std.proofs.Common.{◌≡◌, true, take}
+use Rattle.std.specs.List.{list_all}
+use Rattle.do_center.specs.Seats.{is_seat, registrations}
+use Rattle.do_center.proofs.seats.all_seats.Given as goal
+
+abbrev pub invariant-loop-seat : goal.invariant-loop-seat
+invariant-loop-seat l =
+    list_all (is_seat (registrations l.seats)) (take l.seat-index l.seat-items) ≡ true

@@ -1,0 +1,8 @@
+use Rattle.std.proofs.Common.{◌≡◌, true, take}
+use Rattle.std.specs.List.{list_all}
+use Rattle.do_center.specs.Seats.{has_none}
+use Rattle.do_center.proofs.seats.have_none.Given as goal
+
+abbrev pub invariant-loop-seat : goal.invariant-loop-seat
+invariant-loop-seat l =
+    list_all (has_none l.observer) (take l.seat-index l.seats) ≡ true

@@ -1,0 +1,10 @@
+use Rattle.std.proofs.Common.{◌≡◌, true, take}
+use Rattle.std.specs.List.{list_all}
+use Rattle.do_center.specs.Seats.{is_queued, registrations}
+use Rattle.do_center.proofs.seats.is_queue.Given as goal
+
+abbrev pub invariant-loop-entry : goal.invariant-loop-entry
+invariant-loop-entry l =
+    list_all (is_queued (registrations l.seats) l.observer)
+    (take l.entry-index l.entry-items)
+    ≡ true

@@ -1,0 +1,31 @@
+use Rattle.std.proofs.Common.{◌≡◌, Some, None, sym, ◌∙◌, arith}
+use Rattle.std.proofs.lemmas.Grind.{common_steps}
+use Rattle.do_center.proofs.FirstSeat.{first_seat, queue_none, with_none, queue_found, with_found}
+use Rattle.do_center.proofs.seats.replace_queue.Goals as goal
+
+pub returns-in-Some-clause-was : goal.returns-in-Some-clause-was
+returns-in-Some-clause-was c =
+    let first : first_seat c.args.seats.now c.args.observer ≡ Some c.in-Some.at =
+    grind (arith, common_steps) in
+    c.replace.ensures.value
+    ∙ sym (queue_found c.args.seats.now c.args.observer c.in-Some.at c.at_mut.result.now first
+    c.at_mut.ensures.value)
+
+pub returns-in-Some-clause-left : goal.returns-in-Some-clause-left
+returns-in-Some-clause-left c =
+    let first : first_seat c.args.seats.now c.args.observer ≡ Some c.in-Some.at =
+    grind (arith, common_steps) in
+    let put =
+    with_found c.args.seats.now c.args.observer c.args.queue c.in-Some.at c.at_mut.result.now
+    first c.at_mut.ensures.value in
+    grind (arith, common_steps, put)
+
+pub returns-in-None-clause-was : goal.returns-in-None-clause-was
+returns-in-None-clause-was c =
+    let none : first_seat c.args.seats.now c.args.observer ≡ None = grind (arith, common_steps) in
+    c.new.ensures ∙ sym (queue_none c.args.seats.now c.args.observer none)
+
+pub returns-in-None-clause-left : goal.returns-in-None-clause-left
+returns-in-None-clause-left c =
+    let none : first_seat c.args.seats.now c.args.observer ≡ None = grind (arith, common_steps) in
+    sym (with_none c.args.seats.now c.args.observer c.args.queue none)

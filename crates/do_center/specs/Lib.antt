@@ -1,0 +1,12 @@
+pub mod Notes
+pub mod Registrations
+pub mod Observers
+pub mod Seats
+pub mod Slots
+pub mod Queues
+pub mod Removing
+pub mod Posting
+pub mod Calls
+pub mod History
+pub mod Acts
+pub mod laws

@@ -1,0 +1,5 @@
+pub mod CallsRead
+pub mod CoreRead
+pub mod NamedParts
+pub mod NamedCalls
+pub mod CenterLaws

@@ -1,0 +1,3 @@
+mod Said
+mod NativeSound
+pub mod Growing

@@ -1,0 +1,48 @@
+use Rattle.std.proofs.Common.{◌∙◌, ap, length, subst, sym}
+use Rattle.std.proofs.lemmas.List.Elements.{All-nil}
+use Rattle.do_class.specs.Class.{AreMethods}
+use Rattle.do_class.specs.declared.method.Method.{Method}
+use Rattle.do_sig.specs.MethodTypes.{IsMethodType}
+use Rattle.do_kinds.specs.Methods.{AreTyped}
+use Rattle.do_kinds.proofs.NativeSound.{native_are_methods, native_found, native_none_lost}
+use Rattle.do_kinds.proofs.NativeSound.{spelled_more}
+use Rattle.do_kinds.proofs.methods.native_methods.Goals as goal
+
+pub loop-selector-init : goal.loop-selector-init
+loop-selector-init c = record {
+  made = c.new-methods.ensures;
+  typed = subst AreTyped (sym c.new-methods.ensures)
+      (All-nil (λ (m : Method). IsMethodType m.signature));
+}
+
+pub loop-selector-preserved : goal.loop-selector-preserved
+loop-selector-preserved c = record {
+  made = spelled_more _ _ _ _ _ c.loop-selector-test.true c.loop-selector.invariant.made
+      c.in_ok-push_method.ensures.value;
+  typed = c.in_ok-push_method.ensures.typed c.loop-selector.invariant.typed;
+}
+
+pub returns-clause-value : goal.returns-clause-value
+returns-clause-value c =
+    native_found c.args.kind c.spellings-spelled.result.now c.loop-selector.selector-index
+    c.loop-selector.methods c.loop-selector-test.false c.loop-selector.invariant.made
+    c.spellings-spelled.ensures
+
+pub returns-clause-all : goal.returns-clause-all
+returns-clause-all c =
+    let same =
+    native_found c.args.kind c.spellings-spelled.result.now c.loop-selector.selector-index
+    c.loop-selector.methods c.loop-selector-test.false c.loop-selector.invariant.made
+    c.spellings-spelled.ensures in
+    ap length same ∙ native_none_lost c.args.kind
+
+pub returns-clause-limits : goal.returns-clause-limits
+returns-clause-limits c =
+    let same =
+    native_found c.args.kind c.spellings-spelled.result.now c.loop-selector.selector-index
+    c.loop-selector.methods c.loop-selector-test.false c.loop-selector.invariant.made
+    c.spellings-spelled.ensures in
+    subst AreMethods (sym same) (native_are_methods c.args.kind)
+
+pub returns-clause-typed : goal.returns-clause-typed
+returns-clause-typed c = c.loop-selector.invariant.typed

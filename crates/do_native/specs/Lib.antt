@@ -1,0 +1,3 @@
+pub mod Acts
+pub mod Checked
+pub mod laws

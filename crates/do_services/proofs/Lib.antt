@@ -1,0 +1,5 @@
+pub mod OneCallMore
+pub mod IsTold
+pub mod CoreRead
+pub mod ReadEach
+pub mod CallsFit

@@ -1,0 +1,5 @@
+pub mod SlotsExact
+pub mod CallLaws
+pub mod Provider
+pub mod NamedServices
+pub mod ServiceLaws

@@ -1,0 +1,44 @@
+//! A stack that is driven by drawn calls.
+use crate::drawn::{Drawn, draw};
+use crate::plain_stack::{PlainStack, Tally};
+use crate::seen::{same, same_waiting};
+use crate::stack::call;
+use do_base::NodeId;
+use do_stack::Stack;
+use drawn_numbers::Generator;
+use std::alloc::{AllocError, Global};
+use std::io;
+
+/// Makes one call of both, and tells whether they are alike.
+fn step(
+    alloc: Global,
+    stack: &mut Stack,
+    plain: &mut PlainStack,
+    drawn: &Drawn,
+) -> Result<bool, AllocError> {
+    if !same_waiting(stack, plain, drawn) {
+        return Ok(false);
+    }
+    let answered = call(alloc, stack, plain, drawn)?;
+    Ok(answered && same(stack, plain))
+}
+
+/// Makes so many drawn calls, and tells how many were alike before one was not, and what they came
+/// to.
+pub fn drive_stack(alloc: Global, calls: u32) -> io::Result<(u32, Tally)> {
+    let Some(node) = NodeId::new(4) else {
+        return Err(io::Error::other("no port"));
+    };
+    let mut generator = Generator::new(8);
+    let mut stack = Stack::new(alloc);
+    let mut plain = PlainStack::new(alloc);
+    for turn in 0..calls {
+        let Some(drawn) = draw(&mut generator, node, 12 + u64::from(turn) / 40) else {
+            return Err(io::Error::other("no port"));
+        };
+        if !step(alloc, &mut stack, &mut plain, &drawn)? {
+            return Ok((turn, plain.tally()));
+        }
+    }
+    Ok((calls, plain.tally()))
+}

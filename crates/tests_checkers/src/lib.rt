@@ -1,0 +1,5 @@
+//! Tests of the public calls of the crate of checkers.
+#![tactic(auto)]
+
+#[cfg(test)]
+mod checkers;

@@ -1,0 +1,8 @@
+//! Tests of the behaviour of classes of all kinds.
+//!
+//! It stands on do_native and calls public functions alone. What is expected was worked out by
+//! hand.
+#![tactic(auto)]
+
+#[cfg(test)]
+mod kinds;
