@@ -156,7 +156,8 @@ fn stack() -> (u64, u64, u64, usize) {
                 ended += (late.len() < before) as u64;
             }
             93..99 => {
-                stack.last_mut().filter(|top| **top == Doing::Answered).map(|top| *top = Doing::Runs);
+                let top = stack.last_mut().filter(|top| **top == Doing::Answered);
+                top.map(|top| *top = Doing::Runs);
             }
             99.. => {
                 for doing in stack.iter_mut() {
