@@ -2,15 +2,12 @@
 use Rattle.std.proofs.Common.{◌≡◌, ◌∙◌, ap, sym, List, [], Some}
 use Rattle.std.specs.Option.{option_map_or}
 use Rattle.toml.specs.Data.{Members}
+use Rattle.do_acts.specs.laws.KindLaws.{some_same}
 use Rattle.do_check.specs.declared.rules.Rule.{Rule}
 use Rattle.do_class.specs.Class.{Class}
 use Rattle.do_kinds.specs.declared.kind.Kind.{Kind}
 use Rattle.do_document.specs.Classes.{class_rules, rules_by}
 use Rattle.do_document.specs.Sound.{IsClassOf, IsNextClass}
-
--- what two answers of the same value have is the same
-some_is : {A : Type 0} {x y : A} → Some x ≡ Some y → x ≡ y
-some_is e = cc
 
 module _ (classes : List Class) (t : Members) (kind : Kind) (c : Class) (rules : List Rule)
     (next : IsNextClass classes t kind c rules) where
@@ -18,7 +15,7 @@ module _ (classes : List Class) (t : Members) (kind : Kind) (c : Class) (rules :
   pub class_said : IsClassOf t c
   class_said = record {
     said = next.said;
-    all = λ is. next.parts.all (some_is (sym next.kind_said ∙ is));
+    all = λ is. next.parts.all (some_same (sym next.kind_said ∙ is));
   }
 
   -- its rules are those of the table

@@ -214,7 +214,8 @@ pub four_none : (a b c d : Option WorldFault) → a ≡ None → b ≡ None → 
 four_none a b c d n m o p = rw (n, m, o, p)
 
 -- a method has an unknown key
-pub method_unknown : (keys : List (List ℕ)) (place : Place) (methods : List Method) (t : Members) (e : WorldFault)
+pub method_unknown : (keys : List (List ℕ)) (place : Place) (methods : List Method) (t : Members) (e
+    : WorldFault)
     → Tells (unknown place keys t) e → Tells (method_checks keys place methods t) e
 unfolding method_checks
 method_unknown keys place methods t e h =
@@ -223,7 +224,8 @@ method_unknown keys place methods t e h =
     (is_text_with (is_new_selector methods)) t) (types_fault place t) (count_fault place t) e h
 
 -- a method has no good selector
-pub method_selector : (keys : List (List ℕ)) (place : Place) (methods : List Method) (t : Members) (e : WorldFault)
+pub method_selector : (keys : List (List ℕ)) (place : Place) (methods : List Method) (t : Members)
+    (e : WorldFault)
     → unknown place keys t ≡ None
     → Tells (required place (codes "selector")
     (is_text_with (is_new_selector methods)) t) e
@@ -236,7 +238,8 @@ method_selector keys place methods t e known h =
     (count_fault place t) e known h
 
 -- a method has no good types
-pub method_types : (keys : List (List ℕ)) (place : Place) (methods : List Method) (t : Members) (e : WorldFault)
+pub method_types : (keys : List (List ℕ)) (place : Place) (methods : List Method) (t : Members) (e :
+    WorldFault)
     → unknown place keys t ≡ None
     → required place (codes "selector")
     (is_text_with (is_new_selector methods)) t ≡ None
@@ -265,7 +268,8 @@ said t selector s named typed =
     let whole = spelled selector s (text_at (codes "types") t) typed in rw (named, whole)
 
 -- a method's types have another number of arguments
-pub method_count : (keys : List (List ℕ)) (place : Place) (methods : List Method) (t : Members) (selector : List ℕ)
+pub method_count : (keys : List (List ℕ)) (place : Place) (methods : List Method) (t : Members)
+    (selector : List ℕ)
     (s : MethodType) (e : WorldFault) → unknown place keys t ≡ None
     → required place (codes "selector")
     (is_text_with (is_new_selector methods)) t ≡ None
@@ -287,7 +291,8 @@ method_count keys place methods t selector s e known selected typed named spelle
     (told (count_fault place t) (Wrong (path place (codes "types"))) e same is)
 
 -- a good method
-pub method_good : (keys : List (List ℕ)) (place : Place) (methods : List Method) (t : Members) (selector : List ℕ)
+pub method_good : (keys : List (List ℕ)) (place : Place) (methods : List Method) (t : Members)
+    (selector : List ℕ)
     (s : MethodType) → unknown place keys t ≡ None
     → required place (codes "selector")
     (is_text_with (is_new_selector methods)) t ≡ None

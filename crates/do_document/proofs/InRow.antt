@@ -1,5 +1,6 @@
 -- The first of several checks in a row that finds a fault.
-use Rattle.std.proofs.Common.{◌≡◌, List, [], ◌∷◌, Option, None, refl, ◌∙◌, inl, inr, Result, Ok, Err}
+use Rattle.std.proofs.Common.{◌≡◌, List, [], ◌∷◌, Option, None, refl, ◌∙◌}
+use Rattle.std.proofs.Common.{inl, inr, Result, Ok, Err}
 use Rattle.do_document.specs.Checks.{first_of}
 use Rattle.do_document.specs.Finding.{Finds}
 use Rattle.do_document.specs.declared.fault.WorldFault.{WorldFault}

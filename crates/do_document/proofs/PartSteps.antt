@@ -144,7 +144,8 @@ module _ (k : ℕ) (t : Members) where
   -- what is checked behind the keys of a class of checkers
   abbrev behind_keys : List (Option WorldFault)
   behind_keys =
-      methods_fault lists.Allowed guard k t ∷ methods_fault lists.Denied (allowed_methods t) k t ∷ []
+      methods_fault lists.Allowed guard k t ∷ methods_fault lists.Denied (allowed_methods t) k t ∷
+      []
 
   -- there are slots or methods
   pub checker_own : (e : WorldFault) → Tells (own_fault k t) e

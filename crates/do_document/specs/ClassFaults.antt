@@ -112,7 +112,8 @@ entry_checks list place methods t = first_of
 abbrev pub entry_fault : MethodList → ℕ → List Method → List Members → Members
     → Option WorldFault
 entry_fault list class methods before t =
-    entry_checks list (place_of list class (length before)) (methods ++ filter_map method_of before) t
+    entry_checks list (place_of list class (length before)) (methods ++ filter_map method_of before)
+    t
 
 -- a list of a class of a number, behind methods that it has already; it has at most 64 in all
 unfoldable pub methods_fault : MethodList → List Method → ℕ → Members → Option WorldFault

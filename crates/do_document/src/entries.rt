@@ -1,5 +1,6 @@
 //! The lists of methods of a class, with the rules of a checker beside them.
-ghost use Rattle.std.specs.Prelude.{◌≡◌, ◌≤◌, ◌+◌, ◌++◌, IfSome, IsTrue, OnOk, Some, codes, length, map};
+ghost use Rattle.std.specs.Prelude.{◌≡◌, ◌≤◌, ◌+◌, ◌++◌, IfSome, IsTrue, OnOk, Some, codes};
+ghost use Rattle.std.specs.Prelude.{length, map};
 ghost use Rattle.std.specs.Option.{option_to_list};
 ghost use Rattle.toml.specs.View.{table_view};
 ghost use Rattle.do_grammar.specs.Names.{is_selector};

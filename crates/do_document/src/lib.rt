@@ -2,8 +2,8 @@
 //! and the classes that it says.
 //!
 //! It stands on the kit's `toml` for documents, on the readers of signatures, the class table and
-//! the kinds of classes. It promises that each part of a document is read exactly: as what the part says, or with
-//! the first of its faults.
+//! the kinds of classes. It promises that each part of a document is read exactly: as what the part
+//! says, or with the first of its faults.
 #![tactic(auto, using(crate::proofs::Finding::checks))]
 
 mod classes;

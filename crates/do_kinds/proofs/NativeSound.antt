@@ -153,6 +153,7 @@ names_kept [] = refl
 names_kept (name ∷ names) = ap (λ ns. name ∷ ns) (names_kept names)
 
 -- no two slots of a kind have one name
-pub native_distinct : (kind : Kind) → IsDistinct bytes_eq (map (λ (s : Slot). s.name) (native_slots kind))
+pub native_distinct : (kind : Kind) → IsDistinct bytes_eq (map (λ (s : Slot). s.name) (native_slots
+    kind))
 native_distinct kind =
     subst (IsDistinct bytes_eq) (sym (names_kept (slot_names kind))) (slots_distinct kind)

@@ -1,17 +1,17 @@
 -- What holds of methods whose selectors and types say methods.
 use Rattle.std.proofs.Common.{◌≡◌, ◌≤◌, ℕ, List, [], ◌∷◌, length, map, refl, sym, ap, arith}
-use Rattle.std.proofs.Common.{Option, Some, None}
+use Rattle.std.proofs.Common.{Option, Some, None, subst}
 use Rattle.std.specs.Prelude.{IsTrue}
 use Rattle.std.specs.List.{AllByRecursion, IsDistinct, cons_option, filter_map}
 use Rattle.std.specs.Option.{option_map}
 use Rattle.std.specs.Str.{bytes_eq}
-use Rattle.std.proofs.Common.{subst}
 use Rattle.std.proofs.lemmas.List.Elements.{All-from_recursion}
 use Rattle.do_grammar.specs.Names.{colons, is_selector}
 use Rattle.do_sig.specs.Calls.{arg_count}
 use Rattle.do_sig.specs.MethodTypes.{MethodType}
 use Rattle.do_class.specs.Class.{AreMethods, selectors_of}
 use Rattle.do_class.specs.declared.method.Method.{Method}
+use Rattle.do_acts.specs.laws.KindLaws.{some_same}
 use Rattle.do_kinds.specs.Methods.{method_said, signature_of}
 
 -- a selector, and types that spell a signature with an argument for each of its colons
@@ -30,10 +30,6 @@ record AreSaid (ms : List (List ℕ × List ℕ)) (methods : List Method) : Type
   selects : AllByRecursion (λ (m : Method). IsTrue (is_selector m.selector)) methods
   counted : AllByRecursion (λ (m : Method). colons m.selector ≡ arg_count m.signature) methods
 
--- what two answers of the same value have is the same
-some_is : {A : Type 0} {x y : A} → Some x ≡ Some y → x ≡ y
-some_is e = cc
-
 -- one more method that is said
 one_more : (m : List ℕ × List ℕ) (ms : List (List ℕ × List ℕ)) (methods : List Method)
     (s : Option MethodType) → IsTrue (is_selector m.0) → option_map arg_count s ≡ Some (colons m.0)
@@ -45,7 +41,7 @@ one_more m ms methods (Some s) selects e are = record {
   all = omega (arith, are.all);
   named = ap (λ texts. m.0 ∷ texts) are.named;
   selects = (selects, are.selects);
-  counted = (sym (some_is e), are.counted);
+  counted = (sym (some_same e), are.counted);
 }
 
 -- what is said are methods

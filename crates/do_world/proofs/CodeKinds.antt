@@ -109,7 +109,8 @@ no_code_suits slots n = record {
 
 -- and so does one for each method
 empty_suit : (slots n : ℕ) (methods : List Method)
-    → AllZip (λ code (m : Method). Suits slots n code) (map (λ (m : Method). no_code) methods) methods
+    → AllZip (λ code (m : Method). Suits slots n code) (map (λ (m : Method). no_code) methods)
+    methods
 empty_suit slots n [] = tt
 empty_suit slots n (m ∷ ms) = (no_code_suits slots n, empty_suit slots n ms)
 

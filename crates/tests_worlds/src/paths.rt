@@ -4,8 +4,8 @@ use do_document::Place;
 use std::alloc::AllocError;
 use std::test::Fail;
 
-/// A text with these keys at a place: at the top, in the second class, in the second member of a list
-/// of that or in the second node.
+/// A text with these keys at a place: at the top, in the second class, in the second member of a
+/// list of that or in the second node.
 fn at(rt: &HostRuntime, place: Place, keys: &str) -> Result<String, AllocError> {
     let front = "version = 1\nclass = [{name = \"A\"}";
     let method = "{selector = \"a\", types = \"v@:\"}";

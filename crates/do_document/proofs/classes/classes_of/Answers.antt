@@ -37,7 +37,8 @@ loop-k-preserved c =
     c.index-tables-k.result).now)
     ≡ Some c.in_ok-name.field-0.kind =
     subst (λ (t : Bor (BTreeMap (String Global) Value)).
-    kind_of (table_view t.now) ≡ Some c.in_ok-name.field-0.kind) c.index-tables-k.is next.kind_said in
+    kind_of (table_view t.now) ≡ Some c.in_ok-name.field-0.kind) c.index-tables-k.is next.kind_said
+    in
     let there : IsClassOf
     (table_view (get_or c.args.tables.now c.loop-k.k c.index-tables-k.result).now) added =
     subst (λ (t : Bor (BTreeMap (String Global) Value)). IsClassOf (table_view t.now) added)
@@ -61,7 +62,8 @@ loop-k-preserved c =
           c.loop-k.invariant.made said;
       kinds_made = kinds_grown ∙ made_more kind_of
           (λ (t : Bor (BTreeMap (String Global) Value)). table_view t.now) c.args.tables.now
-          c.loop-k.k c.index-tables-k.result c.loop-k.kinds c.in_ok-name.field-0.kind c.loop-k-test.true
+          c.loop-k.k c.index-tables-k.result c.loop-k.kinds c.in_ok-name.field-0.kind
+          c.loop-k-test.true
           c.loop-k.invariant.kinds_made kind;
       rules_made = surely_more (λ (t : Bor (BTreeMap (String Global) Value)). table_view t.now)
           c.args.tables.now c.loop-k.k c.index-tables-k.result c.index-tables-k.result
@@ -96,7 +98,8 @@ loop-k-preserved c =
           Value)). table_view t.now) (take (c.loop-k.k + 1) c.args.tables.now)) ks)
           (sym kinds_grown)
           (zip_more IsKindOf (λ (t : Bor (BTreeMap (String Global) Value)). table_view t.now)
-          c.args.tables.now c.loop-k.k c.index-tables-k.result c.loop-k.kinds c.in_ok-name.field-0.kind
+          c.args.tables.now c.loop-k.k c.index-tables-k.result c.loop-k.kinds
+          c.in_ok-name.field-0.kind
           c.loop-k-test.true c.loop-k.invariant.kinds_said kind);
       typed = subst (All HasTypes) (sym grown)
           (All-push HasTypes c.loop-k.classes added c.loop-k.invariant.typed

@@ -29,7 +29,8 @@ loop-k-preserved c =
     (table_view t.now) ≡ None) c.index-tables-k.is
     (rw c.place-place.ensures at c.in_ok-method.ensures.0) in
     let grown = c.in_ok-push.ensures.ok in
-    let count : length c.push.new.self ≡ length (c.loop-k.methods ++ c.in_ok-method.field-0.method ∷ []) =
+    let count : length c.push.new.self ≡ length (c.loop-k.methods ++ c.in_ok-method.field-0.method ∷
+    []) =
     ap length grown in
     let room : length c.loop-k.methods < 64 =
     omega (arith, c.loop-k.invariant.all, c.loop-k-test.true, c.requires.room) in
@@ -58,7 +59,8 @@ loop-k-preserved c =
       );
       good = record {
         are_methods = subst AreMethods (sym grown)
-            (methods_more c.loop-k.methods c.in_ok-method.field-0.method good.are_methods room next.new
+            (methods_more c.loop-k.methods c.in_ok-method.field-0.method good.are_methods room
+            next.new
             next.counted);
         typed = subst AreTyped (sym grown)
             (All-push (λ (m : Method). IsMethodType m.signature) c.loop-k.methods

@@ -15,7 +15,8 @@ invariant-loop-k l = record {
       ≡ first_among (entry_fault l.list l.class l.fn.earlier.methods)
       (map (λ t. table_view t.now) l.tables);
   methods_said : l.methods
-      ≡ l.fn.earlier.methods ++ filter_map method_of (map (λ t. table_view t.now) (take l.k l.tables));
+      ≡ l.fn.earlier.methods ++ filter_map method_of (map (λ t. table_view t.now) (take l.k
+      l.tables));
   rules_said : l.rules
       ≡ l.fn.earlier.rules
       ++ filter_map (rule_of l.list) (map (λ t. table_view t.now) (take l.k l.tables));

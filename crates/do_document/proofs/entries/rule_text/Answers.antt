@@ -13,11 +13,13 @@ returns-in_err-text c =
 
 pub returns-then-not-is_rule : goal.returns-then-not-is_rule
 returns-then-not-is_rule c =
-    let fails : is_rule c.in_ok-text.text ≡ false = grind (arith, common_steps, c.if-not-is_rule.true, c.is_rule.ensures) in
+    let fails : is_rule c.in_ok-text.text ≡ false =
+    grind (arith, common_steps, c.if-not-is_rule.true, c.is_rule.ensures) in
     text_failed _ _ is_rule _ c.in_ok-text.text c.in_ok-text.ensures.1 _ fails c.wrong.ensures
 
 pub returns : goal.returns
 returns c =
-    let passes : is_rule c.in_ok-text.text ≡ true = grind (arith, common_steps, c.if-not-is_rule.false, c.is_rule.ensures) in
+    let passes : is_rule c.in_ok-text.text ≡ true =
+    grind (arith, common_steps, c.if-not-is_rule.false, c.is_rule.ensures) in
     let none = text_passed _ _ is_rule _ c.in_ok-text.text c.in_ok-text.ensures.1 passes in
     (none, (c.in_ok-text.ensures.1, within_rule c.in_ok-text.text passes))

@@ -11,5 +11,6 @@ returns-in_err-no_key c =
 
 pub returns : goal.returns
 returns c =
-    neither_found c.args.place c.args.one.now c.args.other.now (table_view c.args.table.now) c.no_key-2.result
+    neither_found c.args.place c.args.one.now c.args.other.now (table_view c.args.table.now)
+    c.no_key-2.result
     c.in_ok-no_key.ensures.0 c.no_key-2.ensures
