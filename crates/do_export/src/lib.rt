@@ -158,7 +158,7 @@ impl Exports {
 
     /// Takes out the peer's entry with the lowest serial, and tells the serial.
     ///
-    /// None exactly where the peer has no entry. Each entry taken out moves those behind it.
+    /// None exactly where the peer has no entry.
     pub fn drop_next(&mut self, peer: NodeId) -> Option<u64>
         ensures which { MatchOption result
             (HasNone self.old.counts peer × (self.new ≡ self.old))

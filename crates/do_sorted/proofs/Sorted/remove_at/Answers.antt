@@ -4,6 +4,7 @@ use Rattle.std.proofs.lemmas.List.Edits.{length-remove}
 use Rattle.do_sorted.proofs.SomeRows.{is_sorted-remove}
 use Rattle.do_sorted.proofs.Sorted.remove_at.Goals as goal
 
+-- without a row the keys rise as before, and its places are free
 pub invariant_of-self : goal.invariant_of-self
 invariant_of-self g c =
     let short = length-remove c.self.inside.rows c.args.at (rw (← c.self.view_is) at c.requires) in

@@ -7,6 +7,7 @@ use Rattle.std.proofs.lemmas.List.Edits.{length-remove}
 use Rattle.do_sorted.proofs.Retained.{Retaining, passes, fails, ends}
 use Rattle.do_sorted.proofs.Sorted.retain.Goals as goal
 
+-- a row that passes the test stays, and is passed over
 pub loop-at-preserved-then-keep : goal.loop-at-preserved-then-keep
 loop-at-preserved-then-keep g c =
     let so = c.loop-at.invariant in
@@ -21,6 +22,7 @@ loop-at-preserved-then-keep g c =
       so.4,
     )
 
+-- a row that fails the test is taken out, and the next one stands in its place
 pub loop-at-preserved : goal.loop-at-preserved
 loop-at-preserved g c =
     let so = c.loop-at.invariant in
@@ -43,6 +45,7 @@ loop-at-preserved g c =
       omega (arith, spare, more),
     )
 
+-- past the last row each was tested
 pub returns-clause-filtered : goal.returns-clause-filtered
 returns-clause-filtered g c =
     ends (CalledAt g.F.FnMut) c.args.keep c.args.self.now.rows c.loop-at.keep c.loop-at.self.rows

@@ -4,6 +4,8 @@ use Rattle.std.specs.Fn.{CalledAt}
 use Rattle.do_sorted.proofs.Retained.{Retaining}
 use Rattle.do_sorted.proofs.Sorted.retain.Given as goal
 
+-- the rows up to the place were tested, those behind it stand as at first, and none of the room
+-- is lost
 abbrev pub invariant-loop-at : goal.invariant-loop-at
 invariant-loop-at g l =
     (always_mut g.F.FnMut l.initial.keep → always_mut g.F.FnMut l.keep)
@@ -11,5 +13,6 @@ invariant-loop-at g l =
     × (length l.self.rows + l.self.spare ≡ length l.initial.self.rows + l.initial.self.spare)
     × (l.at ≤ length l.self.rows) × (l.initial.self.spare ≤ l.self.spare)
 
+-- each turn passes over a row or takes one out
 abbrev pub decreases-loop-at : goal.decreases-loop-at
 decreases-loop-at g l = length l.self.rows - l.at

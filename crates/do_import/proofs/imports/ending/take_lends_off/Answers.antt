@@ -10,12 +10,14 @@ use Rattle.do_import.proofs.imports.ending.take_lends_off.Goals as goal
 use Rattle.do_import.proofs.imports.ending.take_lends_off.Goals.{then-row-borrower}
 use Rattle.do_import.proofs.imports.ending.take_lends_off.Goals.{else-row-borrower}
 
+-- below the number of lends there is a row
 pub unreachable-requires : goal.unreachable-requires
 unreachable-requires c =
     let ended = no_row (map.entries c.args.lends.now.lends) c.loop-at.at
     (sym c.row.ensures ∙ ap option_copied c.in_default.is) in
     absurd (omega (arith, ended, c.loop-at-test.true, c.len-at-end.ensures))
 
+-- a lend to the borrower takes off what is to be taken off for it, any other nothing
 pub loop-at-preserved : goal.loop-at-preserved
 loop-at-preserved c =
     let so = c.loop-at.invariant in
@@ -46,6 +48,7 @@ loop-at-preserved c =
           )
     ]
 
+-- once no lend is left, all uses that were to be taken off are
 pub returns-clause-uses : goal.returns-clause-uses
 returns-clause-uses c =
     let lends = map.entries c.args.lends.now.lends in
@@ -54,6 +57,7 @@ returns-clause-uses c =
     ap (λ l. all_off c.loop-at.holdings.uses (lent_to c.args.borrower l)) (sym none)
     ∙ c.loop-at.invariant.1
 
+-- once no lend is left, all names that were to be taken off are
 pub returns-clause-named : goal.returns-clause-named
 returns-clause-named c =
     let lends = map.entries c.args.lends.now.lends in

@@ -2,6 +2,7 @@ use Rattle.std.proofs.Common.{rules, ◌-◌}
 use Rattle.do_sorted.proofs.Sides.{insert_behind}
 use Rattle.do_sorted.proofs.tree.Tree.+insert.Goals as goal
 
+-- put in behind the item of a node, an item is put in so far behind the first one
 pub returns : goal.returns
 returns g t c =
     let is = insert_behind c.in-Fork.before.value c.in-Fork.behind.value c.in-Fork.item c.args.new

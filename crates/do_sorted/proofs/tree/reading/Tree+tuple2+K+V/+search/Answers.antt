@@ -8,6 +8,7 @@ use Rattle.do_sorted.proofs.SidesSorted.{sorted_before, sorted_behind, found_bef
 use Rattle.do_sorted.proofs.SidesSorted.{row_here, row_behind, gap_behind}
 use Rattle.do_sorted.proofs.tree.reading.Tree+tuple2+K+V.+search.Goals as goal
 
+-- the keys before that of a node rise, and there are fewer of them
 pub search-requires : goal.search-requires
 search-requires g t c κs within =
     let whole = sym c.self.view_is ∙ ap items_of c.in-Fork.is in
@@ -17,6 +18,7 @@ search-requires g t c κs within =
     let here = subst (λ es. T (is_sorted g.K.Ord.cmp es)) (sym c.deref-in-Less.ensures) sorted in
     (search rules, (search rules, (search rules, here)))
 
+-- the keys behind that of a node rise, and there are fewer of them
 pub search-requires-in-Greater : goal.search-requires-in-Greater
 search-requires-in-Greater g t c κs within =
     let whole = sym c.self.view_is ∙ ap items_of c.in-Fork.is in
@@ -26,16 +28,19 @@ search-requires-in-Greater g t c κs within =
     let here = subst (λ es. T (is_sorted g.K.Ord.cmp es)) (sym c.deref-in-Greater.ensures) sorted in
     (search rules, (search rules, (search rules, here)))
 
+-- a place behind a node is below the number of all rows
 pub overflow_add-result : goal.overflow_add-result
 overflow_add-result g t c =
     let within = row_within g.met.K.Ord.total _ _ _ c.in-Ok.ensures.found in
     search rules
 
+-- a gap behind a node is at most the number of all rows
 pub overflow_add-result-in-Err : goal.overflow_add-result-in-Err
 overflow_add-result-in-Err g t c =
     let within = gap_within g.met.K.Ord.total _ _ _ c.in-Err.ensures.absent in
     search rules
 
+-- a key found before a node is found there in all rows
 pub returns-in-Less-clause-found : goal.returns-in-Less-clause-found
 returns-in-Less-clause-found g t c =
     let whole = sym c.self.view_is ∙ ap items_of c.in-Fork.is in
@@ -45,6 +50,7 @@ returns-in-Less-clause-found g t c =
     (subst (λ es. IfOk c.search.result (IsRowOf g.K.Ord.cmp c.args.key.now es))
     c.deref-in-Less.ensures c.search.ensures.found))
 
+-- the gap for a key before a node is its gap in all rows
 pub returns-in-Less-clause-absent : goal.returns-in-Less-clause-absent
 returns-in-Less-clause-absent g t c =
     let whole = sym c.self.view_is ∙ ap items_of c.in-Fork.is in
@@ -54,6 +60,7 @@ returns-in-Less-clause-absent g t c =
     (subst (λ es. IfErr c.search.result (IsGapFor g.K.Ord.cmp c.args.key.now es))
     c.deref-in-Less.ensures c.search.ensures.absent))
 
+-- the key of a node stands behind those before it
 pub returns-in-Equal-clause-found : goal.returns-in-Equal-clause-found
 returns-in-Equal-clause-found g t c =
     let whole = sym c.self.view_is ∙ ap items_of c.in-Fork.is in
@@ -65,6 +72,7 @@ returns-in-Equal-clause-found g t c =
     c.in-Fork.behind.value i (subst (λ es. T (is_sorted g.K.Ord.cmp es)) whole c.requires)
     (sym c.in-Equal.ensures) (omega (arith, counted, behind, c.len.ensures)))
 
+-- a key found behind a node is found so far on in all rows
 pub returns-in-Ok-clause-found : goal.returns-in-Ok-clause-found
 returns-in-Ok-clause-found g t c =
     let whole = sym c.self.view_is ∙ ap items_of c.in-Fork.is in
@@ -78,6 +86,7 @@ returns-in-Ok-clause-found g t c =
     (subst (λ es. IsRowOf g.K.Ord.cmp c.args.key.now es c.in-Ok.at) c.deref-in-Greater.ensures
     c.in-Ok.ensures.found) (omega (arith, counted, behind, c.len.ensures)))
 
+-- the gap for a key behind a node is its gap so far on in all rows
 pub returns-in-Err-clause-absent : goal.returns-in-Err-clause-absent
 returns-in-Err-clause-absent g t c =
     let whole = sym c.self.view_is ∙ ap items_of c.in-Fork.is in

@@ -5,6 +5,7 @@ use Rattle.do_sorted.specs.Tree.{items_of}
 use Rattle.do_sorted.proofs.Sides.{slice_get_here, slice_get_behind, set_here, set_behind}
 use Rattle.do_sorted.proofs.tree.reading.Tree+tuple2+K+V.+set_value.Goals as goal
 
+-- a value set before a node is set there in all rows
 pub returns-then-at-here-clause-after : goal.returns-then-at-here-clause-after
 returns-then-at-here-clause-after g t c =
     let whole = sym c.self.view_is ∙ ap items_of c.in-Fork.is in
@@ -18,6 +19,7 @@ returns-then-at-here-clause-after g t c =
     ∙ sym (set-append_left c.in-Fork.before.value rest c.args.at new before)
     ∙ ap (λ l. set l c.args.at new) (sym whole)
 
+-- a row behind a node stands so far on in all rows
 pub returns-then-at-here-2-clause-before : goal.returns-then-at-here-2-clause-before
 returns-then-at-here-2-clause-before g t c =
     let whole = sym c.self.view_is ∙ ap items_of c.in-Fork.is in
@@ -31,6 +33,7 @@ returns-then-at-here-2-clause-before g t c =
     ∙ ap (λ l. slice_get l j) (sym c.deref_mut-then-at-here-2.ensures.value)
     ∙ c.set_value-then-at-here-2.ensures.before
 
+-- a value set behind a node is set so far on in all rows
 pub returns-then-at-here-2-clause-after : goal.returns-then-at-here-2-clause-after
 returns-then-at-here-2-clause-after g t c =
     let whole = sym c.self.view_is ∙ ap items_of c.in-Fork.is in
@@ -46,6 +49,7 @@ returns-then-at-here-2-clause-after g t c =
     (c.in-Fork.key, c.in-Fork.old) new c.args.at j behind)
     ∙ ap (λ l. set l c.args.at new) (sym whole)
 
+-- the row of a node stands behind those before it
 pub returns-clause-before : goal.returns-clause-before
 returns-clause-before g t c =
     let whole = sym c.self.view_is ∙ ap items_of c.in-Fork.is in
@@ -57,6 +61,7 @@ returns-clause-before g t c =
     (c.in-Fork.key, c.in-Fork.old) c.args.at at
     ∙ ap (λ v. Some (c.in-Fork.key, v)) (sym c.replace.ensures.value)
 
+-- a value set at a node is set behind the rows before it
 pub returns-clause-after : goal.returns-clause-after
 returns-clause-after g t c =
     let whole = sym c.self.view_is ∙ ap items_of c.in-Fork.is in
