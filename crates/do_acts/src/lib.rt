@@ -8,6 +8,7 @@
 mod answers;
 mod fault;
 mod limits;
+mod locals;
 mod ports;
 mod rows;
 mod selectors;
@@ -16,6 +17,7 @@ mod steps;
 pub use answers::{answer, send};
 pub use fault::CoreFault;
 pub use limits::is_limited;
+pub use locals::{as_number, local_number, local_text};
 pub use ports::port_in;
 pub use rows::{Row, read_list, read_rows, show_list, show_rows};
 pub use selectors::selector_in;

@@ -1,9 +1,7 @@
 //! The calls of a core, as one type.
 ghost use Rattle.std.specs.Prelude.{◌≡◌, ◌∷◌, List, IfOk, IfErr, OnOk, OnErr, Some};
 ghost use Rattle.std.specs.Option.{option_copied};
-ghost use Rattle.do_base.specs.declared.values.value.Value.TheVariants.{Num};
 ghost use Rattle.do_grammar.specs.Words.{◌>>?◌};
-ghost use Rattle.do_behave.specs.Numbers.{truth};
 ghost use Rattle.do_behave.specs.Steps.{local};
 ghost use Rattle.do_acts.specs.Faults.{FaultOf};
 ghost use Rattle.do_acts.specs.Ports.{port_in};
@@ -14,7 +12,7 @@ ghost use Rattle.do_names.specs.declared.calls.Call.{Call};
 
 use crate::entries::name_in;
 use crate::names::Names;
-use do_acts::{CoreFault, port_in};
+use do_acts::{CoreFault, as_number, port_in};
 use do_base::{Text, Value};
 use do_behave::Invocation;
 use std::alloc::AllocError;
@@ -69,13 +67,6 @@ pub(crate) fn call_in(selector: &Text, inv: &Invocation) -> Result<Option<Call>,
         Some(name) => Ok(call_with(selector, name.clone()?, second_port(inv))),
         None => Ok(None),
     }
-}
-
-/// A truth value as a number.
-fn as_number(is: bool) -> Value
-    ensures { result ≡ Num (truth is) }
-{
-    Value::Num(if is { 1 } else { 0 })
 }
 
 impl Names {

@@ -8,9 +8,8 @@ ghost use Rattle.do_pboard.specs.Acts.{asks, data_places, found_now, look_next, 
 ghost use Rattle.do_pboard.specs.Acts.{looks_again, set};
 
 use crate::board::{Board, BoardData};
-use crate::calls::{local_number, local_text};
 use crate::sets::{ANSWER, caught_to, one_set, two_sets};
-use do_acts::{answer, send, step};
+use do_acts::{answer, local_number, local_text, send, step};
 use do_base::{Text, Value, Values};
 use do_behave::{Change, Invocation, LocalSet, LocalSets, Writes};
 use std::alloc::AllocError;

@@ -1,10 +1,6 @@
 //! The calls of a core, as one type.
 ghost use Rattle.std.specs.Prelude.{◌≡◌, ◌∷◌, List, IfOk, IfErr, OnOk, OnErr, Some, slice_get};
-ghost use Rattle.std.specs.Option.{option_copied};
-ghost use Rattle.do_base.specs.values.Kinds.{text, number};
-ghost use Rattle.do_base.specs.declared.values.value.Value.TheVariants.{Num};
 ghost use Rattle.do_grammar.specs.Words.{◌>>?◌};
-ghost use Rattle.do_behave.specs.Numbers.{truth};
 ghost use Rattle.do_behave.specs.Steps.{local};
 ghost use Rattle.do_acts.specs.Faults.{FaultOf};
 ghost use Rattle.do_acts.specs.Rows.{list_in};
@@ -20,7 +16,7 @@ ghost use Rattle.do_pboard.specs.declared.calls.Call.TheVariants.{Declare};
 use crate::board::Board;
 use crate::parts::owner_in;
 use crate::types::types_in;
-use do_acts::{CoreFault, read_list, show_list};
+use do_acts::{CoreFault, as_number, local_number, local_text, read_list, show_list};
 use do_base::{Oid, Text, Texts, Value};
 use do_behave::Invocation;
 use std::alloc::AllocError;
@@ -69,25 +65,12 @@ pub(crate) fn local_types(inv: &Invocation, k: u8) -> Result<Option<Texts>, Allo
     }
 }
 
-/// The owner that a local names.
-pub(crate) fn local_owner(inv: &Invocation, k: u8) -> Option<Option<Oid>>
+/// The owner that a local names, which may be nil; none where it holds another value, or there is no
+/// such local.
+pub fn local_owner(inv: &Invocation, k: u8) -> Option<Option<Oid>>
     ensures { result ≡ (local inv.now k >>? owner_in) }
 {
     owner_in(inv.local(k)?)
-}
-
-/// The text that a local holds.
-pub(crate) fn local_text(inv: &Invocation, k: u8) -> Option<&Text>
-    ensures { option_copied result ≡ (local inv.now k >>? text) }
-{
-    inv.local(k)?.text()
-}
-
-/// The number that a local holds.
-pub(crate) fn local_number(inv: &Invocation, k: u8) -> Option<i64>
-    ensures { result ≡ (local inv.now k >>? number) }
-{
-    inv.local(k)?.number()
 }
 
 /// The call that adds types.
@@ -159,13 +142,6 @@ pub(crate) fn call_in(selector: &Text, inv: &Invocation) -> Result<Option<Call>,
         return Ok(Some(Call::ChangeCount));
     }
     Ok(None)
-}
-
-/// A truth value as a number.
-fn as_number(is: bool) -> Value
-    ensures { result ≡ Num (truth is) }
-{
-    Value::Num(if is { 1 } else { 0 })
 }
 
 /// The first of these texts that is a declared type, or nil.

@@ -22,6 +22,6 @@ mod types;
 
 pub use acts::PasteboardServer;
 pub use board::{Board, BoardData};
-pub use calls::Call;
+pub use calls::{Call, local_owner};
 pub use parts::owner_in;
 pub use types::{are_types, types_in};

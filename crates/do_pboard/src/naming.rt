@@ -11,10 +11,9 @@ ghost use Rattle.do_pboard.specs.Acts.{makes_next, name_next, name_places, names
 ghost use Rattle.do_pboard.specs.Changes.{keeps};
 
 use crate::board::Board;
-use crate::calls::local_text;
 use crate::sets::{ANSWER, one_set, two_sets};
 use crate::slots::boards_slot;
-use do_acts::{CoreFault, answer, changes, is_limited, step};
+use do_acts::{CoreFault, answer, changes, is_limited, local_text, step};
 use do_base::{Exc, Oid, Text, Value, Values};
 use do_behave::{Act, Change, Invocation, Writes};
 use std::alloc::AllocError;

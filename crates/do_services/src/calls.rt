@@ -1,13 +1,9 @@
 //! The calls of a core, as one type.
 ghost use Rattle.std.specs.Prelude.{◌≡◌, ◌∷◌, List, IfOk, IfErr, OnOk, OnErr, Some, None, codes};
 ghost use Rattle.std.specs.Option.{option_copied};
-ghost use Rattle.do_base.specs.values.Kinds.{text};
-ghost use Rattle.do_base.specs.declared.values.value.Value.TheVariants.{Num};
 ghost use Rattle.do_grammar.specs.Words.{◌>>?◌};
-ghost use Rattle.do_behave.specs.Numbers.{truth};
 ghost use Rattle.do_behave.specs.Steps.{local};
 ghost use Rattle.do_acts.specs.Faults.{FaultOf};
-ghost use Rattle.do_pboard.specs.Core.{owner_in};
 ghost use Rattle.do_services.specs.Calls.{IsCall, call_in, does, row_or_nil};
 ghost use Rattle.do_services.specs.Core.{service_in};
 ghost use Rattle.do_services.specs.History.{after};
@@ -16,10 +12,9 @@ ghost use Rattle.do_services.specs.declared.calls.Call.TheVariants.{Add};
 
 use crate::service::Service;
 use crate::services::Services;
-use do_acts::{CoreFault, Row, show_list};
-use do_base::{Oid, Text, Value};
+use do_acts::{CoreFault, Row, as_number, local_text, show_list};
+use do_base::{Text, Value};
 use do_behave::Invocation;
-use do_pboard::owner_in;
 use std::alloc::AllocError;
 
 /// A call of a core.
@@ -43,20 +38,6 @@ pub(crate) fn local_service(inv: &Invocation, k: u8) -> Result<Option<Service>, 
         Some(value) => Service::read(value),
         None => Ok(None),
     }
-}
-
-/// The text that a local holds.
-pub(crate) fn local_text(inv: &Invocation, k: u8) -> Option<&Text>
-    ensures { option_copied result ≡ (local inv.now k >>? text) }
-{
-    inv.local(k)?.text()
-}
-
-/// The object that a local names, or nil.
-pub(crate) fn local_owner(inv: &Invocation, k: u8) -> Option<Option<Oid>>
-    ensures { result ≡ (local inv.now k >>? owner_in) }
-{
-    owner_in(inv.local(k)?)
 }
 
 /// The call that adds the service of the first argument.
@@ -97,13 +78,6 @@ pub(crate) fn call_in(selector: &Text, inv: &Invocation) -> Result<Option<Call>,
         };
     }
     Ok(None)
-}
-
-/// A truth value as a number.
-pub(crate) fn as_number(is: bool) -> Value
-    ensures { result ≡ Num (truth is) }
-{
-    Value::Num(if is { 1 } else { 0 })
 }
 
 /// A service as a value, or nil for none.

@@ -12,13 +12,13 @@ ghost use Rattle.do_services.specs.Acts.{has_type, keeps_on, perform_next, perfo
 ghost use Rattle.do_services.specs.Acts.{performs, was_performed, was_raised};
 
 use crate::asking::{asks_provider, asks_root, asks_type};
-use crate::calls::{as_number, local_owner, local_text};
 use crate::locals::{ANSWER, BOARD, CAUGHT, ERROR, ITEM, KIND, SERVICE};
 use crate::service::Service;
 use crate::services::Services;
-use do_acts::{Row, answer, step};
+use do_acts::{Row, answer, as_number, local_text, step};
 use do_base::{Text, Value, Values};
 use do_behave::{Change, Handler, Invocation, LocalSet, LocalSets, Writes};
+use do_pboard::local_owner;
 use std::alloc::AllocError;
 
 /// Goes on at a place with these locals set, and the handler as it is.
