@@ -1,0 +1,193 @@
+-- What the effects of a node keep: what it stores, and that it is sound.
+use Rattle.std.proofs.Common.{◌≡◌, ◌⊎◌, ◌<◌, ◌≤◌, ◌+◌, ◌==◌, ℕ, Bool, true, false, cond, List, []}
+use Rattle.std.proofs.Common.{◌∷◌, length, refl, sym, ap, ◌∙◌, subst, arith, inl, inr}
+use Rattle.std.specs.Prelude.{None, Option, Some}
+use Rattle.do_behave.specs.declared.act.Write.{Write}
+use Rattle.do_behave.specs.declared.invocation.Invocation.{Invocation}
+use Rattle.do_class.specs.declared.ids.ClassId.{ClassId}
+use Rattle.do_packet.specs.declared.receipt.Made.{Made}
+use Rattle.do_machine.specs.declared.node.Node.{Node}
+use Rattle.do_machine.specs.declared.node.Stored.{Stored}
+use Rattle.do_machine.specs.declared.state.Effect.{Effect}
+use Rattle.do_machine.specs.State.{stored}
+use Rattle.do_machine.specs.Effect.{each}
+use Rattle.do_machine.specs.held.Leaving.{leaving}
+use Rattle.do_machine.specs.run.Changes.{with_writes}
+use Rattle.do_machine.specs.run.Fresh.{with_objects, with_serials}
+use Rattle.do_objects.specs.OwnClass.{HaveOwnMethods, IsSound, WasMadeOf}
+use Rattle.do_objects.proofs.Finding.{AreFewer, absent, each_of, fewer_left, found_behind}
+use Rattle.do_objects.proofs.Finding.{found_first}
+use Rattle.do_objects.proofs.Finding.{none_more, not_new}
+
+-- A node after an effect: what it stored is there with these writes, what it did not store is not
+-- there but under a new serial, and it is sound if it was
+pub record Keeps (writes : ℕ → List Write) (n m : Node) : Type 0 where
+  pub kept : (k : ℕ) (x : Stored) → stored k n.heap ≡ Some x →
+      stored k m.heap ≡ Some (with_writes (writes k) x)
+  pub gone : (k : ℕ) → (k < n.next_serial) ⊎ (m.next_serial ≤ k) → stored k n.heap ≡ None →
+      stored k m.heap ≡ None
+  pub next : n.next_serial ≤ m.next_serial
+  pub sound : IsSound n → IsSound m
+
+-- nothing is written
+abbrev pub none : ℕ → List Write
+none k = []
+
+-- what is kept with some writes is kept with equal ones
+pub same_writes : (n m : Node) (writes others : ℕ → List Write) →
+    ((k : ℕ) → others k ≡ writes k) → Keeps writes n m → Keeps others n m
+same_writes n m writes others e h = record {
+  kept = λ k x there. h.kept k x there ∙ ap (λ ws. Some (with_writes ws x)) (sym (e k));
+  gone = h.gone;
+  next = h.next;
+  sound = h.sound;
+}
+
+-- a node with the same objects, on whose stack invocations have their own methods
+pub restacked : (n m : Node) → m.heap ≡ n.heap → m.next_serial ≡ n.next_serial →
+    (IsSound n → HaveOwnMethods n m.stack) → Keeps none n m
+restacked n m heap next methods = record {
+  kept = λ k x h. ap (stored k) heap ∙ h;
+  gone = λ k new h. ap (stored k) heap ∙ h;
+  next = omega arith;
+  sound = λ s. record {
+    given = λ k h. ap (stored k) heap ∙ s.given k (omega arith);
+    invocations =
+        each_of (λ (i : Invocation). WasMadeOf n i.object.serial i.method.class)
+        (λ (i : Invocation). WasMadeOf m i.object.serial i.method.class)
+        (λ i made. (
+          omega (arith, made.0),
+          λ x h. made.1 x (ap (stored i.object.serial) (sym heap) ∙ h),
+        ))
+        m.stack (methods s);
+  };
+}
+
+-- a node with the same objects and the same stack
+pub same : (n m : Node) → m.heap ≡ n.heap → m.next_serial ≡ n.next_serial →
+    m.stack ≡ n.stack → Keeps none n m
+same n m heap next stack =
+    restacked n m heap next (λ s. subst (HaveOwnMethods n) (sym stack) s.invocations)
+
+-- one effect after another
+pub then_keeps : (n m l : Node) → Keeps none n m → Keeps none m l → Keeps none n l
+then_keeps n m l a b = record {
+  kept = λ k x h. b.kept k x (a.kept k x h);
+  gone = λ k new h. by k new (a.gone k (first k new) h);
+  next = omega (arith, a.next, b.next);
+  sound = λ s. b.sound (a.sound s);
+}
+  where
+    first : (k : ℕ) → (k < n.next_serial) ⊎ (l.next_serial ≤ k) →
+        (k < n.next_serial) ⊎ (m.next_serial ≤ k)
+    first k (inl h) = inl h
+    first k (inr h) = inr (omega (arith, h, b.next))
+
+    by : (k : ℕ) → (k < n.next_serial) ⊎ (l.next_serial ≤ k) → stored k m.heap ≡ None →
+        stored k l.heap ≡ None
+    by k (inl h) e = b.gone k (inl (omega (arith, h, a.next))) e
+    by k (inr h) e = b.gone k (inr h) e
+
+-- whichever of two effects comes
+pub by_if : (n : Node) (b : Bool) (e d : Effect) → Keeps none n e.node → Keeps none n d.node →
+    Keeps none n (cond b e d).node
+by_if n true e d x y = x
+by_if n false e d x y = y
+
+-- an effect for each element of a list
+pub by_each : {X : Type 0} (f : X → Node → Effect) →
+    ((x : X) (n : Node) → Keeps none n (f x n).node) → (xs : List X) (n : Node) →
+    Keeps none n (each f xs n).node
+by_each f h [] n = same n n refl refl refl
+by_each f h (x ∷ xs) n = then_keeps n (f x n).node _ (h x n) (by_each f h xs (f x n).node)
+
+module _ (n : Node) (new : List Made) where
+  -- under an old serial, and behind the new ones, there is what was there
+  old : (k : ℕ) → (k < n.next_serial) ⊎ (n.next_serial + length new ≤ k) →
+      stored k n.heap ≡ None → stored k (with_objects new n).heap ≡ None
+  old k h e =
+      found_behind (λ x. x.serial == k) n.heap (with_serials n.next_serial new) e
+      ∙ not_new k n.next_serial new h
+
+  -- what was made is of its class also among new objects
+  still_made : (serial : ℕ) (class : ClassId) → WasMadeOf n serial class →
+      WasMadeOf (with_objects new n) serial class
+  still_made serial class made =
+      (omega (arith, made.0), λ x h. by x h (stored serial n.heap) refl)
+    where
+      by : (x : Stored) → stored serial (with_objects new n).heap ≡ Some x →
+          (found : Option Stored) → stored serial n.heap ≡ found → x.class ≡ class
+      by x h None e = absurd (absent x _ h (old serial (inl made.0) e))
+      by x h (Some y) e =
+          let there = found_first (λ z. z.serial == serial) n.heap
+          (with_serials n.next_serial new) y e in
+          let is : y ≡ x = cc (there, h) in
+          ap (λ z. z.class) (sym is) ∙ made.1 y e
+
+  -- a node with new objects
+  pub makes : Keeps none n (with_objects new n)
+  makes = record {
+    kept = λ k x h.
+        found_first (λ z. z.serial == k) n.heap (with_serials n.next_serial new) x h;
+    gone = old;
+    next = omega arith;
+    sound = λ s. record {
+      given = λ k h. old k (inr h) (s.given k (omega (arith, h)));
+      invocations =
+          each_of (λ (i : Invocation). WasMadeOf n i.object.serial i.method.class)
+          (λ (i : Invocation). WasMadeOf (with_objects new n) i.object.serial i.method.class)
+          (λ i made. still_made i.object.serial i.method.class made) n.stack s.invocations;
+    };
+  }
+
+-- A node after a step: what it stores was there, with these writes, or has a new serial, and it is
+-- sound if it was
+pub record Became (writes : ℕ → List Write) (n m : Node) : Type 0 where
+  pub kept : (k : ℕ) (x y : Stored) → stored k n.heap ≡ Some x → stored k m.heap ≡ Some y →
+      y ≡ with_writes (writes k) x
+  pub gone : (k : ℕ) → k < n.next_serial → stored k n.heap ≡ None → stored k m.heap ≡ None
+  pub next : n.next_serial ≤ m.next_serial
+  pub sound : IsSound n → IsSound m
+
+-- a node that does nothing
+pub stayed : (n : Node) (writes : ℕ → List Write) → ((k : ℕ) → writes k ≡ []) →
+    Became writes n n
+stayed n writes quiet = record {
+  kept = λ k x y h q.
+      let is : y ≡ x = cc (h, q) in
+      is ∙ ap (λ ws. with_writes ws x) (sym (quiet k));
+  gone = λ k old h. h;
+  next = omega arith;
+  sound = λ s. s;
+}
+
+module _ (entry : ℕ → ℕ → Bool) (n : Node) where
+  -- what a node leaves is what it stored, or less
+  fewer : AreFewer (leaving entry n).node.heap n.heap
+  fewer = fewer_left (length n.heap) entry n n.heap
+
+  -- a node that left what nothing holds is sound, if it was
+  sound_left : IsSound n → IsSound (leaving entry n).node
+  sound_left s = record {
+    given = λ k h. none_more (leaving entry n).node.heap n.heap fewer k (s.given k h);
+    invocations =
+        each_of (λ (i : Invocation). WasMadeOf n i.object.serial i.method.class)
+        (λ (i : Invocation). WasMadeOf (leaving entry n).node i.object.serial i.method.class)
+        (λ i made. (made.0, λ x h. made.1 x (fewer.found i.object.serial x h)))
+        n.stack s.invocations;
+  }
+
+-- an effect, and then the node leaves what nothing holds
+pub became : (writes : ℕ → List Write) (entry : ℕ → ℕ → Bool) (n m : Node) → Keeps writes n m →
+    Became writes n (leaving entry m).node
+became writes entry n m h = record {
+  kept = λ k x y there found.
+      let now = (fewer entry m).found k y found in
+      let was = h.kept k x there in
+      cc (now, was);
+  gone = λ k old q.
+      none_more (leaving entry m).node.heap m.heap (fewer entry m) k
+      (h.gone k (inl old) q);
+  next = h.next;
+  sound = λ s. sound_left entry m (h.sound s);
+}

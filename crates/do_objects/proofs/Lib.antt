@@ -1,0 +1,12 @@
+pub mod Finding
+mod Kept
+mod Small
+pub mod Methods
+mod Chains
+pub mod Rules
+pub mod Delivered
+pub mod Verdicts
+mod Runs
+mod Taken
+pub mod Steps
+pub mod Sound

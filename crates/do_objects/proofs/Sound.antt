@@ -1,0 +1,126 @@
+-- Nodes open sound and stay so, slots are written by own acts, and freed objects do not return.
+use Rattle.std.proofs.Common.{◌≡◌, ◌∙◌, ◌==◌, ◌<◌, ℕ, Bool, true, false, cond, List, [], ◌∷◌}
+use Rattle.std.proofs.Common.{map, refl, sym, ap, subst, arith, inr}
+use Rattle.std.specs.Prelude.{None, Option, Some, find, option_and_then, option_map}
+use Rattle.do_base.specs.names.Names.{ObjectName}
+use Rattle.do_base.specs.declared.events.event.Event.{Event}
+use Rattle.do_class.specs.Class.{Class}
+use Rattle.do_behave.specs.declared.act.Write.{Write}
+use Rattle.do_machine.specs.declared.node.Node.{Node}
+use Rattle.do_machine.specs.declared.node.Stored.{Stored}
+use Rattle.do_machine.specs.declared.state.Seat.{Seat}
+use Rattle.do_machine.specs.declared.state.State.{State}
+use Rattle.do_machine.specs.State.{node, stored}
+use Rattle.do_machine.specs.Step.{step}
+use Rattle.do_machine.specs.World.{by_port, opening, opening_node, opening_station}
+use Rattle.do_machine.specs.run.Changes.{with_writes}
+use Rattle.do_machine.specs.run.Fresh.{blank}
+use Rattle.do_machine.specs.run.Run.{Acting}
+use Rattle.do_objects.specs.OwnClass.{AllSound, IsSound}
+use Rattle.do_objects.specs.Reached.{after, object_of, reached}
+use Rattle.do_objects.specs.Writes.{writes_to}
+use Rattle.do_objects.proofs.Finding.{absent, not_new}
+use Rattle.do_objects.proofs.Kept.{Became}
+use Rattle.do_objects.proofs.Steps.{Becomes, by_step, writes_at}
+
+-- what is there is one
+pub there : {X : Type 0} (found : Option X) (x y : X) → found ≡ Some x → found ≡ Some y → x ≡ y
+there found x y h q = cc
+
+-- the node that was there before it became another
+pub was_there : (writes : ℕ → List Write) (was now : Option Node) (m : Node) →
+    Becomes writes was now → now ≡ Some m → (n : Node) × (was ≡ Some n) × Became writes n m
+was_there writes None now m h e = absurd (absent m now e h)
+was_there writes (Some n) now m h e =
+    (n, refl, subst (λ x. Became writes n x) (there now h.0 m h.1 e) h.2)
+
+module _ (table : List Class) (act : Acting) (S : State) (event : Event) where
+  -- the state after the event
+  abbrev T : State
+  T = (step table act S event).state
+
+  -- the node of a port before the event
+  pub before : (port : ℕ) (m : Node) → node T port ≡ Some m →
+      (n : Node) × (node S port ≡ Some n) × Became (writes_at table act S event port) n m
+  before port m h =
+      was_there (writes_at table act S event port) (node S port) (node T port) m
+      (by_step table act S event port) h
+
+  -- sound nodes stay sound
+  pub stays_sound : AllSound S → AllSound T
+  stays_sound s = record {
+    each = λ port m h.
+        let was = before port m h in
+        was.2.sound (s.each port was.0 was.1);
+  }
+
+  -- an object that is stored before and after has the writes of the event
+  pub has_writes : (o : ObjectName) (x y : Stored) → object_of S o ≡ Some x →
+      object_of T o ≡ Some y → y ≡ with_writes (writes_to table act S event o) x
+  has_writes o x y h q = by (node T o.node) refl q
+    where
+      by : (now : Option Node) → node T o.node ≡ now →
+          option_and_then (λ n. stored o.serial n.heap) now ≡ Some y →
+          y ≡ with_writes (writes_to table act S event o) x
+      by None e k = absurd (cc)
+      by (Some m) e k =
+          let was = before o.node m e in
+          was.2.kept o.serial x y
+          (ap (λ found. option_and_then (λ n. stored o.serial n.heap) found) (sym was.1) ∙ h) k
+
+  -- an object that is stored no more, under a serial that was given, is not stored again
+  pub never_returns : (port serial : ℕ) (n m : Node) → node S port ≡ Some n →
+      serial < n.next_serial → stored serial n.heap ≡ None → node T port ≡ Some m →
+      stored serial m.heap ≡ None
+  never_returns port serial n m h old gone q =
+      let was = before port m q in
+      let is : was.0 ≡ n = there (node S port) was.0 n was.1 h in
+      (subst (λ x. Became (writes_at table act S event port) x m) is was.2).gone serial old gone
+
+-- what holds of each node as it opens holds of each of a list of stations that open
+opened : (P : Node → Type 0) (table : List Class) (all : List ℕ) →
+    ((s : Seat) → P (opening_node table all s)) → (seats : List Seat) (port : ℕ) (n : Node) →
+    option_map (λ s. s.node) (find (λ s. port == s.port) (map (opening_station table all) seats))
+    ≡ Some n → P n
+opened P table all holds [] port n h = absurd (cc)
+opened P table all holds (s ∷ seats) port n h =
+    by (port == s.node) (opened P table all holds seats port n) h
+  where
+    by : (b : Bool) →
+        (option_map (λ x. x.node)
+        (find (λ x. port == x.port) (map (opening_station table all) seats)) ≡ Some n → P n) →
+        option_map (λ x. x.node)
+        (cond b (Some (opening_station table all s))
+        (find (λ x. port == x.port) (map (opening_station table all) seats))) ≡ Some n → P n
+    by true k e =
+        subst P (there (Some (opening_node table all s)) (opening_node table all s) n refl e)
+        (holds s)
+    by false k e = k e
+
+-- a machine opens sound
+pub opens_sound : (table : List Class) (seats : List Seat) → AllSound (opening table seats)
+opens_sound table seats = record {
+  each = λ port n h.
+      let sorted = by_port seats in
+      opened IsSound table (map (λ s. s.node) sorted) sound sorted port n h;
+}
+  where
+    sound : (s : Seat) → IsSound (opening_node table (map (λ s. s.node) (by_port seats)) s)
+    sound s = record {
+      given = λ k h. not_new k 1 (blank table s.root ∷ []) (inr (omega arith));
+      invocations = tt;
+    }
+
+-- and stays so
+pub after_sound : (table : List Class) (act : Acting) (S : State) (events : List Event) →
+    AllSound S → AllSound (after table act S events)
+after_sound table act S [] s = s
+after_sound table act S (event ∷ events) s =
+    after_sound table act (step table act S event).state events
+    (stays_sound table act S event s)
+
+-- every state that is reached is sound
+pub reached_sound : (table : List Class) (act : Acting) (seats : List Seat) (events : List Event) →
+    AllSound (reached table act seats events)
+reached_sound table act seats events =
+    after_sound table act (opening table seats) events (opens_sound table seats)

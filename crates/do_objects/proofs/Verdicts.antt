@@ -1,0 +1,210 @@
+-- What a verdict writes, and that its effect keeps what a node stores.
+use Rattle.std.proofs.Common.{◌≡◌, ◌∙◌, ◌⊎◌, ◌<◌, ◌≤◌, ◌==◌, ℕ, Bool, true, false, cond, List}
+use Rattle.std.proofs.Common.{[], ◌∷◌, refl, sym, ap, subst, arith, inl, inr}
+use Rattle.std.specs.Prelude.{None, Option, Some, option_map}
+use Rattle.std.proofs.lemmas.Bool.{cases_lt}
+use Rattle.do_class.specs.declared.ids.ClassId.{ClassId}
+use Rattle.do_behave.specs.declared.act.Write.{Write}
+use Rattle.do_behave.specs.declared.invocation.Answer.{Answer}
+use Rattle.do_behave.specs.declared.invocation.Answer.TheVariants.{Given}
+use Rattle.do_behave.specs.declared.invocation.Invocation.{Invocation}
+use Rattle.do_machine.specs.declared.node.Node.{Node}
+use Rattle.do_machine.specs.declared.node.Stored.{Stored}
+use Rattle.do_machine.specs.declared.verdict.Request.{Request}
+use Rattle.do_machine.specs.declared.verdict.Request.TheVariants as requests
+use Rattle.do_machine.specs.declared.verdict.Verdict.{Verdict}
+use Rattle.do_machine.specs.declared.verdict.Verdict.TheVariants.{Asks, Begins, Fails, Goes, Makes}
+use Rattle.do_machine.specs.declared.verdict.Verdict.TheVariants.{Returns, Says, Steps, Tells, Uses}
+use Rattle.do_machine.specs.declared.verdict.Verdict.TheVariants.{Vends}
+use Rattle.do_machine.specs.Context.{RunContext, own_class}
+use Rattle.do_machine.specs.State.{stored}
+use Rattle.do_machine.specs.lend.Lending.{lends_of}
+use Rattle.do_machine.specs.run.Changes.{with_slots, with_writes}
+use Rattle.do_machine.specs.run.Delivery.{below_answered, popped}
+use Rattle.do_machine.specs.run.Fresh.{blank}
+use Rattle.do_machine.specs.run.Verdicts.{effect_of, requesting}
+use Rattle.do_objects.specs.OwnClass.{HaveOwnMethods, IsSound, WasMadeOf}
+use Rattle.do_objects.proofs.Delivered.{Delivers, by_delivery, by_failing}
+use Rattle.do_objects.proofs.Finding.{absent, each_of, written_at}
+use Rattle.do_objects.proofs.Kept.{Keeps, makes, none, restacked, same_writes, then_keeps}
+use Rattle.do_objects.proofs.Small.{lends}
+
+-- an object that a sound node stores was made, and is of its class
+pub stored_made : (n : Node) (serial : ℕ) (class : ClassId) → IsSound n →
+    own_class n serial ≡ Some class → WasMadeOf n serial class
+stored_made n serial class s h = by (stored serial n.heap) refl h
+  where
+    old : (x : Stored) → stored serial n.heap ≡ Some x →
+        (serial < n.next_serial) ⊎ (n.next_serial ≤ serial) → serial < n.next_serial
+    old x e (inl l) = l
+    old x e (inr l) = absurd (absent x (stored serial n.heap) e (s.given serial l))
+
+    by : (found : Option Stored) → stored serial n.heap ≡ found →
+        option_map (λ x. x.class) found ≡ Some class → WasMadeOf n serial class
+    by None e q = absurd (cc)
+    by (Some x) e q = (
+      old x e (cases_lt serial n.next_serial),
+      λ y there. let is : x ≡ y = cc (e, there) in let of : x.class ≡ class = cc in
+          ap (λ z. z.class) (sym is) ∙ of,
+    )
+
+-- what a verdict writes
+abbrev pub verdict_writes : Verdict → List Write
+verdict_writes (Steps pc locals handler writes) = writes
+verdict_writes _ = []
+
+-- what is begun is a method of the class of a stored object
+abbrev pub BeginsOwn : Node → Verdict → Type 0
+BeginsOwn n (Begins o method values into outs pc) = own_class n o.serial ≡ Some method.class
+BeginsOwn n _ = Unit {0}
+
+-- writes to the object of one serial
+abbrev pub only_to : ℕ → List Write → ℕ → List Write
+only_to serial writes k = cond (serial == k) writes []
+
+-- nothing is written, whatever a test says
+pub nothing : (b : Bool) → ◌≡◌ {A = List Write} (cond b [] []) []
+nothing true = refl
+nothing false = refl
+
+-- an effect that writes nothing to one object
+silent : (n m : Node) (serial : ℕ) → Keeps none n m → Keeps (only_to serial []) n m
+silent n m serial h =
+    same_writes n m none (only_to serial []) (λ k. nothing (serial == k)) h
+
+-- an object with writes, or none
+written_if : (b : Bool) (writes : List Write) (x : Stored) →
+    cond b (with_writes writes x) x ≡ with_writes (cond b writes []) x
+written_if true writes x = refl
+written_if false writes x = refl
+
+-- an object that is written to keeps its class
+same_class : (b : Bool) (writes : List Write) (x : Stored) →
+    (cond b (with_writes writes x) x).class ≡ x.class
+same_class true writes x = refl
+same_class false writes x = refl
+
+module _ (n m : Node) (serial : ℕ) (writes : List Write)
+    (heap : m.heap ≡ (with_slots serial writes n).heap) (next : m.next_serial ≡ n.next_serial)
+    (methods : IsSound n → HaveOwnMethods n m.stack) where
+  -- what is stored once slots of an object were written
+  after_writes : (k : ℕ) → stored k m.heap
+      ≡ option_map (λ x. cond (serial == k) (with_writes writes x) x) (stored k n.heap)
+  after_writes k = ap (stored k) heap ∙ written_at k serial writes n.heap
+
+  -- what was made is of its class also then
+  made_there : (k : ℕ) (class : ClassId) → WasMadeOf n k class → WasMadeOf m k class
+  made_there k class made =
+      (omega (arith, made.0), λ x h. by x (stored k n.heap) refl (sym (after_writes k) ∙ h))
+    where
+      by : (x : Stored) (found : Option Stored) → stored k n.heap ≡ found →
+          option_map (λ y. cond (serial == k) (with_writes writes y) y) found ≡ Some x →
+          x.class ≡ class
+      by x None e h = absurd (cc)
+      by x (Some y) e h =
+          let is : cond (serial == k) (with_writes writes y) y ≡ x = cc in
+          ap (λ z. z.class) (sym is) ∙ (same_class (serial == k) writes y ∙ made.1 y e)
+
+  -- a step that writes slots of an object
+  by_writes : Keeps (only_to serial writes) n m
+  by_writes = record {
+    kept = λ k x e.
+        after_writes k
+        ∙ ap (option_map (λ y. cond (serial == k) (with_writes writes y) y)) e
+        ∙ ap (λ y. Some y) (written_if (serial == k) writes x);
+    gone = λ k new e.
+        after_writes k
+        ∙ ap (option_map (λ y. cond (serial == k) (with_writes writes y) y)) e;
+    next = omega arith;
+    sound = λ s. record {
+      given = λ k h.
+          after_writes k
+          ∙ ap (option_map (λ y. cond (serial == k) (with_writes writes y) y))
+          (s.given k (omega arith));
+      invocations =
+          each_of (λ (i : Invocation). WasMadeOf n i.object.serial i.method.class)
+          (λ (i : Invocation). WasMadeOf m i.object.serial i.method.class)
+          (λ i made. made_there i.object.serial i.method.class made) m.stack (methods s);
+    };
+  }
+
+module _ (r : RunContext) (tied : r.context.node.stack ≡ r.top ∷ r.below) where
+  -- the methods of the invocations on the node's stack
+  methods : IsSound r.context.node → HaveOwnMethods r.context.node (r.top ∷ r.below)
+  methods s = subst (HaveOwnMethods r.context.node) tied s.invocations
+
+  -- the node without its top invocation
+  by_popped : Keeps none r.context.node (popped r)
+  by_popped = restacked r.context.node (popped r) refl refl (λ s. (methods s).1)
+
+  -- the invocation below keeps its method
+  below_methods : (a : Answer) (below : List Invocation) →
+      HaveOwnMethods r.context.node below →
+      HaveOwnMethods r.context.node (below_answered a below)
+  below_methods a [] h = h
+  below_methods a (i ∷ is) h = h
+
+  -- what may come of an answer
+  delivers : Delivers (λ e. Keeps none r.context.node e.node) r
+  delivers = record {
+    dropped = by_popped;
+    shown = λ s. by_popped;
+    raised = λ peer number e. by_popped;
+    replied = λ peer number packet.
+        lends r.context.node (popped r) (lends_of peer packet) by_popped;
+    below = λ a.
+        restacked r.context.node _ refl refl (λ s. below_methods a r.below (methods s).1);
+    caught = λ e h. restacked r.context.node _ refl refl methods;
+  }
+
+  -- a request to a peer
+  by_requesting : (peer number : ℕ) (request : Request) (m : Node) →
+      Keeps none r.context.node m →
+      Keeps none r.context.node (requesting peer number request m).node
+  by_requesting peer number requests.Root m h = h
+  by_requesting peer number (requests.Call method x) m h =
+      lends r.context.node m (lends_of peer x.packet) h
+
+  -- what a verdict writes to the object of the top invocation
+  abbrev WritesOwn : Verdict → Type 0
+  WritesOwn v =
+      Keeps (only_to r.top.object.serial (verdict_writes v)) r.context.node (effect_of r v).node
+
+  -- an effect that leaves the top invocation on the stack, as another
+  on_top : (m : Node) → m.heap ≡ r.context.node.heap →
+      m.next_serial ≡ r.context.node.next_serial →
+      (IsSound r.context.node → HaveOwnMethods r.context.node m.stack) →
+      Keeps (only_to r.top.object.serial []) r.context.node m
+  on_top m heap next own = silent r.context.node m r.top.object.serial
+      (restacked r.context.node m heap next own)
+
+  -- each verdict
+  pub by_verdict : (v : Verdict) → BeginsOwn r.context.node v → WritesOwn v
+  by_verdict (Goes into value pc) own = on_top _ refl refl methods
+  by_verdict (Uses result outs) own = on_top _ refl refl methods
+  by_verdict (Steps pc locals handler writes) own =
+      by_writes r.context.node _ r.top.object.serial writes refl refl methods
+  by_verdict (Makes class into pc) own =
+      silent r.context.node _ r.top.object.serial
+      (then_keeps r.context.node _ _ (restacked r.context.node _ refl refl methods)
+      (makes _ (blank r.context.table class ∷ [])))
+  by_verdict (Vends root pc) own = on_top _ refl refl methods
+  by_verdict (Says value pc) own = on_top _ refl refl methods
+  by_verdict (Asks peer request into outs pc) own =
+      silent r.context.node _ r.top.object.serial
+      (by_requesting peer r.context.node.next_call request _
+      (restacked r.context.node _ refl refl methods))
+  by_verdict (Begins o method values into outs pc) own =
+      on_top _ refl refl
+      (λ s. (stored_made r.context.node o.serial method.class s own, methods s))
+  by_verdict (Tells peer m into pc) own =
+      silent r.context.node _ r.top.object.serial
+      (lends r.context.node _ (lends_of peer m.packet)
+      (restacked r.context.node _ refl refl methods))
+  by_verdict (Returns result outs) own =
+      silent r.context.node _ r.top.object.serial
+      (by_delivery (λ e. Keeps none r.context.node e.node) r delivers (Given result outs)
+      r.top.reason)
+  by_verdict (Fails e) own =
+      silent r.context.node _ r.top.object.serial
+      (by_failing (λ d. Keeps none r.context.node d.node) r delivers e r.top.handler)

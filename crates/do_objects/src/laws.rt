@@ -1,0 +1,44 @@
+ghost use Rattle.std.specs.Prelude.{◌≡◌, ◌<◌, ℕ, List, None, Some};
+ghost use Rattle.do_base.specs.names.Names.{ObjectName};
+ghost use Rattle.do_base.specs.declared.events.event.Event.{Event};
+ghost use Rattle.do_class.specs.Class.{Class};
+ghost use Rattle.do_machine.specs.declared.node.Node.{Node};
+ghost use Rattle.do_machine.specs.declared.node.Stored.{Stored};
+ghost use Rattle.do_machine.specs.declared.state.Seat.{Seat};
+ghost use Rattle.do_machine.specs.declared.state.State.{State};
+ghost use Rattle.do_machine.specs.State.{node, stored};
+ghost use Rattle.do_machine.specs.Step.{step};
+ghost use Rattle.do_machine.specs.World.{opening};
+ghost use Rattle.do_machine.specs.run.Changes.{with_writes};
+ghost use Rattle.do_machine.specs.run.Run.{Acting};
+ghost use Rattle.do_objects.specs.OwnClass.{AllSound};
+ghost use Rattle.do_objects.specs.Reached.{object_of, reached};
+ghost use Rattle.do_objects.specs.Writes.{writes_to};
+
+/// A law alone: an object that is stored before an event and after it is the same but for what the
+/// event writes to it, which is nothing, or what the running act of an invocation of it writes.
+pub fn slots_are_written_by_own_acts()
+    ensures { (table : List Class) (act : Acting) (S : State) (event : Event) (o : ObjectName)
+        (x y : Stored) → object_of S o ≡ Some x →
+        object_of (step table act S event).state o ≡ Some y →
+        y ≡ with_writes (writes_to table act S event o) x }
+{}
+
+/// A law alone: where a node gave a serial and stores no object of it any more, it stores none
+/// after any event.
+pub fn freed_objects_never_return()
+    ensures { (table : List Class) (act : Acting) (S : State) (event : Event) (port serial : ℕ)
+        (n m : Node) → node S port ≡ Some n → serial < n.next_serial →
+        stored serial n.heap ≡ None → node (step table act S event).state port ≡ Some m →
+        stored serial m.heap ≡ None }
+{}
+
+/// A law alone: in every state that a schedule comes to, each invocation is of an object that its
+/// node made, and runs a method of the class that this has as long as it is stored.
+pub fn invocations_run_own_methods()
+    ensures opening { (table : List Class) (seats : List Seat) → AllSound (opening table seats) }
+    ensures steps { (table : List Class) (act : Acting) (S : State) (event : Event) →
+        AllSound S → AllSound (step table act S event).state }
+    ensures schedules { (table : List Class) (act : Acting) (seats : List Seat)
+        (events : List Event) → AllSound (reached table act seats events) }
+{}
