@@ -1,0 +1,3 @@
+mod Targets
+mod Sent
+mod Passed
