@@ -19,7 +19,9 @@ use Rattle.do_machine.specs.Objects.{object_at}
 use Rattle.do_machine.specs.State.{holds, is_open, node, own, queue}
 use Rattle.do_machine.specs.held.Kept.{is_held_up, is_root, kept, stays, struck, struck_by}
 use Rattle.do_machine.specs.held.Refers.{heap_objects, stack_objects}
+use Rattle.do_rules.proofs.Exports.{all_exports, all_releases}
 use Rattle.do_rules.proofs.Striking.{round_last}
+use Rattle.do_rules.specs.Exporting.{exports_of, releases_of}
 use Rattle.do_rules.specs.HeldUp.{entered, held_of, held_up, named_by, stays_by}
 use Rattle.do_rules.specs.Judged.{entry_in}
 
@@ -31,34 +33,24 @@ any_flat f (x ∷ xs) o =
     list_any-append (same_object o) (f x) (flat_map f xs)
     ∙ ap (λ b. has_object (f x) o || b) (any_flat f xs o)
 
-any_named : (f : Item → List ObjectName) (m : Option (List Item)) (o : ObjectName) →
-    has_object (named_by f m) o ≡ some_passes (list_any (λ item. has_object (f item) o)) m
-any_named f None o = refl
-any_named f (Some is) o = any_flat f is o
+-- an object is among those that queued items name in a way where one item names it so
+any_named : (f g : Item → List ObjectName) → ((item : Item) → f item ≡ g item) →
+    (m : Option (List Item)) (o : ObjectName) →
+    has_object (named_by f m) o ≡ some_passes (list_any (λ item. has_object (g item) o)) m
+any_named f g same None o = refl
+any_named f g same (Some is) o =
+    any_flat f is o
+    ∙ ap (λ t. list_any t is) (fun_ext (λ item. ap (λ os. has_object os o) (same item)))
 
--- objects of other homes make no difference to one of a home
-own_held : (home serial : ℕ) (os : List ObjectName) →
-    has_object (filter (λ o. home == o.node) os) (object_at home serial)
-    ≡ has_object os (object_at home serial)
-own_held home serial [] = refl
-own_held home serial (p ∷ os) =
-    let rest = own_held home serial os in
-    elim (home == p.node) as (λ b. (home == p.node) ≡ b →
-    has_object (cond b (p ∷ filter (λ o. home == o.node) os) (filter (λ o. home == o.node) os))
-    (object_at home serial)
-    ≡ ((b && (serial == p.serial)) || has_object os (object_at home serial))) [
-      | true ↦ λ e. rw e (ap (λ b. (serial == p.serial) || b) rest)
-      | false ↦ λ e. rest
-    ] refl
-
+-- an object of a home is among those that a peer holds over an open end where the peer holds it
 held_is : (home serial : ℕ) (m : Option Node) → has_object (held_of home m) (object_at home serial)
     ≡ some_passes (is_holder (object_at home serial)) m
 held_is home serial None = refl
 held_is home serial (Some n) =
     elim (is_open n home) as (λ b.
-    has_object (cond b (filter (λ o. home == o.node) n.held) []) (object_at home serial)
+    has_object (cond b n.held []) (object_at home serial)
     ≡ (b && holds n (object_at home serial))) [
-      | true ↦ own_held home serial n.held
+      | true ↦ refl
       | false ↦ refl
     ]
 
@@ -73,8 +65,8 @@ entered_is : (S : State) (home peer serial : ℕ) →
 entered_is S home peer serial =
     let o : ObjectName = object_at home serial in
     let held : List ObjectName = held_of home (node S peer) in
-    let going : List ObjectName = named_by (exported home peer) (queue S home peer) in
-    let coming : List ObjectName = named_by (released peer home) (queue S peer home) in
+    let going : List ObjectName = named_by (exports_of home) (queue S home peer) in
+    let coming : List ObjectName = named_by (releases_of home) (queue S peer home) in
     elim (some_passes (λ n. is_open n peer) (node S home)) as (λ b.
     has_object (cond b (held ++ (going ++ coming)) []) o
     ≡ (b && (some_passes (is_holder o) (node S peer)
@@ -85,20 +77,22 @@ entered_is S home peer serial =
           ∙ ap (λ b. some_passes (is_holder o) (node S peer) || b)
           (list_any-append (same_object o) going coming
           ∙ ap (λ b. b || has_object coming o)
-          (any_named (exported home peer) (queue S home peer) o)
+          (any_named (exports_of home) (exported home peer) (all_exports home peer)
+          (queue S home peer) o)
           ∙ ap (λ b. is_under_way S peer o || b)
-          (any_named (released peer home) (queue S peer home) o))
+          (any_named (releases_of home) (released peer home) (all_releases peer home)
+          (queue S peer home) o))
           ∙ or_assoc (some_passes (is_holder o) (node S peer)) (is_under_way S peer o)
           (is_on_its_way_back S peer o)
       | false ↦ refl
     ]
 
 -- so it is asked of the list
-pub entry_is : (S : State) (peer : ℕ) (o : ObjectName) (os : List ObjectName) →
-    os ≡ entered S o.node peer → has_object os o ≡ has_entry S peer o
-entry_is S peer o os is = ap (λ ps. has_object ps o) is ∙ entered_is S o.node peer o.serial
-
-pub ruleset entry_steps = (entry_is)
+pub entry_is : (S : State) (peer : ℕ) (o : ObjectName) (home : ℕ) (os : List ObjectName) →
+    home ≡ o.node → os ≡ entered S home peer → has_object os o ≡ has_entry S peer o
+entry_is S peer o home os same is =
+    ap (λ ps. has_object ps o) (is ∙ ap (λ port. entered S port peer) same)
+    ∙ entered_is S o.node peer o.serial
 
 -- an own object is the root or among those held up where it is held up beside slots
 held_up_is : (S : State) (n : Node) (serial : ℕ) →

@@ -15,5 +15,5 @@ call_of k = record { peer = k.peer; number = k.number; root = k.root }
 
 -- what came, as an answer to what was asked for
 abbrev pub answer_by : List Class → Came → Waited → Answer
-answer_by table (cames.Values vs) what = values_answer table vs what
-answer_by table (cames.Raised e) what = Raised e
+answer_by table (cames.Values vs) what = values_answer table vs.now what
+answer_by table (cames.Raised e) what = Raised e.now

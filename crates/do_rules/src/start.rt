@@ -1,26 +1,25 @@
 //! How a node is started.
 ghost use Rattle.std.specs.Prelude.{◌≡◌, IfOk};
-ghost use Rattle.do_machine.specs.Start.{begun, start_effect};
+ghost use Rattle.do_machine.specs.Start.{start_effect};
 
-use crate::effect::only;
 use crate::node::methods::method_for;
 use crate::node::{own, own_class};
-use crate::run::fresh::{fresh, pushed};
+use crate::run::fresh::beginning;
 use do_base::{Text, Values};
-use do_behave::{Invocation, Reason};
+use do_behave::Reason;
 use do_class::ClassTable;
 use do_machine::{Effect, Node};
 use std::alloc::AllocError;
 
-/// The invocation that a start begins: the node is idle, its root has the method, and the values
-/// fit.
-fn begun(
+/// What a start does, where it is enabled: the node is idle, its root has the method, and the
+/// values fit.
+pub fn start_effect(
     table: &ClassTable,
     selector: &Text,
     values: &Values,
     node: &Node,
-) -> Result<Option<Invocation>, AllocError>
-    ensures { IfOk result (λ i. i ≡ begun table.now selector.now values.now node.now) }
+) -> Result<Option<Effect>, AllocError>
+    ensures { IfOk result (λ e. e ≡ start_effect table.now selector.now values.now node.now) }
 {
     if node.stack.len() != 0 {
         return Ok(None);
@@ -34,20 +33,7 @@ fn begun(
     if !method.signature.args_fit(values) {
         return Ok(None);
     }
-    Ok(Some(fresh(own(node, root), method.id, Reason::Start, values)?))
-}
-
-/// What a start does, where it is enabled.
-pub fn start_effect(
-    table: &ClassTable,
-    selector: &Text,
-    values: &Values,
-    node: &Node,
-) -> Result<Option<Effect>, AllocError>
-    ensures { IfOk result (λ e. e ≡ start_effect table.now selector.now values.now node.now) }
-{
-    match begun(table, selector, values, node)? {
-        Some(begun) => Ok(Some(only(pushed(begun, node.clone()?)?))),
-        None => Ok(None),
-    }
+    let (object, after) = (own(node, root), node.clone()?);
+    let effect = beginning(object, method.id, Reason::Start, values, after)?;
+    Ok(Some(effect))
 }

@@ -1,10 +1,13 @@
 //! How a node closes its end of the connection to a peer.
-ghost use Rattle.std.specs.Prelude.{◌≡◌, ◌==◌, IfOk, filter, map, not};
+ghost use Rattle.std.specs.Prelude.{◌≡◌, ◌==◌, IfOk, OnOk, filter, map, not};
 ghost use Rattle.do_machine.specs.ends.Closing.{asked_of, closing, died, parted, serials_of};
 ghost use Rattle.do_machine.specs.ends.Closing.{without_answer};
+ghost use Rattle.do_machine.specs.Effect.{queueing};
+ghost use Rattle.do_machine.specs.declared.item.Item.TheVariants.{End};
 
 use crate::effect::{after, queueing};
 use crate::lend::asking::all_settling;
+use crate::run::changes::with_state;
 use do_base::{Exc, Items, NodeId, Oids, Peers};
 use do_behave::{Answer, InvState, Invocation};
 use do_machine::{Effect, Item, LateCall, Lends, Node, Wanted};
@@ -53,9 +56,7 @@ fn died(peer: NodeId, state: &InvState) -> Result<InvState, AllocError>
 fn without_answer(peer: NodeId, invocation: &Invocation) -> Result<Invocation, AllocError>
     ensures { IfOk result (λ i. i ≡ without_answer peer invocation.now) }
 {
-    let mut next = invocation.clone()?;
-    next.state = died(peer, &invocation.state)?;
-    Ok(next)
+    with_state(invocation, died(peer, &invocation.state)?)
 }
 
 /// Invocations that lose a peer.
@@ -134,24 +135,42 @@ fn late_but(peer: NodeId, late: &Items<LateCall>) -> Result<Items<LateCall>, All
     Ok(others)
 }
 
+/// Takes from a node its end towards the peer, and the objects held, lent and asked for over it.
+fn part_ends(peer: NodeId, node: &mut Node) -> Result<(), AllocError>
+    ensures { OnOk result (node.new ≡ record node.old {
+      open_to = filter (λ p. not (p == peer)) node.old.open_to;
+      held = filter (λ o. not (o.node == peer)) node.old.held;
+      lent = filter (λ l. not (l.borrower == peer)) node.old.lent;
+      asked = filter (λ w. not (w.object.node == peer)) node.old.asked;
+    }) }
+{
+    node.open_to = ends_but(peer, &node.open_to)?;
+    node.held = held_but(peer, &node.held)?;
+    node.lent = lent_but(peer, &node.lent)?;
+    node.asked = asked_but(peer, &node.asked)?;
+    Ok(())
+}
+
+/// Takes from a node its calls to the peer: those that wait for it are answered.
+fn part_calls(peer: NodeId, node: &mut Node) -> Result<(), AllocError>
+    ensures { OnOk result (node.new ≡ record node.old {
+      stack = map (without_answer peer) node.old.stack;
+      late = filter (λ c. not (c.peer == peer)) node.old.late;
+    }) }
+{
+    node.stack = stack_without(peer, &node.stack)?;
+    node.late = late_but(peer, &node.late)?;
+    Ok(())
+}
+
 /// The node without what it had with the peer: objects held, lends, asks, late calls and calls.
 fn parted(peer: NodeId, node: &Node) -> Result<Node, AllocError>
     ensures { IfOk result (λ n. n ≡ parted peer node.now) }
 {
-    Ok(Node {
-        port: node.port,
-        heap: node.heap.clone()?,
-        root: node.root,
-        stack: stack_without(peer, &node.stack)?,
-        next_serial: node.next_serial,
-        next_call: node.next_call,
-        next_token: node.next_token,
-        open_to: ends_but(peer, &node.open_to)?,
-        held: held_but(peer, &node.held)?,
-        lent: lent_but(peer, &node.lent)?,
-        asked: asked_but(peer, &node.asked)?,
-        late: late_but(peer, &node.late)?,
-    })
+    let mut after = node.clone()?;
+    part_ends(peer, &mut after)?;
+    part_calls(peer, &mut after)?;
+    Ok(after)
 }
 
 /// The asks that a peer was to answer.
@@ -167,14 +186,22 @@ fn asked_of(peer: NodeId, node: &Node) -> Result<Items<Wanted>, AllocError>
     Ok(asks)
 }
 
+/// The peer is told which of its objects are no longer held.
+fn ending(peer: NodeId, held: &Oids, node: Node) -> Result<Effect, AllocError>
+    ensures { IfOk result (λ e. e ≡ queueing peer (End (serials_of peer held.now)) node) }
+{
+    let serials = serials_of(peer, held)?;
+    queueing(peer, Item::End { serials }, node)
+}
+
 /// The peer is told which of its objects are no longer held, and the lenders of those asked for
 /// that their lends are over.
 pub fn closing(peer: NodeId, node: &Node) -> Result<Effect, AllocError>
     ensures { IfOk result (λ e. e ≡ closing peer node.now) }
 {
-    let serials = serials_of(peer, &node.held)?;
-    let first = queueing(peer, Item::End { serials }, parted(peer, node)?)?;
     let asks = asked_of(peer, node)?;
+    let after_end = parted(peer, node)?;
+    let first = ending(peer, &node.held, after_end)?;
     let Effect { node, sent, shown } = first;
     after(sent, shown, all_settling(asks.as_slice(), node)?)
 }

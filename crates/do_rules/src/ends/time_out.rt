@@ -1,5 +1,6 @@
 //! How a call is given up.
 ghost use Rattle.std.specs.Prelude.{◌≡◌, ◌<◌, IfOk, IfSome, length, position};
+ghost use Rattle.do_machine.specs.Lists.{inserted};
 ghost use Rattle.do_machine.specs.ends.TimeOut.{give_up, late_lt, time_out, with_late};
 
 use crate::effect::only;
@@ -28,13 +29,21 @@ fn place_of(late: &Items<LateCall>, call: &LateCall) -> Option<usize>
         .position(|other| is_before(call, other))
 }
 
+/// Late calls and one more.
+fn late_and(late: &Items<LateCall>, call: LateCall) -> Result<Items<LateCall>, AllocError>
+    ensures { IfOk result (λ cs. cs ≡ inserted late_lt call late.now) }
+{
+    let at = place_of(late, &call);
+    put_at(late.clone()?, at, call)
+}
+
 /// The node with a call more whose answer comes late.
 fn with_late(call: LateCall, node: Node) -> Result<Node, AllocError>
     ensures { IfOk result (λ n. n ≡ with_late call node) }
 {
+    let late = late_and(&node.late, call)?;
     let mut node = node;
-    let at = place_of(&node.late, &call);
-    node.late = put_at(node.late.clone()?, at, call)?;
+    node.late = late;
     Ok(node)
 }
 

@@ -3,12 +3,12 @@
 ghost use Rattle.std.specs.Prelude.{◌≡◌, IfOk};
 ghost use Rattle.std.specs.List.{flat_map};
 ghost use Rattle.do_machine.specs.Entry.{has_entry};
-ghost use Rattle.do_machine.specs.Items.{exported, released};
 ghost use Rattle.do_machine.specs.Lists.{some_passes};
 ghost use Rattle.do_machine.specs.State.{is_open, node, queue};
+ghost use Rattle.do_rules.specs.Exporting.{exports_of, releases_of};
 ghost use Rattle.do_rules.specs.HeldUp.{entered, held_of, held_up, named_by};
 
-use crate::node::naming::{exported, released};
+use crate::node::naming::{exports_of, releases_of};
 use crate::node::objects::stack_objects;
 use crate::node::{has_object, is_open};
 use crate::state::{node_at, queue};
@@ -16,7 +16,7 @@ use do_base::{Items, NodeId, Oid, Oids};
 use do_machine::{Item, Node, Shared, State};
 use std::alloc::{AllocError, Global};
 
-/// The objects of a home that a peer holds over an open end.
+/// The objects that a peer holds, where its end towards a home is open.
 fn held_at(alloc: Global, state: &State, home: NodeId, peer: NodeId) -> Result<Oids, AllocError>
     ensures { IfOk result (λ os. os ≡ held_of home (node state.now peer)) }
 {
@@ -26,53 +26,47 @@ fn held_at(alloc: Global, state: &State, home: NodeId, peer: NodeId) -> Result<O
     if !is_open(holder, home) {
         return Ok(Oids::new(alloc));
     }
-    let held = holder
-        .held
-        .as_slice()
-        .iter()
-        .copied()
-        .filter(|object| home == object.node);
-    Ok(Oids::from_vec(held.collect(alloc)?))
+    holder.held.clone()
 }
 
 /// The objects of their sender that items export.
-fn all_exported(from: NodeId, to: NodeId, items: &Items<Shared<Item>>) -> Result<Oids, AllocError>
-    ensures { IfOk result (λ os. os ≡ flat_map (exported from to) items.now) }
+fn all_exported(from: NodeId, items: &Items<Shared<Item>>) -> Result<Oids, AllocError>
+    ensures { IfOk result (λ os. os ≡ flat_map (exports_of from) items.now) }
 {
     let mut objects = Oids::new(items.allocator());
     for item in items.as_slice() {
-        objects.append(exported(items.allocator(), from, to, item.get())?)?;
+        objects.append(exports_of(items.allocator(), from, item.get())?)?;
     }
     Ok(objects)
 }
 
 /// The objects of their receiver that items release.
-fn all_released(from: NodeId, to: NodeId, items: &Items<Shared<Item>>) -> Result<Oids, AllocError>
-    ensures { IfOk result (λ os. os ≡ flat_map (released from to) items.now) }
+fn all_released(to: NodeId, items: &Items<Shared<Item>>) -> Result<Oids, AllocError>
+    ensures { IfOk result (λ os. os ≡ flat_map (releases_of to) items.now) }
 {
     let mut objects = Oids::new(items.allocator());
     for item in items.as_slice() {
-        objects.append(released(items.allocator(), from, to, item.get())?)?;
+        objects.append(releases_of(items.allocator(), to, item.get())?)?;
     }
     Ok(objects)
 }
 
 /// The objects of a home that are on their way to a peer.
 fn going(alloc: Global, state: &State, home: NodeId, peer: NodeId) -> Result<Oids, AllocError>
-    ensures { IfOk result (λ os. os ≡ named_by (exported home peer) (queue state.now home peer)) }
+    ensures { IfOk result (λ os. os ≡ named_by (exports_of home) (queue state.now home peer)) }
 {
     match queue(state, home, peer) {
-        Some(items) => all_exported(home, peer, items),
+        Some(items) => all_exported(home, items),
         None => Ok(Oids::new(alloc)),
     }
 }
 
 /// The objects of a home that are on their way back from a peer.
 fn coming(alloc: Global, state: &State, home: NodeId, peer: NodeId) -> Result<Oids, AllocError>
-    ensures { IfOk result (λ os. os ≡ named_by (released peer home) (queue state.now peer home)) }
+    ensures { IfOk result (λ os. os ≡ named_by (releases_of home) (queue state.now peer home)) }
 {
     match queue(state, peer, home) {
-        Some(items) => all_released(peer, home, items),
+        Some(items) => all_released(home, items),
         None => Ok(Oids::new(alloc)),
     }
 }
@@ -104,7 +98,6 @@ fn entered(alloc: Global, state: &State, home: NodeId, peer: NodeId) -> Result<O
 /// Whether an object of a node has an entry for a peer: it may be in use there.
 ///
 /// Its one error is that memory ran out.
-#[tactic(auto, using(crate::proofs::HeldUp::entry_steps))]
 pub fn has_entry(state: &State, peer: NodeId, object: &Oid) -> Result<bool, AllocError>
     ensures { IfOk result (λ entry. entry ≡ has_entry state.now peer object.now) }
 {

@@ -113,8 +113,9 @@ fn left_parcels(held: &Oids, referred: &Named) -> Result<Items<Parcel>, AllocErr
 fn with_heap(node: &Node, heap: Heap) -> Result<Node, AllocError>
     ensures { IfOk result (λ n. n ≡ record node.now { heap = heap }) }
 {
+    let heap = Shared::new(node.stack.allocator(), heap)?;
     let mut after = node.clone()?;
-    after.heap = Shared::new(node.stack.allocator(), heap)?;
+    after.heap = heap;
     Ok(after)
 }
 
@@ -146,6 +147,20 @@ fn freeing(state: &State, node: &Node) -> Result<Effect, AllocError>
     })
 }
 
+/// The objects held that a node refers to, and what tells the homes of the others.
+fn held_and_left(node: &Node) -> Result<(Oids, Items<Parcel>), AllocError>
+    ensures held { IfOk result (λ r.
+        r.0 ≡ filter (has_object (node_objects node.now)) node.now.held) }
+    ensures sent { IfOk result (λ r.
+        r.1 ≡ map left (filter (λ o. not (has_object (node_objects node.now) o)) node.now.held)) }
+{
+    let named = node_objects(node)?;
+    let referred = Named::new(named)?;
+    let sent = left_parcels(&node.held, &referred)?;
+    let held = still_held(&node.held, &referred)?;
+    Ok((held, sent))
+}
+
 /// What a node no longer refers to is left, and its home is told.
 fn dropping(node: Node) -> Result<Effect, AllocError>
     ensures { IfOk result (λ e. e ≡ dropping (node_objects node) node) }
@@ -153,10 +168,7 @@ fn dropping(node: Node) -> Result<Effect, AllocError>
     if node.held.is_empty() {
         return Ok(only(node));
     }
-    let named = node_objects(&node)?;
-    let referred = Named::new(named)?;
-    let sent = left_parcels(&node.held, &referred)?;
-    let held = still_held(&node.held, &referred)?;
+    let (held, sent) = held_and_left(&node)?;
     let shown = ShownList::new(node.stack.allocator());
     Ok(Effect {
         node: with_held(node, held),

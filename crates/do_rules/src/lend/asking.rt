@@ -3,7 +3,8 @@ ghost use Rattle.std.specs.Prelude.{◌≡◌, ◌<◌, IfOk, IfSome, filter, le
 ghost use Rattle.std.specs.List.{list_any};
 ghost use Rattle.do_machine.specs.Effect.{each};
 ghost use Rattle.do_machine.specs.lend.Asking.{ask_over, asking, granting, same_wanted, settling};
-ghost use Rattle.do_machine.specs.lend.Asking.{wanted_lt, with_wanted, without_wanted};
+ghost use Rattle.do_machine.specs.lend.Asking.{wanted_lt, with_wanted};
+ghost use Rattle.do_machine.specs.Lists.{inserted};
 
 use crate::effect::{after, only, queueing};
 use crate::lists::put_at;
@@ -60,13 +61,21 @@ fn place_of(asked: &Items<Wanted>, wanted: &Wanted) -> Option<usize>
         .position(|other| is_before(wanted, other))
 }
 
+/// Asks and one more.
+fn asked_and(wanted: &Wanted, asked: &Items<Wanted>) -> Result<Items<Wanted>, AllocError>
+    ensures { IfOk result (λ ws. ws ≡ inserted wanted_lt wanted.now asked.now) }
+{
+    let at = place_of(asked, wanted);
+    put_at(asked.clone()?, at, wanted.clone()?)
+}
+
 /// The node with an ask more.
 fn with_wanted(wanted: &Wanted, node: Node) -> Result<Node, AllocError>
     ensures { IfOk result (λ n. n ≡ with_wanted wanted.now node) }
 {
+    let asked = asked_and(wanted, &node.asked)?;
     let mut node = node;
-    let at = place_of(&node.asked, wanted);
-    node.asked = put_at(node.asked.clone()?, at, wanted.clone()?)?;
+    node.asked = asked;
     Ok(node)
 }
 
@@ -117,19 +126,21 @@ pub(crate) fn asking(wanted: &Wanted, node: Node) -> Result<Effect, AllocError>
     if has_wanted(&node.asked, wanted) {
         return Ok(only(node));
     }
+    let node = with_wanted(wanted, node)?;
     let item = Item::Ask {
         serial: wanted.object.serial,
         token: wanted.token,
     };
-    queueing(home, item, with_wanted(wanted, node)?)
+    queueing(home, item, node)
 }
 
 /// An ask is over, and so is the lend.
 pub(crate) fn ask_over(wanted: &Wanted, node: Node) -> Result<Effect, AllocError>
     ensures { IfOk result (λ e. e ≡ ask_over wanted.now node) }
 {
+    let asked = asked_but(wanted, &node.asked)?;
     let mut node = node;
-    node.asked = asked_but(wanted, &node.asked)?;
+    node.asked = asked;
     settling(wanted, node)
 }
 

@@ -1,13 +1,11 @@
 //! Foreign objects that a node names to third nodes.
-ghost use Rattle.std.specs.Prelude.{◌≡◌, IfOk, filter, not};
-ghost use Rattle.do_machine.specs.Effect.{queueing};
+ghost use Rattle.std.specs.Prelude.{◌≡◌, ◌++◌, ◌+◌, IfOk, filter, length, not};
 ghost use Rattle.do_machine.specs.lend.Lending.{is_lend, lend_of, lending, lends_of};
 ghost use Rattle.do_machine.specs.lend.Lending.{with_settled};
 
-use crate::effect::queueing;
 use do_base::NodeId;
 use do_class::{Name, Packet};
-use do_machine::{Effect, Item, Lend, Lends, Node};
+use do_machine::{Lend, Lends, Node};
 use std::alloc::AllocError;
 
 /// What a name lends to a borrower.
@@ -27,7 +25,7 @@ fn lend_of(borrower: NodeId, name: &Name) -> Option<Lend>
 
 /// What a message lends.
 #[tactic(auto, using(crate::proofs::Filtered::filtered_steps))]
-pub(crate) fn lends_of(borrower: NodeId, packet: &Packet) -> Result<Lends, AllocError>
+fn lends_of(borrower: NodeId, packet: &Packet) -> Result<Lends, AllocError>
     ensures { IfOk result (λ ls. ls ≡ lends_of borrower packet.now) }
 {
     let mut lends = Lends::new(packet.names.allocator());
@@ -40,30 +38,31 @@ pub(crate) fn lends_of(borrower: NodeId, packet: &Packet) -> Result<Lends, Alloc
     Ok(lends)
 }
 
-/// The node once it lends, with the tokens used up. A token past what a number can be is want of
-/// memory too.
-fn lending(lends: Lends, node: Node) -> Result<Node, AllocError>
-    ensures { IfOk result (λ n. n ≡ lending lends node) }
+/// What a node lends, and the token behind those that are used up. A token past what a number can
+/// be is want of memory too.
+fn lent_by(peer: NodeId, packet: &Packet, node: &Node) -> Result<(Lends, u64), AllocError>
+    ensures lent { IfOk result (λ r. r.0 ≡ node.now.lent ++ lends_of peer packet.now) }
+    ensures next { IfOk result (λ r.
+        r.1 ≡ node.now.next_token + length (lends_of peer packet.now)) }
 {
-    let mut node = node;
+    let lends = lends_of(peer, packet)?;
     let Some(next) = node.next_token.checked_add(lends.len() as u64) else {
         return Err(AllocError);
     };
-    node.lent.append(lends)?;
-    node.next_token = next;
-    Ok(node)
+    let mut lent = node.lent.clone()?;
+    lent.append(lends)?;
+    Ok((lent, next))
 }
 
-/// An item with a message is queued to a peer, and what the message names of third nodes is lent.
-pub(crate) fn posting(
-    peer: NodeId,
-    lends: Lends,
-    item: Item,
-    node: Node,
-) -> Result<Effect, AllocError>
-    ensures { IfOk result (λ e. e ≡ queueing peer item (lending lends node)) }
+/// The node once it sends a message to a peer: what that names of third nodes is lent.
+pub(crate) fn lending(peer: NodeId, packet: &Packet, node: Node) -> Result<Node, AllocError>
+    ensures { IfOk result (λ n. n ≡ lending (lends_of peer packet.now) node) }
 {
-    queueing(peer, item, lending(lends, node)?)
+    let (lent, next_token) = lent_by(peer, packet, &node)?;
+    let mut node = node;
+    node.lent = lent;
+    node.next_token = next_token;
+    Ok(node)
 }
 
 /// Whether a lend is that of a number to a borrower.
@@ -90,7 +89,8 @@ fn unsettled(borrower: NodeId, number: u64, lent: &Lends) -> Result<Lends, Alloc
 pub(crate) fn with_settled(borrower: NodeId, number: u64, node: Node) -> Result<Node, AllocError>
     ensures { IfOk result (λ n. n ≡ with_settled borrower number node) }
 {
+    let lent = unsettled(borrower, number, &node.lent)?;
     let mut node = node;
-    node.lent = unsettled(borrower, number, &node.lent)?;
+    node.lent = lent;
     Ok(node)
 }

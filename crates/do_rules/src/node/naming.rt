@@ -1,7 +1,6 @@
 //! Which objects items name, and how.
 ghost use Rattle.std.specs.Prelude.{◌≡◌, ◌∷◌, [], IfOk, map};
 ghost use Rattle.std.specs.List.{filter_map};
-ghost use Rattle.do_machine.specs.Items.{exported, released};
 ghost use Rattle.do_machine.specs.Objects.{object_at};
 ghost use Rattle.do_rules.specs.Exporting.{exports_of, mine_of, releases_of};
 
@@ -49,7 +48,7 @@ fn one_object(alloc: Global, node: NodeId, serial: u64) -> Result<Oids, AllocErr
 }
 
 /// The sender's objects that an item exports.
-fn exports_of(alloc: Global, from: NodeId, item: &Item) -> Result<Oids, AllocError>
+pub(crate) fn exports_of(alloc: Global, from: NodeId, item: &Item) -> Result<Oids, AllocError>
     ensures { IfOk result (λ os. os ≡ exports_of from item.now) }
 {
     match item {
@@ -68,20 +67,6 @@ fn exports_of(alloc: Global, from: NodeId, item: &Item) -> Result<Oids, AllocErr
     }
 }
 
-/// The same, by what the item names from a node to another.
-pub(crate) fn exported(
-    alloc: Global,
-    from: NodeId,
-    to: NodeId,
-    item: &Item,
-) -> Result<Oids, AllocError>
-    ensures { IfOk result (λ os. os ≡ exported from to item.now) }
-{
-    let _to = to;
-    let objects = exports_of(alloc, from, item)?;
-    Ok(objects)
-}
-
 /// The objects of a node with these serials.
 fn all_at(node: NodeId, serials: &Items<u64>) -> Result<Oids, AllocError>
     ensures { IfOk result (λ os. os ≡ map (object_at node) serials.now) }
@@ -97,7 +82,7 @@ fn all_at(node: NodeId, serials: &Items<u64>) -> Result<Oids, AllocError>
 }
 
 /// The receiver's objects that an item releases.
-fn releases_of(alloc: Global, to: NodeId, item: &Item) -> Result<Oids, AllocError>
+pub(crate) fn releases_of(alloc: Global, to: NodeId, item: &Item) -> Result<Oids, AllocError>
     ensures { IfOk result (λ os. os ≡ releases_of to item.now) }
 {
     match item {
@@ -114,18 +99,4 @@ fn releases_of(alloc: Global, to: NodeId, item: &Item) -> Result<Oids, AllocErro
         Item::Gone { .. } => Ok(Oids::new(alloc)),
         Item::Settled { .. } => Ok(Oids::new(alloc)),
     }
-}
-
-/// The same, by what the item names from a node to another.
-pub(crate) fn released(
-    alloc: Global,
-    from: NodeId,
-    to: NodeId,
-    item: &Item,
-) -> Result<Oids, AllocError>
-    ensures { IfOk result (λ os. os ≡ released from to item.now) }
-{
-    let _from = from;
-    let objects = releases_of(alloc, to, item)?;
-    Ok(objects)
 }

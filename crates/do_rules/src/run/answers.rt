@@ -1,17 +1,23 @@
 //! How an answer leaves its node.
-ghost use Rattle.std.specs.Prelude.{◌≡◌, IfOk};
+ghost use Rattle.std.specs.Prelude.{◌≡◌, IfOk, None, Some};
 ghost use Rattle.std.specs.Option.{option_copied};
 ghost use Rattle.do_machine.specs.run.Answers.{answer_line, answer_marks, exc_name, oneway_answer};
-ghost use Rattle.do_machine.specs.run.Answers.{replying};
+ghost use Rattle.do_machine.specs.run.Answers.{answer_placed, replying};
+ghost use Rattle.do_machine.specs.Effect.{queueing};
+ghost use Rattle.do_machine.specs.Packing.{packed_for};
+ghost use Rattle.do_machine.specs.lend.Lending.{lending, lends_of};
+ghost use Rattle.do_base.specs.declared.events.exception.Exc.TheVariants.{TooLarge};
+ghost use Rattle.do_machine.specs.declared.item.Item.TheVariants.{Raised, Reply};
 ghost use Rattle.do_rules.specs.Judged.{run_of};
 
 use crate::effect::{only, queueing, showing};
 use crate::judged::Run;
-use crate::lend::lending::{lends_of, posting};
+use crate::lend::lending::lending;
 use crate::node::methods::signature_of;
 use crate::run::arguments::{copy_marks, outs_of};
 use do_base::{Exc, Flags, NodeId, Shown, Text, Value, Values, copy_value};
 use do_behave::{Answer, Frame};
+use do_class::Packet;
 use do_machine::{Effect, Item, Node};
 use do_sig::Signature;
 use std::alloc::{AllocError, Global};
@@ -77,7 +83,48 @@ fn answer_marks(alloc: Global, signature: Option<&Signature>) -> Result<Flags, A
     Ok(flags)
 }
 
+/// The message of an answer goes to a peer, or, if it was too large, an exception.
+fn sending_back(
+    peer: NodeId,
+    number: u64,
+    packet: Option<Packet>,
+    node: Node,
+) -> Result<Effect, AllocError>
+    ensures { IfOk result (λ e. e ≡ elim packet [
+      | None ↦ queueing peer (Raised number TooLarge) node
+      | Some p ↦ queueing peer (Reply number p) (lending (lends_of peer p) node)
+    ]) }
+{
+    match packet {
+        Some(packet) => {
+            let node = lending(peer, &packet, node)?;
+            queueing(peer, Item::Reply { number, packet }, node)
+        }
+        None => {
+            let exc = Exc::TooLarge;
+            queueing(peer, Item::Raised { number, exc }, node)
+        }
+    }
+}
+
 impl<'a> Run<'a> {
+    /// A result and out values as a message to a peer, if they are not too large.
+    fn answer_packet(
+        &self,
+        peer: NodeId,
+        given: Value,
+        outs: Values,
+    ) -> Result<Option<Packet>, AllocError>
+        ensures { IfOk result (λ packet. packet ≡ packed_for (run_of self.now).context peer
+            (answer_placed (run_of self.now) given outs)) }
+    {
+        let signature = signature_of(self.context.table, self.top.method);
+        let mut values = outs;
+        values.insert(0, given)?;
+        let marks = answer_marks(values.allocator(), signature)?;
+        self.context.packed_for(peer, marks, values)
+    }
+
     /// An answer goes back to the peer that waits for it; a result that is too large is an
     /// exception.
     pub(crate) fn replying(
@@ -89,19 +136,12 @@ impl<'a> Run<'a> {
     ) -> Result<Effect, AllocError>
         ensures { IfOk result (λ e. e ≡ replying (run_of self.now) peer number answer node) }
     {
-        let (given, outs) = match answer {
-            Answer::Raised(exc) => return queueing(peer, Item::Raised { number, exc }, node),
-            Answer::Given { result, outs } => (result, outs),
-        };
-        let signature = signature_of(self.context.table, self.top.method);
-        let marks = answer_marks(node.stack.allocator(), signature)?;
-        let mut values = outs;
-        values.insert(0, given)?;
-        let Some(packet) = self.context.packed_for(peer, marks, values)? else {
-            let exc = Exc::TooLarge;
-            return queueing(peer, Item::Raised { number, exc }, node);
-        };
-        let lends = lends_of(peer, &packet)?;
-        posting(peer, lends, Item::Reply { number, packet }, node)
+        match answer {
+            Answer::Raised(exc) => queueing(peer, Item::Raised { number, exc }, node),
+            Answer::Given { result, outs } => {
+                let packet = self.answer_packet(peer, result, outs)?;
+                sending_back(peer, number, packet, node)
+            }
+        }
     }
 }

@@ -4,7 +4,7 @@ ghost use Rattle.do_machine.specs.run.Changes.{uses_number};
 ghost use Rattle.do_machine.specs.run.Verdicts.{awaited_after, requesting, waits_for};
 
 use crate::effect::queueing;
-use crate::lend::lending::{lends_of, posting};
+use crate::lend::lending::lending;
 use do_base::{CallId, NodeId};
 use do_behave::{InvState, Waited};
 use do_machine::{Effect, Item, Node, Request};
@@ -46,8 +46,8 @@ pub(crate) fn requesting(
     match request {
         Request::Root => queueing(peer, Item::RootAsk { number }, node),
         Request::Call { message, .. } => {
-            let lends = lends_of(peer, &message.packet)?;
-            posting(peer, lends, Item::Call { number, message }, node)
+            let node = lending(peer, &message.packet, node)?;
+            queueing(peer, Item::Call { number, message }, node)
         }
     }
 }
@@ -56,10 +56,10 @@ pub(crate) fn requesting(
 pub(crate) fn uses_number(node: Node) -> Result<Node, AllocError>
     ensures { IfOk result (λ n. n ≡ uses_number node) }
 {
-    let mut node = node;
     let Some(next) = node.next_call.checked_add(1) else {
         return Err(AllocError);
     };
+    let mut node = node;
     node.next_call = next;
     Ok(node)
 }

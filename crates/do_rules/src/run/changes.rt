@@ -50,9 +50,10 @@ pub(crate) fn goes_on(
 pub(crate) fn uses(top: &Invocation, given: Value, outs: &Values) -> Result<Invocation, AllocError>
     ensures { IfOk result (λ i. i ≡ uses given outs.now top.now) }
 {
-    let mut next = top.clone()?;
     let locals = with_item(top.locals.clone()?, top.into as usize, Held::new(given));
-    next.locals = with_outs(top.outs.as_slice(), outs.as_slice(), locals)?;
+    let locals = with_outs(top.outs.as_slice(), outs.as_slice(), locals)?;
+    let mut next = top.clone()?;
+    next.locals = locals;
     next.state = InvState::Running;
     Ok(next)
 }
@@ -91,11 +92,18 @@ pub(crate) fn stands(
     Ok(next)
 }
 
+/// The invocation in another state.
+pub(crate) fn with_state(invocation: &Invocation, state: InvState) -> Result<Invocation, AllocError>
+    ensures { IfOk result (λ i. i ≡ record invocation.now { state = state }) }
+{
+    let mut next = invocation.clone()?;
+    next.state = state;
+    Ok(next)
+}
+
 /// An answer came.
 pub(crate) fn answered(invocation: &Invocation, answer: Answer) -> Result<Invocation, AllocError>
     ensures { IfOk result (λ i. i ≡ answered answer invocation.now) }
 {
-    let mut next = invocation.clone()?;
-    next.state = InvState::Answered(answer);
-    Ok(next)
+    with_state(invocation, InvState::Answered(answer))
 }

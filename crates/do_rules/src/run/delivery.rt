@@ -40,10 +40,11 @@ impl<'a> Run<'a> {
         ensures { IfOk result (λ is. is ≡ below_answered answer (run_of self.now).below) }
     {
         let mut stack = Items::new(self.context.node.stack.allocator());
-        if let [first, rest @ ..] = self.below {
-            stack.push(answered(first, answer)?)?;
-            stack.extend_from_slice(rest)?;
-        }
+        let [first, rest @ ..] = self.below else {
+            return Ok(stack);
+        };
+        stack.push(answered(first, answer)?)?;
+        stack.extend_from_slice(rest)?;
         Ok(stack)
     }
 

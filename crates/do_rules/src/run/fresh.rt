@@ -1,13 +1,14 @@
 //! An invocation as it begins, and objects as they are made.
-ghost use Rattle.std.specs.Prelude.{◌≡◌, ◌++◌, ◌-◌, IfOk, length, replicate};
+ghost use Rattle.std.specs.Prelude.{◌≡◌, ◌++◌, ◌+◌, ◌-◌, ◌∷◌, [], IfOk, length, replicate};
+ghost use Rattle.do_machine.specs.Effect.{only};
 ghost use Rattle.do_machine.specs.run.Fresh.{blank, fresh, pushed, with_objects};
 ghost use Rattle.do_machine.specs.run.Fresh.{with_serials, with_stack};
 
-use crate::judged::Run;
+use crate::effect::only;
 use do_base::{Items, Locals, Oid, Value, Values, copy_value};
 use do_behave::{Frame, Held, InvState, Invocation, Reason};
 use do_class::{ClassId, ClassTable, MethodId};
-use do_machine::{Heap, Node, Shared, Stored};
+use do_machine::{Effect, Heap, Node, Shared, Stored};
 use do_packet::{Made, ObjList};
 use std::alloc::{AllocError, Global};
 
@@ -49,7 +50,7 @@ fn first_locals(values: &Values) -> Result<Frame, AllocError>
 }
 
 /// An invocation of an own object, with these values in its first locals and nil in the others.
-pub(crate) fn fresh(
+fn fresh(
     object: Oid,
     method: MethodId,
     reason: Reason,
@@ -74,29 +75,33 @@ pub(crate) fn fresh(
 pub(crate) fn with_stack(node: &Node, stack: Items<Invocation>) -> Result<Node, AllocError>
     ensures { IfOk result (λ n. n ≡ with_stack stack node.now) }
 {
-    Ok(Node {
-        port: node.port,
-        heap: node.heap.clone()?,
-        root: node.root,
-        stack,
-        next_serial: node.next_serial,
-        next_call: node.next_call,
-        next_token: node.next_token,
-        open_to: node.open_to.clone()?,
-        held: node.held.clone()?,
-        lent: node.lent.clone()?,
-        asked: node.asked.clone()?,
-        late: node.late.clone()?,
-    })
+    let mut after = node.clone()?;
+    after.stack = stack;
+    Ok(after)
 }
 
 /// The node with an invocation on top.
-pub(crate) fn pushed(invocation: Invocation, node: Node) -> Result<Node, AllocError>
+fn pushed(invocation: Invocation, node: Node) -> Result<Node, AllocError>
     ensures { IfOk result (λ n. n ≡ pushed invocation node) }
 {
     let mut node = node;
     node.stack.insert(0, invocation)?;
     Ok(node)
+}
+
+/// A method of an own object begins, on top of the node's stack.
+pub(crate) fn beginning(
+    object: Oid,
+    method: MethodId,
+    reason: Reason,
+    values: &Values,
+    node: Node,
+) -> Result<Effect, AllocError>
+    ensures { IfOk result (λ e.
+        e ≡ only (pushed (fresh object method reason values.now) node)) }
+{
+    let begun = fresh(object, method, reason, values)?;
+    Ok(only(pushed(begun, node)?))
 }
 
 /// An object of a class as it is made, with nil slots; one whose class is not there has none.
@@ -110,6 +115,19 @@ pub fn blank(alloc: Global, table: &ClassTable, class: ClassId) -> Result<Made, 
     }
     let slots = nils(alloc, table.slots(class).len())?;
     Ok(Made { class, slots })
+}
+
+/// One object of a class, as it is made.
+pub(crate) fn one_blank(
+    alloc: Global,
+    table: &ClassTable,
+    class: ClassId,
+) -> Result<ObjList, AllocError>
+    ensures { IfOk result (λ new. new ≡ blank table.now class ∷ []) }
+{
+    let mut new = Items::new(alloc);
+    new.push(blank(alloc, table, class)?)?;
+    Ok(new)
 }
 
 /// An object as it is stored under a serial.
@@ -143,21 +161,32 @@ fn with_serials(serial: u64, new: &ObjList) -> Result<Heap, AllocError>
     Ok(stored)
 }
 
-/// The node with new objects, which take the next serials. A serial past what a number can be is
-/// want of memory too. Where none is new, the heap stays shared.
+/// The heap with new objects, and the next serial. A serial past what a number can be is want of
+/// memory too.
+fn grown(new: &ObjList, node: &Node) -> Result<(Shared<Heap>, u64), AllocError>
+    ensures heap { IfOk result (λ r.
+        r.0 ≡ node.now.heap ++ with_serials node.now.next_serial new.now) }
+    ensures next { IfOk result (λ r. r.1 ≡ node.now.next_serial + length new.now) }
+{
+    let Some(next) = node.next_serial.checked_add(new.len() as u64) else {
+        return Err(AllocError);
+    };
+    let mut heap = node.heap.get().clone()?;
+    heap.append(with_serials(node.next_serial, new)?)?;
+    Ok((Shared::new(new.allocator(), heap)?, next))
+}
+
+/// The node with new objects, which take the next serials. Where none is new, the heap stays
+/// shared.
 pub(crate) fn with_objects(new: &ObjList, node: Node) -> Result<Node, AllocError>
     ensures { IfOk result (λ n. n ≡ with_objects new.now node) }
 {
     if new.is_empty() {
         return Ok(node);
     }
+    let (heap, next_serial) = grown(new, &node)?;
     let mut node = node;
-    let Some(next) = node.next_serial.checked_add(new.len() as u64) else {
-        return Err(AllocError);
-    };
-    let mut heap = node.heap.get().clone()?;
-    heap.append(with_serials(node.next_serial, new)?)?;
-    node.heap = Shared::new(new.allocator(), heap)?;
-    node.next_serial = next;
+    node.heap = heap;
+    node.next_serial = next_serial;
     Ok(node)
 }

@@ -55,40 +55,80 @@ fn slot_step(inv: &Invocation, slot: usize, value: Value, pc: u32) -> Result<Act
     })
 }
 
+/// A step to a place, which sets one local.
+fn local_step(inv: &Invocation, into: u8, value: Value, pc: u32) -> Result<Act, AllocError>
+    ensures { IfOk result (λ act. act ≡ meaning inv.now (Change.Local into value pc)) }
+{
+    let locals = with_item(inv.locals.clone()?, into as usize, Held::new(value));
+    Ok(plain_step(inv.handler, locals, pc))
+}
+
+/// A step to a place, which appends an item to the list in a local.
+fn push_step(
+    inv: &Invocation,
+    list: u8,
+    item: Value,
+    weight: u64,
+    pc: u32,
+) -> Result<Act, AllocError>
+    requires { IsFitting inv.now (Change.Push list item weight pc) }
+    ensures { IfOk result (λ act. act ≡ meaning inv.now (Change.Push list item weight pc)) }
+{
+    let mut next = inv.clone()?;
+    next.push_item(list, item, weight, pc)?;
+    Ok(plain_step(inv.handler, next.locals, pc))
+}
+
+/// A step to a place, which keeps the locals.
+fn jump(inv: &Invocation, handler: Option<Handler>, pc: u32) -> Result<Act, AllocError>
+    ensures { IfOk result (λ act. act ≡ Act.Step pc inv.now.locals handler []) }
+{
+    let locals = inv.locals.clone()?;
+    Ok(plain_step(handler, locals, pc))
+}
+
+/// A step to a place, which sets locals and the handler, and writes slots.
+fn wide_step(
+    inv: &Invocation,
+    sets: &[LocalSet],
+    handler: Option<Handler>,
+    writes: Writes,
+    pc: u32,
+) -> Result<Act, AllocError>
+    ensures { IfOk result (λ act.
+        act ≡ Act.Step pc (with_set inv.now.locals sets.now) handler writes) }
+{
+    let locals = with_set(inv.locals.clone()?, sets)?;
+    Ok(Act::Step {
+        pc,
+        locals,
+        handler,
+        writes,
+    })
+}
+
 /// The act that a change of an invocation is.
 fn act_of(inv: &Invocation, change: Change) -> Result<Act, AllocError>
     requires { IsFitting inv.now change }
     ensures { IfOk result (λ act. act ≡ meaning inv.now change) }
 {
-    let mut next = inv.clone()?;
     match change {
-        Change::Local { into, value, pc } => {
-            let _was = next.set_local(into, value, pc);
-            Ok(plain_step(inv.handler, next.locals, pc))
-        }
+        Change::Local { into, value, pc } => local_step(inv, into, value, pc),
         Change::Push {
             list,
             item,
             weight,
             pc,
-        } => {
-            next.push_item(list, item, weight, pc)?;
-            Ok(plain_step(inv.handler, next.locals, pc))
-        }
-        Change::Goto { pc } => Ok(plain_step(inv.handler, next.locals, pc)),
+        } => push_step(inv, list, item, weight, pc),
+        Change::Goto { pc } => jump(inv, inv.handler, pc),
         Change::Slot { slot, value, pc } => slot_step(inv, slot, value, pc),
         Change::Slots {
             sets,
             handler,
             writes,
             pc,
-        } => Ok(Act::Step {
-            pc,
-            locals: with_set(next.locals, sets.as_slice())?,
-            handler,
-            writes,
-        }),
-        Change::Handler { handler, pc } => Ok(plain_step(handler, next.locals, pc)),
+        } => wide_step(inv, sets.as_slice(), handler, writes, pc),
+        Change::Handler { handler, pc } => jump(inv, handler, pc),
         Change::Other(act) => Ok(act),
     }
 }

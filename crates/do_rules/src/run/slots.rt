@@ -60,6 +60,15 @@ fn heap_with_slots(serial: u64, writes: &Writes, heap: Heap) -> Result<Heap, All
     Ok(heap)
 }
 
+/// The same of a heap that is shared.
+fn shared_with_slots(serial: u64, writes: &Writes, heap: &Heap) -> Result<Shared<Heap>, AllocError>
+    ensures { IfOk result (λ xs.
+        xs ≡ change_first (λ x. x.serial == serial) (with_writes writes.now) heap.now) }
+{
+    let written = heap_with_slots(serial, writes, heap.clone()?)?;
+    Shared::new(heap.allocator(), written)
+}
+
 /// The node with slots of an object written; of one that is not stored none is. Where none is
 /// written, the heap stays shared.
 #[tactic(auto, using(crate::proofs::Sharing::none_steps))]
@@ -69,8 +78,8 @@ pub(crate) fn with_slots(serial: u64, writes: &Writes, node: Node) -> Result<Nod
     if writes.is_empty() {
         return Ok(node);
     }
+    let heap = shared_with_slots(serial, writes, node.heap.get())?;
     let mut node = node;
-    let heap = heap_with_slots(serial, writes, node.heap.get().clone()?)?;
-    node.heap = Shared::new(node.stack.allocator(), heap)?;
+    node.heap = heap;
     Ok(node)
 }

@@ -3,15 +3,15 @@ ghost use Rattle.std.specs.Prelude.{◌≡◌, IfOk};
 ghost use Rattle.do_machine.specs.run.Verdicts.{effect_of};
 ghost use Rattle.do_rules.specs.Judged.{run_of};
 
-use crate::effect::{only, showing};
+use crate::effect::{only, queueing, showing};
 use crate::judged::Run;
-use crate::lend::lending::{lends_of, posting};
+use crate::lend::lending::lending;
 use crate::node::own;
 use crate::run::asking::{requesting, uses_number, waits_for};
 use crate::run::changes::{goes_on, goes_to, stands, steps_to, uses};
-use crate::run::fresh::{blank, fresh, pushed, with_objects};
+use crate::run::fresh::{beginning, one_blank, with_objects};
 use crate::run::slots::with_slots;
-use do_base::{Items, Locals, NodeId, Oid, Shown, Value, Values};
+use do_base::{Locals, NodeId, Oid, Shown, Value, Values};
 use do_behave::{Answer, Frame, Handler, InvState, Reason, Writes};
 use do_class::{ClassId, MethodId};
 use do_machine::{Effect, Item, Message, Request, Verdict};
@@ -24,9 +24,9 @@ impl<'a> Run<'a> {
     {
         let node = self.context.node;
         let made = Value::Obj(own(node, node.next_serial));
+        let alloc = node.stack.allocator();
+        let new = one_blank(alloc, self.context.table, class)?;
         let node = self.with_top(goes_on(self.top, into, made, pc)?)?;
-        let mut new = Items::new(node.stack.allocator());
-        new.push(blank(node.stack.allocator(), self.context.table, class)?)?;
         Ok(only(with_objects(&new, node)?))
     }
 
@@ -62,9 +62,8 @@ impl<'a> Run<'a> {
         ensures { IfOk result (λ e. e ≡ effect_of (run_of self.now)
             (Verdict.Begins object method values.now into outs pc)) }
     {
-        let waits = stands(self.top, pc, into, outs, InvState::Below)?;
-        let begun = fresh(object, method, Reason::Local, values)?;
-        Ok(only(pushed(begun, self.with_top(waits)?)?))
+        let node = self.with_top(stands(self.top, pc, into, outs, InvState::Below)?)?;
+        beginning(object, method, Reason::Local, values, node)
     }
 
     /// The top invocation goes on, and a peer gets a message that nobody waits for.
@@ -73,8 +72,8 @@ impl<'a> Run<'a> {
             e ≡ effect_of (run_of self.now) (Verdict.Tells peer message into pc)) }
     {
         let node = self.with_top(goes_on(self.top, into, Value::Nil, pc)?)?;
-        let lends = lends_of(peer, &message.packet)?;
-        posting(peer, lends, Item::Oneway { message }, node)
+        let node = lending(peer, &message.packet, node)?;
+        queueing(peer, Item::Oneway { message }, node)
     }
 
     /// The top invocation goes on with a value in a local.

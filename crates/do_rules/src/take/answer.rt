@@ -59,8 +59,12 @@ fn values_answer(table: &ClassTable, values: &Values, what: Waited) -> Result<An
 }
 
 /// What came, as an answer to what was asked for.
-pub(crate) fn answer_by(table: &ClassTable, came: &Came, what: Waited) -> Result<Answer, AllocError>
-    ensures { IfOk result (λ a. a ≡ answer_by table.now came.now what) }
+pub(crate) fn answer_by(
+    table: &ClassTable,
+    came: Came<'_>,
+    what: Waited,
+) -> Result<Answer, AllocError>
+    ensures { IfOk result (λ a. a ≡ answer_by table.now came.entry what) }
 {
     match came {
         Came::Values(values) => values_answer(table, values, what),

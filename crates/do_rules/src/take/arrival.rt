@@ -4,35 +4,30 @@ ghost use Rattle.do_behave.specs.declared.invocation.Answer.TheVariants.{Raised}
 ghost use Rattle.do_machine.specs.take.Awaiting.{answering};
 ghost use Rattle.do_machine.specs.take.Receipt.{received};
 ghost use Rattle.do_machine.specs.take.Requests.{request};
-ghost use Rattle.do_machine.specs.take.Take.{arrival, take_effect};
-ghost use Rattle.do_machine.specs.take.Take.{method_call, root_call, values_arrival};
+ghost use Rattle.do_machine.specs.take.Take.{arrival, method_call, root_call, root_packet};
+ghost use Rattle.do_machine.specs.take.Take.{take_effect, values_arrival};
+ghost use Rattle.do_machine.specs.Effect.{queueing};
+ghost use Rattle.do_machine.specs.declared.item.Item.TheVariants.{RootAnswer};
 ghost use Rattle.do_machine.specs.lend.Asking.{ask_over, wanted};
 ghost use Rattle.do_machine.specs.Objects.{object_at};
 ghost use Rattle.do_rules.specs.Answering.{call_of};
 ghost use Rattle.do_rules.specs.Judged.{step_of};
 
-use crate::effect::{after, only, queueing};
+use crate::effect::{after, one_line, only, queueing};
 use crate::ends::closing::closing;
 use crate::judged::Context;
 use crate::lend::asking::{ask_over, granting};
 use crate::lend::lending::with_settled;
-use crate::node::naming::exported;
+use crate::node::naming::exports_of;
 use crate::take::awaiting::{Answered, Came, answering};
 use crate::take::holding::holding;
 use crate::take::lines::{item_line, object_at};
 use crate::take::receipt::Received;
-use do_base::{Exc, NodeId, Shown, Token, Values};
+use do_base::{Exc, Items, NodeId, Shown, Token};
 use do_behave::Reason;
 use do_class::Packet;
 use do_machine::{Effect, Item, Message, Node, Wanted};
 use std::alloc::AllocError;
-
-/// An exception, as what came.
-fn came_raised(exc: &Exc) -> Result<Came, AllocError>
-    ensures { IfOk result (λ came. came ≡ Came.Raised exc.now) }
-{
-    Ok(Came::Raised(exc.clone()?))
-}
 
 /// What an exception does to the invocation whose call ended with it.
 fn raised_arrival(
@@ -50,9 +45,7 @@ fn raised_arrival(
         number,
         root: false,
     };
-    let came = came_raised(exc)?;
-    let effect = answering(context.table, &call, &came, node)?;
-    Ok(effect)
+    answering(context.table, &call, Came::Raised(exc), node)
 }
 
 /// An ask of the node for an object of a peer is over.
@@ -85,19 +78,6 @@ impl<'a> Context<'a> {
         after(sent, shown, asked)
     }
 
-    /// Values come as the answer to a call.
-    fn values_given(
-        &self,
-        call: &Answered,
-        values: Values,
-        node: Node,
-    ) -> Result<Effect, AllocError>
-        ensures { IfOk result (λ e.
-            e ≡ values_arrival (step_of self.now) (call_of call.now) values node) }
-    {
-        answering(self.table, call, &Came::Values(values), node)
-    }
-
     /// A message is received, and its values come as the answer to a call.
     fn values_arrival(
         &self,
@@ -110,7 +90,7 @@ impl<'a> Context<'a> {
     {
         let Received { effect, values } = self.received(call.peer, packet, node)?;
         let Effect { node, sent, shown } = effect;
-        let answered = self.values_given(call, values, node)?;
+        let answered = answering(self.table, call, Came::Values(&values), node)?;
         let last = after(sent, shown, answered)?;
         Ok(last)
     }
@@ -153,6 +133,15 @@ impl<'a> Context<'a> {
         self.values_arrival(&call, packet, node)
     }
 
+    /// A peer asks for the root, and gets it.
+    fn root_answer(&self, from: NodeId, number: u64, node: Node) -> Result<Effect, AllocError>
+        ensures { IfOk result (λ e. e ≡ queueing from
+            (RootAnswer number (root_packet (step_of self.now) from)) node) }
+    {
+        let packet = self.root_packet(from)?;
+        queueing(from, Item::RootAnswer { number, packet }, node)
+    }
+
     /// What an item comes to at the node that takes it.
     pub(crate) fn arrival(
         &self,
@@ -175,13 +164,7 @@ impl<'a> Context<'a> {
             }
             Item::Reply { number, packet } => self.reply_arrival(from, *number, packet, node),
             Item::Raised { number, exc } => raised_arrival(self, from, *number, exc, node),
-            Item::RootAsk { number } => {
-                let item = Item::RootAnswer {
-                    number: *number,
-                    packet: self.root_packet(from)?,
-                };
-                queueing(from, item, node)
-            }
+            Item::RootAsk { number } => self.root_answer(from, *number, node),
             Item::RootAnswer { number, packet } => self.root_arrival(from, *number, packet, node),
             Item::Ask { serial, token } => granting(from, *serial, *token, node),
             Item::Granted { serial, token } => wanted_arrival(from, *serial, *token, node),
@@ -193,14 +176,16 @@ impl<'a> Context<'a> {
     }
 
     /// The item is shown, the node holds what it exports, and then it does what it comes to.
+    #[tactic(auto, using(crate::proofs::Exports::all_exports))]
     pub fn take_effect(&self, from: NodeId, item: &Item) -> Result<Effect, AllocError>
         ensures { IfOk result (λ e. e ≡ take_effect (step_of self.now) from item.now) }
     {
         let node = self.node;
+        let alloc = node.stack.allocator();
         let line = item_line(from, node.port, item)?;
-        let objects = exported(node.stack.allocator(), from, node.port, item)?;
-        let mut effect = self.arrival(from, item, holding(&objects, node)?)?;
-        effect.shown.insert(0, Shown::Took(line))?;
-        Ok(effect)
+        let objects = exports_of(alloc, from, item)?;
+        let shown = one_line(alloc, Shown::Took(line))?;
+        let arrived = self.arrival(from, item, holding(&objects, node)?)?;
+        after(Items::new(alloc), shown, arrived)
     }
 }

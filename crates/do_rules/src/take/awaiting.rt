@@ -8,6 +8,7 @@ ghost use Rattle.do_rules.specs.Answering.{answer_by, call_of};
 
 use crate::effect::only;
 use crate::lists::item_at;
+use crate::run::changes::with_state;
 use crate::take::answer::answer_by;
 use do_base::{Exc, Items, NodeId, Values};
 use do_behave::{InvState, Invocation, Waited};
@@ -25,12 +26,12 @@ pub(crate) struct Answered {
 }
 
 /// What came as the answer to a call.
-#[derive(Debug, Drop)]
-pub(crate) enum Came {
+#[derive(Clone, Copy)]
+pub(crate) enum Came<'a> {
     /// A result, and what comes out.
-    Values(Values),
+    Values(&'a Values),
     /// An exception.
-    Raised(Exc),
+    Raised(&'a Exc),
 }
 
 /// Whether a root was asked for, and no method.
@@ -68,8 +69,12 @@ fn awaits(call: &Answered, state: &InvState) -> bool
 }
 
 /// The state of an invocation that waited, by what it asked for.
-fn answered_state(table: &ClassTable, came: &Came, state: &InvState) -> Result<InvState, AllocError>
-    ensures { IfOk result (λ s. s ≡ answered_state (answer_by table.now came.now) state.now) }
+fn answered_state(
+    table: &ClassTable,
+    came: Came<'_>,
+    state: &InvState,
+) -> Result<InvState, AllocError>
+    ensures { IfOk result (λ s. s ≡ answered_state (answer_by table.now came.entry) state.now) }
 {
     match state {
         InvState::Waits { what, .. } => Ok(InvState::Answered(answer_by(table, came, *what)?)),
@@ -82,14 +87,12 @@ fn answered_state(table: &ClassTable, came: &Came, state: &InvState) -> Result<I
 /// The invocation with its answer.
 fn with_answer(
     table: &ClassTable,
-    came: &Came,
+    came: Came<'_>,
     invocation: &Invocation,
 ) -> Result<Invocation, AllocError>
-    ensures { IfOk result (λ i. i ≡ with_answer (answer_by table.now came.now) invocation.now) }
+    ensures { IfOk result (λ i. i ≡ with_answer (answer_by table.now came.entry) invocation.now) }
 {
-    let mut next = invocation.clone()?;
-    next.state = answered_state(table, came, &invocation.state)?;
-    Ok(next)
+    with_state(invocation, answered_state(table, came, &invocation.state)?)
 }
 
 /// Where the invocation that waits for an answer stands.
@@ -108,11 +111,11 @@ fn waiting_at(stack: &Items<Invocation>, call: &Answered) -> Option<usize>
 fn stack_answered(
     table: &ClassTable,
     call: &Answered,
-    came: &Came,
+    came: Came<'_>,
     stack: Items<Invocation>,
 ) -> Result<Items<Invocation>, AllocError>
     ensures { IfOk result (λ is. is ≡
-        stack_answered (call_of call.now) (answer_by table.now came.now) stack) }
+        stack_answered (call_of call.now) (answer_by table.now came.entry) stack) }
 {
     let mut stack = stack;
     let Some(at) = waiting_at(&stack, call) else {
@@ -136,19 +139,35 @@ fn late_answered(call: &Answered, late: &Items<LateCall>) -> Result<Items<LateCa
     Ok(others)
 }
 
+/// The invocations and the late calls of a node, once an answer came.
+fn settled(
+    table: &ClassTable,
+    call: &Answered,
+    came: Came<'_>,
+    node: &Node,
+) -> Result<(Items<Invocation>, Items<LateCall>), AllocError>
+    ensures stack { IfOk result (λ r. r.0 ≡
+        stack_answered (call_of call.now) (answer_by table.now came.entry) node.now.stack) }
+    ensures late { IfOk result (λ r. r.1 ≡ late_answered (call_of call.now) node.now.late) }
+{
+    let stack = stack_answered(table, call, came, node.stack.clone()?)?;
+    let late = late_answered(call, &node.late)?;
+    Ok((stack, late))
+}
+
 /// An answer goes to the invocation that waits for it, or ends a late call.
 pub(crate) fn answering(
     table: &ClassTable,
     call: &Answered,
-    came: &Came,
+    came: Came<'_>,
     node: Node,
 ) -> Result<Effect, AllocError>
     ensures { IfOk result (λ e.
-        e ≡ answering (call_of call.now) (answer_by table.now came.now) node) }
+        e ≡ answering (call_of call.now) (answer_by table.now came.entry) node) }
 {
+    let (stack, late) = settled(table, call, came, &node)?;
     let mut node = node;
-    let stack = stack_answered(table, call, came, node.stack.clone()?)?;
     node.stack = stack;
-    node.late = late_answered(call, &node.late)?;
+    node.late = late;
     Ok(only(node))
 }

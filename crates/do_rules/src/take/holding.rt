@@ -56,7 +56,8 @@ fn all_joined(objects: &[Oid], held: Oids) -> Result<Oids, AllocError>
 pub(crate) fn holding(objects: &Oids, node: &Node) -> Result<Node, AllocError>
     ensures { IfOk result (λ n. n ≡ holding objects.now node.now) }
 {
+    let held = all_joined(objects.as_slice(), node.held.clone()?)?;
     let mut after = node.clone()?;
-    after.held = all_joined(objects.as_slice(), node.held.clone()?)?;
+    after.held = held;
     Ok(after)
 }

@@ -1,14 +1,14 @@
 //! A message of a peer: the method that it invokes, or why it is refused.
 ghost use Rattle.std.specs.Prelude.{◌≡◌, IfOk};
 ghost use Rattle.do_machine.specs.take.Requests.{admission, refusing, request};
-ghost use Rattle.do_rules.specs.Judged.{entry_in, step_of};
+ghost use Rattle.do_rules.specs.Judged.{step_of};
 
-use crate::effect::{only, queueing, showing};
+use crate::effect::{queueing, showing};
 use crate::held::entered::has_entry;
 use crate::judged::Context;
 use crate::node::methods::method_for;
 use crate::node::{is_full, own, own_class};
-use crate::run::fresh::{fresh, pushed};
+use crate::run::fresh::beginning;
 use do_base::{Exc, NodeId, Shown, Values};
 use do_behave::Reason;
 use do_class::MethodId;
@@ -29,32 +29,31 @@ fn refusing(exc: Exc, reason: Reason, node: Node) -> Result<Effect, AllocError>
 
 impl<'a> Context<'a> {
     /// The method that a message invokes, or why it is refused: the first rule that applies
-    /// decides. `entered` is whether the sender has an entry of the target.
+    /// decides.
     fn admission(
         &self,
         from: NodeId,
-        entered: bool,
         message: &Message,
         values: &Values,
-    ) -> Result<MethodId, Exc>
-        requires { entered ≡ entry_in self.now.state.now self.now.node.now from message.now.target }
-        ensures { result ≡ admission (step_of self.now) from message.now values.now }
+    ) -> Result<Result<MethodId, Exc>, AllocError>
+        ensures { IfOk result (λ r.
+            r ≡ admission (step_of self.now) from message.now values.now) }
     {
-        let _from = from;
-        if !entered {
-            return Err(Exc::NotVended);
+        let object = own(self.node, message.target);
+        if !has_entry(self.state, from, &object)? {
+            return Ok(Err(Exc::NotVended));
         }
         let class = own_class(self.node, message.target);
         let Some(method) = method_for(self.table, class, &message.selector) else {
-            return Err(Exc::NotUnderstood);
+            return Ok(Err(Exc::NotUnderstood));
         };
         if !method.signature.args_fit(values) {
-            return Err(Exc::TypeFault);
+            return Ok(Err(Exc::TypeFault));
         }
         if is_full(self.node) {
-            return Err(Exc::Deep);
+            return Ok(Err(Exc::Deep));
         }
-        Ok(method.id)
+        Ok(Ok(method.id))
     }
 
     /// A message is refused at once, or invokes its method.
@@ -69,13 +68,11 @@ impl<'a> Context<'a> {
         ensures { IfOk result (λ e.
             e ≡ request (step_of self.now) from reason message.now values.now node) }
     {
-        let object = own(self.node, message.target);
-        let entered = has_entry(self.state, from, &object)?;
-        match self.admission(from, entered, message, values) {
+        match self.admission(from, message, values)? {
             Err(exc) => refusing(exc, reason, node),
             Ok(method) => {
-                let begun = fresh(object, method, reason, values)?;
-                Ok(only(pushed(begun, node)?))
+                let object = own(self.node, message.target);
+                beginning(object, method, reason, values, node)
             }
         }
     }
