@@ -1,12 +1,9 @@
 -- The members of lists that stand beside the arguments of a signature, from one argument on.
 use Rattle.std.proofs.Common.{◌≡◌, ℕ, zero, suc, ◌+◌, ◌-◌, ◌<◌, ◌≤◌, Bool, true, false, cond, List}
 use Rattle.std.proofs.Common.{[], ◌∷◌}
-use Rattle.std.proofs.Common.{◌++◌, length, map, take, drop, Some, refl, ap, sym, ◌∙◌, subst, arith}
-use Rattle.std.proofs.Common.{rules}
-use Rattle.std.specs.Prelude.{get_or, not, option_map, slice_get, ◌&&◌}
-use Rattle.std.proofs.lemmas.Option.{slice_get-map}
+use Rattle.std.proofs.Common.{◌++◌, length, map, take, drop, Some, refl, ap, ◌∙◌, subst, arith}
+use Rattle.std.specs.Prelude.{get_or, not, slice_get}
 use Rattle.do_base.specs.declared.values.value.Value.{Value}
-use Rattle.do_base.specs.declared.values.value.Value.TheVariants.{Nil}
 use Rattle.do_sig.specs.MethodTypes.{MethodType, QualifiedType}
 use Rattle.do_sig.specs.Calls.{arg_fits, encoding_fits, is_oneway, qualifier_of, qualifiers_of}
 use Rattle.do_sig.specs.Calls.{some_fits}

@@ -1,8 +1,8 @@
 -- What is held up beside slots, as one list, is what the definitions ask of each object.
 use mathlib.Core.Path.{fun_ext}
 use Rattle.std.proofs.Common.{◌≡◌, ℕ, Bool, true, false, cond, List, [], ◌∷◌, ◌++◌, filter, refl}
-use Rattle.std.proofs.Common.{ap, ◌∙◌, length, ◌<◌, arith}
-use Rattle.std.specs.Prelude.{None, Option, Some, ◌&&◌, ◌||◌, ◌==◌}
+use Rattle.std.proofs.Common.{ap, ◌∙◌, length, arith}
+use Rattle.std.specs.Prelude.{None, Option, Some, ◌&&◌, ◌||◌}
 use Rattle.std.specs.List.{flat_map, list_all, list_any}
 use Rattle.std.proofs.lemmas.List.Elements.{filter_agree}
 use Rattle.std.proofs.lemmas.List.Folds.{list_any-append}

@@ -1,10 +1,10 @@
 -- What a node that keeps no more than packing can count sees as a packer.
 use Rattle.std.proofs.Common.{◌≡◌, ◌<◌, ◌^◌, Bool, true, false, cond, List, [], ◌∷◌, length, Option}
 use Rattle.std.proofs.Common.{Some}
-use Rattle.std.proofs.Common.{None, refl, subst, sym, arith}
+use Rattle.std.proofs.Common.{None, refl, subst, sym}
 use Rattle.std.specs.Prelude.{find, nat_lt, option_map, sum_by, ◌&&◌, ◌==◌, ◌||◌}
 use Rattle.std.specs.List.{list_all, list_any}
-use Rattle.std.proofs.lemmas.Bool.{eqb-true, ltb-true}
+use Rattle.std.proofs.lemmas.Bool.{ltb-true}
 use Rattle.do_base.specs.names.Names.{ObjectName}
 use Rattle.do_base.specs.values.Values.{weight_of}
 use Rattle.do_base.specs.declared.values.value.Value.{Value}

@@ -1,7 +1,6 @@
 -- Lists of nil.
 use Rattle.std.proofs.Common.{◌≡◌, ℕ, zero, suc, List as Listed, [], ◌∷◌, ◌++◌, length, map}
 use Rattle.std.proofs.Common.{replicate, refl, ap}
-use Rattle.do_base.specs.declared.values.value.Value.{Value}
 use Rattle.do_base.specs.declared.values.value.Value.TheVariants.{Nil}
 
 -- one nil more

@@ -1,5 +1,5 @@
 -- Pairs of as many members as the shorter of two lists has.
-use Rattle.std.proofs.Common.{◌≡◌, ℕ, ◌≤◌, List, [], ◌∷◌, length, take, refl, ap, sym, arith}
+use Rattle.std.proofs.Common.{◌≡◌, List, [], ◌∷◌, length, take, refl, ap}
 use Rattle.std.specs.List.{zip}
 
 pub short_right : {K X : Type 0} (xs : List K) (ys : List X) →

@@ -1,5 +1,5 @@
 -- A message that is received, and what its values then come to.
-use Rattle.std.proofs.Common.{◌≡◌, ℕ, List, ◌++◌, refl, sym}
+use Rattle.std.proofs.Common.{◌≡◌, ℕ, List, ◌++◌, refl}
 use Rattle.do_base.specs.declared.values.value.Value.{Value}
 use Rattle.do_class.specs.declared.packet.Packet.{Packet}
 use Rattle.do_machine.specs.declared.node.Node.{Node}

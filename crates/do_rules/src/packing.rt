@@ -25,7 +25,7 @@ const MOST_NUMBER: u64 = 4_611_686_018_427_387_904;
 const MOST_COPIES: usize = 4096;
 
 /// Values, with as many marks of whether their places are bycopy.
-#[derive(Debug, Drop)]
+#[derive(Drop)]
 struct Marked {
     marks: Flags,
     values: Values,

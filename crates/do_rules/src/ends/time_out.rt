@@ -6,7 +6,7 @@ ghost use Rattle.do_machine.specs.ends.TimeOut.{give_up, late_lt, time_out, with
 use crate::effect::only;
 use crate::lists::put_at;
 use crate::run::changes::answered;
-use crate::run::fresh::with_stack;
+use crate::run::fresh::{stack_of, with_stack};
 use do_base::{Exc, Items};
 use do_behave::{Answer, InvState, Invocation};
 use do_machine::{Effect, LateCall, Node};
@@ -58,9 +58,7 @@ fn give_up(
 {
     match state {
         InvState::Waits { call, peer, what } => {
-            let mut stack = Items::new(node.stack.allocator());
-            stack.push(answered(top, Answer::Raised(Exc::TimedOut))?)?;
-            stack.extend_from_slice(below)?;
+            let stack = stack_of(answered(top, Answer::Raised(Exc::TimedOut))?, below)?;
             let late = LateCall {
                 number: call.number,
                 peer: *peer,

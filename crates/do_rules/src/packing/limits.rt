@@ -1,8 +1,7 @@
 //! Whether a node keeps no more than packing can count.
-ghost use Rattle.std.specs.Prelude.{◌≡◌, ◌&&◌, ◌<◌, IsTrue, length, nat_lt};
+ghost use Rattle.std.specs.Prelude.{◌≡◌, ◌&&◌, ◌<◌, length, nat_lt};
 ghost use Rattle.std.specs.List.{list_all};
 ghost use Rattle.do_machine.specs.State.{class_of};
-ghost use Rattle.do_rules.specs.Judged.{step_of};
 ghost use Rattle.do_rules.specs.Packable.{is_class_in, is_light, is_packable};
 
 use crate::judged::Context;

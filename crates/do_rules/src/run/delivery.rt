@@ -9,7 +9,7 @@ use crate::judged::Run;
 use crate::node::is_open;
 use crate::run::answers::{answer_line, exc_name, oneway_answer};
 use crate::run::changes::{answered, goes_on};
-use crate::run::fresh::with_stack;
+use crate::run::fresh::{stack_of, with_stack};
 use do_base::{Exc, Items, Value};
 use do_behave::{Answer, Handler, Invocation, Reason};
 use do_machine::{Effect, Node};
@@ -20,10 +20,7 @@ impl<'a> Run<'a> {
     pub(crate) fn with_top(&self, top: Invocation) -> Result<Node, AllocError>
         ensures { IfOk result (λ n. n ≡ with_top (run_of self.now) top) }
     {
-        let mut stack = Items::new(self.context.node.stack.allocator());
-        stack.push(top)?;
-        stack.extend_from_slice(self.below)?;
-        with_stack(self.context.node, stack)
+        with_stack(self.context.node, stack_of(top, self.below)?)
     }
 
     /// The node without the top invocation.
@@ -39,13 +36,10 @@ impl<'a> Run<'a> {
     fn below_answered(&self, answer: Answer) -> Result<Items<Invocation>, AllocError>
         ensures { IfOk result (λ is. is ≡ below_answered answer (run_of self.now).below) }
     {
-        let mut stack = Items::new(self.context.node.stack.allocator());
         let [first, rest @ ..] = self.below else {
-            return Ok(stack);
+            return Ok(Items::new(self.context.node.stack.allocator()));
         };
-        stack.push(answered(first, answer)?)?;
-        stack.extend_from_slice(rest)?;
-        Ok(stack)
+        stack_of(answered(first, answer)?, rest)
     }
 
     /// The top invocation is popped, and its answer goes where it is waited for.

@@ -71,6 +71,19 @@ fn fresh(
     })
 }
 
+/// An invocation on top of others.
+pub(crate) fn stack_of(
+    top: Invocation,
+    below: &[Invocation],
+) -> Result<Items<Invocation>, AllocError>
+    ensures { IfOk result (λ stack. stack ≡ top ∷ below.now) }
+{
+    let mut stack = Items::new(top.locals.allocator());
+    stack.push(top)?;
+    stack.extend_from_slice(below)?;
+    Ok(stack)
+}
+
 /// The node with another stack.
 pub(crate) fn with_stack(node: &Node, stack: Items<Invocation>) -> Result<Node, AllocError>
     ensures { IfOk result (λ n. n ≡ with_stack stack node.now) }

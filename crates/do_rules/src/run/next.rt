@@ -1,7 +1,7 @@
 //! The next act of the top invocation, and what a run does.
 ghost use Rattle.std.specs.Prelude.{◌≡◌, ◌∷◌, [], IfOk};
 ghost use Rattle.do_behave.specs.Changes.{IsFitting, meaning, with_set};
-ghost use Rattle.do_machine.specs.run.Run.{answer_rule, next_act, run_effect, run_on, slots_seen};
+ghost use Rattle.do_machine.specs.run.Run.{answer_rule, next_act, run_effect, slots_seen};
 ghost use Rattle.do_machine.specs.run.Run.{state_rule};
 ghost use Rattle.do_machine.specs.State.{stored};
 ghost use Rattle.do_rules.specs.Judged.{run_of, step_of};
@@ -137,13 +137,13 @@ fn act_of(inv: &Invocation, change: Change) -> Result<Act, AllocError>
 fn answer_rule(answer: &Answer) -> Result<Verdict, AllocError>
     ensures { IfOk result (λ v. v ≡ answer_rule answer.now) }
 {
-    Ok(match answer.clone()? {
-        Answer::Given { result, outs } => Verdict::Uses {
+    match answer.clone()? {
+        Answer::Given { result, outs } => Ok(Verdict::Uses {
             value: result,
             outs,
-        },
-        Answer::Raised(exc) => Verdict::Fails(exc),
-    })
+        }),
+        Answer::Raised(exc) => Ok(Verdict::Fails(exc)),
+    }
 }
 
 impl<'a> Run<'a> {

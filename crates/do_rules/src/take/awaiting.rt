@@ -1,6 +1,5 @@
 //! What an answer is to the invocation that waits for it.
-ghost use Rattle.std.specs.Prelude.{◌≡◌, ◌<◌, ◌∷◌, IfOk, IfSome, filter, length, not, position};
-ghost use Rattle.std.specs.Option.{option_copied};
+ghost use Rattle.std.specs.Prelude.{◌≡◌, ◌<◌, IfOk, IfSome, length, position};
 ghost use Rattle.do_machine.specs.take.Awaiting.{answered_state, answering, awaits, is_answered};
 ghost use Rattle.do_machine.specs.take.Awaiting.{is_for_root, late_answered, stack_answered};
 ghost use Rattle.do_machine.specs.take.Awaiting.{with_answer};
@@ -18,7 +17,7 @@ use std::alloc::AllocError;
 
 /// A call, as its answer names it: the peer that answers, the number, and whether it was for a
 /// root.
-#[derive(Clone, Copy, Debug)]
+#[derive(Clone, Copy)]
 pub(crate) struct Answered {
     pub(crate) peer: NodeId,
     pub(crate) number: u64,

@@ -18,18 +18,18 @@ pub(crate) fn object_at(node: NodeId, serial: u64) -> Oid
 pub(crate) fn item_line(from: NodeId, to: NodeId, item: &Item) -> Result<Took, AllocError>
     ensures { IfOk result (λ line. line ≡ item_line from to item.now) }
 {
-    Ok(match item {
-        Item::Call { message, .. } => Took::Call(message.selector.clone()?),
-        Item::Oneway { message } => Took::Oneway(message.selector.clone()?),
-        Item::Reply { .. } => Took::Reply,
-        Item::Raised { exc, .. } => Took::Raised(exc.clone()?),
-        Item::RootAsk { .. } => Took::RootAsk,
-        Item::RootAnswer { .. } => Took::RootAnswer,
-        Item::Ask { serial, .. } => Took::Ask(object_at(to, *serial)),
-        Item::Granted { serial, .. } => Took::Granted(object_at(from, *serial)),
-        Item::Gone { serial, .. } => Took::Gone(object_at(from, *serial)),
-        Item::Left { serial } => Took::Left(object_at(to, *serial)),
-        Item::Settled { .. } => Took::Settled,
-        Item::End { .. } => Took::End,
-    })
+    match item {
+        Item::Call { message, .. } => Ok(Took::Call(message.selector.clone()?)),
+        Item::Oneway { message } => Ok(Took::Oneway(message.selector.clone()?)),
+        Item::Reply { .. } => Ok(Took::Reply),
+        Item::Raised { exc, .. } => Ok(Took::Raised(exc.clone()?)),
+        Item::RootAsk { .. } => Ok(Took::RootAsk),
+        Item::RootAnswer { .. } => Ok(Took::RootAnswer),
+        Item::Ask { serial, .. } => Ok(Took::Ask(object_at(to, *serial))),
+        Item::Granted { serial, .. } => Ok(Took::Granted(object_at(from, *serial))),
+        Item::Gone { serial, .. } => Ok(Took::Gone(object_at(from, *serial))),
+        Item::Left { serial } => Ok(Took::Left(object_at(to, *serial))),
+        Item::Settled { .. } => Ok(Took::Settled),
+        Item::End { .. } => Ok(Took::End),
+    }
 }

@@ -1,7 +1,7 @@
 //! What a node does with the message of an item that it takes.
 ghost use Rattle.std.specs.Prelude.{◌≡◌, IfOk};
 ghost use Rattle.do_machine.specs.Effect.{each};
-ghost use Rattle.do_machine.specs.take.Receipt.{arrived, receiving, receiving_name};
+ghost use Rattle.do_machine.specs.take.Receipt.{receiving_name};
 ghost use Rattle.do_rules.specs.Judged.{step_of};
 ghost use Rattle.do_rules.specs.Receiving.{Receives};
 

@@ -1,4 +1,4 @@
-use Rattle.std.proofs.Common.{◌≡◌, take, map, filter, not, ◌==◌}
+use Rattle.std.proofs.Common.{◌≡◌, take, filter, ◌==◌}
 use Rattle.do_rules.proofs.ends.closing.asked_of.Given as goal
 
 abbrev pub invariant-loop-wanted : goal.invariant-loop-wanted

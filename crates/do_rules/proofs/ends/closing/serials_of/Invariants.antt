@@ -1,4 +1,4 @@
-use Rattle.std.proofs.Common.{◌≡◌, take, map, filter, not, ◌==◌}
+use Rattle.std.proofs.Common.{◌≡◌, take}
 use Rattle.do_machine.specs.ends.Closing.{serials_of}
 use Rattle.do_rules.proofs.ends.closing.serials_of.Given as goal
 

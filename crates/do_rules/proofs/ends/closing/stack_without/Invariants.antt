@@ -1,4 +1,4 @@
-use Rattle.std.proofs.Common.{◌≡◌, take, map, filter, not, ◌==◌}
+use Rattle.std.proofs.Common.{◌≡◌, take, map}
 use Rattle.do_machine.specs.ends.Closing.{without_answer}
 use Rattle.do_rules.proofs.ends.closing.stack_without.Given as goal
 

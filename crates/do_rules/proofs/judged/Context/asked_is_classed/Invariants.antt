@@ -1,5 +1,5 @@
-use Rattle.std.proofs.Common.{◌≡◌, take, map, filter, not, ◌==◌}
-use Rattle.std.proofs.Common.{true, length}
+use Rattle.std.proofs.Common.{◌≡◌, take}
+use Rattle.std.proofs.Common.{true}
 use Rattle.std.specs.List.{list_all}
 use Rattle.do_machine.specs.State.{class_of}
 use Rattle.do_rules.specs.Packable.{is_class_in}

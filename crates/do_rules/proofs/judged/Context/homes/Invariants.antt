@@ -1,4 +1,4 @@
-use Rattle.std.proofs.Common.{◌≡◌, take, map, filter, not, ◌==◌}
+use Rattle.std.proofs.Common.{◌≡◌, take, map}
 use Rattle.do_machine.specs.take.Receipt.{is_reachable}
 use Rattle.do_rules.specs.Judged.{step_of}
 use Rattle.do_rules.proofs.judged.Context.homes.Given as goal

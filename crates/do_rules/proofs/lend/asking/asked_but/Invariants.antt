@@ -1,4 +1,4 @@
-use Rattle.std.proofs.Common.{◌≡◌, take, map, filter, not, ◌==◌}
+use Rattle.std.proofs.Common.{◌≡◌, take, filter, not}
 use Rattle.do_machine.specs.lend.Asking.{same_wanted}
 use Rattle.do_rules.proofs.lend.asking.asked_but.Given as goal
 

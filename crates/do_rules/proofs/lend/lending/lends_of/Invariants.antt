@@ -1,4 +1,4 @@
-use Rattle.std.proofs.Common.{◌≡◌, take, map, filter, not, ◌==◌}
+use Rattle.std.proofs.Common.{◌≡◌, take}
 use Rattle.std.specs.List.{filter_map}
 use Rattle.do_machine.specs.lend.Lending.{lend_of}
 use Rattle.do_rules.proofs.lend.lending.lends_of.Given as goal

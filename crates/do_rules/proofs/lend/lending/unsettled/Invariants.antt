@@ -1,4 +1,4 @@
-use Rattle.std.proofs.Common.{◌≡◌, take, map, filter, not, ◌==◌}
+use Rattle.std.proofs.Common.{◌≡◌, take, filter, not}
 use Rattle.do_machine.specs.lend.Lending.{is_lend}
 use Rattle.do_rules.proofs.lend.lending.unsettled.Given as goal
 

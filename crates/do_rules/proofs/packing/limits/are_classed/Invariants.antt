@@ -1,4 +1,4 @@
-use Rattle.std.proofs.Common.{◌≡◌, take, map, filter, not, ◌==◌}
+use Rattle.std.proofs.Common.{◌≡◌, take}
 use Rattle.std.proofs.Common.{true, length}
 use Rattle.std.specs.List.{list_all}
 use Rattle.std.specs.Prelude.{nat_lt}

@@ -1,5 +1,5 @@
-use Rattle.std.proofs.Common.{◌≡◌, take, map, filter, not, ◌==◌}
-use Rattle.std.proofs.Common.{true, length}
+use Rattle.std.proofs.Common.{◌≡◌, take}
+use Rattle.std.proofs.Common.{true}
 use Rattle.std.specs.List.{list_all}
 use Rattle.do_rules.specs.Packable.{is_light}
 use Rattle.do_rules.proofs.packing.limits.slots_are_light.Given as goal

@@ -1,4 +1,4 @@
-use Rattle.std.proofs.Common.{◌≡◌, take, map, filter, not, ◌==◌}
+use Rattle.std.proofs.Common.{◌≡◌, take}
 use Rattle.do_rules.proofs.run.answers.values_in.Given as goal
 
 abbrev pub invariant-loop-local : goal.invariant-loop-local

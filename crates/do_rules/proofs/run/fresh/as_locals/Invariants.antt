@@ -1,4 +1,4 @@
-use Rattle.std.proofs.Common.{◌≡◌, take, map, filter, not, ◌==◌}
+use Rattle.std.proofs.Common.{◌≡◌, take}
 use Rattle.do_rules.proofs.run.fresh.as_locals.Given as goal
 
 abbrev pub invariant-loop-value : goal.invariant-loop-value

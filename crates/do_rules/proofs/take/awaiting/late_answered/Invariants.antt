@@ -1,4 +1,4 @@
-use Rattle.std.proofs.Common.{◌≡◌, take, map, filter, not, ◌==◌}
+use Rattle.std.proofs.Common.{◌≡◌, take}
 use Rattle.do_machine.specs.take.Awaiting.{late_answered}
 use Rattle.do_rules.specs.Answering.{call_of}
 use Rattle.do_rules.proofs.take.awaiting.late_answered.Given as goal

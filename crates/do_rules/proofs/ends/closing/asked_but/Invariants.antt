@@ -1,6 +1,0 @@
-use Rattle.std.proofs.Common.{◌≡◌, take, map, filter, not, ◌==◌}
-use Rattle.do_rules.proofs.ends.closing.asked_but.Given as goal
-
-abbrev pub invariant-loop-wanted : goal.invariant-loop-wanted
-invariant-loop-wanted l =
-    l.others ≡ filter (λ x. not (x.object.node == l.peer)) (take l.wanted-index l.wanted-items)
