@@ -1,0 +1,22 @@
+//! Rows of calls, each with its answer beside it, and how they are played: for the programs that
+//! test what parts answer to many calls.
+//!
+//! It stands on the values of do_base and on how schedules write them, and promises nothing of its
+//! own: its functions are safe, and end. The form of rows is this project's own.
+#![tactic(auto)]
+
+mod answers;
+mod arguments;
+mod reading;
+mod rows;
+mod values;
+
+pub use answers::{
+    count_value, list_from, no_call, number_or_nil, object_or_nil, refused, text_value, word_with,
+};
+pub use arguments::{
+    copy_at, count_at, list_at, local_at, number_at, object_at, port_at, text_at, texts_at,
+    value_at,
+};
+pub use rows::{Part, play_file};
+pub use values::digits;
