@@ -1,7 +1,7 @@
 //! Rows of calls with their answers, and how they are played.
 //!
-//! A row is a call and, behind `=`, its answer; where there is no `=` the answer is nil. A call is a
-//! word and its arguments. A line that is empty or begins with `-` is no row.
+//! A row is a call and, behind `=`, its answer; where there is no `=` the answer is nil. A call is
+//! a word and its arguments. A line that is empty or begins with `-` is no row.
 
 use crate::reading::values_of;
 use do_base::{Text, Value, Values};
@@ -83,8 +83,8 @@ fn report_count(report: &mut Text, name: &str, count: u64) -> Result<(), AllocEr
     report.push_bytes(b" rows\n")
 }
 
-/// Plays the rows of a file, and reports those whose answer is another one, and behind them how many
-/// rows there are.
+/// Plays the rows of a file, and reports those whose answer is another one, and behind them how
+/// many rows there are.
 ///
 /// It ends where a row makes no call, or memory runs out.
 pub fn play_file<P: Part>(

@@ -1,8 +1,8 @@
 //! Values as rows write them.
 //!
-//! They are written as in schedules, `nil`, a number, a text in quotes, `#PORT.SERIAL` and a list in
-//! brackets, and three long ones by a count: `~N` is a text of N letters, `*N` a list of N nils, and
-//! `%N` a list of the texts `0`, `1` and so on, N of them.
+//! They are written as in schedules, `nil`, a number, a text in quotes, `#PORT.SERIAL` and a list
+//! in brackets, and three long ones by a count: `~N` is a text of N letters, `*N` a list of N nils,
+//! and `%N` a list of the texts `0`, `1` and so on, N of them.
 
 use do_base::{LONGEST_TEXT, NodeId, Oid, Text, Value, Values};
 use do_grammar::{dec_of, int_of, is_text, push_dec, quoted_of, word_of};

@@ -1,9 +1,9 @@
-//! Plays rows of calls of tables by name and of the cores of servers of names, of pasteboards and of
-//! servers of services, and compares each answer with the one that stands beside the call.
+//! Plays rows of calls of tables by name and of the cores of servers of names, of pasteboards and
+//! of servers of services, and compares each answer with the one that stands beside the call.
 //!
 //! It stands on the crates of these servers, and calls public functions alone. The rows are files;
-//! what they expect was worked out by hand. A row whose answer is another one is printed with it; at
-//! the end of each file stands how many rows it has.
+//! what they expect was worked out by hand. A row whose answer is another one is printed with it;
+//! at the end of each file stands how many rows it has.
 #![tactic(auto)]
 
 mod board_changes;
