@@ -35,7 +35,7 @@ use Rattle.do_objects.specs.OwnClass.{AllSound, HaveOwnMethods, WasMadeOf}
 use Rattle.do_objects.specs.Reached.{after, object_of, reached}
 use Rattle.do_objects.specs.Writes.{act_at, run_writes, writes_in, writes_of, writes_to}
 use Rattle.do_objects.proofs.Finding.{absent}
-use Rattle.do_objects.proofs.Verdicts.{stored_made}
+use Rattle.do_objects.proofs.Whole.{stored_made}
 use Rattle.do_objects.proofs.Sound.{before, has_writes, reached_sound, stays_sound, there}
 use Rattle.do_objects.proofs.Steps.{equal}
 
@@ -186,7 +186,7 @@ module _ (b : Native) (table : List Class) where
       object_of S o ≡ Some x → WasSet S o x
   is_set S o x sound at = record {
     made = λ n h.
-        (stored_made n o.serial x.class (sound.each o.node n h)
+        (stored_made n o.serial x.class (sound.each o.node n h).given
         (ap (λ found. option_map (λ y. y.class)
         (option_and_then (λ m. stored o.serial m.heap) found)) (sym h)
         ∙ ap (option_map (λ y. y.class)) at)).0;

@@ -1,9 +1,8 @@
--- What the effects of a node keep: what it stores, and that it is sound.
+-- What the effects of a node keep: what it stores, and that it is whole.
 use Rattle.std.proofs.Common.{◌≡◌, ◌⊎◌, ◌<◌, ◌≤◌, ◌+◌, ◌==◌, ℕ, Bool, true, false, cond, List, []}
 use Rattle.std.proofs.Common.{◌∷◌, length, refl, sym, ap, ◌∙◌, subst, arith, inl, inr}
 use Rattle.std.specs.Prelude.{None, Option, Some}
 use Rattle.do_behave.specs.declared.act.Write.{Write}
-use Rattle.do_behave.specs.declared.invocation.Invocation.{Invocation}
 use Rattle.do_class.specs.declared.ids.ClassId.{ClassId}
 use Rattle.do_packet.specs.declared.receipt.Made.{Made}
 use Rattle.do_machine.specs.declared.node.Node.{Node}
@@ -14,68 +13,69 @@ use Rattle.do_machine.specs.Effect.{each}
 use Rattle.do_machine.specs.held.Leaving.{leaving}
 use Rattle.do_machine.specs.run.Changes.{with_writes}
 use Rattle.do_machine.specs.run.Fresh.{with_objects, with_serials}
-use Rattle.do_objects.specs.OwnClass.{HaveOwnMethods, IsSound, WasMadeOf}
-use Rattle.do_objects.proofs.Finding.{AreFewer, absent, each_of, fewer_left, found_behind}
+use Rattle.do_objects.specs.OwnClass.{WasMadeOf}
+use Rattle.do_objects.proofs.Known.{Known}
+use Rattle.do_objects.proofs.Whole.{AreOwn, IsWhole, still_own}
+use Rattle.do_objects.proofs.Finding.{AreFewer, absent, fewer_left, found_behind}
 use Rattle.do_objects.proofs.Finding.{found_first}
 use Rattle.do_objects.proofs.Finding.{none_more, not_new}
 
 -- A node after an effect: what it stored is there with these writes, what it did not store is not
--- there but under a new serial, and it is sound if it was
-pub record Keeps (writes : ℕ → List Write) (n m : Node) : Type 0 where
+-- there but under a new serial, and it is whole if it was
+pub record Keeps (W : Known) (writes : ℕ → List Write) (n m : Node) : Type 0 where
   pub kept : (k : ℕ) (x : Stored) → stored k n.heap ≡ Some x →
       stored k m.heap ≡ Some (with_writes (writes k) x)
   pub gone : (k : ℕ) → (k < n.next_serial) ⊎ (m.next_serial ≤ k) → stored k n.heap ≡ None →
       stored k m.heap ≡ None
   pub next : n.next_serial ≤ m.next_serial
-  pub sound : IsSound n → IsSound m
+  pub whole : IsWhole W n → IsWhole W m
 
 -- nothing is written
 abbrev pub none : ℕ → List Write
 none k = []
 
 -- what is kept with some writes is kept with equal ones
-pub same_writes : (n m : Node) (writes others : ℕ → List Write) →
-    ((k : ℕ) → others k ≡ writes k) → Keeps writes n m → Keeps others n m
+pub same_writes : {W : Known} (n m : Node) (writes others : ℕ → List Write) →
+    ((k : ℕ) → others k ≡ writes k) → Keeps W writes n m → Keeps W others n m
 same_writes n m writes others e h = record {
   kept = λ k x there. h.kept k x there ∙ ap (λ ws. Some (with_writes ws x)) (sym (e k));
   gone = h.gone;
   next = h.next;
-  sound = h.sound;
+  whole = h.whole;
 }
 
 -- a node with the same objects, on whose stack invocations have their own methods
-pub restacked : (n m : Node) → m.heap ≡ n.heap → m.next_serial ≡ n.next_serial →
-    (IsSound n → HaveOwnMethods n m.stack) → Keeps none n m
-restacked n m heap next methods = record {
+pub restacked : {W : Known} (n m : Node) → m.heap ≡ n.heap → m.next_serial ≡ n.next_serial →
+    (IsWhole W n → AreOwn W n m.stack) → Keeps W none n m
+restacked {W} n m heap next methods = record {
   kept = λ k x h. ap (stored k) heap ∙ h;
   gone = λ k new h. ap (stored k) heap ∙ h;
   next = omega arith;
-  sound = λ s. record {
+  whole = λ s. record {
     given = λ k h. ap (stored k) heap ∙ s.given k (omega arith);
     invocations =
-        each_of (λ (i : Invocation). WasMadeOf n i.object.serial i.method.class)
-        (λ (i : Invocation). WasMadeOf m i.object.serial i.method.class)
-        (λ i made. (
+        still_own W n m
+        (λ k class made. (
           omega (arith, made.0),
-          λ x h. made.1 x (ap (stored i.object.serial) (sym heap) ∙ h),
+          λ x h. made.1 x (ap (stored k) (sym heap) ∙ h),
         ))
         m.stack (methods s);
   };
 }
 
 -- a node with the same objects and the same stack
-pub same : (n m : Node) → m.heap ≡ n.heap → m.next_serial ≡ n.next_serial →
-    m.stack ≡ n.stack → Keeps none n m
-same n m heap next stack =
-    restacked n m heap next (λ s. subst (HaveOwnMethods n) (sym stack) s.invocations)
+pub same : {W : Known} (n m : Node) → m.heap ≡ n.heap → m.next_serial ≡ n.next_serial →
+    m.stack ≡ n.stack → Keeps W none n m
+same {W} n m heap next stack =
+    restacked n m heap next (λ s. subst (AreOwn W n) (sym stack) s.invocations)
 
 -- one effect after another
-pub then_keeps : (n m l : Node) → Keeps none n m → Keeps none m l → Keeps none n l
+pub then_keeps : {W : Known} (n m l : Node) → Keeps W none n m → Keeps W none m l → Keeps W none n l
 then_keeps n m l a b = record {
   kept = λ k x h. b.kept k x (a.kept k x h);
   gone = λ k new h. by k new (a.gone k (first k new) h);
   next = omega (arith, a.next, b.next);
-  sound = λ s. b.sound (a.sound s);
+  whole = λ s. b.whole (a.whole s);
 }
   where
     first : (k : ℕ) → (k < n.next_serial) ⊎ (l.next_serial ≤ k) →
@@ -89,15 +89,16 @@ then_keeps n m l a b = record {
     by k (inr h) e = b.gone k (inr h) e
 
 -- whichever of two effects comes
-pub by_if : (n : Node) (b : Bool) (e d : Effect) → Keeps none n e.node → Keeps none n d.node →
-    Keeps none n (cond b e d).node
+pub by_if : {W : Known} (n : Node) (b : Bool) (e d : Effect) →
+    Keeps W none n e.node → Keeps W none n d.node →
+    Keeps W none n (cond b e d).node
 by_if n true e d x y = x
 by_if n false e d x y = y
 
 -- an effect for each element of a list
-pub by_each : {X : Type 0} (f : X → Node → Effect) →
-    ((x : X) (n : Node) → Keeps none n (f x n).node) → (xs : List X) (n : Node) →
-    Keeps none n (each f xs n).node
+pub by_each : {W : Known} {X : Type 0} (f : X → Node → Effect) →
+    ((x : X) (n : Node) → Keeps W none n (f x n).node) → (xs : List X) (n : Node) →
+    Keeps W none n (each f xs n).node
 by_each f h [] n = same n n refl refl refl
 by_each f h (x ∷ xs) n = then_keeps n (f x n).node _ (h x n) (by_each f h xs (f x n).node)
 
@@ -125,40 +126,37 @@ module _ (n : Node) (new : List Made) where
           ap (λ z. z.class) (sym is) ∙ made.1 y e
 
   -- a node with new objects
-  pub makes : Keeps none n (with_objects new n)
-  makes = record {
+  pub makes : {W : Known} → Keeps W none n (with_objects new n)
+  makes {W} = record {
     kept = λ k x h.
         found_first (λ z. z.serial == k) n.heap (with_serials n.next_serial new) x h;
     gone = old;
     next = omega arith;
-    sound = λ s. record {
+    whole = λ s. record {
       given = λ k h. old k (inr h) (s.given k (omega (arith, h)));
-      invocations =
-          each_of (λ (i : Invocation). WasMadeOf n i.object.serial i.method.class)
-          (λ (i : Invocation). WasMadeOf (with_objects new n) i.object.serial i.method.class)
-          (λ i made. still_made i.object.serial i.method.class made) n.stack s.invocations;
+      invocations = still_own W n (with_objects new n) still_made n.stack s.invocations;
     };
   }
 
 -- A node after a step: what it stores was there, with these writes, or has a new serial, and it is
--- sound if it was
-pub record Became (writes : ℕ → List Write) (n m : Node) : Type 0 where
+-- whole if it was
+pub record Became (W : Known) (writes : ℕ → List Write) (n m : Node) : Type 0 where
   pub kept : (k : ℕ) (x y : Stored) → stored k n.heap ≡ Some x → stored k m.heap ≡ Some y →
       y ≡ with_writes (writes k) x
   pub gone : (k : ℕ) → k < n.next_serial → stored k n.heap ≡ None → stored k m.heap ≡ None
   pub next : n.next_serial ≤ m.next_serial
-  pub sound : IsSound n → IsSound m
+  pub whole : IsWhole W n → IsWhole W m
 
 -- a node that does nothing
-pub stayed : (n : Node) (writes : ℕ → List Write) → ((k : ℕ) → writes k ≡ []) →
-    Became writes n n
+pub stayed : {W : Known} (n : Node) (writes : ℕ → List Write) → ((k : ℕ) → writes k ≡ []) →
+    Became W writes n n
 stayed n writes quiet = record {
   kept = λ k x y h q.
       let is : y ≡ x = cc (h, q) in
       is ∙ ap (λ ws. with_writes ws x) (sym (quiet k));
   gone = λ k old h. h;
   next = omega arith;
-  sound = λ s. s;
+  whole = λ s. s;
 }
 
 module _ (entry : ℕ → ℕ → Bool) (n : Node) where
@@ -166,21 +164,21 @@ module _ (entry : ℕ → ℕ → Bool) (n : Node) where
   fewer : AreFewer (leaving entry n).node.heap n.heap
   fewer = fewer_left (length n.heap) entry n n.heap
 
-  -- a node that left what nothing holds is sound, if it was
-  sound_left : IsSound n → IsSound (leaving entry n).node
-  sound_left s = record {
+  -- a node that left what nothing holds is whole, if it was
+  whole_left : (W : Known) → IsWhole W n → IsWhole W (leaving entry n).node
+  whole_left W s = record {
     given = λ k h. none_more (leaving entry n).node.heap n.heap fewer k (s.given k h);
     invocations =
-        each_of (λ (i : Invocation). WasMadeOf n i.object.serial i.method.class)
-        (λ (i : Invocation). WasMadeOf (leaving entry n).node i.object.serial i.method.class)
-        (λ i made. (made.0, λ x h. made.1 x (fewer.found i.object.serial x h)))
+        still_own W n (leaving entry n).node
+        (λ k class made. (made.0, λ x h. made.1 x (fewer.found k x h)))
         n.stack s.invocations;
   }
 
 -- an effect, and then the node leaves what nothing holds
-pub became : (writes : ℕ → List Write) (entry : ℕ → ℕ → Bool) (n m : Node) → Keeps writes n m →
-    Became writes n (leaving entry m).node
-became writes entry n m h = record {
+pub became : {W : Known} (writes : ℕ → List Write) (entry : ℕ → ℕ → Bool) (n m : Node) →
+    Keeps W writes n m →
+    Became W writes n (leaving entry m).node
+became {W} writes entry n m h = record {
   kept = λ k x y there found.
       let now = (fewer entry m).found k y found in
       let was = h.kept k x there in
@@ -189,5 +187,5 @@ became writes entry n m h = record {
       none_more (leaving entry m).node.heap m.heap (fewer entry m) k
       (h.gone k (inl old) q);
   next = h.next;
-  sound = λ s. sound_left entry m (h.sound s);
+  whole = λ s. whole_left entry m W (h.whole s);
 }

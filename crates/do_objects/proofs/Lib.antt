@@ -2,6 +2,9 @@ pub mod Finding
 mod Kept
 mod Small
 pub mod Methods
+mod Known
+pub mod Whole
+mod Counts
 mod Chains
 pub mod Rules
 pub mod Delivered
@@ -10,3 +13,4 @@ mod Runs
 mod Taken
 pub mod Steps
 pub mod Sound
+pub mod Able

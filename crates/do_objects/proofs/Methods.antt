@@ -1,5 +1,6 @@
 -- The method that is found for a selector is of the class, and has the selector.
 use Rattle.std.proofs.Common.{◌≡◌, ◌∙◌, ℕ, List, [], ◌∷◌, zero, suc, get_or, refl, sym, ap}
+use Rattle.std.proofs.Common.{subst}
 use Rattle.std.specs.Prelude.{None, Option, Some, option_and_then, option_map, slice_get}
 use Rattle.std.specs.Str.{bytes_eq}
 use Rattle.std.proofs.lemmas.List.Quantifiers.{position-Some}
@@ -47,6 +48,20 @@ module _ (table : List Class) where
       by None e = absurd (cc)
       by (Some s) e = ap (λ o. option_map (λ (x : Found). x.id) o) e
 
+  -- and its signature is that of the table
+  has_signature : (id : Option MethodId) (f : Found) → method_by id ≡ Some f →
+      signature_of table f.id ≡ Some f.signature
+  has_signature None f h = absurd (cc)
+  has_signature (Some m) f h = by (signature_of table m) refl h
+    where
+      by : (s : Option Signature) → signature_of table m ≡ s →
+          option_map (λ s. record { id = m; signature = s }) s ≡ Some f →
+          signature_of table f.id ≡ Some f.signature
+      by None e q = absurd (cc)
+      by (Some s) e q =
+          let is : record { id = m; signature = s } ≡ f = cc in
+          subst (λ (x : Found). signature_of table x.id ≡ Some x.signature) is e
+
   module _ (c : ClassId) (selector : List ℕ) (id : MethodId) where
     -- a method at a place
     at_place : (known : Class) → class_at table c ≡ Some known → (place : Option ℕ) →
@@ -81,3 +96,9 @@ module _ (table : List Class) where
       let is = is_of (find_method table c selector) f h in
       let of = in_class c selector f.id (class_at table c) refl is in
       (ap (λ x. Some x) of.0, of.1)
+
+  -- and its signature is that of the table
+  pub signature_found : (class : Option ClassId) (selector : List ℕ) (f : Found) →
+      method_for table class selector ≡ Some f → signature_of table f.id ≡ Some f.signature
+  signature_found class selector f h =
+      has_signature (option_and_then (λ c. find_method table c selector) class) f h

@@ -15,60 +15,62 @@ use Rattle.do_machine.specs.lend.Asking.{without_wanted}
 use Rattle.do_machine.specs.lend.Lending.{lending}
 use Rattle.do_machine.specs.take.Awaiting.{AnsweredCall, answering, awaits, stack_answered}
 use Rattle.do_machine.specs.take.Awaiting.{with_answer}
-use Rattle.do_objects.specs.OwnClass.{HaveOwnMethods}
+use Rattle.do_objects.proofs.Known.{Known}
+use Rattle.do_objects.proofs.Whole.{AreOwn}
 use Rattle.do_objects.proofs.Kept.{Keeps, by_each, by_if, none, restacked, same, then_keeps}
 
 -- a node that lends
-pub lends : (n m : Node) (new : List Lend) → Keeps none n m → Keeps none n (lending new m)
+pub lends : {W : Known} (n m : Node) (new : List Lend) →
+    Keeps W none n m → Keeps W none n (lending new m)
 lends n m new h = then_keeps n m (lending new m) h (same m (lending new m) refl refl refl)
 
 -- a lend that is over
-by_settling : (w : Wanted) (n : Node) → Keeps none n (settling w n).node
+by_settling : {W : Known} (w : Wanted) (n : Node) → Keeps W none n (settling w n).node
 by_settling w n =
     by_if n (not (is_open n w.token.lender)) _ _ (same n n refl refl refl)
     (same n n refl refl refl)
 
 -- an ask
-pub by_asking : (w : Wanted) (n : Node) → Keeps none n (asking w n).node
+pub by_asking : {W : Known} (w : Wanted) (n : Node) → Keeps W none n (asking w n).node
 by_asking w n =
     by_if n (not (is_open n w.object.node)) (settling w n) _ (by_settling w n)
     (by_if n (list_any (same_wanted w) n.asked) (only n) _ (same n n refl refl refl)
     (same n (with_wanted w n) refl refl refl))
 
 -- an ask that is over
-pub by_ask_over : (w : Wanted) (n : Node) → Keeps none n (ask_over w n).node
+pub by_ask_over : {W : Known} (w : Wanted) (n : Node) → Keeps W none n (ask_over w n).node
 by_ask_over w n =
     then_keeps n (without_wanted w n) _ (same n (without_wanted w n) refl refl refl)
     (by_settling w (without_wanted w n))
 
--- invocations that lose a peer keep their methods
-parted_methods : (n : Node) (peer : ℕ) (is : List Invocation) → HaveOwnMethods n is →
-    HaveOwnMethods n (map (without_answer peer) is)
-parted_methods n peer [] h = tt
-parted_methods n peer (i ∷ is) h = (h.0, parted_methods n peer is h.1)
+-- invocations that lose a peer keep their methods and locals
+parted_own : (W : Known) (n : Node) (peer : ℕ) (is : List Invocation) → AreOwn W n is →
+    AreOwn W n (map (without_answer peer) is)
+parted_own W n peer [] h = tt
+parted_own W n peer (i ∷ is) h = (h.0, parted_own W n peer is h.1)
 
 -- a node that closes its end
-pub by_closing : (peer : ℕ) (n : Node) → Keeps none n (closing peer n).node
-by_closing peer n =
+pub by_closing : {W : Known} (peer : ℕ) (n : Node) → Keeps W none n (closing peer n).node
+by_closing {W} peer n =
     then_keeps n (parted peer n) _
-    (restacked n (parted peer n) refl refl (λ s. parted_methods n peer n.stack s.invocations))
+    (restacked n (parted peer n) refl refl (λ s. parted_own W n peer n.stack s.invocations))
     (by_each settling by_settling (asked_of peer n) (parted peer n))
 
-module _ (n : Node) (k : AnsweredCall) (answer : Waited → Answer) where
-  -- an invocation that is answered keeps its method
-  answered_methods : (is : List Invocation) → HaveOwnMethods n is →
-      HaveOwnMethods n (stack_answered k answer is)
-  answered_methods [] h = tt
-  answered_methods (i ∷ is) h = by (awaits k i.state) (answered_methods is h.1)
+module _ (W : Known) (n : Node) (k : AnsweredCall) (answer : Waited → Answer) where
+  -- an invocation that is answered keeps its method and its locals
+  answered_own : (is : List Invocation) → AreOwn W n is →
+      AreOwn W n (stack_answered k answer is)
+  answered_own [] h = tt
+  answered_own (i ∷ is) h = by (awaits k i.state) (answered_own is h.1)
     where
-      by : (b : Bool) → HaveOwnMethods n (stack_answered k answer is) →
-          HaveOwnMethods n
+      by : (b : Bool) → AreOwn W n (stack_answered k answer is) →
+          AreOwn W n
           (cond b (with_answer answer i ∷ is) (i ∷ stack_answered k answer is))
       by true r = h
       by false r = (h.0, r)
 
   -- an answer that is taken
-  pub by_answering : Keeps none n (answering k answer n).node
+  pub by_answering : Keeps W none n (answering k answer n).node
   by_answering =
       restacked n (answering k answer n).node refl refl
-      (λ s. answered_methods n.stack s.invocations)
+      (λ s. answered_own n.stack s.invocations)

@@ -3,9 +3,11 @@ use Rattle.std.proofs.Common.{◌≡◌, ◌∙◌, ◌==◌, ◌<◌, ℕ, Bool
 use Rattle.std.proofs.Common.{map, refl, sym, ap, subst, arith, inr}
 use Rattle.std.specs.Prelude.{None, Option, Some, find, option_and_then, option_map}
 use Rattle.do_base.specs.names.Names.{ObjectName}
+use Rattle.do_base.specs.declared.values.value.Value.{Value}
 use Rattle.do_base.specs.declared.events.event.Event.{Event}
 use Rattle.do_class.specs.Class.{Class}
 use Rattle.do_behave.specs.declared.act.Write.{Write}
+use Rattle.do_behave.specs.declared.invocation.Invocation.{Invocation}
 use Rattle.do_machine.specs.declared.node.Node.{Node}
 use Rattle.do_machine.specs.declared.node.Stored.{Stored}
 use Rattle.do_machine.specs.declared.state.Seat.{Seat}
@@ -20,7 +22,9 @@ use Rattle.do_objects.specs.OwnClass.{AllSound, IsSound}
 use Rattle.do_objects.specs.Reached.{after, object_of, reached}
 use Rattle.do_objects.specs.Writes.{writes_to}
 use Rattle.do_objects.proofs.Finding.{absent, not_new}
+use Rattle.do_objects.proofs.Known.{HoldsAfter, HoldsBegun, Known}
 use Rattle.do_objects.proofs.Kept.{Became}
+use Rattle.do_objects.proofs.Whole.{Nothing, all_nothing, sound_of, whole_of}
 use Rattle.do_objects.proofs.Steps.{Becomes, by_step, writes_at}
 
 -- what is there is one
@@ -28,30 +32,40 @@ pub there : {X : Type 0} (found : Option X) (x y : X) → found ≡ Some x → f
 there found x y h q = cc
 
 -- the node that was there before it became another
-pub was_there : (writes : ℕ → List Write) (was now : Option Node) (m : Node) →
-    Becomes writes was now → now ≡ Some m → (n : Node) × (was ≡ Some n) × Became writes n m
-was_there writes None now m h e = absurd (absent m now e h)
-was_there writes (Some n) now m h e =
-    (n, refl, subst (λ x. Became writes n x) (there now h.0 m h.1 e) h.2)
+pub was_there : (W : Known) (writes : ℕ → List Write) (was now : Option Node) (m : Node) →
+    Becomes W writes was now → now ≡ Some m → (n : Node) × (was ≡ Some n) × Became W writes n m
+was_there W writes None now m h e = absurd (absent m now e h)
+was_there W writes (Some n) now m h e =
+    (n, refl, subst (λ x. Became W writes n x) (there now h.0 m h.1 e) h.2)
 
 module _ (table : List Class) (act : Acting) (S : State) (event : Event) where
   -- the state after the event
   abbrev T : State
   T = (step table act S event).state
 
+  -- the node of a port before the event, where so much is known of invocations
+  pub before_of : (W : Known) → HoldsBegun W table →
+      ((i : Invocation) (slots : List Value) → HoldsAfter W i (act table i slots)) →
+      (port : ℕ) (m : Node) → node T port ≡ Some m →
+      (n : Node) × (node S port ≡ Some n) × Became W (writes_at table act S event port) n m
+  before_of W begin goes port m h =
+      was_there W (writes_at table act S event port) (node S port) (node T port) m
+      (by_step table act S W begin goes event port) h
+
   -- the node of a port before the event
   pub before : (port : ℕ) (m : Node) → node T port ≡ Some m →
-      (n : Node) × (node S port ≡ Some n) × Became (writes_at table act S event port) n m
-  before port m h =
-      was_there (writes_at table act S event port) (node S port) (node T port) m
-      (by_step table act S event port) h
+      (n : Node) × (node S port ≡ Some n)
+      × Became Nothing (writes_at table act S event port) n m
+  before = before_of Nothing (λ m values signed few. tt) (λ i slots known. known)
 
   -- sound nodes stay sound
   pub stays_sound : AllSound S → AllSound T
   stays_sound s = record {
     each = λ port m h.
         let was = before port m h in
-        was.2.sound (s.each port was.0 was.1);
+        sound_of Nothing m
+        (was.2.whole
+        (whole_of Nothing was.0 (all_nothing was.0.stack) (s.each port was.0 was.1)));
   }
 
   -- an object that is stored before and after has the writes of the event
@@ -75,10 +89,11 @@ module _ (table : List Class) (act : Acting) (S : State) (event : Event) where
   never_returns port serial n m h old gone q =
       let was = before port m q in
       let is : was.0 ≡ n = there (node S port) was.0 n was.1 h in
-      (subst (λ x. Became (writes_at table act S event port) x m) is was.2).gone serial old gone
+      (subst (λ x. Became Nothing (writes_at table act S event port) x m) is was.2).gone serial old
+      gone
 
 -- what holds of each node as it opens holds of each of a list of stations that open
-opened : (P : Node → Type 0) (table : List Class) (all : List ℕ) →
+pub opened : (P : Node → Type 0) (table : List Class) (all : List ℕ) →
     ((s : Seat) → P (opening_node table all s)) → (seats : List Seat) (port : ℕ) (n : Node) →
     option_map (λ s. s.node) (find (λ s. port == s.port) (map (opening_station table all) seats))
     ≡ Some n → P n

@@ -8,7 +8,9 @@ use Rattle.do_base.specs.declared.events.event.Event.{Event}
 use Rattle.do_base.specs.declared.events.event.Event.TheVariants.{Check, Close, Lose, Run, Start}
 use Rattle.do_base.specs.declared.events.event.Event.TheVariants.{Take, Timeout}
 use Rattle.do_class.specs.Class.{Class}
+use Rattle.do_base.specs.declared.values.value.Value.{Value}
 use Rattle.do_behave.specs.declared.act.Write.{Write}
+use Rattle.do_behave.specs.declared.invocation.Invocation.{Invocation}
 use Rattle.do_machine.specs.declared.item.Item.{Item}
 use Rattle.do_machine.specs.declared.item.Item.TheVariants as items
 use Rattle.do_machine.specs.declared.node.Node.{Node}
@@ -30,6 +32,7 @@ use Rattle.do_machine.specs.held.Leaving.{leaving}
 use Rattle.do_machine.specs.run.Run.{Acting, run_effect}
 use Rattle.do_machine.specs.take.Take.{can_take, take_effect}
 use Rattle.do_objects.specs.Writes.{run_writes, writes_to}
+use Rattle.do_objects.proofs.Known.{HoldsAfter, HoldsBegun, Known}
 use Rattle.do_objects.proofs.Kept.{Became, Keeps, became, none, stayed}
 use Rattle.do_objects.proofs.Chains.{either, found_or}
 use Rattle.do_objects.proofs.Finding.{absent}
@@ -80,15 +83,16 @@ others_same port other S e h =
     ∙ unchanged port other e S.stations h
 
 -- what becomes of a node, with these writes, or of none
-abbrev pub Becomes : (ℕ → List Write) → Option Node → Option Node → Type 0
-Becomes writes None now = now ≡ None
-Becomes writes (Some n) now = (m : Node) × (now ≡ Some m) × Became writes n m
+abbrev pub Becomes : Known → (ℕ → List Write) → Option Node → Option Node → Type 0
+Becomes W writes None now = now ≡ None
+Becomes W writes (Some n) now = (m : Node) × (now ≡ Some m) × Became W writes n m
 
 -- a node that stays
-stays : (writes : ℕ → List Write) → ((k : ℕ) → writes k ≡ []) → (was now : Option Node) →
-    now ≡ was → Becomes writes was now
-stays writes quiet None now e = e
-stays writes quiet (Some n) now e = (n, e, stayed n writes quiet)
+stays : (W : Known) (writes : ℕ → List Write) → ((k : ℕ) → writes k ≡ []) →
+    (was now : Option Node) →
+    now ≡ was → Becomes W writes was now
+stays W writes quiet None now e = e
+stays W writes quiet (Some n) now e = (n, e, stayed n writes quiet)
 
 -- whether a port is another
 by_port : (P : Type 0) (p port : ℕ) → (p ≡ port → P) → ((p == port) ≡ false → P) → P
@@ -99,48 +103,49 @@ by_port P p port x y = by (p == port) refl
     by false e = y e
 
 -- what an event of the node of one port writes: nothing to other nodes
-module _ (writes : ℕ → ℕ → List Write) (port : ℕ)
+module _ (W : Known) (writes : ℕ → ℕ → List Write) (port : ℕ)
     (quiet : (p k : ℕ) → (p == port) ≡ false → writes p k ≡ []) where
   -- the node does nothing
   idle : (S : State) → ((n : Node) → node S port ≡ Some n → (k : ℕ) → writes port k ≡ []) →
-      (p : ℕ) → Becomes (writes p) (node S p) (node S p)
+      (p : ℕ) → Becomes W (writes p) (node S p) (node S p)
   idle S none_own p =
-      by_port (Becomes (writes p) (node S p) (node S p)) p port
-      (λ e. subst (λ x. Becomes (writes x) (node S x) (node S x)) (sym e) (own (node S port) refl))
-      (λ e. stays (writes p) (λ k. quiet p k e) (node S p) (node S p) refl)
+      by_port (Becomes W (writes p) (node S p) (node S p)) p port
+      (λ e. subst (λ x. Becomes W (writes x) (node S x) (node S x)) (sym e)
+      (own (node S port) refl))
+      (λ e. stays W (writes p) (λ k. quiet p k e) (node S p) (node S p) refl)
     where
-      own : (was : Option Node) → node S port ≡ was → Becomes (writes port) was was
+      own : (was : Option Node) → node S port ≡ was → Becomes W (writes port) was was
       own None h = refl
-      own (Some n) h = stays (writes port) (none_own n h) (Some n) (Some n) refl
+      own (Some n) h = stays W (writes port) (none_own n h) (Some n) (Some n) refl
 
   -- the node moves
   moves : (S : State) (e : Effect) (n : Node) → node S port ≡ Some n →
-      Keeps (writes port) n e.node →
-      (p : ℕ) → Becomes (writes p) (node S p) (node (moved port S e).state p)
+      Keeps W (writes port) n e.node →
+      (p : ℕ) → Becomes W (writes p) (node S p) (node (moved port S e).state p)
   moves S e n h kept p =
-      by_port (Becomes (writes p) (node S p) (node (moved port S e).state p)) p port
-      (λ q. subst (λ x. Becomes (writes x) (node S x) (node (moved port S e).state x)) (sym q)
-      (subst (λ was. Becomes (writes port) was (node (moved port S e).state port)) (sym h) (
+      by_port (Becomes W (writes p) (node S p) (node (moved port S e).state p)) p port
+      (λ q. subst (λ x. Becomes W (writes x) (node S x) (node (moved port S e).state x)) (sym q)
+      (subst (λ was. Becomes W (writes port) was (node (moved port S e).state port)) (sym h) (
         _,
         moved_node port S e n h,
         became (writes port) (around (commit port e S) e.node).entry n e.node kept,
       )))
-      (λ q. stays (writes p) (λ k. quiet p k q) (node S p) _ (others_same port p S e q))
+      (λ q. stays W (writes p) (λ k. quiet p k q) (node S p) _ (others_same port p S e q))
 
   -- the node moves, where there is an effect
   by_event : (S : State) (f : Node → Option Effect) →
-      ((n : Node) → node S port ≡ Some n → KeepsIf (writes port) n (f n)) →
-      (p : ℕ) → Becomes (writes p) (node S p)
+      ((n : Node) → node S port ≡ Some n → KeepsIf W (writes port) n (f n)) →
+      (p : ℕ) → Becomes W (writes p) (node S p)
       (node (unwrap_or (moved_by port S (option_and_then f (node S port))) (skipped S)).state p)
   by_event S f keeps p = at (node S port) refl
     where
       found : (n : Node) → node S port ≡ Some n → (e : Option Effect) →
-          KeepsIf (writes port) n e → Becomes (writes p) (node S p)
+          KeepsIf W (writes port) n e → Becomes W (writes p) (node S p)
           (node (unwrap_or (moved_by port S e) (skipped S)).state p)
       found n h None nothing = idle S (λ _ _. nothing) p
       found n h (Some e) kept = moves S e n h kept p
 
-      at : (was : Option Node) → node S port ≡ was → Becomes (writes p) (node S p)
+      at : (was : Option Node) → node S port ≡ was → Becomes W (writes p) (node S p)
           (node (unwrap_or (moved_by port S (option_and_then f was)) (skipped S)).state p)
       at None h = idle S (λ n e. absurd (absent n (node S port) e h)) p
       at (Some n) h = found n h (f n) (keeps n h)
@@ -149,18 +154,19 @@ module _ (writes : ℕ → ℕ → List Write) (port : ℕ)
 abbrev nowhere : ℕ → ℕ → List Write
 nowhere p = none
 
-module _ (S : State) (p : ℕ) where
+module _ (W : Known) (S : State) (p : ℕ) where
   -- the node of a port, with nothing written, where an event comes to this
   abbrev Quietly : Option Stepped → Type 0
-  Quietly found = Becomes none (node S p) (node (unwrap_or found (skipped S)).state p)
+  Quietly found = Becomes W none (node S p) (node (unwrap_or found (skipped S)).state p)
 
   -- an event that is not enabled
   skips : Quietly None
-  skips = stays none (λ k. refl) (node S p) (node S p) refl
+  skips = stays W none (λ k. refl) (node S p) (node S p) refl
 
   -- a take
-  takes : (table : List Class) (port from : ℕ) → Quietly (take table S port from)
-  takes table port from =
+  takes : (table : List Class) → HoldsBegun W table → (port from : ℕ) →
+      Quietly (take table S port from)
+  takes table begin port from =
       found_or Quietly (node S port) None _ skips
       (λ n h. either Quietly (not (can_take from n)) None _ (λ _. skips)
       (λ _. found_or Quietly (queue S from port) None _ skips
@@ -174,11 +180,11 @@ module _ (S : State) (p : ℕ) where
       took n h waiting item =
           let T = change from (with_queue port (drop 1 waiting)) S in
           let e = take_effect (context table T n) from item in
-          subst (λ was. Becomes none was (node (moved port T e).state p))
+          subst (λ was. Becomes W none was (node (moved port T e).state p))
           (requeued from port p (drop 1 waiting) S.stations)
-          (moves nowhere port (λ q k _. refl) T e n
+          (moves W nowhere port (λ q k _. refl) T e n
           (requeued from port port (drop 1 waiting) S.stations ∙ h)
-          (by_take (context table T n) from item) p)
+          (by_take W (context table T n) begin from item) p)
 
   -- a close
   closes : (port peer : ℕ) → Quietly (close S port peer)
@@ -186,7 +192,7 @@ module _ (S : State) (p : ℕ) where
       found_or Quietly (node S port) None _ skips
       (λ n h. either Quietly (not (is_open n peer)) None (Some (moved port S (closing peer n)))
       (λ _. skips)
-      (λ _. moves nowhere port (λ q k _. refl) S (closing peer n) n h (by_closing peer n) p))
+      (λ _. moves W nowhere port (λ q k _. refl) S (closing peer n) n h (by_closing peer n) p))
 
   -- the same, where an event comes to this state and shows nothing
   abbrev Lost : Option State → Type 0
@@ -201,7 +207,7 @@ module _ (S : State) (p : ℕ) where
       (λ waiting _. either Lost (nat_lt (length waiting) count) None
       (Some (change from (with_queue to (insert waiting count (items.End []))) S))
       (λ _. skips)
-      (λ _. stays none (λ k. refl) (node S p) _
+      (λ _. stays W none (λ k. refl) (node S p) _
       (requeued from to p (insert waiting count (items.End [])) S.stations)))))
 
 module _ (table : List Class) (act : Acting) (S : State) where
@@ -230,20 +236,22 @@ module _ (table : List Class) (act : Acting) (S : State) where
       turned a b q = grind (arith, q)
 
   -- what becomes of each node by an event
-  pub by_step : (event : Event) (p : ℕ) →
-      Becomes (writes_at event p) (node S p) (node (step table act S event).state p)
-  by_step (Start port selector values) p =
-      by_event nowhere port (λ q k _. refl) S (start_effect table selector values)
-      (λ n _. by_start table selector values n) p
-  by_step (Run port) p =
-      by_event (writes_at (Run port)) port (other_writes port) S
+  pub by_step : (W : Known) → HoldsBegun W table →
+      ((i : Invocation) (slots : List Value) → HoldsAfter W i (act table i slots)) →
+      (event : Event) (p : ℕ) →
+      Becomes W (writes_at event p) (node S p) (node (step table act S event).state p)
+  by_step W begin goes (Start port selector values) p =
+      by_event W nowhere port (λ q k _. refl) S (start_effect table selector values)
+      (λ n _. by_start W table selector values n begin) p
+  by_step W begin goes (Run port) p =
+      by_event W (writes_at (Run port)) port (other_writes port) S
       (λ n. run_effect act (context table S n))
-      (λ n h. keeps_as n (run_effect act (context table S n))
+      (λ n h. keeps_as W n (run_effect act (context table S n))
       (run_writes table act n n.stack) (writes_at (Run port) port) (own_writes port n h)
-      (by_run act (context table S n))) p
-  by_step (Take port from) p = takes S p table port from
-  by_step (Close port peer) p = closes S p port peer
-  by_step (Lose from to count) p = loses S p from to count
-  by_step (Timeout port) p =
-      by_event nowhere port (λ q k _. refl) S time_out (λ n _. by_time_out n) p
-  by_step Check p = skips S p
+      (by_run W act (context table S n) begin goes)) p
+  by_step W begin goes (Take port from) p = takes W S p table begin port from
+  by_step W begin goes (Close port peer) p = closes W S p port peer
+  by_step W begin goes (Lose from to count) p = loses W S p from to count
+  by_step W begin goes (Timeout port) p =
+      by_event W nowhere port (λ q k _. refl) S time_out (λ n _. by_time_out W n) p
+  by_step W begin goes Check p = skips W S p

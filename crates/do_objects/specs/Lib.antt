@@ -1,3 +1,4 @@
 pub mod Reached
 pub mod OwnClass
+pub mod CanAct
 pub mod Writes

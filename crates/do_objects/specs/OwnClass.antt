@@ -17,9 +17,13 @@ WasMadeOf n serial class =
 abbrev pub HaveOwnMethods : Node → List Invocation → Type 0
 HaveOwnMethods n is = AllByRecursion (λ i. WasMadeOf n i.object.serial i.method.class) is
 
+-- the node stores no serial that it did not give
+abbrev pub StoresGiven : Node → Type 0
+StoresGiven n = (serial : ℕ) → n.next_serial ≤ serial → stored serial n.heap ≡ None
+
 -- a node that stores no serial that it did not give, and whose invocations have such methods
 pub record IsSound (n : Node) : Type 0 where
-  pub given : (serial : ℕ) → n.next_serial ≤ serial → stored serial n.heap ≡ None
+  pub given : StoresGiven n
   pub invocations : HaveOwnMethods n n.stack
 
 -- each node of a state is sound

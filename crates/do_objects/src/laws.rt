@@ -11,6 +11,7 @@ ghost use Rattle.do_machine.specs.Step.{step};
 ghost use Rattle.do_machine.specs.World.{opening};
 ghost use Rattle.do_machine.specs.run.Changes.{with_writes};
 ghost use Rattle.do_machine.specs.run.Run.{Acting};
+ghost use Rattle.do_objects.specs.CanAct.{AllCanAct, KeepsLocals};
 ghost use Rattle.do_objects.specs.OwnClass.{AllSound};
 ghost use Rattle.do_objects.specs.Reached.{object_of, reached};
 ghost use Rattle.do_objects.specs.Writes.{writes_to};
@@ -41,4 +42,20 @@ pub fn invocations_run_own_methods()
         AllSound S → AllSound (step table act S event).state }
     ensures schedules { (table : List Class) (act : Acting) (seats : List Seat)
         (events : List Event) → AllSound (reached table act seats events) }
+{}
+
+/// A law alone: in every state that a schedule comes to, each invocation runs a method that the
+/// table has, and has 16 locals.
+///
+/// The signatures of the table are to be those of methods, as in every world, and each step of the
+/// behaviour is to give 16 locals, as each of a program and of native classes does.
+pub fn invocations_can_act()
+    ensures opening { (table : List Class) (seats : List Seat) →
+        AllCanAct table (opening table seats) }
+    ensures steps { (table : List Class) (act : Acting) (S : State) (event : Event) →
+        KeepsLocals table act → AllSound S → AllCanAct table S →
+        AllCanAct table (step table act S event).state }
+    ensures schedules { (table : List Class) (act : Acting) (seats : List Seat)
+        (events : List Event) → KeepsLocals table act →
+        AllCanAct table (reached table act seats events) }
 {}

@@ -1,0 +1,87 @@
+-- Invocations can act in every state.
+use Rattle.std.proofs.Common.{◌≡◌, List, [], ◌∷◌, map, arith}
+use Rattle.std.specs.List.{AllByRecursion}
+use Rattle.std.specs.Option.{IsSome}
+use Rattle.do_base.specs.declared.events.event.Event.{Event}
+use Rattle.do_class.specs.Class.{Class}
+use Rattle.do_class.specs.Table.{method_at}
+use Rattle.do_behave.specs.Answers.{HasLocals}
+use Rattle.do_behave.specs.declared.act.Act.{Act}
+use Rattle.do_behave.specs.declared.act.Act.TheVariants as acts
+use Rattle.do_behave.specs.declared.invocation.Invocation.{Invocation}
+use Rattle.do_machine.specs.declared.node.Node.{Node}
+use Rattle.do_machine.specs.declared.state.Seat.{Seat}
+use Rattle.do_machine.specs.declared.state.State.{State}
+use Rattle.do_machine.specs.Step.{step}
+use Rattle.do_machine.specs.World.{by_port, opening}
+use Rattle.do_machine.specs.run.Run.{Acting}
+use Rattle.do_objects.specs.CanAct.{AllCanAct, CanAct, KeepsLocals}
+use Rattle.do_objects.specs.OwnClass.{AllSound}
+use Rattle.do_objects.specs.Reached.{after, reached}
+use Rattle.do_objects.proofs.Counts.{begun_locals, has_method, takes_few}
+use Rattle.do_objects.proofs.Known.{HoldsAfter, HoldsBegun, Known}
+use Rattle.do_objects.proofs.Sound.{before_of, opened, opens_sound, stays_sound}
+use Rattle.do_objects.proofs.Whole.{known_of, whole_of}
+
+module _ (table : List Class) (act : Acting) (fed : KeepsLocals table act) where
+  -- the table has the method, and there are 16 locals
+  abbrev InTable : Known
+  InTable method count = IsSome (method_at table method) × (count ≡ 16)
+
+  -- an invocation begins so
+  begins_in : HoldsBegun InTable table
+  begins_in m values signed few = (
+    has_method table m.id m.signature signed,
+    begun_locals values
+        (omega (arith, few, takes_few table fed.signatures m.id m.signature signed)),
+  )
+
+  -- and is so after an act
+  after_in : (i : Invocation) (a : Act) → HasLocals a → HoldsAfter InTable i a
+  after_in i (acts.Step pc locals handler writes) sixteen = λ h. (h.0, sixteen)
+  after_in i (acts.New class into pc) sixteen = λ h. h
+  after_in i (acts.Send target selector args into from pc) sixteen = λ h. h
+  after_in i (acts.Root port into pc) sixteen = λ h. h
+  after_in i (acts.Vend value pc) sixteen = λ h. h
+  after_in i (acts.Say value pc) sixteen = λ h. h
+  after_in i (acts.Return value) sixteen = λ h. h
+  after_in i (acts.Raise e) sixteen = λ h. h
+
+-- invocations can still act after an event
+pub still_can : (table : List Class) (act : Acting) (S : State) (event : Event) →
+    KeepsLocals table act → AllSound S → AllCanAct table S →
+    AllCanAct table (step table act S event).state
+still_can table act S event fed s can = record {
+  each = λ port m h.
+      let W = InTable table act fed in
+      let was = before_of table act S event W (begins_in table act fed)
+      (λ i slots. after_in table act fed i (act table i slots) (fed.steps i slots)) port m h in
+      known_of W m
+      (was.2.whole (whole_of W was.0 (can.each port was.0 was.1) (s.each port was.0 was.1)));
+}
+
+-- there are no invocations as a machine opens
+pub opens_able : (table : List Class) (seats : List Seat) → AllCanAct table (opening table seats)
+opens_able table seats = record {
+  each = λ port n h.
+      let sorted = by_port seats in
+      opened (λ (n : Node). AllByRecursion (CanAct table) n.stack) table
+      (map (λ s. s.node) sorted) (λ s. tt) sorted port n h;
+}
+
+-- they can act after any events
+pub after_able : (table : List Class) (act : Acting) (S : State) (events : List Event) →
+    KeepsLocals table act → AllSound S → AllCanAct table S →
+    AllCanAct table (after table act S events)
+after_able table act S [] fed s can = can
+after_able table act S (event ∷ events) fed s can =
+    after_able table act (step table act S event).state events fed
+    (stays_sound table act S event s) (still_can table act S event fed s can)
+
+-- and in every state that is reached
+pub reached_able : (table : List Class) (act : Acting) (seats : List Seat)
+    (events : List Event) → KeepsLocals table act →
+    AllCanAct table (reached table act seats events)
+reached_able table act seats events fed =
+    after_able table act (opening table seats) events fed (opens_sound table seats)
+    (opens_able table seats)

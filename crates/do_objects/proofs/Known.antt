@@ -1,0 +1,40 @@
+-- What else a node's steps keep of its invocations.
+use Rattle.std.proofs.Common.{◌≡◌, ◌-◌, ◌≤◌, ◌++◌, ℕ, List, length}
+use Rattle.std.specs.Prelude.{Some, replicate}
+use Rattle.std.specs.List.{AllByRecursion}
+use Rattle.do_base.specs.declared.values.value.Value.{Value}
+use Rattle.do_base.specs.declared.values.value.Value.TheVariants.{Nil}
+use Rattle.do_class.specs.Class.{Class}
+use Rattle.do_class.specs.Table.{signature_of}
+use Rattle.do_class.specs.declared.ids.MethodId.{MethodId}
+use Rattle.do_behave.specs.declared.act.Act.{Act}
+use Rattle.do_behave.specs.declared.act.Act.TheVariants.{Step}
+use Rattle.do_behave.specs.declared.invocation.Invocation.{Invocation}
+use Rattle.do_machine.specs.Context.{Found}
+
+-- what is known of an invocation, by its method and how many locals it has
+abbrev pub Known : Type 1
+Known = MethodId → ℕ → Type 0
+
+-- so much is known of each of these invocations
+abbrev pub AreKnown : Known → List Invocation → Type 0
+AreKnown W is = AllByRecursion (λ i. W i.method (length i.locals)) is
+
+-- how many locals an invocation begins with, by its values
+abbrev pub begun_count : List Value → ℕ
+begun_count values = length (values ++ replicate (16 - length values) Nil)
+
+-- so much is known of each invocation that begins with no more values than its method takes
+abbrev pub HoldsBegun : Known → List Class → Type 0
+HoldsBegun W table =
+    (m : Found) (values : List Value) → signature_of table m.id ≡ Some m.signature →
+    length values ≤ length m.signature.args → W m.id (begun_count values)
+
+-- how many locals an invocation has after an act
+abbrev pub count_after : Invocation → Act → ℕ
+count_after i (Step pc locals handler writes) = length locals
+count_after i _ = length i.locals
+
+-- so much is known of an invocation after an act, if it was before
+abbrev pub HoldsAfter : Known → Invocation → Act → Type 0
+HoldsAfter W i a = W i.method (length i.locals) → W i.method (count_after i a)
