@@ -1,3 +1,4 @@
 mod Targets
 mod Sent
 mod Passed
+mod Denied

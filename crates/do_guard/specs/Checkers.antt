@@ -4,6 +4,8 @@ use Rattle.std.specs.Prelude.{◌≡◌}
 use Rattle.std.specs.List.{AllByRecursion}
 use Rattle.do_base.specs.names.Names.{ObjectName}
 use Rattle.do_base.specs.values.Kinds.{is_nil}
+use Rattle.do_base.specs.declared.events.event.Event.TheVariants.{Run}
+use Rattle.do_base.specs.declared.events.exception.Exc.TheVariants.{User}
 use Rattle.do_base.specs.declared.values.value.Value.{Value}
 use Rattle.do_base.specs.declared.values.value.Value.TheVariants.{Obj}
 use Rattle.do_class.specs.Class.{Class}
@@ -15,13 +17,18 @@ use Rattle.do_check.specs.Rules.{verdict_of}
 use Rattle.do_check.specs.declared.rules.Rule.{Rule}
 use Rattle.do_check.specs.declared.rules.Verdict.TheVariants.{Forward}
 use Rattle.do_kinds.specs.declared.kind.Kind.TheVariants.{Checker}
+use Rattle.do_native.specs.Acts.{native_act}
 use Rattle.do_native.specs.declared.native.Native.{Native}
 use Rattle.do_machine.specs.declared.item.Item.{Item}
 use Rattle.do_machine.specs.declared.node.Node.{Node}
 use Rattle.do_machine.specs.declared.node.Stored.{Stored}
 use Rattle.do_machine.specs.declared.state.State.{State}
+use Rattle.do_machine.specs.Commit.{moved}
+use Rattle.do_machine.specs.Context.{context}
 use Rattle.do_machine.specs.Objects.{object_at}
 use Rattle.do_machine.specs.State.{node, queue, stored}
+use Rattle.do_machine.specs.Step.{enabled_step}
+use Rattle.do_machine.specs.run.Delivery.{failing}
 use Rattle.do_machine.specs.run.Run.{slots_seen}
 use Rattle.do_machine.specs.declared.item.Item.TheVariants as items
 
@@ -42,6 +49,15 @@ pub record RunsChecker (b : Native) (rules : List Rule) (S : State) (port : ℕ)
   pub top : n.stack ≡ i ∷ below
   pub kind : IsOfCheckers b i.method.class
   pub listed : slice_get b.rules i.method.class.0 ≡ Some rules
+
+-- a run of the node of a port, with this invocation on top, raises a text: it goes to the
+-- invocation's handler, or ends it
+abbrev pub RunRaises : Native → List Class → State → ℕ → Node → Invocation → List Invocation →
+    List ℕ → Type 0
+RunRaises b table S port n i below text =
+    enabled_step table (native_act b) S (Run port)
+    ≡ Some (moved port S (failing
+    (record { context = context table S n; top = i; below = below }) (User text) i.handler))
 
 -- What an invocation of a checker may send: the message that it was called with, which a rule
 -- allows, to the target in its object's slot

@@ -1,10 +1,10 @@
-ghost use Rattle.std.specs.Prelude.{◌≡◌, ◌++◌, ◌∷◌, ℕ, List, Some, codes, false};
+ghost use Rattle.std.specs.Prelude.{◌≡◌, ◌++◌, ◌∷◌, ℕ, All, List, Some, codes, false};
 ghost use Rattle.std.specs.Str.{bytes_eq};
 ghost use Rattle.do_base.specs.names.Names.{ObjectName};
 ghost use Rattle.do_base.specs.declared.events.event.Event.{Event};
 ghost use Rattle.do_base.specs.declared.events.event.Event.TheVariants.{Run};
-ghost use Rattle.do_base.specs.declared.events.exception.Exc.TheVariants.{User};
 ghost use Rattle.do_class.specs.Class.{Class};
+ghost use Rattle.do_class.specs.Table.{selector_of};
 ghost use Rattle.do_behave.specs.declared.invocation.Invocation.{Invocation};
 ghost use Rattle.do_behave.specs.declared.invocation.InvState.TheVariants.{Running};
 ghost use Rattle.do_acts.specs.Places.{selector_in};
@@ -17,13 +17,12 @@ ghost use Rattle.do_machine.specs.declared.node.Node.{Node};
 ghost use Rattle.do_machine.specs.declared.node.Stored.{Stored};
 ghost use Rattle.do_machine.specs.declared.state.Seat.{Seat};
 ghost use Rattle.do_machine.specs.declared.state.State.{State};
-ghost use Rattle.do_machine.specs.Commit.{moved};
-ghost use Rattle.do_machine.specs.Context.{context};
-ghost use Rattle.do_machine.specs.Step.{enabled_step, step};
-ghost use Rattle.do_machine.specs.run.Delivery.{failing};
+ghost use Rattle.do_machine.specs.Step.{step};
+ghost use Rattle.do_machine.specs.World.{HasSignatures};
 ghost use Rattle.do_objects.specs.OwnClass.{AllSound};
 ghost use Rattle.do_objects.specs.Reached.{after, object_of, reached};
-ghost use Rattle.do_guard.specs.Checkers.{HasTarget, IsOfCheckers, MaySend, RunsChecker, SendsOnly};
+ghost use Rattle.do_guard.specs.Checkers.{HasTarget, IsOfCheckers, MaySend, RunRaises};
+ghost use Rattle.do_guard.specs.Checkers.{RunsChecker, SendsOnly};
 
 use do_machine::queues_grow_behind;
 
@@ -56,15 +55,24 @@ pub fn checkers_send_to_their_target()
     queues_grow_behind();
 }
 
-/// A law alone: in every state, a running invocation of a checker, of 16 locals, whose selector is
-/// denied raises the text of the rule: it goes to the invocation's handler, or ends it.
+/// A law alone: in every state that a schedule comes to, a running invocation of a checker whose
+/// method's selector is denied raises the text of the rule: it goes to the invocation's handler, or
+/// ends it. So it is in any state at all where the invocation has its 16 locals.
+///
+/// The signatures of the table are to be those of methods, as in every world. `guard:` is left out,
+/// since a checker answers it by itself, whatever rule there is for it.
 pub fn denials_raise_their_rule()
-    ensures { (b : Native) (rules : List Rule) (table : List Class) (S : State) (port : ℕ)
+    ensures schedules { (b : Native) (rules : List Rule) (table : List Class) (seats : List Seat)
+        (events : List Event) (port : ℕ) (n : Node) (i : Invocation) (below : List Invocation)
+        (selector text : List ℕ) → All HasSignatures table →
+        RunsChecker b rules (reached table (native_act b) seats events) port n i below →
+        i.state ≡ Running → selector_of table i.method ≡ Some selector →
+        bytes_eq selector (codes "guard:") ≡ false →
+        verdict_of rules selector ≡ Some (Deny text) →
+        RunRaises b table (reached table (native_act b) seats events) port n i below text }
+    ensures states { (b : Native) (rules : List Rule) (table : List Class) (S : State) (port : ℕ)
         (n : Node) (i : Invocation) (below : List Invocation) (selector text : List ℕ) →
         RunsChecker b rules S port n i below → i.state ≡ Running →
         selector_in table i ≡ Some selector → bytes_eq selector (codes "guard:") ≡ false →
-        verdict_of rules selector ≡ Some (Deny text) →
-        enabled_step table (native_act b) S (Run port)
-        ≡ Some (moved port S (failing
-        (record { context = context table S n; top = i; below = below }) (User text) i.handler)) }
+        verdict_of rules selector ≡ Some (Deny text) → RunRaises b table S port n i below text }
 {}

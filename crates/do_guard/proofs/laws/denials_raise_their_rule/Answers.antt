@@ -1,6 +1,10 @@
+use Rattle.do_guard.proofs.Denied.{raises_reached}
 use Rattle.do_guard.proofs.Passed.{raises}
 use Rattle.do_guard.proofs.laws.denials_raise_their_rule.Goals as goal
 
-pub returns : goal.returns
-returns c b rules table S port n i below selector text runs running hand other denied =
-    raises b rules table S port n i below runs selector text running hand other denied
+pub returns-clause-schedules : goal.returns-clause-schedules
+returns-clause-schedules c = raises_reached
+
+pub returns-clause-states : goal.returns-clause-states
+returns-clause-states c = λ b rules table S port n i below selector text runs.
+    raises b rules table S port n i below runs selector text
