@@ -135,6 +135,7 @@ fn stack() -> (u64, u64, u64, usize) {
             }
             67..75 => {
                 if let Some(Doing::Waits(number, peer, root)) = stack.last().copied() {
+                    late.retain(|call| call.0 != number);
                     late.push((number, peer, root));
                     stack.pop();
                     stack.push(Doing::Answered);

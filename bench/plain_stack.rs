@@ -1,5 +1,6 @@
 // Plain Rust beside the calls that crates/stack_calls times: a vector of invocations, the top last,
-// and one of late calls by rising number.
+// and a map of late calls by number.
+use std::collections::BTreeMap;
 use std::hint::black_box;
 use std::mem;
 
@@ -62,17 +63,10 @@ struct Invocation {
     state: State,
 }
 
-#[derive(PartialEq)]
-struct Late {
-    number: u64,
-    peer: u16,
-    root: bool,
-}
-
 #[derive(Default)]
 struct Stack {
     invocations: Vec<Invocation>,
-    late: Vec<Late>,
+    late: BTreeMap<u64, (u16, bool)>,
 }
 
 impl Stack {
@@ -127,16 +121,17 @@ impl Stack {
         let State::Waits { number, peer, root } = top.state else {
             return false;
         };
-        let place = self.late.iter().position(|other| number < other.number);
-        self.late.insert(place.unwrap_or(self.late.len()), Late { number, peer, root });
+        self.late.insert(number, (peer, root));
         top.state = State::Answered(Answer::Raised(1));
         true
     }
 
     fn late(&mut self, number: u64, peer: u16, root: bool) -> bool {
-        let before = self.late.len();
-        self.late.retain(|call| *call != Late { number, peer, root });
-        self.late.len() < before
+        let there = self.late.get(&number) == Some(&(peer, root));
+        if there {
+            self.late.remove(&number);
+        }
+        there
     }
 }
 
@@ -167,20 +162,29 @@ fn measure(depth: u64) {
         stack.answer(depth, peer, Answer::Raised(0)) && stack.take_answer().is_some()
     });
     say("a call waited for and answered", depth, done, start);
-    for number in 0..depth {
+}
+
+fn measure_late(others: u64) {
+    let peer = black_box(7002);
+    let mut stack = Stack::default();
+    stack.push();
+    for number in 0..others {
         stack.wait(number, peer);
         stack.give_up();
     }
     let start = now();
     let done = times(|_| {
-        stack.wait(depth, peer);
-        stack.give_up() && stack.late(depth, peer, true)
+        stack.wait(others, peer);
+        stack.give_up() && stack.late(others, peer, true)
     });
-    say("a call given up and then answered", depth, done, start);
+    say("a call given up and then answered", others, done, start);
 }
 
 fn main() {
     for depth in [10, 100, 256] {
         measure(depth);
+    }
+    for others in [10, 1_000, 100_000] {
+        measure_late(others);
     }
 }

@@ -1,4 +1,5 @@
 mod Answers
+mod LateRows
 pub mod UsesMove
 mod References
 pub mod ObjectsOnce

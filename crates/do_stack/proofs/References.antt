@@ -15,12 +15,12 @@ use Rattle.do_behave.specs.declared.invocation.Invocation.{Invocation}
 use Rattle.do_machine.specs.declared.node.Node.{Node}
 use Rattle.do_machine.specs.declared.node.Stored.{Stored}
 use Rattle.do_machine.specs.State.{own}
-use Rattle.do_machine.specs.held.Kept.{is_root, is_held_up, stays}
+use Rattle.do_machine.specs.held.Kept.{is_root, is_held_up}
 use Rattle.do_machine.specs.held.Refers.{objects_in, state_values, invocation_objects}
-use Rattle.do_machine.specs.held.Refers.{stack_objects, heap_objects, node_objects}
+use Rattle.do_machine.specs.held.Refers.{stack_objects, heap_objects}
 use Rattle.do_packet.specs.Met.{has_object, same_object}
 use Rattle.do_stack.specs.Uses.{names, uses, invocation_values, stack_uses, CountsReferences}
-use Rattle.do_stack.specs.Uses.{heap_uses, times, node_uses, CountsNode, holders, CountsHolders}
+use Rattle.do_stack.specs.Uses.{heap_uses, times, CountsNode, holders, CountsHolders}
 
 -- a count is above 0 exactly where a test passes
 abbrev Counts : ℕ → Bool → Type 0

@@ -1,6 +1,6 @@
 -- How often objects are used, where invocations come to wait or are answered.
 use Rattle.std.proofs.Common.{◌≡◌, ℕ, ◌+◌, Bool, true, false, cond, List as Listed, [], ◌∷◌, ◌++◌}
-use Rattle.std.proofs.Common.{Some, map, refl, sym, ap, ◌∙◌, arith, IsSome}
+use Rattle.std.proofs.Common.{Some, map, refl, ap, arith, IsSome}
 use Rattle.std.specs.Prelude.{slice_get, ◌==◌}
 use Rattle.std.specs.Option.{is_some}
 use Rattle.std.proofs.lemmas.List.Sums.{sum_by-cons}

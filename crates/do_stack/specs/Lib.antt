@@ -1,5 +1,6 @@
 pub mod Waiting
 pub mod Late
+pub mod LateCalls
 pub mod Answered
 pub mod Stacked
 pub mod Uses

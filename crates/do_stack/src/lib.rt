@@ -1,8 +1,9 @@
 //! The invocations of a node, and the answers to the calls that they wait for.
 //!
-//! It stands on do_base and do_behave, and takes the words for waiting and late calls from
-//! do_machine. It promises the invocations and the late calls after each change, that an answer
-//! finds the invocation that waits for it, and what a change of the top takes out of it.
+//! It stands on do_base and do_behave, keeps late calls in a map of do_sorted, and takes the words
+//! for waiting and late calls from do_machine. It promises the invocations and the late calls after
+//! each change, that an answer finds the invocation that waits for it, and what a change of the top
+//! takes out of it.
 #![tactic(auto)]
 
 mod exchange;

@@ -16,8 +16,8 @@ ghost use Rattle.do_stack.specs.Exchange.{given, taken, named_again, slots_after
 ghost use Rattle.do_stack.specs.Uses.{uses, stack_uses, invocation_values};
 
 use crate::exchange::{Exchanged, exchange};
+use crate::late::LateCalls;
 use do_behave::{Change, Invocation};
-use do_machine::LateCall;
 use std::alloc::{AllocError, Global};
 use std::collections::VecDeque;
 use std::marker::Model;
@@ -31,11 +31,12 @@ pub struct PushBack {
 /// The invocations of a node, 256 at most, and its calls that were given up.
 ///
 /// Contracts see the invocations, the top first, the late calls by rising number, and the room
-/// left. Only the top acts, so the invocation that waits for a call is looked for from the top.
+/// left. Only the top acts, so the invocation that waits for a call is looked for from the top; a
+/// late call is found by its number.
 #[derive(Drop)]
 pub struct Stack {
     invs: VecDeque<Invocation>,
-    late: Vec<LateCall>,
+    late: LateCalls,
 }
 
 impl Model for Stack {
@@ -62,7 +63,7 @@ impl Stack {
     {
         Stack {
             invs: VecDeque::new(alloc),
-            late: Vec::new(alloc),
+            late: LateCalls::new(alloc),
         }
     }
 
@@ -76,7 +77,7 @@ impl Stack {
         ensures kept { self.old.spare ≤ self.new.spare }
     {
         self.invs.reserve(more as usize)?;
-        self.late.reserve(more as usize)
+        self.late.reserve(more)
     }
 
     /// How many more invocations and late calls fit with no memory taken, of whichever fewer fit.
@@ -84,8 +85,7 @@ impl Stack {
         ensures { result ≡ self.now.spare }
     {
         let invs = self.invs.capacity() - self.invs.len();
-        let late = self.late.capacity() - self.late.len();
-        invs.min(late) as u64
+        self.late.spare().min(invs as u64)
     }
 
     /// How many invocations there are, 256 at most.

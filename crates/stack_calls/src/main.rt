@@ -16,7 +16,7 @@ mod seen;
 mod stack;
 
 use crate::drive::drive_stack;
-use crate::measure::measure;
+use crate::measure::{measure, measure_late};
 use std::alloc::Global;
 use std::env;
 use std::io::{self, Print};
@@ -43,5 +43,8 @@ fn main(rt: HostRuntime) -> io::Result<()> {
     print_driven(&rt, alloc, 100_000)?;
     measure(&rt, alloc, 10)?;
     measure(&rt, alloc, 100)?;
-    measure(&rt, alloc, 256)
+    measure(&rt, alloc, 256)?;
+    measure_late(&rt, alloc, 10)?;
+    measure_late(&rt, alloc, 1_000)?;
+    measure_late(&rt, alloc, 100_000)
 }

@@ -128,7 +128,7 @@ fn say(
     eprintln!(rt; "{name}, {members} members: {ROUNDS} calls, {hundredths} hundredths of a ns each")
 }
 
-/// Measures what calls of a stack of so many invocations cost, and with as many late calls.
+/// Measures what calls of a stack of so many invocations cost.
 pub fn measure(rt: &(impl CpuClock + Eprint), alloc: Global, depth: u32) -> io::Result<()> {
     let (Some(node), Some(peer)) = (NodeId::new(7001), NodeId::new(7002)) else {
         return Err(io::Error::other("no port"));
@@ -144,9 +144,18 @@ pub fn measure(rt: &(impl CpuClock + Eprint), alloc: Global, depth: u32) -> io::
     say(rt, "an invocation taken off and put on", depth, done, start)?;
     let start = rt.process_cpu_time()?;
     let done = answer_each(&mut stack, call, peer);
-    say(rt, "a call waited for and answered", depth, done, start)?;
-    give_up_many(&mut stack, node, peer, depth)?;
+    say(rt, "a call waited for and answered", depth, done, start)
+}
+
+/// Measures what a call costs that is given up and then answered, where so many others are late.
+pub fn measure_late(rt: &(impl CpuClock + Eprint), alloc: Global, others: u32) -> io::Result<()> {
+    let (Some(node), Some(peer)) = (NodeId::new(7001), NodeId::new(7002)) else {
+        return Err(io::Error::other("no port"));
+    };
+    let number = u64::from(others);
+    let mut stack = filled(alloc, node, peer, 1)?;
+    give_up_many(&mut stack, node, peer, others)?;
     let start = rt.process_cpu_time()?;
-    let done = give_up_each(&mut stack, call, peer)?;
-    say(rt, "a call given up and then answered", depth, done, start)
+    let done = give_up_each(&mut stack, CallId { node, number }, peer)?;
+    say(rt, "a call given up and then answered", others, done, start)
 }

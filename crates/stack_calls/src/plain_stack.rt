@@ -190,7 +190,8 @@ impl PlainStack {
         self.late.retain(|late| late.port != lost);
     }
 
-    /// Gives up the call of the top, where it waits for one, and tells whether it did.
+    /// Gives up the call of the top, where it waits for one, in place of a late one of its number,
+    /// and tells whether it did.
     pub fn abandon(&mut self) -> Result<bool, AllocError> {
         let Some(top) = self.top() else {
             return Ok(false);
@@ -198,13 +199,14 @@ impl PlainStack {
         let Doing::Waits { number, port, root } = top.doing else {
             return Ok(false);
         };
+        self.late.retain(|late| late.number != number);
         self.late.push(Late { number, port, root })?;
         self.set_top(Doing::Raised(Raised::TimedOut));
         count(&mut self.tally.given_up);
         Ok(true)
     }
 
-    /// Ends the late calls of a number, and tells whether there was one.
+    /// Ends the late call that is answered, and tells whether there was one.
     pub fn late(&mut self, number: u64, port: u16, root: bool) -> bool {
         let ended = Late { number, port, root };
         let before = self.late.len();

@@ -5,18 +5,16 @@ ghost use Rattle.std.specs.List.{list_any};
 ghost use Rattle.do_base.specs.names.Names.{ObjectName};
 ghost use Rattle.do_base.specs.declared.events.exception.Exc.TheVariants.{TimedOut};
 ghost use Rattle.do_behave.specs.declared.invocation.Answer.TheVariants.{Raised};
-ghost use Rattle.do_machine.specs.Lists.{inserted};
 ghost use Rattle.do_machine.specs.ends.Closing.{without_answer};
-ghost use Rattle.do_machine.specs.ends.TimeOut.{late_lt};
 ghost use Rattle.do_machine.specs.run.Changes.{answered};
 ghost use Rattle.do_machine.specs.take.Awaiting.{is_answered, late_answered};
 ghost use Rattle.do_machine.specs.declared.node.LateCall.{LateCall};
 ghost use Rattle.do_stack.specs.Waiting.{with_top};
 ghost use Rattle.do_stack.specs.Late.{top_call};
+ghost use Rattle.do_stack.specs.LateCalls.{kept};
 ghost use Rattle.do_stack.specs.Uses.{stack_uses};
 
 use super::Stack;
-use crate::late;
 use crate::waits::{fail_all, late_call};
 use do_base::{CallId, Exc, NodeId};
 use do_behave::{Answer, InvState};
@@ -35,7 +33,7 @@ impl Stack {
             ≡ stack_uses o self.old.invocations }
     {
         fail_all(&mut self.invs, peer);
-        late::forget(&mut self.late, peer);
+        self.late.forget(peer);
     }
 
     /// The call that the top invocation waits for.
@@ -47,7 +45,8 @@ impl Stack {
     }
 
     /// Answers the top invocation, which waits for a call, with a time-out, and keeps its call as
-    /// late. If memory runs out, the stack is unchanged; with room it cannot fail.
+    /// late, in place of any other of its number. If memory runs out, the stack is unchanged; with
+    /// room it cannot fail.
     #[tactic(auto, using(crate::proofs::UsesKept::kept_uses))]
     pub fn abandon(&mut self) -> Result<(), AllocError>
         requires { IsSome (top_call self.old.invocations) }
@@ -55,7 +54,7 @@ impl Stack {
             ≡ with_top (answered (Raised TimedOut)) self.old.invocations) }
         ensures late { OnOk result ((call : LateCall)
             → top_call self.old.invocations ≡ Some call
-            → self.new.late ≡ inserted late_lt call self.old.late) }
+            → self.new.late ≡ kept call self.old.late) }
         ensures err { OnErr result ((self.new.invocations ≡ self.old.invocations)
             × (self.new.late ≡ self.old.late)) }
         ensures room { 0 < self.old.spare → IsOk result }
@@ -66,7 +65,7 @@ impl Stack {
         let Some(call) = self.top_call() else {
             unreachable!();
         };
-        late::keep(&mut self.late, call)?;
+        self.late.keep(call)?;
         self.invs[0].state = InvState::Answered(Answer::Raised(Exc::TimedOut));
         Ok(())
     }
@@ -81,8 +80,6 @@ impl Stack {
             (record { peer = peer; number = call.number; root = root }) self.old.late }
         ensures invocations { self.new.invocations ≡ self.old.invocations }
     {
-        let there = late::has(&self.late, peer, call.number, root);
-        late::end(&mut self.late, peer, call.number, root);
-        there
+        self.late.end(peer, call.number, root)
     }
 }
