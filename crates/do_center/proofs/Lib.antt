@@ -10,6 +10,7 @@ pub mod QueuesKept
 pub mod PostKept
 pub mod RemovedKept
 pub mod CoreKept
+pub mod SuspendedSet
 pub mod SlotsExact
 pub mod OneCallMore
 pub mod RegistrationsTold

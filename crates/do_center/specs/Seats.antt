@@ -1,6 +1,7 @@
 -- Registrations with the queues of their observers, and observers that are suspended.
 use Rattle.std.specs.Prelude.{Bool, true, false, not, ◌&&◌, ◌||◌, nat_le}
 use Rattle.std.specs.Prelude.{Option, Some, None, List, [], ◌∷◌, length, map, slice_get}
+use Rattle.std.specs.Prelude.{if◌then◌else◌}
 use Rattle.std.specs.List.{list_all}
 use Rattle.do_base.specs.names.Names.{ObjectName}
 use Rattle.do_center.specs.Notes.{is_note}
@@ -57,6 +58,10 @@ are_seats ss =
 -- the suspended observers of a core: at most 256
 abbrev pub are_suspended : List ObjectName → Bool
 are_suspended os = nat_le (length os) 256 && are_distinct os
+
+-- the suspended observers that a list is read as
+abbrev pub read_suspended : List ObjectName → Option (List ObjectName)
+read_suspended os = if are_suspended os then Some os else None
 
 -- a core
 abbrev pub is_core : Core → Bool

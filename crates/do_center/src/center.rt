@@ -9,20 +9,20 @@ ghost use Rattle.do_center.specs.Registrations.{is_registration};
 ghost use Rattle.do_center.specs.Removing.{removed};
 ghost use Rattle.do_center.specs.Seats.{registrations};
 ghost use Rattle.do_center.specs.Slots.{from_slots, of_core, to_slots};
-ghost use Rattle.do_center.specs.Observers.{has_object, without_first};
+ghost use Rattle.do_center.specs.Observers.{has_object};
 ghost use Rattle.do_center.specs.declared.calls.Call.{Call};
 
 use crate::notes::{Deliveries, Note};
-use crate::observers::first_of;
 use crate::posting::came_to_all;
 use crate::queues::Queue;
 use crate::registrations::Registration;
 use crate::removing::{Gone, left_of};
 use crate::seats::{
-    MAX_REGISTRATIONS, MAX_SUSPENDED, Seat, Seats, are_seats, are_suspended, deliveries,
-    has_object, queue_of, registrations_of, replace_queue,
+    MAX_REGISTRATIONS, Seat, Seats, are_seats, deliveries, queue_of, registrations_of,
+    replace_queue,
 };
 use crate::slots::{Waiting, queues_slot, registrations_slot, seated};
+use crate::suspended::{MAX_SUSPENDED, Suspended};
 use do_acts::{CoreFault, read_rows, show_rows};
 use do_base::{Items, Oid, Oids, Text, Value, Values};
 use std::alloc::{AllocError, Global};
@@ -40,7 +40,7 @@ pub(crate) const MAX_DELIVERIES: usize = 1024;
 #[derive(Drop)]
 pub struct Center {
     seats: Seats,
-    suspended: Oids,
+    suspended: Suspended,
 }
 
 impl Model for Center {
@@ -62,9 +62,12 @@ impl Model for Center {
 fn of_core(slots: &Values, seats: Seats, suspended: Oids) -> Result<Option<Center>, AllocError>
     ensures { IfOk result (λ read. read ≡ of_core slots.now (seats, suspended)) }
 {
-    if !are_seats(&seats) || !are_suspended(&suspended) {
+    if !are_seats(&seats) {
         return Ok(None);
     }
+    let Some(suspended) = Suspended::of(&suspended)? else {
+        return Ok(None);
+    };
     let center = Center { seats, suspended };
     let shown = center.to_slots()?;
     if shown == *slots {
@@ -85,18 +88,6 @@ fn three(alloc: Global, first: Value, second: Value, third: Value) -> Result<Val
     Ok(values)
 }
 
-/// Takes an observer out of those that are suspended.
-fn take_out(observers: &mut Oids, observer: Oid)
-    ensures { observers.new ≡ without_first (λ x. x) observers.old observer }
-{
-    match first_of(observers.as_slice(), observer) {
-        Some(at) => {
-            observers.remove(at);
-        }
-        None => {}
-    }
-}
-
 impl Center {
     /// A centre without registrations.
     pub fn new(alloc: Global) -> Center
@@ -104,7 +95,7 @@ impl Center {
     {
         Center {
             seats: Seats::new(alloc),
-            suspended: Oids::new(alloc),
+            suspended: Suspended::new(alloc),
         }
     }
 
@@ -142,7 +133,7 @@ impl Center {
         ensures exact { IfOk result (λ slots. from_slots slots ≡ Some self.now) }
     {
         let registrations = registrations_slot(&self.seats)?;
-        let suspended = show_rows(&self.suspended)?;
+        let suspended = show_rows(&self.suspended.to_list()?)?;
         let queues = queues_slot(&self.seats)?;
         let slots = three(self.seats.allocator(), registrations, suspended, queues)?;
         Ok(slots)
@@ -165,7 +156,7 @@ impl Center {
         ensures meaning { (h : List Call) → self.now ≡ after h
             → result ≡ is_suspended h observer }
     {
-        has_object(self.suspended.as_slice(), observer)
+        self.suspended.contains(observer)
     }
 
     /// Adds a registration behind the others.
@@ -229,7 +220,7 @@ impl Center {
         let sent = deliveries(&self.seats, &queue)?;
         let none = Queue::new(self.seats.allocator());
         replace_queue(&mut self.seats, observer, none);
-        take_out(&mut self.suspended, observer);
+        self.suspended.remove(observer);
         Ok(sent)
     }
 
@@ -260,7 +251,7 @@ impl Center {
         ensures fault { IfErr result (FaultOf 256 (suspended self.old observer true)) }
         ensures err { OnErr result (self.new ≡ self.old) }
     {
-        if has_object(self.suspended.as_slice(), observer) {
+        if self.suspended.contains(observer) {
             return Ok(());
         }
         if self.suspended.len() >= MAX_SUSPENDED {

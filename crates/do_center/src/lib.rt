@@ -11,6 +11,7 @@ mod acts;
 mod calls;
 mod center;
 mod delivering;
+mod key;
 mod labels;
 mod methods;
 mod notes;
@@ -21,6 +22,7 @@ mod registrations;
 mod removing;
 mod seats;
 mod slots;
+mod suspended;
 mod suspension;
 
 pub use acts::NotificationCenter;

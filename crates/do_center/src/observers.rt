@@ -14,14 +14,6 @@ pub(crate) trait Observed {
         ensures { result ≡ observer self.now };
 }
 
-impl Observed for Oid {
-    ghost observer = { λ o. o };
-
-    fn observer(&self) -> Oid {
-        *self
-    }
-}
-
 /// Whether two names are of one object.
 pub(crate) fn same(a: Oid, b: Oid) -> bool
     ensures { result ≡ same_object a b }

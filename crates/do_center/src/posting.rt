@@ -5,9 +5,10 @@ ghost use Rattle.do_center.specs.Queues.{queue_of};
 
 use crate::notes::Note;
 use crate::queues::{Queue, Queued, coalesced, enqueued};
-use crate::seats::{Seats, has_object, replace_queue};
+use crate::seats::{Seats, replace_queue};
+use crate::suspended::Suspended;
 use crate::suspension::Suspension;
-use do_base::{Oid, Oids};
+use do_base::Oid;
 use std::alloc::AllocError;
 
 /// A post under way.
@@ -91,7 +92,7 @@ fn comes_to(
     at: usize,
     note: &Note,
     immediate: bool,
-    suspended: &Oids,
+    suspended: &Suspended,
 ) -> Result<Posting, AllocError>
     requires within { at < 256 }
     ensures { IfOk result (λ after. after
@@ -112,7 +113,7 @@ fn comes_to(
     let note = note.copied()?;
     let place = at as u32;
     let entry = Queued { place, note };
-    if has_object(suspended.as_slice(), observer) {
+    if suspended.contains(observer) {
         held(posting, observer, behaviour, entry)
     } else {
         due(posting, entry)
@@ -124,7 +125,7 @@ pub(crate) fn came_to_all(
     seats: &Seats,
     note: &Note,
     immediate: bool,
-    suspended: &Oids,
+    suspended: &Suspended,
 ) -> Result<Posting, AllocError>
     requires few { length seats.now ≤ 256 }
     ensures { IfOk result (λ after. after

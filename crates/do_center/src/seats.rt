@@ -1,24 +1,20 @@
 //! Registrations with the queues of their observers.
 ghost use Rattle.std.specs.Prelude.{◌≡◌, IfOk, slice_get};
 ghost use Rattle.std.specs.List.{list_all};
-ghost use Rattle.do_center.specs.Observers.{are_distinct, has_object};
 ghost use Rattle.do_center.specs.Queues.{deliveries, queue_of, with_queue};
-ghost use Rattle.do_center.specs.Seats.{are_apart, are_seats, are_suspended, has_none};
+ghost use Rattle.do_center.specs.Seats.{are_apart, are_seats, has_none};
 ghost use Rattle.do_center.specs.Seats.{is_of, is_queue, is_queued, is_seat, registrations};
 
 use crate::notes::{Deliveries, is_note};
 use crate::observers::{Observed, first_of, same};
 use crate::queues::{MAX_WAITING, Queue, Queued, is_none};
 use crate::registrations::{Registration, is_registration};
-use do_base::{ExactClone, Items, Oid, Oids};
+use do_base::{ExactClone, Items, Oid};
 use std::alloc::AllocError;
 use std::mem;
 
 /// The most registrations of a core.
 pub(crate) const MAX_REGISTRATIONS: usize = 256;
-
-/// The most observers that are suspended.
-pub(crate) const MAX_SUSPENDED: usize = 256;
 
 /// A registration, with the queue of its observer where it is the first of the observer's.
 #[derive(Clone, Debug, Drop)]
@@ -184,28 +180,4 @@ pub(crate) fn are_seats(seats: &Seats) -> bool
     ensures { result ≡ are_seats seats.now }
 {
     seats.len() <= MAX_REGISTRATIONS && all_seats(seats) && are_apart(seats.as_slice())
-}
-
-/// Whether an object is among these.
-pub(crate) fn has_object(objects: &[Oid], object: Oid) -> bool
-    ensures { result ≡ has_object objects.now object }
-{
-    first_of(objects, object).is_some()
-}
-
-/// Whether no object is there twice.
-fn are_distinct(objects: &[Oid]) -> bool
-    ensures { result ≡ are_distinct objects.now }
-{
-    match objects {
-        [] => true,
-        [object, rest @ ..] => !has_object(rest, *object) && are_distinct(rest),
-    }
-}
-
-/// Whether these can be the suspended observers of a core.
-pub(crate) fn are_suspended(observers: &Oids) -> bool
-    ensures { result ≡ are_suspended observers.now }
-{
-    observers.len() <= MAX_SUSPENDED && are_distinct(observers.as_slice())
 }

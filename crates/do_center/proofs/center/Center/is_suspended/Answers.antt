@@ -1,11 +1,9 @@
-use Rattle.std.proofs.Common.{◌∙◌, ap}
-use Rattle.do_center.specs.Observers.{has_object}
+use Rattle.std.proofs.Common.{◌∙◌}
 use Rattle.do_center.proofs.SuspendedTold.{core_suspended}
 use Rattle.do_center.proofs.center.Center.is_suspended.Goals as goal
 
 pub returns-clause-meaning : goal.returns-clause-meaning
 returns-clause-meaning c h is =
-    c.has_object.ensures
-    ∙ ap (λ os. has_object os c.args.observer) c.as_slice.ensures
+    c.contains.ensures
     ∙ core_suspended h (c.self.inside.seats, c.self.inside.suspended) c.args.observer
     (c.self.view_is ∙ is)

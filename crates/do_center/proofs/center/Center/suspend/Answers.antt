@@ -10,8 +10,8 @@ invariant_of-self c =
     let os = c.self-2.inside.suspended in
     let o = c.args.observer in
     let parts = core_parts ss os c.self-2.invariant in
-    core_from c.replace_queue.new.seats c.take_out.new.observers
+    core_from c.replace_queue.new.seats c.remove.new.self
     (subst (λ xs. are_seats xs ≡ true)
     (sym (c.replace_queue.ensures.left ∙ ap (with_queue ss o) c.new-none.ensures))
     (cleared_kept ss o parts.0))
-    (subst (λ xs. are_suspended xs ≡ true) (sym c.take_out.ensures) (resumed_kept os o parts.1))
+    (subst (λ xs. are_suspended xs ≡ true) (sym c.remove.ensures) (resumed_kept os o parts.1))
