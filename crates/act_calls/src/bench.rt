@@ -1,6 +1,6 @@
 //! An invocation with the slots of its object.
 
-use crate::act_values::{act_value, handler_value};
+use act_values::{act_value, handler_value};
 use call_rows::{copy_at, count_at, list_at, local_at, no_call, text_at};
 use do_base::{Value, Values};
 use do_behave::{Act, Invocation};

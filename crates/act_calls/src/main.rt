@@ -7,7 +7,6 @@
 //! is printed with it; at the end of each file stands how many rows it has.
 #![tactic(auto)]
 
-mod act_values;
 mod acts;
 mod bench;
 mod shared;

@@ -1,0 +1,116 @@
+//! Acts and handlers as values, for the programs that play rows of acts.
+//!
+//! It stands on the acts of do_behave and on how rows write values, and promises nothing of its
+//! own: its functions are safe, and end. The form of the values is this project's own.
+#![tactic(auto)]
+
+use call_rows::{list_from, text_value, word_with};
+use do_base::{Exc, Locals, Text, Value, Values};
+use do_behave::{Act, Handler};
+use std::alloc::{AllocError, Global};
+
+/// What is raised: the name of a fault, or the word of the user's exceptions with the text of one.
+fn exception_value(alloc: Global, exception: Exc) -> Result<Value, AllocError> {
+    match exception {
+        Exc::TypeFault => text_value(alloc, b"Type"),
+        Exc::Range => text_value(alloc, b"Range"),
+        Exc::User(text) => word_with(alloc, b"User", Value::Text(text)),
+        _ => text_value(alloc, b"another exception"),
+    }
+}
+
+/// The numbers of locals as a list.
+fn locals_value(alloc: Global, locals: &Locals) -> Result<Value, AllocError> {
+    let mut values = Values::new(alloc);
+    for local in locals.as_slice() {
+        values.push(Value::Num(i64::from(*local)))?;
+    }
+    Ok(Value::List(values))
+}
+
+/// A message as a list: its target, selector and arguments, the local that takes what it gives,
+/// those that take what comes out, and the place at which the method goes on.
+fn send_value(
+    alloc: Global,
+    target: Value,
+    selector: Text,
+    args: Values,
+    into: u8,
+    from: &Locals,
+    pc: u32,
+) -> Result<Value, AllocError> {
+    let mut values = list_from(alloc, b"send")?;
+    values.push(target)?;
+    values.push(Value::Text(selector))?;
+    values.push(Value::List(args))?;
+    values.push(Value::Num(i64::from(into)))?;
+    values.push(locals_value(alloc, from)?)?;
+    values.push(Value::Num(i64::from(pc)))?;
+    Ok(Value::List(values))
+}
+
+/// A word, what is made or asked, the local that takes what the act gives, and the place at which
+/// the method goes on.
+fn asked_value(
+    alloc: Global,
+    word: &[u8],
+    what: Value,
+    into: u8,
+    pc: u32,
+) -> Result<Value, AllocError> {
+    let mut values = list_from(alloc, word)?;
+    values.push(what)?;
+    values.push(Value::Num(i64::from(into)))?;
+    values.push(Value::Num(i64::from(pc)))?;
+    Ok(Value::List(values))
+}
+
+/// A word, the value that is offered, and the place at which the method goes on.
+fn offered_value(alloc: Global, word: &[u8], value: Value, pc: u32) -> Result<Value, AllocError> {
+    let mut values = list_from(alloc, word)?;
+    values.push(value)?;
+    values.push(Value::Num(i64::from(pc)))?;
+    Ok(Value::List(values))
+}
+
+/// An act that is no step, as a list.
+fn left_value(alloc: Global, act: Act) -> Result<Value, AllocError> {
+    match act {
+        Act::Return { value } => word_with(alloc, b"return", value),
+        Act::Raise(exception) => word_with(alloc, b"raise", exception_value(alloc, exception)?),
+        Act::New { class, into, pc } => {
+            asked_value(alloc, b"new", Value::Num(i64::from(class.0)), into, pc)
+        }
+        Act::Root { port, into, pc } => asked_value(alloc, b"root", port, into, pc),
+        Act::Vend { value, pc } => offered_value(alloc, b"vend", value, pc),
+        Act::Say { value, pc } => offered_value(alloc, b"say", value, pc),
+        Act::Send {
+            target,
+            selector,
+            args,
+            into,
+            from,
+            pc,
+        } => send_value(alloc, target, selector, args, into, &from, pc),
+        Act::Step { .. } => text_value(alloc, b"a step that is left"),
+    }
+}
+
+/// What an act was, as a list; of a step the place at which the method goes on.
+pub fn act_value(alloc: Global, act: Option<Act>, place: u32) -> Result<Value, AllocError> {
+    match act {
+        None => word_with(alloc, b"step", Value::Num(i64::from(place))),
+        Some(act) => left_value(alloc, act),
+    }
+}
+
+/// The local and the place of a handler, or nil for none.
+pub fn handler_value(alloc: Global, handler: Option<Handler>) -> Result<Value, AllocError> {
+    let Some(handler) = handler else {
+        return Ok(Value::Nil);
+    };
+    let mut values = Values::new(alloc);
+    values.push(Value::Num(i64::from(handler.into)))?;
+    values.push(Value::Num(i64::from(handler.pc)))?;
+    Ok(Value::List(values))
+}

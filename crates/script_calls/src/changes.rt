@@ -1,0 +1,97 @@
+//! What an act changed, as lists.
+
+use call_rows::{copy_at, count_at, count_value, list_from, local_at};
+use do_base::{Value, Values, copy_value};
+use do_behave::{Handler, Invocation, LocalSet, LocalSets, Write, Writes};
+use std::alloc::{AllocError, Global};
+use std::test::Fail;
+
+/// A word, a place and the value there.
+fn placed(alloc: Global, word: &[u8], at: usize, value: &Value) -> Result<Value, Fail> {
+    let mut values = list_from(alloc, word)?;
+    values.push(count_value(at)?)?;
+    values.push(copy_value(value)?)?;
+    Ok(Value::List(values))
+}
+
+/// Adds the values that are others than before, each with a word and its place.
+fn add_changed(
+    changed: &mut Values,
+    word: &[u8],
+    before: &Values,
+    after: &Values,
+) -> Result<(), Fail> {
+    let alloc = changed.allocator();
+    for at in 0..after.len() {
+        let value = &after.as_slice()[at];
+        if before.get(at) != Some(value) {
+            changed.push(placed(alloc, word, at, value)?)?;
+        }
+    }
+    Ok(())
+}
+
+/// Adds the slots that are others than before.
+pub(crate) fn add_slots(changed: &mut Values, before: &Values, after: &Values) -> Result<(), Fail> {
+    add_changed(changed, b"slot", before, after)
+}
+
+/// The values of the locals.
+pub(crate) fn values_of(inv: &Invocation) -> Result<Values, AllocError> {
+    let mut values = Values::new(inv.locals.allocator());
+    for held in inv.locals.as_slice() {
+        values.push(copy_value(held.value())?)?;
+    }
+    Ok(values)
+}
+
+/// Adds the locals that are others than before.
+pub(crate) fn add_locals(
+    changed: &mut Values,
+    before: &Values,
+    after: &Invocation,
+) -> Result<(), Fail> {
+    add_changed(changed, b"local", before, &values_of(after)?)
+}
+
+/// Adds the handler, if it is another one than before: its local and its place, or neither for
+/// none.
+pub(crate) fn add_handler(
+    changed: &mut Values,
+    before: Option<Handler>,
+    after: Option<Handler>,
+) -> Result<(), AllocError> {
+    if before == after {
+        return Ok(());
+    }
+    let mut values = list_from(changed.allocator(), b"handler")?;
+    if let Some(handler) = after {
+        values.push(Value::Num(i64::from(handler.into)))?;
+        values.push(Value::Num(i64::from(handler.pc)))?;
+    }
+    changed.push(Value::List(values))
+}
+
+/// The locals to be set that a list of pairs names.
+pub(crate) fn sets_of(pairs: &Values) -> Result<LocalSets, Fail> {
+    let mut sets = LocalSets::new(pairs.allocator());
+    for pair in pairs.as_slice() {
+        let pair = pair.items().ok_or("no pair")?;
+        let local = local_at(pair, 0)?;
+        let value = copy_at(pair, 1)?;
+        sets.push(LocalSet { local, value })?;
+    }
+    Ok(sets)
+}
+
+/// The slots to be written that a list of pairs names.
+pub(crate) fn writes_of(pairs: &Values) -> Result<Writes, Fail> {
+    let mut writes = Writes::new(pairs.allocator());
+    for pair in pairs.as_slice() {
+        let pair = pair.items().ok_or("no pair")?;
+        let slot = usize::from(count_at(pair, 0)?);
+        let value = copy_at(pair, 1)?;
+        writes.push(Write { slot, value })?;
+    }
+    Ok(writes)
+}

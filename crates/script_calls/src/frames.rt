@@ -1,0 +1,59 @@
+//! Invocations before their acts, and the slots of their objects.
+
+use call_rows::text_value;
+use do_base::{Locals, NodeId, Oid, Value, Values, copy_value};
+use do_behave::{Frame, Handler, Held, InvState, Invocation, Reason};
+use do_class::{ClassId, MethodId};
+use std::alloc::{AllocError, Global};
+use std::test::Fail;
+
+/// The handler of each invocation.
+const HANDLER: Handler = Handler { into: 14, pc: 2 };
+
+/// Sixteen locals: the one at place k holds 100 + k.
+fn locals(alloc: Global) -> Result<Frame, AllocError> {
+    let mut locals = Frame::new(alloc);
+    for k in 100..116i64 {
+        locals.push(Held::new(Value::Num(k)))?;
+    }
+    Ok(locals)
+}
+
+/// An invocation of the first method of the first class, by the object `#7001.1`, at a place.
+pub(crate) fn invocation(alloc: Global, pc: u32) -> Result<Invocation, Fail> {
+    let node = NodeId::new(7001).ok_or("no node")?;
+    let class = ClassId(0);
+    let locals = locals(alloc)?;
+    Ok(Invocation {
+        object: Oid { node, serial: 1 },
+        method: MethodId { class, index: 0 },
+        pc,
+        locals,
+        handler: Some(HANDLER),
+        reason: Reason::Start,
+        into: 0,
+        outs: Locals::new(alloc),
+        state: InvState::Running,
+    })
+}
+
+/// Sets the first two locals.
+pub(crate) fn set_first(
+    inv: &mut Invocation,
+    first: &Value,
+    second: &Value,
+) -> Result<(), AllocError> {
+    let pc = inv.pc;
+    inv.set_local(0, copy_value(first)?, pc);
+    inv.set_local(1, copy_value(second)?, pc);
+    Ok(())
+}
+
+/// The slots of the object: 900, a text and nil.
+pub(crate) fn slots(alloc: Global) -> Result<Values, AllocError> {
+    let mut slots = Values::new(alloc);
+    slots.push(Value::Num(900))?;
+    slots.push(text_value(alloc, b"slot")?)?;
+    slots.push(Value::Nil)?;
+    Ok(slots)
+}

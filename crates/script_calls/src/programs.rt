@@ -1,0 +1,52 @@
+//! Programs of one method, from its text.
+
+use do_base::{Text, Texts};
+use do_behave::{ClassCodes, Codes, Program};
+use do_class::{ClassTable, Methods, Slots};
+use do_script::{Code, Names, assemble};
+use std::alloc::{AllocError, Global};
+use std::test::Fail;
+
+/// Two classes, `First` and `Second`, of which a program needs to know that they are there.
+pub(crate) fn two_classes(alloc: Global) -> Result<ClassTable, Fail> {
+    let mut table = ClassTable::new(alloc);
+    let first = Text::from_slice(alloc, b"First")?;
+    table.add_class(first, Slots::new(alloc), Methods::new(alloc))?;
+    let second = Text::from_slice(alloc, b"Second")?;
+    table.add_class(second, Slots::new(alloc), Methods::new(alloc))?;
+    Ok(table)
+}
+
+/// These words as names.
+fn names(alloc: Global, words: &[&[u8]]) -> Result<Names, AllocError> {
+    let mut names = Texts::new(alloc);
+    for word in words {
+        names.push(Text::from_slice(alloc, word)?)?;
+    }
+    Ok(names)
+}
+
+/// The code of a method's text: its slots are `a`, `b` and `c`, its classes `First` and `Second`.
+fn code_of(alloc: Global, text: &[u8]) -> Result<Code, Fail> {
+    let slots = names(alloc, &[b"a", b"b", b"c"])?;
+    let classes = names(alloc, &[b"First", b"Second"])?;
+    Ok(assemble(alloc, text, &slots, &classes)?)
+}
+
+/// A program of one method of the first class.
+pub(crate) fn program_of(alloc: Global, table: &ClassTable, text: &[u8]) -> Result<Program, Fail> {
+    let mut first = ClassCodes::new(alloc);
+    first.push(code_of(alloc, text)?)?;
+    let mut codes = Codes::new(alloc);
+    codes.push(first)?;
+    Ok(Program::new(table, codes))
+}
+
+/// The text of a method with an instruction at place 3 of six; `@back` is place 1, `@on` is 5 and
+/// `@end` is 6.
+pub(crate) fn text_around(alloc: Global, line: &[u8]) -> Result<Text, AllocError> {
+    let mut text = Text::from_slice(alloc, b"nil l2\n@back\nnil l2\nnil l2\n")?;
+    text.push_bytes(line)?;
+    text.push_bytes(b"\nnil l2\n@on\nnil l2\n@end")?;
+    Ok(text)
+}
