@@ -8,20 +8,18 @@ ghost use Rattle.do_center.specs.Posting.{posted};
 ghost use Rattle.do_center.specs.Registrations.{is_registration};
 ghost use Rattle.do_center.specs.Removing.{removed};
 ghost use Rattle.do_center.specs.Seats.{registrations};
-ghost use Rattle.do_center.specs.Slots.{from_slots, of_core, to_slots};
+ghost use Rattle.do_center.specs.Slots.{from_slots, of_core, seated, to_slots};
 ghost use Rattle.do_center.specs.Observers.{has_object};
 ghost use Rattle.do_center.specs.declared.calls.Call.{Call};
 
+use crate::limits::{MAX_REGISTRATIONS, are_seats};
 use crate::notes::{Deliveries, Note};
 use crate::posting::came_to_all;
 use crate::queues::Queue;
 use crate::registrations::Registration;
 use crate::removing::{Gone, left_of};
-use crate::seats::{
-    MAX_REGISTRATIONS, Seat, Seats, are_seats, deliveries, queue_of, registrations_of,
-    replace_queue,
-};
-use crate::slots::{Waiting, queues_slot, registrations_slot, seated};
+use crate::seats::{Seat, Seats, deliveries, registrations_of};
+use crate::slots::{AllWaiting, Waiting, queues_slot, registrations_slot, seated};
 use crate::suspended::{MAX_SUSPENDED, Suspended};
 use do_acts::{CoreFault, read_rows, show_rows};
 use do_base::{Items, Oid, Oids, Text, Value, Values};
@@ -77,6 +75,21 @@ fn of_core(slots: &Values, seats: Seats, suspended: Oids) -> Result<Option<Cente
     }
 }
 
+/// The core of these registrations, suspended observers and queues, if it is one and has these
+/// slots.
+fn of_rows(
+    slots: &Values,
+    registrations: &Items<Registration>,
+    suspended: Oids,
+    waiting: AllWaiting,
+) -> Result<Option<Center>, AllocError>
+    ensures { IfOk result (λ read. read
+        ≡ of_core slots.now (seated registrations.now waiting, suspended)) }
+{
+    let seats = seated(registrations, waiting)?;
+    of_core(slots, seats, suspended)
+}
+
 /// A list of three values.
 fn three(alloc: Global, first: Value, second: Value, third: Value) -> Result<Values, AllocError>
     ensures { IfOk result (λ values. values ≡ first ∷ second ∷ third ∷ []) }
@@ -122,8 +135,7 @@ impl Center {
         let Some(waiting) = read_rows::<Waiting>(alloc, queues)? else {
             return Ok(None);
         };
-        let seats = seated(&registrations, waiting)?;
-        of_core(slots, seats, suspended)
+        of_rows(slots, &registrations, suspended, waiting)
     }
 
     /// The slots of the core: its registrations, the suspended observers, and the queues with their
@@ -216,10 +228,10 @@ impl Center {
             self.hold(observer)?;
             return Ok(Deliveries::new(self.seats.allocator()));
         }
-        let queue = queue_of(&self.seats, observer)?;
+        let queue = self.seats.queue_of(observer)?;
         let sent = deliveries(&self.seats, &queue)?;
         let none = Queue::new(self.seats.allocator());
-        replace_queue(&mut self.seats, observer, none);
+        self.seats.replace_queue(observer, none);
         self.suspended.remove(observer);
         Ok(sent)
     }

@@ -13,6 +13,7 @@ mod center;
 mod delivering;
 mod key;
 mod labels;
+mod limits;
 mod methods;
 mod notes;
 mod observers;

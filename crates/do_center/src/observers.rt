@@ -1,35 +1,12 @@
-//! What is kept by observer.
-ghost use Rattle.std.specs.Prelude.{◌≡◌, ◌<◌, IfSome, length};
-ghost use Rattle.do_base.specs.names.Names.{ObjectName};
-ghost use Rattle.do_center.specs.Observers.{first_of, same_object};
+//! Names of observers.
+ghost use Rattle.std.specs.Prelude.{◌≡◌};
+ghost use Rattle.do_center.specs.Observers.{same_object};
 
 use do_base::Oid;
-
-/// What is an observer's.
-pub(crate) trait Observed {
-    ghost observer: { Self → ObjectName };
-
-    /// Whose it is.
-    fn observer(&self) -> Oid
-        ensures { result ≡ observer self.now };
-}
 
 /// Whether two names are of one object.
 pub(crate) fn same(a: Oid, b: Oid) -> bool
     ensures { result ≡ same_object a b }
 {
     a.node == b.node && a.serial == b.serial
-}
-
-/// The place of the first that is an observer's.
-pub(crate) fn first_of<T: Observed>(items: &[T], observer: Oid) -> Option<usize>
-    ensures first { result ≡ first_of T.observer items.now observer }
-    ensures within { IfSome result (λ at. at < length items.now) }
-{
-    for (at, item) in items.iter().enumerate() {
-        if same(item.observer(), observer) {
-            return Some(at);
-        }
-    }
-    None
 }

@@ -5,14 +5,14 @@ ghost use Rattle.do_center.specs.Queues.{queue_of};
 
 use crate::notes::Note;
 use crate::queues::{Queue, Queued, coalesced, enqueued};
-use crate::seats::{Seats, replace_queue};
+use crate::seats::Seats;
 use crate::suspended::Suspended;
 use crate::suspension::Suspension;
 use do_base::Oid;
 use std::alloc::AllocError;
 
 /// A post under way.
-#[derive(Debug, Drop)]
+#[derive(Drop)]
 pub(crate) struct Posting {
     /// The registrations with what waits now.
     pub(crate) seats: Seats,
@@ -34,7 +34,7 @@ fn waits(posting: Posting, observer: Oid, queue: Queue) -> Posting
     ensures { result ≡ waits posting observer queue }
 {
     let Posting { mut seats, due } = posting;
-    replace_queue(&mut seats, observer, queue);
+    seats.replace_queue(observer, queue);
     Posting { seats, due }
 }
 
@@ -45,7 +45,7 @@ fn taken(posting: Posting, observer: Oid) -> (Posting, Queue)
 {
     let Posting { mut seats, due } = posting;
     let none = Queue::new(seats.allocator());
-    let queue = replace_queue(&mut seats, observer, none);
+    let queue = seats.replace_queue(observer, none);
     (Posting { seats, due }, queue)
 }
 
@@ -132,7 +132,7 @@ pub(crate) fn came_to_all(
         ≡ came_to_all note.now immediate suspended.now seats.now) }
 {
     let mut posting = Posting {
-        seats: seats.clone()?,
+        seats: seats.copied()?,
         due: Queue::new(seats.allocator()),
     };
     for at in 0..seats.len() {

@@ -1,20 +1,22 @@
 //! Registrations with the queues of their observers.
-ghost use Rattle.std.specs.Prelude.{◌≡◌, IfOk, slice_get};
-ghost use Rattle.std.specs.List.{list_all};
+ghost use Rattle.std.specs.Prelude.{◌≡◌, ◌++◌, ◌∷◌, [], ◌<◌, ◌↔◌, IsTrue, length, slice_get};
+ghost use Rattle.std.specs.Prelude.{IfOk, IfSome, OnOk, OnErr, None, Some, if◌then◌else◌};
+ghost use Rattle.std.specs.Option.{option_copied, option_or};
+ghost use Rattle.indexmap.specs.IndexMap.{IsUnchanged, get};
+ghost use Rattle.do_base.specs.names.Names.{ObjectName};
+ghost use Rattle.do_center.specs.Observers.{first_of, same_object};
 ghost use Rattle.do_center.specs.Queues.{deliveries, queue_of, with_queue};
-ghost use Rattle.do_center.specs.Seats.{are_apart, are_seats, has_none};
-ghost use Rattle.do_center.specs.Seats.{is_of, is_queue, is_queued, is_seat, registrations};
+ghost use Rattle.do_center.specs.Seats.{registrations};
 
-use crate::notes::{Deliveries, is_note};
-use crate::observers::{Observed, first_of, same};
-use crate::queues::{MAX_WAITING, Queue, Queued, is_none};
-use crate::registrations::{Registration, is_registration};
+use crate::key::Key;
+use crate::notes::Deliveries;
+use crate::queues::{Queue, Queued};
+use crate::registrations::Registration;
 use do_base::{ExactClone, Items, Oid};
-use std::alloc::AllocError;
+use indexmap::IndexMap;
+use std::alloc::{AllocError, Global};
+use std::marker::Model;
 use std::mem;
-
-/// The most registrations of a core.
-pub(crate) const MAX_REGISTRATIONS: usize = 256;
 
 /// A registration, with the queue of its observer where it is the first of the observer's.
 #[derive(Clone, Debug, Drop)]
@@ -23,8 +25,14 @@ pub(crate) struct Seat {
     pub(crate) queue: Queue,
 }
 
-/// Registrations, the oldest first.
-pub(crate) type Seats = Items<Seat>;
+impl Seat {
+    /// Whose registration it is.
+    fn observer(&self) -> Oid
+        ensures { result ≡ self.now.registration.observer }
+    {
+        self.registration.observer
+    }
+}
 
 impl ExactClone for Seat {
     ghost use Rattle.std.proofs.Common.{rules};
@@ -32,12 +40,33 @@ impl ExactClone for Seat {
     ghost exact_clone = { λ x y h. Prim.search rules };
 }
 
-impl Observed for Seat {
-    ghost observer = { λ s. s.registration.observer };
+/// Registrations, the oldest first. Those of one observer have one queue, at the first of them.
+///
+/// They stand in a list, since two may be alike, and beside it a map of the kit's `indexmap` finds
+/// the first registration of an observer without a walk. Contracts see the list alone.
+#[derive(Drop)]
+pub(crate) struct Seats {
+    all: Items<Seat>,
+    first: IndexMap<Key, usize>,
+}
 
-    fn observer(&self) -> Oid {
-        self.registration.observer
-    }
+impl Model for Seats {
+    ghost use Rattle.std.specs.Prelude.{◌≡◌, List};
+    ghost use Rattle.std.specs.Coded.{codes};
+    ghost use Rattle.indexmap.specs.IndexMap.{get};
+    ghost use Rattle.do_base.specs.contracts.values.value.Value as v;
+    ghost use Rattle.do_base.specs.names.Names.{ObjectName};
+    ghost use Rattle.do_center.specs.Observers.{first_of, same_object};
+    ghost use Rattle.do_center.specs.declared.seats.Seat.{Seat};
+
+    ghost Value = { List Seat };
+
+    ghost coded = { Prim.hlevel (codes, v.the_row.coded) };
+
+    ghost view = { λ s. s.all };
+
+    ghost invariant = { λ s. (o : ObjectName)
+        → get same_object s.first o ≡ first_of (λ x. x.registration.observer) s.all o };
 }
 
 /// A registration with a queue.
@@ -52,6 +81,146 @@ pub(crate) fn seat_of(registration: &Registration, queue: Queue) -> Result<Seat,
     })
 }
 
+/// Enters the place of a registration of an observer, unless one is entered.
+fn enter(first: &mut IndexMap<Key, usize>, observer: Oid, at: usize) -> Result<(), AllocError>
+    ensures ok { OnOk result ((o : ObjectName) → get same_object first.new o ≡ option_or
+        (get same_object first.old o) (if same_object observer o then Some at else None)) }
+    ensures err { OnErr result (IsUnchanged first.old first.new) }
+{
+    if first.contains_key(&Key::new(observer)) {
+        return Ok(());
+    }
+    match first.insert(Key::new(observer), at) {
+        Ok(_) => Ok(()),
+        Err(_) => Err(AllocError),
+    }
+}
+
+/// Adds a registration behind the others, and enters its place, unless one of its observer is
+/// entered. If memory runs out, both are unchanged.
+fn add(
+    all: &mut Items<Seat>,
+    first: &mut IndexMap<Key, usize>,
+    seat: Seat,
+) -> Result<(), AllocError>
+    ensures all { OnOk result (all.new ≡ all.old ++ seat ∷ []) }
+    ensures first { OnOk result ((o : ObjectName) → get same_object first.new o ≡ option_or
+        (get same_object first.old o)
+        (if same_object seat.registration.observer o then Some (length all.old) else None)) }
+    ensures all_err { OnErr result (all.new ≡ all.old) }
+    ensures first_err { OnErr result (IsUnchanged first.old first.new) }
+{
+    let observer = seat.observer();
+    let at = all.len();
+    all.push(seat)?;
+    match enter(first, observer, at) {
+        Ok(()) => Ok(()),
+        Err(_) => {
+            all.truncate(at);
+            Err(AllocError)
+        }
+    }
+}
+
+impl Seats {
+    /// No registrations, for which no memory is taken.
+    pub(crate) fn new(alloc: Global) -> Seats
+        ensures { result ≡ [] }
+    {
+        Seats {
+            all: Items::new(alloc),
+            first: IndexMap::new(alloc),
+        }
+    }
+
+    /// The allocator that they were made with.
+    pub(crate) fn allocator(&self) -> Global {
+        self.all.allocator()
+    }
+
+    /// The list of them.
+    pub(crate) fn as_slice(&self) -> &[Seat]
+        ensures { result.now ≡ self.now }
+    {
+        self.all.as_slice()
+    }
+
+    /// How many they are.
+    pub(crate) fn len(&self) -> usize
+        ensures { result ≡ length self.now }
+    {
+        self.all.len()
+    }
+
+    /// Whether there are none.
+    pub(crate) fn is_empty(&self) -> bool
+        ensures { IsTrue result ↔ (self.now ≡ []) }
+    {
+        self.all.is_empty()
+    }
+
+    /// The one at a place, from 0.
+    pub(crate) fn get(&self, at: usize) -> Option<&Seat>
+        ensures { option_copied result ≡ slice_get self.now at }
+    {
+        self.all.get(at)
+    }
+
+    /// The place of the first registration of an observer.
+    fn first_of(&self, observer: Oid) -> Option<usize>
+        ensures first { result ≡ first_of (λ s. s.registration.observer) self.now observer }
+        ensures within { IfSome result (λ at. at < length self.now) }
+    {
+        self.first.get(&Key::new(observer)).copied()
+    }
+
+    /// Adds a registration behind the others. If memory runs out, they are unchanged.
+    pub(crate) fn push(&mut self, seat: Seat) -> Result<(), AllocError>
+        ensures ok { OnOk result (self.new ≡ self.old ++ seat ∷ []) }
+        ensures err { OnErr result (self.new ≡ self.old) }
+    {
+        add(&mut self.all, &mut self.first, seat)?;
+        Ok(())
+    }
+
+    /// The same registrations and queues once more.
+    pub(crate) fn copied(&self) -> Result<Seats, AllocError>
+        ensures { IfOk result (λ copy. copy ≡ self.now) }
+    {
+        let mut copy = Seats::new(self.allocator());
+        for seat in self.as_slice() {
+            copy.push(seat.clone()?)?;
+        }
+        Ok(copy)
+    }
+
+    /// Puts a queue in the place of that of an observer, and hands back the one that stood there.
+    /// An observer without registration has none.
+    pub(crate) fn replace_queue(&mut self, observer: Oid, queue: Queue) -> Queue
+        ensures was { result ≡ queue_of self.old observer }
+        ensures left { self.new ≡ with_queue self.old observer queue }
+    {
+        match self.first_of(observer) {
+            Some(at) => mem::replace(&mut self.all.at_mut(at).queue, queue),
+            None => Queue::new(self.all.allocator()),
+        }
+    }
+
+    /// A copy of the queue of an observer.
+    pub(crate) fn queue_of(&self, observer: Oid) -> Result<Queue, AllocError>
+        ensures { IfOk result (λ queue. queue ≡ queue_of self.now observer) }
+    {
+        let all = self.as_slice();
+        match self.first_of(observer) {
+            Some(at) => {
+                let queue = all[at].queue.clone()?;
+                Ok(queue)
+            }
+            None => Ok(Queue::new(self.allocator())),
+        }
+    }
+}
+
 /// The registrations alone.
 pub(crate) fn registrations_of(seats: &Seats) -> Result<Items<Registration>, AllocError>
     ensures { IfOk result (λ all. all ≡ registrations seats.now) }
@@ -61,32 +230,6 @@ pub(crate) fn registrations_of(seats: &Seats) -> Result<Items<Registration>, All
         all.push(seat.registration.clone()?)?;
     }
     Ok(all)
-}
-
-/// Puts a queue in the place of that of an observer, and hands back the one that stood there. An
-/// observer without registration has none.
-pub(crate) fn replace_queue(seats: &mut Seats, observer: Oid, queue: Queue) -> Queue
-    ensures was { result ≡ queue_of seats.old observer }
-    ensures left { seats.new ≡ with_queue seats.old observer queue }
-{
-    match first_of(seats.as_slice(), observer) {
-        Some(at) => mem::replace(&mut seats.at_mut(at).queue, queue),
-        None => Queue::new(seats.allocator()),
-    }
-}
-
-/// A copy of the queue of an observer.
-pub(crate) fn queue_of(seats: &Seats, observer: Oid) -> Result<Queue, AllocError>
-    ensures { IfOk result (λ queue. queue ≡ queue_of seats.now observer) }
-{
-    let all = seats.as_slice();
-    match first_of(all, observer) {
-        Some(at) => {
-            let queue = all[at].queue.clone()?;
-            Ok(queue)
-        }
-        None => Ok(Queue::new(seats.allocator())),
-    }
 }
 
 /// All of these, on their way to the observers of their registrations.
@@ -100,84 +243,4 @@ pub(crate) fn deliveries(seats: &Seats, queue: &Queue) -> Result<Deliveries, All
         }
     }
     Ok(sent)
-}
-
-/// Whether there is a registration at a place that is the observer's.
-fn is_of(seats: &Seats, observer: Oid, place: u32) -> bool
-    ensures { result ≡ is_of observer (slice_get (registrations seats.now) place) }
-{
-    match seats.get(place as usize) {
-        Some(seat) => same(seat.registration.observer, observer),
-        None => false,
-    }
-}
-
-/// Whether what waits for an observer is a notification that came by one of its registrations.
-fn is_queued(seats: &Seats, observer: Oid, entry: &Queued) -> bool
-    ensures { result ≡ is_queued (registrations seats.now) observer entry.now }
-{
-    is_of(seats, observer, entry.place) && is_note(&entry.note)
-}
-
-/// Whether a queue can be the observer's.
-fn is_queue(seats: &Seats, observer: Oid, queue: &Queue) -> bool
-    ensures { result ≡ is_queue (registrations seats.now) observer queue.now }
-{
-    if queue.len() > MAX_WAITING {
-        return false;
-    }
-    for entry in queue.as_slice() {
-        if !is_queued(seats, observer, entry) {
-            return false;
-        }
-    }
-    true
-}
-
-/// Whether a registration with its queue keeps the limits.
-fn is_seat(seats: &Seats, seat: &Seat) -> bool
-    ensures { result ≡ is_seat (registrations seats.now) seat.now }
-{
-    is_registration(&seat.registration) && is_queue(seats, seat.registration.observer, &seat.queue)
-}
-
-/// Whether all of them do.
-fn all_seats(seats: &Seats) -> bool
-    ensures { result ≡ list_all (is_seat (registrations seats.now)) seats.now }
-{
-    for seat in seats.as_slice() {
-        if !is_seat(seats, seat) {
-            return false;
-        }
-    }
-    true
-}
-
-/// Whether there is no queue at any registration of an observer.
-fn have_none(observer: Oid, seats: &[Seat]) -> bool
-    ensures { result ≡ list_all (has_none observer) seats.now }
-{
-    for seat in seats {
-        if same(seat.registration.observer, observer) && !is_none(&seat.queue) {
-            return false;
-        }
-    }
-    true
-}
-
-/// Whether each queue stands at the first registration of its observer.
-fn are_apart(seats: &[Seat]) -> bool
-    ensures { result ≡ are_apart seats.now }
-{
-    match seats {
-        [] => true,
-        [seat, rest @ ..] => have_none(seat.registration.observer, rest) && are_apart(rest),
-    }
-}
-
-/// Whether these can be the registrations of a core.
-pub(crate) fn are_seats(seats: &Seats) -> bool
-    ensures { result ≡ are_seats seats.now }
-{
-    seats.len() <= MAX_REGISTRATIONS && all_seats(seats) && are_apart(seats.as_slice())
 }

@@ -1,15 +1,15 @@
 //! Cores as slots keep them.
-ghost use Rattle.std.specs.Prelude.{◌≡◌, ◌++◌, ◌∷◌, [], IfOk, map};
+ghost use Rattle.std.specs.Prelude.{◌≡◌, ◌<◌, ◌++◌, ◌∷◌, [], IfOk, IfSome, length, map};
 ghost use Rattle.do_center.specs.Seats.{Core, registrations};
 ghost use Rattle.do_center.specs.Slots.{place_in, queue_among, queued_of, seated, waiting};
 ghost use Rattle.do_center.specs.Slots.{waiting_of, waiting_value};
 ghost use Rattle.do_center.specs.Registrations.{registration_value};
 ghost use Rattle.do_acts.specs.Rows.{listed};
-ghost use Rattle.do_center.specs.Observers.{without_first};
+ghost use Rattle.do_center.specs.Observers.{first_of, without_first};
 
 use crate::labels::label_value;
 use crate::notes::note_in;
-use crate::observers::{Observed, first_of};
+use crate::observers::same;
 use crate::queues::{Queue, Queued, is_none};
 use crate::registrations::Registration;
 use crate::seats::{Seat, Seats, seat_of};
@@ -26,14 +26,6 @@ pub(crate) struct Waiting {
 
 /// Observers with their queues, in order.
 pub(crate) type AllWaiting = Items<Waiting>;
-
-impl Observed for Waiting {
-    ghost observer = { λ w. w.observer };
-
-    fn observer(&self) -> Oid {
-        self.observer
-    }
-}
 
 /// The place that a value is: a number from 0 that has 32 bits.
 fn place_in(value: &Value) -> Option<u32>
@@ -130,6 +122,19 @@ impl Row for Waiting {
     }
 }
 
+/// The place of the first that is an observer's.
+fn first_of(waiting: &[Waiting], observer: Oid) -> Option<usize>
+    ensures first { result ≡ first_of (λ w. w.observer) waiting.now observer }
+    ensures within { IfSome result (λ at. at < length waiting.now) }
+{
+    for (at, one) in waiting.iter().enumerate() {
+        if same(one.observer, observer) {
+            return Some(at);
+        }
+    }
+    None
+}
+
 /// Takes the queue of an observer out of these.
 #[tactic(auto, using(crate::proofs::FirstWaiting::waiting_steps))]
 fn take_queue(waiting: &mut AllWaiting, observer: Oid) -> Queue
@@ -150,7 +155,7 @@ pub(crate) fn seated(
     ensures { IfOk result (λ seats. seats ≡ seated registrations.now waiting) }
 {
     let mut waiting = waiting;
-    let mut seats = Seats::with_capacity(registrations.allocator(), registrations.len())?;
+    let mut seats = Seats::new(registrations.allocator());
     for registration in registrations.as_slice() {
         let queue = take_queue(&mut waiting, registration.observer);
         seats.push(seat_of(registration, queue)?)?;

@@ -1,7 +1,7 @@
 use Rattle.std.proofs.Common.{◌≡◌, true, take}
 use Rattle.std.specs.List.{list_all}
 use Rattle.do_center.specs.Seats.{is_seat, registrations}
-use Rattle.do_center.proofs.seats.all_seats.Given as goal
+use Rattle.do_center.proofs.limits.all_seats.Given as goal
 
 abbrev pub invariant-loop-seat : goal.invariant-loop-seat
 invariant-loop-seat l =
