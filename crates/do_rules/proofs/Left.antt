@@ -2,8 +2,10 @@
 use Rattle.std.proofs.Common.{[], ◌∷◌, refl, ◌∙◌, arith}
 use Rattle.std.proofs.lemmas.Bool.{eq-eqb}
 use Rattle.std.proofs.lemmas.Grind.{common_steps}
+use Rattle.std.proofs.lemmas.List.{append-nil}
 use Rattle.std.proofs.lemmas.List.Elements.{filter_agree}
-use Rattle.std.proofs.Common.{◌≡◌, ℕ, Bool, true, false, List, filter, map, not, ◌==◌, ap, sym}
+use Rattle.std.proofs.Common.{◌≡◌, ◌++◌, ℕ, Bool, true, false, List, filter, map, not, ◌==◌, ap}
+use Rattle.std.proofs.Common.{sym}
 use Rattle.std.specs.Prelude.{◌||◌}
 use Rattle.std.specs.List.{list_all, list_any}
 use Rattle.do_base.specs.names.Names.{ObjectName}
@@ -13,6 +15,7 @@ use Rattle.do_packet.specs.Met.{has_object}
 use Rattle.do_machine.specs.declared.node.Node.{Node}
 use Rattle.do_machine.specs.declared.node.Stored.{Stored}
 use Rattle.do_machine.specs.declared.state.State.{State}
+use Rattle.do_machine.specs.declared.state.Effect.{Effect}
 use Rattle.do_machine.specs.Effect.{only}
 use Rattle.do_machine.specs.Objects.{object_at}
 use Rattle.do_machine.specs.State.{own}
@@ -20,6 +23,7 @@ use Rattle.do_machine.specs.held.Kept.{kept}
 use Rattle.do_machine.specs.held.Leaving.{freeing}
 use Rattle.do_machine.specs.held.Refers.{stack_objects}
 use Rattle.do_rules.proofs.HeldUp.{all_kept}
+use Rattle.do_rules.specs.Doing.{and_then}
 use Rattle.do_rules.specs.HeldUp.{stays_by}
 use Rattle.do_rules.specs.Judged.{entry_in}
 
@@ -40,12 +44,12 @@ names_any port serial (x ∷ xs) =
 
 -- so what is freed are the objects whose serials are not stored
 pub freed_is : (port : ℕ) (before heap : List Stored) (left : List ObjectName)
-    (lines : List Shown) → left ≡ map (λ x. object_at port x.serial) heap →
-    lines ≡ map (λ x. Free (object_at port x.serial))
+    (shown lines : List Shown) → left ≡ map (λ x. object_at port x.serial) heap →
+    lines ≡ shown ++ map (λ x. Free (object_at port x.serial))
     (filter (λ x. not (has_object left (object_at port x.serial))) before) →
-    lines ≡ freed_lines port before heap
-freed_is port before heap left lines names is =
-    is ∙ ap (λ xs. map (λ x. Free (object_at port x.serial)) xs)
+    lines ≡ shown ++ freed_lines port before heap
+freed_is port before heap left shown lines names is =
+    is ∙ ap (λ xs. shown ++ map (λ x. Free (object_at port x.serial)) xs)
     (filter_agree (λ x. not (has_object left (object_at port x.serial)))
     (λ x. not (list_any (λ y. y.serial == x.serial) heap))
     (λ x. ap (λ os. not (has_object os (object_at port x.serial))) names
@@ -69,15 +73,20 @@ none_freed (x ∷ xs) heap all =
     rw here (none_freed xs heap (λ y h. all y (or_right _ _ h)))
 
 -- where each object stays even with no entry, a node frees nothing
-pub frees_nothing : (S : State) (n : Node) (m : Node) →
-    list_all (stays_by (stack_objects n.stack) n n.heap) n.heap ≡ true → m ≡ n →
-    only m ≡ freeing (kept (entry_in S n) n) n
-frees_nothing S n m all same =
-    same_only ∙ ap (λ heap. freeing heap n) (all_kept S n all)
+pub frees_nothing : (S : State) (e : Effect) →
+    list_all (stays_by (stack_objects e.node.stack) e.node e.node.heap) e.node.heap ≡ true →
+    e ≡ and_then e (λ n. freeing (kept (entry_in S n) n) n)
+frees_nothing S e all =
+    let none : only e.node ≡ freeing (kept (entry_in S e.node) e.node) e.node =
+    same_only e.node ∙ ap (λ heap. freeing heap e.node) (all_kept S e.node all) in
+    keeps ∙ ap (λ d. and_then e (λ n. d)) none
   where
-    same_only : only m ≡ freeing n.heap n
-    same_only =
-        ap only same ∙ ap (λ xs. record (only n) { shown = map (λ x. Free (own n x.serial)) xs })
+    same_only : (n : Node) → only n ≡ freeing n.heap n
+    same_only n =
+        ap (λ xs. record (only n) { shown = map (λ x. Free (own n x.serial)) xs })
         (sym (none_freed n.heap n.heap (λ y h. h)))
+
+    keeps : e ≡ and_then e only
+    keeps = rw (append-nil e.sent, append-nil e.shown) refl
 
 pub ruleset whole_steps = (frees_nothing)

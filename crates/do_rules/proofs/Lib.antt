@@ -1,7 +1,5 @@
 mod Arguments
-mod Arrivals
 mod Exports
-mod Filtered
 mod HeldUp
 mod Known
 mod Left

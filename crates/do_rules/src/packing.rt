@@ -48,23 +48,16 @@ fn side_by_side(marks: Flags, values: Values) -> Marked
 }
 
 impl<'a> Context<'a> {
-    /// A node's values as a message to a peer, if they are not too large.
-    ///
-    /// An error is want of memory, or that the node keeps more than packing can count: a value of
-    /// 2^32 and more, an object of no class, or a token past 2^62.
+    /// Values that stand beside their marks, as a message to a peer, if they are not too large.
     #[tactic(auto, using(crate::proofs::Known::packable_steps))]
-    pub(crate) fn packed_for(
-        &self,
-        to: NodeId,
-        marks: Flags,
-        values: Values,
-    ) -> Result<Option<Packet>, AllocError>
+    fn packed(&self, to: NodeId, pairs: &Marked) -> Result<Option<Packet>, AllocError>
+        requires { length pairs.now.marks ≡ length pairs.now.values }
         ensures { IfOk result (λ packet.
-            packet ≡ packed_for (step_of self.now) to (zip marks values)) }
+            packet ≡ packed_for (step_of self.now) to (zip pairs.now.marks pairs.now.values)) }
     {
-        let Marked { marks, values } = side_by_side(marks, values);
+        let (marks, values) = (&pairs.marks, &pairs.values);
         let token = self.node.next_token;
-        if !self.is_packable() || !are_light(&values) || token > MOST_NUMBER {
+        if !self.is_packable() || !are_light(values) || token > MOST_NUMBER {
             return Err(AllocError);
         }
         let alloc = values.allocator();
@@ -74,14 +67,30 @@ impl<'a> Context<'a> {
             self,
             self.node.port,
             to,
-            &marks,
-            &values,
+            marks,
+            values,
             token,
         ) {
             Ok(packet) => Ok(Some(packet)),
             Err(PackFault::TooLarge { .. }) => Ok(None),
             Err(PackFault::Memory) => Err(AllocError),
         }
+    }
+
+    /// A node's values as a message to a peer, if they are not too large.
+    ///
+    /// An error is want of memory, or that the node keeps more than packing can count: a value of
+    /// 2^32 and more, an object of no class, or a token past 2^62.
+    pub(crate) fn packed_for(
+        &self,
+        to: NodeId,
+        marks: Flags,
+        values: Values,
+    ) -> Result<Option<Packet>, AllocError>
+        ensures { IfOk result (λ packet.
+            packet ≡ packed_for (step_of self.now) to (zip marks values)) }
+    {
+        self.packed(to, &side_by_side(marks, values))
     }
 
     /// Whether the sender has an entry of the own object that a name names.

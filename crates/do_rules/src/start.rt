@@ -2,9 +2,10 @@
 ghost use Rattle.std.specs.Prelude.{◌≡◌, IfOk};
 ghost use Rattle.do_machine.specs.Start.{start_effect};
 
+use crate::effect::{given, unchanged};
 use crate::node::methods::method_for;
 use crate::node::{own, own_class};
-use crate::run::fresh::beginning;
+use crate::run::fresh::begin;
 use do_base::{Text, Values};
 use do_behave::Reason;
 use do_class::ClassTable;
@@ -33,7 +34,8 @@ pub fn start_effect(
     if !method.signature.args_fit(values) {
         return Ok(None);
     }
-    let (object, after) = (own(node, root), node.clone()?);
-    let effect = beginning(object, method.id, Reason::Start, values, after)?;
-    Ok(Some(effect))
+    let object = own(node, root);
+    let mut effect = unchanged(node)?;
+    let done = begin(&mut effect.node, object, method.id, Reason::Start, values);
+    Ok(Some(given(effect, done)?))
 }

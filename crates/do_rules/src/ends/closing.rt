@@ -1,14 +1,15 @@
 //! How a node closes its end of the connection to a peer.
 ghost use Rattle.std.specs.Prelude.{◌≡◌, IfOk, OnOk, map};
-ghost use Rattle.do_machine.specs.ends.Closing.{asked_of, closing, died, parted, serials_of};
+ghost use Rattle.do_machine.specs.ends.Closing.{asked_of, closing, parted, serials_of};
 ghost use Rattle.do_machine.specs.ends.Closing.{without_answer};
 ghost use Rattle.do_machine.specs.Effect.{queueing};
 ghost use Rattle.do_machine.specs.declared.item.Item.TheVariants.{End};
+ghost use Rattle.do_rules.specs.Doing.{and_then};
 
-use crate::effect::{after, queueing};
-use crate::ends::peers::all_but;
-use crate::lend::asking::all_settling;
-use crate::run::changes::with_state;
+use crate::effect::{Done, given, queue, unchanged};
+use crate::ends::peers::BesidePeer;
+use crate::lend::asking::settle_all;
+use crate::lists::keep;
 use do_base::{Exc, Items, NodeId, Oids};
 use do_behave::{Answer, InvState, Invocation};
 use do_machine::{Effect, Item, Node, Wanted};
@@ -27,37 +28,18 @@ fn serials_of(peer: NodeId, objects: &Oids) -> Result<Items<u64>, AllocError>
     Ok(serials)
 }
 
-/// The state of an invocation that loses a peer: one that waits for its answer has an exception.
-fn died(peer: NodeId, state: &InvState) -> Result<InvState, AllocError>
-    ensures { IfOk result (λ s. s ≡ died peer state.now) }
+/// An invocation loses a peer: if it waits for its answer, it has an exception.
+fn lose(peer: NodeId, invocation: &mut Invocation)
+    ensures { invocation.new ≡ without_answer peer invocation.old }
 {
-    match state {
-        InvState::Waits {
-            call,
-            peer: asked,
-            what,
-        } => {
-            let waits_on = *asked;
-            if waits_on == peer {
-                return Ok(InvState::Answered(Answer::Raised(Exc::ConnectionDied)));
-            }
-            Ok(InvState::Waits {
-                call: *call,
-                peer: *asked,
-                what: *what,
-            })
-        }
-        InvState::Running => Ok(InvState::Running),
-        InvState::Below => Ok(InvState::Below),
-        InvState::Answered(answer) => Ok(InvState::Answered(answer.clone()?)),
+    let InvState::Waits { peer: asked, .. } = &invocation.state else {
+        return;
+    };
+    let waits_on = *asked;
+    if waits_on != peer {
+        return;
     }
-}
-
-/// An invocation that loses a peer.
-fn without_answer(peer: NodeId, invocation: &Invocation) -> Result<Invocation, AllocError>
-    ensures { IfOk result (λ i. i ≡ without_answer peer invocation.now) }
-{
-    with_state(invocation, died(peer, &invocation.state)?)
+    invocation.state = InvState::Answered(Answer::Raised(Exc::ConnectionDied));
 }
 
 /// Invocations that lose a peer.
@@ -66,31 +48,25 @@ fn stack_without(peer: NodeId, stack: &Items<Invocation>) -> Result<Items<Invoca
 {
     let mut after = Items::new(stack.allocator());
     for invocation in stack.as_slice() {
-        after.push(without_answer(peer, invocation)?)?;
+        let mut next = invocation.clone()?;
+        lose(peer, &mut next);
+        after.push(next)?;
     }
     Ok(after)
 }
 
 /// Takes from a node what it had with the peer: objects held, lends, asks, late calls and calls.
-fn part(peer: NodeId, node: &mut Node) -> Result<(), AllocError>
+fn part(peer: NodeId, node: &mut Node) -> Done
     ensures { OnOk result (node.new ≡ parted peer node.old) }
 {
     node.stack = stack_without(peer, &node.stack)?;
-    node.open_to = all_but(peer, &node.open_to)?;
-    node.held = all_but(peer, &node.held)?;
-    node.lent = all_but(peer, &node.lent)?;
-    node.asked = all_but(peer, &node.asked)?;
-    node.late = all_but(peer, &node.late)?;
+    let others = BesidePeer(peer);
+    keep(&mut node.open_to, &others);
+    keep(&mut node.held, &others);
+    keep(&mut node.lent, &others);
+    keep(&mut node.asked, &others);
+    keep(&mut node.late, &others);
     Ok(())
-}
-
-/// The node without what it had with the peer.
-fn parted(peer: NodeId, node: &Node) -> Result<Node, AllocError>
-    ensures { IfOk result (λ n. n ≡ parted peer node.now) }
-{
-    let mut after = node.clone()?;
-    part(peer, &mut after)?;
-    Ok(after)
 }
 
 /// The asks that a peer was to answer.
@@ -107,11 +83,23 @@ fn asked_of(peer: NodeId, node: &Node) -> Result<Items<Wanted>, AllocError>
 }
 
 /// The peer is told which of its objects are no longer held.
-fn ending(peer: NodeId, held: &Oids, node: Node) -> Result<Effect, AllocError>
-    ensures { IfOk result (λ e. e ≡ queueing peer (End (serials_of peer held.now)) node) }
+fn end(effect: &mut Effect, peer: NodeId) -> Done
+    ensures { OnOk result (effect.new ≡ and_then effect.old
+        (λ n. queueing peer (End (serials_of peer n.held)) (parted peer n))) }
 {
-    let serials = serials_of(peer, held)?;
-    queueing(peer, Item::End { serials }, node)
+    let serials = serials_of(peer, &effect.node.held)?;
+    queue(effect, peer, Item::End { serials })?;
+    part(peer, &mut effect.node)
+}
+
+/// The peer is told which of its objects are no longer held, and the lenders of those asked for
+/// that their lends are over.
+pub(crate) fn close(effect: &mut Effect, peer: NodeId) -> Done
+    ensures { OnOk result (effect.new ≡ and_then effect.old (closing peer)) }
+{
+    let asks = asked_of(peer, &effect.node)?;
+    end(effect, peer)?;
+    settle_all(effect, asks.as_slice())
 }
 
 /// The peer is told which of its objects are no longer held, and the lenders of those asked for
@@ -119,9 +107,7 @@ fn ending(peer: NodeId, held: &Oids, node: Node) -> Result<Effect, AllocError>
 pub fn closing(peer: NodeId, node: &Node) -> Result<Effect, AllocError>
     ensures { IfOk result (λ e. e ≡ closing peer node.now) }
 {
-    let asks = asked_of(peer, node)?;
-    let after_end = parted(peer, node)?;
-    let first = ending(peer, &node.held, after_end)?;
-    let Effect { node, sent, shown } = first;
-    after(sent, shown, all_settling(asks.as_slice(), node)?)
+    let mut effect = unchanged(node)?;
+    let done = close(&mut effect, peer);
+    given(effect, done)
 }

@@ -1,74 +1,60 @@
 //! What a node has with one peer.
-ghost use Rattle.std.specs.Prelude.{◌≡◌, ◌==◌, IfOk, filter, not};
-
-use crate::lists::copied;
-use do_base::{ExactClone, Items, NodeId, Oid};
+use crate::lists::Test;
+use do_base::{NodeId, Oid};
 use do_machine::{LateCall, Lend, Wanted};
-use std::alloc::AllocError;
 
-/// What a node has with one peer: an end, an object, a lend, an ask or a late call.
-pub(crate) trait OfPeer {
-    ghost use Rattle.std.specs.Prelude.{◌≡◌, ℕ};
+/// What a node has with other peers than this one: ends, objects, lends, asks and late calls.
+#[derive(Drop)]
+pub(crate) struct BesidePeer(pub(crate) NodeId);
 
-    ghost of_peer: { Self → ℕ };
+impl Test<NodeId> for BesidePeer {
+    ghost use Rattle.std.specs.Prelude.{◌==◌, not};
 
-    /// The peer: the home of an object or of one that is asked for, the borrower of a lend.
-    fn peer(&self) -> NodeId
-        ensures { result ≡ of_peer self.now };
-}
+    ghost passes = { λ besides port. not (port == besides.0) };
 
-/// The items but those of a peer.
-pub(crate) fn all_but<T: OfPeer + ExactClone>(
-    peer: NodeId,
-    items: &Items<T>,
-) -> Result<Items<T>, AllocError>
-    ensures { IfOk result (λ xs. xs ≡ filter (λ x. not (T.of_peer x == peer)) items.now) }
-{
-    let mut others = Items::new(items.allocator());
-    for item in items.as_slice() {
-        if item.peer() != peer {
-            others.push(copied(item)?)?;
-        }
-    }
-    Ok(others)
-}
-
-impl OfPeer for NodeId {
-    ghost of_peer = { λ port. port };
-
-    fn peer(&self) -> NodeId {
-        *self
+    fn passes(&self, port: &NodeId) -> bool {
+        *port != self.0
     }
 }
 
-impl OfPeer for Oid {
-    ghost of_peer = { λ object. object.node };
+impl Test<Oid> for BesidePeer {
+    ghost use Rattle.std.specs.Prelude.{◌==◌, not};
 
-    fn peer(&self) -> NodeId {
-        self.node
+    ghost passes = { λ besides object. not (object.node == besides.0) };
+
+    fn passes(&self, object: &Oid) -> bool {
+        let home = object.node;
+        home != self.0
     }
 }
 
-impl OfPeer for Lend {
-    ghost of_peer = { λ lend. lend.borrower };
+impl Test<Lend> for BesidePeer {
+    ghost use Rattle.std.specs.Prelude.{◌==◌, not};
 
-    fn peer(&self) -> NodeId {
-        self.borrower
+    ghost passes = { λ besides lend. not (lend.borrower == besides.0) };
+
+    fn passes(&self, lend: &Lend) -> bool {
+        lend.borrower != self.0
     }
 }
 
-impl OfPeer for Wanted {
-    ghost of_peer = { λ wanted. wanted.object.node };
+impl Test<Wanted> for BesidePeer {
+    ghost use Rattle.std.specs.Prelude.{◌==◌, not};
 
-    fn peer(&self) -> NodeId {
-        self.object.node
+    ghost passes = { λ besides wanted. not (wanted.object.node == besides.0) };
+
+    fn passes(&self, wanted: &Wanted) -> bool {
+        let home = wanted.object.node;
+        home != self.0
     }
 }
 
-impl OfPeer for LateCall {
-    ghost of_peer = { λ call. call.peer };
+impl Test<LateCall> for BesidePeer {
+    ghost use Rattle.std.specs.Prelude.{◌==◌, not};
 
-    fn peer(&self) -> NodeId {
-        self.peer
+    ghost passes = { λ besides call. not (call.peer == besides.0) };
+
+    fn passes(&self, call: &LateCall) -> bool {
+        call.peer != self.0
     }
 }

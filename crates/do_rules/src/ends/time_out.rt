@@ -1,75 +1,37 @@
 //! How a call is given up.
-ghost use Rattle.std.specs.Prelude.{◌≡◌, ◌<◌, IfOk, IfSome, length, position};
-ghost use Rattle.do_machine.specs.Lists.{inserted};
-ghost use Rattle.do_machine.specs.ends.TimeOut.{give_up, late_lt, time_out, with_late};
+ghost use Rattle.std.specs.Prelude.{◌≡◌, ◌∷◌, IfOk, OnOk};
+ghost use Rattle.do_behave.specs.declared.invocation.Answer.TheVariants.{Raised};
+ghost use Rattle.do_base.specs.declared.events.exception.Exc.TheVariants.{TimedOut};
+ghost use Rattle.do_machine.specs.ends.TimeOut.{time_out, with_late};
+ghost use Rattle.do_machine.specs.run.Changes.{answered};
+ghost use Rattle.do_machine.specs.run.Fresh.{with_stack};
 
-use crate::effect::only;
-use crate::lists::put_at;
+use crate::effect::{Done, given, unchanged};
+use crate::lists::{Ordered, insert};
 use crate::run::changes::answered;
-use crate::run::fresh::{stack_of, with_stack};
-use do_base::{Exc, Items};
+use crate::run::fresh::put_on;
+use do_base::Exc;
 use do_behave::{Answer, InvState, Invocation};
 use do_machine::{Effect, LateCall, Node};
 use std::alloc::AllocError;
 
-/// Whether one late call stands before another: by their numbers.
-fn is_before(a: &LateCall, b: &LateCall) -> bool
-    ensures { result ≡ late_lt a.now b.now }
-{
-    a.number < b.number
-}
+impl Ordered for LateCall {
+    ghost use Rattle.do_machine.specs.ends.TimeOut.{late_lt};
 
-/// Where the first late call stands that comes behind this one.
-fn place_of(late: &Items<LateCall>, call: &LateCall) -> Option<usize>
-    ensures index { result ≡ position (λ c. late_lt call.now c) late.now }
-    ensures within { IfSome result (λ at. at < length late.now) }
-{
-    late.as_slice()
-        .iter()
-        .position(|other| is_before(call, other))
-}
+    ghost before = { late_lt };
 
-/// Late calls and one more.
-fn late_and(late: &Items<LateCall>, call: LateCall) -> Result<Items<LateCall>, AllocError>
-    ensures { IfOk result (λ cs. cs ≡ inserted late_lt call late.now) }
-{
-    let at = place_of(late, &call);
-    put_at(late.clone()?, at, call)
-}
-
-/// The node with a call more whose answer comes late.
-fn with_late(call: LateCall, node: Node) -> Result<Node, AllocError>
-    ensures { IfOk result (λ n. n ≡ with_late call node) }
-{
-    let late = late_and(&node.late, call)?;
-    let mut node = node;
-    node.late = late;
-    Ok(node)
-}
-
-/// An invocation that waits is answered, and its call is late.
-fn give_up(
-    state: &InvState,
-    top: &Invocation,
-    below: &[Invocation],
-    node: &Node,
-) -> Result<Option<Effect>, AllocError>
-    ensures { IfOk result (λ e. e ≡ give_up state.now top.now below.now node.now) }
-{
-    match state {
-        InvState::Waits { call, peer, what } => {
-            let stack = stack_of(answered(top, Answer::Raised(Exc::TimedOut))?, below)?;
-            let late = LateCall {
-                number: call.number,
-                peer: *peer,
-                what: *what,
-            };
-            Ok(Some(only(with_late(late, with_stack(node, stack)?)?)))
-        }
-        InvState::Running => Ok(None),
-        InvState::Below => Ok(None),
-        InvState::Answered(_) => Ok(None),
+    fn is_before(&self, other: &LateCall) -> bool {
+        self.number < other.number
     }
+}
+
+/// The top invocation is answered, and its call is late.
+fn give_up(node: &mut Node, late: LateCall, top: &Invocation, below: &[Invocation]) -> Done
+    ensures { OnOk result (node.new ≡ with_late late
+        (with_stack (answered (Raised TimedOut) top.now ∷ below.now) node.old)) }
+{
+    put_on(node, answered(top, Answer::Raised(Exc::TimedOut))?, below)?;
+    insert(&mut node.late, late)
 }
 
 /// What a time-out does: the top invocation waits no longer. None where it does not wait.
@@ -79,5 +41,15 @@ pub fn time_out(node: &Node) -> Result<Option<Effect>, AllocError>
     let [top, below @ ..] = node.stack.as_slice() else {
         return Ok(None);
     };
-    give_up(&top.state, top, below, node)
+    let InvState::Waits { call, peer, what } = &top.state else {
+        return Ok(None);
+    };
+    let late = LateCall {
+        number: call.number,
+        peer: *peer,
+        what: *what,
+    };
+    let mut effect = unchanged(node)?;
+    let done = give_up(&mut effect.node, late, top, below);
+    Ok(Some(given(effect, done)?))
 }

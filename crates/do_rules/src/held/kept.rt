@@ -10,9 +10,9 @@ ghost use Rattle.do_rules.specs.Judged.{entry_in};
 
 use crate::held::entered::held_up;
 use crate::node::named::Named;
-use crate::node::objects::{heap_objects, stack_objects};
+use crate::node::objects::{heap_objects, push_stack};
 use crate::node::own;
-use do_base::Items;
+use do_base::{Items, Oids};
 use do_machine::{Heap, Node, State, Stored};
 use std::alloc::AllocError;
 
@@ -56,7 +56,9 @@ pub(crate) fn all_stay(node: &Node) -> Result<bool, AllocError>
     ensures { IfOk result (λ all. all ≡ list_all
         (stays_by (stack_objects node.now.stack) node.now node.now.heap) node.now.heap) }
 {
-    let called = Named::new(stack_objects(&node.stack)?)?;
+    let mut called = Oids::new(node.stack.allocator());
+    push_stack(&mut called, &node.stack)?;
+    let called = Named::new(called)?;
     let named = Named::new(heap_objects(node.heap.get())?)?;
     let all = all_among(node, &called, &named);
     Ok(all)

@@ -1,68 +1,49 @@
 //! Foreign objects that a node names to third nodes.
-ghost use Rattle.std.specs.Prelude.{◌≡◌, ◌++◌, ◌+◌, IfOk, filter, length, not};
+ghost use Rattle.std.specs.Prelude.{◌≡◌, ◌++◌, OnOk};
+ghost use Rattle.std.specs.List.{filter_map};
 ghost use Rattle.do_machine.specs.lend.Lending.{is_lend, lend_of, lending, lends_of};
 ghost use Rattle.do_machine.specs.lend.Lending.{with_settled};
 
+use crate::effect::Done;
+use crate::lists::{Test, keep};
 use do_base::NodeId;
 use do_class::{Name, Packet};
 use do_machine::{Lend, Lends, Node};
 use std::alloc::AllocError;
 
-/// What a name lends to a borrower.
-fn lend_of(borrower: NodeId, name: &Name) -> Option<Lend>
-    ensures { result ≡ lend_of borrower name.now }
+/// Appends what names lend to a borrower.
+fn push_lends(lends: &mut Lends, borrower: NodeId, names: &[Name]) -> Done
+    ensures { OnOk result (lends.new ≡ lends.old ++ filter_map (lend_of borrower) names.now) }
 {
-    match name {
-        Name::Lent { oid, token, .. } => Some(Lend {
-            number: *token,
-            object: *oid,
-            borrower,
-        }),
-        Name::Mine { .. } => None,
-        Name::Yours { .. } => None,
+    let [first, rest @ ..] = names else {
+        return Ok(());
+    };
+    match first {
+        Name::Lent { oid, token, .. } => {
+            lends.push(Lend {
+                number: *token,
+                object: *oid,
+                borrower,
+            })?;
+            push_lends(lends, borrower, rest)
+        }
+        Name::Mine { .. } => push_lends(lends, borrower, rest),
+        Name::Yours { .. } => push_lends(lends, borrower, rest),
     }
 }
 
-/// What a message lends.
-#[tactic(auto, using(crate::proofs::Filtered::filtered_steps))]
-fn lends_of(borrower: NodeId, packet: &Packet) -> Result<Lends, AllocError>
-    ensures { IfOk result (λ ls. ls ≡ lends_of borrower packet.now) }
+/// The node sends a message to a peer: what that names of third nodes is lent. A token past what a
+/// number can be is want of memory too.
+pub(crate) fn lend(node: &mut Node, peer: NodeId, packet: &Packet) -> Done
+    ensures { OnOk result (node.new ≡ lending (lends_of peer packet.now) node.old) }
 {
     let mut lends = Lends::new(packet.names.allocator());
-    for name in packet.names.as_slice() {
-        let Some(lend) = lend_of(borrower, name) else {
-            continue;
-        };
-        lends.push(lend)?;
-    }
-    Ok(lends)
-}
-
-/// What a node lends, and the token behind those that are used up. A token past what a number can
-/// be is want of memory too.
-fn lent_by(peer: NodeId, packet: &Packet, node: &Node) -> Result<(Lends, u64), AllocError>
-    ensures lent { IfOk result (λ r. r.0 ≡ node.now.lent ++ lends_of peer packet.now) }
-    ensures next { IfOk result (λ r.
-        r.1 ≡ node.now.next_token + length (lends_of peer packet.now)) }
-{
-    let lends = lends_of(peer, packet)?;
+    push_lends(&mut lends, peer, packet.names.as_slice())?;
     let Some(next) = node.next_token.checked_add(lends.len() as u64) else {
         return Err(AllocError);
     };
-    let mut lent = node.lent.clone()?;
-    lent.append(lends)?;
-    Ok((lent, next))
-}
-
-/// The node once it sends a message to a peer: what that names of third nodes is lent.
-pub(crate) fn lending(peer: NodeId, packet: &Packet, node: Node) -> Result<Node, AllocError>
-    ensures { IfOk result (λ n. n ≡ lending (lends_of peer packet.now) node) }
-{
-    let (lent, next_token) = lent_by(peer, packet, &node)?;
-    let mut node = node;
-    node.lent = lent;
-    node.next_token = next_token;
-    Ok(node)
+    node.next_token = next;
+    node.lent.append(lends)
 }
 
 /// Whether a lend is that of a number to a borrower.
@@ -72,25 +53,28 @@ fn is_lend(borrower: NodeId, number: u64, lend: &Lend) -> bool
     lend.number == number && lend.borrower == borrower
 }
 
-/// The lends but that of a number to a borrower.
-fn unsettled(borrower: NodeId, number: u64, lent: &Lends) -> Result<Lends, AllocError>
-    ensures { IfOk result (λ ls. ls ≡ filter (λ l. not (is_lend borrower number l)) lent.now) }
-{
-    let mut lends = Lends::new(lent.allocator());
-    for lend in lent.as_slice() {
-        if !is_lend(borrower, number, lend) {
-            lends.push(lend.clone()?)?;
-        }
+/// All lends but that of a number to a borrower.
+#[derive(Drop)]
+struct BesideLend {
+    borrower: NodeId,
+    number: u64,
+}
+
+impl Test<Lend> for BesideLend {
+    ghost use Rattle.std.specs.Prelude.{not};
+    ghost use Rattle.std.specs.List.{filter_map};
+    ghost use Rattle.do_machine.specs.lend.Lending.{is_lend};
+
+    ghost passes = { λ besides lend. not (is_lend besides.borrower besides.number lend) };
+
+    fn passes(&self, lend: &Lend) -> bool {
+        !is_lend(self.borrower, self.number, lend)
     }
-    Ok(lends)
 }
 
 /// A lend is over.
-pub(crate) fn with_settled(borrower: NodeId, number: u64, node: Node) -> Result<Node, AllocError>
-    ensures { IfOk result (λ n. n ≡ with_settled borrower number node) }
+pub(crate) fn end_lend(node: &mut Node, borrower: NodeId, number: u64)
+    ensures { node.new ≡ with_settled borrower number node.old }
 {
-    let lent = unsettled(borrower, number, &node.lent)?;
-    let mut node = node;
-    node.lent = lent;
-    Ok(node)
+    keep(&mut node.lent, &BesideLend { borrower, number });
 }

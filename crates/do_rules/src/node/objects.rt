@@ -4,6 +4,7 @@ ghost use Rattle.do_base.specs.values.Values.{objects_of};
 ghost use Rattle.do_machine.specs.held.Refers.{heap_objects, invocation_objects, node_objects};
 ghost use Rattle.do_machine.specs.held.Refers.{objects_in, stack_objects, state_values};
 
+use crate::effect::Done;
 use do_base::{Items, Oids, Value, Values};
 use do_behave::{Answer, Frame, InvState, Invocation};
 use do_machine::{Heap, Lends, Node, Wanted};
@@ -12,7 +13,7 @@ use std::alloc::AllocError;
 /// Appends the objects in a value. The calls go as deep as its lists nest.
 #[cycle(objects)]
 #[tactic(auto, using(crate::proofs::Nested::object_steps))]
-fn push_objects(objects: &mut Oids, value: &Value) -> Result<(), AllocError>
+fn push_objects(objects: &mut Oids, value: &Value) -> Done
     ensures { OnOk result (objects.new ≡ objects.old ++ objects_of value.now) }
 {
     match value {
@@ -25,7 +26,7 @@ fn push_objects(objects: &mut Oids, value: &Value) -> Result<(), AllocError>
 /// Appends the objects in values.
 #[cycle(objects)]
 #[tactic(auto, using(crate::proofs::Nested::object_steps))]
-fn push_all(objects: &mut Oids, values: &Values) -> Result<(), AllocError>
+fn push_all(objects: &mut Oids, values: &Values) -> Done
     ensures { OnOk result (objects.new ≡ objects.old ++ objects_in values.now) }
 {
     for value in values.as_slice() {
@@ -36,7 +37,7 @@ fn push_all(objects: &mut Oids, values: &Values) -> Result<(), AllocError>
 
 /// Appends the objects in locals.
 #[tactic(auto, using(crate::proofs::Nested::object_steps))]
-fn push_locals(objects: &mut Oids, locals: &Frame) -> Result<(), AllocError>
+fn push_locals(objects: &mut Oids, locals: &Frame) -> Done
     ensures { OnOk result (objects.new ≡ objects.old ++ objects_in locals.now) }
 {
     for local in locals.as_slice() {
@@ -47,7 +48,7 @@ fn push_locals(objects: &mut Oids, locals: &Frame) -> Result<(), AllocError>
 
 /// Appends the objects in an answer that was not used yet.
 #[tactic(auto, using(crate::proofs::Nested::object_steps))]
-fn push_state(objects: &mut Oids, state: &InvState) -> Result<(), AllocError>
+fn push_state(objects: &mut Oids, state: &InvState) -> Done
     ensures { OnOk result (objects.new ≡ objects.old ++ objects_in (state_values state.now)) }
 {
     if let InvState::Answered(Answer::Given { result, outs }) = state {
@@ -59,7 +60,7 @@ fn push_state(objects: &mut Oids, state: &InvState) -> Result<(), AllocError>
 
 /// Appends the objects that an invocation names.
 #[tactic(auto, using(crate::proofs::Nested::object_steps))]
-fn push_invocation(objects: &mut Oids, invocation: &Invocation) -> Result<(), AllocError>
+fn push_invocation(objects: &mut Oids, invocation: &Invocation) -> Done
     ensures { OnOk result (objects.new ≡ objects.old ++ invocation_objects invocation.now) }
 {
     objects.push(invocation.object)?;
@@ -78,37 +79,34 @@ pub(crate) fn heap_objects(heap: &Heap) -> Result<Oids, AllocError>
     Ok(objects)
 }
 
-/// The objects that invocations name.
-pub(crate) fn stack_objects(stack: &Items<Invocation>) -> Result<Oids, AllocError>
-    ensures { IfOk result (λ os. os ≡ stack_objects stack.now) }
+/// Appends the objects that invocations name.
+pub(crate) fn push_stack(objects: &mut Oids, stack: &Items<Invocation>) -> Done
+    ensures { OnOk result (objects.new ≡ objects.old ++ stack_objects stack.now) }
 {
-    let mut objects = Oids::new(stack.allocator());
     for invocation in stack.as_slice() {
-        push_invocation(&mut objects, invocation)?;
+        push_invocation(objects, invocation)?;
     }
-    Ok(objects)
+    Ok(())
 }
 
-/// The objects that are lent.
-fn lent_objects(lent: &Lends) -> Result<Oids, AllocError>
-    ensures { IfOk result (λ os. os ≡ map (λ l. l.object) lent.now) }
+/// Appends the objects that are lent.
+fn push_lent(objects: &mut Oids, lent: &Lends) -> Done
+    ensures { OnOk result (objects.new ≡ objects.old ++ map (λ l. l.object) lent.now) }
 {
-    let mut objects = Oids::new(lent.allocator());
     for lend in lent.as_slice() {
         objects.push(lend.object)?;
     }
-    Ok(objects)
+    Ok(())
 }
 
-/// The objects that were asked for.
-fn asked_objects(asked: &Items<Wanted>) -> Result<Oids, AllocError>
-    ensures { IfOk result (λ os. os ≡ map (λ w. w.object) asked.now) }
+/// Appends the objects that were asked for.
+fn push_asked(objects: &mut Oids, asked: &Items<Wanted>) -> Done
+    ensures { OnOk result (objects.new ≡ objects.old ++ map (λ w. w.object) asked.now) }
 {
-    let mut objects = Oids::new(asked.allocator());
     for wanted in asked.as_slice() {
         objects.push(wanted.object)?;
     }
-    Ok(objects)
+    Ok(())
 }
 
 /// All objects to which a node refers: in slots, invocations, lends and asks.
@@ -116,10 +114,8 @@ pub(crate) fn node_objects(node: &Node) -> Result<Oids, AllocError>
     ensures { IfOk result (λ os. os ≡ node_objects node.now) }
 {
     let mut objects = heap_objects(node.heap.get())?;
-    let mut others = stack_objects(&node.stack)?;
-    let mut named = lent_objects(&node.lent)?;
-    named.append(asked_objects(&node.asked)?)?;
-    others.append(named)?;
-    objects.append(others)?;
+    push_stack(&mut objects, &node.stack)?;
+    push_lent(&mut objects, &node.lent)?;
+    push_asked(&mut objects, &node.asked)?;
     Ok(objects)
 }

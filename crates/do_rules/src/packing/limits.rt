@@ -25,38 +25,35 @@ fn is_class_in(table: &ClassTable, class: Option<ClassId>) -> bool
 fn are_classed(table: &ClassTable, heap: &Heap) -> bool
     ensures { result ≡ list_all (λ x. nat_lt x.class.0 (length table.now)) heap.now }
 {
-    for stored in heap.as_slice() {
-        if stored.get().class.0 >= table.count() {
-            return false;
-        }
-    }
-    true
+    heap.as_slice()
+        .iter()
+        .all(|stored| is_class_in(table, Some(stored.get().class)))
 }
 
 /// Whether the slots of stored objects weigh less than packing can count.
 fn slots_are_light(heap: &Heap) -> bool
     ensures { result ≡ list_all is_light heap.now }
 {
-    for stored in heap.as_slice() {
-        if !are_light(&stored.get().slots) {
-            return false;
-        }
-    }
-    true
+    heap.as_slice()
+        .iter()
+        .all(|stored| are_light(&stored.get().slots))
 }
 
 impl<'a> Context<'a> {
+    /// Whether the class of a foreign object, if it is known, is one of the table.
+    fn is_classed(&self, object: &Oid) -> bool
+        ensures { result ≡
+            is_class_in self.now.table.now (class_of self.now.state.now object.now) }
+    {
+        is_class_in(self.table, class_of(self.state, object))
+    }
+
     /// Whether the classes of foreign objects are of the table.
     fn held_is_classed(&self, held: &Oids) -> bool
-        ensures { result ≡
-            list_all (λ o. is_class_in self.now.table.now (class_of self.now.state.now o)) held.now }
+        ensures { result ≡ list_all
+            (λ o. is_class_in self.now.table.now (class_of self.now.state.now o)) held.now }
     {
-        for object in held.as_slice() {
-            if !is_class_in(self.table, class_of(self.state, object)) {
-                return false;
-            }
-        }
-        true
+        held.as_slice().iter().all(|object| self.is_classed(object))
     }
 
     /// The same of foreign objects that were asked for.
@@ -64,12 +61,10 @@ impl<'a> Context<'a> {
         ensures { result ≡ list_all
             (λ w. is_class_in self.now.table.now (class_of self.now.state.now w.object)) asked.now }
     {
-        for wanted in asked.as_slice() {
-            if !is_class_in(self.table, class_of(self.state, &wanted.object)) {
-                return false;
-            }
-        }
-        true
+        asked
+            .as_slice()
+            .iter()
+            .all(|wanted| self.is_classed(&wanted.object))
     }
 
     /// Whether all objects that the node may name are of classes of the table, and the slots of its

@@ -1,6 +1,7 @@
 //! What becomes of each act of an invocation.
 ghost use Rattle.std.specs.Prelude.{◌≡◌, IfOk};
 ghost use Rattle.do_machine.specs.run.Acts.{act_rule, port_of, return_rule, root_rule, vend_rule};
+ghost use Rattle.do_machine.specs.run.Send.{outs_of};
 ghost use Rattle.do_rules.specs.Judged.{run_of};
 
 use crate::judged::Run;
@@ -8,9 +9,10 @@ use crate::node::methods::signature_of;
 use crate::node::{is_open, root_value};
 use crate::run::answers::values_in;
 use crate::run::arguments::{outs_of, outs_take};
-use do_base::{Exc, Locals, NodeId, Value};
+use do_base::{Exc, Locals, NodeId, Value, Values};
 use do_behave::Act;
 use do_machine::{Request, SendAct, Verdict};
+use do_sig::Signature;
 use std::alloc::AllocError;
 
 /// The node of a number; none where the number is no port.
@@ -75,6 +77,14 @@ impl<'a> Run<'a> {
         }
     }
 
+    /// The locals that come out.
+    fn outs_returned(&self, signature: &Signature) -> Result<Values, AllocError>
+        ensures { IfOk result (λ vs. vs ≡ outs_of signature.now self.now.top.now.locals) }
+    {
+        let locals = values_in(&self.top.locals)?;
+        outs_of(signature, &locals)
+    }
+
     /// What is returned fits the result, if that is not void, and what comes out fits.
     fn return_rule(&self, value: Value) -> Result<Verdict, AllocError>
         ensures { IfOk result (λ v. v ≡ return_rule (run_of self.now) value) }
@@ -86,8 +96,7 @@ impl<'a> Run<'a> {
         if !(void || signature.result_fits(&value)) {
             return Ok(Verdict::Fails(Exc::TypeFault));
         }
-        let locals = values_in(&self.top.locals)?;
-        let outs = outs_of(signature, &locals)?;
+        let outs = self.outs_returned(signature)?;
         if !outs_take(signature, &outs) {
             return Ok(Verdict::Fails(Exc::TypeFault));
         }

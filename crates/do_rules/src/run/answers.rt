@@ -1,5 +1,5 @@
 //! How an answer leaves its node.
-ghost use Rattle.std.specs.Prelude.{◌≡◌, IfOk, None, Some};
+ghost use Rattle.std.specs.Prelude.{◌≡◌, IfOk, None, OnOk, Some};
 ghost use Rattle.std.specs.Option.{option_copied};
 ghost use Rattle.do_machine.specs.run.Answers.{answer_line, answer_marks, exc_name, oneway_answer};
 ghost use Rattle.do_machine.specs.run.Answers.{answer_placed, replying};
@@ -8,17 +8,18 @@ ghost use Rattle.do_machine.specs.Packing.{packed_for};
 ghost use Rattle.do_machine.specs.lend.Lending.{lending, lends_of};
 ghost use Rattle.do_base.specs.declared.events.exception.Exc.TheVariants.{TooLarge};
 ghost use Rattle.do_machine.specs.declared.item.Item.TheVariants.{Raised, Reply};
+ghost use Rattle.do_rules.specs.Doing.{and_then};
 ghost use Rattle.do_rules.specs.Judged.{run_of};
 
-use crate::effect::{only, queueing, showing};
+use crate::effect::{Done, given, queue, show};
 use crate::judged::Run;
-use crate::lend::lending::lending;
+use crate::lend::lending::lend;
 use crate::node::methods::signature_of;
 use crate::run::arguments::{copy_marks, outs_of};
 use do_base::{Exc, Flags, NodeId, Shown, Text, Value, Values, copy_value};
 use do_behave::{Answer, Frame};
 use do_class::Packet;
-use do_machine::{Effect, Item, Node};
+use do_machine::{Effect, Item};
 use do_sig::Signature;
 use std::alloc::{AllocError, Global};
 
@@ -61,12 +62,12 @@ pub(crate) fn answer_line(answer: Answer) -> Shown
 }
 
 /// The answer to a oneway message is dropped, but an exception is shown.
-pub(crate) fn oneway_answer(answer: Answer, node: Node) -> Result<Effect, AllocError>
-    ensures { IfOk result (λ e. e ≡ oneway_answer answer node) }
+pub(crate) fn drop_answer(effect: &mut Effect, answer: Answer) -> Done
+    ensures { OnOk result (effect.new ≡ and_then effect.old (oneway_answer answer)) }
 {
     match answer {
-        Answer::Given { .. } => Ok(only(node)),
-        Answer::Raised(exc) => showing(Shown::Raise(exc), node),
+        Answer::Given { .. } => Ok(()),
+        Answer::Raised(exc) => show(effect, Shown::Raise(exc)),
     }
 }
 
@@ -84,25 +85,21 @@ fn answer_marks(alloc: Global, signature: Option<&Signature>) -> Result<Flags, A
 }
 
 /// The message of an answer goes to a peer, or, if it was too large, an exception.
-fn sending_back(
-    peer: NodeId,
-    number: u64,
-    packet: Option<Packet>,
-    node: Node,
-) -> Result<Effect, AllocError>
-    ensures { IfOk result (λ e. e ≡ elim packet [
-      | None ↦ queueing peer (Raised number TooLarge) node
-      | Some p ↦ queueing peer (Reply number p) (lending (lends_of peer p) node)
-    ]) }
+fn send_back(effect: &mut Effect, peer: NodeId, number: u64, packet: Option<Packet>) -> Done
+    ensures { OnOk result (effect.new ≡ and_then effect.old (λ n. elim packet [
+      | None ↦ queueing peer (Raised number TooLarge) n
+      | Some p ↦ queueing peer (Reply number p) (lending (lends_of peer p) n)
+    ])) }
 {
     match packet {
         Some(packet) => {
-            let node = lending(peer, &packet, node)?;
-            queueing(peer, Item::Reply { number, packet }, node)
+            let done = lend(&mut effect.node, peer, &packet);
+            let packet = given(packet, done)?;
+            queue(effect, peer, Item::Reply { number, packet })
         }
         None => {
             let exc = Exc::TooLarge;
-            queueing(peer, Item::Raised { number, exc }, node)
+            queue(effect, peer, Item::Raised { number, exc })
         }
     }
 }
@@ -127,20 +124,21 @@ impl<'a> Run<'a> {
 
     /// An answer goes back to the peer that waits for it; a result that is too large is an
     /// exception.
-    pub(crate) fn replying(
+    pub(crate) fn reply(
         &self,
+        effect: &mut Effect,
         peer: NodeId,
         number: u64,
         answer: Answer,
-        node: Node,
-    ) -> Result<Effect, AllocError>
-        ensures { IfOk result (λ e. e ≡ replying (run_of self.now) peer number answer node) }
+    ) -> Done
+        ensures { OnOk result (effect.new
+            ≡ and_then effect.old (replying (run_of self.now) peer number answer)) }
     {
         match answer {
-            Answer::Raised(exc) => queueing(peer, Item::Raised { number, exc }, node),
+            Answer::Raised(exc) => queue(effect, peer, Item::Raised { number, exc }),
             Answer::Given { result, outs } => {
                 let packet = self.answer_packet(peer, result, outs)?;
-                sending_back(peer, number, packet, node)
+                send_back(effect, peer, number, packet)
             }
         }
     }

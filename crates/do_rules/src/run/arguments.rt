@@ -1,10 +1,11 @@
 //! The values of a send and of an answer, as the signature has them.
-ghost use Rattle.std.specs.Prelude.{◌≡◌, IfOk, drop, if◌then◌else◌, map};
+ghost use Rattle.std.specs.Prelude.{◌≡◌, ◌++◌, IfOk, OnOk, drop, if◌then◌else◌, map};
 ghost use Rattle.do_sig.specs.Calls.{encoding_fits, is_oneway, qualifiers_of};
 ghost use Rattle.do_sig.specs.Fits.{each_takes};
 ghost use Rattle.do_machine.specs.run.Send.{inputs, outs_by, outs_of};
 ghost use Rattle.do_rules.specs.Beside.{coming_out, passed};
 
+use crate::effect::Done;
 use crate::lists::copied;
 use do_base::{ExactClone, Flags, Items, Value, Values, copy_value};
 use do_machine::SendAct;
@@ -46,19 +47,18 @@ fn input(goes_in: bool, value: &Value) -> Result<Value, AllocError>
     }
 }
 
-/// Values as they are passed, each beside what is said of its argument.
-fn passed(alloc: Global, qualifiers: &[Qualifier], values: &[Value]) -> Result<Values, AllocError>
-    ensures { IfOk result (λ vs. vs ≡ passed qualifiers.now values.now) }
+/// Appends values as they are passed, each beside what is said of its argument.
+fn push_passed(inputs: &mut Values, qualifiers: &[Qualifier], values: &[Value]) -> Done
+    ensures { OnOk result (inputs.new ≡ inputs.old ++ passed qualifiers.now values.now) }
 {
     let [qualifier, qualifiers @ ..] = qualifiers else {
-        return Ok(Values::new(alloc));
+        return Ok(());
     };
     let [value, values @ ..] = values else {
-        return Ok(Values::new(alloc));
+        return Ok(());
     };
-    let mut inputs = passed(alloc, qualifiers, values)?;
-    inputs.insert(0, input(qualifier.goes_in, value)?)?;
-    Ok(inputs)
+    inputs.push(input(qualifier.goes_in, value)?)?;
+    push_passed(inputs, qualifiers, values)
 }
 
 /// The values of a send as they are passed.
@@ -68,30 +68,26 @@ pub(crate) fn inputs(signature: &Signature, send: &SendAct) -> Result<Values, Al
 {
     let alloc = send.args.allocator();
     let qualifiers = qualifiers(alloc, signature)?;
-    let values = passed(alloc, qualifiers.as_slice(), send.args.as_slice())?;
+    let mut values = Values::new(alloc);
+    push_passed(&mut values, qualifiers.as_slice(), send.args.as_slice())?;
     Ok(values)
 }
 
-/// Of a list with one member beside each argument those at arguments that come out.
-fn coming_out<T: ExactClone>(
-    alloc: Global,
-    qualifiers: &[Qualifier],
-    items: &[T],
-) -> Result<Items<T>, AllocError>
-    ensures { IfOk result (λ xs. xs ≡ coming_out qualifiers.now items.now) }
+/// Appends of a list with one member beside each argument those at arguments that come out.
+fn push_outs<T: ExactClone>(outs: &mut Items<T>, qualifiers: &[Qualifier], items: &[T]) -> Done
+    ensures { OnOk result (outs.new ≡ outs.old ++ coming_out qualifiers.now items.now) }
 {
     let [qualifier, qualifiers @ ..] = qualifiers else {
-        return Ok(Items::new(alloc));
+        return Ok(());
     };
     let [item, rest @ ..] = items else {
-        return Ok(Items::new(alloc));
+        return Ok(());
     };
-    let mut outs = coming_out(alloc, qualifiers, rest)?;
     if !qualifier.comes_out {
-        return Ok(outs);
+        return push_outs(outs, qualifiers, rest);
     }
-    outs.insert(0, copied(item)?)?;
-    Ok(outs)
+    outs.push(copied(item)?)?;
+    push_outs(outs, qualifiers, rest)
 }
 
 /// Of a list with one member for each argument those that come out.
@@ -104,7 +100,8 @@ pub(crate) fn outs_of<T: ExactClone>(
 {
     let alloc = items.allocator();
     let qualifiers = qualifiers(alloc, signature)?;
-    let outs = coming_out(alloc, qualifiers.as_slice(), items.as_slice())?;
+    let mut outs = Items::new(alloc);
+    push_outs(&mut outs, qualifiers.as_slice(), items.as_slice())?;
     Ok(outs)
 }
 

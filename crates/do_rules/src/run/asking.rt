@@ -1,10 +1,11 @@
 //! How a peer is asked, and what the invocation that asked then waits for.
-ghost use Rattle.std.specs.Prelude.{◌≡◌, IfOk};
+ghost use Rattle.std.specs.Prelude.{◌≡◌, OnOk};
 ghost use Rattle.do_machine.specs.run.Changes.{uses_number};
 ghost use Rattle.do_machine.specs.run.Verdicts.{awaited_after, requesting, waits_for};
+ghost use Rattle.do_rules.specs.Doing.{and_then};
 
-use crate::effect::queueing;
-use crate::lend::lending::lending;
+use crate::effect::{Done, given, queue};
+use crate::lend::lending::lend;
 use do_base::{CallId, NodeId};
 use do_behave::{InvState, Waited};
 use do_machine::{Effect, Item, Node, Request};
@@ -35,31 +36,26 @@ pub(crate) fn waits_for(node: &Node, peer: NodeId, request: &Request) -> InvStat
 }
 
 /// A request goes to a peer, under a number.
-pub(crate) fn requesting(
-    peer: NodeId,
-    number: u64,
-    request: Request,
-    node: Node,
-) -> Result<Effect, AllocError>
-    ensures { IfOk result (λ e. e ≡ requesting peer number request node) }
+pub(crate) fn request(effect: &mut Effect, peer: NodeId, number: u64, request: Request) -> Done
+    ensures { OnOk result (effect.new ≡ and_then effect.old (requesting peer number request)) }
 {
     match request {
-        Request::Root => queueing(peer, Item::RootAsk { number }, node),
+        Request::Root => queue(effect, peer, Item::RootAsk { number }),
         Request::Call { message, .. } => {
-            let node = lending(peer, &message.packet, node)?;
-            queueing(peer, Item::Call { number, message }, node)
+            let done = lend(&mut effect.node, peer, &message.packet);
+            let message = given(message, done)?;
+            queue(effect, peer, Item::Call { number, message })
         }
     }
 }
 
 /// The node's next call number is used up. One past what a number can be is want of memory too.
-pub(crate) fn uses_number(node: Node) -> Result<Node, AllocError>
-    ensures { IfOk result (λ n. n ≡ uses_number node) }
+pub(crate) fn use_number(node: &mut Node) -> Done
+    ensures { OnOk result (node.new ≡ uses_number node.old) }
 {
     let Some(next) = node.next_call.checked_add(1) else {
         return Err(AllocError);
     };
-    let mut node = node;
     node.next_call = next;
-    Ok(node)
+    Ok(())
 }

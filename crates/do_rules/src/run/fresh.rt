@@ -1,14 +1,13 @@
 //! An invocation as it begins, and objects as they are made.
-ghost use Rattle.std.specs.Prelude.{◌≡◌, ◌++◌, ◌+◌, ◌-◌, ◌∷◌, [], IfOk, length, replicate};
-ghost use Rattle.do_machine.specs.Effect.{only};
+ghost use Rattle.std.specs.Prelude.{◌≡◌, ◌++◌, ◌-◌, ◌∷◌, [], IfOk, OnOk, length, replicate};
 ghost use Rattle.do_machine.specs.run.Fresh.{blank, fresh, pushed, with_objects};
 ghost use Rattle.do_machine.specs.run.Fresh.{with_serials, with_stack};
 
-use crate::effect::only;
+use crate::effect::Done;
 use do_base::{Items, Locals, Oid, Value, Values, copy_value};
 use do_behave::{Frame, Held, InvState, Invocation, Reason};
 use do_class::{ClassId, ClassTable, MethodId};
-use do_machine::{Effect, Heap, Node, Shared, Stored};
+use do_machine::{Heap, Node, Shared, Stored};
 use do_packet::{Made, ObjList};
 use std::alloc::{AllocError, Global};
 
@@ -71,50 +70,28 @@ fn fresh(
     })
 }
 
-/// An invocation on top of others.
-pub(crate) fn stack_of(
-    top: Invocation,
-    below: &[Invocation],
-) -> Result<Items<Invocation>, AllocError>
-    ensures { IfOk result (λ stack. stack ≡ top ∷ below.now) }
+/// The node with another stack: an invocation on top of others.
+pub(crate) fn put_on(node: &mut Node, top: Invocation, below: &[Invocation]) -> Done
+    ensures { OnOk result (node.new ≡ with_stack (top ∷ below.now) node.old) }
 {
-    let mut stack = Items::new(top.locals.allocator());
-    stack.push(top)?;
-    stack.extend_from_slice(below)?;
-    Ok(stack)
-}
-
-/// The node with another stack.
-pub(crate) fn with_stack(node: &Node, stack: Items<Invocation>) -> Result<Node, AllocError>
-    ensures { IfOk result (λ n. n ≡ with_stack stack node.now) }
-{
-    let mut after = node.clone()?;
-    after.stack = stack;
-    Ok(after)
-}
-
-/// The node with an invocation on top.
-fn pushed(invocation: Invocation, node: Node) -> Result<Node, AllocError>
-    ensures { IfOk result (λ n. n ≡ pushed invocation node) }
-{
-    let mut node = node;
-    node.stack.insert(0, invocation)?;
-    Ok(node)
+    node.stack.clear();
+    node.stack.push(top)?;
+    node.stack.extend_from_slice(below)
 }
 
 /// A method of an own object begins, on top of the node's stack.
-pub(crate) fn beginning(
+pub(crate) fn begin(
+    node: &mut Node,
     object: Oid,
     method: MethodId,
     reason: Reason,
     values: &Values,
-    node: Node,
-) -> Result<Effect, AllocError>
-    ensures { IfOk result (λ e.
-        e ≡ only (pushed (fresh object method reason values.now) node)) }
+) -> Done
+    ensures { OnOk result (node.new
+        ≡ pushed (fresh object method reason values.now) node.old) }
 {
     let begun = fresh(object, method, reason, values)?;
-    Ok(only(pushed(begun, node)?))
+    node.stack.insert(0, begun)
 }
 
 /// An object of a class as it is made, with nil slots; one whose class is not there has none.
@@ -174,32 +151,28 @@ fn with_serials(serial: u64, new: &ObjList) -> Result<Heap, AllocError>
     Ok(stored)
 }
 
-/// The heap with new objects, and the next serial. A serial past what a number can be is want of
-/// memory too.
-fn grown(new: &ObjList, node: &Node) -> Result<(Shared<Heap>, u64), AllocError>
-    ensures heap { IfOk result (λ r.
-        r.0 ≡ node.now.heap ++ with_serials node.now.next_serial new.now) }
-    ensures next { IfOk result (λ r. r.1 ≡ node.now.next_serial + length new.now) }
+/// The heap with new objects.
+fn grown(new: &ObjList, node: &Node) -> Result<Shared<Heap>, AllocError>
+    ensures { IfOk result (λ heap.
+        heap ≡ node.now.heap ++ with_serials node.now.next_serial new.now) }
 {
+    let mut heap = node.heap.get().clone()?;
+    heap.append(with_serials(node.next_serial, new)?)?;
+    Shared::new(new.allocator(), heap)
+}
+
+/// New objects are stored under the next serials. Where none is new, the heap stays shared. A
+/// serial past what a number can be is want of memory too.
+pub(crate) fn store(node: &mut Node, new: &ObjList) -> Done
+    ensures { OnOk result (node.new ≡ with_objects new.now node.old) }
+{
+    if new.is_empty() {
+        return Ok(());
+    }
     let Some(next) = node.next_serial.checked_add(new.len() as u64) else {
         return Err(AllocError);
     };
-    let mut heap = node.heap.get().clone()?;
-    heap.append(with_serials(node.next_serial, new)?)?;
-    Ok((Shared::new(new.allocator(), heap)?, next))
-}
-
-/// The node with new objects, which take the next serials. Where none is new, the heap stays
-/// shared.
-pub(crate) fn with_objects(new: &ObjList, node: Node) -> Result<Node, AllocError>
-    ensures { IfOk result (λ n. n ≡ with_objects new.now node) }
-{
-    if new.is_empty() {
-        return Ok(node);
-    }
-    let (heap, next_serial) = grown(new, &node)?;
-    let mut node = node;
-    node.heap = heap;
-    node.next_serial = next_serial;
-    Ok(node)
+    node.heap = grown(new, node)?;
+    node.next_serial = next;
+    Ok(())
 }

@@ -1,11 +1,13 @@
 //! The next act of the top invocation, and what a run does.
-ghost use Rattle.std.specs.Prelude.{◌≡◌, ◌∷◌, [], IfOk};
+ghost use Rattle.std.specs.Prelude.{◌≡◌, ◌∷◌, [], IfOk, option_map};
 ghost use Rattle.do_behave.specs.Changes.{IsFitting, meaning, with_set};
 ghost use Rattle.do_machine.specs.run.Run.{answer_rule, next_act, run_effect, slots_seen};
 ghost use Rattle.do_machine.specs.run.Run.{state_rule};
 ghost use Rattle.do_machine.specs.State.{stored};
+ghost use Rattle.do_machine.specs.run.Verdicts.{effect_of};
 ghost use Rattle.do_rules.specs.Judged.{run_of, step_of};
 
+use crate::effect::given;
 use crate::judged::{Context, Run};
 use crate::lists::with_item;
 use crate::node::stored;
@@ -75,7 +77,8 @@ fn push_step(
     ensures { IfOk result (λ act. act ≡ meaning inv.now (Change.Push list item weight pc)) }
 {
     let mut next = inv.clone()?;
-    next.push_item(list, item, weight, pc)?;
+    let done = next.push_item(list, item, weight, pc);
+    let next = given(next, done)?;
     Ok(plain_step(inv.handler, next.locals, pc))
 }
 
@@ -168,17 +171,21 @@ impl<'a> Run<'a> {
         act_of(self.top, change)
     }
 
-    /// What the state of the top invocation comes to, where it can act.
-    fn state_rule<B: Behaviour>(&self, behaviour: &B) -> Result<Option<Verdict>, AllocError>
-        ensures { IfOk result (λ v. v ≡
-            state_rule (B.act behaviour.now) (run_of self.now) (run_of self.now).top.state) }
+    /// What the top invocation does, where it can act.
+    fn effect<B: Behaviour>(&self, behaviour: &B) -> Result<Option<Effect>, AllocError>
+        ensures { IfOk result (λ e. e ≡ option_map (effect_of (run_of self.now))
+            (state_rule (B.act behaviour.now) (run_of self.now) (run_of self.now).top.state)) }
     {
         match &self.top.state {
             InvState::Running => {
                 let act = self.next_act(behaviour)?;
-                Ok(Some(self.act_rule(act)?))
+                let verdict = self.act_rule(act)?;
+                Ok(Some(self.effect_of(verdict)?))
             }
-            InvState::Answered(answer) => Ok(Some(answer_rule(answer)?)),
+            InvState::Answered(answer) => {
+                let verdict = answer_rule(answer)?;
+                Ok(Some(self.effect_of(verdict)?))
+            }
             InvState::Below | InvState::Waits { .. } => Ok(None),
         }
     }
@@ -199,8 +206,5 @@ pub fn run_effect<B: Behaviour>(
         top,
         below,
     };
-    match run.state_rule(behaviour)? {
-        Some(verdict) => Ok(Some(run.effect_of(verdict)?)),
-        None => Ok(None),
-    }
+    run.effect(behaviour)
 }

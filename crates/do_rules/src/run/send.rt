@@ -1,7 +1,9 @@
 //! What becomes of a message that an invocation sends.
 ghost use Rattle.std.specs.Prelude.{◌≡◌, IfOk};
 ghost use Rattle.do_machine.specs.Context.{class_seen};
-ghost use Rattle.do_machine.specs.run.Send.{local_rule, message, remote_rule, send_rule};
+ghost use Rattle.do_machine.specs.run.Send.{arguments, local_rule, message, remote_rule};
+ghost use Rattle.do_machine.specs.run.Send.{send_rule};
+ghost use Rattle.do_machine.specs.Packing.{packed_for};
 ghost use Rattle.do_rules.specs.Judged.{found_of, run_of, step_of};
 
 use crate::judged::{Context, Run};
@@ -9,9 +11,10 @@ use crate::node::methods::{Found, method_for};
 use crate::node::{is_full, is_known, is_open, own_class};
 use crate::run::arguments::{copy_marks, inputs, outs_of};
 use crate::state::class_of;
-use do_base::{Exc, Oid, Value};
+use do_base::{Exc, NodeId, Oid, Value};
 use do_class::{ClassId, Packet};
 use do_machine::{Message, Node, Request, SendAct, Verdict};
+use do_sig::Signature;
 use std::alloc::AllocError;
 
 /// What a send says to its target.
@@ -63,6 +66,21 @@ impl<'a> Context<'a> {
         }
     }
 
+    /// The arguments of a send as a message to a peer, if they are not too large.
+    fn packed_arguments(
+        &self,
+        to: NodeId,
+        signature: &Signature,
+        send: &SendAct,
+    ) -> Result<Option<Packet>, AllocError>
+        ensures { IfOk result (λ packet.
+            packet ≡ packed_for (step_of self.now) to (arguments signature.now send.now)) }
+    {
+        let marks = copy_marks(send.args.allocator(), signature)?;
+        let values = inputs(signature, send)?;
+        self.packed_for(to, marks, values)
+    }
+
     /// A send to a foreign object goes as a message, which is waited for unless it is oneway.
     fn remote_rule(
         &self,
@@ -75,9 +93,8 @@ impl<'a> Context<'a> {
     {
         let home = object.node;
         let signature = method.signature;
-        let marks = copy_marks(send.args.allocator(), signature)?;
-        let values = inputs(signature, send)?;
-        let Some(packet) = self.packed_for(home, marks, values)? else {
+        let outs = outs_of(signature, &send.from)?;
+        let Some(packet) = self.packed_arguments(home, signature, send)? else {
             return Ok(Verdict::Fails(Exc::TooLarge));
         };
         let message = message(object, send, packet)?;
@@ -96,7 +113,7 @@ impl<'a> Context<'a> {
                 message,
             },
             into: send.into,
-            outs: outs_of(signature, &send.from)?,
+            outs,
             pc: send.pc,
         })
     }

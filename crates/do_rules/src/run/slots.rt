@@ -1,9 +1,10 @@
 //! How the slots of an object change.
-ghost use Rattle.std.specs.Prelude.{◌≡◌, ◌==◌, ◌<◌, IfOk, IfSome, length, position};
+ghost use Rattle.std.specs.Prelude.{◌≡◌, ◌==◌, ◌<◌, IfOk, IfSome, OnOk, length, position};
 ghost use Rattle.do_behave.specs.InPlace.{written};
 ghost use Rattle.do_machine.specs.Lists.{change_first};
 ghost use Rattle.do_machine.specs.run.Changes.{with_slots, with_writes};
 
+use crate::effect::Done;
 use crate::lists::{item_at, with_item};
 use do_base::{Items, Values, copy_value};
 use do_behave::{Write, Writes};
@@ -69,17 +70,15 @@ fn shared_with_slots(serial: u64, writes: &Writes, heap: &Heap) -> Result<Shared
     Shared::new(heap.allocator(), written)
 }
 
-/// The node with slots of an object written; of one that is not stored none is. Where none is
-/// written, the heap stays shared.
+/// Slots of an object are written; of one that is not stored none is. Where none is written, the
+/// heap stays shared.
 #[tactic(auto, using(crate::proofs::Sharing::none_steps))]
-pub(crate) fn with_slots(serial: u64, writes: &Writes, node: Node) -> Result<Node, AllocError>
-    ensures { IfOk result (λ n. n ≡ with_slots serial writes.now node) }
+pub(crate) fn write_slots(node: &mut Node, serial: u64, writes: &Writes) -> Done
+    ensures { OnOk result (node.new ≡ with_slots serial writes.now node.old) }
 {
     if writes.is_empty() {
-        return Ok(node);
+        return Ok(());
     }
-    let heap = shared_with_slots(serial, writes, node.heap.get())?;
-    let mut node = node;
-    node.heap = heap;
-    Ok(node)
+    node.heap = shared_with_slots(serial, writes, node.heap.get())?;
+    Ok(())
 }

@@ -1,164 +1,214 @@
 //! The effect of each verdict on the top invocation.
-ghost use Rattle.std.specs.Prelude.{◌≡◌, IfOk};
-ghost use Rattle.do_machine.specs.run.Verdicts.{effect_of};
+ghost use Rattle.std.specs.Prelude.{◌≡◌, IfOk, OnOk};
+ghost use Rattle.do_machine.specs.Effect.{only};
+ghost use Rattle.do_machine.specs.lend.Lending.{posting};
+ghost use Rattle.do_machine.specs.run.Changes.{goes_to, stands, uses_number};
+ghost use Rattle.do_machine.specs.run.Delivery.{with_top};
+ghost use Rattle.do_machine.specs.run.Verdicts.{effect_of, waits_for};
+ghost use Rattle.do_machine.specs.declared.item.Item.TheVariants.{Oneway};
+ghost use Rattle.do_rules.specs.Doing.{and_then};
 ghost use Rattle.do_rules.specs.Judged.{run_of};
 
-use crate::effect::{only, queueing, showing};
+use crate::effect::{Done, given, queue, show, unchanged};
 use crate::judged::Run;
-use crate::lend::lending::lending;
+use crate::lend::lending::lend;
+use crate::lists::with_item;
 use crate::node::own;
-use crate::run::asking::{requesting, uses_number, waits_for};
-use crate::run::changes::{goes_on, goes_to, stands, steps_to, uses};
-use crate::run::fresh::{beginning, one_blank, with_objects};
-use crate::run::slots::with_slots;
+use crate::run::asking::{request, use_number, waits_for};
+use crate::run::changes::{stands, with_outs};
+use crate::run::fresh::{begin, one_blank, store};
+use crate::run::slots::write_slots;
 use do_base::{Locals, NodeId, Oid, Shown, Value, Values};
-use do_behave::{Answer, Frame, Handler, InvState, Reason, Writes};
+use do_behave::{Answer, Frame, Handler, Held, InvState, Reason, Writes};
 use do_class::{ClassId, MethodId};
 use do_machine::{Effect, Item, Message, Request, Verdict};
 use std::alloc::AllocError;
 
+/// A message goes to a peer that is not waited for.
+fn tell(effect: &mut Effect, peer: NodeId, message: Message) -> Done
+    ensures { OnOk result (effect.new
+        ≡ and_then effect.old (posting peer message.packet (Oneway message))) }
+{
+    let done = lend(&mut effect.node, peer, &message.packet);
+    let message = given(message, done)?;
+    queue(effect, peer, Item::Oneway { message })
+}
+
 impl<'a> Run<'a> {
+    /// The top invocation goes on with a value in a local.
+    pub(crate) fn goes(&self, effect: &mut Effect, into: u8, value: Value, pc: u32) -> Done
+        requires { effect.old ≡ only self.now.context.node.now }
+        ensures { OnOk result (effect.new
+            ≡ effect_of (run_of self.now) (Verdict.Goes into value pc)) }
+    {
+        let mut top = self.top.clone()?;
+        let _was = top.set_local(into, value, pc);
+        top.state = InvState::Running;
+        self.put_top(&mut effect.node, top)
+    }
+
+    /// The top invocation goes on at a place.
+    fn goes_to(&self, effect: &mut Effect, pc: u32) -> Done
+        requires { effect.old ≡ only self.now.context.node.now }
+        ensures { OnOk result (effect.new
+            ≡ only (with_top (run_of self.now) (goes_to pc self.now.top.now))) }
+    {
+        let mut top = self.top.clone()?;
+        top.pc = pc;
+        self.put_top(&mut effect.node, top)
+    }
+
     /// An object is made, and its name goes to a local.
-    fn makes(&self, class: ClassId, into: u8, pc: u32) -> Result<Effect, AllocError>
-        ensures { IfOk result (λ e. e ≡ effect_of (run_of self.now) (Verdict.Makes class into pc)) }
+    fn makes(&self, effect: &mut Effect, class: ClassId, into: u8, pc: u32) -> Done
+        requires { effect.old ≡ only self.now.context.node.now }
+        ensures { OnOk result (effect.new
+            ≡ effect_of (run_of self.now) (Verdict.Makes class into pc)) }
     {
         let node = self.context.node;
         let made = Value::Obj(own(node, node.next_serial));
-        let alloc = node.stack.allocator();
-        let new = one_blank(alloc, self.context.table, class)?;
-        let node = self.with_top(goes_on(self.top, into, made, pc)?)?;
-        Ok(only(with_objects(&new, node)?))
+        self.goes(effect, into, made, pc)?;
+        let new = one_blank(node.stack.allocator(), self.context.table, class)?;
+        store(&mut effect.node, &new)
+    }
+
+    /// The top invocation waits for what is asked of a peer, under the next call number.
+    fn waits(
+        &self,
+        effect: &mut Effect,
+        peer: NodeId,
+        asked: &Request,
+        into: u8,
+        outs: Locals,
+        pc: u32,
+    ) -> Done
+        requires { effect.old ≡ only self.now.context.node.now }
+        ensures { OnOk result (effect.new ≡ only (uses_number
+            (with_top (run_of self.now) (stands pc into outs
+            (waits_for self.now.context.node.now peer asked.now) self.now.top.now)))) }
+    {
+        let state = waits_for(self.context.node, peer, asked);
+        let top = stands(self.top, pc, into, outs, state)?;
+        self.put_top(&mut effect.node, top)?;
+        use_number(&mut effect.node)
     }
 
     /// The top invocation waits for what is asked of a peer.
     fn asks(
         &self,
+        effect: &mut Effect,
         peer: NodeId,
-        request: Request,
+        asked: Request,
         into: u8,
         outs: Locals,
         pc: u32,
-    ) -> Result<Effect, AllocError>
-        ensures { IfOk result (λ e.
-            e ≡ effect_of (run_of self.now) (Verdict.Asks peer request into outs pc)) }
+    ) -> Done
+        requires { effect.old ≡ only self.now.context.node.now }
+        ensures { OnOk result (effect.new
+            ≡ effect_of (run_of self.now) (Verdict.Asks peer asked into outs pc)) }
     {
-        let node = self.context.node;
-        let number = node.next_call;
-        let state = waits_for(node, peer, &request);
-        let node = self.with_top(stands(self.top, pc, into, outs, state)?)?;
-        requesting(peer, number, request, uses_number(node)?)
+        let number = self.context.node.next_call;
+        let done = self.waits(effect, peer, &asked, into, outs, pc);
+        request(effect, peer, number, given(asked, done)?)
     }
 
     /// The top invocation waits for a method of an own object, which begins.
     fn begins(
         &self,
+        effect: &mut Effect,
         object: Oid,
         method: MethodId,
         values: &Values,
         into: u8,
         outs: Locals,
         pc: u32,
-    ) -> Result<Effect, AllocError>
-        ensures { IfOk result (λ e. e ≡ effect_of (run_of self.now)
+    ) -> Done
+        requires { effect.old ≡ only self.now.context.node.now }
+        ensures { OnOk result (effect.new ≡ effect_of (run_of self.now)
             (Verdict.Begins object method values.now into outs pc)) }
     {
-        let node = self.with_top(stands(self.top, pc, into, outs, InvState::Below)?)?;
-        beginning(object, method, Reason::Local, values, node)
+        let top = stands(self.top, pc, into, outs, InvState::Below)?;
+        self.put_top(&mut effect.node, top)?;
+        begin(&mut effect.node, object, method, Reason::Local, values)
     }
 
     /// The top invocation goes on, and a peer gets a message that nobody waits for.
-    fn tells(&self, peer: NodeId, message: Message, into: u8, pc: u32) -> Result<Effect, AllocError>
-        ensures { IfOk result (λ e.
-            e ≡ effect_of (run_of self.now) (Verdict.Tells peer message into pc)) }
+    fn tells(&self, effect: &mut Effect, peer: NodeId, message: Message, into: u8, pc: u32) -> Done
+        requires { effect.old ≡ only self.now.context.node.now }
+        ensures { OnOk result (effect.new
+            ≡ effect_of (run_of self.now) (Verdict.Tells peer message into pc)) }
     {
-        let node = self.with_top(goes_on(self.top, into, Value::Nil, pc)?)?;
-        let node = lending(peer, &message.packet, node)?;
-        queueing(peer, Item::Oneway { message }, node)
-    }
-
-    /// The top invocation goes on with a value in a local.
-    fn goes(&self, into: u8, value: Value, pc: u32) -> Result<Effect, AllocError>
-        ensures { IfOk result (λ e. e ≡ effect_of (run_of self.now) (Verdict.Goes into value pc)) }
-    {
-        let top = goes_on(self.top, into, value, pc)?;
-        Ok(only(self.with_top(top)?))
+        let message = given(message, self.goes(effect, into, Value::Nil, pc))?;
+        tell(effect, peer, message)
     }
 
     /// The top invocation goes on with its answer.
-    fn uses(&self, value: Value, outs: &Values) -> Result<Effect, AllocError>
-        ensures { IfOk result (λ e. e ≡ effect_of (run_of self.now) (Verdict.Uses value outs.now)) }
+    fn uses(&self, effect: &mut Effect, value: Value, outs: &Values) -> Done
+        requires { effect.old ≡ only self.now.context.node.now }
+        ensures { OnOk result (effect.new
+            ≡ effect_of (run_of self.now) (Verdict.Uses value outs.now)) }
     {
-        let top = uses(self.top, value, outs)?;
-        Ok(only(self.with_top(top)?))
+        let was = self.top;
+        let locals = with_item(was.locals.clone()?, was.into as usize, Held::new(value));
+        let locals = with_outs(was.outs.as_slice(), outs.as_slice(), locals)?;
+        let mut top = was.clone()?;
+        top.locals = locals;
+        top.state = InvState::Running;
+        self.put_top(&mut effect.node, top)
     }
 
     /// The top invocation goes on with other locals, and slots of its object are written.
     fn steps(
         &self,
+        effect: &mut Effect,
         pc: u32,
         locals: Frame,
         handler: Option<Handler>,
         writes: &Writes,
-    ) -> Result<Effect, AllocError>
-        ensures { IfOk result (λ e.
-            e ≡ effect_of (run_of self.now) (Verdict.Steps pc locals handler writes.now)) }
+    ) -> Done
+        requires { effect.old ≡ only self.now.context.node.now }
+        ensures { OnOk result (effect.new ≡ effect_of (run_of self.now)
+            (Verdict.Steps pc locals handler writes.now)) }
     {
-        let after = self.with_top(steps_to(self.top, pc, locals, handler)?)?;
+        let mut top = self.top.clone()?;
+        top.pc = pc;
+        top.locals = locals;
+        top.handler = handler;
+        self.put_top(&mut effect.node, top)?;
         let object = &self.top.object;
-        Ok(only(with_slots(object.serial, writes, after)?))
+        write_slots(&mut effect.node, object.serial, writes)
     }
 
-    /// An own object or none becomes the root.
-    fn vends(&self, root: Option<u64>, pc: u32) -> Result<Effect, AllocError>
-        ensures { IfOk result (λ e. e ≡ effect_of (run_of self.now) (Verdict.Vends root pc)) }
-    {
-        let mut after = self.with_top(goes_to(self.top, pc)?)?;
-        after.root = root;
-        Ok(only(after))
-    }
-
-    /// A value is shown.
-    fn says(&self, value: Value, pc: u32) -> Result<Effect, AllocError>
-        ensures { IfOk result (λ e. e ≡ effect_of (run_of self.now) (Verdict.Says value pc)) }
-    {
-        let after = self.with_top(goes_to(self.top, pc)?)?;
-        showing(Shown::Say(value), after)
-    }
-
-    /// The top invocation is popped, and gives a result and out values back.
-    fn returns(&self, value: Value, outs: Values) -> Result<Effect, AllocError>
-        ensures { IfOk result (λ e. e ≡ effect_of (run_of self.now) (Verdict.Returns value outs)) }
-    {
-        let answer = Answer::Given {
-            result: value,
-            outs,
-        };
-        self.delivery(answer, &self.top.reason)
-    }
-
-    /// The effect of a verdict.
-    pub(crate) fn effect_of(&self, verdict: Verdict) -> Result<Effect, AllocError>
-        ensures { IfOk result (λ e. e ≡ effect_of (run_of self.now) verdict) }
+    /// What a verdict does.
+    fn carry_out(&self, effect: &mut Effect, verdict: Verdict) -> Done
+        requires { effect.old ≡ only self.now.context.node.now }
+        ensures { OnOk result (effect.new ≡ effect_of (run_of self.now) verdict) }
     {
         match verdict {
-            Verdict::Goes { into, value, pc } => self.goes(into, value, pc),
-            Verdict::Uses { value, outs } => self.uses(value, &outs),
+            Verdict::Goes { into, value, pc } => self.goes(effect, into, value, pc),
+            Verdict::Uses { value, outs } => self.uses(effect, value, &outs),
             Verdict::Steps {
                 pc,
                 locals,
                 handler,
                 writes,
-            } => self.steps(pc, locals, handler, &writes),
-            Verdict::Makes { class, into, pc } => self.makes(class, into, pc),
-            Verdict::Vends { root, pc } => self.vends(root, pc),
-            Verdict::Says { value, pc } => self.says(value, pc),
+            } => self.steps(effect, pc, locals, handler, &writes),
+            Verdict::Makes { class, into, pc } => self.makes(effect, class, into, pc),
+            Verdict::Vends { root, pc } => {
+                self.goes_to(effect, pc)?;
+                effect.node.root = root;
+                Ok(())
+            }
+            Verdict::Says { value, pc } => {
+                let value = given(value, self.goes_to(effect, pc))?;
+                show(effect, Shown::Say(value))
+            }
             Verdict::Asks {
                 peer,
                 request,
                 into,
                 outs,
                 pc,
-            } => self.asks(peer, request, into, outs, pc),
+            } => self.asks(effect, peer, request, into, outs, pc),
             Verdict::Begins {
                 object,
                 method,
@@ -166,15 +216,37 @@ impl<'a> Run<'a> {
                 into,
                 outs,
                 pc,
-            } => self.begins(object, method, &values, into, outs, pc),
+            } => self.begins(effect, object, method, &values, into, outs, pc),
             Verdict::Tells {
                 peer,
                 message,
                 into,
                 pc,
-            } => self.tells(peer, message, into, pc),
-            Verdict::Returns { value, outs } => self.returns(value, outs),
-            Verdict::Fails(exc) => self.failing(exc, self.top.handler),
+            } => self.tells(effect, peer, message, into, pc),
+            Verdict::Returns { value, outs } => {
+                let answer = Answer::Given {
+                    result: value,
+                    outs,
+                };
+                self.deliver(effect, answer, &self.top.reason)
+            }
+            Verdict::Fails(exc) => self.fails(effect, exc, self.top.handler),
+        }
+    }
+
+    /// The effect of a verdict.
+    pub(crate) fn effect_of(&self, verdict: Verdict) -> Result<Effect, AllocError>
+        ensures { IfOk result (λ e. e ≡ effect_of (run_of self.now) verdict) }
+    {
+        match unchanged(self.context.node) {
+            Ok(mut effect) => {
+                let done = self.carry_out(&mut effect, verdict);
+                given(effect, done)
+            }
+            Err(error) => {
+                drop(verdict);
+                Err(error)
+            }
         }
     }
 }

@@ -1,19 +1,18 @@
 //! What an answer is to the invocation that waits for it.
-ghost use Rattle.std.specs.Prelude.{◌≡◌, ◌<◌, IfOk, IfSome, length, position};
-ghost use Rattle.do_machine.specs.take.Awaiting.{answered_state, answering, awaits, is_answered};
-ghost use Rattle.do_machine.specs.take.Awaiting.{is_for_root, late_answered, stack_answered};
+ghost use Rattle.std.specs.Prelude.{◌≡◌, ◌<◌, IfOk, IfSome, OnOk, length, position};
+ghost use Rattle.do_machine.specs.Effect.{only};
+ghost use Rattle.do_machine.specs.take.Awaiting.{answering, awaits, is_answered};
+ghost use Rattle.do_machine.specs.take.Awaiting.{is_for_root, stack_answered};
 ghost use Rattle.do_machine.specs.take.Awaiting.{with_answer};
 ghost use Rattle.do_rules.specs.Answering.{answer_by, call_of};
 
-use crate::effect::only;
-use crate::lists::item_at;
-use crate::run::changes::with_state;
+use crate::effect::Done;
+use crate::lists::{Test, keep};
 use crate::take::answer::answer_by;
 use do_base::{Exc, Items, NodeId, Values};
 use do_behave::{InvState, Invocation, Waited};
 use do_class::ClassTable;
-use do_machine::{Effect, LateCall, Node};
-use std::alloc::AllocError;
+use do_machine::{LateCall, Node};
 
 /// A call, as its answer names it: the peer that answers, the number, and whether it was for a
 /// root.
@@ -67,31 +66,17 @@ fn awaits(call: &Answered, state: &InvState) -> bool
     }
 }
 
-/// The state of an invocation that waited, by what it asked for.
-fn answered_state(
-    table: &ClassTable,
-    came: Came<'_>,
-    state: &InvState,
-) -> Result<InvState, AllocError>
-    ensures { IfOk result (λ s. s ≡ answered_state (answer_by table.now came.entry) state.now) }
+/// The invocation, if it waits, has its answer, by what it asked for.
+fn have_answer(invocation: &mut Invocation, table: &ClassTable, came: Came<'_>) -> Done
+    ensures { OnOk result (invocation.new
+        ≡ with_answer (answer_by table.now came.entry) invocation.old) }
 {
-    match state {
-        InvState::Waits { what, .. } => Ok(InvState::Answered(answer_by(table, came, *what)?)),
-        InvState::Running => Ok(InvState::Running),
-        InvState::Below => Ok(InvState::Below),
-        InvState::Answered(answer) => Ok(InvState::Answered(answer.clone()?)),
-    }
-}
-
-/// The invocation with its answer.
-fn with_answer(
-    table: &ClassTable,
-    came: Came<'_>,
-    invocation: &Invocation,
-) -> Result<Invocation, AllocError>
-    ensures { IfOk result (λ i. i ≡ with_answer (answer_by table.now came.entry) invocation.now) }
-{
-    with_state(invocation, answered_state(table, came, &invocation.state)?)
+    let InvState::Waits { what, .. } = &invocation.state else {
+        return Ok(());
+    };
+    let answer = answer_by(table, came, *what)?;
+    invocation.state = InvState::Answered(answer);
+    Ok(())
 }
 
 /// Where the invocation that waits for an answer stands.
@@ -107,66 +92,40 @@ fn waiting_at(stack: &Items<Invocation>, call: &Answered) -> Option<usize>
 
 /// The invocation that waits for the answer has it, wherever it stands.
 #[tactic(auto, using(crate::proofs::Sets::first_steps))]
-fn stack_answered(
+fn answer_waiting(
+    stack: &mut Items<Invocation>,
     table: &ClassTable,
     call: &Answered,
     came: Came<'_>,
-    stack: Items<Invocation>,
-) -> Result<Items<Invocation>, AllocError>
-    ensures { IfOk result (λ is. is ≡
-        stack_answered (call_of call.now) (answer_by table.now came.entry) stack) }
+) -> Done
+    ensures { OnOk result (stack.new ≡
+        stack_answered (call_of call.now) (answer_by table.now came.entry) stack.old) }
 {
-    let mut stack = stack;
-    let Some(at) = waiting_at(&stack, call) else {
-        return Ok(stack);
+    let Some(at) = waiting_at(stack, call) else {
+        return Ok(());
     };
-    let invocation = with_answer(table, came, item_at(&stack, at))?;
-    stack.set(at, invocation);
-    Ok(stack)
+    have_answer(stack.at_mut(at), table, came)
 }
 
-/// The late calls but the one that is answered.
-fn late_answered(call: &Answered, late: &Items<LateCall>) -> Result<Items<LateCall>, AllocError>
-    ensures { IfOk result (λ cs. cs ≡ late_answered (call_of call.now) late.now) }
-{
-    let mut others = Items::new(late.allocator());
-    for other in late.as_slice() {
-        if !is_answered(call, other.peer, other.number, &other.what) {
-            others.push(other.clone()?)?;
-        }
+impl Test<LateCall> for Answered {
+    ghost use Rattle.std.specs.Prelude.{not};
+    ghost use Rattle.do_machine.specs.take.Awaiting.{is_answered};
+    ghost use Rattle.do_rules.specs.Answering.{call_of};
+
+    ghost passes = { λ call late.
+        not (is_answered (call_of call) late.peer late.number late.what) };
+
+    fn passes(&self, late: &LateCall) -> bool {
+        !is_answered(self, late.peer, late.number, &late.what)
     }
-    Ok(others)
-}
-
-/// The invocations and the late calls of a node, once an answer came.
-fn settled(
-    table: &ClassTable,
-    call: &Answered,
-    came: Came<'_>,
-    node: &Node,
-) -> Result<(Items<Invocation>, Items<LateCall>), AllocError>
-    ensures stack { IfOk result (λ r. r.0 ≡
-        stack_answered (call_of call.now) (answer_by table.now came.entry) node.now.stack) }
-    ensures late { IfOk result (λ r. r.1 ≡ late_answered (call_of call.now) node.now.late) }
-{
-    let stack = stack_answered(table, call, came, node.stack.clone()?)?;
-    let late = late_answered(call, &node.late)?;
-    Ok((stack, late))
 }
 
 /// An answer goes to the invocation that waits for it, or ends a late call.
-pub(crate) fn answering(
-    table: &ClassTable,
-    call: &Answered,
-    came: Came<'_>,
-    node: Node,
-) -> Result<Effect, AllocError>
-    ensures { IfOk result (λ e.
-        e ≡ answering (call_of call.now) (answer_by table.now came.entry) node) }
+pub(crate) fn answer(node: &mut Node, table: &ClassTable, call: &Answered, came: Came<'_>) -> Done
+    ensures { OnOk result (only node.new ≡
+        answering (call_of call.now) (answer_by table.now came.entry) node.old) }
 {
-    let (stack, late) = settled(table, call, came, &node)?;
-    let mut node = node;
-    node.stack = stack;
-    node.late = late;
-    Ok(only(node))
+    answer_waiting(&mut node.stack, table, call, came)?;
+    keep(&mut node.late, call);
+    Ok(())
 }

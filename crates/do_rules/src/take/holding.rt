@@ -1,63 +1,57 @@
 //! The objects that a node holds.
-ghost use Rattle.std.specs.Prelude.{◌≡◌, ◌<◌, IfOk, IfSome, fold, length, position};
-ghost use Rattle.do_machine.specs.Objects.{joined, object_lt};
+ghost use Rattle.std.specs.Prelude.{◌≡◌, OnOk, fold};
+ghost use Rattle.do_machine.specs.Objects.{joined};
 ghost use Rattle.do_machine.specs.take.Take.{holding};
+ghost use Rattle.do_rules.specs.Exporting.{exports_of};
 
-use crate::lists::put_at;
+use crate::effect::Done;
+use crate::lists::{Ordered, insert};
 use crate::node::has_object;
-use do_base::{Oid, Oids};
-use do_machine::Node;
-use std::alloc::AllocError;
+use crate::node::naming::push_exports;
+use do_base::{NodeId, Oid, Oids};
+use do_machine::{Item, Node};
 
-/// Whether an object comes before another, by port and serial.
-fn is_before(a: &Oid, b: &Oid) -> bool
-    ensures { result ≡ object_lt a.now b.now }
-{
-    let (first, second) = (a.node.port(), b.node.port());
-    if first == second {
-        a.serial < b.serial
-    } else {
-        first < second
+impl Ordered for Oid {
+    ghost use Rattle.do_machine.specs.Objects.{object_lt};
+
+    ghost before = { object_lt };
+
+    fn is_before(&self, other: &Oid) -> bool {
+        let (first, second) = (self.node.port(), other.node.port());
+        if first == second {
+            self.serial < other.serial
+        } else {
+            first < second
+        }
     }
-}
-
-/// Where the first object stands that comes after this one.
-fn place_of(held: &Oids, object: &Oid) -> Option<usize>
-    ensures index { result ≡ position (λ p. object_lt object.now p) held.now }
-    ensures within { IfSome result (λ at. at < length held.now) }
-{
-    held.as_slice()
-        .iter()
-        .position(|other| is_before(object, other))
 }
 
 /// An object joins others, once and in order.
-fn joined(object: Oid, held: Oids) -> Result<Oids, AllocError>
-    ensures { IfOk result (λ os. os ≡ joined held object) }
+fn join(held: &mut Oids, object: Oid) -> Done
+    ensures { OnOk result (held.new ≡ joined held.old object) }
 {
-    if has_object(&held, &object) {
-        return Ok(held);
+    if has_object(held, &object) {
+        return Ok(());
     }
-    let at = place_of(&held, &object);
-    put_at(held, at, object)
+    insert(held, object)
 }
 
 /// Objects join others, one after another.
-fn all_joined(objects: &[Oid], held: Oids) -> Result<Oids, AllocError>
-    ensures { IfOk result (λ os. os ≡ fold joined held objects.now) }
+fn join_all(held: &mut Oids, objects: &[Oid]) -> Done
+    ensures { OnOk result (held.new ≡ fold joined held.old objects.now) }
 {
-    match objects {
-        [] => Ok(held),
-        [first, rest @ ..] => all_joined(rest, joined(*first, held)?),
-    }
+    let [first, rest @ ..] = objects else {
+        return Ok(());
+    };
+    join(held, *first)?;
+    join_all(held, rest)
 }
 
-/// The node once it holds these objects too.
-pub(crate) fn holding(objects: &Oids, node: &Node) -> Result<Node, AllocError>
-    ensures { IfOk result (λ n. n ≡ holding objects.now node.now) }
+/// The node holds what an item exports to it.
+pub(crate) fn hold(node: &mut Node, from: NodeId, item: &Item) -> Done
+    ensures { OnOk result (node.new ≡ holding (exports_of from item.now) node.old) }
 {
-    let held = all_joined(objects.as_slice(), node.held.clone()?)?;
-    let mut after = node.clone()?;
-    after.held = held;
-    Ok(after)
+    let mut objects = Oids::new(node.held.allocator());
+    push_exports(&mut objects, from, item)?;
+    join_all(&mut node.held, objects.as_slice())
 }

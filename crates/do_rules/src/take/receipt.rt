@@ -1,26 +1,26 @@
 //! What a node does with the message of an item that it takes.
-ghost use Rattle.std.specs.Prelude.{◌≡◌, IfOk};
+ghost use Rattle.std.specs.Prelude.{◌≡◌, IfOk, OnOk};
 ghost use Rattle.do_machine.specs.Effect.{each};
-ghost use Rattle.do_machine.specs.take.Receipt.{receiving_name};
+ghost use Rattle.do_machine.specs.take.Receipt.{arrived, receiving, receiving_name};
+ghost use Rattle.do_rules.specs.Doing.{and_then};
 ghost use Rattle.do_rules.specs.Judged.{step_of};
-ghost use Rattle.do_rules.specs.Receiving.{Receives};
 
-use crate::effect::{after, only};
+use crate::effect::Done;
 use crate::judged::Context;
-use crate::lend::asking::asking;
-use crate::run::fresh::with_objects;
+use crate::lend::asking::ask;
+use crate::run::fresh::store;
 use do_base::{NodeId, Token, Values};
 use do_class::{Name, Packet};
-use do_machine::{Effect, Node, Wanted};
+use do_machine::{Effect, Wanted};
 use std::alloc::AllocError;
 
 /// A name is received: an object of a third node is asked for.
-fn receiving_name(from: NodeId, name: &Name, node: Node) -> Result<Effect, AllocError>
-    ensures { IfOk result (λ e. e ≡ receiving_name from name.now node) }
+fn receive_name(effect: &mut Effect, from: NodeId, name: &Name) -> Done
+    ensures { OnOk result (effect.new ≡ and_then effect.old (receiving_name from name.now)) }
 {
     match name {
-        Name::Mine { .. } => Ok(only(node)),
-        Name::Yours { .. } => Ok(only(node)),
+        Name::Mine { .. } => Ok(()),
+        Name::Yours { .. } => Ok(()),
         Name::Lent { oid, token, .. } => {
             let token = Token {
                 lender: from,
@@ -30,44 +30,39 @@ fn receiving_name(from: NodeId, name: &Name, node: Node) -> Result<Effect, Alloc
                 object: *oid,
                 token,
             };
-            asking(&wanted, node)
+            ask(effect, &wanted)
         }
     }
 }
 
 /// Names are received in their order.
-fn all_receiving(from: NodeId, names: &[Name], node: Node) -> Result<Effect, AllocError>
-    ensures { IfOk result (λ e. e ≡ each (receiving_name from) names.now node) }
+fn receive_names(effect: &mut Effect, from: NodeId, names: &[Name]) -> Done
+    ensures { OnOk result (effect.new
+        ≡ and_then effect.old (each (receiving_name from) names.now)) }
 {
     let [first, rest @ ..] = names else {
-        return Ok(only(node));
+        return Ok(());
     };
-    let Effect { node, sent, shown } = receiving_name(from, first, node)?;
-    after(sent, shown, all_receiving(from, rest, node)?)
-}
-
-/// What a message that is received does, and the values that came in it.
-#[derive(Drop)]
-pub(crate) struct Received {
-    pub(crate) effect: Effect,
-    pub(crate) values: Values,
+    receive_name(effect, from, first)?;
+    receive_names(effect, from, rest)
 }
 
 impl<'a> Context<'a> {
-    /// Copies become objects, and names are received in their order.
-    pub(crate) fn received(
+    /// Copies become objects, and names are received in their order. The values that came.
+    pub(crate) fn receive(
         &self,
+        effect: &mut Effect,
         from: NodeId,
         packet: &Packet,
-        node: Node,
-    ) -> Result<Received, AllocError>
-        ensures { IfOk result (Receives (step_of self.now) from packet.now node) }
+    ) -> Result<Values, AllocError>
+        ensures effect { OnOk result (effect.new
+            ≡ and_then effect.old (receiving (step_of self.now) from packet.now)) }
+        ensures values { IfOk result (λ vs.
+            vs ≡ (arrived (step_of self.now) from packet.now).values) }
     {
         let unpacked = self.arrived(from, packet)?;
-        let node = with_objects(&unpacked.copies, node)?;
-        Ok(Received {
-            effect: all_receiving(from, packet.names.as_slice(), node)?,
-            values: unpacked.values,
-        })
+        store(&mut effect.node, &unpacked.copies)?;
+        receive_names(effect, from, packet.names.as_slice())?;
+        Ok(unpacked.values)
     }
 }

@@ -1,29 +1,30 @@
 //! A message of a peer: the method that it invokes, or why it is refused.
-ghost use Rattle.std.specs.Prelude.{◌≡◌, IfOk};
+ghost use Rattle.std.specs.Prelude.{◌≡◌, IfOk, OnOk};
 ghost use Rattle.do_machine.specs.take.Requests.{admission, refusing, request};
+ghost use Rattle.do_rules.specs.Doing.{and_then};
 ghost use Rattle.do_rules.specs.Judged.{step_of};
 
-use crate::effect::{queueing, showing};
+use crate::effect::{Done, queue, show};
 use crate::held::entered::has_entry;
 use crate::judged::Context;
 use crate::node::methods::method_for;
 use crate::node::{is_full, own, own_class};
-use crate::run::fresh::beginning;
+use crate::run::fresh::begin;
 use do_base::{Exc, NodeId, Shown, Values};
 use do_behave::Reason;
 use do_class::MethodId;
-use do_machine::{Effect, Item, Message, Node};
+use do_machine::{Effect, Item, Message};
 use std::alloc::AllocError;
 
 /// A call that is refused goes back as an exception, and of a oneway message that is shown.
-fn refusing(exc: Exc, reason: Reason, node: Node) -> Result<Effect, AllocError>
-    ensures { IfOk result (λ e. e ≡ refusing exc reason node) }
+fn refuse(effect: &mut Effect, exc: Exc, reason: Reason) -> Done
+    ensures { OnOk result (effect.new ≡ and_then effect.old (refusing exc reason)) }
 {
     match reason {
-        Reason::Call { peer, number } => queueing(peer, Item::Raised { number, exc }, node),
-        Reason::Start => showing(Shown::Raise(exc), node),
-        Reason::Local => showing(Shown::Raise(exc), node),
-        Reason::Oneway { .. } => showing(Shown::Raise(exc), node),
+        Reason::Call { peer, number } => queue(effect, peer, Item::Raised { number, exc }),
+        Reason::Start => show(effect, Shown::Raise(exc)),
+        Reason::Local => show(effect, Shown::Raise(exc)),
+        Reason::Oneway { .. } => show(effect, Shown::Raise(exc)),
     }
 }
 
@@ -59,20 +60,20 @@ impl<'a> Context<'a> {
     /// A message is refused at once, or invokes its method.
     pub(crate) fn request(
         &self,
+        effect: &mut Effect,
         from: NodeId,
         reason: Reason,
         message: &Message,
         values: &Values,
-        node: Node,
-    ) -> Result<Effect, AllocError>
-        ensures { IfOk result (λ e.
-            e ≡ request (step_of self.now) from reason message.now values.now node) }
+    ) -> Done
+        ensures { OnOk result (effect.new ≡ and_then effect.old
+            (request (step_of self.now) from reason message.now values.now)) }
     {
         match self.admission(from, message, values)? {
-            Err(exc) => refusing(exc, reason, node),
+            Err(exc) => refuse(effect, exc, reason),
             Ok(method) => {
                 let object = own(self.node, message.target);
-                beginning(object, method, reason, values, node)
+                begin(&mut effect.node, object, method, reason, values)
             }
         }
     }

@@ -1,8 +1,0 @@
-use Rattle.std.proofs.Common.{◌≡◌, take}
-use Rattle.std.specs.List.{flat_map}
-use Rattle.do_rules.specs.HeldUp.{entered}
-use Rattle.do_rules.proofs.held.entered.all_entered.Given as goal
-
-abbrev pub invariant-loop-peer : goal.invariant-loop-peer
-invariant-loop-peer l =
-    l.objects ≡ flat_map (entered l.state l.node.port) (take l.peer-index l.peer-items)

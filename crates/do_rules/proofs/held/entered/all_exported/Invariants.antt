@@ -1,8 +1,0 @@
-use Rattle.std.proofs.Common.{◌≡◌, take}
-use Rattle.std.specs.List.{flat_map}
-use Rattle.do_rules.specs.Exporting.{exports_of}
-use Rattle.do_rules.proofs.held.entered.all_exported.Given as goal
-
-abbrev pub invariant-loop-item : goal.invariant-loop-item
-invariant-loop-item l =
-    l.objects ≡ flat_map (exports_of l.from) (take l.item-index l.item-items)

@@ -1,5 +1,0 @@
-use Rattle.std.proofs.Common.{◌≡◌, map, take}
-use Rattle.do_rules.proofs.node.objects.asked_objects.Given as goal
-
-abbrev pub invariant-loop-wanted : goal.invariant-loop-wanted
-invariant-loop-wanted l = l.objects ≡ map (λ x. x.object) (take l.wanted-index l.wanted-items)

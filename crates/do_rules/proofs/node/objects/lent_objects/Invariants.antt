@@ -1,5 +1,0 @@
-use Rattle.std.proofs.Common.{◌≡◌, map, take}
-use Rattle.do_rules.proofs.node.objects.lent_objects.Given as goal
-
-abbrev pub invariant-loop-lend : goal.invariant-loop-lend
-invariant-loop-lend l = l.objects ≡ map (λ x. x.object) (take l.lend-index l.lend-items)

@@ -1,7 +1,0 @@
-use Rattle.std.proofs.Common.{◌≡◌, take}
-use Rattle.do_machine.specs.held.Refers.{stack_objects}
-use Rattle.do_rules.proofs.node.objects.stack_objects.Given as goal
-
-abbrev pub invariant-loop-invocation : goal.invariant-loop-invocation
-invariant-loop-invocation l =
-    l.objects ≡ stack_objects (take l.invocation-index l.invocation-items)
