@@ -4,7 +4,7 @@ use Rattle.std.proofs.Common.{◌∙◌}
 use Rattle.std.specs.Prelude.{drop, if◌then◌else◌, not, slice_get}
 use Rattle.do_base.specs.declared.events.shown.Shown.{Shown}
 use Rattle.do_class.specs.Class.{Class}
-use Rattle.do_machine.specs.Commit.{commit, moved, showed, then_leaves}
+use Rattle.do_machine.specs.Commit.{commit, moved, showed}
 use Rattle.do_machine.specs.Context.{context}
 use Rattle.do_machine.specs.State.{change, is_open, node, queue, with_queue}
 use Rattle.do_machine.specs.Step.{close, take}
@@ -17,23 +17,16 @@ use Rattle.do_machine.specs.ends.Closing.{closing}
 use Rattle.do_machine.specs.held.Leaving.{leaving}
 use Rattle.do_machine.specs.take.Take.{can_take, take_effect}
 use Rattle.do_rules.specs.Judged.{entry_in}
-use Rattle.do_local.specs.Sending.{sending}
 
--- an effect that is committed, and then what the node leaves
-pub then_leaves_is : (port : ℕ) (S last : State) (n m : Node) (shown whole : List Shown)
-    (e : Effect) → e ≡ leaving (entry_in S n) n → m ≡ e.node → whole ≡ shown ++ e.shown
-    → last ≡ commit port (sending e.sent m) S → showed whole last ≡ then_leaves port shown n S
-then_leaves_is port S last n m shown whole e left same both committed =
-    rw (committed, both, same, left) refl
-
--- an effect that is committed, and then its node leaves
-pub moved_is : (port : ℕ) (S between : State) (e : Effect) (n m : Node) (stepped : Stepped)
-    → n ≡ e.node → m ≡ n → between ≡ commit port (sending e.sent n) S
-    → stepped ≡ then_leaves port e.shown m between → stepped ≡ moved port S e
-moved_is port S between e n m stepped node got committed leaves =
-    leaves ∙ ap (λ k. then_leaves port e.shown k between) (got ∙ node)
-    ∙ ap (then_leaves port e.shown e.node)
-    (committed ∙ ap (λ k. commit port (sending e.sent k) S) node)
+-- an effect is committed, and then what the node leaves
+pub moved_is : (port : ℕ) (S between last : State) (e leaves : Effect) (n : Node)
+    (shown more whole : List Shown) → n ≡ e.node → shown ≡ e.shown → between ≡ commit port e S
+    → leaves ≡ leaving (entry_in between n) n → more ≡ leaves.shown
+    → last ≡ commit port leaves between → whole ≡ shown ++ more
+    → showed whole last ≡ moved port S e
+moved_is port S between last e leaves n shown more whole node first is_between left freed is_last
+    both =
+    rw (both, is_last, freed, left, is_between, first, node) refl
 
 -- where the end is open, the node closes it
 pub close_moves : (port peer : ℕ) (S : State) (n : Node) (e : Effect) (stepped : Stepped)

@@ -1,12 +1,11 @@
 //! What a check lists of a state.
-ghost use Rattle.std.specs.Prelude.{◌≡◌, IfOk, filter, map, option_map};
+ghost use Rattle.std.specs.Prelude.{◌≡◌, IfOk, map, option_map};
 ghost use Rattle.std.specs.List.{flat_map};
 ghost use Rattle.do_machine.specs.State.{own, ports};
 ghost use Rattle.do_machine.specs.check.Snapshot.{closed_ends, entries_for, node_line, object_line};
-ghost use Rattle.do_machine.specs.check.Snapshot.{entry_of, snapshot};
-ghost use Rattle.do_machine.specs.Entry.{has_entry};
+ghost use Rattle.do_machine.specs.check.Snapshot.{snapshot};
 
-use do_base::{NodeId, Oid, Oids, Peers};
+use do_base::{NodeId, Oid, Peers};
 use do_machine::{
     Entry, EntryList, Node, NodeLine, NodeLines, ObjLine, ObjLines, Snapshot, State, Stored,
 };
@@ -42,10 +41,11 @@ fn closed_ends(state: &State, node: &Node) -> Result<Peers, AllocError>
 fn object_line(node: &Node, stored: &Stored) -> Result<ObjLine, AllocError>
     ensures { IfOk result (λ line. line ≡ object_line node.now stored.now) }
 {
+    let slots = stored.slots.clone()?;
     Ok(ObjLine {
         oid: own(node, stored.serial),
         class: stored.class,
-        slots: stored.slots.clone()?,
+        slots,
     })
 }
 
@@ -60,52 +60,19 @@ fn object_lines(node: &Node) -> Result<ObjLines, AllocError>
     Ok(lines)
 }
 
-/// The names of the stored objects of a node.
-fn names_of(node: &Node) -> Result<Oids, AllocError>
-    ensures { IfOk result (λ names. names ≡ map (λ x. own node.now x.serial) node.now.heap) }
-{
-    let mut names = Oids::new(node.stack.allocator());
-    for stored in node.heap.get().as_slice() {
-        names.push(own(node, stored.get().serial))?;
-    }
-    Ok(names)
-}
-
-/// Of these objects those of which a peer has an entry.
-#[tactic(auto, using(crate::proofs::Passing::passing_steps))]
-fn entered(state: &State, peer: NodeId, names: &Oids) -> Result<Oids, AllocError>
-    ensures { IfOk result (λ objects.
-        objects ≡ filter (has_entry state.now peer) names.now) }
-{
-    let mut objects = Oids::new(names.allocator());
-    for object in names.as_slice() {
-        if !has_entry(state, peer, object)? {
-            continue;
-        }
-        objects.push(*object)?;
-    }
-    Ok(objects)
-}
-
-/// A peer's entries of these objects.
-fn entries_of(peer: NodeId, objects: &Oids) -> Result<EntryList, AllocError>
-    ensures { IfOk result (λ entries. entries ≡ map (entry_of peer) objects.now) }
-{
-    let mut entries = EntryList::new(objects.allocator());
-    for object in objects.as_slice() {
-        let object = *object;
-        entries.push(Entry { peer, object })?;
-    }
-    Ok(entries)
-}
-
 /// The entries that a peer has of a node's objects.
+#[tactic(auto, using(crate::proofs::Passing::passing_steps))]
 fn entries_for(state: &State, node: &Node, peer: NodeId) -> Result<EntryList, AllocError>
     ensures { IfOk result (λ entries. entries ≡ entries_for state.now node.now peer) }
 {
-    let names = names_of(node)?;
-    let objects = entered(state, peer, &names)?;
-    let entries = entries_of(peer, &objects)?;
+    let mut entries = EntryList::new(node.stack.allocator());
+    for stored in node.heap.get().as_slice() {
+        let object = own(node, stored.get().serial);
+        if !has_entry(state, peer, &object)? {
+            continue;
+        }
+        entries.push(Entry { peer, object })?;
+    }
     Ok(entries)
 }
 
@@ -135,12 +102,15 @@ fn root_name(node: &Node) -> Option<Oid>
 fn node_line(state: &State, node: &Node) -> Result<NodeLine, AllocError>
     ensures { IfOk result (λ line. line ≡ node_line state.now node.now) }
 {
+    let closed = closed_ends(state, node)?;
+    let objects = object_lines(node)?;
+    let entries = all_entries(state, node)?;
     Ok(NodeLine {
         node: node.port,
         root: root_name(node),
-        closed: closed_ends(state, node)?,
-        objects: object_lines(node)?,
-        entries: all_entries(state, node)?,
+        closed,
+        objects,
+        entries,
     })
 }
 
@@ -160,7 +130,6 @@ fn node_lines(state: &State) -> Result<NodeLines, AllocError>
 pub(crate) fn snapshot(state: &State) -> Result<Snapshot, AllocError>
     ensures { IfOk result (λ listed. listed ≡ snapshot state.now) }
 {
-    Ok(Snapshot {
-        nodes: node_lines(state)?,
-    })
+    let nodes = node_lines(state)?;
+    Ok(Snapshot { nodes })
 }

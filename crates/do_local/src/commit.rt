@@ -1,17 +1,17 @@
 //! What a state is after an effect of one of its nodes.
-ghost use Rattle.std.specs.Prelude.{◌≡◌, ◌++◌, IfOk, map};
+ghost use Rattle.std.specs.Prelude.{◌≡◌, ◌++◌, ◌==◌, [], IfOk, map};
 ghost use Rattle.do_machine.specs.Commit.{born, commit, committed, items_to, moved, showed};
-ghost use Rattle.do_machine.specs.Commit.{skipped, then_leaves, with_sent};
-ghost use Rattle.do_machine.specs.State.{with_items};
+ghost use Rattle.do_machine.specs.Commit.{skipped, with_sent};
+ghost use Rattle.do_machine.specs.Lists.{change_first};
 ghost use Rattle.do_local.specs.Sending.{sending};
 
-use crate::stations::{station_at, station_in, with_items};
+use crate::stations::{station_at, with_items};
 use do_base::{Items, NodeId, ShownList};
 use do_class::ClassId;
 use do_machine::{
     Classes, Effect, Item, Node, Outcome, Parcel, Queue, Shared, State, Station, Stepped,
 };
-use do_rules::leaving;
+use do_rules::{item_at, leaving};
 use std::alloc::AllocError;
 
 /// The items of parcels to a peer.
@@ -98,17 +98,39 @@ fn committed(
 ) -> Result<Shared<Station>, AllocError>
     ensures { IfOk result (λ s. s ≡ committed (sending sent.now node.now) station.now) }
 {
+    let queues = all_with_sent(sent, &station.queues)?;
+    let classes = classes_after(station, node.get())?;
+    let node = node.clone()?;
     let after = Station {
         port: station.port,
-        node: node.clone()?,
-        queues: all_with_sent(sent, &station.queues)?,
-        classes: classes_after(station, node.get())?,
+        node,
+        queues,
+        classes,
     };
     Shared::new(station.queues.allocator(), after)
 }
 
-/// The state once one node is another and sent these parcels.
+/// The stations once one node is another and sent these parcels.
 #[tactic(auto, using(do_rules::proofs::Sets::first_steps))]
+fn committed_in(
+    port: NodeId,
+    node: &Shared<Node>,
+    sent: &Items<Parcel>,
+    stations: Items<Shared<Station>>,
+) -> Result<Items<Shared<Station>>, AllocError>
+    ensures { IfOk result (λ ss. ss ≡ change_first (λ s. port == s.port)
+        (committed (sending sent.now node.now)) stations) }
+{
+    let mut stations = stations;
+    let Some(at) = station_at(&stations, port) else {
+        return Ok(stations);
+    };
+    let station = committed(node, sent, item_at(&stations, at).get())?;
+    stations.set(at, station);
+    Ok(stations)
+}
+
+/// The state once one node is another and sent these parcels.
 fn commit(
     port: NodeId,
     node: &Shared<Node>,
@@ -117,17 +139,13 @@ fn commit(
 ) -> Result<State, AllocError>
     ensures { IfOk result (λ s. s ≡ commit port (sending sent.now node.now) state.now) }
 {
-    let mut after = state.clone()?;
-    let Some(at) = station_at(&after, port) else {
-        return Ok(after);
-    };
-    let station = committed(node, sent, station_in(&after, at))?;
-    after.stations.set(at, station);
-    Ok(after)
+    let given = state.stations.clone()?;
+    let stations = committed_in(port, node, sent, given)?;
+    Ok(State { stations })
 }
 
 /// A state with what an event showed.
-pub(crate) fn showed(shown: ShownList, state: State) -> Stepped
+fn showed(shown: ShownList, state: State) -> Stepped
     ensures { result ≡ showed shown state }
 {
     Stepped {
@@ -137,6 +155,13 @@ pub(crate) fn showed(shown: ShownList, state: State) -> Stepped
             shown,
         },
     }
+}
+
+/// A state of which nothing is shown.
+pub(crate) fn shows_nothing(state: State) -> Stepped
+    ensures { result ≡ showed [] state }
+{
+    showed(ShownList::new(state.stations.allocator()), state)
 }
 
 /// A state that no event changed.
@@ -153,35 +178,39 @@ pub(crate) fn skipped(state: State) -> Stepped
     }
 }
 
-/// A node leaves what nothing holds any more, judged in the state that it moved to.
-fn then_leaves(
-    port: NodeId,
+/// What a node's move comes to: the node, what it showed, and the state then.
+#[derive(Drop)]
+struct NodeMove {
+    node: Shared<Node>,
     shown: ShownList,
-    node: &Node,
-    state: &State,
-) -> Result<Stepped, AllocError>
-    ensures { IfOk result (λ s. s ≡ then_leaves port shown node.now state.now) }
-{
-    let leaves = leaving(state, node)?;
-    let Effect {
-        node: after,
-        sent,
-        shown: freed,
-    } = leaves;
-    let mut shown = shown;
-    shown.append(freed)?;
-    let after = Shared::new(sent.allocator(), after)?;
-    let last = commit(port, &after, &sent, state)?;
-    Ok(showed(shown, last))
+    state: State,
 }
 
-/// A node moves: its effect is committed, and then it leaves what nothing holds any more.
+/// The effect of a node is committed.
+fn moving(port: NodeId, state: &State, effect: Effect) -> Result<NodeMove, AllocError>
+    ensures node { IfOk result (λ m. m.node ≡ effect.node) }
+    ensures shown { IfOk result (λ m. m.shown ≡ effect.shown) }
+    ensures state { IfOk result (λ m. m.state ≡ commit port effect state.now) }
+{
+    let Effect { node, sent, shown } = effect;
+    let node = Shared::new(sent.allocator(), node)?;
+    let after = commit(port, &node, &sent, state)?;
+    Ok(NodeMove {
+        node,
+        shown,
+        state: after,
+    })
+}
+
+/// A node moves: its effect is committed, and then it leaves what nothing holds any more, judged in
+/// the state that it moved to.
 pub(crate) fn moved(port: NodeId, state: &State, effect: Effect) -> Result<Stepped, AllocError>
     ensures { IfOk result (λ s. s ≡ moved port state.now effect) }
 {
-    let Effect { node, sent, shown } = effect;
-    let shared = Shared::new(sent.allocator(), node)?;
-    let between = commit(port, &shared, &sent, state)?;
-    let stepped = then_leaves(port, shown, shared.get(), &between)?;
-    Ok(stepped)
+    let first = moving(port, state, effect)?;
+    let leaves = leaving(&first.state, first.node.get())?;
+    let last = moving(port, &first.state, leaves)?;
+    let mut shown = first.shown;
+    shown.append(last.shown)?;
+    Ok(showed(shown, last.state))
 }

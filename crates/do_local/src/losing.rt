@@ -1,22 +1,24 @@
 //! What a lost connection does to a state.
-ghost use Rattle.std.specs.Prelude.{◌≡◌, IfOk};
+ghost use Rattle.std.specs.Prelude.{◌≡◌, [], IfOk, option_map};
 ghost use Rattle.std.specs.List.{insert};
+ghost use Rattle.do_machine.specs.Commit.{showed};
 ghost use Rattle.do_machine.specs.ends.Losing.{lost};
 
+use crate::commit::shows_nothing;
 use crate::stations::with_queue_of;
 use do_base::{Items, NodeId};
-use do_machine::{Item, Shared, State};
+use do_machine::{Item, Shared, State, Stepped};
 use do_rules::{is_open, node_at, queue};
 use std::alloc::AllocError;
 
 /// An end that names nothing stands behind so many items, where the reader's end is open.
-pub(crate) fn lost(
+pub(crate) fn lose(
     state: &State,
     from: NodeId,
     to: NodeId,
     after: u64,
-) -> Result<Option<State>, AllocError>
-    ensures { IfOk result (λ s. s ≡ lost state.now from to after) }
+) -> Result<Option<Stepped>, AllocError>
+    ensures { IfOk result (λ s. s ≡ option_map (showed []) (lost state.now from to after)) }
 {
     let Some(node) = node_at(state, to) else {
         return Ok(None);
@@ -36,5 +38,5 @@ pub(crate) fn lost(
         serials: Items::new(alloc),
     };
     items.insert(after as usize, Shared::new(alloc, end)?)?;
-    Ok(Some(with_queue_of(from, to, items, state)?))
+    Ok(Some(shows_nothing(with_queue_of(from, to, items, state)?)))
 }

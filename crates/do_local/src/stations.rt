@@ -1,6 +1,5 @@
 //! The stations of a state, and their queues.
-ghost use Rattle.std.specs.Prelude.{◌≡◌, ◌==◌, ◌<◌, IfOk, IfSome, Some, length, position};
-ghost use Rattle.std.specs.Prelude.{slice_get};
+ghost use Rattle.std.specs.Prelude.{◌≡◌, ◌==◌, ◌<◌, IfOk, IfSome, length, position};
 ghost use Rattle.do_machine.specs.Lists.{change_first};
 ghost use Rattle.do_machine.specs.State.{change, with_items, with_queue};
 
@@ -10,23 +9,14 @@ use do_rules::item_at;
 use std::alloc::AllocError;
 
 /// Where the station of a port stands.
-pub(crate) fn station_at(state: &State, port: NodeId) -> Option<usize>
-    ensures index { result ≡ position (λ s. port == s.port) state.now.stations }
-    ensures within { IfSome result (λ at. at < length state.now.stations) }
+pub(crate) fn station_at(stations: &Items<Shared<Station>>, port: NodeId) -> Option<usize>
+    ensures index { result ≡ position (λ s. port == s.port) stations.now }
+    ensures within { IfSome result (λ at. at < length stations.now) }
 {
-    state
-        .stations
+    stations
         .as_slice()
         .iter()
         .position(|station| station.get().port == port)
-}
-
-/// The station at a place.
-pub(crate) fn station_in(state: &State, at: usize) -> &Station
-    requires { at < length state.now.stations }
-    ensures { slice_get state.now.stations at ≡ Some result.now }
-{
-    item_at(&state.stations, at).get()
 }
 
 /// Where the queue to a peer stands.
@@ -78,10 +68,10 @@ fn with_queue(
 ) -> Result<Shared<Station>, AllocError>
     ensures { IfOk result (λ s. s ≡ with_queue to items station.now) }
 {
-    let node = station.node.clone()?;
-    let classes = station.classes.clone()?;
     let given = station.queues.clone()?;
     let queues = with_items_to(to, items, given)?;
+    let node = station.node.clone()?;
+    let classes = station.classes.clone()?;
     let after = Station {
         port: station.port,
         node,
@@ -92,8 +82,27 @@ fn with_queue(
     Ok(shared)
 }
 
-/// A state with other items in the queue from a node to another.
+/// The stations, of which the one of a port has other items in its queue to a peer.
 #[tactic(auto, using(do_rules::proofs::Sets::first_steps))]
+fn with_queue_in(
+    from: NodeId,
+    to: NodeId,
+    items: Items<Shared<Item>>,
+    stations: Items<Shared<Station>>,
+) -> Result<Items<Shared<Station>>, AllocError>
+    ensures { IfOk result (λ ss.
+        ss ≡ change_first (λ s. from == s.port) (with_queue to items) stations) }
+{
+    let mut stations = stations;
+    let Some(at) = station_at(&stations, from) else {
+        return Ok(stations);
+    };
+    let station = with_queue(to, items, item_at(&stations, at).get())?;
+    stations.set(at, station);
+    Ok(stations)
+}
+
+/// A state with other items in the queue from a node to another.
 pub(crate) fn with_queue_of(
     from: NodeId,
     to: NodeId,
@@ -102,11 +111,7 @@ pub(crate) fn with_queue_of(
 ) -> Result<State, AllocError>
     ensures { IfOk result (λ s. s ≡ change from (with_queue to items) state.now) }
 {
-    let mut after = state.clone()?;
-    let Some(at) = station_at(&after, from) else {
-        return Ok(after);
-    };
-    let station = with_queue(to, items, station_in(&after, at))?;
-    after.stations.set(at, station);
-    Ok(after)
+    let given = state.stations.clone()?;
+    let stations = with_queue_in(from, to, items, given)?;
+    Ok(State { stations })
 }

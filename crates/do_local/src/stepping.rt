@@ -1,18 +1,18 @@
 //! What each event does to a state.
-ghost use Rattle.std.specs.Prelude.{◌≡◌, IfOk, drop, slice_get};
-ghost use Rattle.std.specs.Option.{option_copied};
+ghost use Rattle.std.specs.Prelude.{◌≡◌, ◌<◌, IfOk, drop, length};
 ghost use Rattle.do_machine.specs.Step.{close, enabled_step, moved_by, run, start, step, take};
 ghost use Rattle.do_machine.specs.Step.{timeout};
 
-use crate::commit::{moved, showed, skipped};
-use crate::losing::lost;
+use crate::commit::{moved, shows_nothing, skipped};
+use crate::losing::lose;
 use crate::stations::with_queue_of;
-use do_base::{Event, Items, NodeId, ShownList, Text, Values};
+use do_base::{Event, Items, NodeId, Text, Values};
 use do_behave::Behaviour;
 use do_class::ClassTable;
 use do_machine::{Effect, Item, Shared, State, Stepped};
 use do_rules::{
-    Context, can_take, closing, is_open, node_at, queue, run_effect, start_effect, time_out,
+    Context, can_take, closing, is_open, item_at, node_at, queue, run_effect, start_effect,
+    time_out,
 };
 use std::alloc::AllocError;
 
@@ -62,24 +62,13 @@ fn run<B: Behaviour>(
     moved_by(port, state, run_effect(context, behaviour)?)
 }
 
-/// The oldest item.
-fn oldest(items: &Items<Shared<Item>>) -> Option<&Item>
-    ensures { option_copied result ≡ slice_get items.now 0 }
-{
-    match items.get(0) {
-        Some(item) => Some(item.get()),
-        None => None,
-    }
-}
-
 /// Items but the oldest.
 fn without_oldest(items: &Items<Shared<Item>>) -> Result<Items<Shared<Item>>, AllocError>
+    requires { 0 < length items.now }
     ensures { IfOk result (λ is. is ≡ drop 1 items.now) }
 {
     let mut rest = items.clone()?;
-    if !rest.is_empty() {
-        rest.remove(0);
-    }
+    rest.remove(0);
     Ok(rest)
 }
 
@@ -101,9 +90,10 @@ fn take(
     let Some(waiting) = queue(state, from, port) else {
         return Ok(None);
     };
-    let Some(item) = oldest(waiting) else {
+    if waiting.is_empty() {
         return Ok(None);
-    };
+    }
+    let item = item_at(waiting, 0).get();
     let taken = with_queue_of(from, port, without_oldest(waiting)?, state)?;
     let context = Context {
         table,
@@ -157,15 +147,9 @@ fn enabled_step<B: Behaviour>(
         Event::Run { node } => run(table, behaviour, state, *node),
         Event::Take { node, from } => take(table, state, *node, *from),
         Event::Close { node, peer } => close(state, *node, *peer),
-        Event::Lose { from, to, after } => match lost(state, *from, *to, *after)? {
-            Some(after) => Ok(Some(showed(ShownList::new(after.stations.allocator()), after))),
-            None => Ok(None),
-        },
+        Event::Lose { from, to, after } => lose(state, *from, *to, *after),
         Event::Timeout { node } => timeout(state, *node),
-        Event::Check => {
-            let shown = ShownList::new(state.stations.allocator());
-            Ok(Some(showed(shown, state.clone()?)))
-        }
+        Event::Check => Ok(Some(shows_nothing(state.clone()?))),
     }
 }
 

@@ -1,7 +1,11 @@
+use Rattle.std.proofs.Common.{◌∙◌}
 use Rattle.do_local.proofs.Moves.{moved_is}
 use Rattle.do_local.proofs.commit.moved.Goals as goal
 
 pub returns : goal.returns
 returns c =
-    moved_is c.args.port c.args.state.now _ c.args.effect _ _ _ c.in_ok-shared.ensures
-    c.get.ensures c.in_ok-between.ensures c.in_ok-stepped.ensures
+    c.showed.ensures
+    ∙ moved_is c.args.port c.args.state.now _ _ c.args.effect _ _ _ _ _
+    (c.get.ensures ∙ c.in_ok-first.ensures.node) c.in_ok-first.ensures.shown
+    c.in_ok-first.ensures.state c.in_ok-leaves.ensures c.in_ok-last.ensures.shown
+    c.in_ok-last.ensures.state c.in_ok-append.ensures.ok

@@ -1,5 +1,5 @@
 use Rattle.std.proofs.Common.{◌≡◌, true, Some, rules, ap, ◌∙◌}
-use Rattle.std.specs.Prelude.{drop, slice_get}
+use Rattle.std.specs.Prelude.{slice_get}
 use Rattle.do_machine.specs.State.{change, node, queue, with_queue}
 use Rattle.do_machine.specs.declared.item.Item.{Item}
 use Rattle.do_machine.specs.take.Take.{can_take}
@@ -15,9 +15,10 @@ returns c =
     let found : node S c.args.port ≡ Some n = search rules in
     let can : can_take c.args.from n ≡ true = search rules in
     let waits : queue S c.args.from c.args.port ≡ Some waiting = search rules in
-    let oldest : slice_get waiting 0 ≡ Some c.in-Some-oldest.item.now = search rules in
+    let item = c.get-item.result.now in
+    let oldest : slice_get waiting 0 ≡ Some item = search rules in
     let rest = λ (items : List Item). change c.args.from (with_queue c.args.port items) S in
     take_moves c.args.table.now c.args.port c.args.from S c.in_ok-taken.taken n waiting
-    c.in-Some-oldest.item.now c.in_ok-effect.effect c.in_ok-moved.field-0 found can waits oldest
+    item c.in_ok-effect.effect c.in_ok-moved.field-0 found can waits oldest
     (c.in_ok-taken.ensures ∙ ap rest c.in_ok-without_oldest.ensures) c.in_ok-effect.ensures
     c.in_ok-moved.ensures
