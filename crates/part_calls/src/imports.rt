@@ -1,14 +1,12 @@
-//! The imports of a node, driven beside plain maps.
-use crate::plain_imports::PlainImports;
+//! The imports of a node, driven beside plain lists.
+use crate::plain_imports::{OBJECTS, PlainImports, object_at};
 use do_base::{NodeId, Oid, Oids, Token};
 use do_class::ClassId;
 use do_import::Imports;
 use drawn_numbers::Generator;
+use import_samples::{ask, got, granted, lend, refer, unrefer};
 use std::alloc::{AllocError, Global};
 use std::io;
-
-/// How many objects of each port are drawn.
-const SERIALS: u64 = 4;
 
 /// What a drawn call is about.
 #[derive(Clone, Copy)]
@@ -20,68 +18,19 @@ struct Drawn {
     peer: NodeId,
 }
 
-/// Makes room for one object more; where memory ran out, a second time.
-fn make_room(imports: &mut Imports) -> Result<(), AllocError> {
+/// Makes room for one object more, and tells whether there is. Where memory ran out both must be
+/// equal, and it is done again.
+fn make_room(imports: &mut Imports, plain: &PlainImports) -> bool {
     if imports.spare() > 0 {
-        return Ok(());
+        return true;
     }
-    match imports.reserve(4) {
-        Ok(()) => Ok(()),
-        Err(AllocError) => imports.reserve(4),
+    if imports.reserve(4).is_err() {
+        let equal = same(imports, plain);
+        if !equal || imports.reserve(4).is_err() {
+            return false;
+        }
     }
-}
-
-/// Counts an object as received.
-fn got(imports: &mut Imports, oid: Oid, class: ClassId) -> Result<(), AllocError> {
-    make_room(imports)?;
-    if imports.spare() == 0 || imports.received(oid) == u64::MAX {
-        return Err(AllocError);
-    }
-    imports.got(oid, class);
-    Ok(())
-}
-
-/// Counts one use more.
-fn refer(imports: &mut Imports, oid: Oid) -> Result<(), AllocError> {
-    make_room(imports)?;
-    if imports.spare() == 0 || imports.uses(oid) == u64::MAX {
-        return Err(AllocError);
-    }
-    imports.refer(oid);
-    Ok(())
-}
-
-/// Keeps a lend, and tells its token.
-fn lend(imports: &mut Imports, oid: Oid, borrower: NodeId) -> Result<Token, AllocError> {
-    make_room(imports)?;
-    if imports.spare() == 0 || imports.next_token() >= 1 << 62 {
-        return Err(AllocError);
-    }
-    if imports.uses(oid) == u64::MAX || imports.names(oid) == u64::MAX {
-        return Err(AllocError);
-    }
-    Ok(imports.lend(oid, borrower))
-}
-
-/// Keeps an ask, and tells whether it is new.
-fn ask(imports: &mut Imports, oid: Oid, class: ClassId, token: Token) -> Result<bool, AllocError> {
-    make_room(imports)?;
-    if imports.spare() == 0 || imports.uses(oid) == u64::MAX {
-        return Err(AllocError);
-    }
-    if imports.names(oid) == u64::MAX || imports.asks(oid) == u64::MAX {
-        return Err(AllocError);
-    }
-    Ok(imports.ask(oid, class, token))
-}
-
-/// Ends an ask that was granted, and tells whether it was kept.
-fn granted(imports: &mut Imports, oid: Oid, token: Token) -> Result<bool, AllocError> {
-    make_room(imports)?;
-    if imports.spare() == 0 || imports.received(oid) == u64::MAX {
-        return Err(AllocError);
-    }
-    Ok(imports.granted(oid, token))
+    imports.spare() > 0
 }
 
 /// Takes out the lowest object that may leave of both, and tells whether it was the same.
@@ -97,63 +46,37 @@ fn leave(imports: &mut Imports, plain: &mut PlainImports) -> bool {
 }
 
 /// Ends the lowest ask of a home in both, and tells whether it was the same.
-fn end_ask(
-    imports: &mut Imports,
-    plain: &mut PlainImports,
-    home: NodeId,
-) -> Result<bool, AllocError> {
+fn end_ask(imports: &mut Imports, plain: &mut PlainImports, home: NodeId) -> bool {
     let ended = imports.ended_ask(home);
     match plain.first_ask(home) {
         Some((oid, token)) => {
-            plain.gone(oid, token)?;
-            Ok(ended == Some((oid, token)))
+            plain.gone(oid, token);
+            ended == Some((oid, token))
         }
-        None => Ok(ended.is_none()),
-    }
-}
-
-/// Ends a lend in both, and tells whether it was of the same object.
-fn settle(
-    imports: &mut Imports,
-    plain: &mut PlainImports,
-    token: Token,
-    borrower: NodeId,
-) -> Result<bool, AllocError> {
-    let wanted = plain.settle(token, borrower)?;
-    match imports.settle(token, borrower) {
-        Some(oid) => Ok(wanted == Some((oid.node.port(), oid.serial))),
-        None => Ok(wanted.is_none()),
+        None => ended.is_none(),
     }
 }
 
 /// Makes a call about an object in both, and tells whether both answered the same.
-fn object_call(
-    imports: &mut Imports,
-    plain: &mut PlainImports,
-    drawn: &Drawn,
-) -> Result<bool, AllocError> {
+fn object_call(imports: &mut Imports, plain: &mut PlainImports, drawn: &Drawn) -> bool {
+    let Drawn { oid, class, .. } = *drawn;
     match drawn.kind {
         0..18 => {
-            got(imports, drawn.oid, drawn.class)?;
-            plain.got(drawn.oid, drawn.class)?;
+            plain.got(oid, class);
+            got(imports, oid, class)
         }
         18..32 => {
-            refer(imports, drawn.oid)?;
-            plain.refer(drawn.oid)?;
+            plain.refer(oid);
+            refer(imports, oid)
         }
-        32..46 => {
-            if imports.uses(drawn.oid) > 0 {
-                imports.unrefer(drawn.oid);
-            }
-            plain.unrefer(drawn.oid)?;
-        }
-        46..54 => return Ok(leave(imports, plain)),
+        32..46 => unrefer(imports, oid) == plain.unrefer(oid),
+        46..54 => leave(imports, plain),
         _ => {
             imports.end_peer(drawn.peer);
-            plain.end_peer(drawn.peer, SERIALS)?;
+            plain.end_peer(drawn.peer);
+            true
         }
     }
-    Ok(true)
 }
 
 /// Makes a call about a lend or an ask in both, and tells whether both answered the same.
@@ -169,20 +92,13 @@ fn token_call(
         ..
     } = *drawn;
     match drawn.kind {
-        55..65 => Ok(lend(imports, oid, drawn.peer)? == plain.lend(oid, drawn.peer)?),
-        65..77 => settle(imports, plain, token, drawn.peer),
-        77..86 => Ok(ask(imports, oid, class, token)? == plain.ask(oid, class, token)?),
-        86..92 => Ok(granted(imports, oid, token)? == plain.granted(oid, token)?),
-        92..97 => Ok(imports.gone(oid, token) == plain.gone(oid, token)?),
-        _ => end_ask(imports, plain, drawn.peer),
+        55..65 => Ok(lend(imports, oid, drawn.peer) == Some(plain.lend(oid, drawn.peer)?)),
+        65..77 => Ok(imports.settle(token, drawn.peer) == plain.settle(token, drawn.peer)),
+        77..86 => Ok(ask(imports, oid, class, token) == Some(plain.ask(oid, class, token)?)),
+        86..92 => Ok(granted(imports, oid, token) == Some(plain.granted(oid, token))),
+        92..97 => Ok(imports.gone(oid, token) == plain.gone(oid, token)),
+        _ => Ok(end_ask(imports, plain, drawn.peer)),
     }
-}
-
-/// The k-th object that is drawn, by port and serial.
-fn object_at(k: u64) -> Option<Oid> {
-    let node = NodeId::new(1 + (k / SERIALS % 3) as u16)?;
-    let serial = k % SERIALS;
-    Some(Oid { node, serial })
 }
 
 /// Whether both know the same of an object.
@@ -197,7 +113,7 @@ fn same_object(imports: &Imports, plain: &PlainImports, oid: Oid) -> bool {
 
 /// Whether both know the same of all objects, and have the same next token.
 fn same(imports: &Imports, plain: &PlainImports) -> bool {
-    for k in 0..3 * SERIALS {
+    for k in 0..OBJECTS {
         let Some(oid) = object_at(k) else {
             return false;
         };
@@ -216,11 +132,11 @@ fn names(imports: &Imports) -> Result<Oids, AllocError> {
     }
 }
 
-/// Whether the objects of lends and asks are those of the plain maps, in their order.
+/// Whether the objects of lends and asks are those of the plain lists, in their order.
 fn same_named(imports: &Imports, plain: &PlainImports) -> Result<bool, AllocError> {
     let named = names(imports)?;
     let mut seen = 0usize;
-    for k in 0..3 * SERIALS {
+    for k in 0..OBJECTS {
         let Some(oid) = object_at(k) else {
             return Ok(false);
         };
@@ -253,7 +169,7 @@ fn token(generator: &mut Generator, next: u64) -> Option<Token> {
 /// A call.
 fn draw(generator: &mut Generator, next: u64) -> Option<Drawn> {
     let kind = generator.below(100);
-    let oid = object_at(generator.below(3 * SERIALS))?;
+    let oid = object_at(generator.below(OBJECTS))?;
     let class = ClassId(generator.below(5) as u32);
     let token = token(generator, next)?;
     let peer = port(generator, false)?;
@@ -266,35 +182,43 @@ fn draw(generator: &mut Generator, next: u64) -> Option<Drawn> {
     })
 }
 
-/// Makes one call of both, and tells whether they are alike.
+/// Makes room and then one call of both, and tells whether they are alike.
 fn step(
     imports: &mut Imports,
     plain: &mut PlainImports,
     drawn: &Drawn,
 ) -> Result<bool, AllocError> {
+    if !make_room(imports, plain) {
+        return Ok(false);
+    }
     let answered = if drawn.kind < 55 {
-        object_call(imports, plain, drawn)?
+        object_call(imports, plain, drawn)
     } else {
         token_call(imports, plain, drawn)?
     };
     Ok(answered && same(imports, plain) && same_named(imports, plain)?)
 }
 
-/// Makes so many drawn calls, and tells how many were alike before one was not.
-pub fn drive_imports(alloc: Global, calls: u32) -> io::Result<u32> {
-    let Some(own) = NodeId::new(4) else {
-        return Err(io::Error::other("no port"));
-    };
+/// Makes so many drawn calls of both, and tells how many were alike before one was not.
+fn driven(imports: &mut Imports, plain: &mut PlainImports, calls: u32) -> io::Result<u32> {
     let mut generator = Generator::new(7);
-    let mut imports = Imports::new(alloc, own);
-    let mut plain = PlainImports::new(alloc, own);
     for call in 0..calls {
         let Some(drawn) = draw(&mut generator, plain.next()) else {
             return Err(io::Error::other("no port"));
         };
-        if !step(&mut imports, &mut plain, &drawn)? {
+        if !step(imports, plain, &drawn)? {
             return Ok(call);
         }
     }
     Ok(calls)
+}
+
+/// Drives imports by so many drawn calls, and tells how many were alike before one was not.
+pub fn drive_imports(alloc: Global, calls: u32) -> io::Result<u32> {
+    let Some(own) = NodeId::new(4) else {
+        return Err(io::Error::other("no port"));
+    };
+    let mut imports = Imports::new(alloc, own);
+    let mut plain = PlainImports::new(alloc, own);
+    driven(&mut imports, &mut plain, calls)
 }

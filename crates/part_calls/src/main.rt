@@ -1,8 +1,8 @@
-//! Drives the imports and the store of a node by 100,000 drawn calls each, beside plain maps and
-//! lists, which must be equal after each, and prints how many calls were alike.
+//! Drives the imports and the store of a node by 100,000 drawn calls each, beside plain lists, which
+//! must be equal after each, and prints how many calls were alike.
 //!
-//! Where memory runs out in a call of a part, it is made again, and must then be alike: the part is
-//! as it was. With the word `memory` 300 calls of each are made.
+//! With the word `memory` 300 calls of each are made. A call for which memory ran out must leave
+//! the part equal to the plain one, and is made again.
 #![tactic(auto)]
 
 mod imports;

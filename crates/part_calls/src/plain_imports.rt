@@ -1,61 +1,71 @@
-//! What a node has of foreign objects, in plain maps.
+//! What a node has of foreign objects, in plain lists.
 use do_base::{NodeId, Oid, Token};
 use do_class::ClassId;
 use std::alloc::{AllocError, Global};
-use std::collections::BTreeMap;
 
-/// Counts by port and serial.
-type Counts = BTreeMap<(u16, u64), u64>;
+/// How many objects of each port there are, by serial from 0.
+pub const SERIALS: u64 = 4;
 
-/// What was received, is used, lent and asked for, and the classes.
+/// How many objects there are in all, of the ports from 1 on.
+pub const OBJECTS: u64 = 12;
+
+/// What is kept of an object.
+#[derive(Clone, Copy)]
+struct PlainObject {
+    received: u64,
+    uses: u64,
+    class: Option<ClassId>,
+}
+
+/// What is kept of an object of which nothing is known.
+const NOTHING: PlainObject = PlainObject {
+    received: 0,
+    uses: 0,
+    class: None,
+};
+
+/// A lend that is not settled.
+#[derive(Clone, Copy)]
+struct Lend {
+    oid: Oid,
+    borrower: NodeId,
+    number: u64,
+}
+
+/// An ask that is not ended.
+#[derive(Clone, Copy)]
+struct Ask {
+    oid: Oid,
+    class: ClassId,
+    token: Token,
+}
+
+/// The objects by port and serial, and the lends and asks in the order in which they came.
 #[derive(Drop)]
 pub struct PlainImports {
     own: NodeId,
-    received: Counts,
-    uses: Counts,
-    /// By borrower and number: the port and serial of what was lent.
-    lends: BTreeMap<(u16, u64), (u16, u64)>,
-    /// By home, lender, number and serial: the class.
-    asks: BTreeMap<(u16, u16, u64, u64), u32>,
-    classes: BTreeMap<(u16, u64), u32>,
+    objects: [PlainObject; OBJECTS as usize],
+    lends: Vec<Lend>,
+    asks: Vec<Ask>,
     next: u64,
 }
 
-/// How often a key counts.
-fn count(counts: &Counts, key: (u16, u64)) -> u64 {
-    match counts.get(&key) {
-        Some(count) => *count,
-        None => 0,
-    }
+/// The place of an object among all, by port and serial.
+fn place(oid: Oid) -> usize {
+    let before = u64::from(oid.node.port() - 1) * SERIALS;
+    before.saturating_add(oid.serial) as usize
 }
 
-/// Counts a key once more.
-fn add(counts: &mut Counts, key: (u16, u64)) -> Result<(), AllocError> {
-    let had = count(counts, key);
-    counts.insert(key, had.saturating_add(1))?;
-    Ok(())
+/// Whether an ask goes before another one of its home: by lender, number and serial.
+fn is_before(ask: &Ask, other: &Ask) -> bool {
+    ask.token < other.token || (ask.token == other.token && ask.oid.serial < other.oid.serial)
 }
 
-/// Counts a key once less, where it counts.
-fn take_off(counts: &mut Counts, key: (u16, u64)) -> Result<(), AllocError> {
-    let had = count(counts, key);
-    if had > 1 {
-        counts.insert(key, had - 1)?;
-    } else {
-        counts.remove(&key);
-    }
-    Ok(())
-}
-
-/// An object as a key.
-fn key_of(oid: Oid) -> (u16, u64) {
-    (oid.node.port(), oid.serial)
-}
-
-/// An ask as a key.
-fn ask_key(oid: Oid, token: Token) -> (u16, u16, u64, u64) {
-    let home = oid.node.port();
-    (home, token.lender.port(), token.number, oid.serial)
+/// The object at a place, by port and serial.
+pub fn object_at(k: u64) -> Option<Oid> {
+    let node = NodeId::new(1 + (k / SERIALS % 3) as u16)?;
+    let serial = k % SERIALS;
+    Some(Oid { node, serial })
 }
 
 impl PlainImports {
@@ -63,11 +73,9 @@ impl PlainImports {
     pub fn new(alloc: Global, own: NodeId) -> PlainImports {
         PlainImports {
             own,
-            received: BTreeMap::new(alloc),
-            uses: BTreeMap::new(alloc),
-            lends: BTreeMap::new(alloc),
-            asks: BTreeMap::new(alloc),
-            classes: BTreeMap::new(alloc),
+            objects: [NOTHING; OBJECTS as usize],
+            lends: Vec::new(alloc),
+            asks: Vec::new(alloc),
             next: 1,
         }
     }
@@ -77,29 +85,41 @@ impl PlainImports {
         self.next
     }
 
+    /// What is kept of an object.
+    fn object(&self, oid: Oid) -> PlainObject {
+        match self.objects.get(place(oid)) {
+            Some(object) => *object,
+            None => NOTHING,
+        }
+    }
+
+    /// Keeps this of an object.
+    fn keep(&mut self, oid: Oid, object: PlainObject) {
+        if let Some(kept) = self.objects.get_mut(place(oid)) {
+            *kept = object;
+        }
+    }
+
     /// How often an object was received.
     pub fn received(&self, oid: Oid) -> u64 {
-        count(&self.received, key_of(oid))
+        self.object(oid).received
     }
 
     /// How often an object is used.
     pub fn uses(&self, oid: Oid) -> u64 {
-        count(&self.uses, key_of(oid))
+        self.object(oid).uses
     }
 
     /// The class of an object, if it is known.
     pub fn class(&self, oid: Oid) -> Option<ClassId> {
-        match self.classes.get(&key_of(oid)) {
-            Some(class) => Some(ClassId(*class)),
-            None => None,
-        }
+        self.object(oid).class
     }
 
     /// How many asks are of an object.
     pub fn asks(&self, oid: Oid) -> u64 {
         let mut count = 0u64;
-        for row in self.asks.iter() {
-            if (row.0.0, row.0.3) == key_of(oid) {
+        for ask in self.asks.iter() {
+            if ask.oid == oid {
                 count = count.saturating_add(1);
             }
         }
@@ -109,8 +129,8 @@ impl PlainImports {
     /// How many lends are of an object.
     pub fn lent(&self, oid: Oid) -> u64 {
         let mut count = 0u64;
-        for row in self.lends.iter() {
-            if *row.1 == key_of(oid) {
+        for lend in self.lends.iter() {
+            if lend.oid == oid {
                 count = count.saturating_add(1);
             }
         }
@@ -118,113 +138,141 @@ impl PlainImports {
     }
 
     /// Keeps the class of an object, where none is kept.
-    fn keep_class(&mut self, key: (u16, u64), class: u32) -> Result<(), AllocError> {
-        if !self.classes.contains_key(&key) {
-            self.classes.insert(key, class)?;
+    fn keep_class(&mut self, oid: Oid, class: ClassId) {
+        let mut object = self.object(oid);
+        if object.class.is_none() {
+            object.class = Some(class);
         }
-        Ok(())
+        self.keep(oid, object);
     }
 
     /// Forgets the class of an object that was neither received nor asked for.
     fn leave_class(&mut self, oid: Oid) {
-        if self.received(oid) == 0 && self.asks(oid) == 0 {
-            self.classes.remove(&key_of(oid));
+        let mut object = self.object(oid);
+        if object.received == 0 && self.asks(oid) == 0 {
+            object.class = None;
         }
+        self.keep(oid, object);
     }
 
     /// Counts an object as received.
-    pub fn got(&mut self, oid: Oid, class: ClassId) -> Result<(), AllocError> {
-        add(&mut self.received, key_of(oid))?;
-        self.keep_class(key_of(oid), class.0)
+    pub fn got(&mut self, oid: Oid, class: ClassId) {
+        let mut object = self.object(oid);
+        object.received = object.received.saturating_add(1);
+        self.keep(oid, object);
+        self.keep_class(oid, class);
     }
 
     /// Counts one use more.
-    pub fn refer(&mut self, oid: Oid) -> Result<(), AllocError> {
-        add(&mut self.uses, key_of(oid))
+    pub fn refer(&mut self, oid: Oid) {
+        let mut object = self.object(oid);
+        object.uses = object.uses.saturating_add(1);
+        self.keep(oid, object);
     }
 
-    /// Counts one use less, where there is one.
-    pub fn unrefer(&mut self, oid: Oid) -> Result<(), AllocError> {
-        take_off(&mut self.uses, key_of(oid))
+    /// Counts one use less, and tells whether there was one.
+    pub fn unrefer(&mut self, oid: Oid) -> bool {
+        let mut object = self.object(oid);
+        let used = object.uses;
+        object.uses = used.saturating_sub(1);
+        self.keep(oid, object);
+        used > 0
+    }
+
+    /// Whether an ask is kept.
+    fn has_ask(&self, oid: Oid, token: Token) -> bool {
+        self.asks
+            .iter()
+            .any(|ask| ask.oid == oid && ask.token == token)
     }
 
     /// Keeps an ask, and tells whether it is new.
     pub fn ask(&mut self, oid: Oid, class: ClassId, token: Token) -> Result<bool, AllocError> {
-        let key = ask_key(oid, token);
-        if self.asks.contains_key(&key) {
+        if self.has_ask(oid, token) {
             return Ok(false);
         }
-        self.asks.insert(key, class.0)?;
-        add(&mut self.uses, key_of(oid))?;
-        self.keep_class(key_of(oid), class.0)?;
+        self.asks.push(Ask { oid, class, token })?;
+        self.refer(oid);
+        self.keep_class(oid, class);
         Ok(true)
+    }
+
+    /// Ends an ask, and tells its class, if it was kept.
+    fn end_ask(&mut self, oid: Oid, token: Token) -> Option<ClassId> {
+        let at = self
+            .asks
+            .iter()
+            .position(|ask| ask.oid == oid && ask.token == token)?;
+        let class = self.asks.remove(at).class;
+        self.unrefer(oid);
+        Some(class)
     }
 
     /// Ends an ask whose object is gone, and tells whether it was kept.
-    pub fn gone(&mut self, oid: Oid, token: Token) -> Result<bool, AllocError> {
-        if self.asks.remove(&ask_key(oid, token)).is_none() {
-            return Ok(false);
+    pub fn gone(&mut self, oid: Oid, token: Token) -> bool {
+        if self.end_ask(oid, token).is_none() {
+            return false;
         }
-        take_off(&mut self.uses, key_of(oid))?;
         self.leave_class(oid);
-        Ok(true)
+        true
     }
 
     /// Ends an ask that was granted, and tells whether it was kept.
-    pub fn granted(&mut self, oid: Oid, token: Token) -> Result<bool, AllocError> {
-        let Some(class) = self.asks.remove(&ask_key(oid, token)) else {
-            return Ok(false);
+    pub fn granted(&mut self, oid: Oid, token: Token) -> bool {
+        let Some(class) = self.end_ask(oid, token) else {
+            return false;
         };
-        take_off(&mut self.uses, key_of(oid))?;
-        self.got(oid, ClassId(class))?;
-        Ok(true)
+        self.got(oid, class);
+        true
     }
 
-    /// The first ask of a home.
+    /// The first ask of a home, by lender, number and serial.
     pub fn first_ask(&self, home: NodeId) -> Option<(Oid, Token)> {
-        for row in self.asks.iter() {
-            let (port, lender, number, serial) = *row.0;
-            if port == home.port() {
-                let lender = NodeId::new(lender)?;
-                return Some((Oid { node: home, serial }, Token { lender, number }));
+        let mut first: Option<Ask> = None;
+        for ask in self.asks.iter() {
+            if ask.oid.node == home {
+                first = match first {
+                    Some(other) if is_before(&other, ask) => Some(other),
+                    _ => Some(*ask),
+                };
             }
         }
-        None
+        let ask = first?;
+        Some((ask.oid, ask.token))
     }
 
     /// Keeps a lend, and tells its token.
     pub fn lend(&mut self, oid: Oid, borrower: NodeId) -> Result<Token, AllocError> {
         let number = self.next;
-        self.lends.insert((borrower.port(), number), key_of(oid))?;
-        add(&mut self.uses, key_of(oid))?;
+        self.lends.push(Lend {
+            oid,
+            borrower,
+            number,
+        })?;
+        self.refer(oid);
         self.next = number.saturating_add(1);
         let lender = self.own;
         Ok(Token { lender, number })
     }
 
-    /// Ends a lend of its own, and tells the port and serial of what was lent.
-    pub fn settle(
-        &mut self,
-        token: Token,
-        borrower: NodeId,
-    ) -> Result<Option<(u16, u64)>, AllocError> {
+    /// Ends a lend of its own, and tells what was lent.
+    pub fn settle(&mut self, token: Token, borrower: NodeId) -> Option<Oid> {
         if token.lender != self.own {
-            return Ok(None);
+            return None;
         }
-        let Some(key) = self.lends.remove(&(borrower.port(), token.number)) else {
-            return Ok(None);
-        };
-        take_off(&mut self.uses, key)?;
-        Ok(Some(key))
+        let at = self.lends.iter().position(|lend| lend.borrower == borrower
+            && lend.number == token.number)?;
+        let oid = self.lends.remove(at).oid;
+        self.unrefer(oid);
+        Some(oid)
     }
 
     /// The lowest object that was received and is not used, with its count.
     pub fn first_idle(&self) -> Option<(Oid, u64)> {
-        for row in self.received.iter() {
-            if !self.uses.contains_key(row.0) {
-                let node = NodeId::new(row.0.0)?;
-                let serial = row.0.1;
-                return Some((Oid { node, serial }, *row.1));
+        for k in 0..OBJECTS {
+            let oid = object_at(k)?;
+            if self.uses(oid) == 0 && self.received(oid) > 0 {
+                return Some((oid, self.received(oid)));
             }
         }
         None
@@ -232,38 +280,37 @@ impl PlainImports {
 
     /// Takes out an object that was received.
     pub fn leave(&mut self, oid: Oid) {
-        self.received.remove(&key_of(oid));
+        let mut object = self.object(oid);
+        object.received = 0;
+        self.keep(oid, object);
         self.leave_class(oid);
     }
 
-    /// The first lend to a port.
-    fn first_lend(&self, port: u16) -> Option<u64> {
-        for row in self.lends.iter() {
-            if row.0.0 == port {
-                return Some(row.0.1);
-            }
-        }
-        None
+    /// The first lend to a borrower.
+    fn first_lend(&self, borrower: NodeId) -> Option<Token> {
+        let at = self
+            .lends
+            .iter()
+            .position(|lend| lend.borrower == borrower)?;
+        let number = self.lends[at].number;
+        let lender = self.own;
+        Some(Token { lender, number })
     }
 
     /// Ends all lends to a peer.
-    fn end_lends(&mut self, peer: NodeId) -> Result<(), AllocError> {
+    fn end_lends(&mut self, peer: NodeId) {
         for _ in 0..self.lends.len() {
-            let Some(number) = self.first_lend(peer.port()) else {
-                break;
-            };
-            let lender = self.own;
-            self.settle(Token { lender, number }, peer)?;
+            if let Some(token) = self.first_lend(peer) {
+                self.settle(token, peer);
+            }
         }
-        Ok(())
     }
 
-    /// Forgets what a peer's objects were received, and ends the lends to it.
-    pub fn end_peer(&mut self, peer: NodeId, serials: u64) -> Result<(), AllocError> {
-        self.end_lends(peer)?;
-        for serial in 0..serials {
+    /// Forgets how often a peer's objects were received, and ends the lends to it.
+    pub fn end_peer(&mut self, peer: NodeId) {
+        self.end_lends(peer);
+        for serial in 0..SERIALS {
             self.leave(Oid { node: peer, serial });
         }
-        Ok(())
     }
 }

@@ -53,8 +53,8 @@ fn same_slots(slots: &Values, plain: &PlainObject) -> bool {
     }
 }
 
-/// Creates an object in both, and tells whether both did or did not; where memory ran out, a second
-/// time.
+/// Creates an object in both, and tells whether both did or did not. Where memory ran out both must
+/// be equal, and it is done again.
 fn create_both(
     alloc: Global,
     store: &mut Store,
@@ -68,7 +68,12 @@ fn create_both(
     let class = ClassId(drawn.class);
     let created = match create(store, alloc, node, class, value_of(drawn.named)) {
         Ok(created) => created,
-        Err(AllocError) => create(store, alloc, node, class, value_of(drawn.named))?,
+        Err(AllocError) => {
+            if !same(store, plain)? {
+                return Ok(false);
+            }
+            create(store, alloc, node, class, value_of(drawn.named))?
+        }
     };
     let wanted = plain.create(drawn.class, named_of(drawn.named))?;
     Ok(named_of(created) == wanted.map(|serial| (node.port(), serial)))
