@@ -1,11 +1,12 @@
 //! Rows of calls with their answers, and how they are played.
 //!
-//! A row is a call and, behind `=`, its answer; where there is no `=` the answer is nil. A call is
-//! a word and its arguments. A line that is empty or begins with `-` is no row.
+//! A row is a call and, behind `=`, its answer; where there is no `=` the answer is nil. One within a
+//! text does not count. A call is a word and its arguments. A line that is empty or begins with `-`
+//! is no row.
 
 use crate::reading::values_of;
 use do_base::{Text, Value, Values};
-use do_grammar::{line_of, part_of, push_dec, word_of};
+use do_grammar::{line_of, part_of, push_dec};
 use do_sched::push_value;
 use std::alloc::{AllocError, Global};
 use std::fs;
@@ -41,6 +42,20 @@ fn answer_of<P: Part>(alloc: Global, part: &mut P, call: &[u8]) -> Result<Value,
     part.call(word, &args)
 }
 
+/// The call of a row, and the answer that it names.
+fn parts_of(row: &[u8]) -> (&[u8], &[u8]) {
+    let mut in_text = false;
+    for n in 0..row.len() {
+        if row[n] == b'"' {
+            in_text = !in_text;
+        }
+        if row[n] == b'=' && !in_text {
+            return (&row[..n], &row[n + 1..]);
+        }
+    }
+    (row, &[])
+}
+
 /// Plays a row, and adds it to the report with the answer that came, where that is another one.
 fn play_row<P: Part>(
     alloc: Global,
@@ -48,7 +63,7 @@ fn play_row<P: Part>(
     row: &[u8],
     report: &mut Text,
 ) -> Result<(), Fail> {
-    let (call, named) = word_of(row, b'=').unwrap_or((row, &[]));
+    let (call, named) = parts_of(row);
     let answer = answer_of(alloc, part, call)?;
     let named = named_answer(alloc, named)?;
     if answer != named {

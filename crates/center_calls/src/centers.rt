@@ -1,0 +1,222 @@
+//! Calls of the core of a notification centre.
+
+use crate::center_parts::{
+    delivery_value, good_note, good_registration, label_at, note_of, numbered_note, registration_of,
+};
+use call_rows::{Part, count_at, count_value, list_at, no_call, number_at, object_at, refused};
+use do_acts::{CoreFault, as_number, show_list};
+use do_base::{Oid, Value, Values, copy_value};
+use do_center::{Center, Deliveries, Registration, is_note, is_registration};
+use do_grammar::is_text;
+use std::alloc::{AllocError, Global};
+use std::test::Fail;
+
+/// A centre, the deliveries of the last call that had any, and slots that were kept.
+#[derive(Drop)]
+pub(crate) struct CenterCalls {
+    center: Center,
+    sent: Deliveries,
+    kept: Values,
+    alloc: Global,
+}
+
+/// Adds a registration to a centre and suspends its observer.
+fn add_suspended(center: &mut Center, observer: Oid, args: &Values) -> Result<(), Fail> {
+    center.add(good_registration(observer, args)?)?;
+    let _none = center.suspend(observer, true)?;
+    Ok(())
+}
+
+/// Posts the number of a notification, and tells how many deliveries come of it.
+fn post_number(center: &mut Center, alloc: Global, number: u16) -> Result<usize, Fail> {
+    let note = good_note(numbered_note(alloc, number)?)?;
+    Ok(center.post(&note, false)?.len())
+}
+
+/// The observers of deliveries, in order.
+fn observers(sent: &Deliveries) -> Result<Value, AllocError> {
+    let mut values = Values::new(sent.allocator());
+    for delivery in sent.as_slice() {
+        values.push(Value::Obj(delivery.observer))?;
+    }
+    Ok(Value::List(values))
+}
+
+/// The information of deliveries, in order.
+fn infos(sent: &Deliveries) -> Result<Value, AllocError> {
+    let mut values = Values::new(sent.allocator());
+    for delivery in sent.as_slice() {
+        values.push(copy_value(&delivery.note.info)?)?;
+    }
+    Ok(Value::List(values))
+}
+
+impl CenterCalls {
+    /// A centre without registrations.
+    pub(crate) fn new(alloc: Global) -> CenterCalls {
+        CenterCalls {
+            center: Center::new(alloc),
+            sent: Deliveries::new(alloc),
+            kept: Values::new(alloc),
+            alloc,
+        }
+    }
+
+    /// Keeps the deliveries of a call, and tells how many they are.
+    fn keep(&mut self, sent: Result<Deliveries, CoreFault>) -> Result<Value, Fail> {
+        match sent {
+            Ok(sent) => {
+                let count = count_value(sent.len())?;
+                self.sent = sent;
+                Ok(count)
+            }
+            Err(fault) => refused(self.alloc, fault),
+        }
+    }
+
+    /// Adds a registration.
+    fn add(&mut self, args: &Values) -> Result<Value, Fail> {
+        let registration = good_registration(object_at(args, 0)?, args)?;
+        match self.center.add(registration) {
+            Ok(()) => Ok(Value::Nil),
+            Err(fault) => refused(self.alloc, fault),
+        }
+    }
+
+    /// Takes out registrations.
+    fn remove(&mut self, args: &Values) -> Result<Value, Fail> {
+        let name = label_at(args, 1)?;
+        let object = label_at(args, 2)?;
+        self.center.remove(object_at(args, 0)?, name, object)?;
+        Ok(Value::Nil)
+    }
+
+    /// Posts a notification, immediately where the last argument is 1.
+    fn post(&mut self, args: &Values) -> Result<Value, Fail> {
+        let immediate = number_at(args, 3)? == 1;
+        let note = good_note(note_of(args)?)?;
+        let sent = self.center.post(&note, immediate);
+        self.keep(sent)
+    }
+
+    /// Registers as many observers, of which the first is told last, and suspends each.
+    fn fill(&mut self, args: &Values) -> Result<Value, Fail> {
+        let mut observer = object_at(args, 5)?;
+        for _observer in 0..count_at(args, 0)? {
+            add_suspended(&mut self.center, observer, args)?;
+            observer.serial = observer.serial.saturating_add(1);
+        }
+        Ok(Value::Nil)
+    }
+
+    /// Posts the numbers from the first to one below the second, and tells how many deliveries come
+    /// of all.
+    fn post_numbers(&mut self, first: u16, end: u16) -> Result<Value, Fail> {
+        let mut count: usize = 0;
+        for number in first..end {
+            count = count.saturating_add(post_number(&mut self.center, self.alloc, number)?);
+        }
+        count_value(count)
+    }
+
+    /// Takes the core whose slots these are, and tells whether there is one.
+    fn read(&mut self, slots: &Values) -> Result<Value, Fail> {
+        let Some(center) = Center::from_slots(slots)? else {
+            return Ok(as_number(false));
+        };
+        self.center = center;
+        Ok(as_number(true))
+    }
+
+    /// Tells of the last deliveries.
+    fn tell_sent(&self, word: &[u8], args: &Values) -> Result<Value, Fail> {
+        if is_text(word, b"delivery") {
+            let at = usize::from(count_at(args, 0)?);
+            return delivery_value(self.alloc, self.sent.get(at).ok_or("no delivery")?);
+        }
+        if is_text(word, b"infos") {
+            return Ok(infos(&self.sent)?);
+        }
+        if is_text(word, b"observers") {
+            return Ok(observers(&self.sent)?);
+        }
+        no_call()
+    }
+
+    /// Tells what the centre has, or whether a part keeps the limits.
+    fn tell(&self, word: &[u8], args: &Values) -> Result<Value, Fail> {
+        if is_text(word, b"is_suspended") {
+            return Ok(as_number(self.center.is_suspended(object_at(args, 0)?)));
+        }
+        if is_text(word, b"registrations") {
+            return Ok(show_list::<Registration>(&self.center.registrations()?)?);
+        }
+        if is_text(word, b"count_registrations") {
+            return count_value(self.center.registrations()?.len());
+        }
+        if is_text(word, b"is_registration") {
+            let registration = registration_of(object_at(args, 0)?, args)?;
+            return Ok(as_number(is_registration(&registration)));
+        }
+        if is_text(word, b"is_note") {
+            return Ok(as_number(is_note(&note_of(args)?)));
+        }
+        self.tell_sent(word, args)
+    }
+
+    /// Reads slots, keeps them or tells them.
+    fn slots(&mut self, word: &[u8], args: &Values) -> Result<Value, Fail> {
+        if is_text(word, b"read") {
+            return self.read(list_at(args, 0)?);
+        }
+        if is_text(word, b"slots") {
+            return Ok(Value::List(self.center.to_slots()?));
+        }
+        if is_text(word, b"keep_slots") {
+            self.kept = self.center.to_slots()?;
+            return Ok(Value::Nil);
+        }
+        if is_text(word, b"has_kept_slots") {
+            return Ok(as_number(self.center.to_slots()? == self.kept));
+        }
+        self.tell(word, args)
+    }
+
+    /// Makes many calls at once, or begins anew.
+    fn call_all(&mut self, word: &[u8], args: &Values) -> Result<Value, Fail> {
+        if is_text(word, b"new") {
+            self.center = Center::new(self.alloc);
+            return Ok(Value::Nil);
+        }
+        if is_text(word, b"fill") {
+            return self.fill(args);
+        }
+        if is_text(word, b"post_numbers") {
+            return self.post_numbers(count_at(args, 0)?, count_at(args, 1)?);
+        }
+        self.slots(word, args)
+    }
+}
+
+impl Part for CenterCalls {
+    fn call(&mut self, word: &[u8], args: &Values) -> Result<Value, Fail> {
+        if is_text(word, b"add") {
+            return self.add(args);
+        }
+        if is_text(word, b"remove") {
+            return self.remove(args);
+        }
+        if is_text(word, b"suspend") {
+            let sent = self.center.suspend(object_at(args, 0)?, true);
+            return self.keep(sent);
+        }
+        if is_text(word, b"resume") {
+            let sent = self.center.suspend(object_at(args, 0)?, false);
+            return self.keep(sent);
+        }
+        if is_text(word, b"post") {
+            return self.post(args);
+        }
+        self.call_all(word, args)
+    }
+}
