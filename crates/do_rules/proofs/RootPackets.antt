@@ -111,5 +111,3 @@ module _ (c : Context) (to : ℕ) where
       let core : only_root serial class ≡ packet_in (Obj o) = rw names (rw part (rw named refl)) in
       subst (λ r. only_root serial class
       ≡ packet_in (elim r [ None ↦ Nil | Some k ↦ Obj (own c.node k) ])) is core
-
-pub ruleset root_steps = (root_none, root_lost, root_there)

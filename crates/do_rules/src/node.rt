@@ -6,6 +6,7 @@ ghost use Rattle.do_machine.specs.Context.{own_class};
 ghost use Rattle.do_machine.specs.State.{has_asked, holds, is_known, is_open, own, stored};
 ghost use Rattle.do_machine.specs.run.Acts.{root_value};
 ghost use Rattle.do_machine.specs.run.Fresh.{is_full};
+ghost use Rattle.do_machine.specs.take.Take.{can_serve, can_take};
 
 pub(crate) mod methods;
 pub(crate) mod named;
@@ -13,6 +14,7 @@ pub(crate) mod naming;
 pub(crate) mod objects;
 
 use do_base::{Items, NodeId, Oid, Oids, Value};
+use do_behave::{InvState, Invocation};
 use do_class::ClassId;
 use do_machine::{Heap, Node, Shared, Stored};
 
@@ -111,4 +113,26 @@ pub(crate) fn is_full(node: &Node) -> bool
     ensures { result ≡ is_full node.now }
 {
     node.stack.len() >= MOST
+}
+
+/// Whether there is no invocation, or the top one waits.
+fn can_serve(stack: &Items<Invocation>) -> bool
+    ensures { result ≡ can_serve stack.now }
+{
+    let [top, ..] = stack.as_slice() else {
+        return true;
+    };
+    match &top.state {
+        InvState::Waits { .. } => true,
+        InvState::Running => false,
+        InvState::Below => false,
+        InvState::Answered(_) => false,
+    }
+}
+
+/// Whether a node may take an item of a peer: its end is open, and it can serve.
+pub fn can_take(node: &Node, from: NodeId) -> bool
+    ensures { result ≡ can_take from node.now }
+{
+    is_open(node, from) && can_serve(&node.stack)
 }

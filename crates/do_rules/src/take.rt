@@ -4,7 +4,5 @@ pub(crate) mod arrival;
 pub(crate) mod awaiting;
 pub(crate) mod holding;
 pub(crate) mod lines;
-pub(crate) mod receipt;
-pub(crate) mod requests;
+pub(crate) mod messages;
 pub(crate) mod root;
-pub(crate) mod serving;

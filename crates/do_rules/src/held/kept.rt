@@ -64,18 +64,32 @@ pub(crate) fn all_stay(node: &Node) -> Result<bool, AllocError>
     Ok(all)
 }
 
+/// The objects of a heap that stay, by the objects that slots name.
+fn those_that_stay(
+    node: &Node,
+    held_up: &Named,
+    named: &Named,
+    heap: &Heap,
+) -> Result<Heap, AllocError>
+    ensures { IfOk result (λ xs. xs ≡ filter (λ x. (is_root node.now x.serial
+        || has_object held_up.now (own node.now x.serial))
+        || has_object named.now (own node.now x.serial)) heap.now) }
+{
+    let mut left = Items::new(heap.allocator());
+    for stored in heap.as_slice() {
+        if stays(node, held_up, named, stored.get()) {
+            left.push(stored.clone()?)?;
+        }
+    }
+    Ok(left)
+}
+
 /// What is left of a heap once each object that does not stay is struck.
 fn struck(node: &Node, held_up: &Named, heap: &Heap) -> Result<Heap, AllocError>
     ensures { IfOk result (λ xs. xs ≡ filter (stays_by held_up.now node.now heap.now) heap.now) }
 {
     let named = Named::new(heap_objects(heap)?)?;
-    let mut left = Items::new(heap.allocator());
-    for stored in heap.as_slice() {
-        if stays(node, held_up, &named, stored.get()) {
-            left.push(stored.clone()?)?;
-        }
-    }
-    Ok(left)
+    those_that_stay(node, held_up, &named, heap)
 }
 
 /// The objects that are kept: rounds of striking, up to the first that strikes nothing.

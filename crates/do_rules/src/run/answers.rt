@@ -1,13 +1,9 @@
 //! How an answer leaves its node.
-ghost use Rattle.std.specs.Prelude.{◌≡◌, IfOk, None, OnOk, Some};
+ghost use Rattle.std.specs.Prelude.{◌≡◌, IfOk, OnOk};
 ghost use Rattle.std.specs.Option.{option_copied};
 ghost use Rattle.do_machine.specs.run.Answers.{answer_line, answer_marks, exc_name, oneway_answer};
 ghost use Rattle.do_machine.specs.run.Answers.{answer_placed, replying};
-ghost use Rattle.do_machine.specs.Effect.{queueing};
 ghost use Rattle.do_machine.specs.Packing.{packed_for};
-ghost use Rattle.do_machine.specs.lend.Lending.{lending, lends_of};
-ghost use Rattle.do_base.specs.declared.events.exception.Exc.TheVariants.{TooLarge};
-ghost use Rattle.do_machine.specs.declared.item.Item.TheVariants.{Raised, Reply};
 ghost use Rattle.do_rules.specs.Doing.{and_then};
 ghost use Rattle.do_rules.specs.Judged.{run_of};
 
@@ -84,26 +80,6 @@ fn answer_marks(alloc: Global, signature: Option<&Signature>) -> Result<Flags, A
     Ok(flags)
 }
 
-/// The message of an answer goes to a peer, or, if it was too large, an exception.
-fn send_back(effect: &mut Effect, peer: NodeId, number: u64, packet: Option<Packet>) -> Done
-    ensures { OnOk result (effect.new ≡ and_then effect.old (λ n. elim packet [
-      | None ↦ queueing peer (Raised number TooLarge) n
-      | Some p ↦ queueing peer (Reply number p) (lending (lends_of peer p) n)
-    ])) }
-{
-    match packet {
-        Some(packet) => {
-            let done = lend(&mut effect.node, peer, &packet);
-            let packet = given(packet, done)?;
-            queue(effect, peer, Item::Reply { number, packet })
-        }
-        None => {
-            let exc = Exc::TooLarge;
-            queue(effect, peer, Item::Raised { number, exc })
-        }
-    }
-}
-
 impl<'a> Run<'a> {
     /// A result and out values as a message to a peer, if they are not too large.
     fn answer_packet(
@@ -136,10 +112,17 @@ impl<'a> Run<'a> {
     {
         match answer {
             Answer::Raised(exc) => queue(effect, peer, Item::Raised { number, exc }),
-            Answer::Given { result, outs } => {
-                let packet = self.answer_packet(peer, result, outs)?;
-                send_back(effect, peer, number, packet)
-            }
+            Answer::Given { result, outs } => match self.answer_packet(peer, result, outs)? {
+                Some(packet) => {
+                    let done = lend(&mut effect.node, peer, &packet);
+                    let packet = given(packet, done)?;
+                    queue(effect, peer, Item::Reply { number, packet })
+                }
+                None => {
+                    let exc = Exc::TooLarge;
+                    queue(effect, peer, Item::Raised { number, exc })
+                }
+            },
         }
     }
 }

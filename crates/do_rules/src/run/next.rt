@@ -18,6 +18,7 @@ use do_behave::{
 };
 use do_machine::{Effect, Verdict};
 use std::alloc::AllocError;
+use std::mem;
 
 /// Locals after these are set, in order.
 fn with_set(locals: Frame, sets: &[LocalSet]) -> Result<Frame, AllocError>
@@ -76,10 +77,14 @@ fn push_step(
     requires { IsFitting inv.now (Change.Push list item weight pc) }
     ensures { IfOk result (λ act. act ≡ meaning inv.now (Change.Push list item weight pc)) }
 {
-    let mut next = inv.clone()?;
+    let Ok(mut next) = inv.clone() else {
+        drop(item);
+        return Err(AllocError);
+    };
     let done = next.push_item(list, item, weight, pc);
-    let next = given(next, done)?;
-    Ok(plain_step(inv.handler, next.locals, pc))
+    let mut next = given(next, done)?;
+    let locals = mem::replace(&mut next.locals, Frame::new(inv.locals.allocator()));
+    Ok(plain_step(inv.handler, locals, pc))
 }
 
 /// A step to a place, which keeps the locals.

@@ -41,8 +41,11 @@ impl<'a> Run<'a> {
         ensures { OnOk result (effect.new
             ≡ effect_of (run_of self.now) (Verdict.Goes into value pc)) }
     {
-        let mut top = self.top.clone()?;
-        let _was = top.set_local(into, value, pc);
+        let Ok(mut top) = self.top.clone() else {
+            drop(value);
+            return Err(AllocError);
+        };
+        drop(top.set_local(into, value, pc));
         top.state = InvState::Running;
         self.put_top(&mut effect.node, top)
     }
@@ -148,7 +151,11 @@ impl<'a> Run<'a> {
             ≡ effect_of (run_of self.now) (Verdict.Uses value outs.now)) }
     {
         let was = self.top;
-        let locals = with_item(was.locals.clone()?, was.into as usize, Held::new(value));
+        let Ok(locals) = was.locals.clone() else {
+            drop(value);
+            return Err(AllocError);
+        };
+        let locals = with_item(locals, was.into as usize, Held::new(value));
         let locals = with_outs(was.outs.as_slice(), outs.as_slice(), locals)?;
         let mut top = was.clone()?;
         top.locals = locals;

@@ -1,5 +1,7 @@
-//! A message of a peer: the method that it invokes, or why it is refused.
+//! What a node does with the message of an item that it takes, and the method that it invokes.
 ghost use Rattle.std.specs.Prelude.{◌≡◌, IfOk, OnOk};
+ghost use Rattle.do_machine.specs.Effect.{each};
+ghost use Rattle.do_machine.specs.take.Receipt.{arrived, receiving, receiving_name};
 ghost use Rattle.do_machine.specs.take.Requests.{admission, refusing, request};
 ghost use Rattle.do_rules.specs.Doing.{and_then};
 ghost use Rattle.do_rules.specs.Judged.{step_of};
@@ -7,14 +9,48 @@ ghost use Rattle.do_rules.specs.Judged.{step_of};
 use crate::effect::{Done, queue, show};
 use crate::held::entered::has_entry;
 use crate::judged::Context;
+use crate::lend::asking::ask;
 use crate::node::methods::method_for;
 use crate::node::{is_full, own, own_class};
-use crate::run::fresh::begin;
-use do_base::{Exc, NodeId, Shown, Values};
+use crate::run::fresh::{begin, store};
+use do_base::{Exc, NodeId, Shown, Token, Values};
 use do_behave::Reason;
-use do_class::MethodId;
-use do_machine::{Effect, Item, Message};
+use do_class::{MethodId, Name, Packet};
+use do_machine::{Effect, Item, Message, Wanted};
 use std::alloc::AllocError;
+
+/// A name is received: an object of a third node is asked for.
+fn receive_name(effect: &mut Effect, from: NodeId, name: &Name) -> Done
+    ensures { OnOk result (effect.new ≡ and_then effect.old (receiving_name from name.now)) }
+{
+    match name {
+        Name::Mine { .. } => Ok(()),
+        Name::Yours { .. } => Ok(()),
+        Name::Lent { oid, token, .. } => {
+            let token = Token {
+                lender: from,
+                number: *token,
+            };
+            let wanted = Wanted {
+                object: *oid,
+                token,
+            };
+            ask(effect, &wanted)
+        }
+    }
+}
+
+/// Names are received in their order.
+fn receive_names(effect: &mut Effect, from: NodeId, names: &[Name]) -> Done
+    ensures { OnOk result (effect.new
+        ≡ and_then effect.old (each (receiving_name from) names.now)) }
+{
+    let [first, rest @ ..] = names else {
+        return Ok(());
+    };
+    receive_name(effect, from, first)?;
+    receive_names(effect, from, rest)
+}
 
 /// A call that is refused goes back as an exception, and of a oneway message that is shown.
 fn refuse(effect: &mut Effect, exc: Exc, reason: Reason) -> Done
@@ -29,6 +65,24 @@ fn refuse(effect: &mut Effect, exc: Exc, reason: Reason) -> Done
 }
 
 impl<'a> Context<'a> {
+    /// Copies become objects, and names are received in their order. The values that came.
+    pub(crate) fn receive(
+        &self,
+        effect: &mut Effect,
+        from: NodeId,
+        packet: &Packet,
+    ) -> Result<Values, AllocError>
+        ensures effect { OnOk result (effect.new
+            ≡ and_then effect.old (receiving (step_of self.now) from packet.now)) }
+        ensures values { IfOk result (λ vs.
+            vs ≡ (arrived (step_of self.now) from packet.now).values) }
+    {
+        let unpacked = self.arrived(from, packet)?;
+        store(&mut effect.node, &unpacked.copies)?;
+        receive_names(effect, from, packet.names.as_slice())?;
+        Ok(unpacked.values)
+    }
+
     /// The method that a message invokes, or why it is refused: the first rule that applies
     /// decides.
     fn admission(
