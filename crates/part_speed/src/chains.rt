@@ -43,44 +43,57 @@ fn chain(
     Ok(last)
 }
 
-/// A chain of so many objects whose head is held, and of which every object was looked at once.
-fn held_chain(alloc: Global, node: NodeId, members: u32) -> io::Result<(Store, Oid)> {
-    let mut store = Store::new(alloc, node)?;
-    store.reserve(members as u64)?;
-    let Some(head) = chain(&mut store, alloc, node, members)? else {
+/// Makes a chain of so many objects, of which every object was looked at once, and tells its head,
+/// which is held.
+fn hold_chain(store: &mut Store, alloc: Global, node: NodeId, members: u32) -> io::Result<Oid>
+    requires { store.old.node ≡ node }
+{
+    let Some(head) = chain(store, alloc, node, members)? else {
         return Err(io::Error::other("no chain was made"));
     };
-    if !hold(&mut store, head) || store.sweep().is_some() {
+    if !hold(store, head) || store.sweep().is_some() {
         return Err(io::Error::other("an object was freed too soon"));
     }
-    Ok((store, head))
+    Ok(head)
 }
 
-/// Lets the head of a chain go, and tells how many of so many sweeps freed an object.
+/// Frees the next object, and tells whether it is the one of a serial.
+fn frees(store: &mut Store, serial: u64) -> bool {
+    match store.sweep() {
+        Some(freed) => freed.oid.serial == serial,
+        None => false,
+    }
+}
+
+/// Lets the head of a chain go, and tells how many of so many sweeps freed the object whose turn it
+/// was, from the head on.
 fn freed(store: &mut Store, head: Oid, sweeps: u32) -> u32 {
     let mut freed = 0u32;
+    let mut serial = head.serial;
     let_go(store, head);
     for _ in 0..sweeps {
-        if store.sweep().is_some() {
+        if frees(store, serial) {
             freed = freed.wrapping_add(1);
         }
+        serial = serial.wrapping_sub(1);
     }
     freed
 }
 
-/// Measures what it costs to free each object of a chain once its head is let go.
-pub fn releasing(rt: &(impl CpuClock + Eprint), alloc: Global, members: u32) -> io::Result<()>
+/// Measures what it costs to free each object of a chain, whose head is held, once it is let go.
+fn time_freeing(
+    rt: &(impl CpuClock + Eprint),
+    store: &mut Store,
+    head: Oid,
+    members: u32,
+) -> io::Result<()>
     requires { 0 < members }
 {
-    let Some(node) = NodeId::new(7001) else {
-        return Err(io::Error::other("no port"));
-    };
-    let (mut store, head) = held_chain(alloc, node, members)?;
     let start = rt.process_cpu_time()?;
-    let freed = freed(&mut store, head, members);
+    let freed = freed(store, head, members);
     let end = rt.process_cpu_time()?;
     if freed != members {
-        return Err(io::Error::other("an object was kept"));
+        return Err(io::Error::other("an object was kept, or freed out of turn"));
     }
     let took = end.saturating_sub(start);
     say(
@@ -90,4 +103,31 @@ pub fn releasing(rt: &(impl CpuClock + Eprint), alloc: Global, members: u32) -> 
         members,
         took,
     )
+}
+
+/// Makes a chain in a store, and measures what it costs to free each of its objects.
+fn time_chain(
+    rt: &(impl CpuClock + Eprint),
+    store: &mut Store,
+    alloc: Global,
+    node: NodeId,
+    members: u32,
+) -> io::Result<()>
+    requires home { store.old.node ≡ node }
+    requires some { 0 < members }
+{
+    let head = hold_chain(store, alloc, node, members)?;
+    time_freeing(rt, store, head, members)
+}
+
+/// Measures what it costs to free each object of a chain once its head is let go.
+pub fn releasing(rt: &(impl CpuClock + Eprint), alloc: Global, members: u32) -> io::Result<()>
+    requires { 0 < members }
+{
+    let Some(node) = NodeId::new(7001) else {
+        return Err(io::Error::other("no port"));
+    };
+    let mut store = Store::new(alloc, node)?;
+    store.reserve(u64::from(members))?;
+    time_chain(rt, &mut store, alloc, node, members)
 }

@@ -33,38 +33,32 @@ pub fn next(state: u64) -> u64 {
         .wrapping_add(1442695040888963407)
 }
 
+/// Counts a name and takes it back, of one of so many objects, in no order and so often.
+fn count_each(exports: &mut Exports, peer: NodeId, members: u64) {
+    let mut state = 1u64;
+    for _ in 0..ROUNDS {
+        state = next(state);
+        let serial = (state >> 33) % members.max(1);
+        name(exports, peer, serial);
+        let _ = exports.give_back(peer, serial, 1);
+    }
+}
+
 /// Measures names counted and given back, in no order, where so many objects have an entry.
 pub fn counting(rt: &(impl CpuClock + Eprint), alloc: Global, members: u64) -> io::Result<()> {
     let Some(peer) = NodeId::new(7002) else {
         return Err(io::Error::other("no port"));
     };
     let mut exports = filled(alloc, peer, members)?;
-    let mut state = 1u64;
     let start = rt.process_cpu_time()?;
-    for _ in 0..ROUNDS {
-        state = next(state);
-        let serial = (state >> 33) % members.max(1);
-        name(&mut exports, peer, serial);
-        let _ = exports.give_back(peer, serial, 1);
-    }
-    let end = rt.process_cpu_time()?;
-    say(
-        rt,
-        "a name counted and given back",
-        members,
-        ROUNDS,
-        end.saturating_sub(start),
-    )
+    count_each(&mut exports, peer, members);
+    let took = rt.process_cpu_time()?.saturating_sub(start);
+    say(rt, "a name counted and given back", members, ROUNDS, took)
 }
 
-/// Measures the closing of a peer that has so many entries, the next of which is looked for each
-/// time, before all are taken out in one call.
-pub fn closing(rt: &(impl CpuClock + Eprint), alloc: Global, members: u64) -> io::Result<()> {
-    let Some(peer) = NodeId::new(7002) else {
-        return Err(io::Error::other("no port"));
-    };
-    let mut exports = filled(alloc, peer, members)?;
-    let start = rt.process_cpu_time()?;
+/// Looks for the next entry of a peer time and again, takes all out in one call, and tells how many
+/// there were.
+fn close(exports: &mut Exports, peer: NodeId, members: u64) -> u64 {
     let mut from = 0u64;
     let mut seen = 0u64;
     for _ in 0..members {
@@ -75,9 +69,21 @@ pub fn closing(rt: &(impl CpuClock + Eprint), alloc: Global, members: u64) -> io
         from = serial.saturating_add(1);
     }
     exports.end_peer(peer);
-    let end = rt.process_cpu_time()?;
+    seen
+}
+
+/// Measures the closing of a peer that has so many entries, the next of which is looked for each
+/// time, before all are taken out in one call.
+pub fn closing(rt: &(impl CpuClock + Eprint), alloc: Global, members: u64) -> io::Result<()> {
+    let Some(peer) = NodeId::new(7002) else {
+        return Err(io::Error::other("no port"));
+    };
+    let mut exports = filled(alloc, peer, members)?;
+    let start = rt.process_cpu_time()?;
+    let seen = close(&mut exports, peer, members);
+    let took = rt.process_cpu_time()?.saturating_sub(start);
     if seen != members {
         return Err(io::Error::other("an entry was passed over"));
     }
-    say(rt, "a peer closed", members, 1, end.saturating_sub(start))
+    say(rt, "a peer closed", members, 1, took)
 }

@@ -42,19 +42,31 @@ fn hold_each(store: &mut Store, node: NodeId, members: u64) -> u32 {
     done
 }
 
+/// Stores so many objects, and measures holders of them that come and go.
+fn time_holders(
+    rt: &(impl CpuClock + Eprint),
+    store: &mut Store,
+    alloc: Global,
+    node: NodeId,
+    members: u64,
+) -> io::Result<()>
+    requires { store.old.node ≡ node }
+{
+    fill(store, alloc, node, members)?;
+    let start = rt.process_cpu_time()?;
+    let done = hold_each(store, node, members);
+    let took = rt.process_cpu_time()?.saturating_sub(start);
+    if done != ROUNDS {
+        return Err(io::Error::other("an object was not held"));
+    }
+    say(rt, "a holder that comes and goes", members, ROUNDS, took)
+}
+
 /// Measures holders that come and go, where so many objects are stored.
 pub fn holding(rt: &(impl CpuClock + Eprint), alloc: Global, members: u64) -> io::Result<()> {
     let Some(node) = NodeId::new(7001) else {
         return Err(io::Error::other("no port"));
     };
     let mut store = Store::new(alloc, node)?;
-    fill(&mut store, alloc, node, members)?;
-    let start = rt.process_cpu_time()?;
-    let done = hold_each(&mut store, node, members);
-    let end = rt.process_cpu_time()?;
-    if done != ROUNDS {
-        return Err(io::Error::other("an object was not held"));
-    }
-    let took = end.saturating_sub(start);
-    say(rt, "a holder that comes and goes", members, ROUNDS, took)
+    time_holders(rt, &mut store, alloc, node, members)
 }

@@ -32,26 +32,27 @@ fn filled(alloc: Global, members: u64) -> Result<Cells<u64>, AllocError>
     Ok(cells)
 }
 
-/// Measures posts and takes of a queue that has so many items.
-pub fn queueing(rt: &(impl CpuClock + Eprint), alloc: Global, members: u64) -> io::Result<()> {
-    let mut cells = filled(alloc, members)?;
+/// Takes an item out of the first queue and posts it again, so often, and tells a sum of the items.
+fn move_each(cells: &mut Cells<u64>) -> u64
+    requires { length cells.old.queues ≡ 2 }
+{
     let mut sum = 0u64;
-    let start = rt.process_cpu_time()?;
     for round in 0..ROUNDS {
         let item = cells.take(0).unwrap_or(1);
         sum = sum.wrapping_add(item ^ round as u64);
-        post(&mut cells, 0, item);
+        post(cells, 0, item);
     }
-    let end = rt.process_cpu_time()?;
-    say(
-        rt,
-        "a queue's post and take",
-        members,
-        ROUNDS,
-        end.saturating_sub(start),
-    )?;
+    sum
+}
+
+/// Measures posts and takes of a queue that has so many items.
+pub fn queueing(rt: &(impl CpuClock + Eprint), alloc: Global, members: u64) -> io::Result<()> {
+    let mut cells = filled(alloc, members)?;
+    let start = rt.process_cpu_time()?;
+    let sum = move_each(&mut cells);
+    let took = rt.process_cpu_time()?.saturating_sub(start);
     if sum == 0 {
         return Err(io::Error::other("no item was taken"));
     }
-    Ok(())
+    say(rt, "a queue's post and take", members, ROUNDS, took)
 }

@@ -1,6 +1,6 @@
 use Rattle.std.proofs.Common.{◌≡◌, length}
-use Rattle.part_speed.proofs.queues.queueing.Given as goal
+use Rattle.part_speed.proofs.queues.move_each.Given as goal
 
 -- there are two queues
 abbrev pub invariant-loop-round : goal.invariant-loop-round
-invariant-loop-round g l = length l.cells.queues ≡ 2
+invariant-loop-round l = length l.cells.queues ≡ 2
