@@ -1,0 +1,77 @@
+//! What a change of the top of a stack took out of the locals, and what is left to do, as values.
+
+use crate::answers::{pair_value, triple_value};
+use call_rows::{count_value, list_from, text_value, word_with};
+use do_base::{Value, Values, copy_value};
+use do_behave::{Act, Frame, Writes};
+use do_stack::{Exchanged, Left, Taken};
+use std::alloc::{AllocError, Global};
+use std::test::Fail;
+
+/// What the first of the locals holds.
+fn first_value(locals: &Frame) -> Result<Value, Fail> {
+    let first = locals.get(0).ok_or("no local")?;
+    Ok(copy_value(first.value())?)
+}
+
+/// How many locals there are, and what the first holds.
+fn locals_value(alloc: Global, locals: &Frame) -> Result<Value, Fail> {
+    let count = count_value(locals.len())?;
+    let first = first_value(locals)?;
+    Ok(triple_value(alloc, text_value(alloc, b"all")?, count, first)?)
+}
+
+/// What was taken out of the locals.
+fn taken_value(alloc: Global, taken: Taken) -> Result<Value, Fail> {
+    match taken {
+        Taken::Nothing => Ok(text_value(alloc, b"nothing")?),
+        Taken::One(value) => Ok(word_with(alloc, b"one", value)?),
+        Taken::Many(values) => Ok(word_with(alloc, b"many", Value::List(values))?),
+        Taken::All(locals) => locals_value(alloc, &locals),
+    }
+}
+
+/// A slot and what is to be written to it.
+fn slot_value(alloc: Global, slot: usize, value: Value) -> Result<Value, Fail> {
+    let slot = count_value(slot)?;
+    Ok(triple_value(alloc, text_value(alloc, b"slot")?, slot, value)?)
+}
+
+/// Each slot, and what is to be written to it.
+fn writes_value(alloc: Global, writes: &Writes) -> Result<Value, Fail> {
+    let mut values = list_from(alloc, b"slots")?;
+    for write in writes.as_slice() {
+        values.push(count_value(write.slot)?)?;
+        values.push(copy_value(&write.value)?)?;
+    }
+    Ok(Value::List(values))
+}
+
+/// An act that is no step.
+fn act_value(alloc: Global, act: Act) -> Result<Value, AllocError> {
+    match act {
+        Act::Return { value } => word_with(alloc, b"return", value),
+        Act::Say { value, pc: _ } => word_with(alloc, b"say", value),
+        _ => text_value(alloc, b"another act"),
+    }
+}
+
+/// What is left to do, or nil.
+fn left_value(alloc: Global, left: Left) -> Result<Value, Fail> {
+    match left {
+        Left::Nothing => Ok(Value::Nil),
+        Left::Slot { slot, value } => slot_value(alloc, slot, value),
+        Left::Slots(writes) => writes_value(alloc, &writes),
+        Left::Other(act) => Ok(act_value(alloc, act)?),
+    }
+}
+
+/// What a change took out, and what is left to do, or nil where none was made.
+pub(crate) fn exchanged_or_nil(alloc: Global, done: Option<Exchanged>) -> Result<Value, Fail> {
+    let Some(Exchanged { taken, left }) = done else {
+        return Ok(Value::Nil);
+    };
+    let taken = taken_value(alloc, taken)?;
+    let left = left_value(alloc, left)?;
+    Ok(pair_value(alloc, taken, left)?)
+}
