@@ -1,4 +1,0 @@
-//! Tests of do_class.
-
-mod packets;
-mod tables;
