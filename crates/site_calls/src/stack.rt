@@ -7,6 +7,7 @@ use crate::waiting::{abandon, call_of_peer, is_call_word, take_answer};
 use call_rows::{Part, copy_at, count_at, count_value, local_at, no_call, value_at};
 use do_acts::{as_number, show_list};
 use do_base::{Oid, Value, Values};
+use do_behave::Invocation;
 use do_grammar::is_text;
 use do_stack::{Stack, objects_named};
 use server_samples::begun;
@@ -21,14 +22,15 @@ pub(crate) struct StackCalls {
     alloc: Global,
 }
 
-/// Puts an invocation on top whose first two locals hold values, and tells whether it did: there
-/// are fewer than 256.
+/// Puts an invocation on top, and tells whether it did: there are fewer than 256, and memory.
+fn put(stack: &mut Stack, inv: Invocation) -> bool {
+    stack.depth() < 256 && stack.push(inv).is_ok()
+}
+
+/// Puts an invocation on top whose first two locals hold values, and tells whether it did.
 fn push(alloc: Global, stack: &mut Stack, first: Value, second: Value) -> Result<bool, Fail> {
-    if stack.depth() >= 256 {
-        return Ok(false);
-    }
     let inv = begun(alloc, first, second)?;
-    Ok(stack.push(inv).is_ok())
+    Ok(put(stack, inv))
 }
 
 /// Puts as many invocations on top, and tells how many it did.
