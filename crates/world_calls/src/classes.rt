@@ -1,0 +1,123 @@
+//! What the classes of a world have.
+
+use call_rows::{count_at, count_value, no_call, number_or_nil, text_at, text_value, word_with};
+use do_acts::as_number;
+use do_base::{Value, Values};
+use do_check::{Verdict, verdict};
+use do_class::ClassId;
+use do_document::Classes;
+use do_grammar::is_text;
+use std::alloc::Global;
+use std::test::Fail;
+
+/// The names of the classes, in order.
+fn names(alloc: Global, classes: &Classes) -> Result<Value, Fail> {
+    let mut values = Values::new(alloc);
+    for class in 0..classes.table.count() {
+        values.push(Value::Text(classes.table.name(ClassId(class)).clone()?))?;
+    }
+    Ok(Value::List(values))
+}
+
+/// The kinds of the classes, as they are printed.
+fn kinds(alloc: Global, classes: &Classes) -> Result<Value, Fail> {
+    let mut values = Values::new(alloc);
+    for kind in classes.kinds.as_slice() {
+        let printed = format!(in alloc; "{kind:?}")?;
+        values.push(text_value(alloc, printed.as_bytes())?)?;
+    }
+    Ok(Value::List(values))
+}
+
+/// How many slots each class has.
+fn slot_counts(alloc: Global, classes: &Classes) -> Result<Value, Fail> {
+    let mut values = Values::new(alloc);
+    for class in 0..classes.table.count() {
+        values.push(count_value(classes.table.slots(ClassId(class)).len())?)?;
+    }
+    Ok(Value::List(values))
+}
+
+/// How many rules each class has.
+fn rule_counts(alloc: Global, classes: &Classes) -> Result<Value, Fail> {
+    let mut values = Values::new(alloc);
+    for rules in classes.rules.as_slice() {
+        values.push(count_value(rules.len())?)?;
+    }
+    Ok(Value::List(values))
+}
+
+/// The slots of a class: the name of each, and whether it is copied.
+fn slots(alloc: Global, classes: &Classes, args: &Values) -> Result<Value, Fail> {
+    let class = ClassId(u32::from(count_at(args, 0)?));
+    if class.0 >= classes.table.count() {
+        return Err(Fail::from("no class"));
+    }
+    let mut values = Values::new(alloc);
+    for slot in classes.table.slots(class).as_slice() {
+        values.push(Value::Text(slot.name.clone()?))?;
+        values.push(as_number(slot.copy))?;
+    }
+    Ok(Value::List(values))
+}
+
+/// Whether a class has a method.
+fn has_method(classes: &Classes, args: &Values) -> Result<Value, Fail> {
+    let class = ClassId(u32::from(count_at(args, 0)?));
+    if class.0 >= classes.table.count() {
+        return Err(Fail::from("no class"));
+    }
+    let found = classes.table.find(class, text_at(args, 1)?);
+    Ok(as_number(found.is_some()))
+}
+
+/// What the rules of a class say of a selector: that it goes on, why it is denied, or nil.
+fn class_verdict(alloc: Global, classes: &Classes, args: &Values) -> Result<Value, Fail> {
+    let class = usize::from(count_at(args, 0)?);
+    let rules = classes.rules.get(class).ok_or("no class")?;
+    match verdict(rules, text_at(args, 1)?)? {
+        Some(Verdict::Forward) => Ok(text_value(alloc, b"forward")?),
+        Some(Verdict::Deny(text)) => Ok(word_with(alloc, b"deny", Value::Text(text))?),
+        None => Ok(Value::Nil),
+    }
+}
+
+/// Tells what one class has.
+fn tell_one(alloc: Global, classes: &Classes, word: &[u8], args: &Values) -> Result<Value, Fail> {
+    if is_text(word, b"slots") {
+        return slots(alloc, classes, args);
+    }
+    if is_text(word, b"has_method") {
+        return has_method(classes, args);
+    }
+    if is_text(word, b"verdict") {
+        return class_verdict(alloc, classes, args);
+    }
+    if is_text(word, b"named") {
+        let found = classes.table.class_named(text_at(args, 0)?);
+        return Ok(number_or_nil(found.map(|class| i64::from(class.0))));
+    }
+    no_call()
+}
+
+/// Tells what classes have.
+pub(crate) fn tell(
+    alloc: Global,
+    classes: &Classes,
+    word: &[u8],
+    args: &Values,
+) -> Result<Value, Fail> {
+    if is_text(word, b"names") {
+        return names(alloc, classes);
+    }
+    if is_text(word, b"kinds") {
+        return kinds(alloc, classes);
+    }
+    if is_text(word, b"slot_counts") {
+        return slot_counts(alloc, classes);
+    }
+    if is_text(word, b"rule_counts") {
+        return rule_counts(alloc, classes);
+    }
+    tell_one(alloc, classes, word, args)
+}

@@ -1,0 +1,162 @@
+//! Worlds that are read from texts, and those that are built in.
+
+use crate::classes::tell;
+use crate::faults::fault_value;
+use crate::texts::framed;
+use call_rows::{Part, text_at, text_value};
+use do_acts::as_number;
+use do_base::{Text, Value, Values};
+use do_document::Classes;
+use do_grammar::is_text;
+use do_machine::Seats;
+use do_world::{World, builtin, counter, read_world};
+use std::alloc::{AllocError, Global};
+use std::test::Fail;
+
+/// The bytes that stand in the place of another, one after the other.
+const BYTES: [u8; 4] = [b'a', b'"', b'\n', 0xff];
+
+/// What is kept of a world: its classes, its nodes, and how it is printed.
+#[derive(Drop)]
+struct Kept {
+    classes: Classes,
+    nodes: Seats,
+    printed: Text,
+}
+
+/// The last world, and what stands around texts.
+#[derive(Drop)]
+pub(crate) struct WorldCalls {
+    frame: Values,
+    kept: Kept,
+    alloc: Global,
+}
+
+/// A world as it is printed.
+fn printed(alloc: Global, world: &World) -> Result<Text, Fail> {
+    let printed = format!(in alloc; "{world:?}")?;
+    Ok(Text::from_slice(alloc, printed.as_bytes())?)
+}
+
+/// Whether a text with another byte at a place is a world's.
+fn reads_changed(alloc: Global, text: &Text, at: usize, byte: u8) -> Result<bool, AllocError> {
+    let mut bytes = Vec::from_slice(alloc, text.as_slice())?;
+    if let Some(place) = bytes.get_mut(at) {
+        *place = byte;
+    }
+    Ok(read_world(alloc, bytes.as_slice()).is_ok())
+}
+
+/// How many changes at a place leave a text that is a world's.
+fn count_read(alloc: Global, text: &Text, at: usize) -> Result<i64, AllocError> {
+    let mut count: i64 = 0;
+    for byte in BYTES {
+        if reads_changed(alloc, text, at, byte)? {
+            count = count.saturating_add(1);
+        }
+    }
+    Ok(count)
+}
+
+/// How many changes of one byte leave a text that is a world's.
+fn count_all_read(alloc: Global, text: &Text) -> Result<Value, AllocError> {
+    let mut count: i64 = 0;
+    for at in 0..text.len() {
+        count = count.saturating_add(count_read(alloc, text, at)?);
+    }
+    Ok(Value::Num(count))
+}
+
+/// The ports of nodes, each with the class of its root.
+fn nodes_value(alloc: Global, nodes: &Seats) -> Result<Value, AllocError> {
+    let mut values = Values::new(alloc);
+    for seat in nodes.as_slice() {
+        values.push(Value::Num(i64::from(seat.node.port())))?;
+        values.push(Value::Num(i64::from(seat.root.0)))?;
+    }
+    Ok(Value::List(values))
+}
+
+/// What is kept of a world.
+fn kept_of(alloc: Global, world: World) -> Result<Kept, Fail> {
+    let printed = printed(alloc, &world)?;
+    let World {
+        table,
+        kinds,
+        rules,
+        nodes,
+        ..
+    } = world;
+    let classes = Classes {
+        table,
+        kinds,
+        rules,
+    };
+    Ok(Kept {
+        classes,
+        nodes,
+        printed,
+    })
+}
+
+impl WorldCalls {
+    /// The world `:counter`, and nothing around texts.
+    pub(crate) fn new(alloc: Global) -> Result<WorldCalls, Fail> {
+        Ok(WorldCalls {
+            frame: Values::new(alloc),
+            kept: kept_of(alloc, counter(alloc)?)?,
+            alloc,
+        })
+    }
+
+    /// The text of these pieces, with what stands around them.
+    fn framed(&self, pieces: &Values) -> Result<Text, Fail> {
+        framed(&self.frame, pieces)
+    }
+
+    /// Reads a text, and keeps the world that it says.
+    fn read(&mut self, text: &Text) -> Result<Value, Fail> {
+        match read_world(self.alloc, text.as_slice()) {
+            Ok(world) => {
+                self.kept = kept_of(self.alloc, world)?;
+                Ok(text_value(self.alloc, b"read")?)
+            }
+            Err(fault) => fault_value(self.alloc, &fault),
+        }
+    }
+
+    /// Keeps the built-in world of a name, and tells whether there is one.
+    fn built_in(&mut self, name: &Text) -> Result<Value, Fail> {
+        let Some(world) = builtin(self.alloc, name)? else {
+            return Ok(as_number(false));
+        };
+        self.kept = kept_of(self.alloc, world)?;
+        Ok(as_number(true))
+    }
+}
+
+impl Part for WorldCalls {
+    fn call(&mut self, word: &[u8], args: &Values) -> Result<Value, Fail> {
+        if is_text(word, b"around") {
+            self.frame = args.clone()?;
+            return Ok(Value::Nil);
+        }
+        if is_text(word, b"read") {
+            let text = self.framed(args)?;
+            return self.read(&text);
+        }
+        if is_text(word, b"count_read") {
+            return Ok(count_all_read(self.alloc, &self.framed(args)?)?);
+        }
+        if is_text(word, b"built_in") {
+            return self.built_in(text_at(args, 0)?);
+        }
+        if is_text(word, b"is_counter") {
+            return Ok(as_number(self.kept.printed == printed(self.alloc, &counter(self.alloc)?)?));
+        }
+        if is_text(word, b"nodes") {
+            return Ok(nodes_value(self.alloc, &self.kept.nodes)?);
+        }
+        tell(self.alloc, &self.kept.classes, word, args)
+    }
+}
