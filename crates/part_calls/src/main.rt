@@ -1,4 +1,4 @@
-//! Drives the imports and the store of a node by 100,000 drawn calls each, beside plain lists, which
+//! Drives the imports and the store of a node by 100,000 drawn calls each, beside plain lists that
 //! must be equal after each, and prints how many calls were alike.
 //!
 //! With the word `memory` 300 calls of each are made. A call for which memory ran out must leave

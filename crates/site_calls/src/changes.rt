@@ -152,8 +152,8 @@ fn change_all(
     Ok(Some(done))
 }
 
-/// Replaces all locals of the top, of which the first two hold values then, and shows what that took
-/// out; nil where there is no top.
+/// Replaces all locals of the top, of which the first two then hold values, and shows what that
+/// took out; nil where there is no top.
 pub(crate) fn replace_locals(
     alloc: Global,
     stack: &mut Stack,

@@ -31,7 +31,7 @@ fn waiting(alloc: Global, stack: &Stack, call: CallId, peer: NodeId) -> Result<V
     }
 }
 
-/// Answers the invocation that waits for a call to a peer with a value, and tells whether one waits.
+/// Answers the invocation that waits for a call to a peer with a value, and tells whether one did.
 fn give(stack: &mut Stack, call: CallId, peer: NodeId, args: &Values) -> Result<Value, Fail> {
     let result = copy_at(args, 2)?;
     let outs = Values::new(args.allocator());
