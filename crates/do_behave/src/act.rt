@@ -6,7 +6,9 @@ use do_class::ClassId;
 /// A value for a slot of the own object.
 #[derive(Debug, PartialEq, Eq, Drop)]
 pub struct Write {
+    /// The slot, from 0.
     pub slot: usize,
+    /// What the slot then holds.
     pub value: Value,
 }
 

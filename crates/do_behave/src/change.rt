@@ -5,7 +5,9 @@ use do_base::{Exc, Items, Value};
 /// A value for a local.
 #[derive(Debug, PartialEq, Eq, Drop)]
 pub struct LocalSet {
+    /// The local, from 0.
     pub local: u8,
+    /// What the local then holds.
     pub value: Value,
 }
 

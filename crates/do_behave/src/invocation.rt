@@ -7,7 +7,9 @@ use std::alloc::AllocError;
 /// Where an invocation goes on after an exception, and the local that then holds its name.
 #[derive(Clone, Copy, Debug, PartialEq, Eq)]
 pub struct Handler {
+    /// The local that then holds the exception's name.
     pub into: u8,
+    /// The place at which the invocation goes on.
     pub pc: u32,
 }
 
@@ -65,14 +67,23 @@ pub enum InvState {
 /// are the locals that a message's result and out values go to, once they come.
 #[derive(Clone, Debug, Drop)]
 pub struct Invocation {
+    /// The object that the method works on.
     pub object: Oid,
+    /// The method, of the object's class.
     pub method: MethodId,
+    /// The place of the next act in the method, from 0.
     pub pc: u32,
+    /// The locals, of which the first are the arguments.
     pub locals: Frame,
+    /// Where an exception goes, if it is caught.
     pub handler: Option<Handler>,
+    /// Why the invocation was begun, so where its answer goes.
     pub reason: Reason,
+    /// The local that the result of what it asked for goes to.
     pub into: u8,
+    /// The locals that the out values of what it asked for go to.
     pub outs: Locals,
+    /// Whether it goes on, or what it waits for.
     pub state: InvState,
 }
 

@@ -49,7 +49,9 @@ pub type Parts = Items<Part>;
 /// An object that a message carries with its slots.
 #[derive(Clone, Debug, PartialEq, Eq, Drop)]
 pub struct Copied {
+    /// The class of the object that is copied.
     pub class: ClassId,
+    /// What its slots hold, in the order of the class.
     pub slots: Parts,
 }
 
@@ -61,8 +63,11 @@ pub type CopyList = Items<Copied>;
 /// The type itself keeps no limit on its lists, and no place in them is checked.
 #[derive(Clone, Debug, PartialEq, Eq, Drop)]
 pub struct Packet {
+    /// The objects that the message names, in the order first met.
     pub names: NameList,
+    /// The objects that the message copies, in the order first met.
     pub copies: CopyList,
+    /// The values, in order.
     pub values: Parts,
 }
 

@@ -9,7 +9,9 @@ use do_trace::Outcome;
 /// What a node sent to one peer and the peer did not take yet, the oldest first.
 #[derive(Drop)]
 pub struct Queue {
+    /// The peer that takes the items.
     pub to: NodeId,
+    /// What waits, the oldest first.
     pub items: Items<Shared<Item>>,
 }
 
@@ -17,44 +19,58 @@ pub struct Queue {
 /// made, by serial from 1.
 #[derive(Drop)]
 pub struct Station {
+    /// The node's port.
     pub port: NodeId,
+    /// The node itself.
     pub node: Shared<Node>,
+    /// One queue for each other node.
     pub queues: Items<Shared<Queue>>,
+    /// The class of each object that the node ever made.
     pub classes: Classes,
 }
 
 /// The nodes of a machine, by rising port.
 #[derive(Clone, Drop)]
 pub struct State {
+    /// One station for each node.
     pub stations: Items<Shared<Station>>,
 }
 
 /// An item with the peer that it goes to.
 #[derive(Drop)]
 pub struct Parcel {
+    /// The peer that the item goes to.
     pub to: NodeId,
+    /// The item.
     pub item: Shared<Item>,
 }
 
 /// The node after a step, what it sent, and what it showed.
 #[derive(Drop)]
 pub struct Effect {
+    /// The node then.
     pub node: Node,
+    /// What was sent, in order.
     pub sent: Items<Parcel>,
+    /// What was shown, in order.
     pub shown: ShownList,
 }
 
 /// A state after an event, and what the event came to.
 #[derive(Drop)]
 pub struct Stepped {
+    /// The state then.
     pub state: State,
+    /// What the event came to.
     pub outcome: Outcome,
 }
 
 /// A node of a world, with the class of its root.
 #[derive(Clone, Copy, Debug, PartialEq, Eq)]
 pub struct Seat {
+    /// The node's port.
     pub node: NodeId,
+    /// The class of its root, which is its first object.
     pub root: ClassId,
 }
 

@@ -6,11 +6,17 @@ use do_class::{ClassId, MethodId};
 /// A message that an invocation sends. `from` has the local of each argument.
 #[derive(Drop)]
 pub struct SendAct {
+    /// What the message goes to.
     pub target: Value,
+    /// The selector.
     pub selector: Text,
+    /// The arguments, in order.
     pub args: Values,
+    /// The local that takes the result.
     pub into: u8,
+    /// The local of each argument, which takes its out value.
     pub from: Locals,
+    /// The place at which the sender goes on.
     pub pc: u32,
 }
 

@@ -4,15 +4,20 @@ use do_class::ClassId;
 /// What a step did: whether it was enabled, and what it showed, in order.
 #[derive(Debug, Drop)]
 pub struct Outcome {
+    /// Whether the step was enabled; one that was not changed nothing.
     pub enabled: bool,
+    /// What was shown, in order.
     pub shown: ShownList,
 }
 
 /// A stored object, with its slots.
 #[derive(Debug, Drop)]
 pub struct ObjLine {
+    /// The object's name.
     pub oid: Oid,
+    /// Its class.
     pub class: ClassId,
+    /// Its slots, in the order of the class.
     pub slots: Values,
 }
 
@@ -23,7 +28,9 @@ pub type ObjLines = Items<ObjLine>;
 /// peer exports it, or one on its way back releases it.
 #[derive(Clone, Copy, Debug, PartialEq, Eq)]
 pub struct Entry {
+    /// The node at which the object is in use.
     pub peer: NodeId,
+    /// The object, of the node that has the entry.
     pub object: Oid,
 }
 
@@ -34,10 +41,15 @@ pub type EntryList = Items<Entry>;
 /// entries.
 #[derive(Debug, Drop)]
 pub struct NodeLine {
+    /// The node's port.
     pub node: NodeId,
+    /// The node's root, if it vends one.
     pub root: Option<Oid>,
+    /// The peers towards which the node's end is closed, by rising port.
     pub closed: Peers,
+    /// The node's stored objects.
     pub objects: ObjLines,
+    /// The node's entries.
     pub entries: EntryList,
 }
 
@@ -47,5 +59,6 @@ pub type NodeLines = Items<NodeLine>;
 /// What a check shows of a whole state.
 #[derive(Debug, Drop)]
 pub struct Snapshot {
+    /// The nodes, each once.
     pub nodes: NodeLines,
 }

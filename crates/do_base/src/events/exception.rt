@@ -20,12 +20,12 @@ pub enum Exc {
     ConnectionDied,
     /// The foreign object is not held by this node.
     NotVended,
-    /// The message is over a limit on messages. This type sets no limit, and nothing raises it so
-    /// far.
+    /// The message has more copied objects than a message may have, or weighs more. This type sets
+    /// no limit.
     TooLarge,
     /// Raised by a method, with a text of its own.
     User(Text),
-    /// The call was given up before its answer came. Nothing raises it so far.
+    /// The call was given up before its answer came.
     TimedOut,
 }
 
