@@ -1,18 +1,18 @@
-mod Blocks
-mod Equality
-mod Inserting
-mod Bools
-mod Having
-mod ClassesStay
-mod Frame
-mod Queues
-mod Opening
-mod follows
-mod Ports
-mod Keeping
-mod Entries
-mod passing
-mod Answering
-mod Parting
-mod Version1
+pub mod Blocks
+pub mod Equality
+pub mod Inserting
+pub mod Bools
+pub mod Having
+pub mod ClassesStay
+pub mod Frame
+pub mod Queues
+pub mod Opening
+pub mod follows
+pub mod Ports
+pub mod Keeping
+pub mod Entries
+pub mod passing
+pub mod Answering
+pub mod Parting
+pub mod Version1
 pub mod first
