@@ -7,3 +7,4 @@ mod shown;
 
 pub use check::{check_text, push_check};
 pub use line::{line_text, push_head, push_outcome, stepped_node};
+pub use shown::push_shown;

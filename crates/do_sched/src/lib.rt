@@ -20,3 +20,5 @@ pub use printing::{print_line, push_line};
 pub use reading::read_schedule;
 pub use upgrading::upgrade;
 pub use value::{push_object, push_value};
+pub use version::Version;
+pub use words::{line_from, node_of, nodes_of, pair_of, part_in, plain_of, values_of, word_in};

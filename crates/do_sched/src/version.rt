@@ -14,7 +14,7 @@ pub enum Version {
 
 impl Version {
     /// The first line of a schedule of this version.
-    pub(crate) fn header(self) -> &'static [u8]
+    pub fn header(self) -> &'static [u8]
         ensures { result.now ≡ header self }
     {
         match self {
@@ -24,7 +24,7 @@ impl Version {
     }
 
     /// The most bytes of a text that is a value.
-    pub(crate) fn longest(self) -> usize
+    pub fn longest(self) -> usize
         ensures { result ≡ longest self }
     {
         match self {
@@ -34,7 +34,7 @@ impl Version {
     }
 
     /// Whether a line may be a time-out.
-    pub(crate) fn has_timeouts(self) -> bool
+    pub fn has_timeouts(self) -> bool
         ensures { result ≡ has_timeouts self }
     {
         match self {

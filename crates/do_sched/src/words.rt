@@ -18,7 +18,7 @@ use std::alloc::{AllocError, Global};
 
 /// The bytes before the first space, and those after it; none where there is no space.
 #[tactic(auto, using(do_grammar::proofs::texts::WordExact::word_found))]
-fn word_in(bytes: &[u8]) -> Option<(&[u8], &[u8])>
+pub fn word_in(bytes: &[u8]) -> Option<(&[u8], &[u8])>
     ensures { text_view result ≡ word 32 bytes.now }
 {
     word_of(bytes, b' ')
@@ -26,7 +26,7 @@ fn word_in(bytes: &[u8]) -> Option<(&[u8], &[u8])>
 
 /// The bytes before the first space, and those from it on; where there is no space all and none.
 #[tactic(auto, using(do_grammar::proofs::texts::WordExact::part_found))]
-fn part_in(bytes: &[u8]) -> (&[u8], &[u8])
+pub fn part_in(bytes: &[u8]) -> (&[u8], &[u8])
     ensures before { result.0.now ≡ (part 32 bytes.now).0 }
     ensures after { result.1.now ≡ (part 32 bytes.now).1 }
 {
@@ -34,14 +34,14 @@ fn part_in(bytes: &[u8]) -> (&[u8], &[u8])
 }
 
 /// The node whose number these digits are.
-fn node_of(digits: &[u8]) -> Option<NodeId>
+pub fn node_of(digits: &[u8]) -> Option<NodeId>
     ensures { result ≡ port_at digits.now }
 {
     NodeId::new(dec_of(digits, 1, 65535)? as u16)
 }
 
 /// A node's number, a space and a number between two bounds.
-fn pair_of(bytes: &[u8], low: u64, high: u64) -> Option<(NodeId, u64)>
+pub fn pair_of(bytes: &[u8], low: u64, high: u64) -> Option<(NodeId, u64)>
     ensures { result ≡ pair_at low high bytes.now }
 {
     let (digits, number) = word_in(bytes)?;
@@ -51,7 +51,7 @@ fn pair_of(bytes: &[u8], low: u64, high: u64) -> Option<(NodeId, u64)>
 }
 
 /// Two nodes' numbers with a space between.
-fn nodes_of(bytes: &[u8]) -> Option<(NodeId, NodeId)>
+pub fn nodes_of(bytes: &[u8]) -> Option<(NodeId, NodeId)>
     ensures { result ≡ pair_at 1 65535 bytes.now }
 {
     let (digits, others) = word_in(bytes)?;
@@ -83,7 +83,11 @@ fn is_quote_first(bytes: &[u8]) -> bool
 
 /// The plain value that begins the bytes, a text of at most `limit` bytes, and what stands behind
 /// it.
-fn plain_of(alloc: Global, bytes: &[u8], limit: usize) -> Result<Option<(Value, &[u8])>, AllocError>
+pub fn plain_of(
+    alloc: Global,
+    bytes: &[u8],
+    limit: usize,
+) -> Result<Option<(Value, &[u8])>, AllocError>
     ensures { IfOk result (λ found. front_view found ≡ plain_at limit bytes.now) }
 {
     if is_quote_first(bytes) {
@@ -101,7 +105,7 @@ fn plain_of(alloc: Global, bytes: &[u8], limit: usize) -> Result<Option<(Value, 
 
 /// So many plain values, a space before each; none where the bytes are no such values.
 #[tactic(auto, using(crate::proofs::ValuesLoop::values_facts))]
-fn values_of(
+pub fn values_of(
     alloc: Global,
     bytes: &[u8],
     count: usize,
