@@ -1,6 +1,6 @@
 -- How many names of its objects a node has sent to its peers and not had back.
 use Rattle.std.specs.Prelude.{◌≡◌, ℕ, not, ◌+◌, ◌-◌, ◌<◌, ◌≤◌, ◌==◌, if◌then◌else◌, None, IsSome}
-use Rattle.std.specs.Prelude.{refl}
+use Rattle.std.specs.Prelude.{T, true, List, refl}
 use Rattle.std.specs.Option.{unwrap_or}
 use Rattle.std.specs.Ordering.{nat_cmp, on, then_cmp}
 use Rattle.std.specs.declared.cmp.Ordering.{Ordering}
@@ -28,6 +28,15 @@ exported_code = code_by (Counts × ℕ) (coded× (map.code (coded× coded_ℕ co
 -- the count of an entry, 0 where there is none
 abbrev pub count_of : Counts → ℕ → ℕ → ℕ
 count_of counts peer serial = unwrap_or (map.get counts (peer, serial)) 0
+
+-- no entry counts 0
+abbrev pub IsPositive : Counts → Type 0
+IsPositive counts = (k : ℕ × ℕ) → map.contains_key counts k ≡ true → 0 < count_of counts k.0 k.1
+
+-- rows of entries stand in their order, and none counts 0
+pub record AreEntries (rows : List ((ℕ × ℕ) × ℕ)) : Type 0 where
+  pub sorted : T (map.is_sorted entry_cmp rows)
+  pub positive : IsPositive (map.from_sorted rows)
 
 -- the counts once an object was named to a peer
 abbrev pub raised : Counts → ℕ → ℕ → Counts

@@ -9,7 +9,7 @@ ghost use Rattle.std.specs.Prelude.{◌≡◌, ◌+◌, ◌-◌, ◌<◌, ◌≤
 ghost use Rattle.std.specs.Prelude.{IfErr, MatchOption, MatchResult, if◌then◌else◌};
 ghost use Rattle.std.specs.FinMap as map;
 ghost use Rattle.do_export.specs.Counts.{count_of, raised, lowered, HasNone, IsLowest};
-ghost use Rattle.do_export.specs.Counts.{HasNoneFrom, IsLowestFrom, others_of};
+ghost use Rattle.do_export.specs.Counts.{HasNoneFrom, IsLowestFrom, IsPositive, others_of};
 
 mod over_release;
 
@@ -29,9 +29,8 @@ pub struct Exports {
 }
 
 impl Model for Exports {
-    ghost use Rattle.std.specs.Prelude.{T};
     ghost use Rattle.std.specs.FinMap as map;
-    ghost use Rattle.do_export.specs.Counts.{Exported, exported_code, entry_cmp};
+    ghost use Rattle.do_export.specs.Counts.{Exported, exported_code, AreEntries};
 
     ghost Value = { Exported };
 
@@ -39,7 +38,7 @@ impl Model for Exports {
 
     ghost view = { λ e. record { counts = map.from_sorted e.counts.rows; spare = e.counts.spare } };
 
-    ghost invariant = { λ e. T (map.is_sorted entry_cmp e.counts.rows) };
+    ghost invariant = { λ e. AreEntries e.counts.rows };
 }
 
 impl Exports {
@@ -71,9 +70,10 @@ impl Exports {
         self.counts.spare() as u64
     }
 
-    /// How many entries there are.
+    /// How many entries there are. Each counts something.
     pub fn len(&self) -> u64
-        ensures { result ≡ map.len self.now.counts }
+        ensures many { result ≡ map.len self.now.counts }
+        ensures positive { IsPositive self.now.counts }
     {
         self.counts.len() as u64
     }

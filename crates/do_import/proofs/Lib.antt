@@ -4,3 +4,4 @@ mod Threads
 mod KeptClasses
 mod LendsOff
 mod NextRow
+mod AskCounts

@@ -7,8 +7,9 @@ use Rattle.std.specs.FinMap as map
 use Rattle.std.specs.FinMap.{find, entries_sorted, get-empty, get-entries, len-empty, len-entries}
 use Rattle.std.specs.FinMap.{len-insert, len-remove, get-retain_keys}
 use Rattle.do_sorted.proofs.FewerRows.{HasAll, no_longer, shorter}
-use Rattle.do_export.specs.Counts.{Counts, entry_cmp, raised, count_of, others_of}
+use Rattle.do_export.specs.Counts.{Counts, IsPositive, entry_cmp, raised, count_of, others_of}
 use Rattle.do_export.proofs.Order.{entry_total, entry_same}
+use Rattle.do_export.proofs.Positive.{none_positive}
 use Rattle.do_import.specs.Held.{may_leave, IsThread, IsRoomy}
 
 -- a row of the thread
@@ -97,10 +98,10 @@ len_others m home = omega (
 pub room_of : (a b c d : ℕ) → 0 < min a (min b (c - d)) → d < c
 room_of a b c d h = omega (arith, h)
 
--- nothing was received, and there is no thread
+-- nothing was received or is used, and there is no thread
 pub empty_roomy : (received uses : Counts) (es : List Row) (spare : ℕ) → received ≡ map.empty
-    → es ≡ [] → IsRoomy received uses es spare
-empty_roomy received uses es spare r e = record {
+    → es ≡ [] → uses ≡ map.empty → IsRoomy received uses es spare
+empty_roomy received uses es spare r e u = record {
   threads = record {
     sorted = subst (λ es. T (map.is_sorted entry_cmp es)) (sym e) tt;
     each = λ q. ap (λ es. is_some (find entry_cmp q es)) e
@@ -108,6 +109,7 @@ empty_roomy received uses es spare r e = record {
         ∙ ap (λ o. is_some o && not (map.contains_key uses q)) (get-empty entry_cmp q));
   };
   room = omega (arith, ap map.len r, len-empty entry_cmp ℕ);
+  used = subst IsPositive (sym u) none_positive;
 }
 
 -- where an object is gone, no room is needed

@@ -1,5 +1,5 @@
 -- The asks of a node that are not answered yet.
-use Rattle.std.specs.Prelude.{◌≡◌, ◌<◌, ℕ, None, IsSome, refl}
+use Rattle.std.specs.Prelude.{◌≡◌, ◌<◌, ℕ, None, IsSome, ◌==◌, ◌&&◌, count_by, refl}
 use Rattle.std.specs.Coded.{Coded, code_by, coded×, coded_ℕ}
 use Rattle.std.specs.Ordering.{on, then_cmp}
 use Rattle.std.specs.FinMap as map
@@ -7,7 +7,7 @@ use Rattle.std.specs.declared.cmp.Ordering.{Ordering}
 use Rattle.std.specs.declared.cmp.Ordering.TheVariants.{Less}
 use Rattle.do_base.specs.names.Names.{ObjectName, TokenName}
 use Rattle.do_class.specs.declared.ids.ClassId.{ClassId}
-use Rattle.do_export.specs.Counts.{entry_cmp}
+use Rattle.do_export.specs.Counts.{Counts, IsPositive, count_of, entry_cmp}
 
 -- an ask's home, lender, token number and serial
 abbrev pub AskKey : Type 0
@@ -52,3 +52,12 @@ pub record IsLowestAsk (asks : AskMap) (o : ObjectName) (t : TokenName) : Type 0
   pub none_below : (lender number serial : ℕ) → 0 < lender
       → ask_cmp ((o.node, lender), (number, serial)) (ask_key o t) ≡ Less
       → map.get asks ((o.node, lender), (number, serial)) ≡ None
+
+-- how many asks are of an object, by its home and serial
+abbrev pub asks_of : AskMap → ℕ × ℕ → ℕ
+asks_of asks q = count_by (λ k. (q.0 == k.0.0) && (q.1 == k.1.1)) (map.keys asks)
+
+-- these are the counts of the asks by object, and none is 0
+pub record CountsAsks (asked : Counts) (asks : AskMap) : Type 0 where
+  pub counted : (q : ℕ × ℕ) → count_of asked q.0 q.1 ≡ asks_of asks q
+  pub positive : IsPositive asked

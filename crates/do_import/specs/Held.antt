@@ -5,7 +5,7 @@ use Rattle.std.specs.Coded.{Coded, code_by, coded×, coded_ℕ}
 use Rattle.std.specs.FinMap as map
 use Rattle.std.specs.FinMap.{find, is_sorted}
 use Rattle.std.specs.declared.cmp.Ordering.TheVariants.{Less}
-use Rattle.do_export.specs.Counts.{Counts, entry_cmp}
+use Rattle.do_export.specs.Counts.{Counts, IsPositive, entry_cmp}
 
 -- how often each foreign object was received and is used, and how many more fit with no memory
 -- taken
@@ -32,11 +32,12 @@ pub record IsThread {V : Type 0} (received uses : Counts) (thread : List ((ℕ �
     pub sorted : T (is_sorted entry_cmp thread)
     pub each : (q : ℕ × ℕ) → is_some (find entry_cmp q thread) ≡ may_leave received uses q
 
--- the thread, with room for each object that was received
+-- the thread, with room for each object that was received; no use is counted as 0
 pub record IsRoomy {V : Type 0} (received uses : Counts) (thread : List ((ℕ × ℕ) × V))
     (spare : ℕ) : Type 0 where
   pub threads : IsThread received uses thread
   pub room : map.len received ≤ length thread + spare
+  pub used : IsPositive uses
 
 -- no object may leave
 abbrev pub NoneLeaves : Counts → Counts → Type 0

@@ -5,7 +5,7 @@ use Rattle.std.specs.FinMap as map
 use Rattle.do_base.specs.names.Names.{ObjectName}
 use Rattle.do_class.specs.declared.ids.ClassId.{ClassId}
 use Rattle.do_export.specs.Counts.{Counts, entry_cmp}
-use Rattle.do_import.specs.Asked.{AskMap, Asked, class_code}
+use Rattle.do_import.specs.Asked.{AskMap, Asked, CountsAsks, class_code}
 use Rattle.do_import.specs.ByObject.{Rows, ClassMap, taken_off}
 use Rattle.do_import.specs.Held.{Held}
 use Rattle.do_import.specs.Lent.{Lent, name_code}
@@ -78,6 +78,12 @@ imported_of own held named asked lent asks classes = record {
 abbrev pub KeepsClasses : Counts → Counts → ClassMap → Type 0
 KeepsClasses received asked classes = (k : ℕ × ℕ) → map.contains_key classes k
     ≡ (map.contains_key received k || map.contains_key asked k)
+
+-- classes are kept of just the objects that were received or asked for, and the asks are counted by
+-- object
+pub record IsTied (received asked : Counts) (asks : AskMap) (classes : ClassMap) : Type 0 where
+  pub known : KeepsClasses received asked classes
+  pub counts : CountsAsks asked asks
 
 -- the counts once one is taken off at each of these objects in turn
 abbrev pub all_off : Counts → List ObjectName → Counts

@@ -109,25 +109,10 @@ impl Asks {
         true
     }
 
-    /// Ends the lowest ask whose home is a peer, and tells its object and token.
+    /// The lowest ask whose home is a peer: its object and token.
     ///
     /// None exactly where no ask has that home. The order is by lender, token number and serial.
-    pub fn ended_ask(&mut self, home: NodeId) -> Option<(Oid, Token)>
-        ensures which { MatchOption result
-            (HasNoAsk self.old.asks home × (self.new ≡ self.old))
-            (λ ask. (ask.0.node ≡ home) × IsLowestAsk self.old.asks ask.0 ask.1
-            × (self.new.asks ≡ map.remove self.old.asks (ask_key ask.0 ask.1))) }
-        ensures spare { self.old.spare ≤ self.new.spare }
-    {
-        let Some((oid, token)) = self.lowest(home) else {
-            return None;
-        };
-        self.remove(&key_of(oid, token));
-        Some((oid, token))
-    }
-
-    /// The lowest ask whose home is a peer.
-    fn lowest(&self, peer: NodeId) -> Option<(Oid, Token)>
+    pub fn next_ask(&self, peer: NodeId) -> Option<(Oid, Token)>
         ensures { MatchOption result (HasNoAsk self.now.asks peer)
             (λ ask. (ask.0.node ≡ peer) × IsLowestAsk self.now.asks ask.0 ask.1) }
     {

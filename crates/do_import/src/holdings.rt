@@ -5,7 +5,7 @@ ghost use Rattle.std.specs.Prelude.{◌≡◌, ◌+◌, ◌-◌, ◌<◌, ◌≤
 ghost use Rattle.std.specs.Prelude.{if◌then◌else◌};
 ghost use Rattle.std.specs.FinMap as map;
 ghost use Rattle.std.specs.FinMap.{put};
-ghost use Rattle.do_export.specs.Counts.{count_of, raised, lowered, entry_cmp};
+ghost use Rattle.do_export.specs.Counts.{count_of, raised, lowered, entry_cmp, IsPositive};
 ghost use Rattle.do_import.specs.ByObject.{taken_off};
 
 use do_base::{NodeId, Oid};
@@ -96,6 +96,14 @@ impl Holdings {
         self.received.spare().min(self.uses.spare().min(threads))
     }
 
+    /// How many objects were received and not given back. Each was received once at least.
+    pub fn len(&self) -> u64
+        ensures many { result ≡ map.len self.now.received }
+        ensures positive { IsPositive self.now.received }
+    {
+        self.received.len()
+    }
+
     /// Whether an object was received and not given back.
     pub fn has(&self, oid: Oid) -> bool
         ensures { result ≡ map.contains_key self.now.received (oid.node, oid.serial) }
@@ -110,9 +118,10 @@ impl Holdings {
         self.received.count(oid.node, oid.serial)
     }
 
-    /// How often an object is used.
+    /// How often an object is used. No object is kept that is used 0 times.
     pub fn uses(&self, oid: Oid) -> u64
-        ensures { result ≡ count_of self.now.uses oid.node oid.serial }
+        ensures count { result ≡ count_of self.now.uses oid.node oid.serial }
+        ensures positive { IsPositive self.now.uses }
     {
         self.uses.count(oid.node, oid.serial)
     }

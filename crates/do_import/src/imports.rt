@@ -6,7 +6,8 @@ mod using;
 
 ghost use Rattle.std.specs.Prelude.{◌≡◌, ◌≤◌, ◌||◌, OnOk, IfOk, is_some, map as each};
 ghost use Rattle.std.specs.FinMap as map;
-ghost use Rattle.do_export.specs.Counts.{count_of};
+ghost use Rattle.do_export.specs.Counts.{count_of, IsPositive};
+ghost use Rattle.do_import.specs.Asked.{CountsAsks};
 ghost use Rattle.do_import.specs.ByObject.{object_of};
 
 use crate::asks::Asks;
@@ -35,7 +36,7 @@ pub struct Imports {
 }
 
 impl Model for Imports {
-    ghost use Rattle.do_import.specs.Imported.{Imported, imported_code, imported_of, KeepsClasses};
+    ghost use Rattle.do_import.specs.Imported.{Imported, imported_code, imported_of, IsTied};
 
     ghost Value = { Imported };
 
@@ -43,7 +44,7 @@ impl Model for Imports {
 
     ghost view = { λ i. imported_of i.own i.holdings i.named i.asked i.lends i.asks i.classes };
 
-    ghost invariant = { λ i. KeepsClasses i.holdings.received i.asked.rows i.classes.rows };
+    ghost invariant = { λ i. IsTied i.holdings.received i.asked.rows i.asks.asks i.classes.rows };
 }
 
 impl Imports {
@@ -117,6 +118,14 @@ impl Imports {
         self.classes.get(oid.node, oid.serial)
     }
 
+    /// How many objects were received and not given back. Each was received once at least.
+    pub fn len(&self) -> u64
+        ensures many { result ≡ map.len self.now.received }
+        ensures positive { IsPositive self.now.received }
+    {
+        self.holdings.len()
+    }
+
     /// How often an object was received and not given back.
     pub fn received(&self, oid: Oid) -> u64
         ensures { result ≡ count_of self.now.received oid.node oid.serial }
@@ -124,9 +133,11 @@ impl Imports {
         self.holdings.received(oid)
     }
 
-    /// How often an object is used, lends and asks included.
+    /// How often an object is used, lends and asks included. No object is kept that is used 0
+    /// times.
     pub fn uses(&self, oid: Oid) -> u64
-        ensures { result ≡ count_of self.now.uses oid.node oid.serial }
+        ensures count { result ≡ count_of self.now.uses oid.node oid.serial }
+        ensures positive { IsPositive self.now.uses }
     {
         self.holdings.uses(oid)
     }
@@ -138,9 +149,10 @@ impl Imports {
         self.named.count(oid)
     }
 
-    /// How many asks are of an object.
+    /// How many asks are of an object. The counts are those of the asks.
     pub fn asks(&self, oid: Oid) -> u64
-        ensures { result ≡ count_of self.now.asked oid.node oid.serial }
+        ensures count { result ≡ count_of self.now.asked oid.node oid.serial }
+        ensures counted { CountsAsks self.now.asked self.now.asks }
     {
         self.asked.count(oid)
     }

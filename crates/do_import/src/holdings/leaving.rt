@@ -1,7 +1,7 @@
 //! Foreign objects that leave, one by one or with their home.
 ghost use Rattle.std.specs.Prelude.{◌≡◌, ◌≤◌, MatchOption};
 ghost use Rattle.std.specs.FinMap as map;
-ghost use Rattle.do_export.specs.Counts.{count_of, others_of};
+ghost use Rattle.do_export.specs.Counts.{count_of, others_of, IsPositive};
 ghost use Rattle.do_import.specs.Held.{NoneLeaves, IsLowestLeaving};
 
 use super::Holdings;
@@ -18,6 +18,7 @@ impl Holdings {
             × (left.1 ≡ count_of self.old.received left.0.node left.0.serial)
             × (self.new.received ≡ map.remove self.old.received (left.0.node, left.0.serial))
             × (self.new.uses ≡ self.old.uses)) }
+        ensures positive { IsPositive self.old.uses }
         ensures spare { self.old.spare ≤ self.new.spare }
     {
         let Some(oid) = self.lowest() else {

@@ -1,6 +1,6 @@
 //! Asks: kept, granted, and ended.
 ghost use Rattle.std.specs.Prelude.{◌≡◌, ◌+◌, ◌<◌, ◌≤◌, ◌^◌, ◌-◌, ◌||◌, Some, MatchOption, not};
-ghost use Rattle.std.specs.Prelude.{false, if◌then◌else◌};
+ghost use Rattle.std.specs.Prelude.{false, IsTrue, if◌then◌else◌};
 ghost use Rattle.std.specs.FinMap as map;
 ghost use Rattle.do_export.specs.Counts.{count_of};
 ghost use Rattle.do_import.specs.Asked.{ask_key, HasNoAsk, IsLowestAsk};
@@ -84,12 +84,14 @@ impl Imports {
         true
     }
 
-    /// Takes off what an ask of an object was, and forgets its class unless it stays.
-    fn end_ask(&mut self, oid: Oid)
+    /// Ends an ask that is kept, and forgets its object's class unless it stays.
+    fn end_ask(&mut self, oid: Oid, token: Token)
+        requires { IsTrue (map.contains_key self.old.asks (ask_key oid token)) }
         ensures same { self.new ≡ record self.old {
           uses = taken_off self.old.uses oid;
           named = taken_off self.old.named oid;
           asked = taken_off self.old.asked oid;
+          asks = map.remove self.old.asks (ask_key oid token);
           classes = left_of self.old.classes oid
               (map.contains_key self.old.received (oid.node, oid.serial)
               || map.contains_key (taken_off self.old.asked oid) (oid.node, oid.serial));
@@ -97,6 +99,7 @@ impl Imports {
         } }
         ensures spare { self.old.spare ≤ self.new.spare }
     {
+        self.asks.end(oid, token);
         self.holdings.take_off(oid);
         self.named.take_off(oid);
         self.asked.take_off(oid);
@@ -120,10 +123,10 @@ impl Imports {
         } else record self.old { spare = self.new.spare }) }
         ensures spare { self.old.spare ≤ self.new.spare }
     {
-        if !self.asks.end(oid, token) {
+        if !self.asks.has(oid, token) {
             return false;
         }
-        self.end_ask(oid);
+        self.end_ask(oid, token);
         true
     }
 
@@ -147,10 +150,10 @@ impl Imports {
             })) }
         ensures spare { self.old.spare ≤ self.new.spare }
     {
-        let Some((oid, token)) = self.asks.ended_ask(home) else {
+        let Some((oid, token)) = self.asks.next_ask(home) else {
             return None;
         };
-        self.end_ask(oid);
+        self.end_ask(oid, token);
         Some((oid, token))
     }
 }

@@ -1,8 +1,8 @@
 //! What is received and used, and what leaves.
 ghost use Rattle.std.specs.Prelude.{◌≡◌, ◌+◌, ◌<◌, ◌≤◌, ◌^◌, ◌-◌, MatchOption};
 ghost use Rattle.std.specs.FinMap as map;
-ghost use Rattle.do_export.specs.Counts.{count_of, lowered};
-ghost use Rattle.do_import.specs.ByObject.{added, first_kept, left_of};
+ghost use Rattle.do_export.specs.Counts.{count_of, lowered, IsPositive};
+ghost use Rattle.do_import.specs.ByObject.{added, first_kept, left_of, taken_off};
 ghost use Rattle.do_import.specs.Held.{NoneLeaves, IsLowestLeaving};
 
 use super::Imports;
@@ -61,6 +61,17 @@ impl Imports {
         self.holdings.unrefer(oid);
     }
 
+    /// Counts one use of an object less, where it has one, for which no room is needed.
+    pub fn take_off(&mut self, oid: Oid)
+        ensures same { self.new ≡ record self.old {
+          uses = taken_off self.old.uses oid;
+          spare = self.new.spare;
+        } }
+        ensures spare { self.old.spare ≤ self.new.spare }
+    {
+        self.holdings.take_off(oid);
+    }
+
     /// Takes out the lowest object that may leave, and tells how often it was received.
     ///
     /// None exactly where none may leave. An object may leave that was received and is not used.
@@ -75,6 +86,7 @@ impl Imports {
                   (map.contains_key self.old.asked (left.0.node, left.0.serial));
               spare = self.new.spare;
             })) }
+        ensures positive { IsPositive self.old.uses }
         ensures spare { self.old.spare ≤ self.new.spare }
     {
         let Some((oid, count)) = self.holdings.leave_next() else {

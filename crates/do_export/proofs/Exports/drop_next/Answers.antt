@@ -1,5 +1,6 @@
 use Rattle.std.proofs.Common.{arith, refl}
 use Rattle.do_export.proofs.Order.{without_is, lowest_is}
+use Rattle.do_export.proofs.Positive.{entries_out}
 use Rattle.do_export.proofs.Exports.drop_next.Goals as goal
 
 pub returns-in_default-clause-which : goal.returns-in_default-clause-which
@@ -11,11 +12,11 @@ returns-in_default-clause-which c =
 
 pub invariant_of-self : goal.invariant_of-self
 invariant_of-self c =
-    (without_is _ _ c.self.invariant _ _ _ c.port.ensures.value c.remove.ensures.after).0
+    entries_out _ _ c.self.invariant _ _ c.port.ensures.value _ c.remove.ensures.after
 
 pub returns-clause-which : goal.returns-clause-which
 returns-clause-which c =
     rw (← c.self.view_is) (
       lowest_is _ _ _ (rw (← c.self.view_is) at c.in-Some.ensures),
-      (without_is _ _ c.self.invariant _ _ _ c.port.ensures.value c.remove.ensures.after).1,
+      (without_is _ _ c.self.invariant.sorted _ _ _ c.port.ensures.value c.remove.ensures.after).1,
     )

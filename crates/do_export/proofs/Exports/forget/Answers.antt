@@ -1,11 +1,12 @@
 use Rattle.do_export.proofs.Order.{without_is}
+use Rattle.do_export.proofs.Positive.{entries_out}
 use Rattle.do_export.proofs.Exports.forget.Goals as goal
 
 pub invariant_of-self : goal.invariant_of-self
 invariant_of-self c =
-    (without_is _ _ c.self.invariant _ _ _ c.port.ensures.value c.remove.ensures.after).0
+    entries_out _ _ c.self.invariant _ _ c.port.ensures.value _ c.remove.ensures.after
 
 pub returns-clause-counts : goal.returns-clause-counts
 returns-clause-counts c =
     rw (← c.self.view_is)
-    (without_is _ _ c.self.invariant _ _ _ c.port.ensures.value c.remove.ensures.after).1
+    (without_is _ _ c.self.invariant.sorted _ _ _ c.port.ensures.value c.remove.ensures.after).1

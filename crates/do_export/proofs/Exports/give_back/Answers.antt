@@ -3,11 +3,12 @@ use Rattle.std.proofs.lemmas.Bool.{eq-eqb, ne_eqb}
 use Rattle.std.specs.FinMap as map
 use Rattle.do_export.specs.Counts.{count_of}
 use Rattle.do_export.proofs.Order.{put_is, without_is, found_is, some_above}
+use Rattle.do_export.proofs.Positive.{entries_put, entries_out}
 use Rattle.do_export.proofs.Exports.give_back.Goals as goal
 
 pub invariant_of-self : goal.invariant_of-self
 invariant_of-self c =
-    (without_is _ _ c.self.invariant _ _ _ c.port.ensures.value c.remove.ensures.after).0
+    entries_out _ _ c.self.invariant _ _ c.port.ensures.value _ c.remove.ensures.after
 
 pub returns-then-left-eq0-clause-which : goal.returns-then-left-eq0-clause-which
 returns-then-left-eq0-clause-which c =
@@ -17,7 +18,7 @@ returns-then-left-eq0-clause-which c =
     rw (← c.self.view_is) (
       omega (arith, same),
       rw (eq-eqb _ _ same)
-          (without_is _ _ c.self.invariant _ _ _ c.port.ensures.value c.remove.ensures.after).1,
+          (without_is _ _ c.self.invariant.sorted _ _ _ c.port.ensures.value c.remove.ensures.after).1,
     )
 
 pub set-requires : goal.set-requires
@@ -25,13 +26,13 @@ set-requires c =
     let had = rw (← c.self.view_is) at c.count-had.ensures in
     let above : 0 < count_of (map.from_sorted c.self.inside.counts.rows) c.args.peer c.args.serial =
     omega (arith, had, c.if-left-eq0.false) in
-    let found = found_is c.self.inside.counts.rows c.self.invariant _ _ c.args.serial
+    let found = found_is c.self.inside.counts.rows c.self.invariant.sorted _ _ c.args.serial
     c.port-2.ensures.value in
     subst IsSome found (some_above _ above)
 
 pub invariant_of-self-2 : goal.invariant_of-self-2
 invariant_of-self-2 c =
-    (put_is _ _ c.self.invariant _ _ _ c.port-2.ensures.value _ c.set.ensures.after).0
+    entries_put _ _ c.self.invariant _ _ c.port-2.ensures.value _ _ (omega arith) c.set.ensures.after
 
 pub returns-clause-which : goal.returns-clause-which
 returns-clause-which c =
@@ -42,6 +43,6 @@ returns-clause-which c =
     rw (← c.self.view_is) (
       omega (arith, had, c.if-had-n.false),
       rw (ne_eqb _ _ apart)
-          ((put_is _ _ c.self.invariant _ _ _ c.port-2.ensures.value _ c.set.ensures.after).1
+          ((put_is _ _ c.self.invariant.sorted _ _ _ c.port-2.ensures.value _ c.set.ensures.after).1
           ∙ ap (λ n. map.insert counts (c.args.peer, c.args.serial) (n - c.args.n)) had),
     )

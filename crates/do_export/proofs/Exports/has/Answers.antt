@@ -7,7 +7,7 @@ use Rattle.do_export.proofs.Exports.has.Goals as goal
 pub returns : goal.returns
 returns c =
     let rows = c.self.inside.counts.rows in
-    let found = get-from_sorted entry_cmp rows (c.args.peer, c.args.serial) c.self.invariant in
+    let found = get-from_sorted entry_cmp rows (c.args.peer, c.args.serial) c.self.invariant.sorted in
     rw (← c.self.view_is)
     (c.has.ensures
     ∙ ap is_some (ap (λ p. find entry_cmp (p, c.args.serial) rows) c.port.ensures.value

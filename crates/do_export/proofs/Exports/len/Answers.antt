@@ -3,9 +3,9 @@ use Rattle.std.specs.FinMap.{len-entries, entries-from_sorted}
 use Rattle.do_export.specs.Counts.{entry_cmp}
 use Rattle.do_export.proofs.Exports.len.Goals as goal
 
-pub returns : goal.returns
-returns c =
+pub returns-clause-many : goal.returns-clause-many
+returns-clause-many c =
     let rows = c.self.inside.counts.rows in
     rw (← c.self.view_is)
     (c.len.ensures
-    ∙ sym (len-entries _ ∙ ap length (entries-from_sorted entry_cmp rows c.self.invariant)))
+    ∙ sym (len-entries _ ∙ ap length (entries-from_sorted entry_cmp rows c.self.invariant.sorted)))

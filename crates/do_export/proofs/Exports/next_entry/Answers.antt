@@ -9,14 +9,14 @@ returns-in_default c =
     let rows = c.self.inside.counts.rows in
     let first = ap (λ p. first_from entry_cmp (p, c.args.from) rows) (sym c.port.ensures.value)
     ∙ sym c.in_default.ensures in
-    rw (← c.self.view_is) (none_of rows c.self.invariant c.args.peer c.args.from first)
+    rw (← c.self.view_is) (none_of rows c.self.invariant.sorted c.args.peer c.args.from first)
 
 pub returns-then-port : goal.returns-then-port
 returns-then-port c =
     let rows = c.self.inside.counts.rows in
     let first = ap (λ p. first_from entry_cmp (p, c.args.from) rows) (sym c.port.ensures.value)
     ∙ sym c.in-Some.ensures in
-    rw (← c.self.view_is) (other_of rows c.self.invariant c.args.peer c.args.from _ first
+    rw (← c.self.view_is) (other_of rows c.self.invariant.sorted c.args.peer c.args.from _ first
     (λ is. c.if-port.true (is ∙ sym c.port-2.ensures.value)))
 
 pub returns : goal.returns
@@ -24,5 +24,5 @@ returns c =
     let rows = c.self.inside.counts.rows in
     let first = ap (λ p. first_from entry_cmp (p, c.args.from) rows) (sym c.port.ensures.value)
     ∙ sym c.in-Some.ensures in
-    rw (← c.self.view_is) (lowest_of rows c.self.invariant c.args.peer c.args.from _ first
+    rw (← c.self.view_is) (lowest_of rows c.self.invariant.sorted c.args.peer c.args.from _ first
     (c.if-port.false ∙ c.port-2.ensures.value))

@@ -18,6 +18,7 @@ invariant_of-self c =
           (ended_threaded _ _ c.self.inside.thread.rows _ c.args.home c.self.invariant.threads
           rows);
       room = omega (arith, c.self.invariant.room, c.retain.ensures.capacity, fewer, is);
+      used = c.self.invariant.used;
     }
 
 pub returns-clause-spare : goal.returns-clause-spare

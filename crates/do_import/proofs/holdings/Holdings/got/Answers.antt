@@ -24,6 +24,7 @@ invariant_of-self c =
           (got_kept _ _ c.self.inside.thread.rows old.threads _ _ c.is_kept-kept.result _ kept
           c.thread_unless.ensures.rows);
       room = omega (arith, room, more, is, c.thread_unless.ensures.capacity);
+      used = old.used;
     }
 
 pub returns-clause-spare : goal.returns-clause-spare

@@ -16,6 +16,7 @@ invariant_of-self c =
           (leave_threaded _ _ c.self.inside.thread.rows c.self.invariant.threads _ _
           c.remove.ensures.after);
       room = omega (arith, c.self.invariant.room, c.remove.ensures.capacity, fewer, is);
+      used = c.self.invariant.used;
     }
 
 pub returns-clause-spare : goal.returns-clause-spare

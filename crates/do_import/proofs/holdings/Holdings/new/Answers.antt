@@ -8,3 +8,4 @@ pub invariant_of-result : goal.invariant_of-result
 invariant_of-result c =
     empty_roomy _ _ _ _ (ap (λ (e : Exported). e.counts) c.new.ensures)
     (ap (λ (s : Rows _ _). s.rows) c.new-3.ensures)
+    (ap (λ (e : Exported). e.counts) c.new-2.ensures)

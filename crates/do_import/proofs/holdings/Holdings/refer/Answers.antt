@@ -1,4 +1,6 @@
 use Rattle.std.proofs.Common.{sym, subst, arith}
+use Rattle.do_export.specs.Counts.{IsPositive}
+use Rattle.do_export.proofs.Counting.{positive-raised}
 use Rattle.do_import.specs.Held.{IsThread}
 use Rattle.do_import.proofs.Threads.{refer_threaded}
 use Rattle.do_import.proofs.Rooms.{one_off, min_falls}
@@ -11,6 +13,8 @@ invariant_of-self c = record {
       (refer_threaded _ _ c.self.inside.thread.rows c.self.invariant.threads _ _ _
       c.remove.ensures.after);
   room = omega (arith, c.self.invariant.room, c.remove.ensures.capacity);
+  used = subst IsPositive (sym c.name.ensures.counts)
+      (positive-raised _ _ _ c.self.invariant.used);
 }
 
 pub returns-clause-spare : goal.returns-clause-spare

@@ -1,5 +1,7 @@
 use Rattle.std.proofs.Common.{◌≡◌, false, not, sym, ap, subst, ◌∙◌, ◌&&◌, arith}
 use Rattle.std.specs.FinMap as map
+use Rattle.do_export.specs.Counts.{IsPositive}
+use Rattle.do_export.proofs.Counting.{positive-lowered}
 use Rattle.do_import.specs.Held.{IsThread, may_leave}
 use Rattle.do_import.proofs.Threads.{unrefer_threaded, still_threaded, lowered_some, lowered_last}
 use Rattle.do_import.proofs.Threads.{used_some, and_false}
@@ -16,6 +18,8 @@ invariant_of-self c =
           (still_threaded _ _ c.self.inside.thread.rows c.self.invariant.threads _ _
           (used_some _ _ _ _ which.0));
       room = c.self.invariant.room;
+      used = subst IsPositive (sym which.1)
+          (positive-lowered _ _ _ (omega (arith, which.0)) c.self.invariant.used);
     }
 
 pub thread_unless-requires : goal.thread_unless-requires
@@ -46,6 +50,8 @@ invariant_of-self-2 c =
           (unrefer_threaded _ _ c.self.inside.thread.rows c.self.invariant.threads _ _ _
           (ap not c.has-gone.ensures) c.thread_unless.ensures.rows);
       room = omega (arith, c.self.invariant.room, c.thread_unless.ensures.capacity);
+      used = subst IsPositive (sym which.1)
+          (positive-lowered _ _ _ (omega (arith, which.0)) c.self.invariant.used);
     }
 
 pub returns-clause-spare : goal.returns-clause-spare

@@ -1,4 +1,5 @@
 use Rattle.do_import.proofs.KeptClasses.{ended_classes}
+use Rattle.do_import.proofs.AskCounts.{end_counted}
 use Rattle.do_import.proofs.imports.Imports.end_ask.Goals as goal
 
 pub invariant_of-self : goal.invariant_of-self
@@ -9,4 +10,8 @@ invariant_of-self c =
       c.take_off.ensures.received,
       c.take_off-3.ensures.rows,
     )
-    (ended_classes _ _ _ c.self.invariant c.args.oid)
+    (record {
+      known = ended_classes _ _ _ c.self.invariant.known c.args.oid;
+      counts = end_counted _ _ c.self.invariant.counts c.args.oid c.args.token c.end.result _
+          (rw (← c.self.view_is) at c.requires) c.end.ensures.which c.end.ensures.asks;
+    })

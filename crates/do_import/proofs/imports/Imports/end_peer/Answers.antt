@@ -4,4 +4,7 @@ use Rattle.do_import.proofs.imports.Imports.end_peer.Goals as goal
 pub invariant_of-self : goal.invariant_of-self
 invariant_of-self c =
     rw (c.end_peer-2.ensures.received, c.take_lends_off.ensures.received, c.end_home.ensures.rows)
-    (home_classes _ _ _ c.self.invariant c.args.peer)
+    (record {
+      known = home_classes _ _ _ c.self.invariant.known c.args.peer;
+      counts = c.self.invariant.counts;
+    })

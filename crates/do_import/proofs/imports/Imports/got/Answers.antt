@@ -3,4 +3,7 @@ use Rattle.do_import.proofs.imports.Imports.got.Goals as goal
 
 pub invariant_of-self : goal.invariant_of-self
 invariant_of-self c = rw (c.got.ensures.received, c.keep.ensures.rows)
-    (got_classes _ _ _ c.self.invariant c.args.oid c.args.class)
+    (record {
+      known = got_classes _ _ _ c.self.invariant.known c.args.oid c.args.class;
+      counts = c.self.invariant.counts;
+    })

@@ -1,4 +1,6 @@
+use Rattle.std.proofs.Common.{is_some, sym, ap}
 use Rattle.do_import.proofs.KeptClasses.{granted_classes}
+use Rattle.do_import.proofs.AskCounts.{end_counted}
 use Rattle.do_import.proofs.imports.Imports.granted.Goals as goal
 
 pub invariant_of-self : goal.invariant_of-self
@@ -9,4 +11,8 @@ invariant_of-self c =
       c.take_off-3.ensures.rows,
       c.keep.ensures.rows,
     )
-    (granted_classes _ _ _ c.self.invariant c.args.oid _)
+    (record {
+      known = granted_classes _ _ _ c.self.invariant.known c.args.oid _;
+      counts = end_counted _ _ c.self.invariant.counts c.args.oid c.args.token c.end.result _
+          (ap is_some (sym c.in-Some.ensures)) c.end.ensures.which c.end.ensures.asks;
+    })

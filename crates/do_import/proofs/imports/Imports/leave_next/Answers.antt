@@ -3,4 +3,7 @@ use Rattle.do_import.proofs.imports.Imports.leave_next.Goals as goal
 
 pub invariant_of-self-2 : goal.invariant_of-self-2
 invariant_of-self-2 c = rw (c.leave_class.ensures.rows, c.in-Some.ensures.which.2)
-    (left_classes _ _ _ c.self.invariant _)
+    (record {
+      known = left_classes _ _ _ c.self.invariant.known _;
+      counts = c.self.invariant.counts;
+    })
