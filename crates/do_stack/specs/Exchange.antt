@@ -1,5 +1,6 @@
 -- What a change puts into an invocation, what it takes out, and what is left to do.
-use Rattle.std.specs.Prelude.{Bool, false, ◌&&◌, List, [], ◌∷◌, Option, Some, None, map, slice_get}
+use Rattle.std.specs.Prelude.{Bool, true, false, ◌&&◌, List, [], ◌∷◌, Option, Some, None, map}
+use Rattle.std.specs.Prelude.{slice_get, slice_set, get_or}
 use Rattle.do_base.specs.names.Names.{ObjectName}
 use Rattle.do_base.specs.declared.values.value.Value.{Value}
 use Rattle.do_behave.specs.InPlace.{written}
@@ -7,6 +8,7 @@ use Rattle.do_behave.specs.declared.act.Act.{Act}
 use Rattle.do_behave.specs.declared.act.Act.TheVariants.{Step}
 use Rattle.do_behave.specs.declared.change.Change.{Change}
 use Rattle.do_behave.specs.declared.change.Change.TheVariants as changes
+use Rattle.do_behave.specs.declared.change.LocalSet.{LocalSet}
 use Rattle.do_behave.specs.declared.invocation.Invocation.{Invocation}
 use Rattle.do_stack.specs.Uses.{names}
 use Rattle.do_stack.specs.declared.exchange.Left.{Left}
@@ -33,6 +35,32 @@ taken takens.Nothing = []
 taken (takens.One value) = value ∷ []
 taken (takens.Many values) = values
 taken (takens.All locals) = locals
+
+-- what each of these sets takes out of its local, in order; the value itself where there is no such
+-- local
+abbrev pub set_out : List Value → List LocalSet → List Value
+set_out locals [] = []
+set_out locals (s ∷ more) =
+    get_or locals s.local s.value ∷ set_out (slice_set locals s.local s.value) more
+
+-- the values that an act takes out of locals
+abbrev pub act_taken : List Value → Act → List Value
+act_taken locals (Step pc after handler writes) = locals
+act_taken locals _ = []
+
+-- the values that a change takes out of locals
+abbrev pub taken_by : List Value → Change → List Value
+taken_by locals (changes.Local into value pc) = get_or locals into value ∷ []
+taken_by locals (changes.Slots sets handler writes pc) = set_out locals sets
+taken_by locals (changes.Other act) = act_taken locals act
+taken_by locals _ = []
+
+-- a change that may take memory: the list that is pushed to grows, and the values that several sets
+-- take out are kept in a list
+abbrev pub takes_memory : Change → Bool
+takes_memory (changes.Push list item weight pc) = true
+takes_memory (changes.Slots sets handler writes pc) = true
+takes_memory _ = false
 
 -- there is a value, and it names an object
 abbrev pub some_names : ObjectName → Option Value → Bool

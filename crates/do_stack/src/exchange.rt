@@ -1,13 +1,13 @@
 //! A change of an invocation in place, which hands back what it took out.
 ghost use Rattle.std.specs.Prelude.{◌≡◌, ◌+◌, ◌<◌, ◌≤◌, cond, List, ℕ, IfOk, OnOk, OnErr, map};
 ghost use Rattle.std.specs.Prelude.{◌∷◌, ◌++◌, vec_len, vec_capacity, slice_set, [], slice_get};
-ghost use Rattle.std.specs.Prelude.{Some};
+ghost use Rattle.std.specs.Prelude.{Some, get_or, false, IsOk};
 ghost use Rattle.do_base.specs.names.Names.{ObjectName};
 ghost use Rattle.do_base.specs.declared.values.value.Value.{Value};
 ghost use Rattle.do_behave.specs.Changes.{IsFitting, meaning, with_set};
 ghost use Rattle.do_behave.specs.InPlace.{after_act};
 ghost use Rattle.do_stack.specs.Exchange.{given, taken, named_again, slots_after, act_left};
-ghost use Rattle.do_stack.specs.Exchange.{act_values};
+ghost use Rattle.do_stack.specs.Exchange.{act_values, set_out, act_taken, taken_by, takes_memory};
 ghost use Rattle.do_stack.specs.Uses.{uses};
 ghost use Rattle.do_stack.specs.declared.exchange.Taken.TheVariants.{Nothing};
 
@@ -55,6 +55,7 @@ pub struct Exchanged {
 /// set, and the value itself comes back.
 fn put(locals: &mut Frame, at: usize, value: Value) -> Value
     ensures locals { locals.new ≡ slice_set locals.old at value }
+    ensures taken { result ≡ get_or locals.old at value }
     ensures uses { (o : ObjectName) → uses o locals.new + uses o (result ∷ [])
         ≡ uses o locals.old + uses o (value ∷ []) }
 {
@@ -69,6 +70,7 @@ fn put(locals: &mut Frame, at: usize, value: Value) -> Value
 /// If memory runs out, no local is set: room for all values is made first.
 fn put_all(locals: &mut Frame, mut sets: LocalSets) -> Result<Values, AllocError>
     ensures locals { OnOk result (locals.new ≡ with_set locals.old sets) }
+    ensures taken { IfOk result (λ was. was ≡ set_out locals.old sets) }
     ensures uses { IfOk result (λ was. (o : ObjectName) → uses o locals.new + uses o was
         ≡ uses o locals.old + uses o (map (λ s. s.value) sets)) }
     ensures err { OnErr result (locals.new ≡ locals.old) }
@@ -99,6 +101,7 @@ fn exchange_act(inv: &mut Invocation, act: Act) -> Exchanged
       slots = slots_after result.left slots;
       left = act_left result.left;
     } ≡ after_act act inv.old slots }
+    ensures taken { taken result.taken ≡ act_taken inv.old.locals act }
     ensures uses { (o : ObjectName) → uses o inv.new.locals + uses o (taken result.taken)
         ≡ uses o inv.old.locals + uses o (act_values act) }
 {
@@ -133,6 +136,8 @@ pub fn exchange(inv: &mut Invocation, change: Change) -> Result<Exchanged, Alloc
       slots = slots_after e.left slots;
       left = act_left e.left;
     } ≡ after_act (meaning inv.old change) inv.old slots) }
+    ensures taken { IfOk result (λ e. taken e.taken ≡ taken_by inv.old.locals change) }
+    ensures sure { takes_memory change ≡ false → IsOk result }
     ensures uses { IfOk result (λ e. (o : ObjectName) → uses o inv.new.locals
         + uses o (taken e.taken) + cond (named_again o inv.old change) 1 0
         ≡ uses o inv.old.locals + uses o (given change)) }

@@ -4,7 +4,7 @@ mod ends;
 
 ghost use Rattle.std.specs.Prelude.{◌≡◌, ◌+◌, ◌-◌, ◌<◌, ◌≤◌, ◌∷◌, [], length, OnOk, OnErr, IfOk};
 ghost use Rattle.std.specs.Prelude.{IfErr, IsOk, MatchOption, Some, None, slice_get, cond, List};
-ghost use Rattle.std.specs.Prelude.{IfSome};
+ghost use Rattle.std.specs.Prelude.{IfSome, false};
 ghost use Rattle.std.specs.Option.{option_copied};
 ghost use Rattle.do_base.specs.names.Names.{ObjectName};
 ghost use Rattle.do_base.specs.declared.values.value.Value.{Value};
@@ -13,6 +13,7 @@ ghost use Rattle.do_behave.specs.InPlace.{after_act};
 ghost use Rattle.do_behave.specs.declared.invocation.Invocation.{Invocation};
 ghost use Rattle.do_stack.specs.Waiting.{with_top};
 ghost use Rattle.do_stack.specs.Exchange.{given, taken, named_again, slots_after, act_left};
+ghost use Rattle.do_stack.specs.Exchange.{taken_by, takes_memory};
 ghost use Rattle.do_stack.specs.Uses.{uses, stack_uses, invocation_values};
 
 use crate::exchange::{Exchanged, exchange};
@@ -165,6 +166,10 @@ impl Stack {
             → slice_get self.old.invocations 0 ≡ Some top
             → (slots_after e.left slots ≡ (after_act (meaning top change) top slots).slots)
             × (act_left e.left ≡ (after_act (meaning top change) top slots).left)) }
+        ensures taken { IfOk result (λ e. (top : Invocation)
+            → slice_get self.old.invocations 0 ≡ Some top
+            → taken e.taken ≡ taken_by top.locals change) }
+        ensures sure { takes_memory change ≡ false → IsOk result }
         ensures uses { IfOk result (λ e. (top : Invocation) (o : ObjectName)
             → slice_get self.old.invocations 0 ≡ Some top
             → stack_uses o self.new.invocations + uses o (taken e.taken)

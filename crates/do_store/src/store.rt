@@ -7,6 +7,7 @@ ghost use Rattle.std.specs.Prelude.{◌≡◌, ◌≢◌, [], ◌+◌, ◌<◌, 
 ghost use Rattle.std.specs.Prelude.{MatchOption, Some, None, map};
 ghost use Rattle.do_store.specs.Names.{Stored, find_stored, named_in, stored_name};
 ghost use Rattle.do_store.specs.Books.{Books, seen};
+ghost use Rattle.do_store.specs.Listing.{Rising};
 
 use crate::object::Object;
 use crate::table::Table;
@@ -89,6 +90,14 @@ impl Store {
         ensures { result ≡ self.now.spare }
     {
         self.table.spare()
+    }
+
+    /// An upper bound of how many objects there are, which is about twice as many at most.
+    pub fn bound(&self) -> u64
+        ensures many { length self.now.objects ≤ result }
+        ensures rising { Rising (λ o. o.serial) 0 self.now.objects self.now.next }
+    {
+        self.table.bound() as u64
     }
 
     /// The serial that the next object gets. No more objects are stored than serials were given.
