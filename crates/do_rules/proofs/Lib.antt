@@ -1,4 +1,5 @@
 mod Arguments
+mod Deliveries
 mod Exports
 mod HeldUp
 mod Known
@@ -7,10 +8,11 @@ mod Naming
 mod Nested
 mod Padding
 mod Pairs
-mod Received
 mod RootPackets
+mod Rulings
 mod Serials
 pub mod Sets
 mod Sharing
 mod Striking
+mod Taking
 mod Weights

@@ -1,9 +1,11 @@
 -- What the program judges a step by, as the definitions have it.
-use Rattle.std.specs.Prelude.{Bool, ℕ}
+use Rattle.std.specs.Prelude.{Bool, List, Option, [], option_map, ℕ}
+use Rattle.do_base.specs.declared.values.value.Value.{Value}
+use Rattle.do_behave.specs.declared.invocation.Invocation.{Invocation}
 use Rattle.do_machine.specs.declared.node.Node.{Node}
 use Rattle.do_machine.specs.declared.state.State.{State}
 use Rattle.do_machine.specs.Entry.{has_entry}
-use Rattle.do_machine.specs.State.{own}
+use Rattle.do_machine.specs.State.{own, stored}
 use Rattle.do_machine.specs.Context.{Context, Found, RunContext, context}
 use Rattle.do_rules.specs.declared.judged.Context.{Context as Judged}
 use Rattle.do_rules.specs.declared.judged.Run.{Run}
@@ -17,9 +19,17 @@ step_of c = context c.table.now c.state.now c.node.now
 abbrev pub run_of : Run → RunContext
 run_of r = record { context = step_of r.context; top = r.top.now; below = r.below.now }
 
+-- a run as it is judged, in which the invocations below do not matter
+abbrev pub turn_in : Context → Invocation → RunContext
+turn_in c top = record { context = c; top = top; below = [] }
+
 -- a method with its signature
 abbrev pub found_of : Seen → Found
 found_of f = record { id = f.id; signature = f.signature.now }
+
+-- what the slots of an own object hold
+abbrev pub own_slots : Node → ℕ → Option (List Value)
+own_slots n serial = option_map (λ x. x.slots) (stored serial n.heap)
 
 -- whether a peer has an entry of the own object of a serial
 abbrev pub entry_in : State → Node → ℕ → ℕ → Bool

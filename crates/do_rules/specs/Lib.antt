@@ -6,3 +6,6 @@ pub mod HeldUp
 pub mod Beside
 pub mod Answering
 pub mod Packable
+pub mod Ruling
+pub mod Delivery
+pub mod Writing

@@ -4,7 +4,6 @@ ghost use Rattle.std.specs.Option.{option_copied};
 ghost use Rattle.do_packet.specs.Met.{has_object};
 ghost use Rattle.do_machine.specs.Context.{own_class};
 ghost use Rattle.do_machine.specs.State.{has_asked, holds, is_known, is_open, own, stored};
-ghost use Rattle.do_machine.specs.run.Acts.{root_value};
 ghost use Rattle.do_machine.specs.run.Fresh.{is_full};
 ghost use Rattle.do_machine.specs.take.Take.{can_serve, can_take};
 
@@ -13,7 +12,7 @@ pub(crate) mod named;
 pub(crate) mod naming;
 pub(crate) mod objects;
 
-use do_base::{Items, NodeId, Oid, Oids, Value};
+use do_base::{Items, NodeId, Oid, Oids};
 use do_behave::{InvState, Invocation};
 use do_class::ClassId;
 use do_machine::{Heap, Node, Shared, Stored};
@@ -95,16 +94,6 @@ pub(crate) fn own_class(node: &Node, serial: u64) -> Option<ClassId>
     match stored(node.heap.get(), serial) {
         Some(stored) => Some(stored.class),
         None => None,
-    }
-}
-
-/// A node's root, or nil.
-pub(crate) fn root_value(node: &Node) -> Value
-    ensures { result ≡ root_value node.now }
-{
-    match node.root {
-        None => Value::Nil,
-        Some(serial) => Value::Obj(own(node, serial)),
     }
 }
 

@@ -5,6 +5,7 @@ pub(crate) mod arguments;
 pub(crate) mod asking;
 pub(crate) mod changes;
 pub(crate) mod delivery;
+pub(crate) mod ending;
 pub(crate) mod fresh;
 pub(crate) mod next;
 pub(crate) mod send;

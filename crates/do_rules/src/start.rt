@@ -1,16 +1,58 @@
 //! How a node is started.
 ghost use Rattle.std.specs.Prelude.{◌≡◌, IfOk};
-ghost use Rattle.do_machine.specs.Start.{start_effect};
+ghost use Rattle.do_machine.specs.Effect.{only};
+ghost use Rattle.do_machine.specs.Start.{begun, start_effect};
+ghost use Rattle.do_machine.specs.run.Fresh.{pushed};
 
+use crate::basis::Basis;
 use crate::effect::{given, unchanged};
+use crate::judged::Context;
 use crate::node::methods::method_for;
-use crate::node::{own, own_class};
-use crate::run::fresh::begin;
-use do_base::{Text, Values};
-use do_behave::Reason;
+use crate::run::fresh::fresh;
+use crate::take::lines::object_at;
+use do_base::{Items, Text, Values};
+use do_behave::{Invocation, Reason};
 use do_class::ClassTable;
-use do_machine::{Effect, Node};
+use do_machine::{Effect, Node, State};
 use std::alloc::AllocError;
+
+/// The invocation that a start begins: the node is idle, its root has the method, and the values
+/// fit.
+pub fn begun<N: Basis>(
+    basis: &N,
+    selector: &Text,
+    values: &Values,
+) -> Result<Option<Invocation>, AllocError>
+    ensures { IfOk result (λ i. i ≡ begun (N.context basis.now).table selector.now values.now
+        (N.context basis.now).node) }
+{
+    if basis.top().is_some() {
+        return Ok(None);
+    }
+    let Some(root) = basis.root() else {
+        return Ok(None);
+    };
+    let Some(method) = method_for(basis.table(), basis.own_class(root), selector) else {
+        return Ok(None);
+    };
+    if !method.signature.args_fit(values) {
+        return Ok(None);
+    }
+    let object = object_at(basis.port(), root);
+    Ok(Some(fresh(object, method.id, Reason::Start, values)?))
+}
+
+/// An invocation begins at a node that is idle.
+fn started(node: &Node, invocation: Invocation) -> Result<Effect, AllocError>
+    ensures { IfOk result (λ e. e ≡ only (pushed invocation node.now)) }
+{
+    let Ok(mut effect) = unchanged(node) else {
+        drop(invocation);
+        return Err(AllocError);
+    };
+    let done = effect.node.stack.insert(0, invocation);
+    given(effect, done)
+}
 
 /// What a start does, where it is enabled: the node is idle, its root has the method, and the
 /// values fit.
@@ -22,20 +64,16 @@ pub fn start_effect(
 ) -> Result<Option<Effect>, AllocError>
     ensures { IfOk result (λ e. e ≡ start_effect table.now selector.now values.now node.now) }
 {
-    if node.stack.len() != 0 {
-        return Ok(None);
-    }
-    let Some(root) = node.root else {
-        return Ok(None);
+    // A start asks nothing of the nodes around.
+    let stations = Items::new(node.stack.allocator());
+    let state = State { stations };
+    let context = Context {
+        table,
+        state: &state,
+        node,
     };
-    let Some(method) = method_for(table, own_class(node, root), selector) else {
-        return Ok(None);
-    };
-    if !method.signature.args_fit(values) {
-        return Ok(None);
+    match begun(&context, selector, values)? {
+        Some(invocation) => Ok(Some(started(node, invocation)?)),
+        None => Ok(None),
     }
-    let object = own(node, root);
-    let mut effect = unchanged(node)?;
-    let done = begin(&mut effect.node, object, method.id, Reason::Start, values);
-    Ok(Some(given(effect, done)?))
 }

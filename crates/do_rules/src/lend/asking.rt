@@ -2,16 +2,13 @@
 ghost use Rattle.std.specs.Prelude.{◌≡◌, OnOk};
 ghost use Rattle.std.specs.List.{list_any};
 ghost use Rattle.do_machine.specs.Effect.{each};
-ghost use Rattle.do_machine.specs.lend.Asking.{ask_over, asking, granting, same_wanted, settling};
-ghost use Rattle.do_machine.specs.lend.Asking.{wanted};
-ghost use Rattle.do_machine.specs.Objects.{object_at};
+ghost use Rattle.do_machine.specs.lend.Asking.{ask_over, asking, same_wanted, settling};
 ghost use Rattle.do_rules.specs.Doing.{and_then};
 
 use crate::effect::{Done, queue};
 use crate::lists::{Ordered, Test, insert, keep};
-use crate::node::{is_open, stored};
-use crate::take::lines::object_at;
-use do_base::{Items, NodeId, Token};
+use crate::node::is_open;
+use do_base::Items;
 use do_machine::{Effect, Item, Wanted};
 
 impl Ordered for Wanted {
@@ -107,23 +104,10 @@ pub(crate) fn ask(effect: &mut Effect, wanted: &Wanted) -> Done
     queue(effect, home, item)
 }
 
-/// An ask for an object of a peer is over, and so is the lend.
-pub(crate) fn end_ask(effect: &mut Effect, peer: NodeId, serial: u64, token: Token) -> Done
-    ensures { OnOk result (effect.new ≡ and_then effect.old
-        (ask_over (wanted (object_at peer serial) token.lender token.number))) }
+/// An ask is over, and so is the lend.
+pub(crate) fn end_ask(effect: &mut Effect, wanted: &Wanted) -> Done
+    ensures { OnOk result (effect.new ≡ and_then effect.old (ask_over wanted.now)) }
 {
-    let object = object_at(peer, serial);
-    let wanted = Wanted { object, token };
-    keep(&mut effect.node.asked, &BesideAsk(&wanted));
-    settle(effect, &wanted)
-}
-
-/// The home answers an ask: it grants what it stores.
-pub(crate) fn grant(effect: &mut Effect, peer: NodeId, serial: u64, token: Token) -> Done
-    ensures { OnOk result (effect.new ≡ and_then effect.old (granting peer serial token)) }
-{
-    match stored(effect.node.heap.get(), serial) {
-        Some(_) => queue(effect, peer, Item::Granted { serial, token }),
-        None => queue(effect, peer, Item::Gone { serial, token }),
-    }
+    keep(&mut effect.node.asked, &BesideAsk(wanted));
+    settle(effect, wanted)
 }

@@ -1,3 +1,4 @@
+//! The methods that objects have.
 ghost use Rattle.std.specs.Prelude.{◌≡◌, option_map};
 ghost use Rattle.std.specs.Option.{option_copied};
 ghost use Rattle.do_class.specs.Table.{signature_of};
@@ -11,7 +12,9 @@ use do_sig::Signature;
 /// A method with its signature.
 #[derive(Drop)]
 pub struct Found<'t> {
+    /// The method.
     pub id: MethodId,
+    /// Its signature, of the class table.
     pub signature: &'t Signature,
 }
 

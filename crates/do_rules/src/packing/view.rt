@@ -1,32 +1,33 @@
 //! What a node sees as a packer.
-use crate::judged::Context;
-use crate::node::{is_known, is_open, stored};
+use crate::basis::{Basis, class_seen};
 use do_base::{Oid, Values};
 use do_class::ClassId;
 use do_packet::View;
 
-impl<'a> View for Context<'a> {
-    ghost use Rattle.do_machine.specs.Packing.{seen_by};
-    ghost use Rattle.do_rules.specs.Judged.{step_of};
+/// A node as a packer.
+#[derive(Drop)]
+pub(crate) struct Packer<'a, N> {
+    pub(crate) basis: &'a N,
+}
 
-    ghost sees = { λ c. seen_by (step_of c) };
+impl<'a, N: Basis> View for Packer<'a, N> {
+    ghost use Rattle.do_machine.specs.Packing.{seen_by};
+
+    ghost sees = { λ p. seen_by (N.context p.basis.now) };
 
     fn class_of(&self, oid: Oid) -> Option<ClassId> {
-        self.class_seen(&oid)
+        class_seen(self.basis, &oid)
     }
 
     fn slots(&self, oid: Oid) -> Option<&Values> {
         let home = oid.node;
-        if home != self.node.port {
+        if home != self.basis.port() {
             return None;
         }
-        match stored(self.node.heap.get(), oid.serial) {
-            Some(stored) => Some(&stored.slots),
-            None => None,
-        }
+        self.basis.own_slots(oid.serial)
     }
 
     fn usable(&self, oid: Oid) -> bool {
-        is_known(self.node, &oid) && is_open(self.node, oid.node)
+        self.basis.is_known(&oid) && self.basis.is_open(oid.node)
     }
 }

@@ -1,15 +1,16 @@
 //! What becomes of each act of an invocation.
 ghost use Rattle.std.specs.Prelude.{◌≡◌, IfOk};
-ghost use Rattle.do_machine.specs.run.Acts.{act_rule, port_of, return_rule, root_rule, vend_rule};
+ghost use Rattle.do_machine.specs.run.Acts.{act_rule, port_of, return_rule, root_rule};
+ghost use Rattle.do_machine.specs.run.Acts.{root_value, vend_rule};
 ghost use Rattle.do_machine.specs.run.Send.{outs_of};
-ghost use Rattle.do_rules.specs.Judged.{run_of};
+ghost use Rattle.do_rules.specs.Judged.{turn_in};
 
-use crate::judged::Run;
+use crate::basis::Basis;
+use crate::judged::Turn;
 use crate::node::methods::signature_of;
-use crate::node::{is_open, root_value};
 use crate::run::answers::values_in;
 use crate::run::arguments::{outs_of, outs_take};
-use do_base::{Exc, Locals, NodeId, Value, Values};
+use do_base::{Exc, Locals, NodeId, Oid, Value, Values};
 use do_behave::Act;
 use do_machine::{Request, SendAct, Verdict};
 use do_sig::Signature;
@@ -25,46 +26,61 @@ fn node_id(number: i64) -> Option<NodeId>
     }
 }
 
-impl<'a> Run<'a> {
+/// A node's root, or nil.
+fn root_value<N: Basis>(basis: &N) -> Value
+    ensures { result ≡ root_value (N.context basis.now).node }
+{
+    match basis.root() {
+        None => Value::Nil,
+        Some(serial) => Value::Obj(Oid {
+            node: basis.port(),
+            serial,
+        }),
+    }
+}
+
+impl<'a, N: Basis> Turn<'a, N> {
     /// The root of a node: the own one is there at once, and another is asked for over an open end.
     fn root_rule(&self, port: &Value, into: u8, pc: u32) -> Verdict
-        ensures { result ≡ root_rule (run_of self.now) port.now into pc }
+        ensures { result ≡ root_rule
+            (turn_in (N.context self.now.basis.now) self.now.top.now) port.now into pc }
     {
-        let node = self.context.node;
         let Value::Num(number) = port else {
             return Verdict::Fails(Exc::TypeFault);
         };
         let Some(peer) = node_id(*number) else {
             return Verdict::Fails(Exc::ConnectionDied);
         };
-        if peer == node.port {
+        let basis = self.basis;
+        if peer == basis.port() {
             return Verdict::Goes {
                 into,
-                value: root_value(node),
+                value: root_value(basis),
                 pc,
             };
         }
-        if !is_open(node, peer) {
+        if !basis.is_open(peer) {
             return Verdict::Fails(Exc::ConnectionDied);
         }
         Verdict::Asks {
             peer,
             request: Request::Root,
             into,
-            outs: Locals::new(node.stack.allocator()),
+            outs: Locals::new(basis.allocator()),
             pc,
         }
     }
 
     /// An own object or nil becomes the root.
     fn vend_rule(&self, value: &Value, pc: u32) -> Verdict
-        ensures { result ≡ vend_rule (run_of self.now) value.now pc }
+        ensures { result ≡ vend_rule
+            (turn_in (N.context self.now.basis.now) self.now.top.now) value.now pc }
     {
         match value {
             Value::Nil => Verdict::Vends { root: None, pc },
             Value::Obj(object) => {
                 let home = object.node;
-                if home == self.context.node.port {
+                if home == self.basis.port() {
                     Verdict::Vends {
                         root: Some(object.serial),
                         pc,
@@ -87,9 +103,10 @@ impl<'a> Run<'a> {
 
     /// What is returned fits the result, if that is not void, and what comes out fits.
     fn return_rule(&self, value: Value) -> Result<Verdict, AllocError>
-        ensures { IfOk result (λ v. v ≡ return_rule (run_of self.now) value) }
+        ensures { IfOk result (λ v. v ≡ return_rule
+            (turn_in (N.context self.now.basis.now) self.now.top.now) value) }
     {
-        let Some(signature) = signature_of(self.context.table, self.top.method) else {
+        let Some(signature) = signature_of(self.basis.table(), self.top.method) else {
             return Ok(Verdict::Fails(Exc::TypeFault));
         };
         let void = signature.result_is_void();
@@ -110,8 +127,9 @@ impl<'a> Run<'a> {
     }
 
     /// What becomes of the next act.
-    pub(crate) fn act_rule(&self, act: Act) -> Result<Verdict, AllocError>
-        ensures { IfOk result (λ v. v ≡ act_rule (run_of self.now) act) }
+    pub fn act_rule(&self, act: Act) -> Result<Verdict, AllocError>
+        ensures { IfOk result (λ v. v ≡ act_rule
+            (turn_in (N.context self.now.basis.now) self.now.top.now) act) }
     {
         match act {
             Act::Step {

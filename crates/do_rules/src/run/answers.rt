@@ -1,21 +1,20 @@
-//! How an answer leaves its node.
-ghost use Rattle.std.specs.Prelude.{◌≡◌, IfOk, OnOk};
+//! Where the answer of an invocation goes, and as what.
+ghost use Rattle.std.specs.Prelude.{◌≡◌, IfOk};
 ghost use Rattle.std.specs.Option.{option_copied};
-ghost use Rattle.do_machine.specs.run.Answers.{answer_line, answer_marks, exc_name, oneway_answer};
-ghost use Rattle.do_machine.specs.run.Answers.{answer_placed, replying};
+ghost use Rattle.do_machine.specs.run.Answers.{answer_line, answer_marks, answer_placed, exc_name};
 ghost use Rattle.do_machine.specs.Packing.{packed_for};
-ghost use Rattle.do_rules.specs.Doing.{and_then};
-ghost use Rattle.do_rules.specs.Judged.{run_of};
+ghost use Rattle.do_rules.specs.Delivery.{delivery_of, oneway_of, reply_by, reply_of};
+ghost use Rattle.do_rules.specs.Judged.{turn_in};
 
-use crate::effect::{Done, given, queue, show};
-use crate::judged::Run;
-use crate::lend::lending::lend;
+use crate::basis::Basis;
+use crate::judged::Turn;
 use crate::node::methods::signature_of;
+use crate::packing::packed_for;
 use crate::run::arguments::{copy_marks, outs_of};
+use crate::run::delivery::Delivery;
 use do_base::{Exc, Flags, NodeId, Shown, Text, Value, Values, copy_value};
-use do_behave::{Answer, Frame};
+use do_behave::{Answer, Frame, Reason};
 use do_class::Packet;
-use do_machine::{Effect, Item};
 use do_sig::Signature;
 use std::alloc::{AllocError, Global};
 
@@ -31,7 +30,7 @@ pub(crate) fn values_in(locals: &Frame) -> Result<Values, AllocError>
 }
 
 /// The name of an exception, as a handler gets it.
-pub(crate) fn exc_name(alloc: Global, exc: &Exc) -> Result<Text, AllocError>
+pub fn exc_name(alloc: Global, exc: &Exc) -> Result<Text, AllocError>
     ensures { IfOk result (λ text. text ≡ exc_name exc.now) }
 {
     match exc {
@@ -48,7 +47,7 @@ pub(crate) fn exc_name(alloc: Global, exc: &Exc) -> Result<Text, AllocError>
 }
 
 /// How the answer to a start is shown.
-pub(crate) fn answer_line(answer: Answer) -> Shown
+fn answer_line(answer: Answer) -> Shown
     ensures { result ≡ answer_line answer }
 {
     match answer {
@@ -57,13 +56,15 @@ pub(crate) fn answer_line(answer: Answer) -> Shown
     }
 }
 
-/// The answer to a oneway message is dropped, but an exception is shown.
-pub(crate) fn drop_answer(effect: &mut Effect, answer: Answer) -> Done
-    ensures { OnOk result (effect.new ≡ and_then effect.old (oneway_answer answer)) }
+/// Where the answer to a oneway message goes: nobody waits for it, but an exception is shown.
+fn oneway_delivery(answer: Answer) -> Delivery
+    ensures { result ≡ oneway_of answer }
 {
     match answer {
-        Answer::Given { .. } => Ok(()),
-        Answer::Raised(exc) => show(effect, Shown::Raise(exc)),
+        Answer::Given { .. } => Delivery::Drops,
+        Answer::Raised(exc) => Delivery::Shows {
+            line: Shown::Raise(exc),
+        },
     }
 }
 
@@ -80,7 +81,25 @@ fn answer_marks(alloc: Global, signature: Option<&Signature>) -> Result<Flags, A
     Ok(flags)
 }
 
-impl<'a> Run<'a> {
+/// Where the message of an answer goes: one that is too large is an exception.
+fn reply_by(peer: NodeId, number: u64, packet: Option<Packet>) -> Delivery
+    ensures { result ≡ reply_by peer number packet }
+{
+    match packet {
+        Some(packet) => Delivery::Replies {
+            peer,
+            number,
+            packet,
+        },
+        None => Delivery::Raises {
+            peer,
+            number,
+            exc: Exc::TooLarge,
+        },
+    }
+}
+
+impl<'a, N: Basis> Turn<'a, N> {
     /// A result and out values as a message to a peer, if they are not too large.
     fn answer_packet(
         &self,
@@ -88,41 +107,51 @@ impl<'a> Run<'a> {
         given: Value,
         outs: Values,
     ) -> Result<Option<Packet>, AllocError>
-        ensures { IfOk result (λ packet. packet ≡ packed_for (run_of self.now).context peer
-            (answer_placed (run_of self.now) given outs)) }
+        ensures { IfOk result (λ packet. packet ≡ packed_for (N.context self.now.basis.now) peer
+            (answer_placed (turn_in (N.context self.now.basis.now) self.now.top.now)
+            given outs)) }
     {
-        let signature = signature_of(self.context.table, self.top.method);
+        let basis = self.basis;
+        let signature = signature_of(basis.table(), self.top.method);
         let mut values = outs;
         values.insert(0, given)?;
         let marks = answer_marks(values.allocator(), signature)?;
-        self.context.packed_for(peer, marks, values)
+        packed_for(basis, peer, marks, values)
     }
 
-    /// An answer goes back to the peer that waits for it; a result that is too large is an
-    /// exception.
-    pub(crate) fn reply(
-        &self,
-        effect: &mut Effect,
-        peer: NodeId,
-        number: u64,
-        answer: Answer,
-    ) -> Done
-        ensures { OnOk result (effect.new
-            ≡ and_then effect.old (replying (run_of self.now) peer number answer)) }
+    /// Where an answer goes that a peer waits for.
+    fn reply(&self, peer: NodeId, number: u64, answer: Answer) -> Result<Delivery, AllocError>
+        ensures { IfOk result (λ d. d ≡ reply_of
+            (turn_in (N.context self.now.basis.now) self.now.top.now) peer number answer) }
     {
         match answer {
-            Answer::Raised(exc) => queue(effect, peer, Item::Raised { number, exc }),
-            Answer::Given { result, outs } => match self.answer_packet(peer, result, outs)? {
-                Some(packet) => {
-                    let done = lend(&mut effect.node, peer, &packet);
-                    let packet = given(packet, done)?;
-                    queue(effect, peer, Item::Reply { number, packet })
+            Answer::Raised(exc) => Ok(Delivery::Raises { peer, number, exc }),
+            Answer::Given { result, outs } => {
+                let packet = self.answer_packet(peer, result, outs)?;
+                Ok(reply_by(peer, number, packet))
+            }
+        }
+    }
+
+    /// Where the answer of the invocation goes, by why it was begun. Nothing is changed by it.
+    pub fn delivery(&self, answer: Answer) -> Result<Delivery, AllocError>
+        ensures { IfOk result (λ d. d ≡ delivery_of
+            (turn_in (N.context self.now.basis.now) self.now.top.now) answer
+            self.now.top.now.reason) }
+    {
+        match self.top.reason {
+            Reason::Start => Ok(Delivery::Shows {
+                line: answer_line(answer),
+            }),
+            Reason::Local => Ok(Delivery::Answers { answer }),
+            Reason::Oneway { .. } => Ok(oneway_delivery(answer)),
+            Reason::Call { peer, number } => {
+                if self.basis.is_open(peer) {
+                    self.reply(peer, number, answer)
+                } else {
+                    Ok(Delivery::Drops)
                 }
-                None => {
-                    let exc = Exc::TooLarge;
-                    queue(effect, peer, Item::Raised { number, exc })
-                }
-            },
+            }
         }
     }
 }

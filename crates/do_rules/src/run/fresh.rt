@@ -49,7 +49,7 @@ fn first_locals(values: &Values) -> Result<Frame, AllocError>
 }
 
 /// An invocation of an own object, with these values in its first locals and nil in the others.
-fn fresh(
+pub(crate) fn fresh(
     object: Oid,
     method: MethodId,
     reason: Reason,

@@ -1,118 +1,68 @@
 //! The next act of the top invocation, and what a run does.
-ghost use Rattle.std.specs.Prelude.{◌≡◌, ◌∷◌, [], IfOk, option_map};
-ghost use Rattle.do_behave.specs.Changes.{IsFitting, meaning, with_set};
-ghost use Rattle.do_machine.specs.run.Run.{answer_rule, next_act, run_effect, slots_seen};
-ghost use Rattle.do_machine.specs.run.Run.{state_rule};
-ghost use Rattle.do_machine.specs.State.{stored};
+ghost use Rattle.std.specs.Prelude.{◌≡◌, IfOk, option_map};
+ghost use Rattle.do_behave.specs.Changes.{IsFitting, Means, meaning};
+ghost use Rattle.do_machine.specs.run.Run.{answer_rule, next_act, run_effect, state_rule};
 ghost use Rattle.do_machine.specs.run.Verdicts.{effect_of};
-ghost use Rattle.do_rules.specs.Judged.{run_of, step_of};
+ghost use Rattle.do_rules.specs.Judged.{run_of, step_of, turn_in};
+ghost use Rattle.do_rules.specs.Writing.{done_by, writing};
 
-use crate::effect::given;
-use crate::judged::{Context, Run};
-use crate::lists::with_item;
-use crate::node::stored;
-use do_base::{Items, Value, Values, copy_value};
-use do_behave::{
-    Act, Answer, Behaviour, Change, Frame, Handler, Held, InvState, Invocation, LocalSet, Write,
-    Writes,
-};
+use crate::basis::Basis;
+use crate::judged::{Context, Run, Turn};
+use do_base::{Value, Values};
+use do_behave::{Act, Answer, Behaviour, Change, InvState, Invocation, Write, Writes, make_change};
 use do_machine::{Effect, Verdict};
 use std::alloc::AllocError;
-use std::mem;
 
-/// Locals after these are set, in order.
-fn with_set(locals: Frame, sets: &[LocalSet]) -> Result<Frame, AllocError>
-    ensures { IfOk result (λ vs. vs ≡ with_set locals sets.now) }
+/// The act that was done to an invocation, by the one after it and what is left to do: where nothing
+/// is left it was a step, which writes these slots.
+fn done_by(after: Invocation, left: Option<Act>, writes: Writes) -> Act
+    ensures { result ≡ done_by writes after left }
 {
-    let [first, rest @ ..] = sets else {
-        return Ok(locals);
-    };
-    let held = Held::new(copy_value(&first.value)?);
-    with_set(with_item(locals, first.local as usize, held), rest)
+    match left {
+        Some(act) => act,
+        None => {
+            let Invocation {
+                pc,
+                locals,
+                handler,
+                ..
+            } = after;
+            Act::Step {
+                pc,
+                locals,
+                handler,
+                writes,
+            }
+        }
+    }
 }
 
-/// A step to a place, which sets these locals and this handler, and writes no slot.
-fn plain_step(handler: Option<Handler>, locals: Frame, pc: u32) -> Act
-    ensures { result ≡ Act.Step pc locals handler [] }
+/// The step that a change of an invocation is, but that it writes these slots: what the change makes
+/// of a copy.
+fn step_by(inv: &Invocation, change: Change, writes: Writes) -> Result<Act, AllocError>
+    requires { IsFitting inv.now change }
+    ensures { IfOk result (λ act. act ≡ writing writes (meaning inv.now change)) }
 {
-    Act::Step {
-        pc,
-        handler,
-        writes: Writes::new(locals.allocator()),
-        locals,
-    }
+    let Ok(mut next) = inv.clone() else {
+        drop(change);
+        drop(writes);
+        return Err(AllocError);
+    };
+    let mut no_slots = Values::new(inv.locals.allocator());
+    let Ok(left) = make_change(&mut next, &mut no_slots, change) else {
+        drop(writes);
+        return Err(AllocError);
+    };
+    Ok(done_by(next, left, writes))
 }
 
 /// A step to a place, which sets no local, keeps the handler and writes one slot.
 fn slot_step(inv: &Invocation, slot: usize, value: Value, pc: u32) -> Result<Act, AllocError>
-    ensures { IfOk result (λ act. act ≡ Act.Step pc inv.now.locals inv.now.handler
-        (record { slot = slot; value = value } ∷ [])) }
+    ensures { IfOk result (λ act. act ≡ meaning inv.now (Change.Slot slot value pc)) }
 {
     let mut writes = Writes::new(inv.locals.allocator());
     writes.push(Write { slot, value })?;
-    Ok(Act::Step {
-        pc,
-        locals: inv.locals.clone()?,
-        handler: inv.handler,
-        writes,
-    })
-}
-
-/// A step to a place, which sets one local.
-fn local_step(inv: &Invocation, into: u8, value: Value, pc: u32) -> Result<Act, AllocError>
-    ensures { IfOk result (λ act. act ≡ meaning inv.now (Change.Local into value pc)) }
-{
-    let locals = with_item(inv.locals.clone()?, into as usize, Held::new(value));
-    Ok(plain_step(inv.handler, locals, pc))
-}
-
-/// A step to a place, which appends an item to the list in a local.
-fn push_step(
-    inv: &Invocation,
-    list: u8,
-    item: Value,
-    weight: u64,
-    pc: u32,
-) -> Result<Act, AllocError>
-    requires { IsFitting inv.now (Change.Push list item weight pc) }
-    ensures { IfOk result (λ act. act ≡ meaning inv.now (Change.Push list item weight pc)) }
-{
-    let Ok(mut next) = inv.clone() else {
-        drop(item);
-        return Err(AllocError);
-    };
-    let done = next.push_item(list, item, weight, pc);
-    let mut next = given(next, done)?;
-    let locals = mem::replace(&mut next.locals, Frame::new(inv.locals.allocator()));
-    Ok(plain_step(inv.handler, locals, pc))
-}
-
-/// A step to a place, which keeps the locals.
-fn jump(inv: &Invocation, handler: Option<Handler>, pc: u32) -> Result<Act, AllocError>
-    ensures { IfOk result (λ act. act ≡ Act.Step pc inv.now.locals handler []) }
-{
-    let locals = inv.locals.clone()?;
-    Ok(plain_step(handler, locals, pc))
-}
-
-/// A step to a place, which sets locals and the handler, and writes slots.
-fn wide_step(
-    inv: &Invocation,
-    sets: &[LocalSet],
-    handler: Option<Handler>,
-    writes: Writes,
-    pc: u32,
-) -> Result<Act, AllocError>
-    ensures { IfOk result (λ act.
-        act ≡ Act.Step pc (with_set inv.now.locals sets.now) handler writes) }
-{
-    let locals = with_set(inv.locals.clone()?, sets)?;
-    Ok(Act::Step {
-        pc,
-        locals,
-        handler,
-        writes,
-    })
+    step_by(inv, Change::Goto { pc }, writes)
 }
 
 /// The act that a change of an invocation is.
@@ -120,23 +70,40 @@ fn act_of(inv: &Invocation, change: Change) -> Result<Act, AllocError>
     requires { IsFitting inv.now change }
     ensures { IfOk result (λ act. act ≡ meaning inv.now change) }
 {
+    let none = Writes::new(inv.locals.allocator());
     match change {
-        Change::Local { into, value, pc } => local_step(inv, into, value, pc),
+        Change::Local { into, value, pc } => step_by(inv, Change::Local { into, value, pc }, none),
         Change::Push {
             list,
             item,
             weight,
             pc,
-        } => push_step(inv, list, item, weight, pc),
-        Change::Goto { pc } => jump(inv, inv.handler, pc),
+        } => {
+            let push = Change::Push {
+                list,
+                item,
+                weight,
+                pc,
+            };
+            step_by(inv, push, none)
+        }
+        Change::Goto { pc } => step_by(inv, Change::Goto { pc }, none),
         Change::Slot { slot, value, pc } => slot_step(inv, slot, value, pc),
         Change::Slots {
             sets,
             handler,
             writes,
             pc,
-        } => wide_step(inv, sets.as_slice(), handler, writes, pc),
-        Change::Handler { handler, pc } => jump(inv, handler, pc),
+        } => {
+            let sets = Change::Slots {
+                sets,
+                handler,
+                writes: none,
+                pc,
+            };
+            step_by(inv, sets, writes)
+        }
+        Change::Handler { handler, pc } => step_by(inv, Change::Handler { handler, pc }, none),
         Change::Other(act) => Ok(act),
     }
 }
@@ -154,44 +121,63 @@ fn answer_rule(answer: &Answer) -> Result<Verdict, AllocError>
     }
 }
 
-impl<'a> Run<'a> {
-    /// The slots of the object of the top invocation; one that is not stored has none.
-    fn slots_seen(&self) -> Result<Values, AllocError>
-        ensures { IfOk result (λ vs. vs ≡ slots_seen
-            (stored (run_of self.now).top.object.serial (run_of self.now).context.node.heap)) }
+impl<'a, N: Basis> Turn<'a, N> {
+    /// The next act of the invocation, as the one change that it makes. One whose object is not
+    /// stored is shown no slots.
+    pub fn next_change<B: Behaviour>(&self, behaviour: &B) -> Result<Change, AllocError>
+        ensures { IfOk result (λ change. Means self.now.top.now change
+            (next_act (B.act behaviour.now)
+            (turn_in (N.context self.now.basis.now) self.now.top.now))) }
     {
+        let basis = self.basis;
         let object = &self.top.object;
-        match stored(self.context.node.heap.get(), object.serial) {
-            Some(stored) => stored.slots.clone(),
-            None => Ok(Values::new(self.context.node.stack.allocator())),
+        match basis.own_slots(object.serial) {
+            Some(slots) => behaviour.act(basis.table(), self.top, slots),
+            None => {
+                let none = Values::new(basis.allocator());
+                behaviour.act(basis.table(), self.top, &none)
+            }
         }
     }
 
-    /// The next act of the top invocation.
+    /// The next act of the invocation.
     fn next_act<B: Behaviour>(&self, behaviour: &B) -> Result<Act, AllocError>
-        ensures { IfOk result (λ a. a ≡ next_act (B.act behaviour.now) (run_of self.now)) }
+        ensures { IfOk result (λ a. a ≡ next_act (B.act behaviour.now)
+            (turn_in (N.context self.now.basis.now) self.now.top.now)) }
     {
-        let slots = self.slots_seen()?;
-        let change = behaviour.act(self.context.table, self.top, &slots)?;
+        let change = self.next_change(behaviour)?;
         act_of(self.top, change)
     }
 
+    /// What becomes of the invocation, where it can act.
+    pub fn verdict<B: Behaviour>(&self, behaviour: &B) -> Result<Option<Verdict>, AllocError>
+        ensures { IfOk result (λ v. v ≡ state_rule (B.act behaviour.now)
+            (turn_in (N.context self.now.basis.now) self.now.top.now) self.now.top.now.state) }
+    {
+        match &self.top.state {
+            InvState::Running => {
+                let act = self.next_act(behaviour)?;
+                Ok(Some(self.act_rule(act)?))
+            }
+            InvState::Answered(answer) => Ok(Some(answer_rule(answer)?)),
+            InvState::Below | InvState::Waits { .. } => Ok(None),
+        }
+    }
+}
+
+impl<'a> Run<'a> {
     /// What the top invocation does, where it can act.
     fn effect<B: Behaviour>(&self, behaviour: &B) -> Result<Option<Effect>, AllocError>
         ensures { IfOk result (λ e. e ≡ option_map (effect_of (run_of self.now))
             (state_rule (B.act behaviour.now) (run_of self.now) (run_of self.now).top.state)) }
     {
-        match &self.top.state {
-            InvState::Running => {
-                let act = self.next_act(behaviour)?;
-                let verdict = self.act_rule(act)?;
-                Ok(Some(self.effect_of(verdict)?))
-            }
-            InvState::Answered(answer) => {
-                let verdict = answer_rule(answer)?;
-                Ok(Some(self.effect_of(verdict)?))
-            }
-            InvState::Below | InvState::Waits { .. } => Ok(None),
+        let turn = Turn {
+            basis: &self.context,
+            top: self.top,
+        };
+        match turn.verdict(behaviour)? {
+            Some(verdict) => Ok(Some(self.effect_of(verdict)?)),
+            None => Ok(None),
         }
     }
 }

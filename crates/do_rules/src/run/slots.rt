@@ -6,7 +6,7 @@ ghost use Rattle.do_machine.specs.run.Changes.{with_slots, with_writes};
 
 use crate::effect::Done;
 use crate::lists::{item_at, with_item};
-use do_base::{Items, Values, copy_value};
+use do_base::{Values, copy_value};
 use do_behave::{Write, Writes};
 use do_machine::{Heap, Node, Shared, Stored};
 use std::alloc::AllocError;

@@ -235,7 +235,7 @@ impl<'a> Run<'a> {
                     result: value,
                     outs,
                 };
-                self.deliver(effect, answer, &self.top.reason)
+                self.deliver(effect, answer)
             }
             Verdict::Fails(exc) => self.fails(effect, exc, self.top.handler),
         }

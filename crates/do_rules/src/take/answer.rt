@@ -1,11 +1,9 @@
 //! What came as the answer to a call, as the answer that its invocation uses.
 ghost use Rattle.std.specs.Prelude.{◌≡◌, IfOk};
 ghost use Rattle.do_machine.specs.take.Awaiting.{method_answer, values_answer};
-ghost use Rattle.do_rules.specs.Answering.{answer_by};
 
 use crate::node::methods::signature_of;
 use crate::run::arguments::outs_take;
-use crate::take::awaiting::Came;
 use do_base::{Exc, Value, Values, copy_value};
 use do_behave::{Answer, Waited};
 use do_class::ClassTable;
@@ -33,7 +31,11 @@ fn method_answer(
 }
 
 /// What values are as an answer.
-fn values_answer(table: &ClassTable, values: &Values, what: Waited) -> Result<Answer, AllocError>
+pub(crate) fn values_answer(
+    table: &ClassTable,
+    values: &Values,
+    what: Waited,
+) -> Result<Answer, AllocError>
     ensures { IfOk result (λ a. a ≡ values_answer table.now values.now what) }
 {
     match what {
@@ -55,19 +57,5 @@ fn values_answer(table: &ClassTable, values: &Values, what: Waited) -> Result<An
                 outs: Values::new(values.allocator()),
             })
         }
-    }
-}
-
-/// What came, as an answer to what was asked for.
-pub(crate) fn answer_by(
-    table: &ClassTable,
-    came: Came<'_>,
-    what: Waited,
-) -> Result<Answer, AllocError>
-    ensures { IfOk result (λ a. a ≡ answer_by table.now came.entry what) }
-{
-    match came {
-        Came::Values(values) => values_answer(table, values, what),
-        Came::Raised(exc) => Ok(Answer::Raised(exc.clone()?)),
     }
 }

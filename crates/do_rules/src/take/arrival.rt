@@ -1,114 +1,109 @@
-//! What an item comes to at the node that takes it.
+//! What the ruling on an item does to the node that takes it.
 ghost use Rattle.std.specs.Prelude.{◌≡◌, IfOk, OnOk};
 ghost use Rattle.do_machine.specs.Effect.{only};
-ghost use Rattle.do_machine.specs.take.Receipt.{received};
-ghost use Rattle.do_machine.specs.take.Requests.{request};
-ghost use Rattle.do_machine.specs.take.Take.{arrival, take_effect, values_arrival};
+ghost use Rattle.do_machine.specs.take.Take.{take_effect};
 ghost use Rattle.do_rules.specs.Doing.{and_then};
 ghost use Rattle.do_rules.specs.Judged.{step_of};
+ghost use Rattle.do_rules.specs.Ruling.{ruled};
 
 use crate::effect::{Done, given, queue, show, unchanged};
 use crate::ends::closing::close;
 use crate::judged::Context;
-use crate::lend::asking::{end_ask, grant};
+use crate::lend::asking::end_ask;
 use crate::lend::lending::end_lend;
-use crate::take::awaiting::{Answered, Came, answer};
+use crate::take::awaiting::{Answered, give_answer};
 use crate::take::holding::hold;
+use crate::take::judging::ruling;
 use crate::take::lines::item_line;
-use do_base::{NodeId, Shown};
-use do_behave::Reason;
-use do_class::Packet;
-use do_machine::{Effect, Item, Message};
+use crate::take::messages::{gain, refuse};
+use crate::take::ruling::Ruling;
+use do_base::{Exc, NodeId, Shown};
+use do_behave::{Answer, Invocation, Reason};
+use do_machine::{Effect, Item};
+use do_packet::ObjList;
 use std::alloc::AllocError;
 
-impl<'a> Context<'a> {
-    /// A message is received, and then refused or invokes its method.
-    fn receive_message(
-        &self,
-        effect: &mut Effect,
-        from: NodeId,
-        reason: Reason,
-        message: &Message,
-    ) -> Done
-        ensures { OnOk result (effect.new ≡ and_then effect.old
-            (received (step_of self.now) from message.now.packet
-            (request (step_of self.now) from reason message.now))) }
-    {
-        let values = self.receive(effect, from, &message.packet)?;
-        self.request(effect, from, reason, message, &values)?;
-        Ok(())
-    }
+/// A message is received, and its method begins.
+fn begins(
+    effect: &mut Effect,
+    from: NodeId,
+    item: &Item,
+    copies: &ObjList,
+    invocation: Invocation,
+) -> Done
+    ensures { OnOk result (effect.new ≡ and_then effect.old
+        (ruled from item.now (Ruling.Begins copies.now invocation))) }
+{
+    let invocation = given(invocation, gain(effect, from, item, copies))?;
+    effect.node.stack.insert(0, invocation)
+}
 
-    /// A message is received, and its values come as the answer to a call.
-    fn receive_answer(
-        &self,
-        effect: &mut Effect,
-        from: NodeId,
-        number: u64,
-        root: bool,
-        packet: &Packet,
-    ) -> Done
-        ensures { OnOk result (effect.new ≡ and_then effect.old
-            (received (step_of self.now) from packet.now (values_arrival (step_of self.now)
-            (record { peer = from; number = number; root = root })))) }
-    {
-        let call = Answered {
-            peer: from,
-            number,
-            root,
-        };
-        let values = self.receive(effect, from, packet)?;
-        answer(&mut effect.node, self.table, &call, Came::Values(&values))
-    }
+/// A message is received, and refused.
+fn refuses(
+    effect: &mut Effect,
+    from: NodeId,
+    item: &Item,
+    copies: &ObjList,
+    reason: Reason,
+    exc: Exc,
+) -> Done
+    ensures { OnOk result (effect.new ≡ and_then effect.old
+        (ruled from item.now (Ruling.Refuses copies.now reason exc))) }
+{
+    let exc = given(exc, gain(effect, from, item, copies))?;
+    refuse(effect, exc, reason)
+}
 
-    /// What an item comes to at the node that takes it.
-    fn arrives(&self, effect: &mut Effect, from: NodeId, item: &Item) -> Done
-        ensures { OnOk result (effect.new
-            ≡ and_then effect.old (arrival (step_of self.now) from item.now)) }
-    {
-        match item {
-            Item::Call { number, message } => {
-                let reason = Reason::Call {
-                    peer: from,
-                    number: *number,
-                };
-                self.receive_message(effect, from, reason, message)
-            }
-            Item::Oneway { message } => {
-                self.receive_message(effect, from, Reason::Oneway { peer: from }, message)
-            }
-            Item::Reply { number, packet } => {
-                self.receive_answer(effect, from, *number, false, packet)
-            }
-            Item::Raised { number, exc } => {
-                let call = Answered {
-                    peer: from,
-                    number: *number,
-                    root: false,
-                };
-                answer(&mut effect.node, self.table, &call, Came::Raised(exc))
-            }
-            Item::RootAsk { number } => {
-                let (number, packet) = (*number, self.root_packet(from)?);
-                queue(effect, from, Item::RootAnswer { number, packet })
-            }
-            Item::RootAnswer { number, packet } => {
-                self.receive_answer(effect, from, *number, true, packet)
-            }
-            Item::Ask { serial, token } => grant(effect, from, *serial, *token),
-            Item::Granted { serial, token } => end_ask(effect, from, *serial, *token),
-            Item::Gone { serial, token } => end_ask(effect, from, *serial, *token),
-            Item::Left { .. } => Ok(()),
-            Item::Settled { number } => {
-                end_lend(&mut effect.node, from, *number);
-                Ok(())
-            }
-            Item::End { .. } => close(effect, from),
+/// A message is received, and the invocation that waits for it has its answer.
+fn answers(
+    effect: &mut Effect,
+    from: NodeId,
+    item: &Item,
+    copies: &ObjList,
+    call: &Answered,
+    answer: Option<Answer>,
+) -> Done
+    ensures { OnOk result (effect.new ≡ and_then effect.old
+        (ruled from item.now (Ruling.Answers copies.now call.now answer))) }
+{
+    let answer = given(answer, gain(effect, from, item, copies))?;
+    give_answer(&mut effect.node, call, answer);
+    Ok(())
+}
+
+/// What the ruling on an item does.
+fn carry_out(effect: &mut Effect, from: NodeId, item: &Item, ruling: Ruling) -> Done
+    ensures { OnOk result (effect.new ≡ and_then effect.old (ruled from item.now ruling)) }
+{
+    match ruling {
+        Ruling::Begins { copies, invocation } => begins(effect, from, item, &copies, invocation),
+        Ruling::Refuses {
+            copies,
+            reason,
+            exc,
+        } => refuses(effect, from, item, &copies, reason, exc),
+        Ruling::Answers {
+            copies,
+            call,
+            answer,
+        } => answers(effect, from, item, &copies, &call, answer),
+        Ruling::Raises { call, exc } => {
+            give_answer(&mut effect.node, &call, Some(Answer::Raised(exc)));
+            Ok(())
         }
+        Ruling::Replies { item } => queue(effect, from, item),
+        Ruling::EndsAsk { wanted } => end_ask(effect, &wanted),
+        Ruling::EndsLend { number } => {
+            end_lend(&mut effect.node, from, number);
+            Ok(())
+        }
+        Ruling::Closes => close(effect, from),
+        Ruling::Stays => Ok(()),
     }
+}
 
+impl<'a> Context<'a> {
     /// The item is shown, the node holds what it exports, and then it does what it comes to.
-    #[tactic(auto, using(crate::proofs::Exports::all_exports))]
     fn take(&self, effect: &mut Effect, from: NodeId, item: &Item) -> Done
         requires { effect.old ≡ only self.now.node.now }
         ensures { OnOk result (effect.new ≡ take_effect (step_of self.now) from item.now) }
@@ -116,7 +111,8 @@ impl<'a> Context<'a> {
         let line = item_line(from, self.node.port, item)?;
         show(effect, Shown::Took(line))?;
         hold(&mut effect.node, from, item)?;
-        self.arrives(effect, from, item)
+        let ruling = ruling(self, from, item)?;
+        carry_out(effect, from, item, ruling)
     }
 
     /// The item is shown, the node holds what it exports, and then it does what it comes to.

@@ -1,35 +1,26 @@
 //! What an answer is to the invocation that waits for it.
-ghost use Rattle.std.specs.Prelude.{◌≡◌, ◌<◌, IfOk, IfSome, OnOk, length, position};
+ghost use Rattle.std.specs.Prelude.{◌≡◌, ◌<◌, IfSome, length, position};
 ghost use Rattle.do_machine.specs.Effect.{only};
-ghost use Rattle.do_machine.specs.take.Awaiting.{answering, awaits, is_answered};
+ghost use Rattle.do_machine.specs.take.Awaiting.{awaits, is_answered};
 ghost use Rattle.do_machine.specs.take.Awaiting.{is_for_root, stack_answered};
 ghost use Rattle.do_machine.specs.take.Awaiting.{with_answer};
-ghost use Rattle.do_rules.specs.Answering.{answer_by, call_of};
+ghost use Rattle.do_rules.specs.Answering.{asked_by, awaited_in, call_of};
+ghost use Rattle.do_rules.specs.Ruling.{answering_with};
 
-use crate::effect::Done;
 use crate::lists::{Test, keep};
-use crate::take::answer::answer_by;
-use do_base::{Exc, Items, NodeId, Values};
-use do_behave::{InvState, Invocation, Waited};
-use do_class::ClassTable;
+use do_base::{Items, NodeId};
+use do_behave::{Answer, InvState, Invocation, Waited};
 use do_machine::{LateCall, Node};
 
-/// A call, as its answer names it: the peer that answers, the number, and whether it was for a
-/// root.
+/// A call, as its answer names it.
 #[derive(Clone, Copy)]
-pub(crate) struct Answered {
-    pub(crate) peer: NodeId,
-    pub(crate) number: u64,
-    pub(crate) root: bool,
-}
-
-/// What came as the answer to a call.
-#[derive(Clone, Copy)]
-pub(crate) enum Came<'a> {
-    /// A result, and what comes out.
-    Values(&'a Values),
-    /// An exception.
-    Raised(&'a Exc),
+pub struct Answered {
+    /// The peer that was asked, and answers.
+    pub peer: NodeId,
+    /// The number of the call at the node that asked.
+    pub number: u64,
+    /// Whether the root was asked for, and no method.
+    pub root: bool,
 }
 
 /// Whether a root was asked for, and no method.
@@ -51,7 +42,7 @@ fn is_answered(call: &Answered, peer: NodeId, number: u64, what: &Waited) -> boo
 }
 
 /// Whether an invocation of this state waits for the answer.
-fn awaits(call: &Answered, state: &InvState) -> bool
+pub fn awaits(call: &Answered, state: &InvState) -> bool
     ensures { result ≡ awaits (call_of call.now) state.now }
 {
     match state {
@@ -66,17 +57,38 @@ fn awaits(call: &Answered, state: &InvState) -> bool
     }
 }
 
-/// The invocation, if it waits, has its answer, by what it asked for.
-fn have_answer(invocation: &mut Invocation, table: &ClassTable, came: Came<'_>) -> Done
-    ensures { OnOk result (invocation.new
-        ≡ with_answer (answer_by table.now came.entry) invocation.old) }
+/// What an invocation of this state asked for.
+pub fn asked_by(state: &InvState) -> Option<Waited>
+    ensures { result ≡ asked_by state.now }
 {
-    let InvState::Waits { what, .. } = &invocation.state else {
-        return Ok(());
+    match state {
+        InvState::Waits { what, .. } => Some(*what),
+        InvState::Running => None,
+        InvState::Below => None,
+        InvState::Answered(_) => None,
+    }
+}
+
+/// What the invocation that waits for an answer asked for.
+pub(crate) fn awaited_in(stack: &[Invocation], call: &Answered) -> Option<Waited>
+    ensures { result ≡ awaited_in (call_of call.now) stack.now }
+{
+    let [top, below @ ..] = stack else {
+        return None;
     };
-    let answer = answer_by(table, came, *what)?;
-    invocation.state = InvState::Answered(answer);
-    Ok(())
+    if awaits(call, &top.state) {
+        return asked_by(&top.state);
+    }
+    awaited_in(below, call)
+}
+
+/// The invocation, if it waits, has its answer.
+fn have_answer(invocation: &mut Invocation, answer: Answer)
+    ensures { invocation.new ≡ with_answer (λ what. answer) invocation.old }
+{
+    if let InvState::Waits { .. } = &invocation.state {
+        invocation.state = InvState::Answered(answer);
+    }
 }
 
 /// Where the invocation that waits for an answer stands.
@@ -92,19 +104,13 @@ fn waiting_at(stack: &Items<Invocation>, call: &Answered) -> Option<usize>
 
 /// The invocation that waits for the answer has it, wherever it stands.
 #[tactic(auto, using(crate::proofs::Sets::first_steps))]
-fn answer_waiting(
-    stack: &mut Items<Invocation>,
-    table: &ClassTable,
-    call: &Answered,
-    came: Came<'_>,
-) -> Done
-    ensures { OnOk result (stack.new ≡
-        stack_answered (call_of call.now) (answer_by table.now came.entry) stack.old) }
+fn answer_waiting(stack: &mut Items<Invocation>, call: &Answered, answer: Answer)
+    ensures { stack.new
+        ≡ stack_answered (call_of call.now) (λ what. answer) stack.old }
 {
-    let Some(at) = waiting_at(stack, call) else {
-        return Ok(());
-    };
-    have_answer(stack.at_mut(at), table, came)
+    if let Some(at) = waiting_at(stack, call) {
+        have_answer(stack.at_mut(at), answer);
+    }
 }
 
 impl Test<LateCall> for Answered {
@@ -120,12 +126,12 @@ impl Test<LateCall> for Answered {
     }
 }
 
-/// An answer goes to the invocation that waits for it, or ends a late call.
-pub(crate) fn answer(node: &mut Node, table: &ClassTable, call: &Answered, came: Came<'_>) -> Done
-    ensures { OnOk result (only node.new ≡
-        answering (call_of call.now) (answer_by table.now came.entry) node.old) }
+/// The invocation that waits for a call has its answer; where none waits, a late call is over.
+pub(crate) fn give_answer(node: &mut Node, call: &Answered, answer: Option<Answer>)
+    ensures { only node.new ≡ answering_with (call_of call.now) answer node.old }
 {
-    answer_waiting(&mut node.stack, table, call, came)?;
+    if let Some(answer) = answer {
+        answer_waiting(&mut node.stack, call, answer);
+    }
     keep(&mut node.late, call);
-    Ok(())
 }

@@ -1,23 +1,19 @@
-//! What a node does with the message of an item that it takes, and the method that it invokes.
-ghost use Rattle.std.specs.Prelude.{◌≡◌, IfOk, OnOk};
+//! What a node does with the message of an item that it takes.
+ghost use Rattle.std.specs.Prelude.{◌≡◌, OnOk};
 ghost use Rattle.do_machine.specs.Effect.{each};
-ghost use Rattle.do_machine.specs.take.Receipt.{arrived, receiving, receiving_name};
-ghost use Rattle.do_machine.specs.take.Requests.{admission, refusing, request};
+ghost use Rattle.do_machine.specs.take.Receipt.{receiving_name};
+ghost use Rattle.do_machine.specs.take.Requests.{refusing};
 ghost use Rattle.do_rules.specs.Doing.{and_then};
-ghost use Rattle.do_rules.specs.Judged.{step_of};
+ghost use Rattle.do_rules.specs.Ruling.{gaining, names_in};
 
 use crate::effect::{Done, queue, show};
-use crate::held::entered::has_entry;
-use crate::judged::Context;
 use crate::lend::asking::ask;
-use crate::node::methods::method_for;
-use crate::node::{is_full, own, own_class};
-use crate::run::fresh::{begin, store};
-use do_base::{Exc, NodeId, Shown, Token, Values};
+use crate::run::fresh::store;
+use do_base::{Exc, NodeId, Shown, Token};
 use do_behave::Reason;
-use do_class::{MethodId, Name, Packet};
-use do_machine::{Effect, Item, Message, Wanted};
-use std::alloc::AllocError;
+use do_class::Name;
+use do_machine::{Effect, Item, Wanted};
+use do_packet::ObjList;
 
 /// A name is received: an object of a third node is asked for.
 fn receive_name(effect: &mut Effect, from: NodeId, name: &Name) -> Done
@@ -52,8 +48,40 @@ fn receive_names(effect: &mut Effect, from: NodeId, names: &[Name]) -> Done
     receive_names(effect, from, rest)
 }
 
+/// The names of an item's message are received in their order.
+fn receive(effect: &mut Effect, from: NodeId, item: &Item) -> Done
+    ensures { OnOk result (effect.new
+        ≡ and_then effect.old (each (receiving_name from) (names_in item.now))) }
+{
+    match item {
+        Item::Call { message, .. } => {
+            receive_names(effect, from, message.packet.names.as_slice())
+        }
+        Item::Oneway { message } => receive_names(effect, from, message.packet.names.as_slice()),
+        Item::Reply { packet, .. } => receive_names(effect, from, packet.names.as_slice()),
+        Item::RootAnswer { packet, .. } => receive_names(effect, from, packet.names.as_slice()),
+        Item::Raised { .. } => Ok(()),
+        Item::RootAsk { .. } => Ok(()),
+        Item::Ask { .. } => Ok(()),
+        Item::Granted { .. } => Ok(()),
+        Item::Gone { .. } => Ok(()),
+        Item::Left { .. } => Ok(()),
+        Item::Settled { .. } => Ok(()),
+        Item::End { .. } => Ok(()),
+    }
+}
+
+/// Copies become objects, and the names of the item's message are received in their order.
+pub(crate) fn gain(effect: &mut Effect, from: NodeId, item: &Item, copies: &ObjList) -> Done
+    ensures { OnOk result (effect.new
+        ≡ and_then effect.old (gaining from item.now copies.now)) }
+{
+    store(&mut effect.node, copies)?;
+    receive(effect, from, item)
+}
+
 /// A call that is refused goes back as an exception, and of a oneway message that is shown.
-fn refuse(effect: &mut Effect, exc: Exc, reason: Reason) -> Done
+pub(crate) fn refuse(effect: &mut Effect, exc: Exc, reason: Reason) -> Done
     ensures { OnOk result (effect.new ≡ and_then effect.old (refusing exc reason)) }
 {
     match reason {
@@ -61,74 +89,5 @@ fn refuse(effect: &mut Effect, exc: Exc, reason: Reason) -> Done
         Reason::Start => show(effect, Shown::Raise(exc)),
         Reason::Local => show(effect, Shown::Raise(exc)),
         Reason::Oneway { .. } => show(effect, Shown::Raise(exc)),
-    }
-}
-
-impl<'a> Context<'a> {
-    /// Copies become objects, and names are received in their order. The values that came.
-    pub(crate) fn receive(
-        &self,
-        effect: &mut Effect,
-        from: NodeId,
-        packet: &Packet,
-    ) -> Result<Values, AllocError>
-        ensures effect { OnOk result (effect.new
-            ≡ and_then effect.old (receiving (step_of self.now) from packet.now)) }
-        ensures values { IfOk result (λ vs.
-            vs ≡ (arrived (step_of self.now) from packet.now).values) }
-    {
-        let unpacked = self.arrived(from, packet)?;
-        store(&mut effect.node, &unpacked.copies)?;
-        receive_names(effect, from, packet.names.as_slice())?;
-        Ok(unpacked.values)
-    }
-
-    /// The method that a message invokes, or why it is refused: the first rule that applies
-    /// decides.
-    fn admission(
-        &self,
-        from: NodeId,
-        message: &Message,
-        values: &Values,
-    ) -> Result<Result<MethodId, Exc>, AllocError>
-        ensures { IfOk result (λ r.
-            r ≡ admission (step_of self.now) from message.now values.now) }
-    {
-        let object = own(self.node, message.target);
-        if !has_entry(self.state, from, &object)? {
-            return Ok(Err(Exc::NotVended));
-        }
-        let class = own_class(self.node, message.target);
-        let Some(method) = method_for(self.table, class, &message.selector) else {
-            return Ok(Err(Exc::NotUnderstood));
-        };
-        if !method.signature.args_fit(values) {
-            return Ok(Err(Exc::TypeFault));
-        }
-        if is_full(self.node) {
-            return Ok(Err(Exc::Deep));
-        }
-        Ok(Ok(method.id))
-    }
-
-    /// A message is refused at once, or invokes its method.
-    pub(crate) fn request(
-        &self,
-        effect: &mut Effect,
-        from: NodeId,
-        reason: Reason,
-        message: &Message,
-        values: &Values,
-    ) -> Done
-        ensures { OnOk result (effect.new ≡ and_then effect.old
-            (request (step_of self.now) from reason message.now values.now)) }
-    {
-        match self.admission(from, message, values)? {
-            Err(exc) => refuse(effect, exc, reason),
-            Ok(method) => {
-                let object = own(self.node, message.target);
-                begin(&mut effect.node, object, method, reason, values)
-            }
-        }
     }
 }

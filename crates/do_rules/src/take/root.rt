@@ -1,10 +1,8 @@
 //! The root, as it goes to a peer.
 ghost use Rattle.std.specs.Prelude.{◌≡◌, ◌∷◌, [], IfOk};
 ghost use Rattle.do_machine.specs.take.Take.{root_packet};
-ghost use Rattle.do_rules.specs.Judged.{step_of};
 
-use crate::judged::Context;
-use crate::node::own_class;
+use crate::basis::Basis;
 use do_base::{Items, NodeId};
 use do_class::{ClassId, Name, Packet, Part};
 use std::alloc::{AllocError, Global};
@@ -41,22 +39,20 @@ fn own_packet(alloc: Global, serial: u64, class: ClassId) -> Result<Packet, Allo
     })
 }
 
-impl<'a> Context<'a> {
-    /// The root as a message to a peer: its name, or nil where there is no root that is stored.
-    pub(crate) fn root_packet(&self, to: NodeId) -> Result<Packet, AllocError>
-        ensures { IfOk result (λ p. p ≡ root_packet (step_of self.now) to) }
-    {
-        let _to = to;
-        let alloc = self.node.stack.allocator();
-        let Some(serial) = self.node.root else {
-            let packet = nil_packet(alloc)?;
-            return Ok(packet);
-        };
-        let Some(class) = own_class(self.node, serial) else {
-            let packet = nil_packet(alloc)?;
-            return Ok(packet);
-        };
-        let packet = own_packet(alloc, serial, class)?;
-        Ok(packet)
-    }
+/// The root as a message to a peer: its name, or nil where there is no root that is stored.
+pub(crate) fn root_packet<N: Basis>(basis: &N, to: NodeId) -> Result<Packet, AllocError>
+    ensures { IfOk result (λ p. p ≡ root_packet (N.context basis.now) to) }
+{
+    let _to = to;
+    let alloc = basis.allocator();
+    let Some(serial) = basis.root() else {
+        let packet = nil_packet(alloc)?;
+        return Ok(packet);
+    };
+    let Some(class) = basis.own_class(serial) else {
+        let packet = nil_packet(alloc)?;
+        return Ok(packet);
+    };
+    let packet = own_packet(alloc, serial, class)?;
+    Ok(packet)
 }

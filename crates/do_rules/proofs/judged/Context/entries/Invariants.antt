@@ -1,8 +1,0 @@
-use Rattle.std.proofs.Common.{◌≡◌, take, map}
-use Rattle.do_machine.specs.take.Receipt.{is_entered}
-use Rattle.do_rules.specs.Judged.{step_of}
-use Rattle.do_rules.proofs.judged.Context.entries.Given as goal
-
-abbrev pub invariant-loop-name : goal.invariant-loop-name
-invariant-loop-name l =
-    l.flags ≡ map (is_entered (step_of l.self) l.from) (take l.name-index l.name-items)

@@ -1,0 +1,5 @@
+use Rattle.do_rules.proofs.Rulings.{ruling_is}
+use Rattle.do_rules.proofs.law.rulings_are_arrivals.Goals as goal
+
+pub returns : goal.returns
+returns c = ruling_is
