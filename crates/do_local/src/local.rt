@@ -46,6 +46,13 @@ impl<B: Behaviour + Drop> Local<B> {
         &self.table
     }
 
+    /// The state that it is in.
+    pub fn state(&self) -> &State
+        ensures { result.now ≡ self.now.state }
+    {
+        &self.state
+    }
+
     /// One event. One that is not enabled shows nothing and leaves the state as it was.
     ///
     /// Its one error is that memory ran out, or that a number would pass what a machine can count,
