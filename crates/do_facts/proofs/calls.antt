@@ -1,0 +1,12 @@
+pub mod RunIsMoves
+pub mod StartIsMoves
+pub mod CallsLeft
+pub mod TakeIsMoves
+pub mod StacksShaped
+pub mod CallMoves
+pub mod CallsEnd
+pub mod CallCounts
+pub mod TopMoves
+pub mod CallsKept
+pub mod Bridge
+pub mod ReachedCalls

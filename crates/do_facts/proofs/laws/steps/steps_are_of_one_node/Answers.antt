@@ -1,0 +1,15 @@
+use Rattle.do_machine.specs.Step.{step}
+use Rattle.do_facts.proofs.steps.EachIsStep.{step_is}
+use Rattle.do_facts.proofs.steps.OthersStay.{class_stays, node_stays}
+use Rattle.do_facts.proofs.laws.steps.steps_are_of_one_node.Goals as goal
+
+pub returns-clause-form : goal.returns-clause-form
+returns-clause-form c table act S event = step_is S table act event
+
+pub returns-clause-others : goal.returns-clause-others
+returns-clause-others c table act S event other =
+    node_stays S event (step table act S event) (step_is S table act event) other
+
+pub returns-clause-classes : goal.returns-clause-classes
+returns-clause-classes c table act S event o class =
+    class_stays o class S event (step table act S event) (step_is S table act event)

@@ -1,0 +1,80 @@
+-- Every rule of a step is moves of its node's links.
+use Rattle.std.proofs.Common.{◌≡◌, ◌==◌, ℕ, Bool, true, false, cond, not, List, [], ◌∷◌, filter}
+use Rattle.std.proofs.Common.{refl, ap}
+use Rattle.std.proofs.Common.{◌∙◌, sym, arith}
+use Rattle.std.specs.List.{list_any}
+use Rattle.std.proofs.lemmas.Bool.{eqb-true}
+use Rattle.std.proofs.lemmas.Bool.Decides.{nat_tests}
+use Rattle.do_base.specs.names.Names.{TokenName}
+use Rattle.do_facts.specs.Net.{atoms_of}
+use Rattle.do_facts.specs.links.Links.{Atom, Links, links}
+use Rattle.do_facts.specs.links.Moves.{Asks, AsksOnce, Closes, Ends, Frees, GivesUp, Grants, Holds}
+use Rattle.do_facts.specs.links.Moves.{Leaves, Lends, Misses, Move, Names, Receives, Refuses}
+use Rattle.do_facts.specs.links.Moves.{Returns, Settles, link_rules, may, moved, note, opens, posts}
+use Rattle.do_facts.specs.links.Moves.{telling}
+use Rattle.do_facts.specs.links.Sound.{IsSound}
+use Rattle.do_facts.proofs.Bridge.{Bridge}
+use Rattle.do_facts.proofs.links.ClosingIsMoves.{by_closing}
+use Rattle.do_facts.proofs.links.LeavingIsMoves.{by_leaving}
+use Rattle.do_facts.proofs.links.RunIsMoves.{by_run, by_start, by_time_out}
+use Rattle.do_facts.proofs.links.PartsAreSound.{sound_moved}
+use Rattle.do_facts.proofs.links.TakeIsMoves.{by_take}
+
+module _ (p : Links) (peer : ℕ) (h : opens p peer ≡ false) where
+  -- nothing goes to another peer than one over an open end
+  note_elsewhere : (to : ℕ) (x : Atom) → opens p to ≡ true → atoms_of peer (note to x) ≡ []
+  note_elsewhere to x o = go (to == peer) refl
+    where
+      go : (b : Bool) → (to == peer) ≡ b → cond b (x ∷ []) [] ≡ []
+      go true e = absurd (no (ap (opens p) (sym (eqb-true to peer e)) ∙ o))
+        where
+          no : opens p peer ≡ true → ⊥
+          no k = cc
+      go false e = refl
+
+  -- nor is a lender told that can't be told
+  telling_elsewhere : (told : Bool) (token : TokenName) → opens p token.lender ≡ told →
+      atoms_of peer (telling told token) ≡ []
+  telling_elsewhere true token o = note_elsewhere token.lender _ o
+  telling_elsewhere false token o = refl
+
+  -- an end that is closed stays so
+  closed_stays : (other : ℕ) (ps : List ℕ) → list_any (λ x. x == peer) ps ≡ false →
+      list_any (λ x. x == peer) (filter (λ x. not (x == other)) ps) ≡ false
+  closed_stays other [] k = refl
+  closed_stays other (q ∷ ps) k = grind (arith, nat_tests, k, closed_stays other ps)
+
+  -- a move opens no end, and posts nothing over a closed one
+  closed_moved : (v : Move) → may p v →
+      (opens (moved p v) peer ≡ false) × (atoms_of peer (posts p v) ≡ [])
+  closed_moved (Names to serial) m = (h, note_elsewhere to _ m)
+  closed_moved (Lends to o) m = (h, note_elsewhere to _ m.0)
+  closed_moved (Leaves o) m = (h, note_elsewhere o.node _ m.0)
+  closed_moved (Closes other) m = (closed_stays other p.open_to h, note_elsewhere other _ m)
+  closed_moved (GivesUp w told) m = (h, telling_elsewhere told w.token m.2)
+  closed_moved (Holds from serial) m = (h, refl)
+  closed_moved (Asks from o token) m = (h, note_elsewhere o.node _ m.1)
+  closed_moved (AsksOnce from o token) m = (h, refl)
+  closed_moved (Returns from o token) m = (h, note_elsewhere from _ m.0)
+  closed_moved (Grants from serial token) m = (h, note_elsewhere from _ m)
+  closed_moved (Refuses from serial token) m = (h, note_elsewhere from _ m)
+  closed_moved (Receives from serial token told) m = (h, telling_elsewhere told token m.1)
+  closed_moved (Misses from serial token told) m = (h, telling_elsewhere told token m.1)
+  closed_moved (Settles from number) m = (h, refl)
+  closed_moved (Frees from serial) m = (h, refl)
+  closed_moved (Ends from serials) m = (closed_stays from p.open_to h, note_elsewhere from _ m)
+
+-- all rules
+pub link_bridge : Bridge links link_rules IsSound
+link_bridge = record {
+  opens = λ n peer. refl;
+  loss = refl;
+  stays = λ p v ok may. sound_moved p ok v may;
+  closed = λ p v peer may h. closed_moved p peer h v may;
+  start = λ table selector values n ok. by_start table selector values n;
+  run = λ act c ok. by_run act c;
+  gives_up = λ n ok. by_time_out n;
+  take = λ c from item ends ok. by_take c from ends item ok;
+  close = λ n peer ends ok. by_closing peer n ends ok;
+  leave = λ entry n ok. by_leaving entry n ok;
+}

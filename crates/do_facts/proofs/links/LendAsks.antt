@@ -1,0 +1,196 @@
+-- Each lend stays in one place, as objects are lent and asked for, and ends closed.
+use Rattle.std.proofs.Common.{◌≡◌, ◌≢◌, ℕ, true, false, List, [], ◌∷◌}
+use Rattle.std.proofs.Common.{arith}
+use Rattle.std.specs.Prelude.{if◌then◌else◌}
+use Rattle.std.specs.List.{list_any}
+use Rattle.std.proofs.lemmas.Bool.Decides.{nat_tests}
+use Rattle.do_base.specs.names.Names.{ObjectName}
+use Rattle.do_machine.specs.declared.node.Wanted.{Wanted}
+use Rattle.do_machine.specs.lend.Asking.{same_wanted, wanted}
+use Rattle.do_machine.specs.Objects.{object_at}
+use Rattle.do_facts.specs.Net.{Net, Note, net_after}
+use Rattle.do_facts.proofs.Notes.{total-append}
+use Rattle.do_facts.specs.links.Links.{Ask, Atom, End, Lent, Links}
+use Rattle.do_facts.specs.links.Links.{Settled}
+use Rattle.do_facts.specs.links.Moves.{Lends, Settles, closed, moved, next_lend}
+use Rattle.do_facts.specs.links.Moves.{note, opens, without_ask}
+use Rattle.do_facts.specs.links.Facts.{EachFresh, EachLend, EachToken, asked_in, lent_in}
+use Rattle.do_facts.proofs.links.ListsChanged.{asked_less, lends_apart, lends_less, lends_more}
+use Rattle.do_facts.proofs.links.ListsChanged.{is_ask, lent_lends}
+use Rattle.do_facts.proofs.links.ListsChanged.{lent_apart, lent_less, lent_more, open_less}
+
+ruleset steps = (nat_tests, total-append)
+
+-- the net once a node has this part, and took and posted these notes
+abbrev after : Net Links Atom → ℕ → Links → List (Note Atom) → List (Note Atom) → Net Links Atom
+after net a q taken sent = net_after a q taken sent net
+
+module _ (net : Net Links Atom) (a : ℕ) (one : EachLend net)
+    (tokens : EachToken net)
+    (fresh : EachFresh net) where
+  -- a third node's object is lent
+  pub lends : (to : ℕ) (o : ObjectName) →
+      EachLend (after net a (moved (net.part a) (Lends to o)) []
+      (note to (Lent o (net.part a).token)))
+  lends to o x y z u v =
+      let p = net.part a in
+      let l = next_lend p to o in
+      record {
+        once = λ h. grind (arith, steps, one x y z u v, fresh x y z u v);
+        most = λ h. grind (
+          arith,
+          steps,
+          one x y z u v,
+          fresh x y z u v,
+          lent_more y v z u l p.lent,
+        );
+        least = λ h. grind (
+          arith,
+          steps,
+          one x y z u v,
+          fresh x y z u v,
+          lent_more y v z u l p.lent,
+        );
+        known = λ h. grind (
+          arith,
+          steps,
+          one x y z u v,
+          fresh x y z u v,
+          lent_more y v z u l p.lent,
+        );
+        told = λ h. grind (
+          arith,
+          steps,
+          one x y z u v,
+          fresh x y z u v,
+          lends_more y v l p.lent,
+        );
+      }
+
+  -- an end is closed
+  pub closes : (peer : ℕ) (names : List ℕ) →
+      EachLend (after net a (closed peer (net.part a)) [] (note peer (End names)))
+  closes peer names x y z u v =
+      let p = net.part a in
+      let lent = lent_apart y v z u peer p.lent in
+      let other = lends_apart y v peer p.lent in
+      let mine = open_less y peer p.open_to in
+      let theirs = open_less x peer p.open_to in
+      record {
+        once = λ h. grind (arith, steps, one x y z u v);
+        most = λ h. grind (arith, steps, one x y z u v, lent, mine);
+        least = λ h. grind (arith, steps, one x y z u v, lent, mine, theirs);
+        known = λ h. grind (arith, steps, one x y z u v, lent, mine);
+        told = λ h. grind (arith, steps, one x y z u v, other, mine);
+      }
+
+  module _ (h s l t : ℕ) (asked : asked_in net a h s l t ≡ true) where
+    -- the ask that is answered
+    abbrev ask : Wanted
+    ask = wanted (object_at h s) l t
+
+    -- an ask is over, and the lender is told
+    pub tells : opens (net.part a) l ≡ true →
+        EachLend (after net a (without_ask ask (net.part a)) [] (note l (Settled t)))
+    tells o x y z u v =
+        let p = net.part a in
+        let less = asked_less z u x v ask p.asked in
+        let same = tokens x v z u y h s y in
+        record {
+          once = λ d. grind (arith, steps, one x y z u v, less);
+          most = λ d. grind (arith, steps, one x y z u v, one x y h s v, less, same, o, asked);
+          least = λ d. grind (arith, steps, one x y z u v, one x y h s v, less, same, o, asked);
+          known = λ d. grind (arith, steps, one x y z u v, less);
+          told = λ d. grind (
+            arith,
+            steps,
+            one x y z u v,
+            one x y h s v,
+            less,
+            o,
+            asked,
+            lent_lends y v h s (net.part x).lent,
+          );
+        }
+
+    -- an ask is over, and the lender can't be told
+    pub keeps_quiet : opens (net.part a) l ≡ false →
+        EachLend (after net a (without_ask ask (net.part a)) [] [])
+    keeps_quiet o x y z u v =
+        let p = net.part a in
+        let less = asked_less z u x v ask p.asked in
+        record {
+          once = λ d. grind (arith, steps, one x y z u v, less);
+          most = λ d. grind (arith, steps, one x y z u v, less);
+          least = λ d. grind (arith, steps, one x y z u v, less, o);
+          known = λ d. grind (arith, steps, one x y z u v, less);
+          told = λ d. grind (arith, steps, one x y z u v, less);
+        }
+
+  -- an object that was lent is asked for
+  pub asks : (from h s t : ℕ) (rest : List Atom) (asked : List Wanted) →
+      net.wire from a ≡ Lent (object_at h s) t ∷ rest → asked_in net a h s from t ≡ false →
+      ((z u x v : ℕ) → list_any (same_wanted (wanted (object_at z u) x v)) asked
+      ≡ (if is_ask (wanted (object_at h s) from t) z u x v then true
+      else asked_in net a z u x v)) →
+      EachLend (after net a (record (net.part a) { asked = asked })
+      (note from (Lent (object_at h s) t))
+      (note h (Ask s (record { lender = from; number = t }))))
+  asks from h s t rest asked e none more x y z u v =
+      record {
+        once = λ d. grind (arith, steps, one x y z u v, e, none, more z u x v);
+        most = λ d. grind (arith, steps, one x y z u v, e, none, more z u x v);
+        least = λ d. grind (arith, steps, one x y z u v, e, none, more z u x v);
+        known = λ d. grind (arith, steps, one x y z u v, e, none, more z u x v);
+        told = λ d. grind (arith, steps, one x y z u v, e);
+      }
+
+  -- no object that was lent was asked for already
+  pub not_twice : (from h s t : ℕ) (rest : List Atom) → from ≢ a →
+      net.wire from a ≡ Lent (object_at h s) t ∷ rest → asked_in net a h s from t ≡ true → ⊥
+  not_twice from h s t rest apart e there =
+      let most = (one from a h s t).once apart in
+      grind (arith, steps, most, e, there)
+
+  -- a lend is over, since nothing can be asked for
+  pub returns : (from h s t : ℕ) (rest : List Atom) →
+      net.wire from a ≡ Lent (object_at h s) t ∷ rest →
+      EachLend (after net a (net.part a) (note from (Lent (object_at h s) t))
+      (note from (Settled t)))
+  returns from h s t rest e x y z u v =
+      let same = tokens x v z u y h s y in
+      let lent = lent_lends y v h s (net.part x).lent in
+      record {
+        once = λ d. grind (arith, steps, one x y z u v, e);
+        most = λ d. grind (arith, steps, one x y z u v, one x y h s v, e, same);
+        least = λ d. grind (arith, steps, one x y z u v, one x y h s v, e, same);
+        known = λ d. grind (arith, steps, one x y z u v, e);
+        told = λ d. grind (arith, steps, one x y z u v, one x y h s v, e, lent);
+      }
+
+  -- a lend is known to be over
+  pub settles : (from number h s : ℕ) (rest : List Atom) →
+      net.wire from a ≡ Settled number ∷ rest → opens (net.part a) from ≡ true →
+      lent_in net a number h s from ≡ true →
+      EachLend (after net a (moved (net.part a) (Settles from number))
+      (note from (Settled number)) [])
+  settles from number h s rest e o there x y z u v =
+      let p = net.part a in
+      let less = lent_less y v z u from number p.lent in
+      let other = lends_less y v from number p.lent in
+      record {
+        once = λ d. grind (arith, steps, one x y z u v, e);
+        most = λ d. grind (arith, steps, one x y z u v, e, less);
+        least = λ d. grind (arith, steps, one x y z u v, e, less);
+        known = λ d. grind (arith, steps, one x y z u v, e, o, less);
+        told = λ d. grind (
+          arith,
+          steps,
+          one x y z u v,
+          one a from h s number,
+          e,
+          o,
+          there,
+          other,
+        );
+      }

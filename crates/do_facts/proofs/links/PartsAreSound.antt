@@ -1,0 +1,120 @@
+-- Every move keeps what every node keeps of foreign objects.
+use Rattle.std.proofs.Common.{◌≡◌, ◌==◌, ◌⊎◌, ℕ, Bool, true, false, cond, not, List, [], ◌∷◌}
+use Rattle.std.proofs.Common.{filter, refl, ap, ◌∙◌, arith, inl, inr}
+use Rattle.std.specs.List.{list_any}
+use Rattle.std.proofs.lemmas.Bool.Decides.{nat_tests}
+use Rattle.do_base.specs.names.Names.{ObjectName}
+use Rattle.do_packet.specs.Met.{has_object, same_object}
+use Rattle.do_machine.specs.Lists.{inserted}
+use Rattle.do_machine.specs.Objects.{joined, object_at, object_lt}
+use Rattle.do_machine.specs.lend.Asking.{same_wanted, wanted, wanted_lt}
+use Rattle.do_machine.proofs.Bools.{or_cases}
+use Rattle.do_machine.proofs.Having.{has_all_joined, has_passing, passes_among}
+use Rattle.do_facts.specs.StandOnce.{StandOnce}
+use Rattle.do_facts.specs.links.Links.{Links}
+use Rattle.do_facts.specs.links.Moves.{Asks, AsksOnce, Closes, Ends, Frees, GivesUp, Grants, Holds}
+use Rattle.do_facts.specs.links.Moves.{Leaves, Lends, Misses, Move, Names, Receives, Refuses}
+use Rattle.do_facts.specs.links.Moves.{Returns, Settles, closed, may, moved, opens, with_held}
+use Rattle.do_facts.specs.links.Sound.{IsSound}
+use Rattle.do_facts.proofs.OnceInLists.{once_filtered, once_inserted}
+use Rattle.do_facts.proofs.links.SameIsEqual.{object_flips, object_is, wanted_flips}
+
+-- an object more is held once
+held_once : (os : List ObjectName) (o : ObjectName) → StandOnce same_object os →
+    StandOnce same_object (joined os o)
+held_once os o h = go (has_object os o) refl
+  where
+    go : (b : Bool) → has_object os o ≡ b →
+        StandOnce same_object (cond b os (inserted object_lt o os))
+    go true e = h
+    go false e = once_inserted same_object object_flips object_lt o os e h
+
+-- an object that is among those after one joined is that one, or was there
+joined_cases : (os : List ObjectName) (x o : ObjectName) → has_object (joined os x) o ≡ true →
+    (o ≡ x) ⊎ (has_object os o ≡ true)
+joined_cases os x o h =
+    elim (has_all_joined os (x ∷ []) o h) [
+      | inl e ↦ elim (or_cases (same_object o x) false e) [
+        | inl s ↦ inl (object_is o x s)
+        | inr s ↦ absurd (cc)
+      ]
+      | inr e ↦ inr e
+    ]
+
+module _ (p : Links) (sound : IsSound p) where
+  -- an object of an open end is held
+  sound_held : (from serial : ℕ) → opens p from ≡ true →
+      IsSound (with_held (object_at from serial) p)
+  sound_held from serial ends = record {
+    held = held_once p.held (object_at from serial) sound.held;
+    reached = λ o h. elim (joined_cases p.held (object_at from serial) o h) [
+      | inl e ↦ ap (λ x. opens p x.node) e ∙ ends
+      | inr e ↦ sound.reached o e
+    ];
+    asked = sound.asked;
+  }
+
+  -- an end that is open still
+  still_open : (peer x : ℕ) (ps : List ℕ) → list_any (λ q. q == x) ps ≡ true →
+      not (x == peer) ≡ true → list_any (λ q. q == x) (filter (λ q. not (q == peer)) ps) ≡ true
+  still_open peer x [] h k = h
+  still_open peer x (q ∷ ps) h k = grind (arith, nat_tests, h, k, still_open peer x ps)
+
+  -- an end is closed
+  sound_closed : (peer : ℕ) → IsSound (closed peer p)
+  sound_closed peer =
+      let away : ObjectName → Bool = λ o. not (o.node == peer) in
+      record {
+        held = once_filtered same_object away p.held sound.held;
+        reached = λ o h.
+            still_open peer o.node p.open_to (sound.reached o (has_passing away p.held o h))
+            (passes_among away p.held o h);
+        asked = sound.asked;
+      }
+
+  -- any move
+  pub sound_moved : (v : Move) → may p v → IsSound (moved p v)
+  sound_moved (Names to serial) h = sound
+  sound_moved (Lends to o) h =
+      record { held = sound.held; reached = sound.reached; asked = sound.asked }
+  sound_moved (Leaves o) h = record {
+    held = once_filtered same_object (λ x. not (same_object o x)) p.held sound.held;
+    reached = λ x k. sound.reached x (has_passing (λ y. not (same_object o y)) p.held x k);
+    asked = sound.asked;
+  }
+  sound_moved (Closes peer) h = sound_closed peer
+  sound_moved (GivesUp w told) h = record {
+    held = sound.held;
+    reached = sound.reached;
+    asked = once_filtered same_wanted (λ v. not (same_wanted w v)) p.asked sound.asked;
+  }
+  sound_moved (Holds from serial) h = sound_held from serial h
+  sound_moved (Asks from o token) h = record {
+    held = sound.held;
+    reached = sound.reached;
+    asked = once_inserted same_wanted wanted_flips wanted_lt (wanted o from token) p.asked h.2
+        sound.asked;
+  }
+  sound_moved (AsksOnce from o token) h = sound
+  sound_moved (Returns from o token) h = sound
+  sound_moved (Grants from serial token) h = sound
+  sound_moved (Refuses from serial token) h = sound
+  sound_moved (Receives from serial token told) h =
+      let w = wanted (object_at from serial) token.lender token.number in
+      let more = sound_held from serial h.0 in
+      record {
+        held = more.held;
+        reached = more.reached;
+        asked = once_filtered same_wanted (λ v. not (same_wanted w v)) p.asked sound.asked;
+      }
+  sound_moved (Misses from serial token told) h =
+      let w = wanted (object_at from serial) token.lender token.number in
+      record {
+        held = sound.held;
+        reached = sound.reached;
+        asked = once_filtered same_wanted (λ v. not (same_wanted w v)) p.asked sound.asked;
+      }
+  sound_moved (Settles from number) h =
+      record { held = sound.held; reached = sound.reached; asked = sound.asked }
+  sound_moved (Frees from serial) h = sound
+  sound_moved (Ends from serials) h = sound_closed from

@@ -1,0 +1,96 @@
+-- Each lend and each ask is in one place in every state that a machine comes to.
+use Rattle.std.proofs.Common.{◌==◌, ℕ, Bool, true, false, cond, List, sym, ap, ◌∙◌}
+use Rattle.std.proofs.Common.{subst}
+use Rattle.do_base.specs.declared.events.event.Event.{Event}
+use Rattle.do_class.specs.Class.{Class}
+use Rattle.do_machine.specs.declared.state.Seat.{Seat}
+use Rattle.do_machine.specs.declared.state.State.{State}
+use Rattle.do_machine.specs.Step.{step}
+use Rattle.do_machine.specs.World.{opening}
+use Rattle.do_machine.specs.run.Run.{Acting}
+use Rattle.do_machine.proofs.passing.Linked.{opening_queues, queues_stay}
+use Rattle.do_facts.specs.Net.{Net}
+use Rattle.do_facts.specs.Moves.{Happening, Happens, Keeps, Lost, Moved, Reaches, net_then}
+use Rattle.do_facts.specs.Reached.{reached}
+use Rattle.do_facts.specs.View.{net_of, part_seen}
+use Rattle.do_facts.specs.links.Facts.{EachSilent, LinksHold, ReportsAreKnown}
+use Rattle.do_facts.specs.links.LinksAreKept.{LinksAreKept}
+use Rattle.do_facts.specs.links.Links.{Atom, Links, links}
+use Rattle.do_facts.specs.links.Moves.{Move, link_rules, opens}
+use Rattle.do_facts.specs.links.Sound.{IsSound}
+use Rattle.do_facts.proofs.Paths.{stays}
+use Rattle.do_facts.proofs.StepReaches.{by_step}
+use Rattle.do_facts.proofs.links.Bridge.{link_bridge}
+use Rattle.do_facts.proofs.links.LinksKept.{links_keep}
+use Rattle.do_facts.proofs.links.OpeningLinks.{opening_hold, opening_silent, opening_sound}
+use Rattle.do_facts.proofs.ReachedStates.{holds_of_reached}
+use Rattle.do_facts.proofs.links.ReportsKnown.{reports_known}
+use Rattle.do_facts.proofs.links.NoEndTold.{silent_keeps}
+use Rattle.do_facts.proofs.links.PartsAreSound.{sound_moved}
+
+-- each part of a net is sound
+abbrev AllSound : Net Links Atom → Type 0
+AllSound net = (port : ℕ) → IsSound (net.part port)
+
+-- and stays so, whatever happens
+sound_keeps : Keeps link_rules AllSound
+sound_keeps = record { by = by_happening }
+  where
+    by_happening : (net : Net Links Atom) (h : Happening Atom Move) → AllSound net →
+        Happens link_rules net h → AllSound (net_then link_rules net h)
+    by_happening net (Moved port v) sound m = λ other. go other (other == port)
+      where
+        go : (other : ℕ) (b : Bool) → IsSound
+            (cond b (link_rules.after (net.part port) v) (net.part other))
+        go other true = sound_moved (net.part port) (sound port) v m.0
+        go other false = sound other
+    by_happening net (Lost from to first rest) sound m = sound
+
+-- all of it holds as a machine opens
+pub opening_keeps : (table : List Class) (seats : List Seat) → LinksAreKept (opening table seats)
+opening_keeps table seats = record {
+  queues = opening_queues table seats;
+  sound = opening_sound table seats;
+  hold = opening_hold table seats;
+  silent = opening_silent table seats;
+}
+
+module _ (table : List Class) (act : Acting) where
+  -- every step is moves of links
+  pub step_moves : (S : State) (event : Event) → LinksAreKept S →
+      Reaches link_rules (net_of links S) (net_of links (step table act S event).state)
+  step_moves S event kept =
+      by_step links link_rules IsSound link_bridge S kept.queues
+      (record {
+        ends = λ port n h.
+            ap (λ found. opens (part_seen links found) port) (sym h) ∙ kept.hold.apart port;
+      })
+      (λ port n h. subst (λ found. IsSound (part_seen links found)) h
+      (kept.sound port)) table act event
+
+  -- every step keeps all that holds
+  pub step_keeps : (S : State) (event : Event) → LinksAreKept S →
+      LinksAreKept (step table act S event).state
+  step_keeps S event kept =
+      let T = (step table act S event).state in
+      let path = step_moves S event kept in
+      let before = net_of links S in
+      record {
+        queues = queues_stay table act S event kept.queues;
+        sound = stays link_rules AllSound sound_keeps before (net_of links T) path kept.sound;
+        hold = stays link_rules LinksHold links_keep before (net_of links T) path kept.hold;
+        silent = stays link_rules EachSilent silent_keeps before (net_of links T) path kept.silent;
+      }
+
+  -- all of it holds in every state that a machine comes to
+  pub reached_keeps : (seats : List Seat) (events : List Event) →
+      LinksAreKept (reached table act seats events)
+  reached_keeps seats events =
+      holds_of_reached table act LinksAreKept step_keeps seats events (opening_keeps table seats)
+
+  -- and so what comes over an open end is known
+  pub reached_known : (seats : List Seat) (events : List Event) →
+      ReportsAreKnown (net_of links (reached table act seats events))
+  reached_known seats events =
+      reports_known (net_of links (reached table act seats events))
+      (reached_keeps seats events).hold

@@ -1,0 +1,119 @@
+-- The root of a node is named, and lends nothing.
+use Rattle.std.proofs.Common.{◌≡◌, ◌==◌, ◌++◌, ℕ, Bool, true, false, cond, List, [], ◌∷◌, refl, ap}
+use Rattle.std.proofs.Common.{filter}
+use Rattle.std.proofs.Common.{◌∙◌, ◌+◌, subst, append-nil, arith, rules}
+use Rattle.std.specs.Prelude.{None, Option, Some, suc}
+use Rattle.std.specs.List.{filter_map}
+use Rattle.std.proofs.lemmas.Bool.Decides.{nat_tests}
+use Rattle.do_base.specs.names.Names.{ObjectName}
+use Rattle.do_base.specs.values.Values.{objects_of}
+use Rattle.do_base.specs.declared.values.value.Value.{Value}
+use Rattle.do_base.specs.declared.values.value.Value.TheFolds.{the_lemmas}
+use Rattle.do_base.specs.declared.values.value.Value.TheVariants.{Nil, Obj}
+use Rattle.do_class.specs.declared.packet.Name.TheVariants.{Lent, Mine, Yours}
+use Rattle.do_packet.specs.Copies.{Placed, names_with}
+use Rattle.do_packet.specs.Met.{is_named, met, role_of}
+use Rattle.do_packet.specs.Packing.{Naming, class_at, names_to}
+use Rattle.do_packet.specs.Seen.{Sender}
+use Rattle.do_machine.specs.declared.item.Item.TheVariants as items
+use Rattle.do_machine.specs.declared.node.Lend.{Lend}
+use Rattle.do_machine.specs.Context.{Context}
+use Rattle.do_machine.specs.Effect.{queueing}
+use Rattle.do_machine.specs.Objects.{object_at}
+use Rattle.do_machine.specs.Packing.{packer}
+use Rattle.do_machine.specs.State.{is_open, own}
+use Rattle.do_machine.specs.lend.Lending.{lend_of, lending, lends_of}
+use Rattle.do_machine.specs.run.Acts.{root_value}
+use Rattle.do_machine.specs.take.Take.{root_packet}
+use Rattle.do_facts.specs.Moves.{Runs}
+use Rattle.do_facts.specs.View.{AreMoves, posted}
+use Rattle.do_facts.specs.links.Links.{links, links_of}
+use Rattle.do_facts.specs.links.Moves.{link_rules}
+use Rattle.do_facts.proofs.links.TokensOfMessages.{to_lent}
+use Rattle.do_facts.proofs.links.SendingIsMoves.{sends}
+
+-- no object is in nil
+objects_of-Nil : objects_of Nil ≡ []
+objects_of-Nil = search (rules, the_lemmas)
+
+-- one object is in its name
+objects_of-Obj : (o : ObjectName) → objects_of (Obj o) ≡ o ∷ []
+objects_of-Obj o = search (rules, the_lemmas)
+
+module _ (s : Sender) (to token : ℕ) where
+  -- the lends of a message that names these objects
+  abbrev lends : List ObjectName → List Lend
+  lends os = filter_map (lend_of to) (names_to s to token os)
+
+  -- the lends of names
+  abbrev lends_named : Naming → List Lend
+  lends_named n = filter_map (lend_of to) n.names
+
+  -- an own object is not lent
+  own_not_lent : (serial : ℕ) → lends (object_at s.node serial ∷ []) ≡ []
+  own_not_lent serial = go (s.node == s.node) (itself s.node)
+    where
+      itself : (n : ℕ) → (n == n) ≡ true
+      itself n = grind (arith, nat_tests)
+
+      go : (b : Bool) → b ≡ true → lends_named (cond b
+          (record {
+            names = Mine serial (class_at s (object_at s.node serial)) ∷ [];
+            token = token;
+          })
+          (cond (s.node == to)
+          (record { names = Yours serial ∷ []; token = token })
+          (record {
+            names = Lent (object_at s.node serial) (class_at s (object_at s.node serial)) token ∷
+                [];
+            token = suc token;
+          }))) ≡ []
+      go true h = refl
+      go false h = absurd (cc)
+
+  -- nor is it where it may not be named
+  named_not_lent : (serial : ℕ) (b : Bool) →
+      lends (met [] (cond b (object_at s.node serial ∷ []) [] ++ [])) ≡ []
+  named_not_lent serial true = own_not_lent serial
+  named_not_lent serial false = refl
+
+module _ (c : Context) (to : ℕ) where
+  -- the lends of a message with this value alone
+  abbrev lends_with : Value → List Lend
+  lends_with v =
+      let values : List Placed = (false, v) ∷ [] in
+      filter_map (lend_of to)
+      (names_to (packer c) to c.node.next_token (names_with (packer c) values []))
+
+  -- the lends of a message with a value of these objects
+  abbrev lends_of_objects : List ObjectName → List Lend
+  lends_of_objects os =
+      let s = packer c in
+      filter_map (lend_of to) (names_to s to c.node.next_token
+      (met [] (filter (λ o. is_named (role_of s.seen s.node false o)) os ++ [])))
+
+  -- a root is not lent
+  root_not_lent : (root : Option ℕ) →
+      lends_with (elim root [ None ↦ Nil | Some serial ↦ Obj (own c.node serial) ]) ≡ []
+  root_not_lent None = ap lends_of_objects objects_of-Nil
+  root_not_lent (Some serial) =
+      let s = packer c in
+      ap lends_of_objects (objects_of-Obj (own c.node serial))
+      ∙ named_not_lent s to c.node.next_token serial
+      (is_named (role_of s.seen s.node false (own c.node serial)))
+
+  -- the answer to an ask for the root
+  pub by_root_ask : (number : ℕ) → is_open c.node to ≡ true →
+      AreMoves links link_rules c.node []
+      (queueing to (items.RootAnswer number (root_packet c to)) c.node)
+  by_root_ask number ends =
+      let p = root_packet c to in
+      let item = items.RootAnswer number p in
+      let n = c.node in
+      let none : lends_of to p ≡ [] = root_not_lent n.root in
+      subst (λ q. Runs link_rules (links_of n) [] q (posted links (queueing to item n).sent))
+      (ap (λ ls. links_of (lending ls n)) none
+      ∙ ap (λ ls. record (links_of n) { lent = ls; token = n.next_token + 0 }) (append-nil n.lent)
+      ∙ ap (λ k. record (links_of n) { token = k }) (omega arith))
+      (sends n n to p item refl refl ends
+      (to_lent (packer c) to n.next_token ((false, root_value n) ∷ []) []))

@@ -1,0 +1,182 @@
+-- A run, a start and a time-out are moves of what a node has of foreign objects.
+use Rattle.std.proofs.Common.{◌≡◌, ℕ, true, not, List, [], ◌∷◌, refl, sym}
+use Rattle.std.specs.Prelude.{Option, Some, None, option_map}
+use Rattle.do_base.specs.declared.events.exception.Exc.{Exc}
+use Rattle.do_base.specs.declared.events.exception.Exc.TheVariants.{TooLarge}
+use Rattle.do_base.specs.declared.values.value.Value.{Value}
+use Rattle.do_base.specs.declared.values.value.Value.TheVariants.{Nil}
+use Rattle.do_class.specs.Class.{Class}
+use Rattle.do_class.specs.declared.packet.Packet.{Packet}
+use Rattle.do_packet.specs.Copies.{Placed}
+use Rattle.do_behave.specs.declared.invocation.Answer.{Answer}
+use Rattle.do_behave.specs.declared.invocation.Answer.TheVariants.{Given, Raised}
+use Rattle.do_behave.specs.declared.invocation.Handler.{Handler}
+use Rattle.do_behave.specs.declared.invocation.Invocation.{Invocation}
+use Rattle.do_behave.specs.declared.invocation.InvState.{InvState}
+use Rattle.do_behave.specs.declared.invocation.InvState.TheVariants as states
+use Rattle.do_behave.specs.declared.invocation.Reason.{Reason}
+use Rattle.do_behave.specs.declared.invocation.Reason.TheVariants as reasons
+use Rattle.do_machine.specs.declared.item.Item.TheVariants as items
+use Rattle.do_machine.specs.declared.node.Node.{Node}
+use Rattle.do_machine.specs.declared.state.Effect.{Effect}
+use Rattle.do_machine.specs.declared.verdict.Request.{Request}
+use Rattle.do_machine.specs.declared.verdict.Request.TheVariants as requests
+use Rattle.do_machine.specs.declared.verdict.Verdict.{Verdict}
+use Rattle.do_machine.specs.declared.verdict.Verdict.TheVariants.{Asks, Begins, Fails, Goes, Makes}
+use Rattle.do_machine.specs.declared.verdict.Verdict.TheVariants.{Returns, Says, Steps, Tells, Uses}
+use Rattle.do_machine.specs.declared.verdict.Verdict.TheVariants.{Vends}
+use Rattle.do_machine.specs.Context.{Context, RunContext}
+use Rattle.do_machine.specs.Effect.{only, queueing}
+use Rattle.do_machine.specs.State.{is_open}
+use Rattle.do_machine.specs.Start.{begun, start_effect}
+use Rattle.do_machine.specs.ends.TimeOut.{give_up, time_out, time_out_on}
+use Rattle.do_machine.specs.lend.Lending.{posting}
+use Rattle.do_machine.specs.Packing.{packed_for}
+use Rattle.do_machine.specs.run.Answers.{answer_placed, oneway_answer, replying}
+use Rattle.do_machine.specs.run.Changes.{goes_on, stands as waits, uses_number}
+use Rattle.do_machine.specs.run.Delivery.{delivery, failing, popped, with_top}
+use Rattle.do_machine.specs.run.Fresh.{pushed}
+use Rattle.do_machine.specs.run.Run.{Acting, next_act, run_effect, run_on, state_rule}
+use Rattle.do_machine.specs.run.Verdicts.{effect_of, requesting, waits_for}
+use Rattle.do_facts.proofs.IsSent.{IsRequest, IsSent}
+use Rattle.do_facts.specs.Net.{Note}
+use Rattle.do_facts.specs.Moves.{Runs}
+use Rattle.do_facts.specs.View.{AreMoves}
+use Rattle.do_facts.specs.links.Links.{Atom, Links, links, links_of}
+use Rattle.do_facts.specs.links.Moves.{link_rules}
+use Rattle.do_facts.proofs.Chains.{either}
+use Rattle.do_facts.proofs.Runs.{stands_by}
+use Rattle.do_facts.proofs.AsksOverOpenEnds.{by_act, by_answer, not_closed}
+use Rattle.do_facts.proofs.links.TokensOfMessages.{names_lent}
+use Rattle.do_facts.proofs.links.SendingIsMoves.{sends}
+
+-- the effect of a node is moves that take nothing
+abbrev pub Moves : Node → Effect → Type 0
+Moves n e = AreMoves links link_rules n [] e
+
+-- an effect is moves, where there is one
+abbrev pub MovesIf : Node → Option Effect → Type 0
+MovesIf n None = Unit {0}
+MovesIf n (Some e) = Moves n e
+
+-- an effect that leaves the links and posts no atom
+pub quiet : {p q : Links} {sent : List (Note Atom)} → p ≡ q → sent ≡ [] →
+    Runs link_rules p [] q sent
+quiet same none = stands_by link_rules same none
+
+module _ (r : RunContext) where
+  -- the node
+  abbrev n : Node
+  n = r.context.node
+
+  -- an answer with its result packed, or one that is too large
+  by_packed : (m : Node) → links_of m ≡ links_of n → (peer number : ℕ) → is_open n peer ≡ true →
+      (values : List Placed) (found : Option Packet) → packed_for r.context peer values ≡ found →
+      Moves n (elim found [
+        | None ↦ queueing peer (items.Raised number TooLarge) m
+        | Some p ↦ posting peer p (items.Reply number p) m
+      ])
+  by_packed m same peer number ends values None h = quiet (sym same) refl
+  by_packed m same peer number ends values (Some p) h =
+      sends n m peer p (items.Reply number p) same refl ends
+      (names_lent r.context peer values p h)
+
+  -- an answer that goes back to a peer
+  by_replying : (m : Node) → links_of m ≡ links_of n → (peer number : ℕ) →
+      is_open n peer ≡ true → (a : Answer) → Moves n (replying r peer number a m)
+  by_replying m same peer number ends (Raised e) = quiet (sym same) refl
+  by_replying m same peer number ends (Given v outs) =
+      let values = answer_placed r v outs in
+      by_packed m same peer number ends values (packed_for r.context peer values) refl
+
+  -- an answer that nobody waits for
+  by_oneway : (a : Answer) → Moves n (oneway_answer a (popped r))
+  by_oneway (Given v outs) = quiet refl refl
+  by_oneway (Raised e) = quiet refl refl
+
+  -- an answer, wherever it goes
+  by_delivery : (a : Answer) (reason : Reason) → Moves n (delivery r a reason)
+  by_delivery a reasons.Start = quiet refl refl
+  by_delivery a reasons.Local = quiet refl refl
+  by_delivery a (reasons.Oneway peer) = by_oneway a
+  by_delivery a (reasons.Call peer number) =
+      either (Moves n) (not (is_open n peer)) (only (popped r)) _ (λ _. quiet refl refl)
+      (λ o. by_replying (popped r) refl peer number (not_closed (is_open n peer) o) a)
+
+  -- an exception, caught or not
+  by_failing : (e : Exc) (handler : Option Handler) → Moves n (failing r e handler)
+  by_failing e None = by_delivery (Raised e) r.top.reason
+  by_failing e (Some h) = quiet refl refl
+
+  -- a request to a peer
+  by_requesting : (m : Node) → links_of m ≡ links_of n → (peer number : ℕ) →
+      is_open n peer ≡ true → (request : Request) → IsRequest n request →
+      Moves n (requesting peer number request m)
+  by_requesting m same peer number ends requests.Root h = quiet (sym same) refl
+  by_requesting m same peer number ends (requests.Call method x) h =
+      sends n m peer x.packet (items.Call number x) same refl ends h
+
+  -- each verdict
+  by_verdict : (v : Verdict) → IsSent n v → Moves n (effect_of r v)
+  by_verdict (Goes into value pc) h = quiet refl refl
+  by_verdict (Uses result outs) h = quiet refl refl
+  by_verdict (Steps pc locals handler writes) h = quiet refl refl
+  by_verdict (Makes class into pc) h = quiet refl refl
+  by_verdict (Vends root pc) h = quiet refl refl
+  by_verdict (Says value pc) h = quiet refl refl
+  by_verdict (Asks peer request into outs pc) h =
+      let m = uses_number (with_top r (waits pc into outs (waits_for n peer request) r.top)) in
+      by_requesting m refl peer n.next_call h.0 request h.1
+  by_verdict (Begins o method values into outs pc) h = quiet refl refl
+  by_verdict (Tells peer m into pc) h =
+      sends n (with_top r (goes_on into Nil pc r.top)) peer m.packet (items.Oneway m) refl refl
+      h.0 h.1
+  by_verdict (Returns result outs) h = by_delivery (Given result outs) r.top.reason
+  by_verdict (Fails e) h = by_failing e r.top.handler
+
+  -- the state of the top invocation
+  by_state : (act : Acting) (state : InvState) →
+      MovesIf n (option_map (effect_of r) (state_rule act r state))
+  by_state act states.Running = by_verdict _ (by_act r (next_act act r))
+  by_state act (states.Answered a) = by_verdict _ (by_answer r a)
+  by_state act states.Below = tt
+  by_state act (states.Waits call peer what) = tt
+
+-- a run by the stack
+by_run_on : (act : Acting) (c : Context) (stack : List Invocation) →
+    MovesIf c.node (run_on act c stack)
+by_run_on act c [] = tt
+by_run_on act c (i ∷ is) =
+    let r : RunContext = record { context = c; top = i; below = is } in
+    by_state r act i.state
+
+-- a run
+pub by_run : (act : Acting) (c : Context) → MovesIf c.node (run_effect act c)
+by_run act c = by_run_on act c c.node.stack
+
+-- an invocation that is begun
+by_begun : (n : Node) (i : Option Invocation) → MovesIf n (option_map (λ i. only (pushed i n)) i)
+by_begun n None = tt
+by_begun n (Some i) = quiet refl refl
+
+-- a start
+pub by_start : (table : List Class) (selector : List ℕ) (values : List Value) (n : Node) →
+    MovesIf n (start_effect table selector values n)
+by_start table selector values n = by_begun n (begun table selector values n)
+
+-- a call that is given up
+by_give_up : (state : InvState) (i : Invocation) (below : List Invocation) (n : Node) →
+    MovesIf n (give_up state i below n)
+by_give_up states.Running i below n = tt
+by_give_up states.Below i below n = tt
+by_give_up (states.Waits call peer what) i below n = quiet refl refl
+by_give_up (states.Answered a) i below n = tt
+
+-- a time-out by the stack
+by_time_out_on : (stack : List Invocation) (n : Node) → MovesIf n (time_out_on stack n)
+by_time_out_on [] n = tt
+by_time_out_on (i ∷ below) n = by_give_up i.state i below n
+
+-- a time-out
+pub by_time_out : (n : Node) → MovesIf n (time_out n)
+by_time_out n = by_time_out_on n.stack n

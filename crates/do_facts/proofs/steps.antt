@@ -1,0 +1,6 @@
+pub mod EachIsStep
+pub mod OthersStay
+pub mod QueuesOfSteps
+pub mod EntriesOfSteps
+pub mod HeldReferred
+pub mod GivenUp

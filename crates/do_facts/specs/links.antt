@@ -1,0 +1,5 @@
+pub mod Links
+pub mod Moves
+pub mod Sound
+pub mod Facts
+pub mod LinksAreKept

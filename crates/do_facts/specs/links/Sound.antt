@@ -1,0 +1,14 @@
+-- What every node keeps of foreign objects.
+use Rattle.std.specs.Prelude.{true, ◌≡◌}
+use Rattle.do_base.specs.names.Names.{ObjectName}
+use Rattle.do_packet.specs.Met.{has_object, same_object}
+use Rattle.do_machine.specs.lend.Asking.{same_wanted}
+use Rattle.do_facts.specs.StandOnce.{StandOnce}
+use Rattle.do_facts.specs.links.Links.{Links}
+use Rattle.do_facts.specs.links.Moves.{opens}
+
+-- what is held is held once and over an open end, and what is asked for is asked for once
+pub record IsSound (p : Links) : Type 0 where
+  pub held : StandOnce same_object p.held
+  pub reached : (o : ObjectName) → has_object p.held o ≡ true → opens p o.node ≡ true
+  pub asked : StandOnce same_wanted p.asked

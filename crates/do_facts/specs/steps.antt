@@ -1,0 +1,4 @@
+pub mod IsStep
+pub mod Queues
+pub mod Held
+pub mod GivenUp

@@ -1,0 +1,37 @@
+ghost use Rattle.std.specs.Prelude.{List};
+ghost use Rattle.do_base.specs.declared.events.event.Event.{Event};
+ghost use Rattle.do_class.specs.Class.{Class};
+ghost use Rattle.do_machine.specs.declared.state.Seat.{Seat};
+ghost use Rattle.do_machine.specs.declared.state.State.{State};
+ghost use Rattle.do_machine.specs.Step.{step};
+ghost use Rattle.do_machine.specs.World.{opening};
+ghost use Rattle.do_machine.specs.run.Run.{Acting};
+ghost use Rattle.do_facts.specs.Moves.{Reaches};
+ghost use Rattle.do_facts.specs.Reached.{reached};
+ghost use Rattle.do_facts.specs.View.{net_of};
+ghost use Rattle.do_facts.specs.calls.Calls.{calls};
+ghost use Rattle.do_facts.specs.calls.Facts.{AnswersAreKnown, CallsAreKept};
+ghost use Rattle.do_facts.specs.calls.Moves.{call_rules};
+
+/// Every step is a list of moves of the calls of nodes, and of losses.
+///
+/// Each move is of one node, takes one atom at most, and posts one at most, over an open end.
+pub fn steps_are_moves_of_calls()
+    ensures { (table : List Class) (act : Acting) (S : State) (event : Event) → CallsAreKept S →
+        Reaches call_rules (net_of calls S) (net_of calls (step table act S event).state) }
+{}
+
+/// In every state that a machine comes to, each call is in one place.
+///
+/// So each answer on its way to an open end is waited for, or late, by exactly one, of its kind.
+pub fn calls_are_in_one_place()
+    ensures opening { (table : List Class) (seats : List Seat) →
+        CallsAreKept (opening table seats) }
+    ensures steps { (table : List Class) (act : Acting) (S : State) (event : Event) →
+        CallsAreKept S → CallsAreKept (step table act S event).state }
+    ensures schedules { (table : List Class) (act : Acting) (seats : List Seat)
+        (events : List Event) → CallsAreKept (reached table act seats events) }
+    ensures answers { (table : List Class) (act : Acting) (seats : List Seat)
+        (events : List Event) →
+        AnswersAreKnown (net_of calls (reached table act seats events)) }
+{}

@@ -1,0 +1,40 @@
+ghost use Rattle.std.specs.Prelude.{List};
+ghost use Rattle.do_base.specs.declared.events.event.Event.{Event};
+ghost use Rattle.do_class.specs.Class.{Class};
+ghost use Rattle.do_machine.specs.declared.state.Seat.{Seat};
+ghost use Rattle.do_machine.specs.declared.state.State.{State};
+ghost use Rattle.do_machine.specs.Step.{step};
+ghost use Rattle.do_machine.specs.World.{opening};
+ghost use Rattle.do_machine.specs.run.Run.{Acting};
+ghost use Rattle.do_facts.specs.Moves.{Reaches};
+ghost use Rattle.do_facts.specs.Reached.{reached};
+ghost use Rattle.do_facts.specs.View.{net_of};
+ghost use Rattle.do_facts.specs.links.Facts.{ReportsAreKnown};
+ghost use Rattle.do_facts.specs.links.Links.{links};
+ghost use Rattle.do_facts.specs.links.LinksAreKept.{LinksAreKept};
+ghost use Rattle.do_facts.specs.links.Moves.{link_rules};
+
+/// Every step is a list of moves of what nodes have of foreign objects, and of losses.
+///
+/// Each move is of one node, takes one atom at most, and posts one at most, over an open end.
+pub fn steps_are_moves()
+    ensures { (table : List Class) (act : Acting) (S : State) (event : Event) → LinksAreKept S →
+        Reaches link_rules (net_of links S) (net_of links (step table act S event).state) }
+{}
+
+/// In every state that a machine comes to, each lend and each ask is in one place, and a token that
+/// was not given is nowhere.
+///
+/// So what comes over an open end is known: a lend that is over is lent, an answer to an ask is
+/// asked for, each once, and what is lent anew was not asked for.
+pub fn lends_and_asks_are_in_one_place()
+    ensures opening { (table : List Class) (seats : List Seat) →
+        LinksAreKept (opening table seats) }
+    ensures steps { (table : List Class) (act : Acting) (S : State) (event : Event) →
+        LinksAreKept S → LinksAreKept (step table act S event).state }
+    ensures schedules { (table : List Class) (act : Acting) (seats : List Seat)
+        (events : List Event) → LinksAreKept (reached table act seats events) }
+    ensures reports { (table : List Class) (act : Acting) (seats : List Seat)
+        (events : List Event) →
+        ReportsAreKnown (net_of links (reached table act seats events)) }
+{}
