@@ -1,0 +1,10 @@
+pub mod EndsWithin
+pub mod QuietLinks
+pub mod ReachedWithin
+pub mod QuietStates
+pub mod HeldUpStill
+pub mod NodesKeep
+pub mod StoredKept
+pub mod CalmMoves
+pub mod CalmSteps
+pub mod EndsStayOpen

@@ -1,0 +1,11 @@
+use Rattle.do_facts.specs.Reached.{reached}
+use Rattle.do_quiet.proofs.NodesKeep.{reached_nodes_keep}
+use Rattle.do_quiet.proofs.QuietStates.{quiet_lends_nothing}
+use Rattle.do_quiet.proofs.StoredKept.{stored_kept_by_all}
+use Rattle.do_quiet.proofs.laws.stored_are_kept_by_all.Goals as goal
+
+pub returns : goal.returns
+returns c table act seats events ends waits =
+    stored_kept_by_all (reached table act seats events)
+    (reached_nodes_keep table act seats events) waits
+    (quiet_lends_nothing table seats act events ends waits)

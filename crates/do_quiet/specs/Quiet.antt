@@ -1,0 +1,28 @@
+-- States in which all ends are open and nothing is on its way.
+use Rattle.std.specs.Prelude.{List, Some, [], false, true, ℕ, ◌==◌, ◌≡◌}
+use Rattle.do_base.specs.declared.events.event.Event.{Event}
+use Rattle.do_base.specs.declared.events.event.Event.TheVariants as events
+use Rattle.do_machine.specs.declared.item.Item.{Item}
+use Rattle.do_machine.specs.declared.node.Node.{Node}
+use Rattle.do_machine.specs.declared.state.State.{State}
+use Rattle.do_machine.specs.State.{is_open, node, queue}
+
+-- each node's end towards each other node is open
+pub record AllEndsOpen (S : State) : Type 0 where
+  pub reach : (port peer : ℕ) (n m : Node) → node S port ≡ Some n → node S peer ≡ Some m →
+      (peer == port) ≡ false → is_open n peer ≡ true
+
+-- each queue is empty
+pub record NothingWaits (S : State) : Type 0 where
+  pub empty : (from to : ℕ) (items : List Item) → queue S from to ≡ Some items → items ≡ []
+
+-- no node lends an object, and none asks for one
+pub record NothingLent (S : State) : Type 0 where
+  pub lent : (port : ℕ) (n : Node) → node S port ≡ Some n → n.lent ≡ []
+  pub asked : (port : ℕ) (n : Node) → node S port ≡ Some n → n.asked ≡ []
+
+-- the event closes nothing and loses nothing
+abbrev pub IsNoBreak : Event → Type 0
+IsNoBreak (events.Close port peer) = ⊥
+IsNoBreak (events.Lose from to after) = ⊥
+IsNoBreak _ = Unit {0}

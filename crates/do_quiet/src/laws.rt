@@ -1,0 +1,40 @@
+ghost use Rattle.std.specs.Prelude.{List};
+ghost use Rattle.std.specs.List.{AllByRecursion};
+ghost use Rattle.do_base.specs.declared.events.event.Event.{Event};
+ghost use Rattle.do_class.specs.Class.{Class};
+ghost use Rattle.do_machine.specs.declared.state.Seat.{Seat};
+ghost use Rattle.do_machine.specs.run.Run.{Acting};
+ghost use Rattle.do_facts.specs.Reached.{reached};
+ghost use Rattle.do_quiet.specs.Keeping.{AreKeptByAll, NodesKeep, is_stored};
+ghost use Rattle.do_quiet.specs.Quiet.{AllEndsOpen, IsNoBreak, NothingLent, NothingWaits};
+
+/// Where nothing is closed and nothing lost, all ends stay open.
+pub fn ends_stay_open_unless_broken()
+    ensures { (table : List Class) (act : Acting) (seats : List Seat) (events : List Event) →
+        AllByRecursion IsNoBreak events → AllEndsOpen (reached table act seats events) }
+{}
+
+/// Where all ends are open and nothing is on its way, no node lends an object or asks for one.
+pub fn nothing_is_lent_when_quiet()
+    ensures { (table : List Class) (act : Acting) (seats : List Seat) (events : List Event) →
+        AllEndsOpen (reached table act seats events) →
+        NothingWaits (reached table act seats events) →
+        NothingLent (reached table act seats events) }
+{}
+
+/// In every state that a machine comes to, what each node stores holds itself up, with the entries
+/// of that state, and a node holds no foreign object that it does not name.
+pub fn nodes_keep_what_is_held_up()
+    ensures { (table : List Class) (act : Acting) (seats : List Seat) (events : List Event) →
+        NodesKeep (reached table act seats events) }
+{}
+
+/// Where all ends are open and nothing is on its way, the stored objects are exactly those that all
+/// nodes together keep: the greatest set of stored objects of which each is a root, or is named by
+/// an invocation or by a slot of one of them, on whichever node.
+pub fn stored_are_kept_by_all()
+    ensures { (table : List Class) (act : Acting) (seats : List Seat) (events : List Event) →
+        AllEndsOpen (reached table act seats events) →
+        NothingWaits (reached table act seats events) →
+        AreKeptByAll (reached table act seats events) (is_stored (reached table act seats events)) }
+{}
