@@ -1,0 +1,13 @@
+use Rattle.std.proofs.Common.{◌≡◌, ◌+◌, ◌≤◌, length}
+use Rattle.do_grammar.specs.Lines.{cut}
+use Rattle.do_record.specs.Recorded.{read_lines, record_of}
+use Rattle.do_record.proofs.reading.read_record.Given as goal
+
+abbrev pub invariant-loop-text : goal.invariant-loop-text
+invariant-loop-text l = record {
+  reads : record_of l.bytes ≡ read_lines l.port (l.number + 1) l.blocks (cut l.rest);
+  within : l.number + length l.rest ≤ length l.bytes;
+}
+
+abbrev pub decreases-loop-text : goal.decreases-loop-text
+decreases-loop-text l = length l.rest

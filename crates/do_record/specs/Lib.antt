@@ -1,0 +1,4 @@
+pub mod Value
+pub mod Shown
+pub mod Line
+pub mod Recorded

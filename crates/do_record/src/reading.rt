@@ -1,0 +1,79 @@
+//! Records, read line by line.
+ghost use Rattle.std.specs.Prelude.{◌≡◌, ◌++◌, ◌∷◌, [], IfOk};
+ghost use Rattle.do_sched.specs.Answers.{AnswersWith};
+ghost use Rattle.do_record.specs.Recorded.{HasShown, record_of, with_shown};
+
+use crate::line::{RecordText, first_port, text_of};
+use crate::parts::{Block, Blocks, Record};
+use do_base::Text;
+use do_grammar::line_of;
+use do_sched::SchedFault;
+use std::alloc::{AllocError, Global};
+
+/// Adds a line to what the last block shows. False where there is no block.
+#[tactic(auto, using(crate::proofs::Showing::shown_last))]
+fn add_shown(blocks: &mut Blocks, line: &[u8]) -> Result<bool, AllocError>
+    ensures { IfOk result (λ added.
+        HasShown (with_shown (line.now ++ 10 ∷ []) blocks.old) added blocks.new) }
+{
+    let Some(mut block) = blocks.pop() else {
+        return Ok(false);
+    };
+    block.shown.push_bytes(line)?;
+    block.shown.push(b'\n')?;
+    blocks.push(block)?;
+    Ok(true)
+}
+
+/// The record that bytes are.
+///
+/// Where they are none, `BadLine` has the first line that is no line of a record of that node, or
+/// that has no line feed. No other fault comes but that memory ran out.
+pub fn read_record(alloc: Global, bytes: &[u8]) -> Result<Record, SchedFault>
+    ensures { AnswersWith (record_of bytes.now) result }
+{
+    let Some((text, fed, behind)) = line_of(bytes) else {
+        return Err(SchedFault::BadLine(1));
+    };
+    let Some(port) = first_port(text, fed) else {
+        return Err(SchedFault::BadLine(1));
+    };
+    let mut blocks = Blocks::new(alloc);
+    let mut number: u64 = 1;
+    let mut rest = behind;
+    while let Some((text, fed, after)) = line_of(rest) {
+        number += 1;
+        match text_of(alloc, port, text, fed)? {
+            RecordText::Bad => return Err(SchedFault::BadLine(number)),
+            RecordText::End => {
+                if after.is_empty() {
+                    return Ok(Record {
+                        port,
+                        blocks,
+                        whole: true,
+                    });
+                }
+                return Err(SchedFault::BadLine(number + 1));
+            }
+            RecordText::Input(input) => {
+                let shown = Text::new(alloc);
+                blocks.push(Block {
+                    line: number,
+                    input,
+                    shown,
+                })?;
+            }
+            RecordText::Shown => {
+                if !add_shown(&mut blocks, text)? {
+                    return Err(SchedFault::BadLine(number));
+                }
+            }
+        }
+        rest = after;
+    }
+    Ok(Record {
+        port,
+        blocks,
+        whole: false,
+    })
+}
