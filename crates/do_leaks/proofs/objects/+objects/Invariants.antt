@@ -1,0 +1,8 @@
+use Rattle.std.proofs.Common.{◌≡◌, ◌++◌, take}
+use Rattle.std.specs.List.{flat_map}
+use Rattle.do_base.specs.values.Values.{objects_of}
+use Rattle.do_leaks.proofs.objects.+objects.Given as goal
+
+abbrev pub invariant-push_all_objects-loop-value : goal.invariant-push_all_objects-loop-value
+invariant-push_all_objects-loop-value l =
+    l.objects ≡ l.fn.objects ++ flat_map objects_of (take l.value-index l.value-items)
