@@ -1,0 +1,5 @@
+pub mod LinesSoFar
+pub mod OneAnswer
+pub mod WordChoice
+pub mod StartsExact
+pub mod PlanExact
