@@ -1,0 +1,85 @@
+//! The link over sockets of this machine.
+ghost use Rattle.std.specs.Prelude.{◌≡◌, ◌∷◌, [], None};
+
+use crate::streams::{Sent, Streams};
+use do_base::NodeId;
+use do_link::{Link, LinkEvent, LinkFail};
+use std::alloc::Global;
+use std::net::Net;
+
+/// A link over sockets of this machine: a stream for each direction between two nodes, which begins
+/// with the sender's port as two bytes, the high byte first.
+///
+/// It opens a stream to a peer at the first send; a peer that does not listen yet is asked again
+/// for a second. An incoming stream that ends before it said its port, that says one of no peer, or
+/// one for the second time, is dropped, and so is the oldest of more than 128 streams that have
+/// said nothing. A poll that finds nothing waits for a socket, at most as long as it was made to. A send
+/// keeps what comes in while its peer takes nothing, so that of two nodes that both send neither
+/// waits for the other; it is `Failed` after a minute of that. What is kept so has no limit but
+/// memory; a poll reads 64 KiB at most, and nothing is read between polls. It tells no list.
+#[derive(Drop)]
+pub struct TcpLink<R: Net> {
+    rt: R,
+    streams: Streams<R>,
+    faults: u64,
+    quiets: u64,
+    wait: u64,
+}
+
+impl<R: Net + Drop> TcpLink<R> {
+    /// A link before its listen. A poll that finds nothing waits `wait` microseconds at most for a
+    /// socket; the system may round them up to a millisecond. For 0 it does not wait.
+    pub fn new(alloc: Global, rt: R, wait: u64) -> Self {
+        TcpLink {
+            rt,
+            streams: Streams::new(alloc),
+            faults: 0,
+            quiets: 0,
+            wait,
+        }
+    }
+}
+
+impl<R: Net> Link for TcpLink<R> {
+    ghost told = { λ _. None };
+
+    ghost faults = { λ s. s.faults };
+
+    ghost quiets = { λ s. s.quiets };
+
+    fn listen(&mut self, port: NodeId, peers: &[NodeId]) -> Result<(), LinkFail> {
+        let listened = self.streams.listen(&self.rt, port, peers);
+        if matches!(&listened, Err(LinkFail::Failed)) {
+            self.faults = self.faults.saturating_add(1);
+        }
+        listened
+    }
+
+    fn next(&mut self, buf: &mut [u8]) -> LinkEvent {
+        let event = self.streams.poll(buf);
+        if !matches!(&event, LinkEvent::Quiet) {
+            return event;
+        }
+        if self.wait > 0 {
+            self.streams.pause(self.wait);
+        }
+        self.streams.accept();
+        self.streams.name_streams();
+        let event = self.streams.poll(buf);
+        if matches!(&event, LinkEvent::Quiet) {
+            self.quiets = self.quiets.saturating_add(1);
+        }
+        event
+    }
+
+    fn send(&mut self, to: NodeId, bytes: &[u8]) -> Result<(), LinkFail> {
+        match self.streams.send(&self.rt, to, bytes) {
+            Sent::All => Ok(()),
+            Sent::Memory => Err(LinkFail::Memory),
+            Sent::Failed => {
+                self.faults = self.faults.saturating_add(1);
+                Err(LinkFail::Failed)
+            }
+        }
+    }
+}

@@ -1,0 +1,50 @@
+//! The sockets that a poll waits for.
+use do_link::LinkFail;
+use mio::unix::SourceFd;
+use mio::{Events, Interest, Poll, Token};
+use std::alloc::Global;
+use std::net::Net;
+use std::os::fd::AsRawFd;
+use std::time::Duration;
+
+/// The sockets that a poll waits for.
+#[derive(Drop)]
+pub struct Waiter {
+    poll: Poll,
+    events: Events,
+}
+
+impl Waiter {
+    /// A waiter for no socket.
+    pub fn new(rt: &impl Net, alloc: Global) -> Result<Self, LinkFail> {
+        let poll = Poll::new(rt).map_err(|_| LinkFail::Failed)?;
+        Ok(Waiter {
+            poll,
+            events: Events::with_capacity(alloc, 16)?,
+        })
+    }
+
+    /// Waits for a socket from now on. It says whether the system does.
+    pub fn watch(&self, socket: &impl AsRawFd, interest: Interest) -> bool {
+        let fd = socket.as_raw_fd();
+        self.poll
+            .registry()
+            .register(&mut SourceFd(&fd), Token(0), interest)
+            .is_ok()
+    }
+
+    /// Waits until a socket is ready, at most this many microseconds.
+    pub fn wait(&mut self, micros: u64) {
+        let _ = self
+            .poll
+            .poll(&mut self.events, Some(Duration::from_micros(micros)));
+    }
+}
+
+/// The same where there is a waiter.
+pub fn watch(waiter: &Option<Waiter>, socket: &impl AsRawFd, interest: Interest) -> bool {
+    match waiter {
+        Some(waiter) => waiter.watch(socket, interest),
+        None => false,
+    }
+}
