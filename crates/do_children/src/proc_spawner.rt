@@ -1,0 +1,133 @@
+//! Children that run a program through `sh`.
+ghost use Rattle.std.specs.Prelude.{◌≡◌, ◌+◌, ◌<◌, ◌≤◌, OnOk, None, vec_len};
+
+use do_base::Word;
+use do_lab::{ChildId, SpawnFail, Spawner};
+use std::alloc::Global;
+use std::net::{Ipv4Addr, Net, TcpStream};
+use std::process::{Child, Command, Processes, Stdio};
+use std::{io, str};
+
+/// How often the port of a new child is tried.
+const TRIES: u32 = 100_000;
+
+/// What `sh` does with its words: the path of the program, a command, and the port. The words are
+/// parameters, and no part of this text.
+const SCRIPT: &str = "p=$3; exec \"$@\" >\"$p.record\"";
+
+/// Starts a program through `sh`, which sends its standard output to the file `PORT.record`.
+///
+/// A start answers once the port accepts a connection or 100,000 tries were spent. It is `Failed`
+/// only where the program could not be started. It tells no list.
+#[derive(Drop)]
+pub struct ProcSpawner<R: Processes> {
+    rt: R,
+    alloc: Global,
+    program: Option<String>,
+    children: Vec<Child<R::Started>>,
+    faults: u64,
+}
+
+impl<R: Processes + Drop> ProcSpawner<R> {
+    /// A spawner of the program at a path, before its first start. With no path each start fails.
+    pub fn new(alloc: Global, rt: R, program: Option<String>) -> Self {
+        ProcSpawner {
+            rt,
+            alloc,
+            program,
+            children: Vec::new(alloc),
+            faults: 0,
+        }
+    }
+}
+
+/// Starts the program with these words.
+fn start_child<R: Processes>(
+    rt: &R,
+    alloc: Global,
+    program: &str,
+    words: &[Word],
+) -> io::Result<Child<R::Started>> {
+    let mut command = Command::new(alloc, "sh")?;
+    command.arg("-c")?.arg(SCRIPT)?.arg("sh")?.arg(program)?;
+    for word in words {
+        match str::from_utf8(word.as_slice()) {
+            Ok(text) => {
+                command.arg(text)?;
+            }
+            Err(_) => return Err(io::Error::from(io::ErrorKind::InvalidInput)),
+        }
+    }
+    command.stdin(Stdio::null());
+    command.spawn(rt)
+}
+
+/// Tries a port until it accepts a connection, or the tries are spent.
+fn await_port<R: Net>(rt: &R, port: u16) {
+    for _ in 0..TRIES {
+        if TcpStream::connect(rt, (Ipv4Addr::LOCALHOST, port)).is_ok() {
+            return;
+        }
+    }
+}
+
+/// The port that the second word is.
+fn port_of(words: &[Word]) -> Option<u16> {
+    let word = words.get(1)?;
+    match str::from_utf8(word.as_slice()) {
+        Ok(text) => text.parse::<u16>().ok(),
+        Err(_) => None,
+    }
+}
+
+impl<R: Processes + Net> ProcSpawner<R> {
+    /// Starts a child, and waits for its port.
+    fn start_one(&mut self, words: &[Word]) -> io::Result<()>
+        ensures faults { self.new.faults ≡ self.old.faults }
+        ensures kept { vec_len self.old.children ≤ vec_len self.new.children }
+        ensures added { OnOk result (vec_len self.new.children ≡ vec_len self.old.children + 1) }
+    {
+        let Some(program) = &self.program else {
+            return Err(io::Error::from(io::ErrorKind::NotFound));
+        };
+        self.children.reserve(1)?;
+        let child = start_child(&self.rt, self.alloc, program.as_str(), words)?;
+        self.children.push(child)?;
+        if let Some(port) = port_of(words) {
+            await_port(&self.rt, port);
+        }
+        Ok(())
+    }
+}
+
+impl<R: Processes + Net> Spawner for ProcSpawner<R> {
+    ghost told = { λ _. None };
+
+    ghost faults = { λ s. s.faults };
+
+    ghost is_running = { λ s n. n < vec_len s.children };
+
+    ghost next_child = { λ s. vec_len s.children };
+
+    fn start(&mut self, words: &[Word]) -> Result<ChildId, SpawnFail> {
+        let number = self.children.len() as u64;
+        match self.start_one(words) {
+            Ok(()) => Ok(ChildId(number)),
+            Err(e) if e.kind() == io::ErrorKind::OutOfMemory => Err(SpawnFail::Memory),
+            Err(_) => {
+                self.faults = self.faults.saturating_add(1);
+                Err(SpawnFail::Failed)
+            }
+        }
+    }
+
+    fn ended(&mut self, child: ChildId) -> Result<i32, SpawnFail> {
+        match self.children[child.0 as usize].wait() {
+            Ok(status) => Ok(status.code().unwrap_or(-1)),
+            Err(_) => {
+                self.faults = self.faults.saturating_add(1);
+                Err(SpawnFail::Failed)
+            }
+        }
+    }
+}
