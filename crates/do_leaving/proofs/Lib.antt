@@ -1,0 +1,16 @@
+mod RisingLists
+mod StoreLookups
+mod SlotNames
+mod MachineKeeps
+mod SweptIsKept
+mod TakenInTurn
+mod CountsOff
+mod SerialsRise
+mod LeaversFound
+mod OneLeaves
+mod LeftSoFar
+mod SweepFrees
+mod LeaversAreDropped
+mod UsesOff
+mod SweptSoFar
+mod FreedThenLeft

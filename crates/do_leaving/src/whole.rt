@@ -1,0 +1,75 @@
+//! All that a node frees and leaves after a step.
+ghost use Rattle.std.specs.Prelude.{◌≡◌, ℕ, ◌+◌, ◌≤◌, Bool, length, vec_capacity, map as each, OnOk};
+ghost use Rattle.std.specs.FinMap as map;
+ghost use Rattle.do_machine.specs.declared.node.Node.{Node};
+ghost use Rattle.do_machine.specs.held.Leaving.{leaving};
+ghost use Rattle.do_leaving.specs.Counted.{Counted};
+ghost use Rattle.do_leaving.specs.Leavers.{classes_left, leavers, told};
+ghost use Rattle.do_leaving.specs.Left.{IsEffect};
+
+use crate::dropping::leave_all;
+use crate::sweeping::sweep_all;
+use do_base::Oid;
+use do_import::Imports;
+use do_store::Store;
+use std::alloc::AllocError;
+
+/// Empties the lists, and makes room in them for all that `leave` may tell once `more` further
+/// objects are stored and as many received.
+///
+/// If memory runs out, neither list has room that can be counted on, and nothing else is changed.
+pub fn make_room(
+    store: &Store,
+    imports: &Imports,
+    more: u64,
+    freed: &mut Vec<u64>,
+    left: &mut Vec<(Oid, u64)>,
+) -> Result<(), AllocError>
+    ensures freed { OnOk result (length store.now.objects + more ≤ vec_capacity freed.new) }
+    ensures left { OnOk result (map.len imports.now.received + more ≤ vec_capacity left.new) }
+{
+    let Some(stored) = store.bound().checked_add(more) else {
+        return Err(AllocError);
+    };
+    let Some(received) = imports.len().checked_add(more) else {
+        return Err(AllocError);
+    };
+    freed.clear();
+    freed.reserve(stored as usize)?;
+    left.clear();
+    left.reserve(received as usize)
+}
+
+/// Frees the own objects that a node does not keep, and leaves the foreign ones to which it then no
+/// longer refers.
+///
+/// The lists then tell what was freed, by rising serial, and what was left, by rising port and
+/// serial, each with the number of times that it was received: so many names go back to its home.
+/// No memory is taken, and the time depends on what is freed and left alone.
+pub fn leave(
+    store: &mut Store,
+    imports: &mut Imports,
+    freed: &mut Vec<u64>,
+    left: &mut Vec<(Oid, u64)>,
+)
+    requires room { length store.old.objects ≤ vec_capacity freed.old }
+    requires more { map.len imports.old.received ≤ vec_capacity left.old }
+    ensures leaves { (entry : ℕ → ℕ → Bool) (n : Node) → Counted entry n store.old imports.old
+        → IsEffect entry n (leaving entry n) store.new imports.new freed.new.items left.new.items }
+    ensures told { left.new.items
+        ≡ each told (leavers imports.old.received imports.new.uses) }
+    ensures same { imports.new ≡ record imports.old {
+      received = imports.new.received;
+      uses = imports.new.uses;
+      classes = classes_left imports.old imports.new.received;
+      spare = imports.new.spare;
+    } }
+    ensures node { store.new.node ≡ store.old.node }
+    ensures next { store.new.next ≡ store.old.next }
+    ensures spare { store.new.spare ≡ store.old.spare }
+    ensures room_left { imports.old.spare ≤ imports.new.spare }
+{
+    sweep_all(store, imports, freed);
+    left.clear();
+    leave_all(imports, left);
+}
