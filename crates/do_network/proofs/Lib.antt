@@ -1,0 +1,14 @@
+pub mod EnabledIsDone
+pub mod OtherPlaces
+pub mod JudgedAlike
+pub mod ListSearch
+pub mod OpeningPairs
+pub mod OpeningFits
+pub mod NotesCounted
+pub mod CountsAreEntries
+pub mod NoFault
+pub mod FramesRead
+pub mod CountsFollow
+pub mod LossLeavesFront
+pub mod FirstGreets
+pub mod ClassesKept

@@ -1,0 +1,8 @@
+use Rattle.std.proofs.Common.{ap}
+use Rattle.std.specs.Prelude.{option_map}
+use Rattle.do_network.proofs.OtherPlaces.{elsewhere}
+use Rattle.do_network.proofs.laws.sites.other_sites_stay.Goals as goal
+
+pub returns : goal.returns
+returns c port other N h apart =
+    ap (λ found. option_map (λ x. x.part) found) (elsewhere port other h N.places apart)

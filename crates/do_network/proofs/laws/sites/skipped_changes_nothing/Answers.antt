@@ -1,0 +1,6 @@
+use Rattle.do_network.proofs.EnabledIsDone.{enabled_done, skipped_stays}
+use Rattle.do_network.proofs.laws.sites.skipped_changes_nothing.Goals as goal
+
+pub returns : goal.returns
+returns c table act p input skipped =
+    skipped_stays p _ (enabled_done table act p input) skipped

@@ -1,0 +1,5 @@
+pub mod Samples
+mod Streams
+mod PeerFaults
+mod Channels
+mod Ends
