@@ -1,0 +1,55 @@
+use Rattle.std.proofs.Common.{◌+◌, ap, sym, ◌∙◌, arith, refl}
+use Rattle.do_stack.specs.Uses.{invocation_values}
+use Rattle.do_part.specs.Names.{values_of, stack_of}
+use Rattle.do_part.specs.declared.tally.Tally.TheVariants.{More}
+use Rattle.do_part.proofs.Exchanging.{stack-cons}
+use Rattle.do_part.proofs.Rest.{numbers_gone, own_stack, room_kept}
+use Rattle.do_part.proofs.Tallying.{tallied-none}
+use Rattle.do_part.proofs.Turning.{stack_go, sound_moved, sound_stacked}
+use Rattle.do_part.proofs.part.Part.pop.Goals as goal
+
+pub tally_invocation-requires : goal.tally_invocation-requires
+tally_invocation-requires c =
+    let i = c.self.inside in
+    stack_go i c.self.invariant _ c.self.view_is i.holders (λ o. 0)
+    (values_of (invocation_values c.in-Some.top)) 0 (λ n above. absurd (omega (arith, above)))
+    (tallied-none More i.holders (λ o. 0) 0 (λ o. refl) refl)
+    (λ o. let x = ap (λ l. stack_of l o) c.in-Some.ensures.taken in
+    let y = stack-cons c.in-Some.top c.pop.new.self.invocations o in omega (arith, x, y))
+
+-- without an invocation nothing changes
+pub invariant_of-self : goal.invariant_of-self
+invariant_of-self c =
+    let none = c.in_default.ensures.taken in
+    sound_stacked c.self.inside c.self.invariant c.pop.new.self
+    (λ o. ap (λ l. stack_of l o) (none.1 ∙ sym none.0))
+
+pub invariant_of-self-2 : goal.invariant_of-self-2
+invariant_of-self-2 c =
+    let i = c.self.inside in
+    sound_moved i c.self.invariant _ c.self.view_is i.holders c.tally_invocation.new.self
+    (λ o. 0) (values_of (invocation_values c.in-Some.top)) 0 c.pop.new.self i.next_call
+    (λ n above. absurd (omega (arith, above))) (λ o. omega arith) (omega arith)
+    (tallied-none More i.holders (λ o. 0) 0 (λ o. refl) refl) c.tally_invocation.ensures
+    (λ o. let x = ap (λ l. stack_of l o) c.in-Some.ensures.taken in
+    let y = stack-cons c.in-Some.top c.pop.new.self.invocations o in omega (arith, x, y))
+
+pub returns : goal.returns
+returns c =
+    let i = c.self.inside in
+    let b = c.tally_invocation.new.self in
+    let e = c.tally_invocation.ensures in
+    let numbers = numbers_gone i.holders b (values_of (invocation_values c.in-Some.top)) e in
+    let spare = e.spare in
+    let names = e.names in
+    rw (← c.self.view_is) (record {
+      own = (
+        c.in-Some.ensures.taken,
+        own_stack i b c.pop.new.self c.pop.new.self.invocations numbers (sym e.went.heap) refl
+            c.in-Some.ensures.late,
+      );
+      objects = room_kept i.holders b numbers;
+      room = c.in-Some.ensures.spare;
+      names = omega (arith, spare, names);
+      entries = refl;
+    })

@@ -1,0 +1,6 @@
+//! What happens to the invocations of a part.
+mod answering;
+mod calling;
+mod changing;
+mod invoking;
+mod stepping;

@@ -1,0 +1,51 @@
+//! The top invocation changed in place.
+ghost use Rattle.std.specs.Prelude.{◌≡◌, ◌<◌, ◌≤◌, ◌+◌, [], false, Some, length, slice_get};
+ghost use Rattle.do_behave.specs.Changes.{IsFitting, meaning};
+ghost use Rattle.do_behave.specs.InPlace.{after_act};
+ghost use Rattle.do_behave.specs.declared.invocation.Invocation.{Invocation};
+ghost use Rattle.do_machine.specs.run.Fresh.{with_stack};
+ghost use Rattle.do_stack.specs.Exchange.{given, takes_memory};
+ghost use Rattle.do_stack.specs.Waiting.{with_top};
+ghost use Rattle.do_part.specs.Names.{values_of, sizes_of};
+ghost use Rattle.do_part.specs.Names.{AreStored};
+
+use crate::part::Part;
+use do_behave::Change;
+
+impl Part {
+    /// Makes a change of the top invocation that takes no memory, but for its writes of slots.
+    pub(super) fn exchange(&mut self, change: Change)
+        requires top { 0 < length self.old.own.node.stack }
+        requires fits { (top : Invocation) → slice_get self.old.own.node.stack 0 ≡ Some top
+            → IsFitting top change }
+        requires memory { takes_memory change ≡ false }
+        requires names { sizes_of (given change) ≤ self.old.room.names }
+        requires stored { AreStored self.old.own.node (values_of (given change)) }
+        ensures own { self.new.own ≡ record self.old.own {
+          node = with_stack (with_top (λ i. (after_act (meaning i change) i []).inv)
+              self.old.own.node.stack) self.old.own.node;
+        } }
+        ensures objects { self.new.room.objects ≡ self.old.room.objects }
+        ensures invocations { self.new.room.invocations ≡ self.old.room.invocations }
+        ensures names { self.old.room.names ≤ self.new.room.names + sizes_of (given change) }
+        ensures entries { self.new.room.entries ≡ self.old.room.entries }
+    {
+        self.holders.come_given(&change);
+        let Ok(done) = self.stack.change(change) else {
+            unreachable!();
+        };
+        self.holders.go_taken(&done.taken);
+    }
+
+    /// The serial of the object of the top invocation.
+    pub(super) fn top_serial(&self) -> u64
+        requires { 0 < length self.now.own.node.stack }
+        ensures { (top : Invocation) → slice_get self.now.own.node.stack 0 ≡ Some top
+            → result ≡ top.object.serial }
+    {
+        let Some(top) = self.stack.top() else {
+            return 0;
+        };
+        top.object.serial
+    }
+}
