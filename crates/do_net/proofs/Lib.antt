@@ -1,0 +1,10 @@
+pub mod ForwardLoop
+pub mod FramesToldApart
+pub mod ShowLoop
+pub mod FirstFound
+pub mod HandIsStep
+pub mod HostPlaces
+pub mod TakeIsStep
+pub mod ListedPlaces
+pub mod LoseIsStep
+pub mod OpeningNetwork

@@ -1,0 +1,13 @@
+-- What was fetched so far went into the channels and was sent.
+use Rattle.std.proofs.Common.{length}
+use Rattle.do_net.specs.Hosts.{hosting}
+use Rattle.do_net.proofs.ForwardLoop.{Forwards}
+use Rattle.do_net.proofs.host.Host.forward.Given as goal
+
+abbrev pub invariant-loop-wire : goal.invariant-loop-wire
+invariant-loop-wire g l =
+    Forwards (hosting g.S.Hosted.seen l.fn.self) l.fn.wires.items (hosting g.S.Hosted.seen l.self)
+    l.wires.items
+
+abbrev pub decreases-loop-wire : goal.decreases-loop-wire
+decreases-loop-wire g l = length (g.S.Hosted.seen l.self.site).frames

@@ -1,0 +1,4 @@
+pub mod Seen
+pub mod Lanes
+pub mod Hosts
+pub mod Net

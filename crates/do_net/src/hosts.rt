@@ -1,0 +1,258 @@
+//! What an event does to the sites of a network.
+ghost use Rattle.std.specs.Prelude.{◌≡◌, ◌==◌, ◌<◌, List, IfOk, IfSome, Some, length, position, []};
+ghost use Rattle.std.specs.Prelude.{slice_get, true};
+ghost use Rattle.std.specs.List.{list_all, AllByRecursion};
+ghost use Rattle.do_class.specs.Class.{Class};
+ghost use Rattle.do_machine.specs.run.Run.{Acting};
+ghost use Rattle.do_base.specs.declared.events.event.Event.TheVariants.{Lose, Take};
+ghost use Rattle.do_network.specs.Snapshot.{net_snapshot};
+ghost use Rattle.do_network.specs.Step.{input_of, net_step};
+ghost use Rattle.do_network.specs.declared.wire.Wire as sent;
+ghost use Rattle.do_net.specs.Hosts.{Goes, HasFetched, NetAdvances, Rests, hostings, net_can_take};
+ghost use Rattle.do_net.specs.Hosts.{net_handed, net_is_open, net_of};
+ghost use Rattle.do_net.specs.Lanes.{carried_of};
+
+use crate::host::Host;
+use crate::hosted::Hosted;
+use crate::lane::Kept;
+use bytes::Bytes;
+use do_base::{Event, Items, NodeId, Reserved, ShownList};
+use do_frames::RawFrame;
+use do_machine::{NodeLines, Outcome, Snapshot};
+use do_network::{Input, Wire};
+use std::alloc::{AllocError, Global};
+
+/// Where the site of a port stands.
+fn host_at<S: Hosted>(hosts: &Items<Host<S>>, port: NodeId) -> Option<usize>
+    ensures index { result ≡ position (λ x. port == x.port) hosts.now }
+    ensures within { IfSome result (λ at. at < length hosts.now) }
+{
+    hosts.as_slice().iter().position(|host| host.port() == port)
+}
+
+/// The site at a place.
+#[tactic(auto, using(std::proofs::lemmas::Option::slice_get_read))]
+fn host_in<S: Hosted>(hosts: &Items<Host<S>>, at: usize) -> &Host<S>
+    requires { at < length hosts.now }
+    ensures { slice_get hosts.now at ≡ Some result.now }
+{
+    &hosts.as_slice()[at]
+}
+
+/// An event of which nothing is shown.
+fn shows_nothing(alloc: Global, enabled: bool) -> Outcome
+    ensures { result ≡ record { enabled = enabled; shown = [] } }
+{
+    Outcome {
+        enabled,
+        shown: ShownList::new(alloc),
+    }
+}
+
+/// The site of a port is handed an input.
+fn hand<S: Hosted>(
+    hosts: &mut Items<Host<S>>,
+    port: NodeId,
+    input: &Input,
+    wires: &mut Reserved<Wire>,
+) -> Result<Outcome, AllocError>
+    requires { AllByRecursion HasFetched (hostings S.seen hosts.old) }
+    ensures { (table : List Class) (act : Acting) →
+        AllByRecursion (Rests table act) (hostings S.seen hosts.old) →
+        IfOk result (λ outcome. Goes table act (hostings S.seen hosts.new) wires.old.items
+        wires.new.items outcome
+        (net_handed table act (net_of (hostings S.seen hosts.old)) port input.now)) }
+{
+    match host_at(hosts, port) {
+        Some(at) => hosts.at_mut(at).hand(input, wires),
+        None => Ok(shows_nothing(hosts.allocator(), false)),
+    }
+}
+
+/// Whether a node can take what another sends it.
+pub(crate) fn can_take<S: Hosted>(hosts: &Items<Host<S>>, port: NodeId, from: NodeId) -> bool
+    ensures { result ≡ net_can_take (net_of (hostings S.seen hosts.now)) port from }
+{
+    match host_at(hosts, port) {
+        Some(at) => host_in(hosts, at).can_take(from),
+        None => false,
+    }
+}
+
+/// Whether the end of a node towards another is open.
+fn is_open<S: Hosted>(hosts: &Items<Host<S>>, port: NodeId, peer: NodeId) -> bool
+    ensures { result ≡ net_is_open (net_of (hostings S.seen hosts.now)) port peer }
+{
+    match host_at(hosts, port) {
+        Some(at) => host_in(hosts, at).is_open(peer),
+        None => false,
+    }
+}
+
+/// What a node is handed of what stands in a lane from another.
+fn input_of(alloc: Global, from: NodeId, kept: &Kept) -> Result<Input, AllocError>
+    ensures { IfOk result (λ input. input ≡ input_of from (carried_of kept.now)) }
+{
+    let Kept::Frame(bytes) = kept else {
+        return Ok(Input::Ended(from));
+    };
+    let bytes = bytes.as_slice();
+    let kind = match bytes.first() {
+        Some(kind) => *kind,
+        None => 0,
+    };
+    let begins = bytes.len().min(5);
+    let payload = Bytes::copy_from_slice(alloc, &bytes[begins..])?;
+    Ok(Input::Frame(from, RawFrame { kind, payload }))
+}
+
+/// Takes out the oldest of what stands in the lane from one node to another.
+fn advance<S: Hosted>(hosts: &mut Items<Host<S>>, from: NodeId, to: NodeId) -> Option<Kept>
+    ensures fetched { AllByRecursion HasFetched (hostings S.seen hosts.old) →
+        AllByRecursion HasFetched (hostings S.seen hosts.new) }
+    ensures net { (table : List Class) (act : Acting) →
+        AllByRecursion (Rests table act) (hostings S.seen hosts.old) →
+        NetAdvances table act (hostings S.seen hosts.old) (hostings S.seen hosts.new) from to
+        result }
+{
+    match host_at(hosts, from) {
+        Some(at) => hosts.at_mut(at).advance(to),
+        None => None,
+    }
+}
+
+/// A node is handed what was taken out of the lane from another.
+fn hand_kept<S: Hosted>(
+    hosts: &mut Items<Host<S>>,
+    port: NodeId,
+    from: NodeId,
+    kept: &Kept,
+    wires: &mut Reserved<Wire>,
+) -> Result<Outcome, AllocError>
+    requires { AllByRecursion HasFetched (hostings S.seen hosts.old) }
+    ensures { (table : List Class) (act : Acting) →
+        AllByRecursion (Rests table act) (hostings S.seen hosts.old) →
+        IfOk result (λ outcome. Goes table act (hostings S.seen hosts.new) wires.old.items
+        wires.new.items outcome (net_handed table act (net_of (hostings S.seen hosts.old)) port
+        (input_of from (carried_of kept.now)))) }
+{
+    let input = input_of(hosts.allocator(), from, kept)?;
+    hand(hosts, port, &input, wires)
+}
+
+/// A node that can take it takes the oldest of what stands in the lane from another.
+fn take_oldest<S: Hosted>(
+    hosts: &mut Items<Host<S>>,
+    port: NodeId,
+    from: NodeId,
+    wires: &mut Reserved<Wire>,
+) -> Result<Outcome, AllocError>
+    requires fetched { AllByRecursion HasFetched (hostings S.seen hosts.old) }
+    requires can { net_can_take (net_of (hostings S.seen hosts.old)) port from ≡ true }
+    ensures { (table : List Class) (act : Acting) →
+        AllByRecursion (Rests table act) (hostings S.seen hosts.old) →
+        IfOk result (λ outcome. Goes table act (hostings S.seen hosts.new) wires.old.items
+        wires.new.items outcome
+        (net_step table act (net_of (hostings S.seen hosts.old)) (Take port from))) }
+{
+    match advance(hosts, from, port) {
+        Some(kept) => hand_kept(hosts, port, from, &kept, wires),
+        None => Ok(shows_nothing(hosts.allocator(), false)),
+    }
+}
+
+/// A node takes the oldest of what stands in the lane from another.
+fn take<S: Hosted>(
+    hosts: &mut Items<Host<S>>,
+    port: NodeId,
+    from: NodeId,
+    wires: &mut Reserved<Wire>,
+) -> Result<Outcome, AllocError>
+    requires { AllByRecursion HasFetched (hostings S.seen hosts.old) }
+    ensures { (table : List Class) (act : Acting) →
+        AllByRecursion (Rests table act) (hostings S.seen hosts.old) →
+        IfOk result (λ outcome. Goes table act (hostings S.seen hosts.new) wires.old.items
+        wires.new.items outcome
+        (net_step table act (net_of (hostings S.seen hosts.old)) (Take port from))) }
+{
+    if can_take(hosts, port, from) {
+        take_oldest(hosts, port, from, wires)
+    } else {
+        Ok(shows_nothing(hosts.allocator(), false))
+    }
+}
+
+/// A connection is lost behind so many of what stands in the lane from one node to another, where
+/// the end of the reader is open.
+fn lose<S: Hosted>(
+    hosts: &mut Items<Host<S>>,
+    from: NodeId,
+    to: NodeId,
+    after: u64,
+) -> Result<Outcome, AllocError>
+    ensures { (table : List Class) (act : Acting) (wires : List sent.Wire) →
+        AllByRecursion (Rests table act) (hostings S.seen hosts.old) →
+        IfOk result (λ outcome. Goes table act (hostings S.seen hosts.new) wires wires outcome
+        (net_step table act (net_of (hostings S.seen hosts.old)) (Lose from to after))) }
+{
+    let alloc = hosts.allocator();
+    if !is_open(hosts, to, from) {
+        return Ok(shows_nothing(alloc, false));
+    }
+    let Some(at) = host_at(hosts, from) else {
+        return Ok(shows_nothing(alloc, false));
+    };
+    let told = hosts.at_mut(at).lose(to, after)?;
+    Ok(shows_nothing(alloc, told))
+}
+
+/// What an event does to the sites.
+pub(crate) fn step<S: Hosted>(
+    hosts: &mut Items<Host<S>>,
+    event: &Event,
+    wires: &mut Reserved<Wire>,
+) -> Result<Outcome, AllocError>
+    requires { AllByRecursion HasFetched (hostings S.seen hosts.old) }
+    ensures { (table : List Class) (act : Acting) →
+        AllByRecursion (Rests table act) (hostings S.seen hosts.old) →
+        IfOk result (λ outcome. Goes table act (hostings S.seen hosts.new) wires.old.items
+        wires.new.items outcome
+        (net_step table act (net_of (hostings S.seen hosts.old)) event.now)) }
+{
+    match event {
+        Event::Start {
+            node,
+            selector,
+            values,
+        } => {
+            let selector = selector.clone()?;
+            let values = values.clone()?;
+            hand(hosts, *node, &Input::Start { selector, values }, wires)
+        }
+        Event::Run { node } => hand(hosts, *node, &Input::Run, wires),
+        Event::Take { node, from } => take(hosts, *node, *from, wires),
+        Event::Close { node, peer } => hand(hosts, *node, &Input::Close(*peer), wires),
+        Event::Lose { from, to, after } => lose(hosts, *from, *to, *after),
+        Event::Timeout { node } => hand(hosts, *node, &Input::Timeout, wires),
+        Event::Check => Ok(shows_nothing(hosts.allocator(), true)),
+    }
+}
+
+/// The sites, as a check lists them.
+pub(crate) fn snapshot<S: Hosted>(hosts: &Items<Host<S>>) -> Result<Snapshot, AllocError>
+    ensures { IfOk result (λ listed.
+        listed ≡ net_snapshot (net_of (hostings S.seen hosts.now))) }
+{
+    let mut nodes = NodeLines::new(hosts.allocator());
+    for host in hosts.as_slice() {
+        nodes.push(host.snapshot()?)?;
+    }
+    Ok(Snapshot { nodes })
+}
+
+/// Whether nothing stands in the lanes of sites.
+pub(crate) fn are_quiet<S: Hosted>(hosts: &Items<Host<S>>) -> bool
+    ensures { result ≡ list_all (λ h. list_all (λ c. length c.waiting == 0) h.lanes) hosts.now }
+{
+    hosts.as_slice().iter().all(|host| host.is_quiet())
+}

@@ -1,0 +1,119 @@
+//! What is under way from one node to another, as bytes.
+ghost use Rattle.std.specs.Prelude.{◌≡◌, ◌==◌, [], IfOk, OnOk, false, if◌then◌else◌, length};
+ghost use Rattle.std.specs.Prelude.{nat_lt, not};
+ghost use Rattle.do_net.specs.Lanes.{Advances, greets, laden};
+ghost use Rattle.do_network.specs.Step.{with_loss};
+
+use do_base::{NodeId, Text};
+use std::alloc::{AllocError, Global};
+use std::collections::VecDeque;
+use std::marker::Model;
+
+/// What stands in a lane.
+#[derive(Drop)]
+pub enum Kept {
+    /// A whole frame.
+    Frame(Text),
+    /// A mark at which the rest was lost.
+    Loss,
+}
+
+/// What a node sent to a peer and the peer did not take yet, which contracts see as a channel.
+#[derive(Drop)]
+pub struct Lane {
+    to: NodeId,
+    waiting: VecDeque<Kept>,
+    greeting: bool,
+    begun: bool,
+}
+
+impl Model for Lane {
+    ghost use Rattle.std.specs.Prelude.{map};
+    ghost use Rattle.do_network.specs.Net.{Channel};
+    ghost use Rattle.do_net.specs.Lanes.{carried_of};
+
+    ghost Value = { Channel };
+
+    ghost view = { λ l. record {
+      to = l.to;
+      waiting = map carried_of l.waiting.items;
+      greeting = l.greeting;
+      begun = l.begun;
+    } };
+}
+
+/// Whether bytes begin as a greeting does.
+fn greets(bytes: &Text) -> bool
+    ensures { result ≡ greets bytes.now }
+{
+    match bytes.as_slice().first() {
+        Some(first) => *first == 13,
+        None => false,
+    }
+}
+
+impl Lane {
+    /// A lane over which nothing was sent.
+    pub fn new(alloc: Global, to: NodeId) -> Lane
+        ensures { result ≡ record { to = to; waiting = []; greeting = false; begun = false } }
+    {
+        Lane {
+            to,
+            waiting: VecDeque::new(alloc),
+            greeting: false,
+            begun: false,
+        }
+    }
+
+    /// The peer that it goes to.
+    pub fn to(&self) -> NodeId
+        ensures { result ≡ self.now.to }
+    {
+        self.to
+    }
+
+    /// Adds bytes that are sent, a greeting or a whole frame, which it shares.
+    pub fn carry(&mut self, bytes: &Text) -> Result<(), AllocError>
+        ensures { OnOk result (self.new ≡ laden bytes.now self.old) }
+    {
+        if greets(bytes) {
+            self.greeting = true;
+            return Ok(());
+        }
+        let kept = Kept::Frame(bytes.clone()?);
+        self.waiting.push_back(kept)?;
+        Ok(())
+    }
+
+    /// Whether nothing stands in it.
+    pub fn is_empty(&self) -> bool
+        ensures { result ≡ (length self.now.waiting == 0) }
+    {
+        self.waiting.len() == 0
+    }
+
+    /// Takes out the oldest of what stands in it. The greeting goes with the first frame.
+    pub fn advance(&mut self) -> Option<Kept>
+        ensures { Advances self.old self.new result }
+    {
+        let kept = self.waiting.pop_front()?;
+        if let Kept::Frame(_) = &kept {
+            self.greeting = false;
+            self.begun = true;
+        }
+        Some(kept)
+    }
+
+    /// Puts the mark of a loss behind so many. False exactly where fewer stand in it.
+    pub fn lose(&mut self, after: u64) -> Result<bool, AllocError>
+        ensures told { IfOk result (λ told. told ≡ not (nat_lt (length self.old.waiting) after)) }
+        ensures ok { IfOk result (λ told. self.new ≡ (if told then with_loss after self.old
+            else self.old)) }
+    {
+        if (self.waiting.len() as u64) < after {
+            return Ok(false);
+        }
+        self.waiting.insert(after as usize, Kept::Loss)?;
+        Ok(true)
+    }
+}

@@ -1,0 +1,122 @@
+//! A network of sites, over its events.
+ghost use Rattle.std.specs.Prelude.{◌≡◌, ◌++◌, IfOk, IsErr, OnErr, OnOk, [], false, true};
+ghost use Rattle.do_network.specs.Net.{net_opening};
+ghost use Rattle.do_network.specs.Snapshot.{net_snapshot};
+ghost use Rattle.do_network.specs.Step.{net_step};
+ghost use Rattle.do_net.specs.Hosts.{net_can_take};
+ghost use Rattle.do_net.specs.Net.{HasSent, Stands, is_quiet, network};
+
+use crate::host::Host;
+use crate::hosted::Hosted;
+use crate::hosts::{are_quiet, can_take, snapshot, step};
+use crate::opening::opening;
+use do_base::{Event, Items, NodeId, Reserved};
+use do_class::ClassTable;
+use do_machine::{Outcome, Seats, Shared, Snapshot};
+use do_network::Wire;
+use std::alloc::AllocError;
+
+/// All sites of a world, with what is under way between them and what was sent.
+///
+/// Contracts see its classes, its behaviour, its sites with their lanes, what was sent and not
+/// fetched, and whether memory ran out in a step.
+#[derive(Drop)]
+pub struct Net<S: Hosted> {
+    table: Shared<ClassTable>,
+    acts: Shared<S::Acts>,
+    hosts: Items<Host<S>>,
+    wires: Reserved<Wire>,
+    spent: bool,
+}
+
+impl<S: Hosted> Net<S> {
+    /// The network of a world before its first event, in whatever order the nodes are listed.
+    ///
+    /// All sites share the classes and what decides their acts. The one error is that memory ran
+    /// out.
+    pub fn new(
+        table: Shared<ClassTable>,
+        nodes: &Seats,
+        acts: Shared<S::Acts>,
+    ) -> Result<Net<S>, AllocError>
+        ensures stands { IfOk result (λ n. Stands S.seen (S.Acts.act n.acts) n) }
+        ensures table { IfOk result (λ n. n.table ≡ table) }
+        ensures acts { IfOk result (λ n. n.acts ≡ acts) }
+        ensures net { IfOk result (λ n. network S.seen n ≡ net_opening table nodes.now) }
+        ensures wires { IfOk result (λ n. n.wires.items ≡ []) }
+        ensures fresh { IfOk result (λ n. n.spent ≡ false) }
+    {
+        let hosts = opening(&table, &acts, nodes)?;
+        let wires = Reserved::new(nodes.allocator());
+        Ok(Net {
+            table,
+            acts,
+            hosts,
+            wires,
+            spent: false,
+        })
+    }
+
+    /// Does one event. One that is not enabled shows and sends nothing and leaves the network as it
+    /// was. What is sent waits for `next_wire`.
+    ///
+    /// The one error is that memory ran out, or that a number would pass what a site can count.
+    /// Each later step then answers it, and the network is no more that of the definitions.
+    pub fn step(&mut self, event: &Event) -> Result<Outcome, AllocError>
+        requires { Stands S.seen (S.Acts.act self.old.acts) self.old }
+        ensures stands { Stands S.seen (S.Acts.act self.old.acts) self.new }
+        ensures outcome { IfOk result (λ outcome. outcome ≡ (net_step self.old.table
+            (S.Acts.act self.old.acts) (network S.seen self.old) event.now).outcome) }
+        ensures net { OnOk result (network S.seen self.new ≡ (net_step self.old.table
+            (S.Acts.act self.old.acts) (network S.seen self.old) event.now).net) }
+        ensures wires { OnOk result (self.new.wires.items ≡ self.old.wires.items
+            ++ (net_step self.old.table (S.Acts.act self.old.acts) (network S.seen self.old)
+            event.now).wires) }
+        ensures table { self.new.table ≡ self.old.table }
+        ensures acts { self.new.acts ≡ self.old.acts }
+        ensures spent { OnErr result (self.new.spent ≡ true) }
+        ensures later { self.old.spent ≡ true → IsErr result }
+    {
+        if self.spent {
+            return Err(AllocError);
+        }
+        self.spent = true;
+        let outcome = step(&mut self.hosts, event, &mut self.wires)?;
+        self.spent = false;
+        Ok(outcome)
+    }
+
+    /// Takes out the oldest of what was sent. None exactly where nothing is left.
+    pub fn next_wire(&mut self) -> Option<Wire>
+        ensures wire { HasSent self.old.wires.items self.new.wires.items result }
+        ensures table { self.new.table ≡ self.old.table }
+        ensures acts { self.new.acts ≡ self.old.acts }
+        ensures hosts { self.new.hosts ≡ self.old.hosts }
+        ensures spent { self.new.spent ≡ self.old.spent }
+    {
+        self.wires.pop_front()
+    }
+
+    /// Whether a node can take what another sends it: its end is open, and its stack is empty or
+    /// its top waits.
+    pub fn can_take(&self, node: NodeId, from: NodeId) -> bool
+        ensures { result ≡ net_can_take (network S.seen self.now) node from }
+    {
+        can_take(&self.hosts, node, from)
+    }
+
+    /// What a check lists: the sites by rising port, each with its root, its closed ends, its
+    /// objects and their entries.
+    pub fn snapshot(&self) -> Result<Snapshot, AllocError>
+        ensures { IfOk result (λ listed. listed ≡ net_snapshot (network S.seen self.now)) }
+    {
+        snapshot(&self.hosts)
+    }
+
+    /// Whether nothing is under way between the nodes.
+    pub fn quiet(&self) -> bool
+        ensures { result ≡ is_quiet (network S.seen self.now) }
+    {
+        are_quiet(&self.hosts)
+    }
+}
