@@ -1,10 +1,9 @@
 //! Calls of a shelf in memory.
 
-use call_rows::{Part, count_at, count_value, list_at, list_from, no_call, text_at, text_value};
+use call_rows::{Part, count_at, count_value, list_at, list_from, no_call, printed, text_at};
 use do_base::{FetchFail, FileList, Items, MemShelf, NamedFile, Shelf, Text, Value, Values};
 use do_grammar::is_text;
 use std::alloc::Global;
-use std::fmt;
 use std::test::Fail;
 
 /// A shelf with one file, `three`, whose bytes are `abc`.
@@ -61,12 +60,6 @@ fn fail_of(word: &[u8]) -> Result<FetchFail, Fail> {
         return Ok(FetchFail::Memory);
     }
     Err(Fail::from("no failure"))
-}
-
-/// A failure as it is printed.
-pub(crate) fn printed<F: fmt::Display + Drop>(alloc: Global, fail: F) -> Result<Value, Fail> {
-    let text = format!(in alloc; "{fail}")?;
-    Ok(text_value(alloc, text.as_str().as_bytes())?)
 }
 
 impl ShelfCalls {

@@ -1,8 +1,8 @@
 //! Calls of a sink in memory, and of one that writes a byte at a time.
 ghost use Rattle.std.specs.Prelude.{Some};
 
-use crate::shelves::{calls_of, printed};
-use call_rows::{Part, list_at, no_call, text_at};
+use crate::shelves::calls_of;
+use call_rows::{Part, list_at, no_call, printed, text_at};
 use do_acts::as_number;
 use do_base::{Items, MemSink, PutFail, Sink, Text, Value, Values, write_all};
 use do_grammar::is_text;

@@ -3,11 +3,18 @@
 use do_acts::CoreFault;
 use do_base::{Oid, Text, Value, Values};
 use std::alloc::{AllocError, Global};
+use std::fmt;
 use std::test::Fail;
 
 /// A text as a value.
 pub fn text_value(alloc: Global, bytes: &[u8]) -> Result<Value, AllocError> {
     Ok(Value::Text(Text::from_slice(alloc, bytes)?))
+}
+
+/// What is printed of something, as a failure, as a value.
+pub fn printed<F: fmt::Display + Drop>(alloc: Global, shown: F) -> Result<Value, Fail> {
+    let text = format!(in alloc; "{shown}")?;
+    Ok(text_value(alloc, text.as_bytes())?)
 }
 
 /// A list that begins with a word.

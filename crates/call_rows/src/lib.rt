@@ -12,7 +12,8 @@ mod rows;
 mod values;
 
 pub use answers::{
-    count_value, list_from, no_call, number_or_nil, object_or_nil, refused, text_value, word_with,
+    count_value, list_from, no_call, number_or_nil, object_or_nil, printed, refused, text_value,
+    word_with,
 };
 pub use arguments::{
     copy_at, count_at, list_at, local_at, number_at, object_at, port_at, text_at, texts_at,
