@@ -1,6 +1,3 @@
-//! Tests of do_grammar.
+//! A test of the theory of exact readers.
 
-mod decimals;
-mod numbers;
 mod pair;
-mod words;

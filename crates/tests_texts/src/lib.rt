@@ -1,10 +1,7 @@
-//! Tests of the public calls of the crates that read and write texts: numbers and names,
-//! schedules, transcripts.
+//! Tests of the lines of transcripts, and a grammar of our own, from its definition to its reader.
 #![tactic(auto)]
 
 #[cfg(test)]
 mod grammar;
 #[cfg(test)]
 mod lines;
-#[cfg(test)]
-mod sched;

@@ -1,0 +1,132 @@
+//! Calls of type encodings and signatures.
+
+use call_rows::{Part, count_at, count_value, list_at, no_call, printed, text_at, value_at};
+use do_acts::as_number;
+use do_base::{Text, Value, Values};
+use do_grammar::is_text;
+use do_sig::{EncFault, Encoding, Scalar, Signature};
+use std::alloc::Global;
+use std::test::Fail;
+
+/// The readers of encodings and signatures, and what a signature tells.
+#[derive(Drop)]
+pub(crate) struct SignatureCalls {
+    alloc: Global,
+}
+
+/// Three truth values as numbers.
+fn flags(alloc: Global, first: bool, second: bool, third: bool) -> Result<Value, Fail> {
+    let mut values = Values::new(alloc);
+    values.push(as_number(first))?;
+    values.push(as_number(second))?;
+    values.push(as_number(third))?;
+    Ok(Value::List(values))
+}
+
+impl SignatureCalls {
+    /// Calls that take memory here.
+    pub(crate) fn new(alloc: Global) -> SignatureCalls {
+        SignatureCalls { alloc }
+    }
+
+    /// The signature at the first place.
+    fn signature(&self, args: &Values) -> Result<Signature, Fail> {
+        Ok(Signature::read(self.alloc, text_at(args, 0)?.as_slice())?)
+    }
+
+    /// An encoding printed again, or why there is none, printed.
+    fn encoding(&self, text: &Text) -> Result<Value, Fail> {
+        match Encoding::read(self.alloc, text.as_slice()) {
+            Ok(encoding) => Ok(Value::Text(encoding.print(self.alloc)?)),
+            Err(fault) => printed(self.alloc, fault),
+        }
+    }
+
+    /// A signature printed again, or why there is none, printed.
+    fn printed_again(&self, text: &Text) -> Result<Value, Fail> {
+        match Signature::read(self.alloc, text.as_slice()) {
+            Ok(signature) => Ok(Value::Text(signature.print(self.alloc)?)),
+            Err(fault) => printed(self.alloc, fault),
+        }
+    }
+
+    /// Whether a value fits the type at the first place as a result.
+    fn result_fits(&self, args: &Values) -> Result<Value, Fail> {
+        let mut text = text_at(args, 0)?.clone()?;
+        text.push_bytes(b"@:")?;
+        let signature = Signature::read(self.alloc, text.as_slice())?;
+        Ok(as_number(signature.result_fits(value_at(args, 1)?)))
+    }
+
+    /// What a signature says of an argument: whether it goes in, comes out and is copied.
+    fn passing(&self, args: &Values) -> Result<Value, Fail> {
+        let signature = self.signature(args)?;
+        let k = usize::from(count_at(args, 1)?);
+        if k >= signature.args() {
+            return Err(Fail::from("no argument"));
+        }
+        let qualifier = signature.qualifier(k);
+        flags(
+            self.alloc,
+            qualifier.goes_in,
+            qualifier.comes_out,
+            qualifier.copy,
+        )
+    }
+
+    /// What a signature says of its result: whether it is copied, not waited for, and void.
+    fn result(&self, args: &Values) -> Result<Value, Fail> {
+        let signature = self.signature(args)?;
+        flags(
+            self.alloc,
+            signature.result_copy(),
+            signature.oneway(),
+            signature.result_is_void(),
+        )
+    }
+
+    /// A signature made by hand, which takes a number of 64 bits and gives nothing.
+    fn simple(&self) -> Result<Value, Fail> {
+        let signature = Signature::simple(self.alloc, None, &[Scalar::LongLong])?;
+        Ok(Value::Text(signature.print(self.alloc)?))
+    }
+
+    /// Makes a call of a signature.
+    fn of_signature(&self, word: &[u8], args: &Values) -> Result<Value, Fail> {
+        if is_text(word, b"args") {
+            return count_value(self.signature(args)?.args());
+        }
+        if is_text(word, b"passing") {
+            return self.passing(args);
+        }
+        if is_text(word, b"result") {
+            return self.result(args);
+        }
+        if is_text(word, b"args_fit") {
+            return Ok(as_number(self.signature(args)?.args_fit(list_at(args, 1)?)));
+        }
+        if is_text(word, b"inputs_fit") {
+            let signature = self.signature(args)?;
+            return Ok(as_number(signature.inputs_fit(list_at(args, 1)?)));
+        }
+        no_call()
+    }
+}
+
+impl Part for SignatureCalls {
+    fn call(&mut self, word: &[u8], args: &Values) -> Result<Value, Fail> {
+        if is_text(word, b"encoding") {
+            return self.encoding(text_at(args, 0)?);
+        }
+        if is_text(word, b"signature") {
+            return self.printed_again(text_at(args, 0)?);
+        }
+        if is_text(word, b"result_fits") {
+            return self.result_fits(args);
+        }
+        if is_text(word, b"simple") {
+            return self.simple();
+        }
+        self.of_signature(word, args)
+    }
+}
