@@ -1,7 +1,13 @@
 //! Replays schedules over worlds in files, one after another, and writes their transcripts.
 //!
 //! It stands on do_node and do_host alone, as the program does. What it must write was worked out
-//! by hand or by another program, and stands beside it.
+//! by hand or by another program, and stands beside it. The schedules over `edges.world` and those
+//! behind them tell rules apart that few others do: each differs where one rule is another.
+//!
+//! Five rules can show in no transcript, since no state that a machine comes to tells them apart:
+//! that an answer which does not fit raises Type; that a name lent twice under one token is asked
+//! for once; that calls given up are forgotten when their peer's end closes; that such a close
+//! settles no lend of that peer; and which numbers the first call and the first token have.
 #![tactic(auto)]
 
 use do_base::{Items, Text, Texts};
@@ -11,7 +17,7 @@ use std::alloc::AllocError;
 use std::process::ExitCode;
 
 /// Each schedule, and the world that it is for.
-const RUNS: [(&str, &str); 26] = [
+const RUNS: [(&str, &str); 49] = [
     (":counter", "counter_adds.schedule"),
     (":counter", "counter_overflows.schedule"),
     ("peers.world", "copies_of_a_cycle.schedule"),
@@ -38,6 +44,29 @@ const RUNS: [(&str, &str); 26] = [
     ("notices.world", "suspended_observers.schedule"),
     ("services.world", "services_and_provider.schedule"),
     ("guard.world", "guarded_peer.schedule"),
+    ("edges.world", "values_that_come_back.schedule"),
+    ("edges.world", "out_values.schedule"),
+    ("edges.world", "handlers_and_roots.schedule"),
+    ("edges.world", "named_and_copied.schedule"),
+    ("edges.world", "told_and_lost.schedule"),
+    ("edges.world", "too_large.schedule"),
+    ("edges.world", "lent_twice.schedule"),
+    ("edges.world", "asked_and_gone.schedule"),
+    ("edges.world", "named_after_it_is_gone.schedule"),
+    ("edges.world", "reply_over_a_closed_end.schedule"),
+    ("edges.world", "left_over_a_closed_end.schedule"),
+    ("edges.world", "granted_without_an_entry.schedule"),
+    ("peers.world", "answer_not_used_yet.schedule"),
+    ("peers.world", "take_over_a_closed_end.schedule"),
+    ("peers.world", "lends_keep_objects.schedule"),
+    ("peers.world", "asks_keep_objects.schedule"),
+    ("peers.world", "left_in_rising_order.schedule"),
+    ("peers.world", "deep_within_a_node.schedule"),
+    ("falling_ports.world", "freed_in_rising_order.schedule"),
+    ("falling_ports.world", "close_below_the_top.schedule"),
+    ("falling_ports.world", "lenders_are_told.schedule"),
+    ("falling_ports.world", "unusable_becomes_nil.schedule"),
+    ("notices.world", "closed_before_not_vended.schedule"),
 ];
 
 /// The words that ask for a schedule to be replayed over a world.
