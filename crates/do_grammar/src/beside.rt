@@ -1,5 +1,7 @@
 //! Numbers beside some that are left out.
 ghost use Rattle.std.specs.Prelude.{◌≡◌, ◌++◌, ◌≤◌, ◌<◌, ◌+◌, ◌^◌, ◌↔◌, ℕ, List, MatchOption, IfOk};
+ghost use Rattle.std.specs.Prelude.{IfErr, ◌≢◌};
+ghost use Rattle.do_grammar.specs.declared.fault.ReadFault.TheVariants.{Memory};
 ghost use Rattle.do_grammar.specs.Num.{span, num};
 ghost use Rattle.do_grammar.specs.Grammar.{Takes};
 ghost use Rattle.do_grammar.specs.OneSpelling.{Spelled};
@@ -50,8 +52,9 @@ fn beside_digits_of<'a>(
     k: u8,
 ) -> Result<(u64, &'a [u8]), ReadFault>
     requires { k ≤ 8 }
-    ensures { Gives (λ x. (x.0, x.1.now)) result
+    ensures gives { Gives (λ x. (x.0, x.1.now)) result
         (digits_beside holes.now low high k least bytes.now) }
+    ensures no_memory { IfErr result (λ fault. fault ≢ Memory) }
 {
     if k == 0 {
         return Ok((least, bytes));
@@ -78,8 +81,8 @@ fn beside_digits_of<'a>(
 /// Some such number exists. It is spelled as `num_of` says; the form is this project's own.
 ///
 /// `Bad` is at the first byte with which no such number goes on, and `Short` where the bytes end
-/// before one does. No memory is taken. A number is read as fast as by `num_of`; a fault takes time
-/// by the square of the number of holes.
+/// before one does. `Memory` never comes. A number is read as fast as by `num_of`; a fault takes
+/// time by the square of the number of holes.
 pub fn num_beside_of<'a>(
     bytes: &'a [u8],
     low: u64,
@@ -93,6 +96,7 @@ pub fn num_beside_of<'a>(
     ensures only { (n : ℕ) (rest : List ℕ)
         → Takes (Spelled num (IsBeside holes.now low high)) bytes.now n rest
         → FindsRest (λ n. n) n rest result }
+    ensures no_memory { IfErr result (λ fault. fault ≢ Memory) }
 {
     front_num(bytes, low, high, holes)
 }
@@ -106,7 +110,8 @@ fn front_num<'a>(
     holes: &[u64],
 ) -> Result<(u64, &'a [u8]), ReadFault>
     requires { low ≤ high }
-    ensures { Gives (λ x. (x.0, x.1.now)) result (num_beside holes.now low high bytes.now) }
+    ensures gives { Gives (λ x. (x.0, x.1.now)) result (num_beside holes.now low high bytes.now) }
+    ensures no_memory { IfErr result (λ fault. fault ≢ Memory) }
 {
     if let Ok((n, rest)) = num_of(bytes, low, high) {
         if !has(holes, n) {
@@ -124,7 +129,8 @@ fn slow_num<'a>(
     high: u64,
     holes: &[u64],
 ) -> Result<(u64, &'a [u8]), ReadFault>
-    ensures { Gives (λ x. (x.0, x.1.now)) result (num_beside holes.now low high bytes.now) }
+    ensures gives { Gives (λ x. (x.0, x.1.now)) result (num_beside holes.now low high bytes.now) }
+    ensures no_memory { IfErr result (λ fault. fault ≢ Memory) }
 {
     let Some((n, rest)) = split_byte(bytes) else {
         return Err(ReadFault::Short);

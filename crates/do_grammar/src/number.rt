@@ -1,5 +1,6 @@
 ghost use Rattle.std.specs.Prelude.{◌≡◌, ◌+◌, ◌<◌, ◌≤◌, ◌^◌, ◌++◌, [], ◌∷◌, length, ℕ, List, OnOk};
-ghost use Rattle.std.specs.Prelude.{OnErr};
+ghost use Rattle.std.specs.Prelude.{OnErr, IfErr, ◌≢◌};
+ghost use Rattle.do_grammar.specs.declared.fault.ReadFault.TheVariants.{Memory};
 ghost use Rattle.do_grammar.specs.Num.{span, least_of, digits, digits_at, num, num_at, size, Num};
 ghost use Rattle.do_grammar.specs.Reader.{no_kind};
 ghost use Rattle.do_grammar.specs.RestAnswers.{Gives, TellsRest, FindsRest};
@@ -46,7 +47,7 @@ pub(crate) fn least_number(n: u8) -> u128
 /// The form is that of `num_of`, this project's own.
 ///
 /// `Bad` is at the first byte with which no number between the bounds goes on, and `Short` where
-/// the bytes end before such a number does. No memory is taken.
+/// the bytes end before such a number does. `Memory` never comes.
 #[tactic(auto, using(crate::proofs::loops::DigitsLoop::digits_facts))]
 pub fn digits_of(
     bytes: &[u8],
@@ -56,7 +57,9 @@ pub fn digits_of(
     k: u8,
 ) -> Result<(u64, &[u8]), ReadFault>
     requires { k ≤ 8 }
-    ensures { Gives (λ x. (x.0, x.1.now)) result (digits_at no_kind low high k least bytes.now) }
+    ensures gives { Gives (λ x. (x.0, x.1.now)) result
+        (digits_at no_kind low high k least bytes.now) }
+    ensures no_memory { IfErr result (λ fault. fault ≢ Memory) }
 {
     if k == 0 {
         return Ok((least, bytes));
@@ -81,13 +84,14 @@ pub fn digits_of(
 /// the first is not 0; zero is a single byte 0. The form is this project's own.
 ///
 /// `Bad` is at the first byte with which no number between the bounds goes on, and `Short` where
-/// the bytes end before such a number does. No memory is taken.
+/// the bytes end before such a number does. `Memory` never comes.
 pub fn num_of(bytes: &[u8], low: u64, high: u64) -> Result<(u64, &[u8]), ReadFault>
     requires { low ≤ high }
     ensures gives { Gives (λ x. (x.0, x.1.now)) result (num_at no_kind low high bytes.now) }
     ensures exact { TellsRest (Num low high) (λ n. n) bytes.now result }
     ensures only { (n : ℕ) (rest : List ℕ) → Takes (Num low high) bytes.now n rest
         → FindsRest (λ n. n) n rest result }
+    ensures no_memory { IfErr result (λ fault. fault ≢ Memory) }
 {
     front_num(bytes, low, high)
 }
@@ -95,7 +99,8 @@ pub fn num_of(bytes: &[u8], low: u64, high: u64) -> Result<(u64, &[u8]), ReadFau
 /// What the reader of specs/ gives.
 #[tactic(auto, unfolding(crate::specs::Num::num_at))]
 fn front_num(bytes: &[u8], low: u64, high: u64) -> Result<(u64, &[u8]), ReadFault>
-    ensures { Gives (λ x. (x.0, x.1.now)) result (num_at no_kind low high bytes.now) }
+    ensures gives { Gives (λ x. (x.0, x.1.now)) result (num_at no_kind low high bytes.now) }
+    ensures no_memory { IfErr result (λ fault. fault ≢ Memory) }
 {
     let [n, rest @ ..] = bytes else {
         return Err(ReadFault::Short);

@@ -1,4 +1,6 @@
-ghost use Rattle.std.specs.Prelude.{◌≡◌, ◌++◌, ℤ, List, ℕ, OnOk, OnErr};
+ghost use Rattle.std.specs.Prelude.{◌≡◌, ◌++◌, ℤ, List, ℕ, OnOk, OnErr, IfErr};
+ghost use Rattle.std.specs.Prelude.{◌≢◌};
+ghost use Rattle.do_grammar.specs.declared.fault.ReadFault.TheVariants.{Memory};
 ghost use Rattle.do_grammar.specs.Num.{num, zigzag, signed_at, Signed};
 ghost use Rattle.do_grammar.specs.Reader.{no_kind};
 ghost use Rattle.do_grammar.specs.RestAnswers.{Gives, TellsRest, FindsRest};
@@ -16,12 +18,13 @@ use std::alloc::AllocError;
 /// size less one. The form is this project's own.
 ///
 /// `Bad` is at the first byte with which no such number goes on, and `Short` where the bytes end
-/// before one does. No memory is taken.
+/// before one does. `Memory` never comes.
 pub fn signed_of(bytes: &[u8]) -> Result<(i64, &[u8]), ReadFault>
     ensures gives { Gives (λ x. (x.0, x.1.now)) result (signed_at no_kind bytes.now) }
     ensures exact { TellsRest Signed (λ z. z) bytes.now result }
     ensures only { (z : ℤ) (rest : List ℕ) → Takes Signed bytes.now z rest
         → FindsRest (λ z. z) z rest result }
+    ensures no_memory { IfErr result (λ fault. fault ≢ Memory) }
 {
     front_signed(bytes)
 }
@@ -29,7 +32,8 @@ pub fn signed_of(bytes: &[u8]) -> Result<(i64, &[u8]), ReadFault>
 /// What the reader of specs/ gives.
 #[tactic(auto, unfolding(crate::specs::Num::signed_at))]
 fn front_signed(bytes: &[u8]) -> Result<(i64, &[u8]), ReadFault>
-    ensures { Gives (λ x. (x.0, x.1.now)) result (signed_at no_kind bytes.now) }
+    ensures gives { Gives (λ x. (x.0, x.1.now)) result (signed_at no_kind bytes.now) }
+    ensures no_memory { IfErr result (λ fault. fault ≢ Memory) }
 {
     let (n, rest) = num_of(bytes, 0, u64::MAX)?;
     let half = (n / 2) as i64;

@@ -18,11 +18,11 @@ returns-clause-exact c =
     (Reads-beside c.args.holes.now c.args.low c.args.high c.requires c.ranges.high.fits)
     (λ x. x) c.args.bytes.now c.front_num.result
     (bytes_from_each c.args.bytes.now (λ i. omega (arith, c.type_inv.bytes i)))
-    c.front_num.ensures
+    c.front_num.ensures.gives
 
 pub returns-clause-only : goal.returns-clause-only
 returns-clause-only c =
     finds_rest (Spelled num (IsBeside c.args.holes.now c.args.low c.args.high))
     (num_beside c.args.holes.now c.args.low c.args.high)
     (Reads-beside c.args.holes.now c.args.low c.args.high c.requires c.ranges.high.fits)
-    (λ x. x) c.args.bytes.now c.front_num.result c.front_num.ensures
+    (λ x. x) c.args.bytes.now c.front_num.result c.front_num.ensures.gives

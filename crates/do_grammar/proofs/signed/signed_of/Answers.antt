@@ -11,9 +11,9 @@ returns-clause-exact c =
     tells_rest Signed (signed_at no_kind) (Reads-signed no_kind) (λ x.
     x) c.args.bytes.now c.front_signed.result
     (bytes_from_each c.args.bytes.now (λ i. omega (arith, c.type_inv.bytes i)))
-    c.front_signed.ensures
+    c.front_signed.ensures.gives
 
 pub returns-clause-only : goal.returns-clause-only
 returns-clause-only c =
     finds_rest Signed (signed_at no_kind) (Reads-signed no_kind) (λ x.
-    x) c.args.bytes.now c.front_signed.result c.front_signed.ensures
+    x) c.args.bytes.now c.front_signed.result c.front_signed.ensures.gives
