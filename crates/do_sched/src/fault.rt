@@ -14,7 +14,8 @@ pub enum SchedFault {
     /// A line that is not of the kind wanted at its place, that follows `end`, or whose line feed
     /// is missing.
     BadLine(u64),
-    /// A good line that brings the single steps of the schedule above 1,000,000.
+    /// A good line that is one too many for its form: it brings the single steps of a schedule
+    /// above 1,000,000, or the lines of another form above as many as it may have.
     TooMany(u64),
     /// Nothing is wrong but that the bytes stop without `end`. The number is that of the line after
     /// the last.
@@ -27,7 +28,7 @@ impl fmt::Display for SchedFault {
     fn fmt<W: fmt::Write>(&self, f: &mut fmt::Formatter<W>) -> fmt::Result {
         match self {
             SchedFault::BadLine(n) => write!(f, "line {n} is none that may stand there"),
-            SchedFault::TooMany(n) => write!(f, "more than 1,000,000 steps with line {n}"),
+            SchedFault::TooMany(n) => write!(f, "line {n} brings more than the form may hold"),
             SchedFault::NoEnd(n) => write!(f, "no `end` at line {n}"),
             SchedFault::Memory => write!(f, "out of memory"),
         }
