@@ -1,5 +1,5 @@
 -- The kinds of frames by their numbers.
-use Rattle.std.specs.Prelude.{ℕ, ◌==◌, Option, Some, None, if◌then◌else◌}
+use Rattle.std.specs.Prelude.{ℕ, ◌==◌, Bool, ◌||◌, nat_le, Option, Some, None, if◌then◌else◌}
 use Rattle.do_frames.specs.declared.kind.Kind.{Kind}
 use Rattle.do_frames.specs.declared.kind.Kind.TheVariants as kinds
 
@@ -34,3 +34,7 @@ kind_at n =
     else if n == 11 then Some kinds.Settle
     else if n == 12 then Some kinds.Shutdown
     else None
+
+-- frames of kinds with these numbers hold numbers alone: no packet, no selector and no text
+abbrev pub numbers_alone : ℕ → Bool
+numbers_alone n = n == 5 || nat_le 7 n

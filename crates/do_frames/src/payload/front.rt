@@ -1,10 +1,13 @@
 //! Reading whole payloads.
-ghost use Rattle.std.specs.Prelude.{◌≡◌, ◌≤◌, ◌<◌, ◌^◌, length, List, ℕ, IfOk, OnErr};
+ghost use Rattle.std.specs.Prelude.{◌≡◌, ◌≤◌, ◌<◌, ◌^◌, ◌≢◌, length, true, List, ℕ, IfOk, IfErr};
+ghost use Rattle.std.specs.Prelude.{OnErr};
 ghost use Rattle.std.specs.List.{AllByRecursion};
 ghost use Rattle.do_coder.specs.Recent.{IsKnown};
 ghost use Rattle.do_coder.specs.Packets.{surroundings};
+ghost use Rattle.do_frames.specs.declared.fault.RawFault.TheVariants.{Memory};
 ghost use Rattle.do_frames.specs.declared.frame.Frame.{Frame};
 ghost use Rattle.do_frames.specs.Frames.{after_frame};
+ghost use Rattle.do_frames.specs.Kinds.{numbers_alone};
 ghost use Rattle.do_frames.specs.Payloads.{SpellsPayload, TellsFrame, FindsFrame};
 
 use crate::fault::RawFault;
@@ -35,6 +38,8 @@ fn frame_of(
     ensures after { IfOk result (λ f. recent.new ≡ after_frame recent.old f) }
     ensures err { OnErr result (recent.new ≡ recent.old) }
     ensures stay_known { AllByRecursion (IsKnown (length table.now)) recent.new }
+    ensures no_memory { numbers_alone number ≡ true → IfErr result (λ fault. fault ≢ Memory) }
+    ensures names_stay { numbers_alone number ≡ true → recent.new ≡ recent.old }
 {
     let _classes = table.count();
     let _few = recent.len();
@@ -58,8 +63,9 @@ fn frame_of(
 /// `BadFrame` comes exactly where the payload spells no frame of the kind; it has the first byte
 /// with which none goes on, which is the one behind the spelling where bytes are left over, or the
 /// payload's length where the payload is a proper front of a spelling, or 0 where no frame has the
-/// kind. `Memory` comes where memory runs out. A refusal leaves the table of recent names as it
-/// was.
+/// kind. `Memory` comes where memory runs out, so for no frame that holds numbers alone, as a
+/// `Release`, a `Settle` and a `Shutdown` do. Such a frame leaves the table of recent names as it
+/// was, and so does a refusal.
 pub fn read_raw(
     alloc: Global,
     table: &ClassTable,
@@ -77,6 +83,8 @@ pub fn read_raw(
     ensures after { IfOk result (λ f. recent.new ≡ after_frame recent.old f) }
     ensures err { OnErr result (recent.new ≡ recent.old) }
     ensures stay_known { AllByRecursion (IsKnown (length table.now)) recent.new }
+    ensures no_memory { numbers_alone raw.now.kind ≡ true → IfErr result (λ fault. fault ≢ Memory) }
+    ensures names_stay { numbers_alone raw.now.kind ≡ true → recent.new ≡ recent.old }
 {
     let payload = raw.payload.as_slice();
     frame_of(alloc, table, from, to, recent, raw.kind, payload)

@@ -1,6 +1,7 @@
 //! Reading the payloads that hold no packet.
-ghost use Rattle.std.specs.Prelude.{◌≡◌, ◌≤◌, List, IfOk};
+ghost use Rattle.std.specs.Prelude.{◌≡◌, ◌≤◌, ◌≢◌, List, IfOk, IfErr};
 ghost use Rattle.do_grammar.specs.RestAnswers.{Gives};
+ghost use Rattle.do_grammar.specs.declared.fault.ReadFault.TheVariants.{Memory};
 ghost use Rattle.do_coder.specs.declared.recent.pair.Pair.{Pair};
 ghost use Rattle.do_frames.specs.Frames.{after_frame};
 ghost use Rattle.do_frames.specs.Payloads.{token_at, raised_at, root_ask_at, retain_at};
@@ -18,7 +19,8 @@ pub const TOP: u64 = 9_223_372_036_854_775_807;
 /// A serial and a token, and the bytes behind them.
 #[tactic(auto, unfolding(crate::specs::Payloads::token_at))]
 fn token_of(bytes: &[u8]) -> Result<((u64, Token), &[u8]), ReadFault>
-    ensures { Gives (λ x. (x.0, x.1.now)) result (token_at bytes.now) }
+    ensures gives { Gives (λ x. (x.0, x.1.now)) result (token_at bytes.now) }
+    ensures no_memory { IfErr result (λ fault. fault ≢ Memory) }
 {
     let (serial, rest) = num_of(bytes, 1, TOP)?;
     let (port, rest) = num_of(rest, 1, 65_535)?;
@@ -47,6 +49,7 @@ pub fn raised_of(alloc: Global, bytes: &[u8]) -> Result<(Frame, &[u8]), ReadFaul
 pub fn root_ask_of(bytes: &[u8]) -> Result<(Frame, &[u8]), ReadFault>
     ensures gives { Gives (λ x. (x.0, x.1.now)) result (root_ask_at bytes.now) }
     ensures stays { IfOk result (λ x. (table : List Pair) → after_frame table x.0 ≡ table) }
+    ensures no_memory { IfErr result (λ fault. fault ≢ Memory) }
 {
     let (call, rest) = num_of(bytes, 1, TOP)?;
     Ok((Frame::RootAsk { call }, rest))
@@ -57,6 +60,7 @@ pub fn root_ask_of(bytes: &[u8]) -> Result<(Frame, &[u8]), ReadFault>
 pub fn retain_of(bytes: &[u8]) -> Result<(Frame, &[u8]), ReadFault>
     ensures gives { Gives (λ x. (x.0, x.1.now)) result (retain_at bytes.now) }
     ensures stays { IfOk result (λ x. (table : List Pair) → after_frame table x.0 ≡ table) }
+    ensures no_memory { IfErr result (λ fault. fault ≢ Memory) }
 {
     match token_of(bytes) {
         Ok(((serial, token), rest)) => Ok((Frame::Retain { serial, token }, rest)),
@@ -69,6 +73,7 @@ pub fn retain_of(bytes: &[u8]) -> Result<(Frame, &[u8]), ReadFault>
 pub fn granted_of(bytes: &[u8]) -> Result<(Frame, &[u8]), ReadFault>
     ensures gives { Gives (λ x. (x.0, x.1.now)) result (granted_at bytes.now) }
     ensures stays { IfOk result (λ x. (table : List Pair) → after_frame table x.0 ≡ table) }
+    ensures no_memory { IfErr result (λ fault. fault ≢ Memory) }
 {
     match token_of(bytes) {
         Ok(((serial, token), rest)) => Ok((Frame::Granted { serial, token }, rest)),
@@ -81,6 +86,7 @@ pub fn granted_of(bytes: &[u8]) -> Result<(Frame, &[u8]), ReadFault>
 pub fn gone_of(bytes: &[u8]) -> Result<(Frame, &[u8]), ReadFault>
     ensures gives { Gives (λ x. (x.0, x.1.now)) result (gone_at bytes.now) }
     ensures stays { IfOk result (λ x. (table : List Pair) → after_frame table x.0 ≡ table) }
+    ensures no_memory { IfErr result (λ fault. fault ≢ Memory) }
 {
     match token_of(bytes) {
         Ok(((serial, token), rest)) => Ok((Frame::Gone { serial, token }, rest)),
@@ -93,6 +99,7 @@ pub fn gone_of(bytes: &[u8]) -> Result<(Frame, &[u8]), ReadFault>
 pub fn release_of(bytes: &[u8]) -> Result<(Frame, &[u8]), ReadFault>
     ensures gives { Gives (λ x. (x.0, x.1.now)) result (release_at bytes.now) }
     ensures stays { IfOk result (λ x. (table : List Pair) → after_frame table x.0 ≡ table) }
+    ensures no_memory { IfErr result (λ fault. fault ≢ Memory) }
 {
     let (serial, rest) = num_of(bytes, 1, TOP)?;
     let (amount, rest) = num_of(rest, 1, TOP)?;
@@ -104,6 +111,7 @@ pub fn release_of(bytes: &[u8]) -> Result<(Frame, &[u8]), ReadFault>
 pub fn settle_of(bytes: &[u8]) -> Result<(Frame, &[u8]), ReadFault>
     ensures gives { Gives (λ x. (x.0, x.1.now)) result (settle_at bytes.now) }
     ensures stays { IfOk result (λ x. (table : List Pair) → after_frame table x.0 ≡ table) }
+    ensures no_memory { IfErr result (λ fault. fault ≢ Memory) }
 {
     let (number, rest) = num_of(bytes, 1, TOP)?;
     Ok((Frame::Settle { number }, rest))

@@ -1,9 +1,11 @@
 //! The payload of each kind, and the frame that a whole payload of it spells.
-ghost use Rattle.std.specs.Prelude.{◌≡◌, ◌≤◌, ◌<◌, ◌^◌, IfOk, OnErr};
+ghost use Rattle.std.specs.Prelude.{◌≡◌, ◌≤◌, ◌<◌, ◌^◌, ◌≢◌, true, IfOk, IfErr, OnErr};
 ghost use Rattle.do_grammar.specs.Reader.{no_kind, whole_of as whole_reader};
 ghost use Rattle.do_grammar.specs.RestAnswers.{Gives};
+ghost use Rattle.do_grammar.specs.declared.fault.ReadFault.TheVariants.{Memory};
 ghost use Rattle.do_coder.specs.Packets.{surroundings};
 ghost use Rattle.do_frames.specs.Frames.{after_frame};
+ghost use Rattle.do_frames.specs.Kinds.{kind_number, numbers_alone};
 ghost use Rattle.do_frames.specs.Payloads.{payload_at};
 
 use crate::frame::Frame;
@@ -35,6 +37,8 @@ fn payload_of<'a>(
     ensures after { IfOk result (λ x. recent.new
         ≡ record { now = after_frame recent.old.now x.0; kept = recent.old.kept }) }
     ensures err { OnErr result (recent.new.kept ≡ recent.old.kept) }
+    ensures no_memory { numbers_alone (kind_number kind) ≡ true
+        → IfErr result (λ fault. fault ≢ Memory) }
 {
     match kind {
         Kind::Call => {
@@ -80,6 +84,8 @@ pub fn whole_of(
         (payload_at (surroundings table.now from to) recent.old kind) bytes.now) }
     ensures after { IfOk result (λ f. recent.new ≡ after_frame recent.old f) }
     ensures err { OnErr result (recent.new ≡ recent.old) }
+    ensures no_memory { numbers_alone (kind_number kind) ≡ true
+        → IfErr result (λ fault. fault ≢ Memory) }
 {
     let mut log = recent.take_log();
     match payload_of(alloc, kind, bytes, table, from, to, &mut log) {

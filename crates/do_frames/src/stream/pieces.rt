@@ -1,5 +1,5 @@
 //! All frames of a stream that comes in pieces.
-ghost use Rattle.std.specs.Prelude.{◌≡◌, List, ℕ, OnOk, IfOk, IfErr};
+ghost use Rattle.std.specs.Prelude.{◌≡◌, List, ℕ, take, OnOk, IfOk, IfErr};
 ghost use Rattle.do_grammar.specs.Grammar.{IsProperFront};
 ghost use Rattle.do_frames.specs.declared.frame.RawFrame.{RawFrame};
 ghost use Rattle.do_frames.specs.Pieces.{joined_pieces, Splits, HasRead, FindsNoMore};
@@ -31,13 +31,16 @@ fn take_all(reader: &mut Reader, frames: &mut RawFrames) -> Result<(), StreamFau
 /// The frames of a stream that comes in these pieces, which are those of the whole stream, however
 /// it is cut.
 ///
-/// What has come of a next frame is left out. A fault is that of `Reader::next`; `Memory` comes
-/// where memory runs out.
+/// What has come of a next frame is left out. A fault is that of `Reader::next` once some of the
+/// pieces came, so no stream goes on with the byte that it tells; `Memory` comes where memory runs
+/// out.
 pub fn frames_of(alloc: Global, pieces: &[Text]) -> Result<RawFrames, StreamFault>
     ensures split { IfOk result (λ frames. (rest : List ℕ)
         × Splits (joined_pieces pieces.now) frames rest) }
     ensures only { IfOk result (λ frames. (others : List RawFrame) (rest : List ℕ)
         → Splits (joined_pieces pieces.now) others rest → frames ≡ others) }
+    ensures bad { IfErr result (λ fault. (n : ℕ)
+        × FindsNoMore (joined_pieces (take n pieces.now)) fault) }
 {
     let mut reader = Reader::new(alloc);
     let mut frames = Items::new(alloc);

@@ -1,7 +1,8 @@
 use Rattle.std.proofs.Common.{◌≡◌, ℕ, ◌+◌, List, ◌++◌, take, get_or, subst, arith}
 use Rattle.std.proofs.lemmas.Grind.{common_steps}
 use Rattle.std.proofs.lemmas.List.{take_all}
-use Rattle.do_frames.specs.Pieces.{joined_pieces, HasRead}
+use Rattle.std.proofs.lemmas.Result.{err_from_is_err_and}
+use Rattle.do_frames.specs.Pieces.{joined_pieces, HasRead, FindsNoMore}
 use Rattle.do_frames.proofs.streams.PiecesExact.{nothing_read, nothing_front, piece_read}
 use Rattle.do_frames.proofs.streams.PiecesExact.{has_split, has_only, next_piece}
 use Rattle.do_frames.proofs.stream.pieces.frames_of.Goals as goal
@@ -54,3 +55,29 @@ returns-clause-only c =
     whole c.loop-piece.invariant.read in
     has_only (joined_pieces pieces) c.loop-piece.frames c.loop-piece.reader read
     c.loop-piece.invariant.partial
+
+pub returns-in_err-feed-clause-bad : goal.returns-in_err-feed-clause-bad
+returns-in_err-feed-clause-bad c =
+    let p = err_from_is_err_and c.from_residual.result c.from_residual.ensures.1 in
+    rw (p.1, p.2) (0, tt)
+
+pub returns-in_err-take_all-clause-bad : goal.returns-in_err-take_all-clause-bad
+returns-in_err-take_all-clause-bad c =
+    let pieces = c.args.pieces.now in
+    let fed = joined_pieces (take c.loop-piece.piece-index pieces) in
+    let piece = c.as_slice.result.now in
+    let before : HasRead (fed ++ piece) c.loop-piece.frames c.feed.new.self =
+    rw c.in_ok-feed.ensures.ok
+    (piece_read fed piece c.loop-piece.frames c.loop-piece.reader c.loop-piece.invariant.read) in
+    let here : c.piece-item.result ≡ get_or pieces c.loop-piece.piece-index c.piece-item.result =
+    grind (arith, common_steps) in
+    let same : fed ++ piece ≡ joined_pieces (take (c.loop-piece.piece-index + 1) pieces) =
+    next_piece pieces c.loop-piece.piece-index piece c.piece-item.result c.as_slice.ensures here
+    c.loop-piece-test.true in
+    let p = err_from_is_err_and c.from_residual-in_err-take_all.result
+    c.from_residual-in_err-take_all.ensures.1 in
+    rw (p.1, p.2) (
+      c.loop-piece.piece-index + 1,
+      subst (λ (w : List ℕ). FindsNoMore w c.in_err-take_all.field-0.0) same
+          (c.in_err-take_all.ensures.bad (fed ++ piece) before),
+    )
