@@ -9,6 +9,7 @@ pub mod KnownWeight
 pub mod LongerList
 pub mod Changes
 pub mod InPlace
+pub mod Exchange
 pub mod Script
 pub mod Programs
 pub mod laws

@@ -1,12 +1,14 @@
 //! Acts done where the invocation and the slots of its object stand.
 ghost use Rattle.std.specs.Prelude.{◌≡◌, slice_set, IfOk, OnErr};
-ghost use Rattle.do_behave.specs.Changes.{IsFitting, meaning, with_set};
+ghost use Rattle.do_behave.specs.Changes.{IsFitting, meaning};
+ghost use Rattle.do_behave.specs.Exchange.{slots_after, act_left};
 ghost use Rattle.do_behave.specs.InPlace.{after_act, written};
 
 use crate::act::{Act, Writes};
 use crate::behaviour::Behaviour;
-use crate::change::{Change, LocalSets};
-use crate::held::{Frame, Held};
+use crate::change::Change;
+use crate::exchanged::Left;
+use crate::exchanging::exchange;
 use crate::invocation::Invocation;
 use crate::moving::discard;
 use do_base::{Items, Values};
@@ -37,14 +39,23 @@ fn write_all(slots: &mut Values, mut writes: Writes)
     }
 }
 
-/// Sets locals, in order.
-#[tactic(auto, using(crate::proofs::ListUpdates::set_first))]
-fn set_all(locals: &mut Frame, mut sets: LocalSets)
-    ensures { locals.new ≡ with_set locals.old sets }
+/// Does what a change left to do in the slots of the object; else hands back the act that is left.
+#[inline(always)]
+fn finish(slots: &mut Values, left: Left) -> Option<Act>
+    ensures slots { slots.new ≡ slots_after left slots.old }
+    ensures left { result ≡ act_left left }
 {
-    while !sets.is_empty() {
-        let first = sets.remove(0);
-        put(locals, first.local as usize, Held::new(first.value));
+    match left {
+        Left::Nothing => None,
+        Left::Slot { slot, value } => {
+            put(slots, slot, value);
+            None
+        }
+        Left::Slots(writes) => {
+            write_all(slots, writes);
+            None
+        }
+        Left::Other(act) => Some(act),
     }
 }
 
@@ -60,71 +71,8 @@ pub fn make_change(
         ≡ after_act (meaning inv.old change) inv.old slots.old) }
     ensures err { OnErr result ((inv.new ≡ inv.old) × (slots.new ≡ slots.old)) }
 {
-    match change {
-        Change::Local { into, value, pc } => {
-            inv.pc = pc;
-            put(&mut inv.locals, into as usize, Held::new(value));
-            Ok(None)
-        }
-        Change::Push {
-            list,
-            item,
-            weight,
-            pc,
-        } => {
-            inv.push_item(list, item, weight, pc)?;
-            Ok(None)
-        }
-        Change::Goto { pc } => {
-            inv.pc = pc;
-            Ok(None)
-        }
-        Change::Slot { slot, value, pc } => {
-            inv.pc = pc;
-            put(slots, slot, value);
-            Ok(None)
-        }
-        Change::Slots {
-            sets,
-            handler,
-            writes,
-            pc,
-        } => {
-            set_all(&mut inv.locals, sets);
-            inv.handler = handler;
-            inv.pc = pc;
-            write_all(slots, writes);
-            Ok(None)
-        }
-        Change::Handler { handler, pc } => {
-            inv.handler = handler;
-            inv.pc = pc;
-            Ok(None)
-        }
-        Change::Other(act) => Ok(do_act(inv, slots, act)),
-    }
-}
-
-/// Does an act, where it is a step; else hands it back.
-fn do_act(inv: &mut Invocation, slots: &mut Values, act: Act) -> Option<Act>
-    ensures { record { inv = inv.new; slots = slots.new; left = result }
-        ≡ after_act act inv.old slots.old }
-{
-    match act {
-        Act::Step {
-            pc,
-            locals,
-            handler,
-            writes,
-        } => {
-            inv.pc = pc;
-            inv.locals = locals;
-            inv.handler = handler;
-            write_all(slots, writes);
-            None
-        }
-        left => Some(left),
-    }
+    let done = exchange(inv, change)?;
+    Ok(finish(slots, done.left))
 }
 
 /// Does the next act of an invocation, where it is a step; else hands the act back. If memory runs

@@ -9,6 +9,8 @@
 mod act;
 mod behaviour;
 mod change;
+mod exchanged;
+mod exchanging;
 mod held;
 mod in_place;
 mod invocation;
@@ -24,6 +26,8 @@ mod steps;
 pub use act::{Act, Write, Writes};
 pub use behaviour::Behaviour;
 pub use change::{Change, LocalSet, LocalSets};
+pub use exchanged::{Exchanged, Left, Taken};
+pub use exchanging::exchange;
 pub use held::{Frame, Held};
 pub use in_place::{act_in_place, make_change};
 pub use invocation::{Answer, Handler, InvState, Invocation, Reason, Waited};

@@ -1,19 +1,17 @@
--- How often objects are used, where a value takes another's place.
+-- How often objects are used, where a list grows and where the top of a stack changes.
 use Rattle.std.proofs.Common.{◌≡◌, ℕ, ◌+◌, Bool, true, false, cond, List as Listed, []}
 use Rattle.std.proofs.Common.{◌∷◌, ◌++◌, zero, suc, append-nil, set, Some, refl, sym, ap}
 use Rattle.std.proofs.Common.{◌∙◌, arith, rules}
-use Rattle.std.specs.Prelude.{slice_get, slice_set, IsSomeAnd, ◌||◌, ◌&&◌, map, remove}
+use Rattle.std.specs.Prelude.{slice_get, IsSomeAnd, ◌||◌, ◌&&◌, map}
 use Rattle.std.specs.List.{flat_map}
-use Rattle.std.proofs.lemmas.List.Sums.{sum_by-set, sum_by-cons, sum_by-append}
+use Rattle.std.proofs.lemmas.List.Sums.{sum_by-cons, sum_by-append}
 use Rattle.std.proofs.lemmas.List.Folds.{list_any-append}
 use Rattle.std.proofs.lemmas.List.Concat.{flat_map-append}
-use Rattle.std.proofs.lemmas.Option.{get_or_from_slice_get, slice_get_within}
 use Rattle.do_base.specs.names.Names.{ObjectName}
 use Rattle.do_base.specs.values.Values.{objects_of}
 use Rattle.do_base.specs.declared.values.value.Value.{Value, List, the_lemmas}
 use Rattle.do_behave.specs.LongerList.{FitsIn, longer, longer_at}
 use Rattle.do_behave.proofs.KnownWeights.{longer_list}
-use Rattle.do_behave.specs.declared.change.LocalSet.{LocalSet}
 use Rattle.do_base.specs.declared.values.value.Value.TheVariants.{Obj}
 use Rattle.do_behave.specs.InPlace.{after_act}
 use Rattle.do_behave.specs.declared.act.Act.{Act}
@@ -41,32 +39,6 @@ uses-cons o v vs = sum_by-cons (once o) v vs ∙ ap (λ n. n + uses o vs) (sym (
 pub uses-append : (o : ObjectName) (vs ws : Listed Value)
     → uses o (vs ++ ws) ≡ uses o vs + uses o ws
 uses-append o vs ws = sum_by-append (once o) vs ws
-
--- a value takes the place of another
-pub uses-put : (o : ObjectName) (vs : Listed Value) (at : ℕ) (v was : Value)
-    → slice_get vs at ≡ Some was
-    → uses o (slice_set vs at v) + uses o (was ∷ []) ≡ uses o vs + uses o (v ∷ [])
-uses-put o vs at v was there =
-    let within = slice_get_within vs at was there in
-    let moved = sum_by-set (once o) vs at v v within in
-    let is = ap (once o) (get_or_from_slice_get vs at was v there) in
-    let a = uses-one o v in
-    let b = uses-one o was in
-    omega arith
-
--- the values of the sets, without the first
-pub uses-sets : (o : ObjectName) (ss : Listed LocalSet) (s : LocalSet) → slice_get ss 0 ≡ Some s
-    → uses o (map (λ (t : LocalSet). t.value) ss)
-    ≡ uses o (s.value ∷ []) + uses o (map (λ (t : LocalSet). t.value) (remove ss 0))
-uses-sets o [] s e = cc
-uses-sets o (x ∷ ss) s e =
-    uses-cons o x.value (map (λ (t : LocalSet). t.value) ss)
-    ∙ ap (λ (t : LocalSet). uses o (t.value ∷ []) + uses o (map (λ (u : LocalSet). u.value) ss))
-    (the e)
-  where
-    -- the first set is the one that was read
-    the : Some x ≡ Some s → x ≡ s
-    the same = cc
 
 -- the objects of a list are those of its items
 pub objects-list : (vs : Listed Value) → objects_of (List vs) ≡ flat_map objects_of vs

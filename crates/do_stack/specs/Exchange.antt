@@ -1,20 +1,16 @@
--- What a change puts into an invocation, what it takes out, and what is left to do.
+-- What a change puts into an invocation, and what is then used no more often for it.
 use Rattle.std.specs.Prelude.{Bool, true, false, ◌&&◌, List, [], ◌∷◌, Option, Some, None, map}
-use Rattle.std.specs.Prelude.{slice_get, slice_set, get_or}
+use Rattle.std.specs.Prelude.{slice_get}
 use Rattle.do_base.specs.names.Names.{ObjectName}
 use Rattle.do_base.specs.declared.values.value.Value.{Value}
-use Rattle.do_behave.specs.InPlace.{written}
+pub use Rattle.do_behave.specs.Exchange.{taken, set_out, act_taken, taken_by, takes_memory}
+pub use Rattle.do_behave.specs.Exchange.{slots_after, act_left}
 use Rattle.do_behave.specs.declared.act.Act.{Act}
 use Rattle.do_behave.specs.declared.act.Act.TheVariants.{Step}
 use Rattle.do_behave.specs.declared.change.Change.{Change}
 use Rattle.do_behave.specs.declared.change.Change.TheVariants as changes
-use Rattle.do_behave.specs.declared.change.LocalSet.{LocalSet}
 use Rattle.do_behave.specs.declared.invocation.Invocation.{Invocation}
 use Rattle.do_stack.specs.Uses.{names}
-use Rattle.do_stack.specs.declared.exchange.Left.{Left}
-use Rattle.do_stack.specs.declared.exchange.Left.TheVariants as lefts
-use Rattle.do_stack.specs.declared.exchange.Taken.{Taken}
-use Rattle.do_stack.specs.declared.exchange.Taken.TheVariants as takens
 
 -- the values that an act puts into locals
 abbrev pub act_values : Act → List Value
@@ -29,39 +25,6 @@ given (changes.Slots sets handler writes pc) = map (λ s. s.value) sets
 given (changes.Other act) = act_values act
 given _ = []
 
--- the values that were taken out of locals
-abbrev pub taken : Taken → List Value
-taken takens.Nothing = []
-taken (takens.One value) = value ∷ []
-taken (takens.Many values) = values
-taken (takens.All locals) = locals
-
--- what each of these sets takes out of its local, in order; the value itself where there is no such
--- local
-abbrev pub set_out : List Value → List LocalSet → List Value
-set_out locals [] = []
-set_out locals (s ∷ more) =
-    get_or locals s.local s.value ∷ set_out (slice_set locals s.local s.value) more
-
--- the values that an act takes out of locals
-abbrev pub act_taken : List Value → Act → List Value
-act_taken locals (Step pc after handler writes) = locals
-act_taken locals _ = []
-
--- the values that a change takes out of locals
-abbrev pub taken_by : List Value → Change → List Value
-taken_by locals (changes.Local into value pc) = get_or locals into value ∷ []
-taken_by locals (changes.Slots sets handler writes pc) = set_out locals sets
-taken_by locals (changes.Other act) = act_taken locals act
-taken_by locals _ = []
-
--- a change that may take memory: the list that is pushed to grows, and the values that several sets
--- take out are kept in a list
-abbrev pub takes_memory : Change → Bool
-takes_memory (changes.Push list item weight pc) = true
-takes_memory (changes.Slots sets handler writes pc) = true
-takes_memory _ = false
-
 -- there is a value, and it names an object
 abbrev pub some_names : ObjectName → Option Value → Bool
 some_names o None = false
@@ -72,15 +35,3 @@ abbrev pub named_again : ObjectName → Invocation → Change → Bool
 named_again o i (changes.Push list item weight pc) =
     some_names o (slice_get i.locals list) && names o item
 named_again o i _ = false
-
--- the slots of the object once what is left was done
-abbrev pub slots_after : Left → List Value → List Value
-slots_after (lefts.Slot slot value) slots =
-    written slots (record { slot = slot; value = value } ∷ [])
-slots_after (lefts.Slots writes) slots = written slots writes
-slots_after _ slots = slots
-
--- the act that is left to do
-abbrev pub act_left : Left → Option Act
-act_left (lefts.Other act) = Some act
-act_left _ = None

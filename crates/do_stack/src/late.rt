@@ -96,7 +96,7 @@ impl LateCalls {
     }
 
     /// Whether an answer of a peer is to a late call.
-    fn has(&self, peer: NodeId, number: u64, root: bool) -> bool
+    pub(crate) fn has(&self, peer: NodeId, number: u64, root: bool) -> bool
         ensures { result ≡ list_any
             (λ c. is_answered (record { peer = peer; number = number; root = root })
             c.peer c.number c.what) self.now.calls }

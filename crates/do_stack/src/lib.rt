@@ -6,14 +6,13 @@
 //! takes out of it.
 #![tactic(auto)]
 
-mod exchange;
 mod late;
 mod law;
 mod naming;
 mod stack;
 mod waits;
 
-pub use exchange::{Exchanged, Left, Taken};
+pub use do_behave::{Exchanged, Left, Taken};
 pub use law::{
     counts_are_references, holders_are_references, named_objects_are_uses, uses_are_references,
 };

@@ -16,9 +16,8 @@ ghost use Rattle.do_stack.specs.Exchange.{given, taken, named_again, slots_after
 ghost use Rattle.do_stack.specs.Exchange.{taken_by, takes_memory};
 ghost use Rattle.do_stack.specs.Uses.{uses, stack_uses, invocation_values};
 
-use crate::exchange::{Exchanged, exchange};
 use crate::late::LateCalls;
-use do_behave::{Change, Invocation};
+use do_behave::{Change, Exchanged, Invocation, exchange};
 use std::alloc::{AllocError, Global};
 use std::collections::VecDeque;
 use std::marker::Model;

@@ -76,8 +76,8 @@ impl Stack {
         self.invs[0].state = InvState::Waits { call, peer, what };
     }
 
-    /// Takes the answer that the top invocation has, which then runs. None exactly where it has none,
-    /// and then nothing changes.
+    /// Takes the answer that the top invocation has, which then runs. None exactly where it has
+    /// none, and then nothing changes.
     #[tactic(auto, using(crate::proofs::UsesKept::kept_uses))]
     pub fn take_answer(&mut self) -> Option<Answer>
         ensures which { result ≡ top_answer self.old.invocations }

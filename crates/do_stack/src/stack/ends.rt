@@ -70,6 +70,15 @@ impl Stack {
         Ok(())
     }
 
+    /// Whether a call to a peer is late, which was for its root or for a method.
+    pub fn is_late(&self, call: CallId, peer: NodeId, root: bool) -> bool
+        ensures { result ≡ list_any (λ c. is_answered
+            (record { peer = peer; number = call.number; root = root })
+            c.peer c.number c.what) self.now.late }
+    {
+        self.late.has(peer, call.number, root)
+    }
+
     /// Ends a late call to a peer, which was for its root or for a method. False exactly where no
     /// such call is late, and then nothing changes.
     pub fn late(&mut self, call: CallId, peer: NodeId, root: bool) -> bool

@@ -1,63 +1,28 @@
 //! A change of an invocation in place, which hands back what it took out.
-ghost use Rattle.std.specs.Prelude.{◌≡◌, ◌+◌, ◌<◌, ◌≤◌, cond, List, ℕ, IfOk, OnOk, OnErr, map};
-ghost use Rattle.std.specs.Prelude.{◌∷◌, ◌++◌, vec_len, vec_capacity, slice_set, [], slice_get};
-ghost use Rattle.std.specs.Prelude.{Some, get_or, false, IsOk};
-ghost use Rattle.do_base.specs.names.Names.{ObjectName};
+ghost use Rattle.std.specs.Prelude.{◌≡◌, ◌∷◌, [], List, get_or, slice_set, false, IfOk, OnOk};
+ghost use Rattle.std.specs.Prelude.{OnErr, IsOk};
 ghost use Rattle.do_base.specs.declared.values.value.Value.{Value};
 ghost use Rattle.do_behave.specs.Changes.{IsFitting, meaning, with_set};
+ghost use Rattle.do_behave.specs.Exchange.{taken, slots_after, act_left, set_out, act_taken};
+ghost use Rattle.do_behave.specs.Exchange.{taken_by, takes_memory};
 ghost use Rattle.do_behave.specs.InPlace.{after_act};
-ghost use Rattle.do_stack.specs.Exchange.{given, taken, named_again, slots_after, act_left};
-ghost use Rattle.do_stack.specs.Exchange.{act_values, set_out, act_taken, taken_by, takes_memory};
-ghost use Rattle.do_stack.specs.Uses.{uses};
-ghost use Rattle.do_stack.specs.declared.exchange.Taken.TheVariants.{Nothing};
+ghost use Rattle.do_behave.specs.declared.exchanged.Taken.TheVariants.{Nothing};
 
+use crate::act::Act;
+use crate::change::{Change, LocalSet, LocalSets};
+use crate::exchanged::{Exchanged, Left, Taken};
+use crate::held::{Frame, Held};
+use crate::invocation::Invocation;
 use do_base::{Value, Values};
-use do_behave::{Act, Change, Frame, Held, Invocation, LocalSet, LocalSets, Writes};
 use std::alloc::AllocError;
 use std::mem;
 
-/// What a change took out of the locals of an invocation.
-///
-/// Whoever counts uses takes these values off, and adds those that the change put in.
-#[derive(Debug, Drop)]
-pub enum Taken {
-    /// No value.
-    Nothing,
-    /// The value of one local.
-    One(Value),
-    /// The values of several locals.
-    Many(Values),
-    /// The values of all locals.
-    All(Frame),
-}
-
-/// What is left to do once an invocation was changed.
-#[derive(Debug, Drop)]
-pub enum Left {
-    /// Nothing.
-    Nothing,
-    /// To write a slot of the invocation's object.
-    Slot { slot: usize, value: Value },
-    /// To write slots of the invocation's object, in order.
-    Slots(Writes),
-    /// An act that is no step.
-    Other(Act),
-}
-
-/// What a change took out of an invocation, and what is left to do.
-#[derive(Debug, Drop)]
-pub struct Exchanged {
-    pub taken: Taken,
-    pub left: Left,
-}
-
 /// Puts a value into a local, and hands back what it held. Where there is no such local, none is
 /// set, and the value itself comes back.
+#[inline(always)]
 fn put(locals: &mut Frame, at: usize, value: Value) -> Value
     ensures locals { locals.new ≡ slice_set locals.old at value }
     ensures taken { result ≡ get_or locals.old at value }
-    ensures uses { (o : ObjectName) → uses o locals.new + uses o (result ∷ [])
-        ≡ uses o locals.old + uses o (value ∷ []) }
 {
     if at >= locals.len() {
         return value;
@@ -71,8 +36,6 @@ fn put(locals: &mut Frame, at: usize, value: Value) -> Value
 fn put_all(locals: &mut Frame, mut sets: LocalSets) -> Result<Values, AllocError>
     ensures locals { OnOk result (locals.new ≡ with_set locals.old sets) }
     ensures taken { IfOk result (λ was. was ≡ set_out locals.old sets) }
-    ensures uses { IfOk result (λ was. (o : ObjectName) → uses o locals.new + uses o was
-        ≡ uses o locals.old + uses o (map (λ s. s.value) sets)) }
     ensures err { OnErr result (locals.new ≡ locals.old) }
 {
     let mut was = Vec::with_capacity(sets.allocator(), sets.len())?;
@@ -85,6 +48,7 @@ fn put_all(locals: &mut Frame, mut sets: LocalSets) -> Result<Values, AllocError
 }
 
 /// An exchange that took nothing.
+#[inline(always)]
 fn took_nothing(left: Left) -> Exchanged
     ensures { result ≡ record { taken = Nothing; left = left } }
 {
@@ -95,6 +59,7 @@ fn took_nothing(left: Left) -> Exchanged
 }
 
 /// Does an act, where it is a step, but for its writes of slots; else hands it back.
+#[inline(always)]
 fn exchange_act(inv: &mut Invocation, act: Act) -> Exchanged
     ensures done { (slots : List Value) → record {
       inv = inv.new;
@@ -102,8 +67,6 @@ fn exchange_act(inv: &mut Invocation, act: Act) -> Exchanged
       left = act_left result.left;
     } ≡ after_act act inv.old slots }
     ensures taken { taken result.taken ≡ act_taken inv.old.locals act }
-    ensures uses { (o : ObjectName) → uses o inv.new.locals + uses o (taken result.taken)
-        ≡ uses o inv.old.locals + uses o (act_values act) }
 {
     match act {
         Act::Step {
@@ -128,7 +91,7 @@ fn exchange_act(inv: &mut Invocation, act: Act) -> Exchanged
 /// out of the locals is handed back, and what is left to do.
 ///
 /// If memory runs out, the invocation is unchanged.
-#[tactic(auto, using(crate::proofs::UsesMove::uses_push))]
+#[inline(always)]
 pub fn exchange(inv: &mut Invocation, change: Change) -> Result<Exchanged, AllocError>
     requires { IsFitting inv.old change }
     ensures done { IfOk result (λ e. (slots : List Value) → record {
@@ -138,9 +101,6 @@ pub fn exchange(inv: &mut Invocation, change: Change) -> Result<Exchanged, Alloc
     } ≡ after_act (meaning inv.old change) inv.old slots) }
     ensures taken { IfOk result (λ e. taken e.taken ≡ taken_by inv.old.locals change) }
     ensures sure { takes_memory change ≡ false → IsOk result }
-    ensures uses { IfOk result (λ e. (o : ObjectName) → uses o inv.new.locals
-        + uses o (taken e.taken) + cond (named_again o inv.old change) 1 0
-        ≡ uses o inv.old.locals + uses o (given change)) }
     ensures err { OnErr result (inv.new ≡ inv.old) }
 {
     match change {
