@@ -6,7 +6,7 @@ ghost use Rattle.do_machine.specs.take.Receipt.{arrived, is_entered, is_reachabl
 
 pub(crate) mod limits;
 mod view;
-mod weights;
+pub(crate) mod weights;
 
 use crate::basis::Basis;
 use do_base::{Flags, NodeId, Values};

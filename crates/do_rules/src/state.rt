@@ -7,25 +7,25 @@ use do_base::{Items, NodeId, Oid};
 use do_class::ClassId;
 use do_machine::{Classes, Item, Node, Queue, Shared, State, Station};
 
-/// The station of a port, as it is shared.
-fn shared(state: &State, port: NodeId) -> Option<&Shared<Station>>
-    ensures { option_copied result ≡ station state.now port }
+/// The station of a port, among others.
+fn station_in(stations: &[Shared<Station>], port: NodeId) -> Option<&Station>
+    ensures { option_copied result ≡ find (λ s. port == s.port) stations.now }
 {
-    state
-        .stations
-        .as_slice()
-        .iter()
-        .find(|station| station.get().port == port)
+    let [first, rest @ ..] = stations else {
+        return None;
+    };
+    let station = first.get();
+    if station.port == port {
+        return Some(station);
+    }
+    station_in(rest, port)
 }
 
 /// The station of a port.
 pub fn station(state: &State, port: NodeId) -> Option<&Station>
     ensures { option_copied result ≡ station state.now port }
 {
-    match shared(state, port) {
-        Some(station) => Some(station.get()),
-        None => None,
-    }
+    station_in(state.stations.as_slice(), port)
 }
 
 /// The node of a port.
@@ -38,19 +38,26 @@ pub fn node_at(state: &State, port: NodeId) -> Option<&Node>
     }
 }
 
-/// The queue to a peer, as it is shared.
-fn shared_queue(queues: &Items<Shared<Queue>>, to: NodeId) -> Option<&Shared<Queue>>
+/// The queue to a peer, among others.
+fn queue_in(queues: &[Shared<Queue>], to: NodeId) -> Option<&Queue>
     ensures { option_copied result ≡ find (λ q. to == q.to) queues.now }
 {
-    queues.as_slice().iter().find(|queue| queue.get().to == to)
+    let [first, rest @ ..] = queues else {
+        return None;
+    };
+    let queue = first.get();
+    if queue.to == to {
+        return Some(queue);
+    }
+    queue_in(rest, to)
 }
 
 /// The queue of a station to a peer.
 fn queue_to(station: &Station, to: NodeId) -> Option<&Items<Shared<Item>>>
     ensures { option_copied result ≡ queue_to to station.now }
 {
-    match shared_queue(&station.queues, to) {
-        Some(queue) => Some(&queue.get().items),
+    match queue_in(station.queues.as_slice(), to) {
+        Some(queue) => Some(&queue.items),
         None => None,
     }
 }

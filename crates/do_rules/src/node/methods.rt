@@ -9,7 +9,7 @@ use do_base::Text;
 use do_class::{ClassId, ClassTable, MethodId};
 use do_sig::Signature;
 
-/// A method with its signature.
+/// A method that an object has, with its signature.
 #[derive(Drop)]
 pub struct Found<'t> {
     /// The method.
@@ -18,8 +18,11 @@ pub struct Found<'t> {
     pub signature: &'t Signature,
 }
 
-/// The method that an object of a class has for a selector; one whose class is not known has none.
-pub(crate) fn method_for<'t>(
+/// The method that an object of a class has for a selector.
+///
+/// None where the class is not known or the table has no such class, and where the class has no
+/// method for the selector, in which case the object does not understand the message.
+pub fn method_for<'t>(
     table: &'t ClassTable,
     class: Option<ClassId>,
     selector: &Text,

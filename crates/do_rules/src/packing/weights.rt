@@ -1,4 +1,4 @@
-//! Whether values weigh less than packing can count.
+//! How much values weigh, and whether it is less than packing can count.
 ghost use Rattle.std.specs.Prelude.{◌≡◌, nat_lt, sum_by};
 ghost use Rattle.do_base.specs.values.Values.{weight_of};
 ghost use Rattle.do_behave.specs.Limits.{left_of};
@@ -19,7 +19,7 @@ fn left(most: u64, weight: u64) -> Option<u64>
 /// as its lists nest.
 #[cycle(left)]
 #[tactic(auto, using(crate::proofs::Weights::left_steps))]
-fn left_behind(value: &Value, most: u64) -> Option<u64>
+pub fn left_behind(value: &Value, most: u64) -> Option<u64>
     ensures { result ≡ left_of most (weight_of value.now) }
 {
     match value {
@@ -54,7 +54,7 @@ fn left_behind_all(values: &Values, most: u64) -> Option<u64>
 
 /// Whether values weigh less than 2^32 together.
 #[tactic(auto, using(crate::proofs::Weights::left_steps))]
-pub(crate) fn are_light(values: &Values) -> bool
+pub fn are_light(values: &Values) -> bool
     ensures { result ≡ nat_lt (sum_by weight_of values.now) 4294967296 }
 {
     left_behind_all(values, MOST).is_some()

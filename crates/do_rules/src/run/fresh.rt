@@ -48,8 +48,12 @@ fn first_locals(values: &Values) -> Result<Frame, AllocError>
     Ok(locals)
 }
 
-/// An invocation of an own object, with these values in its first locals and nil in the others.
-pub(crate) fn fresh(
+/// A method of an own object as it begins: at place 0, with these values in the first of its 16
+/// locals and nil in the others, running, and with no handler.
+///
+/// Where there are more than 16 values, all of them become locals. `AllocError` comes where memory
+/// runs out.
+pub fn fresh(
     object: Oid,
     method: MethodId,
     reason: Reason,

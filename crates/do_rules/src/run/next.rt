@@ -13,8 +13,8 @@ use do_behave::{Act, Answer, Behaviour, Change, InvState, Invocation, Write, Wri
 use do_machine::{Effect, Verdict};
 use std::alloc::AllocError;
 
-/// The act that was done to an invocation, by the one after it and what is left to do: where nothing
-/// is left it was a step, which writes these slots.
+/// The act that was done to an invocation, by the one after it and what is left to do: where
+/// nothing is left it was a step, which writes these slots.
 fn done_by(after: Invocation, left: Option<Act>, writes: Writes) -> Act
     ensures { result ≡ done_by writes after left }
 {
@@ -37,8 +37,8 @@ fn done_by(after: Invocation, left: Option<Act>, writes: Writes) -> Act
     }
 }
 
-/// The step that a change of an invocation is, but that it writes these slots: what the change makes
-/// of a copy.
+/// The step that a change of an invocation is, but that it writes these slots: what the change
+/// makes of a copy.
 fn step_by(inv: &Invocation, change: Change, writes: Writes) -> Result<Act, AllocError>
     requires { IsFitting inv.now change }
     ensures { IfOk result (λ act. act ≡ writing writes (meaning inv.now change)) }

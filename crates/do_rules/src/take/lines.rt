@@ -14,8 +14,12 @@ pub(crate) fn object_at(node: NodeId, serial: u64) -> Oid
     Oid { node, serial }
 }
 
-/// An item on its way between two nodes, as it is shown.
-pub(crate) fn item_line(from: NodeId, to: NodeId, item: &Item) -> Result<Took, AllocError>
+/// What a transcript shows of an item that is taken, on its way from a node to another: its kind,
+/// with the selector, the exception or the object that it names.
+///
+/// An object is that of the node which owns it: of the sender in a grant and where an object is
+/// gone, of the receiver where one is asked for or left. `AllocError` comes where memory runs out.
+pub fn item_line(from: NodeId, to: NodeId, item: &Item) -> Result<Took, AllocError>
     ensures { IfOk result (λ line. line ≡ item_line from to item.now) }
 {
     match item {
