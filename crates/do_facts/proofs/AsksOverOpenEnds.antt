@@ -1,4 +1,4 @@
--- What a rule asks of a peer goes over an open end.
+-- What a rule asks of a peer goes over an open end, and names what the node may name.
 use Rattle.std.proofs.Common.{◌≡◌, ◌==◌, ◌&&◌, ◌||◌, ℕ, Bool, true, false, cond, not, [], refl}
 use Rattle.std.specs.Prelude.{None, Some}
 use Rattle.do_base.specs.names.Names.{ObjectName}
@@ -30,6 +30,7 @@ use Rattle.do_machine.specs.run.Send.{arguments, inputs, local_rule, message, ou
 use Rattle.do_machine.specs.run.Send.{send_rule}
 use Rattle.do_facts.proofs.IsSent.{IsSent}
 use Rattle.do_facts.proofs.Chains.{either, found_or}
+use Rattle.do_facts.proofs.links.AreNamed.{is_usable}
 use Rattle.do_facts.proofs.links.TokensOfMessages.{names_lent}
 
 -- an end that is not closed is open
@@ -37,11 +38,16 @@ pub not_closed : (b : Bool) → not b ≡ false → b ≡ true
 not_closed true h = refl
 not_closed false h = absurd (cc)
 
--- a foreign object whose end is not closed is reached over an open one
+-- of an object that is not the node's own, what did not fail holds
 reached : (own ends : Bool) → own ≡ false → (not own && not ends) ≡ false → ends ≡ true
 reached true ends h k = absurd (cc)
 reached false true h k = refl
 reached false false h k = absurd (cc)
+
+-- two tests that pass
+both_pass : (a b : Bool) → a ≡ true → b ≡ true → (a && b) ≡ true
+both_pass true b x y = y
+both_pass false b x y = absurd (cc)
 
 module _ (r : RunContext) where
   -- it goes over an open end
@@ -79,28 +85,33 @@ module _ (r : RunContext) where
   module _ (x : SendAct) where
     -- a message to a peer
     by_remote : (o : ObjectName) (m : Found) → is_open r.context.node o.node ≡ true →
-        Sent (remote_rule r.context o m x)
-    by_remote o m ends =
+        is_usable r.context.node o ≡ true → Sent (remote_rule r.context o m x)
+    by_remote o m ends usable =
         let values = arguments m.signature x in
         found_or Sent (packed_for r.context o.node values) (Fails TooLarge) _ tt
         (λ packet h. either Sent (is_oneway m.signature)
         (Tells o.node (message o x packet) x.into x.pc) _
-        (λ _. (ends, names_lent r.context o.node values packet h))
-        (λ _. (ends, names_lent r.context o.node values packet h)))
+        (λ _. (ends, (usable, names_lent r.context o.node values packet h)))
+        (λ _. (ends, (usable, names_lent r.context o.node values packet h))))
 
     -- a message to an own object or to a peer
     by_target : (o : ObjectName) (m : Found) →
         (not (is_own r.context.node o) && not (is_open r.context.node o.node)) ≡ false →
+        (not (is_own r.context.node o) && not (is_known r.context.node o)) ≡ false →
         Sent (cond (is_own r.context.node o) (local_rule r.context.node o m x)
         (remote_rule r.context o m x))
-    by_target o m h =
+    by_target o m h k =
         either Sent (is_own r.context.node o) (local_rule r.context.node o m x)
         (remote_rule r.context o m x)
         (λ _. either Sent (is_full r.context.node) (Fails Deep)
         (Begins o m.id (inputs m.signature x) x.into (outs_of m.signature x.from) x.pc)
         (λ _. tt) (λ _. tt))
-        (λ f. by_remote o m
-        (reached (is_own r.context.node o) (is_open r.context.node o.node) f h))
+        (λ f.
+        let n = r.context.node in
+        let ends = reached (is_own n o) (is_open n o.node) f h in
+        by_remote o m ends
+        (both_pass (is_known n o) (is_open n o.node) (reached (is_own n o) (is_known n o) f k)
+        ends))
 
     -- any message
     by_send : Sent (send_rule r x)
@@ -111,10 +122,10 @@ module _ (r : RunContext) where
         (Fails ConnectionDied) _ (λ _. tt)
         (λ h. either Sent (not (is_own r.context.node o) && not (is_known r.context.node o))
         (Fails NotVended) _ (λ _. tt)
-        (λ _. found_or Sent (method_for r.context.table (class_seen r.context o) x.selector)
+        (λ k. found_or Sent (method_for r.context.table (class_seen r.context o) x.selector)
         (Fails NotUnderstood) _ tt
         (λ m _. either Sent (not (inputs_fit m.signature x.args)) (Fails TypeFault) _
-        (λ _. tt) (λ _. by_target o m h))))))
+        (λ _. tt) (λ _. by_target o m h k))))))
 
   -- any act
   pub by_act : (act : Act) → Sent (act_rule r act)

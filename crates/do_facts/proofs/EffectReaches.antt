@@ -12,6 +12,7 @@ use Rattle.do_machine.specs.State.{is_open, node, queue}
 use Rattle.do_machine.specs.held.Leaving.{leaving}
 use Rattle.do_machine.proofs.follows.States.{changed}
 use Rattle.do_machine.proofs.passing.Linked.{commit_leaves}
+use Rattle.do_facts.specs.ByEvents.{IsMoveOf}
 use Rattle.do_facts.specs.Net.{Note, atoms_of, net_after}
 use Rattle.do_facts.specs.Moves.{Mays, Reaches, Rules, Runs, afters, all_posts}
 use Rattle.do_facts.specs.View.{AreMoves, View, net_of, part_seen, posted}
@@ -80,9 +81,9 @@ module _ {P A V : Type 0} (view : View P A) (rules : Rules P A V) (Ok : P → Ty
 
     -- an effect that takes nothing
     pub reaches_commit : (e : Effect) → AreMoves view rules n [] e →
-        Reaches rules (net_of view S) (net_of view (commit port e S))
+        Reaches rules (IsMoveOf port) (net_of view S) (net_of view (commit port e S))
     reaches_commit e moves =
-        subst (λ net. Reaches rules (net_of view S) net) (sym (net_by [] e moves))
+        subst (λ net. Reaches rules (IsMoveOf port) (net_of view S) net) (sym (net_by [] e moves))
         (reaches_by rules port (net_of view S) [] (view.part e.node) (posted view e.sent)
         (subst (λ q. Runs rules q [] (view.part e.node) (posted view e.sent))
         (sym (ap (part_seen view) here)) moves)
@@ -90,7 +91,8 @@ module _ {P A V : Type 0} (view : View P A) (rules : Rules P A V) (Ok : P → Ty
 
     -- what follows a step
     pub reaches_leaving : (shown : List Shown) →
-        Reaches rules (net_of view S) (net_of view (then_leaves port shown n S).state)
+        Reaches rules (IsMoveOf port) (net_of view S)
+        (net_of view (then_leaves port shown n S).state)
     reaches_leaving shown =
         let entry = (around S n).entry in
         reaches_commit (leaving entry n) (bridge.leave entry n ok)
@@ -98,10 +100,11 @@ module _ {P A V : Type 0} (view : View P A) (rules : Rules P A V) (Ok : P → Ty
   -- a node moves
   pub reaches_moved : (port : ℕ) (S : State) (n : Node) → node S port ≡ Some n →
       IsLinked S port n → Ok (view.part n) → (e : Effect) → AreMoves view rules n [] e →
-      Reaches rules (net_of view S) (net_of view (moved port S e).state)
+      Reaches rules (IsMoveOf port) (net_of view S) (net_of view (moved port S e).state)
   reaches_moved port S n here linked ok e moves =
       let T = commit port e S in
-      reaches_on rules (net_of view S) (net_of view T) (net_of view (moved port S e).state)
+      reaches_on rules (IsMoveOf port) (net_of view S) (net_of view T)
+      (net_of view (moved port S e).state)
       (reaches_commit port S n here linked ok e moves)
       (reaches_leaving port T e.node (changed port e n S.stations here)
       (linked_by port S n here linked ok [] e moves) (ok_by port S n here linked ok [] e moves)

@@ -1,23 +1,28 @@
--- What a node asks of its peers goes over open ends.
-use Rattle.std.specs.Prelude.{true, ◌≡◌}
+-- What a node asks of its peers goes over open ends, and names what it may name.
+use Rattle.std.specs.Prelude.{true, ℕ, ◌≡◌}
+use Rattle.do_machine.specs.declared.item.Message.{Message}
 use Rattle.do_machine.specs.declared.node.Node.{Node}
 use Rattle.do_machine.specs.declared.verdict.Request.{Request}
-use Rattle.do_machine.specs.declared.verdict.Verdict.{Verdict}
-use Rattle.do_machine.specs.State.{is_open}
-use Rattle.do_facts.proofs.links.AreLent.{AreLent, is_usable}
 use Rattle.do_machine.specs.declared.verdict.Request.TheVariants as requests
+use Rattle.do_machine.specs.declared.verdict.Verdict.{Verdict}
 use Rattle.do_machine.specs.declared.verdict.Verdict.TheVariants as verdicts
+use Rattle.do_machine.specs.Objects.{object_at}
+use Rattle.do_machine.specs.State.{is_open}
+use Rattle.do_facts.proofs.links.AreNamed.{NamedBy, is_usable}
 
--- what is asked has the next tokens, of objects that the node may name
-abbrev pub IsRequest : Node → Request → Type 0
-IsRequest n requests.Root = Unit {0}
-IsRequest n (requests.Call method m) = AreLent (is_usable n) n.next_token m.packet.names
+-- a message to a peer is for an object that the node may use, and names what it may name
+abbrev pub IsMessage : Node → ℕ → Message → Type 0
+IsMessage n peer m =
+    (is_usable n (object_at peer m.target) ≡ true) × NamedBy n peer m.packet.names
 
--- what is sent to a peer goes over an open end, and has the next tokens, of objects that the node
--- may name
+-- a request to a peer has such a message, or none
+abbrev pub IsRequest : Node → ℕ → Request → Type 0
+IsRequest n peer requests.Root = Unit {0}
+IsRequest n peer (requests.Call method m) = IsMessage n peer m
+
+-- what is sent to a peer goes over an open end, and has such a message
 abbrev pub IsSent : Node → Verdict → Type 0
 IsSent n (verdicts.Asks peer request into outs pc) =
-    (is_open n peer ≡ true) × IsRequest n request
-IsSent n (verdicts.Tells peer m into pc) =
-    (is_open n peer ≡ true) × AreLent (is_usable n) n.next_token m.packet.names
+    (is_open n peer ≡ true) × IsRequest n peer request
+IsSent n (verdicts.Tells peer m into pc) = (is_open n peer ≡ true) × IsMessage n peer m
 IsSent n _ = Unit {0}

@@ -21,7 +21,8 @@ use Rattle.do_machine.proofs.follows.States.{changed, requeued}
 use Rattle.do_machine.proofs.follows.Steps.{first_of}
 use Rattle.do_machine.proofs.passing.Lookups.{none_goes}
 use Rattle.do_facts.specs.Net.{Net, StandFirst, atoms_of, net_after, noted}
-use Rattle.do_facts.specs.Moves.{Reaches, Rules, Runs}
+use Rattle.do_facts.specs.ByEvents.{IsMoveOf}
+use Rattle.do_facts.specs.Moves.{Happening, Reaches, Rules, Runs}
 use Rattle.do_facts.specs.View.{AreApart, AreMoves, View, net_of, part_seen, posted}
 use Rattle.do_facts.specs.View.{wire_seen}
 use Rattle.do_facts.proofs.Bridge.{Bridge}
@@ -32,7 +33,7 @@ use Rattle.do_facts.proofs.Paths.{reaches_by, reaches_on, reaches_same}
 use Rattle.do_facts.proofs.RequeueAsNet.{net_requeued, net_taken}
 
 -- the notes that a peer sent stand first where its atoms do
-noted_first : {P A : Type 0} (port from : ℕ) (net : Net P A) (atoms rest : List A) →
+pub noted_first : {P A : Type 0} (port from : ℕ) (net : Net P A) (atoms rest : List A) →
     net.wire from port ≡ atoms ++ rest → StandFirst port (noted from atoms) net
 noted_first {A = A} port from net atoms rest h x apart = go (from == x) refl
   where
@@ -51,19 +52,20 @@ noted_first {A = A} port from net atoms rest h x apart = go (from == x) refl
 module _ {P A V : Type 0} (view : View P A) (rules : Rules P A V) (Ok : P → Type 0)
     (bridge : Bridge view rules Ok) (S : State) (queues : HasQueues S) (apart : AreApart S)
     (ok : (port : ℕ) (n : Node) → node S port ≡ Some n → Ok (view.part n)) where
-  -- what comes of an event, if it is enabled, is reached
-  abbrev pub Comes : Option Stepped → Type 0
-  Comes found = Reaches rules (net_of view S) (net_of view (unwrap_or found (skipped S)).state)
+  -- what comes of an event, if it is enabled, is reached in such a way
+  abbrev pub Comes : (Happening A V → Type 0) → Option Stepped → Type 0
+  Comes Way found =
+      Reaches rules Way (net_of view S) (net_of view (unwrap_or found (skipped S)).state)
 
   -- an event that is not enabled
-  pub comes_same : Comes None
-  comes_same = reaches_same rules (net_of view S) (net_of view S) refl
+  pub comes_same : (Way : Happening A V → Type 0) → Comes Way None
+  comes_same Way = reaches_same rules Way (net_of view S) (net_of view S) refl
 
   -- an event that a test may skip
-  pub comes_if : (b : Bool) (found : Option Stepped) → (b ≡ false → Comes found) →
-      Comes (cond b None found)
-  comes_if true found h = comes_same
-  comes_if false found h = h refl
+  pub comes_if : (Way : Happening A V → Type 0) (b : Bool) (found : Option Stepped) →
+      (b ≡ false → Comes Way found) → Comes Way (cond b None found)
+  comes_if Way true found h = comes_same Way
+  comes_if Way false found h = h refl
 
   -- a node has its queues
   pub linked_here : (port : ℕ) (n : Node) → node S port ≡ Some n → IsLinked S port n
@@ -99,15 +101,15 @@ module _ {P A V : Type 0} (view : View P A) (rules : Rules P A V) (Ok : P → Ty
           no a b = cc
 
       -- the atoms stand first
-      wire_here : (net_of view S).wire from port ≡ atoms ++ flat_map view.atoms behind
+      pub wire_here : (net_of view S).wire from port ≡ atoms ++ flat_map view.atoms behind
       wire_here = ap (wire_seen view) waits
 
       -- the node is there still
-      here_still : node T port ≡ Some n
+      pub here_still : node T port ≡ Some n
       here_still = requeued from port port behind S.stations ∙ here
 
       -- and has its queues
-      linked_still : IsLinked T port n
+      pub linked_still : IsLinked T port n
       linked_still peer q = linked_here port n here peer (none_goes from port behind S port peer q)
 
       -- the effect
@@ -122,7 +124,7 @@ module _ {P A V : Type 0} (view : View P A) (rules : Rules P A V) (Ok : P → Ty
           ∙ net_taken port from (net_of view S) atoms (flat_map view.atoms behind) wire_here other
 
       -- the net after the effect
-      net_then : net_of view (commit port effect T) ≡ net_after port (view.part effect.node)
+      pub net_then : net_of view (commit port effect T) ≡ net_after port (view.part effect.node)
           (noted from atoms) (posted view effect.sent) (net_of view S)
       net_then =
           let q = view.part effect.node in
@@ -135,14 +137,15 @@ module _ {P A V : Type 0} (view : View P A) (rules : Rules P A V) (Ok : P → Ty
           ∙ ap (λ xs. net_after port q xs sent (net_of view S)) (append-nil (noted from atoms))
 
       -- a take of an item
-      comes_taken : Reaches rules (net_of view S) (net_of view (moved port T effect).state)
+      comes_taken : Reaches rules (IsMoveOf port) (net_of view S)
+          (net_of view (moved port T effect).state)
       comes_taken =
           let U = commit port effect T in
           let q = view.part effect.node in
           let sent = posted view effect.sent in
-          reaches_on rules (net_of view S) (net_of view U)
+          reaches_on rules (IsMoveOf port) (net_of view S) (net_of view U)
           (net_of view (moved port T effect).state)
-          (subst (λ net. Reaches rules (net_of view S) net) (sym net_then)
+          (subst (λ net. Reaches rules (IsMoveOf port) (net_of view S) net) (sym net_then)
           (reaches_by rules port (net_of view S) (noted from atoms) q sent
           (subst (λ p. Runs rules p (noted from atoms) q sent) (sym (ap (part_seen view) here))
           moves)
@@ -156,17 +159,17 @@ module _ {P A V : Type 0} (view : View P A) (rules : Rules P A V) (Ok : P → Ty
 
     -- a take of the oldest item, where there is one
     comes_oldest : (n : Node) (w : List Item) → node S port ≡ Some n → queue S from port ≡ Some w →
-        is_open n from ≡ true → Comes (elim (slice_get w 0) [
+        is_open n from ≡ true → Comes (IsMoveOf port) (elim (slice_get w 0) [
           | None ↦ None
           | Some x ↦ Some (moved port (rest (drop 1 w))
               (take_effect (context table (rest (drop 1 w)) n) from x))
         ])
-    comes_oldest n [] here waits ends = comes_same
+    comes_oldest n [] here waits ends = comes_same (IsMoveOf port)
     comes_oldest n (item ∷ behind) here waits ends = comes_taken n item behind here waits ends
 
     -- a take from a queue
     comes_from : (n : Node) (waiting : Option (List Item)) → node S port ≡ Some n →
-        queue S from port ≡ waiting → is_open n from ≡ true → Comes (elim waiting [
+        queue S from port ≡ waiting → is_open n from ≡ true → Comes (IsMoveOf port) (elim waiting [
           | None ↦ None
           | Some w ↦ elim (slice_get w 0) [
             | None ↦ None
@@ -174,23 +177,24 @@ module _ {P A V : Type 0} (view : View P A) (rules : Rules P A V) (Ok : P → Ty
                 (take_effect (context table (rest (drop 1 w)) n) from x))
           ]
         ])
-    comes_from n None here waits ends = comes_same
+    comes_from n None here waits ends = comes_same (IsMoveOf port)
     comes_from n (Some w) here waits ends = comes_oldest n w here waits ends
 
     -- any take
-    pub comes_take : (found : Option Node) → node S port ≡ found → Comes (elim found [
-      | None ↦ None
-      | Some n ↦ cond (not (can_take from n)) None (elim (queue S from port) [
-        | None ↦ None
-        | Some w ↦ elim (slice_get w 0) [
+    pub comes_take : (found : Option Node) → node S port ≡ found →
+        Comes (IsMoveOf port) (elim found [
           | None ↦ None
-          | Some x ↦ Some (moved port (rest (drop 1 w))
-              (take_effect (context table (rest (drop 1 w)) n) from x))
-        ]
-      ])
-    ])
-    comes_take None here = comes_same
+          | Some n ↦ cond (not (can_take from n)) None (elim (queue S from port) [
+            | None ↦ None
+            | Some w ↦ elim (slice_get w 0) [
+              | None ↦ None
+              | Some x ↦ Some (moved port (rest (drop 1 w))
+                  (take_effect (context table (rest (drop 1 w)) n) from x))
+            ]
+          ])
+        ])
+    comes_take None here = comes_same (IsMoveOf port)
     comes_take (Some n) here =
-        comes_if (not (can_take from n)) _
+        comes_if (IsMoveOf port) (not (can_take from n)) _
         (λ q. comes_from n (queue S from port) here refl
         (first_of (is_open n from) (can_serve n.stack) q))

@@ -1,3 +1,4 @@
+pub mod Acts
 pub mod NamedInMessages
 pub mod TokensOfMessages
 pub mod SendingIsMoves
@@ -16,10 +17,21 @@ pub mod LendAsks
 pub mod FreshMoves
 pub mod AskMoves
 pub mod TokenMoves
+pub mod StoredMoves
 pub mod PlainMoves
 pub mod LinksKept
 pub mod OpeningLinks
 pub mod NoEndTold
 pub mod ReportsKnown
 pub mod ReachedLinks
-pub mod AreLent
+pub mod StepsByActs
+pub mod HeldChanged
+pub mod EntriesKept
+pub mod EntriesAsNet
+pub mod KeptStays
+pub mod EntriesStored
+pub mod NamesPass
+pub mod NamesMade
+pub mod ReachedNames
+pub mod AreNamed
+pub mod HeapsGrow

@@ -1,4 +1,5 @@
 pub mod EachIsStep
+pub mod NodesAtHome
 pub mod OthersStay
 pub mod QueuesOfSteps
 pub mod EntriesOfSteps

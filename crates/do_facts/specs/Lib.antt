@@ -1,7 +1,9 @@
 pub mod Net
 pub mod Moves
+pub mod ByEvents
 pub mod View
 pub mod Reached
+pub mod Made
 pub mod StandOnce
 pub mod steps
 pub mod links

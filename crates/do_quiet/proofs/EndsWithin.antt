@@ -6,6 +6,7 @@ use Rattle.std.proofs.lemmas.Bool.{eqb-true}
 use Rattle.std.proofs.lemmas.List.Elements.{All-append, All-cons, All-filter, All-nil}
 use Rattle.std.proofs.lemmas.List.Sorted.{All-permutation}
 use Rattle.do_base.specs.names.Names.{ObjectName}
+use Rattle.do_machine.specs.declared.node.Stored.{Stored}
 use Rattle.do_machine.specs.declared.node.Wanted.{Wanted}
 use Rattle.do_machine.specs.Lists.{inserted}
 use Rattle.do_machine.specs.Objects.{object_at}
@@ -16,9 +17,9 @@ use Rattle.do_facts.specs.Net.{Net}
 use Rattle.do_facts.specs.Moves.{Happening, Happens, Keeps, Lost, Moved, net_then}
 use Rattle.do_facts.specs.links.Links.{Atom, Links}
 use Rattle.do_facts.specs.links.Moves.{Asks, AsksOnce, Closes, Ends, Frees, GivesUp, Grants, Holds}
-use Rattle.do_facts.specs.links.Moves.{Leaves, Lends, Misses, Move, Names, Receives, Refuses}
-use Rattle.do_facts.specs.links.Moves.{Returns, Settles, closed, link_rules, may, moved, next_lend}
-use Rattle.do_facts.specs.links.Moves.{opens, without_ask}
+use Rattle.do_facts.specs.links.Moves.{Hears, Leaves, Lends, Mentions, Misses, Move, Names}
+use Rattle.do_facts.specs.links.Moves.{Receives, Refuses, Returns, Settles, Stores, Strikes, closed}
+use Rattle.do_facts.specs.links.Moves.{link_rules, may, moved, next_lend, opens, without_ask}
 use Rattle.do_facts.proofs.links.ListsChanged.{was_open}
 
 -- each open end, borrower, home of what is asked for and lender of it passes a test of ports
@@ -65,6 +66,16 @@ module _ (ends : ℕ → Bool) where
     -- other objects held
     same_within : (held : List ObjectName) → IsWithin ends (record p { held = held })
     same_within held = record {
+      reached = within.reached;
+      lent = within.lent;
+      homes = within.homes;
+      lenders = within.lenders;
+    }
+
+    -- other objects stored
+    stored_within : (heap : List Stored) (serial : ℕ) →
+        IsWithin ends (record p { heap = heap; serial = serial })
+    stored_within heap serial = record {
       reached = within.reached;
       lent = within.lent;
       homes = within.homes;
@@ -128,6 +139,10 @@ module _ (ends : ℕ → Bool) where
   within_moved p h (Settles from number) m = settled_within p h from number
   within_moved p h (Frees from s) m = h
   within_moved p h (Ends from serials) m = closed_within p h from
+  within_moved p h (Mentions to s) m = h
+  within_moved p h (Hears from s) m = h
+  within_moved p h (Stores heap serial) m = stored_within p h heap serial
+  within_moved p h (Strikes heap) m = stored_within p h heap p.serial
 
 -- each part stays within, whatever happens
 pub within_keeps : (ends : ℕ → ℕ → Bool) →

@@ -8,3 +8,10 @@ pub mod StoredKept
 pub mod CalmMoves
 pub mod CalmSteps
 pub mod EndsStayOpen
+pub mod Backing
+pub mod CalmLinks
+pub mod NoneRefused
+pub mod BackedMoves
+pub mod BackedStates
+pub mod LendsKept
+pub mod AsksGranted

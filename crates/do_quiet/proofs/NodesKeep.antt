@@ -2,7 +2,7 @@
 -- itself up.
 use Rattle.std.proofs.Common.{◌≡◌, ◌==◌, ℕ, Bool, true, false, List, [], ◌∷◌, refl, sym, ap, ◌∙◌}
 use Rattle.std.proofs.Common.{cond, inl, inr, map, not, subst, ◌||◌}
-use Rattle.std.specs.Prelude.{None, Option, Some, unwrap_or}
+use Rattle.std.specs.Prelude.{Some, unwrap_or}
 use Rattle.std.specs.List.{list_any}
 use Rattle.std.proofs.lemmas.Bool.{eqb-true}
 use Rattle.do_base.specs.declared.events.event.Event.{Event}
@@ -26,7 +26,7 @@ use Rattle.do_machine.specs.World.{by_port, opening, opening_node, others}
 use Rattle.do_machine.specs.held.Kept.{HoldsItself, stays}
 use Rattle.do_machine.specs.held.Leaving.{leaving}
 use Rattle.do_machine.specs.laws.Entries.{HasQueues, IsNoStepOf}
-use Rattle.do_machine.specs.laws.Follows.{AllHoldOpen, Grows}
+use Rattle.do_machine.specs.laws.Follows.{AllHoldOpen}
 use Rattle.do_machine.specs.run.Run.{Acting}
 use Rattle.do_machine.proofs.Bools.{fails}
 use Rattle.do_machine.proofs.Opening.{opening_holds}
@@ -40,6 +40,7 @@ use Rattle.do_facts.proofs.OpeningAsNet.{opened}
 use Rattle.do_facts.proofs.ReachedStates.{holds_of_reached}
 use Rattle.do_facts.proofs.steps.EachIsStep.{step_is}
 use Rattle.do_facts.proofs.steps.HeldReferred.{reached_refers}
+use Rattle.do_facts.proofs.steps.NodesAtHome.{was_there}
 use Rattle.do_facts.proofs.steps.OthersStay.{move_leaves_own, node_stays}
 use Rattle.do_quiet.specs.Keeping.{NodesKeep}
 use Rattle.do_quiet.proofs.HeldUpStill.{left_holds_up}
@@ -70,7 +71,8 @@ no_step Check actor port e h = absurd e
 
 -- ---- one step
 
-module _ (S : State) (event : Event) (s : Stepped) (is : IsStep S event s) (all : AllStand S)
+module _ (table : List Class) (act : Acting) (S : State) (event : Event) (s : Stepped)
+    (is : IsStep table act S event s) (all : AllStand S)
     (entries : (peer : ℕ) (o : ObjectName) → IsNoStepOf o.node event →
     has_entry s.state peer o ≡ has_entry S peer o)
     (grown : (port : ℕ) (m : Node) → node s.state port ≡ Some m →
@@ -124,29 +126,33 @@ module _ (S : State) (event : Event) (s : Stepped) (is : IsStep S event s) (all 
       subst (λ T. HeldUp T m) (sym e) (all.each port m (ap (λ T. node T port) (sym e) ∙ here)).heap
 
 -- any step
-step_held_up : (S : State) (event : Event) (s : Stepped) (is : IsStep S event s) → AllStand S →
+step_held_up : (table : List Class) (act : Acting) (S : State) (event : Event) (s : Stepped)
+    (is : IsStep table act S event s) → AllStand S →
     ((peer : ℕ) (o : ObjectName) → IsNoStepOf o.node event →
     has_entry s.state peer o ≡ has_entry S peer o) →
     ((port : ℕ) (m : Node) → node s.state port ≡ Some m →
     (m.port ≡ port) × (is_open m port ≡ false)) →
     (port : ℕ) (m : Node) → node s.state port ≡ Some m →
     HoldsItself (around s.state m).entry m m.heap
-step_held_up S event s (Skips e) all entries grown port m here =
-    same_held_up S event s (Skips e) all entries grown (ap (λ x. x.state) e) port m here
-step_held_up S event s (Acts actor n d own there e) all entries grown port m here =
-    either_held_up S event s (Acts actor n d own there e) all entries grown actor n d S there e
+step_held_up table act S event s (Skips e) all entries grown port m here =
+    same_held_up table act S event s (Skips e) all entries grown (ap (λ x. x.state) e) port m here
+step_held_up table act S event s (Acts actor n d own there rule e) all entries grown port m here =
+    either_held_up table act S event s (Acts actor n d own there rule e) all entries grown actor n
+    d S there e
     (λ p h. no_step event actor p own h) port m here
-step_held_up S event s (Takes actor from n item rest d q there waits e) all entries grown port m
-    here =
+step_held_up table act S event s (Takes actor from n item rest d q there rule waits e) all entries
+    grown port m here =
     let U = change from (with_queue actor rest) S in
-    either_held_up S event s (Takes actor from n item rest d q there waits e) all entries grown
-    actor n d U (requeued from actor actor rest S.stations ∙ there) e
+    either_held_up table act S event s (Takes actor from n item rest d q there rule waits e) all
+    entries grown actor n d U (requeued from actor actor rest S.stations ∙ there) e
     (λ p h. subst (IsNoStepOf p) (sym q) h) port m here
-step_held_up S event s (Loses from to k w q waits few e) all entries grown port m here =
-    other_held_up S event s (Loses from to k w q waits few e) all entries grown port m here
+step_held_up table act S event s (Loses from to k w q waits few e) all entries grown port m here =
+    other_held_up table act S event s (Loses from to k w q waits few e) all entries grown port m
+    here
     (subst (IsNoStepOf port) (sym q) tt)
-step_held_up S event s (Checks q e) all entries grown port m here =
-    same_held_up S event s (Checks q e) all entries grown (ap (λ x. x.state) e) port m here
+step_held_up table act S event s (Checks q e) all entries grown port m here =
+    same_held_up table act S event s (Checks q e) all entries grown (ap (λ x. x.state) e) port m
+    here
 
 -- ---- every state
 
@@ -176,26 +182,12 @@ module _ (table : List Class) where
       by_root x (inr i) = absurd i
 
 module _ (table : List Class) (act : Acting) where
-  -- a node that is there after a step was there before
-  was_there : (S : State) (event : Event) (port : ℕ) (m : Node) →
-      node (step table act S event).state port ≡ Some m → (found : Option Node) →
-      node S port ≡ found → (n : Node) × (node S port ≡ Some n) × Grows n m
-  was_there S event port m here None q =
-      absurd (no ((grow_steps table act S event).absent port q))
-    where
-      no : node (step table act S event).state port ≡ None → ⊥
-      no x = cc (x, here)
-  was_there S event port m here (Some n) q =
-      let r = (grow_steps table act S event).stands port n q in
-      let same : r.0 ≡ m = ap (λ x. unwrap_or x m) (sym r.1 ∙ here) in
-      (n, q, subst (Grows n) same r.2)
-
   -- it has its port, and no end towards itself
   grown_so : (S : State) (event : Event) → AllStand S → (port : ℕ) (m : Node) →
       node (step table act S event).state port ≡ Some m →
       (m.port ≡ port) × (is_open m port ≡ false)
   grown_so S event all port m here =
-      let r = was_there S event port m here (node S port) refl in
+      let r = was_there table act S event port m here (node S port) refl in
       let was = all.each port r.0 r.1 in (
         r.2.port ∙ was.own,
         fails (is_open m port) (λ o. no r.0 (r.2.ends port o) was.apart),
@@ -217,7 +209,8 @@ module _ (table : List Class) (act : Acting) where
             record {
               own = so.0;
               apart = so.1;
-              heap = step_held_up S event (step table act S event) (step_is S table act event) all
+              heap = step_held_up table act S event (step table act S event)
+                  (step_is S table act event) all
                   (λ peer o h. entries_stay table act S event peer o all.holding all.queues h)
                   (grown_so S event all) port m here;
             };

@@ -82,11 +82,11 @@ module _ (table : List Class) (seats : List Seat) where
   first = opening table seats
 
   -- its open ends
-  abbrev ends : ℕ → ℕ → Bool
+  abbrev pub ends : ℕ → ℕ → Bool
   ends a b = open_in (net_of links first) a b
 
   -- its ports
-  abbrev is_there : ℕ → Bool
+  abbrev pub is_there : ℕ → Bool
   is_there port = is_some (node first port)
 
   -- an end that opens is towards another node
@@ -101,14 +101,14 @@ module _ (table : List Class) (seats : List Seat) where
       )
 
   -- nothing is lent and nothing asked for
-  blank : (port : ℕ) → (((net_of links first).part port).lent ≡ [])
+  pub blank : (port : ℕ) → (((net_of links first).part port).lent ≡ [])
       × (((net_of links first).part port).asked ≡ [])
   blank =
       opening_parts table seats links (λ port p. (p.lent ≡ []) × (p.asked ≡ []))
       (λ port. (refl, refl)) (λ all s. (refl, refl))
 
   -- a machine opens so
-  first_stands : Stands ends is_there first
+  pub first_stands : Stands ends is_there first
   first_stands = record {
     kept = opening_keeps table seats;
     within = λ port. record {
@@ -123,14 +123,7 @@ module _ (table : List Class) (seats : List Seat) where
     there = λ port e. e;
   }
 
-  module _ (S : State) (stands : Stands ends is_there S) (open_all : AllEndsOpen S)
-      (waits : NothingWaits S) where
-    -- nothing is on a wire
-    empty_seen : (a b : ℕ) (found : Option (List Item)) → queue S a b ≡ found →
-        wire_seen links found ≡ []
-    empty_seen a b None h = refl
-    empty_seen a b (Some items) h = ap (flat_map atoms) (waits.empty a b items h)
-
+  module _ (S : State) (stands : Stands ends is_there S) (open_all : AllEndsOpen S) where
     -- an end is open
     is_reached : (a b : ℕ) → is_there a ≡ true → is_there b ≡ true → (b == a) ≡ false →
         open_in (net_of links S) a b ≡ true
@@ -145,26 +138,34 @@ module _ (table : List Class) (seats : List Seat) where
     flips a b d = grind (arith, nat_tests, d)
 
     -- all ends that opened are open, on both sides
-    reach : (a b : ℕ) → ends a b ≡ true →
+    pub reach : (a b : ℕ) → ends a b ≡ true →
         (open_in (net_of links S) a b ≡ true) × (open_in (net_of links S) b a ≡ true)
     reach a b o =
         let t = towards a b o in
         (is_reached a b t.0 t.1 t.2, is_reached b a t.1 t.0 (flips a b t.2))
 
-    -- nothing is lent, and nothing asked for
-    none_lent : NothingLent S
-    none_lent =
-        let empty : (a b : ℕ) → (net_of links S).wire a b ≡ [] =
-        λ a b. empty_seen a b (queue S a b) refl in
-        record {
-          lent = λ port n h.
-              ap (λ found. (part_seen links found).lent) (sym h)
-              ∙ nothing_lent (net_of links S) ends stands.kept.hold stands.within empty reach port;
-          asked = λ port n h.
-              ap (λ found. (part_seen links found).asked) (sym h)
-              ∙ nothing_asked (net_of links S) ends stands.kept.hold stands.within empty reach
-              port;
-        }
+    module _ (waits : NothingWaits S) where
+      -- nothing is on a wire
+      empty_seen : (a b : ℕ) (found : Option (List Item)) → queue S a b ≡ found →
+          wire_seen links found ≡ []
+      empty_seen a b None h = refl
+      empty_seen a b (Some items) h = ap (flat_map atoms) (waits.empty a b items h)
+
+      -- nothing is lent, and nothing asked for
+      none_lent : NothingLent S
+      none_lent =
+          let empty : (a b : ℕ) → (net_of links S).wire a b ≡ [] =
+          λ a b. empty_seen a b (queue S a b) refl in
+          record {
+            lent = λ port n h.
+                ap (λ found. (part_seen links found).lent) (sym h)
+                ∙ nothing_lent (net_of links S) ends stands.kept.hold stands.within empty reach
+                port;
+            asked = λ port n h.
+                ap (λ found. (part_seen links found).asked) (sym h)
+                ∙ nothing_asked (net_of links S) ends stands.kept.hold stands.within empty reach
+                port;
+          }
 
   -- in every state that a machine comes to
   pub quiet_lends_nothing : (act : Acting) (events : List Event) →

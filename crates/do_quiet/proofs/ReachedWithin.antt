@@ -10,6 +10,7 @@ use Rattle.do_machine.specs.State.{node}
 use Rattle.do_machine.specs.Step.{step}
 use Rattle.do_machine.specs.run.Run.{Acting}
 use Rattle.do_machine.proofs.follows.Every.{grow_steps}
+use Rattle.do_facts.specs.ByEvents.{IsBy}
 use Rattle.do_facts.specs.View.{net_of}
 use Rattle.do_facts.specs.links.LinksAreKept.{LinksAreKept}
 use Rattle.do_facts.specs.links.Links.{links}
@@ -40,7 +41,8 @@ module _ (ends : ℕ → ℕ → Bool) (is_there : ℕ → Bool) where
     step_stands S event h = record {
       kept = step_keeps table act S event h.kept;
       within = stays link_rules (λ net. (port : ℕ) → IsWithin (ends port) (net.part port))
-          (within_keeps ends) (net_of links S) (net_of links (step table act S event).state)
-          (step_moves table act S event h.kept) h.within;
+          (within_keeps ends) (IsBy event) (net_of links S)
+          (net_of links (step table act S event).state) (step_moves table act S event h.kept)
+          h.within;
       there = λ port e. there_after S event port (node S port) refl (h.there port e);
     }

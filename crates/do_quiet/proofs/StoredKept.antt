@@ -23,7 +23,7 @@ use Rattle.do_machine.specs.held.Kept.{is_root}
 use Rattle.do_machine.specs.held.Refers.{heap_objects, objects_in, stack_objects}
 use Rattle.do_machine.proofs.Bools.{or_cases}
 use Rattle.do_quiet.specs.Keeping.{AreKeptByAll, ByInvocation, ByRoot, BySlot, IsHeldUp, NodesKeep}
-use Rattle.do_quiet.specs.Keeping.{is_stored}
+use Rattle.do_facts.specs.Made.{is_stored}
 use Rattle.do_quiet.specs.Quiet.{NothingLent, NothingWaits}
 
 -- an object that slots name is named by those of a stored object

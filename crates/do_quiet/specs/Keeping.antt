@@ -1,5 +1,5 @@
 -- Which objects all nodes together keep.
-use Rattle.std.specs.Prelude.{Bool, List, Some, is_some, map, true, ℕ, ◌≡◌}
+use Rattle.std.specs.Prelude.{Bool, List, Some, map, true, ℕ, ◌≡◌}
 use Rattle.std.specs.List.{list_any}
 use Rattle.do_base.specs.names.Names.{ObjectName}
 use Rattle.do_packet.specs.Met.{has_object}
@@ -9,16 +9,13 @@ use Rattle.do_machine.specs.declared.node.Stored.{Stored}
 use Rattle.do_machine.specs.declared.state.State.{State}
 use Rattle.do_machine.specs.Context.{around}
 use Rattle.do_machine.specs.Items.{names}
-use Rattle.do_machine.specs.Lists.{IsIn, some_passes}
+use Rattle.do_machine.specs.Lists.{IsIn}
 use Rattle.do_machine.specs.Objects.{object_at}
-use Rattle.do_machine.specs.State.{node, queue, stored}
+use Rattle.do_machine.specs.State.{node, queue}
 use Rattle.do_machine.specs.held.Kept.{HoldsItself, is_root}
 use Rattle.do_machine.specs.held.Refers.{objects_in, stack_objects}
+use Rattle.do_facts.specs.Made.{is_stored}
 use Rattle.do_facts.specs.steps.Held.{RefersToHeld}
-
--- an object is stored at its home
-abbrev pub is_stored : State → ObjectName → Bool
-is_stored S o = some_passes (λ n. is_some (stored o.serial n.heap)) (node S o.node)
 
 -- what holds an object up beside entries: it is a root, or it is named by an invocation, by an item
 -- on its way, or by a slot of one of these objects, on whichever node

@@ -5,13 +5,31 @@ ghost use Rattle.do_class.specs.Class.{Class};
 ghost use Rattle.do_machine.specs.declared.state.Seat.{Seat};
 ghost use Rattle.do_machine.specs.run.Run.{Acting};
 ghost use Rattle.do_facts.specs.Reached.{reached};
-ghost use Rattle.do_quiet.specs.Keeping.{AreKeptByAll, NodesKeep, is_stored};
-ghost use Rattle.do_quiet.specs.Quiet.{AllEndsOpen, IsNoBreak, NothingLent, NothingWaits};
+ghost use Rattle.do_facts.specs.Made.{is_stored};
+ghost use Rattle.do_quiet.specs.Keeping.{AreKeptByAll, NodesKeep};
+ghost use Rattle.do_quiet.specs.Quiet.{AllEndsOpen, AsksAreGranted, IsNoBreak, LentAreKept};
+ghost use Rattle.do_quiet.specs.Quiet.{NothingLent, NothingWaits};
 
 /// Where nothing is closed and nothing lost, all ends stay open.
 pub fn ends_stay_open_unless_broken()
     ensures { (table : List Class) (act : Acting) (seats : List Seat) (events : List Event) →
         AllByRecursion IsNoBreak events → AllEndsOpen (reached table act seats events) }
+{}
+
+/// As long as all ends are open, each node holds or asks for each object that it lends: from when
+/// it lends the object until it takes the notice that the lend is over.
+pub fn lent_objects_are_kept()
+    ensures { (table : List Class) (act : Acting) (seats : List Seat) (events : List Event) →
+        AllEndsOpen (reached table act seats events) →
+        LentAreKept (reached table act seats events) }
+{}
+
+/// As long as all ends are open, each object that a node asks for is stored at its home, and no ask
+/// is refused.
+pub fn asks_are_granted()
+    ensures { (table : List Class) (act : Acting) (seats : List Seat) (events : List Event) →
+        AllEndsOpen (reached table act seats events) →
+        AsksAreGranted (reached table act seats events) }
 {}
 
 /// Where all ends are open and nothing is on its way, no node lends an object or asks for one.

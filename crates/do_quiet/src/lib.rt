@@ -1,13 +1,14 @@
-//! What is left once nothing is on its way between nodes and all ends are open.
+//! What holds while all ends are open, and what is left once nothing is on its way between nodes.
 //!
 //! It stands on the definitions of the machine and the facts of its states, and has no code of its
-//! own: each of its functions is a law, of every behaviour. It promises that then nothing is lent
-//! and nothing asked for, and that what is stored is held up by roots, invocations and slots alone.
+//! own: each of its functions is a law, of every behaviour. It promises that while all ends are
+//! open a node keeps what it lends, and that once nothing is on its way nothing is lent and
+//! nothing asked for, and what is stored is held up by roots, invocations and slots alone.
 #![tactic(auto)]
 
 mod laws;
 
 pub use laws::{
-    ends_stay_open_unless_broken, nodes_keep_what_is_held_up, nothing_is_lent_when_quiet,
-    stored_are_kept_by_all,
+    asks_are_granted, ends_stay_open_unless_broken, lent_objects_are_kept,
+    nodes_keep_what_is_held_up, nothing_is_lent_when_quiet, stored_are_kept_by_all,
 };

@@ -12,6 +12,7 @@ use Rattle.do_machine.specs.World.{opening}
 use Rattle.do_machine.specs.run.Run.{Acting}
 use Rattle.do_machine.proofs.passing.Linked.{opening_queues, queues_stay}
 use Rattle.do_facts.specs.Net.{Net}
+use Rattle.do_facts.specs.ByEvents.{IsBy}
 use Rattle.do_facts.specs.Moves.{Reaches}
 use Rattle.do_facts.specs.Reached.{reached}
 use Rattle.do_facts.specs.View.{net_of, part_seen}
@@ -91,7 +92,7 @@ opening_keeps table seats = record {
 module _ (table : List Class) (act : Acting) where
   -- every step is moves of calls
   pub step_moves : (S : State) (event : Event) → CallsAreKept S →
-      Reaches call_rules (net_of calls S) (net_of calls (step table act S event).state)
+      Reaches call_rules (IsBy event) (net_of calls S) (net_of calls (step table act S event).state)
   step_moves S event kept =
       by_step calls call_rules IsShaped call_bridge S kept.queues
       (record {
@@ -108,7 +109,7 @@ module _ (table : List Class) (act : Acting) where
       let T = (step table act S event).state in
       record {
         queues = queues_stay table act S event kept.queues;
-        hold = stays call_rules CallsHold calls_keep (net_of calls S) (net_of calls T)
+        hold = stays call_rules CallsHold calls_keep (IsBy event) (net_of calls S) (net_of calls T)
             (step_moves S event kept) kept.hold;
       }
 

@@ -20,12 +20,13 @@ use Rattle.do_facts.specs.Moves.{Runs}
 use Rattle.do_facts.specs.View.{posted}
 use Rattle.do_facts.specs.links.Links as Atom
 use Rattle.do_facts.specs.links.Links.{Links, links, links_of, name_atoms}
-use Rattle.do_facts.specs.links.Moves.{Asks, AsksOnce, Holds, Returns, link_rules, note}
+use Rattle.do_facts.specs.links.Moves.{Asks, AsksOnce, Hears, Holds, Returns, note}
 use Rattle.do_facts.specs.links.Moves.{telling}
 use Rattle.do_facts.proofs.Chains.{either}
 use Rattle.do_facts.proofs.CommitAsNet.{posted_behind}
-use Rattle.do_facts.proofs.Runs.{moves_once, runs_on, stands}
+use Rattle.do_facts.proofs.Runs.{runs_on, stands}
 use Rattle.do_facts.proofs.AsksOverOpenEnds.{not_closed}
+use Rattle.do_facts.proofs.links.Acts.{act_rules, acts_once}
 
 -- the links of a node that holds other objects
 abbrev pub holding_links : List ObjectName → Node → Links
@@ -52,7 +53,7 @@ module _ (from : ℕ) where
     -- such effects, of a name that is lent
     abbrev IsAsk : ObjectName → ℕ → Effect → Type 0
     IsAsk o token e =
-        Runs link_rules (holding_links held n) (note from (Atom.Lent o token))
+        Runs act_rules (holding_links held n) (note from (Atom.Lent o token))
         (holding_links held e.node) (posted links e.sent)
 
     -- a lend that can't be asked for is settled at once
@@ -61,7 +62,7 @@ module _ (from : ℕ) where
     by_settling o token closed =
         either (IsAsk o token) (not (is_open n from)) (only n) _
         (λ h. absurd (no h))
-        (λ _. moves_once link_rules (holding_links held n) (Returns from o token) (ends, closed))
+        (λ _. acts_once (holding_links held n) (Returns from o token) tt (ends, closed))
       where
         no : not (is_open n from) ≡ true → ⊥
         no h = cc
@@ -75,9 +76,9 @@ module _ (from : ℕ) where
         (λ h. by_settling o token (is_closed (is_open n o.node) h))
         (λ h. either (IsAsk o token) (list_any (same_wanted w) n.asked) (only n)
         (queueing o.node (items.Ask o.serial w.token) (with_wanted w n))
-        (λ k. moves_once link_rules p (AsksOnce from o token)
+        (λ k. acts_once p (AsksOnce from o token) tt
         (ends, not_closed (is_open n o.node) h, k))
-        (λ k. moves_once link_rules p (Asks from o token)
+        (λ k. acts_once p (Asks from o token) tt
         (ends, not_closed (is_open n o.node) h, k)))
 
   -- an ask opens and closes no end, and holds nothing
@@ -105,27 +106,29 @@ module _ (from : ℕ) where
 
   -- names are received, one after another: the sender's objects are held, the lent ones asked for
   pub names_received : (to : ℕ) (names : List Name) (held : List ObjectName) (n : Node) →
-      is_open n from ≡ true → Runs link_rules (holding_links held n)
+      is_open n from ≡ true → Runs act_rules (holding_links held n)
       (noted from (flat_map name_atoms names))
       (holding_links
       (fold joined held (named_as is_exported (map (name_naming from to) names)))
       (each (receiving_name from) names n).node)
       (posted links (each (receiving_name from) names n).sent)
-  names_received to [] held n ends = stands link_rules (holding_links held n)
+  names_received to [] held n ends = stands act_rules (holding_links held n)
   names_received to (Mine serial class ∷ names) held n ends =
-      runs_on link_rules (moves_once link_rules (holding_links held n) (Holds from serial) ends)
+      runs_on act_rules (acts_once (holding_links held n) (Holds from serial) tt ends)
       (names_received to names (joined held (object_at from serial)) n ends)
-  names_received to (Yours serial ∷ names) held n ends = names_received to names held n ends
+  names_received to (Yours serial ∷ names) held n ends =
+      runs_on act_rules (acts_once (holding_links held n) (Hears from serial) tt ends)
+      (names_received to names held n ends)
   names_received to (Lent o class token ∷ names) held n ends =
       let w = wanted o from token in
       let e = asking w n in
       let still : is_open e.node from ≡ true =
       ap (λ ps. list_any (λ p. p == from) ps) (asking_stays w n).0 ∙ ends in
-      subst (λ xs. Runs link_rules (holding_links held n)
+      subst (λ xs. Runs act_rules (holding_links held n)
       (noted from (flat_map name_atoms (Lent o class token ∷ names)))
       (holding_links
       (fold joined held (named_as is_exported (map (name_naming from to) names)))
       (each (receiving_name from) names e.node).node) xs)
       (sym (posted_behind links e.sent (each (receiving_name from) names e.node).sent))
-      (runs_on link_rules (by_asking held n ends o token)
+      (runs_on act_rules (by_asking held n ends o token)
       (names_received to names held e.node still))

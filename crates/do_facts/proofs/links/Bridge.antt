@@ -5,15 +5,23 @@ use Rattle.std.proofs.Common.{◌∙◌, sym, arith}
 use Rattle.std.specs.List.{list_any}
 use Rattle.std.proofs.lemmas.Bool.{eqb-true}
 use Rattle.std.proofs.lemmas.Bool.Decides.{nat_tests}
+use Rattle.std.specs.Prelude.{None, Option, Some}
 use Rattle.do_base.specs.names.Names.{TokenName}
+use Rattle.do_machine.specs.declared.node.Node.{Node}
+use Rattle.do_machine.specs.declared.state.Effect.{Effect}
+use Rattle.do_machine.specs.Start.{start_effect}
+use Rattle.do_machine.specs.ends.TimeOut.{time_out}
+use Rattle.do_machine.specs.run.Run.{run_effect}
 use Rattle.do_facts.specs.Net.{atoms_of}
 use Rattle.do_facts.specs.links.Links.{Atom, Links, links}
 use Rattle.do_facts.specs.links.Moves.{Asks, AsksOnce, Closes, Ends, Frees, GivesUp, Grants, Holds}
-use Rattle.do_facts.specs.links.Moves.{Leaves, Lends, Misses, Move, Names, Receives, Refuses}
-use Rattle.do_facts.specs.links.Moves.{Returns, Settles, link_rules, may, moved, note, opens, posts}
-use Rattle.do_facts.specs.links.Moves.{telling}
+use Rattle.do_facts.specs.links.Moves.{Hears, Leaves, Lends, Mentions, Misses, Move, Names}
+use Rattle.do_facts.specs.links.Moves.{Receives, Refuses, Returns, Settles, Stores, Strikes}
+use Rattle.do_facts.specs.links.Moves.{link_rules, may, moved, note, opens, posts, telling}
 use Rattle.do_facts.specs.links.Sound.{IsSound}
+use Rattle.do_facts.specs.View.{AreMovesIf}
 use Rattle.do_facts.proofs.Bridge.{Bridge}
+use Rattle.do_facts.proofs.links.Acts.{act_rules, runs_moves}
 use Rattle.do_facts.proofs.links.ClosingIsMoves.{by_closing}
 use Rattle.do_facts.proofs.links.LeavingIsMoves.{by_leaving}
 use Rattle.do_facts.proofs.links.RunIsMoves.{by_run, by_start, by_time_out}
@@ -47,7 +55,8 @@ module _ (p : Links) (peer : ℕ) (h : opens p peer ≡ false) where
   -- a move opens no end, and posts nothing over a closed one
   closed_moved : (v : Move) → may p v →
       (opens (moved p v) peer ≡ false) × (atoms_of peer (posts p v) ≡ [])
-  closed_moved (Names to serial) m = (h, note_elsewhere to _ m)
+  closed_moved (Names to serial) m = (h, note_elsewhere to _ m.0)
+  closed_moved (Mentions to serial) m = (h, note_elsewhere to _ m.0)
   closed_moved (Lends to o) m = (h, note_elsewhere to _ m.0)
   closed_moved (Leaves o) m = (h, note_elsewhere o.node _ m.0)
   closed_moved (Closes other) m = (closed_stays other p.open_to h, note_elsewhere other _ m)
@@ -56,13 +65,22 @@ module _ (p : Links) (peer : ℕ) (h : opens p peer ≡ false) where
   closed_moved (Asks from o token) m = (h, note_elsewhere o.node _ m.1)
   closed_moved (AsksOnce from o token) m = (h, refl)
   closed_moved (Returns from o token) m = (h, note_elsewhere from _ m.0)
-  closed_moved (Grants from serial token) m = (h, note_elsewhere from _ m)
-  closed_moved (Refuses from serial token) m = (h, note_elsewhere from _ m)
+  closed_moved (Grants from serial token) m = (h, note_elsewhere from _ m.0)
+  closed_moved (Refuses from serial token) m = (h, note_elsewhere from _ m.0)
   closed_moved (Receives from serial token told) m = (h, telling_elsewhere told token m.1)
   closed_moved (Misses from serial token told) m = (h, telling_elsewhere told token m.1)
   closed_moved (Settles from number) m = (h, refl)
   closed_moved (Frees from serial) m = (h, refl)
   closed_moved (Ends from serials) m = (closed_stays from p.open_to h, note_elsewhere from _ m)
+  closed_moved (Hears from serial) m = (h, refl)
+  closed_moved (Stores heap serial) m = (h, refl)
+  closed_moved (Strikes heap) m = (h, refl)
+
+-- an effect that is moves while nothing is freed is moves, where there is one
+moves_if : (n : Node) (e : Option Effect) → AreMovesIf links act_rules n e →
+    AreMovesIf links link_rules n e
+moves_if n None h = tt
+moves_if n (Some e) h = runs_moves h
 
 -- all rules
 pub link_bridge : Bridge links link_rules IsSound
@@ -71,10 +89,11 @@ link_bridge = record {
   loss = refl;
   stays = λ p v ok may. sound_moved p ok v may;
   closed = λ p v peer may h. closed_moved p peer h v may;
-  start = λ table selector values n ok. by_start table selector values n;
-  run = λ act c ok. by_run act c;
-  gives_up = λ n ok. by_time_out n;
-  take = λ c from item ends ok. by_take c from ends item ok;
-  close = λ n peer ends ok. by_closing peer n ends ok;
+  start = λ table selector values n ok.
+      moves_if n (start_effect table selector values n) (by_start table selector values n);
+  run = λ act c ok. moves_if c.node (run_effect act c) (by_run act c ok);
+  gives_up = λ n ok. moves_if n (time_out n) (by_time_out n);
+  take = λ c from item ends ok. runs_moves (by_take c from ends item ok);
+  close = λ n peer ends ok. runs_moves (by_closing peer n ends ok);
   leave = λ entry n ok. by_leaving entry n ok;
 }

@@ -14,7 +14,7 @@ use Rattle.do_facts.specs.StandOnce.{StandOnce}
 use Rattle.do_facts.specs.Moves.{Runs}
 use Rattle.do_facts.specs.View.{AreMoves, posted}
 use Rattle.do_facts.specs.links.Links.{Links, links, links_of}
-use Rattle.do_facts.specs.links.Moves.{Closes, GivesUp, closed, has_wanted, link_rules, opens}
+use Rattle.do_facts.specs.links.Moves.{Closes, GivesUp, closed, has_wanted, opens}
 use Rattle.do_facts.specs.links.Moves.{without_ask}
 use Rattle.do_facts.specs.links.Sound.{IsSound}
 use Rattle.do_facts.proofs.Chains.{either}
@@ -22,9 +22,10 @@ use Rattle.do_facts.proofs.CommitAsNet.{posted_behind}
 use Rattle.do_facts.proofs.OnceInLists.{apart_in, found_in, in_filtered, once_filtered}
 use Rattle.do_facts.proofs.OnceInLists.{passing_taken}
 use Rattle.do_facts.proofs.OnceInLists.{still_there, taken_out}
-use Rattle.do_facts.proofs.Runs.{moves_once, runs_on, stands}
+use Rattle.do_facts.proofs.Runs.{runs_on, stands}
 use Rattle.do_facts.proofs.links.AskingIsMoves.{settled_posts}
 use Rattle.do_facts.proofs.links.SameIsEqual.{wanted_is, wanted_itself}
+use Rattle.do_facts.proofs.links.Acts.{act_rules, acts_once}
 
 -- the links with other asks
 abbrev with_asks : List Wanted → Links → Links
@@ -50,14 +51,14 @@ module _ (n : Node) where
   -- asks are given up, one after another
   gives_up : (ws : List Wanted) (p : Links) → p.open_to ≡ n.open_to →
       StandOnce same_wanted ws → MayEnd p ws →
-      Runs link_rules p [] (with_asks (taken_out same_wanted ws p.asked) p)
+      Runs act_rules p [] (with_asks (taken_out same_wanted ws p.asked) p)
       (posted links (each settling ws n).sent)
-  gives_up [] p same once may = stands link_rules p
+  gives_up [] p same once may = stands act_rules p
   gives_up (w ∷ ws) p same once may =
       let told = is_open n w.token.lender in
       let now = may w (inl refl) in
       let q = without_ask w p in
-      let rest : Runs link_rules q [] (with_asks (taken_out same_wanted ws q.asked) q)
+      let rest : Runs act_rules q [] (with_asks (taken_out same_wanted ws q.asked) q)
       (posted links (each settling ws n).sent) =
       gives_up ws q same once.1
       (λ v i.
@@ -69,14 +70,14 @@ module _ (n : Node) where
       in
       let ends : opens p w.token.lender ≡ told =
       ap (λ ps. list_any (λ x. x == w.token.lender) ps) same in
-      subst (λ xs. Runs link_rules p [] (with_asks (taken_out same_wanted ws q.asked) q) xs)
+      subst (λ xs. Runs act_rules p [] (with_asks (taken_out same_wanted ws q.asked) q) xs)
       (ap (λ xs. xs ++ posted links (each settling ws n).sent)
       (sym (settled_posts w n told refl))
       ∙ ap (λ m. posted links (settling w n).sent ++ posted links (each settling ws m).sent)
       (sym (settling_stays w))
       ∙ sym (posted_behind links (settling w n).sent
       (each settling ws (settling w n).node).sent))
-      (runs_on link_rules (moves_once link_rules p (GivesUp w told) (now.0, now.1, ends)) rest)
+      (runs_on act_rules (acts_once p (GivesUp w told) tt (now.0, now.1, ends)) rest)
 
 module _ (peer : ℕ) (n : Node) where
   -- an end that is closed is not open
@@ -101,13 +102,13 @@ module _ (peer : ℕ) (n : Node) where
 
   -- what follows once the end is closed
   pub closing_ends : IsSound (links_of n) →
-      Runs link_rules (closed peer (links_of n)) [] (links_of (closing peer n).node)
+      Runs act_rules (closed peer (links_of n)) [] (links_of (closing peer n).node)
       (posted links (each settling (asked_of peer n) (parted peer n)).sent)
   closing_ends sound =
       let m = parted peer n in
       let q = closed peer (links_of n) in
       let ws = asked_of peer n in
-      subst (λ p. Runs link_rules q [] p (posted links (each settling ws m).sent))
+      subst (λ p. Runs act_rules q [] p (posted links (each settling ws m).sent))
       (ap (λ xs. with_asks xs q) asks_left
       ∙ ap links_of (sym (settlings_stay m ws)))
       (gives_up m ws q refl
@@ -115,7 +116,7 @@ module _ (peer : ℕ) (n : Node) where
 
   -- a node closes its end
   pub by_closing : is_open n peer ≡ true → IsSound (links_of n) →
-      AreMoves links link_rules n [] (closing peer n)
+      AreMoves links act_rules n [] (closing peer n)
   by_closing ends sound =
-      runs_on link_rules (moves_once link_rules (links_of n) (Closes peer) ends)
+      runs_on act_rules (acts_once (links_of n) (Closes peer) tt ends)
       (closing_ends sound)

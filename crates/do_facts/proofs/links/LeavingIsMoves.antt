@@ -14,13 +14,15 @@ use Rattle.do_facts.specs.StandOnce.{StandOnce}
 use Rattle.do_facts.specs.Moves.{Runs}
 use Rattle.do_facts.specs.View.{AreMoves, posted}
 use Rattle.do_facts.specs.links.Links.{Links, links, links_of}
-use Rattle.do_facts.specs.links.Moves.{Leaves, is_in_use, link_rules, moved, opens}
+use Rattle.do_facts.specs.links.Moves.{Leaves, Strikes, is_in_use, link_rules, moved, opens}
 use Rattle.do_facts.specs.links.Sound.{IsSound}
 use Rattle.do_facts.proofs.OnceInLists.{apart_in, filter_agrees, found_in, in_filtered}
 use Rattle.do_facts.proofs.OnceInLists.{once_filtered}
 use Rattle.do_facts.proofs.OnceInLists.{passing_taken, still_there, taken_out}
 use Rattle.do_facts.proofs.Runs.{moves_once, runs_on, stands}
+use Rattle.do_facts.proofs.links.HeapsGrow.{kept_before}
 use Rattle.do_facts.proofs.links.SameIsEqual.{object_is, object_itself}
+use Rattle.do_facts.proofs.links.Acts.{act_rules, acts_once, runs_moves}
 
 -- the links with other objects held
 abbrev with_holdings : List ObjectName → Links → Links
@@ -63,11 +65,11 @@ was_not false e = refl
 
 -- objects are left, one after another
 leaves : (os : List ObjectName) (p : Links) → StandOnce same_object os → MayLeave p os →
-    Runs link_rules p [] (with_holdings (taken_out same_object os p.held) p)
+    Runs act_rules p [] (with_holdings (taken_out same_object os p.held) p)
     (posted links (map left os))
-leaves [] p once may = stands link_rules p
+leaves [] p once may = stands act_rules p
 leaves (o ∷ os) p once may =
-    runs_on link_rules (moves_once link_rules p (Leaves o) (may o (inl refl)))
+    runs_on act_rules (acts_once p (Leaves o) tt (may o (inl refl)))
     (leaves os (moved p (Leaves o)) once.1
     (λ x i.
     let then = may x (inr i) in (
@@ -77,14 +79,17 @@ leaves (o ∷ os) p once may =
       then.2,
     )))
 
--- what follows a step
-pub by_leaving : (entry : ℕ → ℕ → Bool) (n : Node) → IsSound (links_of n) →
-    AreMoves links link_rules n [] (leaving entry n)
-by_leaving entry n sound =
-    let referred = node_objects (freeing (kept entry n) n).node in
+-- a node leaves what it no longer refers to, having freed what it does not keep
+pub by_dropping : (entry : ℕ → ℕ → Bool) (n : Node) → IsSound (links_of n) →
+    let m = (freeing (kept entry n) n).node in
+    Runs act_rules (links_of m) [] (links_of (leaving entry n).node)
+    (posted links (leaving entry n).sent)
+by_dropping entry n sound =
+    let m = (freeing (kept entry n) n).node in
+    let referred = node_objects m in
     let gone : ObjectName → Bool = λ o. not (has_object referred o) in
-    let p = links_of n in
-    subst (λ held. Runs link_rules p [] (with_holdings held p)
+    let p = links_of m in
+    subst (λ held. Runs act_rules p [] (with_holdings held p)
     (posted links (map left (filter gone n.held))))
     (passing_taken same_object object_itself gone
     (λ a b h. ap gone (object_is a b h)) n.held
@@ -93,8 +98,7 @@ by_leaving entry n sound =
     (leaves (filter gone n.held) p (once_filtered same_object gone n.held sound.held)
     (λ o i.
     let both = in_filtered gone n.held o i in
-    let there = found_in same_object object_itself n.held o both.0 in
-    let m = (freeing (kept entry n) n).node in (
+    let there = found_in same_object object_itself n.held o both.0 in (
       sound.reached o there,
       there,
       not_in_use m o (was_not (has_object (node_objects m) o) both.1),
@@ -103,3 +107,11 @@ by_leaving entry n sound =
     twice : (b : Bool) → not (not b) ≡ b
     twice true = refl
     twice false = refl
+
+-- what follows a step
+pub by_leaving : (entry : ℕ → ℕ → Bool) (n : Node) → IsSound (links_of n) →
+    AreMoves links link_rules n [] (leaving entry n)
+by_leaving entry n sound =
+    runs_on link_rules
+    (moves_once link_rules (links_of n) (Strikes (kept entry n)) (kept_before entry n))
+    (runs_moves (by_dropping entry n sound))

@@ -12,8 +12,9 @@ use Rattle.do_facts.specs.Moves.{Happening, Happens, Keeps, Lost, Moved, net_the
 use Rattle.do_facts.specs.links.Links as Atoms
 use Rattle.do_facts.specs.links.Links.{Atom, Links}
 use Rattle.do_facts.specs.links.Moves.{Asks, AsksOnce, Closes, Ends, Frees, GivesUp, Grants, Holds}
-use Rattle.do_facts.specs.links.Moves.{Leaves, Lends, Misses, Move, Names, Receives, Refuses}
-use Rattle.do_facts.specs.links.Moves.{Returns, Settles, link_rules, may, moved, note}
+use Rattle.do_facts.specs.links.Moves.{Hears, Leaves, Lends, Mentions, Misses, Move, Names}
+use Rattle.do_facts.specs.links.Moves.{Receives, Refuses, Returns, Settles, Stores, Strikes}
+use Rattle.do_facts.specs.links.Moves.{link_rules, may, moved, note}
 use Rattle.do_facts.specs.links.Moves.{has_wanted, opens, posts, takes, telling, without_ask}
 use Rattle.do_facts.specs.links.Facts.{EachAsk, EachFresh, EachLend, EachToken, LinksHold}
 use Rattle.do_facts.specs.links.Facts.{answer_of, ask_of, asked_in, lends_to, same3}
@@ -23,6 +24,7 @@ use Rattle.do_facts.proofs.links.LendAsks as LendAsk
 use Rattle.do_facts.proofs.links.LinksStay.{NoLends, as_was, at_once, fresh_stay, lends_stay}
 use Rattle.do_facts.proofs.links.LinksStay.{no_lend, nothing_lent, now}
 use Rattle.do_facts.proofs.links.ListsChanged.{asked_more, lend_there}
+use Rattle.do_facts.proofs.links.StoredMoves.{stored_hold}
 use Rattle.do_facts.proofs.links.TokenMoves.{apart_same, asks_lost, fresh_lost}
 use Rattle.do_facts.proofs.links.TokenMoves.{lends_lost, tokens_same}
 use Rattle.do_facts.proofs.links.TokenMoves.{tokens_settled}
@@ -225,8 +227,8 @@ module _ (net : Net Links Atom) (a : ℕ) (hold : LinksHold net) where
   moves (Asks from o t) m first = asks from o t m first
   moves (AsksOnce from o t) m first = asks_once from o t m first
   moves (Returns from o t) m first = returns from o t m first
-  moves (Grants from s k) m first = PlainMoves.grants net a hold from s k m first
-  moves (Refuses from s k) m first = PlainMoves.refuses net a hold from s k m first
+  moves (Grants from s k) m first = PlainMoves.grants net a hold from s k m.0 first
+  moves (Refuses from s k) m first = PlainMoves.refuses net a hold from s k m.0 first
   moves (Receives from s k told) m first =
       over from s k (Atoms.Granted s k) (moved p (Receives from s k told)).held
       (no_lend from (Atoms.Granted s k) (λ h s t. refl) (λ t. refl)) (λ u w v. refl)
@@ -238,6 +240,10 @@ module _ (net : Net Links Atom) (a : ℕ) (hold : LinksHold net) where
   moves (Settles from number) m first = settles from number m first
   moves (Frees from s) m first = PlainMoves.frees net a hold from s first
   moves (Ends from serials) m first = PlainMoves.ends net a hold from serials first
+  moves (Mentions to s) m first = PlainMoves.mentions net a hold to s
+  moves (Hears from s) m first = PlainMoves.hears net a hold from s first
+  moves (Stores heap serial) m first = stored_hold net a heap serial hold
+  moves (Strikes heap) m first = stored_hold net a heap p.serial hold
 
 -- whatever happens
 pub links_keep : Keeps link_rules LinksHold

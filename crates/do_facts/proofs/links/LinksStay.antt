@@ -27,7 +27,7 @@ pub record NoAsks (xs : List (Note Atom)) : Type 0 where
   pub answers : (y s l t : ℕ) → total (answer_of s l t) (atoms_of y xs) ≡ 0
 
 -- an atom that counts for nothing counts for nothing as a note
-weightless : (f : Atom → ℕ) (peer y : ℕ) (x : Atom) → f x ≡ 0 →
+pub weightless : (f : Atom → ℕ) (peer y : ℕ) (x : Atom) → f x ≡ 0 →
     total f (atoms_of y (note peer x)) ≡ 0
 weightless f peer y x none = go (peer == y)
   where

@@ -1,4 +1,4 @@
--- Each object that a message names is the sender's own, or may be named at present.
+-- Each object that a message names has a class, and is the sender's own or may be named now.
 use Rattle.std.proofs.Common.{◌≡◌, ◌==◌, ◌++◌, ◌||◌, Bool, true, false, cond, List, [], ◌∷◌}
 use Rattle.std.proofs.Common.{filter, refl}
 use Rattle.std.specs.Prelude.{is_some}
@@ -10,9 +10,10 @@ use Rattle.do_packet.specs.Met.{has_object, is_named, met, met_one, role_of}
 use Rattle.do_packet.specs.Seen.{Sender}
 use Rattle.do_packet.specs.declared.role.Role.TheVariants.{Absent, Copied, Named}
 
--- an object is the sender's own, or one that it may name
+-- an object has a class, and is the sender's own, or one that it may name
 abbrev pub IsNameable : Sender → ObjectName → Type 0
-IsNameable s o = ((o.node == s.node) || s.seen.usable o) ≡ true
+IsNameable s o =
+    (((o.node == s.node) || s.seen.usable o) ≡ true) × (is_some (s.seen.class_of o) ≡ true)
 
 module _ (s : Sender) where
   -- each of these objects is such a one
@@ -47,9 +48,9 @@ module _ (s : Sender) where
     where
       go : (a b u copy : Bool) →
           is_named (cond a (cond b (cond copy Copied Named) (cond u Named Absent)) Absent) ≡ true →
-          (b || u) ≡ true
-      go true true u copy e = refl
-      go true false true copy e = refl
+          ((b || u) ≡ true) × (a ≡ true)
+      go true true u copy e = (refl, refl)
+      go true false true copy e = (refl, refl)
       go true false false copy e = absurd (cc)
       go false b u copy e = absurd (cc)
 

@@ -8,16 +8,17 @@ use Rattle.do_facts.specs.Net.{Net, Note, atoms_of, net_after, total}
 use Rattle.do_facts.specs.Moves.{Happening, Happens, Keeps, Lost, Moved, net_then}
 use Rattle.do_facts.specs.links.Facts.{EachSilent, told_of}
 use Rattle.do_facts.specs.links.Links.{Ask, Atom, End, Gone, Granted, Left, Lent, Links, Mine}
-use Rattle.do_facts.specs.links.Links.{Settled}
+use Rattle.do_facts.specs.links.Links.{Settled, Yours}
 use Rattle.do_facts.specs.links.Moves.{Asks, AsksOnce, Closes, Ends, Frees, GivesUp, Grants, Holds}
-use Rattle.do_facts.specs.links.Moves.{Leaves, Lends, Misses, Move, Names, Receives, Refuses}
-use Rattle.do_facts.specs.links.Moves.{Returns, Settles, closed, link_rules, moved, note, opens}
+use Rattle.do_facts.specs.links.Moves.{Hears, Leaves, Lends, Mentions, Misses, Move, Names}
+use Rattle.do_facts.specs.links.Moves.{Receives, Refuses, Returns, Settles, Stores, Strikes, closed}
+use Rattle.do_facts.specs.links.Moves.{link_rules, moved, note, opens}
 use Rattle.do_facts.specs.links.Moves.{posts, takes, telling}
 use Rattle.do_facts.proofs.Notes.{total-append}
 use Rattle.do_facts.proofs.links.ListsChanged.{open_less, was_open}
 
 -- what is left of a wire counts for no more
-total_dropped : (f : Atom → ℕ) (n : ℕ) (xs : List Atom) → total f (drop n xs) ≤ total f xs
+pub total_dropped : (f : Atom → ℕ) (n : ℕ) (xs : List Atom) → total f (drop n xs) ≤ total f xs
 total_dropped f zero xs = omega arith
 total_dropped f (suc n) [] = omega arith
 total_dropped f (suc n) (x ∷ xs) = omega (arith, total_dropped f n xs)
@@ -107,6 +108,10 @@ module _ (net : Net Links Atom) (a : ℕ) (silent : EachSilent net) where
       opened (Misses from s k told) z o = o
       opened (Settles from number) z o = o
       opened (Frees from s) z o = o
+      opened (Mentions to s) z o = o
+      opened (Hears from s) z o = o
+      opened (Stores heap serial) z o = o
+      opened (Strikes heap) z o = o
 
       quiet : (v : Move) → IsSilent (moved p v) (posts p v)
       quiet (Closes peer) = silent_end p peer (serials_of peer p.held)
@@ -127,6 +132,10 @@ module _ (net : Net Links Atom) (a : ℕ) (silent : EachSilent net) where
       quiet (Misses from s k told) = silent_telling (moved p (Misses from s k told)) told k
       quiet (Settles from number) = λ z s o. refl
       quiet (Frees from s) = λ z s o. refl
+      quiet (Mentions to s) = silent_note p to (Yours s) (λ s. refl)
+      quiet (Hears from s) = λ z s o. refl
+      quiet (Stores heap serial) = λ z s o. refl
+      quiet (Strikes heap) = λ z s o. refl
 
 -- whatever happens
 pub silent_keeps : Keeps link_rules EachSilent

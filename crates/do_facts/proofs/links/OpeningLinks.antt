@@ -6,6 +6,7 @@ use Rattle.std.proofs.lemmas.Bool.Decides.{nat_tests}
 use Rattle.do_class.specs.Class.{Class}
 use Rattle.do_machine.specs.declared.state.Seat.{Seat}
 use Rattle.do_machine.specs.World.{opening}
+use Rattle.do_machine.specs.run.Fresh.{blank}
 use Rattle.do_facts.specs.Net.{Net}
 use Rattle.do_facts.specs.View.{net_of}
 use Rattle.do_facts.specs.links.Facts.{EachSilent, LinksHold}
@@ -13,6 +14,7 @@ use Rattle.do_facts.specs.links.Links.{Atom, Links, links}
 use Rattle.do_facts.specs.links.Moves.{opens}
 use Rattle.do_facts.specs.links.Sound.{IsSound}
 use Rattle.do_facts.proofs.OpeningAsNet.{opening_parts, opening_wires}
+use Rattle.do_facts.proofs.links.HeapsGrow.{new_below}
 
 -- a node that lends nothing and asks for nothing, and is apart from itself
 record IsNew (port : ℕ) (p : Links) : Type 0 where
@@ -68,8 +70,18 @@ module _ (table : List Class) (seats : List Seat) where
   pub opening_sound : (n : ℕ) → IsSound ((net_of links (opening table seats)).part n)
   opening_sound =
       opening_parts table seats links (λ port p. IsSound p)
-      (λ port. record { held = tt; reached = λ o h. absurd (cc); asked = tt })
-      (λ all s. record { held = tt; reached = λ o h. absurd (cc); asked = tt })
+      (λ port. record {
+        held = tt;
+        reached = λ o h. absurd (cc);
+        asked = tt;
+        given = λ k h. absurd (cc);
+      })
+      (λ all s. record {
+        held = tt;
+        reached = λ o h. absurd (cc);
+        asked = tt;
+        given = λ k h. new_below k 1 (blank table s.root ∷ []) h;
+      })
 
   -- and nothing is told
   pub opening_silent : EachSilent (net_of links (opening table seats))

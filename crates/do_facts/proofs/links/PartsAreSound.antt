@@ -1,20 +1,27 @@
 -- Every move keeps what every node keeps of foreign objects.
-use Rattle.std.proofs.Common.{◌≡◌, ◌==◌, ◌⊎◌, ℕ, Bool, true, false, cond, not, List, [], ◌∷◌}
+use Rattle.std.proofs.Common.{◌≡◌, ◌==◌, ◌⊎◌, ◌++◌, ◌<◌, ℕ, suc, Bool, true, false, cond, not, List}
+use Rattle.std.proofs.Common.{[], ◌∷◌}
 use Rattle.std.proofs.Common.{filter, refl, ap, ◌∙◌, arith, inl, inr}
 use Rattle.std.specs.List.{list_any}
 use Rattle.std.proofs.lemmas.Bool.Decides.{nat_tests}
 use Rattle.do_base.specs.names.Names.{ObjectName}
 use Rattle.do_packet.specs.Met.{has_object, same_object}
+use Rattle.do_machine.specs.declared.node.Lend.{Lend}
+use Rattle.do_machine.specs.declared.node.Stored.{Stored}
+use Rattle.do_machine.specs.declared.node.Wanted.{Wanted}
 use Rattle.do_machine.specs.Lists.{inserted}
 use Rattle.do_machine.specs.Objects.{joined, object_at, object_lt}
 use Rattle.do_machine.specs.lend.Asking.{same_wanted, wanted, wanted_lt}
+use Rattle.do_machine.specs.lend.Lending.{is_lend}
 use Rattle.do_machine.proofs.Bools.{or_cases}
 use Rattle.do_machine.proofs.Having.{has_all_joined, has_passing, passes_among}
 use Rattle.do_facts.specs.StandOnce.{StandOnce}
 use Rattle.do_facts.specs.links.Links.{Links}
 use Rattle.do_facts.specs.links.Moves.{Asks, AsksOnce, Closes, Ends, Frees, GivesUp, Grants, Holds}
 use Rattle.do_facts.specs.links.Moves.{Leaves, Lends, Misses, Move, Names, Receives, Refuses}
-use Rattle.do_facts.specs.links.Moves.{Returns, Settles, closed, may, moved, opens, with_held}
+use Rattle.do_facts.specs.links.Moves.{Hears, Mentions, Returns, Settles, Stores, Strikes, closed}
+use Rattle.do_facts.specs.links.Moves.{is_there, may, moved, next_lend, opens, with_held}
+use Rattle.do_facts.specs.links.Moves.{without_ask}
 use Rattle.do_facts.specs.links.Sound.{IsSound}
 use Rattle.do_facts.proofs.OnceInLists.{once_filtered, once_inserted}
 use Rattle.do_facts.proofs.links.SameIsEqual.{object_flips, object_is, wanted_flips}
@@ -42,6 +49,36 @@ joined_cases os x o h =
     ]
 
 module _ (p : Links) (sound : IsSound p) where
+  -- other lends under another token
+  sound_lent : (lent : List Lend) (token : ℕ) →
+      IsSound (record p { lent = lent; token = token })
+  sound_lent lent token = record {
+    held = sound.held;
+    reached = sound.reached;
+    asked = sound.asked;
+    given = sound.given;
+  }
+
+  -- an ask less
+  sound_less : (w : Wanted) → IsSound (without_ask w p)
+  sound_less w = record {
+    held = sound.held;
+    reached = sound.reached;
+    asked = once_filtered same_wanted (λ v. not (same_wanted w v)) p.asked sound.asked;
+    given = sound.given;
+  }
+
+  -- other objects stored below another serial
+  sound_stored : (heap : List Stored) (serial : ℕ) →
+      ((s : ℕ) → is_there heap s ≡ true → s < serial) →
+      IsSound (record p { heap = heap; serial = serial })
+  sound_stored heap serial given = record {
+    held = sound.held;
+    reached = sound.reached;
+    asked = sound.asked;
+    given = given;
+  }
+
   -- an object of an open end is held
   sound_held : (from serial : ℕ) → opens p from ≡ true →
       IsSound (with_held (object_at from serial) p)
@@ -52,6 +89,7 @@ module _ (p : Links) (sound : IsSound p) where
       | inr e ↦ sound.reached o e
     ];
     asked = sound.asked;
+    given = sound.given;
   }
 
   -- an end that is open still
@@ -70,51 +108,46 @@ module _ (p : Links) (sound : IsSound p) where
             still_open peer o.node p.open_to (sound.reached o (has_passing away p.held o h))
             (passes_among away p.held o h);
         asked = sound.asked;
+        given = sound.given;
       }
 
-  -- any move
-  pub sound_moved : (v : Move) → may p v → IsSound (moved p v)
-  sound_moved (Names to serial) h = sound
-  sound_moved (Lends to o) h =
-      record { held = sound.held; reached = sound.reached; asked = sound.asked }
-  sound_moved (Leaves o) h = record {
-    held = once_filtered same_object (λ x. not (same_object o x)) p.held sound.held;
-    reached = λ x k. sound.reached x (has_passing (λ y. not (same_object o y)) p.held x k);
-    asked = sound.asked;
-  }
-  sound_moved (Closes peer) h = sound_closed peer
-  sound_moved (GivesUp w told) h = record {
-    held = sound.held;
-    reached = sound.reached;
-    asked = once_filtered same_wanted (λ v. not (same_wanted w v)) p.asked sound.asked;
-  }
-  sound_moved (Holds from serial) h = sound_held from serial h
-  sound_moved (Asks from o token) h = record {
-    held = sound.held;
-    reached = sound.reached;
-    asked = once_inserted same_wanted wanted_flips wanted_lt (wanted o from token) p.asked h.2
-        sound.asked;
-  }
-  sound_moved (AsksOnce from o token) h = sound
-  sound_moved (Returns from o token) h = sound
-  sound_moved (Grants from serial token) h = sound
-  sound_moved (Refuses from serial token) h = sound
-  sound_moved (Receives from serial token told) h =
-      let w = wanted (object_at from serial) token.lender token.number in
-      let more = sound_held from serial h.0 in
-      record {
-        held = more.held;
-        reached = more.reached;
-        asked = once_filtered same_wanted (λ v. not (same_wanted w v)) p.asked sound.asked;
-      }
-  sound_moved (Misses from serial token told) h =
-      let w = wanted (object_at from serial) token.lender token.number in
-      record {
-        held = sound.held;
-        reached = sound.reached;
-        asked = once_filtered same_wanted (λ v. not (same_wanted w v)) p.asked sound.asked;
-      }
-  sound_moved (Settles from number) h =
-      record { held = sound.held; reached = sound.reached; asked = sound.asked }
-  sound_moved (Frees from serial) h = sound
-  sound_moved (Ends from serials) h = sound_closed from
+-- any move
+pub sound_moved : (p : Links) → IsSound p → (v : Move) → may p v → IsSound (moved p v)
+sound_moved p sound (Names to serial) h = sound
+sound_moved p sound (Mentions to serial) h = sound
+sound_moved p sound (Lends to o) h =
+    sound_lent p sound (p.lent ++ next_lend p to o ∷ []) (suc p.token)
+sound_moved p sound (Leaves o) h = record {
+  held = once_filtered same_object (λ x. not (same_object o x)) p.held sound.held;
+  reached = λ x k. sound.reached x (has_passing (λ y. not (same_object o y)) p.held x k);
+  asked = sound.asked;
+  given = sound.given;
+}
+sound_moved p sound (Closes peer) h = sound_closed p sound peer
+sound_moved p sound (GivesUp w told) h = sound_less p sound w
+sound_moved p sound (Holds from serial) h = sound_held p sound from serial h
+sound_moved p sound (Asks from o token) h = record {
+  held = sound.held;
+  reached = sound.reached;
+  asked = once_inserted same_wanted wanted_flips wanted_lt (wanted o from token) p.asked h.2
+      sound.asked;
+  given = sound.given;
+}
+sound_moved p sound (AsksOnce from o token) h = sound
+sound_moved p sound (Returns from o token) h = sound
+sound_moved p sound (Grants from serial token) h = sound
+sound_moved p sound (Refuses from serial token) h = sound
+sound_moved p sound (Receives from serial token told) h =
+    let o = object_at from serial in
+    sound_less (with_held o p) (sound_held p sound from serial h.0)
+    (wanted o token.lender token.number)
+sound_moved p sound (Misses from serial token told) h =
+    sound_less p sound (wanted (object_at from serial) token.lender token.number)
+sound_moved p sound (Settles from number) h =
+    sound_lent p sound (filter (λ l. not (is_lend from number l)) p.lent) p.token
+sound_moved p sound (Frees from serial) h = sound
+sound_moved p sound (Ends from serials) h = sound_closed p sound from
+sound_moved p sound (Hears from serial) h = sound
+sound_moved p sound (Stores heap serial) h = sound_stored p sound heap serial h.given
+sound_moved p sound (Strikes heap) h =
+    sound_stored p sound heap p.serial (λ s e. sound.given s (h s e))

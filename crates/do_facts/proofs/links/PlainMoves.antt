@@ -6,8 +6,8 @@ use Rattle.do_machine.specs.ends.Closing.{serials_of}
 use Rattle.do_facts.specs.Net.{Net, Note, StandFirst, net_after}
 use Rattle.do_facts.specs.links.Links as Atoms
 use Rattle.do_facts.specs.links.Links.{Atom, Links}
-use Rattle.do_facts.specs.links.Moves.{Ends, Frees, Grants, Holds}
-use Rattle.do_facts.specs.links.Moves.{Leaves, Lends, Move, Names, Refuses}
+use Rattle.do_facts.specs.links.Moves.{Ends, Frees, Grants, Hears, Holds}
+use Rattle.do_facts.specs.links.Moves.{Leaves, Lends, Mentions, Move, Names, Refuses}
 use Rattle.do_facts.specs.links.Moves.{closed, moved, note}
 use Rattle.do_facts.specs.links.Moves.{opens, posts, takes}
 use Rattle.do_facts.specs.links.Facts.{EachAsk, LinksHold}
@@ -80,6 +80,14 @@ module _ (net : Net Links Atom) (a : ℕ) (hold : LinksHold net) where
       (no_lend to x (λ h s t. refl) (λ t. refl)) nothing_asked
       (no_ask to x (λ s l t. refl) (λ s l t. refl))
 
+  -- an object of a peer is named to it
+  pub mentions : (to s : ℕ) → Now (Mentions to s)
+  mentions to s =
+      let x = Atoms.Yours s in
+      plain p.held [] (note to x) nothing_first nothing_lent
+      (no_lend to x (λ h s t. refl) (λ t. refl)) nothing_asked
+      (no_ask to x (λ s l t. refl) (λ s l t. refl))
+
   -- an object is left
   pub leaves : (o : ObjectName) → Now (Leaves o)
   leaves o =
@@ -95,6 +103,13 @@ module _ (net : Net Links Atom) (a : ℕ) (hold : LinksHold net) where
       plain (moved p (Holds from s)).held (note from x) [] first
       (no_lend from x (λ h s t. refl) (λ t. refl)) nothing_lent
       (no_ask from x (λ s l t. refl) (λ s l t. refl)) nothing_asked
+
+  -- a peer named an own object
+  pub hears : (from s : ℕ) → StandFirst a (note from (Atoms.Yours s)) net → Now (Hears from s)
+  hears from s first =
+      let x = Atoms.Yours s in
+      plain p.held (note from x) [] first (no_lend from x (λ h s t. refl) (λ t. refl))
+      nothing_lent (no_ask from x (λ s l t. refl) (λ s l t. refl)) nothing_asked
 
   -- an own object was left
   pub frees : (from s : ℕ) → StandFirst a (note from (Atoms.Left s)) net → Now (Frees from s)

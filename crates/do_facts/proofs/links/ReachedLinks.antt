@@ -10,6 +10,7 @@ use Rattle.do_machine.specs.World.{opening}
 use Rattle.do_machine.specs.run.Run.{Acting}
 use Rattle.do_machine.proofs.passing.Linked.{opening_queues, queues_stay}
 use Rattle.do_facts.specs.Net.{Net}
+use Rattle.do_facts.specs.ByEvents.{IsBy}
 use Rattle.do_facts.specs.Moves.{Happening, Happens, Keeps, Lost, Moved, Reaches, net_then}
 use Rattle.do_facts.specs.Reached.{reached}
 use Rattle.do_facts.specs.View.{net_of, part_seen}
@@ -29,11 +30,11 @@ use Rattle.do_facts.proofs.links.NoEndTold.{silent_keeps}
 use Rattle.do_facts.proofs.links.PartsAreSound.{sound_moved}
 
 -- each part of a net is sound
-abbrev AllSound : Net Links Atom → Type 0
+abbrev pub AllSound : Net Links Atom → Type 0
 AllSound net = (port : ℕ) → IsSound (net.part port)
 
 -- and stays so, whatever happens
-sound_keeps : Keeps link_rules AllSound
+pub sound_keeps : Keeps link_rules AllSound
 sound_keeps = record { by = by_happening }
   where
     by_happening : (net : Net Links Atom) (h : Happening Atom Move) → AllSound net →
@@ -58,7 +59,7 @@ opening_keeps table seats = record {
 module _ (table : List Class) (act : Acting) where
   -- every step is moves of links
   pub step_moves : (S : State) (event : Event) → LinksAreKept S →
-      Reaches link_rules (net_of links S) (net_of links (step table act S event).state)
+      Reaches link_rules (IsBy event) (net_of links S) (net_of links (step table act S event).state)
   step_moves S event kept =
       by_step links link_rules IsSound link_bridge S kept.queues
       (record {
@@ -77,9 +78,12 @@ module _ (table : List Class) (act : Acting) where
       let before = net_of links S in
       record {
         queues = queues_stay table act S event kept.queues;
-        sound = stays link_rules AllSound sound_keeps before (net_of links T) path kept.sound;
-        hold = stays link_rules LinksHold links_keep before (net_of links T) path kept.hold;
-        silent = stays link_rules EachSilent silent_keeps before (net_of links T) path kept.silent;
+        sound = stays link_rules AllSound sound_keeps (IsBy event) before (net_of links T) path
+            kept.sound;
+        hold = stays link_rules LinksHold links_keep (IsBy event) before (net_of links T) path
+            kept.hold;
+        silent = stays link_rules EachSilent silent_keeps (IsBy event) before (net_of links T) path
+            kept.silent;
       }
 
   -- all of it holds in every state that a machine comes to

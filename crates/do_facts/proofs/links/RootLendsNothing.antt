@@ -28,9 +28,10 @@ use Rattle.do_machine.specs.take.Take.{root_packet}
 use Rattle.do_facts.specs.Moves.{Runs}
 use Rattle.do_facts.specs.View.{AreMoves, posted}
 use Rattle.do_facts.specs.links.Links.{links, links_of}
-use Rattle.do_facts.specs.links.Moves.{link_rules}
-use Rattle.do_facts.proofs.links.TokensOfMessages.{to_lent}
+use Rattle.do_facts.specs.links.Moves.{is_there}
+use Rattle.do_facts.proofs.links.TokensOfMessages.{owned, to_named}
 use Rattle.do_facts.proofs.links.SendingIsMoves.{sends}
+use Rattle.do_facts.proofs.links.Acts.{act_rules}
 
 -- no object is in nil
 objects_of-Nil : objects_of Nil ≡ []
@@ -104,16 +105,17 @@ module _ (c : Context) (to : ℕ) where
 
   -- the answer to an ask for the root
   pub by_root_ask : (number : ℕ) → is_open c.node to ≡ true →
-      AreMoves links link_rules c.node []
+      AreMoves links act_rules c.node []
       (queueing to (items.RootAnswer number (root_packet c to)) c.node)
   by_root_ask number ends =
       let p = root_packet c to in
       let item = items.RootAnswer number p in
       let n = c.node in
       let none : lends_of to p ≡ [] = root_not_lent n.root in
-      subst (λ q. Runs link_rules (links_of n) [] q (posted links (queueing to item n).sent))
+      subst (λ q. Runs act_rules (links_of n) [] q (posted links (queueing to item n).sent))
       (ap (λ ls. links_of (lending ls n)) none
       ∙ ap (λ ls. record (links_of n) { lent = ls; token = n.next_token + 0 }) (append-nil n.lent)
       ∙ ap (λ k. record (links_of n) { token = k }) (omega arith))
-      (sends n n to p item refl refl ends
-      (to_lent (packer c) to n.next_token ((false, root_value n) ∷ []) []))
+      (sends n n to refl ends p item refl
+      (to_named (packer c) to (is_there n.heap) (owned c) n.next_token
+      ((false, root_value n) ∷ []) []))

@@ -1,5 +1,5 @@
 -- A run, a start and a time-out are moves of what a node has of foreign objects.
-use Rattle.std.proofs.Common.{◌≡◌, ℕ, true, not, List, [], ◌∷◌, refl, sym}
+use Rattle.std.proofs.Common.{◌≡◌, ◌==◌, ◌++◌, ◌+◌, ℕ, true, not, List, [], ◌∷◌, refl, sym}
 use Rattle.std.specs.Prelude.{Option, Some, None, option_map}
 use Rattle.do_base.specs.declared.events.exception.Exc.{Exc}
 use Rattle.do_base.specs.declared.events.exception.Exc.TheVariants.{TooLarge}
@@ -33,9 +33,10 @@ use Rattle.do_machine.specs.ends.TimeOut.{give_up, time_out, time_out_on}
 use Rattle.do_machine.specs.lend.Lending.{posting}
 use Rattle.do_machine.specs.Packing.{packed_for}
 use Rattle.do_machine.specs.run.Answers.{answer_placed, oneway_answer, replying}
-use Rattle.do_machine.specs.run.Changes.{goes_on, stands as waits, uses_number}
+use Rattle.do_machine.specs.Lists.{change_first}
+use Rattle.do_machine.specs.run.Changes.{goes_on, stands as waits, uses_number, with_writes}
 use Rattle.do_machine.specs.run.Delivery.{delivery, failing, popped, with_top}
-use Rattle.do_machine.specs.run.Fresh.{pushed}
+use Rattle.do_machine.specs.run.Fresh.{blank, pushed, with_serials}
 use Rattle.do_machine.specs.run.Run.{Acting, next_act, run_effect, run_on, state_rule}
 use Rattle.do_machine.specs.run.Verdicts.{effect_of, requesting, waits_for}
 use Rattle.do_facts.proofs.IsSent.{IsRequest, IsSent}
@@ -43,16 +44,19 @@ use Rattle.do_facts.specs.Net.{Note}
 use Rattle.do_facts.specs.Moves.{Runs}
 use Rattle.do_facts.specs.View.{AreMoves}
 use Rattle.do_facts.specs.links.Links.{Atom, Links, links, links_of}
-use Rattle.do_facts.specs.links.Moves.{link_rules}
+use Rattle.do_facts.specs.links.Moves.{Stores}
+use Rattle.do_facts.specs.links.Sound.{IsSound}
 use Rattle.do_facts.proofs.Chains.{either}
 use Rattle.do_facts.proofs.Runs.{stands_by}
 use Rattle.do_facts.proofs.AsksOverOpenEnds.{by_act, by_answer, not_closed}
 use Rattle.do_facts.proofs.links.TokensOfMessages.{names_lent}
-use Rattle.do_facts.proofs.links.SendingIsMoves.{sends}
+use Rattle.do_facts.proofs.links.SendingIsMoves.{sends, sends_message}
+use Rattle.do_facts.proofs.links.HeapsGrow.{grown_made, grown_written}
+use Rattle.do_facts.proofs.links.Acts.{act_rules, acts_once}
 
 -- the effect of a node is moves that take nothing
 abbrev pub Moves : Node → Effect → Type 0
-Moves n e = AreMoves links link_rules n [] e
+Moves n e = AreMoves links act_rules n [] e
 
 -- an effect is moves, where there is one
 abbrev pub MovesIf : Node → Option Effect → Type 0
@@ -61,10 +65,10 @@ MovesIf n (Some e) = Moves n e
 
 -- an effect that leaves the links and posts no atom
 pub quiet : {p q : Links} {sent : List (Note Atom)} → p ≡ q → sent ≡ [] →
-    Runs link_rules p [] q sent
-quiet same none = stands_by link_rules same none
+    Runs act_rules p [] q sent
+quiet same none = stands_by act_rules same none
 
-module _ (r : RunContext) where
+module _ (r : RunContext) (sound : IsSound (links_of r.context.node)) where
   -- the node
   abbrev n : Node
   n = r.context.node
@@ -78,7 +82,7 @@ module _ (r : RunContext) where
       ])
   by_packed m same peer number ends values None h = quiet (sym same) refl
   by_packed m same peer number ends values (Some p) h =
-      sends n m peer p (items.Reply number p) same refl ends
+      sends n m peer same ends p (items.Reply number p) refl
       (names_lent r.context peer values p h)
 
   -- an answer that goes back to a peer
@@ -110,18 +114,26 @@ module _ (r : RunContext) where
 
   -- a request to a peer
   by_requesting : (m : Node) → links_of m ≡ links_of n → (peer number : ℕ) →
-      is_open n peer ≡ true → (request : Request) → IsRequest n request →
+      is_open n peer ≡ true → (request : Request) → IsRequest n peer request →
       Moves n (requesting peer number request m)
   by_requesting m same peer number ends requests.Root h = quiet (sym same) refl
   by_requesting m same peer number ends (requests.Call method x) h =
-      sends n m peer x.packet (items.Call number x) same refl ends h
+      sends_message n m peer same ends x (items.Call number x) refl h
 
   -- each verdict
   by_verdict : (v : Verdict) → IsSent n v → Moves n (effect_of r v)
   by_verdict (Goes into value pc) h = quiet refl refl
   by_verdict (Uses result outs) h = quiet refl refl
-  by_verdict (Steps pc locals handler writes) h = quiet refl refl
-  by_verdict (Makes class into pc) h = quiet refl refl
+  by_verdict (Steps pc locals handler writes) h =
+      let serial = r.top.object.serial in
+      let heap = change_first (λ x. x.serial == serial) (with_writes writes) n.heap in
+      acts_once (links_of n) (Stores heap n.next_serial) tt
+      (grown_written (links_of n) sound.given serial writes)
+  by_verdict (Makes class into pc) h =
+      let new = blank r.context.table class ∷ [] in
+      let heap = n.heap ++ with_serials n.next_serial new in
+      acts_once (links_of n) (Stores heap (n.next_serial + 1)) tt
+      (grown_made (links_of n) sound.given new)
   by_verdict (Vends root pc) h = quiet refl refl
   by_verdict (Says value pc) h = quiet refl refl
   by_verdict (Asks peer request into outs pc) h =
@@ -129,8 +141,8 @@ module _ (r : RunContext) where
       by_requesting m refl peer n.next_call h.0 request h.1
   by_verdict (Begins o method values into outs pc) h = quiet refl refl
   by_verdict (Tells peer m into pc) h =
-      sends n (with_top r (goes_on into Nil pc r.top)) peer m.packet (items.Oneway m) refl refl
-      h.0 h.1
+      sends_message n (with_top r (goes_on into Nil pc r.top)) peer refl h.0 m (items.Oneway m)
+      refl h.1
   by_verdict (Returns result outs) h = by_delivery (Given result outs) r.top.reason
   by_verdict (Fails e) h = by_failing e r.top.handler
 
@@ -143,16 +155,17 @@ module _ (r : RunContext) where
   by_state act (states.Waits call peer what) = tt
 
 -- a run by the stack
-by_run_on : (act : Acting) (c : Context) (stack : List Invocation) →
-    MovesIf c.node (run_on act c stack)
-by_run_on act c [] = tt
-by_run_on act c (i ∷ is) =
+by_run_on : (act : Acting) (c : Context) → IsSound (links_of c.node) →
+    (stack : List Invocation) → MovesIf c.node (run_on act c stack)
+by_run_on act c sound [] = tt
+by_run_on act c sound (i ∷ is) =
     let r : RunContext = record { context = c; top = i; below = is } in
-    by_state r act i.state
+    by_state r sound act i.state
 
 -- a run
-pub by_run : (act : Acting) (c : Context) → MovesIf c.node (run_effect act c)
-by_run act c = by_run_on act c c.node.stack
+pub by_run : (act : Acting) (c : Context) → IsSound (links_of c.node) →
+    MovesIf c.node (run_effect act c)
+by_run act c sound = by_run_on act c sound c.node.stack
 
 -- an invocation that is begun
 by_begun : (n : Node) (i : Option Invocation) → MovesIf n (option_map (λ i. only (pushed i n)) i)

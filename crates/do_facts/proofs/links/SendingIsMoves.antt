@@ -7,17 +7,22 @@ use Rattle.do_class.specs.declared.packet.Name.{Name}
 use Rattle.do_class.specs.declared.packet.Name.TheVariants.{Lent, Mine, Yours}
 use Rattle.do_class.specs.declared.packet.Packet.{Packet}
 use Rattle.do_machine.specs.declared.item.Item.{Item}
+use Rattle.do_machine.specs.declared.item.Message.{Message}
 use Rattle.do_machine.specs.declared.node.Lend.{Lend}
 use Rattle.do_machine.specs.declared.node.Node.{Node}
+use Rattle.do_machine.specs.Objects.{object_at}
 use Rattle.do_machine.specs.lend.Lending.{lend_of, posting}
 use Rattle.do_facts.specs.Net.{noted}
 use Rattle.do_facts.specs.Moves.{Runs}
 use Rattle.do_facts.specs.View.{AreMoves}
 use Rattle.do_facts.specs.links.Links.{Atom, Links, atoms, links, links_of, name_atoms}
 use Rattle.do_facts.specs.links.Links.{packet_atoms}
-use Rattle.do_facts.specs.links.Moves.{Lends, Names, link_rules, may_name, moved, opens}
-use Rattle.do_facts.proofs.links.AreLent.{AreLent, is_usable}
-use Rattle.do_facts.proofs.Runs.{moves_once, runs_on, stands}
+use Rattle.do_facts.specs.links.Moves.{Lends, Mentions, Names, may_name, moved, opens}
+use Rattle.do_facts.specs.links.Moves.{stores}
+use Rattle.do_facts.proofs.IsSent.{IsMessage}
+use Rattle.do_facts.proofs.links.AreNamed.{AreNamed, NamedBy, is_usable}
+use Rattle.do_facts.proofs.Runs.{runs_on, stands}
+use Rattle.do_facts.proofs.links.Acts.{act_rules, acts_once}
 
 module _ (to : ℕ) where
   -- the links once these names are sent
@@ -34,42 +39,61 @@ module _ (to : ℕ) where
   -- names that are sent, one after another
   pub names_sent : (test : ObjectName → Bool) (names : List Name) (p : Links) →
       opens p to ≡ true → ((x : ObjectName) → test x ≡ true → may_name p x ≡ true) →
-      AreLent test p.token names →
-      Runs link_rules p [] (lent_by names p) (noted to (flat_map name_atoms names))
+      AreNamed (stores p) test to p.token names →
+      Runs act_rules p [] (lent_by names p) (noted to (flat_map name_atoms names))
   names_sent test [] p o may h =
-      subst (λ q. Runs link_rules p [] q [])
+      subst (λ q. Runs act_rules p [] q [])
       (ap (λ xs. with_lends p xs p.token) (sym (append-nil p.lent))
-      ∙ ap (λ k. with_lends p (p.lent ++ []) k) (omega arith)) (stands link_rules p)
+      ∙ ap (λ k. with_lends p (p.lent ++ []) k) (omega arith)) (stands act_rules p)
   names_sent test (Mine serial class ∷ names) p o may h =
-      runs_on link_rules (moves_once link_rules p (Names to serial) o)
-      (names_sent test names p o may h)
-  names_sent test (Yours serial ∷ names) p o may h = names_sent test names p o may h
+      runs_on act_rules (acts_once p (Names to serial) tt (o, h.0))
+      (names_sent test names p o may h.1)
+  names_sent test (Yours serial ∷ names) p o may h =
+      runs_on act_rules
+      (acts_once p (Mentions to serial) tt (o, may (object_at to serial) h.0))
+      (names_sent test names p o may h.1)
   names_sent test (Lent object class number ∷ names) p o may h =
       let q = moved p (Lends to object) in
       let new : Lend = record { number = p.token; object = object; borrower = to } in
       let more = filter_map (lend_of to) names in
       let behind = names_sent test names q o may h.2 in
-      subst (λ k. Runs link_rules p []
+      subst (λ k. Runs act_rules p []
       (with_lends p (p.lent ++ record { number = k; object = object; borrower = to } ∷ more)
       (p.token + suc (length more)))
       (noted to (Atom.Lent object k ∷ flat_map name_atoms names)))
       (sym h.0)
-      (subst (λ r. Runs link_rules p [] r
+      (subst (λ r. Runs act_rules p [] r
       (noted to (Atom.Lent object p.token
       ∷ flat_map name_atoms names)))
       (ap (λ xs. with_lends p xs (suc p.token + length more)) (append_assoc p.lent (new ∷ []) more)
       ∙ ap (λ k. with_lends p (p.lent ++ new ∷ more) k) (omega arith))
-      (runs_on link_rules (moves_once link_rules p (Lends to object) (o, may object h.1)) behind))
+      (runs_on act_rules (acts_once p (Lends to object) tt (o, may object h.1)) behind))
 
--- a message is sent
-pub sends : (n m : Node) (peer : ℕ) (packet : Packet) (item : Item) → links_of m ≡ links_of n →
-    atoms item ≡ packet_atoms packet → opens (links_of n) peer ≡ true →
-    AreLent (is_usable n) n.next_token packet.names →
-    AreMoves links link_rules n [] (posting peer packet item m)
-sends n m peer packet item same names o h =
-    subst (λ p. Runs link_rules (links_of n) [] (lent_by peer packet.names p)
-    (noted peer (atoms item) ++ [])) (sym same)
-    (subst (λ xs. Runs link_rules (links_of n) [] (lent_by peer packet.names (links_of n)) xs)
-    (sym (ap (λ xs. noted peer xs ++ []) names
-    ∙ append-nil (noted peer (packet_atoms packet))))
-    (names_sent peer (is_usable n) packet.names (links_of n) o (λ x e. e) h))
+module _ (n m : Node) (peer : ℕ) (same : links_of m ≡ links_of n)
+    (o : opens (links_of n) peer ≡ true) where
+  -- an item is queued whose atoms are these
+  posts_as : (packet : Packet) (item : Item) (xs : List Atom) → atoms item ≡ xs →
+      Runs act_rules (links_of n) [] (lent_by peer packet.names (links_of n)) (noted peer xs) →
+      AreMoves links act_rules n [] (posting peer packet item m)
+  posts_as packet item xs names runs =
+      subst (λ p. Runs act_rules (links_of n) [] (lent_by peer packet.names p)
+      (noted peer (atoms item) ++ [])) (sym same)
+      (subst (λ xs. Runs act_rules (links_of n) [] (lent_by peer packet.names (links_of n)) xs)
+      (sym (ap (λ ys. noted peer ys ++ []) names ∙ append-nil (noted peer xs))) runs)
+
+  -- values are sent
+  pub sends : (packet : Packet) (item : Item) → atoms item ≡ packet_atoms packet →
+      NamedBy n peer packet.names → AreMoves links act_rules n [] (posting peer packet item m)
+  sends packet item names h =
+      posts_as packet item (packet_atoms packet) names
+      (names_sent peer (is_usable n) packet.names (links_of n) o (λ x e. e) h)
+
+  -- a message is sent, which names its target
+  pub sends_message : (x : Message) (item : Item) →
+      atoms item ≡ Atom.Yours x.target ∷ packet_atoms x.packet → IsMessage n peer x →
+      AreMoves links act_rules n [] (posting peer x.packet item m)
+  sends_message x item names h =
+      posts_as x.packet item (Atom.Yours x.target ∷ packet_atoms x.packet) names
+      (runs_on act_rules
+      (acts_once (links_of n) (Mentions peer x.target) tt (o, h.0))
+      (names_sent peer (is_usable n) x.packet.names (links_of n) o (λ x e. e) h.1))

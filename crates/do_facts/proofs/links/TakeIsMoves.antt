@@ -31,16 +31,18 @@ use Rattle.do_facts.specs.Moves.{Runs}
 use Rattle.do_facts.specs.View.{AreMoves, posted}
 use Rattle.do_facts.specs.links.Links as Atom
 use Rattle.do_facts.specs.links.Links.{Links, atoms, links, links_of, name_atoms, packet_atoms}
-use Rattle.do_facts.specs.links.Moves.{Ends, Frees, Grants, Misses, Receives, Refuses, Settles}
-use Rattle.do_facts.specs.links.Moves.{link_rules, note}
+use Rattle.do_facts.specs.links.Moves.{Ends, Frees, Grants, Hears, Misses, Receives, Refuses}
+use Rattle.do_facts.specs.links.Moves.{Settles, Stores, note}
 use Rattle.do_facts.specs.links.Sound.{IsSound}
 use Rattle.do_facts.proofs.Chains.{either}
 use Rattle.do_facts.proofs.CommitAsNet.{posted_behind}
-use Rattle.do_facts.proofs.Runs.{moves_once, runs_on, stands_by}
+use Rattle.do_facts.proofs.Runs.{runs_on, stands_by}
 use Rattle.do_facts.proofs.links.AskingIsMoves.{holding_links, names_received, names_stay}
 use Rattle.do_facts.proofs.links.AskingIsMoves.{settled_posts}
 use Rattle.do_facts.proofs.links.ClosingIsMoves.{closing_ends, settling_stays}
+use Rattle.do_facts.proofs.links.HeapsGrow.{grown_made}
 use Rattle.do_facts.proofs.links.RootLendsNothing.{by_root_ask}
+use Rattle.do_facts.proofs.links.Acts.{act_rules, acts_once}
 
 -- what comes after a message leaves the links and posts no atom
 record IsQuiet (n : Node) (e : Effect) : Type 0 where
@@ -78,68 +80,72 @@ module _ (c : Context) (from : ℕ) (ends : is_open c.node from ≡ true) where
   holder os = holding os n
 
   -- a message that is received, and what its values come to
-  by_received : (packet : Packet) (next : List Value → Node → Effect) →
+  by_received : IsSound (links_of n) → (packet : Packet) (next : List Value → Node → Effect) →
       ((vs : List Value) (m : Node) → IsQuiet m (next vs m)) →
       let e = received c from packet next
       (holder (named_as is_exported (map (name_naming from n.port) packet.names)))
       in
-      Runs link_rules (links_of n) (noted from (packet_atoms packet)) (links_of e.node)
+      Runs act_rules (links_of n) (noted from (packet_atoms packet)) (links_of e.node)
       (posted links e.sent)
-  by_received packet next quiet =
+  by_received sound packet next quiet =
       let os = named_as is_exported (map (name_naming from n.port) packet.names) in
-      let m = with_objects (arrived c from packet).copies (holder os) in
+      let new = (arrived c from packet).copies in
+      let m = with_objects new (holder os) in
       let e = each (receiving_name from) packet.names m in
       let vs = (arrived c from packet).values in
       let after = quiet vs e.node in
       let held = (names_stay from packet.names m).1 in
-      subst (λ p. Runs link_rules (links_of n) (noted from (packet_atoms packet)) p
+      subst (λ p. Runs act_rules (links_of n) (noted from (packet_atoms packet)) p
       (posted links (e.sent ++ (next vs e.node).sent)))
       (ap (λ h. holding_links h e.node) (sym held) ∙ after.same)
-      (subst (λ xs. Runs link_rules (links_of n) (noted from (packet_atoms packet))
+      (subst (λ xs. Runs act_rules (links_of n) (noted from (packet_atoms packet))
       (holding_links (fold joined n.held os) e.node) xs)
       (sym (posted_behind links e.sent (next vs e.node).sent
       ∙ ap (λ xs. posted links e.sent ++ xs) after.none
       ∙ append-nil (posted links e.sent)))
-      (names_received from n.port packet.names n.held m ends))
+      (runs_on act_rules
+      (acts_once (links_of n) (Stores m.heap m.next_serial) tt
+      (grown_made (links_of n) sound.given new))
+      (names_received from n.port packet.names n.held m ends)))
 
   -- an ask that is granted or refused
   by_granting : (serial : ℕ) (token : TokenName) →
-      AreMoves links link_rules n (note from (Atom.Ask serial token))
+      AreMoves links act_rules n (note from (Atom.Ask serial token))
       (granting from serial token n)
   by_granting serial token =
-      either (AreMoves links link_rules n (note from (Atom.Ask serial token)))
+      either (AreMoves links act_rules n (note from (Atom.Ask serial token)))
       (is_some (stored serial n.heap)) (queueing from (items.Granted serial token) n) _
-      (λ _. moves_once link_rules (links_of n) (Grants from serial token) ends)
-      (λ _. moves_once link_rules (links_of n) (Refuses from serial token) ends)
+      (λ h. acts_once (links_of n) (Grants from serial token) tt (ends, h))
+      (λ h. acts_once (links_of n) (Refuses from serial token) tt (ends, h))
 
   -- an ask that was granted
   by_granted : (serial : ℕ) (token : TokenName) →
       let w = wanted (object_at from serial) token.lender token.number in
-      AreMoves links link_rules n (note from (Atom.Granted serial token))
+      AreMoves links act_rules n (note from (Atom.Granted serial token))
       (ask_over w (holder (object_at from serial ∷ [])))
   by_granted serial token =
       let w = wanted (object_at from serial) token.lender token.number in
       let told = is_open n token.lender in
       let m = without_wanted w (holder (object_at from serial ∷ [])) in
-      subst (λ k. Runs link_rules (links_of n) (note from (Atom.Granted serial token))
+      subst (λ k. Runs act_rules (links_of n) (note from (Atom.Granted serial token))
       (links_of k) (posted links (settling w m).sent)) (sym (settling_stays m w))
-      (subst (λ xs. Runs link_rules (links_of n) (note from (Atom.Granted serial token))
+      (subst (λ xs. Runs act_rules (links_of n) (note from (Atom.Granted serial token))
       (links_of m) xs) (sym (settled_posts w m told refl))
-      (moves_once link_rules (links_of n) (Receives from serial token told) (ends, refl)))
+      (acts_once (links_of n) (Receives from serial token told) tt (ends, refl)))
 
   -- an ask that was refused
   by_gone : (serial : ℕ) (token : TokenName) →
       let w = wanted (object_at from serial) token.lender token.number in
-      AreMoves links link_rules n (note from (Atom.Gone serial token)) (ask_over w (holder []))
+      AreMoves links act_rules n (note from (Atom.Gone serial token)) (ask_over w (holder []))
   by_gone serial token =
       let w = wanted (object_at from serial) token.lender token.number in
       let told = is_open n token.lender in
       let m = without_wanted w (holder []) in
-      subst (λ k. Runs link_rules (links_of n) (note from (Atom.Gone serial token))
+      subst (λ k. Runs act_rules (links_of n) (note from (Atom.Gone serial token))
       (links_of k) (posted links (settling w m).sent)) (sym (settling_stays m w))
-      (subst (λ xs. Runs link_rules (links_of n) (note from (Atom.Gone serial token))
+      (subst (λ xs. Runs act_rules (links_of n) (note from (Atom.Gone serial token))
       (links_of m) xs) (sym (settled_posts w m told refl))
-      (moves_once link_rules (links_of n) (Misses from serial token told) (ends, refl)))
+      (acts_once (links_of n) (Misses from serial token told) tt (ends, refl)))
 
   -- an end exports nothing
   none_exported : (to : ℕ) (serials : List ℕ) →
@@ -149,35 +155,37 @@ module _ (c : Context) (from : ℕ) (ends : is_open c.node from ≡ true) where
 
   -- an end
   by_end : (serials : List ℕ) → IsSound (links_of n) →
-      AreMoves links link_rules n (note from (Atom.End serials)) (closing from n)
+      AreMoves links act_rules n (note from (Atom.End serials)) (closing from n)
   by_end serials sound =
-      runs_on link_rules (moves_once link_rules (links_of n) (Ends from serials) ends)
+      runs_on act_rules (acts_once (links_of n) (Ends from serials) tt ends)
       (closing_ends from n sound)
 
   -- any item
   pub by_take : (item : Item) → IsSound (links_of n) →
-      AreMoves links link_rules n (noted from (atoms item)) (take_effect c from item)
+      AreMoves links act_rules n (noted from (atoms item)) (take_effect c from item)
   by_take (items.Call number m) sound =
       let reason = reasons.Call from number in
-      by_received m.packet (request c from reason m) (by_request c from reason m)
+      runs_on act_rules (acts_once (links_of n) (Hears from m.target) tt ends)
+      (by_received sound m.packet (request c from reason m) (by_request c from reason m))
   by_take (items.Oneway m) sound =
       let reason = reasons.Oneway from in
-      by_received m.packet (request c from reason m) (by_request c from reason m)
+      runs_on act_rules (acts_once (links_of n) (Hears from m.target) tt ends)
+      (by_received sound m.packet (request c from reason m) (by_request c from reason m))
   by_take (items.Reply number packet) sound =
-      by_received packet (values_arrival c (method_call from number))
+      by_received sound packet (values_arrival c (method_call from number))
       (λ vs m. record { same = refl; none = refl })
-  by_take (items.Raised number e) sound = stands_by link_rules refl refl
+  by_take (items.Raised number e) sound = stands_by act_rules refl refl
   by_take (items.RootAsk number) sound = by_root_ask c from number ends
   by_take (items.RootAnswer number packet) sound =
-      by_received packet (values_arrival c (root_call from number))
+      by_received sound packet (values_arrival c (root_call from number))
       (λ vs m. record { same = refl; none = refl })
   by_take (items.Ask serial token) sound = by_granting serial token
   by_take (items.Granted serial token) sound = by_granted serial token
   by_take (items.Gone serial token) sound = by_gone serial token
   by_take (items.Left serial) sound =
-      moves_once link_rules (links_of n) (Frees from serial) ends
+      acts_once (links_of n) (Frees from serial) tt ends
   by_take (items.Settled number) sound =
-      moves_once link_rules (links_of n) (Settles from number) ends
+      acts_once (links_of n) (Settles from number) tt ends
   by_take (items.End serials) sound =
-      subst (λ os. AreMoves links link_rules n (note from (Atom.End serials))
+      subst (λ os. AreMoves links act_rules n (note from (Atom.End serials))
       (closing from (holder os))) (sym (none_exported n.port serials)) (by_end serials sound)

@@ -2,8 +2,9 @@
 use Rattle.std.proofs.Common.{◌≡◌, ◌==◌, ◌++◌, ◌∷◌, ℕ, suc, Bool, true, false, cond, List, [], fold}
 use Rattle.std.proofs.Common.{refl, sym, ap, ◌∙◌, ◌||◌, subst, append_assoc, length}
 use Rattle.std.specs.List.{AllByRecursion}
-use Rattle.std.specs.Prelude.{Err, None, Ok, Option, Some, nat_lt, unwrap_or}
+use Rattle.std.specs.Prelude.{Err, None, Ok, Option, Some, is_some, nat_lt, option_map, unwrap_or}
 use Rattle.std.specs.Result.{result_ok}
+use Rattle.std.proofs.lemmas.Bool.{eqb-true}
 use Rattle.do_base.specs.names.Names.{ObjectName}
 use Rattle.do_class.specs.declared.packet.Name.{Name}
 use Rattle.do_class.specs.declared.packet.Name.TheVariants.{Lent, Mine, Yours}
@@ -13,9 +14,13 @@ use Rattle.do_packet.specs.Packing.{Naming, class_at, message_weight, most_weigh
 use Rattle.do_packet.specs.Packing.{names_to, packed, packed_with, packet_with}
 use Rattle.do_packet.specs.Seen.{Sender}
 use Rattle.do_packet.specs.declared.fault.PackFault.TheVariants.{TooLarge}
-use Rattle.do_machine.specs.Context.{Context}
+use Rattle.do_machine.specs.declared.node.Stored.{Stored}
+use Rattle.do_machine.specs.Context.{Context, class_seen, own_class}
+use Rattle.do_machine.specs.Objects.{object_at}
+use Rattle.do_machine.specs.State.{is_own, stored}
 use Rattle.do_machine.specs.Packing.{packed_for, packer}
-use Rattle.do_facts.proofs.links.AreLent.{AreLent, is_usable}
+use Rattle.do_facts.specs.links.Moves.{is_there}
+use Rattle.do_facts.proofs.links.AreNamed.{AreNamed, NamedBy}
 use Rattle.do_facts.proofs.links.NamedInMessages.{IsNameable, all_nameable}
 
 module _ (s : Sender) (to : ℕ) where
@@ -55,67 +60,91 @@ module _ (s : Sender) (to : ℕ) where
       go false true = append_assoc n.names (Yours o.serial ∷ []) _
       go false false = append_assoc n.names (Lent o (class_at s o) n.token ∷ []) _
 
-  -- they are lent one after another, where the foreign ones may be named
-  from_lent : (os : List ObjectName) (token : ℕ) → AllByRecursion (IsNameable s) os →
-      AreLent s.seen.usable token (names_from token os)
-  from_lent [] token may = tt
-  from_lent (o ∷ os) token may =
-      go (o.node == s.node) (o.node == to) may.0 (from_lent os token may.1)
-      (from_lent os (suc token) may.1)
-    where
-      go : (b c : Bool) → (b || s.seen.usable o) ≡ true →
-          AreLent s.seen.usable token (names_from token os) →
-          AreLent s.seen.usable (suc token) (names_from (suc token) os) →
-          AreLent s.seen.usable token (cond b (Mine o.serial (class_at s o) ∷ names_from token os)
-          (cond c (Yours o.serial ∷ names_from token os)
-          (Lent o (class_at s o) token ∷ names_from (suc token) os)))
-      go true c e x y = x
-      go false true e x y = x
-      go false false e x y = (refl, e, y)
+  module _ (own : ℕ → Bool) (owned : (o : ObjectName) → (o.node == s.node) ≡ true →
+      is_some (s.seen.class_of o) ≡ true → own o.serial ≡ true) where
+    -- such names, from a token on
+    abbrev Named : ℕ → List Name → Type 0
+    Named token names = AreNamed own s.seen.usable to token names
 
-  -- and so are the names of a message
-  pub to_lent : (token : ℕ) (values : List Placed) (copies : List ObjectName) →
-      AreLent s.seen.usable token (names_to s to token (names_with s values copies))
-  to_lent token values copies =
-      let os = names_with s values copies in
-      subst (AreLent s.seen.usable token)
-      (sym (names_behind os (record { names = []; token = token })))
-      (from_lent os token (all_nameable s values copies))
+    -- they are named one after another, where the objects may be named
+    from_named : (os : List ObjectName) (token : ℕ) → AllByRecursion (IsNameable s) os →
+        Named token (names_from token os)
+    from_named [] token may = tt
+    from_named (o ∷ os) token may =
+        go (o.node == s.node) (o.node == to) refl refl may.0.0 (from_named os token may.1)
+        (from_named os (suc token) may.1)
+      where
+        go : (b c : Bool) → (o.node == s.node) ≡ b → (o.node == to) ≡ c →
+            (b || s.seen.usable o) ≡ true → Named token (names_from token os) →
+            Named (suc token) (names_from (suc token) os) →
+            Named token (cond b (Mine o.serial (class_at s o) ∷ names_from token os)
+            (cond c (Yours o.serial ∷ names_from token os)
+            (Lent o (class_at s o) token ∷ names_from (suc token) os)))
+        go true c e f u x y = (owned o e may.0.1, x)
+        go false true e f u x y =
+            (ap (λ p. s.seen.usable (object_at p o.serial)) (sym (eqb-true o.node to f)) ∙ u, x)
+        go false false e f u x y = (refl, u, y)
 
-  -- those of a message within the limits
-  abbrev IsLentIf : ℕ → Option Packet → Type 0
-  IsLentIf token None = Unit {0}
-  IsLentIf token (Some packet) = AreLent s.seen.usable token packet.names
+    -- and so are the names of a message
+    pub to_named : (token : ℕ) (values : List Placed) (copies : List ObjectName) →
+        Named token (names_to s to token (names_with s values copies))
+    to_named token values copies =
+        let os = names_with s values copies in
+        subst (Named token)
+        (sym (names_behind os (record { names = []; token = token })))
+        (from_named os token (all_nameable s values copies))
 
-  with_lent : (token : ℕ) (values : List Placed) (copies : List ObjectName) →
-      IsLentIf token (result_ok (packed_with s to token values copies))
-  with_lent token values copies =
-      go (nat_lt most_copies (length copies))
-      (nat_lt most_weight (message_weight s values copies))
-    where
-      go : (b c : Bool) →
-          IsLentIf token (result_ok (cond b (Err (TooLarge (suc most_copies) most_copies))
-          (cond c (Err (TooLarge (message_weight s values copies) most_weight))
-          (Ok (packet_with s to token values copies (names_with s values copies))))))
-      go true c = tt
-      go false true = tt
-      go false false = to_lent token values copies
+    -- those of a message within the limits
+    abbrev NamedIf : ℕ → Option Packet → Type 0
+    NamedIf token None = Unit {0}
+    NamedIf token (Some packet) = Named token packet.names
 
-  -- those of any message
-  packed_lent : (token : ℕ) (values : List Placed) →
-      IsLentIf token (result_ok (packed s to token values))
-  unfolding packed
-  packed_lent token values = with_lent token values (copies_of s values)
+    with_named : (token : ℕ) (values : List Placed) (copies : List ObjectName) →
+        NamedIf token (result_ok (packed_with s to token values copies))
+    with_named token values copies =
+        go (nat_lt most_copies (length copies))
+        (nat_lt most_weight (message_weight s values copies))
+      where
+        go : (b c : Bool) →
+            NamedIf token (result_ok (cond b (Err (TooLarge (suc most_copies) most_copies))
+            (cond c (Err (TooLarge (message_weight s values copies) most_weight))
+            (Ok (packet_with s to token values copies (names_with s values copies))))))
+        go true c = tt
+        go false true = tt
+        go false false = to_named token values copies
+
+    -- those of any message
+    packed_named : (token : ℕ) (values : List Placed) →
+        NamedIf token (result_ok (packed s to token values))
+    unfolding packed
+    packed_named token values = with_named token values (copies_of s values)
+
+-- an own object of which a node sees the class is stored
+pub owned : (c : Context) (o : ObjectName) → is_own c.node o ≡ true →
+    is_some (class_seen c o) ≡ true → is_there c.node.heap o.serial ≡ true
+owned c o e h = go (is_own c.node o) e h
+  where
+    there : (found : Option Stored) → is_some (option_map (λ x. x.class) found) ≡ true →
+        is_some found ≡ true
+    there None k = absurd (cc)
+    there (Some x) k = refl
+
+    go : (b : Bool) → b ≡ true →
+        is_some (cond b (own_class c.node o.serial) (c.around.class_of o)) ≡ true →
+        is_there c.node.heap o.serial ≡ true
+    go true f k = there (stored o.serial c.node.heap) k
+    go false f k = absurd (cc)
 
 -- the names of what a node packs have its next tokens, of objects that it may name
 pub names_lent : (c : Context) (to : ℕ) (values : List Placed) (packet : Packet) →
-    packed_for c to values ≡ Some packet → AreLent (is_usable c.node) c.node.next_token packet.names
+    packed_for c to values ≡ Some packet → NamedBy c.node to packet.names
 names_lent c to values packet h =
-    go (packed_for c to values) (packed_lent (packer c) to c.node.next_token values) h
+    go (packed_for c to values)
+    (packed_named (packer c) to (is_there c.node.heap) (owned c) c.node.next_token values) h
   where
-    go : (found : Option Packet) → IsLentIf (packer c) to c.node.next_token found →
-        found ≡ Some packet → AreLent (is_usable c.node) c.node.next_token packet.names
+    go : (found : Option Packet) →
+        NamedIf (packer c) to (is_there c.node.heap) (owned c) c.node.next_token found →
+        found ≡ Some packet → NamedBy c.node to packet.names
     go None n e = absurd (cc)
     go (Some p) n e =
-        subst (λ x. AreLent (is_usable c.node) c.node.next_token x.names)
-        (ap (λ x. unwrap_or x p) e) n
+        subst (λ x. NamedBy c.node to x.names) (ap (λ x. unwrap_or x p) e) n

@@ -23,13 +23,16 @@ use Rattle.do_machine.specs.Step.{moved_by, step}
 use Rattle.do_machine.specs.ends.Closing.{closing}
 use Rattle.do_machine.specs.ends.TimeOut.{time_out}
 use Rattle.do_machine.specs.run.Run.{Acting, run_effect}
-use Rattle.do_machine.specs.take.Take.{can_take, take_effect}
-use Rattle.do_facts.specs.steps.IsStep.{Acts, Checks, IsActOf, IsStep, Loses, Skips, Takes}
+use Rattle.do_machine.specs.take.Take.{can_serve, can_take, take_effect}
+use Rattle.do_machine.proofs.follows.Steps.{first_of}
+use Rattle.do_facts.specs.steps.IsStep.{Acts, Checks, IsActOf, IsRuleOf, IsStep, Loses, Skips}
+use Rattle.do_facts.specs.steps.IsStep.{Takes}
+use Rattle.do_facts.proofs.AsksOverOpenEnds.{not_closed}
 
-module _ (S : State) where
+module _ (table : List Class) (act : Acting) (S : State) where
   -- what comes of an event, if it is enabled, is a step
   abbrev Here : Event → Option Stepped → Type 0
-  Here event found = IsStep S event (unwrap_or found (skipped S))
+  Here event found = IsStep table act S event (unwrap_or found (skipped S))
 
   -- an event that a test may skip
   unless : (event : Event) (b : Bool) (found : Option Stepped) →
@@ -41,16 +44,20 @@ module _ (S : State) where
 
   -- where there is an effect
   by_effect : (event : Event) (port : ℕ) (n : Node) → IsActOf port event →
-      node S port ≡ Some n → (e : Option Effect) → Here event (moved_by port S e)
-  by_effect event port n own here None = Skips refl
-  by_effect event port n own here (Some e) = Acts port n e own here refl
+      node S port ≡ Some n → (e : Option Effect) →
+      ((d : Effect) → e ≡ Some d → IsRuleOf table act S event n d) →
+      Here event (moved_by port S e)
+  by_effect event port n own here None rule = Skips refl
+  by_effect event port n own here (Some e) rule = Acts port n e own here (rule e refl) refl
 
   -- where there is a node
   by_node : (event : Event) (port : ℕ) → IsActOf port event → (f : Node → Option Effect) →
+      ((n : Node) (d : Effect) → f n ≡ Some d → IsRuleOf table act S event n d) →
       (found : Option Node) → node S port ≡ found →
       Here event (moved_by port S (option_and_then f found))
-  by_node event port own f None here = Skips refl
-  by_node event port own f (Some n) here = by_effect event port n own here (f n)
+  by_node event port own f rule None here = Skips refl
+  by_node event port own f rule (Some n) here =
+      by_effect event port n own here (f n) (rule n)
 
   -- a close
   by_close : (port peer : ℕ) (found : Option Node) → node S port ≡ found →
@@ -61,11 +68,11 @@ module _ (S : State) where
   by_close port peer None here = Skips refl
   by_close port peer (Some n) here =
       unless (Close port peer) (not (is_open n peer)) (Some (moved port S (closing peer n)))
-      (λ q. Acts port n (closing peer n) refl here refl)
+      (λ q. Acts port n (closing peer n) refl here (not_closed (is_open n peer) q, refl) refl)
 
   -- ---- a take
 
-  module _ (table : List Class) (port from : ℕ) where
+  module _ (port from : ℕ) where
     -- the state with these items left in the queue
     abbrev left : List Item → State
     left rest = change from (with_queue port rest) S
@@ -79,19 +86,19 @@ module _ (S : State) where
     ]
 
     -- an item that waits
-    by_item : (n : Node) → node S port ≡ Some n → (w : List Item) →
+    by_item : (n : Node) → node S port ≡ Some n → is_open n from ≡ true → (w : List Item) →
         queue S from port ≡ Some w → Here (Take port from) (taken n w)
-    by_item n here [] waits = Skips refl
-    by_item n here (item ∷ rest) waits =
+    by_item n here ends [] waits = Skips refl
+    by_item n here ends (item ∷ rest) waits =
         Takes port from n item rest (take_effect (context table (left rest) n) from item) refl
-        here waits refl
+        here (ends, refl) waits refl
 
     -- a queue
-    by_queue : (n : Node) → node S port ≡ Some n → (found : Option (List Item)) →
-        queue S from port ≡ found →
+    by_queue : (n : Node) → node S port ≡ Some n → is_open n from ≡ true →
+        (found : Option (List Item)) → queue S from port ≡ found →
         Here (Take port from) (elim found [ None ↦ None | Some w ↦ taken n w ])
-    by_queue n here None waits = Skips refl
-    by_queue n here (Some w) waits = by_item n here w waits
+    by_queue n here ends None waits = Skips refl
+    by_queue n here ends (Some w) waits = by_item n here ends w waits
 
     -- a node
     by_take : (found : Option Node) → node S port ≡ found → Here (Take port from) (elim found [
@@ -103,7 +110,8 @@ module _ (S : State) where
     by_take (Some n) here =
         unless (Take port from) (not (can_take from n))
         (elim (queue S from port) [ None ↦ None | Some w ↦ taken n w ])
-        (λ q. by_queue n here (queue S from port) refl)
+        (λ q. by_queue n here (first_of (is_open n from) (can_serve n.stack) q)
+        (queue S from port) refl)
 
   -- ---- a loss
 
@@ -147,16 +155,18 @@ module _ (S : State) where
     by_loss None = Skips refl
     by_loss (Some n) = by_end (not (is_open n from))
 
-  -- every event
-  pub step_is : (table : List Class) (act : Acting) (event : Event) →
-      IsStep S event (step table act S event)
-  step_is table act (Start port selector values) =
-      by_node (Start port selector values) port refl (start_effect table selector values)
-      (node S port) refl
-  step_is table act (Run port) =
-      by_node (Run port) port refl (λ n. run_effect act (context table S n)) (node S port) refl
-  step_is table act (Take port from) = by_take table port from (node S port) refl
-  step_is table act (Close port peer) = by_close port peer (node S port) refl
-  step_is table act (Lose from to k) = by_loss from to k (node S to)
-  step_is table act (Timeout port) = by_node (Timeout port) port refl time_out (node S port) refl
-  step_is table act Check = Checks refl refl
+-- every event
+pub step_is : (S : State) (table : List Class) (act : Acting) (event : Event) →
+    IsStep table act S event (step table act S event)
+step_is S table act (Start port selector values) =
+    by_node table act S (Start port selector values) port refl
+    (start_effect table selector values) (λ n d q. q) (node S port) refl
+step_is S table act (Run port) =
+    by_node table act S (Run port) port refl (λ n. run_effect act (context table S n))
+    (λ n d q. q) (node S port) refl
+step_is S table act (Take port from) = by_take table act S port from (node S port) refl
+step_is S table act (Close port peer) = by_close table act S port peer (node S port) refl
+step_is S table act (Lose from to k) = by_loss table act S from to k (node S to)
+step_is S table act (Timeout port) =
+    by_node table act S (Timeout port) port refl time_out (λ n d q. q) (node S port) refl
+step_is S table act Check = Checks refl refl

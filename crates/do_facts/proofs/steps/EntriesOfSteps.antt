@@ -11,6 +11,8 @@ use Rattle.do_base.specs.declared.events.event.Event.TheVariants.{Check, Close, 
 use Rattle.do_base.specs.declared.events.event.Event.TheVariants.{Take, Timeout}
 use Rattle.do_base.specs.names.Names.{ObjectName}
 use Rattle.do_packet.specs.Met.{has_object}
+use Rattle.do_class.specs.Class.{Class}
+use Rattle.do_machine.specs.run.Run.{Acting}
 use Rattle.do_machine.specs.declared.item.Item.{Item}
 use Rattle.do_machine.specs.declared.item.Item.TheVariants as items
 use Rattle.do_machine.specs.declared.node.Node.{Node}
@@ -93,20 +95,23 @@ act_elsewhere Check p from to h = absurd h
 
 -- a test of items that an end does not pass finds as much in a queue between nodes that the event
 -- is no step of
-test_stays : (f : Item → Bool) → f (items.End []) ≡ false → (S : State) (event : Event)
-    (s : Stepped) → IsStep S event s → (from to : ℕ) → IsNoStepOf from event →
+test_stays : (f : Item → Bool) → f (items.End []) ≡ false → {table : List Class} {act : Acting}
+    (S : State) (event : Event) (s : Stepped) → IsStep table act S event s → (from to : ℕ) →
+    IsNoStepOf from event →
     IsNoStepOf to event →
     some_passes (list_any f) (queue s.state from to)
     ≡ some_passes (list_any f) (queue S from to)
 test_stays f ends S event s (Skips e) from to h k =
     ap (λ x. some_passes (list_any f) (queue x.state from to)) e
-test_stays f ends S event s (Acts port n d own here e) from to h k =
+test_stays f ends {table} {act} S event s (Acts port n d own here rule e) from to h k =
     ap (some_passes (list_any f))
-    (queue_stays S event s (Acts port n d own here e) from to h
+    (queue_stays {table = table} {act = act} S event s (Acts port n d own here rule e) from to h
     (act_elsewhere event port from to own))
-test_stays f ends S event s (Takes port peer n item rest d is here waits e) from to h k =
+test_stays f ends {table} {act} S event s (Takes port peer n item rest d is here rule waits e) from
+    to h k =
     ap (some_passes (list_any f))
-    (queue_stays S event s (Takes port peer n item rest d is here waits e) from to h
+    (queue_stays {table = table} {act = act} S event s
+    (Takes port peer n item rest d is here rule waits e) from to h
     (ap (λ x. touches x from to) is
     ∙ take_elsewhere port peer from to (subst (IsNoStepOf to) is k)))
 test_stays f ends S event s (Loses a b j waiting is waits few e) from to h k =
@@ -116,7 +121,8 @@ test_stays f ends S event s (Checks is e) from to h k =
     ap (λ x. some_passes (list_any f) (queue x.state from to)) e
 
 -- a step of a third node, and a loss, changes no entry
-pub entry_stays : (S : State) (event : Event) (s : Stepped) → IsStep S event s → (peer : ℕ)
+pub entry_stays : {table : List Class} {act : Acting} (S : State)
+    (event : Event) (s : Stepped) → IsStep table act S event s → (peer : ℕ)
     (o : ObjectName) → IsNoStepOf o.node event → IsNoStepOf peer event →
     has_entry s.state peer o ≡ has_entry S peer o
 entry_stays S event s is peer o h k =

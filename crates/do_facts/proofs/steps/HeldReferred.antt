@@ -54,14 +54,15 @@ after_move P left port n e S here each other m h = go (other == port) refl
 
 -- and so after any step
 pub after_step : (P : Node → Type 0) → ((entry : ℕ → ℕ → Bool) (m : Node) →
-    P (leaving entry m).node) → (S : State) (event : Event) (s : Stepped) → IsStep S event s →
+    P (leaving entry m).node) → {table : List Class} {act : Acting} (S : State)
+    (event : Event) (s : Stepped) → IsStep table act S event s →
     ((other : ℕ) (m : Node) → node S other ≡ Some m → P m) →
     (other : ℕ) (m : Node) → node s.state other ≡ Some m → P m
 after_step P left S event s (Skips e) each other m h =
     each other m (ap (λ x. node x.state other) (sym e) ∙ h)
-after_step P left S event s (Acts port n d own here e) each other m h =
+after_step P left S event s (Acts port n d own here rule e) each other m h =
     after_move P left port n d S here each other m (ap (λ x. node x.state other) (sym e) ∙ h)
-after_step P left S event s (Takes port from n item rest d is here waits e) each other m h =
+after_step P left S event s (Takes port from n item rest d is here rule waits e) each other m h =
     let U = change from (with_queue port rest) S in
     after_move P left port n d U (requeued from port port rest S.stations ∙ here)
     (λ p k q. each p k (sym (requeued from port p rest S.stations) ∙ q)) other m

@@ -8,6 +8,8 @@ use Rattle.do_base.specs.declared.events.event.Event.TheVariants.{Check, Close, 
 use Rattle.do_base.specs.declared.events.event.Event.TheVariants.{Take, Timeout}
 use Rattle.do_base.specs.names.Names.{ObjectName}
 use Rattle.do_class.specs.declared.ids.ClassId.{ClassId}
+use Rattle.do_class.specs.Class.{Class}
+use Rattle.do_machine.specs.run.Run.{Acting}
 use Rattle.do_machine.specs.declared.item.Item.{Item}
 use Rattle.do_machine.specs.declared.item.Item.TheVariants as items
 use Rattle.do_machine.specs.declared.node.Node.{Node}
@@ -68,13 +70,14 @@ move_leaves_own port n e S here =
     (changed port e n S.stations here)
 
 -- a node that the event is no step of stays
-pub node_stays : (S : State) (event : Event) (s : Stepped) → IsStep S event s → (other : ℕ) →
+pub node_stays : {table : List Class} {act : Acting} (S : State)
+    (event : Event) (s : Stepped) → IsStep table act S event s → (other : ℕ) →
     IsNoStepOf other event → node s.state other ≡ node S other
 node_stays S event s (Skips e) other h = ap (λ x. node x.state other) e
-node_stays S event s (Acts port n d own here e) other h =
+node_stays S event s (Acts port n d own here rule e) other h =
     ap (λ x. node x.state other) e
     ∙ move_leaves_others port other d S (apart_act event port other own h)
-node_stays S event s (Takes port from n item rest d is here waits e) other h =
+node_stays S event s (Takes port from n item rest d is here rule waits e) other h =
     ap (λ x. node x.state other) e
     ∙ move_leaves_others port other d (change from (with_queue port rest) S)
     (subst (IsNoStepOf other) is h)
@@ -105,12 +108,13 @@ module _ (o : ObjectName) (class : ClassId) where
       (stays port e o class S.stations h)
 
   -- a class that was given stays
-  pub class_stays : (S : State) (event : Event) (s : Stepped) → IsStep S event s →
+  pub class_stays : {table : List Class} {act : Acting} (S : State)
+      (event : Event) (s : Stepped) → IsStep table act S event s →
       class_of S o ≡ Some class → class_of s.state o ≡ Some class
   class_stays S event s (Skips e) h = ap (λ x. class_of x.state o) e ∙ h
-  class_stays S event s (Acts port n d own here e) h =
+  class_stays S event s (Acts port n d own here rule e) h =
       ap (λ x. class_of x.state o) e ∙ class_moved port d S h
-  class_stays S event s (Takes port from n item rest d is here waits e) h =
+  class_stays S event s (Takes port from n item rest d is here rule waits e) h =
       ap (λ x. class_of x.state o) e
       ∙ class_moved port d (change from (with_queue port rest) S)
       (class_requeued from port rest o S.stations ∙ h)

@@ -7,6 +7,8 @@ use Rattle.std.specs.List.{insert}
 use Rattle.std.proofs.lemmas.Bool.{eqb-true}
 use Rattle.do_base.specs.declared.events.event.Event.{Event}
 use Rattle.do_base.specs.declared.events.event.Event.TheVariants.{Lose, Take}
+use Rattle.do_class.specs.Class.{Class}
+use Rattle.do_machine.specs.run.Run.{Acting}
 use Rattle.do_machine.specs.declared.item.Item.{Item}
 use Rattle.do_machine.specs.declared.item.Item.TheVariants as items
 use Rattle.do_machine.specs.declared.state.Effect.{Effect}
@@ -52,14 +54,15 @@ requeue_leaves a b items S from to h = go (to == b) refl h
         first false q = refl
 
 -- a queue of another node, which the event does not touch, stays
-pub queue_stays : (S : State) (event : Event) (s : Stepped) → IsStep S event s →
+pub queue_stays : {table : List Class} {act : Acting} (S : State)
+    (event : Event) (s : Stepped) → IsStep table act S event s →
     (from to : ℕ) → IsNoStepOf from event → touches event from to ≡ false →
     queue s.state from to ≡ queue S from to
 queue_stays S event s (Skips e) from to h t = ap (λ x. queue x.state from to) e
-queue_stays S event s (Acts port n d own here e) from to h t =
+queue_stays S event s (Acts port n d own here rule e) from to h t =
     ap (λ x. queue x.state from to) e
     ∙ move_leaves_queues port from to d S (apart_act event port from own h)
-queue_stays S event s (Takes port peer n item rest d is here waits e) from to h t =
+queue_stays S event s (Takes port peer n item rest d is here rule waits e) from to h t =
     ap (λ x. queue x.state from to) e
     ∙ move_leaves_queues port from to d (change peer (with_queue port rest) S)
     (subst (IsNoStepOf from) is h)
@@ -101,14 +104,15 @@ move_grows port from to e S waiting h = go (from == port) refl
         )
 
 -- what waits in a queue that the event does not touch waits there still, before what is sent
-pub queue_grows : (S : State) (event : Event) (s : Stepped) → IsStep S event s →
+pub queue_grows : {table : List Class} {act : Acting} (S : State)
+    (event : Event) (s : Stepped) → IsStep table act S event s →
     (from to : ℕ) (waiting : List Item) → touches event from to ≡ false →
     queue S from to ≡ Some waiting → StandBehind s.state from to waiting
 queue_grows S event s (Skips e) from to w t h =
     none_behind s.state from to w (ap (λ x. queue x.state from to) e ∙ h)
-queue_grows S event s (Acts port n d own here e) from to w t h =
+queue_grows S event s (Acts port n d own here rule e) from to w t h =
     subst (λ x. StandBehind x.state from to w) (sym e) (move_grows port from to d S w h)
-queue_grows S event s (Takes port peer n item rest d is here waits e) from to w t h =
+queue_grows S event s (Takes port peer n item rest d is here rule waits e) from to w t h =
     let U = change peer (with_queue port rest) S in
     subst (λ x. StandBehind x.state from to w) (sym e)
     (move_grows port from to d U w
@@ -132,11 +136,12 @@ not_skipped S s e on = no (sym on ∙ ap (λ x. x.outcome.enabled) e)
     no q = cc
 
 -- a take that is enabled takes the oldest item
-pub takes_oldest : (S : State) (port from : ℕ) (s : Stepped) → IsStep S (Take port from) s →
+pub takes_oldest : {table : List Class} {act : Acting} (S : State) (port from : ℕ)
+    (s : Stepped) → IsStep table act S (Take port from) s →
     s.outcome.enabled ≡ true → (from == port) ≡ false → IsTaken S s.state from port
 takes_oldest S port from s (Skips e) on apart = absurd (not_skipped S s e on)
-takes_oldest S port from s (Acts p n d own here e) on apart = absurd own
-takes_oldest S port from s (Takes p peer n item rest d is here waits e) on apart =
+takes_oldest S port from s (Acts p n d own here rule e) on apart = absurd own
+takes_oldest S port from s (Takes p peer n item rest d is here rule waits e) on apart =
     let same : port ≡ p = cc (is) in
     let other : from ≡ peer = cc (is) in
     let T = (moved p (change peer (with_queue p rest) S) d).state in
@@ -154,11 +159,12 @@ takes_oldest S port from s (Loses a b k waiting is waits few e) on apart = absur
 takes_oldest S port from s (Checks is e) on apart = absurd (cc (is))
 
 -- a loss that is enabled puts one end into the queue
-pub loses_one : (S : State) (from to k : ℕ) (s : Stepped) → IsStep S (Lose from to k) s →
+pub loses_one : {table : List Class} {act : Acting} (S : State) (from to k : ℕ)
+    (s : Stepped) → IsStep table act S (Lose from to k) s →
     s.outcome.enabled ≡ true → IsLost S s.state from to k
 loses_one S from to k s (Skips e) on = absurd (not_skipped S s e on)
-loses_one S from to k s (Acts p n d own here e) on = absurd own
-loses_one S from to k s (Takes p peer n item rest d is here waits e) on = absurd (cc (is))
+loses_one S from to k s (Acts p n d own here rule e) on = absurd own
+loses_one S from to k s (Takes p peer n item rest d is here rule waits e) on = absurd (cc (is))
 loses_one S from to k s (Loses a b j waiting is waits few e) on =
     let first : from ≡ a = cc (is) in
     let second : to ≡ b = cc (is) in

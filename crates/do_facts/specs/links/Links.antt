@@ -9,21 +9,26 @@ use Rattle.do_machine.specs.declared.item.Item.{Item}
 use Rattle.do_machine.specs.declared.item.Item.TheVariants as items
 use Rattle.do_machine.specs.declared.node.Lend.{Lend}
 use Rattle.do_machine.specs.declared.node.Node.{Node}
+use Rattle.do_machine.specs.declared.node.Stored.{Stored}
 use Rattle.do_machine.specs.declared.node.Wanted.{Wanted}
 use Rattle.do_facts.specs.View.{View}
 
--- the ends of a node that are open, what it holds, lends and asks for, and its next token
+-- the ends of a node that are open, what it holds, lends and asks for, its next token, what it
+-- stores, and its next serial
 pub record Links : Type 0 where
   pub open_to : List ℕ
   pub held : List ObjectName
   pub lent : List Lend
   pub asked : List Wanted
   pub token : ℕ
+  pub heap : List Stored
+  pub serial : ℕ
 
 -- what one item says of one object. A serial is of an object of the sender in a name, a grant and a
--- refusal, of the receiver in an ask, a release and an end
+-- refusal, of the receiver in a mention, an ask, a release and an end
 pub data Atom : Type 0 where
   Mine : (serial : ℕ) → Atom
+  Yours : (serial : ℕ) → Atom
   Lent : (object : ObjectName) → (token : ℕ) → Atom
   Ask : (serial : ℕ) → (token : TokenName) → Atom
   Granted : (serial : ℕ) → (token : TokenName) → Atom
@@ -40,16 +45,26 @@ links_of n = record {
   lent = n.lent;
   asked = n.asked;
   token = n.next_token;
+  heap = n.heap;
+  serial = n.next_serial;
 }
 
 -- a port without a node has nothing
 abbrev pub no_links : Links
-no_links = record { open_to = []; held = []; lent = []; asked = []; token = 0 }
+no_links = record {
+  open_to = [];
+  held = [];
+  lent = [];
+  asked = [];
+  token = 0;
+  heap = [];
+  serial = 0;
+}
 
 -- the atoms of a name
 abbrev pub name_atoms : Name → List Atom
 name_atoms (names.Mine serial class) = Mine serial ∷ []
-name_atoms (names.Yours serial) = []
+name_atoms (names.Yours serial) = Yours serial ∷ []
 name_atoms (names.Lent o class token) = Lent o token ∷ []
 
 -- the atoms of a message
@@ -58,8 +73,8 @@ packet_atoms packet = flat_map name_atoms packet.names
 
 -- the atoms of an item
 abbrev pub atoms : Item → List Atom
-atoms (items.Call number m) = packet_atoms m.packet
-atoms (items.Oneway m) = packet_atoms m.packet
+atoms (items.Call number m) = Yours m.target ∷ packet_atoms m.packet
+atoms (items.Oneway m) = Yours m.target ∷ packet_atoms m.packet
 atoms (items.Reply number packet) = packet_atoms packet
 atoms (items.RootAnswer number packet) = packet_atoms packet
 atoms (items.Ask serial token) = Ask serial token ∷ []

@@ -1,25 +1,29 @@
 -- How what a node has of foreign objects moves.
-use Rattle.std.specs.Prelude.{Bool, List, [], false, filter, if◌then◌else◌, not, suc, true, ℕ}
-use Rattle.std.specs.Prelude.{◌&&◌, ◌++◌, ◌==◌, ◌||◌, ◌∷◌, ◌≡◌}
+use Rattle.std.specs.Prelude.{Bool, List, [], false, filter, if◌then◌else◌, is_some, not, suc, true}
+use Rattle.std.specs.Prelude.{ℕ, ◌&&◌, ◌++◌, ◌<◌, ◌==◌, ◌||◌, ◌∷◌, ◌≡◌, ◌≤◌}
 use Rattle.std.specs.List.{list_any}
 use Rattle.do_base.specs.names.Names.{ObjectName, TokenName}
 use Rattle.do_packet.specs.Met.{has_object, same_object}
 use Rattle.do_machine.specs.declared.node.Lend.{Lend}
+use Rattle.do_machine.specs.declared.node.Stored.{Stored}
 use Rattle.do_machine.specs.declared.node.Wanted.{Wanted}
 use Rattle.do_machine.specs.Lists.{inserted}
 use Rattle.do_machine.specs.Objects.{joined, object_at}
+use Rattle.do_machine.specs.State.{stored}
 use Rattle.do_machine.specs.ends.Closing.{serials_of}
 use Rattle.do_machine.specs.lend.Asking.{same_wanted, wanted, wanted_lt}
 use Rattle.do_machine.specs.lend.Lending.{is_lend}
 use Rattle.do_facts.specs.Net.{Note}
 use Rattle.do_facts.specs.Moves.{Rules}
 use Rattle.do_facts.specs.links.Links.{Atom, Ask, End, Gone, Granted, Left, Lent, Links, Mine}
-use Rattle.do_facts.specs.links.Links.{Settled}
+use Rattle.do_facts.specs.links.Links.{Settled, Yours}
 
 -- a move of a node; where a lend is over, the last argument says whether the lender is told
 pub data Move : Type 0 where
   -- an own object is named to a peer
   Names : (to : ℕ) → (serial : ℕ) → Move
+  -- an object of a peer is named to it
+  Mentions : (to : ℕ) → (serial : ℕ) → Move
   -- a third node's object is named to a peer, under the next token
   Lends : (to : ℕ) → (object : ObjectName) → Move
   -- an object that is held is left
@@ -48,6 +52,12 @@ pub data Move : Type 0 where
   Frees : (from : ℕ) → (serial : ℕ) → Move
   -- the peer closed its end
   Ends : (from : ℕ) → (serials : List ℕ) → Move
+  -- a peer named an own object
+  Hears : (from : ℕ) → (serial : ℕ) → Move
+  -- objects are made or written to, so that these are stored and this is the next serial
+  Stores : (heap : List Stored) → (serial : ℕ) → Move
+  -- objects are freed, and these are left
+  Strikes : (heap : List Stored) → Move
 
 -- the end towards a peer is open
 abbrev pub opens : Links → ℕ → Bool
@@ -67,6 +77,20 @@ abbrev pub is_in_use : Links → ObjectName → Bool
 is_in_use p o =
     list_any (λ l. same_object o l.object) p.lent
     || list_any (λ w. same_object o w.object) p.asked
+
+-- an object of a serial is among these
+abbrev pub is_there : List Stored → ℕ → Bool
+is_there heap serial = is_some (stored serial heap)
+
+-- an own object is stored
+abbrev pub stores : Links → ℕ → Bool
+stores p serial = is_there p.heap serial
+
+-- these are what is stored, perhaps written to, and new objects below this serial
+pub record IsGrown (p : Links) (heap : List Stored) (serial : ℕ) : Type 0 where
+  pub kept : (s : ℕ) → stores p s ≡ true → is_there heap s ≡ true
+  pub given : (s : ℕ) → is_there heap s ≡ true → s < serial
+  pub next : p.serial ≤ serial
 
 -- an object joins those held
 abbrev pub with_held : ObjectName → Links → Links
@@ -106,6 +130,8 @@ moved p (Misses from serial token told) =
 moved p (Settles from number) =
     record p { lent = filter (λ l. not (is_lend from number l)) p.lent }
 moved p (Ends from serials) = closed from p
+moved p (Stores heap serial) = record p { heap = heap; serial = serial }
+moved p (Strikes heap) = record p { heap = heap }
 moved p _ = p
 
 -- an atom that goes to a peer, or comes from it
@@ -129,11 +155,13 @@ takes (Misses from serial token told) = note from (Gone serial token)
 takes (Settles from number) = note from (Settled number)
 takes (Frees from serial) = note from (Left serial)
 takes (Ends from serials) = note from (End serials)
+takes (Hears from serial) = note from (Yours serial)
 takes _ = []
 
 -- what a move posts
 abbrev pub posts : Links → Move → List (Note Atom)
 posts p (Names to serial) = note to (Mine serial)
+posts p (Mentions to serial) = note to (Yours serial)
 posts p (Lends to o) = note to (Lent o p.token)
 posts p (Leaves o) = note o.node (Left o.serial)
 posts p (Closes peer) = note peer (End (serials_of peer p.held))
@@ -149,9 +177,12 @@ posts p (Ends from serials) = note from (End (serials_of from p.held))
 posts p _ = []
 
 -- when a move may be made: what it posts goes over an open end, and what it takes comes over one.
--- A node lends what it holds or asks for, and leaves what it neither lends nor asks for
+-- A node names what it stores, holds or asks for, leaves what it neither lends nor asks for, and
+-- grants what it stores
 abbrev pub may : Links → Move → Type 0
-may p (Names to serial) = opens p to ≡ true
+may p (Names to serial) = (opens p to ≡ true) × (stores p serial ≡ true)
+may p (Mentions to serial) =
+    (opens p to ≡ true) × (may_name p (object_at to serial) ≡ true)
 may p (Lends to o) = (opens p to ≡ true) × (may_name p o ≡ true)
 may p (Leaves o) =
     (opens p o.node ≡ true) × (has_object p.held o ≡ true) × (is_in_use p o ≡ false)
@@ -164,14 +195,17 @@ may p (Asks from o token) = (opens p from ≡ true) × (opens p o.node ≡ true)
 may p (AsksOnce from o token) = (opens p from ≡ true) × (opens p o.node ≡ true)
     × (has_wanted p (wanted o from token) ≡ true)
 may p (Returns from o token) = (opens p from ≡ true) × (opens p o.node ≡ false)
-may p (Grants from serial token) = opens p from ≡ true
-may p (Refuses from serial token) = opens p from ≡ true
+may p (Grants from serial token) = (opens p from ≡ true) × (stores p serial ≡ true)
+may p (Refuses from serial token) = (opens p from ≡ true) × (stores p serial ≡ false)
 may p (Receives from serial token told) =
     (opens p from ≡ true) × (opens p token.lender ≡ told)
 may p (Misses from serial token told) = (opens p from ≡ true) × (opens p token.lender ≡ told)
 may p (Settles from number) = opens p from ≡ true
 may p (Frees from serial) = opens p from ≡ true
 may p (Ends from serials) = opens p from ≡ true
+may p (Hears from serial) = opens p from ≡ true
+may p (Stores heap serial) = IsGrown p heap serial
+may p (Strikes heap) = (s : ℕ) → is_there heap s ≡ true → stores p s ≡ true
 
 -- the rules by which links move
 abbrev pub link_rules : Rules Links Atom Move

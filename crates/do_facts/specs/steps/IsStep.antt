@@ -1,8 +1,9 @@
 -- What one event comes to.
-use Rattle.std.specs.Prelude.{List, Some, [], length, ℕ, ◌∷◌, ◌≡◌, ◌≤◌}
+use Rattle.std.specs.Prelude.{List, Some, [], length, true, ℕ, ◌∷◌, ◌≡◌, ◌≤◌}
 use Rattle.std.specs.List.{insert}
 use Rattle.do_base.specs.declared.events.event.Event.{Event}
 use Rattle.do_base.specs.declared.events.event.Event.TheVariants as events
+use Rattle.do_class.specs.Class.{Class}
 use Rattle.do_machine.specs.declared.item.Item.{Item}
 use Rattle.do_machine.specs.declared.item.Item.TheVariants as items
 use Rattle.do_machine.specs.declared.node.Node.{Node}
@@ -10,7 +11,13 @@ use Rattle.do_machine.specs.declared.state.Effect.{Effect}
 use Rattle.do_machine.specs.declared.state.State.{State}
 use Rattle.do_machine.specs.declared.state.Stepped.{Stepped}
 use Rattle.do_machine.specs.Commit.{moved, showed, skipped}
-use Rattle.do_machine.specs.State.{change, node, queue, with_queue}
+use Rattle.do_machine.specs.Context.{context}
+use Rattle.do_machine.specs.Start.{start_effect}
+use Rattle.do_machine.specs.State.{change, is_open, node, queue, with_queue}
+use Rattle.do_machine.specs.ends.Closing.{closing}
+use Rattle.do_machine.specs.ends.TimeOut.{time_out}
+use Rattle.do_machine.specs.run.Run.{Acting, run_effect}
+use Rattle.do_machine.specs.take.Take.{take_effect}
 
 -- by the event the node of a port acts, and takes nothing
 abbrev pub IsActOf : ℕ → Event → Type 0
@@ -20,20 +27,41 @@ IsActOf port (events.Close actor peer) = actor ≡ port
 IsActOf port (events.Timeout actor) = actor ≡ port
 IsActOf port _ = ⊥
 
--- an event comes to one of these: it is skipped; its node moves, by one effect and by what it frees
--- and leaves then; its node takes the oldest item of one queue and moves; an end that names nothing
--- is put into one queue; or it is a check, and the state stays
-pub data IsStep (S : State) (event : Event) (s : Stepped) : Type 0 where
-  Skips : s ≡ skipped S → IsStep S event s
+-- the state once these are left of a queue
+abbrev pub without_oldest : State → ℕ → ℕ → List Item → State
+without_oldest S from port rest = change from (with_queue port rest) S
+
+-- by its rule for the event a node has this effect, and takes nothing
+abbrev pub IsRuleOf : List Class → Acting → State → Event → Node → Effect → Type 0
+IsRuleOf table act S (events.Start port selector values) n e =
+    start_effect table selector values n ≡ Some e
+IsRuleOf table act S (events.Run port) n e = run_effect act (context table S n) ≡ Some e
+IsRuleOf table act S (events.Close port peer) n e = (is_open n peer ≡ true) × (e ≡ closing peer n)
+IsRuleOf table act S (events.Timeout port) n e = time_out n ≡ Some e
+IsRuleOf table act S _ n e = ⊥
+
+-- a node that takes an item over an open end has this effect
+abbrev pub IsTakeOf : List Class → State → Node → ℕ → Item → Effect → Type 0
+IsTakeOf table T n from item e =
+    (is_open n from ≡ true) × (e ≡ take_effect (context table T n) from item)
+
+-- an event comes to one of these: it is skipped; its node moves, by the effect of the event's rule
+-- and by what it frees and leaves then; its node takes the oldest item of one queue over an open
+-- end and moves so; an end that names nothing is put into one queue; or it is a check, and the
+-- state stays
+pub data IsStep (table : List Class) (act : Acting) (S : State) (event : Event) (s : Stepped) :
+    Type 0 where
+  Skips : s ≡ skipped S → IsStep table act S event s
   Acts : (port : ℕ) → (n : Node) → (e : Effect) → IsActOf port event → node S port ≡ Some n →
-      s ≡ moved port S e → IsStep S event s
+      IsRuleOf table act S event n e → s ≡ moved port S e → IsStep table act S event s
   Takes : (port : ℕ) → (from : ℕ) → (n : Node) → (item : Item) → (rest : List Item) →
       (e : Effect) → event ≡ events.Take port from → node S port ≡ Some n →
-      queue S from port ≡ Some (item ∷ rest) →
-      s ≡ moved port (change from (with_queue port rest) S) e → IsStep S event s
+      IsTakeOf table (without_oldest S from port rest) n from item e →
+      queue S from port ≡ Some (item ∷ rest) → s ≡ moved port (without_oldest S from port rest) e →
+      IsStep table act S event s
   Loses : (from : ℕ) → (to : ℕ) → (after : ℕ) → (waiting : List Item) →
       event ≡ events.Lose from to after → queue S from to ≡ Some waiting →
       after ≤ length waiting →
       s ≡ showed [] (change from (with_queue to (insert waiting after (items.End []))) S) →
-      IsStep S event s
-  Checks : event ≡ events.Check → s ≡ showed [] S → IsStep S event s
+      IsStep table act S event s
+  Checks : event ≡ events.Check → s ≡ showed [] S → IsStep table act S event s

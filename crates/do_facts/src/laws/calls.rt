@@ -6,6 +6,7 @@ ghost use Rattle.do_machine.specs.declared.state.State.{State};
 ghost use Rattle.do_machine.specs.Step.{step};
 ghost use Rattle.do_machine.specs.World.{opening};
 ghost use Rattle.do_machine.specs.run.Run.{Acting};
+ghost use Rattle.do_facts.specs.ByEvents.{IsBy};
 ghost use Rattle.do_facts.specs.Moves.{Reaches};
 ghost use Rattle.do_facts.specs.Reached.{reached};
 ghost use Rattle.do_facts.specs.View.{net_of};
@@ -13,12 +14,14 @@ ghost use Rattle.do_facts.specs.calls.Calls.{calls};
 ghost use Rattle.do_facts.specs.calls.Facts.{AnswersAreKnown, CallsAreKept};
 ghost use Rattle.do_facts.specs.calls.Moves.{call_rules};
 
-/// Every step is a list of moves of the calls of nodes, and of losses.
+/// Every step is a list of moves of the calls of the event's node; a loss is one loss, in the queue
+/// that it names, and a check is nothing.
 ///
-/// Each move is of one node, takes one atom at most, and posts one at most, over an open end.
+/// Each move takes one atom at most, and posts one at most, over an open end.
 pub fn steps_are_moves_of_calls()
     ensures { (table : List Class) (act : Acting) (S : State) (event : Event) → CallsAreKept S →
-        Reaches call_rules (net_of calls S) (net_of calls (step table act S event).state) }
+        Reaches call_rules (IsBy event) (net_of calls S)
+        (net_of calls (step table act S event).state) }
 {}
 
 /// In every state that a machine comes to, each call is in one place.

@@ -6,6 +6,7 @@ ghost use Rattle.do_machine.specs.declared.state.State.{State};
 ghost use Rattle.do_machine.specs.Step.{step};
 ghost use Rattle.do_machine.specs.World.{opening};
 ghost use Rattle.do_machine.specs.run.Run.{Acting};
+ghost use Rattle.do_facts.specs.ByEvents.{IsBy};
 ghost use Rattle.do_facts.specs.Moves.{Reaches};
 ghost use Rattle.do_facts.specs.Reached.{reached};
 ghost use Rattle.do_facts.specs.View.{net_of};
@@ -14,12 +15,14 @@ ghost use Rattle.do_facts.specs.links.Links.{links};
 ghost use Rattle.do_facts.specs.links.LinksAreKept.{LinksAreKept};
 ghost use Rattle.do_facts.specs.links.Moves.{link_rules};
 
-/// Every step is a list of moves of what nodes have of foreign objects, and of losses.
+/// Every step is a list of moves of what the event's node has of foreign objects; a loss is one
+/// loss, in the queue that it names, and a check is nothing.
 ///
-/// Each move is of one node, takes one atom at most, and posts one at most, over an open end.
+/// Each move takes one atom at most, and posts one at most, over an open end.
 pub fn steps_are_moves()
     ensures { (table : List Class) (act : Acting) (S : State) (event : Event) → LinksAreKept S →
-        Reaches link_rules (net_of links S) (net_of links (step table act S event).state) }
+        Reaches link_rules (IsBy event) (net_of links S)
+        (net_of links (step table act S event).state) }
 {}
 
 /// In every state that a machine comes to, each lend and each ask is in one place, and a token that

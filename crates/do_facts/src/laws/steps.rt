@@ -22,14 +22,15 @@ ghost use Rattle.do_facts.specs.steps.Held.{AllReferToHeld};
 ghost use Rattle.do_facts.specs.steps.IsStep.{IsStep};
 ghost use Rattle.do_facts.specs.steps.Queues.{IsLost, IsTaken, StandBehind, touches};
 
-/// A step is two effects of one node, before which the node takes one item out of one queue at
-/// most; or it is a loss, which puts one end into one queue.
+/// A step is two effects of one node, that of the event's rule and what the node frees and leaves
+/// then; before them the node takes one item out of one queue at most. Or a step is a loss, which
+/// puts one end into one queue.
 ///
 /// So it changes no node but its own, and the class of an object that was made stays known and the
 /// same.
 pub fn steps_are_of_one_node()
     ensures form { (table : List Class) (act : Acting) (S : State) (event : Event) →
-        IsStep S event (step table act S event) }
+        IsStep table act S event (step table act S event) }
     ensures others { (table : List Class) (act : Acting) (S : State) (event : Event) (other : ℕ) →
         IsNoStepOf other event →
         node (step table act S event).state other ≡ node S other }

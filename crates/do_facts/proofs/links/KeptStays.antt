@@ -1,0 +1,89 @@
+-- What an entry holds up is kept.
+use Rattle.std.proofs.Common.{◌≡◌, ◌==◌, ◌||◌, ℕ, Bool, zero, suc, true, false, cond}
+use Rattle.std.proofs.Common.{List}
+use Rattle.std.proofs.Common.{[], ◌∷◌, filter, length, refl, ap, ◌∙◌}
+use Rattle.std.specs.Prelude.{Some, is_some}
+use Rattle.std.specs.List.{list_any}
+use Rattle.std.proofs.lemmas.Bool.{eqb-true}
+use Rattle.do_packet.specs.Met.{has_object}
+use Rattle.do_machine.specs.declared.node.Node.{Node}
+use Rattle.do_machine.specs.declared.node.Stored.{Stored}
+use Rattle.do_machine.specs.State.{own, stored}
+use Rattle.do_machine.specs.held.Kept.{is_held_up, is_root, kept, stays, struck, struck_by}
+use Rattle.do_machine.specs.held.Refers.{heap_objects, stack_objects}
+use Rattle.do_facts.specs.links.Moves.{is_there}
+
+-- an object is there still, where each of its serial passes
+there_still : (f : Stored → Bool) (s : ℕ) →
+    ((x : Stored) → (x.serial == s) ≡ true → f x ≡ true) → (heap : List Stored) →
+    is_there heap s ≡ true → is_there (filter f heap) s ≡ true
+there_still f s pass [] h = h
+there_still f s pass (x ∷ heap) h =
+    go (x.serial == s) refl (f x) refl (there_still f s pass heap) h
+  where
+    go : (b : Bool) → (x.serial == s) ≡ b → (c : Bool) → f x ≡ c →
+        (is_there heap s ≡ true → is_there (filter f heap) s ≡ true) →
+        is_some (cond b (Some x) (stored s heap)) ≡ true →
+        is_there (cond c (x ∷ filter f heap) (filter f heap)) s ≡ true
+    go true e true g rest k = ap (λ b. is_some (cond b (Some x) (stored s (filter f heap)))) e
+    go true e false g rest k = absurd (no (pass x e) g)
+      where
+        no : f x ≡ true → f x ≡ false → ⊥
+        no y z = cc
+    go false e true g rest k =
+        ap (λ b. is_some (cond b (Some x) (stored s (filter f heap)))) e ∙ rest k
+    go false e false g rest k = rest k
+
+module _ (entry : ℕ → ℕ → Bool) (n : Node) (s : ℕ) (up : is_held_up entry n s ≡ true) where
+  -- what is held up stays
+  stays_up : (heap : List Stored) (x : Stored) → (x.serial == s) ≡ true →
+      stays entry n heap x ≡ true
+  stays_up heap x e =
+      ap (λ b. b || has_object (heap_objects heap) (own n x.serial))
+      (ap (is_held_up entry n) (eqb-true x.serial s e) ∙ up)
+
+  -- through all rounds of striking
+  struck_still : (rounds : ℕ) (heap : List Stored) → is_there heap s ≡ true →
+      is_there (struck_by rounds entry n heap) s ≡ true
+  struck_still zero heap h = h
+  struck_still (suc rounds) heap h =
+      go (length (struck entry n heap) == length heap)
+      (struck_still rounds (struck entry n heap)
+      (there_still (stays entry n heap) s (stays_up heap) heap h))
+    where
+      go : (b : Bool) → is_there (struck_by rounds entry n (struck entry n heap)) s ≡ true →
+          is_there (elim b [
+            | true ↦ heap
+            | false ↦ struck_by rounds entry n (struck entry n heap)
+          ]) s ≡ true
+      go true r = h
+      go false r = r
+
+  -- so it is kept
+  pub kept_still : is_there n.heap s ≡ true → is_there (kept entry n) s ≡ true
+  kept_still h = struck_still (length n.heap) n.heap h
+
+-- an entry of a peer over an open end holds an object up
+pub entry_holds_up : (entry : ℕ → ℕ → Bool) (n : Node) (m s : ℕ) →
+    list_any (λ p. p == m) n.open_to ≡ true → entry m s ≡ true → is_held_up entry n s ≡ true
+entry_holds_up entry n m s ends e =
+    last (is_root n s || has_object (stack_objects n.stack) (own n s))
+    (list_any (λ peer. entry peer s) n.open_to) (among n.open_to ends)
+  where
+    last : (a b : Bool) → b ≡ true → (a || b) ≡ true
+    last true b h = refl
+    last false b h = h
+
+    among : (ps : List ℕ) → list_any (λ p. p == m) ps ≡ true →
+        list_any (λ peer. entry peer s) ps ≡ true
+    among [] h = absurd (cc)
+    among (p ∷ ps) h = go (p == m) refl (among ps) h
+      where
+        go : (b : Bool) → (p == m) ≡ b → (list_any (λ q. q == m) ps ≡ true →
+            list_any (λ peer. entry peer s) ps ≡ true) →
+            (b || list_any (λ q. q == m) ps) ≡ true →
+            (entry p s || list_any (λ peer. entry peer s) ps) ≡ true
+        go true h rest k =
+            ap (λ b. b || list_any (λ peer. entry peer s) ps)
+            (ap (λ q. entry q s) (eqb-true p m h) ∙ e)
+        go false h rest k = last (entry p s) (list_any (λ peer. entry peer s) ps) (rest k)
