@@ -16,7 +16,7 @@ use Rattle.do_import.specs.ByObject.{ClassMap, added, taken_off, first_kept, lef
 use Rattle.do_import.specs.Imported.{KeepsClasses}
 
 -- whether a key is the one that changes
-abbrev tie : ℕ × ℕ → ℕ × ℕ → Bool
+abbrev pub tie : ℕ × ℕ → ℕ × ℕ → Bool
 tie k q = eq_by_cmp entry_cmp q k
 
 -- the key of an object
@@ -24,7 +24,7 @@ abbrev key : ObjectName → ℕ × ℕ
 key o = (o.node, o.serial)
 
 -- what is tested to tie ties
-tied : (r : Ordering) → is_eq r ≡ true → r ≡ Equal
+pub tied : (r : Ordering) → is_eq r ≡ true → r ≡ Equal
 tied Less e = absurd (subst T (sym e) tt)
 tied Equal e = refl
 tied Greater e = absurd (subst T (sym e) tt)

@@ -1,7 +1,9 @@
-mod AskRows
+pub mod AskRows
 mod Rooms
 mod Threads
 mod KeptClasses
 mod LendsOff
 mod NextRow
-mod AskCounts
+pub mod RowCounts
+pub mod ObjectCounts
+pub mod AskCounts

@@ -57,7 +57,11 @@ pub record IsLowestAsk (asks : AskMap) (o : ObjectName) (t : TokenName) : Type 0
 abbrev pub asks_of : AskMap → ℕ × ℕ → ℕ
 asks_of asks q = count_by (λ k. (q.0 == k.0.0) && (q.1 == k.1.1)) (map.keys asks)
 
--- these are the counts of the asks by object, and none is 0
-pub record CountsAsks (asked : Counts) (asks : AskMap) : Type 0 where
-  pub counted : (q : ℕ × ℕ) → count_of asked q.0 q.1 ≡ asks_of asks q
-  pub positive : IsPositive asked
+-- these are the counts of something by object, and none is 0
+pub record AreCounts (counts : Counts) (many : ℕ × ℕ → ℕ) : Type 0 where
+  pub counted : (q : ℕ × ℕ) → count_of counts q.0 q.1 ≡ many q
+  pub positive : IsPositive counts
+
+-- these are the counts of the asks by object
+abbrev pub CountsAsks : Counts → AskMap → Type 0
+CountsAsks asked asks = AreCounts asked (asks_of asks)

@@ -1,11 +1,12 @@
 -- What contracts see of a node's imports.
-use Rattle.std.specs.Prelude.{◌≡◌, ◌||◌, ◌==◌, ℕ, List, [], ◌∷◌, filter, map as each, min, refl}
+use Rattle.std.specs.Prelude.{◌≡◌, ◌||◌, ◌&&◌, ◌==◌, ◌+◌, ◌<◌, ℕ, true, List, [], ◌∷◌, filter}
+use Rattle.std.specs.Prelude.{map as each, min, count_by, refl}
 use Rattle.std.specs.Coded.{Coded, code_by, coded×, coded_ℕ}
 use Rattle.std.specs.FinMap as map
 use Rattle.do_base.specs.names.Names.{ObjectName}
 use Rattle.do_class.specs.declared.ids.ClassId.{ClassId}
 use Rattle.do_export.specs.Counts.{Counts, entry_cmp}
-use Rattle.do_import.specs.Asked.{AskMap, Asked, CountsAsks, class_code}
+use Rattle.do_import.specs.Asked.{AreCounts, AskMap, Asked, CountsAsks, asks_of, class_code}
 use Rattle.do_import.specs.ByObject.{Rows, ClassMap, taken_off}
 use Rattle.do_import.specs.Held.{Held}
 use Rattle.do_import.specs.Lent.{Lent, name_code}
@@ -79,11 +80,25 @@ abbrev pub KeepsClasses : Counts → Counts → ClassMap → Type 0
 KeepsClasses received asked classes = (k : ℕ × ℕ) → map.contains_key classes k
     ≡ (map.contains_key received k || map.contains_key asked k)
 
--- classes are kept of just the objects that were received or asked for, and the asks are counted by
--- object
-pub record IsTied (received asked : Counts) (asks : AskMap) (classes : ClassMap) : Type 0 where
-  pub known : KeepsClasses received asked classes
-  pub counts : CountsAsks asked asks
+-- how many lends are of an object, by its home and serial
+abbrev pub lends_of : LendMap → ℕ × ℕ → ℕ
+lends_of lends q = count_by (λ o. (q.0 == o.node) && (q.1 == o.serial)) (map.values lends)
+
+-- these are the counts of the lends and asks by object
+abbrev pub CountsNames : Counts → LendMap → AskMap → Type 0
+CountsNames named lends asks = AreCounts named (λ q. lends_of lends q + asks_of asks q)
+
+-- each lend has a number below the next one
+abbrev pub AreNumbered : LendMap → ℕ → Type 0
+AreNumbered lends next = (k : ℕ × ℕ) → map.contains_key lends k ≡ true → k.1 < next
+
+-- classes are kept of just the objects that were received or asked for, asks and names are counted
+-- by object, and lends have numbers that were given
+pub record IsTied (i : Imported) : Type 0 where
+  pub known : KeepsClasses i.received i.asked i.classes
+  pub counts : CountsAsks i.asked i.asks
+  pub names : CountsNames i.named i.lends i.asks
+  pub numbers : AreNumbered i.lends i.next
 
 -- the counts once one is taken off at each of these objects in turn
 abbrev pub all_off : Counts → List ObjectName → Counts

@@ -62,6 +62,13 @@ impl Asks {
         self.asks.spare() as u64
     }
 
+    /// How many asks are kept.
+    pub fn len(&self) -> u64
+        ensures { result ≡ map.len self.now.asks }
+    {
+        self.asks.len() as u64
+    }
+
     /// Whether an ask is kept.
     pub fn has(&self, oid: Oid, token: Token) -> bool
         ensures { result ≡ map.contains_key self.now.asks (ask_key oid token) }

@@ -96,10 +96,12 @@ impl Holdings {
         self.received.spare().min(self.uses.spare().min(threads))
     }
 
-    /// How many objects were received and not given back. Each was received once at least.
+    /// How many objects were received and not given back. Each was received once at least, and no
+    /// object is kept that is used 0 times.
     pub fn len(&self) -> u64
         ensures many { result ≡ map.len self.now.received }
         ensures positive { IsPositive self.now.received }
+        ensures used { IsPositive self.now.uses }
     {
         self.received.len()
     }

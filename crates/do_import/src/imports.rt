@@ -7,14 +7,15 @@ mod using;
 ghost use Rattle.std.specs.Prelude.{◌≡◌, ◌≤◌, ◌||◌, OnOk, IfOk, is_some, map as each};
 ghost use Rattle.std.specs.FinMap as map;
 ghost use Rattle.do_export.specs.Counts.{count_of, IsPositive};
-ghost use Rattle.do_import.specs.Asked.{CountsAsks};
+ghost use Rattle.do_import.specs.Asked.{CountsAsks, ask_key};
 ghost use Rattle.do_import.specs.ByObject.{object_of};
+ghost use Rattle.do_import.specs.Imported.{IsTied};
 
 use crate::asks::Asks;
 use crate::by_object::ByObject;
 use crate::holdings::Holdings;
 use crate::lends::Lends;
-use do_base::{NodeId, Oid, Oids};
+use do_base::{NodeId, Oid, Oids, Token};
 use do_class::ClassId;
 use std::alloc::{AllocError, Global};
 use std::marker::Model;
@@ -44,7 +45,8 @@ impl Model for Imports {
 
     ghost view = { λ i. imported_of i.own i.holdings i.named i.asked i.lends i.asks i.classes };
 
-    ghost invariant = { λ i. IsTied i.holdings.received i.asked.rows i.asks.asks i.classes.rows };
+    ghost invariant = { λ i.
+        IsTied (imported_of i.own i.holdings i.named i.asked i.lends i.asks i.classes) };
 }
 
 impl Imports {
@@ -149,12 +151,43 @@ impl Imports {
         self.named.count(oid)
     }
 
+    /// Whether a lend to a borrower is kept.
+    pub fn has_lend(&self, borrower: NodeId, number: u64) -> bool
+        ensures { result ≡ map.contains_key self.now.lends (borrower, number) }
+    {
+        self.lends.object(number, borrower).is_some()
+    }
+
+    /// Whether an ask is kept.
+    pub fn has_ask(&self, oid: Oid, token: Token) -> bool
+        ensures { result ≡ map.contains_key self.now.asks (ask_key oid token) }
+    {
+        self.asks.has(oid, token)
+    }
+
+    /// How many asks are kept, of all objects.
+    pub fn all_asks(&self) -> u64
+        ensures { result ≡ map.len self.now.asks }
+    {
+        self.asks.len()
+    }
+
     /// How many asks are of an object. The counts are those of the asks.
     pub fn asks(&self, oid: Oid) -> u64
         ensures count { result ≡ count_of self.now.asked oid.node oid.serial }
         ensures counted { CountsAsks self.now.asked self.now.asks }
     {
         self.asked.count(oid)
+    }
+
+    /// The classes are those of what was received or asked for, lends and asks are counted by
+    /// object, each lend has a number below the next one, and nothing is counted 0 times.
+    pub fn counts_are_tied(&self)
+        ensures tied { IsTied self.now }
+        ensures received { IsPositive self.now.received }
+        ensures used { IsPositive self.now.uses }
+    {
+        let _many = self.holdings.len();
     }
 
     /// The objects of the lends and asks, each once, by port and serial.

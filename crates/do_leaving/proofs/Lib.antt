@@ -1,10 +1,10 @@
 mod RisingLists
-mod StoreLookups
-mod SlotNames
+pub mod StoreLookups
+pub mod SlotNames
 mod MachineKeeps
 mod SweptIsKept
-mod TakenInTurn
-mod CountsOff
+pub mod TakenInTurn
+pub mod CountsOff
 mod SerialsRise
 mod LeaversFound
 mod OneLeaves

@@ -1,11 +1,15 @@
 //! All that a node frees and leaves after a step.
-ghost use Rattle.std.specs.Prelude.{◌≡◌, ℕ, ◌+◌, ◌≤◌, Bool, length, vec_capacity, map as each, OnOk};
+ghost use Rattle.std.specs.Prelude.{◌≡◌, ℕ, ◌+◌, ◌≤◌, Bool, [], length, vec_capacity, map as each};
+ghost use Rattle.std.specs.Prelude.{List, OnOk};
 ghost use Rattle.std.specs.FinMap as map;
 ghost use Rattle.do_machine.specs.declared.node.Node.{Node};
 ghost use Rattle.do_machine.specs.held.Leaving.{leaving};
 ghost use Rattle.do_leaving.specs.Counted.{Counted};
 ghost use Rattle.do_leaving.specs.Leavers.{classes_left, leavers, told};
 ghost use Rattle.do_leaving.specs.Left.{IsEffect};
+ghost use Rattle.do_leaving.specs.Sweeping.{TakenOut, foreign_names};
+ghost use Rattle.do_import.specs.Imported.{all_off};
+ghost use Rattle.do_store.specs.Names.{Stored};
 
 use crate::dropping::leave_all;
 use crate::sweeping::sweep_all;
@@ -26,17 +30,19 @@ pub fn make_room(
     left: &mut Vec<(Oid, u64)>,
 ) -> Result<(), AllocError>
     ensures freed { OnOk result (length store.now.objects + more ≤ vec_capacity freed.new) }
+    ensures none_freed { freed.new.items ≡ [] }
+    ensures none_left { left.new.items ≡ [] }
     ensures left { OnOk result (map.len imports.now.received + more ≤ vec_capacity left.new) }
 {
+    freed.clear();
+    left.clear();
     let Some(stored) = store.bound().checked_add(more) else {
         return Err(AllocError);
     };
     let Some(received) = imports.len().checked_add(more) else {
         return Err(AllocError);
     };
-    freed.clear();
     freed.reserve(stored as usize)?;
-    left.clear();
     left.reserve(received as usize)
 }
 
@@ -56,6 +62,11 @@ pub fn leave(
     requires more { map.len imports.old.received ≤ vec_capacity left.old }
     ensures leaves { (entry : ℕ → ℕ → Bool) (n : Node) → Counted entry n store.old imports.old
         → IsEffect entry n (leaving entry n) store.new imports.new freed.new.items left.new.items }
+    ensures sweeps { (gone : List Stored)
+        × TakenOut store.old.node store.old.objects gone store.new.objects
+        × (imports.new.uses ≡ all_off imports.old.uses (foreign_names store.old.node gone)) }
+    ensures received { imports.new.received
+        ≡ map.retain_keys imports.old.received (map.contains_key imports.new.uses) }
     ensures told { left.new.items
         ≡ each told (leavers imports.old.received imports.new.uses) }
     ensures same { imports.new ≡ record imports.old {

@@ -6,4 +6,6 @@ invariant_of-self c = rw (c.got.ensures.received, c.keep.ensures.rows)
     (record {
       known = got_classes _ _ _ c.self.invariant.known c.args.oid c.args.class;
       counts = c.self.invariant.counts;
+      names = c.self.invariant.names;
+      numbers = c.self.invariant.numbers;
     })

@@ -6,4 +6,6 @@ invariant_of-self-2 c = rw (c.leave_class.ensures.rows, c.in-Some.ensures.which.
     (record {
       known = left_classes _ _ _ c.self.invariant.known _;
       counts = c.self.invariant.counts;
+      names = c.self.invariant.names;
+      numbers = c.self.invariant.numbers;
     })
