@@ -1,0 +1,46 @@
+//! The transcript of a schedule over a network.
+ghost use Rattle.std.specs.Prelude.{◌≡◌, ◌≤◌, [], OnOk, IsErrOf};
+ghost use Rattle.do_base.specs.outside.Bytes.{with_more, HasWritten};
+ghost use Rattle.do_base.specs.outside.Causes.{Rose};
+ghost use Rattle.do_net.specs.Net.{Stands, network};
+ghost use Rattle.do_replay.specs.Replayed.{wired_from};
+
+use crate::blocks::push_block;
+use do_base::{PutFail, Sink, Text};
+use do_class::ClassTable;
+use do_net::{Hosted, Net};
+use do_output::{flush, flush_if_long};
+use do_sched::Lines;
+use std::alloc::Global;
+
+/// Does what the lines say, one after another, and writes the transcript, in which each line is
+/// followed by what was sent in it.
+///
+/// The network stands, is of these classes, and has nothing sent that was not fetched. If the sink
+/// fails or memory runs out, what was written is the beginning of the transcript.
+pub fn write_transcript<S: Hosted, K: Sink>(
+    alloc: Global,
+    table: &ClassTable,
+    net: &mut Net<S>,
+    lines: Lines,
+    out: &mut K,
+) -> Result<(), PutFail>
+    requires stands { Stands S.seen (S.Acts.act net.old.acts) net.old }
+    requires table { net.old.table ≡ table.now }
+    requires sent { net.old.wires.items ≡ [] }
+    ensures ok { OnOk result (K.written out.new ≡ with_more (K.written out.old)
+        (wired_from table.now (S.Acts.act net.old.acts) (network S.seen net.old) lines)) }
+    ensures prefix { HasWritten (K.written out.old) (K.written out.new)
+        (wired_from table.now (S.Acts.act net.old.acts) (network S.seen net.old) lines) }
+    ensures later { K.faults out.old ≤ K.faults out.new }
+    ensures failed { IsErrOf result PutFail.Failed → Rose (K.faults out.old) (K.faults out.new) }
+{
+    let mut waiting = Text::from_slice(alloc, b"transcript 1\n")?;
+    for line in lines.into_vec() {
+        push_block(alloc, table, net, line, &mut waiting)?;
+        flush_if_long(&mut waiting, out)?;
+    }
+    waiting.push_bytes(b"> end\n")?;
+    flush(&mut waiting, out)?;
+    Ok(())
+}
