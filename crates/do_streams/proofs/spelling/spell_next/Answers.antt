@@ -1,0 +1,131 @@
+use Rattle.std.proofs.Common.{◌≡◌, ◌==◌, ℕ, Some, List, drop, refl, ap, sym, ◌∙◌}
+use Rattle.std.proofs.Common.{subst}
+use Rattle.std.specs.Prelude.{slice_get, slice_set}
+use Rattle.std.specs.List.{position}
+use Rattle.do_network.specs.Links.{Outbox}
+use Rattle.do_streams.specs.declared.end.End.{End}
+use Rattle.do_streams.specs.declared.end.Outgoing.{Outgoing}
+use Rattle.do_streams.specs.Reading.{AllKnown, AreKnown}
+use Rattle.do_streams.specs.Streamed.{outbox_of, sending_of}
+use Rattle.do_streams.proofs.NextSpelled.{SendsFirst, begins_with, frame_next, greeting_next}
+use Rattle.do_streams.proofs.LinksRead.{all_at, all_set}
+use Rattle.do_streams.proofs.Placed.{on_err, one_front, set_same}
+use Rattle.do_streams.proofs.spelling.spell_next.Goals.{After-skip_front, In_ok-spell_greeting}
+use Rattle.do_streams.proofs.spelling.spell_next.Goals as goal
+
+-- an end that was put back as it was
+stays : (ends : List End) (was mid : List Outgoing) (at : ℕ) (e f : End) →
+    outbox_of ends mid ≡ outbox_of ends was → slice_get ends at ≡ Some e →
+    f ≡ e → outbox_of (slice_set ends at f) mid ≡ outbox_of ends was
+stays ends was mid at e f same there is =
+    ap (λ (v : End). outbox_of (slice_set ends at v) mid) is
+    ∙ ap (λ (ds : List End). outbox_of ds mid) (set_same ends at e there) ∙ same
+
+-- where the greeting is not spelled the links are as before
+pub returns-in_err-spell_greeting-clause-links : goal.returns-in_err-spell_greeting-clause-links
+returns-in_err-spell_greeting-clause-links c =
+    ap (λ (o : Outbox). o.links) (stays c.args.ends.now c.args.frames.now.items
+    c.next_end.new.frames.items c.in-Some.at c.at_mut.result.now c.spell_greeting.new.end
+    c.next_end.ensures.same c.at_mut.ensures.value c.in_err-spell_greeting.ensures.err)
+
+-- and so is what is sent
+pub returns-in_err-spell_greeting-clause-err : goal.returns-in_err-spell_greeting-clause-err
+returns-in_err-spell_greeting-clause-err c = on_err c.from_residual.result
+    (ap (λ (o : Outbox). o.sent) (stays c.args.ends.now c.args.frames.now.items
+    c.next_end.new.frames.items c.in-Some.at c.at_mut.result.now c.spell_greeting.new.end
+    c.next_end.ensures.same c.at_mut.ensures.value c.in_err-spell_greeting.ensures.err))
+
+-- the greeting comes before all else that is sent
+greets_first : (c : In_ok-spell_greeting) →
+    SendsFirst (outbox_of c.args.ends.now c.args.frames.now.items)
+    (outbox_of (slice_set c.args.ends.now c.in-Some.at c.spell_greeting.new.end)
+    c.next_end.new.frames.items) (sending_of c.in_ok-spell_greeting.field-0)
+greets_first c = greeting_next c.args.ends.now
+    (slice_set c.args.ends.now c.in-Some.at c.spell_greeting.new.end) c.args.frames.now.items
+    c.next_end.new.frames.items c.in-Some.ensures.which.0 (drop 1 c.next_end.new.frames.items)
+    c.in-Some.at c.at_mut.result.now c.spell_greeting.new.end c.next_end.ensures.same
+    (begins_with c.next_end.new.frames.items c.in-Some.ensures.which.0
+    c.in-Some.ensures.which.1) c.in-Some.ensures.which.2 c.at_mut.ensures.value refl
+    (sending_of c.in_ok-spell_greeting.field-0)
+    (sym (c.is_greeted.ensures c.at_mut.result.now c.at_mut.ensures.value)
+    ∙ c.if-not-is_greeted.true)
+    c.in_ok-spell_greeting.ensures.end c.in_ok-spell_greeting.ensures.spelled
+
+-- so the greeting leaves the links behind all that waits
+pub returns-then-not-is_greeted-clause-links : goal.returns-then-not-is_greeted-clause-links
+returns-then-not-is_greeted-clause-links c =
+    (greets_first (goal.at.returns-then-not-is_greeted-clause-links c).In_ok-spell_greeting).links
+
+-- and is sent before what was to be sent
+pub returns-then-not-is_greeted-clause-sent : goal.returns-then-not-is_greeted-clause-sent
+returns-then-not-is_greeted-clause-sent c =
+    (greets_first (goal.at.returns-then-not-is_greeted-clause-sent c).In_ok-spell_greeting).sent
+
+-- where the frame is not spelled the links are as before
+pub returns-in_err-spelled-clause-links : goal.returns-in_err-spelled-clause-links
+returns-in_err-spelled-clause-links c = ap (λ (o : Outbox). o.links)
+    (stays c.args.ends.now c.args.frames.now.items
+    c.next_end.new.frames.items c.in-Some.at c.at_mut-2.result.now c.spell_frame.new.end
+    c.next_end.ensures.same c.at_mut-2.ensures.value c.in_err-spelled.ensures.err)
+
+-- and so is what is sent
+pub returns-in_err-spelled-clause-err : goal.returns-in_err-spelled-clause-err
+returns-in_err-spelled-clause-err c = on_err c.from_residual-in_err-spelled.result
+    (ap (λ (o : Outbox). o.sent) (stays c.args.ends.now c.args.frames.now.items
+    c.next_end.new.frames.items c.in-Some.at c.at_mut-2.result.now c.spell_frame.new.end
+    c.next_end.ensures.same c.at_mut-2.ensures.value c.in_err-spelled.ensures.err))
+
+-- the frame comes before all else that is sent
+frame_first : (c : After-skip_front) →
+    SendsFirst (outbox_of c.args.ends.now c.args.frames.now.items)
+    (outbox_of (slice_set c.args.ends.now c.in-Some.at c.spell_frame.new.end)
+    c.skip_front.new.frames.items) (sending_of c.in_ok-spelled.spelled)
+frame_first c = frame_next c.args.ends.now
+    (slice_set c.args.ends.now c.in-Some.at c.spell_frame.new.end) c.args.frames.now.items
+    c.next_end.new.frames.items c.in-Some-front.next.now c.skip_front.new.frames.items
+    c.in-Some.at c.at_mut-2.result.now c.spell_frame.new.end c.next_end.ensures.same
+    (c.skip_front.ensures c.in-Some-front.next.now (sym c.in-Some-front.ensures.value)).0
+    (subst (λ (o : Outgoing). position (λ (d : End). o.to == d.peer) c.args.ends.now
+    ≡ Some c.in-Some.at) (one_front c.next_end.new.frames.items c.in-Some.ensures.which.0
+    c.in-Some-front.next.now c.in-Some.ensures.which.1 c.in-Some-front.ensures.value)
+    c.in-Some.ensures.which.2) c.at_mut-2.ensures.value refl
+    (sending_of c.in_ok-spelled.spelled)
+    (sym (c.is_greeted.ensures c.at_mut-2.result.now c.at_mut-2.ensures.value)
+    ∙ c.if-not-is_greeted.false)
+    c.in_ok-spelled.ensures.end c.in_ok-spelled.ensures.spelled
+
+-- so the frame leaves the links behind all that waits
+pub returns-clause-links : goal.returns-clause-links
+returns-clause-links c = (frame_first (goal.at.returns-clause-links c).After-skip_front).links
+
+-- and is sent before what was to be sent
+pub returns-clause-sent : goal.returns-clause-sent
+returns-clause-sent c = (frame_first (goal.at.returns-clause-sent c).After-skip_front).sent
+
+-- an end that was put back with the names read lately as they were
+known_still : (classes : ℕ) (ends : List End) (at : ℕ) (e f : End) →
+    AllKnown classes ends → slice_get ends at ≡ Some e → f.read ≡ e.read →
+    AllKnown classes (slice_set ends at f)
+known_still classes ends at e f known there same =
+    all_set (λ (d : End). AreKnown classes d.read) ends at f known
+    (subst (AreKnown classes) (sym same)
+    (all_at (λ (d : End). AreKnown classes d.read) ends at e known there))
+
+-- a frame that is spelled leaves the names that were read
+pub returns-clause-known : goal.returns-clause-known
+returns-clause-known c = λ classes known.
+    known_still classes c.args.ends.now c.in-Some.at c.at_mut-2.result.now c.spell_frame.new.end
+    known c.at_mut-2.ensures.value (ap (λ (e : End). e.read) c.in_ok-spelled.ensures.end)
+
+-- so does one that is not spelled
+pub returns-in_err-spelled-clause-known : goal.returns-in_err-spelled-clause-known
+returns-in_err-spelled-clause-known c = λ classes known.
+    known_still classes c.args.ends.now c.in-Some.at c.at_mut-2.result.now c.spell_frame.new.end
+    known c.at_mut-2.ensures.value (ap (λ (e : End). e.read) c.in_err-spelled.ensures.err)
+
+-- and so does the greeting
+pub returns-then-not-is_greeted-clause-known : goal.returns-then-not-is_greeted-clause-known
+returns-then-not-is_greeted-clause-known c = λ classes known.
+    known_still classes c.args.ends.now c.in-Some.at c.at_mut.result.now
+    c.spell_greeting.new.end known c.at_mut.ensures.value
+    (ap (λ (e : End). e.read) c.in_ok-spell_greeting.ensures.end)

@@ -1,0 +1,33 @@
+use Rattle.std.proofs.Common.{◌++◌, ap, sym, ◌∙◌, Option}
+use Rattle.do_streams.specs.declared.spelled.Spelled.{Spelled}
+use Rattle.do_streams.specs.Streamed.{Streamed, outbox_of, sending_of, spelled_first}
+use Rattle.do_streams.proofs.streams.Streams.next_frame.Goals as goal
+
+-- what was spelled is the oldest that waits
+pub returns-clause-which : goal.returns-clause-which
+returns-clause-which c = (
+  sending_of c.in-Some.next,
+  sym (ap (λ (v : Streamed). v.frames) c.self.view_is)
+      ∙ sym c.in_ok-spell_if_none.ensures.sent
+      ∙ ap (λ (o : Option Spelled). spelled_first o
+      ++ (outbox_of c.spell_if_none.new.ends c.spell_if_none.new.frames.items).sent) c.in-Some.is,
+  c.in_ok-to.ensures.to,
+  c.in_ok-to.ensures.bytes,
+)
+
+-- what is spelled leaves the names that were read, where it is fetched
+pub invariant_of-self : goal.invariant_of-self
+invariant_of-self c = c.spell_if_none.ensures.known c.self.inside.classes c.self.invariant
+
+-- where nothing waits
+pub invariant_of-self-in_default : goal.invariant_of-self-in_default
+invariant_of-self-in_default c =
+    c.spell_if_none.ensures.known c.self.inside.classes c.self.invariant
+
+-- where there is no memory for its bytes
+pub invariant_of-self-in_err-to : goal.invariant_of-self-in_err-to
+invariant_of-self-in_err-to c = c.spell_if_none.ensures.known c.self.inside.classes c.self.invariant
+
+-- and where there is none to spell it
+pub invariant_of-self-2 : goal.invariant_of-self-2
+invariant_of-self-2 c = c.spell_if_none.ensures.known c.self.inside.classes c.self.invariant

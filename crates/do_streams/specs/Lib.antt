@@ -1,0 +1,4 @@
+pub mod Pieces
+pub mod Plain
+pub mod Reading
+pub mod Streamed

@@ -1,0 +1,91 @@
+ghost use Rattle.std.specs.Prelude.{◌≡◌, [], ◌==◌, ◌<◌, IfOk, IfSome, OnErr, OnOk, false, length};
+ghost use Rattle.std.specs.Prelude.{position, true};
+ghost use Rattle.do_frames.specs.Frames.{after_frame, frame_spelling};
+ghost use Rattle.do_frames.specs.Streams.{hello};
+
+use do_base::{Items, NodeId, Text};
+use do_coder::Recent;
+use do_frames::{Frame, write_within};
+use std::alloc::{AllocError, Global};
+
+/// What a stream begins with.
+const GREETING: [u8; 6] = [13, 0, 0, 0, 1, 2];
+
+/// The two streams between a site and a peer.
+#[derive(Drop)]
+pub struct End {
+    /// The peer.
+    pub peer: NodeId,
+    /// The names that the frames named lately that were fetched.
+    pub sent: Recent,
+    /// The names that the peer's frames named lately.
+    pub read: Recent,
+    /// Whether the greeting was fetched.
+    pub greeted: bool,
+}
+
+/// A frame that waits to be spelled.
+#[derive(Drop)]
+pub struct Outgoing {
+    /// The peer that it goes to.
+    pub to: NodeId,
+    /// The frame.
+    pub frame: Frame,
+}
+
+/// Where the end with a peer stands.
+pub fn end_at(ends: &Items<End>, peer: NodeId) -> Option<usize>
+    ensures index { result ≡ position (λ e. peer == e.peer) ends.now }
+    ensures within { IfSome result (λ at. at < length ends.now) }
+{
+    ends.as_slice().iter().position(|end| end.peer == peer)
+}
+
+/// The greeting, as bytes.
+pub fn greeting(alloc: Global) -> Result<Text, AllocError>
+    ensures { IfOk result (λ text. text ≡ hello) }
+{
+    Text::from_slice(alloc, &GREETING)
+}
+
+impl End {
+    /// The end of a peer, before anything was sent or read.
+    pub fn new(alloc: Global, peer: NodeId) -> End
+        ensures { result ≡ record { peer = peer; sent = []; read = []; greeted = false } }
+    {
+        End {
+            peer,
+            sent: Recent::new(alloc),
+            read: Recent::new(alloc),
+            greeted: false,
+        }
+    }
+
+    /// The greeting was fetched.
+    pub fn greet(&mut self)
+        ensures { self.new ≡ record self.old { greeted = true } }
+    {
+        self.greeted = true;
+    }
+
+    /// The names that the peer's frames named lately are these.
+    pub fn put_names(&mut self, names: Recent)
+        ensures { self.new ≡ record self.old { read = names } }
+    {
+        self.read = names;
+    }
+
+    /// Spells a frame by the names that were sent before. If memory runs out, or the payload is
+    /// longer than that of a frame may be, the end is unchanged.
+    pub fn spell(&mut self, alloc: Global, frame: &Frame) -> Result<Text, AllocError>
+        ensures text { IfOk result (λ text. text ≡ frame_spelling self.old.sent frame.now) }
+        ensures end { OnOk result
+            (self.new ≡ record self.old { sent = after_frame self.old.sent frame.now }) }
+        ensures err { OnErr result (self.new ≡ self.old) }
+    {
+        match write_within(alloc, frame, &mut self.sent)? {
+            Some(text) => Ok(text),
+            None => Err(AllocError),
+        }
+    }
+}

@@ -1,0 +1,136 @@
+//! The oldest frame that waits, spelled.
+ghost use Rattle.std.specs.Prelude.{◌≡◌, ◌≤◌, ◌<◌, ◌+◌, ◌++◌, ◌∷◌, ◌==◌, [], IfOk, IsNone};
+ghost use Rattle.std.specs.Prelude.{MatchOption, None, OnErr, length};
+ghost use Rattle.std.specs.Prelude.{OnOk, Some, position, slice_get, true, ℕ};
+ghost use Rattle.do_frames.specs.Frames.{after_frame, raw};
+ghost use Rattle.do_network.specs.Links.{Framed, Greeting};
+ghost use Rattle.do_streams.specs.Reading.{AllKnown};
+ghost use Rattle.do_streams.specs.Streamed.{outbox_of, sending_of, spelled_first};
+ghost use Rattle.do_streams.specs.declared.end.End.{End};
+ghost use Rattle.do_streams.specs.declared.end.Outgoing.{Outgoing};
+
+use crate::end::{End, Outgoing, end_at, greeting};
+use crate::spelled::Spelled;
+use do_base::{Items, Reserved};
+use do_frames::Frame;
+use std::alloc::{AllocError, Global};
+
+/// Takes out the oldest frame that waits.
+fn skip_front(frames: &mut Reserved<Outgoing>)
+    ensures { (x : Outgoing) → slice_get frames.old.items 0 ≡ Some x
+        → (frames.old.items ≡ x ∷ frames.new.items) × (frames.new.spare ≡ frames.old.spare + 1) }
+{
+    frames.pop_front();
+}
+
+/// Whether the greeting over an end was fetched.
+fn is_greeted(ends: &Items<End>, at: usize) -> bool
+    requires { at < length ends.now }
+    ensures { (e : End) → slice_get ends.now at ≡ Some e → result ≡ e.greeted }
+{
+    ends.as_slice()[at].greeted
+}
+
+/// Where the end stands of the peer to which the oldest frame goes that waits. Frames to a peer
+/// with which there is no link are taken out before.
+fn next_end(ends: &Items<End>, frames: &mut Reserved<Outgoing>) -> Option<usize>
+    ensures same { outbox_of ends.now frames.new.items ≡ outbox_of ends.now frames.old.items }
+    ensures spare { frames.old.spare ≤ frames.new.spare }
+    ensures which { MatchOption result (frames.new.items ≡ [])
+        (λ at. (x : Outgoing) × (slice_get frames.new.items 0 ≡ Some x)
+        × (position (λ e. x.to == e.peer) ends.now ≡ Some at)) }
+{
+    while let Some(next) = frames.front() {
+        let at = end_at(ends, next.to);
+        if at.is_some() {
+            return at;
+        }
+        skip_front(frames);
+    }
+    None
+}
+
+/// Spells the greeting of the stream over an end, which is greeted then.
+fn spell_greeting(alloc: Global, end: &mut End) -> Result<Spelled, AllocError>
+    ensures spelled { IfOk result (λ s. sending_of s
+        ≡ record { to = end.old.peer; piece = Greeting }) }
+    ensures end { OnOk result (end.new ≡ record end.old { greeted = true }) }
+    ensures err { OnErr result (end.new ≡ end.old) }
+{
+    let bytes = greeting(alloc)?;
+    end.greet();
+    Ok(Spelled {
+        to: end.peer,
+        greets: true,
+        bytes,
+    })
+}
+
+/// Spells a frame over an end, by the names that were sent before.
+fn spell_frame(alloc: Global, end: &mut End, frame: &Frame) -> Result<Spelled, AllocError>
+    ensures spelled { IfOk result (λ s. sending_of s
+        ≡ record { to = end.old.peer; piece = Framed (raw end.old.sent frame.now) }) }
+    ensures end { OnOk result
+        (end.new ≡ record end.old { sent = after_frame end.old.sent frame.now }) }
+    ensures err { OnErr result (end.new ≡ end.old) }
+{
+    let bytes = end.spell(alloc, frame)?;
+    Ok(Spelled {
+        to: end.peer,
+        greets: false,
+        bytes,
+    })
+}
+
+/// Spells what is to be fetched next: the oldest frame that waits, or the greeting before it. None
+/// exactly where no frame waits. If memory runs out, what waits is as before.
+fn spell_next(
+    alloc: Global,
+    ends: &mut Items<End>,
+    frames: &mut Reserved<Outgoing>,
+) -> Result<Option<Spelled>, AllocError>
+    ensures links { (outbox_of ends.new frames.new.items).links
+        ≡ (outbox_of ends.old frames.old.items).links }
+    ensures sent { IfOk result (λ s. (outbox_of ends.old frames.old.items).sent
+        ≡ spelled_first s ++ (outbox_of ends.new frames.new.items).sent) }
+    ensures none { IfOk result (λ s. IsNone s → frames.new.items ≡ []) }
+    ensures err { OnErr result ((outbox_of ends.new frames.new.items).sent
+        ≡ (outbox_of ends.old frames.old.items).sent) }
+    ensures spare { frames.old.spare ≤ frames.new.spare }
+    ensures known { (classes : ℕ) → AllKnown classes ends.old → AllKnown classes ends.new }
+{
+    let Some(at) = next_end(ends, frames) else {
+        return Ok(None);
+    };
+    if !is_greeted(ends, at) {
+        return Ok(Some(spell_greeting(alloc, ends.at_mut(at))?));
+    }
+    let Some(next) = frames.front() else {
+        return Ok(None);
+    };
+    let spelled = spell_frame(alloc, ends.at_mut(at), &next.frame)?;
+    skip_front(frames);
+    Ok(Some(spelled))
+}
+
+/// Spells what is to be fetched next, if that is not done: then nothing is spelled exactly where no
+/// frame waits. If memory runs out, what waits is as before.
+pub fn spell_if_none(
+    alloc: Global,
+    spelled: &mut Option<Spelled>,
+    ends: &mut Items<End>,
+    frames: &mut Reserved<Outgoing>,
+) -> Result<(), AllocError>
+    ensures links { (outbox_of ends.new frames.new.items).links
+        ≡ (outbox_of ends.old frames.old.items).links }
+    ensures sent { spelled_first spelled.new ++ (outbox_of ends.new frames.new.items).sent
+        ≡ spelled_first spelled.old ++ (outbox_of ends.old frames.old.items).sent }
+    ensures none { OnOk result (spelled.new ≡ None → frames.new.items ≡ []) }
+    ensures spare { frames.old.spare ≤ frames.new.spare }
+    ensures known { (classes : ℕ) → AllKnown classes ends.old → AllKnown classes ends.new }
+{
+    if spelled.is_none() {
+        *spelled = spell_next(alloc, ends, frames)?;
+    }
+    Ok(())
+}

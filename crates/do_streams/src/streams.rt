@@ -1,0 +1,166 @@
+//! The streams between a site and its peers.
+mod reading;
+
+ghost use Rattle.std.specs.Prelude.{◌≡◌, ◌≤◌, ◌+◌, ◌<◌, ◌++◌, ◌∷◌, [], IfOk, MatchOption, OnErr};
+ghost use Rattle.std.specs.Prelude.{OnOk, map};
+ghost use Rattle.do_network.specs.Links.{Sending, piece_bytes, sending};
+ghost use Rattle.do_network.specs.Net.{opening_link};
+ghost use Rattle.do_streams.specs.Streamed.{link_of, outbox, sending_of};
+
+use crate::end::{End, Outgoing};
+use crate::spelled::Spelled;
+use crate::spelling::spell_if_none;
+use do_base::{Items, NodeId, Peers, Reserved, Shown, Text};
+use do_frames::Frame;
+use std::alloc::{AllocError, Global};
+use std::marker::Model;
+
+/// The streams between a site and its peers, and the lines that it shows.
+///
+/// Contracts see the links as they are behind all frames that wait, what is sent of these frames,
+/// the lines that wait, the room left, and by how many classes frames are read. A frame is spelled
+/// when it is fetched, and not before: so posting it takes no memory but its place.
+#[derive(Drop)]
+pub struct Streams {
+    ends: Items<End>,
+    spelled: Option<Spelled>,
+    frames: Reserved<Outgoing>,
+    shown: Reserved<Shown>,
+    classes: usize,
+}
+
+impl Model for Streams {
+    ghost use Rattle.std.specs.Coded.{codes};
+    ghost use Rattle.do_base.specs.contracts.events.shown.Shown as line;
+    ghost use Rattle.do_streams.specs.Reading.{AllKnown};
+    ghost use Rattle.do_streams.specs.Streamed.{Streamed, streamed_of};
+
+    ghost Value = { Streamed };
+
+    ghost coded = { Prim.hlevel (codes, line.the_row.coded) };
+
+    ghost view = { λ s. streamed_of s.ends s.spelled s.frames s.shown s.classes };
+
+    ghost invariant = { λ s. AllKnown s.classes s.ends };
+}
+
+/// The ends of peers, before anything was sent or read.
+fn opening_ends(alloc: Global, peers: &Peers) -> Result<Items<End>, AllocError>
+    ensures { IfOk result (λ ends. map link_of ends ≡ map opening_link peers.now) }
+{
+    let mut ends = Items::new(alloc);
+    for peer in peers.as_slice() {
+        ends.push(End::new(alloc, *peer))?;
+    }
+    Ok(ends)
+}
+
+/// Appends the bytes of what was spelled, and tells the peer that it goes to. If memory runs out,
+/// the bytes are unchanged.
+fn fetch(next: &Spelled, bytes: &mut Text) -> Result<NodeId, AllocError>
+    ensures to { IfOk result (λ to. to ≡ (sending_of next.now).to) }
+    ensures bytes { OnOk result
+        (bytes.new ≡ bytes.old ++ piece_bytes (sending_of next.now).piece) }
+    ensures err { OnErr result (bytes.new ≡ bytes.old) }
+{
+    bytes.push_bytes(next.bytes.as_slice())?;
+    Ok(next.to)
+}
+
+impl Streams {
+    /// The streams between a site and these peers, before anything was sent or read; frames are
+    /// read by so many classes.
+    pub fn new(alloc: Global, peers: &Peers, classes: usize) -> Result<Streams, AllocError>
+        ensures { IfOk result (λ s. s ≡ record {
+          links = map opening_link peers.now;
+          frames = [];
+          shown = [];
+          room = 0;
+          classes = classes;
+        }) }
+    {
+        let ends = opening_ends(alloc, peers)?;
+        Ok(Streams {
+            ends,
+            spelled: None,
+            frames: Reserved::new(alloc),
+            shown: Reserved::new(alloc),
+            classes,
+        })
+    }
+
+    /// Makes room for so many more frames and lines at least.
+    ///
+    /// If memory runs out, what waits is unchanged.
+    pub fn reserve(&mut self, more: usize) -> Result<(), AllocError>
+        ensures same { self.new ≡ record self.old { room = self.new.room } }
+        ensures ok { OnOk result (more ≤ self.new.room) }
+        ensures kept { self.old.room ≤ self.new.room }
+    {
+        self.frames.reserve(more)?;
+        self.shown.reserve(more)
+    }
+
+    /// Sends a frame to a peer, behind all that wait, in room that was made before. Where there is
+    /// no link with the peer, nothing is sent.
+    pub fn post(&mut self, to: NodeId, frame: Frame)
+        requires { 0 < self.old.room }
+        ensures sent { outbox self.new
+            ≡ sending (outbox self.old) (record { to = to; frame = frame }) }
+        ensures shown { self.new.shown ≡ self.old.shown }
+        ensures room { self.old.room ≤ self.new.room + 1 }
+        ensures classes { self.new.classes ≡ self.old.classes }
+    {
+        self.frames.post(Outgoing { to, frame });
+    }
+
+    /// Shows a line, behind all that wait, in room that was made before.
+    pub fn show(&mut self, line: Shown)
+        requires { 0 < self.old.room }
+        ensures shown { self.new.shown ≡ self.old.shown ++ line ∷ [] }
+        ensures sent { outbox self.new ≡ outbox self.old }
+        ensures room { self.old.room ≤ self.new.room + 1 }
+        ensures classes { self.new.classes ≡ self.old.classes }
+    {
+        self.shown.post(line);
+    }
+
+    /// Takes out the oldest frame that waits, or the greeting before it, appends its bytes, and
+    /// tells the peer that it goes to. None exactly where no frame waits.
+    ///
+    /// If memory runs out, or the payload is longer than a frame may have, what waits is unchanged,
+    /// and so are the bytes.
+    pub fn next_frame(&mut self, bytes: &mut Text) -> Result<Option<NodeId>, AllocError>
+        ensures which { IfOk result (λ to. MatchOption to
+            ((self.old.frames ≡ []) × (self.new.frames ≡ []) × (bytes.new ≡ bytes.old))
+            (λ peer. (s : Sending) × (self.old.frames ≡ s ∷ self.new.frames) × (peer ≡ s.to)
+            × (bytes.new ≡ bytes.old ++ piece_bytes s.piece))) }
+        ensures links { self.new.links ≡ self.old.links }
+        ensures shown { self.new.shown ≡ self.old.shown }
+        ensures room { self.old.room ≤ self.new.room }
+        ensures classes { self.new.classes ≡ self.old.classes }
+        ensures err { OnErr result
+            ((self.new.frames ≡ self.old.frames) × (bytes.new ≡ bytes.old)) }
+    {
+        let alloc = bytes.allocator();
+        spell_if_none(alloc, &mut self.spelled, &mut self.ends, &mut self.frames)?;
+        let Some(next) = &self.spelled else {
+            return Ok(None);
+        };
+        let to = fetch(next, bytes)?;
+        self.spelled = None;
+        Ok(Some(to))
+    }
+
+    /// Takes out the oldest line that waits. None exactly where there is none.
+    pub fn next_shown(&mut self) -> Option<Shown>
+        ensures which { MatchOption result
+            ((self.old.shown ≡ []) × (self.new.shown ≡ []))
+            (λ line. self.old.shown ≡ line ∷ self.new.shown) }
+        ensures sent { outbox self.new ≡ outbox self.old }
+        ensures room { self.old.room ≤ self.new.room }
+        ensures classes { self.new.classes ≡ self.old.classes }
+    {
+        self.shown.pop_front()
+    }
+}

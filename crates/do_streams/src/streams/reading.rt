@@ -1,0 +1,113 @@
+//! Frames of peers that are read, and the peers.
+ghost use Rattle.std.specs.Prelude.{◌≡◌, ◌==◌, IfOk, IfSome, find, length, map};
+ghost use Rattle.std.specs.Option.{option_copied};
+ghost use Rattle.do_frames.specs.declared.frame.Frame.{Frame};
+ghost use Rattle.do_frames.specs.Frames.{after_frame};
+ghost use Rattle.do_network.specs.Frames.{read_frame};
+ghost use Rattle.do_network.specs.Links.{change_link};
+ghost use Rattle.do_streams.specs.Reading.{AllKnown, AreKnown, IsReadBy, IsReading, names_of};
+ghost use Rattle.do_streams.specs.Streamed.{link_of};
+
+use super::Streams;
+use crate::end::{End, end_at};
+use crate::reading::{Reading, names_objects, read_plain, read_with_names};
+use do_base::{Items, NodeId, Peers};
+use do_class::ClassTable;
+use do_coder::Recent;
+use do_frames::{RawFault, RawFrame};
+use std::alloc::AllocError;
+
+/// The end with a peer. None exactly where there is none.
+fn end_of(ends: &Items<End>, peer: NodeId) -> Option<&End>
+    ensures { option_copied result ≡ find (λ e. peer == e.peer) ends.now }
+{
+    ends.as_slice().iter().find(|end| end.peer == peer)
+}
+
+/// A copy of the names that a peer's frames named lately; none where there is no link with it.
+fn copied_names(ends: &Items<End>, from: NodeId, classes: usize) -> Result<Recent, AllocError>
+    requires { AllKnown classes ends.now }
+    ensures names { IfOk result (λ names. names ≡ names_of (map link_of ends.now) from) }
+    ensures known { IfOk result (λ names. AreKnown classes names) }
+{
+    match end_of(ends, from) {
+        Some(end) => end.read.copy(),
+        None => Ok(Recent::new(ends.allocator())),
+    }
+}
+
+/// Puts the names that a peer's frames named lately in place of those before.
+fn put_names(ends: &mut Items<End>, from: NodeId, names: Recent, classes: usize)
+    requires known { AllKnown classes ends.old }
+    requires fit { AreKnown classes names }
+    ensures ends { map link_of ends.new
+        ≡ change_link from (λ l. record l { read = names }) (map link_of ends.old) }
+    ensures known { AllKnown classes ends.new }
+{
+    let Some(at) = end_at(ends, from) else {
+        return;
+    };
+    ends.at_mut(at).put_names(names);
+}
+
+/// The peers of ends, in their order.
+fn listed_peers(ends: &Items<End>) -> Result<Peers, AllocError>
+    ensures { IfOk result (λ peers. peers ≡ map (λ e. e.peer) ends.now) }
+{
+    let mut peers = Peers::new(ends.allocator());
+    for end in ends.as_slice() {
+        peers.push(end.peer)?;
+    }
+    Ok(peers)
+}
+
+impl Streams {
+    /// Reads a frame of a peer by the names that its frames named lately. These change only when
+    /// they are kept: so a frame that was read can be dropped.
+    ///
+    /// `BadFrame` comes exactly where the payload spells no frame of its kind, and has the first
+    /// byte with which none goes on. `Memory` comes where memory runs out.
+    pub fn read(
+        &self,
+        table: &ClassTable,
+        from: NodeId,
+        to: NodeId,
+        raw: &RawFrame,
+    ) -> Result<Reading, RawFault>
+        requires { self.now.classes ≡ length table.now }
+        ensures read { IsReading (names_of self.now.links from)
+            (read_frame table.now from to (names_of self.now.links from) raw.now) result }
+        ensures known { IfOk result (λ r. IfSome r.names (λ names.
+            AreKnown self.now.classes names)) }
+    {
+        let alloc = self.ends.allocator();
+        if !names_objects(raw.kind) {
+            return read_plain(alloc, table, from, to, raw);
+        }
+        let Ok(names) = copied_names(&self.ends, from, self.classes) else {
+            return Err(RawFault::Memory);
+        };
+        read_with_names(alloc, table, from, to, names, raw)
+    }
+
+    /// Keeps the names of a frame of a peer that was read, for which no memory is taken.
+    pub fn keep_read(&mut self, from: NodeId, names: Option<Recent>)
+        requires { IfSome names (λ later. AreKnown self.old.classes later) }
+        ensures links { (frame : Frame) → IsReadBy (names_of self.old.links from) frame names
+            → self.new.links ≡ change_link from (λ l. record l { read = after_frame l.read frame })
+            self.old.links }
+        ensures same { self.new ≡ record self.old { links = self.new.links } }
+    {
+        let Some(later) = names else {
+            return;
+        };
+        put_names(&mut self.ends, from, later, self.classes);
+    }
+
+    /// The peers with which there are links, in their order.
+    pub fn peers(&self) -> Result<Peers, AllocError>
+        ensures { IfOk result (λ peers. peers ≡ map (λ l. l.peer) self.now.links) }
+    {
+        listed_peers(&self.ends)
+    }
+}
