@@ -9,7 +9,8 @@ use Rattle.do_machine.specs.Objects.{object_at}
 use Rattle.do_machine.specs.declared.node.Stored.{Stored}
 use Rattle.do_store.specs.Listing.{Rising}
 use Rattle.do_store.specs.Names.{Stored as Kept, find_stored, named_in, values_name}
-use Rattle.do_part.specs.Holding.{plain, most_names, IsPositive, CanCome, CanGo, Came}
+use Rattle.do_export.specs.Counts.{IsPositive}
+use Rattle.do_part.specs.Holding.{plain, most_names, CanCome, CanGo, Came}
 use Rattle.do_part.specs.Names.{heap_of}
 use Rattle.do_part.specs.Sound.{IsBalanced}
 use Rattle.do_part.specs.declared.holders.Holders.{Holders}
@@ -29,7 +30,8 @@ named-plain port n (x ∷ xs) =
 pub rising-plain : (low top : ℕ) (xs ys : List Kept) → map plain ys ≡ map plain xs
     → Rising (λ (o : Kept). o.serial) low xs top → Rising (λ (o : Kept). o.serial) low ys top
 rising-plain low top xs ys same r =
-    over low ys (subst (λ l. Rising (λ (o : Stored). o.serial) low l top) (sym same) (under low xs r))
+    over low ys
+    (subst (λ l. Rising (λ (o : Stored). o.serial) low l top) (sym same) (under low xs r))
   where
     -- the same of the plain objects
     under : (low : ℕ) (zs : List Kept) → Rising (λ (o : Kept). o.serial) low zs top
@@ -69,7 +71,8 @@ still_some xs ys n same some =
 named-same : (port n : ℕ) (xs ys : List Kept) → map plain ys ≡ map plain xs
     → named_in port n ys ≡ named_in port n xs
 named-same port n xs ys same =
-    sym (named-plain port n ys) ∙ ap (λ l. heap_of l (object_at port n)) same ∙ named-plain port n xs
+    sym (named-plain port n ys) ∙ ap (λ l. heap_of l (object_at port n)) same
+    ∙ named-plain port n xs
 
 module _ (a b : Holders) (d : ObjectName → ℕ) (f f' : ℕ → ℕ) (u u' : ObjectName → ℕ)
     (came : Came a b d) where

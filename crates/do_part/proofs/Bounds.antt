@@ -11,7 +11,7 @@ use Rattle.do_base.specs.declared.values.value.Value.TheVariants.{Nil, Num, Text
 use Rattle.do_part.specs.Names.{value_of, values_of, size_of, sizes_of}
 use Rattle.do_network.specs.Own.{Own}
 use Rattle.do_part.specs.Sound.{entries}
-use Rattle.do_part.proofs.Counting.{at}
+use Rattle.do_export.proofs.Counting.{at}
 use Rattle.do_part.proofs.Naming.{of-Obj, of-List, size-Obj, size-List}
 
 -- one at most

@@ -7,9 +7,10 @@ use Rattle.do_machine.specs.Objects.{object_at}
 use Rattle.do_machine.specs.State.{stored}
 use Rattle.do_machine.specs.declared.node.Stored.{Stored}
 use Rattle.do_part.specs.Holding.{plain, CanGo, HasCome, HasGone}
+use Rattle.do_part.specs.Linked.{AreLinked}
 use Rattle.do_part.specs.Names.{stack_of, AreStored}
 use Rattle.do_part.specs.Owned.{Owned}
-use Rattle.do_part.specs.Rooting.{root_of, root_size}
+use Rattle.do_part.specs.Rooting.{root_of}
 use Rattle.do_part.specs.Seen.{own_of, owned_of}
 use Rattle.do_part.specs.Sound.{IsSound, holders, uses}
 use Rattle.do_part.specs.declared.holders.Holders.{Holders}
@@ -41,19 +42,22 @@ module _ (i : Inside) (s : IsSound i) (v : Owned) (is : owned_of i ≡ v) (after
     (r : Option ℕ) where
   -- a part is sound with the entry that was counted
   pub sound_named : (b : Holders) → AreStored v.own.node (root_of i.holders.node r)
-      → root_size r ≤ v.room.names
-      → HasCome i.holders b (root_of i.holders.node r) (root_size r)
+      → 1 ≤ v.room.names
+      → HasCome i.holders b (root_of i.holders.node r) 1
       → ((n : ℕ) → entries_to after.counts n i.ends
-      ≡ entries_to i.exports.counts n i.ends + root_of i.holders.node r (object_at i.holders.node n))
+      ≡ entries_to i.exports.counts n i.ends
+      + root_of i.holders.node r (object_at i.holders.node n))
+      → AreLinked (record i { holders = b; exports = after })
       → IsSound (record i { holders = b; exports = after })
-  sound_named b known room come moved =
-      sound_turned i s v is j b (root_of i.holders.node r) (λ o. 0) (root_size r) known room come
+  sound_named b known room come moved links =
+      sound_turned i s v is j b (root_of i.holders.node r) (λ o. 0) 1 known room come
       (tallied-none Less b (λ o. 0) 0 (λ o. refl) refl) refl
       (λ n. let m = moved n in
       let z = ap (λ p. stack_of i.stack.invocations (object_at p n)) same.node in omega arith)
       (λ o away. let y = root-away i.holders.node r o away in
       let u = uses_kept i j same come.came.heap o in omega arith)
       (λ o. let u = uses_kept i j same come.came.heap o in let f = s.few o in omega arith)
+      s.numbered links
     where
       -- the part after it
       j : Inside
@@ -61,7 +65,7 @@ module _ (i : Inside) (s : IsSound i) (v : Owned) (is : owned_of i ≡ v) (after
 
       -- the rest is the same
       same : SameNumbers i.holders b
-      same = numbers_came i.holders b (root_of i.holders.node r) (root_size r) come
+      same = numbers_came i.holders b (root_of i.holders.node r) 1 come
 
   -- the name that an entry was can go
   pub entry_go : ((n : ℕ) → entries_to i.exports.counts n i.ends
@@ -76,8 +80,9 @@ module _ (i : Inside) (s : IsSound i) (v : Owned) (is : owned_of i ≡ v) (after
   pub sound_left : (b : Holders) → HasGone i.holders b (root_of i.holders.node r)
       → ((n : ℕ) → entries_to i.exports.counts n i.ends
       ≡ entries_to after.counts n i.ends + root_of i.holders.node r (object_at i.holders.node n))
+      → AreLinked (record i { holders = b; exports = after })
       → IsSound (record i { holders = b; exports = after })
-  sound_left b gone moved =
+  sound_left b gone moved links =
       sound_turned i s v is j i.holders (λ o. 0) (root_of i.holders.node r) 0
       (λ n above. absurd (omega (arith, above))) (omega arith)
       (tallied-none More i.holders (λ o. 0) 0 (λ o. refl) refl) gone refl
@@ -86,6 +91,7 @@ module _ (i : Inside) (s : IsSound i) (v : Owned) (is : owned_of i ≡ v) (after
       (λ o away. let y = root-away i.holders.node r o away in
       let u = uses_kept i j same (sym gone.went.heap) o in omega arith)
       (λ o. let u = uses_kept i j same (sym gone.went.heap) o in let f = s.few o in omega arith)
+      s.numbered links
     where
       -- the part after it
       j : Inside

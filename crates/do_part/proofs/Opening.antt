@@ -1,5 +1,5 @@
 -- A part with nothing yet.
-use Rattle.std.proofs.Common.{◌≡◌, ℕ, ◌≤◌, List, [], None, T}
+use Rattle.std.proofs.Common.{◌≡◌, ℕ, ◌≤◌, List, [], None, T, true}
 use Rattle.std.proofs.Common.{map as each, refl, sym, ap, ◌∙◌, arith, subst, length, is_some}
 use Rattle.std.specs.Option.{unwrap_or}
 use Rattle.std.specs.Prelude.{◌==◌}
@@ -14,12 +14,16 @@ use Rattle.do_import.specs.Asked.{ask_cmp}
 use Rattle.do_import.specs.ByObject.{object_of}
 use Rattle.do_import.specs.Imported.{Imported}
 use Rattle.do_machine.specs.Lists.{all_inserted}
+use Rattle.do_machine.specs.declared.node.Lend.{Lend}
+use Rattle.do_machine.specs.declared.node.Wanted.{Wanted}
 use Rattle.do_machine.specs.lend.Asking.{wanted_lt}
+use Rattle.do_network.specs.Own.{Own}
 use Rattle.do_stack.specs.Stacked.{Stacked}
 use Rattle.do_store.specs.Names.{Objects}
 use Rattle.do_part.specs.Holding.{plain}
 use Rattle.do_part.specs.Seen.{own_of, lend_of, lend_lt, ask_of}
 use Rattle.do_part.specs.Names.{stack_of}
+use Rattle.do_part.specs.Numbered.{IsNumbered}
 use Rattle.do_part.specs.Sound.{IsSound, holders}
 use Rattle.do_part.specs.declared.part.Part.TheInside.{Inside}
 use Rattle.std.proofs.lemmas.List.Sums.{sum_by-cons}
@@ -46,7 +50,8 @@ none_counted k s = ap (λ o. unwrap_or o 0) (get-empty entry_cmp (k, s))
 
 -- no peer has an entry
 no_entries : (n : ℕ) (ends : List ℕ)
-    → sum_by (λ (peer : ℕ). cond (map.contains_key (map.empty {X = ℕ} {R = entry_cmp}) (peer, n)) 1 0) ends ≡ 0
+    → sum_by (λ (peer : ℕ).
+    cond (map.contains_key (map.empty {X = ℕ} {R = entry_cmp}) (peer, n)) 1 0) ends ≡ 0
 no_entries n [] = refl
 no_entries n (p ∷ ps) =
     let a = sum_by-cons (λ (peer : ℕ).
@@ -59,11 +64,14 @@ no_entries n (p ∷ ps) =
 
 -- such a part is sound
 pub sound_new : (node : ℕ) (store : Objects) (imports : Imported) (exports : Exported)
-    (stack : Stacked) (ends : List ℕ) → store ≡ empty_store node → imports.own ≡ node → imports.uses ≡ map.empty → imports.named ≡ map.empty
-    → exports.counts ≡ map.empty → stack.invocations ≡ [] → length ends ≤ 64
+    (stack : Stacked) (ends : List ℕ) → store ≡ empty_store node → imports.own ≡ node
+    → imports.received ≡ map.empty → imports.uses ≡ map.empty → imports.named ≡ map.empty
+    → imports.asks ≡ map.empty → exports.counts ≡ map.empty → stack.invocations ≡ []
+    → stack.late ≡ [] → length ends ≤ 64
     → IsDistinct (λ (p q : ℕ). p == q) ends
     → IsSound (begun node store imports exports stack ends)
-sound_new node store imports exports stack ends is own uses named none empty few apart =
+sound_new node store imports exports stack ends is own received uses named asks none empty late
+    few apart =
     subst (λ s. IsSound (begun node s imports exports stack ends)) (sym is)
     (record {
       balanced = record {
@@ -88,13 +96,37 @@ sound_new node store imports exports stack ends is own uses named none empty few
       most = omega arith;
       small = few;
       apart = apart;
+      numbered = subst (λ l. IsNumbered node l stack.late 1) (sym empty)
+          (subst (λ l. IsNumbered node [] l 1) (sym late) (record {
+            once = λ k. omega arith;
+            below = λ k above. absurd (omega (arith, above));
+            home = refl;
+          }));
+      links = record {
+        ends = λ k there. absurd (no_key k (ap (λ m. map.contains_key m k) (sym none) ∙ there));
+        sent = λ k. let a = ap (λ m. count_of m k.0 k.1) none in
+            let b = none_counted k.0 k.1 in omega (arith, a, b);
+        got = λ k. let a = ap (λ m. count_of m k.0 k.1) received in
+            let b = none_counted k.0 k.1 in omega (arith, a, b);
+        held = λ k there.
+            absurd (no_key k (ap (λ m. map.contains_key m k) (sym received) ∙ there));
+        asked = λ k there. absurd (subst T (sym there ∙ ap (λ m. map.contains_key m k) asks
+            ∙ ap is_some (get-empty {X = ClassId} ask_cmp k)) tt);
+      };
     })
   where
+    -- there is no entry
+    no_key : (k : ℕ × ℕ) → map.contains_key (map.empty {X = ℕ} {R = entry_cmp}) k ≡ true → ⊥
+    no_key k there = subst T (sym there ∙ ap is_some (get-empty {X = ℕ} entry_cmp k)) tt
+
     -- nothing is held
-    unheld : (n : ℕ) → holders (own_of (begun node (empty_store node) imports exports stack ends)) n ≡ 0
+    unheld : (n : ℕ)
+        → holders (own_of (begun node (empty_store node) imports exports stack ends)) n ≡ 0
     unheld n =
-        let s = ap (λ (l : List Invocation). stack_of l (record { node = node; serial = n })) empty in
-        let e = ap (λ m. sum_by (λ (peer : ℕ). cond (map.contains_key m (peer, n)) 1 0) ends) none in
+        let s = ap (λ (l : List Invocation). stack_of l (record { node = node; serial = n }))
+        empty in
+        let e = ap (λ m. sum_by (λ (peer : ℕ). cond (map.contains_key m (peer, n)) 1 0) ends)
+        none in
         let z = no_entries n ends in
         omega arith
 
@@ -103,31 +135,35 @@ no_items : {X : Type 0} (xs : List X) → length xs ≡ 0 → xs ≡ []
 no_items [] e = refl
 no_items (x ∷ xs) e = absurd (omega (arith, e))
 
+-- what a part has that is new, but for what it holds, lent and asks for
+abbrev nothing_but : ℕ → List ℕ → List ObjectName → List Lend → List Wanted → Own
+nothing_but node ends held lent asked = record {
+  node = record {
+    port = node;
+    heap = [];
+    root = None;
+    stack = [];
+    next_serial = 1;
+    next_call = 1;
+    next_token = 1;
+    open_to = ends;
+    held = held;
+    lent = lent;
+    asked = asked;
+    late = [];
+  };
+  counts = map.empty;
+  received = map.empty;
+  classes = map.empty;
+}
+
 -- such a part has nothing
 pub own_new : (node : ℕ) (store : Objects) (imports : Imported) (exports : Exported)
     (stack : Stacked) (ends : List ℕ) → store ≡ empty_store node
     → imports.received ≡ map.empty → imports.lends ≡ map.empty → imports.next ≡ 1
     → imports.asks ≡ map.empty → imports.classes ≡ map.empty
     → exports.counts ≡ map.empty → stack.invocations ≡ [] → stack.late ≡ []
-    → own_of (begun node store imports exports stack ends) ≡ record {
-      node = record {
-        port = node;
-        heap = [];
-        root = None;
-        stack = [];
-        next_serial = 1;
-        next_call = 1;
-        next_token = 1;
-        open_to = ends;
-        held = [];
-        lent = [];
-        asked = [];
-        late = [];
-      };
-      counts = map.empty;
-      received = map.empty;
-      classes = map.empty;
-    }
+    → own_of (begun node store imports exports stack ends) ≡ nothing_but node ends [] [] []
 own_new node store imports exports stack ends is received lends next asks classes none empty late =
     (λ j. record {
       node = record {
@@ -148,25 +184,9 @@ own_new node store imports exports stack ends is received lends next asks classe
       received = received j;
       classes = classes j;
     })
-    ∙ λ j. record {
-      node = record {
-        port = node;
-        heap = [];
-        root = None;
-        stack = [];
-        next_serial = 1;
-        next_call = 1;
-        next_token = 1;
-        open_to = ends;
-        held = each object_of (no_keys j);
-        lent = all_inserted lend_lt (each lend_of (no_lends j));
-        asked = all_inserted wanted_lt (each ask_of (no_asks j));
-        late = [];
-      };
-      counts = map.empty;
-      received = map.empty;
-      classes = map.empty;
-    }
+    ∙ λ j. nothing_but node ends (each object_of (no_keys j))
+    (all_inserted lend_lt (each lend_of (no_lends j)))
+    (all_inserted wanted_lt (each ask_of (no_asks j)))
   where
     -- no object was received
     no_keys : map.keys (map.empty {X = ℕ} {R = entry_cmp}) ≡ []

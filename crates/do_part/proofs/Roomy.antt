@@ -65,4 +65,12 @@ module _ (i : Inside) (b : Holders) (e : Exported) (k : Stacked) (s : SameHolder
     most = sound.most;
     small = sound.small;
     apart = sound.apart;
+    numbered = sound.numbered;
+    links = record {
+      ends = sound.links.ends;
+      sent = sound.links.sent;
+      got = sound.links.got;
+      held = sound.links.held;
+      asked = sound.links.asked;
+    };
   })

@@ -1,13 +1,11 @@
 -- A part stays sound where its root changes, or only what it holds of other nodes.
-use Rattle.std.proofs.Common.{◌≡◌, ◌≢◌, ℕ, ◌+◌, ◌≤◌, Some, None, Option, cond, eqb, ◌&&◌, map}
+use Rattle.std.proofs.Common.{◌≡◌, ◌≢◌, ℕ, ◌≤◌, Some, None, Option, cond, eqb, ◌&&◌, map}
 use Rattle.std.proofs.Common.{false, refl, sym, ap, ◌∙◌, arith, eq-eqb, ne_eqb, subst}
 use Rattle.do_base.specs.names.Names.{ObjectName}
-use Rattle.do_export.specs.Counts.{count_of}
-use Rattle.do_import.specs.Imported.{Imported}
 use Rattle.do_machine.specs.Objects.{object_at}
 use Rattle.do_machine.specs.held.Kept.{is_root}
 use Rattle.do_network.specs.Own.{Own}
-use Rattle.do_part.specs.Holding.{plain, IsPositive, CanGo, HasCome, HasGone}
+use Rattle.do_part.specs.Holding.{plain, CanGo, HasCome, HasGone}
 use Rattle.do_part.specs.Names.{stack_of, AreStored}
 use Rattle.do_part.specs.Owned.{Owned}
 use Rattle.do_part.specs.Rooting.{root_of, root_size}
@@ -16,6 +14,7 @@ use Rattle.do_part.specs.Sound.{IsSound}
 use Rattle.do_part.specs.declared.holders.Holders.{Holders}
 use Rattle.do_part.specs.declared.part.Part.TheInside.{Inside}
 use Rattle.do_part.proofs.Bounds.{at-le}
+use Rattle.do_part.proofs.Linking.{links_kept}
 use Rattle.do_part.proofs.Naming.{of-Obj}
 use Rattle.do_part.proofs.Rest.{SameNumbers, numbers_turned, heap_kept, uses_kept}
 use Rattle.do_part.proofs.Turning.{turned_go, sound_turned}
@@ -78,7 +77,9 @@ module _ (i : Inside) (s : IsSound i) (v : Owned) (is : owned_of i ≡ v) where
       (λ o away. let x = root-away i.holders.node i.root o away in
       let y = root-away i.holders.node after o away in
       let u = uses_kept i j same heap o in omega arith)
-      (λ o. let u = uses_kept i j same heap o in let f = s.few o in omega arith)
+      (λ o. let u = uses_kept i j same heap o in let f = s.few o in omega arith) s.numbered
+      (links_kept i j s.links same.node same.imports (let x = come.names in let y = gone.names in
+      omega (arith, x, y)) refl refl)
     where
       -- the part after it
       j : Inside
@@ -96,26 +97,3 @@ module _ (i : Inside) (s : IsSound i) (v : Owned) (is : owned_of i ≡ v) where
       heap : map plain c.store.objects ≡ map plain i.holders.store.objects
       heap = heap_kept i.holders b c (root_of i.holders.node after)
           (root_of i.holders.node i.root) (root_size after) come went
-
--- a part that received objects is sound
-pub sound_received : (i : Inside) → IsSound i → (m : Imported) → m.own ≡ i.holders.imports.own
-    → m.uses ≡ i.holders.imports.uses → m.named ≡ i.holders.imports.named
-    → IsSound (record i { holders = record i.holders { imports = m } })
-sound_received i s m home same kept = record {
-  balanced = record {
-    home = s.balanced.home;
-    lender = home ∙ s.balanced.lender;
-    held = s.balanced.held;
-    there = s.balanced.there;
-    closed = s.balanced.closed;
-    rising = s.balanced.rising;
-    used = λ o away. let x = ap (λ c. count_of c o.node o.serial) same in
-        let y = ap (λ c. count_of c o.node o.serial) kept in
-        let z = s.balanced.used o away in omega arith;
-    positive = subst IsPositive (sym same) s.balanced.positive;
-  };
-  few = λ o. let y = ap (λ c. count_of c o.node o.serial) kept in let z = s.few o in omega arith;
-  most = s.most;
-  small = s.small;
-  apart = s.apart;
-}

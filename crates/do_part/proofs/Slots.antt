@@ -18,7 +18,8 @@ use Rattle.do_machine.specs.declared.node.Stored.{Stored}
 use Rattle.do_machine.specs.run.Changes.{with_writes}
 use Rattle.do_store.specs.Listing.{Rising}
 use Rattle.do_store.specs.Names.{Stored as Kept, find_stored, named_in, replaced, Objects}
-use Rattle.do_part.specs.Holding.{plain, IsPositive, Came}
+use Rattle.do_export.specs.Counts.{IsPositive}
+use Rattle.do_part.specs.Holding.{plain, Came}
 use Rattle.do_part.specs.Names.{value_of, values_of, heap_of}
 use Rattle.do_part.specs.Sound.{IsBalanced}
 use Rattle.do_part.specs.declared.holders.Holders.{Holders}
@@ -142,7 +143,8 @@ module _ (a b : Holders) (n at : ℕ) (v old : Value) (w : Wrote a b n at v old)
     rising = subst (λ l. Rising (λ (o : Kept). o.serial) 0 l b.store.next) (sym w.objects)
         (subst (λ m. Rising (λ (o : Kept). o.serial) 0
         (replaced n (λ o. slot_written at v o ∷ []) a.store.objects) m) (sym w.next)
-        (rising-replaced n (slot_written at v) (λ o. refl) 0 a.store.next a.store.objects s.rising));
+        (rising-replaced n (slot_written at v) (λ o. refl) 0 a.store.next a.store.objects
+        s.rising));
     used = λ o away. ap (λ (i : Imported). count_of i.uses o.node o.serial) w.imports
         ∙ s.used o (λ e. away (e ∙ sym w.node));
     positive = subst (λ (i : Imported). IsPositive i.uses) (sym w.imports) s.positive;

@@ -13,7 +13,8 @@ use Rattle.do_part.proofs.Replaced.{still}
 pub came-none : (a : Holders) (f : ObjectName → ℕ) → ((o : ObjectName) → f o ≡ 0) → Came a a f
 came-none a f none = record {
   own = λ n o is.
-      is ∙ ap (λ h. Some (record o { held = h })) (let e = none (object_at a.node n) in omega arith);
+      is ∙ ap (λ h. Some (record o { held = h }))
+      (let e = none (object_at a.node n) in omega arith);
   heap = refl;
   home = refl;
   next = refl;
@@ -98,8 +99,8 @@ can-less a f e s u can less fewer = record {
 
 -- where names can come, and some came, the others can come
 pub can-rest : (a b : Holders) (f d e : ObjectName → ℕ) (s t u : ℕ) → CanCome a f s → Came a b d
-    → a.imports.spare ≤ b.imports.spare + t → b.names ≡ a.names + t → ((o : ObjectName) → d o + e o ≤ f o) → t + u ≤ s
-    → CanCome b e u
+    → a.imports.spare ≤ b.imports.spare + t → b.names ≡ a.names + t
+    → ((o : ObjectName) → d o + e o ≤ f o) → t + u ≤ s → CanCome b e u
 can-rest a b f d e s t u can came spare names less fewer = record {
   own = λ n above.
       let at : e (object_at b.node n) ≡ e (object_at a.node n) =

@@ -4,9 +4,10 @@ use Rattle.std.proofs.Common.{eqb, IsSome, map, refl, sym, ap, ◌∙◌, subst}
 use Rattle.std.specs.Prelude.{option_map, MatchOption}
 use Rattle.do_base.specs.declared.values.value.Value.{Value}
 use Rattle.do_class.specs.declared.ids.ClassId.{ClassId}
+use Rattle.do_machine.specs.Objects.{object_at}
 use Rattle.do_machine.specs.State.{stored}
 use Rattle.do_machine.specs.declared.node.Stored.{Stored}
-use Rattle.do_store.specs.Names.{Stored as Kept, find_stored}
+use Rattle.do_store.specs.Names.{Stored as Kept, find_stored, stored_name}
 use Rattle.do_part.specs.Holding.{plain}
 use Rattle.do_part.proofs.Balanced.{found_of, some_of}
 use Rattle.do_part.proofs.Replaced.{found-serial}
@@ -36,7 +37,7 @@ found-stored xs n some = by_option (find_stored xs n) refl
     by_option (Some x) found = rw found refl
 
 -- what the store does not have the node does not store
-none-stored : (xs : List Kept) (n : ℕ) → find_stored xs n ≡ None
+pub none-stored : (xs : List Kept) (n : ℕ) → find_stored xs n ≡ None
     → stored n (map plain xs) ≡ None
 none-stored xs n none = stored-plain xs n ∙ ap (option_map plain) none
 
@@ -65,3 +66,10 @@ pub stored-found : (xs : List Kept) (n : ℕ) → IsSome (find_stored xs n)
     → IsSome (stored n (map plain xs))
 stored-found xs n some = let f = found_of (find_stored xs n) some in
     some_of _ _ (some-stored xs n f.value f.is)
+
+-- the names of stored objects, as the store tells them
+pub stored-named : (p q : ℕ) → p ≡ q → (xs : List Kept)
+    → map (stored_name p) xs ≡ map (λ (x : Stored). object_at q x.serial) (map plain xs)
+stored-named p q same [] = refl
+stored-named p q same (x ∷ xs) =
+    λ j. object_at (same j) x.serial ∷ stored-named p q same xs j

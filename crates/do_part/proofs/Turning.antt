@@ -1,5 +1,5 @@
 -- A part stays sound where names come and others go.
-use Rattle.std.proofs.Common.{◌≡◌, ◌≢◌, ℕ, ◌+◌, ◌≤◌, Some, None, Bool, true, false, cond}
+use Rattle.std.proofs.Common.{◌≡◌, ◌≢◌, ℕ, ◌+◌, ◌≤◌, Some, None, false}
 use Rattle.std.proofs.Common.{IsSome, List, ◌<◌, map, sym, ap, ◌∙◌, arith, subst, length, refl}
 use Rattle.std.specs.Prelude.{◌==◌}
 use Rattle.std.specs.List.{IsDistinct}
@@ -8,7 +8,9 @@ use Rattle.do_machine.specs.Objects.{object_at}
 use Rattle.do_stack.specs.Stacked.{Stacked}
 use Rattle.do_store.specs.Names.{find_stored}
 use Rattle.do_part.specs.Holding.{plain, most_names, CanCome, CanGo, HasCome, HasGone}
+use Rattle.do_part.specs.Linked.{AreLinked}
 use Rattle.do_part.specs.Names.{stack_of, AreStored}
+use Rattle.do_part.specs.Numbered.{IsNumbered}
 use Rattle.do_part.specs.Owned.{Owned}
 use Rattle.do_part.specs.Seen.{own_of, owned_of}
 use Rattle.do_part.specs.Sound.{IsBalanced, IsSound, holders, uses}
@@ -17,6 +19,7 @@ use Rattle.do_part.specs.declared.part.Part.TheInside.{Inside}
 use Rattle.do_part.specs.declared.tally.Tally.TheVariants.{More, Less}
 use Rattle.do_part.proofs.Balanced.{balanced-came, balanced-went, can_come, can_go}
 use Rattle.do_part.proofs.Bounds.{entries-le, choice-le}
+use Rattle.do_part.proofs.Linking.{links_kept}
 use Rattle.do_part.proofs.Rest.{SameNumbers, numbers_turned, heap_kept, uses_kept}
 use Rattle.do_part.proofs.Stored.{found-stored}
 use Rattle.do_part.proofs.Tallying.{tallied-none}
@@ -89,8 +92,10 @@ module _ (i : Inside) (s : IsSound i) (v : Owned) (is : owned_of i ≡ v) where
       → ((n : ℕ) → holders (own_of j) n + e (object_at i.holders.node n)
       ≡ holders (own_of i) n + d (object_at i.holders.node n))
       → ((o : ObjectName) → o.node ≢ i.holders.node → uses j o + e o ≡ uses i o + d o)
-      → ((o : ObjectName) → uses j o ≤ i.holders.names + size) → IsSound j
-  sound_after j c d e size room before node names gone ends holds used few =
+      → ((o : ObjectName) → uses j o ≤ i.holders.names + size)
+      → IsNumbered i.holders.node j.stack.invocations j.stack.late j.next_call → AreLinked j
+      → IsSound j
+  sound_after j c d e size room before node names gone ends holds used few numbered links =
       let same = gone.names in
       let r = room_below size room in
       record {
@@ -103,6 +108,9 @@ module _ (i : Inside) (s : IsSound i) (v : Owned) (is : owned_of i ≡ v) where
         most = let m = r.1 in omega (arith, m, names, same);
         small = subst (λ (l : List ℕ). length l ≤ 64) (sym ends) s.small;
         apart = subst (IsDistinct (λ (p q : ℕ). p == q)) (sym ends) s.apart;
+        numbered = subst (λ p. IsNumbered p j.stack.invocations j.stack.late j.next_call)
+            (sym (sym gone.went.node ∙ node)) numbered;
+        links = links;
       }
 
   -- so it is where nothing happens between what comes and what goes
@@ -112,10 +120,12 @@ module _ (i : Inside) (s : IsSound i) (v : Owned) (is : owned_of i ≡ v) where
       → ((n : ℕ) → holders (own_of j) n + e (object_at i.holders.node n)
       ≡ holders (own_of i) n + d (object_at i.holders.node n))
       → ((o : ObjectName) → o.node ≢ i.holders.node → uses j o + e o ≡ uses i o + d o)
-      → ((o : ObjectName) → uses j o ≤ i.holders.names + size) → IsSound j
-  sound_turned j b d e size stored room come gone ends holds used few =
+      → ((o : ObjectName) → uses j o ≤ i.holders.names + size)
+      → IsNumbered i.holders.node j.stack.invocations j.stack.late j.next_call → AreLinked j
+      → IsSound j
+  sound_turned j b d e size stored room come gone ends holds used few numbered links =
       sound_after j b d e size room (balanced_in b d size stored come) come.came.node come.names
-      gone ends holds used few
+      gone ends holds used few numbered links
 
   -- names that stand in the stack can go
   pub stack_go : (b : Holders) (d e : ObjectName → ℕ) (size : ℕ) → AreStored v.own.node d
@@ -130,14 +140,18 @@ module _ (i : Inside) (s : IsSound i) (v : Owned) (is : owned_of i ≡ v) where
       → AreStored v.own.node d → ((o : ObjectName) → d o ≤ size) → size ≤ v.room.names
       → HasCome i.holders b d size → HasGone b c e
       → ((o : ObjectName) → stack_of k.invocations o + e o ≡ stack_of i.stack.invocations o + d o)
+      → IsNumbered i.holders.node k.invocations k.late call
       → IsSound (record i { holders = c; stack = k; next_call = call })
-  sound_moved b c d e size k call stored small room come gone moved =
+  sound_moved b c d e size k call stored small room come gone moved numbered =
       sound_turned j b d e size stored room come gone refl
       (λ n. let m = moved (object_at i.holders.node n) in
       let x = ap (λ p. stack_of k.invocations (object_at p n)) same.node in omega arith)
       (λ o away. let m = moved o in let u = uses_kept i j same heap o in omega arith)
       (λ o. let m = moved o in let u = uses_kept i j same heap o in let f = s.few o in
       let z = small o in omega arith)
+      numbered
+      (links_kept i j s.links same.node same.imports (let x = come.names in let y = gone.names in
+      omega (arith, x, y)) refl refl)
     where
       -- the part after it
       j : Inside
@@ -151,12 +165,13 @@ module _ (i : Inside) (s : IsSound i) (v : Owned) (is : owned_of i ≡ v) where
       heap = heap_kept i.holders b c d e size come gone
 
 -- a part is sound with other invocations that name the same
-pub sound_stacked : (i : Inside) → IsSound i → (k : Stacked)
+pub sound_stacked : (i : Inside) → IsSound i → (k : Stacked) (call : ℕ)
     → ((o : ObjectName) → stack_of k.invocations o ≡ stack_of i.stack.invocations o)
-    → IsSound (record i { stack = k })
-sound_stacked i s k same =
-    sound_moved i s (owned_of i) refl i.holders i.holders (λ o. 0) (λ o. 0) 0 k i.next_call
+    → IsNumbered i.holders.node k.invocations k.late call
+    → IsSound (record i { stack = k; next_call = call })
+sound_stacked i s k call same numbered =
+    sound_moved i s (owned_of i) refl i.holders i.holders (λ o. 0) (λ o. 0) 0 k call
     (λ n above. absurd (omega (arith, above))) (λ o. omega arith) (omega arith)
     (tallied-none More i.holders (λ o. 0) 0 (λ o. refl) refl)
     (tallied-none Less i.holders (λ o. 0) 0 (λ o. refl) refl)
-    (λ o. let x = same o in omega (arith, x))
+    (λ o. let x = same o in omega (arith, x)) numbered

@@ -1,5 +1,5 @@
 -- A part stays sound where a slot is written or an object created.
-use Rattle.std.proofs.Common.{◌≡◌, ◌≢◌, ℕ, ◌+◌, ◌<◌, ◌≤◌, ◌^◌, List, Bool, not, cond, eq-eqb, false}
+use Rattle.std.proofs.Common.{◌≡◌, ℕ, ◌+◌, ◌<◌, ◌≤◌, ◌^◌, false}
 use Rattle.std.proofs.Common.{IsSome, map, refl, sym, ap, ◌∙◌, arith, subst}
 use Rattle.std.specs.Prelude.{◌==◌}
 use Rattle.do_base.specs.names.Names.{ObjectName}
@@ -23,8 +23,8 @@ use Rattle.do_part.proofs.Balanced.{still_some, can_go, named-plain}
 use Rattle.do_part.proofs.Bounds.{value-le, values-le}
 use Rattle.do_part.proofs.Created.{Created, names-created, balanced-created}
 use Rattle.do_part.proofs.Naming.{counted-own, counted-foreign, counted-most}
-use Rattle.do_part.proofs.Rest.{SameNumbers, numbers_then, numbers_came, numbers_gone}
-use Rattle.do_part.proofs.Rest.{own_moved}
+use Rattle.do_part.proofs.Linking.{SameImports, links_kept}
+use Rattle.do_part.proofs.Rest.{SameNumbers, numbers_then, numbers_came, numbers_gone, own_moved}
 use Rattle.do_part.proofs.Slots.{Wrote, one_write, heap-wrote, names-wrote, balanced-wrote}
 use Rattle.do_part.proofs.Steps.{can-less}
 use Rattle.do_part.proofs.Stored.{found-stored}
@@ -76,8 +76,9 @@ module _ (i : Inside) (s : IsSound i) (v : Owned) (is : owned_of i ≡ v) (d : O
     pub slots_came : IsBalanced b (λ n. holders (own_of i) n + lot (object_at i.holders.node n))
         (λ o. uses i o + lot o)
     slots_came = balanced_in i s v is b lot size
-        (λ n above. stored n (let m = counted-most false i.holders.node d (object_at v.own.node.port n)
-        in omega arith)) come
+        (λ n above. stored n
+        (let m = counted-most false i.holders.node d (object_at v.own.node.port n) in omega arith))
+        come
 
 -- the part once a slot was written
 module _ (i : Inside) (s : IsSound i) (v : Owned) (is : owned_of i ≡ v) (w : Value)
@@ -85,13 +86,14 @@ module _ (i : Inside) (s : IsSound i) (v : Owned) (is : owned_of i ≡ v) (w : V
     (b c : Holders) (n at : ℕ) (old : Value)
     (come : HasCome i.holders b (counted false i.holders.node (value_of w)) (size_of w))
     (wrote : Wrote b c n at w old) where
-  -- the balance before and after the write
+  -- the balance before the write
   before : IsBalanced b
       (λ m. holders (own_of i) m
       + counted false i.holders.node (value_of w) (object_at i.holders.node m))
       (λ o. uses i o + counted false i.holders.node (value_of w) o)
   before = slots_came i s v is (value_of w) (size_of w) stored (λ o. value-le o w) room b come
 
+  -- and after it
   after : IsBalanced c
       (λ m. holders (own_of i) m
       + counted false i.holders.node (value_of w) (object_at i.holders.node m))
@@ -127,6 +129,12 @@ module _ (i : Inside) (s : IsSound i) (v : Owned) (is : owned_of i ≡ v) (w : V
     heap = sym gone.went.heap ∙ heap-wrote b c n at w old wrote _ _ before
         ∙ ap (change_first (λ x. x.serial == n) (with_writes (one_write at w))) come.came.heap
 
+    -- what is held of other nodes is the same, but for its uses
+    imports : SameImports i.holders.imports e.imports
+    imports = (numbers_gone c e (counted false c.node (value_of old)) gone).imports
+        ∙ ap (λ (m : Imported). record m { uses = e.imports.uses; spare = e.imports.spare })
+        (wrote.imports ∙ come.came.imports)
+
     -- all numbers are the same
     numbers : c.store.spare ≡ b.store.spare → SameNumbers i.holders e
     numbers spare = numbers_then i.holders c e
@@ -136,7 +144,8 @@ module _ (i : Inside) (s : IsSound i) (v : Owned) (is : owned_of i ≡ v) (w : V
           node = wrote.node;
           next = wrote.next;
           spare = spare;
-          imports = subst (λ (m : Imported). m ≡ record b.imports { uses = m.uses; spare = m.spare })
+          imports = subst
+              (λ (m : Imported). m ≡ record b.imports { uses = m.uses; spare = m.spare })
               (sym wrote.imports) refl;
         }))
         (numbers_gone c e (counted false c.node (value_of old)) gone)
@@ -164,7 +173,9 @@ module _ (i : Inside) (s : IsSound i) (v : Owned) (is : owned_of i ≡ v) (w : V
         (λ o away. let x = counted-foreign false i.holders.node (value_of old) o away in
         let y = counted-foreign false i.holders.node (value_of w) o away in
         let z = used o in omega arith)
-        (λ o. let z = used o in let f = s.few o in let l = value-le o w in omega arith)
+        (λ o. let z = used o in let f = s.few o in let l = value-le o w in omega arith) s.numbered
+        (links_kept i j s.links last imports (let x = come.names in
+        let y = gone.names in omega (arith, x, y, same)) refl refl)
       where
         -- the part after it
         j : Inside
@@ -204,6 +215,8 @@ sound_created i s v is b c x stored room come w same =
     (λ o away. let y = counted-foreign false i.holders.node (values_of x.slots) o away in
     let z = used o in omega arith)
     (λ o. let z = used o in let f = s.few o in let l = values-le o x.slots in omega arith)
+    s.numbered
+    (links_kept i j s.links node imports (let y = come.names in omega (arith, y, same)) refl refl)
   where
     -- the part after it
     j : Inside
@@ -220,6 +233,10 @@ sound_created i s v is b c x stored room come w same =
     -- the node is the same
     node : c.node ≡ i.holders.node
     node = w.node ∙ come.came.node
+
+    -- what is held of other nodes is the same, but for its uses
+    imports : SameImports i.holders.imports c.imports
+    imports = subst (SameImports i.holders.imports) (sym w.imports) come.came.imports
 
     -- the slots of the new object name besides what they name
     used : (o : ObjectName) → uses j o ≡ uses i o + values_of x.slots o

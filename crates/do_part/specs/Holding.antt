@@ -1,8 +1,7 @@
 -- What holds each object, own or foreign, and what counting names of objects changes.
-use Rattle.std.specs.Prelude.{◌≡◌, ◌≢◌, ℕ, true, ◌+◌, ◌<◌, ◌≤◌, ◌^◌, Some, map as each}
-use Rattle.std.specs.FinMap as map
+use Rattle.std.specs.Prelude.{◌≡◌, ◌≢◌, ℕ, ◌+◌, ◌<◌, ◌≤◌, ◌^◌, Some, map as each}
 use Rattle.do_base.specs.names.Names.{ObjectName}
-use Rattle.do_export.specs.Counts.{Counts, count_of}
+use Rattle.do_export.specs.Counts.{IsPositive, count_of}
 use Rattle.do_machine.specs.Objects.{object_at}
 use Rattle.do_machine.specs.declared.node.Stored.{Stored}
 use Rattle.do_store.specs.Names.{Stored as Kept, find_stored}
@@ -13,10 +12,6 @@ use Rattle.do_part.specs.declared.tally.Tally.TheVariants.{More, Less}
 -- a stored object, without the number of its holders
 abbrev pub plain : Kept → Stored
 plain o = record { serial = o.serial; class = o.class; slots = o.slots }
-
--- each entry counts something
-abbrev pub IsPositive : Counts → Type 0
-IsPositive counts = (k : ℕ × ℕ) → map.contains_key counts k ≡ true → 0 < count_of counts k.0 k.1
 
 -- the most names that are ever counted
 abbrev pub most_names : ℕ

@@ -2,6 +2,12 @@ pub mod Names
 pub mod Holding
 pub mod Owned
 pub mod Seen
+pub mod Linked
 pub mod Sound
 pub mod Rooting
 pub mod Changed
+pub mod Parting
+pub mod Left
+pub mod Numbered
+pub mod Answers
+pub mod Filled

@@ -1,5 +1,6 @@
 -- How often slots and invocations name an object, and how many names there are in values.
-use Rattle.std.specs.Prelude.{ℕ, ◌<◌, IsSome, Bool, not, ◌||◌, cond, eqb, List as Listed, sum, sum_by}
+use Rattle.std.specs.Prelude.{ℕ, ◌<◌, IsSome, Bool, not, ◌||◌, cond, eqb, List as Listed, sum}
+use Rattle.std.specs.Prelude.{sum_by}
 use Rattle.do_base.specs.names.Names.{ObjectName}
 use Rattle.do_base.specs.declared.values.value.Value.{Value, fold-Value}
 use Rattle.do_base.specs.declared.values.value.Value.TheOpen.{Value-F}

@@ -1,18 +1,19 @@
 -- What the counts of a part are: how often each object is named or held.
-use Rattle.std.specs.Prelude.{◌≡◌, ◌≢◌, ℕ, ◌+◌, ◌<◌, ◌≤◌, Some, IsSome, cond, sum_by, length}
-use Rattle.std.specs.Prelude.{◌==◌}
+use Rattle.std.specs.Prelude.{◌≡◌, ◌≢◌, ℕ, ◌+◌, ◌<◌, ◌≤◌, Some, IsSome, cond, sum_by, length, ◌==◌}
 use Rattle.std.specs.List.{IsDistinct}
 use Rattle.std.specs.FinMap as map
 use Rattle.do_base.specs.names.Names.{ObjectName}
-use Rattle.do_export.specs.Counts.{count_of}
+use Rattle.do_export.specs.Counts.{IsPositive, count_of}
 use Rattle.do_machine.specs.Objects.{object_at}
 use Rattle.do_machine.specs.declared.node.Node.{Node}
 use Rattle.do_machine.specs.held.Kept.{is_root}
 use Rattle.do_store.specs.Listing.{Rising}
 use Rattle.do_store.specs.Names.{Stored as Kept, find_stored, named_in}
-use Rattle.do_part.specs.Holding.{IsPositive, most_names}
+use Rattle.do_part.specs.Holding.{most_names}
+use Rattle.do_part.specs.Linked.{AreLinked}
 use Rattle.do_part.specs.Names.{stack_of, heap_of}
 use Rattle.do_network.specs.Own.{Own}
+use Rattle.do_part.specs.Numbered.{IsNumbered}
 use Rattle.do_part.specs.Seen.{own_of}
 use Rattle.do_part.specs.declared.holders.Holders.{Holders}
 use Rattle.do_part.specs.declared.part.Part.TheInside.{Inside}
@@ -51,11 +52,13 @@ pub record IsBalanced (h : Holders) (holds : ℕ → ℕ) (uses : ObjectName →
 abbrev pub uses : Inside → ObjectName → ℕ
 uses i o = named (own_of i).node o + count_of i.holders.imports.named o.node o.serial
 
--- each count of a part is what it is to be, none is too high, and few ends are open, each
--- once
+-- each count of a part is what it is to be, none is too high, few ends are open, each once, and
+-- calls are numbered once, and what it has with its peers is within bounds
 pub record IsSound (i : Inside) : Type 0 where
   pub balanced : IsBalanced i.holders (holders (own_of i)) (uses i)
   pub few : (o : ObjectName) → uses i o ≤ i.holders.names
   pub most : i.holders.names ≤ most_names
   pub small : length i.ends ≤ 64
   pub apart : IsDistinct (λ (p q : ℕ). p == q) i.ends
+  pub numbered : IsNumbered i.holders.node i.stack.invocations i.stack.late i.next_call
+  pub links : AreLinked i

@@ -1,4 +1,5 @@
 //! What holds each object, own or foreign.
+mod counting;
 mod invocations;
 mod moves;
 mod names;

@@ -33,7 +33,7 @@ impl Holders {
     }
 
     /// Counts the names in the answer that an invocation has, or takes them off.
-    fn tally_state(&mut self, by: Tally, state: &InvState)
+    pub(crate) fn tally_state(&mut self, by: Tally, state: &InvState)
         requires { CanTally by self.old (values_of (state_values state.now))
             (sizes_of (state_values state.now)) }
         ensures { Tallied by self.old self.new (values_of (state_values state.now))
@@ -44,8 +44,8 @@ impl Holders {
         }
     }
 
-    /// Counts the names in an invocation, or takes them off: of its object, in its locals and in its
-    /// answer.
+    /// Counts the names in an invocation, or takes them off: of its object, in its locals and in
+    /// its answer.
     pub(crate) fn tally_invocation(&mut self, by: Tally, inv: &Invocation)
         requires { CanTally by self.old (values_of (invocation_values inv.now))
             (sizes_of (invocation_values inv.now)) }

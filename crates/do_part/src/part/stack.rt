@@ -3,4 +3,7 @@ mod answering;
 mod calling;
 mod changing;
 mod invoking;
+mod late;
+mod pushing;
+mod standing;
 mod stepping;

@@ -1,5 +1,5 @@
 //! Entries: the own objects that peers may use.
-ghost use Rattle.std.specs.Prelude.{◌≡◌, ◌+◌, ◌-◌, ◌<◌, ◌≤◌, ◌^◌, true, IsSome, Some, None};
+ghost use Rattle.std.specs.Prelude.{◌≡◌, ◌+◌, ◌<◌, ◌≤◌, true, IsSome, Some, None};
 ghost use Rattle.std.specs.Prelude.{MatchResult, if◌then◌else◌};
 ghost use Rattle.std.specs.FinMap as map;
 ghost use Rattle.do_export.specs.Counts.{count_of, raised, lowered};
@@ -27,7 +27,6 @@ impl Part {
         requires stored { IsSome (stored serial self.old.own.node.heap) }
         requires names { 0 < self.old.room.names }
         requires room { 0 < self.old.room.entries }
-        requires small { count_of self.old.own.counts peer serial < 2 ^ 64 - 1 }
         ensures own { self.new.own
             ≡ record self.old.own { counts = raised self.old.own.counts peer serial } }
         ensures objects { self.new.room.objects ≡ self.old.room.objects }
@@ -36,8 +35,7 @@ impl Part {
         ensures entries { self.old.room.entries ≤ self.new.room.entries + 1 }
     {
         let known = self.exports.has(peer, serial);
-        self.holders
-            .tally_root(Tally::More, serial_if(!known, serial));
+        self.holders.come_once(serial_if(!known, serial));
         self.exports.name(peer, serial);
     }
 

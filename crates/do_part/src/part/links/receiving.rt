@@ -1,8 +1,7 @@
 //! Foreign objects received.
-ghost use Rattle.std.specs.Prelude.{◌≡◌, ◌-◌, ◌<◌, ◌≤◌, ◌^◌, ◌+◌};
-ghost use Rattle.do_export.specs.Counts.{count_of};
+ghost use Rattle.std.specs.Prelude.{◌≡◌, ◌≢◌, ◌<◌, ◌≤◌, ◌+◌};
 ghost use Rattle.do_import.specs.ByObject.{added, first_kept};
-ghost use Rattle.do_part.specs.Rooting.{held_of};
+ghost use Rattle.do_machine.specs.Objects.{joined};
 
 use crate::part::Part;
 use do_base::Oid;
@@ -10,11 +9,13 @@ use do_class::ClassId;
 
 impl Part {
     /// Counts a foreign object as received once more, in room that was made before.
+    ///
+    /// Its class is kept, unless one was named before.
     pub fn got(&mut self, oid: Oid, class: ClassId)
+        requires foreign { oid.node ≢ self.old.own.node.port }
         requires room { 0 < self.old.room.names }
-        requires small { count_of self.old.own.received oid.node oid.serial < 2 ^ 64 - 1 }
         ensures own { self.new.own ≡ record self.old.own {
-          node = record self.old.own.node { held = held_of (added self.old.own.received oid) };
+          node = record self.old.own.node { held = joined self.old.own.node.held oid };
           received = added self.old.own.received oid;
           classes = first_kept self.old.own.classes oid class;
         } }
@@ -24,5 +25,6 @@ impl Part {
         ensures entries { self.new.room.entries ≡ self.old.room.entries }
     {
         self.holders.imports.got(oid, class);
+        self.holders.count_name();
     }
 }

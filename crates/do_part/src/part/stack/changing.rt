@@ -1,16 +1,17 @@
 //! The top invocation changed in place.
 ghost use Rattle.std.specs.Prelude.{◌≡◌, ◌<◌, ◌≤◌, ◌+◌, [], false, Some, length, slice_get};
-ghost use Rattle.do_behave.specs.Changes.{IsFitting, meaning};
+ghost use Rattle.do_behave.specs.Changes.{IsFitting, meaning, with_set};
 ghost use Rattle.do_behave.specs.InPlace.{after_act};
 ghost use Rattle.do_behave.specs.declared.invocation.Invocation.{Invocation};
+ghost use Rattle.do_machine.specs.run.Changes.{steps_to};
 ghost use Rattle.do_machine.specs.run.Fresh.{with_stack};
 ghost use Rattle.do_stack.specs.Exchange.{given, takes_memory};
 ghost use Rattle.do_stack.specs.Waiting.{with_top};
-ghost use Rattle.do_part.specs.Names.{values_of, sizes_of};
-ghost use Rattle.do_part.specs.Names.{AreStored};
+ghost use Rattle.do_part.specs.Changed.{set_values};
+ghost use Rattle.do_part.specs.Names.{values_of, sizes_of, AreStored};
 
 use crate::part::Part;
-use do_behave::Change;
+use do_behave::{Change, Handler, LocalSets};
 
 impl Part {
     /// Makes a change of the top invocation that takes no memory, but for its writes of slots.
@@ -47,5 +48,32 @@ impl Part {
             return 0;
         };
         top.object.serial
+    }
+
+    /// Sets locals of the top invocation in order, which then has this handler or none and goes on.
+    ///
+    /// They are set one after the other, so that what they held takes no memory.
+    pub(super) fn set_locals(&mut self, mut sets: LocalSets, handler: Option<Handler>, pc: u32)
+        requires top { 0 < length self.old.own.node.stack }
+        requires names { sizes_of (set_values sets) ≤ self.old.room.names }
+        requires stored { AreStored self.old.own.node (values_of (set_values sets)) }
+        ensures own { self.new.own ≡ record self.old.own {
+          node = with_stack (with_top (λ i. steps_to pc (with_set i.locals sets) handler i)
+              self.old.own.node.stack) self.old.own.node;
+        } }
+        ensures objects { self.new.room.objects ≡ self.old.room.objects }
+        ensures invocations { self.new.room.invocations ≡ self.old.room.invocations }
+        ensures names { self.old.room.names ≤ self.new.room.names + sizes_of (set_values sets) }
+        ensures entries { self.new.room.entries ≡ self.old.room.entries }
+    {
+        while !sets.is_empty() {
+            let first = sets.remove(0);
+            self.exchange(Change::Local {
+                into: first.local,
+                value: first.value,
+                pc,
+            });
+        }
+        self.exchange(Change::Handler { handler, pc });
     }
 }

@@ -1,6 +1,7 @@
 //! Invocations that begin and end.
-ghost use Rattle.std.specs.Prelude.{◌≡◌, ◌<◌, ◌≤◌, ◌+◌, ◌∷◌, [], length, MatchOption};
+ghost use Rattle.std.specs.Prelude.{◌≡◌, ◌<◌, ◌≤◌, ◌+◌, ◌∷◌, [], length, MatchOption, false};
 ghost use Rattle.do_machine.specs.run.Fresh.{pushed, with_stack};
+ghost use Rattle.do_machine.specs.take.Take.{is_waiting};
 ghost use Rattle.do_stack.specs.Uses.{invocation_values};
 ghost use Rattle.do_part.specs.Names.{values_of, sizes_of};
 ghost use Rattle.do_part.specs.Names.{AreStored};
@@ -10,9 +11,10 @@ use crate::tally::Tally;
 use do_behave::Invocation;
 
 impl Part {
-    /// Puts an invocation on top, in room that was made before.
+    /// Puts an invocation that waits for no call on top, in room that was made before.
     pub fn push(&mut self, inv: Invocation)
         requires depth { length self.old.own.node.stack < 256 }
+        requires running { is_waiting inv.state ≡ false }
         requires room { 0 < self.old.room.invocations }
         requires names { sizes_of (invocation_values inv) ≤ self.old.room.names }
         requires stored { AreStored self.old.own.node (values_of (invocation_values inv)) }

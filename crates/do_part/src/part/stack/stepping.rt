@@ -1,17 +1,20 @@
 //! Changes of the top invocation that are steps, with their writes of slots.
 ghost use Rattle.std.specs.Prelude.{◌≡◌, ◌<◌, ◌≤◌, ◌+◌, [], ◌∷◌, length, false, Some, slice_get};
+ghost use Rattle.std.specs.Prelude.{OnOk, OnErr, IfOk, IsOk};
 ghost use Rattle.do_behave.specs.Changes.{IsFitting};
 ghost use Rattle.do_behave.specs.declared.invocation.Invocation.{Invocation};
 ghost use Rattle.do_behave.specs.declared.act.Act.TheVariants.{Step};
-ghost use Rattle.do_behave.specs.declared.change.Change.TheVariants.{Other, Slot};
-ghost use Rattle.do_stack.specs.Exchange.{given, takes_memory};
+ghost use Rattle.do_behave.specs.declared.change.Change.TheVariants.{Other, Slot, Slots};
+ghost use Rattle.do_stack.specs.Exchange.{given};
 ghost use Rattle.do_part.specs.Changed.{written_values, change_writes, changed, act_left_on};
+ghost use Rattle.do_part.specs.Changed.{set_values, is_push};
 ghost use Rattle.do_part.specs.Names.{value_of, values_of, size_of, sizes_of};
 ghost use Rattle.do_part.specs.Names.{AreStored};
 
 use crate::part::Part;
 use do_base::{Items, Value};
-use do_behave::{Act, Change, Frame, Handler, Writes};
+use do_behave::{Act, Change, Frame, Handler, LocalSets, Writes};
+use std::alloc::AllocError;
 
 impl Part {
     /// The top invocation goes on, and a slot of its object is written.
@@ -60,21 +63,46 @@ impl Part {
         self.write_all(serial, writes);
     }
 
-    /// Makes a change of the top invocation that takes no memory: a step is done, with its writes of
-    /// slots, and any other act is handed back.
-    pub fn step(&mut self, change: Change) -> Option<Act>
+    /// The top invocation has other locals and another handler, and slots of its object are
+    /// written.
+    fn step_slots(&mut self, sets: LocalSets, handler: Option<Handler>, writes: Writes, pc: u32)
+        requires top { 0 < length self.old.own.node.stack }
+        requires names { sizes_of (set_values sets) + sizes_of (written_values writes)
+            ≤ self.old.room.names }
+        requires locals { AreStored self.old.own.node (values_of (set_values sets)) }
+        requires stored { AreStored self.old.own.node (values_of (written_values writes)) }
+        ensures own { self.new.own ≡ record self.old.own {
+          node = changed (Slots sets handler writes pc) self.old.own.node;
+        } }
+        ensures objects { self.new.room.objects ≡ self.old.room.objects }
+        ensures invocations { self.new.room.invocations ≡ self.old.room.invocations }
+        ensures names { self.old.room.names
+            ≤ self.new.room.names + sizes_of (set_values sets) + sizes_of (written_values writes) }
+        ensures entries { self.new.room.entries ≡ self.old.room.entries }
+    {
+        let serial = self.top_serial();
+        self.set_locals(sets, handler, pc);
+        self.write_all(serial, writes);
+    }
+
+    /// Makes a change of the top invocation: a step is done, with its writes of slots, and any
+    /// other act is handed back.
+    ///
+    /// Only a push takes memory. If that runs out, what the part has is unchanged.
+    pub fn step(&mut self, change: Change) -> Result<Option<Act>, AllocError>
         requires top { 0 < length self.old.own.node.stack }
         requires fits { (top : Invocation) → slice_get self.old.own.node.stack 0 ≡ Some top
             → IsFitting top change }
-        requires memory { takes_memory change ≡ false }
         requires names { sizes_of (given change)
             + sizes_of (written_values (change_writes change)) ≤ self.old.room.names }
         requires locals { AreStored self.old.own.node (values_of (given change)) }
         requires stored { AreStored self.old.own.node
             (values_of (written_values (change_writes change))) }
-        ensures own { self.new.own
-            ≡ record self.old.own { node = changed change self.old.own.node } }
-        ensures left { result ≡ act_left_on change self.old.own.node.stack }
+        ensures own { OnOk result (self.new.own
+            ≡ record self.old.own { node = changed change self.old.own.node }) }
+        ensures left { IfOk result (λ act. act ≡ act_left_on change self.old.own.node.stack) }
+        ensures err { OnErr result (self.new.own ≡ self.old.own) }
+        ensures sure { is_push change ≡ false → IsOk result }
         ensures objects { self.new.room.objects ≡ self.old.room.objects }
         ensures invocations { self.new.room.invocations ≡ self.old.room.invocations }
         ensures names { self.old.room.names ≤ self.new.room.names + sizes_of (given change)
@@ -84,7 +112,25 @@ impl Part {
         match change {
             Change::Slot { slot, value, pc } => {
                 self.step_slot(slot, value, pc);
-                None
+                Ok(None)
+            }
+            Change::Push {
+                list,
+                item,
+                weight,
+                pc,
+            } => {
+                self.push_item(list, item, weight, pc)?;
+                Ok(None)
+            }
+            Change::Slots {
+                sets,
+                handler,
+                writes,
+                pc,
+            } => {
+                self.step_slots(sets, handler, writes, pc);
+                Ok(None)
             }
             Change::Other(
                 Act::Step {
@@ -95,12 +141,12 @@ impl Part {
                 },
             ) => {
                 self.step_act(pc, locals, handler, writes);
-                None
+                Ok(None)
             }
-            Change::Other(act) => Some(act),
+            Change::Other(act) => Ok(Some(act)),
             other => {
                 self.exchange(other);
-                None
+                Ok(None)
             }
         }
     }

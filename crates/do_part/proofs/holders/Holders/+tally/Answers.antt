@@ -9,11 +9,13 @@ use Rattle.do_part.proofs.Naming.{size-part, counted-sum, counted-sum-le, counte
 use Rattle.do_part.proofs.Tallying.{tallied-as, tallied-then, tallied-node, tally-less, tally-rest}
 use Rattle.do_part.proofs.holders.Holders.+tally.Goals as goal
 
+-- the items of a list can be counted where the list can, and weigh less
 pub tally_value-tally_values-requires : goal.tally_value-tally_values-requires
 tally_value-tally_values-requires t c =
     let weight = ap weight_of c.in-List.is in
     let whole = weight-List c.in-List.values in
-    let smaller : sum_by weight_of c.in-List.values + 1 < weight_of c.args.value.now = omega arith in
+    let smaller : sum_by weight_of c.in-List.values + 1 < weight_of c.args.value.now =
+    omega arith in
     let can : CanTally c.args.by c.args.self.now
     (counted c.args.all c.args.self.now.node (values_of c.in-List.values))
     (sizes_of c.in-List.values) =
@@ -25,6 +27,7 @@ tally_value-tally_values-requires t c =
     (let e = ap size_of c.in-List.is in let s = size-List c.in-List.values in omega arith) in
     search rules
 
+-- a list is counted once its items are
 pub tally_value-returns-in-List : goal.tally_value-returns-in-List
 tally_value-returns-in-List t c =
     tallied-as c.args.by c.args.self.now c.tally_values.new.self _ _ _ _ c.tally_values.ensures
@@ -33,6 +36,7 @@ tally_value-returns-in-List t c =
     (ap (λ v. value_of v o) c.in-List.is ∙ of-List c.in-List.values o))
     (ap size_of c.in-List.is ∙ size-List c.in-List.values)
 
+-- the next item can be counted, and weighs less than all
 pub tally_values-tally_value-requires : goal.tally_values-tally_value-requires
 tally_values-tally_value-requires t c =
     let vs = c.as_slice-value-items.result.now in
@@ -62,6 +66,7 @@ tally_values-tally_value-requires t c =
     (omega (arith, all, part)) in
     search rules
 
+-- the items so far are counted with one more
 pub tally_values-loop-value-preserved : goal.tally_values-loop-value-preserved
 tally_values-loop-value-preserved t c =
     let vs = c.as_slice-value-items.result.now in

@@ -6,6 +6,7 @@ use Rattle.do_part.proofs.Sequences.{of-one, size-one}
 use Rattle.do_part.proofs.Tallying.{tallied-as, tally-less}
 use Rattle.do_part.proofs.holders.Holders.come_given.Goals as goal
 
+-- the value for a local can be counted
 pub tally_value-requires : goal.tally_value-requires
 tally_value-requires c = record {
   names = tally-less More c.args.self.now _ _ _ _ c.requires.names
@@ -15,6 +16,7 @@ tally_value-requires c = record {
       let s = size-one c.in-Local.value in omega arith);
 }
 
+-- what the change gives is that value
 pub returns-in-Local : goal.returns-in-Local
 returns-in-Local c =
     tallied-as More c.args.self.now c.tally_value.new.self _ _ _ _ c.tally_value.ensures

@@ -1,32 +1,31 @@
-use Rattle.std.proofs.Common.{◌≡◌, ◌≢◌, arith, refl, sym, ap, ◌∙◌, subst}
-use Rattle.do_base.specs.names.Names.{ObjectName}
+use Rattle.std.proofs.Common.{arith, refl, sym, ap, ◌∙◌, subst}
 use Rattle.do_import.specs.Imported.{Imported}
-use Rattle.do_part.specs.Holding.{Came, IsPositive, CanGo}
-use Rattle.do_part.proofs.Counting.{positive-lowered}
-use Rattle.do_part.proofs.Ones.{one_of, apart, same_home, own_held, one-slot}
+use Rattle.do_export.specs.Counts.{IsPositive}
+use Rattle.do_part.specs.Holding.{Came, CanGo}
+use Rattle.do_export.proofs.Counting.{positive-lowered}
+use Rattle.do_part.proofs.Ones.{one_of, is_away, is_home, own_held, one-slot}
 use Rattle.do_part.proofs.Ones.{went-own, went-foreign, foreign_used}
 use Rattle.do_part.proofs.Steps.{came-kept}
 use Rattle.do_part.proofs.holders.Holders.go.Goals as goal
 
+-- a foreign object is used
 pub unrefer-requires : goal.unrefer-requires
 unrefer-requires c =
-    let away : c.args.oid.node ≢ c.args.self.now.node = λ h.
-    apart _ _ _ c.if-ne.true c.ne.ensures (ap (λ (o : ObjectName). o.node) c.oid.view_is ∙ h) in
+    let away = is_away c.oid.view_is c.if-ne.true c.ne.ensures in
     foreign_used c.args.self.now c.args.oid c.args.all away c.requires
 
+-- an own object is stored, and held
 pub release-requires : goal.release-requires
 release-requires c =
-    let home : c.args.oid.node ≡ c.args.self.now.node =
-    sym (ap (λ (o : ObjectName). o.node) c.oid.view_is)
-    ∙ same_home _ _ _ c.if-ne.false c.ne.ensures in
+    let home = is_home c.oid.view_is c.if-ne.false c.ne.ensures in
     own_held c.args.self.now c.args.oid home
     (subst (λ b. CanGo c.args.self.now (one_of b c.args.self.now.node c.args.oid))
     c.if-all.true c.requires)
 
+-- a foreign object has a use less
 pub returns-then-ne : goal.returns-then-ne
 returns-then-ne c =
-    let away : c.args.oid.node ≢ c.args.self.now.node = λ h.
-    apart _ _ _ c.if-ne.true c.ne.ensures (ap (λ (o : ObjectName). o.node) c.oid.view_is ∙ h) in
+    let away = is_away c.oid.view_is c.if-ne.true c.ne.ensures in
     let uses = ap (λ (i : Imported). i.uses) c.unrefer.ensures.same in
     record {
       went = went-foreign c.args.self.now (record c.args.self.now { imports = c.unrefer.new.self })
@@ -44,11 +43,10 @@ returns-then-ne c =
       names = refl;
     }
 
+-- an own object has a holder less
 pub returns-then-all : goal.returns-then-all
 returns-then-all c =
-    let home : c.args.oid.node ≡ c.args.self.now.node =
-    sym (ap (λ (o : ObjectName). o.node) c.oid.view_is)
-    ∙ same_home _ _ _ c.if-ne.false c.ne.ensures in
+    let home = is_home c.oid.view_is c.if-ne.false c.ne.ensures in
     record {
       went = subst (λ b. Came (record c.args.self.now { store = c.release.new.self })
           c.args.self.now (one_of b c.args.self.now.node c.args.oid)) (sym c.if-all.true)
@@ -68,11 +66,10 @@ returns-then-all c =
       names = refl;
     }
 
+-- an own object in a slot is counted by the store alone
 pub returns-else-all : goal.returns-else-all
 returns-else-all c =
-    let home : c.args.oid.node ≡ c.args.self.now.node =
-    sym (ap (λ (o : ObjectName). o.node) c.oid.view_is)
-    ∙ same_home _ _ _ c.if-ne.false c.ne.ensures in
+    let home = is_home c.oid.view_is c.if-ne.false c.ne.ensures in
     record {
       went = came-kept c.args.self.now c.args.self.now _ refl refl refl
           (λ o. ap (λ b. one_of b c.args.self.now.node c.args.oid o) c.if-all.false

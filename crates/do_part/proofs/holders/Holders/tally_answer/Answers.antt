@@ -6,6 +6,7 @@ use Rattle.do_part.proofs.Sequences.{size-cons}
 use Rattle.do_part.proofs.Tallying.{tallied-then, tally-less, tally-rest}
 use Rattle.do_part.proofs.holders.Holders.tally_answer.Goals as goal
 
+-- the result can be counted where the whole answer can
 pub tally_value-requires : goal.tally_value-requires
 tally_value-requires c = record {
   names = tally-less c.args.by c.args.self.now _ _ _ _ c.requires
@@ -15,6 +16,7 @@ tally_value-requires c = record {
       let s = size-cons c.in-Given.result c.in-Given.outs in omega arith);
 }
 
+-- the outs can be counted once the result is
 pub tally_values-requires : goal.tally_values-requires
 tally_values-requires c = record {
   names = tally-rest c.args.by c.args.self.now c.tally_value.new.self _
@@ -26,6 +28,7 @@ tally_values-requires c = record {
       let s = size-cons c.in-Given.result c.in-Given.outs in omega arith);
 }
 
+-- the answer is its result and its outs
 pub returns-in-Given : goal.returns-in-Given
 returns-in-Given c =
     tallied-then c.args.by c.args.self.now c.tally_value.new.self c.tally_values.new.self

@@ -5,6 +5,7 @@ use Rattle.do_part.proofs.Naming.{of-more, of-part, size-more, size-part}
 use Rattle.do_part.proofs.Tallying.{tallied-as, tallied-then, tally-rest}
 use Rattle.do_part.proofs.holders.Holders.tally_frame.Goals as goal
 
+-- the next local can be counted where all can
 pub tally_value-requires : goal.tally_value-requires
 tally_value-requires c =
     let vs = c.as_slice-held-items.result.now in
@@ -23,6 +24,7 @@ tally_value-requires c =
           (let z = ap size_of c.value.ensures in omega (arith, all, part, z));
     }
 
+-- the locals so far are counted with one more
 pub loop-held-preserved : goal.loop-held-preserved
 loop-held-preserved c =
     let vs = c.as_slice-held-items.result.now in

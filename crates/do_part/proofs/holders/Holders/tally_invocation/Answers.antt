@@ -1,4 +1,4 @@
-use Rattle.std.proofs.Common.{◌+◌, ◌∙◌, arith, refl}
+use Rattle.std.proofs.Common.{◌+◌, arith, refl}
 use Rattle.do_base.specs.declared.values.value.Value.TheVariants.{Obj}
 use Rattle.do_machine.specs.held.Refers.{state_values}
 use Rattle.do_stack.specs.Uses.{invocation_values}
@@ -7,6 +7,7 @@ use Rattle.do_part.proofs.Sequences.{of-invocation, size-invocation}
 use Rattle.do_part.proofs.Tallying.{tallied-then, tally-less, tally-rest}
 use Rattle.do_part.proofs.holders.Holders.tally_invocation.Goals as goal
 
+-- the object can be counted where the whole invocation can
 pub tally-requires : goal.tally-requires
 tally-requires c =
     let i = c.args.inv.now in
@@ -14,6 +15,7 @@ tally-requires c =
     (sizes_of (invocation_values i)) 1 c.requires
     (λ o. let s = of-invocation i o in omega arith) (let s = size-invocation i in omega arith)
 
+-- the locals can be counted once the object is
 pub tally_frame-requires : goal.tally_frame-requires
 tally_frame-requires c =
     let i = c.args.inv.now in
@@ -22,6 +24,7 @@ tally_frame-requires c =
     (sizes_of i.locals) c.requires c.tally.ensures
     (λ o. let s = of-invocation i o in omega arith) (let s = size-invocation i in omega arith)
 
+-- the answer can be counted once object and locals are
 pub tally_state-requires : goal.tally_state-requires
 tally_state-requires c =
     let i = c.args.inv.now in
@@ -34,6 +37,7 @@ tally_state-requires c =
     c.tally.ensures c.tally_frame.ensures (λ o. refl) refl)
     (λ o. let s = of-invocation i o in omega arith) (let s = size-invocation i in omega arith)
 
+-- the invocation is its object, its locals and its answer
 pub returns : goal.returns
 returns c =
     let i = c.args.inv.now in

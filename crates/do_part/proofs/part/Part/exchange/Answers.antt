@@ -1,15 +1,17 @@
-use Rattle.std.proofs.Common.{[], ap, arith, refl, subst, length, ◌<◌}
+use Rattle.std.proofs.Common.{[], inl, ap, arith, refl}
 use Rattle.do_behave.specs.Changes.{meaning}
 use Rattle.do_behave.specs.InPlace.{after_act}
 use Rattle.do_stack.specs.Exchange.{given, taken}
 use Rattle.do_stack.specs.Waiting.{with_top}
 use Rattle.do_part.specs.Names.{values_of, sizes_of, stack_of}
 use Rattle.do_part.proofs.Bounds.{values-le}
-use Rattle.do_part.proofs.Exchanging.{change-moves, first_of}
+use Rattle.do_part.proofs.Exchanging.{change-moves, first_of, keeps_rest}
+use Rattle.do_part.proofs.Numbering.{eased-top, numbered_eased}
 use Rattle.do_part.proofs.Rest.{numbers_turned, heap_kept, own_stack, room_kept}
 use Rattle.do_part.proofs.Turning.{sound_come, stack_go, sound_moved}
 use Rattle.do_part.proofs.part.Part.exchange.Goals as goal
 
+-- the names that the change gives can be counted
 pub come_given-requires : goal.come_given-requires
 come_given-requires c = record {
   memory = c.requires.memory;
@@ -18,6 +20,7 @@ come_given-requires c = record {
       (λ o. values-le o (given c.args.change)) c.requires.names;
 }
 
+-- the names that the change took out are counted
 pub go_taken-requires : goal.go_taken-requires
 go_taken-requires c =
     let i = c.self.inside in
@@ -31,6 +34,7 @@ go_taken-requires c =
     let y = ap (λ l. values_of l o) (c.in-Ok.ensures.taken first.value first.is) in
     omega (arith, x, y))
 
+-- the part is sound with what was given counted and what was taken taken off
 pub invariant_of-self : goal.invariant_of-self
 invariant_of-self c =
     let i = c.self.inside in
@@ -46,7 +50,13 @@ invariant_of-self c =
     let y = ap (λ l. values_of l o) (c.in-Ok.ensures.taken first.value first.is) in
     let z = ap (λ l. stack_of l o) c.in-Ok.ensures.invocations in
     omega (arith, x, y, z))
+    (numbered_eased i c.self.invariant c.change.new.self
+    (with_top (λ t. (after_act (meaning t c.args.change) t []).inv) i.stack.invocations)
+    (eased-top (λ t. (after_act (meaning t c.args.change) t []).inv) i.stack.invocations
+    (λ t. inl (keeps_rest (meaning t c.args.change) t).1)) c.in-Ok.ensures.invocations
+    c.in-Ok.ensures.late)
 
+-- the top has made the change
 pub returns : goal.returns
 returns c =
     let i = c.self.inside in

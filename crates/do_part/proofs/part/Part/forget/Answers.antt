@@ -1,12 +1,16 @@
 use Rattle.std.proofs.Common.{Some, None, if◌then◌else◌}
-use Rattle.std.proofs.Common.{◌≡◌, ◌∙◌, true, sym, ap, arith, subst}
+use Rattle.std.proofs.Common.{◌≡◌, ◌∙◌, true, refl, sym, ap, arith, subst}
 use Rattle.std.specs.FinMap as map
 use Rattle.do_machine.specs.State.{is_open}
 use Rattle.do_part.specs.Owned.{Owned}
+use Rattle.do_part.specs.Rooting.{root_of}
 use Rattle.do_part.proofs.Entered.{entry_go, sound_left}
 use Rattle.do_part.proofs.Entries.{entries_to, removed-entries, names-entry}
+use Rattle.do_part.proofs.EntryBounds.{AreFewer, links_fewer, removed_fewer}
+use Rattle.do_part.proofs.Rest.{numbers_gone}
 use Rattle.do_part.proofs.part.Part.forget.Goals as goal
 
+-- the object of the entry is held by it
 pub tally_root-requires : goal.tally_root-requires
 tally_root-requires c =
     let i = c.self.inside in
@@ -23,6 +27,7 @@ tally_root-requires c =
     ∙ ap (λ b. if b then Some c.args.serial else None) c.has-known.ensures) in
     omega (arith, x, y, z))
 
+-- the part is sound without the entry
 pub invariant_of-self : goal.invariant_of-self
 invariant_of-self c =
     let i = c.self.inside in
@@ -39,3 +44,9 @@ invariant_of-self c =
     (c.serial_if.ensures
     ∙ ap (λ b. if b then Some c.args.serial else None) c.has-known.ensures) in
     omega (arith, x, y, z))
+    (links_fewer i (record i { holders = c.tally_root.new.self; exports = c.forget.new.self })
+    c.self.invariant.links (sym c.tally_root.ensures.went.node)
+    (numbers_gone i.holders c.tally_root.new.self (root_of i.holders.node r)
+    c.tally_root.ensures).imports refl (let e = c.tally_root.ensures.names in omega (arith, e))
+    (subst (AreFewer i.exports.counts) (sym c.forget.ensures.counts)
+    (removed_fewer i.exports.counts (c.args.peer, c.args.serial))))

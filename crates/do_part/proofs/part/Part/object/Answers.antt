@@ -2,6 +2,7 @@ use Rattle.std.proofs.Common.{sym}
 use Rattle.do_part.proofs.Stored.{look}
 use Rattle.do_part.proofs.part.Part.object.Goals as goal
 
+-- what the store has is what the node stores
 pub returns : goal.returns
 returns c =
     let i = c.self.inside in

@@ -1,13 +1,15 @@
-use Rattle.std.proofs.Common.{◌+◌, ap, sym, ◌∙◌, arith, refl}
+use Rattle.std.proofs.Common.{ap, sym, ◌∙◌, arith, refl, subst}
 use Rattle.do_stack.specs.Uses.{invocation_values}
 use Rattle.do_part.specs.Names.{values_of, stack_of}
 use Rattle.do_part.specs.declared.tally.Tally.TheVariants.{More}
 use Rattle.do_part.proofs.Exchanging.{stack-cons}
+use Rattle.do_part.proofs.Numbering.{IsEased, eased-pop, eased-same, numbered_eased}
 use Rattle.do_part.proofs.Rest.{numbers_gone, own_stack, room_kept}
 use Rattle.do_part.proofs.Tallying.{tallied-none}
 use Rattle.do_part.proofs.Turning.{stack_go, sound_moved, sound_stacked}
 use Rattle.do_part.proofs.part.Part.pop.Goals as goal
 
+-- the names in the top are counted
 pub tally_invocation-requires : goal.tally_invocation-requires
 tally_invocation-requires c =
     let i = c.self.inside in
@@ -21,9 +23,13 @@ tally_invocation-requires c =
 pub invariant_of-self : goal.invariant_of-self
 invariant_of-self c =
     let none = c.in_default.ensures.taken in
-    sound_stacked c.self.inside c.self.invariant c.pop.new.self
+    let i = c.self.inside in
+    sound_stacked i c.self.invariant c.pop.new.self i.next_call
     (λ o. ap (λ l. stack_of l o) (none.1 ∙ sym none.0))
+    (numbered_eased i c.self.invariant c.pop.new.self i.stack.invocations
+    (eased-same i.stack.invocations) (none.1 ∙ sym none.0) c.in_default.ensures.late)
 
+-- the part is sound without its top invocation
 pub invariant_of-self-2 : goal.invariant_of-self-2
 invariant_of-self-2 c =
     let i = c.self.inside in
@@ -33,7 +39,11 @@ invariant_of-self-2 c =
     (tallied-none More i.holders (λ o. 0) 0 (λ o. refl) refl) c.tally_invocation.ensures
     (λ o. let x = ap (λ l. stack_of l o) c.in-Some.ensures.taken in
     let y = stack-cons c.in-Some.top c.pop.new.self.invocations o in omega (arith, x, y))
+    (numbered_eased i c.self.invariant c.pop.new.self c.pop.new.self.invocations
+    (subst (λ l. IsEased l c.pop.new.self.invocations) (sym c.in-Some.ensures.taken)
+    (eased-pop c.in-Some.top c.pop.new.self.invocations)) refl c.in-Some.ensures.late)
 
+-- the stack is what was below the top
 pub returns : goal.returns
 returns c =
     let i = c.self.inside in

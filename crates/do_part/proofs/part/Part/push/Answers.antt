@@ -4,17 +4,20 @@ use Rattle.do_part.specs.Names.{values_of, sizes_of, stack_of}
 use Rattle.do_part.specs.declared.tally.Tally.TheVariants.{Less}
 use Rattle.do_part.proofs.Bounds.{values-le}
 use Rattle.do_part.proofs.Exchanging.{stack-cons}
+use Rattle.do_part.proofs.Numbering.{eased-push, numbered_eased}
 use Rattle.do_part.proofs.Rest.{numbers_came, own_stack, room_kept}
 use Rattle.do_part.proofs.Tallying.{tallied-none}
 use Rattle.do_part.proofs.Turning.{sound_come, sound_moved}
 use Rattle.do_part.proofs.part.Part.push.Goals as goal
 
+-- the names in the invocation can be counted
 pub tally_invocation-requires : goal.tally_invocation-requires
 tally_invocation-requires c =
     sound_come c.self.inside c.self.invariant _ c.self.view_is
     (values_of (invocation_values c.args.inv)) (sizes_of (invocation_values c.args.inv))
     c.requires.stored (λ o. values-le o (invocation_values c.args.inv)) c.requires.names
 
+-- the part is sound with the invocation on top
 pub invariant_of-self : goal.invariant_of-self
 invariant_of-self c =
     let i = c.self.inside in
@@ -25,7 +28,11 @@ invariant_of-self c =
     c.tally_invocation.ensures (tallied-none Less b (λ o. 0) 0 (λ o. refl) refl)
     (λ o. let x = ap (λ l. stack_of l o) c.in-Ok.ensures.ok in
     let y = stack-cons c.args.inv i.stack.invocations o in omega (arith, x, y))
+    (numbered_eased i c.self.invariant c.push.new.self (c.args.inv ∷ i.stack.invocations)
+    (eased-push c.args.inv i.stack.invocations c.requires.running) c.in-Ok.ensures.ok
+    c.in-Ok.ensures.late)
 
+-- the stack has the invocation on top
 pub returns : goal.returns
 returns c =
     let i = c.self.inside in

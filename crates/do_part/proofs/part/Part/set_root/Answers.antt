@@ -1,4 +1,4 @@
-use Rattle.std.proofs.Common.{ℕ, ◌≤◌, sym, ap, arith, subst}
+use Rattle.std.proofs.Common.{ℕ, sym, ap, arith, subst}
 use Rattle.do_part.specs.Names.{AreStored}
 use Rattle.do_part.specs.Owned.{Owned}
 use Rattle.do_part.specs.Rooting.{root_of, root_size}
@@ -6,6 +6,7 @@ use Rattle.do_part.proofs.Rooted.{root-le, size-le, root_go, sound_rooted}
 use Rattle.do_part.proofs.Turning.{sound_come}
 use Rattle.do_part.proofs.part.Part.set_root.Goals as goal
 
+-- the new root can be counted
 pub tally_root-requires : goal.tally_root-requires
 tally_root-requires c =
     let i = c.self.inside in
@@ -17,6 +18,7 @@ tally_root-requires c =
     (root_size c.args.root) stored (λ o. root-le i.holders.node c.args.root o)
     (omega (arith, names, one))
 
+-- the old root is counted
 pub tally_root-requires-2 : goal.tally_root-requires-2
 tally_root-requires-2 c =
     let stored = subst (λ (p : ℕ). AreStored c.args.self.now.own.node (root_of p c.args.root))
@@ -24,6 +26,7 @@ tally_root-requires-2 c =
     root_go c.self.inside c.self.invariant _ c.self.view_is c.tally_root.new.self c.args.root
     stored c.tally_root.ensures
 
+-- the part is sound with the new root counted and the old one taken off
 pub invariant_of-self : goal.invariant_of-self
 invariant_of-self c =
     let one = size-le c.args.root in

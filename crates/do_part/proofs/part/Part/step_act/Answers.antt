@@ -1,12 +1,11 @@
-use Rattle.std.proofs.Common.{ap, sym, ◌∙◌, arith, subst}
-use Rattle.do_machine.specs.run.Changes.{with_slots}
-use Rattle.do_part.specs.Changed.{written_values}
-use Rattle.do_part.specs.Names.{values_of}
+use Rattle.std.proofs.Common.{sym, arith, subst}
 use Rattle.do_network.specs.Own.{Own}
-use Rattle.do_part.specs.Names.{AreStored}
-use Rattle.do_part.proofs.Stepped.{act-stepped}
+use Rattle.do_part.specs.Changed.{written_values}
+use Rattle.do_part.specs.Names.{AreStored, values_of}
+use Rattle.do_part.proofs.Stepped.{act-stepped, then-written}
 use Rattle.do_part.proofs.part.Part.step_act.Goals as goal
 
+-- there is room for what is written, and what it names is stored
 pub write_all-requires : goal.write_all-requires
 write_all-requires c =
     let x = c.requires.names in
@@ -17,14 +16,11 @@ write_all-requires c =
           (sym c.exchange.ensures.own) c.requires.stored;
     }
 
+-- the step without its writes, and then the writes, are the whole step
 pub returns-clause-own : goal.returns-clause-own
 returns-clause-own c =
     let node = c.args.self.now.own.node in
+    then-written c.args.self.now.own c.top_serial-serial.result c.args.writes c.exchange.ensures.own
     c.write_all.ensures.own
-    ∙ ap (λ (o : Own). record o {
-      node = with_slots c.top_serial-serial.result
-          c.args.writes o.node;
-    }) c.exchange.ensures.own
-    ∙ ap (λ n. record c.args.self.now.own { node = n })
     (act-stepped node.stack node c.top_serial-serial.result c.args.pc c.args.locals
     c.args.handler c.args.writes c.new-none.result c.requires.top c.top_serial-serial.ensures)

@@ -1,12 +1,11 @@
-use Rattle.std.proofs.Common.{ap, sym, ◌∙◌, arith, subst}
-use Rattle.do_machine.specs.run.Changes.{with_slots}
+use Rattle.std.proofs.Common.{sym, arith, subst}
 use Rattle.std.specs.Prelude.{◌∷◌, []}
-use Rattle.do_part.specs.Names.{value_of}
 use Rattle.do_network.specs.Own.{Own}
-use Rattle.do_part.specs.Names.{AreStored}
-use Rattle.do_part.proofs.Stepped.{slot-stepped}
+use Rattle.do_part.specs.Names.{AreStored, value_of}
+use Rattle.do_part.proofs.Stepped.{slot-stepped, then-written}
 use Rattle.do_part.proofs.part.Part.step_slot.Goals as goal
 
+-- there is room for the value, and what it names is stored
 pub write-requires : goal.write-requires
 write-requires c =
     let x = c.requires.names in
@@ -17,14 +16,12 @@ write-requires c =
           (sym c.exchange.ensures.own) c.requires.stored;
     }
 
+-- to go on, and then to write the slot, is the whole step
 pub returns-clause-own : goal.returns-clause-own
 returns-clause-own c =
     let node = c.args.self.now.own.node in
+    then-written c.args.self.now.own c.top_serial-serial.result
+    (record { slot = c.args.slot; value = c.args.value } ∷ []) c.exchange.ensures.own
     c.write.ensures.own
-    ∙ ap (λ (o : Own). record o {
-      node = with_slots c.top_serial-serial.result
-          (record { slot = c.args.slot; value = c.args.value } ∷ []) o.node;
-    }) c.exchange.ensures.own
-    ∙ ap (λ n. record c.args.self.now.own { node = n })
     (slot-stepped node.stack node c.top_serial-serial.result c.args.slot c.args.pc c.args.value
     c.requires.top c.top_serial-serial.ensures)

@@ -16,24 +16,28 @@ returns-then-not-has_slot-clause-own c =
     rw (← c.self.view_is)
     (λ j. record (own_of i) { node = record (own_of i).node { heap = sym same j } })
 
+-- the names in the value can be counted
 pub tally_value-requires : goal.tally_value-requires
 tally_value-requires c = record {
   names = slots_come c.self.inside c.self.invariant _ c.self.view_is (value_of c.args.value)
       (size_of c.args.value) c.requires.stored (λ o. value-le o c.args.value) c.requires.names;
 }
 
+-- each own object that the value names is stored
 pub set_slot-old-requires-clause-stored : goal.set_slot-old-requires-clause-stored
 set_slot-old-requires-clause-stored c =
     slots_stored c.self.inside c.self.invariant _ c.self.view_is (value_of c.args.value)
     (size_of c.args.value) c.requires.stored (λ o. value-le o c.args.value) c.requires.names
     c.tally_value.new.self c.tally_value.ensures
 
+-- no own object is named too often by slots
 pub set_slot-old-requires-clause-bound : goal.set_slot-old-requires-clause-bound
 set_slot-old-requires-clause-bound c =
     slots_bound c.self.inside c.self.invariant _ c.self.view_is (value_of c.args.value)
     (size_of c.args.value) c.requires.stored (λ o. value-le o c.args.value) c.requires.names
     c.tally_value.new.self c.tally_value.ensures
 
+-- the names in what the slot had are counted
 pub tally_value-requires-2 : goal.tally_value-requires-2
 tally_value-requires-2 c =
     let i = c.self.inside in
@@ -49,6 +53,7 @@ tally_value-requires-2 c =
           c.args.slot c.set_slot-old.result c.tally_value.ensures w;
     }
 
+-- the part is sound with the slot written
 pub invariant_of-self : goal.invariant_of-self
 invariant_of-self c =
     let i = c.self.inside in
@@ -63,6 +68,7 @@ invariant_of-self c =
     c.set_slot-old.result c.tally_value.ensures w c.tally_value-2.new.self
     c.tally_value-2.ensures refl
 
+-- the slot is written
 pub returns-clause-own : goal.returns-clause-own
 returns-clause-own c =
     let i = c.self.inside in

@@ -12,6 +12,7 @@ use Rattle.do_part.proofs.InARow.{slots-more, slots-none, still_stored, parted}
 use Rattle.do_part.proofs.Sequences.{size-cons}
 use Rattle.do_part.proofs.part.Part.write_all.Goals as goal
 
+-- the first write can be done
 pub write-requires : goal.write-requires
 write-requires c =
     let w = c.loop-writes.invariant in
@@ -29,6 +30,7 @@ write-requires c =
           w.stored n (omega (arith, x, y, above));
     }
 
+-- a write is done, and the others are left
 pub loop-writes-preserved : goal.loop-writes-preserved
 loop-writes-preserved c =
     let w = c.loop-writes.invariant in
@@ -63,6 +65,7 @@ loop-writes-preserved c =
           w.stored n (omega (arith, x, y, above))));
     }
 
+-- all writes are done
 pub returns : goal.returns
 returns c =
     let w = c.loop-writes.invariant in

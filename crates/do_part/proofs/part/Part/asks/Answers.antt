@@ -1,0 +1,8 @@
+use Rattle.std.proofs.Common.{◌∙◌, sym}
+use Rattle.do_part.proofs.LinkRows.{asked_len}
+use Rattle.do_part.proofs.part.Part.asks.Goals as goal
+
+-- the asks that are kept are the ones that the node sees
+pub returns : goal.returns
+returns c = rw (← c.self.view_is) (c.all_asks.ensures
+    ∙ sym (asked_len c.self.inside.holders.imports.asks))
