@@ -1,0 +1,10 @@
+pub mod Doing
+pub mod Tidy
+pub mod Sends
+pub mod Named
+pub mod Room
+pub mod Settled
+pub mod Bounded
+pub mod Plans
+pub mod Outs
+pub mod Taking
