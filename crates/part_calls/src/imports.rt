@@ -4,7 +4,7 @@ use do_base::{NodeId, Oid, Oids, Token};
 use do_class::ClassId;
 use do_import::Imports;
 use drawn_numbers::Generator;
-use import_samples::{ask, got, granted, lend, refer, unrefer};
+use part_samples::{ask, got, granted, lend, refer, unrefer};
 use std::alloc::{AllocError, Global};
 use std::io;
 

@@ -6,9 +6,9 @@ use do_base::{NodeId, Oid, Oids, Value, Values};
 use do_class::ClassId;
 use do_store::{Freed, Store};
 use drawn_numbers::Generator;
+use part_samples::{create, hold, let_go, write_slot};
 use std::alloc::{AllocError, Global};
 use std::io;
-use store_samples::{create, hold, let_go, write_slot};
 
 /// What a drawn call is about.
 #[derive(Clone, Copy)]

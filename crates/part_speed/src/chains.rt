@@ -5,10 +5,10 @@ use crate::say;
 use do_base::{NodeId, Oid, Value};
 use do_class::ClassId;
 use do_store::Store;
+use part_samples::{create, hold, let_go};
 use std::alloc::{AllocError, Global};
 use std::io::{self, Eprint};
 use std::time::CpuClock;
-use store_samples::{create, hold, let_go};
 
 /// Adds an object to a chain, which names the last one made, if there is one.
 fn grow(

@@ -4,7 +4,7 @@ use crate::say;
 use do_base::{NodeId, Oid};
 use do_class::ClassId;
 use do_import::Imports;
-use import_samples::{got, refer, unrefer};
+use part_samples::{got, refer, unrefer};
 use std::alloc::{AllocError, Global};
 use std::io::{self, Eprint};
 use std::time::CpuClock;

@@ -6,10 +6,10 @@ use crate::say;
 use do_base::{NodeId, Oid, Value};
 use do_class::ClassId;
 use do_store::Store;
+use part_samples::{create, hold, let_go};
 use std::alloc::{AllocError, Global};
 use std::io::{self, Eprint};
 use std::time::CpuClock;
-use store_samples::{create, hold, let_go};
 
 /// How often a holder comes and goes.
 const ROUNDS: u32 = 1_000_000;

@@ -9,7 +9,7 @@ use do_base::{NodeId, Oid, Value, Values};
 use do_class::ClassId;
 use do_grammar::is_text;
 use do_import::Imports;
-use import_samples::{got, refer, unrefer};
+use part_samples::{got, refer, unrefer};
 use std::alloc::Global;
 use std::test::Fail;
 

@@ -9,9 +9,9 @@ use do_base::{NodeId, Oid, Value, Values};
 use do_class::ClassId;
 use do_grammar::is_text;
 use do_store::{Freed, Store};
+use part_samples::{create, hold, let_go, write_slot};
 use std::alloc::{AllocError, Global};
 use std::test::Fail;
-use store_samples::{create, hold, let_go, write_slot};
 
 /// The stored objects of a node.
 #[derive(Drop)]

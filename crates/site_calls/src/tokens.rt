@@ -8,7 +8,7 @@ use do_acts::as_number;
 use do_base::{Oid, Token, Value, Values};
 use do_grammar::is_text;
 use do_import::Imports;
-use import_samples::{ask, granted, lend as lend_object};
+use part_samples::{ask, granted, lend as lend_object};
 use std::test::Fail;
 
 /// Lends an object to a borrower, and tells the token; nil where there is no room.

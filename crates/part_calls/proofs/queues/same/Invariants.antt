@@ -1,5 +1,5 @@
 use Rattle.std.proofs.Common.{◌≡◌, length}
-use Rattle.row_calls.proofs.queues.same.Given as goal
+use Rattle.part_calls.proofs.queues.same.Given as goal
 
 -- there are three queues
 abbrev pub invariant-loop-row : goal.invariant-loop-row

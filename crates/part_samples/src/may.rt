@@ -1,7 +1,7 @@
 //! What is tested before a store is called.
 ghost use Rattle.std.specs.Prelude.{◌≡◌, IsTrue, Some};
 ghost use Rattle.do_store.specs.Names.{Stored, find_stored};
-ghost use Rattle.store_samples.specs.May.{MayHold};
+ghost use Rattle.part_samples.specs.May.{MayHold};
 ghost use Rattle.do_base.specs.declared.values.value.Value.TheVariants.{Obj};
 
 use do_base::{NodeId, Oid, Value};

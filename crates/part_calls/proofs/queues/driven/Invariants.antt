@@ -1,5 +1,5 @@
 use Rattle.std.proofs.Common.{◌≡◌, length}
-use Rattle.row_calls.proofs.queues.driven.Given as goal
+use Rattle.part_calls.proofs.queues.driven.Given as goal
 
 -- there are three queues
 abbrev pub invariant-loop-turn : goal.invariant-loop-turn

@@ -1,7 +1,7 @@
 use Rattle.std.proofs.Common.{◌≡◌, ◌≢◌, ℕ, ◌∙◌, ap, sym, arith, refl}
 use Rattle.do_base.specs.names.Names.{ObjectName}
-use Rattle.store_samples.proofs.MayName.{foreign_may, stored_may}
-use Rattle.store_samples.proofs.may.may_be_named.Goals as goal
+use Rattle.part_samples.proofs.MayName.{foreign_may, stored_may}
+use Rattle.part_samples.proofs.may.may_be_named.Goals as goal
 
 pub returns-then-home-port : goal.returns-then-home-port
 returns-then-home-port c = λ yes.

@@ -6,7 +6,7 @@ use Rattle.do_base.specs.declared.values.value.Value.TheVariants.{Obj}
 use Rattle.do_store.specs.Names.{Objects, find_stored, named_in, value_names}
 use Rattle.do_store.proofs.StepsInARow.{once, once_same}
 use Rattle.do_store.proofs.Valued.{names-own, names-foreign}
-use Rattle.store_samples.specs.May.{MayHold}
+use Rattle.part_samples.specs.May.{MayHold}
 
 -- one name is that of one serial
 named_one : (serial n : ℕ) → 0 < once serial n → serial ≡ n
