@@ -1,0 +1,58 @@
+-- What a site keeps true where a plan was done.
+use Rattle.std.proofs.Common.{◌≡◌, List, false, true, ap, sym, subst, ◌∙◌}
+use Rattle.do_class.specs.Class.{Class}
+use Rattle.do_machine.specs.Context.{Context, RunContext}
+use Rattle.do_machine.specs.State.{is_open}
+use Rattle.do_network.specs.Own.{Own}
+use Rattle.do_network.specs.Site.{site_move}
+use Rattle.do_effects.specs.Doing.{Doing}
+use Rattle.do_effects.specs.Plans.{plan_effect}
+use Rattle.do_effects.specs.Tidy.{IsTidy}
+use Rattle.do_effects.specs.declared.changing.Core.{Core}
+use Rattle.do_effects.specs.declared.plan.Plan.{Plan}
+use Rattle.do_site.proofs.PackableSteps.{packable_after}
+use Rattle.do_site.proofs.PlansKeep.{plan_apart, plan_stores}
+use Rattle.do_site.specs.Kept.{IsKept, StaysBut}
+use Rattle.do_site.specs.Packable.{IsPackable}
+use Rattle.do_site.specs.Running.{IsRunOf, makes_light}
+use Rattle.do_site.specs.Steps.{Moves}
+use Rattle.do_site.specs.declared.work.Work.{Work}
+
+module _ (table : List Class) (old new : Core) (r : RunContext) (plan : Plan)
+    (run : IsRunOf table old.part.own r) (moves : Moves old new (plan_effect r plan)) where
+  -- the run is that of the node before
+  ran_before : r.context.node ≡ old.part.own.node
+  ran_before = ap (λ (c : Context). c.node) run.context
+
+  -- the node's own state is then that of the move
+  own_after : new.part.own ≡ (site_move old.part.own (plan_effect r plan)).own
+  own_after = ap (λ (d : Doing). d.own) moves
+
+  -- no end leads to itself, where none did
+  pub apart_after : is_open old.part.own.node old.part.own.node.port ≡ false →
+      is_open new.part.own.node new.part.own.node.port ≡ false
+  apart_after h =
+      subst (λ (p : Own). is_open p.node p.node.port ≡ false) (sym own_after)
+      (plan_apart r plan old.part.own.node ran_before h)
+
+  -- it is packable, where it was and what the plan makes is so
+  pub packs_after : makes_light table plan ≡ true → IsPackable table old.part.own →
+      IsPackable table new.part.own
+  packs_after light h =
+      subst (IsPackable table) (sym own_after)
+      (packable_after table old.part.own (plan_effect r plan)
+      (plan_stores table r plan old.part.own.node ran_before light h.stored) h.known)
+
+-- a site keeps true what it did, where a plan that makes nothing was done
+pub plan_kept : (table : List Class) (old new : Work) (r : RunContext) (plan : Plan) →
+    IsRunOf table old.core.part.own r → Moves old.core new.core (plan_effect r plan) →
+    makes_light table plan ≡ true → IsTidy new.core.part.own → StaysBut old new →
+    IsKept table old → IsKept table new
+plan_kept table old new r plan run moves light tidy stays k = record {
+  tidy = tidy;
+  apart = apart_after table old.core new.core r plan run moves k.apart;
+  classes = stays.classes ∙ k.classes;
+  packs = λ on.
+      packs_after table old.core new.core r plan run moves light
+      (k.packs (sym stays.packable ∙ on));
+}

@@ -1,0 +1,183 @@
+-- What a plan keeps of its node, and what it stores.
+use Rattle.std.proofs.Common.{◌≡◌, ℕ, ◌≤◌, false, true, List, [], ◌∷◌, ◌++◌, refl, ap}
+use Rattle.std.proofs.Common.{arith, length, sym, ◌+◌, ◌∙◌}
+use Rattle.std.specs.Prelude.{Err, IfOk, Ok, OnOk, Result, Some, slice_get, vec_capacity, ◌&&◌}
+use Rattle.std.proofs.lemmas.List.{append-nil}
+use Rattle.std.specs.List.{list_all}
+use Rattle.do_class.specs.Class.{Class}
+use Rattle.do_packet.specs.declared.receipt.Made.{Made}
+use Rattle.do_behave.specs.declared.invocation.Invocation.{Invocation}
+use Rattle.do_machine.specs.declared.node.Node.{Node}
+use Rattle.do_machine.specs.declared.verdict.Request.TheVariants as requests
+use Rattle.do_machine.specs.Context.{Context, RunContext}
+use Rattle.do_machine.specs.State.{is_open}
+use Rattle.do_machine.specs.run.Fresh.{with_serials}
+use Rattle.do_network.specs.Own.{Own, site_context}
+use Rattle.do_rules.specs.declared.run.delivery.Delivery.TheVariants as deliveries
+use Rattle.do_effects.specs.Bounded.{IsBounded}
+use Rattle.do_effects.specs.Plans.{IsRun, IsRunning, plan_effect}
+use Rattle.do_effects.specs.Room.{HasRoom, Needs as Wants}
+use Rattle.do_effects.specs.declared.changing.Core.{Core}
+use Rattle.do_effects.specs.declared.plan.Plan.{Plan}
+use Rattle.do_effects.specs.declared.plan.Plan.TheVariants.{Asks, Begins, Delivers, Goes, Makes}
+use Rattle.do_effects.specs.declared.plan.Plan.TheVariants.{Says, Tells, Uses, Vends}
+use Rattle.do_site.specs.Packable.{is_kept_at}
+use Rattle.do_site.specs.Plans.{IsEnough, IsTurnOf}
+use Rattle.do_site.specs.Room.{HasPlace, needed}
+use Rattle.do_site.specs.Running.{IsRunOf, makes_light}
+use Rattle.do_site.specs.declared.needs.Needs.{Needs}
+use Rattle.do_site.specs.declared.told.Told.{Told}
+use Rattle.do_site.proofs.PackableSteps.{all_append}
+
+-- the objects that a plan makes
+abbrev pub plan_made : Plan → List Made
+plan_made (Makes class slots into pc) = record { class = class; slots = slots } ∷ []
+plan_made plan = []
+
+-- a node keeps the ends and the port of another, and stores these objects behind its own
+pub record KeepsBut (made : List Made) (n m : Node) : Type 0 where
+  pub ends : m.open_to ≡ n.open_to
+  pub port : m.port ≡ n.port
+  pub heap : m.heap ≡ n.heap ++ with_serials n.next_serial made
+
+-- so does one that changes nothing of these
+keeps_all : (n m : Node) → m.open_to ≡ n.open_to → m.port ≡ n.port → m.heap ≡ n.heap →
+    KeepsBut [] n m
+keeps_all n m ends port heap =
+    record { ends = ends; port = port; heap = heap ∙ sym (append-nil n.heap) }
+
+-- so does a plan
+pub plan_keeps : (r : RunContext) (plan : Plan) →
+    KeepsBut (plan_made plan) r.context.node (plan_effect r plan).node
+plan_keeps r (Goes into value pc) = keeps_all _ _ refl refl refl
+plan_keeps r (Uses value outs) = keeps_all _ _ refl refl refl
+plan_keeps r (Makes class slots into pc) = record { ends = refl; port = refl; heap = refl }
+plan_keeps r (Vends root pc) = keeps_all _ _ refl refl refl
+plan_keeps r (Says value pc) = keeps_all _ _ refl refl refl
+plan_keeps r (Asks peer requests.Root into outs pc) = keeps_all _ _ refl refl refl
+plan_keeps r (Asks peer (requests.Call method m) into outs pc) = keeps_all _ _ refl refl refl
+plan_keeps r (Begins i into outs pc) = keeps_all _ _ refl refl refl
+plan_keeps r (Tells peer m into pc) = keeps_all _ _ refl refl refl
+plan_keeps r (Delivers (deliveries.Shows line)) = keeps_all _ _ refl refl refl
+plan_keeps r (Delivers (deliveries.Answers a)) = keeps_all _ _ refl refl refl
+plan_keeps r (Delivers (deliveries.Replies peer number packet)) = keeps_all _ _ refl refl refl
+plan_keeps r (Delivers (deliveries.Raises peer number e)) = keeps_all _ _ refl refl refl
+plan_keeps r (Delivers deliveries.Drops) = keeps_all _ _ refl refl refl
+
+-- a node with no end towards itself has none then
+pub plan_apart : (r : RunContext) (plan : Plan) (n : Node) → r.context.node ≡ n →
+    is_open n n.port ≡ false →
+    is_open (plan_effect r plan).node (plan_effect r plan).node.port ≡ false
+plan_apart r plan n is apart =
+    let k = plan_keeps r plan in
+    (λ j. is_open (record (plan_effect r plan).node { open_to = k.ends j }) (k.port j))
+    ∙ (λ j. is_open (is j) (is j).port)
+    ∙ apart
+
+-- what it makes is such where the plan is
+made_kept : (table : List Class) (serial : ℕ) (plan : Plan) → makes_light table plan ≡ true →
+    list_all (is_kept_at table) (with_serials serial (plan_made plan)) ≡ true
+made_kept table serial (Goes into value pc) h = refl
+made_kept table serial (Uses value outs) h = refl
+made_kept table serial (Makes class slots into pc) h = ap (λ b. b && true) h
+made_kept table serial (Vends root pc) h = refl
+made_kept table serial (Says value pc) h = refl
+made_kept table serial (Asks peer request into outs pc) h = refl
+made_kept table serial (Begins i into outs pc) h = refl
+made_kept table serial (Tells peer m into pc) h = refl
+made_kept table serial (Delivers d) h = refl
+
+-- all that is stored then is kept
+pub plan_stores : (table : List Class) (r : RunContext) (plan : Plan) (n : Node) →
+    r.context.node ≡ n → makes_light table plan ≡ true →
+    list_all (is_kept_at table) n.heap ≡ true →
+    list_all (is_kept_at table) (plan_effect r plan).node.heap ≡ true
+plan_stores table r plan n is light stored =
+    ap (list_all (is_kept_at table)) (plan_keeps r plan).heap
+    ∙ all_append (is_kept_at table) r.context.node.heap
+    (with_serials r.context.node.next_serial (plan_made plan))
+    (ap (λ (m : Node). list_all (is_kept_at table) m.heap) is ∙ stored)
+    (made_kept table r.context.node.next_serial plan light)
+
+-- there is a run of a top invocation that runs
+pub run_of : (table : List Class) (p : Own) → IsRunning p.node.stack →
+    (r : RunContext) × IsRunOf table p r
+run_of table p runs = go p.node.stack refl runs
+  where
+    go : (stack : List Invocation) → p.node.stack ≡ stack → IsRunning stack →
+        (r : RunContext) × IsRunOf table p r
+    go [] e h = absurd h
+    go (top ∷ below) e h = (
+      record { context = site_context table p; top = top; below = below },
+      record { context = refl; stack = e },
+    )
+
+-- it is a run of what the node is, whose own state is the same
+pub is_run : (table : List Class) (p q : Own) (r : RunContext) → q ≡ p → IsRunOf table p r →
+    IsRun q.node r
+is_run table p q r same run = record {
+  node = ap (λ (c : Context). c.node) run.context ∙ ap (λ (x : Own). x.node) (sym same);
+  stack = ap (λ (x : Own). x.node.stack) same ∙ run.stack;
+}
+
+-- there is room where there is more
+pub enough_room : (wants : Wants) (needs : Needs) (c : Core) → IsEnough wants needs →
+    HasRoom (needed needs) c → HasRoom wants c
+enough_room wants needs c e r = record {
+  part = record {
+    objects = (let a = e.objects in let b = r.part.objects in omega (arith, a, b));
+    invocations = (let a = e.invocations in let b = r.part.invocations in omega (arith, a, b));
+    names = (let a = e.names in let b = r.part.names in omega (arith, a, b));
+    entries = (let a = e.entries in let b = r.part.entries in omega (arith, a, b));
+  };
+  waiting = (let a = e.waiting in let b = r.waiting in omega (arith, a, b));
+}
+
+-- room to leave what is then stored and held
+pub record HasLeft (most_freed most_left : ℕ) (c : Core) : Type 0 where
+  pub freed : length c.part.own.node.heap ≤ most_freed
+  pub left : length c.part.own.node.held ≤ most_left
+  pub room : length c.part.own.node.heap + length c.part.own.node.held ≤ c.streams.room
+
+-- so there is where a place was made
+pub place_left : (wants : Wants) (needs : Needs) (before after : Core) (t : Told) (freed left : ℕ) →
+    IsEnough wants needs → HasPlace needs before t → IsBounded wants before after →
+    freed ≡ vec_capacity t.freed → left ≡ vec_capacity t.left → HasLeft freed left after
+place_left wants needs before after t freed left e p b same also =
+    let eo = e.objects in
+    let en = e.names in
+    let ew = e.waiting in
+    let bs = b.stored in
+    let bh = b.held in
+    let bw = b.waiting in
+    let pf = p.freed in
+    let pl = p.left in
+    let pw = p.waiting in
+    record {
+      freed = omega (arith, eo, bs, pf, same);
+      left = omega (arith, en, bh, pl, also);
+      room = omega (arith, eo, en, ew, bs, bh, bw, pw);
+    }
+
+-- it is the turn of the top invocation
+pub turn_of : (table tables : List Class) (p q : Own) (top : Invocation) (r : RunContext) →
+    tables ≡ table → q ≡ p → slice_get p.node.stack 0 ≡ Some top → IsRunOf table p r →
+    IsTurnOf r (site_context tables q) top
+turn_of table tables p q top r same also first run =
+    let one : Some r.top ≡ Some top
+    = sym (ap (λ (stack : List Invocation). slice_get stack 0) run.stack) ∙ first in
+    record {
+      context = run.context ∙ (λ j. site_context (sym same j) (sym also j));
+      acts = cc;
+    }
+
+-- what follows of a value holds where a call gave one
+pub if_ok : {A E : Type 0} {P Q : A → Type 0} (r : Result A E) → ((x : A) → P x → Q x) →
+    IfOk r P → IfOk r Q
+if_ok (Ok x) f p = f x p
+if_ok (Err e) f p = tt
+
+-- so of what a call did
+pub on_ok : {A E : Type 0} {P Q : Type 0} (r : Result A E) → (P → Q) → OnOk r P → OnOk r Q
+on_ok (Ok x) f p = f p
+on_ok (Err e) f p = tt

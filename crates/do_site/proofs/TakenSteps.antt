@@ -1,0 +1,141 @@
+-- What taking an item comes to, with a frame read besides.
+use Rattle.std.proofs.Common.{◌≡◌, ℕ, true, List, refl, ap, sym, subst, ◌∙◌}
+use Rattle.std.specs.Prelude.{false, vec_capacity}
+use Rattle.std.specs.List.{list_all}
+use Rattle.do_base.specs.declared.events.shown.Shown.{Shown}
+use Rattle.do_base.specs.declared.events.shown.Shown.TheVariants as shows
+use Rattle.do_class.specs.Class.{Class}
+use Rattle.do_frames.specs.declared.frame.Frame.{Frame}
+use Rattle.do_machine.specs.declared.item.Item.{Item}
+use Rattle.do_machine.specs.declared.state.Effect.{Effect}
+use Rattle.do_machine.specs.Context.{Context}
+use Rattle.do_machine.specs.Effect.{showing, ◌>>=◌}
+use Rattle.do_machine.specs.Items.{exported}
+use Rattle.do_machine.specs.State.{is_open}
+use Rattle.do_machine.specs.take.Lines.{item_line}
+use Rattle.do_machine.specs.take.Take.{holding, take_effect}
+use Rattle.do_network.specs.Counting.{got}
+use Rattle.do_network.specs.Frames.{all_posted}
+use Rattle.do_network.specs.Own.{Own, site_context}
+use Rattle.do_network.specs.Site.{site_move}
+use Rattle.do_rules.specs.Ruling.{RulingsAreArrivals, names_in, ruling}
+use Rattle.do_rules.specs.declared.take.ruling.Ruling.{Ruling}
+use Rattle.do_streams.specs.Reading.{names_of}
+use Rattle.do_streams.proofs.LinksRead.{names_stay}
+use Rattle.do_effects.specs.Bounded.{IsBounded}
+use Rattle.do_effects.specs.Doing.{Doing, cleared, does, doing, effected, moved}
+use Rattle.do_effects.specs.Room.{HasRoom}
+use Rattle.do_effects.specs.Taking.{ruling_copies, taken, takes, taking_needs}
+use Rattle.do_effects.specs.declared.changing.Core.{Core}
+use Rattle.do_site.proofs.PackableSteps.{packable_after}
+use Rattle.do_site.proofs.PlansKeep.{HasLeft, enough_room, place_left}
+use Rattle.do_site.proofs.RulingsKeep.{got_classed, ruled_apart, ruled_kept}
+use Rattle.do_site.proofs.SentBehind.{sent_after_reading}
+use Rattle.do_site.proofs.StepsDone.{then_left}
+use Rattle.do_site.specs.Packable.{IsPackable, is_kept, is_named}
+use Rattle.do_site.specs.Plans.{AllowsRuling, IsEnough}
+use Rattle.do_site.specs.Room.{HasPlace}
+use Rattle.do_site.specs.Steps.{item_move, with_reading}
+use Rattle.do_site.specs.declared.needs.Needs.{Needs}
+use Rattle.do_site.specs.declared.told.Told.{Told}
+
+-- to read a frame behind an effect is to read it before
+pub read_does : (from : ℕ) (f : Frame) (d : Doing) (e : Effect) →
+    with_reading from f (does d e) ≡ does (with_reading from f d) e
+read_does from f d e = λ j. record {
+  own = (does d e).own;
+  out = (sym (sent_after_reading from f d.out (all_posted d.own.received e.sent))) j;
+  shown = (does d e).shown;
+}
+
+-- what the ruling on an item does, once the item is shown, is what taking the item does
+pub taken_is : RulingsAreArrivals → (c : Context) (from : ℕ) (item : Item) →
+    taken from item (shows.Took (item_line from c.node.port item)) (ruling c from item) c.node
+    ≡ take_effect c from item
+taken_is laws c from item =
+    ap (λ (e : Effect). showing (shows.Took (item_line from c.node.port item)) c.node >>= (λ m. e))
+    (laws c from item (holding (exported from c.node.port item) c.node) refl refl)
+
+module _ (from : ℕ) (item : Item) (line : Shown) (r : Ruling) (d one : Doing)
+    (done : one ≡ takes from item line r d) where
+  -- what is done, as an effect of the node that got the item
+  abbrev done_by : Effect
+  done_by = taken from item line r d.own.node
+
+  -- the node that got the item, before the effect
+  abbrev having_got : Doing
+  having_got = record d { own = got from item d.own }
+
+  -- the names that were read lately stay while an item is taken
+  pub names_taken : names_of one.out.links from ≡ names_of d.out.links from
+  names_taken =
+      ap (λ (x : Doing). names_of x.out.links from) done
+      ∙ names_stay from d.out (effected having_got.own done_by).posted
+
+  -- a frame is read behind that, and then what nothing holds is left
+  pub taken_then_left : (f : Frame) (kept new : Doing) → kept ≡ with_reading from f one →
+      new ≡ moved kept (cleared kept.own) →
+      new ≡ moved (with_reading from f d) (site_move (got from item d.own) done_by)
+  taken_then_left f kept new read left =
+      then_left (with_reading from f having_got) kept new done_by
+      (read ∙ ap (with_reading from f) done ∙ read_does from f having_got done_by) left
+
+  -- the node once that was left
+  taken_own : (p : Own) → p ≡ (cleared one.own).own →
+      p ≡ (site_move (got from item d.own) done_by).own
+  taken_own p left = left ∙ ap (λ (x : Doing). (cleared x.own).own) done
+
+  -- no end leads to the node itself
+  pub taken_apart : (p : Own) → p ≡ (cleared one.own).own →
+      is_open d.own.node d.own.node.port ≡ false → is_open p.node p.node.port ≡ false
+  taken_apart p left h =
+      subst (λ (q : Own). is_open q.node q.node.port ≡ false) (sym (taken_own p left))
+      (ruled_apart from item r (holding (exported from d.own.node.port item) d.own.node) h)
+
+  -- it is packable where what the item names and what comes with it is such
+  pub taken_packable : (table : List Class) (p : Own) → p ≡ (cleared one.own).own →
+      list_all (is_named table) (names_in item) ≡ true →
+      list_all (λ m. is_kept table m.class m.slots) (ruling_copies r) ≡ true →
+      IsPackable table d.own → IsPackable table p
+  taken_packable table p left named copies k =
+      subst (IsPackable table) (sym (taken_own p left))
+      (packable_after table (got from item d.own) done_by
+      (ruled_kept table from item r (holding (exported from d.own.node.port item) d.own.node)
+      k.stored copies)
+      (got_classed table from item d.own named k.known))
+
+-- an item is taken as the ruling on it says, with a frame read besides
+pub follows : RulingsAreArrivals → (table : List Class) (from : ℕ) (item : Item) (f : Frame)
+    (line : Shown) (r : Ruling) (d mid new : Doing) → mid ≡ d →
+    line ≡ shows.Took (item_line from d.own.node.port item) →
+    r ≡ ruling (site_context table d.own) from item →
+    new ≡ moved (with_reading from f mid)
+    (site_move (got from item mid.own) (taken from item line r mid.own.node)) →
+    new ≡ moved (with_reading from f d) (item_move table from item d.own)
+follows laws table from item f line r d mid new same is judged moves =
+    moves
+    ∙ ap (λ (x : Doing). moved (with_reading from f x)
+    (site_move (got from item x.own) (taken from item line r x.own.node))) same
+    ∙ ap (λ (e : Effect). moved (with_reading from f d) (site_move (got from item d.own) e))
+    ((λ j. taken from item (is j) (judged j) d.own.node)
+    ∙ taken_is laws (site_context table d.own) from item)
+
+module _ (from : ℕ) (item : Item) (r : Ruling) (needs : Needs) (before mid : Core) (t : Told)
+    (same : doing mid ≡ doing before) (a : AllowsRuling before.part.own.node from item r needs)
+    (place : HasPlace needs mid t) where
+  -- as much room was told as the ruling takes, or more
+  room_enough : IsEnough (taking_needs mid.part.own.node item r) needs
+  room_enough =
+      subst (λ (d : Doing). IsEnough (taking_needs d.own.node item r) needs) (sym same) a.enough
+
+  -- there is room to do what the ruling says
+  pub ruling_room : HasRoom (taking_needs mid.part.own.node item r) mid
+  ruling_room =
+      enough_room (taking_needs mid.part.own.node item r) needs mid room_enough place.room
+
+  -- and then to leave what is stored and held
+  pub ruling_left : (one : Core) → IsBounded (taking_needs mid.part.own.node item r) mid one →
+      HasLeft (vec_capacity t.freed) (vec_capacity t.left) one
+  ruling_left one within =
+      place_left (taking_needs mid.part.own.node item r) needs mid one t _ _ room_enough place
+      within refl refl

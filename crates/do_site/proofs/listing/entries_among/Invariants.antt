@@ -1,0 +1,10 @@
+-- The entries of the peers so far.
+use Rattle.std.proofs.Common.{◌≡◌, take}
+use Rattle.std.specs.List.{flat_map}
+use Rattle.do_site.specs.Listed.{entries_among}
+use Rattle.do_site.proofs.listing.entries_among.Given as goal
+
+abbrev pub invariant-loop-peer : goal.invariant-loop-peer
+invariant-loop-peer l =
+    l.entries ≡ flat_map (λ peer. entries_among l.part.own peer l.oids)
+    (take l.peer-index l.peer-items)

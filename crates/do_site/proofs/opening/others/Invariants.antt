@@ -1,0 +1,7 @@
+-- The ports so far but the one.
+use Rattle.std.proofs.Common.{◌≡◌, filter, not, take, ◌==◌}
+use Rattle.do_site.proofs.opening.others.Given as goal
+
+abbrev pub invariant-loop-peer : goal.invariant-loop-peer
+invariant-loop-peer l =
+    l.peers ≡ filter (λ p. not (p == l.port)) (take l.peer-index l.peer-items)

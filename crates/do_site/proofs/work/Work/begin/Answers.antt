@@ -1,0 +1,52 @@
+use Rattle.std.proofs.Common.{◌≡◌, false, refl, ap, sym, subst, ◌∙◌}
+use Rattle.std.specs.List.{list_all}
+use Rattle.do_machine.specs.Effect.{only}
+use Rattle.do_machine.specs.State.{is_open}
+use Rattle.do_machine.specs.run.Fresh.{pushed}
+use Rattle.do_network.specs.Own.{Own}
+use Rattle.do_part.specs.Names.{AreStored, values_of}
+use Rattle.do_stack.specs.Uses.{invocation_values}
+use Rattle.do_effects.specs.Doing.{Doing, does, doing}
+use Rattle.do_effects.specs.Tidy.{IsTidy}
+use Rattle.do_site.specs.Packable.{is_kept_at}
+use Rattle.do_site.proofs.KeptSteps.{apart_then, packable_then}
+use Rattle.do_site.proofs.StepsDone.{alone_does}
+use Rattle.do_site.proofs.Stored.{there_stored}
+use Rattle.do_site.proofs.work.Work.begin.Goals as goal
+
+-- what the invocation names is stored
+pub push-requires-clause-stored : goal.push-requires-clause-stored
+push-requires-clause-stored c =
+    let own = ap (λ (d : Doing). d.own) c.in_ok-make_room.ensures.same in
+    subst (λ (p : Own). AreStored p.node (values_of (invocation_values c.args.invocation)))
+    (sym own) (there_stored c.args.self.now.core.part.own.node
+    (values_of (invocation_values c.args.invocation)) c.in-Some.ensures.there)
+
+-- what a site keeps true is true then
+pub returns-clause-kept : goal.returns-clause-kept
+returns-clause-kept c table k =
+    let old = c.args.self.now in
+    let mid = c.make_room.new.self in
+    let new = c.leave.new.self in
+    let same : doing mid.core ≡ doing old.core = c.in_ok-make_room.ensures.same in
+    let own : mid.core.part.own ≡ old.core.part.own = ap (λ (d : Doing). d.own) same in
+    let n = pushed c.args.invocation mid.core.part.own.node in
+    let one = doing (record mid.core { part = c.push.new.self }) in
+    let did : one ≡ does (doing mid.core) (only n) =
+    (λ j. record (doing mid.core) { own = c.push.ensures.own j })
+    ∙ alone_does (doing mid.core) n (subst IsTidy (sym own) k.tidy) refl refl refl in
+    record {
+      tidy = c.leave.ensures.tidy;
+      apart = apart_then (doing old.core) (doing mid.core) one (doing new.core) (only n) same did
+          c.leave.ensures.moved
+          (subst (λ (p : Own). is_open p.node p.node.port ≡ false) (sym own) k.apart);
+      classes = c.leave.ensures.stays.classes ∙ c.in_ok-make_room.ensures.stays.classes
+          ∙ k.classes;
+      packs = λ on.
+          let was = sym c.in_ok-make_room.ensures.stays.packable
+          ∙ (sym c.leave.ensures.stays.packable ∙ on) in
+          packable_then (doing old.core) (doing mid.core) one (doing new.core) (only n) same did
+          c.leave.ensures.moved table (k.packs was)
+          (ap (λ (p : Own). list_all (is_kept_at table) p.node.heap) own
+          ∙ (k.packs was).stored);
+    }

@@ -1,0 +1,102 @@
+use Rattle.std.proofs.Common.{◌≡◌, ◌∙◌, ◌<◌, ap, arith, length, subst, sym}
+use Rattle.std.specs.Prelude.{slice_get, Some}
+use Rattle.do_behave.specs.Changes.{IsFitting}
+use Rattle.do_behave.specs.declared.invocation.Invocation.{Invocation}
+use Rattle.do_network.specs.Own.{Own}
+use Rattle.do_part.specs.Changed.{act_left_on, change_writes, changed, written_values}
+use Rattle.do_part.specs.Names.{AreStored, values_of}
+use Rattle.do_stack.specs.Exchange.{given}
+use Rattle.do_effects.specs.Doing.{Doing, doing}
+use Rattle.do_site.proofs.ActsDone.{on_err}
+use Rattle.do_site.proofs.ActsKeep.{change_keeps}
+use Rattle.do_site.proofs.PlansKeep.{if_ok, on_ok}
+use Rattle.do_site.proofs.Stored.{there_stored}
+use Rattle.do_site.proofs.work.Work.make_change.Goals as goal
+
+-- there is a top invocation
+pub step-requires-clause-top : goal.step-requires-clause-top
+step-requires-clause-top c =
+    subst (λ (p : Own). 0 < length p.node.stack)
+    (sym (ap (λ (d : Doing). d.own) c.in_ok-make_room.ensures.same)) c.requires.top
+
+-- the change fits it
+pub step-requires-clause-fits : goal.step-requires-clause-fits
+step-requires-clause-fits c =
+    subst (λ (p : Own). (top : Invocation) → slice_get p.node.stack 0 ≡ Some top →
+    IsFitting top c.args.change)
+    (sym (ap (λ (d : Doing). d.own) c.in_ok-make_room.ensures.same)) c.requires.fits
+
+-- there is room for the names that are given and written
+pub step-requires-clause-names : goal.step-requires-clause-names
+step-requires-clause-names c =
+    let room = c.in_ok-make_room.ensures.room.room.part.names in
+    let count = c.in-Some.ensures.counted in
+    let needs = c.to_keep.ensures in
+    let same = ap (λ n. n.names) needs in
+    omega (arith, room, count, same)
+
+-- what is given is stored
+pub step-requires-clause-locals : goal.step-requires-clause-locals
+step-requires-clause-locals c =
+    subst (λ (p : Own). AreStored p.node (values_of (given c.args.change)))
+    (sym (ap (λ (d : Doing). d.own) c.in_ok-make_room.ensures.same))
+    (there_stored c.args.self.now.core.part.own.node (values_of (given c.args.change))
+    c.in-Some.ensures.first)
+
+-- what is written is stored
+pub step-requires-clause-stored : goal.step-requires-clause-stored
+step-requires-clause-stored c =
+    subst (λ (p : Own). AreStored p.node
+    (values_of (written_values (change_writes c.args.change))))
+    (sym (ap (λ (d : Doing). d.own) c.in_ok-make_room.ensures.same))
+    (there_stored c.args.self.now.core.part.own.node
+    (values_of (written_values (change_writes c.args.change))) c.in-Some.ensures.second)
+
+-- the node is changed, and nothing else
+pub returns-clause-own : goal.returns-clause-own
+returns-clause-own c =
+    let same : doing c.make_room.new.self.core ≡ doing c.args.self.now.core
+    = c.in_ok-make_room.ensures.same in
+    on_ok c.step.result (λ own.
+    (λ j. record (doing c.make_room.new.self.core) { own = own j })
+    ∙ (λ j. record (same j) {
+      own = record (same j).own { node = changed c.args.change (same j).own.node };
+    })) c.step.ensures.own
+
+-- what is left of an act is told
+pub returns-clause-left : goal.returns-clause-left
+returns-clause-left c =
+    if_ok c.step.result (λ act left. left
+    ∙ ap (λ (d : Doing). act_left_on c.args.change d.own.node.stack)
+    c.in_ok-make_room.ensures.same) c.step.ensures.left
+
+-- without memory nothing but room changed
+pub returns-clause-err : goal.returns-clause-err
+returns-clause-err c =
+    on_err c.step.result (λ own.
+    (λ j. record (doing c.make_room.new.self.core) { own = own j })
+    ∙ c.in_ok-make_room.ensures.same) c.step.ensures.err
+
+-- the flag and the classes are as they were
+pub returns-clause-stays : goal.returns-clause-stays
+returns-clause-stays c = record {
+  packable = c.in_ok-make_room.ensures.stays.packable;
+  classes = c.in_ok-make_room.ensures.stays.classes;
+}
+
+-- there is room to leave what nothing holds
+pub returns-clause-room : goal.returns-clause-room
+returns-clause-room c =
+    let keeps = change_keeps c.args.change c.make_room.new.self.core.part.own.node in
+    let place = c.in_ok-make_room.ensures.room in
+    on_ok c.step.result (λ own.
+    let count = ap (λ (p : Own). length p.node.heap) own ∙ keeps.count in
+    let held = ap (λ (p : Own). length p.node.held) own ∙ ap (λ os. length os) keeps.held in
+    let pf = place.freed in
+    let pl = place.left in
+    let pw = place.waiting in
+    record {
+      freed = omega (arith, count, pf);
+      left = omega (arith, held, pl);
+      waiting = omega (arith, count, held, pw);
+    }) c.step.ensures.own

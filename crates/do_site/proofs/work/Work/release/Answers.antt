@@ -1,0 +1,107 @@
+use Rattle.std.proofs.Common.{◌≡◌, ◌≤◌, false, true, [], ◌∷◌, ◌++◌, ap, refl, sym, subst, ◌∙◌}
+use Rattle.do_base.specs.declared.events.shown.Shown.{Shown}
+use Rattle.do_export.specs.Counts.{count_of}
+use Rattle.do_base.specs.declared.events.shown.Shown.TheVariants as shows
+use Rattle.do_base.specs.declared.events.shown.Took.TheVariants as tooks
+use Rattle.do_frames.specs.declared.frame.Frame.TheVariants.{Release}
+use Rattle.do_machine.specs.declared.state.Effect.{Effect}
+use Rattle.do_machine.specs.Objects.{object_at}
+use Rattle.do_machine.specs.State.{is_open}
+use Rattle.do_network.specs.Counting.{given_back}
+use Rattle.do_network.specs.Own.{Own}
+use Rattle.do_network.specs.Site.{frame_move}
+use Rattle.do_streams.specs.Reading.{IsReadBy, names_of}
+use Rattle.do_streams.specs.Streamed.{Streamed}
+use Rattle.do_effects.specs.Doing.{Doing, cleared, does, doing, moved}
+use Rattle.do_effects.specs.Tidy.{IsTidy}
+use Rattle.do_site.specs.Packable.{IsPackable}
+use Rattle.do_site.specs.Steps.{with_reading}
+use Rattle.do_site.proofs.ReleasedCounts.{left_packable, released_tidy}
+use Rattle.do_site.proofs.StepsDone.{shown_does, then_left}
+use Rattle.do_site.proofs.work.Work.release.Goals as goal
+
+pub give_back-requires-clause-open : goal.give_back-requires-clause-open
+give_back-requires-clause-open c =
+    subst (λ (d : Doing). is_open d.own.node c.args.from ≡ true)
+    (sym c.in_ok-make_room.ensures.same) c.requires.open
+
+pub give_back-requires-clause-few : goal.give_back-requires-clause-few
+give_back-requires-clause-few c =
+    subst (λ (d : Doing). c.args.amount ≤ count_of d.own.counts c.args.from c.args.serial)
+    (sym c.in_ok-make_room.ensures.same) c.requires.few
+
+pub leave-requires-clause-tidy : goal.leave-requires-clause-tidy
+leave-requires-clause-tidy c =
+    let own = ap (λ (d : Doing). d.own) c.in_ok-make_room.ensures.same in
+    let mid = c.make_room.new.self.core.part.own in
+    subst IsTidy (sym c.give_back.ensures)
+    (released_tidy mid c.args.from c.args.serial c.args.amount
+    (subst IsTidy (sym own) c.requires.tidy)
+    (subst (λ (p : Own). is_open p.node c.args.from ≡ true) (sym own) c.requires.open))
+
+pub returns-clause-ok : goal.returns-clause-ok
+returns-clause-ok c table f read is =
+    let old = c.args.self.now in
+    let mid = c.make_room.new.self in
+    let new = c.leave.new.self in
+    let from = c.args.from in
+    let same : doing mid.core ≡ doing old.core = c.in_ok-make_room.ensures.same in
+    let own : mid.core.part.own ≡ old.core.part.own = ap (λ (d : Doing). d.own) same in
+    let q = given_back from c.args.serial c.args.amount mid.core.part.own in
+    let shown : Shown = shows.Took (tooks.Left (object_at c.port-node.result c.args.serial)) in
+    let line = shows.Took (tooks.Left (object_at mid.core.part.own.node.port c.args.serial)) in
+    let named : shown ≡ line =
+    ap (λ port. shows.Took (tooks.Left (object_at port c.args.serial))) c.port-node.ensures in
+    let links = c.keep_read.ensures.links f
+    (subst (λ (d : Doing). IsReadBy (names_of d.out.links from) f c.args.names) (sym same) read) in
+    let d : Doing = record (with_reading from f (doing mid.core)) { own = q } in
+    let e : Effect = record { node = q.node; sent = []; shown = line ∷ [] } in
+    let one = doing (record mid.core { part = c.give_back.new.part; streams = c.show.new.self }) in
+    let kept = c.keep_read.ensures.same in
+    let did : one ≡ does d e =
+    (λ j. record {
+      own = c.give_back.ensures j;
+      out = (c.show.ensures.sent
+          ∙ (λ i. record {
+            links = links i;
+            sent = (ap (λ (s : Streamed). s.frames) kept) i;
+          })) j;
+      shown = (c.show.ensures.shown ∙ ap (λ (s : Streamed). s.shown ++ shown ∷ []) kept
+          ∙ ap (λ (x : Shown). mid.core.streams.shown ++ x ∷ []) named) j;
+    })
+    ∙ shown_does d q.node line (released_tidy mid.core.part.own from c.args.serial c.args.amount
+    (subst IsTidy (sym own) c.requires.tidy)
+    (subst (λ (p : Own). is_open p.node from ≡ true) (sym own) c.requires.open)) refl refl refl in
+    let all : doing new.core ≡ moved (with_reading from f (doing mid.core))
+    (frame_move table from (Release c.args.serial c.args.amount) mid.core.part.own) =
+    then_left d one (doing new.core) e did c.leave.ensures.moved in
+    subst (λ g. doing new.core ≡ moved (with_reading from f (doing old.core))
+    (frame_move table from g old.core.part.own)) (sym is)
+    (all ∙ ap (λ (x : Doing). moved (with_reading from f x)
+    (frame_move table from (Release c.args.serial c.args.amount) x.own)) same)
+
+-- what a site keeps true is true then
+pub returns-clause-kept : goal.returns-clause-kept
+returns-clause-kept c table k =
+    let old = c.args.self.now in
+    let mid = c.make_room.new.self.core.part.own in
+    let own = sym (ap (λ (d : Doing). d.own) c.in_ok-make_room.ensures.same) in
+    let q = given_back c.args.from c.args.serial c.args.amount mid in
+    let left = ap (λ (d : Doing). d.own) c.leave.ensures.moved
+    ∙ ap (λ (p : Own). (cleared p).own) c.give_back.ensures in
+    record {
+      tidy = c.leave.ensures.tidy;
+      apart = subst (λ (p : Own). is_open p.node p.node.port ≡ false) (sym left)
+          (subst (λ (p : Own). is_open p.node p.node.port ≡ false) own k.apart);
+      classes = c.leave.ensures.stays.classes ∙ c.show.ensures.classes
+          ∙ ap (λ (s : Streamed). s.classes) c.keep_read.ensures.same
+          ∙ c.in_ok-make_room.ensures.stays.classes ∙ k.classes;
+      packs = λ on.
+          let was = subst (IsPackable table) own
+          (k.packs (sym c.in_ok-make_room.ensures.stays.packable
+          ∙ (sym c.leave.ensures.stays.packable ∙ on))) in
+          left_packable table q c.leave.new.self.core.part.own
+          (released_tidy mid c.args.from c.args.serial c.args.amount (subst IsTidy own k.tidy)
+          (subst (λ (p : Own). is_open p.node c.args.from ≡ true) own c.requires.open)) left
+          (record { stored = was.stored; known = was.known });
+    }

@@ -1,0 +1,74 @@
+use Rattle.std.proofs.Common.{◌≡◌, false, true, Some, refl, ap, sym, subst, ◌∙◌}
+use Rattle.std.specs.Prelude.{◌==◌}
+use Rattle.std.specs.List.{list_all, list_any}
+use Rattle.do_machine.specs.Effect.{only}
+use Rattle.do_machine.specs.State.{is_open}
+use Rattle.do_machine.specs.ends.TimeOut.{time_out}
+use Rattle.do_network.specs.Own.{Own}
+use Rattle.do_effects.specs.Doing.{Doing, does, doing}
+use Rattle.do_effects.specs.Tidy.{IsTidy}
+use Rattle.do_site.specs.Packable.{is_kept_at}
+use Rattle.do_site.specs.Steps.{Does}
+use Rattle.do_site.proofs.KeptSteps.{apart_then, made_then_left}
+use Rattle.do_site.proofs.KeptSteps.{packable_then}
+use Rattle.do_site.proofs.StepsDone.{Keeps, alone_does, time_out_keeps}
+use Rattle.do_site.proofs.work.Work.time_out.Goals as goal
+
+-- the call is given up, and then what nothing holds is left
+pub returns-clause-done : goal.returns-clause-done
+returns-clause-done c =
+    let old = c.args.self.now in
+    let mid = c.make_room.new.self in
+    let m = c.abandon.new.self.own.node in
+    let new = c.leave.new.self in
+    let same : doing mid.core ≡ doing old.core = c.in_ok-make_room.ensures.same in
+    let own : mid.core.part.own ≡ old.core.part.own = ap (λ (d : Doing). d.own) same in
+    let given : time_out old.core.part.own.node ≡ Some (only m) =
+    sym (ap (λ (p : Own). time_out p.node) own) ∙ c.abandon.ensures.node in
+    let keeps : Keeps mid.core.part.own.node m =
+    time_out_keeps mid.core.part.own.node m c.abandon.ensures.node in
+    let did : doing (record mid.core { part = c.abandon.new.self })
+    ≡ does (doing mid.core) (only m) =
+    (λ j. record (doing mid.core) { own = c.abandon.ensures.rest j })
+    ∙ alone_does (doing mid.core) m (subst IsTidy (sym own) c.requires.tidy) keeps.ends keeps.held
+    keeps.asked in
+    subst (λ o. Does old.core new.core true o) (sym given) (
+      refl,
+      made_then_left (doing old.core) (doing mid.core)
+          (doing (record mid.core { part = c.abandon.new.self })) (doing new.core) (only m) same did
+          c.leave.ensures.moved,
+    )
+
+-- what a site keeps true is true then
+pub returns-clause-kept : goal.returns-clause-kept
+returns-clause-kept c table k =
+    let old = c.args.self.now in
+    let mid = c.make_room.new.self in
+    let m = c.abandon.new.self.own.node in
+    let new = c.leave.new.self in
+    let same : doing mid.core ≡ doing old.core = c.in_ok-make_room.ensures.same in
+    let own : mid.core.part.own ≡ old.core.part.own = ap (λ (d : Doing). d.own) same in
+    let keeps : Keeps mid.core.part.own.node m =
+    time_out_keeps mid.core.part.own.node m c.abandon.ensures.node in
+    let one = doing (record mid.core { part = c.abandon.new.self }) in
+    let did : one ≡ does (doing mid.core) (only m) =
+    (λ j. record (doing mid.core) { own = c.abandon.ensures.rest j })
+    ∙ alone_does (doing mid.core) m (subst IsTidy (sym own) k.tidy) keeps.ends keeps.held
+    keeps.asked in
+    record {
+      tidy = c.leave.ensures.tidy;
+      apart = apart_then (doing old.core) (doing mid.core) one (doing new.core) (only m) same did
+          c.leave.ensures.moved
+          ((λ j. list_any (λ p. p == keeps.port j) (keeps.ends j))
+          ∙ subst (λ (p : Own). is_open p.node p.node.port ≡ false) (sym own) k.apart);
+      classes = c.leave.ensures.stays.classes ∙ c.in_ok-make_room.ensures.stays.classes
+          ∙ k.classes;
+      packs = λ on.
+          let was = sym c.in_ok-make_room.ensures.stays.packable
+          ∙ (sym c.leave.ensures.stays.packable ∙ on) in
+          packable_then (doing old.core) (doing mid.core) one (doing new.core) (only m) same did
+          c.leave.ensures.moved table (k.packs was)
+          (ap (list_all (is_kept_at table)) keeps.heap
+          ∙ ap (λ (p : Own). list_all (is_kept_at table) p.node.heap) own
+          ∙ (k.packs was).stored);
+    }

@@ -1,0 +1,10 @@
+pub mod Packable
+pub mod Listed
+pub mod Sited
+pub mod Steps
+pub mod Room
+pub mod Kept
+pub mod Stored
+pub mod Plans
+pub mod Running
+pub mod Taken

@@ -1,0 +1,61 @@
+//! What the steps of a site change.
+mod acting;
+mod answering;
+mod closing;
+mod releasing;
+mod running;
+mod starting;
+mod taking;
+
+ghost use Rattle.std.specs.Prelude.{◌≡◌, ◌≤◌, ◌+◌, OnOk, length, vec_capacity};
+ghost use Rattle.do_effects.specs.Doing.{cleared, doing, moved};
+ghost use Rattle.do_effects.specs.Tidy.{IsTidy};
+ghost use Rattle.do_site.specs.Kept.{StaysBut};
+ghost use Rattle.do_site.specs.Room.{HasPlace};
+ghost use Rattle.do_site.specs.Steps.{IsSame};
+
+use crate::needs::Needs;
+use crate::room::make_room;
+use crate::told::Told;
+use do_effects::Core;
+use std::alloc::AllocError;
+
+/// What the steps of a site change.
+#[derive(Drop)]
+pub struct Work {
+    /// What the node has of its own, and what waits to be fetched.
+    pub core: Core,
+    /// The lists into which a step tells what it freed, left and settled.
+    pub told: Told,
+    /// Whether the node keeps no more than packing can count. It is true at the start, and false
+    /// from a step on that writes a slot of 2^22 and more, or makes an object of no class.
+    pub packable: bool,
+}
+
+impl Work {
+    /// Makes room for a step. An error means that memory ran out, or that the numbers are too
+    /// great; nothing but room changed then.
+    fn make_room(&mut self, needs: &Needs) -> Result<(), AllocError>
+        ensures same { IsSame self.old.core self.new.core }
+        ensures stays { StaysBut self.old self.new }
+        ensures room { OnOk result (HasPlace needs.now self.new.core self.new.told) }
+    {
+        make_room(&mut self.core, &mut self.told, needs)
+    }
+
+    /// Frees what nothing holds any more, and leaves what the node no longer refers to.
+    fn leave(&mut self)
+        requires tidy { IsTidy self.old.core.part.own }
+        requires freed { length self.old.core.part.own.node.heap
+            ≤ vec_capacity self.old.told.freed }
+        requires left { length self.old.core.part.own.node.held ≤ vec_capacity self.old.told.left }
+        requires room { length self.old.core.part.own.node.heap
+            + length self.old.core.part.own.node.held ≤ self.old.core.streams.room }
+        ensures moved { doing self.new.core
+            ≡ moved (doing self.old.core) (cleared self.old.core.part.own) }
+        ensures tidy { IsTidy self.new.core.part.own }
+        ensures stays { StaysBut self.old self.new }
+    {
+        self.core.leave(&mut self.told.freed, &mut self.told.left);
+    }
+}

@@ -1,0 +1,194 @@
+//! Acts: the top invocation does its next act.
+ghost use Rattle.std.specs.Prelude.{◌≡◌, ◌&&◌, IfOk, IfSome, OnErr, OnOk, Some};
+ghost use Rattle.std.specs.Prelude.{◌<◌, length, slice_get};
+ghost use Rattle.std.specs.List.{list_all};
+ghost use Rattle.do_behave.specs.Changes.{IsFitting, Means};
+ghost use Rattle.do_behave.specs.declared.invocation.Invocation.{Invocation};
+ghost use Rattle.do_machine.specs.Context.{RunContext};
+ghost use Rattle.do_machine.specs.run.Acts.{act_rule};
+ghost use Rattle.do_machine.specs.run.Run.{next_act};
+ghost use Rattle.do_machine.specs.run.Verdicts.{effect_of};
+ghost use Rattle.do_part.specs.Changed.{act_left_on, change_writes, changed};
+ghost use Rattle.do_effects.specs.Doing.{doing};
+ghost use Rattle.do_effects.specs.Plans.{CanCarryOut, IsRun, IsRunning, plan_effect, plan_needs};
+ghost use Rattle.do_effects.specs.Tidy.{IsTidy};
+ghost use Rattle.do_site.specs.Kept.{IsKept, StaysBut};
+ghost use Rattle.do_site.specs.Packable.{is_light};
+ghost use Rattle.do_site.specs.Plans.{IsEnough};
+ghost use Rattle.do_site.specs.Room.{HasPlace, HasPlaceToLeave};
+ghost use Rattle.do_site.specs.Running.{IsRunOf, makes_light};
+ghost use Rattle.do_site.specs.Steps.{IsSame, Moves};
+
+use crate::allowing::allowed;
+use crate::ground::judged_by;
+use crate::needs::Needs;
+use crate::planning::planned;
+use crate::tally::Reach;
+use crate::weighing::{makes_light, writes_light};
+use crate::work::Work;
+use do_behave::{Act, Behaviour, Change};
+use do_class::ClassTable;
+use do_effects::Plan;
+use do_rules::Turn;
+use std::alloc::AllocError;
+
+/// Whether a node that is packable or not is so once a plan is carried out.
+fn stays_packable(packable: bool, table: &ClassTable, plan: &Plan) -> bool
+    ensures { result ≡ (packable && makes_light table.now plan.now) }
+{
+    packable && makes_light(table, plan)
+}
+
+/// Whether a node that is packable or not is so once a change is done.
+fn stays_light(packable: bool, change: &Change) -> bool
+    ensures { result
+        ≡ (packable && list_all (λ w. is_light w.value) (change_writes change.now)) }
+{
+    packable && writes_light(change)
+}
+
+impl Work {
+    /// A plan is carried out, in room that was made for it, and then what nothing holds is left.
+    pub(super) fn finish(&mut self, plan: Plan, needs: &Needs)
+        requires can { CanCarryOut plan self.old.core }
+        requires enough { IsEnough (plan_needs plan) needs.now }
+        requires place { HasPlace needs.now self.old.core self.old.told }
+        ensures done { (r : RunContext) → IsRun self.old.core.part.own.node r
+            → Moves self.old.core self.new.core (plan_effect r plan) }
+        ensures tidy { IsTidy self.new.core.part.own }
+        ensures stays { StaysBut self.old self.new }
+    {
+        self.core.carry_out(plan);
+        self.leave();
+    }
+
+    /// What the top invocation, which runs, was planned to do is done.
+    ///
+    /// An error means that memory ran out, or that a number would pass what a node can count;
+    /// nothing but room changed then.
+    fn carry_out(&mut self, table: &ClassTable, plan: Plan) -> Result<(), AllocError>
+        requires kept { IsKept table.now self.old }
+        requires runs { IsRunning self.old.core.part.own.node.stack }
+        ensures ok { OnOk result ((r : RunContext) → IsRunOf table.now self.old.core.part.own r
+            → Moves self.old.core self.new.core (plan_effect r plan)) }
+        ensures err { OnErr result (IsSame self.old.core self.new.core) }
+        ensures kept { IsKept table.now self.new }
+    {
+        let Some(needs) = allowed(&self.core.part, &plan) else {
+            return Err(AllocError);
+        };
+        let packable = stays_packable(self.packable, table, &plan);
+        self.make_room(&needs)?;
+        self.finish(plan, &needs);
+        self.packable = packable;
+        Ok(())
+    }
+
+    /// What the rules decide of an act of the top invocation, with all that carrying it out needs.
+    fn plan_of(&self, table: &ClassTable, act: Act) -> Result<Plan, AllocError>
+        requires { IsKept table.now self.now }
+        ensures { IfOk result (λ plan. (r : RunContext)
+            → IsRunOf table.now self.now.core.part.own r
+            → plan_effect r plan ≡ effect_of r (act_rule r act)) }
+    {
+        let Some(top) = self.core.part.top() else {
+            return Err(AllocError);
+        };
+        let ground = judged_by(table, &self.core.part, self.packable);
+        let turn = Turn {
+            basis: &ground,
+            top,
+        };
+        let verdict = turn.act_rule(act)?;
+        planned(&ground, top, verdict)
+    }
+
+    /// What the rules decide of an act of the top invocation, which runs, is done.
+    ///
+    /// An error means that memory ran out, or that a number would pass what a node can count;
+    /// nothing but room changed then.
+    fn decide(&mut self, table: &ClassTable, act: Act) -> Result<(), AllocError>
+        requires kept { IsKept table.now self.old }
+        requires runs { IsRunning self.old.core.part.own.node.stack }
+        ensures ok { OnOk result ((r : RunContext) → IsRunOf table.now self.old.core.part.own r
+            → Moves self.old.core self.new.core (effect_of r (act_rule r act))) }
+        ensures err { OnErr result (IsSame self.old.core self.new.core) }
+        ensures kept { IsKept table.now self.new }
+    {
+        let plan = self.plan_of(table, act)?;
+        self.carry_out(table, plan)
+    }
+
+    /// The next act of the top invocation, which runs, as the one change that it makes.
+    fn next_change<B: Behaviour>(&self, table: &ClassTable, acts: &B) -> Result<Change, AllocError>
+        requires kept { IsKept table.now self.now }
+        ensures { IfOk result (λ change. (r : RunContext)
+            → IsRunOf table.now self.now.core.part.own r
+            → Means r.top change (next_act (B.act acts.now) r)) }
+    {
+        let Some(top) = self.core.part.top() else {
+            return Err(AllocError);
+        };
+        let ground = judged_by(table, &self.core.part, self.packable);
+        let turn = Turn {
+            basis: &ground,
+            top,
+        };
+        turn.next_change(acts)
+    }
+
+    /// The top invocation is changed, in room that is made for that. What is left to do of an act
+    /// that is no step is told.
+    ///
+    /// An error means that memory ran out; nothing but room changed then.
+    fn make_change(&mut self, change: Change) -> Result<Option<Act>, AllocError>
+        requires top { 0 < length self.old.core.part.own.node.stack }
+        requires fits { (top : Invocation)
+            → slice_get self.old.core.part.own.node.stack 0 ≡ Some top → IsFitting top change }
+        ensures own { OnOk result (doing self.new.core ≡ record (doing self.old.core) {
+          own = record self.old.core.part.own {
+            node = changed change self.old.core.part.own.node;
+          };
+        }) }
+        ensures left { IfOk result (λ act. act
+            ≡ act_left_on change self.old.core.part.own.node.stack) }
+        ensures err { OnErr result (IsSame self.old.core self.new.core) }
+        ensures stays { StaysBut self.old self.new }
+        ensures room { OnOk result (HasPlaceToLeave self.new.core self.new.told) }
+    {
+        let part = &self.core.part;
+        let Some(names) = (Reach { part, more: 0 }).of_change(&change) else {
+            return Err(AllocError);
+        };
+        self.make_room(&Needs::to_keep(names))?;
+        self.core.part.step(change)
+    }
+
+    /// The top invocation, which runs, does its next act: a step is done in place, and of any other
+    /// the rules decide.
+    ///
+    /// An error means that memory ran out, or that a number would pass what a node can count;
+    /// nothing but room changed then.
+    pub(super) fn act<B: Behaviour>(
+        &mut self,
+        table: &ClassTable,
+        acts: &B,
+    ) -> Result<(), AllocError>
+        requires kept { IsKept table.now self.old }
+        requires runs { IsRunning self.old.core.part.own.node.stack }
+        ensures ok { OnOk result ((r : RunContext) → IsRunOf table.now self.old.core.part.own r
+            → Moves self.old.core self.new.core
+            (effect_of r (act_rule r (next_act (B.act acts.now) r)))) }
+        ensures err { OnErr result (IsSame self.old.core self.new.core) }
+        ensures kept { IsKept table.now self.new }
+    {
+        let change = self.next_change(table, acts)?;
+        let packable = stays_light(self.packable, &change);
+        let Some(act) = self.make_change(change)? else {
+            self.packable = packable;
+            self.leave();
+            return Ok(());
+        };
+        self.decide(table, act)
+    }
+}

@@ -1,0 +1,172 @@
+//! Frames that are taken.
+ghost use Rattle.std.specs.Prelude.{◌≡◌, ◌&&◌, IfSome, OnErr, OnOk, Some, true};
+ghost use Rattle.std.specs.List.{list_all};
+ghost use Rattle.do_frames.specs.declared.frame.Frame.{Frame as Framed};
+ghost use Rattle.do_machine.specs.run.Run.{Acting};
+ghost use Rattle.do_machine.specs.State.{is_open};
+ghost use Rattle.do_network.specs.Faults.{peer_fault};
+ghost use Rattle.do_network.specs.Links.{having_read};
+ghost use Rattle.do_network.specs.Own.{site_context};
+ghost use Rattle.do_network.specs.Site.{frame_input, takes_frame};
+ghost use Rattle.do_machine.specs.take.Lines.{item_line};
+ghost use Rattle.do_rules.specs.Ruling.{names_in, ruling as ruling_on};
+ghost use Rattle.do_streams.specs.Reading.{AreKnown, IsReadBy, names_of};
+ghost use Rattle.do_effects.specs.Doing.{doing};
+ghost use Rattle.do_effects.specs.Taking.{ruling_copies};
+ghost use Rattle.do_site.specs.Kept.{IsKept};
+ghost use Rattle.do_site.specs.Packable.{is_kept, is_named};
+ghost use Rattle.do_site.specs.Steps.{Handles, IsSame, Makes, item_move, part_of, seen_of};
+ghost use Rattle.do_site.specs.Steps.{with_reading};
+
+use crate::faults::peer_fault;
+use crate::ground::judged_by;
+use crate::items::item_of;
+use crate::ruling::{copies_in, names_in, ruling_allowed};
+use crate::weighing::{are_kept, are_named};
+use crate::work::Work;
+use do_base::{NodeId, Shown};
+use do_class::ClassTable;
+use do_coder::Recent;
+use do_frames::{Frame, RawFault, RawFrame};
+use do_machine::Item;
+use do_network::{Done, PeerFault};
+use do_rules::{Ruling, item_line, ruling, rulings_are_arrivals};
+use do_streams::Reading;
+use std::alloc::AllocError;
+
+/// Whether a node that is packable or not is so once an item is taken as its ruling says.
+fn stays_packable(packable: bool, table: &ClassTable, item: &Item, ruling: &Ruling) -> bool
+    ensures { result ≡ ((packable && list_all (is_named table.now) (names_in item.now))
+        && list_all (λ m. is_kept table.now m.class m.slots) (ruling_copies ruling.now)) }
+{
+    packable && are_named(table, names_in(item)) && are_kept(table, copies_in(ruling))
+}
+
+impl Work {
+    /// What the ruling on an item says is done, all room having been made before.
+    fn follow(
+        &mut self,
+        table: &ClassTable,
+        from: NodeId,
+        item: &Item,
+        line: Shown,
+        ruling: Ruling,
+        names: Option<Recent>,
+    ) -> Result<(), AllocError>
+        requires kept { IsKept table.now self.old }
+        requires open { is_open self.old.core.part.own.node from ≡ true }
+        requires judged { ruling
+            ≡ ruling_on (site_context table.now self.old.core.part.own) from item.now }
+        requires line { line
+            ≡ Shown.Took (item_line from self.old.core.part.own.node.port item.now) }
+        requires known { IfSome names (λ ns. AreKnown self.old.core.streams.classes ns) }
+        ensures ok { OnOk result ((f : Framed)
+            → IsReadBy (names_of self.old.core.streams.links from) f names
+            → Makes (with_reading from f (doing self.old.core)) self.new.core
+            (item_move table.now from item.now self.old.core.part.own)) }
+        ensures err { OnErr result (IsSame self.old.core self.new.core) }
+        ensures kept { IsKept table.now self.new }
+    {
+        rulings_are_arrivals();
+        let Some(needs) = ruling_allowed(&self.core.part, from, item, &ruling) else {
+            return Err(AllocError);
+        };
+        let packable = stays_packable(self.packable, table, item, &ruling);
+        self.make_room(&needs)?;
+        self.core
+            .rule(from, item, line, ruling, &mut self.told.settled)?;
+        self.core.streams.keep_read(from, names);
+        self.packable = packable;
+        self.leave();
+        Ok(())
+    }
+
+    /// An item of a peer is judged and taken.
+    fn take_item(
+        &mut self,
+        table: &ClassTable,
+        from: NodeId,
+        item: &Item,
+        names: Option<Recent>,
+    ) -> Result<(), AllocError>
+        requires kept { IsKept table.now self.old }
+        requires open { is_open self.old.core.part.own.node from ≡ true }
+        requires known { IfSome names (λ ns. AreKnown self.old.core.streams.classes ns) }
+        ensures ok { OnOk result ((f : Framed)
+            → IsReadBy (names_of self.old.core.streams.links from) f names
+            → Makes (with_reading from f (doing self.old.core)) self.new.core
+            (item_move table.now from item.now self.old.core.part.own)) }
+        ensures err { OnErr result (IsSame self.old.core self.new.core) }
+        ensures kept { IsKept table.now self.new }
+    {
+        let line = item_line(from, self.core.part.port(), item)?;
+        let ruling = {
+            let ground = judged_by(table, &self.core.part, self.packable);
+            ruling(&ground, from, item)?
+        };
+        self.follow(table, from, item, Shown::Took(line), ruling, names)
+    }
+
+    /// A frame that was read is taken, unless its peer may not send it.
+    fn take_frame(
+        &mut self,
+        table: &ClassTable,
+        from: NodeId,
+        reading: Reading,
+    ) -> Result<Done, AllocError>
+        requires kept { IsKept table.now self.old }
+        requires open { is_open self.old.core.part.own.node from ≡ true }
+        requires read { IsReadBy (names_of self.old.core.streams.links from) reading.frame
+            reading.names }
+        requires known { IfSome reading.names (λ ns.
+            AreKnown self.old.core.streams.classes ns) }
+        ensures done { (act : Acting) → Handles (seen_of table.now act self.old.core)
+            (seen_of table.now act self.new.core) result
+            (Some (takes_frame table.now
+            (having_read from reading.frame (part_of self.old.core)) from reading.frame
+            (peer_fault self.old.core.part.own from reading.frame))) }
+        ensures kept { IsKept table.now self.new }
+    {
+        let Reading { frame, names } = reading;
+        if let Some(fault) = peer_fault(&self.core.part, from, &frame) {
+            self.refuse(from, names)?;
+            return Ok(Done::Closed(from, fault));
+        }
+        if let Frame::Release { serial, amount } = &frame {
+            self.release(from, *serial, *amount, names)?;
+            return Ok(Done::Moved);
+        }
+        let item = item_of(self.core.part.allocator(), frame);
+        self.take_item(table, from, &item, names)?;
+        Ok(Done::Moved)
+    }
+
+    /// The next frame of a peer is taken, where the node can take one.
+    ///
+    /// An error means that memory ran out; nothing but room changed then.
+    pub fn take(
+        &mut self,
+        table: &ClassTable,
+        from: NodeId,
+        raw: &RawFrame,
+    ) -> Result<Done, AllocError>
+        requires kept { IsKept table.now self.old }
+        ensures done { (act : Acting) → Handles (seen_of table.now act self.old.core)
+            (seen_of table.now act self.new.core) result
+            (frame_input table.now (part_of self.old.core) from raw.now) }
+        ensures kept { IsKept table.now self.new }
+    {
+        if !self.core.part.can_take(from) {
+            return Ok(Done::Skipped);
+        }
+        let port = self.core.part.port();
+        match self.core.streams.read(table, from, port, raw) {
+            Ok(reading) => self.take_frame(table, from, reading),
+            Err(RawFault::BadFrame(place)) => {
+                self.close(from)?;
+                Ok(Done::Closed(from, PeerFault::BadFrame(place)))
+            }
+            Err(RawFault::Memory) => Err(AllocError),
+        }
+    }
+}
