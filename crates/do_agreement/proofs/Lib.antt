@@ -1,0 +1,13 @@
+pub mod pairs
+pub mod counts
+pub mod places
+pub mod channels
+pub mod sites
+pub mod classes
+pub mod commits
+pub mod hands
+pub mod losses
+pub mod acts
+pub mod takes
+pub mod agreement
+pub mod told

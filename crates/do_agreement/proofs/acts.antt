@@ -1,0 +1,3 @@
+pub mod StepTallies
+pub mod ActsAgree
+pub mod ActEvents

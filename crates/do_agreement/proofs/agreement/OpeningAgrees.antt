@@ -1,0 +1,185 @@
+-- A network agrees with the machine as both open.
+use Rattle.std.proofs.Common.{◌≡◌, ◌==◌, ℕ, Bool, true, false}
+use Rattle.std.proofs.Common.{cond, List, [], ◌∷◌, length, map, refl}
+use Rattle.std.proofs.Common.{sym, ap, ◌∙◌, subst, arith}
+use Rattle.std.specs.Prelude.{None, Option, Some, find, is_some, option_and_then, option_map}
+use Rattle.std.proofs.lemmas.Bool.Decides.{nat_tests}
+use Rattle.do_class.specs.Class.{Class}
+use Rattle.do_machine.specs.declared.state.Seat.{Seat}
+use Rattle.do_machine.specs.declared.state.State.{State}
+use Rattle.do_machine.specs.State.{is_open, node}
+use Rattle.do_machine.specs.World.{by_port, opening, others}
+use Rattle.do_network.specs.Links.{Link}
+use Rattle.do_network.specs.Links.{Part}
+use Rattle.do_network.specs.Net.{net_ports, opening_link}
+use Rattle.do_network.specs.Net.{Channel, Net, Place}
+use Rattle.do_network.specs.Net.{channel, channel_to, net_opening, opening_channel}
+use Rattle.do_network.specs.Net.{opening_place, part_at, place_at}
+use Rattle.do_network.specs.fits.Fits.{Fits}
+use Rattle.do_network.specs.fits.Notes.{Note, tells_of, total}
+use Rattle.do_network.proofs.OpeningFits.{seat_found}
+use Rattle.do_network.proofs.OpeningFits.{opening_fits}
+use Rattle.do_facts.specs.links.LinksAreKept.{LinksAreKept}
+use Rattle.do_facts.proofs.links.ReachedLinks.{opening_keeps}
+use Rattle.do_agreement.specs.Agrees.{Agrees}
+use Rattle.do_agreement.specs.CountsFit.{MarksFit}
+use Rattle.do_agreement.proofs.counts.MovesAccount.{apart}
+use Rattle.do_agreement.proofs.losses.LossFits.{carried_length}
+use Rattle.do_agreement.proofs.places.PlacesChanged.{some_is}
+use Rattle.do_agreement.proofs.acts.StepTallies.{sound_here}
+
+-- nothing is under way that nothing carries
+nothing : (xs : List Note) → length xs ≡ 0 → xs ≡ []
+nothing [] e = refl
+nothing (x ∷ xs) e = absurd (omega (arith, e))
+
+-- ---- a network that fits, and in which nothing was sent
+
+-- Nothing was ever sent or taken over a channel
+pub record IsUnused (c : Channel) : Type 0 where
+  pub waiting : c.waiting ≡ []
+  pub begun : c.begun ≡ false
+
+module _ (table : List Class) (N : Net) (S : State) (F : Fits table N S) (kept : LinksAreKept S)
+    (unused : (a m : ℕ) (c : Channel) → channel N a m ≡ Some c → IsUnused c)
+    (linked : (port : ℕ) (p : Part) → part_at N port ≡ Some p →
+    map (λ (l : Link). l.peer) p.links ≡ others (net_ports N) port) where
+  -- a site is the machine's node
+  node_is : (port : ℕ) (p : Part) → part_at N port ≡ Some p → node S port ≡ Some p.own.node
+  node_is port p h = sym (F.nodes port) ∙ ap (option_map (λ (r : Part). r.own.node)) h
+
+  -- nothing is under way between two sites
+  none_there : (a m : ℕ) (p q : Part) → part_at N a ≡ Some p → part_at N m ≡ Some q →
+      (a == m) ≡ false → F.under_way a m ≡ []
+  none_there a m p q h k ne =
+      let way = F.channels a m p q h k ne in
+      nothing (F.under_way a m)
+      (sym (carried_length way.carries.tables.front (F.under_way a m))
+      ∙ ap length (sym way.carries.waiting ∙ (unused a m way.between way.stands).waiting))
+
+  -- a node whose end towards a port is open is not of this port
+  not_itself : (a m : ℕ) (p : Part) → part_at N a ≡ Some p → is_open p.own.node m ≡ true →
+      (a == m) ≡ false
+  not_itself a m p h o = go (a == m) refl
+    where
+      same : (a == m) ≡ true → a ≡ m
+      same e = grind (arith, nat_tests, e)
+
+      go : (b : Bool) → (a == m) ≡ b → b ≡ false
+      go false e = refl
+      go true e =
+          absurd (apart (ap (λ k. is_open p.own.node k) (same e) ∙ o) (F.owns a p h).apart)
+
+  -- the network agrees with the state
+  pub unused_agrees : Agrees table N S
+  unused_agrees = record {
+    tallies = record {
+      under_way = F.under_way;
+      counts = record {
+        owns = λ port p h.
+            let own = F.owns port p h in
+            record {
+              port_is = own.port_is;
+              apart = own.apart;
+              reached = record {
+                reached = (sound_here S kept port p.own.node (node_is port p h)).reached;
+              };
+              held = own.held;
+              received = own.received;
+            };
+        counted = λ a m p q h k ne none. (F.pairs a m p q h k ne).counted;
+        silent = λ a m p h o s. reach a m p h o s (part_at N m) refl (F.peers a m p h o);
+        channels = λ a m p q h k ne.
+            let way = F.channels a m p q h k ne in
+            record {
+              between = way.between;
+              stands = way.stands;
+              writer = way.writer;
+              writes = way.writes;
+              reader = way.reader;
+              reads = way.reads;
+              carries = way.carries;
+              marks = subst (MarksFit way.writer way.between) (sym (none_there a m p q h k ne))
+                  (record {
+                    lost = tt;
+                    unbegun = λ e. ((unused a m way.between way.stands).begun, tt);
+                  });
+            };
+        links = linked;
+        peers = F.peers;
+      };
+      shows = record { ports = F.ports; nodes = F.nodes; queues = F.queues };
+    };
+    classes = λ port p h. (F.owns port p h).classes;
+  }
+    where
+      reach : (a m : ℕ) (p : Part) → part_at N a ≡ Some p → is_open p.own.node m ≡ true →
+          (s : ℕ) → (found : Option Part) → part_at N m ≡ found → is_some found ≡ true →
+          total (tells_of s) (F.under_way a m) ≡ 0
+      reach a m p h o s None k some = absurd (cc)
+      reach a m p h o s (Some q) k some =
+          ap (total (tells_of s)) (none_there a m p q h k (not_itself a m p h o))
+
+-- ---- the opening
+
+-- what is found among results is such, where each result is
+pub found_such : {X Y : Type 0} (P : Y → Type 0) (test : Y → Bool) (f : X → Y) →
+    ((x : X) → P (f x)) → (xs : List X) (y : Y) → find test (map f xs) ≡ Some y → P y
+found_such P test f each [] y e = absurd (cc)
+found_such P test f each (x ∷ xs) y e = go (test (f x)) (found_such P test f each xs y) e
+  where
+    go : (b : Bool) → (find test (map f xs) ≡ Some y → P y) →
+        cond b (Some (f x)) (find test (map f xs)) ≡ Some y → P y
+    go true k h = subst P (some_is (f x) y h) (each x)
+    go false k h = k h
+
+-- as a network opens no channel was used
+opening_unused : (table : List Class) (seats : List Seat) (a m : ℕ) (c : Channel) →
+    channel (net_opening table seats) a m ≡ Some c → IsUnused c
+opening_unused table seats a m c =
+    go (place_at (net_opening table seats) a) refl
+  where
+    each : (s : Seat) (d : Channel) →
+        channel_to m (opening_place table (map (λ (x : Seat). x.node) (by_port seats)) s) ≡ Some d →
+        IsUnused d
+    each s d =
+        found_such IsUnused (λ e. m == e.to) opening_channel
+        (λ k. record { waiting = refl; begun = refl })
+        (others (map (λ (x : Seat). x.node) (by_port seats)) s.node) d
+
+    go : (found : Option Place) → place_at (net_opening table seats) a ≡ found →
+        option_and_then (channel_to m) found ≡ Some c → IsUnused c
+    go None k h = absurd (cc)
+    go (Some pl) k h =
+        found_such (λ pl. (d : Channel) → channel_to m pl ≡ Some d → IsUnused d)
+        (λ x. a == x.port) (opening_place table (map (λ (x : Seat). x.node) (by_port seats))) each
+        (by_port seats) pl k c h
+
+-- as a network opens each site has a link to each other
+opening_linked : (table : List Class) (seats : List Seat) (port : ℕ) (p : Part) →
+    part_at (net_opening table seats) port ≡ Some p →
+    map (λ (l : Link). l.peer) p.links ≡ others (net_ports (net_opening table seats)) port
+opening_linked table seats port p h =
+    let all = map (λ (s : Seat). s.node) (by_port seats) in
+    let found = seat_found table all (by_port seats) port p h in
+    ap (λ (r : Part). map (λ (l : Link). l.peer) r.links) (sym found.part_is)
+    ∙ link_peers (others all found.seat.node)
+    ∙ ap (others all) found.port_is
+    ∙ ap (λ ps. others ps port) (sym (place_ports all (by_port seats)))
+  where
+    link_peers : (ps : List ℕ) → map (λ (l : Link). l.peer) (map opening_link ps) ≡ ps
+    link_peers [] = refl
+    link_peers (k ∷ ps) = ap (λ ks. k ∷ ks) (link_peers ps)
+
+    place_ports : (all : List ℕ) (ss : List Seat) →
+        map (λ (x : Place). x.port) (map (opening_place table all) ss)
+        ≡ map (λ (s : Seat). s.node) ss
+    place_ports all [] = refl
+    place_ports all (s ∷ ss) = ap (λ ks. s.node ∷ ks) (place_ports all ss)
+
+-- the network of a world agrees with its machine
+pub opening_agrees : (table : List Class) (seats : List Seat) →
+    Agrees table (net_opening table seats) (opening table seats)
+opening_agrees table seats =
+    unused_agrees table (net_opening table seats) (opening table seats) (opening_fits table seats)
+    (opening_keeps table seats) (opening_unused table seats) (opening_linked table seats)

@@ -1,0 +1,144 @@
+-- What is written of a network, but for what was sent, is what is written of the machine.
+use Rattle.std.proofs.Common.{◌≡◌, ◌==◌, ◌||◌, ℕ, List, [], ◌∷◌, ◌++◌, map, Some, refl, ap, sym}
+use Rattle.std.proofs.Common.{◌∙◌, subst, arith}
+use Rattle.std.specs.List.{IsDistinct, flat_map}
+use Rattle.std.proofs.lemmas.Bool.Decides.{Decides-eqb}
+use Rattle.std.proofs.lemmas.List.{append-nil}
+use Rattle.std.proofs.lemmas.List.Kept.{AllPairs-from_increasing}
+use Rattle.std.proofs.lemmas.Map.Made.{IsDistinct-from_AllPairs}
+use Rattle.do_base.specs.declared.events.event.Event.{Event}
+use Rattle.do_class.specs.Class.{Class}
+use Rattle.do_class.specs.Table.{IsTable}
+use Rattle.do_lines.specs.Transcript.{block_lines, first_line, last_line, transcript}
+use Rattle.do_machine.specs.declared.state.Seat.{Seat}
+use Rattle.do_machine.specs.declared.state.State.{State}
+use Rattle.do_machine.specs.declared.state.Stepped.{Stepped}
+use Rattle.do_machine.specs.Commit.{skipped}
+use Rattle.do_machine.specs.State.{ports}
+use Rattle.do_machine.specs.Step.{step}
+use Rattle.do_machine.specs.World.{IsWorld, opening}
+use Rattle.do_machine.specs.check.Blocks.{blocks, events_of, listed_at, steps}
+use Rattle.do_machine.specs.run.Run.{Acting}
+use Rattle.do_machine.proofs.Ports.{opening_rises, step_ports}
+use Rattle.do_sched.specs.declared.line.Line.{Line}
+use Rattle.do_sched.specs.declared.line.Line.TheVariants as lines
+use Rattle.do_network.specs.Net.{Net, net_opening}
+use Rattle.do_network.specs.Step.{NetStepped, net_skipped, net_step}
+use Rattle.do_network.specs.Wired.{WiredBlock, net_blocks, net_listed_at, net_steps}
+use Rattle.do_network.specs.Wired.{wired, wired_lines}
+use Rattle.do_agreement.specs.Agrees.{Agrees}
+use Rattle.do_agreement.specs.Along.{AreSpelled, LinesAreSpelled}
+use Rattle.do_agreement.specs.EventIsSpelled.{EventIsSpelled}
+use Rattle.do_agreement.specs.Unwired.{unwired}
+use Rattle.do_agreement.proofs.agreement.GoesOn.{Goes, goes_on, opening_goes}
+use Rattle.do_agreement.proofs.agreement.SnapshotsAgree.{snapshots_same}
+
+module _ (table : List Class) (t : IsTable table) (act : Acting) where
+  -- a network goes on with a state, whose nodes have ports of their own
+  record Apart (N : Net) (S : State) : Type 0 where
+    goes : Goes table N S
+    distinct : IsDistinct (λ (p q : ℕ). p == q) (ports S)
+
+  -- an event comes to the same
+  one : (N : Net) (S : State) → Apart N S → (event : Event) →
+      ((agrees : Agrees table N S) → EventIsSpelled table act N agrees.tallies.under_way event) →
+      ((net_step table act N event).outcome ≡ (step table act S event).outcome)
+      × Apart (net_step table act N event).net (step table act S event).state
+  one N S g event spelled =
+      let s = goes_on table t act N S g.goes event spelled in (
+        s.0,
+        record {
+          goes = s.1;
+          distinct = subst (IsDistinct (λ (p q : ℕ). p == q))
+              (sym (step_ports table act S event)) g.distinct;
+        },
+      )
+
+  -- and so do events one after another
+  all : (events : List Event) (a : NetStepped) (b : Stepped) → a.outcome ≡ b.outcome →
+      Apart a.net b.state → AreSpelled table act a.net b.state events →
+      ((net_steps table act events a).outcome ≡ (steps table act events b).outcome)
+      × Apart (net_steps table act events a).net (steps table act events b).state
+  all [] a b same g spelled = (same, g)
+  all (event ∷ events) a b same g spelled =
+      let s = one a.net b.state g event spelled.0 in
+      all events _ _
+      (λ j. record {
+        enabled = (same j).enabled || (s.0 j).enabled;
+        shown = (same j).shown ++ (s.0 j).shown;
+      }) s.1 spelled.1
+
+  -- what a line lists is the same
+  listed_alike : (N : Net) (S : State) → Apart N S → (line : Line) →
+      net_listed_at N line ≡ listed_at S line
+  listed_alike N S g (lines.Start port selector values) = refl
+  listed_alike N S g (lines.Run port count) = refl
+  listed_alike N S g (lines.Take port from) = refl
+  listed_alike N S g (lines.Close port peer) = refl
+  listed_alike N S g (lines.Lose from to after) = refl
+  listed_alike N S g (lines.Timeout port) = refl
+  listed_alike N S g lines.Check = ap (λ x. Some x) (snapshots_same table N S g.goes.agrees g.distinct)
+
+  -- lines come to the same blocks, but for what was sent
+  same_blocks : (ls : List Line) (N : Net) (S : State) → Apart N S →
+      LinesAreSpelled table act N S ls →
+      map (λ (b : WiredBlock). b.block) (net_blocks table act N ls) ≡ blocks table act S ls
+  same_blocks [] N S g spelled = refl
+  same_blocks (line ∷ ls) N S g spelled =
+      let s = all (events_of line) (net_skipped N) (skipped S) refl g spelled.0 in
+      let rest = same_blocks ls _ _ s.1 spelled.1 in
+      let listed = listed_alike _ _ s.1 line in
+      λ j. record { line = line; outcome = s.0 j; listed = listed j } ∷ rest j
+
+  -- from the opening, where each node has a port of its own
+  pub blocks_agree : (seats : List Seat) →
+      IsDistinct (λ (p q : ℕ). p == q) (ports (opening table seats)) → (ls : List Line) →
+      LinesAreSpelled table act (net_opening table seats) (opening table seats) ls →
+      map (λ (b : WiredBlock). b.block) (net_blocks table act (net_opening table seats) ls)
+      ≡ blocks table act (opening table seats) ls
+  blocks_agree seats distinct ls spelled =
+      same_blocks ls (net_opening table seats) (opening table seats)
+      (record { goes = opening_goes table seats; distinct = distinct }) spelled
+
+-- blocks without what was sent are written as the machine's
+unwired_lines : (table : List Class) (bs : List WiredBlock) →
+    flat_map (wired_lines table) (unwired bs)
+    ≡ flat_map (block_lines table) (map (λ (b : WiredBlock). b.block) bs)
+unwired_lines table [] = refl
+unwired_lines table (b ∷ bs) =
+    let one = append-nil (block_lines table b.block) in
+    let rest = unwired_lines table bs in
+    λ j. one j ++ rest j
+
+-- and so is the whole
+pub unwired_text : (table : List Class) (bs : List WiredBlock) →
+    wired table (unwired bs) ≡ transcript table (map (λ (b : WiredBlock). b.block) bs)
+unwired_text table bs = ap (λ text. first_line ++ text ++ last_line) (unwired_lines table bs)
+
+-- the nodes of a world open at ports of their own
+ports_differ : (table : List Class) (seats : List Seat) → IsWorld table seats →
+    IsDistinct (λ (p q : ℕ). p == q) (ports (opening table seats))
+ports_differ table seats world =
+    let rise = opening_rises table seats world in
+    let below = AllPairs-from_increasing (ports (opening table seats)) rise in
+    IsDistinct-from_AllPairs Decides-eqb (ports (opening table seats))
+    (λ i j d le within same. let less = below i j d le within in omega (arith, less, same))
+
+-- a world's blocks are the machine's, but for what was sent
+pub world_blocks : (table : List Class) (seats : List Seat) → IsWorld table seats →
+    (act : Acting) (ls : List Line) →
+    LinesAreSpelled table act (net_opening table seats) (opening table seats) ls →
+    map (λ (b : WiredBlock). b.block) (net_blocks table act (net_opening table seats) ls)
+    ≡ blocks table act (opening table seats) ls
+world_blocks table seats world act ls spelled =
+    blocks_agree table world.classes act seats (ports_differ table seats world) ls spelled
+
+-- and so is its text
+pub world_text : (table : List Class) (seats : List Seat) → IsWorld table seats →
+    (act : Acting) (ls : List Line) →
+    LinesAreSpelled table act (net_opening table seats) (opening table seats) ls →
+    wired table (unwired (net_blocks table act (net_opening table seats) ls))
+    ≡ transcript table (blocks table act (opening table seats) ls)
+world_text table seats world act ls spelled =
+    unwired_text table (net_blocks table act (net_opening table seats) ls)
+    ∙ ap (transcript table) (world_blocks table seats world act ls spelled)

@@ -1,0 +1,2 @@
+pub mod SendsCarried
+pub mod FirstTaken

@@ -1,0 +1,3 @@
+pub mod KnownAfter
+pub mod ClassesTold
+pub mod ClassesAfter

@@ -1,0 +1,4 @@
+pub mod CommitFits
+pub mod CommitShows
+pub mod EntriesJudged
+pub mod MoveTallies

@@ -1,0 +1,99 @@
+-- What a site gives back by what it sends, and what it still counts as received.
+use Rattle.std.proofs.Common.{◌≡◌, ◌==◌, ◌+◌, ℕ, Bool, true, false, cond, List}
+use Rattle.std.proofs.Common.{refl, sym, ap, ◌∙◌, arith}
+use Rattle.std.specs.Prelude.{None, unwrap_or}
+use Rattle.std.specs.FinMap as map_of
+use Rattle.std.specs.FinMap.{get-retain_keys}
+use Rattle.std.proofs.lemmas.Bool.{eqb-true}
+use Rattle.do_class.specs.declared.packet.Name.{Name}
+use Rattle.do_class.specs.declared.packet.Name.TheVariants.{Lent, Mine, Yours}
+use Rattle.do_export.specs.Counts.{Counts, count_of}
+use Rattle.do_export.proofs.Order.{entry_same}
+use Rattle.do_import.specs.ByObject.{object_of}
+use Rattle.do_machine.specs.declared.item.Item.{Item}
+use Rattle.do_machine.specs.declared.item.Item.TheVariants as items
+use Rattle.do_machine.specs.declared.node.Node.{Node}
+use Rattle.do_machine.specs.declared.state.Parcel.{Parcel}
+use Rattle.do_machine.specs.Objects.{object_at}
+use Rattle.do_machine.specs.State.{holds}
+use Rattle.do_network.specs.Counting.{of_held}
+use Rattle.do_network.specs.Frames.{amount_of}
+use Rattle.do_network.specs.fits.Notes.{given_up, returns_of, tells_of, total}
+use Rattle.do_facts.specs.Net as nets
+use Rattle.do_facts.specs.View.{posted}
+use Rattle.do_facts.specs.links.Facts.{told_of}
+use Rattle.do_facts.specs.links.Links.{atoms, links, name_atoms}
+use Rattle.do_agreement.specs.Accounted.{given, told, worth_of}
+use Rattle.do_agreement.specs.NotesSent.{note_sent, notes_to}
+use Rattle.do_agreement.proofs.pairs.LinksOfNotes.{tells_alike}
+use Rattle.do_agreement.proofs.pairs.NotesAsAtoms.{none_named, sent_total}
+
+module _ (received : Counts) (h s : ℕ) where
+  -- how often the object was received
+  abbrev often : ℕ
+  often = count_of received h s
+
+  -- a count at a serial that is another's
+  count_alike : (r : ℕ) →
+      cond (r == s) (count_of received h r) 0 ≡ cond (r == s) often 0 + 0
+  count_alike r = go (r == s) refl
+    where
+      go : (b : Bool) → (r == s) ≡ b → cond b (count_of received h r) 0 ≡ cond b often 0 + 0
+      go true e =
+          let same = ap (λ x. count_of received h x) (eqb-true r s e) in
+          omega (arith, same)
+      go false e = refl
+
+  -- no name gives anything back
+  no_name : (y : Name) → nets.total (worth_of h s often) (name_atoms y) ≡ 0
+  no_name (Mine r class) = refl
+  no_name (Yours r) = refl
+  no_name (Lent o class t) = refl
+
+  -- what an item to a home gives back
+  returned_alike : (item : Item) → given_up s item (amount_of received h item)
+      ≡ nets.total (worth_of h s often) (atoms item)
+  returned_alike (items.Call k m) =
+      omega (arith, none_named (worth_of h s often) no_name m.packet.names)
+  returned_alike (items.Oneway m) =
+      omega (arith, none_named (worth_of h s often) no_name m.packet.names)
+  returned_alike (items.Reply k p) = none_named (worth_of h s often) no_name p.names
+  returned_alike (items.Raised k e) = refl
+  returned_alike (items.RootAsk k) = refl
+  returned_alike (items.RootAnswer k p) = none_named (worth_of h s often) no_name p.names
+  returned_alike (items.Ask r t) = refl
+  returned_alike (items.Granted r t) = refl
+  returned_alike (items.Gone r t) = refl
+  returned_alike (items.Left r) = count_alike r
+  returned_alike (items.Settled k) = refl
+  returned_alike (items.End serials) = refl
+
+  -- what is sent gives back what its atoms give back
+  pub returned : (sent : List Parcel) →
+      total (returns_of s) (notes_to received h sent) ≡ given h s often (posted links sent)
+  returned sent =
+      sent_total (returns_of s) (worth_of h s often) received h
+      (λ x to. ap (λ z. given_up s x.item (amount_of received z x.item)) to
+      ∙ returned_alike x.item)
+      sent
+
+  -- what is sent tells what its atoms tell
+  pub told_sent : (c : ℕ) (sent : List Parcel) →
+      total (tells_of s) (notes_to received h sent) ≡ told h s c (posted links sent)
+  told_sent c sent =
+      sent_total (tells_of s) (told_of s) received h
+      (λ x to. tells_alike s (note_sent received x)) sent
+
+-- what is received is kept of what is held
+pub held_count : (n : Node) (received : Counts) (h s : ℕ) →
+    count_of (of_held n received) h s
+    ≡ cond (holds n (object_at h s)) (count_of received h s) 0
+held_count n received h s =
+    ap (λ o. unwrap_or o 0) (get-retain_keys received (λ k. holds n (object_of k)) (h, s)
+    (λ x t. ap (λ k. holds n (object_of k)) (sym (entry_same (h, s) x t))))
+    ∙ go (holds n (object_at h s))
+  where
+    go : (b : Bool) → unwrap_or (cond b (map_of.get received (h, s)) None) 0
+        ≡ cond b (count_of received h s) 0
+    go true = refl
+    go false = refl

@@ -1,0 +1,4 @@
+pub mod InHandCounts
+pub mod InHandCounted
+pub mod HandFits
+pub mod HandShows

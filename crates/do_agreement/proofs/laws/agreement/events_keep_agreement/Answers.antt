@@ -1,0 +1,5 @@
+use Rattle.do_agreement.proofs.agreement.StepsAgree.{step_agrees}
+use Rattle.do_agreement.proofs.laws.agreement.events_keep_agreement.Goals as goal
+
+pub returns : goal.returns
+returns c = step_agrees

@@ -1,0 +1,5 @@
+use Rattle.do_agreement.proofs.agreement.OpeningAgrees.{opening_agrees}
+use Rattle.do_agreement.proofs.laws.agreement.networks_open_in_agreement.Goals as goal
+
+pub returns : goal.returns
+returns c = opening_agrees

@@ -1,0 +1,5 @@
+use Rattle.do_agreement.proofs.agreement.SnapshotsAgree.{snapshots_same}
+use Rattle.do_agreement.proofs.laws.agreement.snapshots_are_equal.Goals as goal
+
+pub returns : goal.returns
+returns c = snapshots_same

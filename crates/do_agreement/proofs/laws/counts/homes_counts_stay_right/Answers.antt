@@ -1,0 +1,5 @@
+use Rattle.do_agreement.proofs.counts.ReturnsCounted.{returns_counted}
+use Rattle.do_agreement.proofs.laws.counts.homes_counts_stay_right.Goals as goal
+
+pub returns : goal.returns
+returns c = returns_counted

@@ -1,0 +1,5 @@
+use Rattle.do_agreement.proofs.counts.NamesCounted.{names_counted}
+use Rattle.do_agreement.proofs.laws.counts.senders_counts_stay_right.Goals as goal
+
+pub returns : goal.returns
+returns c = names_counted

@@ -1,0 +1,2 @@
+pub mod LossFits
+pub mod LossEvents

@@ -1,0 +1,5 @@
+pub mod NotesAsAtoms
+pub mod LinksOfNotes
+pub mod CallsOfNotes
+pub mod LendsOfPairs
+pub mod CallsOfPairs

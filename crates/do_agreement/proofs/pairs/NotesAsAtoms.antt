@@ -1,0 +1,84 @@
+-- Sums of what is under way, as sums of the atoms of its items.
+use Rattle.std.proofs.Common.{◌≡◌, ◌==◌, ◌++◌, ◌+◌, ℕ, Bool, true, false, cond, List, [], ◌∷◌, map}
+use Rattle.std.proofs.Common.{filter, refl, sym, ap, ◌∙◌, arith}
+use Rattle.std.specs.List.{flat_map}
+use Rattle.std.proofs.lemmas.Bool.{eqb-true}
+use Rattle.do_class.specs.declared.packet.Name.{Name}
+use Rattle.do_export.specs.Counts.{Counts}
+use Rattle.do_machine.specs.declared.item.Item.{Item}
+use Rattle.do_machine.specs.declared.state.Parcel.{Parcel}
+use Rattle.do_network.specs.fits.Notes.{Note, total}
+use Rattle.do_facts.specs.Net as nets
+use Rattle.do_facts.specs.Net.{atoms_of, noted}
+use Rattle.do_facts.specs.View.{posted}
+use Rattle.do_facts.specs.links.Links.{Atom, atoms, links, name_atoms}
+use Rattle.do_facts.proofs.Notes.{atoms_behind, atoms_noted, none_noted, total-append}
+use Rattle.do_agreement.specs.NotesSent.{note_sent, notes_to}
+
+-- the items of what is under way
+abbrev pub items_of : List Note → List Item
+items_of xs = map (λ x. x.item) xs
+
+-- what is summed behind what stands there
+pub total_behind : (f : Note → ℕ) (xs ys : List Note) →
+    total f (xs ++ ys) ≡ total f xs + total f ys
+total_behind f [] ys = omega arith
+total_behind f (x ∷ xs) ys = omega (arith, total_behind f xs ys)
+
+-- what is summed note by note is summed atom by atom
+pub summed : {A : Type 0} (view : Item → List A) (f : Note → ℕ) (g : A → ℕ) →
+    ((x : Note) → f x ≡ nets.total g (view x.item)) → (xs : List Note) →
+    total f xs ≡ nets.total g (flat_map view (items_of xs))
+summed view f g alike [] = refl
+summed view f g alike (x ∷ xs) =
+    ap (λ k. k + total f xs) (alike x)
+    ∙ ap (λ k. nets.total g (view x.item) + k) (summed view f g alike xs)
+    ∙ sym (total-append g (view x.item) (flat_map view (items_of xs)))
+
+-- where no name counts, no message does
+pub none_named : (g : Atom → ℕ) → ((x : Name) → nets.total g (name_atoms x) ≡ 0) →
+    (xs : List Name) → 0 ≡ nets.total g (flat_map name_atoms xs)
+none_named g none [] = refl
+none_named g none (x ∷ xs) =
+    omega (
+      arith,
+      none x,
+      none_named g none xs,
+      total-append g (name_atoms x) (flat_map name_atoms xs),
+    )
+
+-- of what is posted to a peer, one parcel and the rest
+pub posted_total : (g : Atom → ℕ) (peer : ℕ) (x : Parcel) (xs : List Parcel) →
+    nets.total g (atoms_of peer (posted links (x ∷ xs)))
+    ≡ cond (x.to == peer) (nets.total g (atoms x.item)) 0
+    + nets.total g (atoms_of peer (posted links xs))
+posted_total g peer x xs =
+    ap (nets.total g) (atoms_behind peer (noted x.to (atoms x.item)) (posted links xs))
+    ∙ total-append g (atoms_of peer (noted x.to (atoms x.item))) (atoms_of peer (posted links xs))
+    ∙ ap (λ k. k + nets.total g (atoms_of peer (posted links xs))) (first (x.to == peer) refl)
+  where
+    first : (b : Bool) → (x.to == peer) ≡ b →
+        nets.total g (atoms_of peer (noted x.to (atoms x.item)))
+        ≡ cond b (nets.total g (atoms x.item)) 0
+    first true e =
+        ap (λ k. nets.total g (atoms_of k (noted x.to (atoms x.item)))) (sym (eqb-true x.to peer e))
+        ∙ ap (nets.total g) (atoms_noted x.to (atoms x.item))
+    first false e = ap (nets.total g) (none_noted x.to peer (atoms x.item) e)
+
+-- what is summed note by note of what is sent to a peer is summed atom by atom
+pub sent_total : (f : Note → ℕ) (g : Atom → ℕ) (received : Counts) (peer : ℕ) →
+    ((x : Parcel) → x.to ≡ peer → f (note_sent received x) ≡ nets.total g (atoms x.item)) →
+    (sent : List Parcel) →
+    total f (notes_to received peer sent) ≡ nets.total g (atoms_of peer (posted links sent))
+sent_total f g received peer alike [] = refl
+sent_total f g received peer alike (x ∷ xs) =
+    go (x.to == peer) refl (sent_total f g received peer alike xs)
+    ∙ sym (posted_total g peer x xs)
+  where
+    go : (b : Bool) → (x.to == peer) ≡ b →
+        total f (notes_to received peer xs) ≡ nets.total g (atoms_of peer (posted links xs)) →
+        total f (map (note_sent received) (cond b (x ∷ filter (λ y. y.to == peer) xs)
+        (filter (λ y. y.to == peer) xs)))
+        ≡ cond b (nets.total g (atoms x.item)) 0 + nets.total g (atoms_of peer (posted links xs))
+    go true e rest = omega (arith, alike x (eqb-true x.to peer e), rest)
+    go false e rest = omega (arith, rest)

@@ -1,0 +1,4 @@
+pub mod Numbers
+pub mod KeyedLists
+pub mod PlacesChanged
+pub mod StepAsCommits

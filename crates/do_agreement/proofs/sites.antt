@@ -1,0 +1,5 @@
+pub mod HeldLists
+pub mod HeldKept
+pub mod EntriesCounted
+pub mod ReaderStays
+pub mod RuleEffects

@@ -1,0 +1,210 @@
+-- The objects that are counted as received, as a list in order.
+use Rattle.std.proofs.Common.{◌≡◌, ℕ, suc, ◌+◌, ◌&&◌, ◌||◌, Bool, true, false, cond, not, T}
+use Rattle.std.proofs.Common.{List, [], ◌∷◌, filter, length, map, refl, sym, ap, ◌∙◌, subst, arith}
+use Rattle.std.specs.Prelude.{None, Some, is_some, nat_lt, if◌then◌else◌}
+use Rattle.std.specs.List.{list_any, position_or_len}
+use Rattle.std.specs.Ordering.{eq_by_cmp, is_eq, is_lt}
+use Rattle.std.specs.FinMap as map_of
+use Rattle.std.specs.FinMap.{contains_key-keys, entries-insert, entries_sorted, get-entries}
+use Rattle.std.specs.FinMap.Entries.{below_all, by_order, find, is_sorted, put}
+use Rattle.std.specs.declared.cmp.Ordering.{Ordering}
+use Rattle.std.specs.declared.cmp.Ordering.TheVariants.{Less, Equal, Greater}
+use Rattle.std.proofs.lemmas.Bool.Decides.{nat_tests}
+use Rattle.do_base.specs.names.Names.{ObjectName}
+use Rattle.do_packet.specs.Met.{has_object, same_object}
+use Rattle.do_export.specs.Counts.{Counts, entry_cmp}
+use Rattle.do_export.proofs.Order.{entry_same, entry_total}
+use Rattle.do_import.specs.ByObject.{object_of}
+use Rattle.do_import.proofs.RowCounts.{entries-retain}
+use Rattle.do_machine.specs.Lists.{inserted, put_at}
+use Rattle.do_machine.specs.Objects.{joined, object_lt}
+
+-- the objects that are counted as received
+abbrev pub held_list : Counts → List ObjectName
+held_list received = map object_of (map_of.keys received)
+
+-- ---- lists
+
+-- what passes of what is mapped
+filter-map : {X Y : Type 0} (f : X → Y) (p : Y → Bool) (xs : List X) →
+    filter p (map f xs) ≡ map f (filter (λ x. p (f x)) xs)
+filter-map f p [] = refl
+filter-map f p (x ∷ xs) = go (p (f x)) (filter-map f p xs)
+  where
+    go : (b : Bool) → filter p (map f xs) ≡ map f (filter (λ y. p (f y)) xs) →
+        cond b (f x ∷ filter p (map f xs)) (filter p (map f xs))
+        ≡ map f (cond b (x ∷ filter (λ y. p (f y)) xs) (filter (λ y. p (f y)) xs))
+    go true e = ap (λ l. f x ∷ l) e
+    go false e = e
+
+-- whether one passes of what is mapped
+any-map : {X Y : Type 0} (f : X → Y) (p : Y → Bool) (xs : List X) →
+    list_any p (map f xs) ≡ list_any (λ x. p (f x)) xs
+any-map f p [] = refl
+any-map f p (x ∷ xs) = ap (λ b. p (f x) || b) (any-map f p xs)
+
+-- a number is before a higher one
+first_place : (n : ℕ) → nat_lt 0 (suc n) ≡ true
+first_place n = grind (arith, nat_tests)
+
+-- two numbers compare as those one higher do
+one_higher : (n m : ℕ) → nat_lt (suc n) (suc m) ≡ nat_lt n m
+one_higher n m = grind (arith, nat_tests)
+
+module _ {X : Type 0} (before : X → X → Bool) where
+  -- an element before the first that comes after it
+  abbrev put_in : X → List X → List X
+  put_in x [] = x ∷ []
+  put_in x (y ∷ ys) = cond (before x y) (x ∷ y ∷ ys) (y ∷ put_in x ys)
+
+  -- so it is inserted
+  inserted_is : (x : X) (xs : List X) → inserted before x xs ≡ put_in x xs
+  inserted_is x [] = refl
+  inserted_is x (y ∷ ys) = go (before x y) (inserted_is x ys)
+    where
+      -- it stands one place later then, or behind all
+      behind : (at : ℕ) (b : Bool) → put_at x (y ∷ ys) (cond b (Some (suc at)) None)
+          ≡ y ∷ put_at x ys (cond b (Some at) None)
+      behind at true = refl
+      behind at false = refl
+
+      -- one more is the next number
+      next : (n : ℕ) → 1 + n ≡ suc n
+      next n = omega arith
+
+      go : (b : Bool) → inserted before x ys ≡ put_in x ys →
+          put_at x (y ∷ ys) (cond (nat_lt (cond (not b) (1 + position_or_len (before x) ys) 0)
+          (suc (length ys))) (Some (cond (not b) (1 + position_or_len (before x) ys) 0)) None)
+          ≡ cond b (x ∷ y ∷ ys) (y ∷ put_in x ys)
+      go true later =
+          ap (λ c. put_at x (y ∷ ys) (cond c (Some 0) None)) (first_place (length ys))
+      go false later =
+          let rest = position_or_len (before x) ys in
+          ap (λ n. put_at x (y ∷ ys) (cond (nat_lt n (suc (length ys))) (Some n) None)) (next rest)
+          ∙ ap (λ c. put_at x (y ∷ ys) (cond c (Some (suc rest)) None))
+          (one_higher rest (length ys))
+          ∙ behind rest (nat_lt rest (length ys))
+          ∙ ap (λ l. y ∷ l) later
+
+-- ---- objects held
+
+-- two objects are one where their keys tie
+object_tie : (q k : ℕ × ℕ) → same_object (object_of q) (object_of k) ≡ eq_by_cmp entry_cmp q k
+object_tie q k = grind (arith, nat_tests)
+
+-- an object stands before another where its key is lower
+lower : (q k : ℕ × ℕ) → entry_cmp q k ≡ Less → object_lt (object_of q) (object_of k) ≡ true
+lower q k h = grind (arith, nat_tests)
+
+-- and behind it where it is higher
+higher : (q k : ℕ × ℕ) → entry_cmp q k ≡ Greater → object_lt (object_of q) (object_of k) ≡ false
+higher q k h = grind (arith, nat_tests)
+
+-- an object is held just where it is counted
+held_where : (m : Counts) (q : ℕ × ℕ) → has_object (held_list m) (object_of q)
+    ≡ map_of.contains_key m q
+held_where m q = any-map object_of (same_object (object_of q)) (map_of.keys m)
+    ∙ (λ i. list_any (λ k. object_tie q k i) (map_of.keys m)) ∙ sym (contains_key-keys m q)
+
+-- of two facts that hold together the first
+first : (a b : Bool) → T (a && b) → T a
+first true b p = tt
+first false b p = p
+
+-- and the second
+second : (a b : Bool) → T (a && b) → T b
+second true b p = p
+second false b p = absurd p
+
+-- what comes before
+less : (r : Ordering) → T (is_lt r) → r ≡ Less
+less Less p = refl
+less Equal p = absurd p
+less Greater p = absurd p
+
+module _ {V : Type 0} (k : ℕ × ℕ) (v : V) where
+  -- a key below all keys is not found
+  missing : (x : ℕ × ℕ) (es : List ((ℕ × ℕ) × V)) → entry_cmp k x ≡ Less →
+      T (below_all entry_cmp x es) → find entry_cmp k es ≡ None
+  missing x [] h below = refl
+  missing x (e ∷ es) h below =
+      ap (λ r. cond (is_eq r) (Some e.1) (find entry_cmp k es))
+      (entry_total.trans k x e.0 h (less _ (first _ _ below)))
+      ∙ missing x es h (second _ _ below)
+
+  -- where a row is put in place of one, the keys are the same
+  keys_same : (es : List ((ℕ × ℕ) × V)) → T (is_sorted entry_cmp es) →
+      is_some (find entry_cmp k es) ≡ true →
+      map (λ e. e.0) (put entry_cmp k v es) ≡ map (λ e. e.0) es
+  keys_same [] s found = absurd (subst T (sym found) tt)
+  keys_same (e ∷ es) s found = go (entry_cmp k e.0) refl found
+      (λ later. keys_same es (second _ _ s) later)
+    where
+      go : (r : Ordering) → entry_cmp k e.0 ≡ r →
+          is_some (cond (is_eq r) (Some e.1) (find entry_cmp k es)) ≡ true →
+          (is_some (find entry_cmp k es) ≡ true →
+          map (λ e. e.0) (put entry_cmp k v es) ≡ map (λ e. e.0) es) →
+          map (λ e. e.0) (by_order r ((k, v) ∷ e ∷ es) ((e.0, v) ∷ es)
+          (e ∷ put entry_cmp k v es)) ≡ e.0 ∷ map (λ e. e.0) es
+      go Less h there later = absurd (subst T
+          (sym there ∙ ap is_some (missing e.0 es h (first _ _ s))) tt)
+      go Equal h there later = refl
+      go Greater h there later = ap (λ l. e.0 ∷ l) (later there)
+
+  -- where a new row is put in, its object is inserted
+  keys_new : (es : List ((ℕ × ℕ) × V)) → is_some (find entry_cmp k es) ≡ false →
+      map object_of (map (λ e. e.0) (put entry_cmp k v es))
+      ≡ put_in object_lt (object_of k) (map object_of (map (λ e. e.0) es))
+  keys_new [] none = refl
+  keys_new (e ∷ es) none = go (entry_cmp k e.0) refl none (λ later. keys_new es later)
+    where
+      -- the object before the first, or behind it
+      at : (b : Bool) → object_lt (object_of k) (object_of e.0) ≡ b →
+          cond b (object_of k ∷ object_of e.0 ∷ (map object_of (map (λ e. e.0) es)))
+          (object_of e.0 ∷ put_in object_lt (object_of k) (map object_of (map (λ e. e.0) es)))
+          ≡ put_in object_lt (object_of k) (object_of e.0 ∷ (map object_of (map (λ e. e.0) es)))
+      at b h = sym (ap (λ c. cond c
+          (object_of k ∷ object_of e.0 ∷ (map object_of (map (λ e. e.0) es)))
+          (object_of e.0 ∷ put_in object_lt (object_of k) (map object_of (map (λ e. e.0) es)))) h)
+
+      go : (r : Ordering) → entry_cmp k e.0 ≡ r →
+          is_some (cond (is_eq r) (Some e.1) (find entry_cmp k es)) ≡ false →
+          (is_some (find entry_cmp k es) ≡ false →
+          map object_of (map (λ e. e.0) (put entry_cmp k v es))
+          ≡ put_in object_lt (object_of k) (map object_of (map (λ e. e.0) es))) →
+          map object_of (map (λ e. e.0) (by_order r ((k, v) ∷ e ∷ es) ((e.0, v) ∷ es)
+          (e ∷ put entry_cmp k v es)))
+          ≡ put_in object_lt (object_of k) (object_of e.0 ∷ (map object_of (map (λ e. e.0) es)))
+      go Less h there later = at true (lower k e.0 h)
+      go Equal h there later = absurd (subst T there tt)
+      go Greater h there later =
+          ap (λ l. object_of e.0 ∷ l) (later there) ∙ at false (higher k e.0 h)
+
+-- once an object is counted it is held
+pub held_more : (m : Counts) (o : ObjectName) (n : ℕ) →
+    held_list (map_of.insert m (o.node, o.serial) n) ≡ joined (held_list m) o
+held_more m o n =
+    ap (λ es. map object_of (map (λ e. e.0) es))
+    (entries-insert entry_total m (o.node, o.serial) n)
+    ∙ go (map_of.contains_key m (o.node, o.serial))
+    (ap is_some (sym (get-entries m (o.node, o.serial))))
+    ∙ ap (λ b. if b then held_list m else inserted object_lt o (held_list m))
+    (sym (held_where m (o.node, o.serial)))
+  where
+    go : (b : Bool) → is_some (find entry_cmp (o.node, o.serial) (map_of.entries m)) ≡ b →
+        map object_of (map (λ e. e.0) (put entry_cmp (o.node, o.serial) n (map_of.entries m)))
+        ≡ (if b then held_list m else inserted object_lt o (held_list m))
+    go true e = ap (map object_of) (keys_same (o.node, o.serial) n (map_of.entries m)
+        (entries_sorted m) e)
+    go false e = keys_new (o.node, o.serial) n (map_of.entries m) e
+        ∙ sym (inserted_is object_lt o (held_list m))
+
+-- where only some keys stay, their objects are held
+pub held_less : (m : Counts) (p : ℕ × ℕ → Bool) (q : ObjectName → Bool) →
+    ((k : ℕ × ℕ) → q (object_of k) ≡ p k) →
+    held_list (map_of.retain_keys m p) ≡ filter q (held_list m)
+held_less m p q same =
+    ap (λ es. map object_of (map (λ e. e.0) es)) (entries-retain entry_total entry_same m p)
+    ∙ sym (filter-map object_of q (map_of.keys m)
+    ∙ ap (map object_of) (filter-map (λ e. e.0) (λ k. q (object_of k)) (map_of.entries m))
+    ∙ (λ i. map object_of (map (λ e. e.0) (filter (λ e. same e.0 i) (map_of.entries m)))))

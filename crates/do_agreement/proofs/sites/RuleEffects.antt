@@ -1,0 +1,172 @@
+-- What is known of the effects of a step.
+use Rattle.std.proofs.Common.{◌≡◌, ◌==◌, ℕ, Bool, true, false}
+use Rattle.std.proofs.Common.{List, [], ◌∷◌, filter, not, refl, sym}
+use Rattle.std.proofs.Common.{ap, ◌∙◌, subst}
+use Rattle.std.specs.Prelude.{None, Option, Some, unwrap_or}
+use Rattle.do_base.specs.declared.events.event.Event.{Event}
+use Rattle.do_base.specs.declared.events.event.Event.TheVariants.{Check, Close, Lose, Run, Start}
+use Rattle.do_base.specs.declared.events.event.Event.TheVariants.{Take, Timeout}
+use Rattle.do_base.specs.names.Names.{ObjectName}
+use Rattle.do_class.specs.Class.{Class}
+use Rattle.do_packet.specs.Met.{has_object}
+use Rattle.do_machine.specs.declared.item.Item.{Item}
+use Rattle.do_machine.specs.declared.item.Item.TheVariants as items
+use Rattle.do_machine.specs.declared.node.Node.{Node}
+use Rattle.do_machine.specs.declared.state.Effect.{Effect}
+use Rattle.do_machine.specs.declared.state.State.{State}
+use Rattle.do_machine.specs.Context.{Context, context}
+use Rattle.do_machine.specs.Items.{exported}
+use Rattle.do_machine.specs.Start.{start_effect}
+use Rattle.do_machine.specs.State.{is_open}
+use Rattle.do_machine.specs.ends.Closing.{asked_of, closing, parted}
+use Rattle.do_machine.specs.ends.TimeOut.{time_out}
+use Rattle.do_machine.specs.held.Kept.{kept}
+use Rattle.do_machine.specs.held.Leaving.{freeing, leaving}
+use Rattle.do_machine.specs.held.Refers.{node_objects}
+use Rattle.do_machine.specs.laws.Follows.{Grows, HoldsOpen}
+use Rattle.do_machine.specs.run.Run.{Acting, run_effect}
+use Rattle.do_machine.specs.take.Take.{arrival, holding, take_effect}
+use Rattle.do_machine.proofs.follows.Ran.{FollowsIf, by_leaving, by_run, by_start}
+use Rattle.do_machine.proofs.follows.Small.{by_closing}
+use Rattle.do_machine.proofs.follows.Taken.{by_take}
+use Rattle.do_machine.proofs.follows.TimedOut.{GrowsIf, by_time_out}
+use Rattle.do_machine.proofs.passing.EntriesMoved.{quiet_there}
+use Rattle.do_machine.proofs.passing.Quiet.{Quiet}
+use Rattle.do_machine.proofs.passing.RunsQuietly.{run_quiet, start_quiet, time_out_quiet}
+use Rattle.do_machine.proofs.passing.TakesQuietly.{arrival_quiet, is_end}
+use Rattle.do_facts.specs.links.Links.{links_of}
+use Rattle.do_facts.specs.links.Sound.{IsSound}
+use Rattle.do_facts.specs.steps.IsStep.{IsRuleOf}
+use Rattle.do_facts.proofs.links.ClosingIsMoves.{settlings_stay}
+use Rattle.do_agreement.specs.Accounted.{AccountsFor}
+use Rattle.do_agreement.specs.IsEffectOf.{IsEffectOf, Thins}
+use Rattle.do_agreement.proofs.counts.RulesAccount.{leaving_accounts, rule_accounts, take_accounts}
+
+-- all pass
+all_pass : (os : List ObjectName) → os ≡ filter (λ o. true) os
+all_pass [] = refl
+all_pass (o ∷ os) = ap (λ xs. o ∷ xs) (all_pass os)
+
+-- what a quiet effect leaves held
+quiet_thins : (n : Node) (e : Effect) → Quiet n e → Thins n e
+quiet_thins n e quiet = record { test = λ o. true; held = quiet.held ∙ all_pass n.held }
+
+-- what a close leaves held
+closing_thins : (peer : ℕ) (n : Node) → Thins n (closing peer n)
+closing_thins peer n = record {
+  test = λ o. not (o.node == peer);
+  held = ap (λ (m : Node). m.held) (settlings_stay (parted peer n) (asked_of peer n));
+}
+
+-- what a node leaves held after a step
+leaving_thins : (n : Node) (entry : ℕ → ℕ → Bool) → Thins n (leaving entry n)
+leaving_thins n entry = record {
+  test = has_object (node_objects (freeing (kept entry n) n).node);
+  held = refl;
+}
+
+-- the effect that there is grows
+grows_there : (n : Node) (found : Option Effect) (e : Effect) → GrowsIf n found →
+    found ≡ Some e → Grows n e.node
+grows_there n None e h q = absurd (cc)
+grows_there n (Some d) e h q = subst (λ x. Grows n x.node) (ap (λ x. unwrap_or x d) q) h
+
+-- what follows grows
+follows_grow : (n : Node) (found : Option Effect) → FollowsIf n found → GrowsIf n found
+follows_grow n None h = tt
+follows_grow n (Some d) h = h.grows
+
+-- what is known of an effect after which a node stands so
+effect_of : (n : Node) (e : Effect) → HoldsOpen n → Grows n e.node → Thins n e →
+    ((home : ℕ) → AccountsFor home n e) → IsEffectOf n e
+effect_of n e holds grows thins account = record {
+  same = grows.port;
+  ends = grows.ends;
+  opened = grows.holding holds;
+  thins = thins;
+  account = account;
+}
+
+-- the effect of an event's rule
+pub rule_effect : (table : List Class) (act : Acting) (S : State) (event : Event) (n : Node)
+    (e : Effect) → IsSound (links_of n) → HoldsOpen n → IsRuleOf table act S event n e →
+    IsEffectOf n e
+rule_effect table act S (Start port selector values) n e ok holds rule =
+    let found = start_effect table selector values n in
+    effect_of n e holds
+    (grows_there n found e (follows_grow n found (by_start table selector values n)) rule)
+    (quiet_thins n e (quiet_there n found e (start_quiet table selector values n) rule))
+    (rule_accounts table act S (Start port selector values) n e ok rule)
+rule_effect table act S (Run port) n e ok holds rule =
+    let c = context table S n in
+    let found = run_effect act c in
+    effect_of n e holds
+    (grows_there n found e (follows_grow n found (by_run act c)) rule)
+    (quiet_thins n e (quiet_there n found e (run_quiet act c) rule))
+    (rule_accounts table act S (Run port) n e ok rule)
+rule_effect table act S (Close port peer) n e ok holds rule =
+    effect_of n e holds
+    (subst (λ d. Grows n d.node) (sym rule.1) (by_closing peer n).grows)
+    (subst (Thins n) (sym rule.1) (closing_thins peer n))
+    (rule_accounts table act S (Close port peer) n e ok rule)
+rule_effect table act S (Timeout port) n e ok holds rule =
+    effect_of n e holds (grows_there n (time_out n) e (by_time_out n) rule)
+    (quiet_thins n e (quiet_there n (time_out n) e (time_out_quiet n) rule))
+    (rule_accounts table act S (Timeout port) n e ok rule)
+rule_effect table act S (Take port from) n e ok holds rule = absurd rule
+rule_effect table act S (Lose from to k) n e ok holds rule = absurd rule
+rule_effect table act S Check n e ok holds rule = absurd rule
+
+-- what a node frees and leaves after a step
+pub leaving_effect : (n : Node) (entry : ℕ → ℕ → Bool) → IsSound (links_of n) → HoldsOpen n →
+    IsEffectOf n (leaving entry n)
+leaving_effect n entry ok holds =
+    effect_of n (leaving entry n) holds (by_leaving entry n).grows (leaving_thins n entry)
+    (leaving_accounts n entry ok)
+
+-- what a take leaves held, of what the node held with the item in hand
+take_thins : (c : Context) (from : ℕ) (item : Item) →
+    Thins (holding (exported from c.node.port item) c.node) (take_effect c from item)
+take_thins c from item = go item
+  where
+    -- the node that holds what an item exports
+    holder : Item → Node
+    holder x = holding (exported from c.node.port x) c.node
+
+    quiet : (x : Item) → is_end x ≡ false → Thins (holder x) (take_effect c from x)
+    quiet x e =
+        let thin = quiet_thins (holder x) (arrival c from x (holder x))
+        (arrival_quiet c from x (holder x) e)
+        in
+        record { test = thin.test; held = thin.held }
+
+    go : (x : Item) → Thins (holder x) (take_effect c from x)
+    go (items.Call k m) = quiet (items.Call k m) refl
+    go (items.Oneway m) = quiet (items.Oneway m) refl
+    go (items.Reply k p) = quiet (items.Reply k p) refl
+    go (items.Raised k e) = quiet (items.Raised k e) refl
+    go (items.RootAsk k) = quiet (items.RootAsk k) refl
+    go (items.RootAnswer k p) =
+        quiet (items.RootAnswer k p) refl
+    go (items.Ask s t) = quiet (items.Ask s t) refl
+    go (items.Granted s t) = quiet (items.Granted s t) refl
+    go (items.Gone s t) = quiet (items.Gone s t) refl
+    go (items.Left s) = quiet (items.Left s) refl
+    go (items.Settled k) = quiet (items.Settled k) refl
+    go (items.End serials) =
+        let thin = closing_thins from (holder (items.End serials)) in
+        record { test = thin.test; held = thin.held }
+
+-- the effect of a take, of the node with the item in hand
+pub take_is_effect : (c : Context) (from : ℕ) (item : Item) → is_open c.node from ≡ true →
+    IsSound (links_of c.node) → HoldsOpen c.node →
+    IsEffectOf (holding (exported from c.node.port item) c.node) (take_effect c from item)
+take_is_effect c from item ends ok holds =
+    let grows = (by_take c from item ends).grows in
+    record {
+      same = grows.port;
+      ends = grows.ends;
+      opened = grows.holding holds;
+      thins = take_thins c from item;
+      account = take_accounts c from item ends ok;
+    }

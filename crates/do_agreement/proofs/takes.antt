@@ -1,0 +1,3 @@
+pub mod TakesAlike
+pub mod TakeEvents
+pub mod TakeSteps

@@ -1,0 +1,290 @@
+-- The event of a take keeps a network in agreement with the state.
+use Rattle.std.proofs.Common.{◌≡◌, ◌==◌, ◌&&◌, ℕ, Bool, true, false, cond, not, List, [], ◌∷◌, map}
+use Rattle.std.proofs.Common.{refl, sym, ap, ◌∙◌, drop, subst}
+use Rattle.std.specs.Prelude.{None, Ok, Option, Some, is_some, option_map, slice_get, unwrap_or}
+use Rattle.std.specs.List.{AllByRecursion}
+use Rattle.std.proofs.lemmas.Bool.{eqb-true}
+use Rattle.do_base.specs.declared.events.event.Event.TheVariants.{Take}
+use Rattle.do_class.specs.Class.{Class}
+use Rattle.do_class.specs.Table.{IsTable}
+use Rattle.do_coder.specs.Packets.{surroundings}
+use Rattle.do_coder.specs.declared.recent.pair.Pair.{Pair}
+use Rattle.do_frames.specs.Frames.{IsFrame, after_frame, raw}
+use Rattle.do_machine.specs.declared.item.Item.{Item}
+use Rattle.do_machine.specs.declared.item.Item.TheVariants.{End}
+use Rattle.do_machine.specs.declared.node.Node.{Node}
+use Rattle.do_machine.specs.declared.state.State.{State}
+use Rattle.do_machine.specs.declared.state.Stepped.{Stepped}
+use Rattle.do_machine.specs.Commit.{moved, skipped}
+use Rattle.do_machine.specs.Context.{context}
+use Rattle.do_machine.specs.State.{change, is_open, node, queue, with_queue}
+use Rattle.do_machine.specs.Step.{step}
+use Rattle.do_machine.specs.run.Run.{Acting}
+use Rattle.do_machine.specs.take.Take.{can_serve, can_take, take_effect}
+use Rattle.do_network.specs.declared.input.Done.TheVariants as dones
+use Rattle.do_network.specs.Frames.{item_of, read_frame}
+use Rattle.do_network.specs.Links.{Link, Part, names_read}
+use Rattle.do_network.specs.Net.{Carried, Channel, Lost, Net, Place, Whole, channel, part_at}
+use Rattle.do_network.specs.Net.{place_at}
+use Rattle.do_network.specs.Own.{counted_around}
+use Rattle.do_network.specs.Site.{enabled_input, handled, released_by, site_move}
+use Rattle.do_network.specs.Step.{NetStepped, hands, input_of, net_moved, net_skipped, net_step}
+use Rattle.do_network.specs.fits.Notes.{Note, carried, note_frame}
+use Rattle.do_network.proofs.FramesRead.{read_back}
+use Rattle.do_facts.specs.calls.Facts.{CallsAreKept}
+use Rattle.do_facts.specs.links.LinksAreKept.{LinksAreKept}
+use Rattle.do_agreement.specs.Agrees.{Agrees, StepAgrees}
+use Rattle.do_agreement.specs.Classed.{ClassesAreTold}
+use Rattle.do_agreement.specs.CountsFit.{ChannelCarries}
+use Rattle.do_agreement.specs.EventIsSpelled.{EventIsSpelled}
+use Rattle.do_agreement.specs.InHand.{in_hand}
+use Rattle.do_agreement.specs.NetInHand.{carried_as, net_without, part_in_hand}
+use Rattle.do_agreement.specs.Tallies.{StepIsSpelled}
+use Rattle.do_agreement.proofs.counts.MovesAccount.{apart}
+use Rattle.do_agreement.proofs.acts.ActsAgree.{node_is, skip_agrees}
+use Rattle.do_agreement.proofs.hands.HandFits.{there_still, way}
+use Rattle.do_agreement.proofs.takes.TakeEvents.{faultless, names, one_effect, port_is, site_is}
+use Rattle.do_agreement.proofs.takes.TakeEvents.{take_agrees, waits}
+use Rattle.do_agreement.proofs.takes.TakesAlike.{frame_done, hand_done, mark_done}
+
+module _ (table : List Class) (t : IsTable table) (act : Acting) (N : Net) (S : State)
+    (agrees : Agrees table N S) (kept : LinksAreKept S) (calls : CallsAreKept S)
+    (told : ClassesAreTold S) (port from : ℕ)
+    (spelled : EventIsSpelled table act N agrees.tallies.under_way (Take port from)) where
+  -- what is under way
+  abbrev under_way : ℕ → ℕ → List Note
+  under_way = agrees.tallies.under_way
+
+  -- what the network does with what waits
+  abbrev net_of : List Carried → Option NetStepped
+  net_of w = elim (slice_get w 0) [
+    | None ↦ None
+    | Some y ↦ hands table act (net_without port from y N) port (input_of from y)
+  ]
+
+  -- and with a channel
+  abbrev net_from : Option Channel → Option NetStepped
+  net_from found = elim found [ None ↦ None | Some c ↦ net_of c.waiting ]
+
+  -- the state with these items left in the queue
+  abbrev left : List Item → State
+  left w = change from (with_queue port w) S
+
+  -- what the machine does with a queue
+  abbrev machine_from : Node → Option (List Item) → Option Stepped
+  machine_from n found = elim found [
+    | None ↦ None
+    | Some w ↦ elim (slice_get w 0) [
+      | None ↦ None
+      | Some item ↦ Some (moved port (left (drop 1 w))
+          (take_effect (context table (left (drop 1 w)) n) from item))
+    ]
+  ]
+
+  -- both come to the same
+  abbrev Same : Option NetStepped → Option Stepped → Type 0
+  Same s u = StepAgrees table (unwrap_or s (net_skipped N)) (unwrap_or u (skipped S))
+
+  -- nothing is done
+  none : Same None None
+  none = skip_agrees table act N S agrees kept told
+
+  module _ (pl pf : Place) (there : place_at N port ≡ Some pl) (sender : place_at N from ≡ Some pf)
+      (can : can_take from pl.part.own.node ≡ true)
+      (here : is_open pl.part.own.node from ≡ true) where
+    -- the site
+    abbrev p : Part
+    p = pl.part
+
+    -- it is there
+    site_there : part_at N port ≡ Some p
+    site_there = ap (option_map (λ y. y.part)) there
+
+    -- and the sender
+    sender_there : part_at N from ≡ Some pf.part
+    sender_there = ap (option_map (λ y. y.part)) sender
+
+    module _ (x : Note) (xs : List Note) (first : under_way from port ≡ x ∷ xs) where
+      -- the channel
+      abbrev here_way : ChannelCarries table N from port pf.part p (under_way from port)
+      here_way = way table t port from N under_way agrees.tallies.counts pl pf there sender here x
+          xs first
+
+      -- the names by which the item is spelled
+      abbrev front : List Pair
+      front = names table t act N S agrees kept calls told port from pl pf there sender can here x
+          xs first
+
+      -- the item stands first in the channel
+      waiting : (rest : List Carried)
+          × (here_way.between.waiting ≡ carried_as front x ∷ rest)
+      waiting = go x.lost (here_way.carries.waiting ∙ ap (carried front) first)
+        where
+          go : (b : Bool) → here_way.between.waiting
+              ≡ cond b (Lost ∷ carried front xs)
+              (Whole (raw front (note_frame x)) ∷ carried (after_frame front (note_frame x)) xs) →
+              (rest : List Carried)
+              × (here_way.between.waiting ≡ cond b Lost (Whole (raw front (note_frame x))) ∷ rest)
+          go true e = (carried front xs, e)
+          go false e = (carried (after_frame front (note_frame x)) xs, e)
+
+      -- the frame is read
+      reads : read_frame table from p.own.node.port (names_read p from)
+          (raw front (note_frame x)) ≡ Ok (note_frame x)
+      reads =
+          ap (λ k. read_frame table from k (names_read p from) (raw front (note_frame x)))
+          (port_is table t act N S agrees kept calls told port from pl pf there sender can here x
+          xs first)
+          ∙ ap (λ k. read_frame table from port k (raw front (note_frame x)))
+          (ap (λ o. unwrap_or (option_map (λ (l : Link). l.read) o) []) here_way.reads
+          ∙ sym (here_way.carries.tables.read here))
+          ∙ read_back table t from port front here_way.carries.tables.recent
+          here_way.carries.tables.known (note_frame x)
+          (subst (AllByRecursion (λ y. IsFrame (surroundings table from port) (note_frame y))) first
+          here_way.carries.spelled).0
+
+      -- what the input does
+      done : enabled_input table act p (input_of from (carried_as front x))
+          ≡ Some (hand_done table act p from can x)
+      done = go x.lost refl
+        where
+          go : (b : Bool) → x.lost ≡ b →
+              enabled_input table act p (input_of from (carried_as front x))
+              ≡ Some (hand_done table act p from can x)
+          go true e =
+              mark_done table act p from can front x e
+              ((subst (AllByRecursion (λ y. y.lost ≡ true → y.item ≡ End [])) first
+              here_way.marks.lost).0 e)
+          go false e =
+              frame_done table act p from can t front x e reads
+              (faultless table t act N S agrees kept calls told port from pl pf there sender can
+              here x xs first)
+
+      -- the item is taken
+      taken : Same (net_from (channel N from port))
+          (machine_from p.own.node (queue S from port))
+      taken =
+          let is = site_is table t act N S agrees kept calls told port from pl pf there sender can
+          here x xs first in
+          let alike = one_effect table t act N S agrees kept calls told port from pl pf there sender
+          can here x xs first in
+          let K = net_without port from (carried_as front x) N in
+          subst (λ found. Same (net_from found) (machine_from p.own.node (queue S from port)))
+          (sym here_way.stands)
+          (subst (λ w. Same (net_of w) (machine_from p.own.node (queue S from port)))
+          (sym waiting.1)
+          (subst (λ found. Same (net_of (carried_as front x ∷ waiting.0))
+          (machine_from p.own.node found))
+          (sym (waits table t act N S agrees kept calls told port from pl pf there sender can here x
+          xs first))
+          (subst (λ found. Same (elim found [
+            | None ↦ None
+            | Some r ↦ option_map (net_moved port K)
+                (enabled_input table act r (input_of from (carried_as front x)))
+          ]) (machine_from p.own.node (Some (x.item ∷ map (λ (y : Note). y.item) xs))))
+          (sym (ap (option_map (λ (y : Place). y.part)) (there_still table t port from N under_way
+          agrees.tallies.counts pl pf there sender here x xs first)))
+          (subst (λ h. Same (option_map (net_moved port K) h)
+          (machine_from p.own.node (Some (x.item ∷ map (λ (y : Note). y.item) xs)))) (sym done)
+          (subst (λ e. StepAgrees table (net_moved port K (hand_done table act p from can x))
+          (moved port (left (map (λ (y : Note). y.item) xs)) e)) alike
+          (subst (λ e. StepAgrees table (net_moved port K
+          (handled (part_in_hand from x p)
+          dones.Moved
+          (site_move (in_hand from x p.own) e)))
+          (moved port (left (map (λ (y : Note). y.item) xs))
+          (take_effect (record {
+            table = table;
+            around = counted_around
+                (released_by from (note_frame x) p.own);
+            node = p.own.node;
+          }) from (item_of (note_frame x))))) (sym is)
+          (take_agrees table t act N S agrees kept calls told port from pl pf there sender can here
+          x xs first
+          (subst (StepIsSpelled table port (in_hand from x p.own)) is
+          (spelled p site_there x xs first)))))))))
+
+    -- nothing waits, or something
+    by_notes : (ys : List Note) → under_way from port ≡ ys → (from == port) ≡ false →
+        Same (net_from (channel N from port)) (machine_from p.own.node (queue S from port))
+    by_notes [] e ne =
+        let c = agrees.tallies.counts.channels from port pf.part p sender_there site_there ne in
+        let empty = ap (carried c.carries.tables.front) e in
+        subst (λ found. Same (net_from found) (machine_from p.own.node (queue S from port)))
+        (sym c.stands)
+        (subst (λ w. Same (net_of w) (machine_from p.own.node (queue S from port)))
+        (sym (c.carries.waiting ∙ empty))
+        (subst (λ found. Same None (machine_from p.own.node found))
+        (sym (sym (agrees.tallies.shows.queues from port)
+        ∙ ap (option_map (λ d. map (λ (y : Note). y.item) (under_way from port))) c.stands
+        ∙ ap (λ ys. Some (map (λ (y : Note). y.item) ys)) e)) none))
+    by_notes (x ∷ xs) e ne = taken x xs e
+
+  module _ (pl : Place) (there : place_at N port ≡ Some pl) where
+    -- the node's end is open towards another
+    other_port : is_open pl.part.own.node from ≡ true → (from == port) ≡ false
+    other_port o = go (from == port) refl
+      where
+        go : (b : Bool) → (from == port) ≡ b → b ≡ false
+        go false e = refl
+        go true e =
+            absurd (apart (ap (λ k. is_open pl.part.own.node k) (sym (eqb-true from port e)) ∙ o)
+            (agrees.tallies.counts.owns port pl.part (ap (option_map (λ y. y.part)) there)).apart)
+
+    -- where the node can take, the sender is there
+    by_sender : can_take from pl.part.own.node ≡ true → is_open pl.part.own.node from ≡ true →
+        (found : Option Place) → place_at N from ≡ found →
+        Same (net_from (channel N from port)) (machine_from pl.part.own.node (queue S from port))
+    by_sender can o None k =
+        absurd (no_site (ap (λ (f : Option Place). is_some (option_map (λ y. y.part) f)) k)
+        (agrees.tallies.counts.peers port from pl.part (ap (option_map (λ y. y.part)) there) o))
+      where
+        no_site : {b : Bool} → b ≡ false → b ≡ true → ⊥
+        no_site h k = cc
+    by_sender can o (Some pf) k =
+        by_notes pl pf there k can o (under_way from port) refl (other_port o)
+
+    -- by whether the node can take
+    by_node : (b : Bool) → can_take from pl.part.own.node ≡ b →
+        Same (cond (not b) None (net_from (channel N from port)))
+        (cond (not b) None (machine_from pl.part.own.node (queue S from port)))
+    by_node false e = none
+    by_node true e =
+        by_sender e (former (is_open pl.part.own.node from) (can_serve pl.part.own.node.stack) e)
+        (place_at N from) refl
+      where
+        former : (a b : Bool) → (a && b) ≡ true → a ≡ true
+        former true b h = refl
+        former false b h = absurd (cc)
+
+  -- by the site
+  by_site : (found : Option Place) → place_at N port ≡ found →
+      Same (elim (option_map (λ (y : Place). y.part) found) [
+        | None ↦ None
+        | Some p ↦ cond (not (can_take from p.own.node)) None (net_from (channel N from port))
+      ]) (elim (node S port) [
+        | None ↦ None
+        | Some n ↦ cond (not (can_take from n)) None (machine_from n (queue S from port))
+      ])
+  by_site None k =
+      subst (λ o. Same None (elim o [
+        | None ↦ None
+        | Some n ↦ cond (not (can_take from n)) None (machine_from n (queue S from port))
+      ]))
+      (ap (λ (o : Option Place). option_map (λ (r : Part). r.own.node)
+      (option_map (λ (y : Place). y.part) o)) (sym k)
+      ∙ agrees.tallies.shows.nodes port) none
+  by_site (Some pl) k =
+      subst (λ o. Same (cond (not (can_take from pl.part.own.node)) None
+      (net_from (channel N from port))) (elim o [
+        | None ↦ None
+        | Some n ↦ cond (not (can_take from n)) None (machine_from n (queue S from port))
+      ]))
+      (sym (node_is table act N S agrees kept told port pl.part
+      (ap (option_map (λ (y : Place). y.part)) k)))
+      (by_node pl k (can_take from pl.part.own.node) refl)
+
+  -- a take
+  pub take_event : StepAgrees table (net_step table act N (Take port from))
+      (step table act S (Take port from))
+  take_event = by_site (place_at N port) refl

@@ -1,0 +1,10 @@
+pub mod MessagesTold
+pub mod RunsTold
+pub mod TakesTold
+pub mod RulesTold
+pub mod HeapsGrow
+pub mod StationsFit
+pub mod ClassesKept
+pub mod ClassesOfSteps
+pub mod OpeningClasses
+pub mod EachState

@@ -1,0 +1,325 @@
+-- Classes are kept by every step, and in every state that a machine comes to.
+use Rattle.std.proofs.Common.{◌≡◌, ◌==◌, ◌+◌, ◌<◌, ◌≢◌, ℕ, Bool, true, false, List, []}
+use Rattle.std.proofs.Common.{◌∷◌, zero, suc, refl, sym, ap, ◌∙◌, subst, arith}
+use Rattle.std.specs.Prelude.{None, Option, Some, is_some, option_map}
+use Rattle.std.specs.Prelude.{unwrap_or}
+use Rattle.std.specs.List.{AllByRecursion, insert}
+use Rattle.std.proofs.lemmas.Bool.{eqb-true}
+use Rattle.std.proofs.lemmas.Bool.Decides.{nat_tests}
+use Rattle.do_base.specs.declared.events.event.Event.{Event}
+use Rattle.do_base.specs.declared.events.event.Event.TheVariants.{Check, Close, Lose, Run, Start}
+use Rattle.do_base.specs.declared.events.event.Event.TheVariants.{Take, Timeout}
+use Rattle.do_base.specs.names.Names.{ObjectName, TokenName}
+use Rattle.do_class.specs.Class.{Class}
+use Rattle.do_class.specs.declared.ids.ClassId.{ClassId}
+use Rattle.do_machine.specs.lend.Asking.{wanted}
+use Rattle.do_machine.specs.declared.item.Item.{Item}
+use Rattle.do_machine.specs.declared.item.Item.TheVariants as items
+use Rattle.do_machine.specs.declared.node.Node.{Node}
+use Rattle.do_machine.specs.declared.state.Effect.{Effect}
+use Rattle.do_machine.specs.declared.state.State.{State}
+use Rattle.do_machine.specs.declared.state.Station.{Station}
+use Rattle.do_machine.specs.declared.state.Stepped.{Stepped}
+use Rattle.do_machine.specs.Commit.{commit, moved}
+use Rattle.do_machine.specs.Context.{Context, around, class_seen, context}
+use Rattle.do_machine.specs.Start.{start_effect}
+use Rattle.do_machine.specs.Objects.{object_at}
+use Rattle.do_machine.specs.State.{change, class_of, is_known, is_open, node, queue, station}
+use Rattle.do_machine.specs.State.{with_queue}
+use Rattle.do_machine.specs.Step.{step}
+use Rattle.do_machine.specs.ends.TimeOut.{time_out}
+use Rattle.do_machine.specs.held.Leaving.{leaving}
+use Rattle.do_machine.specs.run.Run.{Acting, run_effect}
+use Rattle.do_machine.specs.take.Take.{take_effect}
+use Rattle.do_machine.proofs.follows.States.{changed, requeued}
+use Rattle.do_machine.proofs.follows.Taken.{by_take}
+use Rattle.do_machine.proofs.passing.Lookups.{elsewhere_stays, other_stays, that_changed}
+use Rattle.do_network.specs.Counting.{Classed, item_classes}
+use Rattle.do_facts.specs.Net.{Note, noted}
+use Rattle.do_facts.specs.Net as nets
+use Rattle.do_facts.specs.View.{AreMoves, net_of, part_seen, wire_seen}
+use Rattle.do_facts.specs.links.Facts.{answer_of, same3}
+use Rattle.do_facts.specs.links.Links.{Atom, atoms, links, links_of}
+use Rattle.do_facts.specs.links.LinksAreKept.{LinksAreKept}
+use Rattle.do_facts.specs.links.Moves.{has_wanted, link_rules, opens}
+use Rattle.do_facts.specs.links.Sound.{IsSound}
+use Rattle.do_facts.specs.steps.IsStep.{Acts, Checks, IsRuleOf, IsStep, Loses, Skips, Takes}
+use Rattle.do_facts.specs.steps.IsStep.{without_oldest}
+use Rattle.do_facts.proofs.links.Bridge.{link_bridge}
+use Rattle.do_facts.proofs.links.ReportsKnown.{reports_known}
+use Rattle.do_facts.proofs.steps.EachIsStep.{step_is}
+use Rattle.do_facts.proofs.steps.NodesAtHome.{AllAtHome}
+use Rattle.do_agreement.specs.AreTold.{AreTold}
+use Rattle.do_agreement.proofs.acts.StepTallies.{rule_moves, sound_after, sound_here}
+use Rattle.do_agreement.proofs.classes.KnownAfter.{GrantedIs, TakenAre, item_such}
+use Rattle.do_agreement.proofs.places.KeyedLists.{found_changed, found_elsewhere}
+use Rattle.do_agreement.proofs.places.PlacesChanged.{some_is}
+use Rattle.do_agreement.proofs.sites.RuleEffects.{rule_effect}
+use Rattle.do_agreement.proofs.takes.TakeEvents.{asked_known}
+use Rattle.do_agreement.proofs.takes.TakesAlike.{class_requeued}
+use Rattle.do_agreement.proofs.told.ClassesKept.{ClassesKept, HasClass, IsToldIn, commit_keeps}
+use Rattle.do_agreement.proofs.told.ClassesKept.{seen_right}
+use Rattle.do_agreement.proofs.told.HeapsGrow.{Grown, GrownIf, closing_grown, leaving_grown}
+use Rattle.do_agreement.proofs.told.HeapsGrow.{run_grown, start_grown, take_grown, time_out_grown}
+use Rattle.do_agreement.proofs.told.RulesTold.{rule_told}
+use Rattle.do_agreement.proofs.told.StationsFit.{IsGiven, StationFits, StationsFit}
+use Rattle.do_agreement.proofs.told.TakesTold.{leaving_told, take_told}
+
+-- ---- other items in a queue
+
+module _ (S : State) (keeps : ClassesKept S) (from to : ℕ) (xs w : List Item)
+    (waits : queue S from to ≡ Some w) (told : AllByRecursion (IsToldIn S from) xs) where
+  -- the state with these items there
+  abbrev T : State
+  T = change from (with_queue to xs) S
+
+  -- no class changes
+  pub same_class : (o : ObjectName) → class_of T o ≡ class_of S o
+  same_class o = class_requeued from to xs o S.stations
+
+  -- a station fits
+  station_fits : StationsFit T
+  station_fits x s h = go (from == x) refl
+    where
+      of : (found : Option Station) → station S from ≡ found →
+          option_map (with_queue to xs) found ≡ Some s → StationFits s
+      of None k q = absurd (cc)
+      of (Some r) k q =
+          let fit = keeps.stations from r k in
+          subst StationFits (some_is (with_queue to xs r) s q)
+          (record { given = fit.given; stored = fit.stored })
+
+      go : (b : Bool) → (from == x) ≡ b → StationFits s
+      go true k =
+          of (station S from) refl
+          (sym (found_changed (λ (r : Station). r.port) (with_queue to xs) (λ r. refl) from
+          S.stations)
+          ∙ ap (station T) (eqb-true from x k) ∙ h)
+      go false k =
+          keeps.stations x s
+          (sym (found_elsewhere (λ (r : Station). r.port) (with_queue to xs) (λ r. refl) from x k
+          S.stations) ∙ h)
+
+  -- what was told is told
+  told_there : (ys : List Classed) → AllByRecursion (λ y. class_of S y.object ≡ Some y.class) ys →
+      AllByRecursion (λ y. class_of T y.object ≡ Some y.class) ys
+  told_there [] all = tt
+  told_there (y ∷ ys) all = (same_class y.object ∙ all.0, told_there ys all.1)
+
+  -- by all items
+  items_there : (a : ℕ) (zs : List Item) → AllByRecursion (IsToldIn S a) zs →
+      AllByRecursion (IsToldIn T a) zs
+  items_there a [] all = tt
+  items_there a (z ∷ zs) all = (told_there (item_classes a z) all.0, items_there a zs all.1)
+
+  -- in each queue
+  queue_there : (a m : ℕ) (zs : List Item) → queue T a m ≡ Some zs →
+      AllByRecursion (IsToldIn T a) zs
+  queue_there a m zs h = go (a == from) refl (m == to) refl
+    where
+      go : (b : Bool) → (a == from) ≡ b → (d : Bool) → (m == to) ≡ d →
+          AllByRecursion (IsToldIn T a) zs
+      go false e d k =
+          items_there a zs
+          (keeps.told.told a m zs (sym (elsewhere_stays from to xs S.stations a m e) ∙ h))
+      go true e false k =
+          items_there a zs (keeps.told.told a m zs (sym (other_stays from to xs S.stations a m k)
+          ∙ h))
+      go true e true k =
+          let is_a : a ≡ from = eqb-true a from e in
+          let is_m : m ≡ to = eqb-true m to k in
+          subst (λ c. AllByRecursion (IsToldIn T c) zs) (sym is_a)
+          (subst (AllByRecursion (IsToldIn T from))
+          (some_is xs zs (sym (that_changed from to xs w S.stations waits)
+          ∙ ap (queue T from) (sym is_m) ∙ ap (λ c. queue T c m) (sym is_a) ∙ h))
+          (items_there from xs told))
+
+  -- classes are kept
+  pub requeue_keeps : ClassesKept T
+  requeue_keeps = record {
+    stations = station_fits;
+    told = record {
+      known = λ x n h o k.
+          ap is_some (same_class o)
+          ∙ keeps.told.known x n (sym (requeued from to x xs S.stations) ∙ h) o k;
+      told = queue_there;
+    };
+  }
+
+-- ---- a move
+
+-- what a station's node stores
+node_of : (T : State) (port : ℕ) (n : Node) (s : Station) → node T port ≡ Some n →
+    station T port ≡ Some s → n ≡ s.node
+node_of T port n s h k =
+    some_is n s.node (sym h ∙ ap (option_map (λ (r : Station). r.node)) k)
+
+-- a node moves, and leaves what it does without
+move_keeps : (table : List Class) (T : State) → ClassesKept T → (port : ℕ) (n : Node) →
+    node T port ≡ Some n → (c : Context) → c.node ≡ n → n.port ≡ port →
+    ((o : ObjectName) (class : ClassId) → class_seen c o ≡ Some class → class_of T o ≡ Some class) →
+    (e : Effect) (taken : List (Note Atom)) → AreMoves links link_rules n taken e →
+    TakenAre (HasClass T) taken → AreTold c e.sent →
+    ((Q : ℕ → ClassId → Type 0) → Grown Q n e.node) → e.node.port ≡ port →
+    IsSound (links_of e.node) → ClassesKept (moved port T e).state
+move_keeps table T keeps port n here c same home right e taken moves takes told grown at sound =
+    let U = commit port e T in
+    let mid = commit_keeps T keeps port n here c same home right e taken moves takes told
+    (λ s k. subst (λ m. Grown (IsGiven s.classes) m e.node) (node_of T port n s here k)
+    (grown (IsGiven s.classes))) in
+    let now = changed port e n T.stations here in
+    let entry = (around U e.node).entry in
+    commit_keeps U mid port e.node now (context table U e.node) refl at
+    (seen_right table U mid.stations port e.node now at) (leaving entry e.node) []
+    (link_bridge.leave entry e.node sound) tt
+    (leaving_told (context table U e.node) entry e.node)
+    (λ s k. subst (λ m. Grown (IsGiven s.classes) m (leaving entry e.node).node)
+    (node_of U port e.node s now k) (leaving_grown (IsGiven s.classes) entry e.node))
+
+-- the effect that there is has grown
+grown_there : (Q : ℕ → ClassId → Type 0) (n : Node)
+    (found : Option Effect) (e : Effect) → GrownIf Q n found → found ≡ Some e → Grown Q n e.node
+grown_there Q n None e h q = absurd (cc)
+grown_there Q n (Some d) e h q =
+    subst (λ x. Grown Q n x.node) (ap (λ x. unwrap_or x d) q) h
+
+-- the effect of an event's rule has grown
+rule_grown : (table : List Class) (act : Acting) (S : State) (event : Event) (n : Node)
+    (e : Effect) → IsRuleOf table act S event n e →
+    (Q : ℕ → ClassId → Type 0) → Grown Q n e.node
+rule_grown table act S (Start port selector values) n e rule Q =
+    grown_there Q n (start_effect table selector values n) e
+    (start_grown Q table selector values n) rule
+rule_grown table act S (Run port) n e rule Q =
+    grown_there Q n (run_effect act (context table S n)) e (run_grown Q act (context table S n))
+    rule
+rule_grown table act S (Close port peer) n e rule Q =
+    subst (λ d. Grown Q n d.node) (sym rule.1) (closing_grown Q peer n)
+rule_grown table act S (Timeout port) n e rule Q =
+    grown_there Q n (time_out n) e (time_out_grown Q n) rule
+rule_grown table act S (Take port from) n e rule Q = absurd rule
+rule_grown table act S (Lose from to k) n e rule Q = absurd rule
+rule_grown table act S Check n e rule Q = absurd rule
+
+-- ---- steps
+
+-- of all with one more at some place
+all_insert : {X : Type 0} (P : X → Type 0) (k : ℕ) (xs : List X) (x : X) → AllByRecursion P xs →
+    P x → AllByRecursion P (insert xs k x)
+all_insert P zero [] x all is = (is, tt)
+all_insert P zero (y ∷ ys) x all is = (is, all)
+all_insert P (suc k) [] x all is = (is, tt)
+all_insert P (suc k) (y ∷ ys) x all is = (all.0, all_insert P k ys x all.1 is)
+
+-- what is told has a class
+have_class : (S : State) (ys : List Classed) →
+    AllByRecursion (λ y. class_of S y.object ≡ Some y.class) ys →
+    AllByRecursion (λ y. HasClass S y.object) ys
+have_class S [] all = tt
+have_class S (y ∷ ys) all = (ap is_some all.0, have_class S ys all.1)
+
+module _ (table : List Class) (act : Acting) (S : State) (keeps : ClassesKept S)
+    (kept : LinksAreKept S) (home : AllAtHome S) where
+  -- an object that is granted is known
+  granted_known : (port from : ℕ) (n : Node) (s : ℕ) (t : TokenName) (rest : List Item) →
+      node S port ≡ Some n → is_open n from ≡ true →
+      queue S from port ≡ Some (items.Granted s t ∷ rest) →
+      is_known n (object_at from s) ≡ true
+  granted_known port from n s t rest here ends waits =
+      let net = net_of links S in
+      let is_open_in : opens (net.part port) from ≡ true =
+      ap (λ f. opens (part_seen links f) from) here ∙ ends in
+      let some : 0 < nets.total (answer_of s t.lender t.number) (net.wire from port) =
+      subst (λ f. 0 < nets.total (answer_of s t.lender t.number) (wire_seen links f)) (sym waits)
+      (above (same3 s t.lender t.number s t.lender t.number) _ (one s t.lender t.number)) in
+      asked_known from s t.lender t.number n
+      (sym (ap (λ f. has_wanted (part_seen links f)
+      (wanted (object_at from s) t.lender t.number)) here)
+      ∙ ((reports_known net kept.hold).answered port from s t.lender t.number apart is_open_in
+      some).1)
+    where
+      one : (a b c : ℕ) → same3 a b c a b c ≡ 1
+      one a b c = grind (arith, nat_tests)
+
+      above : (k r : ℕ) → k ≡ 1 → 0 < k + r
+      above k r e = omega (arith, e)
+
+      no : is_open n port ≡ true → is_open n port ≡ false → ⊥
+      no a b = cc
+
+      apart : port ≢ from
+      apart = λ same.
+          no (ap (is_open n) same ∙ ends)
+          (sym (ap (λ f. opens (part_seen links f) port) here) ∙ kept.hold.apart port)
+
+  -- each form of a step
+  form_keeps : (event : Event) (s : Stepped) → IsStep table act S event s → ClassesKept s.state
+  form_keeps event s (Skips q) = subst (λ x. ClassesKept x.state) (sym q) keeps
+  form_keeps event s (Acts port n e own here rule q) =
+      let sound = sound_here S kept port n here in
+      let at = home.each port n here in
+      let moves = rule_moves table act S event n e sound rule in
+      subst (λ x. ClassesKept x.state) (sym q)
+      (move_keeps table S keeps port n here (context table S n) refl at
+      (seen_right table S keeps.stations port n here at) e [] moves tt
+      (rule_told table act S event n e rule) (rule_grown table act S event n e rule)
+      ((rule_effect table act S event n e sound (record { reached = sound.reached }) rule).same
+      ∙ at)
+      (sound_after S kept port n here [] e moves))
+  form_keeps event s (Takes port from n item rest e is here rule waits q) =
+      let sound = sound_here S kept port n here in
+      let at = home.each port n here in
+      let all = keeps.told.told from port (item ∷ rest) waits in
+      let T = without_oldest S from port rest in
+      let less = requeue_keeps S keeps from port rest (item ∷ rest) waits all.1 in
+      let there = requeued from port port rest S.stations ∙ here in
+      let c = context table T n in
+      let d = take_effect c from item in
+      let moves = link_bridge.take c from item rule.0 sound in
+      let same = same_class S keeps from port rest (item ∷ rest) waits all.1 in
+      subst (λ x. ClassesKept x.state) (sym q)
+      (subst (λ x. ClassesKept (moved port T x).state) (sym rule.1)
+      (move_keeps table T less port n there c refl at
+      (seen_right table T less.stations port n there at) d (noted from (atoms item)) moves
+      (item_such (HasClass T) from item
+      (have_class T (item_classes from item)
+      (still (item_classes from item) T same all.0))
+      (granted port from n item rest here rule.0 waits T same))
+      (take_told c from item) (λ Q. take_grown Q c from item)
+      ((by_take c from item rule.0).grows.port ∙ at)
+      (sound_after S kept port n here (noted from (atoms item)) d moves)))
+    where
+      still : (ys : List Classed) (T : State) → ((o : ObjectName) → class_of T o ≡ class_of S o) →
+          AllByRecursion (λ y. class_of S y.object ≡ Some y.class) ys →
+          AllByRecursion (λ y. class_of T y.object ≡ Some y.class) ys
+      still [] T same all = tt
+      still (y ∷ ys) T same all = (same y.object ∙ all.0, still ys T same all.1)
+
+      granted : (port from : ℕ) (n : Node) (item : Item) (rest : List Item) →
+          node S port ≡ Some n → is_open n from ≡ true → queue S from port ≡ Some (item ∷ rest) →
+          (T : State) → ((o : ObjectName) → class_of T o ≡ class_of S o) →
+          GrantedIs (HasClass T) from item
+      granted port from n (items.Call k m) rest here ends waits T same = tt
+      granted port from n (items.Oneway m) rest here ends waits T same = tt
+      granted port from n (items.Reply k p) rest here ends waits T same = tt
+      granted port from n (items.Raised k p) rest here ends waits T same = tt
+      granted port from n (items.RootAsk k) rest here ends waits T same = tt
+      granted port from n (items.RootAnswer k p) rest here ends waits T same = tt
+      granted port from n (items.Ask r t) rest here ends waits T same = tt
+      granted port from n (items.Granted r t) rest here ends waits T same =
+          ap is_some (same (object_at from r))
+          ∙ keeps.told.known port n here (object_at from r)
+          (granted_known port from n r t rest here ends waits)
+      granted port from n (items.Gone r t) rest here ends waits T same = tt
+      granted port from n (items.Left r) rest here ends waits T same = tt
+      granted port from n (items.Settled k) rest here ends waits T same = tt
+      granted port from n (items.End serials) rest here ends waits T same = tt
+  form_keeps event s (Loses from to k w is waits few q) =
+      subst (λ x. ClassesKept x.state) (sym q)
+      (requeue_keeps S keeps from to (insert w k (items.End [])) w waits
+      (all_insert (IsToldIn S from) k w (items.End []) (keeps.told.told from to w waits) tt))
+  form_keeps event s (Checks is q) = subst (λ x. ClassesKept x.state) (sym q) keeps
+
+  -- every step
+  pub step_keeps : (event : Event) → ClassesKept (step table act S event).state
+  step_keeps event = form_keeps event (step table act S event) (step_is S table act event)

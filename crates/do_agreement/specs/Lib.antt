@@ -1,0 +1,16 @@
+pub mod Accounted
+pub mod NotesSent
+pub mod StandBetween
+pub mod InHand
+pub mod CountsFit
+pub mod NetCommit
+pub mod NetInHand
+pub mod IsEffectOf
+pub mod Shows
+pub mod Tallies
+pub mod Classed
+pub mod Agrees
+pub mod EventIsSpelled
+pub mod Along
+pub mod AreTold
+pub mod Unwired

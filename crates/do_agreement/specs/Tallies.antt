@@ -1,0 +1,28 @@
+-- When a network tallies with a state of the machine.
+use Rattle.std.specs.Prelude.{List, ℕ}
+use Rattle.do_class.specs.Class.{Class}
+use Rattle.do_machine.specs.declared.state.Effect.{Effect}
+use Rattle.do_machine.specs.declared.state.State.{State}
+use Rattle.do_machine.specs.held.Leaving.{leaving}
+use Rattle.do_network.specs.Counting.{counted}
+use Rattle.do_network.specs.Net.{Net}
+use Rattle.do_network.specs.Own.{Own, is_counted}
+use Rattle.do_network.specs.fits.Notes.{Note}
+use Rattle.do_agreement.specs.CountsFit.{CountsFit, none_closes}
+use Rattle.do_agreement.specs.IsEffectOf.{AreSpelled}
+use Rattle.do_agreement.specs.Shows.{Shows}
+
+-- A network has the nodes and the queues of a state, and its counts, links and channels fit
+pub record Tallies (table : List Class) (N : Net) (S : State) : Type 0 where
+  pub under_way : ℕ → ℕ → List Note
+  pub counts : CountsFit table N under_way none_closes
+  pub shows : Shows N under_way S
+
+-- what a node leaves by its counts after an effect
+abbrev pub left_after : Own → Effect → Effect
+left_after p e = let q = counted p e in leaving (is_counted q) q.node
+
+-- each frame that a step sends has a spelling, those of the effect and those of what is left then
+abbrev pub StepIsSpelled : List Class → ℕ → Own → Effect → Type 0
+StepIsSpelled table port p e =
+    AreSpelled table port p e × AreSpelled table port (counted p e) (left_after p e)

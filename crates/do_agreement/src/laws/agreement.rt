@@ -1,0 +1,89 @@
+ghost use Rattle.std.specs.Prelude.{◌≡◌, ◌==◌, ℕ, List, map};
+ghost use Rattle.std.specs.List.{IsDistinct};
+ghost use Rattle.do_base.specs.declared.events.event.Event.{Event};
+ghost use Rattle.do_class.specs.Class.{Class};
+ghost use Rattle.do_class.specs.Table.{IsTable};
+ghost use Rattle.do_lines.specs.Transcript.{transcript};
+ghost use Rattle.do_machine.specs.declared.state.Seat.{Seat};
+ghost use Rattle.do_machine.specs.declared.state.State.{State};
+ghost use Rattle.do_machine.specs.State.{ports};
+ghost use Rattle.do_machine.specs.Step.{step};
+ghost use Rattle.do_machine.specs.World.{IsWorld, opening};
+ghost use Rattle.do_machine.specs.check.Blocks.{blocks};
+ghost use Rattle.do_machine.specs.check.Snapshot.{snapshot};
+ghost use Rattle.do_machine.specs.run.Run.{Acting};
+ghost use Rattle.do_sched.specs.declared.line.Line.{Line};
+ghost use Rattle.do_network.specs.Net.{Net, net_opening};
+ghost use Rattle.do_network.specs.Snapshot.{net_snapshot};
+ghost use Rattle.do_network.specs.Step.{net_step};
+ghost use Rattle.do_network.specs.Wired.{net_blocks, wired};
+ghost use Rattle.do_network.specs.fits.Fits.{Fits};
+ghost use Rattle.do_facts.specs.calls.Facts.{CallsAreKept};
+ghost use Rattle.do_facts.specs.links.LinksAreKept.{LinksAreKept};
+ghost use Rattle.do_agreement.specs.Agrees.{Agrees, StepAgrees};
+ghost use Rattle.do_agreement.specs.Along.{AreSpelled, ComesToTheSame, LinesAreSpelled};
+ghost use Rattle.do_agreement.specs.Classed.{ClassesAreTold};
+ghost use Rattle.do_agreement.specs.EventIsSpelled.{EventIsSpelled};
+ghost use Rattle.do_agreement.specs.Unwired.{unwired};
+
+/// A network of sites opens in agreement with the machine, over every list of nodes.
+pub fn networks_open_in_agreement()
+    ensures { (table : List Class) (seats : List Seat) →
+        Agrees table (net_opening table seats) (opening table seats) }
+{}
+
+/// A network that agrees with a state stands for it, where each lend, ask and call of the state is
+/// in one place, as in each state that a machine comes to: so its sites are judged as the machine's
+/// nodes, and none of them closes an end for a fault.
+pub fn agreeing_networks_stand_for_states()
+    ensures { (table : List Class) (N : Net) (S : State) → Agrees table N S → LinksAreKept S →
+        CallsAreKept S → Fits table N S }
+{}
+
+/// Where a network agrees with a state, an event comes to the same in both, and what it makes of
+/// the network agrees with what it makes of the state.
+///
+/// Premises are that the state tells the classes of what is known and on its way, and that each
+/// frame that the event sends has a spelling.
+pub fn events_keep_agreement()
+    ensures { (table : List Class) → IsTable table → (act : Acting) (N : Net) (S : State)
+        (agrees : Agrees table N S) → LinksAreKept S → CallsAreKept S → ClassesAreTold S →
+        (event : Event) → EventIsSpelled table act N agrees.tallies.under_way event →
+        StepAgrees table (net_step table act N event) (step table act S event) }
+{}
+
+/// Over every schedule from the opening, each event comes to the same in a network of sites and in
+/// the machine.
+///
+/// The premise is that each frame that is sent has a spelling.
+pub fn schedules_come_to_the_same()
+    ensures { (table : List Class) → IsTable table → (act : Acting) (seats : List Seat)
+        (events : List Event) →
+        AreSpelled table act (net_opening table seats) (opening table seats) events →
+        ComesToTheSame table act (net_opening table seats) (opening table seats) events }
+{}
+
+/// A check lists the same of a network and of the state that it agrees with, where all ports
+/// differ.
+pub fn snapshots_are_equal()
+    ensures { (table : List Class) (N : Net) (S : State) → Agrees table N S →
+        IsDistinct (λ (p q : ℕ). p == q) (ports S) → net_snapshot N ≡ snapshot S }
+{}
+
+/// Over every schedule of lines, what a network of sites shows and lists is what the one machine
+/// shows and lists, line by line; and what is written of it, without its `wire` lines, is the
+/// machine's transcript.
+///
+/// The premise is that each frame sent on the way has a spelling.
+pub fn networks_write_what_one_machine_writes()
+    ensures blocks { (table : List Class) (seats : List Seat) → IsWorld table seats →
+        (act : Acting) (lines : List Line) →
+        LinesAreSpelled table act (net_opening table seats) (opening table seats) lines →
+        map (λ b. b.block) (net_blocks table act (net_opening table seats) lines)
+        ≡ blocks table act (opening table seats) lines }
+    ensures text { (table : List Class) (seats : List Seat) → IsWorld table seats →
+        (act : Acting) (lines : List Line) →
+        LinesAreSpelled table act (net_opening table seats) (opening table seats) lines →
+        wired table (unwired (net_blocks table act (net_opening table seats) lines))
+        ≡ transcript table (blocks table act (opening table seats) lines) }
+{}
