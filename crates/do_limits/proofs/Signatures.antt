@@ -1,0 +1,104 @@
+-- An invocation has no more arguments than locals.
+use Rattle.std.proofs.Common.{◌≡◌, ◌≤◌, ◌&&◌, ℕ, Bool, true, false, List, [], ◌∷◌, length, map}
+use Rattle.std.proofs.Common.{refl}
+use Rattle.std.proofs.Common.{ap, arith, ◌∙◌, subst}
+use Rattle.std.specs.Prelude.{None, Option, Some, option_and_then, option_map, slice_get, suc, zero}
+use Rattle.std.specs.List.{All, AllByRecursion}
+use Rattle.std.proofs.lemmas.List.{length-map}
+use Rattle.std.proofs.lemmas.List.Elements.{recursion_from_All}
+use Rattle.do_base.specs.declared.values.value.Value.{Value}
+use Rattle.do_class.specs.Class.{Class}
+use Rattle.do_class.specs.declared.method.Method.{Method}
+use Rattle.do_sig.specs.MethodTypes.{IsMethodType}
+use Rattle.do_class.specs.Table.{class_at, find_method, signature_of}
+use Rattle.do_class.specs.declared.ids.ClassId.{ClassId}
+use Rattle.do_class.specs.declared.ids.MethodId.{MethodId}
+use Rattle.do_sig.specs.Calls.{args_fit, encoding_fits}
+use Rattle.do_sig.specs.Fits.{each_takes}
+use Rattle.do_sig.specs.declared.encoding.Encoding.{Encoding}
+use Rattle.do_sig.specs.declared.signature.Signature.{Signature}
+use Rattle.do_machine.specs.Context.{Found, method_for}
+use Rattle.do_machine.specs.World.{HasSignatures}
+use Rattle.do_machine.specs.run.Send.{inputs_by}
+
+-- each method of a table takes sixteen arguments at most
+abbrev pub TakesFew : List Class → Type 0
+TakesFew table =
+    (method : MethodId) (s : Signature) → signature_of table method ≡ Some s → length s.args ≤ 16
+
+-- the one at a place
+one_at : {X : Type 0} (P : X → Type 0) (xs : List X) (k : ℕ) (x : X) → AllByRecursion P xs →
+    slice_get xs k ≡ Some x → P x
+one_at P [] k x h e = absurd (cc (e))
+one_at P (y ∷ xs) zero x h e = let same : y ≡ x = cc (e) in subst P same h.0
+one_at P (y ∷ xs) (suc k) x h e = one_at P xs k x h.1 e
+
+-- what a table's signatures keep to
+pub takes_few : (table : List Class) → All HasSignatures table → TakesFew table
+takes_few table ok method s e = by_class (class_at table method.class) refl e
+  where
+    by_method : (c : Class) → HasSignatures c → (found : Option Method) →
+        slice_get c.methods method.index ≡ found →
+        option_map (λ m. m.signature) found ≡ Some s → length s.args ≤ 16
+    by_method c h None q e = absurd (cc (e))
+    by_method c h (Some m) q e =
+        let same : m.signature ≡ s = cc (e) in
+        let kept : IsMethodType m.signature =
+        one_at (λ (m : Method). IsMethodType m.signature) c.methods method.index m
+        (recursion_from_All (λ (m : Method). IsMethodType m.signature) c.methods h) q in
+        omega (arith, kept.few, ap (λ (x : Signature). length x.args) same)
+
+    by_class : (found : Option Class) → class_at table method.class ≡ found →
+        option_map (λ m. m.signature)
+        (option_and_then (λ c. slice_get c.methods method.index) found) ≡ Some s →
+        length s.args ≤ 16
+    by_class None q e = absurd (cc (e))
+    by_class (Some c) q e =
+        by_method c (one_at HasSignatures table method.class.0 c
+        (recursion_from_All HasSignatures table ok) q) (slice_get c.methods method.index) refl e
+
+module _ (table : List Class) (few : TakesFew table) where
+  -- a method that is found
+  pub found_few : (class : Option ClassId) (selector : List ℕ) (m : Found) →
+      method_for table class selector ≡ Some m → length m.signature.args ≤ 16
+  found_few class selector m e =
+      by_id (option_and_then (λ c. find_method table c selector) class) e
+    where
+      by_signature : (id : MethodId) (found : Option Signature) → signature_of table id ≡ found →
+          option_map (λ (s : Signature). record { id = id; signature = s }) found ≡ Some m →
+          length m.signature.args ≤ 16
+      by_signature id None q e = absurd (cc (e))
+      by_signature id (Some s) q e =
+          let same : s ≡ m.signature = cc (e) in
+          omega (arith, few id s q, ap (λ (x : Signature). length x.args) same)
+
+      by_id : (found : Option MethodId) →
+          option_and_then (λ id. option_map (λ (s : Signature). record { id = id; signature = s })
+          (signature_of table id)) found ≡ Some m → length m.signature.args ≤ 16
+      by_id None e = absurd (cc (e))
+      by_id (Some id) e = by_signature id (signature_of table id) refl e
+
+-- as many values as tests
+taken_length : (fs : List (Value → Bool)) (vs : List Value) → each_takes fs vs ≡ true →
+    length vs ≡ length fs
+taken_length [] [] h = refl
+taken_length [] (v ∷ vs) h = absurd (cc (h))
+taken_length (f ∷ fs) [] h = absurd (cc (h))
+taken_length (f ∷ fs) (v ∷ vs) h = go (f v) h (taken_length fs vs)
+  where
+    go : (b : Bool) → (b && each_takes fs vs) ≡ true →
+        (each_takes fs vs ≡ true → length vs ≡ length fs) → length (v ∷ vs) ≡ length (f ∷ fs)
+    go true e k = let same = k e in omega (arith, same)
+    go false e k = absurd (cc (e))
+
+-- as many values as arguments
+pub fitting_length : (s : Signature) (vs : List Value) → args_fit s vs ≡ true →
+    length vs ≡ length s.args
+fitting_length s vs h =
+    taken_length (map encoding_fits s.args) vs h ∙ length-map s.args encoding_fits
+
+-- no more values are passed than there are arguments
+pub inputs_length : (es : List Encoding) (vs : List Value) → length (inputs_by es vs) ≤ length es
+inputs_length [] vs = omega arith
+inputs_length (e ∷ es) [] = omega arith
+inputs_length (e ∷ es) (v ∷ vs) = omega (arith, inputs_length es vs)

@@ -1,0 +1,163 @@
+-- After so many events the numbers of nodes are within their bounds.
+use Rattle.do_limits.proofs.Signatures.{TakesFew}
+use Rattle.std.proofs.Common.{◌≡◌, ◌==◌, ◌+◌, ℕ, Bool, true, false, List, [], ◌∷◌, length, map}
+use Rattle.std.proofs.Common.{refl, sym, ap, subst, ◌∙◌, arith}
+use Rattle.std.specs.Prelude.{None, Option, Some, suc, unwrap_or}
+use Rattle.std.specs.List.{insert}
+use Rattle.std.proofs.lemmas.Bool.{eqb-true}
+use Rattle.do_base.specs.declared.events.event.Event.{Event}
+use Rattle.do_base.specs.declared.events.event.Event.TheVariants.{Check, Close, Lose, Run, Start}
+use Rattle.do_base.specs.declared.events.event.Event.TheVariants.{Take, Timeout}
+use Rattle.do_class.specs.Class.{Class}
+use Rattle.do_machine.specs.declared.item.Item.TheVariants as items
+use Rattle.do_machine.specs.declared.node.Node.{Node}
+use Rattle.do_machine.specs.declared.state.Effect.{Effect}
+use Rattle.do_machine.specs.declared.state.Seat.{Seat}
+use Rattle.do_machine.specs.declared.state.State.{State}
+use Rattle.do_machine.specs.declared.state.Stepped.{Stepped}
+use Rattle.do_machine.specs.Commit.{commit, moved, skipped}
+use Rattle.do_machine.specs.Context.{around, context}
+use Rattle.do_machine.specs.Start.{start_effect}
+use Rattle.do_machine.specs.State.{change, node, with_queue}
+use Rattle.do_machine.specs.Step.{step}
+use Rattle.do_machine.specs.World.{by_port, opening}
+use Rattle.do_machine.specs.check.Blocks.{followed, steps}
+use Rattle.do_machine.specs.ends.TimeOut.{time_out}
+use Rattle.do_machine.specs.held.Leaving.{leaving}
+use Rattle.do_machine.specs.run.Run.{Acting, run_effect}
+use Rattle.do_machine.proofs.follows.States.{requeued}
+use Rattle.do_facts.specs.Reached.{reached}
+use Rattle.do_facts.specs.steps.IsStep.{Acts, Checks, IsRuleOf, IsStep, Loses, Skips, Takes}
+use Rattle.do_facts.proofs.OpeningAsNet.{opened}
+use Rattle.do_facts.proofs.steps.EachIsStep.{step_is}
+use Rattle.do_facts.proofs.steps.OthersStay.{move_leaves_others, move_leaves_own}
+use Rattle.do_limits.specs.Numbers.{AllNumbersWithin, NumbersWithin}
+use Rattle.do_limits.specs.SendableActs.{AllStartSendable, KeepsSendable}
+use Rattle.do_limits.specs.SendableStates.{NodeIsSendable, StateIsSendable}
+use Rattle.do_limits.proofs.numbers.Rises.{Rises, RisesIf, run_rises, same_rises, same_rises_if}
+use Rattle.do_limits.proofs.numbers.Rises.{take_rises}
+use Rattle.do_limits.proofs.numbers.Same.{closing_same, start_same, time_out_same}
+use Rattle.do_limits.proofs.states.States.{node_sendable, queue_sendable}
+use Rattle.do_limits.proofs.states.Steps.{opening_sendable, step_sendable}
+
+-- the effect that there is
+there : (n : Node) (found : Option Effect) (e : Effect) → RisesIf n found → found ≡ Some e →
+    Rises n e
+there n None e h q = absurd (cc)
+there n (Some d) e h q = let same : d ≡ e = cc (q) in subst (Rises n) same h
+
+-- the effect of an event's rule
+ruled : (table : List Class) (act : Acting) (S : State) → TakesFew table →
+    KeepsSendable table act → (event : Event) (n : Node) (e : Effect) → NodeIsSendable n →
+    IsRuleOf table act S event n e → Rises n e
+ruled table act S small acts (Start port selector values) n e ok q =
+    there n (start_effect table selector values n) e
+    (same_rises_if n _ (start_same table selector values n)) q
+ruled table act S small acts (Run port) n e ok q =
+    there n (run_effect act (context table S n)) e
+    (run_rises act (context table S n) small acts ok) q
+ruled table act S small acts (Close port peer) n e ok q =
+    subst (Rises n) (sym q.1) (same_rises n _ (closing_same peer n))
+ruled table act S small acts (Timeout port) n e ok q =
+    there n (time_out n) e (same_rises_if n _ (time_out_same n)) q
+ruled table act S small acts (Take port from) n e ok q = absurd q
+ruled table act S small acts (Lose from to after) n e ok q = absurd q
+ruled table act S small acts Check n e ok q = absurd q
+
+module _ (count : ℕ) where
+  -- one more event
+  more : (n : Node) → NumbersWithin count n → NumbersWithin (suc count) n
+  more n h = record {
+    call = omega (arith, h.call);
+    serial = omega (arith, h.serial);
+    token = omega (arith, h.token);
+  }
+
+  -- one that raises numbers
+  raised : (n : Node) (e : Effect) → NumbersWithin count n → Rises n e →
+      NumbersWithin (suc count) e.node
+  raised n e h k = record {
+    call = omega (arith, h.call, k.call);
+    serial = omega (arith, h.serial, k.serial);
+    token = omega (arith, h.token, k.token);
+  }
+
+  -- a node moves
+  moves : (port : ℕ) (n : Node) (e : Effect) (S : State) → node S port ≡ Some n → Rises n e →
+      AllNumbersWithin count S → AllNumbersWithin (suc count) (moved port S e).state
+  moves port n e S here up all other m h = go (other == port) refl
+    where
+      go : (b : Bool) → (other == port) ≡ b → NumbersWithin (suc count) m
+      go false k = more m (all other m (sym (move_leaves_others port other e S k) ∙ h))
+      go true k =
+          let d = leaving (around (commit port e S) e.node).entry e.node in
+          let is : d.node ≡ m =
+          ap (λ x. unwrap_or x m)
+          (sym (move_leaves_own port n e S here)
+          ∙ ap (node (moved port S e).state) (sym (eqb-true other port k)) ∙ h) in
+          let up = raised n e (all port n here) up in
+          subst (NumbersWithin (suc count)) is (record {
+            call = up.call;
+            serial = up.serial;
+            token = up.token;
+          })
+
+  -- what an event comes to
+  came : {table : List Class} {act : Acting} → TakesFew table → KeepsSendable table act →
+      (S : State)
+      (event : Event) (s : Stepped) → StateIsSendable S → IsStep table act S event s →
+      AllNumbersWithin count S →
+      AllNumbersWithin (suc count) s.state
+  came small acts S event s ok (Skips e) all other m h =
+      more m (all other m (ap (λ x. node x.state other) (sym e) ∙ h))
+  came {table} {act} small acts S event s ok (Acts port n d own here rule e) all other m h =
+      moves port n d S here
+      (ruled table act S small acts event n d (node_sendable S ok port n here) rule) all other m
+      (ap (λ x. node x.state other) (sym e) ∙ h)
+  came {table} {act} small acts S event s ok (Takes port from n item rest d is here rule waits e)
+      all other m h =
+      let U = change from (with_queue port rest) S in
+      let w = queue_sendable S ok from port (item ∷ rest) waits in
+      moves port n d U (requeued from port port rest S.stations ∙ here)
+      (subst (Rises n) (sym rule.1) (take_rises (context table U n) from item w.0))
+      (λ p k q. all p k (sym (requeued from port p rest S.stations) ∙ q)) other m
+      (ap (λ x. node x.state other) (sym e) ∙ h)
+  came small acts S event s ok (Loses from to after waiting is waits few e) all other m h =
+      more m (all other m
+      (sym (requeued from to other (insert waiting after (items.End [])) S.stations)
+      ∙ ap (λ x. node x.state other) (sym e) ∙ h))
+  came small acts S event s ok (Checks is e) all other m h =
+      more m (all other m (ap (λ x. node x.state other) (sym e) ∙ h))
+
+-- a machine as it opens
+opening_numbers : (table : List Class) (seats : List Seat) →
+    AllNumbersWithin 0 (opening table seats)
+opening_numbers table seats port n h =
+    opened table (map (λ s. s.node) (by_port seats)) (λ p m. NumbersWithin 0 m)
+    (λ s. record { call = omega arith; serial = omega arith; token = omega arith })
+    (by_port seats) port n h
+
+module _ (table : List Class) (act : Acting) (small : TakesFew table)
+    (acts : KeepsSendable table act) where
+  -- events, one after another
+  after_events : (events : List Event) → AllStartSendable events → (s : Stepped) →
+      StateIsSendable s.state → (count : ℕ) → AllNumbersWithin count s.state →
+      AllNumbersWithin (count + length events) (steps table act events s).state
+  after_events [] k s ok count all =
+      subst (λ n. AllNumbersWithin n s.state) (omega arith) all
+  after_events (e ∷ es) k s ok count all =
+      subst (λ n. AllNumbersWithin n (steps table act (e ∷ es) s).state) (omega arith)
+      (after_events es k.1 (followed s (step table act s.state e))
+      (step_sendable table act small acts s.state ok e k.0) (suc count)
+      (came count small acts s.state e (step table act s.state e) ok
+      (step_is s.state table act e) all))
+
+  -- every state that a machine comes to
+  pub reached_numbers : (seats : List Seat) (events : List Event) → AllStartSendable events →
+      AllNumbersWithin (length events) (reached table act seats events)
+  reached_numbers seats events k =
+      let T = reached table act seats events in
+      let here : 0 + length events ≡ length events = omega arith in
+      subst (λ n. AllNumbersWithin n T) here
+      (after_events events k (skipped (opening table seats)) (opening_sendable table seats) 0
+      (opening_numbers table seats))

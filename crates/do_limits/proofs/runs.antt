@@ -1,0 +1,4 @@
+pub mod Verdicts
+pub mod ActRules
+pub mod Runs
+pub mod Starts

@@ -1,0 +1,289 @@
+-- A run leaves and sends only what a message can carry.
+use Rattle.std.proofs.Common.{length, ◌∙◌}
+use Rattle.std.proofs.lemmas.List.{length-set}
+use Rattle.do_limits.proofs.Signatures.{TakesFew}
+use Rattle.std.proofs.Common.{◌≡◌, ◌==◌, ℕ, not, List, [], ◌∷◌, refl}
+use Rattle.std.specs.Prelude.{None, Option, Some, option_map, slice_set}
+use Rattle.std.specs.List.{AllByRecursion}
+use Rattle.do_base.specs.values.Kinds.{number}
+use Rattle.do_base.specs.declared.events.exception.Exc.{Exc}
+use Rattle.do_base.specs.declared.events.exception.Exc.TheVariants.{TooLarge}
+use Rattle.do_base.specs.declared.events.shown.Shown.TheVariants as shown
+use Rattle.do_base.specs.declared.values.value.Value.{Value}
+use Rattle.do_base.specs.declared.values.value.Value.TheVariants.{Nil, Obj, Text}
+use Rattle.do_class.specs.Table.{signature_of}
+use Rattle.do_class.specs.declared.packet.Packet.{Packet}
+use Rattle.do_behave.specs.InPlace.{written}
+use Rattle.do_behave.specs.declared.act.Write.{Write}
+use Rattle.do_behave.specs.declared.invocation.Answer.{Answer}
+use Rattle.do_behave.specs.declared.invocation.Answer.TheVariants.{Given, Raised}
+use Rattle.do_behave.specs.declared.invocation.Handler.{Handler}
+use Rattle.do_behave.specs.declared.invocation.Invocation.{Invocation}
+use Rattle.do_behave.specs.declared.invocation.InvState.{InvState}
+use Rattle.do_behave.specs.declared.invocation.InvState.TheVariants.{Answered, Below, Running}
+use Rattle.do_behave.specs.declared.invocation.InvState.TheVariants.{Waits}
+use Rattle.do_behave.specs.declared.invocation.Reason.{Reason}
+use Rattle.do_behave.specs.declared.invocation.Reason.TheVariants as reasons
+use Rattle.do_machine.specs.declared.item.Item.TheVariants as items
+use Rattle.do_machine.specs.declared.node.Node.{Node}
+use Rattle.do_machine.specs.declared.node.Stored.{Stored}
+use Rattle.do_machine.specs.declared.verdict.Request.{Request}
+use Rattle.do_machine.specs.declared.verdict.Request.TheVariants as requests
+use Rattle.do_machine.specs.declared.verdict.Verdict.{Verdict}
+use Rattle.do_machine.specs.declared.verdict.Verdict.TheVariants.{Asks, Begins, Fails, Goes, Makes}
+use Rattle.do_machine.specs.declared.verdict.Verdict.TheVariants.{Returns, Says, Steps, Tells, Uses}
+use Rattle.do_machine.specs.declared.verdict.Verdict.TheVariants.{Vends}
+use Rattle.do_machine.specs.Context.{Context, RunContext}
+use Rattle.do_machine.specs.Effect.{only}
+use Rattle.do_machine.specs.Packing.{packed_for}
+use Rattle.do_machine.specs.State.{is_open, own, stored}
+use Rattle.do_machine.specs.run.Answers.{answer_line, answer_marks, answer_placed, exc_name}
+use Rattle.do_machine.specs.run.Answers.{oneway_answer, replying}
+use Rattle.do_machine.specs.run.Changes.{goes_on, goes_to, stands, uses_number, with_outs}
+use Rattle.do_machine.specs.run.Changes.{with_slots, with_writes}
+use Rattle.do_machine.specs.run.Delivery.{below_answered, delivery, failing, popped, with_top}
+use Rattle.do_machine.specs.run.Fresh.{blank, fresh, with_stack}
+use Rattle.do_machine.specs.run.Run.{Acting, next_act, run_effect, run_on, slots_seen}
+use Rattle.do_machine.specs.run.Run.{state_rule}
+use Rattle.do_machine.specs.run.Verdicts.{effect_of, requesting, waits_for}
+use Rattle.do_machine.specs.lend.Lending.{lending, lends_of, posting}
+use Rattle.do_machine.proofs.follows.Ran.{packed_answer}
+use Rattle.do_limits.specs.Sendable.{AreSendable, IsSendable, IsSendableExc, IsSendablePacket}
+use Rattle.do_limits.specs.SendableActs.{KeepsSendable}
+use Rattle.do_limits.specs.SendableStates.{AnswerIsSendable, HasSendableAnswer}
+use Rattle.do_limits.specs.SendableStates.{InvocationIsSendable, ItemIsSendable, NodeIsSendable}
+use Rattle.do_limits.proofs.Effects.{EffectIsSendable, IfSendable, alone, begins, blank_sendable}
+use Rattle.do_limits.proofs.Effects.{either, makes, pushes, queues, shows}
+use Rattle.do_limits.proofs.Lists.{each_changed, each_set, each_zipped, found_is}
+use Rattle.do_limits.proofs.values.Carried.{carry-Nil, carry-Obj, name_sendable}
+use Rattle.do_limits.proofs.runs.ActRules.{act_sendable}
+use Rattle.do_limits.proofs.runs.Verdicts.{RequestIsSendable, VerdictIfSendable, VerdictIsSendable}
+use Rattle.do_limits.proofs.runs.Verdicts.{message_sendable, textless}
+
+-- ---- invocations
+
+-- an invocation that goes on with a value in a local
+went_on : (into : ℕ) (v : Value) (pc : ℕ) (i : Invocation) → IsSendable v →
+    InvocationIsSendable i → InvocationIsSendable (goes_on into v pc i)
+went_on into v pc i h k =
+    record {
+      locals = each_set IsSendable i.locals into v h k.locals;
+      sixteen = length-set i.locals into v ∙ k.sixteen;
+      answer = tt;
+    }
+
+-- locals with out values
+outs_set : (ks : List ℕ) (vs locals : List Value) → AreSendable vs → AreSendable locals →
+    AreSendable (with_outs ks vs locals)
+outs_set [] vs locals h k = k
+outs_set (x ∷ ks) [] locals h k = k
+outs_set (x ∷ ks) (v ∷ vs) locals h k =
+    outs_set ks vs (slice_set locals x v) h.1 (each_set IsSendable locals x v h.0 k)
+
+-- they stay as many
+outs_length : (ks : List ℕ) (vs locals : List Value) →
+    length (with_outs ks vs locals) ≡ length locals
+outs_length [] vs locals = refl
+outs_length (x ∷ ks) [] locals = refl
+outs_length (x ∷ ks) (v ∷ vs) locals =
+    outs_length ks vs (slice_set locals x v) ∙ length-set locals x v
+
+-- slots that were written
+slots_written : (slots : List Value) (ws : List Write) → AreSendable slots →
+    AllByRecursion (λ w. IsSendable w.value) ws → AreSendable (written slots ws)
+slots_written slots [] h k = h
+slots_written slots (w ∷ ws) h k =
+    slots_written (slice_set slots w.slot w.value) ws
+    (each_set IsSendable slots w.slot w.value k.0 h) k.1
+
+-- invocations of which the first is answered
+answered_below : (a : Answer) (below : List Invocation) → AnswerIsSendable a →
+    AllByRecursion InvocationIsSendable below →
+    AllByRecursion InvocationIsSendable (below_answered a below)
+answered_below a [] h k = tt
+answered_below a (i ∷ below) h k =
+    (record { locals = k.0.locals; sixteen = k.0.sixteen; answer = h }, k.1)
+
+-- a node that sends a message
+posts : (peer : ℕ) (p : Packet) (item : Rattle.do_machine.specs.declared.item.Item.Item)
+    (n : Node) → ItemIsSendable item → NodeIsSendable n →
+    EffectIsSendable (posting peer p item n)
+posts peer p item n h k =
+    queues peer item (lending (lends_of peer p) n) h (record { heap = k.heap; stack = k.stack })
+
+-- a node with slots written
+writes_slots : (serial : ℕ) (ws : List Write) (n : Node) →
+    AllByRecursion (λ w. IsSendable w.value) ws → NodeIsSendable n →
+    NodeIsSendable (with_slots serial ws n)
+writes_slots serial ws n h k = record {
+  heap = each_changed (λ (x : Stored). AreSendable x.slots) (λ x. x.serial == serial)
+      (with_writes ws) (λ x g. slots_written x.slots ws g h) n.heap k.heap;
+  stack = k.stack;
+}
+
+module _ (r : RunContext) (node : NodeIsSendable r.context.node)
+    (top : InvocationIsSendable r.top)
+    (below : AllByRecursion InvocationIsSendable r.below) where
+  -- the node
+  abbrev n : Node
+  n = r.context.node
+
+  -- the node with another top invocation
+  topped : (i : Invocation) → InvocationIsSendable i → NodeIsSendable (with_top r i)
+  topped i h = record { heap = node.heap; stack = (h, below) }
+
+  -- the node without it
+  without_top : NodeIsSendable (popped r)
+  without_top = record { heap = node.heap; stack = below }
+
+  -- an answer, packed or too large
+  packed_back : (peer number : ℕ) (m : Node) → NodeIsSendable m → (found : Option Packet) →
+      ((p : Packet) → found ≡ Some p → IsSendablePacket p) →
+      EffectIsSendable (packed_answer m peer number found)
+  packed_back peer number m h None k =
+      queues peer (items.Raised number TooLarge) m (textless TooLarge refl) h
+  packed_back peer number m h (Some p) k =
+      posts peer p (items.Reply number p) m (k p refl) h
+
+  -- an answer that goes back to a peer
+  replies : (peer number : ℕ) (a : Answer) (m : Node) → AnswerIsSendable a → NodeIsSendable m →
+      EffectIsSendable (replying r peer number a m)
+  replies peer number (Raised e) m h k = queues peer (items.Raised number e) m h k
+  replies peer number (Given v outs) m h k =
+      packed_back peer number m k (packed_for r.context peer (answer_placed r v outs))
+      (message_sendable r.context node peer (answer_placed r v outs)
+      (each_zipped IsSendable (answer_marks (signature_of r.context.table r.top.method))
+      (v ∷ outs) h))
+
+  -- an answer that nobody waits for
+  drops : (a : Answer) (m : Node) → NodeIsSendable m → EffectIsSendable (oneway_answer a m)
+  drops (Given v outs) m h = alone m h
+  drops (Raised e) m h = shows (shown.Raise e) m h
+
+  -- an answer, wherever it goes
+  delivers : (a : Answer) (reason : Reason) → AnswerIsSendable a →
+      EffectIsSendable (delivery r a reason)
+  delivers a reasons.Start h = shows (answer_line a) (popped r) without_top
+  delivers a reasons.Local h =
+      alone (with_stack (below_answered a r.below) n)
+      (record { heap = node.heap; stack = answered_below a r.below h below })
+  delivers a (reasons.Oneway peer) h = drops a (popped r) without_top
+  delivers a (reasons.Call peer number) h =
+      either (not (is_open n peer)) (only (popped r)) _ (alone (popped r) without_top)
+      (replies peer number a (popped r) h without_top)
+
+  -- an exception, caught or not
+  fails : (e : Exc) (handler : Option Handler) → IsSendableExc e →
+      EffectIsSendable (failing r e handler)
+  fails e None h = delivers (Raised e) r.top.reason h
+  fails e (Some k) h =
+      alone _ (topped _ (went_on k.into (Text (exc_name e)) k.pc r.top (name_sendable e h) top))
+
+  -- a request to a peer
+  requests_of : (peer number : ℕ) (request : Request) (m : Node) → RequestIsSendable request →
+      NodeIsSendable m → EffectIsSendable (requesting peer number request m)
+  requests_of peer number requests.Root m h k = queues peer (items.RootAsk number) m tt k
+  requests_of peer number (requests.Call method x) m h k =
+      posts peer x.packet (items.Call number x) m h k
+
+  -- the top invocation as it waits
+  standing : (pc into : ℕ) (outs : List ℕ) (state : InvState) → HasSendableAnswer state →
+      NodeIsSendable (with_top r (stands pc into outs state r.top))
+  standing pc into outs state h =
+      topped _ (record { locals = top.locals; sixteen = top.sixteen; answer = h })
+
+  -- the effect of each verdict
+  verdict_effect : (v : Verdict) → VerdictIsSendable v → EffectIsSendable (effect_of r v)
+  verdict_effect (Goes into value pc) h = alone _ (topped _ (went_on into value pc r.top h top))
+  verdict_effect (Uses result outs) h =
+      alone _ (topped _ (record {
+        locals = outs_set r.top.outs outs (slice_set r.top.locals r.top.into result) h.1
+            (each_set IsSendable r.top.locals r.top.into result h.0 top.locals);
+        sixteen = outs_length r.top.outs outs (slice_set r.top.locals r.top.into result)
+            ∙ length-set r.top.locals r.top.into result ∙ top.sixteen;
+        answer = tt;
+      }))
+  verdict_effect (Steps pc locals handler writes) h =
+      alone _ (writes_slots r.top.object.serial writes _ h.1.1
+      (topped _ (record { locals = h.0; sixteen = h.1.0; answer = top.answer })))
+  verdict_effect (Makes class into pc) h =
+      let made = own n n.next_serial in
+      alone _ (makes (blank r.context.table class ∷ []) _
+      (blank_sendable r.context.table class, tt)
+      (topped _ (went_on into (Obj made) pc r.top (carry-Obj 8 made) top)))
+  verdict_effect (Vends root pc) h =
+      alone _ (record {
+        heap = node.heap;
+        stack = (record { locals = top.locals; sixteen = top.sixteen; answer = top.answer }, below);
+      })
+  verdict_effect (Says value pc) h =
+      shows (shown.Say value) _
+      (topped (goes_to pc r.top) (record {
+        locals = top.locals;
+        sixteen = top.sixteen;
+        answer = top.answer;
+      }))
+  verdict_effect (Asks peer request into outs pc) h =
+      let m = with_top r (stands pc into outs (waits_for n peer request) r.top) in
+      let ok = standing pc into outs (waits_for n peer request) tt in
+      requests_of peer n.next_call request (uses_number m) h
+      (record { heap = ok.heap; stack = ok.stack })
+  verdict_effect (Begins o method values into outs pc) h =
+      alone _ (pushes (fresh o method reasons.Local values) _
+      (begins o method reasons.Local values h.0 h.1) (standing pc into outs Below tt))
+  verdict_effect (Tells peer m into pc) h =
+      posts peer m.packet (items.Oneway m) _ h
+      (topped _ (went_on into Nil pc r.top (carry-Nil 8) top))
+  verdict_effect (Returns result outs) h = delivers (Given result outs) r.top.reason h
+  verdict_effect (Fails e) h = fails e r.top.handler h
+
+  -- the slots that the top invocation sees
+  slots_there : AreSendable (slots_seen (stored r.top.object.serial n.heap))
+  slots_there = go (stored r.top.object.serial n.heap) refl
+    where
+      go : (found : Option Stored) → stored r.top.object.serial n.heap ≡ found →
+          AreSendable (slots_seen found)
+      go None e = tt
+      go (Some x) e =
+          found_is (λ (x : Stored). AreSendable x.slots)
+          (λ x. x.serial == r.top.object.serial) n.heap x node.heap e
+
+  module _ (act : Acting) (small : TakesFew r.context.table)
+      (acts : KeepsSendable r.context.table act) where
+    -- what becomes of the top invocation, by its state
+    pub judged : (state : InvState) → HasSendableAnswer state →
+        VerdictIfSendable (state_rule act r state)
+    judged Running h =
+        act_sendable r small node top.locals (next_act act r)
+        (acts r.top (slots_seen (stored r.top.object.serial n.heap)) top.locals top.sixteen
+        slots_there)
+    judged (Answered (Given v outs)) h = h
+    judged (Answered (Raised e)) h = h
+    judged Below h = tt
+    judged (Waits call peer what) h = tt
+
+    -- the effect of a verdict, where there is one
+    verdict_effect_if : (v : Option Verdict) → VerdictIfSendable v →
+        IfSendable (option_map (effect_of r) v)
+    verdict_effect_if None h = tt
+    verdict_effect_if (Some v) h = verdict_effect v h
+
+    -- what the state of the top invocation leads to
+    stated : (state : InvState) → HasSendableAnswer state →
+        IfSendable (option_map (effect_of r) (state_rule act r state))
+    stated state h = verdict_effect_if (state_rule act r state) (judged state h)
+
+-- a run, by the stack
+run_by : (act : Acting) (c : Context) → TakesFew c.table → KeepsSendable c.table act →
+    NodeIsSendable c.node →
+    (stack : List Invocation) → AllByRecursion InvocationIsSendable stack →
+    IfSendable (run_on act c stack)
+run_by act c small acts node [] h = tt
+run_by act c small acts node (i ∷ is) h =
+    stated (record { context = c; top = i; below = is }) node h.0 h.1 act small acts i.state
+    h.0.answer
+
+-- a run
+pub run_sendable : (act : Acting) (c : Context) → TakesFew c.table → KeepsSendable c.table act →
+    NodeIsSendable c.node → IfSendable (run_effect act c)
+run_sendable act c small acts node = run_by act c small acts node c.node.stack node.stack

@@ -1,0 +1,143 @@
+-- What becomes of an act, and the values and the message in it.
+use Rattle.std.specs.Prelude.{length, ◌≤◌}
+use Rattle.std.proofs.Common.{◌≡◌, ℕ, Bool, true, false, cond, List, [], ◌∷◌}
+use Rattle.std.proofs.Common.{Err, Ok, Result, map, refl, ap, arith}
+use Rattle.std.specs.Prelude.{None, Option, Some}
+use Rattle.std.specs.List.{AllByRecursion}
+use Rattle.std.specs.Result.{result_ok}
+use Rattle.do_base.specs.declared.events.exception.Exc.{Exc}
+use Rattle.do_base.specs.declared.values.value.Value.{Value}
+use Rattle.do_base.specs.declared.values.value.Value.TheVariants.{Nil, Obj}
+use Rattle.do_class.specs.declared.packet.Packet.{Packet}
+use Rattle.do_sig.specs.Calls.{is_in, qualifier_of}
+use Rattle.do_sig.specs.declared.encoding.Encoding.{Encoding}
+use Rattle.do_packet.specs.Copies.{Placed}
+use Rattle.do_packet.specs.Packing.{packed}
+use Rattle.do_packet.specs.declared.fault.PackFault.{PackFault}
+use Rattle.do_frames.specs.Exceptions.{exc_text}
+use Rattle.do_behave.specs.declared.act.Write.{Write}
+use Rattle.do_machine.specs.declared.node.Node.{Node}
+use Rattle.do_machine.specs.declared.verdict.Request.{Request}
+use Rattle.do_machine.specs.declared.verdict.Request.TheVariants as requests
+use Rattle.do_machine.specs.declared.verdict.Verdict.{Verdict}
+use Rattle.do_machine.specs.declared.verdict.Verdict.TheVariants.{Asks, Begins, Fails, Goes, Makes}
+use Rattle.do_machine.specs.declared.verdict.Verdict.TheVariants.{Returns, Says, Steps, Tells, Uses}
+use Rattle.do_machine.specs.declared.verdict.Verdict.TheVariants.{Vends}
+use Rattle.do_machine.specs.Context.{Context}
+use Rattle.do_machine.specs.Packing.{packed_for, packer}
+use Rattle.do_machine.specs.State.{own}
+use Rattle.do_machine.specs.run.Acts.{root_value}
+use Rattle.do_machine.specs.run.Send.{input, inputs_by}
+use Rattle.do_machine.specs.run.Send.{outs_by}
+use Rattle.do_limits.specs.Sendable.{AreSendable, IsSendable, IsSendableExc, IsSendablePacket}
+use Rattle.do_limits.specs.SendableStates.{NodeIsSendable}
+use Rattle.do_limits.proofs.Effects.{slots_seen}
+use Rattle.do_limits.proofs.values.Packing.{packed_sendable}
+use Rattle.do_limits.proofs.values.Carried.{carry-Nil, carry-Obj}
+
+-- the message of a request
+abbrev pub RequestIsSendable : Request → Type 0
+RequestIsSendable requests.Root = Unit {0}
+RequestIsSendable (requests.Call method m) = IsSendablePacket m.packet
+
+-- the values, the message or the exception of a verdict
+abbrev pub VerdictIsSendable : Verdict → Type 0
+VerdictIsSendable (Goes into value pc) = IsSendable value
+VerdictIsSendable (Uses value outs) = IsSendable value × AreSendable outs
+VerdictIsSendable (Steps pc locals handler writes) =
+    AreSendable locals × ((length locals ≡ 16)
+    × AllByRecursion (λ w. IsSendable w.value) writes)
+VerdictIsSendable (Makes class into pc) = Unit {0}
+VerdictIsSendable (Vends root pc) = Unit {0}
+VerdictIsSendable (Says value pc) = Unit {0}
+VerdictIsSendable (Asks peer request into outs pc) = RequestIsSendable request
+VerdictIsSendable (Begins o method values into outs pc) =
+    AreSendable values × (length values ≤ 16)
+VerdictIsSendable (Tells peer m into pc) = IsSendablePacket m.packet
+VerdictIsSendable (Returns value outs) = IsSendable value × AreSendable outs
+VerdictIsSendable (Fails e) = IsSendableExc e
+
+-- a verdict, where there is one
+abbrev pub VerdictIfSendable : Option Verdict → Type 0
+VerdictIfSendable None = Unit {0}
+VerdictIfSendable (Some v) = VerdictIsSendable v
+
+-- ---- rules one after another
+
+-- a rule that a test decides
+pub unless : (b : Bool) (v w : Verdict) → VerdictIsSendable v → VerdictIsSendable w →
+    VerdictIsSendable (cond b v w)
+unless true v w h k = h
+unless false v w h k = k
+
+-- a rule that decides where something lacks
+pub given : {X : Type 0} (found : Option X) (v : Verdict) (rest : X → Verdict) →
+    VerdictIsSendable v → ((x : X) → found ≡ Some x → VerdictIsSendable (rest x)) →
+    VerdictIsSendable (elim found [ None ↦ v | Some x ↦ rest x ])
+given None v rest h k = h
+given (Some x) v rest h k = k x refl
+
+-- an exception without a text
+pub textless : (e : Exc) → exc_text e ≡ [] → IsSendableExc e
+textless e h = rw h (omega arith, tt)
+
+-- ---- values
+
+-- the root of a node, or nil
+pub root_sendable : (n : Node) → IsSendable (root_value n)
+root_sendable n = go n.root
+  where
+    go : (root : Option ℕ) →
+        IsSendable (elim root [ None ↦ Nil | Some serial ↦ Obj (own n serial) ])
+    go None = carry-Nil 8
+    go (Some serial) = carry-Obj 8 (own n serial)
+
+-- a value as it is passed
+input_sendable : (e : Encoding) (v : Value) → IsSendable v → IsSendable (input e v)
+input_sendable e v h = go (is_in e.value_type e.qualifiers)
+  where
+    go : (b : Bool) → IsSendable (cond b v Nil)
+    go true = h
+    go false = carry-Nil 8
+
+-- values as they are passed
+pub inputs_sendable : (es : List Encoding) (vs : List Value) → AreSendable vs →
+    AreSendable (inputs_by es vs)
+inputs_sendable [] vs h = tt
+inputs_sendable (e ∷ es) [] h = tt
+inputs_sendable (e ∷ es) (v ∷ vs) h = (input_sendable e v h.0, inputs_sendable es vs h.1)
+
+-- those that come out
+pub outs_sendable : (oneway : Bool) (es : List Encoding) (vs : List Value) → AreSendable vs →
+    AreSendable (outs_by oneway es vs)
+outs_sendable oneway [] vs h = tt
+outs_sendable oneway (e ∷ es) [] h = tt
+outs_sendable oneway (e ∷ es) (v ∷ vs) h =
+    go (qualifier_of oneway e).comes_out (outs_sendable oneway es vs h.1)
+  where
+    go : (b : Bool) → AreSendable (outs_by oneway es vs) →
+        AreSendable (cond b (v ∷ outs_by oneway es vs) (outs_by oneway es vs))
+    go true k = (h.0, k)
+    go false k = k
+
+-- the values of writes
+pub written_values : (ws : List Write) → AreSendable (map (λ w. w.value) ws) →
+    AllByRecursion (λ w. IsSendable w.value) ws
+written_values [] h = tt
+written_values (w ∷ ws) h = (h.0, written_values ws h.1)
+
+-- ---- messages
+
+-- a message that was packed is one that was made
+was_packed : (found : Result Packet PackFault) (p : Packet) → result_ok found ≡ Some p →
+    found ≡ Ok p
+was_packed (Ok q) p e = ap Ok (cc)
+was_packed (Err x) p e = absurd (cc)
+
+-- a message of a node
+pub message_sendable : (c : Context) → NodeIsSendable c.node → (to : ℕ) (values : List Placed) →
+    AllByRecursion (λ q. IsSendable q.1) values → (p : Packet) →
+    packed_for c to values ≡ Some p → IsSendablePacket p
+message_sendable c node to values h p e =
+    packed_sendable (packer c) to c.node.next_token values h (slots_seen c node) p
+    (was_packed (packed (packer c) to c.node.next_token values) p e)

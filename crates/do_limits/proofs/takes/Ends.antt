@@ -1,0 +1,55 @@
+-- An end that closes leaves and sends only what a message can carry.
+use Rattle.std.proofs.Common.{◌==◌, ℕ, Bool, true, false, cond, refl}
+use Rattle.do_base.specs.declared.events.exception.Exc.TheVariants.{ConnectionDied}
+use Rattle.do_behave.specs.declared.invocation.Answer.TheVariants.{Raised}
+use Rattle.do_behave.specs.declared.invocation.InvState.{InvState}
+use Rattle.do_behave.specs.declared.invocation.InvState.TheVariants.{Answered, Below, Running}
+use Rattle.do_behave.specs.declared.invocation.InvState.TheVariants.{Waits}
+use Rattle.do_machine.specs.declared.item.Item.TheVariants as items
+use Rattle.do_machine.specs.declared.node.Node.{Node}
+use Rattle.do_machine.specs.Effect.{each, queueing}
+use Rattle.do_machine.specs.ends.Closing.{asked_of, closing, died, parted, serials_of}
+use Rattle.do_machine.specs.ends.Closing.{without_answer}
+use Rattle.do_machine.specs.lend.Asking.{settling}
+use Rattle.do_limits.specs.SendableStates.{HasSendableAnswer}
+use Rattle.do_limits.specs.SendableStates.{InvocationIsSendable, NodeIsSendable}
+use Rattle.do_limits.proofs.Effects.{EffectIsSendable, each_sendable}
+use Rattle.do_limits.proofs.Effects.{queues, settles}
+use Rattle.do_limits.proofs.Effects.{then_sendable}
+use Rattle.do_limits.proofs.Lists.{each_mapped, each_weaker}
+use Rattle.do_limits.proofs.runs.Verdicts.{textless}
+
+-- an invocation that loses a peer
+state_died : (peer : ℕ) (state : InvState) → HasSendableAnswer state →
+    HasSendableAnswer (died peer state)
+state_died peer Running h = tt
+state_died peer Below h = tt
+state_died peer (Answered a) h = h
+state_died peer (Waits call p what) h = go (p == peer)
+  where
+    go : (b : Bool) → HasSendableAnswer
+        (cond b (Answered (Raised ConnectionDied)) (Waits call p what))
+    go true = textless ConnectionDied refl
+    go false = tt
+
+-- a node that parts from a peer
+parts : (peer : ℕ) (n : Node) → NodeIsSendable n → NodeIsSendable (parted peer n)
+parts peer n h = record {
+  heap = h.heap;
+  stack = each_mapped InvocationIsSendable (without_answer peer) n.stack
+      (each_weaker InvocationIsSendable (λ i. InvocationIsSendable (without_answer peer i))
+      (λ i k. record {
+        locals = k.locals;
+        sixteen = k.sixteen;
+        answer = state_died peer i.state k.answer;
+      }) n.stack
+      h.stack);
+}
+
+-- an end that closes
+pub closes : (peer : ℕ) (n : Node) → NodeIsSendable n → EffectIsSendable (closing peer n)
+closes peer n h =
+    then_sendable (queueing peer (items.End (serials_of peer n.held)) (parted peer n))
+    (each settling (asked_of peer n))
+    (queues peer (items.End (serials_of peer n.held)) (parted peer n) tt (parts peer n h))
+    (λ m k. each_sendable settling settles (asked_of peer n) m k)

@@ -1,0 +1,5 @@
+pub mod NamesCount
+pub mod Carried
+pub mod Packing
+pub mod Unpacking
+pub mod Spelling

@@ -1,0 +1,215 @@
+-- A message of values that can be carried is one of parts that can be spelled.
+use Rattle.std.proofs.Common.{◌≡◌, ◌-◌, ℕ, ℤ, Bool, true, false, cond, List as Listed, [], ◌∷◌}
+use Rattle.std.proofs.Common.{◌&&◌}
+use Rattle.std.proofs.Common.{Err, Ok, Result, length, map, refl, sym, ap, ◌∙◌, subst, rules, ◌^◌}
+use Rattle.std.specs.Prelude.{nat_le, nat_lt, ◌≤◌}
+use Rattle.std.proofs.Common.{arith}
+use Rattle.std.proofs.lemmas.Bool.Decides.{nat_tests}
+use Rattle.std.specs.List.{AllByRecursion, list_all}
+use Rattle.std.proofs.lemmas.Bool.{and_from, and_parts}
+use Rattle.std.proofs.lemmas.List.{length-map}
+use Rattle.do_base.specs.names.Names.{ObjectName}
+use Rattle.do_base.specs.values.Induction.{value_induction}
+use Rattle.do_base.specs.values.Texts.{longest_text}
+use Rattle.do_base.specs.declared.values.value.Value.{List, Value, the_lemmas}
+use Rattle.do_base.specs.declared.values.value.Value.TheVariants.{Nil, Num, Obj, Text}
+use Rattle.do_class.specs.declared.packet.Packet.{Packet}
+use Rattle.do_class.specs.declared.packet.Part.{List as Parts, Part, the_lemmas as part_lemmas}
+use Rattle.do_class.specs.declared.packet.Part.TheVariants as part
+use Rattle.do_coder.specs.Parts.{is_bytes}
+use Rattle.do_grammar.specs.Num.{zigzag}
+use Rattle.do_packet.specs.Copies.{Placed, copies_of, marks, most_copies, names_with, slot_values}
+use Rattle.do_packet.specs.Copies.{slots_at}
+use Rattle.do_packet.specs.Met.{role_of}
+use Rattle.do_packet.specs.Packing.{copied_of, message_weight, most_weight, packed, packet_with}
+use Rattle.do_packet.specs.Packing.{part_at}
+use Rattle.do_packet.specs.Parts.{object_part, part_of}
+use Rattle.do_packet.specs.Seen.{Sender}
+use Rattle.do_packet.specs.declared.fault.PackFault.{PackFault}
+use Rattle.do_packet.specs.declared.role.Role.{Role}
+use Rattle.do_packet.specs.declared.role.Role.TheVariants.{Absent, Copied, Named}
+use Rattle.do_limits.specs.Sendable.{AreSendable, AreSendableParts, IsSendable, IsSendablePacket}
+use Rattle.do_limits.specs.Sendable.{can_carry, can_spell}
+use Rattle.do_limits.proofs.Lists.{each_zipped}
+use Rattle.do_limits.proofs.values.NamesCount.{few_names}
+use Rattle.do_limits.proofs.values.Carried.{carry-List, carry-Num, carry-Text}
+
+-- ---- parts, kind by kind
+
+module _ (depth : ℕ) where
+  -- nil can be spelled
+  pub spell-Nil : can_spell part.Nil depth ≡ true
+  spell-Nil = search (rules, part_lemmas)
+
+  -- a number can that has 64 bits
+  pub spell-Num : (z : ℤ) → can_spell (part.Num z) depth ≡ nat_lt (zigzag z) (2 ^ 64)
+  spell-Num z = search (rules, part_lemmas)
+
+  -- a text of bytes can that is not too long
+  pub spell-Text : (t : Listed ℕ) →
+      can_spell (part.Text t) depth ≡ (nat_le (length t) longest_text && is_bytes t)
+  spell-Text t = search (rules, part_lemmas)
+
+  -- a copy can
+  pub spell-Copy : (k : ℕ) → can_spell (part.Copy k) depth ≡ true
+  spell-Copy k = search (rules, part_lemmas)
+
+  -- a name can
+  pub spell-Named : (k : ℕ) → can_spell (part.Named k) depth ≡ true
+  spell-Named k = search (rules, part_lemmas)
+
+  -- a list can by its items
+  pub spell-List : (ps : Listed Part) → can_spell (Parts ps) depth
+      ≡ (nat_lt 0 depth && (nat_le (length (map can_spell ps)) 1024 && list_all
+      (λ (f : ℕ → Bool). f (depth - 1)) (map can_spell ps)))
+  spell-List ps = search (rules, part_lemmas)
+
+-- three tests, of which the second and the third may be others
+pub tests : (a b c d e : Bool) → (a && (b && c)) ≡ true → (b ≡ true → d ≡ true) →
+    (c ≡ true → e ≡ true) → (a && (d && e)) ≡ true
+tests true true true d e h f g = and_from d e (f refl) (g refl)
+tests true true false d e h f g = absurd (cc)
+tests true false c d e h f g = absurd (cc)
+tests false b c d e h f g = absurd (cc)
+
+-- ---- the parts of values
+
+module _ (s : Sender) (C N : Listed ObjectName) where
+  module _ (copy : Bool) where
+    -- the part of a value in such a place
+    abbrev made : Value → Part
+    made v = part_of s.seen s.node copy C N v
+
+    -- the part of nil
+    made-Nil : made Nil ≡ part.Nil
+    made-Nil = search (rules, the_lemmas)
+
+    -- the part of a number
+    made-Num : (z : ℤ) → made (Num z) ≡ part.Num z
+    made-Num z = search (rules, the_lemmas)
+
+    -- the part of a text
+    made-Text : (t : Listed ℕ) → made (Text t) ≡ part.Text t
+    made-Text t = search (rules, the_lemmas)
+
+    -- the part of an object
+    made-Obj : (o : ObjectName) → made (Obj o) ≡ object_part (role_of s.seen s.node copy o) C N o
+    made-Obj o = search (rules, the_lemmas)
+
+    -- the part of a list
+    made-List : (vs : Listed Value) → made (List vs) ≡ Parts (map made vs)
+    made-List vs = search (rules, the_lemmas)
+
+    -- the part can be spelled as deep as the value can be carried
+    abbrev Spelled : Value → Type 0
+    Spelled v = (depth : ℕ) → can_carry v depth ≡ true → can_spell (made v) depth ≡ true
+
+    -- the part of an object, whatever becomes of it
+    object_spelled : (o : ObjectName) (role : Role) (depth : ℕ) →
+        can_spell (object_part role C N o) depth ≡ true
+    object_spelled o Copied depth = spell-Copy depth _
+    object_spelled o Named depth = spell-Named depth _
+    object_spelled o Absent depth = spell-Nil depth
+
+    -- the parts of items
+    items_spelled : (depth : ℕ) (vs : Listed Value) → AllByRecursion Spelled vs →
+        list_all (λ (f : ℕ → Bool). f depth) (map can_carry vs) ≡ true →
+        list_all (λ (f : ℕ → Bool). f depth) (map can_spell (map made vs)) ≡ true
+    items_spelled depth [] h c = refl
+    items_spelled depth (v ∷ vs) h c =
+        let cs = and_parts (can_carry v depth) _ c in
+        and_from (can_spell (made v) depth) _ (h.0 depth cs.0) (items_spelled depth vs h.1 cs.1)
+
+    -- the part of a list
+    list_spelled : (vs : Listed Value) → AllByRecursion Spelled vs → Spelled (List vs)
+    list_spelled vs h depth c =
+        let same : length (map can_spell (map made vs)) ≡ length (map can_carry vs) =
+        length-map (map made vs) can_spell ∙ length-map vs made ∙ sym (length-map vs can_carry) in
+        ap (λ x. can_spell x depth) (made-List vs) ∙ spell-List depth (map made vs)
+        ∙ tests (nat_lt 0 depth) (nat_le (length (map can_carry vs)) 1024)
+        (list_all (λ (f : ℕ → Bool). f (depth - 1)) (map can_carry vs)) _ _
+        (sym (carry-List depth vs) ∙ c) (λ k. ap (λ n. nat_le n 1024) same ∙ k)
+        (items_spelled (depth - 1) vs h)
+
+    -- the part of each value
+    value_spelled : (v : Value) → Spelled v
+    value_spelled =
+        value_induction Spelled
+        (λ depth c. ap (λ x. can_spell x depth) made-Nil ∙ spell-Nil depth)
+        (λ z depth c.
+        ap (λ x. can_spell x depth) (made-Num z) ∙ spell-Num depth z ∙ sym (carry-Num depth z) ∙ c)
+        (λ t depth c.
+        ap (λ x. can_spell x depth) (made-Text t) ∙ spell-Text depth t
+        ∙ sym (carry-Text depth t) ∙ c)
+        (λ o depth c.
+        ap (λ x. can_spell x depth) (made-Obj o)
+        ∙ object_spelled o (role_of s.seen s.node copy o) depth)
+        list_spelled
+
+  -- the parts of values at places
+  placed_spelled : (ps : Listed Placed) → AllByRecursion (λ q. IsSendable q.1) ps →
+      AreSendableParts (map (part_at s C N) ps)
+  placed_spelled [] h = tt
+  placed_spelled (q ∷ ps) h = (value_spelled q.0 q.1 8 h.0, placed_spelled ps h.1)
+
+  -- the slots of copies
+  copies_spelled : ((o : ObjectName) → AreSendable (slot_values s o)) →
+      (os : Listed ObjectName) →
+      AllByRecursion (λ c. AreSendableParts c.slots) (map (copied_of s C N) os)
+  copies_spelled slots [] = tt
+  copies_spelled slots (o ∷ os) = (
+    placed_spelled (slots_at s o)
+        (each_zipped IsSendable (marks s.table (s.seen.class_of o)) (slot_values s o) (slots o)),
+    copies_spelled slots os,
+  )
+
+-- ---- messages
+
+-- what passed two tests
+ok_only : (a b : Bool) (x y : PackFault) (q p : Packet) →
+    cond {A = Result Packet PackFault} a (Err x) (cond b (Err y) (Ok q)) ≡ Ok p →
+    (a ≡ false) × ((b ≡ false) × (p ≡ q))
+ok_only true b x y q p e = absurd (cc)
+ok_only false true x y q p e = absurd (cc)
+ok_only false false x y q p e = (refl, (refl, cc))
+
+-- a number that is not above another
+not_above : (a b : ℕ) → nat_lt a b ≡ false → b ≤ a
+not_above a b e = grind (arith, nat_tests, e)
+
+module _ (s : Sender) (to token : ℕ) (values : Listed Placed) where
+  -- what was packed has few copies, and is the message with these and the names of the values
+  packed_is : (p : Packet) → packed s to token values ≡ Ok p →
+      (nat_lt most_copies (length (copies_of s values)) ≡ false)
+      × ((nat_lt most_weight (message_weight s values (copies_of s values)) ≡ false)
+      × (p ≡ packet_with s to token values (copies_of s values)
+      (names_with s values (copies_of s values))))
+  unfolding packed
+  packed_is p e =
+      ok_only (nat_lt most_copies (length (copies_of s values)))
+      (nat_lt most_weight (message_weight s values (copies_of s values))) _ _ _ p e
+
+  module _ (sent : AllByRecursion (λ q. IsSendable q.1) values)
+      (slots : (o : ObjectName) → AreSendable (slot_values s o)) where
+    -- a message with these copies, and the names of all that it has
+    pub packet_sendable : (copies : Listed ObjectName) → length copies ≤ most_copies →
+        message_weight s values copies ≤ most_weight →
+        IsSendablePacket (packet_with s to token values copies (names_with s values copies))
+    packet_sendable copies few light =
+        let names = names_with s values copies in
+        record {
+          few = subst (λ n. n ≤ most_copies) (sym (length-map copies (copied_of s copies names)))
+              few;
+          names = few_names s to token values copies light;
+          values = placed_spelled s copies names values sent;
+          slots = copies_spelled s copies names slots copies;
+        }
+
+    -- what was packed
+    pub packed_sendable : (p : Packet) → packed s to token values ≡ Ok p → IsSendablePacket p
+    packed_sendable p e =
+        let C = copies_of s values in
+        let is = packed_is p e in
+        subst IsSendablePacket (sym is.1.1)
+        (packet_sendable C (not_above most_copies (length C) is.0)
+        (not_above most_weight (message_weight s values C) is.1.0))

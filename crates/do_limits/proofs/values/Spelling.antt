@@ -1,0 +1,108 @@
+-- A part of a message has a spelling where its places are there.
+use Rattle.std.proofs.Common.{◌≡◌, ◌-◌, ℕ, Bool, true, List as Listed, [], ◌∷◌, ◌&&◌, length, map}
+use Rattle.std.proofs.Common.{refl, sym, ap, ◌∙◌, rules}
+use Rattle.std.specs.Prelude.{nat_le, nat_lt}
+use Rattle.std.specs.List.{All, AllByRecursion, list_all}
+use Rattle.std.proofs.lemmas.Bool.{and_from, and_parts}
+use Rattle.std.proofs.lemmas.List.{length-map}
+use Rattle.std.proofs.lemmas.List.Elements.{recursion_from_All}
+use Rattle.do_class.specs.declared.packet.Copied.{Copied}
+use Rattle.do_class.specs.declared.packet.Packet.{Packet}
+use Rattle.do_class.specs.declared.packet.Part.{List, Part, the_lemmas}
+use Rattle.do_class.specs.declared.packet.Part.TheVariants.{Copy, Named}
+use Rattle.do_coder.specs.Parts.{IsPart, part_fits}
+use Rattle.do_coder.proofs.values.PartFacts.{fits-Copy, fits-Named, fits-Nil, fits-Num, fits-Text}
+use Rattle.do_packet.specs.Limits.{HasPlaces, KeepsLimits, places_within}
+use Rattle.do_limits.specs.Sendable.{ArePartsOf, AreSendableParts, IsSendablePacket, can_spell}
+use Rattle.do_limits.proofs.values.Packing.{spell-List, spell-Num, spell-Text, tests}
+use Rattle.do_limits.proofs.values.Unpacking.{part_induction}
+
+module _ (copies names : ℕ) where
+  -- a list of parts fits by its items
+  fits-List : (depth : ℕ) (xs : Listed Part) → part_fits copies names (List xs) depth
+      ≡ (nat_lt 0 depth && (nat_le (length (map (part_fits copies names) xs)) 1024 && list_all
+      (λ (f : ℕ → Bool). f (depth - 1)) (map (part_fits copies names) xs)))
+  fits-List depth xs = search (rules, the_lemmas)
+
+  -- the place of a copy
+  within-Copy : (k : ℕ) → places_within copies names (Copy k) ≡ nat_lt k copies
+  within-Copy k = search (rules, the_lemmas)
+
+  -- the place of a name
+  within-Named : (k : ℕ) → places_within copies names (Named k) ≡ nat_lt k names
+  within-Named k = search (rules, the_lemmas)
+
+  -- the places in a list
+  within-List : (xs : Listed Part) →
+      places_within copies names (List xs) ≡ list_all (λ b. b) (map (places_within copies names) xs)
+  within-List xs = search (rules, the_lemmas)
+
+  -- a part fits where it can be spelled and its places are there
+  abbrev Fits : Part → Type 0
+  Fits x = (depth : ℕ) → can_spell x depth ≡ true → places_within copies names x ≡ true →
+      part_fits copies names x depth ≡ true
+
+  -- the items of a list
+  items_fit : (depth : ℕ) (xs : Listed Part) → AllByRecursion Fits xs →
+      list_all (λ b. b) (map (places_within copies names) xs) ≡ true →
+      list_all (λ (f : ℕ → Bool). f depth) (map can_spell xs) ≡ true →
+      list_all (λ (f : ℕ → Bool). f depth) (map (part_fits copies names) xs) ≡ true
+  items_fit depth [] h p c = refl
+  items_fit depth (x ∷ xs) h p c =
+      let ps = and_parts (places_within copies names x) _ p in
+      let cs = and_parts (can_spell x depth) _ c in
+      and_from (part_fits copies names x depth) _ (h.0 depth cs.0 ps.0)
+      (items_fit depth xs h.1 ps.1 cs.1)
+
+  -- a list
+  list_fits : (xs : Listed Part) → AllByRecursion Fits xs → Fits (List xs)
+  list_fits xs h depth c p =
+      let same : length (map (part_fits copies names) xs) ≡ length (map can_spell xs) =
+      length-map xs (part_fits copies names) ∙ sym (length-map xs can_spell) in
+      fits-List depth xs
+      ∙ tests (nat_lt 0 depth) (nat_le (length (map can_spell xs)) 1024)
+      (list_all (λ (f : ℕ → Bool). f (depth - 1)) (map can_spell xs)) _ _
+      (sym (spell-List depth xs) ∙ c) (λ k. ap (λ n. nat_le n 1024) same ∙ k)
+      (items_fit (depth - 1) xs h (sym (within-List xs) ∙ p))
+
+  -- each part
+  part_fits_there : (x : Part) → Fits x
+  part_fits_there =
+      part_induction Fits
+      (λ depth c p. fits-Nil copies names depth)
+      (λ z depth c p. fits-Num copies names depth z ∙ sym (spell-Num depth z) ∙ c)
+      (λ t depth c p. fits-Text copies names depth t ∙ sym (spell-Text depth t) ∙ c)
+      (λ k depth c p. fits-Copy copies names depth k ∙ sym (within-Copy k) ∙ p)
+      (λ k depth c p. fits-Named copies names depth k ∙ sym (within-Named k) ∙ p)
+      list_fits
+
+  -- parts one behind the other
+  parts_fit : (xs : Listed Part) → AreSendableParts xs →
+      AllByRecursion (λ x. places_within copies names x ≡ true) xs →
+      AllByRecursion (IsPart copies names 8) xs
+  parts_fit [] h p = tt
+  parts_fit (x ∷ xs) h p = (part_fits_there x 8 h.0 p.0, parts_fit xs h.1 p.1)
+
+  -- the slots of copies
+  copies_fit : (cs : Listed Copied) → AllByRecursion (λ c. AreSendableParts c.slots) cs →
+      AllByRecursion (λ c. All (λ x. places_within copies names x ≡ true) c.slots) cs →
+      AllByRecursion (λ c. AllByRecursion (IsPart copies names 8) c.slots) cs
+  copies_fit [] h p = tt
+  copies_fit (c ∷ cs) h p = (
+    parts_fit c.slots h.0
+        (recursion_from_All (λ x. places_within copies names x ≡ true) c.slots p.0),
+    copies_fit cs h.1 p.1,
+  )
+
+-- the values of a message
+pub values_spelled : (p : Packet) → IsSendablePacket p → KeepsLimits p → ArePartsOf p p.values
+values_spelled p h k =
+    parts_fit (length p.copies) (length p.names) p.values h.values
+    (recursion_from_All (HasPlaces p) p.values k.values)
+
+-- the slots of its copies
+pub slots_spelled : (p : Packet) → IsSendablePacket p → KeepsLimits p →
+    AllByRecursion (λ c. ArePartsOf p c.slots) p.copies
+slots_spelled p h k =
+    copies_fit (length p.copies) (length p.names) p.copies h.slots
+    (recursion_from_All (λ c. All (HasPlaces p) c.slots) p.copies k.slots)

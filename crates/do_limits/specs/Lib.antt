@@ -1,0 +1,4 @@
+pub mod Sendable
+pub mod SendableStates
+pub mod SendableActs
+pub mod Numbers

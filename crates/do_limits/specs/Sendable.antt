@@ -1,0 +1,72 @@
+-- The values that a message can carry, and the messages of such values.
+use Rattle.std.specs.Prelude.{Bool, List as Listed, length, nat_le, nat_lt, true, ℕ, ◌&&◌, ◌-◌, ◌^◌}
+use Rattle.std.specs.Prelude.{◌≡◌, ◌≤◌}
+use Rattle.std.specs.List.{AllByRecursion, list_all}
+use Rattle.do_base.specs.values.Texts.{longest_text}
+use Rattle.do_base.specs.declared.events.exception.Exc.{Exc}
+use Rattle.do_base.specs.declared.values.value.Value.{Value, fold-Value}
+use Rattle.do_base.specs.declared.values.value.Value.TheOpen.{List, Num, Text, Value-F}
+use Rattle.do_class.specs.declared.packet.Packet.{Packet}
+use Rattle.do_class.specs.declared.packet.Part.{Part, fold-Part}
+use Rattle.do_class.specs.declared.packet.Part.TheOpen.{Part-F}
+use Rattle.do_grammar.specs.Num.{zigzag}
+use Rattle.do_coder.specs.Parts.{IsPart, is_bytes}
+use Rattle.do_frames.specs.Exceptions.{IsExc}
+use Rattle.do_packet.specs.Copies.{most_copies}
+use Rattle.do_packet.specs.Limits.{most_names}
+
+-- one level of a value, where it is known of the values inside whether they can be carried
+abbrev pub carried_step : Value-F (ℕ → Bool) → ℕ → Bool
+carried_step (Num z) depth = nat_lt (zigzag z) (2 ^ 64)
+carried_step (Text t) depth = nat_le (length t) longest_text && is_bytes t
+carried_step (List fit) depth =
+    nat_lt 0 depth && (nat_le (length fit) 1024 && list_all (λ f. f (depth - 1)) fit)
+carried_step _ depth = true
+
+-- a value of numbers of 64 bits, of texts and lists that are not too long, and so many lists deep
+abbrev pub can_carry : Value → ℕ → Bool
+can_carry = fold-Value (ℕ → Bool) carried_step
+
+-- a value that a message can carry
+abbrev pub IsSendable : Value → Type 0
+IsSendable v = can_carry v 8 ≡ true
+
+-- each of these values is such a one
+abbrev pub AreSendable : Listed Value → Type 0
+AreSendable values = AllByRecursion IsSendable values
+
+-- one level of a part, where it is known of the parts inside whether they can be spelled
+abbrev pub spelled_step : Part-F (ℕ → Bool) → ℕ → Bool
+spelled_step (Part-F.Num z) depth = nat_lt (zigzag z) (2 ^ 64)
+spelled_step (Part-F.Text t) depth = nat_le (length t) longest_text && is_bytes t
+spelled_step (Part-F.List fit) depth =
+    nat_lt 0 depth && (nat_le (length fit) 1024 && list_all (λ f. f (depth - 1)) fit)
+spelled_step _ depth = true
+
+-- a part of such numbers, texts and lists, so many lists deep, whatever its places
+abbrev pub can_spell : Part → ℕ → Bool
+can_spell = fold-Part (ℕ → Bool) spelled_step
+
+-- a part of a message that can be spelled, where its places are there
+abbrev pub IsSendablePart : Part → Type 0
+IsSendablePart x = can_spell x 8 ≡ true
+
+-- each of these parts is such a one
+abbrev pub AreSendableParts : Listed Part → Type 0
+AreSendableParts parts = AllByRecursion IsSendablePart parts
+
+-- A message of not too many copies and names, whose values and slots can be spelled, where their
+-- places are there
+pub record IsSendablePacket (p : Packet) : Type 0 where
+  pub few : length p.copies ≤ most_copies
+  pub names : length p.names ≤ most_names
+  pub values : AreSendableParts p.values
+  pub slots : AllByRecursion (λ c. AreSendableParts c.slots) p.copies
+
+-- an exception that a message can carry
+abbrev pub IsSendableExc : Exc → Type 0
+IsSendableExc e = IsExc e
+
+-- each of these parts has a spelling in a message
+abbrev pub ArePartsOf : Packet → Listed Part → Type 0
+ArePartsOf p parts = AllByRecursion (IsPart (length p.copies) (length p.names) 8) parts
