@@ -2,3 +2,4 @@ pub mod Seen
 pub mod Lanes
 pub mod Hosts
 pub mod Net
+pub mod Turns

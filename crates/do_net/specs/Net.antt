@@ -21,6 +21,11 @@ network seen n = net_of (hostings seen n.hosts)
 abbrev pub Stands : {S A : Type 0} → (S → Seen) → Acting → Net S A → Type 0
 Stands seen act n = n.spent ≡ false → AllByRecursion (Rests n.table act) (hostings seen n.hosts)
 
+-- all decide the acts alike
+abbrev pub AreAlike : {A : Type 0} → (A → Acting) → List A → Type 0
+AreAlike act [] = Unit {0}
+AreAlike act (m ∷ ms) = AllByRecursion (λ o. act o ≡ act m) ms
+
 -- the oldest of what was sent is taken out; or there is none
 abbrev pub HasSent : List Wire → List Wire → Option Wire → Type 0
 HasSent old new None = (old ≡ []) × (new ≡ old)

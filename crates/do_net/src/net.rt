@@ -1,20 +1,31 @@
 //! A network of sites, over its events.
-ghost use Rattle.std.specs.Prelude.{◌≡◌, ◌++◌, IfOk, IsErr, OnErr, OnOk, [], false, true};
+ghost use Rattle.std.specs.Prelude.{◌≡◌, ◌++◌, ◌<◌, IfOk, IsErr, OnErr, OnOk, Some, [], false};
+ghost use Rattle.std.specs.Prelude.{length, slice_get, true};
 ghost use Rattle.do_network.specs.Net.{net_opening};
 ghost use Rattle.do_network.specs.Snapshot.{net_snapshot};
 ghost use Rattle.do_network.specs.Step.{net_step};
 ghost use Rattle.do_net.specs.Hosts.{net_can_take};
-ghost use Rattle.do_net.specs.Net.{HasSent, Stands, is_quiet, network};
+ghost use Rattle.do_net.specs.Net.{AreAlike, HasSent, Stands, is_quiet, network};
 
 use crate::host::Host;
 use crate::hosted::Hosted;
 use crate::hosts::{are_quiet, can_take, snapshot, step};
-use crate::opening::opening;
+use crate::opening::{Makers, opening};
 use do_base::{Event, Items, NodeId, Reserved};
+use do_behave::Behaviour;
 use do_class::ClassTable;
 use do_machine::{Outcome, Seats, Shared, Snapshot};
 use do_network::Wire;
 use std::alloc::AllocError;
+
+/// The first of some that decide the acts.
+#[tactic(auto, using(std::proofs::lemmas::Option::slice_get_read))]
+fn first_of<A: Behaviour + Drop>(makers: &Makers<A>) -> Result<Shared<A>, AllocError>
+    requires { 0 < length makers.now }
+    ensures { IfOk result (λ acts. slice_get makers.now 0 ≡ Some acts) }
+{
+    makers.as_slice()[0].clone()
+}
 
 /// All sites of a world, with what is under way between them and what was sent.
 ///
@@ -32,21 +43,25 @@ pub struct Net<S: Hosted> {
 impl<S: Hosted> Net<S> {
     /// The network of a world before its first event, in whatever order the nodes are listed.
     ///
-    /// All sites share the classes and what decides their acts. The one error is that memory ran
-    /// out.
+    /// All sites share the classes, and each has its own of what decides its acts, or shares it;
+    /// all decide alike. The one error is that memory ran out.
     pub fn new(
         table: Shared<ClassTable>,
         nodes: &Seats,
-        acts: Shared<S::Acts>,
+        makers: &Makers<S::Acts>,
     ) -> Result<Net<S>, AllocError>
+        requires some { 0 < length makers.now }
+        requires each { length makers.now ≡ length nodes.now }
+        requires alike { AreAlike S.Acts.act makers.now }
         ensures stands { IfOk result (λ n. Stands S.seen (S.Acts.act n.acts) n) }
         ensures table { IfOk result (λ n. n.table ≡ table) }
-        ensures acts { IfOk result (λ n. n.acts ≡ acts) }
+        ensures acts { IfOk result (λ n. slice_get makers.now 0 ≡ Some n.acts) }
         ensures net { IfOk result (λ n. network S.seen n ≡ net_opening table nodes.now) }
         ensures wires { IfOk result (λ n. n.wires.items ≡ []) }
         ensures fresh { IfOk result (λ n. n.spent ≡ false) }
     {
-        let hosts = opening(&table, &acts, nodes)?;
+        let acts = first_of(makers)?;
+        let hosts = opening(&table, nodes, makers)?;
         let wires = Reserved::new(nodes.allocator());
         Ok(Net {
             table,

@@ -1,12 +1,17 @@
-use Rattle.do_net.proofs.OpeningNetwork.{opens, opens_rest}
+use Rattle.do_net.proofs.OpeningNetwork.{alike_first, opens, opens_rest}
 use Rattle.do_net.proofs.net.Net.new.Goals as goal
 
+-- the sites that open are those of what decides the acts of the first
 pub returns-clause-stands : goal.returns-clause-stands
 returns-clause-stands g c e =
-    opens_rest c.args.table (g.S.Acts.Behaviour.act c.args.acts) c.args.nodes.now _
-    c.in_ok-hosts.ensures
+    let act = g.S.Acts.Behaviour.act in
+    opens_rest c.args.table (act c.in_ok-acts.acts) c.args.nodes.now _
+    (c.in_ok-hosts.ensures (act c.in_ok-acts.acts)
+    (alike_first act c.args.makers.now c.in_ok-acts.acts c.requires.alike c.in_ok-acts.ensures))
 
 pub returns-clause-net : goal.returns-clause-net
 returns-clause-net g c =
-    opens c.args.table (g.S.Acts.Behaviour.act c.args.acts) c.args.nodes.now _
-    c.in_ok-hosts.ensures
+    let act = g.S.Acts.Behaviour.act in
+    opens c.args.table (act c.in_ok-acts.acts) c.args.nodes.now _
+    (c.in_ok-hosts.ensures (act c.in_ok-acts.acts)
+    (alike_first act c.args.makers.now c.in_ok-acts.acts c.requires.alike c.in_ok-acts.ensures))
