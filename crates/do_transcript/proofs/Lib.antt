@@ -1,0 +1,2 @@
+pub mod RunsStepByStep
+pub mod BlocksToCome

@@ -1,0 +1,12 @@
+//! The transcript of a schedule over the machine of the definitions.
+//!
+//! It stands on do_local, on do_lines and on do_output. It promises that what a schedule's lines
+//! come to on a machine, and the text that is written of it, are those of the definitions.
+#![tactic(auto)]
+
+mod blocks;
+mod stepping;
+mod transcript;
+
+pub use stepping::step_line;
+pub use transcript::write_transcript;
