@@ -1,0 +1,2 @@
+pub mod LinesSummed
+pub mod TextsBehind

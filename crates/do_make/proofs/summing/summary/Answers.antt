@@ -1,0 +1,51 @@
+use Rattle.std.proofs.Common.{◌≡◌, [], ap, rules, sym, ◌∙◌}
+use Rattle.std.specs.Vec.Iter.{into_iter_items}
+use Rattle.std.proofs.lemmas.List.{nil_from_length}
+use Rattle.do_machine.specs.run.Run.{Acting}
+use Rattle.do_net.specs.Net.{network}
+use Rattle.do_network.specs.Wired.{net_blocks}
+use Rattle.do_make.proofs.LinesSummed.{counts_line, summed, summed_first, summed_last}
+use Rattle.do_make.proofs.summing.summary.Goals as goal
+
+-- at first nothing is counted
+pub loop-line-init : goal.loop-line-init
+loop-line-init g c =
+    let items : into_iter_items c.into_iter-line-iterator.result ≡ c.args.lines = search rules in
+    let act : Acting = g.S.Acts.Behaviour.act c.args.net.now.acts in
+    let blocks = net_blocks c.args.net.now.table act (network g.S.Hosted.seen c.args.net.now) in
+    record {
+      so_far = ap (λ ls. summed c.new-sum.result (blocks ls)) items
+          ∙ ap (λ s. summed s (blocks c.args.lines)) c.new-sum.ensures
+          ∙ summed_first (blocks c.args.lines);
+      table = search rules;
+      acts = search rules;
+      stands = c.requires.stands;
+      sent = c.requires.sent;
+    }
+
+-- each line is counted
+pub loop-line-preserved : goal.loop-line-preserved
+loop-line-preserved g c =
+    let i = c.loop-line.invariant in
+    let p = c.in_ok-add_line.ensures in
+    record {
+      so_far = counts_line c.args.net.now.table (g.S.Acts.Behaviour.act c.args.net.now.acts)
+          (network g.S.Hosted.seen c.loop-line.net) _ c.loop-line.sum _ _ c.in-Some.line _ _
+          c.in-Some.ensures.steps.0 (rw (i.table, i.acts) at p.sum) (rw (i.table, i.acts) at p.net)
+          i.so_far;
+      table = p.table ∙ i.table;
+      acts = p.acts ∙ i.acts;
+      stands = p.stands;
+      sent = p.sent;
+    }
+
+-- behind the last line all is counted
+pub returns : goal.returns
+returns g c =
+    let none : into_iter_items c.loop-line.line-iterator ≡ [] =
+    nil_from_length _ (sym c.loop-line.line-iterator.rest.ok.0 ∙ c.in-None.ensures.steps.0) in
+    let act : Acting = g.S.Acts.Behaviour.act c.args.net.now.acts in
+    let blocks = net_blocks c.args.net.now.table act (network g.S.Hosted.seen c.loop-line.net) in
+    sym (summed_last c.loop-line.sum)
+    ∙ sym (ap (λ ls. summed c.loop-line.sum (blocks ls)) none)
+    ∙ c.loop-line.invariant.so_far

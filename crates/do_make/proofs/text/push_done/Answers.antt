@@ -1,0 +1,9 @@
+use Rattle.do_make.proofs.TextsBehind.{done_behind}
+use Rattle.do_make.proofs.text.push_done.Goals as goal
+
+-- four lines stand one behind another
+pub returns : goal.returns
+returns c = done_behind c.push_counted-4.result c.args.out.now c.push_counted.new.out
+    c.push_counted-2.new.out c.push_counted-3.new.out c.push_counted-4.new.out c.args.sum.now
+    c.in_ok-push_counted.ensures c.in_ok-push_counted-2.ensures c.in_ok-push_counted-3.ensures
+    c.push_counted-4.ensures

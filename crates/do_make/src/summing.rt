@@ -1,0 +1,58 @@
+//! The summary of a schedule over a network.
+ghost use Rattle.std.specs.Prelude.{◌≡◌, [], OnOk, IfOk};
+ghost use Rattle.do_make.specs.Summary.{summary_of, with_block};
+ghost use Rattle.do_net.specs.Net.{Stands, network};
+ghost use Rattle.do_network.specs.Wired.{net_blocks, net_line_step, wired_block};
+
+use crate::adding::{add_listed, add_outcome, add_wires};
+use crate::counts::Summary;
+use do_net::{Hosted, Net};
+use do_replay::{listed_at, step_line};
+use do_sched::{Line, Lines};
+use std::alloc::{AllocError, Global};
+
+/// Does what a line says, and adds what it came to.
+fn add_line<S: Hosted>(
+    alloc: Global,
+    net: &mut Net<S>,
+    line: Line,
+    sum: &mut Summary,
+) -> Result<(), AllocError>
+    requires stands { Stands S.seen (S.Acts.act net.old.acts) net.old }
+    requires sent { net.old.wires.items ≡ [] }
+    ensures sum { OnOk result (sum.new ≡ with_block sum.old (wired_block line
+        (net_line_step net.old.table (S.Acts.act net.old.acts) (network S.seen net.old) line))) }
+    ensures net { OnOk result (network S.seen net.new ≡ (net_line_step net.old.table
+        (S.Acts.act net.old.acts) (network S.seen net.old) line).net) }
+    ensures stands { OnOk result (Stands S.seen (S.Acts.act net.new.acts) net.new) }
+    ensures table { OnOk result (net.new.table ≡ net.old.table) }
+    ensures acts { OnOk result (net.new.acts ≡ net.old.acts) }
+    ensures sent { OnOk result (net.new.wires.items ≡ []) }
+{
+    let listed = listed_at(net, &line)?;
+    let outcome = step_line(alloc, net, line)?;
+    add_outcome(sum, &outcome)?;
+    add_listed(sum, &listed)?;
+    add_wires(sum, net)
+}
+
+/// Does what the lines say, one after another, and counts what they come to.
+///
+/// The network stands, and has nothing sent that was not fetched. The one error is that memory ran
+/// out, or that a number would pass 64 bits.
+pub fn summary<S: Hosted>(
+    alloc: Global,
+    net: &mut Net<S>,
+    lines: Lines,
+) -> Result<Summary, AllocError>
+    requires stands { Stands S.seen (S.Acts.act net.old.acts) net.old }
+    requires sent { net.old.wires.items ≡ [] }
+    ensures { IfOk result (λ sum. sum ≡ summary_of (net_blocks net.old.table
+        (S.Acts.act net.old.acts) (network S.seen net.old) lines)) }
+{
+    let mut sum = Summary::new();
+    for line in lines.into_vec() {
+        add_line(alloc, net, line, &mut sum)?;
+    }
+    Ok(sum)
+}
