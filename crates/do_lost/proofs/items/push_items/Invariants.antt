@@ -1,0 +1,10 @@
+-- What the items up to here name was added.
+use Rattle.std.proofs.Common.{◌≡◌, ◌++◌, take}
+use Rattle.std.specs.List.{flat_map}
+use Rattle.do_lost.specs.Named.{item_names}
+use Rattle.do_lost.proofs.items.push_items.Given as goal
+
+abbrev pub invariant-loop-item : goal.invariant-loop-item
+invariant-loop-item l =
+    l.objects ≡ l.fn.objects ++ flat_map (item_names l.way.from l.way.to l.way.serving)
+    (take l.item-index l.item-items)

@@ -1,0 +1,8 @@
+-- The serials up to here were added.
+use Rattle.std.proofs.Common.{◌≡◌, ◌++◌, map, take}
+use Rattle.do_machine.specs.Objects.{object_at}
+use Rattle.do_lost.proofs.items.push_serials.Given as goal
+
+abbrev pub invariant-loop-serial : goal.invariant-loop-serial
+invariant-loop-serial l =
+    l.objects ≡ l.fn.objects ++ map (object_at l.node) (take l.serial-index l.serial-items)

@@ -1,0 +1,10 @@
+-- What the queues up to here name was added.
+use Rattle.std.proofs.Common.{◌≡◌, ◌++◌, take}
+use Rattle.std.specs.List.{flat_map}
+use Rattle.do_lost.specs.Named.{queue_names}
+use Rattle.do_lost.proofs.state.push_queues.Given as goal
+
+abbrev pub invariant-loop-queue : goal.invariant-loop-queue
+invariant-loop-queue l =
+    l.objects ≡ l.fn.objects ++ flat_map (queue_names l.state l.station.port)
+    (take l.queue-index l.queue-items)

@@ -1,0 +1,46 @@
+-- How the stored objects that nothing can reach any more are written.
+use Rattle.std.specs.Prelude.{List, None, Option, Some, [], if◌then◌else◌, map, codes, slice_get, ℕ}
+use Rattle.std.specs.Prelude.{option_and_then, option_map, ◌++◌, ◌∷◌}
+use Rattle.do_class.specs.Class.{Class}
+use Rattle.do_class.specs.Table.{name_of, slots_of}
+use Rattle.do_class.specs.declared.ids.ClassId.{ClassId}
+use Rattle.do_leaks.specs.Leaks.{leaks}
+use Rattle.do_leaks.specs.declared.leak.Leak.{Leak}
+use Rattle.do_lines.specs.Lines.{joined}
+use Rattle.do_machine.specs.State.{class_of}
+use Rattle.do_machine.specs.check.Snapshot.{snapshot}
+use Rattle.do_machine.specs.declared.state.State.{State}
+use Rattle.do_sched.specs.Value.{object_name}
+use Rattle.do_lost.specs.Named.{named, quiet}
+
+-- a name behind a space; where there is none, nothing
+abbrev pub behind : Option (List ℕ) → List ℕ
+behind None = []
+behind (Some name) = 32 ∷ name
+
+-- the name of a class behind a space
+abbrev pub class_behind : List Class → Option ClassId → List ℕ
+class_behind table class = behind (option_and_then (name_of table) class)
+
+-- the name of a slot of a class behind a space
+abbrev pub slot_behind : List Class → Option ClassId → ℕ → List ℕ
+slot_behind table class slot = behind (option_and_then
+    (λ slots. option_map (λ s. s.name) (slice_get slots slot))
+    (option_and_then (slots_of table) class))
+
+-- an object that nothing can reach, with its class, and the first slot that names it
+abbrev pub leak_line : List Class → State → Leak → List ℕ
+leak_line table S l =
+    codes "leak " ++ object_name l.oid ++ class_behind table (class_of S l.oid)
+    ++ codes " by " ++ object_name l.holder ++ slot_behind table (class_of S l.holder) l.slot
+
+-- whether anything is under way
+abbrev pub quiet_line : State → List ℕ
+quiet_line S = if quiet S then codes "quiet 1" else codes "quiet 0"
+
+-- the stored objects of a state that nothing can reach
+abbrev pub lost_text : List Class → State → List ℕ
+lost_text table S =
+    joined (codes "leaks 1" ∷ quiet_line S ∷ [])
+    ++ joined (map (leak_line table S) (leaks (snapshot S) (named S)))
+    ++ joined (codes "end" ∷ [])

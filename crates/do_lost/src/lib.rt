@@ -1,0 +1,16 @@
+//! The stored objects of a state of the machine that nothing can reach any more, and how they are
+//! written.
+//!
+//! It stands on do_machine, whose states these are, on do_rules for what is asked of a state and on
+//! do_leaks for the search. It promises exactly the objects from which the search starts, those of
+//! roots, invocations, lends, asks and items under way, and the exact text. The form is this
+//! project's own.
+#![tactic(auto)]
+
+mod items;
+mod nodes;
+mod state;
+mod text;
+
+pub use state::{named, quiet};
+pub use text::lost_text;
