@@ -1,0 +1,9 @@
+-- The lines up to here were added.
+use Rattle.std.proofs.Common.{◌≡◌, ◌++◌, take}
+use Rattle.std.specs.List.{flat_map}
+use Rattle.do_sched.specs.Spelling.{fed, line_spelling}
+use Rattle.do_woven.proofs.text.push_lines.Given as goal
+
+abbrev pub invariant-loop-line : goal.invariant-loop-line
+invariant-loop-line l =
+    l.out ≡ l.fn.out ++ flat_map (λ x. fed (line_spelling x)) (take l.line-index l.line-items)
