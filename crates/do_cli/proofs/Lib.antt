@@ -1,0 +1,2 @@
+pub mod FittingOn
+pub mod Records

@@ -1,13 +1,16 @@
 -- The forms of the words of the command line.
 use Rattle.std.specs.Prelude.{ℕ, suc, nat_le, max, ◌==◌, ◌&&◌, ◌||◌, not, if◌then◌else◌, Bool}
-use Rattle.std.specs.Prelude.{List, [], ◌∷◌, length, codes, Option, Some, None, false}
+use Rattle.std.specs.Prelude.{List, [], ◌∷◌, ◌++◌, length, replicate, codes, Option, Some, None}
+use Rattle.std.specs.Prelude.{false, is_some}
 use Rattle.std.specs.Str.{bytes_eq}
+use Rattle.do_grammar.specs.Dec.{dec_in}
 use Rattle.do_cli.specs.declared.command.Command.{Command}
 use Rattle.do_cli.specs.declared.command.Command.TheVariants as command
 use Rattle.do_cli.specs.declared.form.Kind.{Kind}
-use Rattle.do_cli.specs.declared.form.Kind.TheVariants.{World, Schedule}
+use Rattle.do_cli.specs.declared.form.Kind.TheVariants.{World, Schedule, Record, Number, Count}
 use Rattle.do_cli.specs.declared.form.Form.{Form}
-use Rattle.do_cli.specs.declared.form.Form.TheVariants.{Replay, Upgrade, Help, Version}
+use Rattle.do_cli.specs.declared.form.Form.TheVariants.{Replay, Leaks, Weave, Upgrade, Make}
+use Rattle.do_cli.specs.declared.form.Form.TheVariants.{Help, Version}
 use Rattle.do_cli.specs.declared.form.TheConstants.{FORMS}
 
 -- a file's name: 1 to 4,096 bytes, of which the first is neither a dash nor a colon
@@ -19,34 +22,60 @@ names_file (b ∷ bytes) = nat_le (length (b ∷ bytes)) 4096 && not (b == 45) &
 abbrev pub names_builtin : List ℕ → Bool
 names_builtin word = bytes_eq word (codes ":counter") || bytes_eq word (codes ":mesh")
 
+-- the number that a word of a kind is, in decimal digits
+abbrev pub number_in : Kind → List ℕ → Option ℕ
+number_in Number word = dec_in 0 18446744073709551615 word
+number_in Count word = dec_in 1 100000 word
+number_in kind word = None
+
 -- a word is of a kind
 abbrev pub is_of : Kind → List ℕ → Bool
 is_of World word = names_builtin word || names_file word
 is_of Schedule word = names_file word
+is_of Record word = names_file word
+is_of Number word = is_some (number_in Number word)
+is_of Count word = is_some (number_in Count word)
 
 -- how the help writes a word of a kind
 abbrev pub placeholder : Kind → List ℕ
 placeholder World = codes "WORLD"
 placeholder Schedule = codes "SCHEDULE"
+placeholder Record = codes "RECORD"
+placeholder Number = codes "NUMBER"
+placeholder Count = codes "COUNT"
 
 -- the first word of a form
 abbrev pub name_of : Form → List ℕ
 name_of Replay = codes "replay"
+name_of Leaks = codes "leaks"
+name_of Weave = codes "weave"
 name_of Upgrade = codes "upgrade"
+name_of Make = codes "make"
 name_of Help = codes "--help"
 name_of Version = codes "--version"
 
--- what each of its words behind the first is
+-- what each of its words behind the first is that must be there
 abbrev pub kinds_of : Form → List Kind
 kinds_of Replay = World ∷ Schedule ∷ []
+kinds_of Leaks = World ∷ Schedule ∷ []
+kinds_of Weave = World ∷ Record ∷ []
 kinds_of Upgrade = Schedule ∷ []
+kinds_of Make = Number ∷ Count ∷ []
 kinds_of Help = []
 kinds_of Version = []
+
+-- what each of the words is that may stand behind those
+abbrev pub more_of : Form → List Kind
+more_of Weave = replicate 63 Record
+more_of form = []
 
 -- what its command does, as the help tells it
 abbrev pub deed_of : Form → List ℕ
 deed_of Replay = codes "replays a schedule over a world, and writes its transcript"
+deed_of Leaks = codes "replays a schedule, and writes what nothing can reach then"
+deed_of Weave = codes "writes one schedule that gives these records of nodes again"
 deed_of Upgrade = codes "writes a schedule of version 1 anew in version 2"
+deed_of Make = codes "replays a schedule that a number generates, and writes a summary"
 deed_of Help = codes "writes this text"
 deed_of Version = codes "writes the program's name and version"
 
@@ -59,25 +88,39 @@ fitting kinds words = 0
 abbrev pub going : Form → List (List ℕ) → ℕ
 going form [] = 0
 going form (word ∷ words) =
-    if bytes_eq word (name_of form) then suc (fitting (kinds_of form) words) else 0
+    if bytes_eq word (name_of form) then suc (fitting (kinds_of form ++ more_of form) words) else 0
 
 -- with how many of the first words the form goes on that goes on with most
 abbrev pub furthest : List Form → List (List ℕ) → ℕ
 furthest [] words = 0
 furthest (form ∷ forms) words = max (going form words) (furthest forms words)
 
--- the words are as many as the form has, and it goes on with all of them
+-- the words are at least as many as the form has, and it goes on with all of them
 abbrev pub follows : Form → List (List ℕ) → Bool
 follows form words =
-    length words == suc (length (kinds_of form)) && going form words == length words
+    nat_le (suc (length (kinds_of form))) (length words) && going form words == length words
+
+-- the command of `make` with these two numbers
+abbrev pub made : Option ℕ → Option ℕ → Option Command
+made (Some number) (Some count) = Some (command.Make number count)
+made number count = None
 
 -- the command of a form whose words these are
 abbrev pub command_by : Form → List (List ℕ) → Option Command
 command_by Replay (name ∷ world ∷ schedule ∷ []) = Some (command.Replay world schedule)
+command_by Leaks (name ∷ world ∷ schedule ∷ []) = Some (command.Leaks world schedule)
+command_by Weave (name ∷ world ∷ files) = Some (command.Weave world files)
 command_by Upgrade (name ∷ schedule ∷ []) = Some (command.Upgrade schedule)
+command_by Make (name ∷ number ∷ count ∷ []) =
+    made (number_in Number number) (number_in Count count)
 command_by Help (name ∷ []) = Some command.Help
 command_by Version (name ∷ []) = Some command.Version
 command_by form words = None
+
+-- how many records a command names
+abbrev pub records_in : Command → ℕ
+records_in (command.Weave world files) = length files
+records_in asked = 0
 
 -- the command of the first form that words follow
 abbrev pub command_among : List Form → List (List ℕ) → Option Command

@@ -1,11 +1,16 @@
 //! The forms: a later one joins as a variant, with an arm in each table.
 ghost use Rattle.std.specs.Prelude.{◌≡◌};
-ghost use Rattle.do_cli.specs.Forms.{deed_of, is_of, kinds_of, name_of, names_file, placeholder};
+ghost use Rattle.do_cli.specs.Forms.{deed_of, is_of, kinds_of, name_of, more_of};
+ghost use Rattle.do_cli.specs.Forms.{names_file, number_in, placeholder};
 
 use do_base::Text;
+use do_grammar::dec_of;
 
 /// The most bytes of a file's name.
 const MAX_NAME: usize = 4096;
+
+/// The most lines that are generated.
+const MAX_COUNT: u64 = 100_000;
 
 /// What a word behind the name of a form is.
 #[derive(Clone, Copy, Debug)]
@@ -14,25 +19,54 @@ pub(crate) enum Kind {
     World,
     /// The name of a file with a schedule.
     Schedule,
+    /// The name of a file with a record.
+    Record,
+    /// A number of 64 bits.
+    Number,
+    /// How many lines are generated, 1 to 100,000.
+    Count,
 }
 
 /// A form of words, by the command that it asks for.
 #[derive(Clone, Copy, Debug)]
 pub(crate) enum Form {
     Replay,
+    Leaks,
+    Weave,
     Upgrade,
+    Make,
     Help,
     Version,
 }
 
 /// The forms, in the order in which the help shows them.
-pub(crate) const FORMS: [Form; 4] = [Form::Replay, Form::Upgrade, Form::Help, Form::Version];
+pub(crate) const FORMS: [Form; 7] = [
+    Form::Replay,
+    Form::Leaks,
+    Form::Weave,
+    Form::Upgrade,
+    Form::Make,
+    Form::Help,
+    Form::Version,
+];
 
 /// The words of `replay` behind its name.
 const REPLAY: [Kind; 2] = [Kind::World, Kind::Schedule];
 
+/// The words of `leaks` behind its name.
+const LEAKS: [Kind; 2] = [Kind::World, Kind::Schedule];
+
+/// The words of `weave` behind its name that must be there.
+const WEAVE: [Kind; 2] = [Kind::World, Kind::Record];
+
+/// The words of `weave` that may stand behind those.
+const MORE_RECORDS: [Kind; 63] = [Kind::Record; 63];
+
 /// The words of `upgrade` behind its name.
 const UPGRADE: [Kind; 1] = [Kind::Schedule];
+
+/// The words of `make` behind its name.
+const MAKE: [Kind; 2] = [Kind::Number, Kind::Count];
 
 impl Form {
     /// The first word.
@@ -41,21 +75,37 @@ impl Form {
     {
         match self {
             Form::Replay => b"replay",
+            Form::Leaks => b"leaks",
+            Form::Weave => b"weave",
             Form::Upgrade => b"upgrade",
+            Form::Make => b"make",
             Form::Help => b"--help",
             Form::Version => b"--version",
         }
     }
 
-    /// What each of the words behind the first is.
+    /// What each of the words behind the first is that must be there.
     pub(crate) fn kinds(self) -> &'static [Kind]
         ensures { result.now ≡ kinds_of self }
     {
         match self {
             Form::Replay => &REPLAY,
+            Form::Leaks => &LEAKS,
+            Form::Weave => &WEAVE,
             Form::Upgrade => &UPGRADE,
+            Form::Make => &MAKE,
             Form::Help => &[],
             Form::Version => &[],
+        }
+    }
+
+    /// What each of the words is that may stand behind those.
+    pub(crate) fn more(self) -> &'static [Kind]
+        ensures { result.now ≡ more_of self }
+    {
+        match self {
+            Form::Weave => &MORE_RECORDS,
+            _ => &[],
         }
     }
 
@@ -65,7 +115,10 @@ impl Form {
     {
         match self {
             Form::Replay => b"replays a schedule over a world, and writes its transcript",
+            Form::Leaks => b"replays a schedule, and writes what nothing can reach then",
+            Form::Weave => b"writes one schedule that gives these records of nodes again",
             Form::Upgrade => b"writes a schedule of version 1 anew in version 2",
+            Form::Make => b"replays a schedule that a number generates, and writes a summary",
             Form::Help => b"writes this text",
             Form::Version => b"writes the program's name and version",
         }
@@ -90,6 +143,20 @@ impl Kind {
         match self {
             Kind::World => word.is(b":counter") || word.is(b":mesh") || is_file_name(word),
             Kind::Schedule => is_file_name(word),
+            Kind::Record => is_file_name(word),
+            Kind::Number | Kind::Count => self.number(word).is_some(),
+        }
+    }
+
+    /// The number that a word of this kind is, in decimal digits. None exactly where it is no
+    /// number of this kind.
+    pub(crate) fn number(self, word: &Text) -> Option<u64>
+        ensures { result ≡ number_in self word.now }
+    {
+        match self {
+            Kind::Number => dec_of(word.as_slice(), 0, u64::MAX),
+            Kind::Count => dec_of(word.as_slice(), 1, MAX_COUNT),
+            _ => None,
         }
     }
 
@@ -100,6 +167,9 @@ impl Kind {
         match self {
             Kind::World => b"WORLD",
             Kind::Schedule => b"SCHEDULE",
+            Kind::Record => b"RECORD",
+            Kind::Number => b"NUMBER",
+            Kind::Count => b"COUNT",
         }
     }
 }

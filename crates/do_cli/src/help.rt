@@ -1,5 +1,6 @@
 ghost use Rattle.std.specs.Prelude.{◌≡◌, ◌++◌, OnOk, OnErr};
-ghost use Rattle.do_cli.specs.Help.{form_text, forms_text, help_text, version_text, words_text};
+ghost use Rattle.do_cli.specs.Help.{form_text, forms_text, form_words, help_text, version_text};
+ghost use Rattle.do_cli.specs.Help.{words_text};
 
 use crate::form::{FORMS, Form, Kind};
 use do_base::Text;
@@ -10,7 +11,8 @@ const HEAD: &[u8] = b"Distributed Objects, proved. The forms of the words are:\n
 
 /// What stands behind the forms.
 const FOOT: &[u8] =
-    b"\nWORLD is :counter, :mesh or the name of a file; SCHEDULE is the name of a file.\n";
+    b"\nWORLD is :counter, :mesh or the name of a file; SCHEDULE and RECORD are names of files.\n\
+      Up to 64 records may stand there. NUMBER is below 2^64, COUNT is 1 to 100000.\n";
 
 /// The program's name and version.
 const VERSION: &[u8] = b"nukwashe 1\n";
@@ -26,13 +28,24 @@ fn push_words(out: &mut Text, kinds: &[Kind]) -> Result<(), AllocError>
     Ok(())
 }
 
+/// Adds the words of a form behind its name, and two dots where more may follow.
+fn push_form_words(out: &mut Text, form: Form) -> Result<(), AllocError>
+    ensures { OnOk result (out.new ≡ out.old ++ form_words form) }
+{
+    push_words(out, form.kinds())?;
+    if form.more().is_empty() {
+        return Ok(());
+    }
+    out.push_bytes(b"..")
+}
+
 /// Adds the two lines of a form: its words, and what it does.
 fn push_form(out: &mut Text, form: Form) -> Result<(), AllocError>
     ensures { OnOk result (out.new ≡ out.old ++ form_text form) }
 {
     out.push_bytes(b"  ")?;
     out.push_bytes(form.name())?;
-    push_words(out, form.kinds())?;
+    push_form_words(out, form)?;
     out.push_bytes(b"\n      ")?;
     out.push_bytes(form.deed())?;
     out.push(b'\n')

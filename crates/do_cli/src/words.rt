@@ -1,13 +1,15 @@
-ghost use Rattle.std.specs.Prelude.{◌≡◌, ◌≤◌, ◌↔◌, ℕ, IfOk, IsErrOf, IsSome, None, OnErr, Some};
-ghost use Rattle.std.specs.Prelude.{length};
+ghost use Rattle.std.specs.Prelude.{◌≡◌, ◌≤◌, ◌++◌, ◌↔◌, ℕ, IfOk, IsErrOf, IsSome, None, OnErr};
+ghost use Rattle.std.specs.Prelude.{Some, length};
 ghost use Rattle.do_cli.specs.Forms.{fitting, going, furthest, follows, command_by, command_among};
-ghost use Rattle.do_cli.specs.Forms.{command_in, stuck_at};
+ghost use Rattle.do_cli.specs.Forms.{command_in, kinds_of, made, more_of, number_in, records_in};
+ghost use Rattle.do_cli.specs.Forms.{stuck_at};
+ghost use Rattle.do_cli.specs.declared.form.Kind.TheVariants.{Count, Number};
 
-use crate::command::Command;
+use crate::command::{Command, Words};
 use crate::fault::WordFault;
 use crate::form::{FORMS, Form, Kind};
 use do_base::Word;
-use std::alloc::AllocError;
+use std::alloc::{AllocError, Global};
 
 /// How many of the first words are of these kinds, one by one.
 fn fitting(kinds: &[Kind], words: &[Word]) -> usize
@@ -27,13 +29,25 @@ fn fitting(kinds: &[Kind], words: &[Word]) -> usize
     1 + fitting(kinds, words)
 }
 
+/// How many of the words behind the first are what the form has there, one by one.
+fn fitting_of(form: Form, words: &[Word]) -> usize
+    ensures value { result ≡ fitting (kinds_of form ++ more_of form) words.now }
+    ensures within { result ≤ length words.now }
+{
+    let needed = fitting(form.kinds(), words);
+    if needed < form.kinds().len() {
+        return needed;
+    }
+    needed + fitting(form.more(), &words[needed..])
+}
+
 /// With how many of the first words a form goes on.
 fn going(form: Form, words: &[Word]) -> usize
     ensures value { result ≡ going form words.now }
     ensures words { result ≤ length words.now }
 {
     match words {
-        [name, words @ ..] if name.is(form.name()) => 1 + fitting(form.kinds(), words),
+        [name, words @ ..] if name.is(form.name()) => 1 + fitting_of(form, words),
         _ => 0,
     }
 }
@@ -42,7 +56,25 @@ fn going(form: Form, words: &[Word]) -> usize
 fn follow(words: &[Word], form: Form) -> bool
     ensures { result ≡ follows form words.now }
 {
-    words.len() == 1 + form.kinds().len() && going(form, words) == words.len()
+    words.len() > form.kinds().len() && going(form, words) == words.len()
+}
+
+/// A list of the same words.
+fn words_of(alloc: Global, words: &[Word]) -> Result<Words, AllocError>
+    ensures { IfOk result (λ list. list ≡ words.now) }
+{
+    let mut list = Words::new(alloc);
+    list.extend_from_slice(words)?;
+    Ok(list)
+}
+
+/// The command that two words of `make` ask for.
+fn made(number: &Word, count: &Word) -> Option<Command>
+    ensures { result ≡ made (number_in Number number.now) (number_in Count count.now) }
+{
+    let number = Kind::Number.number(number)?;
+    let count = Kind::Count.number(count)?;
+    Some(Command::Make { number, count })
 }
 
 /// The command of a form whose words these are.
@@ -55,9 +87,18 @@ fn command_by(form: Form, words: &[Word]) -> Result<Option<Command>, AllocError>
             world: world.clone()?,
             schedule: schedule.clone()?,
         }),
+        (Form::Leaks, [_, world, schedule]) => Some(Command::Leaks {
+            world: world.clone()?,
+            schedule: schedule.clone()?,
+        }),
+        (Form::Weave, [_, world, files @ ..]) => Some(Command::Weave {
+            world: world.clone()?,
+            files: words_of(world.allocator(), files)?,
+        }),
         (Form::Upgrade, [_, schedule]) => Some(Command::Upgrade {
             schedule: schedule.clone()?,
         }),
+        (Form::Make, [_, number, count]) => made(number, count),
         (Form::Help, [_]) => Some(Command::Help),
         (Form::Version, [_]) => Some(Command::Version),
         _ => None,
@@ -91,14 +132,17 @@ fn furthest(forms: &[Form], words: &[Word]) -> usize
 
 /// The command that the words of the command line ask for, the program's own name left out.
 ///
-/// The forms are `replay WORLD SCHEDULE`, `upgrade SCHEDULE`, `--help` and `--version`. WORLD is
-/// `:counter`, `:mesh` or a file's name, SCHEDULE a file's name: 1 to 4,096 bytes, of which the
-/// first is neither `-` nor `:`. Words of no form are `Usage`, with the first word, from 1, at which
-/// no form goes on; where words are missing, with their count and one. `Memory` comes only where
-/// the words are of a form.
+/// The forms are `replay WORLD SCHEDULE`, `leaks WORLD SCHEDULE`, `weave WORLD RECORD..`, `upgrade
+/// SCHEDULE`, `make NUMBER COUNT`, `--help` and `--version`. WORLD is `:counter`, `:mesh` or the
+/// name of a file, SCHEDULE and each of the 1 to 64 RECORDs a file's name: 1 to 4,096 bytes, of
+/// which the first is neither `-` nor `:`. NUMBER is below 2^64 and COUNT 1 to 100,000, both in
+/// decimal digits with no zero in front. Words of no form are `Usage`, with the first word, from 1,
+/// at which no form goes on; where words are missing, with their count and one. `Memory` comes only
+/// where the words are of a form.
 #[tactic(auto, unfolding(crate::specs::Forms::command_in, crate::specs::Forms::stuck_at))]
 pub fn read_words(words: &[Word]) -> Result<Command, WordFault>
     ensures command { IfOk result (λ command. command_in words.now ≡ Some command) }
+    ensures records { IfOk result (λ command. records_in command ≤ 64) }
     ensures usage { (word : ℕ) → IsErrOf result (WordFault.Usage word)
         ↔ ((command_in words.now ≡ None) × (word ≡ stuck_at words.now)) }
 {

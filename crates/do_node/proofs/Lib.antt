@@ -1,10 +1,8 @@
-pub mod FilesTold
-pub mod RunsStepByStep
-pub mod SentIsPrefix
-pub mod BlocksToCome
-pub mod OpenedWorld
-pub mod GivenWorld
+pub mod OpenedNetwork
 pub mod Obeying
-pub mod Replayed
+pub mod RecordsTold
+pub mod WovenTold
 pub mod WordsRead
 pub mod Upgraded
+pub mod LeaksLast
+pub mod RefusalsTold

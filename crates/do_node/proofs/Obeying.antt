@@ -1,21 +1,28 @@
 -- What obeying a command comes to.
 use Rattle.std.proofs.Common.{◌≡◌, ◌⊎◌, ℕ, List, Option, Some, None, Result, Ok, Err, inl, inr}
-use Rattle.std.proofs.Common.{ap, subst, refl}
-use Rattle.std.specs.Prelude.{OnOk, IfErr, IsErrOf, IsOk}
+use Rattle.std.proofs.Common.{[], ◌∷◌, ◌++◌, ap, subst, refl}
+use Rattle.std.specs.Prelude.{OnOk, IfErr, IsErrOf, IsOk, codes}
 use Rattle.std.specs.Option.{IsSomeAnd}
 use Rattle.do_base.specs.outside.Bytes.{with_more, HasWritten}
 use Rattle.do_base.specs.outside.Causes.{Rose}
 use Rattle.do_base.specs.outside.Files.{file_named}
 use Rattle.do_base.specs.declared.outside.shelf.NamedFile.{NamedFile}
 use Rattle.do_cli.specs.declared.command.Command.{Command}
-use Rattle.do_cli.specs.declared.command.Command.TheVariants.{Replay, Upgrade, Help, Version}
+use Rattle.do_cli.specs.declared.command.Command.TheVariants.{Replay, Leaks, Weave, Upgrade}
+use Rattle.do_cli.specs.declared.command.Command.TheVariants.{Make, Help, Version}
+use Rattle.do_machine.specs.declared.state.Seat.{Seat}
+use Rattle.do_record.specs.declared.parts.Record.{Record}
 use Rattle.do_world.specs.Builtin.{builtin_world}
 use Rattle.do_world.specs.declared.world.World.{World}
-use Rattle.do_node.specs.declared.status.Status.{Status}
-use Rattle.do_node.specs.declared.status.Status.TheVariants as answer
+use Rattle.do_given.specs.declared.status.Status.{Status}
+use Rattle.do_given.specs.declared.status.Status.TheVariants as answer
 use Rattle.do_node.specs.Call.{Counts, HasUnread, Obeys, Refuses, Writes}
-use Rattle.do_node.specs.Files.{IsFile, IsUnread}
-use Rattle.do_node.specs.Reading.{GivesWorld, OrUnread, Stops}
+use Rattle.do_given.specs.Files.{IsFile, IsUnread}
+use Rattle.do_given.proofs.Stopping.{stops_as}
+use Rattle.do_given.specs.Reading.{GivesScheduled, GivesWorld, HasUnreadScheduled, OrUnread}
+use Rattle.do_given.specs.Reading.{Stops}
+use Rattle.do_given.specs.declared.scheduled.Scheduled.{Scheduled}
+use Rattle.do_node.specs.Records.{AnyUnread, SayRecords}
 
 -- a file that is told was read, unless the count of faults rose
 told_is_read : (told : Option (List NamedFile)) (files : List NamedFile) (before now : ℕ)
@@ -36,16 +43,48 @@ world_is_read told files before now word world is (inl named) calm none unread =
 world_is_read told files before now word world is (inr said) calm none unread =
     told_is_read told files before now word _ _ is said.1.file calm unread
 
+-- so were both, where a world and a schedule are told
+scheduled_is_read : (told : Option (List NamedFile)) (files : List NamedFile) (before now : ℕ)
+    (word name : List ℕ) (given : Scheduled) → told ≡ Some files
+    → GivesScheduled (Some files) word name given → ¬ Rose before now
+    → HasUnreadScheduled told before now word name → ⊥
+scheduled_is_read told files before now word name given is gives calm (inl unread) =
+    world_is_read told files before now word given.world is gives.gives calm unread.0 unread.1
+scheduled_is_read told files before now word name given is gives calm (inr unread) =
+    told_is_read told files before now name _ _ is gives.says.file calm unread
+
+-- so were the files of records that are told
+records_are_read : (told : Option (List NamedFile)) (files : List NamedFile) (before now : ℕ)
+    (seats : List Seat) (earlier : List Record) (names : List (List ℕ)) (records : List Record)
+    → told ≡ Some files → SayRecords (Some files) seats earlier names records
+    → ¬ Rose before now → AnyUnread told before now names → ⊥
+records_are_read told files before now seats earlier [] records is say calm unread = unread
+records_are_read told files before now seats earlier (name ∷ names) records is say calm
+    (inl unread) = told_is_read told files before now name _ _ is say.1.file calm unread
+records_are_read told files before now seats earlier (name ∷ names) records is say calm
+    (inr unread) =
+    records_are_read told files before now seats (earlier ++ say.0 ∷ []) names records is say.2
+    calm unread
+
 -- where all files of a command are told, none was unread, unless the count of faults rose
 all_are_read : (told : Option (List NamedFile)) (files : List NamedFile) (before now : ℕ)
     (command : Command) (text : List ℕ) → told ≡ Some files → Writes (Some files) command text
     → ¬ Rose before now → HasUnread told before now command → ⊥
-all_are_read told files before now (Replay world schedule) text is writes calm (inr unread) =
-    told_is_read told files before now schedule _ _ is writes.says.file calm unread
-all_are_read told files before now (Replay world schedule) text is writes calm (inl unread) =
-    world_is_read told files before now world writes.world is writes.gives calm unread.0 unread.1
+all_are_read told files before now (Replay world schedule) text is writes calm unread =
+    scheduled_is_read told files before now world schedule writes.given is writes.gives calm unread
+all_are_read told files before now (Leaks world schedule) text is writes calm unread =
+    scheduled_is_read told files before now world schedule writes.given is writes.gives calm unread
+all_are_read told files before now (Weave world names) text is writes calm (inr unread) =
+    records_are_read told files before now writes.world.nodes [] names writes.records is
+    writes.given.say calm unread
+all_are_read told files before now (Weave world names) text is writes calm (inl unread) =
+    world_is_read told files before now world writes.world is writes.given.gives calm unread.0
+    unread.1
 all_are_read told files before now (Upgrade schedule) text is writes calm unread =
     told_is_read told files before now schedule _ _ is writes.file calm unread
+all_are_read told files before now (Make number count) text is writes calm unread =
+    world_is_read told files before now (codes ":mesh") writes.world is writes.gives calm unread.0
+    unread.1
 all_are_read told files before now Help text is writes calm unread = unread
 all_are_read told files before now Version text is writes calm unread = unread
 
@@ -97,36 +136,16 @@ obeys_writing told command reads puts old new text (Err (answer.BadWorld fault))
     prefix stopped = absurd stopped
 obeys_writing told command reads puts old new text (Err (answer.BadSchedule line)) writes good
     whole prefix stopped = absurd stopped
-
--- a status that is answered where another must be
-pub must_be : {A : Type 0} (wanted status : Status) → OrUnread {A = A} (Err wanted) (Err status)
-    → OrUnread {A = Unit} (Err wanted) (Err status)
-must_be wanted status (inl e) = inl (cc)
-must_be wanted status (inr (inl e)) = inr (inl (cc))
-must_be wanted status (inr (inr e)) = inr (inr (cc))
-
--- what is answered where a text must be
-pub must_give : {A : Type 0} (x : A) (status : Status) → OrUnread (Ok x) (Err status)
-    → (status ≡ answer.ReadFault) ⊎ (status ≡ answer.Memory)
-must_give x status (inl e) = absurd (cc)
-must_give x status (inr (inl e)) = inl (cc)
-must_give x status (inr (inr e)) = inr (cc)
-
--- what stops a part stops the whole
-pub stops_as : {u v f g : Type 0} {r s : Status → Type 0} → (u → v) → (f → g)
-    → ((status : Status) → r status → s status) → (status : Status)
-    → Stops u f r status → Stops v g s status
-stops_as unread failed refuses answer.Ok stopped = refuses answer.Ok stopped
-stops_as unread failed refuses (answer.Usage word) stopped = refuses (answer.Usage word) stopped
-stops_as unread failed refuses answer.ReadFault stopped = unread stopped
-stops_as unread failed refuses (answer.TooLong read limit) stopped =
-    refuses (answer.TooLong read limit) stopped
-stops_as unread failed refuses (answer.BadWorld fault) stopped =
-    refuses (answer.BadWorld fault) stopped
-stops_as unread failed refuses (answer.BadSchedule line) stopped =
-    refuses (answer.BadSchedule line) stopped
-stops_as unread failed refuses answer.WriteFault stopped = failed stopped
-stops_as unread failed refuses answer.Memory stopped = tt
+obeys_writing told command reads puts old new text (Err (answer.TurnsSpent turns)) writes good
+    whole prefix stopped = absurd stopped
+obeys_writing told command reads puts old new text (Err (answer.ChildFailed index end)) writes good
+    whole prefix stopped = absurd stopped
+obeys_writing told command reads puts old new text (Err answer.LinkFault) writes good whole prefix
+    stopped = absurd stopped
+obeys_writing told command reads puts old new text (Err (answer.BadRecord index line)) writes good
+    whole prefix stopped = absurd stopped
+obeys_writing told command reads puts old new text (Err (answer.Contradiction index line)) writes
+    good whole prefix stopped = absurd stopped
 
 -- a command stops before anything is written
 pub obeys_stopping : (told : Option (List NamedFile)) (command : Command) (reads puts : Counts)

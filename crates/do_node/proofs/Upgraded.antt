@@ -11,8 +11,10 @@ use Rattle.do_machine.proofs.first.Lines.{same_blocks}
 use Rattle.do_native.specs.Acts.{native_act}
 use Rattle.do_world.specs.declared.world.World.{World}
 use Rattle.do_lines.specs.Transcript.{transcript}
-use Rattle.do_node.specs.Reading.{IsUpgrade, IsUpgraded}
-use Rattle.do_node.specs.Replaying.{behaviour_of, transcript_from, world_transcript}
+use Rattle.do_transcript.specs.Transcript.{transcript_from}
+use Rattle.do_given.specs.Reading.{IsUpgrade, IsUpgraded}
+use Rattle.do_given.specs.Parts.{behaviour_of}
+use Rattle.do_node.specs.Replaying.{world_transcript}
 use Rattle.do_node.specs.Upgrading.{IsReplayedAlike, ReplaysAlike, first_transcript}
 
 -- over the lines of the first version a world has the transcript that the rules of it give

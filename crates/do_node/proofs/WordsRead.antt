@@ -1,11 +1,11 @@
 -- What is answered to words that ask for no command.
-use Rattle.std.proofs.Common.{◌≡◌, ◌↔◌, ℕ, List, Option, Some, None, Err, refl, ap}
+use Rattle.std.proofs.Common.{◌≡◌, ◌↔◌, ℕ, List, Some, None, Err, refl}
 use Rattle.std.specs.Prelude.{IsErrOf}
 use Rattle.do_cli.specs.Forms.{command_in, stuck_at}
 use Rattle.do_cli.specs.declared.command.Command.{Command}
 use Rattle.do_cli.specs.declared.fault.WordFault.{WordFault}
 use Rattle.do_cli.specs.declared.fault.WordFault.TheVariants as words
-use Rattle.do_node.specs.declared.status.Status.TheVariants as answer
+use Rattle.do_given.specs.declared.status.Status.TheVariants as answer
 
 -- the words ask for no command, and this one is the first at fault
 abbrev IsStuck : List (List ℕ) → ℕ → Type 0
@@ -42,3 +42,12 @@ pub no_command : (ws : List (List ℕ)) (n : ℕ) (command : Command) → Reads 
 no_command ws n command reads asks =
     let none : command_in ws ≡ None = ((reads n).0 refl).0 in
     cc
+
+-- words that ask for a command are not stuck, whatever is told
+pub asked_no_word : (ws : List (List ℕ)) (command : Command) (word : ℕ) (told : Type 0)
+    → command_in ws ≡ Some command → (told → ⊥) → told ↔ IsStuck ws word
+asked_no_word ws command word told asks never =
+    (λ is. absurd (never is), λ stuck. absurd (none stuck.0))
+  where
+    none : command_in ws ≡ None → ⊥
+    none is = cc

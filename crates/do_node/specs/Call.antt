@@ -1,59 +1,79 @@
 -- What a command writes, and why it is refused.
 use Rattle.std.specs.Prelude.{◌≡◌, ℕ, ◌⊎◌, List, Option, Some, None, Result, OnOk, IfErr, IsOk}
-use Rattle.std.specs.Prelude.{IsErrOf}
+use Rattle.std.specs.Prelude.{IsErrOf, codes}
 use Rattle.do_base.specs.outside.Bytes.{with_more, HasWritten}
 use Rattle.do_base.specs.outside.Causes.{Rose}
 use Rattle.do_base.specs.declared.outside.shelf.NamedFile.{NamedFile}
 use Rattle.do_cli.specs.Help.{help_text, version_text}
 use Rattle.do_cli.specs.declared.command.Command.{Command}
-use Rattle.do_cli.specs.declared.command.Command.TheVariants.{Replay, Upgrade, Help, Version}
+use Rattle.do_cli.specs.declared.command.Command.TheVariants.{Replay, Leaks, Weave, Upgrade}
+use Rattle.do_cli.specs.declared.command.Command.TheVariants.{Make, Help, Version}
+use Rattle.do_generate.specs.Generated.{generated}
 use Rattle.do_sched.specs.declared.line.Line.{Line}
-use Rattle.do_sched.specs.declared.version.Version.TheVariants.{First, Second}
+use Rattle.do_sched.specs.declared.version.Version.TheVariants.{First}
 use Rattle.do_world.specs.Builtin.{builtin_world}
 use Rattle.do_world.specs.declared.world.World.{World}
-use Rattle.do_node.specs.declared.status.Status.{Status}
-use Rattle.do_node.specs.declared.status.Status.TheVariants as answer
-use Rattle.do_node.specs.Files.{IsUnread}
-use Rattle.do_node.specs.Reading.{GivesWorld, IsUpgrade, RefusesWorld, SaysLines, SaysNoLines}
-use Rattle.do_node.specs.Reading.{Stops}
-use Rattle.do_node.specs.Replaying.{world_transcript}
+use Rattle.do_given.specs.declared.scheduled.Scheduled.{Scheduled}
+use Rattle.do_given.specs.declared.status.Status.{Status}
+use Rattle.do_given.specs.declared.status.Status.TheVariants as answer
+use Rattle.do_given.specs.Files.{IsUnread}
+use Rattle.do_given.specs.Reading.{GivesScheduled, GivesWorld, HasUnreadScheduled, IsUpgrade}
+use Rattle.do_given.specs.Reading.{RefusesScheduled, RefusesWorld, SaysNoLines, Stops}
+use Rattle.do_node.specs.Replaying.{world_lost, world_summary, world_wired}
+use Rattle.do_node.specs.Weaving.{HasUnreadPart, IsWoven, RefusesWeaving}
 
--- the text is the transcript of a schedule over a world
-pub record IsReplay (told : Option (List NamedFile)) (word name text : List ℕ) : Type 0 where
-  pub world : World
-  pub gives : GivesWorld told word world
-  pub lines : List Line
-  pub says : SaysLines Second told name lines
-  pub is : text ≡ world_transcript world lines
+-- the text is what a schedule comes to over a world
+pub record IsOver (text_of : World → List Line → List ℕ) (told : Option (List NamedFile))
+    (word name text : List ℕ) : Type 0 where
+  pub given : Scheduled
+  pub gives : GivesScheduled told word name given
+  pub is : text ≡ text_of given.world given.lines
+
+-- the text is the transcript of a schedule over the network of a world, with what was sent
+abbrev pub IsReplay : Option (List NamedFile) → List ℕ → List ℕ → List ℕ → Type 0
+IsReplay = IsOver world_wired
+
+-- the text is what nothing can reach after a schedule over a world
+abbrev pub IsLost : Option (List NamedFile) → List ℕ → List ℕ → List ℕ → Type 0
+IsLost = IsOver world_lost
+
+-- the text is the summary of a schedule that a number generates, over the world of a name
+pub record IsMade (told : Option (List NamedFile)) (number count : ℕ) (text : List ℕ) : Type 0
+  where
+    pub world : World
+    pub gives : GivesWorld told (codes ":mesh") world
+    pub is : text ≡ world_summary world (generated count number)
 
 -- what a command writes, where the shelf tells such files
 abbrev pub Writes : Option (List NamedFile) → Command → List ℕ → Type 0
 Writes told (Replay world schedule) text = IsReplay told world schedule text
+Writes told (Leaks world schedule) text = IsLost told world schedule text
+Writes told (Weave world files) text = IsWoven told world files text
 Writes told (Upgrade schedule) text = IsUpgrade told schedule text
+Writes told (Make number count) text = IsMade told number count text
 Writes told Help text = text ≡ help_text
 Writes told Version text = text ≡ version_text
-
--- a world is given, and no schedule
-pub record RefusesSecond (told : Option (List NamedFile)) (word name : List ℕ)
-    (status : Status) : Type 0 where
-  pub world : World
-  pub gives : GivesWorld told word world
-  pub refuses : SaysNoLines Second told name status
 
 -- why a command is refused, where the shelf tells such files: the first of its words that gives
 -- nothing
 abbrev pub Refuses : Option (List NamedFile) → Command → Status → Type 0
-Refuses told (Replay world schedule) status =
-    RefusesWorld told world status ⊎ RefusesSecond told world schedule status
+Refuses told (Replay world schedule) status = RefusesScheduled told world schedule status
+Refuses told (Leaks world schedule) status = RefusesScheduled told world schedule status
+Refuses told (Weave world files) status = RefusesWeaving told world files status
 Refuses told (Upgrade schedule) status = SaysNoLines First told schedule status
+Refuses told (Make number count) status = RefusesWorld told (codes ":mesh") status
 Refuses told command status = ⊥
 
 -- a file that a command reads could not be read
 abbrev pub HasUnread : Option (List NamedFile) → ℕ → ℕ → Command → Type 0
 HasUnread told before now (Replay world schedule) =
-    ((builtin_world world ≡ None) × IsUnread told before now world)
-    ⊎ IsUnread told before now schedule
+    HasUnreadScheduled told before now world schedule
+HasUnread told before now (Leaks world schedule) =
+    HasUnreadScheduled told before now world schedule
+HasUnread told before now (Weave world files) = HasUnreadPart told before now world files
 HasUnread told before now (Upgrade schedule) = IsUnread told before now schedule
+HasUnread told before now (Make number count) =
+    (builtin_world (codes ":mesh") ≡ None) × IsUnread told before now (codes ":mesh")
 HasUnread told before now command = ⊥
 
 -- all files of a command were read and say what they are to say
@@ -80,6 +100,8 @@ abbrev pub IsRefusal : Status → Type 0
 IsRefusal (answer.TooLong read limit) = Unit {0}
 IsRefusal (answer.BadWorld fault) = Unit {0}
 IsRefusal (answer.BadSchedule line) = Unit {0}
+IsRefusal (answer.BadRecord index line) = Unit {0}
+IsRefusal (answer.Contradiction index line) = Unit {0}
 IsRefusal status = ⊥
 
 -- the answers before which nothing is written

@@ -1,6 +1,5 @@
-pub mod Status
-pub mod Files
-pub mod Reading
 pub mod Replaying
 pub mod Upgrading
+pub mod Records
+pub mod Weaving
 pub mod Call

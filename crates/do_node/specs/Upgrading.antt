@@ -9,9 +9,10 @@ use Rattle.do_machine.specs.laws.first.Blocks.{blocks_1}
 use Rattle.do_native.specs.Acts.{native_act}
 use Rattle.do_world.specs.declared.world.World.{World}
 use Rattle.do_lines.specs.Transcript.{transcript}
-use Rattle.do_node.specs.Files.{most_of_schedule}
-use Rattle.do_node.specs.Reading.{HasText}
-use Rattle.do_node.specs.Replaying.{behaviour_of, world_transcript}
+use Rattle.do_given.specs.Files.{most_of_schedule}
+use Rattle.do_given.specs.Reading.{HasText}
+use Rattle.do_given.specs.Parts.{behaviour_of}
+use Rattle.do_node.specs.Replaying.{world_transcript}
 
 -- the transcript of these lines over a world by the rules of the first version
 unfoldable pub first_transcript : World → List Line → List ℕ

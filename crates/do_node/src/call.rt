@@ -6,25 +6,36 @@ ghost use Rattle.do_base.specs.declared.outside.shelf.NamedFile.{NamedFile};
 ghost use Rattle.do_cli.specs.Forms.{command_in, stuck_at};
 ghost use Rattle.do_cli.specs.declared.command.Command as commands;
 ghost use Rattle.do_cli.specs.declared.command.Command.TheVariants.{Upgrade};
-ghost use Rattle.do_node.specs.declared.status.Status as declared;
+ghost use Rattle.do_given.specs.declared.status.Status as declared;
 ghost use Rattle.do_node.specs.Call.{CanWrite, HasUnread, IsRefusal, Refuses, Writes, WritesAll};
 ghost use Rattle.do_node.specs.Call.{WritesNothing, WritesSome};
 ghost use Rattle.do_node.specs.Upgrading.{IsReplayedAlike};
 
 use crate::commands::obey;
-use crate::status::Status;
 use do_base::{Shelf, Sink, Word};
 use do_cli::{WordFault, read_words};
+use do_given::Status;
+use do_native::Native;
+use do_site::Site;
 use std::alloc::Global;
 
 /// Does what the words of the command line ask, and writes what they ask for.
 ///
-/// `replay WORLD SCHEDULE` writes the transcript of that schedule over that world, `upgrade
-/// SCHEDULE` a schedule of the first version anew in the second, `--help` and `--version` a text.
+/// `replay WORLD SCHEDULE` writes the transcript of that schedule over the network of that world,
+/// each line followed by what was sent in it, `leaks WORLD SCHEDULE` which stored objects nothing
+/// can reach after it, each with the first slot of a stored object that names it, `weave WORLD
+/// RECORD..` one schedule in which the nodes of that world do what their records say, `upgrade
+/// SCHEDULE` a schedule of the first version anew in the second, `make NUMBER COUNT` the summary of
+/// a schedule that a number generates, over the network of `:mesh`, `--help` and `--version` a
+/// text. `leaks` and `weave` go by the one machine of the definitions.
+///
 /// Words of no form are refused first; then a file that cannot be read, that is longer than
-/// 4,194,304 bytes for a world and 67,108,864 for a schedule, or that says none; the world before
-/// the schedule. Nothing is written before. If the sink fails or memory runs out, what was written
-/// is the beginning of the text. The forms are this project's own.
+/// 4,194,304 bytes for a world, 67,108,864 for a schedule and 16,777,216 for a record, or that says
+/// none; the world before the schedule or the records, and each record in turn. A record is refused
+/// too where its node is not of the world or has an earlier record, or where the records so far
+/// have more than 1,000,000 steps. Records that contradict come last. Nothing is written before. If
+/// the sink fails or memory runs out, what was written is the beginning of the text. The forms are
+/// this project's own.
 pub fn run<H: Shelf, K: Sink>(alloc: Global, words: &[Word], shelf: &mut H, out: &mut K) -> Status
     ensures usage { (word : ℕ) → (result ≡ Status.Usage word)
         ↔ ((command_in words.now ≡ None) × (word ≡ stuck_at words.now)) }
@@ -71,7 +82,7 @@ pub fn run<H: Shelf, K: Sink>(alloc: Global, words: &[Word], shelf: &mut H, out:
         Err(WordFault::Usage(word)) => return Status::Usage(word),
         Err(WordFault::Memory) => return Status::Memory,
     };
-    match obey(alloc, command, shelf, out) {
+    match obey::<Site<Native>, H, K>(alloc, command, shelf, out) {
         Ok(()) => Status::Ok,
         Err(status) => status,
     }

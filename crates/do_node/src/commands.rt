@@ -1,38 +1,48 @@
-ghost use Rattle.std.specs.Prelude.{◌≡◌, ◌≤◌, OnOk, IfErr};
+//! The commands: what each reads, and what it writes.
+ghost use Rattle.std.specs.Prelude.{◌≡◌, ◌≤◌, OnOk, IfErr, IfOk, codes, length};
 ghost use Rattle.do_base.specs.outside.Bytes.{with_more, HasWritten};
 ghost use Rattle.do_base.specs.outside.Causes.{Rose};
-ghost use Rattle.do_cli.specs.declared.command.Command.TheVariants.{Replay, Upgrade, Help, Version};
+ghost use Rattle.do_cli.specs.declared.command.Command.TheVariants.{Replay, Leaks, Weave};
+ghost use Rattle.do_cli.specs.declared.command.Command.TheVariants.{Upgrade, Make, Help, Version};
+ghost use Rattle.do_cli.specs.Forms.{records_in};
 ghost use Rattle.do_cli.specs.Help.{help_text, version_text};
 ghost use Rattle.do_node.specs.Call.{Obeys};
-ghost use Rattle.do_node.specs.Reading.{Stops};
-ghost use Rattle.do_node.specs.Replaying.{world_transcript};
+ghost use Rattle.do_given.specs.Reading.{Stops};
+ghost use Rattle.do_generate.specs.Generated.{generated};
+ghost use Rattle.do_world.specs.Sound.{IsSound};
+ghost use Rattle.do_node.specs.Replaying.{world_lost, world_summary, world_wired};
 
+use crate::leaking::world_lost;
+use crate::making::summary_text;
 use crate::replaying::replay;
-use crate::schedules::{lines_given, upgrade_given};
-use crate::status::Status;
-use crate::worlds::world_given;
+use crate::weaving::woven_given;
 use do_base::{Shelf, Sink, Text, Word, write_all};
-use do_cli::{Command, push_help, push_version};
+use do_cli::{Command, Words, push_help, push_version};
+use do_generate::generate;
+use do_given::{Scheduled, Status, scheduled_given, upgrade_given, world_given};
+use do_native::Native;
+use do_net::Hosted;
 use do_sched::Lines;
 use do_world::World;
-use std::alloc::Global;
+use std::alloc::{AllocError, Global};
 
-/// Writes the transcript of a schedule over a world.
-fn write_replay<K: Sink>(
+/// Writes the transcript of a schedule over the network of a world.
+fn write_replay<S: Hosted<Acts = Native>, K: Sink>(
     alloc: Global,
-    world: World,
-    lines: Lines,
+    given: Scheduled,
     out: &mut K,
 ) -> Result<(), Status>
+    requires { IsSound given.world }
     ensures ok { OnOk result
-        (K.written out.new ≡ with_more (K.written out.old) (world_transcript world lines)) }
+        (K.written out.new ≡ with_more (K.written out.old) (world_wired given.world given.lines)) }
     ensures prefix { HasWritten (K.written out.old) (K.written out.new)
-        (world_transcript world lines) }
+        (world_wired given.world given.lines) }
     ensures stopped { IfErr result
         (Stops ⊥ (Rose (K.faults out.old) (K.faults out.new)) (λ _. ⊥)) }
     ensures later { K.faults out.old ≤ K.faults out.new }
 {
-    replay(alloc, world, lines, out)?;
+    let Scheduled { world, lines } = given;
+    replay::<S, K>(alloc, world, lines, out)?;
     Ok(())
 }
 
@@ -49,7 +59,7 @@ fn write_text<K: Sink>(text: &Text, out: &mut K) -> Result<(), Status>
 }
 
 /// Replays the schedule that the second word gives over the world that the first gives.
-fn replay_given<H: Shelf, K: Sink>(
+fn replay_given<S: Hosted<Acts = Native>, H: Shelf, K: Sink>(
     alloc: Global,
     world: &Word,
     schedule: &Word,
@@ -64,15 +74,71 @@ fn replay_given<H: Shelf, K: Sink>(
     ensures shelf_faults { H.faults shelf.old ≤ H.faults shelf.new }
     ensures sink_faults { K.faults out.old ≤ K.faults out.new }
 {
-    let world = match world_given(alloc, world, shelf) {
-        Ok(world) => world,
-        Err(status) => return Err(status),
-    };
-    let lines = match lines_given(alloc, schedule, shelf) {
-        Ok(lines) => lines,
-        Err(status) => return Err(status),
-    };
-    write_replay(alloc, world, lines, out)
+    match scheduled_given(alloc, world, schedule, shelf) {
+        Ok(given) => write_replay::<S, K>(alloc, given, out),
+        Err(status) => Err(status),
+    }
+}
+
+/// Writes what nothing can reach after a schedule over a world.
+fn write_leaks<K: Sink>(alloc: Global, given: Scheduled, out: &mut K) -> Result<(), Status>
+    ensures ok { OnOk result
+        (K.written out.new ≡ with_more (K.written out.old) (world_lost given.world given.lines)) }
+    ensures prefix { HasWritten (K.written out.old) (K.written out.new)
+        (world_lost given.world given.lines) }
+    ensures stopped { IfErr result
+        (Stops ⊥ (Rose (K.faults out.old) (K.faults out.new)) (λ _. ⊥)) }
+    ensures later { K.faults out.old ≤ K.faults out.new }
+{
+    let Scheduled { world, lines } = given;
+    let text = world_lost(alloc, world, lines)?;
+    write_text(&text, out)
+}
+
+/// Replays the schedule that the second word gives over the world that the first gives, and writes
+/// what nothing can reach then.
+fn leaks_given<H: Shelf, K: Sink>(
+    alloc: Global,
+    world: &Word,
+    schedule: &Word,
+    shelf: &mut H,
+    out: &mut K,
+) -> Result<(), Status>
+    ensures obeys { Obeys (H.files shelf.old) (Leaks world.now schedule.now)
+        (record { before = H.faults shelf.old; now = H.faults shelf.new })
+        (K.written out.old) (K.written out.new)
+        (record { before = K.faults out.old; now = K.faults out.new }) result }
+    ensures same { H.files shelf.new ≡ H.files shelf.old }
+    ensures shelf_faults { H.faults shelf.old ≤ H.faults shelf.new }
+    ensures sink_faults { K.faults out.old ≤ K.faults out.new }
+{
+    match scheduled_given(alloc, world, schedule, shelf) {
+        Ok(given) => write_leaks(alloc, given, out),
+        Err(status) => Err(status),
+    }
+}
+
+/// Writes the schedule that the records in files are woven to over the world that a word gives.
+fn write_woven<H: Shelf, K: Sink>(
+    alloc: Global,
+    world: &Word,
+    files: &Words,
+    shelf: &mut H,
+    out: &mut K,
+) -> Result<(), Status>
+    requires { length files.now ≤ 64 }
+    ensures obeys { Obeys (H.files shelf.old) (Weave world.now files.now)
+        (record { before = H.faults shelf.old; now = H.faults shelf.new })
+        (K.written out.old) (K.written out.new)
+        (record { before = K.faults out.old; now = K.faults out.new }) result }
+    ensures same { H.files shelf.new ≡ H.files shelf.old }
+    ensures shelf_faults { H.faults shelf.old ≤ H.faults shelf.new }
+    ensures sink_faults { K.faults out.old ≤ K.faults out.new }
+{
+    match woven_given(alloc, world, files, shelf) {
+        Ok(text) => write_text(&text, out),
+        Err(status) => Err(status),
+    }
 }
 
 /// Writes the schedule of the first version that a word gives anew in the second.
@@ -92,6 +158,79 @@ fn write_upgraded<H: Shelf, K: Sink>(
 {
     match upgrade_given(alloc, schedule, shelf) {
         Ok(text) => write_text(&text, out),
+        Err(status) => Err(status),
+    }
+}
+
+/// Writes the summary of a schedule over the network of a world.
+fn write_summary<S: Hosted<Acts = Native>, K: Sink>(
+    alloc: Global,
+    world: World,
+    lines: Lines,
+    out: &mut K,
+) -> Result<(), Status>
+    requires { IsSound world }
+    ensures ok { OnOk result
+        (K.written out.new ≡ with_more (K.written out.old) (world_summary world lines)) }
+    ensures prefix { HasWritten (K.written out.old) (K.written out.new)
+        (world_summary world lines) }
+    ensures stopped { IfErr result
+        (Stops ⊥ (Rose (K.faults out.old) (K.faults out.new)) (λ _. ⊥)) }
+    ensures later { K.faults out.old ≤ K.faults out.new }
+{
+    let text = summary_text::<S>(alloc, world, lines)?;
+    write_text(&text, out)
+}
+
+/// Generates the schedule of a number, replays it over a world, and writes the summary.
+fn write_made<S: Hosted<Acts = Native>, K: Sink>(
+    alloc: Global,
+    world: World,
+    number: u64,
+    count: u64,
+    out: &mut K,
+) -> Result<(), Status>
+    requires { IsSound world }
+    ensures ok { OnOk result (K.written out.new ≡ with_more (K.written out.old)
+        (world_summary world (generated count number))) }
+    ensures prefix { HasWritten (K.written out.old) (K.written out.new)
+        (world_summary world (generated count number)) }
+    ensures stopped { IfErr result
+        (Stops ⊥ (Rose (K.faults out.old) (K.faults out.new)) (λ _. ⊥)) }
+    ensures later { K.faults out.old ≤ K.faults out.new }
+{
+    let lines = generate(alloc, number, count)?;
+    write_summary::<S, K>(alloc, world, lines, out)
+}
+
+/// The name of the world over which generated schedules are replayed.
+fn mesh_name(alloc: Global) -> Result<Text, AllocError>
+    ensures { IfOk result (λ name. name ≡ codes ":mesh") }
+{
+    Text::from_slice(alloc, b":mesh")
+}
+
+/// Replays the schedule that a number generates, and writes the summary.
+fn make_given<S: Hosted<Acts = Native>, H: Shelf, K: Sink>(
+    alloc: Global,
+    number: u64,
+    count: u64,
+    shelf: &mut H,
+    out: &mut K,
+) -> Result<(), Status>
+    ensures obeys { Obeys (H.files shelf.old) (Make number count)
+        (record { before = H.faults shelf.old; now = H.faults shelf.new })
+        (K.written out.old) (K.written out.new)
+        (record { before = K.faults out.old; now = K.faults out.new }) result }
+    ensures same { H.files shelf.new ≡ H.files shelf.old }
+    ensures shelf_faults { H.faults shelf.old ≤ H.faults shelf.new }
+    ensures sink_faults { K.faults out.old ≤ K.faults out.new }
+{
+    let Ok(name) = mesh_name(alloc) else {
+        return Err(Status::Memory);
+    };
+    match world_given(alloc, &name, shelf) {
+        Ok(world) => write_made::<S, K>(alloc, world, number, count, out),
         Err(status) => Err(status),
     }
 }
@@ -121,12 +260,13 @@ fn write_version<K: Sink>(alloc: Global, out: &mut K) -> Result<(), Status>
 }
 
 /// Does what a command asks, and writes what it asks for.
-pub fn obey<H: Shelf, K: Sink>(
+pub fn obey<S: Hosted<Acts = Native>, H: Shelf, K: Sink>(
     alloc: Global,
     command: Command,
     shelf: &mut H,
     out: &mut K,
 ) -> Result<(), Status>
+    requires { records_in command ≤ 64 }
     ensures obeys { Obeys (H.files shelf.old) command
         (record { before = H.faults shelf.old; now = H.faults shelf.new })
         (K.written out.old) (K.written out.new)
@@ -137,9 +277,14 @@ pub fn obey<H: Shelf, K: Sink>(
 {
     match command {
         Command::Replay { world, schedule } => {
-            replay_given(alloc, &world, &schedule, shelf, out)
+            replay_given::<S, H, K>(alloc, &world, &schedule, shelf, out)
         }
+        Command::Leaks { world, schedule } => leaks_given(alloc, &world, &schedule, shelf, out),
+        Command::Weave { world, files } => write_woven(alloc, &world, &files, shelf, out),
         Command::Upgrade { schedule } => write_upgraded(alloc, &schedule, shelf, out),
+        Command::Make { number, count } => {
+            make_given::<S, H, K>(alloc, number, count, shelf, out)
+        }
         Command::Help => write_help(alloc, out),
         Command::Version => write_version(alloc, out),
     }

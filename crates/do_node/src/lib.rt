@@ -3,19 +3,20 @@
 //!
 //! It stands on the machine, the readers of texts and the outside as traits. It promises what the
 //! call answers for every input, and that what it writes is the transcript of the schedule over the
-//! world, or the schedule written anew.
+//! world, what nothing can reach after it, the schedule that records are woven to, or the schedule
+//! written anew.
 #![tactic(auto)]
 
-mod blocks;
 mod call;
 mod commands;
-mod fetching;
-mod output;
+mod counted;
+mod leaking;
+mod making;
+mod networks;
+mod opening;
+mod records;
 mod replaying;
-mod schedules;
-mod status;
-mod stepping;
-mod worlds;
+mod weaving;
 
 pub use call::run;
-pub use status::Status;
+pub use do_given::Status;

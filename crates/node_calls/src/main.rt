@@ -19,7 +19,14 @@ use std::test::Fail;
 
 fn main(rt: HostRuntime) -> Result<(), Fail> {
     let mut report = Text::new(rt.alloc());
-    for name in ["words.rows", "refusals.rows", "texts.rows"] {
+    for name in [
+        "words.rows",
+        "refusals.rows",
+        "texts.rows",
+        "leaks.rows",
+        "weave.rows",
+        "make.rows",
+    ] {
         play_file(&rt, name, RunCalls::new(rt)?, &mut report)?;
     }
     rt.stdout().write_all(report.as_slice())?;

@@ -6,8 +6,18 @@ use do_node::Status;
 fn concerned<'a>(status: &Status, words: &'a [Word]) -> &'a [Word] {
     match (status, words) {
         (Status::ReadFault | Status::TooLong { .. }, [_, files @ ..]) => files,
-        (Status::BadWorld(_), [_, world, _]) => std::slice::from_ref(world),
+        (Status::BadWorld(_), [_, world, ..]) => std::slice::from_ref(world),
         (Status::BadSchedule(_), [.., schedule]) => std::slice::from_ref(schedule),
+        (Status::BadRecord { index, .. }, [_, _, records @ ..]) => nth(records, *index),
+        (Status::Contradiction { index, .. }, [_, _, records @ ..]) => nth(records, *index),
+        _ => &[],
+    }
+}
+
+/// The word of this number, counted from 1, or none.
+fn nth(words: &[Word], number: u64) -> &[Word] {
+    match usize::try_from(number) {
+        Ok(last) if 0 < last && last <= words.len() => &words[last - 1..last],
         _ => &[],
     }
 }

@@ -1,5 +1,6 @@
 //! The program: `replay WORLD SCHEDULE` replays a schedule over a world and writes its transcript,
-//! `upgrade SCHEDULE` writes a schedule of version 1 anew, `--help` shows the forms.
+//! `leaks WORLD SCHEDULE` writes what nothing can reach after it, `weave WORLD RECORD..` one schedule
+//! of the records of nodes, `upgrade SCHEDULE` a schedule of version 1 anew, `--help` shows the forms.
 //!
 //! It stands on do_node, whose call decides all that is answered and written, and on do_host for
 //! the files, the output and the words. It adds the lines on standard error and the exit status

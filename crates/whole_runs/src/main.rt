@@ -1,7 +1,9 @@
-//! Replays schedules over worlds in files, one after another, and writes their transcripts.
+//! Replays schedules over worlds in files, one after another, and writes their transcripts, without
+//! what was sent.
 //!
-//! It stands on do_node and do_host alone, as the program does. What it must write was worked out
-//! by hand or by another program, and stands beside it. The schedules over `edges.world` and those
+//! It stands on do_node and do_host, as the program does. What it must write was worked out by hand
+//! or by another program, and stands beside it. Behind these, schedules that numbers generate are
+//! replayed over the network and over the one machine of the definitions, and must show the same. The schedules over `edges.world` and those
 //! behind them tell rules apart that few others do: each differs where one rule is another.
 //!
 //! Five rules can show in no transcript, since no state that a machine comes to tells them apart:
@@ -10,11 +12,17 @@
 //! settles no lend of that peer; and which numbers the first call and the first token have.
 #![tactic(auto)]
 
-use do_base::{Items, Text, Texts};
-use do_host::{FileShelf, StdSink};
+mod generated;
+mod plain;
+
+use crate::generated::compare_all;
+use crate::plain::without_wires;
+use do_base::{CallList, Items, MemSink, Shelf, Text, Texts};
+use do_host::FileShelf;
 use do_node::{Status, run};
 use std::alloc::AllocError;
-use std::process::ExitCode;
+use std::io::Write;
+use std::test::Fail;
 
 /// Each schedule, and the world that it is for.
 const RUNS: [(&str, &str); 49] = [
@@ -79,23 +87,32 @@ fn words(rt: &HostRuntime, world: &str, schedule: &str) -> Result<Texts, AllocEr
     Ok(words)
 }
 
-/// Replays all of them, as far as each is answered by its whole transcript.
-fn replay_all(rt: HostRuntime) -> Status {
+/// Writes the transcript of a schedule over a world, without what was sent.
+fn replay_one<H: Shelf>(
+    rt: &HostRuntime,
+    shelf: &mut H,
+    world: &str,
+    schedule: &str,
+) -> Result<(), Fail> {
     let alloc = rt.alloc();
-    let mut out = StdSink::new(rt.stdout());
-    let mut shelf = FileShelf::new(alloc, rt);
-    for (world, schedule) in RUNS {
-        let Ok(words) = words(&rt, world, schedule) else {
-            return Status::Memory;
-        };
-        let status = run(alloc, words.as_slice(), &mut shelf, &mut out);
-        if !matches!(&status, Status::Ok) {
-            return status;
-        }
+    let words = words(rt, world, schedule)?;
+    let mut sink = MemSink::new(alloc, CallList::new(alloc))?;
+    let status = run(alloc, words.as_slice(), shelf, &mut sink);
+    if !matches!(&status, Status::Ok) {
+        return Err("not whole".into());
     }
-    Status::Ok
+    let plain = without_wires(alloc, sink.bytes())?;
+    rt.stdout().write_all(plain.as_slice())?;
+    Ok(())
 }
 
-fn main(rt: HostRuntime) -> ExitCode {
-    ExitCode::from(replay_all(rt).number())
+fn main(rt: HostRuntime) -> Result<(), Fail> {
+    let mut shelf = FileShelf::new(rt.alloc(), rt);
+    for (world, schedule) in RUNS {
+        replay_one(&rt, &mut shelf, world, schedule)?;
+    }
+    let mut report = Text::new(rt.alloc());
+    compare_all(rt.alloc(), &mut report)?;
+    rt.stdout().write_all(report.as_slice())?;
+    Ok(())
 }

@@ -1,5 +1,6 @@
+use Rattle.do_node.proofs.RefusalsTold.{stops_no_word, stops_not_ok}
 use Rattle.do_node.proofs.Upgraded.{replayed_alike}
-use Rattle.do_node.proofs.WordsRead.{memory_told, no_command, usage_told}
+use Rattle.do_node.proofs.WordsRead.{asked_no_word, memory_told, no_command, usage_told}
 use Rattle.do_node.proofs.call.run.Goals as goal
 
 pub returns-in-Err-Usage-clause-usage : goal.returns-in-Err-Usage-clause-usage
@@ -36,3 +37,13 @@ returns-in-Ok-obey-clause-upgraded g c =
 pub returns-in-Err-clause-upgraded : goal.returns-in-Err-clause-upgraded
 returns-in-Err-clause-upgraded g c =
     replayed_alike (g.H.Shelf.files c.args.shelf.now)
+
+pub returns-in-Err-clause-usage : goal.returns-in-Err-clause-usage
+returns-in-Err-clause-usage g c = λ word. asked_no_word c.args.words.now c.in-Ok.command word _
+    c.in-Ok.ensures.command
+    (λ is. stops_no_word _ _ _ c.in-Ok.command c.in-Err.status word
+    c.in-Err.ensures.obeys.stopped is)
+
+pub returns-in-Err-clause-whole : goal.returns-in-Err-clause-whole
+returns-in-Err-clause-whole g c = λ is.
+    absurd (stops_not_ok _ _ _ c.in-Ok.command c.in-Err.status c.in-Err.ensures.obeys.stopped is)

@@ -1,6 +1,7 @@
 use Rattle.do_cli.specs.declared.command.Command.TheVariants.{Upgrade}
-use Rattle.do_node.proofs.FilesTold.{no_err}
-use Rattle.do_node.proofs.Obeying.{must_be, must_give, obeys_stopping, obeys_writing}
+use Rattle.do_given.proofs.FilesTold.{no_err}
+use Rattle.do_given.proofs.Stopping.{must_be, must_give}
+use Rattle.do_node.proofs.Obeying.{obeys_stopping, obeys_writing}
 use Rattle.do_node.proofs.commands.write_upgraded.Goals as goal
 
 pub returns-in-Ok-clause-obeys : goal.returns-in-Ok-clause-obeys

@@ -1,0 +1,20 @@
+use Rattle.do_cli.specs.declared.command.Command.TheVariants.{Weave}
+use Rattle.do_given.proofs.FilesTold.{no_err}
+use Rattle.do_given.proofs.Stopping.{must_be, must_give}
+use Rattle.do_node.proofs.Obeying.{obeys_stopping, obeys_writing}
+use Rattle.do_node.proofs.commands.write_woven.Goals as goal
+
+pub returns-in-Ok-clause-obeys : goal.returns-in-Ok-clause-obeys
+returns-in-Ok-clause-obeys g c =
+    obeys_writing _ (Weave c.args.world.now c.args.files.now) _ _ _ _ c.in-Ok.text _
+    c.in-Ok.ensures.says
+    (λ files st is none. no_err c.in-Ok.text st (c.in-Ok.ensures.refuses files st is none))
+    c.write_text.ensures.ok c.write_text.ensures.prefix c.write_text.ensures.stopped
+
+pub returns-in-Err-clause-obeys : goal.returns-in-Err-clause-obeys
+returns-in-Err-clause-obeys g c =
+    obeys_stopping _ (Weave c.args.world.now c.args.files.now) _ _ _ c.in-Err.status
+    c.in-Err.ensures.stopped
+    (λ files st is none. must_be st c.in-Err.status (c.in-Err.ensures.refuses files st is none))
+    (λ files text is writes. must_give text c.in-Err.status
+    (c.in-Err.ensures.accepts files text is writes))

@@ -1,0 +1,75 @@
+use Rattle.std.proofs.Common.{◌∙◌, Ok}
+use Rattle.do_node.proofs.WovenTold.{contradiction_stops, records_refuse, records_stop}
+use Rattle.do_node.proofs.WovenTold.{records_stop_text, woven_here, woven_refuses, world_refuses}
+use Rattle.do_node.proofs.WovenTold.{world_stops}
+use Rattle.do_given.proofs.Stopping.{give_any}
+use Rattle.do_node.proofs.weaving.woven_given.Goals as goal
+
+pub returns-in-Err-clause-stopped : goal.returns-in-Err-clause-stopped
+returns-in-Err-clause-stopped g c =
+    world_stops c.args.word.now c.args.names.now _ _ _ c.in-Err.status c.in-Err.ensures.stopped
+
+pub returns-in-Err-clause-accepts : goal.returns-in-Err-clause-accepts
+returns-in-Err-clause-accepts g c = λ files text is woven.
+    give_any woven.world (Ok text) c.in-Err.status
+    (c.in-Err.ensures.accepts files woven.world is woven.given.gives)
+
+pub returns-in-Err-clause-refuses : goal.returns-in-Err-clause-refuses
+returns-in-Err-clause-refuses g c = λ files status is none.
+    world_refuses c.args.word.now c.args.names.now files c.in-Err.status
+    (λ st no. c.in-Err.ensures.refuses files st is no)
+    (λ w gives. c.in-Err.ensures.accepts files w is gives) status none
+
+pub returns-in-Err-records_given-clause-stopped : goal.returns-in-Err-records_given-clause-stopped
+returns-in-Err-records_given-clause-stopped g c =
+    let ended = c.in-Err-records_given in
+    records_stop c.args.word.now c.args.names.now _ _ _ _ _ c.in-Ok.world _ ended.status
+    c.in-Ok.ensures.same c.in-Ok.ensures.later c.new-none.ensures c.in-Ok.ensures.gives
+    (rw c.as_slice.ensures at ended.ensures.stopped)
+
+pub returns-in-Err-records_given-clause-accepts : goal.returns-in-Err-records_given-clause-accepts
+returns-in-Err-records_given-clause-accepts g c = λ files text is woven.
+    let ended = c.in-Err-records_given in
+    records_stop_text c.args.word.now c.args.names.now files c.in-Ok.world
+    (λ w gives. c.in-Ok.ensures.accepts files w is gives) ended.status
+    (λ rs say. ended.ensures.accepts files rs (c.in-Ok.ensures.same ∙ is)
+    (rw (c.as_slice.ensures, c.new-none.ensures) say)) text woven
+
+pub returns-in-Err-records_given-clause-refuses : goal.returns-in-Err-records_given-clause-refuses
+returns-in-Err-records_given-clause-refuses g c = λ files status is none.
+    let ended = c.in-Err-records_given in
+    records_refuse c.args.word.now c.args.names.now files c.in-Ok.world
+    (λ w gives. c.in-Ok.ensures.accepts files w is gives) ended.status
+    (λ st no. c.in-Ok.ensures.refuses files st is no)
+    (λ st no. ended.ensures.refuses files st (c.in-Ok.ensures.same ∙ is)
+    (rw (c.as_slice.ensures, c.new-none.ensures) no))
+    (λ rs say. ended.ensures.accepts files rs (c.in-Ok.ensures.same ∙ is)
+    (rw (c.as_slice.ensures, c.new-none.ensures) say)) status none
+
+pub returns-clause-stopped : goal.returns-clause-stopped
+returns-clause-stopped g c =
+    let read = c.in-Ok-records_given in
+    contradiction_stops c.args.word.now c.args.names.now _ _ c.in-Ok.world read.records _
+    (record {
+      gives = c.in-Ok.ensures.gives;
+      say = rw (c.in-Ok.ensures.same, c.as_slice.ensures, c.new-none.ensures) at read.ensures.says;
+    }) c.woven_text.ensures.stopped
+
+pub returns-clause-accepts : goal.returns-clause-accepts
+returns-clause-accepts g c = λ files text is woven.
+    let read = c.in-Ok-records_given in
+    woven_here c.args.word.now c.args.names.now files c.in-Ok.world
+    (λ w gives. c.in-Ok.ensures.accepts files w is gives) read.records
+    (λ rs say. read.ensures.accepts files rs (c.in-Ok.ensures.same ∙ is)
+    (rw (c.as_slice.ensures, c.new-none.ensures) say)) _ c.woven_text.ensures.accepts text woven
+
+pub returns-clause-refuses : goal.returns-clause-refuses
+returns-clause-refuses g c = λ files status is none.
+    let read = c.in-Ok-records_given in
+    woven_refuses c.args.word.now c.args.names.now files c.in-Ok.world
+    (λ w gives. c.in-Ok.ensures.accepts files w is gives) read.records
+    (λ rs say. read.ensures.accepts files rs (c.in-Ok.ensures.same ∙ is)
+    (rw (c.as_slice.ensures, c.new-none.ensures) say)) _
+    (λ st no. c.in-Ok.ensures.refuses files st is no)
+    (λ st no. read.ensures.refuses files st (c.in-Ok.ensures.same ∙ is)
+    (rw (c.as_slice.ensures, c.new-none.ensures) no)) c.woven_text.ensures.refuses status none

@@ -1,0 +1,95 @@
+ghost use Rattle.std.specs.Prelude.{◌≡◌, ◌≤◌, ℕ, List, Ok, Err, IfOk, IfErr, Some, length};
+ghost use Rattle.do_base.specs.declared.outside.shelf.NamedFile.{NamedFile};
+ghost use Rattle.do_machine.specs.World.{opening};
+ghost use Rattle.do_sched.specs.Schedule.{most_steps};
+ghost use Rattle.do_woven.specs.Steps.{steps_in};
+ghost use Rattle.do_given.specs.declared.status.Status as declared;
+ghost use Rattle.do_given.specs.Reading.{OrMemory, OrUnread, Stops};
+ghost use Rattle.do_given.specs.Parts.{behaviour_of};
+ghost use Rattle.do_node.specs.Weaving.{Contradicts, HasUnreadPart, IsWoven, RefusesWeaving};
+ghost use Rattle.do_node.specs.Weaving.{WeavesTo, told_of_weaving};
+
+use crate::counted::CountedMachine;
+use crate::opening::local_of;
+use crate::records::records_given;
+use do_base::{Shelf, Text, Word};
+use do_cli::Words;
+use do_given::{Status, world_given};
+use do_native::Native;
+use do_record::Records;
+use do_weave::{WeaveFault, weave};
+use do_world::World;
+use do_woven::schedule_text;
+use std::alloc::{AllocError, Global};
+
+/// The machine of a world before its first event, to weave records on.
+fn machine_of(world: World) -> Result<CountedMachine<Native>, AllocError>
+    ensures table { IfOk result (λ m. m.local.table ≡ world.table) }
+    ensures behaviour { IfOk result (λ m. m.local.behaviour ≡ behaviour_of world) }
+    ensures state { IfOk result (λ m. m.local.state ≡ opening world.table world.nodes) }
+    ensures events { IfOk result (λ m. m.events ≡ 0) }
+{
+    Ok(CountedMachine::new(local_of(world)?))
+}
+
+/// What is told of records that are not woven.
+fn told_of_weaving(fault: WeaveFault) -> Status
+    ensures { result ≡ told_of_weaving fault }
+{
+    match fault {
+        WeaveFault::Contradiction { index, line } => Status::Contradiction { index, line },
+        WeaveFault::Memory => Status::Memory,
+    }
+}
+
+/// The schedule that records are woven to over a world, as a text.
+fn woven_text(alloc: Global, world: World, records: &Records) -> Result<Text, Status>
+    requires count { length records.now ≤ 65535 }
+    requires steps { steps_in records.now ≤ most_steps }
+    ensures says { IfOk result (WeavesTo world records.now) }
+    ensures stopped { IfErr result (Stops ⊥ ⊥ (Contradicts world records.now)) }
+    ensures accepts { (text : List ℕ) → WeavesTo world records.now text
+        → OrMemory (Ok text) result }
+    ensures refuses { (status : declared.Status) → Contradicts world records.now status
+        → OrMemory (Err status) result }
+{
+    let mut machine = machine_of(world)?;
+    match weave(&mut machine, records) {
+        Ok(lines) => Ok(schedule_text(alloc, &lines)?),
+        Err(fault) => Err(told_of_weaving(fault)),
+    }
+}
+
+/// The schedule that the records in files are woven to over the world that a word gives, as a text.
+pub fn woven_given<H: Shelf>(
+    alloc: Global,
+    word: &Word,
+    names: &Words,
+    shelf: &mut H,
+) -> Result<Text, Status>
+    requires { length names.now ≤ 64 }
+    ensures says { IfOk result (IsWoven (H.files shelf.old) word.now names.now) }
+    ensures stopped { IfErr result (Stops
+        (HasUnreadPart (H.files shelf.old) (H.faults shelf.old) (H.faults shelf.new)
+        word.now names.now) ⊥
+        (RefusesWeaving (H.files shelf.old) word.now names.now)) }
+    ensures accepts { (files : List NamedFile) (text : List ℕ) → H.files shelf.old ≡ Some files
+        → IsWoven (Some files) word.now names.now text → OrUnread (Ok text) result }
+    ensures refuses { (files : List NamedFile) (status : declared.Status)
+        → H.files shelf.old ≡ Some files
+        → RefusesWeaving (Some files) word.now names.now status
+        → OrUnread (Err status) result }
+    ensures same { H.files shelf.new ≡ H.files shelf.old }
+    ensures later { H.faults shelf.old ≤ H.faults shelf.new }
+{
+    let world = match world_given(alloc, word, shelf) {
+        Ok(world) => world,
+        Err(status) => return Err(status),
+    };
+    let none = Records::new(alloc);
+    let records = match records_given(alloc, &world.nodes, none, names.as_slice(), shelf) {
+        Ok(records) => records,
+        Err(status) => return Err(status),
+    };
+    woven_text(alloc, world, &records)
+}
