@@ -1,0 +1,5 @@
+pub mod FilesTold
+pub mod Stopping
+pub mod GivenWorld
+pub mod BothGiven
+pub mod SeatGiven

@@ -1,0 +1,5 @@
+pub mod Status
+pub mod Files
+pub mod Reading
+pub mod Serving
+pub mod Parts

@@ -1,0 +1,26 @@
+//! What the words of a command give, and what a run of the program came to.
+//!
+//! It stands on the readers of worlds, schedules, starts and plans, and on the shelf as a trait. It
+//! promises for each what is read where the shelf tells its files, why nothing is given, and that
+//! each status has a number of its own.
+#![tactic(auto)]
+
+mod fetching;
+mod forms;
+mod parts;
+mod scheduled;
+mod schedules;
+mod seated;
+mod served;
+mod status;
+mod worlds;
+
+pub use fetching::fetch_within;
+pub use forms::{plan_given, starts_given};
+pub use parts::{Parts, parts_of};
+pub use scheduled::{Scheduled, scheduled_given};
+pub use schedules::{lines_given, upgrade_given};
+pub use seated::{Seated, seated_given};
+pub use served::{Served, served_given};
+pub use status::Status;
+pub use worlds::world_given;
