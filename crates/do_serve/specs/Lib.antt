@@ -1,0 +1,13 @@
+pub mod Rules
+pub mod Hosting
+pub mod Record
+pub mod Streams
+pub mod Peers
+pub mod Arrivals
+pub mod Core
+pub mod Entering
+pub mod Serving
+pub mod Handing
+pub mod Turning
+pub mod Rounds
+pub mod Answers

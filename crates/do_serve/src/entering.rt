@@ -1,0 +1,39 @@
+//! The inputs of a node that is served.
+ghost use Rattle.std.specs.Prelude.{◌≡◌, [], OnOk};
+ghost use Rattle.do_serve.specs.Core.{enter, leave_among};
+ghost use Rattle.do_serve.specs.Entering.{core_of, IsEntered};
+
+use crate::far::Far;
+use crate::log::{Log, push_by, push_waiting};
+use crate::site::Serving;
+use do_network::Input;
+use std::alloc::AllocError;
+
+/// Does an input, and writes its block.
+pub fn enter<S: Serving>(site: &mut S, log: &mut Log, input: Input) -> Result<(), AllocError>
+    requires { S.shown site.old ≡ [] }
+    ensures { OnOk result (IsEntered
+        (enter S.rules log.old.node input (core_of (S.part site.old) (S.frames site.old) log.old))
+        (S.part site.new) (S.frames site.new) (S.shown site.new) log.old log.new) }
+{
+    let done = site.handle(&input)?;
+    push_by(&mut log.text, log.node, input, done)?;
+    push_waiting(site, log)
+}
+
+/// Closes each open end of these over which a frame was sent or taken.
+pub fn leave_among<S: Serving>(site: &mut S, log: &mut Log, fars: &[Far]) -> Result<(), AllocError>
+    requires { S.shown site.old ≡ [] }
+    ensures { OnOk result (IsEntered (leave_among S.rules log.old.node fars.now
+        (core_of (S.part site.old) (S.frames site.old) log.old))
+        (S.part site.new) (S.frames site.new) (S.shown site.new) log.old log.new) }
+{
+    let Some((first, others)) = fars.split_first() else {
+        return Ok(());
+    };
+    let port = first.port();
+    if first.is_used() && site.is_open(port) {
+        enter(site, log, Input::Close(port))?;
+    }
+    leave_among(site, log, others)
+}
