@@ -1,0 +1,3 @@
+pub mod Comings
+pub mod Refused
+pub mod ServedEnds

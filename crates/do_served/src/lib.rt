@@ -1,0 +1,13 @@
+//! Nodes that are served and plans that are run, as the words of a command ask for them.
+//!
+//! It stands on what words give, on serving over a link and on running children, over any site of a
+//! network. It promises of each status why it came, of each refusal that it comes, and that what is
+//! given is served or run, or memory ran out.
+#![tactic(auto)]
+
+mod node;
+mod opening;
+mod plan;
+
+pub use node::serve_given;
+pub use plan::lab_given;
