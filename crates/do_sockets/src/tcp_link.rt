@@ -13,10 +13,10 @@ use std::net::Net;
 /// It opens a stream to a peer at the first send; a peer that does not listen yet is asked again
 /// for a second. An incoming stream that ends before it said its port, that says one of no peer, or
 /// one for the second time, is dropped, and so is the oldest of more than 128 streams that have
-/// said nothing. A poll that finds nothing waits for a socket, at most as long as it was made to. A send
-/// keeps what comes in while its peer takes nothing, so that of two nodes that both send neither
-/// waits for the other; it is `Failed` after a minute of that. What is kept so has no limit but
-/// memory; a poll reads 64 KiB at most, and nothing is read between polls. It tells no list.
+/// said nothing. A poll that finds nothing waits for a socket, at most as long as it was made to.
+/// A send keeps what comes in while its peer takes nothing, so that of two nodes that both send
+/// neither waits for the other; it is `Failed` after a minute of that. What is kept so has no limit
+/// but memory; a poll reads 64 KiB at most, and nothing is read between polls. It tells no list.
 #[derive(Drop)]
 pub struct TcpLink<R: Net> {
     rt: R,
