@@ -1,4 +1,4 @@
-ghost use Rattle.std.specs.Prelude.{◌≡◌, IfOk};
+ghost use Rattle.std.specs.Prelude.{◌≡◌, ◌<◌, IfOk, length};
 
 use do_base::{Exc, Items, NodeId, Oid, Peers, Shown, ShownList, Text, Took, Value, Values};
 use do_class::{ClassId, ClassTable, Methods, Slot, Slots};
@@ -23,18 +23,26 @@ fn object(port: u16, serial: u64) -> Result<Oid, Fail> {
     Ok(Oid { node, serial })
 }
 
-/// `nil`, a number, a text, an object, and a list with an empty list in it.
-fn values(rt: &HostRuntime) -> Result<Values, Fail> {
-    let mut inner = Values::new(rt.alloc());
-    inner.push(Value::Num(-1))?;
-    inner.push(Value::List(Values::new(rt.alloc())))?;
-    let mut values = Values::new(rt.alloc());
-    values.push(Value::Nil)?;
-    values.push(Value::Num(i64::MIN))?;
-    values.push(Value::Text(text(rt, b"~ \"\\\n\x7f\xff")?))?;
-    values.push(Value::Obj(object(7002, 10)?))?;
-    values.push(Value::List(inner))?;
-    Ok(values)
+/// A list with a number and an empty list in it.
+fn nested(rt: &HostRuntime) -> Result<Value, AllocError> {
+    let alloc = rt.alloc();
+    let items = vec![in alloc; Value::Num(-1), Value::List(Values::new(alloc))]?;
+    Ok(Value::List(Values::from_vec(items)))
+}
+
+/// Shows a value as said.
+fn say(shown: &mut ShownList, value: Value) -> Result<(), AllocError> {
+    shown.push(Shown::Say(value))
+}
+
+/// Shows as said: `nil`, a number, a text, an object, and a list with an empty list in it.
+fn say_all(rt: &HostRuntime, shown: &mut ShownList) -> Result<(), Fail> {
+    say(shown, Value::Nil)?;
+    say(shown, Value::Num(i64::MIN))?;
+    say(shown, Value::Text(text(rt, b"~ \"\\\n\x7f\xff")?))?;
+    say(shown, Value::Obj(object(7002, 10)?))?;
+    say(shown, nested(rt)?)?;
+    Ok(())
 }
 
 /// Adds what a step took.
@@ -64,24 +72,14 @@ fn add_others(shown: &mut ShownList, other: Oid) -> Result<(), Fail> {
     Ok(())
 }
 
-/// Each kind of what a step shows, but for values.
-fn kinds(rt: &HostRuntime) -> Result<ShownList, Fail> {
+/// Shows each kind of what a step shows, but for values.
+fn show_kinds(rt: &HostRuntime, shown: &mut ShownList) -> Result<(), Fail> {
     let other = object(7002, 1)?;
-    let mut shown = ShownList::new(rt.alloc());
-    add_calls(rt, &mut shown)?;
-    add_others(&mut shown, other)?;
+    add_calls(rt, shown)?;
+    add_others(shown, other)?;
     shown.push(Shown::Raise(Exc::TypeFault))?;
     shown.push(Shown::Free(other))?;
-    Ok(shown)
-}
-
-/// Each of the values, said.
-fn said(rt: &HostRuntime) -> Result<ShownList, Fail> {
-    let mut shown = ShownList::new(rt.alloc());
-    for value in values(rt)?.into_vec() {
-        shown.push(Shown::Say(value))?;
-    }
-    Ok(shown)
+    Ok(())
 }
 
 const KINDS: &[u8] = b"> run 7001 9\n\
@@ -107,39 +105,69 @@ say 7001 \"~ \\22\\5c\\0a\\7f\\ff\"\n\
 say 7001 #7002.10\n\
 say 7001 [-1 []]\n";
 
-/// The block of a run of nine steps that shows this.
-fn block(rt: &HostRuntime, enabled: bool, shown: ShownList) -> Result<Text, Fail> {
+/// Whether the block of a line that came to this is this text.
+fn is_block(rt: &HostRuntime, line: &Line, outcome: &Outcome, block: &[u8]) -> Result<bool, Fail> {
+    let text = line_text(rt.alloc(), line, outcome)?;
+    Ok(text.is(block))
+}
+
+/// What a step comes to that shows nothing yet.
+fn outcome(rt: &HostRuntime, enabled: bool) -> Outcome {
+    let shown = Items::new(rt.alloc());
+    Outcome { enabled, shown }
+}
+
+/// A run of nine steps.
+fn run() -> Result<Line, Fail> {
     let node = node(7001)?;
-    let line = Line::Run { node, count: 9 };
-    let outcome = Outcome { enabled, shown };
-    Ok(line_text(rt.alloc(), &line, &outcome)?)
+    Ok(Line::Run { node, count: 9 })
 }
 
 #[test]
-fn blocks(rt: HostRuntime) -> Result<(), Fail> {
-    assert!(rt; block(&rt, true, kinds(&rt)?)?.is(KINDS));
-    assert!(rt; block(&rt, true, said(&rt)?)?.is(VALUES));
-    let nothing = Items::new(rt.alloc());
-    assert!(rt; block(&rt, false, nothing)?.is(b"> run 7001 9\nskip\n"));
+fn kinds_are_shown(rt: HostRuntime) -> Result<(), Fail> {
+    let mut outcome = outcome(&rt, true);
+    show_kinds(&rt, &mut outcome.shown)?;
+    assert!(rt; is_block(&rt, &run()?, &outcome, KINDS)?);
     Ok(())
 }
 
-/// The block of a line that shows an object freed.
-fn freeing(rt: &HostRuntime, line: &Line, enabled: bool) -> Result<Text, Fail> {
-    let mut shown = ShownList::new(rt.alloc());
-    if enabled {
-        shown.push(Shown::Free(object(7001, 2)?))?;
-    }
-    Ok(line_text(rt.alloc(), line, &Outcome { enabled, shown })?)
+#[test]
+fn values_are_shown(rt: HostRuntime) -> Result<(), Fail> {
+    let mut outcome = outcome(&rt, true);
+    say_all(&rt, &mut outcome.shown)?;
+    assert!(rt; is_block(&rt, &run()?, &outcome, VALUES)?);
+    Ok(())
 }
 
-/// A start with the values.
+#[test]
+fn what_is_not_enabled_is_skipped(rt: HostRuntime) -> Result<(), Fail> {
+    let block = b"> run 7001 9\nskip\n";
+    assert!(rt; is_block(&rt, &run()?, &outcome(&rt, false), block)?);
+    Ok(())
+}
+
+/// Whether the block of a line that frees an object, or is not enabled and shows nothing, is this
+/// text.
+fn is_freeing(rt: &HostRuntime, line: &Line, enabled: bool, block: &[u8]) -> Result<bool, Fail> {
+    let freed = object(7001, 2)?;
+    let mut outcome = outcome(rt, enabled);
+    if enabled {
+        outcome.shown.push(Shown::Free(freed))?;
+    }
+    is_block(rt, line, &outcome, block)
+}
+
+/// `nil` and a text.
+fn two(rt: &HostRuntime) -> Result<Values, AllocError> {
+    let text = Value::Text(text(rt, b"a\n")?);
+    Ok(Values::from_vec(vec![in rt.alloc(); Value::Nil, text]?))
+}
+
+/// A start with the two values.
 fn start(rt: &HostRuntime) -> Result<Line, Fail> {
-    let mut values = Values::new(rt.alloc());
-    values.push(Value::Nil)?;
-    values.push(Value::Text(text(rt, b"a\n")?))?;
     let node = node(7001)?;
     let selector = text(rt, b"set:to:")?;
+    let values = two(rt)?;
     Ok(Line::Start {
         node,
         selector,
@@ -148,25 +176,28 @@ fn start(rt: &HostRuntime) -> Result<Line, Fail> {
 }
 
 #[test]
+fn a_start_has_its_values(rt: HostRuntime) -> Result<(), Fail> {
+    let block = b"> start 7001 set:to: nil \"a\\0a\"\nskip\n";
+    assert!(rt; is_freeing(&rt, &start(&rt)?, false, block)?);
+    Ok(())
+}
+
+#[test]
 fn heads(rt: HostRuntime) -> Result<(), Fail> {
-    let near = node(7001)?;
     let far = node(7002)?;
-    assert!(rt;
-        freeing(&rt, &start(&rt)?, false)?.is(b"> start 7001 set:to: nil \"a\\0a\"\nskip\n")
-    );
-    let take = Line::Take {
-        node: near,
-        from: far,
-    };
-    assert!(rt; freeing(&rt, &take, true)?.is(b"> take 7001 7002\nfree #7001.2\n"));
-    let close = Line::Close {
-        node: near,
-        peer: far,
-    };
-    assert!(rt; freeing(&rt, &close, true)?.is(b"> close 7001 7002\nfree #7001.2\n"));
-    let timeout = Line::Timeout { node: near };
-    assert!(rt; freeing(&rt, &timeout, true)?.is(b"> timeout 7001\nfree #7001.2\n"));
-    assert!(rt; freeing(&rt, &timeout, false)?.is(b"> timeout 7001\nskip\n"));
+    let node = node(7001)?;
+    let take = Line::Take { node, from: far };
+    assert!(rt; is_freeing(&rt, &take, true, b"> take 7001 7002\nfree #7001.2\n")?);
+    let close = Line::Close { node, peer: far };
+    assert!(rt; is_freeing(&rt, &close, true, b"> close 7001 7002\nfree #7001.2\n")?);
+    Ok(())
+}
+
+#[test]
+fn a_timeout_is_one_of_its_node(rt: HostRuntime) -> Result<(), Fail> {
+    let timeout = Line::Timeout { node: node(7001)? };
+    assert!(rt; is_freeing(&rt, &timeout, true, b"> timeout 7001\nfree #7001.2\n")?);
+    assert!(rt; is_freeing(&rt, &timeout, false, b"> timeout 7001\nskip\n")?);
     Ok(())
 }
 
@@ -178,43 +209,24 @@ fn lines_of_no_node(rt: HostRuntime) -> Result<(), Fail> {
         to: node(7002)?,
         after: 3,
     };
-    assert!(rt; freeing(&rt, &lose, true)?.is(b"> lose 7001 7002 3\n"));
-    assert!(rt; freeing(&rt, &lose, false)?.is(b"> lose 7001 7002 3\nskip\n"));
-    assert!(rt; freeing(&rt, &Line::Check, true)?.is(b"> check\n"));
+    assert!(rt; is_freeing(&rt, &lose, true, b"> lose 7001 7002 3\n")?);
+    assert!(rt; is_freeing(&rt, &lose, false, b"> lose 7001 7002 3\nskip\n")?);
+    assert!(rt; is_freeing(&rt, &Line::Check, true, b"> check\n")?);
     Ok(())
 }
 
 /// The object of a class with two slots.
-fn root_line(rt: &HostRuntime, oid: Oid, class: ClassId) -> Result<ObjLine, Fail> {
-    let mut slots = Values::new(rt.alloc());
-    slots.push(Value::Num(5))?;
-    slots.push(Value::Nil)?;
+fn root_line(rt: &HostRuntime, oid: Oid, class: ClassId) -> Result<ObjLine, AllocError> {
+    let slots = vec![in rt.alloc(); Value::Num(5), Value::Nil]?;
+    let slots = Values::from_vec(slots);
     Ok(ObjLine { oid, class, slots })
 }
 
-/// A node with a closed end, a root with two slots, and an entry.
-fn full_node(rt: &HostRuntime, class: ClassId) -> Result<NodeLine, Fail> {
-    let root = object(7001, 1)?;
-    let peer = node(7002)?;
-    let mut objects = ObjLines::new(rt.alloc());
-    objects.push(root_line(rt, root, class)?)?;
-    let mut closed = Peers::new(rt.alloc());
-    closed.push(node(7003)?)?;
-    let mut entries = EntryList::new(rt.alloc());
-    entries.push(Entry { peer, object: root })?;
-    Ok(NodeLine {
-        node: root.node,
-        root: Some(root),
-        closed,
-        objects,
-        entries,
-    })
-}
-
 /// A node that has nothing.
-fn empty_node(rt: &HostRuntime) -> Result<NodeLine, Fail> {
+fn empty_node(rt: &HostRuntime, port: u16) -> Result<NodeLine, Fail> {
+    let node = node(port)?;
     Ok(NodeLine {
-        node: node(7002)?,
+        node,
         root: None,
         closed: Peers::new(rt.alloc()),
         objects: ObjLines::new(rt.alloc()),
@@ -222,12 +234,24 @@ fn empty_node(rt: &HostRuntime) -> Result<NodeLine, Fail> {
     })
 }
 
-/// Both nodes.
-fn snapshot(rt: &HostRuntime, class: ClassId) -> Result<Snapshot, Fail> {
-    let mut nodes = NodeLines::new(rt.alloc());
-    nodes.push(full_node(rt, class)?)?;
-    nodes.push(empty_node(rt)?)?;
-    Ok(Snapshot { nodes })
+/// Gives a node a closed end, a root with two slots, and an entry.
+fn fill(rt: &HostRuntime, line: &mut NodeLine, class: ClassId) -> Result<(), Fail> {
+    let object = object(7001, 1)?;
+    let peer = node(7002)?;
+    line.root = Some(object);
+    line.closed.push(node(7003)?)?;
+    line.objects.push(root_line(rt, object, class)?)?;
+    line.entries.push(Entry { peer, object })?;
+    Ok(())
+}
+
+/// Adds a node that has something, and one that has nothing.
+fn add_nodes(rt: &HostRuntime, nodes: &mut NodeLines, class: ClassId) -> Result<(), Fail> {
+    let mut full = empty_node(rt, 7001)?;
+    fill(rt, &mut full, class)?;
+    nodes.push(full)?;
+    nodes.push(empty_node(rt, 7002)?)?;
+    Ok(())
 }
 
 const CHECK: &[u8] = b"node 7001 root #7001.1\n\
@@ -237,7 +261,7 @@ entry 7002 #7001.1\n\
 node 7002 root nil\n";
 
 /// Two slots, `a` and `b`.
-fn slots(rt: &HostRuntime) -> Result<Slots, Fail> {
+fn slots(rt: &HostRuntime) -> Result<Slots, AllocError> {
     let mut slots = Slots::new(rt.alloc());
     for name in [b"a", b"b"] {
         let name = text(rt, name)?;
@@ -246,12 +270,27 @@ fn slots(rt: &HostRuntime) -> Result<Slots, Fail> {
     Ok(slots)
 }
 
+/// Adds a class with the two slots.
+fn add_pair(rt: &HostRuntime, table: &mut ClassTable) -> Result<ClassId, Fail>
+    requires { length table.old < 256 }
+{
+    let slots = slots(rt)?;
+    let name = text(rt, b"Pair")?;
+    Ok(table.add_class(name, slots, Methods::new(rt.alloc()))?)
+}
+
+/// Whether the block of a check of both nodes is the one that is wanted.
+fn is_checked(rt: &HostRuntime, table: &ClassTable, class: ClassId) -> Result<bool, Fail> {
+    let mut nodes = NodeLines::new(rt.alloc());
+    add_nodes(rt, &mut nodes, class)?;
+    let text = check_text(rt.alloc(), table, &Snapshot { nodes })?;
+    Ok(text.is(CHECK))
+}
+
 #[test]
 fn checks(rt: HostRuntime) -> Result<(), Fail> {
     let mut table = ClassTable::new(rt.alloc());
-    let name = text(&rt, b"Pair")?;
-    let class = table.add_class(name, slots(&rt)?, Methods::new(rt.alloc()))?;
-    let snapshot = snapshot(&rt, class)?;
-    assert!(rt; check_text(rt.alloc(), &table, &snapshot)?.is(CHECK));
+    let class = add_pair(&rt, &mut table)?;
+    assert!(rt; is_checked(&rt, &table, class)?);
     Ok(())
 }
