@@ -1,7 +1,7 @@
 #!/bin/sh
-# Prints what a single step costs, in processor time, of a node that stores 10, 100, 1,000 and
-# 10,000 objects, each linked to the one before: how many seconds it took to fill the node, a step
-# that only jumps, and a step of a loop of three, of which one makes an object and one frees it.
+# Prints what a single step costs, in processor time, of a node that stores 10 to 40,000 objects,
+# each linked to the one before: how many seconds it took to fill the node, a step that only jumps,
+# and a step of a loop of three, of which one makes an object and one frees it.
 # Each figure is the best of three runs.
 # sh bench/steps.sh          the table; the program must be built (./replay builds it)
 set -e
@@ -97,8 +97,9 @@ seconds() {
 }
 
 printf '%10s %9s %14s %14s\n' objects filled jumping making
-for n in 10 100 1000 10000; do
-    steps=$((n > 100 ? 100000000 / n : 900000))
+for n in 10 100 1000 10000 40000; do
+    # A schedule has at most 1,000,000 steps.
+    steps=$((980000 - 11 * n))
     filled=$(seconds $n turn 0)
     turned=$(seconds $n turn $steps)
     made=$(seconds $n make $steps)
