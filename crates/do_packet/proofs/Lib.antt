@@ -13,4 +13,4 @@ mod Classes
 mod Packed
 mod Meanings
 mod RoundTrip
-mod Keeping
+pub mod Keeping
