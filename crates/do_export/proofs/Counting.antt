@@ -1,5 +1,6 @@
 -- The count of an entry, where one is added or taken off.
-use Rattle.std.proofs.Common.{◌≡◌, ℕ, ◌+◌, ◌-◌, ◌<◌, Bool, true, false, cond, ◌&&◌, eqb, ◌==◌, arith}
+use Rattle.std.proofs.Common.{◌≡◌, ℕ, ◌+◌, ◌-◌, ◌<◌, Bool, true, false, cond, ◌&&◌, eqb, ◌==◌}
+use Rattle.std.proofs.Common.{arith}
 use Rattle.std.proofs.Common.{Option, Some, None, if◌then◌else◌, eqb-true, refl, ap, ◌∙◌}
 use Rattle.std.proofs.lemmas.Bool.{eqb-false}
 use Rattle.std.proofs.lemmas.Bool.Decides.{nat_tests}
@@ -63,7 +64,8 @@ module _ (c : Counts) (p s : ℕ) (above : 0 < count_of c p s) where
 
       -- by whether it is the last
       go : (l : Bool) → last ≡ l
-          → count_of (if l then map.remove c (p, s) else map.insert c (p, s) (count_of c p s - 1)) x y
+          → count_of (if l then map.remove c (p, s)
+          else map.insert c (p, s) (count_of c p s - 1)) x y
           + at p s x y ≡ count_of c x y
       go true is =
           let e : count_of c p s ≡ 1 = eqb-true (count_of c p s) 1 is in
@@ -73,6 +75,7 @@ module _ (c : Counts) (p s : ℕ) (above : 0 < count_of c p s) where
           ∙ ap (λ b. cond b 0 (count_of c x y)) (tie p s x y))
           ∙ both 0 (omega arith) ((eqb p x) && (eqb s y)) refl
         where
+          -- an entry that is taken out counts 0
           none : (b : Bool) (o : Option ℕ)
               → unwrap_or (cond b None o) 0 ≡ cond b 0 (unwrap_or o 0)
           none true o = refl

@@ -26,6 +26,7 @@ entry_total = then_total (on_total (λ e. e.0) nat_cmp_total) (on_total (λ e. e
 pub entry_same : IsAntisymmetric entry_cmp
 entry_same (p, s) (q, t) e = go (nat_cmp p q) refl e
   where
+    -- by how the peers compare
     go : (r : Ordering) → nat_cmp p q ≡ r → ordering_then r (nat_cmp s t) ≡ Equal
         → ◌≡◌ {A = ℕ × ℕ} (p, s) (q, t)
     go Less _ e = absurd (subst (λ r. T (is_eq r)) (sym e) tt)

@@ -1,6 +1,6 @@
 -- That no entry counts 0, after each change.
-use Rattle.std.proofs.Common.{◌≡◌, ℕ, ◌<◌, Bool, true, false, not, cond, ◌==◌, T, Option, Some, None}
-use Rattle.std.proofs.Common.{List, is_some, sym, ap, subst}
+use Rattle.std.proofs.Common.{◌≡◌, ℕ, ◌<◌, Bool, true, false, not, cond, ◌==◌, T, Option, Some}
+use Rattle.std.proofs.Common.{None, List, is_some, sym, ap, subst}
 use Rattle.std.specs.Option.{unwrap_or}
 use Rattle.std.specs.Ordering.{eq_by_cmp}
 use Rattle.std.specs.FinMap as map
@@ -28,6 +28,7 @@ module _ (c : Counts) (positive : IsPositive c) where
   put_positive k v above q = subst Above (sym (get-insert entry_total c k v q))
       (go (eq_by_cmp entry_cmp q k))
     where
+      -- at the entry itself, and at each other
       go : (b : Bool) → Above (cond b (Some v) (map.get c q))
       go true = λ there. above
       go false = positive q
@@ -37,6 +38,7 @@ module _ (c : Counts) (positive : IsPositive c) where
   out_positive k q = subst Above (sym (get-remove entry_total c k q))
       (go (eq_by_cmp entry_cmp q k))
     where
+      -- at the entry itself, and at each other
       go : (b : Bool) → Above (cond b None (map.get c q))
       go true = nothing
       go false = positive q
@@ -47,9 +49,11 @@ module _ (c : Counts) (positive : IsPositive c) where
       subst Above (sym (get-retain_keys c other q (λ x e. ap other (sym (entry_same q x e)))))
       (go (other q))
     where
+      -- whether an entry is of another peer
       other : ℕ × ℕ → Bool
       other k = not (k.0 == peer)
 
+      -- at an entry of another peer, and at one of the peer
       go : (b : Bool) → Above (cond b (map.get c q) None)
       go true = positive q
       go false = nothing

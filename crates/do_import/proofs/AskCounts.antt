@@ -12,9 +12,11 @@ use Rattle.do_import.specs.Asked.{AskKey, AskMap, CountsAsks, ask_cmp, ask_key, 
 use Rattle.do_import.specs.ByObject.{added, taken_off}
 use Rattle.do_import.specs.Imported.{AreNumbered, CountsNames, LendMap, all_off, lends_of, lent_to}
 use Rattle.do_import.proofs.AskRows.{ask_total, ask_same}
-use Rattle.do_import.proofs.ObjectCounts.{among, counts_less, counts_more, counts_none, counts_off, is_of}
+use Rattle.do_import.proofs.ObjectCounts.{among, counts_less, counts_more, counts_none, counts_off}
+use Rattle.do_import.proofs.ObjectCounts.{is_of}
 use Rattle.do_import.proofs.KeptClasses.{out_at, put_at, tie, tied}
-use Rattle.do_import.proofs.RowCounts.{count_split, entries-empty, entries-retain, rows_out, rows_put}
+use Rattle.do_import.proofs.RowCounts.{count_split, entries-empty, entries-retain, rows_out}
+use Rattle.do_import.proofs.RowCounts.{rows_put}
 
 -- what is not found is nothing
 nothing : {V : Type 0} (found : Option V) → is_some found ≡ false → found ≡ None
@@ -36,6 +38,7 @@ module _ (asks : AskMap) (o : ObjectName) (t : TokenName) where
       + cond (is_of q (o.node, o.serial)) 1 0
   asks_out there q = go (map.get asks (ask_key o t)) refl there
     where
+      -- an ask that is found is one that is taken out
       go : (found : Option ClassId) → map.get asks (ask_key o t) ≡ found → is_some found ≡ true
           → asks_of asks q ≡ asks_of (map.remove asks (ask_key o t)) q
           + cond (is_of q (o.node, o.serial)) 1 0
@@ -83,6 +86,7 @@ module _ (asked named : Counts) (lends : LendMap) (asks : AskMap)
             (new (map.contains_key asks (ask_key o t)) which) q in omega (arith, put));
       })
     where
+      -- an ask that was kept was not there
       new : (b : Bool) → true ≡ not b → b ≡ false
       new false e = refl
       new true e = absurd (subst T e tt)
@@ -116,10 +120,12 @@ module _ (named : Counts) (lends : LendMap) (asks : AskMap) (are : CountsNames n
         (borrower, next) o (new (map.get lends (borrower, next)) refl) in
         omega (arith, put))
       where
+        -- there is no lend under the next number yet
         new : (found : Option ObjectName) → map.get lends (borrower, next) ≡ found
             → map.get lends (borrower, next) ≡ None
         new None e = e
-        new (Some x) e = absurd (let low = numbers (borrower, next) (ap is_some e) in omega (arith, low))
+        new (Some x) e =
+            absurd (let low = numbers (borrower, next) (ap is_some e) in omega (arith, low))
 
     -- a lend was settled
     pub settled_counted : (k : ℕ × ℕ) (o : ObjectName) → map.get lends k ≡ Some o
@@ -170,6 +176,7 @@ module _ (lends : LendMap) (next : ℕ) (are : AreNumbered lends next) where
   lend_numbered borrower o q there = go (tie (borrower, next) q) refl
       (sym (put_at lends (borrower, next) o q) ∙ there)
     where
+      -- at the new lend, and at each other
       go : (b : Bool) → tie (borrower, next) q ≡ b
           → cond b true (map.contains_key lends q) ≡ true → q.1 < next + 1
       go true e h =
@@ -180,6 +187,7 @@ module _ (lends : LendMap) (next : ℕ) (are : AreNumbered lends next) where
   pub settled_numbered : (k : ℕ × ℕ) → AreNumbered (map.remove lends k) next
   settled_numbered k q there = are q (go (tie k q) (sym (out_at lends k q) ∙ there))
     where
+      -- what is left was there
       go : (b : Bool) → cond b false (map.contains_key lends q) ≡ true
           → map.contains_key lends q ≡ true
       go true h = absurd (subst T (sym h) tt)
@@ -195,6 +203,7 @@ module _ (lends : LendMap) (next : ℕ) (are : AreNumbered lends next) where
       other : ℕ × ℕ → Bool
       other k = not (k.0 == peer)
 
+      -- what is left was there
       go : (b : Bool) (v : Option ObjectName) → is_some (cond (not b) v None) ≡ true
           → is_some v ≡ true
       go true v h = absurd (subst T (sym h) tt)

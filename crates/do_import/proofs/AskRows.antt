@@ -29,6 +29,7 @@ ask_total = then_total (on_total (λ k. k.0) entry_total) (on_total (λ k. k.1) 
 pub ask_same : IsAntisymmetric ask_cmp
 ask_same (a, b) (c, d) e = go (entry_cmp a c) refl e
   where
+    -- by how the first halves compare
     go : (r : Ordering) → entry_cmp a c ≡ r → ordering_then r (entry_cmp b d) ≡ Equal
         → ◌≡◌ {A = AskKey} (a, b) (c, d)
     go Less _ e = absurd (subst (λ r. T (is_eq r)) (sym e) tt)

@@ -50,6 +50,7 @@ module _ {V : Type 0} where
   pub same_at : (m : map.FinMap entry_cmp V) (k : ℕ × ℕ) → OnlyAt k (map.contains_key m k) m m
   same_at m k q = go (tie k q) refl
     where
+      -- at that key, and at each other
       go : (b : Bool) → tie k q ≡ b
           → map.contains_key m q ≡ cond b (map.contains_key m k) (map.contains_key m q)
       go true e = ap (map.contains_key m) (entry_same q k (tied _ e))
@@ -105,6 +106,7 @@ pub off_before : (m : Counts) (o : ObjectName)
     → map.contains_key (taken_off m o) (key o) ≡ true → map.contains_key m (key o) ≡ true
 off_before m o there = go (map.get m (key o)) refl
   where
+    -- with a count or without
     go : (found : Option ℕ) → map.get m (key o) ≡ found → map.contains_key m (key o) ≡ true
     go (Some n) e = ap is_some e
     go None e =
@@ -118,6 +120,7 @@ pub kept_at : (c : ClassMap) (o : ObjectName) (class : ClassId)
     → OnlyAt (key o) true c (first_kept c o class)
 kept_at c o class = go (map.contains_key c (key o)) refl
   where
+    -- whether there is a class already or not
     go : (b : Bool) → map.contains_key c (key o) ≡ b
         → OnlyAt (key o) true c (if b then c else map.insert c (key o) class)
     go true e = λ q. same_at c (key o) q
@@ -137,6 +140,7 @@ module _ (r a : Counts) (c : ClassMap) (known : KeepsClasses r a c) where
   reclass k r' a' c' x y z e of_r of_a of_c q = of_c q ∙ go (tie k q)
       ∙ sym (λ i. of_r q i || of_a q i)
     where
+      -- at that key, and at each other
       go : (b : Bool) → cond b z (map.contains_key c q)
           ≡ (cond b x (map.contains_key r q) || cond b y (map.contains_key a q))
       go true = e
@@ -171,6 +175,7 @@ module _ (r a : Counts) (c : ClassMap) (known : KeepsClasses r a c) where
       (stays (map.contains_key r (key o)) (map.contains_key (taken_off a o) (key o)) refl refl)
       (same_at r (key o)) (off_at a o) (left_at c o _)
     where
+      -- whether the object is received and asked for, or not
       stays : (x y : Bool) → map.contains_key r (key o) ≡ x
           → map.contains_key (taken_off a o) (key o) ≡ y
           → ((x || y) && map.contains_key c (key o)) ≡ (x || y)
@@ -187,6 +192,7 @@ module _ (r a : Counts) (c : ClassMap) (known : KeepsClasses r a c) where
       (stays (map.contains_key a (key o)) refl) (out_at r (key o)) (same_at a (key o))
       (left_at c o _)
     where
+      -- whether the object is asked for or not
       stays : (y : Bool) → map.contains_key a (key o) ≡ y
           → (y && map.contains_key c (key o)) ≡ y
       stays true e = known (key o) ∙ ap (λ b. map.contains_key r (key o) || b) e
@@ -209,6 +215,7 @@ module _ (r a : Counts) (c : ClassMap) (known : KeepsClasses r a c) where
       other : ℕ × ℕ → Bool
       other k = not (k.0 == home)
 
+      -- at an object of another home, and at one of this
       go : (b : Bool) (f : Option ClassId) (g : Option ℕ) (y : Bool) → is_some f ≡ (is_some g || y)
           → is_some (cond (not b || y) f None) ≡ (is_some (cond (not b) g None) || y)
       go true f g true same = same ∙ sym (or_true (is_some g))

@@ -54,6 +54,7 @@ module _ (received uses : Counts) (es : List Row) (t : IsThread received uses es
 pub len_raised : (m : Counts) (k : ℕ × ℕ) (v : ℕ) → map.len (map.insert m k v) ≤ map.len m + 1
 len_raised m k v = go (map.contains_key m k) (len-insert entry_total m k v)
   where
+    -- whether there is an entry already or not
     go : (b : Bool) → map.len (map.insert m k v) ≡ cond b (map.len m) (map.len m + 1)
         → map.len (map.insert m k v) ≤ map.len m + 1
     go true e = omega (arith, e)
@@ -67,6 +68,7 @@ len_named m peer serial = len_raised m (peer, serial) (count_of m peer serial + 
 pub len_removed : (m : Counts) (k : ℕ × ℕ) → map.len (map.remove m k) ≤ map.len m
 len_removed m k = go (map.contains_key m k) (len-remove entry_total m k)
   where
+    -- whether there is an entry or not
     go : (b : Bool) → map.len (map.remove m k) ≡ cond b (map.len m - 1) (map.len m)
         → map.len (map.remove m k) ≤ map.len m
     go true e = omega (arith, e)
@@ -82,13 +84,16 @@ len_others m home = omega (
   len-entries m,
 )
   where
+    -- whether an object has another home
     p : ℕ × ℕ → Bool
     p k = not (k.0 == home)
 
+    -- what passes is there
     go : (b : Bool) (o : Option ℕ) → is_some (cond b o None) ≡ true → is_some o ≡ true
     go true o h = h
     go false o h = absurd (subst T (sym h) tt)
 
+    -- each entry that is kept was there
     has : HasAll entry_cmp (map.entries (others_of m home)) (map.entries m)
     has q h = ap is_some (sym (get-entries m q)) ∙ go (p q) (map.get m q)
         (ap is_some (sym (get-retain_keys m p q (λ x same. ap p (sym (entry_same q x same)))))

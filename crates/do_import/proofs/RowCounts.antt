@@ -40,6 +40,7 @@ module _ {K V : Type 0} {R : K → K → Ordering} (total : IsTotalOrder R)
       ∙ ap (λ v. cond (p q) v None) (get-entries m q)
       ∙ sym (find-where_key R p q (alike q) (map.entries m)))
     where
+      -- keys that are equal pass alike
       alike : (q x : K) → R q x ≡ Equal → p x ≡ p q
       alike q x e = ap p (sym (same q x e))
 
@@ -56,6 +57,7 @@ module _ {K V : Type 0} {R : K → K → Ordering} (total : IsTotalOrder R)
       (λ x e. ap (λ y. not (eq_by_cmp R k y)) (sym (same q x e))))))
       ∙ entries-retain m (λ x. not (eq_by_cmp R k x))
     where
+      -- to leave one out is to keep the others
       turned : (b : Bool) (o : Option V) → cond b None o ≡ cond (not b) o None
       turned true o = refl
       turned false o = refl
@@ -106,6 +108,7 @@ module _ {K V : Type 0} {R : K → K → Ordering} (total : IsTotalOrder R)
             ∙ ap (cond (eq_by_cmp R q k) (Some v)) (get-remove total m k q)
             ∙ go q (R q k) refl)
           where
+            -- at that key, and at each other
             go : (q : K) (r : Ordering) → R q k ≡ r
                 → cond (is_eq r) (Some v) (cond (is_eq r) None (map.get m q)) ≡ map.get m q
             go q Less e = refl
@@ -119,6 +122,7 @@ module _ {K V : Type 0} {R : K → K → Ordering} (total : IsTotalOrder R)
     count_split t [] = refl
     count_split t (e ∷ es) = go (t e) (count_split t es)
       where
+        -- whether the first row is of these keys or of the others
         go : (b : Bool) → count_by p (each f es)
             ≡ count_by p (each f (filter (λ e. not (t e)) es)) + count_by p (each f (filter t es))
             → count_by p (each f (e ∷ es))

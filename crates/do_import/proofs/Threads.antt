@@ -48,6 +48,7 @@ and_false false = refl
 unchanged : (f : ℕ × ℕ → Bool) (k q : ℕ × ℕ) → f q ≡ cond (eq_by_cmp entry_cmp q k) (f k) (f q)
 unchanged f k q = go (eq_by_cmp entry_cmp q k) refl
   where
+    -- at that key, and at each other
     go : (b : Bool) → eq_by_cmp entry_cmp q k ≡ b → f q ≡ cond b (f k) (f q)
     go true e = ap f (entry_same q k (tied _ e))
     go false e = refl
@@ -101,6 +102,7 @@ module _ (received uses : Counts) (es : List Row) (t : IsThread received uses es
   rethread received' uses' es' r u a s e rs us ts =
       record { sorted = s; each = λ q. ts q ∙ go q (tie q) ∙ sym (λ i. rs q i && not (us q i)) }
     where
+      -- at that key, and at each other
       go : (q : ℕ × ℕ) (b : Bool)
           → cond b a (is_some (find entry_cmp q es))
           ≡ (cond b r (map.contains_key received q) && not (cond b u (map.contains_key uses q)))
@@ -129,15 +131,18 @@ module _ (received uses : Counts) (es : List Row) (t : IsThread received uses es
   got_kept v kept es' is e =
       go kept (map.contains_key uses k) (map.contains_key received k) refl refl is e
     where
+      -- what is used or received leaves for its uses alone
       truth : (u r : Bool) → true ≡ (u || r) → (r && not u) ≡ (true && not u)
       truth true r h = and_false r
       truth false true h = refl
       truth false false h = absurd (subst T h tt)
 
+      -- what is neither is not used
       untruth : (u r : Bool) → false ≡ (u || r) → true ≡ (true && not u)
       untruth true r h = absurd (subst T (sym h) tt)
       untruth false r h = refl
 
+      -- whether the object is used and was received, or not
       go : (g u r : Bool) → map.contains_key uses k ≡ u → map.contains_key received k ≡ r
           → g ≡ (u || r) → es' ≡ (if g then es else put entry_cmp k tt es)
           → IsThread (map.insert received k v) uses es'
@@ -174,6 +179,7 @@ module _ (received uses : Counts) (es : List Row) (t : IsThread received uses es
       → IsThread received (map.remove uses k) es'
   unrefer_threaded gone es' is e = go gone (map.contains_key received k) refl is e
     where
+      -- whether the object was received or not
       go : (g b : Bool) → map.contains_key received k ≡ b → g ≡ not b
           → es' ≡ (if g then es else put entry_cmp k tt es)
           → IsThread received (map.remove uses k) es'
@@ -213,9 +219,11 @@ ended_threaded received uses es es' home t e =
           (get-retain_keys received p q (λ x same. ap p (sym (entry_same q x same)))));
     })
   where
+    -- whether an object has another home
     p : ℕ × ℕ → Bool
     p k = not (k.0 == home)
 
+    -- at an object of another home, and at one of this
     go : (b : Bool) (f : Option (Unit {0})) (g : Option ℕ) (u : Bool)
         → is_some f ≡ (is_some g && not u)
         → is_some (cond b f None) ≡ (is_some (cond b g None) && not u)

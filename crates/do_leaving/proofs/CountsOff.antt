@@ -21,6 +21,7 @@ lowered-count : (c : Counts) (p s q t : ℕ) → count_of (lowered c p s 1) q t
     ≡ (if (q == p) && (t == s) then count_of c p s - 1 else count_of c q t)
 lowered-count c p s q t = go (count_of c p s == 1) refl
   where
+    -- whether the last is taken off or not
     go : (b : Bool) → (count_of c p s == 1) ≡ b
         → count_of (if b then map.remove c (p, s)
         else map.insert c (p, s) (count_of c p s - 1)) q t
@@ -34,6 +35,7 @@ taken-count : (c : Counts) (o p : ObjectName) → count_of (taken_off c o) p.nod
     ≡ count_of c p.node p.serial - once (same_object p o)
 taken-count c o p = go (count_of c o.node o.serial == 0) refl
   where
+    -- whether there is any or not
     go : (b : Bool) → (count_of c o.node o.serial == 0) ≡ b
         → count_of (if b then c else lowered c o.node o.serial 1) p.node p.serial
         ≡ count_of c p.node p.serial - once (same_object p o)
@@ -60,6 +62,7 @@ foreign-times node (o ∷ os) p away =
     (sum_by-cons (λ x. once (same_object p x)) o (foreign node os))
     (sum_by-cons (λ x. once (same_object p x)) o os)
   where
+    -- whether the first is an own object or a foreign one
     go : (b : Bool) → (o.node == node) ≡ b → times p (foreign node os) ≡ times p os
         → times p (o ∷ foreign node os) ≡ once (same_object p o) + times p (foreign node os)
         → times p (o ∷ os) ≡ once (same_object p o) + times p os

@@ -60,6 +60,7 @@ classes_none old = same_map entry_total entry_same _ _ (λ q.
     class-find old old.received q
     ∙ go q (map.contains_key old.received q) (map.contains_key old.asked q))
   where
+    -- each class is kept, whoever is received or used
     go : (q : ℕ × ℕ) (b c : Bool)
         → cond (b || not b || c) (map.get old.classes q) None ≡ map.get old.classes q
     go q true c = refl
@@ -128,9 +129,11 @@ still_there : (received : Counts) (k q : ℕ × ℕ)
 still_there received k q h = go (eq_by_cmp entry_cmp q k) (map.get received q)
     (ap is_some (sym (get-remove entry_total received k q)) ∙ h)
   where
+    -- at what was taken out, and at each other
     go : (b : Bool) (v : Option ℕ) → is_some (cond b None v) ≡ true → is_some v ≡ true
     go true v e = absurd (clash e)
       where
+        -- false is not true
         clash : false ≡ true → ⊥
         clash e = cc
     go false v e = e
@@ -227,6 +230,7 @@ some_received m k there = elim (cases_eq (map.len m) 0) [
   | inr some ↦ omega (arith, some)
 ]
   where
+    -- false is not true
     clash : false ≡ true → ⊥
     clash e = cc
 

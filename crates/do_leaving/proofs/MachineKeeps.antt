@@ -94,6 +94,7 @@ module _ (entry : ℕ → ℕ → Bool) (n : Node) where
       (struck-rises rounds low top (struck entry n heap)
       (rising-filter object_serial (stays entry n heap) low top heap r))
     where
+      -- whether another round strikes something or not
       go : (b : Bool)
           → Rising object_serial low (struck_by rounds entry n (struck entry n heap)) top
           → Rising object_serial low

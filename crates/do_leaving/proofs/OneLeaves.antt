@@ -57,9 +57,11 @@ module _ (received uses : Counts) (o : ℕ × ℕ) (lowest : IsLowestLeaving rec
       go (eq_by_cmp entry_cmp q o) (map.contains_key uses q) refl refl
       (ap is_some (sym (other-find q)) ∙ there)
     where
+      -- false is not true
       clash : false ≡ true → ⊥
       clash e = cc
 
+      -- at the lowest, and at each other, used or not
       go : (b u : Bool) → eq_by_cmp entry_cmp q o ≡ b → map.contains_key uses q ≡ u
           → is_some (cond (not u) (cond b None (map.get received q)) None) ≡ true
           → entry_cmp o q ≡ Less
@@ -76,6 +78,7 @@ module _ (received uses : Counts) (o : ℕ × ℕ) (lowest : IsLowestLeaving rec
   at_object q = go (eq_by_cmp entry_cmp q o) refl
       ∙ ap (cond (eq_by_cmp entry_cmp q o) (Some (count_of received o.0 o.1))) (sym (other-find q))
     where
+      -- at the lowest, and at each other
       go : (b : Bool) → eq_by_cmp entry_cmp q o ≡ b
           → cond (not (map.contains_key uses q)) (map.get received q) None
           ≡ cond b (Some (count_of received o.0 o.1))
@@ -106,11 +109,13 @@ module _ (received uses : Counts) (o : ℕ × ℕ) (lowest : IsLowestLeaving rec
       ∙ go q (eq_by_cmp entry_cmp q o) refl
       ∙ sym (kept received q))
     where
+      -- what is kept at an object is what was received of it, where it is used
       kept : (m : Counts) (q : ℕ × ℕ) → map.get (map.retain_keys m (map.contains_key uses)) q
           ≡ cond (map.contains_key uses q) (map.get m q) None
       kept m q = get-retain_keys m (map.contains_key uses) q
           (λ x t. ap (map.contains_key uses) (sym (entry_same q x t)))
 
+      -- at the one that leaves, and at each other
       go : (q : ℕ × ℕ) (b : Bool) → eq_by_cmp entry_cmp q o ≡ b
           → cond (map.contains_key uses q) (cond b None (map.get received q)) None
           ≡ cond (map.contains_key uses q) (map.get received q) None
@@ -128,6 +133,7 @@ all_used received uses none = same_map entry_total entry_same _ _ (λ q.
     (λ x t. ap (map.contains_key uses) (sym (entry_same q x t)))
     ∙ go (map.get received q) (map.contains_key uses q) (none q))
   where
+    -- with a count or without, used or not
     go : (v : Option ℕ) (u : Bool) → (is_some v && not u) ≡ false → cond u v None ≡ v
     go None true e = refl
     go None false e = refl

@@ -134,6 +134,7 @@ some_hold k [] = (λ h. absurd (omega arith), λ h. absurd (cc))
 some_hold k (x ∷ xs) =
     go (x.serial == k) (sum_by-cons (same k) x.serial (map serial_of xs)) (some_hold k xs)
   where
+    -- whether the first has the number or not
     go : (b : Bool)
         → tally k (map serial_of (x ∷ xs)) ≡ cond b 1 0 + tally k (map serial_of xs)
         → ((0 < tally k (map serial_of xs)) ↔ (has_serial (heap_of xs) k ≡ true))
@@ -209,6 +210,7 @@ gone_or_left all gone left freed false e a c d = elim (cases_eq left 0) [
   | inr some ↦ absurd (clash (e.0 (omega (arith, some))))
 ]
   where
+    -- false is not true
     clash : false ≡ true → ⊥
     clash e = cc
 

@@ -68,6 +68,7 @@ in_without n (x ∷ xs) o a = elim (cases_eq x.serial n) [
   | inr other ↦ go (subst (λ l. IsIn l o) (without_later x xs n other) a) (in_without n xs o)
 ]
   where
+    -- at the first, and behind it
     go : IsIn (x ∷ replaced n (λ s. []) xs) o → (IsIn (replaced n (λ s. []) xs) o → IsIn xs o)
         → IsIn (x ∷ xs) o
     go (inl e) k = inl e

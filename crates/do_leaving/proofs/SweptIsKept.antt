@@ -16,8 +16,8 @@ use Rattle.do_store.specs.Listing.{Rising}
 use Rattle.do_store.specs.Names.{Stored, find_stored}
 use Rattle.do_leaving.proofs.SlotNames.{heap_times, values_times, times_has}
 use Rattle.do_leaving.proofs.MachineKeeps.{contains_in, in_contains}
-use Rattle.do_leaving.proofs.MachineKeeps.{named_by, one_names, object_serial, has_serial, with_serial}
-use Rattle.do_leaving.proofs.MachineKeeps.{its_serial, kept-rises}
+use Rattle.do_leaving.proofs.MachineKeeps.{named_by, one_names, object_serial, has_serial}
+use Rattle.do_leaving.proofs.MachineKeeps.{its_serial, kept-rises, with_serial}
 use Rattle.do_leaving.proofs.RisingLists.{in_map, of_map, rising-map, rising-one, rising-same}
 use Rattle.do_leaving.proofs.StoreLookups.{find_in, in_find}
 

@@ -61,6 +61,7 @@ met_one_times : (o x : ObjectName) (os : Listed ObjectName) → times o os ≡ h
     × (has_object (met_one os x) o ≡ (has_object os o || same_object o x))
 met_one_times o x os once = go (has_object os x) (same_object o x) refl refl
   where
+    -- whether the object was met before or not, and whether it is the one that is counted or not
     go : (h s : Bool) → has_object os x ≡ h → same_object o x ≡ s
         → (times o (if h then os else os ++ x ∷ []) ≡ here o (if h then os else os ++ x ∷ []))
         × (has_object (if h then os else os ++ x ∷ []) o ≡ (has_object os o || s))
@@ -73,6 +74,7 @@ met_one_times o x os once = go (has_object os x) (same_object o x) refl refl
         ∙ ap (λ b. has_object os o || b) (or_false (same_object o x) ∙ is) in
         (more s h is ∙ sym (ap (λ b. cond b 1 0) any), any)
       where
+        -- an object that is new is counted once more, and each other as before
         more : (s : Bool) → has_object os x ≡ false → same_object o x ≡ s
             → times o (os ++ x ∷ []) ≡ cond (has_object os o || s) 1 0
         more true h is =

@@ -39,9 +39,11 @@ both m n false y first second = (
   λ h. let above = second.1 h in omega arith,
 )
   where
+    -- false is not true
     clash : false ≡ true → ⊥
     clash e = cc
 
+    -- where the first is 0, the second is above 0
     none : (k : ℕ) → 0 < k + n → (0 < k → ⊥) → 0 < n
     none k h empty = omega (arith, h, empty)
 
@@ -59,12 +61,15 @@ values_name : (o : ObjectName) (i : Invocation)
     → has_object (objects_in (invocation_values i)) o ≡ has_object (invocation_objects i) o
 values_name o i = ap (λ os. has_object os o) (ap (λ os. os ++ objects_in rest) own ∙ split)
   where
+    -- the values but for its object
     rest : Listed Value
     rest = i.locals ++ state_values i.state
 
+    -- its object names itself
     own : objects_of (Obj i.object) ≡ i.object ∷ []
     own = search (rules, the_lemmas)
 
+    -- the values name what its locals and its state name
     split : (i.object ∷ objects_in rest) ≡ invocation_objects i
     split = ap (λ os. i.object ∷ os) (flat_map-append objects_of i.locals (state_values i.state))
 

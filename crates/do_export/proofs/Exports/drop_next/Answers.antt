@@ -3,6 +3,7 @@ use Rattle.do_export.proofs.Order.{without_is, lowest_is}
 use Rattle.do_export.proofs.Positive.{entries_out}
 use Rattle.do_export.proofs.Exports.drop_next.Goals as goal
 
+-- where none is lowest the peer has no entry
 pub returns-in_default-clause-which : goal.returns-in_default-clause-which
 returns-in_default-clause-which c =
     rw (← c.self.view_is) (
@@ -10,10 +11,12 @@ returns-in_default-clause-which c =
       refl,
     )
 
+-- the rows without one are still in their order, and count something
 pub invariant_of-self : goal.invariant_of-self
 invariant_of-self c =
     entries_out _ _ c.self.invariant _ _ c.port.ensures.value _ c.remove.ensures.after
 
+-- what is taken out is the lowest entry
 pub returns-clause-which : goal.returns-clause-which
 returns-clause-which c =
     rw (← c.self.view_is) (

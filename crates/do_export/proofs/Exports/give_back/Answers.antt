@@ -6,10 +6,12 @@ use Rattle.do_export.proofs.Order.{put_is, without_is, found_is, some_above}
 use Rattle.do_export.proofs.Positive.{entries_put, entries_out}
 use Rattle.do_export.proofs.Exports.give_back.Goals as goal
 
+-- where nothing is left, the rows without the entry are in their order
 pub invariant_of-self : goal.invariant_of-self
 invariant_of-self c =
     entries_out _ _ c.self.invariant _ _ c.port.ensures.value _ c.remove.ensures.after
 
+-- where as many come back as were named, the entry is gone
 pub returns-then-left-eq0-clause-which : goal.returns-then-left-eq0-clause-which
 returns-then-left-eq0-clause-which c =
     let had = rw (← c.self.view_is) at c.count-had.ensures in
@@ -18,9 +20,11 @@ returns-then-left-eq0-clause-which c =
     rw (← c.self.view_is) (
       omega (arith, same),
       rw (eq-eqb _ _ same)
-          (without_is _ _ c.self.invariant.sorted _ _ _ c.port.ensures.value c.remove.ensures.after).1,
+          (without_is _ _ c.self.invariant.sorted _ _ _ c.port.ensures.value
+          c.remove.ensures.after).1,
     )
 
+-- where more were named, there is a row
 pub set-requires : goal.set-requires
 set-requires c =
     let had = rw (← c.self.view_is) at c.count-had.ensures in
@@ -30,10 +34,13 @@ set-requires c =
     c.port-2.ensures.value in
     subst IsSome found (some_above _ above)
 
+-- and with what is left in it the rows are still in their order
 pub invariant_of-self-2 : goal.invariant_of-self-2
 invariant_of-self-2 c =
-    entries_put _ _ c.self.invariant _ _ c.port-2.ensures.value _ _ (omega arith) c.set.ensures.after
+    entries_put _ _ c.self.invariant _ _ c.port-2.ensures.value _ _ (omega arith)
+    c.set.ensures.after
 
+-- what is left is what was named without what comes back
 pub returns-clause-which : goal.returns-clause-which
 returns-clause-which c =
     let counts = map.from_sorted c.self.inside.counts.rows in

@@ -3,6 +3,7 @@ use Rattle.std.specs.FinMap.{len-entries, entries-from_sorted}
 use Rattle.do_export.specs.Counts.{entry_cmp}
 use Rattle.do_export.proofs.Exports.len.Goals as goal
 
+-- there are as many entries as rows
 pub returns-clause-many : goal.returns-clause-many
 returns-clause-many c =
     let rows = c.self.inside.counts.rows in

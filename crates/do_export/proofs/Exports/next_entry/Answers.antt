@@ -4,6 +4,7 @@ use Rattle.do_export.specs.Counts.{entry_cmp}
 use Rattle.do_export.proofs.Order.{none_of, other_of, lowest_of}
 use Rattle.do_export.proofs.Exports.next_entry.Goals as goal
 
+-- where no row is found there is none behind
 pub returns-in_default : goal.returns-in_default
 returns-in_default c =
     let rows = c.self.inside.counts.rows in
@@ -11,6 +12,7 @@ returns-in_default c =
     ∙ sym c.in_default.ensures in
     rw (← c.self.view_is) (none_of rows c.self.invariant.sorted c.args.peer c.args.from first)
 
+-- where the row that is found is of another peer, there is none of the peer
 pub returns-then-port : goal.returns-then-port
 returns-then-port c =
     let rows = c.self.inside.counts.rows in
@@ -19,6 +21,7 @@ returns-then-port c =
     rw (← c.self.view_is) (other_of rows c.self.invariant.sorted c.args.peer c.args.from _ first
     (λ is. c.if-port.true (is ∙ sym c.port-2.ensures.value)))
 
+-- else it is the lowest
 pub returns : goal.returns
 returns c =
     let rows = c.self.inside.counts.rows in

@@ -8,6 +8,7 @@ use Rattle.do_leaving.proofs.LeftSoFar.{after_none, fewer_received, key, left_al
 use Rattle.do_leaving.proofs.LeftSoFar.{left_step}
 use Rattle.do_leaving.proofs.dropping.leave_all.Goals as goal
 
+-- nothing has left yet
 pub loop-one-init : goal.loop-one-init
 loop-one-init c = record {
   so_far = left_none c.args.imports.now c.args.left.now.items;
@@ -17,6 +18,7 @@ loop-one-init c = record {
   capacity = refl;
 }
 
+-- there is room for one more
 pub push_reserved-requires : goal.push_reserved-requires
 push_reserved-requires c =
     let now = c.loop-one.imports in
@@ -27,6 +29,7 @@ push_reserved-requires c =
       fewer_received now.received (key c.in-Some.one.0) had.0,
     )
 
+-- one object fewer is received
 pub loop-one-smaller : goal.loop-one-smaller
 loop-one-smaller c =
     let now = c.loop-one.imports in
@@ -38,6 +41,7 @@ loop-one-smaller c =
       ap (λ (i : Imported). map.len i.received) which.2,
     )
 
+-- one more has left
 pub loop-one-preserved : goal.loop-one-preserved
 loop-one-preserved c =
     let now = c.loop-one.imports in
@@ -62,6 +66,7 @@ loop-one-preserved c =
       capacity = c.push_reserved.ensures.capacity ∙ so.capacity;
     }
 
+-- nothing is left that may leave
 pub returns-clause-leave : goal.returns-clause-leave
 returns-clause-leave c =
     let which = c.in_default.ensures.which in

@@ -4,6 +4,7 @@ use Rattle.do_leaving.specs.Counted.{objects_besides, times}
 use Rattle.do_leaving.proofs.SlotNames.{times-append, times_has}
 use Rattle.do_leaving.proofs.laws.occurrences_are_uses.Goals as goal
 
+-- who counts each occurrence counts those in slots, and besides those elsewhere
 pub returns : goal.returns
 returns c n uses o is =
     let heap = heap_objects n.heap in

@@ -1,6 +1,7 @@
 use Rattle.do_leaving.proofs.SweepFrees.{frees}
 use Rattle.do_leaving.proofs.sweeping.sweep_all.Goals as goal
 
+-- what was taken out, in order, is what nothing holds
 pub returns-clause-frees : goal.returns-clause-frees
 returns-clause-frees c = λ entry n counted.
     frees entry n c.args.store.now c.sweep_each.new.store c.args.imports.now
@@ -9,6 +10,7 @@ returns-clause-frees c = λ entry n counted.
     c.sort_unstable.ensures.permutation c.sort_unstable.ensures.sorted
     (c.kept_is_greatest.ensures entry n) c.sweeping_leaves_kept.ensures
 
+-- it is the same objects in another order
 pub returns-clause-sweeps : goal.returns-clause-sweeps
 returns-clause-sweeps c = (
   c.sweep_each.new.serials.items,

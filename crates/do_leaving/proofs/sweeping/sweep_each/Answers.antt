@@ -8,6 +8,7 @@ use Rattle.do_leaving.proofs.SweptSoFar.{SweptSoFar, swept_none, swept_more, swe
 use Rattle.do_leaving.proofs.UsesOff.{unused_more}
 use Rattle.do_leaving.proofs.sweeping.sweep_each.Goals as goal
 
+-- nothing is taken out yet
 pub loop-gone-init : goal.loop-gone-init
 loop-gone-init c =
     let store = c.args.store.now in
@@ -21,6 +22,7 @@ loop-gone-init c =
       capacity = refl;
     }
 
+-- there is room for one more
 pub part_with-requires : goal.part_with-requires
 part_with-requires c =
     let f = c.in-Some.ensures.freed in
@@ -30,6 +32,7 @@ part_with-requires c =
       fewer_without c.loop-gone.store.objects c.in-Some.gone.oid.serial _ f.2,
     )
 
+-- one object fewer is stored
 pub loop-gone-smaller : goal.loop-gone-smaller
 loop-gone-smaller c =
     let f = c.in-Some.ensures.freed in
@@ -40,6 +43,7 @@ loop-gone-smaller c =
           f.2,
     )
 
+-- one more was taken out
 pub loop-gone-preserved : goal.loop-gone-preserved
 loop-gone-preserved c =
     let gone = c.in-Some.gone in
@@ -74,6 +78,7 @@ loop-gone-preserved c =
       capacity = c.part_with.ensures.capacity ∙ so.capacity;
     }
 
+-- nothing is left that nothing holds
 pub returns-clause-sweeps : goal.returns-clause-sweeps
 returns-clause-sweeps c =
     let e = c.in_default.ensures.freed in

@@ -10,6 +10,7 @@ use Rattle.do_leaving.proofs.SlotNames.{objects-List}
 use Rattle.do_leaving.proofs.UsesOff.{off_rest, unused_more}
 use Rattle.do_leaving.proofs.unreferring.+unrefer.Goals as goal
 
+-- a list names what its values name
 pub unrefer_value-returns-in-List-clause-same : goal.unrefer_value-returns-in-List-clause-same
 unrefer_value-returns-in-List-clause-same t c =
     c.unrefer_values.ensures.same
@@ -24,6 +25,7 @@ split vs i v within is =
     at_drop_more objects_in vs i v within
     ∙ ap (λ w. objects_of w ++ objects_in (drop (i + 1) vs)) (sym is)
 
+-- the objects of one more value were taken off
 pub unrefer_values-loop-value-preserved : goal.unrefer_values-loop-value-preserved
 unrefer_values-loop-value-preserved t c =
     let items = c.as_slice-value-items.result.now in

@@ -6,6 +6,7 @@ use Rattle.do_leaving.specs.Leavers.{AllLeave}
 use Rattle.do_leaving.proofs.FreedThenLeft.{leaves}
 use Rattle.do_leaving.proofs.whole.leave.Goals as goal
 
+-- what sweeping frees and what is left then is what leaves
 pub returns-clause-leaves : goal.returns-clause-leaves
 returns-clause-leaves c = λ entry n counted.
     let middle = c.sweep_all.new.imports in

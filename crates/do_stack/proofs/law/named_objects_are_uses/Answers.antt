@@ -1,5 +1,6 @@
 use Rattle.do_stack.proofs.ObjectsOnce.{counts_once}
 use Rattle.do_stack.proofs.law.named_objects_are_uses.Goals as goal
 
+-- each object that a value names counts once, as its uses do
 pub returns : goal.returns
 returns c = counts_once

@@ -7,10 +7,12 @@ use Rattle.do_stack.proofs.UsesMove.{objects-list}
 use Rattle.do_stack.proofs.ObjectsOnce.{met_next}
 use Rattle.do_stack.proofs.naming.+meet.Goals as goal
 
+-- a list names what its values name
 pub meet_value-returns-in-List : goal.meet_value-returns-in-List
 meet_value-returns-in-List t c =
     rw (c.in-List.is, objects-list c.in-List.values) c.meet_values.ensures
 
+-- the objects of one more value were met
 pub meet_values-loop-value-preserved : goal.meet_values-loop-value-preserved
 meet_values-loop-value-preserved t c =
     let items = c.as_slice-value-items.result.now in
@@ -21,6 +23,7 @@ meet_values-loop-value-preserved t c =
     ∙ met_next c.loop-value.oids items at c.value-item.result c.loop-value-test.true
     ∙ c.loop-value.invariant
 
+-- the objects of all values were met
 pub meet_values-returns : goal.meet_values-returns
 meet_values-returns t c =
     let items = c.as_slice-value-items.result.now in

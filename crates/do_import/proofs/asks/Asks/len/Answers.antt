@@ -3,6 +3,7 @@ use Rattle.std.specs.FinMap.{len-entries, entries-from_sorted}
 use Rattle.do_import.specs.Asked.{ask_cmp}
 use Rattle.do_import.proofs.asks.Asks.len.Goals as goal
 
+-- there are as many asks as rows
 pub returns : goal.returns
 returns c =
     let rows = c.self.inside.asks.rows in

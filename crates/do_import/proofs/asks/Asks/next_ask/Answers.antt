@@ -4,6 +4,7 @@ use Rattle.do_import.specs.Asked.{ask_cmp}
 use Rattle.do_import.proofs.AskRows.{none_asked, other_asked, lowest_asked, are_same, are_other}
 use Rattle.do_import.proofs.asks.Asks.next_ask.Goals as goal
 
+-- where no row is found there is none behind
 pub returns-in_default-first_from : goal.returns-in_default-first_from
 returns-in_default-first_from c =
     let rows = c.self.inside.asks.rows in
@@ -12,6 +13,7 @@ returns-in_default-first_from c =
     ∙ sym c.in_default-first_from.ensures in
     rw (← c.self.view_is) (none_asked rows c.self.invariant c.args.peer first)
 
+-- where the row that is found is of another home, there is none of the home
 pub returns-then-ne : goal.returns-then-ne
 returns-then-ne c =
     let rows = c.self.inside.asks.rows in
@@ -21,6 +23,7 @@ returns-then-ne c =
     let other = are_other _ c.args.peer c.ne.result c.ne.ensures c.if-ne.true in
     rw (← c.self.view_is) (other_asked rows c.self.invariant c.args.peer _ first other)
 
+-- else it is the lowest
 pub returns : goal.returns
 returns c =
     let rows = c.self.inside.asks.rows in

@@ -8,6 +8,7 @@ use Rattle.do_export.specs.Counts.{entry_cmp}
 use Rattle.do_export.proofs.Order.{entry_total, entry_same}
 use Rattle.do_import.proofs.by_object.ByObject+ClassId.end_home.Goals as goal
 
+-- the rows that are left are still in their order
 pub invariant_of-self : goal.invariant_of-self
 invariant_of-self c =
     let rows = filter_same _
@@ -17,6 +18,7 @@ invariant_of-self c =
     (λ k. not (k.0 == c.args.home) || map.contains_key c.args.counted.now.rows k)
     c.self.inside.rows.rows c.self.invariant)
 
+-- the rows of other homes are left, and those that are counted
 pub returns-clause-rows : goal.returns-clause-rows
 returns-clause-rows c =
     let rows = filter_same _

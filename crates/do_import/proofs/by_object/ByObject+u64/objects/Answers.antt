@@ -6,12 +6,14 @@ use Rattle.do_import.specs.ByObject.{object_of}
 use Rattle.do_import.proofs.NextRow.{read_row, no_row}
 use Rattle.do_import.proofs.by_object.ByObject+u64.objects.Goals as goal
 
+-- there is a row at each place
 pub unreachable-requires : goal.unreachable-requires
 unreachable-requires c =
     let ended = no_row (map.entries c.args.self.now.rows) c.loop-at.at
     (sym c.row.ensures ∙ ap option_copied c.in_default.is) in
     absurd (omega (arith, ended, c.loop-at-test.true, c.len-at-end.ensures))
 
+-- the object of one more row
 pub loop-at-preserved : goal.loop-at-preserved
 loop-at-preserved c =
     let row = c.in-Some.row.now in
@@ -20,6 +22,7 @@ loop-at-preserved c =
     ∙ sym (read_row object_of (λ e. e.0) (map.entries c.args.self.now.rows) c.loop-at.at row
     (sym c.row.ensures ∙ ap option_copied c.in-Some.is))
 
+-- the objects of all rows
 pub returns : goal.returns
 returns c =
     c.loop-at.invariant

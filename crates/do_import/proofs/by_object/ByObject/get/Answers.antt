@@ -2,6 +2,7 @@ use Rattle.std.proofs.Common.{sym, refl, ◌∙◌}
 use Rattle.do_export.proofs.Order.{found_is}
 use Rattle.do_import.proofs.by_object.ByObject.get.Goals as goal
 
+-- what is found is the value of the object
 pub returns : goal.returns
 returns g c =
     let rows = c.self.inside.rows.rows in

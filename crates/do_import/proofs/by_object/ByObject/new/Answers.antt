@@ -3,5 +3,6 @@ use Rattle.do_sorted.proofs.RowsAsMap.{from_nothing}
 use Rattle.do_export.proofs.Order.{entry_total, entry_same}
 use Rattle.do_import.proofs.by_object.ByObject.new.Goals as goal
 
+-- no rows are no objects
 pub returns : goal.returns
 returns g c = rw (c.new.ensures, from_nothing entry_total entry_same) refl

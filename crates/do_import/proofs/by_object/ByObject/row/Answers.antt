@@ -3,6 +3,7 @@ use Rattle.std.specs.FinMap.{entries-from_sorted}
 use Rattle.do_export.specs.Counts.{entry_cmp}
 use Rattle.do_import.proofs.by_object.ByObject.row.Goals as goal
 
+-- the rows are the objects in their order
 pub returns : goal.returns
 returns g c = rw (← c.self.view_is) (c.row.ensures.value
     ∙ ap (λ es. slice_get es c.args.at)

@@ -6,6 +6,7 @@ use Rattle.do_import.proofs.Threads.{ended_threaded}
 use Rattle.do_import.proofs.Rooms.{len_others, min_keeps}
 use Rattle.do_import.proofs.holdings.Holdings.end_peer.Goals as goal
 
+-- the thread is right, and has its room, without the objects of the home
 pub invariant_of-self : goal.invariant_of-self
 invariant_of-self c =
     let rows = filter_same _ (λ row. not (row.0.0 == c.args.home)) _
@@ -21,6 +22,7 @@ invariant_of-self c =
       used = c.self.invariant.used;
     }
 
+-- no room is taken
 pub returns-clause-spare : goal.returns-clause-spare
 returns-clause-spare c =
     let fewer = len_others c.self.inside.received.counts c.args.home in

@@ -5,12 +5,14 @@ use Rattle.do_import.proofs.Threads.{got_kept}
 use Rattle.do_import.proofs.Rooms.{not_longer, len_named, room_of, one_off, min_falls}
 use Rattle.do_import.proofs.holdings.Holdings.got.Goals as goal
 
+-- the thread has room for one more
 pub thread_unless-requires : goal.thread_unless-requires
 thread_unless-requires c =
     let old = c.self.invariant in
     let room = room_of _ _ _ _ (rw (← c.self.view_is) at c.requires.room) in
     record { room = inr (omega (arith, room, not_longer _ _ _ old.threads)) }
 
+-- the thread is right, and has its room, with one more that was received
 pub invariant_of-self : goal.invariant_of-self
 invariant_of-self c =
     let old = c.self.invariant in
@@ -27,6 +29,7 @@ invariant_of-self c =
       used = old.used;
     }
 
+-- the room for one is taken at most
 pub returns-clause-spare : goal.returns-clause-spare
 returns-clause-spare c =
     let more = len_named c.self.inside.received.counts c.oid.inside.node c.oid.inside.serial in

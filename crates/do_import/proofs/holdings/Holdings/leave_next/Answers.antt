@@ -5,6 +5,7 @@ use Rattle.do_import.proofs.Threads.{leave_threaded}
 use Rattle.do_import.proofs.Rooms.{len_removed, min_keeps}
 use Rattle.do_import.proofs.holdings.Holdings.leave_next.Goals as goal
 
+-- the thread is right, and has its room, without the one that leaves
 pub invariant_of-self : goal.invariant_of-self
 invariant_of-self c =
     let fewer = len_removed c.self.inside.received.counts (c.oid.inside.node, c.oid.inside.serial)
@@ -19,6 +20,7 @@ invariant_of-self c =
       used = c.self.invariant.used;
     }
 
+-- no room is taken
 pub returns-clause-spare : goal.returns-clause-spare
 returns-clause-spare c =
     let fewer = len_removed c.self.inside.received.counts (c.oid.inside.node, c.oid.inside.serial)

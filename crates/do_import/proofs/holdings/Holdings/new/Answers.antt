@@ -4,6 +4,7 @@ use Rattle.do_export.specs.Counts.{Exported}
 use Rattle.do_import.proofs.Rooms.{empty_roomy}
 use Rattle.do_import.proofs.holdings.Holdings.new.Goals as goal
 
+-- an empty thread is right where nothing was received
 pub invariant_of-result : goal.invariant_of-result
 invariant_of-result c =
     empty_roomy _ _ _ _ (ap (λ (e : Exported). e.counts) c.new.ensures)

@@ -6,6 +6,7 @@ use Rattle.do_import.proofs.Threads.{refer_threaded}
 use Rattle.do_import.proofs.Rooms.{one_off, min_falls}
 use Rattle.do_import.proofs.holdings.Holdings.refer.Goals as goal
 
+-- the thread is right without an object that is used
 pub invariant_of-self : goal.invariant_of-self
 invariant_of-self c = record {
   threads = subst (λ m. IsThread c.self.inside.received.counts m c.remove.new.self.rows)
@@ -17,6 +18,7 @@ invariant_of-self c = record {
       (positive-raised _ _ _ c.self.invariant.used);
 }
 
+-- the room for one use is taken
 pub returns-clause-spare : goal.returns-clause-spare
 returns-clause-spare c =
     rw (← c.self.view_is)

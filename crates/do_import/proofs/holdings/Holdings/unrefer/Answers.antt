@@ -8,6 +8,7 @@ use Rattle.do_import.proofs.Threads.{used_some, and_false}
 use Rattle.do_import.proofs.Rooms.{is_shorter, room_or, min_keeps}
 use Rattle.do_import.proofs.holdings.Holdings.unrefer.Goals as goal
 
+-- where an object is still used, the thread stays as it is
 pub invariant_of-self : goal.invariant_of-self
 invariant_of-self c =
     let which = c.in-Ok.ensures.which in
@@ -22,6 +23,7 @@ invariant_of-self c =
           (positive-lowered _ _ _ (omega (arith, which.0)) c.self.invariant.used);
     }
 
+-- the thread has room for an object that was received
 pub thread_unless-requires : goal.thread_unless-requires
 thread_unless-requires c =
     let received = c.self.inside.received.counts in
@@ -39,6 +41,7 @@ thread_unless-requires c =
           omega (arith, less, c.self.invariant.room));
     }
 
+-- and is right with one whose last use is gone
 pub invariant_of-self-2 : goal.invariant_of-self-2
 invariant_of-self-2 c =
     let which = c.in-Ok.ensures.which in
@@ -54,6 +57,7 @@ invariant_of-self-2 c =
           (positive-lowered _ _ _ (omega (arith, which.0)) c.self.invariant.used);
     }
 
+-- no room is taken
 pub returns-clause-spare : goal.returns-clause-spare
 returns-clause-spare c =
     rw (← c.self.view_is)

@@ -2,6 +2,7 @@ use Rattle.do_import.proofs.KeptClasses.{asked_classes}
 use Rattle.do_import.proofs.AskCounts.{ask_counted}
 use Rattle.do_import.proofs.imports.Imports.ask.Goals as goal
 
+-- a new ask is counted by its object, whose class is kept
 pub invariant_of-self-2 : goal.invariant_of-self-2
 invariant_of-self-2 c =
     let now = ask_counted _ _ _ _

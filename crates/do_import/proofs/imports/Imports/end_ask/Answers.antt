@@ -2,6 +2,7 @@ use Rattle.do_import.proofs.KeptClasses.{ended_classes}
 use Rattle.do_import.proofs.AskCounts.{end_counted}
 use Rattle.do_import.proofs.imports.Imports.end_ask.Goals as goal
 
+-- an ask that is over is counted no more, and the class stays of what is known
 pub invariant_of-self : goal.invariant_of-self
 invariant_of-self c =
     let now = end_counted _ _ _ _

@@ -1,6 +1,7 @@
 use Rattle.do_import.proofs.KeptClasses.{got_classes}
 use Rattle.do_import.proofs.imports.Imports.got.Goals as goal
 
+-- the class is kept of an object that was received
 pub invariant_of-self : goal.invariant_of-self
 invariant_of-self c = rw (c.got.ensures.received, c.keep.ensures.rows)
     (record {

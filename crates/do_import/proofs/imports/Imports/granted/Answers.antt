@@ -3,6 +3,7 @@ use Rattle.do_import.proofs.KeptClasses.{granted_classes}
 use Rattle.do_import.proofs.AskCounts.{end_counted}
 use Rattle.do_import.proofs.imports.Imports.granted.Goals as goal
 
+-- an ask that was granted is counted no more, and the class of its object stays
 pub invariant_of-self : goal.invariant_of-self
 invariant_of-self c =
     let now = end_counted _ _ _ _

@@ -1,6 +1,7 @@
 use Rattle.do_import.proofs.KeptClasses.{left_classes}
 use Rattle.do_import.proofs.imports.Imports.leave_next.Goals as goal
 
+-- the class of an object that leaves stays where it was asked for
 pub invariant_of-self-2 : goal.invariant_of-self-2
 invariant_of-self-2 c = rw (c.leave_class.ensures.rows, c.in-Some.ensures.which.2)
     (record {

@@ -1,9 +1,15 @@
 use Rattle.do_import.proofs.AskCounts.{lend_counted, lend_numbered}
 use Rattle.do_import.proofs.imports.Imports.lend.Goals as goal
 
+-- a new lend is counted by its object, under a number below the next
 pub invariant_of-self : goal.invariant_of-self
 invariant_of-self c =
-    rw (c.refer.ensures.received, c.add.ensures.rows, c.lend-number.ensures.lends, c.lend-number.ensures.next)
+    rw (
+      c.refer.ensures.received,
+      c.add.ensures.rows,
+      c.lend-number.ensures.lends,
+      c.lend-number.ensures.next,
+    )
     (record {
       known = c.self.invariant.known;
       counts = c.self.invariant.counts;

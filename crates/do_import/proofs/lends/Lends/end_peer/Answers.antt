@@ -3,12 +3,14 @@ use Rattle.std.proofs.lemmas.Fn.{filter_same}
 use Rattle.do_export.proofs.Order.{others_are}
 use Rattle.do_import.proofs.lends.Lends.end_peer.Goals as goal
 
+-- the rows of other peers are still in their order
 pub invariant_of-self : goal.invariant_of-self
 invariant_of-self c =
     let rows = filter_same _ (λ row. not (row.0.0 == c.port-port.result)) _
     (λ x b f called. search rules) _ _ c.retain.ensures.filtered in
     (others_are _ _ c.self.invariant _ _ c.port-port.ensures.value rows).0
 
+-- the lends to other peers are left
 pub returns-clause-lends : goal.returns-clause-lends
 returns-clause-lends c =
     let rows = filter_same _ (λ row. not (row.0.0 == c.port-port.result)) _

@@ -2,6 +2,7 @@ use Rattle.std.proofs.Common.{sym, ◌∙◌}
 use Rattle.do_export.proofs.Order.{found_is}
 use Rattle.do_import.proofs.lends.Lends.object.Goals as goal
 
+-- the row that is found has the object
 pub returns : goal.returns
 returns c =
     let rows = c.self.inside.lends.rows in

@@ -11,6 +11,7 @@ use Rattle.do_stack.proofs.UsesExchanged.{uses_exchanged}
 use Rattle.do_stack.proofs.UsesMove.{change_uses, keeps_rest}
 use Rattle.do_stack.proofs.stack.Stack.change.Goals as goal
 
+-- what the top invocation takes and gives is what is named more and less
 pub returns-clause-uses : goal.returns-clause-uses
 returns-clause-uses c = λ top o is.
     let stack = c.self.inside.invs.items in
