@@ -15,8 +15,8 @@ module _ (x : Posted) (l : Link) where
       sent_where : Bool → List Sending
       sent_where greeted =
           map (λ (piece : Piece). record { to = x.to; piece = piece })
-          (cond greeted (Framed (raw l.sent x.frame) ∷ [])
-          (Greeting ∷ Framed (raw l.sent x.frame) ∷ []))
+          (cond greeted (Framed x.frame (raw l.sent x.frame) ∷ [])
+          (Greeting ∷ Framed x.frame (raw l.sent x.frame) ∷ []))
 
       go : (b : Bool) → sent_where b
           ≡ cond b (framed_to x l ∷ []) (greeting_to x.to ∷ framed_to x l ∷ [])

@@ -28,7 +28,7 @@ pub record NetStepped : Type 0 where
 -- what stands in a channel behind what is sent over it
 abbrev pub carrying : Piece → Channel → Channel
 carrying Greeting c = record c { greeting = true }
-carrying (Framed f) c = record c { waiting = c.waiting ++ Whole f ∷ [] }
+carrying (Framed f spelled) c = record c { waiting = c.waiting ++ Whole spelled ∷ [] }
 
 -- the channels of a site with what it sent
 abbrev pub with_sending : List Channel → Sending → List Channel

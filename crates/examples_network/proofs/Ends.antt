@@ -7,6 +7,7 @@ use Rattle.do_behave.specs.declared.invocation.Invocation.{Invocation}
 use Rattle.do_behave.specs.declared.invocation.Answer.TheVariants.{Raised}
 use Rattle.do_behave.specs.declared.invocation.InvState.TheVariants.{Answered}
 use Rattle.do_class.specs.Class.{Class}
+use Rattle.do_frames.specs.declared.frame.Frame.TheVariants.{Shutdown}
 use Rattle.do_frames.specs.declared.frame.RawFrame.{RawFrame}
 use Rattle.do_machine.specs.run.Run.{Acting}
 use Rattle.do_network.specs.declared.fault.PeerFault.TheVariants.{BadFrame, UnknownToken}
@@ -24,7 +25,7 @@ caller = site_of (record (node_of 7001 (7002 ∷ [])) { stack = waiting 3 ∷ []
 -- the notice that an end was closed, to 7002, with which the stream begins
 abbrev goodbye : List Sending
 goodbye = record { to = 7002; piece = Greeting }
-    ∷ record { to = 7002; piece = Framed (record { kind = 12; payload = [] }) } ∷ []
+    ∷ record { to = 7002; piece = Framed Shutdown (record { kind = 12; payload = [] }) } ∷ []
 
 -- the invocations once the peer is gone
 abbrev failed : List Invocation

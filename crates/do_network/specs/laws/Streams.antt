@@ -10,4 +10,4 @@ greeting_to peer = record { to = peer; piece = Greeting }
 
 -- a frame, sent over a link and spelled by the names that were sent over it lately
 abbrev pub framed_to : Posted → Link → Sending
-framed_to x l = record { to = x.to; piece = Framed (raw l.sent x.frame) }
+framed_to x l = record { to = x.to; piece = Framed x.frame (raw l.sent x.frame) }
