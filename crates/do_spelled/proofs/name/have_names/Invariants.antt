@@ -1,0 +1,9 @@
+use Rattle.std.proofs.Common.{take}
+use Rattle.std.specs.List.{AllByRecursion}
+use Rattle.do_coder.specs.Names.{IsName}
+use Rattle.do_coder.specs.Packets.{surroundings, sides_of}
+use Rattle.do_spelled.proofs.name.have_names.Given as goal
+
+abbrev pub invariant-loop-name : goal.invariant-loop-name
+invariant-loop-name l =
+    AllByRecursion (IsName (sides_of (surroundings l.table l.from l.to))) (take l.name-index l.names)
