@@ -32,7 +32,7 @@ module _ {P A : Type 0} (view : View P A) where
       ∙ sym (append_assoc (noted p.to (view.atoms p.item)) _ _)
 
   -- the notes of parcels to a peer have the atoms of their items
-  posted_to : (peer : ℕ) (sent : List Parcel) →
+  pub posted_to : (peer : ℕ) (sent : List Parcel) →
       atoms_of peer (posted view sent) ≡ flat_map view.atoms (items_to peer sent)
   posted_to peer [] = refl
   posted_to peer (p ∷ ps) =

@@ -28,7 +28,7 @@ IsLinked S port n = (peer : ℕ) → queue S port peer ≡ None → is_open n pe
 module _ {P A V : Type 0} (view : View P A) (rules : Rules P A V) (Ok : P → Type 0)
     (bridge : Bridge view rules Ok) where
   -- moves open no end, and post nothing over a closed one
-  closed_still : (vs : List V) (p : P) (peer : ℕ) → Mays rules p vs →
+  pub closed_still : (vs : List V) (p : P) (peer : ℕ) → Mays rules p vs →
       rules.opens p peer ≡ false → (rules.opens (afters rules p vs) peer ≡ false)
       × (atoms_of peer (all_posts rules p vs) ≡ [])
   closed_still [] p peer may h = (h, refl)
@@ -41,7 +41,7 @@ module _ {P A V : Type 0} (view : View P A) (rules : Rules P A V) (Ok : P → Ty
       )
 
   -- a node stays as it should be
-  ok_still : (vs : List V) (p : P) → Mays rules p vs → Ok p → Ok (afters rules p vs)
+  pub ok_still : (vs : List V) (p : P) → Mays rules p vs → Ok p → Ok (afters rules p vs)
   ok_still [] p may ok = ok
   ok_still (v ∷ vs) p may ok =
       ok_still vs (rules.after p v) may.1 (bridge.stays p v ok may.0)

@@ -8,11 +8,14 @@ pub mod OnceInLists
 pub mod steps
 pub mod links
 pub mod Chains
+pub mod RulesOfActs
+pub mod Deliveries
 pub mod AsksOverOpenEnds
 pub mod Bridge
 pub mod EffectReaches
 pub mod TakeReaches
 pub mod StepReaches
+pub mod NodeRuns
 pub mod OpeningAsNet
 pub mod ReachedStates
 pub mod FirstOnWire

@@ -1,6 +1,6 @@
 -- Lists in which nothing stands twice, and what is taken out of them.
 use Rattle.std.proofs.Common.{◌≡◌, ◌||◌, ◌&&◌, Bool, true, false, cond, not, List, [], ◌∷◌, filter}
-use Rattle.std.proofs.Common.{refl, sym, ap, ◌∙◌, inl, inr}
+use Rattle.std.proofs.Common.{refl, sym, ap, ◌∙◌, ◌++◌, inl, inr, subst}
 use Rattle.std.specs.List.{AllByRecursion, IsDistinct, list_any}
 use Rattle.std.proofs.lemmas.Map.Keys.{IsDistinct-IsPermutation}
 use Rattle.std.proofs.lemmas.Map.Views.{any-filter_same}
@@ -46,7 +46,7 @@ module _ {X : Type 0} where
       ∙ ap (λ ys. cond (g x) (x ∷ ys) ys) (filter_agrees f g xs (λ y i. h y (inr i)))
 
   -- a filter of what another left
-  filter_twice : (f g : X → Bool) (xs : List X) →
+  pub filter_twice : (f g : X → Bool) (xs : List X) →
       filter f (filter g xs) ≡ filter (λ x. g x && f x) xs
   filter_twice f g [] = refl
   filter_twice f g (x ∷ xs) = go (g x) (filter_twice f g xs)
@@ -190,6 +190,24 @@ module _ {X : Type 0} where
       go true e r (inl s) = (inl s, ap f (sym s) ∙ e)
       go true e r (inr j) = (inr (r j).0, (r j).1)
       go false e r j = (inr (r j).0, (r j).1)
+
+  -- what is among all, and passes, is among some
+  pub still_in : (f : X → Bool) (xs : List X) (x : X) → IsIn xs x → f x ≡ true →
+      IsIn (filter f xs) x
+  still_in f [] x i e = absurd i
+  still_in f (y ∷ ys) x (inl s) e =
+      subst (λ b. IsIn (cond b (y ∷ filter f ys) (filter f ys)) x) (sym (ap f s ∙ e)) (inl s)
+  still_in f (y ∷ ys) x (inr i) e = go (f y) (still_in f ys x i e)
+    where
+      go : (b : Bool) → IsIn (filter f ys) x → IsIn (cond b (y ∷ filter f ys) (filter f ys)) x
+      go true j = inr j
+      go false j = j
+
+  -- what is in a list is in a longer one
+  pub in_first : (xs ys : List X) (x : X) → IsIn xs x → IsIn (xs ++ ys) x
+  in_first [] ys x i = absurd i
+  in_first (y ∷ xs) ys x (inl s) = inl s
+  in_first (y ∷ xs) ys x (inr i) = inr (in_first xs ys x i)
 
   module _ (same : X → X → Bool) where
     -- what is in a list is the same as something in it

@@ -34,7 +34,7 @@ use Rattle.do_facts.proofs.Bridge.{Bridge}
 use Rattle.do_facts.proofs.EffectReaches.{reaches_moved}
 use Rattle.do_facts.proofs.Paths.{reaches_lost}
 use Rattle.do_facts.proofs.RequeueAsNet.{net_requeued}
-use Rattle.do_facts.proofs.AsksOverOpenEnds.{not_closed}
+use Rattle.do_facts.proofs.Chains.{not_closed}
 use Rattle.do_facts.proofs.TakeReaches.{Comes, comes_if, comes_same, comes_take, linked_here}
 
 module _ {P A V : Type 0} (view : View P A) (rules : Rules P A V) (Ok : P → Type 0)

@@ -23,6 +23,7 @@ pub mod LinksKept
 pub mod OpeningLinks
 pub mod NoEndTold
 pub mod ReportsKnown
+pub mod LendsLast
 pub mod ReachedLinks
 pub mod StepsByActs
 pub mod HeldChanged

@@ -1,7 +1,10 @@
 pub mod EachIsStep
 pub mod NodesAtHome
 pub mod OthersStay
+pub mod NodeSteps
+pub mod RuleMoves
 pub mod QueuesOfSteps
+pub mod QueuesAbsent
 pub mod EntriesOfSteps
 pub mod HeldReferred
 pub mod GivenUp

@@ -3,3 +3,4 @@ pub mod Moves
 pub mod Sound
 pub mod Facts
 pub mod LinksAreKept
+pub mod Lasting

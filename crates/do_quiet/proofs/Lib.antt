@@ -15,3 +15,4 @@ pub mod BackedMoves
 pub mod BackedStates
 pub mod LendsKept
 pub mod AsksGranted
+pub mod LendsLast

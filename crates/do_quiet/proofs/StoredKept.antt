@@ -27,7 +27,7 @@ use Rattle.do_facts.specs.Made.{is_stored}
 use Rattle.do_quiet.specs.Quiet.{NothingLent, NothingWaits}
 
 -- an object that slots name is named by those of a stored object
-heap_found : (xs : List Stored) (o : ObjectName) → has_object (heap_objects xs) o ≡ true →
+pub heap_found : (xs : List Stored) (o : ObjectName) → has_object (heap_objects xs) o ≡ true →
     (x : Stored) × IsIn xs x × (has_object (objects_in x.slots) o ≡ true)
 heap_found [] o h = absurd (cc)
 heap_found (x ∷ xs) o h =
@@ -60,6 +60,14 @@ in_stored (y ∷ ys) x (inl e) =
 in_stored (y ∷ ys) x (inr i) =
     let more = in_stored ys x i in
     grind (arith, nat_tests, more)
+
+-- a number that passes
+pub passing : (f : ℕ → Bool) (ps : List ℕ) → list_any f ps ≡ true → (p : ℕ) × (f p ≡ true)
+passing f [] h = absurd (cc)
+passing f (p ∷ ps) h = elim (or_cases (f p) (list_any f ps) h) [
+  | inl x ↦ (p, x)
+  | inr x ↦ passing f ps x
+]
 
 module _ (S : State) (keep : NodesKeep S) (waits : NothingWaits S) (none : NothingLent S)
     (o : ObjectName) where
@@ -128,14 +136,6 @@ module _ (S : State) (keep : NodesKeep S) (waits : NothingWaits S) (none : Nothi
         | inr x ↦ absurd (not_queued (λ item. has_object (released peer o.node item) o) peer
             o.node (queue S peer o.node) refl x)
       ]
-
-  -- a number that passes
-  passing : (f : ℕ → Bool) (ps : List ℕ) → list_any f ps ≡ true → (p : ℕ) × (f p ≡ true)
-  passing f [] h = absurd (cc)
-  passing f (p ∷ ps) h = elim (or_cases (f p) (list_any f ps) h) [
-    | inl x ↦ (p, x)
-    | inr x ↦ passing f ps x
-  ]
 
   -- a stored object is held up
   stored_there : (found : Option Node) → node S o.node ≡ found →

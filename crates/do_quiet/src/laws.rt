@@ -1,12 +1,14 @@
-ghost use Rattle.std.specs.Prelude.{List};
+ghost use Rattle.std.specs.Prelude.{List, ℕ, ◌++◌};
 ghost use Rattle.std.specs.List.{AllByRecursion};
 ghost use Rattle.do_base.specs.declared.events.event.Event.{Event};
 ghost use Rattle.do_class.specs.Class.{Class};
+ghost use Rattle.do_machine.specs.declared.node.Lend.{Lend};
 ghost use Rattle.do_machine.specs.declared.state.Seat.{Seat};
 ghost use Rattle.do_machine.specs.run.Run.{Acting};
 ghost use Rattle.do_facts.specs.Reached.{reached};
 ghost use Rattle.do_facts.specs.Made.{is_stored};
 ghost use Rattle.do_quiet.specs.Keeping.{AreKeptByAll, NodesKeep};
+ghost use Rattle.do_quiet.specs.Lasting.{IsKeptWhileLent, IsLent, NoNotice};
 ghost use Rattle.do_quiet.specs.Quiet.{AllEndsOpen, AsksAreGranted, IsNoBreak, LentAreKept};
 ghost use Rattle.do_quiet.specs.Quiet.{NothingLent, NothingWaits};
 
@@ -22,6 +24,16 @@ pub fn lent_objects_are_kept()
     ensures { (table : List Class) (act : Acting) (seats : List Seat) (events : List Event) →
         AllEndsOpen (reached table act seats events) →
         LentAreKept (reached table act seats events) }
+{}
+
+/// As long as all ends are open, a lend lasts over a run until its node takes the borrower's notice
+/// that it is over, and so long the node holds or asks for the object.
+pub fn lends_last_while_ends_are_open()
+    ensures { (table : List Class) (act : Acting) (seats : List Seat) (events more : List Event)
+        (port : ℕ) (l : Lend) → IsLent (reached table act seats events) port l →
+        AllEndsOpen (reached table act seats (events ++ more)) →
+        NoNotice table act (reached table act seats events) port l more →
+        IsKeptWhileLent (reached table act seats (events ++ more)) port l }
 {}
 
 /// As long as all ends are open, each object that a node asks for is stored at its home, and no ask

@@ -9,6 +9,7 @@
 mod laws;
 
 pub use laws::{
-    asks_are_granted, ends_stay_open_unless_broken, lent_objects_are_kept,
-    nodes_keep_what_is_held_up, nothing_is_lent_when_quiet, stored_are_kept_by_all,
+    asks_are_granted, ends_stay_open_unless_broken, lends_last_while_ends_are_open,
+    lent_objects_are_kept, nodes_keep_what_is_held_up, nothing_is_lent_when_quiet,
+    stored_are_kept_by_all,
 };

@@ -1,19 +1,14 @@
 -- A run is moves of a node's calls.
-use Rattle.std.proofs.Common.{◌≡◌, ◌∙◌, ℕ, true, false, not, List, [], ◌∷◌, map, refl, sym, ap}
+use Rattle.std.proofs.Common.{◌≡◌, ◌∙◌, ℕ, true, false, List, [], ◌∷◌, map, refl, sym, ap}
 use Rattle.std.proofs.Common.{subst}
 use Rattle.std.specs.Prelude.{Option, Some, None, option_map}
-use Rattle.do_base.specs.declared.events.exception.Exc.{Exc}
-use Rattle.do_base.specs.declared.events.exception.Exc.TheVariants.{TooLarge}
-use Rattle.do_class.specs.declared.packet.Packet.{Packet}
 use Rattle.do_behave.specs.declared.invocation.Answer.{Answer}
-use Rattle.do_behave.specs.declared.invocation.Answer.TheVariants.{Given, Raised}
-use Rattle.do_behave.specs.declared.invocation.Handler.{Handler}
+use Rattle.do_behave.specs.declared.invocation.Answer.TheVariants.{Given}
 use Rattle.do_behave.specs.declared.invocation.Invocation.{Invocation}
 use Rattle.do_behave.specs.declared.invocation.InvState.{InvState}
 use Rattle.do_behave.specs.declared.invocation.InvState.TheVariants as states
 use Rattle.do_behave.specs.declared.invocation.Reason.{Reason}
 use Rattle.do_behave.specs.declared.invocation.Reason.TheVariants as reasons
-use Rattle.do_machine.specs.declared.item.Item.TheVariants as items
 use Rattle.do_machine.specs.declared.node.Node.{Node}
 use Rattle.do_machine.specs.declared.state.Effect.{Effect}
 use Rattle.do_machine.specs.declared.verdict.Request.{Request}
@@ -23,12 +18,8 @@ use Rattle.do_machine.specs.declared.verdict.Verdict.TheVariants.{Asks, Begins, 
 use Rattle.do_machine.specs.declared.verdict.Verdict.TheVariants.{Returns, Says, Steps, Tells, Uses}
 use Rattle.do_machine.specs.declared.verdict.Verdict.TheVariants.{Vends}
 use Rattle.do_machine.specs.Context.{Context, RunContext}
-use Rattle.do_machine.specs.Effect.{only, queueing}
 use Rattle.do_machine.specs.State.{is_open}
-use Rattle.do_machine.specs.lend.Lending.{posting}
-use Rattle.do_machine.specs.Packing.{packed_for}
-use Rattle.do_machine.specs.run.Answers.{answer_placed, oneway_answer, replying}
-use Rattle.do_machine.specs.run.Delivery.{below_answered, delivery, failing, popped}
+use Rattle.do_machine.specs.run.Delivery.{below_answered}
 use Rattle.do_machine.specs.run.Acts.{act_rule}
 use Rattle.do_machine.specs.run.Run.{Acting, answer_rule, next_act, run_effect, run_on, state_rule}
 use Rattle.do_machine.specs.run.Verdicts.{effect_of}
@@ -36,14 +27,13 @@ use Rattle.do_facts.proofs.IsSent.{IsSent}
 use Rattle.do_facts.specs.Net.{Note}
 use Rattle.do_facts.specs.Moves.{Runs}
 use Rattle.do_facts.specs.View.{AreMoves, posted}
-use Rattle.do_facts.specs.calls.Calls.{Atom, Calls, Frame, Idle, calls, calls_of, frame_of}
+use Rattle.do_facts.specs.calls.Calls.{Answer as Answers, Atom, Calls, Frame, Idle, calls, calls_of, frame_of}
 use Rattle.do_facts.specs.calls.Calls.{wait_of}
 use Rattle.do_facts.specs.calls.Moves as Move
 use Rattle.do_facts.specs.calls.Moves.{call_rules, first_rested, idle, is_call, is_local}
-use Rattle.do_facts.proofs.Chains.{either}
+use Rattle.do_facts.proofs.Deliveries.{Delivers, by_delivery, by_failing}
 use Rattle.do_facts.proofs.Runs.{moves_once, stands_by}
-use Rattle.do_facts.proofs.AsksOverOpenEnds.{by_act, by_answer, not_closed}
-use Rattle.do_facts.proofs.links.AskingIsMoves.{is_closed}
+use Rattle.do_facts.proofs.AsksOverOpenEnds.{by_act, by_answer}
 
 -- an effect is moves that take nothing, where there is one
 abbrev pub MovesIf : Node → Option Effect → Type 0
@@ -77,57 +67,37 @@ module _ (r : RunContext) where
   quiet : {p q : Calls} {sent : List (Note Atom)} → p ≡ q → sent ≡ [] → Runs call_rules p [] q sent
   quiet same none = stands_by call_rules same none
 
-  -- an answer with its result packed, or one that is too large
-  by_packed : (peer number : ℕ) → is_open n peer ≡ true → (found : Option Packet) →
-      Acts (reasons.Call peer number) (elim found [
-        | None ↦ queueing peer (items.Raised number TooLarge) (popped r)
-        | Some p ↦ posting peer p (items.Reply number p) (popped r)
-      ])
-  by_packed peer number ends None =
-      moves_once call_rules (acting (reasons.Call peer number)) (Move.Replies peer number)
-      ((map frame_of r.below, refl), ends)
-  by_packed peer number ends (Some p) =
+  -- an answer goes back to a peer
+  replies : (peer number : ℕ) → is_open n peer ≡ true →
+      Runs call_rules (acting (reasons.Call peer number)) [] (with_frames (map frame_of r.below))
+      (Move.note peer (Answers number))
+  replies peer number ends =
       moves_once call_rules (acting (reasons.Call peer number)) (Move.Replies peer number)
       ((map frame_of r.below, refl), ends)
 
-  -- an answer that goes back to a peer
-  by_replying : (peer number : ℕ) → is_open n peer ≡ true → (a : Answer) →
-      Acts (reasons.Call peer number) (replying r peer number a (popped r))
-  by_replying peer number ends (Raised e) =
-      moves_once call_rules (acting (reasons.Call peer number)) (Move.Replies peer number)
-      ((map frame_of r.below, refl), ends)
-  by_replying peer number ends (Given v outs) =
-      by_packed peer number ends (packed_for r.context peer (answer_placed r v outs))
+  -- the top invocation ends, and nobody waits for it
+  finishes : (reason : Reason) → is_call reason ≡ false →
+      Runs call_rules (acting reason) [] (with_frames (map frame_of r.below)) []
+  finishes reason none =
+      moves_once call_rules (acting reason) (Move.Finishes reason)
+      ((map frame_of r.below, refl), none)
 
-  -- an answer that nobody waits for
-  by_oneway : (peer : ℕ) (a : Answer) → Acts (reasons.Oneway peer) (oneway_answer a (popped r))
-  by_oneway peer (Given v outs) =
-      moves_once call_rules (acting (reasons.Oneway peer)) (Move.Finishes (reasons.Oneway peer))
-      ((map frame_of r.below, refl), refl)
-  by_oneway peer (Raised e) =
-      moves_once call_rules (acting (reasons.Oneway peer)) (Move.Finishes (reasons.Oneway peer))
-      ((map frame_of r.below, refl), refl)
-
-  -- an answer, wherever it goes
-  by_delivery : (a : Answer) (reason : Reason) → Acts reason (delivery r a reason)
-  by_delivery a reasons.Start =
-      moves_once call_rules (acting reasons.Start) (Move.Finishes reasons.Start)
-      ((map frame_of r.below, refl), refl)
-  by_delivery a reasons.Local =
-      subst (λ fs. Runs call_rules (acting reasons.Local) [] (with_frames fs) [])
-      (rested_below a r.below)
-      (moves_once call_rules (acting reasons.Local) Move.Returns (map frame_of r.below, refl))
-  by_delivery a (reasons.Oneway peer) = by_oneway peer a
-  by_delivery a (reasons.Call peer number) =
-      either (Acts (reasons.Call peer number)) (not (is_open n peer)) (only (popped r)) _
-      (λ c. moves_once call_rules (acting (reasons.Call peer number)) (Move.Drops peer number)
-      ((map frame_of r.below, refl), is_closed (is_open n peer) c))
-      (λ o. by_replying peer number (not_closed (is_open n peer) o) a)
-
-  -- an exception, caught or not
-  by_failing : (e : Exc) (handler : Option Handler) → Acts r.top.reason (failing r e handler)
-  by_failing e None = by_delivery (Raised e) r.top.reason
-  by_failing e (Some h) = quiet refl refl
+  -- what may come of an answer
+  delivers : Delivers Acts r
+  delivers = record {
+    shown = λ a. finishes reasons.Start refl;
+    below = λ a. subst (λ fs. Runs call_rules (acting reasons.Local) [] (with_frames fs) [])
+        (rested_below a r.below)
+        (moves_once call_rules (acting reasons.Local) Move.Returns (map frame_of r.below, refl));
+    unheard = λ peer. finishes (reasons.Oneway peer) refl;
+    told = λ peer e. finishes (reasons.Oneway peer) refl;
+    dropped = λ peer number c.
+        moves_once call_rules (acting (reasons.Call peer number)) (Move.Drops peer number)
+        ((map frame_of r.below, refl), c);
+    raised = λ peer number e ends. replies peer number ends;
+    replied = λ peer number v outs packet ends h. replies peer number ends;
+    caught = λ e h. quiet refl refl;
+  }
 
   -- a request to a peer
   by_request : (peer : ℕ) (request : Request) (into pc : ℕ) (outs : List ℕ) →
@@ -162,8 +132,8 @@ module _ (r : RunContext) where
         moves_once call_rules (acting r.top.reason) Move.Begins
         (r.top.reason, (map frame_of r.below, refl))
     by_verdict (Tells peer m into pc) h = quiet refl refl
-    by_verdict (Returns result outs) h = by_delivery (Given result outs) r.top.reason
-    by_verdict (Fails e) h = by_failing e r.top.handler
+    by_verdict (Returns result outs) h = by_delivery Acts r delivers (Given result outs) r.top.reason
+    by_verdict (Fails e) h = by_failing Acts r delivers e r.top.handler
 
   module _ (stack : n.stack ≡ r.top ∷ r.below) where
     -- moves of a node whose top invocation acts are moves of the node

@@ -25,17 +25,12 @@ use Rattle.do_facts.specs.links.Moves.{telling}
 use Rattle.do_facts.proofs.Chains.{either}
 use Rattle.do_facts.proofs.CommitAsNet.{posted_behind}
 use Rattle.do_facts.proofs.Runs.{runs_on, stands}
-use Rattle.do_facts.proofs.AsksOverOpenEnds.{not_closed}
+use Rattle.do_facts.proofs.Chains.{is_closed, not_closed}
 use Rattle.do_facts.proofs.links.Acts.{act_rules, acts_once}
 
 -- the links of a node that holds other objects
 abbrev pub holding_links : List ObjectName → Node → Links
 holding_links held n = record (links_of n) { held = held }
-
--- an end that is not open is closed
-pub is_closed : (b : Bool) → not b ≡ true → b ≡ false
-is_closed true h = absurd (cc)
-is_closed false h = refl
 
 -- the lender is told where its end is open
 pub settled_posts : (w : Wanted) (n : Node) (told : Bool) → is_open n w.token.lender ≡ told →

@@ -1,10 +1,15 @@
 -- Each lend and each ask is in one place in every state that a machine comes to.
-use Rattle.std.proofs.Common.{◌==◌, ℕ, Bool, true, false, cond, List, sym, ap, ◌∙◌}
+use Rattle.std.proofs.Common.{◌==◌, ◌≡◌, ℕ, Bool, true, false, cond, List, sym, ap, ◌∙◌}
 use Rattle.std.proofs.Common.{subst}
+use Rattle.std.specs.Prelude.{Some}
 use Rattle.do_base.specs.declared.events.event.Event.{Event}
 use Rattle.do_class.specs.Class.{Class}
+use Rattle.do_machine.specs.declared.node.Lend.{Lend}
+use Rattle.do_machine.specs.declared.node.Node.{Node}
 use Rattle.do_machine.specs.declared.state.Seat.{Seat}
 use Rattle.do_machine.specs.declared.state.State.{State}
+use Rattle.do_machine.specs.Lists.{IsIn}
+use Rattle.do_machine.specs.State.{node}
 use Rattle.do_machine.specs.Step.{step}
 use Rattle.do_machine.specs.World.{opening}
 use Rattle.do_machine.specs.run.Run.{Acting}
@@ -16,18 +21,22 @@ use Rattle.do_facts.specs.Reached.{reached}
 use Rattle.do_facts.specs.View.{net_of, part_seen}
 use Rattle.do_facts.specs.links.Facts.{EachSilent, LinksHold, ReportsAreKnown}
 use Rattle.do_facts.specs.links.LinksAreKept.{LinksAreKept}
-use Rattle.do_facts.specs.links.Links.{Atom, Links, links}
+use Rattle.do_facts.specs.links.Lasting.{Lasts}
+use Rattle.do_facts.specs.links.Links.{Atom, Links, links, links_of}
 use Rattle.do_facts.specs.links.Moves.{Move, link_rules, opens}
 use Rattle.do_facts.specs.links.Sound.{IsSound}
+use Rattle.do_facts.proofs.NodeRuns.{NodeRuns, by_node}
 use Rattle.do_facts.proofs.Paths.{stays}
 use Rattle.do_facts.proofs.StepReaches.{by_step}
 use Rattle.do_facts.proofs.links.Bridge.{link_bridge}
+use Rattle.do_facts.proofs.links.LendsLast.{lasts}
 use Rattle.do_facts.proofs.links.LinksKept.{links_keep}
 use Rattle.do_facts.proofs.links.OpeningLinks.{opening_hold, opening_silent, opening_sound}
 use Rattle.do_facts.proofs.ReachedStates.{holds_of_reached}
 use Rattle.do_facts.proofs.links.ReportsKnown.{reports_known}
 use Rattle.do_facts.proofs.links.NoEndTold.{silent_keeps}
 use Rattle.do_facts.proofs.links.PartsAreSound.{sound_moved}
+use Rattle.do_facts.proofs.steps.NodeSteps.{node_step}
 
 -- each part of a net is sound
 abbrev pub AllSound : Net Links Atom → Type 0
@@ -68,6 +77,22 @@ module _ (table : List Class) (act : Acting) where
       })
       (λ port n h. subst (λ found. IsSound (part_seen links found)) h
       (kept.sound port)) table act event
+
+  -- a lend lasts until its notice is taken, or the end towards the borrower is closed
+  pub lends_last : (S : State) (event : Event) (port : ℕ) (n m : Node) (l : Lend) →
+      LinksAreKept S → node S port ≡ Some n → node (step table act S event).state port ≡ Some m →
+      IsIn n.lent l → Lasts S event port n m l
+  lends_last S event port n m l kept here there lent =
+      let now = node (step table act S event).state port in
+      lasts S event port n m l
+      (subst (λ q. NodeRuns links link_rules S event port (links_of n) q)
+      (ap (part_seen links) there)
+      (subst (λ p. NodeRuns links link_rules S event port p (part_seen links now))
+      (ap (part_seen links) here)
+      (by_node links link_rules IsSound link_bridge table act S
+      (λ p k h. subst (λ found. IsSound (part_seen links found)) h (kept.sound p)) event port now
+      (node_step table act S event port))))
+      lent
 
   -- every step keeps all that holds
   pub step_keeps : (S : State) (event : Event) → LinksAreKept S →

@@ -1,21 +1,13 @@
 -- A run, a start and a time-out are moves of what a node has of foreign objects.
-use Rattle.std.proofs.Common.{◌≡◌, ◌==◌, ◌++◌, ◌+◌, ℕ, true, not, List, [], ◌∷◌, refl, sym}
+use Rattle.std.proofs.Common.{◌≡◌, ◌==◌, ◌++◌, ◌+◌, ℕ, true, List, [], ◌∷◌, refl, sym}
 use Rattle.std.specs.Prelude.{Option, Some, None, option_map}
-use Rattle.do_base.specs.declared.events.exception.Exc.{Exc}
-use Rattle.do_base.specs.declared.events.exception.Exc.TheVariants.{TooLarge}
 use Rattle.do_base.specs.declared.values.value.Value.{Value}
 use Rattle.do_base.specs.declared.values.value.Value.TheVariants.{Nil}
 use Rattle.do_class.specs.Class.{Class}
-use Rattle.do_class.specs.declared.packet.Packet.{Packet}
-use Rattle.do_packet.specs.Copies.{Placed}
-use Rattle.do_behave.specs.declared.invocation.Answer.{Answer}
-use Rattle.do_behave.specs.declared.invocation.Answer.TheVariants.{Given, Raised}
-use Rattle.do_behave.specs.declared.invocation.Handler.{Handler}
+use Rattle.do_behave.specs.declared.invocation.Answer.TheVariants.{Given}
 use Rattle.do_behave.specs.declared.invocation.Invocation.{Invocation}
 use Rattle.do_behave.specs.declared.invocation.InvState.{InvState}
 use Rattle.do_behave.specs.declared.invocation.InvState.TheVariants as states
-use Rattle.do_behave.specs.declared.invocation.Reason.{Reason}
-use Rattle.do_behave.specs.declared.invocation.Reason.TheVariants as reasons
 use Rattle.do_machine.specs.declared.item.Item.TheVariants as items
 use Rattle.do_machine.specs.declared.node.Node.{Node}
 use Rattle.do_machine.specs.declared.state.Effect.{Effect}
@@ -26,16 +18,14 @@ use Rattle.do_machine.specs.declared.verdict.Verdict.TheVariants.{Asks, Begins, 
 use Rattle.do_machine.specs.declared.verdict.Verdict.TheVariants.{Returns, Says, Steps, Tells, Uses}
 use Rattle.do_machine.specs.declared.verdict.Verdict.TheVariants.{Vends}
 use Rattle.do_machine.specs.Context.{Context, RunContext}
-use Rattle.do_machine.specs.Effect.{only, queueing}
+use Rattle.do_machine.specs.Effect.{only}
 use Rattle.do_machine.specs.State.{is_open}
 use Rattle.do_machine.specs.Start.{begun, start_effect}
 use Rattle.do_machine.specs.ends.TimeOut.{give_up, time_out, time_out_on}
-use Rattle.do_machine.specs.lend.Lending.{posting}
-use Rattle.do_machine.specs.Packing.{packed_for}
-use Rattle.do_machine.specs.run.Answers.{answer_placed, oneway_answer, replying}
+use Rattle.do_machine.specs.run.Answers.{answer_placed}
 use Rattle.do_machine.specs.Lists.{change_first}
 use Rattle.do_machine.specs.run.Changes.{goes_on, stands as waits, uses_number, with_writes}
-use Rattle.do_machine.specs.run.Delivery.{delivery, failing, popped, with_top}
+use Rattle.do_machine.specs.run.Delivery.{popped, with_top}
 use Rattle.do_machine.specs.run.Fresh.{blank, pushed, with_serials}
 use Rattle.do_machine.specs.run.Run.{Acting, next_act, run_effect, run_on, state_rule}
 use Rattle.do_machine.specs.run.Verdicts.{effect_of, requesting, waits_for}
@@ -46,9 +36,9 @@ use Rattle.do_facts.specs.View.{AreMoves}
 use Rattle.do_facts.specs.links.Links.{Atom, Links, links, links_of}
 use Rattle.do_facts.specs.links.Moves.{Stores}
 use Rattle.do_facts.specs.links.Sound.{IsSound}
-use Rattle.do_facts.proofs.Chains.{either}
+use Rattle.do_facts.proofs.Deliveries.{Delivers, by_delivery, by_failing}
 use Rattle.do_facts.proofs.Runs.{stands_by}
-use Rattle.do_facts.proofs.AsksOverOpenEnds.{by_act, by_answer, not_closed}
+use Rattle.do_facts.proofs.AsksOverOpenEnds.{by_act, by_answer}
 use Rattle.do_facts.proofs.links.TokensOfMessages.{names_lent}
 use Rattle.do_facts.proofs.links.SendingIsMoves.{sends, sends_message}
 use Rattle.do_facts.proofs.links.HeapsGrow.{grown_made, grown_written}
@@ -73,44 +63,20 @@ module _ (r : RunContext) (sound : IsSound (links_of r.context.node)) where
   abbrev n : Node
   n = r.context.node
 
-  -- an answer with its result packed, or one that is too large
-  by_packed : (m : Node) → links_of m ≡ links_of n → (peer number : ℕ) → is_open n peer ≡ true →
-      (values : List Placed) (found : Option Packet) → packed_for r.context peer values ≡ found →
-      Moves n (elim found [
-        | None ↦ queueing peer (items.Raised number TooLarge) m
-        | Some p ↦ posting peer p (items.Reply number p) m
-      ])
-  by_packed m same peer number ends values None h = quiet (sym same) refl
-  by_packed m same peer number ends values (Some p) h =
-      sends n m peer same ends p (items.Reply number p) refl
-      (names_lent r.context peer values p h)
-
-  -- an answer that goes back to a peer
-  by_replying : (m : Node) → links_of m ≡ links_of n → (peer number : ℕ) →
-      is_open n peer ≡ true → (a : Answer) → Moves n (replying r peer number a m)
-  by_replying m same peer number ends (Raised e) = quiet (sym same) refl
-  by_replying m same peer number ends (Given v outs) =
-      let values = answer_placed r v outs in
-      by_packed m same peer number ends values (packed_for r.context peer values) refl
-
-  -- an answer that nobody waits for
-  by_oneway : (a : Answer) → Moves n (oneway_answer a (popped r))
-  by_oneway (Given v outs) = quiet refl refl
-  by_oneway (Raised e) = quiet refl refl
-
-  -- an answer, wherever it goes
-  by_delivery : (a : Answer) (reason : Reason) → Moves n (delivery r a reason)
-  by_delivery a reasons.Start = quiet refl refl
-  by_delivery a reasons.Local = quiet refl refl
-  by_delivery a (reasons.Oneway peer) = by_oneway a
-  by_delivery a (reasons.Call peer number) =
-      either (Moves n) (not (is_open n peer)) (only (popped r)) _ (λ _. quiet refl refl)
-      (λ o. by_replying (popped r) refl peer number (not_closed (is_open n peer) o) a)
-
-  -- an exception, caught or not
-  by_failing : (e : Exc) (handler : Option Handler) → Moves n (failing r e handler)
-  by_failing e None = by_delivery (Raised e) r.top.reason
-  by_failing e (Some h) = quiet refl refl
+  -- what may come of an answer
+  delivers : Delivers (λ reason. Moves n) r
+  delivers = record {
+    shown = λ a. quiet refl refl;
+    below = λ a. quiet refl refl;
+    unheard = λ peer. quiet refl refl;
+    told = λ peer e. quiet refl refl;
+    dropped = λ peer number c. quiet refl refl;
+    raised = λ peer number e ends. quiet refl refl;
+    replied = λ peer number v outs packet ends h.
+        sends n (popped r) peer refl ends packet (items.Reply number packet) refl
+        (names_lent r.context peer (answer_placed r v outs) packet h);
+    caught = λ e h. quiet refl refl;
+  }
 
   -- a request to a peer
   by_requesting : (m : Node) → links_of m ≡ links_of n → (peer number : ℕ) →
@@ -143,8 +109,8 @@ module _ (r : RunContext) (sound : IsSound (links_of r.context.node)) where
   by_verdict (Tells peer m into pc) h =
       sends_message n (with_top r (goes_on into Nil pc r.top)) peer refl h.0 m (items.Oneway m)
       refl h.1
-  by_verdict (Returns result outs) h = by_delivery (Given result outs) r.top.reason
-  by_verdict (Fails e) h = by_failing e r.top.handler
+  by_verdict (Returns result outs) h = by_delivery (λ reason. Moves n) r delivers (Given result outs) r.top.reason
+  by_verdict (Fails e) h = by_failing (λ reason. Moves n) r delivers e r.top.handler
 
   -- the state of the top invocation
   by_state : (act : Acting) (state : InvState) →

@@ -1,6 +1,6 @@
 -- What moves keep while nothing is freed, and what a node keeps when it frees, every step keeps.
 use Rattle.std.proofs.Common.{◌≡◌, ℕ, true, List, [], ◌∷◌, refl, sym, ap, ◌∙◌, subst}
-use Rattle.std.specs.Prelude.{None, Option, Some, unwrap_or}
+use Rattle.std.specs.Prelude.{Some, unwrap_or}
 use Rattle.std.specs.List.{AllByRecursion, flat_map}
 use Rattle.do_base.specs.declared.events.event.Event.{Event}
 use Rattle.do_base.specs.declared.events.event.Event.TheVariants.{Check, Close, Lose, Run, Start}
@@ -27,7 +27,7 @@ use Rattle.do_machine.proofs.follows.States.{changed, requeued}
 use Rattle.do_facts.specs.ByEvents.{IsLossOn, IsMoveOf}
 use Rattle.do_facts.specs.Net.{Net, Note, net_after, noted}
 use Rattle.do_facts.specs.Moves.{Happening, Keeps, Lost, Moved, Path, Runs, net_then as after}
-use Rattle.do_facts.specs.View.{AreApart, AreMoves, AreMovesIf, net_of, part_seen, posted}
+use Rattle.do_facts.specs.View.{AreApart, AreMoves, net_of, part_seen, posted}
 use Rattle.do_facts.specs.links.Links.{Atom, Links, atoms, links, links_of}
 use Rattle.do_facts.specs.links.LinksAreKept.{LinksAreKept}
 use Rattle.do_facts.specs.links.Moves.{Move, link_rules, opens}
@@ -36,6 +36,7 @@ use Rattle.do_facts.specs.steps.IsStep.{Acts, Checks, IsRuleOf, IsStep, Loses, S
 use Rattle.do_facts.specs.steps.IsStep.{without_oldest}
 use Rattle.do_facts.proofs.EffectReaches.{IsLinked, linked_by, net_by, ok_by}
 use Rattle.do_facts.proofs.Nets.{net_twice, part_here}
+use Rattle.do_facts.proofs.NodeRuns.{moves_there}
 use Rattle.do_facts.proofs.Paths.{reaches_by, stays}
 use Rattle.do_facts.proofs.TakeReaches.{here_still, linked_here, linked_still, net_then}
 use Rattle.do_facts.proofs.TakeReaches.{noted_first, wire_here}
@@ -50,27 +51,20 @@ use Rattle.do_facts.proofs.steps.EachIsStep.{step_is}
 use Rattle.do_facts.proofs.steps.NodesAtHome.{AllAtHome}
 use Rattle.do_facts.proofs.steps.OthersStay.{move_leaves_own}
 
--- the effect that there is
-runs_there : (n : Node) (found : Option Effect) (e : Effect) → AreMovesIf links act_rules n found →
-    found ≡ Some e → AreMoves links act_rules n [] e
-runs_there n None e h q = absurd (cc)
-runs_there n (Some d) e h q =
-    subst (λ x. AreMoves links act_rules n [] x) (ap (λ x. unwrap_or x d) q) h
-
 -- the effect of an event's rule is moves that free nothing
 rule_runs : (table : List Class) (act : Acting) (S : State) (event : Event) (n : Node)
     (e : Effect) → IsSound (links_of n) → IsRuleOf table act S event n e →
     AreMoves links act_rules n [] e
 rule_runs table act S (Start port selector values) n e ok rule =
-    runs_there n (start_effect table selector values n) e (by_start table selector values n) rule
+    moves_there links act_rules n (start_effect table selector values n) e (by_start table selector values n) rule
 rule_runs table act S (Run port) n e ok rule =
-    runs_there n (run_effect act (context table S n)) e (by_run act (context table S n) ok) rule
+    moves_there links act_rules n (run_effect act (context table S n)) e (by_run act (context table S n) ok) rule
 rule_runs table act S (Take port from) n e ok rule = absurd rule
 rule_runs table act S (Close port peer) n e ok rule =
     subst (λ d. AreMoves links act_rules n [] d) (sym rule.1) (by_closing peer n rule.0 ok)
 rule_runs table act S (Lose from to k) n e ok rule = absurd rule
 rule_runs table act S (Timeout port) n e ok rule =
-    runs_there n (time_out n) e (by_time_out n) rule
+    moves_there links act_rules n (time_out n) e (by_time_out n) rule
 rule_runs table act S Check n e ok rule = absurd rule
 
 -- the net once the node of a port freed what it does not keep

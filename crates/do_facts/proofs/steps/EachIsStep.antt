@@ -27,7 +27,7 @@ use Rattle.do_machine.specs.take.Take.{can_serve, can_take, take_effect}
 use Rattle.do_machine.proofs.follows.Steps.{first_of}
 use Rattle.do_facts.specs.steps.IsStep.{Acts, Checks, IsActOf, IsRuleOf, IsStep, Loses, Skips}
 use Rattle.do_facts.specs.steps.IsStep.{Takes}
-use Rattle.do_facts.proofs.AsksOverOpenEnds.{not_closed}
+use Rattle.do_facts.proofs.Chains.{not_closed}
 
 module _ (table : List Class) (act : Acting) (S : State) where
   -- what comes of an event, if it is enabled, is a step

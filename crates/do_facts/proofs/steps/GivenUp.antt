@@ -28,6 +28,7 @@ use Rattle.do_machine.specs.run.Run.{Acting}
 use Rattle.do_machine.proofs.Answering.{given_up}
 use Rattle.do_facts.specs.steps.GivenUp.{CanGiveUp, HasGivenUp, WaitsOnTop}
 use Rattle.do_facts.proofs.steps.OthersStay.{move_leaves_own}
+use Rattle.do_facts.proofs.steps.RuleMoves.{rule_moves}
 
 module _ (table : List Class) (act : Acting) (S : State) (port : ℕ) where
   module _ (n : Node) (i : Invocation) (below : List Invocation) (call : CallName) (peer : ℕ)
@@ -46,9 +47,7 @@ module _ (table : List Class) (act : Acting) (S : State) (port : ℕ) where
 
     -- the step is a move by it
     is_move : step table act S (Timeout port) ≡ moved port S effect
-    is_move =
-        ap (λ found. unwrap_or (moved_by port S (option_and_then time_out found)) (skipped S)) here
-        ∙ ap (λ e. unwrap_or (moved_by port S e) (skipped S)) is_effect
+    is_move = rule_moves table act S (Timeout port) port n effect refl here is_effect
 
     -- the call is given up by it
     gives_up : IsGivenUp i below call peer what effect

@@ -90,7 +90,7 @@ node_stays S event s (Checks is e) other h = ap (λ x. node x.state other) e
 -- ---- classes
 
 -- other items in a queue change no class
-class_requeued : (from to : ℕ) (items : List Item) (o : ObjectName) (ss : List Station) →
+pub class_requeued : (from to : ℕ) (items : List Item) (o : ObjectName) (ss : List Station) →
     option_and_then (λ s. class_given s.classes o.serial)
     (find (λ s. o.node == s.port)
     (change_first (λ s. from == s.port) (with_queue to items) ss))

@@ -1,8 +1,12 @@
-ghost use Rattle.std.specs.Prelude.{List};
+ghost use Rattle.std.specs.Prelude.{List, Some, ℕ, ◌≡◌};
 ghost use Rattle.do_base.specs.declared.events.event.Event.{Event};
 ghost use Rattle.do_class.specs.Class.{Class};
+ghost use Rattle.do_machine.specs.declared.node.Lend.{Lend};
+ghost use Rattle.do_machine.specs.declared.node.Node.{Node};
 ghost use Rattle.do_machine.specs.declared.state.Seat.{Seat};
 ghost use Rattle.do_machine.specs.declared.state.State.{State};
+ghost use Rattle.do_machine.specs.Lists.{IsIn};
+ghost use Rattle.do_machine.specs.State.{node};
 ghost use Rattle.do_machine.specs.Step.{step};
 ghost use Rattle.do_machine.specs.World.{opening};
 ghost use Rattle.do_machine.specs.run.Run.{Acting};
@@ -11,6 +15,7 @@ ghost use Rattle.do_facts.specs.Moves.{Reaches};
 ghost use Rattle.do_facts.specs.Reached.{reached};
 ghost use Rattle.do_facts.specs.View.{net_of};
 ghost use Rattle.do_facts.specs.links.Facts.{ReportsAreKnown};
+ghost use Rattle.do_facts.specs.links.Lasting.{Lasts};
 ghost use Rattle.do_facts.specs.links.Links.{links};
 ghost use Rattle.do_facts.specs.links.LinksAreKept.{LinksAreKept};
 ghost use Rattle.do_facts.specs.links.Moves.{link_rules};
@@ -40,4 +45,15 @@ pub fn lends_and_asks_are_in_one_place()
     ensures reports { (table : List Class) (act : Acting) (seats : List Seat)
         (events : List Event) →
         ReportsAreKnown (net_of links (reached table act seats events)) }
+{}
+
+/// A lend lasts until its node takes the borrower's notice that it is over, or closes the end
+/// towards the borrower, in every state in which each lend is in one place.
+///
+/// It is in all that a machine comes to.
+pub fn lends_last_until_settled()
+    ensures { (table : List Class) (act : Acting) (S : State) (event : Event) (port : ℕ)
+        (n m : Node) (l : Lend) → LinksAreKept S → node S port ≡ Some n →
+        node (step table act S event).state port ≡ Some m → IsIn n.lent l →
+        Lasts S event port n m l }
 {}

@@ -1,4 +1,4 @@
-ghost use Rattle.std.specs.Prelude.{false, true, List, Some, ℕ, ◌==◌, ◌≡◌};
+ghost use Rattle.std.specs.Prelude.{false, true, List, None, Some, ℕ, ◌==◌, ◌≡◌};
 ghost use Rattle.do_base.specs.declared.events.event.Event.{Event};
 ghost use Rattle.do_base.specs.declared.events.event.Event.TheVariants.{Lose, Take, Timeout};
 ghost use Rattle.do_base.specs.names.Names.{CallName, ObjectName};
@@ -8,8 +8,10 @@ ghost use Rattle.do_class.specs.Class.{Class};
 ghost use Rattle.do_class.specs.declared.ids.ClassId.{ClassId};
 ghost use Rattle.do_machine.specs.declared.item.Item.{Item};
 ghost use Rattle.do_machine.specs.declared.node.Node.{Node};
+ghost use Rattle.do_machine.specs.declared.state.Effect.{Effect};
 ghost use Rattle.do_machine.specs.declared.state.Seat.{Seat};
 ghost use Rattle.do_machine.specs.declared.state.State.{State};
+ghost use Rattle.do_machine.specs.Commit.{moved};
 ghost use Rattle.do_machine.specs.Entry.{has_entry};
 ghost use Rattle.do_machine.specs.State.{class_of, node, queue};
 ghost use Rattle.do_machine.specs.Step.{step};
@@ -19,18 +21,21 @@ ghost use Rattle.do_machine.specs.run.Run.{Acting};
 ghost use Rattle.do_facts.specs.Reached.{reached};
 ghost use Rattle.do_facts.specs.steps.GivenUp.{CanGiveUp, HasGivenUp, WaitsOnTop};
 ghost use Rattle.do_facts.specs.steps.Held.{AllReferToHeld};
-ghost use Rattle.do_facts.specs.steps.IsStep.{IsStep};
+ghost use Rattle.do_facts.specs.steps.IsStep.{IsActOf, IsRuleOf, IsStep};
 ghost use Rattle.do_facts.specs.steps.Queues.{IsLost, IsTaken, StandBehind, touches};
 
 /// A step is two effects of one node, that of the event's rule and what the node frees and leaves
 /// then; before them the node takes one item out of one queue at most. Or a step is a loss, which
-/// puts one end into one queue.
+/// puts one end into one queue. Where a rule gives its node an effect, the event is not skipped.
 ///
 /// So it changes no node but its own, and the class of an object that was made stays known and the
 /// same.
 pub fn steps_are_of_one_node()
     ensures form { (table : List Class) (act : Acting) (S : State) (event : Event) →
         IsStep table act S event (step table act S event) }
+    ensures acts { (table : List Class) (act : Acting) (S : State) (event : Event) (port : ℕ)
+        (n : Node) (e : Effect) → IsActOf port event → node S port ≡ Some n →
+        IsRuleOf table act S event n e → step table act S event ≡ moved port S e }
     ensures others { (table : List Class) (act : Acting) (S : State) (event : Event) (other : ℕ) →
         IsNoStepOf other event →
         node (step table act S event).state other ≡ node S other }
@@ -44,7 +49,7 @@ pub fn steps_are_of_one_node()
 ///
 /// A loss puts an end that names nothing among the items of one queue, wherever it may be; it is
 /// the one exception. A queue from another node stays as it is, where the step takes and loses
-/// nothing in it.
+/// nothing in it. No queue comes or goes.
 pub fn queues_change_at_their_ends()
     ensures others { (table : List Class) (act : Acting) (S : State) (event : Event)
         (from to : ℕ) → IsNoStepOf from event → touches event from to ≡ false →
@@ -53,6 +58,9 @@ pub fn queues_change_at_their_ends()
         (from to : ℕ) (waiting : List Item) → touches event from to ≡ false →
         queue S from to ≡ Some waiting →
         StandBehind (step table act S event).state from to waiting }
+    ensures absent { (table : List Class) (act : Acting) (S : State) (event : Event)
+        (from to : ℕ) → queue S from to ≡ None →
+        queue (step table act S event).state from to ≡ None }
     ensures takes { (table : List Class) (act : Acting) (S : State) (port from : ℕ) →
         (step table act S (Take port from)).outcome.enabled ≡ true → (from == port) ≡ false →
         IsTaken S (step table act S (Take port from)).state from port }
