@@ -6,6 +6,7 @@ use Rattle.std.specs.Prelude.{slice_get}
 use Rattle.std.specs.Prelude.{unwrap_or}
 use Rattle.std.specs.List.{AllByRecursion}
 use Rattle.std.specs.Str.{bytes_eq}
+use Rattle.std.proofs.lemmas.Bool.{eqb-true}
 use Rattle.std.proofs.lemmas.List.{append-nil, append_assoc}
 use Rattle.do_base.specs.names.Names.{ObjectName}
 use Rattle.do_base.specs.values.Kinds.{object}
@@ -53,11 +54,11 @@ use Rattle.do_machine.specs.run.Run.{state_rule}
 use Rattle.do_machine.specs.run.Verdicts.{effect_of}
 use Rattle.do_guard.specs.Checkers.{AddsOnly, IfMessage, IsOfCheckers, MaySend, RunsChecker}
 use Rattle.do_guard.specs.Checkers.{SendsOnly}
+use Rattle.do_facts.proofs.RulesOfActs.{Sends, by_return, by_root, by_send, by_vend}
+use Rattle.do_facts.proofs.steps.OthersStay.{move_leaves_own}
 use Rattle.do_objects.proofs.Methods.{method_found}
-use Rattle.do_objects.proofs.Rules.{Sends, by_return, by_root, by_send, by_vend}
 use Rattle.do_guard.proofs.Sent.{EffectSends, MaySendAll, VerdictSends, by_verdict}
-use Rattle.do_objects.proofs.Sound.{there}
-use Rattle.do_objects.proofs.Steps.{equal, moved_node}
+use Rattle.do_objects.proofs.Finding.{there}
 
 -- an invocation of a class of checkers acts by the rules of its class
 acts_by_rules : (b : Native) (rules : List Rule) (table : List Class) (i : Invocation)
@@ -91,16 +92,16 @@ module _ (rules : List Rule) (r : RunContext) where
   fair_sends : (x : SendAct) →
       selector_in r.context.table r.top ≡ Some x.selector →
       verdict_of rules x.selector ≡ Some Forward → target_in slots ≡ Some x.target →
-      Sends IsFair (λ e. tt) r x
+      Sends IsFair r x
   fair_sends x hand allowed target = record {
     goes = tt;
-    begins = λ o m is own found. (
+    begins = λ o m is own. (
       x.selector,
-      (method_found r.context.table (class_seen r.context o) x.selector m found).1,
-      may o is,
+      (method_found r.context.table (class_seen r.context o) x.selector m is.method).1,
+      may o is.target,
     );
-    tells = λ o packet is. may o is;
-    asks = λ o m packet is. may o is;
+    tells = λ o m packet to. may o to.sent.target;
+    asks = λ o m packet to. may o to.sent.target;
   }
     where
       may : (o : ObjectName) → object x.target ≡ Some o → May o x.selector
@@ -124,12 +125,12 @@ module _ (rules : List Rule) (r : RunContext) where
         from = from;
         pc = pc;
       } in
-      by_send IsFair (λ e. tt) r x (fair_sends x h.0 h.1 h.2)
+      by_send IsFair r (λ e h. tt) x (fair_sends x h.0 h.1 h.2)
   by_act (acts.Root port into pc) h =
-      by_root IsFair (λ e. tt) r port into pc (λ v. tt) (λ port. tt)
-  by_act (acts.Vend value pc) h = by_vend IsFair (λ e. tt) r value pc (λ root. tt)
+      by_root IsFair r (λ e h. tt) port into pc tt (λ port o. tt)
+  by_act (acts.Vend value pc) h = by_vend IsFair r (λ e h. tt) value pc (λ root. tt)
   by_act (acts.Say value pc) h = tt
-  by_act (acts.Return value) h = by_return IsFair (λ e. tt) r value (λ v outs. tt)
+  by_act (acts.Return value) h = by_return IsFair r (λ e h. tt) value (λ s. tt) (λ s. tt)
   by_act (acts.Raise e) h = tt
 
   -- an answer sends nothing
@@ -172,7 +173,7 @@ module _ (Allow : ObjectName → List ℕ → Type 0) (table : List Class) (peer
           Fair (map (λ x. x.item)
           (cond b (p ∷ filter (λ x. x.to == peer) sent) (filter (λ x. x.to == peer) sent)))
       by true e rest =
-          (subst (λ q. IfMessage Allow q p.item) (equal p.to peer e) h.0, rest)
+          (subst (λ q. IfMessage Allow q p.item) (eqb-true p.to peer e) h.0, rest)
       by false e rest = rest
 
   -- that an object was left is no message
@@ -220,7 +221,7 @@ module _ (grows : Grows) (Allow : ObjectName → List ℕ → Type 0) (table : L
       begun = λ k m i below was now is longer.
           let before : n ≡ k = there (node S port) n k at was in
           let after : d.node ≡ m =
-          there (node (moved port S e).state port) d.node m (moved_node port S e n at) now in
+          there (node (moved port S e).state port) d.node m (move_leaves_own port n e S at) now in
           let stack : m.stack ≡ e.node.stack = ap (λ x. x.stack) (sym after) in
           fair.begun i below (sym stack ∙ is)
           (omega (arith, longer, ap (λ x. length x.stack) before, ap length stack));

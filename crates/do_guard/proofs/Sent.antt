@@ -22,7 +22,7 @@ use Rattle.do_machine.specs.Objects.{object_at}
 use Rattle.do_machine.specs.run.Delivery.{below_answered}
 use Rattle.do_machine.specs.run.Fresh.{fresh}
 use Rattle.do_machine.specs.run.Verdicts.{effect_of}
-use Rattle.do_objects.proofs.Delivered.{Delivers, by_delivery, by_failing}
+use Rattle.do_facts.proofs.Deliveries.{Delivers, by_delivery, by_failing}
 use Rattle.do_guard.specs.Checkers.{IfMessage, IsOfMessage}
 
 module _ (May : ObjectName → List ℕ → Type 0) (table : List Class) where
@@ -65,13 +65,15 @@ module _ (May : ObjectName → List ℕ → Type 0) (table : List Class) where
     as_many a (i ∷ is) = refl
 
     -- an answer is no message
-    delivers : Delivers (EffectSends stack) r
+    delivers : Delivers (λ reason. EffectSends stack) r
     delivers = record {
-      dropped = no_longer stack _ tt (omega arith);
-      shown = λ s. no_longer stack _ tt (omega arith);
-      raised = λ peer number e. no_longer stack _ (tt, tt) (omega arith);
-      replied = λ peer number packet. no_longer stack _ (tt, tt) (omega arith);
+      shown = λ a. no_longer stack _ tt (omega arith);
       below = λ a. no_longer stack _ tt (omega (arith, as_many a r.below));
+      unheard = λ peer. no_longer stack _ tt (omega arith);
+      told = λ peer e. no_longer stack _ tt (omega arith);
+      dropped = λ peer number c. no_longer stack _ tt (omega arith);
+      raised = λ peer number e o. no_longer stack _ (tt, tt) (omega arith);
+      replied = λ peer number v outs packet o h. no_longer stack _ (tt, tt) (omega arith);
       caught = λ e h. no_longer stack _ tt (omega arith);
     }
 
@@ -96,6 +98,6 @@ module _ (May : ObjectName → List ℕ → Type 0) (table : List Class) where
     }
     by_verdict (Tells peer m into pc) may = no_longer stack _ (may, tt) (omega arith)
     by_verdict (Returns result outs) may =
-        by_delivery (EffectSends stack) r delivers (Given result outs) r.top.reason
+        by_delivery (λ reason. EffectSends stack) r delivers (Given result outs) r.top.reason
     by_verdict (Fails e) may =
-        by_failing (EffectSends stack) r delivers e r.top.handler
+        by_failing (λ reason. EffectSends stack) r delivers e r.top.handler

@@ -2,6 +2,7 @@
 use Rattle.std.proofs.Common.{◌≡◌, ◌∙◌, ◌==◌, ◌<◌, ℕ, Bool, true, false, cond, List, [], ◌∷◌, ◌++◌}
 use Rattle.std.proofs.Common.{refl, sym, ap, subst, arith}
 use Rattle.std.specs.Prelude.{None, Option, Some, option_and_then, option_map, slice_get, unwrap_or}
+use Rattle.std.proofs.lemmas.Bool.{eqb-true}
 use Rattle.do_base.specs.names.Names.{ObjectName}
 use Rattle.do_base.specs.declared.events.event.Event.{Event}
 use Rattle.do_base.specs.declared.events.event.Event.TheVariants.{Check, Close, Lose, Run, Start}
@@ -34,10 +35,9 @@ use Rattle.do_guard.specs.Checkers.{HasTarget, IsOfCheckers}
 use Rattle.do_objects.specs.OwnClass.{AllSound, HaveOwnMethods, WasMadeOf}
 use Rattle.do_objects.specs.Reached.{after, object_of, reached}
 use Rattle.do_objects.specs.Writes.{act_at, run_writes, writes_in, writes_of, writes_to}
-use Rattle.do_objects.proofs.Finding.{absent}
+use Rattle.do_objects.proofs.Finding.{absent, there}
 use Rattle.do_objects.proofs.Whole.{stored_made}
-use Rattle.do_objects.proofs.Sound.{before, has_writes, reached_sound, stays_sound, there}
-use Rattle.do_objects.proofs.Steps.{equal}
+use Rattle.do_objects.proofs.Sound.{before, has_writes, reached_sound, stays_sound}
 
 -- an act that is no step writes nothing
 no_writes : (a : Act) → IsNoStep a → writes_of a ≡ []
@@ -81,7 +81,7 @@ module _ (b : Native) (table : List Class) where
         writes_in i.state (act_at table (native_act b) n i) ≡ []
     own_quiet i made e =
         let here : stored i.object.serial n.heap ≡ Some x =
-        ap (λ k. stored k n.heap) (equal i.object.serial serial e) ∙ at in
+        ap (λ k. stored k n.heap) (eqb-true i.object.serial serial e) ∙ at in
         ap (λ found. writes_in i.state (native_act b table i (slots_seen found))) here
         ∙ runs_quietly i x (subst (IsOfCheckers b) (made.1 x here) checker) set i.state
 
@@ -117,7 +117,7 @@ module _ (b : Native) (table : List Class) where
         by : (t : Bool) → (port == o.node) ≡ t →
             cond t (unwrap_or (option_map
             (λ n. run_writes table (native_act b) n n.stack o.serial) (node S port)) []) [] ≡ []
-        by true e = home_quiet (node S port) (ap (λ p. node S p) (sym (equal port o.node e)))
+        by true e = home_quiet (node S port) (ap (λ p. node S p) (sym (eqb-true port o.node e)))
         by false e = refl
     unwritten (Start port selector values) = refl
     unwritten (Take port from) = refl

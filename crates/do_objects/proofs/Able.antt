@@ -15,12 +15,14 @@ use Rattle.do_machine.specs.declared.state.State.{State}
 use Rattle.do_machine.specs.Step.{step}
 use Rattle.do_machine.specs.World.{by_port, opening}
 use Rattle.do_machine.specs.run.Run.{Acting}
+use Rattle.do_facts.proofs.OpeningAsNet.{opened}
 use Rattle.do_objects.specs.CanAct.{AllCanAct, CanAct, KeepsLocals}
 use Rattle.do_objects.specs.OwnClass.{AllSound}
 use Rattle.do_objects.specs.Reached.{after, reached}
 use Rattle.do_objects.proofs.Counts.{begun_locals, has_method, takes_few}
 use Rattle.do_objects.proofs.Known.{HoldsAfter, HoldsBegun, Known}
-use Rattle.do_objects.proofs.Sound.{before_of, opened, opens_sound, stays_sound}
+use Rattle.do_objects.proofs.Sound.{opens_sound, stays_sound}
+use Rattle.do_objects.proofs.Steps.{before_of}
 use Rattle.do_objects.proofs.Whole.{known_of, whole_of}
 
 module _ (table : List Class) (act : Acting) (fed : KeepsLocals table act) where
@@ -54,8 +56,9 @@ pub still_can : (table : List Class) (act : Acting) (S : State) (event : Event) 
 still_can table act S event fed s can = record {
   each = λ port m h.
       let W = InTable table act fed in
-      let was = before_of table act S event W (begins_in table act fed)
-      (λ i slots. after_in table act fed i (act table i slots) (fed.steps i slots)) port m h in
+      let was = before_of table act S W (begins_in table act fed)
+      (λ i slots. after_in table act fed i (act table i slots) (fed.steps i slots)) event port m h
+      in
       known_of W m
       (was.2.whole (whole_of W was.0 (can.each port was.0 was.1) (s.each port was.0 was.1)));
 }
@@ -65,8 +68,8 @@ pub opens_able : (table : List Class) (seats : List Seat) → AllCanAct table (o
 opens_able table seats = record {
   each = λ port n h.
       let sorted = by_port seats in
-      opened (λ (n : Node). AllByRecursion (CanAct table) n.stack) table
-      (map (λ s. s.node) sorted) (λ s. tt) sorted port n h;
+      opened table (map (λ s. s.node) sorted) (λ p (n : Node). AllByRecursion (CanAct table) n.stack)
+      (λ s. tt) sorted port n h;
 }
 
 -- they can act after any events

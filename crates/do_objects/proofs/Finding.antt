@@ -29,6 +29,10 @@ each_of P Q f (x ∷ xs) h = (f x h.0, each_of P Q f xs h.1)
 pub absent : {X : Type 0} (x : X) (found : Option X) → found ≡ Some x → found ≡ None → ⊥
 absent x found h q = cc
 
+-- what is there is one
+pub there : {X : Type 0} (found : Option X) (x y : X) → found ≡ Some x → found ≡ Some y → x ≡ y
+there found x y h q = cc
+
 -- what is found is found in a longer list
 pub found_first : {X : Type 0} (p : X → Bool) (xs ys : List X) (x : X) → find p xs ≡ Some x →
     find p (xs ++ ys) ≡ Some x

@@ -5,9 +5,6 @@ pub mod Methods
 mod Known
 pub mod Whole
 mod Counts
-mod Chains
-pub mod Rules
-pub mod Delivered
 pub mod Verdicts
 mod Runs
 mod Taken

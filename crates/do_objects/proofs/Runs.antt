@@ -33,16 +33,16 @@ use Rattle.do_machine.specs.run.Run.{Acting, answer_rule, next_act, run_effect, 
 use Rattle.do_machine.specs.run.Run.{state_rule}
 use Rattle.do_machine.specs.run.Send.{inputs}
 use Rattle.do_machine.specs.run.Verdicts.{effect_of}
+use Rattle.do_facts.proofs.Chains.{either, found_or}
+use Rattle.do_facts.proofs.RulesOfActs.{IsFor, Sends, by_return, by_root, by_send, by_vend}
 use Rattle.do_objects.specs.Writes.{run_writes, writes_in, writes_of}
 use Rattle.do_objects.proofs.Counts.{fitting_few, inputs_few}
-use Rattle.do_objects.proofs.Chains.{either, found_or}
 use Rattle.do_objects.proofs.Known.{HoldsAfter, HoldsBegun, Known, begun_count}
 use Rattle.do_objects.proofs.Whole.{AreOwn, stored_made}
 use Rattle.do_objects.proofs.Kept.{Keeps, none, restacked, same_writes}
 use Rattle.do_objects.proofs.Methods.{method_found, signature_found}
 use Rattle.do_objects.proofs.Verdicts.{BeginsOwn, by_verdict, nothing, only_to}
 use Rattle.do_objects.proofs.Verdicts.{verdict_writes}
-use Rattle.do_objects.proofs.Rules.{Sends, by_return, by_root, by_send, by_vend}
 
 -- what an effect writes and keeps; where there is none, nothing is written
 abbrev pub KeepsIf : Known → (ℕ → List Write) → Node → Option Effect → Type 0
@@ -69,31 +69,27 @@ module _ (W : Known) (r : RunContext) (begin : HoldsBegun W r.context.table) whe
   fails : (e : Exc) → Quiet (Fails e)
   fails e = record { writes = refl; begins = tt }
 
-  -- an own object's class is seen
-  seen_own : (x : SendAct) (o : ObjectName) (m : Found) → is_own r.context.node o ≡ true →
-      method_for r.context.table (class_seen r.context o) x.selector ≡ Some m →
-      own_class r.context.node o.serial ≡ Some m.id.class
-  seen_own x o m own found =
-      ap (λ b. cond b (own_class r.context.node o.serial) (r.context.around.class_of o)) (sym own)
-      ∙ (method_found r.context.table (class_seen r.context o) x.selector m found).0
+  -- an invocation of an own object that a send begins
+  begins : (x : SendAct) (o : ObjectName) (m : Found) → IsFor r x o m →
+      is_own r.context.node o ≡ true →
+      (own_class r.context.node o.serial ≡ Some m.id.class)
+      × W m.id (begun_count (inputs m.signature x))
+  begins x o m is own =
+      let class = class_seen r.context o in (
+        ap (λ b. cond b (own_class r.context.node o.serial) (r.context.around.class_of o)) (sym own)
+            ∙ (method_found r.context.table class x.selector m is.method).0,
+        begin m (inputs m.signature x)
+            (signature_found r.context.table class x.selector m is.method)
+            (inputs_few m.signature.args x.args),
+      )
 
-  -- what is known holds of an invocation that begins so
-  holds_begun : (x : SendAct) (o : ObjectName) (m : Found) →
-      method_for r.context.table (class_seen r.context o) x.selector ≡ Some m →
-      W m.id (begun_count (inputs m.signature x))
-  holds_begun x o m found =
-      begin m (inputs m.signature x)
-      (signature_found r.context.table (class_seen r.context o) x.selector m found)
-      (inputs_few m.signature.args x.args)
-
-  -- what comes of a message
-  sends : (x : SendAct) → Sends Quiet fails r x
+  -- what comes of a send
+  sends : (x : SendAct) → Sends Quiet r x
   sends x = record {
     goes = record { writes = refl; begins = tt };
-    begins = λ o m h own found.
-        record { writes = refl; begins = (seen_own x o m own found, holds_begun x o m found) };
-    tells = λ o packet h. record { writes = refl; begins = tt };
-    asks = λ o m packet h. record { writes = refl; begins = tt };
+    begins = λ o m is own. record { writes = refl; begins = begins x o m is own };
+    tells = λ o m packet to. record { writes = refl; begins = tt };
+    asks = λ o m packet to. record { writes = refl; begins = tt };
   }
 
   -- a verdict on an act writes what the act writes
@@ -110,15 +106,16 @@ module _ (W : Known) (r : RunContext) (begin : HoldsBegun W r.context.table) whe
         from = from;
         pc = pc;
       } in
-      by_send Quiet fails r x (sends x)
+      by_send Quiet r (λ e h. fails e) x (sends x)
   by_act (acts.Root port into pc) holds =
-      by_root Quiet fails r port into pc (λ v. record { writes = refl; begins = tt })
-      (λ port. record { writes = refl; begins = tt })
+      by_root Quiet r (λ e h. fails e) port into pc (record { writes = refl; begins = tt })
+      (λ port o. record { writes = refl; begins = tt })
   by_act (acts.Vend value pc) holds =
-      by_vend Quiet fails r value pc (λ root. record { writes = refl; begins = tt })
+      by_vend Quiet r (λ e h. fails e) value pc (λ root. record { writes = refl; begins = tt })
   by_act (acts.Say value pc) holds = record { writes = refl; begins = tt }
   by_act (acts.Return value) holds =
-      by_return Quiet fails r value (λ v outs. record { writes = refl; begins = tt })
+      by_return Quiet r (λ e h. fails e) value (λ s. record { writes = refl; begins = tt })
+      (λ s. record { writes = refl; begins = tt })
   by_act (acts.Raise e) holds = fails e
 
   -- an answer writes nothing

@@ -1,62 +1,40 @@
 -- Nodes open sound and stay so, slots are written by own acts, and freed objects do not return.
-use Rattle.std.proofs.Common.{◌≡◌, ◌∙◌, ◌==◌, ◌<◌, ℕ, Bool, true, false, cond, List, [], ◌∷◌}
+use Rattle.std.proofs.Common.{◌≡◌, ◌∙◌, ◌<◌, ℕ, List, [], ◌∷◌}
 use Rattle.std.proofs.Common.{map, refl, sym, ap, subst, arith, inr}
-use Rattle.std.specs.Prelude.{None, Option, Some, find, option_and_then, option_map}
+use Rattle.std.specs.Prelude.{None, Option, Some, option_and_then}
 use Rattle.do_base.specs.names.Names.{ObjectName}
-use Rattle.do_base.specs.declared.values.value.Value.{Value}
 use Rattle.do_base.specs.declared.events.event.Event.{Event}
 use Rattle.do_class.specs.Class.{Class}
-use Rattle.do_behave.specs.declared.act.Write.{Write}
-use Rattle.do_behave.specs.declared.invocation.Invocation.{Invocation}
 use Rattle.do_machine.specs.declared.node.Node.{Node}
 use Rattle.do_machine.specs.declared.node.Stored.{Stored}
 use Rattle.do_machine.specs.declared.state.Seat.{Seat}
 use Rattle.do_machine.specs.declared.state.State.{State}
 use Rattle.do_machine.specs.State.{node, stored}
 use Rattle.do_machine.specs.Step.{step}
-use Rattle.do_machine.specs.World.{by_port, opening, opening_node, opening_station}
+use Rattle.do_machine.specs.World.{by_port, opening, opening_node}
 use Rattle.do_machine.specs.run.Changes.{with_writes}
 use Rattle.do_machine.specs.run.Fresh.{blank}
 use Rattle.do_machine.specs.run.Run.{Acting}
+use Rattle.do_facts.proofs.OpeningAsNet.{opened}
 use Rattle.do_objects.specs.OwnClass.{AllSound, IsSound}
 use Rattle.do_objects.specs.Reached.{after, object_of, reached}
 use Rattle.do_objects.specs.Writes.{writes_to}
-use Rattle.do_objects.proofs.Finding.{absent, not_new}
-use Rattle.do_objects.proofs.Known.{HoldsAfter, HoldsBegun, Known}
+use Rattle.do_objects.proofs.Finding.{not_new, there}
 use Rattle.do_objects.proofs.Kept.{Became}
 use Rattle.do_objects.proofs.Whole.{Nothing, all_nothing, sound_of, whole_of}
-use Rattle.do_objects.proofs.Steps.{Becomes, by_step, writes_at}
-
--- what is there is one
-pub there : {X : Type 0} (found : Option X) (x y : X) → found ≡ Some x → found ≡ Some y → x ≡ y
-there found x y h q = cc
-
--- the node that was there before it became another
-pub was_there : (W : Known) (writes : ℕ → List Write) (was now : Option Node) (m : Node) →
-    Becomes W writes was now → now ≡ Some m → (n : Node) × (was ≡ Some n) × Became W writes n m
-was_there W writes None now m h e = absurd (absent m now e h)
-was_there W writes (Some n) now m h e =
-    (n, refl, subst (λ x. Became W writes n x) (there now h.0 m h.1 e) h.2)
+use Rattle.do_objects.proofs.Steps.{before_of, writes_at}
 
 module _ (table : List Class) (act : Acting) (S : State) (event : Event) where
   -- the state after the event
   abbrev T : State
   T = (step table act S event).state
 
-  -- the node of a port before the event, where so much is known of invocations
-  pub before_of : (W : Known) → HoldsBegun W table →
-      ((i : Invocation) (slots : List Value) → HoldsAfter W i (act table i slots)) →
-      (port : ℕ) (m : Node) → node T port ≡ Some m →
-      (n : Node) × (node S port ≡ Some n) × Became W (writes_at table act S event port) n m
-  before_of W begin goes port m h =
-      was_there W (writes_at table act S event port) (node S port) (node T port) m
-      (by_step table act S W begin goes event port) h
-
   -- the node of a port before the event
   pub before : (port : ℕ) (m : Node) → node T port ≡ Some m →
       (n : Node) × (node S port ≡ Some n)
       × Became Nothing (writes_at table act S event port) n m
-  before = before_of Nothing (λ m values signed few. tt) (λ i slots known. known)
+  before =
+      before_of table act S Nothing (λ m values signed few. tt) (λ i slots known. known) event
 
   -- sound nodes stay sound
   pub stays_sound : AllSound S → AllSound T
@@ -92,32 +70,12 @@ module _ (table : List Class) (act : Acting) (S : State) (event : Event) where
       (subst (λ x. Became Nothing (writes_at table act S event port) x m) is was.2).gone serial old
       gone
 
--- what holds of each node as it opens holds of each of a list of stations that open
-pub opened : (P : Node → Type 0) (table : List Class) (all : List ℕ) →
-    ((s : Seat) → P (opening_node table all s)) → (seats : List Seat) (port : ℕ) (n : Node) →
-    option_map (λ s. s.node) (find (λ s. port == s.port) (map (opening_station table all) seats))
-    ≡ Some n → P n
-opened P table all holds [] port n h = absurd (cc)
-opened P table all holds (s ∷ seats) port n h =
-    by (port == s.node) (opened P table all holds seats port n) h
-  where
-    by : (b : Bool) →
-        (option_map (λ x. x.node)
-        (find (λ x. port == x.port) (map (opening_station table all) seats)) ≡ Some n → P n) →
-        option_map (λ x. x.node)
-        (cond b (Some (opening_station table all s))
-        (find (λ x. port == x.port) (map (opening_station table all) seats))) ≡ Some n → P n
-    by true k e =
-        subst P (there (Some (opening_node table all s)) (opening_node table all s) n refl e)
-        (holds s)
-    by false k e = k e
-
 -- a machine opens sound
 pub opens_sound : (table : List Class) (seats : List Seat) → AllSound (opening table seats)
 opens_sound table seats = record {
   each = λ port n h.
       let sorted = by_port seats in
-      opened IsSound table (map (λ s. s.node) sorted) sound sorted port n h;
+      opened table (map (λ s. s.node) sorted) (λ p. IsSound) sound sorted port n h;
 }
   where
     sound : (s : Seat) → IsSound (opening_node table (map (λ s. s.node) (by_port seats)) s)

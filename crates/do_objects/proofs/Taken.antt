@@ -1,12 +1,11 @@
 -- Taking an item keeps what a node stores.
-use Rattle.std.proofs.Common.{◌≡◌, ◌∙◌, ℕ, false, not, List, ap, refl, sym, arith}
-use Rattle.std.specs.Prelude.{Err, None, Ok, Option, Result, Some, is_some, option_map}
+use Rattle.std.proofs.Common.{◌≡◌, ℕ, false, not, List, refl}
+use Rattle.std.specs.Prelude.{Err, Ok, Result, Some, is_some}
 use Rattle.do_base.specs.names.Names.{TokenName}
 use Rattle.do_base.specs.declared.events.exception.Exc.{Exc}
 use Rattle.do_base.specs.declared.events.exception.Exc.TheVariants.{Deep, NotUnderstood, NotVended}
 use Rattle.do_base.specs.declared.events.exception.Exc.TheVariants.{TypeFault}
 use Rattle.do_base.specs.declared.values.value.Value.{Value}
-use Rattle.do_class.specs.declared.ids.ClassId.{ClassId}
 use Rattle.do_class.specs.declared.ids.MethodId.{MethodId}
 use Rattle.do_class.specs.declared.packet.Name.{Name}
 use Rattle.do_class.specs.declared.packet.Name.TheVariants.{Lent, Mine, Yours}
@@ -18,7 +17,6 @@ use Rattle.do_machine.specs.declared.item.Item.{Item}
 use Rattle.do_machine.specs.declared.item.Item.TheVariants as items
 use Rattle.do_machine.specs.declared.item.Message.{Message}
 use Rattle.do_machine.specs.declared.node.Node.{Node}
-use Rattle.do_machine.specs.declared.node.Stored.{Stored}
 use Rattle.do_machine.specs.declared.state.Effect.{Effect}
 use Rattle.do_machine.specs.Context.{Context, Found, method_for, own_class}
 use Rattle.do_machine.specs.Effect.{only}
@@ -32,11 +30,11 @@ use Rattle.do_machine.specs.take.Receipt.{arrived, received, receiving, receivin
 use Rattle.do_machine.specs.take.Requests.{refusing, request}
 use Rattle.do_machine.specs.take.Take.{arrival, holding, method_call, root_call, take_effect}
 use Rattle.do_machine.specs.take.Take.{values_arrival}
-use Rattle.do_objects.specs.OwnClass.{StoresGiven, WasMadeOf}
 use Rattle.do_objects.proofs.Counts.{fitting_few}
-use Rattle.do_objects.proofs.Chains.{either, found_or}
+use Rattle.do_facts.proofs.Chains.{either, found_or}
 use Rattle.do_objects.proofs.Known.{HoldsBegun, Known}
-use Rattle.do_objects.proofs.Kept.{Keeps, by_each, by_if, makes, none, same, then_keeps}
+use Rattle.do_objects.proofs.Kept.{Keeps, by_each, by_if, makes, none, same, still_made}
+use Rattle.do_objects.proofs.Kept.{then_keeps}
 use Rattle.do_objects.proofs.Methods.{method_found, signature_found}
 use Rattle.do_objects.proofs.Whole.{stored_made}
 use Rattle.do_objects.proofs.Small.{by_answering, by_ask_over, by_asking, by_closing}
@@ -65,23 +63,6 @@ by_granting peer serial token n =
 
 module _ (W : Known) (c : Context) (begin : HoldsBegun W c.table) (n : Node)
     (since : Keeps W none c.node n) where
-  -- what was stored before is there, and of its class
-  still_made : (serial : ℕ) (class : ClassId) → StoresGiven c.node →
-      own_class c.node serial ≡ Some class → WasMadeOf n serial class
-  still_made serial class given h =
-      let made = stored_made c.node serial class given h in
-      (omega (arith, made.0, since.next), λ x there. by x there (stored serial c.node.heap) refl h)
-    where
-      by : (x : Stored) → stored serial n.heap ≡ Some x → (found : Option Stored) →
-          stored serial c.node.heap ≡ found → option_map (λ y. y.class) found ≡ Some class →
-          x.class ≡ class
-      by x there None e q = absurd (cc)
-      by x there (Some y) e q =
-          let now = since.kept serial y e in
-          let is : y ≡ x = cc (now, there) in
-          let of : y.class ≡ class = cc in
-          ap (λ z. z.class) (sym is) ∙ of
-
   -- a message that is refused
   by_refusing : (e : Exc) (reason : Reason) → Keeps W none c.node (refusing e reason n).node
   by_refusing e reasons.Start = since
@@ -106,15 +87,18 @@ module _ (W : Known) (c : Context) (begin : HoldsBegun W c.table) (n : Node)
         method_for c.table (own_class c.node m.target) m.selector ≡ Some f →
         not (args_fit f.signature values) ≡ false → IsKept (Ok f.id)
     by_admitted f found fit = record {
-      kept = since.kept;
-      gone = since.gone;
-      next = since.next;
+      heap = record {
+        kept = since.heap.kept;
+        gone = since.heap.gone;
+        next = since.heap.next;
+      };
       whole = λ s. record {
         given = (since.whole s).given;
         invocations = (
           (
-            still_made m.target f.id.class s.given
-                (method_found c.table (own_class c.node m.target) m.selector f found).0,
+            still_made c.node n since.heap m.target f.id.class
+                (stored_made c.node m.target f.id.class s.given
+                (method_found c.table (own_class c.node m.target) m.selector f found).0),
             begin f values
                 (signature_found c.table (own_class c.node m.target) m.selector f found)
                 (fitting_few f values fit),

@@ -1,11 +1,10 @@
 -- What a verdict writes, and that its effect keeps what a node stores.
 use Rattle.std.proofs.Common.{◌≡◌, ◌∙◌, ◌==◌, ℕ, Bool, true, false, cond, List}
 use Rattle.std.proofs.Common.{[], ◌∷◌, length, refl, sym, ap, subst, arith}
-use Rattle.std.specs.Prelude.{None, Option, Some, option_map, slice_set}
+use Rattle.std.specs.Prelude.{Some, option_map, slice_set}
 use Rattle.std.proofs.lemmas.List.{length-set}
 use Rattle.do_base.specs.declared.values.value.Value.{Value}
 use Rattle.do_base.specs.declared.values.value.Value.TheVariants.{Nil, Obj, Text}
-use Rattle.do_class.specs.declared.ids.ClassId.{ClassId}
 use Rattle.do_behave.specs.declared.act.Write.{Write}
 use Rattle.do_behave.specs.declared.invocation.Answer.{Answer}
 use Rattle.do_behave.specs.declared.invocation.Answer.TheVariants.{Given}
@@ -26,13 +25,13 @@ use Rattle.do_machine.specs.run.Changes.{goes_on, uses, with_outs, with_slots, w
 use Rattle.do_machine.specs.run.Delivery.{below_answered, popped}
 use Rattle.do_machine.specs.run.Fresh.{blank}
 use Rattle.do_machine.specs.run.Verdicts.{effect_of, requesting}
-use Rattle.do_objects.specs.OwnClass.{WasMadeOf}
+use Rattle.do_facts.proofs.Deliveries.{Delivers, by_delivery, by_failing}
 use Rattle.do_objects.proofs.Counts.{outs_same}
-use Rattle.do_objects.proofs.Delivered.{Delivers, by_delivery, by_failing}
 use Rattle.do_objects.proofs.Finding.{written_at}
 use Rattle.do_objects.proofs.Known.{Known, begun_count}
-use Rattle.do_objects.proofs.Kept.{Keeps, makes, none, restacked, same_writes, then_keeps}
-use Rattle.do_objects.proofs.Whole.{AreOwn, IsWhole, still_own, stored_made}
+use Rattle.do_objects.proofs.Kept.{Keeps, keeps_by, makes, none, restacked, same_writes}
+use Rattle.do_objects.proofs.Kept.{then_keeps}
+use Rattle.do_objects.proofs.Whole.{AreOwn, IsWhole, stored_made}
 use Rattle.do_objects.proofs.Small.{lends}
 
 -- what a verdict writes
@@ -69,12 +68,6 @@ written_if : (b : Bool) (writes : List Write) (x : Stored) →
 written_if true writes x = refl
 written_if false writes x = refl
 
--- an object that is written to keeps its class
-same_class : (b : Bool) (writes : List Write) (x : Stored) →
-    (cond b (with_writes writes x) x).class ≡ x.class
-same_class true writes x = refl
-same_class false writes x = refl
-
 module _ (W : Known) (n m : Node) (serial : ℕ) (writes : List Write)
     (heap : m.heap ≡ (with_slots serial writes n).heap) (next : m.next_serial ≡ n.next_serial)
     (methods : IsWhole W n → AreOwn W n m.stack) where
@@ -83,38 +76,20 @@ module _ (W : Known) (n m : Node) (serial : ℕ) (writes : List Write)
       ≡ option_map (λ x. cond (serial == k) (with_writes writes x) x) (stored k n.heap)
   after_writes k = ap (stored k) heap ∙ written_at k serial writes n.heap
 
-  -- what was made is of its class also then
-  made_there : (k : ℕ) (class : ClassId) → WasMadeOf n k class → WasMadeOf m k class
-  made_there k class made =
-      (omega (arith, made.0), λ x h. by x (stored k n.heap) refl (sym (after_writes k) ∙ h))
-    where
-      by : (x : Stored) (found : Option Stored) → stored k n.heap ≡ found →
-          option_map (λ y. cond (serial == k) (with_writes writes y) y) found ≡ Some x →
-          x.class ≡ class
-      by x None e h = absurd (cc)
-      by x (Some y) e h =
-          let is : cond (serial == k) (with_writes writes y) y ≡ x = cc in
-          ap (λ z. z.class) (sym is) ∙ (same_class (serial == k) writes y ∙ made.1 y e)
-
   -- a step that writes slots of an object
   by_writes : Keeps W (only_to serial writes) n m
-  by_writes = record {
-    kept = λ k x e.
-        after_writes k
-        ∙ ap (option_map (λ y. cond (serial == k) (with_writes writes y) y)) e
-        ∙ ap (λ y. Some y) (written_if (serial == k) writes x);
-    gone = λ k new e.
-        after_writes k
-        ∙ ap (option_map (λ y. cond (serial == k) (with_writes writes y) y)) e;
-    next = omega arith;
-    whole = λ s. record {
-      given = λ k h.
-          after_writes k
-          ∙ ap (option_map (λ y. cond (serial == k) (with_writes writes y) y))
-          (s.given k (omega arith));
-      invocations = still_own W n m made_there m.stack (methods s);
-    };
-  }
+  by_writes =
+      keeps_by W n m
+      (record {
+        kept = λ k x e.
+            after_writes k
+            ∙ ap (option_map (λ y. cond (serial == k) (with_writes writes y) y)) e
+            ∙ ap (λ y. Some y) (written_if (serial == k) writes x);
+        gone = λ k new e.
+            after_writes k
+            ∙ ap (option_map (λ y. cond (serial == k) (with_writes writes y) y)) e;
+        next = omega arith;
+      }) methods
 
 module _ (W : Known) (r : RunContext) (tied : r.context.node.stack ≡ r.top ∷ r.below) where
   -- the methods of the invocations on the node's stack
@@ -154,15 +129,17 @@ module _ (W : Known) (r : RunContext) (tied : r.context.node.stack ≡ r.top ∷
   below_methods a (i ∷ is) h = h
 
   -- what may come of an answer
-  delivers : Delivers (λ e. Keeps W none r.context.node e.node) r
+  delivers : Delivers (λ reason e. Keeps W none r.context.node e.node) r
   delivers = record {
-    dropped = by_popped;
-    shown = λ s. by_popped;
-    raised = λ peer number e. by_popped;
-    replied = λ peer number packet.
-        lends r.context.node (popped r) (lends_of peer packet) by_popped;
+    shown = λ a. by_popped;
     below = λ a.
         restacked r.context.node _ refl refl (λ s. below_methods a r.below (methods s).1);
+    unheard = λ peer. by_popped;
+    told = λ peer e. by_popped;
+    dropped = λ peer number c. by_popped;
+    raised = λ peer number e o. by_popped;
+    replied = λ peer number v outs packet o h.
+        lends r.context.node (popped r) (lends_of peer packet) by_popped;
     caught = λ e h.
         restacked r.context.node _ refl refl (gone_on h.into (Text (exc_name e)) h.pc);
   }
@@ -219,8 +196,8 @@ module _ (W : Known) (r : RunContext) (tied : r.context.node.stack ≡ r.top ∷
       (restacked r.context.node _ refl refl (gone_on into Nil pc)))
   by_verdict (Returns result outs) own =
       silent r.context.node _ r.top.object.serial
-      (by_delivery (λ e. Keeps W none r.context.node e.node) r delivers (Given result outs)
-      r.top.reason)
+      (by_delivery (λ reason e. Keeps W none r.context.node e.node) r delivers
+      (Given result outs) r.top.reason)
   by_verdict (Fails e) own =
       silent r.context.node _ r.top.object.serial
-      (by_failing (λ d. Keeps W none r.context.node d.node) r delivers e r.top.handler)
+      (by_failing (λ reason d. Keeps W none r.context.node d.node) r delivers e r.top.handler)
