@@ -10,4 +10,5 @@ pub mod losses
 pub mod acts
 pub mod takes
 pub mod agreement
+pub mod texts
 pub mod told

@@ -4,4 +4,3 @@ pub mod StepsAgree
 pub mod GoesOn
 pub mod SchedulesAgree
 pub mod SnapshotsAgree
-pub mod TextsAgree

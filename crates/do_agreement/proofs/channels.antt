@@ -1,2 +1,3 @@
 pub mod SendsCarried
 pub mod FirstTaken
+pub mod SendingsSpelled

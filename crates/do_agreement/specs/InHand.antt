@@ -1,10 +1,12 @@
--- A node that has an item in hand.
-use Rattle.std.specs.Prelude.{ℕ}
+-- A node that has an item in hand, and what the item comes to there.
+use Rattle.std.specs.Prelude.{List, ℕ}
+use Rattle.do_class.specs.Class.{Class}
+use Rattle.do_machine.specs.declared.state.Effect.{Effect}
 use Rattle.do_machine.specs.Items.{exported}
-use Rattle.do_machine.specs.take.Take.{holding}
+use Rattle.do_machine.specs.take.Take.{holding, take_effect}
 use Rattle.do_network.specs.Counting.{got}
 use Rattle.do_network.specs.Frames.{item_of}
-use Rattle.do_network.specs.Own.{Own}
+use Rattle.do_network.specs.Own.{Own, site_context}
 use Rattle.do_network.specs.Site.{released_by}
 use Rattle.do_network.specs.fits.Notes.{Note, note_frame}
 
@@ -15,3 +17,9 @@ in_hand from x p =
     let item = item_of (note_frame x) in
     let q = got from item (released_by from (note_frame x) p) in
     record q { node = holding (exported from p.node.port item) p.node }
+
+-- the effect of the oldest item that a site takes
+abbrev pub taken_by : List Class → ℕ → Note → Own → Effect
+taken_by table from x p =
+    take_effect (site_context table (released_by from (note_frame x) p)) from
+    (item_of (note_frame x))

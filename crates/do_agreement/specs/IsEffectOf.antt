@@ -1,18 +1,11 @@
 -- What is known of an effect of a site's node.
-use Rattle.std.specs.Prelude.{Bool, List, filter, true, ℕ, ◌≡◌}
-use Rattle.std.specs.List.{AllByRecursion}
+use Rattle.std.specs.Prelude.{Bool, filter, true, ℕ, ◌≡◌}
 use Rattle.do_base.specs.names.Names.{ObjectName}
-use Rattle.do_class.specs.Class.{Class}
-use Rattle.do_coder.specs.Packets.{surroundings}
-use Rattle.do_frames.specs.Frames.{IsFrame}
 use Rattle.do_machine.specs.declared.node.Node.{Node}
 use Rattle.do_machine.specs.declared.state.Effect.{Effect}
 use Rattle.do_machine.specs.State.{is_open}
 use Rattle.do_machine.specs.laws.Follows.{HoldsOpen}
-use Rattle.do_network.specs.Own.{Own}
-use Rattle.do_network.specs.fits.Notes.{note_frame}
 use Rattle.do_agreement.specs.Accounted.{AccountsFor}
-use Rattle.do_agreement.specs.NotesSent.{notes_to}
 
 -- What a node holds after an effect are those that pass of what it held
 pub record Thins (n : Node) (e : Effect) : Type 0 where
@@ -27,9 +20,3 @@ pub record IsEffectOf (n : Node) (e : Effect) : Type 0 where
   pub opened : HoldsOpen e.node
   pub thins : Thins n e
   pub account : (home : ℕ) → AccountsFor home n e
-
--- each frame that a node of a port sends to a peer by an effect has a spelling
-abbrev pub AreSpelled : List Class → ℕ → Own → Effect → Type 0
-AreSpelled table port p e =
-    (to : ℕ) → AllByRecursion (λ x. IsFrame (surroundings table port to) (note_frame x))
-    (notes_to p.received to e.sent)

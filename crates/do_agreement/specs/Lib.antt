@@ -10,7 +10,7 @@ pub mod Shows
 pub mod Tallies
 pub mod Classed
 pub mod Agrees
-pub mod EventIsSpelled
 pub mod Along
 pub mod AreTold
-pub mod Unwired
+pub mod HasWires
+pub mod WithoutWires

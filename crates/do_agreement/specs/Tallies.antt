@@ -9,7 +9,6 @@ use Rattle.do_network.specs.Net.{Net}
 use Rattle.do_network.specs.Own.{Own, is_counted}
 use Rattle.do_network.specs.fits.Notes.{Note}
 use Rattle.do_agreement.specs.CountsFit.{CountsFit, none_closes}
-use Rattle.do_agreement.specs.IsEffectOf.{AreSpelled}
 use Rattle.do_agreement.specs.Shows.{Shows}
 
 -- A network has the nodes and the queues of a state, and its counts, links and channels fit
@@ -21,8 +20,3 @@ pub record Tallies (table : List Class) (N : Net) (S : State) : Type 0 where
 -- what a node leaves by its counts after an effect
 abbrev pub left_after : Own → Effect → Effect
 left_after p e = let q = counted p e in leaving (is_counted q) q.node
-
--- each frame that a step sends has a spelling, those of the effect and those of what is left then
-abbrev pub StepIsSpelled : List Class → ℕ → Own → Effect → Type 0
-StepIsSpelled table port p e =
-    AreSpelled table port p e × AreSpelled table port (counted p e) (left_after p e)

@@ -6,7 +6,8 @@ mod pairs;
 
 pub use agreement::{
     agreeing_networks_stand_for_states, events_keep_agreement, networks_open_in_agreement,
-    schedules_come_to_the_same, snapshots_are_equal,
+    networks_write_what_one_machine_writes, schedules_come_to_the_same, snapshots_are_equal,
+    wires_fall_out,
 };
 pub use classes::{classes_are_told, sent_names_tell_classes};
 pub use counts::{

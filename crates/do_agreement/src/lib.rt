@@ -11,6 +11,7 @@ mod laws;
 pub use laws::{
     agreeing_networks_stand_for_states, classes_are_told, effects_account, events_keep_agreement,
     homes_counts_stay_right, items_in_hand_are_counted, networks_open_in_agreement,
-    pairs_stand_as_in_the_state, schedules_come_to_the_same, senders_counts_stay_right,
-    sent_names_tell_classes, snapshots_are_equal,
+    networks_write_what_one_machine_writes, pairs_stand_as_in_the_state,
+    schedules_come_to_the_same, senders_counts_stay_right, sent_names_tell_classes,
+    snapshots_are_equal, wires_fall_out,
 };

@@ -24,12 +24,12 @@ use Rattle.do_network.specs.Links.{Part}
 use Rattle.do_network.specs.Net.{Net, Place, part_at, place_at}
 use Rattle.do_network.specs.Own.{site_context}
 use Rattle.do_network.specs.Site.{enabled_input, moves}
+use Rattle.do_network.specs.Spelled.{SendsSpelled}
 use Rattle.do_network.specs.Step.{net_moved, net_skipped, net_step}
 use Rattle.do_network.proofs.JudgedAlike.{context_alike}
 use Rattle.do_facts.specs.links.LinksAreKept.{LinksAreKept}
 use Rattle.do_agreement.specs.Agrees.{Agrees, StepAgrees}
 use Rattle.do_agreement.specs.Classed.{ClassesAreTold}
-use Rattle.do_agreement.specs.EventIsSpelled.{EventIsSpelled}
 use Rattle.do_agreement.proofs.acts.ActsAgree.{act_if, close_if, node_is, skip_agrees}
 use Rattle.do_agreement.proofs.commits.EntriesJudged.{counts_judge}
 use Rattle.do_agreement.proofs.commits.MoveTallies.{shown_but}
@@ -85,7 +85,7 @@ module _ (table : List Class) (act : Acting) (N : Net) (S : State) (agrees : Agr
 
   -- a start
   pub start_agrees : (port : ℕ) (selector : List ℕ) (values : List Value) →
-      EventIsSpelled table act N agrees.tallies.under_way (Start port selector values) →
+      SendsSpelled table act N (Start port selector values) →
       StepAgrees table (net_step table act N (Start port selector values))
       (step table act S (Start port selector values))
   start_agrees port selector values spelled =
@@ -95,12 +95,13 @@ module _ (table : List Class) (act : Acting) (N : Net) (S : State) (agrees : Agr
       (λ pl there.
       act_if table act N S agrees kept told port pl there event refl
       (start_effect table selector values pl.part.own.node) (λ e q. q)
-      (spelled pl.part (ap (option_map (λ (x : Place). x.part)) there)))
+      (λ e q. spelled pl.part (ap (option_map (λ (x : Place). x.part)) there) (moves pl.part e)
+      (ap (option_map (moves pl.part)) q)))
       (place_at N port) refl
 
   -- a run
   pub run_agrees : (port : ℕ) →
-      EventIsSpelled table act N agrees.tallies.under_way (Run port) →
+      SendsSpelled table act N (Run port) →
       StepAgrees table (net_step table act N (Run port)) (step table act S (Run port))
   run_agrees port spelled =
       by_place port inputs.Run
@@ -115,24 +116,26 @@ module _ (table : List Class) (act : Acting) (N : Net) (S : State) (agrees : Agr
       (sym same)
       (act_if table act N S agrees kept told port pl there (Run port) refl
       (run_effect act (context table S pl.part.own.node)) (λ e q. q)
-      (λ e q. spelled pl.part site e (same ∙ q))))
+      (λ e q. spelled pl.part site (moves pl.part e)
+      (ap (option_map (moves pl.part)) (same ∙ q)))))
       (place_at N port) refl
 
   -- a time-out
   pub timeout_agrees : (port : ℕ) →
-      EventIsSpelled table act N agrees.tallies.under_way (Timeout port) →
+      SendsSpelled table act N (Timeout port) →
       StepAgrees table (net_step table act N (Timeout port)) (step table act S (Timeout port))
   timeout_agrees port spelled =
       by_place port inputs.Timeout (λ n. moved_by port S (option_and_then time_out n)) refl
       (λ pl there.
       act_if table act N S agrees kept told port pl there (Timeout port) refl
       (time_out pl.part.own.node) (λ e q. q)
-      (spelled pl.part (ap (option_map (λ (x : Place). x.part)) there)))
+      (λ e q. spelled pl.part (ap (option_map (λ (x : Place). x.part)) there) (moves pl.part e)
+      (ap (option_map (moves pl.part)) q)))
       (place_at N port) refl
 
   -- a close
   pub close_agrees : (port peer : ℕ) →
-      EventIsSpelled table act N agrees.tallies.under_way (Close port peer) →
+      SendsSpelled table act N (Close port peer) →
       StepAgrees table (net_step table act N (Close port peer)) (step table act S (Close port peer))
   close_agrees port peer spelled =
       by_place port (inputs.Close peer)
@@ -143,5 +146,7 @@ module _ (table : List Class) (act : Acting) (N : Net) (S : State) (agrees : Agr
       (λ pl there.
       close_if table act N S agrees kept told port pl there (Close port peer) refl
       (is_open pl.part.own.node peer) (closing peer pl.part.own.node) (λ o. (o, refl))
-      (spelled pl.part (ap (option_map (λ (x : Place). x.part)) there)))
+      (λ o. spelled pl.part (ap (option_map (λ (x : Place). x.part)) there)
+      (moves pl.part (closing peer pl.part.own.node))
+      (ap (λ b. cond (not b) None (Some (moves pl.part (closing peer pl.part.own.node)))) o)))
       (place_at N port) refl

@@ -21,6 +21,7 @@ use Rattle.do_network.specs.Links.{Part}
 use Rattle.do_network.specs.Net.{Net, Place, part_at, place_at}
 use Rattle.do_network.specs.Own.{class_kept, is_counted}
 use Rattle.do_network.specs.Site.{moves}
+use Rattle.do_network.specs.Spelled.{SentSpelled}
 use Rattle.do_network.specs.Step.{net_moved, net_skipped, place_after}
 use Rattle.do_facts.specs.links.Links.{links_of}
 use Rattle.do_facts.specs.links.LinksAreKept.{LinksAreKept}
@@ -30,7 +31,7 @@ use Rattle.do_facts.proofs.links.Bridge.{link_bridge}
 use Rattle.do_facts.proofs.steps.OthersStay.{class_stays}
 use Rattle.do_agreement.specs.Agrees.{Agrees, StepAgrees}
 use Rattle.do_agreement.specs.Classed.{ClassesAreTold}
-use Rattle.do_agreement.specs.Tallies.{StepIsSpelled, left_after}
+use Rattle.do_agreement.specs.Tallies.{left_after}
 use Rattle.do_agreement.proofs.classes.ClassesAfter.{IsClassed, classes_moved, classes_stay_so}
 use Rattle.do_agreement.proofs.classes.ClassesAfter.{known_classed}
 use Rattle.do_agreement.proofs.classes.KnownAfter.{known_after}
@@ -73,7 +74,7 @@ module _ (table : List Class) (act : Acting) (N : Net) (S : State) (agrees : Agr
 
     -- an effect of the site's node
     act_agrees : (event : Event) (e : Effect) → IsActOf port event →
-        IsRuleOf table act S event p.own.node e → StepIsSpelled table port p.own e →
+        IsRuleOf table act S event p.own.node e → SentSpelled table (moves p e) →
         StepAgrees table (net_moved port N (moves p e)) (moved port S e)
     act_agrees event e own rule spelled =
         let n = p.own.node in
@@ -108,7 +109,7 @@ module _ (table : List Class) (act : Acting) (N : Net) (S : State) (agrees : Agr
     -- an effect of the site's node, where there is one
     pub act_if : (event : Event) → IsActOf port event → (found : Option Effect) →
         ((e : Effect) → found ≡ Some e → IsRuleOf table act S event p.own.node e) →
-        ((e : Effect) → found ≡ Some e → StepIsSpelled table port p.own e) →
+        ((e : Effect) → found ≡ Some e → SentSpelled table (moves p e)) →
         StepAgrees table
         (unwrap_or (option_map (net_moved port N) (option_map (moves p) found)) (net_skipped N))
         (unwrap_or (moved_by port S found) (skipped S))
@@ -118,10 +119,11 @@ module _ (table : List Class) (act : Acting) (N : Net) (S : State) (agrees : Agr
 
     -- a close
     pub close_if : (event : Event) → IsActOf port event → (b : Bool) (e : Effect) →
-        (b ≡ true → IsRuleOf table act S event p.own.node e) → StepIsSpelled table port p.own e →
+        (b ≡ true → IsRuleOf table act S event p.own.node e) →
+        (b ≡ true → SentSpelled table (moves p e)) →
         StepAgrees table
         (unwrap_or (option_map (net_moved port N) (cond (not b) None (Some (moves p e))))
         (net_skipped N))
         (unwrap_or (cond (not b) None (Some (moved port S e))) (skipped S))
     close_if event own false e rule spelled = skip_agrees
-    close_if event own true e rule spelled = act_agrees event e own (rule refl) spelled
+    close_if event own true e rule spelled = act_agrees event e own (rule refl) (spelled refl)

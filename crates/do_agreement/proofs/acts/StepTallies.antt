@@ -29,7 +29,8 @@ use Rattle.do_network.specs.declared.input.Done.{Done}
 use Rattle.do_network.specs.Frames.{item_of}
 use Rattle.do_network.specs.Links.{Part}
 use Rattle.do_network.specs.Net.{Net, Place, part_at, place_at, with_channel}
-use Rattle.do_network.specs.Site.{Handled, handled, site_move}
+use Rattle.do_network.specs.Site.{Handled, handled, moves, site_move}
+use Rattle.do_network.specs.Spelled.{SentSpelled}
 use Rattle.do_network.specs.Step.{advanced, net_moved, place_after}
 use Rattle.do_network.specs.fits.Notes.{Note, note_frame}
 use Rattle.do_facts.specs.Net.{noted}
@@ -46,7 +47,7 @@ use Rattle.do_facts.proofs.links.ClosingIsMoves.{settlings_stay}
 use Rattle.do_agreement.specs.IsEffectOf.{IsEffectOf}
 use Rattle.do_agreement.specs.NetInHand.{carried_as, closes_for, ends, net_in_hand, net_without}
 use Rattle.do_agreement.specs.NetInHand.{part_in_hand, with_part, without_first}
-use Rattle.do_agreement.specs.Tallies.{StepIsSpelled, Tallies}
+use Rattle.do_agreement.specs.Tallies.{Tallies}
 use Rattle.do_agreement.proofs.hands.HandFits.{front, hand_fits, other, way}
 use Rattle.do_agreement.proofs.hands.HandShows.{hand_shows}
 use Rattle.do_agreement.proofs.commits.MoveTallies.{move_tallies, shown_alike, shown_but}
@@ -91,9 +92,9 @@ sound_here S kept port n here =
 pub sound_after : (S : State) → LinksAreKept S → (port : ℕ) (n : Node) → node S port ≡ Some n →
     (taken : List (nets.Note Atom)) (e : Effect) → AreMoves links link_rules n taken e →
     IsSound (links_of e.node)
-sound_after S kept port n here taken e moves =
+sound_after S kept port n here taken e runs =
     ok_by links link_rules IsSound link_bridge port S n here
-    (λ peer q. kept.queues.closed port peer n here q) (sound_here S kept port n here) taken e moves
+    (λ peer q. kept.queues.closed port peer n here q) (sound_here S kept port n here) taken e runs
 
 module _ (table : List Class) (S : State) (kept : LinksAreKept S) (N : Net)
     (tally : Tallies table N S) (port : ℕ) (pl : Place) (there : place_at N port ≡ Some pl)
@@ -115,37 +116,37 @@ module _ (table : List Class) (S : State) (kept : LinksAreKept S) (N : Net)
 
   -- a node acts
   pub act_tallies : (act : Acting) (event : Event) (e : Effect) →
-      IsRuleOf table act S event p.own.node e → StepIsSpelled table port p.own e →
+      IsRuleOf table act S event p.own.node e → SentSpelled table (moves p e) →
       Tallies table (net_moved port N (handled p done (site_move p.own e))).net
       (moved port S e).state
   act_tallies act event e rule spelled =
       let n = p.own.node in
       let sound = sound_here S kept port n node_there in
-      let moves = rule_moves table act S event n e sound rule in
+      let runs = rule_moves table act S event n e sound rule in
       subst (λ M. Tallies table M (moved port S e).state) (sym (two_commits port p e done N))
       (move_tallies table port n N tally.under_way S (λ a m. false) tally.counts
       (shown_but port N tally.under_way S tally.shows p site_there) pl there e
       (rule_effect table act S event n e sound (tally.counts.owns port p site_there).reached rule)
       spelled (λ m c. absurd (never c)) (λ a m ne. refl)
-      (sound_after S kept port n node_there [] e moves))
+      (sound_after S kept port n node_there [] e runs))
     where
       never : false ≡ true → ⊥
       never c = cc
 
   -- and shows what the machine's node shows
   pub act_outcome : (act : Acting) (event : Event) (e : Effect) →
-      IsRuleOf table act S event p.own.node e → StepIsSpelled table port p.own e →
+      IsRuleOf table act S event p.own.node e → SentSpelled table (moves p e) →
       (net_moved port N (handled p done (site_move p.own e))).outcome
       ≡ (moved port S e).outcome
   act_outcome act event e rule spelled =
       let n = p.own.node in
       let sound = sound_here S kept port n node_there in
-      let moves = rule_moves table act S event n e sound rule in
+      let runs = rule_moves table act S event n e sound rule in
       shown_alike table port n N tally.under_way S (λ a m. false) tally.counts
       (shown_but port N tally.under_way S tally.shows p site_there) pl there e
       (rule_effect table act S event n e sound (tally.counts.owns port p site_there).reached rule)
       spelled (λ m c. absurd (never c)) (λ a m ne. refl)
-      (sound_after S kept port n node_there [] e moves)
+      (sound_after S kept port n node_there [] e runs)
     where
       never : false ≡ true → ⊥
       never c = cc
@@ -264,7 +265,7 @@ module _ (table : List Class) (S : State) (kept : LinksAreKept S) (N : Net)
         go false h = refl
 
     -- a node takes an item
-    pub take_tallies : StepIsSpelled table port hand.own e →
+    pub take_tallies : SentSpelled table (moves hand e) →
         Tallies table (net_moved port K (handled hand done (site_move hand.own e))).net
         (moved port T e).state
     take_tallies spelled =
@@ -287,7 +288,7 @@ module _ (table : List Class) (S : State) (kept : LinksAreKept S) (N : Net)
         (sound_here S kept port p.own.node node_there))))
 
     -- and shows what the machine's node shows
-    pub take_outcome : StepIsSpelled table port hand.own e →
+    pub take_outcome : SentSpelled table (moves hand e) →
         (net_moved port K (handled hand done (site_move hand.own e))).outcome
         ≡ (moved port T e).outcome
     take_outcome spelled =

@@ -9,6 +9,7 @@ use Rattle.do_machine.specs.Step.{step}
 use Rattle.do_machine.specs.World.{opening}
 use Rattle.do_machine.specs.run.Run.{Acting}
 use Rattle.do_network.specs.Net.{Net, net_opening}
+use Rattle.do_network.specs.Spelled.{SendsSpelled}
 use Rattle.do_network.specs.Step.{net_step}
 use Rattle.do_facts.specs.calls.Facts.{CallsAreKept}
 use Rattle.do_facts.specs.links.LinksAreKept.{LinksAreKept}
@@ -16,7 +17,6 @@ use Rattle.do_facts.proofs.calls.ReachedCalls as calls_kept
 use Rattle.do_facts.proofs.links.ReachedLinks as links_kept
 use Rattle.do_facts.proofs.steps.NodesAtHome.{AllAtHome, opening_home, step_home}
 use Rattle.do_agreement.specs.Agrees.{Agrees, StepAgrees}
-use Rattle.do_agreement.specs.EventIsSpelled.{EventIsSpelled}
 use Rattle.do_agreement.proofs.agreement.OpeningAgrees.{opening_agrees}
 use Rattle.do_agreement.proofs.agreement.StepsAgree.{step_agrees}
 use Rattle.do_agreement.proofs.told.ClassesKept.{ClassesKept}
@@ -34,12 +34,12 @@ pub record Goes (table : List Class) (N : Net) (S : State) : Type 0 where
 -- an event comes to the same in both, and they go on so
 pub goes_on : (table : List Class) → IsTable table → (act : Acting) (N : Net) (S : State) →
     Goes table N S → (event : Event) →
-    ((agrees : Agrees table N S) → EventIsSpelled table act N agrees.tallies.under_way event) →
+    SendsSpelled table act N event →
     ((net_step table act N event).outcome ≡ (step table act S event).outcome)
     × Goes table (net_step table act N event).net (step table act S event).state
 goes_on table t act N S g event spelled =
     let s : StepAgrees table (net_step table act N event) (step table act S event) =
-    step_agrees table t act N S g.agrees g.links g.calls g.classes.told event (spelled g.agrees) in (
+    step_agrees table t act N S g.agrees g.links g.calls g.classes.told event spelled in (
       s.outcome,
       record {
         agrees = s.agrees;

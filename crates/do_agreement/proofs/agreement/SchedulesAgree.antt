@@ -10,13 +10,13 @@ use Rattle.do_machine.specs.World.{opening}
 use Rattle.do_machine.specs.run.Run.{Acting}
 use Rattle.do_network.specs.Net.{Net, net_opening}
 use Rattle.do_network.specs.Step.{net_step}
-use Rattle.do_agreement.specs.Along.{AreSpelled, ComesToTheSame}
+use Rattle.do_agreement.specs.Along.{ComesToTheSame, EventsSendSpelled}
 use Rattle.do_agreement.proofs.agreement.GoesOn.{Goes, goes_on, opening_goes}
 
 module _ (table : List Class) (t : IsTable table) (act : Acting) where
   -- from a network that agrees
   along : (events : List Event) (N : Net) (S : State) → Goes table N S →
-      AreSpelled table act N S events → ComesToTheSame table act N S events
+      EventsSendSpelled table act N events → ComesToTheSame table act N S events
   along [] N S g spelled = g.agrees
   along (event ∷ events) N S g spelled =
       let s = goes_on table t act N S g event spelled.0 in (
@@ -26,7 +26,7 @@ module _ (table : List Class) (t : IsTable table) (act : Acting) where
 
   -- from the opening
   pub schedule_agrees : (seats : List Seat) (events : List Event) →
-      AreSpelled table act (net_opening table seats) (opening table seats) events →
+      EventsSendSpelled table act (net_opening table seats) events →
       ComesToTheSame table act (net_opening table seats) (opening table seats) events
   schedule_agrees seats events spelled =
       along events (net_opening table seats) (opening table seats) (opening_goes table seats)

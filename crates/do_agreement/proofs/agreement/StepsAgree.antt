@@ -9,12 +9,12 @@ use Rattle.do_machine.specs.declared.state.State.{State}
 use Rattle.do_machine.specs.Step.{step}
 use Rattle.do_machine.specs.run.Run.{Acting}
 use Rattle.do_network.specs.Net.{Net}
+use Rattle.do_network.specs.Spelled.{SendsSpelled}
 use Rattle.do_network.specs.Step.{net_step}
 use Rattle.do_facts.specs.calls.Facts.{CallsAreKept}
 use Rattle.do_facts.specs.links.LinksAreKept.{LinksAreKept}
 use Rattle.do_agreement.specs.Agrees.{Agrees, StepAgrees}
 use Rattle.do_agreement.specs.Classed.{ClassesAreTold}
-use Rattle.do_agreement.specs.EventIsSpelled.{EventIsSpelled}
 use Rattle.do_agreement.proofs.acts.ActEvents.{close_agrees, run_agrees, start_agrees}
 use Rattle.do_agreement.proofs.acts.ActEvents.{timeout_agrees}
 use Rattle.do_agreement.proofs.losses.LossEvents.{loss_event}
@@ -25,7 +25,7 @@ module _ (table : List Class) (t : IsTable table) (act : Acting) (N : Net) (S : 
     (told : ClassesAreTold S) where
   -- every event
   pub step_agrees : (event : Event) →
-      EventIsSpelled table act N agrees.tallies.under_way event →
+      SendsSpelled table act N event →
       StepAgrees table (net_step table act N event) (step table act S event)
   step_agrees (Start port selector values) spelled =
       start_agrees table act N S agrees kept told port selector values spelled

@@ -116,7 +116,7 @@ module _ (table : List Class) (from to : ℕ) (reads : Bool) (r : Link) where
 
         -- the channel once the frame stands in it
         abbrev framed : Channel → Channel
-        framed c = carrying (Framed (raw s.writer.sent f)) c
+        framed c = carrying (Framed f (raw s.writer.sent f)) c
 
         -- over a stream that has begun
         later : s.writer.greeted ≡ true → CarriesTo (change_link to (sent_over f) links)
@@ -159,8 +159,8 @@ module _ (table : List Class) (from to : ℕ) (reads : Bool) (r : Link) where
         sent_here : (b : Bool) → s.writer.greeted ≡ b →
             CarriesTo (change_link to (sent_over f) links)
             (fold with_sending cs (map (λ (piece : Piece). record { to = to; piece = piece })
-            (cond b (Framed (raw s.writer.sent f) ∷ [])
-            (Greeting ∷ Framed (raw s.writer.sent f) ∷ [])))) (xs ++ x ∷ [])
+            (cond b (Framed f (raw s.writer.sent f) ∷ [])
+            (Greeting ∷ Framed f (raw s.writer.sent f) ∷ [])))) (xs ++ x ∷ [])
         sent_here true e = later e
         sent_here false e = first e
 
@@ -181,7 +181,7 @@ module _ (table : List Class) (from to : ℕ) (reads : Bool) (r : Link) where
         where
           keeps : (piece : Piece) (c : Channel) → (carrying piece c).to ≡ c.to
           keeps Greeting c = refl
-          keeps (Framed g) c = refl
+          keeps (Framed g r) c = refl
 
           none : (qs : List Piece) (ds : List Channel) →
               find (λ c. to == c.to) (fold with_sending ds
@@ -204,11 +204,11 @@ module _ (table : List Class) (from to : ℕ) (reads : Bool) (r : Link) where
           go (Some l) =
               subst (λ z. CarriesTo (change_link other (sent_over x.frame) links)
               (fold with_sending cs (map (λ (piece : Piece). record { to = z; piece = piece })
-              (cond l.greeted (Framed (raw l.sent x.frame) ∷ [])
-              (Greeting ∷ Framed (raw l.sent x.frame) ∷ [])))) xs) (sym is)
+              (cond l.greeted (Framed x.frame (raw l.sent x.frame) ∷ [])
+              (Greeting ∷ Framed x.frame (raw l.sent x.frame) ∷ [])))) xs) (sym is)
               (sent_elsewhere other apart x.frame (cond l.greeted
-              (Framed (raw l.sent x.frame) ∷ [])
-              (Greeting ∷ Framed (raw l.sent x.frame) ∷ [])))
+              (Framed x.frame (raw l.sent x.frame) ∷ [])
+              (Greeting ∷ Framed x.frame (raw l.sent x.frame) ∷ [])))
           go None = sent_elsewhere other apart x.frame []
 
   module _ (received : Counts) where
@@ -268,8 +268,8 @@ module _ (table : List Class) (from to : ℕ) (reads : Bool) (r : Link) where
             (subst (one_more o.links to) (sym s.writes)
             (subst (λ z. CarriesTo (change_link to (sent_over here.frame) o.links)
             (fold with_sending before (map (λ (piece : Piece). record { to = z; piece = piece })
-            (cond s.writer.greeted (Framed (raw s.writer.sent here.frame) ∷ [])
-            (Greeting ∷ Framed (raw s.writer.sent here.frame) ∷ []))))
+            (cond s.writer.greeted (Framed here.frame (raw s.writer.sent here.frame) ∷ [])
+            (Greeting ∷ Framed here.frame (raw s.writer.sent here.frame) ∷ []))))
             (xs ++ note_sent received x ∷ [])) (sym is)
             (sent_here o.links before xs s (note_sent received x) refl all.0 s.writer.greeted
             refl))))) all.1)

@@ -4,6 +4,7 @@ use Rattle.std.proofs.Common.{map}
 use Rattle.std.proofs.Common.{◌≡◌, ◌==◌, ◌++◌, ◌+◌, ℕ, Bool, true, false, cond, List, refl, sym, ap}
 use Rattle.std.proofs.Common.{◌∙◌, subst, fold, arith}
 use Rattle.std.specs.Prelude.{Some, [], is_some, option_and_then, option_map}
+use Rattle.std.specs.List.{AllByRecursion}
 use Rattle.do_class.specs.Class.{Class}
 use Rattle.do_machine.specs.declared.state.Effect.{Effect}
 use Rattle.do_machine.specs.Objects.{object_at}
@@ -13,13 +14,15 @@ use Rattle.do_network.specs.Links.{Link}
 use Rattle.do_network.specs.Links.{Part}
 use Rattle.do_network.specs.Net.{net_ports}
 use Rattle.do_network.specs.Net.{Net, Place, channel_to, part_at, place_at}
+use Rattle.do_network.specs.Spelled.{IsSpelledSending}
 use Rattle.do_network.specs.Step.{place_after, with_sending}
 use Rattle.do_network.specs.fits.Counted.{Counted}
 use Rattle.do_network.specs.fits.Notes.{Note, tells_of, total}
 use Rattle.do_agreement.specs.CountsFit.{ChannelCarries, CountsFit, HoldsReceived, none_closes}
-use Rattle.do_agreement.specs.IsEffectOf.{AreSpelled, IsEffectOf}
+use Rattle.do_agreement.specs.IsEffectOf.{IsEffectOf}
 use Rattle.do_agreement.specs.NetCommit.{effected, net_commit, with_sent}
 use Rattle.do_agreement.specs.NotesSent.{notes_to}
+use Rattle.do_agreement.proofs.channels.SendingsSpelled.{notes_spelled}
 use Rattle.do_agreement.proofs.channels.SendsCarried.{CarriesTo, all_carried}
 use Rattle.do_agreement.proofs.counts.MovesAccount.{apart}
 use Rattle.do_agreement.proofs.counts.NamesCounted.{names_counted}
@@ -38,7 +41,7 @@ use Rattle.do_agreement.proofs.places.Numbers.{flipped, never_apart}
 module _ (table : List Class) (port : ℕ) (N : Net) (under_way : ℕ → ℕ → List Note)
     (closes : ℕ → ℕ → Bool) (fit : CountsFit table N under_way closes) (pl : Place)
     (there : place_at N port ≡ Some pl) (e : Effect) (is : IsEffectOf pl.part.own.node e)
-    (spelled : AreSpelled table port pl.part.own e)
+    (spelled : AllByRecursion (IsSpelledSending table port) (effected pl.part e).sent)
     (shuts : (m : ℕ) → closes port m ≡ true → is_open e.node m ≡ false)
     (others : (a m : ℕ) → (port == a) ≡ false → closes a m ≡ false) where
   -- the site
@@ -226,7 +229,8 @@ module _ (table : List Class) (port : ℕ) (N : Net) (under_way : ℕ → ℕ �
     carries_after =
         all_carried table port m (is_open q.own.node port) to_other.reader p.own.received e.sent
         (record { links = p.links; sent = [] }) pl.channels (under_way port m) carries_before
-        (spelled m)
+        (notes_spelled table port m p.own.received e.sent p.links to_other.writer to_other.writes
+        spelled)
 
     -- the channel to the other afterwards
     channel_to_other : ChannelCarries table M port m after q (now port m)

@@ -86,7 +86,7 @@ channels_there y m (s ∷ ss) cs =
   where
     keeps : (piece : Piece) (c : Channel) → (carrying piece c).to ≡ c.to
     keeps Greeting c = refl
-    keeps (Framed g) c = refl
+    keeps (Framed g r) c = refl
 
 module _ (port : ℕ) (n : Node) (N : Net) (under_way : ℕ → ℕ → List Note) (T : State)
     (shows : ShowsBut port n N under_way T) (pl : Place) (there : place_at N port ≡ Some pl)

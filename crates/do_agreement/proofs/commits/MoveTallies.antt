@@ -1,6 +1,7 @@
 -- A network tallies with the state after a node moved: by an effect and by what it leaves then.
 use Rattle.std.proofs.Common.{◌≡◌, ◌==◌, ◌++◌, ℕ, Bool, false, List, refl, sym, ap, ◌∙◌, subst}
 use Rattle.std.specs.Prelude.{Some, true, option_map}
+use Rattle.std.specs.List.{AllByRecursion}
 use mathlib.Core.Path.{fun_ext}
 use Rattle.do_class.specs.Class.{Class}
 use Rattle.do_machine.specs.declared.node.Node.{Node}
@@ -12,9 +13,13 @@ use Rattle.do_machine.specs.Entry.{has_entry}
 use Rattle.do_machine.specs.Objects.{object_at}
 use Rattle.do_machine.specs.State.{is_open}
 use Rattle.do_machine.specs.held.Leaving.{leaving}
+use Rattle.do_machine.proofs.follows.Ran.{by_leaving}
+use Rattle.do_network.specs.Frames.{all_posted}
 use Rattle.do_network.specs.Links.{Part}
 use Rattle.do_network.specs.Net.{Net, Place, part_at, place_at}
 use Rattle.do_network.specs.Own.{is_counted}
+use Rattle.do_network.specs.Site.{moves}
+use Rattle.do_network.specs.Spelled.{IsSpelledSending, SentSpelled}
 use Rattle.do_network.specs.Step.{place_after}
 use Rattle.do_network.specs.fits.Notes.{Note}
 use Rattle.do_facts.specs.links.Links.{links_of}
@@ -23,11 +28,13 @@ use Rattle.do_agreement.specs.CountsFit.{CountsFit, none_closes}
 use Rattle.do_agreement.specs.IsEffectOf.{IsEffectOf}
 use Rattle.do_agreement.specs.NetCommit.{effected, net_commit, with_sent}
 use Rattle.do_agreement.specs.Shows.{Shows, ShowsBut}
-use Rattle.do_agreement.specs.Tallies.{StepIsSpelled, Tallies, left_after}
+use Rattle.do_agreement.specs.Tallies.{Tallies, left_after}
+use Rattle.do_agreement.proofs.channels.SendingsSpelled.{all_behind, all_front}
 use Rattle.do_agreement.proofs.commits.CommitFits.{commit_fits}
 use Rattle.do_agreement.proofs.commits.CommitShows.{commit_shows}
 use Rattle.do_agreement.proofs.commits.EntriesJudged.{counts_judge}
 use Rattle.do_agreement.proofs.places.PlacesChanged.{place_here}
+use Rattle.do_agreement.proofs.places.StepAsCommits.{sent_twice}
 use Rattle.do_agreement.proofs.sites.RuleEffects.{leaving_effect}
 
 -- a state that is shown is shown but for a node
@@ -45,7 +52,7 @@ module _ (table : List Class) (port : ℕ) (n : Node) (N : Net) (under_way : ℕ
     (T : State) (closes : ℕ → ℕ → Bool) (fit : CountsFit table N under_way closes)
     (shows : ShowsBut port n N under_way T) (pl : Place) (there : place_at N port ≡ Some pl)
     (e : Effect) (is : IsEffectOf pl.part.own.node e)
-    (spelled : StepIsSpelled table port pl.part.own e)
+    (spelled : SentSpelled table (moves pl.part e))
     (shuts : (m : ℕ) → closes port m ≡ true → is_open e.node m ≡ false)
     (others : (a m : ℕ) → (port == a) ≡ false → closes a m ≡ false)
     (sound : IsSound (links_of e.node)) where
@@ -56,6 +63,21 @@ module _ (table : List Class) (port : ℕ) (n : Node) (N : Net) (under_way : ℕ
   -- the site after the effect
   abbrev mid : Part
   mid = (effected p e).part
+
+  -- the site is of the port still
+  port_after : (moves p e).part.own.node.port ≡ port
+  port_after =
+      (by_leaving (is_counted mid.own) e.node).grows.port ∙ is.same
+      ∙ (fit.owns port p (ap (option_map (λ x. x.part)) there)).port_is
+
+  -- what it sends by the effect has a spelling, and what it sends then
+  halves : AllByRecursion (IsSpelledSending table port)
+      ((effected p e).sent ++ (effected mid (left_after p.own e)).sent)
+  halves =
+      subst (AllByRecursion (IsSpelledSending table port))
+      (ap (λ o. o.sent) (sent_twice p.links (all_posted p.own.received e.sent)
+      (all_posted mid.own.received (left_after p.own e).sent)))
+      (subst (λ k. AllByRecursion (IsSpelledSending table k) (moves p e).sent) port_after spelled)
 
   -- the network after the effect
   abbrev M : Net
@@ -79,7 +101,8 @@ module _ (table : List Class) (port : ℕ) (n : Node) (N : Net) (under_way : ℕ
 
   -- the counts fit
   mid_fit : CountsFit table M between none_closes
-  mid_fit = commit_fits table port N under_way closes fit pl there e is spelled.0 shuts others
+  mid_fit = commit_fits table port N under_way closes fit pl there e is
+      (all_front (IsSpelledSending table port) (effected p e).sent _ halves) shuts others
 
   -- and the state is shown
   mid_shows : Shows M between U
@@ -120,7 +143,8 @@ module _ (table : List Class) (port : ℕ) (n : Node) (N : Net) (under_way : ℕ
       record {
         under_way = with_sent port mid.own.received d.sent between;
         counts = commit_fits table port M between none_closes mid_fit
-            (place_after (effected p e) pl) mid_there d left_is spelled.1
+            (place_after (effected p e) pl) mid_there d left_is
+            (all_behind (IsSpelledSending table port) (effected p e).sent _ halves)
             (λ m c. absurd (never c)) (λ a m ne. refl);
         shows = subst (λ x. Shows L (with_sent port mid.own.received d.sent between)
             (commit port x U)) left_alike

@@ -17,7 +17,7 @@ use Rattle.do_agreement.proofs.places.KeyedLists.{fold_behind}
 use Rattle.do_agreement.proofs.places.PlacesChanged.{place_twice}
 
 -- what was sent before stands before what is sent
-sent_before : (a b : List Sending) (links : List Link) (xs : List Posted) →
+pub sent_before : (a b : List Sending) (links : List Link) (xs : List Posted) →
     fold sending (record { links = links; sent = a ++ b }) xs
     ≡ record {
       links = (fold sending (record { links = links; sent = b }) xs).links;
@@ -31,7 +31,7 @@ sent_before a b links (x ∷ xs) =
     ∙ sent_before a next.sent next.links xs
 
 -- frames are sent, and then others
-sent_twice : (links : List Link) (xs ys : List Posted) →
+pub sent_twice : (links : List Link) (xs ys : List Posted) →
     let first = all_sent links xs in
     let then_ = all_sent first.links ys in
     all_sent links (xs ++ ys) ≡ record { links = then_.links; sent = first.sent ++ then_.sent }

@@ -19,7 +19,7 @@ pub record ReadFrom (links : List Link) (peer : ℕ) (names : List Pair) : Type 
 
 module _ (peer : ℕ) (names : List Pair) where
   -- a frame is sent
-  sent_once : (links : List Link) → ReadFrom links peer names → (x : Posted) (b : Bool) →
+  pub sent_once : (links : List Link) → ReadFrom links peer names → (x : Posted) (b : Bool) →
       (x.to == peer) ≡ b → ReadFrom (change_link x.to (sent_over x.frame) links) peer names
   sent_once links r x true e = record {
     link = sent_over x.frame r.link;

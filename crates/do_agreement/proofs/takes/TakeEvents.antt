@@ -35,7 +35,8 @@ use Rattle.do_network.specs.Frames.{frame_of, item_of}
 use Rattle.do_network.specs.Links.{Part}
 use Rattle.do_network.specs.Net.{Net, Place, part_at, place_at}
 use Rattle.do_network.specs.Own.{class_kept, counted_around, is_counted}
-use Rattle.do_network.specs.Site.{handled, released_by, site_move}
+use Rattle.do_network.specs.Site.{handled, moves, released_by, site_move}
+use Rattle.do_network.specs.Spelled.{SentSpelled}
 use Rattle.do_network.specs.Step.{NetStepped, net_moved}
 use Rattle.do_network.specs.Step.{place_after}
 use Rattle.do_network.specs.fits.Fits.{Fits}
@@ -50,11 +51,10 @@ use Rattle.do_facts.proofs.links.Bridge.{link_bridge}
 use Rattle.do_facts.proofs.steps.OthersStay.{class_stays}
 use Rattle.do_agreement.specs.Agrees.{Agrees, StepAgrees}
 use Rattle.do_agreement.specs.Classed.{ClassesAreTold}
-use Rattle.do_agreement.specs.EventIsSpelled.{taken_by}
-use Rattle.do_agreement.specs.InHand.{in_hand}
+use Rattle.do_agreement.specs.InHand.{in_hand, taken_by}
 use Rattle.do_agreement.specs.NetInHand.{carried_as, closes_for, ends, net_in_hand, net_without}
 use Rattle.do_agreement.specs.NetInHand.{part_in_hand, without_first}
-use Rattle.do_agreement.specs.Tallies.{StepIsSpelled, left_after}
+use Rattle.do_agreement.specs.Tallies.{left_after}
 use Rattle.do_agreement.proofs.classes.ClassesAfter.{IsClassed, classes_moved, classes_stay_so}
 use Rattle.do_agreement.proofs.classes.ClassesAfter.{known_in_hand, told_in_hand}
 use Rattle.do_agreement.proofs.classes.KnownAfter.{GrantedIs, item_such, known_after}
@@ -243,7 +243,7 @@ module _ (table : List Class) (t : IsTable table) (act : Acting) (N : Net) (S : 
   does = net_moved port K (handled (part_in_hand from x p) dones.Moved
       (site_move (in_hand from x p.own) site))
 
-  module _ (spelled : StepIsSpelled table port (in_hand from x p.own) site) where
+  module _ (spelled : SentSpelled table (moves (part_in_hand from x p) site)) where
     -- the state after the take
     abbrev after : State
     after = (moved port T site).state

@@ -27,7 +27,8 @@ use Rattle.do_network.specs.Links.{Link, Part, names_read}
 use Rattle.do_network.specs.Net.{Carried, Channel, Lost, Net, Place, Whole, channel, part_at}
 use Rattle.do_network.specs.Net.{place_at}
 use Rattle.do_network.specs.Own.{counted_around}
-use Rattle.do_network.specs.Site.{enabled_input, handled, released_by, site_move}
+use Rattle.do_network.specs.Site.{enabled_input, handled, moves, released_by, site_move}
+use Rattle.do_network.specs.Spelled.{SendsSpelled, SentSpelled}
 use Rattle.do_network.specs.Step.{NetStepped, hands, input_of, net_moved, net_skipped, net_step}
 use Rattle.do_network.specs.fits.Notes.{Note, carried, note_frame}
 use Rattle.do_network.proofs.FramesRead.{read_back}
@@ -36,10 +37,8 @@ use Rattle.do_facts.specs.links.LinksAreKept.{LinksAreKept}
 use Rattle.do_agreement.specs.Agrees.{Agrees, StepAgrees}
 use Rattle.do_agreement.specs.Classed.{ClassesAreTold}
 use Rattle.do_agreement.specs.CountsFit.{ChannelCarries}
-use Rattle.do_agreement.specs.EventIsSpelled.{EventIsSpelled}
 use Rattle.do_agreement.specs.InHand.{in_hand}
 use Rattle.do_agreement.specs.NetInHand.{carried_as, net_without, part_in_hand}
-use Rattle.do_agreement.specs.Tallies.{StepIsSpelled}
 use Rattle.do_agreement.proofs.counts.MovesAccount.{apart}
 use Rattle.do_agreement.proofs.acts.ActsAgree.{node_is, skip_agrees}
 use Rattle.do_agreement.proofs.hands.HandFits.{there_still, way}
@@ -50,7 +49,7 @@ use Rattle.do_agreement.proofs.takes.TakesAlike.{frame_done, hand_done, mark_don
 module _ (table : List Class) (t : IsTable table) (act : Acting) (N : Net) (S : State)
     (agrees : Agrees table N S) (kept : LinksAreKept S) (calls : CallsAreKept S)
     (told : ClassesAreTold S) (port from : ℕ)
-    (spelled : EventIsSpelled table act N agrees.tallies.under_way (Take port from)) where
+    (spelled : SendsSpelled table act N (Take port from)) where
   -- what is under way
   abbrev under_way : ℕ → ℕ → List Note
   under_way = agrees.tallies.under_way
@@ -160,6 +159,15 @@ module _ (table : List Class) (t : IsTable table) (act : Acting) (N : Net) (S : 
               (faultless table t act N S agrees kept calls told port from pl pf there sender can
               here x xs first)
 
+      -- what the site sends for the item has a spelling
+      sent_spelled : SentSpelled table (hand_done table act p from can x)
+      sent_spelled =
+          spelled here_way.between here_way.stands (carried_as front x)
+          (ap (λ w. slice_get w 0) waiting.1) p
+          (ap (option_map (λ (y : Place). y.part)) (there_still table t port from N under_way
+          agrees.tallies.counts pl pf there sender here x xs first))
+          (hand_done table act p from can x) done
+
       -- the item is taken
       taken : Same (net_from (channel N from port))
           (machine_from p.own.node (queue S from port))
@@ -201,8 +209,7 @@ module _ (table : List Class) (t : IsTable table) (act : Acting) (N : Net) (S : 
           }) from (item_of (note_frame x))))) (sym is)
           (take_agrees table t act N S agrees kept calls told port from pl pf there sender can here
           x xs first
-          (subst (StepIsSpelled table port (in_hand from x p.own)) is
-          (spelled p site_there x xs first)))))))))
+          (subst (λ e. SentSpelled table (moves (part_in_hand from x p) e)) is sent_spelled))))))))
 
     -- nothing waits, or something
     by_notes : (ys : List Note) → under_way from port ≡ ys → (from == port) ≡ false →

@@ -38,8 +38,7 @@ use Rattle.do_network.specs.Site.{Handled, enabled_input, handled, released_by, 
 use Rattle.do_network.specs.Site.{takes, takes_frame}
 use Rattle.do_network.specs.Step.{input_of}
 use Rattle.do_network.specs.fits.Notes.{Note, note_frame}
-use Rattle.do_agreement.specs.EventIsSpelled.{taken_by}
-use Rattle.do_agreement.specs.InHand.{in_hand}
+use Rattle.do_agreement.specs.InHand.{in_hand, taken_by}
 use Rattle.do_agreement.specs.NetInHand.{carried_as, ends, links_read, part_in_hand}
 use Rattle.do_agreement.proofs.classes.ClassesAfter.{classes_stay_so}
 use Rattle.do_agreement.proofs.hands.InHandCounts.{end_exports, gives_back}

@@ -15,16 +15,17 @@ ghost use Rattle.do_machine.specs.run.Run.{Acting};
 ghost use Rattle.do_sched.specs.declared.line.Line.{Line};
 ghost use Rattle.do_network.specs.Net.{Net, net_opening};
 ghost use Rattle.do_network.specs.Snapshot.{net_snapshot};
+ghost use Rattle.do_network.specs.Spelled.{SendsSpelled};
 ghost use Rattle.do_network.specs.Step.{net_step};
 ghost use Rattle.do_network.specs.Wired.{net_blocks, wired};
 ghost use Rattle.do_network.specs.fits.Fits.{Fits};
 ghost use Rattle.do_facts.specs.calls.Facts.{CallsAreKept};
 ghost use Rattle.do_facts.specs.links.LinksAreKept.{LinksAreKept};
 ghost use Rattle.do_agreement.specs.Agrees.{Agrees, StepAgrees};
-ghost use Rattle.do_agreement.specs.Along.{AreSpelled, ComesToTheSame, LinesAreSpelled};
+ghost use Rattle.do_agreement.specs.Along.{ComesToTheSame, EventsSendSpelled, LinesSendSpelled};
 ghost use Rattle.do_agreement.specs.Classed.{ClassesAreTold};
-ghost use Rattle.do_agreement.specs.EventIsSpelled.{EventIsSpelled};
-ghost use Rattle.do_agreement.specs.Unwired.{unwired};
+ghost use Rattle.do_agreement.specs.HasWires.{HasWires};
+ghost use Rattle.do_agreement.specs.WithoutWires.{without_wires};
 
 /// A network of sites opens in agreement with the machine, over every list of nodes.
 pub fn networks_open_in_agreement()
@@ -46,9 +47,9 @@ pub fn agreeing_networks_stand_for_states()
 /// Premises are that the state tells the classes of what is known and on its way, and that each
 /// frame that the event sends has a spelling.
 pub fn events_keep_agreement()
-    ensures { (table : List Class) → IsTable table → (act : Acting) (N : Net) (S : State)
-        (agrees : Agrees table N S) → LinksAreKept S → CallsAreKept S → ClassesAreTold S →
-        (event : Event) → EventIsSpelled table act N agrees.tallies.under_way event →
+    ensures { (table : List Class) → IsTable table → (act : Acting) (N : Net) (S : State) →
+        Agrees table N S → LinksAreKept S → CallsAreKept S → ClassesAreTold S →
+        (event : Event) → SendsSpelled table act N event →
         StepAgrees table (net_step table act N event) (step table act S event) }
 {}
 
@@ -59,7 +60,7 @@ pub fn events_keep_agreement()
 pub fn schedules_come_to_the_same()
     ensures { (table : List Class) → IsTable table → (act : Acting) (seats : List Seat)
         (events : List Event) →
-        AreSpelled table act (net_opening table seats) (opening table seats) events →
+        EventsSendSpelled table act (net_opening table seats) events →
         ComesToTheSame table act (net_opening table seats) (opening table seats) events }
 {}
 
@@ -71,19 +72,26 @@ pub fn snapshots_are_equal()
 {}
 
 /// Over every schedule of lines, what a network of sites shows and lists is what the one machine
-/// shows and lists, line by line; and what is written of it, without its `wire` lines, is the
-/// machine's transcript.
+/// shows and lists, line by line; and what is written of it is the machine's transcript, with
+/// lines `wire ..` put between its lines.
 ///
 /// The premise is that each frame sent on the way has a spelling.
 pub fn networks_write_what_one_machine_writes()
     ensures blocks { (table : List Class) (seats : List Seat) → IsWorld table seats →
         (act : Acting) (lines : List Line) →
-        LinesAreSpelled table act (net_opening table seats) (opening table seats) lines →
+        LinesSendSpelled table act (net_opening table seats) lines →
         map (λ b. b.block) (net_blocks table act (net_opening table seats) lines)
         ≡ blocks table act (opening table seats) lines }
     ensures text { (table : List Class) (seats : List Seat) → IsWorld table seats →
         (act : Acting) (lines : List Line) →
-        LinesAreSpelled table act (net_opening table seats) (opening table seats) lines →
-        wired table (unwired (net_blocks table act (net_opening table seats) lines))
-        ≡ transcript table (blocks table act (opening table seats) lines) }
+        LinesSendSpelled table act (net_opening table seats) lines →
+        HasWires (transcript table (blocks table act (opening table seats) lines))
+        (wired table (net_blocks table act (net_opening table seats) lines)) }
+{}
+
+/// Where a text is another with lines `wire ..` put between its lines, dropping each line that
+/// begins with `wire ` leaves the same of both.
+pub fn wires_fall_out()
+    ensures { (plain text : List ℕ) → HasWires plain text →
+        without_wires text ≡ without_wires plain }
 {}

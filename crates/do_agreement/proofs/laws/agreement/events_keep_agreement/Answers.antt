@@ -1,5 +1,6 @@
 use Rattle.do_agreement.proofs.agreement.StepsAgree.{step_agrees}
 use Rattle.do_agreement.proofs.laws.agreement.events_keep_agreement.Goals as goal
 
+-- every event keeps agreement and comes to the same
 pub returns : goal.returns
 returns c = step_agrees

@@ -1,5 +1,6 @@
 use Rattle.do_agreement.proofs.agreement.SchedulesAgree.{schedule_agrees}
 use Rattle.do_agreement.proofs.laws.agreement.schedules_come_to_the_same.Goals as goal
 
+-- events one after another come to the same
 pub returns : goal.returns
 returns c = schedule_agrees

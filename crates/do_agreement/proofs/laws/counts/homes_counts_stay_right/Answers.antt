@@ -1,5 +1,6 @@
 use Rattle.do_agreement.proofs.counts.ReturnsCounted.{returns_counted}
 use Rattle.do_agreement.proofs.laws.counts.homes_counts_stay_right.Goals as goal
 
+-- whatever a peer gives back and tells is taken off
 pub returns : goal.returns
 returns c = returns_counted

@@ -23,15 +23,15 @@ use Rattle.do_machine.proofs.Ports.{opening_rises, step_ports}
 use Rattle.do_sched.specs.declared.line.Line.{Line}
 use Rattle.do_sched.specs.declared.line.Line.TheVariants as lines
 use Rattle.do_network.specs.Net.{Net, net_opening}
+use Rattle.do_network.specs.Spelled.{SendsSpelled}
 use Rattle.do_network.specs.Step.{NetStepped, net_skipped, net_step}
 use Rattle.do_network.specs.Wired.{WiredBlock, net_blocks, net_listed_at, net_steps}
 use Rattle.do_network.specs.Wired.{wired, wired_lines}
-use Rattle.do_agreement.specs.Agrees.{Agrees}
-use Rattle.do_agreement.specs.Along.{AreSpelled, LinesAreSpelled}
-use Rattle.do_agreement.specs.EventIsSpelled.{EventIsSpelled}
-use Rattle.do_agreement.specs.Unwired.{unwired}
+use Rattle.do_agreement.specs.Along.{EventsSendSpelled, LinesSendSpelled}
+use Rattle.do_agreement.specs.HasWires.{HasWires}
 use Rattle.do_agreement.proofs.agreement.GoesOn.{Goes, goes_on, opening_goes}
 use Rattle.do_agreement.proofs.agreement.SnapshotsAgree.{snapshots_same}
+use Rattle.do_agreement.proofs.texts.WiresPutIn.{wires_put_in}
 
 module _ (table : List Class) (t : IsTable table) (act : Acting) where
   -- a network goes on with a state, whose nodes have ports of their own
@@ -41,7 +41,7 @@ module _ (table : List Class) (t : IsTable table) (act : Acting) where
 
   -- an event comes to the same
   one : (N : Net) (S : State) → Apart N S → (event : Event) →
-      ((agrees : Agrees table N S) → EventIsSpelled table act N agrees.tallies.under_way event) →
+      SendsSpelled table act N event →
       ((net_step table act N event).outcome ≡ (step table act S event).outcome)
       × Apart (net_step table act N event).net (step table act S event).state
   one N S g event spelled =
@@ -56,7 +56,7 @@ module _ (table : List Class) (t : IsTable table) (act : Acting) where
 
   -- and so do events one after another
   all : (events : List Event) (a : NetStepped) (b : Stepped) → a.outcome ≡ b.outcome →
-      Apart a.net b.state → AreSpelled table act a.net b.state events →
+      Apart a.net b.state → EventsSendSpelled table act a.net events →
       ((net_steps table act events a).outcome ≡ (steps table act events b).outcome)
       × Apart (net_steps table act events a).net (steps table act events b).state
   all [] a b same g spelled = (same, g)
@@ -77,11 +77,12 @@ module _ (table : List Class) (t : IsTable table) (act : Acting) where
   listed_alike N S g (lines.Close port peer) = refl
   listed_alike N S g (lines.Lose from to after) = refl
   listed_alike N S g (lines.Timeout port) = refl
-  listed_alike N S g lines.Check = ap (λ x. Some x) (snapshots_same table N S g.goes.agrees g.distinct)
+  listed_alike N S g lines.Check =
+      ap (λ x. Some x) (snapshots_same table N S g.goes.agrees g.distinct)
 
   -- lines come to the same blocks, but for what was sent
   same_blocks : (ls : List Line) (N : Net) (S : State) → Apart N S →
-      LinesAreSpelled table act N S ls →
+      LinesSendSpelled table act N ls →
       map (λ (b : WiredBlock). b.block) (net_blocks table act N ls) ≡ blocks table act S ls
   same_blocks [] N S g spelled = refl
   same_blocks (line ∷ ls) N S g spelled =
@@ -93,27 +94,12 @@ module _ (table : List Class) (t : IsTable table) (act : Acting) where
   -- from the opening, where each node has a port of its own
   pub blocks_agree : (seats : List Seat) →
       IsDistinct (λ (p q : ℕ). p == q) (ports (opening table seats)) → (ls : List Line) →
-      LinesAreSpelled table act (net_opening table seats) (opening table seats) ls →
+      LinesSendSpelled table act (net_opening table seats) ls →
       map (λ (b : WiredBlock). b.block) (net_blocks table act (net_opening table seats) ls)
       ≡ blocks table act (opening table seats) ls
   blocks_agree seats distinct ls spelled =
       same_blocks ls (net_opening table seats) (opening table seats)
       (record { goes = opening_goes table seats; distinct = distinct }) spelled
-
--- blocks without what was sent are written as the machine's
-unwired_lines : (table : List Class) (bs : List WiredBlock) →
-    flat_map (wired_lines table) (unwired bs)
-    ≡ flat_map (block_lines table) (map (λ (b : WiredBlock). b.block) bs)
-unwired_lines table [] = refl
-unwired_lines table (b ∷ bs) =
-    let one = append-nil (block_lines table b.block) in
-    let rest = unwired_lines table bs in
-    λ j. one j ++ rest j
-
--- and so is the whole
-pub unwired_text : (table : List Class) (bs : List WiredBlock) →
-    wired table (unwired bs) ≡ transcript table (map (λ (b : WiredBlock). b.block) bs)
-unwired_text table bs = ap (λ text. first_line ++ text ++ last_line) (unwired_lines table bs)
 
 -- the nodes of a world open at ports of their own
 ports_differ : (table : List Class) (seats : List Seat) → IsWorld table seats →
@@ -127,18 +113,31 @@ ports_differ table seats world =
 -- a world's blocks are the machine's, but for what was sent
 pub world_blocks : (table : List Class) (seats : List Seat) → IsWorld table seats →
     (act : Acting) (ls : List Line) →
-    LinesAreSpelled table act (net_opening table seats) (opening table seats) ls →
+    LinesSendSpelled table act (net_opening table seats) ls →
     map (λ (b : WiredBlock). b.block) (net_blocks table act (net_opening table seats) ls)
     ≡ blocks table act (opening table seats) ls
 world_blocks table seats world act ls spelled =
     blocks_agree table world.classes act seats (ports_differ table seats world) ls spelled
 
--- and so is its text
+-- and so they are from a network on that opens so
+pub opened_blocks : (table : List Class) (act : Acting) (seats : List Seat) →
+    IsWorld table seats → (N : Net) → N ≡ net_opening table seats → (ls : List Line) →
+    LinesSendSpelled table act N ls →
+    map (λ (b : WiredBlock). b.block) (net_blocks table act N ls)
+    ≡ blocks table act (opening table seats) ls
+opened_blocks table act seats world N opens ls =
+    subst (λ M. LinesSendSpelled table act M ls →
+    map (λ (b : WiredBlock). b.block) (net_blocks table act M ls)
+    ≡ blocks table act (opening table seats) ls) (sym opens)
+    (world_blocks table seats world act ls)
+
+-- and its text is the machine's, with what was sent put in
 pub world_text : (table : List Class) (seats : List Seat) → IsWorld table seats →
     (act : Acting) (ls : List Line) →
-    LinesAreSpelled table act (net_opening table seats) (opening table seats) ls →
-    wired table (unwired (net_blocks table act (net_opening table seats) ls))
-    ≡ transcript table (blocks table act (opening table seats) ls)
+    LinesSendSpelled table act (net_opening table seats) ls →
+    HasWires (transcript table (blocks table act (opening table seats) ls))
+    (wired table (net_blocks table act (net_opening table seats) ls))
 world_text table seats world act ls spelled =
-    unwired_text table (net_blocks table act (net_opening table seats) ls)
-    ∙ ap (transcript table) (world_blocks table seats world act ls spelled)
+    let bs = net_blocks table act (net_opening table seats) ls in
+    subst (λ cs. HasWires (transcript table cs) (wired table bs))
+    (world_blocks table seats world act ls spelled) (wires_put_in table bs)

@@ -1,0 +1,6 @@
+use Rattle.do_agreement.proofs.texts.WiresDropped.{wires_fall_out}
+use Rattle.do_agreement.proofs.laws.agreement.wires_fall_out.Goals as goal
+
+-- what was put in falls out again
+pub returns : goal.returns
+returns c = wires_fall_out

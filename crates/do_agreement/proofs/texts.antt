@@ -1,0 +1,3 @@
+pub mod WiresPutIn
+pub mod WiresDropped
+pub mod TextsAgree
