@@ -1,10 +1,11 @@
 -- Effects that leave and send only what a message can carry.
 use Rattle.std.proofs.Common.{arith, length-append, ◌≤◌}
-use Rattle.std.proofs.lemmas.List.{length-replicate}
-use Rattle.std.proofs.Common.{◌≡◌, ◌==◌, ℕ, Bool, true, false, cond, not, List, [], ◌∷◌, ◌-◌}
+use Rattle.std.proofs.lemmas.List.{length-map, length-replicate}
+use Rattle.std.proofs.Common.{ap, sym, slice_get, zero, ◌<◌}
+use Rattle.std.proofs.Common.{◌≡◌, ℕ, Bool, true, false, cond, not, List, [], ◌∷◌, ◌-◌}
 use Rattle.std.proofs.Common.{length}
-use Rattle.std.proofs.Common.{map, refl}
-use Rattle.std.specs.Prelude.{None, Option, Some, is_some, option_map, replicate, suc, unwrap_or}
+use Rattle.std.proofs.Common.{filter, map, refl}
+use Rattle.std.specs.Prelude.{None, Option, Some, is_some, option_map, replicate, suc}
 use Rattle.std.specs.List.{AllByRecursion, list_any}
 use Rattle.do_base.specs.names.Names.{ObjectName, TokenName}
 use Rattle.do_base.specs.declared.events.shown.Shown.{Shown}
@@ -15,103 +16,139 @@ use Rattle.do_class.specs.Table.{slots_of}
 use Rattle.do_class.specs.declared.ids.ClassId.{ClassId}
 use Rattle.do_class.specs.declared.ids.MethodId.{MethodId}
 use Rattle.do_class.specs.declared.ids.Slot.{Slot}
-use Rattle.do_packet.specs.Copies.{slot_values}
 use Rattle.do_packet.specs.declared.receipt.Made.{Made}
 use Rattle.do_behave.specs.declared.invocation.Invocation.{Invocation}
 use Rattle.do_behave.specs.declared.invocation.Reason.{Reason}
 use Rattle.do_machine.specs.declared.item.Item.{Item}
 use Rattle.do_machine.specs.declared.item.Item.TheVariants as items
 use Rattle.do_machine.specs.declared.node.Node.{Node}
-use Rattle.do_machine.specs.declared.node.Stored.{Stored}
 use Rattle.do_machine.specs.declared.node.Wanted.{Wanted}
 use Rattle.do_machine.specs.declared.state.Effect.{Effect}
-use Rattle.do_machine.specs.Context.{Context}
+use Rattle.do_machine.specs.declared.state.Parcel.{Parcel}
 use Rattle.do_machine.specs.Effect.{each, only, queueing, showing, ◌>>=◌}
-use Rattle.do_machine.specs.Packing.{packer}
-use Rattle.do_machine.specs.State.{is_open, is_own, stored}
+use Rattle.do_machine.specs.Lists.{inserted}
+use Rattle.do_machine.specs.State.{is_open, stored}
 use Rattle.do_machine.specs.lend.Asking.{ask_over, asking, granting, same_wanted, settling}
-use Rattle.do_machine.specs.lend.Asking.{with_wanted, without_wanted}
+use Rattle.do_machine.specs.lend.Asking.{wanted_lt, with_wanted, without_wanted}
 use Rattle.do_machine.specs.run.Fresh.{blank, fresh, pushed, with_objects, with_serials}
-use Rattle.do_limits.specs.Sendable.{AreSendable, IsSendable}
+use Rattle.do_limits.specs.Sendable.{AreSendable, HasSlots, IsOfTable, IsSendable}
 use Rattle.do_limits.specs.SendableStates.{InvocationIsSendable, ItemIsSendable, NodeIsSendable}
-use Rattle.do_limits.proofs.Lists.{each_joined, each_replicated, found_is}
+use Rattle.do_limits.specs.SendableStates.{AsksForOne, HasNumbers, HasSerial, ObjectIsSendable}
+use Rattle.do_limits.proofs.Lists.{each_filtered, each_joined, each_placed, each_replicated}
 use Rattle.do_limits.proofs.values.Carried.{carry-Nil}
 
+-- an item that is sent
+abbrev pub ParcelIsSendable : List Class → ℕ → Parcel → Type 0
+ParcelIsSendable table port p = ItemIsSendable table port p.to p.item
+
 -- The node of an effect has such values, and what is sent has
-pub record EffectIsSendable (e : Effect) : Type 0 where
-  pub node : NodeIsSendable e.node
-  pub sent : AllByRecursion (λ p. ItemIsSendable p.item) e.sent
+pub record EffectIsSendable (table : List Class) (port : ℕ) (e : Effect) : Type 0 where
+  pub node : NodeIsSendable table port e.node
+  pub sent : AllByRecursion (ParcelIsSendable table port) e.sent
 
 -- an effect, where there is one
-abbrev pub IfSendable : Option Effect → Type 0
-IfSendable None = Unit {0}
-IfSendable (Some e) = EffectIsSendable e
+abbrev pub IfSendable : List Class → ℕ → Option Effect → Type 0
+IfSendable table port None = Unit {0}
+IfSendable table port (Some e) = EffectIsSendable table port e
 
 -- ---- effects
 
 -- the node alone changes
-pub alone : (n : Node) → NodeIsSendable n → EffectIsSendable (only n)
+pub alone : {table : List Class} {port : ℕ} → (n : Node) → NodeIsSendable table port n →
+    EffectIsSendable table port (only n)
 alone n h = record { node = h; sent = tt }
 
 -- an item is queued
-pub queues : (peer : ℕ) (item : Item) (n : Node) → ItemIsSendable item → NodeIsSendable n →
-    EffectIsSendable (queueing peer item n)
+pub queues : {table : List Class} {port : ℕ} → (peer : ℕ) (item : Item) (n : Node) →
+    ItemIsSendable table port peer item → NodeIsSendable table port n →
+    EffectIsSendable table port (queueing peer item n)
 queues peer item n i h = record { node = h; sent = (i, tt) }
 
 -- something is shown
-pub shows : (s : Shown) (n : Node) → NodeIsSendable n → EffectIsSendable (showing s n)
+pub shows : {table : List Class} {port : ℕ} → (s : Shown) (n : Node) →
+    NodeIsSendable table port n → EffectIsSendable table port (showing s n)
 shows s n h = record { node = h; sent = tt }
 
 -- one effect after another
-pub then_sendable : (e : Effect) (next : Node → Effect) → EffectIsSendable e →
-    ((n : Node) → NodeIsSendable n → EffectIsSendable (next n)) → EffectIsSendable (e >>= next)
-then_sendable e next h k =
+pub then_sendable : {table : List Class} {port : ℕ} → (e : Effect) (next : Node → Effect) →
+    EffectIsSendable table port e →
+    ((n : Node) → NodeIsSendable table port n → EffectIsSendable table port (next n)) →
+    EffectIsSendable table port (e >>= next)
+then_sendable {table} {port} e next h k =
     let d = k e.node h.node in
     record {
       node = d.node;
-      sent = each_joined (λ p. ItemIsSendable p.item) e.sent (next e.node).sent h.sent d.sent;
+      sent = each_joined (ParcelIsSendable table port) e.sent (next e.node).sent h.sent d.sent;
     }
 
 -- an effect for each element of a list
-pub each_sendable : {X : Type 0} (f : X → Node → Effect) →
-    ((x : X) (n : Node) → NodeIsSendable n → EffectIsSendable (f x n)) → (xs : List X)
-    (n : Node) → NodeIsSendable n → EffectIsSendable (each f xs n)
-each_sendable f k [] n h = alone n h
-each_sendable f k (x ∷ xs) n h =
-    then_sendable (f x n) (each f xs) (k x n h) (λ m g. each_sendable f k xs m g)
+pub each_sendable : {table : List Class} {port : ℕ} → {X : Type 0} (P : X → Type 0)
+    (f : X → Node → Effect) → ((x : X) → P x → (n : Node) → NodeIsSendable table port n →
+    EffectIsSendable table port (f x n)) → (xs : List X) → AllByRecursion P xs → (n : Node) →
+    NodeIsSendable table port n → EffectIsSendable table port (each f xs n)
+each_sendable P f k [] p n h = alone n h
+each_sendable P f k (x ∷ xs) p n h =
+    then_sendable (f x n) (each f xs) (k x p.0 n h) (λ m g. each_sendable P f k xs p.1 m g)
 
 -- whichever of two effects comes
-pub either : (b : Bool) (e d : Effect) → EffectIsSendable e → EffectIsSendable d →
-    EffectIsSendable (cond b e d)
+pub either : {table : List Class} {port : ℕ} → (b : Bool) (e d : Effect) →
+    EffectIsSendable table port e → EffectIsSendable table port d →
+    EffectIsSendable table port (cond b e d)
 either true e d h k = h
 either false e d h k = k
 
 -- ---- asks
 
+-- a node that asks for other objects
+asking_more : (port : ℕ) (n : Node) → HasNumbers port n → (asked : List Wanted) →
+    AllByRecursion AsksForOne asked → HasNumbers port (record n { asked = asked })
+asking_more port n h asked a = (h.0, (h.1.0, (h.1.1.0, (h.1.1.1.0, a))))
+
+-- a node that holds other objects
+pub holding_more : (port : ℕ) (n : Node) → HasNumbers port n → (held : List ObjectName) →
+    AllByRecursion HasSerial held → HasNumbers port (record n { held = held })
+holding_more port n h held a = (h.0, (h.1.0, (h.1.1.0, (a, h.1.1.1.1))))
+
 -- a lend that is settled
-pub settles : (w : Wanted) (n : Node) → NodeIsSendable n → EffectIsSendable (settling w n)
+pub settles : {table : List Class} {port : ℕ} → (w : Wanted) (n : Node) →
+    NodeIsSendable table port n → EffectIsSendable table port (settling w n)
 settles w n h =
     either (not (is_open n w.token.lender)) _ _ (alone n h)
     (queues w.token.lender (items.Settled w.token.number) n tt h)
 
 -- an object that is asked for
-pub asks : (w : Wanted) (n : Node) → NodeIsSendable n → EffectIsSendable (asking w n)
-asks w n h =
+pub asks : {table : List Class} {port : ℕ} → (w : Wanted) → AsksForOne w → (n : Node) →
+    NodeIsSendable table port n → EffectIsSendable table port (asking w n)
+asks {table} {port} w one n h =
     either (not (is_open n w.object.node)) (settling w n) _ (settles w n h)
     (either (list_any (same_wanted w) n.asked) (only n) _ (alone n h)
-    (queues w.object.node (items.Ask w.object.serial w.token) (with_wanted w n) tt
-    (record { heap = h.heap; stack = h.stack })))
+    (queues w.object.node (items.Ask w.object.serial w.token) (with_wanted w n) one
+    (record {
+      heap = h.heap;
+      stack = h.stack;
+      numbers = asking_more port n h.numbers (inserted wanted_lt w n.asked)
+          (each_placed AsksForOne wanted_lt w n.asked one h.numbers.1.1.1.1);
+    })))
 
 -- an ask that is over
-pub over : (w : Wanted) (n : Node) → NodeIsSendable n → EffectIsSendable (ask_over w n)
-over w n h = settles w (without_wanted w n) (record { heap = h.heap; stack = h.stack })
+pub over : {table : List Class} {port : ℕ} → (w : Wanted) (n : Node) →
+    NodeIsSendable table port n → EffectIsSendable table port (ask_over w n)
+over {table} {port} w n h =
+    settles w (without_wanted w n)
+    (record {
+      heap = h.heap;
+      stack = h.stack;
+      numbers = asking_more port n h.numbers (filter (λ v. not (same_wanted w v)) n.asked)
+          (each_filtered AsksForOne (λ v. not (same_wanted w v)) n.asked h.numbers.1.1.1.1);
+    })
 
 -- an ask that is answered
-pub grants : (peer serial : ℕ) (token : TokenName) (n : Node) → NodeIsSendable n →
-    EffectIsSendable (granting peer serial token n)
-grants peer serial token n h =
-    either (is_some (stored serial n.heap)) _ _ (queues peer (items.Granted serial token) n tt h)
-    (queues peer (items.Gone serial token) n tt h)
+pub grants : {table : List Class} {port : ℕ} → (peer serial : ℕ) (token : TokenName) →
+    1 ≤ serial → (n : Node) → NodeIsSendable table port n →
+    EffectIsSendable table port (granting peer serial token n)
+grants peer serial token one n h =
+    either (is_some (stored serial n.heap)) _ _ (queues peer (items.Granted serial token) n one h)
+    (queues peer (items.Gone serial token) n one h)
 
 -- ---- invocations and objects
 
@@ -132,27 +169,34 @@ begins o method reason values h few = record {
 }
 
 -- a node with one more invocation
-pub pushes : (i : Invocation) (n : Node) → InvocationIsSendable i → NodeIsSendable n →
-    NodeIsSendable (pushed i n)
-pushes i n k h = record { heap = h.heap; stack = (k, h.stack) }
+pub pushes : {table : List Class} {port : ℕ} → (i : Invocation) (n : Node) →
+    InvocationIsSendable i → NodeIsSendable table port n →
+    NodeIsSendable table port (pushed i n)
+pushes i n k h = record { heap = h.heap; stack = (k, h.stack); numbers = h.numbers }
 
--- what an object of slots has
-abbrev HasSlots : Stored → Type 0
-HasSlots x = AreSendable x.slots
+-- what an object has as it is made
+abbrev pub MadeIsSendable : List Class → Made → Type 0
+MadeIsSendable table m = AreSendable m.slots × HasSlots table m.class (length m.slots)
 
 -- objects under serials
-numbered : (serial : ℕ) (new : List Made) → AllByRecursion (λ m. AreSendable m.slots) new →
-    AllByRecursion HasSlots (with_serials serial new)
-numbered serial [] h = tt
-numbered serial (m ∷ ms) h = (h.0, numbered (suc serial) ms h.1)
+numbered : (table : List Class) (serial : ℕ) (new : List Made) → 1 ≤ serial →
+    AllByRecursion (MadeIsSendable table) new →
+    AllByRecursion (ObjectIsSendable table) (with_serials serial new)
+numbered table serial [] one h = tt
+numbered table serial (m ∷ ms) one h = (
+  record { serial = one; slots = h.0.0; whole = h.0.1 },
+  numbered table (suc serial) ms (omega (arith, one)) h.1,
+)
 
 -- a node with new objects
-pub makes : (new : List Made) (n : Node) → AllByRecursion (λ m. AreSendable m.slots) new →
-    NodeIsSendable n → NodeIsSendable (with_objects new n)
-makes new n k h = record {
-  heap = each_joined HasSlots n.heap (with_serials n.next_serial new) h.heap
-      (numbered n.next_serial new k);
+pub makes : {table : List Class} {port : ℕ} → (new : List Made) (n : Node) →
+    AllByRecursion (MadeIsSendable table) new → NodeIsSendable table port n →
+    NodeIsSendable table port (with_objects new n)
+makes {table} new n k h = record {
+  heap = each_joined (ObjectIsSendable table) n.heap (with_serials n.next_serial new) h.heap
+      (numbered table n.next_serial new h.numbers.1.0 k);
   stack = h.stack;
+  numbers = (h.numbers.0, (omega (arith, h.numbers.1.0), h.numbers.1.1));
 }
 
 -- nil slots
@@ -161,26 +205,22 @@ nils_sendable [] = tt
 nils_sendable (s ∷ slots) = (carry-Nil 8, nils_sendable slots)
 
 -- an object as it is made
-pub blank_sendable : (table : List Class) (class : ClassId) →
-    AreSendable (blank table class).slots
-blank_sendable table class = go (slots_of table class)
+pub blank_sendable : (table : List Class) (class : ClassId) → IsOfTable table class →
+    MadeIsSendable table (blank table class)
+blank_sendable table class known = go (slots_of table class) refl
   where
-    go : (found : Option (List Slot)) →
-        AreSendable (elim found [ None ↦ [] | Some slots ↦ map (λ s. Nil) slots ])
-    go None = tt
-    go (Some slots) = nils_sendable slots
+    lacking : (table : List Class) (k : ℕ) → k < length table →
+        option_map (λ (c : Class). c.slots) (slice_get table k) ≡ None → ⊥
+    lacking [] k lt e = omega (arith, lt)
+    lacking (c ∷ table) zero lt e = cc (e)
+    lacking (c ∷ table) (suc k) lt e = lacking table k (omega (arith, lt)) e
 
--- the slots of an object that a packer sees
-pub slots_seen : (c : Context) → NodeIsSendable c.node → (o : ObjectName) →
-    AreSendable (slot_values (packer c) o)
-slots_seen c h o = go (is_own c.node o)
-  where
-    there : (found : Option Stored) → stored o.serial c.node.heap ≡ found →
-        AreSendable (unwrap_or (option_map (λ x. x.slots) found) [])
-    there None e = tt
-    there (Some x) e = found_is HasSlots (λ x. x.serial == o.serial) c.node.heap x h.heap e
+    nils : Option (List Slot) → List Value
+    nils found = elim found [ None ↦ [] | Some slots ↦ map (λ s. Nil) slots ]
 
-    go : (b : Bool) → AreSendable (unwrap_or
-        (option_map (λ x. x.slots) (cond b (stored o.serial c.node.heap) None)) [])
-    go true = there (stored o.serial c.node.heap) refl
-    go false = tt
+    go : (found : Option (List Slot)) → slots_of table class ≡ found →
+        AreSendable (nils found)
+        × (option_map (λ (x : List Slot). length x) found ≡ Some (length (nils found)))
+    go None e = absurd (lacking table class.0 known e)
+    go (Some slots) e =
+        (nils_sendable slots, ap Some (sym (length-map slots (λ (s : Slot). Nil))))

@@ -1,8 +1,12 @@
 pub mod Lists
 pub mod Signatures
+pub mod Selectors
 pub mod Effects
+pub mod Senders
 pub mod values
 pub mod runs
 pub mod takes
 pub mod states
 pub mod numbers
+pub mod spelled
+pub mod scripts

@@ -1,5 +1,6 @@
--- An invocation has no more arguments than locals.
-use Rattle.std.proofs.Common.{◌≡◌, ◌≤◌, ◌&&◌, ℕ, Bool, true, false, List, [], ◌∷◌, length, map}
+-- A method has few arguments, so an invocation has no more of them than locals.
+use Rattle.std.proofs.Common.{◌≡◌, ◌≤◌, ◌&&◌, ℕ, Bool, true, false, cond, List, [], ◌∷◌, length}
+use Rattle.std.proofs.Common.{map}
 use Rattle.std.proofs.Common.{refl}
 use Rattle.std.proofs.Common.{ap, arith, ◌∙◌, subst}
 use Rattle.std.specs.Prelude.{None, Option, Some, option_and_then, option_map, slice_get, suc, zero}
@@ -10,36 +11,43 @@ use Rattle.do_base.specs.declared.values.value.Value.{Value}
 use Rattle.do_class.specs.Class.{Class}
 use Rattle.do_class.specs.declared.method.Method.{Method}
 use Rattle.do_sig.specs.MethodTypes.{IsMethodType}
+use Rattle.do_frames.specs.Selectors.{IsSelector}
 use Rattle.do_class.specs.Table.{class_at, find_method, signature_of}
 use Rattle.do_class.specs.declared.ids.ClassId.{ClassId}
 use Rattle.do_class.specs.declared.ids.MethodId.{MethodId}
-use Rattle.do_sig.specs.Calls.{args_fit, encoding_fits}
+use Rattle.do_sig.specs.Calls.{args_fit, encoding_fits, is_oneway, qualifier_of}
+use Rattle.do_sig.specs.Calls.{qualifiers_of}
+use Rattle.do_sig.specs.declared.qualifiers.Qualifier.{Qualifier}
 use Rattle.do_sig.specs.Fits.{each_takes}
 use Rattle.do_sig.specs.declared.encoding.Encoding.{Encoding}
 use Rattle.do_sig.specs.declared.signature.Signature.{Signature}
 use Rattle.do_machine.specs.Context.{Found, method_for}
 use Rattle.do_machine.specs.World.{HasSignatures}
-use Rattle.do_machine.specs.run.Send.{inputs_by}
+use Rattle.do_machine.specs.run.Answers.{answer_marks}
+use Rattle.do_machine.specs.run.Send.{inputs_by, outs_by}
 
--- each method of a table takes sixteen arguments at most
-abbrev pub TakesFew : List Class → Type 0
-TakesFew table =
-    (method : MethodId) (s : Signature) → signature_of table method ≡ Some s → length s.args ≤ 16
+-- Each method of a table takes eight arguments at most, and what finds one is a selector
+pub record HasMethods (table : List Class) : Type 0 where
+  pub few : (method : MethodId) (s : Signature) → signature_of table method ≡ Some s →
+      length s.args ≤ 8
+  pub selects : (class : Option ClassId) (selector : List ℕ) (m : Found) →
+      method_for table class selector ≡ Some m → IsSelector selector
 
 -- the one at a place
-one_at : {X : Type 0} (P : X → Type 0) (xs : List X) (k : ℕ) (x : X) → AllByRecursion P xs →
+pub one_at : {X : Type 0} (P : X → Type 0) (xs : List X) (k : ℕ) (x : X) → AllByRecursion P xs →
     slice_get xs k ≡ Some x → P x
 one_at P [] k x h e = absurd (cc (e))
 one_at P (y ∷ xs) zero x h e = let same : y ≡ x = cc (e) in subst P same h.0
 one_at P (y ∷ xs) (suc k) x h e = one_at P xs k x h.1 e
 
 -- what a table's signatures keep to
-pub takes_few : (table : List Class) → All HasSignatures table → TakesFew table
+pub takes_few : (table : List Class) → All HasSignatures table → (method : MethodId)
+    (s : Signature) → signature_of table method ≡ Some s → length s.args ≤ 8
 takes_few table ok method s e = by_class (class_at table method.class) refl e
   where
     by_method : (c : Class) → HasSignatures c → (found : Option Method) →
         slice_get c.methods method.index ≡ found →
-        option_map (λ m. m.signature) found ≡ Some s → length s.args ≤ 16
+        option_map (λ m. m.signature) found ≡ Some s → length s.args ≤ 8
     by_method c h None q e = absurd (cc (e))
     by_method c h (Some m) q e =
         let same : m.signature ≡ s = cc (e) in
@@ -51,30 +59,36 @@ takes_few table ok method s e = by_class (class_at table method.class) refl e
     by_class : (found : Option Class) → class_at table method.class ≡ found →
         option_map (λ m. m.signature)
         (option_and_then (λ c. slice_get c.methods method.index) found) ≡ Some s →
-        length s.args ≤ 16
+        length s.args ≤ 8
     by_class None q e = absurd (cc (e))
     by_class (Some c) q e =
         by_method c (one_at HasSignatures table method.class.0 c
         (recursion_from_All HasSignatures table ok) q) (slice_get c.methods method.index) refl e
 
-module _ (table : List Class) (few : TakesFew table) where
+-- a method is found of a class alone
+pub found_class : (table : List Class) (class : Option ClassId) (selector : List ℕ) (m : Found) →
+    method_for table class selector ≡ Some m → (c : ClassId) × (class ≡ Some c)
+found_class table None selector m e = absurd (cc (e))
+found_class table (Some c) selector m e = (c, refl)
+
+module _ (table : List Class) (has : HasMethods table) where
   -- a method that is found
   pub found_few : (class : Option ClassId) (selector : List ℕ) (m : Found) →
-      method_for table class selector ≡ Some m → length m.signature.args ≤ 16
+      method_for table class selector ≡ Some m → length m.signature.args ≤ 8
   found_few class selector m e =
       by_id (option_and_then (λ c. find_method table c selector) class) e
     where
       by_signature : (id : MethodId) (found : Option Signature) → signature_of table id ≡ found →
           option_map (λ (s : Signature). record { id = id; signature = s }) found ≡ Some m →
-          length m.signature.args ≤ 16
+          length m.signature.args ≤ 8
       by_signature id None q e = absurd (cc (e))
       by_signature id (Some s) q e =
           let same : s ≡ m.signature = cc (e) in
-          omega (arith, few id s q, ap (λ (x : Signature). length x.args) same)
+          omega (arith, has.few id s q, ap (λ (x : Signature). length x.args) same)
 
       by_id : (found : Option MethodId) →
           option_and_then (λ id. option_map (λ (s : Signature). record { id = id; signature = s })
-          (signature_of table id)) found ≡ Some m → length m.signature.args ≤ 16
+          (signature_of table id)) found ≡ Some m → length m.signature.args ≤ 8
       by_id None e = absurd (cc (e))
       by_id (Some id) e = by_signature id (signature_of table id) refl e
 
@@ -102,3 +116,42 @@ pub inputs_length : (es : List Encoding) (vs : List Value) → length (inputs_by
 inputs_length [] vs = omega arith
 inputs_length (e ∷ es) [] = omega arith
 inputs_length (e ∷ es) (v ∷ vs) = omega (arith, inputs_length es vs)
+
+-- the marks of its places are few
+pub few_marks : (s : Signature) → length s.args ≤ 8 →
+    length (map (λ (q : Qualifier). q.copy) (qualifiers_of s)) ≤ 9
+few_marks s few =
+    omega (
+      arith,
+      few,
+      length-map (qualifiers_of s) (λ (q : Qualifier). q.copy),
+      length-map s.args (qualifier_of (is_oneway s)),
+    )
+
+-- no more come out than there are arguments
+outs_few : {X : Type 0} (oneway : Bool) (es : List Encoding) (xs : List X) →
+    length (outs_by oneway es xs) ≤ length es
+outs_few oneway [] xs = omega arith
+outs_few oneway (e ∷ es) [] = omega arith
+outs_few oneway (e ∷ es) (x ∷ xs) =
+    go (qualifier_of oneway e).comes_out (outs_few oneway es xs)
+  where
+    go : (b : Bool) → length (outs_by oneway es xs) ≤ length es →
+        length (cond b (x ∷ outs_by oneway es xs) (outs_by oneway es xs)) ≤ length (e ∷ es)
+    go true h = omega (arith, h)
+    go false h = omega (arith, h)
+
+-- the marks of an answer are few
+pub few_answer_marks : (table : List Class) → HasMethods table → (method : MethodId) →
+    length (answer_marks (signature_of table method)) ≤ 9
+few_answer_marks table has method = go (signature_of table method) refl
+  where
+    go : (found : Option Signature) → signature_of table method ≡ found →
+        length (answer_marks found) ≤ 9
+    go None e = omega arith
+    go (Some s) e =
+        omega (
+          arith,
+          has.few method s e,
+          outs_few (is_oneway s) s.args (map (λ (q : Qualifier). q.copy) (qualifiers_of s)),
+        )

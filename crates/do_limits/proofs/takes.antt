@@ -1,3 +1,4 @@
+pub mod Exports
 pub mod Answers
 pub mod Ends
 pub mod Takes

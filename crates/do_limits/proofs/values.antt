@@ -1,5 +1,6 @@
-pub mod NamesCount
 pub mod Carried
+pub mod Naming
 pub mod Packing
+pub mod RootMessages
 pub mod Unpacking
 pub mod Spelling

@@ -1,19 +1,26 @@
 -- The values that a message can carry, and the messages of such values.
 use Rattle.std.specs.Prelude.{Bool, List as Listed, length, nat_le, nat_lt, true, ℕ, ◌&&◌, ◌-◌, ◌^◌}
-use Rattle.std.specs.Prelude.{◌≡◌, ◌≤◌}
+use Rattle.std.specs.Prelude.{◌≡◌}
+use Rattle.std.specs.Prelude.{[], ◌∷◌, ◌<◌, ◌≤◌, Some, option_map}
 use Rattle.std.specs.List.{AllByRecursion, list_all}
 use Rattle.do_base.specs.values.Texts.{longest_text}
 use Rattle.do_base.specs.declared.events.exception.Exc.{Exc}
 use Rattle.do_base.specs.declared.values.value.Value.{Value, fold-Value}
 use Rattle.do_base.specs.declared.values.value.Value.TheOpen.{List, Num, Text, Value-F}
+use Rattle.do_class.specs.Class.{Class}
+use Rattle.do_class.specs.Table.{slots_of}
+use Rattle.do_class.specs.declared.ids.ClassId.{ClassId}
+use Rattle.do_class.specs.declared.packet.Copied.{Copied}
+use Rattle.do_class.specs.declared.packet.Name.{Name}
+use Rattle.do_class.specs.declared.packet.Name.TheVariants.{Lent, Mine, Yours}
 use Rattle.do_class.specs.declared.packet.Packet.{Packet}
+use Rattle.do_grammar.specs.BesideHoles.{IsBeside}
 use Rattle.do_class.specs.declared.packet.Part.{Part, fold-Part}
 use Rattle.do_class.specs.declared.packet.Part.TheOpen.{Part-F}
 use Rattle.do_grammar.specs.Num.{zigzag}
-use Rattle.do_coder.specs.Parts.{IsPart, is_bytes}
+use Rattle.do_coder.specs.Parts.{is_bytes}
 use Rattle.do_frames.specs.Exceptions.{IsExc}
-use Rattle.do_packet.specs.Copies.{most_copies}
-use Rattle.do_packet.specs.Limits.{most_names}
+use Rattle.do_packet.specs.Limits.{KeepsLimits}
 
 -- one level of a value, where it is known of the values inside whether they can be carried
 abbrev pub carried_step : Value-F (ℕ → Bool) → ℕ → Bool
@@ -55,18 +62,37 @@ IsSendablePart x = can_spell x 8 ≡ true
 abbrev pub AreSendableParts : Listed Part → Type 0
 AreSendableParts parts = AllByRecursion IsSendablePart parts
 
--- A message of not too many copies and names, whose values and slots can be spelled, where their
--- places are there
-pub record IsSendablePacket (p : Packet) : Type 0 where
-  pub few : length p.copies ≤ most_copies
-  pub names : length p.names ≤ most_names
+-- a class is of the table
+abbrev pub IsOfTable : Listed Class → ClassId → Type 0
+IsOfTable table class = class.0 < length table
+
+-- a class of the table has so many slots
+abbrev pub HasSlots : Listed Class → ClassId → ℕ → Type 0
+HasSlots table class count = option_map (λ slots. length slots) (slots_of table class) ≡ Some count
+
+-- A name in a message from one port to another: numbers from 1 on, a class of the table, and for
+-- what is lent a home that is neither end
+abbrev pub NameIsSendable : Listed Class → ℕ → ℕ → Name → Type 0
+NameIsSendable table from to (Mine serial class) = (1 ≤ serial) × IsOfTable table class
+NameIsSendable table from to (Yours serial) = 1 ≤ serial
+NameIsSendable table from to (Lent o class token) =
+    IsBeside (from ∷ to ∷ []) 1 65535 o.node
+    × ((1 ≤ o.serial) × (IsOfTable table class × (1 ≤ token)))
+
+-- A copy whose slots can be spelled, and are those of its class
+pub record CopyIsSendable (table : Listed Class) (c : Copied) : Type 0 where
+  pub slots : AreSendableParts c.slots
+  pub whole : HasSlots table c.class (length c.slots)
+
+-- A message from one port to another within the limits, whose places are there, and whose names,
+-- values and slots can be spelled
+pub record IsSendablePacket (table : Listed Class) (from to : ℕ) (p : Packet) : Type 0 where
+  pub limits : KeepsLimits p
+  pub names : AllByRecursion (NameIsSendable table from to) p.names
+  pub few : length p.values ≤ 9
   pub values : AreSendableParts p.values
-  pub slots : AllByRecursion (λ c. AreSendableParts c.slots) p.copies
+  pub slots : AllByRecursion (CopyIsSendable table) p.copies
 
 -- an exception that a message can carry
 abbrev pub IsSendableExc : Exc → Type 0
 IsSendableExc e = IsExc e
-
--- each of these parts has a spelling in a message
-abbrev pub ArePartsOf : Packet → Listed Part → Type 0
-ArePartsOf p parts = AllByRecursion (IsPart (length p.copies) (length p.names) 8) parts

@@ -1,6 +1,10 @@
 -- States whose values a message can carry, wherever they stand.
-use Rattle.std.specs.Prelude.{length, ◌≡◌}
+use Rattle.std.specs.Prelude.{List, length, ℕ, ◌≡◌, ◌≤◌}
 use Rattle.std.specs.List.{AllByRecursion}
+use Rattle.do_sched.specs.Good.{IsPort}
+use Rattle.do_base.specs.names.Names.{ObjectName}
+use Rattle.do_class.specs.Class.{Class}
+use Rattle.do_frames.specs.Selectors.{IsSelector}
 use Rattle.do_behave.specs.declared.invocation.Answer.{Answer}
 use Rattle.do_behave.specs.declared.invocation.Answer.TheVariants.{Given, Raised}
 use Rattle.do_behave.specs.declared.invocation.Invocation.{Invocation}
@@ -8,10 +12,15 @@ use Rattle.do_behave.specs.declared.invocation.InvState.{InvState}
 use Rattle.do_behave.specs.declared.invocation.InvState.TheVariants.{Answered}
 use Rattle.do_machine.specs.declared.item.Item.{Item}
 use Rattle.do_machine.specs.declared.item.Item.TheVariants as items
+use Rattle.do_machine.specs.declared.item.Message.{Message}
 use Rattle.do_machine.specs.declared.node.Node.{Node}
+use Rattle.do_machine.specs.declared.node.Stored.{Stored}
+use Rattle.do_machine.specs.declared.node.Wanted.{Wanted}
+use Rattle.do_machine.specs.declared.state.Queue.{Queue}
 use Rattle.do_machine.specs.declared.state.Station.{Station}
 use Rattle.do_machine.specs.declared.state.State.{State}
-use Rattle.do_limits.specs.Sendable.{AreSendable, IsSendable, IsSendableExc, IsSendablePacket}
+use Rattle.do_limits.specs.Sendable.{AreSendable, HasSlots, IsOfTable, IsSendable, IsSendableExc}
+use Rattle.do_limits.specs.Sendable.{IsSendablePacket}
 
 -- the result, the out values or the exception of an answer
 abbrev pub AnswerIsSendable : Answer → Type 0
@@ -29,25 +38,63 @@ pub record InvocationIsSendable (i : Invocation) : Type 0 where
   pub sixteen : length i.locals ≡ 16
   pub answer : HasSendableAnswer i.state
 
--- the message or the exception of an item
-abbrev pub ItemIsSendable : Item → Type 0
-ItemIsSendable (items.Call number m) = IsSendablePacket m.packet
-ItemIsSendable (items.Oneway m) = IsSendablePacket m.packet
-ItemIsSendable (items.Reply number packet) = IsSendablePacket packet
-ItemIsSendable (items.RootAnswer number packet) = IsSendablePacket packet
-ItemIsSendable (items.Raised number e) = IsSendableExc e
-ItemIsSendable _ = Unit {0}
+-- A message to an object, by its selector
+pub record MessageIsSendable (table : List Class) (from to : ℕ) (m : Message) : Type 0 where
+  pub target : 1 ≤ m.target
+  pub selector : IsSelector m.selector
+  pub packet : IsSendablePacket table from to m.packet
 
--- the slots of a node's objects, and its invocations
-pub record NodeIsSendable (n : Node) : Type 0 where
-  pub heap : AllByRecursion (λ x. AreSendable x.slots) n.heap
+-- the message, the exception or the serial of an item on its way from one port to another
+abbrev pub ItemIsSendable : List Class → ℕ → ℕ → Item → Type 0
+ItemIsSendable table from to (items.Call number m) = MessageIsSendable table from to m
+ItemIsSendable table from to (items.Oneway m) = MessageIsSendable table from to m
+ItemIsSendable table from to (items.Reply number packet) = IsSendablePacket table from to packet
+ItemIsSendable table from to (items.RootAnswer number packet) =
+    IsSendablePacket table from to packet
+ItemIsSendable table from to (items.Raised number e) = IsSendableExc e
+ItemIsSendable table from to (items.Ask serial token) = 1 ≤ serial
+ItemIsSendable table from to (items.Granted serial token) = 1 ≤ serial
+ItemIsSendable table from to (items.Gone serial token) = 1 ≤ serial
+ItemIsSendable table from to (items.Left serial) = 1 ≤ serial
+ItemIsSendable table from to _ = Unit {0}
+
+-- the serial and the slots of an object, which are those of its class
+pub record ObjectIsSendable (table : List Class) (x : Stored) : Type 0 where
+  pub serial : 1 ≤ x.serial
+  pub slots : AreSendable x.slots
+  pub whole : HasSlots table x.class (length x.slots)
+
+-- an object has a serial from 1 on
+abbrev pub HasSerial : ObjectName → Type 0
+HasSerial o = 1 ≤ o.serial
+
+-- so has an object that is asked for
+abbrev pub AsksForOne : Wanted → Type 0
+AsksForOne w = HasSerial w.object
+
+-- a node stands at its port, and its next serial and token, and the serials of what it holds and
+-- asks for, are from 1 on
+abbrev pub HasNumbers : ℕ → Node → Type 0
+HasNumbers port n = (n.port ≡ port) × ((1 ≤ n.next_serial) × ((1 ≤ n.next_token)
+    × (AllByRecursion HasSerial n.held × AllByRecursion AsksForOne n.asked)))
+
+-- the objects of a node, its invocations and its numbers
+pub record NodeIsSendable (table : List Class) (port : ℕ) (n : Node) : Type 0 where
+  pub heap : AllByRecursion (ObjectIsSendable table) n.heap
   pub stack : AllByRecursion InvocationIsSendable n.stack
+  pub numbers : HasNumbers port n
 
--- the node of a station, and what waits in its queues
-pub record StationIsSendable (s : Station) : Type 0 where
-  pub node : NodeIsSendable s.node
-  pub queues : AllByRecursion (λ q. AllByRecursion ItemIsSendable q.items) s.queues
+-- the items of a queue from a port
+abbrev pub QueueIsSendable : List Class → ℕ → Queue → Type 0
+QueueIsSendable table from q = AllByRecursion (ItemIsSendable table from q.to) q.items
+
+-- the node of a station, what waits in its queues, and the classes of its objects
+pub record StationIsSendable (table : List Class) (s : Station) : Type 0 where
+  pub port : IsPort s.port
+  pub node : NodeIsSendable table s.port s.node
+  pub queues : AllByRecursion (QueueIsSendable table s.port) s.queues
+  pub classes : AllByRecursion (IsOfTable table) s.classes
 
 -- all values of a state, and all that is on its way
-pub record StateIsSendable (S : State) : Type 0 where
-  pub stations : AllByRecursion StationIsSendable S.stations
+pub record StateIsSendable (table : List Class) (S : State) : Type 0 where
+  pub stations : AllByRecursion (StationIsSendable table) S.stations

@@ -1,45 +1,46 @@
 //! Laws of limits, each carried by a function that does nothing else.
-ghost use Rattle.std.specs.Prelude.{List, length};
-ghost use Rattle.std.specs.List.{All, AllByRecursion};
+ghost use Rattle.std.specs.Prelude.{List, Some, length, ℕ, ◌<◌, ◌^◌, ◌≡◌};
+ghost use Rattle.std.specs.List.{All};
 ghost use Rattle.do_base.specs.declared.events.event.Event.{Event};
 ghost use Rattle.do_class.specs.Class.{Class};
-ghost use Rattle.do_class.specs.declared.packet.Packet.{Packet};
-ghost use Rattle.do_packet.specs.Limits.{KeepsLimits};
+ghost use Rattle.do_class.specs.Table.{IsTable};
+ghost use Rattle.do_coder.specs.Packets.{surroundings};
+ghost use Rattle.do_machine.specs.declared.item.Item.{Item};
 ghost use Rattle.do_machine.specs.declared.state.Seat.{Seat};
 ghost use Rattle.do_machine.specs.declared.state.State.{State};
+ghost use Rattle.do_machine.specs.State.{queue};
+ghost use Rattle.do_script.specs.Listing.{Listing};
+ghost use Rattle.do_behave.specs.Script.{script};
+ghost use Rattle.do_limits.specs.SendableCodes.{CodesAreSendable};
 ghost use Rattle.do_machine.specs.Step.{step};
-ghost use Rattle.do_machine.specs.World.{HasSignatures, opening};
+ghost use Rattle.do_machine.specs.World.{HasSignatures, IsWorld, opening};
 ghost use Rattle.do_machine.specs.run.Run.{Acting};
 ghost use Rattle.do_facts.specs.Reached.{reached};
 ghost use Rattle.do_limits.specs.Numbers.{AllNumbersWithin};
-ghost use Rattle.do_limits.specs.Sendable.{ArePartsOf, IsSendablePacket};
 ghost use Rattle.do_limits.specs.SendableActs.{AllStartSendable, KeepsSendable, StartsSendable};
 ghost use Rattle.do_limits.specs.SendableStates.{StateIsSendable};
+ghost use Rattle.do_limits.specs.Spelled.{ItemIsSpelled};
 
 /// In every state that a machine comes to, each value of a slot, a local or an answer can be
-/// carried by a message, each invocation has its sixteen locals, and each message on its way has
-/// few copies and names, and values that can be spelled.
+/// carried by a message, each object has the slots of its class, each invocation has its sixteen
+/// locals, and each message on its way is within the limits: its places are there, its selector is
+/// one, its names are of classes of the table, and its values can be spelled. Serials are from 1
+/// on.
 ///
-/// Premises are that the table's signatures keep to what signatures keep to, that the acts of the
-/// behaviour keep this of the values that they see, where an invocation has its sixteen locals, and
-/// that the values of each start are such.
+/// Premises are that the world is one, that the acts of the behaviour keep this of the values that
+/// they see, where an invocation has its sixteen locals, and make objects of the table's classes,
+/// and that the values of each start are such.
 pub fn values_of_states_can_be_sent()
-    ensures opening { (table : List Class) (seats : List Seat) →
-        StateIsSendable (opening table seats) }
+    ensures opening { (table : List Class) (seats : List Seat) → IsWorld table seats →
+        StateIsSendable table (opening table seats) }
     ensures steps { (table : List Class) (act : Acting) (S : State) (event : Event) →
-        All HasSignatures table → KeepsSendable table act → StartsSendable event →
-        StateIsSendable S → StateIsSendable (step table act S event).state }
+        IsTable table → All HasSignatures table → KeepsSendable table act →
+        StartsSendable event → StateIsSendable table S →
+        StateIsSendable table (step table act S event).state }
     ensures schedules { (table : List Class) (act : Acting) (seats : List Seat)
-        (events : List Event) → All HasSignatures table → KeepsSendable table act →
-        AllStartSendable events → StateIsSendable (reached table act seats events) }
-{}
-
-/// Each value and each slot of such a message has a spelling, where the message is within the
-/// limits on copies and names and its places are there.
-pub fn parts_of_messages_have_spellings()
-    ensures values { (p : Packet) → IsSendablePacket p → KeepsLimits p → ArePartsOf p p.values }
-    ensures slots { (p : Packet) → IsSendablePacket p → KeepsLimits p →
-        AllByRecursion (λ c. ArePartsOf p c.slots) p.copies }
+        (events : List Event) → IsWorld table seats → KeepsSendable table act →
+        AllStartSendable events →
+        StateIsSendable table (reached table act seats events) }
 {}
 
 /// After so many events each node has made as many calls at most, 4,096 objects for each event
@@ -49,6 +50,27 @@ pub fn parts_of_messages_have_spellings()
 /// Premises are those of `values_of_states_can_be_sent`.
 pub fn numbers_of_states_are_bounded()
     ensures { (table : List Class) (act : Acting) (seats : List Seat) (events : List Event) →
-        All HasSignatures table → KeepsSendable table act → AllStartSendable events →
+        IsWorld table seats → KeepsSendable table act → AllStartSendable events →
         AllNumbersWithin (length events) (reached table act seats events) }
+{}
+
+/// In every state that a machine comes to by fewer than 2^46 events, the frame of each item on its
+/// way has a spelling that its reader reads, by the same classes; a release has one for each amount
+/// from 1 to 2^63 - 1.
+///
+/// Premises are those of `values_of_states_can_be_sent`.
+pub fn items_have_spellings()
+    ensures { (table : List Class) (act : Acting) (seats : List Seat) (events : List Event) →
+        IsWorld table seats → KeepsSendable table act → AllStartSendable events →
+        length events < 2 ^ 46 →
+        (from to : ℕ) (waiting : List Item) →
+        queue (reached table act seats events) from to ≡ Some waiting →
+        All (ItemIsSpelled (surroundings table from to)) waiting }
+{}
+
+/// Scripts keep this of the values that they see, where each method's code is valid and has only
+/// such numbers and texts.
+pub fn scripts_keep_values_sendable()
+    ensures { (codes : List (List Listing)) → CodesAreSendable codes → (table : List Class) →
+        KeepsSendable table (script codes) }
 {}

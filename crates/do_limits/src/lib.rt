@@ -3,12 +3,13 @@
 //! It stands on the definitions of the machine, of messages and of their spellings, and has no
 //! code of its own: each of its functions is a law, of every behaviour that keeps the limits. It
 //! promises that in every state that a machine comes to each value can be carried by a message,
-//! that the values of each message on its way have spellings, where its places are there, and that
-//! the numbers of calls, objects and lends rise by no more than a bound with each event.
+//! that the numbers of calls, objects and lends rise by no more than a bound with each event, and
+//! that while they are small the frame of each item on its way has a spelling.
 #![tactic(auto)]
 
 mod laws;
 
 pub use laws::{
-    numbers_of_states_are_bounded, parts_of_messages_have_spellings, values_of_states_can_be_sent,
+    items_have_spellings, numbers_of_states_are_bounded, scripts_keep_values_sendable,
+    values_of_states_can_be_sent,
 };

@@ -1,8 +1,8 @@
 -- After so many events the numbers of nodes are within their bounds.
-use Rattle.do_limits.proofs.Signatures.{TakesFew}
+use Rattle.do_limits.proofs.Signatures.{HasMethods}
 use Rattle.std.proofs.Common.{◌≡◌, ◌==◌, ◌+◌, ℕ, Bool, true, false, List, [], ◌∷◌, length, map}
 use Rattle.std.proofs.Common.{refl, sym, ap, subst, ◌∙◌, arith}
-use Rattle.std.specs.Prelude.{None, Option, Some, suc, unwrap_or}
+use Rattle.std.specs.Prelude.{All, None, Option, Some, suc, unwrap_or}
 use Rattle.std.specs.List.{insert}
 use Rattle.std.proofs.lemmas.Bool.{eqb-true}
 use Rattle.do_base.specs.declared.events.event.Event.{Event}
@@ -20,7 +20,7 @@ use Rattle.do_machine.specs.Context.{around, context}
 use Rattle.do_machine.specs.Start.{start_effect}
 use Rattle.do_machine.specs.State.{change, node, with_queue}
 use Rattle.do_machine.specs.Step.{step}
-use Rattle.do_machine.specs.World.{by_port, opening}
+use Rattle.do_machine.specs.World.{IsSeat, by_port, opening}
 use Rattle.do_machine.specs.check.Blocks.{followed, steps}
 use Rattle.do_machine.specs.ends.TimeOut.{time_out}
 use Rattle.do_machine.specs.held.Leaving.{leaving}
@@ -33,11 +33,12 @@ use Rattle.do_facts.proofs.steps.EachIsStep.{step_is}
 use Rattle.do_facts.proofs.steps.OthersStay.{move_leaves_others, move_leaves_own}
 use Rattle.do_limits.specs.Numbers.{AllNumbersWithin, NumbersWithin}
 use Rattle.do_limits.specs.SendableActs.{AllStartSendable, KeepsSendable}
-use Rattle.do_limits.specs.SendableStates.{NodeIsSendable, StateIsSendable}
+use Rattle.do_limits.specs.SendableStates.{ItemIsSendable, StateIsSendable}
+use Rattle.do_limits.proofs.Senders.{ContextIsSendable}
 use Rattle.do_limits.proofs.numbers.Rises.{Rises, RisesIf, run_rises, same_rises, same_rises_if}
 use Rattle.do_limits.proofs.numbers.Rises.{take_rises}
 use Rattle.do_limits.proofs.numbers.Same.{closing_same, start_same, time_out_same}
-use Rattle.do_limits.proofs.states.States.{node_sendable, queue_sendable}
+use Rattle.do_limits.proofs.states.States.{context_sendable, node_sendable, queue_sendable}
 use Rattle.do_limits.proofs.states.Steps.{opening_sendable, step_sendable}
 
 -- the effect that there is
@@ -47,8 +48,9 @@ there n None e h q = absurd (cc)
 there n (Some d) e h q = let same : d ≡ e = cc (q) in subst (Rises n) same h
 
 -- the effect of an event's rule
-ruled : (table : List Class) (act : Acting) (S : State) → TakesFew table →
-    KeepsSendable table act → (event : Event) (n : Node) (e : Effect) → NodeIsSendable n →
+ruled : (table : List Class) (act : Acting) (S : State) → HasMethods table →
+    KeepsSendable table act → (event : Event) (n : Node) (e : Effect) →
+    ContextIsSendable (context table S n) →
     IsRuleOf table act S event n e → Rises n e
 ruled table act S small acts (Start port selector values) n e ok q =
     there n (start_effect table selector values n) e
@@ -103,23 +105,26 @@ module _ (count : ℕ) where
           })
 
   -- what an event comes to
-  came : {table : List Class} {act : Acting} → TakesFew table → KeepsSendable table act →
-      (S : State)
-      (event : Event) (s : Stepped) → StateIsSendable S → IsStep table act S event s →
+  came : {table : List Class} {act : Acting} → HasMethods table → KeepsSendable table act →
+      (S : State) (event : Event) (s : Stepped) → StateIsSendable table S →
+      IsStep table act S event s →
       AllNumbersWithin count S →
       AllNumbersWithin (suc count) s.state
   came small acts S event s ok (Skips e) all other m h =
       more m (all other m (ap (λ x. node x.state other) (sym e) ∙ h))
   came {table} {act} small acts S event s ok (Acts port n d own here rule e) all other m h =
       moves port n d S here
-      (ruled table act S small acts event n d (node_sendable S ok port n here) rule) all other m
+      (ruled table act S small acts event n d (context_sendable table S ok port n here) rule) all
+      other m
       (ap (λ x. node x.state other) (sym e) ∙ h)
   came {table} {act} small acts S event s ok (Takes port from n item rest d is here rule waits e)
       all other m h =
       let U = change from (with_queue port rest) S in
-      let w = queue_sendable S ok from port (item ∷ rest) waits in
+      let w = queue_sendable table S ok from port (item ∷ rest) waits in
+      let home = (node_sendable table S ok port n here).0.numbers.0 in
       moves port n d U (requeued from port port rest S.stations ∙ here)
-      (subst (Rises n) (sym rule.1) (take_rises (context table U n) from item w.0))
+      (subst (Rises n) (sym rule.1) (take_rises (context table U n) from item
+      (subst (λ x. ItemIsSendable table from x item) (sym home) w.0)))
       (λ p k q. all p k (sym (requeued from port p rest S.stations) ∙ q)) other m
       (ap (λ x. node x.state other) (sym e) ∙ h)
   came small acts S event s ok (Loses from to after waiting is waits few e) all other m h =
@@ -137,11 +142,11 @@ opening_numbers table seats port n h =
     (λ s. record { call = omega arith; serial = omega arith; token = omega arith })
     (by_port seats) port n h
 
-module _ (table : List Class) (act : Acting) (small : TakesFew table)
+module _ (table : List Class) (act : Acting) (small : HasMethods table)
     (acts : KeepsSendable table act) where
   -- events, one after another
   after_events : (events : List Event) → AllStartSendable events → (s : Stepped) →
-      StateIsSendable s.state → (count : ℕ) → AllNumbersWithin count s.state →
+      StateIsSendable table s.state → (count : ℕ) → AllNumbersWithin count s.state →
       AllNumbersWithin (count + length events) (steps table act events s).state
   after_events [] k s ok count all =
       subst (λ n. AllNumbersWithin n s.state) (omega arith) all
@@ -153,11 +158,12 @@ module _ (table : List Class) (act : Acting) (small : TakesFew table)
       (step_is s.state table act e) all))
 
   -- every state that a machine comes to
-  pub reached_numbers : (seats : List Seat) (events : List Event) → AllStartSendable events →
+  pub reached_numbers : (seats : List Seat) (events : List Event) → All (IsSeat table) seats →
+      AllStartSendable events →
       AllNumbersWithin (length events) (reached table act seats events)
-  reached_numbers seats events k =
+  reached_numbers seats events h k =
       let T = reached table act seats events in
       let here : 0 + length events ≡ length events = omega arith in
       subst (λ n. AllNumbersWithin n T) here
-      (after_events events k (skipped (opening table seats)) (opening_sendable table seats) 0
+      (after_events events k (skipped (opening table seats)) (opening_sendable table seats h) 0
       (opening_numbers table seats))

@@ -1,5 +1,5 @@
 -- How far an effect raises the numbers of its node.
-use Rattle.do_limits.proofs.Signatures.{TakesFew}
+use Rattle.do_limits.proofs.Signatures.{HasMethods}
 use Rattle.std.specs.List.{AllByRecursion, filter_map}
 use Rattle.std.proofs.Common.{◌≡◌, ◌+◌, ◌≤◌, ℕ, Bool, true, false, cond, not, List, [], ◌∷◌}
 use Rattle.std.proofs.Common.{length, refl, ap, ◌∙◌, arith}
@@ -16,24 +16,22 @@ use Rattle.do_behave.specs.declared.invocation.Answer.{Answer}
 use Rattle.do_behave.specs.declared.invocation.Answer.TheVariants.{Raised}
 use Rattle.do_behave.specs.declared.invocation.Handler.{Handler}
 use Rattle.do_behave.specs.declared.invocation.Reason.{Reason}
-use Rattle.do_class.specs.Table.{signature_of}
 use Rattle.do_class.specs.declared.packet.Name.{Name}
 use Rattle.do_class.specs.declared.packet.Name.TheVariants.{Lent, Mine, Yours}
 use Rattle.do_packet.specs.Copies.{most_copies}
-use Rattle.do_packet.specs.Limits.{most_names}
+use Rattle.do_packet.specs.Limits.{KeepsLimits, most_names}
+use Rattle.do_limits.proofs.Senders.{ContextIsSendable}
 use Rattle.do_machine.specs.Effect.{only}
 use Rattle.do_machine.specs.Packing.{packed_for}
 use Rattle.do_machine.specs.State.{is_open}
 use Rattle.do_machine.specs.lend.Lending.{lend_of, posting}
-use Rattle.do_machine.specs.run.Answers.{answer_marks, answer_placed, replying}
+use Rattle.do_machine.specs.run.Answers.{answer_placed, replying}
 use Rattle.do_machine.proofs.follows.Ran.{packed_answer}
-use Rattle.do_limits.specs.Sendable.{IsSendable, IsSendableExc}
 use Rattle.do_limits.specs.SendableActs.{KeepsSendable}
-use Rattle.do_limits.specs.SendableStates.{AnswerIsSendable, InvocationIsSendable, NodeIsSendable}
-use Rattle.do_limits.proofs.Lists.{each_zipped}
+use Rattle.do_limits.specs.SendableStates.{InvocationIsSendable}
 use Rattle.do_limits.proofs.runs.Runs.{judged}
 use Rattle.do_limits.proofs.runs.Verdicts.{RequestIsSendable, VerdictIfSendable, VerdictIsSendable}
-use Rattle.do_limits.proofs.runs.Verdicts.{message_sendable}
+use Rattle.do_limits.proofs.runs.Verdicts.{message_keeps}
 use Rattle.do_machine.specs.declared.item.Item.{Item}
 use Rattle.do_machine.specs.declared.item.Item.TheVariants as items
 use Rattle.do_machine.specs.declared.node.Node.{Node}
@@ -57,7 +55,6 @@ use Rattle.do_machine.specs.take.Receipt.{arrived, received, receiving, receivin
 use Rattle.do_machine.specs.take.Requests.{request}
 use Rattle.do_machine.specs.take.Take.{arrival, holding, method_call, root_call, take_effect}
 use Rattle.do_machine.specs.take.Take.{values_arrival}
-use Rattle.do_limits.specs.Sendable.{IsSendablePacket}
 use Rattle.do_limits.specs.SendableStates.{ItemIsSendable}
 use Rattle.do_limits.proofs.numbers.Same.{Same, SameIf, closing_same, numbers, oneway_same}
 use Rattle.do_limits.proofs.numbers.Same.{granting_same, name_same, over_same}
@@ -96,7 +93,7 @@ lends_few to (Yours serial ∷ names) = omega (arith, lends_few to names)
 lends_few to (Lent o class token ∷ names) = omega (arith, lends_few to names)
 
 -- a message that is posted by a node that made a call at most
-posting_rises : (n m : Node) (peer : ℕ) (p : Packet) (item : Item) → IsSendablePacket p →
+posting_rises : (n m : Node) (peer : ℕ) (p : Packet) (item : Item) → KeepsLimits p →
     m.next_call ≤ 1 + n.next_call → m.next_serial ≡ n.next_serial → m.next_token ≡ n.next_token →
     Rises n (posting peer p item m)
 posting_rises n m peer p item ok call serial token = record {
@@ -107,7 +104,7 @@ posting_rises n m peer p item ok call serial token = record {
 
 -- ---- runs
 
-module _ (r : RunContext) (node : NodeIsSendable r.context.node) where
+module _ (r : RunContext) where
   -- the node
   abbrev n : Node
   n = r.context.node
@@ -119,52 +116,49 @@ module _ (r : RunContext) (node : NodeIsSendable r.context.node) where
 
   -- an answer, packed or too large
   packed_rises : (peer number : ℕ) (found : Option Packet) →
-      ((p : Packet) → found ≡ Some p → IsSendablePacket p) →
+      ((p : Packet) → found ≡ Some p → KeepsLimits p) →
       Rises n (packed_answer (popped r) peer number found)
   packed_rises peer number None h = same_rises n _ refl
   packed_rises peer number (Some p) h =
       posting_rises n (popped r) peer p (items.Reply number p) (h p refl) (omega arith) refl refl
 
   -- an answer that goes back to a peer
-  replying_rises : (peer number : ℕ) (a : Answer) → AnswerIsSendable a →
-      Rises n (replying r peer number a (popped r))
-  replying_rises peer number (Raised e) h = same_rises n _ refl
-  replying_rises peer number (Given v outs) h =
+  replying_rises : (peer number : ℕ) (a : Answer) → Rises n (replying r peer number a (popped r))
+  replying_rises peer number (Raised e) = same_rises n _ refl
+  replying_rises peer number (Given v outs) =
       packed_rises peer number (packed_for r.context peer (answer_placed r v outs))
-      (message_sendable r.context node peer (answer_placed r v outs)
-      (each_zipped IsSendable (answer_marks (signature_of r.context.table r.top.method))
-      (v ∷ outs) h))
+      (message_keeps r.context peer (answer_placed r v outs))
 
   -- an answer, wherever it goes
-  delivery_rises : (a : Answer) (reason : Reason) → AnswerIsSendable a →
-      Rises n (delivery r a reason)
-  delivery_rises a reasons.Start h = same_rises n _ refl
-  delivery_rises a reasons.Local h = same_rises n _ refl
-  delivery_rises a (reasons.Oneway peer) h = same_rises n _ (oneway_same a (popped r))
-  delivery_rises a (reasons.Call peer number) h =
+  delivery_rises : (a : Answer) (reason : Reason) → Rises n (delivery r a reason)
+  delivery_rises a reasons.Start = same_rises n _ refl
+  delivery_rises a reasons.Local = same_rises n _ refl
+  delivery_rises a (reasons.Oneway peer) = same_rises n _ (oneway_same a (popped r))
+  delivery_rises a (reasons.Call peer number) =
       either_rises (not (is_open n peer)) (only (popped r)) _ (same_rises n _ refl)
-      (replying_rises peer number a h)
+      (replying_rises peer number a)
 
   -- an exception, caught or not
-  failing_rises : (e : Exc) (handler : Option Handler) → IsSendableExc e →
-      Rises n (failing r e handler)
-  failing_rises e None h = delivery_rises (Raised e) r.top.reason h
-  failing_rises e (Some k) h = same_rises n _ refl
+  failing_rises : (e : Exc) (handler : Option Handler) → Rises n (failing r e handler)
+  failing_rises e None = delivery_rises (Raised e) r.top.reason
+  failing_rises e (Some k) = same_rises n _ refl
 
   -- a request to a peer
-  request_rises : (peer : ℕ) (asked : Request) (m : Node) → RequestIsSendable asked →
-      numbers m ≡ numbers n → Rises n (requesting peer n.next_call asked (uses_number m))
+  request_rises : (peer : ℕ) (asked : Request) (m : Node) →
+      RequestIsSendable r.context.table n.port peer asked → numbers m ≡ numbers n →
+      Rises n (requesting peer n.next_call asked (uses_number m))
   request_rises peer requests.Root m h k = record {
     call = omega (arith, ap (λ x. x.0) k);
     serial = omega (arith, ap (λ x. x.1.0) k);
     token = omega (arith, ap (λ x. x.1.1) k);
   }
   request_rises peer (requests.Call method x) m h k =
-      posting_rises n (uses_number m) peer x.packet (items.Call n.next_call x) h
+      posting_rises n (uses_number m) peer x.packet (items.Call n.next_call x) h.packet.limits
       (omega (arith, ap (λ x. x.0) k)) (ap (λ x. x.1.0) k) (ap (λ x. x.1.1) k)
 
   -- each verdict
-  verdict_rises : (v : Verdict) → VerdictIsSendable v → Rises n (effect_of r v)
+  verdict_rises : (v : Verdict) → VerdictIsSendable r.context.table n.port v →
+      Rises n (effect_of r v)
   verdict_rises (Goes into value pc) h = same_rises n _ refl
   verdict_rises (Uses result outs) h = same_rises n _ refl
   verdict_rises (Steps pc locals handler writes) h = same_rises n _ refl
@@ -177,38 +171,37 @@ module _ (r : RunContext) (node : NodeIsSendable r.context.node) where
       refl
   verdict_rises (Begins o method values into outs pc) h = same_rises n _ refl
   verdict_rises (Tells peer m into pc) h =
-      posting_rises n (with_top r (goes_on into Nil pc r.top)) peer m.packet (items.Oneway m) h
-      (omega arith) refl refl
-  verdict_rises (Returns result outs) h = delivery_rises (Given result outs) r.top.reason h
-  verdict_rises (Fails e) h = failing_rises e r.top.handler h
+      posting_rises n (with_top r (goes_on into Nil pc r.top)) peer m.packet (items.Oneway m)
+      h.packet.limits (omega arith) refl refl
+  verdict_rises (Returns result outs) h = delivery_rises (Given result outs) r.top.reason
+  verdict_rises (Fails e) h = failing_rises e r.top.handler
 
   -- a verdict, if there is one
-  verdict_rises_if : (v : Option Verdict) → VerdictIfSendable v →
+  verdict_rises_if : (v : Option Verdict) → VerdictIfSendable r.context.table n.port v →
       RisesIf n (option_map (effect_of r) v)
   verdict_rises_if None h = tt
   verdict_rises_if (Some v) h = verdict_rises v h
 
 -- by the stack
-run_on_rises : (act : Acting) (c : Context) → TakesFew c.table → KeepsSendable c.table act →
-    NodeIsSendable c.node →
-    (stack : List Invocation) → AllByRecursion InvocationIsSendable stack →
-    RisesIf c.node (run_on act c stack)
-run_on_rises act c small acts node [] h = tt
-run_on_rises act c small acts node (i ∷ is) h =
+run_on_rises : (act : Acting) (c : Context) → HasMethods c.table → KeepsSendable c.table act →
+    ContextIsSendable c → (stack : List Invocation) →
+    AllByRecursion InvocationIsSendable stack → RisesIf c.node (run_on act c stack)
+run_on_rises act c small acts ok [] h = tt
+run_on_rises act c small acts ok (i ∷ is) h =
     let r : RunContext = record { context = c; top = i; below = is } in
-    verdict_rises_if r node (state_rule act r i.state)
-    (judged r node h.0 h.1 act small acts i.state h.0.answer)
+    verdict_rises_if r (state_rule act r i.state)
+    (judged r small ok h.0 h.1 act acts i.state h.0.answer)
 
 -- a run
-pub run_rises : (act : Acting) (c : Context) → TakesFew c.table → KeepsSendable c.table act →
-    NodeIsSendable c.node → RisesIf c.node (run_effect act c)
-run_rises act c small acts node = run_on_rises act c small acts node c.node.stack node.stack
+pub run_rises : (act : Acting) (c : Context) → HasMethods c.table → KeepsSendable c.table act →
+    ContextIsSendable c → RisesIf c.node (run_effect act c)
+run_rises act c small acts ok = run_on_rises act c small acts ok c.node.stack ok.node.stack
 
 -- ---- takes
 
 module _ (c : Context) (from : ℕ) where
   -- a message that is received, and what its values come to
-  received_rises : (packet : Packet) → IsSendablePacket packet →
+  received_rises : (packet : Packet) → KeepsLimits packet →
       (next : List Value → Node → Effect) → ((vs : List Value) (n : Node) → Same n (next vs n)) →
       (n : Node) → Rises n (received c from packet next n)
   received_rises packet ok next h n =
@@ -221,25 +214,27 @@ module _ (c : Context) (from : ℕ) where
       let count : length new ≡ length packet.copies = length-map packet.copies _ in
       record {
         call = omega (arith, ap (λ x. x.0) same);
-        serial = omega (arith, ap (λ x. x.1.0) same, count, ok.few);
+        serial = omega (arith, ap (λ x. x.1.0) same, count, ok.copies);
         token = omega (arith, ap (λ x. x.1.1) same);
       }
 
   -- what an item comes to
-  arrival_rises : (item : Item) → ItemIsSendable item → (n : Node) →
+  arrival_rises : (item : Item) → ItemIsSendable c.table from c.node.port item → (n : Node) →
       Rises n (arrival c from item n)
   arrival_rises (items.Call number m) h n =
       let reason = reasons.Call from number in
-      received_rises m.packet h (request c from reason m) (request_same c from reason m) n
+      received_rises m.packet h.packet.limits (request c from reason m)
+      (request_same c from reason m) n
   arrival_rises (items.Oneway m) h n =
       let reason = reasons.Oneway from in
-      received_rises m.packet h (request c from reason m) (request_same c from reason m) n
+      received_rises m.packet h.packet.limits (request c from reason m)
+      (request_same c from reason m) n
   arrival_rises (items.Reply number packet) h n =
-      received_rises packet h (values_arrival c (method_call from number)) (λ vs m. refl) n
+      received_rises packet h.limits (values_arrival c (method_call from number)) (λ vs m. refl) n
   arrival_rises (items.Raised number e) h n = same_rises n _ refl
   arrival_rises (items.RootAsk number) h n = same_rises n _ refl
   arrival_rises (items.RootAnswer number packet) h n =
-      received_rises packet h (values_arrival c (root_call from number)) (λ vs m. refl) n
+      received_rises packet h.limits (values_arrival c (root_call from number)) (λ vs m. refl) n
   arrival_rises (items.Ask serial token) h n = same_rises n _ (granting_same from serial token n)
   arrival_rises (items.Granted serial token) h n =
       same_rises n _ (over_same (wanted (object_at from serial) token.lender token.number) n)
@@ -250,7 +245,8 @@ module _ (c : Context) (from : ℕ) where
   arrival_rises (items.End serials) h n = same_rises n _ (closing_same from n)
 
   -- a take
-  pub take_rises : (item : Item) → ItemIsSendable item → Rises c.node (take_effect c from item)
+  pub take_rises : (item : Item) → ItemIsSendable c.table from c.node.port item →
+      Rises c.node (take_effect c from item)
   take_rises item h =
       let m = holding (exported from c.node.port item) c.node in
       let up = arrival_rises item h m in

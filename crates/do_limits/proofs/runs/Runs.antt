@@ -1,7 +1,12 @@
 -- A run leaves and sends only what a message can carry.
 use Rattle.std.proofs.Common.{length, ◌∙◌}
 use Rattle.std.proofs.lemmas.List.{length-set}
-use Rattle.do_limits.proofs.Signatures.{TakesFew}
+use Rattle.do_limits.proofs.Signatures.{HasMethods, few_answer_marks}
+use Rattle.do_limits.proofs.Senders.{ContextIsSendable}
+use Rattle.std.proofs.Common.{arith, subst, sym}
+use Rattle.do_class.specs.Class.{Class}
+use Rattle.do_machine.specs.declared.item.Item.{Item}
+use Rattle.do_machine.specs.declared.state.Effect.{Effect}
 use Rattle.std.proofs.Common.{◌≡◌, ◌==◌, ℕ, not, List, [], ◌∷◌, refl}
 use Rattle.std.specs.Prelude.{None, Option, Some, option_map, slice_set}
 use Rattle.std.specs.List.{AllByRecursion}
@@ -48,17 +53,19 @@ use Rattle.do_machine.specs.run.Run.{state_rule}
 use Rattle.do_machine.specs.run.Verdicts.{effect_of, requesting, waits_for}
 use Rattle.do_machine.specs.lend.Lending.{lending, lends_of, posting}
 use Rattle.do_machine.proofs.follows.Ran.{packed_answer}
-use Rattle.do_limits.specs.Sendable.{AreSendable, IsSendable, IsSendableExc, IsSendablePacket}
+use Rattle.do_limits.specs.Sendable.{AreSendable, HasSlots, IsSendable, IsSendableExc}
+use Rattle.do_limits.specs.Sendable.{IsSendablePacket}
 use Rattle.do_limits.specs.SendableActs.{KeepsSendable}
 use Rattle.do_limits.specs.SendableStates.{AnswerIsSendable, HasSendableAnswer}
 use Rattle.do_limits.specs.SendableStates.{InvocationIsSendable, ItemIsSendable, NodeIsSendable}
+use Rattle.do_limits.specs.SendableStates.{ObjectIsSendable}
 use Rattle.do_limits.proofs.Effects.{EffectIsSendable, IfSendable, alone, begins, blank_sendable}
 use Rattle.do_limits.proofs.Effects.{either, makes, pushes, queues, shows}
 use Rattle.do_limits.proofs.Lists.{each_changed, each_set, each_zipped, found_is}
 use Rattle.do_limits.proofs.values.Carried.{carry-Nil, carry-Obj, name_sendable}
 use Rattle.do_limits.proofs.runs.ActRules.{act_sendable}
 use Rattle.do_limits.proofs.runs.Verdicts.{RequestIsSendable, VerdictIfSendable, VerdictIsSendable}
-use Rattle.do_limits.proofs.runs.Verdicts.{message_sendable, textless}
+use Rattle.do_limits.proofs.runs.Verdicts.{few_places, message_sendable, textless}
 
 -- ---- invocations
 
@@ -104,69 +111,104 @@ answered_below a [] h k = tt
 answered_below a (i ∷ below) h k =
     (record { locals = k.0.locals; sixteen = k.0.sixteen; answer = h }, k.1)
 
+-- they are as many
+slots_length : (slots : List Value) (ws : List Write) → length (written slots ws) ≡ length slots
+slots_length slots [] = refl
+slots_length slots (w ∷ ws) =
+    slots_length (slice_set slots w.slot w.value) ws ∙ length-set slots w.slot w.value
+
 -- a node that sends a message
-posts : (peer : ℕ) (p : Packet) (item : Rattle.do_machine.specs.declared.item.Item.Item)
-    (n : Node) → ItemIsSendable item → NodeIsSendable n →
-    EffectIsSendable (posting peer p item n)
+posts : {table : List Class} {port : ℕ} → (peer : ℕ) (p : Packet) (item : Item) (n : Node) →
+    ItemIsSendable table port peer item → NodeIsSendable table port n →
+    EffectIsSendable table port (posting peer p item n)
 posts peer p item n h k =
-    queues peer item (lending (lends_of peer p) n) h (record { heap = k.heap; stack = k.stack })
+    queues peer item (lending (lends_of peer p) n) h (record {
+      heap = k.heap;
+      stack = k.stack;
+      numbers = (
+        k.numbers.0,
+        (k.numbers.1.0, (omega (arith, k.numbers.1.1.0), k.numbers.1.1.1)),
+      );
+    })
 
 -- a node with slots written
-writes_slots : (serial : ℕ) (ws : List Write) (n : Node) →
-    AllByRecursion (λ w. IsSendable w.value) ws → NodeIsSendable n →
-    NodeIsSendable (with_slots serial ws n)
-writes_slots serial ws n h k = record {
-  heap = each_changed (λ (x : Stored). AreSendable x.slots) (λ x. x.serial == serial)
-      (with_writes ws) (λ x g. slots_written x.slots ws g h) n.heap k.heap;
+writes_slots : {table : List Class} {port : ℕ} → (serial : ℕ) (ws : List Write) (n : Node) →
+    AllByRecursion (λ w. IsSendable w.value) ws → NodeIsSendable table port n →
+    NodeIsSendable table port (with_slots serial ws n)
+writes_slots {table} serial ws n h k = record {
+  heap = each_changed (ObjectIsSendable table) (λ x. x.serial == serial) (with_writes ws)
+      (λ x e g. record {
+        serial = g.serial;
+        slots = slots_written x.slots ws g.slots h;
+        whole = subst (HasSlots table x.class) (sym (slots_length x.slots ws)) g.whole;
+      }) n.heap k.heap;
   stack = k.stack;
+  numbers = k.numbers;
 }
 
-module _ (r : RunContext) (node : NodeIsSendable r.context.node)
-    (top : InvocationIsSendable r.top)
-    (below : AllByRecursion InvocationIsSendable r.below) where
+module _ (r : RunContext) (small : HasMethods r.context.table) (ok : ContextIsSendable r.context)
+    (top : InvocationIsSendable r.top) (below : AllByRecursion InvocationIsSendable r.below) where
   -- the node
   abbrev n : Node
   n = r.context.node
 
+  -- it has such values
+  node : NodeIsSendable r.context.table n.port n
+  node = ok.node
+
+  -- a node at its port has
+  abbrev Keeps : Node → Type 0
+  Keeps m = NodeIsSendable r.context.table n.port m
+
+  -- an effect of it has
+  abbrev Does : Effect → Type 0
+  Does e = EffectIsSendable r.context.table n.port e
+
   -- the node with another top invocation
-  topped : (i : Invocation) → InvocationIsSendable i → NodeIsSendable (with_top r i)
-  topped i h = record { heap = node.heap; stack = (h, below) }
+  topped : (i : Invocation) → InvocationIsSendable i → Keeps (with_top r i)
+  topped i h = record { heap = node.heap; stack = (h, below); numbers = node.numbers }
 
   -- the node without it
-  without_top : NodeIsSendable (popped r)
-  without_top = record { heap = node.heap; stack = below }
+  without_top : Keeps (popped r)
+  without_top = record { heap = node.heap; stack = below; numbers = node.numbers }
 
   -- an answer, packed or too large
-  packed_back : (peer number : ℕ) (m : Node) → NodeIsSendable m → (found : Option Packet) →
-      ((p : Packet) → found ≡ Some p → IsSendablePacket p) →
-      EffectIsSendable (packed_answer m peer number found)
+  packed_back : (peer number : ℕ) (m : Node) → Keeps m → (found : Option Packet) →
+      ((p : Packet) → found ≡ Some p → IsSendablePacket r.context.table n.port peer p) →
+      Does (packed_answer m peer number found)
   packed_back peer number m h None k =
       queues peer (items.Raised number TooLarge) m (textless TooLarge refl) h
   packed_back peer number m h (Some p) k =
       posts peer p (items.Reply number p) m (k p refl) h
 
   -- an answer that goes back to a peer
-  replies : (peer number : ℕ) (a : Answer) (m : Node) → AnswerIsSendable a → NodeIsSendable m →
-      EffectIsSendable (replying r peer number a m)
+  replies : (peer number : ℕ) (a : Answer) (m : Node) → AnswerIsSendable a → Keeps m →
+      Does (replying r peer number a m)
   replies peer number (Raised e) m h k = queues peer (items.Raised number e) m h k
   replies peer number (Given v outs) m h k =
       packed_back peer number m k (packed_for r.context peer (answer_placed r v outs))
-      (message_sendable r.context node peer (answer_placed r v outs)
+      (message_sendable r.context ok peer (answer_placed r v outs)
       (each_zipped IsSendable (answer_marks (signature_of r.context.table r.top.method))
-      (v ∷ outs) h))
+      (v ∷ outs) h)
+      (few_places (answer_marks (signature_of r.context.table r.top.method)) (v ∷ outs)
+      (few_answer_marks r.context.table small r.top.method)))
 
   -- an answer that nobody waits for
-  drops : (a : Answer) (m : Node) → NodeIsSendable m → EffectIsSendable (oneway_answer a m)
+  drops : (a : Answer) (m : Node) → Keeps m → Does (oneway_answer a m)
   drops (Given v outs) m h = alone m h
   drops (Raised e) m h = shows (shown.Raise e) m h
 
   -- an answer, wherever it goes
   delivers : (a : Answer) (reason : Reason) → AnswerIsSendable a →
-      EffectIsSendable (delivery r a reason)
+      Does (delivery r a reason)
   delivers a reasons.Start h = shows (answer_line a) (popped r) without_top
   delivers a reasons.Local h =
       alone (with_stack (below_answered a r.below) n)
-      (record { heap = node.heap; stack = answered_below a r.below h below })
+      (record {
+        heap = node.heap;
+        stack = answered_below a r.below h below;
+        numbers = node.numbers;
+      })
   delivers a (reasons.Oneway peer) h = drops a (popped r) without_top
   delivers a (reasons.Call peer number) h =
       either (not (is_open n peer)) (only (popped r)) _ (alone (popped r) without_top)
@@ -174,26 +216,28 @@ module _ (r : RunContext) (node : NodeIsSendable r.context.node)
 
   -- an exception, caught or not
   fails : (e : Exc) (handler : Option Handler) → IsSendableExc e →
-      EffectIsSendable (failing r e handler)
+      Does (failing r e handler)
   fails e None h = delivers (Raised e) r.top.reason h
   fails e (Some k) h =
       alone _ (topped _ (went_on k.into (Text (exc_name e)) k.pc r.top (name_sendable e h) top))
 
   -- a request to a peer
-  requests_of : (peer number : ℕ) (request : Request) (m : Node) → RequestIsSendable request →
-      NodeIsSendable m → EffectIsSendable (requesting peer number request m)
+  requests_of : (peer number : ℕ) (request : Request) (m : Node) →
+      RequestIsSendable r.context.table n.port peer request → Keeps m →
+      Does (requesting peer number request m)
   requests_of peer number requests.Root m h k = queues peer (items.RootAsk number) m tt k
   requests_of peer number (requests.Call method x) m h k =
       posts peer x.packet (items.Call number x) m h k
 
   -- the top invocation as it waits
   standing : (pc into : ℕ) (outs : List ℕ) (state : InvState) → HasSendableAnswer state →
-      NodeIsSendable (with_top r (stands pc into outs state r.top))
+      Keeps (with_top r (stands pc into outs state r.top))
   standing pc into outs state h =
       topped _ (record { locals = top.locals; sixteen = top.sixteen; answer = h })
 
   -- the effect of each verdict
-  verdict_effect : (v : Verdict) → VerdictIsSendable v → EffectIsSendable (effect_of r v)
+  verdict_effect : (v : Verdict) → VerdictIsSendable r.context.table n.port v →
+      Does (effect_of r v)
   verdict_effect (Goes into value pc) h = alone _ (topped _ (went_on into value pc r.top h top))
   verdict_effect (Uses result outs) h =
       alone _ (topped _ (record {
@@ -209,12 +253,13 @@ module _ (r : RunContext) (node : NodeIsSendable r.context.node)
   verdict_effect (Makes class into pc) h =
       let made = own n n.next_serial in
       alone _ (makes (blank r.context.table class ∷ []) _
-      (blank_sendable r.context.table class, tt)
+      (blank_sendable r.context.table class h, tt)
       (topped _ (went_on into (Obj made) pc r.top (carry-Obj 8 made) top)))
   verdict_effect (Vends root pc) h =
       alone _ (record {
         heap = node.heap;
         stack = (record { locals = top.locals; sixteen = top.sixteen; answer = top.answer }, below);
+        numbers = node.numbers;
       })
   verdict_effect (Says value pc) h =
       shows (shown.Say value) _
@@ -225,9 +270,9 @@ module _ (r : RunContext) (node : NodeIsSendable r.context.node)
       }))
   verdict_effect (Asks peer request into outs pc) h =
       let m = with_top r (stands pc into outs (waits_for n peer request) r.top) in
-      let ok = standing pc into outs (waits_for n peer request) tt in
+      let kept = standing pc into outs (waits_for n peer request) tt in
       requests_of peer n.next_call request (uses_number m) h
-      (record { heap = ok.heap; stack = ok.stack })
+      (record { heap = kept.heap; stack = kept.stack; numbers = kept.numbers })
   verdict_effect (Begins o method values into outs pc) h =
       alone _ (pushes (fresh o method reasons.Local values) _
       (begins o method reasons.Local values h.0 h.1) (standing pc into outs Below tt))
@@ -245,16 +290,15 @@ module _ (r : RunContext) (node : NodeIsSendable r.context.node)
           AreSendable (slots_seen found)
       go None e = tt
       go (Some x) e =
-          found_is (λ (x : Stored). AreSendable x.slots)
-          (λ x. x.serial == r.top.object.serial) n.heap x node.heap e
+          (found_is (ObjectIsSendable r.context.table)
+          (λ x. x.serial == r.top.object.serial) n.heap x node.heap e).slots
 
-  module _ (act : Acting) (small : TakesFew r.context.table)
-      (acts : KeepsSendable r.context.table act) where
+  module _ (act : Acting) (acts : KeepsSendable r.context.table act) where
     -- what becomes of the top invocation, by its state
     pub judged : (state : InvState) → HasSendableAnswer state →
-        VerdictIfSendable (state_rule act r state)
+        VerdictIfSendable r.context.table n.port (state_rule act r state)
     judged Running h =
-        act_sendable r small node top.locals (next_act act r)
+        act_sendable r small ok top.locals (next_act act r)
         (acts r.top (slots_seen (stored r.top.object.serial n.heap)) top.locals top.sixteen
         slots_there)
     judged (Answered (Given v outs)) h = h
@@ -263,27 +307,27 @@ module _ (r : RunContext) (node : NodeIsSendable r.context.node)
     judged (Waits call peer what) h = tt
 
     -- the effect of a verdict, where there is one
-    verdict_effect_if : (v : Option Verdict) → VerdictIfSendable v →
-        IfSendable (option_map (effect_of r) v)
+    verdict_effect_if : (v : Option Verdict) → VerdictIfSendable r.context.table n.port v →
+        IfSendable r.context.table n.port (option_map (effect_of r) v)
     verdict_effect_if None h = tt
     verdict_effect_if (Some v) h = verdict_effect v h
 
     -- what the state of the top invocation leads to
     stated : (state : InvState) → HasSendableAnswer state →
-        IfSendable (option_map (effect_of r) (state_rule act r state))
+        IfSendable r.context.table n.port (option_map (effect_of r) (state_rule act r state))
     stated state h = verdict_effect_if (state_rule act r state) (judged state h)
 
 -- a run, by the stack
-run_by : (act : Acting) (c : Context) → TakesFew c.table → KeepsSendable c.table act →
-    NodeIsSendable c.node →
-    (stack : List Invocation) → AllByRecursion InvocationIsSendable stack →
-    IfSendable (run_on act c stack)
-run_by act c small acts node [] h = tt
-run_by act c small acts node (i ∷ is) h =
-    stated (record { context = c; top = i; below = is }) node h.0 h.1 act small acts i.state
+run_by : (act : Acting) (c : Context) → HasMethods c.table → KeepsSendable c.table act →
+    ContextIsSendable c → (stack : List Invocation) →
+    AllByRecursion InvocationIsSendable stack →
+    IfSendable c.table c.node.port (run_on act c stack)
+run_by act c small acts ok [] h = tt
+run_by act c small acts ok (i ∷ is) h =
+    stated (record { context = c; top = i; below = is }) small ok h.0 h.1 act acts i.state
     h.0.answer
 
 -- a run
-pub run_sendable : (act : Acting) (c : Context) → TakesFew c.table → KeepsSendable c.table act →
-    NodeIsSendable c.node → IfSendable (run_effect act c)
-run_sendable act c small acts node = run_by act c small acts node c.node.stack node.stack
+pub run_sendable : (act : Acting) (c : Context) → HasMethods c.table → KeepsSendable c.table act →
+    ContextIsSendable c → IfSendable c.table c.node.port (run_effect act c)
+run_sendable act c small acts ok = run_by act c small acts ok c.node.stack ok.node.stack

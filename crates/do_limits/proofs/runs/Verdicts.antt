@@ -3,16 +3,20 @@ use Rattle.std.specs.Prelude.{length, ◌≤◌}
 use Rattle.std.proofs.Common.{◌≡◌, ℕ, Bool, true, false, cond, List, [], ◌∷◌}
 use Rattle.std.proofs.Common.{Err, Ok, Result, map, refl, ap, arith}
 use Rattle.std.specs.Prelude.{None, Option, Some}
-use Rattle.std.specs.List.{AllByRecursion}
+use Rattle.std.specs.List.{AllByRecursion, zip}
+use Rattle.std.proofs.lemmas.Slice.Zip.{length-zip}
 use Rattle.std.specs.Result.{result_ok}
 use Rattle.do_base.specs.declared.events.exception.Exc.{Exc}
 use Rattle.do_base.specs.declared.values.value.Value.{Value}
 use Rattle.do_base.specs.declared.values.value.Value.TheVariants.{Nil, Obj}
+use Rattle.do_class.specs.Class.{Class}
 use Rattle.do_class.specs.declared.packet.Packet.{Packet}
 use Rattle.do_sig.specs.Calls.{is_in, qualifier_of}
 use Rattle.do_sig.specs.declared.encoding.Encoding.{Encoding}
 use Rattle.do_packet.specs.Copies.{Placed}
+use Rattle.do_packet.specs.Limits.{KeepsLimits}
 use Rattle.do_packet.specs.Packing.{packed}
+use Rattle.do_packet.proofs.Keeping.{packed_keeps}
 use Rattle.do_packet.specs.declared.fault.PackFault.{PackFault}
 use Rattle.do_frames.specs.Exceptions.{exc_text}
 use Rattle.do_behave.specs.declared.act.Write.{Write}
@@ -29,53 +33,57 @@ use Rattle.do_machine.specs.State.{own}
 use Rattle.do_machine.specs.run.Acts.{root_value}
 use Rattle.do_machine.specs.run.Send.{input, inputs_by}
 use Rattle.do_machine.specs.run.Send.{outs_by}
-use Rattle.do_limits.specs.Sendable.{AreSendable, IsSendable, IsSendableExc, IsSendablePacket}
-use Rattle.do_limits.specs.SendableStates.{NodeIsSendable}
-use Rattle.do_limits.proofs.Effects.{slots_seen}
+use Rattle.do_limits.specs.Sendable.{AreSendable, IsOfTable, IsSendable, IsSendableExc}
+use Rattle.do_limits.specs.Sendable.{IsSendablePacket}
+use Rattle.do_limits.specs.SendableStates.{MessageIsSendable}
+use Rattle.do_limits.proofs.Senders.{ContextIsSendable, sender_sendable}
 use Rattle.do_limits.proofs.values.Packing.{packed_sendable}
 use Rattle.do_limits.proofs.values.Carried.{carry-Nil, carry-Obj}
 
--- the message of a request
-abbrev pub RequestIsSendable : Request → Type 0
-RequestIsSendable requests.Root = Unit {0}
-RequestIsSendable (requests.Call method m) = IsSendablePacket m.packet
+-- the message of a request to a peer
+abbrev pub RequestIsSendable : List Class → ℕ → ℕ → Request → Type 0
+RequestIsSendable table from to requests.Root = Unit {0}
+RequestIsSendable table from to (requests.Call method m) = MessageIsSendable table from to m
 
--- the values, the message or the exception of a verdict
-abbrev pub VerdictIsSendable : Verdict → Type 0
-VerdictIsSendable (Goes into value pc) = IsSendable value
-VerdictIsSendable (Uses value outs) = IsSendable value × AreSendable outs
-VerdictIsSendable (Steps pc locals handler writes) =
+-- the values, the class, the message or the exception of a verdict
+abbrev pub VerdictIsSendable : List Class → ℕ → Verdict → Type 0
+VerdictIsSendable table port (Goes into value pc) = IsSendable value
+VerdictIsSendable table port (Uses value outs) = IsSendable value × AreSendable outs
+VerdictIsSendable table port (Steps pc locals handler writes) =
     AreSendable locals × ((length locals ≡ 16)
     × AllByRecursion (λ w. IsSendable w.value) writes)
-VerdictIsSendable (Makes class into pc) = Unit {0}
-VerdictIsSendable (Vends root pc) = Unit {0}
-VerdictIsSendable (Says value pc) = Unit {0}
-VerdictIsSendable (Asks peer request into outs pc) = RequestIsSendable request
-VerdictIsSendable (Begins o method values into outs pc) =
+VerdictIsSendable table port (Makes class into pc) = IsOfTable table class
+VerdictIsSendable table port (Vends root pc) = Unit {0}
+VerdictIsSendable table port (Says value pc) = Unit {0}
+VerdictIsSendable table port (Asks peer request into outs pc) =
+    RequestIsSendable table port peer request
+VerdictIsSendable table port (Begins o method values into outs pc) =
     AreSendable values × (length values ≤ 16)
-VerdictIsSendable (Tells peer m into pc) = IsSendablePacket m.packet
-VerdictIsSendable (Returns value outs) = IsSendable value × AreSendable outs
-VerdictIsSendable (Fails e) = IsSendableExc e
+VerdictIsSendable table port (Tells peer m into pc) = MessageIsSendable table port peer m
+VerdictIsSendable table port (Returns value outs) = IsSendable value × AreSendable outs
+VerdictIsSendable table port (Fails e) = IsSendableExc e
 
 -- a verdict, where there is one
-abbrev pub VerdictIfSendable : Option Verdict → Type 0
-VerdictIfSendable None = Unit {0}
-VerdictIfSendable (Some v) = VerdictIsSendable v
+abbrev pub VerdictIfSendable : List Class → ℕ → Option Verdict → Type 0
+VerdictIfSendable table port None = Unit {0}
+VerdictIfSendable table port (Some v) = VerdictIsSendable table port v
 
 -- ---- rules one after another
 
--- a rule that a test decides
-pub unless : (b : Bool) (v w : Verdict) → VerdictIsSendable v → VerdictIsSendable w →
-    VerdictIsSendable (cond b v w)
-unless true v w h k = h
-unless false v w h k = k
+module _ (table : List Class) (port : ℕ) where
+  -- a rule that a test decides
+  pub unless : (b : Bool) (v w : Verdict) → VerdictIsSendable table port v →
+      VerdictIsSendable table port w → VerdictIsSendable table port (cond b v w)
+  unless true v w h k = h
+  unless false v w h k = k
 
--- a rule that decides where something lacks
-pub given : {X : Type 0} (found : Option X) (v : Verdict) (rest : X → Verdict) →
-    VerdictIsSendable v → ((x : X) → found ≡ Some x → VerdictIsSendable (rest x)) →
-    VerdictIsSendable (elim found [ None ↦ v | Some x ↦ rest x ])
-given None v rest h k = h
-given (Some x) v rest h k = k x refl
+  -- a rule that decides where something lacks
+  pub given : {X : Type 0} (found : Option X) (v : Verdict) (rest : X → Verdict) →
+      VerdictIsSendable table port v →
+      ((x : X) → found ≡ Some x → VerdictIsSendable table port (rest x)) →
+      VerdictIsSendable table port (elim found [ None ↦ v | Some x ↦ rest x ])
+  given None v rest h k = h
+  given (Some x) v rest h k = k x refl
 
 -- an exception without a text
 pub textless : (e : Exc) → exc_text e ≡ [] → IsSendableExc e
@@ -135,9 +143,21 @@ was_packed (Ok q) p e = ap Ok (cc)
 was_packed (Err x) p e = absurd (cc)
 
 -- a message of a node
-pub message_sendable : (c : Context) → NodeIsSendable c.node → (to : ℕ) (values : List Placed) →
-    AllByRecursion (λ q. IsSendable q.1) values → (p : Packet) →
-    packed_for c to values ≡ Some p → IsSendablePacket p
-message_sendable c node to values h p e =
-    packed_sendable (packer c) to c.node.next_token values h (slots_seen c node) p
+pub message_sendable : (c : Context) → ContextIsSendable c → (to : ℕ) (values : List Placed) →
+    AllByRecursion (λ q. IsSendable q.1) values → length values ≤ 9 → (p : Packet) →
+    packed_for c to values ≡ Some p → IsSendablePacket c.table c.node.port to p
+message_sendable c ok to values h few p e =
+    packed_sendable (packer c) to c.node.next_token values (sender_sendable c ok)
+    ok.node.numbers.1.1.0 h few p (was_packed (packed (packer c) to c.node.next_token values) p e)
+
+-- it keeps the limits
+pub message_keeps : (c : Context) (to : ℕ) (values : List Placed) (p : Packet) →
+    packed_for c to values ≡ Some p → KeepsLimits p
+message_keeps c to values p e =
+    packed_keeps (packer c) to c.node.next_token values p
     (was_packed (packed (packer c) to c.node.next_token values) p e)
+
+-- values at so many places are no more
+pub few_places : (marks : List Bool) (vs : List Value) → length marks ≤ 9 →
+    length (zip marks vs) ≤ 9
+few_places marks vs few = omega (arith, few, length-zip marks vs)

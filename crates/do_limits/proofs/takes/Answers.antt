@@ -1,6 +1,6 @@
 -- An answer that a node takes has only what a message can carry.
 use Rattle.std.proofs.Common.{◌&&◌, Bool, true, false, cond, List, [], ◌∷◌, map, refl}
-use Rattle.std.specs.Prelude.{None, Option, Some}
+use Rattle.std.specs.Prelude.{None, Option, Some, ℕ}
 use Rattle.do_base.specs.declared.events.exception.Exc.TheVariants.{TypeFault}
 use Rattle.do_base.specs.declared.values.value.Value.{Value}
 use Rattle.do_class.specs.Class.{Class}
@@ -58,16 +58,17 @@ state_answered answer h (Waits call peer what) k = h what
 state_answered answer h (Answered a) k = k
 
 -- a node that has an answer
-pub answered : (k : AnsweredCall) (answer : Waited → Answer) →
-    ((what : Waited) → AnswerIsSendable (answer what)) → (n : Node) → NodeIsSendable n →
-    EffectIsSendable (answering k answer n)
+pub answered : {table : List Class} {port : ℕ} → (k : AnsweredCall) (answer : Waited → Answer) →
+    ((what : Waited) → AnswerIsSendable (answer what)) → (n : Node) → NodeIsSendable table port n →
+    EffectIsSendable table port (answering k answer n)
 answered k answer h n ok =
     alone _ (record {
       heap = ok.heap;
       stack = each_changed InvocationIsSendable (λ i. awaits k i.state) (with_answer answer)
-          (λ i g. record {
+          (λ i e g. record {
             locals = g.locals;
             sixteen = g.sixteen;
             answer = state_answered answer h i.state g.answer;
           }) n.stack ok.stack;
+      numbers = ok.numbers;
     })

@@ -1,6 +1,7 @@
 -- An end that closes leaves and sends only what a message can carry.
-use Rattle.std.proofs.Common.{◌==◌, ℕ, Bool, true, false, cond, refl}
+use Rattle.std.proofs.Common.{not, List, ◌==◌, ℕ, Bool, true, false, cond, refl}
 use Rattle.do_base.specs.declared.events.exception.Exc.TheVariants.{ConnectionDied}
+use Rattle.do_class.specs.Class.{Class}
 use Rattle.do_behave.specs.declared.invocation.Answer.TheVariants.{Raised}
 use Rattle.do_behave.specs.declared.invocation.InvState.{InvState}
 use Rattle.do_behave.specs.declared.invocation.InvState.TheVariants.{Answered, Below, Running}
@@ -11,12 +12,12 @@ use Rattle.do_machine.specs.Effect.{each, queueing}
 use Rattle.do_machine.specs.ends.Closing.{asked_of, closing, died, parted, serials_of}
 use Rattle.do_machine.specs.ends.Closing.{without_answer}
 use Rattle.do_machine.specs.lend.Asking.{settling}
-use Rattle.do_limits.specs.SendableStates.{HasSendableAnswer}
+use Rattle.do_limits.specs.SendableStates.{AsksForOne, HasSendableAnswer, HasSerial}
 use Rattle.do_limits.specs.SendableStates.{InvocationIsSendable, NodeIsSendable}
 use Rattle.do_limits.proofs.Effects.{EffectIsSendable, each_sendable}
 use Rattle.do_limits.proofs.Effects.{queues, settles}
 use Rattle.do_limits.proofs.Effects.{then_sendable}
-use Rattle.do_limits.proofs.Lists.{each_mapped, each_weaker}
+use Rattle.do_limits.proofs.Lists.{each_filtered, each_mapped, each_of, each_weaker}
 use Rattle.do_limits.proofs.runs.Verdicts.{textless}
 
 -- an invocation that loses a peer
@@ -33,7 +34,8 @@ state_died peer (Waits call p what) h = go (p == peer)
     go false = tt
 
 -- a node that parts from a peer
-parts : (peer : ℕ) (n : Node) → NodeIsSendable n → NodeIsSendable (parted peer n)
+parts : {table : List Class} {port : ℕ} → (peer : ℕ) (n : Node) → NodeIsSendable table port n →
+    NodeIsSendable table port (parted peer n)
 parts peer n h = record {
   heap = h.heap;
   stack = each_mapped InvocationIsSendable (without_answer peer) n.stack
@@ -44,12 +46,28 @@ parts peer n h = record {
         answer = state_died peer i.state k.answer;
       }) n.stack
       h.stack);
+  numbers = (
+    h.numbers.0,
+    (
+      h.numbers.1.0,
+      (
+        h.numbers.1.1.0,
+        (
+          each_filtered HasSerial (λ o. not (o.node == peer)) n.held h.numbers.1.1.1.0,
+          each_filtered AsksForOne (λ w. not (w.object.node == peer)) n.asked h.numbers.1.1.1.1,
+        ),
+      ),
+    ),
+  );
 }
 
 -- an end that closes
-pub closes : (peer : ℕ) (n : Node) → NodeIsSendable n → EffectIsSendable (closing peer n)
+pub closes : {table : List Class} {port : ℕ} → (peer : ℕ) (n : Node) →
+    NodeIsSendable table port n → EffectIsSendable table port (closing peer n)
 closes peer n h =
     then_sendable (queueing peer (items.End (serials_of peer n.held)) (parted peer n))
     (each settling (asked_of peer n))
     (queues peer (items.End (serials_of peer n.held)) (parted peer n) tt (parts peer n h))
-    (λ m k. each_sendable settling settles (asked_of peer n) m k)
+    (λ m k.
+    each_sendable (λ w. Unit {0}) settling (λ w u. settles w) (asked_of peer n)
+    (each_of (λ w. Unit {0}) (λ w. tt) (asked_of peer n)) m k)

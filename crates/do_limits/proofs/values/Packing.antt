@@ -2,9 +2,8 @@
 use Rattle.std.proofs.Common.{◌≡◌, ◌-◌, ℕ, ℤ, Bool, true, false, cond, List as Listed, [], ◌∷◌}
 use Rattle.std.proofs.Common.{◌&&◌}
 use Rattle.std.proofs.Common.{Err, Ok, Result, length, map, refl, sym, ap, ◌∙◌, subst, rules, ◌^◌}
-use Rattle.std.specs.Prelude.{nat_le, nat_lt, ◌≤◌}
 use Rattle.std.proofs.Common.{arith}
-use Rattle.std.proofs.lemmas.Bool.Decides.{nat_tests}
+use Rattle.std.specs.Prelude.{nat_le, nat_lt, ◌≤◌}
 use Rattle.std.specs.List.{AllByRecursion, list_all}
 use Rattle.std.proofs.lemmas.Bool.{and_from, and_parts}
 use Rattle.std.proofs.lemmas.List.{length-map}
@@ -28,10 +27,13 @@ use Rattle.do_packet.specs.Seen.{Sender}
 use Rattle.do_packet.specs.declared.fault.PackFault.{PackFault}
 use Rattle.do_packet.specs.declared.role.Role.{Role}
 use Rattle.do_packet.specs.declared.role.Role.TheVariants.{Absent, Copied, Named}
-use Rattle.do_limits.specs.Sendable.{AreSendable, AreSendableParts, IsSendable, IsSendablePacket}
-use Rattle.do_limits.specs.Sendable.{can_carry, can_spell}
+use Rattle.do_limits.specs.Sendable.{AreSendableParts, CopyIsSendable, IsSendable}
+use Rattle.do_limits.specs.Sendable.{IsSendablePacket, NameIsSendable, can_carry, can_spell}
+use Rattle.do_packet.proofs.Keeping.{packed_keeps}
+use Rattle.do_facts.proofs.links.NamedInMessages.{all_nameable}
+use Rattle.do_limits.proofs.values.Naming.{IsOwn, SenderIsSendable, copies_own, copy_whole}
+use Rattle.do_limits.proofs.values.Naming.{each_named}
 use Rattle.do_limits.proofs.Lists.{each_zipped}
-use Rattle.do_limits.proofs.values.NamesCount.{few_names}
 use Rattle.do_limits.proofs.values.Carried.{carry-List, carry-Num, carry-Text}
 
 -- ---- parts, kind by kind
@@ -152,64 +154,58 @@ module _ (s : Sender) (C N : Listed ObjectName) where
   placed_spelled [] h = tt
   placed_spelled (q ∷ ps) h = (value_spelled q.0 q.1 8 h.0, placed_spelled ps h.1)
 
-  -- the slots of copies
-  copies_spelled : ((o : ObjectName) → AreSendable (slot_values s o)) →
-      (os : Listed ObjectName) →
-      AllByRecursion (λ c. AreSendableParts c.slots) (map (copied_of s C N) os)
-  copies_spelled slots [] = tt
-  copies_spelled slots (o ∷ os) = (
-    placed_spelled (slots_at s o)
-        (each_zipped IsSendable (marks s.table (s.seen.class_of o)) (slot_values s o) (slots o)),
-    copies_spelled slots os,
+  -- the copies
+  copies_spelled : (ok : SenderIsSendable s) (os : Listed ObjectName) →
+      AllByRecursion (IsOwn s ok) os →
+      AllByRecursion (CopyIsSendable s.table) (map (copied_of s C N) os)
+  copies_spelled ok [] h = tt
+  copies_spelled ok (o ∷ os) h = (
+    record {
+      slots = placed_spelled (slots_at s o)
+          (each_zipped IsSendable (marks s.table (s.seen.class_of o)) (slot_values s o)
+          (ok.slots o));
+      whole = copy_whole s ok C N o h.0;
+    },
+    copies_spelled ok os h.1,
   )
 
 -- ---- messages
 
 -- what passed two tests
 ok_only : (a b : Bool) (x y : PackFault) (q p : Packet) →
-    cond {A = Result Packet PackFault} a (Err x) (cond b (Err y) (Ok q)) ≡ Ok p →
-    (a ≡ false) × ((b ≡ false) × (p ≡ q))
+    cond {A = Result Packet PackFault} a (Err x) (cond b (Err y) (Ok q)) ≡ Ok p → p ≡ q
 ok_only true b x y q p e = absurd (cc)
 ok_only false true x y q p e = absurd (cc)
-ok_only false false x y q p e = (refl, (refl, cc))
-
--- a number that is not above another
-not_above : (a b : ℕ) → nat_lt a b ≡ false → b ≤ a
-not_above a b e = grind (arith, nat_tests, e)
+ok_only false false x y q p e = cc
 
 module _ (s : Sender) (to token : ℕ) (values : Listed Placed) where
-  -- what was packed has few copies, and is the message with these and the names of the values
+  -- what was packed is the message with its copies, and with the names of all that it has
   packed_is : (p : Packet) → packed s to token values ≡ Ok p →
-      (nat_lt most_copies (length (copies_of s values)) ≡ false)
-      × ((nat_lt most_weight (message_weight s values (copies_of s values)) ≡ false)
-      × (p ≡ packet_with s to token values (copies_of s values)
-      (names_with s values (copies_of s values))))
+      p ≡ packet_with s to token values (copies_of s values)
+      (names_with s values (copies_of s values))
   unfolding packed
   packed_is p e =
       ok_only (nat_lt most_copies (length (copies_of s values)))
       (nat_lt most_weight (message_weight s values (copies_of s values))) _ _ _ p e
 
-  module _ (sent : AllByRecursion (λ q. IsSendable q.1) values)
-      (slots : (o : ObjectName) → AreSendable (slot_values s o)) where
-    -- a message with these copies, and the names of all that it has
-    pub packet_sendable : (copies : Listed ObjectName) → length copies ≤ most_copies →
-        message_weight s values copies ≤ most_weight →
-        IsSendablePacket (packet_with s to token values copies (names_with s values copies))
-    packet_sendable copies few light =
-        let names = names_with s values copies in
-        record {
-          few = subst (λ n. n ≤ most_copies) (sym (length-map copies (copied_of s copies names)))
-              few;
-          names = few_names s to token values copies light;
-          values = placed_spelled s copies names values sent;
-          slots = copies_spelled s copies names slots copies;
-        }
-
-    -- what was packed
-    pub packed_sendable : (p : Packet) → packed s to token values ≡ Ok p → IsSendablePacket p
-    packed_sendable p e =
-        let C = copies_of s values in
-        let is = packed_is p e in
-        subst IsSendablePacket (sym is.1.1)
-        (packet_sendable C (not_above most_copies (length C) is.0)
-        (not_above most_weight (message_weight s values C) is.1.0))
+  -- what was packed of such values by such a sender
+  pub packed_sendable : SenderIsSendable s → 1 ≤ token →
+      AllByRecursion (λ q. IsSendable q.1) values → length values ≤ 9 → (p : Packet) →
+      packed s to token values ≡ Ok p → IsSendablePacket s.table s.node to p
+  packed_sendable ok first sent few p e =
+      let C = copies_of s values in
+      let N = names_with s values C in
+      let is = packed_is p e in
+      record {
+        limits = packed_keeps s to token values p e;
+        names = subst (λ (q : Packet). AllByRecursion (NameIsSendable s.table s.node to) q.names)
+            (sym is)
+            (each_named s ok to N (all_nameable s values C)
+            (record { names = []; token = token }) (tt, first)).0;
+        few = subst (λ (q : Packet). length q.values ≤ 9) (sym is)
+            (omega (arith, few, length-map values (part_at s C N)));
+        values = subst (λ (q : Packet). AreSendableParts q.values) (sym is)
+            (placed_spelled s C N values sent);
+        slots = subst (λ (q : Packet). AllByRecursion (CopyIsSendable s.table) q.copies) (sym is)
+            (copies_spelled s C N ok C (copies_own s ok values));
+      }

@@ -1,21 +1,36 @@
 -- A part of a message has a spelling where its places are there.
 use Rattle.std.proofs.Common.{◌≡◌, ◌-◌, ℕ, Bool, true, List as Listed, [], ◌∷◌, ◌&&◌, length, map}
 use Rattle.std.proofs.Common.{refl, sym, ap, ◌∙◌, rules}
-use Rattle.std.specs.Prelude.{nat_le, nat_lt}
+use Rattle.std.proofs.Common.{arith}
+use Rattle.std.specs.Prelude.{Some, get_or, nat_le, nat_lt, option_map, slice_get, suc, zero, ◌<◌}
+use Rattle.std.specs.Prelude.{◌≤◌}
 use Rattle.std.specs.List.{All, AllByRecursion, list_all}
 use Rattle.std.proofs.lemmas.Bool.{and_from, and_parts}
 use Rattle.std.proofs.lemmas.List.{length-map}
 use Rattle.std.proofs.lemmas.List.Elements.{recursion_from_All}
+use Rattle.do_class.specs.Class.{Class}
 use Rattle.do_class.specs.declared.packet.Copied.{Copied}
 use Rattle.do_class.specs.declared.packet.Packet.{Packet}
 use Rattle.do_class.specs.declared.packet.Part.{List, Part, the_lemmas}
 use Rattle.do_class.specs.declared.packet.Part.TheVariants.{Copy, Named}
+use Rattle.do_grammar.specs.OneSpelling.{FitsList}
+use Rattle.do_coder.specs.Packets.{IsCopied, most_copies, slot_counts}
 use Rattle.do_coder.specs.Parts.{IsPart, part_fits}
 use Rattle.do_coder.proofs.values.PartFacts.{fits-Copy, fits-Named, fits-Nil, fits-Num, fits-Text}
-use Rattle.do_packet.specs.Limits.{HasPlaces, KeepsLimits, places_within}
-use Rattle.do_limits.specs.Sendable.{ArePartsOf, AreSendableParts, IsSendablePacket, can_spell}
+use Rattle.do_packet.specs.Limits.{HasPlaces, places_within}
+use Rattle.do_limits.specs.Sendable.{AreSendableParts, CopyIsSendable}
+use Rattle.do_limits.specs.Sendable.{IsSendablePacket, can_spell}
 use Rattle.do_limits.proofs.values.Packing.{spell-List, spell-Num, spell-Text, tests}
 use Rattle.do_limits.proofs.values.Unpacking.{part_induction}
+
+-- there is a class of the table where a class has slots
+some_class : (table : Listed Class) (k count : ℕ) → option_map (λ slots. length slots)
+    (option_map (λ (c : Class). c.slots) (slice_get table k)) ≡ Some count →
+    (k < length (slot_counts table)) × (get_or (slot_counts table) k 0 ≡ count)
+some_class [] k count e = absurd (cc (e))
+some_class (c ∷ table) zero count e = (omega arith, cc (e))
+some_class (c ∷ table) (suc k) count e =
+    let h = some_class table k count e in (omega (arith, h.0), h.1)
 
 module _ (copies names : ℕ) where
   -- a list of parts fits by its items
@@ -83,26 +98,54 @@ module _ (copies names : ℕ) where
   parts_fit [] h p = tt
   parts_fit (x ∷ xs) h p = (part_fits_there x 8 h.0 p.0, parts_fit xs h.1 p.1)
 
-  -- the slots of copies
-  copies_fit : (cs : Listed Copied) → AllByRecursion (λ c. AreSendableParts c.slots) cs →
+  -- copies, of as many slots as their classes have
+  copies_fit : (table : Listed Class) (cs : Listed Copied) →
+      AllByRecursion (CopyIsSendable table) cs →
       AllByRecursion (λ c. All (λ x. places_within copies names x ≡ true) c.slots) cs →
-      AllByRecursion (λ c. AllByRecursion (IsPart copies names 8) c.slots) cs
-  copies_fit [] h p = tt
-  copies_fit (c ∷ cs) h p = (
-    parts_fit c.slots h.0
-        (recursion_from_All (λ x. places_within copies names x ≡ true) c.slots p.0),
-    copies_fit cs h.1 p.1,
-  )
+      AllByRecursion (IsCopied (slot_counts table) copies names) cs
+  copies_fit table [] h p = tt
+  copies_fit table (c ∷ cs) h p =
+      let at = some_class table c.class.0 (length c.slots) h.0.whole in (
+        (
+          at.0,
+          record {
+            at_least = omega (arith, at.1);
+            at_most = omega (arith, at.1);
+            each = parts_fit c.slots h.0.slots
+                (recursion_from_All (λ x. places_within copies names x ≡ true) c.slots p.0);
+          },
+        ),
+        copies_fit table cs h.1 p.1,
+      )
 
--- the values of a message
-pub values_spelled : (p : Packet) → IsSendablePacket p → KeepsLimits p → ArePartsOf p p.values
-values_spelled p h k =
-    parts_fit (length p.copies) (length p.names) p.values h.values
-    (recursion_from_All (HasPlaces p) p.values k.values)
+-- no more objects are copied than there may be where a class is there
+copies_few : (table : Listed Class) (cs : Listed Copied) → length cs ≤ 4096 →
+    AllByRecursion (CopyIsSendable table) cs → length cs ≤ most_copies (slot_counts table)
+copies_few [] [] few h = omega arith
+copies_few [] (c ∷ cs) few h = absurd (cc (h.0.whole))
+copies_few (k ∷ table) cs few h = few
 
--- the slots of its copies
-pub slots_spelled : (p : Packet) → IsSendablePacket p → KeepsLimits p →
-    AllByRecursion (λ c. ArePartsOf p c.slots) p.copies
-slots_spelled p h k =
-    copies_fit (length p.copies) (length p.names) p.copies h.slots
-    (recursion_from_All (λ c. All (HasPlaces p) c.slots) p.copies k.slots)
+-- The copies and the values of a message have a spelling for a reader of the same classes
+pub record HasSpelledParts (table : Listed Class) (p : Packet) : Type 0 where
+  pub copies : FitsList 0 (most_copies (slot_counts table)) (λ n.
+      AllByRecursion (IsCopied (slot_counts table) n (length p.names))) p.copies
+  pub values : FitsList 0 9 (λ n.
+      AllByRecursion (IsPart (length p.copies) (length p.names) 8)) p.values
+
+-- a message has a spelling but for its names
+pub message_spelled : (table : Listed Class) (from to : ℕ) (p : Packet) →
+    IsSendablePacket table from to p → HasSpelledParts table p
+message_spelled table from to p h = record {
+  copies = record {
+    at_least = omega arith;
+    at_most = copies_few table p.copies h.limits.copies h.slots;
+    each = copies_fit (length p.copies) (length p.names) table p.copies h.slots
+        (recursion_from_All (λ c. All (HasPlaces p) c.slots) p.copies h.limits.slots);
+  };
+  values = record {
+    at_least = omega arith;
+    at_most = h.few;
+    each = parts_fit (length p.copies) (length p.names) p.values h.values
+        (recursion_from_All (HasPlaces p) p.values h.limits.values);
+  };
+}

@@ -7,6 +7,7 @@ use Rattle.std.proofs.lemmas.Bool.{and_from, and_parts}
 use Rattle.std.proofs.lemmas.List.{length-map}
 use Rattle.do_base.specs.declared.values.value.Value.{List, Value}
 use Rattle.do_base.specs.declared.values.value.Value.TheVariants.{Nil, Num, Text}
+use Rattle.do_class.specs.Class.{Class}
 use Rattle.do_class.specs.declared.packet.Copied.{Copied}
 use Rattle.do_class.specs.declared.packet.Name.{Name}
 use Rattle.do_class.specs.declared.packet.Name.TheVariants.{Lent, Mine, Yours}
@@ -17,7 +18,8 @@ use Rattle.do_class.specs.declared.packet.Part.TheOpen.{Part-F}
 use Rattle.do_class.specs.declared.packet.Part.TheVariants as part
 use Rattle.do_packet.specs.Unpacking.{copy_at, made_of, name_value, name_values, unpacked, value_of}
 use Rattle.do_packet.specs.declared.receipt.Receipt.{Receipt}
-use Rattle.do_limits.specs.Sendable.{AreSendable, AreSendableParts, IsSendablePacket}
+use Rattle.do_limits.specs.Sendable.{AreSendable, AreSendableParts, CopyIsSendable, HasSlots}
+use Rattle.do_limits.specs.Sendable.{IsSendablePacket}
 use Rattle.do_limits.specs.Sendable.{can_carry, can_spell}
 use Rattle.do_limits.proofs.values.Packing.{spell-List, spell-Num, spell-Text, tests}
 use Rattle.do_limits.proofs.values.Carried.{carry-List, carry-Nil, carry-Num, carry-Obj, carry-Text}
@@ -167,14 +169,21 @@ module _ (r : Receipt) (named : Listed Value) (flat : AllByRecursion IsFlat name
   parts_carried (x ∷ xs) h = (part_carried x 8 h.0, parts_carried xs h.1)
 
   -- the slots of copies
-  copies_carried : (cs : Listed Copied) →
-      AllByRecursion (λ c. AreSendableParts c.slots) cs →
-      AllByRecursion (λ m. AreSendable m.slots) (map (made_of r named) cs)
-  copies_carried [] h = tt
-  copies_carried (c ∷ cs) h = (parts_carried c.slots h.0, copies_carried cs h.1)
+  copies_carried : (table : Listed Class) (cs : Listed Copied) →
+      AllByRecursion (CopyIsSendable table) cs →
+      AllByRecursion (λ m. AreSendable m.slots × HasSlots table m.class (length m.slots))
+      (map (made_of r named) cs)
+  copies_carried table [] h = tt
+  copies_carried table (c ∷ cs) h = (
+    (
+      parts_carried c.slots h.0.slots,
+      subst (HasSlots table c.class) (sym (length-map c.slots (value_of r named))) h.0.whole,
+    ),
+    copies_carried table cs h.1,
+  )
 
 module _ (r : Receipt) (entries open_home : Listed Bool) (p : Packet)
-    (ok : IsSendablePacket p) where
+    (table : Listed Class) (from to : ℕ) (ok : IsSendablePacket table from to p) where
   -- the values of the names
   abbrev named_in : Listed Value
   named_in = name_values r p.names entries open_home
@@ -185,7 +194,8 @@ module _ (r : Receipt) (entries open_home : Listed Bool) (p : Packet)
       parts_carried r named_in (names_flat r p.names entries open_home) p.values ok.values
 
   -- the slots of its copies
-  pub copies_come : AllByRecursion (λ m. AreSendable m.slots)
+  pub copies_come : AllByRecursion
+      (λ m. AreSendable m.slots × HasSlots table m.class (length m.slots))
       (unpacked r entries open_home p).copies
   copies_come =
-      copies_carried r named_in (names_flat r p.names entries open_home) p.copies ok.slots
+      copies_carried r named_in (names_flat r p.names entries open_home) table p.copies ok.slots

@@ -1,0 +1,3 @@
+pub mod MadeNumbers
+pub mod MadeLists
+pub mod Instructions

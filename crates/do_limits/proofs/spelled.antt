@@ -1,0 +1,9 @@
+pub mod Wires
+pub mod Given
+pub mod LentTokens
+pub mod TokenMoves
+pub mod Tokens
+pub mod ServedCalls
+pub mod CallMoves
+pub mod Calls
+pub mod ItemFrames

@@ -1,0 +1,238 @@
+-- The frame of each item on its way has a spelling, while the numbers are small.
+use Rattle.std.proofs.Common.{◌≡◌, ◌<◌, ◌≤◌, ℕ, List, [], ◌∷◌, length, map}
+use Rattle.std.proofs.Common.{arith, refl}
+use Rattle.do_limits.proofs.Lists.{each_weaker}
+use Rattle.std.specs.Prelude.{None, Option, Some, nat_lt, true}
+use Rattle.std.specs.List.{All, AllByRecursion}
+use Rattle.std.proofs.lemmas.Bool.Decides.{nat_tests}
+use Rattle.std.proofs.lemmas.List.{length-map}
+use Rattle.std.proofs.lemmas.List.Elements.{recursion_from_All}
+use Rattle.do_base.specs.names.Names.{ObjectName, TokenName}
+use Rattle.do_sched.specs.Good.{IsPort}
+use Rattle.do_frames.specs.Frames.{IsToken}
+use Rattle.do_class.specs.Class.{Class}
+use Rattle.do_class.specs.declared.packet.Name.{Name}
+use Rattle.do_class.specs.declared.packet.Name.TheVariants.{Lent, Mine, Yours}
+use Rattle.do_class.specs.declared.packet.Packet.{Packet}
+use Rattle.do_coder.specs.Names.{IsName}
+use Rattle.do_coder.specs.Recent.{IsSerial}
+use Rattle.do_frames.specs.Selectors.{IsSelector}
+use Rattle.do_machine.specs.declared.item.Message.{Message}
+use Rattle.do_machine.specs.Objects.{object_at}
+use Rattle.do_coder.specs.Packets.{IsPacket, sides_of, surroundings}
+use Rattle.do_machine.specs.declared.item.Item.{Item}
+use Rattle.do_machine.specs.declared.item.Item.TheVariants as items
+use Rattle.do_machine.specs.declared.node.Node.{Node}
+use Rattle.do_machine.specs.declared.state.State.{State}
+use Rattle.do_machine.specs.Items.{Mentioned, Naming, name_naming, names, naming, packet_names}
+use Rattle.do_machine.specs.Lists.{some_passes}
+use Rattle.do_machine.specs.State.{node, queue}
+use Rattle.do_facts.specs.View.{net_of, part_seen}
+use Rattle.do_facts.specs.calls.Calls.{calls, atoms as call_atoms}
+use Rattle.do_facts.specs.Made.{NamedAreMade, was_made}
+use Rattle.do_facts.specs.links.Links.{atoms, links, packet_atoms}
+use Rattle.do_limits.specs.Numbers.{AllNumbersWithin}
+use Rattle.do_limits.specs.Sendable.{IsSendablePacket, NameIsSendable}
+use Rattle.do_limits.specs.SendableStates.{HasSerial, ItemIsSendable, MessageIsSendable}
+use Rattle.do_limits.specs.SendableStates.{StateIsSendable}
+use Rattle.do_limits.specs.Spelled.{ItemIsSpelled}
+use Rattle.do_limits.proofs.spelled.CallMoves.{CallsGiven}
+use Rattle.do_limits.proofs.spelled.Calls
+use Rattle.do_limits.proofs.spelled.LentTokens.{NameGiven, TokenGiven, names_given}
+use Rattle.do_limits.proofs.spelled.ServedCalls.{AtomGiven}
+use Rattle.do_limits.proofs.spelled.TokenMoves.{TokensGiven}
+use Rattle.do_limits.proofs.spelled.Tokens
+use Rattle.do_limits.proofs.states.States.{node_sendable, queue_sendable}
+use Rattle.do_limits.proofs.values.Spelling.{message_spelled}
+
+-- What is known of a state's numbers: objects that are named were made, and tokens and numbers of
+-- calls were given
+pub record NumbersKept (S : State) : Type 0 where
+  pub made : NamedAreMade S
+  pub lent : TokensGiven (net_of links S)
+  pub given : CallsGiven (net_of calls S)
+
+module _ (table : List Class) (S : State) (ok : StateIsSendable table S) (count : ℕ)
+    (within : AllNumbersWithin count S) (few : count < 70368744177664) where
+  -- an object that was made
+  abbrev IsMade : ObjectName → Type 0
+  IsMade o = was_made S o ≡ true
+
+  -- so was each that is named
+  abbrev AreMade : List Naming → Type 0
+  AreMade xs = AllByRecursion (λ (x : Naming). IsMade x.object) xs
+
+  -- it has a small serial
+  made_small : (o : ObjectName) → IsMade o → o.serial ≤ 9223372036854775807
+  made_small o h = go (node S o.node) refl h
+    where
+      go : (found : Option Node) → node S o.node ≡ found →
+          some_passes (λ n. nat_lt o.serial n.next_serial) found ≡ true →
+          o.serial ≤ 9223372036854775807
+      go None q e = absurd (cc (e))
+      go (Some n) q e =
+          let below : o.serial < n.next_serial = grind (arith, nat_tests, e) in
+          omega (arith, few, below, (within o.node n q).serial)
+
+  -- a token that a node gave
+  abbrev G : ℕ → ℕ → Type 0
+  G = Tokens.Given (net_of links S)
+
+  -- it is small
+  token_small : (port k : ℕ) → G port k → IsSerial k
+  token_small port k h = (h.0, go (node S port) refl h.1)
+    where
+      go : (found : Option Node) → node S port ≡ found →
+          k < (part_seen links found).token → k ≤ 9223372036854775807
+      go None q lt = absurd (omega (arith, lt))
+      go (Some n) q lt = omega (arith, few, lt, (within port n q).token)
+
+  -- the node that gave it stands at a port
+  lender_port : (port k : ℕ) → G port k → IsPort port
+  lender_port port k h = go (node S port) refl h.1
+    where
+      go : (found : Option Node) → node S port ≡ found →
+          k < (part_seen links found).token → IsPort port
+      go None q lt = absurd (omega (arith, lt))
+      go (Some n) q lt = (node_sendable table S ok port n q).1
+
+  -- the number of a call that a node gave is small
+  number_small : (port k : ℕ) → Calls.Given (net_of calls S) port k → IsSerial k
+  number_small port k h = (h.0, go (node S port) refl h.1)
+    where
+      go : (found : Option Node) → node S port ≡ found →
+          k < (part_seen calls found).next → k ≤ 9223372036854775807
+      go None q lt = absurd (omega (arith, lt))
+      go (Some n) q lt = omega (arith, few, lt, (within port n q).call)
+
+  -- an object under a token
+  token_fits : (o : ObjectName) (t : TokenName) → HasSerial o → IsMade o → G t.lender t.number →
+      IsToken o.serial t
+  token_fits o t one made given = (
+    (one, made_small o made),
+    (lender_port t.lender t.number given, token_small t.lender t.number given),
+  )
+
+  module _ (from to : ℕ) where
+    -- a name
+    name_fits : (x : Name) → NameIsSendable table from to x →
+        IsMade (name_naming from to x).object → NameGiven G from x →
+        IsName (sides_of (surroundings table from to)) x
+    name_fits (Mine serial class) h made given = (
+      (h.0, made_small (name_naming from to (Mine serial class)).object made),
+      omega (arith, h.1, length-map table (λ (c : Class). length c.slots)),
+    )
+    name_fits (Yours serial) h made given =
+        (h, made_small (name_naming from to (Yours serial)).object made)
+    name_fits (Lent o class token) h made given = (
+      h.0,
+      (
+        (h.1.0, made_small o made),
+        (
+          omega (arith, h.1.1.0, length-map table (λ (c : Class). length c.slots)),
+          token_small from token given,
+        ),
+      ),
+    )
+
+    -- names one behind the other
+    names_fit : (xs : List Name) → AllByRecursion (NameIsSendable table from to) xs →
+        AreMade (map (name_naming from to) xs) → AllByRecursion (NameGiven G from) xs →
+        AllByRecursion (IsName (sides_of (surroundings table from to))) xs
+    names_fit [] h made given = tt
+    names_fit (x ∷ xs) h made given =
+        (name_fits x h.0 made.0 given.0, names_fit xs h.1 made.1 given.1)
+
+    -- a message
+    packet_fits : (p : Packet) → IsSendablePacket table from to p →
+        AreMade (packet_names from to p) →
+        AllByRecursion (TokenGiven G from to) (packet_atoms p) →
+        IsPacket (surroundings table from to) p
+    packet_fits p h made given =
+        let parts = message_spelled table from to p h in
+        record {
+          names = record {
+            at_least = omega arith;
+            at_most = h.limits.names;
+            each = names_fit p.names h.names made (names_given G from to p.names given);
+          };
+          copies = parts.copies;
+          values = parts.values;
+        }
+
+    -- a message to an object
+    message_fits : (m : Message) → MessageIsSendable table from to m →
+        AreMade (naming Mentioned to m.target ∷ packet_names from to m.packet) →
+        AllByRecursion (TokenGiven G from to) (packet_atoms m.packet) →
+        IsSerial m.target
+        × (IsSelector m.selector × IsPacket (surroundings table from to) m.packet)
+    message_fits m h made given = (
+      (h.target, made_small (object_at to m.target) made.0),
+      (h.selector, packet_fits m.packet h.packet made.1 given),
+    )
+
+    -- the token of an item was given
+    abbrev TokensOf : Item → Type 0
+    TokensOf item = AllByRecursion (TokenGiven G from to) (atoms item)
+
+    -- the number of an item's call was
+    abbrev NumbersOf : Item → Type 0
+    NumbersOf item =
+        AllByRecursion (AtomGiven (Calls.Given (net_of calls S)) from to) (call_atoms item)
+
+    -- an item
+    item_fits : (item : Item) → ItemIsSendable table from to item →
+        AreMade (names from to item) → TokensOf item → NumbersOf item →
+        ItemIsSpelled (surroundings table from to) item
+    item_fits (items.Call number m) h made lent calls =
+        (number_small from number calls.0, message_fits m h made lent.1)
+    item_fits (items.Oneway m) h made lent calls = message_fits m h made lent.1
+    item_fits (items.Reply number packet) h made lent calls =
+        (number_small to number calls.0, packet_fits packet h made lent)
+    item_fits (items.Raised number e) h made lent calls = (number_small to number calls.0, h)
+    item_fits (items.RootAsk number) h made lent calls = number_small from number calls.0
+    item_fits (items.RootAnswer number packet) h made lent calls =
+        (number_small to number calls.0, packet_fits packet h made lent)
+    item_fits (items.Ask serial t) h made lent calls =
+        token_fits (object_at to serial) t h made.0 lent.0
+    item_fits (items.Granted serial t) h made lent calls =
+        token_fits (object_at from serial) t h made.0 lent.0
+    item_fits (items.Gone serial t) h made lent calls =
+        token_fits (object_at from serial) t h made.0 lent.0
+    item_fits (items.Left serial) h made lent calls =
+        λ amount k. ((h, made_small (object_at to serial) made.0), k)
+    item_fits (items.Settled number) h made lent calls = token_small to number lent.0
+    item_fits (items.End serials) h made lent calls = tt
+
+    -- items one behind the other
+    items_fit : (waiting : List Item) → AllByRecursion (ItemIsSendable table from to) waiting →
+        AllByRecursion (λ item. AreMade (names from to item)) waiting →
+        AllByRecursion TokensOf waiting → AllByRecursion NumbersOf waiting →
+        AllByRecursion (ItemIsSpelled (surroundings table from to)) waiting
+    items_fit [] h made lent calls = tt
+    items_fit (item ∷ waiting) h made lent calls = (
+      item_fits item h.0 made.0 lent.0 calls.0,
+      items_fit waiting h.1 made.1 lent.1 calls.1,
+    )
+
+    -- what was made of all, by recursion
+    by_recursion : (waiting : List Item) →
+        All (λ item. All (λ x. IsMade x.object) (names from to item)) waiting →
+        AllByRecursion (λ item. AreMade (names from to item)) waiting
+    by_recursion waiting h =
+        each_weaker (λ item. All (λ (x : Naming). IsMade x.object) (names from to item))
+        (λ item. AreMade (names from to item))
+        (λ item k. recursion_from_All (λ (x : Naming). IsMade x.object) (names from to item) k)
+        waiting
+        (recursion_from_All (λ item. All (λ (x : Naming). IsMade x.object) (names from to item))
+        waiting h)
+
+    -- all that waits between two nodes
+    pub waiting_spelled : NumbersKept S → (waiting : List Item) →
+        queue S from to ≡ Some waiting →
+        AllByRecursion (ItemIsSpelled (surroundings table from to)) waiting
+    waiting_spelled facts waiting e =
+        items_fit waiting (queue_sendable table S ok from to waiting e)
+        (by_recursion waiting (facts.made.waiting from to waiting e))
+        (Tokens.items_given S facts.lent from to waiting e)
+        (Calls.items_given S facts.given from to waiting e)
