@@ -63,7 +63,7 @@ greet l = record l { greeted = true }
 
 -- the pieces of a frame, by whether the stream has begun
 abbrev pieces_by : Frame → Link → Bool → List Piece
-pieces_by f l greeted = let framed = Framed (raw l.sent f) in
+pieces_by f l greeted = let framed = Framed f (raw l.sent f) in
     cond greeted (framed ∷ []) (Greeting ∷ framed ∷ [])
 
 -- pieces that are sent to a peer
@@ -101,7 +101,7 @@ greeting_first links x xs l found new =
 
     -- the frame, to the peer
     framed : Sending
-    framed = record { to = x.to; piece = Framed (raw l.sent x.frame) }
+    framed = record { to = x.to; piece = Framed x.frame (raw l.sent x.frame) }
 
     -- an outbox that sends the greeting first
     with_greeting : Outbox → Outbox
@@ -128,7 +128,7 @@ pub frame_first : (links : List Link) (x : Posted) (xs : List Posted) (l : Link)
     all_sent links (x ∷ xs) ≡ record {
       links = (all_sent (change_link x.to
           (λ k. record k { sent = after_frame k.sent x.frame }) links) xs).links;
-      sent = record { to = x.to; piece = Framed (raw l.sent x.frame) }
+      sent = record { to = x.to; piece = Framed x.frame (raw l.sent x.frame) }
           ∷ (all_sent (change_link x.to
           (λ k. record k { sent = after_frame k.sent x.frame }) links) xs).sent;
     }
@@ -147,7 +147,7 @@ frame_first links x xs l found begun =
 
     -- the frame, to the peer
     framed : Sending
-    framed = record { to = x.to; piece = Framed (raw l.sent x.frame) }
+    framed = record { to = x.to; piece = Framed x.frame (raw l.sent x.frame) }
 
     -- an outbox that sends the frame first
     with_frame : Outbox → Outbox
@@ -213,7 +213,7 @@ module _ (ends : List End) (x : Outgoing) (xs : List Outgoing) (at : ℕ) (e f :
       f ≡ record e { sent = after_frame e.sent x.frame } →
       outbox_of ends (x ∷ xs) ≡ record {
         links = (outbox_of (slice_set ends at f) xs).links;
-        sent = record { to = e.peer; piece = Framed (raw e.sent x.frame) }
+        sent = record { to = x.to; piece = Framed x.frame (raw e.sent x.frame) }
             ∷ (outbox_of (slice_set ends at f) xs).sent;
       }
   next_spells begun is =
@@ -223,10 +223,7 @@ module _ (ends : List End) (x : Outgoing) (xs : List Outgoing) (at : ℕ) (e f :
         links = (all_sent (changed ends x.to at e f place there
             (λ k. record k { sent = after_frame k.sent x.frame })
             (sym (ap link_of is)) j) (map posted_of xs)).links;
-        sent = record {
-          to = sym (to_peer ends x.to at e f place there) j;
-          piece = Framed (raw e.sent x.frame);
-        }
+        sent = record { to = x.to; piece = Framed x.frame (raw e.sent x.frame) }
             ∷ (all_sent (changed ends x.to at e f place there
             (λ k. record k { sent = after_frame k.sent x.frame })
             (sym (ap link_of is)) j) (map posted_of xs)).sent;

@@ -1,5 +1,5 @@
 -- Links whose names that were read lately change, beside what is sent over them.
-use Rattle.std.proofs.Common.{◌≡◌, ℕ, Bool, true, false, cond, List, [], ◌∷◌, ◌++◌, Option, Some}
+use Rattle.std.proofs.Common.{◌≡◌, ℕ, List, [], ◌∷◌, ◌++◌, Option, Some}
 use Rattle.std.proofs.Common.{None, refl, ap, sym, ◌∙◌}
 use Rattle.std.proofs.Common.{map, subst, ◌==◌}
 use Rattle.std.specs.Prelude.{fold, find, option_map, slice_get, slice_set, unwrap_or, suc, zero}
@@ -133,16 +133,6 @@ pub all_behind : {X : Type 0} (P : X → Type 0) (xs : List X) (x : X) → AllBy
     AllByRecursion P (xs ++ x ∷ [])
 all_behind P [] x all p = (p, tt)
 all_behind P (y ∷ ys) x all p = (all.0, all_behind P ys x all.1 p)
-
--- what all are is the first that passes a test
-pub all_found : {X : Type 0} (P : X → Type 0) (test : X → Bool) (xs : List X) (x : X) →
-    AllByRecursion P xs → find test xs ≡ Some x → P x
-all_found P test [] x all e = absurd (cc)
-all_found P test (y ∷ ys) x all e =
-    elim (test y) as (λ b. cond b (Some y) (find test ys) ≡ Some x → P x) [
-      | true ↦ λ h. let same : y ≡ x = cc in subst P same all.0
-      | false ↦ λ h. all_found P test ys x all.1 h
-    ] e
 
 -- the names of an end are those of its link
 pub names_found : (ends : List End) (from : ℕ) (e : End) →

@@ -46,7 +46,7 @@ module _ (ends later : List End) (was mid : List Outgoing) (x : Outgoing) (xs : 
   -- the oldest frame of a stream that has begun
   pub frame_next : (s : Sending) → e.greeted ≡ true →
       f ≡ record e { sent = after_frame e.sent x.frame } →
-      s ≡ record { to = e.peer; piece = Framed (raw e.sent x.frame) } →
+      s ≡ record { to = x.to; piece = Framed x.frame (raw e.sent x.frame) } →
       SendsFirst (outbox_of ends was) (outbox_of later xs) s
   frame_next s begun is it =
       let g = next_spells ends x xs at e f place there begun is in

@@ -39,13 +39,13 @@ pub popped : {X : Type 0} (was later : Reserved X) (r : Option X) (x : X) →
     slice_get was.items 0 ≡ Some x →
     MatchOption r ((was.items ≡ []) × (later ≡ was))
     (λ y. (was.items ≡ y ∷ later.items) × (later.spare ≡ was.spare + 1)) →
-    (was.items ≡ x ∷ later.items) × (later.spare ≡ was.spare + 1)
+    (r ≡ Some x) × (was.items ≡ x ∷ later.items) × (later.spare ≡ was.spare + 1)
 popped was later None x e n =
     let none : None ≡ Some x = ap (λ xs. slice_get xs 0) (sym n.0) ∙ e in absurd (cc)
 popped was later (Some y) x e n =
     let same : Some y ≡ Some x = ap (λ xs. slice_get xs 0) (sym n.0) ∙ e in
     let one : y ≡ x = cc in
-    (n.0 ∙ ap (λ v. v ∷ later.items) one, n.1)
+    (ap Some one, n.0 ∙ ap (λ v. v ∷ later.items) one, n.1)
 
 -- a fact holds where a call failed
 pub on_err : {A E : Type 0} {P : Type 0} (r : Result A E) → P → OnErr r P

@@ -1,5 +1,6 @@
 -- Bytes that were spelled, read as what they are in a stream.
-use Rattle.std.proofs.Common.{◌≡◌, ℕ, List, false, ap, sym, ◌∙◌}
+use Rattle.std.proofs.Common.{◌≡◌, ℕ, List, Some, ap, sym, ◌∙◌}
+use Rattle.do_frames.specs.declared.frame.Frame.{Frame}
 use Rattle.do_frames.specs.declared.frame.RawFrame.{RawFrame}
 use Rattle.do_frames.specs.Frames.{raw_spelling}
 use Rattle.do_network.specs.Links.{piece_bytes}
@@ -10,6 +11,6 @@ pub frame_spelled : (bytes : List ℕ) (f : RawFrame) → bytes ≡ raw_spelling
 frame_spelled bytes f e = ap frame_in e
 
 -- the spelling of a frame is the bytes of what it is in a stream
-pub bytes_spelled : (bytes : List ℕ) (f : RawFrame) → bytes ≡ raw_spelling f →
-    bytes ≡ piece_bytes (piece_in false bytes)
-bytes_spelled bytes f e = e ∙ sym (ap raw_spelling (frame_spelled bytes f e))
+pub bytes_spelled : (bytes : List ℕ) (frame : Frame) (f : RawFrame) → bytes ≡ raw_spelling f →
+    bytes ≡ piece_bytes (piece_in (Some frame) bytes)
+bytes_spelled bytes frame f e = e ∙ sym (ap raw_spelling (frame_spelled bytes f e))

@@ -1,5 +1,6 @@
 -- Bytes as what they are in a stream.
-use Rattle.std.specs.Prelude.{Bool, List, drop, get_or, if◌then◌else◌, ℕ}
+use Rattle.std.specs.Prelude.{List, None, Option, Some, drop, get_or, ℕ}
+use Rattle.do_frames.specs.declared.frame.Frame.{Frame}
 use Rattle.do_frames.specs.declared.frame.RawFrame.{RawFrame}
 use Rattle.do_network.specs.Links.{Framed, Greeting, Piece}
 
@@ -7,6 +8,7 @@ use Rattle.do_network.specs.Links.{Framed, Greeting, Piece}
 abbrev pub frame_in : List ℕ → RawFrame
 frame_in bytes = record { kind = get_or bytes 0 0; payload = drop 5 bytes }
 
--- what bytes are in a stream: the greeting, or a frame
-abbrev pub piece_in : Bool → List ℕ → Piece
-piece_in greets bytes = if greets then Greeting else Framed (frame_in bytes)
+-- what bytes are in a stream: a frame, or the greeting where they are of none
+abbrev pub piece_in : Option Frame → List ℕ → Piece
+piece_in None bytes = Greeting
+piece_in (Some f) bytes = Framed f (frame_in bytes)

@@ -33,7 +33,7 @@ outbox_of ends frames = all_sent (map link_of ends) (map posted_of frames)
 
 -- what is sent, as it was spelled
 abbrev pub sending_of : Spelled → Sending
-sending_of s = record { to = s.to; piece = piece_in s.greets s.bytes }
+sending_of s = record { to = s.to; piece = piece_in s.frame s.bytes }
 
 -- what is sent first, where it is spelled already
 abbrev pub spelled_first : Option Spelled → List Sending

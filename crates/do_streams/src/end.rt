@@ -3,6 +3,7 @@ ghost use Rattle.std.specs.Prelude.{position, true};
 ghost use Rattle.do_frames.specs.Frames.{after_frame, frame_spelling};
 ghost use Rattle.do_frames.specs.Streams.{hello};
 
+use crate::names::Names;
 use do_base::{Items, NodeId, Text};
 use do_coder::Recent;
 use do_frames::{Frame, write_within};
@@ -19,7 +20,7 @@ pub struct End {
     /// The names that the frames named lately that were fetched.
     pub sent: Recent,
     /// The names that the peer's frames named lately.
-    pub read: Recent,
+    pub read: Names,
     /// Whether the greeting was fetched.
     pub greeted: bool,
 }
@@ -56,7 +57,7 @@ impl End {
         End {
             peer,
             sent: Recent::new(alloc),
-            read: Recent::new(alloc),
+            read: Names::new(alloc),
             greeted: false,
         }
     }
@@ -68,11 +69,19 @@ impl End {
         self.greeted = true;
     }
 
+    /// Hands out the table of the names that the peer's frames named lately. The end is unchanged.
+    pub fn hand_out_names(&mut self) -> Result<Recent, AllocError>
+        ensures names { IfOk result (λ names. names ≡ self.old.read) }
+        ensures same { self.new ≡ self.old }
+    {
+        self.read.hand_out()
+    }
+
     /// The names that the peer's frames named lately are these.
     pub fn put_names(&mut self, names: Recent)
         ensures { self.new ≡ record self.old { read = names } }
     {
-        self.read = names;
+        self.read.put(names);
     }
 
     /// Spells a frame by the names that were sent before. If memory runs out, or the payload is

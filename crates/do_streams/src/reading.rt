@@ -58,8 +58,8 @@ fn read_by(
     read_raw(alloc, table, from, to, names, raw)
 }
 
-/// The frame that a raw frame spells whose kind carries a packet, by a copy of the names that were
-/// named lately.
+/// The frame that a raw frame spells whose kind carries a packet, by the table of the names that
+/// were named lately, which is given back with the names of the frame.
 pub fn read_with_names(
     alloc: Global,
     table: &ClassTable,

@@ -1,8 +1,9 @@
 //! The oldest frame that waits, spelled.
-ghost use Rattle.std.specs.Prelude.{◌≡◌, ◌≤◌, ◌<◌, ◌+◌, ◌++◌, ◌∷◌, ◌==◌, [], IfOk, IsNone};
+ghost use Rattle.std.specs.Prelude.{◌≡◌, ◌≤◌, ◌<◌, ◌+◌, ◌++◌, ◌∷◌, ◌==◌, [], IfOk, IsNone, List};
 ghost use Rattle.std.specs.Prelude.{MatchOption, None, OnErr, length};
 ghost use Rattle.std.specs.Prelude.{OnOk, Some, position, slice_get, true, ℕ};
-ghost use Rattle.do_frames.specs.Frames.{after_frame, raw};
+ghost use Rattle.do_coder.specs.declared.recent.pair.Pair.{Pair};
+ghost use Rattle.do_frames.specs.Frames.{frame_spelling, raw};
 ghost use Rattle.do_network.specs.Links.{Framed, Greeting};
 ghost use Rattle.do_streams.specs.Reading.{AllKnown};
 ghost use Rattle.do_streams.specs.Streamed.{outbox_of, sending_of, spelled_first};
@@ -11,16 +12,23 @@ ghost use Rattle.do_streams.specs.declared.end.Outgoing.{Outgoing};
 
 use crate::end::{End, Outgoing, end_at, greeting};
 use crate::spelled::Spelled;
-use do_base::{Items, Reserved};
-use do_frames::Frame;
+use do_base::{Items, Reserved, Text};
 use std::alloc::{AllocError, Global};
 
 /// Takes out the oldest frame that waits.
+fn take_front(frames: &mut Reserved<Outgoing>) -> Option<Outgoing>
+    ensures { (x : Outgoing) → slice_get frames.old.items 0 ≡ Some x → (result ≡ Some x)
+        × (frames.old.items ≡ x ∷ frames.new.items) × (frames.new.spare ≡ frames.old.spare + 1) }
+{
+    frames.pop_front()
+}
+
+/// Drops the oldest frame that waits.
 fn skip_front(frames: &mut Reserved<Outgoing>)
     ensures { (x : Outgoing) → slice_get frames.old.items 0 ≡ Some x
         → (frames.old.items ≡ x ∷ frames.new.items) × (frames.new.spare ≡ frames.old.spare + 1) }
 {
-    frames.pop_front();
+    let _dropped = take_front(frames);
 }
 
 /// Whether the greeting over an end was fetched.
@@ -61,25 +69,23 @@ fn spell_greeting(alloc: Global, end: &mut End) -> Result<Spelled, AllocError>
     end.greet();
     Ok(Spelled {
         to: end.peer,
-        greets: true,
+        frame: None,
         bytes,
     })
 }
 
-/// Spells a frame over an end, by the names that were sent before.
-fn spell_frame(alloc: Global, end: &mut End, frame: &Frame) -> Result<Spelled, AllocError>
-    ensures spelled { IfOk result (λ s. sending_of s
-        ≡ record { to = end.old.peer; piece = Framed (raw end.old.sent frame.now) }) }
-    ensures end { OnOk result
-        (end.new ≡ record end.old { sent = after_frame end.old.sent frame.now }) }
-    ensures err { OnErr result (end.new ≡ end.old) }
+/// A frame with its peer, spelled by names that were sent before.
+fn spelled_frame(next: Outgoing, bytes: Text) -> Spelled
+    requires { (names : List Pair) × (bytes ≡ frame_spelling names next.frame) }
+    ensures { (names : List Pair) → bytes ≡ frame_spelling names next.frame → sending_of result
+        ≡ record { to = next.to; piece = Framed next.frame (raw names next.frame) } }
 {
-    let bytes = end.spell(alloc, frame)?;
-    Ok(Spelled {
-        to: end.peer,
-        greets: false,
+    let Outgoing { to, frame } = next;
+    Spelled {
+        to,
+        frame: Some(frame),
         bytes,
-    })
+    }
 }
 
 /// Spells what is to be fetched next: the oldest frame that waits, or the greeting before it. None
@@ -108,9 +114,11 @@ fn spell_next(
     let Some(next) = frames.front() else {
         return Ok(None);
     };
-    let spelled = spell_frame(alloc, ends.at_mut(at), &next.frame)?;
-    skip_front(frames);
-    Ok(Some(spelled))
+    let bytes = ends.at_mut(at).spell(alloc, &next.frame)?;
+    let Some(taken) = take_front(frames) else {
+        unreachable!();
+    };
+    Ok(Some(spelled_frame(taken, bytes)))
 }
 
 /// Spells what is to be fetched next, if that is not done: then nothing is spelled exactly where no

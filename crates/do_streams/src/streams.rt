@@ -1,16 +1,19 @@
 //! The streams between a site and its peers.
 mod reading;
 
-ghost use Rattle.std.specs.Prelude.{◌≡◌, ◌≤◌, ◌+◌, ◌<◌, ◌++◌, ◌∷◌, [], IfOk, MatchOption, OnErr};
-ghost use Rattle.std.specs.Prelude.{OnOk, map};
+ghost use Rattle.std.specs.Prelude.{◌≡◌, ◌≤◌, ◌+◌, ◌<◌, ◌++◌, ◌∷◌, [], IfOk, IfSome, MatchOption};
+ghost use Rattle.std.specs.Prelude.{None, OnErr, OnOk, map};
 ghost use Rattle.do_network.specs.Links.{Sending, piece_bytes, sending};
 ghost use Rattle.do_network.specs.Net.{opening_link};
-ghost use Rattle.do_streams.specs.Streamed.{link_of, outbox, sending_of};
+ghost use Rattle.do_network.specs.Spelled.{IsSpelledSending};
+ghost use Rattle.do_streams.specs.Streamed.{link_of, outbox};
 
 use crate::end::{End, Outgoing};
+use crate::fetching::fetch;
 use crate::spelled::Spelled;
 use crate::spelling::spell_if_none;
 use do_base::{Items, NodeId, Peers, Reserved, Shown, Text};
+use do_class::ClassTable;
 use do_frames::Frame;
 use std::alloc::{AllocError, Global};
 use std::marker::Model;
@@ -32,12 +35,13 @@ pub struct Streams {
 impl Model for Streams {
     ghost use Rattle.std.specs.Coded.{codes};
     ghost use Rattle.do_base.specs.contracts.events.shown.Shown as line;
+    ghost use Rattle.do_class.specs.contracts.packet.Part as part;
     ghost use Rattle.do_streams.specs.Reading.{AllKnown};
     ghost use Rattle.do_streams.specs.Streamed.{Streamed, streamed_of};
 
     ghost Value = { Streamed };
 
-    ghost coded = { Prim.hlevel (codes, line.the_row.coded) };
+    ghost coded = { Prim.hlevel (codes, line.the_row.coded, part.the_row.coded) };
 
     ghost view = { λ s. streamed_of s.ends s.spelled s.frames s.shown s.classes };
 
@@ -55,16 +59,11 @@ fn opening_ends(alloc: Global, peers: &Peers) -> Result<Items<End>, AllocError>
     Ok(ends)
 }
 
-/// Appends the bytes of what was spelled, and tells the peer that it goes to. If memory runs out,
-/// the bytes are unchanged.
-fn fetch(next: &Spelled, bytes: &mut Text) -> Result<NodeId, AllocError>
-    ensures to { IfOk result (λ to. to ≡ (sending_of next.now).to) }
-    ensures bytes { OnOk result
-        (bytes.new ≡ bytes.old ++ piece_bytes (sending_of next.now).piece) }
-    ensures err { OnErr result (bytes.new ≡ bytes.old) }
+/// What was fetched is no longer spelled.
+fn forget(spelled: &mut Option<Spelled>)
+    ensures { spelled.new ≡ None }
 {
-    bytes.push_bytes(next.bytes.as_slice())?;
-    Ok(next.to)
+    *spelled = None;
 }
 
 impl Streams {
@@ -128,13 +127,20 @@ impl Streams {
     /// Takes out the oldest frame that waits, or the greeting before it, appends its bytes, and
     /// tells the peer that it goes to. None exactly where no frame waits.
     ///
-    /// If memory runs out, or the payload is longer than a frame may have, what waits is unchanged,
-    /// and so are the bytes.
-    pub fn next_frame(&mut self, bytes: &mut Text) -> Result<Option<NodeId>, AllocError>
+    /// Frames are sent from this port, by these classes. If memory runs out, or the oldest frame has
+    /// no spelling that its peer can read, what waits is unchanged, as are the bytes.
+    pub fn next_frame(
+        &mut self,
+        table: &ClassTable,
+        me: NodeId,
+        bytes: &mut Text,
+    ) -> Result<Option<NodeId>, AllocError>
         ensures which { IfOk result (λ to. MatchOption to
             ((self.old.frames ≡ []) × (self.new.frames ≡ []) × (bytes.new ≡ bytes.old))
             (λ peer. (s : Sending) × (self.old.frames ≡ s ∷ self.new.frames) × (peer ≡ s.to)
             × (bytes.new ≡ bytes.old ++ piece_bytes s.piece))) }
+        ensures spelled { IfOk result (λ to. IfSome to (λ peer. (s : Sending)
+            → self.old.frames ≡ s ∷ self.new.frames → IsSpelledSending table.now me s)) }
         ensures links { self.new.links ≡ self.old.links }
         ensures shown { self.new.shown ≡ self.old.shown }
         ensures room { self.old.room ≤ self.new.room }
@@ -147,8 +153,8 @@ impl Streams {
         let Some(next) = &self.spelled else {
             return Ok(None);
         };
-        let to = fetch(next, bytes)?;
-        self.spelled = None;
+        let to = fetch(next, table, me, bytes)?;
+        forget(&mut self.spelled);
         Ok(Some(to))
     }
 

@@ -1,5 +1,5 @@
 //! Frames that are fetched, with their bytes worked out by hand.
-use crate::links::{peer, streams_to};
+use crate::links::{Nodes, streams_to, two_nodes};
 use do_base::{Items, NodeId, Text};
 use do_class::{ClassId, Name, Packet, Part};
 use do_frames::Frame;
@@ -14,6 +14,8 @@ enum Post {
     Settle,
     /// The answer to call 1, object 1 of the sender.
     Answer,
+    /// The peer is told that lend 0 is over, a number that no frame can spell.
+    Nought,
 }
 
 /// What is fetched of frames that were posted.
@@ -24,16 +26,19 @@ struct Case<'a> {
     posts: &'a [Post],
     /// What is fetched, piece by piece.
     pieces: &'a [&'a [u8]],
+    /// Whether nothing waits then; else what waits cannot be spelled.
+    empty: bool,
 }
 
 /// What a stream of version 2 begins with.
 const GREETING: &[u8] = &[13, 0, 0, 0, 1, 2];
 
-const CASES: [Case<'static>; 2] = [
+const CASES: [Case<'static>; 3] = [
     Case {
         what: "a stream is greeted once",
         posts: &[Post::Ask, Post::Settle],
         pieces: &[GREETING, &[5, 0, 0, 0, 2, 1, 1], &[11, 0, 0, 0, 2, 1, 9]],
+        empty: true,
     },
     Case {
         what: "a name that was sent before is spelled by its place",
@@ -43,6 +48,13 @@ const CASES: [Case<'static>; 2] = [
             &[6, 0, 0, 0, 13, 1, 1, 1, 1, 1, 1, 1, 0, 0, 1, 1, 4, 0],
             &[6, 0, 0, 0, 11, 1, 1, 1, 1, 4, 0, 0, 1, 1, 4, 0],
         ],
+        empty: true,
+    },
+    Case {
+        what: "what no frame can spell is not fetched, nor is what waits behind it",
+        posts: &[Post::Ask, Post::Nought, Post::Settle],
+        pieces: &[GREETING, &[5, 0, 0, 0, 2, 1, 1]],
+        empty: false,
     },
 ];
 
@@ -70,56 +82,79 @@ fn frame_of(alloc: Global, post: &Post) -> Result<Frame, AllocError> {
             let packet = packet(alloc)?;
             Ok(Frame::RootAnswer { call: 1, packet })
         }
+        Post::Nought => Ok(Frame::Settle { number: 0 }),
     }
 }
 
-/// Posts a frame, in room that is made for it.
-fn post_frame(streams: &mut Streams, to: NodeId, frame: Frame) -> Result<(), AllocError> {
+/// Posts a frame to a peer, in room that is made for it.
+fn post_next(
+    alloc: Global,
+    streams: &mut Streams,
+    to: NodeId,
+    next: &Post,
+) -> Result<(), AllocError> {
     streams.reserve(1)?;
+    let frame = frame_of(alloc, next)?;
     streams.post(to, frame);
     Ok(())
 }
 
-/// Whether what is fetched next goes to a peer and has these bytes.
+/// Whether what is fetched next goes to the peer and has these bytes.
 fn fetches_next(
     alloc: Global,
     streams: &mut Streams,
-    peer: NodeId,
+    nodes: &Nodes,
     bytes: &[u8],
 ) -> Result<bool, AllocError> {
     let mut text = Text::new(alloc);
-    let to = streams.next_frame(&mut text)?;
-    Ok(to == Some(peer) && text.is(bytes))
+    let to = streams.next_frame(&nodes.table, nodes.own, &mut text)?;
+    Ok(to == Some(nodes.peer) && text.is(bytes))
 }
 
-/// Whether these pieces are fetched, which go to a peer, and nothing behind them.
+/// Whether these pieces are fetched, and what is left can be fetched no more, or is nothing.
 fn fetches_all(
     alloc: Global,
     streams: &mut Streams,
-    peer: NodeId,
-    pieces: &[&[u8]],
+    nodes: &Nodes,
+    case: &Case<'_>,
 ) -> Result<bool, AllocError> {
-    for piece in pieces {
-        if !fetches_next(alloc, streams, peer, piece)? {
+    for piece in case.pieces {
+        if !fetches_next(alloc, streams, nodes, piece)? {
             return Ok(false);
         }
     }
     let mut text = Text::new(alloc);
-    let next = streams.next_frame(&mut text)?;
-    Ok(next.is_none())
+    match streams.next_frame(&nodes.table, nodes.own, &mut text) {
+        Ok(next) => Ok(case.empty && next.is_none()),
+        Err(AllocError) => Ok(!case.empty && text.is_empty()),
+    }
+}
+
+/// Whether streams give what a case says of the frames that it posts.
+fn plays_over(
+    alloc: Global,
+    streams: &mut Streams,
+    nodes: &Nodes,
+    case: &Case<'_>,
+) -> Result<bool, AllocError> {
+    for next in case.posts {
+        post_next(alloc, streams, nodes.peer, next)?;
+    }
+    fetches_all(alloc, streams, nodes, case)
+}
+
+/// Whether a case comes out as it says between two nodes.
+fn plays_between(alloc: Global, nodes: &Nodes, case: &Case<'_>) -> Result<bool, AllocError> {
+    let mut streams = streams_to(alloc, nodes.peer, nodes.table.count() as usize)?;
+    plays_over(alloc, &mut streams, nodes, case)
 }
 
 /// Whether a case comes out as it says.
 fn plays(alloc: Global, case: &Case<'_>) -> Result<bool, AllocError> {
-    let Some(peer) = peer() else {
-        return Ok(false);
-    };
-    let mut streams = streams_to(alloc, peer, 0)?;
-    for next in case.posts {
-        let frame = frame_of(alloc, next)?;
-        post_frame(&mut streams, peer, frame)?;
+    match two_nodes(alloc)? {
+        Some(nodes) => plays_between(alloc, &nodes, case),
+        None => Ok(false),
     }
-    fetches_all(alloc, &mut streams, peer, case.pieces)
 }
 
 #[test]

@@ -2,10 +2,9 @@
 ghost use Rattle.std.specs.Prelude.{◌≡◌, IfOk, IfSome, length};
 ghost use Rattle.do_streams.specs.Reading.{AreKnown};
 
-use crate::links::{peer, streams_to};
+use crate::links::{Nodes, streams_to, two_nodes};
 use bytes::Bytes;
-use do_base::{Items, NodeId, Text};
-use do_class::{ClassTable, Name, Packet};
+use do_class::{Name, Packet};
 use do_frames::{Frame, RawFault, RawFrame};
 use do_streams::{Reading, Streams};
 use std::alloc::{AllocError, Global};
@@ -81,17 +80,6 @@ const ROWS: [Row<'static>; 6] = [
     },
 ];
 
-/// A table of one class.
-fn one_class(alloc: Global) -> Result<Option<ClassTable>, AllocError> {
-    let mut table = ClassTable::new(alloc);
-    let name = Text::from_slice(alloc, b"Item")?;
-    let added = table.add_class(name, Items::new(alloc), Items::new(alloc));
-    if added.is_err() {
-        return Ok(None);
-    }
-    Ok(Some(table))
-}
-
 /// The object that a message names first.
 fn object_of(packet: &Packet) -> Told {
     match packet.names.first() {
@@ -112,40 +100,37 @@ fn told_of(reading: &Reading) -> Told {
 /// What a payload of the peer spells, with the names after it.
 fn read(
     alloc: Global,
-    streams: &Streams,
-    table: &ClassTable,
-    from: NodeId,
+    streams: &mut Streams,
+    nodes: &Nodes,
     row: &Row<'_>,
 ) -> Result<Reading, RawFault>
-    requires { streams.now.classes ≡ length table.now }
-    ensures { IfOk result (λ r. IfSome r.names (λ names. AreKnown streams.now.classes names)) }
+    requires { streams.old.classes ≡ length nodes.now.table }
+    ensures known { IfOk result (λ r. IfSome r.names (λ names.
+        AreKnown streams.new.classes names)) }
+    ensures classes { streams.new.classes ≡ streams.old.classes }
 {
-    let Some(to) = NodeId::new(7001) else {
-        return Err(RawFault::Memory);
-    };
     let Ok(payload) = Bytes::copy_from_slice(alloc, row.payload) else {
         return Err(RawFault::Memory);
     };
     let kind = row.kind;
-    streams.read(table, from, to, &RawFrame { kind, payload })
+    streams.read(
+        &nodes.table,
+        nodes.peer,
+        nodes.own,
+        &RawFrame { kind, payload },
+    )
 }
 
 /// Reads a frame of the peer, and keeps its names where the row says so.
-fn take(
-    alloc: Global,
-    streams: &mut Streams,
-    table: &ClassTable,
-    from: NodeId,
-    row: &Row<'_>,
-) -> Told
-    requires { streams.old.classes ≡ length table.now }
+fn take(alloc: Global, streams: &mut Streams, nodes: &Nodes, row: &Row<'_>) -> Told
+    requires { streams.old.classes ≡ length nodes.now.table }
     ensures { streams.new.classes ≡ streams.old.classes }
 {
-    match read(alloc, streams, table, from, row) {
+    match read(alloc, streams, nodes, row) {
         Ok(reading) => {
             let told = told_of(&reading);
             if row.keeps {
-                streams.keep_read(from, reading.names);
+                streams.keep_read(nodes.peer, reading.names);
             }
             told
         }
@@ -155,30 +140,29 @@ fn take(
 }
 
 /// Whether rows come out as they say, one after another.
-fn takes_all(
-    alloc: Global,
-    streams: &mut Streams,
-    table: &ClassTable,
-    from: NodeId,
-    rows: &[Row<'_>],
-) -> bool
-    requires { streams.old.classes ≡ length table.now }
+fn takes_all(alloc: Global, streams: &mut Streams, nodes: &Nodes, rows: &[Row<'_>]) -> bool
+    requires { streams.old.classes ≡ length nodes.now.table }
 {
     for row in rows {
-        if take(alloc, streams, table, from, row) != row.told {
+        if take(alloc, streams, nodes, row) != row.told {
             return false;
         }
     }
     true
 }
 
-/// Whether rows come out as they say, read by the streams with the peer and a table of one class.
+/// Whether rows come out as they say between two nodes.
+fn plays_between(alloc: Global, nodes: &Nodes, rows: &[Row<'_>]) -> Result<bool, AllocError> {
+    let mut streams = streams_to(alloc, nodes.peer, nodes.table.count() as usize)?;
+    Ok(takes_all(alloc, &mut streams, nodes, rows))
+}
+
+/// Whether rows come out as they say.
 fn plays(alloc: Global, rows: &[Row<'_>]) -> Result<bool, AllocError> {
-    let (Some(peer), Some(table)) = (peer(), one_class(alloc)?) else {
-        return Ok(false);
-    };
-    let mut streams = streams_to(alloc, peer, table.count() as usize)?;
-    Ok(takes_all(alloc, &mut streams, &table, peer, rows))
+    match two_nodes(alloc)? {
+        Some(nodes) => plays_between(alloc, &nodes, rows),
+        None => Ok(false),
+    }
 }
 
 #[test]

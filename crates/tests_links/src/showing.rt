@@ -29,16 +29,21 @@ fn shows_all(streams: &mut Streams, numbers: &[i64]) -> bool {
     streams.next_shown().is_none()
 }
 
-/// Whether numbers come in the order in which they were shown.
+/// Whether numbers come in the order in which they are shown.
+fn shows_back(streams: &mut Streams, numbers: &[i64]) -> Result<bool, AllocError> {
+    for number in numbers {
+        show(streams, *number)?;
+    }
+    Ok(shows_all(streams, numbers))
+}
+
+/// Whether streams show numbers in their order.
 fn keeps_order(alloc: Global, numbers: &[i64]) -> Result<bool, AllocError> {
     let Some(peer) = peer() else {
         return Ok(false);
     };
     let mut streams = streams_to(alloc, peer, 0)?;
-    for number in numbers {
-        show(&mut streams, *number)?;
-    }
-    Ok(shows_all(&mut streams, numbers))
+    shows_back(&mut streams, numbers)
 }
 
 #[test]

@@ -1,6 +1,5 @@
 //! Frames of peers that are read, and the peers.
-ghost use Rattle.std.specs.Prelude.{◌≡◌, ◌==◌, IfOk, IfSome, find, length, map};
-ghost use Rattle.std.specs.Option.{option_copied};
+ghost use Rattle.std.specs.Prelude.{◌≡◌, IfOk, IfSome, length, map};
 ghost use Rattle.do_frames.specs.declared.frame.Frame.{Frame};
 ghost use Rattle.do_frames.specs.Frames.{after_frame};
 ghost use Rattle.do_network.specs.Frames.{read_frame};
@@ -17,21 +16,16 @@ use do_coder::Recent;
 use do_frames::{RawFault, RawFrame};
 use std::alloc::AllocError;
 
-/// The end with a peer. None exactly where there is none.
-fn end_of(ends: &Items<End>, peer: NodeId) -> Option<&End>
-    ensures { option_copied result ≡ find (λ e. peer == e.peer) ends.now }
-{
-    ends.as_slice().iter().find(|end| end.peer == peer)
-}
-
-/// A copy of the names that a peer's frames named lately; none where there is no link with it.
-fn copied_names(ends: &Items<End>, from: NodeId, classes: usize) -> Result<Recent, AllocError>
-    requires { AllKnown classes ends.now }
-    ensures names { IfOk result (λ names. names ≡ names_of (map link_of ends.now) from) }
+/// Hands out the table of the names that a peer's frames named lately, which stay as they are; an
+/// empty one where there is no link with it.
+fn hand_out_names(ends: &mut Items<End>, from: NodeId, classes: usize) -> Result<Recent, AllocError>
+    requires { AllKnown classes ends.old }
+    ensures names { IfOk result (λ names. names ≡ names_of (map link_of ends.old) from) }
     ensures known { IfOk result (λ names. AreKnown classes names) }
+    ensures same { ends.new ≡ ends.old }
 {
-    match end_of(ends, from) {
-        Some(end) => end.read.copy(),
+    match end_at(ends, from) {
+        Some(at) => ends.at_mut(at).hand_out_names(),
         None => Ok(Recent::new(ends.allocator())),
     }
 }
@@ -63,28 +57,29 @@ fn listed_peers(ends: &Items<End>) -> Result<Peers, AllocError>
 
 impl Streams {
     /// Reads a frame of a peer by the names that its frames named lately. These change only when
-    /// they are kept: so a frame that was read can be dropped.
+    /// they are kept: so a frame that was read can be dropped, and nothing is seen of that.
     ///
     /// `BadFrame` comes exactly where the payload spells no frame of its kind, and has the first
     /// byte with which none goes on. `Memory` comes where memory runs out.
     pub fn read(
-        &self,
+        &mut self,
         table: &ClassTable,
         from: NodeId,
         to: NodeId,
         raw: &RawFrame,
     ) -> Result<Reading, RawFault>
-        requires { self.now.classes ≡ length table.now }
-        ensures read { IsReading (names_of self.now.links from)
-            (read_frame table.now from to (names_of self.now.links from) raw.now) result }
+        requires { self.old.classes ≡ length table.now }
+        ensures read { IsReading (names_of self.old.links from)
+            (read_frame table.now from to (names_of self.old.links from) raw.now) result }
         ensures known { IfOk result (λ r. IfSome r.names (λ names.
-            AreKnown self.now.classes names)) }
+            AreKnown self.old.classes names)) }
+        ensures same { self.new ≡ self.old }
     {
         let alloc = self.ends.allocator();
         if !names_objects(raw.kind) {
             return read_plain(alloc, table, from, to, raw);
         }
-        let Ok(names) = copied_names(&self.ends, from, self.classes) else {
+        let Ok(names) = hand_out_names(&mut self.ends, from, self.classes) else {
             return Err(RawFault::Memory);
         };
         read_with_names(alloc, table, from, to, names, raw)

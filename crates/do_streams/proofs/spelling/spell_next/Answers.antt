@@ -2,7 +2,8 @@ use Rattle.std.proofs.Common.{◌≡◌, ◌==◌, ℕ, Some, List, drop, refl, 
 use Rattle.std.proofs.Common.{subst}
 use Rattle.std.specs.Prelude.{slice_get, slice_set}
 use Rattle.std.specs.List.{position}
-use Rattle.do_network.specs.Links.{Outbox}
+use Rattle.do_frames.specs.Frames.{frame_spelling, raw}
+use Rattle.do_network.specs.Links.{Framed, Outbox}
 use Rattle.do_streams.specs.declared.end.End.{End}
 use Rattle.do_streams.specs.declared.end.Outgoing.{Outgoing}
 use Rattle.do_streams.specs.Reading.{AllKnown, AreKnown}
@@ -10,7 +11,7 @@ use Rattle.do_streams.specs.Streamed.{outbox_of, sending_of}
 use Rattle.do_streams.proofs.NextSpelled.{SendsFirst, begins_with, frame_next, greeting_next}
 use Rattle.do_streams.proofs.LinksRead.{all_at, all_set}
 use Rattle.do_streams.proofs.Placed.{on_err, one_front, set_same}
-use Rattle.do_streams.proofs.spelling.spell_next.Goals.{After-skip_front, In_ok-spell_greeting}
+use Rattle.do_streams.proofs.spelling.spell_next.Goals.{After-spelled_frame, In_ok-spell_greeting}
 use Rattle.do_streams.proofs.spelling.spell_next.Goals as goal
 
 -- an end that was put back as it was
@@ -61,46 +62,60 @@ pub returns-then-not-is_greeted-clause-sent : goal.returns-then-not-is_greeted-c
 returns-then-not-is_greeted-clause-sent c =
     (greets_first (goal.at.returns-then-not-is_greeted-clause-sent c).In_ok-spell_greeting).sent
 
+-- the frame that is taken out is the one that was spelled
+is_taken : (c : After-spelled_frame) → c.in-Some-take_front.taken ≡ c.in-Some-front.next.now
+is_taken c =
+    let same : Some c.in-Some-take_front.taken ≡ Some c.in-Some-front.next.now
+    = sym c.in-Some-take_front.is
+    ∙ (c.take_front.ensures c.in-Some-front.next.now (sym c.in-Some-front.ensures.value)).0 in
+    cc
+
 -- where the frame is not spelled the links are as before
-pub returns-in_err-spelled-clause-links : goal.returns-in_err-spelled-clause-links
-returns-in_err-spelled-clause-links c = ap (λ (o : Outbox). o.links)
+pub returns-in_err-bytes-clause-links : goal.returns-in_err-bytes-clause-links
+returns-in_err-bytes-clause-links c = ap (λ (o : Outbox). o.links)
     (stays c.args.ends.now c.args.frames.now.items
-    c.next_end.new.frames.items c.in-Some.at c.at_mut-2.result.now c.spell_frame.new.end
-    c.next_end.ensures.same c.at_mut-2.ensures.value c.in_err-spelled.ensures.err)
+    c.next_end.new.frames.items c.in-Some.at c.at_mut-2.result.now c.spell.new.self
+    c.next_end.ensures.same c.at_mut-2.ensures.value c.in_err-bytes.ensures.err)
 
 -- and so is what is sent
-pub returns-in_err-spelled-clause-err : goal.returns-in_err-spelled-clause-err
-returns-in_err-spelled-clause-err c = on_err c.from_residual-in_err-spelled.result
+pub returns-in_err-bytes-clause-err : goal.returns-in_err-bytes-clause-err
+returns-in_err-bytes-clause-err c = on_err c.from_residual-in_err-bytes.result
     (ap (λ (o : Outbox). o.sent) (stays c.args.ends.now c.args.frames.now.items
-    c.next_end.new.frames.items c.in-Some.at c.at_mut-2.result.now c.spell_frame.new.end
-    c.next_end.ensures.same c.at_mut-2.ensures.value c.in_err-spelled.ensures.err))
+    c.next_end.new.frames.items c.in-Some.at c.at_mut-2.result.now c.spell.new.self
+    c.next_end.ensures.same c.at_mut-2.ensures.value c.in_err-bytes.ensures.err))
 
 -- the frame comes before all else that is sent
-frame_first : (c : After-skip_front) →
+frame_first : (c : After-spelled_frame) →
     SendsFirst (outbox_of c.args.ends.now c.args.frames.now.items)
-    (outbox_of (slice_set c.args.ends.now c.in-Some.at c.spell_frame.new.end)
-    c.skip_front.new.frames.items) (sending_of c.in_ok-spelled.spelled)
+    (outbox_of (slice_set c.args.ends.now c.in-Some.at c.spell.new.self)
+    c.take_front.new.frames.items) (sending_of c.spelled_frame.result)
 frame_first c = frame_next c.args.ends.now
-    (slice_set c.args.ends.now c.in-Some.at c.spell_frame.new.end) c.args.frames.now.items
-    c.next_end.new.frames.items c.in-Some-front.next.now c.skip_front.new.frames.items
-    c.in-Some.at c.at_mut-2.result.now c.spell_frame.new.end c.next_end.ensures.same
-    (c.skip_front.ensures c.in-Some-front.next.now (sym c.in-Some-front.ensures.value)).0
+    (slice_set c.args.ends.now c.in-Some.at c.spell.new.self) c.args.frames.now.items
+    c.next_end.new.frames.items c.in-Some-front.next.now c.take_front.new.frames.items
+    c.in-Some.at c.at_mut-2.result.now c.spell.new.self c.next_end.ensures.same
+    (c.take_front.ensures c.in-Some-front.next.now (sym c.in-Some-front.ensures.value)).1
     (subst (λ (o : Outgoing). position (λ (d : End). o.to == d.peer) c.args.ends.now
     ≡ Some c.in-Some.at) (one_front c.next_end.new.frames.items c.in-Some.ensures.which.0
     c.in-Some-front.next.now c.in-Some.ensures.which.1 c.in-Some-front.ensures.value)
     c.in-Some.ensures.which.2) c.at_mut-2.ensures.value refl
-    (sending_of c.in_ok-spelled.spelled)
+    (sending_of c.spelled_frame.result)
     (sym (c.is_greeted.ensures c.at_mut-2.result.now c.at_mut-2.ensures.value)
     ∙ c.if-not-is_greeted.false)
-    c.in_ok-spelled.ensures.end c.in_ok-spelled.ensures.spelled
+    c.in_ok-bytes.ensures.end
+    (subst (λ (x : Outgoing). sending_of c.spelled_frame.result
+    ≡ record { to = x.to; piece = Framed x.frame (raw c.at_mut-2.result.now.sent x.frame) })
+    (is_taken c) (c.spelled_frame.ensures c.at_mut-2.result.now.sent
+    (subst (λ (x : Outgoing). c.in_ok-bytes.bytes
+    ≡ frame_spelling c.at_mut-2.result.now.sent x.frame) (sym (is_taken c))
+    c.in_ok-bytes.ensures.text)))
 
 -- so the frame leaves the links behind all that waits
 pub returns-clause-links : goal.returns-clause-links
-returns-clause-links c = (frame_first (goal.at.returns-clause-links c).After-skip_front).links
+returns-clause-links c = (frame_first (goal.at.returns-clause-links c).After-spelled_frame).links
 
 -- and is sent before what was to be sent
 pub returns-clause-sent : goal.returns-clause-sent
-returns-clause-sent c = (frame_first (goal.at.returns-clause-sent c).After-skip_front).sent
+returns-clause-sent c = (frame_first (goal.at.returns-clause-sent c).After-spelled_frame).sent
 
 -- an end that was put back with the names read lately as they were
 known_still : (classes : ℕ) (ends : List End) (at : ℕ) (e f : End) →
@@ -114,14 +129,14 @@ known_still classes ends at e f known there same =
 -- a frame that is spelled leaves the names that were read
 pub returns-clause-known : goal.returns-clause-known
 returns-clause-known c = λ classes known.
-    known_still classes c.args.ends.now c.in-Some.at c.at_mut-2.result.now c.spell_frame.new.end
-    known c.at_mut-2.ensures.value (ap (λ (e : End). e.read) c.in_ok-spelled.ensures.end)
+    known_still classes c.args.ends.now c.in-Some.at c.at_mut-2.result.now c.spell.new.self
+    known c.at_mut-2.ensures.value (ap (λ (e : End). e.read) c.in_ok-bytes.ensures.end)
 
 -- so does one that is not spelled
-pub returns-in_err-spelled-clause-known : goal.returns-in_err-spelled-clause-known
-returns-in_err-spelled-clause-known c = λ classes known.
-    known_still classes c.args.ends.now c.in-Some.at c.at_mut-2.result.now c.spell_frame.new.end
-    known c.at_mut-2.ensures.value (ap (λ (e : End). e.read) c.in_err-spelled.ensures.err)
+pub returns-in_err-bytes-clause-known : goal.returns-in_err-bytes-clause-known
+returns-in_err-bytes-clause-known c = λ classes known.
+    known_still classes c.args.ends.now c.in-Some.at c.at_mut-2.result.now c.spell.new.self
+    known c.at_mut-2.ensures.value (ap (λ (e : End). e.read) c.in_err-bytes.ensures.err)
 
 -- and so does the greeting
 pub returns-then-not-is_greeted-clause-known : goal.returns-then-not-is_greeted-clause-known

@@ -1,19 +1,42 @@
-use Rattle.std.proofs.Common.{◌++◌, ap, sym, ◌∙◌, Option}
+use Rattle.std.proofs.Common.{◌≡◌, ◌∷◌, ◌++◌, ap, subst, sym, ◌∙◌, List, Option}
+use Rattle.do_network.specs.Spelled.{IsSpelledSending}
 use Rattle.do_streams.specs.declared.spelled.Spelled.{Spelled}
 use Rattle.do_streams.specs.Streamed.{Streamed, outbox_of, sending_of, spelled_first}
+use Rattle.do_streams.proofs.streams.Streams.next_frame.Goals.{After-forget}
 use Rattle.do_streams.proofs.streams.Streams.next_frame.Goals as goal
 
 -- what was spelled is the oldest that waits
+is_oldest : (c : After-forget) → c.args.self.now.frames ≡ sending_of c.in-Some.next
+    ∷ (spelled_first c.forget.new.spelled
+    ++ (outbox_of c.spell_if_none.new.ends c.spell_if_none.new.frames.items).sent)
+is_oldest c =
+    sym (ap (λ (v : Streamed). v.frames) c.self.view_is)
+    ∙ sym c.in_ok-spell_if_none.ensures.sent
+    ∙ ap (λ (o : Option Spelled). spelled_first o
+    ++ (outbox_of c.spell_if_none.new.ends c.spell_if_none.new.frames.items).sent) c.in-Some.is
+    ∙ ap (λ (o : Option Spelled). sending_of c.in-Some.next ∷ (spelled_first o
+    ++ (outbox_of c.spell_if_none.new.ends c.spell_if_none.new.frames.items).sent))
+    (sym c.forget.ensures)
+
+-- equal lists begin with the same
+heads_alike : {X : Type 0} {x y : X} {xs ys : List X} → x ∷ xs ≡ y ∷ ys → x ≡ y
+heads_alike e = cc
+
+-- and is what is taken out
 pub returns-clause-which : goal.returns-clause-which
 returns-clause-which c = (
   sending_of c.in-Some.next,
-  sym (ap (λ (v : Streamed). v.frames) c.self.view_is)
-      ∙ sym c.in_ok-spell_if_none.ensures.sent
-      ∙ ap (λ (o : Option Spelled). spelled_first o
-      ++ (outbox_of c.spell_if_none.new.ends c.spell_if_none.new.frames.items).sent) c.in-Some.is,
+  is_oldest (goal.at.returns-clause-which c).After-forget,
   c.in_ok-to.ensures.to,
   c.in_ok-to.ensures.bytes,
 )
+
+-- so what is taken out has a spelling
+pub returns-clause-spelled : goal.returns-clause-spelled
+returns-clause-spelled c = λ s first.
+    subst (IsSpelledSending c.args.table.now c.args.me)
+    (heads_alike (sym (is_oldest (goal.at.returns-clause-spelled c).After-forget) ∙ first))
+    c.in_ok-to.ensures.spelled
 
 -- what is spelled leaves the names that were read, where it is fetched
 pub invariant_of-self : goal.invariant_of-self

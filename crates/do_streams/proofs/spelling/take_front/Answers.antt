@@ -1,5 +1,5 @@
 use Rattle.do_streams.proofs.Placed.{popped}
-use Rattle.do_streams.proofs.spelling.skip_front.Goals as goal
+use Rattle.do_streams.proofs.spelling.take_front.Goals as goal
 
 -- what is taken out is the front
 pub returns : goal.returns

@@ -1,0 +1,7 @@
+-- The pairs that were put into the log so far.
+use Rattle.std.proofs.Common.{◌≡◌, take}
+use Rattle.do_streams.proofs.names.table_of.Given as goal
+
+-- the log has those that were passed
+abbrev pub invariant-loop-pair : goal.invariant-loop-pair
+invariant-loop-pair l = l.log.now ≡ take l.pair-index l.fn.pairs

@@ -1,0 +1,44 @@
+//! What was spelled is fetched, where it has a spelling that its peer can read.
+ghost use Rattle.std.specs.Prelude.{◌≡◌, ◌↔◌, ◌++◌, IfOk, IsTrue, OnErr, OnOk};
+ghost use Rattle.do_network.specs.Links.{piece_bytes};
+ghost use Rattle.do_network.specs.Spelled.{IsSpelledSending};
+ghost use Rattle.do_streams.specs.Streamed.{sending_of};
+
+use crate::spelled::Spelled;
+use do_base::{NodeId, Text};
+use do_class::ClassTable;
+use do_spelled::has_spelling;
+use std::alloc::AllocError;
+
+/// Whether what a port sends has a spelling that its peer can read, as the greeting always has.
+fn is_readable(next: &Spelled, table: &ClassTable, me: NodeId) -> bool
+    ensures { IsTrue result ↔ IsSpelledSending table.now me (sending_of next.now) }
+{
+    match &next.frame {
+        Some(frame) => has_spelling(frame, table, me, next.to),
+        None => true,
+    }
+}
+
+/// Appends the bytes of what a port sends, and tells the peer that it goes to.
+///
+/// An error means that memory ran out, or that what is sent has no spelling that its peer can read;
+/// the bytes are then unchanged.
+pub fn fetch(
+    next: &Spelled,
+    table: &ClassTable,
+    me: NodeId,
+    bytes: &mut Text,
+) -> Result<NodeId, AllocError>
+    ensures to { IfOk result (λ to. to ≡ (sending_of next.now).to) }
+    ensures bytes { OnOk result
+        (bytes.new ≡ bytes.old ++ piece_bytes (sending_of next.now).piece) }
+    ensures spelled { OnOk result (IsSpelledSending table.now me (sending_of next.now)) }
+    ensures err { OnErr result (bytes.new ≡ bytes.old) }
+{
+    if !is_readable(next, table, me) {
+        return Err(AllocError);
+    }
+    bytes.push_bytes(next.bytes.as_slice())?;
+    Ok(next.to)
+}
