@@ -16,7 +16,7 @@ use Rattle.do_export.specs.Counts.{Counts, raised}
 use Rattle.do_import.specs.ByObject.{object_of}
 use Rattle.do_machine.specs.Items.{exported}
 use Rattle.do_machine.specs.State.{holds, is_known, is_open}
-use Rattle.do_network.specs.Counting.{counted, named_to, packet_of, of_held, of_known}
+use Rattle.do_network.specs.Counting.{named_to, packet_of, of_held, of_known}
 use Rattle.do_network.specs.Counting.{over_open_ends}
 use Rattle.do_network.specs.Frames.{all_posted, frame_of, posted}
 use Rattle.do_network.specs.Links.{sending}

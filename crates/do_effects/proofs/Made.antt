@@ -1,5 +1,5 @@
 -- The name of an object that was made.
-use Rattle.std.proofs.Common.{◌≡◌, ◌&&◌, ◌+◌, ◌<◌, ℕ, Bool, true, false, cond, eqb, List, [], ◌∷◌}
+use Rattle.std.proofs.Common.{◌≡◌, ◌&&◌, ◌<◌, ℕ, Bool, true, false, cond, eqb, List, [], ◌∷◌}
 use Rattle.std.proofs.Common.{◌++◌}
 use Rattle.std.proofs.Common.{IsSome, Some, None, is_some, refl, ap, ◌∙◌, arith}
 use Rattle.do_base.specs.declared.values.value.Value.{Value}

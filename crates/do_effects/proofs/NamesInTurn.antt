@@ -1,5 +1,5 @@
 -- Names of a peer's message that are received one after another.
-use Rattle.std.proofs.Common.{◌≡◌, ℕ, Bool, true, false, not, List, [], ◌∷◌}
+use Rattle.std.proofs.Common.{◌≡◌, ℕ, Bool, true, false, List, [], ◌∷◌}
 use Rattle.std.proofs.Common.{refl, ap, sym, ◌∙◌, fold}
 use Rattle.std.specs.List.{filter_map, list_any}
 use Rattle.do_base.specs.names.Names.{ObjectName}
@@ -11,7 +11,7 @@ use Rattle.do_import.specs.ByObject.{ClassMap, first_kept, object_of}
 use Rattle.do_machine.specs.declared.node.Node.{Node}
 use Rattle.do_machine.specs.declared.node.Wanted.{Wanted}
 use Rattle.do_machine.specs.declared.state.Effect.{Effect}
-use Rattle.do_machine.specs.Effect.{each, only, ◌>>=◌}
+use Rattle.do_machine.specs.Effect.{each, ◌>>=◌}
 use Rattle.do_machine.specs.State.{is_known, is_open}
 use Rattle.do_machine.specs.lend.Asking.{asking, same_wanted, wanted}
 use Rattle.do_machine.specs.lend.Asking.{with_wanted}
