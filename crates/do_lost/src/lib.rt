@@ -12,5 +12,6 @@ mod nodes;
 mod state;
 mod text;
 
+pub use nodes::push_invocation;
 pub use state::{named, quiet};
 pub use text::lost_text;

@@ -33,9 +33,12 @@ fn push_state(objects: &mut Oids, state: &InvState) -> Result<(), AllocError>
     Ok(())
 }
 
-/// Appends the objects that an invocation names.
+/// Appends the objects that an invocation names: its own, those in its locals, and those in an
+/// answer that it did not use yet.
+///
+/// If memory runs out, some of them may have been appended.
 #[tactic(auto, using(do_leaks::proofs::Nested::object_steps))]
-fn push_invocation(objects: &mut Oids, invocation: &Invocation) -> Result<(), AllocError>
+pub fn push_invocation(objects: &mut Oids, invocation: &Invocation) -> Result<(), AllocError>
     ensures { OnOk result (objects.new ≡ objects.old ++ invocation_objects invocation.now) }
 {
     objects.push(invocation.object)?;

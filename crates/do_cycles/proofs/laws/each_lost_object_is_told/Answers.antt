@@ -1,0 +1,5 @@
+use Rattle.do_cycles.proofs.EachTold.{reached_told}
+use Rattle.do_cycles.proofs.laws.each_lost_object_is_told.Goals as goal
+
+pub returns : goal.returns
+returns c = reached_told
