@@ -89,8 +89,6 @@ pub set_first : {X : Type 0} (p : X → Bool) (xs : List X) (i : ℕ) (x y : X) 
     slice_set xs i y ≡ change_first p (λ v. y) xs
 set_first p xs i x y e g = first_set p (λ v. y) xs i x y e g refl
 
-pub ruleset first_steps = (first_set, change_first_none)
-
 module _ {X Y : Type 0} (p : X → Bool) (g : X → Y) (q : Y → Bool) (alike : (x : X) → q (g x) ≡ p x)
   where
     -- what is found of what comes of elements comes of what is found

@@ -12,6 +12,7 @@ use Rattle.do_network.specs.Step.{carrying, wire_of, with_sending}
 use Rattle.std.specs.List.{AllByRecursion}
 use Rattle.do_net.specs.Hosts.{FetchesWire, Hosting, forwarded}
 use Rattle.do_net.specs.Lanes.{IsSent, IsToldApart, frame_in, laden}
+use Rattle.do_net.specs.Seen.{FetchesSpelled, IsSpelledBy, Seen}
 
 -- changes that are alike change a list alike
 change_alike : {X : Type 0} (p : X → Bool) (f g : X → X) → ((x : X) → f x ≡ g x) →
@@ -32,7 +33,7 @@ frame_back f = refl
 piece_stands : (x : Piece) → IsToldApart x → (c : Channel) →
     laden (piece_bytes x) c ≡ carrying x c
 piece_stands Greeting h c = refl
-piece_stands (Framed f) h c =
+piece_stands (Framed g f) h c =
     ap (λ b. cond b (record c { greeting = true })
     (record c { waiting = c.waiting ++ Whole f ∷ [] })) h
 
@@ -87,6 +88,20 @@ forward_wires x y z w before between f e more =
     ∙ ap (λ v. before ++ v ∷ map (wire_of x.port) ys) f.1.1.0
     ∙ ap (λ fs. before ++ map (wire_of x.port) fs) (sym f.1.0)
 
+-- what a site has not fetched has a spelling
+abbrev AllSpelled : Seen → Type 0
+AllSpelled s = AllByRecursion (IsSpelledBy s) s.frames
+
+-- what was to be fetched has a spelling where what is left then has
+forward_spelled : (x y z : Hosting) (w : Wire) → FetchesWire x y (Some w) → z ≡ with_sent y w →
+    FetchesSpelled x.site y.site (Some w) → AllSpelled z.site → AllSpelled x.site
+forward_spelled x y z w f e spelled left =
+    let site : z.site ≡ y.site = ap (λ (v : Hosting). v.site) e in
+    let same = ap (λ (v : Hosting). v.site) f.1.1.1 in
+    let behind = subst (λ (s : Seen). AllByRecursion (IsSpelledBy s) y.site.frames) same
+    (subst AllSpelled site left) in
+    subst (AllByRecursion (IsSpelledBy x.site)) (sym f.1.0) (spelled f.0 f.1.0, behind)
+
 -- a site goes on from one to another, with what was sent
 pub record Forwards (x : Hosting) (before : List Wire) (z : Hosting) (now : List Wire)
     : Type 0 where
@@ -94,20 +109,28 @@ pub record Forwards (x : Hosting) (before : List Wire) (z : Hosting) (now : List
   pub host : forwarded z ≡ forwarded x
   pub wires : now ++ map (wire_of z.port) z.site.frames
       ≡ before ++ map (wire_of x.port) x.site.frames
+  pub spelled : AllSpelled z.site → AllSpelled x.site
 
 -- at first it stands where it begins
 pub forwards_first : (x : Hosting) (before : List Wire) → AllByRecursion IsSent x.site.frames →
     Forwards x before x before
-forwards_first x before told = record { told = told; host = refl; wires = refl }
+forwards_first x before told = record {
+  told = told;
+  host = refl;
+  wires = refl;
+  spelled = λ left. left;
+}
 
 -- a frame more
 pub forwards_more : (u x y z : Hosting) (first before between : List Wire) (w : Wire) →
     Forwards u first x before → FetchesWire x y (Some w) → z ≡ with_sent y w →
-    between ≡ before ++ w ∷ [] → Forwards u first z between
-forwards_more u x y z first before between w so_far f e more = record {
+    between ≡ before ++ w ∷ [] → FetchesSpelled x.site y.site (Some w) →
+    Forwards u first z between
+forwards_more u x y z first before between w so_far f e more spelled = record {
   told = forward_told x y z w so_far.told f e;
   host = forward_same x y z w so_far.told f e ∙ so_far.host;
   wires = forward_wires x y z w before between f e more ∙ so_far.wires;
+  spelled = λ left. so_far.spelled (forward_spelled x y z w f e spelled left);
 }
 
 -- a site of which nothing is left is as it is when all was fetched
@@ -131,3 +154,9 @@ pub forwards_wires : (u x y : Hosting) (first before : List Wire) →
 forwards_wires u x y first before so_far f =
     sym (append-nil before) ∙ sym (ap (λ fs. before ++ map (wire_of x.port) fs) f.0)
     ∙ so_far.wires
+
+-- and has a spelling
+pub forwards_spelled : (u x y : Hosting) (first before : List Wire) →
+    Forwards u first x before → FetchesWire x y None → AllSpelled u.site
+forwards_spelled u x y first before so_far f =
+    so_far.spelled (subst (AllByRecursion (IsSpelledBy x.site)) (sym f.0) tt)

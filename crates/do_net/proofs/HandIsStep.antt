@@ -17,6 +17,7 @@ use Rattle.do_network.specs.declared.wire.Wire.{Wire}
 use Rattle.do_network.specs.Links.{Part}
 use Rattle.do_network.specs.Net.{Net, Place, change_place, part_at, with_channel}
 use Rattle.do_network.specs.Site.{Handled, enabled_input, passed, site_step}
+use Rattle.do_network.specs.Spelled.{HandsSpelled}
 use Rattle.do_network.specs.Step.{NetStepped, advanced, net_moved, net_skipped, place_after}
 use Rattle.do_network.specs.Step.{wire_of}
 use Rattle.do_network.specs.laws.Sites.{IsDone}
@@ -136,8 +137,11 @@ pub hand_goes : (table : List Class) (act : Acting) (xs : List Hosting) (x z : H
     ys ≡ change_first (of_port port) (λ v. z) xs →
     now ≡ before ++ map (wire_of x.port) (site_handled x.site input).sent →
     outcome ≡ outcome_of (site_handled x.site input) →
+    HandsSpelled table act (net_of xs) port input →
     Goes table act ys before now outcome (net_handed table act (net_of xs) port input)
-hand_goes table act xs x z ys port input before now outcome rest found is_z is_ys is_now is_out =
+    (HandsSpelled table act (net_of xs) port input)
+hand_goes table act xs x z ys port input before now outcome rest found is_z is_ys is_now is_out
+    sent =
     let rests : Rests table act x = each_found (Rests table act) (of_port port) xs x rest found in
     let p = x.site.part in
     let h = site_step table act p input in
@@ -148,7 +152,9 @@ hand_goes table act xs x z ys port input before now outcome rest found is_z is_y
     let resting : z.site ≡ at_rest table act h.part =
     ap (λ (v : Hosting). v.site) after
     ∙ ap (λ (s : Seen). at_rest s.table s.act h.part) rests in
-    let goes : Goes table act ys before now outcome (net_stepped port (net_of xs) h) = record {
+    let Spelled = HandsSpelled table act (net_of xs) port input in
+    let goes : Goes table act ys before now outcome (net_stepped port (net_of xs) h) Spelled =
+    record {
       rest = subst (AllByRecursion (Rests table act)) (sym is_ys)
           (each_changed (Rests table act) (of_port port) z xs rest
           (resting ∙ ap (at_rest table act) (sym (ap (λ (s : Seen). s.part) resting))));
@@ -157,31 +163,36 @@ hand_goes table act xs x z ys port input before now outcome rest found is_z is_y
       wires = is_now ∙ ap (λ k. before ++ map (wire_of x.port) k.sent) same
           ∙ ap (λ k. before ++ map (wire_of k) h.sent) (sym is_port);
       outcome = is_out ∙ ap outcome_of same;
+      spelled = sent;
     } in
-    subst (Goes table act ys before now outcome)
+    subst (λ s. Goes table act ys before now outcome s Spelled)
     (handed_is table act (net_of xs) port p input there) goes
 
 -- the sites stay where nothing is done
-pub skip_goes : (table : List Class) (act : Acting) (xs : List Hosting) (wires : List Wire)
-    (outcome : Outcome) → AllByRecursion (Rests table act) xs →
-    outcome ≡ record { enabled = false; shown = [] } →
-    Goes table act xs wires wires outcome (net_skipped (net_of xs))
-skip_goes table act xs wires outcome rest is_out = record {
+pub skip_goes : {Spelled : Type 0} (table : List Class) (act : Acting) (xs : List Hosting)
+    (wires : List Wire) (outcome : Outcome) → AllByRecursion (Rests table act) xs →
+    outcome ≡ record { enabled = false; shown = [] } → Spelled →
+    Goes table act xs wires wires outcome (net_skipped (net_of xs)) Spelled
+skip_goes table act xs wires outcome rest is_out sent = record {
   rest = rest;
   net = refl;
   wires = sym (append-nil wires);
   outcome = is_out;
+  spelled = sent;
 }
 
 -- and where no site has the port that is handed an input
 pub none_goes : (table : List Class) (act : Acting) (xs : List Hosting) (port : ℕ)
     (input : Input) (wires : List Wire) (outcome : Outcome) → AllByRecursion (Rests table act) xs →
     find (of_port port) xs ≡ None → outcome ≡ record { enabled = false; shown = [] } →
+    HandsSpelled table act (net_of xs) port input →
     Goes table act xs wires wires outcome (net_handed table act (net_of xs) port input)
-none_goes table act xs port input wires outcome rest none is_out =
-    subst (Goes table act xs wires wires outcome)
+    (HandsSpelled table act (net_of xs) port input)
+none_goes table act xs port input wires outcome rest none is_out sent =
+    subst (λ s. Goes table act xs wires wires outcome s
+    (HandsSpelled table act (net_of xs) port input))
     (sym (handed_none table act (net_of xs) port input (part_missing port xs none)))
-    (skip_goes table act xs wires outcome rest is_out)
+    (skip_goes table act xs wires outcome rest is_out sent)
 
 -- what a site comes to that was handed an input, where memory did not run out
 pub hand_result : {E : Type 0} (table : List Class) (act : Acting) (xs : List Hosting)
@@ -191,10 +202,14 @@ pub hand_result : {E : Type 0} (table : List Class) (act : Acting) (xs : List Ho
     IfOk r (λ o. o ≡ outcome_of (site_handled x.site input)) →
     OnOk r (z ≡ hosting_after x (site_handled x.site input)) →
     OnOk r (now ≡ before ++ map (wire_of x.port) (site_handled x.site input).sent) →
-    IfOk r (λ o. Goes table act ys before now o (net_handed table act (net_of xs) port input))
-hand_result table act xs x z ys port input before now (Ok o) rest found is_ys is_o is_z is_now =
-    hand_goes table act xs x z ys port input before now o rest found is_z is_ys is_now is_o
-hand_result table act xs x z ys port input before now (Err e) rest found is_ys is_o is_z is_now =
+    OnOk r (HandsSpelled table act (net_of xs) port input) →
+    IfOk r (λ o. Goes table act ys before now o (net_handed table act (net_of xs) port input)
+    (HandsSpelled table act (net_of xs) port input))
+hand_result table act xs x z ys port input before now (Ok o) rest found is_ys is_o is_z is_now
+    sent =
+    hand_goes table act xs x z ys port input before now o rest found is_z is_ys is_now is_o sent
+hand_result table act xs x z ys port input before now (Err e) rest found is_ys is_o is_z is_now
+    sent =
     tt
 
 -- whether a site can take is whether its node can

@@ -8,3 +8,8 @@ pub mod TakeIsStep
 pub mod ListedPlaces
 pub mod LoseIsStep
 pub mod OpeningNetwork
+pub mod EventSpelled
+pub mod TakeGoes
+pub mod ByHalves
+pub mod PortsRise
+pub mod ChannelPlaces

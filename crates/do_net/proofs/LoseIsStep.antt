@@ -15,8 +15,8 @@ use Rattle.do_network.specs.Links.{Part}
 use Rattle.do_network.specs.Net.{Channel, Net, change_place, channel, channel_to, part_at}
 use Rattle.do_network.specs.Net.{change_channel, with_channel}
 use Rattle.do_network.specs.Step.{NetStepped, net_lose, net_skipped, net_step, with_loss}
-use Rattle.do_net.specs.Hosts.{Goes, HostLoses, Hosting, Rests, has_behind, net_is_open, net_of}
-use Rattle.do_net.specs.Hosts.{place_of}
+use Rattle.do_net.specs.Hosts.{Goes, HostLoses, Hosting, Rests, net_is_open, net_of, place_of}
+use Rattle.do_net.specs.Lanes.{has_behind}
 use Rattle.do_net.specs.Seen.{Seen, at_rest}
 use Rattle.do_net.proofs.FirstFound.{change_same, each_changed, each_found, found_map, none_map}
 use Rattle.do_net.proofs.HandIsStep.{net_changed, of_port, skip_goes}
@@ -70,14 +70,15 @@ pub none_lost : (table : List Class) (act : Acting) (xs : List Hosting) (from to
     find (of_port from) xs ≡ None → outcome ≡ record { enabled = false; shown = [] } →
     AllByRecursion (Rests table act) xs →
     Goes table act xs wires wires outcome (net_step table act (net_of xs) (Lose from to after))
+    (Unit {0})
 none_lost table act xs from to after wires outcome e none is_out rest =
     let N = net_of xs in
     let missing : channel N from to ≡ None = ap (option_and_then (channel_to to))
     (none_map (of_port from) place_of (λ v. from == v.port) (λ v. refl) xs none) in
-    subst (Goes table act xs wires wires outcome)
+    subst (λ s. Goes table act xs wires wires outcome s (Unit {0}))
     (sym (ap (λ o. unwrap_or o (net_skipped N))
     (open_loses N from to after (part_at N to) e ∙ ap (on_channel N from to after) missing)))
-    (skip_goes table act xs wires outcome rest is_out)
+    (skip_goes table act xs wires outcome rest is_out tt)
 
 -- the sites go on as the one does in a lane of which something is lost, or not
 pub lost_goes : (table : List Class) (act : Acting) (xs ys : List Hosting) (x z : Hosting)
@@ -86,6 +87,7 @@ pub lost_goes : (table : List Class) (act : Acting) (xs ys : List Hosting) (x z 
     HostLoses x z to after t → ys ≡ change_first (of_port from) (λ v. z) xs →
     outcome ≡ record { enabled = t; shown = [] } → AllByRecursion (Rests table act) xs →
     Goes table act ys wires wires outcome (net_step table act (net_of xs) (Lose from to after))
+    (Unit {0})
 lost_goes table act xs ys x z from to after t wires outcome e found lost is_ys is_out rest =
     let N = net_of xs in
     let place : channel N from to ≡ channel_to to (place_of x) =
@@ -98,7 +100,7 @@ lost_goes table act xs ys x z from to after t wires outcome e found lost is_ys i
     open_loses N from to after (part_at N to) e ∙ by_behind N from to after (channel N from to)
     ∙ ap (λ b. if b then Some (stays (change_place from (with_channel to (with_loss after)) N))
     else None) behind in
-    subst (Goes table act ys wires wires outcome)
+    subst (λ s. Goes table act ys wires wires outcome s (Unit {0}))
     (sym (ap (λ o. unwrap_or o (net_skipped N)) loses)) (go t lost.1 is_out)
   where
     go : (b : Bool) → z ≡ (if b then record x {
@@ -106,7 +108,7 @@ lost_goes table act xs ys x z from to after t wires outcome e found lost is_ys i
     } else x) → outcome ≡ record { enabled = b; shown = [] } →
         Goes table act ys wires wires outcome (unwrap_or (if b then Some (stays
         (change_place from (with_channel to (with_loss after)) (net_of xs))) else None)
-        (net_skipped (net_of xs)))
+        (net_skipped (net_of xs))) (Unit {0})
     go true is_z out =
         let site : z.site ≡ x.site = ap (λ (v : Hosting). v.site) is_z in
         let rests : Rests table act x =
@@ -120,9 +122,11 @@ lost_goes table act xs ys x z from to after t wires outcome e found lost is_ys i
               (ap place_of is_z);
           wires = sym (append-nil wires);
           outcome = out;
+          spelled = tt;
         }
     go false is_z out =
         let same : ys ≡ xs = is_ys ∙ ap (λ w. change_first (of_port from) (λ v. w) xs) is_z
         ∙ change_same (of_port from) xs x found in
-        subst (λ vs. Goes table act vs wires wires outcome (net_skipped (net_of xs))) (sym same)
-        (skip_goes table act xs wires outcome rest out)
+        subst (λ vs. Goes table act vs wires wires outcome (net_skipped (net_of xs)) (Unit {0}))
+        (sym same)
+        (skip_goes table act xs wires outcome rest out tt)

@@ -62,7 +62,7 @@ alike_first decides (o ∷ makers) m alike at =
     subst (λ x. AllByRecursion (λ o. decides o ≡ decides x) (o ∷ makers)) same (refl, alike)
 
 -- one site more opens
-pub opens_more : {X : Type 0} (g : X → Hosting) (opens_at : Seat → Hosting) (hosts new : List X)
+pub opens_more : {X Y : Type 0} (g : X → Y) (opens_at : Seat → Y) (hosts new : List X)
     (h : X) (seats : List Seat) (i : ℕ) (s : Seat) → map g hosts ≡ map opens_at (take i seats)
     → new ≡ hosts ++ h ∷ [] → g h ≡ opens_at s → i < length seats → s ≡ get_or seats i s
     → map g new ≡ map opens_at (take (i + 1) seats)

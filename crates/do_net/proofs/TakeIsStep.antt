@@ -39,7 +39,7 @@ later_part true x found other e = refl
 later_part false x found other e = e
 
 -- what stands in a channel is no matter of a part
-part_stays : (from port to : ℕ) (f : Channel → Channel) (ps : List Place) →
+pub part_stays : (from port to : ℕ) (f : Channel → Channel) (ps : List Place) →
     part_in port (change_first (λ x. from == x.port) (with_channel to f) ps) ≡ part_in port ps
 part_stays from port to f [] = refl
 part_stays from port to f (x ∷ ps) =
@@ -90,24 +90,28 @@ by_channel table act N port from None = refl
 by_channel table act N port from (Some c) = refl
 
 -- the oldest of a place is that of its channel
-by_place : (port : ℕ) (found : Option Place) →
+pub by_place : (port : ℕ) (found : Option Place) →
     option_and_then (λ c. slice_get c.waiting 0) (option_and_then (channel_to port) found)
     ≡ option_and_then (oldest_to port) found
 by_place port None = refl
 by_place port (Some x) = refl
+
+-- what a take does by the part of the reader
+abbrev on_taker : List Class → Acting → Net → ℕ → ℕ → Option Part → Option NetStepped
+on_taker table act N port from o = elim o [
+  | None ↦ None
+  | Some p ↦ if not (can_take from p.own.node) then None else elim (channel N from port) [
+    | None ↦ None
+    | Some c ↦ on_oldest table act N port from (slice_get c.waiting 0)
+  ]
+]
 
 -- where the node can take, a take is what it does by the oldest
 by_oldest : (table : List Class) (act : Acting) (N : Net) (port from : ℕ) (p : Part) →
     part_at N port ≡ Some p → can_take from p.own.node ≡ true →
     net_take table act N port from ≡ on_oldest table act N port from (oldest N from port)
 by_oldest table act N port from p e can =
-    ap (λ (o : Option Part). elim o [
-      | None ↦ None
-      | Some q ↦ if not (can_take from q.own.node) then None else elim (channel N from port) [
-        | None ↦ None
-        | Some c ↦ on_oldest table act N port from (slice_get c.waiting 0)
-      ]
-    ]) e
+    ap (on_taker table act N port from) e
     ∙ ap (λ b. if not b then None else elim (channel N from port) [
       | None ↦ None
       | Some c ↦ on_oldest table act N port from (slice_get c.waiting 0)
@@ -163,3 +167,19 @@ take_empty table act N port from can old =
     sym (ap (λ o. unwrap_or o (net_skipped N))
     (by_oldest table act N port from found.0 found.1.0 found.1.1
     ∙ ap (on_oldest table act N port from) old))
+
+-- where the node cannot take nothing is taken
+pub take_cannot : (table : List Class) (act : Acting) (N : Net) (port from : ℕ) →
+    net_can_take N port from ≡ false → net_skipped N ≡ net_step table act N (Take port from)
+take_cannot table act N port from cannot =
+    sym (ap (λ o. unwrap_or o (net_skipped N)) (go (part_at N port) cannot))
+  where
+    go : (o : Option Part) → (elim o [
+      | None ↦ false
+      | Some p ↦ can_take from p.own.node
+    ]) ≡ false → on_taker table act N port from o ≡ None
+    go None e = refl
+    go (Some p) e = ap (λ b. if not b then None else elim (channel N from port) [
+      | None ↦ None
+      | Some c ↦ on_oldest table act N port from (slice_get c.waiting 0)
+    ]) e

@@ -1,6 +1,6 @@
 -- The sites of a network with what is under way from each, and what a network is by them.
 use Rattle.std.specs.Prelude.{Bool, List, None, Option, Some, [], fold, false, map, true, ℕ, ◌≡◌}
-use Rattle.std.specs.Prelude.{if◌then◌else◌, length, nat_lt, not, option_and_then, slice_get}
+use Rattle.std.specs.Prelude.{if◌then◌else◌, option_and_then, slice_get}
 use Rattle.std.specs.Prelude.{unwrap_or, ◌++◌, ◌∷◌}
 use Rattle.do_class.specs.Class.{Class}
 use Rattle.do_machine.specs.State.{is_open}
@@ -16,10 +16,11 @@ use Rattle.do_network.specs.Net.{channel_to, part_at, place_at, with_channel}
 use Rattle.do_network.specs.Site.{Handled}
 use Rattle.do_network.specs.Step.{NetStepped, advanced, hands, net_skipped, wire_of, with_loss}
 use Rattle.do_network.specs.Step.{with_sending}
+use Rattle.do_net.specs.declared.by_port.Hosts.{Hosts}
 use Rattle.do_net.specs.declared.host.Host.{Host}
 use Rattle.do_net.specs.declared.lane.Kept.{Kept}
 use Rattle.std.specs.List.{AllByRecursion}
-use Rattle.do_net.specs.Lanes.{carried_of}
+use Rattle.do_net.specs.Lanes.{carried_of, has_behind}
 use Rattle.do_net.specs.Seen.{Seen, at_rest}
 use Rattle.do_network.specs.declared.input.Done.TheVariants as dones
 
@@ -30,12 +31,12 @@ pub record Hosting : Type 0 where
   pub channels : List Channel
 
 -- a site with its lanes, by what is seen of sites
-abbrev pub hosting : {S A : Type 0} → (S → Seen) → Host S A → Hosting
+abbrev pub hosting : {S : Type 0} → (S → Seen) → Host S → Hosting
 hosting seen h = record { port = h.port; site = seen h.site; channels = h.lanes }
 
 -- sites with their lanes
-abbrev pub hostings : {S A : Type 0} → (S → Seen) → List (Host S A) → List Hosting
-hostings seen hosts = map (hosting seen) hosts
+abbrev pub hostings : {S : Type 0} → (S → Seen) → Hosts S → List Hosting
+hostings seen hosts = map (hosting seen) hosts.items
 
 -- the place of a network at which a site stands
 abbrev pub place_of : Hosting → Place
@@ -88,13 +89,15 @@ abbrev pub net_handed : List Class → Acting → Net → ℕ → Input → NetS
 net_handed table act N port input = unwrap_or (hands table act N port input) (net_skipped N)
 
 -- Sites of these classes and acts go on to others, of which all was fetched too, as a step of their
--- network says, with what was sent before and then, and the outcome.
+-- network says, with what was sent before and then, and the outcome. What is sent in it has a
+-- spelling.
 pub record Goes (table : List Class) (act : Acting) (after : List Hosting)
-    (before now : List Wire) (told : Outcome) (s : NetStepped) : Type 0 where
+    (before now : List Wire) (told : Outcome) (s : NetStepped) (Spelled : Type 0) : Type 0 where
   pub rest : AllByRecursion (Rests table act) after
   pub net : net_of after ≡ s.net
   pub wires : now ≡ before ++ s.wires
   pub outcome : told ≡ s.outcome
+  pub spelled : Spelled
 
 -- a node can take what another sends it
 abbrev pub net_can_take : Net → ℕ → ℕ → Bool
@@ -135,11 +138,6 @@ NetAdvances table act old new from to None =
 NetAdvances table act old new from to (Some x) =
     (oldest (net_of old) from to ≡ Some (carried_of x)) × (AllByRecursion (Rests table act) new
     × (net_of new ≡ change_place from (with_channel to (advanced (carried_of x))) (net_of old)))
-
--- so many stand in a channel that there is
-abbrev pub has_behind : ℕ → Option Channel → Bool
-has_behind after None = false
-has_behind after (Some c) = not (nat_lt (length c.waiting) after)
 
 -- the mark of a loss is put into a channel of a site, where so many stand in it
 abbrev pub HostLoses : Hosting → Hosting → ℕ → ℕ → Bool → Type 0

@@ -1,46 +1,32 @@
 //! A site of a network with what is under way from it.
-ghost use Rattle.std.specs.Prelude.{◌≡◌, ◌++◌, ◌==◌, ◌<◌, [], IfOk, IfSome, OnOk, fold, length};
-ghost use Rattle.std.specs.Prelude.{map, position};
+ghost use Rattle.std.specs.Prelude.{◌≡◌, ◌++◌, ◌==◌, [], IfOk, OnOk, length, map, ℕ};
 ghost use Rattle.std.specs.List.{list_all, AllByRecursion};
 ghost use Rattle.do_machine.specs.State.{is_open};
 ghost use Rattle.do_machine.specs.take.Take.{can_take};
-ghost use Rattle.do_network.specs.Net.{change_channel};
 ghost use Rattle.do_network.specs.Site.{Handled};
 ghost use Rattle.do_network.specs.Snapshot.{part_line};
+ghost use Rattle.do_network.specs.Spelled.{SentSpelled};
 ghost use Rattle.do_network.specs.Step.{wire_of};
-ghost use Rattle.do_net.specs.Seen.{site_handled};
+ghost use Rattle.do_net.specs.Seen.{FetchesSpelled, IsSpelledBy, site_handled};
 ghost use Rattle.do_net.specs.Hosts.{FetchesWire, HasFetched, HostAdvances, HostLoses, forwarded};
 ghost use Rattle.do_net.specs.Hosts.{hosting, hosting_after, outcome_of, was_enabled};
-ghost use Rattle.do_net.specs.Lanes.{IsSent, laden};
+ghost use Rattle.do_net.specs.Lanes.{IsSent};
 
 use crate::hosted::Hosted;
-use crate::lane::{Kept, Lane};
-use do_base::{Items, NodeId, Reserved, ShownList, Text};
+use crate::lane::Kept;
+use crate::lanes::Lanes;
+use crate::rising::Ported;
+use do_base::{NodeId, Reserved, ShownList, Text};
 use do_machine::{NodeLine, Outcome};
 use do_network::{Done, Input, Wire};
 use std::alloc::AllocError;
 
 /// A site, with its lanes by rising peer.
 #[derive(Drop)]
-pub struct Host<S: Hosted> {
+pub struct Host<S> {
     port: NodeId,
     site: S,
-    lanes: Items<Lane>,
-}
-
-/// Where the lane to a peer stands.
-fn lane_at(lanes: &Items<Lane>, to: NodeId) -> Option<usize>
-    ensures index { result ≡ position (λ c. to == c.to) lanes.now }
-    ensures within { IfSome result (λ at. at < length lanes.now) }
-{
-    lanes.as_slice().iter().position(|lane| lane.to() == to)
-}
-
-/// Whether nothing stands in lanes.
-fn are_empty(lanes: &Items<Lane>) -> bool
-    ensures { result ≡ list_all (λ c. length c.waiting == 0) lanes.now }
-{
-    lanes.as_slice().iter().all(|lane| lane.is_empty())
+    lanes: Lanes,
 }
 
 /// Whether an input that came to this was enabled.
@@ -67,24 +53,20 @@ fn fetch_shown<S: Hosted>(site: &mut S, shown: &mut ShownList) -> Result<(), All
 
 impl<S: Hosted> Host<S> {
     /// A site with its lanes.
-    pub fn new(port: NodeId, site: S, lanes: Items<Lane>) -> Host<S>
+    pub fn new(port: NodeId, site: S, lanes: Lanes) -> Host<S>
         ensures { result ≡ record { port = port; site = site; lanes = lanes } }
     {
         Host { port, site, lanes }
     }
 
-    /// Its port.
-    pub fn port(&self) -> NodeId
-        ensures { result ≡ self.now.port }
-    {
-        self.port
-    }
-
     /// Fetches the oldest that the site sent, as what goes over the wire. None exactly where all
     /// was fetched.
     fn fetch_sent(&mut self) -> Result<Option<Wire>, AllocError>
-        ensures { IfOk result (λ wire.
+        ensures wire { IfOk result (λ wire.
             FetchesWire (hosting S.seen self.old) (hosting S.seen self.new) wire) }
+        ensures spelled { IfOk result (λ wire.
+            FetchesSpelled (S.seen self.old.site) (S.seen self.new.site) wire) }
+        ensures port { self.new.port ≡ self.old.port }
     {
         let mut bytes = Text::new(self.lanes.allocator());
         let Some(to) = self.site.next_frame(&mut bytes)? else {
@@ -94,19 +76,6 @@ impl<S: Hosted> Host<S> {
         Ok(Some(Wire { from, to, bytes }))
     }
 
-    /// Puts what was sent into the lane to its peer; where there is none it is dropped.
-    #[tactic(auto, using(crate::proofs::FirstFound::first_steps))]
-    fn carry(&mut self, wire: &Wire) -> Result<(), AllocError>
-        ensures { OnOk result (self.new ≡ record self.old {
-          lanes = change_channel wire.now.to (laden wire.now.bytes) self.old.lanes;
-        }) }
-    {
-        let Some(at) = lane_at(&self.lanes, wire.to) else {
-            return Ok(());
-        };
-        self.lanes.at_mut(at).carry(&wire.bytes)
-    }
-
     /// Fetches all that the site sent: each goes into its lane, and behind the wires.
     fn forward(&mut self, wires: &mut Reserved<Wire>) -> Result<(), AllocError>
         requires { AllByRecursion IsSent (S.seen self.old.site).frames }
@@ -114,9 +83,12 @@ impl<S: Hosted> Host<S> {
             (hosting S.seen self.new ≡ forwarded (hosting S.seen self.old)) }
         ensures wires { OnOk result (wires.new.items ≡ wires.old.items
             ++ map (wire_of self.old.port) (S.seen self.old.site).frames) }
+        ensures spelled { OnOk result
+            (AllByRecursion (IsSpelledBy (S.seen self.old.site)) (S.seen self.old.site).frames) }
+        ensures port { self.new.port ≡ self.old.port }
     {
         while let Some(wire) = self.fetch_sent()? {
-            self.carry(&wire)?;
+            self.lanes.carry(&wire)?;
             wires.reserve(1)?;
             wires.post(wire);
         }
@@ -133,6 +105,9 @@ impl<S: Hosted> Host<S> {
             (hosting S.seen self.old) (site_handled (S.seen self.old.site) input.now)) }
         ensures wires { OnOk result (wires.new.items ≡ wires.old.items
             ++ map (wire_of self.old.port) (site_handled (S.seen self.old.site) input.now).sent) }
+        ensures spelled { OnOk result (SentSpelled (S.seen self.old.site).table
+            (site_handled (S.seen self.old.site) input.now)) }
+        ensures port { self.new.port ≡ self.old.port }
     {
         let done = self.site.handle(input)?;
         let mut shown = ShownList::new(self.lanes.allocator());
@@ -166,30 +141,34 @@ impl<S: Hosted> Host<S> {
     /// Takes out the oldest of what stands in the lane to a peer. None exactly where nothing does,
     /// or there is no lane.
     pub fn advance(&mut self, to: NodeId) -> Option<Kept>
-        ensures { HostAdvances (hosting S.seen self.old) (hosting S.seen self.new) to result }
+        ensures kept { HostAdvances (hosting S.seen self.old) (hosting S.seen self.new) to result }
+        ensures port { self.new.port ≡ self.old.port }
     {
-        match lane_at(&self.lanes, to) {
-            Some(at) => self.lanes.at_mut(at).advance(),
-            None => None,
-        }
+        self.lanes.advance(to)
     }
 
     /// Puts the mark of a loss behind so many of what stands in the lane to a peer. False exactly
     /// where fewer stand in it, or there is no lane.
     pub fn lose(&mut self, to: NodeId, after: u64) -> Result<bool, AllocError>
-        ensures { IfOk result (λ told.
+        ensures told { IfOk result (λ told.
             HostLoses (hosting S.seen self.old) (hosting S.seen self.new) to after told) }
+        ensures port { self.new.port ≡ self.old.port }
     {
-        match lane_at(&self.lanes, to) {
-            Some(at) => self.lanes.at_mut(at).lose(after),
-            None => Ok(false),
-        }
+        self.lanes.lose(to, after)
     }
 
     /// Whether nothing stands in its lanes.
     pub fn is_quiet(&self) -> bool
         ensures { result ≡ list_all (λ c. length c.waiting == 0) self.now.lanes }
     {
-        are_empty(&self.lanes)
+        self.lanes.are_empty()
+    }
+}
+
+impl<S> Ported for Host<S> {
+    ghost port = { λ h. h.port };
+
+    fn port(&self) -> NodeId {
+        self.port
     }
 }

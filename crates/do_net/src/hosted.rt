@@ -5,7 +5,7 @@ ghost use Rattle.do_machine.specs.take.Take.{can_take};
 ghost use Rattle.do_network.specs.Net.{opening_part};
 ghost use Rattle.do_network.specs.Snapshot.{part_line};
 ghost use Rattle.do_net.specs.Seen.{Seen, at_rest, site_handled, with_handled, FetchesFrame};
-ghost use Rattle.do_net.specs.Seen.{FetchesShown};
+ghost use Rattle.do_net.specs.Seen.{FetchesShown, FetchesSpelled};
 
 use do_base::{NodeId, Peers, Shown, Text};
 use do_behave::Behaviour;
@@ -49,11 +49,14 @@ pub trait Hosted: Drop + Sized {
         ensures err { OnErr result (seen self.new ≡ seen self.old) };
 
     /// Takes out the oldest that was sent, a greeting or a frame, appends its bytes, and tells the
-    /// peer that it goes to. None exactly where nothing is left. If memory runs out, the site is as
+    /// peer that it goes to. None exactly where nothing is left.
+    ///
+    /// The one error is that memory ran out, or that a frame has no spelling; the site is then as
     /// before.
     fn next_frame(&mut self, bytes: &mut Text) -> Result<Option<NodeId>, AllocError>
         ensures ok { IfOk result (λ to.
             FetchesFrame (seen self.old) (seen self.new) bytes.old bytes.new to) }
+        ensures spelled { IfOk result (λ to. FetchesSpelled (seen self.old) (seen self.new) to) }
         ensures err { OnErr result (seen self.new ≡ seen self.old) };
 
     /// Takes out the oldest that was shown. None exactly where nothing is left.

@@ -6,37 +6,40 @@ ghost use Rattle.do_class.specs.Class.{Class};
 ghost use Rattle.do_machine.specs.run.Run.{Acting};
 ghost use Rattle.do_base.specs.declared.events.event.Event.TheVariants.{Lose, Take};
 ghost use Rattle.do_network.specs.Snapshot.{net_snapshot};
+ghost use Rattle.do_network.specs.Spelled.{HandsSpelled, SendsSpelled};
 ghost use Rattle.do_network.specs.Step.{input_of, net_step};
 ghost use Rattle.do_network.specs.declared.wire.Wire as sent;
 ghost use Rattle.do_net.specs.Hosts.{Goes, HasFetched, NetAdvances, Rests, hostings, net_can_take};
 ghost use Rattle.do_net.specs.Hosts.{net_handed, net_is_open, net_of};
 ghost use Rattle.do_net.specs.Lanes.{carried_of};
 
+use crate::by_port::Hosts;
 use crate::host::Host;
 use crate::hosted::Hosted;
 use crate::lane::Kept;
+use crate::rising::place_of;
 use bytes::Bytes;
-use do_base::{Event, Items, NodeId, Reserved, ShownList};
+use do_base::{Event, NodeId, Reserved, ShownList};
 use do_frames::RawFrame;
 use do_machine::{NodeLines, Outcome, Snapshot};
 use do_network::{Input, Wire};
 use std::alloc::{AllocError, Global};
 
 /// Where the site of a port stands.
-fn host_at<S: Hosted>(hosts: &Items<Host<S>>, port: NodeId) -> Option<usize>
-    ensures index { result ≡ position (λ x. port == x.port) hosts.now }
-    ensures within { IfSome result (λ at. at < length hosts.now) }
+fn host_at<S: Hosted>(hosts: &Hosts<S>, port: NodeId) -> Option<usize>
+    ensures index { result ≡ position (λ x. port == x.port) hosts.now.items }
+    ensures within { IfSome result (λ at. at < length hosts.now.items) }
 {
-    hosts.as_slice().iter().position(|host| host.port() == port)
+    place_of(&hosts.items, port)
 }
 
 /// The site at a place.
 #[tactic(auto, using(std::proofs::lemmas::Option::slice_get_read))]
-fn host_in<S: Hosted>(hosts: &Items<Host<S>>, at: usize) -> &Host<S>
-    requires { at < length hosts.now }
-    ensures { slice_get hosts.now at ≡ Some result.now }
+fn host_in<S: Hosted>(hosts: &Hosts<S>, at: usize) -> &Host<S>
+    requires { at < length hosts.now.items }
+    ensures { slice_get hosts.now.items at ≡ Some result.now }
 {
-    &hosts.as_slice()[at]
+    &hosts.items.as_slice()[at]
 }
 
 /// An event of which nothing is shown.
@@ -51,7 +54,7 @@ fn shows_nothing(alloc: Global, enabled: bool) -> Outcome
 
 /// The site of a port is handed an input.
 fn hand<S: Hosted>(
-    hosts: &mut Items<Host<S>>,
+    hosts: &mut Hosts<S>,
     port: NodeId,
     input: &Input,
     wires: &mut Reserved<Wire>,
@@ -61,16 +64,17 @@ fn hand<S: Hosted>(
         AllByRecursion (Rests table act) (hostings S.seen hosts.old) →
         IfOk result (λ outcome. Goes table act (hostings S.seen hosts.new) wires.old.items
         wires.new.items outcome
-        (net_handed table act (net_of (hostings S.seen hosts.old)) port input.now)) }
+        (net_handed table act (net_of (hostings S.seen hosts.old)) port input.now)
+        (HandsSpelled table act (net_of (hostings S.seen hosts.old)) port input.now)) }
 {
     match host_at(hosts, port) {
-        Some(at) => hosts.at_mut(at).hand(input, wires),
-        None => Ok(shows_nothing(hosts.allocator(), false)),
+        Some(at) => hosts.items.at_mut(at).hand(input, wires),
+        None => Ok(shows_nothing(hosts.items.allocator(), false)),
     }
 }
 
 /// Whether a node can take what another sends it.
-pub(crate) fn can_take<S: Hosted>(hosts: &Items<Host<S>>, port: NodeId, from: NodeId) -> bool
+pub(crate) fn can_take<S: Hosted>(hosts: &Hosts<S>, port: NodeId, from: NodeId) -> bool
     ensures { result ≡ net_can_take (net_of (hostings S.seen hosts.now)) port from }
 {
     match host_at(hosts, port) {
@@ -80,7 +84,7 @@ pub(crate) fn can_take<S: Hosted>(hosts: &Items<Host<S>>, port: NodeId, from: No
 }
 
 /// Whether the end of a node towards another is open.
-fn is_open<S: Hosted>(hosts: &Items<Host<S>>, port: NodeId, peer: NodeId) -> bool
+fn is_open<S: Hosted>(hosts: &Hosts<S>, port: NodeId, peer: NodeId) -> bool
     ensures { result ≡ net_is_open (net_of (hostings S.seen hosts.now)) port peer }
 {
     match host_at(hosts, port) {
@@ -107,7 +111,7 @@ fn input_of(alloc: Global, from: NodeId, kept: &Kept) -> Result<Input, AllocErro
 }
 
 /// Takes out the oldest of what stands in the lane from one node to another.
-fn advance<S: Hosted>(hosts: &mut Items<Host<S>>, from: NodeId, to: NodeId) -> Option<Kept>
+fn advance<S: Hosted>(hosts: &mut Hosts<S>, from: NodeId, to: NodeId) -> Option<Kept>
     ensures fetched { AllByRecursion HasFetched (hostings S.seen hosts.old) →
         AllByRecursion HasFetched (hostings S.seen hosts.new) }
     ensures net { (table : List Class) (act : Acting) →
@@ -116,14 +120,14 @@ fn advance<S: Hosted>(hosts: &mut Items<Host<S>>, from: NodeId, to: NodeId) -> O
         result }
 {
     match host_at(hosts, from) {
-        Some(at) => hosts.at_mut(at).advance(to),
+        Some(at) => hosts.items.at_mut(at).advance(to),
         None => None,
     }
 }
 
 /// A node is handed what was taken out of the lane from another.
 fn hand_kept<S: Hosted>(
-    hosts: &mut Items<Host<S>>,
+    hosts: &mut Hosts<S>,
     port: NodeId,
     from: NodeId,
     kept: &Kept,
@@ -134,15 +138,16 @@ fn hand_kept<S: Hosted>(
         AllByRecursion (Rests table act) (hostings S.seen hosts.old) →
         IfOk result (λ outcome. Goes table act (hostings S.seen hosts.new) wires.old.items
         wires.new.items outcome (net_handed table act (net_of (hostings S.seen hosts.old)) port
-        (input_of from (carried_of kept.now)))) }
+        (input_of from (carried_of kept.now))) (HandsSpelled table act
+        (net_of (hostings S.seen hosts.old)) port (input_of from (carried_of kept.now)))) }
 {
-    let input = input_of(hosts.allocator(), from, kept)?;
+    let input = input_of(hosts.items.allocator(), from, kept)?;
     hand(hosts, port, &input, wires)
 }
 
 /// A node that can take it takes the oldest of what stands in the lane from another.
 fn take_oldest<S: Hosted>(
-    hosts: &mut Items<Host<S>>,
+    hosts: &mut Hosts<S>,
     port: NodeId,
     from: NodeId,
     wires: &mut Reserved<Wire>,
@@ -153,17 +158,18 @@ fn take_oldest<S: Hosted>(
         AllByRecursion (Rests table act) (hostings S.seen hosts.old) →
         IfOk result (λ outcome. Goes table act (hostings S.seen hosts.new) wires.old.items
         wires.new.items outcome
-        (net_step table act (net_of (hostings S.seen hosts.old)) (Take port from))) }
+        (net_step table act (net_of (hostings S.seen hosts.old)) (Take port from))
+        (SendsSpelled table act (net_of (hostings S.seen hosts.old)) (Take port from))) }
 {
     match advance(hosts, from, port) {
         Some(kept) => hand_kept(hosts, port, from, &kept, wires),
-        None => Ok(shows_nothing(hosts.allocator(), false)),
+        None => Ok(shows_nothing(hosts.items.allocator(), false)),
     }
 }
 
 /// A node takes the oldest of what stands in the lane from another.
 fn take<S: Hosted>(
-    hosts: &mut Items<Host<S>>,
+    hosts: &mut Hosts<S>,
     port: NodeId,
     from: NodeId,
     wires: &mut Reserved<Wire>,
@@ -173,19 +179,20 @@ fn take<S: Hosted>(
         AllByRecursion (Rests table act) (hostings S.seen hosts.old) →
         IfOk result (λ outcome. Goes table act (hostings S.seen hosts.new) wires.old.items
         wires.new.items outcome
-        (net_step table act (net_of (hostings S.seen hosts.old)) (Take port from))) }
+        (net_step table act (net_of (hostings S.seen hosts.old)) (Take port from))
+        (SendsSpelled table act (net_of (hostings S.seen hosts.old)) (Take port from))) }
 {
     if can_take(hosts, port, from) {
         take_oldest(hosts, port, from, wires)
     } else {
-        Ok(shows_nothing(hosts.allocator(), false))
+        Ok(shows_nothing(hosts.items.allocator(), false))
     }
 }
 
 /// A connection is lost behind so many of what stands in the lane from one node to another, where
 /// the end of the reader is open.
 fn lose<S: Hosted>(
-    hosts: &mut Items<Host<S>>,
+    hosts: &mut Hosts<S>,
     from: NodeId,
     to: NodeId,
     after: u64,
@@ -193,22 +200,23 @@ fn lose<S: Hosted>(
     ensures { (table : List Class) (act : Acting) (wires : List sent.Wire) →
         AllByRecursion (Rests table act) (hostings S.seen hosts.old) →
         IfOk result (λ outcome. Goes table act (hostings S.seen hosts.new) wires wires outcome
-        (net_step table act (net_of (hostings S.seen hosts.old)) (Lose from to after))) }
+        (net_step table act (net_of (hostings S.seen hosts.old)) (Lose from to after))
+        (SendsSpelled table act (net_of (hostings S.seen hosts.old)) (Lose from to after))) }
 {
-    let alloc = hosts.allocator();
+    let alloc = hosts.items.allocator();
     if !is_open(hosts, to, from) {
         return Ok(shows_nothing(alloc, false));
     }
     let Some(at) = host_at(hosts, from) else {
         return Ok(shows_nothing(alloc, false));
     };
-    let told = hosts.at_mut(at).lose(to, after)?;
+    let told = hosts.items.at_mut(at).lose(to, after)?;
     Ok(shows_nothing(alloc, told))
 }
 
 /// What an event does to the sites.
 pub(crate) fn step<S: Hosted>(
-    hosts: &mut Items<Host<S>>,
+    hosts: &mut Hosts<S>,
     event: &Event,
     wires: &mut Reserved<Wire>,
 ) -> Result<Outcome, AllocError>
@@ -217,7 +225,8 @@ pub(crate) fn step<S: Hosted>(
         AllByRecursion (Rests table act) (hostings S.seen hosts.old) →
         IfOk result (λ outcome. Goes table act (hostings S.seen hosts.new) wires.old.items
         wires.new.items outcome
-        (net_step table act (net_of (hostings S.seen hosts.old)) event.now)) }
+        (net_step table act (net_of (hostings S.seen hosts.old)) event.now)
+        (SendsSpelled table act (net_of (hostings S.seen hosts.old)) event.now)) }
 {
     match event {
         Event::Start {
@@ -234,25 +243,25 @@ pub(crate) fn step<S: Hosted>(
         Event::Close { node, peer } => hand(hosts, *node, &Input::Close(*peer), wires),
         Event::Lose { from, to, after } => lose(hosts, *from, *to, *after),
         Event::Timeout { node } => hand(hosts, *node, &Input::Timeout, wires),
-        Event::Check => Ok(shows_nothing(hosts.allocator(), true)),
+        Event::Check => Ok(shows_nothing(hosts.items.allocator(), true)),
     }
 }
 
 /// The sites, as a check lists them.
-pub(crate) fn snapshot<S: Hosted>(hosts: &Items<Host<S>>) -> Result<Snapshot, AllocError>
+pub(crate) fn snapshot<S: Hosted>(hosts: &Hosts<S>) -> Result<Snapshot, AllocError>
     ensures { IfOk result (λ listed.
         listed ≡ net_snapshot (net_of (hostings S.seen hosts.now))) }
 {
-    let mut nodes = NodeLines::new(hosts.allocator());
-    for host in hosts.as_slice() {
+    let mut nodes = NodeLines::new(hosts.items.allocator());
+    for host in hosts.items.as_slice() {
         nodes.push(host.snapshot()?)?;
     }
     Ok(Snapshot { nodes })
 }
 
 /// Whether nothing stands in the lanes of sites.
-pub(crate) fn are_quiet<S: Hosted>(hosts: &Items<Host<S>>) -> bool
-    ensures { result ≡ list_all (λ h. list_all (λ c. length c.waiting == 0) h.lanes) hosts.now }
+pub(crate) fn are_quiet<S: Hosted>(hosts: &Hosts<S>) -> bool
+    ensures { result ≡ list_all (λ h. list_all (λ c. length c.waiting == 0) h.lanes) hosts.now.items }
 {
-    hosts.as_slice().iter().all(|host| host.is_quiet())
+    hosts.items.as_slice().iter().all(|host| host.is_quiet())
 }

@@ -4,6 +4,7 @@ ghost use Rattle.std.specs.Prelude.{nat_lt, not};
 ghost use Rattle.do_net.specs.Lanes.{Advances, greets, laden};
 ghost use Rattle.do_network.specs.Step.{with_loss};
 
+use crate::rising::Ported;
 use do_base::{NodeId, Text};
 use std::alloc::{AllocError, Global};
 use std::collections::VecDeque;
@@ -65,16 +66,10 @@ impl Lane {
         }
     }
 
-    /// The peer that it goes to.
-    pub fn to(&self) -> NodeId
-        ensures { result ≡ self.now.to }
-    {
-        self.to
-    }
-
     /// Adds bytes that are sent, a greeting or a whole frame, which it shares.
     pub fn carry(&mut self, bytes: &Text) -> Result<(), AllocError>
-        ensures { OnOk result (self.new ≡ laden bytes.now self.old) }
+        ensures ok { OnOk result (self.new ≡ laden bytes.now self.old) }
+        ensures to { self.new.to ≡ self.old.to }
     {
         if greets(bytes) {
             self.greeting = true;
@@ -94,7 +89,8 @@ impl Lane {
 
     /// Takes out the oldest of what stands in it. The greeting goes with the first frame.
     pub fn advance(&mut self) -> Option<Kept>
-        ensures { Advances self.old self.new result }
+        ensures kept { Advances self.old self.new result }
+        ensures to { self.new.to ≡ self.old.to }
     {
         let kept = self.waiting.pop_front()?;
         if let Kept::Frame(_) = &kept {
@@ -109,11 +105,20 @@ impl Lane {
         ensures told { IfOk result (λ told. told ≡ not (nat_lt (length self.old.waiting) after)) }
         ensures ok { IfOk result (λ told. self.new ≡ (if told then with_loss after self.old
             else self.old)) }
+        ensures to { self.new.to ≡ self.old.to }
     {
         if (self.waiting.len() as u64) < after {
             return Ok(false);
         }
         self.waiting.insert(after as usize, Kept::Loss)?;
         Ok(true)
+    }
+}
+
+impl Ported for Lane {
+    ghost port = { λ c. c.to };
+
+    fn port(&self) -> NodeId {
+        self.to
     }
 }

@@ -3,15 +3,16 @@ ghost use Rattle.std.specs.Prelude.{◌≡◌, ◌++◌, ◌<◌, IfOk, IsErr, O
 ghost use Rattle.std.specs.Prelude.{length, slice_get, true};
 ghost use Rattle.do_network.specs.Net.{net_opening};
 ghost use Rattle.do_network.specs.Snapshot.{net_snapshot};
+ghost use Rattle.do_network.specs.Spelled.{SendsSpelled};
 ghost use Rattle.do_network.specs.Step.{net_step};
 ghost use Rattle.do_net.specs.Hosts.{net_can_take};
 ghost use Rattle.do_net.specs.Net.{AreAlike, HasSent, Stands, is_quiet, network};
 
-use crate::host::Host;
+use crate::by_port::Hosts;
 use crate::hosted::Hosted;
 use crate::hosts::{are_quiet, can_take, snapshot, step};
 use crate::opening::{Makers, opening};
-use do_base::{Event, Items, NodeId, Reserved};
+use do_base::{Event, NodeId, Reserved};
 use do_behave::Behaviour;
 use do_class::ClassTable;
 use do_machine::{Outcome, Seats, Shared, Snapshot};
@@ -35,7 +36,7 @@ fn first_of<A: Behaviour + Drop>(makers: &Makers<A>) -> Result<Shared<A>, AllocE
 pub struct Net<S: Hosted> {
     table: Shared<ClassTable>,
     acts: Shared<S::Acts>,
-    hosts: Items<Host<S>>,
+    hosts: Hosts<S>,
     wires: Reserved<Wire>,
     spent: bool,
 }
@@ -75,8 +76,9 @@ impl<S: Hosted> Net<S> {
     /// Does one event. One that is not enabled shows and sends nothing and leaves the network as it
     /// was. What is sent waits for `next_wire`.
     ///
-    /// The one error is that memory ran out, or that a number would pass what a site can count.
-    /// Each later step then answers it, and the network is no more that of the definitions.
+    /// The one error is that memory ran out, that a number would pass what a site can count, or
+    /// that a frame has no spelling. Each later step then answers it, and the network is no more
+    /// that of the definitions.
     pub fn step(&mut self, event: &Event) -> Result<Outcome, AllocError>
         requires { Stands S.seen (S.Acts.act self.old.acts) self.old }
         ensures stands { Stands S.seen (S.Acts.act self.old.acts) self.new }
@@ -87,6 +89,8 @@ impl<S: Hosted> Net<S> {
         ensures wires { OnOk result (self.new.wires.items ≡ self.old.wires.items
             ++ (net_step self.old.table (S.Acts.act self.old.acts) (network S.seen self.old)
             event.now).wires) }
+        ensures spelled { OnOk result (SendsSpelled self.old.table (S.Acts.act self.old.acts)
+            (network S.seen self.old) event.now) }
         ensures table { self.new.table ≡ self.old.table }
         ensures acts { self.new.acts ≡ self.old.acts }
         ensures spent { OnErr result (self.new.spent ≡ true) }

@@ -11,7 +11,7 @@ returns-in-Some g c =
     let x = c.host_in.result.now in
     c.is_open.ensures
     ∙ is_open_found (hostings seen hosts) (hosting seen x) c.args.port c.args.peer
-    (place_found (hosting seen) c.args.port hosts c.in-Some.at x (sym c.in-Some.ensures.index)
+    (place_found (hosting seen) c.args.port hosts.items c.in-Some.at x (sym c.in-Some.ensures.index)
     c.host_in.ensures)
 
 pub returns-in-None : goal.returns-in-None
@@ -19,4 +19,4 @@ returns-in-None g c =
     let seen = g.S.Hosted.seen in
     let hosts = c.args.hosts.now in
     is_open_none (hostings seen hosts) c.args.port c.args.peer
-    (place_none (hosting seen) c.args.port hosts (sym c.in-None.ensures.index))
+    (place_none (hosting seen) c.args.port hosts.items (sym c.in-None.ensures.index))

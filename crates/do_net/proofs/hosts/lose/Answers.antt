@@ -1,6 +1,7 @@
 use Rattle.std.proofs.Common.{◌≡◌, true, rules, sym, refl}
 use Rattle.do_net.specs.Hosts.{hosting, hostings, net_is_open, net_of}
 use Rattle.do_net.proofs.LoseIsStep.{lost_goes, none_lost}
+use Rattle.do_net.proofs.ByHalves.{rising_set}
 use Rattle.do_net.proofs.HostPlaces.{place_found, place_none, place_set}
 use Rattle.do_net.proofs.hosts.lose.Goals as goal
 
@@ -12,7 +13,7 @@ returns-in_default g c table act wires rest =
     search rules in
     none_lost table act (hostings seen hosts) c.args.from c.args.to c.args.after wires
     c.shows_nothing-in_default.result opened
-    (place_none (hosting seen) c.args.from hosts (search rules))
+    (place_none (hosting seen) c.args.from hosts.items (search rules))
     c.shows_nothing-in_default.ensures rest
 
 pub returns : goal.returns
@@ -26,8 +27,15 @@ returns g c table act wires rest =
     search rules in
     lost_goes table act (hostings seen hosts) _ (hosting seen x) (hosting seen z) c.args.from
     c.args.to c.args.after c.in_ok-told.told wires c.shows_nothing-2.result opened
-    (place_found (hosting seen) c.args.from hosts c.in-Some.at x first c.at_mut.ensures.value)
-    c.in_ok-told.ensures
-    (place_set (hosting seen) c.args.from hosts _ c.in-Some.at x z first c.at_mut.ensures.value
+    (place_found (hosting seen) c.args.from hosts.items c.in-Some.at x first c.at_mut.ensures.value)
+    c.in_ok-told.ensures.told
+    (place_set (hosting seen) c.args.from hosts.items _ c.in-Some.at x z first c.at_mut.ensures.value
     refl)
     c.shows_nothing-2.ensures rest
+
+-- the sites stay by rising port
+pub invariant_of-hosts : goal.invariant_of-hosts
+invariant_of-hosts g c = record {
+  rising = rising_set (λ h. h.port) c.args.hosts.now.items c.in-Some.at c.at_mut.result.now
+      c.lose.new.self c.args.hosts.now.rising c.at_mut.ensures.value c.lose.ensures.port;
+}

@@ -14,4 +14,4 @@ returns g c =
     ap (λ ns. record { nodes = ns })
     (c.loop-host.invariant ∙ ap (map (λ h. part_line (seen h.site).part)) whole
     ∙ ap (map (λ h. part_line (seen h.site).part)) c.as_slice-host-items.ensures
-    ∙ listed (hosting seen) c.args.hosts.now)
+    ∙ listed (hosting seen) c.args.hosts.now.items)

@@ -8,4 +8,4 @@ pub returns : goal.returns
 returns g c =
     c.are_quiet.ensures
     ∙ all_listed (hosting g.S.Hosted.seen) (λ cs. list_all (λ x. length x.waiting == 0) cs)
-    c.args.self.now.hosts
+    c.args.self.now.hosts.items

@@ -1,0 +1,21 @@
+use Rattle.std.proofs.Common.{sym}
+use Rattle.do_net.proofs.ByHalves.{rising_set}
+use Rattle.do_net.proofs.ChannelPlaces.{channels_lose, none_loses}
+use Rattle.do_net.proofs.lanes.Lanes.lose.Goals as goal
+
+pub returns-in-Some : goal.returns-in-Some
+returns-in-Some c =
+    rw (← c.self.view_is) (channels_lose c.lose.result c.self.inside.lanes c.args.to c.args.after
+    c.in-Some.at c.at_mut.result.now c.lose.new.self (sym c.in-Some.ensures.index)
+    c.at_mut.ensures.value c.lose.ensures.told c.lose.ensures.ok)
+
+pub returns-in-None : goal.returns-in-None
+returns-in-None c =
+    rw (← c.self.view_is) (none_loses c.self.inside.lanes c.args.to c.args.after
+    (sym c.in-None.ensures.index))
+
+-- the lanes stay by rising peer
+pub invariant_of-self : goal.invariant_of-self
+invariant_of-self c =
+    rising_set (λ x. x.to) c.self.inside.lanes c.in-Some.at c.at_mut.result.now c.lose.new.self
+    c.self.invariant c.at_mut.ensures.value c.lose.ensures.to
