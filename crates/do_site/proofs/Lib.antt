@@ -4,6 +4,7 @@ pub mod AnswersUsed
 pub mod AwaitedBelow
 pub mod DistinctPorts
 pub mod EffectsTold
+pub mod FetchedFrames
 pub mod FramesTaken
 pub mod HeapsOfEffects
 pub mod InputsHandled

@@ -1,10 +1,11 @@
 //! A site: what a caller sees of it.
+mod naming;
 
 ghost use Rattle.std.specs.Prelude.{◌≡◌, ◌==◌, IfOk, OnErr, length};
 ghost use Rattle.std.specs.Result.{result_map_both};
 ghost use Rattle.do_machine.specs.State.{is_open};
 ghost use Rattle.do_machine.specs.take.Take.{can_take};
-ghost use Rattle.do_net.specs.Seen.{FetchesFrame, FetchesShown, at_rest};
+ghost use Rattle.do_net.specs.Seen.{FetchesFrame, FetchesShown, FetchesSpelled, at_rest};
 ghost use Rattle.do_net.specs.Turns.{can_act};
 ghost use Rattle.do_network.specs.Net.{opening_part};
 ghost use Rattle.do_network.specs.Site.{enabled_input};
@@ -108,18 +109,25 @@ impl<B: Behaviour + Drop> Site<B> {
     }
 
     /// Takes out the oldest frame that waits, or the greeting before it, appends its bytes, and
-    /// tells the peer that it goes to. None exactly where nothing waits. If memory runs out, the
-    /// site is as before.
+    /// tells the peer that it goes to. None exactly where nothing waits.
+    ///
+    /// If memory runs out, or the oldest frame has no spelling that its peer can read, the site is
+    /// as before.
     pub fn next_frame(&mut self, bytes: &mut Text) -> Result<Option<NodeId>, AllocError>
         ensures ok { IfOk result (λ to. FetchesFrame
             (seen_of self.old.table (B.act self.old.acts) self.old.work.core)
             (seen_of self.new.table (B.act self.new.acts) self.new.work.core)
             bytes.old bytes.new to) }
+        ensures spelled { IfOk result (λ to. FetchesSpelled
+            (seen_of self.old.table (B.act self.old.acts) self.old.work.core)
+            (seen_of self.new.table (B.act self.new.acts) self.new.work.core) to) }
         ensures err { OnErr result
             (seen_of self.new.table (B.act self.new.acts) self.new.work.core
             ≡ seen_of self.old.table (B.act self.old.acts) self.old.work.core) }
     {
-        self.work.core.streams.next_frame(bytes)
+        let table = self.table.get();
+        let me = self.work.core.part.port();
+        self.work.core.streams.next_frame(table, me, bytes)
     }
 
     /// Takes out the oldest line that waits. None exactly where nothing waits.

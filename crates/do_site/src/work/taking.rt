@@ -1,16 +1,17 @@
 //! Frames that are taken.
-ghost use Rattle.std.specs.Prelude.{◌≡◌, ◌&&◌, IfSome, OnErr, OnOk, Some, true};
+ghost use Rattle.std.specs.Prelude.{◌≡◌, ◌&&◌, IfOk, IfSome, OnErr, OnOk, Some, true};
 ghost use Rattle.std.specs.List.{list_all};
 ghost use Rattle.do_frames.specs.declared.frame.Frame.{Frame as Framed};
 ghost use Rattle.do_machine.specs.run.Run.{Acting};
 ghost use Rattle.do_machine.specs.State.{is_open};
 ghost use Rattle.do_network.specs.Faults.{peer_fault};
+ghost use Rattle.do_network.specs.Frames.{read_frame};
 ghost use Rattle.do_network.specs.Links.{having_read};
 ghost use Rattle.do_network.specs.Own.{site_context};
 ghost use Rattle.do_network.specs.Site.{frame_input, takes_frame};
 ghost use Rattle.do_machine.specs.take.Lines.{item_line};
 ghost use Rattle.do_rules.specs.Ruling.{names_in, ruling as ruling_on};
-ghost use Rattle.do_streams.specs.Reading.{AreKnown, IsReadBy, names_of};
+ghost use Rattle.do_streams.specs.Reading.{AreKnown, IsReadBy, IsReading, names_of};
 ghost use Rattle.do_effects.specs.Doing.{doing};
 ghost use Rattle.do_effects.specs.Taking.{ruling_copies};
 ghost use Rattle.do_site.specs.Kept.{IsKept};
@@ -141,6 +142,25 @@ impl Work {
         Ok(Done::Moved)
     }
 
+    /// Reads a frame of a peer by the names that its frames named lately. Nothing changes.
+    fn read(
+        &mut self,
+        table: &ClassTable,
+        from: NodeId,
+        raw: &RawFrame,
+    ) -> Result<Reading, RawFault>
+        requires kept { IsKept table.now self.old }
+        ensures read { IsReading (names_of self.old.core.streams.links from)
+            (read_frame table.now from self.old.core.part.own.node.port
+            (names_of self.old.core.streams.links from) raw.now) result }
+        ensures known { IfOk result (λ r. IfSome r.names (λ ns.
+            AreKnown self.old.core.streams.classes ns)) }
+        ensures same { self.new ≡ self.old }
+    {
+        let port = self.core.part.port();
+        self.core.streams.read(table, from, port, raw)
+    }
+
     /// The next frame of a peer is taken, where the node can take one.
     ///
     /// An error means that memory ran out; nothing but room changed then.
@@ -159,8 +179,7 @@ impl Work {
         if !self.core.part.can_take(from) {
             return Ok(Done::Skipped);
         }
-        let port = self.core.part.port();
-        match self.core.streams.read(table, from, port, raw) {
+        match self.read(table, from, raw) {
             Ok(reading) => self.take_frame(table, from, reading),
             Err(RawFault::BadFrame(place)) => {
                 self.close(from)?;

@@ -1,11 +1,17 @@
-use Rattle.std.proofs.Common.{◌≡◌, ◌∙◌, true, Ok, Err, ap, refl, subst, sym}
+use Rattle.std.proofs.Common.{◌≡◌, ◌∙◌, true, Ok, Err, Some, refl, subst, sym}
 use Rattle.do_frames.specs.declared.fault.RawFault.{RawFault}
+use Rattle.do_machine.specs.ends.Closing.{closing}
 use Rattle.do_machine.specs.take.Take.{can_take}
+use Rattle.do_network.specs.Faults.{peer_fault}
 use Rattle.do_network.specs.Frames.{read_frame}
+use Rattle.do_network.specs.Links.{having_read}
+use Rattle.do_network.specs.Site.{takes_frame}
 use Rattle.do_network.specs.declared.fault.PeerFault.TheVariants.{BadFrame}
 use Rattle.do_network.specs.declared.input.Done.TheVariants.{Closed}
 use Rattle.do_streams.specs.Reading.{IsReading, names_of}
 use Rattle.std.specs.declared.alloc.AllocError.{AllocError}
+use Rattle.do_site.specs.Steps.{Handles, Moves, part_of, seen_of}
+use Rattle.do_site.specs.declared.work.Work.{Work}
 use Rattle.do_site.proofs.FramesTaken.{bad_came, read_came, skipped_came}
 use Rattle.do_site.proofs.work.Work.take.Goals as goal
 
@@ -19,15 +25,17 @@ returns-then-not-can_take-clause-done c act =
 -- a frame that was read is taken
 pub returns-in-Ok-clause-done : goal.returns-in-Ok-clause-done
 returns-in-Ok-clause-done c act =
-    let old = c.args.self.now.core in
+    let table = c.args.table.now in
     let from = c.args.from in
-    let names = names_of old.streams.links from in
-    let can : can_take from old.part.own.node ≡ true =
+    let frame = c.in-Ok.reading.frame in
+    let can : can_take from c.args.self.now.core.part.own.node ≡ true =
     sym c.can_take.ensures ∙ c.if-not-can_take.false in
-    read_came c.args.table.now act old c.take_frame.new.self.core from AllocError c.args.raw.now
-    c.take_frame.result (Ok c.in-Ok.reading.frame) can
-    (ap (λ port. read_frame c.args.table.now from port names c.args.raw.now)
-    (sym c.port-port.ensures) ∙ c.in-Ok.ensures.read.0) (c.take_frame.ensures.done act)
+    read_came table act c.args.self.now.core c.take_frame.new.self.core from AllocError
+    c.args.raw.now c.take_frame.result (Ok frame) can c.in-Ok.ensures.read.0
+    (subst (λ (w : Work). Handles (seen_of table act w.core)
+    (seen_of table act c.take_frame.new.self.core) c.take_frame.result
+    (Some (takes_frame table (having_read from frame (part_of w.core)) from frame
+    (peer_fault w.core.part.own from frame)))) c.read.ensures.same (c.take_frame.ensures.done act))
 
 -- where none was read, the end towards the peer is closed
 pub returns-in_ok-close-in-Err-BadFrame-clause-done :
@@ -40,11 +48,10 @@ returns-in_ok-close-in-Err-BadFrame-clause-done c act =
     let can : can_take from old.part.own.node ≡ true =
     sym c.can_take.ensures ∙ c.if-not-can_take.false in
     let read = subst (λ (fault : RawFault). IsReading names (read_frame c.args.table.now from
-    c.port-port.result names c.args.raw.now) (Err fault)) c.in-Err-BadFrame.field-0-is
+    old.part.own.node.port names c.args.raw.now) (Err fault)) c.in-Err-BadFrame.field-0-is
     c.in-Err-BadFrame.ensures.read in
     read_came c.args.table.now act old c.close.new.self.core from AllocError c.args.raw.now
-    (Ok (Closed from (BadFrame place))) (Err place) can
-    (ap (λ port. read_frame c.args.table.now from port names c.args.raw.now)
-    (sym c.port-port.ensures) ∙ read)
+    (Ok (Closed from (BadFrame place))) (Err place) can read
     (bad_came c.args.table.now act old c.close.new.self.core from place
-    c.in_ok-close-in-Err-BadFrame.ensures.ok)
+    (subst (λ (w : Work). Moves w.core c.close.new.self.core (closing from w.core.part.own.node))
+    c.read.ensures.same c.in_ok-close-in-Err-BadFrame.ensures.ok))
