@@ -1,7 +1,12 @@
 //! The summary of a schedule over a network.
-ghost use Rattle.std.specs.Prelude.{◌≡◌, [], OnOk, IfOk};
+ghost use Rattle.std.specs.Prelude.{◌≡◌, [], List, OnOk, IfOk, map};
+ghost use Rattle.do_agreement.specs.Along.{EventsSendSpelled};
+ghost use Rattle.do_machine.specs.declared.state.Seat.{Seat};
+ghost use Rattle.do_machine.specs.World.{IsWorld, opening};
+ghost use Rattle.do_machine.specs.check.Blocks.{blocks, events_of};
 ghost use Rattle.do_make.specs.Summary.{summary_of, with_block};
 ghost use Rattle.do_net.specs.Net.{Stands, network};
+ghost use Rattle.do_network.specs.Net.{net_opening};
 ghost use Rattle.do_network.specs.Wired.{net_blocks, net_line_step, wired_block};
 
 use crate::adding::{add_listed, add_outcome, add_wires};
@@ -24,6 +29,8 @@ fn add_line<S: Hosted>(
         (net_line_step net.old.table (S.Acts.act net.old.acts) (network S.seen net.old) line))) }
     ensures net { OnOk result (network S.seen net.new ≡ (net_line_step net.old.table
         (S.Acts.act net.old.acts) (network S.seen net.old) line).net) }
+    ensures spelled { OnOk result (EventsSendSpelled net.old.table (S.Acts.act net.old.acts)
+        (network S.seen net.old) (events_of line)) }
     ensures stands { OnOk result (Stands S.seen (S.Acts.act net.new.acts) net.new) }
     ensures table { OnOk result (net.new.table ≡ net.old.table) }
     ensures acts { OnOk result (net.new.acts ≡ net.old.acts) }
@@ -38,8 +45,9 @@ fn add_line<S: Hosted>(
 
 /// Does what the lines say, one after another, and counts what they come to.
 ///
-/// The network stands, and has nothing sent that was not fetched. The one error is that memory ran
-/// out, or that a number would pass 64 bits.
+/// The network stands, and has nothing sent that was not fetched. From the opening of a world on,
+/// the lines come to what they come to in one local machine. The one error is that memory ran out,
+/// or that a number would pass 64 bits.
 pub fn summary<S: Hosted>(
     alloc: Global,
     net: &mut Net<S>,
@@ -47,8 +55,13 @@ pub fn summary<S: Hosted>(
 ) -> Result<Summary, AllocError>
     requires stands { Stands S.seen (S.Acts.act net.old.acts) net.old }
     requires sent { net.old.wires.items ≡ [] }
-    ensures { IfOk result (λ sum. sum ≡ summary_of (net_blocks net.old.table
+    ensures sum { IfOk result (λ sum. sum ≡ summary_of (net_blocks net.old.table
         (S.Acts.act net.old.acts) (network S.seen net.old) lines)) }
+    ensures one_machine { (seats : List Seat) → IsWorld net.old.table seats
+        → network S.seen net.old ≡ net_opening net.old.table seats
+        → OnOk result (map (λ b. b.block) (net_blocks net.old.table (S.Acts.act net.old.acts)
+        (network S.seen net.old) lines) ≡ blocks net.old.table (S.Acts.act net.old.acts)
+        (opening net.old.table seats) lines) }
 {
     let mut sum = Summary::new();
     for line in lines.into_vec() {

@@ -1,6 +1,6 @@
 -- One run of a node more.
 use Rattle.std.proofs.Common.{◌≡◌, ℕ, zero, suc, ◌+◌, ◌||◌, ◌++◌, List, [], false, ap, refl, ◌∙◌}
-use Rattle.std.proofs.Common.{sym, arith, append_assoc}
+use Rattle.std.proofs.Common.{sym, subst, arith, append_assoc}
 use Rattle.std.proofs.lemmas.List.{append-nil}
 use Rattle.std.specs.Prelude.{replicate}
 use Rattle.do_base.specs.declared.events.event.Event.{Event}
@@ -11,7 +11,9 @@ use Rattle.do_network.specs.declared.wire.Wire.{Wire}
 use Rattle.do_network.specs.Net.{Net}
 use Rattle.do_network.specs.Step.{NetStepped, net_skipped, net_step}
 use Rattle.do_trace.specs.declared.outcome.Outcome.{Outcome}
+use Rattle.do_network.specs.Spelled.{SendsSpelled}
 use Rattle.do_network.specs.Wired.{net_followed, net_steps}
+use Rattle.do_agreement.specs.Along.{EventsSendSpelled}
 
 -- one run of a node, behind what was done before
 abbrev pub and_a_run : List Class → Acting → ℕ → NetStepped → NetStepped
@@ -27,18 +29,33 @@ one_more : (table : List Class) (act : Acting) (port count : ℕ) (s : NetSteppe
 one_more table act port zero s = refl
 one_more table act port (suc count) s = one_more table act port count (and_a_run table act port s)
 
+-- so many runs of a node one after another send frames with a spelling
+abbrev pub RunsSendSpelled : List Class → Acting → ℕ → ℕ → Net → Type 0
+RunsSendSpelled table act port count N =
+    EventsSendSpelled table act N (replicate count (events.Run port))
+
+-- and so does one run more
+spelled_more : (table : List Class) (act : Acting) (port count : ℕ) (s : NetStepped) →
+    RunsSendSpelled table act port count s.net →
+    SendsSpelled table act (runs table act port count s).net (events.Run port) →
+    RunsSendSpelled table act port (suc count) s.net
+spelled_more table act port zero s before last = (last, tt)
+spelled_more table act port (suc count) s before last =
+    (before.0, spelled_more table act port count (and_a_run table act port s) before.1 last)
+
 -- a network that so many runs of a node led to, with what they came to and what was sent since
 pub record HasRun (table : List Class) (act : Acting) (port done : ℕ) (N : Net)
     (before : List Wire) (M : Net) (all : Outcome) (now : List Wire) : Type 0 where
   pub net : M ≡ (runs table act port done (net_skipped N)).net
   pub told : all ≡ (runs table act port done (net_skipped N)).outcome
   pub wires : now ≡ before ++ (runs table act port done (net_skipped N)).wires
+  pub spelled : RunsSendSpelled table act port done N
 
 -- before the first run
 pub run_first : (table : List Class) (act : Acting) (port : ℕ) (N : Net) (wires : List Wire) →
     HasRun table act port 0 N wires N (record { enabled = false; shown = [] }) wires
 run_first table act port N wires =
-    record { net = refl; told = refl; wires = sym (append-nil wires) }
+    record { net = refl; told = refl; wires = sym (append-nil wires); spelled = tt }
 
 -- and after one run more
 pub run_more : (table t : List Class) (act a : Acting) (port done : ℕ) (N M K : Net)
@@ -46,14 +63,19 @@ pub run_more : (table t : List Class) (act a : Acting) (port done : ℕ) (N M K 
     t ≡ table → a ≡ act → event ≡ events.Run port →
     HasRun table act port done N first M all before →
     came ≡ (net_step t a M event).outcome → K ≡ (net_step t a M event).net →
-    now ≡ before ++ (net_step t a M event).wires →
+    now ≡ before ++ (net_step t a M event).wires → SendsSpelled t a M event →
     joined ≡ record { enabled = all.enabled || came.enabled; shown = all.shown ++ came.shown } →
     HasRun table act port (done + 1) N first K joined now
 run_more table t act a port done N M K event all came joined first before now is_t is_a is_run
-    so_far came_is K_is now_is joined_is =
+    so_far came_is K_is now_is sends joined_is =
     let s = runs table act port done (net_skipped N) in
     let d = net_step table act s.net (events.Run port) in
     let after : done + 1 ≡ suc done = omega arith in
+    let here : SendsSpelled table act s.net (events.Run port) =
+    subst (λ N. SendsSpelled table act N (events.Run port)) so_far.net
+    (subst (λ e. SendsSpelled table act M e) is_run
+    (subst (λ v. SendsSpelled table v M event) is_a
+    (subst (λ v. SendsSpelled v a M event) is_t sends))) in
     let stepped : net_step t a M event ≡ d =
     ap (λ v. net_step v a M event) is_t ∙ ap (λ v. net_step table v M event) is_a
     ∙ ap (λ v. net_step table act M v) is_run
@@ -78,6 +100,8 @@ run_more table t act a port done N M K event all came joined first before now is
           ∙ ap (λ (x : NetStepped). (first ++ s.wires) ++ x.wires) stepped
           ∙ append_assoc first s.wires d.wires
           ∙ sym (ap (λ (x : NetStepped). first ++ x.wires) next);
+      spelled = subst (λ n. RunsSendSpelled table act port n N) (sym after)
+          (spelled_more table act port done (net_skipped N) so_far.spelled here);
     }
 
 pub ruleset run_steps = (run_first)

@@ -1,9 +1,15 @@
 //! The transcript of a schedule over a network.
-ghost use Rattle.std.specs.Prelude.{◌≡◌, ◌≤◌, [], OnOk, IsErrOf};
+ghost use Rattle.std.specs.Prelude.{◌≡◌, ◌≤◌, [], List, OnOk, IsErrOf};
 ghost use Rattle.do_base.specs.outside.Bytes.{with_more, HasWritten};
 ghost use Rattle.do_base.specs.outside.Causes.{Rose};
+ghost use Rattle.do_lines.specs.Transcript.{transcript};
+ghost use Rattle.do_machine.specs.declared.state.Seat.{Seat};
+ghost use Rattle.do_machine.specs.World.{IsWorld, opening};
+ghost use Rattle.do_machine.specs.check.Blocks.{blocks};
 ghost use Rattle.do_net.specs.Net.{Stands, network};
-ghost use Rattle.do_replay.specs.Replayed.{wired_from};
+ghost use Rattle.do_network.specs.Net.{net_opening};
+ghost use Rattle.do_agreement.specs.HasWires.{HasWires};
+ghost use Rattle.do_replay.specs.Replayed.{WritesWithWires, wired_from};
 
 use crate::blocks::push_block;
 use do_base::{PutFail, Sink, Text};
@@ -17,7 +23,8 @@ use std::alloc::Global;
 /// followed by what was sent in it.
 ///
 /// The network stands, is of these classes, and has nothing sent that was not fetched. If the sink
-/// fails or memory runs out, what was written is the beginning of the transcript.
+/// fails or memory runs out, what was written is the beginning of the transcript. From the opening
+/// of a world on, the transcript is that of one local machine with what was sent put in.
 pub fn write_transcript<S: Hosted, K: Sink>(
     alloc: Global,
     table: &ClassTable,
@@ -32,6 +39,15 @@ pub fn write_transcript<S: Hosted, K: Sink>(
         (wired_from table.now (S.Acts.act net.old.acts) (network S.seen net.old) lines)) }
     ensures prefix { HasWritten (K.written out.old) (K.written out.new)
         (wired_from table.now (S.Acts.act net.old.acts) (network S.seen net.old) lines) }
+    ensures one_machine { (seats : List Seat) → IsWorld table.now seats
+        → network S.seen net.old ≡ net_opening table.now seats
+        → OnOk result (HasWires (transcript table.now (blocks table.now (S.Acts.act net.old.acts)
+        (opening table.now seats) lines))
+        (wired_from table.now (S.Acts.act net.old.acts) (network S.seen net.old) lines)) }
+    ensures one_machine_first { (seats : List Seat) → IsWorld table.now seats
+        → network S.seen net.old ≡ net_opening table.now seats
+        → WritesWithWires (K.written out.old) (K.written out.new) (transcript table.now
+        (blocks table.now (S.Acts.act net.old.acts) (opening table.now seats) lines)) }
     ensures later { K.faults out.old ≤ K.faults out.new }
     ensures failed { IsErrOf result PutFail.Failed → Rose (K.faults out.old) (K.faults out.new) }
 {

@@ -5,6 +5,8 @@ use Rattle.do_machine.specs.run.Run.{Acting}
 use Rattle.do_net.specs.Net.{network}
 use Rattle.do_network.specs.Wired.{net_blocks}
 use Rattle.do_make.proofs.LinesSummed.{counts_line, summed, summed_first, summed_last}
+use Rattle.do_agreement.proofs.texts.TextsAgree.{opened_blocks}
+use Rattle.do_replay.proofs.SpelledSoFar.{spelled_all, spelled_first, spelled_next}
 use Rattle.do_make.proofs.summing.summary.Goals as goal
 
 -- at first nothing is counted
@@ -17,6 +19,7 @@ loop-line-init g c =
       so_far = ap (λ ls. summed c.new-sum.result (blocks ls)) items
           ∙ ap (λ s. summed s (blocks c.args.lines)) c.new-sum.ensures
           ∙ summed_first (blocks c.args.lines);
+      spelled = spelled_first _ _ _ c.args.lines _ items;
       table = search rules;
       acts = search rules;
       stands = c.requires.stands;
@@ -33,6 +36,8 @@ loop-line-preserved g c =
           (network g.S.Hosted.seen c.loop-line.net) _ c.loop-line.sum _ _ c.in-Some.line _ _
           c.in-Some.ensures.steps.0 (rw (i.table, i.acts) at p.sum) (rw (i.table, i.acts) at p.net)
           i.so_far;
+      spelled = spelled_next _ _ _ _ _ c.args.lines _ _ c.in-Some.line c.in-Some.ensures.steps.0
+          (rw (i.table, i.acts) at p.net) (rw (i.table, i.acts) at p.spelled) i.spelled;
       table = p.table ∙ i.table;
       acts = p.acts ∙ i.acts;
       stands = p.stands;
@@ -40,8 +45,8 @@ loop-line-preserved g c =
     }
 
 -- behind the last line all is counted
-pub returns : goal.returns
-returns g c =
+pub returns-clause-sum : goal.returns-clause-sum
+returns-clause-sum g c =
     let none : into_iter_items c.loop-line.line-iterator ≡ [] =
     nil_from_length _ (sym c.loop-line.line-iterator.rest.ok.0 ∙ c.in-None.ensures.steps.0) in
     let act : Acting = g.S.Acts.Behaviour.act c.args.net.now.acts in
@@ -49,3 +54,15 @@ returns g c =
     sym (summed_last c.loop-line.sum)
     ∙ sym (ap (λ ls. summed c.loop-line.sum (blocks ls)) none)
     ∙ c.loop-line.invariant.so_far
+
+-- and the lines came to what they come to in one machine
+pub returns-clause-one_machine : goal.returns-clause-one_machine
+returns-clause-one_machine g c =
+    let none : into_iter_items c.loop-line.line-iterator ≡ [] =
+    nil_from_length _ (sym c.loop-line.line-iterator.rest.ok.0 ∙ c.in-None.ensures.steps.0) in
+    let act : Acting = g.S.Acts.Behaviour.act c.args.net.now.acts in
+    let opened = network g.S.Hosted.seen c.args.net.now in
+    λ seats world opens. opened_blocks c.args.net.now.table act seats world opened opens
+    c.args.lines
+    (spelled_all c.args.net.now.table act opened _ c.args.lines _ none
+    c.loop-line.invariant.spelled)

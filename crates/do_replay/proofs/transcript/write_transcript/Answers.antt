@@ -1,7 +1,11 @@
-use Rattle.std.proofs.Common.{◌≡◌, [], sym, ◌∙◌, rules}
+use Rattle.std.proofs.Common.{◌≡◌, [], ap, subst, sym, ◌∙◌, rules}
 use Rattle.std.specs.Vec.Iter.{into_iter_items}
 use Rattle.std.proofs.lemmas.List.{nil_from_length}
+use Rattle.do_net.specs.Net.{network}
+use Rattle.do_replay.proofs.AsOneMachine.{begun_as_one, more_as_one, whole_as_one, written_as_one}
 use Rattle.do_replay.proofs.BlocksToCome.{ahead_start, ahead_block, ahead_end}
+use Rattle.do_replay.proofs.LineDone.{LineDone, line_done}
+use Rattle.do_replay.proofs.SpelledSoFar.{spelled_all, spelled_first}
 use Rattle.do_output.proofs.SentIsPrefix.{ahead_sent, ahead_prefix, ahead_part, ahead_whole}
 use Rattle.do_replay.proofs.transcript.write_transcript.Goals as goal
 
@@ -10,23 +14,30 @@ loop-line-init g c =
     let items : into_iter_items c.into_iter-line-iterator.result ≡ c.args.lines = search rules in
     record {
       written = ahead_start _ _ _ _ _ c.args.lines _ c.in_ok-waiting.ensures items;
+      spelled = spelled_first _ _ _ c.args.lines _ items;
       later = search rules;
       stands = c.requires.stands;
       table = c.requires.table;
+      acts = search rules;
       sent = c.requires.sent;
     }
 
 pub loop-line-preserved : goal.loop-line-preserved
 loop-line-preserved g c =
-    let a = c.in-Some.ensures.steps in
+    let seen = g.S.Hosted.seen in
+    let i = c.loop-line.invariant in
     let p = c.in_ok-push_block.ensures in
-    let d = c.in_ok-flush_if_long.ensures.ok in record {
-      written = rw (p.net, p.acts) (ahead_sent _ _ _ _ d.0 _ _ _ d.1 d.2
-          (ahead_block _ _ _ _ _ _ _ _ c.in-Some.line _ _ a.0
-          p.text c.loop-line.invariant.written));
+    let d = c.in_ok-flush_if_long.ensures.ok in
+    let next = line_done _ _ _ _ _ _ _ _ _ _ _ _ c.in-Some.line _ _
+    (ap (λ a. g.S.Acts.Behaviour.act a) i.acts) c.in-Some.ensures.steps.0
+    (record { text = p.text; net = p.net; spelled = p.spelled }) i.written i.spelled in
+    record {
+      written = ahead_sent _ _ _ _ d.0 _ _ _ d.1 d.2 next.written;
+      spelled = next.spelled;
       later = search rules;
       stands = p.stands;
       table = p.table;
+      acts = p.acts ∙ i.acts;
       sent = p.sent;
     }
 
@@ -38,9 +49,12 @@ returns-in_err-push_bytes-clause-prefix g c = ahead_prefix _ _ _ _ _ c.loop-line
 
 pub returns-in_err-flush_if_long-clause-prefix : goal.returns-in_err-flush_if_long-clause-prefix
 returns-in_err-flush_if_long-clause-prefix g c =
-    ahead_part _ _ _ _ _ _ c.flush_if_long.ensures.prefix
-    (ahead_block _ _ _ _ _ _ _ _ c.in-Some.line _ _
-    c.in-Some.ensures.steps.0 c.in_ok-push_block.ensures.text c.loop-line.invariant.written)
+    let i = c.loop-line.invariant in
+    let p = c.in_ok-push_block.ensures in
+    let next = line_done _ _ _ _ _ _ _ _ _ _ _ _ c.in-Some.line _ _
+    (ap (λ a. g.S.Acts.Behaviour.act a) i.acts) c.in-Some.ensures.steps.0
+    (record { text = p.text; net = p.net; spelled = p.spelled }) i.written i.spelled in
+    ahead_part _ _ _ _ _ _ c.flush_if_long.ensures.prefix next.written
 
 pub returns-in_err-flush-clause-prefix : goal.returns-in_err-flush-clause-prefix
 returns-in_err-flush-clause-prefix g c =
@@ -65,3 +79,62 @@ returns-clause-prefix g c =
     ahead_part _ _ _ _ _ _ c.flush.ensures.prefix
     (ahead_end _ _ _ _ _ _ _ _ _ none c.in_ok-push_bytes.ensures.ok
     c.loop-line.invariant.written)
+
+-- ---- as one machine
+
+-- nothing was written
+pub returns-in_err-waiting-clause-one_machine_first : goal.returns-in_err-waiting-clause-one_machine_first
+returns-in_err-waiting-clause-one_machine_first g c =
+    λ seats world opens. begun_as_one c.args.table.now
+    (g.S.Acts.Behaviour.act c.args.net.now.acts) seats world
+    (network g.S.Hosted.seen c.args.net.now) opens c.args.lines (g.K.Sink.written c.args.out.now)
+
+pub returns-in_err-push_block-clause-one_machine_first : goal.returns-in_err-push_block-clause-one_machine_first
+returns-in_err-push_block-clause-one_machine_first g c =
+    λ seats world opens. written_as_one _ _ seats world _ opens c.args.lines _ _ _ _ _
+    c.loop-line.invariant.written c.loop-line.invariant.spelled
+
+pub returns-in_err-push_bytes-clause-one_machine_first : goal.returns-in_err-push_bytes-clause-one_machine_first
+returns-in_err-push_bytes-clause-one_machine_first g c =
+    λ seats world opens. written_as_one _ _ seats world _ opens c.args.lines _ _ _ _ _
+    c.loop-line.invariant.written c.loop-line.invariant.spelled
+
+pub returns-in_err-flush_if_long-clause-one_machine_first : goal.returns-in_err-flush_if_long-clause-one_machine_first
+returns-in_err-flush_if_long-clause-one_machine_first g c =
+    let i = c.loop-line.invariant in
+    let p = c.in_ok-push_block.ensures in
+    let next = line_done _ _ _ _ _ _ _ _ _ _ _ _ c.in-Some.line _ _
+    (ap (λ a. g.S.Acts.Behaviour.act a) i.acts) c.in-Some.ensures.steps.0
+    (record { text = p.text; net = p.net; spelled = p.spelled }) i.written i.spelled in
+    λ seats world opens. more_as_one _ _ seats world _ opens c.args.lines _ _ _ _ _
+    next.written next.spelled _ c.flush_if_long.ensures.prefix
+
+-- all lines were done
+pub returns-in_err-flush-clause-one_machine_first : goal.returns-in_err-flush-clause-one_machine_first
+returns-in_err-flush-clause-one_machine_first g c =
+    let none : into_iter_items c.loop-line.line-iterator ≡ [] =
+    nil_from_length _ (sym c.loop-line.line-iterator.rest.ok.0 ∙ c.in-None.ensures.steps.0) in
+    λ seats world opens. record {
+      text = _;
+      wires = whole_as_one _ _ seats world _ opens c.args.lines
+          (spelled_all _ _ _ _ _ _ none c.loop-line.invariant.spelled);
+      written = returns-in_err-flush-clause-prefix g c;
+    }
+
+pub returns-clause-one_machine_first : goal.returns-clause-one_machine_first
+returns-clause-one_machine_first g c =
+    let none : into_iter_items c.loop-line.line-iterator ≡ [] =
+    nil_from_length _ (sym c.loop-line.line-iterator.rest.ok.0 ∙ c.in-None.ensures.steps.0) in
+    λ seats world opens. record {
+      text = _;
+      wires = whole_as_one _ _ seats world _ opens c.args.lines
+          (spelled_all _ _ _ _ _ _ none c.loop-line.invariant.spelled);
+      written = returns-clause-prefix g c;
+    }
+
+pub returns-clause-one_machine : goal.returns-clause-one_machine
+returns-clause-one_machine g c =
+    let none : into_iter_items c.loop-line.line-iterator ≡ [] =
+    nil_from_length _ (sym c.loop-line.line-iterator.rest.ok.0 ∙ c.in-None.ensures.steps.0) in
+    λ seats world opens. whole_as_one _ _ seats world _ opens c.args.lines
+    (spelled_all _ _ _ _ _ _ none c.loop-line.invariant.spelled)
