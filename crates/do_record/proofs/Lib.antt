@@ -1,2 +1,4 @@
 pub mod Walking
 pub mod Showing
+pub mod InputsRead
+pub mod RecordsRead

@@ -1,5 +1,5 @@
 -- What the lines of a record are.
-use Rattle.std.specs.Prelude.{◌≡◌, ℕ, ◌==◌, List as Listed, [], ◌∷◌, Option, Some, None}
+use Rattle.std.specs.Prelude.{ℕ, ◌==◌, List as Listed, Option, Some, None}
 use Rattle.std.specs.Prelude.{if◌then◌else◌, codes}
 use Rattle.std.specs.Str.{bytes_eq}
 use Rattle.do_grammar.specs.Lines as text

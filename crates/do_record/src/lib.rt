@@ -5,11 +5,13 @@
 //! form is this project's own.
 #![tactic(auto)]
 
+mod laws;
 mod line;
 mod parts;
 mod reading;
 mod shown;
 mod value;
 
+pub use laws::read_inputs_are_good;
 pub use parts::{Block, Blocks, Record, RecordLine, Records};
 pub use reading::read_record;

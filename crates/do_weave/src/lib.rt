@@ -14,6 +14,8 @@ mod turns;
 mod weaving;
 
 pub use fault::WeaveFault;
-pub use laws::{contradictions_stand, schedules_are_orders, schedules_give_records_again};
+pub use laws::{
+    contradictions_stand, schedules_are_orders, schedules_give_records_again, woven_lines_are_good,
+};
 pub use machine::Machine;
 pub use weaving::weave;

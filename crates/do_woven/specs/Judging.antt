@@ -1,6 +1,6 @@
 -- Records that are read one behind another.
-use Rattle.std.specs.Prelude.{Bool, Err, List, None, Ok, Option, Result, Some, if◌then◌else◌, not, ℕ}
-use Rattle.std.specs.Prelude.{◌&&◌, ◌==◌}
+use Rattle.std.specs.Prelude.{Bool, Err, List, None, Ok, Option, Result, Some, if◌then◌else◌, not}
+use Rattle.std.specs.Prelude.{ℕ, ◌&&◌, ◌==◌}
 use Rattle.std.specs.List.{list_any}
 use Rattle.do_machine.specs.declared.state.Seat.{Seat}
 use Rattle.do_record.specs.Recorded.{record_of}

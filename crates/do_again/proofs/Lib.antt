@@ -1,0 +1,2 @@
+pub mod RecordsBehind
+pub mod WovenSchedule

@@ -1,0 +1,5 @@
+use Rattle.do_record.proofs.RecordsRead.{good_record}
+use Rattle.do_record.proofs.laws.read_inputs_are_good.Goals as goal
+
+pub returns : goal.returns
+returns c = good_record
