@@ -7,12 +7,13 @@ use Rattle.std.specs.Str.{bytes_eq}
 use Rattle.do_cli.specs.declared.command.Command.{Command}
 use Rattle.do_cli.specs.declared.form.Form.{Form}
 use Rattle.do_cli.specs.declared.form.Form.TheVariants.{Replay, Leaks, Weave, Upgrade, Make}
-use Rattle.do_cli.specs.declared.form.Form.TheVariants.{Help, Version}
+use Rattle.do_cli.specs.declared.form.Form.TheVariants.{Node, Lab, Help, Version}
 use Rattle.do_cli.specs.declared.form.TheConstants.{FORMS}
 use Rattle.do_cli.specs.declared.form.Kind.{Kind}
 use Rattle.do_cli.specs.Forms.{command_among, command_by, fitting, follows, going}
 use Rattle.do_cli.specs.Forms.{is_of, kinds_of, made, more_of, name_of, number_in, records_in}
-use Rattle.do_cli.specs.declared.form.Kind.TheVariants.{Count, Number}
+use Rattle.do_cli.specs.Forms.{served}
+use Rattle.do_cli.specs.declared.form.Kind.TheVariants.{Count, Number, Port, Turns}
 
 -- no more words fit than there are kinds
 fitting_within : (ks : List Kind) (ws : List (List ℕ)) → fitting ks ws ≤ length ks
@@ -50,6 +51,12 @@ few_made None count = tt
 few_made (Some number) None = tt
 few_made (Some number) (Some count) = omega arith
 
+-- nor where a node is served
+few_served : (port turns : Option ℕ) (world starts : List ℕ) → Few (served port world starts turns)
+few_served None turns world starts = tt
+few_served (Some port) None world starts = tt
+few_served (Some port) (Some turns) world starts = omega arith
+
 -- words that follow a form name at most 64 records
 few_by : (f : Form) (ws : List (List ℕ)) → follows f ws ≡ true → Few (command_by f ws)
 few_by Replay [] is = tt
@@ -78,6 +85,18 @@ few_by Make (a ∷ []) is = tt
 few_by Make (a ∷ b ∷ []) is = tt
 few_by Make (a ∷ b ∷ c ∷ []) is = few_made (number_in Number b) (number_in Count c)
 few_by Make (a ∷ b ∷ c ∷ d ∷ ws) is = tt
+few_by Node [] is = tt
+few_by Node (a ∷ []) is = tt
+few_by Node (a ∷ b ∷ []) is = tt
+few_by Node (a ∷ b ∷ c ∷ []) is = tt
+few_by Node (a ∷ b ∷ c ∷ d ∷ []) is = tt
+few_by Node (a ∷ b ∷ c ∷ d ∷ e ∷ []) is =
+    few_served (number_in Port b) (number_in Turns e) c d
+few_by Node (a ∷ b ∷ c ∷ d ∷ e ∷ f ∷ ws) is = tt
+few_by Lab [] is = tt
+few_by Lab (a ∷ []) is = tt
+few_by Lab (a ∷ b ∷ []) is = omega arith
+few_by Lab (a ∷ b ∷ c ∷ ws) is = tt
 few_by Help [] is = tt
 few_by Help (a ∷ []) is = omega arith
 few_by Help (a ∷ b ∷ ws) is = tt

@@ -8,9 +8,10 @@ use Rattle.do_cli.specs.declared.command.Command.{Command}
 use Rattle.do_cli.specs.declared.command.Command.TheVariants as command
 use Rattle.do_cli.specs.declared.form.Kind.{Kind}
 use Rattle.do_cli.specs.declared.form.Kind.TheVariants.{World, Schedule, Record, Number, Count}
+use Rattle.do_cli.specs.declared.form.Kind.TheVariants.{Port, Starts, Turns, Plan}
 use Rattle.do_cli.specs.declared.form.Form.{Form}
 use Rattle.do_cli.specs.declared.form.Form.TheVariants.{Replay, Leaks, Weave, Upgrade, Make}
-use Rattle.do_cli.specs.declared.form.Form.TheVariants.{Help, Version}
+use Rattle.do_cli.specs.declared.form.Form.TheVariants.{Node, Lab, Help, Version}
 use Rattle.do_cli.specs.declared.form.TheConstants.{FORMS}
 
 -- a file's name: 1 to 4,096 bytes, of which the first is neither a dash nor a colon
@@ -26,6 +27,8 @@ names_builtin word = bytes_eq word (codes ":counter") || bytes_eq word (codes ":
 abbrev pub number_in : Kind → List ℕ → Option ℕ
 number_in Number word = dec_in 0 18446744073709551615 word
 number_in Count word = dec_in 1 100000 word
+number_in Port word = dec_in 1 65535 word
+number_in Turns word = dec_in 1 1099511627776 word
 number_in kind word = None
 
 -- a word is of a kind
@@ -35,6 +38,10 @@ is_of Schedule word = names_file word
 is_of Record word = names_file word
 is_of Number word = is_some (number_in Number word)
 is_of Count word = is_some (number_in Count word)
+is_of Port word = is_some (number_in Port word)
+is_of Starts word = names_file word
+is_of Turns word = is_some (number_in Turns word)
+is_of Plan word = names_file word
 
 -- how the help writes a word of a kind
 abbrev pub placeholder : Kind → List ℕ
@@ -43,6 +50,10 @@ placeholder Schedule = codes "SCHEDULE"
 placeholder Record = codes "RECORD"
 placeholder Number = codes "NUMBER"
 placeholder Count = codes "COUNT"
+placeholder Port = codes "PORT"
+placeholder Starts = codes "STARTS"
+placeholder Turns = codes "TURNS"
+placeholder Plan = codes "PLAN"
 
 -- the first word of a form
 abbrev pub name_of : Form → List ℕ
@@ -51,6 +62,8 @@ name_of Leaks = codes "leaks"
 name_of Weave = codes "weave"
 name_of Upgrade = codes "upgrade"
 name_of Make = codes "make"
+name_of Node = codes "node"
+name_of Lab = codes "lab"
 name_of Help = codes "--help"
 name_of Version = codes "--version"
 
@@ -61,6 +74,8 @@ kinds_of Leaks = World ∷ Schedule ∷ []
 kinds_of Weave = World ∷ Record ∷ []
 kinds_of Upgrade = Schedule ∷ []
 kinds_of Make = Number ∷ Count ∷ []
+kinds_of Node = Port ∷ World ∷ Starts ∷ Turns ∷ []
+kinds_of Lab = Plan ∷ []
 kinds_of Help = []
 kinds_of Version = []
 
@@ -76,6 +91,8 @@ deed_of Leaks = codes "replays a schedule, and writes what nothing can reach the
 deed_of Weave = codes "writes one schedule that gives these records of nodes again"
 deed_of Upgrade = codes "writes a schedule of version 1 anew in version 2"
 deed_of Make = codes "replays a schedule that a number generates, and writes a summary"
+deed_of Node = codes "serves one node of a world over TCP, and writes its record"
+deed_of Lab = codes "starts the nodes of a plan as processes, and writes how each ended"
 deed_of Help = codes "writes this text"
 deed_of Version = codes "writes the program's name and version"
 
@@ -105,6 +122,11 @@ abbrev pub made : Option ℕ → Option ℕ → Option Command
 made (Some number) (Some count) = Some (command.Make number count)
 made number count = None
 
+-- the command of `node` with this port, world and starts and these turns
+abbrev pub served : Option ℕ → List ℕ → List ℕ → Option ℕ → Option Command
+served (Some port) world starts (Some turns) = Some (command.Node port world starts turns)
+served port world starts turns = None
+
 -- the command of a form whose words these are
 abbrev pub command_by : Form → List (List ℕ) → Option Command
 command_by Replay (name ∷ world ∷ schedule ∷ []) = Some (command.Replay world schedule)
@@ -113,6 +135,9 @@ command_by Weave (name ∷ world ∷ files) = Some (command.Weave world files)
 command_by Upgrade (name ∷ schedule ∷ []) = Some (command.Upgrade schedule)
 command_by Make (name ∷ number ∷ count ∷ []) =
     made (number_in Number number) (number_in Count count)
+command_by Node (name ∷ port ∷ world ∷ starts ∷ turns ∷ []) =
+    served (number_in Port port) world starts (number_in Turns turns)
+command_by Lab (name ∷ plan ∷ []) = Some (command.Lab plan)
 command_by Help (name ∷ []) = Some command.Help
 command_by Version (name ∷ []) = Some command.Version
 command_by form words = None

@@ -2,8 +2,9 @@
 ghost use Rattle.std.specs.Prelude.{◌≡◌};
 ghost use Rattle.do_cli.specs.Forms.{deed_of, is_of, kinds_of, name_of, more_of};
 ghost use Rattle.do_cli.specs.Forms.{names_file, number_in, placeholder};
+ghost use Rattle.do_cli.specs.declared.form.Kind.TheVariants.{Port};
 
-use do_base::Text;
+use do_base::{NodeId, Text};
 use do_grammar::dec_of;
 
 /// The most bytes of a file's name.
@@ -11,6 +12,9 @@ const MAX_NAME: usize = 4096;
 
 /// The most lines that are generated.
 const MAX_COUNT: u64 = 100_000;
+
+/// The most turns of a node.
+const MAX_TURNS: u64 = 1_099_511_627_776;
 
 /// What a word behind the name of a form is.
 #[derive(Clone, Copy, Debug)]
@@ -25,6 +29,14 @@ pub(crate) enum Kind {
     Number,
     /// How many lines are generated, 1 to 100,000.
     Count,
+    /// The port of a node, 1 to 65,535.
+    Port,
+    /// The name of a file with starts.
+    Starts,
+    /// How many turns a node takes at most, 1 to 2^40.
+    Turns,
+    /// The name of a file with a plan.
+    Plan,
 }
 
 /// A form of words, by the command that it asks for.
@@ -35,17 +47,21 @@ pub(crate) enum Form {
     Weave,
     Upgrade,
     Make,
+    Node,
+    Lab,
     Help,
     Version,
 }
 
 /// The forms, in the order in which the help shows them.
-pub(crate) const FORMS: [Form; 7] = [
+pub(crate) const FORMS: [Form; 9] = [
     Form::Replay,
     Form::Leaks,
     Form::Weave,
     Form::Upgrade,
     Form::Make,
+    Form::Node,
+    Form::Lab,
     Form::Help,
     Form::Version,
 ];
@@ -68,6 +84,12 @@ const UPGRADE: [Kind; 1] = [Kind::Schedule];
 /// The words of `make` behind its name.
 const MAKE: [Kind; 2] = [Kind::Number, Kind::Count];
 
+/// The words of `node` behind its name.
+const NODE: [Kind; 4] = [Kind::Port, Kind::World, Kind::Starts, Kind::Turns];
+
+/// The words of `lab` behind its name.
+const LAB: [Kind; 1] = [Kind::Plan];
+
 impl Form {
     /// The first word.
     pub(crate) fn name(self) -> &'static [u8]
@@ -79,6 +101,8 @@ impl Form {
             Form::Weave => b"weave",
             Form::Upgrade => b"upgrade",
             Form::Make => b"make",
+            Form::Node => b"node",
+            Form::Lab => b"lab",
             Form::Help => b"--help",
             Form::Version => b"--version",
         }
@@ -94,6 +118,8 @@ impl Form {
             Form::Weave => &WEAVE,
             Form::Upgrade => &UPGRADE,
             Form::Make => &MAKE,
+            Form::Node => &NODE,
+            Form::Lab => &LAB,
             Form::Help => &[],
             Form::Version => &[],
         }
@@ -119,6 +145,8 @@ impl Form {
             Form::Weave => b"writes one schedule that gives these records of nodes again",
             Form::Upgrade => b"writes a schedule of version 1 anew in version 2",
             Form::Make => b"replays a schedule that a number generates, and writes a summary",
+            Form::Node => b"serves one node of a world over TCP, and writes its record",
+            Form::Lab => b"starts the nodes of a plan as processes, and writes how each ended",
             Form::Help => b"writes this text",
             Form::Version => b"writes the program's name and version",
         }
@@ -142,9 +170,8 @@ impl Kind {
     {
         match self {
             Kind::World => word.is(b":counter") || word.is(b":mesh") || is_file_name(word),
-            Kind::Schedule => is_file_name(word),
-            Kind::Record => is_file_name(word),
-            Kind::Number | Kind::Count => self.number(word).is_some(),
+            Kind::Schedule | Kind::Record | Kind::Starts | Kind::Plan => is_file_name(word),
+            Kind::Number | Kind::Count | Kind::Port | Kind::Turns => self.number(word).is_some(),
         }
     }
 
@@ -156,6 +183,8 @@ impl Kind {
         match self {
             Kind::Number => dec_of(word.as_slice(), 0, u64::MAX),
             Kind::Count => dec_of(word.as_slice(), 1, MAX_COUNT),
+            Kind::Port => dec_of(word.as_slice(), 1, 65535),
+            Kind::Turns => dec_of(word.as_slice(), 1, MAX_TURNS),
             _ => None,
         }
     }
@@ -170,6 +199,17 @@ impl Kind {
             Kind::Record => b"RECORD",
             Kind::Number => b"NUMBER",
             Kind::Count => b"COUNT",
+            Kind::Port => b"PORT",
+            Kind::Starts => b"STARTS",
+            Kind::Turns => b"TURNS",
+            Kind::Plan => b"PLAN",
         }
     }
+}
+
+/// The node of the port that a word is. None exactly where it is no port.
+pub(crate) fn node_of(word: &Text) -> Option<NodeId>
+    ensures { result ≡ number_in Port word.now }
+{
+    NodeId::new(dec_of(word.as_slice(), 1, 65535)? as u16)
 }

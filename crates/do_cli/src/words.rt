@@ -2,12 +2,12 @@ ghost use Rattle.std.specs.Prelude.{◌≡◌, ◌≤◌, ◌++◌, ◌↔◌, �
 ghost use Rattle.std.specs.Prelude.{Some, length};
 ghost use Rattle.do_cli.specs.Forms.{fitting, going, furthest, follows, command_by, command_among};
 ghost use Rattle.do_cli.specs.Forms.{command_in, kinds_of, made, more_of, number_in, records_in};
-ghost use Rattle.do_cli.specs.Forms.{stuck_at};
-ghost use Rattle.do_cli.specs.declared.form.Kind.TheVariants.{Count, Number};
+ghost use Rattle.do_cli.specs.Forms.{served, stuck_at};
+ghost use Rattle.do_cli.specs.declared.form.Kind.TheVariants.{Count, Number, Port, Turns};
 
 use crate::command::{Command, Words};
 use crate::fault::WordFault;
-use crate::form::{FORMS, Form, Kind};
+use crate::form::{FORMS, Form, Kind, node_of};
 use do_base::Word;
 use std::alloc::{AllocError, Global};
 
@@ -77,32 +77,59 @@ fn made(number: &Word, count: &Word) -> Option<Command>
     Some(Command::Make { number, count })
 }
 
+/// The command that the words of `node` ask for.
+fn served(
+    port: &Word,
+    world: &Word,
+    starts: &Word,
+    turns: &Word,
+) -> Result<Option<Command>, AllocError>
+    ensures ok { IfOk result (λ command. command
+        ≡ served (number_in Port port.now) world.now starts.now (number_in Turns turns.now)) }
+    ensures err { OnErr result
+        (IsSome (served (number_in Port port.now) world.now starts.now (number_in Turns turns.now))) }
+{
+    let (Some(port), Some(turns)) = (node_of(port), Kind::Turns.number(turns)) else {
+        return Ok(None);
+    };
+    Ok(Some(Command::Node {
+        port,
+        world: world.clone()?,
+        starts: starts.clone()?,
+        turns,
+    }))
+}
+
 /// The command of a form whose words these are.
 fn command_by(form: Form, words: &[Word]) -> Result<Option<Command>, AllocError>
     ensures ok { IfOk result (λ command. command ≡ command_by form words.now) }
     ensures err { OnErr result (IsSome (command_by form words.now)) }
 {
-    Ok(match (form, words) {
-        (Form::Replay, [_, world, schedule]) => Some(Command::Replay {
+    match (form, words) {
+        (Form::Replay, [_, world, schedule]) => Ok(Some(Command::Replay {
             world: world.clone()?,
             schedule: schedule.clone()?,
-        }),
-        (Form::Leaks, [_, world, schedule]) => Some(Command::Leaks {
+        })),
+        (Form::Leaks, [_, world, schedule]) => Ok(Some(Command::Leaks {
             world: world.clone()?,
             schedule: schedule.clone()?,
-        }),
-        (Form::Weave, [_, world, files @ ..]) => Some(Command::Weave {
+        })),
+        (Form::Weave, [_, world, files @ ..]) => Ok(Some(Command::Weave {
             world: world.clone()?,
             files: words_of(world.allocator(), files)?,
-        }),
-        (Form::Upgrade, [_, schedule]) => Some(Command::Upgrade {
+        })),
+        (Form::Upgrade, [_, schedule]) => Ok(Some(Command::Upgrade {
             schedule: schedule.clone()?,
-        }),
-        (Form::Make, [_, number, count]) => made(number, count),
-        (Form::Help, [_]) => Some(Command::Help),
-        (Form::Version, [_]) => Some(Command::Version),
-        _ => None,
-    })
+        })),
+        (Form::Make, [_, number, count]) => Ok(made(number, count)),
+        (Form::Node, [_, port, world, starts, turns]) => served(port, world, starts, turns),
+        (Form::Lab, [_, plan]) => Ok(Some(Command::Lab {
+            plan: plan.clone()?,
+        })),
+        (Form::Help, [_]) => Ok(Some(Command::Help)),
+        (Form::Version, [_]) => Ok(Some(Command::Version)),
+        _ => Ok(None),
+    }
 }
 
 /// The command of the first form that the words follow.
@@ -133,9 +160,10 @@ fn furthest(forms: &[Form], words: &[Word]) -> usize
 /// The command that the words of the command line ask for, the program's own name left out.
 ///
 /// The forms are `replay WORLD SCHEDULE`, `leaks WORLD SCHEDULE`, `weave WORLD RECORD..`, `upgrade
-/// SCHEDULE`, `make NUMBER COUNT`, `--help` and `--version`. WORLD is `:counter`, `:mesh` or the
-/// name of a file, SCHEDULE and each of the 1 to 64 RECORDs a file's name: 1 to 4,096 bytes, of
-/// which the first is neither `-` nor `:`. NUMBER is below 2^64 and COUNT 1 to 100,000, both in
+/// SCHEDULE`, `make NUMBER COUNT`, `node PORT WORLD STARTS TURNS`, `lab PLAN`, `--help` and
+/// `--version`. WORLD is `:counter`, `:mesh` or the name of a file, SCHEDULE, STARTS, PLAN and each
+/// of the 1 to 64 RECORDs a file's name: 1 to 4,096 bytes, of which the first is neither `-` nor
+/// `:`. NUMBER is below 2^64, COUNT 1 to 100,000, PORT 1 to 65,535 and TURNS 1 to 2^40, each in
 /// decimal digits with no zero in front. Words of no form are `Usage`, with the first word, from 1,
 /// at which no form goes on; where words are missing, with their count and one. `Memory` comes only
 /// where the words are of a form.

@@ -1,6 +1,6 @@
 //! A node of a world, as the words of a command give it.
-ghost use Rattle.std.specs.Prelude.{◌≡◌, ◌≤◌, ◌==◌, ◌⊎◌, List, None, Ok, Err, IfOk, IfErr, Some, codes};
-ghost use Rattle.std.specs.Prelude.{find};
+ghost use Rattle.std.specs.Prelude.{◌≡◌, ◌≤◌, ◌==◌, ◌⊎◌, List, None, Ok, Err, IfOk, IfErr, Some};
+ghost use Rattle.std.specs.Prelude.{codes, find};
 ghost use Rattle.std.specs.Option.{option_copied};
 ghost use Rattle.do_base.specs.declared.outside.shelf.NamedFile.{NamedFile};
 ghost use Rattle.do_world.specs.Builtin.{builtin_world};

@@ -22,7 +22,8 @@ pub struct Served {
     pub starts: Starts,
 }
 
-/// The node of a port in the world that the first word gives, with the starts that the second names.
+/// The node of a port in the world that the first word gives, with the starts that the second
+/// names.
 pub fn served_given<H: Shelf>(
     alloc: Global,
     port: NodeId,

@@ -1,14 +1,19 @@
-//! The outside as it is: the files of the current folder, an output, and the words of the command
-//! line.
+//! The outside as it is: the files of the current folder, an output, the words of the command line,
+//! sockets, and children that run this program.
 //!
-//! It stands on the traits of do_base for a shelf and a sink. It promises their clauses over the
-//! real system, of which no contract can see what a file or an output holds.
+//! It stands on the traits of do_base for a shelf and a sink, and on the link of do_sockets and the
+//! spawner of do_children. It promises their clauses over the real system, of which no contract can
+//! see what a file, an output or a socket holds.
 #![tactic(auto)]
 
 mod file_shelf;
+mod program;
 mod std_sink;
 mod words;
 
+pub use do_children::ProcSpawner;
+pub use do_sockets::TcpLink;
 pub use file_shelf::{FileShelf, read_within};
+pub use program::program_path;
 pub use std_sink::StdSink;
 pub use words::read_words;

@@ -5,4 +5,12 @@ pub mod WovenTold
 pub mod WordsRead
 pub mod Upgraded
 pub mod LeaksLast
+pub mod LinesAsEvents
+pub mod LeaksTold
+pub mod RecordsGiven
 pub mod RefusalsTold
+pub mod FrontsWritten
+pub mod TextsCome
+pub mod AsOneMachine
+pub mod RunsCome
+pub mod NodesCome

@@ -9,14 +9,17 @@ use Rattle.do_base.specs.outside.Files.{file_named}
 use Rattle.do_base.specs.declared.outside.shelf.NamedFile.{NamedFile}
 use Rattle.do_cli.specs.declared.command.Command.{Command}
 use Rattle.do_cli.specs.declared.command.Command.TheVariants.{Replay, Leaks, Weave, Upgrade}
-use Rattle.do_cli.specs.declared.command.Command.TheVariants.{Make, Help, Version}
+use Rattle.do_cli.specs.declared.command.Command.TheVariants.{Make, Node, Lab, Help, Version}
 use Rattle.do_machine.specs.declared.state.Seat.{Seat}
 use Rattle.do_record.specs.declared.parts.Record.{Record}
 use Rattle.do_world.specs.Builtin.{builtin_world}
 use Rattle.do_world.specs.declared.world.World.{World}
 use Rattle.do_given.specs.declared.status.Status.{Status}
 use Rattle.do_given.specs.declared.status.Status.TheVariants as answer
-use Rattle.do_node.specs.Call.{Counts, HasUnread, Obeys, Refuses, Writes}
+use Rattle.do_node.specs.Call.{HasUnread, Obeys, Refuses, Writes}
+use Rattle.do_node.specs.Running.{Counts}
+use Rattle.do_given.specs.Serving.{GivesServed}
+use Rattle.do_given.specs.declared.served.Served.{Served}
 use Rattle.do_given.specs.Files.{IsFile, IsUnread}
 use Rattle.do_given.proofs.Stopping.{stops_as}
 use Rattle.do_given.specs.Reading.{GivesScheduled, GivesWorld, HasUnreadScheduled, OrUnread}
@@ -53,6 +56,17 @@ scheduled_is_read told files before now word name given is gives calm (inl unrea
 scheduled_is_read told files before now word name given is gives calm (inr unread) =
     told_is_read told files before now name _ _ is gives.says.file calm unread
 
+-- so were both, where a node and its starts are told
+served_is_read : (told : Option (List NamedFile)) (files : List NamedFile) (before now port : ℕ)
+    (word name : List ℕ) (given : Served) → told ≡ Some files
+    → GivesServed (Some files) port word name given → ¬ Rose before now
+    → HasUnreadScheduled told before now word name → ⊥
+served_is_read told files before now port word name given is gives calm (inl unread) =
+    world_is_read told files before now word given.place.world is gives.seat.gives calm unread.0
+    unread.1
+served_is_read told files before now port word name given is gives calm (inr unread) =
+    told_is_read told files before now name _ _ is gives.says.file calm unread
+
 -- so were the files of records that are told
 records_are_read : (told : Option (List NamedFile)) (files : List NamedFile) (before now : ℕ)
     (seats : List Seat) (earlier : List Record) (names : List (List ℕ)) (records : List Record)
@@ -67,7 +81,7 @@ records_are_read told files before now seats earlier (name ∷ names) records is
     calm unread
 
 -- where all files of a command are told, none was unread, unless the count of faults rose
-all_are_read : (told : Option (List NamedFile)) (files : List NamedFile) (before now : ℕ)
+pub all_are_read : (told : Option (List NamedFile)) (files : List NamedFile) (before now : ℕ)
     (command : Command) (text : List ℕ) → told ≡ Some files → Writes (Some files) command text
     → ¬ Rose before now → HasUnread told before now command → ⊥
 all_are_read told files before now (Replay world schedule) text is writes calm unread =
@@ -85,6 +99,10 @@ all_are_read told files before now (Upgrade schedule) text is writes calm unread
 all_are_read told files before now (Make number count) text is writes calm unread =
     world_is_read told files before now (codes ":mesh") writes.world is writes.gives calm unread.0
     unread.1
+all_are_read told files before now (Node port world starts turns) text is writes calm unread =
+    served_is_read told files before now port world starts writes.given is writes.gives calm unread
+all_are_read told files before now (Lab plan) text is writes calm unread =
+    told_is_read told files before now plan _ _ is writes.says.file calm unread
 all_are_read told files before now Help text is writes calm unread = unread
 all_are_read told files before now Version text is writes calm unread = unread
 

@@ -1,23 +1,29 @@
 -- What is written from the opening of a world's network on.
-use Rattle.std.proofs.Common.{◌≡◌, ◌<◌, ◌++◌, ◌∙◌, List, [], ◌∷◌, Some, ap, arith, length}
-use Rattle.std.proofs.Common.{Err, Ok, Result, refl, sym}
+use Rattle.std.proofs.Common.{◌≡◌, ◌<◌, ◌++◌, ◌∙◌, ℕ, List, [], ◌∷◌, Some, ap, arith, length}
+use Rattle.std.proofs.Common.{Err, Ok, Option, Result, map, refl, subst, sym}
 use Rattle.std.specs.List.{AllByRecursion}
-use Rattle.std.specs.Prelude.{IfOk, slice_get}
-use Rattle.do_machine.specs.World.{IsWorld}
+use Rattle.std.specs.Prelude.{IfOk, OnOk, slice_get}
+use Rattle.do_machine.specs.World.{IsWorld, opening}
+use Rattle.do_machine.specs.check.Blocks.{blocks}
+use Rattle.do_lines.specs.Transcript.{transcript}
+use Rattle.do_transcript.specs.Transcript.{transcript_from}
 use Rattle.do_machine.specs.declared.state.Seat.{Seat}
 use Rattle.do_net.specs.Net.{AreAlike}
 use Rattle.do_class.specs.Class.{Class}
 use Rattle.do_make.specs.Summary.{summary_of}
 use Rattle.do_make.specs.Text.{summary_text}
 use Rattle.do_network.specs.Net.{Net, net_opening}
-use Rattle.do_network.specs.Wired.{net_blocks}
+use Rattle.do_network.specs.Wired.{WiredBlock, net_blocks}
+use Rattle.do_agreement.specs.HasWires.{HasWires}
 use Rattle.do_sched.specs.declared.line.Line.{Line}
 use Rattle.do_native.specs.Acts.{native_act}
 use Rattle.do_native.specs.declared.native.Native.{Native}
-use Rattle.do_replay.specs.Replayed.{wired_from}
+use Rattle.do_replay.specs.Replayed.{WritesWithWires, wired_from}
+use Rattle.do_replay.proofs.AsOneMachine.{begun_as_one}
 use Rattle.do_world.specs.declared.world.World.{World}
 use Rattle.do_given.specs.Parts.{behaviour_of}
-use Rattle.do_node.specs.Replaying.{world_summary, world_wired}
+use Rattle.do_node.specs.OneMachine.{ComesAsOne}
+use Rattle.do_node.specs.Replaying.{world_summary, world_transcript, world_wired}
 
 module _ (world : World) (table : List Class) (native : Native) (N : Net) (lines : List Line)
     (same_table : table ≡ world.table) (same_acts : native ≡ behaviour_of world)
@@ -32,6 +38,71 @@ module _ (world : World) (table : List Class) (native : Native) (N : Net) (lines
       ≡ world_summary world lines
   unfolding world_summary
   summed_world = rw (same_table, same_acts, is_opening) refl
+
+  -- the one machine's transcript is that of the world
+  local_world : transcript table (blocks table (native_act native) (opening table world.nodes)
+      lines)
+      ≡ world_transcript world lines
+  unfolding world_transcript transcript_from
+  local_world =
+      ap (λ t. transcript t (blocks t (native_act native) (opening t world.nodes) lines)) same_table
+      ∙ ap (λ n. transcript world.table (blocks world.table (native_act n)
+      (opening world.table world.nodes) lines)) same_acts
+
+  -- the world is one of the table, and the network is its opening
+  opened : N ≡ net_opening table world.nodes
+  opened = is_opening ∙ ap (λ t. net_opening t world.nodes) (sym same_table)
+
+  module _ (opens : IsWorld world.table world.nodes) where
+    -- the world is one of the table
+    is_world : IsWorld table world.nodes
+    is_world = subst (λ t. IsWorld t world.nodes) (sym same_table) opens
+
+    -- so the whole transcript is the one machine's with what was sent put in
+    pub whole_as_one : {T E : Type 0} (result : Result T E) →
+        ((seats : List Seat) → IsWorld table seats → N ≡ net_opening table seats →
+        OnOk result (HasWires
+        (transcript table (blocks table (native_act native) (opening table seats) lines))
+        (wired_from table (native_act native) N lines))) →
+        OnOk result (HasWires (world_transcript world lines) (world_wired world lines))
+    whole_as_one result told =
+        subst (λ text. OnOk result (HasWires (world_transcript world lines) text)) wired_world
+        (subst (λ text. OnOk result (HasWires text (wired_from table (native_act native) N lines)))
+        local_world (told world.nodes is_world opened))
+
+    -- and what was written begins such a text
+    pub first_as_one : (before now : Option (List ℕ)) →
+        ((seats : List Seat) → IsWorld table seats → N ≡ net_opening table seats →
+        WritesWithWires before now
+        (transcript table (blocks table (native_act native) (opening table seats) lines))) →
+        WritesWithWires before now (world_transcript world lines)
+    first_as_one before now told =
+        subst (WritesWithWires before now) local_world (told world.nodes is_world opened)
+
+    -- and the lines come to what they come to in the one machine
+    pub blocks_as_one : ((seats : List Seat) → IsWorld table seats →
+        N ≡ net_opening table seats →
+        map (λ (b : WiredBlock). b.block) (net_blocks table (native_act native) N lines)
+        ≡ blocks table (native_act native) (opening table seats) lines) →
+        ComesAsOne world lines
+    blocks_as_one told =
+        subst (λ n. map (λ (b : WiredBlock). b.block) (net_blocks world.table (native_act n)
+        (net_opening world.table world.nodes) lines)
+        ≡ blocks world.table (native_act n) (opening world.table world.nodes) lines) same_acts
+        (subst (λ t. map (λ (b : WiredBlock). b.block) (net_blocks t (native_act native)
+        (net_opening world.table world.nodes) lines)
+        ≡ blocks t (native_act native) (opening t world.nodes) lines) same_table
+        (subst (λ M. map (λ (b : WiredBlock). b.block) (net_blocks table (native_act native) M
+        lines) ≡ blocks table (native_act native) (opening table world.nodes) lines) is_opening
+        (told world.nodes is_world opened)))
+
+-- before the network of a world opened, nothing was written
+pub nothing_as_one : (world : World) → IsWorld world.table world.nodes → (lines : List Line)
+    (written : Option (List ℕ)) → WritesWithWires written written (world_transcript world lines)
+unfolding world_transcript transcript_from
+nothing_as_one world opens lines written =
+    begun_as_one world.table (native_act (behaviour_of world)) world.nodes opens
+    (net_opening world.table world.nodes) refl lines written
 
 -- a world that opens has a node
 pub has_node : (world : World) (nodes : List Seat) → nodes ≡ world.nodes

@@ -15,16 +15,23 @@ use Rattle.do_weave.specs.declared.fault.WeaveFault.TheVariants as weaving
 use Rattle.do_given.specs.declared.status.Status.{Status}
 use Rattle.do_given.specs.declared.status.Status.TheVariants as answer
 use Rattle.do_node.specs.Call.{Refuses}
-use Rattle.do_given.specs.Files.{most_of_record, most_of_schedule, most_of_world}
+use Rattle.do_given.specs.Files.{most_of_record, most_of_schedule, most_of_starts, most_of_world}
 use Rattle.do_given.specs.Reading.{IsNoSchedule, IsNoWorld, NamesNone, RefusesWorld, SaysNoLines}
 use Rattle.do_given.specs.Reading.{Stops, told_of}
+use Rattle.do_given.specs.Serving.{IsNoText, RefusesServed, SaysNoText}
+use Rattle.do_plan.specs.Form.{Form}
+use Rattle.do_plan.specs.Plan.{plan_form}
+use Rattle.do_plan.specs.Starts.{starts_form}
 use Rattle.do_node.specs.Records.{IsNoRecord, SayNoRecords, told_of_record}
 use Rattle.do_node.specs.Weaving.{told_of_weaving}
 
--- a status that tells of a file, the output or memory
+-- a status that tells of a file, the output or memory, and of nothing that ran
 abbrev pub IsTold : Status → Type 0
 IsTold answer.Ok = ⊥
 IsTold (answer.Usage word) = ⊥
+IsTold (answer.TurnsSpent n) = ⊥
+IsTold (answer.ChildFailed index end) = ⊥
+IsTold answer.LinkFault = ⊥
 IsTold status = Unit {0}
 
 -- a fault of a schedule is told so
@@ -68,6 +75,21 @@ lines_told version told name status refused =
     file_told (IsNoSchedule version) told name most_of_schedule status
     (λ bytes st bad. subst IsTold (sym bad.tells) (schedule_told bad.fault)) refused
 
+-- so is a file that has no lines of a form
+text_told : {A : Type 0} (form : Form A) (told : Option (List NamedFile)) (name : List ℕ)
+    (status : Status) → SaysNoText form told name status → IsTold status
+text_told form told name status refused =
+    file_told (IsNoText form) told name most_of_starts status
+    (λ bytes st bad. subst IsTold (sym bad.tells) (schedule_told bad.fault)) refused
+
+-- so is what gives no node of a world with its starts
+served_told : (told : Option (List NamedFile)) (port : ℕ) (word name : List ℕ) (status : Status)
+    → RefusesServed told port word name status → IsTold status
+served_told told port word name status (inl (inl world)) = world_told told word status world
+served_told told port word name status (inl (inr lacks)) = subst IsTold (sym lacks.tells) tt
+served_told told port word name status (inr second) =
+    text_told starts_form told name status second.refused
+
 -- so are files of which one is no record
 records_told : (told : Option (List NamedFile)) (seats : List Seat) (earlier : List Record)
     (names : List (List ℕ)) (status : Status)
@@ -81,7 +103,7 @@ records_told told seats earlier (name ∷ names) status (inr later) =
     records_told told seats (earlier ++ later.0 ∷ []) names status later.2
 
 -- so is each refusal of a command
-refusal_told : (told : Option (List NamedFile)) (command : Command) (status : Status)
+pub refusal_told : (told : Option (List NamedFile)) (command : Command) (status : Status)
     → Refuses told command status → IsTold status
 refusal_told told (asked.Replay world schedule) status (inl first) =
     world_told told world status first
@@ -100,6 +122,9 @@ refusal_told told (asked.Upgrade schedule) status refused =
     lines_told First told schedule status refused
 refusal_told told (asked.Make number count) status refused =
     world_told told (codes ":mesh") status refused
+refusal_told told (asked.Node port world starts turns) status refused =
+    served_told told port world starts status refused
+refusal_told told (asked.Lab plan) status refused = text_told plan_form told plan status refused
 refusal_told told asked.Help status refused = absurd refused
 refusal_told told asked.Version status refused = absurd refused
 

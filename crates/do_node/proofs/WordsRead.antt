@@ -1,6 +1,7 @@
 -- What is answered to words that ask for no command.
 use Rattle.std.proofs.Common.{◌≡◌, ◌↔◌, ℕ, List, Some, None, Err, refl}
-use Rattle.std.specs.Prelude.{IsErrOf}
+use Rattle.std.proofs.Common.{subst, sym}
+use Rattle.std.specs.Prelude.{IfSome, IsErrOf}
 use Rattle.do_cli.specs.Forms.{command_in, stuck_at}
 use Rattle.do_cli.specs.declared.command.Command.{Command}
 use Rattle.do_cli.specs.declared.fault.WordFault.{WordFault}
@@ -42,6 +43,11 @@ pub no_command : (ws : List (List ℕ)) (n : ℕ) (command : Command) → Reads 
 no_command ws n command reads asks =
     let none : command_in ws ≡ None = ((reads n).0 refl).0 in
     cc
+
+-- so what is said of the command that they ask for holds
+pub none_asked : (ws : List (List ℕ)) (n : ℕ) (P : Command → Type 0) → Reads ws (words.Usage n)
+    → IfSome (command_in ws) P
+none_asked ws n P reads = subst (λ c. IfSome c P) (sym ((reads n).0 refl).0) tt
 
 -- words that ask for a command are not stuck, whatever is told
 pub asked_no_word : (ws : List (List ℕ)) (command : Command) (word : ℕ) (told : Type 0)

@@ -7,7 +7,7 @@ use Rattle.do_base.specs.declared.outside.shelf.NamedFile.{NamedFile}
 use Rattle.do_cli.specs.Help.{help_text, version_text}
 use Rattle.do_cli.specs.declared.command.Command.{Command}
 use Rattle.do_cli.specs.declared.command.Command.TheVariants.{Replay, Leaks, Weave, Upgrade}
-use Rattle.do_cli.specs.declared.command.Command.TheVariants.{Make, Help, Version}
+use Rattle.do_cli.specs.declared.command.Command.TheVariants.{Make, Node, Lab, Help, Version}
 use Rattle.do_generate.specs.Generated.{generated}
 use Rattle.do_sched.specs.declared.line.Line.{Line}
 use Rattle.do_sched.specs.declared.version.Version.TheVariants.{First}
@@ -19,7 +19,10 @@ use Rattle.do_given.specs.declared.status.Status.TheVariants as answer
 use Rattle.do_given.specs.Files.{IsUnread}
 use Rattle.do_given.specs.Reading.{GivesScheduled, GivesWorld, HasUnreadScheduled, IsUpgrade}
 use Rattle.do_given.specs.Reading.{RefusesScheduled, RefusesWorld, SaysNoLines, Stops}
+use Rattle.do_given.specs.Serving.{RefusesServed, SaysNoText}
+use Rattle.do_plan.specs.Plan.{plan_form}
 use Rattle.do_node.specs.Replaying.{world_lost, world_summary, world_wired}
+use Rattle.do_node.specs.Running.{Counts, EndsWith, IsRun, IsRunEnd, IsServed}
 use Rattle.do_node.specs.Weaving.{HasUnreadPart, IsWoven, RefusesWeaving}
 
 -- the text is what a schedule comes to over a world
@@ -51,6 +54,8 @@ Writes told (Leaks world schedule) text = IsLost told world schedule text
 Writes told (Weave world files) text = IsWoven told world files text
 Writes told (Upgrade schedule) text = IsUpgrade told schedule text
 Writes told (Make number count) text = IsMade told number count text
+Writes told (Node port world starts turns) text = IsServed told port world starts turns text
+Writes told (Lab plan) text = IsRun told plan text
 Writes told Help text = text ≡ help_text
 Writes told Version text = text ≡ version_text
 
@@ -62,6 +67,8 @@ Refuses told (Leaks world schedule) status = RefusesScheduled told world schedul
 Refuses told (Weave world files) status = RefusesWeaving told world files status
 Refuses told (Upgrade schedule) status = SaysNoLines First told schedule status
 Refuses told (Make number count) status = RefusesWorld told (codes ":mesh") status
+Refuses told (Node port world starts turns) status = RefusesServed told port world starts status
+Refuses told (Lab plan) status = SaysNoText plan_form told plan status
 Refuses told command status = ⊥
 
 -- a file that a command reads could not be read
@@ -74,6 +81,9 @@ HasUnread told before now (Weave world files) = HasUnreadPart told before now wo
 HasUnread told before now (Upgrade schedule) = IsUnread told before now schedule
 HasUnread told before now (Make number count) =
     (builtin_world (codes ":mesh") ≡ None) × IsUnread told before now (codes ":mesh")
+HasUnread told before now (Node port world starts turns) =
+    HasUnreadScheduled told before now world starts
+HasUnread told before now (Lab plan) = IsUnread told before now plan
 HasUnread told before now command = ⊥
 
 -- all files of a command were read and say what they are to say
@@ -108,15 +118,11 @@ IsRefusal status = ⊥
 abbrev pub WritesNothing : Status → Type 0
 WritesNothing (answer.Usage word) = Unit {0}
 WritesNothing answer.ReadFault = Unit {0}
+WritesNothing answer.LinkFault = Unit {0}
 WritesNothing status = IsRefusal status
 
--- a count, before and after a call
-pub record Counts : Type 0 where
-  pub before : ℕ
-  pub now : ℕ
-
--- what a command comes to over a shelf, whose faults are counted, and a sink, of which it is told
--- what it held and holds, and its faults
+-- what a command that runs nothing comes to over a shelf, whose faults are counted, and a sink, of
+-- which it is told what it held and holds, and its faults
 pub record Obeys (told : Option (List NamedFile)) (command : Command) (reads : Counts)
     (old new : Option (List ℕ)) (puts : Counts) (result : Result Unit Status) : Type 0 where
   pub whole : OnOk result (WritesAll told command old new)
@@ -131,3 +137,22 @@ pub record Obeys (told : Option (List NamedFile)) (command : Command) (reads : C
       → Writes (Some files) command text
       → ¬ Rose reads.before reads.now → ¬ Rose puts.before puts.now
       → IsOk result ⊎ IsErrOf result answer.Memory
+
+-- what any command comes to, as a status tells it
+pub record Comes (told : Option (List NamedFile)) (command : Command) (reads : Counts)
+    (old new : Option (List ℕ)) (puts : Counts) (status : Status) : Type 0 where
+  pub no_word : (word : ℕ) → status ≡ answer.Usage word → ⊥
+  pub unread : status ≡ answer.ReadFault → HasUnread told reads.before reads.now command
+  pub refused : IsRefusal status → Refuses told command status
+  pub refuses : (files : List NamedFile) (st : Status) → told ≡ Some files
+      → Refuses (Some files) command st
+      → (status ≡ st) ⊎ (status ≡ answer.ReadFault) ⊎ (status ≡ answer.Memory)
+  pub write_fault : status ≡ answer.WriteFault → Rose puts.before puts.now × CanWrite told command
+  pub ends : IsRunEnd status → EndsWith status command
+  pub whole : status ≡ answer.Ok → WritesAll told command old new
+  pub prefix : (new ≡ old) ⊎ WritesSome told command old new
+  pub nothing : WritesNothing status → new ≡ old
+  pub complete : (files : List NamedFile) (text : List ℕ) → told ≡ Some files
+      → Writes (Some files) command text
+      → ¬ Rose reads.before reads.now → ¬ Rose puts.before puts.now
+      → EndsWith status command ⊎ (status ≡ answer.Memory)

@@ -1,5 +1,10 @@
 pub mod Replaying
+pub mod OneMachine
+pub mod Leaking
 pub mod Upgrading
 pub mod Records
 pub mod Weaving
+pub mod Rewoven
+pub mod Answering
+pub mod Running
 pub mod Call

@@ -1,23 +1,25 @@
-//! The commands: what each reads, and what it writes.
-ghost use Rattle.std.specs.Prelude.{◌≡◌, ◌≤◌, OnOk, IfErr, IfOk, codes, length};
+//! The commands that write a text: what each reads, and what it writes.
+ghost use Rattle.std.specs.Prelude.{◌≡◌, ◌≤◌, ◌⊎◌, OnOk, IfErr, IfOk, IsOk, codes, length};
 ghost use Rattle.do_base.specs.outside.Bytes.{with_more, HasWritten};
 ghost use Rattle.do_base.specs.outside.Causes.{Rose};
 ghost use Rattle.do_cli.specs.declared.command.Command.TheVariants.{Replay, Leaks, Weave};
 ghost use Rattle.do_cli.specs.declared.command.Command.TheVariants.{Upgrade, Make, Help, Version};
-ghost use Rattle.do_cli.specs.Forms.{records_in};
 ghost use Rattle.do_cli.specs.Help.{help_text, version_text};
 ghost use Rattle.do_node.specs.Call.{Obeys};
 ghost use Rattle.do_given.specs.Reading.{Stops};
 ghost use Rattle.do_generate.specs.Generated.{generated};
 ghost use Rattle.do_world.specs.Sound.{IsSound};
-ghost use Rattle.do_node.specs.Replaying.{world_lost, world_summary, world_wired};
+ghost use Rattle.do_agreement.specs.HasWires.{HasWires};
+ghost use Rattle.do_replay.specs.Replayed.{WritesWithWires};
+ghost use Rattle.do_node.specs.OneMachine.{AddsAsOne, ComesAsOne};
+ghost use Rattle.do_node.specs.Replaying.{world_lost, world_summary, world_transcript, world_wired};
 
 use crate::leaking::world_lost;
 use crate::making::summary_text;
 use crate::replaying::replay;
 use crate::weaving::woven_given;
 use do_base::{Shelf, Sink, Text, Word, write_all};
-use do_cli::{Command, Words, push_help, push_version};
+use do_cli::{Words, push_help, push_version};
 use do_generate::generate;
 use do_given::{Scheduled, Status, scheduled_given, upgrade_given, world_given};
 use do_native::Native;
@@ -37,6 +39,10 @@ fn write_replay<S: Hosted<Acts = Native>, K: Sink>(
         (K.written out.new ≡ with_more (K.written out.old) (world_wired given.world given.lines)) }
     ensures prefix { HasWritten (K.written out.old) (K.written out.new)
         (world_wired given.world given.lines) }
+    ensures one_machine { OnOk result (HasWires (world_transcript given.world given.lines)
+        (world_wired given.world given.lines)) }
+    ensures one_machine_first { WritesWithWires (K.written out.old) (K.written out.new)
+        (world_transcript given.world given.lines) }
     ensures stopped { IfErr result
         (Stops ⊥ (Rose (K.faults out.old) (K.faults out.new)) (λ _. ⊥)) }
     ensures later { K.faults out.old ≤ K.faults out.new }
@@ -59,7 +65,7 @@ fn write_text<K: Sink>(text: &Text, out: &mut K) -> Result<(), Status>
 }
 
 /// Replays the schedule that the second word gives over the world that the first gives.
-fn replay_given<S: Hosted<Acts = Native>, H: Shelf, K: Sink>(
+pub fn replay_given<S: Hosted<Acts = Native>, H: Shelf, K: Sink>(
     alloc: Global,
     world: &Word,
     schedule: &Word,
@@ -70,6 +76,8 @@ fn replay_given<S: Hosted<Acts = Native>, H: Shelf, K: Sink>(
         (record { before = H.faults shelf.old; now = H.faults shelf.new })
         (K.written out.old) (K.written out.new)
         (record { before = K.faults out.old; now = K.faults out.new }) result }
+    ensures one_machine { AddsAsOne (H.files shelf.old) (K.written out.old) (K.written out.new)
+        (IsOk result) (Replay world.now schedule.now) }
     ensures same { H.files shelf.new ≡ H.files shelf.old }
     ensures shelf_faults { H.faults shelf.old ≤ H.faults shelf.new }
     ensures sink_faults { K.faults out.old ≤ K.faults out.new }
@@ -97,7 +105,7 @@ fn write_leaks<K: Sink>(alloc: Global, given: Scheduled, out: &mut K) -> Result<
 
 /// Replays the schedule that the second word gives over the world that the first gives, and writes
 /// what nothing can reach then.
-fn leaks_given<H: Shelf, K: Sink>(
+pub fn leaks_given<H: Shelf, K: Sink>(
     alloc: Global,
     world: &Word,
     schedule: &Word,
@@ -119,7 +127,7 @@ fn leaks_given<H: Shelf, K: Sink>(
 }
 
 /// Writes the schedule that the records in files are woven to over the world that a word gives.
-fn write_woven<H: Shelf, K: Sink>(
+pub fn write_woven<H: Shelf, K: Sink>(
     alloc: Global,
     world: &Word,
     files: &Words,
@@ -142,7 +150,7 @@ fn write_woven<H: Shelf, K: Sink>(
 }
 
 /// Writes the schedule of the first version that a word gives anew in the second.
-fn write_upgraded<H: Shelf, K: Sink>(
+pub fn write_upgraded<H: Shelf, K: Sink>(
     alloc: Global,
     schedule: &Word,
     shelf: &mut H,
@@ -174,6 +182,8 @@ fn write_summary<S: Hosted<Acts = Native>, K: Sink>(
         (K.written out.new ≡ with_more (K.written out.old) (world_summary world lines)) }
     ensures prefix { HasWritten (K.written out.old) (K.written out.new)
         (world_summary world lines) }
+    ensures one_machine { OnOk result (ComesAsOne world lines) }
+    ensures one_machine_first { (K.written out.new ≡ K.written out.old) ⊎ ComesAsOne world lines }
     ensures stopped { IfErr result
         (Stops ⊥ (Rose (K.faults out.old) (K.faults out.new)) (λ _. ⊥)) }
     ensures later { K.faults out.old ≤ K.faults out.new }
@@ -195,6 +205,9 @@ fn write_made<S: Hosted<Acts = Native>, K: Sink>(
         (world_summary world (generated count number))) }
     ensures prefix { HasWritten (K.written out.old) (K.written out.new)
         (world_summary world (generated count number)) }
+    ensures one_machine { OnOk result (ComesAsOne world (generated count number)) }
+    ensures one_machine_first { (K.written out.new ≡ K.written out.old)
+        ⊎ ComesAsOne world (generated count number) }
     ensures stopped { IfErr result
         (Stops ⊥ (Rose (K.faults out.old) (K.faults out.new)) (λ _. ⊥)) }
     ensures later { K.faults out.old ≤ K.faults out.new }
@@ -211,7 +224,7 @@ fn mesh_name(alloc: Global) -> Result<Text, AllocError>
 }
 
 /// Replays the schedule that a number generates, and writes the summary.
-fn make_given<S: Hosted<Acts = Native>, H: Shelf, K: Sink>(
+pub fn make_given<S: Hosted<Acts = Native>, H: Shelf, K: Sink>(
     alloc: Global,
     number: u64,
     count: u64,
@@ -222,6 +235,8 @@ fn make_given<S: Hosted<Acts = Native>, H: Shelf, K: Sink>(
         (record { before = H.faults shelf.old; now = H.faults shelf.new })
         (K.written out.old) (K.written out.new)
         (record { before = K.faults out.old; now = K.faults out.new }) result }
+    ensures one_machine { AddsAsOne (H.files shelf.old) (K.written out.old) (K.written out.new)
+        (IsOk result) (Make number count) }
     ensures same { H.files shelf.new ≡ H.files shelf.old }
     ensures shelf_faults { H.faults shelf.old ≤ H.faults shelf.new }
     ensures sink_faults { K.faults out.old ≤ K.faults out.new }
@@ -236,7 +251,7 @@ fn make_given<S: Hosted<Acts = Native>, H: Shelf, K: Sink>(
 }
 
 /// Writes the text of `--help`.
-fn write_help<K: Sink>(alloc: Global, out: &mut K) -> Result<(), Status>
+pub fn write_help<K: Sink>(alloc: Global, out: &mut K) -> Result<(), Status>
     ensures ok { OnOk result (K.written out.new ≡ with_more (K.written out.old) help_text) }
     ensures prefix { HasWritten (K.written out.old) (K.written out.new) help_text }
     ensures stopped { IfErr result (Stops ⊥ (Rose (K.faults out.old) (K.faults out.new)) (λ _. ⊥)) }
@@ -248,7 +263,7 @@ fn write_help<K: Sink>(alloc: Global, out: &mut K) -> Result<(), Status>
 }
 
 /// Writes the text of `--version`.
-fn write_version<K: Sink>(alloc: Global, out: &mut K) -> Result<(), Status>
+pub fn write_version<K: Sink>(alloc: Global, out: &mut K) -> Result<(), Status>
     ensures ok { OnOk result (K.written out.new ≡ with_more (K.written out.old) version_text) }
     ensures prefix { HasWritten (K.written out.old) (K.written out.new) version_text }
     ensures stopped { IfErr result (Stops ⊥ (Rose (K.faults out.old) (K.faults out.new)) (λ _. ⊥)) }
@@ -257,35 +272,4 @@ fn write_version<K: Sink>(alloc: Global, out: &mut K) -> Result<(), Status>
     let mut text = Text::new(alloc);
     push_version(&mut text)?;
     write_text(&text, out)
-}
-
-/// Does what a command asks, and writes what it asks for.
-pub fn obey<S: Hosted<Acts = Native>, H: Shelf, K: Sink>(
-    alloc: Global,
-    command: Command,
-    shelf: &mut H,
-    out: &mut K,
-) -> Result<(), Status>
-    requires { records_in command ≤ 64 }
-    ensures obeys { Obeys (H.files shelf.old) command
-        (record { before = H.faults shelf.old; now = H.faults shelf.new })
-        (K.written out.old) (K.written out.new)
-        (record { before = K.faults out.old; now = K.faults out.new }) result }
-    ensures same { H.files shelf.new ≡ H.files shelf.old }
-    ensures shelf_faults { H.faults shelf.old ≤ H.faults shelf.new }
-    ensures sink_faults { K.faults out.old ≤ K.faults out.new }
-{
-    match command {
-        Command::Replay { world, schedule } => {
-            replay_given::<S, H, K>(alloc, &world, &schedule, shelf, out)
-        }
-        Command::Leaks { world, schedule } => leaks_given(alloc, &world, &schedule, shelf, out),
-        Command::Weave { world, files } => write_woven(alloc, &world, &files, shelf, out),
-        Command::Upgrade { schedule } => write_upgraded(alloc, &schedule, shelf, out),
-        Command::Make { number, count } => {
-            make_given::<S, H, K>(alloc, number, count, shelf, out)
-        }
-        Command::Help => write_help(alloc, out),
-        Command::Version => write_version(alloc, out),
-    }
 }

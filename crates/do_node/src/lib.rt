@@ -3,10 +3,11 @@
 //!
 //! It stands on the machine, the readers of texts and the outside as traits. It promises what the
 //! call answers for every input, and that what it writes is the transcript of the schedule over the
-//! world, what nothing can reach after it, the schedule that records are woven to, or the schedule
-//! written anew.
+//! world, what nothing can reach after it, the schedule that records are woven to, the schedule
+//! written anew, the record of a node that is served, or how the children of a plan ended.
 #![tactic(auto)]
 
+mod answering;
 mod call;
 mod commands;
 mod counted;

@@ -1,6 +1,7 @@
 //! The summary of a schedule over a world.
-ghost use Rattle.std.specs.Prelude.{◌≡◌, IfOk};
+ghost use Rattle.std.specs.Prelude.{◌≡◌, IfOk, OnOk};
 ghost use Rattle.do_world.specs.Sound.{IsSound};
+ghost use Rattle.do_node.specs.OneMachine.{ComesAsOne};
 ghost use Rattle.do_node.specs.Replaying.{world_summary};
 
 use crate::networks::net_of;
@@ -13,7 +14,8 @@ use do_sched::Lines;
 use do_world::World;
 use std::alloc::{AllocError, Global};
 
-/// Replays the lines over the network of a world, and gives the summary, as a text.
+/// Replays the lines over the network of a world, and gives the summary, as a text. The lines come
+/// to what they come to in one local machine.
 ///
 /// The one error is that memory ran out, or that a number would pass what a site or the summary can
 /// count.
@@ -23,7 +25,8 @@ pub fn summary_text<S: Hosted<Acts = Native>>(
     lines: Lines,
 ) -> Result<Text, AllocError>
     requires { IsSound world }
-    ensures { IfOk result (λ text. text ≡ world_summary world lines) }
+    ensures text { IfOk result (λ text. text ≡ world_summary world lines) }
+    ensures one_machine { OnOk result (ComesAsOne world lines) }
 {
     let parts = parts_of(alloc, world)?;
     let mut net = net_of::<S>(parts)?;

@@ -3,7 +3,9 @@ ghost use Rattle.std.specs.Prelude.{◌≡◌, ◌≤◌, OnOk, IsErrOf};
 ghost use Rattle.do_base.specs.outside.Bytes.{with_more, HasWritten};
 ghost use Rattle.do_base.specs.outside.Causes.{Rose};
 ghost use Rattle.do_world.specs.Sound.{IsSound};
-ghost use Rattle.do_node.specs.Replaying.{world_wired};
+ghost use Rattle.do_agreement.specs.HasWires.{HasWires};
+ghost use Rattle.do_replay.specs.Replayed.{WritesWithWires};
+ghost use Rattle.do_node.specs.Replaying.{world_transcript, world_wired};
 
 use crate::networks::net_of;
 use do_base::{PutFail, Sink};
@@ -16,7 +18,8 @@ use do_world::World;
 use std::alloc::Global;
 
 /// Replays the lines over the network of a world, and writes the transcript, in which each line is
-/// followed by what was sent in it.
+/// followed by what was sent in it. It is the transcript of one local machine with lines `wire ..`
+/// put between its lines.
 pub fn replay<S: Hosted<Acts = Native>, K: Sink>(
     alloc: Global,
     world: World,
@@ -28,6 +31,10 @@ pub fn replay<S: Hosted<Acts = Native>, K: Sink>(
         (K.written out.new ≡ with_more (K.written out.old) (world_wired world lines)) }
     ensures prefix { HasWritten (K.written out.old) (K.written out.new)
         (world_wired world lines) }
+    ensures one_machine { OnOk result
+        (HasWires (world_transcript world lines) (world_wired world lines)) }
+    ensures one_machine_first { WritesWithWires (K.written out.old) (K.written out.new)
+        (world_transcript world lines) }
     ensures later { K.faults out.old ≤ K.faults out.new }
     ensures failed { IsErrOf result PutFail.Failed → Rose (K.faults out.old) (K.faults out.new) }
 {

@@ -8,6 +8,7 @@ use do_acts::as_number;
 use do_base::{CallList, FileList, MemShelf, MemSink, Sink, Text, Texts, Value, Values};
 use do_grammar::is_text;
 use do_node::{Status, run};
+use outside_rows::{good_children, no_link};
 use std::alloc::{AllocError, Global};
 use std::test::Fail;
 
@@ -54,8 +55,18 @@ impl RunCalls {
 
     /// Runs a line of words, and writes to an output.
     fn run<K: Sink>(&mut self, line: &Text, out: &mut K) -> Result<Status, AllocError> {
-        let words = words_of(self.rt.alloc(), line)?;
-        Ok(run(self.rt.alloc(), words.as_slice(), &mut self.shelf, out))
+        let alloc = self.rt.alloc();
+        let words = words_of(alloc, line)?;
+        let mut link = no_link(alloc)?;
+        let mut spawn = good_children(alloc)?;
+        Ok(run(
+            alloc,
+            words.as_slice(),
+            &mut self.shelf,
+            out,
+            &mut link,
+            &mut spawn,
+        ))
     }
 
     /// What a line of words comes to, and what it writes.

@@ -2,14 +2,23 @@
 use do_base::Word;
 use do_node::Status;
 
-/// The words, of those on the command line, that name what a status speaks of.
-fn concerned<'a>(status: &Status, words: &'a [Word]) -> &'a [Word] {
-    match (status, words) {
-        (Status::ReadFault | Status::TooLong { .. }, [_, files @ ..]) => files,
-        (Status::BadWorld(_), [_, world, ..]) => std::slice::from_ref(world),
-        (Status::BadSchedule(_), [.., schedule]) => std::slice::from_ref(schedule),
-        (Status::BadRecord { index, .. }, [_, _, records @ ..]) => nth(records, *index),
-        (Status::Contradiction { index, .. }, [_, _, records @ ..]) => nth(records, *index),
+/// The words, of those on the command line, that name a world and files.
+fn files_in(words: &[Word]) -> &[Word] {
+    match words {
+        [name, _, files @ .., _] if name.is(b"node") => files,
+        [_, files @ ..] => files,
+        [] => &[],
+    }
+}
+
+/// The words, of those that name a world and files, of which a status speaks.
+fn concerned<'a>(status: &Status, files: &'a [Word]) -> &'a [Word] {
+    match (status, files) {
+        (Status::ReadFault | Status::TooLong { .. }, files) => files,
+        (Status::BadWorld(_), [world, ..]) => std::slice::from_ref(world),
+        (Status::BadSchedule(_), [.., lines]) => std::slice::from_ref(lines),
+        (Status::BadRecord { index, .. }, [_, records @ ..]) => nth(records, *index),
+        (Status::Contradiction { index, .. }, [_, records @ ..]) => nth(records, *index),
         _ => &[],
     }
 }
@@ -43,6 +52,9 @@ fn tell_remedy(rt: &HostRuntime, status: &Status) {
         Status::BadWorld(fault) => {
             let _ = eprintln!(rt; "{fault}");
         }
+        Status::LinkFault => {
+            let _ = eprintln!(rt; "the port may be taken by another program of this machine");
+        }
         Status::BadSchedule(1) => {
             let _ = eprintln!(rt;
                 "a schedule that begins with `schedule 1` is written anew by `upgrade SCHEDULE`"
@@ -56,7 +68,7 @@ fn tell_remedy(rt: &HostRuntime, status: &Status) {
 /// it speaks of, then what helps.
 pub fn tell(rt: &HostRuntime, status: &Status, words: &[Word]) {
     let _ = eprintln!(rt; "{status}");
-    for name in concerned(status, words) {
+    for name in concerned(status, files_in(words)) {
         if is_file(name) {
             tell_file(rt, name);
         }

@@ -1,18 +1,23 @@
 //! The program: `replay WORLD SCHEDULE` replays a schedule over a world and writes its transcript,
 //! `leaks WORLD SCHEDULE` writes what nothing can reach after it, `weave WORLD RECORD..` one schedule
-//! of the records of nodes, `upgrade SCHEDULE` a schedule of version 1 anew, `--help` shows the forms.
+//! of the records of nodes, `upgrade SCHEDULE` a schedule of version 1 anew, `make NUMBER COUNT` a
+//! summary of a generated schedule, `node PORT WORLD STARTS TURNS` serves a node over TCP, `lab PLAN`
+//! starts nodes as processes, and `--help` shows the forms.
 //!
 //! It stands on do_node, whose call decides all that is answered and written, and on do_host for
-//! the files, the output and the words. It adds the lines on standard error and the exit status
-//! alone.
+//! the files, the output, the words, the sockets and the processes. It adds the lines on standard
+//! error and the exit status alone.
 #![tactic(auto)]
 
 mod advice;
 
 use do_base::Texts;
-use do_host::{FileShelf, StdSink, read_words};
+use do_host::{FileShelf, ProcSpawner, StdSink, TcpLink, program_path, read_words};
 use do_node::{Status, run};
 use std::process::ExitCode;
+
+/// How long a poll of the sockets waits at most, in microseconds.
+const WAIT: u64 = 500;
 
 fn main(rt: HostRuntime) -> ExitCode {
     let Ok(words) = read_words(rt.alloc(), &rt) else {
@@ -26,10 +31,20 @@ fn main(rt: HostRuntime) -> ExitCode {
     ExitCode::from(status.number())
 }
 
-/// What the words of the command line come to, over the files and the output of the system.
+/// What the words of the command line come to, over the files, the output, the sockets and the
+/// processes of the system.
 fn answer(rt: HostRuntime, words: &Texts) -> Status {
     let alloc = rt.alloc();
     let mut out = StdSink::new(rt.stdout());
     let mut shelf = FileShelf::new(alloc, rt);
-    run(alloc, words.as_slice(), &mut shelf, &mut out)
+    let mut link = TcpLink::new(alloc, rt, WAIT);
+    let mut spawn = ProcSpawner::new(alloc, rt, program_path(&rt));
+    run(
+        alloc,
+        words.as_slice(),
+        &mut shelf,
+        &mut out,
+        &mut link,
+        &mut spawn,
+    )
 }

@@ -10,7 +10,7 @@ mod narrow;
 mod spawners;
 mod words;
 
-pub use links::LinkCalls;
+pub use links::{LinkCalls, no_link};
 pub use narrow::Narrow;
-pub use spawners::spawner_of;
+pub use spawners::{good_children, spawner_of};
 pub use words::{calls_of, node_of, peers_of, port_value, push_word};

@@ -7,7 +7,7 @@ ghost use Rattle.do_link.specs.InMemory.{IsPiece};
 use crate::words::{calls_of, node_of, peers_of, port_value, push_word};
 use call_rows::{Part, list_at, no_call, number_at, text_at};
 use do_acts::as_number;
-use do_base::{Items, NodeId, Text, Value, Values};
+use do_base::{CallList, Items, NodeId, Text, Value, Values};
 use do_grammar::is_text;
 use do_link::{Link, LinkEvent, LinkFail, MemLink, ScriptEvent, ScriptList, Sent};
 use std::alloc::{AllocError, Global};
@@ -64,6 +64,11 @@ fn link_of(alloc: Global, script: &Values, fails: bool, calls: &Values) -> Resul
         Ok(calls) => Ok(MemLink::new(alloc, script, fails, calls)?),
         Err(fail) => Err(fail),
     }
+}
+
+/// A link that does not listen, for calls that ask nothing of one.
+pub fn no_link(alloc: Global) -> Result<MemLink, AllocError> {
+    MemLink::new(alloc, ScriptList::new(alloc), true, CallList::new(alloc))
 }
 
 /// Whether a call of the link did not fail.

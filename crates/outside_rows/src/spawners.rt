@@ -1,9 +1,9 @@
 //! Spawners in memory.
 
 use crate::words::calls_of;
-use do_base::{Items, Values};
+use do_base::{CallList, Items, Values};
 use do_lab::{MemSpawner, StatusList};
-use std::alloc::Global;
+use std::alloc::{AllocError, Global};
 use std::test::Fail;
 
 /// The statuses that children end with.
@@ -26,4 +26,10 @@ pub fn spawner_of(
     let starts = calls_of(starts)?;
     let waits = calls_of(waits)?;
     Ok(MemSpawner::new(alloc, statuses, starts, waits)?)
+}
+
+/// A spawner whose children all end with 0.
+pub fn good_children(alloc: Global) -> Result<MemSpawner, AllocError> {
+    let (starts, waits) = (CallList::new(alloc), CallList::new(alloc));
+    MemSpawner::new(alloc, StatusList::new(alloc), starts, waits)
 }

@@ -10,6 +10,7 @@ use do_node::{Status, run};
 use do_transcript::write_transcript;
 use do_world::{World, builtin};
 use do_woven::schedule_text;
+use outside_rows::{good_children, no_link};
 use std::alloc::{AllocError, Global};
 use std::test::Fail;
 
@@ -42,7 +43,17 @@ fn words(alloc: Global) -> Result<Texts, AllocError> {
 fn of_network(alloc: Global, number: u64) -> Result<Text, Fail> {
     let mut shelf = shelf_of(alloc, number)?;
     let mut sink = MemSink::new(alloc, CallList::new(alloc))?;
-    let status = run(alloc, words(alloc)?.as_slice(), &mut shelf, &mut sink);
+    let mut link = no_link(alloc)?;
+    let mut spawn = good_children(alloc)?;
+    let words = words(alloc)?;
+    let status = run(
+        alloc,
+        words.as_slice(),
+        &mut shelf,
+        &mut sink,
+        &mut link,
+        &mut spawn,
+    );
     if !matches!(&status, Status::Ok) {
         return Err("not whole".into());
     }

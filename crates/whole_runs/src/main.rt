@@ -1,10 +1,11 @@
-//! Replays schedules over worlds in files, one after another, and writes their transcripts, without
-//! what was sent.
+//! Replays schedules over worlds in files, one after another, and writes their transcripts: the
+//! first ones with each frame that is sent, byte for byte, those behind them without what is sent.
 //!
 //! It stands on do_node and do_host, as the program does. What it must write was worked out by hand
 //! or by another program, and stands beside it. Behind these, schedules that numbers generate are
-//! replayed over the network and over the one machine of the definitions, and must show the same. The schedules over `edges.world` and those
-//! behind them tell rules apart that few others do: each differs where one rule is another.
+//! replayed over the network and over the one machine of the definitions, and must show the same.
+//! The schedules over `edges.world` and those behind them tell rules apart that few others do: each
+//! differs where one rule is another.
 //!
 //! Five rules can show in no transcript, since no state that a machine comes to tells them apart:
 //! that an answer which does not fit raises Type; that a name lent twice under one token is asked
@@ -20,12 +21,13 @@ use crate::plain::without_wires;
 use do_base::{CallList, Items, MemSink, Shelf, Text, Texts};
 use do_host::FileShelf;
 use do_node::{Status, run};
+use outside_rows::{good_children, no_link};
 use std::alloc::AllocError;
 use std::io::Write;
 use std::test::Fail;
 
-/// Each schedule, and the world that it is for.
-const RUNS: [(&str, &str); 49] = [
+/// Each schedule that is compared with all that is sent, and the world that it is for.
+const SENT: [(&str, &str); 23] = [
     (":counter", "counter_adds.schedule"),
     (":counter", "counter_overflows.schedule"),
     ("peers.world", "copies_of_a_cycle.schedule"),
@@ -48,10 +50,14 @@ const RUNS: [(&str, &str); 49] = [
     ("peers.world", "close_before_asking.schedule"),
     ("falling_ports.world", "nodes_out_of_order.schedule"),
     ("desk.world", "lazy_owner.schedule"),
+    ("guard.world", "guarded_peer.schedule"),
+];
+
+/// Each schedule that is compared without what is sent, and the world that it is for.
+const SHOWN: [(&str, &str); 26] = [
     ("desk.world", "desk_is_set_up.schedule"),
     ("notices.world", "suspended_observers.schedule"),
     ("services.world", "services_and_provider.schedule"),
-    ("guard.world", "guarded_peer.schedule"),
     ("edges.world", "values_that_come_back.schedule"),
     ("edges.world", "out_values.schedule"),
     ("edges.world", "handlers_and_roots.schedule"),
@@ -87,29 +93,42 @@ fn words(rt: &HostRuntime, world: &str, schedule: &str) -> Result<Texts, AllocEr
     Ok(words)
 }
 
-/// Writes the transcript of a schedule over a world, without what was sent.
-fn replay_one<H: Shelf>(
+/// The transcript of a schedule over a world, with what was sent.
+fn replayed<H: Shelf>(
     rt: &HostRuntime,
     shelf: &mut H,
     world: &str,
     schedule: &str,
-) -> Result<(), Fail> {
+) -> Result<Text, Fail> {
     let alloc = rt.alloc();
     let words = words(rt, world, schedule)?;
     let mut sink = MemSink::new(alloc, CallList::new(alloc))?;
-    let status = run(alloc, words.as_slice(), shelf, &mut sink);
+    let mut link = no_link(alloc)?;
+    let mut spawn = good_children(alloc)?;
+    let status = run(
+        alloc,
+        words.as_slice(),
+        shelf,
+        &mut sink,
+        &mut link,
+        &mut spawn,
+    );
     if !matches!(&status, Status::Ok) {
         return Err("not whole".into());
     }
-    let plain = without_wires(alloc, sink.bytes())?;
-    rt.stdout().write_all(plain.as_slice())?;
-    Ok(())
+    Ok(sink.bytes().clone()?)
 }
 
 fn main(rt: HostRuntime) -> Result<(), Fail> {
     let mut shelf = FileShelf::new(rt.alloc(), rt);
-    for (world, schedule) in RUNS {
-        replay_one(&rt, &mut shelf, world, schedule)?;
+    for (world, schedule) in SENT {
+        let whole = replayed(&rt, &mut shelf, world, schedule)?;
+        rt.stdout().write_all(whole.as_slice())?;
+    }
+    for (world, schedule) in SHOWN {
+        let whole = replayed(&rt, &mut shelf, world, schedule)?;
+        let plain = without_wires(rt.alloc(), &whole)?;
+        rt.stdout().write_all(plain.as_slice())?;
     }
     let mut report = Text::new(rt.alloc());
     compare_all(rt.alloc(), &mut report)?;

@@ -1,6 +1,10 @@
-use Rattle.do_node.proofs.RefusalsTold.{stops_no_word, stops_not_ok}
+use Rattle.do_cli.specs.Forms.{command_in}
+use Rattle.do_node.proofs.AsOneMachine.{memory_adds}
+use Rattle.do_node.proofs.LeaksTold.{leaks_told}
+use Rattle.do_node.proofs.RecordsGiven.{gives_back}
 use Rattle.do_node.proofs.Upgraded.{replayed_alike}
-use Rattle.do_node.proofs.WordsRead.{asked_no_word, memory_told, no_command, usage_told}
+use Rattle.do_node.proofs.WordsRead.{asked_no_word, memory_told, no_command, none_asked}
+use Rattle.do_node.proofs.WordsRead.{usage_told}
 use Rattle.do_node.proofs.call.run.Goals as goal
 
 pub returns-in-Err-Usage-clause-usage : goal.returns-in-Err-Usage-clause-usage
@@ -30,20 +34,40 @@ pub returns-in-Err-Memory-clause-upgraded : goal.returns-in-Err-Memory-clause-up
 returns-in-Err-Memory-clause-upgraded g c =
     replayed_alike (g.H.Shelf.files c.args.shelf.now)
 
-pub returns-in-Ok-obey-clause-upgraded : goal.returns-in-Ok-obey-clause-upgraded
-returns-in-Ok-obey-clause-upgraded g c =
-    replayed_alike (g.H.Shelf.files c.args.shelf.now)
+pub returns-clause-upgraded : goal.returns-clause-upgraded
+returns-clause-upgraded g c = replayed_alike (g.H.Shelf.files c.args.shelf.now)
 
-pub returns-in-Err-clause-upgraded : goal.returns-in-Err-clause-upgraded
-returns-in-Err-clause-upgraded g c =
-    replayed_alike (g.H.Shelf.files c.args.shelf.now)
+pub returns-in-Err-Usage-clause-leaks : goal.returns-in-Err-Usage-clause-leaks
+returns-in-Err-Usage-clause-leaks g c = leaks_told (g.H.Shelf.files c.args.shelf.now)
 
-pub returns-in-Err-clause-usage : goal.returns-in-Err-clause-usage
-returns-in-Err-clause-usage g c = λ word. asked_no_word c.args.words.now c.in-Ok.command word _
-    c.in-Ok.ensures.command
-    (λ is. stops_no_word _ _ _ c.in-Ok.command c.in-Err.status word
-    c.in-Err.ensures.obeys.stopped is)
+pub returns-in-Err-Memory-clause-leaks : goal.returns-in-Err-Memory-clause-leaks
+returns-in-Err-Memory-clause-leaks g c = leaks_told (g.H.Shelf.files c.args.shelf.now)
 
-pub returns-in-Err-clause-whole : goal.returns-in-Err-clause-whole
-returns-in-Err-clause-whole g c = λ is.
-    absurd (stops_not_ok _ _ _ c.in-Ok.command c.in-Err.status c.in-Err.ensures.obeys.stopped is)
+pub returns-clause-leaks : goal.returns-clause-leaks
+returns-clause-leaks g c = leaks_told (g.H.Shelf.files c.args.shelf.now)
+
+pub returns-in-Err-Usage-clause-rewoven : goal.returns-in-Err-Usage-clause-rewoven
+returns-in-Err-Usage-clause-rewoven g c = gives_back (g.H.Shelf.files c.args.shelf.now)
+
+pub returns-in-Err-Memory-clause-rewoven : goal.returns-in-Err-Memory-clause-rewoven
+returns-in-Err-Memory-clause-rewoven g c = gives_back (g.H.Shelf.files c.args.shelf.now)
+
+pub returns-clause-rewoven : goal.returns-clause-rewoven
+returns-clause-rewoven g c = gives_back (g.H.Shelf.files c.args.shelf.now)
+
+pub returns-in-Err-Usage-clause-links : goal.returns-in-Err-Usage-clause-links
+returns-in-Err-Usage-clause-links g c = none_asked c.args.words.now c.in-Err-Usage.word _
+    (rw c.in-Err-Usage.field-0-is at c.in-Err-Usage.ensures.usage)
+
+pub returns-in-Err-Usage-clause-spawns : goal.returns-in-Err-Usage-clause-spawns
+returns-in-Err-Usage-clause-spawns g c = none_asked c.args.words.now c.in-Err-Usage.word _
+    (rw c.in-Err-Usage.field-0-is at c.in-Err-Usage.ensures.usage)
+
+pub returns-in-Err-Usage-clause-one_machine : goal.returns-in-Err-Usage-clause-one_machine
+returns-in-Err-Usage-clause-one_machine g c = none_asked c.args.words.now c.in-Err-Usage.word _
+    (rw c.in-Err-Usage.field-0-is at c.in-Err-Usage.ensures.usage)
+
+pub returns-in-Err-Memory-clause-one_machine : goal.returns-in-Err-Memory-clause-one_machine
+returns-in-Err-Memory-clause-one_machine g c =
+    memory_adds (g.H.Shelf.files c.args.shelf.now) (g.K.Sink.written c.args.out.now)
+    (command_in c.args.words.now)

@@ -2,6 +2,7 @@ use Rattle.std.proofs.Common.{refl}
 use Rattle.do_cli.specs.declared.command.Command.TheVariants.{Replay}
 use Rattle.do_given.proofs.FilesTold.{no_err}
 use Rattle.do_given.proofs.Stopping.{must_be, must_give}
+use Rattle.do_node.proofs.AsOneMachine.{adds_nothing, replay_adds}
 use Rattle.do_node.proofs.Obeying.{obeys_stopping, obeys_writing}
 use Rattle.do_node.proofs.commands.replay_given.Goals as goal
 
@@ -21,3 +22,14 @@ returns-in-Err-clause-obeys g c =
     (λ files st is none. must_be st c.in-Err.status (c.in-Err.ensures.refuses files st is none))
     (λ files text is writes. must_give writes.given c.in-Err.status
     (c.in-Err.ensures.accepts files writes.given is writes.gives))
+
+-- what was written is what one machine writes, with what was sent put in
+pub returns-in-Ok-clause-one_machine : goal.returns-in-Ok-clause-one_machine
+returns-in-Ok-clause-one_machine g c =
+    let w = c.write_replay.ensures in
+    let told = g.H.Shelf.files c.args.shelf.now in
+    replay_adds told c.args.world.now c.args.schedule.now c.in-Ok.given c.in-Ok.ensures.gives _ _
+    c.write_replay.result w.one_machine w.ok w.one_machine_first
+
+pub returns-in-Err-clause-one_machine : goal.returns-in-Err-clause-one_machine
+returns-in-Err-clause-one_machine g c = adds_nothing _ _ c.in-Err.status

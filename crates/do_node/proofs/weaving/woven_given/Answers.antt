@@ -5,21 +5,25 @@ use Rattle.do_node.proofs.WovenTold.{world_stops}
 use Rattle.do_given.proofs.Stopping.{give_any}
 use Rattle.do_node.proofs.weaving.woven_given.Goals as goal
 
+-- where no world was read, the world stops it
 pub returns-in-Err-clause-stopped : goal.returns-in-Err-clause-stopped
 returns-in-Err-clause-stopped g c =
     world_stops c.args.word.now c.args.names.now _ _ _ c.in-Err.status c.in-Err.ensures.stopped
 
+-- where no world was read though files give one, a file was not read
 pub returns-in-Err-clause-accepts : goal.returns-in-Err-clause-accepts
 returns-in-Err-clause-accepts g c = λ files text is woven.
     give_any woven.world (Ok text) c.in-Err.status
     (c.in-Err.ensures.accepts files woven.world is woven.given.gives)
 
+-- where no world was read, the status is that of the world
 pub returns-in-Err-clause-refuses : goal.returns-in-Err-clause-refuses
 returns-in-Err-clause-refuses g c = λ files status is none.
     world_refuses c.args.word.now c.args.names.now files c.in-Err.status
     (λ st no. c.in-Err.ensures.refuses files st is no)
     (λ w gives. c.in-Err.ensures.accepts files w is gives) status none
 
+-- where a world was read and a record was not, the record stops it
 pub returns-in-Err-records_given-clause-stopped : goal.returns-in-Err-records_given-clause-stopped
 returns-in-Err-records_given-clause-stopped g c =
     let ended = c.in-Err-records_given in
@@ -27,6 +31,7 @@ returns-in-Err-records_given-clause-stopped g c =
     c.in-Ok.ensures.same c.in-Ok.ensures.later c.new-none.ensures c.in-Ok.ensures.gives
     (rw c.as_slice.ensures at ended.ensures.stopped)
 
+-- where records were not read though files give them, a file was not read
 pub returns-in-Err-records_given-clause-accepts : goal.returns-in-Err-records_given-clause-accepts
 returns-in-Err-records_given-clause-accepts g c = λ files text is woven.
     let ended = c.in-Err-records_given in
@@ -35,6 +40,7 @@ returns-in-Err-records_given-clause-accepts g c = λ files text is woven.
     (λ rs say. ended.ensures.accepts files rs (c.in-Ok.ensures.same ∙ is)
     (rw (c.as_slice.ensures, c.new-none.ensures) say)) text woven
 
+-- where a record was not read, the status is that of the record
 pub returns-in-Err-records_given-clause-refuses : goal.returns-in-Err-records_given-clause-refuses
 returns-in-Err-records_given-clause-refuses g c = λ files status is none.
     let ended = c.in-Err-records_given in
@@ -46,6 +52,7 @@ returns-in-Err-records_given-clause-refuses g c = λ files status is none.
     (λ rs say. ended.ensures.accepts files rs (c.in-Ok.ensures.same ∙ is)
     (rw (c.as_slice.ensures, c.new-none.ensures) say)) status none
 
+-- where all were read, a contradiction alone stops it
 pub returns-clause-stopped : goal.returns-clause-stopped
 returns-clause-stopped g c =
     let read = c.in-Ok-records_given in
@@ -55,6 +62,7 @@ returns-clause-stopped g c =
       say = rw (c.in-Ok.ensures.same, c.as_slice.ensures, c.new-none.ensures) at read.ensures.says;
     }) c.woven_text.ensures.stopped
 
+-- where all were read, the text is the one that files give
 pub returns-clause-accepts : goal.returns-clause-accepts
 returns-clause-accepts g c = λ files text is woven.
     let read = c.in-Ok-records_given in
@@ -63,6 +71,7 @@ returns-clause-accepts g c = λ files text is woven.
     (λ rs say. read.ensures.accepts files rs (c.in-Ok.ensures.same ∙ is)
     (rw (c.as_slice.ensures, c.new-none.ensures) say)) _ c.woven_text.ensures.accepts text woven
 
+-- where all were read, the status is that of what is woven
 pub returns-clause-refuses : goal.returns-clause-refuses
 returns-clause-refuses g c = λ files status is none.
     let read = c.in-Ok-records_given in
