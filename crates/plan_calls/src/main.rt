@@ -3,8 +3,8 @@
 //!
 //! It stands on do_plan, do_generate and how rows are played, and calls public functions alone. The
 //! rows are files; what they expect was worked out by hand, and for generated lines by another
-//! program. A row whose answer is another one is printed with it; at the end of each file stands how
-//! many rows it has.
+//! program. A row whose answer is another one is printed with it; at the end of each file stands
+//! how many rows it has.
 #![tactic(auto)]
 
 mod answers;

@@ -41,6 +41,14 @@ fn shown(alloc: Global, code: &Code, place: usize) -> Result<Value, Fail> {
     }
 }
 
+/// Two counts.
+fn counts(alloc: Global, first: usize, second: usize) -> Result<Value, Fail> {
+    let mut values = Values::new(alloc);
+    values.push(count_value(first)?)?;
+    values.push(count_value(second)?)?;
+    Ok(Value::List(values))
+}
+
 impl CodeCalls {
     /// Calls that take memory here.
     pub(crate) fn new(alloc: Global) -> Result<CodeCalls, AllocError> {
@@ -70,10 +78,7 @@ impl CodeCalls {
     /// How many slots and classes a text's code may name.
     fn vocabulary(&self, text: &Text) -> Result<Value, Fail> {
         let code = assemble(self.alloc, text.as_slice(), &self.slots, &self.classes)?;
-        let mut values = Values::new(self.alloc);
-        values.push(count_value(code.slots())?)?;
-        values.push(count_value(code.classes())?)?;
-        Ok(Value::List(values))
+        counts(self.alloc, code.slots(), code.classes())
     }
 
     /// A first line, as many jumps to the end, and the end.

@@ -50,6 +50,18 @@ fn refused(alloc: Global, fault: ReadFault, len: usize) -> Result<Value, Fail> {
     }
 }
 
+/// Adds what the word says, and tells whether it says what.
+fn push_printed(out: &mut Text, word: &[u8], args: &Values) -> Result<bool, Fail> {
+    match word {
+        b"print_int" => push_int(out, number_at(args, 0)?)?,
+        b"print_num" => push_num(out, digits_at(args, 0)?)?,
+        b"print_signed" => push_signed(out, number_at(args, 0)?)?,
+        b"print_text" => push_text(out, text_at(args, 0)?.as_slice())?,
+        _ => return Ok(false),
+    }
+    Ok(true)
+}
+
 /// A number that was read from bytes.
 fn number_found(
     alloc: Global,
@@ -106,16 +118,14 @@ impl NumberCalls {
     /// Prints what the word says.
     fn print(&self, word: &[u8], args: &Values) -> Result<Value, Fail> {
         let mut out = Text::new(self.alloc);
-        match word {
-            b"print_int" => push_int(&mut out, number_at(args, 0)?)?,
-            b"print_num" => push_num(&mut out, digits_at(args, 0)?)?,
-            b"print_signed" => push_signed(&mut out, number_at(args, 0)?)?,
-            b"print_text" => push_text(&mut out, text_at(args, 0)?.as_slice())?,
-            b"print_bad" => return printed(self.alloc, CodeFault::Bad(3)),
-            b"print_short" => return printed(self.alloc, ReadFault::Short),
-            _ => return self.beside(word, text_at(args, 0)?),
+        if push_printed(&mut out, word, args)? {
+            return Ok(Value::Text(out));
         }
-        Ok(Value::Text(out))
+        match word {
+            b"print_bad" => printed(self.alloc, CodeFault::Bad(3)),
+            b"print_short" => printed(self.alloc, ReadFault::Short),
+            _ => self.beside(word, text_at(args, 0)?),
+        }
     }
 }
 

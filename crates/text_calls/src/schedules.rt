@@ -61,14 +61,16 @@ impl ScheduleCalls {
         }
     }
 
+    /// How many lines a schedule has, or its first fault, printed.
+    fn lines(&self, text: &Text) -> Result<Value, Fail> {
+        counted(self.alloc, read_schedule(self.alloc, text.as_slice()))
+    }
+
     /// What the readers of both versions say of what stands behind the first line.
     fn both(&self, rest: &Text) -> Result<Value, Fail> {
-        let second = behind(self.alloc, b"schedule 2", rest)?;
-        let first = behind(self.alloc, b"schedule 1", rest)?;
         let mut values = Values::new(self.alloc);
-        let read = read_schedule(self.alloc, second.as_slice());
-        values.push(counted(self.alloc, read)?)?;
-        values.push(self.upgraded(&first)?)?;
+        values.push(self.lines(&behind(self.alloc, b"schedule 2", rest)?)?)?;
+        values.push(self.upgraded(&behind(self.alloc, b"schedule 1", rest)?)?)?;
         Ok(Value::List(values))
     }
 
@@ -79,7 +81,7 @@ impl ScheduleCalls {
             text.push_bytes(b"run 1 1000\n")?;
         }
         text.push_bytes(last.as_slice())?;
-        counted(self.alloc, read_schedule(self.alloc, text.as_slice()))
+        self.lines(&text)
     }
 
     /// A start with a text of as many letters, behind a first line.
@@ -105,8 +107,7 @@ impl ScheduleCalls {
 impl Part for ScheduleCalls {
     fn call(&mut self, word: &[u8], args: &Values) -> Result<Value, Fail> {
         if is_text(word, b"lines") {
-            let text = text_at(args, 0)?;
-            return counted(self.alloc, read_schedule(self.alloc, text.as_slice()));
+            return self.lines(text_at(args, 0)?);
         }
         if is_text(word, b"again") {
             return self.again(text_at(args, 0)?);
@@ -121,8 +122,7 @@ impl Part for ScheduleCalls {
             return self.million(text_at(args, 0)?);
         }
         if is_text(word, b"letters") {
-            let text = self.started(b"schedule 2", number_at(args, 0)?)?;
-            return counted(self.alloc, read_schedule(self.alloc, text.as_slice()));
+            return self.lines(&self.started(b"schedule 2", number_at(args, 0)?)?);
         }
         if is_text(word, b"first_letters") {
             return self.first_started(number_at(args, 0)?);

@@ -50,18 +50,23 @@ impl SignatureCalls {
         }
     }
 
-    /// Whether a value fits the type at the first place as a result.
-    fn result_fits(&self, args: &Values) -> Result<Value, Fail> {
+    /// The signature of a method without arguments that gives the type at the first place.
+    fn giving(&self, args: &Values) -> Result<Signature, Fail> {
         let mut text = text_at(args, 0)?.clone()?;
         text.push_bytes(b"@:")?;
-        let signature = Signature::read(self.alloc, text.as_slice())?;
-        Ok(as_number(signature.result_fits(value_at(args, 1)?)))
+        Ok(Signature::read(self.alloc, text.as_slice())?)
+    }
+
+    /// Whether a value fits the type at the first place as a result.
+    fn result_fits(&self, args: &Values) -> Result<Value, Fail> {
+        let value = value_at(args, 1)?;
+        Ok(as_number(self.giving(args)?.result_fits(value)))
     }
 
     /// What a signature says of an argument: whether it goes in, comes out and is copied.
     fn passing(&self, args: &Values) -> Result<Value, Fail> {
-        let signature = self.signature(args)?;
         let k = usize::from(count_at(args, 1)?);
+        let signature = self.signature(args)?;
         if k >= signature.args() {
             return Err(Fail::from("no argument"));
         }
@@ -91,10 +96,27 @@ impl SignatureCalls {
         Ok(Value::Text(signature.print(self.alloc)?))
     }
 
+    /// How many arguments a signature has.
+    fn count(&self, args: &Values) -> Result<Value, Fail> {
+        count_value(self.signature(args)?.args())
+    }
+
+    /// Whether values fit a signature as its arguments.
+    fn args_fit(&self, args: &Values) -> Result<Value, Fail> {
+        let values = list_at(args, 1)?;
+        Ok(as_number(self.signature(args)?.args_fit(values)))
+    }
+
+    /// Whether those of its arguments that go in fit.
+    fn inputs_fit(&self, args: &Values) -> Result<Value, Fail> {
+        let values = list_at(args, 1)?;
+        Ok(as_number(self.signature(args)?.inputs_fit(values)))
+    }
+
     /// Makes a call of a signature.
     fn of_signature(&self, word: &[u8], args: &Values) -> Result<Value, Fail> {
         if is_text(word, b"args") {
-            return count_value(self.signature(args)?.args());
+            return self.count(args);
         }
         if is_text(word, b"passing") {
             return self.passing(args);
@@ -103,11 +125,10 @@ impl SignatureCalls {
             return self.result(args);
         }
         if is_text(word, b"args_fit") {
-            return Ok(as_number(self.signature(args)?.args_fit(list_at(args, 1)?)));
+            return self.args_fit(args);
         }
         if is_text(word, b"inputs_fit") {
-            let signature = self.signature(args)?;
-            return Ok(as_number(signature.inputs_fit(list_at(args, 1)?)));
+            return self.inputs_fit(args);
         }
         no_call()
     }

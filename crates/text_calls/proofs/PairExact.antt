@@ -3,7 +3,7 @@ use Rattle.std.proofs.Common.{◌≡◌, ℕ, List, ◌++◌, refl, ap, ◌∙�
 use Rattle.do_grammar.specs.Reader.{mapped}
 use Rattle.do_grammar.specs.Forms.{Then, Mapped}
 use Rattle.do_grammar.specs.Num.{num, num_at, Num}
-use Rattle.tests_texts.specs.Pair.{Pair, pair_at}
+use Rattle.text_calls.specs.Pair.{Pair, pair_at}
 use Rattle.do_grammar.proofs.reads.ExactReader.{Reads, Reads-then, Reads-as}
 use Rattle.do_grammar.proofs.reads.FormsExact.{Reads-mapped}
 use Rattle.do_grammar.proofs.texts.NumExact.{Reads-num}

@@ -1,12 +1,17 @@
-//! A grammar of our own, from its definition to its reader: two numbers from 1 to 9 in order.
+//! A grammar of our own, from its definition to its reader, and its calls: two numbers from 1 to 9
+//! in order.
 
 ghost use Rattle.std.specs.Prelude.{◌≡◌, ℕ, List, ◌++◌, length};
 ghost use Rattle.do_grammar.specs.Reader.{no_kind};
 ghost use Rattle.do_grammar.specs.RestAnswers.{Gives};
 ghost use Rattle.do_grammar.specs.PlaceAnswers.{Tells, Finds};
-ghost use Rattle.tests_texts.specs.Pair.{Pair, pair_at};
+ghost use Rattle.text_calls.specs.Pair.{Pair, pair_at};
 
-use do_grammar::{CodeFault, ReadFault, num_of};
+use call_rows::{Part, count_value, no_call, printed, text_at};
+use do_base::{Value, Values};
+use do_grammar::{CodeFault, ReadFault, is_text, num_of};
+use std::alloc::Global;
+use std::test::Fail;
 
 /// Two numbers that begin the bytes, the second not below the first, and the bytes behind them.
 #[tactic(auto, unfolding(crate::specs::Pair::pair_at))]
@@ -32,32 +37,36 @@ pub fn read_pair(bytes: &[u8]) -> Result<((u64, u64), usize), CodeFault>
     }
 }
 
-#[test]
-fn pairs(rt: HostRuntime) {
-    for (first, second, bytes) in [
-        (1, 1, &b"\x01\x01\x01\x01"[..]),
-        (3, 5, b"\x01\x03\x01\x05"),
-        (9, 9, b"\x01\x09\x01\x09"),
-        (3, 5, b"\x01\x03\x01\x05\x01\x04"),
-    ] {
-        assert!(rt; matches!(read_pair(bytes), Ok(((a, b), 4)) if a == first && b == second));
+/// The reader of pairs.
+#[derive(Drop)]
+pub(crate) struct PairCalls {
+    alloc: Global,
+}
+
+/// Two numbers and a length.
+fn pair_value(alloc: Global, pair: (u64, u64), length: usize) -> Result<Value, Fail> {
+    let mut values = Values::new(alloc);
+    values.push(Value::Num(i64::try_from(pair.0)?))?;
+    values.push(Value::Num(i64::try_from(pair.1)?))?;
+    values.push(count_value(length)?)?;
+    Ok(Value::List(values))
+}
+
+impl PairCalls {
+    /// Calls that take memory here.
+    pub(crate) fn new(alloc: Global) -> PairCalls {
+        PairCalls { alloc }
     }
-    for (place, bytes) in [
-        (0, &b"\x00\x01\x01"[..]),
-        (0, b"\x02\x01\x00"),
-        (1, b"\x01\x00\x01\x01"),
-        (1, b"\x01\x0a\x01\x0a"),
-        (2, b"\x01\x03\x00"),
-        (2, b"\x01\x03\x09"),
-        (3, b"\x01\x03\x01\x02"),
-        (3, b"\x01\x03\x01\x0a\x00"),
-    ] {
-        assert!(rt;
-            matches!(read_pair(bytes), Err(CodeFault::Bad(at)) if at == place),
-            "at {place}"
-        );
-    }
-    for bytes in [&b""[..], b"\x01", b"\x01\x03", b"\x01\x03\x01"] {
-        assert!(rt; matches!(read_pair(bytes), Err(CodeFault::Short)));
+}
+
+impl Part for PairCalls {
+    fn call(&mut self, word: &[u8], args: &Values) -> Result<Value, Fail> {
+        if !is_text(word, b"pair") {
+            return no_call();
+        }
+        match read_pair(text_at(args, 0)?.as_slice()) {
+            Ok((pair, length)) => pair_value(self.alloc, pair, length),
+            Err(fault) => printed(self.alloc, fault),
+        }
     }
 }

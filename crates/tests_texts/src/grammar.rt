@@ -1,3 +1,0 @@
-//! A test of the theory of exact readers.
-
-mod pair;
