@@ -1,0 +1,102 @@
+//! The site of the first node of a world.
+
+use crate::player::Player;
+use do_base::{NodeId, Peers, Shown, Text};
+use do_behave::Program;
+use do_class::ClassTable;
+use do_lines::push_check;
+use do_machine::{NodeLines, Seat, Seats, Shared, Snapshot};
+use do_network::{Done, Input};
+use do_site::Site;
+use do_world::{World, read_world};
+use std::alloc::{AllocError, Global};
+use std::fs;
+use std::test::Fail;
+
+/// What a site is opened with.
+#[derive(Drop)]
+struct Opening {
+    table: Shared<ClassTable>,
+    acts: Shared<Program>,
+    seat: Seat,
+    ports: Peers,
+}
+
+/// A site, and what it is opened anew with.
+#[derive(Drop)]
+pub(crate) struct Opened {
+    opening: Opening,
+    site: Site<Program>,
+}
+
+/// The ports of nodes.
+fn ports_of(nodes: &Seats) -> Result<Peers, AllocError> {
+    let mut ports = Peers::new(nodes.allocator());
+    for seat in nodes.as_slice() {
+        ports.push(seat.node)?;
+    }
+    Ok(ports)
+}
+
+/// What the site of the first node of a world is opened with, all of whose classes are scripts.
+fn opening_of(alloc: Global, world: World) -> Result<Opening, Fail> {
+    let World {
+        table,
+        program,
+        nodes,
+        ..
+    } = world;
+    let seat = *nodes.first().ok_or("no node")?;
+    let ports = ports_of(&nodes)?;
+    let table = Shared::new(alloc, table)?;
+    let acts = Shared::new(alloc, program)?;
+    Ok(Opening {
+        table,
+        acts,
+        seat,
+        ports,
+    })
+}
+
+/// The site, before its first input.
+fn site_of(opening: &Opening) -> Result<Site<Program>, AllocError> {
+    let Seat { node, root } = opening.seat;
+    let table = opening.table.clone()?;
+    let acts = opening.acts.clone()?;
+    Site::new(node, root, &opening.ports, table, acts)
+}
+
+impl Opened {
+    /// The site of the first node of the world in a file.
+    pub(crate) fn of(rt: &HostRuntime, name: &str) -> Result<Opened, Fail> {
+        let world = read_world(rt.alloc(), fs::read(rt, name)?.as_slice())?;
+        let opening = opening_of(rt.alloc(), world)?;
+        let site = site_of(&opening)?;
+        Ok(Opened { opening, site })
+    }
+}
+
+impl Player for Opened {
+    fn begin(&mut self) -> Result<(), AllocError> {
+        self.site = site_of(&self.opening)?;
+        Ok(())
+    }
+
+    fn hand(&mut self, input: &Input) -> Result<Done, AllocError> {
+        self.site.handle(input)
+    }
+
+    fn next_frame(&mut self, bytes: &mut Text) -> Result<Option<NodeId>, AllocError> {
+        self.site.next_frame(bytes)
+    }
+
+    fn next_shown(&mut self) -> Option<Shown> {
+        self.site.next_shown()
+    }
+
+    fn push_listed(&self, out: &mut Text) -> Result<(), AllocError> {
+        let mut nodes = NodeLines::new(out.allocator());
+        nodes.push(self.site.snapshot()?)?;
+        push_check(out, self.opening.table.get(), &Snapshot { nodes })
+    }
+}
