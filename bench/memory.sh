@@ -5,11 +5,12 @@
 # sh bench/memory.sh codec_speed    the program must be built (`rt run` in its folder builds it)
 set -e
 cd "$(dirname "$0")/.."
-program=crates/$1/out/$1
+program=$PWD/crates/$1/out/$1
 work=$(mktemp -d)
 trap 'rm -rf "$work"' EXIT
 rustc --edition 2021 -O -C panic=abort --crate-type cdylib -o "$work/fail_alloc.so" \
     bench/fail_alloc.rs
+if [ -d "crates/$1/data" ]; then cd "crates/$1/data"; fi
 run() {
     FAIL_ALLOC=$1 LD_PRELOAD=$work/fail_alloc.so timeout 60 "$program" memory \
         > "$work/out" 2> "$work/err"
@@ -23,7 +24,7 @@ while [ "$number" -le "$total" ]; do
     run "$number" || status=$?
     if [ "$status" = 0 ] && cmp -s "$work/out" "$work/want"; then
         same=$((same + 1))
-    elif [ "$status" = 1 ] && grep -qE 'OutOfMemory|no class' "$work/err"; then
+    elif [ "$status" = 1 ] && grep -qE 'OutOfMemory|AllocError|Memory$|no class' "$work/err"; then
         ended=$((ended + 1))
     else
         other=$((other + 1))
