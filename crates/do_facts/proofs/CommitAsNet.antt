@@ -14,10 +14,10 @@ use Rattle.do_machine.specs.declared.state.Parcel.{Parcel}
 use Rattle.do_machine.specs.declared.state.State.{State}
 use Rattle.do_machine.specs.Commit.{commit, items_to}
 use Rattle.do_machine.specs.State.{node, queue, queue_to}
-use Rattle.do_machine.proofs.Frame.{elsewhere}
-use Rattle.do_machine.proofs.Queues.{grows_behind}
-use Rattle.do_machine.proofs.follows.States.{changed}
-use Rattle.do_machine.proofs.passing.NoQueue.{stays_none}
+use Rattle.do_facts.proofs.machine.Frame.{elsewhere}
+use Rattle.do_facts.proofs.machine.Queues.{grows_behind}
+use Rattle.do_facts.proofs.machine.follows.States.{changed}
+use Rattle.do_facts.proofs.machine.passing.NoQueue.{stays_none}
 use Rattle.do_facts.specs.Net.{atoms_of, net_after, noted, with_part}
 use Rattle.do_facts.specs.View.{View, net_of, part_seen, posted, wire_seen}
 use Rattle.do_facts.proofs.Notes.{atoms_behind, atoms_noted, none_noted}

@@ -10,8 +10,8 @@ use Rattle.do_machine.specs.Commit.{commit, moved, then_leaves}
 use Rattle.do_machine.specs.Context.{around}
 use Rattle.do_machine.specs.State.{is_open, node, queue}
 use Rattle.do_machine.specs.held.Leaving.{leaving}
-use Rattle.do_machine.proofs.follows.States.{changed}
-use Rattle.do_machine.proofs.passing.Linked.{commit_leaves}
+use Rattle.do_facts.proofs.machine.follows.States.{changed}
+use Rattle.do_facts.proofs.machine.passing.Linked.{commit_leaves}
 use Rattle.do_facts.specs.ByEvents.{IsMoveOf}
 use Rattle.do_facts.specs.Net.{Note, atoms_of, net_after}
 use Rattle.do_facts.specs.Moves.{Mays, Reaches, Rules, Runs, afters, all_posts}

@@ -1,3 +1,4 @@
+pub mod machine
 pub mod Notes
 pub mod Nets
 pub mod Runs
@@ -5,11 +6,14 @@ pub mod Paths
 pub mod CommitAsNet
 pub mod RequeueAsNet
 pub mod OnceInLists
+pub mod EachOfLists
 pub mod steps
 pub mod links
 pub mod Chains
 pub mod RulesOfActs
 pub mod Deliveries
+pub mod walk
+pub mod methods
 pub mod AsksOverOpenEnds
 pub mod Bridge
 pub mod EffectReaches

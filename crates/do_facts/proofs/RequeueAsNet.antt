@@ -9,8 +9,8 @@ use mathlib.Core.Path.{fun_ext}
 use Rattle.do_machine.specs.declared.item.Item.{Item}
 use Rattle.do_machine.specs.declared.state.State.{State}
 use Rattle.do_machine.specs.State.{change, queue, with_queue}
-use Rattle.do_machine.proofs.follows.States.{requeued}
-use Rattle.do_machine.proofs.passing.Lookups.{elsewhere_stays, other_stays, that_changed}
+use Rattle.do_facts.proofs.machine.follows.States.{requeued}
+use Rattle.do_facts.proofs.machine.passing.Lookups.{elsewhere_stays, other_stays, that_changed}
 use Rattle.do_facts.specs.Net.{Net, atoms_of, net_after, noted, with_part}
 use Rattle.do_facts.specs.Moves.{with_wire}
 use Rattle.do_facts.specs.View.{View, net_of, part_seen, wire_seen}

@@ -24,7 +24,7 @@ use Rattle.do_machine.specs.Step.{moved_by, step}
 use Rattle.do_machine.specs.ends.Closing.{closing}
 use Rattle.do_machine.specs.ends.Losing.{lost}
 use Rattle.do_machine.specs.ends.TimeOut.{time_out}
-use Rattle.do_machine.specs.laws.Entries.{HasQueues}
+use Rattle.do_facts.specs.laws.Entries.{HasQueues}
 use Rattle.do_machine.specs.run.Run.{Acting, run_effect}
 use Rattle.do_facts.specs.ByEvents.{IsBy, IsLossOn, IsMoveOf}
 use Rattle.do_facts.specs.Moves.{Happening, Reaches, Rules, with_wire}

@@ -14,12 +14,12 @@ use Rattle.do_machine.specs.declared.state.Stepped.{Stepped}
 use Rattle.do_machine.specs.Commit.{commit, moved, skipped}
 use Rattle.do_machine.specs.Context.{context}
 use Rattle.do_machine.specs.State.{change, is_open, node, queue, with_queue}
-use Rattle.do_machine.specs.laws.Entries.{HasQueues}
+use Rattle.do_facts.specs.laws.Entries.{HasQueues}
 use Rattle.do_machine.specs.take.Take.{can_serve, can_take, take_effect}
 use Rattle.do_machine.proofs.Bools.{fails}
-use Rattle.do_machine.proofs.follows.States.{changed, requeued}
-use Rattle.do_machine.proofs.follows.Steps.{first_of}
-use Rattle.do_machine.proofs.passing.Lookups.{none_goes}
+use Rattle.do_facts.proofs.Chains.{first_of}
+use Rattle.do_facts.proofs.machine.follows.States.{changed, requeued}
+use Rattle.do_facts.proofs.machine.passing.Lookups.{none_goes}
 use Rattle.do_facts.specs.Net.{Net, StandFirst, atoms_of, net_after, noted}
 use Rattle.do_facts.specs.ByEvents.{IsMoveOf}
 use Rattle.do_facts.specs.Moves.{Happening, Reaches, Rules, Runs}

@@ -8,3 +8,4 @@ pub mod StandOnce
 pub mod steps
 pub mod links
 pub mod calls
+pub mod laws

@@ -3,16 +3,4 @@ pub mod Equality
 pub mod Inserting
 pub mod Bools
 pub mod Having
-pub mod ClassesStay
-pub mod Frame
-pub mod Queues
-pub mod Opening
-pub mod follows
-pub mod Ports
 pub mod Keeping
-pub mod Entries
-pub mod passing
-pub mod Answering
-pub mod Parting
-pub mod Version1
-pub mod first

@@ -19,4 +19,3 @@ pub mod Step
 pub mod check
 pub mod Events
 pub mod World
-pub mod laws

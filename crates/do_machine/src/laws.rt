@@ -1,21 +1,22 @@
-mod calls;
-mod entries;
-mod first_version;
-mod nodes;
-mod objects;
-mod states;
-mod version_1;
+ghost use Rattle.std.specs.Prelude.{[], ◌≡◌, ℕ, Bool, List, false};
+ghost use Rattle.do_base.specs.declared.events.event.Event.{Event};
+ghost use Rattle.do_class.specs.Class.{Class};
+ghost use Rattle.do_machine.specs.declared.node.Node.{Node};
+ghost use Rattle.do_machine.specs.declared.state.State.{State};
+ghost use Rattle.do_machine.specs.Step.{step};
+ghost use Rattle.do_machine.specs.held.Kept.{AreKept, kept};
+ghost use Rattle.do_machine.specs.run.Run.{Acting};
 
-pub use calls::{
-    answers_find_their_callers, closing_ends_all, given_up_calls_are_late, lends_last_while_asked,
-};
-pub use entries::{
-    entries_change_by_own_steps, entries_of_others_stay, no_entry_over_a_closed_end,
-};
-pub use first_version::first_schedules_as_in_version_1;
-pub use nodes::{held_over_open_ends, late_stays_empty, numbers_never_fall};
-pub use objects::{held_is_referred_to, kept_is_greatest};
-pub use states::{
-    classes_stay, nodes_rise_by_port, others_stay, queues_grow_behind, skipped_is_nothing,
-};
-pub use version_1::as_in_version_1;
+/// What a node keeps is the greatest part of its heap that holds itself up.
+pub fn kept_is_greatest()
+    ensures { (entry : ℕ → ℕ → Bool) (n : Node) → AreKept entry n (kept entry n) }
+{}
+
+/// An event that is not enabled changes nothing, and shows nothing.
+pub fn skipped_is_nothing()
+    ensures state { (table : List Class) (act : Acting) (S : State) (event : Event) →
+        (step table act S event).outcome.enabled ≡ false → (step table act S event).state ≡ S }
+    ensures shown { (table : List Class) (act : Acting) (S : State) (event : Event) →
+        (step table act S event).outcome.enabled ≡ false →
+        (step table act S event).outcome.shown ≡ [] }
+{}

@@ -13,7 +13,7 @@ use Rattle.do_machine.specs.State.{node}
 use Rattle.do_machine.specs.Step.{step}
 use Rattle.do_machine.specs.World.{opening}
 use Rattle.do_machine.specs.run.Run.{Acting}
-use Rattle.do_machine.proofs.passing.Linked.{opening_queues, queues_stay}
+use Rattle.do_facts.proofs.machine.passing.Linked.{opening_queues, queues_stay}
 use Rattle.do_facts.specs.Net.{Net}
 use Rattle.do_facts.specs.ByEvents.{IsBy}
 use Rattle.do_facts.specs.Moves.{Happening, Happens, Keeps, Lost, Moved, Reaches, net_then}

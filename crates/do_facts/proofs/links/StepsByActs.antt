@@ -22,8 +22,8 @@ use Rattle.do_machine.specs.held.Kept.{kept}
 use Rattle.do_machine.specs.held.Leaving.{freeing, leaving}
 use Rattle.do_machine.specs.run.Run.{Acting, run_effect}
 use Rattle.do_machine.specs.take.Take.{take_effect}
-use Rattle.do_machine.proofs.follows.Every.{grow_steps}
-use Rattle.do_machine.proofs.follows.States.{changed, requeued}
+use Rattle.do_facts.proofs.machine.follows.Every.{grow_steps}
+use Rattle.do_facts.proofs.machine.follows.States.{changed, requeued}
 use Rattle.do_facts.specs.ByEvents.{IsLossOn, IsMoveOf}
 use Rattle.do_facts.specs.Net.{Net, Note, net_after, noted}
 use Rattle.do_facts.specs.Moves.{Happening, Keeps, Lost, Moved, Path, Runs, net_then as after}

@@ -24,10 +24,9 @@ use Rattle.do_machine.specs.ends.Closing.{closing}
 use Rattle.do_machine.specs.ends.TimeOut.{time_out}
 use Rattle.do_machine.specs.run.Run.{Acting, run_effect}
 use Rattle.do_machine.specs.take.Take.{can_serve, can_take, take_effect}
-use Rattle.do_machine.proofs.follows.Steps.{first_of}
 use Rattle.do_facts.specs.steps.IsStep.{Acts, Checks, IsActOf, IsRuleOf, IsStep, Loses, Skips}
 use Rattle.do_facts.specs.steps.IsStep.{Takes}
-use Rattle.do_facts.proofs.Chains.{not_closed}
+use Rattle.do_facts.proofs.Chains.{first_of, not_closed}
 
 module _ (table : List Class) (act : Acting) (S : State) where
   -- what comes of an event, if it is enabled, is a step

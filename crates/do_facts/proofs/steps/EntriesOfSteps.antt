@@ -22,8 +22,8 @@ use Rattle.do_machine.specs.Entry.{has_entry, is_holder}
 use Rattle.do_machine.specs.Items.{exported, released}
 use Rattle.do_machine.specs.Lists.{some_passes}
 use Rattle.do_machine.specs.State.{change, is_open, node, queue, with_queue}
-use Rattle.do_machine.specs.laws.Entries.{IsNoStepOf}
-use Rattle.do_machine.proofs.passing.Lookups.{that_changed}
+use Rattle.do_facts.specs.laws.Entries.{IsNoStepOf}
+use Rattle.do_facts.proofs.machine.passing.Lookups.{that_changed}
 use Rattle.do_facts.specs.steps.IsStep.{Acts, Checks, IsActOf, IsStep, Loses, Skips, Takes}
 use Rattle.do_facts.specs.steps.Queues.{touches}
 use Rattle.do_facts.proofs.steps.OthersStay.{node_stays}

@@ -21,11 +21,11 @@ use Rattle.do_machine.specs.State.{node}
 use Rattle.do_machine.specs.Step.{moved_by, step}
 use Rattle.do_machine.specs.ends.TimeOut.{give_up, time_out, time_out_on, with_late}
 use Rattle.do_machine.specs.held.Leaving.{leaving}
-use Rattle.do_machine.specs.laws.Calls.{IsGivenUp}
+use Rattle.do_facts.specs.laws.Calls.{IsGivenUp}
 use Rattle.do_machine.specs.run.Changes.{answered}
 use Rattle.do_machine.specs.run.Fresh.{with_stack}
 use Rattle.do_machine.specs.run.Run.{Acting}
-use Rattle.do_machine.proofs.Answering.{given_up}
+use Rattle.do_facts.proofs.machine.Answering.{given_up}
 use Rattle.do_facts.specs.steps.GivenUp.{CanGiveUp, HasGivenUp, WaitsOnTop}
 use Rattle.do_facts.proofs.steps.OthersStay.{move_leaves_own}
 use Rattle.do_facts.proofs.steps.RuleMoves.{rule_moves}

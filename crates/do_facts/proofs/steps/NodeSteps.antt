@@ -19,7 +19,7 @@ use Rattle.do_machine.specs.State.{node, queue}
 use Rattle.do_machine.specs.Step.{step}
 use Rattle.do_machine.specs.held.Leaving.{leaving}
 use Rattle.do_machine.specs.run.Run.{Acting}
-use Rattle.do_machine.proofs.follows.States.{requeued}
+use Rattle.do_facts.proofs.machine.follows.States.{requeued}
 use Rattle.do_facts.specs.steps.IsStep.{Acts, Checks, IsActOf, IsRuleOf, IsStep, IsTakeOf, Loses}
 use Rattle.do_facts.specs.steps.IsStep.{Skips, Takes, without_oldest}
 use Rattle.do_facts.proofs.steps.EachIsStep.{step_is}

@@ -9,9 +9,9 @@ use Rattle.do_machine.specs.declared.state.State.{State}
 use Rattle.do_machine.specs.State.{node}
 use Rattle.do_machine.specs.Step.{step}
 use Rattle.do_machine.specs.World.{by_port, opening}
-use Rattle.do_machine.specs.laws.Follows.{Grows}
+use Rattle.do_facts.specs.laws.Follows.{Grows}
 use Rattle.do_machine.specs.run.Run.{Acting}
-use Rattle.do_machine.proofs.follows.Every.{grow_steps}
+use Rattle.do_facts.proofs.machine.follows.Every.{grow_steps}
 use Rattle.do_facts.proofs.OpeningAsNet.{opened}
 
 -- each node stands at its own port

@@ -22,10 +22,10 @@ use Rattle.do_machine.specs.Context.{around}
 use Rattle.do_machine.specs.Lists.{change_first}
 use Rattle.do_machine.specs.State.{change, class_given, class_of, node, with_queue}
 use Rattle.do_machine.specs.held.Leaving.{leaving}
-use Rattle.do_machine.specs.laws.Entries.{IsNoStepOf}
-use Rattle.do_machine.proofs.ClassesStay.{stays}
-use Rattle.do_machine.proofs.Frame.{elsewhere}
-use Rattle.do_machine.proofs.follows.States.{changed, requeued}
+use Rattle.do_facts.specs.laws.Entries.{IsNoStepOf}
+use Rattle.do_facts.proofs.machine.ClassesStay.{stays}
+use Rattle.do_facts.proofs.machine.Frame.{elsewhere}
+use Rattle.do_facts.proofs.machine.follows.States.{changed, requeued}
 use Rattle.do_facts.specs.steps.IsStep.{Acts, Checks, IsActOf, IsStep, Loses, Skips, Takes}
 
 -- numbers that are equal to one number and not to the other

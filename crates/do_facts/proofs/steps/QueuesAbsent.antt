@@ -16,7 +16,7 @@ use Rattle.do_machine.specs.Context.{around}
 use Rattle.do_machine.specs.State.{change, queue, with_queue}
 use Rattle.do_machine.specs.held.Leaving.{leaving}
 use Rattle.do_machine.specs.run.Run.{Acting}
-use Rattle.do_machine.proofs.passing.NoQueue.{stays_none}
+use Rattle.do_facts.proofs.machine.passing.NoQueue.{stays_none}
 use Rattle.do_facts.specs.steps.IsStep.{Acts, Checks, IsStep, Loses, Skips, Takes}
 use Rattle.do_facts.specs.steps.IsStep.{without_oldest}
 use Rattle.do_facts.proofs.steps.QueuesOfSteps.{move_leaves_queues, requeue_leaves}

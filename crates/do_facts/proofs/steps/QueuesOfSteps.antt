@@ -18,10 +18,10 @@ use Rattle.do_machine.specs.Commit.{commit, items_to, moved, skipped}
 use Rattle.do_machine.specs.Context.{around}
 use Rattle.do_machine.specs.State.{change, queue, queue_to, with_queue}
 use Rattle.do_machine.specs.held.Leaving.{leaving}
-use Rattle.do_machine.specs.laws.Entries.{IsNoStepOf}
-use Rattle.do_machine.proofs.Frame.{elsewhere}
-use Rattle.do_machine.proofs.Queues.{grows_behind}
-use Rattle.do_machine.proofs.passing.Lookups.{elsewhere_stays, other_stays, that_changed}
+use Rattle.do_facts.specs.laws.Entries.{IsNoStepOf}
+use Rattle.do_facts.proofs.machine.Frame.{elsewhere}
+use Rattle.do_facts.proofs.machine.Queues.{grows_behind}
+use Rattle.do_facts.proofs.machine.passing.Lookups.{elsewhere_stays, other_stays, that_changed}
 use Rattle.do_facts.specs.steps.IsStep.{Acts, Checks, IsStep, Loses, Skips, Takes}
 use Rattle.do_facts.specs.steps.Queues.{IsLost, IsTaken, StandBehind, touches}
 use Rattle.do_facts.proofs.steps.OthersStay.{apart_act}

@@ -3,7 +3,7 @@ use Rattle.std.specs.Prelude.{Bool, false, if◌then◌else◌, true, ℕ, ◌+�
 use Rattle.do_behave.specs.declared.invocation.Reason.TheVariants as reasons
 use Rattle.do_machine.specs.declared.node.LateCall.{LateCall}
 use Rattle.do_machine.specs.declared.state.State.{State}
-use Rattle.do_machine.specs.laws.Entries.{HasQueues}
+use Rattle.do_facts.specs.laws.Entries.{HasQueues}
 use Rattle.do_machine.specs.take.Awaiting.{AnsweredCall, is_answered}
 use Rattle.do_facts.specs.Net.{Net, total}
 use Rattle.do_facts.specs.View.{net_of}

@@ -1,7 +1,7 @@
 -- What holds of foreign objects in every state that a machine comes to.
 use Rattle.std.specs.Prelude.{ℕ}
 use Rattle.do_machine.specs.declared.state.State.{State}
-use Rattle.do_machine.specs.laws.Entries.{HasQueues}
+use Rattle.do_facts.specs.laws.Entries.{HasQueues}
 use Rattle.do_facts.specs.View.{net_of}
 use Rattle.do_facts.specs.links.Facts.{EachSilent, LinksHold}
 use Rattle.do_facts.specs.links.Links.{links}

@@ -10,7 +10,7 @@ use Rattle.do_behave.specs.declared.invocation.Waited.{Waited}
 use Rattle.do_machine.specs.declared.node.Node.{Node}
 use Rattle.do_machine.specs.declared.state.State.{State}
 use Rattle.do_machine.specs.State.{node}
-use Rattle.do_machine.specs.laws.Calls.{answered_call}
+use Rattle.do_facts.specs.laws.Calls.{answered_call}
 use Rattle.do_machine.specs.run.Changes.{answered}
 use Rattle.do_machine.specs.take.Awaiting.{is_answered}
 

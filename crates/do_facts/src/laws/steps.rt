@@ -16,7 +16,7 @@ ghost use Rattle.do_machine.specs.Entry.{has_entry};
 ghost use Rattle.do_machine.specs.State.{class_of, node, queue};
 ghost use Rattle.do_machine.specs.Step.{step};
 ghost use Rattle.do_machine.specs.World.{opening};
-ghost use Rattle.do_machine.specs.laws.Entries.{IsNoStepOf};
+ghost use Rattle.do_facts.specs.laws.Entries.{IsNoStepOf};
 ghost use Rattle.do_machine.specs.run.Run.{Acting};
 ghost use Rattle.do_facts.specs.Reached.{reached};
 ghost use Rattle.do_facts.specs.steps.GivenUp.{CanGiveUp, HasGivenUp, WaitsOnTop};

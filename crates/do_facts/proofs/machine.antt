@@ -1,0 +1,12 @@
+pub mod ClassesStay
+pub mod Frame
+pub mod Queues
+pub mod Opening
+pub mod follows
+pub mod Ports
+pub mod Entries
+pub mod passing
+pub mod Answering
+pub mod Parting
+pub mod Version1
+pub mod first

@@ -1,0 +1,71 @@
+-- The nodes of a state stand by rising port.
+use Rattle.std.proofs.Common.{◌≡◌, ℕ, Bool, true, false, cond, List, [], ◌∷◌, map, refl, ap, ◌∙◌}
+use Rattle.std.proofs.Common.{subst, sym}
+use Rattle.std.specs.Prelude.{◌==◌}
+use Rattle.std.specs.List.Sorted.{IsStrictlyIncreasing}
+use Rattle.do_base.specs.declared.events.event.Event.{Event}
+use Rattle.do_class.specs.Class.{Class}
+use Rattle.do_machine.specs.declared.node.Node.{Node}
+use Rattle.do_machine.specs.declared.state.Seat.{Seat}
+use Rattle.do_machine.specs.declared.state.State.{State}
+use Rattle.do_machine.specs.declared.state.Station.{Station}
+use Rattle.do_machine.specs.Commit.{committed}
+use Rattle.do_machine.specs.Lists.{change_first}
+use Rattle.do_machine.specs.State.{ports, with_queue}
+use Rattle.do_machine.specs.Step.{step}
+use Rattle.do_machine.specs.World.{IsWorld, by_port, opening, opening_station}
+use Rattle.do_machine.specs.run.Run.{Acting}
+use Rattle.do_machine.proofs.Inserting.{by_port_rises}
+use Rattle.do_facts.proofs.machine.follows.Moves.{Moves}
+use Rattle.do_facts.proofs.machine.follows.Steps.{by_any_step}
+
+-- a station that changes but for its port leaves the ports as they are
+kept_ports : (port : ℕ) (f : Station → Station) → ((s : Station) → (f s).port ≡ s.port) →
+    (ss : List Station) →
+    map (λ s. s.port) (change_first (λ s. port == s.port) f ss) ≡ map (λ s. s.port) ss
+kept_ports port f h [] = refl
+kept_ports port f h (s ∷ ss) = go (port == s.port) (kept_ports port f h ss)
+  where
+    go : (b : Bool) →
+        map (λ x. x.port) (change_first (λ x. port == x.port) f ss) ≡ map (λ x. x.port) ss →
+        map (λ x. x.port) (cond b (f s ∷ ss) (s ∷ change_first (λ x. port == x.port) f ss))
+        ≡ s.port ∷ map (λ x. x.port) ss
+    go true e = ap (λ p. p ∷ map (λ x. x.port) ss) (h s)
+    go false e = ap (λ ps. s.port ∷ ps) e
+
+-- the ports are the same
+abbrev SamePorts : State → State → Type 0
+SamePorts S T = ports T ≡ ports S
+
+-- nothing is asked of a node
+abbrev Any : Node → Node → Type 0
+Any n m = Unit {0}
+
+-- each move keeps the ports
+port_moves : Moves Any SamePorts
+port_moves = record {
+  same = λ S. refl;
+  after = λ S T U a b. b ∙ a;
+  commits = λ port e S n h g. kept_ports port (committed e) (λ s. refl) S.stations;
+  requeues = λ from to items S. kept_ports from (with_queue to items) (λ s. refl) S.stations;
+}
+
+-- each event keeps the ports
+pub step_ports : (table : List Class) (act : Acting) (S : State) (event : Event) →
+    ports (step table act S event).state ≡ ports S
+step_ports table act S event =
+    by_any_step Any SamePorts port_moves (λ n m f. tt) table act S (λ n m g. tt) event
+
+-- stations open at the ports of their seats
+opened_ports : (table : List Class) (all : List ℕ) (seats : List Seat) →
+    map (λ s. s.port) (map (opening_station table all) seats) ≡ map (λ s. s.node) seats
+opened_ports table all [] = refl
+opened_ports table all (s ∷ seats) = ap (λ ps. s.node ∷ ps) (opened_ports table all seats)
+
+-- a machine opens with its nodes by rising port
+pub opening_rises : (table : List Class) (seats : List Seat) → IsWorld table seats →
+    IsStrictlyIncreasing (ports (opening table seats))
+opening_rises table seats world =
+    let sorted = by_port seats in
+    subst IsStrictlyIncreasing (sym (opened_ports table (map (λ s. s.node) sorted) sorted))
+    (by_port_rises table seats world)

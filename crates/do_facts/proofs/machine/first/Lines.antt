@@ -1,0 +1,80 @@
+-- Over the lines of version 1 the machine does what the rules of version 1 give.
+use Rattle.std.proofs.Common.{◌≡◌, ℕ, zero, suc, List, [], ◌∷◌, refl, ap, ◌∙◌}
+use Rattle.std.specs.Prelude.{replicate}
+use Rattle.std.specs.List.{AllByRecursion}
+use Rattle.do_base.specs.declared.events.event.Event.{Event}
+use Rattle.do_base.specs.declared.events.event.Event.TheVariants as events
+use Rattle.do_class.specs.Class.{Class}
+use Rattle.do_sched.specs.Good.{IsLineOf}
+use Rattle.do_sched.specs.declared.line.Line.{Line}
+use Rattle.do_sched.specs.declared.line.Line.TheVariants as lines
+use Rattle.do_sched.specs.declared.version.Version.TheVariants.{First}
+use Rattle.do_machine.specs.declared.state.Seat.{Seat}
+use Rattle.do_machine.specs.declared.state.State.{State}
+use Rattle.do_machine.specs.declared.state.Stepped.{Stepped}
+use Rattle.do_machine.specs.Commit.{skipped}
+use Rattle.do_machine.specs.Step.{step}
+use Rattle.do_machine.specs.World.{opening}
+use Rattle.do_machine.specs.check.Blocks.{block, blocks, events_of, followed, line_step, steps}
+use Rattle.do_facts.specs.laws.Follows.{IsNoTimeOut}
+use Rattle.do_facts.specs.laws.first.Blocks.{blocks_1, steps_1}
+use Rattle.do_facts.specs.laws.first.Step.{AllOnTime}
+use Rattle.do_machine.specs.run.Run.{Acting}
+use Rattle.do_facts.proofs.machine.Opening.{opening_on_time}
+use Rattle.do_facts.proofs.machine.first.Steps.{same_step, stays_on_time}
+
+-- no event is a time-out
+abbrev AreNoTimeOuts : List Event → Type 0
+AreNoTimeOuts = AllByRecursion IsNoTimeOut
+
+-- runs are no time-outs
+runs_are_none : (port count : ℕ) → AreNoTimeOuts (replicate count (events.Run port))
+runs_are_none port zero = tt
+runs_are_none port (suc k) = (tt, runs_are_none port k)
+
+-- nor are the events of a line of version 1
+events_are_none : (l : Line) → IsLineOf First l → AreNoTimeOuts (events_of l)
+events_are_none (lines.Start port selector values) h = (tt, tt)
+events_are_none (lines.Run port count) h = runs_are_none port count
+events_are_none (lines.Take port from) h = (tt, tt)
+events_are_none (lines.Close port peer) h = (tt, tt)
+events_are_none (lines.Lose from to after) h = (tt, tt)
+events_are_none (lines.Timeout port) h = absurd (cc (h.0))
+events_are_none lines.Check h = (tt, tt)
+
+module _ (table : List Class) (act : Acting) where
+  -- events that are no time-outs
+  same_steps : (es : List Event) → AreNoTimeOuts es → (s : Stepped) → AllOnTime s.state →
+      steps table act es s ≡ steps_1 table act es s
+  same_steps [] q s h = refl
+  same_steps (e ∷ es) q s h =
+      same_steps es q.1 (followed s (step table act s.state e))
+      (stays_on_time table act s.state e q.0 h)
+      ∙ ap (λ t. steps_1 table act es (followed s t)) (same_step table act s.state e q.0 h)
+
+  -- after them no call is given up
+  stay_on_time : (es : List Event) → AreNoTimeOuts es → (s : Stepped) → AllOnTime s.state →
+      AllOnTime (steps table act es s).state
+  stay_on_time [] q s h = h
+  stay_on_time (e ∷ es) q s h =
+      stay_on_time es q.1 (followed s (step table act s.state e))
+      (stays_on_time table act s.state e q.0 h)
+
+  -- lines of version 1
+  same_blocks_from : (ls : List Line) → AllByRecursion (IsLineOf First) ls → (S : State) →
+      AllOnTime S → blocks table act S ls ≡ blocks_1 table act S ls
+  same_blocks_from [] good S h = refl
+  same_blocks_from (l ∷ ls) good S h =
+      let q = events_are_none l good.0 in
+      let s : Stepped = line_step table act S l in
+      ap (λ bs. block l s ∷ bs)
+      (same_blocks_from ls good.1 s.state (stay_on_time (events_of l) q (skipped S) h))
+      ∙ ap (λ t. block l t ∷ blocks_1 table act t.state ls)
+      (same_steps (events_of l) q (skipped S) h)
+
+-- a schedule of version 1, from the opening on
+pub same_blocks : (table : List Class) (act : Acting) (seats : List Seat) (ls : List Line) →
+    AllByRecursion (IsLineOf First) ls →
+    blocks table act (opening table seats) ls ≡ blocks_1 table act (opening table seats) ls
+same_blocks table act seats ls good =
+    same_blocks_from table act ls good (opening table seats) (opening_on_time table seats)

@@ -1,0 +1,6 @@
+pub mod Follows
+pub mod Steady
+pub mod Moves
+pub mod States
+pub mod Steps
+pub mod Every

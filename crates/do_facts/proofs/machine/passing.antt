@@ -1,0 +1,10 @@
+pub mod Quiet
+pub mod Passes
+pub mod Leaves
+pub mod Closes
+pub mod Takes
+pub mod Lookups
+pub mod Linked
+pub mod NoQueue
+pub mod Commits
+pub mod EntriesStay

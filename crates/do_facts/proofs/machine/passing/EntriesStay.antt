@@ -1,0 +1,237 @@
+-- A node's entries change by its own steps alone.
+use Rattle.std.proofs.Common.{◌≡◌, ◌==◌, ◌&&◌, ◌||◌, ℕ, Bool, true, false, List, ◌∷◌}
+use Rattle.std.proofs.Common.{ap, arith, refl, sym, subst, ◌∙◌}
+use Rattle.std.specs.Prelude.{None, Option, Some}
+use Rattle.std.specs.List.{list_any}
+use Rattle.std.proofs.lemmas.Bool.{eqb-true}
+use Rattle.std.proofs.lemmas.Grind.{common_steps}
+use Rattle.do_base.specs.names.Names.{ObjectName}
+use Rattle.do_base.specs.declared.events.event.Event.{Event}
+use Rattle.do_base.specs.declared.events.event.Event.TheVariants.{Check, Close, Lose, Run, Start}
+use Rattle.do_base.specs.declared.events.event.Event.TheVariants.{Take, Timeout}
+use Rattle.do_class.specs.Class.{Class}
+use Rattle.do_packet.specs.Met.{has_object}
+use Rattle.do_machine.specs.declared.item.Item.{Item}
+use Rattle.do_machine.specs.declared.node.Node.{Node}
+use Rattle.do_machine.specs.declared.state.Effect.{Effect}
+use Rattle.do_machine.specs.declared.state.State.{State}
+use Rattle.do_machine.specs.declared.state.Stepped.{Stepped}
+use Rattle.do_machine.specs.Commit.{commit, moved}
+use Rattle.do_machine.specs.Context.{around, context}
+use Rattle.do_machine.specs.Entry.{has_entry, is_holder, is_on_its_way_back, is_reached}
+use Rattle.do_machine.specs.Entry.{is_under_way}
+use Rattle.do_machine.specs.Items.{exported, released}
+use Rattle.do_machine.specs.Lists.{some_passes}
+use Rattle.do_machine.specs.State.{is_open, node, queue}
+use Rattle.do_machine.specs.Step.{step}
+use Rattle.do_machine.specs.held.Leaving.{leaving}
+use Rattle.do_machine.specs.run.Run.{Acting}
+use Rattle.do_machine.specs.take.Take.{take_effect}
+use Rattle.do_machine.proofs.Bools.{fails}
+use Rattle.do_facts.specs.laws.Entries.{HasQueues, IsNoStepOf}
+use Rattle.do_facts.specs.laws.Follows.{AllHoldOpen, Grows, HoldsOpen}
+use Rattle.do_facts.specs.steps.IsStep.{Acts, Checks, IsActOf, IsRuleOf, IsStep, Loses, Skips}
+use Rattle.do_facts.specs.steps.IsStep.{Takes, without_oldest}
+use Rattle.do_facts.proofs.machine.follows.States.{changed, requeued}
+use Rattle.do_facts.proofs.machine.follows.Steady.{by_take}
+use Rattle.do_facts.proofs.machine.follows.Steps.{rule_grows}
+use Rattle.do_facts.proofs.machine.passing.Closes.{passes_closing}
+use Rattle.do_facts.proofs.machine.passing.Commits.{Entered, entry_after}
+use Rattle.do_facts.proofs.machine.passing.Leaves.{passes_leaving}
+use Rattle.do_facts.proofs.machine.passing.Linked.{commit_leaves}
+use Rattle.do_facts.proofs.machine.passing.Lookups.{elsewhere_stays, other_stays, that_changed}
+use Rattle.do_facts.proofs.machine.passing.Passes.{Passes, passes_quiet}
+use Rattle.do_facts.proofs.machine.passing.Quiet.{rule_quiet}
+use Rattle.do_facts.proofs.machine.passing.Takes.{comes, passes_take}
+use Rattle.do_facts.proofs.steps.EachIsStep.{step_is}
+use Rattle.do_facts.proofs.steps.EntriesOfSteps.{entry_stays}
+use Rattle.do_facts.proofs.steps.OthersStay.{apart_act}
+
+-- a node that is open and closed is none
+both : (n : Node) (peer : ℕ) → is_open n peer ≡ true → is_open n peer ≡ false → ⊥
+both n peer a b = cc
+
+-- nothing came
+none_came : {P : Type 0} → false ≡ true → P
+none_came h = absurd (cc (h))
+
+-- an event by which another node acts is no step of a node
+no_act : (event : Event) (port other : ℕ) → IsActOf port event → (other == port) ≡ false →
+    IsNoStepOf other event
+no_act (Start actor selector values) port other own h = ap (λ p. other == p) own ∙ h
+no_act (Run actor) port other own h = ap (λ p. other == p) own ∙ h
+no_act (Take actor from) port other own h = absurd own
+no_act (Close actor peer) port other own h = ap (λ p. other == p) own ∙ h
+no_act (Lose from to after) port other own h = absurd own
+no_act (Timeout actor) port other own h = ap (λ p. other == p) own ∙ h
+no_act Check port other own h = absurd own
+
+module _ (o : ObjectName) (port : ℕ) (apart : (o.node == port) ≡ false) where
+  -- what stood where nothing came
+  pub entered_none : (S : State) (n : Node) → node S port ≡ Some n →
+      Entered port o apart S n false ≡ has_entry S port o
+  entered_none S n h =
+      ap (λ found. is_reached S port o
+      && ((some_passes (is_holder o) found || is_under_way S port o)
+      || is_on_its_way_back S port o)) (sym h)
+
+  module _ (S : State) (e : Effect) (n : Node) (came : Bool) (here : node S port ≡ Some n)
+      (linked : queue S port o.node ≡ None → is_open n o.node ≡ false)
+      (arrives : came ≡ true → is_open n o.node ≡ true)
+      (grows : Grows n e.node) (held : HoldsOpen n) (passes : Passes port o n came e) where
+    -- the state after the effect
+    abbrev after : State
+    after = commit port e S
+
+    -- the node is there as the effect left it
+    left_here : node after port ≡ Some e.node
+    left_here = changed port e n S.stations here
+
+    -- its end is closed where it has no queue
+    left_linked : queue after port o.node ≡ None → is_open e.node o.node ≡ false
+    left_linked q =
+        let closed = linked (commit_leaves port e S port o.node q) in
+        fails (is_open e.node o.node) (λ h. both n o.node (grows.ends o.node h) closed)
+
+    -- the entry of the node that moves
+    own_moved : has_entry (moved port S e).state port o ≡ Entered port o apart S n came
+    own_moved =
+        let entry = (around after e.node).entry in
+        entry_after port o apart (leaving entry e.node) after e.node false left_here left_linked
+        none_came (passes_leaving port o entry e.node (grows.holding held))
+        ∙ entered_none after e.node left_here
+        ∙ entry_after port o apart e S n came here linked arrives passes
+
+  module _ (S : State) (held : AllHoldOpen S) (queues : HasQueues S) (n : Node)
+      (here : node S port ≡ Some n) where
+    -- the effect of an event's rule passes on what the node holds
+    rule_passes : (table : List Class) (act : Acting) (event : Event) (e : Effect) →
+        IsRuleOf table act S event n e → Passes port o n false e
+    rule_passes table act (Start p selector values) e rule =
+        passes_quiet port o n e (rule_quiet table act S (Start p selector values) n e rule refl)
+    rule_passes table act (Run p) e rule =
+        passes_quiet port o n e (rule_quiet table act S (Run p) n e rule refl)
+    rule_passes table act (Take p from) e rule = absurd rule
+    rule_passes table act (Close p peer) e rule =
+        subst (Passes port o n false) (sym rule.1) (passes_closing port o peer n rule.0)
+    rule_passes table act (Lose from to after) e rule = absurd rule
+    rule_passes table act (Timeout p) e rule =
+        passes_quiet port o n e (rule_quiet table act S (Timeout p) n e rule refl)
+    rule_passes table act Check e rule = absurd rule
+
+    -- the entry of the node that acts stays
+    own_acts : (table : List Class) (act : Acting) (event : Event) (e : Effect) →
+        IsRuleOf table act S event n e →
+        has_entry (moved port S e).state port o ≡ has_entry S port o
+    own_acts table act event e rule =
+        own_moved S e n false here (queues.closed port o.node n here) none_came
+        (rule_grows table act S event n e rule) (held.each port n here)
+        (rule_passes table act event e rule)
+        ∙ entered_none S n here
+
+    module _ (table : List Class) (from : ℕ) (item : Item) (rest : List Item)
+        (ends : is_open n from ≡ true) (waits : queue S from port ≡ Some (item ∷ rest)) where
+      -- the state without the item
+      abbrev T : State
+      T = without_oldest S from port rest
+
+      -- the effect of the item
+      abbrev effect : Effect
+      effect = take_effect (context table T n) from item
+
+      -- the queues to other nodes are there
+      same_queue : (a b : ℕ) → (b == port) ≡ false → queue T a b ≡ queue S a b
+      same_queue a b h = other_stays from port rest S.stations a b h
+
+      -- what came was under way
+      came_from : (b : Bool) → (from == o.node) ≡ b →
+          ((b && has_object (exported from port item) o) || is_under_way T port o)
+          ≡ is_under_way S port o
+      came_from false h =
+          let other : (o.node == from) ≡ false = grind (arith, common_steps, h) in
+          ap (some_passes (list_any (λ x. has_object (exported o.node port x) o)))
+          (elsewhere_stays from port rest S.stations o.node port other)
+      came_from true h =
+          let same : from ≡ o.node = eqb-true from o.node h in
+          let f = λ (found : Option (List Item)).
+          some_passes (list_any (λ x. has_object (exported o.node port x) o)) found in
+          let left : queue T o.node port ≡ Some rest =
+          subst (λ k. queue T k port ≡ Some rest) same
+          (that_changed from port rest (item ∷ rest) S.stations waits) in
+          let was : queue S o.node port ≡ Some (item ∷ rest) =
+          subst (λ k. queue S k port ≡ Some (item ∷ rest)) same waits in
+          ap (λ k. has_object (exported k port item) o || is_under_way T port o) same
+          ∙ ap (λ found. has_object (exported o.node port item) o || f found) left
+          ∙ sym (ap f was)
+
+      -- an end over which an object came is that of its home
+      reaches : (b : Bool) → (from == o.node) ≡ b →
+          (b && has_object (exported from port item) o) ≡ true → is_open n o.node ≡ true
+      reaches true q k = subst (λ p. is_open n p ≡ true) (eqb-true from o.node q) ends
+      reaches false q k = cc
+
+      -- the entry of the node that takes stays
+      own_takes : has_entry (moved port T effect).state port o ≡ has_entry S port o
+      own_takes =
+          own_moved T effect n (comes port o from item)
+          (requeued from port port rest S.stations ∙ here)
+          (λ q. queues.closed port o.node n here (sym (same_queue port o.node apart) ∙ q))
+          (reaches (from == o.node) refl) (by_take (context table T n) from item ends).grows
+          (held.each port n here) (passes_take port o from (context table T n) item ends)
+          ∙ ap (λ found. some_passes (λ m. is_open m port) found
+          && ((is_holder o n || (comes port o from item || is_under_way T port o))
+          || is_on_its_way_back T port o)) (requeued from port o.node rest S.stations)
+          ∙ ap (λ b. is_reached S port o && ((is_holder o n || b) || is_on_its_way_back T port o))
+          (came_from (from == o.node) refl)
+          ∙ ap (λ found. is_reached S port o && ((is_holder o n || is_under_way S port o)
+          || some_passes (list_any (λ x. has_object (released port o.node x) o)) found))
+          (same_queue port o.node apart)
+          ∙ entered_none S n here
+
+module _ (table : List Class) (act : Acting) (S : State) (event : Event) (peer : ℕ)
+    (o : ObjectName) (held : AllHoldOpen S) (queues : HasQueues S)
+    (home : IsNoStepOf o.node event) where
+  -- the entry is as it was
+  abbrev Same : State → Type 0
+  Same T = has_entry T peer o ≡ has_entry S peer o
+
+  -- of the entry of a node that moves, and of that of another
+  moves_so : (port : ℕ) (s : Stepped) → IsStep table act S event s → (T : State) →
+      s.state ≡ T → ((peer == port) ≡ false → IsNoStepOf peer event) →
+      (has_entry T port o ≡ has_entry S port o) → Same s.state
+  moves_so port s is T e other own = go (peer == port) refl
+    where
+      go : (b : Bool) → (peer == port) ≡ b → Same s.state
+      go false q = entry_stays S event s is peer o home (other q)
+      go true q =
+          let same : peer ≡ port = eqb-true peer port q in
+          ap (λ x. has_entry x peer o) e
+          ∙ subst (λ k. has_entry T k o ≡ has_entry S k o) (sym same) own
+
+  -- each form of a step
+  by_form : (s : Stepped) → IsStep table act S event s → Same s.state
+  by_form s (Skips e) = ap (λ x. has_entry x.state peer o) e
+  by_form s (Acts port n d own here rule e) =
+      moves_so port s (Acts port n d own here rule e) (moved port S d).state (ap (λ x. x.state) e)
+      (no_act event port peer own)
+      (own_acts o port (apart_act event port o.node own home) S held queues n here table act event d
+      rule)
+  by_form s (Takes port from n item rest d is here rule waits e) =
+      let T = without_oldest S from port rest in
+      moves_so port s (Takes port from n item rest d is here rule waits e)
+      (moved port T d).state (ap (λ x. x.state) e) (λ q. subst (IsNoStepOf peer) (sym is) q)
+      (subst (λ x. has_entry (moved port T x).state port o ≡ has_entry S port o) (sym rule.1)
+      (own_takes o port (subst (IsNoStepOf o.node) is home) S held queues n here table from item
+      rest rule.0 waits))
+  by_form s (Loses from to k waiting is waits few e) =
+      entry_stays {table = table} {act = act} S event s
+      (Loses from to k waiting is waits few e) peer o home (subst (IsNoStepOf peer) (sym is) tt)
+  by_form s (Checks is e) = ap (λ x. has_entry x.state peer o) e
+
+-- an event that is no step of the home leaves its entries as they were
+pub entries_stay : (table : List Class) (act : Acting) (S : State) (event : Event) (peer : ℕ)
+    (o : ObjectName) → AllHoldOpen S → HasQueues S → IsNoStepOf o.node event →
+    has_entry (step table act S event).state peer o ≡ has_entry S peer o
+entries_stay table act S event peer o held queues home =
+    by_form table act S event peer o held queues home (step table act S event)
+    (step_is S table act event)

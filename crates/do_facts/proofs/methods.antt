@@ -1,0 +1,2 @@
+pub mod MethodsFound
+pub mod FewArguments

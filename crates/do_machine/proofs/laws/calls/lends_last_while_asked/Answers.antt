@@ -1,8 +1,0 @@
-use Rattle.do_machine.proofs.Parting.{asks_settle_nothing, nothing_asked}
-use Rattle.do_machine.proofs.laws.calls.lends_last_while_asked.Goals as goal
-
-pub returns-clause-asking : goal.returns-clause-asking
-returns-clause-asking c = asks_settle_nothing
-
-pub returns-clause-settled : goal.returns-clause-settled
-returns-clause-settled c = nothing_asked

@@ -1,5 +1,0 @@
-use Rattle.do_machine.proofs.Entries.{none_over_closed}
-use Rattle.do_machine.proofs.laws.entries.no_entry_over_a_closed_end.Goals as goal
-
-pub returns : goal.returns
-returns c = none_over_closed

@@ -1,8 +1,0 @@
-use Rattle.do_machine.proofs.Ports.{opening_rises, step_ports}
-use Rattle.do_machine.proofs.laws.states.nodes_rise_by_port.Goals as goal
-
-pub returns-clause-opening : goal.returns-clause-opening
-returns-clause-opening c = opening_rises
-
-pub returns-clause-steps : goal.returns-clause-steps
-returns-clause-steps c = step_ports

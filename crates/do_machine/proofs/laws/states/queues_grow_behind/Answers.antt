@@ -1,5 +1,0 @@
-use Rattle.do_machine.proofs.Queues.{grows_behind}
-use Rattle.do_machine.proofs.laws.states.queues_grow_behind.Goals as goal
-
-pub returns : goal.returns
-returns c port to e S waiting h = grows_behind port to e S.stations waiting h

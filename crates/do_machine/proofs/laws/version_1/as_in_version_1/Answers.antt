@@ -1,8 +1,0 @@
-use Rattle.do_machine.proofs.Version1.{same_answering, same_closing}
-use Rattle.do_machine.proofs.laws.version_1.as_in_version_1.Goals as goal
-
-pub returns-clause-answers : goal.returns-clause-answers
-returns-clause-answers c = same_answering
-
-pub returns-clause-closes : goal.returns-clause-closes
-returns-clause-closes c = same_closing
