@@ -19,8 +19,8 @@ use Rattle.do_machine.specs.Step.{step}
 use Rattle.do_machine.specs.World.{by_port, opening, opening_node, opening_station}
 use Rattle.do_machine.specs.held.Kept.{is_root}
 use Rattle.do_machine.specs.run.Run.{Acting}
-use Rattle.do_machine.proofs.follows.Moves.{Moves}
-use Rattle.do_machine.proofs.follows.Steps.{by_any_step}
+use Rattle.do_facts.proofs.machine.follows.Moves.{Moves}
+use Rattle.do_facts.proofs.machine.follows.Steps.{by_any_step}
 use Rattle.do_facts.specs.Reached.{reached}
 use Rattle.do_facts.proofs.ReachedStates.{holds_of_reached}
 

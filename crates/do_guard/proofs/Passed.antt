@@ -54,9 +54,10 @@ use Rattle.do_machine.specs.run.Run.{state_rule}
 use Rattle.do_machine.specs.run.Verdicts.{effect_of}
 use Rattle.do_guard.specs.Checkers.{AddsOnly, IfMessage, IsOfCheckers, MaySend, RunsChecker}
 use Rattle.do_guard.specs.Checkers.{SendsOnly}
+use Rattle.do_facts.proofs.EachOfLists.{each_joined}
 use Rattle.do_facts.proofs.RulesOfActs.{Sends, by_return, by_root, by_send, by_vend}
 use Rattle.do_facts.proofs.steps.OthersStay.{move_leaves_own}
-use Rattle.do_objects.proofs.Methods.{method_found}
+use Rattle.do_facts.proofs.methods.MethodsFound.{method_found}
 use Rattle.do_guard.proofs.Sent.{EffectSends, MaySendAll, VerdictSends, by_verdict}
 use Rattle.do_objects.proofs.Finding.{there}
 
@@ -153,12 +154,6 @@ module _ (rules : List Rule) (r : RunContext) where
   by_state act h (Answered a) =
       by_verdict May r.context.table r (answer_rule a) (by_answer a)
 
--- what holds of two lists holds of both
-all_behind : {X : Type 0} (P : X → Type 0) (xs ys : List X) → AllByRecursion P xs →
-    AllByRecursion P ys → AllByRecursion P (xs ++ ys)
-all_behind P [] ys h k = k
-all_behind P (x ∷ xs) ys h k = (h.0, all_behind P xs ys h.1 k)
-
 module _ (Allow : ObjectName → List ℕ → Type 0) (table : List Class) (peer : ℕ) where
   -- items to a peer
   abbrev Fair : List Item → Type 0
@@ -209,7 +204,7 @@ module _ (grows : Grows) (Allow : ObjectName → List ℕ → Type 0) (table : L
           ∙ ap (λ all. Some all)
           (append_assoc waiting (items_to peer e.sent) (items_to peer d.sent));
       messages =
-          all_behind (IfMessage Allow peer) (items_to peer e.sent) (items_to peer d.sent)
+          each_joined (IfMessage Allow peer) (items_to peer e.sent) (items_to peer d.sent)
           (to_peer Allow table peer e.sent fair.sent)
           (to_peer Allow table peer d.sent (left_fair Allow table peer _));
     }

@@ -24,7 +24,7 @@ ghost use Rattle.do_objects.specs.Reached.{after, object_of, reached};
 ghost use Rattle.do_guard.specs.Checkers.{HasTarget, IsOfCheckers, MaySend, RunRaises};
 ghost use Rattle.do_guard.specs.Checkers.{RunsChecker, SendsOnly};
 
-use do_machine::queues_grow_behind;
+use do_facts::queues_grow_behind;
 
 /// A law alone: over every schedule, a checker whose slot holds a target stays as it is, as long as
 /// it is stored. So it is from every sound state on.

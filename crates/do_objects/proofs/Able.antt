@@ -16,10 +16,11 @@ use Rattle.do_machine.specs.Step.{step}
 use Rattle.do_machine.specs.World.{by_port, opening}
 use Rattle.do_machine.specs.run.Run.{Acting}
 use Rattle.do_facts.proofs.OpeningAsNet.{opened}
+use Rattle.do_facts.proofs.methods.FewArguments.{takes_few}
 use Rattle.do_objects.specs.CanAct.{AllCanAct, CanAct, KeepsLocals}
 use Rattle.do_objects.specs.OwnClass.{AllSound}
 use Rattle.do_objects.specs.Reached.{after, reached}
-use Rattle.do_objects.proofs.Counts.{begun_locals, has_method, takes_few}
+use Rattle.do_objects.proofs.Counts.{begun_locals, has_method}
 use Rattle.do_objects.proofs.Known.{HoldsAfter, HoldsBegun, Known}
 use Rattle.do_objects.proofs.Sound.{opens_sound, stays_sound}
 use Rattle.do_objects.proofs.Steps.{before_of}

@@ -4,7 +4,6 @@ use Rattle.std.proofs.Common.{List, [], ◌∷◌, ◌++◌, ◌||◌, filter, l
 use Rattle.std.proofs.Common.{inl}
 use Rattle.std.proofs.Common.{inr}
 use Rattle.std.specs.Prelude.{None, Option, Some, find, option_map}
-use Rattle.std.specs.List.{AllByRecursion}
 use Rattle.std.specs.Option.{option_or}
 use Rattle.std.proofs.lemmas.List.Folds.{find-append}
 use Rattle.do_behave.specs.declared.act.Write.{Write}
@@ -18,12 +17,6 @@ use Rattle.do_machine.specs.held.Refers.{heap_objects}
 use Rattle.do_packet.specs.Met.{has_object}
 use Rattle.do_machine.specs.run.Changes.{with_writes}
 use Rattle.do_machine.specs.run.Fresh.{with_serials}
-
--- what holds of each element holds by what follows from it
-pub each_of : {X : Type 0} (P Q : X → Type 0) → ((x : X) → P x → Q x) → (xs : List X) →
-    AllByRecursion P xs → AllByRecursion Q xs
-each_of P Q f [] h = tt
-each_of P Q f (x ∷ xs) h = (f x h.0, each_of P Q f xs h.1)
 
 -- what is there is not absent
 pub absent : {X : Type 0} (x : X) (found : Option X) → found ≡ Some x → found ≡ None → ⊥

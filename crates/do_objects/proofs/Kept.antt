@@ -1,15 +1,13 @@
 -- What the effects of a node keep: what it stores, and that it is whole.
-use Rattle.std.proofs.Common.{◌≡◌, ◌⊎◌, ◌<◌, ◌≤◌, ◌+◌, ◌==◌, ℕ, Bool, true, false, cond, List, []}
-use Rattle.std.proofs.Common.{◌∷◌, length, refl, sym, ap, ◌∙◌, subst, arith, inl, inr}
+use Rattle.std.proofs.Common.{◌≡◌, ◌⊎◌, ◌<◌, ◌≤◌, ◌+◌, ◌==◌, ℕ, Bool, List, []}
+use Rattle.std.proofs.Common.{length, refl, sym, ap, ◌∙◌, subst, arith, inl, inr}
 use Rattle.std.specs.Prelude.{None, Option, Some}
 use Rattle.do_behave.specs.declared.act.Write.{Write}
 use Rattle.do_class.specs.declared.ids.ClassId.{ClassId}
 use Rattle.do_packet.specs.declared.receipt.Made.{Made}
 use Rattle.do_machine.specs.declared.node.Node.{Node}
 use Rattle.do_machine.specs.declared.node.Stored.{Stored}
-use Rattle.do_machine.specs.declared.state.Effect.{Effect}
 use Rattle.do_machine.specs.State.{stored}
-use Rattle.do_machine.specs.Effect.{each}
 use Rattle.do_machine.specs.held.Leaving.{leaving}
 use Rattle.do_machine.specs.run.Changes.{with_writes}
 use Rattle.do_machine.specs.run.Fresh.{with_objects, with_serials}
@@ -114,20 +112,6 @@ then_keeps n m l a b = record {
         stored k l.heap ≡ None
     by k (inl h) e = b.heap.gone k (inl (omega (arith, h, a.heap.next))) e
     by k (inr h) e = b.heap.gone k (inr h) e
-
--- whichever of two effects comes
-pub by_if : {W : Known} (n : Node) (b : Bool) (e d : Effect) →
-    Keeps W none n e.node → Keeps W none n d.node →
-    Keeps W none n (cond b e d).node
-by_if n true e d x y = x
-by_if n false e d x y = y
-
--- an effect for each element of a list
-pub by_each : {W : Known} {X : Type 0} (f : X → Node → Effect) →
-    ((x : X) (n : Node) → Keeps W none n (f x n).node) → (xs : List X) (n : Node) →
-    Keeps W none n (each f xs n).node
-by_each f h [] n = same n n refl refl refl
-by_each f h (x ∷ xs) n = then_keeps n (f x n).node _ (h x n) (by_each f h xs (f x n).node)
 
 module _ (n : Node) (new : List Made) where
   -- under an old serial, and behind the new ones, there is what was there

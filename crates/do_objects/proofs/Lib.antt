@@ -1,7 +1,6 @@
 pub mod Finding
 mod Kept
 mod Small
-pub mod Methods
 mod Known
 pub mod Whole
 mod Counts

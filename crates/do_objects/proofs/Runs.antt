@@ -35,12 +35,13 @@ use Rattle.do_machine.specs.run.Send.{inputs}
 use Rattle.do_machine.specs.run.Verdicts.{effect_of}
 use Rattle.do_facts.proofs.Chains.{either, found_or}
 use Rattle.do_facts.proofs.RulesOfActs.{IsFor, Sends, by_return, by_root, by_send, by_vend}
+use Rattle.do_facts.proofs.methods.FewArguments.{inputs_length}
 use Rattle.do_objects.specs.Writes.{run_writes, writes_in, writes_of}
-use Rattle.do_objects.proofs.Counts.{fitting_few, inputs_few}
+use Rattle.do_objects.proofs.Counts.{fitting_few}
 use Rattle.do_objects.proofs.Known.{HoldsAfter, HoldsBegun, Known, begun_count}
 use Rattle.do_objects.proofs.Whole.{AreOwn, stored_made}
 use Rattle.do_objects.proofs.Kept.{Keeps, none, restacked, same_writes}
-use Rattle.do_objects.proofs.Methods.{method_found, signature_found}
+use Rattle.do_facts.proofs.methods.MethodsFound.{method_found, signature_found}
 use Rattle.do_objects.proofs.Verdicts.{BeginsOwn, by_verdict, nothing, only_to}
 use Rattle.do_objects.proofs.Verdicts.{verdict_writes}
 
@@ -80,7 +81,7 @@ module _ (W : Known) (r : RunContext) (begin : HoldsBegun W r.context.table) whe
             ∙ (method_found r.context.table class x.selector m is.method).0,
         begin m (inputs m.signature x)
             (signature_found r.context.table class x.selector m is.method)
-            (inputs_few m.signature.args x.args),
+            (inputs_length m.signature.args x.args),
       )
 
   -- what comes of a send

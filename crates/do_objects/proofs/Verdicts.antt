@@ -26,7 +26,7 @@ use Rattle.do_machine.specs.run.Delivery.{below_answered, popped}
 use Rattle.do_machine.specs.run.Fresh.{blank}
 use Rattle.do_machine.specs.run.Verdicts.{effect_of, requesting}
 use Rattle.do_facts.proofs.Deliveries.{Delivers, by_delivery, by_failing}
-use Rattle.do_objects.proofs.Counts.{outs_same}
+use Rattle.do_facts.proofs.methods.FewArguments.{outs_length}
 use Rattle.do_objects.proofs.Finding.{written_at}
 use Rattle.do_objects.proofs.Known.{Known, begun_count}
 use Rattle.do_objects.proofs.Kept.{Keeps, keeps_by, makes, none, restacked, same_writes}
@@ -119,7 +119,7 @@ module _ (W : Known) (r : RunContext) (tied : r.context.node.stack ≡ r.top ∷
   used result outs =
       relocated
       (with_outs r.top.outs outs (slice_set r.top.locals r.top.into result))
-      (outs_same r.top.outs outs (slice_set r.top.locals r.top.into result)
+      (outs_length r.top.outs outs (slice_set r.top.locals r.top.into result)
       ∙ length-set r.top.locals r.top.into result)
 
   -- the invocation below keeps its method and its locals

@@ -10,8 +10,9 @@ use Rattle.do_machine.specs.declared.node.Node.{Node}
 use Rattle.do_machine.specs.declared.node.Stored.{Stored}
 use Rattle.do_machine.specs.Context.{own_class}
 use Rattle.do_machine.specs.State.{stored}
+use Rattle.do_facts.proofs.EachOfLists.{each_weaker}
 use Rattle.do_objects.specs.OwnClass.{HaveOwnMethods, IsSound, StoresGiven, WasMadeOf}
-use Rattle.do_objects.proofs.Finding.{absent, each_of}
+use Rattle.do_objects.proofs.Finding.{absent}
 use Rattle.do_objects.proofs.Known.{AreKnown, Known}
 
 -- an invocation of an object that was made, of the class of its method, of which so much is known
@@ -32,7 +33,7 @@ pub still_own : (W : Known) (n m : Node) →
     ((serial : ℕ) (class : ClassId) → WasMadeOf n serial class → WasMadeOf m serial class) →
     (is : List Invocation) → AreOwn W n is → AreOwn W m is
 still_own W n m still is own =
-    each_of (IsOwn W n) (IsOwn W m)
+    each_weaker (IsOwn W n) (IsOwn W m)
     (λ i was. (still i.object.serial i.method.class was.0, was.1)) is own
 
 -- an object that is stored under a serial that was given was made, and is of its class
@@ -67,14 +68,14 @@ pub sound_of : (W : Known) (n : Node) → IsWhole W n → IsSound n
 sound_of W n w = record {
   given = w.given;
   invocations =
-      each_of (IsOwn W n) (λ i. WasMadeOf n i.object.serial i.method.class) (λ i own. own.0)
+      each_weaker (IsOwn W n) (λ i. WasMadeOf n i.object.serial i.method.class) (λ i own. own.0)
       n.stack w.invocations;
 }
 
 -- and so much is known of its invocations
 pub known_of : (W : Known) (n : Node) → IsWhole W n → AreKnown W n.stack
 known_of W n w =
-    each_of (IsOwn W n) (λ i. W i.method (length i.locals)) (λ i own. own.1)
+    each_weaker (IsOwn W n) (λ i. W i.method (length i.locals)) (λ i own. own.1)
     n.stack w.invocations
 
 -- nothing more is known

@@ -19,10 +19,10 @@ use Rattle.do_machine.specs.State.{node, queue}
 use Rattle.do_machine.specs.held.Kept.{kept}
 use Rattle.do_machine.specs.held.Leaving.{freeing, leaving, left}
 use Rattle.do_machine.specs.held.Refers.{node_objects}
-use Rattle.do_machine.proofs.Queues.{grows_behind}
-use Rattle.do_machine.proofs.passing.NoQueue.{stays_none}
-use Rattle.do_machine.proofs.passing.Quiet.{NoneReleases, is_release}
-use Rattle.do_machine.proofs.passing.TakesQuietly.{is_end}
+use Rattle.do_facts.proofs.machine.Queues.{grows_behind}
+use Rattle.do_facts.proofs.machine.passing.NoQueue.{stays_none}
+use Rattle.do_facts.proofs.machine.passing.Quiet.{NoneReleases}
+use Rattle.do_facts.proofs.machine.follows.Steady.{is_end, is_release}
 use Rattle.do_facts.proofs.steps.OthersStay.{move_leaves_others, move_leaves_own}
 use Rattle.do_facts.proofs.steps.QueuesOfSteps.{move_leaves_queues}
 use Rattle.do_quiet.specs.Quiet.{AllEndsOpen}

@@ -22,12 +22,10 @@ use Rattle.do_machine.specs.Step.{moved_by, step}
 use Rattle.do_machine.specs.ends.TimeOut.{time_out}
 use Rattle.do_machine.specs.run.Run.{Acting, run_effect}
 use Rattle.do_machine.specs.take.Take.{can_take, holding, take_effect}
-use Rattle.do_machine.proofs.follows.States.{requeued}
-use Rattle.do_machine.proofs.passing.EntriesMoved.{quiet_there}
-use Rattle.do_machine.proofs.passing.Lookups.{that_changed}
-use Rattle.do_machine.proofs.passing.Quiet.{Quiet}
-use Rattle.do_machine.proofs.passing.RunsQuietly.{run_quiet, start_quiet, time_out_quiet}
-use Rattle.do_machine.proofs.passing.TakesQuietly.{arrival_quiet, is_end}
+use Rattle.do_facts.proofs.machine.follows.States.{requeued}
+use Rattle.do_facts.proofs.machine.follows.Steady.{is_end}
+use Rattle.do_facts.proofs.machine.passing.Lookups.{that_changed}
+use Rattle.do_facts.proofs.machine.passing.Quiet.{Quiet, arrival_quiet, rule_quiet}
 use Rattle.do_facts.proofs.steps.QueuesOfSteps.{requeue_leaves}
 use Rattle.do_quiet.specs.Quiet.{IsNoBreak}
 use Rattle.do_quiet.proofs.CalmMoves.{Calm, Undisturbed, move_undisturbed}
@@ -146,13 +144,15 @@ module _ (S : State) (before : Undisturbed S) where
       Undisturbed (step table act S event).state
   step_undisturbed table act (Start port selector values) h =
       by_node port (start_effect table selector values)
-      (λ n d q. quiet_there n _ d (start_quiet table selector values n) q) (node S port) refl
+      (λ n d q. rule_quiet table act S (Start port selector values) n d q refl)
+      (node S port) refl
   step_undisturbed table act (Run port) h =
       by_node port (λ n. run_effect act (context table S n))
-      (λ n d q. quiet_there n _ d (run_quiet act (context table S n)) q) (node S port) refl
+      (λ n d q. rule_quiet table act S (Run port) n d q refl) (node S port) refl
   step_undisturbed table act (Take port from) h = by_take table port from (node S port) refl
   step_undisturbed table act (Close port peer) h = absurd h
   step_undisturbed table act (Lose from to after) h = absurd h
   step_undisturbed table act (Timeout port) h =
-      by_node port time_out (λ n d q. quiet_there n _ d (time_out_quiet n) q) (node S port) refl
+      by_node port time_out (λ n d q. rule_quiet table act S (Timeout port) n d q refl)
+      (node S port) refl
   step_undisturbed table act Check h = before

@@ -16,7 +16,7 @@ use Rattle.do_machine.specs.Step.{step}
 use Rattle.do_machine.specs.World.{by_port, opening, opening_station, others}
 use Rattle.do_machine.specs.check.Blocks.{followed, steps}
 use Rattle.do_machine.specs.run.Run.{Acting}
-use Rattle.do_machine.proofs.passing.TakesQuietly.{is_end}
+use Rattle.do_facts.proofs.machine.follows.Steady.{is_end}
 use Rattle.do_facts.specs.Reached.{reached}
 use Rattle.do_facts.specs.View.{View, wire_seen}
 use Rattle.do_facts.proofs.OpeningAsNet.{opened, opening_wires}

@@ -24,10 +24,10 @@ use Rattle.do_machine.specs.held.Kept.{HoldsItself, is_root, kept, stays}
 use Rattle.do_machine.specs.held.Leaving.{leaving}
 use Rattle.do_machine.specs.held.Refers.{heap_objects, stack_objects}
 use Rattle.do_machine.proofs.Bools.{or_cases, or_left, or_right}
-use Rattle.do_machine.proofs.Frame.{elsewhere}
+use Rattle.do_facts.proofs.machine.Frame.{elsewhere}
 use Rattle.do_machine.proofs.Keeping.{are_kept}
-use Rattle.do_machine.proofs.Queues.{grows_behind}
-use Rattle.do_machine.proofs.follows.States.{changed}
+use Rattle.do_facts.proofs.machine.Queues.{grows_behind}
+use Rattle.do_facts.proofs.machine.follows.States.{changed}
 
 -- both of two tests passed
 first_passed : (a b : Bool) → (a && b) ≡ true → a ≡ true

@@ -1,5 +1,6 @@
 -- While all ends are open a lend lasts until its notice is taken, and its object is kept so long.
-use Rattle.std.proofs.Common.{◌≡◌, ◌∙◌, ◌++◌, ℕ, true, false, List, [], ◌∷◌, ap, inl, inr, refl, subst}
+use Rattle.std.proofs.Common.{◌≡◌, ◌∙◌, ◌++◌, ℕ, true, false, List, [], ◌∷◌, ap, inl, inr, refl}
+use Rattle.std.proofs.Common.{subst}
 use Rattle.std.proofs.Common.{sym}
 use Rattle.std.specs.Prelude.{All, Some}
 use Rattle.std.specs.List.{AllByRecursion}
@@ -18,7 +19,7 @@ use Rattle.do_machine.specs.Step.{step}
 use Rattle.do_machine.specs.World.{opening}
 use Rattle.do_machine.specs.check.Blocks.{followed, steps}
 use Rattle.do_machine.specs.run.Run.{Acting}
-use Rattle.do_machine.proofs.follows.Every.{grow_steps}
+use Rattle.do_facts.proofs.machine.follows.Every.{grow_steps}
 use Rattle.do_facts.specs.Reached.{reached}
 use Rattle.do_facts.specs.View.{net_of, part_seen}
 use Rattle.do_facts.specs.links.Lasting.{Ends, Lasts, Parts, Stays, TakesNotice}
@@ -63,7 +64,8 @@ module _ (table : List Class) (seats : List Seat) (act : Acting) where
 
   module _ (port : ℕ) (l : Lend) where
     -- a step
-    by_step : (S : State) (event : Event) → Stands (first_ends table seats) (is_there table seats) S →
+    by_step : (S : State) (event : Event) →
+        Stands (first_ends table seats) (is_there table seats) S →
         IsLent S port l → AllEndsOpen (step table act S event).state →
         (TakesNotice S event port l → ⊥) → IsLent (step table act S event).state port l
     by_step S event stands is all not_taken =

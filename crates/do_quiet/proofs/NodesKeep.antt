@@ -25,15 +25,15 @@ use Rattle.do_machine.specs.Step.{step}
 use Rattle.do_machine.specs.World.{by_port, opening, opening_node, others}
 use Rattle.do_machine.specs.held.Kept.{HoldsItself, stays}
 use Rattle.do_machine.specs.held.Leaving.{leaving}
-use Rattle.do_machine.specs.laws.Entries.{HasQueues, IsNoStepOf}
-use Rattle.do_machine.specs.laws.Follows.{AllHoldOpen}
+use Rattle.do_facts.specs.laws.Entries.{HasQueues, IsNoStepOf}
+use Rattle.do_facts.specs.laws.Follows.{AllHoldOpen}
 use Rattle.do_machine.specs.run.Run.{Acting}
 use Rattle.do_machine.proofs.Bools.{fails}
-use Rattle.do_machine.proofs.Opening.{opening_holds}
-use Rattle.do_machine.proofs.follows.Every.{all_hold, grow_steps}
-use Rattle.do_machine.proofs.follows.States.{changed, requeued}
-use Rattle.do_machine.proofs.passing.Linked.{opening_queues, queues_stay}
-use Rattle.do_machine.proofs.passing.Steps.{entries_stay}
+use Rattle.do_facts.proofs.machine.Opening.{opening_holds}
+use Rattle.do_facts.proofs.machine.follows.Every.{all_hold, grow_steps}
+use Rattle.do_facts.proofs.machine.follows.States.{changed, requeued}
+use Rattle.do_facts.proofs.machine.passing.Linked.{opening_queues, queues_stay}
+use Rattle.do_facts.proofs.machine.passing.EntriesStay.{entries_stay}
 use Rattle.do_facts.specs.Reached.{reached}
 use Rattle.do_facts.specs.steps.IsStep.{Acts, Checks, IsActOf, IsStep, Loses, Skips, Takes}
 use Rattle.do_facts.proofs.OpeningAsNet.{opened}

@@ -9,7 +9,7 @@ use Rattle.do_machine.specs.declared.state.State.{State}
 use Rattle.do_machine.specs.State.{node}
 use Rattle.do_machine.specs.Step.{step}
 use Rattle.do_machine.specs.run.Run.{Acting}
-use Rattle.do_machine.proofs.follows.Every.{grow_steps}
+use Rattle.do_facts.proofs.machine.follows.Every.{grow_steps}
 use Rattle.do_facts.specs.ByEvents.{IsBy}
 use Rattle.do_facts.specs.View.{net_of}
 use Rattle.do_facts.specs.links.LinksAreKept.{LinksAreKept}
