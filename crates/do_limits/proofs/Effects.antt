@@ -34,7 +34,8 @@ use Rattle.do_machine.specs.run.Fresh.{blank, fresh, pushed, with_objects, with_
 use Rattle.do_limits.specs.Sendable.{AreSendable, HasSlots, IsOfTable, IsSendable}
 use Rattle.do_limits.specs.SendableStates.{InvocationIsSendable, ItemIsSendable, NodeIsSendable}
 use Rattle.do_limits.specs.SendableStates.{AsksForOne, HasNumbers, HasSerial, ObjectIsSendable}
-use Rattle.do_limits.proofs.Lists.{each_filtered, each_joined, each_placed, each_replicated}
+use Rattle.do_facts.proofs.EachOfLists.{each_filtered, each_joined, each_replicated}
+use Rattle.do_limits.proofs.Lists.{each_placed}
 use Rattle.do_limits.proofs.values.Carried.{carry-Nil}
 
 -- an item that is sent

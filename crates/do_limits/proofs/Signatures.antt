@@ -1,30 +1,29 @@
 -- A method has few arguments, so an invocation has no more of them than locals.
-use Rattle.std.proofs.Common.{◌≡◌, ◌≤◌, ◌&&◌, ℕ, Bool, true, false, cond, List, [], ◌∷◌, length}
+use Rattle.std.proofs.Common.{◌≡◌, ◌≤◌, ℕ, Bool, true, false, cond, List, [], ◌∷◌, length}
 use Rattle.std.proofs.Common.{map}
 use Rattle.std.proofs.Common.{refl}
-use Rattle.std.proofs.Common.{ap, arith, ◌∙◌, subst}
+use Rattle.std.proofs.Common.{ap, arith, subst}
 use Rattle.std.specs.Prelude.{None, Option, Some, option_and_then, option_map, slice_get, suc, zero}
 use Rattle.std.specs.List.{All, AllByRecursion}
 use Rattle.std.proofs.lemmas.List.{length-map}
 use Rattle.std.proofs.lemmas.List.Elements.{recursion_from_All}
-use Rattle.do_base.specs.declared.values.value.Value.{Value}
 use Rattle.do_class.specs.Class.{Class}
 use Rattle.do_class.specs.declared.method.Method.{Method}
 use Rattle.do_sig.specs.MethodTypes.{IsMethodType}
 use Rattle.do_frames.specs.Selectors.{IsSelector}
-use Rattle.do_class.specs.Table.{class_at, find_method, signature_of}
+use Rattle.do_class.specs.Table.{class_at, signature_of}
 use Rattle.do_class.specs.declared.ids.ClassId.{ClassId}
 use Rattle.do_class.specs.declared.ids.MethodId.{MethodId}
-use Rattle.do_sig.specs.Calls.{args_fit, encoding_fits, is_oneway, qualifier_of}
+use Rattle.do_sig.specs.Calls.{is_oneway, qualifier_of}
 use Rattle.do_sig.specs.Calls.{qualifiers_of}
 use Rattle.do_sig.specs.declared.qualifiers.Qualifier.{Qualifier}
-use Rattle.do_sig.specs.Fits.{each_takes}
 use Rattle.do_sig.specs.declared.encoding.Encoding.{Encoding}
 use Rattle.do_sig.specs.declared.signature.Signature.{Signature}
 use Rattle.do_machine.specs.Context.{Found, method_for}
 use Rattle.do_machine.specs.World.{HasSignatures}
+use Rattle.do_facts.proofs.methods.MethodsFound.{signature_found}
 use Rattle.do_machine.specs.run.Answers.{answer_marks}
-use Rattle.do_machine.specs.run.Send.{inputs_by, outs_by}
+use Rattle.do_machine.specs.run.Send.{outs_by}
 
 -- Each method of a table takes eight arguments at most, and what finds one is a selector
 pub record HasMethods (table : List Class) : Type 0 where
@@ -76,46 +75,7 @@ module _ (table : List Class) (has : HasMethods table) where
   pub found_few : (class : Option ClassId) (selector : List ℕ) (m : Found) →
       method_for table class selector ≡ Some m → length m.signature.args ≤ 8
   found_few class selector m e =
-      by_id (option_and_then (λ c. find_method table c selector) class) e
-    where
-      by_signature : (id : MethodId) (found : Option Signature) → signature_of table id ≡ found →
-          option_map (λ (s : Signature). record { id = id; signature = s }) found ≡ Some m →
-          length m.signature.args ≤ 8
-      by_signature id None q e = absurd (cc (e))
-      by_signature id (Some s) q e =
-          let same : s ≡ m.signature = cc (e) in
-          omega (arith, has.few id s q, ap (λ (x : Signature). length x.args) same)
-
-      by_id : (found : Option MethodId) →
-          option_and_then (λ id. option_map (λ (s : Signature). record { id = id; signature = s })
-          (signature_of table id)) found ≡ Some m → length m.signature.args ≤ 8
-      by_id None e = absurd (cc (e))
-      by_id (Some id) e = by_signature id (signature_of table id) refl e
-
--- as many values as tests
-taken_length : (fs : List (Value → Bool)) (vs : List Value) → each_takes fs vs ≡ true →
-    length vs ≡ length fs
-taken_length [] [] h = refl
-taken_length [] (v ∷ vs) h = absurd (cc (h))
-taken_length (f ∷ fs) [] h = absurd (cc (h))
-taken_length (f ∷ fs) (v ∷ vs) h = go (f v) h (taken_length fs vs)
-  where
-    go : (b : Bool) → (b && each_takes fs vs) ≡ true →
-        (each_takes fs vs ≡ true → length vs ≡ length fs) → length (v ∷ vs) ≡ length (f ∷ fs)
-    go true e k = let same = k e in omega (arith, same)
-    go false e k = absurd (cc (e))
-
--- as many values as arguments
-pub fitting_length : (s : Signature) (vs : List Value) → args_fit s vs ≡ true →
-    length vs ≡ length s.args
-fitting_length s vs h =
-    taken_length (map encoding_fits s.args) vs h ∙ length-map s.args encoding_fits
-
--- no more values are passed than there are arguments
-pub inputs_length : (es : List Encoding) (vs : List Value) → length (inputs_by es vs) ≤ length es
-inputs_length [] vs = omega arith
-inputs_length (e ∷ es) [] = omega arith
-inputs_length (e ∷ es) (v ∷ vs) = omega (arith, inputs_length es vs)
+      has.few m.id m.signature (signature_found table class selector m e)
 
 -- the marks of its places are few
 pub few_marks : (s : Signature) → length s.args ≤ 8 →

@@ -4,3 +4,4 @@ pub mod Packing
 pub mod RootMessages
 pub mod Unpacking
 pub mod Spelling
+pub mod Starting

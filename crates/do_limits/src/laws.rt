@@ -1,6 +1,6 @@
 //! Laws of limits, each carried by a function that does nothing else.
 ghost use Rattle.std.specs.Prelude.{List, Some, length, ℕ, ◌<◌, ◌^◌, ◌≡◌};
-ghost use Rattle.std.specs.List.{All};
+ghost use Rattle.std.specs.List.{All, AllByRecursion, flat_map};
 ghost use Rattle.do_base.specs.declared.events.event.Event.{Event};
 ghost use Rattle.do_class.specs.Class.{Class};
 ghost use Rattle.do_class.specs.Table.{IsTable};
@@ -11,8 +11,11 @@ ghost use Rattle.do_machine.specs.declared.state.State.{State};
 ghost use Rattle.do_machine.specs.State.{queue};
 ghost use Rattle.do_script.specs.Listing.{Listing};
 ghost use Rattle.do_behave.specs.Script.{script};
+ghost use Rattle.do_sched.specs.Good.{IsLine};
+ghost use Rattle.do_sched.specs.declared.line.Line.{Line};
 ghost use Rattle.do_limits.specs.SendableCodes.{CodesAreSendable};
 ghost use Rattle.do_machine.specs.Step.{step};
+ghost use Rattle.do_machine.specs.check.Blocks.{events_of};
 ghost use Rattle.do_machine.specs.World.{HasSignatures, IsWorld, opening};
 ghost use Rattle.do_machine.specs.run.Run.{Acting};
 ghost use Rattle.do_facts.specs.Reached.{reached};
@@ -73,4 +76,11 @@ pub fn items_have_spellings()
 pub fn scripts_keep_values_sendable()
     ensures { (codes : List (List Listing)) → CodesAreSendable codes → (table : List Class) →
         KeepsSendable table (script codes) }
+{}
+
+/// The values that the starts of a schedule give can be carried by a message: each line that may
+/// stand in a schedule gives only such values.
+pub fn starts_of_schedules_can_be_sent()
+    ensures { (lines : List Line) → AllByRecursion IsLine lines →
+        AllStartSendable (flat_map events_of lines) }
 {}

@@ -11,5 +11,5 @@ mod laws;
 
 pub use laws::{
     items_have_spellings, numbers_of_states_are_bounded, scripts_keep_values_sendable,
-    values_of_states_can_be_sent,
+    starts_of_schedules_can_be_sent, values_of_states_can_be_sent,
 };

@@ -25,7 +25,7 @@ use Rattle.do_machine.specs.check.Blocks.{followed, steps}
 use Rattle.do_machine.specs.ends.TimeOut.{time_out}
 use Rattle.do_machine.specs.held.Leaving.{leaving}
 use Rattle.do_machine.specs.run.Run.{Acting, run_effect}
-use Rattle.do_machine.proofs.follows.States.{requeued}
+use Rattle.do_facts.proofs.machine.follows.States.{requeued}
 use Rattle.do_facts.specs.Reached.{reached}
 use Rattle.do_facts.specs.steps.IsStep.{Acts, Checks, IsRuleOf, IsStep, Loses, Skips, Takes}
 use Rattle.do_facts.proofs.OpeningAsNet.{opened}

@@ -26,7 +26,7 @@ use Rattle.do_machine.specs.Packing.{packed_for}
 use Rattle.do_machine.specs.State.{is_open}
 use Rattle.do_machine.specs.lend.Lending.{lend_of, posting}
 use Rattle.do_machine.specs.run.Answers.{answer_placed, replying}
-use Rattle.do_machine.proofs.follows.Ran.{packed_answer}
+use Rattle.do_facts.proofs.Deliveries.{packed_answer}
 use Rattle.do_limits.specs.SendableActs.{KeepsSendable}
 use Rattle.do_limits.specs.SendableStates.{InvocationIsSendable}
 use Rattle.do_limits.proofs.runs.Runs.{judged}

@@ -33,7 +33,7 @@ use Rattle.do_machine.specs.run.Answers.{oneway_answer}
 use Rattle.do_machine.specs.run.Fresh.{pushed}
 use Rattle.do_machine.specs.take.Receipt.{receiving_name}
 use Rattle.do_machine.specs.take.Requests.{admission, refusing, request}
-use Rattle.do_machine.proofs.follows.Taken.{admitted}
+use Rattle.do_facts.proofs.walk.Takes.{admitted}
 
 -- the numbers of a node's next call, next object and next token
 abbrev pub numbers : Node → ℕ × (ℕ × ℕ)

@@ -1,7 +1,7 @@
 -- What becomes of acts whose values can be carried.
 use Rattle.std.proofs.Common.{arith, ◌≤◌, length}
 use Rattle.do_limits.proofs.Signatures.{few_marks, found_class, HasMethods, found_few}
-use Rattle.do_limits.proofs.Signatures.{inputs_length}
+use Rattle.do_facts.proofs.methods.FewArguments.{inputs_length}
 use Rattle.std.proofs.Common.{◌&&◌, ◌||◌, ◌==◌, ℕ, cond, not}
 use Rattle.std.proofs.Common.{map, refl}
 use Rattle.std.specs.Prelude.{None}
@@ -39,7 +39,7 @@ use Rattle.do_limits.specs.SendableActs.{ActIsSendable}
 use Rattle.do_frames.specs.Selectors.{IsSelector}
 use Rattle.do_limits.specs.SendableStates.{MessageIsSendable}
 use Rattle.do_limits.proofs.Senders.{ContextIsSendable, class_known}
-use Rattle.do_limits.proofs.Lists.{each_former, each_latter, each_zipped}
+use Rattle.do_facts.proofs.EachOfLists.{each_former, each_latter, each_zipped}
 use Rattle.do_limits.proofs.values.Carried.{carry-Nil}
 use Rattle.do_limits.proofs.runs.Verdicts.{VerdictIsSendable, few_places, given, inputs_sendable}
 use Rattle.do_limits.proofs.runs.Verdicts.{message_sendable}

@@ -52,7 +52,7 @@ use Rattle.do_machine.specs.run.Run.{Acting, next_act, run_effect, run_on, slots
 use Rattle.do_machine.specs.run.Run.{state_rule}
 use Rattle.do_machine.specs.run.Verdicts.{effect_of, requesting, waits_for}
 use Rattle.do_machine.specs.lend.Lending.{lending, lends_of, posting}
-use Rattle.do_machine.proofs.follows.Ran.{packed_answer}
+use Rattle.do_facts.proofs.Deliveries.{packed_answer}
 use Rattle.do_limits.specs.Sendable.{AreSendable, HasSlots, IsSendable, IsSendableExc}
 use Rattle.do_limits.specs.Sendable.{IsSendablePacket}
 use Rattle.do_limits.specs.SendableActs.{KeepsSendable}
@@ -61,7 +61,8 @@ use Rattle.do_limits.specs.SendableStates.{InvocationIsSendable, ItemIsSendable,
 use Rattle.do_limits.specs.SendableStates.{ObjectIsSendable}
 use Rattle.do_limits.proofs.Effects.{EffectIsSendable, IfSendable, alone, begins, blank_sendable}
 use Rattle.do_limits.proofs.Effects.{either, makes, pushes, queues, shows}
-use Rattle.do_limits.proofs.Lists.{each_changed, each_set, each_zipped, found_is}
+use Rattle.do_facts.proofs.EachOfLists.{each_set, each_zipped, found_is}
+use Rattle.do_limits.proofs.Lists.{each_changed}
 use Rattle.do_limits.proofs.values.Carried.{carry-Nil, carry-Obj, name_sendable}
 use Rattle.do_limits.proofs.runs.ActRules.{act_sendable}
 use Rattle.do_limits.proofs.runs.Verdicts.{RequestIsSendable, VerdictIfSendable, VerdictIsSendable}

@@ -1,6 +1,7 @@
 -- A start and a time-out leave and send only what a message can carry.
 use Rattle.std.proofs.Common.{arith, refl, ◌≡◌}
-use Rattle.do_limits.proofs.Signatures.{HasMethods, fitting_length, found_few}
+use Rattle.do_facts.proofs.methods.FewArguments.{fitting_length}
+use Rattle.do_limits.proofs.Signatures.{HasMethods, found_few}
 use Rattle.std.proofs.Common.{ℕ, Bool, true, false, cond, not, List, [], ◌∷◌, refl}
 use Rattle.std.specs.Prelude.{None, Option, Some, option_map}
 use Rattle.std.specs.List.{AllByRecursion}

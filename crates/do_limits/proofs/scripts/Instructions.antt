@@ -31,7 +31,7 @@ use Rattle.do_behave.specs.laws.ValueKinds.{by_items}
 use Rattle.do_limits.specs.Sendable.{AreSendable, IsSendable, IsSendableExc}
 use Rattle.do_limits.specs.SendableActs.{ActIsSendable, KeepsSendable}
 use Rattle.do_limits.specs.SendableCodes.{CodeIsSendable, CodesAreSendable, GivesSendable}
-use Rattle.do_limits.proofs.Lists.{each_joined, each_set}
+use Rattle.do_facts.proofs.EachOfLists.{each_joined, each_set}
 use Rattle.do_limits.proofs.runs.Verdicts.{textless}
 use Rattle.do_limits.proofs.values.Carried.{carry-Nil, carry-Obj}
 use Rattle.do_limits.proofs.scripts.MadeLists.{count_kept, empty_sendable, items_sendable}

@@ -2,7 +2,7 @@
 use Rattle.std.proofs.Common.{◌≡◌, ◌++◌, ◌-◌, ◌<◌, ◌≤◌, ℕ, ℤ, Bool, true}
 use Rattle.std.proofs.Common.{List as Listed, [], ◌∷◌, length, map, refl, sym, subst, arith, rules}
 use Rattle.std.proofs.Common.{◌∙◌}
-use Rattle.do_limits.proofs.Lists.{each_joined, each_of}
+use Rattle.do_facts.proofs.EachOfLists.{each_joined, each_of}
 use Rattle.std.specs.Prelude.{None, Some, nat_le, nat_lt, pos, suc, zero}
 use Rattle.std.specs.List.{AllByRecursion, list_all}
 use Rattle.std.specs.Option.{IfSome}

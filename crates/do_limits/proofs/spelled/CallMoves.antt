@@ -13,7 +13,7 @@ use Rattle.do_facts.specs.calls.Moves.{behind}
 use Rattle.do_facts.specs.calls.Moves.{may, moved, note, opens}
 use Rattle.do_facts.specs.calls.Moves.{posts, takes}
 use Rattle.do_facts.proofs.calls.TopMoves.{other}
-use Rattle.do_limits.proofs.Lists.{each_weaker}
+use Rattle.do_facts.proofs.EachOfLists.{each_weaker}
 use Rattle.do_limits.proofs.spelled.ServedCalls.{AtomGiven, FrameGiven, ReasonGiven, Serve}
 use Rattle.do_limits.proofs.spelled.ServedCalls.{open_still}
 use Rattle.do_limits.proofs.spelled.ServedCalls.{serve_behind, serve_changed, serve_none}

@@ -1,7 +1,7 @@
 -- The frame of each item on its way has a spelling, while the numbers are small.
 use Rattle.std.proofs.Common.{◌≡◌, ◌<◌, ◌≤◌, ℕ, List, [], ◌∷◌, length, map}
 use Rattle.std.proofs.Common.{arith, refl}
-use Rattle.do_limits.proofs.Lists.{each_weaker}
+use Rattle.do_facts.proofs.EachOfLists.{each_weaker}
 use Rattle.std.specs.Prelude.{None, Option, Some, nat_lt, true}
 use Rattle.std.specs.List.{All, AllByRecursion}
 use Rattle.std.proofs.lemmas.Bool.Decides.{nat_tests}

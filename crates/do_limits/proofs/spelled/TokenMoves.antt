@@ -15,8 +15,9 @@ use Rattle.do_facts.specs.links.Moves.{Receives, Refuses, Returns, Settles, Stor
 use Rattle.do_facts.specs.links.Moves.{may, moved, note, opens, posts, takes}
 use Rattle.do_facts.proofs.links.ListsChanged.{was_open}
 use Rattle.do_facts.proofs.links.PlainMoves.{other}
-use Rattle.do_limits.proofs.Lists.{each_filtered, each_placed}
-use Rattle.do_limits.proofs.Lists.{each_weaker}
+use Rattle.do_facts.proofs.EachOfLists.{each_filtered}
+use Rattle.do_limits.proofs.Lists.{each_placed}
+use Rattle.do_facts.proofs.EachOfLists.{each_weaker}
 use Rattle.do_limits.proofs.spelled.LentTokens.{AskGiven, TokenGiven, ask_among, told_given}
 use Rattle.do_facts.specs.Moves.{Keeps}
 use Rattle.do_facts.specs.links.Moves.{link_rules}

@@ -6,7 +6,8 @@ use Rattle.std.proofs.lemmas.Bool.{eqb-true}
 use Rattle.do_machine.specs.declared.item.Item.{Item}
 use Rattle.do_facts.specs.Moves.{with_wire}
 use Rattle.do_facts.specs.Net.{Note, atoms_of, wires_after}
-use Rattle.do_limits.proofs.Lists.{each_dropped, each_former, each_joined, each_latter}
+use Rattle.do_facts.proofs.EachOfLists.{each_former, each_joined, each_latter}
+use Rattle.do_limits.proofs.Lists.{each_dropped}
 
 module _ {A : Type 0} (Q : ℕ → ℕ → A → Type 0) where
   -- it holds of each atom on each wire

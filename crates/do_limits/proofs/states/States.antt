@@ -36,8 +36,10 @@ use Rattle.do_limits.proofs.Effects.{EffectIsSendable, ParcelIsSendable, holding
 use Rattle.do_limits.proofs.Effects.{then_sendable}
 use Rattle.do_limits.proofs.Senders.{ContextIsSendable, slots_known}
 use Rattle.do_limits.proofs.Signatures.{one_at}
-use Rattle.do_limits.proofs.Lists.{each_changed, each_filtered, each_joined}
-use Rattle.do_limits.proofs.Lists.{each_mapped, each_weaker, found_by}
+use Rattle.do_facts.proofs.EachOfLists.{each_filtered, each_joined}
+use Rattle.do_limits.proofs.Lists.{each_changed}
+use Rattle.do_facts.proofs.EachOfLists.{each_mapped, each_weaker}
+use Rattle.do_limits.proofs.Lists.{found_by}
 
 -- ---- what follows a step
 

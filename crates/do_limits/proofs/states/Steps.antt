@@ -25,7 +25,7 @@ use Rattle.do_machine.specs.World.{IsSeat, by_port, is_before, opening, opening_
 use Rattle.do_machine.specs.take.Take.{take_effect}
 use Rattle.do_machine.specs.ends.TimeOut.{time_out}
 use Rattle.do_machine.specs.run.Run.{Acting, run_effect}
-use Rattle.do_machine.proofs.follows.States.{requeued}
+use Rattle.do_facts.proofs.machine.follows.States.{requeued}
 use Rattle.do_facts.specs.Reached.{reached}
 use Rattle.do_facts.specs.steps.IsStep.{Acts, Checks, IsRuleOf, IsStep, Loses, Skips, Takes}
 use Rattle.do_facts.proofs.steps.EachIsStep.{step_is}
@@ -34,7 +34,8 @@ use Rattle.do_limits.specs.SendableActs.{AllStartSendable, KeepsSendable, Starts
 use Rattle.do_limits.specs.SendableStates.{ItemIsSendable, QueueIsSendable, StateIsSendable}
 use Rattle.do_limits.specs.SendableStates.{StationIsSendable}
 use Rattle.do_limits.proofs.Effects.{EffectIsSendable, IfSendable, blank_sendable}
-use Rattle.do_limits.proofs.Lists.{each_inserted, each_placed}
+use Rattle.do_facts.proofs.EachOfLists.{each_inserted}
+use Rattle.do_limits.proofs.Lists.{each_placed}
 use Rattle.do_limits.proofs.runs.Runs.{run_sendable}
 use Rattle.do_limits.proofs.runs.Starts.{start_sendable, time_out_sendable}
 use Rattle.do_limits.proofs.takes.Ends.{closes}

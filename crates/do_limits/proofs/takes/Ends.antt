@@ -17,7 +17,7 @@ use Rattle.do_limits.specs.SendableStates.{InvocationIsSendable, NodeIsSendable}
 use Rattle.do_limits.proofs.Effects.{EffectIsSendable, each_sendable}
 use Rattle.do_limits.proofs.Effects.{queues, settles}
 use Rattle.do_limits.proofs.Effects.{then_sendable}
-use Rattle.do_limits.proofs.Lists.{each_filtered, each_mapped, each_of, each_weaker}
+use Rattle.do_facts.proofs.EachOfLists.{each_filtered, each_mapped, each_of, each_weaker}
 use Rattle.do_limits.proofs.runs.Verdicts.{textless}
 
 -- an invocation that loses a peer

@@ -1,6 +1,7 @@
 -- What a node takes leaves and sends only what a message can carry.
 use Rattle.std.specs.Prelude.{length}
-use Rattle.do_limits.proofs.Signatures.{HasMethods, fitting_length, found_few}
+use Rattle.do_facts.proofs.methods.FewArguments.{fitting_length}
+use Rattle.do_limits.proofs.Signatures.{HasMethods, found_few}
 use Rattle.std.proofs.Common.{◌≡◌, ℕ, Bool, true, false, cond, List, [], ◌∷◌, map, not, refl}
 use Rattle.std.proofs.Common.{subst}
 use Rattle.std.proofs.Common.{arith}
@@ -47,7 +48,7 @@ use Rattle.do_machine.specs.take.Receipt.{receiving, receiving_name}
 use Rattle.do_machine.specs.take.Requests.{admission, refusing, request}
 use Rattle.do_machine.specs.take.Take.{arrival, holding, method_call, root_call, root_packet}
 use Rattle.do_machine.specs.take.Take.{take_effect, values_arrival}
-use Rattle.do_machine.proofs.follows.Taken.{admitted}
+use Rattle.do_facts.proofs.walk.Takes.{admitted}
 use Rattle.do_limits.specs.Sendable.{AreSendable, IsSendableExc, IsSendablePacket}
 use Rattle.do_limits.specs.SendableStates.{ItemIsSendable, NodeIsSendable}
 use Rattle.do_limits.proofs.Effects.{EffectIsSendable, alone, asks, begins, each_sendable, grants}

@@ -23,7 +23,7 @@ use Rattle.do_packet.specs.Seen.{Sender}
 use Rattle.do_packet.specs.declared.role.Role.TheVariants.{Absent, Copied, Named}
 use Rattle.do_facts.proofs.links.NamedInMessages.{IsNameable}
 use Rattle.do_limits.specs.Sendable.{AreSendable, HasSlots, IsOfTable, NameIsSendable}
-use Rattle.do_limits.proofs.Lists.{each_joined}
+use Rattle.do_facts.proofs.EachOfLists.{each_joined}
 
 -- What a sender sees: classes of the table for objects that were made at nodes, and of its own
 -- objects the slots of their classes, with values that can be carried

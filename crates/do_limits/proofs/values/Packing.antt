@@ -33,7 +33,7 @@ use Rattle.do_packet.proofs.Keeping.{packed_keeps}
 use Rattle.do_facts.proofs.links.NamedInMessages.{all_nameable}
 use Rattle.do_limits.proofs.values.Naming.{IsOwn, SenderIsSendable, copies_own, copy_whole}
 use Rattle.do_limits.proofs.values.Naming.{each_named}
-use Rattle.do_limits.proofs.Lists.{each_zipped}
+use Rattle.do_facts.proofs.EachOfLists.{each_zipped}
 use Rattle.do_limits.proofs.values.Carried.{carry-List, carry-Num, carry-Text}
 
 -- ---- parts, kind by kind
