@@ -9,7 +9,7 @@ use Rattle.do_import.specs.ByObject.{object_of}
 use Rattle.do_machine.specs.declared.item.Item.TheVariants.{End}
 use Rattle.do_machine.specs.State.{holds, is_open}
 use Rattle.do_machine.specs.World.{others}
-use Rattle.do_machine.specs.laws.Follows.{HoldsOpen}
+use Rattle.do_facts.specs.laws.Follows.{HoldsOpen}
 use Rattle.do_network.specs.Links.{Link, Part, link_to}
 use Rattle.do_network.specs.Net.{Channel, Net, channel, net_ports, part_at}
 use Rattle.do_network.specs.Own.{Own}
@@ -31,7 +31,8 @@ pub record MarksFit (w : Link) (c : Channel) (xs : List Note) : Type 0 where
   pub lost : AllByRecursion (λ x. x.lost ≡ true → x.item ≡ End []) xs
   pub unbegun : w.greeted ≡ false → (c.begun ≡ false) × AllByRecursion (λ x. x.lost ≡ true) xs
 
--- A channel from one node to another carries what is under way, by the links at its ends
+-- A channel from one node to another carries what is under way, by the links at its ends; the names
+-- before it are those that the reader read last, also where the reader's end has closed since
 pub record ChannelCarries (table : List Class) (N : Net) (from to : ℕ) (p q : Part)
     (xs : List Note) : Type 0 where
   pub between : Channel
@@ -40,7 +41,7 @@ pub record ChannelCarries (table : List Class) (N : Net) (from to : ℕ) (p q : 
   pub writes : link_to p.links to ≡ Some writer
   pub reader : Link
   pub reads : link_to q.links from ≡ Some reader
-  pub carries : Carries table from to (is_open q.own.node from) writer reader between xs
+  pub carries : Carries table from to true writer reader between xs
   pub marks : MarksFit writer between xs
 
 -- The counts of all sites fit to what is under way. Of a node that is closing its end towards a

@@ -4,7 +4,7 @@ use Rattle.do_base.specs.names.Names.{ObjectName}
 use Rattle.do_machine.specs.declared.node.Node.{Node}
 use Rattle.do_machine.specs.declared.state.Effect.{Effect}
 use Rattle.do_machine.specs.State.{is_open}
-use Rattle.do_machine.specs.laws.Follows.{HoldsOpen}
+use Rattle.do_facts.specs.laws.Follows.{HoldsOpen}
 use Rattle.do_agreement.specs.Accounted.{AccountsFor}
 
 -- What a node holds after an effect are those that pass of what it held

@@ -27,12 +27,12 @@ module _ (table : List Class) (N : Net) (S : State) (agrees : Agrees table N S) 
   under_way = agrees.tallies.under_way
 
   -- a site is the machine's node
-  node_is : (port : ℕ) (p : Part) → part_at N port ≡ Some p → node S port ≡ Some p.own.node
+  pub node_is : (port : ℕ) (p : Part) → part_at N port ≡ Some p → node S port ≡ Some p.own.node
   node_is port p h =
       sym (agrees.tallies.shows.nodes port) ∙ ap (option_map (λ (r : Part). r.own.node)) h
 
   -- the queue between two sites
-  queue_is : (a m : ℕ) (p q : Part) → part_at N a ≡ Some p → part_at N m ≡ Some q →
+  pub queue_is : (a m : ℕ) (p q : Part) → part_at N a ≡ Some p → part_at N m ≡ Some q →
       (a == m) ≡ false → queue S a m ≡ Some (map (λ x. x.item) (under_way a m))
   queue_is a m p q h k ne =
       sym (agrees.tallies.shows.queues a m)
@@ -88,7 +88,18 @@ module _ (table : List Class) (N : Net) (S : State) (agrees : Agrees table N S) 
           writes = way.writes;
           reader = way.reader;
           reads = way.reads;
-          carries = way.carries;
+          carries = record {
+            tables = record {
+              front = way.carries.tables.front;
+              read = λ o. way.carries.tables.read refl;
+              behind = way.carries.tables.behind;
+              recent = way.carries.tables.recent;
+              known = way.carries.tables.known;
+            };
+            waiting = way.carries.waiting;
+            greeting = way.carries.greeting;
+            spelled = way.carries.spelled;
+          };
         };
     peers = agrees.tallies.counts.peers;
   }

@@ -9,14 +9,13 @@ use Rattle.do_machine.specs.declared.state.Seat.{Seat}
 use Rattle.do_machine.specs.declared.state.State.{State}
 use Rattle.do_machine.specs.State.{is_open, node}
 use Rattle.do_machine.specs.World.{by_port, opening, others}
-use Rattle.do_network.specs.Links.{Link}
-use Rattle.do_network.specs.Links.{Part}
+use Rattle.do_network.specs.Links.{Link, Part, link_to}
 use Rattle.do_network.specs.Net.{net_ports, opening_link}
 use Rattle.do_network.specs.Net.{Channel, Net, Place}
 use Rattle.do_network.specs.Net.{channel, channel_to, net_opening, opening_channel}
 use Rattle.do_network.specs.Net.{opening_place, part_at, place_at}
 use Rattle.do_network.specs.fits.Fits.{Fits}
-use Rattle.do_network.specs.fits.Notes.{Note, tells_of, total}
+use Rattle.do_network.specs.fits.Notes.{Note, carried, names_behind, tells_of, total}
 use Rattle.do_network.proofs.OpeningFits.{seat_found}
 use Rattle.do_network.proofs.OpeningFits.{opening_fits}
 use Rattle.do_facts.specs.links.LinksAreKept.{LinksAreKept}
@@ -40,8 +39,15 @@ pub record IsUnused (c : Channel) : Type 0 where
   pub waiting : c.waiting ≡ []
   pub begun : c.begun ≡ false
 
+-- Nothing was ever sent or read over a link
+pub record IsFresh (l : Link) : Type 0 where
+  pub sent : l.sent ≡ []
+  pub read : l.read ≡ []
+
 module _ (table : List Class) (N : Net) (S : State) (F : Fits table N S) (kept : LinksAreKept S)
     (unused : (a m : ℕ) (c : Channel) → channel N a m ≡ Some c → IsUnused c)
+    (fresh : (port peer : ℕ) (p : Part) (l : Link) → part_at N port ≡ Some p →
+    link_to p.links peer ≡ Some l → IsFresh l)
     (linked : (port : ℕ) (p : Part) → part_at N port ≡ Some p →
     map (λ (l : Link). l.peer) p.links ≡ others (net_ports N) port) where
   -- a site is the machine's node
@@ -98,7 +104,20 @@ module _ (table : List Class) (N : Net) (S : State) (F : Fits table N S) (kept :
               writes = way.writes;
               reader = way.reader;
               reads = way.reads;
-              carries = way.carries;
+              carries = record {
+                tables = record {
+                  front = [];
+                  read = λ o. sym (fresh m a q way.reader k way.reads).read;
+                  behind = ap (names_behind []) (none_there a m p q h k ne)
+                      ∙ sym (fresh a m p way.writer h way.writes).sent;
+                  recent = record { few = omega arith; differ = tt };
+                  known = tt;
+                };
+                waiting = (unused a m way.between way.stands).waiting
+                    ∙ sym (ap (carried []) (none_there a m p q h k ne));
+                greeting = way.carries.greeting;
+                spelled = way.carries.spelled;
+              };
               marks = subst (MarksFit way.writer way.between) (sym (none_there a m p q h k ne))
                   (record {
                     lost = tt;
@@ -155,6 +174,30 @@ opening_unused table seats a m c =
         (λ x. a == x.port) (opening_place table (map (λ (x : Seat). x.node) (by_port seats))) each
         (by_port seats) pl k c h
 
+-- as a network opens nothing was sent or read over a link
+opening_fresh : (table : List Class) (seats : List Seat) (port peer : ℕ) (p : Part) (l : Link) →
+    part_at (net_opening table seats) port ≡ Some p → link_to p.links peer ≡ Some l → IsFresh l
+opening_fresh table seats port peer p l h =
+    go (place_at (net_opening table seats) port) refl h
+  where
+    all : List ℕ
+    all = map (λ (x : Seat). x.node) (by_port seats)
+
+    each : (s : Seat) (k : Link) →
+        link_to (opening_place table all s).part.links peer ≡ Some k → IsFresh k
+    each s k =
+        found_such IsFresh (λ e. peer == e.peer) opening_link
+        (λ n. record { sent = refl; read = refl }) (others all s.node) k
+
+    go : (found : Option Place) → place_at (net_opening table seats) port ≡ found →
+        option_map (λ (x : Place). x.part) found ≡ Some p →
+        link_to p.links peer ≡ Some l → IsFresh l
+    go None k e is = absurd (cc)
+    go (Some pl) k e is =
+        found_such (λ (x : Place). (n : Link) → link_to x.part.links peer ≡ Some n → IsFresh n)
+        (λ x. port == x.port) (opening_place table all) each (by_port seats) pl k l
+        (ap (λ (q : Part). link_to q.links peer) (some_is pl.part p e) ∙ is)
+
 -- as a network opens each site has a link to each other
 opening_linked : (table : List Class) (seats : List Seat) (port : ℕ) (p : Part) →
     part_at (net_opening table seats) port ≡ Some p →
@@ -182,4 +225,5 @@ pub opening_agrees : (table : List Class) (seats : List Seat) →
     Agrees table (net_opening table seats) (opening table seats)
 opening_agrees table seats =
     unused_agrees table (net_opening table seats) (opening table seats) (opening_fits table seats)
-    (opening_keeps table seats) (opening_unused table seats) (opening_linked table seats)
+    (opening_keeps table seats) (opening_unused table seats) (opening_fresh table seats)
+    (opening_linked table seats)

@@ -49,7 +49,7 @@ module _ {X : Type 0} (key : X → ℕ) where
   )
 
   -- where all numbers differ, each element is found by its number
-  all_found : (xs : List X) → IsDistinct (λ (p q : ℕ). p == q) (map key xs) →
+  pub all_found : (xs : List X) → IsDistinct (λ (p q : ℕ). p == q) (map key xs) →
       AllByRecursion (λ z. find (λ y. key z == key y) xs ≡ Some z) xs
   unfolding IsDistinct
   all_found [] d = tt

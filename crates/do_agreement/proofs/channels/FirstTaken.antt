@@ -38,7 +38,7 @@ module _ (table : List Class) (from to : ℕ) (recent : List Pair) (r : IsRecent
       })).recent
 
   -- so does a frame
-  frame_recent : (f : Frame) → IsFrame (surroundings table from to) f →
+  pub frame_recent : (f : Frame) → IsFrame (surroundings table from to) f →
       IsRecent (after_frame recent f)
   frame_recent (frames.Call call serial selector packet) h = packet_recent packet h.1.1.1
   frame_recent (frames.Oneway serial selector packet) h = packet_recent packet h.1.1

@@ -211,8 +211,8 @@ module _ (table : List Class) (port : ℕ) (N : Net) (under_way : ℕ → ℕ �
     from_other = fit.channels m port q p k at_port (flipped port m other)
 
     -- the link and the channel to the other
-    carries_before : CarriesTo table port m (is_open q.own.node port) to_other.reader p.links
-        pl.channels (under_way port m)
+    carries_before : CarriesTo table port m true to_other.reader p.links pl.channels
+        (under_way port m)
     carries_before = record {
       writer = to_other.writer;
       writes = to_other.writes;
@@ -223,11 +223,11 @@ module _ (table : List Class) (port : ℕ) (N : Net) (under_way : ℕ → ℕ �
     }
 
     -- what the site sent stands in the channel
-    carries_after : CarriesTo table port m (is_open q.own.node port) to_other.reader
-        after.links (fold with_sending pl.channels (effected p e).sent)
+    carries_after : CarriesTo table port m true to_other.reader after.links
+        (fold with_sending pl.channels (effected p e).sent)
         (under_way port m ++ notes_to p.own.received m e.sent)
     carries_after =
-        all_carried table port m (is_open q.own.node port) to_other.reader p.own.received e.sent
+        all_carried table port m true to_other.reader p.own.received e.sent
         (record { links = p.links; sent = [] }) pl.channels (under_way port m) carries_before
         (notes_spelled table port m p.own.received e.sent p.links to_other.writer to_other.writes
         spelled)
@@ -271,7 +271,7 @@ module _ (table : List Class) (port : ℕ) (N : Net) (under_way : ℕ → ℕ �
           carries = record {
             tables = record {
               front = c.tables.front;
-              read = λ o. c.tables.read (is.ends m o) ∙ sym read_after.reads;
+              read = λ o. c.tables.read o ∙ sym read_after.reads;
               behind = c.tables.behind;
               recent = c.tables.recent;
               known = c.tables.known;

@@ -12,10 +12,10 @@ use Rattle.do_machine.specs.declared.state.State.{State}
 use Rattle.do_machine.specs.Commit.{commit, committed, items_to}
 use Rattle.do_machine.specs.Lists.{change_first}
 use Rattle.do_machine.specs.State.{node, queue, queue_to}
-use Rattle.do_machine.proofs.Frame.{elsewhere}
-use Rattle.do_machine.proofs.Queues.{grows_behind}
-use Rattle.do_machine.proofs.follows.States.{changed}
-use Rattle.do_machine.proofs.passing.NoQueue.{stays_none}
+use Rattle.do_facts.proofs.machine.Frame.{elsewhere}
+use Rattle.do_facts.proofs.machine.Queues.{grows_behind}
+use Rattle.do_facts.proofs.machine.follows.States.{changed}
+use Rattle.do_facts.proofs.machine.passing.NoQueue.{stays_none}
 use Rattle.do_network.specs.Links.{Part, Piece, Sending, Framed, Greeting}
 use Rattle.do_network.specs.Net.{Channel, Net, Place, channel, channel_to, part_at}
 use Rattle.do_network.specs.Net.{place_at}

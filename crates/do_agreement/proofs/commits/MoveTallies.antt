@@ -13,7 +13,7 @@ use Rattle.do_machine.specs.Entry.{has_entry}
 use Rattle.do_machine.specs.Objects.{object_at}
 use Rattle.do_machine.specs.State.{is_open}
 use Rattle.do_machine.specs.held.Leaving.{leaving}
-use Rattle.do_machine.proofs.follows.Ran.{by_leaving}
+use Rattle.do_facts.proofs.machine.follows.Follows.{by_leaving}
 use Rattle.do_network.specs.Frames.{all_posted}
 use Rattle.do_network.specs.Links.{Part}
 use Rattle.do_network.specs.Net.{Net, Place, part_at, place_at}

@@ -11,7 +11,8 @@ use Rattle.do_machine.specs.declared.node.Node.{Node}
 use Rattle.do_machine.specs.declared.state.Effect.{Effect}
 use Rattle.do_machine.specs.declared.state.Parcel.{Parcel}
 use Rattle.do_machine.specs.Objects.{object_at}
-use Rattle.do_machine.proofs.passing.Quiet.{NoneReleases, Quiet, is_release}
+use Rattle.do_facts.proofs.machine.follows.Steady.{is_release}
+use Rattle.do_facts.proofs.machine.passing.Quiet.{NoneReleases, Quiet}
 use Rattle.do_facts.specs.Net.{atoms_of, total}
 use Rattle.do_facts.specs.View.{posted}
 use Rattle.do_facts.specs.links.Facts.{told_of}

@@ -18,9 +18,8 @@ use Rattle.do_machine.specs.ends.TimeOut.{time_out}
 use Rattle.do_machine.specs.held.Leaving.{leaving}
 use Rattle.do_machine.specs.run.Run.{Acting, run_effect}
 use Rattle.do_machine.specs.take.Take.{arrival, holding, take_effect}
-use Rattle.do_machine.proofs.passing.EntriesMoved.{quiet_there}
-use Rattle.do_machine.proofs.passing.RunsQuietly.{run_quiet, start_quiet, time_out_quiet}
-use Rattle.do_machine.proofs.passing.TakesQuietly.{arrival_quiet, is_end}
+use Rattle.do_facts.proofs.machine.follows.Steady.{is_end}
+use Rattle.do_facts.proofs.machine.passing.Quiet.{arrival_quiet, rule_quiet}
 use Rattle.do_facts.specs.links.Links.{links_of}
 use Rattle.do_facts.specs.links.Sound.{IsSound}
 use Rattle.do_facts.specs.steps.IsStep.{IsRuleOf}
@@ -35,16 +34,15 @@ pub rule_accounts : (table : List Class) (act : Acting) (S : State) (event : Eve
     (e : Effect) → IsSound (links_of n) → IsRuleOf table act S event n e → (home : ℕ) →
     AccountsFor home n e
 rule_accounts table act S (Start port selector values) n e ok rule home = λ s c.
-    quiet_accounts home s c n e (quiet_there n (start_effect table selector values n) e
-    (start_quiet table selector values n) rule)
+    quiet_accounts home s c n e
+    (rule_quiet table act S (Start port selector values) n e rule refl)
 rule_accounts table act S (Run port) n e ok rule home = λ s c.
-    quiet_accounts home s c n e (quiet_there n (run_effect act (context table S n)) e
-    (run_quiet act (context table S n)) rule)
+    quiet_accounts home s c n e (rule_quiet table act S (Run port) n e rule refl)
 rule_accounts table act S (Close port peer) n e ok rule home = λ s c.
     subst (λ d. AccountsFor home n d) (sym rule.1)
     (λ r k. effect_accounts home r k n (closing peer n) (link_bridge.close n peer rule.0 ok)) s c
 rule_accounts table act S (Timeout port) n e ok rule home = λ s c.
-    quiet_accounts home s c n e (quiet_there n (time_out n) e (time_out_quiet n) rule)
+    quiet_accounts home s c n e (rule_quiet table act S (Timeout port) n e rule refl)
 rule_accounts table act S (Take port from) n e ok rule home = absurd rule
 rule_accounts table act S (Lose from to k) n e ok rule home = absurd rule
 rule_accounts table act S Check n e ok rule home = absurd rule

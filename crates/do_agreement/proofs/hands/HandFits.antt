@@ -389,7 +389,7 @@ module _ (table : List Class) (t : IsTable table) (port from : ℕ) (N : Net)
       record {
         tables = record {
           front = front;
-          read = λ o. c.tables.read here;
+          read = c.tables.read;
           behind = ap (names_behind front) (sym first) ∙ c.tables.behind;
           recent = c.tables.recent;
           known = c.tables.known;
@@ -425,18 +425,7 @@ module _ (table : List Class) (t : IsTable table) (port from : ℕ) (N : Net)
         reader = link_read x way.reader;
         reads = found_read from x p.links from way.reader way.reads
             ∙ ap (λ b. Some (read_if b x way.reader)) (same_number from);
-        carries = record {
-          tables = record {
-            front = c.tables.front;
-            read = λ o. c.tables.read refl;
-            behind = c.tables.behind;
-            recent = c.tables.recent;
-            known = c.tables.known;
-          };
-          waiting = c.waiting;
-          greeting = c.greeting;
-          spelled = c.spelled;
-        };
+        carries = c;
         marks = marks_taken table t from port way.writer way.reader way.between x xs first_carried
             first_marks;
       })

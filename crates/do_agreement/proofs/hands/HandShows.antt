@@ -8,8 +8,8 @@ use Rattle.do_coder.specs.declared.recent.pair.Pair.{Pair}
 use Rattle.do_machine.specs.declared.item.Item.{Item}
 use Rattle.do_machine.specs.declared.state.State.{State}
 use Rattle.do_machine.specs.State.{node, queue, with_queue}
-use Rattle.do_machine.proofs.follows.States.{requeued}
-use Rattle.do_machine.proofs.passing.Lookups.{elsewhere_stays, other_stays, that_changed}
+use Rattle.do_facts.proofs.machine.follows.States.{requeued}
+use Rattle.do_facts.proofs.machine.passing.Lookups.{elsewhere_stays, other_stays, that_changed}
 use Rattle.do_network.specs.Links.{Part}
 use Rattle.do_network.specs.Net.{Channel, Net, Place, channel, channel_to, part_at, place_at}
 use Rattle.do_network.specs.Net.{with_channel}

@@ -19,8 +19,8 @@ use Rattle.do_machine.specs.Commit.{showed, skipped}
 use Rattle.do_machine.specs.State.{change, class_of, is_open, node, queue, with_queue}
 use Rattle.do_machine.specs.Step.{step}
 use Rattle.do_machine.specs.run.Run.{Acting}
-use Rattle.do_machine.proofs.follows.States.{requeued}
-use Rattle.do_machine.proofs.passing.Lookups.{elsewhere_stays, other_stays, that_changed}
+use Rattle.do_facts.proofs.machine.follows.States.{requeued}
+use Rattle.do_facts.proofs.machine.passing.Lookups.{elsewhere_stays, other_stays, that_changed}
 use Rattle.do_network.specs.Links.{Part}
 use Rattle.do_network.specs.Net.{Channel, Net, Place, change_place, channel, channel_to, part_at}
 use Rattle.do_network.specs.Net.{place_at, with_channel}

@@ -14,7 +14,7 @@ use Rattle.do_machine.specs.Items.{exported}
 use Rattle.do_machine.specs.Lists.{IsIn}
 use Rattle.do_machine.specs.Objects.{joined}
 use Rattle.do_machine.specs.State.{holds, is_open}
-use Rattle.do_machine.specs.laws.Follows.{HoldsOpen}
+use Rattle.do_facts.specs.laws.Follows.{HoldsOpen}
 use Rattle.do_network.specs.Counting.{counted}
 use Rattle.do_network.specs.Frames.{frame_of, item_of}
 use Rattle.do_network.specs.Own.{Own}

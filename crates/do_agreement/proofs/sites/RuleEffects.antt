@@ -23,17 +23,13 @@ use Rattle.do_machine.specs.ends.TimeOut.{time_out}
 use Rattle.do_machine.specs.held.Kept.{kept}
 use Rattle.do_machine.specs.held.Leaving.{freeing, leaving}
 use Rattle.do_machine.specs.held.Refers.{node_objects}
-use Rattle.do_machine.specs.laws.Follows.{Grows, HoldsOpen}
+use Rattle.do_facts.specs.laws.Follows.{Grows, HoldsOpen}
 use Rattle.do_machine.specs.run.Run.{Acting, run_effect}
 use Rattle.do_machine.specs.take.Take.{arrival, holding, take_effect}
-use Rattle.do_machine.proofs.follows.Ran.{FollowsIf, by_leaving, by_run, by_start}
-use Rattle.do_machine.proofs.follows.Small.{by_closing}
-use Rattle.do_machine.proofs.follows.Taken.{by_take}
-use Rattle.do_machine.proofs.follows.TimedOut.{GrowsIf, by_time_out}
-use Rattle.do_machine.proofs.passing.EntriesMoved.{quiet_there}
-use Rattle.do_machine.proofs.passing.Quiet.{Quiet}
-use Rattle.do_machine.proofs.passing.RunsQuietly.{run_quiet, start_quiet, time_out_quiet}
-use Rattle.do_machine.proofs.passing.TakesQuietly.{arrival_quiet, is_end}
+use Rattle.do_facts.proofs.machine.follows.Follows.{by_leaving}
+use Rattle.do_facts.proofs.machine.follows.Steady.{by_take, is_end}
+use Rattle.do_facts.proofs.machine.follows.Steps.{rule_grows}
+use Rattle.do_facts.proofs.machine.passing.Quiet.{Quiet, arrival_quiet, rule_quiet}
 use Rattle.do_facts.specs.links.Links.{links_of}
 use Rattle.do_facts.specs.links.Sound.{IsSound}
 use Rattle.do_facts.specs.steps.IsStep.{IsRuleOf}
@@ -65,17 +61,6 @@ leaving_thins n entry = record {
   held = refl;
 }
 
--- the effect that there is grows
-grows_there : (n : Node) (found : Option Effect) (e : Effect) → GrowsIf n found →
-    found ≡ Some e → Grows n e.node
-grows_there n None e h q = absurd (cc)
-grows_there n (Some d) e h q = subst (λ x. Grows n x.node) (ap (λ x. unwrap_or x d) q) h
-
--- what follows grows
-follows_grow : (n : Node) (found : Option Effect) → FollowsIf n found → GrowsIf n found
-follows_grow n None h = tt
-follows_grow n (Some d) h = h.grows
-
 -- what is known of an effect after which a node stands so
 effect_of : (n : Node) (e : Effect) → HoldsOpen n → Grows n e.node → Thins n e →
     ((home : ℕ) → AccountsFor home n e) → IsEffectOf n e
@@ -92,26 +77,24 @@ pub rule_effect : (table : List Class) (act : Acting) (S : State) (event : Event
     (e : Effect) → IsSound (links_of n) → HoldsOpen n → IsRuleOf table act S event n e →
     IsEffectOf n e
 rule_effect table act S (Start port selector values) n e ok holds rule =
-    let found = start_effect table selector values n in
     effect_of n e holds
-    (grows_there n found e (follows_grow n found (by_start table selector values n)) rule)
-    (quiet_thins n e (quiet_there n found e (start_quiet table selector values n) rule))
+    (rule_grows table act S (Start port selector values) n e rule)
+    (quiet_thins n e (rule_quiet table act S (Start port selector values) n e rule refl))
     (rule_accounts table act S (Start port selector values) n e ok rule)
 rule_effect table act S (Run port) n e ok holds rule =
-    let c = context table S n in
-    let found = run_effect act c in
     effect_of n e holds
-    (grows_there n found e (follows_grow n found (by_run act c)) rule)
-    (quiet_thins n e (quiet_there n found e (run_quiet act c) rule))
+    (rule_grows table act S (Run port) n e rule)
+    (quiet_thins n e (rule_quiet table act S (Run port) n e rule refl))
     (rule_accounts table act S (Run port) n e ok rule)
 rule_effect table act S (Close port peer) n e ok holds rule =
     effect_of n e holds
-    (subst (λ d. Grows n d.node) (sym rule.1) (by_closing peer n).grows)
+    (rule_grows table act S (Close port peer) n e rule)
     (subst (Thins n) (sym rule.1) (closing_thins peer n))
     (rule_accounts table act S (Close port peer) n e ok rule)
 rule_effect table act S (Timeout port) n e ok holds rule =
-    effect_of n e holds (grows_there n (time_out n) e (by_time_out n) rule)
-    (quiet_thins n e (quiet_there n (time_out n) e (time_out_quiet n) rule))
+    effect_of n e holds
+    (rule_grows table act S (Timeout port) n e rule)
+    (quiet_thins n e (rule_quiet table act S (Timeout port) n e rule refl))
     (rule_accounts table act S (Timeout port) n e ok rule)
 rule_effect table act S (Take port from) n e ok holds rule = absurd rule
 rule_effect table act S (Lose from to k) n e ok holds rule = absurd rule

@@ -136,7 +136,7 @@ module _ (table : List Class) (t : IsTable table) (act : Acting) (N : Net) (S : 
           xs first)
           ∙ ap (λ k. read_frame table from port k (raw front (note_frame x)))
           (ap (λ o. unwrap_or (option_map (λ (l : Link). l.read) o) []) here_way.reads
-          ∙ sym (here_way.carries.tables.read here))
+          ∙ sym (here_way.carries.tables.read refl))
           ∙ read_back table t from port front here_way.carries.tables.recent
           here_way.carries.tables.known (note_frame x)
           (subst (AllByRecursion (λ y. IsFrame (surroundings table from port) (note_frame y))) first

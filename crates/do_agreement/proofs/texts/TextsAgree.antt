@@ -19,7 +19,7 @@ use Rattle.do_machine.specs.Step.{step}
 use Rattle.do_machine.specs.World.{IsWorld, opening}
 use Rattle.do_machine.specs.check.Blocks.{blocks, events_of, listed_at, steps}
 use Rattle.do_machine.specs.run.Run.{Acting}
-use Rattle.do_machine.proofs.Ports.{opening_rises, step_ports}
+use Rattle.do_facts.proofs.machine.Ports.{opening_rises, step_ports}
 use Rattle.do_sched.specs.declared.line.Line.{Line}
 use Rattle.do_sched.specs.declared.line.Line.TheVariants as lines
 use Rattle.do_network.specs.Net.{Net, net_opening}

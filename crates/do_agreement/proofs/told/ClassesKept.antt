@@ -18,11 +18,11 @@ use Rattle.do_machine.specs.Commit.{commit, items_to}
 use Rattle.do_machine.specs.Context.{Context, class_seen, context, own_class}
 use Rattle.do_machine.specs.State.{class_given, class_of, is_known, is_own, node, queue, queue_to}
 use Rattle.do_machine.specs.State.{station}
-use Rattle.do_machine.proofs.ClassesStay.{stays}
-use Rattle.do_machine.proofs.Frame.{elsewhere}
-use Rattle.do_machine.proofs.Queues.{grows_behind}
-use Rattle.do_machine.proofs.follows.States.{changed}
-use Rattle.do_machine.proofs.passing.NoQueue.{stays_none}
+use Rattle.do_facts.proofs.machine.ClassesStay.{stays}
+use Rattle.do_facts.proofs.machine.Frame.{elsewhere}
+use Rattle.do_facts.proofs.machine.Queues.{grows_behind}
+use Rattle.do_facts.proofs.machine.follows.States.{changed}
+use Rattle.do_facts.proofs.machine.passing.NoQueue.{stays_none}
 use Rattle.do_network.specs.Counting.{Classed, item_classes}
 use Rattle.do_facts.specs.Net.{Note}
 use Rattle.do_facts.specs.View.{AreMoves}

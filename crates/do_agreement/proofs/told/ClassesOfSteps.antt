@@ -31,9 +31,9 @@ use Rattle.do_machine.specs.ends.TimeOut.{time_out}
 use Rattle.do_machine.specs.held.Leaving.{leaving}
 use Rattle.do_machine.specs.run.Run.{Acting, run_effect}
 use Rattle.do_machine.specs.take.Take.{take_effect}
-use Rattle.do_machine.proofs.follows.States.{changed, requeued}
-use Rattle.do_machine.proofs.follows.Taken.{by_take}
-use Rattle.do_machine.proofs.passing.Lookups.{elsewhere_stays, other_stays, that_changed}
+use Rattle.do_facts.proofs.machine.follows.States.{changed, requeued}
+use Rattle.do_facts.proofs.machine.follows.Steady.{by_take}
+use Rattle.do_facts.proofs.machine.passing.Lookups.{elsewhere_stays, other_stays, that_changed}
 use Rattle.do_network.specs.Counting.{Classed, item_classes}
 use Rattle.do_facts.specs.Net.{Note, noted}
 use Rattle.do_facts.specs.Net as nets

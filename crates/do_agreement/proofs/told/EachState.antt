@@ -17,7 +17,7 @@ use Rattle.do_agreement.proofs.told.ClassesOfSteps.{step_keeps}
 use Rattle.do_agreement.proofs.told.OpeningClasses.{opening_keeps}
 
 -- What a step keeps together: classes are told, and links and nodes stand as they should
-record AllKept (S : State) : Type 0 where
+pub record AllKept (S : State) : Type 0 where
   pub classes : ClassesKept S
   pub links : LinksAreKept S
   pub home : AllAtHome S
@@ -32,12 +32,16 @@ module _ (table : List Class) (act : Acting) where
   }
 
 -- every state
-pub reached_told : (table : List Class) (act : Acting) (seats : List Seat) (events : List Event) →
-    ClassesAreTold (reached table act seats events)
-reached_told table act seats events =
-    let all = holds_of_reached table act AllKept (all_kept table act) seats events (record {
+pub reached_all : (table : List Class) (act : Acting) (seats : List Seat) (events : List Event) →
+    AllKept (reached table act seats events)
+reached_all table act seats events =
+    holds_of_reached table act AllKept (all_kept table act) seats events (record {
       classes = opening_keeps table seats;
       links = links_kept.opening_keeps table seats;
       home = opening_home table seats;
-    }) in
-    all.classes.told
+    })
+
+-- so each tells classes
+pub reached_told : (table : List Class) (act : Acting) (seats : List Seat) (events : List Event) →
+    ClassesAreTold (reached table act seats events)
+reached_told table act seats events = (reached_all table act seats events).classes.told

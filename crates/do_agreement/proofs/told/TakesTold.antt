@@ -37,7 +37,7 @@ use Rattle.do_machine.specs.take.Receipt.{arrived, received, receiving_name}
 use Rattle.do_machine.specs.take.Requests.{admission, refusing, request}
 use Rattle.do_machine.specs.take.Take.{arrival, holding, method_call, root_call, take_effect}
 use Rattle.do_machine.specs.take.Take.{values_arrival}
-use Rattle.do_machine.proofs.follows.Taken.{admitted}
+use Rattle.do_facts.proofs.walk.Takes.{admitted}
 use Rattle.do_facts.proofs.Chains.{either}
 use Rattle.do_agreement.specs.AreTold.{AreTold}
 use Rattle.do_agreement.proofs.told.MessagesTold.{names_told}
