@@ -21,7 +21,8 @@ use std::alloc::AllocError;
 /// Empties the lists, and makes room in them for all that `leave` may tell once `more` further
 /// objects are stored and as many received.
 ///
-/// If memory runs out, neither list has room that can be counted on, and nothing else is changed.
+/// Neither list has less room than before. If memory runs out, that is all, and nothing else is
+/// changed.
 pub fn make_room(
     store: &Store,
     imports: &Imports,
@@ -33,6 +34,8 @@ pub fn make_room(
     ensures none_freed { freed.new.items ≡ [] }
     ensures none_left { left.new.items ≡ [] }
     ensures left { OnOk result (map.len imports.now.received + more ≤ vec_capacity left.new) }
+    ensures freed_kept { vec_capacity freed.old ≤ vec_capacity freed.new }
+    ensures left_kept { vec_capacity left.old ≤ vec_capacity left.new }
 {
     freed.clear();
     left.clear();
@@ -79,6 +82,8 @@ pub fn leave(
     ensures next { store.new.next ≡ store.old.next }
     ensures spare { store.new.spare ≡ store.old.spare }
     ensures room_left { imports.old.spare ≤ imports.new.spare }
+    ensures freed_room { vec_capacity freed.new ≡ vec_capacity freed.old }
+    ensures left_room { vec_capacity left.new ≡ vec_capacity left.old }
 {
     sweep_all(store, imports, freed);
     left.clear();

@@ -1,0 +1,2 @@
+pub mod ByHalves
+pub mod FirstOfPorts
