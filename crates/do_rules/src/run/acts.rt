@@ -97,8 +97,8 @@ impl<'a, N: Basis> Turn<'a, N> {
     fn outs_returned(&self, signature: &Signature) -> Result<Values, AllocError>
         ensures { IfOk result (λ vs. vs ≡ outs_of signature.now self.now.top.now.locals) }
     {
-        let locals = values_in(&self.top.locals)?;
-        outs_of(signature, &locals)
+        let outs = outs_of(signature, &self.top.locals)?;
+        values_in(&outs)
     }
 
     /// What is returned fits the result, if that is not void, and what comes out fits.

@@ -22,7 +22,7 @@ use std::alloc::{AllocError, Global};
 pub(crate) fn values_in(locals: &Frame) -> Result<Values, AllocError>
     ensures { IfOk result (λ values. values ≡ locals.now) }
 {
-    let mut values = Values::new(locals.allocator());
+    let mut values = Values::with_capacity(locals.allocator(), locals.len())?;
     for local in locals.as_slice() {
         values.push(copy_value(local.value())?)?;
     }

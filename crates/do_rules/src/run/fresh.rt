@@ -14,27 +14,25 @@ use std::alloc::{AllocError, Global};
 /// How many locals an invocation has.
 const LOCALS: usize = 16;
 
-/// Values as locals.
-pub(crate) fn as_locals(values: &Values) -> Result<Frame, AllocError>
-    ensures { IfOk result (λ locals. locals ≡ values.now) }
+/// Adds values as locals.
+fn add_values(locals: &mut Frame, values: &Values) -> Done
+    ensures { OnOk result (locals.new ≡ locals.old ++ values.now) }
 {
-    let mut locals = Frame::new(values.allocator());
     for value in values.as_slice() {
         locals.push(Held::new(copy_value(value)?))?;
     }
-    Ok(locals)
+    Ok(())
 }
 
-/// So many nils.
+/// Adds so many nils as locals.
 #[tactic(auto, using(crate::proofs::Padding::nil_steps))]
-fn nils(alloc: Global, count: usize) -> Result<Values, AllocError>
-    ensures { IfOk result (λ values. values ≡ replicate count Value.Nil) }
+fn add_nils(locals: &mut Frame, count: usize) -> Done
+    ensures { OnOk result (locals.new ≡ locals.old ++ replicate count Value.Nil) }
 {
-    let mut values = Values::new(alloc);
     for _at in 0..count {
-        values.push(Value::Nil)?;
+        locals.push(Held::new(Value::Nil))?;
     }
-    Ok(values)
+    Ok(())
 }
 
 /// Values in the first locals, and nil in the others.
@@ -42,9 +40,9 @@ fn first_locals(values: &Values) -> Result<Frame, AllocError>
     ensures { IfOk result (λ locals.
         locals ≡ values.now ++ replicate (16 - length values.now) Value.Nil) }
 {
-    let missing = LOCALS.saturating_sub(values.len());
-    let mut locals = as_locals(values)?;
-    locals.append(as_locals(&nils(values.allocator(), missing)?)?)?;
+    let mut locals = Frame::with_capacity(values.allocator(), LOCALS)?;
+    add_values(&mut locals, values)?;
+    add_nils(&mut locals, LOCALS.saturating_sub(values.len()))?;
     Ok(locals)
 }
 
@@ -96,6 +94,18 @@ pub(crate) fn begin(
 {
     let begun = fresh(object, method, reason, values)?;
     node.stack.insert(0, begun)
+}
+
+/// So many nils.
+#[tactic(auto, using(crate::proofs::Padding::nil_steps))]
+fn nils(alloc: Global, count: usize) -> Result<Values, AllocError>
+    ensures { IfOk result (λ values. values ≡ replicate count Value.Nil) }
+{
+    let mut values = Values::with_capacity(alloc, count)?;
+    for _at in 0..count {
+        values.push(Value::Nil)?;
+    }
+    Ok(values)
 }
 
 /// An object of a class as it is made, with nil slots; one whose class is not there has none.
