@@ -39,6 +39,7 @@ use Rattle.do_effects.specs.Taking.{CanFollow, ended_own, gone_own, granted_own,
 use Rattle.do_effects.specs.Taking.{takes}
 use Rattle.do_effects.specs.Tidy.{IsTidy}
 use Rattle.do_effects.proofs.Alone.{line_first}
+use Rattle.do_effects.proofs.ObjectsLeft.{few_pass}
 use Rattle.do_effects.proofs.TidyCounts.{kept_twice}
 use Rattle.do_effects.proofs.AskedNode.{granted_tidy, gone_tidy}
 
@@ -185,6 +186,12 @@ joined_length os o = go (has_object os o)
     go : (b : Bool) → length (cond b os (inserted object_lt o os)) ≤ length os + 1
     go true = omega arith
     go false = let e = longer in omega arith
+
+-- no more is asked for
+pub ended_asked : (granted : Bool) (w : Wanted) (p : Own) →
+    length (ended_own granted w p).node.asked ≤ length p.node.asked
+ended_asked true w p = few_pass (λ v. not (same_wanted w v)) p.node.asked
+ended_asked false w p = few_pass (λ v. not (same_wanted w v)) p.node.asked
 
 -- at most one object more is held
 pub ended_held : (granted : Bool) (w : Wanted) (p : Own) →

@@ -126,18 +126,22 @@ pub bounded_node : (needs : Needs) (before after : Core) (m : Node) →
     after.part.own ≡ record before.part.own { node = m } →
     length m.heap ≤ length before.part.own.node.heap + needs.objects →
     length m.held ≤ length before.part.own.node.held →
+    length m.asked ≤ length before.part.own.node.asked →
     before.streams.room ≤ after.streams.room + needs.waiting →
-    after.streams.classes ≡ before.streams.classes → IsBounded needs before after
-bounded_node needs before after m own heap held waiting classes =
+    after.streams.fixed ≡ before.streams.fixed → IsBounded needs before after
+bounded_node needs before after m own heap held asked waiting fixed =
     let h : length after.part.own.node.heap ≡ length m.heap =
     ap (λ (p : Own). length p.node.heap) own in
     let k : length after.part.own.node.held ≡ length m.held =
     ap (λ (p : Own). length p.node.held) own in
+    let a : length after.part.own.node.asked ≡ length m.asked =
+    ap (λ (p : Own). length p.node.asked) own in
     record {
       waiting = waiting;
       stored = omega arith;
       held = omega arith;
-      classes = classes;
+      asked = omega arith;
+      fixed = fixed;
     }
 
 -- a core did what an effect is of each run of its top invocation, and is tidy and within bounds
@@ -160,7 +164,8 @@ node_did e needs before after m tidy kept same own streams heap = record {
   tidy = subst IsTidy (sym own) (tidy_node before.part.own m kept tidy);
   within =
       let held = ap (λ os. length os) kept.held in
+      let asked = ap (λ ws. length ws) kept.asked in
       let room = ap (λ (s : Streamed). s.room) streams in
-      bounded_node needs before after m own heap (omega arith) (omega arith)
-      (ap (λ (s : Streamed). s.classes) streams);
+      bounded_node needs before after m own heap (omega arith) (omega arith) (omega arith)
+      (ap (λ (s : Streamed). s.fixed) streams);
 }

@@ -1,7 +1,7 @@
 -- How much a node frees and leaves.
 use Rattle.std.proofs.Common.{◌≡◌, ℕ, ◌≤◌, ◌==◌, Bool, true, false, cond, List, [], ◌∷◌, ◌++◌}
 use Rattle.std.proofs.Common.{length}
-use Rattle.std.proofs.Common.{ap, sym, subst, suc, arith}
+use Rattle.std.proofs.Common.{ap, sym, subst, suc, zero, arith}
 use Rattle.std.specs.Prelude.{filter, fold, map, not}
 use Rattle.std.specs.List.{list_any}
 use Rattle.std.proofs.lemmas.List.{append-nil, length-map}
@@ -10,11 +10,12 @@ use Rattle.do_base.specs.declared.events.shown.Shown.TheVariants as shows
 use Rattle.do_packet.specs.Met.{has_object}
 use Rattle.do_machine.specs.declared.item.Item.TheVariants as items
 use Rattle.do_machine.specs.State.{own}
-use Rattle.do_machine.specs.held.Kept.{kept}
+use Rattle.do_machine.specs.held.Kept.{kept, stays, struck, struck_by}
 use Rattle.do_machine.specs.held.Refers.{node_objects}
 use Rattle.do_base.specs.declared.events.shown.Shown.{Shown}
 use Rattle.do_machine.specs.Objects.{object_at}
 use Rattle.do_machine.specs.declared.node.Node.{Node}
+use Rattle.do_machine.specs.declared.node.Stored.{Stored}
 use Rattle.do_machine.specs.declared.state.Parcel.{Parcel}
 use Rattle.do_machine.specs.ends.Closing.{asked_of}
 use Rattle.do_export.specs.Counts.{Counts}
@@ -24,6 +25,7 @@ use Rattle.do_network.specs.Frames.{Posted, all_posted, posted}
 use Rattle.do_part.specs.Left.{given_up}
 use Rattle.do_network.specs.Links.{Outbox, sending}
 use Rattle.do_network.specs.Own.{Own, is_counted}
+use Rattle.do_effects.specs.Bounded.{HasNoMore}
 use Rattle.do_effects.specs.Doing.{Doing, cleared, moved}
 
 -- of a list at most all passes a test
@@ -55,6 +57,32 @@ few_left p =
     let m = record p.node { heap = kept (is_counted p) p.node } in
     few_made (λ (o : ObjectName). record { to = o.node; item = items.Left o.serial })
     (λ o. not (has_object (node_objects m) o)) p.node.held
+
+-- what is kept is not more than what it is kept of
+few_struck : (rounds : ℕ) (entry : ℕ → ℕ → Bool) (n : Node) (heap : List Stored) →
+    length (struck_by rounds entry n heap) ≤ length heap
+few_struck zero entry n heap = omega arith
+few_struck (suc rounds) entry n heap =
+    let fewer = struck entry n heap in
+    let few = few_struck rounds entry n fewer in
+    let pass = few_pass (stays entry n heap) heap in
+    elim (length fewer == length heap) as (λ b. length (elim b as (λ _. List Stored) [
+      | true ↦ heap
+      | false ↦ struck_by rounds entry n fewer
+    ]) ≤ length heap) [
+      | true ↦ omega arith
+      | false ↦ omega (arith, few, pass)
+    ]
+
+-- so a node that frees and leaves has no more than before
+pub left_fewer : (p : Own) → HasNoMore p.node (leaving (is_counted p) p.node).node
+left_fewer p =
+    let m = record p.node { heap = kept (is_counted p) p.node } in
+    record {
+      stored = few_struck (length p.node.heap) (is_counted p) p.node p.node.heap;
+      held = few_pass (has_object (node_objects m)) p.node.held;
+      asked = omega arith;
+    }
 
 -- what is shown and told is the move that leaves what nothing holds
 pub left_done : (p q : Own) (o : Outbox) (shown lines : List Shown) (posts : List Posted) →

@@ -38,6 +38,7 @@ use Rattle.do_effects.proofs.Alone.{IsPlain, KeepsCounts, does_tells, lends_none
 use Rattle.do_effects.proofs.Alone.{then_sends}
 use Rattle.do_effects.proofs.Did.{does_only}
 use Rattle.do_effects.proofs.Judged.{IsQuiet, quiet_takes}
+use Rattle.do_effects.proofs.ObjectsLeft.{few_pass}
 
 -- an exception that goes back names nothing
 pub raised_plain : (to number : ℕ) (e : Exc) → IsPlain to (items.Raised number e)
@@ -154,18 +155,10 @@ pub same_heap : (k : AnsweredCall) (a : Option Answer) (n : Node) →
 same_heap k None n = refl
 same_heap k (Some a) n = refl
 
--- not more passes than there is
-passing_length : (p : ObjectName → Bool) (os : List ObjectName) →
-    length (filter p os) ≤ length os
-passing_length p [] = omega arith
-passing_length p (o ∷ os) = go (p o) (passing_length p os)
-  where
-    -- whether the first passes or not
-    go : (b : Bool) → length (filter p os) ≤ length os →
-        length (cond b (o ∷ filter p os) (filter p os)) ≤ length (o ∷ os)
-    go true h = omega arith
-    go false h = omega arith
-
 -- no more is held once an end closed
 pub parted_held : (peer : ℕ) (n : Node) → length (parted peer n).held ≤ length n.held
-parted_held peer n = passing_length (λ o. not (o.node == peer)) n.held
+parted_held peer n = few_pass (λ o. not (o.node == peer)) n.held
+
+-- and no more is asked for
+pub parted_asked : (peer : ℕ) (n : Node) → length (parted peer n).asked ≤ length n.asked
+parted_asked peer n = few_pass (λ w. not (w.object.node == peer)) n.asked

@@ -8,9 +8,9 @@ use Rattle.do_effects.specs.declared.changing.Core.{Core}
 
 -- a core whose streams alone changed took no more than what was told
 pub told_within : (many : ℕ) (c : Core) (later : Streamed) →
-    c.streams.room ≤ later.room + many → later.classes ≡ c.streams.classes →
+    c.streams.room ≤ later.room + many → later.fixed ≡ c.streams.fixed →
     IsWithin (to_tell many) c (record { part = c.part; streams = later })
-told_within many c later room classes = record {
+told_within many c later room fixed = record {
   part = record {
     objects = omega arith;
     invocations = omega arith;
@@ -21,7 +21,7 @@ told_within many c later room classes = record {
   stored = omega arith;
   held = omega arith;
   asked = omega arith;
-  classes = classes;
+  fixed = fixed;
 }
 
 -- names that were received behind copies and names took no more than both did
@@ -42,5 +42,5 @@ names_within done more told many waiting copies a b c all lines first second = r
   stored = (let f = first.stored in let s = second.stored in omega (arith, f, s));
   held = (let f = first.held in let s = second.held in omega (arith, f, s, all));
   asked = (let f = first.asked in let s = second.asked in omega (arith, f, s, all));
-  classes = second.classes ∙ first.classes;
+  fixed = second.fixed ∙ first.fixed;
 }

@@ -56,7 +56,7 @@ pub record HasRoom (needs : Needs) (c : Core) : Type 0 where
   pub waiting : needs.waiting ≤ c.streams.room
 
 -- A core came of another and took no more: all other room is left, no more objects are stored, held
--- and asked for, and the links read by the same classes.
+-- and asked for, and the links read by the same classes, with as many places.
 pub record IsWithin (needs : Needs) (before after : Core) : Type 0 where
   pub part : PartKeepsRoom needs before.part.room after.part.room
   pub waiting : before.streams.room ≤ after.streams.room + needs.waiting
@@ -64,4 +64,4 @@ pub record IsWithin (needs : Needs) (before after : Core) : Type 0 where
       length after.part.own.node.heap ≤ length before.part.own.node.heap + needs.objects
   pub held : length after.part.own.node.held ≤ length before.part.own.node.held + needs.names
   pub asked : length after.part.own.node.asked ≤ length before.part.own.node.asked + needs.names
-  pub classes : after.streams.classes ≡ before.streams.classes
+  pub fixed : after.streams.fixed ≡ before.streams.fixed

@@ -6,6 +6,7 @@ ghost use Rattle.do_machine.specs.ends.Closing.{closing, parted};
 ghost use Rattle.do_network.specs.Links.{sending};
 ghost use Rattle.do_part.specs.Left.{given_up};
 ghost use Rattle.do_streams.specs.Streamed.{outbox};
+ghost use Rattle.do_effects.specs.Bounded.{HasNoMore};
 ghost use Rattle.do_effects.specs.Settled.{settle_posts};
 ghost use Rattle.do_effects.specs.Doing.{cleared, doing, does, moved};
 ghost use Rattle.do_effects.specs.Tidy.{IsTidy};
@@ -25,7 +26,7 @@ impl Core {
         ensures part { self.new.part ≡ self.old.part }
         ensures shown { self.new.streams.shown ≡ self.old.streams.shown }
         ensures room { self.old.streams.room ≤ self.new.streams.room + length settled.now }
-        ensures classes { self.new.streams.classes ≡ self.old.streams.classes }
+        ensures fixed { self.new.streams.fixed ≡ self.old.streams.fixed }
     {
         for token in settled {
             self.settle(*token);
@@ -45,7 +46,8 @@ impl Core {
         ensures tidy { IsTidy self.new.part.own }
         ensures room { self.old.streams.room
             ≤ self.new.streams.room + (length self.old.part.own.node.asked + 1) }
-        ensures classes { self.new.streams.classes ≡ self.old.streams.classes }
+        ensures fixed { self.new.streams.fixed ≡ self.old.streams.fixed }
+        ensures settled_room { vec_capacity settled.new ≡ vec_capacity settled.old }
     {
         settled.clear();
         self.part.close(peer, settled);
@@ -61,7 +63,7 @@ impl Core {
             ≡ self.old.streams.shown ++ free_shown self.old.part.own.node freed.now }
         ensures out { outbox self.new.streams ≡ outbox self.old.streams }
         ensures room { self.old.streams.room ≤ self.new.streams.room + length freed.now }
-        ensures classes { self.new.streams.classes ≡ self.old.streams.classes }
+        ensures fixed { self.new.streams.fixed ≡ self.old.streams.fixed }
     {
         let node = self.part.port();
         for freed_serial in freed {
@@ -77,7 +79,7 @@ impl Core {
         ensures out { outbox self.new.streams
             ≡ fold sending (outbox self.old.streams) (map given_up left.now) }
         ensures shown { self.new.streams.shown ≡ self.old.streams.shown }
-        ensures classes { self.new.streams.classes ≡ self.old.streams.classes }
+        ensures fixed { self.new.streams.fixed ≡ self.old.streams.fixed }
     {
         for one in left {
             let (oid, amount) = *one;
@@ -96,7 +98,10 @@ impl Core {
             ≤ self.old.streams.room }
         ensures moved { doing self.new ≡ moved (doing self.old) (cleared self.old.part.own) }
         ensures tidy { IsTidy self.new.part.own }
-        ensures classes { self.new.streams.classes ≡ self.old.streams.classes }
+        ensures fixed { self.new.streams.fixed ≡ self.old.streams.fixed }
+        ensures fewer { HasNoMore self.old.part.own.node self.new.part.own.node }
+        ensures freed_room { vec_capacity freed.new ≡ vec_capacity freed.old }
+        ensures left_room { vec_capacity left.new ≡ vec_capacity left.old }
     {
         self.part.leave(freed, left);
         self.show_freed(freed.as_slice());

@@ -1,10 +1,10 @@
 //! The ruling on an item that is taken, carried out.
 mod receiving;
 
-ghost use Rattle.std.specs.Prelude.{◌≡◌, ◌≤◌, ◌<◌, OnOk, OnErr, length, true, vec_capacity};
+ghost use Rattle.std.specs.Prelude.{◌≡◌, ◌≤◌, ◌<◌, IsOk, OnOk, OnErr, false, length, true, vec_capacity};
 ghost use Rattle.std.specs.List.{list_any};
 ghost use Rattle.do_effects.specs.Doing.{doing};
-ghost use Rattle.do_effects.specs.Taking.{CanTake, ended_own, is_granted, takes};
+ghost use Rattle.do_effects.specs.Taking.{CanTake, ended_own, is_granted, on_message, takes};
 ghost use Rattle.do_effects.specs.Taking.{taking_needs};
 ghost use Rattle.do_machine.specs.lend.Asking.{same_wanted};
 ghost use Rattle.do_effects.specs.Bounded.{IsBounded};
@@ -194,6 +194,7 @@ impl Core {
         ensures tidy { IsTidy self.new.part.own }
         ensures within { IsBounded (taking_needs self.old.part.own.node item.now Ruling.Closes)
             self.old self.new }
+        ensures settled_room { vec_capacity settled.new ≡ vec_capacity settled.old }
     {
         self.streams.show(line);
         self.close(from, settled);
@@ -204,7 +205,7 @@ impl Core {
     /// Carries out the ruling on an item that a peer sent, in room that was made before: the line
     /// of the item is shown, what it names is received, and then the ruling does what it does.
     ///
-    /// If memory runs out, nothing changes.
+    /// If memory runs out, which it can only for what comes in a message, nothing changes.
     pub fn rule(
         &mut self,
         from: NodeId,
@@ -221,6 +222,8 @@ impl Core {
         ensures tidy { IsTidy self.new.part.own }
         ensures within { IsBounded (taking_needs self.old.part.own.node item.now ruling)
             self.old self.new }
+        ensures settled_room { vec_capacity settled.new ≡ vec_capacity settled.old }
+        ensures sure { on_message ruling ≡ false → IsOk result }
     {
         match ruling {
             Ruling::Begins { copies, invocation } => {

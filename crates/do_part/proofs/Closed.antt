@@ -10,6 +10,7 @@ use Rattle.std.proofs.lemmas.Bool.{ltb-false, ltb-true}
 use Rattle.std.proofs.lemmas.Bool.Decides.{nat_tests}
 use Rattle.std.proofs.lemmas.List.Quantifiers.{position-Some}
 use Rattle.do_export.specs.Counts.{Counts, HasNoneFrom}
+use Rattle.do_ported.proofs.FirstOfPorts.{equal_either_way}
 use Rattle.do_part.specs.Seen.{own_of}
 use Rattle.do_part.specs.Sound.{IsSound, holders, uses}
 use Rattle.do_part.specs.declared.part.Part.TheInside.{Inside}
@@ -67,6 +68,11 @@ no_place peer (p ∷ ps) past = go (p == peer) past (no_place peer ps)
         → p ∷ ps ≡ cond (not b) (p ∷ other_ends peer ps) (other_ends peer ps)
     go true past later = absurd (omega (arith, past))
     go false past later = ap (λ l. p ∷ l) (later (omega (arith, past)))
+
+-- ports are compared either way round
+pub port_place : (peer : ℕ) (ends : List ℕ) →
+    position (λ p. peer == p) ends ≡ position (λ p. p == peer) ends
+port_place peer ends = λ j. position (λ p. equal_either_way peer p j) ends
 
 -- what is left of distinct peers without the place that a search found
 pub closed_is : (peer : ℕ) (ends : List ℕ) → IsDistinct (λ (p q : ℕ). p == q) ends

@@ -136,7 +136,7 @@ no_items [] e = refl
 no_items (x ∷ xs) e = absurd (omega (arith, e))
 
 -- what a part has that is new, but for what it holds, lent and asks for
-abbrev nothing_but : ℕ → List ℕ → List ObjectName → List Lend → List Wanted → Own
+abbrev pub nothing_but : ℕ → List ℕ → List ObjectName → List Lend → List Wanted → Own
 nothing_but node ends held lent asked = record {
   node = record {
     port = node;

@@ -14,6 +14,7 @@ use crate::holders::Holders;
 use do_base::{Items, NodeId, Peers};
 use do_export::Exports;
 use do_import::Imports;
+use do_ported::Ports;
 use do_stack::Stack;
 use do_store::Store;
 use std::alloc::{AllocError, Global};
@@ -31,7 +32,7 @@ pub struct Part {
     stack: Stack,
     root: Option<u64>,
     next_call: u64,
-    ends: Peers,
+    ends: Ports,
 }
 
 impl Model for Part {
@@ -87,7 +88,7 @@ impl Part {
             stack: Stack::new(alloc),
             root: None,
             next_call: 1,
-            ends,
+            ends: Ports::new(ends),
         })
     }
 }

@@ -6,3 +6,4 @@ pub mod NextSpelled
 pub mod OneFault
 pub mod Placed
 pub mod SpelledBytes
+pub mod WaitingFrames

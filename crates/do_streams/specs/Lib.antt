@@ -1,4 +1,5 @@
 pub mod Names
+pub mod Ordered
 pub mod Pieces
 pub mod Plain
 pub mod Reading

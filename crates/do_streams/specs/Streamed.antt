@@ -1,5 +1,5 @@
 -- What is seen of the streams between a site and its peers.
-use Rattle.std.specs.Prelude.{List, None, Option, Some, [], map, min, ℕ, ◌++◌, ◌∷◌}
+use Rattle.std.specs.Prelude.{List, None, Option, Some, [], length, map, min, ℕ, ◌++◌, ◌+◌, ◌∷◌}
 use Rattle.do_base.specs.declared.events.shown.Shown.{Shown}
 use Rattle.do_base.specs.lists.Reserved.{Reserved}
 use Rattle.do_network.specs.Frames.{Posted}
@@ -9,15 +9,20 @@ use Rattle.do_streams.specs.declared.end.End.{End}
 use Rattle.do_streams.specs.declared.end.Outgoing.{Outgoing}
 use Rattle.do_streams.specs.declared.spelled.Spelled.{Spelled}
 
+-- by how many classes frames are read, and how many frames, and lines as well, fit with no memory
+-- taken, those that wait included
+pub record Fixed : Type 0 where
+  pub classes : ℕ
+  pub places : ℕ
+
 -- the links of a site as they are behind all frames that wait, what is sent of these frames, the
--- lines that wait, how many more of either fit with no memory taken, and by how many classes frames
--- are read
+-- lines that wait, how many more of either fit with no memory taken, and what no step changes
 pub record Streamed : Type 0 where
   pub links : List Link
   pub frames : List Sending
   pub shown : List Shown
   pub room : ℕ
-  pub classes : ℕ
+  pub fixed : Fixed
 
 -- the link of an end, behind the frames that were fetched
 abbrev pub link_of : End → Link
@@ -40,6 +45,10 @@ abbrev pub spelled_first : Option Spelled → List Sending
 spelled_first None = []
 spelled_first (Some s) = sending_of s ∷ []
 
+-- how many fit into a queue, those that wait included
+abbrev pub all_places : {T : Type 0} → Reserved T → ℕ
+all_places r = length r.items + r.spare
+
 -- what is seen of ends, of what waits, and of its room
 abbrev pub streamed_of : List End → Option Spelled → Reserved Outgoing → Reserved Shown → ℕ →
     Streamed
@@ -50,7 +59,10 @@ streamed_of ends spelled frames shown classes =
       frames = spelled_first spelled ++ out.sent;
       shown = shown.items;
       room = min frames.spare shown.spare;
-      classes = classes;
+      fixed = record {
+        classes = classes;
+        places = min (all_places frames) (all_places shown);
+      };
     }
 
 -- the links of a site, and what waits for its peers

@@ -1,10 +1,9 @@
-ghost use Rattle.std.specs.Prelude.{◌≡◌, [], ◌==◌, ◌<◌, IfOk, IfSome, OnErr, OnOk, false, length};
-ghost use Rattle.std.specs.Prelude.{position, true};
+ghost use Rattle.std.specs.Prelude.{◌≡◌, [], IfOk, OnErr, OnOk, false, true};
 ghost use Rattle.do_frames.specs.Frames.{after_frame, frame_spelling};
 ghost use Rattle.do_frames.specs.Streams.{hello};
 
 use crate::names::Names;
-use do_base::{Items, NodeId, Text};
+use do_base::{NodeId, Text};
 use do_coder::Recent;
 use do_frames::{Frame, write_within};
 use std::alloc::{AllocError, Global};
@@ -32,14 +31,6 @@ pub struct Outgoing {
     pub to: NodeId,
     /// The frame.
     pub frame: Frame,
-}
-
-/// Where the end with a peer stands.
-pub fn end_at(ends: &Items<End>, peer: NodeId) -> Option<usize>
-    ensures index { result ≡ position (λ e. peer == e.peer) ends.now }
-    ensures within { IfSome result (λ at. at < length ends.now) }
-{
-    ends.as_slice().iter().position(|end| end.peer == peer)
 }
 
 /// The greeting, as bytes.

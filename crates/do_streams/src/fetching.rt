@@ -20,6 +20,18 @@ fn is_readable(next: &Spelled, table: &ClassTable, me: NodeId) -> bool
     }
 }
 
+/// Appends bytes. An empty text shares them.
+fn append(bytes: &mut Text, more: &Text) -> Result<(), AllocError>
+    ensures ok { OnOk result (bytes.new ≡ bytes.old ++ more.now) }
+    ensures err { OnErr result (bytes.new ≡ bytes.old) }
+{
+    if bytes.is_empty() {
+        *bytes = more.clone()?;
+        return Ok(());
+    }
+    bytes.push_bytes(more.as_slice())
+}
+
 /// Appends the bytes of what a port sends, and tells the peer that it goes to.
 ///
 /// An error means that memory ran out, or that what is sent has no spelling that its peer can read;
@@ -39,6 +51,6 @@ pub fn fetch(
     if !is_readable(next, table, me) {
         return Err(AllocError);
     }
-    bytes.push_bytes(next.bytes.as_slice())?;
+    append(bytes, &next.bytes)?;
     Ok(next.to)
 }

@@ -1,9 +1,10 @@
 //! A frame of a peer that is read.
-ghost use Rattle.std.specs.Prelude.{◌≡◌, IfOk, IfSome, List, None, false, length};
+ghost use Rattle.std.specs.Prelude.{◌≡◌, ◌≢◌, IfErr, IfOk, IfSome, List, None, false, length, true};
 ghost use Rattle.do_coder.specs.declared.recent.pair.Pair.{Pair};
 ghost use Rattle.do_grammar.specs.Grammar.{IsBytes};
 ghost use Rattle.do_frames.specs.Frames.{after_frame, kind_of};
-ghost use Rattle.do_frames.specs.Kinds.{kind_number};
+ghost use Rattle.do_frames.specs.declared.fault.RawFault.TheVariants.{Memory};
+ghost use Rattle.do_frames.specs.Kinds.{kind_number, numbers_alone};
 ghost use Rattle.do_network.specs.Frames.{read_frame};
 ghost use Rattle.do_streams.specs.Reading.{AreKnown, IsRead, IsReading};
 ghost use Rattle.do_streams.specs.Plain.{names_objects};
@@ -51,6 +52,7 @@ fn read_by(
     ensures after { IfOk result (λ f. names.new ≡ after_frame names.old f) }
     ensures kind { IfOk result (λ f. kind_number (kind_of f) ≡ raw.now.kind) }
     ensures known { AreKnown (length table.now) names.new }
+    ensures no_memory { numbers_alone raw.now.kind ≡ true → IfErr result (λ fault. fault ≢ Memory) }
 {
     let _classes = table.count();
     let _few = names.len();
@@ -93,6 +95,7 @@ pub fn read_plain(
     ensures read { (names : List Pair)
         → IsReading names (read_frame table.now from to names raw.now) result }
     ensures known { IfOk result (λ r. r.names ≡ None) }
+    ensures no_memory { numbers_alone raw.now.kind ≡ true → IfErr result (λ fault. fault ≢ Memory) }
 {
     let mut none = Recent::new(alloc);
     match read_by(alloc, table, from, to, &mut none, raw) {

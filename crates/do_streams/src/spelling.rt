@@ -1,18 +1,20 @@
 //! The oldest frame that waits, spelled.
-ghost use Rattle.std.specs.Prelude.{◌≡◌, ◌≤◌, ◌<◌, ◌+◌, ◌++◌, ◌∷◌, ◌==◌, [], IfOk, IsNone, List};
+ghost use Rattle.std.specs.Prelude.{◌≡◌, ◌≤◌, ◌<◌, ◌+◌, ◌++◌, ◌∷◌, ◌==◌, [], IfOk, IfSome, IsNone, List};
 ghost use Rattle.std.specs.Prelude.{MatchOption, None, OnErr, length};
 ghost use Rattle.std.specs.Prelude.{OnOk, Some, position, slice_get, true, ℕ};
 ghost use Rattle.do_coder.specs.declared.recent.pair.Pair.{Pair};
 ghost use Rattle.do_frames.specs.Frames.{frame_spelling, raw};
 ghost use Rattle.do_network.specs.Links.{Framed, Greeting};
+ghost use Rattle.do_streams.specs.Ordered.{AllPlaced, ArePorts};
 ghost use Rattle.do_streams.specs.Reading.{AllKnown};
-ghost use Rattle.do_streams.specs.Streamed.{outbox_of, sending_of, spelled_first};
+ghost use Rattle.do_streams.specs.Streamed.{all_places, outbox_of, sending_of, spelled_first};
 ghost use Rattle.do_streams.specs.declared.end.End.{End};
 ghost use Rattle.do_streams.specs.declared.end.Outgoing.{Outgoing};
 
-use crate::end::{End, Outgoing, end_at, greeting};
+use crate::end::{End, Outgoing, greeting};
 use crate::spelled::Spelled;
 use do_base::{Items, Reserved, Text};
+use do_ported::Ports;
 use std::alloc::{AllocError, Global};
 
 /// Takes out the oldest frame that waits.
@@ -23,14 +25,6 @@ fn take_front(frames: &mut Reserved<Outgoing>) -> Option<Outgoing>
     frames.pop_front()
 }
 
-/// Drops the oldest frame that waits.
-fn skip_front(frames: &mut Reserved<Outgoing>)
-    ensures { (x : Outgoing) → slice_get frames.old.items 0 ≡ Some x
-        → (frames.old.items ≡ x ∷ frames.new.items) × (frames.new.spare ≡ frames.old.spare + 1) }
-{
-    let _dropped = take_front(frames);
-}
-
 /// Whether the greeting over an end was fetched.
 fn is_greeted(ends: &Items<End>, at: usize) -> bool
     requires { at < length ends.now }
@@ -39,23 +33,17 @@ fn is_greeted(ends: &Items<End>, at: usize) -> bool
     ends.as_slice()[at].greeted
 }
 
-/// Where the end stands of the peer to which the oldest frame goes that waits. Frames to a peer
-/// with which there is no link are taken out before.
-fn next_end(ends: &Items<End>, frames: &mut Reserved<Outgoing>) -> Option<usize>
-    ensures same { outbox_of ends.now frames.new.items ≡ outbox_of ends.now frames.old.items }
-    ensures spare { frames.old.spare ≤ frames.new.spare }
-    ensures which { MatchOption result (frames.new.items ≡ [])
-        (λ at. (x : Outgoing) × (slice_get frames.new.items 0 ≡ Some x)
-        × (position (λ e. x.to == e.peer) ends.now ≡ Some at)) }
+/// Where the end stands of the peer to which the oldest frame goes that waits. None exactly where
+/// none waits.
+fn next_end(ports: &Ports, frames: &Reserved<Outgoing>) -> Option<usize>
+    requires { AllPlaced ports.now frames.now.items }
+    ensures which { MatchOption result (frames.now.items ≡ [])
+        (λ at. (x : Outgoing) × (slice_get frames.now.items 0 ≡ Some x)
+        × (position (λ p. x.to == p) ports.now ≡ Some at)) }
+    ensures within { IfSome result (λ at. at < length ports.now) }
 {
-    while let Some(next) = frames.front() {
-        let at = end_at(ends, next.to);
-        if at.is_some() {
-            return at;
-        }
-        skip_front(frames);
-    }
-    None
+    let next = frames.front()?;
+    ports.place(next.to)
 }
 
 /// Spells the greeting of the stream over an end, which is greeted then.
@@ -92,9 +80,12 @@ fn spelled_frame(next: Outgoing, bytes: Text) -> Spelled
 /// exactly where no frame waits. If memory runs out, what waits is as before.
 fn spell_next(
     alloc: Global,
+    ports: &Ports,
     ends: &mut Items<End>,
     frames: &mut Reserved<Outgoing>,
 ) -> Result<Option<Spelled>, AllocError>
+    requires ordered { ArePorts ports.now ends.old }
+    requires placed { AllPlaced ports.now frames.old.items }
     ensures links { (outbox_of ends.new frames.new.items).links
         ≡ (outbox_of ends.old frames.old.items).links }
     ensures sent { IfOk result (λ s. (outbox_of ends.old frames.old.items).sent
@@ -103,9 +94,12 @@ fn spell_next(
     ensures err { OnErr result ((outbox_of ends.new frames.new.items).sent
         ≡ (outbox_of ends.old frames.old.items).sent) }
     ensures spare { frames.old.spare ≤ frames.new.spare }
+    ensures places { all_places frames.new ≡ all_places frames.old }
     ensures known { (classes : ℕ) → AllKnown classes ends.old → AllKnown classes ends.new }
+    ensures ordered { ArePorts ports.now ends.new }
+    ensures placed { AllPlaced ports.now frames.new.items }
 {
-    let Some(at) = next_end(ends, frames) else {
+    let Some(at) = next_end(ports, frames) else {
         return Ok(None);
     };
     if !is_greeted(ends, at) {
@@ -126,19 +120,26 @@ fn spell_next(
 pub fn spell_if_none(
     alloc: Global,
     spelled: &mut Option<Spelled>,
+    ports: &Ports,
     ends: &mut Items<End>,
     frames: &mut Reserved<Outgoing>,
 ) -> Result<(), AllocError>
+    requires ordered { ArePorts ports.now ends.old }
+    requires placed { AllPlaced ports.now frames.old.items }
     ensures links { (outbox_of ends.new frames.new.items).links
         ≡ (outbox_of ends.old frames.old.items).links }
     ensures sent { spelled_first spelled.new ++ (outbox_of ends.new frames.new.items).sent
         ≡ spelled_first spelled.old ++ (outbox_of ends.old frames.old.items).sent }
     ensures none { OnOk result (spelled.new ≡ None → frames.new.items ≡ []) }
     ensures spare { frames.old.spare ≤ frames.new.spare }
+    ensures places { all_places frames.new ≡ all_places frames.old }
     ensures known { (classes : ℕ) → AllKnown classes ends.old → AllKnown classes ends.new }
+    ensures ordered { ArePorts ports.now ends.new }
+    ensures placed { AllPlaced ports.now frames.new.items }
 {
-    if spelled.is_none() {
-        *spelled = spell_next(alloc, ends, frames)?;
+    if spelled.is_some() || frames.is_empty() {
+        return Ok(());
     }
+    *spelled = spell_next(alloc, ports, ends, frames)?;
     Ok(())
 }

@@ -2,7 +2,7 @@
 mod reading;
 
 ghost use Rattle.std.specs.Prelude.{◌≡◌, ◌≤◌, ◌+◌, ◌<◌, ◌++◌, ◌∷◌, [], IfOk, IfSome, MatchOption};
-ghost use Rattle.std.specs.Prelude.{None, OnErr, OnOk, map};
+ghost use Rattle.std.specs.Prelude.{◌↔◌, IsTrue, None, OnErr, OnOk, map};
 ghost use Rattle.do_network.specs.Links.{Sending, piece_bytes, sending};
 ghost use Rattle.do_network.specs.Net.{opening_link};
 ghost use Rattle.do_network.specs.Spelled.{IsSpelledSending};
@@ -15,16 +15,19 @@ use crate::spelling::spell_if_none;
 use do_base::{Items, NodeId, Peers, Reserved, Shown, Text};
 use do_class::ClassTable;
 use do_frames::Frame;
+use do_ported::Ports;
 use std::alloc::{AllocError, Global};
 use std::marker::Model;
 
 /// The streams between a site and its peers, and the lines that it shows.
 ///
 /// Contracts see the links as they are behind all frames that wait, what is sent of these frames,
-/// the lines that wait, the room left, and by how many classes frames are read. A frame is spelled
-/// when it is fetched, and not before: so posting it takes no memory but its place.
+/// the lines that wait, the room left, and what only `reserve` changes: all the places that there
+/// are, and by how many classes frames are read. A frame is spelled when it is fetched, and not
+/// before: so posting it takes no memory but its place, which is room again once it is fetched.
 #[derive(Drop)]
 pub struct Streams {
+    ports: Ports,
     ends: Items<End>,
     spelled: Option<Spelled>,
     frames: Reserved<Outgoing>,
@@ -36,7 +39,7 @@ impl Model for Streams {
     ghost use Rattle.std.specs.Coded.{codes};
     ghost use Rattle.do_base.specs.contracts.events.shown.Shown as line;
     ghost use Rattle.do_class.specs.contracts.packet.Part as part;
-    ghost use Rattle.do_streams.specs.Reading.{AllKnown};
+    ghost use Rattle.do_streams.specs.Ordered.{AreOrdered};
     ghost use Rattle.do_streams.specs.Streamed.{Streamed, streamed_of};
 
     ghost Value = { Streamed };
@@ -45,7 +48,7 @@ impl Model for Streams {
 
     ghost view = { λ s. streamed_of s.ends s.spelled s.frames s.shown s.classes };
 
-    ghost invariant = { λ s. AllKnown s.classes s.ends };
+    ghost invariant = { λ s. AreOrdered s.classes s.ports s.ends s.frames.items };
 }
 
 /// The ends of peers, before anything was sent or read.
@@ -75,11 +78,13 @@ impl Streams {
           frames = [];
           shown = [];
           room = 0;
-          classes = classes;
+          fixed = record { classes = classes; places = 0 };
         }) }
     {
         let ends = opening_ends(alloc, peers)?;
+        let ports = Ports::new(Items::from_slice(alloc, peers.as_slice())?);
         Ok(Streams {
+            ports,
             ends,
             spelled: None,
             frames: Reserved::new(alloc),
@@ -92,9 +97,13 @@ impl Streams {
     ///
     /// If memory runs out, what waits is unchanged.
     pub fn reserve(&mut self, more: usize) -> Result<(), AllocError>
-        ensures same { self.new ≡ record self.old { room = self.new.room } }
+        ensures same { self.new
+            ≡ record self.old { room = self.new.room; fixed = self.new.fixed } }
         ensures ok { OnOk result (more ≤ self.new.room) }
         ensures kept { self.old.room ≤ self.new.room }
+        ensures classes { self.new.fixed.classes ≡ self.old.fixed.classes }
+        ensures places { self.old.fixed.places ≤ self.new.fixed.places }
+        ensures most { self.new.room ≤ self.new.fixed.places }
     {
         self.frames.reserve(more)?;
         self.shown.reserve(more)
@@ -108,8 +117,11 @@ impl Streams {
             ≡ sending (outbox self.old) (record { to = to; frame = frame }) }
         ensures shown { self.new.shown ≡ self.old.shown }
         ensures room { self.old.room ≤ self.new.room + 1 }
-        ensures classes { self.new.classes ≡ self.old.classes }
+        ensures fixed { self.new.fixed ≡ self.old.fixed }
     {
+        if !self.ports.has(to) {
+            return;
+        }
         self.frames.post(Outgoing { to, frame });
     }
 
@@ -119,7 +131,7 @@ impl Streams {
         ensures shown { self.new.shown ≡ self.old.shown ++ line ∷ [] }
         ensures sent { outbox self.new ≡ outbox self.old }
         ensures room { self.old.room ≤ self.new.room + 1 }
-        ensures classes { self.new.classes ≡ self.old.classes }
+        ensures fixed { self.new.fixed ≡ self.old.fixed }
     {
         self.shown.post(line);
     }
@@ -144,12 +156,18 @@ impl Streams {
         ensures links { self.new.links ≡ self.old.links }
         ensures shown { self.new.shown ≡ self.old.shown }
         ensures room { self.old.room ≤ self.new.room }
-        ensures classes { self.new.classes ≡ self.old.classes }
+        ensures fixed { self.new.fixed ≡ self.old.fixed }
         ensures err { OnErr result
             ((self.new.frames ≡ self.old.frames) × (bytes.new ≡ bytes.old)) }
     {
         let alloc = bytes.allocator();
-        spell_if_none(alloc, &mut self.spelled, &mut self.ends, &mut self.frames)?;
+        spell_if_none(
+            alloc,
+            &mut self.spelled,
+            &self.ports,
+            &mut self.ends,
+            &mut self.frames,
+        )?;
         let Some(next) = &self.spelled else {
             return Ok(None);
         };
@@ -165,8 +183,22 @@ impl Streams {
             (λ line. self.old.shown ≡ line ∷ self.new.shown) }
         ensures sent { outbox self.new ≡ outbox self.old }
         ensures room { self.old.room ≤ self.new.room }
-        ensures classes { self.new.classes ≡ self.old.classes }
+        ensures fixed { self.new.fixed ≡ self.old.fixed }
     {
         self.shown.pop_front()
+    }
+
+    /// Whether all was fetched: no frame waits, and no line. All places are room then.
+    pub fn is_fetched(&self) -> bool
+        ensures value { IsTrue result ↔ ((self.now.frames ≡ []) × (self.now.shown ≡ [])) }
+        ensures room { IsTrue result → self.now.room ≡ self.now.fixed.places }
+    {
+        if self.spelled.is_some() {
+            return false;
+        }
+        if !self.frames.is_empty() {
+            return false;
+        }
+        self.shown.is_empty()
     }
 }

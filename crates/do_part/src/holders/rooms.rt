@@ -20,6 +20,10 @@ impl Holders {
         ensures names { OnOk result
             (names ≤ min self.new.imports.spare (most_names - self.new.names)) }
     {
+        // Most steps need none of either.
+        if objects == 0 && names == 0 {
+            return Ok(());
+        }
         let next = self.store.next_serial();
         let serials = SERIALS.saturating_sub(next);
         let counts = NAMES.saturating_sub(self.names);

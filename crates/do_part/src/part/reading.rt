@@ -21,7 +21,7 @@ use std::alloc::{AllocError, Global};
 impl Part {
     /// Where what is read of the part takes its memory.
     pub fn allocator(&self) -> Global {
-        self.ends.allocator()
+        self.ends.list().allocator()
     }
 
     /// The node's port.
@@ -35,14 +35,14 @@ impl Part {
     pub fn ends(&self) -> &Peers
         ensures { result.now ≡ self.now.own.node.open_to }
     {
-        &self.ends
+        self.ends.list()
     }
 
     /// Whether the end towards a peer is open.
     pub fn is_open(&self, peer: NodeId) -> bool
         ensures { result ≡ is_open self.now.own.node peer }
     {
-        self.ends.as_slice().iter().any(|other| *other == peer)
+        self.ends.has(peer)
     }
 
     /// The serial of the root.

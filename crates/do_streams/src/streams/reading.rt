@@ -1,44 +1,56 @@
 //! Frames of peers that are read, and the peers.
-ghost use Rattle.std.specs.Prelude.{◌≡◌, IfOk, IfSome, length, map};
+ghost use Rattle.std.specs.Prelude.{◌≡◌, ◌≢◌, IfErr, IfOk, IfSome, length, map, true};
+ghost use Rattle.do_frames.specs.declared.fault.RawFault.TheVariants.{Memory};
 ghost use Rattle.do_frames.specs.declared.frame.Frame.{Frame};
 ghost use Rattle.do_frames.specs.Frames.{after_frame};
+ghost use Rattle.do_frames.specs.Kinds.{numbers_alone};
 ghost use Rattle.do_network.specs.Frames.{read_frame};
 ghost use Rattle.do_network.specs.Links.{change_link};
+ghost use Rattle.do_streams.specs.Ordered.{ArePorts};
 ghost use Rattle.do_streams.specs.Reading.{AllKnown, AreKnown, IsReadBy, IsReading, names_of};
 ghost use Rattle.do_streams.specs.Streamed.{link_of};
 
 use super::Streams;
-use crate::end::{End, end_at};
+use crate::end::End;
 use crate::reading::{Reading, names_objects, read_plain, read_with_names};
 use do_base::{Items, NodeId, Peers};
 use do_class::ClassTable;
 use do_coder::Recent;
 use do_frames::{RawFault, RawFrame};
+use do_ported::Ports;
 use std::alloc::AllocError;
 
 /// Hands out the table of the names that a peer's frames named lately, which stay as they are; an
 /// empty one where there is no link with it.
-fn hand_out_names(ends: &mut Items<End>, from: NodeId, classes: usize) -> Result<Recent, AllocError>
-    requires { AllKnown classes ends.old }
+fn hand_out_names(
+    ports: &Ports,
+    ends: &mut Items<End>,
+    from: NodeId,
+    classes: usize,
+) -> Result<Recent, AllocError>
+    requires ordered { ArePorts ports.now ends.old }
+    requires known { AllKnown classes ends.old }
     ensures names { IfOk result (λ names. names ≡ names_of (map link_of ends.old) from) }
     ensures known { IfOk result (λ names. AreKnown classes names) }
     ensures same { ends.new ≡ ends.old }
 {
-    match end_at(ends, from) {
+    match ports.place(from) {
         Some(at) => ends.at_mut(at).hand_out_names(),
         None => Ok(Recent::new(ends.allocator())),
     }
 }
 
 /// Puts the names that a peer's frames named lately in place of those before.
-fn put_names(ends: &mut Items<End>, from: NodeId, names: Recent, classes: usize)
+fn put_names(ports: &Ports, ends: &mut Items<End>, from: NodeId, names: Recent, classes: usize)
+    requires ordered { ArePorts ports.now ends.old }
     requires known { AllKnown classes ends.old }
     requires fit { AreKnown classes names }
     ensures ends { map link_of ends.new
         ≡ change_link from (λ l. record l { read = names }) (map link_of ends.old) }
     ensures known { AllKnown classes ends.new }
+    ensures still { ArePorts ports.now ends.new }
 {
-    let Some(at) = end_at(ends, from) else {
+    let Some(at) = ports.place(from) else {
         return;
     };
     ends.at_mut(at).put_names(names);
@@ -60,7 +72,8 @@ impl Streams {
     /// they are kept: so a frame that was read can be dropped, and nothing is seen of that.
     ///
     /// `BadFrame` comes exactly where the payload spells no frame of its kind, and has the first
-    /// byte with which none goes on. `Memory` comes where memory runs out.
+    /// byte with which none goes on. `Memory` comes where memory runs out, so for no frame that
+    /// holds numbers alone, as a `Release`, a `Settle` and a `Shutdown` do.
     pub fn read(
         &mut self,
         table: &ClassTable,
@@ -68,18 +81,20 @@ impl Streams {
         to: NodeId,
         raw: &RawFrame,
     ) -> Result<Reading, RawFault>
-        requires { self.old.classes ≡ length table.now }
+        requires { self.old.fixed.classes ≡ length table.now }
         ensures read { IsReading (names_of self.old.links from)
             (read_frame table.now from to (names_of self.old.links from) raw.now) result }
         ensures known { IfOk result (λ r. IfSome r.names (λ names.
-            AreKnown self.old.classes names)) }
+            AreKnown self.old.fixed.classes names)) }
+        ensures no_memory { numbers_alone raw.now.kind ≡ true
+            → IfErr result (λ fault. fault ≢ Memory) }
         ensures same { self.new ≡ self.old }
     {
         let alloc = self.ends.allocator();
         if !names_objects(raw.kind) {
             return read_plain(alloc, table, from, to, raw);
         }
-        let Ok(names) = hand_out_names(&mut self.ends, from, self.classes) else {
+        let Ok(names) = hand_out_names(&self.ports, &mut self.ends, from, self.classes) else {
             return Err(RawFault::Memory);
         };
         read_with_names(alloc, table, from, to, names, raw)
@@ -87,7 +102,7 @@ impl Streams {
 
     /// Keeps the names of a frame of a peer that was read, for which no memory is taken.
     pub fn keep_read(&mut self, from: NodeId, names: Option<Recent>)
-        requires { IfSome names (λ later. AreKnown self.old.classes later) }
+        requires { IfSome names (λ later. AreKnown self.old.fixed.classes later) }
         ensures links { (frame : Frame) → IsReadBy (names_of self.old.links from) frame names
             → self.new.links ≡ change_link from (λ l. record l { read = after_frame l.read frame })
             self.old.links }
@@ -96,7 +111,7 @@ impl Streams {
         let Some(later) = names else {
             return;
         };
-        put_names(&mut self.ends, from, later, self.classes);
+        put_names(&self.ports, &mut self.ends, from, later, self.classes);
     }
 
     /// The peers with which there are links, in their order.

@@ -1,6 +1,6 @@
 //! The end of a peer: all that a part has with it.
 ghost use Rattle.std.specs.Prelude.{◌≡◌, ◌≤◌, ◌+◌, ◌++◌, ◌∷◌, [], ◌==◌, not, true, filter, length};
-ghost use Rattle.std.specs.Prelude.{ℕ, position, vec_len};
+ghost use Rattle.std.specs.Prelude.{ℕ, vec_len};
 ghost use Rattle.std.specs.Prelude.{map as each, MatchOption, vec_capacity};
 ghost use Rattle.std.specs.FinMap as map;
 ghost use Rattle.do_export.specs.Counts.{others_of, HasNoneFrom, IsLowestFrom};
@@ -14,14 +14,7 @@ ghost use Rattle.do_part.specs.Rooting.{held_of};
 ghost use Rattle.do_part.specs.Parting.{without_asks, without_links};
 
 use crate::part::Part;
-use do_base::{NodeId, Peers, Token};
-
-/// The first place of a port among ports. None exactly where it is not there.
-fn place_of(ports: &Peers, port: NodeId) -> Option<usize>
-    ensures { result ≡ position (λ p. p == port) ports.now }
-{
-    ports.as_slice().iter().position(|other| *other == port)
-}
+use do_base::{NodeId, Token};
 
 impl Part {
     /// Ends all that the part has with a peer, whose end is open, and closes the end.
@@ -156,7 +149,7 @@ impl Part {
         } }
         ensures room { self.new.room ≡ self.old.room }
     {
-        let place = place_of(&self.ends, peer);
+        let place = self.ends.place(peer);
         if let Some(at) = place {
             self.ends.remove(at);
         }

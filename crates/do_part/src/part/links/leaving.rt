@@ -32,6 +32,8 @@ impl Part {
         ensures invocations { self.new.room.invocations ≡ self.old.room.invocations }
         ensures names { self.old.room.names ≤ self.new.room.names }
         ensures entries { self.new.room.entries ≡ self.old.room.entries }
+        ensures freed_room { vec_capacity freed.new ≡ vec_capacity freed.old }
+        ensures left_room { vec_capacity left.new ≡ vec_capacity left.old }
     {
         self.holders.imports.counts_are_tied();
         let _entries = self.exports.len();
@@ -48,7 +50,8 @@ impl Part {
     /// Empties the lists, and makes room in them for all that `leave` may tell once `more` further
     /// objects are stored and as many received.
     ///
-    /// If memory runs out, neither list has room that can be counted on, and the part is unchanged.
+    /// Neither list has less room than before, and the part is unchanged. If memory runs out, that
+    /// is all.
     pub fn make_room_to_leave(
         &self,
         more: u64,
@@ -59,6 +62,8 @@ impl Part {
             (length self.now.own.node.heap + more ≤ vec_capacity freed.new) }
         ensures left { OnOk result
             (length self.now.own.node.held + more ≤ vec_capacity left.new) }
+        ensures freed_kept { vec_capacity freed.old ≤ vec_capacity freed.new }
+        ensures left_kept { vec_capacity left.old ≤ vec_capacity left.new }
         ensures none_freed { freed.new.items ≡ [] }
         ensures none_left { left.new.items ≡ [] }
     {

@@ -6,11 +6,13 @@ use Rattle.do_frames.specs.Frames.{frame_spelling, raw}
 use Rattle.do_network.specs.Links.{Framed, Outbox}
 use Rattle.do_streams.specs.declared.end.End.{End}
 use Rattle.do_streams.specs.declared.end.Outgoing.{Outgoing}
+use Rattle.do_streams.specs.Ordered.{AllPlaced}
 use Rattle.do_streams.specs.Reading.{AllKnown, AreKnown}
 use Rattle.do_streams.specs.Streamed.{outbox_of, sending_of}
 use Rattle.do_streams.proofs.NextSpelled.{SendsFirst, begins_with, frame_next, greeting_next}
 use Rattle.do_streams.proofs.LinksRead.{all_at, all_set}
 use Rattle.do_streams.proofs.Placed.{on_err, one_front, set_same}
+use Rattle.do_streams.proofs.WaitingFrames.{as_many, end_at, places_popped, ports_of_set}
 use Rattle.do_streams.proofs.spelling.spell_next.Goals.{After-spelled_frame, In_ok-spell_greeting}
 use Rattle.do_streams.proofs.spelling.spell_next.Goals as goal
 
@@ -22,31 +24,42 @@ stays ends was mid at e f same there is =
     ap (λ (v : End). outbox_of (slice_set ends at v) mid) is
     ∙ ap (λ (ds : List End). outbox_of ds mid) (set_same ends at e there) ∙ same
 
+-- there is an end for each port
+pub is_greeted-requires : goal.is_greeted-requires
+is_greeted-requires c =
+    as_many c.args.ports.now c.args.ends.now c.requires.ordered c.in-Some.at c.in-Some.ensures.within
+
+pub at_mut-requires : goal.at_mut-requires
+at_mut-requires c =
+    as_many c.args.ports.now c.args.ends.now c.requires.ordered c.in-Some.at c.in-Some.ensures.within
+
 -- where the greeting is not spelled the links are as before
 pub returns-in_err-spell_greeting-clause-links : goal.returns-in_err-spell_greeting-clause-links
 returns-in_err-spell_greeting-clause-links c =
     ap (λ (o : Outbox). o.links) (stays c.args.ends.now c.args.frames.now.items
-    c.next_end.new.frames.items c.in-Some.at c.at_mut.result.now c.spell_greeting.new.end
-    c.next_end.ensures.same c.at_mut.ensures.value c.in_err-spell_greeting.ensures.err)
+    c.args.frames.now.items c.in-Some.at c.at_mut.result.now c.spell_greeting.new.end
+    refl c.at_mut.ensures.value c.in_err-spell_greeting.ensures.err)
 
 -- and so is what is sent
 pub returns-in_err-spell_greeting-clause-err : goal.returns-in_err-spell_greeting-clause-err
 returns-in_err-spell_greeting-clause-err c = on_err c.from_residual.result
     (ap (λ (o : Outbox). o.sent) (stays c.args.ends.now c.args.frames.now.items
-    c.next_end.new.frames.items c.in-Some.at c.at_mut.result.now c.spell_greeting.new.end
-    c.next_end.ensures.same c.at_mut.ensures.value c.in_err-spell_greeting.ensures.err))
+    c.args.frames.now.items c.in-Some.at c.at_mut.result.now c.spell_greeting.new.end
+    refl c.at_mut.ensures.value c.in_err-spell_greeting.ensures.err))
 
 -- the greeting comes before all else that is sent
 greets_first : (c : In_ok-spell_greeting) →
     SendsFirst (outbox_of c.args.ends.now c.args.frames.now.items)
     (outbox_of (slice_set c.args.ends.now c.in-Some.at c.spell_greeting.new.end)
-    c.next_end.new.frames.items) (sending_of c.in_ok-spell_greeting.field-0)
+    c.args.frames.now.items) (sending_of c.in_ok-spell_greeting.field-0)
 greets_first c = greeting_next c.args.ends.now
     (slice_set c.args.ends.now c.in-Some.at c.spell_greeting.new.end) c.args.frames.now.items
-    c.next_end.new.frames.items c.in-Some.ensures.which.0 (drop 1 c.next_end.new.frames.items)
-    c.in-Some.at c.at_mut.result.now c.spell_greeting.new.end c.next_end.ensures.same
-    (begins_with c.next_end.new.frames.items c.in-Some.ensures.which.0
-    c.in-Some.ensures.which.1) c.in-Some.ensures.which.2 c.at_mut.ensures.value refl
+    c.args.frames.now.items c.in-Some.ensures.which.0 (drop 1 c.args.frames.now.items)
+    c.in-Some.at c.at_mut.result.now c.spell_greeting.new.end refl
+    (begins_with c.args.frames.now.items c.in-Some.ensures.which.0
+    c.in-Some.ensures.which.1)
+    (end_at c.args.ports.now c.args.ends.now c.requires.ordered c.in-Some.ensures.which.0.to
+    ∙ c.in-Some.ensures.which.2) c.at_mut.ensures.value refl
     (sending_of c.in_ok-spell_greeting.field-0)
     (sym (c.is_greeted.ensures c.at_mut.result.now c.at_mut.ensures.value)
     ∙ c.if-not-is_greeted.true)
@@ -74,15 +87,15 @@ is_taken c =
 pub returns-in_err-bytes-clause-links : goal.returns-in_err-bytes-clause-links
 returns-in_err-bytes-clause-links c = ap (λ (o : Outbox). o.links)
     (stays c.args.ends.now c.args.frames.now.items
-    c.next_end.new.frames.items c.in-Some.at c.at_mut-2.result.now c.spell.new.self
-    c.next_end.ensures.same c.at_mut-2.ensures.value c.in_err-bytes.ensures.err)
+    c.args.frames.now.items c.in-Some.at c.at_mut-2.result.now c.spell.new.self
+    refl c.at_mut-2.ensures.value c.in_err-bytes.ensures.err)
 
 -- and so is what is sent
 pub returns-in_err-bytes-clause-err : goal.returns-in_err-bytes-clause-err
 returns-in_err-bytes-clause-err c = on_err c.from_residual-in_err-bytes.result
     (ap (λ (o : Outbox). o.sent) (stays c.args.ends.now c.args.frames.now.items
-    c.next_end.new.frames.items c.in-Some.at c.at_mut-2.result.now c.spell.new.self
-    c.next_end.ensures.same c.at_mut-2.ensures.value c.in_err-bytes.ensures.err))
+    c.args.frames.now.items c.in-Some.at c.at_mut-2.result.now c.spell.new.self
+    refl c.at_mut-2.ensures.value c.in_err-bytes.ensures.err))
 
 -- the frame comes before all else that is sent
 frame_first : (c : After-spelled_frame) →
@@ -91,13 +104,14 @@ frame_first : (c : After-spelled_frame) →
     c.take_front.new.frames.items) (sending_of c.spelled_frame.result)
 frame_first c = frame_next c.args.ends.now
     (slice_set c.args.ends.now c.in-Some.at c.spell.new.self) c.args.frames.now.items
-    c.next_end.new.frames.items c.in-Some-front.next.now c.take_front.new.frames.items
-    c.in-Some.at c.at_mut-2.result.now c.spell.new.self c.next_end.ensures.same
+    c.args.frames.now.items c.in-Some-front.next.now c.take_front.new.frames.items
+    c.in-Some.at c.at_mut-2.result.now c.spell.new.self refl
     (c.take_front.ensures c.in-Some-front.next.now (sym c.in-Some-front.ensures.value)).1
     (subst (λ (o : Outgoing). position (λ (d : End). o.to == d.peer) c.args.ends.now
-    ≡ Some c.in-Some.at) (one_front c.next_end.new.frames.items c.in-Some.ensures.which.0
+    ≡ Some c.in-Some.at) (one_front c.args.frames.now.items c.in-Some.ensures.which.0
     c.in-Some-front.next.now c.in-Some.ensures.which.1 c.in-Some-front.ensures.value)
-    c.in-Some.ensures.which.2) c.at_mut-2.ensures.value refl
+    (end_at c.args.ports.now c.args.ends.now c.requires.ordered c.in-Some.ensures.which.0.to
+    ∙ c.in-Some.ensures.which.2)) c.at_mut-2.ensures.value refl
     (sending_of c.spelled_frame.result)
     (sym (c.is_greeted.ensures c.at_mut-2.result.now c.at_mut-2.ensures.value)
     ∙ c.if-not-is_greeted.false)
@@ -144,3 +158,44 @@ returns-then-not-is_greeted-clause-known c = λ classes known.
     known_still classes c.args.ends.now c.in-Some.at c.at_mut.result.now
     c.spell_greeting.new.end known c.at_mut.ensures.value
     (ap (λ (e : End). e.read) c.in_ok-spell_greeting.ensures.end)
+
+-- the ends stay those to the ports where a frame is spelled
+pub returns-clause-ordered : goal.returns-clause-ordered
+returns-clause-ordered c =
+    ports_of_set c.args.ports.now c.args.ends.now c.requires.ordered c.in-Some.at
+    c.at_mut-2.result.now c.spell.new.self c.at_mut-2.ensures.value
+    (ap (λ (e : End). e.peer) c.in_ok-bytes.ensures.end)
+
+-- where it is not
+pub returns-in_err-bytes-clause-ordered : goal.returns-in_err-bytes-clause-ordered
+returns-in_err-bytes-clause-ordered c =
+    ports_of_set c.args.ports.now c.args.ends.now c.requires.ordered c.in-Some.at
+    c.at_mut-2.result.now c.spell.new.self c.at_mut-2.ensures.value
+    (ap (λ (e : End). e.peer) c.in_err-bytes.ensures.err)
+
+-- where the greeting is
+pub returns-then-not-is_greeted-clause-ordered : goal.returns-then-not-is_greeted-clause-ordered
+returns-then-not-is_greeted-clause-ordered c =
+    ports_of_set c.args.ports.now c.args.ends.now c.requires.ordered c.in-Some.at
+    c.at_mut.result.now c.spell_greeting.new.end c.at_mut.ensures.value
+    (ap (λ (e : End). e.peer) c.in_ok-spell_greeting.ensures.end)
+
+-- and where it is not
+pub returns-in_err-spell_greeting-clause-ordered : goal.returns-in_err-spell_greeting-clause-ordered
+returns-in_err-spell_greeting-clause-ordered c =
+    ports_of_set c.args.ports.now c.args.ends.now c.requires.ordered c.in-Some.at
+    c.at_mut.result.now c.spell_greeting.new.end c.at_mut.ensures.value
+    (ap (λ (e : End). e.peer) c.in_err-spell_greeting.ensures.err)
+
+-- the frames that still wait go to ports
+pub returns-clause-placed : goal.returns-clause-placed
+returns-clause-placed c =
+    (subst (AllPlaced c.args.ports.now)
+    (c.take_front.ensures c.in-Some-front.next.now (sym c.in-Some-front.ensures.value)).1
+    c.requires.placed).1
+
+-- the place of the frame that is taken out is room again
+pub returns-clause-places : goal.returns-clause-places
+returns-clause-places c =
+    let front = c.take_front.ensures c.in-Some-front.next.now (sym c.in-Some-front.ensures.value) in
+    places_popped c.args.frames.now c.take_front.new.frames c.in-Some-front.next.now front.1 front.2

@@ -55,10 +55,13 @@ returns-clause-within c =
     ∙ ap length same in
     let held = ap (λ (q : Own). length q.node.held) c.answer-2.ensures.own
     ∙ ap length (answered_keeps (call_of c.args.call) c.args.answer p.node).held in
+    let asked = ap (λ (q : Own). length q.node.asked) c.answer-2.ensures.own
+    ∙ ap length (answered_keeps (call_of c.args.call) c.args.answer p.node).asked in
     let within = c.in_ok-gain.ensures.within in
     record {
       waiting = omega arith;
       stored = omega arith;
       held = omega arith;
-      classes = within.classes;
+      asked = omega arith;
+      fixed = within.fixed;
     }

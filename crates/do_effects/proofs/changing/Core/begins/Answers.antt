@@ -66,10 +66,12 @@ pub returns-clause-within : goal.returns-clause-within
 returns-clause-within c =
     let heap = ap (λ (p : Own). length p.node.heap) c.push.ensures.own in
     let held = ap (λ (p : Own). length p.node.held) c.push.ensures.own in
+    let asked = ap (λ (p : Own). length p.node.asked) c.push.ensures.own in
     let within = c.in_ok-gain.ensures.within in
     record {
       waiting = omega arith;
       stored = omega arith;
       held = omega arith;
-      classes = within.classes;
+      asked = omega arith;
+      fixed = within.fixed;
     }

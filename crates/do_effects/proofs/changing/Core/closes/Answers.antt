@@ -3,7 +3,7 @@ use Rattle.do_machine.specs.declared.node.Node.{Node}
 use Rattle.do_effects.specs.Doing.{doing}
 use Rattle.do_effects.specs.declared.changing.Core.{Core}
 use Rattle.do_effects.proofs.Judged.{is_quiet, on_quiet}
-use Rattle.do_effects.proofs.Taken.{closes_done, parted_held}
+use Rattle.do_effects.proofs.Taken.{closes_done, parted_asked, parted_held}
 use Rattle.do_effects.proofs.changing.Core.closes.Goals as goal
 
 -- the line is shown, and the end is closed
@@ -24,9 +24,12 @@ returns-clause-within c =
     let heap = ap (λ (m : Node). length m.heap) c.close.ensures.node in
     let held = ap (λ (m : Node). length m.held) c.close.ensures.node in
     let most = parted_held c.args.from n in
+    let asked = ap (λ (m : Node). length m.asked) c.close.ensures.node in
+    let fewer = parted_asked c.args.from n in
     record {
       waiting = omega arith;
       stored = omega arith;
       held = omega arith;
-      classes = c.close.ensures.classes ∙ c.show.ensures.classes;
+      asked = omega arith;
+      fixed = c.close.ensures.fixed ∙ c.show.ensures.fixed;
     }

@@ -4,7 +4,7 @@ use Rattle.do_network.specs.Own.{Own}
 use Rattle.do_part.specs.Owned.{Owned}
 use Rattle.do_effects.specs.Doing.{Doing, does, doing}
 use Rattle.do_effects.specs.Tidy.{IsTidy}
-use Rattle.do_effects.proofs.AsksEnded.{ended_heap, ended_held, ended_takes, ended_tidy}
+use Rattle.do_effects.proofs.AsksEnded.{ended_asked, ended_heap, ended_held, ended_takes, ended_tidy}
 use Rattle.do_effects.proofs.AsksEnded.{follow_asked}
 use Rattle.do_effects.proofs.changing.Core.ends_ask.Goals as goal
 
@@ -48,15 +48,19 @@ returns-clause-within c =
     let p = c.args.self.now.part.own in
     let heap = ap (λ (q : Own). length q.node.heap) c.end_ask.ensures in
     let held = ap (λ (q : Own). length q.node.held) c.end_ask.ensures in
+    let asked = ap (λ (q : Own). length q.node.asked) c.end_ask.ensures in
+    let fewer = ended_asked c.is_granted.result w p in
     let most = ended_held c.is_granted.result w p in
     let stored = ap length (ended_heap c.is_granted.result w p) in
     let part = c.settle.ensures.part in
     let later = ap (λ (q : Owned). length q.own.node.heap) part in
     let kept = ap (λ (q : Owned). length q.own.node.held) part in
+    let left = ap (λ (q : Owned). length q.own.node.asked) part in
     let within = c.settle.ensures.within in
     record {
       waiting = omega arith;
       stored = omega arith;
       held = omega arith;
-      classes = within.classes ∙ c.show.ensures.classes;
+      asked = omega arith;
+      fixed = within.fixed ∙ c.show.ensures.fixed;
     }

@@ -38,4 +38,4 @@ returns-clause-within c =
     let b : Core = record { part = c.settle.new.self; streams = c.show.new.self } in
     bounded_node (taking_needs p.node c.args.item.now (rulings.EndsLend c.args.number))
     c.args.self.now b (with_settled c.args.from c.args.number p.node) c.settle.ensures.own
-    (omega arith) (omega arith) (omega arith) c.show.ensures.classes
+    (omega arith) (omega arith) (omega arith) (omega arith) c.show.ensures.fixed

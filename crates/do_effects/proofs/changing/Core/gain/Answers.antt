@@ -84,5 +84,5 @@ returns-clause-within c =
       stored = omega arith;
       held = omega arith;
       asked = omega arith;
-      classes = within.classes ∙ c.show.ensures.classes;
+      fixed = within.fixed ∙ c.show.ensures.fixed;
     }

@@ -8,8 +8,9 @@ use Rattle.do_network.specs.Own.{Own, is_counted}
 use Rattle.do_part.specs.Left.{given_up}
 use Rattle.do_part.specs.Owned.{Owned}
 use Rattle.do_streams.specs.Streamed.{outbox}
+use Rattle.do_effects.specs.Bounded.{HasNoMore}
 use Rattle.do_effects.specs.Tidy.{IsTidy}
-use Rattle.do_effects.proofs.ObjectsLeft.{few_frames, few_freed, few_left, few_lines, left_done}
+use Rattle.do_effects.proofs.ObjectsLeft.{few_frames, few_freed, few_left, few_lines, left_done, left_fewer}
 use Rattle.do_effects.proofs.ObjectsLeft.{shown_by_port}
 use Rattle.do_effects.proofs.TidyCounts.{counted_is_tidy}
 use Rattle.do_effects.proofs.changing.Core.leave.Goals as goal
@@ -69,3 +70,12 @@ returns-clause-tidy c =
     (sym (ap (λ (q : Owned). q.own) (c.give_back_all.ensures.part ∙ c.show_freed.ensures.part)
     ∙ c.leave.ensures.own))
     (counted_is_tidy p (leaving (is_counted p) p.node))
+
+-- and has no more than before
+pub returns-clause-fewer : goal.returns-clause-fewer
+returns-clause-fewer c =
+    let p = c.args.self.now.part.own in
+    subst (λ (q : Own). HasNoMore p.node q.node)
+    (sym (ap (λ (q : Owned). q.own) (c.give_back_all.ensures.part ∙ c.show_freed.ensures.part)
+    ∙ c.leave.ensures.own))
+    (left_fewer p)

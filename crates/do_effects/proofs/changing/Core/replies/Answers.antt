@@ -30,5 +30,6 @@ returns-clause-within c =
       waiting = omega arith;
       stored = omega arith;
       held = omega arith;
-      classes = within.classes ∙ c.show.ensures.classes;
+      asked = omega arith;
+      fixed = within.fixed ∙ c.show.ensures.fixed;
     }

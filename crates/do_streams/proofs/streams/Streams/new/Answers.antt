@@ -1,7 +1,17 @@
+use Rattle.std.proofs.Common.{ap, sym, subst, ◌∙◌}
+use Rattle.do_base.specs.lists.Reserved.{Reserved}
+use Rattle.do_streams.specs.declared.end.Outgoing.{Outgoing}
+use Rattle.do_streams.specs.Ordered.{AllPlaced}
 use Rattle.do_streams.proofs.LinksRead.{none_read}
+use Rattle.do_streams.proofs.WaitingFrames.{opened_ports}
 use Rattle.do_streams.proofs.streams.Streams.new.Goals as goal
 
--- no end has read a name yet
+-- no end has read a name yet, and the ports are those of the ends
 pub invariant_of-result : goal.invariant_of-result
-invariant_of-result c =
-    none_read c.args.classes c.in_ok-ends.ends c.args.peers.now c.in_ok-ends.ensures
+invariant_of-result c = record {
+  known = none_read c.args.classes c.in_ok-ends.ends c.args.peers.now c.in_ok-ends.ensures;
+  order = c.new-ports.ensures ∙ c.in_ok-from_slice.ensures ∙ c.as_slice.ensures
+      ∙ opened_ports c.in_ok-ends.ends c.args.peers.now c.in_ok-ends.ensures;
+  placed = subst (AllPlaced c.new-ports.result)
+      (sym (ap (λ (r : Reserved Outgoing). r.items) c.new.ensures)) tt;
+}

@@ -1,7 +1,8 @@
 use Rattle.std.proofs.Common.{◌≡◌, ◌∷◌, ◌++◌, ap, subst, sym, ◌∙◌, List, Option}
+use Rattle.std.specs.Prelude.{min}
 use Rattle.do_network.specs.Spelled.{IsSpelledSending}
 use Rattle.do_streams.specs.declared.spelled.Spelled.{Spelled}
-use Rattle.do_streams.specs.Streamed.{Streamed, outbox_of, sending_of, spelled_first}
+use Rattle.do_streams.specs.Streamed.{Streamed, all_places, outbox_of, sending_of, spelled_first}
 use Rattle.do_streams.proofs.streams.Streams.next_frame.Goals.{After-forget}
 use Rattle.do_streams.proofs.streams.Streams.next_frame.Goals as goal
 
@@ -38,19 +39,71 @@ returns-clause-spelled c = λ s first.
     (heads_alike (sym (is_oldest (goal.at.returns-clause-spelled c).After-forget) ∙ first))
     c.in_ok-to.ensures.spelled
 
--- what is spelled leaves the names that were read, where it is fetched
+-- the ends stay ordered where what was spelled is fetched
 pub invariant_of-self : goal.invariant_of-self
-invariant_of-self c = c.spell_if_none.ensures.known c.self.inside.classes c.self.invariant
+invariant_of-self c = record {
+  known = c.spell_if_none.ensures.known c.self.inside.classes c.self.invariant.known;
+  order = c.spell_if_none.ensures.ordered;
+  placed = c.spell_if_none.ensures.placed;
+}
 
 -- where nothing waits
 pub invariant_of-self-in_default : goal.invariant_of-self-in_default
-invariant_of-self-in_default c =
-    c.spell_if_none.ensures.known c.self.inside.classes c.self.invariant
+invariant_of-self-in_default c = record {
+  known = c.spell_if_none.ensures.known c.self.inside.classes c.self.invariant.known;
+  order = c.spell_if_none.ensures.ordered;
+  placed = c.spell_if_none.ensures.placed;
+}
 
 -- where there is no memory for its bytes
 pub invariant_of-self-in_err-to : goal.invariant_of-self-in_err-to
-invariant_of-self-in_err-to c = c.spell_if_none.ensures.known c.self.inside.classes c.self.invariant
+invariant_of-self-in_err-to c = record {
+  known = c.spell_if_none.ensures.known c.self.inside.classes c.self.invariant.known;
+  order = c.spell_if_none.ensures.ordered;
+  placed = c.spell_if_none.ensures.placed;
+}
 
 -- and where there is none to spell it
 pub invariant_of-self-2 : goal.invariant_of-self-2
-invariant_of-self-2 c = c.spell_if_none.ensures.known c.self.inside.classes c.self.invariant
+invariant_of-self-2 c = record {
+  known = c.spell_if_none.ensures.known c.self.inside.classes c.self.invariant.known;
+  order = c.spell_if_none.ensures.ordered;
+  placed = c.spell_if_none.ensures.placed;
+}
+
+-- there are as many places where what was spelled is fetched
+pub returns-clause-fixed : goal.returns-clause-fixed
+returns-clause-fixed c =
+    (λ j. record {
+      classes = c.self.inside.classes;
+      places = min (c.spell_if_none.ensures.places j) (all_places c.self.inside.shown);
+    })
+    ∙ ap (λ (v : Streamed). v.fixed) c.self.view_is
+
+-- where nothing waits
+pub returns-in_default-clause-fixed : goal.returns-in_default-clause-fixed
+returns-in_default-clause-fixed c =
+    (λ j. record {
+      classes = c.self.inside.classes;
+      places = min (c.spell_if_none.ensures.places j) (all_places c.self.inside.shown);
+    })
+    ∙ ap (λ (v : Streamed). v.fixed) c.self.view_is
+
+-- where there is no memory for its bytes
+pub returns-in_err-to-clause-fixed : goal.returns-in_err-to-clause-fixed
+returns-in_err-to-clause-fixed c =
+    (λ j. record {
+      classes = c.self.inside.classes;
+      places = min (c.spell_if_none.ensures.places j) (all_places c.self.inside.shown);
+    })
+    ∙ ap (λ (v : Streamed). v.fixed) c.self.view_is
+
+-- and where there is none to spell it
+pub returns-in_err-spell_if_none-clause-fixed :
+    goal.returns-in_err-spell_if_none-clause-fixed
+returns-in_err-spell_if_none-clause-fixed c =
+    (λ j. record {
+      classes = c.self.inside.classes;
+      places = min (c.spell_if_none.ensures.places j) (all_places c.self.inside.shown);
+    })
+    ∙ ap (λ (v : Streamed). v.fixed) c.self.view_is

@@ -1,7 +1,13 @@
-use Rattle.std.proofs.Common.{◌≡◌, subst}
-use Rattle.do_streams.specs.Streamed.{Streamed, outbox, streamed_of}
+use Rattle.std.proofs.Common.{◌≡◌, ◌==◌, ◌∙◌, ap, subst, sym, true}
+use Rattle.std.specs.Prelude.{min}
+use Rattle.std.specs.List.{list_any}
+use Rattle.do_streams.specs.declared.end.Outgoing.{Outgoing}
+use Rattle.do_streams.specs.Ordered.{AllPlaced}
+use Rattle.do_streams.specs.Streamed.{Streamed, all_places, outbox, streamed_of}
 use Rattle.do_network.specs.Links.{sending}
 use Rattle.do_streams.proofs.FramesInOrder.{posts}
+use Rattle.do_streams.proofs.LinksRead.{all_behind}
+use Rattle.do_streams.proofs.WaitingFrames.{places_posted, sent_nowhere}
 use Rattle.do_streams.proofs.streams.Streams.post.Goals as goal
 
 -- a frame is sent behind all that wait
@@ -14,3 +20,34 @@ returns-clause-sent c = subst (λ (v : Streamed).
     (posts c.self.inside.ends c.self.inside.spelled c.self.inside.frames c.post.new.self
     c.self.inside.shown c.self.inside.classes (record { to = c.args.to; frame = c.args.frame })
     c.post.ensures.items)
+
+-- to a peer with which there is no link nothing is sent
+pub returns-then-not-has-clause-sent : goal.returns-then-not-has-clause-sent
+returns-then-not-has-clause-sent c = subst (λ (v : Streamed).
+    outbox v ≡ sending (outbox v) (record { to = c.args.to; frame = c.args.frame }))
+    c.self.view_is
+    (sent_nowhere c.self.inside.ports c.self.inside.ends c.self.invariant.order
+    c.self.inside.spelled c.self.inside.frames c.self.inside.shown c.self.inside.classes
+    (record { to = c.args.to; frame = c.args.frame }) (sym c.has.ensures ∙ c.if-not-has.true))
+
+-- the frame takes one of the places
+pub returns-clause-fixed : goal.returns-clause-fixed
+returns-clause-fixed c =
+    (λ j. record {
+      classes = c.self.inside.classes;
+      places = min (places_posted c.self.inside.frames c.post.new.self
+          (record { to = c.args.to; frame = c.args.frame }) c.post.ensures.items
+          c.post.ensures.spare j) (all_places c.self.inside.shown);
+    })
+    ∙ ap (λ (v : Streamed). v.fixed) c.self.view_is
+
+-- it goes to one of the ports
+pub invariant_of-self : goal.invariant_of-self
+invariant_of-self c = record {
+  known = c.self.invariant.known;
+  order = c.self.invariant.order;
+  placed = subst (AllPlaced c.self.inside.ports) (sym c.post.ensures.items)
+      (all_behind (λ (x : Outgoing). list_any (λ p. p == x.to) c.self.inside.ports ≡ true)
+      c.self.inside.frames.items (record { to = c.args.to; frame = c.args.frame })
+      c.self.invariant.placed (sym c.has.ensures ∙ c.if-not-has.false));
+}

@@ -1,8 +1,10 @@
 use Rattle.std.proofs.Common.{◌≡◌, ◌∙◌, [], ap, map, subst, sym}
+use Rattle.std.proofs.lemmas.Bool.{false≢true}
 use Rattle.do_network.specs.Frames.{read_frame}
 use Rattle.do_streams.specs.Reading.{IsReading, names_of}
 use Rattle.do_streams.specs.Streamed.{Streamed, link_of, posted_of}
 use Rattle.do_streams.proofs.LinksRead.{names_stay}
+use Rattle.do_streams.proofs.WaitingFrames.{alone_names_none}
 use Rattle.do_streams.proofs.streams.Streams.read.Goals as goal
 
 -- whatever was named, a frame that carries no packet is read so
@@ -20,3 +22,9 @@ returns-clause-read c =
     ∙ ap (λ (v : Streamed). names_of v.links c.args.from) c.self.view_is in
     subst (λ names. IsReading names (read_frame c.args.table.now c.args.from c.args.to names
     c.args.raw.now) c.read_with_names.result) same c.read_with_names.ensures.read
+
+-- a frame that holds numbers alone carries no packet
+pub returns-clause-no_memory : goal.returns-clause-no_memory
+returns-clause-no_memory c = λ alone.
+    let none = alone_names_none c.args.raw.now.kind alone in
+    absurd (false≢true (sym none ∙ sym c.names_objects.ensures ∙ c.if-not-names_objects.false))

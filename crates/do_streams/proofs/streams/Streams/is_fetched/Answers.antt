@@ -1,0 +1,44 @@
+use Rattle.std.proofs.Common.{◌≡◌, ◌∙◌, ◌++◌, [], None, ap, is_some, refl, subst, sym}
+use Rattle.std.specs.Prelude.{IsTrue}
+use Rattle.std.proofs.lemmas.Bool.{false≢true}
+use Rattle.do_streams.specs.declared.spelled.Spelled.{Spelled}
+use Rattle.do_streams.specs.Streamed.{Streamed, outbox_of, spelled_first}
+use Rattle.do_streams.proofs.Placed.{none_of}
+use Rattle.do_streams.proofs.WaitingFrames.{none_waits}
+use Rattle.do_streams.proofs.streams.Streams.is_fetched.Goals as goal
+
+-- what is spelled waits
+pub returns-then-is_some-clause-value : goal.returns-then-is_some-clause-value
+returns-then-is_some-clause-value c = (
+  λ no. absurd (false≢true no),
+  λ h.
+      let i = c.self.inside in
+      let none = none_waits i.ports i.ends c.self.invariant.order i.spelled i.frames.items
+      c.self.invariant.placed (ap (λ (v : Streamed). v.frames) c.self.view_is ∙ h.0) in
+      absurd (false≢true (sym (ap is_some none.0) ∙ sym c.is_some.ensures ∙ c.if-is_some.true)),
+)
+
+-- and so does a frame that is not
+pub returns-then-not-is_empty-clause-value : goal.returns-then-not-is_empty-clause-value
+returns-then-not-is_empty-clause-value c = (
+  λ no. absurd (false≢true no),
+  λ h.
+      let i = c.self.inside in
+      let none = none_waits i.ports i.ends c.self.invariant.order i.spelled i.frames.items
+      c.self.invariant.placed (ap (λ (v : Streamed). v.frames) c.self.view_is ∙ h.0) in
+      subst IsTrue c.if-not-is_empty.true (c.is_empty.ensures.1 none.1),
+)
+
+-- without either none waits
+pub returns-clause-value : goal.returns-clause-value
+returns-clause-value c = (
+  λ yes.
+      let i = c.self.inside in
+      let none : i.spelled ≡ None = none_of i.spelled (sym c.is_some.ensures ∙ c.if-is_some.false) in
+      let empty : i.frames.items ≡ [] = c.is_empty.ensures.0 c.if-not-is_empty.false in (
+        sym (ap (λ (v : Streamed). v.frames) c.self.view_is)
+            ∙ (λ j. spelled_first (none j) ++ (outbox_of i.ends (empty j)).sent),
+        sym (ap (λ (v : Streamed). v.shown) c.self.view_is) ∙ c.is_empty-2.ensures.0 yes,
+      ),
+  λ h. c.is_empty-2.ensures.1 (ap (λ (v : Streamed). v.shown) c.self.view_is ∙ h.1),
+)
