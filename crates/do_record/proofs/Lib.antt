@@ -1,4 +1,3 @@
-pub mod Walking
-pub mod Showing
-pub mod InputsRead
-pub mod RecordsRead
+pub mod values
+pub mod lines
+pub mod records

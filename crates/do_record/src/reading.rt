@@ -1,7 +1,10 @@
 //! Records, read line by line.
-ghost use Rattle.std.specs.Prelude.{◌≡◌, ◌++◌, ◌∷◌, [], IfOk};
+ghost use Rattle.std.specs.Prelude.{◌≡◌, ◌++◌, ◌∷◌, [], ℕ, Err, IfOk, Ok};
 ghost use Rattle.do_sched.specs.Answers.{AnswersWith};
+ghost use Rattle.do_sched.specs.declared.fault.SchedFault.TheVariants.{BadLine};
+ghost use Rattle.do_record.specs.Grammar.{IsFaultAt, IsRecord, TellsRecord};
 ghost use Rattle.do_record.specs.Recorded.{HasShown, record_of, with_shown};
+ghost use Rattle.do_record.specs.declared.parts.Record as parts;
 
 use crate::line::{RecordText, first_port, text_of};
 use crate::parts::{Block, Blocks, Record};
@@ -11,7 +14,7 @@ use do_sched::SchedFault;
 use std::alloc::{AllocError, Global};
 
 /// Adds a line to what the last block shows. False where there is no block.
-#[tactic(auto, using(crate::proofs::Showing::shown_last))]
+#[tactic(auto, using(crate::proofs::records::Showing::shown_last))]
 fn add_shown(blocks: &mut Blocks, line: &[u8]) -> Result<bool, AllocError>
     ensures { IfOk result (λ added.
         HasShown (with_shown (line.now ++ 10 ∷ []) blocks.old) added blocks.new) }
@@ -27,9 +30,22 @@ fn add_shown(blocks: &mut Blocks, line: &[u8]) -> Result<bool, AllocError>
 
 /// The record that bytes are.
 ///
-/// Where they are none, `BadLine` has the first line that is no line of a record of that node, or
-/// that has no line feed. No other fault comes but that memory ran out.
+/// Every line, the last one too, is closed by a line feed. Where the bytes are no record, `BadLine`
+/// has the first line at fault: all before it are lines of a record of one node, and it is none
+/// that may stand there. No other fault comes but that memory ran out. The form is this project's
+/// own.
 pub fn read_record(alloc: Global, bytes: &[u8]) -> Result<Record, SchedFault>
+    ensures exact { TellsRecord bytes.now result }
+    ensures accepts { (r : parts.Record) → IsRecord bytes.now r → AnswersWith (Ok r) result }
+    ensures refuses { (line : ℕ) → IsFaultAt bytes.now line
+        → AnswersWith (Err (BadLine line)) result }
+    ensures computed { AnswersWith (record_of bytes.now) result }
+{
+    record_in(alloc, bytes)
+}
+
+/// The record that bytes are, or their first faulty line.
+fn record_in(alloc: Global, bytes: &[u8]) -> Result<Record, SchedFault>
     ensures { AnswersWith (record_of bytes.now) result }
 {
     let Some((text, fed, behind)) = line_of(bytes) else {

@@ -1,4 +1,4 @@
-use Rattle.do_record.proofs.RecordsRead.{good_record}
+use Rattle.do_record.proofs.records.GoodRecords.{good_record}
 use Rattle.do_record.proofs.laws.read_inputs_are_good.Goals as goal
 
 pub returns : goal.returns

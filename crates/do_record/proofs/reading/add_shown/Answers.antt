@@ -1,4 +1,4 @@
-use Rattle.do_record.proofs.Showing.{shown_added}
+use Rattle.do_record.proofs.records.Showing.{shown_added}
 use Rattle.do_record.proofs.reading.add_shown.Goals as goal
 
 pub returns : goal.returns

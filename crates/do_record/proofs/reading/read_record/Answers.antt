@@ -1,12 +1,11 @@
-use Rattle.std.proofs.Common.{◌∙◌, ◌+◌, sym}
-use Rattle.do_record.specs.Recorded.{record_of}
-use Rattle.do_record.proofs.Showing.{behind_end}
+use Rattle.do_record.proofs.records.RecordsGiven.{answer_accepts, answer_refuses, answer_tells}
 use Rattle.do_record.proofs.reading.read_record.Goals as goal
 
-pub returns-in-End : goal.returns-in-End
-returns-in-End c =
-    behind_end (record_of c.args.bytes.now) c.in-Some-first_port.port (c.loop-text.number + 1)
-    c.loop-text.blocks (record { text = c.in-Some-line_of.text.now; fed = c.in-Some-line_of.fed })
-    c.loop-text.rest.now c.in-Some-line_of.after.now c.loop-text.invariant.reads
-    c.in-Some-line_of.ensures.line (sym c.in_ok-text_of.ensures ∙ c.in-End.is)
-    c.if-is_empty.ensures
+pub returns-clause-exact : goal.returns-clause-exact
+returns-clause-exact c = answer_tells c.args.bytes.now c.record_in.result c.record_in.ensures
+
+pub returns-clause-accepts : goal.returns-clause-accepts
+returns-clause-accepts c = answer_accepts c.args.bytes.now c.record_in.result c.record_in.ensures
+
+pub returns-clause-refuses : goal.returns-clause-refuses
+returns-clause-refuses c = answer_refuses c.args.bytes.now c.record_in.result c.record_in.ensures

@@ -1,5 +1,5 @@
 use Rattle.std.proofs.Common.{◌≡◌, ◌∙◌, ◌+◌, ◌-◌, ◌<◌, ℕ, suc, sym, arith, length}
-use Rattle.do_record.proofs.Walking.{walks_none, walks_some}
+use Rattle.do_record.proofs.values.Walking.{walks_none, walks_some}
 use Rattle.do_record.proofs.value.is_value.Goals as goal
 
 -- what is left before a token is one more than behind it

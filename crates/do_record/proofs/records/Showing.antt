@@ -1,7 +1,6 @@
 -- The last of some blocks shows one line more.
-use Rattle.std.proofs.Common.{◌≡◌, true, false, eqb, ℕ, ◌+◌, List, [], ◌∷◌, ◌++◌}
-use Rattle.std.proofs.Common.{Some, None, inl, inr, Err, Result, refl, sym, ap, ◌∙◌, length}
-use Rattle.std.proofs.Common.{append_assoc, subst}
+use Rattle.std.proofs.Common.{◌≡◌, true, false, eqb, ℕ, ◌+◌, List, [], ◌∷◌, ◌++◌, Some, None, inl}
+use Rattle.std.proofs.Common.{inr, Err, Result, refl, sym, ap, ◌∙◌, length, append_assoc, subst}
 use Rattle.std.specs.Prelude.{option_map}
 use Rattle.std.proofs.lemmas.Bool.{cases_Bool, both_ways, cond-false, cond-true}
 use Rattle.do_grammar.specs.Lines as text

@@ -1,7 +1,8 @@
 -- One token more of a value.
 use Rattle.std.proofs.Common.{◌≡◌, Bool, true, false, cond, ℕ, zero, suc, List, Option, Some, None}
-use Rattle.std.proofs.Common.{ap, ◌∙◌}
-use Rattle.do_record.specs.Value.{Walked, is_walked, walk_one, walks}
+use Rattle.std.proofs.Common.{ap, ◌∙◌, refl, arith}
+use Rattle.std.proofs.lemmas.Bool.{ne_eqb}
+use Rattle.do_record.specs.Value.{Walked, behind_value, is_walked, walk_one, walks}
 
 -- all that is walked is a value
 pub walks_done : (n : ℕ) (want : Bool) (depth : ℕ) (rest : List ℕ) →
@@ -34,3 +35,14 @@ pub walks_some : (n m : ℕ) (want : Bool) (depth : ℕ) (rest : List ℕ) (s : 
     walks n want depth rest ≡ walks m s.0 s.1 s.2
 walks_some n m want depth rest s is e f =
     ap (λ k. walks k want depth rest) is ∙ walks_by m want depth rest (Some s) e f
+
+-- while a list is open the walk is not over
+pub not_over : (depth : ℕ) (rest : List ℕ) → is_walked false (suc depth) rest ≡ false
+not_over depth rest = rw (ne_eqb (suc depth) 0 (λ (e : suc depth ≡ 0). omega arith)) refl
+
+-- and it goes on with a space or a bracket
+pub open_walks : (n depth : ℕ) (rest : List ℕ) →
+    walks (suc n) false (suc depth) rest
+    ≡ elim (behind_value (suc depth) rest) [ None ↦ false | Some s ↦ walks n s.0 s.1 s.2 ]
+open_walks n depth rest =
+    walks_by n false (suc depth) rest (behind_value (suc depth) rest) (not_over depth rest) refl
