@@ -10,6 +10,6 @@ pub mod LoseIsStep
 pub mod OpeningNetwork
 pub mod EventSpelled
 pub mod TakeGoes
-pub mod ByHalves
 pub mod PortsRise
 pub mod ChannelPlaces
+pub mod StandsForStates

@@ -1,6 +1,6 @@
 pub mod Seen
 pub mod Lanes
-pub mod Rising
 pub mod Hosts
 pub mod Net
+pub mod OneMachine
 pub mod Turns

@@ -15,10 +15,10 @@ ghost use Rattle.do_net.specs.Lanes.{IsSent};
 use crate::hosted::Hosted;
 use crate::lane::Kept;
 use crate::lanes::Lanes;
-use crate::rising::Ported;
 use do_base::{NodeId, Reserved, ShownList, Text};
 use do_machine::{NodeLine, Outcome};
 use do_network::{Done, Input, Wire};
+use do_ported::Ported;
 use std::alloc::AllocError;
 
 /// A site, with its lanes by rising peer.

@@ -17,12 +17,12 @@ use crate::by_port::Hosts;
 use crate::host::Host;
 use crate::hosted::Hosted;
 use crate::lane::Kept;
-use crate::rising::place_of;
 use bytes::Bytes;
 use do_base::{Event, NodeId, Reserved, ShownList};
 use do_frames::RawFrame;
 use do_machine::{NodeLines, Outcome, Snapshot};
 use do_network::{Input, Wire};
+use do_ported::place_of;
 use std::alloc::{AllocError, Global};
 
 /// Where the site of a port stands.

@@ -4,8 +4,8 @@ ghost use Rattle.std.specs.Prelude.{nat_lt, not};
 ghost use Rattle.do_net.specs.Lanes.{Advances, greets, laden};
 ghost use Rattle.do_network.specs.Step.{with_loss};
 
-use crate::rising::Ported;
 use do_base::{NodeId, Text};
+use do_ported::Ported;
 use std::alloc::{AllocError, Global};
 use std::collections::VecDeque;
 use std::marker::Model;

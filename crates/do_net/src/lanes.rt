@@ -6,9 +6,9 @@ ghost use Rattle.do_network.specs.Net.{change_channel};
 ghost use Rattle.do_net.specs.Lanes.{ChannelsAdvance, ChannelsLose, laden};
 
 use crate::lane::{Kept, Lane};
-use crate::rising::place_of;
 use do_base::{Items, NodeId};
 use do_network::Wire;
+use do_ported::place_of;
 use std::alloc::{AllocError, Global};
 use std::marker::Model;
 

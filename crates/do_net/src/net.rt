@@ -1,12 +1,16 @@
 //! A network of sites, over its events.
 ghost use Rattle.std.specs.Prelude.{◌≡◌, ◌++◌, ◌<◌, IfOk, IsErr, OnErr, OnOk, Some, [], false};
 ghost use Rattle.std.specs.Prelude.{length, slice_get, true};
+ghost use Rattle.do_machine.specs.World.{IsWorld, opening};
+ghost use Rattle.do_machine.specs.check.Snapshot.{snapshot};
+ghost use Rattle.do_machine.specs.declared.state.State.{State};
 ghost use Rattle.do_network.specs.Net.{net_opening};
 ghost use Rattle.do_network.specs.Snapshot.{net_snapshot};
 ghost use Rattle.do_network.specs.Spelled.{SendsSpelled};
 ghost use Rattle.do_network.specs.Step.{net_step};
 ghost use Rattle.do_net.specs.Hosts.{net_can_take};
 ghost use Rattle.do_net.specs.Net.{AreAlike, HasSent, Stands, is_quiet, network};
+ghost use Rattle.do_net.specs.OneMachine.{StandsFor, StepsAsOne, machine_can_take};
 
 use crate::by_port::Hosts;
 use crate::hosted::Hosted;
@@ -58,6 +62,8 @@ impl<S: Hosted> Net<S> {
         ensures table { IfOk result (λ n. n.table ≡ table) }
         ensures acts { IfOk result (λ n. slice_get makers.now 0 ≡ Some n.acts) }
         ensures net { IfOk result (λ n. network S.seen n ≡ net_opening table nodes.now) }
+        ensures one_machine { IsWorld table nodes.now → IfOk result (λ n. StandsFor table
+            (S.Acts.act n.acts) (network S.seen n) (opening table nodes.now)) }
         ensures wires { IfOk result (λ n. n.wires.items ≡ []) }
         ensures fresh { IfOk result (λ n. n.spent ≡ false) }
     {
@@ -74,7 +80,9 @@ impl<S: Hosted> Net<S> {
     }
 
     /// Does one event. One that is not enabled shows and sends nothing and leaves the network as it
-    /// was. What is sent waits for `next_wire`.
+    /// was. What is sent waits for `next_wire`. Where the network stands for a state of the one
+    /// machine, the event shows what it shows there, and the network then stands for the state after
+    /// it.
     ///
     /// The one error is that memory ran out, that a number would pass what a site can count, or
     /// that a frame has no spelling. Each later step then answers it, and the network is no more
@@ -91,6 +99,10 @@ impl<S: Hosted> Net<S> {
             event.now).wires) }
         ensures spelled { OnOk result (SendsSpelled self.old.table (S.Acts.act self.old.acts)
             (network S.seen self.old) event.now) }
+        ensures one_machine { (state : State) → StandsFor self.old.table (S.Acts.act self.old.acts)
+            (network S.seen self.old) state → IfOk result (λ outcome.
+            StepsAsOne self.old.table (S.Acts.act self.old.acts) state event.now outcome
+            (network S.seen self.new)) }
         ensures table { self.new.table ≡ self.old.table }
         ensures acts { self.new.acts ≡ self.old.acts }
         ensures spent { OnErr result (self.new.spent ≡ true) }
@@ -116,10 +128,23 @@ impl<S: Hosted> Net<S> {
         self.wires.pop_front()
     }
 
+    /// Lets go of what was sent and not taken out.
+    pub fn clear_wires(&mut self)
+        ensures wires { self.new.wires.items ≡ [] }
+        ensures table { self.new.table ≡ self.old.table }
+        ensures acts { self.new.acts ≡ self.old.acts }
+        ensures hosts { self.new.hosts ≡ self.old.hosts }
+        ensures spent { self.new.spent ≡ self.old.spent }
+    {
+        self.wires.clear();
+    }
+
     /// Whether a node can take what another sends it: its end is open, and its stack is empty or
     /// its top waits.
     pub fn can_take(&self, node: NodeId, from: NodeId) -> bool
-        ensures { result ≡ net_can_take (network S.seen self.now) node from }
+        ensures net { result ≡ net_can_take (network S.seen self.now) node from }
+        ensures one_machine { (state : State) → StandsFor self.now.table (S.Acts.act self.now.acts)
+            (network S.seen self.now) state → result ≡ machine_can_take state node from }
     {
         can_take(&self.hosts, node, from)
     }
@@ -127,7 +152,9 @@ impl<S: Hosted> Net<S> {
     /// What a check lists: the sites by rising port, each with its root, its closed ends, its
     /// objects and their entries.
     pub fn snapshot(&self) -> Result<Snapshot, AllocError>
-        ensures { IfOk result (λ listed. listed ≡ net_snapshot (network S.seen self.now)) }
+        ensures net { IfOk result (λ listed. listed ≡ net_snapshot (network S.seen self.now)) }
+        ensures one_machine { (state : State) → StandsFor self.now.table (S.Acts.act self.now.acts)
+            (network S.seen self.now) state → IfOk result (λ listed. listed ≡ snapshot state) }
     {
         snapshot(&self.hosts)
     }

@@ -1,7 +1,7 @@
 use Rattle.std.proofs.Common.{◌≡◌, true, rules, sym, refl}
 use Rattle.do_net.specs.Hosts.{hosting, hostings, net_is_open, net_of}
 use Rattle.do_net.proofs.LoseIsStep.{lost_goes, none_lost}
-use Rattle.do_net.proofs.ByHalves.{rising_set}
+use Rattle.do_ported.proofs.ByHalves.{rising_set}
 use Rattle.do_net.proofs.HostPlaces.{place_found, place_none, place_set}
 use Rattle.do_net.proofs.hosts.lose.Goals as goal
 

@@ -1,5 +1,5 @@
 use Rattle.std.proofs.Common.{sym}
-use Rattle.do_net.proofs.ByHalves.{rising_set}
+use Rattle.do_ported.proofs.ByHalves.{rising_set}
 use Rattle.do_net.proofs.ChannelPlaces.{channels_lose, none_loses}
 use Rattle.do_net.proofs.lanes.Lanes.lose.Goals as goal
 

@@ -1,4 +1,8 @@
+use Rattle.std.proofs.Common.{subst, sym}
+use Rattle.do_machine.specs.World.{opening}
+use Rattle.do_net.specs.OneMachine.{StandsFor}
 use Rattle.do_net.proofs.OpeningNetwork.{alike_first, opens, opens_rest}
+use Rattle.do_net.proofs.StandsForStates.{opening_stands}
 use Rattle.do_net.proofs.net.Net.new.Goals as goal
 
 -- the sites that open are those of what decides the acts of the first
@@ -15,3 +19,11 @@ returns-clause-net g c =
     opens c.args.table (act c.in_ok-acts.acts) c.args.nodes.now _
     (c.in_ok-hosts.ensures (act c.in_ok-acts.acts)
     (alike_first act c.args.makers.now c.in_ok-acts.acts c.requires.alike c.in_ok-acts.ensures))
+
+-- so they stand for the one machine's opening
+pub returns-clause-one_machine : goal.returns-clause-one_machine
+returns-clause-one_machine g c world =
+    let act = g.S.Acts.Behaviour.act c.in_ok-acts.acts in
+    let seats = c.args.nodes.now in
+    subst (λ N. StandsFor c.args.table act N (opening c.args.table seats))
+    (sym (returns-clause-net g c)) (opening_stands c.args.table act seats world)

@@ -1,0 +1,10 @@
+pub mod StateNamed
+pub mod StandAlone
+pub mod QueuesStand
+pub mod StationsFound
+pub mod NamedAlike
+pub mod WaysAsQueues
+pub mod NetAsState
+pub mod LeaksAlike
+pub mod LostAlike
+pub mod StandsNamed
