@@ -1,17 +1,21 @@
-use Rattle.std.proofs.Common.{◌∙◌, ◌++◌, ap, arith}
+use Rattle.std.proofs.Common.{◌∙◌, ◌++◌, ap}
 use Rattle.do_weave.specs.Inputs.{lines_of}
 use Rattle.do_weave.proofs.Calls.{fails_turn, goes_on}
 use Rattle.do_weave.proofs.Turning.{passed}
 use Rattle.do_weave.proofs.turns.turn.Goals as goal
 
+-- the machine stands for what the threads so far left
+pub weave_thread-requires : goal.weave_thread-requires
+weave_thread-requires g c =
+    let was = c.requires in (was.0, was.1, (c.loop-place.invariant.stands was.0 was.1 was.2).0)
+
 pub loop-place-preserved : goal.loop-place-preserved
 loop-place-preserved g c = record {
   threads = c.loop-place.invariant.threads;
-  events = omega (arith, c.in-Ok-false.ensures.events, c.loop-place.invariant.events);
   stands = λ R S stands.
       let before = c.loop-place.invariant.stands R S stands in
       let d = rw c.in-Ok-false.field-0-test
-      at (c.in-Ok-false.ensures.does R S c.loop-place.place before.0) in (
+      at (c.in-Ok-false.ensures R S c.loop-place.place before.0) in (
         d.1,
         d.2 ∙ before.1,
         before.2 ∙ passed R S c.args.records.now c.args.threads.now c.loop-place.place
@@ -21,11 +25,11 @@ loop-place-preserved g c = record {
       );
 }
 
-pub returns-in-Ok-true-clause-does : goal.returns-in-Ok-true-clause-does
-returns-in-Ok-true-clause-does g c = λ R S stands.
+pub returns-in-Ok-true : goal.returns-in-Ok-true
+returns-in-Ok-true g c = λ R S stands.
     let before = c.loop-place.invariant.stands R S stands in
     let d = rw c.in-Ok-true.field-0-test
-    at (c.in-Ok-true.ensures.does R S c.loop-place.place before.0) in (
+    at (c.in-Ok-true.ensures R S c.loop-place.place before.0) in (
       d.0.stepped.state,
       d.3,
       goes_on R S c.args.records.now c.args.threads.now c.loop-place.place
@@ -37,8 +41,8 @@ returns-in-Ok-true-clause-does g c = λ R S stands.
           (d.5 ∙ ap (λ ls. ls ++ lines_of d.0.thread.port d.0.block.input) before.1),
     )
 
-pub returns-in-Err-clause-does : goal.returns-in-Err-clause-does
-returns-in-Err-clause-does g c = λ R S stands.
+pub returns-in-Err : goal.returns-in-Err
+returns-in-Err g c = λ R S stands.
     let before = c.loop-place.invariant.stands R S stands in
     fails_turn (g.M.Machine.stands_for c.weave_thread.new.machine R)
     (g.M.Machine.stands_for c.weave_thread.new.machine R) R S c.args.records.now
@@ -51,4 +55,4 @@ returns-in-Err-clause-does g c = λ R S stands.
       lines_before = c.loop-place.lines;
       lines_after = c.weave_thread.new.lines;
     }) c.loop-place.threads c.args.lines.now c.weave_thread.new.lines c.in-Err.fault
-    (c.in-Err.ensures.does R S c.loop-place.place before.0)
+    (c.in-Err.ensures R S c.loop-place.place before.0)

@@ -5,8 +5,8 @@ use Rattle.do_weave.specs.Weaving.{contradiction}
 use Rattle.do_weave.proofs.Calls.{had_turn}
 use Rattle.do_weave.proofs.turns.weave_thread.Goals as goal
 
-pub returns-then-not-branch-clause-does : goal.returns-then-not-branch-clause-does
-returns-then-not-branch-clause-does g c = λ R S place stands.
+pub returns-then-not-branch : goal.returns-then-not-branch
+returns-then-not-branch g c = λ R S place stands.
     let h = had_turn (g.M.Machine.stands_for c.try_input.new.machine R) R S c.args.records.now place
     c.args.thread.now c.in-Some.block.now c.in-Some-2.outcome c.is_cut-cut.result
     c.in_ok-agrees.field-0 (sym c.in-Some.ensures.value)
@@ -20,8 +20,8 @@ returns-then-not-branch-clause-does g c = λ R S place stands.
           ∙ ap (contradiction c.args.thread.now) h.block_is,
     )
 
-pub returns-clause-does : goal.returns-clause-does
-returns-clause-does g c = λ R S place stands.
+pub returns : goal.returns
+returns g c = λ R S place stands.
     let h = had_turn (g.M.Machine.stands_for c.try_input.new.machine R) R S c.args.records.now place
     c.args.thread.now c.in-Some.block.now c.in-Some-2.outcome c.is_cut-cut.result
     c.in_ok-agrees.field-0 (sym c.in-Some.ensures.value)

@@ -15,7 +15,7 @@ use Rattle.do_weave.specs.Rules.{Rules}
 use Rattle.do_weave.specs.Weaving.{woven}
 use Rattle.do_weave.proofs.StepsWoven.{fine_woven}
 use Rattle.do_woven.specs.Steps.{block_steps, input_steps, record_steps, steps_in}
-use Rattle.do_again.proofs.RecordsBehind.{AreSound}
+use Rattle.do_rewoven.proofs.RecordsBehind.{AreSound}
 
 -- the lines of an input take its steps
 input_same : (port : ℕ) (input : RecordLine) → steps_of (lines_of port input) ≡ input_steps input

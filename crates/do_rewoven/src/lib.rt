@@ -1,4 +1,4 @@
-//! What a schedule is that was woven of records which were read.
+//! Laws of records that are woven to a schedule and given again when it is replayed.
 //!
 //! It stands on do_woven, which reads records one behind another, and on do_weave, which weaves
 //! them; it has no code of its own: each of its functions is a law. It promises that what is woven

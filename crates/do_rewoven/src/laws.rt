@@ -1,5 +1,5 @@
 ghost use Rattle.std.specs.Prelude.{◌≡◌, ℕ, List, Ok, []};
-ghost use Rattle.do_again.specs.Read.{AreRead};
+ghost use Rattle.do_rewoven.specs.Read.{AreRead};
 ghost use Rattle.do_machine.specs.declared.state.Seat.{Seat};
 ghost use Rattle.do_machine.specs.declared.state.State.{State};
 ghost use Rattle.do_record.specs.declared.parts.Record.{Record};

@@ -21,9 +21,9 @@ use Rattle.do_sched.specs.declared.fault.SchedFault.TheVariants.{BadLine}
 use Rattle.do_weave.specs.Laws.{AreApart}
 use Rattle.do_woven.specs.Judging.{behind, has_record, has_seat, judged, unless_at}
 use Rattle.do_woven.specs.Steps.{block_steps, passing_line, record_steps, steps_in}
-use Rattle.do_again.specs.Read.{AreRead}
+use Rattle.do_rewoven.specs.Read.{AreRead}
 use Rattle.do_record.specs.Good.{IsGoodRecord}
-use Rattle.do_record.proofs.RecordsRead.{good_record, no_record, one_answer}
+use Rattle.do_record.proofs.records.GoodRecords.{good_record, no_record, one_answer}
 
 -- records that can be woven to a schedule
 pub record AreSound (records : List Record) : Type 0 where

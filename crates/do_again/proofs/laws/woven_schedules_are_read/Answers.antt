@@ -1,7 +1,0 @@
-use Rattle.do_again.proofs.RecordsBehind.{read_sound}
-use Rattle.do_again.proofs.WovenSchedule.{woven_schedule}
-use Rattle.do_again.proofs.laws.woven_schedules_are_read.Goals as goal
-
-pub returns : goal.returns
-returns c R S seats files records lines read =
-    woven_schedule R S records lines (read_sound seats files records read)
