@@ -1,0 +1,17 @@
+pub mod Stations
+pub mod Moving
+pub mod Commuting
+pub mod EntriesOff
+pub mod EntriesBehind
+pub mod SoundMoves
+pub mod Past
+pub mod Around
+pub mod Behind
+pub mod PutBack
+pub mod TakesMove
+pub mod LedBack
+pub mod Acts
+pub mod InputsMove
+pub mod SoundInputs
+pub mod Reached
+pub mod InputsCommute
