@@ -229,6 +229,7 @@ module _ (core : Core) (part : Owned) (is : IsTaken core.part part) where
       let pl = place.left in
       let ps = place.settled in
       let pw = place.waiting in
+      let pp = place.places in
       record {
         room = record {
           part = record {
@@ -243,6 +244,7 @@ module _ (core : Core) (part : Owned) (is : IsTaken core.part part) where
         left = omega (arith, pl, held);
         settled = omega (arith, ps, asked);
         waiting = omega (arith, pw, heap, held);
+        places = omega (arith, pp, heap, held, asked);
       }
 
   -- a plan that uses the answer can be carried out

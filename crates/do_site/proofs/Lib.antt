@@ -8,6 +8,7 @@ pub mod FetchedFrames
 pub mod FramesTaken
 pub mod HeapsOfEffects
 pub mod InputsHandled
+pub mod KindsRead
 pub mod KeptSteps
 pub mod ListedSites
 pub mod OpenedSites
@@ -25,3 +26,5 @@ pub mod StepsDone
 pub mod StepsSeen
 pub mod Stored
 pub mod TakenSteps
+pub mod PlacesKept
+pub mod EndingRulings

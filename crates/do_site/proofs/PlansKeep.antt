@@ -14,6 +14,7 @@ use Rattle.do_machine.specs.State.{is_open}
 use Rattle.do_machine.specs.run.Fresh.{with_serials}
 use Rattle.do_network.specs.Own.{Own, site_context}
 use Rattle.do_rules.specs.declared.run.delivery.Delivery.TheVariants as deliveries
+use Rattle.do_streams.specs.Streamed.{Fixed}
 use Rattle.do_effects.specs.Bounded.{IsBounded}
 use Rattle.do_effects.specs.Plans.{IsRun, IsRunning, plan_effect}
 use Rattle.do_effects.specs.Room.{HasRoom, Needs as Wants}
@@ -23,7 +24,7 @@ use Rattle.do_effects.specs.declared.plan.Plan.TheVariants.{Asks, Begins, Delive
 use Rattle.do_effects.specs.declared.plan.Plan.TheVariants.{Says, Tells, Uses, Vends}
 use Rattle.do_site.specs.Packable.{is_kept_at}
 use Rattle.do_site.specs.Plans.{IsEnough, IsTurnOf}
-use Rattle.do_site.specs.Room.{HasPlace, needed}
+use Rattle.do_site.specs.Room.{HasPlaceFor, HasPlaceToLeave, HasPlace, needed}
 use Rattle.do_site.specs.Running.{IsRunOf, makes_light}
 use Rattle.do_site.specs.declared.needs.Needs.{Needs}
 use Rattle.do_site.specs.declared.told.Told.{Told}
@@ -133,30 +134,51 @@ enough_room wants needs c e r = record {
   waiting = (let a = e.waiting in let b = r.waiting in omega (arith, a, b));
 }
 
--- room to leave what is then stored and held
-pub record HasLeft (most_freed most_left : ℕ) (c : Core) : Type 0 where
-  pub freed : length c.part.own.node.heap ≤ most_freed
-  pub left : length c.part.own.node.held ≤ most_left
-  pub room : length c.part.own.node.heap + length c.part.own.node.held ≤ c.streams.room
-
--- so there is where a place was made
-pub place_left : (wants : Wants) (needs : Needs) (before after : Core) (t : Told) (freed left : ℕ) →
-    IsEnough wants needs → HasPlace needs before t → IsBounded wants before after →
-    freed ≡ vec_capacity t.freed → left ≡ vec_capacity t.left → HasLeft freed left after
-place_left wants needs before after t freed left e p b same also =
+-- so there is a place for as much
+pub enough_place : (wants : Wants) (needs : Needs) (c : Core) (t : Told) →
+    IsEnough wants needs → HasPlace needs c t → HasPlaceFor wants c t
+enough_place wants needs c t e p =
     let eo = e.objects in
     let en = e.names in
     let ew = e.waiting in
-    let bs = b.stored in
-    let bh = b.held in
-    let bw = b.waiting in
     let pf = p.freed in
     let pl = p.left in
+    let ps = p.settled in
     let pw = p.waiting in
+    let pp = p.places in
     record {
-      freed = omega (arith, eo, bs, pf, same);
-      left = omega (arith, en, bh, pl, also);
-      room = omega (arith, eo, en, ew, bs, bh, bw, pw);
+      room = enough_room wants needs c e p.room;
+      freed = omega (arith, eo, pf);
+      left = omega (arith, en, pl);
+      settled = omega (arith, en, ps);
+      waiting = omega (arith, eo, en, ew, pw);
+      places = omega (arith, eo, en, pp);
+    }
+
+-- where a place was made, there is one to leave what is then stored and held
+pub place_left : (wants : Wants) (before after : Core) (t u : Told) →
+    HasPlaceFor wants before t → IsBounded wants before after →
+    vec_capacity u.freed ≡ vec_capacity t.freed → vec_capacity u.left ≡ vec_capacity t.left →
+    vec_capacity u.settled ≡ vec_capacity t.settled → HasPlaceToLeave after u
+place_left wants before after t u p b freed left settled =
+    let bs = b.stored in
+    let bh = b.held in
+    let ba = b.asked in
+    let bw = b.waiting in
+    let bf = ap (λ (f : Fixed). f.places) b.fixed in
+    let pf = p.freed in
+    let pl = p.left in
+    let ps = p.settled in
+    let pw = p.waiting in
+    let pp = p.places in
+    record {
+      places = record {
+        freed = omega (arith, bs, pf, freed);
+        left = omega (arith, bh, pl, left);
+        settled = omega (arith, ba, ps, settled);
+        places = omega (arith, bs, bh, ba, bf, pp);
+      };
+      waiting = omega (arith, bs, bh, bw, pw);
     }
 
 -- it is the turn of the top invocation

@@ -1,6 +1,6 @@
 -- What taking an item comes to, with a frame read besides.
 use Rattle.std.proofs.Common.{◌≡◌, ℕ, true, List, refl, ap, sym, subst, ◌∙◌}
-use Rattle.std.specs.Prelude.{false, vec_capacity}
+use Rattle.std.specs.Prelude.{false}
 use Rattle.std.specs.List.{list_all}
 use Rattle.do_base.specs.declared.events.shown.Shown.{Shown}
 use Rattle.do_base.specs.declared.events.shown.Shown.TheVariants as shows
@@ -22,19 +22,18 @@ use Rattle.do_rules.specs.Ruling.{RulingsAreArrivals, names_in, ruling}
 use Rattle.do_rules.specs.declared.take.ruling.Ruling.{Ruling}
 use Rattle.do_streams.specs.Reading.{names_of}
 use Rattle.do_streams.proofs.LinksRead.{names_stay}
-use Rattle.do_effects.specs.Bounded.{IsBounded}
 use Rattle.do_effects.specs.Doing.{Doing, cleared, does, doing, effected, moved}
 use Rattle.do_effects.specs.Room.{HasRoom}
 use Rattle.do_effects.specs.Taking.{ruling_copies, taken, takes, taking_needs}
 use Rattle.do_effects.specs.declared.changing.Core.{Core}
 use Rattle.do_site.proofs.PackableSteps.{packable_after}
-use Rattle.do_site.proofs.PlansKeep.{HasLeft, enough_room, place_left}
+use Rattle.do_site.proofs.PlansKeep.{enough_place, enough_room}
 use Rattle.do_site.proofs.RulingsKeep.{got_classed, ruled_apart, ruled_kept}
 use Rattle.do_site.proofs.SentBehind.{sent_after_reading}
 use Rattle.do_site.proofs.StepsDone.{then_left}
 use Rattle.do_site.specs.Packable.{IsPackable, is_kept, is_named}
 use Rattle.do_site.specs.Plans.{AllowsRuling, IsEnough}
-use Rattle.do_site.specs.Room.{HasPlace}
+use Rattle.do_site.specs.Room.{HasPlace, HasPlaceFor}
 use Rattle.do_site.specs.Steps.{item_move, with_reading}
 use Rattle.do_site.specs.declared.needs.Needs.{Needs}
 use Rattle.do_site.specs.declared.told.Told.{Told}
@@ -134,8 +133,5 @@ module _ (from : ℕ) (item : Item) (r : Ruling) (needs : Needs) (before mid : C
       enough_room (taking_needs mid.part.own.node item r) needs mid room_enough place.room
 
   -- and then to leave what is stored and held
-  pub ruling_left : (one : Core) → IsBounded (taking_needs mid.part.own.node item r) mid one →
-      HasLeft (vec_capacity t.freed) (vec_capacity t.left) one
-  ruling_left one within =
-      place_left (taking_needs mid.part.own.node item r) needs mid one t _ _ room_enough place
-      within refl refl
+  pub ruling_place : HasPlaceFor (taking_needs mid.part.own.node item r) mid t
+  ruling_place = enough_place (taking_needs mid.part.own.node item r) needs mid t room_enough place

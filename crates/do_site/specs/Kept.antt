@@ -11,7 +11,7 @@ use Rattle.do_site.specs.declared.work.Work.{Work}
 pub record IsKept (table : List Class) (w : Work) : Type 0 where
   pub tidy : IsTidy w.core.part.own
   pub apart : is_open w.core.part.own.node w.core.part.own.node.port ≡ false
-  pub classes : w.core.streams.classes ≡ length table
+  pub classes : w.core.streams.fixed.classes ≡ length table
   pub packs : w.packable ≡ true → IsPackable table w.core.part.own
 
 -- a step keeps it, by any classes
@@ -21,4 +21,4 @@ StaysKept before after = (table : List Class) → IsKept table before → IsKept
 -- the flag and the classes by which links read are the same
 pub record StaysBut (before after : Work) : Type 0 where
   pub packable : after.packable ≡ before.packable
-  pub classes : after.core.streams.classes ≡ before.core.streams.classes
+  pub classes : after.core.streams.fixed.classes ≡ before.core.streams.fixed.classes

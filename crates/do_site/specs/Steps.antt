@@ -1,7 +1,7 @@
 -- What a step is to a caller of a site.
 use Rattle.std.specs.Prelude.{Bool, Err, List, None, Ok, Option, Result, Some, [], false}
 use Rattle.std.specs.Prelude.{if◌then◌else◌, true}
-use Rattle.std.specs.Prelude.{unwrap_or, ℕ, ◌≡◌}
+use Rattle.std.specs.Prelude.{unwrap_or, ℕ, ◌≡◌, ◌≤◌}
 use Rattle.do_class.specs.Class.{Class}
 use Rattle.do_machine.specs.declared.state.Effect.{Effect}
 use Rattle.do_machine.specs.declared.item.Item.{Item}
@@ -17,6 +17,8 @@ use Rattle.do_network.specs.Links.{Link, Part, change_link}
 use Rattle.do_network.specs.Site.{Handled, Move, passed, site_move}
 use Rattle.do_network.specs.declared.input.Done.{Done}
 use Rattle.do_network.specs.declared.input.Done.TheVariants as dones
+use Rattle.do_network.specs.declared.input.Input.{Input}
+use Rattle.do_network.specs.declared.input.Input.TheVariants as inputs
 use Rattle.do_network.specs.Counting.{got}
 use Rattle.do_network.specs.Own.{Own, site_context}
 use Rattle.do_net.specs.Seen.{Seen, with_handled}
@@ -36,6 +38,18 @@ seen_of table act c = record {
   frames = c.streams.frames;
   shown = c.streams.shown;
 }
+
+-- all was fetched: no frame waits, and no line
+abbrev pub IsFetched : Core → Type 0
+IsFetched c = (c.streams.frames ≡ []) × (c.streams.shown ≡ [])
+
+-- an input by which something is given back, or an end closes: a frame of kind 10 or more, which is
+-- a release, the end of a lend, a shutdown or none, a close, or the end of a connection
+abbrev pub GivesBack : Input → Type 0
+GivesBack (inputs.Frame from raw) = 10 ≤ raw.kind
+GivesBack (inputs.Close peer) = Unit {0}
+GivesBack (inputs.Ended peer) = Unit {0}
+GivesBack input = ⊥
 
 -- nothing but room changed
 abbrev pub IsSame : Core → Core → Type 0

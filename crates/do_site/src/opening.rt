@@ -6,8 +6,10 @@ ghost use Rattle.do_machine.specs.run.Fresh.{blank, with_objects};
 ghost use Rattle.do_network.specs.Net.{opening_own, opening_part};
 ghost use Rattle.do_site.specs.Kept.{IsKept};
 ghost use Rattle.do_site.specs.Packable.{is_kept};
+ghost use Rattle.do_site.specs.Room.{CanSettle};
 ghost use Rattle.do_site.specs.Steps.{part_of};
 
+use crate::needs::Needs;
 use crate::tally::Reach;
 use crate::told::Told;
 use crate::weighing::is_kept;
@@ -110,10 +112,8 @@ fn opening_own(
     Ok((part, packable))
 }
 
-/// What the steps of a site change, before its first input.
-///
-/// An error means that memory ran out, or that there are more than 64 peers, or one of them twice.
-pub fn opening(table: &ClassTable, seat: Seat, ports: &Peers) -> Result<Work, AllocError>
+/// What the steps of a site change, before its first input, with no room.
+fn built(table: &ClassTable, seat: Seat, ports: &Peers) -> Result<Work, AllocError>
     ensures part { IfOk result (λ work. part_of work.core ≡ opening_part table.now ports.now seat) }
     ensures frames { IfOk result (λ work. work.core.streams.frames ≡ []) }
     ensures shown { IfOk result (λ work. work.core.streams.shown ≡ []) }
@@ -131,4 +131,19 @@ pub fn opening(table: &ClassTable, seat: Seat, ports: &Peers) -> Result<Work, Al
         told: Told::new(alloc),
         packable,
     })
+}
+
+/// What the steps of a site change, before its first input.
+///
+/// An error means that memory ran out, or that there are more than 64 peers, or one of them twice.
+pub fn opening(table: &ClassTable, seat: Seat, ports: &Peers) -> Result<Work, AllocError>
+    ensures part { IfOk result (λ work. part_of work.core ≡ opening_part table.now ports.now seat) }
+    ensures frames { IfOk result (λ work. work.core.streams.frames ≡ []) }
+    ensures shown { IfOk result (λ work. work.core.streams.shown ≡ []) }
+    ensures kept { IfOk result (λ work. IsKept table.now work) }
+    ensures places { IfOk result (λ work. CanSettle work) }
+{
+    let mut work = built(table, seat, ports)?;
+    work.make_room(&Needs::to_tell(0))?;
+    Ok(work)
 }

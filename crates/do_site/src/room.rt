@@ -1,6 +1,6 @@
 //! Room that is made before a step changes anything.
 ghost use Rattle.std.specs.Prelude.{◌≡◌, ◌≤◌, ◌+◌, IfSome, OnOk, length, vec_capacity};
-ghost use Rattle.do_site.specs.Room.{HasPlace};
+ghost use Rattle.do_site.specs.Room.{HasPlace, HasPlaces};
 ghost use Rattle.do_site.specs.Steps.{IsSame};
 
 use crate::needs::Needs;
@@ -10,31 +10,41 @@ use do_effects::Core;
 use do_part::Part;
 use std::alloc::AllocError;
 
-/// Makes room for the ends of all that the node asked for. What the list had is dropped.
-fn reserve_settled(part: &Part, settled: &mut Vec<Token>) -> Result<(), AllocError>
-    ensures { OnOk result (length part.now.own.node.asked ≤ vec_capacity settled.new) }
+/// Makes room for the ends of all that the node asked for, and asks for with `more` names. What the
+/// list had is dropped, and it has no less room than before.
+fn reserve_settled(part: &Part, more: u64, settled: &mut Vec<Token>) -> Result<(), AllocError>
+    ensures ok { OnOk result (length part.now.own.node.asked + more ≤ vec_capacity settled.new) }
+    ensures kept { vec_capacity settled.old ≤ vec_capacity settled.new }
 {
     settled.clear();
-    settled.reserve(part.asks() as usize)?;
-    Ok(())
+    let Some(asked) = part.asks().checked_add(more) else {
+        return Err(AllocError);
+    };
+    settled.reserve(asked as usize)
 }
 
-/// How many frames and lines a step may add, with those that tell what is then freed and left.
+/// How many frames and lines a step may add, with those that tell what is then freed, left and
+/// settled, and two for a close.
 fn waiting_with(told: &Told, needs: &Needs) -> Option<usize>
-    ensures { IfSome result (λ n. n
-        ≡ vec_capacity told.now.freed + vec_capacity told.now.left + needs.now.waiting) }
+    ensures { IfSome result (λ n. n ≡ vec_capacity told.now.freed + vec_capacity told.now.left
+        + vec_capacity told.now.settled + 2 + needs.now.waiting) }
 {
-    let told = told.freed.capacity().checked_add(told.left.capacity())?;
-    told.checked_add(needs.waiting as usize)
+    let told = told
+        .freed
+        .capacity()
+        .checked_add(told.left.capacity())?
+        .checked_add(told.settled.capacity())?;
+    told.checked_add(2)?.checked_add(needs.waiting as usize)
 }
 
 /// Makes room for a step, and for what is then freed, left and settled.
 ///
 /// An error means that memory ran out, or that the numbers are too great; nothing but room changed
-/// then.
+/// then. Room that was there stays, and so a close can still be done.
 pub fn make_room(core: &mut Core, told: &mut Told, needs: &Needs) -> Result<(), AllocError>
     ensures same { IsSame core.old core.new }
-    ensures classes { core.new.streams.classes ≡ core.old.streams.classes }
+    ensures classes { core.new.streams.fixed.classes ≡ core.old.streams.fixed.classes }
+    ensures places { HasPlaces core.old told.old → HasPlaces core.new told.new }
     ensures room { OnOk result (HasPlace needs.now core.new told.new) }
 {
     let Some(more) = needs.objects.checked_add(needs.names) else {
@@ -43,7 +53,7 @@ pub fn make_room(core: &mut Core, told: &mut Told, needs: &Needs) -> Result<(), 
     core.part.reserve(needs.objects, needs.invocations, needs.names, needs.entries)?;
     core.part
         .make_room_to_leave(more, &mut told.freed, &mut told.left)?;
-    reserve_settled(&core.part, &mut told.settled)?;
+    reserve_settled(&core.part, needs.names, &mut told.settled)?;
     let Some(waiting) = waiting_with(told, needs) else {
         return Err(AllocError);
     };

@@ -1,7 +1,7 @@
 //! A site: what a caller sees of it.
 mod naming;
 
-ghost use Rattle.std.specs.Prelude.{◌≡◌, ◌==◌, IfOk, OnErr, length};
+ghost use Rattle.std.specs.Prelude.{◌≡◌, ◌==◌, IfOk, IsOk, OnErr, length};
 ghost use Rattle.std.specs.Result.{result_map_both};
 ghost use Rattle.do_machine.specs.State.{is_open};
 ghost use Rattle.do_machine.specs.take.Take.{can_take};
@@ -10,7 +10,7 @@ ghost use Rattle.do_net.specs.Turns.{can_act};
 ghost use Rattle.do_network.specs.Net.{opening_part};
 ghost use Rattle.do_network.specs.Site.{enabled_input};
 ghost use Rattle.do_network.specs.Snapshot.{part_line};
-ghost use Rattle.do_site.specs.Steps.{Handles, done_told, part_of, seen_of};
+ghost use Rattle.do_site.specs.Steps.{GivesBack, Handles, IsFetched, done_told, part_of, seen_of};
 
 use crate::listing::line;
 use crate::opening::opening;
@@ -45,10 +45,11 @@ impl<B: Behaviour + Drop> Model for Site<B> {
     ghost coded = { sited_code classes.the_row.coded B.code works.the_row.coded };
 
     ghost use Rattle.do_site.specs.Kept.{IsKept};
+    ghost use Rattle.do_site.specs.Room.{CanSettle};
 
     ghost view = { λ s. record { table = s.table; acts = s.acts; work = s.work } };
 
-    ghost invariant = { λ s. IsKept s.table s.work };
+    ghost invariant = { λ s. IsKept s.table s.work × CanSettle s.work };
 }
 
 /// What an input comes to that was done or not.
@@ -89,8 +90,13 @@ impl<B: Behaviour + Drop> Site<B> {
     /// exactly where a frame is none that its peer may send, and the end towards the peer is closed
     /// then. An error means that memory ran out, or that a number would pass what a site can count;
     /// what the site has, and what waits, is then as before.
+    ///
+    /// A frame of kind 10, 11 or 12, a close and the end of a connection take no memory, so that
+    /// what is held and lent can always be given back: no error comes of them where no frame waits
+    /// to be fetched, and no line.
     pub fn handle(&mut self, input: &Input) -> Result<Done, AllocError>
-        ensures { Handles (seen_of self.old.table (B.act self.old.acts) self.old.work.core)
+        ensures settles { GivesBack input.now → IsFetched self.old.work.core → IsOk result }
+        ensures handles { Handles (seen_of self.old.table (B.act self.old.acts) self.old.work.core)
             (seen_of self.new.table (B.act self.new.acts) self.new.work.core) result
             (enabled_input self.old.table (B.act self.old.acts) (part_of self.old.work.core)
             input.now) }

@@ -4,14 +4,15 @@ mod answering;
 mod closing;
 mod releasing;
 mod running;
+mod settling;
 mod starting;
 mod taking;
 
-ghost use Rattle.std.specs.Prelude.{◌≡◌, ◌≤◌, ◌+◌, OnOk, length, vec_capacity};
+ghost use Rattle.std.specs.Prelude.{◌≡◌, OnOk};
 ghost use Rattle.do_effects.specs.Doing.{cleared, doing, moved};
 ghost use Rattle.do_effects.specs.Tidy.{IsTidy};
 ghost use Rattle.do_site.specs.Kept.{StaysBut};
-ghost use Rattle.do_site.specs.Room.{HasPlace};
+ghost use Rattle.do_site.specs.Room.{CanSettle, HasPlace, HasPlaceToLeave};
 ghost use Rattle.do_site.specs.Steps.{IsSame};
 
 use crate::needs::Needs;
@@ -35,9 +36,10 @@ pub struct Work {
 impl Work {
     /// Makes room for a step. An error means that memory ran out, or that the numbers are too
     /// great; nothing but room changed then.
-    fn make_room(&mut self, needs: &Needs) -> Result<(), AllocError>
+    pub(crate) fn make_room(&mut self, needs: &Needs) -> Result<(), AllocError>
         ensures same { IsSame self.old.core self.new.core }
         ensures stays { StaysBut self.old self.new }
+        ensures places { CanSettle self.old → CanSettle self.new }
         ensures room { OnOk result (HasPlace needs.now self.new.core self.new.told) }
     {
         make_room(&mut self.core, &mut self.told, needs)
@@ -46,15 +48,12 @@ impl Work {
     /// Frees what nothing holds any more, and leaves what the node no longer refers to.
     fn leave(&mut self)
         requires tidy { IsTidy self.old.core.part.own }
-        requires freed { length self.old.core.part.own.node.heap
-            ≤ vec_capacity self.old.told.freed }
-        requires left { length self.old.core.part.own.node.held ≤ vec_capacity self.old.told.left }
-        requires room { length self.old.core.part.own.node.heap
-            + length self.old.core.part.own.node.held ≤ self.old.core.streams.room }
+        requires place { HasPlaceToLeave self.old.core self.old.told }
         ensures moved { doing self.new.core
             ≡ moved (doing self.old.core) (cleared self.old.core.part.own) }
         ensures tidy { IsTidy self.new.core.part.own }
         ensures stays { StaysBut self.old self.new }
+        ensures places { CanSettle self.new }
     {
         self.core.leave(&mut self.told.freed, &mut self.told.left);
     }

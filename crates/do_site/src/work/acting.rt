@@ -15,7 +15,7 @@ ghost use Rattle.do_effects.specs.Tidy.{IsTidy};
 ghost use Rattle.do_site.specs.Kept.{IsKept, StaysBut};
 ghost use Rattle.do_site.specs.Packable.{is_light};
 ghost use Rattle.do_site.specs.Plans.{IsEnough};
-ghost use Rattle.do_site.specs.Room.{HasPlace, HasPlaceToLeave};
+ghost use Rattle.do_site.specs.Room.{CanSettle, HasPlace, HasPlaceToLeave};
 ghost use Rattle.do_site.specs.Running.{IsRunOf, makes_light};
 ghost use Rattle.do_site.specs.Steps.{IsSame, Moves};
 
@@ -57,6 +57,7 @@ impl Work {
             → Moves self.old.core self.new.core (plan_effect r plan) }
         ensures tidy { IsTidy self.new.core.part.own }
         ensures stays { StaysBut self.old self.new }
+        ensures places { CanSettle self.new }
     {
         self.core.carry_out(plan);
         self.leave();
@@ -68,11 +69,13 @@ impl Work {
     /// nothing but room changed then.
     fn carry_out(&mut self, table: &ClassTable, plan: Plan) -> Result<(), AllocError>
         requires kept { IsKept table.now self.old }
+        requires places { CanSettle self.old }
         requires runs { IsRunning self.old.core.part.own.node.stack }
         ensures ok { OnOk result ((r : RunContext) → IsRunOf table.now self.old.core.part.own r
             → Moves self.old.core self.new.core (plan_effect r plan)) }
         ensures err { OnErr result (IsSame self.old.core self.new.core) }
         ensures kept { IsKept table.now self.new }
+        ensures places { CanSettle self.new }
     {
         let Some(needs) = allowed(&self.core.part, &plan) else {
             return Err(AllocError);
@@ -109,11 +112,13 @@ impl Work {
     /// nothing but room changed then.
     fn decide(&mut self, table: &ClassTable, act: Act) -> Result<(), AllocError>
         requires kept { IsKept table.now self.old }
+        requires places { CanSettle self.old }
         requires runs { IsRunning self.old.core.part.own.node.stack }
         ensures ok { OnOk result ((r : RunContext) → IsRunOf table.now self.old.core.part.own r
             → Moves self.old.core self.new.core (effect_of r (act_rule r act))) }
         ensures err { OnErr result (IsSame self.old.core self.new.core) }
         ensures kept { IsKept table.now self.new }
+        ensures places { CanSettle self.new }
     {
         let plan = self.plan_of(table, act)?;
         self.carry_out(table, plan)
@@ -154,6 +159,7 @@ impl Work {
             ≡ act_left_on change self.old.core.part.own.node.stack) }
         ensures err { OnErr result (IsSame self.old.core self.new.core) }
         ensures stays { StaysBut self.old self.new }
+        ensures places { CanSettle self.old → CanSettle self.new }
         ensures room { OnOk result (HasPlaceToLeave self.new.core self.new.told) }
     {
         let part = &self.core.part;
@@ -175,12 +181,14 @@ impl Work {
         acts: &B,
     ) -> Result<(), AllocError>
         requires kept { IsKept table.now self.old }
+        requires places { CanSettle self.old }
         requires runs { IsRunning self.old.core.part.own.node.stack }
         ensures ok { OnOk result ((r : RunContext) → IsRunOf table.now self.old.core.part.own r
             → Moves self.old.core self.new.core
             (effect_of r (act_rule r (next_act (B.act acts.now) r)))) }
         ensures err { OnErr result (IsSame self.old.core self.new.core) }
         ensures kept { IsKept table.now self.new }
+        ensures places { CanSettle self.new }
     {
         let change = self.next_change(table, acts)?;
         let packable = stays_light(self.packable, &change);

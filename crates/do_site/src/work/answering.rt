@@ -4,6 +4,7 @@ ghost use Rattle.do_class.specs.Class.{Class};
 ghost use Rattle.do_stack.specs.Answered.{top_answer};
 ghost use Rattle.do_effects.specs.Tidy.{IsTidy};
 ghost use Rattle.do_site.specs.Kept.{IsKept, StaysKept};
+ghost use Rattle.do_site.specs.Room.{CanSettle};
 ghost use Rattle.do_site.specs.Running.{AnswerUsed, IsOver, PlansAnswer, next_of, raised_in};
 ghost use Rattle.do_site.specs.Steps.{IsSame};
 ghost use Rattle.do_site.specs.Taken.{IsTaken};
@@ -47,11 +48,13 @@ impl Work {
     /// nothing but room changed then.
     pub(super) fn use_given(&mut self) -> Result<(), AllocError>
         requires tidy { IsTidy self.old.core.part.own }
+        requires places { CanSettle self.old }
         requires given { next_of self.old.core.part.own.node.stack ≡ Next.Given }
         ensures ok { OnOk result ((table : List Class)
             → AnswerUsed table self.old.core self.new.core) }
         ensures err { OnErr result (IsSame self.old.core self.new.core) }
         ensures kept { StaysKept self.old self.new }
+        ensures places { CanSettle self.new }
     {
         let part = &self.core.part;
         let Some(names) = (Reach { part, more: 0 }).of_top() else {
@@ -96,10 +99,12 @@ impl Work {
     /// nothing but room changed then.
     pub(super) fn use_raised(&mut self, table: &ClassTable) -> Result<(), AllocError>
         requires kept { IsKept table.now self.old }
+        requires places { CanSettle self.old }
         requires raised { next_of self.old.core.part.own.node.stack ≡ Next.Raised }
         ensures ok { OnOk result (AnswerUsed table.now self.old.core self.new.core) }
         ensures err { OnErr result (IsSame self.old.core self.new.core) }
         ensures kept { IsKept table.now self.new }
+        ensures places { CanSettle self.new }
     {
         let plan = self.plan_of_raised(table)?;
         let Some(needs) = allowed(&self.core.part, &plan) else {

@@ -1,6 +1,6 @@
 //! Ends that close, and calls that are given up.
 ghost use Rattle.std.specs.Prelude.{◌≡◌, ◌+◌, ◌≤◌, [], IfOk, IfSome, List, OnErr, OnOk};
-ghost use Rattle.std.specs.Prelude.{is_some, length, true};
+ghost use Rattle.std.specs.Prelude.{IsOk, is_some, length, true};
 ghost use Rattle.do_class.specs.Class.{Class};
 ghost use Rattle.do_machine.specs.State.{is_open};
 ghost use Rattle.do_machine.specs.ends.Closing.{closing};
@@ -10,8 +10,8 @@ ghost use Rattle.do_machine.specs.declared.item.Item.TheVariants.{End};
 ghost use Rattle.do_network.specs.Own.{site_context};
 ghost use Rattle.do_effects.specs.Tidy.{IsTidy};
 ghost use Rattle.do_site.specs.Kept.{StaysBut, StaysKept};
-ghost use Rattle.do_site.specs.Room.{HasPlaceToClose};
-ghost use Rattle.do_site.specs.Steps.{Does, IsSame, Moves, close_effect, end_effect};
+ghost use Rattle.do_site.specs.Room.{CanSettle, HasPlaceToClose};
+ghost use Rattle.do_site.specs.Steps.{Does, IsFetched, IsSame, Moves, close_effect, end_effect};
 
 use crate::needs::Needs;
 use crate::work::Work;
@@ -29,12 +29,19 @@ fn closing_frames(part: &Part) -> Option<u64>
 }
 
 impl Work {
-    /// Makes room for a close, and for one line more.
+    /// Makes room for a close, and for one line more. Where all was fetched that waited, there is
+    /// room, and no memory is taken.
     pub(super) fn make_room_to_close(&mut self) -> Result<(), AllocError>
+        requires { CanSettle self.old }
         ensures same { IsSame self.old.core self.new.core }
         ensures stays { StaysBut self.old self.new }
+        ensures places { CanSettle self.new }
         ensures room { OnOk result (HasPlaceToClose self.new.core self.new.told) }
+        ensures sure { IsFetched self.old.core → IsOk result }
     {
+        if self.core.streams.is_fetched() {
+            return Ok(());
+        }
         let Some(frames) = closing_frames(&self.core.part) else {
             return Err(AllocError);
         };
@@ -46,14 +53,18 @@ impl Work {
 
     /// Closes the end towards a peer, which is open, and leaves what then nothing holds.
     ///
-    /// An error means that memory ran out; nothing but room changed then.
+    /// An error means that memory ran out, which it cannot where all was fetched that waited; nothing
+    /// but room changed then.
     pub fn close(&mut self, peer: NodeId) -> Result<(), AllocError>
         requires tidy { IsTidy self.old.core.part.own }
+        requires places { CanSettle self.old }
         requires open { is_open self.old.core.part.own.node peer ≡ true }
         ensures ok { OnOk result (Moves self.old.core self.new.core
             (closing peer self.old.core.part.own.node)) }
         ensures err { OnErr result (IsSame self.old.core self.new.core) }
         ensures kept { StaysKept self.old self.new }
+        ensures places { CanSettle self.new }
+        ensures sure { IsFetched self.old.core → IsOk result }
     {
         self.make_room_to_close()?;
         self.core.close(peer, &mut self.told.settled);
@@ -67,11 +78,14 @@ impl Work {
     /// An error means that memory ran out; nothing but room changed then.
     pub fn end(&mut self, peer: NodeId) -> Result<(), AllocError>
         requires tidy { IsTidy self.old.core.part.own }
+        requires places { CanSettle self.old }
         requires open { is_open self.old.core.part.own.node peer ≡ true }
         ensures ok { OnOk result ((table : List Class) → Moves self.old.core self.new.core
             (take_effect (site_context table self.old.core.part.own) peer (End []))) }
         ensures err { OnErr result (IsSame self.old.core self.new.core) }
         ensures kept { StaysKept self.old self.new }
+        ensures places { CanSettle self.new }
+        ensures sure { IsFetched self.old.core → IsOk result }
     {
         self.make_room_to_close()?;
         self.core.streams.show(Shown::Took(Took::End));
@@ -96,10 +110,12 @@ impl Work {
     /// An error means that memory ran out; nothing but room changed then.
     pub fn time_out(&mut self) -> Result<bool, AllocError>
         requires tidy { IsTidy self.old.core.part.own }
+        requires places { CanSettle self.old }
         ensures done { IfOk result (λ told. Does self.old.core self.new.core told
             (time_out self.old.core.part.own.node)) }
         ensures err { OnErr result (IsSame self.old.core self.new.core) }
         ensures kept { StaysKept self.old self.new }
+        ensures places { CanSettle self.new }
     {
         if !self.top_waits() {
             return Ok(false);
@@ -116,10 +132,13 @@ impl Work {
     /// An error means that memory ran out; nothing but room changed then.
     pub fn close_if_open(&mut self, peer: NodeId) -> Result<bool, AllocError>
         requires tidy { IsTidy self.old.core.part.own }
+        requires places { CanSettle self.old }
         ensures done { IfOk result (λ told. Does self.old.core self.new.core told
             (close_effect peer self.old.core.part.own.node)) }
         ensures err { OnErr result (IsSame self.old.core self.new.core) }
         ensures kept { StaysKept self.old self.new }
+        ensures places { CanSettle self.new }
+        ensures sure { IsFetched self.old.core → IsOk result }
     {
         if !self.core.part.is_open(peer) {
             return Ok(false);
@@ -134,11 +153,14 @@ impl Work {
     /// An error means that memory ran out; nothing but room changed then.
     pub fn end_if_taken(&mut self, peer: NodeId) -> Result<bool, AllocError>
         requires tidy { IsTidy self.old.core.part.own }
+        requires places { CanSettle self.old }
         ensures done { IfOk result (λ told. (table : List Class)
             → Does self.old.core self.new.core told
             (end_effect table peer self.old.core.part.own)) }
         ensures err { OnErr result (IsSame self.old.core self.new.core) }
         ensures kept { StaysKept self.old self.new }
+        ensures places { CanSettle self.new }
+        ensures sure { IsFetched self.old.core → IsOk result }
     {
         if !self.core.part.can_take(peer) {
             return Ok(false);

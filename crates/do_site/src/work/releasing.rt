@@ -1,5 +1,5 @@
 //! Frames that a peer may not send, and names that it gives back.
-ghost use Rattle.std.specs.Prelude.{◌≡◌, ◌≤◌, IfSome, List, OnErr, OnOk, true};
+ghost use Rattle.std.specs.Prelude.{◌≡◌, ◌≤◌, IfSome, IsOk, List, OnErr, OnOk, true};
 ghost use Rattle.do_class.specs.Class.{Class};
 ghost use Rattle.do_export.specs.Counts.{count_of};
 ghost use Rattle.do_frames.specs.declared.frame.Frame.{Frame as Framed};
@@ -11,9 +11,9 @@ ghost use Rattle.do_streams.specs.Reading.{AreKnown, IsReadBy, names_of};
 ghost use Rattle.do_effects.specs.Doing.{doing};
 ghost use Rattle.do_effects.specs.Tidy.{IsTidy};
 ghost use Rattle.do_site.specs.Kept.{StaysKept};
-ghost use Rattle.do_site.specs.Steps.{IsSame, Makes, with_reading};
+ghost use Rattle.do_site.specs.Room.{CanSettle};
+ghost use Rattle.do_site.specs.Steps.{IsFetched, IsSame, Makes, with_reading};
 
-use crate::needs::Needs;
 use crate::work::Work;
 use do_base::{NodeId, Oid, Shown, Took};
 use do_coder::Recent;
@@ -40,14 +40,17 @@ impl Work {
     /// Nothing is shown of the frame.
     pub(super) fn refuse(&mut self, from: NodeId, names: Option<Recent>) -> Result<(), AllocError>
         requires tidy { IsTidy self.old.core.part.own }
+        requires places { CanSettle self.old }
         requires open { is_open self.old.core.part.own.node from ≡ true }
-        requires known { IfSome names (λ ns. AreKnown self.old.core.streams.classes ns) }
+        requires known { IfSome names (λ ns. AreKnown self.old.core.streams.fixed.classes ns) }
         ensures ok { OnOk result ((f : Framed)
             → IsReadBy (names_of self.old.core.streams.links from) f names
             → Makes (with_reading from f (doing self.old.core)) self.new.core
             (site_move self.old.core.part.own (closing from self.old.core.part.own.node))) }
         ensures err { OnErr result (IsSame self.old.core self.new.core) }
         ensures kept { StaysKept self.old self.new }
+        ensures places { CanSettle self.new }
+        ensures sure { IsFetched self.old.core → IsOk result }
     {
         self.make_room_to_close()?;
         self.core.streams.keep_read(from, names);
@@ -65,8 +68,9 @@ impl Work {
         names: Option<Recent>,
     ) -> Result<(), AllocError>
         requires tidy { IsTidy self.old.core.part.own }
+        requires places { CanSettle self.old }
         requires open { is_open self.old.core.part.own.node from ≡ true }
-        requires known { IfSome names (λ ns. AreKnown self.old.core.streams.classes ns) }
+        requires known { IfSome names (λ ns. AreKnown self.old.core.streams.fixed.classes ns) }
         requires few { amount ≤ count_of self.old.core.part.own.counts from serial }
         ensures ok { OnOk result ((table : List Class) (f : Framed)
             → IsReadBy (names_of self.old.core.streams.links from) f names
@@ -75,8 +79,10 @@ impl Work {
             (frame_move table from f self.old.core.part.own)) }
         ensures err { OnErr result (IsSame self.old.core self.new.core) }
         ensures kept { StaysKept self.old self.new }
+        ensures places { CanSettle self.new }
+        ensures sure { IsFetched self.old.core → IsOk result }
     {
-        self.make_room(&Needs::to_tell(1))?;
+        self.make_room_to_close()?;
         let node = self.core.part.port();
         self.core.streams.keep_read(from, names);
         give_back(&mut self.core.part, from, serial, amount);

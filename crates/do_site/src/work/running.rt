@@ -3,6 +3,7 @@ ghost use Rattle.std.specs.Prelude.{◌≡◌, IfOk, OnErr};
 ghost use Rattle.do_machine.specs.run.Run.{run_effect};
 ghost use Rattle.do_network.specs.Own.{site_context};
 ghost use Rattle.do_site.specs.Kept.{IsKept};
+ghost use Rattle.do_site.specs.Room.{CanSettle};
 ghost use Rattle.do_site.specs.Running.{next_of};
 ghost use Rattle.do_site.specs.Steps.{Does, IsSame};
 
@@ -47,10 +48,12 @@ impl Work {
     /// nothing but room changed then.
     pub fn run<B: Behaviour>(&mut self, table: &ClassTable, acts: &B) -> Result<bool, AllocError>
         requires kept { IsKept table.now self.old }
+        requires places { CanSettle self.old }
         ensures done { IfOk result (λ told. Does self.old.core self.new.core told
             (run_effect (B.act acts.now) (site_context table.now self.old.core.part.own))) }
         ensures err { OnErr result (IsSame self.old.core self.new.core) }
         ensures kept { IsKept table.now self.new }
+        ensures places { CanSettle self.new }
     {
         match next_of(&self.core.part) {
             Next::Nothing => Ok(false),

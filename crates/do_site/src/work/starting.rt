@@ -5,6 +5,7 @@ ghost use Rattle.do_machine.specs.Effect.{only};
 ghost use Rattle.do_machine.specs.run.Fresh.{pushed};
 ghost use Rattle.do_effects.specs.Tidy.{IsTidy};
 ghost use Rattle.do_site.specs.Kept.{IsKept, StaysKept};
+ghost use Rattle.do_site.specs.Room.{CanSettle};
 ghost use Rattle.do_site.specs.Steps.{Does, IsSame, Moves};
 
 use crate::ground::judged_by;
@@ -24,10 +25,12 @@ impl Work {
     /// stored; nothing but room changed then.
     fn begin(&mut self, invocation: Invocation) -> Result<(), AllocError>
         requires tidy { IsTidy self.old.core.part.own }
+        requires places { CanSettle self.old }
         ensures ok { OnOk result (Moves self.old.core self.new.core
             (only (pushed invocation self.old.core.part.own.node))) }
         ensures err { OnErr result (IsSame self.old.core self.new.core) }
         ensures kept { StaysKept self.old self.new }
+        ensures places { CanSettle self.new }
     {
         let part = &self.core.part;
         let Some(names) = (Reach { part, more: 0 }).of_invocation(&invocation) else {
@@ -54,10 +57,12 @@ impl Work {
         values: &Values,
     ) -> Result<bool, AllocError>
         requires kept { IsKept table.now self.old }
+        requires places { CanSettle self.old }
         ensures done { IfOk result (λ told. Does self.old.core self.new.core told
             (start_effect table.now selector.now values.now self.old.core.part.own.node)) }
         ensures err { OnErr result (IsSame self.old.core self.new.core) }
         ensures kept { StaysKept self.old self.new }
+        ensures places { CanSettle self.new }
     {
         let ground = judged_by(table, &self.core.part, self.packable);
         let Some(invocation) = begun(&ground, selector, values)? else {

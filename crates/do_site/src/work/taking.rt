@@ -1,22 +1,28 @@
 //! Frames that are taken.
-ghost use Rattle.std.specs.Prelude.{◌≡◌, ◌&&◌, IfOk, IfSome, OnErr, OnOk, Some, true};
+ghost use Rattle.std.specs.Prelude.{◌≡◌, ◌≢◌, ◌≤◌, ◌&&◌, IfErr, IfOk, IfSome, IsOk, OnErr, OnOk};
+ghost use Rattle.std.specs.Prelude.{None, Some, false, true};
 ghost use Rattle.std.specs.List.{list_all};
+ghost use Rattle.do_frames.specs.declared.fault.RawFault.TheVariants.{Memory};
 ghost use Rattle.do_frames.specs.declared.frame.Frame.{Frame as Framed};
+ghost use Rattle.do_frames.specs.Frames.{kind_of};
+ghost use Rattle.do_frames.specs.Kinds.{kind_number, numbers_alone};
 ghost use Rattle.do_machine.specs.run.Run.{Acting};
 ghost use Rattle.do_machine.specs.State.{is_open};
 ghost use Rattle.do_network.specs.Faults.{peer_fault};
 ghost use Rattle.do_network.specs.Frames.{read_frame};
 ghost use Rattle.do_network.specs.Links.{having_read};
 ghost use Rattle.do_network.specs.Own.{site_context};
-ghost use Rattle.do_network.specs.Site.{frame_input, takes_frame};
+ghost use Rattle.do_network.specs.Site.{frame_input, frame_move, takes_frame};
 ghost use Rattle.do_machine.specs.take.Lines.{item_line};
 ghost use Rattle.do_rules.specs.Ruling.{names_in, ruling as ruling_on};
 ghost use Rattle.do_streams.specs.Reading.{AreKnown, IsReadBy, IsReading, names_of};
 ghost use Rattle.do_effects.specs.Doing.{doing};
-ghost use Rattle.do_effects.specs.Taking.{ruling_copies};
+ghost use Rattle.do_effects.specs.Taking.{CanTake, on_message, ruling_copies, taking_needs};
 ghost use Rattle.do_site.specs.Kept.{IsKept};
 ghost use Rattle.do_site.specs.Packable.{is_kept, is_named};
-ghost use Rattle.do_site.specs.Steps.{Handles, IsSame, Makes, item_move, part_of, seen_of};
+ghost use Rattle.do_site.specs.Room.{CanSettle, HasPlaceFor};
+ghost use Rattle.do_site.specs.Steps.{Handles, IsFetched, IsSame, Makes, item_move, part_of};
+ghost use Rattle.do_site.specs.Steps.{seen_of};
 ghost use Rattle.do_site.specs.Steps.{with_reading};
 
 use crate::faults::peer_fault;
@@ -44,8 +50,11 @@ fn stays_packable(packable: bool, table: &ClassTable, item: &Item, ruling: &Ruli
 }
 
 impl Work {
-    /// What the ruling on an item says is done, all room having been made before.
-    fn follow(
+    /// What the ruling on an item says is done, in room that was made before.
+    ///
+    /// An error means that memory ran out, which it can only for what comes in a message; nothing
+    /// but room changed then.
+    pub(super) fn follow(
         &mut self,
         table: &ClassTable,
         from: NodeId,
@@ -55,25 +64,26 @@ impl Work {
         names: Option<Recent>,
     ) -> Result<(), AllocError>
         requires kept { IsKept table.now self.old }
-        requires open { is_open self.old.core.part.own.node from ≡ true }
+        requires places { CanSettle self.old }
+        requires can { CanTake from item.now ruling self.old.core }
+        requires place { HasPlaceFor (taking_needs self.old.core.part.own.node item.now ruling)
+            self.old.core self.old.told }
         requires judged { ruling
             ≡ ruling_on (site_context table.now self.old.core.part.own) from item.now }
         requires line { line
             ≡ Shown.Took (item_line from self.old.core.part.own.node.port item.now) }
-        requires known { IfSome names (λ ns. AreKnown self.old.core.streams.classes ns) }
+        requires known { IfSome names (λ ns. AreKnown self.old.core.streams.fixed.classes ns) }
         ensures ok { OnOk result ((f : Framed)
             → IsReadBy (names_of self.old.core.streams.links from) f names
             → Makes (with_reading from f (doing self.old.core)) self.new.core
             (item_move table.now from item.now self.old.core.part.own)) }
         ensures err { OnErr result (IsSame self.old.core self.new.core) }
         ensures kept { IsKept table.now self.new }
+        ensures places { CanSettle self.new }
+        ensures sure { on_message ruling ≡ false → IsOk result }
     {
         rulings_are_arrivals();
-        let Some(needs) = ruling_allowed(&self.core.part, from, item, &ruling) else {
-            return Err(AllocError);
-        };
         let packable = stays_packable(self.packable, table, item, &ruling);
-        self.make_room(&needs)?;
         self.core
             .rule(from, item, line, ruling, &mut self.told.settled)?;
         self.core.streams.keep_read(from, names);
@@ -91,21 +101,62 @@ impl Work {
         names: Option<Recent>,
     ) -> Result<(), AllocError>
         requires kept { IsKept table.now self.old }
+        requires places { CanSettle self.old }
         requires open { is_open self.old.core.part.own.node from ≡ true }
-        requires known { IfSome names (λ ns. AreKnown self.old.core.streams.classes ns) }
+        requires known { IfSome names (λ ns. AreKnown self.old.core.streams.fixed.classes ns) }
         ensures ok { OnOk result ((f : Framed)
             → IsReadBy (names_of self.old.core.streams.links from) f names
             → Makes (with_reading from f (doing self.old.core)) self.new.core
             (item_move table.now from item.now self.old.core.part.own)) }
         ensures err { OnErr result (IsSame self.old.core self.new.core) }
         ensures kept { IsKept table.now self.new }
+        ensures places { CanSettle self.new }
     {
         let line = item_line(from, self.core.part.port(), item)?;
         let ruling = {
             let ground = judged_by(table, &self.core.part, self.packable);
             ruling(&ground, from, item)?
         };
+        let Some(needs) = ruling_allowed(&self.core.part, from, item, &ruling) else {
+            return Err(AllocError);
+        };
+        self.make_room(&needs)?;
         self.follow(table, from, item, Shown::Took(line), ruling, names)
+    }
+
+    /// A frame that its peer may send is taken.
+    ///
+    /// An error means that memory ran out, which it cannot for a frame of kind 10 or more where all
+    /// was fetched that waited; nothing but room changed then.
+    fn take_allowed(
+        &mut self,
+        table: &ClassTable,
+        from: NodeId,
+        frame: Frame,
+        names: Option<Recent>,
+    ) -> Result<(), AllocError>
+        requires kept { IsKept table.now self.old }
+        requires places { CanSettle self.old }
+        requires open { is_open self.old.core.part.own.node from ≡ true }
+        requires read { IsReadBy (names_of self.old.core.streams.links from) frame names }
+        requires known { IfSome names (λ ns. AreKnown self.old.core.streams.fixed.classes ns) }
+        requires may { peer_fault self.old.core.part.own from frame ≡ None }
+        ensures ok { OnOk result (Makes (with_reading from frame (doing self.old.core))
+            self.new.core (frame_move table.now from frame self.old.core.part.own)) }
+        ensures err { OnErr result (IsSame self.old.core self.new.core) }
+        ensures kept { IsKept table.now self.new }
+        ensures places { CanSettle self.new }
+        ensures sure { 10 ≤ kind_number (kind_of frame) → IsFetched self.old.core → IsOk result }
+    {
+        match frame {
+            Frame::Release { serial, amount } => self.release(from, serial, amount, names),
+            Frame::Settle { number } => self.settled(table, from, number, names),
+            Frame::Shutdown => self.shut(table, from, names),
+            frame => {
+                let item = item_of(self.core.part.allocator(), frame);
+                self.take_item(table, from, &item, names)
+            }
+        }
     }
 
     /// A frame that was read is taken, unless its peer may not send it.
@@ -116,29 +167,28 @@ impl Work {
         reading: Reading,
     ) -> Result<Done, AllocError>
         requires kept { IsKept table.now self.old }
+        requires places { CanSettle self.old }
         requires open { is_open self.old.core.part.own.node from ≡ true }
         requires read { IsReadBy (names_of self.old.core.streams.links from) reading.frame
             reading.names }
         requires known { IfSome reading.names (λ ns.
-            AreKnown self.old.core.streams.classes ns) }
+            AreKnown self.old.core.streams.fixed.classes ns) }
         ensures done { (act : Acting) → Handles (seen_of table.now act self.old.core)
             (seen_of table.now act self.new.core) result
             (Some (takes_frame table.now
             (having_read from reading.frame (part_of self.old.core)) from reading.frame
             (peer_fault self.old.core.part.own from reading.frame))) }
         ensures kept { IsKept table.now self.new }
+        ensures places { CanSettle self.new }
+        ensures sure { 10 ≤ kind_number (kind_of reading.frame) → IsFetched self.old.core
+            → IsOk result }
     {
         let Reading { frame, names } = reading;
         if let Some(fault) = peer_fault(&self.core.part, from, &frame) {
             self.refuse(from, names)?;
             return Ok(Done::Closed(from, fault));
         }
-        if let Frame::Release { serial, amount } = &frame {
-            self.release(from, *serial, *amount, names)?;
-            return Ok(Done::Moved);
-        }
-        let item = item_of(self.core.part.allocator(), frame);
-        self.take_item(table, from, &item, names)?;
+        self.take_allowed(table, from, frame, names)?;
         Ok(Done::Moved)
     }
 
@@ -154,7 +204,10 @@ impl Work {
             (read_frame table.now from self.old.core.part.own.node.port
             (names_of self.old.core.streams.links from) raw.now) result }
         ensures known { IfOk result (λ r. IfSome r.names (λ ns.
-            AreKnown self.old.core.streams.classes ns)) }
+            AreKnown self.old.core.streams.fixed.classes ns)) }
+        ensures kind { IfOk result (λ r. kind_number (kind_of r.frame) ≡ raw.now.kind) }
+        ensures no_memory { numbers_alone raw.now.kind ≡ true
+            → IfErr result (λ fault. fault ≢ Memory) }
         ensures same { self.new ≡ self.old }
     {
         let port = self.core.part.port();
@@ -163,7 +216,8 @@ impl Work {
 
     /// The next frame of a peer is taken, where the node can take one.
     ///
-    /// An error means that memory ran out; nothing but room changed then.
+    /// An error means that memory ran out, which it cannot for a frame of kind 10 or more where all
+    /// was fetched that waited; nothing but room changed then.
     pub fn take(
         &mut self,
         table: &ClassTable,
@@ -171,10 +225,13 @@ impl Work {
         raw: &RawFrame,
     ) -> Result<Done, AllocError>
         requires kept { IsKept table.now self.old }
+        requires places { CanSettle self.old }
         ensures done { (act : Acting) → Handles (seen_of table.now act self.old.core)
             (seen_of table.now act self.new.core) result
             (frame_input table.now (part_of self.old.core) from raw.now) }
         ensures kept { IsKept table.now self.new }
+        ensures places { CanSettle self.new }
+        ensures sure { 10 ≤ raw.now.kind → IsFetched self.old.core → IsOk result }
     {
         if !self.core.part.can_take(from) {
             return Ok(Done::Skipped);

@@ -1,24 +1,33 @@
-use Rattle.std.proofs.Common.{◌≡◌, ◌∙◌, ap, false, subst, sym}
-use Rattle.do_machine.specs.State.{is_open}
-use Rattle.do_machine.specs.World.{opening_node}
-use Rattle.do_network.specs.Own.{Own}
-use Rattle.do_streams.specs.Streamed.{Streamed}
-use Rattle.do_effects.specs.Tidy.{IsTidy}
-use Rattle.do_site.specs.Packable.{IsPackable}
-use Rattle.do_site.proofs.OpenedSites.{opened_apart, opened_packs, opened_tidy}
+use Rattle.std.proofs.Common.{◌∙◌, ap}
+use Rattle.do_network.specs.Links.{Part}
+use Rattle.do_effects.specs.Doing.{Doing}
+use Rattle.do_site.proofs.ActsDone.{same_kept}
+use Rattle.do_site.proofs.PlacesKept.{made_places}
 use Rattle.do_site.proofs.opening.opening.Goals as goal
 
+-- making room leaves what the node has
+pub returns-clause-part : goal.returns-clause-part
+returns-clause-part c =
+    ap (λ (d : Doing). record { own = d.own; links = d.out.links }) c.in_ok-make_room.ensures.same
+    ∙ c.in_ok-work.ensures.part
+
+-- and what waits
+pub returns-clause-frames : goal.returns-clause-frames
+returns-clause-frames c =
+    ap (λ (d : Doing). d.out.sent) c.in_ok-make_room.ensures.same ∙ c.in_ok-work.ensures.frames
+
+pub returns-clause-shown : goal.returns-clause-shown
+returns-clause-shown c =
+    ap (λ (d : Doing). d.shown) c.in_ok-make_room.ensures.same ∙ c.in_ok-work.ensures.shown
+
+-- so what a site keeps true is true
 pub returns-clause-kept : goal.returns-clause-kept
 returns-clause-kept c =
-    let table = c.args.table.now in
-    let ports = c.args.ports.now in
-    let seat = c.args.seat in
-    let own = c.in_ok-part.ensures.own in
-    record {
-      tidy = subst IsTidy (sym own) (opened_tidy (opening_node table ports seat));
-      apart = subst (λ (p : Own). is_open p.node p.node.port ≡ false) (sym own)
-          (opened_apart table ports seat);
-      classes = ap (λ (s : Streamed). s.classes) c.in_ok-streams.ensures ∙ c.count.ensures.value;
-      packs = λ on. subst (IsPackable table) (sym own)
-          (opened_packs table ports seat (sym c.in_ok-part.ensures.packs ∙ on));
-    }
+    same_kept c.args.table.now c.in_ok-work.work c.make_room.new.self
+    c.in_ok-make_room.ensures.same c.in_ok-make_room.ensures.stays c.in_ok-work.ensures.kept
+
+-- and there is room to settle what it has
+pub returns-clause-places : goal.returns-clause-places
+returns-clause-places c =
+    made_places c.to_tell.result c.make_room.new.self.core c.make_room.new.self.told
+    c.in_ok-make_room.ensures.room

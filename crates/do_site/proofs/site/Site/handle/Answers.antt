@@ -12,8 +12,8 @@ use Rattle.do_site.proofs.InputsHandled.{input_handled}
 use Rattle.do_site.proofs.StepsSeen.{close_is, end_is}
 use Rattle.do_site.proofs.site.Site.handle.Goals as goal
 
-pub returns-in-Run : goal.returns-in-Run
-returns-in-Run g c =
+pub returns-in-Run-clause-handles : goal.returns-in-Run-clause-handles
+returns-in-Run-clause-handles g c =
     let a = c.self.inside.work.core in
     let b = c.run.new.self.core in
     let act = g.B.Behaviour.act in
@@ -28,8 +28,8 @@ returns-in-Run g c =
     (run_effect acting (site_context table a.part.own)) refl c.run.result c.done_told.result
     c.done_told.ensures done c.run.ensures.err
 
-pub returns-in-Start : goal.returns-in-Start
-returns-in-Start g c =
+pub returns-in-Start-clause-handles : goal.returns-in-Start-clause-handles
+returns-in-Start-clause-handles g c =
     let a = c.self.inside.work.core in
     let b = c.start.new.self.core in
     let at = c.in-Start in
@@ -41,8 +41,8 @@ returns-in-Start g c =
     (start_effect c.self.inside.table at.selector at.values a.part.own.node) refl c.start.result
     c.done_told-in-Start.result c.done_told-in-Start.ensures done c.start.ensures.err
 
-pub returns-in-Close : goal.returns-in-Close
-returns-in-Close g c =
+pub returns-in-Close-clause-handles : goal.returns-in-Close-clause-handles
+returns-in-Close-clause-handles g c =
     let a = c.self.inside.work.core in
     let peer = c.in-Close.peer in
     input_handled g.B.Behaviour.act _ _ c.self.view_is c.close_if_open.new.self.core
@@ -50,8 +50,8 @@ returns-in-Close g c =
     (close_is (part_of a) peer) c.close_if_open.result c.done_told-in-Close.result
     c.done_told-in-Close.ensures c.close_if_open.ensures.done c.close_if_open.ensures.err
 
-pub returns-in-Ended : goal.returns-in-Ended
-returns-in-Ended g c =
+pub returns-in-Ended-clause-handles : goal.returns-in-Ended-clause-handles
+returns-in-Ended-clause-handles g c =
     let a = c.self.inside.work.core in
     let b = c.end_if_taken.new.self.core in
     let table = c.self.inside.table in
@@ -62,8 +62,8 @@ returns-in-Ended g c =
     (by_classes a b c.end_if_taken.result (λ t. end_effect t peer a.part.own)
     c.end_if_taken.ensures.done table) c.end_if_taken.ensures.err
 
-pub returns-in-Timeout : goal.returns-in-Timeout
-returns-in-Timeout g c =
+pub returns-in-Timeout-clause-handles : goal.returns-in-Timeout-clause-handles
+returns-in-Timeout-clause-handles g c =
     let a = c.self.inside.work.core in
     input_handled g.B.Behaviour.act _ _ c.self.view_is c.time_out.new.self.core
     c.args.input.now inputs.Timeout c.in-Timeout.is (time_out a.part.own.node) refl

@@ -47,17 +47,9 @@ leave-requires-clause-tidy g c =
     (tidy_alone p (changed c.in_ok-change.change p.node) c.requires.kept.tidy keeps.ends
     keeps.held keeps.asked)
 
--- there is a place for all that is stored
-pub leave-requires-clause-freed : goal.leave-requires-clause-freed
-leave-requires-clause-freed g c = c.in_ok-act.ensures.room.freed
-
--- there is a place for all that is held
-pub leave-requires-clause-left : goal.leave-requires-clause-left
-leave-requires-clause-left g c = c.in_ok-act.ensures.room.left
-
--- there is room to tell what is freed and left
-pub leave-requires-clause-room : goal.leave-requires-clause-room
-leave-requires-clause-room g c = c.in_ok-act.ensures.room.waiting
+-- there is a place to leave what nothing holds
+pub leave-requires-clause-place : goal.leave-requires-clause-place
+leave-requires-clause-place g c = c.in_ok-act.ensures.room
 
 -- a step is done
 pub returns-in_default-clause-ok : goal.returns-in_default-clause-ok

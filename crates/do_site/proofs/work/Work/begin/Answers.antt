@@ -1,4 +1,4 @@
-use Rattle.std.proofs.Common.{◌≡◌, false, refl, ap, sym, subst, ◌∙◌}
+use Rattle.std.proofs.Common.{◌≡◌, arith, false, length, refl, ap, sym, subst, ◌∙◌}
 use Rattle.std.specs.List.{list_all}
 use Rattle.do_machine.specs.Effect.{only}
 use Rattle.do_machine.specs.State.{is_open}
@@ -8,8 +8,11 @@ use Rattle.do_part.specs.Names.{AreStored, values_of}
 use Rattle.do_stack.specs.Uses.{invocation_values}
 use Rattle.do_effects.specs.Doing.{Doing, does, doing}
 use Rattle.do_effects.specs.Tidy.{IsTidy}
+use Rattle.do_effects.specs.declared.changing.Core.{Core}
 use Rattle.do_site.specs.Packable.{is_kept_at}
+use Rattle.do_site.specs.Room.{needed}
 use Rattle.do_site.proofs.KeptSteps.{apart_then, packable_then}
+use Rattle.do_site.proofs.PlansKeep.{place_left}
 use Rattle.do_site.proofs.StepsDone.{alone_does}
 use Rattle.do_site.proofs.Stored.{there_stored}
 use Rattle.do_site.proofs.work.Work.begin.Goals as goal
@@ -21,6 +24,24 @@ push-requires-clause-stored c =
     subst (λ (p : Own). AreStored p.node (values_of (invocation_values c.args.invocation)))
     (sym own) (there_stored c.args.self.now.core.part.own.node
     (values_of (invocation_values c.args.invocation)) c.in-Some.ensures.there)
+
+-- there is a place to leave what nothing holds then
+pub leave-requires-clause-place : goal.leave-requires-clause-place
+leave-requires-clause-place c =
+    let mid = c.make_room.new.self in
+    let one : Core = record mid.core { part = c.push.new.self } in
+    let heap = ap (λ (p : Own). length p.node.heap) c.push.ensures.own in
+    let held = ap (λ (p : Own). length p.node.held) c.push.ensures.own in
+    let asked = ap (λ (p : Own). length p.node.asked) c.push.ensures.own in
+    place_left (needed c.to_push.result) mid.core one mid.told mid.told
+    c.in_ok-make_room.ensures.room
+    (record {
+      waiting = omega arith;
+      stored = omega (arith, heap);
+      held = omega (arith, held);
+      asked = omega (arith, asked);
+      fixed = refl;
+    }) refl refl refl
 
 -- what a site keeps true is true then
 pub returns-clause-kept : goal.returns-clause-kept

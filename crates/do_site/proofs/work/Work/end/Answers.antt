@@ -1,30 +1,28 @@
-use Rattle.std.proofs.Common.{◌≡◌, false, length, ap, refl, sym, subst, ◌∙◌}
+use Rattle.std.proofs.Common.{◌≡◌, arith, false, ap, refl, sym, subst, ◌∙◌}
 use Rattle.std.specs.List.{list_all}
 use Rattle.do_machine.specs.State.{is_open}
 use Rattle.do_machine.specs.ends.Closing.{closing}
 use Rattle.do_network.specs.Own.{Own}
+use Rattle.do_streams.specs.Streamed.{Fixed}
 use Rattle.do_effects.specs.Doing.{Doing, doing}
 use Rattle.do_site.specs.Packable.{IsPackable, is_kept_at}
 use Rattle.do_site.proofs.HeapsOfEffects.{closing_heap}
-use Rattle.do_site.proofs.KeptSteps.{apart_then, closing_apart, packable_then, parted_held}
-use Rattle.do_site.proofs.KeptSteps.{parted_room_shown}
+use Rattle.do_site.proofs.KeptSteps.{apart_then, closing_apart, packable_then}
+use Rattle.do_site.proofs.PlacesKept.{closed_place, parted_fewer}
 use Rattle.do_site.proofs.work.Work.end.Goals as goal
 
--- there is a place for all that is then held
-pub leave-requires-clause-left : goal.leave-requires-clause-left
-leave-requires-clause-left c =
-    parted_held c.args.peer c.make_room_to_close.new.self.core.part.own.node
-    c.close.new.self.part.own.node _ c.close.ensures.node
-    c.in_ok-make_room_to_close.ensures.room.left
-
--- there is room to tell what is freed and left
-pub leave-requires-clause-room : goal.leave-requires-clause-room
-leave-requires-clause-room c =
-    let mid = c.make_room_to_close.new.self.core in
-    parted_room_shown c.args.peer mid.part.own.node c.close.new.self.part.own.node
-    (length mid.part.own.node.asked) mid.streams.room c.show.new.self.room
-    c.close.new.self.streams.room c.close.ensures.node
-    c.in_ok-make_room_to_close.ensures.room.waiting c.show.ensures.room c.close.ensures.room
+-- there is a place to leave what nothing holds then
+pub leave-requires-clause-place : goal.leave-requires-clause-place
+leave-requires-clause-place c =
+    let mid = c.make_room_to_close.new.self in
+    let line = c.show.ensures.room in
+    let room = c.close.ensures.room in
+    closed_place mid.core c.close.new.self mid.told (record mid.told { settled = c.close.new.settled })
+    c.in_ok-make_room_to_close.ensures.room
+    (parted_fewer c.args.peer mid.core.part.own.node c.close.new.self.part.own.node
+    c.close.ensures.node)
+    refl refl c.close.ensures.settled_room (c.close.ensures.fixed ∙ c.show.ensures.fixed)
+    (omega (arith, line, room))
 
 -- what a site keeps true is true then
 pub returns-clause-kept : goal.returns-clause-kept
@@ -43,7 +41,8 @@ returns-clause-kept c table k =
           c.close.ensures.closed c.leave.ensures.moved
           (closing_apart c.args.peer mid.core.part.own.node
           (subst (λ (p : Own). is_open p.node p.node.port ≡ false) (sym own) k.apart));
-      classes = c.leave.ensures.stays.classes ∙ c.close.ensures.classes ∙ c.show.ensures.classes
+      classes = c.leave.ensures.stays.classes
+          ∙ ap (λ (f : Fixed). f.classes) (c.close.ensures.fixed ∙ c.show.ensures.fixed)
           ∙ c.in_ok-make_room_to_close.ensures.stays.classes ∙ k.classes;
       packs = λ on.
           let was = sym c.in_ok-make_room_to_close.ensures.stays.packable

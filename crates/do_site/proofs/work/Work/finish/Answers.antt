@@ -1,30 +1,18 @@
-use Rattle.std.proofs.Common.{refl, ◌∙◌}
+use Rattle.std.proofs.Common.{ap, refl, ◌∙◌}
+use Rattle.do_streams.specs.Streamed.{Fixed}
 use Rattle.do_effects.specs.Doing.{doing}
 use Rattle.do_effects.specs.Plans.{plan_effect, plan_needs}
-use Rattle.do_site.proofs.PlansKeep.{place_left}
+use Rattle.do_site.proofs.PlansKeep.{enough_place, place_left}
 use Rattle.do_site.proofs.StepsDone.{then_left}
 use Rattle.do_site.proofs.work.Work.finish.Goals as goal
 
--- there is a place for all that is then stored
-pub leave-requires-clause-freed : goal.leave-requires-clause-freed
-leave-requires-clause-freed c =
-    (place_left (plan_needs c.args.plan) c.args.needs.now c.args.self.now.core
-    c.carry_out.new.self c.args.self.now.told _ _ c.requires.enough c.requires.place
-    c.carry_out.ensures.within refl refl).freed
-
--- there is a place for all that is then held
-pub leave-requires-clause-left : goal.leave-requires-clause-left
-leave-requires-clause-left c =
-    (place_left (plan_needs c.args.plan) c.args.needs.now c.args.self.now.core
-    c.carry_out.new.self c.args.self.now.told _ _ c.requires.enough c.requires.place
-    c.carry_out.ensures.within refl refl).left
-
--- there is room to tell what is freed and left
-pub leave-requires-clause-room : goal.leave-requires-clause-room
-leave-requires-clause-room c =
-    (place_left (plan_needs c.args.plan) c.args.needs.now c.args.self.now.core
-    c.carry_out.new.self c.args.self.now.told _ _ c.requires.enough c.requires.place
-    c.carry_out.ensures.within refl refl).room
+-- there is a place to leave what nothing holds then
+pub leave-requires-clause-place : goal.leave-requires-clause-place
+leave-requires-clause-place c =
+    let told = c.args.self.now.told in
+    place_left (plan_needs c.args.plan) c.args.self.now.core c.carry_out.new.self told told
+    (enough_place (plan_needs c.args.plan) c.args.needs.now c.args.self.now.core told
+    c.requires.enough c.requires.place) c.carry_out.ensures.within refl refl refl
 
 -- the plan is carried out, and then what nothing holds is left
 pub returns-clause-done : goal.returns-clause-done
@@ -37,5 +25,6 @@ returns-clause-done c = λ r run.
 pub returns-clause-stays : goal.returns-clause-stays
 returns-clause-stays c = record {
   packable = c.leave.ensures.stays.packable;
-  classes = c.leave.ensures.stays.classes ∙ c.carry_out.ensures.within.classes;
+  classes = c.leave.ensures.stays.classes
+      ∙ ap (λ (f : Fixed). f.classes) c.carry_out.ensures.within.fixed;
 }

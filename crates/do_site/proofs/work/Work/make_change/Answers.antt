@@ -7,8 +7,10 @@ use Rattle.do_part.specs.Changed.{act_left_on, change_writes, changed, written_v
 use Rattle.do_part.specs.Names.{AreStored, values_of}
 use Rattle.do_stack.specs.Exchange.{given}
 use Rattle.do_effects.specs.Doing.{Doing, doing}
+use Rattle.do_effects.specs.declared.changing.Core.{Core}
 use Rattle.do_site.proofs.ActsDone.{on_err}
 use Rattle.do_site.proofs.ActsKeep.{change_keeps}
+use Rattle.do_site.proofs.PlacesKept.{either_way, places_fewer, places_same}
 use Rattle.do_site.proofs.PlansKeep.{if_ok, on_ok}
 use Rattle.do_site.proofs.Stored.{there_stored}
 use Rattle.do_site.proofs.work.Work.make_change.Goals as goal
@@ -92,11 +94,39 @@ returns-clause-room c =
     on_ok c.step.result (λ own.
     let count = ap (λ (p : Own). length p.node.heap) own ∙ keeps.count in
     let held = ap (λ (p : Own). length p.node.held) own ∙ ap (λ os. length os) keeps.held in
+    let asked = ap (λ (p : Own). length p.node.asked) own ∙ ap (λ ws. length ws) keeps.asked in
     let pf = place.freed in
     let pl = place.left in
+    let ps = place.settled in
     let pw = place.waiting in
+    let pp = place.places in
     record {
-      freed = omega (arith, count, pf);
-      left = omega (arith, held, pl);
+      places = record {
+        freed = omega (arith, count, pf);
+        left = omega (arith, held, pl);
+        settled = omega (arith, asked, ps);
+        places = omega (arith, count, held, asked, pp);
+      };
       waiting = omega (arith, count, held, pw);
     }) c.step.ensures.own
+
+-- there are places as before, also where memory ran out
+pub returns-clause-places : goal.returns-clause-places
+returns-clause-places c = λ had.
+    let mid = c.make_room.new.self in
+    let new : Core = record mid.core { part = c.step.new.self } in
+    let keeps = change_keeps c.args.change mid.core.part.own.node in
+    let places = c.in_ok-make_room.ensures.places had in
+    either_way c.step.result
+    (on_ok c.step.result (λ own.
+    let count = ap (λ (p : Own). length p.node.heap) own ∙ keeps.count in
+    let held = ap (λ (p : Own). length p.node.held) own ∙ ap (λ os. length os) keeps.held in
+    let asked = ap (λ (p : Own). length p.node.asked) own ∙ ap (λ ws. length ws) keeps.asked in
+    places_fewer mid.core new mid.told mid.told
+    (record {
+      stored = omega (arith, count);
+      held = omega (arith, held);
+      asked = omega (arith, asked);
+    }) (omega arith) (omega arith) (omega arith) (omega arith) places) c.step.ensures.own)
+    (on_err c.step.result (λ own. places_same mid.core new mid.told mid.told own (omega arith)
+    (omega arith) (omega arith) (omega arith) places) c.step.ensures.err)

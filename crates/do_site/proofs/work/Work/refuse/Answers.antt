@@ -1,30 +1,29 @@
-use Rattle.std.proofs.Common.{◌≡◌, arith, false, length, ap, refl, sym, subst, ◌∙◌}
+use Rattle.std.proofs.Common.{◌≡◌, arith, false, ap, refl, sym, subst, ◌∙◌}
 use Rattle.std.specs.List.{list_all}
 use Rattle.do_machine.specs.State.{is_open}
 use Rattle.do_machine.specs.ends.Closing.{closing}
 use Rattle.do_network.specs.Own.{Own}
-use Rattle.do_streams.specs.Streamed.{Streamed}
+use Rattle.do_streams.specs.Streamed.{Fixed, Streamed}
 use Rattle.do_effects.specs.Doing.{Doing, doing}
 use Rattle.do_site.specs.Packable.{IsPackable, is_kept_at}
 use Rattle.do_site.proofs.HeapsOfEffects.{closing_heap}
-use Rattle.do_site.proofs.KeptSteps.{apart_then, closing_apart, packable_then, parted_held}
-use Rattle.do_site.proofs.KeptSteps.{parted_room_shown}
+use Rattle.do_site.proofs.KeptSteps.{apart_then, closing_apart, packable_then}
+use Rattle.do_site.proofs.PlacesKept.{closed_place, parted_fewer}
 use Rattle.do_site.proofs.work.Work.refuse.Goals as goal
 
-pub leave-requires-clause-left : goal.leave-requires-clause-left
-leave-requires-clause-left c =
-    parted_held c.args.from c.make_room_to_close.new.self.core.part.own.node
-    c.close.new.self.part.own.node _ c.close.ensures.node
-    c.in_ok-make_room_to_close.ensures.room.left
-
-pub leave-requires-clause-room : goal.leave-requires-clause-room
-leave-requires-clause-room c =
-    let mid = c.make_room_to_close.new.self.core in
-    let room = ap (λ (s : Streamed). s.room) c.keep_read.ensures.same in
-    parted_room_shown c.args.from mid.part.own.node c.close.new.self.part.own.node
-    (length mid.part.own.node.asked) mid.streams.room c.keep_read.new.self.room
-    c.close.new.self.streams.room c.close.ensures.node
-    c.in_ok-make_room_to_close.ensures.room.waiting (omega (arith, room)) c.close.ensures.room
+-- there is a place to leave what nothing holds then
+pub leave-requires-clause-place : goal.leave-requires-clause-place
+leave-requires-clause-place c =
+    let mid = c.make_room_to_close.new.self in
+    let line = ap (λ (s : Streamed). s.room) c.keep_read.ensures.same in
+    let room = c.close.ensures.room in
+    closed_place mid.core c.close.new.self mid.told (record mid.told { settled = c.close.new.settled })
+    c.in_ok-make_room_to_close.ensures.room
+    (parted_fewer c.args.from mid.core.part.own.node c.close.new.self.part.own.node
+    c.close.ensures.node)
+    refl refl c.close.ensures.settled_room
+    (c.close.ensures.fixed ∙ ap (λ (s : Streamed). s.fixed) c.keep_read.ensures.same)
+    (omega (arith, line, room))
 
 pub returns-clause-kept : goal.returns-clause-kept
 returns-clause-kept c table k =
@@ -42,7 +41,9 @@ returns-clause-kept c table k =
           c.close.ensures.closed c.leave.ensures.moved
           (closing_apart c.args.from mid.core.part.own.node
           (subst (λ (p : Own). is_open p.node p.node.port ≡ false) (sym own) k.apart));
-      classes = c.leave.ensures.stays.classes ∙ c.close.ensures.classes ∙ ap (λ (s : Streamed). s.classes) c.keep_read.ensures.same
+      classes = c.leave.ensures.stays.classes
+          ∙ ap (λ (f : Fixed). f.classes) (c.close.ensures.fixed
+          ∙ ap (λ (s : Streamed). s.fixed) c.keep_read.ensures.same)
           ∙ c.in_ok-make_room_to_close.ensures.stays.classes ∙ k.classes;
       packs = λ on.
           let was = sym c.in_ok-make_room_to_close.ensures.stays.packable

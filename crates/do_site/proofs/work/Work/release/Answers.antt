@@ -1,4 +1,5 @@
-use Rattle.std.proofs.Common.{◌≡◌, ◌≤◌, false, true, [], ◌∷◌, ◌++◌, ap, refl, sym, subst, ◌∙◌}
+use Rattle.std.proofs.Common.{◌≡◌, ◌≤◌, false, true, [], ◌∷◌, ◌++◌, ap, arith, length, refl, sym}
+use Rattle.std.proofs.Common.{subst, ◌∙◌}
 use Rattle.do_base.specs.declared.events.shown.Shown.{Shown}
 use Rattle.do_export.specs.Counts.{count_of}
 use Rattle.do_base.specs.declared.events.shown.Shown.TheVariants as shows
@@ -11,11 +12,12 @@ use Rattle.do_network.specs.Counting.{given_back}
 use Rattle.do_network.specs.Own.{Own}
 use Rattle.do_network.specs.Site.{frame_move}
 use Rattle.do_streams.specs.Reading.{IsReadBy, names_of}
-use Rattle.do_streams.specs.Streamed.{Streamed}
+use Rattle.do_streams.specs.Streamed.{Fixed, Streamed}
 use Rattle.do_effects.specs.Doing.{Doing, cleared, does, doing, moved}
 use Rattle.do_effects.specs.Tidy.{IsTidy}
 use Rattle.do_site.specs.Packable.{IsPackable}
 use Rattle.do_site.specs.Steps.{with_reading}
+use Rattle.do_site.proofs.PlacesKept.{closed_place}
 use Rattle.do_site.proofs.ReleasedCounts.{left_packable, released_tidy}
 use Rattle.do_site.proofs.StepsDone.{shown_does, then_left}
 use Rattle.do_site.proofs.work.Work.release.Goals as goal
@@ -23,29 +25,48 @@ use Rattle.do_site.proofs.work.Work.release.Goals as goal
 pub give_back-requires-clause-open : goal.give_back-requires-clause-open
 give_back-requires-clause-open c =
     subst (λ (d : Doing). is_open d.own.node c.args.from ≡ true)
-    (sym c.in_ok-make_room.ensures.same) c.requires.open
+    (sym c.in_ok-make_room_to_close.ensures.same) c.requires.open
 
 pub give_back-requires-clause-few : goal.give_back-requires-clause-few
 give_back-requires-clause-few c =
     subst (λ (d : Doing). c.args.amount ≤ count_of d.own.counts c.args.from c.args.serial)
-    (sym c.in_ok-make_room.ensures.same) c.requires.few
+    (sym c.in_ok-make_room_to_close.ensures.same) c.requires.few
 
 pub leave-requires-clause-tidy : goal.leave-requires-clause-tidy
 leave-requires-clause-tidy c =
-    let own = ap (λ (d : Doing). d.own) c.in_ok-make_room.ensures.same in
-    let mid = c.make_room.new.self.core.part.own in
+    let own = ap (λ (d : Doing). d.own) c.in_ok-make_room_to_close.ensures.same in
+    let mid = c.make_room_to_close.new.self.core.part.own in
     subst IsTidy (sym c.give_back.ensures)
     (released_tidy mid c.args.from c.args.serial c.args.amount
     (subst IsTidy (sym own) c.requires.tidy)
     (subst (λ (p : Own). is_open p.node c.args.from ≡ true) (sym own) c.requires.open))
 
+-- there is a place to leave what nothing holds then
+pub leave-requires-clause-place : goal.leave-requires-clause-place
+leave-requires-clause-place c =
+    let mid = c.make_room_to_close.new.self in
+    let heap = ap (λ (p : Own). length p.node.heap) c.give_back.ensures in
+    let held = ap (λ (p : Own). length p.node.held) c.give_back.ensures in
+    let asked = ap (λ (p : Own). length p.node.asked) c.give_back.ensures in
+    let read = ap (λ (s : Streamed). s.room) c.keep_read.ensures.same in
+    let line = c.show.ensures.room in
+    closed_place mid.core (record mid.core { part = c.give_back.new.part; streams = c.show.new.self })
+    mid.told mid.told c.in_ok-make_room_to_close.ensures.room
+    (record {
+      stored = omega (arith, heap);
+      held = omega (arith, held);
+      asked = omega (arith, asked);
+    }) refl refl refl
+    (c.show.ensures.fixed ∙ ap (λ (s : Streamed). s.fixed) c.keep_read.ensures.same)
+    (omega (arith, read, line))
+
 pub returns-clause-ok : goal.returns-clause-ok
 returns-clause-ok c table f read is =
     let old = c.args.self.now in
-    let mid = c.make_room.new.self in
+    let mid = c.make_room_to_close.new.self in
     let new = c.leave.new.self in
     let from = c.args.from in
-    let same : doing mid.core ≡ doing old.core = c.in_ok-make_room.ensures.same in
+    let same : doing mid.core ≡ doing old.core = c.in_ok-make_room_to_close.ensures.same in
     let own : mid.core.part.own ≡ old.core.part.own = ap (λ (d : Doing). d.own) same in
     let q = given_back from c.args.serial c.args.amount mid.core.part.own in
     let shown : Shown = shows.Took (tooks.Left (object_at c.port-node.result c.args.serial)) in
@@ -84,8 +105,8 @@ returns-clause-ok c table f read is =
 pub returns-clause-kept : goal.returns-clause-kept
 returns-clause-kept c table k =
     let old = c.args.self.now in
-    let mid = c.make_room.new.self.core.part.own in
-    let own = sym (ap (λ (d : Doing). d.own) c.in_ok-make_room.ensures.same) in
+    let mid = c.make_room_to_close.new.self.core.part.own in
+    let own = sym (ap (λ (d : Doing). d.own) c.in_ok-make_room_to_close.ensures.same) in
     let q = given_back c.args.from c.args.serial c.args.amount mid in
     let left = ap (λ (d : Doing). d.own) c.leave.ensures.moved
     ∙ ap (λ (p : Own). (cleared p).own) c.give_back.ensures in
@@ -93,12 +114,13 @@ returns-clause-kept c table k =
       tidy = c.leave.ensures.tidy;
       apart = subst (λ (p : Own). is_open p.node p.node.port ≡ false) (sym left)
           (subst (λ (p : Own). is_open p.node p.node.port ≡ false) own k.apart);
-      classes = c.leave.ensures.stays.classes ∙ c.show.ensures.classes
-          ∙ ap (λ (s : Streamed). s.classes) c.keep_read.ensures.same
-          ∙ c.in_ok-make_room.ensures.stays.classes ∙ k.classes;
+      classes = c.leave.ensures.stays.classes
+          ∙ ap (λ (f : Fixed). f.classes) (c.show.ensures.fixed
+          ∙ ap (λ (s : Streamed). s.fixed) c.keep_read.ensures.same)
+          ∙ c.in_ok-make_room_to_close.ensures.stays.classes ∙ k.classes;
       packs = λ on.
           let was = subst (IsPackable table) own
-          (k.packs (sym c.in_ok-make_room.ensures.stays.packable
+          (k.packs (sym c.in_ok-make_room_to_close.ensures.stays.packable
           ∙ (sym c.leave.ensures.stays.packable ∙ on))) in
           left_packable table q c.leave.new.self.core.part.own
           (released_tidy mid c.args.from c.args.serial c.args.amount (subst IsTidy own k.tidy)

@@ -1,4 +1,4 @@
-use Rattle.std.proofs.Common.{◌≡◌, false, true, Some, refl, ap, sym, subst, ◌∙◌}
+use Rattle.std.proofs.Common.{◌≡◌, arith, false, length, true, Some, refl, ap, sym, subst, ◌∙◌}
 use Rattle.std.specs.Prelude.{◌==◌}
 use Rattle.std.specs.List.{list_all, list_any}
 use Rattle.do_machine.specs.Effect.{only}
@@ -7,10 +7,13 @@ use Rattle.do_machine.specs.ends.TimeOut.{time_out}
 use Rattle.do_network.specs.Own.{Own}
 use Rattle.do_effects.specs.Doing.{Doing, does, doing}
 use Rattle.do_effects.specs.Tidy.{IsTidy}
+use Rattle.do_effects.specs.declared.changing.Core.{Core}
 use Rattle.do_site.specs.Packable.{is_kept_at}
+use Rattle.do_site.specs.Room.{needed}
 use Rattle.do_site.specs.Steps.{Does}
 use Rattle.do_site.proofs.KeptSteps.{apart_then, made_then_left}
 use Rattle.do_site.proofs.KeptSteps.{packable_then}
+use Rattle.do_site.proofs.PlansKeep.{place_left}
 use Rattle.do_site.proofs.StepsDone.{Keeps, alone_does, time_out_keeps}
 use Rattle.do_site.proofs.work.Work.time_out.Goals as goal
 
@@ -38,6 +41,27 @@ returns-clause-done c =
           (doing (record mid.core { part = c.abandon.new.self })) (doing new.core) (only m) same did
           c.leave.ensures.moved,
     )
+
+-- there is a place to leave what nothing holds then
+pub leave-requires-clause-place : goal.leave-requires-clause-place
+leave-requires-clause-place c =
+    let mid = c.make_room.new.self in
+    let m = c.abandon.new.self.own.node in
+    let one : Core = record mid.core { part = c.abandon.new.self } in
+    let keeps : Keeps mid.core.part.own.node m =
+    time_out_keeps mid.core.part.own.node m c.abandon.ensures.node in
+    let heap = ap (λ xs. length xs) keeps.heap in
+    let held = ap (λ xs. length xs) keeps.held in
+    let asked = ap (λ xs. length xs) keeps.asked in
+    place_left (needed c.to_push.result) mid.core one mid.told mid.told
+    c.in_ok-make_room.ensures.room
+    (record {
+      waiting = omega arith;
+      stored = omega (arith, heap);
+      held = omega (arith, held);
+      asked = omega (arith, asked);
+      fixed = refl;
+    }) refl refl refl
 
 -- what a site keeps true is true then
 pub returns-clause-kept : goal.returns-clause-kept
