@@ -56,11 +56,13 @@ module _ (table : List Class) (act : Acting) (seats : List Seat) (world : IsWorl
   local = transcript table (blocks table act (opening table seats) lines)
 
   -- where all lines did, the whole text is the machine's with what was sent put in
-  pub whole_as_one : LinesSendSpelled table act N lines → HasWires local (wired_from table act N lines)
+  pub whole_as_one : LinesSendSpelled table act N lines
+      → HasWires local (wired_from table act N lines)
   unfolding wired_from
   whole_as_one sends =
       subst (λ bs. HasWires (transcript table bs) (wired table (net_blocks table act N lines)))
-      (opened_blocks table act seats world N opens lines sends) (wires_put_in table (net_blocks table act N lines))
+      (opened_blocks table act seats world N opens lines sends)
+      (wires_put_in table (net_blocks table act N lines))
 
   -- nothing was written
   pub begun_as_one : (written : Option (List ℕ)) → WritesWithWires written written local

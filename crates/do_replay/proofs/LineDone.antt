@@ -14,7 +14,8 @@ use Rattle.do_replay.proofs.SpelledSoFar.{SpelledSoFar, spelled_next}
 -- A line was done in a network, its block was added to a text, and all that was sent has a spelling
 pub record LineDone (table : List Class) (act : Acting) (M K : Net) (line : Line)
     (waiting longer : List ℕ) : Type 0 where
-  pub text : longer ≡ waiting ++ wired_lines table (wired_block line (net_line_step table act M line))
+  pub text : longer
+      ≡ waiting ++ wired_lines table (wired_block line (net_line_step table act M line))
   pub net : K ≡ (net_line_step table act M line).net
   pub spelled : EventsSendSpelled table act M (events_of line)
 

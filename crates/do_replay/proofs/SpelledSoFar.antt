@@ -41,10 +41,12 @@ spelled_next table act N M K lines left rest line is goes now s =
       joins = same rest ∙ ap (λ ls. s.done ++ ls) (sym is) ∙ s.joins;
       blocks = λ ls.
           ap (net_blocks table act N) (same ls) ∙ s.blocks (line ∷ ls)
-          ∙ sym (append_assoc (net_blocks table act N s.done) (b ∷ []) (net_blocks table act after ls))
+          ∙ sym (append_assoc (net_blocks table act N s.done) (b ∷ [])
+          (net_blocks table act after ls))
           ∙ ap (λ bs. bs ++ net_blocks table act after ls) (sym one);
       sends = λ ls rest_sends.
-          subst (LinesSendSpelled table act N) (sym (same ls)) (s.sends (line ∷ ls) (now, rest_sends));
+          subst (LinesSendSpelled table act N) (sym (same ls))
+          (s.sends (line ∷ ls) (now, rest_sends));
     })
 
 -- in the lines that were done each frame that was sent has a spelling

@@ -5,4 +5,5 @@ use Rattle.do_lost.proofs.items.push_names.Given as goal
 
 abbrev pub invariant-loop-name : goal.invariant-loop-name
 invariant-loop-name l =
-    l.objects ≡ l.fn.objects ++ map (name_object l.way.from l.way.to) (take l.name-index l.name-items)
+    l.objects
+    ≡ l.fn.objects ++ map (name_object l.way.from l.way.to) (take l.name-index l.name-items)

@@ -1,5 +1,6 @@
 -- What was counted so far, with the lines that are left, is the summary of all; in the lines that
--- were done all that was sent has a spelling; the network stands, and nothing that was sent is left.
+-- were done all that was sent has a spelling; the network stands, and of what was sent nothing is
+-- left.
 use Rattle.std.proofs.Common.{◌≡◌, []}
 use Rattle.std.specs.Vec.Iter.{into_iter_items}
 use Rattle.do_net.specs.Net.{Stands, network}
