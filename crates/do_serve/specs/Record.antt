@@ -21,6 +21,10 @@ input_line port (Close peer) = head_line (line.Close port peer)
 input_line port (Ended peer) = joined ((codes "> ended " ++ number_pair port peer) ∷ [])
 input_line port Timeout = head_line (line.Timeout port)
 
+-- the line of an act
+abbrev pub act_line : ℕ → List ℕ
+act_line port = input_line port Run
+
 -- the line of an input, by what came of it: one that closed an end is written as a close, and one
 -- that was skipped not at all
 abbrev pub head_by : ℕ → Input → Done → List ℕ

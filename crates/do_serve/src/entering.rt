@@ -2,10 +2,12 @@
 ghost use Rattle.std.specs.Prelude.{◌≡◌, [], OnOk};
 ghost use Rattle.do_serve.specs.Core.{enter, leave_among};
 ghost use Rattle.do_serve.specs.Entering.{core_of, IsEntered};
+ghost use Rattle.do_serve.specs.Record.{act_line};
 
 use crate::far::Far;
-use crate::log::{Log, push_by, push_waiting};
+use crate::log::{Log, push_act_by, push_by, push_waiting};
 use crate::site::Serving;
+use do_base::Text;
 use do_network::Input;
 use std::alloc::AllocError;
 
@@ -18,6 +20,20 @@ pub fn enter<S: Serving>(site: &mut S, log: &mut Log, input: Input) -> Result<()
 {
     let done = site.handle(&input)?;
     push_by(&mut log.text, log.node, input, done)?;
+    push_waiting(site, log)
+}
+
+/// Does an act of the top invocation, and writes its block. Most lines of a record are that of an
+/// act, so it is made once and given.
+pub fn act<S: Serving>(site: &mut S, log: &mut Log, line: &Text) -> Result<(), AllocError>
+    requires drained { S.shown site.old ≡ [] }
+    requires line { line.now ≡ act_line log.old.node }
+    ensures { OnOk result (IsEntered (enter S.rules log.old.node Input.Run
+        (core_of (S.part site.old) (S.frames site.old) log.old))
+        (S.part site.new) (S.frames site.new) (S.shown site.new) log.old log.new) }
+{
+    let done = site.handle(&Input::Run)?;
+    push_act_by(&mut log.text, log.node, line, done)?;
     push_waiting(site, log)
 }
 

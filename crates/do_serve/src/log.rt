@@ -3,7 +3,7 @@ ghost use Rattle.std.specs.Prelude.{◌≡◌, ◌++◌, ◌∷◌, [], List, On
 ghost use Rattle.do_sched.specs.Spelling.{number_pair};
 ghost use Rattle.do_lines.specs.Lines.{joined};
 ghost use Rattle.do_lines.specs.Shown.{shown_text};
-ghost use Rattle.do_serve.specs.Record.{input_line, head_by};
+ghost use Rattle.do_serve.specs.Record.{input_line, act_line, head_by};
 ghost use Rattle.do_serve.specs.Core.{count_took, count_taken, taken_after};
 
 use crate::site::Serving;
@@ -12,7 +12,7 @@ use do_grammar::push_dec;
 use do_lines::{push_head, push_shown};
 use do_network::{Done, Input};
 use do_sched::Line;
-use std::alloc::AllocError;
+use std::alloc::{AllocError, Global};
 
 /// What a node that is served writes.
 #[derive(Debug, Drop)]
@@ -65,6 +65,26 @@ pub fn push_by(out: &mut Text, node: NodeId, input: Input, done: Done) -> Result
         Done::Moved => push_input(out, node, input),
         Done::Skipped => Ok(()),
         Done::Closed(peer, _) => push_head(out, &Line::Close { node, peer }),
+    }
+}
+
+/// The line of an act.
+pub fn act_line(alloc: Global, node: NodeId) -> Result<Text, AllocError>
+    ensures { IfOk result (λ line. line ≡ act_line node) }
+{
+    let mut line = Text::new(alloc);
+    push_input(&mut line, node, Input::Run)?;
+    Ok(line)
+}
+
+/// Adds the line of an act, by what came of it. The line of one that was done is given.
+pub fn push_act_by(out: &mut Text, node: NodeId, line: &Text, done: Done) -> Result<(), AllocError>
+    requires { line.now ≡ act_line node }
+    ensures { OnOk result (out.new ≡ out.old ++ head_by node Input.Run done) }
+{
+    match done {
+        Done::Moved => out.push_bytes(line.as_slice()),
+        done => push_by(out, node, Input::Run, done),
     }
 }
 

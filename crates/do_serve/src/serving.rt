@@ -3,14 +3,14 @@ ghost use Rattle.std.specs.Prelude.{◌≡◌, ◌≤◌, ◌++◌, [], length, 
 ghost use Rattle.std.specs.Prelude.{true};
 ghost use Rattle.do_base.specs.outside.Bytes.{with_more};
 ghost use Rattle.do_base.specs.outside.Causes.{Rose};
-ghost use Rattle.do_serve.specs.Record.{first_line, last_line};
+ghost use Rattle.do_serve.specs.Record.{first_line, act_line, last_line};
 ghost use Rattle.do_serve.specs.Peers.{new_peer};
 ghost use Rattle.do_serve.specs.Serving.{serve_from, opening};
 ghost use Rattle.do_serve.specs.Turning.{server_of};
 ghost use Rattle.do_serve.specs.Answers.{TellsServed, TellsTurns, Breaks};
 
 use crate::far::Far;
-use crate::log::Log;
+use crate::log::{Log, act_line};
 use crate::rounds::{Room, round};
 use crate::site::Serving;
 use do_base::{NodeId, Peers, PutFail, Sink, Text};
@@ -66,12 +66,14 @@ fn desk_of(alloc: Global, node: NodeId, peers: &Peers) -> Result<(Log, Vec<Far>,
       node = node;
       taken = 0;
       text = first_line node;
-    }) × (desk.1.items ≡ map new_peer peers.now) × (4096 ≤ length desk.2.heard.items)) }
+    }) × (desk.1.items ≡ map new_peer peers.now) × (4096 ≤ length desk.2.heard.items)
+        × (desk.2.act ≡ act_line node)) }
 {
     let text = first_text(alloc, node)?;
     let fars = new_fars(alloc, peers)?;
     let heard = vec![in alloc; 0u8; HEARD]?;
     let frame = Text::new(alloc);
+    let act = act_line(alloc, node)?;
     Ok((
         Log {
             node,
@@ -79,7 +81,7 @@ fn desk_of(alloc: Global, node: NodeId, peers: &Peers) -> Result<(Log, Vec<Far>,
             text,
         },
         fars,
-        Room { frame, heard },
+        Room { frame, heard, act },
     ))
 }
 
@@ -113,6 +115,7 @@ fn serve_turns<S: Serving, L: Link, K: Sink>(
 ) -> Result<bool, PutFail>
     requires drained { S.shown site.old ≡ [] }
     requires room { 4096 ≤ length room.old.heard.items }
+    requires act { room.old.act ≡ act_line log.old.node }
     requires first { log.old.text ≡ first_line log.old.node }
     ensures tells { TellsTurns log.old.node (serve_from S.rules log.old.node turns
         (server_of (S.part site.old) (S.frames site.old) log.old fars.old starts.now 0))

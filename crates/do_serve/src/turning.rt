@@ -1,14 +1,16 @@
 //! One turn of a node that is served.
 ghost use Rattle.std.specs.Prelude.{◌≡◌, ◌∷◌, [], List, IfOk, OnOk};
 ghost use Rattle.do_plan.specs.declared.starts.StartLine.{StartLine as Line};
+ghost use Rattle.do_serve.specs.Record.{act_line};
 ghost use Rattle.do_serve.specs.Serving.{turn, idle_turn, line_turn};
 ghost use Rattle.do_serve.specs.Turning.{server_of, server_with, TurnsTo, UsesLine, IsKept};
 
-use crate::entering::{enter, leave_among};
+use crate::entering::{act, enter, leave_among};
 use crate::far::Far;
 use crate::fars::{closed_among, end_among, take_among};
 use crate::log::Log;
 use crate::site::Serving;
+use do_base::Text;
 use do_network::Input;
 use do_plan::{StartLine, Starts};
 use std::alloc::AllocError;
@@ -84,15 +86,17 @@ fn idle_turn<S: Serving>(
     Ok(Turned::Polls)
 }
 
-/// Makes the first turn that is possible.
+/// Makes the first turn that is possible. The line of an act is given.
 pub fn turn<S: Serving>(
     site: &mut S,
     log: &mut Log,
     fars: &mut [Far],
     starts: &Starts,
     at: &mut usize,
+    line: &Text,
 ) -> Result<Turned, AllocError>
-    requires { S.shown site.old ≡ [] }
+    requires drained { S.shown site.old ≡ [] }
+    requires line { line.now ≡ act_line log.old.node }
     ensures turned { IfOk result (λ turned. TurnsTo (turn S.rules log.old.node
         (server_of (S.part site.old) (S.frames site.old) log.old fars.old starts.now at.old))
         (server_of (S.part site.old) (S.frames site.old) log.old fars.old starts.now at.old)
@@ -101,7 +105,7 @@ pub fn turn<S: Serving>(
     ensures kept { OnOk result (IsKept (S.shown site.new) log.old log.new) }
 {
     if site.can_act() {
-        enter(site, log, Input::Run)?;
+        act(site, log, line)?;
         return Ok(Turned::Went);
     }
     if let Some(input) = take_among(site, fars)? {

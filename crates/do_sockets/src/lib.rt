@@ -7,6 +7,7 @@
 
 mod peer;
 mod reading;
+mod sending;
 mod streams;
 mod tcp_link;
 mod waiter;

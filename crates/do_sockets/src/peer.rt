@@ -4,6 +4,7 @@ ghost use Rattle.do_sockets.specs.declared.reading.Got.TheVariants.{Bytes};
 
 use crate::reading::{Got, read_some};
 use do_base::NodeId;
+use mio::Token;
 use std::alloc::{AllocError, Global};
 use std::collections::VecDeque;
 use std::io::Read;
@@ -26,8 +27,12 @@ pub struct Peer<S> {
     pub id: NodeId,
     /// The stream from it.
     pub incoming: Option<S>,
-    /// Whether a stream from it was ever there.
-    pub is_named: bool,
+    /// The token of the first stream from it; none before there was one.
+    pub token: Option<Token>,
+    /// Whether that stream may have something to read.
+    pub is_ready: bool,
+    /// Whether it counts as ready until a read finds nothing, though one left room in its buffer.
+    pub is_to_drain: bool,
     /// The stream to it.
     pub outgoing: Outgoing<S>,
     /// What came while a send waited.
@@ -40,10 +45,50 @@ impl<S: Read + Drop> Peer<S> {
         Peer {
             id,
             incoming: None,
-            is_named: false,
+            token: None,
+            is_ready: false,
+            is_to_drain: false,
             outgoing: Outgoing::NotYet,
             kept: VecDeque::new(alloc),
         }
+    }
+
+    /// The first stream from this peer. Nothing is known of what it has.
+    pub fn begin(&mut self, stream: S, token: Token) {
+        self.incoming = Some(stream);
+        self.token = Some(token);
+        self.is_ready = true;
+        self.is_to_drain = true;
+    }
+
+    /// The stream from this peer was found ready; it has an end or an error where it failed.
+    pub fn found_ready(&mut self, failed: bool) {
+        self.is_ready = true;
+        self.is_to_drain = self.is_to_drain || failed;
+    }
+
+    /// What the stream from this peer has. It is not read where nothing came since it had nothing
+    /// more: a read that leaves room in the buffer has taken all that there was.
+    fn read(&mut self, buf: &mut [u8]) -> Got
+        ensures room { length buf.new ≡ length buf.old }
+        ensures bytes { (n : ℕ) → result ≡ Bytes n → (0 < n) × (n ≤ length buf.new) }
+    {
+        let Some(stream) = &mut self.incoming else {
+            return Got::Nothing;
+        };
+        if !self.is_ready {
+            return Got::Nothing;
+        }
+        let got = read_some(stream, buf);
+        match &got {
+            Got::Bytes(count) => self.is_ready = self.is_to_drain || *count == buf.len(),
+            Got::Ended => {}
+            Got::Nothing => {
+                self.is_ready = false;
+                self.is_to_drain = false;
+            }
+        }
+        got
     }
 
     /// What comes next from this peer: first what was kept.
@@ -55,10 +100,7 @@ impl<S: Read + Drop> Peer<S> {
         if count > 0 {
             return Got::Bytes(count);
         }
-        let Some(stream) = &mut self.incoming else {
-            return Got::Nothing;
-        };
-        let got = read_some(stream, buf);
+        let got = self.read(buf);
         if matches!(&got, Got::Ended) {
             self.incoming = None;
         }
@@ -67,10 +109,7 @@ impl<S: Read + Drop> Peer<S> {
 
     /// Keeps what has come. It says whether anything had.
     pub fn keep(&mut self, buf: &mut [u8]) -> Result<bool, AllocError> {
-        let Some(stream) = &mut self.incoming else {
-            return Ok(false);
-        };
-        match read_some(stream, buf) {
+        match self.read(buf) {
             Got::Bytes(count) => {
                 for byte in &buf[..count] {
                     self.kept.push_back(*byte)?;

@@ -3,6 +3,7 @@ ghost use Rattle.std.specs.Prelude.{◌≡◌, ◌<◌, ◌≤◌, ℕ, length};
 ghost use Rattle.do_sockets.specs.declared.reading.Got.TheVariants.{Bytes};
 
 use do_base::NodeId;
+use mio::Token;
 use std::io::{ErrorKind, Read};
 
 /// How often a call begins again after a signal.
@@ -41,6 +42,8 @@ pub fn read_some<S: Read>(stream: &mut S, buf: &mut [u8]) -> Got
 pub struct Unnamed<S> {
     /// The stream.
     pub stream: S,
+    /// The token that its readiness is told under.
+    pub token: Token,
     /// The first byte of the port, where it came.
     pub first: Option<u8>,
 }

@@ -1,7 +1,8 @@
 //! The link over sockets of this machine.
 ghost use Rattle.std.specs.Prelude.{◌≡◌, ◌∷◌, [], None};
 
-use crate::streams::{Sent, Streams};
+use crate::sending::Sent;
+use crate::streams::Streams;
 use do_base::NodeId;
 use do_link::{Link, LinkEvent, LinkFail};
 use std::alloc::Global;
@@ -57,14 +58,15 @@ impl<R: Net> Link for TcpLink<R> {
 
     fn next(&mut self, buf: &mut [u8]) -> LinkEvent {
         let event = self.streams.poll(buf);
+        match &event {
+            LinkEvent::Quiet => self.streams.look(self.wait),
+            // There may be more of the same at once, and the others have their turn too.
+            LinkEvent::Bytes(_, count) if *count == buf.len() => self.streams.look(0),
+            _ => {}
+        }
         if !matches!(&event, LinkEvent::Quiet) {
             return event;
         }
-        if self.wait > 0 {
-            self.streams.pause(self.wait);
-        }
-        self.streams.accept();
-        self.streams.name_streams();
         let event = self.streams.poll(buf);
         if matches!(&event, LinkEvent::Quiet) {
             self.quiets = self.quiets.saturating_add(1);

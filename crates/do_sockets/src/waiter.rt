@@ -1,5 +1,6 @@
 //! The sockets that a poll waits for.
 use do_link::LinkFail;
+use mio::event::Event;
 use mio::unix::SourceFd;
 use mio::{Events, Interest, Poll, Token};
 use std::alloc::Global;
@@ -7,7 +8,7 @@ use std::net::Net;
 use std::os::fd::AsRawFd;
 use std::time::Duration;
 
-/// The sockets that a poll waits for.
+/// The sockets that a poll waits for, each under a token.
 #[derive(Drop)]
 pub struct Waiter {
     poll: Poll,
@@ -25,11 +26,11 @@ impl Waiter {
     }
 
     /// Waits for a socket from now on. It says whether the system does.
-    pub fn watch(&self, socket: &impl AsRawFd, interest: Interest) -> bool {
+    pub fn watch(&self, socket: &impl AsRawFd, token: Token, interest: Interest) -> bool {
         let fd = socket.as_raw_fd();
         self.poll
             .registry()
-            .register(&mut SourceFd(&fd), Token(0), interest)
+            .register(&mut SourceFd(&fd), token, interest)
             .is_ok()
     }
 
@@ -39,12 +40,10 @@ impl Waiter {
             .poll
             .poll(&mut self.events, Some(Duration::from_micros(micros)));
     }
-}
 
-/// The same where there is a waiter.
-pub fn watch(waiter: &Option<Waiter>, socket: &impl AsRawFd, interest: Interest) -> bool {
-    match waiter {
-        Some(waiter) => waiter.watch(socket, interest),
-        None => false,
+    /// What the last wait found, 16 sockets at most. What a socket is ready for is told once, until
+    /// a call finds nothing there any more.
+    pub fn found(&self) -> std::slice::Iter<'_, Event> {
+        self.events.iter()
     }
 }
