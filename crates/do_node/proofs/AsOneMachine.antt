@@ -21,7 +21,8 @@ use Rattle.do_given.specs.declared.status.Status.{Status}
 use Rattle.do_given.specs.declared.status.Status.TheVariants as answer
 use Rattle.do_node.specs.Answering.{answer_of}
 use Rattle.do_node.specs.Call.{Obeys}
-use Rattle.do_node.specs.OneMachine.{AddsAll, AddsFirst, Adds, AddsAsOne, ComesAsOne}
+use Rattle.do_node.specs.Added.{AddsFirst}
+use Rattle.do_node.specs.OneMachine.{Adds, AddsAsOne, ComesAsOne}
 use Rattle.do_node.specs.OneMachine.{IsLocalReplay, IsLocalSummary}
 use Rattle.do_node.specs.Replaying.{world_summary, world_transcript, world_wired}
 use Rattle.do_node.specs.Running.{Counts}
@@ -37,7 +38,7 @@ module _ (Is : List ℕ → Type 0) (old new : Option (List ℕ)) where
       OnOk result A → OnOk result (new ≡ with_more old text) → (new ≡ old) ⊎ AddsFirst Is old new →
       Adds Is old new (IsOk result)
   adds_so text (Ok u) so found written first = record {
-    whole = λ ok. record { text = text; is = so found; written = written };
+    whole = λ ok. record { text = text; writes = so found; written = written };
     first = first;
   }
   adds_so text (Err status) so found written first =
@@ -68,7 +69,7 @@ replay_adds told word name given gives old new result wires written first =
     (local_replay told word name given gives (world_wired given.world given.lines)) wires written
     (inr (record {
       text = first.text;
-      is = local_replay told word name given gives first.text first.wires;
+      writes = local_replay told word name given gives first.text first.wires;
       written = first.written;
     }))
 
@@ -104,7 +105,7 @@ summary_adds told number count world gives old new result same written prefix fi
     go (inl none) = inl none
     go (inr so) = inr (record {
       text = world_summary world (generated count number);
-      is = local_summary told number count world gives so;
+      writes = local_summary told number count world gives so;
       written = prefix;
     })
 

@@ -1,4 +1,5 @@
 pub mod OpenedNetwork
+pub mod StepsOfNets
 pub mod Obeying
 pub mod RecordsTold
 pub mod WovenTold

@@ -1,5 +1,5 @@
 -- What serving a node and running a plan come to, as statuses tell it.
-use Rattle.std.proofs.Common.{◌≡◌, ◌⊎◌, ℕ, List, [], Option, Some, inl, inr, refl}
+use Rattle.std.proofs.Common.{ℕ, List, Option, inl, inr, refl}
 use Rattle.do_base.specs.declared.outside.shelf.NamedFile.{NamedFile}
 use Rattle.do_cli.specs.declared.command.Command.{Command}
 use Rattle.do_cli.specs.declared.command.Command.TheVariants as asked

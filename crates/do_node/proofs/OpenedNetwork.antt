@@ -8,7 +8,10 @@ use Rattle.do_machine.specs.check.Blocks.{blocks}
 use Rattle.do_lines.specs.Transcript.{transcript}
 use Rattle.do_transcript.specs.Transcript.{transcript_from}
 use Rattle.do_machine.specs.declared.state.Seat.{Seat}
+use Rattle.do_machine.specs.run.Run.{Acting}
 use Rattle.do_net.specs.Net.{AreAlike}
+use Rattle.do_net.specs.OneMachine.{StandsFor}
+use Rattle.do_net.proofs.StandsForStates.{opening_stands}
 use Rattle.do_class.specs.Class.{Class}
 use Rattle.do_make.specs.Summary.{summary_of}
 use Rattle.do_make.specs.Text.{summary_text}
@@ -139,3 +142,14 @@ pub if_first : {N E : Type 0} (acts : N → Native) (native : Native) (makers : 
     → IfOk result (λ n. slice_get makers 0 ≡ Some (acts n)) → IfOk result (λ n. acts n ≡ native)
 if_first acts native makers (Ok n) all is = first_shared native (acts n) makers all is
 if_first acts native makers (Err e) all is = tt
+
+-- where what opened is the network of a world, it stands for the opening of the one machine
+pub stands_opened : {T E : Type 0} (net : T → Net) (world : World) (act : Acting)
+    (result : Result T E) → IsWorld world.table world.nodes
+    → IfOk result (λ n. net n ≡ net_opening world.table world.nodes)
+    → IfOk result
+    (λ n. StandsFor world.table act (net n) (opening world.table world.nodes))
+stands_opened net world act (Ok n) opens is =
+    subst (λ N. StandsFor world.table act N (opening world.table world.nodes)) (sym is)
+    (opening_stands world.table act world.nodes opens)
+stands_opened net world act (Err e) opens is = tt

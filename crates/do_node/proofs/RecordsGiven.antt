@@ -1,8 +1,8 @@
 -- What records are woven to gives them again.
 use Rattle.std.proofs.Common.{◌≡◌, ◌++◌, ℕ, List, [], ◌∷◌, Option, Ok, sym, subst}
-use Rattle.do_again.specs.Read.{AreRead}
-use Rattle.do_again.proofs.RecordsBehind.{read_sound}
-use Rattle.do_again.proofs.WovenSchedule.{woven_schedule}
+use Rattle.do_rewoven.specs.Read.{AreRead}
+use Rattle.do_rewoven.proofs.RecordsBehind.{read_sound}
+use Rattle.do_rewoven.proofs.WovenSchedule.{woven_schedule}
 use Rattle.do_base.specs.declared.outside.shelf.NamedFile.{NamedFile}
 use Rattle.do_machine.specs.World.{opening}
 use Rattle.do_machine.specs.declared.state.Seat.{Seat}

@@ -1,7 +1,6 @@
 -- What a command that writes a text comes to, as a status tells it.
-use Rattle.std.proofs.Common.{◌≡◌, ◌⊎◌, ℕ, List, Option, Some, None, Result, Ok, Err, inl, inr}
-use Rattle.std.proofs.Common.{subst, refl}
-use Rattle.do_base.specs.outside.Bytes.{with_more, HasWritten}
+use Rattle.std.proofs.Common.{◌≡◌, ◌⊎◌, ℕ, List, Option, Result, Ok, Err, inl, inr}
+use Rattle.std.proofs.Common.{subst}
 use Rattle.do_base.specs.declared.outside.shelf.NamedFile.{NamedFile}
 use Rattle.std.specs.Prelude.{IsErrOf, IsOk}
 use Rattle.do_cli.specs.declared.command.Command.{Command}
@@ -13,7 +12,7 @@ use Rattle.do_base.specs.outside.Causes.{Rose}
 use Rattle.do_node.specs.Call.{CanWrite, Comes, HasUnread, IsRefusal, Obeys, Refuses}
 use Rattle.do_node.specs.Running.{Counts, EndsWith, IsRunEnd}
 use Rattle.do_node.proofs.FrontsWritten.{all_is_some}
-use Rattle.do_node.proofs.RefusalsTold.{IsTold, refusal_told, stops_no_word, stops_not_ok}
+use Rattle.do_node.proofs.RefusalsTold.{refusal_told, stops_no_word, stops_not_ok}
 
 -- what stops a command and says what is wrong with a file is a refusal
 stops_refused : (u f : Type 0) (refuses : Status → Type 0) (status : Status) → IsRefusal status

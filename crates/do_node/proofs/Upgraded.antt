@@ -7,7 +7,7 @@ use Rattle.do_sched.specs.declared.line.Line.{Line}
 use Rattle.do_sched.specs.declared.version.Version.TheVariants.{First, Second}
 use Rattle.do_sched.proofs.Upgraded.{upgrades}
 use Rattle.std.specs.List.{AllByRecursion}
-use Rattle.do_machine.proofs.first.Lines.{same_blocks}
+use Rattle.do_facts.proofs.machine.first.Lines.{same_blocks}
 use Rattle.do_native.specs.Acts.{native_act}
 use Rattle.do_world.specs.declared.world.World.{World}
 use Rattle.do_lines.specs.Transcript.{transcript}

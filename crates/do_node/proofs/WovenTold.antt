@@ -4,11 +4,14 @@ use Rattle.std.proofs.Common.{inl, inr, ap, arith, length, sum_by, sym, subst, r
 use Rattle.std.specs.Prelude.{IfErr}
 use Rattle.std.proofs.lemmas.List.Sums.{sum_by-cons}
 use Rattle.do_base.specs.declared.outside.shelf.NamedFile.{NamedFile}
-use Rattle.do_class.specs.Class.{Class}
 use Rattle.do_machine.specs.World.{opening}
 use Rattle.do_machine.specs.declared.state.State.{State}
 use Rattle.do_native.specs.Acts.{native_act}
 use Rattle.do_native.specs.declared.native.Native.{Native}
+use Rattle.do_net.specs.Net.{Stands, network}
+use Rattle.do_net.specs.OneMachine.{StandsFor}
+use Rattle.do_net.specs.Seen.{Seen}
+use Rattle.do_net.specs.declared.net.Net.{Net}
 use Rattle.do_record.specs.declared.parts.Block.{Block}
 use Rattle.do_record.specs.declared.parts.Record.{Record}
 use Rattle.do_record.specs.declared.parts.RecordLine.{RecordLine}
@@ -33,9 +36,21 @@ use Rattle.do_given.specs.Parts.{behaviour_of}
 use Rattle.do_node.specs.Weaving.{Contradicts, GivesRecords, HasUnreadPart, IsWoven, RefusesWeaving}
 use Rattle.do_node.specs.Weaving.{RefusesRecords, WeavesTo, rules_of, told_of_weaving}
 use Rattle.do_node.specs.Weaving.{world_woven}
+use Rattle.do_node.specs.WovenNet.{IsMachine}
 use Rattle.do_given.proofs.FilesTold.{no_err, or_unread, read_is}
 use Rattle.do_given.proofs.Stopping.{give_any, must_be, stops_as}
 use Rattle.do_node.proofs.RecordsTold.{any_unread_earlier}
+
+-- the network of a world is its machine as it opens
+pub opened_machine : {Site : Type 0} (seen : Site → Seen) (w : World) (n : Net Site Native)
+    → n.table ≡ w.table → n.acts ≡ behaviour_of w → Stands seen (native_act n.acts) n
+    → StandsFor w.table (native_act (behaviour_of w)) (network seen n) (opening w.table w.nodes)
+    → IsMachine seen (native_act n.acts) n (rules_of w) (opening w.table w.nodes)
+opened_machine seen w n same_table same_acts whole stands = record {
+  rules = λ i. record { table = sym same_table i; act = native_act (sym same_acts i) };
+  whole = whole;
+  stands = stands;
+}
 
 -- an input takes a step
 one_step : (i : RecordLine) → 1 ≤ input_steps i
@@ -63,17 +78,18 @@ records_within (r ∷ rs) =
       records_within rs,
     )
 
--- a machine that is as a world opens tells what records are woven to over it
-pub told_woven : (w : World) (records : List Record) (table : List Class) (native : Native)
-    (S : State) (result : Result (List Line) WeaveFault)
-    → table ≡ w.table → native ≡ behaviour_of w → S ≡ opening w.table w.nodes
-    → ((R : Rules) (T : State) → (R.table ≡ table) × (R.act ≡ native_act native) × (T ≡ S)
-    → Tells (woven R T records) result)
+-- a network that stands for a world's opening tells what records are woven to over it
+pub told_woven : {Site : Type 0} (seen : Site → Seen) (w : World) (records : List Record)
+    (n : Net Site Native) (result : Result (List Line) WeaveFault)
+    → n.table ≡ w.table → n.acts ≡ behaviour_of w → Stands seen (native_act n.acts) n
+    → StandsFor w.table (native_act (behaviour_of w)) (network seen n) (opening w.table w.nodes)
+    → ((R : Rules) (state : State) → IsMachine seen (native_act n.acts) n R state
+    → Tells (woven R state records) result)
     → Tells (world_woven w records) result
 unfolding world_woven
-told_woven w records table native S result same_table same_acts is_opening tells =
+told_woven seen w records n result same_table same_acts whole stands tells =
     tells (rules_of w) (opening w.table w.nodes)
-    (sym same_table, ap native_act (sym same_acts), sym is_opening)
+    (opened_machine seen w n same_table same_acts whole stands)
 
 module _ (w : World) (records : List Record) where
   -- lines that are told are spelled

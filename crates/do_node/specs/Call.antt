@@ -1,7 +1,6 @@
 -- What a command writes, and why it is refused.
 use Rattle.std.specs.Prelude.{◌≡◌, ℕ, ◌⊎◌, List, Option, Some, None, Result, OnOk, IfErr, IsOk}
 use Rattle.std.specs.Prelude.{IsErrOf, codes}
-use Rattle.do_base.specs.outside.Bytes.{with_more, HasWritten}
 use Rattle.do_base.specs.outside.Causes.{Rose}
 use Rattle.do_base.specs.declared.outside.shelf.NamedFile.{NamedFile}
 use Rattle.do_cli.specs.Help.{help_text, version_text}
@@ -21,6 +20,7 @@ use Rattle.do_given.specs.Reading.{GivesScheduled, GivesWorld, HasUnreadSchedule
 use Rattle.do_given.specs.Reading.{RefusesScheduled, RefusesWorld, SaysNoLines, Stops}
 use Rattle.do_given.specs.Serving.{RefusesServed, SaysNoText}
 use Rattle.do_plan.specs.Plan.{plan_form}
+use Rattle.do_node.specs.Added.{AddsAll, AddsFirst}
 use Rattle.do_node.specs.Replaying.{world_lost, world_summary, world_wired}
 use Rattle.do_node.specs.Running.{Counts, EndsWith, IsRun, IsRunEnd, IsServed}
 use Rattle.do_node.specs.Weaving.{HasUnreadPart, IsWoven, RefusesWeaving}
@@ -92,18 +92,14 @@ pub record CanWrite (told : Option (List NamedFile)) (command : Command) : Type 
   pub writes : Writes told command text
 
 -- what a command writes was added to a sink that tells what it holds
-pub record WritesAll (told : Option (List NamedFile)) (command : Command)
-    (old new : Option (List ℕ)) : Type 0 where
-  pub text : List ℕ
-  pub writes : Writes told command text
-  pub written : new ≡ with_more old text
+abbrev pub WritesAll : Option (List NamedFile) → Command → Option (List ℕ) → Option (List ℕ)
+    → Type 0
+WritesAll told command = AddsAll (Writes told command)
 
 -- the first bytes of what a command writes were added
-pub record WritesSome (told : Option (List NamedFile)) (command : Command)
-    (old new : Option (List ℕ)) : Type 0 where
-  pub text : List ℕ
-  pub writes : Writes told command text
-  pub written : HasWritten old new text
+abbrev pub WritesSome : Option (List NamedFile) → Command → Option (List ℕ) → Option (List ℕ)
+    → Type 0
+WritesSome told command = AddsFirst (Writes told command)
 
 -- the answers that say what is wrong with a file
 abbrev pub IsRefusal : Status → Type 0

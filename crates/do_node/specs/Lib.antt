@@ -1,9 +1,11 @@
+pub mod Added
 pub mod Replaying
 pub mod OneMachine
 pub mod Leaking
 pub mod Upgrading
 pub mod Records
 pub mod Weaving
+pub mod WovenNet
 pub mod Rewoven
 pub mod Answering
 pub mod Running

@@ -1,6 +1,5 @@
 -- That what a command writes of a network is what one local machine comes to.
 use Rattle.std.specs.Prelude.{◌≡◌, ℕ, ◌⊎◌, List, Option, codes, map}
-use Rattle.do_base.specs.outside.Bytes.{with_more, HasWritten}
 use Rattle.do_base.specs.declared.outside.shelf.NamedFile.{NamedFile}
 use Rattle.do_cli.specs.declared.command.Command.{Command}
 use Rattle.do_cli.specs.declared.command.Command.TheVariants.{Replay, Make}
@@ -20,6 +19,7 @@ use Rattle.do_network.specs.Net.{net_opening}
 use Rattle.do_network.specs.Wired.{WiredBlock, net_blocks}
 use Rattle.do_agreement.specs.HasWires.{HasWires}
 use Rattle.do_agreement.specs.WithoutWires.{without_wires}
+use Rattle.do_node.specs.Added.{AddsAll, AddsFirst}
 use Rattle.do_node.specs.Replaying.{world_transcript}
 
 -- the text is the transcript of a schedule over one local machine, with lines `wire ..` put between
@@ -52,18 +52,6 @@ pub record IsLocalSummary (told : Option (List NamedFile)) (number count : ℕ) 
   pub wired : List WiredBlock
   pub same : map (λ b. b.block) wired ≡ local_blocks world (generated count number)
   pub is : text ≡ summary_text (summary_of wired)
-
--- a text that is so was added to a sink that tells what it holds
-pub record AddsAll (Is : List ℕ → Type 0) (old new : Option (List ℕ)) : Type 0 where
-  pub text : List ℕ
-  pub is : Is text
-  pub written : new ≡ with_more old text
-
--- the first bytes of a text that is so were added
-pub record AddsFirst (Is : List ℕ → Type 0) (old new : Option (List ℕ)) : Type 0 where
-  pub text : List ℕ
-  pub is : Is text
-  pub written : HasWritten old new text
 
 -- a text that is so was added where all was done, and else its first bytes or nothing
 pub record Adds (Is : List ℕ → Type 0) (old new : Option (List ℕ)) (done : Type 0) : Type 0 where

@@ -8,6 +8,7 @@ use Rattle.do_given.specs.declared.status.Status.{Status}
 use Rattle.do_given.specs.declared.status.Status.TheVariants as answer
 use Rattle.do_given.specs.Serving.{GivesServed, SaysPlan}
 use Rattle.do_lab.specs.Children.{lab_text}
+use Rattle.do_lab.specs.Told.{Spawned}
 use Rattle.do_lab.specs.declared.children.ChildEnd.{ChildEnd}
 use Rattle.do_link.specs.Told.{Told}
 use Rattle.do_plan.specs.declared.plan.PlanLine.{PlanLine}
@@ -34,6 +35,26 @@ pub record IsRun (told : Option (List NamedFile)) (name text : List ℕ) : Type 
 pub record Counts : Type 0 where
   pub before : ℕ
   pub now : ℕ
+
+-- what is seen of a link and of an output, by what each tells and by its count of faults
+abbrev pub link_seen : {L K : Type 0} → (L → Option (List Told)) → (L → ℕ)
+    → (K → Option (List ℕ)) → (K → ℕ) → L → K → nodes.Seens
+link_seen told link_faults written output_faults link output = record {
+  told = told link;
+  written = written output;
+  link = link_faults link;
+  output = output_faults output;
+}
+
+-- what is seen of a spawner and of an output
+abbrev pub spawner_seen : {P K : Type 0} → (P → Option (List Spawned)) → (P → ℕ)
+    → (K → Option (List ℕ)) → (K → ℕ) → P → K → plans.Seens
+spawner_seen told spawner_faults written output_faults spawner output = record {
+  told = told spawner;
+  written = written output;
+  spawner = spawner_faults spawner;
+  output = output_faults output;
+}
 
 -- a command was carried out to its end, and is answered so
 abbrev pub EndsWith : Status → Command → Type 0

@@ -5,7 +5,7 @@ use Rattle.do_sched.specs.Schedule.{IsSchedule, IsScheduleOf}
 use Rattle.do_sched.specs.declared.line.Line.{Line}
 use Rattle.do_sched.specs.declared.version.Version.TheVariants.{First}
 use Rattle.do_machine.specs.World.{opening}
-use Rattle.do_machine.specs.laws.first.Blocks.{blocks_1}
+use Rattle.do_facts.specs.laws.first.Blocks.{blocks_1}
 use Rattle.do_native.specs.Acts.{native_act}
 use Rattle.do_world.specs.declared.world.World.{World}
 use Rattle.do_lines.specs.Transcript.{transcript}

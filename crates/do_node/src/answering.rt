@@ -4,7 +4,7 @@ ghost use Rattle.do_cli.specs.Forms.{records_in};
 ghost use Rattle.do_node.specs.Answering.{answer_of};
 ghost use Rattle.do_node.specs.Call.{Comes};
 ghost use Rattle.do_node.specs.OneMachine.{AddsAsOne};
-ghost use Rattle.do_node.specs.Running.{Links, Spawns};
+ghost use Rattle.do_node.specs.Running.{Links, Spawns, link_seen, spawner_seen};
 
 use crate::commands::{
     leaks_given, make_given, replay_given, write_help, write_upgraded, write_version, write_woven,
@@ -47,32 +47,12 @@ pub fn obey<S: Runnable + Hosted<Acts = Native>, H: Shelf, K: Sink, L: Link, P: 
         (result ≡ Status.Ok) command }
     ensures links { Links (H.files shelf.old)
         (record { before = H.faults shelf.old; now = H.faults shelf.new })
-        (record {
-          told = L.told link.old;
-          written = K.written out.old;
-          link = L.faults link.old;
-          output = K.faults out.old;
-        })
-        (record {
-          told = L.told link.new;
-          written = K.written out.new;
-          link = L.faults link.new;
-          output = K.faults out.new;
-        }) result command }
+        (link_seen L.told L.faults K.written K.faults link.old out.old)
+        (link_seen L.told L.faults K.written K.faults link.new out.new) result command }
     ensures spawns { Spawns (H.files shelf.old)
         (record { before = H.faults shelf.old; now = H.faults shelf.new })
-        (record {
-          told = P.told spawn.old;
-          written = K.written out.old;
-          spawner = P.faults spawn.old;
-          output = K.faults out.old;
-        })
-        (record {
-          told = P.told spawn.new;
-          written = K.written out.new;
-          spawner = P.faults spawn.new;
-          output = K.faults out.new;
-        }) result command }
+        (spawner_seen P.told P.faults K.written K.faults spawn.old out.old)
+        (spawner_seen P.told P.faults K.written K.faults spawn.new out.new) result command }
     ensures same { H.files shelf.new ≡ H.files shelf.old }
     ensures shelf_faults { H.faults shelf.old ≤ H.faults shelf.new }
     ensures sink_faults { K.faults out.old ≤ K.faults out.new }
@@ -85,7 +65,7 @@ pub fn obey<S: Runnable + Hosted<Acts = Native>, H: Shelf, K: Sink, L: Link, P: 
             answer_of(leaks_given(alloc, &world, &schedule, shelf, out))
         }
         Command::Weave { world, files } => {
-            answer_of(write_woven(alloc, &world, &files, shelf, out))
+            answer_of(write_woven::<S, H, K>(alloc, &world, &files, shelf, out))
         }
         Command::Upgrade { schedule } => answer_of(write_upgraded(alloc, &schedule, shelf, out)),
         Command::Make { number, count } => {

@@ -14,6 +14,7 @@ ghost use Rattle.do_node.specs.OneMachine.{AddsAsOne};
 ghost use Rattle.do_node.specs.Leaking.{TellsLost};
 ghost use Rattle.do_node.specs.Rewoven.{GivesBack};
 ghost use Rattle.do_node.specs.Running.{EndsWith, IsRunEnd, Links, Spawns};
+ghost use Rattle.do_node.specs.Running.{link_seen, spawner_seen};
 ghost use Rattle.do_node.specs.Upgrading.{IsReplayedAlike};
 
 use crate::answering::obey;
@@ -34,12 +35,13 @@ use std::alloc::Global;
 /// RECORD..` one schedule in which the nodes of that world do what their records say, `upgrade
 /// SCHEDULE` a schedule of the first version anew in the second, `make NUMBER COUNT` the summary of
 /// a schedule that a number generates, over the network of `:mesh`, `--help` and `--version` a
-/// text. `leaks` and `weave` go by the one machine of the definitions, and what `replay` and `make`
-/// write of a network is what that machine comes to: its transcript with whole lines `wire ..` put
-/// between its lines, and the summary of its lines. `node PORT WORLD STARTS TURNS` serves the node
-/// of that port over the link, for at most so many turns, and writes its record; `lab PLAN` starts
-/// the nodes of a plan as children, waits for each, and writes how each ended. No other form asks
-/// anything of the link or of the spawner.
+/// text. `leaks` goes by the one machine of the definitions, and what the others make of a network
+/// is what that machine comes to: `replay` its transcript with whole lines `wire ..` put between
+/// its lines, `make` the summary of its lines, and `weave` a schedule by which it does what the
+/// records say. `node PORT WORLD STARTS TURNS` serves the node of that port over the link, for at
+/// most so many turns, and writes its record; `lab PLAN` starts the nodes of a plan as children,
+/// waits for each, and writes how each ended. No other form asks anything of the link or of the
+/// spawner.
 ///
 /// Words of no form are refused first; then a file that cannot be read, that is longer than
 /// 4,194,304 bytes for a world, 67,108,864 for a schedule, 16,777,216 for a record and 1,048,576
@@ -80,32 +82,12 @@ pub fn run<H: Shelf, K: Sink, L: Link, P: Spawner>(
     // What serving a node and running a plan come to, and which ends each has.
     ensures links { IfSome (command_in words.now) (Links (H.files shelf.old)
         (record { before = H.faults shelf.old; now = H.faults shelf.new })
-        (record {
-          told = L.told link.old;
-          written = K.written out.old;
-          link = L.faults link.old;
-          output = K.faults out.old;
-        })
-        (record {
-          told = L.told link.new;
-          written = K.written out.new;
-          link = L.faults link.new;
-          output = K.faults out.new;
-        }) result) }
+        (link_seen L.told L.faults K.written K.faults link.old out.old)
+        (link_seen L.told L.faults K.written K.faults link.new out.new) result) }
     ensures spawns { IfSome (command_in words.now) (Spawns (H.files shelf.old)
         (record { before = H.faults shelf.old; now = H.faults shelf.new })
-        (record {
-          told = P.told spawn.old;
-          written = K.written out.old;
-          spawner = P.faults spawn.old;
-          output = K.faults out.old;
-        })
-        (record {
-          told = P.told spawn.new;
-          written = K.written out.new;
-          spawner = P.faults spawn.new;
-          output = K.faults out.new;
-        }) result) }
+        (spawner_seen P.told P.faults K.written K.faults spawn.old out.old)
+        (spawner_seen P.told P.faults K.written K.faults spawn.new out.new) result) }
     ensures ends { IsRunEnd result → IsSomeAnd (command_in words.now) (EndsWith result) }
 
     // What is written at each answer, and that a good command is answered by its text.

@@ -126,8 +126,9 @@ pub fn leaks_given<H: Shelf, K: Sink>(
     }
 }
 
-/// Writes the schedule that the records in files are woven to over the world that a word gives.
-pub fn write_woven<H: Shelf, K: Sink>(
+/// Writes the schedule that the records in files are woven to over the network of the world that a
+/// word gives.
+pub fn write_woven<S: Hosted<Acts = Native>, H: Shelf, K: Sink>(
     alloc: Global,
     world: &Word,
     files: &Words,
@@ -143,7 +144,7 @@ pub fn write_woven<H: Shelf, K: Sink>(
     ensures shelf_faults { H.faults shelf.old ≤ H.faults shelf.new }
     ensures sink_faults { K.faults out.old ≤ K.faults out.new }
 {
-    match woven_given(alloc, world, files, shelf) {
+    match woven_given::<S, H>(alloc, world, files, shelf) {
         Ok(text) => write_text(&text, out),
         Err(status) => Err(status),
     }

@@ -10,7 +10,6 @@
 mod answering;
 mod call;
 mod commands;
-mod counted;
 mod leaking;
 mod making;
 mod networks;
@@ -18,6 +17,7 @@ mod opening;
 mod records;
 mod replaying;
 mod weaving;
+mod woven_net;
 
 pub use call::run;
 pub use do_given::Status;

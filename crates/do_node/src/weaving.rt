@@ -1,36 +1,26 @@
 ghost use Rattle.std.specs.Prelude.{◌≡◌, ◌≤◌, ℕ, List, Ok, Err, IfOk, IfErr, Some, length};
 ghost use Rattle.do_base.specs.declared.outside.shelf.NamedFile.{NamedFile};
-ghost use Rattle.do_machine.specs.World.{opening};
 ghost use Rattle.do_sched.specs.Schedule.{most_steps};
 ghost use Rattle.do_woven.specs.Steps.{steps_in};
+ghost use Rattle.do_world.specs.Sound.{IsSound};
 ghost use Rattle.do_given.specs.declared.status.Status as declared;
 ghost use Rattle.do_given.specs.Reading.{OrMemory, OrUnread, Stops};
-ghost use Rattle.do_given.specs.Parts.{behaviour_of};
 ghost use Rattle.do_node.specs.Weaving.{Contradicts, HasUnreadPart, IsWoven, RefusesWeaving};
 ghost use Rattle.do_node.specs.Weaving.{WeavesTo, told_of_weaving};
 
-use crate::counted::CountedMachine;
-use crate::opening::local_of;
+use crate::networks::world_net;
 use crate::records::records_given;
+use crate::woven_net::WovenNet;
 use do_base::{Shelf, Text, Word};
 use do_cli::Words;
 use do_given::{Status, world_given};
 use do_native::Native;
+use do_net::Hosted;
 use do_record::Records;
 use do_weave::{WeaveFault, weave};
 use do_world::World;
 use do_woven::schedule_text;
-use std::alloc::{AllocError, Global};
-
-/// The machine of a world before its first event, to weave records on.
-fn machine_of(world: World) -> Result<CountedMachine<Native>, AllocError>
-    ensures table { IfOk result (λ m. m.local.table ≡ world.table) }
-    ensures behaviour { IfOk result (λ m. m.local.behaviour ≡ behaviour_of world) }
-    ensures state { IfOk result (λ m. m.local.state ≡ opening world.table world.nodes) }
-    ensures events { IfOk result (λ m. m.events ≡ 0) }
-{
-    Ok(CountedMachine::new(local_of(world)?))
-}
+use std::alloc::Global;
 
 /// What is told of records that are not woven.
 fn told_of_weaving(fault: WeaveFault) -> Status
@@ -42,9 +32,13 @@ fn told_of_weaving(fault: WeaveFault) -> Status
     }
 }
 
-/// The schedule that records are woven to over a world, as a text.
-fn woven_text(alloc: Global, world: World, records: &Records) -> Result<Text, Status>
-    requires count { length records.now ≤ 65535 }
+/// The schedule that records are woven to over the network of a world, as a text.
+fn woven_text<S: Hosted<Acts = Native>>(
+    alloc: Global,
+    world: World,
+    records: &Records,
+) -> Result<Text, Status>
+    requires sound { IsSound world }
     requires steps { steps_in records.now ≤ most_steps }
     ensures says { IfOk result (WeavesTo world records.now) }
     ensures stopped { IfErr result (Stops ⊥ ⊥ (Contradicts world records.now)) }
@@ -53,7 +47,8 @@ fn woven_text(alloc: Global, world: World, records: &Records) -> Result<Text, St
     ensures refuses { (status : declared.Status) → Contradicts world records.now status
         → OrMemory (Err status) result }
 {
-    let mut machine = machine_of(world)?;
+    let net = world_net::<S>(alloc, world)?;
+    let mut machine = WovenNet { net };
     match weave(&mut machine, records) {
         Ok(lines) => Ok(schedule_text(alloc, &lines)?),
         Err(fault) => Err(told_of_weaving(fault)),
@@ -61,7 +56,7 @@ fn woven_text(alloc: Global, world: World, records: &Records) -> Result<Text, St
 }
 
 /// The schedule that the records in files are woven to over the world that a word gives, as a text.
-pub fn woven_given<H: Shelf>(
+pub fn woven_given<S: Hosted<Acts = Native>, H: Shelf>(
     alloc: Global,
     word: &Word,
     names: &Words,
@@ -91,5 +86,5 @@ pub fn woven_given<H: Shelf>(
         Ok(records) => records,
         Err(status) => return Err(status),
     };
-    woven_text(alloc, world, &records)
+    woven_text::<S>(alloc, world, &records)
 }
