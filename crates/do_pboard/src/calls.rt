@@ -65,8 +65,8 @@ pub(crate) fn local_types(inv: &Invocation, k: u8) -> Result<Option<Texts>, Allo
     }
 }
 
-/// The owner that a local names, which may be nil; none where it holds another value, or there is no
-/// such local.
+/// The owner that a local names, which may be nil; none where it holds another value, or there is
+/// no such local.
 pub fn local_owner(inv: &Invocation, k: u8) -> Option<Option<Oid>>
     ensures { result ≡ (local inv.now k >>? owner_in) }
 {
