@@ -1,4 +1,5 @@
 pub mod PartlyAdded
+pub mod DecimalPairs
 pub mod DigitsLoop
 pub mod TimesLoop
 pub mod WordLoop

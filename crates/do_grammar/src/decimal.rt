@@ -107,8 +107,14 @@ pub fn push_dec(out: &mut Text, n: u64) -> Result<(), AllocError>
     if n < 10 {
         return out.push(b'0' + n as u8);
     }
-    push_dec(out, n / 10)?;
-    out.push(b'0' + (n % 10) as u8)
+    let front = n / 10;
+    let last = b'0' + (n % 10) as u8;
+    if front < 10 {
+        return out.push_bytes(&[b'0' + front as u8, last]);
+    }
+    // Two digits at a time, since each push asks whether the text is shared.
+    push_dec(out, front / 10)?;
+    out.push_bytes(&[b'0' + (front % 10) as u8, last])
 }
 
 /// Adds the decimal digits of a signed number, behind a `-` where it is below 0.

@@ -112,9 +112,10 @@ impl Text {
                 bytes.push(byte)?;
                 self.bytes = Some(Rc::new(self.alloc, bytes)?);
             }
-            Some(bytes) => {
-                Rc::make_mut(bytes)?.push(byte)?;
-            }
+            Some(bytes) => match Rc::get_mut(bytes) {
+                Some(own) => own.push(byte)?,
+                None => Rc::make_mut(bytes)?.push(byte)?,
+            },
         }
         Ok(())
     }
@@ -129,9 +130,10 @@ impl Text {
                 let bytes = Vec::from_slice(self.alloc, bytes)?;
                 self.bytes = Some(Rc::new(self.alloc, bytes)?);
             }
-            Some(old) => {
-                Rc::make_mut(old)?.extend_from_slice(bytes)?;
-            }
+            Some(old) => match Rc::get_mut(old) {
+                Some(own) => own.extend_from_slice(bytes)?,
+                None => Rc::make_mut(old)?.extend_from_slice(bytes)?,
+            },
         }
         Ok(())
     }
