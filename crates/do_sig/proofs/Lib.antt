@@ -2,6 +2,7 @@ pub mod TestsPass
 pub mod DigitTests
 pub mod ByteAmong
 pub mod TestLoops
+pub mod ZeroBytes
 pub mod SideBySide
 pub mod ScalarLetters
 pub mod CountSteps

@@ -6,6 +6,7 @@ ghost use Rattle.do_sig.specs.Fits.{fits, each_takes};
 use crate::value_type::{Scalar, ValueType};
 use do_base::{Items, Text, Value, Values};
 use do_grammar::{is_name, is_selector};
+use memchr::memchr;
 
 /// Whether a number lies between two others, both included.
 fn is_within(n: i64, least: i64, greatest: i64) -> bool
@@ -33,16 +34,14 @@ fn number_fits(scalar: Scalar, n: i64) -> bool
 }
 
 /// Whether no byte is zero.
-#[tactic(auto, using(crate::proofs::TestLoops::all_steps))]
+#[tactic(auto, using(crate::proofs::ZeroBytes::search_tells))]
 fn has_no_zero(bytes: &[u8]) -> bool
     ensures { result ≡ list_all is_not_zero bytes.now }
 {
-    for b in bytes {
-        if *b == 0 {
-            return false;
-        }
+    match memchr(0, bytes) {
+        None => true,
+        Some(_) => false,
     }
-    true
 }
 
 /// Whether a text fits.
