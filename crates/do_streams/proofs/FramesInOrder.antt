@@ -1,14 +1,11 @@
 -- Frames that are sent in their order, and what the oldest of them is.
 use Rattle.std.proofs.Common.{◌≡◌, ℕ, Bool, true, false, cond, List, [], ◌∷◌, ◌++◌, map}
-use Rattle.std.proofs.Common.{Some, None, Option, refl, ap, sym, ◌∙◌, append_assoc, arith}
+use Rattle.std.proofs.Common.{Some, Option, refl, ap, sym, ◌∙◌, append_assoc}
 use Rattle.std.proofs.Common.{◌==◌}
-use Rattle.std.proofs.Common.{◌+◌, ◌≤◌}
 use Rattle.std.specs.Prelude.{slice_get, slice_set, fold}
 use Rattle.std.specs.List.{position}
 use Rattle.std.proofs.lemmas.Bool.{eqb-true}
 use Rattle.std.proofs.lemmas.List.{map-append}
-use Rattle.do_base.specs.declared.events.shown.Shown.{Shown}
-use Rattle.do_base.specs.lists.Reserved.{Reserved}
 use Rattle.do_frames.specs.declared.frame.Frame.{Frame}
 use Rattle.do_frames.specs.Frames.{after_frame, raw}
 use Rattle.do_network.specs.Frames.{Posted}
@@ -19,9 +16,10 @@ use Rattle.do_streams.specs.declared.end.Outgoing.{Outgoing}
 use Rattle.do_streams.specs.declared.spelled.Spelled.{Spelled}
 use Rattle.do_streams.specs.Streamed.{link_of, outbox, outbox_of, posted_of, spelled_first}
 use Rattle.do_streams.specs.Streamed.{streamed_of}
-use Rattle.do_streams.proofs.FirstChanged.{change_again, change_found, change_none, found_at}
-use Rattle.do_streams.proofs.FirstChanged.{found_changed, found_mapped, found_none, found_passes}
-use Rattle.do_streams.proofs.FirstChanged.{none_mapped, put_first, put_mapped}
+use Rattle.do_streams.specs.Waits.{Waits}
+use Rattle.do_streams.proofs.FirstChanged.{change_again, change_found, found_at}
+use Rattle.do_streams.proofs.FirstChanged.{found_changed, found_mapped, found_passes}
+use Rattle.do_streams.proofs.FirstChanged.{put_first, put_mapped}
 
 -- the same is sent behind what was sent before
 pub sent_behind : (links : List Link) (a b : List Sending) (xs : List Posted) →
@@ -47,15 +45,6 @@ one_more o (y ∷ ys) x = one_more (sending o y) ys x
 -- the link once a frame was sent
 abbrev pub sent_over : Frame → Link → Link
 sent_over f l = record l { sent = after_frame l.sent f; greeted = true }
-
--- where there is no link nothing is sent
-pub linkless : (links : List Link) (x : Posted) (xs : List Posted) → link_to links x.to ≡ None →
-    all_sent links (x ∷ xs) ≡ all_sent links xs
-linkless links x xs e =
-    ap (λ (o : Outbox). fold sending o xs) (λ j. record {
-      links = change_none (λ l. x.to == l.peer) (sent_over x.frame) links e j;
-      sent = sendings x (e j);
-    })
 
 -- the link whose stream has begun
 abbrev greet : Link → Link
@@ -229,37 +218,12 @@ module _ (ends : List End) (x : Outgoing) (xs : List Outgoing) (at : ℕ) (e f :
             (sym (ap link_of is)) j) (map posted_of xs)).sent;
       })
 
--- a frame to a peer with which there is no link is not sent
-pub no_end : (ends : List End) (x : Outgoing) (xs : List Outgoing) →
-    position (λ (d : End). x.to == d.peer) ends ≡ None →
-    outbox_of ends (x ∷ xs) ≡ outbox_of ends xs
-no_end ends x xs e =
-    linkless (map link_of ends) (posted_of x) (map posted_of xs)
-    (none_mapped (λ (d : End). x.to == d.peer) link_of (λ l. x.to == l.peer) (λ d. refl) ends
-    (found_none (λ (d : End). x.to == d.peer) ends e))
-
--- frames were taken out that went nowhere, and their places are room again
-pub record Skips (ends : List End) (was now : Reserved Outgoing) : Type 0 where
-  pub same : outbox_of ends now.items ≡ outbox_of ends was.items
-  pub spare : was.spare ≤ now.spare
-
--- one more frame is taken out, to a peer with which there is no link
-pub skips_more : (ends : List End) (was now later : Reserved Outgoing) (x : Outgoing) →
-    Skips ends was now → now.items ≡ x ∷ later.items →
-    position (λ (d : End). x.to == d.peer) ends ≡ None → later.spare ≡ now.spare + 1 →
-    Skips ends was later
-skips_more ends was now later x s front none room = record {
-  same = sym (no_end ends x later.items none)
-      ∙ sym (ap (outbox_of ends) front) ∙ s.same;
-  spare = omega (arith, s.spare, room);
-}
-
 -- a frame that is posted behind all that wait is sent behind all that is sent of them
-pub posts : (ends : List End) (spelled : Option Spelled) (frames later : Reserved Outgoing)
-    (shown : Reserved Shown) (classes : ℕ) (x : Outgoing) → later.items ≡ frames.items ++ x ∷ [] →
-    outbox (streamed_of ends spelled later shown classes)
-    ≡ sending (outbox (streamed_of ends spelled frames shown classes)) (posted_of x)
-posts ends spelled frames later shown classes x e =
+pub posts : (ends : List End) (spelled : Option Spelled) (was later : Waits) (classes : ℕ)
+    (x : Outgoing) → later.frames ≡ was.frames ++ x ∷ [] →
+    outbox (streamed_of ends spelled later classes)
+    ≡ sending (outbox (streamed_of ends spelled was classes)) (posted_of x)
+posts ends spelled was later classes x e =
     (λ j. record { links = (step j).links; sent = spelled_first spelled ++ (step j).sent })
     ∙ (λ j. record {
       links = (sending before (posted_of x)).links;
@@ -269,11 +233,11 @@ posts ends spelled frames later shown classes x e =
   where
     -- what is sent of the frames that waited before
     before : Outbox
-    before = outbox_of ends frames.items
+    before = outbox_of ends was.frames
 
     -- one more frame is sent behind these
-    step : outbox_of ends later.items ≡ sending before (posted_of x)
+    step : outbox_of ends later.frames ≡ sending before (posted_of x)
     step = ap (outbox_of ends) e
-        ∙ ap (all_sent (map link_of ends)) (map-append posted_of frames.items (x ∷ []))
-        ∙ one_more (record { links = map link_of ends; sent = [] }) (map posted_of frames.items)
+        ∙ ap (all_sent (map link_of ends)) (map-append posted_of was.frames (x ∷ []))
+        ∙ one_more (record { links = map link_of ends; sent = [] }) (map posted_of was.frames)
         (posted_of x)

@@ -6,4 +6,5 @@ pub mod NextSpelled
 pub mod OneFault
 pub mod Placed
 pub mod SpelledBytes
+pub mod WaitingCells
 pub mod WaitingFrames

@@ -1,9 +1,8 @@
--- What stands at a place, and what is taken out of a queue.
-use Rattle.std.proofs.Common.{◌≡◌, ℕ, zero, suc, ◌+◌, false, T, List, [], ◌∷◌, Some}
+-- What stands at a place, and what a call gave.
+use Rattle.std.proofs.Common.{◌≡◌, ℕ, zero, suc, false, T, List, [], ◌∷◌, Some}
 use Rattle.std.proofs.Common.{None}
 use Rattle.std.proofs.Common.{Option, is_some, get_or, refl, ap, sym, ◌∙◌, subst}
-use Rattle.std.specs.Prelude.{IfOk, MatchOption, OnErr, Result, Ok, Err, slice_get, slice_set}
-use Rattle.do_base.specs.lists.Reserved.{Reserved}
+use Rattle.std.specs.Prelude.{IfOk, OnErr, Result, Ok, Err, slice_get, slice_set}
 
 -- what is not there is None
 pub none_of : {X : Type 0} (o : Option X) → is_some o ≡ false → o ≡ None
@@ -33,19 +32,6 @@ pub set_same : {X : Type 0} (xs : List X) (i : ℕ) (x : X) → slice_get xs i �
 set_same [] i x e = absurd (cc)
 set_same (y ∷ ys) zero x e = let same : y ≡ x = cc in ap (λ v. v ∷ ys) (sym same)
 set_same (y ∷ ys) (suc i) x e = ap (λ vs. y ∷ vs) (set_same ys i x e)
-
--- what is taken out of a queue with a first item is that
-pub popped : {X : Type 0} (was later : Reserved X) (r : Option X) (x : X) →
-    slice_get was.items 0 ≡ Some x →
-    MatchOption r ((was.items ≡ []) × (later ≡ was))
-    (λ y. (was.items ≡ y ∷ later.items) × (later.spare ≡ was.spare + 1)) →
-    (r ≡ Some x) × (was.items ≡ x ∷ later.items) × (later.spare ≡ was.spare + 1)
-popped was later None x e n =
-    let none : None ≡ Some x = ap (λ xs. slice_get xs 0) (sym n.0) ∙ e in absurd (cc)
-popped was later (Some y) x e n =
-    let same : Some y ≡ Some x = ap (λ xs. slice_get xs 0) (sym n.0) ∙ e in
-    let one : y ≡ x = cc in
-    (ap Some one, n.0 ∙ ap (λ v. v ∷ later.items) one, n.1)
 
 -- a fact holds where a call failed
 pub on_err : {A E : Type 0} {P : Type 0} (r : Result A E) → P → OnErr r P

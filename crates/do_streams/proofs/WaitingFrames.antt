@@ -1,16 +1,14 @@
--- Frames that wait, each to a peer with an end, and the places of their queue.
-use Rattle.std.proofs.Common.{◌≡◌, ◌==◌, ◌≤◌, ◌<◌, ◌+◌, ◌++◌, ℕ, List, [], ◌∷◌, Bool, false, true}
-use Rattle.std.proofs.Common.{Option, Some, None, ap, arith, length, map, refl, subst, suc, sym}
+-- Frames that wait, each to a peer with an end.
+use Rattle.std.proofs.Common.{◌≡◌, ◌==◌, ◌<◌, ◌++◌, ℕ, List, [], ◌∷◌, Bool, false, true}
+use Rattle.std.proofs.Common.{Option, Some, None, ap, arith, length, map, refl, subst, sym}
 use Rattle.std.proofs.Common.{◌∙◌}
-use Rattle.std.specs.Prelude.{MatchOption, is_some, min, slice_get, slice_set}
+use Rattle.std.specs.Prelude.{MatchOption, is_some, slice_get, slice_set}
 use Rattle.std.specs.List.{list_any, position}
-use Rattle.std.proofs.lemmas.List.{append-nil, length-map, length_push}
+use Rattle.std.proofs.lemmas.List.{append-nil, length-map}
 use Rattle.std.proofs.lemmas.Simd.{map-map}
-use Rattle.do_base.specs.declared.events.shown.Shown.{Shown}
-use Rattle.do_base.specs.lists.Reserved.{Reserved}
 use Rattle.do_network.specs.Frames.{Posted}
 use Rattle.do_frames.specs.Kinds.{numbers_alone}
-use Rattle.do_network.specs.Links.{Link, Outbox, Sending, link_to, sending, sendings}
+use Rattle.do_network.specs.Links.{Link, Outbox, link_to, sending, sendings}
 use Rattle.do_network.specs.Net.{opening_link}
 use Rattle.do_ported.proofs.FirstOfPorts.{none_of_port, place_is_among, place_of_port}
 use Rattle.do_ported.proofs.FirstOfPorts.{ports_stay, some_of_port}
@@ -19,51 +17,19 @@ use Rattle.do_streams.specs.declared.end.Outgoing.{Outgoing}
 use Rattle.do_streams.specs.declared.spelled.Spelled.{Spelled}
 use Rattle.do_streams.specs.Ordered.{AllPlaced, ArePorts}
 use Rattle.do_streams.specs.Plain.{names_objects}
-use Rattle.do_streams.specs.Streamed.{all_places, link_of, outbox, outbox_of, posted_of}
+use Rattle.do_streams.specs.Streamed.{link_of, outbox, outbox_of, posted_of}
 use Rattle.do_streams.specs.Streamed.{spelled_first, streamed_of}
+use Rattle.do_streams.specs.Waits.{Waits}
 use Rattle.do_streams.proofs.FirstChanged.{change_none}
 use Rattle.do_streams.proofs.FramesInOrder.{frame_first, greeting_first, sent_over}
 use Rattle.do_streams.proofs.LinksRead.{peers_of}
 
--- ---- places
-
--- one more that waits takes one place
-pub places_posted : {X : Type 0} (was later : Reserved X) (x : X) →
-    later.items ≡ was.items ++ x ∷ [] → later.spare + 1 ≡ was.spare →
-    all_places later ≡ all_places was
-places_posted was later x items spare =
-    let size : length later.items ≡ length was.items + 1 =
-    ap (λ xs. length xs) items ∙ length_push was.items x in
-    omega (arith, size, spare)
-
--- which is room again once it is taken out
-pub places_popped : {X : Type 0} (was later : Reserved X) (x : X) →
-    was.items ≡ x ∷ later.items → later.spare ≡ was.spare + 1 → all_places later ≡ all_places was
-places_popped was later x items spare =
-    let size : length was.items ≡ suc (length later.items) = ap (λ xs. length xs) items in
-    omega (arith, size, spare)
-
--- so where there may be none
-pub places_fetched : {X : Type 0} (was later : Reserved X) (r : Option X) →
-    MatchOption r ((was.items ≡ []) × (later ≡ was))
-    (λ x. (was.items ≡ x ∷ later.items) × (later.spare ≡ was.spare + 1)) →
-    all_places later ≡ all_places was
-places_fetched was later None h = ap (λ r. all_places r) h.1
-places_fetched was later (Some x) h = places_popped was later x h.0 h.1
-
--- more room is more places
-pub places_more : (items : ℕ) (was later : ℕ) → was ≤ later → items + was ≤ items + later
-places_more items was later more = omega (arith, more)
-
--- the lesser of two is no less where neither is
-pub min_more : (a b c d : ℕ) → a ≤ c → b ≤ d → min a b ≤ min c d
-min_more a b c d first second = grind (arith, first, second)
-
--- there are no fewer places than there is room
-pub room_most : (a b n m : ℕ) → min a b ≤ min (n + a) (m + b)
-room_most a b n m = grind arith
-
 -- ---- the oldest frame
+
+-- where none is the oldest none waits
+pub none_oldest : (frames : List Outgoing) → None ≡ slice_get frames 0 → frames ≡ []
+none_oldest [] none = refl
+none_oldest (x ∷ xs) none = absurd (cc)
 
 -- a port that is one of some has a place among them
 place_of : (ports : List ℕ) (peer : ℕ) → list_any (λ p. p == peer) ports ≡ true →
@@ -139,14 +105,13 @@ module _ (ports : List ℕ) (ends : List End) (are : ArePorts ports ends) where
   }
 
   -- so what is sent is as before where it is not put behind the others
-  pub sent_nowhere : (spelled : Option Spelled) (frames : Reserved Outgoing)
-      (shown : Reserved Shown) (classes : ℕ) (x : Posted) →
+  pub sent_nowhere : (spelled : Option Spelled) (waits : Waits) (classes : ℕ) (x : Posted) →
       list_any (λ p. p == x.to) ports ≡ false →
-      let o = outbox (streamed_of ends spelled frames shown classes) in o ≡ sending o x
-  sent_nowhere spelled frames shown classes x none =
-      unsent (outbox (streamed_of ends spelled frames shown classes)) x
-      (none_of_port (λ (l : Link). l.peer) x.to (outbox_of ends frames.items).links
-      (ap (list_any (λ p. p == x.to)) (ports_of_links frames.items) ∙ none))
+      let o = outbox (streamed_of ends spelled waits classes) in o ≡ sending o x
+  sent_nowhere spelled waits classes x none =
+      unsent (outbox (streamed_of ends spelled waits classes)) x
+      (none_of_port (λ (l : Link). l.peer) x.to (outbox_of ends waits.frames).links
+      (ap (list_any (λ p. p == x.to)) (ports_of_links waits.frames) ∙ none))
 
   -- of a frame that waits something is sent
   something : (x : Outgoing) (xs : List Outgoing) → AllPlaced ports (x ∷ xs) →

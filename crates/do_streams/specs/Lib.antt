@@ -4,3 +4,4 @@ pub mod Pieces
 pub mod Plain
 pub mod Reading
 pub mod Streamed
+pub mod Waits

@@ -1,15 +1,15 @@
 -- What is seen of the streams between a site and its peers.
-use Rattle.std.specs.Prelude.{List, None, Option, Some, [], length, map, min, ℕ, ◌++◌, ◌+◌, ◌∷◌}
+use Rattle.std.specs.Prelude.{List, None, Option, Some, [], map, ℕ, ◌++◌, ◌∷◌}
 use Rattle.do_base.specs.declared.events.shown.Shown.{Shown}
-use Rattle.do_base.specs.lists.Reserved.{Reserved}
 use Rattle.do_network.specs.Frames.{Posted}
 use Rattle.do_network.specs.Links.{Link, Outbox, Sending, all_sent}
 use Rattle.do_streams.specs.Pieces.{piece_in}
 use Rattle.do_streams.specs.declared.end.End.{End}
 use Rattle.do_streams.specs.declared.end.Outgoing.{Outgoing}
 use Rattle.do_streams.specs.declared.spelled.Spelled.{Spelled}
+use Rattle.do_streams.specs.Waits.{Waits}
 
--- by how many classes frames are read, and how many frames, and lines as well, fit with no memory
+-- by how many classes frames are read, and how many frames and lines together fit with no memory
 -- taken, those that wait included
 pub record Fixed : Type 0 where
   pub classes : ℕ
@@ -45,24 +45,16 @@ abbrev pub spelled_first : Option Spelled → List Sending
 spelled_first None = []
 spelled_first (Some s) = sending_of s ∷ []
 
--- how many fit into a queue, those that wait included
-abbrev pub all_places : {T : Type 0} → Reserved T → ℕ
-all_places r = length r.items + r.spare
-
--- what is seen of ends, of what waits, and of its room
-abbrev pub streamed_of : List End → Option Spelled → Reserved Outgoing → Reserved Shown → ℕ →
-    Streamed
-streamed_of ends spelled frames shown classes =
-    let out = outbox_of ends frames.items in
+-- what is seen of ends, and of what waits
+abbrev pub streamed_of : List End → Option Spelled → Waits → ℕ → Streamed
+streamed_of ends spelled waits classes =
+    let out = outbox_of ends waits.frames in
     record {
       links = out.links;
       frames = spelled_first spelled ++ out.sent;
-      shown = shown.items;
-      room = min frames.spare shown.spare;
-      fixed = record {
-        classes = classes;
-        places = min (all_places frames) (all_places shown);
-      };
+      shown = waits.shown;
+      room = waits.room;
+      fixed = record { classes = classes; places = waits.places };
     }
 
 -- the links of a site, and what waits for its peers

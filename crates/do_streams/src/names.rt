@@ -104,6 +104,16 @@ impl Names {
         }
     }
 
+    /// A table of the names, which stay as they are.
+    pub fn copy(&self) -> Result<Recent, AllocError>
+        ensures { IfOk result (λ table. table ≡ self.now) }
+    {
+        match &self.held {
+            Held::Table(table) => table.copy(),
+            Held::Listed(pairs) => table_of(pairs),
+        }
+    }
+
     /// Puts a table in the place of the names, for which no memory is taken.
     pub fn put(&mut self, table: Recent)
         ensures { self.new ≡ table }

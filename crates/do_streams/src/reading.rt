@@ -38,8 +38,12 @@ pub fn names_objects(kind: u8) -> bool
     matches!(kind, 1 | 2 | 3 | 6)
 }
 
-/// The frame that a raw frame spells, by the names that were named lately.
-fn read_by(
+/// The frame that a raw frame spells, by the names that were named lately. Behind a frame that was
+/// read they are those behind it.
+///
+/// `BadFrame` comes exactly where the payload spells no frame of its kind, and has the first byte
+/// with which none goes on. `Memory` comes where memory runs out.
+pub fn read_by(
     alloc: Global,
     table: &ClassTable,
     from: NodeId,

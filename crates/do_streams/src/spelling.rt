@@ -7,23 +7,16 @@ ghost use Rattle.do_frames.specs.Frames.{frame_spelling, raw};
 ghost use Rattle.do_network.specs.Links.{Framed, Greeting};
 ghost use Rattle.do_streams.specs.Ordered.{AllPlaced, ArePorts};
 ghost use Rattle.do_streams.specs.Reading.{AllKnown};
-ghost use Rattle.do_streams.specs.Streamed.{all_places, outbox_of, sending_of, spelled_first};
+ghost use Rattle.do_streams.specs.Streamed.{outbox_of, sending_of, spelled_first};
 ghost use Rattle.do_streams.specs.declared.end.End.{End};
 ghost use Rattle.do_streams.specs.declared.end.Outgoing.{Outgoing};
 
 use crate::end::{End, Outgoing, greeting};
 use crate::spelled::Spelled;
-use do_base::{Items, Reserved, Text};
+use crate::waiting::Waiting;
+use do_base::{Items, Text};
 use do_ported::Ports;
 use std::alloc::{AllocError, Global};
-
-/// Takes out the oldest frame that waits.
-fn take_front(frames: &mut Reserved<Outgoing>) -> Option<Outgoing>
-    ensures { (x : Outgoing) → slice_get frames.old.items 0 ≡ Some x → (result ≡ Some x)
-        × (frames.old.items ≡ x ∷ frames.new.items) × (frames.new.spare ≡ frames.old.spare + 1) }
-{
-    frames.pop_front()
-}
 
 /// Whether the greeting over an end was fetched.
 fn is_greeted(ends: &Items<End>, at: usize) -> bool
@@ -35,14 +28,17 @@ fn is_greeted(ends: &Items<End>, at: usize) -> bool
 
 /// Where the end stands of the peer to which the oldest frame goes that waits. None exactly where
 /// none waits.
-fn next_end(ports: &Ports, frames: &Reserved<Outgoing>) -> Option<usize>
-    requires { AllPlaced ports.now frames.now.items }
-    ensures which { MatchOption result (frames.now.items ≡ [])
-        (λ at. (x : Outgoing) × (slice_get frames.now.items 0 ≡ Some x)
+fn next_end(ports: &Ports, waiting: &Waiting) -> Option<usize>
+    requires placed { AllPlaced ports.now waiting.now.frames }
+    requires oldest { waiting.now.oldest ≡ slice_get waiting.now.frames 0 }
+    ensures which { MatchOption result (waiting.now.frames ≡ [])
+        (λ at. (x : Outgoing) × (slice_get waiting.now.frames 0 ≡ Some x)
         × (position (λ p. x.to == p) ports.now ≡ Some at)) }
     ensures within { IfSome result (λ at. at < length ports.now) }
 {
-    let next = frames.front()?;
+    let Some(next) = waiting.oldest() else {
+        return None;
+    };
     ports.place(next.to)
 }
 
@@ -82,34 +78,36 @@ fn spell_next(
     alloc: Global,
     ports: &Ports,
     ends: &mut Items<End>,
-    frames: &mut Reserved<Outgoing>,
+    waiting: &mut Waiting,
 ) -> Result<Option<Spelled>, AllocError>
     requires ordered { ArePorts ports.now ends.old }
-    requires placed { AllPlaced ports.now frames.old.items }
-    ensures links { (outbox_of ends.new frames.new.items).links
-        ≡ (outbox_of ends.old frames.old.items).links }
-    ensures sent { IfOk result (λ s. (outbox_of ends.old frames.old.items).sent
-        ≡ spelled_first s ++ (outbox_of ends.new frames.new.items).sent) }
-    ensures none { IfOk result (λ s. IsNone s → frames.new.items ≡ []) }
-    ensures err { OnErr result ((outbox_of ends.new frames.new.items).sent
-        ≡ (outbox_of ends.old frames.old.items).sent) }
-    ensures spare { frames.old.spare ≤ frames.new.spare }
-    ensures places { all_places frames.new ≡ all_places frames.old }
+    requires placed { AllPlaced ports.now waiting.old.frames }
+    requires oldest { waiting.old.oldest ≡ slice_get waiting.old.frames 0 }
+    ensures links { (outbox_of ends.new waiting.new.frames).links
+        ≡ (outbox_of ends.old waiting.old.frames).links }
+    ensures sent { IfOk result (λ s. (outbox_of ends.old waiting.old.frames).sent
+        ≡ spelled_first s ++ (outbox_of ends.new waiting.new.frames).sent) }
+    ensures none { IfOk result (λ s. IsNone s → waiting.new.frames ≡ []) }
+    ensures err { OnErr result ((outbox_of ends.new waiting.new.frames).sent
+        ≡ (outbox_of ends.old waiting.old.frames).sent) }
+    ensures spare { waiting.old.room ≤ waiting.new.room }
+    ensures places { waiting.new.places ≡ waiting.old.places }
+    ensures shown { waiting.new.shown ≡ waiting.old.shown }
     ensures known { (classes : ℕ) → AllKnown classes ends.old → AllKnown classes ends.new }
     ensures ordered { ArePorts ports.now ends.new }
-    ensures placed { AllPlaced ports.now frames.new.items }
+    ensures placed { AllPlaced ports.now waiting.new.frames }
 {
-    let Some(at) = next_end(ports, frames) else {
+    let Some(at) = next_end(ports, waiting) else {
         return Ok(None);
     };
     if !is_greeted(ends, at) {
         return Ok(Some(spell_greeting(alloc, ends.at_mut(at))?));
     }
-    let Some(next) = frames.front() else {
+    let Some(next) = waiting.oldest() else {
         return Ok(None);
     };
     let bytes = ends.at_mut(at).spell(alloc, &next.frame)?;
-    let Some(taken) = take_front(frames) else {
+    let Some(taken) = waiting.take_oldest() else {
         unreachable!();
     };
     Ok(Some(spelled_frame(taken, bytes)))
@@ -122,24 +120,26 @@ pub fn spell_if_none(
     spelled: &mut Option<Spelled>,
     ports: &Ports,
     ends: &mut Items<End>,
-    frames: &mut Reserved<Outgoing>,
+    waiting: &mut Waiting,
 ) -> Result<(), AllocError>
     requires ordered { ArePorts ports.now ends.old }
-    requires placed { AllPlaced ports.now frames.old.items }
-    ensures links { (outbox_of ends.new frames.new.items).links
-        ≡ (outbox_of ends.old frames.old.items).links }
-    ensures sent { spelled_first spelled.new ++ (outbox_of ends.new frames.new.items).sent
-        ≡ spelled_first spelled.old ++ (outbox_of ends.old frames.old.items).sent }
-    ensures none { OnOk result (spelled.new ≡ None → frames.new.items ≡ []) }
-    ensures spare { frames.old.spare ≤ frames.new.spare }
-    ensures places { all_places frames.new ≡ all_places frames.old }
+    requires placed { AllPlaced ports.now waiting.old.frames }
+    ensures links { (outbox_of ends.new waiting.new.frames).links
+        ≡ (outbox_of ends.old waiting.old.frames).links }
+    ensures sent { spelled_first spelled.new ++ (outbox_of ends.new waiting.new.frames).sent
+        ≡ spelled_first spelled.old ++ (outbox_of ends.old waiting.old.frames).sent }
+    ensures none { OnOk result (spelled.new ≡ None → waiting.new.frames ≡ []) }
+    ensures spare { waiting.old.room ≤ waiting.new.room }
+    ensures places { waiting.new.places ≡ waiting.old.places }
+    ensures shown { waiting.new.shown ≡ waiting.old.shown }
     ensures known { (classes : ℕ) → AllKnown classes ends.old → AllKnown classes ends.new }
     ensures ordered { ArePorts ports.now ends.new }
-    ensures placed { AllPlaced ports.now frames.new.items }
+    ensures placed { AllPlaced ports.now waiting.new.frames }
 {
-    if spelled.is_some() || frames.is_empty() {
+    if spelled.is_some() {
         return Ok(());
     }
-    *spelled = spell_next(alloc, ports, ends, frames)?;
+    waiting.bring_oldest();
+    *spelled = spell_next(alloc, ports, ends, waiting)?;
     Ok(())
 }

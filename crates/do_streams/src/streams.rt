@@ -12,7 +12,8 @@ use crate::end::{End, Outgoing};
 use crate::fetching::fetch;
 use crate::spelled::Spelled;
 use crate::spelling::spell_if_none;
-use do_base::{Items, NodeId, Peers, Reserved, Shown, Text};
+use crate::waiting::Waiting;
+use do_base::{Items, NodeId, Peers, Shown, Text};
 use do_class::ClassTable;
 use do_frames::Frame;
 use do_ported::Ports;
@@ -30,8 +31,7 @@ pub struct Streams {
     ports: Ports,
     ends: Items<End>,
     spelled: Option<Spelled>,
-    frames: Reserved<Outgoing>,
-    shown: Reserved<Shown>,
+    waiting: Waiting,
     classes: usize,
 }
 
@@ -46,9 +46,9 @@ impl Model for Streams {
 
     ghost coded = { Prim.hlevel (codes, line.the_row.coded, part.the_row.coded) };
 
-    ghost view = { λ s. streamed_of s.ends s.spelled s.frames s.shown s.classes };
+    ghost view = { λ s. streamed_of s.ends s.spelled s.waiting s.classes };
 
-    ghost invariant = { λ s. AreOrdered s.classes s.ports s.ends s.frames.items };
+    ghost invariant = { λ s. AreOrdered s.classes s.ports s.ends s.waiting.frames };
 }
 
 /// The ends of peers, before anything was sent or read.
@@ -83,30 +83,30 @@ impl Streams {
     {
         let ends = opening_ends(alloc, peers)?;
         let ports = Ports::new(Items::from_slice(alloc, peers.as_slice())?);
+        let waiting = Waiting::new(alloc)?;
         Ok(Streams {
             ports,
             ends,
             spelled: None,
-            frames: Reserved::new(alloc),
-            shown: Reserved::new(alloc),
+            waiting,
             classes,
         })
     }
 
-    /// Makes room for so many more frames and lines at least.
+    /// Makes room for so many more frames and lines at least, taken together.
     ///
-    /// If memory runs out, what waits is unchanged.
+    /// If memory runs out, nothing changes.
     pub fn reserve(&mut self, more: usize) -> Result<(), AllocError>
         ensures same { self.new
             ≡ record self.old { room = self.new.room; fixed = self.new.fixed } }
         ensures ok { OnOk result (more ≤ self.new.room) }
+        ensures err { OnErr result (self.new ≡ self.old) }
         ensures kept { self.old.room ≤ self.new.room }
         ensures classes { self.new.fixed.classes ≡ self.old.fixed.classes }
         ensures places { self.old.fixed.places ≤ self.new.fixed.places }
         ensures most { self.new.room ≤ self.new.fixed.places }
     {
-        self.frames.reserve(more)?;
-        self.shown.reserve(more)
+        self.waiting.reserve(more)
     }
 
     /// Sends a frame to a peer, behind all that wait, in room that was made before. Where there is
@@ -122,7 +122,7 @@ impl Streams {
         if !self.ports.has(to) {
             return;
         }
-        self.frames.post(Outgoing { to, frame });
+        self.waiting.post(Outgoing { to, frame });
     }
 
     /// Shows a line, behind all that wait, in room that was made before.
@@ -133,7 +133,7 @@ impl Streams {
         ensures room { self.old.room ≤ self.new.room + 1 }
         ensures fixed { self.new.fixed ≡ self.old.fixed }
     {
-        self.shown.post(line);
+        self.waiting.show(line);
     }
 
     /// Takes out the oldest frame that waits, or the greeting before it, appends its bytes, and
@@ -166,7 +166,7 @@ impl Streams {
             &mut self.spelled,
             &self.ports,
             &mut self.ends,
-            &mut self.frames,
+            &mut self.waiting,
         )?;
         let Some(next) = &self.spelled else {
             return Ok(None);
@@ -185,7 +185,7 @@ impl Streams {
         ensures room { self.old.room ≤ self.new.room }
         ensures fixed { self.new.fixed ≡ self.old.fixed }
     {
-        self.shown.pop_front()
+        self.waiting.take_line()
     }
 
     /// Whether all was fetched: no frame waits, and no line. All places are room then.
@@ -196,9 +196,6 @@ impl Streams {
         if self.spelled.is_some() {
             return false;
         }
-        if !self.frames.is_empty() {
-            return false;
-        }
-        self.shown.is_empty()
+        self.waiting.is_empty()
     }
 }

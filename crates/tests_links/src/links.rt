@@ -46,7 +46,7 @@ pub fn two_nodes(alloc: Global) -> Result<Option<Nodes>, AllocError> {
 
 /// The streams between a site and a peer, which read by so many classes.
 pub fn streams_to(alloc: Global, peer: NodeId, classes: usize) -> Result<Streams, AllocError>
-    ensures { IfOk result (λ s. s.classes ≡ classes) }
+    ensures { IfOk result (λ s. s.fixed.classes ≡ classes) }
 {
     let mut peers = Peers::new(alloc);
     peers.push(peer)?;

@@ -104,10 +104,10 @@ fn read(
     nodes: &Nodes,
     row: &Row<'_>,
 ) -> Result<Reading, RawFault>
-    requires { streams.old.classes ≡ length nodes.now.table }
+    requires { streams.old.fixed.classes ≡ length nodes.now.table }
     ensures known { IfOk result (λ r. IfSome r.names (λ names.
-        AreKnown streams.new.classes names)) }
-    ensures classes { streams.new.classes ≡ streams.old.classes }
+        AreKnown streams.new.fixed.classes names)) }
+    ensures classes { streams.new.fixed.classes ≡ streams.old.fixed.classes }
 {
     let Ok(payload) = Bytes::copy_from_slice(alloc, row.payload) else {
         return Err(RawFault::Memory);
@@ -123,8 +123,8 @@ fn read(
 
 /// Reads a frame of the peer, and keeps its names where the row says so.
 fn take(alloc: Global, streams: &mut Streams, nodes: &Nodes, row: &Row<'_>) -> Told
-    requires { streams.old.classes ≡ length nodes.now.table }
-    ensures { streams.new.classes ≡ streams.old.classes }
+    requires { streams.old.fixed.classes ≡ length nodes.now.table }
+    ensures { streams.new.fixed.classes ≡ streams.old.fixed.classes }
 {
     match read(alloc, streams, nodes, row) {
         Ok(reading) => {
@@ -141,7 +141,7 @@ fn take(alloc: Global, streams: &mut Streams, nodes: &Nodes, row: &Row<'_>) -> T
 
 /// Whether rows come out as they say, one after another.
 fn takes_all(alloc: Global, streams: &mut Streams, nodes: &Nodes, rows: &[Row<'_>]) -> bool
-    requires { streams.old.classes ≡ length nodes.now.table }
+    requires { streams.old.fixed.classes ≡ length nodes.now.table }
 {
     for row in rows {
         if take(alloc, streams, nodes, row) != row.told {

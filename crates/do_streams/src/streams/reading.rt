@@ -1,5 +1,6 @@
 //! Frames of peers that are read, and the peers.
-ghost use Rattle.std.specs.Prelude.{◌≡◌, ◌≢◌, IfErr, IfOk, IfSome, length, map, true};
+ghost use Rattle.std.specs.Prelude.{◌≡◌, ◌≢◌, ◌<◌, IfErr, IfOk, IfSome, Some, length, map, slice_get};
+ghost use Rattle.std.specs.Prelude.{true};
 ghost use Rattle.do_frames.specs.declared.fault.RawFault.TheVariants.{Memory};
 ghost use Rattle.do_frames.specs.declared.frame.Frame.{Frame};
 ghost use Rattle.do_frames.specs.Frames.{after_frame};
@@ -54,6 +55,34 @@ fn put_names(ports: &Ports, ends: &mut Items<End>, from: NodeId, names: Recent, 
         return;
     };
     ends.at_mut(at).put_names(names);
+}
+
+/// The end at a place.
+#[tactic(auto, using(std::proofs::lemmas::Option::slice_get_read))]
+fn end_in(ends: &Items<End>, at: usize) -> &End
+    requires { at < length ends.now }
+    ensures { slice_get ends.now at ≡ Some result.now }
+{
+    &ends.as_slice()[at]
+}
+
+/// A table of the names that a peer's frames named lately; an empty one where there is no link with
+/// it.
+fn names_in(
+    ports: &Ports,
+    ends: &Items<End>,
+    from: NodeId,
+    classes: usize,
+) -> Result<Recent, AllocError>
+    requires ordered { ArePorts ports.now ends.now }
+    requires known { AllKnown classes ends.now }
+    ensures names { IfOk result (λ names. names ≡ names_of (map link_of ends.now) from) }
+    ensures known { IfOk result (λ names. AreKnown classes names) }
+{
+    match ports.place(from) {
+        Some(at) => end_in(ends, at).read.copy(),
+        None => Ok(Recent::new(ends.allocator())),
+    }
 }
 
 /// The peers of ends, in their order.
@@ -112,6 +141,15 @@ impl Streams {
             return;
         };
         put_names(&self.ports, &mut self.ends, from, later, self.classes);
+    }
+
+    /// A table of the names that a peer's frames named lately that were taken; an empty one where
+    /// there is no link with it.
+    pub fn names_read(&self, from: NodeId) -> Result<Recent, AllocError>
+        ensures names { IfOk result (λ names. names ≡ names_of self.now.links from) }
+        ensures known { IfOk result (λ names. AreKnown self.now.fixed.classes names) }
+    {
+        names_in(&self.ports, &self.ends, from, self.classes)
     }
 
     /// The peers with which there are links, in their order.

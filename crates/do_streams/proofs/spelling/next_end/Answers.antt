@@ -1,10 +1,16 @@
-use Rattle.std.proofs.Common.{◌≡◌, Option, None, Some, ap, subst, sym, ◌∙◌}
-use Rattle.std.specs.Prelude.{MatchOption}
-use Rattle.do_streams.proofs.WaitingFrames.{front_place}
+use Rattle.std.proofs.Common.{◌∙◌, ap, sym}
+use Rattle.std.specs.Option.{option_copied}
+use Rattle.do_streams.proofs.WaitingFrames.{front_place, none_oldest}
 use Rattle.do_streams.proofs.spelling.next_end.Goals as goal
 
 -- the oldest frame goes to one of the ports
 pub returns-clause-which : goal.returns-clause-which
 returns-clause-which c =
-    front_place c.args.ports.now c.args.frames.now.items c.in_ok-next.next.now c.place.result
-    (sym c.in_ok-next.ensures.value) c.requires c.place.ensures.index
+    front_place c.args.ports.now c.args.waiting.now.frames c.in-Some.next.now c.place.result
+    (sym (c.in-Some.ensures ∙ c.requires.oldest)) c.requires.placed c.place.ensures.index
+
+-- where there is none no frame waits
+pub returns-in_default-clause-which : goal.returns-in_default-clause-which
+returns-in_default-clause-which c =
+    none_oldest c.args.waiting.now.frames
+    (sym (ap option_copied c.in_default.is) ∙ c.oldest.ensures ∙ c.requires.oldest)

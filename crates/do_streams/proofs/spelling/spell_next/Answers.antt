@@ -12,7 +12,7 @@ use Rattle.do_streams.specs.Streamed.{outbox_of, sending_of}
 use Rattle.do_streams.proofs.NextSpelled.{SendsFirst, begins_with, frame_next, greeting_next}
 use Rattle.do_streams.proofs.LinksRead.{all_at, all_set}
 use Rattle.do_streams.proofs.Placed.{on_err, one_front, set_same}
-use Rattle.do_streams.proofs.WaitingFrames.{as_many, end_at, places_popped, ports_of_set}
+use Rattle.do_streams.proofs.WaitingFrames.{as_many, end_at, ports_of_set}
 use Rattle.do_streams.proofs.spelling.spell_next.Goals.{After-spelled_frame, In_ok-spell_greeting}
 use Rattle.do_streams.proofs.spelling.spell_next.Goals as goal
 
@@ -36,27 +36,27 @@ at_mut-requires c =
 -- where the greeting is not spelled the links are as before
 pub returns-in_err-spell_greeting-clause-links : goal.returns-in_err-spell_greeting-clause-links
 returns-in_err-spell_greeting-clause-links c =
-    ap (λ (o : Outbox). o.links) (stays c.args.ends.now c.args.frames.now.items
-    c.args.frames.now.items c.in-Some.at c.at_mut.result.now c.spell_greeting.new.end
+    ap (λ (o : Outbox). o.links) (stays c.args.ends.now c.args.waiting.now.frames
+    c.args.waiting.now.frames c.in-Some.at c.at_mut.result.now c.spell_greeting.new.end
     refl c.at_mut.ensures.value c.in_err-spell_greeting.ensures.err)
 
 -- and so is what is sent
 pub returns-in_err-spell_greeting-clause-err : goal.returns-in_err-spell_greeting-clause-err
 returns-in_err-spell_greeting-clause-err c = on_err c.from_residual.result
-    (ap (λ (o : Outbox). o.sent) (stays c.args.ends.now c.args.frames.now.items
-    c.args.frames.now.items c.in-Some.at c.at_mut.result.now c.spell_greeting.new.end
+    (ap (λ (o : Outbox). o.sent) (stays c.args.ends.now c.args.waiting.now.frames
+    c.args.waiting.now.frames c.in-Some.at c.at_mut.result.now c.spell_greeting.new.end
     refl c.at_mut.ensures.value c.in_err-spell_greeting.ensures.err))
 
 -- the greeting comes before all else that is sent
 greets_first : (c : In_ok-spell_greeting) →
-    SendsFirst (outbox_of c.args.ends.now c.args.frames.now.items)
+    SendsFirst (outbox_of c.args.ends.now c.args.waiting.now.frames)
     (outbox_of (slice_set c.args.ends.now c.in-Some.at c.spell_greeting.new.end)
-    c.args.frames.now.items) (sending_of c.in_ok-spell_greeting.field-0)
+    c.args.waiting.now.frames) (sending_of c.in_ok-spell_greeting.field-0)
 greets_first c = greeting_next c.args.ends.now
-    (slice_set c.args.ends.now c.in-Some.at c.spell_greeting.new.end) c.args.frames.now.items
-    c.args.frames.now.items c.in-Some.ensures.which.0 (drop 1 c.args.frames.now.items)
+    (slice_set c.args.ends.now c.in-Some.at c.spell_greeting.new.end) c.args.waiting.now.frames
+    c.args.waiting.now.frames c.in-Some.ensures.which.0 (drop 1 c.args.waiting.now.frames)
     c.in-Some.at c.at_mut.result.now c.spell_greeting.new.end refl
-    (begins_with c.args.frames.now.items c.in-Some.ensures.which.0
+    (begins_with c.args.waiting.now.frames c.in-Some.ensures.which.0
     c.in-Some.ensures.which.1)
     (end_at c.args.ports.now c.args.ends.now c.requires.ordered c.in-Some.ensures.which.0.to
     ∙ c.in-Some.ensures.which.2) c.at_mut.ensures.value refl
@@ -76,40 +76,40 @@ returns-then-not-is_greeted-clause-sent c =
     (greets_first (goal.at.returns-then-not-is_greeted-clause-sent c).In_ok-spell_greeting).sent
 
 -- the frame that is taken out is the one that was spelled
-is_taken : (c : After-spelled_frame) → c.in-Some-take_front.taken ≡ c.in-Some-front.next.now
+is_taken : (c : After-spelled_frame) → c.in-Some-take_oldest.taken ≡ c.in-Some-oldest.next.now
 is_taken c =
-    let same : Some c.in-Some-take_front.taken ≡ Some c.in-Some-front.next.now
-    = sym c.in-Some-take_front.is
-    ∙ (c.take_front.ensures c.in-Some-front.next.now (sym c.in-Some-front.ensures.value)).0 in
+    let same : Some c.in-Some-take_oldest.taken ≡ Some c.in-Some-oldest.next.now
+    = sym c.in-Some-take_oldest.is ∙ c.take_oldest.ensures.frame ∙ sym c.in-Some-oldest.ensures in
     cc
 
 -- where the frame is not spelled the links are as before
 pub returns-in_err-bytes-clause-links : goal.returns-in_err-bytes-clause-links
 returns-in_err-bytes-clause-links c = ap (λ (o : Outbox). o.links)
-    (stays c.args.ends.now c.args.frames.now.items
-    c.args.frames.now.items c.in-Some.at c.at_mut-2.result.now c.spell.new.self
+    (stays c.args.ends.now c.args.waiting.now.frames
+    c.args.waiting.now.frames c.in-Some.at c.at_mut-2.result.now c.spell.new.self
     refl c.at_mut-2.ensures.value c.in_err-bytes.ensures.err)
 
 -- and so is what is sent
 pub returns-in_err-bytes-clause-err : goal.returns-in_err-bytes-clause-err
 returns-in_err-bytes-clause-err c = on_err c.from_residual-in_err-bytes.result
-    (ap (λ (o : Outbox). o.sent) (stays c.args.ends.now c.args.frames.now.items
-    c.args.frames.now.items c.in-Some.at c.at_mut-2.result.now c.spell.new.self
+    (ap (λ (o : Outbox). o.sent) (stays c.args.ends.now c.args.waiting.now.frames
+    c.args.waiting.now.frames c.in-Some.at c.at_mut-2.result.now c.spell.new.self
     refl c.at_mut-2.ensures.value c.in_err-bytes.ensures.err))
 
 -- the frame comes before all else that is sent
 frame_first : (c : After-spelled_frame) →
-    SendsFirst (outbox_of c.args.ends.now c.args.frames.now.items)
+    SendsFirst (outbox_of c.args.ends.now c.args.waiting.now.frames)
     (outbox_of (slice_set c.args.ends.now c.in-Some.at c.spell.new.self)
-    c.take_front.new.frames.items) (sending_of c.spelled_frame.result)
+    c.take_oldest.new.self.frames) (sending_of c.spelled_frame.result)
 frame_first c = frame_next c.args.ends.now
-    (slice_set c.args.ends.now c.in-Some.at c.spell.new.self) c.args.frames.now.items
-    c.args.frames.now.items c.in-Some-front.next.now c.take_front.new.frames.items
+    (slice_set c.args.ends.now c.in-Some.at c.spell.new.self) c.args.waiting.now.frames
+    c.args.waiting.now.frames c.in-Some-oldest.next.now c.take_oldest.new.self.frames
     c.in-Some.at c.at_mut-2.result.now c.spell.new.self refl
-    (c.take_front.ensures c.in-Some-front.next.now (sym c.in-Some-front.ensures.value)).1
+    (c.take_oldest.ensures.frames c.in-Some-oldest.next.now (sym c.in-Some-oldest.ensures))
     (subst (λ (o : Outgoing). position (λ (d : End). o.to == d.peer) c.args.ends.now
-    ≡ Some c.in-Some.at) (one_front c.args.frames.now.items c.in-Some.ensures.which.0
-    c.in-Some-front.next.now c.in-Some.ensures.which.1 c.in-Some-front.ensures.value)
+    ≡ Some c.in-Some.at) (one_front c.args.waiting.now.frames c.in-Some.ensures.which.0
+    c.in-Some-oldest.next.now c.in-Some.ensures.which.1
+    (c.in-Some-oldest.ensures ∙ c.requires.oldest))
     (end_at c.args.ports.now c.args.ends.now c.requires.ordered c.in-Some.ensures.which.0.to
     ∙ c.in-Some.ensures.which.2)) c.at_mut-2.ensures.value refl
     (sending_of c.spelled_frame.result)
@@ -191,11 +191,5 @@ returns-in_err-spell_greeting-clause-ordered c =
 pub returns-clause-placed : goal.returns-clause-placed
 returns-clause-placed c =
     (subst (AllPlaced c.args.ports.now)
-    (c.take_front.ensures c.in-Some-front.next.now (sym c.in-Some-front.ensures.value)).1
+    (c.take_oldest.ensures.frames c.in-Some-oldest.next.now (sym c.in-Some-oldest.ensures))
     c.requires.placed).1
-
--- the place of the frame that is taken out is room again
-pub returns-clause-places : goal.returns-clause-places
-returns-clause-places c =
-    let front = c.take_front.ensures c.in-Some-front.next.now (sym c.in-Some-front.ensures.value) in
-    places_popped c.args.frames.now c.take_front.new.frames c.in-Some-front.next.now front.1 front.2

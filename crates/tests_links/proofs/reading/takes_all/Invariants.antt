@@ -4,4 +4,4 @@ use Rattle.tests_links.proofs.reading.takes_all.Given as goal
 
 -- taking a frame leaves the classes
 abbrev pub invariant-loop-row : goal.invariant-loop-row
-invariant-loop-row l = l.streams.classes ≡ l.initial.streams.classes
+invariant-loop-row l = l.streams.fixed.classes ≡ l.initial.streams.fixed.classes

@@ -13,32 +13,25 @@ returns-then-is_some-clause-value c = (
   λ no. absurd (false≢true no),
   λ h.
       let i = c.self.inside in
-      let none = none_waits i.ports i.ends c.self.invariant.order i.spelled i.frames.items
+      let none = none_waits i.ports i.ends c.self.invariant.order i.spelled i.waiting.frames
       c.self.invariant.placed (ap (λ (v : Streamed). v.frames) c.self.view_is ∙ h.0) in
       absurd (false≢true (sym (ap is_some none.0) ∙ sym c.is_some.ensures ∙ c.if-is_some.true)),
 )
 
--- and so does a frame that is not
-pub returns-then-not-is_empty-clause-value : goal.returns-then-not-is_empty-clause-value
-returns-then-not-is_empty-clause-value c = (
-  λ no. absurd (false≢true no),
-  λ h.
-      let i = c.self.inside in
-      let none = none_waits i.ports i.ends c.self.invariant.order i.spelled i.frames.items
-      c.self.invariant.placed (ap (λ (v : Streamed). v.frames) c.self.view_is ∙ h.0) in
-      subst IsTrue c.if-not-is_empty.true (c.is_empty.ensures.1 none.1),
-)
-
--- without either none waits
+-- without it what waits is in the cells, or taken out of one
 pub returns-clause-value : goal.returns-clause-value
 returns-clause-value c = (
   λ yes.
       let i = c.self.inside in
       let none : i.spelled ≡ None = none_of i.spelled (sym c.is_some.ensures ∙ c.if-is_some.false) in
-      let empty : i.frames.items ≡ [] = c.is_empty.ensures.0 c.if-not-is_empty.false in (
+      let empty = c.is_empty.ensures.value.0 yes in (
         sym (ap (λ (v : Streamed). v.frames) c.self.view_is)
-            ∙ (λ j. spelled_first (none j) ++ (outbox_of i.ends (empty j)).sent),
-        sym (ap (λ (v : Streamed). v.shown) c.self.view_is) ∙ c.is_empty-2.ensures.0 yes,
+            ∙ (λ j. spelled_first (none j) ++ (outbox_of i.ends (empty.0 j)).sent),
+        sym (ap (λ (v : Streamed). v.shown) c.self.view_is) ∙ empty.1,
       ),
-  λ h. c.is_empty-2.ensures.1 (ap (λ (v : Streamed). v.shown) c.self.view_is ∙ h.1),
+  λ h.
+      let i = c.self.inside in
+      let none = none_waits i.ports i.ends c.self.invariant.order i.spelled i.waiting.frames
+      c.self.invariant.placed (ap (λ (v : Streamed). v.frames) c.self.view_is ∙ h.0) in
+      c.is_empty.ensures.value.1 (none.1, ap (λ (v : Streamed). v.shown) c.self.view_is ∙ h.1),
 )

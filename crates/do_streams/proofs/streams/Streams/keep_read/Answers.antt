@@ -12,7 +12,7 @@ pub returns-clause-links : goal.returns-clause-links
 returns-clause-links c = λ frame read.
     ap (λ (o : Outbox). o.links)
     (kept_outbox c.self.inside.ends c.put_names.new.ends c.args.from c.in-Some.later
-    (map posted_of c.self.inside.frames.items) c.put_names.ensures.ends)
+    (map posted_of c.self.inside.waiting.frames) c.put_names.ensures.ends)
     ∙ ap (λ (v : Streamed). change_link c.args.from (reads (λ old. c.in-Some.later)) v.links)
     c.self.view_is
     ∙ keeps_names c.args.self.now.links c.args.from frame c.in-Some.later
@@ -22,10 +22,10 @@ returns-clause-links c = λ frame read.
 -- and what waits is as before
 pub returns-clause-same : goal.returns-clause-same
 returns-clause-same c = λ j. record {
-  links = (outbox_of c.put_names.new.ends c.self.inside.frames.items).links;
+  links = (outbox_of c.put_names.new.ends c.self.inside.waiting.frames).links;
   frames = (ap (λ (o : Outbox). spelled_first c.self.inside.spelled ++ o.sent)
       (kept_outbox c.self.inside.ends c.put_names.new.ends c.args.from c.in-Some.later
-      (map posted_of c.self.inside.frames.items) c.put_names.ensures.ends)
+      (map posted_of c.self.inside.waiting.frames) c.put_names.ensures.ends)
       ∙ ap (λ (v : Streamed). v.frames) c.self.view_is) j;
   shown = ap (λ (v : Streamed). v.shown) c.self.view_is j;
   room = ap (λ (v : Streamed). v.room) c.self.view_is j;

@@ -1,7 +1,6 @@
 use Rattle.std.proofs.Common.{ap, sym, subst, ◌∙◌}
-use Rattle.do_base.specs.lists.Reserved.{Reserved}
-use Rattle.do_streams.specs.declared.end.Outgoing.{Outgoing}
 use Rattle.do_streams.specs.Ordered.{AllPlaced}
+use Rattle.do_streams.specs.Waits.{Waits}
 use Rattle.do_streams.proofs.LinksRead.{none_read}
 use Rattle.do_streams.proofs.WaitingFrames.{opened_ports}
 use Rattle.do_streams.proofs.streams.Streams.new.Goals as goal
@@ -13,5 +12,5 @@ invariant_of-result c = record {
   order = c.new-ports.ensures ∙ c.in_ok-from_slice.ensures ∙ c.as_slice.ensures
       ∙ opened_ports c.in_ok-ends.ends c.args.peers.now c.in_ok-ends.ensures;
   placed = subst (AllPlaced c.new-ports.result)
-      (sym (ap (λ (r : Reserved Outgoing). r.items) c.new.ensures)) tt;
+      (sym (ap (λ (w : Waits). w.frames) c.in_ok-waiting.ensures)) tt;
 }

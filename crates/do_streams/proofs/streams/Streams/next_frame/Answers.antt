@@ -1,22 +1,21 @@
 use Rattle.std.proofs.Common.{◌≡◌, ◌∷◌, ◌++◌, ap, subst, sym, ◌∙◌, List, Option}
-use Rattle.std.specs.Prelude.{min}
 use Rattle.do_network.specs.Spelled.{IsSpelledSending}
 use Rattle.do_streams.specs.declared.spelled.Spelled.{Spelled}
-use Rattle.do_streams.specs.Streamed.{Streamed, all_places, outbox_of, sending_of, spelled_first}
+use Rattle.do_streams.specs.Streamed.{Streamed, outbox_of, sending_of, spelled_first}
 use Rattle.do_streams.proofs.streams.Streams.next_frame.Goals.{After-forget}
 use Rattle.do_streams.proofs.streams.Streams.next_frame.Goals as goal
 
 -- what was spelled is the oldest that waits
 is_oldest : (c : After-forget) → c.args.self.now.frames ≡ sending_of c.in-Some.next
     ∷ (spelled_first c.forget.new.spelled
-    ++ (outbox_of c.spell_if_none.new.ends c.spell_if_none.new.frames.items).sent)
+    ++ (outbox_of c.spell_if_none.new.ends c.spell_if_none.new.waiting.frames).sent)
 is_oldest c =
     sym (ap (λ (v : Streamed). v.frames) c.self.view_is)
     ∙ sym c.in_ok-spell_if_none.ensures.sent
     ∙ ap (λ (o : Option Spelled). spelled_first o
-    ++ (outbox_of c.spell_if_none.new.ends c.spell_if_none.new.frames.items).sent) c.in-Some.is
+    ++ (outbox_of c.spell_if_none.new.ends c.spell_if_none.new.waiting.frames).sent) c.in-Some.is
     ∙ ap (λ (o : Option Spelled). sending_of c.in-Some.next ∷ (spelled_first o
-    ++ (outbox_of c.spell_if_none.new.ends c.spell_if_none.new.frames.items).sent))
+    ++ (outbox_of c.spell_if_none.new.ends c.spell_if_none.new.waiting.frames).sent))
     (sym c.forget.ensures)
 
 -- equal lists begin with the same
@@ -74,36 +73,24 @@ invariant_of-self-2 c = record {
 -- there are as many places where what was spelled is fetched
 pub returns-clause-fixed : goal.returns-clause-fixed
 returns-clause-fixed c =
-    (λ j. record {
-      classes = c.self.inside.classes;
-      places = min (c.spell_if_none.ensures.places j) (all_places c.self.inside.shown);
-    })
+    (λ j. record { classes = c.self.inside.classes; places = c.spell_if_none.ensures.places j })
     ∙ ap (λ (v : Streamed). v.fixed) c.self.view_is
 
 -- where nothing waits
 pub returns-in_default-clause-fixed : goal.returns-in_default-clause-fixed
 returns-in_default-clause-fixed c =
-    (λ j. record {
-      classes = c.self.inside.classes;
-      places = min (c.spell_if_none.ensures.places j) (all_places c.self.inside.shown);
-    })
+    (λ j. record { classes = c.self.inside.classes; places = c.spell_if_none.ensures.places j })
     ∙ ap (λ (v : Streamed). v.fixed) c.self.view_is
 
 -- where there is no memory for its bytes
 pub returns-in_err-to-clause-fixed : goal.returns-in_err-to-clause-fixed
 returns-in_err-to-clause-fixed c =
-    (λ j. record {
-      classes = c.self.inside.classes;
-      places = min (c.spell_if_none.ensures.places j) (all_places c.self.inside.shown);
-    })
+    (λ j. record { classes = c.self.inside.classes; places = c.spell_if_none.ensures.places j })
     ∙ ap (λ (v : Streamed). v.fixed) c.self.view_is
 
 -- and where there is none to spell it
 pub returns-in_err-spell_if_none-clause-fixed :
     goal.returns-in_err-spell_if_none-clause-fixed
 returns-in_err-spell_if_none-clause-fixed c =
-    (λ j. record {
-      classes = c.self.inside.classes;
-      places = min (c.spell_if_none.ensures.places j) (all_places c.self.inside.shown);
-    })
+    (λ j. record { classes = c.self.inside.classes; places = c.spell_if_none.ensures.places j })
     ∙ ap (λ (v : Streamed). v.fixed) c.self.view_is

@@ -1,15 +1,29 @@
-use Rattle.std.proofs.Common.{◌∙◌, ap}
-use Rattle.std.specs.Prelude.{min}
-use Rattle.do_streams.specs.Streamed.{Streamed, all_places}
-use Rattle.do_streams.proofs.WaitingFrames.{places_fetched}
+use Rattle.std.proofs.Common.{◌∙◌, ◌++◌, ap, subst, sym}
+use Rattle.do_streams.specs.Ordered.{AllPlaced}
+use Rattle.do_streams.specs.Streamed.{Streamed, outbox, outbox_of, spelled_first}
 use Rattle.do_streams.proofs.streams.Streams.next_shown.Goals as goal
 
--- the place of the line is room again
+-- the line leaves the frames
+pub returns-clause-sent : goal.returns-clause-sent
+returns-clause-sent c =
+    (λ j. record {
+      links = (outbox_of c.self.inside.ends (c.take_line.ensures.frames j)).links;
+      sent = spelled_first c.self.inside.spelled
+          ++ (outbox_of c.self.inside.ends (c.take_line.ensures.frames j)).sent;
+    })
+    ∙ ap outbox c.self.view_is
+
+-- and there are as many places
 pub returns-clause-fixed : goal.returns-clause-fixed
 returns-clause-fixed c =
-    (λ j. record {
-      classes = c.self.inside.classes;
-      places = min (all_places c.self.inside.frames) (places_fetched c.self.inside.shown
-          c.pop_front.new.self c.pop_front.result c.pop_front.ensures j);
-    })
+    (λ j. record { classes = c.self.inside.classes; places = c.take_line.ensures.places j })
     ∙ ap (λ (v : Streamed). v.fixed) c.self.view_is
+
+-- the frames go to ports as before
+pub invariant_of-self : goal.invariant_of-self
+invariant_of-self c = record {
+  known = c.self.invariant.known;
+  order = c.self.invariant.order;
+  placed = subst (AllPlaced c.self.inside.ports) (sym c.take_line.ensures.frames)
+      c.self.invariant.placed;
+}

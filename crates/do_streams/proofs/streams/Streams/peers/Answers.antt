@@ -9,6 +9,6 @@ use Rattle.do_streams.proofs.streams.Streams.peers.Goals as goal
 pub returns : goal.returns
 returns c =
     if_ok c.listed_peers.result (λ peers same. same
-    ∙ sym (peers_of c.self.inside.ends (map posted_of c.self.inside.frames.items))
+    ∙ sym (peers_of c.self.inside.ends (map posted_of c.self.inside.waiting.frames))
     ∙ ap (λ (v : Streamed). map (λ (l : Link). l.peer) v.links) c.self.view_is)
     c.listed_peers.ensures

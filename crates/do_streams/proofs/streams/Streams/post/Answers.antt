@@ -1,25 +1,24 @@
 use Rattle.std.proofs.Common.{◌≡◌, ◌==◌, ◌∙◌, ap, subst, sym, true}
-use Rattle.std.specs.Prelude.{min}
 use Rattle.std.specs.List.{list_any}
 use Rattle.do_streams.specs.declared.end.Outgoing.{Outgoing}
 use Rattle.do_streams.specs.Ordered.{AllPlaced}
-use Rattle.do_streams.specs.Streamed.{Streamed, all_places, outbox, streamed_of}
+use Rattle.do_streams.specs.Streamed.{Streamed, outbox, streamed_of}
 use Rattle.do_network.specs.Links.{sending}
 use Rattle.do_streams.proofs.FramesInOrder.{posts}
 use Rattle.do_streams.proofs.LinksRead.{all_behind}
-use Rattle.do_streams.proofs.WaitingFrames.{places_posted, sent_nowhere}
+use Rattle.do_streams.proofs.WaitingFrames.{sent_nowhere}
 use Rattle.do_streams.proofs.streams.Streams.post.Goals as goal
 
 -- a frame is sent behind all that wait
 pub returns-clause-sent : goal.returns-clause-sent
 returns-clause-sent c = subst (λ (v : Streamed).
     outbox (streamed_of c.self.inside.ends c.self.inside.spelled c.post.new.self
-    c.self.inside.shown c.self.inside.classes)
+    c.self.inside.classes)
     ≡ sending (outbox v) (record { to = c.args.to; frame = c.args.frame }))
     c.self.view_is
-    (posts c.self.inside.ends c.self.inside.spelled c.self.inside.frames c.post.new.self
-    c.self.inside.shown c.self.inside.classes (record { to = c.args.to; frame = c.args.frame })
-    c.post.ensures.items)
+    (posts c.self.inside.ends c.self.inside.spelled c.self.inside.waiting c.post.new.self
+    c.self.inside.classes (record { to = c.args.to; frame = c.args.frame })
+    c.post.ensures.frames)
 
 -- to a peer with which there is no link nothing is sent
 pub returns-then-not-has-clause-sent : goal.returns-then-not-has-clause-sent
@@ -27,18 +26,13 @@ returns-then-not-has-clause-sent c = subst (λ (v : Streamed).
     outbox v ≡ sending (outbox v) (record { to = c.args.to; frame = c.args.frame }))
     c.self.view_is
     (sent_nowhere c.self.inside.ports c.self.inside.ends c.self.invariant.order
-    c.self.inside.spelled c.self.inside.frames c.self.inside.shown c.self.inside.classes
+    c.self.inside.spelled c.self.inside.waiting c.self.inside.classes
     (record { to = c.args.to; frame = c.args.frame }) (sym c.has.ensures ∙ c.if-not-has.true))
 
 -- the frame takes one of the places
 pub returns-clause-fixed : goal.returns-clause-fixed
 returns-clause-fixed c =
-    (λ j. record {
-      classes = c.self.inside.classes;
-      places = min (places_posted c.self.inside.frames c.post.new.self
-          (record { to = c.args.to; frame = c.args.frame }) c.post.ensures.items
-          c.post.ensures.spare j) (all_places c.self.inside.shown);
-    })
+    (λ j. record { classes = c.self.inside.classes; places = c.post.ensures.places j })
     ∙ ap (λ (v : Streamed). v.fixed) c.self.view_is
 
 -- it goes to one of the ports
@@ -46,8 +40,8 @@ pub invariant_of-self : goal.invariant_of-self
 invariant_of-self c = record {
   known = c.self.invariant.known;
   order = c.self.invariant.order;
-  placed = subst (AllPlaced c.self.inside.ports) (sym c.post.ensures.items)
+  placed = subst (AllPlaced c.self.inside.ports) (sym c.post.ensures.frames)
       (all_behind (λ (x : Outgoing). list_any (λ p. p == x.to) c.self.inside.ports ≡ true)
-      c.self.inside.frames.items (record { to = c.args.to; frame = c.args.frame })
+      c.self.inside.waiting.frames (record { to = c.args.to; frame = c.args.frame })
       c.self.invariant.placed (sym c.has.ensures ∙ c.if-not-has.false));
 }

@@ -18,7 +18,7 @@ returns-clause-read c =
     let same : c.in-Ok.names ≡ names_of c.args.self.now.links c.args.from =
     c.in-Ok.ensures.names
     ∙ sym (names_stay c.args.from (record { links = map link_of c.self.inside.ends; sent = [] })
-    (map posted_of c.self.inside.frames.items))
+    (map posted_of c.self.inside.waiting.frames))
     ∙ ap (λ (v : Streamed). names_of v.links c.args.from) c.self.view_is in
     subst (λ names. IsReading names (read_frame c.args.table.now c.args.from c.args.to names
     c.args.raw.now) c.read_with_names.result) same c.read_with_names.ensures.read
