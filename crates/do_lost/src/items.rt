@@ -11,7 +11,7 @@ use std::alloc::AllocError;
 
 /// The way of an item.
 #[derive(Debug, Drop)]
-pub(crate) struct Way {
+pub struct Way {
     /// The node that sent it.
     pub from: NodeId,
     /// The node that takes it.
@@ -38,7 +38,7 @@ fn object_of(way: &Way, name: &Name) -> Oid
 }
 
 /// Appends the objects that a message on its way names.
-fn push_names(objects: &mut Oids, way: &Way, names: &NameList) -> Result<(), AllocError>
+pub fn push_names(objects: &mut Oids, way: &Way, names: &NameList) -> Result<(), AllocError>
     ensures { OnOk result
         (objects.new ≡ objects.old ++ map (name_object way.now.from way.now.to) names.now) }
 {

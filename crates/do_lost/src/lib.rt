@@ -12,6 +12,7 @@ mod nodes;
 mod state;
 mod text;
 
+pub use items::{Way, push_names};
 pub use nodes::push_invocation;
 pub use state::{named, quiet};
-pub use text::lost_text;
+pub use text::{leaks_head, lost_text, push_leak};

@@ -1,11 +1,12 @@
 //! How the stored objects that nothing can reach any more are written.
-ghost use Rattle.std.specs.Prelude.{◌≡◌, ◌++◌, ◌<◌, [], ◌∷◌, IfOk, OnOk, map};
+ghost use Rattle.std.specs.Prelude.{◌≡◌, ◌++◌, ◌<◌, [], ◌∷◌, IfOk, OnOk, codes, map};
 ghost use Rattle.std.specs.Option.{option_copied};
 ghost use Rattle.do_machine.specs.State.{class_given, class_of};
 ghost use Rattle.do_machine.specs.check.Snapshot.{snapshot};
 ghost use Rattle.do_lines.specs.Lines.{joined};
 ghost use Rattle.do_leaks.specs.Leaks.{leaks};
-ghost use Rattle.do_lost.specs.Text.{class_behind, leak_line, lost_text, quiet_line, slot_behind};
+ghost use Rattle.do_lost.specs.Text.{class_behind, leak_line, leak_told, lost_text};
+ghost use Rattle.do_lost.specs.Text.{quiet_line, slot_behind};
 
 use crate::state::{named, quiet};
 use do_base::{Oid, Text};
@@ -73,21 +74,25 @@ fn push_slot(
     out.push_bytes(slot.name.as_slice())
 }
 
-/// Adds the line of one object that nothing can reach.
-fn push_leak(
+/// Adds the line of one object that nothing can reach, with its class and that of its holder.
+///
+/// If memory runs out, a part of it may have been added.
+pub fn push_leak(
     out: &mut Text,
     table: &ClassTable,
-    state: &State,
     leak: &Leak,
+    class: Option<ClassId>,
+    holder: Option<ClassId>,
 ) -> Result<(), AllocError>
-    ensures { OnOk result (out.new ≡ out.old ++ leak_line table.now state.now leak.now ++ 10 ∷ []) }
+    ensures { OnOk result
+        (out.new ≡ out.old ++ leak_told table.now leak.now class holder ++ 10 ∷ []) }
 {
     out.push_bytes(b"leak ")?;
     push_object(out, &leak.oid)?;
-    push_class(out, table, class_of(state, &leak.oid))?;
+    push_class(out, table, class)?;
     out.push_bytes(b" by ")?;
     push_object(out, &leak.holder)?;
-    push_slot(out, table, class_of(state, &leak.holder), leak.slot)?;
+    push_slot(out, table, holder, leak.slot)?;
     out.push(b'\n')
 }
 
@@ -99,22 +104,26 @@ fn push_leaks(
     list: &LeakList,
 ) -> Result<(), AllocError>
     ensures { OnOk result
-        (out.new ≡ out.old ++ joined (map (leak_line table.now state.now) list.now)) }
+        (out.new ≡ out.old ++ joined (map (leak_line table.now (class_of state.now)) list.now)) }
 {
     for leak in list.as_slice() {
-        push_leak(out, table, state, leak)?;
+        let class = class_of(state, &leak.oid);
+        let holder = class_of(state, &leak.holder);
+        push_leak(out, table, leak, class, holder)?;
     }
     Ok(())
 }
 
-/// Adds the line that tells whether anything is under way.
-fn push_quiet(out: &mut Text, state: &State) -> Result<(), AllocError>
-    ensures { OnOk result (out.new ≡ out.old ++ quiet_line state.now ++ 10 ∷ []) }
+/// What stands before the objects that nothing can reach: `leaks 1`, and whether nothing is under
+/// way.
+pub fn leaks_head(alloc: Global, still: bool) -> Result<Text, AllocError>
+    ensures { IfOk result (λ text.
+        text ≡ joined (codes "leaks 1" ∷ quiet_line still ∷ [])) }
 {
-    if quiet(state) {
-        out.push_bytes(b"quiet 1\n")
+    if still {
+        Text::from_slice(alloc, b"leaks 1\nquiet 1\n")
     } else {
-        out.push_bytes(b"quiet 0\n")
+        Text::from_slice(alloc, b"leaks 1\nquiet 0\n")
     }
 }
 
@@ -134,8 +143,7 @@ pub fn lost_text(
 {
     let names = named(alloc, state)?;
     let list = leaks(listed, &names)?;
-    let mut text = Text::from_slice(alloc, b"leaks 1\n")?;
-    push_quiet(&mut text, state)?;
+    let mut text = leaks_head(alloc, quiet(state))?;
     push_leaks(&mut text, table, state, &list)?;
     text.push_bytes(b"end\n")?;
     Ok(text)
