@@ -34,6 +34,17 @@ module _ {X : Type 0} (p : X → Bool) where
             (λ k. found_at ys (position_or_len p ys) x s.0 k) g
       ] refl
 
+  -- and is what is found
+  pub get_first : (xs : List X) (i : ℕ) → position p xs ≡ Some i → slice_get xs i ≡ find p xs
+  get_first [] i e = absurd (cc)
+  get_first (y ∷ ys) i e =
+      elim (p y) as (λ b. p y ≡ b → slice_get (y ∷ ys) i ≡ cond b (Some y) (find p ys)) [
+        | true ↦ λ h. ap (slice_get (y ∷ ys)) (here y ys i h e)
+        | false ↦ λ h.
+            let s = later y ys i h e in
+            ap (slice_get (y ∷ ys)) s.1 ∙ get_first ys (position_or_len p ys) s.0
+      ] refl
+
   -- where there is no first place none is found
   pub found_none : (xs : List X) → position p xs ≡ None → find p xs ≡ None
   found_none [] e = refl

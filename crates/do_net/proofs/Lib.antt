@@ -13,3 +13,4 @@ pub mod TakeGoes
 pub mod PortsRise
 pub mod ChannelPlaces
 pub mod StandsForStates
+pub mod Looked

@@ -1,5 +1,6 @@
 //! A site of a network with what is under way from it.
-ghost use Rattle.std.specs.Prelude.{◌≡◌, ◌++◌, ◌==◌, [], IfOk, OnOk, length, map, ℕ};
+ghost use Rattle.std.specs.Prelude.{◌≡◌, ◌++◌, ◌==◌, [], IfOk, OnOk, find, length, map, ℕ};
+ghost use Rattle.std.specs.Option.{option_copied};
 ghost use Rattle.std.specs.List.{list_all, AllByRecursion};
 ghost use Rattle.do_machine.specs.State.{is_open};
 ghost use Rattle.do_machine.specs.take.Take.{can_take};
@@ -13,7 +14,7 @@ ghost use Rattle.do_net.specs.Hosts.{hosting, hosting_after, outcome_of, was_ena
 ghost use Rattle.do_net.specs.Lanes.{IsSent};
 
 use crate::hosted::Hosted;
-use crate::lane::Kept;
+use crate::lane::{Kept, Lane};
 use crate::lanes::Lanes;
 use do_base::{NodeId, Reserved, ShownList, Text};
 use do_machine::{NodeLine, Outcome};
@@ -115,6 +116,20 @@ impl<S: Hosted> Host<S> {
         self.forward(wires)?;
         let enabled = was_enabled(done);
         Ok(Outcome { enabled, shown })
+    }
+
+    /// The site.
+    pub fn site(&self) -> &S
+        ensures { result.now ≡ self.now.site }
+    {
+        &self.site
+    }
+
+    /// The lane to a peer. None exactly where there is none.
+    pub fn lane(&self, to: NodeId) -> Option<&Lane>
+        ensures { option_copied result ≡ find (λ c. to == c.to) self.now.lanes }
+    {
+        self.lanes.to(to)
     }
 
     /// Whether the site can take a frame of a peer.

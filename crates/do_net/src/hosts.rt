@@ -16,17 +16,15 @@ ghost use Rattle.do_net.specs.Lanes.{carried_of};
 use crate::by_port::Hosts;
 use crate::host::Host;
 use crate::hosted::Hosted;
-use crate::lane::Kept;
-use bytes::Bytes;
+use crate::lane::{Kept, frame_in};
 use do_base::{Event, NodeId, Reserved, ShownList};
-use do_frames::RawFrame;
 use do_machine::{NodeLines, Outcome, Snapshot};
 use do_network::{Input, Wire};
 use do_ported::place_of;
 use std::alloc::{AllocError, Global};
 
 /// Where the site of a port stands.
-fn host_at<S: Hosted>(hosts: &Hosts<S>, port: NodeId) -> Option<usize>
+pub(crate) fn host_at<S: Hosted>(hosts: &Hosts<S>, port: NodeId) -> Option<usize>
     ensures index { result ≡ position (λ x. port == x.port) hosts.now.items }
     ensures within { IfSome result (λ at. at < length hosts.now.items) }
 {
@@ -35,7 +33,7 @@ fn host_at<S: Hosted>(hosts: &Hosts<S>, port: NodeId) -> Option<usize>
 
 /// The site at a place.
 #[tactic(auto, using(std::proofs::lemmas::Option::slice_get_read))]
-fn host_in<S: Hosted>(hosts: &Hosts<S>, at: usize) -> &Host<S>
+pub(crate) fn host_in<S: Hosted>(hosts: &Hosts<S>, at: usize) -> &Host<S>
     requires { at < length hosts.now.items }
     ensures { slice_get hosts.now.items at ≡ Some result.now }
 {
@@ -84,7 +82,7 @@ pub(crate) fn can_take<S: Hosted>(hosts: &Hosts<S>, port: NodeId, from: NodeId) 
 }
 
 /// Whether the end of a node towards another is open.
-fn is_open<S: Hosted>(hosts: &Hosts<S>, port: NodeId, peer: NodeId) -> bool
+pub(crate) fn is_open<S: Hosted>(hosts: &Hosts<S>, port: NodeId, peer: NodeId) -> bool
     ensures { result ≡ net_is_open (net_of (hostings S.seen hosts.now)) port peer }
 {
     match host_at(hosts, port) {
@@ -100,14 +98,8 @@ fn input_of(alloc: Global, from: NodeId, kept: &Kept) -> Result<Input, AllocErro
     let Kept::Frame(bytes) = kept else {
         return Ok(Input::Ended(from));
     };
-    let bytes = bytes.as_slice();
-    let kind = match bytes.first() {
-        Some(kind) => *kind,
-        None => 0,
-    };
-    let begins = bytes.len().min(5);
-    let payload = Bytes::copy_from_slice(alloc, &bytes[begins..])?;
-    Ok(Input::Frame(from, RawFrame { kind, payload }))
+    let frame = frame_in(alloc, bytes)?;
+    Ok(Input::Frame(from, frame))
 }
 
 /// Takes out the oldest of what stands in the lane from one node to another.

@@ -1,10 +1,13 @@
 //! What is under way from one node to another, as bytes.
 ghost use Rattle.std.specs.Prelude.{◌≡◌, ◌==◌, [], IfOk, OnOk, false, if◌then◌else◌, length};
-ghost use Rattle.std.specs.Prelude.{nat_lt, not};
-ghost use Rattle.do_net.specs.Lanes.{Advances, greets, laden};
+ghost use Rattle.std.specs.Prelude.{nat_lt, not, option_map, slice_get};
+ghost use Rattle.std.specs.Option.{option_copied};
+ghost use Rattle.do_net.specs.Lanes.{Advances, carried_of, frame_in, greets, laden};
 ghost use Rattle.do_network.specs.Step.{with_loss};
 
+use bytes::Bytes;
 use do_base::{NodeId, Text};
+use do_frames::RawFrame;
 use do_ported::Ported;
 use std::alloc::{AllocError, Global};
 use std::collections::VecDeque;
@@ -41,6 +44,20 @@ impl Model for Lane {
       greeting = l.greeting;
       begun = l.begun;
     } };
+}
+
+/// The frame that bytes are: a kind, four bytes of a length, and a payload, which is copied.
+pub fn frame_in(alloc: Global, bytes: &Text) -> Result<RawFrame, AllocError>
+    ensures { IfOk result (λ frame. frame ≡ frame_in bytes.now) }
+{
+    let bytes = bytes.as_slice();
+    let kind = match bytes.first() {
+        Some(kind) => *kind,
+        None => 0,
+    };
+    let begins = bytes.len().min(5);
+    let payload = Bytes::copy_from_slice(alloc, &bytes[begins..])?;
+    Ok(RawFrame { kind, payload })
 }
 
 /// Whether bytes begin as a greeting does.
@@ -80,11 +97,25 @@ impl Lane {
         Ok(())
     }
 
+    /// How many stand in it.
+    pub fn len(&self) -> usize
+        ensures { result ≡ length self.now.waiting }
+    {
+        self.waiting.len()
+    }
+
+    /// What stands in it at a place, counted from 0 at the oldest. None exactly behind the last.
+    pub fn at(&self, place: usize) -> Option<&Kept>
+        ensures { option_map carried_of (option_copied result) ≡ slice_get self.now.waiting place }
+    {
+        self.waiting.get(place)
+    }
+
     /// Whether nothing stands in it.
     pub fn is_empty(&self) -> bool
         ensures { result ≡ (length self.now.waiting == 0) }
     {
-        self.waiting.len() == 0
+        self.len() == 0
     }
 
     /// Takes out the oldest of what stands in it. The greeting goes with the first frame.

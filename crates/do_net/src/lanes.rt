@@ -1,5 +1,6 @@
 //! The lanes of a site.
-ghost use Rattle.std.specs.Prelude.{◌≡◌, ◌==◌, IfOk, OnOk, length};
+ghost use Rattle.std.specs.Prelude.{◌≡◌, ◌==◌, IfOk, OnOk, find, length};
+ghost use Rattle.std.specs.Option.{option_copied};
 ghost use Rattle.std.specs.List.{list_all};
 ghost use Rattle.std.specs.List.Sorted.{IsNonDecreasingBy};
 ghost use Rattle.do_network.specs.Net.{change_channel};
@@ -75,6 +76,16 @@ impl Lanes {
         match place_of(&self.lanes, to) {
             Some(at) => self.lanes.at_mut(at).lose(after),
             None => Ok(false),
+        }
+    }
+
+    /// The lane to a peer. None exactly where there is none.
+    pub fn to(&self, to: NodeId) -> Option<&Lane>
+        ensures { option_copied result ≡ find (λ c. to == c.to) self.now }
+    {
+        match place_of(&self.lanes, to) {
+            Some(at) => self.lanes.get(at),
+            None => None,
         }
     }
 

@@ -1,4 +1,6 @@
 //! A network of sites, over its events.
+mod looking;
+
 ghost use Rattle.std.specs.Prelude.{◌≡◌, ◌++◌, ◌<◌, IfOk, IsErr, OnErr, OnOk, Some, [], false};
 ghost use Rattle.std.specs.Prelude.{length, slice_get, true};
 ghost use Rattle.do_machine.specs.World.{IsWorld, opening};

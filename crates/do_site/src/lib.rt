@@ -23,6 +23,7 @@ mod ruling;
 mod site;
 mod tally;
 mod told;
+mod traced;
 mod weighing;
 mod work;
 
