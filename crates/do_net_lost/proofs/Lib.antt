@@ -1,0 +1,3 @@
+pub mod LaneTurn
+pub mod OneMore
+pub mod TextAlike
