@@ -1,14 +1,10 @@
 -- Effects that leave and send only what a message can carry.
-use Rattle.std.proofs.Common.{arith, length-append, ◌≤◌}
+use Rattle.std.proofs.Common.{arith, length-append, ◌≤◌, ap, sym, slice_get, zero, ◌<◌, ◌≡◌, ℕ, not}
+use Rattle.std.proofs.Common.{List, [], ◌∷◌, ◌-◌, length, filter, map, refl}
 use Rattle.std.proofs.lemmas.List.{length-map, length-replicate}
-use Rattle.std.proofs.Common.{ap, sym, slice_get, zero, ◌<◌}
-use Rattle.std.proofs.Common.{◌≡◌, ℕ, Bool, true, false, cond, not, List, [], ◌∷◌, ◌-◌}
-use Rattle.std.proofs.Common.{length}
-use Rattle.std.proofs.Common.{filter, map, refl}
-use Rattle.std.specs.Prelude.{None, Option, Some, is_some, option_map, replicate, suc}
-use Rattle.std.specs.List.{AllByRecursion, list_any}
-use Rattle.do_base.specs.names.Names.{ObjectName, TokenName}
-use Rattle.do_base.specs.declared.events.shown.Shown.{Shown}
+use Rattle.std.specs.Prelude.{None, Option, Some, option_map, replicate, suc}
+use Rattle.std.specs.List.{AllByRecursion}
+use Rattle.do_base.specs.names.Names.{ObjectName}
 use Rattle.do_base.specs.declared.values.value.Value.{Value}
 use Rattle.do_base.specs.declared.values.value.Value.TheVariants.{Nil}
 use Rattle.do_class.specs.Class.{Class}
@@ -19,21 +15,19 @@ use Rattle.do_class.specs.declared.ids.Slot.{Slot}
 use Rattle.do_packet.specs.declared.receipt.Made.{Made}
 use Rattle.do_behave.specs.declared.invocation.Invocation.{Invocation}
 use Rattle.do_behave.specs.declared.invocation.Reason.{Reason}
-use Rattle.do_machine.specs.declared.item.Item.{Item}
 use Rattle.do_machine.specs.declared.item.Item.TheVariants as items
 use Rattle.do_machine.specs.declared.node.Node.{Node}
 use Rattle.do_machine.specs.declared.node.Wanted.{Wanted}
 use Rattle.do_machine.specs.declared.state.Effect.{Effect}
 use Rattle.do_machine.specs.declared.state.Parcel.{Parcel}
-use Rattle.do_machine.specs.Effect.{each, only, queueing, showing, ◌>>=◌}
 use Rattle.do_machine.specs.Lists.{inserted}
-use Rattle.do_machine.specs.State.{is_open, stored}
-use Rattle.do_machine.specs.lend.Asking.{ask_over, asking, granting, same_wanted, settling}
-use Rattle.do_machine.specs.lend.Asking.{wanted_lt, with_wanted, without_wanted}
+use Rattle.do_machine.specs.lend.Asking.{same_wanted, wanted_lt, with_wanted}
 use Rattle.do_machine.specs.run.Fresh.{blank, fresh, pushed, with_objects, with_serials}
 use Rattle.do_limits.specs.Sendable.{AreSendable, HasSlots, IsOfTable, IsSendable}
 use Rattle.do_limits.specs.SendableStates.{InvocationIsSendable, ItemIsSendable, NodeIsSendable}
 use Rattle.do_limits.specs.SendableStates.{AsksForOne, HasNumbers, HasSerial, ObjectIsSendable}
+use Rattle.do_facts.proofs.walk.SmallEffects.{Small}
+use Rattle.do_facts.proofs.walk.Done.{Done, DoneIf}
 use Rattle.do_facts.proofs.EachOfLists.{each_filtered, each_joined, each_replicated}
 use Rattle.do_limits.proofs.Lists.{each_placed}
 use Rattle.do_limits.proofs.values.Carried.{carry-Nil}
@@ -42,61 +36,13 @@ use Rattle.do_limits.proofs.values.Carried.{carry-Nil}
 abbrev pub ParcelIsSendable : List Class → ℕ → Parcel → Type 0
 ParcelIsSendable table port p = ItemIsSendable table port p.to p.item
 
--- The node of an effect has such values, and what is sent has
-pub record EffectIsSendable (table : List Class) (port : ℕ) (e : Effect) : Type 0 where
-  pub node : NodeIsSendable table port e.node
-  pub sent : AllByRecursion (ParcelIsSendable table port) e.sent
+-- the node of an effect has such values, and what is sent has
+abbrev pub EffectIsSendable : List Class → ℕ → Effect → Type 0
+EffectIsSendable table port e = Done (NodeIsSendable table port) (ItemIsSendable table port) e
 
 -- an effect, where there is one
 abbrev pub IfSendable : List Class → ℕ → Option Effect → Type 0
-IfSendable table port None = Unit {0}
-IfSendable table port (Some e) = EffectIsSendable table port e
-
--- ---- effects
-
--- the node alone changes
-pub alone : {table : List Class} {port : ℕ} → (n : Node) → NodeIsSendable table port n →
-    EffectIsSendable table port (only n)
-alone n h = record { node = h; sent = tt }
-
--- an item is queued
-pub queues : {table : List Class} {port : ℕ} → (peer : ℕ) (item : Item) (n : Node) →
-    ItemIsSendable table port peer item → NodeIsSendable table port n →
-    EffectIsSendable table port (queueing peer item n)
-queues peer item n i h = record { node = h; sent = (i, tt) }
-
--- something is shown
-pub shows : {table : List Class} {port : ℕ} → (s : Shown) (n : Node) →
-    NodeIsSendable table port n → EffectIsSendable table port (showing s n)
-shows s n h = record { node = h; sent = tt }
-
--- one effect after another
-pub then_sendable : {table : List Class} {port : ℕ} → (e : Effect) (next : Node → Effect) →
-    EffectIsSendable table port e →
-    ((n : Node) → NodeIsSendable table port n → EffectIsSendable table port (next n)) →
-    EffectIsSendable table port (e >>= next)
-then_sendable {table} {port} e next h k =
-    let d = k e.node h.node in
-    record {
-      node = d.node;
-      sent = each_joined (ParcelIsSendable table port) e.sent (next e.node).sent h.sent d.sent;
-    }
-
--- an effect for each element of a list
-pub each_sendable : {table : List Class} {port : ℕ} → {X : Type 0} (P : X → Type 0)
-    (f : X → Node → Effect) → ((x : X) → P x → (n : Node) → NodeIsSendable table port n →
-    EffectIsSendable table port (f x n)) → (xs : List X) → AllByRecursion P xs → (n : Node) →
-    NodeIsSendable table port n → EffectIsSendable table port (each f xs n)
-each_sendable P f k [] p n h = alone n h
-each_sendable P f k (x ∷ xs) p n h =
-    then_sendable (f x n) (each f xs) (k x p.0 n h) (λ m g. each_sendable P f k xs p.1 m g)
-
--- whichever of two effects comes
-pub either : {table : List Class} {port : ℕ} → (b : Bool) (e d : Effect) →
-    EffectIsSendable table port e → EffectIsSendable table port d →
-    EffectIsSendable table port (cond b e d)
-either true e d h k = h
-either false e d h k = k
+IfSendable table port e = DoneIf (NodeIsSendable table port) (ItemIsSendable table port) e
 
 -- ---- asks
 
@@ -110,46 +56,28 @@ pub holding_more : (port : ℕ) (n : Node) → HasNumbers port n → (held : Lis
     AllByRecursion HasSerial held → HasNumbers port (record n { held = held })
 holding_more port n h held a = (h.0, (h.1.0, (h.1.1.0, (a, h.1.1.1.1))))
 
--- a lend that is settled
-pub settles : {table : List Class} {port : ℕ} → (w : Wanted) (n : Node) →
-    NodeIsSendable table port n → EffectIsSendable table port (settling w n)
-settles w n h =
-    either (not (is_open n w.token.lender)) _ _ (alone n h)
-    (queues w.token.lender (items.Settled w.token.number) n tt h)
+-- a node that asks for an object
+pub asks_for : {table : List Class} {port : ℕ} → (w : Wanted) → AsksForOne w → (n : Node) →
+    NodeIsSendable table port n → NodeIsSendable table port (with_wanted w n)
+asks_for {table} {port} w one n h = record {
+  heap = h.heap;
+  stack = h.stack;
+  numbers = asking_more port n h.numbers (inserted wanted_lt w n.asked)
+      (each_placed AsksForOne wanted_lt w n.asked one h.numbers.1.1.1.1);
+}
 
--- an object that is asked for
-pub asks : {table : List Class} {port : ℕ} → (w : Wanted) → AsksForOne w → (n : Node) →
-    NodeIsSendable table port n → EffectIsSendable table port (asking w n)
-asks {table} {port} w one n h =
-    either (not (is_open n w.object.node)) (settling w n) _ (settles w n h)
-    (either (list_any (same_wanted w) n.asked) (only n) _ (alone n h)
-    (queues w.object.node (items.Ask w.object.serial w.token) (with_wanted w n) one
-    (record {
-      heap = h.heap;
-      stack = h.stack;
-      numbers = asking_more port n h.numbers (inserted wanted_lt w n.asked)
-          (each_placed AsksForOne wanted_lt w n.asked one h.numbers.1.1.1.1);
-    })))
-
--- an ask that is over
-pub over : {table : List Class} {port : ℕ} → (w : Wanted) (n : Node) →
-    NodeIsSendable table port n → EffectIsSendable table port (ask_over w n)
-over {table} {port} w n h =
-    settles w (without_wanted w n)
-    (record {
-      heap = h.heap;
-      stack = h.stack;
-      numbers = asking_more port n h.numbers (filter (λ v. not (same_wanted w v)) n.asked)
-          (each_filtered AsksForOne (λ v. not (same_wanted w v)) n.asked h.numbers.1.1.1.1);
-    })
-
--- an ask that is answered
-pub grants : {table : List Class} {port : ℕ} → (peer serial : ℕ) (token : TokenName) →
-    1 ≤ serial → (n : Node) → NodeIsSendable table port n →
-    EffectIsSendable table port (granting peer serial token n)
-grants peer serial token one n h =
-    either (is_some (stored serial n.heap)) _ _ (queues peer (items.Granted serial token) n one h)
-    (queues peer (items.Gone serial token) n one h)
+-- asks that are over, and settled lends
+pub small : {table : List Class} {port : ℕ} →
+    Small (NodeIsSendable table port) (ItemIsSendable table port)
+small {table} {port} = record {
+  over = λ w n h. record {
+    heap = h.heap;
+    stack = h.stack;
+    numbers = asking_more port n h.numbers (filter (λ v. not (same_wanted w v)) n.asked)
+        (each_filtered AsksForOne (λ v. not (same_wanted w v)) n.asked h.numbers.1.1.1.1);
+  };
+  settles = λ w n o h. tt;
+}
 
 -- ---- invocations and objects
 

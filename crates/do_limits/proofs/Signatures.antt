@@ -1,27 +1,19 @@
 -- A method has few arguments, so an invocation has no more of them than locals.
-use Rattle.std.proofs.Common.{◌≡◌, ◌≤◌, ℕ, Bool, true, false, cond, List, [], ◌∷◌, length}
-use Rattle.std.proofs.Common.{map}
-use Rattle.std.proofs.Common.{refl}
-use Rattle.std.proofs.Common.{ap, arith, subst}
-use Rattle.std.specs.Prelude.{None, Option, Some, option_and_then, option_map, slice_get, suc, zero}
-use Rattle.std.specs.List.{All, AllByRecursion}
+use Rattle.std.proofs.Common.{◌≡◌, ◌≤◌, ℕ, Bool, true, false, cond, List, [], ◌∷◌, length, map}
+use Rattle.std.proofs.Common.{refl, arith, subst}
+use Rattle.std.specs.Prelude.{None, Option, Some, slice_get, suc, zero}
+use Rattle.std.specs.List.{AllByRecursion}
 use Rattle.std.proofs.lemmas.List.{length-map}
-use Rattle.std.proofs.lemmas.List.Elements.{recursion_from_All}
 use Rattle.do_class.specs.Class.{Class}
-use Rattle.do_class.specs.declared.method.Method.{Method}
-use Rattle.do_sig.specs.MethodTypes.{IsMethodType}
 use Rattle.do_frames.specs.Selectors.{IsSelector}
-use Rattle.do_class.specs.Table.{class_at, signature_of}
+use Rattle.do_class.specs.Table.{signature_of}
 use Rattle.do_class.specs.declared.ids.ClassId.{ClassId}
 use Rattle.do_class.specs.declared.ids.MethodId.{MethodId}
-use Rattle.do_sig.specs.Calls.{is_oneway, qualifier_of}
-use Rattle.do_sig.specs.Calls.{qualifiers_of}
+use Rattle.do_sig.specs.Calls.{is_oneway, qualifier_of, qualifiers_of}
 use Rattle.do_sig.specs.declared.qualifiers.Qualifier.{Qualifier}
 use Rattle.do_sig.specs.declared.encoding.Encoding.{Encoding}
 use Rattle.do_sig.specs.declared.signature.Signature.{Signature}
 use Rattle.do_machine.specs.Context.{Found, method_for}
-use Rattle.do_machine.specs.World.{HasSignatures}
-use Rattle.do_facts.proofs.methods.MethodsFound.{signature_found}
 use Rattle.do_machine.specs.run.Answers.{answer_marks}
 use Rattle.do_machine.specs.run.Send.{outs_by}
 
@@ -39,43 +31,11 @@ one_at P [] k x h e = absurd (cc (e))
 one_at P (y ∷ xs) zero x h e = let same : y ≡ x = cc (e) in subst P same h.0
 one_at P (y ∷ xs) (suc k) x h e = one_at P xs k x h.1 e
 
--- what a table's signatures keep to
-pub takes_few : (table : List Class) → All HasSignatures table → (method : MethodId)
-    (s : Signature) → signature_of table method ≡ Some s → length s.args ≤ 8
-takes_few table ok method s e = by_class (class_at table method.class) refl e
-  where
-    by_method : (c : Class) → HasSignatures c → (found : Option Method) →
-        slice_get c.methods method.index ≡ found →
-        option_map (λ m. m.signature) found ≡ Some s → length s.args ≤ 8
-    by_method c h None q e = absurd (cc (e))
-    by_method c h (Some m) q e =
-        let same : m.signature ≡ s = cc (e) in
-        let kept : IsMethodType m.signature =
-        one_at (λ (m : Method). IsMethodType m.signature) c.methods method.index m
-        (recursion_from_All (λ (m : Method). IsMethodType m.signature) c.methods h) q in
-        omega (arith, kept.few, ap (λ (x : Signature). length x.args) same)
-
-    by_class : (found : Option Class) → class_at table method.class ≡ found →
-        option_map (λ m. m.signature)
-        (option_and_then (λ c. slice_get c.methods method.index) found) ≡ Some s →
-        length s.args ≤ 8
-    by_class None q e = absurd (cc (e))
-    by_class (Some c) q e =
-        by_method c (one_at HasSignatures table method.class.0 c
-        (recursion_from_All HasSignatures table ok) q) (slice_get c.methods method.index) refl e
-
 -- a method is found of a class alone
 pub found_class : (table : List Class) (class : Option ClassId) (selector : List ℕ) (m : Found) →
     method_for table class selector ≡ Some m → (c : ClassId) × (class ≡ Some c)
 found_class table None selector m e = absurd (cc (e))
 found_class table (Some c) selector m e = (c, refl)
-
-module _ (table : List Class) (has : HasMethods table) where
-  -- a method that is found
-  pub found_few : (class : Option ClassId) (selector : List ℕ) (m : Found) →
-      method_for table class selector ≡ Some m → length m.signature.args ≤ 8
-  found_few class selector m e =
-      has.few m.id m.signature (signature_found table class selector m e)
 
 -- the marks of its places are few
 pub few_marks : (s : Signature) → length s.args ≤ 8 →

@@ -20,8 +20,7 @@ use Rattle.do_facts.proofs.methods.FewArguments.{takes_few}
 use Rattle.do_objects.specs.CanAct.{AllCanAct, CanAct, KeepsLocals}
 use Rattle.do_objects.specs.OwnClass.{AllSound}
 use Rattle.do_objects.specs.Reached.{after, reached}
-use Rattle.do_objects.proofs.Counts.{begun_locals, has_method}
-use Rattle.do_objects.proofs.Known.{HoldsAfter, HoldsBegun, Known}
+use Rattle.do_objects.proofs.Known.{begun_locals, has_method, HoldsAfter, HoldsBegun, Known}
 use Rattle.do_objects.proofs.Sound.{opens_sound, stays_sound}
 use Rattle.do_objects.proofs.Steps.{before_of}
 use Rattle.do_objects.proofs.Whole.{known_of, whole_of}
@@ -69,8 +68,8 @@ pub opens_able : (table : List Class) (seats : List Seat) → AllCanAct table (o
 opens_able table seats = record {
   each = λ port n h.
       let sorted = by_port seats in
-      opened table (map (λ s. s.node) sorted) (λ p (n : Node). AllByRecursion (CanAct table) n.stack)
-      (λ s. tt) sorted port n h;
+      opened table (map (λ s. s.node) sorted)
+      (λ p (n : Node). AllByRecursion (CanAct table) n.stack) (λ s. tt) sorted port n h;
 }
 
 -- they can act after any events

@@ -1,8 +1,7 @@
 -- What is found in a heap that grew, was written to, or lost objects.
 use Rattle.std.proofs.Common.{◌≡◌, ◌⊎◌, ◌<◌, ◌≤◌, ◌+◌, ◌==◌, ℕ, zero, suc, Bool, true, false, cond}
 use Rattle.std.proofs.Common.{List, [], ◌∷◌, ◌++◌, ◌||◌, filter, length, refl, sym, ap, ◌∙◌, arith}
-use Rattle.std.proofs.Common.{inl}
-use Rattle.std.proofs.Common.{inr}
+use Rattle.std.proofs.Common.{inl, inr}
 use Rattle.std.specs.Prelude.{None, Option, Some, find, option_map}
 use Rattle.std.specs.Option.{option_or}
 use Rattle.std.proofs.lemmas.List.Folds.{find-append}
@@ -59,8 +58,8 @@ struck_at p k [] = grind (arith)
 struck_at p k (x ∷ heap) = grind (arith, struck_at p k heap)
 
 -- what is found among few is found among many
-pub record AreFewer (few many : List Stored) : Type 0 where
-  pub found : (k : ℕ) (x : Stored) → stored k few ≡ Some x → stored k many ≡ Some x
+abbrev pub AreFewer : List Stored → List Stored → Type 0
+AreFewer few many = (k : ℕ) (x : Stored) → stored k few ≡ Some x → stored k many ≡ Some x
 
 -- nothing more is found
 pub none_more : (few many : List Stored) → AreFewer few many → (k : ℕ) → stored k many ≡ None →
@@ -69,12 +68,12 @@ none_more few many h k q = by (stored k few) refl
   where
     by : (found : Option Stored) → stored k few ≡ found → found ≡ None
     by None e = refl
-    by (Some x) e = absurd (absent x (stored k many) (h.found k x e) q)
+    by (Some x) e = absurd (absent x (stored k many) (h k x e) q)
 
 -- what a test of serials leaves
 fewer_struck : (p : ℕ → Bool) (heap : List Stored) →
     AreFewer (filter (λ x. p x.serial) heap) heap
-fewer_struck p heap = record { found = λ k x e. by k x (p k) (sym (struck_at p k heap) ∙ e) }
+fewer_struck p heap = λ k x e. by k x (p k) (sym (struck_at p k heap) ∙ e)
   where
     by : (k : ℕ) (x : Stored) (b : Bool) → cond b (stored k heap) None ≡ Some x →
         stored k heap ≡ Some x
@@ -91,7 +90,7 @@ fewer_round entry n heap =
 -- what rounds of striking leave
 pub fewer_left : (rounds : ℕ) (entry : ℕ → ℕ → Bool) (n : Node) (heap : List Stored) →
     AreFewer (struck_by rounds entry n heap) heap
-fewer_left zero entry n heap = record { found = λ k x e. e }
+fewer_left zero entry n heap = λ k x e. e
 fewer_left (suc rounds) entry n heap =
     by (length (struck entry n heap) == length heap)
     (fewer_left rounds entry n (struck entry n heap))
@@ -100,7 +99,5 @@ fewer_left (suc rounds) entry n heap =
         AreFewer (struck_by rounds entry n (struck entry n heap)) (struck entry n heap) →
         AreFewer
         (elim b [ true ↦ heap | false ↦ struck_by rounds entry n (struck entry n heap) ]) heap
-    by true r = record { found = λ k x e. e }
-    by false r = record {
-      found = λ k x e. (fewer_round entry n heap).found k x (r.found k x e);
-    }
+    by true r = λ k x e. e
+    by false r = λ k x e. fewer_round entry n heap k x (r k x e)

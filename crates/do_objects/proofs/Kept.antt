@@ -1,6 +1,6 @@
 -- What the effects of a node keep: what it stores, and that it is whole.
-use Rattle.std.proofs.Common.{◌≡◌, ◌⊎◌, ◌<◌, ◌≤◌, ◌+◌, ◌==◌, ℕ, Bool, List, []}
-use Rattle.std.proofs.Common.{length, refl, sym, ap, ◌∙◌, subst, arith, inl, inr}
+use Rattle.std.proofs.Common.{◌≡◌, ◌⊎◌, ◌<◌, ◌≤◌, ◌+◌, ◌==◌, ℕ, Bool, List, [], length, refl, sym}
+use Rattle.std.proofs.Common.{ap, ◌∙◌, subst, arith, inl, inr}
 use Rattle.std.specs.Prelude.{None, Option, Some}
 use Rattle.do_behave.specs.declared.act.Write.{Write}
 use Rattle.do_class.specs.declared.ids.ClassId.{ClassId}
@@ -15,8 +15,7 @@ use Rattle.do_objects.specs.OwnClass.{WasMadeOf}
 use Rattle.do_objects.proofs.Known.{Known}
 use Rattle.do_objects.proofs.Whole.{AreOwn, IsWhole, still_own}
 use Rattle.do_objects.proofs.Finding.{AreFewer, absent, fewer_left, found_behind, there}
-use Rattle.do_objects.proofs.Finding.{found_first}
-use Rattle.do_objects.proofs.Finding.{none_more, not_new}
+use Rattle.do_objects.proofs.Finding.{found_first, none_more, not_new}
 
 -- What a node stored is there after an effect, with these writes, and what it did not store is not
 -- there but under a new serial
@@ -164,7 +163,7 @@ module _ (entry : ℕ → ℕ → Bool) (n : Node) where
     given = λ k h. none_more (leaving entry n).node.heap n.heap fewer k (s.given k h);
     invocations =
         still_own W n (leaving entry n).node
-        (λ k class made. (made.0, λ x h. made.1 x (fewer.found k x h)))
+        (λ k class made. (made.0, λ x h. made.1 x (fewer k x h)))
         n.stack s.invocations;
   }
 
@@ -174,7 +173,7 @@ pub became : {W : Known} (writes : ℕ → List Write) (entry : ℕ → ℕ → 
     Became W writes n (leaving entry m).node
 became {W} writes entry n m h = record {
   kept = λ k x y there found.
-      let now = (fewer entry m).found k y found in
+      let now = fewer entry m k y found in
       let was = h.heap.kept k x there in
       cc (now, was);
   gone = λ k old q.

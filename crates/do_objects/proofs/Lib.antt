@@ -1,9 +1,7 @@
 pub mod Finding
 mod Kept
-mod Small
 mod Known
 pub mod Whole
-mod Counts
 pub mod Verdicts
 mod Runs
 mod Taken

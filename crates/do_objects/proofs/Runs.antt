@@ -1,10 +1,9 @@
 -- What a run, a start and a time-out of a node write, and that they keep what it stores.
-use Rattle.std.proofs.Common.{◌≡◌, ◌∙◌, ◌==◌, ℕ, true, cond, not, List, [], ◌∷◌, refl, sym}
-use Rattle.std.proofs.Common.{ap, length, subst}
+use Rattle.std.proofs.Common.{◌≡◌, ◌∙◌, ◌==◌, ℕ, cond, not, List, [], ◌∷◌, refl, sym, ap, length}
+use Rattle.std.proofs.Common.{subst}
 use Rattle.std.specs.Prelude.{None, Option, Some, option_map}
-use Rattle.do_base.specs.names.Names.{ObjectName}
 use Rattle.do_base.specs.declared.values.value.Value.{Value}
-use Rattle.do_base.specs.declared.events.exception.Exc.{Exc}
+use Rattle.do_base.specs.declared.values.value.Value.TheVariants.{Nil, Obj}
 use Rattle.do_class.specs.Class.{Class}
 use Rattle.do_sig.specs.Calls.{args_fit}
 use Rattle.do_behave.specs.declared.act.Act.{Act}
@@ -19,85 +18,87 @@ use Rattle.do_behave.specs.declared.invocation.InvState.TheVariants.{Waits}
 use Rattle.do_behave.specs.declared.invocation.Reason.TheVariants as reasons
 use Rattle.do_machine.specs.declared.node.Node.{Node}
 use Rattle.do_machine.specs.declared.state.Effect.{Effect}
+use Rattle.do_machine.specs.declared.verdict.Request.TheVariants as requests
 use Rattle.do_machine.specs.declared.verdict.SendAct.{SendAct}
 use Rattle.do_machine.specs.declared.verdict.Verdict.{Verdict}
-use Rattle.do_machine.specs.declared.verdict.Verdict.TheVariants.{Fails}
-use Rattle.do_machine.specs.Context.{Context, Found, RunContext, class_seen, method_for, own_class}
+use Rattle.do_machine.specs.declared.verdict.Verdict.TheVariants.{Fails, Makes, Returns, Says, Uses}
+use Rattle.do_machine.specs.Context.{Context, RunContext, class_seen, method_for, own_class}
 use Rattle.do_machine.specs.Effect.{only}
 use Rattle.do_machine.specs.Start.{begun, is_busy, start_effect}
-use Rattle.do_machine.specs.State.{is_own, own, stored}
+use Rattle.do_machine.specs.State.{own, stored}
 use Rattle.do_machine.specs.ends.TimeOut.{give_up, time_out, time_out_on}
-use Rattle.do_machine.specs.run.Acts.{act_rule}
-use Rattle.do_machine.specs.run.Fresh.{fresh, pushed}
+use Rattle.do_machine.specs.run.Acts.{act_rule, return_rule, root_rule, root_value, vend_rule}
+use Rattle.do_machine.specs.run.Fresh.{blank, fresh, pushed}
 use Rattle.do_machine.specs.run.Run.{Acting, answer_rule, next_act, run_effect, run_on, slots_seen}
 use Rattle.do_machine.specs.run.Run.{state_rule}
-use Rattle.do_machine.specs.run.Send.{inputs}
+use Rattle.do_machine.specs.run.Send.{inputs, message, outs_of, send_rule}
 use Rattle.do_machine.specs.run.Verdicts.{effect_of}
 use Rattle.do_facts.proofs.Chains.{either, found_or}
-use Rattle.do_facts.proofs.RulesOfActs.{IsFor, Sends, by_return, by_root, by_send, by_vend}
+use Rattle.do_facts.proofs.RulesOfActs.{Sends, by_return, by_root, by_send, by_vend}
 use Rattle.do_facts.proofs.methods.FewArguments.{inputs_length}
 use Rattle.do_objects.specs.Writes.{run_writes, writes_in, writes_of}
-use Rattle.do_objects.proofs.Counts.{fitting_few}
-use Rattle.do_objects.proofs.Known.{HoldsAfter, HoldsBegun, Known, begun_count}
+use Rattle.do_objects.proofs.Known.{fitting_few, HoldsAfter, HoldsBegun, Known}
 use Rattle.do_objects.proofs.Whole.{AreOwn, stored_made}
-use Rattle.do_objects.proofs.Kept.{Keeps, none, restacked, same_writes}
+use Rattle.do_objects.proofs.Taken.{lends}
+use Rattle.do_facts.proofs.Deliveries.{by_delivery}
+use Rattle.do_machine.specs.lend.Lending.{lends_of}
+use Rattle.do_objects.proofs.Kept.{makes, then_keeps, Keeps, none, restacked}
 use Rattle.do_facts.proofs.methods.MethodsFound.{method_found, signature_found}
-use Rattle.do_objects.proofs.Verdicts.{BeginsOwn, by_verdict, nothing, only_to}
-use Rattle.do_objects.proofs.Verdicts.{verdict_writes}
+use Rattle.do_objects.proofs.Verdicts.{Quiet, asks, delivers, fails, goes, methods, nothing}
+use Rattle.do_objects.proofs.Verdicts.{only_to, silent, used, writes_own}
 
 -- what an effect writes and keeps; where there is none, nothing is written
 abbrev pub KeepsIf : Known → (ℕ → List Write) → Node → Option Effect → Type 0
 KeepsIf W writes n None = (k : ℕ) → writes k ≡ []
 KeepsIf W writes n (Some e) = Keeps W writes n e.node
 
--- an effect that keeps with some writes keeps with equal ones
-pub keeps_as : (W : Known) (n : Node) (e : Option Effect) (writes others : ℕ → List Write) →
-    ((k : ℕ) → others k ≡ writes k) → KeepsIf W writes n e → KeepsIf W others n e
-keeps_as W n None writes others same h = λ k. same k ∙ h k
-keeps_as W n (Some e) writes others same h = same_writes n e.node writes others same h
-
--- a verdict that writes so much, and begins methods of the classes of stored objects alone
-record Fits (W : Known) (n : Node) (i : Invocation) (some : List Write) (v : Verdict) : Type 0 where
-  pub writes : verdict_writes v ≡ some
-  pub begins : BeginsOwn W n i v
-
-module _ (W : Known) (r : RunContext) (begin : HoldsBegun W r.context.table) where
-  -- a verdict that writes nothing
-  abbrev Quiet : Verdict → Type 0
-  Quiet v = Fits W r.context.node r.top [] v
-
-  -- an exception is such a one
-  fails : (e : Exc) → Quiet (Fails e)
-  fails e = record { writes = refl; begins = tt }
-
-  -- an invocation of an own object that a send begins
-  begins : (x : SendAct) (o : ObjectName) (m : Found) → IsFor r x o m →
-      is_own r.context.node o ≡ true →
-      (own_class r.context.node o.serial ≡ Some m.id.class)
-      × W m.id (begun_count (inputs m.signature x))
-  begins x o m is own =
-      let class = class_seen r.context o in (
-        ap (λ b. cond b (own_class r.context.node o.serial) (r.context.around.class_of o)) (sym own)
-            ∙ (method_found r.context.table class x.selector m is.method).0,
-        begin m (inputs m.signature x)
-            (signature_found r.context.table class x.selector m is.method)
-            (inputs_length m.signature.args x.args),
-      )
+module _ (W : Known) (r : RunContext) (begin : HoldsBegun W r.context.table)
+    (tied : r.context.node.stack ≡ r.top ∷ r.below) where
+  -- a verdict by which the node keeps what it stores, and writes nothing
+  abbrev Does : Verdict → Type 0
+  Does v = Quiet W r tied v
 
   -- what comes of a send
-  sends : (x : SendAct) → Sends Quiet r x
+  sends : (x : SendAct) → Sends Does r x
   sends x = record {
-    goes = record { writes = refl; begins = tt };
-    begins = λ o m is own. record { writes = refl; begins = begins x o m is own };
-    tells = λ o m packet to. record { writes = refl; begins = tt };
-    asks = λ o m packet to. record { writes = refl; begins = tt };
+    goes = goes W r tied x.into Nil x.pc;
+    begins = λ o m is own.
+        let class = class_seen r.context o in
+        let of = ap (λ b. cond b (own_class r.context.node o.serial) (r.context.around.class_of o))
+        (sym own)
+        ∙ (method_found r.context.table class x.selector m is.method).0 in
+        let known = begin m (inputs m.signature x)
+        (signature_found r.context.table class x.selector m is.method)
+        (inputs_length m.signature.args x.args) in
+        restacked r.context.node _ refl refl
+        (λ s. (
+          (stored_made r.context.node o.serial m.id.class s.given of, known),
+          methods W r tied s,
+        ));
+    tells = λ o m packet to.
+        lends r.context.node _ (lends_of o.node packet) (goes W r tied x.into Nil x.pc);
+    asks = λ o m packet to.
+        asks W r tied o.node (requests.Call m.id (message o x packet)) x.into
+        (outs_of m.signature x.from) x.pc;
   }
 
-  -- a verdict on an act writes what the act writes
-  by_act : (a : Act) → HoldsAfter W r.top a →
-      Fits W r.context.node r.top (writes_of a) (act_rule r a)
-  by_act (acts.Step pc locals handler writes) holds = record { writes = refl; begins = holds }
-  by_act (acts.New class into pc) holds = record { writes = refl; begins = tt }
+  -- an effect writes so much to the object of the top invocation
+  abbrev Writes : List Write → Effect → Type 0
+  Writes writes e = Keeps W (only_to r.top.object.serial writes) r.context.node e.node
+
+  -- a verdict by which nothing is written
+  quiet : (v : Verdict) → Does v → Writes [] (effect_of r v)
+  quiet v h = silent r.context.node (effect_of r v).node r.top.object.serial h
+
+  -- an act writes what it says
+  by_act : (a : Act) → HoldsAfter W r.top a → Writes (writes_of a) (effect_of r (act_rule r a))
+  by_act (acts.Step pc locals handler writes) holds =
+      writes_own W r tied pc locals handler writes holds
+  by_act (acts.New class into pc) holds =
+      quiet (Makes class into pc)
+      (then_keeps r.context.node _ _
+      (goes W r tied into (Obj (own r.context.node r.context.node.next_serial)) pc)
+      (makes _ (blank r.context.table class ∷ [])))
   by_act (acts.Send target selector args into from pc) holds =
       let x : SendAct = record {
         target = target;
@@ -107,42 +108,43 @@ module _ (W : Known) (r : RunContext) (begin : HoldsBegun W r.context.table) whe
         from = from;
         pc = pc;
       } in
-      by_send Quiet r (λ e h. fails e) x (sends x)
+      quiet (send_rule r x) (by_send Does r (λ e h. fails W r tied e) x (sends x))
   by_act (acts.Root port into pc) holds =
-      by_root Quiet r (λ e h. fails e) port into pc (record { writes = refl; begins = tt })
-      (λ port o. record { writes = refl; begins = tt })
+      quiet (root_rule r port into pc)
+      (by_root Does r (λ e h. fails W r tied e) port into pc
+      (goes W r tied into (root_value r.context.node) pc)
+      (λ port o. asks W r tied port requests.Root into [] pc))
   by_act (acts.Vend value pc) holds =
-      by_vend Quiet r (λ e h. fails e) value pc (λ root. record { writes = refl; begins = tt })
-  by_act (acts.Say value pc) holds = record { writes = refl; begins = tt }
+      quiet (vend_rule r value pc)
+      (by_vend Does r (λ e h. fails W r tied e) value pc
+      (λ root. restacked r.context.node _ refl refl (methods W r tied)))
+  by_act (acts.Say value pc) holds =
+      quiet (Says value pc) (restacked r.context.node _ refl refl (methods W r tied))
   by_act (acts.Return value) holds =
-      by_return Quiet r (λ e h. fails e) value (λ s. record { writes = refl; begins = tt })
-      (λ s. record { writes = refl; begins = tt })
-  by_act (acts.Raise e) holds = fails e
+      quiet (return_rule r value)
+      (by_return Does r (λ e h. fails W r tied e) value (λ s. returned Nil _)
+      (λ s. returned value _))
+    where
+      returned : (result : Value) (outs : List Value) → Does (Returns result outs)
+      returned result outs =
+          by_delivery (λ reason e. Keeps W none r.context.node e.node) r (delivers W r tied)
+          (Given result outs) r.top.reason
+  by_act (acts.Raise e) holds = quiet (Fails e) (fails W r tied e)
 
   -- an answer writes nothing
-  by_answer : (a : Answer) → Quiet (answer_rule a)
-  by_answer (Given v outs) = record { writes = refl; begins = tt }
-  by_answer (Raised e) = fails e
+  by_answer : (a : Answer) → Writes [] (effect_of r (answer_rule a))
+  by_answer (Given v outs) =
+      quiet (Uses v outs) (restacked r.context.node _ refl refl (used W r tied v outs))
+  by_answer (Raised e) = quiet (Fails e) (fails W r tied e)
 
-  module _ (tied : r.context.node.stack ≡ r.top ∷ r.below) where
-    -- a verdict that fits writes so much to the object of the top invocation
-    by_fit : (writes : List Write) (v : Verdict) → Fits W r.context.node r.top writes v →
-        Keeps W (only_to r.top.object.serial writes) r.context.node (effect_of r v).node
-    by_fit writes v h =
-        subst
-        (λ ws. Keeps W (only_to r.top.object.serial ws) r.context.node (effect_of r v).node)
-        h.writes (by_verdict W r tied v h.begins)
-
-    -- a run by the state of the top invocation
-    by_state : (act : Acting) → HoldsAfter W r.top (next_act act r) → (state : InvState) →
-        KeepsIf W (only_to r.top.object.serial (writes_in state (next_act act r)))
-        r.context.node (option_map (effect_of r) (state_rule act r state))
-    by_state act holds Running =
-        by_fit (writes_of (next_act act r)) (act_rule r (next_act act r))
-        (by_act (next_act act r) holds)
-    by_state act holds Below = λ k. nothing (r.top.object.serial == k)
-    by_state act holds (Waits call peer what) = λ k. nothing (r.top.object.serial == k)
-    by_state act holds (Answered a) = by_fit [] (answer_rule a) (by_answer a)
+  -- a run by the state of the top invocation
+  by_state : (act : Acting) → HoldsAfter W r.top (next_act act r) → (state : InvState) →
+      KeepsIf W (only_to r.top.object.serial (writes_in state (next_act act r)))
+      r.context.node (option_map (effect_of r) (state_rule act r state))
+  by_state act holds Running = by_act (next_act act r) holds
+  by_state act holds Below = λ k. nothing (r.top.object.serial == k)
+  by_state act holds (Waits call peer what) = λ k. nothing (r.top.object.serial == k)
+  by_state act holds (Answered a) = by_answer a
 
 module _ (W : Known) (act : Acting) (c : Context) (begin : HoldsBegun W c.table)
     (goes : (i : Invocation) (slots : List Value) → HoldsAfter W i (act c.table i slots)) where

@@ -1,6 +1,6 @@
 -- Nodes open sound and stay so, slots are written by own acts, and freed objects do not return.
-use Rattle.std.proofs.Common.{◌≡◌, ◌∙◌, ◌<◌, ℕ, List, [], ◌∷◌}
-use Rattle.std.proofs.Common.{map, refl, sym, ap, subst, arith, inr}
+use Rattle.std.proofs.Common.{◌≡◌, ◌∙◌, ◌<◌, ℕ, List, [], ◌∷◌, map, refl, sym, ap, subst, arith}
+use Rattle.std.proofs.Common.{inr}
 use Rattle.std.specs.Prelude.{None, Option, Some, option_and_then}
 use Rattle.do_base.specs.names.Names.{ObjectName}
 use Rattle.do_base.specs.declared.events.event.Event.{Event}

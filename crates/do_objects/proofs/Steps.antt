@@ -31,8 +31,7 @@ use Rattle.do_objects.proofs.Finding.{absent, there}
 use Rattle.do_objects.proofs.Kept.{Became, Keeps, became, same_writes, stayed, none}
 use Rattle.do_objects.proofs.Known.{HoldsAfter, HoldsBegun, Known}
 use Rattle.do_objects.proofs.Runs.{KeepsIf, by_run, by_start, by_time_out}
-use Rattle.do_objects.proofs.Small.{by_closing}
-use Rattle.do_objects.proofs.Taken.{by_take}
+use Rattle.do_objects.proofs.Taken.{by_closing, by_take}
 
 -- the effect that there is keeps with these writes
 keeps_there : (W : Known) (writes : ℕ → List Write) (n : Node) (found : Option Effect)

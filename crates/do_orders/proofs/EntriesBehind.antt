@@ -12,13 +12,12 @@ use Rattle.do_machine.specs.declared.state.Effect.{Effect}
 use Rattle.do_machine.specs.declared.state.State.{State}
 use Rattle.do_facts.proofs.machine.Entries.{entry_stays}
 use Rattle.do_facts.proofs.machine.follows.States.{requeued}
-use Rattle.do_facts.proofs.machine.passing.Commits.{entry_after}
-use Rattle.do_facts.proofs.machine.passing.EntriesStay.{entered_none}
+use Rattle.do_facts.proofs.machine.passing.Commits.{entered_none, entry_after}
+use Rattle.do_facts.proofs.machine.passing.EntriesOff.{left_off, others_off, own_off, reaches}
 use Rattle.do_facts.proofs.machine.passing.Lookups.{other_stays}
 use Rattle.do_facts.proofs.machine.passing.Passes.{Passes}
 use Rattle.do_facts.proofs.machine.passing.Takes.{comes}
 use Rattle.do_orders.specs.Moves.{without_first}
-use Rattle.do_orders.proofs.EntriesOff.{left_off, others_off, own_off, reaches}
 use Rattle.do_orders.proofs.Moving.{off_is}
 
 module _ (o : ObjectName) (port : ℕ) (apart : (o.node == port) ≡ false) (e : Effect) (S : State)
@@ -42,7 +41,7 @@ module _ (o : ObjectName) (port : ℕ) (apart : (o.node == port) ≡ false) (e :
   entries_of_effect passes =
       by_peer (commit port e S)
       (entry_after port o apart e S n false here linked (λ c. absurd (no c)) passes
-      ∙ entered_none o port apart S n here)
+      ∙ entered_none port o apart S n here)
       (λ peer q. entry_stays port peer o e S apart q)
     where
       no : false ≡ true → ⊥

@@ -1,7 +1,6 @@
 pub mod Stations
 pub mod Moving
 pub mod Commuting
-pub mod EntriesOff
 pub mod EntriesBehind
 pub mod SoundMoves
 pub mod Past

@@ -14,8 +14,6 @@ mod turns;
 mod weaving;
 
 pub use fault::WeaveFault;
-pub use laws::{
-    contradictions_stand, schedules_are_orders, schedules_give_records_again, woven_lines_are_good,
-};
+pub use laws::{schedules_are_orders, schedules_give_records_again, woven_lines_are_good};
 pub use machine::Machine;
 pub use weaving::weave;

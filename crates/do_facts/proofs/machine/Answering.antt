@@ -1,6 +1,6 @@
 -- Which invocation an answer goes to.
-use Rattle.std.proofs.Common.{◌≡◌, ◌||◌, ℕ, Bool, true, false, cond, not, List, [], ◌∷◌, ◌++◌}
-use Rattle.std.proofs.Common.{refl, sym, ap, ◌∙◌, subst, arith}
+use Rattle.std.proofs.Common.{◌≡◌, ◌||◌, ℕ, Bool, true, false, cond, not, List, [], ◌∷◌, ◌++◌, refl}
+use Rattle.std.proofs.Common.{sym, ap, ◌∙◌, subst, arith}
 use Rattle.std.specs.Prelude.{All, IfSome, Option, filter}
 use Rattle.std.specs.Bool.{beq}
 use Rattle.std.specs.List.{list_any}
@@ -20,8 +20,7 @@ use Rattle.do_machine.specs.Lists.{inserted}
 use Rattle.do_machine.specs.ends.TimeOut.{give_up, late_lt, time_out, time_out_on}
 use Rattle.do_facts.specs.laws.Calls.{IsGivenUp, answered_call}
 use Rattle.do_machine.specs.take.Awaiting.{AnsweredCall, answering, awaits, is_answered}
-use Rattle.do_machine.specs.take.Awaiting.{is_for_root}
-use Rattle.do_machine.specs.take.Awaiting.{stack_answered, with_answer}
+use Rattle.do_machine.specs.take.Awaiting.{is_for_root, stack_answered, with_answer}
 use Rattle.do_machine.proofs.Inserting.{inserted_moves}
 
 -- no invocation of these waits for the answer

@@ -1,10 +1,8 @@
--- What is sent stands behind what was sent before.
-use Rattle.std.proofs.Common.{◌≡◌, ℕ, Bool, true, false, cond, List, [], ◌∷◌, ◌++◌, map, refl, ap}
-use Rattle.std.proofs.Common.{arith}
-use Rattle.std.proofs.Common.{◌∙◌, sym, ◌==◌}
-use Rattle.std.specs.Prelude.{Option, Some, option_and_then, option_map}
+-- What is in the queues of stations once one queue has other items, or an effect sent some.
+use Rattle.std.proofs.Common.{◌≡◌, ◌==◌, ◌&&◌, ◌++◌, ℕ, cond, List, [], ◌∷◌, map, refl, ap, arith}
+use Rattle.std.specs.Prelude.{Bool, None, Option, Some, false, option_and_then, option_map, true}
 use Rattle.std.specs.List.{find}
-use Rattle.std.proofs.lemmas.Bool.{eqb-true}
+use Rattle.std.proofs.lemmas.Grind.{common_steps}
 use Rattle.do_machine.specs.declared.item.Item.{Item}
 use Rattle.do_machine.specs.declared.state.Effect.{Effect}
 use Rattle.do_machine.specs.declared.state.Parcel.{Parcel}
@@ -12,28 +10,65 @@ use Rattle.do_machine.specs.declared.state.Queue.{Queue}
 use Rattle.do_machine.specs.declared.state.Station.{Station}
 use Rattle.do_machine.specs.Commit.{committed, items_to, with_sent}
 use Rattle.do_machine.specs.Lists.{change_first}
-use Rattle.do_machine.specs.State.{queue_to}
+use Rattle.do_machine.specs.State.{queue_to, with_items, with_queue}
 
 -- the items that wait in the queue to a peer
 abbrev pub waiting_for : ℕ → List Queue → Option (List Item)
 waiting_for to qs = option_map (λ q. q.items) (find (λ q. to == q.to) qs)
 
--- what was sent stands behind the items of its queue
-sent_behind : (to : ℕ) (sent : List Parcel) (qs : List Queue) (waiting : List Item) →
-    waiting_for to qs ≡ Some waiting →
-    waiting_for to (map (with_sent sent) qs) ≡ Some (waiting ++ items_to to sent)
-sent_behind to sent [] waiting h = cc
-sent_behind to sent (q ∷ qs) waiting h = grind (arith, h, sent_behind to sent qs waiting)
-
 -- the queue to a peer of the station of a port
 abbrev pub queue_among : ℕ → ℕ → List Station → Option (List Item)
 queue_among port to ss = option_and_then (λ s. queue_to to s) (find (λ s. port == s.port) ss)
+
+-- a queue is there as it was, with other items if it is the one that has them
+waits_with : (to : ℕ) (items : List Item) (b : ℕ) (qs : List Queue) →
+    waiting_for b (change_first (λ q. to == q.to) (with_items items) qs)
+    ≡ cond (b == to) (option_map (λ w. items) (waiting_for b qs)) (waiting_for b qs)
+waits_with to items b [] = grind (arith, common_steps)
+waits_with to items b (q ∷ qs) = grind (arith, common_steps, waits_with to items b qs)
+
+-- so it is with the queues of all stations
+pub queue_with : (from to : ℕ) (items : List Item) (a b : ℕ) (ss : List Station) →
+    queue_among a b (change_first (λ s. from == s.port) (with_queue to items) ss)
+    ≡ cond ((a == from) && (b == to)) (option_map (λ w. items) (queue_among a b ss))
+    (queue_among a b ss)
+queue_with from to items a b [] = grind (arith, common_steps)
+queue_with from to items a b (s ∷ ss) =
+    grind (arith, common_steps, waits_with to items b s.queues, queue_with from to items a b ss)
+
+-- a queue has what was sent to its peer behind what waits
+waits_behind : (b : ℕ) (sent : List Parcel) (qs : List Queue) →
+    waiting_for b (map (with_sent sent) qs)
+    ≡ option_map (λ w. w ++ items_to b sent) (waiting_for b qs)
+waits_behind b sent [] = refl
+waits_behind b sent (q ∷ qs) = grind (arith, common_steps, waits_behind b sent qs)
+
+-- so have those of the station of an effect, and no others
+pub queue_behind : (port a b : ℕ) (e : Effect) (ss : List Station) →
+    queue_among a b (change_first (λ s. port == s.port) (committed e) ss)
+    ≡ cond (a == port) (option_map (λ w. w ++ items_to b e.sent) (queue_among a b ss))
+    (queue_among a b ss)
+queue_behind port a b e [] = grind (arith, common_steps)
+queue_behind port a b e (s ∷ ss) =
+    grind (arith, common_steps, waits_behind b e.sent s.queues, queue_behind port a b e ss)
 
 -- an effect's items stand behind those of the queue
 pub grows_behind : (port to : ℕ) (e : Effect) (ss : List Station) (waiting : List Item) →
     queue_among port to ss ≡ Some waiting →
     queue_among port to (change_first (λ s. port == s.port) (committed e) ss)
     ≡ Some (waiting ++ items_to to e.sent)
-grows_behind port to e [] waiting h = cc
-grows_behind port to e (s ∷ ss) waiting h =
-    grind (arith, h, sent_behind to e.sent s.queues waiting, grows_behind port to e ss waiting)
+grows_behind port to e ss waiting h =
+    grind (arith, common_steps, h, queue_behind port port to e ss)
+
+-- where there is no queue once items were changed, there was none
+pub none_before : (b : Bool) (f : List Item → List Item) (found : Option (List Item)) →
+    cond b (option_map f found) found ≡ None → found ≡ None
+none_before true f None h = refl
+none_before true f (Some w) h = absurd (cc (h))
+none_before false f found h = h
+
+-- and where there was none, there is none
+pub none_then : (b : Bool) (f : List Item → List Item) (found : Option (List Item)) →
+    found ≡ None → cond b (option_map f found) found ≡ None
+none_then true f found h = ap (option_map f) h
+none_then false f found h = h

@@ -7,4 +7,5 @@ pub mod Lookups
 pub mod Linked
 pub mod NoQueue
 pub mod Commits
+pub mod EntriesOff
 pub mod EntriesStay

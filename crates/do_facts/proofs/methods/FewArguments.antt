@@ -1,4 +1,4 @@
--- A method takes 16 arguments at most, and as many values are passed.
+-- A method takes 8 arguments at most, and as many values are passed.
 use Rattle.std.proofs.Common.{◌≡◌, ◌∙◌, ◌≤◌, ◌&&◌, ℕ, Bool, true, false, List, [], ◌∷◌, length, map}
 use Rattle.std.proofs.Common.{refl, ap, arith, subst, suc}
 use Rattle.std.specs.Prelude.{None, Option, Some, option_and_then, option_map, slice_get, slice_set}
@@ -23,10 +23,10 @@ use Rattle.do_machine.specs.run.Changes.{with_outs}
 use Rattle.do_machine.specs.run.Send.{inputs_by}
 use Rattle.do_facts.proofs.methods.MethodsFound.{signature_found}
 
--- each method of the table takes at most 16 arguments
+-- each method of the table takes at most 8 arguments
 abbrev pub TakesFew : List Class → Type 0
 TakesFew table =
-    (id : MethodId) (s : Signature) → signature_of table id ≡ Some s → length s.args ≤ 16
+    (id : MethodId) (s : Signature) → signature_of table id ≡ Some s → length s.args ≤ 8
 
 -- what is at a place of a list has what each element has
 all_at : {X : Type 0} (P : X → Type 0) (xs : List X) (k : ℕ) (x : X) → All P xs →
@@ -41,7 +41,7 @@ takes_few table all id s h = by (class_at table id.class) refl h
   where
     in_method : (c : Class) → HasSignatures c → (m : Option Method) →
         slice_get c.methods id.index ≡ m → option_map (λ m. m.signature) m ≡ Some s →
-        length s.args ≤ 16
+        length s.args ≤ 8
     in_method c each None at q = absurd (cc)
     in_method c each (Some m) at q =
         let is : m.signature ≡ s = cc in
@@ -51,7 +51,7 @@ takes_few table all id s h = by (class_at table id.class) refl h
 
     by : (c : Option Class) → class_at table id.class ≡ c →
         option_map (λ m. m.signature) (option_and_then (λ c. slice_get c.methods id.index) c)
-        ≡ Some s → length s.args ≤ 16
+        ≡ Some s → length s.args ≤ 8
     by None at q = absurd (cc)
     by (Some c) at q =
         in_method c (all_at HasSignatures table id.class.0 c all at)
@@ -60,7 +60,7 @@ takes_few table all id s h = by (class_at table id.class) refl h
 -- so does a method that is found for a selector
 pub found_few : (table : List Class) → TakesFew table → (class : Option ClassId)
     (selector : List ℕ) (m : Found) → method_for table class selector ≡ Some m →
-    length m.signature.args ≤ 16
+    length m.signature.args ≤ 8
 found_few table few class selector m found =
     few m.id m.signature (signature_found table class selector m found)
 

@@ -1,8 +1,8 @@
 -- A step takes one item out of one queue at most, or puts one end in, and changes else the ends of
 -- its node's queues.
-use Rattle.std.proofs.Common.{◌≡◌, ◌==◌, ◌&&◌, ◌++◌, ℕ, Bool, true, false, List, [], ◌∷◌}
-use Rattle.std.proofs.Common.{refl, sym, ap, ◌∙◌, subst, append-nil, append_assoc}
-use Rattle.std.specs.Prelude.{Some, option_and_then}
+use Rattle.std.proofs.Common.{◌≡◌, ◌==◌, ◌&&◌, ◌++◌, ℕ, Bool, true, false, List, [], ◌∷◌, refl, sym}
+use Rattle.std.proofs.Common.{ap, ◌∙◌, subst, append-nil, append_assoc}
+use Rattle.std.specs.Prelude.{Some, cond, option_and_then, option_map}
 use Rattle.std.specs.List.{insert}
 use Rattle.std.proofs.lemmas.Bool.{eqb-true}
 use Rattle.do_base.specs.declared.events.event.Event.{Event}
@@ -20,8 +20,8 @@ use Rattle.do_machine.specs.State.{change, queue, queue_to, with_queue}
 use Rattle.do_machine.specs.held.Leaving.{leaving}
 use Rattle.do_facts.specs.laws.Entries.{IsNoStepOf}
 use Rattle.do_facts.proofs.machine.Frame.{elsewhere}
-use Rattle.do_facts.proofs.machine.Queues.{grows_behind}
-use Rattle.do_facts.proofs.machine.passing.Lookups.{elsewhere_stays, other_stays, that_changed}
+use Rattle.do_facts.proofs.machine.Queues.{grows_behind, queue_with}
+use Rattle.do_facts.proofs.machine.passing.Lookups.{that_changed}
 use Rattle.do_facts.specs.steps.IsStep.{Acts, Checks, IsStep, Loses, Skips, Takes}
 use Rattle.do_facts.specs.steps.Queues.{IsLost, IsTaken, StandBehind, touches}
 use Rattle.do_facts.proofs.steps.OthersStay.{apart_act}
@@ -42,16 +42,9 @@ move_leaves_queues port from to e S h =
 pub requeue_leaves : (a b : ℕ) (items : List Item) (S : State) (from to : ℕ) →
     ((from == a) && (to == b)) ≡ false →
     queue (change a (with_queue b items) S) from to ≡ queue S from to
-requeue_leaves a b items S from to h = go (to == b) refl h
-  where
-    go : (t : Bool) → (to == b) ≡ t → ((from == a) && t) ≡ false →
-        queue (change a (with_queue b items) S) from to ≡ queue S from to
-    go false e k = other_stays a b items S.stations from to e
-    go true e k = elsewhere_stays a b items S.stations from to (first (from == a) k)
-      where
-        first : (c : Bool) → (c && true) ≡ false → c ≡ false
-        first true q = q
-        first false q = refl
+requeue_leaves a b items S from to h =
+    queue_with a b items from to S.stations
+    ∙ ap (λ t. cond t (option_map (λ w. items) (queue S from to)) (queue S from to)) h
 
 -- a queue of another node, which the event does not touch, stays
 pub queue_stays : {table : List Class} {act : Acting} (S : State)

@@ -1,11 +1,12 @@
 -- Effects of which something holds: of their node, and of each item that they send.
-use Rattle.std.proofs.Common.{◌≡◌, ℕ, List, [], ◌∷◌, ap, subst}
+use Rattle.std.proofs.Common.{◌≡◌, ℕ, List, [], ◌∷◌, ap, inl, inr, refl, subst}
 use Rattle.std.specs.Prelude.{None, Option, Some, unwrap_or}
 use Rattle.std.specs.List.{AllByRecursion}
 use Rattle.do_base.specs.declared.events.shown.Shown.{Shown}
 use Rattle.do_machine.specs.declared.item.Item.{Item}
 use Rattle.do_machine.specs.declared.node.Node.{Node}
 use Rattle.do_machine.specs.declared.state.Effect.{Effect}
+use Rattle.do_machine.specs.Lists.{IsIn}
 use Rattle.do_machine.specs.Effect.{each, only, queueing, showing, ◌>>=◌}
 use Rattle.do_facts.proofs.EachOfLists.{each_joined}
 
@@ -42,13 +43,20 @@ module _ {G : Node → Type 0} {E : ℕ → Item → Type 0} where
         sent = each_joined (λ p. E p.to p.item) e.sent (next e.node).sent h.sent d.sent;
       }
 
-  -- an effect for each element of a list
+  -- an effect for each element of a list, each of which is in it
+  pub each_within : {X : Type 0} (f : X → Node → Effect) (xs : List X) →
+      ((x : X) → IsIn xs x → (n : Node) → G n → Done G E (f x n)) → (n : Node) → G n →
+      Done G E (each f xs n)
+  each_within f [] k n h = alone n h
+  each_within f (x ∷ xs) k n h =
+      then_done (f x n) (each f xs) (k x (inl refl) n h)
+      (λ m g. each_within f xs (λ y i. k y (inr i)) m g)
+
+  -- an effect for each element of any list
   pub each_done : {X : Type 0} (f : X → Node → Effect) →
       ((x : X) (n : Node) → G n → Done G E (f x n)) → (xs : List X) (n : Node) → G n →
       Done G E (each f xs n)
-  each_done f k [] n h = alone n h
-  each_done f k (x ∷ xs) n h =
-      then_done (f x n) (each f xs) (k x n h) (λ m g. each_done f k xs m g)
+  each_done f k xs n h = each_within f xs (λ x i. k x) n h
 
   -- the effect that there is
   pub done_there : (found : Option Effect) (e : Effect) → DoneIf G E found → found ≡ Some e →

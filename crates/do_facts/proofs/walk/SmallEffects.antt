@@ -15,19 +15,24 @@ use Rattle.do_machine.specs.lend.Asking.{with_wanted, without_wanted}
 use Rattle.do_facts.proofs.Chains.{either, not_closed}
 use Rattle.do_facts.proofs.walk.Done.{Done, alone, each_done, queues, then_done}
 
--- What is to hold of nodes and items, so that it does of these effects: an object is asked for over
--- an open end, an ask is over and its lender is told over an open end, and an ask is answered by
--- whether the object is stored
+-- What is to hold of nodes and items, so that it does of these effects: an ask is over, and its
+-- lender is told over an open end
 pub record Small (G : Node → Type 0) (E : ℕ → Item → Type 0) : Type 0 where
-  pub asks : (w : Wanted) (n : Node) → is_open n w.object.node ≡ true → G n →
-      G (with_wanted w n) × E w.object.node (items.Ask w.object.serial w.token)
   pub over : (w : Wanted) (n : Node) → G n → G (without_wanted w n)
   pub settles : (w : Wanted) (n : Node) → is_open n w.token.lender ≡ true → G n →
       E w.token.lender (items.Settled w.token.number)
-  pub grants : (peer serial : ℕ) (token : TokenName) (n : Node) →
-      is_some (stored serial n.heap) ≡ true → G n → E peer (items.Granted serial token)
-  pub refuses : (peer serial : ℕ) (token : TokenName) (n : Node) →
-      is_some (stored serial n.heap) ≡ false → G n → E peer (items.Gone serial token)
+
+module _ {G : Node → Type 0} {E : ℕ → Item → Type 0} where
+  -- an ask is answered, by whether the object is stored
+  pub by_granting : (peer serial : ℕ) (token : TokenName) (n : Node) →
+      (is_some (stored serial n.heap) ≡ true → E peer (items.Granted serial token)) →
+      (is_some (stored serial n.heap) ≡ false → E peer (items.Gone serial token)) → G n →
+      Done G E (granting peer serial token n)
+  by_granting peer serial token n grants refuses h =
+      either (Done G E) (is_some (stored serial n.heap))
+      (queueing peer (items.Granted serial token) n) (queueing peer (items.Gone serial token) n)
+      (λ e. queues peer (items.Granted serial token) n (grants e) h)
+      (λ e. queues peer (items.Gone serial token) n (refuses e) h)
 
 module _ {G : Node → Type 0} {E : ℕ → Item → Type 0} (may : Small G E) where
   -- a lend that is over
@@ -37,28 +42,22 @@ module _ {G : Node → Type 0} {E : ℕ → Item → Type 0} (may : Small G E) w
       (λ o. queues w.token.lender (items.Settled w.token.number) n
       (may.settles w n (not_closed (is_open n w.token.lender) o) h) h)
 
-  -- an object that is asked for
-  pub by_asking : (w : Wanted) (n : Node) → G n → Done G E (asking w n)
-  by_asking w n h =
+  -- an object that is asked for, where it may be over an open end
+  pub by_asking : (w : Wanted) (n : Node) →
+      (is_open n w.object.node ≡ true →
+      G (with_wanted w n) × E w.object.node (items.Ask w.object.serial w.token)) → G n →
+      Done G E (asking w n)
+  by_asking w n asks h =
       either (Done G E) (not (is_open n w.object.node)) (settling w n) _
       (λ _. by_settling w n h)
       (λ o. either (Done G E) (list_any (same_wanted w) n.asked) (only n) _ (λ _. alone n h)
       (λ _.
-      let asked = may.asks w n (not_closed (is_open n w.object.node) o) h in
+      let asked = asks (not_closed (is_open n w.object.node) o) in
       queues w.object.node (items.Ask w.object.serial w.token) (with_wanted w n) asked.1 asked.0))
 
   -- an ask that is over
   pub by_ask_over : (w : Wanted) (n : Node) → G n → Done G E (ask_over w n)
   by_ask_over w n h = by_settling w (without_wanted w n) (may.over w n h)
-
-  -- an ask that is answered
-  pub by_granting : (peer serial : ℕ) (token : TokenName) (n : Node) → G n →
-      Done G E (granting peer serial token n)
-  by_granting peer serial token n h =
-      either (Done G E) (is_some (stored serial n.heap))
-      (queueing peer (items.Granted serial token) n) (queueing peer (items.Gone serial token) n)
-      (λ e. queues peer (items.Granted serial token) n (may.grants peer serial token n e h) h)
-      (λ e. queues peer (items.Gone serial token) n (may.refuses peer serial token n e h) h)
 
   -- an end that is closed, where the node that has parted is so, and the end that is told
   pub by_closing : (peer : ℕ) (n : Node) → G (parted peer n) →

@@ -1,11 +1,13 @@
 -- What a take keeps and sends, whatever the item.
 use Rattle.std.proofs.Common.{◌≡◌, ℕ, true, not, List, refl}
-use Rattle.std.specs.Prelude.{Err, None, Ok, Option, Result, Some}
+use Rattle.std.specs.Prelude.{Err, None, Ok, Option, Result, Some, false, is_some}
 use Rattle.do_base.specs.declared.events.exception.Exc.{Exc}
 use Rattle.do_base.specs.declared.events.exception.Exc.TheVariants.{Deep, NotUnderstood, NotVended}
 use Rattle.do_base.specs.declared.events.exception.Exc.TheVariants.{TypeFault}
 use Rattle.do_base.specs.declared.events.shown.Shown.TheVariants as shown
 use Rattle.do_base.specs.declared.values.value.Value.{Value}
+use Rattle.do_base.specs.names.Names.{ObjectName, TokenName}
+use Rattle.do_class.specs.declared.ids.ClassId.{ClassId}
 use Rattle.do_class.specs.declared.ids.MethodId.{MethodId}
 use Rattle.do_class.specs.declared.packet.Name.{Name}
 use Rattle.do_class.specs.declared.packet.Name.TheVariants.{Lent, Mine, Yours}
@@ -23,9 +25,10 @@ use Rattle.do_machine.specs.Context.{Context, Found, method_for, own_class}
 use Rattle.do_machine.specs.Effect.{only}
 use Rattle.do_machine.specs.Items.{exported}
 use Rattle.do_machine.specs.Objects.{object_at}
-use Rattle.do_machine.specs.State.{own}
+use Rattle.do_machine.specs.Lists.{IsIn}
+use Rattle.do_machine.specs.State.{is_open, own, stored}
 use Rattle.do_machine.specs.ends.Closing.{parted, serials_of}
-use Rattle.do_machine.specs.lend.Asking.{wanted}
+use Rattle.do_machine.specs.lend.Asking.{wanted, with_wanted}
 use Rattle.do_machine.specs.lend.Lending.{with_settled}
 use Rattle.do_machine.specs.run.Fresh.{fresh, is_full, pushed, with_objects}
 use Rattle.do_machine.specs.take.Awaiting.{AnsweredCall, answering, values_answer}
@@ -35,7 +38,7 @@ use Rattle.do_machine.specs.take.Take.{arrival, holding, method_call, root_call,
 use Rattle.do_machine.specs.take.Take.{take_effect, values_arrival}
 use Rattle.do_facts.proofs.Chains.{either, found_or, not_closed}
 use Rattle.do_facts.proofs.RulesOfActs.{is_raised}
-use Rattle.do_facts.proofs.walk.Done.{Done, alone, each_done, queues, shows, then_done}
+use Rattle.do_facts.proofs.walk.Done.{Done, alone, each_within, queues, shows, then_done}
 use Rattle.do_facts.proofs.walk.SmallEffects.{Small, by_ask_over, by_asking, by_closing}
 use Rattle.do_facts.proofs.walk.SmallEffects.{by_granting}
 
@@ -59,6 +62,14 @@ packet_in _ = None
 pub record Takes (G : Node → Type 0) (E : ℕ → Item → Type 0) (c : Context) (from : ℕ)
     (item : Item) : Type 0 where
   pub small : Small G E
+  pub asks : (packet : Packet) → packet_in item ≡ Some packet → (o : ObjectName)
+      (class : ClassId) (token : ℕ) → IsIn packet.names (Lent o class token) → (n : Node) →
+      is_open n o.node ≡ true → G n → G (with_wanted (wanted o from token) n)
+      × E o.node (items.Ask o.serial (wanted o from token).token)
+  pub grants : (serial : ℕ) (token : TokenName) → item ≡ items.Ask serial token → (n : Node) →
+      is_some (stored serial n.heap) ≡ true → G n → E from (items.Granted serial token)
+  pub lacks : (serial : ℕ) (token : TokenName) → item ≡ items.Ask serial token → (n : Node) →
+      is_some (stored serial n.heap) ≡ false → G n → E from (items.Gone serial token)
   pub makes : (packet : Packet) → packet_in item ≡ Some packet → (n : Node) → G n →
       G (with_objects (arrived c from packet).copies n)
   pub begins : (reason : Reason) (m : Message) (f : Found) → packet_in item ≡ Some m.packet →
@@ -77,18 +88,21 @@ pub record Takes (G : Node → Type 0) (E : ℕ → Item → Type 0) (c : Contex
       G (parted from n) × E from (items.End (serials_of from n.held))
 
 module _ {G : Node → Type 0} {E : ℕ → Item → Type 0} (c : Context) (from : ℕ) where
-  -- a name that is received
-  by_name : Small G E → (name : Name) (n : Node) → G n → Done G E (receiving_name from name n)
-  by_name small (Mine serial class) n h = alone n h
-  by_name small (Yours serial) n h = alone n h
-  by_name small (Lent o class token) n h = by_asking small (wanted o from token) n h
-
   module _ (item : Item) (may : Takes G E c from item) where
+    -- a name that is received
+    by_name : (packet : Packet) → packet_in item ≡ Some packet → (name : Name) →
+        IsIn packet.names name → (n : Node) → G n → Done G E (receiving_name from name n)
+    by_name packet is (Mine serial class) among n h = alone n h
+    by_name packet is (Yours serial) among n h = alone n h
+    by_name packet is (Lent o class token) among n h =
+        by_asking may.small (wanted o from token) n
+        (λ ends. may.asks packet is o class token among n ends h) h
+
     -- a message that is received
     pub by_receiving : (packet : Packet) → packet_in item ≡ Some packet → (n : Node) → G n →
         Done G E (receiving c from packet n)
     by_receiving packet is n h =
-        each_done (receiving_name from) (by_name may.small) packet.names
+        each_within (receiving_name from) packet.names (by_name packet is)
         (with_objects (arrived c from packet).copies n) (may.makes packet is n h)
 
     -- a message that is received, and what its values come to
@@ -146,7 +160,9 @@ module _ {G : Node → Type 0} {E : ℕ → Item → Type 0} (c : Context) (from
       by_received (items.RootAnswer number packet) may packet refl
       (values_arrival c (root_call from number))
       (λ n h. alone _ (may.answers (root_call from number) packet refl n h))
-  by_arrival (items.Ask serial token) may = by_granting may.small from serial token
+  by_arrival (items.Ask serial token) may =
+      λ n h. by_granting from serial token n (λ e. may.grants serial token refl n e h)
+      (λ e. may.lacks serial token refl n e h) h
   by_arrival (items.Granted serial token) may =
       by_ask_over may.small (wanted (object_at from serial) token.lender token.number)
   by_arrival (items.Gone serial token) may =

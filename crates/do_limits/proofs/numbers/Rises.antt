@@ -1,8 +1,7 @@
 -- How far an effect raises the numbers of its node.
 use Rattle.do_limits.proofs.Signatures.{HasMethods}
 use Rattle.std.specs.List.{AllByRecursion, filter_map}
-use Rattle.std.proofs.Common.{◌≡◌, ◌+◌, ◌≤◌, ℕ, Bool, true, false, cond, not, List, [], ◌∷◌}
-use Rattle.std.proofs.Common.{length, refl, ap, ◌∙◌, arith}
+use Rattle.std.proofs.Common.{◌≡◌, ◌+◌, ◌≤◌, ℕ, List, [], ◌∷◌, length, refl, ap, ◌∙◌, arith}
 use Rattle.std.proofs.lemmas.List.{length-map}
 use Rattle.std.specs.Prelude.{None, Option, Some, option_map}
 use Rattle.do_base.specs.declared.values.value.Value.{Value}
@@ -10,25 +9,19 @@ use Rattle.do_class.specs.declared.packet.Packet.{Packet}
 use Rattle.do_behave.specs.declared.invocation.Answer.TheVariants.{Given}
 use Rattle.do_behave.specs.declared.invocation.Invocation.{Invocation}
 use Rattle.do_behave.specs.declared.invocation.Reason.TheVariants as reasons
-use Rattle.do_base.specs.declared.events.exception.Exc.{Exc}
 use Rattle.do_base.specs.declared.values.value.Value.TheVariants.{Nil}
-use Rattle.do_behave.specs.declared.invocation.Answer.{Answer}
-use Rattle.do_behave.specs.declared.invocation.Answer.TheVariants.{Raised}
-use Rattle.do_behave.specs.declared.invocation.Handler.{Handler}
-use Rattle.do_behave.specs.declared.invocation.Reason.{Reason}
 use Rattle.do_class.specs.declared.packet.Name.{Name}
 use Rattle.do_class.specs.declared.packet.Name.TheVariants.{Lent, Mine, Yours}
 use Rattle.do_packet.specs.Copies.{most_copies}
 use Rattle.do_packet.specs.Limits.{KeepsLimits, most_names}
 use Rattle.do_limits.proofs.Senders.{ContextIsSendable}
-use Rattle.do_machine.specs.Effect.{only}
-use Rattle.do_machine.specs.Packing.{packed_for}
-use Rattle.do_machine.specs.State.{is_open}
 use Rattle.do_machine.specs.lend.Lending.{lend_of, posting}
-use Rattle.do_machine.specs.run.Answers.{answer_placed, replying}
-use Rattle.do_facts.proofs.Deliveries.{packed_answer}
+use Rattle.do_machine.specs.run.Answers.{answer_placed}
+use Rattle.do_facts.proofs.Deliveries.{Delivers, by_delivery, by_failing}
+use Rattle.do_facts.proofs.walk.Done.{each_done}
+use Rattle.do_facts.proofs.walk.SmallEffects.{by_ask_over, by_granting}
 use Rattle.do_limits.specs.SendableActs.{KeepsSendable}
-use Rattle.do_limits.specs.SendableStates.{InvocationIsSendable}
+use Rattle.do_limits.specs.SendableStates.{InvocationIsSendable, ItemIsSendable}
 use Rattle.do_limits.proofs.runs.Runs.{judged}
 use Rattle.do_limits.proofs.runs.Verdicts.{RequestIsSendable, VerdictIfSendable, VerdictIsSendable}
 use Rattle.do_limits.proofs.runs.Verdicts.{message_keeps}
@@ -50,15 +43,13 @@ use Rattle.do_machine.specs.run.Fresh.{with_objects}
 use Rattle.do_machine.specs.run.Run.{Acting, run_effect, run_on, state_rule}
 use Rattle.do_machine.specs.run.Verdicts.{effect_of, requesting, waits_for}
 use Rattle.do_machine.specs.run.Changes.{goes_on, stands, uses_number}
-use Rattle.do_machine.specs.run.Delivery.{delivery, failing, popped, with_top}
+use Rattle.do_machine.specs.run.Delivery.{popped, with_top}
 use Rattle.do_machine.specs.take.Receipt.{arrived, received, receiving, receiving_name}
 use Rattle.do_machine.specs.take.Requests.{request}
 use Rattle.do_machine.specs.take.Take.{arrival, holding, method_call, root_call, take_effect}
 use Rattle.do_machine.specs.take.Take.{values_arrival}
-use Rattle.do_limits.specs.SendableStates.{ItemIsSendable}
-use Rattle.do_limits.proofs.numbers.Same.{Same, SameIf, closing_same, numbers, oneway_same}
-use Rattle.do_limits.proofs.numbers.Same.{granting_same, name_same, over_same}
-use Rattle.do_limits.proofs.numbers.Same.{request_same, same_each}
+use Rattle.do_limits.proofs.numbers.Same.{Same, SameIf, closing_same, numbers, name_same}
+use Rattle.do_limits.proofs.numbers.Same.{request_same, small}
 
 -- By an effect a node makes one call at most, as many objects as a message copies, and as many
 -- lends as a message names objects
@@ -109,39 +100,20 @@ module _ (r : RunContext) where
   abbrev n : Node
   n = r.context.node
 
-  -- whichever of two effects comes
-  either_rises : (b : Bool) (e d : Effect) → Rises n e → Rises n d → Rises n (cond b e d)
-  either_rises true e d h k = h
-  either_rises false e d h k = k
-
-  -- an answer, packed or too large
-  packed_rises : (peer number : ℕ) (found : Option Packet) →
-      ((p : Packet) → found ≡ Some p → KeepsLimits p) →
-      Rises n (packed_answer (popped r) peer number found)
-  packed_rises peer number None h = same_rises n _ refl
-  packed_rises peer number (Some p) h =
-      posting_rises n (popped r) peer p (items.Reply number p) (h p refl) (omega arith) refl refl
-
-  -- an answer that goes back to a peer
-  replying_rises : (peer number : ℕ) (a : Answer) → Rises n (replying r peer number a (popped r))
-  replying_rises peer number (Raised e) = same_rises n _ refl
-  replying_rises peer number (Given v outs) =
-      packed_rises peer number (packed_for r.context peer (answer_placed r v outs))
-      (message_keeps r.context peer (answer_placed r v outs))
-
-  -- an answer, wherever it goes
-  delivery_rises : (a : Answer) (reason : Reason) → Rises n (delivery r a reason)
-  delivery_rises a reasons.Start = same_rises n _ refl
-  delivery_rises a reasons.Local = same_rises n _ refl
-  delivery_rises a (reasons.Oneway peer) = same_rises n _ (oneway_same a (popped r))
-  delivery_rises a (reasons.Call peer number) =
-      either_rises (not (is_open n peer)) (only (popped r)) _ (same_rises n _ refl)
-      (replying_rises peer number a)
-
-  -- an exception, caught or not
-  failing_rises : (e : Exc) (handler : Option Handler) → Rises n (failing r e handler)
-  failing_rises e None = delivery_rises (Raised e) r.top.reason
-  failing_rises e (Some k) = same_rises n _ refl
+  -- what may come of an answer
+  delivers : Delivers (λ reason e. Rises n e) r
+  delivers = record {
+    shown = λ a. same_rises n _ refl;
+    below = λ a. same_rises n _ refl;
+    unheard = λ peer. same_rises n _ refl;
+    told = λ peer e. same_rises n _ refl;
+    dropped = λ peer number c. same_rises n _ refl;
+    raised = λ peer number e o. same_rises n _ refl;
+    replied = λ peer number v outs p o packed.
+        posting_rises n (popped r) peer p (items.Reply number p)
+        (message_keeps r.context peer (answer_placed r v outs) p packed) (omega arith) refl refl;
+    caught = λ e h. same_rises n _ refl;
+  }
 
   -- a request to a peer
   request_rises : (peer : ℕ) (asked : Request) (m : Node) →
@@ -173,8 +145,9 @@ module _ (r : RunContext) where
   verdict_rises (Tells peer m into pc) h =
       posting_rises n (with_top r (goes_on into Nil pc r.top)) peer m.packet (items.Oneway m)
       h.packet.limits (omega arith) refl refl
-  verdict_rises (Returns result outs) h = delivery_rises (Given result outs) r.top.reason
-  verdict_rises (Fails e) h = failing_rises e r.top.handler
+  verdict_rises (Returns result outs) h =
+      by_delivery (λ reason e. Rises n e) r delivers (Given result outs) r.top.reason
+  verdict_rises (Fails e) h = by_failing (λ reason e. Rises n e) r delivers e r.top.handler
 
   -- a verdict, if there is one
   verdict_rises_if : (v : Option Verdict) → VerdictIfSendable r.context.table n.port v →
@@ -209,7 +182,7 @@ module _ (c : Context) (from : ℕ) where
       let m = with_objects new n in
       let e = receiving c from packet n in
       let same = h (arrived c from packet).values e.node
-      ∙ same_each (receiving_name from) (name_same from) packet.names m
+      ∙ (each_done (receiving_name from) (λ name. name_same from name m) packet.names m refl).node
       in
       let count : length new ≡ length packet.copies = length-map packet.copies _ in
       record {
@@ -235,11 +208,15 @@ module _ (c : Context) (from : ℕ) where
   arrival_rises (items.RootAsk number) h n = same_rises n _ refl
   arrival_rises (items.RootAnswer number packet) h n =
       received_rises packet h.limits (values_arrival c (root_call from number)) (λ vs m. refl) n
-  arrival_rises (items.Ask serial token) h n = same_rises n _ (granting_same from serial token n)
+  arrival_rises (items.Ask serial token) h n = same_rises n _
+      (by_granting {G = λ m. numbers m ≡ numbers n} {E = λ to sent. Unit {0}} from serial token n
+      (λ e. tt) (λ e. tt) refl).node
   arrival_rises (items.Granted serial token) h n =
-      same_rises n _ (over_same (wanted (object_at from serial) token.lender token.number) n)
+      same_rises n _ (by_ask_over (small n)
+      (wanted (object_at from serial) token.lender token.number) n refl).node
   arrival_rises (items.Gone serial token) h n =
-      same_rises n _ (over_same (wanted (object_at from serial) token.lender token.number) n)
+      same_rises n _ (by_ask_over (small n)
+      (wanted (object_at from serial) token.lender token.number) n refl).node
   arrival_rises (items.Left serial) h n = same_rises n _ refl
   arrival_rises (items.Settled number) h n = same_rises n _ refl
   arrival_rises (items.End serials) h n = same_rises n _ (closing_same from n)

@@ -1,16 +1,12 @@
 -- Effects that leave the numbers of calls, objects and tokens as they were.
-use Rattle.std.proofs.Common.{◌≡◌, ℕ, Bool, true, false, cond, not, List, [], ◌∷◌, refl, ◌∙◌}
-use Rattle.std.specs.Prelude.{Err, None, Ok, Option, Result, Some, is_some, option_map}
-use Rattle.std.specs.List.{list_any}
-use Rattle.do_base.specs.names.Names.{TokenName}
+use Rattle.std.proofs.Common.{◌≡◌, ℕ, List, [], ◌∷◌, refl}
+use Rattle.std.specs.Prelude.{Err, None, Ok, Option, Result, Some, option_map}
 use Rattle.do_base.specs.declared.events.exception.Exc.{Exc}
 use Rattle.do_base.specs.declared.values.value.Value.{Value}
 use Rattle.do_class.specs.Class.{Class}
 use Rattle.do_class.specs.declared.ids.MethodId.{MethodId}
 use Rattle.do_class.specs.declared.packet.Name.{Name}
 use Rattle.do_class.specs.declared.packet.Name.TheVariants.{Lent, Mine, Yours}
-use Rattle.do_behave.specs.declared.invocation.Answer.{Answer}
-use Rattle.do_behave.specs.declared.invocation.Answer.TheVariants.{Given, Raised}
 use Rattle.do_behave.specs.declared.invocation.Invocation.{Invocation}
 use Rattle.do_behave.specs.declared.invocation.InvState.{InvState}
 use Rattle.do_behave.specs.declared.invocation.InvState.TheVariants.{Answered, Below, Running}
@@ -19,20 +15,18 @@ use Rattle.do_behave.specs.declared.invocation.Reason.{Reason}
 use Rattle.do_behave.specs.declared.invocation.Reason.TheVariants as reasons
 use Rattle.do_machine.specs.declared.item.Message.{Message}
 use Rattle.do_machine.specs.declared.node.Node.{Node}
-use Rattle.do_machine.specs.declared.node.Wanted.{Wanted}
 use Rattle.do_machine.specs.declared.state.Effect.{Effect}
 use Rattle.do_machine.specs.Context.{Context}
-use Rattle.do_machine.specs.Effect.{each, only}
+use Rattle.do_machine.specs.Effect.{only}
 use Rattle.do_machine.specs.Start.{begun, start_effect}
-use Rattle.do_machine.specs.State.{is_open, stored}
-use Rattle.do_machine.specs.ends.Closing.{asked_of, closing, parted}
+use Rattle.do_machine.specs.ends.Closing.{closing}
 use Rattle.do_machine.specs.ends.TimeOut.{give_up, time_out, time_out_on}
-use Rattle.do_machine.specs.lend.Asking.{ask_over, asking, granting, same_wanted, settling, wanted}
-use Rattle.do_machine.specs.lend.Asking.{without_wanted}
-use Rattle.do_machine.specs.run.Answers.{oneway_answer}
+use Rattle.do_machine.specs.lend.Asking.{wanted}
 use Rattle.do_machine.specs.run.Fresh.{pushed}
 use Rattle.do_machine.specs.take.Receipt.{receiving_name}
 use Rattle.do_machine.specs.take.Requests.{admission, refusing, request}
+use Rattle.do_facts.proofs.walk.Done.{Done, alone}
+use Rattle.do_facts.proofs.walk.SmallEffects.{Small, by_asking, by_closing}
 use Rattle.do_facts.proofs.walk.Takes.{admitted}
 
 -- the numbers of a node's next call, next object and next token
@@ -48,48 +42,23 @@ abbrev pub SameIf : Node → Option Effect → Type 0
 SameIf n None = Unit {0}
 SameIf n (Some e) = Same n e
 
--- whichever of two effects comes
-pub same_either : (n : Node) (b : Bool) (e d : Effect) → Same n e → Same n d → Same n (cond b e d)
-same_either n true e d h k = h
-same_either n false e d h k = k
+-- small effects leave them so, whatever they send
+pub small : (n : Node) → Small (λ m. numbers m ≡ numbers n) (λ to item. Unit {0})
+small n = record {
+  over = λ w m h. h;
+  settles = λ w m o h. tt;
+}
 
--- an effect for each element of a list
-pub same_each : {X : Type 0} (f : X → Node → Effect) → ((x : X) (n : Node) → Same n (f x n)) →
-    (xs : List X) (n : Node) → Same n (each f xs n)
-same_each f h [] n = refl
-same_each f h (x ∷ xs) n = same_each f h xs (f x n).node ∙ h x n
-
--- ---- asks and ends
-
--- a lend that is settled
-settling_same : (w : Wanted) (n : Node) → Same n (settling w n)
-settling_same w n = same_either n (not (is_open n w.token.lender)) _ _ refl refl
-
--- an object that is asked for
-asking_same : (w : Wanted) (n : Node) → Same n (asking w n)
-asking_same w n =
-    same_either n (not (is_open n w.object.node)) (settling w n) _ (settling_same w n)
-    (same_either n (list_any (same_wanted w) n.asked) (only n) _ refl refl)
-
--- an ask that is over
-pub over_same : (w : Wanted) (n : Node) → Same n (ask_over w n)
-over_same w n = settling_same w (without_wanted w n)
-
--- an ask that is answered
-pub granting_same : (peer serial : ℕ) (token : TokenName) (n : Node) →
-    Same n (granting peer serial token n)
-granting_same peer serial token n =
-    same_either n (is_some (stored serial n.heap)) _ _ refl refl
-
--- an end that closes
+-- so does an end that closes
 pub closing_same : (peer : ℕ) (n : Node) → Same n (closing peer n)
-closing_same peer n = same_each settling settling_same (asked_of peer n) (parted peer n)
+closing_same peer n = (by_closing (small n) peer n refl tt).node
 
 -- a name that is received
-pub name_same : (from : ℕ) (name : Name) (n : Node) → Same n (receiving_name from name n)
-name_same from (Mine serial class) n = refl
-name_same from (Yours serial) n = refl
-name_same from (Lent o class token) n = asking_same (wanted o from token) n
+pub name_same : (from : ℕ) (name : Name) (n m : Node) → numbers m ≡ numbers n →
+    Done (λ m. numbers m ≡ numbers n) (λ to item. Unit {0}) (receiving_name from name m)
+name_same from (Mine serial class) n m h = alone m h
+name_same from (Yours serial) n m h = alone m h
+name_same from (Lent o class token) n m h = by_asking (small n) (wanted o from token) m (λ ends. (h, tt)) h
 
 -- ---- requests
 
@@ -110,11 +79,6 @@ admitted_same c reason m vs n (Ok method) = refl
 pub request_same : (c : Context) (from : ℕ) (reason : Reason) (m : Message) (vs : List Value)
     (n : Node) → Same n (request c from reason m vs n)
 request_same c from reason m vs n = admitted_same c reason m vs n (admission c from m vs)
-
--- an answer that nobody waits for
-pub oneway_same : (a : Answer) (n : Node) → Same n (oneway_answer a n)
-oneway_same (Given v outs) n = refl
-oneway_same (Raised e) n = refl
 
 -- ---- starts and time-outs
 

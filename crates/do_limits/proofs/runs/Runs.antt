@@ -1,13 +1,12 @@
 -- A run leaves and sends only what a message can carry.
-use Rattle.std.proofs.Common.{length, ◌∙◌}
+use Rattle.std.proofs.Common.{length, ◌∙◌, arith, subst, sym, ◌≡◌, ◌==◌, ℕ, not, List, [], ◌∷◌}
+use Rattle.std.proofs.Common.{refl}
 use Rattle.std.proofs.lemmas.List.{length-set}
 use Rattle.do_limits.proofs.Signatures.{HasMethods, few_answer_marks}
 use Rattle.do_limits.proofs.Senders.{ContextIsSendable}
-use Rattle.std.proofs.Common.{arith, subst, sym}
 use Rattle.do_class.specs.Class.{Class}
 use Rattle.do_machine.specs.declared.item.Item.{Item}
 use Rattle.do_machine.specs.declared.state.Effect.{Effect}
-use Rattle.std.proofs.Common.{◌≡◌, ◌==◌, ℕ, not, List, [], ◌∷◌, refl}
 use Rattle.std.specs.Prelude.{None, Option, Some, option_map, slice_set}
 use Rattle.std.specs.List.{AllByRecursion}
 use Rattle.do_base.specs.values.Kinds.{number}
@@ -48,8 +47,7 @@ use Rattle.do_machine.specs.run.Changes.{goes_on, goes_to, stands, uses_number, 
 use Rattle.do_machine.specs.run.Changes.{with_slots, with_writes}
 use Rattle.do_machine.specs.run.Delivery.{below_answered, delivery, failing, popped, with_top}
 use Rattle.do_machine.specs.run.Fresh.{blank, fresh, with_stack}
-use Rattle.do_machine.specs.run.Run.{Acting, next_act, run_effect, run_on, slots_seen}
-use Rattle.do_machine.specs.run.Run.{state_rule}
+use Rattle.do_machine.specs.run.Run.{Acting, next_act, run_effect, run_on, slots_seen, state_rule}
 use Rattle.do_machine.specs.run.Verdicts.{effect_of, requesting, waits_for}
 use Rattle.do_machine.specs.lend.Lending.{lending, lends_of, posting}
 use Rattle.do_facts.proofs.Deliveries.{packed_answer}
@@ -59,8 +57,10 @@ use Rattle.do_limits.specs.SendableActs.{KeepsSendable}
 use Rattle.do_limits.specs.SendableStates.{AnswerIsSendable, HasSendableAnswer}
 use Rattle.do_limits.specs.SendableStates.{InvocationIsSendable, ItemIsSendable, NodeIsSendable}
 use Rattle.do_limits.specs.SendableStates.{ObjectIsSendable}
-use Rattle.do_limits.proofs.Effects.{EffectIsSendable, IfSendable, alone, begins, blank_sendable}
-use Rattle.do_limits.proofs.Effects.{either, makes, pushes, queues, shows}
+use Rattle.do_facts.proofs.Chains.{either}
+use Rattle.do_facts.proofs.walk.Done.{alone, queues, shows}
+use Rattle.do_limits.proofs.Effects.{EffectIsSendable, IfSendable, begins, blank_sendable, makes}
+use Rattle.do_limits.proofs.Effects.{pushes}
 use Rattle.do_facts.proofs.EachOfLists.{each_set, each_zipped, found_is}
 use Rattle.do_limits.proofs.Lists.{each_changed}
 use Rattle.do_limits.proofs.values.Carried.{carry-Nil, carry-Obj, name_sendable}
@@ -212,8 +212,8 @@ module _ (r : RunContext) (small : HasMethods r.context.table) (ok : ContextIsSe
       })
   delivers a (reasons.Oneway peer) h = drops a (popped r) without_top
   delivers a (reasons.Call peer number) h =
-      either (not (is_open n peer)) (only (popped r)) _ (alone (popped r) without_top)
-      (replies peer number a (popped r) h without_top)
+      either Does (not (is_open n peer)) (only (popped r)) _ (λ _. alone (popped r) without_top)
+      (λ _. replies peer number a (popped r) h without_top)
 
   -- an exception, caught or not
   fails : (e : Exc) (handler : Option Handler) → IsSendableExc e →

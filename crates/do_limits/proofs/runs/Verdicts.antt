@@ -1,8 +1,7 @@
 -- What becomes of an act, and the values and the message in it.
-use Rattle.std.specs.Prelude.{length, ◌≤◌}
-use Rattle.std.proofs.Common.{◌≡◌, ℕ, Bool, true, false, cond, List, [], ◌∷◌}
-use Rattle.std.proofs.Common.{Err, Ok, Result, map, refl, ap, arith}
-use Rattle.std.specs.Prelude.{None, Option, Some}
+use Rattle.std.specs.Prelude.{length, ◌≤◌, None, Option, Some}
+use Rattle.std.proofs.Common.{◌≡◌, ℕ, Bool, true, false, cond, List, [], ◌∷◌, Err, Ok, Result, map}
+use Rattle.std.proofs.Common.{ap, arith}
 use Rattle.std.specs.List.{AllByRecursion, zip}
 use Rattle.std.proofs.lemmas.Slice.Zip.{length-zip}
 use Rattle.std.specs.Result.{result_ok}
@@ -31,8 +30,7 @@ use Rattle.do_machine.specs.Context.{Context}
 use Rattle.do_machine.specs.Packing.{packed_for, packer}
 use Rattle.do_machine.specs.State.{own}
 use Rattle.do_machine.specs.run.Acts.{root_value}
-use Rattle.do_machine.specs.run.Send.{input, inputs_by}
-use Rattle.do_machine.specs.run.Send.{outs_by}
+use Rattle.do_machine.specs.run.Send.{input, inputs_by, outs_by}
 use Rattle.do_limits.specs.Sendable.{AreSendable, IsOfTable, IsSendable, IsSendableExc}
 use Rattle.do_limits.specs.Sendable.{IsSendablePacket}
 use Rattle.do_limits.specs.SendableStates.{MessageIsSendable}
@@ -67,23 +65,6 @@ VerdictIsSendable table port (Fails e) = IsSendableExc e
 abbrev pub VerdictIfSendable : List Class → ℕ → Option Verdict → Type 0
 VerdictIfSendable table port None = Unit {0}
 VerdictIfSendable table port (Some v) = VerdictIsSendable table port v
-
--- ---- rules one after another
-
-module _ (table : List Class) (port : ℕ) where
-  -- a rule that a test decides
-  pub unless : (b : Bool) (v w : Verdict) → VerdictIsSendable table port v →
-      VerdictIsSendable table port w → VerdictIsSendable table port (cond b v w)
-  unless true v w h k = h
-  unless false v w h k = k
-
-  -- a rule that decides where something lacks
-  pub given : {X : Type 0} (found : Option X) (v : Verdict) (rest : X → Verdict) →
-      VerdictIsSendable table port v →
-      ((x : X) → found ≡ Some x → VerdictIsSendable table port (rest x)) →
-      VerdictIsSendable table port (elim found [ None ↦ v | Some x ↦ rest x ])
-  given None v rest h k = h
-  given (Some x) v rest h k = k x refl
 
 -- an exception without a text
 pub textless : (e : Exc) → exc_text e ≡ [] → IsSendableExc e

@@ -1,11 +1,9 @@
 -- States whose nodes and queues have only what a message can carry.
 use Rattle.std.proofs.Common.{◌≡◌, ◌==◌, ◌≤◌, ℕ, Bool, true, false, cond, List, [], ◌∷◌, filter}
-use Rattle.std.proofs.Common.{map}
-use Rattle.std.proofs.Common.{arith, refl, subst, sym}
+use Rattle.std.proofs.Common.{map, arith, refl, subst, sym}
 use Rattle.std.proofs.lemmas.Bool.{eqb-true}
 use Rattle.std.specs.Prelude.{None, Option, Some, length, option_and_then, option_map, nat_le, suc}
-use Rattle.std.specs.Prelude.{zero}
-use Rattle.std.specs.Prelude.{not}
+use Rattle.std.specs.Prelude.{zero, not}
 use Rattle.std.specs.List.{AllByRecursion, find}
 use Rattle.do_sched.specs.Good.{IsPort}
 use Rattle.do_class.specs.Class.{Class}
@@ -21,8 +19,7 @@ use Rattle.do_machine.specs.declared.state.Station.{Station}
 use Rattle.do_machine.specs.Commit.{born, commit, committed, items_to, moved, with_sent}
 use Rattle.do_machine.specs.Context.{around, context}
 use Rattle.do_machine.specs.State.{change, class_given, class_of, is_known, node, queue, queue_to}
-use Rattle.do_machine.specs.State.{station, with_items}
-use Rattle.do_machine.specs.State.{with_queue}
+use Rattle.do_machine.specs.State.{station, with_items, with_queue}
 use Rattle.do_machine.specs.held.Kept.{kept, struck, struck_by, stays}
 use Rattle.do_machine.specs.held.Leaving.{dropping, freeing, leaving, left}
 use Rattle.do_machine.specs.held.Refers.{node_objects}
@@ -33,13 +30,11 @@ use Rattle.do_limits.specs.SendableStates.{ItemIsSendable, NodeIsSendable, State
 use Rattle.do_limits.specs.SendableStates.{HasSerial, ObjectIsSendable, QueueIsSendable}
 use Rattle.do_limits.specs.SendableStates.{StationIsSendable}
 use Rattle.do_limits.proofs.Effects.{EffectIsSendable, ParcelIsSendable, holding_more}
-use Rattle.do_limits.proofs.Effects.{then_sendable}
+use Rattle.do_facts.proofs.walk.Done.{then_done}
 use Rattle.do_limits.proofs.Senders.{ContextIsSendable, slots_known}
 use Rattle.do_limits.proofs.Signatures.{one_at}
-use Rattle.do_facts.proofs.EachOfLists.{each_filtered, each_joined}
-use Rattle.do_limits.proofs.Lists.{each_changed}
-use Rattle.do_facts.proofs.EachOfLists.{each_mapped, each_weaker}
-use Rattle.do_limits.proofs.Lists.{found_by}
+use Rattle.do_facts.proofs.EachOfLists.{each_filtered, each_joined, each_mapped, each_weaker}
+use Rattle.do_limits.proofs.Lists.{each_changed, found_by}
 
 -- ---- what follows a step
 
@@ -70,7 +65,7 @@ leaves table port (o ∷ os) h = (h.0, leaves table port os h.1)
 leaving_sendable : {table : List Class} {port : ℕ} → (entry : ℕ → ℕ → Bool) (n : Node) →
     NodeIsSendable table port n → EffectIsSendable table port (leaving entry n)
 leaving_sendable {table} {port} entry n h =
-    then_sendable (freeing (kept entry n) n) (λ m. dropping (node_objects m) m)
+    then_done (freeing (kept entry n) n) (λ m. dropping (node_objects m) m)
     (record {
       node = record {
         heap = struck_sendable table (length n.heap) entry n n.heap h.heap;

@@ -1,7 +1,7 @@
 -- Every state that a machine comes to has only what a message can carry.
 use Rattle.do_limits.proofs.Signatures.{HasMethods}
 use Rattle.std.proofs.Common.{◌≡◌, ℕ, Bool, List, [], ◌∷◌, arith, map, refl, sym, subst, ◌∙◌}
-use Rattle.std.specs.Prelude.{All, None, Option, Some}
+use Rattle.std.specs.Prelude.{All, Some}
 use Rattle.std.proofs.lemmas.List.Elements.{recursion_from_All}
 use Rattle.std.specs.List.{AllByRecursion, insert}
 use Rattle.do_base.specs.declared.events.event.Event.{Event}
@@ -18,8 +18,7 @@ use Rattle.do_machine.specs.Commit.{skipped}
 use Rattle.do_machine.specs.Context.{context}
 use Rattle.do_machine.specs.Start.{start_effect}
 use Rattle.do_machine.specs.Lists.{all_inserted}
-use Rattle.do_machine.specs.State.{change, node}
-use Rattle.do_machine.specs.State.{with_queue}
+use Rattle.do_machine.specs.State.{change, node, with_queue}
 use Rattle.do_machine.specs.Step.{step}
 use Rattle.do_machine.specs.World.{IsSeat, by_port, is_before, opening, opening_station, others}
 use Rattle.do_machine.specs.take.Take.{take_effect}
@@ -33,7 +32,8 @@ use Rattle.do_machine.specs.check.Blocks.{followed, steps}
 use Rattle.do_limits.specs.SendableActs.{AllStartSendable, KeepsSendable, StartsSendable}
 use Rattle.do_limits.specs.SendableStates.{ItemIsSendable, QueueIsSendable, StateIsSendable}
 use Rattle.do_limits.specs.SendableStates.{StationIsSendable}
-use Rattle.do_limits.proofs.Effects.{EffectIsSendable, IfSendable, blank_sendable}
+use Rattle.do_limits.proofs.Effects.{EffectIsSendable, blank_sendable}
+use Rattle.do_facts.proofs.walk.Done.{done_there}
 use Rattle.do_facts.proofs.EachOfLists.{each_inserted}
 use Rattle.do_limits.proofs.Lists.{each_placed}
 use Rattle.do_limits.proofs.runs.Runs.{run_sendable}
@@ -45,32 +45,25 @@ use Rattle.do_limits.proofs.states.States.{requeues}
 
 -- ---- steps
 
--- the effect that there is
-there : (table : List Class) (port : ℕ) (found : Option Effect) (e : Effect) →
-    IfSendable table port found → found ≡ Some e → EffectIsSendable table port e
-there table port None e h q = absurd (cc)
-there table port (Some d) e h q =
-    let same : d ≡ e = cc (q) in subst (EffectIsSendable table port) same h
-
 module _ (table : List Class) (act : Acting) (small : HasMethods table)
     (acts : KeepsSendable table act) (S : State) (ok : StateIsSendable table S) where
   -- the effect of an event's rule
   ruled : (event : Event) → StartsSendable event → (port : ℕ) (n : Node) (e : Effect) →
       node S port ≡ Some n → IsRuleOf table act S event n e → EffectIsSendable table port e
   ruled (Start at selector values) k port n e here q =
-      there table port (start_effect table selector values n) e
+      done_there (start_effect table selector values n) e
       (start_sendable table small port selector values n k
       (node_sendable table S ok port n here).0) q
   ruled (Run at) k port n e here q =
       let c = context_sendable table S ok port n here in
       subst (λ x. EffectIsSendable table x e) (node_sendable table S ok port n here).0.numbers.0
-      (there table n.port (run_effect act (context table S n)) e
+      (done_there (run_effect act (context table S n)) e
       (run_sendable act (context table S n) small acts c) q)
   ruled (Close at peer) k port n e here q =
       subst (EffectIsSendable table port) (sym q.1)
       (closes peer n (node_sendable table S ok port n here).0)
   ruled (Timeout at) k port n e here q =
-      there table port (time_out n) e
+      done_there (time_out n) e
       (time_out_sendable n (node_sendable table S ok port n here).0) q
   ruled (Take at from) k port n e here q = absurd q
   ruled (Lose from to after) k port n e here q = absurd q

@@ -22,7 +22,6 @@ use Rattle.do_machine.specs.take.Awaiting.{method_answer, values_answer, with_an
 use Rattle.do_limits.specs.Sendable.{AreSendable, IsSendable}
 use Rattle.do_limits.specs.SendableStates.{AnswerIsSendable, HasSendableAnswer}
 use Rattle.do_limits.specs.SendableStates.{InvocationIsSendable, NodeIsSendable}
-use Rattle.do_limits.proofs.Effects.{EffectIsSendable, alone}
 use Rattle.do_limits.proofs.Lists.{each_changed}
 use Rattle.do_limits.proofs.runs.Verdicts.{textless}
 
@@ -60,15 +59,14 @@ state_answered answer h (Answered a) k = k
 -- a node that has an answer
 pub answered : {table : List Class} {port : ℕ} → (k : AnsweredCall) (answer : Waited → Answer) →
     ((what : Waited) → AnswerIsSendable (answer what)) → (n : Node) → NodeIsSendable table port n →
-    EffectIsSendable table port (answering k answer n)
-answered k answer h n ok =
-    alone _ (record {
-      heap = ok.heap;
-      stack = each_changed InvocationIsSendable (λ i. awaits k i.state) (with_answer answer)
-          (λ i e g. record {
-            locals = g.locals;
-            sixteen = g.sixteen;
-            answer = state_answered answer h i.state g.answer;
-          }) n.stack ok.stack;
-      numbers = ok.numbers;
-    })
+    NodeIsSendable table port (answering k answer n).node
+answered k answer h n ok = record {
+  heap = ok.heap;
+  stack = each_changed InvocationIsSendable (λ i. awaits k i.state) (with_answer answer)
+      (λ i e g. record {
+        locals = g.locals;
+        sixteen = g.sixteen;
+        answer = state_answered answer h i.state g.answer;
+      }) n.stack ok.stack;
+  numbers = ok.numbers;
+}

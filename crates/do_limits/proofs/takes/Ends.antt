@@ -8,16 +8,12 @@ use Rattle.do_behave.specs.declared.invocation.InvState.TheVariants.{Answered, B
 use Rattle.do_behave.specs.declared.invocation.InvState.TheVariants.{Waits}
 use Rattle.do_machine.specs.declared.item.Item.TheVariants as items
 use Rattle.do_machine.specs.declared.node.Node.{Node}
-use Rattle.do_machine.specs.Effect.{each, queueing}
-use Rattle.do_machine.specs.ends.Closing.{asked_of, closing, died, parted, serials_of}
-use Rattle.do_machine.specs.ends.Closing.{without_answer}
-use Rattle.do_machine.specs.lend.Asking.{settling}
+use Rattle.do_machine.specs.ends.Closing.{closing, died, parted, without_answer}
 use Rattle.do_limits.specs.SendableStates.{AsksForOne, HasSendableAnswer, HasSerial}
 use Rattle.do_limits.specs.SendableStates.{InvocationIsSendable, NodeIsSendable}
-use Rattle.do_limits.proofs.Effects.{EffectIsSendable, each_sendable}
-use Rattle.do_limits.proofs.Effects.{queues, settles}
-use Rattle.do_limits.proofs.Effects.{then_sendable}
-use Rattle.do_facts.proofs.EachOfLists.{each_filtered, each_mapped, each_of, each_weaker}
+use Rattle.do_facts.proofs.walk.SmallEffects.{by_closing}
+use Rattle.do_limits.proofs.Effects.{EffectIsSendable, small}
+use Rattle.do_facts.proofs.EachOfLists.{each_filtered, each_mapped, each_weaker}
 use Rattle.do_limits.proofs.runs.Verdicts.{textless}
 
 -- an invocation that loses a peer
@@ -34,7 +30,7 @@ state_died peer (Waits call p what) h = go (p == peer)
     go false = tt
 
 -- a node that parts from a peer
-parts : {table : List Class} {port : ℕ} → (peer : ℕ) (n : Node) → NodeIsSendable table port n →
+pub parts : {table : List Class} {port : ℕ} → (peer : ℕ) (n : Node) → NodeIsSendable table port n →
     NodeIsSendable table port (parted peer n)
 parts peer n h = record {
   heap = h.heap;
@@ -64,10 +60,4 @@ parts peer n h = record {
 -- an end that closes
 pub closes : {table : List Class} {port : ℕ} → (peer : ℕ) (n : Node) →
     NodeIsSendable table port n → EffectIsSendable table port (closing peer n)
-closes peer n h =
-    then_sendable (queueing peer (items.End (serials_of peer n.held)) (parted peer n))
-    (each settling (asked_of peer n))
-    (queues peer (items.End (serials_of peer n.held)) (parted peer n) tt (parts peer n h))
-    (λ m k.
-    each_sendable (λ w. Unit {0}) settling (λ w u. settles w) (asked_of peer n)
-    (each_of (λ w. Unit {0}) (λ w. tt) (asked_of peer n)) m k)
+closes peer n h = by_closing small peer n (parts peer n h) tt

@@ -1,6 +1,6 @@
 -- How a node stands to what it was: what parting, holding and leaving keep.
-use Rattle.std.proofs.Common.{◌≡◌, ◌≤◌, ℕ, Bool, true, false, not, List, [], ◌∷◌, filter, map}
-use Rattle.std.proofs.Common.{refl, sym, ap, ◌∙◌, arith, ◌==◌, inl, inr}
+use Rattle.std.proofs.Common.{◌≡◌, ◌≤◌, ℕ, Bool, true, not, List, [], ◌∷◌, filter, map, refl, sym}
+use Rattle.std.proofs.Common.{ap, ◌∙◌, arith, ◌==◌, inl, inr}
 use Rattle.std.specs.List.{list_any}
 use Rattle.do_base.specs.names.Names.{ObjectName}
 use Rattle.do_class.specs.declared.packet.Name.{Name}

@@ -1,9 +1,8 @@
 -- What the rules of a step keep of a node, walked once: its numbers are no lower, no end opens, and
 -- unless it parts from a peer it holds the same over the same ends and gives nothing back.
-use Rattle.std.proofs.Common.{◌≡◌, ◌≤◌, ℕ, Bool, true, false, List, [], ◌∷◌, refl, sym, ap, ◌∙◌}
-use Rattle.std.proofs.Common.{arith, inl, inr, ◌⊎◌}
+use Rattle.std.proofs.Common.{◌≡◌, ◌≤◌, ℕ, Bool, true, false, List, [], ◌∷◌, refl, ap, ◌∙◌, arith}
+use Rattle.std.proofs.Common.{inl, inr, ◌⊎◌}
 use Rattle.std.specs.Prelude.{None, Option, Some, option_map}
-use Rattle.std.specs.List.{list_any}
 use Rattle.do_base.specs.names.Names.{ObjectName}
 use Rattle.do_base.specs.declared.values.value.Value.{Value}
 use Rattle.do_base.specs.declared.values.value.Value.TheVariants.{Nil, Obj, Text}
@@ -16,7 +15,6 @@ use Rattle.do_behave.specs.declared.invocation.Invocation.{Invocation}
 use Rattle.do_behave.specs.declared.invocation.InvState.{InvState}
 use Rattle.do_behave.specs.declared.invocation.InvState.TheVariants.{Answered, Below, Running}
 use Rattle.do_behave.specs.declared.invocation.InvState.TheVariants.{Waits}
-use Rattle.do_behave.specs.declared.invocation.Reason.{Reason}
 use Rattle.do_behave.specs.declared.invocation.Waited.{Waited}
 use Rattle.do_machine.specs.declared.item.Item.{Item}
 use Rattle.do_machine.specs.declared.item.Item.TheVariants as items
@@ -51,14 +49,10 @@ use Rattle.do_machine.specs.take.Receipt.{arrived, receiving}
 use Rattle.do_machine.specs.take.Take.{arrival, holding, take_effect}
 use Rattle.do_facts.specs.laws.Follows.{Follows, Grows}
 use Rattle.do_facts.proofs.Deliveries.{Delivers, by_delivery, by_failing}
-use Rattle.do_facts.proofs.machine.follows.Follows.{after, by_holding, by_parted, grow_after}
-use Rattle.do_facts.proofs.machine.follows.Follows.{grown}
+use Rattle.do_facts.proofs.machine.follows.Follows.{after, by_holding, by_parted, grow_after, grown}
 use Rattle.do_facts.proofs.walk.Done.{Done, DoneIf, alone, each_done, queues, shows}
-use Rattle.do_facts.proofs.walk.SmallEffects.{Small, by_settling}
-use Rattle.do_facts.proofs.walk.SmallEffects.{by_closing as closes}
-use Rattle.do_facts.proofs.walk.Takes.{Takes}
-use Rattle.do_facts.proofs.walk.Takes.{by_arrival as arrives}
-use Rattle.do_facts.proofs.walk.Takes.{by_receiving as receives}
+use Rattle.do_facts.proofs.walk.SmallEffects.{Small, by_settling, by_closing as closes}
+use Rattle.do_facts.proofs.walk.Takes.{Takes, by_arrival as arrives, by_receiving as receives}
 
 -- an item that may release objects
 abbrev pub is_release : Item → Bool
@@ -198,14 +192,11 @@ module _ (timed parts : Bool) where
           ends = λ p. refl;
         })
 
-    -- asks, grants and settled lends
+    -- asks and settled lends
     small : Small Now (NoRelease parts)
     small = record {
-      asks = λ w n o h. (still n (with_wanted w n) refl h, λ p. refl);
       over = λ w n. still n (without_wanted w n) refl;
       settles = λ w n o h p. refl;
-      grants = λ peer serial token n e h p. refl;
-      refuses = λ peer serial token n e h p. refl;
     }
 
 -- lends that are over
@@ -366,6 +357,10 @@ module _ (c : Context) (from : ℕ) (item : Item) (first : Node) where
   takes : Takes (Steady false ends first) (NoRelease ends) c from item
   takes = record {
     small = small false ends first;
+    asks = λ packet is o class token among n open_end h.
+        (still false ends first n _ refl h, λ p. refl);
+    grants = λ serial token is n e h p. refl;
+    lacks = λ serial token is n e h p. refl;
     makes = λ packet is n h. makes false ends first (arrived c from packet).copies n h;
     begins = λ reason m f is found fit n h.
         still false ends first n _ refl h;

@@ -25,8 +25,8 @@ use Rattle.do_facts.specs.steps.IsStep.{without_oldest}
 use Rattle.do_facts.proofs.machine.follows.Follows.{by_leaving}
 use Rattle.do_facts.proofs.machine.follows.Moves.{Moves}
 use Rattle.do_facts.proofs.machine.follows.States.{changed, requeued}
-use Rattle.do_facts.proofs.machine.follows.Steady.{IsSteady, by_closing, by_run, by_start}
-use Rattle.do_facts.proofs.machine.follows.Steady.{by_take, by_time_out}
+use Rattle.do_facts.proofs.machine.follows.Steady.{IsSteady, by_closing, by_run, by_start, by_take}
+use Rattle.do_facts.proofs.machine.follows.Steady.{by_time_out}
 use Rattle.do_facts.proofs.steps.EachIsStep.{step_is}
 use Rattle.do_facts.proofs.walk.Done.{done_there}
 

@@ -1,8 +1,6 @@
 -- What an effect of a peer does to the entries that it has.
-use Rattle.std.proofs.Common.{◌≡◌, ◌==◌, ◌&&◌, ◌||◌, ℕ, Bool, true, false, List, refl, sym}
-use Rattle.std.proofs.Common.{arith}
-use Rattle.std.proofs.Common.{ap}
-use Rattle.std.proofs.Common.{◌∙◌}
+use Rattle.std.proofs.Common.{sym, ◌≡◌, ◌==◌, ◌&&◌, ◌||◌, ℕ, Bool, true, false, List, refl, arith}
+use Rattle.std.proofs.Common.{ap, ◌∙◌}
 use Rattle.std.specs.Prelude.{None, Option, Some, option_and_then, option_map}
 use Rattle.std.specs.List.{list_any}
 use Rattle.std.proofs.lemmas.List.Folds.{list_any-append}
@@ -42,6 +40,14 @@ module _ (port : ℕ) (o : ObjectName) (apart : (o.node == port) ≡ false) wher
   Entered T n came =
       is_reached T port o
       && ((is_holder o n || (came || is_under_way T port o)) || is_on_its_way_back T port o)
+
+  -- where nothing came it is the entry
+  pub entered_none : (S : State) (n : Node) → node S port ≡ Some n →
+      Entered S n false ≡ has_entry S port o
+  entered_none S n h =
+      ap (λ found. is_reached S port o
+      && ((some_passes (is_holder o) found || is_under_way S port o)
+      || is_on_its_way_back S port o)) (sym h)
 
   module _ (e : Effect) (T : State) (n : Node) (came : Bool) (here : node T port ≡ Some n)
       (linked : queue T port o.node ≡ None → is_open n o.node ≡ false)

@@ -1,16 +1,12 @@
 -- A node's entries change by its own steps alone.
-use Rattle.std.proofs.Common.{◌≡◌, ◌==◌, ◌&&◌, ◌||◌, ℕ, Bool, true, false, List, ◌∷◌}
-use Rattle.std.proofs.Common.{ap, arith, refl, sym, subst, ◌∙◌}
-use Rattle.std.specs.Prelude.{None, Option, Some}
-use Rattle.std.specs.List.{list_any}
+use Rattle.std.proofs.Common.{◌≡◌, ◌==◌, ℕ, Bool, true, false, List, ◌∷◌, ap, refl, sym, subst, ◌∙◌}
+use Rattle.std.specs.Prelude.{None, Some}
 use Rattle.std.proofs.lemmas.Bool.{eqb-true}
-use Rattle.std.proofs.lemmas.Grind.{common_steps}
 use Rattle.do_base.specs.names.Names.{ObjectName}
 use Rattle.do_base.specs.declared.events.event.Event.{Event}
 use Rattle.do_base.specs.declared.events.event.Event.TheVariants.{Check, Close, Lose, Run, Start}
 use Rattle.do_base.specs.declared.events.event.Event.TheVariants.{Take, Timeout}
 use Rattle.do_class.specs.Class.{Class}
-use Rattle.do_packet.specs.Met.{has_object}
 use Rattle.do_machine.specs.declared.item.Item.{Item}
 use Rattle.do_machine.specs.declared.node.Node.{Node}
 use Rattle.do_machine.specs.declared.state.Effect.{Effect}
@@ -18,10 +14,7 @@ use Rattle.do_machine.specs.declared.state.State.{State}
 use Rattle.do_machine.specs.declared.state.Stepped.{Stepped}
 use Rattle.do_machine.specs.Commit.{commit, moved}
 use Rattle.do_machine.specs.Context.{around, context}
-use Rattle.do_machine.specs.Entry.{has_entry, is_holder, is_on_its_way_back, is_reached}
-use Rattle.do_machine.specs.Entry.{is_under_way}
-use Rattle.do_machine.specs.Items.{exported, released}
-use Rattle.do_machine.specs.Lists.{some_passes}
+use Rattle.do_machine.specs.Entry.{has_entry}
 use Rattle.do_machine.specs.State.{is_open, node, queue}
 use Rattle.do_machine.specs.Step.{step}
 use Rattle.do_machine.specs.held.Leaving.{leaving}
@@ -36,10 +29,11 @@ use Rattle.do_facts.proofs.machine.follows.States.{changed, requeued}
 use Rattle.do_facts.proofs.machine.follows.Steady.{by_take}
 use Rattle.do_facts.proofs.machine.follows.Steps.{rule_grows}
 use Rattle.do_facts.proofs.machine.passing.Closes.{passes_closing}
-use Rattle.do_facts.proofs.machine.passing.Commits.{Entered, entry_after}
+use Rattle.do_facts.proofs.machine.passing.Commits.{Entered, entered_none, entry_after}
+use Rattle.do_facts.proofs.machine.passing.EntriesOff.{own_off, reaches}
 use Rattle.do_facts.proofs.machine.passing.Leaves.{passes_leaving}
 use Rattle.do_facts.proofs.machine.passing.Linked.{commit_leaves}
-use Rattle.do_facts.proofs.machine.passing.Lookups.{elsewhere_stays, other_stays, that_changed}
+use Rattle.do_facts.proofs.machine.passing.Lookups.{other_stays}
 use Rattle.do_facts.proofs.machine.passing.Passes.{Passes, passes_quiet}
 use Rattle.do_facts.proofs.machine.passing.Quiet.{rule_quiet}
 use Rattle.do_facts.proofs.machine.passing.Takes.{comes, passes_take}
@@ -67,14 +61,6 @@ no_act (Timeout actor) port other own h = ap (λ p. other == p) own ∙ h
 no_act Check port other own h = absurd own
 
 module _ (o : ObjectName) (port : ℕ) (apart : (o.node == port) ≡ false) where
-  -- what stood where nothing came
-  pub entered_none : (S : State) (n : Node) → node S port ≡ Some n →
-      Entered port o apart S n false ≡ has_entry S port o
-  entered_none S n h =
-      ap (λ found. is_reached S port o
-      && ((some_passes (is_holder o) found || is_under_way S port o)
-      || is_on_its_way_back S port o)) (sym h)
-
   module _ (S : State) (e : Effect) (n : Node) (came : Bool) (here : node S port ≡ Some n)
       (linked : queue S port o.node ≡ None → is_open n o.node ≡ false)
       (arrives : came ≡ true → is_open n o.node ≡ true)
@@ -99,7 +85,7 @@ module _ (o : ObjectName) (port : ℕ) (apart : (o.node == port) ≡ false) wher
         let entry = (around after e.node).entry in
         entry_after port o apart (leaving entry e.node) after e.node false left_here left_linked
         none_came (passes_leaving port o entry e.node (grows.holding held))
-        ∙ entered_none after e.node left_here
+        ∙ entered_none port o apart after e.node left_here
         ∙ entry_after port o apart e S n came here linked arrives passes
 
   module _ (S : State) (held : AllHoldOpen S) (queues : HasQueues S) (n : Node)
@@ -127,66 +113,26 @@ module _ (o : ObjectName) (port : ℕ) (apart : (o.node == port) ≡ false) wher
         own_moved S e n false here (queues.closed port o.node n here) none_came
         (rule_grows table act S event n e rule) (held.each port n here)
         (rule_passes table act event e rule)
-        ∙ entered_none S n here
+        ∙ entered_none port o apart S n here
 
     module _ (table : List Class) (from : ℕ) (item : Item) (rest : List Item)
         (ends : is_open n from ≡ true) (waits : queue S from port ≡ Some (item ∷ rest)) where
-      -- the state without the item
-      abbrev T : State
-      T = without_oldest S from port rest
-
-      -- the effect of the item
-      abbrev effect : Effect
-      effect = take_effect (context table T n) from item
-
-      -- the queues to other nodes are there
-      same_queue : (a b : ℕ) → (b == port) ≡ false → queue T a b ≡ queue S a b
-      same_queue a b h = other_stays from port rest S.stations a b h
-
-      -- what came was under way
-      came_from : (b : Bool) → (from == o.node) ≡ b →
-          ((b && has_object (exported from port item) o) || is_under_way T port o)
-          ≡ is_under_way S port o
-      came_from false h =
-          let other : (o.node == from) ≡ false = grind (arith, common_steps, h) in
-          ap (some_passes (list_any (λ x. has_object (exported o.node port x) o)))
-          (elsewhere_stays from port rest S.stations o.node port other)
-      came_from true h =
-          let same : from ≡ o.node = eqb-true from o.node h in
-          let f = λ (found : Option (List Item)).
-          some_passes (list_any (λ x. has_object (exported o.node port x) o)) found in
-          let left : queue T o.node port ≡ Some rest =
-          subst (λ k. queue T k port ≡ Some rest) same
-          (that_changed from port rest (item ∷ rest) S.stations waits) in
-          let was : queue S o.node port ≡ Some (item ∷ rest) =
-          subst (λ k. queue S k port ≡ Some (item ∷ rest)) same waits in
-          ap (λ k. has_object (exported k port item) o || is_under_way T port o) same
-          ∙ ap (λ found. has_object (exported o.node port item) o || f found) left
-          ∙ sym (ap f was)
-
-      -- an end over which an object came is that of its home
-      reaches : (b : Bool) → (from == o.node) ≡ b →
-          (b && has_object (exported from port item) o) ≡ true → is_open n o.node ≡ true
-      reaches true q k = subst (λ p. is_open n p ≡ true) (eqb-true from o.node q) ends
-      reaches false q k = cc
-
       -- the entry of the node that takes stays
-      own_takes : has_entry (moved port T effect).state port o ≡ has_entry S port o
+      own_takes :
+          let T = without_oldest S from port rest in
+          has_entry (moved port T (take_effect (context table T n) from item)).state port o
+          ≡ has_entry S port o
       own_takes =
-          own_moved T effect n (comes port o from item)
+          let T = without_oldest S from port rest in
+          let c = context table T n in
+          own_moved T (take_effect c from item) n (comes port o from item)
           (requeued from port port rest S.stations ∙ here)
-          (λ q. queues.closed port o.node n here (sym (same_queue port o.node apart) ∙ q))
-          (reaches (from == o.node) refl) (by_take (context table T n) from item ends).grows
-          (held.each port n here) (passes_take port o from (context table T n) item ends)
-          ∙ ap (λ found. some_passes (λ m. is_open m port) found
-          && ((is_holder o n || (comes port o from item || is_under_way T port o))
-          || is_on_its_way_back T port o)) (requeued from port o.node rest S.stations)
-          ∙ ap (λ b. is_reached S port o && ((is_holder o n || b) || is_on_its_way_back T port o))
-          (came_from (from == o.node) refl)
-          ∙ ap (λ found. is_reached S port o && ((is_holder o n || is_under_way S port o)
-          || some_passes (list_any (λ x. has_object (released port o.node x) o)) found))
-          (same_queue port o.node apart)
-          ∙ entered_none S n here
+          (λ q. queues.closed port o.node n here
+          (sym (other_stays from port rest S.stations port o.node apart) ∙ q))
+          (reaches o port apart S n here from item rest waits ends)
+          (by_take c from item ends).grows (held.each port n here)
+          (passes_take port o from c item ends)
+          ∙ own_off o port apart S n here from item rest waits
 
 module _ (table : List Class) (act : Acting) (S : State) (event : Event) (peer : ℕ)
     (o : ObjectName) (held : AllHoldOpen S) (queues : HasQueues S)

@@ -1,18 +1,17 @@
 -- What a node leaves it gives back.
-use Rattle.std.proofs.Common.{◌≡◌, ◌==◌, ◌&&◌, ◌||◌, ℕ, Bool, true, false, cond, not, List, [], ◌∷◌}
-use Rattle.std.proofs.Common.{map, filter, refl, sym, ap, ◌∙◌, arith}
-use Rattle.std.specs.List.{list_any}
+use Rattle.std.proofs.Common.{◌≡◌, ◌&&◌, ◌||◌, ℕ, Bool, true, false, not, List, [], ◌∷◌, map}
+use Rattle.std.proofs.Common.{filter, refl, sym, ap, ◌∙◌, arith}
 use Rattle.std.proofs.lemmas.Grind.{common_steps}
 use Rattle.do_base.specs.names.Names.{ObjectName}
-use Rattle.do_packet.specs.Met.{has_object, same_object}
+use Rattle.do_packet.specs.Met.{has_object}
 use Rattle.do_machine.specs.declared.node.Node.{Node}
 use Rattle.do_machine.specs.State.{is_open}
 use Rattle.do_machine.specs.held.Kept.{kept}
 use Rattle.do_machine.specs.held.Leaving.{freeing, leaving, left}
 use Rattle.do_machine.specs.held.Refers.{node_objects}
 use Rattle.do_facts.specs.laws.Follows.{HoldsOpen}
-use Rattle.do_machine.proofs.Bools.{or_assoc, or_false, or_swap}
-use Rattle.do_facts.proofs.machine.passing.Passes.{Passes, gives, gives_back, with_first}
+use Rattle.do_machine.proofs.Bools.{or_false}
+use Rattle.do_facts.proofs.machine.passing.Passes.{Passes, gives_back}
 
 -- an object is among those that pass or among those that fail
 split : (p : ObjectName → Bool) (os : List ObjectName) (o : ObjectName) →

@@ -3,11 +3,9 @@ use Rattle.std.proofs.Common.{◌≡◌, ◌==◌, ◌||◌, ◌++◌, ℕ, Bool
 use Rattle.std.proofs.Common.{refl, sym, ap, ◌∙◌, arith}
 use Rattle.std.specs.Prelude.{None, Option, Some, option_and_then, option_map, unwrap_or}
 use Rattle.std.specs.List.{find, list_any}
-use Rattle.std.proofs.lemmas.Bool.{eqb-true}
 use Rattle.std.proofs.lemmas.Grind.{common_steps}
 use Rattle.do_base.specs.declared.events.event.Event.{Event}
 use Rattle.do_class.specs.Class.{Class}
-use Rattle.do_machine.specs.declared.item.Item.{Item}
 use Rattle.do_machine.specs.declared.node.Node.{Node}
 use Rattle.do_machine.specs.declared.state.Effect.{Effect}
 use Rattle.do_machine.specs.declared.state.Queue.{Queue}
@@ -20,8 +18,7 @@ use Rattle.do_machine.specs.World.{by_port, opening, opening_station, others}
 use Rattle.do_facts.specs.laws.Entries.{HasQueues}
 use Rattle.do_facts.specs.laws.Follows.{EachNode, Grows}
 use Rattle.do_machine.specs.run.Run.{Acting}
-use Rattle.do_facts.proofs.machine.Frame.{elsewhere}
-use Rattle.do_facts.proofs.machine.Queues.{grows_behind}
+use Rattle.do_facts.proofs.machine.Queues.{none_before, queue_behind}
 use Rattle.do_facts.proofs.machine.follows.Every.{grow_steps}
 use Rattle.do_facts.proofs.machine.follows.Moves.{Moves}
 use Rattle.do_facts.proofs.machine.follows.Steps.{by_any_step}
@@ -38,25 +35,9 @@ Any n m = Unit {0}
 
 -- no queue goes by an effect
 pub commit_leaves : (port : ℕ) (e : Effect) (S : State) → QueuesStay S (commit port e S)
-commit_leaves port e S a b h = at_station (a == port) refl
-  where
-    there : (found : Option (List Item)) → queue S port b ≡ found →
-        queue (commit port e S) port b ≡ None → queue S port b ≡ None
-    there None q k = q
-    there (Some w) q k = absurd (apart (grows_behind port b e S.stations w q) k)
-      where
-        apart : queue (commit port e S) port b ≡ Some (w ++ items_to b e.sent) →
-            queue (commit port e S) port b ≡ None → ⊥
-        apart x y = cc
-
-    at_station : (t : Bool) → (a == port) ≡ t → queue S a b ≡ None
-    at_station false q =
-        sym (ap (λ found. option_and_then (λ s. queue_to b s) found)
-        (elsewhere port a e S.stations q)) ∙ h
-    at_station true q =
-        let same : a ≡ port = eqb-true a port q in
-        ap (λ p. queue S p b) same
-        ∙ there (queue S port b) refl (sym (ap (λ p. queue (commit port e S) p b) same) ∙ h)
+commit_leaves port e S a b h =
+    none_before (a == port) (λ w. w ++ items_to b e.sent) (queue S a b)
+    (sym (queue_behind port a b e S.stations) ∙ h)
 
 -- each move leaves the queues
 pub queue_moves : Moves Any QueuesStay

@@ -1,6 +1,6 @@
 -- The entries of a node's objects once another node took an item off, and before it held what came.
-use Rattle.std.proofs.Common.{◌≡◌, ◌==◌, ◌&&◌, ◌||◌, ℕ, Bool, true, false, List, ◌∷◌}
-use Rattle.std.proofs.Common.{refl, sym, ap, ◌∙◌, arith, subst}
+use Rattle.std.proofs.Common.{◌≡◌, ◌==◌, ◌&&◌, ◌||◌, ℕ, Bool, true, false, List, ◌∷◌, refl, sym, ap}
+use Rattle.std.proofs.Common.{◌∙◌, arith, subst}
 use Rattle.std.specs.Prelude.{Option, Some}
 use Rattle.std.specs.List.{list_any}
 use Rattle.std.proofs.lemmas.Bool.{eqb-true}
@@ -17,8 +17,7 @@ use Rattle.do_machine.specs.declared.node.Node.{Node}
 use Rattle.do_machine.specs.declared.state.State.{State}
 use Rattle.do_facts.proofs.machine.Entries.{entry_by}
 use Rattle.do_facts.proofs.machine.follows.States.{requeued}
-use Rattle.do_facts.proofs.machine.passing.Commits.{Entered}
-use Rattle.do_facts.proofs.machine.passing.EntriesStay.{entered_none}
+use Rattle.do_facts.proofs.machine.passing.Commits.{Entered, entered_none}
 use Rattle.do_facts.proofs.machine.passing.Lookups.{elsewhere_stays, other_stays, that_changed}
 use Rattle.do_facts.proofs.machine.passing.Takes.{comes}
 
@@ -72,7 +71,7 @@ module _ (o : ObjectName) (port : ℕ) (apart : (o.node == port) ≡ false) (S :
       ∙ ap (λ found. is_reached S port o && ((is_holder o n || is_under_way S port o)
       || some_passes (list_any (λ x. has_object (released port o.node x) o)) found))
       (other_stays from port w S.stations port o.node apart)
-      ∙ entered_none o port apart S n here
+      ∙ entered_none port o apart S n here
 
   -- entries of other peers
   pub others_off : (peer : ℕ) → (peer == port) ≡ false →
