@@ -1,0 +1,4 @@
+pub mod sent
+pub mod sites
+pub mod events
+pub mod schedules

@@ -1,0 +1,4 @@
+pub mod Within
+pub mod ActEvents
+pub mod TakeEvents
+pub mod LossEvents

@@ -1,0 +1,5 @@
+pub mod Exports
+pub mod Acts
+pub mod Ends
+pub mod Takes
+pub mod Hands
