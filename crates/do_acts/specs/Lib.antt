@@ -4,4 +4,5 @@ pub mod Ports
 pub mod Steps
 pub mod Places
 pub mod Faults
+pub mod History
 pub mod laws

@@ -28,10 +28,17 @@ steps inv to sets handler writes =
     if list_all (λ s. is_limited s.value) sets && list_all (λ w. is_limited w.value) writes
     then Step to (with_set inv.locals sets) handler writes else Raise Range
 
+-- a value for a local
+abbrev pub set : ℕ → Value → LocalSet
+set k v = record { local = k; value = v }
+
+-- an exception goes to local 15, and the method goes on at this place
+abbrev pub caught_to : ℕ → Option Handler
+caught_to place = Some (record { into = 15; pc = place })
+
 -- goes on at place 1, which returns this answer
 abbrev pub answered : Invocation → Value → List Write → Act
-answered inv value writes =
-    steps inv 1 (record { local = 14; value = value } ∷ []) inv.handler writes
+answered inv value writes = steps inv 1 (set 14 value ∷ []) inv.handler writes
 
 -- what is done leads to an act; where there is no room for it, Range is raised
 abbrev pub fits : {A : Type 0} → Option A → (A → Act) → Act

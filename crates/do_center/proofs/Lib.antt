@@ -12,6 +12,5 @@ pub mod RemovedKept
 pub mod CoreKept
 pub mod SuspendedSet
 pub mod SlotsExact
-pub mod OneCallMore
 pub mod RegistrationsTold
 pub mod SuspendedTold

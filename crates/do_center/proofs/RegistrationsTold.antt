@@ -9,7 +9,8 @@ use Rattle.std.specs.Option.{option_map}
 use Rattle.std.proofs.lemmas.List.{length-map, map-append}
 use Rattle.do_base.specs.names.Names.{ObjectName}
 use Rattle.do_center.specs.Calls.{added, suspended, with_suspended}
-use Rattle.do_center.specs.History.{after, left, registered, with_last}
+use Rattle.do_acts.specs.History.{left}
+use Rattle.do_center.specs.History.{after, registered, with_last}
 use Rattle.do_center.specs.Observers.{has_object}
 use Rattle.do_center.specs.Posting.{arrives, came, came_to_all, comes_to, due, held}
 use Rattle.do_center.specs.Posting.{posted_of}
@@ -110,7 +111,8 @@ posted_same c p same = by (nat_le (length p.due) 1024)
 
 -- a registration more is the last, where there is room
 added_same : (c : Core) (r : Registration)
-    → registrations (left c (option_map (λ d. (d, [])) (added c r))).0
+    → registrations
+    (left {Answer = List Delivery} c (option_map (λ d. (d, [])) (added c r))).0
     ≡ with_last (registrations c.0) r
 added_same c r =
     by (nat_lt (length c.0) 256)

@@ -41,9 +41,13 @@ use Rattle.do_center.specs.declared.suspension.Suspension.{Suspension}
 use Rattle.do_center.specs.declared.suspension.Suspension.TheVariants.{Drop, Coalesce, Hold}
 use Rattle.do_center.specs.declared.suspension.Suspension.TheVariants.{DeliverImmediately}
 use Rattle.do_center.specs.laws.CallsRead.{label_of_Nil, label_of_Text}
-use Rattle.do_center.specs.laws.NamedParts.{empty_of}
 use Rattle.do_center.proofs.CoreKept.{seats_parts}
 use Rattle.do_center.proofs.SameObject.{same_refl}
+
+-- a queue of which nothing waits is empty
+empty_of : (q : Listed Queued) → is_none q ≡ true → q ≡ []
+empty_of [] is = refl
+empty_of (e ∷ q) is = cc
 
 -- a label is read as it was shown
 label_back : (l : Option (Listed ℕ)) → is_label l ≡ true → label_in (label_value l) ≡ Some l

@@ -7,7 +7,8 @@ use Rattle.std.specs.Option.{option_map}
 use Rattle.std.proofs.lemmas.Bool.{and_parts}
 use Rattle.do_base.specs.names.Names.{ObjectName}
 use Rattle.do_center.specs.Calls.{added, suspended, with_suspended}
-use Rattle.do_center.specs.History.{after, is_suspended, left}
+use Rattle.do_acts.specs.History.{left}
+use Rattle.do_center.specs.History.{after, is_suspended}
 use Rattle.do_center.specs.Observers.{are_distinct, has_object, same_object, without_first}
 use Rattle.do_center.specs.Posting.{came_to_all, posted_of}
 use Rattle.do_center.specs.Queues.{deliveries}
@@ -22,7 +23,7 @@ use Rattle.do_center.proofs.SameObject.{same_is, same_sym}
 
 -- a registration more leaves those that are suspended
 add_same : (c : Core) (r : Registration)
-    → (left c (option_map (λ d. (d, [])) (added c r))).1 ≡ c.1
+    → (left {Answer = List Delivery} c (option_map (λ d. (d, [])) (added c r))).1 ≡ c.1
 add_same c r = by (nat_lt (length c.0) 256)
   where
     none : List Delivery

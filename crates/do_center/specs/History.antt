@@ -1,26 +1,20 @@
 -- What the calls made so far leave, and what they tell of registrations and of who is suspended.
 use Rattle.std.specs.Prelude.{Bool, true, false, not, ◌&&◌, ◌||◌, nat_lt}
-use Rattle.std.specs.Prelude.{Option, Some, None, List, [], ◌∷◌, ◌++◌, length, if◌then◌else◌}
+use Rattle.std.specs.Prelude.{List, [], ◌∷◌, ◌++◌, length, if◌then◌else◌}
 use Rattle.std.specs.List.{filter}
 use Rattle.do_base.specs.names.Names.{ObjectName}
+use Rattle.do_acts.specs.History.{after_calls}
 use Rattle.do_center.specs.Calls.{does}
 use Rattle.do_center.specs.Observers.{same_object}
 use Rattle.do_center.specs.Removing.{goes}
 use Rattle.do_center.specs.Seats.{Core}
 use Rattle.do_center.specs.declared.calls.Call.{Call}
 use Rattle.do_center.specs.declared.calls.Call.TheVariants.{Add, Remove, Suspend}
-use Rattle.do_center.specs.declared.notes.Delivery.{Delivery}
 use Rattle.do_center.specs.declared.registrations.Registration.{Registration}
-
--- what was done, or the core as it was
-abbrev pub left : Core → Option (Core × List Delivery) → Core
-left c None = c
-left c (Some done) = done.0
 
 -- the core after these calls, of which the first made stands last
 abbrev pub after : List Call → Core
-after [] = ([], [])
-after (call ∷ earlier) = left (after earlier) (does (after earlier) call)
+after h = after_calls ([], []) does h
 
 -- with one more, where there is room
 abbrev pub with_last : List Registration → Registration → List Registration

@@ -36,7 +36,7 @@ pub enum Call {
 
 impl Center {
     /// Does a call, and gives its deliveries, in order. On any error the core is unchanged.
-    #[tactic(auto, using(crate::proofs::OneCallMore::after_call))]
+    #[tactic(auto, using(do_acts::specs::laws::HistoryLaws::after_call))]
     pub fn perform(&mut self, call: Call) -> Result<Deliveries, CoreFault>
         requires { IsCall call }
         ensures done { IfOk result (λ sent. does self.old call ≡ Some (self.new, sent)) }

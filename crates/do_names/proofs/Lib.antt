@@ -1,3 +1,2 @@
 pub mod IsTold
 pub mod SlotsExact
-pub mod OneCallMore

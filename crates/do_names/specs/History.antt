@@ -1,16 +1,10 @@
 -- What the calls made so far leave.
-use Rattle.std.specs.Prelude.{List, [], ◌∷◌, Option, Some, None}
-use Rattle.do_base.specs.declared.values.value.Value.{Value}
+use Rattle.std.specs.Prelude.{List, []}
+use Rattle.do_acts.specs.History.{after_calls}
 use Rattle.do_names.specs.Calls.{does}
 use Rattle.do_names.specs.declared.calls.Call.{Call}
 use Rattle.do_names.specs.Core.{Entry}
 
--- what was done, or the names as they were
-abbrev pub left : List Entry → Option (List Entry × Value) → List Entry
-left es None = es
-left es (Some done) = done.0
-
 -- the names after these calls, of which the first made stands last
 abbrev pub after : List Call → List Entry
-after [] = []
-after (call ∷ earlier) = left (after earlier) (does (after earlier) call)
+after h = after_calls [] does h

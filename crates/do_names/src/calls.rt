@@ -72,7 +72,7 @@ pub(crate) fn call_in(selector: &Text, inv: &Invocation) -> Result<Option<Call>,
 impl Names {
     /// Does a call, and gives its answer as a value: 1 or 0 for yes or no, the port or 0 of a
     /// lookup. On any error the names are unchanged.
-    #[tactic(auto, using(crate::proofs::OneCallMore::after_call))]
+    #[tactic(auto, using(do_acts::specs::laws::HistoryLaws::after_call))]
     pub fn perform(&mut self, call: Call) -> Result<Value, CoreFault>
         requires { IsCall call }
         ensures done { IfOk result (λ answer. does self.old call ≡ Some (self.new, answer)) }

@@ -10,7 +10,8 @@ use Rattle.do_table.specs.Entries.{value_of}
 use Rattle.do_pboard.specs.Calls.{with_count}
 use Rattle.do_pboard.specs.Changes.{can_grow, declared}
 use Rattle.do_pboard.specs.Core.{Pasteboard}
-use Rattle.do_pboard.specs.History.{after, left}
+use Rattle.do_acts.specs.History.{left}
+use Rattle.do_pboard.specs.History.{after}
 use Rattle.do_pboard.specs.Meaning.{told_count, told_data}
 use Rattle.do_pboard.specs.Meaning.{told_owner, told_types}
 use Rattle.do_pboard.specs.declared.calls.Call.{Call}

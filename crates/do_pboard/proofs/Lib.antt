@@ -1,4 +1,3 @@
-pub mod OneCallMore
 pub mod TypesAdded
 pub mod TypesReplaced
 pub mod TypesLater

@@ -11,14 +11,13 @@ use Rattle.do_base.specs.declared.events.exception.Exc.TheVariants.{Range}
 use Rattle.do_class.specs.Class.{Class}
 use Rattle.do_grammar.specs.Words.{◌>>?◌}
 use Rattle.do_behave.specs.Steps.{local}
-use Rattle.do_behave.specs.declared.invocation.Handler.{Handler}
 use Rattle.do_behave.specs.declared.invocation.Invocation.{Invocation}
 use Rattle.do_behave.specs.declared.act.Act.{Act}
 use Rattle.do_behave.specs.declared.act.Act.TheVariants.{New, Raise}
 use Rattle.do_behave.specs.declared.change.LocalSet.{LocalSet}
 use Rattle.do_acts.specs.Limited.{is_limited}
 use Rattle.do_acts.specs.Places.{at_place, by_selector, does_call, in_two, returns, sends}
-use Rattle.do_acts.specs.Steps.{changes, fits, steps}
+use Rattle.do_acts.specs.Steps.{caught_to, changes, fits, set, steps}
 use Rattle.do_table.specs.Entries.{value_of}
 use Rattle.do_pboard.specs.Core.{Pasteboard, boards_slot, from_slots, owner_in, to_slots}
 use Rattle.do_pboard.specs.Calls.{call_in, does, types_in}
@@ -26,14 +25,6 @@ use Rattle.do_pboard.specs.Changes.{data_for, keeps, same_owner}
 use Rattle.do_pboard.specs.declared.board.BoardData.{BoardData}
 use Rattle.do_pboard.specs.declared.board.BoardData.TheVariants.{Here, Ask, Absent}
 use Rattle.do_pboard.specs.declared.calls.Call.TheVariants.{Declare}
-
--- a value for a local
-abbrev pub set : ℕ → Value → LocalSet
-set k v = record { local = k; value = v }
-
--- an exception goes to local 15, and the method goes on at this place
-abbrev pub caught_to : ℕ → Option Handler
-caught_to place = Some (record { into = 15; pc = place })
 
 -- the former owner, where it is to be told of the new one
 abbrev pub to_tell : Option ObjectName → Option ObjectName → Option ObjectName

@@ -4,8 +4,9 @@ ghost use Rattle.do_base.specs.declared.values.value.Value.TheVariants.{Nil};
 ghost use Rattle.do_behave.specs.Changes.{Means};
 ghost use Rattle.do_behave.specs.Steps.{or_fault};
 ghost use Rattle.do_acts.specs.Places.{at_place};
+ghost use Rattle.do_acts.specs.Steps.{set};
 ghost use Rattle.do_pboard.specs.Acts.{asks, data_places, found_now, look_next, look_sets, looks};
-ghost use Rattle.do_pboard.specs.Acts.{looks_again, set};
+ghost use Rattle.do_pboard.specs.Acts.{looks_again};
 
 use crate::board::{Board, BoardData};
 use crate::sets::{ANSWER, caught_to, one_set, two_sets};

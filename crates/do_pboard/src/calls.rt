@@ -179,7 +179,7 @@ fn declare(board: &mut Board, types: Texts, owner: Option<Oid>) -> Result<Value,
 impl Board {
     /// Does a call, and gives its answer as a value: a change count, 1 or 0 for yes or no, a text,
     /// an object, a list of texts, or nil for none. On any error the pasteboard is unchanged.
-    #[tactic(auto, using(crate::proofs::OneCallMore::after_call))]
+    #[tactic(auto, using(do_acts::specs::laws::HistoryLaws::after_call))]
     pub fn perform(&mut self, call: Call) -> Result<Value, CoreFault>
         requires { IsCall call }
         ensures done { IfOk result (λ answer. does self.old call ≡ Some (self.new, answer)) }

@@ -9,7 +9,8 @@ use Rattle.do_table.specs.laws.TableLaws.{same_name, value_pushed, value_removed
 use Rattle.do_table.specs.laws.TableLaws.{distinct_pushed, distinct_removed}
 use Rattle.do_services.specs.Calls.{as_number}
 use Rattle.do_services.specs.Core.{Entry, add_at, keyed}
-use Rattle.do_services.specs.History.{left, after}
+use Rattle.do_acts.specs.History.{left}
+use Rattle.do_services.specs.History.{after}
 use Rattle.do_services.specs.Meaning.{told}
 use Rattle.do_services.specs.declared.calls.Call.{Call}
 use Rattle.do_services.specs.declared.calls.Call.TheVariants.{Add, Remove, Items, Named}

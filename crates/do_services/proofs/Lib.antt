@@ -1,4 +1,3 @@
-pub mod OneCallMore
 pub mod IsTold
 pub mod CoreRead
 pub mod ReadEach

@@ -14,8 +14,7 @@ use Rattle.do_behave.specs.declared.act.Act.{Act}
 use Rattle.do_behave.specs.declared.act.Act.TheVariants.{Root, Send}
 use Rattle.do_behave.specs.declared.change.LocalSet.{LocalSet}
 use Rattle.do_acts.specs.Places.{at_place, by_selector, does_call, in_two, returns}
-use Rattle.do_acts.specs.Steps.{steps}
-use Rattle.do_pboard.specs.Acts.{caught_to, set}
+use Rattle.do_acts.specs.Steps.{caught_to, set, steps}
 use Rattle.do_pboard.specs.Core.{owner_in}
 use Rattle.do_table.specs.Entries.{value_of}
 use Rattle.do_services.specs.Calls.{call_in, does}

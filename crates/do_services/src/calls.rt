@@ -93,7 +93,7 @@ fn row_or_nil(service: Option<&Service>) -> Result<Value, AllocError>
 impl Services {
     /// Does a call, and gives its answer as a value: 1 or 0 for yes or no, a list of items, or a
     /// service as a list, nil for none. On any error the services are unchanged.
-    #[tactic(auto, using(crate::proofs::OneCallMore::after_call))]
+    #[tactic(auto, using(do_acts::specs::laws::HistoryLaws::after_call))]
     pub fn perform(&mut self, call: Call) -> Result<Value, CoreFault>
         requires { IsCall call }
         ensures done { IfOk result (λ answer. does self.old call ≡ Some (self.new, answer)) }

@@ -7,7 +7,7 @@ ghost use Rattle.do_base.specs.declared.values.value.Value.TheVariants.{Text as 
 ghost use Rattle.do_behave.specs.Changes.{Means};
 ghost use Rattle.do_behave.specs.Steps.{or_fault};
 ghost use Rattle.do_acts.specs.Places.{at_place};
-ghost use Rattle.do_pboard.specs.Acts.{set};
+ghost use Rattle.do_acts.specs.Steps.{set};
 ghost use Rattle.do_services.specs.Acts.{has_type, keeps_on, perform_next, perform_places};
 ghost use Rattle.do_services.specs.Acts.{performs, was_performed, was_raised};
 

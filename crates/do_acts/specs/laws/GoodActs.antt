@@ -82,6 +82,13 @@ module _ (made : Type 0) (table : Listed Class) (inv : Invocation) (slots : List
   fits_good None f each = range_good
   fits_good (Some x) f each = each x refl
 
+  -- what is done, and keeps this, leads to a good act
+  pub fits_kept : {A : Type 0} (P : A → Type 0) (o : Option A) (f : A → Act) → IfSome o P
+      → ((x : A) → P x → IsGood made table inv slots (f x))
+      → IsGood made table inv slots (fits o f)
+  fits_kept P None f kept each = range_good
+  fits_kept P (Some x) f kept each = each x kept
+
   -- of two good acts each may be chosen
   pub choice_good : (b : Bool) (one other : Option Act) → MayGood one → MayGood other
       → MayGood (if b then one else other)

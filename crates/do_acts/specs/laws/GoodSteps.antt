@@ -2,17 +2,17 @@
 use Rattle.std.proofs.Common.{◌≡◌, ℕ, ◌+◌, ◌<◌, ◌≤◌, inl, Bool, true, false, ◌&&◌, List as Listed}
 use Rattle.std.proofs.Common.{[], ◌∷◌, ◌++◌, length, Option, Some, map, refl, ◌∙◌, arith}
 use Rattle.std.specs.Prelude.{slice_set, nat_le, if◌then◌else◌}
-use Rattle.std.specs.List.{All, list_all}
+use Rattle.std.specs.List.{All, AllByRecursion, list_all}
+use Rattle.std.specs.Option.{IfSome}
 use Rattle.std.proofs.lemmas.Bool.{and_parts, leb-true}
 use Rattle.std.proofs.lemmas.List.{length-set}
 use Rattle.std.proofs.lemmas.List.Elements.{All-nil, All-cons, All-head, All-tail, All-set}
-use Rattle.std.proofs.lemmas.List.Elements.{All-append}
+use Rattle.std.proofs.lemmas.List.Elements.{All-append, All-from_recursion, All-map}
 use Rattle.do_base.specs.values.Equal.{value_eq}
 use Rattle.do_base.specs.values.Values.{weight_of}
 use Rattle.do_base.specs.declared.values.value.Value.{Value}
 use Rattle.do_base.specs.declared.events.exception.Exc.TheVariants.{Range}
 use Rattle.do_class.specs.Class.{Class}
-use Rattle.do_grammar.specs.Words.{◌>>?◌}
 use Rattle.do_behave.specs.Answers.{AnswersWell, NamesShown}
 use Rattle.do_behave.specs.Changes.{with_set}
 use Rattle.do_behave.specs.Limits.{IsLimited, has_small_parts, nests_within}
@@ -26,10 +26,12 @@ use Rattle.do_behave.specs.declared.change.LocalSet.{LocalSet}
 use Rattle.do_behave.specs.laws.CodeSuits.{All-first}
 use Rattle.do_behave.specs.laws.WeightsKept.{shown_weighs}
 use Rattle.do_acts.specs.Limited.{is_limited}
-use Rattle.do_acts.specs.Places.{does_call}
-use Rattle.do_acts.specs.Steps.{changes, steps, answered, fits}
-use Rattle.do_acts.specs.laws.GoodActs.{IsGood, MayGood, range_good, then_good, fits_good}
-use Rattle.do_acts.specs.laws.NamedValues.{Named, locals_named}
+use Rattle.do_acts.specs.Places.{does_call, in_two}
+use Rattle.do_acts.specs.Steps.{changes, set, steps}
+use Rattle.do_acts.specs.laws.FoundLaws.{of_found}
+use Rattle.do_acts.specs.laws.GoodActs.{IsGood, MayGood, fits_kept, range_good, then_good}
+use Rattle.do_acts.specs.laws.GoodActs.{two_good}
+use Rattle.do_acts.specs.laws.NamedValues.{EachNamed, Named, locals_named}
 
 -- what holds of the locals and of each new value holds of the locals once these are set
 set_kept : (P : Value → Type 0) (locals : Listed Value) (sets : Listed LocalSet) → All P locals
@@ -101,13 +103,9 @@ all_passed value P (x ∷ xs) each all =
     All-cons (λ y. P (value y)) x xs (each (value x) parts.0)
     (all_passed value P xs each parts.1)
 
--- what holds of the value of each holds of the values
-all_mapped : {A : Type 0} (value : A → Value) (P : Value → Type 0) (xs : Listed A)
-    → All (λ x. P (value x)) xs → All P (map value xs)
-all_mapped value P [] all = All-nil P
-all_mapped value P (x ∷ xs) all =
-    All-cons P (value x) (map value xs) (All-head (λ y. P (value y)) x xs all)
-    (all_mapped value P xs (All-tail (λ y. P (value y)) x xs all))
+-- each value that is set may be named
+abbrev pub SetsNamed : Invocation → Listed Value → Listed LocalSet → Type 0
+SetsNamed inv slots sets = AllByRecursion (λ (s : LocalSet). Named inv slots s.value) sets
 
 module _ (made : Type 0) (table : Listed Class) (inv : Invocation) (slots : Listed Value) where
   -- what holds of each value that is set
@@ -129,7 +127,7 @@ module _ (made : Type 0) (table : Listed Class) (inv : Invocation) (slots : List
   step_values P sets writes all set written =
       All-append P (with_set inv.locals sets) (map (λ (w : Write). w.value) writes)
       (set_kept P inv.locals sets all set)
-      (all_mapped (λ (w : Write). w.value) P writes written)
+      (All-map P (λ (w : Write). w.value) writes written)
 
   module _ (sixteen : length inv.locals ≡ 16) (to : ℕ) (sets : Listed LocalSet)
       (handler : Option Handler) (writes : Listed Write)
@@ -198,33 +196,43 @@ module _ (made : Type 0) (table : Listed Class) (inv : Invocation) (slots : List
       (changes_within 0 (length slots) slots new (omega arith)) set
       (changes_kept (Named inv slots) 0 slots new named)
 
-  -- the first step of a method of two places is good
-  pub answered_good : length inv.locals ≡ 16 → (value : Value) (new : Listed Value)
-      → Named inv slots value → All (Named inv slots) new
-      → IsGood made table inv slots (answered inv value (changes 0 slots new))
-  answered_good sixteen value new is named =
-      let set : LocalSet = record { local = 14; value = value } in
-      stores_good sixteen 1 (set ∷ []) inv.handler new (λ ready. ready.handler)
-      (All-cons (λ (s : LocalSet). Named inv slots s.value) set [] is
-      (All-nil (λ (s : LocalSet). Named inv slots s.value))) named
+  -- a step that sets locals alone is good
+  pub sets_good : length inv.locals ≡ 16 → (to : ℕ) (sets : Listed LocalSet)
+      (handler : Option Handler) → (IsReady table inv slots → IsHandler handler)
+      → SetsNamed inv slots sets → IsGood made table inv slots (steps inv to sets handler [])
+  sets_good sixteen to sets handler handled named =
+      steps_good sixteen to sets handler [] handled
+      (All-nil (λ (w : Write). w.slot < length slots))
+      (All-from_recursion (λ (s : LocalSet). Named inv slots s.value) sets named)
+      (All-nil (λ (w : Write). Named inv slots w.value))
 
-  -- A method that only answers is good: owed are the objects of its answers and of the slots of its
-  -- cores.
-  pub call_good : length inv.locals ≡ 16 → {Core Call : Type 0} (from : Listed Value → Option Core)
-      (to : Core → Listed Value) (does : Core → Call → Option (Core × Value)) (call : Option Call)
-      → ((core : Core) (asked : Call) (done : Core × Value) → from slots ≡ Some core
-      → call ≡ Some asked → does core asked ≡ Some done
-      → Named inv slots done.1 × All (Named inv slots) (to done.0))
-      → MayGood made table inv slots (does_call from to does call inv slots)
-  call_good sixteen from to does call named =
-      then_good made table inv slots (from slots)
-      (λ core. call >>? λ asked.
-      Some (fits (does core asked) (λ done. answered inv done.1 (changes 0 slots (to done.0)))))
-      (λ core read. then_good made table inv slots call
-      (λ asked.
-      Some (fits (does core asked) (λ done. answered inv done.1 (changes 0 slots (to done.0)))))
-      (λ asked is. fits_good made table inv slots (does core asked)
-      (λ done. answered inv done.1 (changes 0 slots (to done.0)))
-      (λ done was.
-      let both = named core asked done read is was in
-      answered_good sixteen done.1 (to done.0) both.0 both.1)))
+  -- and so is one that keeps the slots of a core
+  pub keeps_good : length inv.locals ≡ 16 → (to : ℕ) (sets : Listed LocalSet)
+      (handler : Option Handler) (new : Listed Value)
+      → (IsReady table inv slots → IsHandler handler) → SetsNamed inv slots sets
+      → EachNamed inv slots new
+      → IsGood made table inv slots (steps inv to sets handler (changes 0 slots new))
+  keeps_good sixteen to sets handler new handled set named =
+      stores_good sixteen to sets handler new handled
+      (All-from_recursion (λ (s : LocalSet). Named inv slots s.value) sets set)
+      (All-from_recursion (Named inv slots) new named)
+
+  -- A method that only answers is good, where the core that is read, the call, what it leaves and
+  -- its answer may be named, and so may the slots of such a core.
+  pub answers_good : length inv.locals ≡ 16 → {Core Call : Type 0}
+      (from : Listed Value → Option Core) (to : Core → Listed Value)
+      (does : Core → Call → Option (Core × Value)) (call : Option Call)
+      (NamedCore : Core → Type 0) (NamedCall : Call → Type 0)
+      → ((core : Core) → from slots ≡ Some core → NamedCore core) → IfSome call NamedCall
+      → ((core : Core) (asked : Call) → NamedCore core → NamedCall asked
+      → IfSome (does core asked) (λ done. Named inv slots done.1 × NamedCore done.0))
+      → ((core : Core) → NamedCore core → EachNamed inv slots (to core))
+      → MayGood made table inv slots (in_two inv (does_call from to does call inv slots))
+  answers_good sixteen from to does call NamedCore NamedCall read asks done shows =
+      two_good made table inv slots (does_call from to does call inv slots)
+      (then_good made table inv slots (from slots) _ (λ core is.
+      then_good made table inv slots call _ (λ asked found.
+      fits_kept made table inv slots (λ d. Named inv slots d.1 × NamedCore d.0) (does core asked) _
+      (done core asked (read core is) (of_found NamedCall call asked found asks)) (λ d kept.
+      keeps_good sixteen 1 (set 14 d.1 ∷ []) inv.handler (to d.0) (λ ready. ready.handler)
+      (kept.0, tt) (shows d.0 kept.1)))))

@@ -1,5 +1,5 @@
 -- A notification centre names only what was shown, and answers well.
-use Rattle.std.proofs.Common.{◌≡◌, ℕ, ◌<◌, ◌+◌, ◌*◌, ◌==◌, true, List as Listed}
+use Rattle.std.proofs.Common.{◌≡◌, ℕ, ◌+◌, ◌*◌, ◌==◌, true, List as Listed}
 use Rattle.std.proofs.Common.{[]}
 use Rattle.std.proofs.Common.{◌∷◌, Option, Some, refl, sym, subst, arith, length}
 use Rattle.std.specs.Prelude.{◌-◌, ◌/◌, ◌%◌, slice_get, nat_le}
@@ -19,16 +19,14 @@ use Rattle.do_behave.specs.Steps.{local}
 use Rattle.do_behave.specs.declared.invocation.Invocation.{Invocation}
 use Rattle.do_behave.specs.declared.act.Act.{Act}
 use Rattle.do_behave.specs.declared.act.Act.TheVariants.{Send}
-use Rattle.do_behave.specs.declared.act.Write.{Write}
-use Rattle.do_behave.specs.declared.change.LocalSet.{LocalSet}
 use Rattle.do_behave.specs.laws.Sound.{IsKept, get_kept}
 use Rattle.do_acts.specs.Places.{returns}
 use Rattle.do_acts.specs.Steps.{steps}
-use Rattle.do_acts.specs.laws.GoodActs.{IsGood, MayGood, choice_good, fits_good, kept_good}
+use Rattle.do_acts.specs.laws.FoundLaws.{of_found}
+use Rattle.do_acts.specs.laws.GoodActs.{IsGood, MayGood, choice_good, fits_kept, kept_good}
 use Rattle.do_acts.specs.laws.GoodActs.{returns_good, selector_good, then_good, type_good}
-use Rattle.do_acts.specs.laws.GoodSteps.{steps_good, stores_good}
+use Rattle.do_acts.specs.laws.GoodSteps.{keeps_good, sets_good}
 use Rattle.do_acts.specs.laws.KindLaws.{found_of, items_read, passed}
-use Rattle.do_acts.specs.laws.NamedValues.{Named}
 use Rattle.do_center.specs.Acts.{act_of, call_in, center_act, delivering, delivers, delivery_at}
 use Rattle.do_center.specs.Acts.{few}
 use Rattle.do_center.specs.Acts.{first, found, keeps, kept, kept_in, later, method_act, method_of}
@@ -39,7 +37,7 @@ use Rattle.do_center.specs.Slots.{from_slots, to_slots}
 use Rattle.do_center.specs.declared.methods.Method.{Method}
 use Rattle.do_center.specs.laws.CallsRead.{selector_read}
 use Rattle.do_center.specs.laws.NamedParts.{core_from, core_to, kept_named}
-use Rattle.do_center.specs.laws.NamedCalls.{call_named, done_named}
+use Rattle.do_center.specs.laws.NamedCalls.{NamedCall, NamedDone, call_named, done_named}
 
 -- local 13 is a local, three times
 aside_locals : All IsLocal (13 ∷ 13 ∷ 13 ∷ [])
@@ -63,10 +61,11 @@ module _ (table : Listed Class) (inv : Invocation) (slots : Listed Value)
   first_good m =
       then_good (Unit {0}) table inv slots (from_slots slots) _ (λ core read.
       then_good (Unit {0}) table inv slots (call_in m inv) _ (λ call asked.
-      fits_good (Unit {0}) table inv slots (does core call) (keeps m inv slots) (λ done was.
-      let named = done_named inv slots core call done (core_from inv slots core read)
-      (call_named inv slots m call asked) was in
-      stores_good (Unit {0}) table inv slots sixteen 1 (kept m done.1) inv.handler
+      fits_kept (Unit {0}) table inv slots (NamedDone inv slots) (does core call)
+      (keeps m inv slots)
+      (done_named inv slots core call (core_from inv slots core read)
+      (of_found (NamedCall inv slots) (call_in m inv) call asked (call_named inv slots m)))
+      (λ done named. keeps_good (Unit {0}) table inv slots sixteen 1 (kept m done.1) inv.handler
       (to_slots done.0) (λ ready. ready.handler) (kept_named inv slots m done.1 named.1)
       (core_to inv slots done.0 named.0))))
 
@@ -88,11 +87,8 @@ module _ (table : Listed Class) (inv : Invocation) (slots : Listed Value)
       five_good (λ a b c d e.
       Some (steps inv (inv.pc + 1) [] (Some (record { into = 15; pc = inv.pc + 2 })) [])) parts
       (λ a b c d e is.
-      steps_good (Unit {0}) table inv slots sixteen (inv.pc + 1) []
-      (Some (record { into = 15; pc = inv.pc + 2 })) [] (λ ready. omega arith)
-      (All-nil (λ (w : Write). w.slot < length slots))
-      (All-nil (λ (s : LocalSet). Named inv slots s.value))
-      (All-nil (λ (w : Write). Named inv slots w.value)))
+      sets_good (Unit {0}) table inv slots sixteen (inv.pc + 1) []
+      (Some (record { into = 15; pc = inv.pc + 2 })) (λ ready. omega arith) tt)
 
   -- values that are kept where those of the locals are
   abbrev AreShown : Listed Value → Type 1

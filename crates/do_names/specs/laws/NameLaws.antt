@@ -1,9 +1,6 @@
 -- A server of names names only what was shown, and answers well.
-use Rattle.std.proofs.Common.{◌≡◌, pos, Bool, List as Listed, [], ◌∷◌, Option, Some, None, map}
-use Rattle.std.proofs.Common.{subst}
-use Rattle.std.specs.Option.{option_map}
-use Rattle.std.specs.List.{All}
-use Rattle.std.proofs.lemmas.List.Elements.{All-nil, All-cons}
+use Rattle.std.proofs.Common.{pos, Bool, List as Listed, [], ◌∷◌, Option, Some, None}
+use Rattle.std.specs.Option.{IfSome, option_map}
 use Rattle.do_base.specs.declared.values.value.Value.{Value}
 use Rattle.do_base.specs.declared.values.value.Value.TheVariants.{Num, Text}
 use Rattle.do_class.specs.Class.{Class}
@@ -12,63 +9,59 @@ use Rattle.do_behave.specs.Numbers.{truth}
 use Rattle.do_behave.specs.Ready.{IsReady}
 use Rattle.do_behave.specs.declared.invocation.Invocation.{Invocation}
 use Rattle.do_acts.specs.Places.{in_two}
-use Rattle.do_acts.specs.Rows.{listed}
-use Rattle.do_acts.specs.laws.GoodActs.{IsGood, two_good, selector_good}
-use Rattle.do_acts.specs.laws.GoodSteps.{call_good}
-use Rattle.do_acts.specs.laws.KindLaws.{some_same}
-use Rattle.do_acts.specs.laws.NamedValues.{Named, number_named, text_named, list_named, rows_named}
+use Rattle.do_acts.specs.laws.GoodActs.{IsGood, selector_good}
+use Rattle.do_acts.specs.laws.GoodSteps.{answers_good}
+use Rattle.do_acts.specs.laws.NamedValues.{EachNamed, Named, list_of_parts, number_named}
+use Rattle.do_acts.specs.laws.NamedValues.{rows_named, text_named}
 use Rattle.do_table.specs.Entries.{value_of}
 use Rattle.do_names.specs.Acts.{first, names_act}
 use Rattle.do_names.specs.Calls.{as_number, call_in, does, port_or_none}
-use Rattle.do_names.specs.Core.{from_slots, to_slots, row, registered, unregistered}
+use Rattle.do_names.specs.Core.{Entry, from_slots, to_slots, row, registered, unregistered}
 use Rattle.do_names.specs.declared.calls.Call.{Call}
 use Rattle.do_names.specs.declared.calls.Call.TheVariants.{Register, Lookup, Unregister}
-use Rattle.do_names.specs.Core.{Entry}
 
 module _ (inv : Invocation) (slots : Listed Value) where
   -- an entry names no object
   row_named : (e : Entry) → Named inv slots (row e)
   row_named e =
-      let port : Value = Num (pos e.1) in
-      list_named inv slots (Text e.0 ∷ port ∷ [])
-      (All-cons (Named inv slots) (Text e.0) (port ∷ []) (text_named inv slots e.0)
-      (All-cons (Named inv slots) port [] (number_named inv slots (pos e.1))
-      (All-nil (Named inv slots))))
+      list_of_parts inv slots (Text e.0 ∷ Num (pos e.1) ∷ [])
+      (text_named inv slots e.0, (number_named inv slots (pos e.1), tt))
 
   -- nor do the slots of a core
-  core_named : (es : Listed Entry) → All (Named inv slots) (to_slots es)
-  core_named es =
-      All-cons (Named inv slots) (listed (map row es)) []
-      (rows_named inv slots row row_named es) (All-nil (Named inv slots))
+  core_named : (es : Listed Entry) → EachNamed inv slots (to_slots es)
+  core_named es = (rows_named inv slots row row_named es, tt)
 
-  -- nor does an answer, which is a number
-  answer_named : (es : Listed Entry) (call : Call) (done : Listed Entry × Value)
-      → does es call ≡ Some done → Named inv slots done.1
-  answer_named es (Register name port) done is = from (registered es name port) done is
-    where
-      from : (o : Option (Listed Entry × Bool)) (d : Listed Entry × Value)
-          → option_map as_number o ≡ Some d → Named inv slots d.1
-      from None d e = cc
-      from (Some r) d e =
-          subst (λ (o : Listed Entry × Value). Named inv slots o.1) (some_same e)
-          (number_named inv slots (truth r.1))
-  answer_named es (Lookup name) done is =
-      subst (λ (o : Listed Entry × Value). Named inv slots o.1) (some_same is)
-      (number_named inv slots (pos (port_or_none (value_of es name))))
-  answer_named es (Unregister name) done is =
-      subst (λ (o : Listed Entry × Value). Named inv slots o.1) (some_same is)
-      (number_named inv slots (truth (unregistered es name).1))
+  -- an answer names no object
+  abbrev NamedAnswer : Listed Entry × Value → Type 0
+  NamedAnswer done = Named inv slots done.1 × Unit {0}
+
+  -- since it is a number
+  numbered : (o : Option (Listed Entry × Bool)) → IfSome (option_map as_number o) NamedAnswer
+  numbered None = tt
+  numbered (Some done) = (number_named inv slots (truth done.1), tt)
+
+  -- so it is of each call
+  answer_named : (es : Listed Entry) (call : Call) → IfSome (does es call) NamedAnswer
+  answer_named es (Register name port) = numbered (registered es name port)
+  answer_named es (Lookup name) =
+      (number_named inv slots (pos (port_or_none (value_of es name))), tt)
+  answer_named es (Unregister name) =
+      (number_named inv slots (truth (unregistered es name).1), tt)
+
+  -- whatever the call is, it names nothing that is kept
+  asked : (call : Option Call) → IfSome call (λ (c : Call). Unit {0})
+  asked None = tt
+  asked (Some c) = tt
 
 -- each act of a server is good
 names_good : (table : Listed Class) (inv : Invocation) (slots : Listed Value)
     → IsGood (Unit {0}) table inv slots (names_act table inv slots)
 names_good table inv slots =
     selector_good (Unit {0}) table inv slots
-    (λ selector. in_two inv (first selector inv slots))
-    (λ sixteen selector _. two_good (Unit {0}) table inv slots (first selector inv slots)
-    (call_good (Unit {0}) table inv slots sixteen from_slots to_slots does (call_in selector inv)
-    (λ names call done _ _ is.
-    (answer_named inv slots names call done is, core_named inv slots done.0))))
+    (λ selector. in_two inv (first selector inv slots)) (λ sixteen selector _.
+    answers_good (Unit {0}) table inv slots sixteen from_slots to_slots does (call_in selector inv)
+    (λ es. Unit {0}) (λ c. Unit {0}) (λ es read. tt) (asked inv slots (call_in selector inv))
+    (λ es c _ _. answer_named inv slots es c) (λ es _. core_named inv slots es))
 
 -- an act of a server names only what was shown
 pub names_names_shown : (table : Listed Class) (inv : Invocation) (slots : Listed Value)

@@ -1,8 +1,7 @@
 -- A pasteboard names only what was shown, and answers well.
-use Rattle.std.proofs.Common.{◌≡◌, ℕ, ◌<◌, pos, Bool, true, false, List as Listed, [], ◌∷◌}
-use Rattle.std.proofs.Common.{Option, Some, None, refl, sym, subst, arith, length}
-use Rattle.std.specs.Prelude.{if◌then◌else◌, ◌++◌, codes}
-use Rattle.std.specs.List.{All}
+use Rattle.std.proofs.Common.{◌≡◌, ℕ, ◌<◌, pos, true, List as Listed, [], ◌∷◌}
+use Rattle.std.proofs.Common.{Option, Some, None, refl, subst, arith, length}
+use Rattle.std.specs.Prelude.{◌++◌, codes}
 use Rattle.std.specs.Option.{IfSome, IsSome}
 use Rattle.std.specs.Prelude.{slice_get, option_and_then}
 use Rattle.std.specs.Str.{bytes_eq}
@@ -11,7 +10,7 @@ use Rattle.std.proofs.lemmas.Option.{slice_get_within}
 use Rattle.do_base.specs.names.Names.{ObjectName}
 use Rattle.do_base.specs.values.Kinds.{text, number, object}
 use Rattle.do_base.specs.declared.values.value.Value.{Value}
-use Rattle.do_base.specs.declared.values.value.Value.TheVariants.{Nil, Num, Text, Obj}
+use Rattle.do_base.specs.declared.values.value.Value.TheVariants.{Nil, Text, Obj}
 use Rattle.do_class.specs.Class.{Class}
 use Rattle.do_class.specs.Table.{class_at}
 use Rattle.do_grammar.specs.Names.{is_selector}
@@ -19,47 +18,39 @@ use Rattle.do_grammar.specs.Words.{◌>>?◌}
 use Rattle.do_behave.specs.Answers.{AnswersWell, NamesShown}
 use Rattle.do_behave.specs.Limits.{IsLimited}
 use Rattle.do_behave.specs.Parts.{WeighsWithin}
-use Rattle.do_behave.specs.Ready.{IsReady, IsHandler}
+use Rattle.do_behave.specs.Ready.{IsReady}
 use Rattle.do_behave.specs.Steps.{local}
-use Rattle.do_behave.specs.declared.invocation.Handler.{Handler}
 use Rattle.do_behave.specs.declared.invocation.Invocation.{Invocation}
 use Rattle.do_behave.specs.declared.act.Act.{Act}
 use Rattle.do_behave.specs.declared.act.Act.TheVariants.{New, Raise}
 use Rattle.do_base.specs.declared.events.exception.Exc.TheVariants.{Range}
-use Rattle.do_behave.specs.declared.act.Write.{Write}
 use Rattle.do_behave.specs.declared.change.LocalSet.{LocalSet}
 use Rattle.do_behave.specs.laws.Sound.{get_kept}
 use Rattle.do_acts.specs.Limited.{is_limited}
-use Rattle.do_acts.specs.Places.{at_place, does_call, sends}
-use Rattle.do_acts.specs.Steps.{steps}
-use Rattle.do_acts.specs.laws.GoodActs.{IsGood, MayGood, choice_good, fits_good}
+use Rattle.do_acts.specs.Places.{at_place, sends}
+use Rattle.do_acts.specs.Steps.{caught_to, set, steps}
+use Rattle.do_acts.specs.laws.FoundLaws.{of_chosen}
+use Rattle.do_acts.specs.laws.GoodActs.{IsGood, MayGood, choice_good, fits_good, fits_kept}
 use Rattle.do_acts.specs.laws.GoodActs.{places_good, range_good, returns_good, selector_good}
-use Rattle.do_acts.specs.laws.GoodActs.{sends_good, then_good, two_good}
-use Rattle.do_acts.specs.laws.GoodSteps.{call_good, steps_good, stores_good}
-use Rattle.do_acts.specs.laws.KindLaws.{found_of, object_read}
-use Rattle.do_acts.specs.laws.NamedValues.{Named}
-use Rattle.do_acts.specs.laws.NamedValues.{nil_named}
-use Rattle.do_acts.specs.laws.NamedValues.{number_named}
-use Rattle.do_acts.specs.laws.NamedValues.{text_named}
+use Rattle.do_acts.specs.laws.GoodActs.{sends_good, then_good}
+use Rattle.do_acts.specs.laws.GoodSteps.{SetsNamed, answers_good, keeps_good, sets_good}
+use Rattle.do_acts.specs.laws.NamedValues.{EachNamed, Named, NamedObject, local_object, nil_named}
+use Rattle.do_acts.specs.laws.NamedValues.{number_named, text_named}
 use Rattle.do_table.specs.Entries.{value_of}
-use Rattle.do_pboard.specs.Acts.{answers, asks, caught_to, changed_owner, data_places, declare_next}
+use Rattle.do_pboard.specs.Acts.{answers, asks, changed_owner, data_places, declare_next}
 use Rattle.do_pboard.specs.Acts.{declare_places, declares, found_now, look_next, look_sets}
 use Rattle.do_pboard.specs.Acts.{looks, looks_again, makes_next, method_act, name_next, name_places}
-use Rattle.do_pboard.specs.Acts.{names_keep, names_look, pasteboard_act, provide, set, to_tell}
-use Rattle.do_pboard.specs.Calls.{call_in, does}
-use Rattle.do_pboard.specs.Calls.{types_in}
-use Rattle.do_pboard.specs.Changes.{data_for}
-use Rattle.do_pboard.specs.Changes.{keeps}
-use Rattle.do_pboard.specs.Core.{Pasteboard, boards_slot}
-use Rattle.do_pboard.specs.Core.{from_slots, owner_in}
-use Rattle.do_pboard.specs.Core.{to_slots}
+use Rattle.do_pboard.specs.Acts.{names_keep, names_look, pasteboard_act, provide, to_tell}
+use Rattle.do_pboard.specs.Calls.{call_in, does, types_in}
+use Rattle.do_pboard.specs.Changes.{data_for, keeps}
+use Rattle.do_pboard.specs.Core.{Pasteboard, boards_slot, from_slots, owner_in, to_slots}
 use Rattle.do_pboard.specs.declared.board.BoardData.{BoardData}
 use Rattle.do_pboard.specs.declared.board.BoardData.TheVariants.{Here, Ask, Absent}
 use Rattle.do_pboard.specs.declared.calls.Call.TheVariants.{Declare}
-use Rattle.do_pboard.specs.laws.NamedParts.{NamedObject, NamedOwner, core_from, core_to}
-use Rattle.do_pboard.specs.laws.NamedParts.{kept_named, board_found, done_named, local_found}
-use Rattle.do_pboard.specs.laws.NamedParts.{local_owner, call_named, asked_named, told_named}
-use Rattle.do_pboard.specs.laws.NamedParts.{SetNamed, one_set, no_set, now_named}
+use Rattle.do_pboard.specs.laws.NamedParts.{NamedCall, NamedCore, NamedData, NamedDone, NamedKept}
+use Rattle.do_pboard.specs.laws.NamedParts.{NamedOwner, board_found, call_named, core_from, core_to}
+use Rattle.do_pboard.specs.laws.NamedParts.{data_named, done_named, kept_named, local_owner}
+use Rattle.do_pboard.specs.laws.NamedParts.{now_named, told_named}
 
 -- the message to a former owner has one argument
 changed_selects : is_selector changed_owner ≡ true
@@ -81,29 +72,24 @@ module _ (table : Listed Class) (inv : Invocation) (slots : Listed Value)
   abbrev MayBeGood : Option Act → Type 0
   MayBeGood o = MayGood (Unit {0}) table inv slots o
 
-  -- a step that sets locals alone is good
-  sets_good : (to : ℕ) (sets : Listed LocalSet) (handler : Option Handler)
-      → (IsReady table inv slots → IsHandler handler) → SetNamed inv slots sets
-      → Good (steps inv to sets handler [])
-  sets_good to sets handler handled named =
-      steps_good (Unit {0}) table inv slots sixteen to sets handler [] handled
-      (All-nil (λ (w : Write). w.slot < length slots)) named
-      (All-nil (λ (w : Write). Named inv slots w.value))
+  -- a step that sets locals and keeps the handler is good
+  on_good : (to : ℕ) (sets : Listed LocalSet) → SetsNamed inv slots sets
+      → Good (steps inv to sets inv.handler [])
+  on_good to sets named =
+      sets_good (Unit {0}) table inv slots sixteen to sets inv.handler (λ ready. ready.handler)
+      named
 
   -- the step after a declaration is good
   next_good : (told : Option ObjectName) (answer : Value) (new : Listed Value)
-      → NamedOwner inv slots told → Named inv slots answer → All (Named inv slots) new
+      → NamedOwner inv slots told → Named inv slots answer → EachNamed inv slots new
       → Good (declare_next inv told answer slots new)
   next_good None answer new told named all =
-      stores_good (Unit {0}) table inv slots sixteen 2 (set 2 Nil ∷ set 14 answer ∷ []) inv.handler
-      new (λ ready. ready.handler)
-      (one_set inv slots 2 Nil (set 14 answer ∷ []) (nil_named inv slots)
-      (one_set inv slots 14 answer [] named (no_set inv slots))) all
+      keeps_good (Unit {0}) table inv slots sixteen 2 (set 2 Nil ∷ set 14 answer ∷ []) inv.handler
+      new (λ ready. ready.handler) (nil_named inv slots, (named, tt)) all
   next_good (Some former) answer new told named all =
-      stores_good (Unit {0}) table inv slots sixteen 1
+      keeps_good (Unit {0}) table inv slots sixteen 1
       (set 2 (Obj former) ∷ set 14 answer ∷ []) (caught_to 2) new (λ ready. omega arith)
-      (one_set inv slots 2 (Obj former) (set 14 answer ∷ []) told
-      (one_set inv slots 14 answer [] named (no_set inv slots))) all
+      (told, (named, tt)) all
 
   -- a declaration is good
   declares_good : MayBeGood (declares inv slots)
@@ -111,14 +97,11 @@ module _ (table : Listed Class) (inv : Invocation) (slots : Listed Value)
       then_good (Unit {0}) table inv slots (from_slots slots) _ (λ b read.
       then_good (Unit {0}) table inv slots (local inv 0 >>? types_in) _ (λ types _.
       then_good (Unit {0}) table inv slots (local inv 1 >>? owner_in) _ (λ owner given.
-      fits_good (Unit {0}) table inv slots (does b (Declare types owner)) _ (λ d was.
       let core = core_from inv slots b read in
-      let v = found_of (local inv 1) owner_in owner given in
-      let done = done_named inv slots b (Declare types owner) d core
-      (local_owner inv slots 1 v.0 owner v.1 v.2) was in
-      next_good (to_tell b.owner owner) d.1 (to_slots d.0)
-      (told_named inv slots b.owner owner core.owner) done.0
-      (core_to inv slots d.0 done.1)))))
+      fits_kept (Unit {0}) table inv slots (NamedDone inv slots) (does b (Declare types owner)) _
+      (done_named inv slots b (Declare types owner) core (local_owner inv slots 1 owner given))
+      (λ d done. next_good (to_tell b.owner owner) d.1 (to_slots d.0)
+      (told_named inv slots b.owner owner core.owner) done.0 (core_to inv slots d.0 done.1)))))
 
   -- telling the former owner is good
   tells_good : MayBeGood (sends inv 2 changed_owner (Obj inv.object ∷ []) 2)
@@ -130,21 +113,15 @@ module _ (table : Listed Class) (inv : Invocation) (slots : Listed Value)
   answered_look : (count : ℕ) (answer : Value) → Named inv slots answer
       → Good (steps inv 3 (look_sets Nil count (set 14 answer ∷ [])) inv.handler [])
   answered_look count answer named =
-      sets_good 3 (look_sets Nil count (set 14 answer ∷ [])) inv.handler (λ ready. ready.handler)
-      (one_set inv slots 1 Nil (set 2 (Num (pos count)) ∷ set 14 answer ∷ []) (nil_named inv slots)
-      (one_set inv slots 2 (Num (pos count)) (set 14 answer ∷ [])
-      (number_named inv slots (pos count))
-      (one_set inv slots 14 answer [] named (no_set inv slots))))
+      on_good 3 (look_sets Nil count (set 14 answer ∷ []))
+      (nil_named inv slots, (number_named inv slots (pos count), (named, tt)))
 
   -- the step after the first look is good
-  look_good : (count : ℕ) (found : BoardData)
-      → ((asked : ObjectName) → found ≡ Ask asked → NamedObject inv slots asked)
+  look_good : (count : ℕ) (found : BoardData) → NamedData inv slots found
       → Good (look_next inv count found)
   look_good count (Ask owner) named =
-      sets_good 1 (look_sets (Obj owner) count []) (caught_to 2) (λ ready. omega arith)
-      (one_set inv slots 1 (Obj owner) (set 2 (Num (pos count)) ∷ []) (named owner refl)
-      (one_set inv slots 2 (Num (pos count)) [] (number_named inv slots (pos count))
-      (no_set inv slots)))
+      sets_good (Unit {0}) table inv slots sixteen 1 (look_sets (Obj owner) count []) (caught_to 2)
+      (λ ready. omega arith) (named, (number_named inv slots (pos count), tt))
   look_good count (Here content) named =
       answered_look count (Text content) (text_named inv slots content)
   look_good count Absent named = answered_look count Nil (nil_named inv slots)
@@ -154,8 +131,8 @@ module _ (table : Listed Class) (inv : Invocation) (slots : Listed Value)
   looks_good =
       then_good (Unit {0}) table inv slots (from_slots slots) _ (λ b read.
       then_good (Unit {0}) table inv slots (local inv 0 >>? text) _ (λ kind _.
-      look_good b.count (data_for b kind) (λ asked is.
-      asked_named inv slots b (value_of b.types kind) asked (core_from inv slots b read).owner is)))
+      look_good b.count (data_for b kind)
+      (data_named inv slots b kind (core_from inv slots b read))))
 
   -- asking is good
   asks_good : MayBeGood (asks inv)
@@ -172,28 +149,20 @@ module _ (table : Listed Class) (inv : Invocation) (slots : Listed Value)
       then_good (Unit {0}) table inv slots (from_slots slots) _ (λ b read.
       then_good (Unit {0}) table inv slots (local inv 0 >>? text) _ (λ kind _.
       then_good (Unit {0}) table inv slots (local inv 2 >>? number) _ (λ count _.
-      sets_good 3 (set 14 (found_now b kind count) ∷ []) inv.handler (λ ready. ready.handler)
-      (one_set inv slots 14 (found_now b kind count) [] (now_named inv slots b kind count)
-      (no_set inv slots)))))
+      on_good 3 (set 14 (found_now b kind count) ∷ []) (now_named inv slots b kind count, tt))))
 
   -- the step before a pasteboard is made is good
   makes_good : (b : Pasteboard) → Good (makes_next inv b)
-  makes_good b = by (is_limited (boards_slot b.boards))
-    where
-      by : (t : Bool) → Good (if t then steps inv 1 (set 1 Nil ∷ []) inv.handler []
-          else Raise Range)
-      by true =
-          sets_good 1 (set 1 Nil ∷ []) inv.handler (λ ready. ready.handler)
-          (one_set inv slots 1 Nil [] (nil_named inv slots) (no_set inv slots))
-      by false = range_good (Unit {0}) table inv slots
+  makes_good b =
+      of_chosen Good (is_limited (boards_slot b.boards))
+      (steps inv 1 (set 1 Nil ∷ []) inv.handler []) (Raise Range)
+      (on_good 1 (set 1 Nil ∷ []) (nil_named inv slots, tt)) (range_good (Unit {0}) table inv slots)
 
   -- the step after a name was looked for is good
   name_good : (b : Pasteboard) (name : Listed ℕ) (o : Option ObjectName)
       → IfSome o (NamedObject inv slots) → Good (name_next inv b name o)
   name_good b name (Some kept) named =
-      sets_good 3 (set 1 (Obj kept) ∷ set 14 (Obj kept) ∷ []) inv.handler (λ ready. ready.handler)
-      (one_set inv slots 1 (Obj kept) (set 14 (Obj kept) ∷ []) named
-      (one_set inv slots 14 (Obj kept) [] named (no_set inv slots)))
+      on_good 3 (set 1 (Obj kept) ∷ set 14 (Obj kept) ∷ []) (named, (named, tt))
   name_good b name None named =
       fits_good (Unit {0}) table inv slots (keeps b name inv.object) _ (λ d was. makes_good d.0)
 
@@ -203,7 +172,7 @@ module _ (table : Listed Class) (inv : Invocation) (slots : Listed Value)
       then_good (Unit {0}) table inv slots (from_slots slots) _ (λ b read.
       then_good (Unit {0}) table inv slots (local inv 0 >>? text) _ (λ name _.
       name_good b name (value_of b.boards name)
-      (board_found inv slots b.boards name (core_from inv slots b read).boards)))
+      (board_found inv slots b name (core_from inv slots b read))))
 
   -- the class of a method of a table is there
   class_there : (o : Option Class) (index : ℕ) → slice_get table inv.method.class.0 ≡ o
@@ -232,28 +201,18 @@ module _ (table : Listed Class) (inv : Invocation) (slots : Listed Value)
       then_good (Unit {0}) table inv slots (from_slots slots) _ (λ b read.
       then_good (Unit {0}) table inv slots (local inv 0 >>? text) _ (λ name _.
       then_good (Unit {0}) table inv slots (local inv 1 >>? object) _ (λ new given.
-      fits_good (Unit {0}) table inv slots (keeps b name new) _ (λ d was.
-      let core = core_from inv slots b read in
-      let v = found_of (local inv 1) object new given in
-      let named = subst (Named inv slots) (sym (object_read v.0 new v.2))
-      (local_found inv slots 1 v.0 v.1) in
-      let done = kept_named inv slots b name new (value_of b.boards name) d core named
-      (board_found inv slots b.boards name core.boards) was in
-      stores_good (Unit {0}) table inv slots sixteen 3 (set 14 (Obj d.1) ∷ []) inv.handler
-      (to_slots d.0) (λ ready. ready.handler)
-      (one_set inv slots 14 (Obj d.1) [] done.0 (no_set inv slots))
-      (core_to inv slots d.0 done.1)))))
+      fits_kept (Unit {0}) table inv slots (NamedKept inv slots) (keeps b name new) _
+      (kept_named inv slots b name new (core_from inv slots b read)
+      (local_object inv slots 1 new given)) (λ d done.
+      keeps_good (Unit {0}) table inv slots sixteen 3 (set 14 (Obj d.1) ∷ []) inv.handler
+      (to_slots d.0) (λ ready. ready.handler) (done.0, tt) (core_to inv slots d.0 done.1)))))
 
   -- a method that only answers is good
-  answers_good : (selector : Listed ℕ) → MayBeGood (answers selector inv slots)
-  answers_good selector =
-      two_good (Unit {0}) table inv slots
-      (does_call from_slots to_slots does (call_in selector inv) inv slots)
-      (call_good (Unit {0}) table inv slots sixteen from_slots to_slots does (call_in selector inv)
-      (λ b call done read asked was.
-      let named = done_named inv slots b call done (core_from inv slots b read)
-      (call_named inv slots selector call asked) was in
-      (named.0, core_to inv slots done.0 named.1)))
+  asked_good : (selector : Listed ℕ) → MayBeGood (answers selector inv slots)
+  asked_good selector =
+      answers_good (Unit {0}) table inv slots sixteen from_slots to_slots does
+      (call_in selector inv) (NamedCore inv slots) (NamedCall inv slots) (core_from inv slots)
+      (call_named inv slots selector) (done_named inv slots) (core_to inv slots)
 
   -- each method is good
   method_good : (selector : Listed ℕ) → MayBeGood (method_act selector inv slots)
@@ -270,7 +229,7 @@ module _ (table : Listed Class) (inv : Invocation) (slots : Listed Value)
       (at_place inv (name_places inv slots)) (answers selector inv slots)
       (places_good (Unit {0}) table inv slots (name_places inv slots)
       (names_good, (new_good, (keep_good, (returns_good (Unit {0}) table inv slots, tt)))))
-      (answers_good selector)))
+      (asked_good selector)))
 
 -- each act of a pasteboard is good
 board_good : (table : Listed Class) (inv : Invocation) (slots : Listed Value)

@@ -1,14 +1,14 @@
 -- The objects of a pasteboard, of its calls and of what they answer may be named.
-use Rattle.std.proofs.Common.{◌≡◌, ℕ, ℤ, pos, Bool, true, false, List as Listed, [], ◌∷◌}
-use Rattle.std.proofs.Common.{Option, Some, None, map, sym, subst, length}
-use Rattle.std.specs.Prelude.{if◌then◌else◌, ◌++◌, codes, cond, nat_lt}
+use Rattle.std.proofs.Common.{◌≡◌, ℕ, ℤ, pos, Bool, true, false, List as Listed, [], ◌∷◌, Option}
+use Rattle.std.proofs.Common.{Some, None, map, sym, subst, length}
+use Rattle.std.specs.Prelude.{◌++◌, codes, nat_le, nat_lt, slice_get}
 use Rattle.std.specs.Ordering.{int_eq}
 use Rattle.std.specs.List.{All}
 use Rattle.std.specs.Map.{keys_of}
-use Rattle.std.specs.Option.{IfSome, option_map}
-use Rattle.std.specs.Prelude.{slice_get}
+use Rattle.std.specs.Option.{IfSome}
 use Rattle.std.specs.Str.{bytes_eq}
-use Rattle.std.proofs.lemmas.List.Elements.{All-nil, All-cons, All-head, All-tail, All-append}
+use Rattle.std.proofs.lemmas.List.Elements.{All-push}
+use Rattle.std.proofs.lemmas.Map.Entries.{All-lookup}
 use Rattle.do_base.specs.names.Names.{ObjectName}
 use Rattle.do_base.specs.values.Kinds.{text, number}
 use Rattle.do_base.specs.declared.values.value.Value.{Value}
@@ -17,24 +17,22 @@ use Rattle.do_grammar.specs.Words.{◌>>?◌}
 use Rattle.do_behave.specs.Numbers.{truth}
 use Rattle.do_behave.specs.Steps.{local}
 use Rattle.do_behave.specs.declared.invocation.Invocation.{Invocation}
-use Rattle.do_behave.specs.declared.change.LocalSet.{LocalSet}
-use Rattle.do_acts.specs.Rows.{list_in, listed}
-use Rattle.do_acts.specs.laws.KindLaws.{some_same, found_of, mapped_of}
-use Rattle.do_acts.specs.laws.NamedValues.{Named, each_named, items_named, list_named}
-use Rattle.do_acts.specs.laws.NamedValues.{listed_items_named, listed_named, local_named, nil_named}
-use Rattle.do_acts.specs.laws.NamedValues.{number_named, rows_named, slots_named}
-use Rattle.do_acts.specs.laws.NamedValues.{text_named, values_named}
+use Rattle.do_acts.specs.Rows.{list_in}
+use Rattle.do_acts.specs.laws.FoundLaws.{if_chosen, if_found, if_mapped, if_room, of_chosen}
+use Rattle.do_acts.specs.laws.KindLaws.{found_of}
+use Rattle.do_acts.specs.laws.NamedValues.{EachNamed, Named, NamedObject, core_read, each_named}
+use Rattle.do_acts.specs.laws.NamedValues.{list_named, list_of_parts, local_found, nil_named}
+use Rattle.do_acts.specs.laws.NamedValues.{number_named, parts_of_list, rows_named, slot_from}
+use Rattle.do_acts.specs.laws.NamedValues.{slot_to, text_named}
 use Rattle.do_table.specs.Entries.{value_of, replaced}
-use Rattle.do_pboard.specs.Acts.{found_now, if_here}
-use Rattle.do_pboard.specs.Acts.{set, to_tell}
+use Rattle.do_pboard.specs.Acts.{found_now, if_here, to_tell}
 use Rattle.do_pboard.specs.Calls.{adds_types, as_number, as_object, asks_available, call_in, does}
 use Rattle.do_pboard.specs.Calls.{sets_data, text_or_nil, types_in, with_count}
-use Rattle.do_pboard.specs.Changes.{available, can_grow, data_for, declared, extended, found, held}
-use Rattle.do_pboard.specs.Changes.{few_types, is_owned, keep_at, keeps, supplied, takes}
-use Rattle.do_pboard.specs.Changes.{with_all, with_types, same_owner}
-use Rattle.do_pboard.specs.Core.{Pasteboard, Content, NamedBoard, board_row, boards_slot}
-use Rattle.do_pboard.specs.Core.{content_row, contents, count_value, from_slots, owner_in}
-use Rattle.do_pboard.specs.Core.{owner_value, to_slots}
+use Rattle.do_pboard.specs.Changes.{available, can_grow, data_for, declared, extended, few_types}
+use Rattle.do_pboard.specs.Changes.{found, held, is_owned, keep_at, keeps, same_owner, supplied}
+use Rattle.do_pboard.specs.Changes.{takes, with_all, with_types}
+use Rattle.do_pboard.specs.Core.{Pasteboard, Content, Declared, NamedBoard, board_row, content_row}
+use Rattle.do_pboard.specs.Core.{contents, count_value, from_slots, owner_in, owner_value, to_slots}
 use Rattle.do_pboard.specs.declared.board.BoardData.{BoardData}
 use Rattle.do_pboard.specs.declared.board.BoardData.TheVariants.{Here, Ask, Absent}
 use Rattle.do_pboard.specs.declared.calls.Call.{Call}
@@ -44,18 +42,22 @@ use Rattle.do_pboard.specs.laws.PartsExact.{owner_back}
 use Rattle.do_pboard.specs.laws.SlotsExact.{read_back}
 
 module _ (inv : Invocation) (slots : Listed Value) where
-  -- an object that may be named
-  abbrev pub NamedObject : ObjectName → Type 0
-  NamedObject o = Named inv slots (Obj o)
+  -- an object that may be named, here
+  abbrev IsShown : ObjectName → Type 0
+  IsShown o = NamedObject inv slots o
 
   -- an owner that may be named
   abbrev pub NamedOwner : Option ObjectName → Type 0
-  NamedOwner o = IfSome o NamedObject
+  NamedOwner o = IfSome o IsShown
+
+  -- a pasteboard that is kept under a name may be named
+  abbrev IsNamedBoard : NamedBoard → Type 0
+  IsNamedBoard e = IsShown e.1
 
   -- the objects of a pasteboard may be named
   pub record NamedCore (b : Pasteboard) : Type 0 where
     pub owner : NamedOwner b.owner
-    pub boards : All (λ (e : NamedBoard). NamedObject e.1) b.boards
+    pub boards : All IsNamedBoard b.boards
 
   -- an owner that a slot keeps may be named where the slot may
   owner_from : (o : Option ObjectName) → Named inv slots (owner_value o) → NamedOwner o
@@ -68,177 +70,113 @@ module _ (inv : Invocation) (slots : Listed Value) where
   owner_to (Some o) named = named
 
   -- the pasteboard of a row may be named where the row may
-  board_from : (e : NamedBoard) → Named inv slots (board_row e) → NamedObject e.1
-  board_from e named =
-      let both = items_named inv slots (Text e.0 ∷ Obj e.1 ∷ []) named in
-      All-head (Named inv slots) (Obj e.1) []
-      (All-tail (Named inv slots) (Text e.0) (Obj e.1 ∷ []) both)
+  board_from : (e : NamedBoard) → Named inv slots (board_row e) → IsNamedBoard e
+  board_from e named = (parts_of_list inv slots (Text e.0 ∷ Obj e.1 ∷ []) named).1.0
 
   -- and the other way round
-  board_to : (e : NamedBoard) → NamedObject e.1 → Named inv slots (board_row e)
+  board_to : (e : NamedBoard) → IsNamedBoard e → Named inv slots (board_row e)
   board_to e named =
-      list_named inv slots (Text e.0 ∷ Obj e.1 ∷ [])
-      (All-cons (Named inv slots) (Text e.0) (Obj e.1 ∷ []) (text_named inv slots e.0)
-      (All-cons (Named inv slots) (Obj e.1) [] named (All-nil (Named inv slots))))
-
-  -- the named pasteboards may be named where their rows may
-  boards_from : (bs : Listed NamedBoard) → All (Named inv slots) (map board_row bs)
-      → All (λ (e : NamedBoard). NamedObject e.1) bs
-  boards_from [] all = All-nil (λ (e : NamedBoard). NamedObject e.1)
-  boards_from (e ∷ bs) all =
-      All-cons (λ (x : NamedBoard). NamedObject x.1) e bs
-      (board_from e (All-head (Named inv slots) (board_row e) (map board_row bs) all))
-      (boards_from bs (All-tail (Named inv slots) (board_row e) (map board_row bs) all))
-
-  -- and the other way round
-  boards_to : (bs : Listed NamedBoard) → All (λ (e : NamedBoard). NamedObject e.1) bs
-      → All (λ (e : NamedBoard). Named inv slots (board_row e)) bs
-  boards_to [] all = All-nil (λ (e : NamedBoard). Named inv slots (board_row e))
-  boards_to (e ∷ bs) all =
-      All-cons (λ (x : NamedBoard). Named inv slots (board_row x)) e bs
-      (board_to e (All-head (λ (x : NamedBoard). NamedObject x.1) e bs all))
-      (boards_to bs (All-tail (λ (x : NamedBoard). NamedObject x.1) e bs all))
+      list_of_parts inv slots (Text e.0 ∷ Obj e.1 ∷ []) (text_named inv slots e.0, (named, tt))
 
   -- the objects of a pasteboard may be named whose slots these are
   pub core_from : (b : Pasteboard) → from_slots slots ≡ Some b → NamedCore b
-  core_from b read =
-      let all : All (Named inv slots) (to_slots b) =
-      subst (All (Named inv slots)) (sym (read_back slots b read)) (slots_named inv slots) in
-      let count = count_value b.count in
-      let owner = owner_value b.owner in
-      let types = listed (map (λ (s : Listed ℕ). Text s) (keys_of b.types)) in
-      let kept = listed (map content_row (contents b.types)) in
-      let boards = boards_slot b.boards in
-      let one =
-      All-tail (Named inv slots) count (owner ∷ types ∷ kept ∷ boards ∷ []) all in
-      let two = All-tail (Named inv slots) owner (types ∷ kept ∷ boards ∷ []) one in
-      let three = All-tail (Named inv slots) types (kept ∷ boards ∷ []) two in
-      let four = All-tail (Named inv slots) kept (boards ∷ []) three in
-      record {
-        owner =
-            owner_from b.owner
-            (All-head (Named inv slots) owner (types ∷ kept ∷ boards ∷ []) one);
-        boards =
-            boards_from b.boards (listed_items_named inv slots (map board_row b.boards)
-            (All-head (Named inv slots) boards [] four));
-      }
+  core_from =
+      core_read inv slots from_slots to_slots NamedCore (read_back slots) (λ b each. record {
+        owner = owner_from b.owner each.1.0;
+        boards = slot_from inv slots board_row IsNamedBoard board_from b.boards each.1.1.1.1.0;
+      })
 
   -- a type with its data names no object
   content_named : (d : Content) → Named inv slots (content_row d)
   content_named d =
-      list_named inv slots (Text d.0 ∷ Text d.1 ∷ [])
-      (All-cons (Named inv slots) (Text d.0) (Text d.1 ∷ []) (text_named inv slots d.0)
-      (All-cons (Named inv slots) (Text d.1) [] (text_named inv slots d.1)
-      (All-nil (Named inv slots))))
+      list_of_parts inv slots (Text d.0 ∷ Text d.1 ∷ [])
+      (text_named inv slots d.0, (text_named inv slots d.1, tt))
 
   -- nor does a change count
   count_named : (n : ℕ) → Named inv slots (count_value n)
-  count_named n = by (nat_lt 0 n)
-    where
-      by : (b : Bool) → Named inv slots (if b then Num (pos n) else Nil)
-      by true = number_named inv slots (pos n)
-      by false = nil_named inv slots
-
-  -- the slot of named pasteboards that may be named may be
-  boards_named : (bs : Listed NamedBoard) → All (λ (e : NamedBoard). NamedObject e.1) bs
-      → Named inv slots (boards_slot bs)
-  boards_named bs all =
-      listed_named inv slots (map board_row bs)
-      (values_named inv slots board_row bs (boards_to bs all))
+  count_named n =
+      of_chosen (Named inv slots) (nat_lt 0 n) (Num (pos n)) Nil (number_named inv slots (pos n))
+      (nil_named inv slots)
 
   -- the slots of a pasteboard whose objects may be named may be
-  pub core_to : (b : Pasteboard) → NamedCore b → All (Named inv slots) (to_slots b)
-  core_to b named =
-      let owner = owner_value b.owner in
-      let types = listed (map (λ (s : Listed ℕ). Text s) (keys_of b.types)) in
-      let kept = listed (map content_row (contents b.types)) in
-      let boards = boards_slot b.boards in
-      All-cons (Named inv slots) (count_value b.count) (owner ∷ types ∷ kept ∷ boards ∷ [])
-      (count_named b.count)
-      (All-cons (Named inv slots) owner (types ∷ kept ∷ boards ∷ []) (owner_to b.owner named.owner)
-      (All-cons (Named inv slots) types (kept ∷ boards ∷ [])
-      (rows_named inv slots (λ (s : Listed ℕ). Text s) (text_named inv slots) (keys_of b.types))
-      (All-cons (Named inv slots) kept (boards ∷ [])
-      (rows_named inv slots content_row content_named (contents b.types))
-      (All-cons (Named inv slots) boards [] (boards_named b.boards named.boards)
-      (All-nil (Named inv slots))))))
+  pub core_to : (b : Pasteboard) → NamedCore b → EachNamed inv slots (to_slots b)
+  core_to b named = (
+    count_named b.count,
+    (
+      owner_to b.owner named.owner,
+      (
+        rows_named inv slots (λ (s : Listed ℕ). Text s) (text_named inv slots) (keys_of b.types),
+        (
+          rows_named inv slots content_row content_named (contents b.types),
+          (slot_to inv slots board_row IsNamedBoard board_to b.boards named.boards, tt),
+        ),
+      ),
+    ),
+  )
 
   -- the objects of a call may be named
   abbrev pub NamedCall : Call → Type 0
   NamedCall (Declare types owner) = NamedOwner owner
   NamedCall (AddTypes types owner) = NamedOwner owner
-  NamedCall (Keep name board) = NamedObject board
+  NamedCall (Keep name board) = IsShown board
   NamedCall _ = Unit {0}
 
   -- what a call leaves and answers may be named
   abbrev pub NamedDone : Pasteboard × Value → Type 0
   NamedDone done = Named inv slots done.1 × NamedCore done.0
 
+  -- what is left and answered as a number may be named
+  abbrev NamedLeft : Pasteboard × ℤ → Type 0
+  NamedLeft done = NamedDone (as_number done)
+
   -- what is added to a pasteboard are types
   extended_named : (b : Pasteboard) (types : Listed (Listed ℕ)) (owner : Option ObjectName)
-      (done : Pasteboard × ℤ) → NamedCore b → extended b types owner ≡ Some done
-      → NamedCore done.0
-  extended_named b types owner done named = by (is_owned b owner)
-    where
-      by : (t : Bool)
-          → (if t then option_map (with_all b) (few_types (with_types b.types types))
-          else Some (b, pos 0)) ≡ Some done → NamedCore done.0
-      by true e =
-          let all = mapped_of (with_all b) (few_types (with_types b.types types)) done e in
-          subst (λ (d : Pasteboard × ℤ). NamedCore d.0) all.2
-          (record { owner = named.owner; boards = named.boards })
-      by false e = subst (λ (d : Pasteboard × ℤ). NamedCore d.0) (some_same e) named
+      → NamedCore b → IfSome (extended b types owner) NamedLeft
+  extended_named b types owner named =
+      let all = with_types b.types types in
+      if_chosen NamedLeft (is_owned b owner) _ (Some (b, pos 0))
+      (if_mapped NamedLeft (with_all b) (few_types all)
+      (if_room (λ (ts : Listed Declared). NamedLeft (with_all b ts)) (nat_le (length all) 64) all (
+        number_named inv slots (pos b.count),
+        record { owner = named.owner; boards = named.boards },
+      ))) (number_named inv slots (pos 0), named)
 
   -- so is what is set
   supplied_named : (b : Pasteboard) (content kind : Listed ℕ) (count : ℤ) → NamedCore b
       → NamedCore (supplied b content kind count).0
-  supplied_named b content kind count named = by (takes b kind count)
-    where
-      by : (t : Bool)
-          → NamedCore (if◌then◌else◌ {A = Pasteboard × Bool} t
-          (record b { types = replaced b.types kind (Some content) }, true) (b, false)).0
-      by true = record { owner = named.owner; boards = named.boards }
-      by false = named
+  supplied_named b content kind count named =
+      of_chosen (λ (d : Pasteboard × Bool). NamedCore d.0) (takes b kind count)
+      (record b { types = replaced b.types kind (Some content) }, true) (b, false)
+      (record { owner = named.owner; boards = named.boards }) named
 
-  -- what is kept under a name may be named, and is kept with the others
-  pub kept_named : (b : Pasteboard) (name : Listed ℕ) (board : ObjectName) (o : Option ObjectName)
-      (done : Pasteboard × ObjectName) → NamedCore b → NamedObject board
-      → IfSome o NamedObject → keep_at b name board o ≡ Some done
-      → NamedObject done.1 × NamedCore done.0
-  kept_named b name board (Some had) done named new old e =
-      subst (λ (d : Pasteboard × ObjectName). NamedObject d.1 × NamedCore d.0) (some_same e)
-      (old, named)
-  kept_named b name board None done named new old e = by (nat_lt (length b.boards) 256) e
-    where
-      by : (t : Bool)
-          → (if t then Some (record b { boards = b.boards ++ (name, board) ∷ [] }, board)
-          else None) ≡ Some done → NamedObject done.1 × NamedCore done.0
-      by true e =
-          subst (λ (d : Pasteboard × ObjectName). NamedObject d.1 × NamedCore d.0) (some_same e) (
-            new,
-            record {
-              owner = named.owner;
-              boards =
-                  All-append (λ (x : NamedBoard). NamedObject x.1) b.boards ((name, board) ∷ [])
-                  named.boards
-                  (All-cons (λ (x : NamedBoard). NamedObject x.1) (name, board) [] new
-                  (All-nil (λ (x : NamedBoard). NamedObject x.1)));
-            },
-          )
-      by false e = cc
+  -- what is kept under a name may be named, and the pasteboard that keeps it
+  abbrev pub NamedKept : Pasteboard × ObjectName → Type 0
+  NamedKept d = IsShown d.1 × NamedCore d.0
+
+  -- so it is of a name that has a pasteboard or none
+  kept_at : (b : Pasteboard) (name : Listed ℕ) (board : ObjectName) (o : Option ObjectName)
+      → NamedCore b → IsShown board → IfSome o IsShown → IfSome (keep_at b name board o) NamedKept
+  kept_at b name board (Some had) named new old = (old, named)
+  kept_at b name board None named new old =
+      if_room NamedKept (nat_lt (length b.boards) 256)
+      (record b { boards = b.boards ++ (name, board) ∷ [] }, board) (
+        new,
+        record {
+          owner = named.owner;
+          boards = All-push IsNamedBoard b.boards (name, board) named.boards new;
+        },
+      )
 
   -- what is found among named pasteboards may be named
-  pub board_found : (bs : Listed NamedBoard) (name : Listed ℕ)
-      → All (λ (e : NamedBoard). NamedObject e.1) bs → IfSome (value_of bs name) NamedObject
-  board_found [] name all = tt
-  board_found (e ∷ bs) name all =
-      by (bytes_eq name e.0)
-      (board_found bs name (All-tail (λ (x : NamedBoard). NamedObject x.1) e bs all))
-    where
-      by : (t : Bool) → IfSome (value_of bs name) NamedObject
-          → IfSome (cond t (Some e.1) (value_of bs name)) NamedObject
-      by true later = All-head (λ (x : NamedBoard). NamedObject x.1) e bs all
-      by false later = later
+  pub board_found : (b : Pasteboard) (name : Listed ℕ) → NamedCore b
+      → IfSome (value_of b.boards name) IsShown
+  board_found b name named = All-lookup IsShown (bytes_eq name) b.boards named.boards
+
+  -- and so may what is kept
+  pub kept_named : (b : Pasteboard) (name : Listed ℕ) (board : ObjectName) → NamedCore b
+      → IsShown board → IfSome (keeps b name board) NamedKept
+  kept_named b name board named new =
+      kept_at b name board (value_of b.boards name) named new (board_found b name named)
 
   -- a text or nil names no object
   text_or_nil_named : (o : Option (Listed ℕ)) → Named inv slots (text_or_nil o)
@@ -246,142 +184,99 @@ module _ (inv : Invocation) (slots : Listed Value) where
   text_or_nil_named (Some s) = text_named inv slots s
 
   -- what a call leaves and answers may be named, where what it was given may
-  pub done_named : (b : Pasteboard) (call : Call) (done : Pasteboard × Value) → NamedCore b
-      → NamedCall call → does b call ≡ Some done → NamedDone done
-  done_named b (Declare types owner) done named given is = by (can_grow b.count) is
-    where
-      by : (t : Bool) → (if t then Some (with_count (declared b types owner)) else None)
-          ≡ Some done → NamedDone done
-      by true e =
-          subst NamedDone (some_same e) (
-            number_named inv slots (pos (declared b types owner).count),
-            record { owner = given; boards = named.boards },
-          )
-      by false e = cc
-  done_named b (AddTypes types owner) done named given is =
-      let all = mapped_of as_number (extended b types owner) done is in
-      subst NamedDone all.2
-      (number_named inv slots all.0.1, extended_named b types owner all.0 named all.1)
-  done_named b (SetData content kind count) done named given is =
-      subst NamedDone (some_same is) (
-        number_named inv slots (truth (supplied b content kind count).1),
-        supplied_named b content kind count named,
+  pub done_named : (b : Pasteboard) (call : Call) → NamedCore b → NamedCall call
+      → IfSome (does b call) NamedDone
+  done_named b (Declare types owner) named given =
+      if_room NamedDone (can_grow b.count) (with_count (declared b types owner)) (
+        number_named inv slots (pos (declared b types owner).count),
+        record { owner = given; boards = named.boards },
       )
-  done_named b (Available texts) done named given is =
-      subst NamedDone (some_same is)
+  done_named b (AddTypes types owner) named given =
+      if_mapped NamedDone as_number (extended b types owner) (extended_named b types owner named)
+  done_named b (SetData content kind count) named given = (
+    number_named inv slots (truth (supplied b content kind count).1),
+    supplied_named b content kind count named,
+  )
+  done_named b (Available texts) named given =
       (text_or_nil_named (available b texts >>? λ k. slice_get texts k), named)
-  done_named b Types done named given is =
-      subst NamedDone (some_same is) (
-        list_named inv slots (map (λ (s : Listed ℕ). Text s) (keys_of b.types))
-            (each_named inv slots (λ (s : Listed ℕ). Text s) (text_named inv slots)
-            (keys_of b.types)),
-        named,
-      )
-  done_named b ChangeCount done named given is =
-      subst NamedDone (some_same is) (number_named inv slots (pos b.count), named)
-  done_named b (Keep name board) done named given is =
-      let all = mapped_of as_object (keeps b name board) done is in
-      subst NamedDone all.2
-      (kept_named b name board (value_of b.boards name) all.0 named given
-      (board_found b.boards name named.boards) all.1)
-
-  -- what a local holds may be named
-  pub local_found : (k : ℕ) (v : Value) → local inv k ≡ Some v → Named inv slots v
-  local_found k v is = subst (λ o. IfSome o (Named inv slots)) is (local_named inv slots k)
-
-  -- an owner that a value names may be named where the value may
-  owner_given : (v : Value) (o : Option ObjectName) → Named inv slots v → owner_in v ≡ Some o
-      → NamedOwner o
-  owner_given v o named read =
-      owner_from o (subst (Named inv slots) (sym (owner_back v o read)) named)
+  done_named b Types named given = (
+    list_named inv slots (map (λ (s : Listed ℕ). Text s) (keys_of b.types))
+        (each_named inv slots (λ (s : Listed ℕ). Text s) (text_named inv slots) (keys_of b.types)),
+    named,
+  )
+  done_named b ChangeCount named given = (number_named inv slots (pos b.count), named)
+  done_named b (Keep name board) named given =
+      if_mapped NamedDone as_object (keeps b name board) (kept_named b name board named given)
 
   -- the owner that a local names may be named
-  pub local_owner : (k : ℕ) (v : Value) (o : Option ObjectName) → local inv k ≡ Some v
-      → owner_in v ≡ Some o → NamedOwner o
-  local_owner k v o is read = owner_given v o (local_found k v is) read
+  pub local_owner : (k : ℕ) (o : Option ObjectName) → (local inv k >>? owner_in) ≡ Some o
+      → NamedOwner o
+  local_owner k o is =
+      let v = found_of (local inv k) owner_in o is in
+      owner_from o
+      (subst (Named inv slots) (sym (owner_back v.0 o v.2)) (local_found inv slots k v.0 v.1))
 
-  -- the objects of the call that adds types may be named
-  adds_named : (call : Call) → adds_types inv ≡ Some call → NamedCall call
-  adds_named call is =
-      let types = found_of (local inv 0 >>? types_in) _ call is in
-      let owner = found_of (local inv 1 >>? owner_in) _ call types.2 in
-      let v = found_of (local inv 1) owner_in owner.0 owner.1 in
-      subst NamedCall (some_same owner.2) (local_owner 1 v.0 owner.0 v.1 v.2)
+  -- the owner of the call that adds types may be named
+  adds_named : IfSome (adds_types inv) NamedCall
+  adds_named =
+      if_found NamedCall (local inv 0 >>? types_in) _ (λ types _.
+      if_found NamedCall (local inv 1 >>? owner_in) (λ owner. Some (AddTypes types owner))
+      (local_owner 1))
 
   -- the call that sets data names none
-  sets_named : (call : Call) → sets_data inv ≡ Some call → NamedCall call
-  sets_named call is =
-      let content = found_of (local inv 0 >>? text) _ call is in
-      let kind = found_of (local inv 1 >>? text) _ call content.2 in
-      let count = found_of (local inv 2 >>? number) _ call kind.2 in
-      subst NamedCall (some_same count.2) tt
+  sets_named : IfSome (sets_data inv) NamedCall
+  sets_named =
+      if_found NamedCall (local inv 0 >>? text) _ (λ content _.
+      if_found NamedCall (local inv 1 >>? text) _ (λ kind _.
+      if_found NamedCall (local inv 2 >>? number) (λ count. Some (SetData content kind count))
+      (λ count _. tt)))
 
   -- nor does the call that asks for a type
-  available_named : (call : Call) → asks_available inv ≡ Some call → NamedCall call
-  available_named call is =
-      let texts = found_of (local inv 0 >>? list_in text) _ call is in
-      subst NamedCall (some_same texts.2) tt
-
-  -- of two calls each may be chosen
-  chosen_named : (t : Bool) (one other : Option Call)
-      → ((call : Call) → one ≡ Some call → NamedCall call)
-      → ((call : Call) → other ≡ Some call → NamedCall call)
-      → (call : Call) → (if t then one else other) ≡ Some call → NamedCall call
-  chosen_named true one other first second call is = first call is
-  chosen_named false one other first second call is = second call is
+  available_named : IfSome (asks_available inv) NamedCall
+  available_named =
+      if_found NamedCall (local inv 0 >>? list_in text) (λ texts. Some (Available texts))
+      (λ texts _. tt)
 
   -- the objects of the call of a selector may be named
-  pub call_named : (selector : Listed ℕ) (call : Call) → call_in selector inv ≡ Some call
-      → NamedCall call
+  pub call_named : (selector : Listed ℕ) → IfSome (call_in selector inv) NamedCall
   call_named selector =
-      chosen_named (bytes_eq selector (codes "addTypes:owner:")) (adds_types inv) _ adds_named
-      (chosen_named (bytes_eq selector (codes "setData:forType:count:")) (sets_data inv) _
+      if_chosen NamedCall (bytes_eq selector (codes "addTypes:owner:")) (adds_types inv) _
+      adds_named
+      (if_chosen NamedCall (bytes_eq selector (codes "setData:forType:count:")) (sets_data inv) _
       sets_named
-      (chosen_named (bytes_eq selector (codes "availableTypeFromArray:")) (asks_available inv) _
-      available_named
-      (chosen_named (bytes_eq selector (codes "types")) (Some Types) _
-      (λ call is. subst NamedCall (some_same is) tt)
-      (chosen_named (bytes_eq selector (codes "changeCount")) (Some ChangeCount) None
-      (λ call is. subst NamedCall (some_same is) tt) (λ call is. cc)))))
+      (if_chosen NamedCall (bytes_eq selector (codes "availableTypeFromArray:"))
+      (asks_available inv) _ available_named
+      (if_chosen NamedCall (bytes_eq selector (codes "types")) (Some Types) _ tt
+      (if_room NamedCall (bytes_eq selector (codes "changeCount")) ChangeCount tt))))
 
-  -- what is held of a type names the owner at most
-  held_named : (owner : Option ObjectName) (content : Option (Listed ℕ)) (asked : ObjectName)
-      → NamedOwner owner → held owner content ≡ Ask asked → NamedObject asked
-  held_named owner (Some content) asked named is = cc
-  held_named None None asked named is = cc
-  held_named (Some o) None asked named is = subst NamedObject (same_asked is) named
-    where
-      same_asked : Ask o ≡ Ask asked → o ≡ asked
-      same_asked e = cc
+  -- whom to ask may be named, and data names no object
+  abbrev pub NamedData : BoardData → Type 0
+  NamedData (Here content) = Unit {0}
+  NamedData (Ask owner) = IsShown owner
+  NamedData Absent = Unit {0}
 
-  -- who is asked is the owner
-  pub asked_named : (b : Pasteboard) (o : Option (Option (Listed ℕ))) (asked : ObjectName)
-      → NamedOwner b.owner → found b.owner o ≡ Ask asked → NamedObject asked
-  asked_named b None asked named is = cc
-  asked_named b (Some content) asked named is = held_named b.owner content asked named is
+  -- who is asked for what is held of a type is the owner
+  held_named : (owner : Option ObjectName) (content : Option (Listed ℕ)) → NamedOwner owner
+      → NamedData (held owner content)
+  held_named owner (Some content) named = tt
+  held_named None None named = tt
+  held_named (Some o) None named = named
+
+  -- and so it is of the data that is found
+  found_named : (owner : Option ObjectName) (o : Option (Option (Listed ℕ))) → NamedOwner owner
+      → NamedData (found owner o)
+  found_named owner None named = tt
+  found_named owner (Some content) named = held_named owner content named
+
+  -- and of the data of a type
+  pub data_named : (b : Pasteboard) (kind : Listed ℕ) → NamedCore b → NamedData (data_for b kind)
+  data_named b kind named = found_named b.owner (value_of b.types kind) named.owner
 
   -- who is told was the owner
   pub told_named : (former owner : Option ObjectName) → NamedOwner former
       → NamedOwner (to_tell former owner)
-  told_named former owner named = by (same_owner former owner)
-    where
-      by : (t : Bool) → NamedOwner (if t then None else former)
-      by true = tt
-      by false = named
-
-  -- what each value that is set names may be named
-  abbrev pub SetNamed : Listed LocalSet → Type 0
-  SetNamed sets = All (λ (s : LocalSet). Named inv slots s.value) sets
-
-  -- of one value
-  pub one_set : (k : ℕ) (v : Value) (more : Listed LocalSet) → Named inv slots v → SetNamed more
-      → SetNamed (set k v ∷ more)
-  one_set k v more named others =
-      All-cons (λ (s : LocalSet). Named inv slots s.value) (set k v) more named others
-
-  -- of none
-  pub no_set : SetNamed []
-  no_set = All-nil (λ (s : LocalSet). Named inv slots s.value)
+  told_named former owner named =
+      of_chosen NamedOwner (same_owner former owner) None former tt named
 
   -- the data that is here names no object
   here_named : (found : BoardData) → Named inv slots (if_here found)
@@ -392,8 +287,6 @@ module _ (inv : Invocation) (slots : Listed Value) where
   -- nor does what is found now
   pub now_named : (b : Pasteboard) (kind : Listed ℕ) (count : ℤ)
       → Named inv slots (found_now b kind count)
-  now_named b kind count = by (int_eq count (pos b.count))
-    where
-      by : (t : Bool) → Named inv slots (if t then if_here (data_for b kind) else Nil)
-      by true = here_named (data_for b kind)
-      by false = nil_named inv slots
+  now_named b kind count =
+      of_chosen (Named inv slots) (int_eq count (pos b.count)) (if_here (data_for b kind)) Nil
+      (here_named (data_for b kind)) (nil_named inv slots)

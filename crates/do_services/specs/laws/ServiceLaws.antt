@@ -1,11 +1,11 @@
 -- A server of services names only what was shown, and answers well.
 use Rattle.std.proofs.Common.{◌≡◌, ℕ, pos, Bool, true, false, List as Listed, [], ◌∷◌, length}
-use Rattle.std.proofs.Common.{Option, Some, None, refl, sym, subst, arith, ◌<◌}
+use Rattle.std.proofs.Common.{Option, Some, None, refl, sym, subst, arith}
 use Rattle.std.specs.Prelude.{if◌then◌else◌, codes}
 use Rattle.std.specs.List.{All}
 use Rattle.std.specs.Option.{IfSome}
 use Rattle.std.specs.Str.{bytes_eq}
-use Rattle.std.proofs.lemmas.List.Elements.{All-nil, All-cons}
+use Rattle.std.proofs.lemmas.List.Elements.{All-nil, All-cons, recursion_from_All}
 use Rattle.do_base.specs.values.Kinds.{is_nil, text}
 use Rattle.do_base.specs.declared.values.value.Value.{Value}
 use Rattle.do_base.specs.declared.values.value.Value.TheVariants.{Nil, Num, Text}
@@ -15,25 +15,21 @@ use Rattle.do_script.specs.Listing.{IsLocal}
 use Rattle.do_grammar.specs.Words.{◌>>?◌}
 use Rattle.do_behave.specs.Answers.{AnswersWell, NamesShown}
 use Rattle.do_behave.specs.Numbers.{truth}
-use Rattle.do_behave.specs.Ready.{IsReady, IsHandler}
+use Rattle.do_behave.specs.Ready.{IsReady}
 use Rattle.do_behave.specs.Steps.{local}
-use Rattle.do_behave.specs.declared.invocation.Handler.{Handler}
 use Rattle.do_behave.specs.declared.invocation.Invocation.{Invocation}
 use Rattle.do_behave.specs.declared.act.Act.{Act}
 use Rattle.do_behave.specs.declared.act.Act.TheVariants.{Root, Send}
-use Rattle.do_behave.specs.declared.act.Write.{Write}
 use Rattle.do_behave.specs.declared.change.LocalSet.{LocalSet}
 use Rattle.do_behave.specs.laws.Sound.{IsKept, get_kept}
-use Rattle.do_acts.specs.Places.{at_place, does_call}
-use Rattle.do_acts.specs.Steps.{steps}
+use Rattle.do_acts.specs.Places.{at_place}
+use Rattle.do_acts.specs.Steps.{caught_to, set}
 use Rattle.do_acts.specs.laws.GoodActs.{IsGood, MayGood, choice_good, kept_good, places_good}
-use Rattle.do_acts.specs.laws.GoodActs.{returns_good, selector_good, then_good, two_good}
-use Rattle.do_acts.specs.laws.GoodSteps.{call_good, steps_good}
+use Rattle.do_acts.specs.laws.GoodActs.{returns_good, selector_good, then_good}
+use Rattle.do_acts.specs.laws.GoodSteps.{SetsNamed, answers_good, sets_good}
 use Rattle.do_acts.specs.laws.KindLaws.{found_of}
 use Rattle.do_acts.specs.laws.NamedValues.{Named, nil_named, number_named, text_named}
-use Rattle.do_pboard.specs.Acts.{caught_to, set}
 use Rattle.do_pboard.specs.Core.{owner_in}
-use Rattle.do_pboard.specs.laws.NamedParts.{SetNamed, one_set, no_set}
 use Rattle.do_table.specs.Entries.{value_of}
 use Rattle.do_services.specs.Acts.{answers, asks_provider, asks_root, asks_type, has_type, keeps_on}
 use Rattle.do_services.specs.Acts.{kept_service, method_act, perform_next, perform_places, performs}
@@ -43,23 +39,31 @@ use Rattle.do_services.specs.Core.{from_slots, row, service_in, texts_value, to_
 use Rattle.do_services.specs.declared.service.Service.{Service}
 use Rattle.do_services.specs.laws.Provider.{provider_colons, provider_selects}
 use Rattle.do_services.specs.laws.SlotsExact.{service_back, service_good}
-use Rattle.do_services.specs.laws.NamedServices.{parts, sent_part, user_part, NamedService}
-use Rattle.do_services.specs.laws.NamedServices.{row_named, core_from, core_to, found_named}
-use Rattle.do_services.specs.laws.NamedServices.{done_named, call_named}
+use Rattle.do_services.specs.laws.NamedServices.{NamedCall, NamedCore, NamedService, call_named}
+use Rattle.do_services.specs.laws.NamedServices.{core_from, core_to, done_named, found_named}
 
 -- the message to the pasteboard has one argument
 available_selects : is_selector (codes "availableTypeFromArray:") ≡ true
 unfolding is_selector
 available_selects = refl
 
--- what scripts keep of a service that a local holds they keep of its items
+-- the items of the list that a service is
+abbrev parts : Service → Listed Value
+parts s =
+    Text s.item ∷ Text s.message ∷ Num (pos s.port) ∷ texts_value s.send ∷ texts_value s.returned
+    ∷ s.user ∷ []
+
+-- what scripts keep of a service that a local holds they keep of the types that are sent, and of
+-- the user data
 service_kept : (inv : Invocation) (Q : Value → Type 0) (T L : Listed ℕ → Type 0)
     → IsKept inv Q T L → All Q inv.locals → (s : Service) → kept_service inv ≡ Some s
-    → All Q (parts s)
+    → Q (texts_value s.send) × Q s.user
 service_kept inv Q T L kept all s is =
     let v = found_of (local inv 3) service_in s is in
     let held : Q v.0 = subst (λ o. IfSome o Q) v.1 (get_kept Q inv.locals 3 all) in
-    kept.items (parts s) (subst Q (sym (service_back v.0 s v.2)) held)
+    let each = recursion_from_All Q (parts s)
+    (kept.items (parts s) (subst Q (sym (service_back v.0 s v.2)) held)) in
+    (each.1.1.1.0, each.1.1.1.1.1.0)
 
 module _ (table : Listed Class) (inv : Invocation) (slots : Listed Value)
     (sixteen : length inv.locals ≡ 16) where
@@ -71,41 +75,30 @@ module _ (table : Listed Class) (inv : Invocation) (slots : Listed Value)
   abbrev MayBeGood : Option Act → Type 0
   MayBeGood o = MayGood (Unit {0}) table inv slots o
 
-  -- a step that sets locals alone is good
-  sets_good : (to : ℕ) (sets : Listed LocalSet) (handler : Option Handler)
-      → (IsReady table inv slots → IsHandler handler) → SetNamed inv slots sets
-      → Good (steps inv to sets handler [])
-  sets_good to sets handler handled named =
-      steps_good (Unit {0}) table inv slots sixteen to sets handler [] handled
-      (All-nil (λ (w : Write). w.slot < length slots)) named
-      (All-nil (λ (w : Write). Named inv slots w.value))
-
   -- a step that keeps the handler is good
-  on_good : (to : ℕ) (sets : Listed LocalSet) → SetNamed inv slots sets
+  on_good : (to : ℕ) (sets : Listed LocalSet) → SetsNamed inv slots sets
       → Good (keeps_on inv to sets)
-  on_good to sets named = sets_good to sets inv.handler (λ ready. ready.handler) named
+  on_good to sets named =
+      sets_good (Unit {0}) table inv slots sixteen to sets inv.handler (λ ready. ready.handler)
+      named
 
   -- a step that ends with an error is good
   fails_good : (error : Value) → Named inv slots error
       → Good (keeps_on inv 8 (set 2 error ∷ set 14 (Num (pos 0)) ∷ []))
   fails_good error named =
       on_good 8 (set 2 error ∷ set 14 (Num (pos 0)) ∷ [])
-      (one_set inv slots 2 error (set 14 (Num (pos 0)) ∷ []) named
-      (one_set inv slots 14 (Num (pos 0)) [] (number_named inv slots (pos 0)) (no_set inv slots)))
+      (named, (number_named inv slots (pos 0), tt))
 
   -- the step after the item was looked for is good
   next_good : (o : Option Service) → IfSome o (NamedService inv slots) → Good (perform_next inv o)
   next_good None named =
-      let unknown = Text (codes "unknown item") in
-      on_good 8 (set 2 unknown ∷ set 3 Nil ∷ set 14 (Num (pos 0)) ∷ [])
-      (one_set inv slots 2 unknown (set 3 Nil ∷ set 14 (Num (pos 0)) ∷ [])
-      (text_named inv slots (codes "unknown item"))
-      (one_set inv slots 3 Nil (set 14 (Num (pos 0)) ∷ []) (nil_named inv slots)
-      (one_set inv slots 14 (Num (pos 0)) [] (number_named inv slots (pos 0))
-      (no_set inv slots))))
+      on_good 8 (set 2 (Text (codes "unknown item")) ∷ set 3 Nil ∷ set 14 (Num (pos 0)) ∷ []) (
+        text_named inv slots (codes "unknown item"),
+        (nil_named inv slots, (number_named inv slots (pos 0), tt)),
+      )
   next_good (Some s) named =
-      sets_good 1 (set 3 (row s) ∷ []) (caught_to 7) (λ ready. omega arith)
-      (one_set inv slots 3 (row s) [] (row_named inv slots s named) (no_set inv slots))
+      sets_good (Unit {0}) table inv slots sixteen 1 (set 3 (row s) ∷ []) (caught_to 7)
+      (λ ready. omega arith) (named, tt)
 
   -- looking for the item is good
   performs_good : MayBeGood (performs inv slots)
@@ -127,8 +120,8 @@ module _ (table : Listed Class) (inv : Invocation) (slots : Listed Value)
         values =
             All-cons Q board (texts_value s.send ∷ [])
             (subst (λ o. IfSome o Q) held (get_kept Q inv.locals 1 all))
-            (All-cons Q (texts_value s.send) []
-            (sent_part Q s (service_kept inv Q T L kept all s is)) (All-nil Q));
+            (All-cons Q (texts_value s.send) [] ((service_kept inv Q T L kept all s is).0)
+            (All-nil Q));
         locals = tt;
         range = λ _. (
           available_selects,
@@ -149,7 +142,7 @@ module _ (table : Listed Class) (inv : Invocation) (slots : Listed Value)
           then keeps_on inv 8 (set 2 (Text (codes "no type")) ∷ set 14 (Num (pos 0)) ∷ [])
           else keeps_on inv 3 [])
       by true = fails_good (Text (codes "no type")) (text_named inv slots (codes "no type"))
-      by false = on_good 3 [] (no_set inv slots)
+      by false = on_good 3 [] tt
 
   -- asking for the root is good
   root_good : MayBeGood (asks_root inv)
@@ -179,7 +172,7 @@ module _ (table : Listed Class) (inv : Invocation) (slots : Listed Value)
             (subst (λ o. IfSome o Q) held (get_kept Q inv.locals 5 all))
             (All-cons Q board (s.user ∷ Nil ∷ [])
             (subst (λ o. IfSome o Q) there (get_kept Q inv.locals 1 all))
-            (All-cons Q s.user (Nil ∷ []) (user_part Q s (service_kept inv Q T L kept all s is))
+            (All-cons Q s.user (Nil ∷ []) ((service_kept inv Q T L kept all s is).1)
             (All-cons Q Nil [] kept.nil (All-nil Q))));
         locals = tt;
         range = λ _. (
@@ -198,10 +191,8 @@ module _ (table : Listed Class) (inv : Invocation) (slots : Listed Value)
   performed_good : MayBeGood (was_performed inv)
   performed_good =
       then_good (Unit {0}) table inv slots (local inv 2) _ (λ error _.
-      let answer = Num (truth (is_nil error)) in
-      on_good 8 (set 14 answer ∷ [])
-      (one_set inv slots 14 answer [] (number_named inv slots (truth (is_nil error)))
-      (no_set inv slots)))
+      on_good 8 (set 14 (Num (truth (is_nil error))) ∷ [])
+      (number_named inv slots (truth (is_nil error)), tt))
 
   -- ending with what was raised is good
   raised_good : MayBeGood (was_raised inv)
@@ -210,15 +201,11 @@ module _ (table : Listed Class) (inv : Invocation) (slots : Listed Value)
       fails_good (Text name) (text_named inv slots name))
 
   -- a method that only answers is good
-  answers_good : (selector : Listed ℕ) → MayBeGood (answers selector inv slots)
-  answers_good selector =
-      two_good (Unit {0}) table inv slots
-      (does_call from_slots to_slots does (call_in selector inv) inv slots)
-      (call_good (Unit {0}) table inv slots sixteen from_slots to_slots does (call_in selector inv)
-      (λ es call done read asked was.
-      let named = done_named inv slots es call done (core_from inv slots es read)
-      (call_named inv slots selector call asked) was in
-      (named.0, core_to inv slots done.0 named.1)))
+  asked_good : (selector : Listed ℕ) → MayBeGood (answers selector inv slots)
+  asked_good selector =
+      answers_good (Unit {0}) table inv slots sixteen from_slots to_slots does
+      (call_in selector inv) (NamedCore inv slots) (NamedCall inv slots) (core_from inv slots)
+      (call_named inv slots selector) (done_named inv slots) (core_to inv slots)
 
   -- each method is good
   method_good : (selector : Listed ℕ) → MayBeGood (method_act selector inv slots)
@@ -235,7 +222,7 @@ module _ (table : Listed Class) (inv : Invocation) (slots : Listed Value)
             (
               root_good,
               (
-                on_good 5 [] (no_set inv slots),
+                on_good 5 [] tt,
                 (
                   provider_good,
                   (
@@ -251,7 +238,7 @@ module _ (table : Listed Class) (inv : Invocation) (slots : Listed Value)
           ),
         ),
       ))
-      (answers_good selector)
+      (asked_good selector)
 
 -- each act of a server is good
 services_good : (table : Listed Class) (inv : Invocation) (slots : Listed Value)
