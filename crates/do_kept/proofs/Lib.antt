@@ -1,0 +1,5 @@
+pub mod Limited
+pub mod Acts
+pub mod Checkers
+pub mod Names
+pub mod Natives

@@ -1,0 +1,37 @@
+//! Laws of native acts, each carried by a function that does nothing else.
+ghost use Rattle.std.specs.Prelude.{List};
+ghost use Rattle.std.specs.List.{AllByRecursion};
+ghost use Rattle.do_class.specs.Class.{Class};
+ghost use Rattle.do_check.specs.Acts.{check_act};
+ghost use Rattle.do_check.specs.declared.rules.Rule.{Rule};
+ghost use Rattle.do_names.specs.Acts.{names_act};
+ghost use Rattle.do_native.specs.Acts.{native_act};
+ghost use Rattle.do_native.specs.declared.native.Native.{Native};
+ghost use Rattle.do_limits.specs.SendableActs.{KeepsSendable};
+ghost use Rattle.do_limits.specs.SendableCodes.{CodesAreSendable};
+ghost use Rattle.do_kept.specs.Kept.{KindKeeps, RulesAreSendable};
+
+/// A checker keeps values within the limits: where sixteen locals and the slots can be carried by
+/// a message, so can the values of each act.
+///
+/// The premise is that the texts of its denials can be.
+pub fn checkers_keep_values_sendable()
+    ensures { (rules : List Rule) → RulesAreSendable rules → (table : List Class) →
+        KeepsSendable table (check_act rules) }
+{}
+
+/// So does a server of names, with no premise.
+pub fn servers_of_names_keep_values_sendable()
+    ensures { (table : List Class) → KeepsSendable table names_act }
+{}
+
+/// So does a behaviour of classes of all kinds.
+///
+/// Premises are that the codes of its scripts are valid and have only numbers and texts that a
+/// message can carry, that so have its rules, and that the servers of pasteboards, services and
+/// notifications, where a class is of their kind, keep values so.
+pub fn native_acts_keep_values_sendable()
+    ensures { (b : Native) → CodesAreSendable b.program →
+        AllByRecursion RulesAreSendable b.rules → (table : List Class) →
+        AllByRecursion (KindKeeps table) b.kinds → KeepsSendable table (native_act b) }
+{}
