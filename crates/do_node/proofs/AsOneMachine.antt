@@ -1,5 +1,6 @@
 -- What of a text that is so was added.
-use Rattle.std.proofs.Common.{◌≡◌, ◌⊎◌, ℕ, List, None, Option, Some, Result, Ok, Err, inl, inr, refl}
+use Rattle.std.proofs.Common.{◌≡◌, ◌⊎◌, ℕ, List, None, Option, Some, Result, Ok}
+use Rattle.std.proofs.Common.{Err, inl, inr, refl}
 use Rattle.std.specs.Prelude.{IfSome, IsOk, OnOk, codes}
 use Rattle.do_base.specs.outside.Bytes.{with_more, HasWritten}
 use Rattle.do_base.specs.declared.outside.shelf.NamedFile.{NamedFile}

@@ -17,6 +17,7 @@ use do_link::Link;
 use do_native::Native;
 use do_net::{Hosted, Runnable};
 use do_served::{lab_given, serve_given};
+use do_traced::Traced;
 use std::alloc::Global;
 
 /// The status of a command that writes a text.
@@ -30,7 +31,7 @@ fn answer_of(told: Result<(), Status>) -> Status
 }
 
 /// Does what a command asks, and writes what it asks for.
-pub fn obey<S: Runnable + Hosted<Acts = Native>, H: Shelf, K: Sink, L: Link, P: Spawner>(
+pub fn obey<S: Runnable + Traced + Hosted<Acts = Native>, H: Shelf, K: Sink, L: Link, P: Spawner>(
     alloc: Global,
     command: Command,
     shelf: &mut H,
@@ -62,7 +63,7 @@ pub fn obey<S: Runnable + Hosted<Acts = Native>, H: Shelf, K: Sink, L: Link, P: 
             answer_of(replay_given::<S, H, K>(alloc, &world, &schedule, shelf, out))
         }
         Command::Leaks { world, schedule } => {
-            answer_of(leaks_given(alloc, &world, &schedule, shelf, out))
+            answer_of(leaks_given::<S, H, K>(alloc, &world, &schedule, shelf, out))
         }
         Command::Weave { world, files } => {
             answer_of(write_woven::<S, H, K>(alloc, &world, &files, shelf, out))

@@ -35,11 +35,11 @@ use std::alloc::Global;
 /// RECORD..` one schedule in which the nodes of that world do what their records say, `upgrade
 /// SCHEDULE` a schedule of the first version anew in the second, `make NUMBER COUNT` the summary of
 /// a schedule that a number generates, over the network of `:mesh`, `--help` and `--version` a
-/// text. `leaks` goes by the one machine of the definitions, and what the others make of a network
-/// is what that machine comes to: `replay` its transcript with whole lines `wire ..` put between
-/// its lines, `make` the summary of its lines, and `weave` a schedule by which it does what the
-/// records say. `node PORT WORLD STARTS TURNS` serves the node of that port over the link, for at
-/// most so many turns, and writes its record; `lab PLAN` starts the nodes of a plan as children,
+/// text. What these make of a network is what the one machine of the definitions comes to: `replay`
+/// its transcript with whole lines `wire ..` put between its lines, `make` the summary of its
+/// lines, `leaks` what nothing can reach in its state, and `weave` a schedule by which it does what
+/// the records say. `node PORT WORLD STARTS TURNS` serves the node of that port over the link, for
+/// at most so many turns, and writes its record; `lab PLAN` starts the nodes of a plan as children,
 /// waits for each, and writes how each ended. No other form asks anything of the link or of the
 /// spawner.
 ///
@@ -47,9 +47,9 @@ use std::alloc::Global;
 /// 4,194,304 bytes for a world, 67,108,864 for a schedule, 16,777,216 for a record and 1,048,576
 /// for starts and plans, or that says none; the world before the schedule, the starts or the
 /// records, and each record in turn. A world without the node of a port is refused as wrong at
-/// `node`. `LinkFault` says that the link did not listen, `TurnsSpent` that all turns of a node were
-/// taken and none used the line `end` of its starts, `ChildFailed` which child of a plan was the
-/// first that did not end with 0; the last two come with the whole text. A record is refused
+/// `node`. `LinkFault` says that the link did not listen, `TurnsSpent` that all turns of a node
+/// were taken and none used the line `end` of its starts, `ChildFailed` which child of a plan was
+/// the first that did not end with 0; the last two come with the whole text. A record is refused
 /// too where its node is not of the world or has an earlier record, or where the records so far
 /// have more than 1,000,000 steps. Records that contradict come last. Nothing is written before. If
 /// the sink fails or memory runs out, what was written is the beginning of the text. The forms are

@@ -25,6 +25,7 @@ use do_given::{Scheduled, Status, scheduled_given, upgrade_given, world_given};
 use do_native::Native;
 use do_net::Hosted;
 use do_sched::Lines;
+use do_traced::Traced;
 use do_world::World;
 use std::alloc::{AllocError, Global};
 
@@ -88,8 +89,13 @@ pub fn replay_given<S: Hosted<Acts = Native>, H: Shelf, K: Sink>(
     }
 }
 
-/// Writes what nothing can reach after a schedule over a world.
-fn write_leaks<K: Sink>(alloc: Global, given: Scheduled, out: &mut K) -> Result<(), Status>
+/// Writes what nothing can reach after a schedule over the network of a world.
+fn write_leaks<S: Traced + Hosted<Acts = Native>, K: Sink>(
+    alloc: Global,
+    given: Scheduled,
+    out: &mut K,
+) -> Result<(), Status>
+    requires { IsSound given.world }
     ensures ok { OnOk result
         (K.written out.new ≡ with_more (K.written out.old) (world_lost given.world given.lines)) }
     ensures prefix { HasWritten (K.written out.old) (K.written out.new)
@@ -99,13 +105,13 @@ fn write_leaks<K: Sink>(alloc: Global, given: Scheduled, out: &mut K) -> Result<
     ensures later { K.faults out.old ≤ K.faults out.new }
 {
     let Scheduled { world, lines } = given;
-    let text = world_lost(alloc, world, lines)?;
+    let text = world_lost::<S>(alloc, world, lines)?;
     write_text(&text, out)
 }
 
 /// Replays the schedule that the second word gives over the world that the first gives, and writes
 /// what nothing can reach then.
-pub fn leaks_given<H: Shelf, K: Sink>(
+pub fn leaks_given<S: Traced + Hosted<Acts = Native>, H: Shelf, K: Sink>(
     alloc: Global,
     world: &Word,
     schedule: &Word,
@@ -121,7 +127,7 @@ pub fn leaks_given<H: Shelf, K: Sink>(
     ensures sink_faults { K.faults out.old ≤ K.faults out.new }
 {
     match scheduled_given(alloc, world, schedule, shelf) {
-        Ok(given) => write_leaks(alloc, given, out),
+        Ok(given) => write_leaks::<S, K>(alloc, given, out),
         Err(status) => Err(status),
     }
 }

@@ -13,7 +13,6 @@ mod commands;
 mod leaking;
 mod making;
 mod networks;
-mod opening;
 mod records;
 mod replaying;
 mod weaving;

@@ -54,8 +54,9 @@ pub fn world_net<S: Hosted<Acts = Native>>(
     ensures table { IfOk result (λ net. net.table ≡ world.table) }
     ensures acts { IfOk result (λ net. net.acts ≡ behaviour_of world) }
     ensures net { IfOk result (λ net. network S.seen net ≡ net_opening world.table world.nodes) }
-    ensures one_machine { IfOk result (λ net. StandsFor world.table (native_act (behaviour_of world))
-        (network S.seen net) (opening world.table world.nodes)) }
+    ensures one_machine { IfOk result (λ net.
+        StandsFor world.table (native_act (behaviour_of world)) (network S.seen net)
+        (opening world.table world.nodes)) }
 {
     let parts = parts_of(alloc, world)?;
     net_of(parts)

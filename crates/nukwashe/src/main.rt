@@ -1,8 +1,8 @@
-//! The program: `replay WORLD SCHEDULE` replays a schedule over a world and writes its transcript,
-//! `leaks WORLD SCHEDULE` writes what nothing can reach after it, `weave WORLD RECORD..` one
-//! schedule of the records of nodes, `upgrade SCHEDULE` a schedule of version 1 anew, `make NUMBER
-//! COUNT` a summary of a generated schedule, `node PORT WORLD STARTS TURNS` serves a node over TCP,
-//! `lab PLAN` starts nodes as processes, and `--help` shows the forms.
+//! The program. `replay WORLD SCHEDULE` replays a schedule over a world and writes its transcript,
+//! and `leaks WORLD SCHEDULE` writes what nothing can reach after it. `weave WORLD RECORD..` writes
+//! one schedule of the records of nodes, and `upgrade SCHEDULE` a schedule of version 1 anew. `make
+//! NUMBER COUNT` writes a summary of a generated schedule. `node PORT WORLD STARTS TURNS` serves a
+//! node over TCP, `lab PLAN` starts nodes as processes, and `--help` shows the forms.
 //!
 //! It stands on do_node, whose call decides all that is answered and written, and on do_host for
 //! the files, the output, the words, the sockets and the processes. It adds the lines on standard

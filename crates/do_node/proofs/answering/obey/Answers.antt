@@ -53,13 +53,15 @@ returns-in-Lab-clause-comes g c =
 pub returns-in-Help-clause-comes : goal.returns-in-Help-clause-comes
 returns-in-Help-clause-comes g c = rw c.in-Help.is (rw c.answer_of-in-Help.ensures
     (text_comes _ _ _ _ _ _ _ (obeys_writing _ Help _ _ _ _ help_text _ refl
-    (λ files st is none. none) c.write_help.ensures.ok c.write_help.ensures.prefix c.write_help.ensures.stopped)))
+    (λ files st is none. none) c.write_help.ensures.ok c.write_help.ensures.prefix
+    c.write_help.ensures.stopped)))
 
 -- so is the version
 pub returns-in-Version-clause-comes : goal.returns-in-Version-clause-comes
 returns-in-Version-clause-comes g c = rw c.in-Version.is (rw c.answer_of-in-Version.ensures
     (text_comes _ _ _ _ _ _ _ (obeys_writing _ Version _ _ _ _ version_text _ refl
-    (λ files st is none. none) c.write_version.ensures.ok c.write_version.ensures.prefix c.write_version.ensures.stopped)))
+    (λ files st is none. none) c.write_version.ensures.ok c.write_version.ensures.prefix
+    c.write_version.ensures.stopped)))
 
 -- what a replay writes of a network is what one machine comes to
 pub returns-in-Replay-clause-one_machine : goal.returns-in-Replay-clause-one_machine

@@ -1,15 +1,23 @@
--- The lines that are left lead from where the machine is to where all lead.
+-- The lines that are left lead from where the network is to where all lead.
 use Rattle.std.proofs.Common.{◌≡◌}
 use Rattle.std.specs.Vec.Iter.{into_iter_items}
+use Rattle.do_machine.specs.declared.state.State.{State}
+use Rattle.do_net.specs.Net.{Stands, network}
+use Rattle.do_net.specs.OneMachine.{StandsFor}
 use Rattle.do_node.specs.Replaying.{state_after}
+use Rattle.do_node.proofs.LeaksLast.{LeadsOn}
 use Rattle.do_node.proofs.leaking.pass.Given as goal
 
 abbrev pub invariant-loop-line : goal.invariant-loop-line
 invariant-loop-line g l =
-    let act = g.B.Behaviour.act l.fn.local.behaviour in
+    let seen = g.S.Hosted.seen in
+    let table = l.fn.net.table in
+    let act = g.S.Acts.Behaviour.act l.fn.net.acts in
     record {
-      state : state_after l.fn.local.table act l.fn.local.state l.fn.lines
-          ≡ state_after l.fn.local.table act l.local.state (into_iter_items l.line-iterator);
-      table : l.local.table ≡ l.fn.local.table;
-      behaviour : l.local.behaviour ≡ l.fn.local.behaviour;
+      leads : (state : State) → StandsFor table act (network seen l.fn.net) state →
+          LeadsOn table act (state_after table act state l.fn.lines) (network seen l.net)
+          (into_iter_items l.line-iterator);
+      stands : Stands seen (g.S.Acts.Behaviour.act l.net.acts) l.net;
+      table : l.net.table ≡ l.fn.net.table;
+      acts : l.net.acts ≡ l.fn.net.acts;
     }

@@ -36,11 +36,13 @@ returns-clause-prefix g c =
     c.write_transcript.ensures.prefix
 
 -- before the network opened, nothing was written
-pub returns-in_err-parts-clause-one_machine_first : goal.returns-in_err-parts-clause-one_machine_first
+pub returns-in_err-parts-clause-one_machine_first :
+    goal.returns-in_err-parts-clause-one_machine_first
 returns-in_err-parts-clause-one_machine_first g c =
     nothing_as_one c.args.world c.requires.opens c.args.lines (g.K.Sink.written c.args.out.now)
 
-pub returns-in_err-table-clause-one_machine_first : goal.returns-in_err-table-clause-one_machine_first
+pub returns-in_err-table-clause-one_machine_first :
+    goal.returns-in_err-table-clause-one_machine_first
 returns-in_err-table-clause-one_machine_first g c =
     nothing_as_one c.args.world c.requires.opens c.args.lines (g.K.Sink.written c.args.out.now)
 

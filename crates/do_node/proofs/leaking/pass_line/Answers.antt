@@ -1,0 +1,14 @@
+use Rattle.std.proofs.Common.{sym}
+use Rattle.do_net.specs.Net.{network}
+use Rattle.do_net.proofs.StandsForStates.{line_as_one}
+use Rattle.do_node.proofs.leaking.pass_line.Goals as goal
+
+-- a line leads to a state for which the network stands
+pub returns-clause-one_machine : goal.returns-clause-one_machine
+returns-clause-one_machine g c = λ state stands.
+    let seen = g.S.Hosted.seen in
+    let was = c.args.net.now in
+    let did = c.in_ok-step_line.ensures in
+    rw (c.clear_wires.ensures.hosts, did.net)
+    (line_as_one was.table (g.S.Acts.Behaviour.act was.acts) (network seen was) state stands
+    c.args.line did.spelled)
