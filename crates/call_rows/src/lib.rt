@@ -1,16 +1,19 @@
 //! Rows of calls, each with its answer beside it, and how they are played: for the programs that
-//! test what parts answer to many calls.
+//! test what parts answer to many calls; and acts and handlers as values.
 //!
-//! It stands on the values of do_base and on how schedules write them, and promises nothing of its
-//! own: its functions are safe, and end. The form of rows is this project's own.
+//! It stands on the values of do_base, on how schedules write them, and on the acts of do_behave,
+//! and promises nothing of its own: its functions are safe, and end. The form of rows is this
+//! project's own.
 #![tactic(auto)]
 
+mod acts;
 mod answers;
 mod arguments;
 mod reading;
 mod rows;
 mod values;
 
+pub use acts::{act_value, handler_value};
 pub use answers::{
     count_value, list_from, no_call, number_or_nil, object_or_nil, printed, refused, text_value,
     word_with,

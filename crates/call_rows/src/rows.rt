@@ -1,8 +1,8 @@
 //! Rows of calls with their answers, and how they are played.
 //!
-//! A row is a call and, behind `=`, its answer; where there is no `=` the answer is nil. One within a
-//! text does not count. A call is a word and its arguments. A line that is empty or begins with `-`
-//! is no row.
+//! A row is a call and, behind `=`, its answer; where there is no `=` the answer is nil. One within
+//! a text does not count. A call is a word and its arguments. A line that is empty or begins with
+//! `-` is no row.
 
 use crate::reading::values_of;
 use do_base::{Text, Value, Values};

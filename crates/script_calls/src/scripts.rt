@@ -3,8 +3,7 @@
 use crate::changes::{add_handler, add_locals, add_slots, sets_of, values_of, writes_of};
 use crate::frames::{invocation, set_first, slots};
 use crate::programs::{program_of, text_around, two_classes};
-use act_values::act_value;
-use call_rows::{Part, copy_at, count_at, list_at, local_at, no_call, word_with};
+use call_rows::{Part, act_value, copy_at, count_at, list_at, local_at, no_call, word_with};
 use do_base::{Value, Values};
 use do_behave::{Act, Change, Handler, Held, Invocation, Program, act_in_place, make_change};
 use do_class::ClassTable;

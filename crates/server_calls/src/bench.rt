@@ -1,7 +1,6 @@
 //! An invocation with the slots of its object.
 
-use act_values::{act_value, handler_value};
-use call_rows::{copy_at, count_at, list_at, local_at, no_call, text_at};
+use call_rows::{act_value, copy_at, count_at, handler_value, list_at, local_at, no_call, text_at};
 use do_base::{Value, Values};
 use do_behave::{Act, Invocation};
 use do_class::ClassTable;

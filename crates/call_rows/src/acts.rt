@@ -1,10 +1,6 @@
-//! Acts and handlers as values, for the programs that play rows of acts.
-//!
-//! It stands on the acts of do_behave and on how rows write values, and promises nothing of its
-//! own: its functions are safe, and end. The form of the values is this project's own.
-#![tactic(auto)]
+//! Acts and handlers as values. The form of the values is this project's own.
 
-use call_rows::{list_from, text_value, word_with};
+use crate::answers::{list_from, text_value, word_with};
 use do_base::{Exc, Locals, Text, Value, Values};
 use do_behave::{Act, Handler};
 use std::alloc::{AllocError, Global};
@@ -28,6 +24,18 @@ fn locals_value(alloc: Global, locals: &Locals) -> Result<Value, AllocError> {
     Ok(Value::List(values))
 }
 
+/// Adds what a message is sent to, its selector and its arguments.
+fn push_message(
+    values: &mut Values,
+    target: Value,
+    selector: Text,
+    args: Values,
+) -> Result<(), AllocError> {
+    values.push(target)?;
+    values.push(Value::Text(selector))?;
+    values.push(Value::List(args))
+}
+
 /// A message as a list: its target, selector and arguments, the local that takes what it gives,
 /// those that take what comes out, and the place at which the method goes on.
 fn send_value(
@@ -40,9 +48,7 @@ fn send_value(
     pc: u32,
 ) -> Result<Value, AllocError> {
     let mut values = list_from(alloc, b"send")?;
-    values.push(target)?;
-    values.push(Value::Text(selector))?;
-    values.push(Value::List(args))?;
+    push_message(&mut values, target, selector, args)?;
     values.push(Value::Num(i64::from(into)))?;
     values.push(locals_value(alloc, from)?)?;
     values.push(Value::Num(i64::from(pc)))?;
