@@ -1,7 +1,7 @@
 //! A drawn call of any of the parts.
 ghost use Rattle.std.specs.Prelude.{◌<◌};
 
-use drawn_numbers::Generator;
+use part_samples::Generator;
 
 /// Three numbers, of which each part makes its call.
 #[derive(Clone, Copy)]

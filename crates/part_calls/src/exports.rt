@@ -5,7 +5,7 @@ use crate::drawn::{Drawn, draw};
 use crate::plain_exports::PlainExports;
 use do_base::NodeId;
 use do_export::Exports;
-use drawn_numbers::Generator;
+use part_samples::Generator;
 use std::alloc::{AllocError, Global};
 use std::io;
 

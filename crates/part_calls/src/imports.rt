@@ -3,8 +3,7 @@ use crate::plain_imports::{OBJECTS, PlainImports, object_at};
 use do_base::{NodeId, Oid, Oids, Token};
 use do_class::ClassId;
 use do_import::Imports;
-use drawn_numbers::Generator;
-use part_samples::{ask, got, granted, lend, refer, unrefer};
+use part_samples::{Generator, ask, got, granted, lend, refer, unrefer};
 use std::alloc::{AllocError, Global};
 use std::io;
 

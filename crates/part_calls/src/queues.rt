@@ -4,7 +4,7 @@ ghost use Rattle.std.specs.Prelude.{◌≡◌, ◌<◌, length};
 use crate::drawn::{Drawn, draw};
 use crate::plain_queues::PlainQueues;
 use do_pool::Cells;
-use drawn_numbers::Generator;
+use part_samples::Generator;
 use std::alloc::{AllocError, Global};
 
 /// Takes the oldest item of a queue and posts it again.
@@ -17,8 +17,9 @@ fn turn(cells: &mut Cells<u64>, queue: usize) -> Option<u64>
     Some(item)
 }
 
-/// Whether both have the same items in each queue, and as much room left, so that no queue has more.
-/// Each item is taken out and posted again on the way, so all is as it was where both are equal.
+/// Whether both have the same items in each queue, and as much room left, so that no queue has
+/// more. Each item is taken out and posted again on the way, so all is as it was where both are
+/// equal.
 fn same(cells: &mut Cells<u64>, plain: &PlainQueues) -> bool
     requires { length cells.old.queues ≡ 3 }
     ensures { length cells.new.queues ≡ 3 }

@@ -4,7 +4,7 @@ ghost use Rattle.std.specs.Prelude.{◌<◌};
 use crate::drawn::{Drawn, draw};
 use crate::plain_rows::PlainRows;
 use do_sorted::Sorted;
-use drawn_numbers::Generator;
+use part_samples::Generator;
 use std::alloc::{AllocError, Global};
 
 /// How many keys are drawn.

@@ -5,8 +5,7 @@ use crate::plain_store::{Named, PlainObject, PlainStore};
 use do_base::{NodeId, Oid, Oids, Value, Values};
 use do_class::ClassId;
 use do_store::{Freed, Store};
-use drawn_numbers::Generator;
-use part_samples::{create, hold, let_go, write_slot};
+use part_samples::{Generator, create, hold, let_go, write_slot};
 use std::alloc::{AllocError, Global};
 use std::io;
 

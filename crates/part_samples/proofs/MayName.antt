@@ -33,7 +33,8 @@ stored_may s o home there few = record {
   bound = λ n above.
       subst (λ (m : ℕ). named_in s.node m s.objects + value_names s.node m (Obj o) < 2 ^ 64)
       (same n above)
-      (let one = names-own s.node o.serial o home in let single = once_same o.serial in omega arith);
+      (let one = names-own s.node o.serial o home in
+      let single = once_same o.serial in omega arith);
 }
   where
     -- what is named is this object

@@ -19,7 +19,8 @@ pub fn is_stored(store: &Store, oid: Oid) -> bool
     }
 }
 
-/// Whether a slot may name an object once more: an own one where it is stored, a foreign one always.
+/// Whether a slot may name an object once more: an own one where it is stored, a foreign one
+/// always.
 fn may_be_named(store: &Store, node: NodeId, oid: Oid) -> bool
     requires { store.now.node ≡ node }
     ensures { IsTrue result → MayHold store.now (Obj oid) }

@@ -18,8 +18,8 @@ fn two_slots(alloc: Global, value: Value) -> Result<Values, AllocError>
     Ok(slots)
 }
 
-/// Stores an object of two slots, the first of which holds a value. None where it may not: the value
-/// is a list, or names an object that is not stored.
+/// Stores an object of two slots, the first of which holds a value. None where it may not: the
+/// value is a list, or names an object that is not stored.
 ///
 /// If memory runs out, nothing changes.
 pub fn create(
@@ -44,8 +44,8 @@ pub fn create(
     Ok(Some(oid))
 }
 
-/// Writes a slot, and hands back what it held. None where that may not be: the object or the slot is
-/// not there, the value is a list, or it names an object that is not stored.
+/// Writes a slot, and hands back what it held. None where that may not be: the object or the slot
+/// is not there, the value is a list, or it names an object that is not stored.
 pub fn write_slot(
     store: &mut Store,
     node: NodeId,

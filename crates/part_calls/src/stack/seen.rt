@@ -1,6 +1,6 @@
 //! What is seen of a stack, beside the plain lists.
-use crate::drawn::Drawn;
-use crate::plain_stack::{Doing, PlainStack, Raised, Seen};
+use crate::stack::drawn::Drawn;
+use crate::stack::plain::{Doing, PlainStack, Raised, Seen};
 use do_base::{Exc, Value};
 use do_behave::{Answer, InvState, Invocation, Waited};
 use do_stack::Stack;

@@ -2,7 +2,7 @@
 use do_base::{CallId, Items, NodeId, Oid, Value};
 use do_behave::{Held, InvState, Invocation, Reason, Waited};
 use do_class::{ClassId, MethodId};
-use drawn_numbers::Generator;
+use part_samples::Generator;
 use std::alloc::{AllocError, Global};
 
 /// What a drawn call is about.

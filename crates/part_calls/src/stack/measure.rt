@@ -1,8 +1,8 @@
 //! What calls of a stack cost at a depth.
 ghost use Rattle.std.specs.Prelude.{◌<◌, length};
 
-use crate::drawn::invocation;
-use crate::stack::give_up;
+use crate::stack::calls::give_up;
+use crate::stack::drawn::invocation;
 use do_base::{CallId, Exc, NodeId};
 use do_behave::{Answer, Waited};
 use do_stack::Stack;

@@ -1,9 +1,5 @@
-//! Numbers in an order that looks random and is the same in each run, for the crates of checks.
-//!
-//! It stands on nothing. It promises that each number is below its bound, and says by its source
-//! which numbers come: another program can draw the same.
-#![tactic(auto)]
-
+//! Numbers in an order that looks random and is the same in each run: another program can draw the
+//! same.
 ghost use Rattle.std.specs.Prelude.{◌<◌};
 
 /// Draws numbers, by the multiplier and the step of Knuth's MMIX.

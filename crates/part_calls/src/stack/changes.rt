@@ -1,6 +1,6 @@
 //! Changes of the top of a stack, beside the plain lists.
-use crate::plain_stack::PlainStack;
-use crate::seen::{number, same};
+use crate::stack::plain::PlainStack;
+use crate::stack::seen::{number, same};
 use do_base::{Items, Value};
 use do_behave::{Change, LocalSet, LocalSets};
 use do_stack::{Exchanged, Stack, Taken};

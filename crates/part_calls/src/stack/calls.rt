@@ -2,10 +2,10 @@
 ghost use Rattle.std.specs.Prelude.{◌<◌, length, IsTrue, IsSome};
 ghost use Rattle.do_stack.specs.Late.{top_call};
 
-use crate::changes::{go_on, set_local, set_local_twice};
-use crate::drawn::{Drawn, asked, invocation};
-use crate::plain_stack::{Doing, PlainStack, Seen};
-use crate::seen::{raised_if, same, seen};
+use crate::stack::changes::{go_on, set_local, set_local_twice};
+use crate::stack::drawn::{Drawn, asked, invocation};
+use crate::stack::plain::{Doing, PlainStack, Seen};
+use crate::stack::seen::{raised_if, same, seen};
 use do_base::Exc;
 use do_behave::{Answer, InvState, Invocation};
 use do_stack::Stack;

@@ -1,11 +1,11 @@
 //! A stack that is driven by drawn calls.
-use crate::drawn::{Drawn, draw};
-use crate::plain_stack::{PlainStack, Tally};
-use crate::seen::{same, same_waiting};
-use crate::stack::call;
+use crate::stack::calls::call;
+use crate::stack::drawn::{Drawn, draw};
+use crate::stack::plain::{PlainStack, Tally};
+use crate::stack::seen::{same, same_waiting};
 use do_base::NodeId;
 use do_stack::Stack;
-use drawn_numbers::Generator;
+use part_samples::Generator;
 use std::alloc::{AllocError, Global};
 use std::io;
 
