@@ -1,15 +1,15 @@
 //! Replays schedules on the plain machine alone, and compares what each shows with the transcript
 //! that it should give; and plays rows of calls of class tables and of starts.
 //!
-//! It stands on do_local and the readers of worlds and schedules, and calls public functions alone.
-//! Worlds, transcripts and rows are files; what they expect was worked out by hand. What is other
-//! than expected is printed whole; at the end of each kind stands how many there are.
+//! It stands on do_local, do_transcript and the readers of worlds and schedules, and calls public
+//! functions alone. Worlds, transcripts and rows are files; what they expect was worked out by
+//! hand. What is other than expected is printed whole; at the end of each kind stands how many
+//! there are.
 #![tactic(auto)]
 
 mod classes;
 mod machines;
 mod packets;
-mod playing;
 mod starts;
 mod transcripts;
 

@@ -1,10 +1,10 @@
 //! Transcripts in files, each with the world that its schedule is for.
 
 use crate::machines::machine_of;
-use crate::playing::push_transcript;
-use do_base::Text;
+use do_base::{CallList, MemSink, Text};
 use do_grammar::{line_of, push_dec};
-use do_sched::read_schedule;
+use do_sched::{Lines, read_schedule};
+use do_transcript::write_transcript;
 use std::alloc::{AllocError, Global};
 use std::fs;
 use std::test::Fail;
@@ -59,15 +59,25 @@ fn schedule_of(alloc: Global, transcript: &[u8]) -> Result<Text, AllocError> {
     Ok(schedule)
 }
 
-/// What the schedule of a transcript shows over a world.
-fn shown(rt: &HostRuntime, world: &str, transcript: &[u8]) -> Result<Text, Fail> {
-    let alloc = rt.alloc();
+/// The lines of that schedule.
+fn lines_of(alloc: Global, transcript: &[u8]) -> Result<Lines, Fail> {
     let schedule = schedule_of(alloc, transcript)?;
-    let lines = read_schedule(alloc, schedule.as_slice())?;
+    Ok(read_schedule(alloc, schedule.as_slice())?)
+}
+
+/// Writes what the schedule of a transcript shows over a world.
+fn show(rt: &HostRuntime, world: &str, transcript: &[u8], out: &mut MemSink) -> Result<(), Fail> {
+    let lines = lines_of(rt.alloc(), transcript)?;
     let mut machine = machine_of(rt, world)?;
-    let mut text = Text::new(alloc);
-    push_transcript(&mut machine, lines, &mut text)?;
-    Ok(text)
+    write_transcript(rt.alloc(), &mut machine, lines, out)?;
+    Ok(())
+}
+
+/// Adds what a schedule shows that is another text than the transcript of a name.
+fn report_other(report: &mut Text, name: &str, shown: &Text) -> Result<(), AllocError> {
+    report.push_bytes(name.as_bytes())?;
+    report.push_bytes(b" IS\n")?;
+    report.push_bytes(shown.as_slice())
 }
 
 /// Replays the schedule of a transcript over a world, and reports what it shows where that is
@@ -79,11 +89,10 @@ fn check_transcript(
     report: &mut Text,
 ) -> Result<(), Fail> {
     let transcript = fs::read(rt, name)?;
-    let shown = shown(rt, world, transcript.as_slice())?;
-    if !shown.is(transcript.as_slice()) {
-        report.push_bytes(name.as_bytes())?;
-        report.push_bytes(b" IS\n")?;
-        report.push_bytes(shown.as_slice())?;
+    let mut out = MemSink::new(rt.alloc(), CallList::new(rt.alloc()))?;
+    show(rt, world, transcript.as_slice(), &mut out)?;
+    if !out.bytes().is(transcript.as_slice()) {
+        report_other(report, name, out.bytes())?;
     }
     Ok(())
 }
