@@ -2,27 +2,30 @@
 //! first ones with each frame that is sent, byte for byte, those behind them without what is sent.
 //!
 //! It stands on do_node and do_host, as the program does. What it must write was worked out by hand
-//! or by another program, and stands beside it. Behind these, schedules that numbers generate are
-//! replayed over the network and over the one machine of the definitions, and must show the same.
-//! The schedules over `edges.world` and those behind them tell rules apart that few others do: each
-//! differs where one rule is another.
+//! or by another program, and stands beside it. Behind these, the same schedules and generated ones
+//! are played over the network and over the one machine of the definitions. Both must show the same
+//! and leave the same lost. The schedules over `edges.world` and those behind them tell rules apart
+//! that few others do: each differs where one rule is another.
 //!
-//! Five rules can show in no transcript, since no state that a machine comes to tells them apart:
-//! that an answer which does not fit raises Type; that a name lent twice under one token is asked
-//! for once; that calls given up are forgotten when their peer's end closes; that such a close
-//! settles no lend of that peer; and which numbers the first call and the first token have.
+//! Five rules can show in no transcript, since no state that a machine comes to tells them apart.
+//! An answer which does not fit raises Type. A name lent twice under one token is asked for once.
+//! Calls given up are forgotten when their peer's end closes, and such a close settles no lend of
+//! that peer. The first call and the first token have certain numbers.
 #![tactic(auto)]
 
 mod generated;
+mod machine;
 mod plain;
+mod running;
 
 use crate::generated::compare_all;
+use crate::machine::is_alike;
 use crate::plain::without_wires;
-use do_base::{CallList, Items, MemSink, Shelf, Text, Texts};
+use crate::running::Asked;
+use do_base::{Shelf, Text};
+use do_grammar::push_dec;
 use do_host::FileShelf;
-use do_node::{Status, run};
-use outside_rows::{good_children, no_link};
-use std::alloc::AllocError;
+use std::alloc::Global;
 use std::io::Write;
 use std::test::Fail;
 
@@ -83,55 +86,41 @@ const SHOWN: [(&str, &str); 26] = [
     ("notices.world", "closed_before_not_vended.schedule"),
 ];
 
-/// The words that ask for a schedule to be replayed over a world.
-fn words(rt: &HostRuntime, world: &str, schedule: &str) -> Result<Texts, AllocError> {
-    let alloc = rt.alloc();
-    let mut words = Items::new(alloc);
-    words.push(Text::from_slice(alloc, b"replay")?)?;
-    words.push(Text::from_slice(alloc, world.as_bytes())?)?;
-    words.push(Text::from_slice(alloc, schedule.as_bytes())?)?;
-    Ok(words)
-}
-
-/// The transcript of a schedule over a world, with what was sent.
-fn replayed<H: Shelf>(
-    rt: &HostRuntime,
+/// Reports the schedules of these over which the network and the one machine come to different
+/// things, and how many there are.
+fn compare<H: Shelf>(
+    alloc: Global,
+    asked: &[(&str, &str)],
     shelf: &mut H,
-    world: &str,
-    schedule: &str,
-) -> Result<Text, Fail> {
-    let alloc = rt.alloc();
-    let words = words(rt, world, schedule)?;
-    let mut sink = MemSink::new(alloc, CallList::new(alloc))?;
-    let mut link = no_link(alloc)?;
-    let mut spawn = good_children(alloc)?;
-    let status = run(
-        alloc,
-        words.as_slice(),
-        shelf,
-        &mut sink,
-        &mut link,
-        &mut spawn,
-    );
-    if !matches!(&status, Status::Ok) {
-        return Err("not whole".into());
+    report: &mut Text,
+) -> Result<(), Fail> {
+    for (world, schedule) in asked {
+        if !is_alike(alloc, &Asked { world, schedule }, shelf)? {
+            report.push_bytes(schedule.as_bytes())?;
+            report.push_bytes(b" DIFFERS\n")?;
+        }
     }
-    Ok(sink.bytes().clone()?)
+    push_dec(report, asked.len() as u64)?;
+    report.push_bytes(b" schedules in files\n")?;
+    Ok(())
 }
 
 fn main(rt: HostRuntime) -> Result<(), Fail> {
-    let mut shelf = FileShelf::new(rt.alloc(), rt);
+    let alloc = rt.alloc();
+    let mut shelf = FileShelf::new(alloc, rt);
     for (world, schedule) in SENT {
-        let whole = replayed(&rt, &mut shelf, world, schedule)?;
+        let whole = Asked { world, schedule }.written(alloc, "replay", &mut shelf)?;
         rt.stdout().write_all(whole.as_slice())?;
     }
     for (world, schedule) in SHOWN {
-        let whole = replayed(&rt, &mut shelf, world, schedule)?;
-        let plain = without_wires(rt.alloc(), &whole)?;
+        let whole = Asked { world, schedule }.written(alloc, "replay", &mut shelf)?;
+        let plain = without_wires(alloc, &whole)?;
         rt.stdout().write_all(plain.as_slice())?;
     }
-    let mut report = Text::new(rt.alloc());
-    compare_all(rt.alloc(), &mut report)?;
+    let mut report = Text::new(alloc);
+    compare(alloc, &SENT, &mut shelf, &mut report)?;
+    compare(alloc, &SHOWN, &mut shelf, &mut report)?;
+    compare_all(alloc, &mut report)?;
     rt.stdout().write_all(report.as_slice())?;
     Ok(())
 }
