@@ -1,5 +1,6 @@
 //! Commands over files, links, children and outputs in memory.
 
+use crate::cut::Cut;
 use call_rows::{Part, list_at, no_call, number_at, printed, text_at};
 use do_base::{CallList, FileList, MemShelf, MemSink, NamedFile, Sink, Text, Texts, Value, Values};
 use do_grammar::is_text;
@@ -15,6 +16,8 @@ pub(crate) struct FormCalls {
     alloc: Global,
     shelf: MemShelf,
     links: LinkCalls,
+    /// What the link was made of.
+    script: Values,
     spawn: MemSpawner,
     puts: CallList,
 }
@@ -59,6 +62,7 @@ impl FormCalls {
             alloc,
             shelf: shelf_of(alloc, &none, &none)?,
             links: LinkCalls::new(alloc)?,
+            script: Values::new(alloc),
             spawn: spawner_of(alloc, &none, &none, &none)?,
             puts: CallList::new(alloc),
         })
@@ -77,7 +81,8 @@ impl FormCalls {
         )
     }
 
-    /// Serves the node of a port in the world that a word gives, with the starts that another names.
+    /// Serves the node of a port in the world that a word gives, with the starts that another
+    /// names.
     fn node<K: Sink>(&mut self, args: &Values, out: &mut K) -> Result<Status, Fail> {
         let mut words = Texts::new(self.alloc);
         words.push(Text::from_slice(self.alloc, b"node")?)?;
@@ -100,6 +105,33 @@ impl FormCalls {
         let mut out = Narrow::new(self.alloc);
         let status = self.node(args, &mut out)?;
         answer_of(self.alloc, status, out.taken())
+    }
+
+    /// Serves over a link of the same script anew, and an output that takes so many bytes.
+    fn node_within(&mut self, args: &Values, bytes: u64) -> Result<(Status, Text), Fail> {
+        self.links.call(b"link", &self.script)?;
+        let mut out = Cut::new(self.alloc, bytes);
+        let status = self.node(args, &mut out)?;
+        Ok((status, out.taken()))
+    }
+
+    /// Serves over outputs that fail at each byte of the record in turn, and tells how many it has.
+    /// What stood before that byte must be written, and no more.
+    fn node_cut(&mut self, args: &Values) -> Result<Value, Fail> {
+        let (_, whole) = self.node_within(args, u64::MAX)?;
+        for at in 0..whole.len() {
+            let (status, taken) = self.node_within(args, at as u64)?;
+            if !matches!(&status, Status::WriteFault) || !taken.is(&whole.as_slice()[..at]) {
+                return Err(Fail::from("no front"));
+            }
+        }
+        Ok(Value::Num(i64::try_from(whole.len())?))
+    }
+
+    /// Takes another link, of this script.
+    fn set_link(&mut self, script: &Values) -> Result<Value, Fail> {
+        self.script = script.clone()?;
+        self.links.call(b"link", script)
     }
 
     /// Runs the plan in the file of a name.
@@ -143,6 +175,12 @@ impl Part for FormCalls {
         }
         if is_text(word, b"node_narrow") {
             return self.node_narrow(args);
+        }
+        if is_text(word, b"node_cut") {
+            return self.node_cut(args);
+        }
+        if is_text(word, b"link") {
+            return self.set_link(args);
         }
         if is_text(word, b"lab") {
             return self.lab(text_at(args, 0)?);

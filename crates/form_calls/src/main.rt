@@ -2,11 +2,12 @@
 //! answer with the one that stands beside the call.
 //!
 //! It stands on do_node and on how rows are played, and calls its one function alone, over files,
-//! links, children and outputs in memory. The rows are files; what they expect was worked out by hand, and the bytes of
-//! frames by another program. A row whose answer is another one is printed with it; at the end of
-//! each file stands how many rows it has.
+//! links, children and outputs in memory. The rows are files; what they expect was worked out by
+//! hand, and the bytes of frames by another program. A row whose answer is another one is printed
+//! with it; at the end of each file stands how many rows it has.
 #![tactic(auto)]
 
+mod cut;
 mod forms;
 
 use crate::forms::FormCalls;
