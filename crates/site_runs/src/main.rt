@@ -25,7 +25,11 @@ use std::{env, fs};
 const ONE: &str = "passing_on.runs";
 
 /// The files of the other runs.
-const OTHERS: [&str; 2] = ["lying_peers.runs", "hostile_frames.runs"];
+const OTHERS: [&str; 3] = [
+    "lying_peers.runs",
+    "hostile_frames.runs",
+    "heavy_messages.runs",
+];
 
 /// Plays the runs of a file, and writes what comes of them.
 fn play_file<P: Player>(rt: &HostRuntime, player: &mut P, name: &str) -> Result<(), Fail> {
