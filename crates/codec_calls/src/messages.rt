@@ -130,7 +130,8 @@ impl MessageCalls {
         count_value(self.sent.len())
     }
 
-    /// Goes on with a copy of the table of the objects that were written, and tells how many it has.
+    /// Goes on with a copy of the table of the objects that were written, and tells how many it
+    /// has.
     fn copy(&mut self) -> Result<Value, Fail> {
         self.sent = self.sent.copy()?;
         count_value(self.sent.len())

@@ -9,8 +9,11 @@ use std::alloc::{AllocError, Global};
 /// The nodes 7001 to 7004.
 #[derive(Clone, Copy, Debug)]
 pub struct Ports {
+    /// The node that packs.
     pub sender: NodeId,
+    /// The node that it packs for.
     pub receiver: NodeId,
+    /// A node whose objects are lent.
     pub third: NodeId,
     /// A node whose objects may not be named.
     pub closed: NodeId,

@@ -13,9 +13,11 @@ use std::alloc::{AllocError, Global};
 /// It may name every foreign object but those of one node.
 #[derive(Drop)]
 pub struct Node {
+    /// The port of the node.
     pub id: NodeId,
     /// The node whose objects may not be named.
     pub closed: NodeId,
+    /// The class of each object.
     pub class: ClassId,
     objects: Vec<Values>,
     ghost light: { AllLight objects.items },

@@ -1,5 +1,6 @@
 -- A node that sends back what it takes.
-use Rattle.std.specs.Prelude.{Bool, List, [], codes, pos, if◌then◌else◌, length, nat_lt, not, ℕ, ◌++◌}
+use Rattle.std.specs.Prelude.{Bool, List, [], codes, pos, if◌then◌else◌, length, nat_lt}
+use Rattle.std.specs.Prelude.{not, ℕ, ◌++◌}
 use Rattle.std.specs.Prelude.{◌&&◌, ◌-◌, ◌==◌, ◌∷◌, ◌≡◌, Err, None, Ok, Option, Result, Some}
 use Rattle.std.specs.List.{list_any}
 use Rattle.do_base.specs.declared.events.shown.Shown.{Shown}

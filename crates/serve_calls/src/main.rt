@@ -1,10 +1,10 @@
 //! Plays rows of calls of links and of children in memory, of plans that are run, and of a node
 //! that is served, and compares each answer with the one that stands beside the call.
 //!
-//! It stands on do_link, do_lab, do_serve and how rows are played, and calls public functions alone.
-//! The node that is served is the least that can be: it sends back what it takes. The rows are
-//! files; what they expect was worked out by hand. A row whose answer is another one is printed with
-//! it; at the end of each file stands how many rows it has.
+//! It stands on do_link, do_lab, do_serve and how rows are played, and calls public functions
+//! alone. The node that is served is the least that can be: it sends back what it takes. The rows
+//! are files; what they expect was worked out by hand. A row whose answer is another one is printed
+//! with it; at the end of each file stands how many rows it has.
 #![tactic(auto)]
 
 mod echo;

@@ -1,4 +1,7 @@
 //! Tests of packing and unpacking.
+//!
+//! It stands on do_packet and on the nodes and values of packet_samples, and calls public functions
+//! alone.
 #![tactic(auto)]
 
 #[cfg(test)]
