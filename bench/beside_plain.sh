@@ -1,8 +1,8 @@
 #!/bin/sh
 # Builds crates/CRATE and bench/PLAIN.rs, runs one after the other N times, and prints the best
-# nanoseconds of one of WORD (acts, calls, times) in both, with their ratio. The other commands
-# beside this one name the four.
-# sh bench/beside_plain.sh CRATE PLAIN N WORD
+# nanoseconds of one of WORD (acts, calls, times) in both, with their ratio. The program is run with
+# the word PART, where there is one. The other commands beside this one name them.
+# sh bench/beside_plain.sh CRATE PLAIN N WORD [PART]
 set -e
 cd "$(dirname "$0")/.."
 work=$(mktemp -d)
@@ -10,7 +10,7 @@ trap 'rm -rf "$work"' EXIT
 (cd "crates/$1" && rt run) > "$work/build" 2>&1 || { cat "$work/build" >&2; exit 1; }
 rustc --edition 2021 -O "bench/$2.rs" -o "$work/plain"
 for _ in $(seq "$3"); do
-    "crates/$1/out/$1" 2>> "$work/rattle.figures"
+    "crates/$1/out/$1" ${5:+"$5"} > "$work/rattle.out" 2>> "$work/rattle.figures"
     "$work/plain" 2>> "$work/plain.figures"
 done
 awk -F ": | $4, | hundredths" -v word="$4" '

@@ -30,5 +30,6 @@ for round in 1 2 3; do
     echo "$all $none $calls" | awk '{ printf "%.1f microseconds a call\n", ($1 - $2) / $3 / 1000 }'
 done
 all=$(nanoseconds "text: \"$(head -c 100000 /dev/zero | tr '\0' x)\"")
-echo "$all $none 100" | awk '{ printf "%.1f microseconds a text there and back\n", ($1 - $2) / $3 / 1000 }'
+echo "$all $none 100" |
+    awk '{ printf "%.1f microseconds a text there and back\n", ($1 - $2) / $3 / 1000 }'
 rm -rf "$folder"

@@ -1,6 +1,6 @@
 // A plain codec of packets, frames and streams, for `bench/codec.sh`: the same format, read and
 // written in ordinary Rust. It prints what it answers to payloads and streams that are cut or
-// changed at each byte and what it writes for drawn frames, as `crates/codec_speed` does, and then
+// changed at each byte and what it writes for drawn frames, as `crates/speeds` does, and then
 // what frames cost, on standard error.
 use std::collections::{HashMap, VecDeque};
 use std::hint::black_box;
@@ -712,7 +712,7 @@ fn all_streams() -> u64 {
 
 // ---- drawn frames, written and read in their order
 
-/// Draws the same numbers as `crates/drawn_numbers`.
+/// Draws the same numbers as `Generator` of `crates/part_samples`.
 struct Generator {
     state: u64,
 }

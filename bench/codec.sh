@@ -1,5 +1,5 @@
 #!/bin/sh
-# Builds crates/codec_speed and bench/codec.rs, tells whether both answer alike to cut and changed
+# Builds crates/speeds and bench/codec.rs, tells whether both answer alike to cut and changed
 # bytes, runs one after the other five times, and prints the best nanoseconds of a frame, written
 # and read, in both, with their ratio.
 # sh bench/codec.sh
@@ -7,10 +7,10 @@ set -e
 cd "$(dirname "$0")/.."
 work=$(mktemp -d)
 trap 'rm -rf "$work"' EXIT
-(cd crates/codec_speed && rt run) > "$work/build" 2>&1 || { cat "$work/build" >&2; exit 1; }
+(cd crates/speeds && rt run) > "$work/build" 2>&1 || { cat "$work/build" >&2; exit 1; }
 rustc --edition 2021 -O bench/codec.rs -o "$work/plain"
 for _ in 1 2 3 4 5; do
-    crates/codec_speed/out/codec_speed > "$work/rattle.answers" 2>> "$work/rattle.figures"
+    crates/speeds/out/speeds codec > "$work/rattle.answers" 2>> "$work/rattle.figures"
     "$work/plain" > "$work/plain.answers" 2>> "$work/plain.figures"
 done
 cmp "$work/rattle.answers" "$work/plain.answers" && echo 'both answer alike'

@@ -1,5 +1,5 @@
-// What crates/part_calls prints of queues, rows and exports, and what crates/stack_calls prints,
-// found by plain Rust alone, with none of the parts: the same calls are drawn and counted.
+// What crates/part_calls prints of queues, rows and exports, and of the stack, found by plain Rust
+// alone, with none of the parts: the same calls are drawn and counted.
 // rustc --edition 2021 -O bench/drawn_calls.rs -o /tmp/drawn_calls && /tmp/drawn_calls
 use std::collections::{BTreeMap, VecDeque};
 

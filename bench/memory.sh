@@ -1,18 +1,20 @@
 #!/bin/sh
-# Runs the form `memory` of a program once for each allocation that it makes, with that one refused.
+# Runs a program with a word once for each allocation that it makes, with that one refused.
 # Prints how many of the runs wrote what an undisturbed one writes, how many ended in an error since
 # what stands around the calls had no memory, and each that did anything else.
-# sh bench/memory.sh codec_speed    the program must be built (`rt run` in its folder builds it)
+# sh bench/memory.sh PROGRAM [WORD]    the word is `memory` where there is none; `rt run` in the
+# folder of the program builds it
 set -e
 cd "$(dirname "$0")/.."
 program=$PWD/crates/$1/out/$1
+word=${2:-memory}
 work=$(mktemp -d)
 trap 'rm -rf "$work"' EXIT
 rustc --edition 2021 -O -C panic=abort --crate-type cdylib -o "$work/fail_alloc.so" \
     bench/fail_alloc.rs
 if [ -d "crates/$1/data" ]; then cd "crates/$1/data"; fi
 run() {
-    FAIL_ALLOC=$1 LD_PRELOAD=$work/fail_alloc.so timeout 60 "$program" memory \
+    FAIL_ALLOC=$1 LD_PRELOAD=$work/fail_alloc.so timeout 60 "$program" "$word" \
         > "$work/out" 2> "$work/err"
 }
 run 0
@@ -32,6 +34,6 @@ while [ "$number" -le "$total" ]; do
     fi
     number=$((number + 1))
 done
-echo "$total allocations of $1, refused one by one: $same runs wrote the same,"
+echo "$total allocations of $1 $word, refused one by one: $same runs wrote the same,"
 echo "$ended had no memory around the calls, $other did anything else"
 [ "$other" = 0 ]

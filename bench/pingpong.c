@@ -1,61 +1,102 @@
-/* Round trips of 20 bytes over TCP on this machine, between two processes that block.
+/* Round trips of 20 bytes over TCP on this machine, between two processes.
  *
  *   cc -O2 -o pingpong bench/pingpong.c && ./pingpong COUNT
  *
- * Prints the microseconds of one round trip. The starts of both ends are not in it.
+ * Prints the microseconds of one round trip, first where both processes block in their reads of one
+ * stream, then as nodes do it: over a stream for each direction, with a wait for sockets before
+ * each read. The starts of both ends are not in it.
  */
 #include <arpa/inet.h>
+#include <fcntl.h>
 #include <netinet/in.h>
 #include <netinet/tcp.h>
 #include <stdio.h>
 #include <stdlib.h>
+#include <sys/epoll.h>
 #include <sys/socket.h>
 #include <sys/wait.h>
 #include <time.h>
 #include <unistd.h>
 
-enum { SIZE = 20 };
+enum { SIZE = 20, ROOM = 65536 };
 
-static void move(ssize_t (*call)(int, void *, size_t), int fd, char *bytes) {
+/* What a process reads from and writes to, and what it waits by; -1 where it blocks. */
+struct ends {
+    int in, out, waiter;
+};
+
+static void hear(struct ends *at) {
+    static char bytes[ROOM];
     for (size_t done = 0; done < SIZE;) {
-        ssize_t n = call(fd, bytes + done, SIZE - done);
+        struct epoll_event found[16];
+        if (at->waiter >= 0 && epoll_wait(at->waiter, found, 16, 1) < 1) continue;
+        ssize_t n = read(at->in, bytes, at->waiter < 0 ? SIZE - done : ROOM);
         if (n <= 0) exit(1);
         done += (size_t) n;
     }
 }
 
-static ssize_t put(int fd, void *bytes, size_t size) { return write(fd, bytes, size); }
+static void tell(struct ends *at) {
+    static const char bytes[SIZE];
+    if (write(at->out, bytes, SIZE) != SIZE) exit(1);
+}
 
-int main(int argc, char **argv) {
-    long count = argc > 1 ? atol(argv[1]) : 20000;
-    int one = 1, listener = socket(AF_INET, SOCK_STREAM, 0);
+static void set(struct ends *at, int waits) {
+    int one = 1;
+    at->waiter = -1;
+    setsockopt(at->out, IPPROTO_TCP, TCP_NODELAY, &one, sizeof one);
+    if (waits) {
+        struct epoll_event what = {.events = EPOLLIN | EPOLLRDHUP | EPOLLET};
+        fcntl(at->in, F_SETFL, O_NONBLOCK);
+        at->waiter = epoll_create1(0);
+        epoll_ctl(at->waiter, EPOLL_CTL_ADD, at->in, &what);
+    }
+}
+
+static void measure(long count, int as_nodes, const char *how) {
+    int listener = socket(AF_INET, SOCK_STREAM, 0);
     struct sockaddr_in at = {.sin_family = AF_INET, .sin_addr.s_addr = htonl(INADDR_LOOPBACK)};
     socklen_t length = sizeof at;
-    char bytes[SIZE] = {0};
-    if (bind(listener, (struct sockaddr *) &at, length) || listen(listener, 1)) return 1;
+    if (bind(listener, (struct sockaddr *) &at, length) || listen(listener, 2)) exit(1);
     getsockname(listener, (struct sockaddr *) &at, &length);
     if (fork() == 0) {
-        int fd = accept(listener, NULL, NULL);
-        setsockopt(fd, IPPROTO_TCP, TCP_NODELAY, &one, sizeof one);
+        struct ends far;
+        far.in = accept(listener, NULL, NULL);
+        far.out = as_nodes ? accept(listener, NULL, NULL) : far.in;
+        set(&far, as_nodes);
         for (long i = 0; i < count; i++) {
-            move(read, fd, bytes);
-            move(put, fd, bytes);
+            hear(&far);
+            tell(&far);
         }
-        return 0;
+        exit(0);
     }
-    int fd = socket(AF_INET, SOCK_STREAM, 0);
-    if (connect(fd, (struct sockaddr *) &at, length)) return 1;
-    setsockopt(fd, IPPROTO_TCP, TCP_NODELAY, &one, sizeof one);
+    struct ends near = {.out = socket(AF_INET, SOCK_STREAM, 0)};
+    if (connect(near.out, (struct sockaddr *) &at, length)) exit(1);
+    near.in = near.out;
+    if (as_nodes) {
+        near.in = socket(AF_INET, SOCK_STREAM, 0);
+        if (connect(near.in, (struct sockaddr *) &at, length)) exit(1);
+    }
+    set(&near, as_nodes);
     struct timespec began, ended;
     clock_gettime(CLOCK_MONOTONIC, &began);
     for (long i = 0; i < count; i++) {
-        move(put, fd, bytes);
-        move(read, fd, bytes);
+        tell(&near);
+        hear(&near);
     }
     clock_gettime(CLOCK_MONOTONIC, &ended);
     double seconds = (double) (ended.tv_sec - began.tv_sec)
         + (double) (ended.tv_nsec - began.tv_nsec) / 1e9;
-    printf("%.1f microseconds a round trip\n", seconds / (double) count * 1e6);
+    printf("%.1f microseconds a round trip, %s\n", seconds / (double) count * 1e6, how);
+    fflush(stdout);
     wait(NULL);
+    close(near.in);
+    close(listener);
+}
+
+int main(int argc, char **argv) {
+    long count = argc > 1 ? atol(argv[1]) : 20000;
+    measure(count, 0, "each blocking in its read");
+    measure(count, 1, "each waiting as a node does");
     return 0;
 }

@@ -1,4 +1,4 @@
-// Plain Rust beside crates/part_speed: std's queue and ordered map, with the same calls.
+// Plain Rust beside the parts in crates/speeds: std's queue and ordered map, with the same calls.
 use std::collections::{BTreeMap, BTreeSet, VecDeque};
 
 const ROUNDS: u32 = 1_000_000;

@@ -1,5 +1,5 @@
-// Plain Rust beside the calls that crates/stack_calls times: a vector of invocations, the top last,
-// and a map of late calls by number.
+// Plain Rust beside the calls of the stack that crates/part_calls times: a vector of invocations,
+// the top last, and a map of late calls by number.
 use std::collections::BTreeMap;
 use std::hint::black_box;
 use std::mem;
