@@ -1,3 +1,4 @@
 pub mod TakesAlike
 pub mod TakeEvents
+pub mod TakenFrame
 pub mod TakeSteps

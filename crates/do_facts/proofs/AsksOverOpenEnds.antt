@@ -51,8 +51,6 @@ module _ (r : RunContext) where
 
   -- any act
   pub by_act : (act : Act) → Sent (act_rule r act)
-  by_act (acts.Step pc locals handler writes) = tt
-  by_act (acts.New class into pc) = tt
   by_act (acts.Send target selector args into from pc) =
       let x : SendAct = record {
         target = target;
@@ -65,9 +63,8 @@ module _ (r : RunContext) where
       by_send Sent r (λ e h. tt) x (sends x)
   by_act (acts.Root port into pc) = by_root Sent r (λ e h. tt) port into pc tt (λ port o. (o, tt))
   by_act (acts.Vend value pc) = by_vend Sent r (λ e h. tt) value pc (λ root. tt)
-  by_act (acts.Say value pc) = tt
   by_act (acts.Return value) = by_return Sent r (λ e h. tt) value (λ s. tt) (λ s. tt)
-  by_act (acts.Raise e) = tt
+  by_act _ = tt
 
   -- an answer that is used
   pub by_answer : (a : Answer) → Sent (answer_rule a)

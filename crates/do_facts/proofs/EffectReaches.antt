@@ -1,6 +1,5 @@
 -- A state is reached by the moves of an effect, and by those of what follows it.
-use Rattle.std.proofs.Common.{◌≡◌, ◌++◌, ℕ, false, List, [], ◌∷◌, refl, sym, ap}
-use Rattle.std.proofs.Common.{◌∙◌, subst}
+use Rattle.std.proofs.Common.{◌≡◌, ◌++◌, ℕ, false, List, [], ◌∷◌, refl, sym, ap, ◌∙◌, subst}
 use Rattle.std.specs.Prelude.{None, Some}
 use Rattle.do_base.specs.declared.events.shown.Shown.{Shown}
 use Rattle.do_machine.specs.declared.node.Node.{Node}

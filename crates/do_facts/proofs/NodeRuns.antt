@@ -1,6 +1,5 @@
 -- By a step the part of each node is moved by moves that take what the step takes, or stays.
-use Rattle.std.proofs.Common.{◌≡◌, ◌++◌, ℕ, Bool, List, [], ◌∷◌, refl, sym}
-use Rattle.std.proofs.Common.{ap, append-nil, subst}
+use Rattle.std.proofs.Common.{◌≡◌, ◌++◌, ℕ, Bool, List, [], ◌∷◌, refl, sym, ap, append-nil, subst}
 use Rattle.std.specs.Prelude.{None, Option, Some, unwrap_or}
 use Rattle.do_base.specs.declared.events.event.Event.{Event}
 use Rattle.do_base.specs.declared.events.event.Event.TheVariants as events
@@ -49,10 +48,9 @@ moves_there view rules n (Some d) e h q =
     subst (λ x. AreMoves view rules n [] x) (ap (λ x. unwrap_or x d) q) h
 
 module _ {P A V : Type 0} (view : View P A) (rules : Rules P A V) (Ok : P → Type 0)
-    (bridge : Bridge view rules Ok) (table : List Class) (act : Acting) (S : State)
-    (ok : (port : ℕ) (n : Node) → node S port ≡ Some n → Ok (view.part n)) where
+    (bridge : Bridge view rules Ok) (table : List Class) (act : Acting) (S : State) where
   -- the effect of an event's rule is moves
-  by_rule : (event : Event) (n : Node) (e : Effect) → Ok (view.part n) →
+  pub by_rule : (event : Event) (n : Node) (e : Effect) → Ok (view.part n) →
       IsRuleOf table act S event n e → AreMoves view rules n [] e
   by_rule (events.Start port selector values) n e good rule =
       moves_there view rules n (start_effect table selector values n) e
@@ -60,13 +58,11 @@ module _ {P A V : Type 0} (view : View P A) (rules : Rules P A V) (Ok : P → Ty
   by_rule (events.Run port) n e good rule =
       moves_there view rules n (run_effect act (context table S n)) e
       (bridge.run act (context table S n) good) rule
-  by_rule (events.Take port from) n e good rule = absurd rule
   by_rule (events.Close port peer) n e good rule =
       subst (λ d. AreMoves view rules n [] d) (sym rule.1) (bridge.close n peer rule.0 good)
-  by_rule (events.Lose from to after) n e good rule = absurd rule
   by_rule (events.Timeout port) n e good rule =
       moves_there view rules n (time_out n) e (bridge.gives_up n good) rule
-  by_rule events.Check n e good rule = absurd rule
+  by_rule _ n e good rule = absurd rule
 
   -- an effect, and what the node then leaves
   left_moves : (n : Node) (taken : List (Note A)) (e : Effect) (entry : ℕ → ℕ → Bool) →
@@ -81,7 +77,8 @@ module _ {P A V : Type 0} (view : View P A) (rules : Rules P A V) (Ok : P → Ty
       (subst Ok moves.reaches
       (ok_still view rules Ok bridge moves.moves (view.part n) moves.may good))))
 
-  module _ (event : Event) (port : ℕ) (now : Option Node) where
+  module _ (ok : (port : ℕ) (n : Node) → node S port ≡ Some n → Ok (view.part n)) (event : Event)
+      (port : ℕ) (now : Option Node) where
     -- the part of the node is moved to that of another, which is there now
     moved_by : (n : Node) (taken : List (Note A)) (e : Effect) (entry : ℕ → ℕ → Bool) →
         node S port ≡ Some n → now ≡ Some (leaving entry e.node).node →

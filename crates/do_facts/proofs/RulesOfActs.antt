@@ -108,8 +108,9 @@ module _ (P : Verdict → Type 0) (r : RunContext)
 
   module _ (x : SendAct) (may : Sends P r x) where
     -- a send to a peer
-    by_remote : (o : ObjectName) (m : Found) → IsFor r x o m → is_open r.context.node o.node ≡ true →
-        is_known r.context.node o ≡ true → P (remote_rule r.context o m x)
+    by_remote : (o : ObjectName) (m : Found) → IsFor r x o m →
+        is_open r.context.node o.node ≡ true → is_known r.context.node o ≡ true →
+        P (remote_rule r.context o m x)
     by_remote o m is ends known =
         found_or P (packed_for r.context o.node (arguments m.signature x)) (Fails TooLarge) _
         (fails TooLarge refl)

@@ -1,6 +1,6 @@
 -- Every step of the machine is moves of one node, or a loss.
-use Rattle.std.proofs.Common.{◌≡◌, ◌++◌, ℕ, Bool, true, false, cond, not, List, [], ◌∷◌}
-use Rattle.std.proofs.Common.{drop, take, refl, sym, ap, ◌∙◌, subst}
+use Rattle.std.proofs.Common.{◌≡◌, ◌++◌, ℕ, Bool, true, false, cond, not, List, [], ◌∷◌, drop, take}
+use Rattle.std.proofs.Common.{refl, sym, ap, ◌∙◌, subst}
 use Rattle.std.specs.Prelude.{None, Option, Some, length, nat_lt, option_and_then, option_map}
 use Rattle.std.specs.List.{flat_map, insert}
 use Rattle.std.proofs.lemmas.Grind.{flat_map-append}
@@ -28,8 +28,7 @@ use Rattle.do_facts.specs.laws.Entries.{HasQueues}
 use Rattle.do_machine.specs.run.Run.{Acting, run_effect}
 use Rattle.do_facts.specs.ByEvents.{IsBy, IsLossOn, IsMoveOf}
 use Rattle.do_facts.specs.Moves.{Happening, Reaches, Rules, with_wire}
-use Rattle.do_facts.specs.View.{AreApart, AreMovesIf, View, net_of, part_seen}
-use Rattle.do_facts.specs.View.{wire_seen}
+use Rattle.do_facts.specs.View.{AreApart, AreMovesIf, View, net_of, part_seen, wire_seen}
 use Rattle.do_facts.proofs.Bridge.{Bridge}
 use Rattle.do_facts.proofs.EffectReaches.{reaches_moved}
 use Rattle.do_facts.proofs.Paths.{reaches_lost}

@@ -1,8 +1,7 @@
 -- A take is moves of the node that takes.
-use Rattle.std.proofs.Common.{◌≡◌, ◌==◌, ◌++◌, ℕ, Bool, true, false, cond, not, List, [], ◌∷◌}
-use Rattle.std.proofs.Common.{drop, refl, sym, ap, ◌∙◌, subst, append-nil}
-use Rattle.std.specs.Prelude.{None, Option, Some}
-use Rattle.std.specs.Prelude.{slice_get, unwrap_or}
+use Rattle.std.proofs.Common.{◌≡◌, ◌==◌, ◌++◌, ℕ, Bool, true, false, cond, not, List, [], ◌∷◌, drop}
+use Rattle.std.proofs.Common.{refl, sym, ap, ◌∙◌, subst, append-nil}
+use Rattle.std.specs.Prelude.{None, Option, Some, slice_get, unwrap_or}
 use Rattle.std.specs.List.{flat_map}
 use Rattle.std.proofs.lemmas.Bool.{eqb-true}
 use Rattle.do_class.specs.Class.{Class}
@@ -23,8 +22,7 @@ use Rattle.do_facts.proofs.machine.passing.Lookups.{none_goes}
 use Rattle.do_facts.specs.Net.{Net, StandFirst, atoms_of, net_after, noted}
 use Rattle.do_facts.specs.ByEvents.{IsMoveOf}
 use Rattle.do_facts.specs.Moves.{Happening, Reaches, Rules, Runs}
-use Rattle.do_facts.specs.View.{AreApart, AreMoves, View, net_of, part_seen, posted}
-use Rattle.do_facts.specs.View.{wire_seen}
+use Rattle.do_facts.specs.View.{AreApart, AreMoves, View, net_of, part_seen, posted, wire_seen}
 use Rattle.do_facts.proofs.Bridge.{Bridge}
 use Rattle.do_facts.proofs.EffectReaches.{IsLinked, linked_by, net_by, ok_by, reaches_leaving}
 use Rattle.do_facts.proofs.Nets.{net_twice}

@@ -1,3 +1,4 @@
+pub mod Possible
 pub mod Done
 pub mod SmallEffects
 pub mod Takes

@@ -1,7 +1,6 @@
 -- What a node sees as a sender of messages.
 use Rattle.std.proofs.Common.{◌≡◌, ◌==◌, ◌<◌, ◌≤◌, ℕ, Bool, true, false, cond, List, [], ◌∷◌}
-use Rattle.std.proofs.Common.{length}
-use Rattle.std.proofs.Common.{arith, refl, sym, subst, slice_get, suc, zero}
+use Rattle.std.proofs.Common.{length, arith, refl, sym, subst, slice_get, suc, zero}
 use Rattle.std.specs.Prelude.{None, Option, Some, option_map, unwrap_or}
 use Rattle.std.proofs.lemmas.Bool.{eqb-true}
 use Rattle.do_base.specs.names.Names.{ObjectName}

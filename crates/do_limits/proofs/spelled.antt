@@ -1,5 +1,6 @@
 pub mod Wires
 pub mod Given
+pub mod ReachedGiven
 pub mod LentTokens
 pub mod TokenMoves
 pub mod Tokens

@@ -2,6 +2,7 @@ pub mod StateNamed
 pub mod StandAlone
 pub mod QueuesStand
 pub mod StationsFound
+pub mod FoundIsNamed
 pub mod NamedAlike
 pub mod WaysAsQueues
 pub mod NetAsState

@@ -1,6 +1,7 @@
 -- A network is still where the state is with which it agrees, and has the classes of what is lost.
 use Rattle.std.proofs.Common.{◌≡◌, ◌==◌, ◌∙◌, ◌&&◌, ℕ, Bool, true, false, cond, List, [], ◌∷◌}
-use Rattle.std.proofs.Common.{length, map, Option, Some, None, refl, sym, ap, subst, inl, inr, arith}
+use Rattle.std.proofs.Common.{length, map, Option, Some, None, refl, sym, ap, subst, inl, inr}
+use Rattle.std.proofs.Common.{arith}
 use Rattle.std.specs.Prelude.{if◌then◌else◌, not, option_and_then, option_map}
 use Rattle.std.specs.List.{AllByRecursion, IsDistinct, list_all, list_any}
 use Rattle.std.proofs.lemmas.Bool.Decides.{nat_tests}
@@ -9,7 +10,6 @@ use Rattle.std.proofs.lemmas.List.Elements.{recursion_from_All}
 use Rattle.std.proofs.lemmas.List.Folds.{list_all-map}
 use Rattle.do_base.specs.names.Names.{ObjectName}
 use Rattle.do_class.specs.Class.{Class}
-use Rattle.do_class.specs.declared.ids.ClassId.{ClassId}
 use Rattle.do_agreement.specs.Agrees.{Agrees}
 use Rattle.do_agreement.proofs.losses.LossFits.{carried_length}
 use Rattle.do_agreement.proofs.told.ClassesKept.{seen_right}
@@ -22,7 +22,7 @@ use Rattle.do_leaks.specs.declared.leak.Leak.{Leak}
 use Rattle.do_leaks.proofs.Lost.{each_lost}
 use Rattle.do_leaks.proofs.Named.{same_is}
 use Rattle.do_lost.specs.Named.{is_idle, quiet}
-use Rattle.do_machine.specs.Context.{class_seen, context, own_class}
+use Rattle.do_machine.specs.Context.{context, own_class}
 use Rattle.do_machine.specs.Lists.{IsIn}
 use Rattle.do_machine.specs.State.{class_of, node, own, ports, queue, stored}
 use Rattle.do_machine.specs.World.{others}
@@ -34,16 +34,16 @@ use Rattle.do_machine.specs.declared.state.Queue.{Queue}
 use Rattle.do_machine.specs.declared.state.State.{State}
 use Rattle.do_machine.specs.declared.state.Station.{Station}
 use Rattle.do_network.specs.Links.{Part}
-use Rattle.do_network.specs.Net.{Channel, Net, channel, net_ports, part_at}
+use Rattle.do_network.specs.Net.{Net, channel, net_ports, part_at}
 use Rattle.do_network.specs.fits.Notes.{Note}
 use Rattle.do_packet.specs.Met.{same_object}
 use Rattle.do_trace.specs.declared.outcome.ObjLine.{ObjLine}
 use Rattle.do_net_named.specs.Lost.{HasClassesOf, is_still, net_class, net_still}
-use Rattle.do_net_named.proofs.NamedAlike.{passing_in}
 use Rattle.do_net_named.proofs.NetAsState.{sited}
 use Rattle.do_net_named.proofs.QueuesStand.{QueuesStand}
 use Rattle.do_net_named.proofs.StandAlone.{chosen_in}
 use Rattle.do_net_named.proofs.StationsFound.{node_found, queue_found}
+use Rattle.do_net_named.proofs.FoundIsNamed.{passing_in}
 
 -- tests that agree at each element of a list pass alike
 all_alike : {X : Type 0} (f g : X → Bool) (xs : List X) → ((x : X) → IsIn xs x → f x ≡ g x) →
@@ -105,7 +105,8 @@ module _ (table : List Class) (N : Net) (S : State) (agrees : Agrees table N S) 
     -- in the whole
     pub still_so : net_still N ≡ quiet S
     still_so =
-        all_alike (λ from. list_all (λ to. is_still (channel N from to)) (others (net_ports N) from))
+        all_alike
+        (λ from. list_all (λ to. is_still (channel N from to)) (others (net_ports N) from))
         (λ from. list_all (λ to. is_empty (queue S from to)) (others (net_ports N) from))
         (net_ports N) still_from
         ∙ ap (λ ps. list_all (λ from. list_all (λ to. is_empty (queue S from to)) (others ps from))

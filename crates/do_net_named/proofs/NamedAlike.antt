@@ -1,25 +1,22 @@
 -- What a state names is what its nodes, its queues and the ends that closed tell of name.
-use Rattle.std.proofs.Common.{◌≡◌, ◌==◌, ◌∙◌, ◌++◌, ◌&&◌, ◌||◌, ◌⊎◌, ℕ, Bool, true, false}
-use Rattle.std.proofs.Common.{List, [], ◌∷◌, map, Option, Some, None, refl, sym, ap, subst, inl, inr}
-use Rattle.std.proofs.Common.{arith, cond}
-use Rattle.std.specs.Prelude.{is_some, not, option_and_then, option_map}
-use Rattle.std.specs.List.{AllByRecursion, IsDistinct, filter, find, flat_map, list_any}
+use Rattle.std.proofs.Common.{◌≡◌, ◌==◌, ◌∙◌, ◌++◌, ◌&&◌, ◌||◌, ◌⊎◌, ℕ, Bool, true, false, List, []}
+use Rattle.std.proofs.Common.{◌∷◌, map, Option, Some, None, refl, sym, ap, subst, inl, inr}
+use Rattle.std.specs.Prelude.{is_some, not}
+use Rattle.std.specs.List.{IsDistinct, filter, flat_map, list_any}
 use Rattle.std.proofs.lemmas.Bool.{and_parts, eqb-true}
-use Rattle.std.proofs.lemmas.Bool.Decides.{nat_tests}
 use Rattle.do_base.specs.names.Names.{ObjectName}
-use Rattle.do_cycles.proofs.Among.{item_named, node_named, station_of}
+use Rattle.do_cycles.proofs.Among.{station_of}
 use Rattle.do_cycles.proofs.InLists.{any_passes, found_in, images_in, in_images, in_joined}
-use Rattle.do_cycles.proofs.InLists.{joined_in, named_by_any}
-use Rattle.do_cycles.proofs.NamedInItems.{exported_named, released_named}
-use Rattle.do_facts.specs.Made.{EnteredAreStored, is_stored}
+use Rattle.do_cycles.proofs.InLists.{named_by_any}
+use Rattle.do_facts.specs.Made.{EnteredAreStored}
 use Rattle.do_leaks.proofs.Named.{in_either, in_left, in_right, same_is, same_self}
 use Rattle.do_lost.specs.Named.{item_names, named, node_names, queue_names, serves, station_names}
 use Rattle.do_machine.specs.Entry.{has_entry, is_holder, is_on_its_way_back, is_reached}
 use Rattle.do_machine.specs.Entry.{is_under_way}
-use Rattle.do_machine.specs.Items.{Released, exported, is_released, named_as, naming, released}
+use Rattle.do_machine.specs.Items.{Released, is_released, named_as, naming, released}
 use Rattle.do_machine.specs.Lists.{IsIn, some_passes}
 use Rattle.do_machine.specs.Objects.{object_at}
-use Rattle.do_machine.specs.State.{holds, is_open, node, own, ports, queue, queue_to, station, stored}
+use Rattle.do_machine.specs.State.{is_open, node, own, ports, queue, stored}
 use Rattle.do_machine.specs.World.{others}
 use Rattle.do_machine.specs.check.Snapshot.{entries_for, entry_of, node_line, own_objects, snapshot}
 use Rattle.do_machine.specs.declared.item.Item.{Item}
@@ -29,24 +26,16 @@ use Rattle.do_machine.specs.declared.node.Stored.{Stored}
 use Rattle.do_machine.specs.declared.state.Queue.{Queue}
 use Rattle.do_machine.specs.declared.state.State.{State}
 use Rattle.do_machine.specs.declared.state.Station.{Station}
-use Rattle.do_machine.proofs.Bools.{or_cases, or_left, or_right}
+use Rattle.do_machine.proofs.Bools.{or_right}
 use Rattle.do_packet.specs.Met.{has_object, same_object}
 use Rattle.do_trace.specs.declared.outcome.Entry.{Entry}
-use Rattle.do_trace.specs.declared.outcome.NodeLine.{NodeLine}
 use Rattle.do_net_named.proofs.QueuesStand.{QueuesStand}
-use Rattle.do_net_named.proofs.StandAlone.{chosen_in, in_chosen}
+use Rattle.do_net_named.proofs.StandAlone.{in_chosen}
 use Rattle.do_net_named.proofs.StationsFound.{node_found, queue_found}
 use Rattle.do_net_named.proofs.StateNamed.{between_names, items_names, names_at, state_named}
 use Rattle.do_net_named.proofs.StateNamed.{told_at}
-
--- an element that passes is in the list
-pub passing_in : {X : Type 0} (test : X → Bool) (xs : List X) → list_any test xs ≡ true →
-    (x : X) × IsIn xs x × (test x ≡ true)
-passing_in test [] h = absurd (cc)
-passing_in test (x ∷ xs) h = elim (or_cases (test x) (list_any test xs) h) [
-  | inl e ↦ (x, inl refl, e)
-  | inr e ↦ let r = passing_in test xs e in (r.0, inr r.1, r.2)
-]
+use Rattle.do_net_named.proofs.FoundIsNamed.{among_all, at_nodes, between, found_is_named}
+use Rattle.do_net_named.proofs.FoundIsNamed.{passing_in, told}
 
 -- one of two truths that imply one another
 pub both_true : (a b : Bool) → (a ≡ true → b ≡ true) → (b ≡ true → a ≡ true) → a ≡ b
@@ -58,12 +47,6 @@ both_true false false f g = refl
 both_pass : (a b : Bool) → a ≡ true → b ≡ true → (a && b) ≡ true
 both_pass true b f g = g
 both_pass false b f g = absurd (cc)
-
--- an object that one of the elements names
-among_all : {X : Type 0} (f : X → List ObjectName) (xs : List X) (o : ObjectName) →
-    has_object (flat_map f xs) o ≡ true → (x : X) × IsIn xs x × (has_object (f x) o ≡ true)
-among_all f xs o h =
-    passing_in (λ x. has_object (f x) o) xs (sym (named_by_any f xs o) ∙ h)
 
 -- and the other way
 all_among : {X : Type 0} (f : X → List ObjectName) (xs : List X) (o : ObjectName) (x : X) →
@@ -83,25 +66,6 @@ pub record EndsAreSilent (S : State) : Type 0 where
       has_object (map (object_at to) serials) o ≡ false
 
 module _ (S : State) (o : ObjectName) where
-  -- ---- what is told is named
-
-  -- what an item names, where ends name nothing, it names in any case
-  named_more : (from to : ℕ) (b : Bool) (item : Item) →
-      has_object (item_names from to false item) o ≡ true →
-      has_object (item_names from to b item) o ≡ true
-  named_more from to b (items.End serials) h = absurd (cc)
-  named_more from to b (items.Call number m) h = h
-  named_more from to b (items.Oneway m) h = h
-  named_more from to b (items.Reply number packet) h = h
-  named_more from to b (items.Raised number exc) h = h
-  named_more from to b (items.RootAsk number) h = h
-  named_more from to b (items.RootAnswer number packet) h = h
-  named_more from to b (items.Ask serial token) h = h
-  named_more from to b (items.Granted serial token) h = h
-  named_more from to b (items.Gone serial token) h = h
-  named_more from to b (items.Left serial) h = h
-  named_more from to b (items.Settled number) h = h
-
   -- what it names in any case, or by an end that is taken still
   named_by : (from to : ℕ) (b : Bool) (item : Item) →
       has_object (item_names from to b item) o ≡ true →
@@ -109,142 +73,14 @@ module _ (S : State) (o : ObjectName) where
       ⊎ ((serials : List ℕ) × (b ≡ true) × (item ≡ items.End serials)
       × (has_object (map (object_at to) serials) o ≡ true))
   named_by from to true (items.End serials) h = inr (serials, refl, refl, h)
-  named_by from to false (items.End serials) h = inl h
-  named_by from to b (items.Call number m) h = inl h
-  named_by from to b (items.Oneway m) h = inl h
-  named_by from to b (items.Reply number packet) h = inl h
-  named_by from to b (items.Raised number exc) h = inl h
-  named_by from to b (items.RootAsk number) h = inl h
-  named_by from to b (items.RootAnswer number packet) h = inl h
-  named_by from to b (items.Ask serial token) h = inl h
-  named_by from to b (items.Granted serial token) h = inl h
-  named_by from to b (items.Gone serial token) h = inl h
-  named_by from to b (items.Left serial) h = inl h
-  named_by from to b (items.Settled number) h = inl h
-
-  -- items of which one passes a test name the object
-  by_items : (from to : ℕ) (test : Item → Bool) →
-      ((item : Item) → test item ≡ true →
-      has_object (item_names from to (serves S to from) item) o ≡ true) →
-      (found : Option (List Item)) → queue S from to ≡ found →
-      some_passes (list_any test) found ≡ true → has_object (named S) o ≡ true
-  by_items from to test leads None e h = absurd (cc)
-  by_items from to test leads (Some sent) e h =
-      let at = passing_in test sent h in
-      item_named S o from to sent e
-      (any_passes (λ item. has_object (item_names from to (serves S to from) item) o) sent at.0 at.1
-      (leads at.0 at.2))
-
-  -- a peer whose end is closed is no holder
-  no_holder : (peer : ℕ) (found : Option Node) → node S peer ≡ found →
-      serves S peer o.node ≡ false → some_passes (is_holder o) found ≡ true → ⊥
-  no_holder peer None e shut h = cc
-  no_holder peer (Some n) e shut h =
-      no (and_parts (is_open n o.node) (holds n o) h).0
-      (ap (some_passes (λ (m : Node). is_open m o.node)) (sym e) ∙ shut)
-    where
-      no : {b : Bool} → b ≡ true → b ≡ false → ⊥
-      no x y = cc
-
-  -- an object in use at a peer whose end is closed is named by an item
-  entry_named : (peer : ℕ) → has_entry S peer o ≡ true → serves S peer o.node ≡ false →
-      has_object (named S) o ≡ true
-  entry_named peer h shut =
-      let held = some_passes (is_holder o) (node S peer) in
-      let out = is_under_way S peer o in
-      let back = is_on_its_way_back S peer o in
-      let parts = and_parts (is_reached S peer o) ((held || out) || back) h in
-      elim (or_cases (held || out) back parts.1) [
-        | inl x ↦ elim (or_cases held out x) [
-          | inl y ↦ absurd (no_holder peer (node S peer) refl shut y)
-          | inr y ↦ by_items o.node peer (λ item. has_object (exported o.node peer item) o)
-              (λ item e. exported_named o.node peer (serves S peer o.node) item o e)
-              (queue S o.node peer) refl y
-        ]
-        | inr x ↦ by_items peer o.node (λ item. has_object (released peer o.node item) o)
-            (λ item e.
-            subst (λ b. has_object (item_names peer o.node b item) o ≡ true) (sym parts.0)
-            (released_named peer o.node item o e)) (queue S peer o.node) refl x
-      ]
-
-  -- what an end that closed tells of is named
-  told_named : (line : NodeLine) → IsIn (snapshot S).nodes line →
-      has_object (told_at S line) o ≡ true → has_object (named S) o ≡ true
-  told_named line i h =
-      let from = images_in (λ (s : Station). node_line S s.node) S.stations line i in
-      let n : Node = from.0.node in
-      let told : has_object (told_at S (node_line S n)) o ≡ true =
-      subst (λ l. has_object (told_at S l) o ≡ true) (sym from.2) h in
-      let test : Entry → Bool = λ e. not (serves S e.peer n.port) in
-      let all : List Entry = flat_map (entries_for S n) n.open_to in
-      let one = passing_in (same_object o) (map (λ (e : Entry). e.object) (filter test all)) told in
-      let is = images_in (λ (e : Entry). e.object) (filter test all) one.0 one.1 in
-      let kept = chosen_in test all is.0 is.1 in
-      let by = joined_in (entries_for S n) n.open_to is.0 kept.0 in
-      let entry = images_in (entry_of by.0) (filter (has_entry S by.0) (own_objects n)) is.0 by.2 in
-      let has = chosen_in (has_entry S by.0) (own_objects n) entry.0 entry.1 in
-      let mine = images_in (λ (x : Stored). own n x.serial) n.heap entry.0 has.0 in
-      let same : entry.0 ≡ o =
-      ap (λ (e : Entry). e.object) entry.2 ∙ is.2 ∙ sym (same_is o one.0 one.2) in
-      let home : o.node ≡ n.port = ap (λ (k : ObjectName). k.node) (sym (mine.2 ∙ same)) in
-      entry_named by.0 (subst (λ k. has_entry S by.0 k ≡ true) same has.1)
-      (shut (serves S by.0 o.node)
-      (ap (λ p. not (serves S by.0 p)) home
-      ∙ ap (λ (e : Entry). not (serves S e.peer n.port)) entry.2 ∙ kept.1))
-    where
-      shut : (b : Bool) → not b ≡ true → b ≡ false
-      shut true e = absurd (cc)
-      shut false e = refl
-
-  -- what items between two nodes name is named
-  between_named : (from to : ℕ) (found : Option (List Item)) → queue S from to ≡ found →
-      has_object (items_names from to found) o ≡ true → has_object (named S) o ≡ true
-  between_named from to None e h = absurd (cc)
-  between_named from to (Some sent) e h =
-      let at = among_all (item_names from to false) sent o h in
-      item_named S o from to sent e
-      (any_passes (λ item. has_object (item_names from to (serves S to from) item) o) sent at.0 at.1
-      (named_more from to (serves S to from) at.0 at.2))
-
-  -- what a node names is named
-  at_named : (port : ℕ) (found : Option Node) → node S port ≡ found →
-      has_object (names_at found) o ≡ true → has_object (named S) o ≡ true
-  at_named port None e h = absurd (cc)
-  at_named port (Some n) e h = node_named S o port n e h
-
-  -- the three parts
-  abbrev at_nodes : List ObjectName
-  at_nodes = flat_map (λ port. names_at (node S port)) (ports S)
-
-  abbrev between : List ObjectName
-  between = flat_map (λ from. flat_map (between_names S from) (others (ports S) from)) (ports S)
-
-  abbrev told : List ObjectName
-  told = flat_map (told_at S) (snapshot S).nodes
-
-  -- all that is found is named
-  found_is_named : has_object (state_named S) o ≡ true → has_object (named S) o ≡ true
-  found_is_named h = elim (in_either (at_nodes ++ between) told o h) [
-    | inl x ↦ elim (in_either at_nodes between o x) [
-      | inl y ↦ let at = among_all (λ port. names_at (node S port)) (ports S) o y in
-          at_named at.0 (node S at.0) refl at.2
-      | inr y ↦
-          let at = among_all (λ from. flat_map (between_names S from) (others (ports S) from))
-          (ports S) o y in
-          let to = among_all (between_names S at.0) (others (ports S) at.0) o at.2 in
-          between_named at.0 to.0 (queue S at.0 to.0) refl to.2
-    ]
-    | inr x ↦ let at = among_all (told_at S) (snapshot S).nodes o x in told_named at.0 at.1 at.2
-  ]
-
-  -- ---- what is named is found
+  named_by from to b _ h = inl h
 
   module _ (distinct : IsDistinct (λ (p q : ℕ). p == q) (ports S)) (queues : QueuesStand S)
       (entered : EnteredAreStored S) (silent : EndsAreSilent S)
       (home : (port : ℕ) (n : Node) → node S port ≡ Some n → n.port ≡ port) where
     -- a peer that has an entry of an object is told of, where its end is closed
     entry_told : (peer : ℕ) → has_entry S peer o ≡ true → serves S peer o.node ≡ false →
-        has_object told o ≡ true
+        has_object (told S) o ≡ true
     entry_told peer h shut = go (node S o.node) refl (entered.each peer o h)
       where
         -- by the peers that a node reaches
@@ -258,12 +94,12 @@ module _ (S : State) (o : ObjectName) where
 
         go : (place : Option Node) → node S o.node ≡ place →
             some_passes (λ n. is_some (stored o.serial n.heap)) place ≡ true →
-            has_object told o ≡ true
+            has_object (told S) o ≡ true
         go None e k = absurd (cc)
         go (Some n) e k = there (stored o.serial n.heap) refl k
           where
             there : (x : Option Stored) → stored o.serial n.heap ≡ x → is_some x ≡ true →
-                has_object told o ≡ true
+                has_object (told S) o ≡ true
             there None q some = absurd (cc)
             there (Some x) q some =
                 let at = found_in (λ (y : Stored). y.serial == o.serial) n.heap x q in
@@ -303,7 +139,7 @@ module _ (S : State) (o : ObjectName) where
         plain : (x : Item) → IsIn sent x → has_object (item_names from to false x) o ≡ true →
             has_object (state_named S) o ≡ true
         plain x l q =
-            in_left (at_nodes ++ between) told o (in_right at_nodes between o
+            in_left (at_nodes S ++ between S) (told S) o (in_right (at_nodes S) (between S) o
             (all_among (λ p. flat_map (between_names S p) (others (ports S) p)) (ports S) o from i
             (all_among (between_names S from) (others (ports S) from) o to j
             (ap (λ r. has_object (items_names from to r) o) e
@@ -318,7 +154,7 @@ module _ (S : State) (o : ObjectName) where
             let at = images_in (object_at to) serials one.0 one.1 in
             let to_is : o.node ≡ to =
             ap (λ (x : ObjectName). x.node) (same_is o one.0 one.2 ∙ sym at.2) in
-            in_right (at_nodes ++ between) told o
+            in_right (at_nodes S ++ between S) (told S) o
             (entry_told from (entry to_is) (shut to_is (serves S from o.node) refl))
           where
             -- the end of its sender is closed
@@ -356,7 +192,7 @@ module _ (S : State) (o : ObjectName) where
     station_found s i h =
         let port = in_images (λ (t : Station). t.port) S.stations s i in
         elim (in_either (node_names s.node) (flat_map (queue_names S s.port) s.queues) o h) [
-          | inl x ↦ in_left (at_nodes ++ between) told o (in_left at_nodes between o
+          | inl x ↦ in_left (at_nodes S ++ between S) (told S) o (in_left (at_nodes S) (between S) o
               (all_among (λ p. names_at (node S p)) (ports S) o s.port port
               (ap (λ r. has_object (names_at r) o) (node_found S distinct s i) ∙ x)))
           | inr x ↦
@@ -377,5 +213,5 @@ module _ (S : State) (o : ObjectName) where
     -- so both name the same
     pub named_alike : has_object (state_named S) o ≡ has_object (named S) o
     named_alike =
-        both_true (has_object (state_named S) o) (has_object (named S) o) found_is_named
+        both_true (has_object (state_named S) o) (has_object (named S) o) (found_is_named S o)
         named_is_found

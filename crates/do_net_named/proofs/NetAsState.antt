@@ -32,11 +32,12 @@ use Rattle.do_packet.specs.Met.{has_object, same_object}
 use Rattle.do_trace.specs.declared.outcome.NodeLine.{NodeLine}
 use Rattle.do_net_named.specs.Named.{net_named, part_names, told_in}
 use Rattle.do_net_named.specs.Waiting.{way_names}
-use Rattle.do_net_named.proofs.NamedAlike.{EndsAreSilent, named_alike, passing_in}
+use Rattle.do_net_named.proofs.NamedAlike.{EndsAreSilent, named_alike}
 use Rattle.do_net_named.proofs.QueuesStand.{QueuesStand}
 use Rattle.do_net_named.proofs.StandAlone.{chosen_in}
 use Rattle.do_net_named.proofs.StateNamed.{between_names, names_at, state_named, told_at}
 use Rattle.do_net_named.proofs.WaysAsQueues.{way_named}
+use Rattle.do_net_named.proofs.FoundIsNamed.{passing_in}
 
 -- each port of a network has a site
 pub sited : (N : Net) (port : ℕ) → IsIn (net_ports N) port → (p : Part) × (part_at N port ≡ Some p)

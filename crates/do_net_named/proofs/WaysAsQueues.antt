@@ -20,9 +20,9 @@ use Rattle.do_lost.specs.Named.{item_names}
 use Rattle.do_machine.specs.declared.item.Item.{Item}
 use Rattle.do_machine.specs.declared.item.Item.TheVariants as items
 use Rattle.do_machine.specs.declared.state.State.{State}
-use Rattle.do_network.specs.Frames.{frame_of, item_of, read_frame}
+use Rattle.do_network.specs.Frames.{frame_of, item_of}
 use Rattle.do_network.specs.Links.{Link, Part, names_read}
-use Rattle.do_network.specs.Net.{Carried, Channel, Lost, Net, Whole, part_at}
+use Rattle.do_network.specs.Net.{Lost, Net, Whole, part_at}
 use Rattle.do_network.specs.fits.Notes.{Note, carried, note_frame}
 use Rattle.do_network.proofs.FramesRead.{read_back}
 use Rattle.do_net_named.specs.Waiting.{channel_names, items_in, lane_names, names_by, way_names}
@@ -32,17 +32,7 @@ use Rattle.do_net_named.proofs.StateNamed.{between_names, items_names}
 sent_names : (from to amount : ℕ) (item : Item) →
     item_names from to false (item_of (frame_of amount item)) ≡ item_names from to false item
 sent_names from to amount (items.Call number m) = refl
-sent_names from to amount (items.Oneway m) = refl
-sent_names from to amount (items.Reply number packet) = refl
-sent_names from to amount (items.Raised number exc) = refl
-sent_names from to amount (items.RootAsk number) = refl
-sent_names from to amount (items.RootAnswer number packet) = refl
-sent_names from to amount (items.Ask serial token) = refl
-sent_names from to amount (items.Granted serial token) = refl
-sent_names from to amount (items.Gone serial token) = refl
-sent_names from to amount (items.Left serial) = refl
-sent_names from to amount (items.Settled number) = refl
-sent_names from to amount (items.End serials) = refl
+sent_names from to amount _ = refl
 
 module _ (table : List Class) (t : IsTable table) (from to : ℕ) where
   -- what the items of notes name

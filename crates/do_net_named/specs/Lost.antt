@@ -1,5 +1,6 @@
 -- What is told beside what nothing can reach in a network: classes, and whether all is still.
-use Rattle.std.specs.Prelude.{Bool, List, None, Option, Some, length, option_and_then, true, ℕ, ◌==◌}
+use Rattle.std.specs.Prelude.{Bool, List, None, Option, Some, length, option_and_then}
+use Rattle.std.specs.Prelude.{true, ℕ, ◌==◌}
 use Rattle.std.specs.Prelude.{◌≡◌}
 use Rattle.std.specs.List.{list_all}
 use Rattle.do_base.specs.names.Names.{ObjectName}

@@ -17,8 +17,8 @@ abbrev pub part_names : Option Part → List ObjectName
 part_names None = []
 part_names (Some p) = node_names p.own.node
 
--- the objects of a node that are in use at peers whose ends towards it are closed: the end, which is
--- on its way, tells of what its sender held
+-- the objects of a node that are in use at peers whose ends towards it are closed: the end, which
+-- is on its way, tells of what its sender held
 abbrev pub told_in : Net → NodeLine → List ObjectName
 told_in N line =
     map (λ e. e.object) (filter (λ e. not (net_is_open N e.peer line.node)) line.entries)

@@ -41,13 +41,7 @@ module _ (table : List Class) (act : Acting) (fed : KeepsLocals table act) where
   -- and is so after an act
   after_in : (i : Invocation) (a : Act) → HasLocals a → HoldsAfter InTable i a
   after_in i (acts.Step pc locals handler writes) sixteen = λ h. (h.0, sixteen)
-  after_in i (acts.New class into pc) sixteen = λ h. h
-  after_in i (acts.Send target selector args into from pc) sixteen = λ h. h
-  after_in i (acts.Root port into pc) sixteen = λ h. h
-  after_in i (acts.Vend value pc) sixteen = λ h. h
-  after_in i (acts.Say value pc) sixteen = λ h. h
-  after_in i (acts.Return value) sixteen = λ h. h
-  after_in i (acts.Raise e) sixteen = λ h. h
+  after_in i _ sixteen = λ h. h
 
 -- invocations can still act after an event
 pub still_can : (table : List Class) (act : Acting) (S : State) (event : Event) →

@@ -13,8 +13,7 @@ use Rattle.do_behave.specs.declared.invocation.Answer.{Answer}
 use Rattle.do_behave.specs.declared.invocation.Answer.TheVariants.{Given, Raised}
 use Rattle.do_behave.specs.declared.invocation.Invocation.{Invocation}
 use Rattle.do_behave.specs.declared.invocation.InvState.{InvState}
-use Rattle.do_behave.specs.declared.invocation.InvState.TheVariants.{Answered, Below, Running}
-use Rattle.do_behave.specs.declared.invocation.InvState.TheVariants.{Waits}
+use Rattle.do_behave.specs.declared.invocation.InvState.TheVariants.{Answered, Running, Waits}
 use Rattle.do_behave.specs.declared.invocation.Reason.TheVariants as reasons
 use Rattle.do_machine.specs.declared.node.Node.{Node}
 use Rattle.do_machine.specs.declared.state.Effect.{Effect}
@@ -142,9 +141,8 @@ module _ (W : Known) (r : RunContext) (begin : HoldsBegun W r.context.table)
       KeepsIf W (only_to r.top.object.serial (writes_in state (next_act act r)))
       r.context.node (option_map (effect_of r) (state_rule act r state))
   by_state act holds Running = by_act (next_act act r) holds
-  by_state act holds Below = λ k. nothing (r.top.object.serial == k)
-  by_state act holds (Waits call peer what) = λ k. nothing (r.top.object.serial == k)
   by_state act holds (Answered a) = by_answer a
+  by_state act holds _ = λ k. nothing (r.top.object.serial == k)
 
 module _ (W : Known) (act : Acting) (c : Context) (begin : HoldsBegun W c.table)
     (goes : (i : Invocation) (slots : List Value) → HoldsAfter W i (act c.table i slots)) where
@@ -199,11 +197,9 @@ module _ (W : Known) (table : List Class) (selector : List ℕ) (values : List V
 -- a call that is given up
 by_give_up : (W : Known) (state : InvState) (i : Invocation) (below : List Invocation) (n : Node) →
     n.stack ≡ i ∷ below → KeepsIf W none n (give_up state i below n)
-by_give_up W Running i below n tied = λ k. refl
-by_give_up W Below i below n tied = λ k. refl
 by_give_up W (Waits call peer what) i below n tied =
     restacked n _ refl refl (λ s. subst (AreOwn W n) tied s.invocations)
-by_give_up W (Answered a) i below n tied = λ k. refl
+by_give_up W _ i below n tied = λ k. refl
 
 -- a time-out by the stack
 by_time_out_on : (W : Known) (stack : List Invocation) (n : Node) → n.stack ≡ stack →

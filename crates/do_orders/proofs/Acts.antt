@@ -1,6 +1,5 @@
 -- An enabled event by which a node acts is the act that its rule gives.
-use Rattle.std.proofs.Common.{◌≡◌, ℕ, Bool, true, false, cond, refl, sym, ap, ◌∙◌}
-use Rattle.std.proofs.Common.{subst}
+use Rattle.std.proofs.Common.{◌≡◌, ℕ, Bool, true, false, cond, refl, sym, ap, ◌∙◌, subst}
 use Rattle.std.specs.Prelude.{None, Some}
 use Rattle.do_base.specs.declared.events.event.Event.{Event}
 use Rattle.do_machine.specs.Commit.{moved}
@@ -25,13 +24,10 @@ chosen false x y e = absurd (cc)
 
 -- the node by which an event acts is one
 one_actor : (event : Event) (p q : ℕ) → IsActOf p event → IsActOf q event → q ≡ p
-one_actor (events.Start actor selector values) p q a b = sym b ∙ a
-one_actor (events.Run actor) p q a b = sym b ∙ a
 one_actor (events.Take actor from) p q a b = absurd a
-one_actor (events.Close actor peer) p q a b = sym b ∙ a
 one_actor (events.Lose from to after) p q a b = absurd a
-one_actor (events.Timeout actor) p q a b = sym b ∙ a
 one_actor events.Check p q a b = absurd a
+one_actor _ p q a b = sym b ∙ a
 
 module _ (R : Rules) (S : State) (p : ℕ) where
   -- An act of the node, by the rule of its event

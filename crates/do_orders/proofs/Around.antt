@@ -13,7 +13,7 @@ use Rattle.do_machine.specs.declared.state.State.{State}
 use Rattle.do_machine.specs.declared.state.Station.{Station}
 use Rattle.do_facts.proofs.machine.ClassesStay.{stays}
 use Rattle.do_orders.specs.Moves.{Move, Source, done, effected, taken_off, without_first}
-use Rattle.do_orders.specs.Moves.Source.{First, Still, There}
+use Rattle.do_orders.specs.Moves.Source.{First}
 use Rattle.do_orders.proofs.Past.{entries_past}
 use Rattle.do_orders.proofs.SoundMoves.{IsSound, StandsIn}
 use Rattle.do_orders.proofs.Stations.{at_port}
@@ -32,9 +32,8 @@ class_off from port o (s ∷ ss) = grind (arith, class_off from port o ss)
 -- nor does whatever is taken off
 pub class_taken : (port : ℕ) (a : Source) (o : ObjectName) (S : State) →
     class_of (taken_off port a S) o ≡ class_of S o
-class_taken port Still o S = refl
-class_taken port (There from) o S = refl
 class_taken port (First from item) o S = class_off from port o S.stations
+class_taken port _ o S = refl
 
 -- a class that there is stays behind a move
 class_past : (k : Move) (S : State) (o : ObjectName) (c : ClassId) →

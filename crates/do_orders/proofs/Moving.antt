@@ -42,8 +42,6 @@ queue_of from to s w found e h = cc
 pub off_and_effect : (p q : ℕ) (source : Source) (e : Effect) (S : State) → (p == q) ≡ false →
     Stands p source S →
     taken_off p source (commit q e S) ≡ commit q e (taken_off p source S)
-off_and_effect p q Still e S h there = refl
-off_and_effect p q (There from) e S h there = refl
 off_and_effect p q (First from item) e S h there = go (from == q) refl
   where
     go : (b : Bool) → (from == q) ≡ b →
@@ -62,6 +60,7 @@ off_and_effect p q (First from item) e S h there = go (from == q) refl
         (sent_and_shortened p e.sent s.queues item there.0
         (queue_of from p s (item ∷ there.0) (find (λ x. from == x.port) S.stations) found
         there.1)))))
+off_and_effect p q _ e S h there = refl
 
 -- what two nodes take off
 pub both_off : (p q : ℕ) (a b : Source) (S : State) → (p == q) ≡ false →
@@ -145,11 +144,10 @@ off_is port from w S h = ap by (go S.stations h)
 -- the queue stands as it was, where another node takes off
 same_queue : (q from p : ℕ) (b : Source) (S : State) → (p == q) ≡ false → Stands q b S →
     queue (taken_off q b S) from p ≡ queue S from p
-same_queue q from p Still S h there = refl
-same_queue q from p (There other) S h there = refl
 same_queue q from p (First other item) S h there =
     ap (λ T. queue T from p) (sym (off_is q other (item ∷ there.0) S there.1))
     ∙ other_stays other q there.0 S.stations from p h
+same_queue q from p _ S h there = refl
 
 -- what a node has of queues stays where another takes off
 pub stands_off : (p q : ℕ) (a b : Source) (S : State) → (p == q) ≡ false → Stands q b S →

@@ -11,7 +11,7 @@ use Rattle.do_facts.proofs.machine.passing.Linked.{commit_leaves}
 use Rattle.do_facts.proofs.machine.passing.Passes.{Passes}
 use Rattle.do_machine.proofs.Bools.{fails}
 use Rattle.do_orders.specs.Moves.{Move, Source, Stands, done, effected, taken_off}
-use Rattle.do_orders.specs.Moves.Source.{First, Still, There}
+use Rattle.do_orders.specs.Moves.Source.{First}
 use Rattle.do_orders.proofs.EntriesBehind.{entries_of_effect, entries_of_take}
 use Rattle.do_orders.proofs.SoundMoves.{IsOver, IsSound, StandsIn, came, node_off, queue_off}
 
@@ -21,13 +21,11 @@ module _ (k : Move) (n : Node) (sound : IsSound k n) (S : State) (at : StandsIn 
   entries_by : (a : Source) → Stands k.port a S → IsOver n a →
       Passes k.port o n (came k.port o a) k.effect → (peer : ℕ) →
       has_entry (effected (record k { source = a }) S) peer o ≡ has_entry S peer o
-  entries_by Still there over passes =
-      entries_of_effect o k.port apart k.effect S n at.here (at.linked o.node) passes
-  entries_by (There from) there over passes =
-      entries_of_effect o k.port apart k.effect S n at.here (at.linked o.node) passes
   entries_by (First from item) there over passes =
       entries_of_take o k.port apart k.effect S n at.here (at.linked o.node) from item there.0
       there.1 over passes
+  entries_by _ there over passes =
+      entries_of_effect o k.port apart k.effect S n at.here (at.linked o.node) passes
 
   -- an end that was closed stays so
   still_closed : (peer : ℕ) → is_open n peer ≡ false → is_open k.effect.node peer ≡ false

@@ -1,6 +1,5 @@
 -- The move of an input is sound: its node holds what it held and what came, or gives it back.
-use Rattle.std.proofs.Common.{◌≡◌, ◌==◌, ◌&&◌, ℕ, Bool, true, false, [], refl}
-use Rattle.std.proofs.Common.{subst}
+use Rattle.std.proofs.Common.{◌≡◌, ◌==◌, ◌&&◌, ℕ, Bool, true, false, [], refl, subst}
 use Rattle.std.specs.Prelude.{Some}
 use Rattle.do_base.specs.names.Names.{ObjectName}
 use Rattle.do_packet.specs.Met.{has_object}
@@ -22,7 +21,6 @@ use Rattle.do_record.specs.declared.parts.RecordLine.TheVariants.{Close, Ended, 
 use Rattle.do_weave.specs.Rules.{Rules}
 use Rattle.do_facts.specs.laws.Entries.{HasQueues}
 use Rattle.do_facts.specs.laws.Follows.{Grows, HoldsOpen}
-use Rattle.do_facts.proofs.machine.follows.Steady.{by_closing, by_run, by_start, by_take}
 use Rattle.do_facts.proofs.machine.passing.Closes.{passes_closing}
 use Rattle.do_facts.proofs.machine.passing.Leaves.{passes_leaving}
 use Rattle.do_facts.proofs.machine.passing.Passes.{Passes, passes_quiet}
@@ -36,6 +34,8 @@ use Rattle.do_orders.proofs.Acts.{chosen}
 use Rattle.do_orders.proofs.SoundMoves.{IsOver, IsSound, StandsIn, came}
 use Rattle.do_orders.proofs.TakesMove.{open_of}
 use Rattle.do_machine.specs.declared.item.Item.TheVariants as items
+use Rattle.do_facts.proofs.machine.follows.SteadyTakes.{by_closing, by_take}
+use Rattle.do_facts.proofs.machine.follows.SteadyRuns.{by_run, by_start}
 
 -- An effect of a node that passes on what the node held and what it took off
 record PassesOn (p : ℕ) (source : Source) (n : Node) (e : Effect) : Type 0 where

@@ -1,6 +1,5 @@
 -- Moves that pass on what their node holds, and where they stand as they were.
-use Rattle.std.proofs.Common.{◌≡◌, ◌==◌, ℕ, Bool, true, false, List, [], ◌∷◌, refl, ap}
-use Rattle.std.proofs.Common.{◌∙◌, arith}
+use Rattle.std.proofs.Common.{◌≡◌, ◌==◌, ℕ, Bool, true, false, List, [], ◌∷◌, refl, ap, ◌∙◌, arith}
 use Rattle.std.specs.Prelude.{None, Some, option_map}
 use Rattle.std.specs.List.{find}
 use Rattle.do_base.specs.names.Names.{ObjectName}
@@ -23,9 +22,8 @@ use Rattle.do_orders.proofs.Stations.{at_port}
 
 -- an object comes with what is taken off
 abbrev pub came : ℕ → ObjectName → Source → Bool
-came port o Still = false
-came port o (There from) = false
 came port o (First from item) = comes port o from item
+came port o _ = false
 
 -- the end is open towards the peer whose item is taken off
 abbrev pub IsOver : Node → Source → Type 0
@@ -56,18 +54,16 @@ nodes_off from to port (s ∷ ss) = grind (arith, nodes_off from to port ss)
 -- nor whatever is taken off
 pub node_off : (p : ℕ) (a : Source) (S : State) (port : ℕ) →
     node (taken_off p a S) port ≡ node S port
-node_off p Still S port = refl
-node_off p (There from) S port = refl
 node_off p (First from item) S port = nodes_off from p port S.stations
+node_off p _ S port = refl
 
 -- no queue goes
 pub queue_off : (p : ℕ) (a : Source) (S : State) → Stands p a S → (from to : ℕ) →
     queue (taken_off p a S) from to ≡ None → queue S from to ≡ None
-queue_off p Still S h from to q = q
-queue_off p (There peer) S h from to q = q
 queue_off p (First peer item) S h from to q =
     none_goes peer p h.0 S from to
     (ap (λ T. queue T from to) (off_is p peer (item ∷ h.0) S h.1) ∙ q)
+queue_off p _ S h from to q = q
 
 module _ (k : Move) (n : Node) (p : ℕ) (apart : (k.port == p) ≡ false) (S : State)
     (at : StandsIn k n S) where

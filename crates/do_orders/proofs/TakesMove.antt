@@ -1,6 +1,5 @@
 -- A take is a move, and so is an end without notice, which is a loss and the take behind it.
-use Rattle.std.proofs.Common.{◌≡◌, ◌&&◌, ℕ, Bool, true, false, cond, not, List, [], ◌∷◌, refl}
-use Rattle.std.proofs.Common.{ap}
+use Rattle.std.proofs.Common.{◌≡◌, ◌&&◌, ℕ, Bool, true, false, cond, not, List, [], ◌∷◌, refl, ap}
 use Rattle.std.proofs.Common.{◌∙◌, arith, drop}
 use Rattle.std.specs.Prelude.{None, Option, Some, length, nat_lt, option_map, slice_get, unwrap_or}
 use Rattle.std.specs.List.{insert}

@@ -43,15 +43,8 @@ item_gone : (item : Item) → is_gone item ≡ nat_lt 0 (total gone_of (atoms it
 item_gone (items.Call number m) = grind (arith, nat_tests, names_gone m.packet.names)
 item_gone (items.Oneway m) = grind (arith, nat_tests, names_gone m.packet.names)
 item_gone (items.Reply number packet) = grind (arith, nat_tests, names_gone packet.names)
-item_gone (items.Raised number e) = refl
-item_gone (items.RootAsk number) = refl
 item_gone (items.RootAnswer number packet) = grind (arith, nat_tests, names_gone packet.names)
-item_gone (items.Ask s k) = refl
-item_gone (items.Granted s k) = refl
-item_gone (items.Gone s k) = refl
-item_gone (items.Left s) = refl
-item_gone (items.Settled t) = refl
-item_gone (items.End names) = refl
+item_gone _ = refl
 
 module _ (table : List Class) (seats : List Seat) (S : State) (h : StandsLent table seats S)
     (open_all : AllEndsOpen S) where

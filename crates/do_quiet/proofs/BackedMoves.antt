@@ -1,6 +1,6 @@
 -- While no end closes, what is lent or asked for stays backed, whatever moves.
-use Rattle.std.proofs.Common.{◌≡◌, ◌==◌, ◌⊎◌, ◌&&◌, ◌||◌, ℕ, Bool, true, false, cond}
-use Rattle.std.proofs.Common.{inl, inr, refl, sym, ap, ◌∙◌, subst, arith}
+use Rattle.std.proofs.Common.{◌≡◌, ◌==◌, ◌⊎◌, ◌&&◌, ◌||◌, ℕ, Bool, true, false, cond, inl, inr}
+use Rattle.std.proofs.Common.{refl, sym, ap, ◌∙◌, subst, arith}
 use Rattle.std.specs.List.{list_any}
 use Rattle.std.proofs.lemmas.Bool.{eqb-true}
 use Rattle.std.proofs.lemmas.Bool.Decides.{nat_tests}
@@ -13,11 +13,8 @@ use Rattle.do_facts.specs.Net.{Net, StandFirst}
 use Rattle.do_facts.specs.links.Facts.{asked_in}
 use Rattle.do_facts.specs.links.Links as Atoms
 use Rattle.do_facts.specs.links.Links.{Atom, Links}
-use Rattle.do_facts.specs.links.Moves.{Asks, AsksOnce, Closes, Ends, Frees, GivesUp, Grants, Hears}
-use Rattle.do_facts.specs.links.Moves.{Holds, Leaves, Lends, Mentions, Misses, Move, Names}
-use Rattle.do_facts.specs.links.Moves.{Receives, Refuses, Returns, Settles, Stores, Strikes}
-use Rattle.do_facts.specs.links.Moves.{has_wanted, is_in_use, may, may_name, moved, note, opens}
-use Rattle.do_facts.specs.links.Moves.{takes}
+use Rattle.do_facts.specs.links.Moves.{Asks, Lends, Move, has_wanted, is_in_use, may, may_name}
+use Rattle.do_facts.specs.links.Moves.{moved, note, opens, takes}
 use Rattle.do_facts.proofs.FirstOnWire.{first_of}
 use Rattle.do_facts.proofs.Nets.{part_here}
 use Rattle.do_facts.proofs.links.Acts.{IsAct}
@@ -25,8 +22,8 @@ use Rattle.do_facts.proofs.links.ListsChanged.{asked_more}
 use Rattle.do_facts.proofs.links.PlainMoves.{other}
 use Rattle.do_facts.proofs.links.SameIsEqual.{object_is}
 use Rattle.do_quiet.proofs.Backing.{AllReach, Backed, Borrows, EachBacked, Holds as Held, NoGone}
-use Rattle.do_quiet.proofs.Backing.{StandsBacked, asked_lent, backed_kept}
-use Rattle.do_quiet.proofs.Backing.{held_in, out_used, used_in}
+use Rattle.do_quiet.proofs.Backing.{StandsBacked, asked_lent, backed_kept, held_in, out_used}
+use Rattle.do_quiet.proofs.Backing.{used_in}
 use Rattle.do_quiet.proofs.CalmLinks.{Begins, IsCalm, part_asked, part_held, part_used}
 use Rattle.do_quiet.proofs.NoneRefused.{after, calm, none_after, was_open}
 
@@ -114,24 +111,7 @@ module _ (ends : ℕ → ℕ → Bool) (net : Net Links Atom) (x : ℕ) (f : Sta
         Begins v (object_at h s) → Backed (then v) h s x
     begun (Lends to z) m first h s b = lent_now to z h s m b
     begun (Asks from z t) m first h s b = asked_now from z t h s m first b
-    begun (Names to t) m first h s b = absurd b
-    begun (Mentions to t) m first h s b = absurd b
-    begun (Leaves o) m first h s b = absurd b
-    begun (Closes peer) m first h s b = absurd b
-    begun (GivesUp w told) m first h s b = absurd b
-    begun (Holds from t) m first h s b = absurd b
-    begun (AsksOnce from o t) m first h s b = absurd b
-    begun (Returns from o t) m first h s b = absurd b
-    begun (Grants from t k) m first h s b = absurd b
-    begun (Refuses from t k) m first h s b = absurd b
-    begun (Receives from t k told) m first h s b = absurd b
-    begun (Misses from t k told) m first h s b = absurd b
-    begun (Settles from t) m first h s b = absurd b
-    begun (Frees from t) m first h s b = absurd b
-    begun (Ends from names) m first h s b = absurd b
-    begun (Hears from t) m first h s b = absurd b
-    begun (Stores heap serial) m first h s b = absurd b
-    begun (Strikes heap) m first h s b = absurd b
+    begun _ m first h s b = absurd b
 
     -- all that is in use is backed
     each_after : (v : Move) → may p v → IsCalm v → StandFirst x (takes v) net →

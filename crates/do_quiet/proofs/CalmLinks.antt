@@ -1,6 +1,6 @@
 -- While no end closes, a move takes no reason away for which an object is held along its lends.
-use Rattle.std.proofs.Common.{◌≡◌, ◌⊎◌, ◌||◌, ◌++◌, ℕ, Bool, true, false, cond, not, List}
-use Rattle.std.proofs.Common.{[], ◌∷◌, inl, inr, filter, refl, sym, ap, ◌∙◌, arith}
+use Rattle.std.proofs.Common.{◌≡◌, ◌⊎◌, ◌||◌, ◌++◌, ℕ, Bool, true, false, cond, not, List, [], ◌∷◌}
+use Rattle.std.proofs.Common.{inl, inr, filter, refl, sym, ap, ◌∙◌, arith}
 use Rattle.std.specs.List.{list_any}
 use Rattle.std.proofs.lemmas.Bool.Decides.{nat_tests}
 use Rattle.std.proofs.lemmas.List.Folds.{list_any-append}
@@ -15,10 +15,9 @@ use Rattle.do_machine.specs.lend.Asking.{same_wanted, wanted, wanted_lt}
 use Rattle.do_machine.specs.lend.Lending.{is_lend}
 use Rattle.do_machine.proofs.Inserting.{inserted_moves}
 use Rattle.do_facts.specs.links.Links.{Links}
-use Rattle.do_facts.specs.links.Moves.{Asks, AsksOnce, Closes, Ends, Frees, GivesUp, Grants, Hears}
-use Rattle.do_facts.specs.links.Moves.{Holds, Leaves, Lends, Mentions, Misses, Move, Names}
-use Rattle.do_facts.specs.links.Moves.{Receives, Refuses, Returns, Settles, Stores, Strikes}
-use Rattle.do_facts.specs.links.Moves.{has_wanted, is_in_use, may, moved, next_lend}
+use Rattle.do_facts.specs.links.Moves.{Asks, Closes, Ends, GivesUp, Holds, Leaves, Lends, Misses}
+use Rattle.do_facts.specs.links.Moves.{Move, Receives, Refuses, Settles, Strikes, has_wanted}
+use Rattle.do_facts.specs.links.Moves.{is_in_use, may, moved, next_lend}
 use Rattle.do_facts.proofs.OnceInLists.{still_there}
 use Rattle.do_facts.proofs.links.HeldChanged.{held_more}
 use Rattle.do_facts.proofs.links.ListsChanged.{asked_less, asked_more, is_ask}
@@ -62,9 +61,6 @@ module _ (p : Links) (h s : ℕ) where
   -- what is in use is held still
   pub part_held : (v : Move) → may p v → IsCalm v → is_in_use p o ≡ true →
       has_object p.held o ≡ true → has_object (moved p v).held o ≡ true
-  part_held (Names to t) m c u e = e
-  part_held (Mentions to t) m c u e = e
-  part_held (Lends to z) m c u e = e
   part_held (Leaves z) m c u e = go (same_object z o) refl
     where
       go : (b : Bool) → same_object z o ≡ b →
@@ -78,20 +74,13 @@ module _ (p : Links) (h s : ℕ) where
   part_held (GivesUp w told) m c u e = absurd c
   part_held (Holds from t) m c u e =
       grind (arith, nat_tests, held_more h s (object_at from t) p.held, e)
-  part_held (Asks from z t) m c u e = e
-  part_held (AsksOnce from z t) m c u e = e
-  part_held (Returns from z t) m c u e = e
-  part_held (Grants from t k) m c u e = e
   part_held (Refuses from t k) m c u e = absurd c
   part_held (Receives from t k told) m c u e =
       grind (arith, nat_tests, held_more h s (object_at from t) p.held, e)
   part_held (Misses from t k told) m c u e = absurd c
-  part_held (Settles from t) m c u e = e
-  part_held (Frees from t) m c u e = e
   part_held (Ends from names) m c u e = absurd c
-  part_held (Hears from t) m c u e = e
-  part_held (Stores heap serial) m c u e = e
   part_held (Strikes heap) m c u e = absurd c
+  part_held _ m c u e = e
 
   module _ (l t : ℕ) where
     -- the ask
@@ -122,27 +111,16 @@ module _ (p : Links) (h s : ℕ) where
 
     -- what is asked for is so still, or it is held
     pub part_asked : (v : Move) → IsCalm v → has_wanted p w ≡ true → Still v
-    part_asked (Names to u) c e = inr e
-    part_asked (Mentions to u) c e = inr e
-    part_asked (Lends to z) c e = inr e
-    part_asked (Leaves z) c e = inr e
     part_asked (Closes peer) c e = absurd c
     part_asked (GivesUp v told) c e = absurd c
-    part_asked (Holds from u) c e = inr e
     part_asked (Asks from z k) c e =
         inr (grind (arith, nat_tests, asked_more h s l t (wanted z from k) p.asked, e))
-    part_asked (AsksOnce from z k) c e = inr e
-    part_asked (Returns from z k) c e = inr e
-    part_asked (Grants from u k) c e = inr e
     part_asked (Refuses from u k) c e = absurd c
     part_asked (Receives from u k told) c e = received from u k told e
     part_asked (Misses from u k told) c e = absurd c
-    part_asked (Settles from u) c e = inr e
-    part_asked (Frees from u) c e = inr e
     part_asked (Ends from names) c e = absurd c
-    part_asked (Hears from u) c e = inr e
-    part_asked (Stores heap serial) c e = inr e
     part_asked (Strikes heap) c e = absurd c
+    part_asked _ c e = inr e
 
   -- the tests of a lend and of an ask
   abbrev lends : Lend → Bool
@@ -198,17 +176,10 @@ module _ (p : Links) (h s : ℕ) where
 
   -- what is in use was so, or begins to be
   pub part_used : (v : Move) → IsCalm v → is_in_use (moved p v) o ≡ true → Before v
-  part_used (Names to t) c u = inl u
-  part_used (Mentions to t) c u = inl u
   part_used (Lends to z) c u = lent_before to z u
-  part_used (Leaves z) c u = inl u
   part_used (Closes peer) c u = absurd c
   part_used (GivesUp w told) c u = absurd c
-  part_used (Holds from t) c u = inl u
   part_used (Asks from z t) c u = asked_before from z t u
-  part_used (AsksOnce from z t) c u = inl u
-  part_used (Returns from z t) c u = inl u
-  part_used (Grants from t k) c u = inl u
   part_used (Refuses from t k) c u = absurd c
   part_used (Receives from t k told) c u =
       let w = wanted (object_at from t) k.lender k.number in
@@ -220,8 +191,6 @@ module _ (p : Links) (h s : ℕ) where
       inl (more_either (list_any lends (filter (λ l. not (is_lend from t l)) p.lent))
       (list_any lends p.lent) (list_any asks p.asked)
       (any_filtered lends (λ l. not (is_lend from t l)) p.lent) u)
-  part_used (Frees from t) c u = inl u
   part_used (Ends from names) c u = absurd c
-  part_used (Hears from t) c u = inl u
-  part_used (Stores heap serial) c u = inl u
   part_used (Strikes heap) c u = absurd c
+  part_used _ c u = inl u

@@ -40,18 +40,8 @@ pub record Undisturbed (S : State) : Type 0 where
 
 -- what releases nothing releases nothing by an end
 no_end : (item : Item) → is_release item ≡ false → is_end item ≡ false
-no_end (items.Call number m) h = refl
-no_end (items.Oneway m) h = refl
-no_end (items.Reply number packet) h = refl
-no_end (items.Raised number e) h = refl
-no_end (items.RootAsk number) h = refl
-no_end (items.RootAnswer number packet) h = refl
-no_end (items.Ask serial token) h = refl
-no_end (items.Granted serial token) h = refl
-no_end (items.Gone serial token) h = refl
-no_end (items.Left serial) h = refl
-no_end (items.Settled number) h = refl
 no_end (items.End serials) h = absurd (cc)
+no_end _ h = refl
 
 -- an item more of a peer, or not, is no end where those behind it are none
 one_more : (to : ℕ) (p : Parcel) (ps : List Parcel) → is_end p.item ≡ false →

@@ -5,8 +5,7 @@ use Rattle.std.specs.Prelude.{None, Option, Some, option_and_then, slice_get, un
 use Rattle.std.specs.List.{list_any}
 use Rattle.std.proofs.lemmas.Bool.{eqb-true}
 use Rattle.do_base.specs.declared.events.event.Event.{Event}
-use Rattle.do_base.specs.declared.events.event.Event.TheVariants.{Check, Close, Lose, Run, Start}
-use Rattle.do_base.specs.declared.events.event.Event.TheVariants.{Take, Timeout}
+use Rattle.do_base.specs.declared.events.event.Event.TheVariants.{Check, Run, Start, Take, Timeout}
 use Rattle.do_class.specs.Class.{Class}
 use Rattle.do_machine.specs.declared.item.Item.{Item}
 use Rattle.do_machine.specs.declared.node.Node.{Node}
@@ -150,9 +149,8 @@ module _ (S : State) (before : Undisturbed S) where
       by_node port (λ n. run_effect act (context table S n))
       (λ n d q. rule_quiet table act S (Run port) n d q refl) (node S port) refl
   step_undisturbed table act (Take port from) h = by_take table port from (node S port) refl
-  step_undisturbed table act (Close port peer) h = absurd h
-  step_undisturbed table act (Lose from to after) h = absurd h
   step_undisturbed table act (Timeout port) h =
       by_node port time_out (λ n d q. rule_quiet table act S (Timeout port) n d q refl)
       (node S port) refl
   step_undisturbed table act Check h = before
+  step_undisturbed table act _ h = absurd h

@@ -1,7 +1,7 @@
 -- A schedule in which nothing is closed and nothing lost leaves all ends open.
 use Rattle.std.proofs.Common.{◌≡◌, ◌==◌, ℕ, Bool, true, false, cond}
 use Rattle.std.proofs.Common.{List, [], ◌∷◌, refl, sym, ap, map, arith}
-use Rattle.std.specs.Prelude.{None, Option, Some, option_map, unwrap_or}
+use Rattle.std.specs.Prelude.{Option, Some, option_map, unwrap_or}
 use Rattle.std.specs.List.{AllByRecursion, find, list_any}
 use Rattle.std.proofs.lemmas.Bool.Decides.{nat_tests}
 use Rattle.do_base.specs.declared.events.event.Event.{Event}
@@ -60,9 +60,8 @@ module _ (table : List Class) (seats : List Seat) where
   -- where there are no items there is no end
   none_of_none : (found : Option (List Item)) (items : List Item) →
       wire_seen as_items found ≡ [] → found ≡ Some items → list_any is_end items ≡ false
-  none_of_none None items h q = absurd (cc)
   none_of_none (Some []) items h q = ap (λ x. list_any is_end (unwrap_or x items)) (sym q)
-  none_of_none (Some (x ∷ xs)) items h q = absurd (cc)
+  none_of_none _ items h q = absurd (cc)
 
   -- a machine opens so
   opening_undisturbed : Undisturbed (opening table seats)

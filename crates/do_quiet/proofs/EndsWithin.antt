@@ -1,6 +1,6 @@
 -- A node has ends, lends and asks towards the peers that it had ends towards as it opened.
-use Rattle.std.proofs.Common.{◌≡◌, ◌==◌, ℕ, Bool, true, false, cond, not, List, [], ◌∷◌}
-use Rattle.std.proofs.Common.{refl, subst, sym}
+use Rattle.std.proofs.Common.{◌≡◌, ◌==◌, ℕ, Bool, true, false, cond, not, List, [], ◌∷◌, refl}
+use Rattle.std.proofs.Common.{subst, sym}
 use Rattle.std.specs.Prelude.{All}
 use Rattle.std.proofs.lemmas.Bool.{eqb-true}
 use Rattle.std.proofs.lemmas.List.Elements.{All-append, All-cons, All-filter, All-nil}
@@ -16,10 +16,9 @@ use Rattle.do_machine.proofs.Inserting.{inserted_moves}
 use Rattle.do_facts.specs.Net.{Net}
 use Rattle.do_facts.specs.Moves.{Happening, Happens, Keeps, Lost, Moved, net_then}
 use Rattle.do_facts.specs.links.Links.{Atom, Links}
-use Rattle.do_facts.specs.links.Moves.{Asks, AsksOnce, Closes, Ends, Frees, GivesUp, Grants, Holds}
-use Rattle.do_facts.specs.links.Moves.{Hears, Leaves, Lends, Mentions, Misses, Move, Names}
-use Rattle.do_facts.specs.links.Moves.{Receives, Refuses, Returns, Settles, Stores, Strikes, closed}
-use Rattle.do_facts.specs.links.Moves.{link_rules, may, moved, next_lend, opens, without_ask}
+use Rattle.do_facts.specs.links.Moves.{Asks, Closes, Ends, GivesUp, Holds, Leaves, Lends, Misses}
+use Rattle.do_facts.specs.links.Moves.{Move, Receives, Settles, Stores, Strikes, closed, link_rules}
+use Rattle.do_facts.specs.links.Moves.{may, moved, next_lend, opens, without_ask}
 use Rattle.do_facts.proofs.links.ListsChanged.{was_open}
 
 -- each open end, borrower, home of what is asked for and lender of it passes a test of ports
@@ -119,17 +118,12 @@ module _ (ends : ℕ → Bool) where
   -- any move
   pub within_moved : (p : Links) → IsWithin ends p → (v : Move) → may p v →
       IsWithin ends (moved p v)
-  within_moved p h (Names to s) m = h
   within_moved p h (Lends to o) m = lent_within p h to o m.0
   within_moved p h (Leaves o) m = same_within p h (moved p (Leaves o)).held
   within_moved p h (Closes peer) m = closed_within p h peer
   within_moved p h (GivesUp w told) m = less_within p h w
   within_moved p h (Holds from s) m = same_within p h (moved p (Holds from s)).held
   within_moved p h (Asks from o t) m = asked_within p h from o t m.0 m.1
-  within_moved p h (AsksOnce from o t) m = h
-  within_moved p h (Returns from o t) m = h
-  within_moved p h (Grants from s k) m = h
-  within_moved p h (Refuses from s k) m = h
   within_moved p h (Receives from s k told) m =
       let held = (moved p (Holds from s)).held in
       less_within (record p { held = held }) (same_within p h held)
@@ -137,12 +131,10 @@ module _ (ends : ℕ → Bool) where
   within_moved p h (Misses from s k told) m =
       less_within p h (wanted (object_at from s) k.lender k.number)
   within_moved p h (Settles from number) m = settled_within p h from number
-  within_moved p h (Frees from s) m = h
   within_moved p h (Ends from serials) m = closed_within p h from
-  within_moved p h (Mentions to s) m = h
-  within_moved p h (Hears from s) m = h
   within_moved p h (Stores heap serial) m = stored_within p h heap serial
   within_moved p h (Strikes heap) m = stored_within p h heap p.serial
+  within_moved p h _ m = h
 
 -- each part stays within, whatever happens
 pub within_keeps : (ends : ℕ → ℕ → Bool) →

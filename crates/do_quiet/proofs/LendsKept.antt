@@ -1,6 +1,5 @@
 -- In every state with all ends open that a machine comes to, what is lent is held or asked for.
-use Rattle.std.proofs.Common.{◌≡◌, ◌||◌, ℕ, Bool, true, List, [], ◌∷◌}
-use Rattle.std.proofs.Common.{sym, ap, ◌∙◌, arith}
+use Rattle.std.proofs.Common.{◌≡◌, ◌||◌, ℕ, Bool, true, List, [], ◌∷◌, sym, ap, ◌∙◌, arith}
 use Rattle.std.specs.Prelude.{Some}
 use Rattle.std.specs.List.{list_any}
 use Rattle.std.proofs.lemmas.Bool.Decides.{nat_tests}
@@ -30,8 +29,7 @@ use Rattle.do_facts.proofs.links.SameIsEqual.{object_itself}
 use Rattle.do_facts.proofs.links.StepsByActs.{step_fact}
 use Rattle.do_facts.proofs.steps.NodesAtHome.{AllAtHome, opening_home, step_home}
 use Rattle.do_quiet.specs.Quiet.{AllEndsOpen, LentAreKept}
-use Rattle.do_quiet.proofs.Backing.{Backed, Borrows, Holds}
-use Rattle.do_quiet.proofs.Backing.{StandsBacked, all_in}
+use Rattle.do_quiet.proofs.Backing.{Backed, Borrows, Holds, StandsBacked, all_in}
 use Rattle.do_quiet.proofs.QuietStates.{blank, ends, first_stands, is_there as is_node, reach}
 use Rattle.do_quiet.proofs.ReachedWithin.{Stands, step_stands}
 use Rattle.do_quiet.proofs.BackedStates.{backed_keeps, frees_backed}

@@ -1,7 +1,6 @@
 -- While all ends are open a lend lasts until its notice is taken, and its object is kept so long.
 use Rattle.std.proofs.Common.{◌≡◌, ◌∙◌, ◌++◌, ℕ, true, false, List, [], ◌∷◌, ap, inl, inr, refl}
-use Rattle.std.proofs.Common.{subst}
-use Rattle.std.proofs.Common.{sym}
+use Rattle.std.proofs.Common.{subst, sym}
 use Rattle.std.specs.Prelude.{All, Some}
 use Rattle.std.specs.List.{AllByRecursion}
 use Rattle.std.proofs.lemmas.List.Elements.{recursion_from_All}
@@ -21,7 +20,7 @@ use Rattle.do_machine.specs.check.Blocks.{followed, steps}
 use Rattle.do_machine.specs.run.Run.{Acting}
 use Rattle.do_facts.proofs.machine.follows.Every.{grow_steps}
 use Rattle.do_facts.specs.Reached.{reached}
-use Rattle.do_facts.specs.View.{net_of, part_seen}
+use Rattle.do_facts.specs.View.{part_seen}
 use Rattle.do_facts.specs.links.Lasting.{Ends, Lasts, Parts, Stays, TakesNotice}
 use Rattle.do_facts.specs.links.Links.{links}
 use Rattle.do_facts.specs.links.Moves.{opens}

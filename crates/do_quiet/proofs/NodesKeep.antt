@@ -6,8 +6,6 @@ use Rattle.std.specs.Prelude.{Some, unwrap_or}
 use Rattle.std.specs.List.{list_any}
 use Rattle.std.proofs.lemmas.Bool.{eqb-true}
 use Rattle.do_base.specs.declared.events.event.Event.{Event}
-use Rattle.do_base.specs.declared.events.event.Event.TheVariants.{Check, Close, Lose, Run, Start}
-use Rattle.do_base.specs.declared.events.event.Event.TheVariants.{Take, Timeout}
 use Rattle.do_base.specs.names.Names.{ObjectName}
 use Rattle.do_class.specs.Class.{Class}
 use Rattle.do_machine.specs.declared.node.Node.{Node}
@@ -35,13 +33,13 @@ use Rattle.do_facts.proofs.machine.follows.States.{changed, requeued}
 use Rattle.do_facts.proofs.machine.passing.Linked.{opening_queues, queues_stay}
 use Rattle.do_facts.proofs.machine.passing.EntriesStay.{entries_stay}
 use Rattle.do_facts.specs.Reached.{reached}
-use Rattle.do_facts.specs.steps.IsStep.{Acts, Checks, IsActOf, IsStep, Loses, Skips, Takes}
+use Rattle.do_facts.specs.steps.IsStep.{Acts, Checks, IsStep, Loses, Skips, Takes}
 use Rattle.do_facts.proofs.OpeningAsNet.{opened}
 use Rattle.do_facts.proofs.ReachedStates.{holds_of_reached}
 use Rattle.do_facts.proofs.steps.EachIsStep.{step_is}
 use Rattle.do_facts.proofs.steps.HeldReferred.{reached_refers}
 use Rattle.do_facts.proofs.steps.NodesAtHome.{was_there}
-use Rattle.do_facts.proofs.steps.OthersStay.{move_leaves_own, node_stays}
+use Rattle.do_facts.proofs.steps.OthersStay.{move_leaves_own, node_stays, no_act}
 use Rattle.do_quiet.specs.Keeping.{NodesKeep}
 use Rattle.do_quiet.proofs.HeldUpStill.{left_holds_up}
 use mathlib.Core.Path.{fun_ext}
@@ -57,17 +55,6 @@ pub record AllStand (S : State) : Type 0 where
   pub holding : AllHoldOpen S
   pub queues : HasQueues S
   pub each : (port : ℕ) (n : Node) → node S port ≡ Some n → StandsSo S port n
-
--- an act of another node is no step of this one
-no_step : (event : Event) (actor port : ℕ) → IsActOf actor event → (port == actor) ≡ false →
-    IsNoStepOf port event
-no_step (Start p selector values) actor port e h = ap (λ q. port == q) e ∙ h
-no_step (Run p) actor port e h = ap (λ q. port == q) e ∙ h
-no_step (Take p from) actor port e h = absurd e
-no_step (Close p peer) actor port e h = ap (λ q. port == q) e ∙ h
-no_step (Lose from to after) actor port e h = absurd e
-no_step (Timeout p) actor port e h = ap (λ q. port == q) e ∙ h
-no_step Check actor port e h = absurd e
 
 -- ---- one step
 
@@ -139,7 +126,7 @@ step_held_up table act S event s (Skips e) all entries grown port m here =
 step_held_up table act S event s (Acts actor n d own there rule e) all entries grown port m here =
     either_held_up table act S event s (Acts actor n d own there rule e) all entries grown actor n
     d S there e
-    (λ p h. no_step event actor p own h) port m here
+    (λ p h. no_act event actor p own h) port m here
 step_held_up table act S event s (Takes actor from n item rest d q there rule waits e) all entries
     grown port m here =
     let U = change from (with_queue actor rest) S in

@@ -1,6 +1,6 @@
 -- While no end closes, no ask is refused, whatever moves.
-use Rattle.std.proofs.Common.{◌≡◌, ◌==◌, ◌++◌, ℕ, Bool, true, false, cond}
-use Rattle.std.proofs.Common.{drop, length, refl, ap, ◌∙◌, arith}
+use Rattle.std.proofs.Common.{◌≡◌, ◌==◌, ◌++◌, ℕ, Bool, true, false, cond, drop, length, refl, ap}
+use Rattle.std.proofs.Common.{◌∙◌, arith}
 use Rattle.std.proofs.lemmas.Bool.{eqb-true}
 use Rattle.std.proofs.lemmas.Bool.Decides.{nat_tests}
 use Rattle.do_base.specs.names.Names.{TokenName}
@@ -8,11 +8,9 @@ use Rattle.do_facts.specs.Net.{Net, StandFirst, atoms_of, net_after, total}
 use Rattle.do_facts.specs.links.Facts.{asked_in, open_in}
 use Rattle.do_facts.specs.links.Links as Atoms
 use Rattle.do_facts.specs.links.Links.{Atom, Links}
-use Rattle.do_facts.specs.links.Moves.{Asks, AsksOnce, Closes, Ends, Frees, GivesUp, Grants, Hears}
-use Rattle.do_facts.specs.links.Moves.{Holds, Leaves, Lends, Mentions, Misses, Move, Names}
-use Rattle.do_facts.specs.links.Moves.{Receives, Refuses, Returns, Settles, Stores, Strikes}
-use Rattle.do_facts.specs.links.Moves.{may, moved, note, opens}
-use Rattle.do_facts.specs.links.Moves.{posts, stores, takes}
+use Rattle.do_facts.specs.links.Moves.{Asks, Closes, Ends, GivesUp, Grants, Leaves, Lends, Mentions}
+use Rattle.do_facts.specs.links.Moves.{Misses, Move, Names, Receives, Refuses, Returns, Strikes}
+use Rattle.do_facts.specs.links.Moves.{may, moved, note, opens, posts, stores, takes}
 use Rattle.do_facts.proofs.FirstOnWire.{first_of}
 use Rattle.do_facts.proofs.Notes.{total-append}
 use Rattle.do_facts.proofs.links.Acts.{IsAct}
@@ -21,8 +19,7 @@ use Rattle.do_facts.proofs.links.LinksStay.{weightless}
 use Rattle.do_facts.proofs.links.ListsChanged.{open_less}
 use Rattle.do_facts.proofs.links.NoEndTold.{total_dropped}
 use Rattle.do_facts.proofs.links.PlainMoves.{other}
-use Rattle.do_quiet.proofs.Backing.{AllReach, NoGone}
-use Rattle.do_quiet.proofs.Backing.{StandsBacked, asked_stored, gone_of}
+use Rattle.do_quiet.proofs.Backing.{AllReach, NoGone, StandsBacked, asked_stored, gone_of}
 use Rattle.do_quiet.proofs.Backing.{passes_asked}
 use Rattle.do_quiet.proofs.CalmLinks.{IsCalm}
 
@@ -35,23 +32,17 @@ posts_none p (Lends to o) c z = weightless gone_of to z (Atoms.Lent o p.token) r
 posts_none p (Leaves o) c z = weightless gone_of o.node z (Atoms.Left o.serial) refl
 posts_none p (Closes peer) c z = absurd c
 posts_none p (GivesUp w told) c z = absurd c
-posts_none p (Holds from s) c z = refl
 posts_none p (Asks from o t) c z =
     weightless gone_of o.node z (Atoms.Ask o.serial (record { lender = from; number = t })) refl
-posts_none p (AsksOnce from o t) c z = refl
 posts_none p (Returns from o t) c z = weightless gone_of from z (Atoms.Settled t) refl
 posts_none p (Grants from s k) c z = weightless gone_of from z (Atoms.Granted s k) refl
 posts_none p (Refuses from s k) c z = absurd c
 posts_none p (Receives from s k true) c z =
     weightless gone_of k.lender z (Atoms.Settled k.number) refl
-posts_none p (Receives from s k false) c z = refl
 posts_none p (Misses from s k told) c z = absurd c
-posts_none p (Settles from t) c z = refl
-posts_none p (Frees from s) c z = refl
 posts_none p (Ends from names) c z = absurd c
-posts_none p (Hears from s) c z = refl
-posts_none p (Stores heap serial) c z = refl
 posts_none p (Strikes heap) c z = absurd c
+posts_none p _ c z = refl
 
 module _ (ends : ℕ → ℕ → Bool) (net : Net Links Atom) (x : ℕ) (f : StandsBacked ends net) where
   -- the part of the node
@@ -102,10 +93,6 @@ module _ (ends : ℕ → ℕ → Bool) (net : Net Links Atom) (x : ℕ) (f : Sta
     -- a move after which all ends are open is calm
     pub calm : (v : Move) → may p v → IsAct v → StandFirst x (takes v) net →
         AllReach ends (after v) → IsCalm v
-    calm (Names to s) m is first then = tt
-    calm (Mentions to s) m is first then = tt
-    calm (Lends to o) m is first then = tt
-    calm (Leaves o) m is first then = tt
     calm (Closes peer) m is first then =
         let still = (then x peer ((f.within x).reached peer m)).0 in
         absurd (grind (arith, nat_tests, still, open_less peer peer p.open_to))
@@ -116,24 +103,15 @@ module _ (ends : ℕ → ℕ → Bool) (net : Net Links Atom) (x : ℕ) (f : Sta
       where
         no : (b : ℕ) → opens p b ≡ true → opens p b ≡ false → ⊥
         no b y z = cc
-    calm (Holds from s) m is first then = tt
-    calm (Asks from o t) m is first then = tt
-    calm (AsksOnce from o t) m is first then = tt
-    calm (Returns from o t) m is first then = tt
-    calm (Grants from s k) m is first then = tt
     calm (Refuses from s k) m is first then = no_refusal from s k m.0 m.1 first
-    calm (Receives from s k told) m is first then = tt
     calm (Misses from s k told) m is first then =
         let e = first_of net x from (Atoms.Gone s k) (other net x f.entries.hold from m.0) first in
         absurd (grind (arith, nat_tests, e.1, (f.backed reach).0 from x))
-    calm (Settles from t) m is first then = tt
-    calm (Frees from s) m is first then = tt
     calm (Ends from names) m is first then =
         let still = (then x from ((f.within x).reached from m)).0 in
         absurd (grind (arith, nat_tests, still, open_less from from p.open_to))
-    calm (Hears from s) m is first then = tt
-    calm (Stores heap serial) m is first then = tt
     calm (Strikes heap) m is first then = absurd is
+    calm _ m is first then = tt
 
     -- no ask was refused
     pub none_after : (v : Move) → IsCalm v → NoGone (after v)

@@ -1,6 +1,5 @@
 -- In every state that a machine comes to, nodes have ends, lends and asks towards other nodes.
-use Rattle.std.proofs.Common.{◌≡◌, ℕ, Bool, true, List}
-use Rattle.std.proofs.Common.{refl, ap}
+use Rattle.std.proofs.Common.{◌≡◌, ℕ, Bool, true, List, refl, ap}
 use Rattle.std.specs.Prelude.{None, Option, Some, is_some}
 use Rattle.do_base.specs.declared.events.event.Event.{Event}
 use Rattle.do_class.specs.Class.{Class}
@@ -17,8 +16,7 @@ use Rattle.do_facts.specs.links.Links.{links}
 use Rattle.do_facts.specs.links.Moves.{link_rules}
 use Rattle.do_facts.proofs.Paths.{stays}
 use Rattle.do_facts.proofs.links.ReachedLinks.{step_keeps, step_moves}
-use Rattle.do_quiet.proofs.EndsWithin.{IsWithin}
-use Rattle.do_quiet.proofs.EndsWithin.{within_keeps}
+use Rattle.do_quiet.proofs.EndsWithin.{IsWithin, within_keeps}
 
 module _ (ends : ℕ → ℕ → Bool) (is_there : ℕ → Bool) where
   -- what holds from the opening on

@@ -1,7 +1,6 @@
 -- Where nothing is on its way and nothing is lent, what is stored is what all nodes together keep.
 use Rattle.std.proofs.Common.{◌≡◌, ◌==◌, ◌∙◌, ◌++◌, ◌||◌, ◌&&◌, inl, inr, ℕ, Bool, true, false}
-use Rattle.std.proofs.Common.{cond}
-use Rattle.std.proofs.Common.{List, [], ◌∷◌, map, refl, sym, ap, subst, arith}
+use Rattle.std.proofs.Common.{cond, List, [], ◌∷◌, map, refl, sym, ap, subst, arith}
 use Rattle.std.specs.Prelude.{None, Option, Some, is_some}
 use Rattle.std.specs.List.{list_any}
 use Rattle.std.proofs.lemmas.Bool.Decides.{nat_tests}

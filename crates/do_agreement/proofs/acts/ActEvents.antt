@@ -1,6 +1,5 @@
 -- Each event at which a node acts keeps a network in agreement with the state.
-use Rattle.std.proofs.Common.{◌≡◌, ℕ, false, cond, not, List, refl, sym, ap}
-use Rattle.std.proofs.Common.{◌∙◌, subst}
+use Rattle.std.proofs.Common.{◌≡◌, ℕ, false, cond, not, List, refl, sym, ap, ◌∙◌, subst}
 use Rattle.std.specs.Prelude.{None, Option, Some, option_and_then, option_map, unwrap_or}
 use Rattle.do_base.specs.declared.values.value.Value.{Value}
 use Rattle.do_base.specs.declared.events.event.Event.TheVariants.{Close, Run, Start, Timeout}

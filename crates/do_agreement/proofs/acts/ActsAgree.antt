@@ -1,6 +1,5 @@
 -- A network agrees with the state after a node acted.
-use Rattle.std.proofs.Common.{◌≡◌, ℕ, Bool, true, false, cond, not, List, [], refl, sym, ap}
-use Rattle.std.proofs.Common.{◌∙◌}
+use Rattle.std.proofs.Common.{◌≡◌, ℕ, Bool, true, false, cond, not, List, [], refl, sym, ap, ◌∙◌}
 use Rattle.std.specs.Prelude.{None, Option, Some, is_some, option_map, unwrap_or}
 use Rattle.do_base.specs.declared.events.event.Event.{Event}
 use Rattle.do_base.specs.names.Names.{ObjectName}

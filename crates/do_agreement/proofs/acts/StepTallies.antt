@@ -1,14 +1,11 @@
 -- A network tallies with the state after a node acted or took an item.
 use Rattle.std.proofs.Common.{◌≡◌, ◌==◌, ◌&&◌, ℕ, Bool, true, false}
-use Rattle.std.proofs.Common.{List, [], ◌∷◌, map, refl, sym, ap}
-use Rattle.std.proofs.Common.{◌∙◌, filter, not, subst, arith}
-use Rattle.std.specs.Prelude.{None, Option, Some, option_map, unwrap_or}
+use Rattle.std.proofs.Common.{List, [], ◌∷◌, map, refl, sym, ap, ◌∙◌, filter, not, subst, arith}
+use Rattle.std.specs.Prelude.{Some, option_map}
 use Rattle.std.specs.List.{list_any}
 use Rattle.std.proofs.lemmas.Bool.{eqb-true}
 use Rattle.std.proofs.lemmas.Bool.Decides.{nat_tests}
 use Rattle.do_base.specs.declared.events.event.Event.{Event}
-use Rattle.do_base.specs.declared.events.event.Event.TheVariants.{Check, Close, Lose, Run, Start}
-use Rattle.do_base.specs.declared.events.event.Event.TheVariants.{Take, Timeout}
 use Rattle.do_class.specs.Class.{Class}
 use Rattle.do_class.specs.Table.{IsTable}
 use Rattle.do_coder.specs.declared.recent.pair.Pair.{Pair}
@@ -18,12 +15,10 @@ use Rattle.do_machine.specs.declared.node.Node.{Node}
 use Rattle.do_machine.specs.declared.state.Effect.{Effect}
 use Rattle.do_machine.specs.declared.state.State.{State}
 use Rattle.do_machine.specs.Commit.{moved}
-use Rattle.do_machine.specs.Context.{Context, Surroundings, context}
-use Rattle.do_machine.specs.Start.{start_effect}
+use Rattle.do_machine.specs.Context.{Context, Surroundings}
 use Rattle.do_machine.specs.State.{is_open, node}
 use Rattle.do_machine.specs.ends.Closing.{asked_of, closing, parted}
-use Rattle.do_machine.specs.ends.TimeOut.{time_out}
-use Rattle.do_machine.specs.run.Run.{Acting, run_effect}
+use Rattle.do_machine.specs.run.Run.{Acting}
 use Rattle.do_machine.specs.take.Take.{holding, take_effect}
 use Rattle.do_network.specs.declared.input.Done.{Done}
 use Rattle.do_network.specs.Frames.{item_of}
@@ -35,7 +30,7 @@ use Rattle.do_network.specs.Step.{advanced, net_moved, place_after}
 use Rattle.do_network.specs.fits.Notes.{Note, note_frame}
 use Rattle.do_facts.specs.Net.{noted}
 use Rattle.do_facts.specs.Net as nets
-use Rattle.do_facts.specs.View.{AreMoves, AreMovesIf, part_seen}
+use Rattle.do_facts.specs.View.{AreMoves, part_seen}
 use Rattle.do_facts.specs.links.Links.{Atom, atoms, links, links_of}
 use Rattle.do_facts.specs.links.LinksAreKept.{LinksAreKept}
 use Rattle.do_facts.specs.links.Moves.{link_rules}
@@ -43,7 +38,6 @@ use Rattle.do_facts.specs.links.Sound.{IsSound}
 use Rattle.do_facts.specs.steps.IsStep.{IsRuleOf, without_oldest}
 use Rattle.do_facts.proofs.EffectReaches.{ok_by}
 use Rattle.do_facts.proofs.links.Bridge.{link_bridge}
-use Rattle.do_facts.proofs.links.ClosingIsMoves.{settlings_stay}
 use Rattle.do_agreement.specs.IsEffectOf.{IsEffectOf}
 use Rattle.do_agreement.specs.NetInHand.{carried_as, closes_for, ends, net_in_hand, net_without}
 use Rattle.do_agreement.specs.NetInHand.{part_in_hand, with_part, without_first}
@@ -55,32 +49,14 @@ use Rattle.do_agreement.proofs.places.PlacesChanged.{place_elsewhere, place_here
 use Rattle.do_agreement.proofs.places.StepAsCommits.{two_commits}
 use Rattle.do_agreement.proofs.sites.RuleEffects.{rule_effect, take_is_effect}
 use Rattle.do_agreement.proofs.places.Numbers.{flipped}
-
--- the effect that there is, is moves
-moves_there : (n : Node) (found : Option Effect) (e : Effect) →
-    AreMovesIf links link_rules n found → found ≡ Some e → AreMoves links link_rules n [] e
-moves_there n None e h q = absurd (cc)
-moves_there n (Some d) e h q =
-    subst (λ x. AreMoves links link_rules n [] x) (ap (λ x. unwrap_or x d) q) h
+use Rattle.do_facts.proofs.walk.SmallEffects.{settled_node}
+use Rattle.do_facts.proofs.NodeRuns.{by_rule}
 
 -- the effect of an event's rule is moves
 pub rule_moves : (table : List Class) (act : Acting) (S : State) (event : Event) (n : Node)
     (e : Effect) → IsSound (links_of n) → IsRuleOf table act S event n e →
     AreMoves links link_rules n [] e
-rule_moves table act S (Start port selector values) n e ok rule =
-    moves_there n (start_effect table selector values n) e
-    (link_bridge.start table selector values n ok) rule
-rule_moves table act S (Run port) n e ok rule =
-    moves_there n (run_effect act (context table S n)) e
-    (link_bridge.run act (context table S n) ok) rule
-rule_moves table act S (Close port peer) n e ok rule =
-    subst (λ d. AreMoves links link_rules n [] d) (sym rule.1)
-    (link_bridge.close n peer rule.0 ok)
-rule_moves table act S (Timeout port) n e ok rule =
-    moves_there n (time_out n) e (link_bridge.gives_up n ok) rule
-rule_moves table act S (Take port from) n e ok rule = absurd rule
-rule_moves table act S (Lose from to k) n e ok rule = absurd rule
-rule_moves table act S Check n e ok rule = absurd rule
+rule_moves = by_rule links link_rules IsSound link_bridge
 
 -- a node of a state is sound
 pub sound_here : (S : State) → LinksAreKept S → (port : ℕ) (n : Node) → node S port ≡ Some n →
@@ -100,7 +76,7 @@ module _ (table : List Class) (S : State) (kept : LinksAreKept S) (N : Net)
     (tally : Tallies table N S) (port : ℕ) (pl : Place) (there : place_at N port ≡ Some pl)
     (done : Done) where
   -- the site
-  abbrev p : Part
+  abbrev pub p : Part
   p = pl.part
 
   -- it is there
@@ -162,7 +138,7 @@ module _ (table : List Class) (S : State) (kept : LinksAreKept S) (N : Net)
   -- so it is once a node closed it
   closing_closes : (from : ℕ) (n : Node) → is_open (closing from n).node from ≡ false
   closing_closes from n =
-      ap (λ (m : Node). is_open m from) (settlings_stay (parted from n) (asked_of from n))
+      ap (λ (m : Node). is_open m from) (settled_node (asked_of from n) (parted from n))
       ∙ closed_end from n.open_to
 
   -- a node that takes an end closes its own
@@ -172,32 +148,22 @@ module _ (table : List Class) (S : State) (kept : LinksAreKept S) (N : Net)
     where
       go : (item : Item) → ends item ≡ true → is_open (take_effect c from (item_of (note_frame
           (record { item = item; amount = x.amount; lost = x.lost })))).node from ≡ false
-      go (items.Call k m) e = absurd (cc)
-      go (items.Oneway m) e = absurd (cc)
-      go (items.Reply k q) e = absurd (cc)
-      go (items.Raised k q) e = absurd (cc)
-      go (items.RootAsk k) e = absurd (cc)
-      go (items.RootAnswer k q) e = absurd (cc)
-      go (items.Ask s k) e = absurd (cc)
-      go (items.Granted s k) e = absurd (cc)
-      go (items.Gone s k) e = absurd (cc)
-      go (items.Left s) e = absurd (cc)
-      go (items.Settled k) e = absurd (cc)
       go (items.End serials) e = closing_closes from (holding [] c.node)
+      go _ e = absurd (cc)
 
   module _ (t : IsTable table) (from : ℕ) (pf : Place) (sender : place_at N from ≡ Some pf)
       (here : is_open p.own.node from ≡ true) (x : Note) (xs : List Note)
       (first : tally.under_way from port ≡ x ∷ xs) (around : Surroundings) where
     -- what the take is judged by
-    abbrev judged : Context
+    abbrev pub judged : Context
     judged = record { table = table; around = around; node = p.own.node }
 
     -- the effect of the item
-    abbrev e : Effect
+    abbrev pub e : Effect
     e = take_effect judged from (item_of (note_frame x))
 
     -- the site with the item in hand
-    abbrev hand : Part
+    abbrev pub hand : Part
     hand = part_in_hand from x p
 
     -- the names by which the item is spelled
@@ -237,14 +203,14 @@ module _ (table : List Class) (S : State) (kept : LinksAreKept S) (N : Net)
         sym (place_twice port (with_part hand) (place_after h) (λ y. refl) K)
 
     -- the effect is of the node with the item in hand
-    is_effect : IsEffectOf hand.own.node e
+    pub is_effect : IsEffectOf hand.own.node e
     is_effect =
         take_is_effect judged from (item_of (note_frame x)) here
         (sound_here S kept port p.own.node node_there)
         (tally.counts.owns port p site_there).reached
 
     -- an end that closes is closed
-    shuts : (m : ℕ) → closes_for port from x port m ≡ true → is_open e.node m ≡ false
+    pub shuts : (m : ℕ) → closes_for port from x port m ≡ true → is_open e.node m ≡ false
     shuts m c =
         let both = passes (ends x.item) (port == port) (m == from) c in
         ap (λ k. is_open e.node k) (eqb-true m from both.1)
@@ -257,7 +223,7 @@ module _ (table : List Class) (S : State) (kept : LinksAreKept S) (N : Net)
         passes false b d h = absurd (cc)
 
     -- and no other node closes one
-    others : (a m : ℕ) → (port == a) ≡ false → closes_for port from x a m ≡ false
+    pub others : (a m : ℕ) → (port == a) ≡ false → closes_for port from x a m ≡ false
     others a m ne = go (ends x.item) (flipped port a ne)
       where
         go : (b : Bool) → (a == port) ≡ false → (b && ((a == port) && (m == from))) ≡ false

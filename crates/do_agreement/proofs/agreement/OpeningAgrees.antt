@@ -1,7 +1,6 @@
 -- A network agrees with the machine as both open.
-use Rattle.std.proofs.Common.{◌≡◌, ◌==◌, ℕ, Bool, true, false}
-use Rattle.std.proofs.Common.{cond, List, [], ◌∷◌, length, map, refl}
-use Rattle.std.proofs.Common.{sym, ap, ◌∙◌, subst, arith}
+use Rattle.std.proofs.Common.{◌≡◌, ◌==◌, ℕ, Bool, true, false, cond, List, [], ◌∷◌, length, map}
+use Rattle.std.proofs.Common.{refl, sym, ap, ◌∙◌, subst, arith}
 use Rattle.std.specs.Prelude.{None, Option, Some, find, is_some, option_and_then, option_map}
 use Rattle.std.proofs.lemmas.Bool.Decides.{nat_tests}
 use Rattle.do_class.specs.Class.{Class}
@@ -10,14 +9,11 @@ use Rattle.do_machine.specs.declared.state.State.{State}
 use Rattle.do_machine.specs.State.{is_open, node}
 use Rattle.do_machine.specs.World.{by_port, opening, others}
 use Rattle.do_network.specs.Links.{Link, Part, link_to}
-use Rattle.do_network.specs.Net.{net_ports, opening_link}
-use Rattle.do_network.specs.Net.{Channel, Net, Place}
-use Rattle.do_network.specs.Net.{channel, channel_to, net_opening, opening_channel}
-use Rattle.do_network.specs.Net.{opening_place, part_at, place_at}
+use Rattle.do_network.specs.Net.{net_ports, opening_link, Channel, Net, Place, channel, channel_to}
+use Rattle.do_network.specs.Net.{net_opening, opening_channel, opening_place, part_at, place_at}
 use Rattle.do_network.specs.fits.Fits.{Fits}
 use Rattle.do_network.specs.fits.Notes.{Note, carried, names_behind, tells_of, total}
-use Rattle.do_network.proofs.OpeningFits.{seat_found}
-use Rattle.do_network.proofs.OpeningFits.{opening_fits}
+use Rattle.do_network.proofs.OpeningFits.{seat_found, opening_fits}
 use Rattle.do_facts.specs.links.LinksAreKept.{LinksAreKept}
 use Rattle.do_facts.proofs.links.ReachedLinks.{opening_keeps}
 use Rattle.do_agreement.specs.Agrees.{Agrees}

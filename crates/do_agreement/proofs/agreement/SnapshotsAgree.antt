@@ -12,8 +12,7 @@ use Rattle.do_machine.specs.declared.state.Station.{Station}
 use Rattle.do_machine.specs.Entry.{has_entry}
 use Rattle.do_machine.specs.Objects.{object_at}
 use Rattle.do_machine.specs.State.{is_open, node, own, ports}
-use Rattle.do_machine.specs.check.Snapshot.{closed_ends, entry_of, node_line}
-use Rattle.do_machine.specs.check.Snapshot.{object_line, snapshot}
+use Rattle.do_machine.specs.check.Snapshot.{closed_ends, entry_of, node_line, object_line, snapshot}
 use Rattle.do_network.specs.Links.{Part}
 use Rattle.do_network.specs.Net.{Net, Place, net_ports, part_at, place_at}
 use Rattle.do_network.specs.Own.{is_counted}

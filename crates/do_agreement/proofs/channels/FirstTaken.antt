@@ -1,6 +1,5 @@
 -- The oldest of what stands in a channel is taken.
-use Rattle.std.proofs.Common.{◌≡◌, ℕ, Bool, true, false, cond}
-use Rattle.std.proofs.Common.{List, ◌∷◌, length, drop, refl}
+use Rattle.std.proofs.Common.{◌≡◌, ℕ, Bool, true, false, cond, List, ◌∷◌, length, drop, refl}
 use Rattle.std.proofs.Common.{sym, ap, ◌∙◌, subst}
 use Rattle.std.specs.Prelude.{not, ◌&&◌, ◌||◌}
 use Rattle.std.specs.List.{AllByRecursion}
@@ -43,15 +42,8 @@ module _ (table : List Class) (from to : ℕ) (recent : List Pair) (r : IsRecent
   frame_recent (frames.Call call serial selector packet) h = packet_recent packet h.1.1.1
   frame_recent (frames.Oneway serial selector packet) h = packet_recent packet h.1.1
   frame_recent (frames.Reply call packet) h = packet_recent packet h.1
-  frame_recent (frames.Raised call exc) h = r
-  frame_recent (frames.RootAsk call) h = r
   frame_recent (frames.RootAnswer call packet) h = packet_recent packet h.1
-  frame_recent (frames.Retain serial token) h = r
-  frame_recent (frames.Granted serial token) h = r
-  frame_recent (frames.Gone serial token) h = r
-  frame_recent (frames.Release serial amount) h = r
-  frame_recent (frames.Settle number) h = r
-  frame_recent frames.Shutdown h = r
+  frame_recent _ h = r
 
 module _ (table : List Class) (t : IsTable table) (from to : ℕ) (w r : Link) (c : Channel)
     (x : Note) (xs : List Note) (carries : Carries table from to true w r c (x ∷ xs))

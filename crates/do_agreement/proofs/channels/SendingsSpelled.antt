@@ -18,18 +18,7 @@ use Rattle.do_agreement.specs.NotesSent.{note_sent, notes_to}
 use Rattle.do_agreement.proofs.channels.SendsCarried.{sent_over}
 use Rattle.do_agreement.proofs.places.StepAsCommits.{sent_before}
 use Rattle.do_agreement.proofs.sites.ReaderStays.{sent_once}
-
--- all of a list are all of its front
-pub all_front : {X : Type 0} (P : X → Type 0) (xs ys : List X) → AllByRecursion P (xs ++ ys) →
-    AllByRecursion P xs
-all_front P [] ys all = tt
-all_front P (x ∷ xs) ys all = (all.0, all_front P xs ys all.1)
-
--- and all of the rest
-pub all_behind : {X : Type 0} (P : X → Type 0) (xs ys : List X) → AllByRecursion P (xs ++ ys) →
-    AllByRecursion P ys
-all_behind P [] ys all = all
-all_behind P (x ∷ xs) ys all = all_behind P xs ys all.1
+use Rattle.do_facts.proofs.EachOfLists.{each_former, each_latter}
 
 -- one frame is sent before the others
 pub first_sent : (links : List Link) (x : Posted) (xs : List Posted) →
@@ -79,8 +68,8 @@ module _ (table : List Class) (from : ℕ) where
         (first_sent links here (all_posted received ps)) all in
         let still = sent_once to l.read links (record { link = l; found = found; reads = refl })
         here (x.to == to) refl in
-        go (x.to == to) refl (all_front Spelled now _ parts)
-        (notes_spelled ps behind still.link still.found (all_behind Spelled now _ parts))
+        go (x.to == to) refl (each_former Spelled now _ parts)
+        (notes_spelled ps behind still.link still.found (each_latter Spelled now _ parts))
       where
         go : (b : Bool) → (x.to == to) ≡ b →
             AllByRecursion Spelled (sendings (posted received x) (link_to links x.to)) →

@@ -1,7 +1,6 @@
 -- The classes that nodes keep are those of the state after a move.
 use Rattle.std.proofs.Common.{◌≡◌, ℕ, Bool, true, false, cond, List}
-use Rattle.std.proofs.Common.{[], ◌∷◌, fold, refl, sym, ap, ◌∙◌}
-use Rattle.std.proofs.Common.{subst}
+use Rattle.std.proofs.Common.{[], ◌∷◌, fold, refl, sym, ap, ◌∙◌, subst}
 use Rattle.std.specs.Prelude.{None, Option, Some, if◌then◌else◌, is_some}
 use Rattle.std.specs.List.{AllByRecursion}
 use Rattle.std.specs.FinMap.{get-retain_keys}
@@ -109,17 +108,7 @@ module _ (S : State) (p : Own)
   classes_alike : (from amount : ℕ) (item : Item) →
       item_classes from (item_of (frame_of amount item)) ≡ item_classes from item
   classes_alike from amount (items.Call k m) = refl
-  classes_alike from amount (items.Oneway m) = refl
-  classes_alike from amount (items.Reply k q) = refl
-  classes_alike from amount (items.Raised k e) = refl
-  classes_alike from amount (items.RootAsk k) = refl
-  classes_alike from amount (items.RootAnswer k q) = refl
-  classes_alike from amount (items.Ask s t) = refl
-  classes_alike from amount (items.Granted s t) = refl
-  classes_alike from amount (items.Gone s t) = refl
-  classes_alike from amount (items.Left s) = refl
-  classes_alike from amount (items.Settled k) = refl
-  classes_alike from amount (items.End serials) = refl
+  classes_alike from amount _ = refl
 
   module _ (from : ℕ) (x : Note)
       (told : AllByRecursion (λ y. class_of S y.object ≡ Some y.class) (item_classes from x.item))

@@ -1,7 +1,6 @@
 -- What a node knows after moves it knew before, or it was named to it.
-use Rattle.std.proofs.Common.{◌≡◌, ◌==◌, ◌++◌, ◌||◌, ℕ, Bool}
-use Rattle.std.proofs.Common.{true, false, cond, List, [], ◌∷◌, filter}
-use Rattle.std.proofs.Common.{not, refl, sym, ap, ◌∙◌, subst, arith}
+use Rattle.std.proofs.Common.{◌≡◌, ◌==◌, ◌++◌, ◌||◌, ℕ, Bool, true, false, cond, List, [], ◌∷◌}
+use Rattle.std.proofs.Common.{filter, not, refl, sym, ap, ◌∙◌, subst, arith}
 use Rattle.std.specs.Prelude.{if◌then◌else◌}
 use Rattle.std.specs.List.{AllByRecursion, filter_map, flat_map, list_any}
 use Rattle.std.proofs.lemmas.Bool.Decides.{nat_tests}
@@ -26,10 +25,8 @@ use Rattle.do_facts.specs.Moves.{afters, all_takes}
 use Rattle.do_facts.specs.View.{AreMoves}
 use Rattle.do_facts.specs.links.Links as Atoms
 use Rattle.do_facts.specs.links.Links.{Atom, Links, atoms, links, links_of, name_atoms}
-use Rattle.do_facts.specs.links.Moves.{Asks, AsksOnce, Closes, Ends, Frees, GivesUp, Grants, Hears}
-use Rattle.do_facts.specs.links.Moves.{Holds, Leaves, Lends, Mentions, Misses, Move, Names}
-use Rattle.do_facts.specs.links.Moves.{Receives, Refuses, Returns, Settles, Stores, Strikes}
-use Rattle.do_facts.specs.links.Moves.{link_rules, moved, takes}
+use Rattle.do_facts.specs.links.Moves.{Asks, Closes, Ends, GivesUp, Holds, Leaves, Misses, Move}
+use Rattle.do_facts.specs.links.Moves.{Receives, link_rules, moved, takes}
 use Rattle.do_facts.proofs.links.HeldChanged.{held_more, is_at}
 use Rattle.do_facts.proofs.links.SameIsEqual.{object_is}
 
@@ -139,9 +136,6 @@ module _ (P : ObjectName → Type 0) where
 
   -- one move
   known_moved : (p : Links) (v : Move) → KnownAre p → TakenAre (takes v) → KnownAre (moved p v)
-  known_moved p (Names to s) known t = known
-  known_moved p (Mentions to s) known t = known
-  known_moved p (Lends to o) known t = known
   known_moved p (Leaves o) known t =
       held_less p (moved p (Leaves o)) (λ x. not (same_object o x)) refl refl known
   known_moved p (Closes peer) known t =
@@ -149,21 +143,13 @@ module _ (P : ObjectName → Type 0) where
   known_moved p (GivesUp w told) known t = ask_over p _ known
   known_moved p (Holds from s) known t = one_held p (object_at from s) t.0 known
   known_moved p (Asks from o token) known t = one_asked p (wanted o from token) t.0 known
-  known_moved p (AsksOnce from o token) known t = known
-  known_moved p (Returns from o token) known t = known
-  known_moved p (Grants from s token) known t = known
-  known_moved p (Refuses from s token) known t = known
   known_moved p (Receives from s token told) known t =
       ask_over (record p { held = joined p.held (object_at from s) }) _
       (one_held p (object_at from s) t.0 known)
   known_moved p (Misses from s token told) known t = ask_over p _ known
-  known_moved p (Settles from number) known t = known
-  known_moved p (Frees from s) known t = known
   known_moved p (Ends from serials) known t =
       held_less p (moved p (Ends from serials)) (λ x. not (x.node == from)) refl refl known
-  known_moved p (Hears from s) known t = known
-  known_moved p (Stores heap serial) known t = known
-  known_moved p (Strikes heap) known t = known
+  known_moved p _ known t = known
 
   -- what holds of all holds of those before and those behind
   split : {X : Type 0} (Q : X → Type 0) (xs ys : List X) → AllByRecursion Q (xs ++ ys) →
@@ -214,9 +200,5 @@ module _ (P : ObjectName → Type 0) where
   item_such from (items.Raised k e) all g = tt
   item_such from (items.RootAsk k) all g = tt
   item_such from (items.RootAnswer k p) all g = names_such from p.names all
-  item_such from (items.Ask s t) all g = (tt, tt)
   item_such from (items.Granted s t) all g = (g, tt)
-  item_such from (items.Gone s t) all g = (tt, tt)
-  item_such from (items.Left s) all g = (tt, tt)
-  item_such from (items.Settled k) all g = (tt, tt)
-  item_such from (items.End serials) all g = (tt, tt)
+  item_such from _ all g = (tt, tt)

@@ -1,8 +1,7 @@
 -- The counts of a network fit after an effect of one of its sites.
 use Rattle.do_machine.specs.World.{others as other_ports}
-use Rattle.std.proofs.Common.{map}
-use Rattle.std.proofs.Common.{◌≡◌, ◌==◌, ◌++◌, ◌+◌, ℕ, Bool, true, false, cond, List, refl, sym, ap}
-use Rattle.std.proofs.Common.{◌∙◌, subst, fold, arith}
+use Rattle.std.proofs.Common.{map, ◌≡◌, ◌==◌, ◌++◌, ◌+◌, ℕ, Bool, true, false, cond, List, refl}
+use Rattle.std.proofs.Common.{sym, ap, ◌∙◌, subst, fold, arith}
 use Rattle.std.specs.Prelude.{Some, [], is_some, option_and_then, option_map}
 use Rattle.std.specs.List.{AllByRecursion}
 use Rattle.do_class.specs.Class.{Class}
@@ -10,10 +9,8 @@ use Rattle.do_machine.specs.declared.state.Effect.{Effect}
 use Rattle.do_machine.specs.Objects.{object_at}
 use Rattle.do_machine.specs.State.{holds, is_open}
 use Rattle.do_network.specs.Frames.{all_posted}
-use Rattle.do_network.specs.Links.{Link}
-use Rattle.do_network.specs.Links.{Part}
-use Rattle.do_network.specs.Net.{net_ports}
-use Rattle.do_network.specs.Net.{Net, Place, channel_to, part_at, place_at}
+use Rattle.do_network.specs.Links.{Link, Part}
+use Rattle.do_network.specs.Net.{net_ports, Net, Place, channel_to, part_at, place_at}
 use Rattle.do_network.specs.Spelled.{IsSpelledSending}
 use Rattle.do_network.specs.Step.{place_after, with_sending}
 use Rattle.do_network.specs.fits.Counted.{Counted}
@@ -28,14 +25,11 @@ use Rattle.do_agreement.proofs.counts.MovesAccount.{apart}
 use Rattle.do_agreement.proofs.counts.NamesCounted.{names_counted}
 use Rattle.do_agreement.proofs.counts.ReturnsCounted.{returns_counted}
 use Rattle.do_agreement.proofs.counts.ReturnsSent.{told_sent}
-use Rattle.do_agreement.proofs.places.PlacesChanged.{ports_same}
-use Rattle.do_agreement.proofs.places.PlacesChanged.{by_part, channel_elsewhere}
-use Rattle.do_agreement.proofs.places.PlacesChanged.{channel_here}
-use Rattle.do_agreement.proofs.places.PlacesChanged.{part_there}
+use Rattle.do_agreement.proofs.places.PlacesChanged.{ports_same, by_part, channel_elsewhere}
+use Rattle.do_agreement.proofs.places.PlacesChanged.{channel_here, part_there}
 use Rattle.do_agreement.proofs.pairs.NotesAsAtoms.{total_behind}
 use Rattle.do_agreement.proofs.sites.HeldKept.{holds_after}
-use Rattle.do_agreement.proofs.sites.ReaderStays.{peers_stay}
-use Rattle.do_agreement.proofs.sites.ReaderStays.{ReadFrom, reader_stays}
+use Rattle.do_agreement.proofs.sites.ReaderStays.{peers_stay, ReadFrom, reader_stays}
 use Rattle.do_agreement.proofs.places.Numbers.{flipped, never_apart}
 
 module _ (table : List Class) (port : ℕ) (N : Net) (under_way : ℕ → ℕ → List Note)

@@ -17,8 +17,7 @@ use Rattle.do_facts.proofs.machine.Queues.{grows_behind}
 use Rattle.do_facts.proofs.machine.follows.States.{changed}
 use Rattle.do_facts.proofs.machine.passing.NoQueue.{stays_none}
 use Rattle.do_network.specs.Links.{Part, Piece, Sending, Framed, Greeting}
-use Rattle.do_network.specs.Net.{Channel, Net, Place, channel, channel_to, part_at}
-use Rattle.do_network.specs.Net.{place_at}
+use Rattle.do_network.specs.Net.{Channel, Net, Place, channel, channel_to, part_at, place_at}
 use Rattle.do_network.specs.Step.{carrying, place_after, with_sending}
 use Rattle.do_network.specs.fits.Notes.{Note}
 use Rattle.do_facts.proofs.steps.OthersStay.{commit_leaves_others}
@@ -27,8 +26,7 @@ use Rattle.do_agreement.specs.NotesSent.{note_sent, notes_to}
 use Rattle.do_agreement.specs.Shows.{Shows, ShowsBut}
 use Rattle.do_agreement.proofs.places.KeyedLists.{found_changed, found_elsewhere, same_keys}
 use Rattle.do_agreement.proofs.places.PlacesChanged.{channel_elsewhere, channel_here}
-use Rattle.do_agreement.proofs.places.PlacesChanged.{part_elsewhere}
-use Rattle.do_agreement.proofs.places.PlacesChanged.{part_here, ports_same}
+use Rattle.do_agreement.proofs.places.PlacesChanged.{part_elsewhere, part_here, ports_same}
 use Rattle.do_agreement.proofs.places.Numbers.{flipped, same_number}
 
 -- the items of notes to a peer

@@ -29,13 +29,13 @@ use Rattle.do_agreement.specs.IsEffectOf.{IsEffectOf}
 use Rattle.do_agreement.specs.NetCommit.{effected, net_commit, with_sent}
 use Rattle.do_agreement.specs.Shows.{Shows, ShowsBut}
 use Rattle.do_agreement.specs.Tallies.{Tallies, left_after}
-use Rattle.do_agreement.proofs.channels.SendingsSpelled.{all_behind, all_front}
 use Rattle.do_agreement.proofs.commits.CommitFits.{commit_fits}
 use Rattle.do_agreement.proofs.commits.CommitShows.{commit_shows}
 use Rattle.do_agreement.proofs.commits.EntriesJudged.{counts_judge}
 use Rattle.do_agreement.proofs.places.PlacesChanged.{place_here}
 use Rattle.do_agreement.proofs.places.StepAsCommits.{sent_twice}
 use Rattle.do_agreement.proofs.sites.RuleEffects.{leaving_effect}
+use Rattle.do_facts.proofs.EachOfLists.{each_former, each_latter}
 
 -- a state that is shown is shown but for a node
 pub shown_but : (port : ℕ) (N : Net) (under_way : ℕ → ℕ → List Note) (S : State) →
@@ -102,7 +102,7 @@ module _ (table : List Class) (port : ℕ) (n : Node) (N : Net) (under_way : ℕ
   -- the counts fit
   mid_fit : CountsFit table M between none_closes
   mid_fit = commit_fits table port N under_way closes fit pl there e is
-      (all_front (IsSpelledSending table port) (effected p e).sent _ halves) shuts others
+      (each_former (IsSpelledSending table port) (effected p e).sent _ halves) shuts others
 
   -- and the state is shown
   mid_shows : Shows M between U
@@ -144,7 +144,7 @@ module _ (table : List Class) (port : ℕ) (n : Node) (N : Net) (under_way : ℕ
         under_way = with_sent port mid.own.received d.sent between;
         counts = commit_fits table port M between none_closes mid_fit
             (place_after (effected p e) pl) mid_there d left_is
-            (all_behind (IsSpelledSending table port) (effected p e).sent _ halves)
+            (each_latter (IsSpelledSending table port) (effected p e).sent _ halves)
             (λ m c. absurd (never c)) (λ a m ne. refl);
         shows = subst (λ x. Shows L (with_sent port mid.own.received d.sent between)
             (commit port x U)) left_alike

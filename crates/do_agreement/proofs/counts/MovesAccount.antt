@@ -10,9 +10,8 @@ use Rattle.do_machine.specs.ends.Closing.{serials_of}
 use Rattle.do_facts.specs.Net.{total}
 use Rattle.do_facts.specs.links.Facts.{told_of}
 use Rattle.do_facts.specs.links.Links.{Atom, Left, Lent, Links, Mine, Yours}
-use Rattle.do_facts.specs.links.Moves.{Asks, AsksOnce, Closes, Ends, Frees, GivesUp, Grants, Hears}
-use Rattle.do_facts.specs.links.Moves.{Holds, Leaves, Lends, Mentions, Misses, Move, Names}
-use Rattle.do_facts.specs.links.Moves.{Receives, Refuses, Returns, Settles, Stores, Strikes}
+use Rattle.do_facts.specs.links.Moves.{Closes, GivesUp, Leaves, Lends, Mentions, Move, Names}
+use Rattle.do_facts.specs.links.Moves.{Stores, Strikes}
 use Rattle.do_facts.specs.links.Moves.{closed, may, moved, note, opens, posts, takes, telling}
 use Rattle.do_facts.proofs.links.Bridge.{link_bridge}
 use Rattle.do_facts.proofs.links.HeldChanged.{held_apart, held_less, serials_held}
@@ -168,15 +167,4 @@ module _ (h s c : ℕ) where
       plain p (GivesUp w b) m refl refl (telling_given b w.token) (telling_told b w.token)
   accounts_moved p (Stores heap serial) m e = plain p (Stores heap serial) m refl refl refl refl
   accounts_moved p (Strikes heap) m e = plain p (Strikes heap) m refl refl refl refl
-  accounts_moved p (Holds from serial) m e = absurd (cc)
-  accounts_moved p (Asks from o token) m e = absurd (cc)
-  accounts_moved p (AsksOnce from o token) m e = absurd (cc)
-  accounts_moved p (Returns from o token) m e = absurd (cc)
-  accounts_moved p (Grants from serial token) m e = absurd (cc)
-  accounts_moved p (Refuses from serial token) m e = absurd (cc)
-  accounts_moved p (Receives from serial token b) m e = absurd (cc)
-  accounts_moved p (Misses from serial token b) m e = absurd (cc)
-  accounts_moved p (Settles from number) m e = absurd (cc)
-  accounts_moved p (Frees from serial) m e = absurd (cc)
-  accounts_moved p (Ends from serials) m e = absurd (cc)
-  accounts_moved p (Hears from serial) m e = absurd (cc)
+  accounts_moved p _ m e = absurd (cc)

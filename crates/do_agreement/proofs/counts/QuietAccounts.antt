@@ -47,8 +47,6 @@ module _ (g : Atom → ℕ) (none : (x : Atom) → releases x ≡ false → g x 
   item_none (items.Oneway m) e =
       omega (arith, none (Atoms.Yours m.target) refl, none_named g named m.packet.names)
   item_none (items.Reply k p) e = sym (none_named g named p.names)
-  item_none (items.Raised k x) e = refl
-  item_none (items.RootAsk k) e = refl
   item_none (items.RootAnswer k p) e = sym (none_named g named p.names)
   item_none (items.Ask s t) e = alone (Atoms.Ask s t) refl
   item_none (items.Granted s t) e = alone (Atoms.Granted s t) refl
@@ -56,6 +54,7 @@ module _ (g : Atom → ℕ) (none : (x : Atom) → releases x ≡ false → g x 
   item_none (items.Left s) e = absurd (cc)
   item_none (items.Settled k) e = alone (Atoms.Settled k) refl
   item_none (items.End serials) e = absurd (cc)
+  item_none _ e = refl
 
   -- parcels of which none releases anything count for nothing
   none_sent : (home : ℕ) (sent : List Parcel) → NoneReleases sent →

@@ -1,6 +1,5 @@
 -- A home's counts stay right by what a peer gives back.
-use Rattle.std.proofs.Common.{◌≡◌, ◌++◌, ◌+◌, ◌<◌, ℕ, Bool, true, cond, List}
-use Rattle.std.proofs.Common.{sym, ap, ◌∙◌, arith}
+use Rattle.std.proofs.Common.{◌≡◌, ◌++◌, ◌+◌, ◌<◌, ℕ, Bool, true, cond, List, sym, ap, ◌∙◌, arith}
 use Rattle.std.specs.Prelude.{nat_lt}
 use Rattle.do_export.specs.Counts.{count_of}
 use Rattle.do_machine.specs.declared.state.Effect.{Effect}

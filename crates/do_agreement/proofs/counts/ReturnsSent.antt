@@ -6,7 +6,7 @@ use Rattle.std.specs.FinMap as map_of
 use Rattle.std.specs.FinMap.{get-retain_keys}
 use Rattle.std.proofs.lemmas.Bool.{eqb-true}
 use Rattle.do_class.specs.declared.packet.Name.{Name}
-use Rattle.do_class.specs.declared.packet.Name.TheVariants.{Lent, Mine, Yours}
+use Rattle.do_class.specs.declared.packet.Name.TheVariants.{Mine}
 use Rattle.do_export.specs.Counts.{Counts, count_of}
 use Rattle.do_export.proofs.Order.{entry_same}
 use Rattle.do_import.specs.ByObject.{object_of}
@@ -47,8 +47,7 @@ module _ (received : Counts) (h s : ℕ) where
   -- no name gives anything back
   no_name : (y : Name) → nets.total (worth_of h s often) (name_atoms y) ≡ 0
   no_name (Mine r class) = refl
-  no_name (Yours r) = refl
-  no_name (Lent o class t) = refl
+  no_name _ = refl
 
   -- what an item to a home gives back
   returned_alike : (item : Item) → given_up s item (amount_of received h item)
@@ -58,15 +57,9 @@ module _ (received : Counts) (h s : ℕ) where
   returned_alike (items.Oneway m) =
       omega (arith, none_named (worth_of h s often) no_name m.packet.names)
   returned_alike (items.Reply k p) = none_named (worth_of h s often) no_name p.names
-  returned_alike (items.Raised k e) = refl
-  returned_alike (items.RootAsk k) = refl
   returned_alike (items.RootAnswer k p) = none_named (worth_of h s often) no_name p.names
-  returned_alike (items.Ask r t) = refl
-  returned_alike (items.Granted r t) = refl
-  returned_alike (items.Gone r t) = refl
   returned_alike (items.Left r) = count_alike r
-  returned_alike (items.Settled k) = refl
-  returned_alike (items.End serials) = refl
+  returned_alike _ = refl
 
   -- what is sent gives back what its atoms give back
   pub returned : (sent : List Parcel) →

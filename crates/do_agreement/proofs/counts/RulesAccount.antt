@@ -1,22 +1,19 @@
 -- Each effect accounts for what its node held.
 use Rattle.std.proofs.Common.{◌≡◌, ℕ, Bool, true, false, List, refl, sym, subst}
 use Rattle.do_base.specs.declared.events.event.Event.{Event}
-use Rattle.do_base.specs.declared.events.event.Event.TheVariants.{Check, Close, Lose, Run, Start}
-use Rattle.do_base.specs.declared.events.event.Event.TheVariants.{Take, Timeout}
+use Rattle.do_base.specs.declared.events.event.Event.TheVariants.{Close, Run, Start, Timeout}
 use Rattle.do_class.specs.Class.{Class}
 use Rattle.do_machine.specs.declared.node.Node.{Node}
 use Rattle.do_machine.specs.declared.state.Effect.{Effect}
 use Rattle.do_machine.specs.declared.state.State.{State}
 use Rattle.do_machine.specs.declared.item.Item.{Item}
 use Rattle.do_machine.specs.declared.item.Item.TheVariants as items
-use Rattle.do_machine.specs.Context.{Context, context}
+use Rattle.do_machine.specs.Context.{Context}
 use Rattle.do_machine.specs.Items.{exported}
-use Rattle.do_machine.specs.Start.{start_effect}
 use Rattle.do_machine.specs.State.{is_open}
 use Rattle.do_machine.specs.ends.Closing.{closing}
-use Rattle.do_machine.specs.ends.TimeOut.{time_out}
 use Rattle.do_machine.specs.held.Leaving.{leaving}
-use Rattle.do_machine.specs.run.Run.{Acting, run_effect}
+use Rattle.do_machine.specs.run.Run.{Acting}
 use Rattle.do_machine.specs.take.Take.{arrival, holding, take_effect}
 use Rattle.do_facts.proofs.machine.follows.Steady.{is_end}
 use Rattle.do_facts.proofs.machine.passing.Quiet.{arrival_quiet, rule_quiet}
@@ -43,9 +40,7 @@ rule_accounts table act S (Close port peer) n e ok rule home = λ s c.
     (λ r k. effect_accounts home r k n (closing peer n) (link_bridge.close n peer rule.0 ok)) s c
 rule_accounts table act S (Timeout port) n e ok rule home = λ s c.
     quiet_accounts home s c n e (rule_quiet table act S (Timeout port) n e rule refl)
-rule_accounts table act S (Take port from) n e ok rule home = absurd rule
-rule_accounts table act S (Lose from to k) n e ok rule home = absurd rule
-rule_accounts table act S Check n e ok rule home = absurd rule
+rule_accounts table act S _ n e ok rule home = absurd rule
 
 -- what a node leaves after a step
 pub leaving_accounts : (n : Node) (entry : ℕ → ℕ → Bool) → IsSound (links_of n) → (home : ℕ) →
@@ -69,19 +64,9 @@ take_accounts c from item ends ok home = go item
         (arrival_quiet c from x (holder x) e)
 
     go : (x : Item) → AccountsFor home (holder x) (take_effect c from x)
-    go (items.Call k m) = quiet (items.Call k m) refl
-    go (items.Oneway m) = quiet (items.Oneway m) refl
-    go (items.Reply k p) = quiet (items.Reply k p) refl
-    go (items.Raised k e) = quiet (items.Raised k e) refl
-    go (items.RootAsk k) = quiet (items.RootAsk k) refl
-    go (items.RootAnswer k p) = quiet (items.RootAnswer k p) refl
-    go (items.Ask s t) = quiet (items.Ask s t) refl
-    go (items.Granted s t) = quiet (items.Granted s t) refl
-    go (items.Gone s t) = quiet (items.Gone s t) refl
-    go (items.Left s) = quiet (items.Left s) refl
-    go (items.Settled k) = quiet (items.Settled k) refl
     go (items.End serials) =
         subst (λ os. AccountsFor home (holding os c.node) (closing from (holding os c.node)))
         (sym (end_exports c.node.port serials))
         (λ s k. effect_accounts home s k c.node (closing from c.node)
         (link_bridge.close c.node from ends ok))
+    go x = quiet x refl

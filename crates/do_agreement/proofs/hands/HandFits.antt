@@ -1,7 +1,6 @@
 -- The counts of a network fit while one of its sites has an item in hand.
 use Rattle.do_machine.specs.World.{others}
-use Rattle.std.proofs.Common.{map}
-use Rattle.std.proofs.Common.{◌≡◌, ◌==◌, ◌&&◌, ℕ, Bool, true, false, cond, List, ◌∷◌, refl}
+use Rattle.std.proofs.Common.{map, ◌≡◌, ◌==◌, ◌&&◌, ℕ, Bool, true, false, cond, List, ◌∷◌, refl}
 use Rattle.std.proofs.Common.{sym, ap, ◌∙◌, subst, arith}
 use Rattle.std.specs.Prelude.{Some, find, is_some, not, option_and_then, option_map}
 use Rattle.std.specs.List.{AllByRecursion}
@@ -15,9 +14,7 @@ use Rattle.do_machine.specs.declared.item.Item.{Item}
 use Rattle.do_machine.specs.declared.item.Item.TheVariants as items
 use Rattle.do_machine.specs.State.{is_open}
 use Rattle.do_network.specs.Links.{Link, Part, change_link, link_to}
-use Rattle.do_network.specs.Net.{net_ports}
-use Rattle.do_network.specs.Net.{Net, Place, channel_to, part_at, place_at}
-use Rattle.do_network.specs.Net.{with_channel}
+use Rattle.do_network.specs.Net.{net_ports, Net, Place, channel_to, part_at, place_at, with_channel}
 use Rattle.do_network.specs.Own.{Own}
 use Rattle.do_network.specs.Step.{advanced}
 use Rattle.do_network.specs.fits.Channels.{Carries}
@@ -29,15 +26,13 @@ use Rattle.do_agreement.specs.NetInHand.{carried_as, closes_for, ends, link_read
 use Rattle.do_agreement.specs.NetInHand.{net_in_hand, net_without, part_in_hand, with_part}
 use Rattle.do_agreement.specs.NetInHand.{without_first}
 use Rattle.do_agreement.proofs.channels.FirstTaken.{first_taken, marks_taken}
-use Rattle.do_agreement.proofs.places.KeyedLists.{same_keys}
-use Rattle.do_agreement.proofs.places.KeyedLists.{found_changed, found_elsewhere}
+use Rattle.do_agreement.proofs.places.KeyedLists.{same_keys, found_changed, found_elsewhere}
 use Rattle.do_agreement.proofs.hands.InHandCounted.{for_third_in_hand, sender_in_hand}
 use Rattle.do_agreement.proofs.hands.InHandCounted.{taker_in_hand, third_in_hand}
 use Rattle.do_agreement.proofs.counts.MovesAccount.{apart}
-use Rattle.do_agreement.proofs.places.PlacesChanged.{ports_same}
-use Rattle.do_agreement.proofs.places.PlacesChanged.{by_part, channel_elsewhere, channel_here}
-use Rattle.do_agreement.proofs.places.PlacesChanged.{part_elsewhere, part_here, part_there}
-use Rattle.do_agreement.proofs.places.PlacesChanged.{place_elsewhere, some_is}
+use Rattle.do_agreement.proofs.places.PlacesChanged.{ports_same, by_part, channel_elsewhere}
+use Rattle.do_agreement.proofs.places.PlacesChanged.{channel_here, part_elsewhere, part_here}
+use Rattle.do_agreement.proofs.places.PlacesChanged.{part_there, place_elsewhere, some_is}
 use Rattle.do_agreement.proofs.sites.HeldKept.{holds_in_hand}
 use Rattle.do_agreement.proofs.places.Numbers.{flipped, never_apart, same_number}
 
@@ -47,18 +42,8 @@ tells_nothing x h s = go x.item h
   where
     go : (item : Item) → ends item ≡ false →
         tells_of s (record { item = item; amount = x.amount; lost = x.lost }) ≡ 0
-    go (items.Call k m) e = refl
-    go (items.Oneway m) e = refl
-    go (items.Reply k p) e = refl
-    go (items.Raised k x) e = refl
-    go (items.RootAsk k) e = refl
-    go (items.RootAnswer k p) e = refl
-    go (items.Ask r t) e = refl
-    go (items.Granted r t) e = refl
-    go (items.Gone r t) e = refl
-    go (items.Left r) e = refl
-    go (items.Settled k) e = refl
     go (items.End serials) e = absurd (cc)
+    go _ e = refl
 
 -- ---- links once something was read
 

@@ -1,7 +1,6 @@
 -- A network with an item in hand shows the state without the item, but for the node that has it.
-use Rattle.std.proofs.Common.{◌≡◌, ◌==◌, ◌&&◌, ℕ, Bool, true}
-use Rattle.std.proofs.Common.{false, cond, List, ◌∷◌, map, refl, sym}
-use Rattle.std.proofs.Common.{ap, ◌∙◌, subst}
+use Rattle.std.proofs.Common.{◌≡◌, ◌==◌, ◌&&◌, ℕ, Bool, true, false, cond, List, ◌∷◌, map, refl}
+use Rattle.std.proofs.Common.{sym, ap, ◌∙◌, subst}
 use Rattle.std.specs.Prelude.{Some, option_and_then, option_map}
 use Rattle.std.proofs.lemmas.Bool.{eqb-true}
 use Rattle.do_coder.specs.declared.recent.pair.Pair.{Pair}
@@ -22,8 +21,8 @@ use Rattle.do_agreement.specs.Shows.{Shows, ShowsBut}
 use Rattle.do_agreement.proofs.places.KeyedLists.{same_keys}
 use Rattle.do_agreement.proofs.commits.CommitShows.{channel_there, whatever}
 use Rattle.do_agreement.proofs.places.PlacesChanged.{channel_elsewhere, channel_here}
-use Rattle.do_agreement.proofs.places.PlacesChanged.{part_elsewhere}
-use Rattle.do_agreement.proofs.places.PlacesChanged.{part_here, place_elsewhere, ports_same}
+use Rattle.do_agreement.proofs.places.PlacesChanged.{part_elsewhere, part_here, place_elsewhere}
+use Rattle.do_agreement.proofs.places.PlacesChanged.{ports_same}
 
 module _ (port from : ℕ) (front : List Pair) (x : Note) (xs : List Note) (N : Net)
     (under_way : ℕ → ℕ → List Note) (S : State) (shows : Shows N under_way S) (pl pf : Place)

@@ -1,6 +1,5 @@
 -- Counts stay right when a node takes an item in hand.
-use Rattle.std.proofs.Common.{◌≡◌, ◌==◌, ◌+◌, ◌-◌, ℕ, true, false, cond, List, ◌∷◌}
-use Rattle.std.proofs.Common.{ap, ◌∙◌, arith}
+use Rattle.std.proofs.Common.{◌≡◌, ◌==◌, ◌+◌, ◌-◌, ℕ, true, false, cond, List, ◌∷◌, ap, ◌∙◌, arith}
 use Rattle.do_export.specs.Counts.{count_of}
 use Rattle.do_machine.specs.State.{is_open}
 use Rattle.do_network.specs.Own.{Own}

@@ -51,31 +51,16 @@ pub exports_are : (from to : ℕ) (item : Item) → AreOf from (exported from to
 exports_are from to (items.Call k m) = names_of from to m.packet.names
 exports_are from to (items.Oneway m) = names_of from to m.packet.names
 exports_are from to (items.Reply k p) = names_of from to p.names
-exports_are from to (items.Raised k e) = tt
-exports_are from to (items.RootAsk k) = tt
 exports_are from to (items.RootAnswer k p) = names_of from to p.names
-exports_are from to (items.Ask s t) = tt
 exports_are from to (items.Granted s t) = (refl, tt)
-exports_are from to (items.Gone s t) = tt
-exports_are from to (items.Left s) = tt
-exports_are from to (items.Settled k) = tt
 exports_are from to (items.End serials) = subst (AreOf from) (sym (end_exports to serials)) tt
+exports_are from to _ = tt
 
 -- a frame exports what its item does
 pub exports_alike : (from to amount : ℕ) (item : Item) →
     exported from to (item_of (frame_of amount item)) ≡ exported from to item
-exports_alike from to amount (items.Call k m) = refl
-exports_alike from to amount (items.Oneway m) = refl
-exports_alike from to amount (items.Reply k p) = refl
-exports_alike from to amount (items.Raised k e) = refl
-exports_alike from to amount (items.RootAsk k) = refl
-exports_alike from to amount (items.RootAnswer k p) = refl
-exports_alike from to amount (items.Ask s t) = refl
-exports_alike from to amount (items.Granted s t) = refl
-exports_alike from to amount (items.Gone s t) = refl
-exports_alike from to amount (items.Left s) = refl
-exports_alike from to amount (items.Settled k) = refl
 exports_alike from to amount (items.End serials) = sym (end_exports to serials)
+exports_alike from to amount _ = refl
 
 -- one more object of a node is received
 one_received : (from h s n t k : ℕ) (rest : ℕ) → n ≡ from →
@@ -168,61 +153,13 @@ module _ (from : ℕ) (p : Own) where
     classes = refl;
     counts = λ m t. none_off (m == from) (count_of p.counts m t);
   }
-  gives_back amount (items.Reply k q) = record {
-    same = refl;
-    received = refl;
-    classes = refl;
-    counts = λ m t. none_off (m == from) (count_of p.counts m t);
-  }
-  gives_back amount (items.Raised k e) = record {
-    same = refl;
-    received = refl;
-    classes = refl;
-    counts = λ m t. none_off (m == from) (count_of p.counts m t);
-  }
-  gives_back amount (items.RootAsk k) = record {
-    same = refl;
-    received = refl;
-    classes = refl;
-    counts = λ m t. none_off (m == from) (count_of p.counts m t);
-  }
-  gives_back amount (items.RootAnswer k q) = record {
-    same = refl;
-    received = refl;
-    classes = refl;
-    counts = λ m t. none_off (m == from) (count_of p.counts m t);
-  }
-  gives_back amount (items.Ask s k) = record {
-    same = refl;
-    received = refl;
-    classes = refl;
-    counts = λ m t. none_off (m == from) (count_of p.counts m t);
-  }
-  gives_back amount (items.Granted s k) = record {
-    same = refl;
-    received = refl;
-    classes = refl;
-    counts = λ m t. none_off (m == from) (count_of p.counts m t);
-  }
-  gives_back amount (items.Gone s k) = record {
-    same = refl;
-    received = refl;
-    classes = refl;
-    counts = λ m t. none_off (m == from) (count_of p.counts m t);
-  }
   gives_back amount (items.Left s) = record {
     same = refl;
     received = refl;
     classes = refl;
     counts = λ m t. lowered_at p.counts from s amount m t;
   }
-  gives_back amount (items.Settled k) = record {
-    same = refl;
-    received = refl;
-    classes = refl;
-    counts = λ m t. none_off (m == from) (count_of p.counts m t);
-  }
-  gives_back amount (items.End serials) = record {
+  gives_back amount _ = record {
     same = refl;
     received = refl;
     classes = refl;

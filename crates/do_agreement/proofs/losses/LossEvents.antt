@@ -1,7 +1,6 @@
 -- The event of a loss keeps a network in agreement with the state.
-use Rattle.std.proofs.Common.{◌≡◌, ◌==◌, ◌&&◌, ℕ, Bool, true}
-use Rattle.std.proofs.Common.{false, cond, not, List, [], map, length}
-use Rattle.std.proofs.Common.{refl, sym, ap, ◌∙◌, subst}
+use Rattle.std.proofs.Common.{◌≡◌, ◌==◌, ◌&&◌, ℕ, Bool, true, false, cond, not, List, [], map}
+use Rattle.std.proofs.Common.{length, refl, sym, ap, ◌∙◌, subst}
 use Rattle.std.specs.Prelude.{None, Option, Some, is_some, nat_lt, option_and_then, option_map}
 use Rattle.std.specs.Prelude.{unwrap_or}
 use Rattle.std.specs.List.{insert}
@@ -35,11 +34,10 @@ use Rattle.do_agreement.proofs.classes.ClassesAfter.{classes_stay_so}
 use Rattle.do_agreement.proofs.counts.MovesAccount.{apart}
 use Rattle.do_agreement.proofs.acts.ActsAgree.{known_some, node_is, skip_agrees}
 use Rattle.do_agreement.proofs.commits.CommitShows.{channel_there, whatever}
-use Rattle.do_agreement.proofs.losses.LossFits.{carried_length}
-use Rattle.do_agreement.proofs.losses.LossFits.{loss_fits, marked, marked_items}
+use Rattle.do_agreement.proofs.losses.LossFits.{carried_length, loss_fits, marked, marked_items}
 use Rattle.do_agreement.proofs.losses.LossFits.{same_parts, with_mark}
 use Rattle.do_agreement.proofs.places.PlacesChanged.{channel_elsewhere, channel_here, ports_same}
-use Rattle.do_agreement.proofs.takes.TakesAlike.{class_requeued}
+use Rattle.do_facts.proofs.steps.OthersStay.{class_requeued}
 
 module _ (table : List Class) (act : Acting) (N : Net) (S : State) (agrees : Agrees table N S)
     (kept : LinksAreKept S) (told : ClassesAreTold S) (from to after : ℕ) where

@@ -1,11 +1,8 @@
 -- A loss keeps a network in agreement with the state.
 use Rattle.do_machine.specs.World.{others}
-use Rattle.std.proofs.Common.{◌≡◌, ◌==◌, ◌&&◌, ℕ}
-use Rattle.std.proofs.Common.{zero, suc, Bool, true, false, cond}
-use Rattle.std.proofs.Common.{List, [], ◌∷◌, map, length}
-use Rattle.std.proofs.Common.{refl, sym, ap, ◌∙◌, subst, arith}
-use Rattle.std.specs.Prelude.{Some, if◌then◌else◌, is_some, option_and_then}
-use Rattle.std.specs.Prelude.{option_map}
+use Rattle.std.proofs.Common.{◌≡◌, ◌==◌, ◌&&◌, ℕ, zero, suc, Bool, true, false, cond, List, [], ◌∷◌}
+use Rattle.std.proofs.Common.{map, length, refl, sym, ap, ◌∙◌, subst, arith}
+use Rattle.std.specs.Prelude.{Some, if◌then◌else◌, is_some, option_and_then, option_map}
 use Rattle.std.specs.List.{AllByRecursion, insert}
 use Rattle.std.proofs.lemmas.Bool.{eqb-true}
 use Rattle.do_class.specs.Class.{Class}
@@ -21,13 +18,10 @@ use Rattle.do_network.specs.Step.{with_loss}
 use Rattle.do_network.specs.fits.Counted.{Counted}
 use Rattle.do_network.specs.fits.Notes.{Note, carried, exports_of, names_behind, note_frame}
 use Rattle.do_network.specs.fits.Notes.{returns_of, tells_of, total}
-use Rattle.do_agreement.specs.CountsFit.{ChannelCarries, CountsFit}
-use Rattle.do_agreement.specs.CountsFit.{none_closes}
+use Rattle.do_agreement.specs.CountsFit.{ChannelCarries, CountsFit, none_closes}
 use Rattle.do_agreement.proofs.places.KeyedLists.{found_changed, found_elsewhere}
-use Rattle.do_agreement.proofs.places.PlacesChanged.{ports_same}
-use Rattle.do_agreement.proofs.places.PlacesChanged.{channel_elsewhere, channel_here}
-use Rattle.do_agreement.proofs.places.PlacesChanged.{part_elsewhere}
-use Rattle.do_agreement.proofs.places.PlacesChanged.{part_here}
+use Rattle.do_agreement.proofs.places.PlacesChanged.{ports_same, channel_elsewhere, channel_here}
+use Rattle.do_agreement.proofs.places.PlacesChanged.{part_elsewhere, part_here}
 use Rattle.do_agreement.proofs.places.Numbers.{flipped}
 
 -- the mark of a loss, under way

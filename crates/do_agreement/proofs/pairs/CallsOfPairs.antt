@@ -15,15 +15,13 @@ use Rattle.do_machine.specs.declared.state.State.{State}
 use Rattle.do_machine.specs.State.{is_open}
 use Rattle.do_machine.specs.take.Awaiting.{AnsweredCall, awaits, is_answered}
 use Rattle.do_machine.specs.take.Take.{method_call, root_call}
-use Rattle.do_network.specs.fits.Calls.{OneCall, awaiting, is_begun_for}
-use Rattle.do_network.specs.fits.Calls.{serving}
+use Rattle.do_network.specs.fits.Calls.{OneCall, awaiting, is_begun_for, serving}
 use Rattle.do_network.specs.fits.Notes.{Note, total}
 use Rattle.do_facts.specs.Net.{Net}
 use Rattle.do_facts.specs.Net as nets
 use Rattle.do_facts.specs.View.{net_of, part_seen, wire_seen}
 use Rattle.do_facts.specs.calls.Calls.{Atom, Calls, atoms, calls, calls_of, frame_of, wait_of}
-use Rattle.do_facts.specs.calls.Facts.{CallsAreKept, late_of, on_of}
-use Rattle.do_facts.specs.calls.Facts.{serves_of, waits}
+use Rattle.do_facts.specs.calls.Facts.{CallsAreKept, late_of, on_of, serves_of, waits}
 use Rattle.do_facts.specs.calls.Moves.{is_on, opens}
 use Rattle.do_facts.proofs.calls.CallCounts.{waits_at_most}
 use Rattle.do_agreement.specs.StandBetween.{StandBetween}
@@ -49,9 +47,7 @@ passing_sum test f g alike (x ∷ xs) =
 -- what an invocation of a state waits for
 waits_alike : (k : AnsweredCall) (s : InvState) → awaits k s ≡ is_on k (wait_of s)
 waits_alike k states.Running = refl
-waits_alike k states.Below = refl
-waits_alike k (states.Waits call peer what) = refl
-waits_alike k (states.Answered a) = refl
+waits_alike k _ = refl
 
 -- 1 where a test passes
 abbrev one_if : Bool → ℕ
@@ -69,10 +65,8 @@ begun_alike peer number i = go i.reason
   where
     go : (r : Reason) → one_if (is_begun_for peer number r)
         ≡ serves_of peer number (record { reason = r; wait = wait_of i.state })
-    go reasons.Start = refl
-    go reasons.Local = refl
     go (reasons.Call p k) = both_alike peer number p k
-    go (reasons.Oneway p) = refl
+    go _ = refl
 
 -- a list is what it is mapped to by nothing
 as_it_is : {X : Type 0} (g : X → ℕ) (xs : List X) → nets.total g (map (λ x. x) xs) ≡ nets.total g xs

@@ -1,6 +1,6 @@
 -- Where lends and asks stand between two nodes, as the facts of a state say.
-use Rattle.std.proofs.Common.{◌≡◌, ◌==◌, ◌&&◌, ◌||◌, ◌+◌, ◌≤◌, ℕ, Bool, true, false, List}
-use Rattle.std.proofs.Common.{[], ◌∷◌, refl, sym, ap, ◌∙◌, subst, arith}
+use Rattle.std.proofs.Common.{◌≡◌, ◌==◌, ◌&&◌, ◌||◌, ◌+◌, ◌≤◌, ℕ, Bool, true, false, List, [], ◌∷◌}
+use Rattle.std.proofs.Common.{refl, sym, ap, ◌∙◌, subst, arith}
 use Rattle.std.specs.Prelude.{Some}
 use Rattle.std.specs.List.{list_any}
 use Rattle.std.proofs.lemmas.Bool.Decides.{nat_tests}
@@ -12,13 +12,13 @@ use Rattle.do_machine.specs.Objects.{object_at}
 use Rattle.do_machine.specs.State.{is_open}
 use Rattle.do_machine.specs.lend.Asking.{wanted}
 use Rattle.do_machine.specs.lend.Lending.{is_lend}
-use Rattle.do_network.specs.fits.Lends.{OneAsk, OneLend, is_kept, is_lend_of, lend_out}
-use Rattle.do_network.specs.fits.Lends.{answers_of, settles_of}
+use Rattle.do_network.specs.fits.Lends.{OneAsk, OneLend, is_kept, is_lend_of, lend_out, answers_of}
+use Rattle.do_network.specs.fits.Lends.{settles_of}
 use Rattle.do_network.specs.fits.Notes.{Note, once, tells_of, total}
 use Rattle.do_facts.specs.Net.{Net}
 use Rattle.do_facts.specs.Net as nets
 use Rattle.do_facts.specs.View.{net_of, part_seen, wire_seen}
-use Rattle.do_facts.specs.links.Facts.{answer_of, ask_of, back_of, is_lent_to, told_of, way_of}
+use Rattle.do_facts.specs.links.Facts.{ask_of, is_lent_to, way_of}
 use Rattle.do_facts.specs.links.Facts as facts
 use Rattle.do_facts.specs.links.LinksAreKept.{LinksAreKept}
 use Rattle.do_facts.specs.links.Links.{Atom, Links, atoms, links}
@@ -26,8 +26,7 @@ use Rattle.do_facts.specs.links.Moves.{has_wanted, opens}
 use Rattle.do_agreement.specs.StandBetween.{StandBetween}
 use Rattle.do_agreement.proofs.pairs.NotesAsAtoms.{summed}
 use Rattle.do_agreement.proofs.pairs.LinksOfNotes.{answers_alike, asks_alike, lends_alike}
-use Rattle.do_agreement.proofs.pairs.LinksOfNotes.{settles_alike}
-use Rattle.do_agreement.proofs.pairs.LinksOfNotes.{tells_alike}
+use Rattle.do_agreement.proofs.pairs.LinksOfNotes.{settles_alike, tells_alike}
 use Rattle.do_agreement.proofs.places.Numbers.{same_number}
 
 -- tests that are alike pass alike

@@ -71,15 +71,8 @@ lends_alike to o number x = go x.item
     go (items.Call k m) = omega (arith, names_alike to o number m.packet.names)
     go (items.Oneway m) = omega (arith, names_alike to o number m.packet.names)
     go (items.Reply k p) = names_alike to o number p.names
-    go (items.Raised k e) = refl
-    go (items.RootAsk k) = refl
     go (items.RootAnswer k p) = names_alike to o number p.names
-    go (items.Ask s t) = refl
-    go (items.Granted s t) = refl
-    go (items.Gone s t) = refl
-    go (items.Left s) = refl
-    go (items.Settled k) = refl
-    go (items.End serials) = refl
+    go _ = refl
 
 -- what an item settles
 pub settles_alike : (number : ℕ) (x : Note) →
@@ -99,15 +92,9 @@ settles_alike number x = go x.item
     go (items.Oneway m) =
         omega (arith, none_named (back_of number) none m.packet.names)
     go (items.Reply k p) = none_named (back_of number) none p.names
-    go (items.Raised k e) = refl
-    go (items.RootAsk k) = refl
     go (items.RootAnswer k p) = none_named (back_of number) none p.names
-    go (items.Ask s t) = refl
-    go (items.Granted s t) = refl
-    go (items.Gone s t) = refl
-    go (items.Left s) = refl
     go (items.Settled k) = one_alike number k
-    go (items.End serials) = refl
+    go _ = refl
 
 -- what an item asks for
 pub asks_alike : (serial : ℕ) (token : TokenName) (x : Note) →
@@ -127,15 +114,9 @@ asks_alike serial token x = go x.item
     go (items.Oneway m) =
         omega (arith, none_named (ask_of serial token.lender token.number) none m.packet.names)
     go (items.Reply k p) = none_named (ask_of serial token.lender token.number) none p.names
-    go (items.Raised k e) = refl
-    go (items.RootAsk k) = refl
     go (items.RootAnswer k p) = none_named (ask_of serial token.lender token.number) none p.names
     go (items.Ask s t) = three_alike serial token.lender token.number s t.lender t.number
-    go (items.Granted s t) = refl
-    go (items.Gone s t) = refl
-    go (items.Left s) = refl
-    go (items.Settled k) = refl
-    go (items.End serials) = refl
+    go _ = refl
 
 -- what an item answers
 pub answers_alike : (serial : ℕ) (token : TokenName) (x : Note) →
@@ -156,15 +137,10 @@ answers_alike serial token x = go x.item
     go (items.Oneway m) =
         omega (arith, none_named (answer_of serial token.lender token.number) none m.packet.names)
     go (items.Reply k p) = none_named (answer_of serial token.lender token.number) none p.names
-    go (items.Raised k e) = refl
-    go (items.RootAsk k) = refl
     go (items.RootAnswer k p) = none_named (answer_of serial token.lender token.number) none p.names
-    go (items.Ask s t) = refl
     go (items.Granted s t) = three_alike serial token.lender token.number s t.lender t.number
     go (items.Gone s t) = three_alike serial token.lender token.number s t.lender t.number
-    go (items.Left s) = refl
-    go (items.Settled k) = refl
-    go (items.End serials) = refl
+    go _ = refl
 
 -- what an end tells
 pub tells_alike : (serial : ℕ) (x : Note) →
@@ -184,12 +160,6 @@ tells_alike serial x = go x.item
     go (items.Oneway m) =
         omega (arith, none_named (told_of serial) none m.packet.names)
     go (items.Reply k p) = none_named (told_of serial) none p.names
-    go (items.Raised k e) = refl
-    go (items.RootAsk k) = refl
     go (items.RootAnswer k p) = none_named (told_of serial) none p.names
-    go (items.Ask s t) = refl
-    go (items.Granted s t) = refl
-    go (items.Gone s t) = refl
-    go (items.Left s) = refl
-    go (items.Settled k) = refl
     go (items.End serials) = test_alike (list_any (λ r. r == serial) serials)
+    go _ = refl

@@ -1,7 +1,6 @@
 -- What a node counts tells which entries its peers have, in a network whose counts fit.
-use Rattle.std.proofs.Common.{◌≡◌, ◌+◌, ◌<◌, ◌||◌, ◌&&◌}
-use Rattle.std.proofs.Common.{ℕ, Bool, true, false, List, map, refl}
-use Rattle.std.proofs.Common.{ap, sym, ◌∙◌, arith}
+use Rattle.std.proofs.Common.{◌≡◌, ◌+◌, ◌<◌, ◌||◌, ◌&&◌, ℕ, Bool, true, false, List, map, refl, ap}
+use Rattle.std.proofs.Common.{sym, ◌∙◌, arith}
 use Rattle.std.specs.Prelude.{Option, Some, nat_lt}
 use Rattle.std.specs.List.{AllByRecursion, list_any}
 use Rattle.do_base.specs.names.Names.{ObjectName}

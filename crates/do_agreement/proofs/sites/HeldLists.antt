@@ -119,8 +119,7 @@ second false b p = absurd p
 -- what comes before
 less : (r : Ordering) → T (is_lt r) → r ≡ Less
 less Less p = refl
-less Equal p = absurd p
-less Greater p = absurd p
+less _ p = absurd p
 
 module _ {V : Type 0} (k : ℕ × ℕ) (v : V) where
   -- a key below all keys is not found

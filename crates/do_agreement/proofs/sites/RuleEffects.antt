@@ -1,11 +1,8 @@
 -- What is known of the effects of a step.
 use Rattle.std.proofs.Common.{◌≡◌, ◌==◌, ℕ, Bool, true, false}
-use Rattle.std.proofs.Common.{List, [], ◌∷◌, filter, not, refl, sym}
-use Rattle.std.proofs.Common.{ap, ◌∙◌, subst}
-use Rattle.std.specs.Prelude.{None, Option, Some, unwrap_or}
+use Rattle.std.proofs.Common.{List, [], ◌∷◌, filter, not, refl, sym, ap, ◌∙◌, subst}
 use Rattle.do_base.specs.declared.events.event.Event.{Event}
-use Rattle.do_base.specs.declared.events.event.Event.TheVariants.{Check, Close, Lose, Run, Start}
-use Rattle.do_base.specs.declared.events.event.Event.TheVariants.{Take, Timeout}
+use Rattle.do_base.specs.declared.events.event.Event.TheVariants.{Close, Run, Start, Timeout}
 use Rattle.do_base.specs.names.Names.{ObjectName}
 use Rattle.do_class.specs.Class.{Class}
 use Rattle.do_packet.specs.Met.{has_object}
@@ -14,29 +11,28 @@ use Rattle.do_machine.specs.declared.item.Item.TheVariants as items
 use Rattle.do_machine.specs.declared.node.Node.{Node}
 use Rattle.do_machine.specs.declared.state.Effect.{Effect}
 use Rattle.do_machine.specs.declared.state.State.{State}
-use Rattle.do_machine.specs.Context.{Context, context}
+use Rattle.do_machine.specs.Context.{Context}
 use Rattle.do_machine.specs.Items.{exported}
-use Rattle.do_machine.specs.Start.{start_effect}
 use Rattle.do_machine.specs.State.{is_open}
 use Rattle.do_machine.specs.ends.Closing.{asked_of, closing, parted}
-use Rattle.do_machine.specs.ends.TimeOut.{time_out}
 use Rattle.do_machine.specs.held.Kept.{kept}
 use Rattle.do_machine.specs.held.Leaving.{freeing, leaving}
 use Rattle.do_machine.specs.held.Refers.{node_objects}
 use Rattle.do_facts.specs.laws.Follows.{Grows, HoldsOpen}
-use Rattle.do_machine.specs.run.Run.{Acting, run_effect}
+use Rattle.do_machine.specs.run.Run.{Acting}
 use Rattle.do_machine.specs.take.Take.{arrival, holding, take_effect}
 use Rattle.do_facts.proofs.machine.follows.Follows.{by_leaving}
-use Rattle.do_facts.proofs.machine.follows.Steady.{by_take, is_end}
+use Rattle.do_facts.proofs.machine.follows.Steady.{is_end}
 use Rattle.do_facts.proofs.machine.follows.Steps.{rule_grows}
 use Rattle.do_facts.proofs.machine.passing.Quiet.{Quiet, arrival_quiet, rule_quiet}
 use Rattle.do_facts.specs.links.Links.{links_of}
 use Rattle.do_facts.specs.links.Sound.{IsSound}
 use Rattle.do_facts.specs.steps.IsStep.{IsRuleOf}
-use Rattle.do_facts.proofs.links.ClosingIsMoves.{settlings_stay}
 use Rattle.do_agreement.specs.Accounted.{AccountsFor}
 use Rattle.do_agreement.specs.IsEffectOf.{IsEffectOf, Thins}
 use Rattle.do_agreement.proofs.counts.RulesAccount.{leaving_accounts, rule_accounts, take_accounts}
+use Rattle.do_facts.proofs.walk.SmallEffects.{settled_node}
+use Rattle.do_facts.proofs.machine.follows.SteadyTakes.{by_take}
 
 -- all pass
 all_pass : (os : List ObjectName) → os ≡ filter (λ o. true) os
@@ -51,7 +47,7 @@ quiet_thins n e quiet = record { test = λ o. true; held = quiet.held ∙ all_pa
 closing_thins : (peer : ℕ) (n : Node) → Thins n (closing peer n)
 closing_thins peer n = record {
   test = λ o. not (o.node == peer);
-  held = ap (λ (m : Node). m.held) (settlings_stay (parted peer n) (asked_of peer n));
+  held = ap (λ (m : Node). m.held) (settled_node (asked_of peer n) (parted peer n));
 }
 
 -- what a node leaves held after a step
@@ -96,9 +92,7 @@ rule_effect table act S (Timeout port) n e ok holds rule =
     (rule_grows table act S (Timeout port) n e rule)
     (quiet_thins n e (rule_quiet table act S (Timeout port) n e rule refl))
     (rule_accounts table act S (Timeout port) n e ok rule)
-rule_effect table act S (Take port from) n e ok holds rule = absurd rule
-rule_effect table act S (Lose from to k) n e ok holds rule = absurd rule
-rule_effect table act S Check n e ok holds rule = absurd rule
+rule_effect table act S _ n e ok holds rule = absurd rule
 
 -- what a node frees and leaves after a step
 pub leaving_effect : (n : Node) (entry : ℕ → ℕ → Bool) → IsSound (links_of n) → HoldsOpen n →
@@ -124,21 +118,10 @@ take_thins c from item = go item
         record { test = thin.test; held = thin.held }
 
     go : (x : Item) → Thins (holder x) (take_effect c from x)
-    go (items.Call k m) = quiet (items.Call k m) refl
-    go (items.Oneway m) = quiet (items.Oneway m) refl
-    go (items.Reply k p) = quiet (items.Reply k p) refl
-    go (items.Raised k e) = quiet (items.Raised k e) refl
-    go (items.RootAsk k) = quiet (items.RootAsk k) refl
-    go (items.RootAnswer k p) =
-        quiet (items.RootAnswer k p) refl
-    go (items.Ask s t) = quiet (items.Ask s t) refl
-    go (items.Granted s t) = quiet (items.Granted s t) refl
-    go (items.Gone s t) = quiet (items.Gone s t) refl
-    go (items.Left s) = quiet (items.Left s) refl
-    go (items.Settled k) = quiet (items.Settled k) refl
     go (items.End serials) =
         let thin = closing_thins from (holder (items.End serials)) in
         record { test = thin.test; held = thin.held }
+    go x = quiet x refl
 
 -- the effect of a take, of the node with the item in hand
 pub take_is_effect : (c : Context) (from : ℕ) (item : Item) → is_open c.node from ≡ true →

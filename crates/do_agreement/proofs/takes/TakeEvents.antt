@@ -1,10 +1,9 @@
 -- A take keeps a network in agreement with the state.
-use Rattle.std.proofs.Common.{◌≡◌, ◌==◌, ◌&&◌, ◌||◌, ℕ, Bool, true, false, List, [], ◌∷◌}
-use Rattle.std.proofs.Common.{map}
+use Rattle.std.proofs.Common.{◌≡◌, ◌==◌, ◌&&◌, ◌||◌, ℕ, Bool, true, false, List, [], ◌∷◌, map, refl}
+use Rattle.std.proofs.Common.{sym, ap, ◌∙◌, arith}
 use Rattle.do_packet.specs.Met.{same_object}
 use Rattle.do_machine.specs.declared.node.Wanted.{Wanted}
 use Rattle.do_machine.specs.lend.Asking.{same_wanted, wanted}
-use Rattle.std.proofs.Common.{refl, sym, ap, ◌∙◌, arith}
 use Rattle.std.specs.Prelude.{None, Some, option_map}
 use Rattle.std.specs.List.{AllByRecursion, list_any}
 use Rattle.std.proofs.lemmas.Bool.Decides.{nat_tests}
@@ -23,8 +22,7 @@ use Rattle.do_machine.specs.Commit.{moved}
 use Rattle.do_machine.specs.Context.{Context, Surroundings, around, context}
 use Rattle.do_machine.specs.Entry.{has_entry}
 use Rattle.do_machine.specs.Objects.{object_at}
-use Rattle.do_machine.specs.State.{class_of, holds}
-use Rattle.do_machine.specs.State.{is_known, is_open, queue}
+use Rattle.do_machine.specs.State.{class_of, holds, is_known, is_open, queue}
 use Rattle.do_machine.specs.run.Run.{Acting}
 use Rattle.do_machine.specs.take.Take.{can_take, take_effect}
 use Rattle.do_network.specs.declared.fault.PeerFault.{PeerFault}
@@ -37,8 +35,7 @@ use Rattle.do_network.specs.Net.{Net, Place, part_at, place_at}
 use Rattle.do_network.specs.Own.{class_kept, counted_around, is_counted}
 use Rattle.do_network.specs.Site.{handled, moves, released_by, site_move}
 use Rattle.do_network.specs.Spelled.{SentSpelled}
-use Rattle.do_network.specs.Step.{NetStepped, net_moved}
-use Rattle.do_network.specs.Step.{place_after}
+use Rattle.do_network.specs.Step.{NetStepped, net_moved, place_after}
 use Rattle.do_network.specs.fits.Fits.{Fits}
 use Rattle.do_network.specs.fits.Notes.{Note, note_frame}
 use Rattle.do_network.proofs.NoFault.{fits_faultless}
@@ -48,7 +45,7 @@ use Rattle.do_facts.specs.links.Links.{atoms}
 use Rattle.do_facts.specs.links.LinksAreKept.{LinksAreKept}
 use Rattle.do_facts.specs.steps.IsStep.{IsStep, Takes, without_oldest}
 use Rattle.do_facts.proofs.links.Bridge.{link_bridge}
-use Rattle.do_facts.proofs.steps.OthersStay.{class_stays}
+use Rattle.do_facts.proofs.steps.OthersStay.{class_stays, class_requeued}
 use Rattle.do_agreement.specs.Agrees.{Agrees, StepAgrees}
 use Rattle.do_agreement.specs.Classed.{ClassesAreTold}
 use Rattle.do_agreement.specs.InHand.{in_hand, taken_by}
@@ -61,15 +58,13 @@ use Rattle.do_agreement.proofs.classes.KnownAfter.{GrantedIs, item_such, known_a
 use Rattle.do_agreement.proofs.acts.ActsAgree.{known_some, left_known, node_is}
 use Rattle.do_agreement.proofs.agreement.AgreesFits.{fits_so, same_way}
 use Rattle.do_agreement.proofs.commits.EntriesJudged.{counts_judge}
-use Rattle.do_agreement.proofs.hands.HandFits.{front}
-use Rattle.do_agreement.proofs.hands.HandFits.{hand_fits, other, parts_still}
-use Rattle.do_agreement.proofs.hands.HandFits.{there_still, way}
+use Rattle.do_agreement.proofs.hands.HandFits.{front, hand_fits, other, parts_still, there_still}
+use Rattle.do_agreement.proofs.hands.HandFits.{way}
 use Rattle.do_agreement.proofs.hands.HandShows.{hand_shows}
 use Rattle.do_agreement.proofs.places.PlacesChanged.{by_part}
 use Rattle.do_agreement.proofs.acts.StepTallies.{hand_there, sound_after, sound_here, take_outcome}
 use Rattle.do_agreement.proofs.acts.StepTallies.{take_tallies}
-use Rattle.do_agreement.proofs.takes.TakesAlike.{around_alike, class_requeued}
-use Rattle.do_agreement.proofs.takes.TakesAlike.{site_effect, take_alike}
+use Rattle.do_agreement.proofs.takes.TakesAlike.{around_alike, site_effect, take_alike}
 use Rattle.do_agreement.proofs.places.Numbers.{flipped}
 
 -- what an ask is of is known
@@ -225,18 +220,8 @@ module _ (table : List Class) (t : IsTable table) (act : Acting) (N : Net) (S : 
       go : (item : Item) → peer_fault p.own from (frame_of x.amount item) ≡ None →
           GrantedIs (IsClassed S (in_hand from x p.own).classes) from
           (item_of (frame_of x.amount item))
-      go (items.Call k m) e = tt
-      go (items.Oneway m) e = tt
-      go (items.Reply k q) e = tt
-      go (items.Raised k q) e = tt
-      go (items.RootAsk k) e = tt
-      go (items.RootAnswer k q) e = tt
-      go (items.Ask s k) e = tt
       go (items.Granted s k) e = known s k.lender k.number (no_fault _ _ e)
-      go (items.Gone s k) e = tt
-      go (items.Left s) e = tt
-      go (items.Settled k) e = tt
-      go (items.End serials) e = tt
+      go _ e = tt
 
   -- what the network does
   abbrev does : NetStepped

@@ -1,17 +1,13 @@
 -- The event of a take keeps a network in agreement with the state.
 use Rattle.std.proofs.Common.{◌≡◌, ◌==◌, ◌&&◌, ℕ, Bool, true, false, cond, not, List, [], ◌∷◌, map}
 use Rattle.std.proofs.Common.{refl, sym, ap, ◌∙◌, drop, subst}
-use Rattle.std.specs.Prelude.{None, Ok, Option, Some, is_some, option_map, slice_get, unwrap_or}
-use Rattle.std.specs.List.{AllByRecursion}
+use Rattle.std.specs.Prelude.{None, Option, Some, is_some, option_map, slice_get, unwrap_or}
 use Rattle.std.proofs.lemmas.Bool.{eqb-true}
 use Rattle.do_base.specs.declared.events.event.Event.TheVariants.{Take}
 use Rattle.do_class.specs.Class.{Class}
 use Rattle.do_class.specs.Table.{IsTable}
-use Rattle.do_coder.specs.Packets.{surroundings}
 use Rattle.do_coder.specs.declared.recent.pair.Pair.{Pair}
-use Rattle.do_frames.specs.Frames.{IsFrame, after_frame, raw}
 use Rattle.do_machine.specs.declared.item.Item.{Item}
-use Rattle.do_machine.specs.declared.item.Item.TheVariants.{End}
 use Rattle.do_machine.specs.declared.node.Node.{Node}
 use Rattle.do_machine.specs.declared.state.State.{State}
 use Rattle.do_machine.specs.declared.state.Stepped.{Stepped}
@@ -22,16 +18,14 @@ use Rattle.do_machine.specs.Step.{step}
 use Rattle.do_machine.specs.run.Run.{Acting}
 use Rattle.do_machine.specs.take.Take.{can_serve, can_take, take_effect}
 use Rattle.do_network.specs.declared.input.Done.TheVariants as dones
-use Rattle.do_network.specs.Frames.{item_of, read_frame}
-use Rattle.do_network.specs.Links.{Link, Part, names_read}
-use Rattle.do_network.specs.Net.{Carried, Channel, Lost, Net, Place, Whole, channel, part_at}
-use Rattle.do_network.specs.Net.{place_at}
+use Rattle.do_network.specs.Frames.{item_of}
+use Rattle.do_network.specs.Links.{Part}
+use Rattle.do_network.specs.Net.{Carried, Channel, Net, Place, channel, part_at, place_at}
 use Rattle.do_network.specs.Own.{counted_around}
 use Rattle.do_network.specs.Site.{enabled_input, handled, moves, released_by, site_move}
 use Rattle.do_network.specs.Spelled.{SendsSpelled, SentSpelled}
 use Rattle.do_network.specs.Step.{NetStepped, hands, input_of, net_moved, net_skipped, net_step}
 use Rattle.do_network.specs.fits.Notes.{Note, carried, note_frame}
-use Rattle.do_network.proofs.FramesRead.{read_back}
 use Rattle.do_facts.specs.calls.Facts.{CallsAreKept}
 use Rattle.do_facts.specs.links.LinksAreKept.{LinksAreKept}
 use Rattle.do_agreement.specs.Agrees.{Agrees, StepAgrees}
@@ -42,9 +36,9 @@ use Rattle.do_agreement.specs.NetInHand.{carried_as, net_without, part_in_hand}
 use Rattle.do_agreement.proofs.counts.MovesAccount.{apart}
 use Rattle.do_agreement.proofs.acts.ActsAgree.{node_is, skip_agrees}
 use Rattle.do_agreement.proofs.hands.HandFits.{there_still, way}
-use Rattle.do_agreement.proofs.takes.TakeEvents.{faultless, names, one_effect, port_is, site_is}
-use Rattle.do_agreement.proofs.takes.TakeEvents.{take_agrees, waits}
-use Rattle.do_agreement.proofs.takes.TakesAlike.{frame_done, hand_done, mark_done}
+use Rattle.do_agreement.proofs.takes.TakeEvents.{names, one_effect, site_is, take_agrees, waits}
+use Rattle.do_agreement.proofs.takes.TakesAlike.{hand_done}
+use Rattle.do_agreement.proofs.takes.TakenFrame.{input_done, stands_first}
 
 module _ (table : List Class) (t : IsTable table) (act : Acting) (N : Net) (S : State)
     (agrees : Agrees table N S) (kept : LinksAreKept S) (calls : CallsAreKept S)
@@ -117,47 +111,16 @@ module _ (table : List Class) (t : IsTable table) (act : Acting) (N : Net) (S : 
       -- the item stands first in the channel
       waiting : (rest : List Carried)
           × (here_way.between.waiting ≡ carried_as front x ∷ rest)
-      waiting = go x.lost (here_way.carries.waiting ∙ ap (carried front) first)
-        where
-          go : (b : Bool) → here_way.between.waiting
-              ≡ cond b (Lost ∷ carried front xs)
-              (Whole (raw front (note_frame x)) ∷ carried (after_frame front (note_frame x)) xs) →
-              (rest : List Carried)
-              × (here_way.between.waiting ≡ cond b Lost (Whole (raw front (note_frame x))) ∷ rest)
-          go true e = (carried front xs, e)
-          go false e = (carried (after_frame front (note_frame x)) xs, e)
-
-      -- the frame is read
-      reads : read_frame table from p.own.node.port (names_read p from)
-          (raw front (note_frame x)) ≡ Ok (note_frame x)
-      reads =
-          ap (λ k. read_frame table from k (names_read p from) (raw front (note_frame x)))
-          (port_is table t act N S agrees kept calls told port from pl pf there sender can here x
-          xs first)
-          ∙ ap (λ k. read_frame table from port k (raw front (note_frame x)))
-          (ap (λ o. unwrap_or (option_map (λ (l : Link). l.read) o) []) here_way.reads
-          ∙ sym (here_way.carries.tables.read refl))
-          ∙ read_back table t from port front here_way.carries.tables.recent
-          here_way.carries.tables.known (note_frame x)
-          (subst (AllByRecursion (λ y. IsFrame (surroundings table from port) (note_frame y))) first
-          here_way.carries.spelled).0
+      waiting =
+          stands_first table t act N S agrees kept calls told port from pl pf there sender can here
+          x xs first
 
       -- what the input does
       done : enabled_input table act p (input_of from (carried_as front x))
           ≡ Some (hand_done table act p from can x)
-      done = go x.lost refl
-        where
-          go : (b : Bool) → x.lost ≡ b →
-              enabled_input table act p (input_of from (carried_as front x))
-              ≡ Some (hand_done table act p from can x)
-          go true e =
-              mark_done table act p from can front x e
-              ((subst (AllByRecursion (λ y. y.lost ≡ true → y.item ≡ End [])) first
-              here_way.marks.lost).0 e)
-          go false e =
-              frame_done table act p from can t front x e reads
-              (faultless table t act N S agrees kept calls told port from pl pf there sender can
-              here x xs first)
+      done =
+          input_done table t act N S agrees kept calls told port from pl pf there sender can here x
+          xs first
 
       -- what the site sends for the item has a spelling
       sent_spelled : SentSpelled table (hand_done table act p from can x)

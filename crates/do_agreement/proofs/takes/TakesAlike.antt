@@ -1,7 +1,7 @@
 -- A site that takes an item is judged as the machine's node, and does what its input says.
-use Rattle.std.proofs.Common.{◌≡◌, ◌==◌, ◌&&◌, ℕ, Bool, true, false, cond, not, List, [], ◌∷◌}
-use Rattle.std.proofs.Common.{refl, sym, ap, ◌∙◌, arith}
-use Rattle.std.specs.Prelude.{None, Ok, Some, find, is_some, nat_lt, option_and_then}
+use Rattle.std.proofs.Common.{◌≡◌, ◌&&◌, ℕ, Bool, true, false, cond, not, List, []}
+use Rattle.std.proofs.Common.{refl, sym, ap, ◌∙◌}
+use Rattle.std.specs.Prelude.{None, Ok, Some, is_some, nat_lt}
 use Rattle.std.specs.FinMap as map_of
 use mathlib.Core.Path.{fun_ext}
 use Rattle.do_base.specs.declared.events.shown.Shown.TheVariants as shows
@@ -16,13 +16,11 @@ use Rattle.do_machine.specs.declared.item.Item.{Item}
 use Rattle.do_machine.specs.declared.item.Item.TheVariants as items
 use Rattle.do_machine.specs.declared.node.Node.{Node}
 use Rattle.do_machine.specs.declared.state.State.{State}
-use Rattle.do_machine.specs.declared.state.Station.{Station}
 use Rattle.do_machine.specs.Context.{Surroundings, around}
 use Rattle.do_machine.specs.Effect.{showing, ◌>>=◌}
 use Rattle.do_machine.specs.Entry.{has_entry}
-use Rattle.do_machine.specs.Lists.{change_first}
 use Rattle.do_machine.specs.Objects.{object_at}
-use Rattle.do_machine.specs.State.{class_given, class_of, is_known, is_open, with_queue}
+use Rattle.do_machine.specs.State.{class_of, is_known, is_open}
 use Rattle.do_machine.specs.ends.Closing.{closing}
 use Rattle.do_machine.specs.run.Run.{Acting}
 use Rattle.do_machine.specs.take.Lines.{item_line}
@@ -62,30 +60,10 @@ take_alike table A B n from amount item same = go item same
         take_effect (record { table = table; around = A; node = n }) from
         (item_of (frame_of amount x))
         ≡ take_effect (record { table = table; around = B; node = n }) from x
-    go (items.Call k m) e = by (items.Call k m) (e refl)
-    go (items.Oneway m) e = by (items.Oneway m) (e refl)
-    go (items.Reply k p) e = by (items.Reply k p) (e refl)
-    go (items.Raised k x) e = by (items.Raised k x) (e refl)
-    go (items.RootAsk k) e = by (items.RootAsk k) (e refl)
-    go (items.RootAnswer k p) e = by (items.RootAnswer k p) (e refl)
-    go (items.Ask s t) e = by (items.Ask s t) (e refl)
-    go (items.Granted s t) e = by (items.Granted s t) (e refl)
-    go (items.Gone s t) e = by (items.Gone s t) (e refl)
-    go (items.Left s) e = by (items.Left s) (e refl)
-    go (items.Settled k) e = by (items.Settled k) (e refl)
     go (items.End serials) e =
         ap (λ os. showing (shows.Took (item_line from n.port (items.End serials))) n
         >>= (λ m. closing from (holding os m))) (sym (end_exports n.port serials))
-
--- other items in a queue change no class
-pub class_requeued : (from to : ℕ) (waiting : List Item) (o : ObjectName) (ss : List Station) →
-    option_and_then (λ s. class_given s.classes o.serial)
-    (find (λ s. o.node == s.port)
-    (change_first (λ s. from == s.port) (with_queue to waiting) ss))
-    ≡ option_and_then (λ s. class_given s.classes o.serial) (find (λ s. o.node == s.port) ss)
-class_requeued from to waiting o [] = refl
-class_requeued from to waiting o (s ∷ ss) =
-    grind (arith, class_requeued from to waiting o ss)
+    go x e = by x (e refl)
 
 -- ---- what a take is judged by
 

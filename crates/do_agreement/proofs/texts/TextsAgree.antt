@@ -1,15 +1,14 @@
 -- What is written of a network, but for what was sent, is what is written of the machine.
 use Rattle.std.proofs.Common.{◌≡◌, ◌==◌, ◌||◌, ℕ, List, [], ◌∷◌, ◌++◌, map, Some, refl, ap, sym}
-use Rattle.std.proofs.Common.{◌∙◌, subst, arith}
-use Rattle.std.specs.List.{IsDistinct, flat_map}
+use Rattle.std.proofs.Common.{subst, arith}
+use Rattle.std.specs.List.{IsDistinct}
 use Rattle.std.proofs.lemmas.Bool.Decides.{Decides-eqb}
-use Rattle.std.proofs.lemmas.List.{append-nil}
 use Rattle.std.proofs.lemmas.List.Kept.{AllPairs-from_increasing}
 use Rattle.std.proofs.lemmas.Map.Made.{IsDistinct-from_AllPairs}
 use Rattle.do_base.specs.declared.events.event.Event.{Event}
 use Rattle.do_class.specs.Class.{Class}
 use Rattle.do_class.specs.Table.{IsTable}
-use Rattle.do_lines.specs.Transcript.{block_lines, first_line, last_line, transcript}
+use Rattle.do_lines.specs.Transcript.{transcript}
 use Rattle.do_machine.specs.declared.state.Seat.{Seat}
 use Rattle.do_machine.specs.declared.state.State.{State}
 use Rattle.do_machine.specs.declared.state.Stepped.{Stepped}
@@ -25,8 +24,7 @@ use Rattle.do_sched.specs.declared.line.Line.TheVariants as lines
 use Rattle.do_network.specs.Net.{Net, net_opening}
 use Rattle.do_network.specs.Spelled.{SendsSpelled}
 use Rattle.do_network.specs.Step.{NetStepped, net_skipped, net_step}
-use Rattle.do_network.specs.Wired.{WiredBlock, net_blocks, net_listed_at, net_steps}
-use Rattle.do_network.specs.Wired.{wired, wired_lines}
+use Rattle.do_network.specs.Wired.{WiredBlock, net_blocks, net_listed_at, net_steps, wired}
 use Rattle.do_agreement.specs.Along.{EventsSendSpelled, LinesSendSpelled}
 use Rattle.do_agreement.specs.HasWires.{HasWires}
 use Rattle.do_agreement.proofs.agreement.GoesOn.{Goes, goes_on, opening_goes}
@@ -71,14 +69,9 @@ module _ (table : List Class) (t : IsTable table) (act : Acting) where
   -- what a line lists is the same
   listed_alike : (N : Net) (S : State) → Apart N S → (line : Line) →
       net_listed_at N line ≡ listed_at S line
-  listed_alike N S g (lines.Start port selector values) = refl
-  listed_alike N S g (lines.Run port count) = refl
-  listed_alike N S g (lines.Take port from) = refl
-  listed_alike N S g (lines.Close port peer) = refl
-  listed_alike N S g (lines.Lose from to after) = refl
-  listed_alike N S g (lines.Timeout port) = refl
   listed_alike N S g lines.Check =
       ap (λ x. Some x) (snapshots_same table N S g.goes.agrees g.distinct)
+  listed_alike N S g _ = refl
 
   -- lines come to the same blocks, but for what was sent
   same_blocks : (ls : List Line) (N : Net) (S : State) → Apart N S →

@@ -35,6 +35,7 @@ use Rattle.do_agreement.proofs.classes.KnownAfter.{TakenAre, known_after}
 use Rattle.do_agreement.proofs.places.PlacesChanged.{some_is}
 use Rattle.do_agreement.proofs.told.HeapsGrow.{Grown}
 use Rattle.do_agreement.proofs.told.StationsFit.{IsGiven, StationsFit, found_given, stations_after}
+use Rattle.do_facts.proofs.EachOfLists.{each_joined, each_weaker}
 
 -- The stations of a state fit, and it tells classes
 pub record ClassesKept (S : State) : Type 0 where
@@ -106,22 +107,23 @@ module _ (T : State) (keeps : ClassesKept T) (port : ℕ) (n : Node) (here : nod
     -- what was told is told
     told_still : (ys : List Classed) → AllByRecursion (λ y. class_of T y.object ≡ Some y.class) ys →
         AllByRecursion (λ y. class_of U y.object ≡ Some y.class) ys
-    told_still [] all = tt
-    told_still (y ∷ ys) all = (still y.object y.class all.0, told_still ys all.1)
+    told_still =
+        each_weaker (λ y. class_of T y.object ≡ Some y.class)
+        (λ y. class_of U y.object ≡ Some y.class) (λ y. still y.object y.class)
 
     -- so are all
     items_still : (from : ℕ) (xs : List Item) → AllByRecursion (IsToldIn T from) xs →
         AllByRecursion (IsToldIn U from) xs
-    items_still from [] all = tt
-    items_still from (x ∷ xs) all =
-        (told_still (item_classes from x) all.0, items_still from xs all.1)
+    items_still from =
+        each_weaker (IsToldIn T from) (IsToldIn U from)
+        (λ x. told_still (item_classes from x))
 
     -- what the node tells is the class
     seen_told : (ys : List Classed) → AllByRecursion (TellsSeen c) ys →
         AllByRecursion (λ y. class_of U y.object ≡ Some y.class) ys
-    seen_told [] all = tt
-    seen_told (y ∷ ys) all =
-        (still y.object y.class (right y.object y.class all.0), seen_told ys all.1)
+    seen_told =
+        each_weaker (TellsSeen c) (λ y. class_of U y.object ≡ Some y.class)
+        (λ y h. still y.object y.class (right y.object y.class h))
 
     -- so it is of all that it sends to a peer
     sent_told : (m : ℕ) (ps : List Parcel) → AreTold c ps →
@@ -142,12 +144,6 @@ module _ (T : State) (keeps : ClassesKept T) (port : ℕ) (n : Node) (here : nod
         )
         go false rest = rest
 
-    -- all of both
-    all_both : {X : Type 0} (P : X → Type 0) (xs ys : List X) → AllByRecursion P xs →
-        AllByRecursion P ys → AllByRecursion P (xs ++ ys)
-    all_both P [] ys a b = b
-    all_both P (x ∷ xs) ys a b = (a.0, all_both P xs ys a.1 b)
-
     -- a queue of the node
     own_told : (m : ℕ) (found : Option (List Item)) → queue T port m ≡ found → (xs : List Item) →
         queue U port m ≡ Some xs → AllByRecursion (IsToldIn U port) xs
@@ -158,7 +154,7 @@ module _ (T : State) (keeps : ClassesKept T) (port : ℕ) (n : Node) (here : nod
     own_told m (Some w) k xs h =
         subst (AllByRecursion (IsToldIn U port))
         (some_is (w ++ items_to m e.sent) xs (sym (grows_behind port m e T.stations w k) ∙ h))
-        (all_both (IsToldIn U port) w (items_to m e.sent)
+        (each_joined (IsToldIn U port) w (items_to m e.sent)
         (items_still port w (keeps.told.told port m w k)) (sent_told m e.sent told))
 
     -- a queue

@@ -1,14 +1,12 @@
 -- Classes are kept by every step, and in every state that a machine comes to.
 use Rattle.std.proofs.Common.{◌≡◌, ◌==◌, ◌+◌, ◌<◌, ◌≢◌, ℕ, Bool, true, false, List, []}
-use Rattle.std.proofs.Common.{◌∷◌, zero, suc, refl, sym, ap, ◌∙◌, subst, arith}
+use Rattle.std.proofs.Common.{◌∷◌, refl, sym, ap, ◌∙◌, subst, arith}
 use Rattle.std.specs.Prelude.{None, Option, Some, is_some, option_map}
-use Rattle.std.specs.Prelude.{unwrap_or}
 use Rattle.std.specs.List.{AllByRecursion, insert}
 use Rattle.std.proofs.lemmas.Bool.{eqb-true}
 use Rattle.std.proofs.lemmas.Bool.Decides.{nat_tests}
 use Rattle.do_base.specs.declared.events.event.Event.{Event}
-use Rattle.do_base.specs.declared.events.event.Event.TheVariants.{Check, Close, Lose, Run, Start}
-use Rattle.do_base.specs.declared.events.event.Event.TheVariants.{Take, Timeout}
+use Rattle.do_base.specs.declared.events.event.Event.TheVariants.{Close, Run, Start, Timeout}
 use Rattle.do_base.specs.names.Names.{ObjectName, TokenName}
 use Rattle.do_class.specs.Class.{Class}
 use Rattle.do_class.specs.declared.ids.ClassId.{ClassId}
@@ -32,7 +30,6 @@ use Rattle.do_machine.specs.held.Leaving.{leaving}
 use Rattle.do_machine.specs.run.Run.{Acting, run_effect}
 use Rattle.do_machine.specs.take.Take.{take_effect}
 use Rattle.do_facts.proofs.machine.follows.States.{changed, requeued}
-use Rattle.do_facts.proofs.machine.follows.Steady.{by_take}
 use Rattle.do_facts.proofs.machine.passing.Lookups.{elsewhere_stays, other_stays, that_changed}
 use Rattle.do_network.specs.Counting.{Classed, item_classes}
 use Rattle.do_facts.specs.Net.{Note, noted}
@@ -56,14 +53,17 @@ use Rattle.do_agreement.proofs.places.KeyedLists.{found_changed, found_elsewhere
 use Rattle.do_agreement.proofs.places.PlacesChanged.{some_is}
 use Rattle.do_agreement.proofs.sites.RuleEffects.{rule_effect}
 use Rattle.do_agreement.proofs.takes.TakeEvents.{asked_known}
-use Rattle.do_agreement.proofs.takes.TakesAlike.{class_requeued}
 use Rattle.do_agreement.proofs.told.ClassesKept.{ClassesKept, HasClass, IsToldIn, commit_keeps}
 use Rattle.do_agreement.proofs.told.ClassesKept.{seen_right}
-use Rattle.do_agreement.proofs.told.HeapsGrow.{Grown, GrownIf, closing_grown, leaving_grown}
+use Rattle.do_agreement.proofs.told.HeapsGrow.{Grown, closing_grown, leaving_grown}
 use Rattle.do_agreement.proofs.told.HeapsGrow.{run_grown, start_grown, take_grown, time_out_grown}
 use Rattle.do_agreement.proofs.told.RulesTold.{rule_told}
 use Rattle.do_agreement.proofs.told.StationsFit.{IsGiven, StationFits, StationsFit}
 use Rattle.do_agreement.proofs.told.TakesTold.{leaving_told, take_told}
+use Rattle.do_facts.proofs.EachOfLists.{each_inserted, each_weaker}
+use Rattle.do_facts.proofs.steps.OthersStay.{class_requeued}
+use Rattle.do_facts.proofs.machine.follows.SteadyTakes.{by_take}
+use Rattle.do_facts.proofs.walk.Possible.{there}
 
 -- ---- other items in a queue
 
@@ -103,14 +103,15 @@ module _ (S : State) (keeps : ClassesKept S) (from to : ℕ) (xs w : List Item)
   -- what was told is told
   told_there : (ys : List Classed) → AllByRecursion (λ y. class_of S y.object ≡ Some y.class) ys →
       AllByRecursion (λ y. class_of T y.object ≡ Some y.class) ys
-  told_there [] all = tt
-  told_there (y ∷ ys) all = (same_class y.object ∙ all.0, told_there ys all.1)
+  told_there =
+      each_weaker (λ y. class_of S y.object ≡ Some y.class)
+      (λ y. class_of T y.object ≡ Some y.class) (λ y h. same_class y.object ∙ h)
 
   -- by all items
   items_there : (a : ℕ) (zs : List Item) → AllByRecursion (IsToldIn S a) zs →
       AllByRecursion (IsToldIn T a) zs
-  items_there a [] all = tt
-  items_there a (z ∷ zs) all = (told_there (item_classes a z) all.0, items_there a zs all.1)
+  items_there a =
+      each_weaker (IsToldIn S a) (IsToldIn T a) (λ z. told_there (item_classes a z))
 
   -- in each queue
   queue_there : (a m : ℕ) (zs : List Item) → queue T a m ≡ Some zs →
@@ -176,47 +177,31 @@ move_keeps table T keeps port n here c same home right e taken moves takes told 
     (λ s k. subst (λ m. Grown (IsGiven s.classes) m (leaving entry e.node).node)
     (node_of U port e.node s now k) (leaving_grown (IsGiven s.classes) entry e.node))
 
--- the effect that there is has grown
-grown_there : (Q : ℕ → ClassId → Type 0) (n : Node)
-    (found : Option Effect) (e : Effect) → GrownIf Q n found → found ≡ Some e → Grown Q n e.node
-grown_there Q n None e h q = absurd (cc)
-grown_there Q n (Some d) e h q =
-    subst (λ x. Grown Q n x.node) (ap (λ x. unwrap_or x d) q) h
-
 -- the effect of an event's rule has grown
 rule_grown : (table : List Class) (act : Acting) (S : State) (event : Event) (n : Node)
     (e : Effect) → IsRuleOf table act S event n e →
     (Q : ℕ → ClassId → Type 0) → Grown Q n e.node
 rule_grown table act S (Start port selector values) n e rule Q =
-    grown_there Q n (start_effect table selector values n) e
+    there (λ d. Grown Q n d.node) (start_effect table selector values n) e
     (start_grown Q table selector values n) rule
 rule_grown table act S (Run port) n e rule Q =
-    grown_there Q n (run_effect act (context table S n)) e (run_grown Q act (context table S n))
-    rule
+    there (λ d. Grown Q n d.node) (run_effect act (context table S n)) e
+    (run_grown Q act (context table S n)) rule
 rule_grown table act S (Close port peer) n e rule Q =
     subst (λ d. Grown Q n d.node) (sym rule.1) (closing_grown Q peer n)
 rule_grown table act S (Timeout port) n e rule Q =
-    grown_there Q n (time_out n) e (time_out_grown Q n) rule
-rule_grown table act S (Take port from) n e rule Q = absurd rule
-rule_grown table act S (Lose from to k) n e rule Q = absurd rule
-rule_grown table act S Check n e rule Q = absurd rule
+    there (λ d. Grown Q n d.node) (time_out n) e (time_out_grown Q n) rule
+rule_grown table act S _ n e rule Q = absurd rule
 
 -- ---- steps
-
--- of all with one more at some place
-all_insert : {X : Type 0} (P : X → Type 0) (k : ℕ) (xs : List X) (x : X) → AllByRecursion P xs →
-    P x → AllByRecursion P (insert xs k x)
-all_insert P zero [] x all is = (is, tt)
-all_insert P zero (y ∷ ys) x all is = (is, all)
-all_insert P (suc k) [] x all is = (is, tt)
-all_insert P (suc k) (y ∷ ys) x all is = (all.0, all_insert P k ys x all.1 is)
 
 -- what is told has a class
 have_class : (S : State) (ys : List Classed) →
     AllByRecursion (λ y. class_of S y.object ≡ Some y.class) ys →
     AllByRecursion (λ y. HasClass S y.object) ys
-have_class S [] all = tt
-have_class S (y ∷ ys) all = (ap is_some all.0, have_class S ys all.1)
+have_class S =
+    each_weaker (λ y. class_of S y.object ≡ Some y.class) (λ y. HasClass S y.object)
+    (λ y h. ap is_some h)
 
 module _ (table : List Class) (act : Acting) (S : State) (keeps : ClassesKept S)
     (kept : LinksAreKept S) (home : AllAtHome S) where
@@ -283,41 +268,27 @@ module _ (table : List Class) (act : Acting) (S : State) (keeps : ClassesKept S)
       (seen_right table T less.stations port n there at) d (noted from (atoms item)) moves
       (item_such (HasClass T) from item
       (have_class T (item_classes from item)
-      (still (item_classes from item) T same all.0))
+      (each_weaker (λ y. class_of S y.object ≡ Some y.class)
+      (λ y. class_of T y.object ≡ Some y.class) (λ y h. same y.object ∙ h)
+      (item_classes from item) all.0))
       (granted port from n item rest here rule.0 waits T same))
       (take_told c from item) (λ Q. take_grown Q c from item)
       ((by_take c from item rule.0).grows.port ∙ at)
       (sound_after S kept port n here (noted from (atoms item)) d moves)))
     where
-      still : (ys : List Classed) (T : State) → ((o : ObjectName) → class_of T o ≡ class_of S o) →
-          AllByRecursion (λ y. class_of S y.object ≡ Some y.class) ys →
-          AllByRecursion (λ y. class_of T y.object ≡ Some y.class) ys
-      still [] T same all = tt
-      still (y ∷ ys) T same all = (same y.object ∙ all.0, still ys T same all.1)
-
       granted : (port from : ℕ) (n : Node) (item : Item) (rest : List Item) →
           node S port ≡ Some n → is_open n from ≡ true → queue S from port ≡ Some (item ∷ rest) →
           (T : State) → ((o : ObjectName) → class_of T o ≡ class_of S o) →
           GrantedIs (HasClass T) from item
-      granted port from n (items.Call k m) rest here ends waits T same = tt
-      granted port from n (items.Oneway m) rest here ends waits T same = tt
-      granted port from n (items.Reply k p) rest here ends waits T same = tt
-      granted port from n (items.Raised k p) rest here ends waits T same = tt
-      granted port from n (items.RootAsk k) rest here ends waits T same = tt
-      granted port from n (items.RootAnswer k p) rest here ends waits T same = tt
-      granted port from n (items.Ask r t) rest here ends waits T same = tt
       granted port from n (items.Granted r t) rest here ends waits T same =
           ap is_some (same (object_at from r))
           ∙ keeps.told.known port n here (object_at from r)
           (granted_known port from n r t rest here ends waits)
-      granted port from n (items.Gone r t) rest here ends waits T same = tt
-      granted port from n (items.Left r) rest here ends waits T same = tt
-      granted port from n (items.Settled k) rest here ends waits T same = tt
-      granted port from n (items.End serials) rest here ends waits T same = tt
+      granted port from n _ rest here ends waits T same = tt
   form_keeps event s (Loses from to k w is waits few q) =
       subst (λ x. ClassesKept x.state) (sym q)
       (requeue_keeps S keeps from to (insert w k (items.End [])) w waits
-      (all_insert (IsToldIn S from) k w (items.End []) (keeps.told.told from to w waits) tt))
+      (each_inserted (IsToldIn S from) w k (items.End []) tt (keeps.told.told from to w waits)))
   form_keeps event s (Checks is q) = subst (λ x. ClassesKept x.state) (sym q) keeps
 
   -- every step

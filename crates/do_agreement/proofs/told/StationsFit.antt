@@ -1,7 +1,7 @@
 -- The classes that a station gave are those of what its node stores, after an effect too.
 use Rattle.std.proofs.Common.{◌≡◌, ◌==◌, ◌++◌, ◌+◌, ◌≤◌, ◌<◌, ℕ, Bool, true, false, cond, List, []}
 use Rattle.std.proofs.Common.{◌∷◌, suc, zero, filter, length, map, refl, sym, ap, ◌∙◌, subst, arith}
-use Rattle.std.proofs.Common.{append_assoc}
+use Rattle.std.proofs.Common.{append_assoc, length-append}
 use Rattle.std.specs.Prelude.{None, Option, Some, nat_le, option_map, slice_get}
 use Rattle.std.specs.List.{AllByRecursion}
 use Rattle.std.proofs.lemmas.Bool.{eqb-true}
@@ -18,6 +18,10 @@ use Rattle.do_machine.specs.run.Fresh.{with_serials}
 use Rattle.do_agreement.proofs.places.KeyedLists.{found_changed, found_elsewhere}
 use Rattle.do_agreement.proofs.places.PlacesChanged.{some_is}
 use Rattle.do_agreement.proofs.told.HeapsGrow.{Grown}
+use Rattle.std.proofs.lemmas.List.{length-map}
+use Rattle.std.proofs.lemmas.List.Elements.{filter-append}
+use Rattle.do_facts.proofs.EachOfLists.{each_joined, each_weaker}
+use Rattle.do_facts.proofs.machine.ClassesStay.{class_stays}
 
 -- a class was given with a serial
 abbrev pub IsGiven : List ClassId → ℕ → ClassId → Type 0
@@ -27,19 +31,6 @@ IsGiven cs serial class = class_given cs serial ≡ Some class
 pub record StationFits (s : Station) : Type 0 where
   pub given : length s.classes + 1 ≡ s.node.next_serial
   pub stored : AllByRecursion (λ x. IsGiven s.classes x.serial x.class) s.node.heap
-
--- what stands at a place of a list stands there in a longer one
-still_there : (cs ds : List ClassId) (k : ℕ) (class : ClassId) → slice_get cs k ≡ Some class →
-    slice_get (cs ++ ds) k ≡ Some class
-still_there [] ds k class h = absurd (cc)
-still_there (c ∷ cs) ds zero class h = h
-still_there (c ∷ cs) ds (suc k) class h = still_there cs ds k class h
-
--- a class that was given stays
-given_more : (cs ds : List ClassId) (serial : ℕ) (class : ClassId) → IsGiven cs serial class →
-    IsGiven (cs ++ ds) serial class
-given_more cs ds zero class h = absurd (cc)
-given_more cs ds (suc k) class h = still_there cs ds k class h
 
 -- what stands at a place stands within the list
 within : (cs : List ClassId) (k : ℕ) (class : ClassId) → slice_get cs k ≡ Some class →
@@ -82,18 +73,6 @@ all_new next k h (m ∷ ms) =
     here
     ∙ ap (λ cs. m.class ∷ cs) (all_new next (suc k) (omega (arith, h)) ms)
 
--- what passes of a list and another
-filter_behind : {X : Type 0} (f : X → Bool) (xs ys : List X) →
-    filter f (xs ++ ys) ≡ filter f xs ++ filter f ys
-filter_behind f [] ys = refl
-filter_behind f (x ∷ xs) ys = go (f x) (filter_behind f xs ys)
-  where
-    go : (b : Bool) → filter f (xs ++ ys) ≡ filter f xs ++ filter f ys →
-        cond b (x ∷ filter f (xs ++ ys)) (filter f (xs ++ ys))
-        ≡ cond b (x ∷ filter f xs) (filter f xs) ++ filter f ys
-    go true e = ap (λ zs. x ∷ zs) e
-    go false e = e
-
 -- the first behind a list
 at_end : (cs : List ClassId) (c : ClassId) (ds : List ClassId) →
     slice_get (cs ++ c ∷ ds) (length cs) ≡ Some c
@@ -102,8 +81,7 @@ at_end (b ∷ cs) c ds = at_end cs c ds
 
 -- one more
 one_longer : (cs : List ClassId) (c : ClassId) → length (cs ++ c ∷ []) ≡ suc (length cs)
-one_longer [] c = refl
-one_longer (b ∷ cs) c = ap suc (one_longer cs c)
+one_longer cs c = omega (arith, length-append cs (c ∷ []))
 
 -- new objects have the classes that are given with the next serials
 new_given : (new : List Made) (cs : List ClassId) →
@@ -121,26 +99,18 @@ new_given (m ∷ ms) cs =
           (with_serials (suc k) ms)) (one_longer cs m.class) rest),
     )
 
--- all of both
-all_both : {X : Type 0} (P : X → Type 0) (xs ys : List X) → AllByRecursion P xs →
-    AllByRecursion P ys → AllByRecursion P (xs ++ ys)
-all_both P [] ys a b = b
-all_both P (x ∷ xs) ys a b = (a.0, all_both P xs ys a.1 b)
-
 -- what was given is given, once more is
 all_more : (cs ds : List ClassId) (xs : List Stored) →
     AllByRecursion (λ x. IsGiven cs x.serial x.class) xs →
     AllByRecursion (λ x. IsGiven (cs ++ ds) x.serial x.class) xs
-all_more cs ds [] all = tt
-all_more cs ds (x ∷ xs) all =
-    (given_more cs ds x.serial x.class all.0, all_more cs ds xs all.1)
+all_more cs ds =
+    each_weaker (λ x. IsGiven cs x.serial x.class) (λ x. IsGiven (cs ++ ds) x.serial x.class)
+    (λ x. class_stays cs ds x.serial x.class)
 
 -- as many as there were, and more
 length_both : {X Y : Type 0} (f : Y → X) (xs : List X) (ys : List Y) →
     length (xs ++ map f ys) ≡ length xs + length ys
-length_both f [] [] = refl
-length_both f [] (y ∷ ys) = omega (arith, length_both f [] ys)
-length_both f (x ∷ xs) ys = omega (arith, length_both f xs ys)
+length_both f xs ys = omega (arith, length-append xs (map f ys), length-map ys f)
 
 -- a station fits after an effect of its node
 pub station_after : (s : Station) (e : Effect) → StationFits s →
@@ -154,7 +124,7 @@ station_after s e fit g = record {
       (sym born_is)
       (subst (AllByRecursion (λ x. IsGiven (s.classes ++ map (λ (m : Made). m.class) g.new)
       x.serial x.class)) (sym g.heap)
-      (all_both (λ x. IsGiven (s.classes ++ map (λ (m : Made). m.class) g.new) x.serial x.class)
+      (each_joined (λ x. IsGiven (s.classes ++ map (λ (m : Made). m.class) g.new) x.serial x.class)
       g.old (with_serials s.node.next_serial g.new)
       (all_more s.classes (map (λ (m : Made). m.class) g.new) g.old (g.stands fit.stored))
       (subst (λ k. AllByRecursion (λ x. IsGiven (s.classes ++ map (λ (m : Made). m.class) g.new)
@@ -172,7 +142,7 @@ station_after s e fit g = record {
         let next = s.node.next_serial in
         let test = λ (x : Stored). nat_le next x.serial in
         ap (λ xs. map (λ (x : Stored). x.class) (filter test xs)) g.heap
-        ∙ ap (map (λ (x : Stored). x.class)) (filter_behind test g.old (with_serials next g.new))
+        ∙ ap (map (λ (x : Stored). x.class)) (filter-append test g.old (with_serials next g.new))
         ∙ ap (λ xs. map (λ (x : Stored). x.class) (xs ++ filter test (with_serials next g.new)))
         (none_new s.classes next fit.given g.old (g.stands fit.stored))
         ∙ all_new next next (omega arith) g.new

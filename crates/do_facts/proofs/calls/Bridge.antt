@@ -1,15 +1,12 @@
 -- Every rule of a step is moves of its node's calls.
 use Rattle.std.proofs.Common.{◌≡◌, ◌==◌, ◌∙◌, ℕ, Bool, true, false, cond, not, List, [], ◌∷◌}
-use Rattle.std.proofs.Common.{filter, refl}
-use Rattle.std.proofs.Common.{ap, sym, arith}
+use Rattle.std.proofs.Common.{filter, refl, ap, sym, arith}
 use Rattle.std.specs.List.{list_any}
 use Rattle.std.proofs.lemmas.Bool.{eqb-true}
 use Rattle.std.proofs.lemmas.Bool.Decides.{nat_tests}
 use Rattle.do_facts.specs.Net.{atoms_of}
 use Rattle.do_facts.specs.calls.Calls.{Atom, Calls, calls}
-use Rattle.do_facts.specs.calls.Moves.{AreShaped, Asks, Begins, Closes, Drops, Finishes, Gives}
-use Rattle.do_facts.specs.calls.Moves.{GivesUp}
-use Rattle.do_facts.specs.calls.Moves.{Move, Receives, Refuses, Replies, Returns, Serves, Starts}
+use Rattle.do_facts.specs.calls.Moves.{AreShaped, Asks, Closes, Gives, Move, Refuses, Replies}
 use Rattle.do_facts.specs.calls.Moves.{call_rules, may, moved, note, opens, posts}
 use Rattle.do_facts.proofs.Bridge.{Bridge}
 use Rattle.do_facts.proofs.calls.StartIsMoves.{by_start, by_time_out}
@@ -39,19 +36,12 @@ module _ (p : Calls) (peer : ℕ) (h : opens p peer ≡ false) where
   -- a move opens no end, and posts nothing over a closed one
   closed_moved : (v : Move) → may p v →
       (opens (moved p v) peer ≡ false) × (atoms_of peer (posts p v) ≡ [])
-  closed_moved Begins m = (h, refl)
-  closed_moved (Starts reason) m = (h, refl)
   closed_moved (Asks to root) m = (h, note_elsewhere to _ m.2)
-  closed_moved (Serves from number) m = (h, refl)
   closed_moved (Refuses from number) m = (h, note_elsewhere from _ m)
   closed_moved (Gives from number) m = (h, note_elsewhere from _ m)
   closed_moved (Replies to number) m = (h, note_elsewhere to _ m.1)
-  closed_moved (Drops to number) m = (h, refl)
-  closed_moved Returns m = (h, refl)
-  closed_moved (Finishes reason) m = (h, refl)
-  closed_moved (Receives from number root) m = (h, refl)
-  closed_moved (GivesUp c) m = (h, refl)
   closed_moved (Closes other) m = (closed_stays other p.open_to h, refl)
+  closed_moved _ m = (h, refl)
 
 -- the stack of these calls is shaped
 abbrev pub IsShaped : Calls → Type 0

@@ -21,18 +21,15 @@ use Rattle.do_facts.proofs.SumsOfLists.{mapped_le, mapped_same, number_if, total
 -- an invocation that no peer waits for serves no call
 pub serves_none : (n k : ℕ) (reason : Reason) → is_call reason ≡ false →
     serves_of n k (idle reason) ≡ 0
-serves_none n k reasons.Start h = refl
-serves_none n k reasons.Local h = refl
 serves_none n k (reasons.Call peer number) h = absurd (cc)
-serves_none n k (reasons.Oneway peer) h = refl
+serves_none n k _ h = refl
 
 -- what waits for a call waits for one of its number
 on_number : (j : AnsweredCall) (w : Wait) (reason : Reason) →
     on_of j (record { reason = reason; wait = w })
     ≤ number_on j.number (record { reason = reason; wait = w })
-on_number j Idle reason = omega arith
-on_number j Lower reason = omega arith
 on_number j (On peer number root) reason = grind (arith, nat_tests)
+on_number j _ reason = omega arith
 
 -- and so does a late call
 late_number : (j : AnsweredCall) (c : LateCall) → late_of j c ≤ number_late j.number c
@@ -86,8 +83,6 @@ on_one : (k j : AnsweredCall) (reason : Reason) (w : Wait) →
     (if j.peer == k.peer then (if j.number == k.number then beq j.root k.root else false)
     else false) ≡ false → is_on k w ≡ true →
     on_of j (record { reason = reason; wait = w }) ≡ 0
-on_one k j reason Idle h e = refl
-on_one k j reason Lower h e = refl
 on_one k j reason (On peer number root) h e = go root j.root k.root h e
   where
     go : (r s t : Bool) →
@@ -102,6 +97,7 @@ on_one k j reason (On peer number root) h e = go root j.root k.root h e
     go false true false h e = grind (arith, nat_tests, h, e)
     go false false true h e = grind (arith, nat_tests, h, e)
     go false false false h e = grind (arith, nat_tests, h, e)
+on_one k j reason _ h e = refl
 
 module _ (k j : AnsweredCall)
     (apart : (if j.peer == k.peer then (if j.number == k.number then beq j.root k.root else false)

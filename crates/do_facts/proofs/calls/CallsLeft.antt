@@ -1,13 +1,12 @@
 -- What leaves the calls of a node, and what answers and closing make of them.
 use Rattle.std.proofs.Common.{◌≡◌, ◌==◌, ◌++◌, ℕ, Bool, true, false, cond, not, List, [], ◌∷◌, map}
-use Rattle.std.proofs.Common.{filter}
-use Rattle.std.proofs.Common.{refl, sym, ap, ◌∙◌, subst}
+use Rattle.std.proofs.Common.{filter, refl, sym, ap, ◌∙◌, subst}
 use Rattle.std.specs.List.{list_any}
 use Rattle.do_base.specs.names.Names.{ObjectName}
 use Rattle.do_base.specs.declared.events.exception.Exc.TheVariants.{ConnectionDied}
 use Rattle.do_packet.specs.Met.{has_object}
 use Rattle.do_class.specs.declared.packet.Name.{Name}
-use Rattle.do_class.specs.declared.packet.Name.TheVariants.{Lent, Mine, Yours}
+use Rattle.do_class.specs.declared.packet.Name.TheVariants.{Lent}
 use Rattle.do_behave.specs.declared.invocation.Invocation.{Invocation}
 use Rattle.do_behave.specs.declared.invocation.InvState.{InvState}
 use Rattle.do_behave.specs.declared.invocation.InvState.TheVariants as states
@@ -27,8 +26,7 @@ use Rattle.do_machine.specs.held.Leaving.{freeing, leaving, left}
 use Rattle.do_machine.specs.held.Refers.{node_objects}
 use Rattle.do_machine.specs.lend.Asking.{asking, same_wanted, settling, wanted}
 use Rattle.do_machine.specs.take.Awaiting.{AnsweredCall, answered_state, answering, awaits}
-use Rattle.do_machine.specs.take.Awaiting.{is_answered, late_answered}
-use Rattle.do_machine.specs.take.Awaiting.{stack_answered}
+use Rattle.do_machine.specs.take.Awaiting.{is_answered, late_answered, stack_answered}
 use Rattle.do_machine.specs.take.Receipt.{receiving_name}
 use Rattle.do_facts.specs.Moves.{Runs}
 use Rattle.do_facts.specs.View.{AreMoves, posted}
@@ -75,9 +73,8 @@ quiet_asking w n =
 
 -- a name that is received
 pub quiet_name : (from : ℕ) (name : Name) (n : Node) → IsQuiet n (receiving_name from name n)
-quiet_name from (Mine serial class) n = record { same = refl; none = refl }
-quiet_name from (Yours serial) n = record { same = refl; none = refl }
 quiet_name from (Lent o class token) n = quiet_asking (wanted o from token) n
+quiet_name from _ n = record { same = refl; none = refl }
 
 -- what leaves a node says nothing of calls
 pub quiet_left : (os : List ObjectName) → posted calls (map left os) ≡ []

@@ -1,6 +1,5 @@
 -- A run is moves of a node's calls.
-use Rattle.std.proofs.Common.{◌≡◌, ◌∙◌, ℕ, true, false, List, [], ◌∷◌, map, refl, sym, ap}
-use Rattle.std.proofs.Common.{subst}
+use Rattle.std.proofs.Common.{◌≡◌, ◌∙◌, ℕ, true, false, List, [], ◌∷◌, map, refl, sym, ap, subst}
 use Rattle.std.specs.Prelude.{Option, Some, None, option_map}
 use Rattle.do_behave.specs.declared.invocation.Answer.{Answer}
 use Rattle.do_behave.specs.declared.invocation.Answer.TheVariants.{Given}
@@ -14,9 +13,8 @@ use Rattle.do_machine.specs.declared.state.Effect.{Effect}
 use Rattle.do_machine.specs.declared.verdict.Request.{Request}
 use Rattle.do_machine.specs.declared.verdict.Request.TheVariants as requests
 use Rattle.do_machine.specs.declared.verdict.Verdict.{Verdict}
-use Rattle.do_machine.specs.declared.verdict.Verdict.TheVariants.{Asks, Begins, Fails, Goes, Makes}
-use Rattle.do_machine.specs.declared.verdict.Verdict.TheVariants.{Returns, Says, Steps, Tells, Uses}
-use Rattle.do_machine.specs.declared.verdict.Verdict.TheVariants.{Vends}
+use Rattle.do_machine.specs.declared.verdict.Verdict.TheVariants.{Asks, Begins, Fails}
+use Rattle.do_machine.specs.declared.verdict.Verdict.TheVariants.{Returns, Says, Steps, Vends}
 use Rattle.do_machine.specs.Context.{Context, RunContext}
 use Rattle.do_machine.specs.State.{is_open}
 use Rattle.do_machine.specs.run.Delivery.{below_answered}
@@ -27,10 +25,10 @@ use Rattle.do_facts.proofs.IsSent.{IsSent}
 use Rattle.do_facts.specs.Net.{Note}
 use Rattle.do_facts.specs.Moves.{Runs}
 use Rattle.do_facts.specs.View.{AreMoves, posted}
-use Rattle.do_facts.specs.calls.Calls.{Answer as Answers, Atom, Calls, Frame, Idle, calls, calls_of, frame_of}
-use Rattle.do_facts.specs.calls.Calls.{wait_of}
+use Rattle.do_facts.specs.calls.Calls.{Answer as Answers, Atom, Calls, Frame, Idle, calls}
+use Rattle.do_facts.specs.calls.Calls.{calls_of, frame_of, wait_of}
 use Rattle.do_facts.specs.calls.Moves as Move
-use Rattle.do_facts.specs.calls.Moves.{call_rules, first_rested, idle, is_call, is_local}
+use Rattle.do_facts.specs.calls.Moves.{call_rules, first_rested, idle, is_call}
 use Rattle.do_facts.proofs.Deliveries.{Delivers, by_delivery, by_failing}
 use Rattle.do_facts.proofs.Runs.{moves_once, stands_by}
 use Rattle.do_facts.proofs.AsksOverOpenEnds.{by_act, by_answer}
@@ -121,19 +119,17 @@ module _ (r : RunContext) where
 
     -- each verdict
     by_verdict : (v : Verdict) → IsSent n v → Acts r.top.reason (effect_of r v)
-    by_verdict (Goes into value pc) h = quiet refl refl
-    by_verdict (Uses result outs) h = quiet refl refl
     by_verdict (Steps pc locals handler writes) h = quiet as_it_was refl
-    by_verdict (Makes class into pc) h = quiet refl refl
     by_verdict (Vends root pc) h = quiet as_it_was refl
     by_verdict (Says value pc) h = quiet as_it_was refl
     by_verdict (Asks peer request into outs pc) h = by_request peer request into pc outs h.0
     by_verdict (Begins o method values into outs pc) h =
         moves_once call_rules (acting r.top.reason) Move.Begins
         (r.top.reason, (map frame_of r.below, refl))
-    by_verdict (Tells peer m into pc) h = quiet refl refl
-    by_verdict (Returns result outs) h = by_delivery Acts r delivers (Given result outs) r.top.reason
+    by_verdict (Returns result outs) h =
+        by_delivery Acts r delivers (Given result outs) r.top.reason
     by_verdict (Fails e) h = by_failing Acts r delivers e r.top.handler
+    by_verdict _ h = quiet refl refl
 
   module _ (stack : n.stack ≡ r.top ∷ r.below) where
     -- moves of a node whose top invocation acts are moves of the node
@@ -152,8 +148,7 @@ module _ (r : RunContext) where
     by_state act (states.Answered a) h =
         let v = answer_rule a in
         moves_of (effect_of r v) h (by_verdict h v (by_answer r a))
-    by_state act states.Below h = tt
-    by_state act (states.Waits call peer what) h = tt
+    by_state act _ h = tt
 
 -- a run by the stack
 by_run_on : (act : Acting) (c : Context) (stack : List Invocation) → c.node.stack ≡ stack →

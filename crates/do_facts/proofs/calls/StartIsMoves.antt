@@ -1,6 +1,5 @@
 -- A start and a time-out are moves of a node's calls.
-use Rattle.std.proofs.Common.{◌≡◌, ◌∙◌, ℕ, not, List, [], ◌∷◌, map, refl, sym, ap}
-use Rattle.std.proofs.Common.{subst}
+use Rattle.std.proofs.Common.{◌≡◌, ◌∙◌, ℕ, not, List, [], ◌∷◌, map, refl, sym, ap, subst}
 use Rattle.std.specs.Prelude.{Option, Some, None, option_map, unwrap_or}
 use Rattle.do_base.specs.declared.values.value.Value.{Value}
 use Rattle.do_class.specs.Class.{Class}
@@ -20,10 +19,9 @@ use Rattle.do_machine.specs.ends.TimeOut.{give_up, late_lt, time_out, time_out_o
 use Rattle.do_machine.specs.run.Fresh.{fresh, pushed}
 use Rattle.do_machine.specs.take.Awaiting.{is_for_root}
 use Rattle.do_facts.specs.Moves.{Runs}
-use Rattle.do_facts.specs.calls.Calls.{Frame, Idle, On, calls_of, frame_of}
-use Rattle.do_facts.specs.calls.Calls.{wait_of}
+use Rattle.do_facts.specs.calls.Calls.{Frame, Idle, On, calls_of, frame_of, wait_of}
 use Rattle.do_facts.specs.calls.Moves as Move
-use Rattle.do_facts.specs.calls.Moves.{call_rules, first_rested, idle, is_call, is_local}
+use Rattle.do_facts.specs.calls.Moves.{call_rules, first_rested}
 use Rattle.do_facts.proofs.Chains.{either, found_or}
 use Rattle.do_facts.proofs.Runs.{moves_once}
 use Rattle.do_facts.proofs.calls.RunIsMoves.{MovesIf}
@@ -81,8 +79,6 @@ by_start table selector values n =
 -- a call that is given up
 by_give_up : (state : InvState) (i : Invocation) (below : List Invocation) (n : Node) →
     n.stack ≡ i ∷ below → i.state ≡ state → MovesIf n (give_up state i below n)
-by_give_up states.Running i below n h k = tt
-by_give_up states.Below i below n h k = tt
 by_give_up (states.Waits call peer what) i below n h k =
     let c : LateCall = record { number = call.number; peer = peer; what = what } in
     let p = calls_of n in
@@ -94,7 +90,7 @@ by_give_up (states.Waits call peer what) i below n h k =
     [])
     (ap first_rested here)
     (moves_once call_rules p (Move.GivesUp c) (i.reason, (map frame_of below, here)))
-by_give_up (states.Answered a) i below n h k = tt
+by_give_up _ i below n h k = tt
 
 -- a time-out by the stack
 by_time_out_on : (stack : List Invocation) (n : Node) → n.stack ≡ stack →

@@ -1,6 +1,5 @@
 -- Taking an item is moves of a node's calls.
-use Rattle.std.proofs.Common.{◌≡◌, ◌++◌, ℕ, true, false, List, [], ◌∷◌}
-use Rattle.std.proofs.Common.{refl, sym, ap, ◌∙◌, subst}
+use Rattle.std.proofs.Common.{◌≡◌, ◌++◌, ℕ, true, false, List, [], ◌∷◌, refl, sym, ap, ◌∙◌, subst}
 use Rattle.std.specs.Prelude.{Err, Ok, Result, is_some}
 use Rattle.do_base.specs.names.Names.{ObjectName, TokenName}
 use Rattle.do_base.specs.declared.events.exception.Exc.{Exc}
@@ -20,28 +19,24 @@ use Rattle.do_machine.specs.Effect.{each, only}
 use Rattle.do_machine.specs.Items.{exported}
 use Rattle.do_machine.specs.Objects.{object_at}
 use Rattle.do_machine.specs.State.{is_open, own, stored}
-use Rattle.do_machine.specs.lend.Asking.{ask_over, granting, wanted}
-use Rattle.do_machine.specs.lend.Asking.{without_wanted}
+use Rattle.do_machine.specs.lend.Asking.{ask_over, granting, wanted, without_wanted}
 use Rattle.do_machine.specs.run.Fresh.{fresh, pushed, with_objects}
 use Rattle.do_machine.specs.take.Awaiting.{values_answer}
 use Rattle.do_machine.specs.take.Receipt.{arrived, received, receiving_name}
 use Rattle.do_machine.specs.take.Requests.{admission, refusing, request}
-use Rattle.do_machine.specs.take.Take.{holding, method_call, root_call, take_effect}
-use Rattle.do_machine.specs.take.Take.{values_arrival}
+use Rattle.do_machine.specs.take.Take.{holding, method_call, root_call, take_effect, values_arrival}
 use Rattle.do_facts.specs.Net.{Note, noted}
 use Rattle.do_facts.specs.Moves.{Runs}
 use Rattle.do_facts.specs.View.{AreMoves, posted}
 use Rattle.do_facts.specs.calls.Calls as Atom
-use Rattle.do_facts.specs.calls.Calls.{Calls, Frame, atoms, calls, calls_of, frame_of, wait_of}
+use Rattle.do_facts.specs.calls.Calls.{atoms, calls, calls_of}
 use Rattle.do_facts.specs.calls.Moves as Move
-use Rattle.do_facts.specs.calls.Moves.{answered_call, call_rules, idle, is_on, lower, note, rested}
-use Rattle.do_facts.specs.calls.Moves.{without_peer}
+use Rattle.do_facts.specs.calls.Moves.{call_rules, idle, note}
 use Rattle.do_facts.proofs.Chains.{either}
 use Rattle.do_facts.proofs.CommitAsNet.{posted_behind}
 use Rattle.do_facts.proofs.Runs.{moves_once, stands_by}
 use Rattle.do_facts.proofs.calls.CallsLeft.{IsQuiet, by_answering, by_closing, quiet_each}
-use Rattle.do_facts.proofs.calls.CallsLeft.{quiet_name}
-use Rattle.do_facts.proofs.calls.CallsLeft.{quiet_settling}
+use Rattle.do_facts.proofs.calls.CallsLeft.{quiet_name, quiet_settling}
 
 module _ (c : Context) (from : ℕ) (ends : is_open c.node from ≡ true) where
   -- the node
@@ -146,7 +141,6 @@ module _ (c : Context) (from : ℕ) (ends : is_open c.node from ≡ true) where
   by_take (items.Gone serial token) =
       let w = wanted (object_at from serial) token.lender token.number in
       by_quiet (ask_over w n) (quiet_over w n refl)
-  by_take (items.Left serial) = stands_by call_rules refl refl
-  by_take (items.Settled number) = stands_by call_rules refl refl
   by_take (items.End serials) =
       by_closing from (holding (exported from n.port (items.End serials)) n) ends
+  by_take _ = stands_by call_rules refl refl

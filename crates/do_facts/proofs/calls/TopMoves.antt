@@ -1,6 +1,5 @@
 -- Moves of the top invocation keep each call in one place.
-use Rattle.std.proofs.Common.{◌≡◌, ◌≢◌, ◌==◌, ◌&&◌, ◌+◌, ℕ, Bool, true, false, cond}
-use Rattle.std.proofs.Common.{List, [], ◌∷◌}
+use Rattle.std.proofs.Common.{◌≡◌, ◌≢◌, ◌==◌, ◌&&◌, ◌+◌, ℕ, Bool, true, false, cond, List, [], ◌∷◌}
 use Rattle.std.proofs.Common.{refl, sym, ap, ◌∙◌, subst, arith}
 use Rattle.std.specs.Prelude.{if◌then◌else◌}
 use Rattle.std.specs.Bool.{beq}
@@ -11,23 +10,17 @@ use Rattle.do_machine.specs.declared.node.LateCall.{LateCall}
 use Rattle.do_machine.specs.ends.TimeOut.{late_lt}
 use Rattle.do_machine.specs.take.Awaiting.{AnsweredCall}
 use Rattle.do_facts.specs.Net.{Net, Note, net_after, total, with_part}
-use Rattle.do_facts.specs.calls.Calls.{Answer, Atom, Called, Calls, Frame, On, RootAsk}
-use Rattle.do_facts.specs.calls.Calls.{Lower}
+use Rattle.do_facts.specs.calls.Calls.{Answer, Atom, Called, Calls, Frame, On, RootAsk, Lower}
 use Rattle.do_facts.specs.calls.Facts.{CallsHold, OneCall, OneNumber, late_of, number_late}
-use Rattle.do_facts.specs.calls.Facts.{number_on}
-use Rattle.do_facts.specs.calls.Facts.{on_of, serves_of, waits}
-use Rattle.do_facts.specs.calls.Moves.{AreShaped, Asks, Begins, Drops, Finishes}
-use Rattle.do_facts.specs.calls.Moves.{GivesUp}
-use Rattle.do_facts.specs.calls.Moves.{Move, Replies, Returns, Starts}
-use Rattle.do_facts.specs.calls.Moves.{behind, first_rested, first_waits}
-use Rattle.do_facts.specs.calls.Moves.{idle, lower, may, moved, note, opens, posts}
-use Rattle.do_facts.specs.calls.Moves.{takes}
+use Rattle.do_facts.specs.calls.Facts.{number_on, on_of, serves_of, waits}
+use Rattle.do_facts.specs.calls.Moves.{AreShaped, Asks, Begins, Drops, Finishes, GivesUp, Move}
+use Rattle.do_facts.specs.calls.Moves.{Replies, Returns, Starts, behind, first_rested, first_waits}
+use Rattle.do_facts.specs.calls.Moves.{idle, lower, may, moved, note, opens, posts, takes}
 use Rattle.do_facts.proofs.SumsOfLists.{number_if, total_inserted}
 use Rattle.do_facts.proofs.calls.CallMoves as Call
 use Rattle.do_facts.proofs.calls.CallsEnd.{number_given, numbers_stay}
 use Rattle.do_facts.proofs.calls.StacksShaped.{shaped_moved}
-use Rattle.do_facts.proofs.calls.CallCounts.{rested_numbers, rested_on}
-use Rattle.do_facts.proofs.calls.CallCounts.{rested_serves, serves_none}
+use Rattle.do_facts.proofs.calls.CallCounts.{rested_numbers, rested_on, rested_serves, serves_none}
 
 -- which calls an invocation waits for that asked a peer
 on_asked : (j : AnsweredCall) (to k : ℕ) (reason : Reason) (root : Bool) →

@@ -8,14 +8,11 @@ use Rattle.do_machine.specs.declared.node.Wanted.{Wanted}
 use Rattle.do_machine.specs.lend.Asking.{same_wanted, wanted}
 use Rattle.do_machine.specs.Objects.{object_at}
 use Rattle.do_facts.specs.Net.{Net, Note, net_after}
-use Rattle.do_facts.specs.links.Links.{Ask, Atom, End, Gone, Granted, Lent, Links}
-use Rattle.do_facts.specs.links.Links.{Settled}
-use Rattle.do_facts.specs.links.Moves.{Lends, Settles, closed, moved}
-use Rattle.do_facts.specs.links.Moves.{note, opens, without_ask}
+use Rattle.do_facts.specs.links.Links.{Ask, Atom, End, Gone, Granted, Lent, Links, Settled}
+use Rattle.do_facts.specs.links.Moves.{Lends, Settles, closed, moved, note, opens, without_ask}
 use Rattle.do_facts.specs.links.Facts.{EachAsk, answer_of, ask_of, asked_in, same3}
 use Rattle.do_facts.proofs.Notes.{total-append}
-use Rattle.do_facts.proofs.links.ListsChanged.{asked_less, is_ask}
-use Rattle.do_facts.proofs.links.ListsChanged.{open_less}
+use Rattle.do_facts.proofs.links.ListsChanged.{asked_less, is_ask, open_less}
 
 ruleset steps = (nat_tests, total-append)
 

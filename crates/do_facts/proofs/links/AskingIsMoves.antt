@@ -1,6 +1,6 @@
 -- What a node asks for and settles is moves of its links.
-use Rattle.std.proofs.Common.{◌≡◌, ◌==◌, ℕ, Bool, true, false, cond, not, List, [], ◌∷◌}
-use Rattle.std.proofs.Common.{fold, map, refl, sym, ap, ◌∙◌, subst}
+use Rattle.std.proofs.Common.{◌≡◌, ◌==◌, ℕ, Bool, true, false, cond, not, List, [], ◌∷◌, fold, map}
+use Rattle.std.proofs.Common.{refl, sym, ap, ◌∙◌, subst}
 use Rattle.std.specs.List.{flat_map, list_any}
 use Rattle.do_base.specs.names.Names.{ObjectName}
 use Rattle.do_class.specs.declared.packet.Name.{Name}
@@ -20,12 +20,10 @@ use Rattle.do_facts.specs.Moves.{Runs}
 use Rattle.do_facts.specs.View.{posted}
 use Rattle.do_facts.specs.links.Links as Atom
 use Rattle.do_facts.specs.links.Links.{Links, links, links_of, name_atoms}
-use Rattle.do_facts.specs.links.Moves.{Asks, AsksOnce, Hears, Holds, Returns, note}
-use Rattle.do_facts.specs.links.Moves.{telling}
-use Rattle.do_facts.proofs.Chains.{either}
+use Rattle.do_facts.specs.links.Moves.{Asks, AsksOnce, Hears, Holds, Returns, note, telling}
+use Rattle.do_facts.proofs.Chains.{either, is_closed, not_closed}
 use Rattle.do_facts.proofs.CommitAsNet.{posted_behind}
 use Rattle.do_facts.proofs.Runs.{runs_on, stands}
-use Rattle.do_facts.proofs.Chains.{is_closed, not_closed}
 use Rattle.do_facts.proofs.links.Acts.{act_rules, acts_once}
 
 -- the links of a node that holds other objects

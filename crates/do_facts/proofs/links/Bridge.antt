@@ -1,7 +1,6 @@
 -- Every rule of a step is moves of its node's links.
 use Rattle.std.proofs.Common.{◌≡◌, ◌==◌, ℕ, Bool, true, false, cond, not, List, [], ◌∷◌, filter}
-use Rattle.std.proofs.Common.{refl, ap}
-use Rattle.std.proofs.Common.{◌∙◌, sym, arith}
+use Rattle.std.proofs.Common.{refl, ap, ◌∙◌, sym, arith}
 use Rattle.std.specs.List.{list_any}
 use Rattle.std.proofs.lemmas.Bool.{eqb-true}
 use Rattle.std.proofs.lemmas.Bool.Decides.{nat_tests}
@@ -14,10 +13,9 @@ use Rattle.do_machine.specs.ends.TimeOut.{time_out}
 use Rattle.do_machine.specs.run.Run.{run_effect}
 use Rattle.do_facts.specs.Net.{atoms_of}
 use Rattle.do_facts.specs.links.Links.{Atom, Links, links}
-use Rattle.do_facts.specs.links.Moves.{Asks, AsksOnce, Closes, Ends, Frees, GivesUp, Grants, Holds}
-use Rattle.do_facts.specs.links.Moves.{Hears, Leaves, Lends, Mentions, Misses, Move, Names}
-use Rattle.do_facts.specs.links.Moves.{Receives, Refuses, Returns, Settles, Stores, Strikes}
-use Rattle.do_facts.specs.links.Moves.{link_rules, may, moved, note, opens, posts, telling}
+use Rattle.do_facts.specs.links.Moves.{Asks, Closes, Ends, GivesUp, Grants, Leaves, Lends, Mentions}
+use Rattle.do_facts.specs.links.Moves.{Misses, Move, Names, Receives, Refuses, Returns, link_rules}
+use Rattle.do_facts.specs.links.Moves.{may, moved, note, opens, posts, telling}
 use Rattle.do_facts.specs.links.Sound.{IsSound}
 use Rattle.do_facts.specs.View.{AreMovesIf}
 use Rattle.do_facts.proofs.Bridge.{Bridge}
@@ -61,20 +59,14 @@ module _ (p : Links) (peer : ℕ) (h : opens p peer ≡ false) where
   closed_moved (Leaves o) m = (h, note_elsewhere o.node _ m.0)
   closed_moved (Closes other) m = (closed_stays other p.open_to h, note_elsewhere other _ m)
   closed_moved (GivesUp w told) m = (h, telling_elsewhere told w.token m.2)
-  closed_moved (Holds from serial) m = (h, refl)
   closed_moved (Asks from o token) m = (h, note_elsewhere o.node _ m.1)
-  closed_moved (AsksOnce from o token) m = (h, refl)
   closed_moved (Returns from o token) m = (h, note_elsewhere from _ m.0)
   closed_moved (Grants from serial token) m = (h, note_elsewhere from _ m.0)
   closed_moved (Refuses from serial token) m = (h, note_elsewhere from _ m.0)
   closed_moved (Receives from serial token told) m = (h, telling_elsewhere told token m.1)
   closed_moved (Misses from serial token told) m = (h, telling_elsewhere told token m.1)
-  closed_moved (Settles from number) m = (h, refl)
-  closed_moved (Frees from serial) m = (h, refl)
   closed_moved (Ends from serials) m = (closed_stays from p.open_to h, note_elsewhere from _ m)
-  closed_moved (Hears from serial) m = (h, refl)
-  closed_moved (Stores heap serial) m = (h, refl)
-  closed_moved (Strikes heap) m = (h, refl)
+  closed_moved _ m = (h, refl)
 
 -- an effect that is moves while nothing is freed is moves, where there is one
 moves_if : (n : Node) (e : Option Effect) → AreMovesIf links act_rules n e →

@@ -1,11 +1,11 @@
 -- Closing an end is moves of a node's links.
-use Rattle.std.proofs.Common.{◌≡◌, ◌==◌, ◌++◌, ℕ, true, false, not, List, [], ◌∷◌, filter}
-use Rattle.std.proofs.Common.{refl, sym, ap, ◌∙◌, subst, arith, inl, inr}
+use Rattle.std.proofs.Common.{◌≡◌, ◌==◌, ◌++◌, ℕ, true, false, not, List, [], ◌∷◌, filter, refl}
+use Rattle.std.proofs.Common.{sym, ap, ◌∙◌, subst, arith, inl, inr}
 use Rattle.std.specs.List.{list_any}
 use Rattle.std.proofs.lemmas.Bool.Decides.{nat_tests}
 use Rattle.do_machine.specs.declared.node.Node.{Node}
 use Rattle.do_machine.specs.declared.node.Wanted.{Wanted}
-use Rattle.do_machine.specs.Effect.{each, only}
+use Rattle.do_machine.specs.Effect.{each}
 use Rattle.do_machine.specs.Lists.{IsIn}
 use Rattle.do_machine.specs.State.{is_open}
 use Rattle.do_machine.specs.ends.Closing.{asked_of, closing, parted}
@@ -14,18 +14,16 @@ use Rattle.do_facts.specs.StandOnce.{StandOnce}
 use Rattle.do_facts.specs.Moves.{Runs}
 use Rattle.do_facts.specs.View.{AreMoves, posted}
 use Rattle.do_facts.specs.links.Links.{Links, links, links_of}
-use Rattle.do_facts.specs.links.Moves.{Closes, GivesUp, closed, has_wanted, opens}
-use Rattle.do_facts.specs.links.Moves.{without_ask}
+use Rattle.do_facts.specs.links.Moves.{Closes, GivesUp, closed, has_wanted, opens, without_ask}
 use Rattle.do_facts.specs.links.Sound.{IsSound}
-use Rattle.do_facts.proofs.Chains.{either}
 use Rattle.do_facts.proofs.CommitAsNet.{posted_behind}
 use Rattle.do_facts.proofs.OnceInLists.{apart_in, found_in, in_filtered, once_filtered}
-use Rattle.do_facts.proofs.OnceInLists.{passing_taken}
-use Rattle.do_facts.proofs.OnceInLists.{still_there, taken_out}
+use Rattle.do_facts.proofs.OnceInLists.{passing_taken, still_there, taken_out}
 use Rattle.do_facts.proofs.Runs.{runs_on, stands}
 use Rattle.do_facts.proofs.links.AskingIsMoves.{settled_posts}
 use Rattle.do_facts.proofs.links.SameIsEqual.{wanted_is, wanted_itself}
 use Rattle.do_facts.proofs.links.Acts.{act_rules, acts_once}
+use Rattle.do_facts.proofs.walk.SmallEffects.{settled_node, settling_node}
 
 -- the links with other asks
 abbrev with_asks : List Wanted → Links → Links
@@ -37,17 +35,6 @@ MayEnd p ws = (w : Wanted) → IsIn ws w →
     (opens p w.object.node ≡ false) × (has_wanted p w ≡ true)
 
 module _ (n : Node) where
-  -- a lend that is settled changes no node
-  pub settling_stays : (w : Wanted) → (settling w n).node ≡ n
-  settling_stays w =
-      either (λ e. e.node ≡ n) (not (is_open n w.token.lender)) (only n) _ (λ _. refl) (λ _. refl)
-
-  -- nor do many
-  pub settlings_stay : (ws : List Wanted) → (each settling ws n).node ≡ n
-  settlings_stay [] = refl
-  settlings_stay (w ∷ ws) =
-      ap (λ m. (each settling ws m).node) (settling_stays w) ∙ settlings_stay ws
-
   -- asks are given up, one after another
   gives_up : (ws : List Wanted) (p : Links) → p.open_to ≡ n.open_to →
       StandOnce same_wanted ws → MayEnd p ws →
@@ -74,7 +61,7 @@ module _ (n : Node) where
       (ap (λ xs. xs ++ posted links (each settling ws n).sent)
       (sym (settled_posts w n told refl))
       ∙ ap (λ m. posted links (settling w n).sent ++ posted links (each settling ws m).sent)
-      (sym (settling_stays w))
+      (sym (settling_node w n))
       ∙ sym (posted_behind links (settling w n).sent
       (each settling ws (settling w n).node).sent))
       (runs_on act_rules (acts_once p (GivesUp w told) tt (now.0, now.1, ends)) rest)
@@ -110,7 +97,7 @@ module _ (peer : ℕ) (n : Node) where
       let ws = asked_of peer n in
       subst (λ p. Runs act_rules q [] p (posted links (each settling ws m).sent))
       (ap (λ xs. with_asks xs q) asks_left
-      ∙ ap links_of (sym (settlings_stay m ws)))
+      ∙ ap links_of (sym (settled_node ws m)))
       (gives_up m ws q refl
       (once_filtered same_wanted (λ w. w.object.node == peer) n.asked sound.asked) may_end)
 

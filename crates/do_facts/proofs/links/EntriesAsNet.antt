@@ -80,15 +80,10 @@ module _ (a m s : ℕ) where
   item_exports (items.Call number x) = grind (arith, nat_tests, names_export x.packet.names)
   item_exports (items.Oneway x) = grind (arith, nat_tests, names_export x.packet.names)
   item_exports (items.Reply number packet) = names_export packet.names
-  item_exports (items.Raised number e) = refl
-  item_exports (items.RootAsk number) = refl
   item_exports (items.RootAnswer number packet) = names_export packet.names
-  item_exports (items.Ask t k) = refl
   item_exports (items.Granted t k) = grind (arith, nat_tests)
-  item_exports (items.Gone t k) = refl
-  item_exports (items.Left t) = refl
-  item_exports (items.Settled t) = refl
   item_exports (items.End ss) = grind (arith, nat_tests, end_exports ss)
+  item_exports _ = refl
 
   -- and releases as often
   item_releases : (item : Item) → has_object (released m a item) (object_at a s)
@@ -96,15 +91,10 @@ module _ (a m s : ℕ) where
   item_releases (items.Call number x) = grind (arith, nat_tests, names_release x.packet.names)
   item_releases (items.Oneway x) = grind (arith, nat_tests, names_release x.packet.names)
   item_releases (items.Reply number packet) = names_release packet.names
-  item_releases (items.Raised number e) = refl
-  item_releases (items.RootAsk number) = refl
   item_releases (items.RootAnswer number packet) = names_release packet.names
-  item_releases (items.Ask t k) = refl
-  item_releases (items.Granted t k) = refl
-  item_releases (items.Gone t k) = refl
   item_releases (items.Left t) = grind (arith, nat_tests)
-  item_releases (items.Settled t) = refl
   item_releases (items.End ss) = grind (arith, nat_tests, end_releases ss)
+  item_releases _ = refl
 
   module _ (S : State) where
     -- the net

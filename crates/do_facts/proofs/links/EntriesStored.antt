@@ -1,7 +1,6 @@
 -- In every state that a machine comes to, an object of which a peer has an entry is stored.
-use Rattle.std.proofs.Common.{◌≡◌, ◌<◌, ◌&&◌, ℕ, Bool, true}
-use Rattle.std.proofs.Common.{List}
-use Rattle.std.proofs.Common.{[], refl, sym, ap, ◌∙◌, subst, arith}
+use Rattle.std.proofs.Common.{◌≡◌, ◌<◌, ◌&&◌, ℕ, Bool, true, List, [], refl, sym, ap, ◌∙◌, subst}
+use Rattle.std.proofs.Common.{arith}
 use Rattle.std.specs.Prelude.{None, Option, Some, is_some, nat_lt}
 use Rattle.std.proofs.lemmas.Bool.Decides.{nat_tests}
 use Rattle.do_base.specs.declared.events.event.Event.{Event}
@@ -31,8 +30,7 @@ use Rattle.do_facts.specs.links.Moves.{Strikes, is_there, opens, stores}
 use Rattle.do_facts.proofs.OpeningAsNet.{opening_parts, opening_wires}
 use Rattle.do_facts.proofs.ReachedStates.{holds_of_reached}
 use Rattle.do_facts.proofs.links.EntriesAsNet.{entry_same}
-use Rattle.do_facts.proofs.links.EntriesKept.{EntriesHold, entries_keep, in_use}
-use Rattle.do_facts.proofs.links.EntriesKept.{strikes}
+use Rattle.do_facts.proofs.links.EntriesKept.{EntriesHold, entries_keep, in_use, strikes}
 use Rattle.do_facts.proofs.links.HeapsGrow.{kept_before}
 use Rattle.do_facts.proofs.links.LinksKept.{links_keep}
 use Rattle.do_facts.proofs.links.ReachedLinks.{opening_keeps, step_keeps}

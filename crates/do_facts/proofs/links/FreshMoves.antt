@@ -8,15 +8,12 @@ use Rattle.do_machine.specs.declared.node.Wanted.{Wanted}
 use Rattle.do_machine.specs.lend.Asking.{same_wanted, wanted}
 use Rattle.do_machine.specs.Objects.{object_at}
 use Rattle.do_facts.specs.Net.{Net, Note, net_after}
-use Rattle.do_facts.specs.links.Links.{Ask, Atom, End, Lent, Links}
-use Rattle.do_facts.specs.links.Links.{Settled}
-use Rattle.do_facts.specs.links.Moves.{Lends, Settles, closed, moved, next_lend}
-use Rattle.do_facts.specs.links.Moves.{note, without_ask}
+use Rattle.do_facts.specs.links.Links.{Ask, Atom, End, Lent, Links, Settled}
+use Rattle.do_facts.specs.links.Moves.{Lends, Settles, closed, moved, next_lend, note, without_ask}
 use Rattle.do_facts.specs.links.Facts.{EachFresh, asked_in}
 use Rattle.do_facts.proofs.Notes.{total-append}
 use Rattle.do_facts.proofs.links.ListsChanged.{asked_less, is_ask, lends_apart, lends_less}
-use Rattle.do_facts.proofs.links.ListsChanged.{lends_more}
-use Rattle.do_facts.proofs.links.ListsChanged.{lent_apart, lent_less, lent_more}
+use Rattle.do_facts.proofs.links.ListsChanged.{lends_more, lent_apart, lent_less, lent_more}
 
 ruleset steps = (nat_tests, total-append)
 

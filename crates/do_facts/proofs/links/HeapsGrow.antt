@@ -1,7 +1,6 @@
 -- What is stored once slots are written, objects are made, or some are freed.
 use Rattle.std.proofs.Common.{◌≡◌, ◌==◌, ◌++◌, ◌+◌, ◌<◌, ℕ, Bool, zero, suc, true, false, cond}
-use Rattle.std.proofs.Common.{List}
-use Rattle.std.proofs.Common.{[], ◌∷◌, filter, length, refl, ap, ◌∙◌, sym, arith}
+use Rattle.std.proofs.Common.{List, [], ◌∷◌, filter, length, refl, ap, ◌∙◌, sym, arith}
 use Rattle.std.specs.Prelude.{None, Option, Some, is_some}
 use Rattle.std.specs.Option.{option_or}
 use Rattle.std.proofs.lemmas.Bool.Decides.{nat_tests}

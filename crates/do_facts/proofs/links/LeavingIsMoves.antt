@@ -1,6 +1,6 @@
 -- What follows a step is moves of a node's links.
-use Rattle.std.proofs.Common.{◌≡◌, ℕ, Bool, true, false, not, List, [], ◌∷◌, filter, map}
-use Rattle.std.proofs.Common.{refl, sym, ap, ◌∙◌, ◌++◌, ◌||◌, subst, inl, inr}
+use Rattle.std.proofs.Common.{◌≡◌, ℕ, Bool, true, false, not, List, [], ◌∷◌, filter, map, refl, sym}
+use Rattle.std.proofs.Common.{ap, ◌∙◌, ◌++◌, ◌||◌, subst, inl, inr}
 use Rattle.std.specs.List.{list_any}
 use Rattle.std.proofs.lemmas.List.Folds.{list_any-append}
 use Rattle.do_base.specs.names.Names.{ObjectName}
@@ -17,8 +17,7 @@ use Rattle.do_facts.specs.links.Links.{Links, links, links_of}
 use Rattle.do_facts.specs.links.Moves.{Leaves, Strikes, is_in_use, link_rules, moved, opens}
 use Rattle.do_facts.specs.links.Sound.{IsSound}
 use Rattle.do_facts.proofs.OnceInLists.{apart_in, filter_agrees, found_in, in_filtered}
-use Rattle.do_facts.proofs.OnceInLists.{once_filtered}
-use Rattle.do_facts.proofs.OnceInLists.{passing_taken, still_there, taken_out}
+use Rattle.do_facts.proofs.OnceInLists.{once_filtered, passing_taken, still_there, taken_out}
 use Rattle.do_facts.proofs.Runs.{moves_once, runs_on, stands}
 use Rattle.do_facts.proofs.links.HeapsGrow.{kept_before}
 use Rattle.do_facts.proofs.links.SameIsEqual.{object_is, object_itself}

@@ -1,6 +1,5 @@
 -- Each lend stays in one place, as objects are lent and asked for, and ends closed.
-use Rattle.std.proofs.Common.{◌≡◌, ◌≢◌, ℕ, true, false, List, [], ◌∷◌}
-use Rattle.std.proofs.Common.{arith}
+use Rattle.std.proofs.Common.{◌≡◌, ◌≢◌, ℕ, true, false, List, [], ◌∷◌, arith}
 use Rattle.std.specs.Prelude.{if◌then◌else◌}
 use Rattle.std.specs.List.{list_any}
 use Rattle.std.proofs.lemmas.Bool.Decides.{nat_tests}
@@ -10,14 +9,13 @@ use Rattle.do_machine.specs.lend.Asking.{same_wanted, wanted}
 use Rattle.do_machine.specs.Objects.{object_at}
 use Rattle.do_facts.specs.Net.{Net, Note, net_after}
 use Rattle.do_facts.proofs.Notes.{total-append}
-use Rattle.do_facts.specs.links.Links.{Ask, Atom, End, Lent, Links}
-use Rattle.do_facts.specs.links.Links.{Settled}
-use Rattle.do_facts.specs.links.Moves.{Lends, Settles, closed, moved, next_lend}
-use Rattle.do_facts.specs.links.Moves.{note, opens, without_ask}
+use Rattle.do_facts.specs.links.Links.{Ask, Atom, End, Lent, Links, Settled}
+use Rattle.do_facts.specs.links.Moves.{Lends, Settles, closed, moved, next_lend, note, opens}
+use Rattle.do_facts.specs.links.Moves.{without_ask}
 use Rattle.do_facts.specs.links.Facts.{EachFresh, EachLend, EachToken, asked_in, lent_in}
 use Rattle.do_facts.proofs.links.ListsChanged.{asked_less, lends_apart, lends_less, lends_more}
-use Rattle.do_facts.proofs.links.ListsChanged.{is_ask, lent_lends}
-use Rattle.do_facts.proofs.links.ListsChanged.{lent_apart, lent_less, lent_more, open_less}
+use Rattle.do_facts.proofs.links.ListsChanged.{is_ask, lent_lends, lent_apart, lent_less, lent_more}
+use Rattle.do_facts.proofs.links.ListsChanged.{open_less}
 
 ruleset steps = (nat_tests, total-append)
 

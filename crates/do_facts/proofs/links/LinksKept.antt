@@ -1,6 +1,5 @@
 -- Whatever happens, each lend and each ask stays in one place.
-use Rattle.std.proofs.Common.{◌≡◌, ℕ, Bool, true, false, List, [], ◌∷◌}
-use Rattle.std.proofs.Common.{refl, sym, arith, ◌∙◌}
+use Rattle.std.proofs.Common.{◌≡◌, ℕ, Bool, true, false, List, [], ◌∷◌, refl, sym, arith, ◌∙◌}
 use Rattle.std.proofs.lemmas.Bool.Decides.{nat_tests}
 use Rattle.do_base.specs.names.Names.{ObjectName, TokenName}
 use Rattle.do_machine.specs.Objects.{object_at}
@@ -14,8 +13,8 @@ use Rattle.do_facts.specs.links.Links.{Atom, Links}
 use Rattle.do_facts.specs.links.Moves.{Asks, AsksOnce, Closes, Ends, Frees, GivesUp, Grants, Holds}
 use Rattle.do_facts.specs.links.Moves.{Hears, Leaves, Lends, Mentions, Misses, Move, Names}
 use Rattle.do_facts.specs.links.Moves.{Receives, Refuses, Returns, Settles, Stores, Strikes}
-use Rattle.do_facts.specs.links.Moves.{link_rules, may, moved, note}
-use Rattle.do_facts.specs.links.Moves.{has_wanted, opens, posts, takes, telling, without_ask}
+use Rattle.do_facts.specs.links.Moves.{link_rules, may, moved, note, has_wanted, opens, posts}
+use Rattle.do_facts.specs.links.Moves.{takes, telling, without_ask}
 use Rattle.do_facts.specs.links.Facts.{EachAsk, EachFresh, EachLend, EachToken, LinksHold}
 use Rattle.do_facts.specs.links.Facts.{answer_of, ask_of, asked_in, lends_to, same3}
 use Rattle.do_facts.proofs.links.AskMoves as Ask
@@ -25,9 +24,8 @@ use Rattle.do_facts.proofs.links.LinksStay.{NoLends, as_was, at_once, fresh_stay
 use Rattle.do_facts.proofs.links.LinksStay.{no_lend, nothing_lent, now}
 use Rattle.do_facts.proofs.links.ListsChanged.{asked_more, lend_there}
 use Rattle.do_facts.proofs.links.StoredMoves.{stored_hold}
-use Rattle.do_facts.proofs.links.TokenMoves.{apart_same, asks_lost, fresh_lost}
-use Rattle.do_facts.proofs.links.TokenMoves.{lends_lost, tokens_same}
-use Rattle.do_facts.proofs.links.TokenMoves.{tokens_settled}
+use Rattle.do_facts.proofs.links.TokenMoves.{apart_same, asks_lost, fresh_lost, lends_lost}
+use Rattle.do_facts.proofs.links.TokenMoves.{tokens_same, tokens_settled}
 use Rattle.do_facts.proofs.FirstOnWire.{first_of}
 use Rattle.do_facts.proofs.links.PlainMoves
 use Rattle.do_facts.proofs.links.PlainMoves.{Now, closes, other}

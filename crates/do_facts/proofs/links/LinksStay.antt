@@ -1,6 +1,6 @@
 -- Where what a node takes and posts counts for no lend and for no ask, each is where it was.
-use Rattle.std.proofs.Common.{◌≡◌, ◌==◌, ◌+◌, ◌≤◌, ◌∙◌, ℕ, Bool, true, false, cond, List, []}
-use Rattle.std.proofs.Common.{◌∷◌, refl, sym, ap, subst, arith}
+use Rattle.std.proofs.Common.{◌≡◌, ◌==◌, ◌+◌, ◌≤◌, ◌∙◌, ℕ, Bool, true, false, cond, List, [], ◌∷◌}
+use Rattle.std.proofs.Common.{refl, sym, ap, subst, arith}
 use Rattle.std.specs.List.{list_any}
 use Rattle.std.proofs.lemmas.Bool.{eqb-true}
 use Rattle.do_base.specs.names.Names.{ObjectName}
@@ -9,8 +9,7 @@ use Rattle.do_machine.specs.lend.Asking.{wanted}
 use Rattle.do_machine.specs.lend.Lending.{is_lend}
 use Rattle.do_facts.specs.Net.{Net, Note, StandFirst, atoms_of, net_after, total}
 use Rattle.do_facts.specs.links.Facts.{EachAsk, EachFresh, EachLend, answer_of, ask_of, asked_in}
-use Rattle.do_facts.specs.links.Facts.{back_of, is_lent_to, lend_out}
-use Rattle.do_facts.specs.links.Facts.{settled, way_of}
+use Rattle.do_facts.specs.links.Facts.{back_of, is_lent_to, lend_out, settled, way_of}
 use Rattle.do_facts.specs.links.Links.{Atom, Links}
 use Rattle.do_facts.specs.links.Moves.{has_wanted, note, opens}
 use Rattle.do_facts.proofs.SumsOfLists.{number_if}

@@ -19,11 +19,10 @@ use Rattle.do_machine.proofs.Inserting.{inserted_moves}
 use Rattle.do_facts.specs.Net.{Note}
 use Rattle.do_facts.specs.links.Links.{Ask, Atom, End, Gone, Granted, Left, Lent, Links, Mine}
 use Rattle.do_facts.specs.links.Links.{Settled, Yours}
-use Rattle.do_facts.specs.links.Moves.{Asks, AsksOnce, Closes, Ends, Frees, GivesUp, Grants, Hears}
-use Rattle.do_facts.specs.links.Moves.{Holds, Leaves, Lends, Mentions, Misses, Move, Names}
-use Rattle.do_facts.specs.links.Moves.{Receives, Refuses, Returns, Settles, Stores, Strikes}
-use Rattle.do_facts.specs.links.Moves.{closed, may, may_name, moved, next_lend, opens, posts}
-use Rattle.do_facts.specs.links.Moves.{stores, takes, telling, without_ask}
+use Rattle.do_facts.specs.links.Moves.{Asks, Closes, Ends, GivesUp, Grants, Holds, Leaves, Lends}
+use Rattle.do_facts.specs.links.Moves.{Mentions, Misses, Move, Names, Receives, Refuses, Returns}
+use Rattle.do_facts.specs.links.Moves.{Settles, Stores, Strikes, closed, may, may_name, moved}
+use Rattle.do_facts.specs.links.Moves.{next_lend, opens, posts, stores, takes, telling, without_ask}
 use Rattle.do_facts.proofs.links.SameIsEqual.{object_is}
 
 -- each object that a part holds, lends or asks for is such
@@ -198,7 +197,6 @@ module _ (P : ObjectName → Type 0) where
           },
           (t.0, tt),
         )
-    names_moved own (AsksOnce from o token) m t = (named, tt)
     names_moved own (Returns from o token) m t = (named, (tt, tt))
     names_moved own (Grants from s k) m t = (named, (t.0, tt))
     names_moved own (Refuses from s k) m t = (named, (t.0, tt))
@@ -226,11 +224,10 @@ module _ (P : ObjectName → Type 0) where
       },
       tt,
     )
-    names_moved own (Frees from s) m t = (named, tt)
     names_moved own (Ends from names) m t =
         (closed_names from, (serials_pass from p.held named.held, tt))
-    names_moved own (Hears from s) m t = (named, tt)
     names_moved own (Stores heap serial) m t =
         (record { held = named.held; lent = named.lent; asked = named.asked }, tt)
     names_moved own (Strikes heap) m t =
         (record { held = named.held; lent = named.lent; asked = named.asked }, tt)
+    names_moved own _ m t = (named, tt)

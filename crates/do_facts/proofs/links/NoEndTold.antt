@@ -12,8 +12,7 @@ use Rattle.do_facts.specs.links.Links.{Settled, Yours}
 use Rattle.do_facts.specs.links.Moves.{Asks, AsksOnce, Closes, Ends, Frees, GivesUp, Grants, Holds}
 use Rattle.do_facts.specs.links.Moves.{Hears, Leaves, Lends, Mentions, Misses, Move, Names}
 use Rattle.do_facts.specs.links.Moves.{Receives, Refuses, Returns, Settles, Stores, Strikes, closed}
-use Rattle.do_facts.specs.links.Moves.{link_rules, moved, note, opens}
-use Rattle.do_facts.specs.links.Moves.{posts, takes, telling}
+use Rattle.do_facts.specs.links.Moves.{link_rules, moved, note, opens, posts, takes, telling}
 use Rattle.do_facts.proofs.Notes.{total-append}
 use Rattle.do_facts.proofs.links.ListsChanged.{open_less, was_open}
 
@@ -130,12 +129,10 @@ module _ (net : Net Links Atom) (a : ℕ) (silent : EachSilent net) where
       quiet (Refuses from s k) = silent_note p from (Gone s k) (λ s. refl)
       quiet (Receives from s k told) = silent_telling (moved p (Receives from s k told)) told k
       quiet (Misses from s k told) = silent_telling (moved p (Misses from s k told)) told k
-      quiet (Settles from number) = λ z s o. refl
       quiet (Frees from s) = λ z s o. refl
       quiet (Mentions to s) = silent_note p to (Yours s) (λ s. refl)
       quiet (Hears from s) = λ z s o. refl
-      quiet (Stores heap serial) = λ z s o. refl
-      quiet (Strikes heap) = λ z s o. refl
+      quiet _ = λ z s o. refl
 
 -- whatever happens
 pub silent_keeps : Keeps link_rules EachSilent

@@ -1,7 +1,6 @@
 -- Every move keeps what every node keeps of foreign objects.
 use Rattle.std.proofs.Common.{◌≡◌, ◌==◌, ◌⊎◌, ◌++◌, ◌<◌, ℕ, suc, Bool, true, false, cond, not, List}
-use Rattle.std.proofs.Common.{[], ◌∷◌}
-use Rattle.std.proofs.Common.{filter, refl, ap, ◌∙◌, arith, inl, inr}
+use Rattle.std.proofs.Common.{[], ◌∷◌, filter, refl, ap, ◌∙◌, arith, inl, inr}
 use Rattle.std.specs.List.{list_any}
 use Rattle.std.proofs.lemmas.Bool.Decides.{nat_tests}
 use Rattle.do_base.specs.names.Names.{ObjectName}
@@ -17,11 +16,9 @@ use Rattle.do_machine.proofs.Bools.{or_cases}
 use Rattle.do_machine.proofs.Having.{has_all_joined, has_passing, passes_among}
 use Rattle.do_facts.specs.StandOnce.{StandOnce}
 use Rattle.do_facts.specs.links.Links.{Links}
-use Rattle.do_facts.specs.links.Moves.{Asks, AsksOnce, Closes, Ends, Frees, GivesUp, Grants, Holds}
-use Rattle.do_facts.specs.links.Moves.{Leaves, Lends, Misses, Move, Names, Receives, Refuses}
-use Rattle.do_facts.specs.links.Moves.{Hears, Mentions, Returns, Settles, Stores, Strikes, closed}
-use Rattle.do_facts.specs.links.Moves.{is_there, may, moved, next_lend, opens, with_held}
-use Rattle.do_facts.specs.links.Moves.{without_ask}
+use Rattle.do_facts.specs.links.Moves.{Asks, Closes, Ends, GivesUp, Holds, Leaves, Lends, Misses}
+use Rattle.do_facts.specs.links.Moves.{Move, Receives, Settles, Stores, Strikes, closed, is_there}
+use Rattle.do_facts.specs.links.Moves.{may, moved, next_lend, opens, with_held, without_ask}
 use Rattle.do_facts.specs.links.Sound.{IsSound}
 use Rattle.do_facts.proofs.OnceInLists.{once_filtered, once_inserted}
 use Rattle.do_facts.proofs.links.SameIsEqual.{object_flips, object_is, wanted_flips}
@@ -113,8 +110,6 @@ module _ (p : Links) (sound : IsSound p) where
 
 -- any move
 pub sound_moved : (p : Links) → IsSound p → (v : Move) → may p v → IsSound (moved p v)
-sound_moved p sound (Names to serial) h = sound
-sound_moved p sound (Mentions to serial) h = sound
 sound_moved p sound (Lends to o) h =
     sound_lent p sound (p.lent ++ next_lend p to o ∷ []) (suc p.token)
 sound_moved p sound (Leaves o) h = record {
@@ -133,10 +128,6 @@ sound_moved p sound (Asks from o token) h = record {
       sound.asked;
   given = sound.given;
 }
-sound_moved p sound (AsksOnce from o token) h = sound
-sound_moved p sound (Returns from o token) h = sound
-sound_moved p sound (Grants from serial token) h = sound
-sound_moved p sound (Refuses from serial token) h = sound
 sound_moved p sound (Receives from serial token told) h =
     let o = object_at from serial in
     sound_less (with_held o p) (sound_held p sound from serial h.0)
@@ -145,9 +136,8 @@ sound_moved p sound (Misses from serial token told) h =
     sound_less p sound (wanted (object_at from serial) token.lender token.number)
 sound_moved p sound (Settles from number) h =
     sound_lent p sound (filter (λ l. not (is_lend from number l)) p.lent) p.token
-sound_moved p sound (Frees from serial) h = sound
 sound_moved p sound (Ends from serials) h = sound_closed p sound from
-sound_moved p sound (Hears from serial) h = sound
 sound_moved p sound (Stores heap serial) h = sound_stored p sound heap serial h.given
 sound_moved p sound (Strikes heap) h =
     sound_stored p sound heap p.serial (λ s e. sound.given s (h s e))
+sound_moved p sound _ h = sound

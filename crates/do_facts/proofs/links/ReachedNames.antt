@@ -1,6 +1,5 @@
 -- In every state that a machine comes to, each object that is named was made.
-use Rattle.std.proofs.Common.{◌≡◌, ◌++◌, ◌<◌, ℕ, true, List, [], ◌∷◌, map, sym, ap, subst}
-use Rattle.std.proofs.Common.{arith}
+use Rattle.std.proofs.Common.{◌≡◌, ◌++◌, ◌<◌, ℕ, true, List, [], ◌∷◌, map, sym, ap, subst, arith}
 use Rattle.std.specs.Prelude.{All, None, Option, Some, nat_lt}
 use Rattle.std.specs.List.{flat_map}
 use Rattle.std.proofs.lemmas.Bool.Decides.{nat_tests}
@@ -29,7 +28,7 @@ use Rattle.do_facts.specs.Made.{NamedAreMade, was_made}
 use Rattle.do_facts.specs.Reached.{reached}
 use Rattle.do_facts.specs.View.{net_of, part_seen, wire_seen}
 use Rattle.do_facts.specs.links.Links as Atoms
-use Rattle.do_facts.specs.links.Links.{Atom, Links, atoms, links, links_of, name_atoms}
+use Rattle.do_facts.specs.links.Links.{Atom, atoms, links, links_of, name_atoms}
 use Rattle.do_facts.specs.links.LinksAreKept.{LinksAreKept}
 use Rattle.do_facts.specs.links.Moves.{link_rules}
 use Rattle.do_facts.proofs.OpeningAsNet.{opening_parts, opening_wires}
@@ -107,8 +106,6 @@ module _ (P : ObjectName → Type 0) (from to : ℕ) where
   item_passes (items.Call number m) h = message_passes m h
   item_passes (items.Oneway m) h = message_passes m h
   item_passes (items.Reply number packet) h = names_pass packet.names h
-  item_passes (items.Raised number e) h = no_name
-  item_passes (items.RootAsk number) h = no_name
   item_passes (items.RootAnswer number packet) h = names_pass packet.names h
   item_passes (items.Ask s k) h = one_name (naming Mentioned to s) (one_passes (Atoms.Ask s k) h)
   item_passes (items.Granted s k) h =
@@ -116,9 +113,9 @@ module _ (P : ObjectName → Type 0) (from to : ℕ) where
   item_passes (items.Gone s k) h =
       one_name (naming Mentioned from s) (one_passes (Atoms.Gone s k) h)
   item_passes (items.Left s) h = one_name (naming Released to s) (one_passes (Atoms.Left s) h)
-  item_passes (items.Settled number) h = no_name
   item_passes (items.End ss) h =
       All-map (λ x. P x.object) (naming Released to) ss (one_passes (Atoms.End ss) h)
+  item_passes _ h = no_name
 
   -- items one behind the other
   items_pass : (queued : List Item) → AtomsPass (flat_map atoms queued) → All ItemPasses queued

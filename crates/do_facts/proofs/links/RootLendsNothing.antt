@@ -1,7 +1,6 @@
 -- The root of a node is named, and lends nothing.
 use Rattle.std.proofs.Common.{◌≡◌, ◌==◌, ◌++◌, ℕ, Bool, true, false, cond, List, [], ◌∷◌, refl, ap}
-use Rattle.std.proofs.Common.{filter}
-use Rattle.std.proofs.Common.{◌∙◌, ◌+◌, subst, append-nil, arith, rules}
+use Rattle.std.proofs.Common.{filter, ◌∙◌, ◌+◌, subst, append-nil, arith, rules}
 use Rattle.std.specs.Prelude.{None, Option, Some, suc}
 use Rattle.std.specs.List.{filter_map}
 use Rattle.std.proofs.lemmas.Bool.Decides.{nat_tests}

@@ -14,9 +14,8 @@ use Rattle.do_machine.specs.declared.state.Effect.{Effect}
 use Rattle.do_machine.specs.declared.verdict.Request.{Request}
 use Rattle.do_machine.specs.declared.verdict.Request.TheVariants as requests
 use Rattle.do_machine.specs.declared.verdict.Verdict.{Verdict}
-use Rattle.do_machine.specs.declared.verdict.Verdict.TheVariants.{Asks, Begins, Fails, Goes, Makes}
-use Rattle.do_machine.specs.declared.verdict.Verdict.TheVariants.{Returns, Says, Steps, Tells, Uses}
-use Rattle.do_machine.specs.declared.verdict.Verdict.TheVariants.{Vends}
+use Rattle.do_machine.specs.declared.verdict.Verdict.TheVariants.{Asks, Fails, Makes}
+use Rattle.do_machine.specs.declared.verdict.Verdict.TheVariants.{Returns, Steps, Tells}
 use Rattle.do_machine.specs.Context.{Context, RunContext}
 use Rattle.do_machine.specs.Effect.{only}
 use Rattle.do_machine.specs.State.{is_open}
@@ -88,8 +87,6 @@ module _ (r : RunContext) (sound : IsSound (links_of r.context.node)) where
 
   -- each verdict
   by_verdict : (v : Verdict) → IsSent n v → Moves n (effect_of r v)
-  by_verdict (Goes into value pc) h = quiet refl refl
-  by_verdict (Uses result outs) h = quiet refl refl
   by_verdict (Steps pc locals handler writes) h =
       let serial = r.top.object.serial in
       let heap = change_first (λ x. x.serial == serial) (with_writes writes) n.heap in
@@ -100,25 +97,23 @@ module _ (r : RunContext) (sound : IsSound (links_of r.context.node)) where
       let heap = n.heap ++ with_serials n.next_serial new in
       acts_once (links_of n) (Stores heap (n.next_serial + 1)) tt
       (grown_made (links_of n) sound.given new)
-  by_verdict (Vends root pc) h = quiet refl refl
-  by_verdict (Says value pc) h = quiet refl refl
   by_verdict (Asks peer request into outs pc) h =
       let m = uses_number (with_top r (waits pc into outs (waits_for n peer request) r.top)) in
       by_requesting m refl peer n.next_call h.0 request h.1
-  by_verdict (Begins o method values into outs pc) h = quiet refl refl
   by_verdict (Tells peer m into pc) h =
       sends_message n (with_top r (goes_on into Nil pc r.top)) peer refl h.0 m (items.Oneway m)
       refl h.1
-  by_verdict (Returns result outs) h = by_delivery (λ reason. Moves n) r delivers (Given result outs) r.top.reason
+  by_verdict (Returns result outs) h =
+      by_delivery (λ reason. Moves n) r delivers (Given result outs) r.top.reason
   by_verdict (Fails e) h = by_failing (λ reason. Moves n) r delivers e r.top.handler
+  by_verdict _ h = quiet refl refl
 
   -- the state of the top invocation
   by_state : (act : Acting) (state : InvState) →
       MovesIf n (option_map (effect_of r) (state_rule act r state))
   by_state act states.Running = by_verdict _ (by_act r (next_act act r))
   by_state act (states.Answered a) = by_verdict _ (by_answer r a)
-  by_state act states.Below = tt
-  by_state act (states.Waits call peer what) = tt
+  by_state act _ = tt
 
 -- a run by the stack
 by_run_on : (act : Acting) (c : Context) → IsSound (links_of c.node) →
@@ -146,10 +141,8 @@ by_start table selector values n = by_begun n (begun table selector values n)
 -- a call that is given up
 by_give_up : (state : InvState) (i : Invocation) (below : List Invocation) (n : Node) →
     MovesIf n (give_up state i below n)
-by_give_up states.Running i below n = tt
-by_give_up states.Below i below n = tt
 by_give_up (states.Waits call peer what) i below n = quiet refl refl
-by_give_up (states.Answered a) i below n = tt
+by_give_up _ i below n = tt
 
 -- a time-out by the stack
 by_time_out_on : (stack : List Invocation) (n : Node) → MovesIf n (time_out_on stack n)

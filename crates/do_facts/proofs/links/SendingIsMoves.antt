@@ -17,8 +17,7 @@ use Rattle.do_facts.specs.Moves.{Runs}
 use Rattle.do_facts.specs.View.{AreMoves}
 use Rattle.do_facts.specs.links.Links.{Atom, Links, atoms, links, links_of, name_atoms}
 use Rattle.do_facts.specs.links.Links.{packet_atoms}
-use Rattle.do_facts.specs.links.Moves.{Lends, Mentions, Names, may_name, moved, opens}
-use Rattle.do_facts.specs.links.Moves.{stores}
+use Rattle.do_facts.specs.links.Moves.{Lends, Mentions, Names, may_name, moved, opens, stores}
 use Rattle.do_facts.proofs.IsSent.{IsMessage}
 use Rattle.do_facts.proofs.links.AreNamed.{AreNamed, NamedBy, is_usable}
 use Rattle.do_facts.proofs.Runs.{runs_on, stands}

@@ -3,8 +3,7 @@ use Rattle.std.proofs.Common.{◌≡◌, ℕ, true, List, [], ◌∷◌, refl, s
 use Rattle.std.specs.Prelude.{Some, unwrap_or}
 use Rattle.std.specs.List.{AllByRecursion, flat_map}
 use Rattle.do_base.specs.declared.events.event.Event.{Event}
-use Rattle.do_base.specs.declared.events.event.Event.TheVariants.{Check, Close, Lose, Run, Start}
-use Rattle.do_base.specs.declared.events.event.Event.TheVariants.{Take, Timeout}
+use Rattle.do_base.specs.declared.events.event.Event.TheVariants.{Close, Lose, Run, Start, Timeout}
 use Rattle.do_base.specs.declared.events.shown.Shown.{Shown}
 use Rattle.do_class.specs.Class.{Class}
 use Rattle.do_machine.specs.declared.item.Item.{Item}
@@ -56,16 +55,16 @@ rule_runs : (table : List Class) (act : Acting) (S : State) (event : Event) (n :
     (e : Effect) → IsSound (links_of n) → IsRuleOf table act S event n e →
     AreMoves links act_rules n [] e
 rule_runs table act S (Start port selector values) n e ok rule =
-    moves_there links act_rules n (start_effect table selector values n) e (by_start table selector values n) rule
+    moves_there links act_rules n (start_effect table selector values n) e
+    (by_start table selector values n) rule
 rule_runs table act S (Run port) n e ok rule =
-    moves_there links act_rules n (run_effect act (context table S n)) e (by_run act (context table S n) ok) rule
-rule_runs table act S (Take port from) n e ok rule = absurd rule
+    moves_there links act_rules n (run_effect act (context table S n)) e
+    (by_run act (context table S n) ok) rule
 rule_runs table act S (Close port peer) n e ok rule =
     subst (λ d. AreMoves links act_rules n [] d) (sym rule.1) (by_closing peer n rule.0 ok)
-rule_runs table act S (Lose from to k) n e ok rule = absurd rule
 rule_runs table act S (Timeout port) n e ok rule =
     moves_there links act_rules n (time_out n) e (by_time_out n) rule
-rule_runs table act S Check n e ok rule = absurd rule
+rule_runs table act S _ n e ok rule = absurd rule
 
 -- the net once the node of a port freed what it does not keep
 abbrev pub freed : State → ℕ → Node → Net Links Atom

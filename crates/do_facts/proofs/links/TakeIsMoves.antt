@@ -24,13 +24,12 @@ use Rattle.do_machine.specs.lend.Asking.{ask_over, granting, settling, wanted, w
 use Rattle.do_machine.specs.run.Fresh.{fresh, pushed, with_objects}
 use Rattle.do_machine.specs.take.Receipt.{arrived, received, receiving_name}
 use Rattle.do_machine.specs.take.Requests.{admission, refusing, request}
-use Rattle.do_machine.specs.take.Take.{holding, method_call, root_call, take_effect}
-use Rattle.do_machine.specs.take.Take.{values_arrival}
+use Rattle.do_machine.specs.take.Take.{holding, method_call, root_call, take_effect, values_arrival}
 use Rattle.do_facts.specs.Net.{noted}
 use Rattle.do_facts.specs.Moves.{Runs}
 use Rattle.do_facts.specs.View.{AreMoves, posted}
 use Rattle.do_facts.specs.links.Links as Atom
-use Rattle.do_facts.specs.links.Links.{Links, atoms, links, links_of, name_atoms, packet_atoms}
+use Rattle.do_facts.specs.links.Links.{atoms, links, links_of, packet_atoms}
 use Rattle.do_facts.specs.links.Moves.{Ends, Frees, Grants, Hears, Misses, Receives, Refuses}
 use Rattle.do_facts.specs.links.Moves.{Settles, Stores, note}
 use Rattle.do_facts.specs.links.Sound.{IsSound}
@@ -39,10 +38,11 @@ use Rattle.do_facts.proofs.CommitAsNet.{posted_behind}
 use Rattle.do_facts.proofs.Runs.{runs_on, stands_by}
 use Rattle.do_facts.proofs.links.AskingIsMoves.{holding_links, names_received, names_stay}
 use Rattle.do_facts.proofs.links.AskingIsMoves.{settled_posts}
-use Rattle.do_facts.proofs.links.ClosingIsMoves.{closing_ends, settling_stays}
+use Rattle.do_facts.proofs.links.ClosingIsMoves.{closing_ends}
 use Rattle.do_facts.proofs.links.HeapsGrow.{grown_made}
 use Rattle.do_facts.proofs.links.RootLendsNothing.{by_root_ask}
 use Rattle.do_facts.proofs.links.Acts.{act_rules, acts_once}
+use Rattle.do_facts.proofs.walk.SmallEffects.{settling_node}
 
 -- what comes after a message leaves the links and posts no atom
 record IsQuiet (n : Node) (e : Effect) : Type 0 where
@@ -52,9 +52,7 @@ record IsQuiet (n : Node) (e : Effect) : Type 0 where
 -- a message that is refused
 by_refusing : (e : Exc) (reason : Reason) (n : Node) → IsQuiet n (refusing e reason n)
 by_refusing e reasons.Start n = record { same = refl; none = refl }
-by_refusing e reasons.Local n = record { same = refl; none = refl }
-by_refusing e (reasons.Call peer number) n = record { same = refl; none = refl }
-by_refusing e (reasons.Oneway peer) n = record { same = refl; none = refl }
+by_refusing e _ n = record { same = refl; none = refl }
 
 -- a message that is admitted or refused
 by_admission : (c : Context) (reason : Reason) (m : Message) (vs : List Value) (n : Node)
@@ -128,7 +126,7 @@ module _ (c : Context) (from : ℕ) (ends : is_open c.node from ≡ true) where
       let told = is_open n token.lender in
       let m = without_wanted w (holder (object_at from serial ∷ [])) in
       subst (λ k. Runs act_rules (links_of n) (note from (Atom.Granted serial token))
-      (links_of k) (posted links (settling w m).sent)) (sym (settling_stays m w))
+      (links_of k) (posted links (settling w m).sent)) (sym (settling_node w m))
       (subst (λ xs. Runs act_rules (links_of n) (note from (Atom.Granted serial token))
       (links_of m) xs) (sym (settled_posts w m told refl))
       (acts_once (links_of n) (Receives from serial token told) tt (ends, refl)))
@@ -142,7 +140,7 @@ module _ (c : Context) (from : ℕ) (ends : is_open c.node from ≡ true) where
       let told = is_open n token.lender in
       let m = without_wanted w (holder []) in
       subst (λ k. Runs act_rules (links_of n) (note from (Atom.Gone serial token))
-      (links_of k) (posted links (settling w m).sent)) (sym (settling_stays m w))
+      (links_of k) (posted links (settling w m).sent)) (sym (settling_node w m))
       (subst (λ xs. Runs act_rules (links_of n) (note from (Atom.Gone serial token))
       (links_of m) xs) (sym (settled_posts w m told refl))
       (acts_once (links_of n) (Misses from serial token told) tt (ends, refl)))

@@ -1,6 +1,6 @@
 -- A token stays that of one object, and a node apart from itself, whatever moves.
-use Rattle.std.proofs.Common.{◌≡◌, ◌==◌, ◌++◌, ℕ, Bool, true, false, cond, List, [], ◌∷◌}
-use Rattle.std.proofs.Common.{◌⊎◌, inl, inr, refl, sym, ◌∙◌, arith}
+use Rattle.std.proofs.Common.{◌≡◌, ◌==◌, ◌++◌, ℕ, Bool, true, false, cond, List, [], ◌∷◌, ◌⊎◌, inl}
+use Rattle.std.proofs.Common.{inr, refl, sym, ◌∙◌, arith}
 use Rattle.std.specs.Prelude.{if◌then◌else◌}
 use Rattle.std.specs.List.{list_any}
 use Rattle.std.proofs.lemmas.Bool.Decides.{nat_tests}
@@ -10,8 +10,7 @@ use Rattle.do_facts.specs.Net.{Net, Note, net_after}
 use Rattle.do_facts.specs.Moves.{with_wire}
 use Rattle.do_facts.specs.links.Links.{Atom, End, Links}
 use Rattle.do_facts.specs.links.Moves.{Lends, Settles, closed, moved, next_lend}
-use Rattle.do_facts.specs.links.Facts.{EachAsk, EachFresh, EachLend, EachToken, is_lent_to}
-use Rattle.do_facts.specs.links.Facts.{open_in}
+use Rattle.do_facts.specs.links.Facts.{EachAsk, EachFresh, EachLend, EachToken, is_lent_to, open_in}
 use Rattle.do_facts.proofs.Notes.{total-append}
 use Rattle.do_facts.proofs.links.ListsChanged.{is_lend_of, lent_apart, lent_less, lent_more}
 use Rattle.do_facts.proofs.links.ListsChanged.{open_less}

@@ -1,11 +1,11 @@
 -- Which invocation an answer goes to.
-use Rattle.std.proofs.Common.{◌≡◌, ◌||◌, ℕ, Bool, true, false, cond, not, List, [], ◌∷◌, ◌++◌, refl}
+use Rattle.std.proofs.Common.{◌≡◌, ◌||◌, ℕ, Bool, true, false, cond, List, [], ◌∷◌, ◌++◌, refl}
 use Rattle.std.proofs.Common.{sym, ap, ◌∙◌, subst, arith}
-use Rattle.std.specs.Prelude.{All, IfSome, Option, filter}
+use Rattle.std.specs.Prelude.{All, IfSome, Option}
 use Rattle.std.specs.Bool.{beq}
 use Rattle.std.specs.List.{list_any}
 use Rattle.std.proofs.lemmas.Grind.{common_steps}
-use Rattle.std.proofs.lemmas.List.Elements.{All-head, All-tail, All-weaker, filter_passes}
+use Rattle.std.proofs.lemmas.List.Elements.{All-head, All-tail}
 use Rattle.std.proofs.lemmas.List.Sorted.{list_any-IsPermutation}
 use Rattle.do_base.specs.names.Names.{CallName}
 use Rattle.do_behave.specs.declared.invocation.Answer.{Answer}
@@ -22,6 +22,7 @@ use Rattle.do_facts.specs.laws.Calls.{IsGivenUp, answered_call}
 use Rattle.do_machine.specs.take.Awaiting.{AnsweredCall, answering, awaits, is_answered}
 use Rattle.do_machine.specs.take.Awaiting.{is_for_root, stack_answered, with_answer}
 use Rattle.do_machine.proofs.Inserting.{inserted_moves}
+use Rattle.do_facts.proofs.machine.Parting.{none_left}
 
 -- no invocation of these waits for the answer
 abbrev NoneAwaits : AnsweredCall → List Invocation → Type 0
@@ -67,14 +68,7 @@ module _ (k : AnsweredCall) (answer : Waited → Answer) where
   -- the late call that is answered is over
   pub late_is_over : (n : Node) →
       All (λ c. is_answered k c.peer c.number c.what ≡ false) (answering k answer n).node.late
-  late_is_over n =
-      let test : LateCall → Bool = λ c. is_answered k c.peer c.number c.what in
-      All-weaker (λ c. not (test c) ≡ true) (λ c. test c ≡ false) (λ c h. failed (test c) h)
-      (filter (λ c. not (test c)) n.late) (filter_passes (λ c. not (test c)) n.late)
-    where
-      failed : (b : Bool) → not b ≡ true → b ≡ false
-      failed true h = cc
-      failed false h = refl
+  late_is_over n = none_left (λ c. is_answered k c.peer c.number c.what) n.late
 
 -- a test is equal to itself
 beq_same : (b : Bool) → beq b b ≡ true

@@ -19,7 +19,7 @@ more_given (c ∷ cs) ds zero class h = h
 more_given (c ∷ cs) ds (suc k) class h = more_given cs ds k class h
 
 -- a class that was given with a serial stays, once more are given
-class_stays : (cs ds : List ClassId) (serial : ℕ) (class : ClassId) →
+pub class_stays : (cs ds : List ClassId) (serial : ℕ) (class : ClassId) →
     class_given cs serial ≡ Some class → class_given (cs ++ ds) serial ≡ Some class
 class_stays cs ds zero class h = cc
 class_stays cs ds (suc k) class h = more_given cs ds k class h

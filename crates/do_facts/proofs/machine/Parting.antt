@@ -11,15 +11,14 @@ use Rattle.do_base.specs.declared.events.exception.Exc.TheVariants.{ConnectionDi
 use Rattle.do_behave.specs.declared.invocation.Answer.TheVariants.{Raised}
 use Rattle.do_behave.specs.declared.invocation.Invocation.{Invocation}
 use Rattle.do_behave.specs.declared.invocation.InvState.{InvState}
-use Rattle.do_behave.specs.declared.invocation.InvState.TheVariants.{Answered, Below, Running}
-use Rattle.do_behave.specs.declared.invocation.InvState.TheVariants.{Waits}
+use Rattle.do_behave.specs.declared.invocation.InvState.TheVariants.{Answered, Waits}
 use Rattle.do_behave.specs.declared.invocation.Waited.{Waited}
 use Rattle.do_machine.specs.declared.node.Node.{Node}
 use Rattle.do_machine.specs.declared.node.Wanted.{Wanted}
 use Rattle.do_machine.specs.declared.state.Effect.{Effect}
 use Rattle.do_machine.specs.declared.state.Parcel.{Parcel}
 use Rattle.do_machine.specs.declared.item.Item.TheVariants as items
-use Rattle.do_machine.specs.Effect.{each, only, queueing}
+use Rattle.do_machine.specs.Effect.{only, queueing}
 use Rattle.do_machine.specs.Lists.{IsIn}
 use Rattle.do_machine.specs.State.{is_open}
 use Rattle.do_machine.specs.ends.Closing.{asked_of, closing, died, parted, without_answer}
@@ -27,30 +26,25 @@ use Rattle.do_facts.specs.laws.Calls.{IsParted, is_settled, waits_on}
 use Rattle.do_machine.specs.lend.Asking.{ask_over, asking, same_wanted, settling, with_wanted}
 use Rattle.do_machine.specs.lend.Asking.{without_wanted}
 use Rattle.do_machine.specs.run.Changes.{answered}
-
--- a test failed where its opposite passed
-failed : (b : Bool) → not b ≡ true → b ≡ false
-failed true h = cc
-failed false h = refl
+use Rattle.do_facts.proofs.walk.SmallEffects.{settled_node, settling_node}
+use Rattle.do_facts.proofs.Chains.{is_closed}
 
 -- of the elements that fail a test none passes it
-none_left : {X : Type 0} (test : X → Bool) (xs : List X) →
+pub none_left : {X : Type 0} (test : X → Bool) (xs : List X) →
     All (λ x. test x ≡ false) (filter (λ x. not (test x)) xs)
 none_left test xs =
-    All-weaker (λ x. not (test x) ≡ true) (λ x. test x ≡ false) (λ x h. failed (test x) h)
+    All-weaker (λ x. not (test x) ≡ true) (λ x. test x ≡ false) (λ x. is_closed (test x))
     (filter (λ x. not (test x)) xs) (filter_passes (λ x. not (test x)) xs)
 
 -- no invocation waits for a peer that died
 died_waits : (peer : ℕ) (state : InvState) → waits_on peer (died peer state) ≡ false
-died_waits peer Running = refl
-died_waits peer Below = refl
 died_waits peer (Waits call p what) = go (p == peer) refl
   where
     go : (b : Bool) → (p == peer) ≡ b →
         waits_on peer (cond b (Answered (Raised ConnectionDied)) (Waits call p what)) ≡ false
     go true e = refl
     go false e = e
-died_waits peer (Answered a) = refl
+died_waits peer _ = refl
 
 -- each invocation is left without the peer's answer
 none_waits : (peer : ℕ) (stack : List Invocation) →
@@ -71,20 +65,6 @@ parted_parts peer n = record {
   late = none_left (λ c. c.peer == peer) n.late;
   calls = none_waits peer n.stack;
 }
-
--- settling lends changes nothing of the node
-settling_node : (w : Wanted) (n : Node) → (settling w n).node ≡ n
-settling_node w n = go (not (is_open n w.token.lender))
-  where
-    go : (b : Bool) →
-        (cond b (only n) (queueing w.token.lender (items.Settled w.token.number) n)).node ≡ n
-    go true = refl
-    go false = refl
-
--- nor does settling several
-pub settled_node : (ws : List Wanted) (n : Node) → (each settling ws n).node ≡ n
-settled_node [] n = refl
-settled_node (w ∷ ws) n = settled_node ws (settling w n).node ∙ settling_node w n
 
 -- a node that closed its end
 pub is_parted : (peer : ℕ) (n : Node) → IsParted peer (closing peer n).node

@@ -1,5 +1,7 @@
 pub mod Follows
 pub mod Steady
+pub mod SteadyRuns
+pub mod SteadyTakes
 pub mod Moves
 pub mod States
 pub mod Steps

@@ -7,8 +7,7 @@ use Rattle.std.proofs.lemmas.Bool.{eqb-true}
 use Rattle.std.proofs.lemmas.List.{take-append-drop}
 use Rattle.std.proofs.lemmas.List.Folds.{list_any-append}
 use Rattle.do_base.specs.declared.events.event.Event.{Event}
-use Rattle.do_base.specs.declared.events.event.Event.TheVariants.{Check, Close, Lose, Run, Start}
-use Rattle.do_base.specs.declared.events.event.Event.TheVariants.{Take, Timeout}
+use Rattle.do_base.specs.declared.events.event.Event.TheVariants.{Check, Lose, Take}
 use Rattle.do_base.specs.names.Names.{ObjectName}
 use Rattle.do_packet.specs.Met.{has_object}
 use Rattle.do_class.specs.Class.{Class}
@@ -85,13 +84,10 @@ take_elsewhere port peer from to h = second (from == peer) (to == port) h
 -- an act touches no queue
 act_elsewhere : (event : Event) (port from to : ℕ) → IsActOf port event →
     touches event from to ≡ false
-act_elsewhere (Start port selector values) p from to h = refl
-act_elsewhere (Run port) p from to h = refl
 act_elsewhere (Take port peer) p from to h = absurd h
-act_elsewhere (Close port peer) p from to h = refl
 act_elsewhere (Lose a b k) p from to h = absurd h
-act_elsewhere (Timeout port) p from to h = refl
 act_elsewhere Check p from to h = absurd h
+act_elsewhere _ p from to h = refl
 
 -- a test of items that an end does not pass finds as much in a queue between nodes that the event
 -- is no step of

@@ -7,7 +7,6 @@ use Rattle.do_base.specs.names.Names.{CallName}
 use Rattle.do_behave.specs.declared.invocation.Answer.TheVariants.{Raised}
 use Rattle.do_behave.specs.declared.invocation.Invocation.{Invocation}
 use Rattle.do_behave.specs.declared.invocation.InvState.{InvState}
-use Rattle.do_behave.specs.declared.invocation.InvState.TheVariants.{Answered, Below, Running}
 use Rattle.do_behave.specs.declared.invocation.InvState.TheVariants.{Waits}
 use Rattle.do_behave.specs.declared.invocation.Waited.{Waited}
 use Rattle.do_class.specs.Class.{Class}
@@ -74,11 +73,9 @@ module _ (table : List Class) (act : Acting) (S : State) (port : ℕ) where
       n.stack ≡ i ∷ below → (state : InvState) → i.state ≡ state →
       (unwrap_or (moved_by port S (give_up state i below n)) (skipped S)).outcome.enabled ≡ true →
       CanGiveUp S port
-  by_state n here i below e Running q on = absurd (cc)
-  by_state n here i below e Below q on = absurd (cc)
   by_state n here i below e (Waits call peer what) q on =
       (n, i, below, call, peer, what, here, record { stack = e; waits = q })
-  by_state n here i below e (Answered a) q on = absurd (cc)
+  by_state n here i below e _ q on = absurd (cc)
 
   -- by the stack
   by_stack : (n : Node) → node S port ≡ Some n → (stack : List Invocation) → n.stack ≡ stack →

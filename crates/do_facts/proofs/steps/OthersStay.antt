@@ -1,11 +1,9 @@
 -- A step changes no node but its own, and no class that was given.
-use Rattle.std.proofs.Common.{◌≡◌, ◌==◌, ℕ, false, List, [], ◌∷◌, refl, sym, ap, ◌∙◌}
-use Rattle.std.proofs.Common.{arith, subst}
+use Rattle.std.proofs.Common.{◌≡◌, ◌==◌, ℕ, false, List, [], ◌∷◌, refl, sym, ap, ◌∙◌, arith, subst}
 use Rattle.std.specs.Prelude.{Some, option_and_then, option_map}
 use Rattle.std.specs.List.{find, insert}
 use Rattle.do_base.specs.declared.events.event.Event.{Event}
-use Rattle.do_base.specs.declared.events.event.Event.TheVariants.{Check, Close, Lose, Run, Start}
-use Rattle.do_base.specs.declared.events.event.Event.TheVariants.{Take, Timeout}
+use Rattle.do_base.specs.declared.events.event.Event.TheVariants.{Close, Run, Start, Timeout}
 use Rattle.do_base.specs.names.Names.{ObjectName}
 use Rattle.do_class.specs.declared.ids.ClassId.{ClassId}
 use Rattle.do_class.specs.Class.{Class}
@@ -27,6 +25,7 @@ use Rattle.do_facts.proofs.machine.ClassesStay.{stays}
 use Rattle.do_facts.proofs.machine.Frame.{elsewhere}
 use Rattle.do_facts.proofs.machine.follows.States.{changed, requeued}
 use Rattle.do_facts.specs.steps.IsStep.{Acts, Checks, IsActOf, IsStep, Loses, Skips, Takes}
+use Rattle.do_base.specs.declared.events.event.Event.TheVariants.{Check, Lose, Take}
 
 -- numbers that are equal to one number and not to the other
 differ : (other actor port : ℕ) → actor ≡ port → (other == actor) ≡ false →
@@ -38,11 +37,17 @@ pub apart_act : (event : Event) (port other : ℕ) → IsActOf port event → Is
     (other == port) ≡ false
 apart_act (Start actor selector values) port other e h = differ other actor port e h
 apart_act (Run actor) port other e h = differ other actor port e h
-apart_act (Take actor from) port other e h = absurd e
 apart_act (Close actor peer) port other e h = differ other actor port e h
-apart_act (Lose from to after) port other e h = absurd e
 apart_act (Timeout actor) port other e h = differ other actor port e h
-apart_act Check port other e h = absurd e
+apart_act _ port other e h = absurd e
+
+-- an event by which another node acts is no step of a node
+pub no_act : (event : Event) (port other : ℕ) → IsActOf port event → (other == port) ≡ false →
+    IsNoStepOf other event
+no_act (Take actor from) port other own h = absurd own
+no_act (Lose from to after) port other own h = absurd own
+no_act Check port other own h = absurd own
+no_act _ port other own h = ap (λ p. other == p) own ∙ h
 
 -- ---- nodes
 

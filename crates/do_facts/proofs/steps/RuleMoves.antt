@@ -52,10 +52,8 @@ module _ (table : List Class) (act : Acting) (S : State) where
       of_effect actor port n e (start_effect table selector values) own here rule
   rule_moves (events.Run actor) port n e own here rule =
       of_effect actor port n e (λ m. run_effect act (context table S m)) own here rule
-  rule_moves (events.Take actor from) port n e own here rule = absurd own
   rule_moves (events.Close actor peer) port n e own here rule =
       of_close actor port peer n e own here rule
-  rule_moves (events.Lose from to after) port n e own here rule = absurd own
   rule_moves (events.Timeout actor) port n e own here rule =
       of_effect actor port n e time_out own here rule
-  rule_moves events.Check port n e own here rule = absurd own
+  rule_moves _ port n e own here rule = absurd own

@@ -1,6 +1,6 @@
 -- Effects of which something holds: of their node, and of each item that they send.
-use Rattle.std.proofs.Common.{◌≡◌, ℕ, List, [], ◌∷◌, ap, inl, inr, refl, subst}
-use Rattle.std.specs.Prelude.{None, Option, Some, unwrap_or}
+use Rattle.std.proofs.Common.{◌≡◌, ℕ, List, [], ◌∷◌, inl, inr, refl}
+use Rattle.std.specs.Prelude.{Option, Some}
 use Rattle.std.specs.List.{AllByRecursion}
 use Rattle.do_base.specs.declared.events.shown.Shown.{Shown}
 use Rattle.do_machine.specs.declared.item.Item.{Item}
@@ -9,6 +9,7 @@ use Rattle.do_machine.specs.declared.state.Effect.{Effect}
 use Rattle.do_machine.specs.Lists.{IsIn}
 use Rattle.do_machine.specs.Effect.{each, only, queueing, showing, ◌>>=◌}
 use Rattle.do_facts.proofs.EachOfLists.{each_joined}
+use Rattle.do_facts.proofs.walk.Possible.{IfAny, there}
 
 -- this holds of the node of an effect, and that of each item that it sends, with the peer
 pub record Done (G : Node → Type 0) (E : ℕ → Item → Type 0) (e : Effect) : Type 0 where
@@ -17,8 +18,7 @@ pub record Done (G : Node → Type 0) (E : ℕ → Item → Type 0) (e : Effect)
 
 -- so it is with an effect, where there is one
 abbrev pub DoneIf : (Node → Type 0) → (ℕ → Item → Type 0) → Option Effect → Type 0
-DoneIf G E None = Unit {0}
-DoneIf G E (Some e) = Done G E e
+DoneIf G E e = IfAny (Done G E) e
 
 module _ {G : Node → Type 0} {E : ℕ → Item → Type 0} where
   -- the node alone changes
@@ -61,5 +61,4 @@ module _ {G : Node → Type 0} {E : ℕ → Item → Type 0} where
   -- the effect that there is
   pub done_there : (found : Option Effect) (e : Effect) → DoneIf G E found → found ≡ Some e →
       Done G E e
-  done_there None e h q = absurd (cc)
-  done_there (Some d) e h q = subst (Done G E) (ap (λ x. unwrap_or x d) q) h
+  done_there = there (Done G E)

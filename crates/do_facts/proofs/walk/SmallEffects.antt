@@ -1,5 +1,5 @@
 -- What small effects keep and send: asks, grants, settled lends and ends.
-use Rattle.std.proofs.Common.{◌≡◌, ℕ, true, false, not}
+use Rattle.std.proofs.Common.{◌≡◌, ℕ, true, false, not, List, [], ◌∷◌, refl, ◌∙◌}
 use Rattle.std.specs.Prelude.{is_some}
 use Rattle.std.specs.List.{list_any}
 use Rattle.do_base.specs.names.Names.{TokenName}
@@ -21,6 +21,16 @@ pub record Small (G : Node → Type 0) (E : ℕ → Item → Type 0) : Type 0 wh
   pub over : (w : Wanted) (n : Node) → G n → G (without_wanted w n)
   pub settles : (w : Wanted) (n : Node) → is_open n w.token.lender ≡ true → G n →
       E w.token.lender (items.Settled w.token.number)
+
+-- settling a lend changes no node
+pub settling_node : (w : Wanted) (n : Node) → (settling w n).node ≡ n
+settling_node w n =
+    either (λ e. e.node ≡ n) (not (is_open n w.token.lender)) (only n) _ (λ _. refl) (λ _. refl)
+
+-- nor does settling several
+pub settled_node : (ws : List Wanted) (n : Node) → (each settling ws n).node ≡ n
+settled_node [] n = refl
+settled_node (w ∷ ws) n = settled_node ws (settling w n).node ∙ settling_node w n
 
 module _ {G : Node → Type 0} {E : ℕ → Item → Type 0} where
   -- an ask is answered, by whether the object is stored

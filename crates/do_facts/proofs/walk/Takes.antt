@@ -10,7 +10,7 @@ use Rattle.do_base.specs.names.Names.{ObjectName, TokenName}
 use Rattle.do_class.specs.declared.ids.ClassId.{ClassId}
 use Rattle.do_class.specs.declared.ids.MethodId.{MethodId}
 use Rattle.do_class.specs.declared.packet.Name.{Name}
-use Rattle.do_class.specs.declared.packet.Name.TheVariants.{Lent, Mine, Yours}
+use Rattle.do_class.specs.declared.packet.Name.TheVariants.{Lent}
 use Rattle.do_class.specs.declared.packet.Packet.{Packet}
 use Rattle.do_sig.specs.Calls.{args_fit}
 use Rattle.do_behave.specs.declared.invocation.Answer.TheVariants.{Raised}
@@ -92,11 +92,10 @@ module _ {G : Node → Type 0} {E : ℕ → Item → Type 0} (c : Context) (from
     -- a name that is received
     by_name : (packet : Packet) → packet_in item ≡ Some packet → (name : Name) →
         IsIn packet.names name → (n : Node) → G n → Done G E (receiving_name from name n)
-    by_name packet is (Mine serial class) among n h = alone n h
-    by_name packet is (Yours serial) among n h = alone n h
     by_name packet is (Lent o class token) among n h =
         by_asking may.small (wanted o from token) n
         (λ ends. may.asks packet is o class token among n ends h) h
+    by_name packet is _ among n h = alone n h
 
     -- a message that is received
     pub by_receiving : (packet : Packet) → packet_in item ≡ Some packet → (n : Node) → G n →

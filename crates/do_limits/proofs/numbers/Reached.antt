@@ -2,12 +2,11 @@
 use Rattle.do_limits.proofs.Signatures.{HasMethods}
 use Rattle.std.proofs.Common.{◌≡◌, ◌==◌, ◌+◌, ℕ, Bool, true, false, List, [], ◌∷◌, length, map}
 use Rattle.std.proofs.Common.{refl, sym, ap, subst, ◌∙◌, arith}
-use Rattle.std.specs.Prelude.{All, None, Option, Some, suc, unwrap_or}
+use Rattle.std.specs.Prelude.{All, Some, suc, unwrap_or}
 use Rattle.std.specs.List.{insert}
 use Rattle.std.proofs.lemmas.Bool.{eqb-true}
 use Rattle.do_base.specs.declared.events.event.Event.{Event}
-use Rattle.do_base.specs.declared.events.event.Event.TheVariants.{Check, Close, Lose, Run, Start}
-use Rattle.do_base.specs.declared.events.event.Event.TheVariants.{Take, Timeout}
+use Rattle.do_base.specs.declared.events.event.Event.TheVariants.{Close, Run, Start, Timeout}
 use Rattle.do_class.specs.Class.{Class}
 use Rattle.do_machine.specs.declared.item.Item.TheVariants as items
 use Rattle.do_machine.specs.declared.node.Node.{Node}
@@ -35,17 +34,11 @@ use Rattle.do_limits.specs.Numbers.{AllNumbersWithin, NumbersWithin}
 use Rattle.do_limits.specs.SendableActs.{AllStartSendable, KeepsSendable}
 use Rattle.do_limits.specs.SendableStates.{ItemIsSendable, StateIsSendable}
 use Rattle.do_limits.proofs.Senders.{ContextIsSendable}
-use Rattle.do_limits.proofs.numbers.Rises.{Rises, RisesIf, run_rises, same_rises, same_rises_if}
-use Rattle.do_limits.proofs.numbers.Rises.{take_rises}
+use Rattle.do_limits.proofs.numbers.Rises.{Rises, run_rises, same_rises, same_rises_if, take_rises}
 use Rattle.do_limits.proofs.numbers.Same.{closing_same, start_same, time_out_same}
 use Rattle.do_limits.proofs.states.States.{context_sendable, node_sendable, queue_sendable}
 use Rattle.do_limits.proofs.states.Steps.{opening_sendable, step_sendable}
-
--- the effect that there is
-there : (n : Node) (found : Option Effect) (e : Effect) → RisesIf n found → found ≡ Some e →
-    Rises n e
-there n None e h q = absurd (cc)
-there n (Some d) e h q = let same : d ≡ e = cc (q) in subst (Rises n) same h
+use Rattle.do_facts.proofs.walk.Possible.{there}
 
 -- the effect of an event's rule
 ruled : (table : List Class) (act : Acting) (S : State) → HasMethods table →
@@ -53,18 +46,16 @@ ruled : (table : List Class) (act : Acting) (S : State) → HasMethods table →
     ContextIsSendable (context table S n) →
     IsRuleOf table act S event n e → Rises n e
 ruled table act S small acts (Start port selector values) n e ok q =
-    there n (start_effect table selector values n) e
+    there (Rises n) (start_effect table selector values n) e
     (same_rises_if n _ (start_same table selector values n)) q
 ruled table act S small acts (Run port) n e ok q =
-    there n (run_effect act (context table S n)) e
+    there (Rises n) (run_effect act (context table S n)) e
     (run_rises act (context table S n) small acts ok) q
 ruled table act S small acts (Close port peer) n e ok q =
     subst (Rises n) (sym q.1) (same_rises n _ (closing_same peer n))
 ruled table act S small acts (Timeout port) n e ok q =
-    there n (time_out n) e (same_rises_if n _ (time_out_same n)) q
-ruled table act S small acts (Take port from) n e ok q = absurd q
-ruled table act S small acts (Lose from to after) n e ok q = absurd q
-ruled table act S small acts Check n e ok q = absurd q
+    there (Rises n) (time_out n) e (same_rises_if n _ (time_out_same n)) q
+ruled table act S small acts _ n e ok q = absurd q
 
 module _ (count : ℕ) where
   -- one more event

@@ -32,9 +32,8 @@ use Rattle.do_machine.specs.declared.state.Effect.{Effect}
 use Rattle.do_machine.specs.declared.verdict.Request.{Request}
 use Rattle.do_machine.specs.declared.verdict.Request.TheVariants as requests
 use Rattle.do_machine.specs.declared.verdict.Verdict.{Verdict}
-use Rattle.do_machine.specs.declared.verdict.Verdict.TheVariants.{Asks, Begins, Fails, Goes, Makes}
-use Rattle.do_machine.specs.declared.verdict.Verdict.TheVariants.{Returns, Says, Steps, Tells, Uses}
-use Rattle.do_machine.specs.declared.verdict.Verdict.TheVariants.{Vends}
+use Rattle.do_machine.specs.declared.verdict.Verdict.TheVariants.{Asks, Fails, Makes}
+use Rattle.do_machine.specs.declared.verdict.Verdict.TheVariants.{Returns, Tells}
 use Rattle.do_machine.specs.Context.{Context, RunContext}
 use Rattle.do_machine.specs.Items.{exported}
 use Rattle.do_machine.specs.Objects.{object_at}
@@ -50,6 +49,7 @@ use Rattle.do_machine.specs.take.Take.{arrival, holding, method_call, root_call,
 use Rattle.do_machine.specs.take.Take.{values_arrival}
 use Rattle.do_limits.proofs.numbers.Same.{Same, SameIf, closing_same, numbers, name_same}
 use Rattle.do_limits.proofs.numbers.Same.{request_same, small}
+use Rattle.do_facts.proofs.walk.Possible.{IfAny}
 
 -- By an effect a node makes one call at most, as many objects as a message copies, and as many
 -- lends as a message names objects
@@ -60,8 +60,7 @@ pub record Rises (n : Node) (e : Effect) : Type 0 where
 
 -- an effect, where there is one
 abbrev pub RisesIf : Node → Option Effect → Type 0
-RisesIf n None = Unit {0}
-RisesIf n (Some e) = Rises n e
+RisesIf n = IfAny (Rises n)
 
 -- numbers that stay
 pub same_rises : (n : Node) (e : Effect) → Same n e → Rises n e
@@ -131,23 +130,18 @@ module _ (r : RunContext) where
   -- each verdict
   verdict_rises : (v : Verdict) → VerdictIsSendable r.context.table n.port v →
       Rises n (effect_of r v)
-  verdict_rises (Goes into value pc) h = same_rises n _ refl
-  verdict_rises (Uses result outs) h = same_rises n _ refl
-  verdict_rises (Steps pc locals handler writes) h = same_rises n _ refl
   verdict_rises (Makes class into pc) h =
       record { call = omega arith; serial = omega arith; token = omega arith }
-  verdict_rises (Vends root pc) h = same_rises n _ refl
-  verdict_rises (Says value pc) h = same_rises n _ refl
   verdict_rises (Asks peer asked into outs pc) h =
       request_rises peer asked (with_top r (stands pc into outs (waits_for n peer asked) r.top)) h
       refl
-  verdict_rises (Begins o method values into outs pc) h = same_rises n _ refl
   verdict_rises (Tells peer m into pc) h =
       posting_rises n (with_top r (goes_on into Nil pc r.top)) peer m.packet (items.Oneway m)
       h.packet.limits (omega arith) refl refl
   verdict_rises (Returns result outs) h =
       by_delivery (λ reason e. Rises n e) r delivers (Given result outs) r.top.reason
   verdict_rises (Fails e) h = by_failing (λ reason e. Rises n e) r delivers e r.top.handler
+  verdict_rises _ h = same_rises n _ refl
 
   -- a verdict, if there is one
   verdict_rises_if : (v : Option Verdict) → VerdictIfSendable r.context.table n.port v →
@@ -204,8 +198,6 @@ module _ (c : Context) (from : ℕ) where
       (request_same c from reason m) n
   arrival_rises (items.Reply number packet) h n =
       received_rises packet h.limits (values_arrival c (method_call from number)) (λ vs m. refl) n
-  arrival_rises (items.Raised number e) h n = same_rises n _ refl
-  arrival_rises (items.RootAsk number) h n = same_rises n _ refl
   arrival_rises (items.RootAnswer number packet) h n =
       received_rises packet h.limits (values_arrival c (root_call from number)) (λ vs m. refl) n
   arrival_rises (items.Ask serial token) h n = same_rises n _
@@ -217,9 +209,8 @@ module _ (c : Context) (from : ℕ) where
   arrival_rises (items.Gone serial token) h n =
       same_rises n _ (by_ask_over (small n)
       (wanted (object_at from serial) token.lender token.number) n refl).node
-  arrival_rises (items.Left serial) h n = same_rises n _ refl
-  arrival_rises (items.Settled number) h n = same_rises n _ refl
   arrival_rises (items.End serials) h n = same_rises n _ (closing_same from n)
+  arrival_rises _ h n = same_rises n _ refl
 
   -- a take
   pub take_rises : (item : Item) → ItemIsSendable c.table from c.node.port item →

@@ -1,33 +1,28 @@
 -- Effects that leave the numbers of calls, objects and tokens as they were.
-use Rattle.std.proofs.Common.{◌≡◌, ℕ, List, [], ◌∷◌, refl}
-use Rattle.std.specs.Prelude.{Err, None, Ok, Option, Result, Some, option_map}
+use Rattle.std.proofs.Common.{◌≡◌, ℕ, List, refl}
+use Rattle.std.specs.Prelude.{Err, Ok, Option, Result}
 use Rattle.do_base.specs.declared.events.exception.Exc.{Exc}
 use Rattle.do_base.specs.declared.values.value.Value.{Value}
 use Rattle.do_class.specs.Class.{Class}
 use Rattle.do_class.specs.declared.ids.MethodId.{MethodId}
 use Rattle.do_class.specs.declared.packet.Name.{Name}
-use Rattle.do_class.specs.declared.packet.Name.TheVariants.{Lent, Mine, Yours}
-use Rattle.do_behave.specs.declared.invocation.Invocation.{Invocation}
-use Rattle.do_behave.specs.declared.invocation.InvState.{InvState}
-use Rattle.do_behave.specs.declared.invocation.InvState.TheVariants.{Answered, Below, Running}
-use Rattle.do_behave.specs.declared.invocation.InvState.TheVariants.{Waits}
+use Rattle.do_class.specs.declared.packet.Name.TheVariants.{Lent}
 use Rattle.do_behave.specs.declared.invocation.Reason.{Reason}
 use Rattle.do_behave.specs.declared.invocation.Reason.TheVariants as reasons
 use Rattle.do_machine.specs.declared.item.Message.{Message}
 use Rattle.do_machine.specs.declared.node.Node.{Node}
 use Rattle.do_machine.specs.declared.state.Effect.{Effect}
 use Rattle.do_machine.specs.Context.{Context}
-use Rattle.do_machine.specs.Effect.{only}
-use Rattle.do_machine.specs.Start.{begun, start_effect}
+use Rattle.do_machine.specs.Start.{start_effect}
 use Rattle.do_machine.specs.ends.Closing.{closing}
-use Rattle.do_machine.specs.ends.TimeOut.{give_up, time_out, time_out_on}
+use Rattle.do_machine.specs.ends.TimeOut.{time_out}
 use Rattle.do_machine.specs.lend.Asking.{wanted}
-use Rattle.do_machine.specs.run.Fresh.{pushed}
 use Rattle.do_machine.specs.take.Receipt.{receiving_name}
 use Rattle.do_machine.specs.take.Requests.{admission, refusing, request}
 use Rattle.do_facts.proofs.walk.Done.{Done, alone}
 use Rattle.do_facts.proofs.walk.SmallEffects.{Small, by_asking, by_closing}
 use Rattle.do_facts.proofs.walk.Takes.{admitted}
+use Rattle.do_facts.proofs.walk.Possible.{IfAny, by_begins, by_giving_up}
 
 -- the numbers of a node's next call, next object and next token
 abbrev pub numbers : Node → ℕ × (ℕ × ℕ)
@@ -39,8 +34,7 @@ Same n e = numbers e.node ≡ numbers n
 
 -- an effect, where there is one
 abbrev pub SameIf : Node → Option Effect → Type 0
-SameIf n None = Unit {0}
-SameIf n (Some e) = Same n e
+SameIf n = IfAny (Same n)
 
 -- small effects leave them so, whatever they send
 pub small : (n : Node) → Small (λ m. numbers m ≡ numbers n) (λ to item. Unit {0})
@@ -56,18 +50,16 @@ closing_same peer n = (by_closing (small n) peer n refl tt).node
 -- a name that is received
 pub name_same : (from : ℕ) (name : Name) (n m : Node) → numbers m ≡ numbers n →
     Done (λ m. numbers m ≡ numbers n) (λ to item. Unit {0}) (receiving_name from name m)
-name_same from (Mine serial class) n m h = alone m h
-name_same from (Yours serial) n m h = alone m h
-name_same from (Lent o class token) n m h = by_asking (small n) (wanted o from token) m (λ ends. (h, tt)) h
+name_same from (Lent o class token) n m h =
+    by_asking (small n) (wanted o from token) m (λ ends. (h, tt)) h
+name_same from _ n m h = alone m h
 
 -- ---- requests
 
 -- a message that is refused
 refusing_same : (e : Exc) (reason : Reason) (n : Node) → Same n (refusing e reason n)
 refusing_same e reasons.Start n = refl
-refusing_same e reasons.Local n = refl
-refusing_same e (reasons.Call peer number) n = refl
-refusing_same e (reasons.Oneway peer) n = refl
+refusing_same e _ n = refl
 
 -- a message that is admitted or refused
 admitted_same : (c : Context) (reason : Reason) (m : Message) (vs : List Value) (n : Node)
@@ -82,30 +74,11 @@ request_same c from reason m vs n = admitted_same c reason m vs n (admission c f
 
 -- ---- starts and time-outs
 
--- an invocation that is begun
-begun_same : (n : Node) (found : Option Invocation) →
-    SameIf n (option_map (λ i. only (pushed i n)) found)
-begun_same n None = tt
-begun_same n (Some i) = refl
-
 -- a start
 pub start_same : (table : List Class) (selector : List ℕ) (values : List Value) (n : Node) →
     SameIf n (start_effect table selector values n)
-start_same table selector values n = begun_same n (begun table selector values n)
-
--- an invocation that waits no longer
-give_up_same : (state : InvState) (i : Invocation) (below : List Invocation) (n : Node) →
-    SameIf n (give_up state i below n)
-give_up_same Running i below n = tt
-give_up_same Below i below n = tt
-give_up_same (Answered a) i below n = tt
-give_up_same (Waits call peer what) i below n = refl
-
--- by the stack
-time_out_on_same : (stack : List Invocation) (n : Node) → SameIf n (time_out_on stack n)
-time_out_on_same [] n = tt
-time_out_on_same (i ∷ below) n = give_up_same i.state i below n
+start_same table selector values n = by_begins (Same n) table selector values n (λ i. refl)
 
 -- a time-out
 pub time_out_same : (n : Node) → SameIf n (time_out n)
-time_out_same n = time_out_on_same n.stack n
+time_out_same n = by_giving_up (Same n) n (λ call peer what i below. refl)

@@ -25,7 +25,6 @@ use Rattle.do_behave.specs.declared.invocation.Handler.{Handler}
 use Rattle.do_behave.specs.declared.invocation.Invocation.{Invocation}
 use Rattle.do_behave.specs.declared.invocation.InvState.{InvState}
 use Rattle.do_behave.specs.declared.invocation.InvState.TheVariants.{Answered, Below, Running}
-use Rattle.do_behave.specs.declared.invocation.InvState.TheVariants.{Waits}
 use Rattle.do_behave.specs.declared.invocation.Reason.{Reason}
 use Rattle.do_behave.specs.declared.invocation.Reason.TheVariants as reasons
 use Rattle.do_machine.specs.declared.item.Item.TheVariants as items
@@ -304,8 +303,7 @@ module _ (r : RunContext) (small : HasMethods r.context.table) (ok : ContextIsSe
         slots_there)
     judged (Answered (Given v outs)) h = h
     judged (Answered (Raised e)) h = h
-    judged Below h = tt
-    judged (Waits call peer what) h = tt
+    judged _ h = tt
 
     -- the effect of a verdict, where there is one
     verdict_effect_if : (v : Option Verdict) → VerdictIfSendable r.context.table n.port v →

@@ -9,7 +9,6 @@ use Rattle.do_base.specs.declared.values.value.Value.{Value}
 use Rattle.do_class.specs.Class.{Class}
 use Rattle.do_behave.specs.declared.invocation.Invocation.{Invocation}
 use Rattle.do_behave.specs.declared.invocation.InvState.{InvState}
-use Rattle.do_behave.specs.declared.invocation.InvState.TheVariants.{Answered, Below, Running}
 use Rattle.do_behave.specs.declared.invocation.InvState.TheVariants.{Waits}
 use Rattle.do_behave.specs.declared.invocation.Reason.TheVariants as reasons
 use Rattle.do_machine.specs.declared.node.Node.{Node}
@@ -55,9 +54,6 @@ gives_up : {table : List Class} {port : ℕ} →
     (state : InvState) (i : Invocation) (below : List Invocation) (n : Node) →
     NodeIsSendable table port n → InvocationIsSendable i →
     AllByRecursion InvocationIsSendable below → IfSendable table port (give_up state i below n)
-gives_up Running i below n h k b = tt
-gives_up Below i below n h k b = tt
-gives_up (Answered a) i below n h k b = tt
 gives_up (Waits call peer what) i below n h k b =
     alone _ (record {
       heap = h.heap;
@@ -71,6 +67,7 @@ gives_up (Waits call peer what) i below n h k b =
       );
       numbers = h.numbers;
     })
+gives_up _ i below n h k b = tt
 
 -- by the stack
 gives_up_on : {table : List Class} {port : ℕ} → (stack : List Invocation) (n : Node) →

@@ -16,13 +16,10 @@ use Rattle.do_grammar.specs.Words.{◌>>?◌}
 use Rattle.do_script.specs.Listing.{IsWithin, Listing}
 use Rattle.do_script.specs.declared.instruction.Instruction.{Instruction}
 use Rattle.do_script.specs.declared.instruction.Instruction.TheVariants as does
-use Rattle.do_behave.specs.Lists.{can_be, count, gives_found, gives_list, item_at, picks}
-use Rattle.do_behave.specs.Lists.{pushes}
+use Rattle.do_behave.specs.Lists.{can_be, count, gives_found, gives_list, item_at, picks, pushes}
 use Rattle.do_behave.specs.Numbers.{calculates, checked, gives_number, is_i64, is_zero, less, truth}
-use Rattle.do_behave.specs.Script.{code_of, does_next, is_ready, performs}
-use Rattle.do_behave.specs.Script.{runs, script, sends}
-use Rattle.do_behave.specs.Steps.{gives, goes_to, local, local_values, next, or_fault}
-use Rattle.do_behave.specs.Steps.{writes}
+use Rattle.do_behave.specs.Script.{code_of, does_next, is_ready, performs, runs, script, sends}
+use Rattle.do_behave.specs.Steps.{gives, goes_to, local, local_values, next, or_fault, writes}
 use Rattle.do_behave.specs.declared.act.Act.{Act}
 use Rattle.do_behave.specs.declared.act.Act.TheVariants.{Raise, Return, Root, Say, Send, Vend}
 use Rattle.do_behave.specs.declared.invocation.Invocation.{Invocation}

@@ -1,7 +1,6 @@
 -- The lists that scripts make can be carried, and so can what stands in them.
-use Rattle.std.proofs.Common.{◌≡◌, ◌++◌, ◌-◌, ◌<◌, ◌≤◌, ℕ, ℤ, Bool, true}
-use Rattle.std.proofs.Common.{List as Listed, [], ◌∷◌, length, map, refl, sym, subst, arith, rules}
-use Rattle.std.proofs.Common.{◌∙◌}
+use Rattle.std.proofs.Common.{◌≡◌, ◌++◌, ◌-◌, ◌<◌, ◌≤◌, ℕ, ℤ, Bool, true, List as Listed, [], ◌∷◌}
+use Rattle.std.proofs.Common.{length, map, refl, sym, subst, arith, rules, ◌∙◌}
 use Rattle.do_facts.proofs.EachOfLists.{each_joined, each_of}
 use Rattle.std.specs.Prelude.{None, Some, nat_le, nat_lt, pos, suc, zero}
 use Rattle.std.specs.List.{AllByRecursion, list_all}

@@ -1,7 +1,6 @@
 -- The numbers and the texts that scripts make or raise can be carried.
-use Rattle.std.proofs.Common.{◌≡◌, ◌*◌, ◌+◌, ◌<◌, ◌≤◌, ◌^◌, ℕ, ℤ, Bool, true, false}
-use Rattle.std.proofs.Common.{List as Listed, length, refl, sym, subst, arith, rules}
-use Rattle.std.proofs.Common.{◌∙◌}
+use Rattle.std.proofs.Common.{◌≡◌, ◌*◌, ◌+◌, ◌<◌, ◌≤◌, ◌^◌, ℕ, ℤ, Bool, true, false, List as Listed}
+use Rattle.std.proofs.Common.{length, refl, sym, subst, arith, rules, ◌∙◌}
 use Rattle.std.specs.Prelude.{None, Some, nat_le, nat_lt, negsuc, pos}
 use Rattle.std.specs.Option.{IfSome}
 use Rattle.std.proofs.lemmas.Bool.{and_parts}

@@ -1,6 +1,5 @@
 -- The frame of each item on its way has a spelling, while the numbers are small.
-use Rattle.std.proofs.Common.{◌≡◌, ◌<◌, ◌≤◌, ℕ, List, [], ◌∷◌, length, map}
-use Rattle.std.proofs.Common.{arith, refl}
+use Rattle.std.proofs.Common.{◌≡◌, ◌<◌, ◌≤◌, ℕ, List, [], ◌∷◌, length, map, arith, refl}
 use Rattle.do_facts.proofs.EachOfLists.{each_weaker}
 use Rattle.std.specs.Prelude.{None, Option, Some, nat_lt, true}
 use Rattle.std.specs.List.{All, AllByRecursion}
@@ -36,14 +35,17 @@ use Rattle.do_limits.specs.Sendable.{IsSendablePacket, NameIsSendable}
 use Rattle.do_limits.specs.SendableStates.{HasSerial, ItemIsSendable, MessageIsSendable}
 use Rattle.do_limits.specs.SendableStates.{StateIsSendable}
 use Rattle.do_limits.specs.Spelled.{ItemIsSpelled}
-use Rattle.do_limits.proofs.spelled.CallMoves.{CallsGiven}
+use Rattle.do_limits.proofs.spelled.CallMoves.{CallsGiven, ServedGiven}
 use Rattle.do_limits.proofs.spelled.Calls
 use Rattle.do_limits.proofs.spelled.LentTokens.{NameGiven, TokenGiven, names_given}
 use Rattle.do_limits.proofs.spelled.ServedCalls.{AtomGiven}
-use Rattle.do_limits.proofs.spelled.TokenMoves.{TokensGiven}
+use Rattle.do_limits.proofs.spelled.TokenMoves.{TokensGiven, AsksGiven}
 use Rattle.do_limits.proofs.spelled.Tokens
 use Rattle.do_limits.proofs.states.States.{node_sendable, queue_sendable}
 use Rattle.do_limits.proofs.values.Spelling.{message_spelled}
+use Rattle.do_limits.proofs.spelled.ReachedGiven.{items_given}
+use Rattle.do_facts.specs.links.Moves.{link_rules}
+use Rattle.do_facts.specs.calls.Moves.{call_rules}
 
 -- What is known of a state's numbers: objects that are named were made, and tokens and numbers of
 -- calls were given
@@ -234,5 +236,7 @@ module _ (table : List Class) (S : State) (ok : StateIsSendable table S) (count 
     waiting_spelled facts waiting e =
         items_fit waiting (queue_sendable table S ok from to waiting e)
         (by_recursion waiting (facts.made.waiting from to waiting e))
-        (Tokens.items_given S facts.lent from to waiting e)
-        (Calls.items_given S facts.given from to waiting e)
+        (items_given links link_rules (λ q. q.token) AsksGiven TokenGiven S facts.lent from to
+        waiting e)
+        (items_given calls call_rules (λ c. c.next) ServedGiven AtomGiven S facts.given from to
+        waiting e)

@@ -1,6 +1,5 @@
 -- Tokens that were given to lends, in asks and on their way.
-use Rattle.std.proofs.Common.{◌≡◌, ◌||◌, ℕ, Bool, true, false, List, [], ◌∷◌}
-use Rattle.std.proofs.Common.{refl, subst, sym}
+use Rattle.std.proofs.Common.{◌≡◌, ◌||◌, ℕ, Bool, true, false, List, [], ◌∷◌, refl, subst, sym}
 use Rattle.std.specs.List.{AllByRecursion, flat_map, list_any}
 use Rattle.do_base.specs.names.Names.{TokenName}
 use Rattle.do_class.specs.declared.packet.Name.{Name}

@@ -1,16 +1,13 @@
 -- Frames that serve calls whose numbers were given, and how they change.
-use Rattle.std.proofs.Common.{◌≡◌, ◌==◌, ℕ, Bool, true, false, cond, List, []}
-use Rattle.std.proofs.Common.{◌∷◌, arith, map}
+use Rattle.std.proofs.Common.{◌≡◌, ◌==◌, ℕ, Bool, true, false, cond, List, [], ◌∷◌, arith, map}
 use Rattle.std.proofs.Common.{filter, not}
 use Rattle.std.specs.List.{AllByRecursion, list_any}
 use Rattle.std.proofs.lemmas.Bool.Decides.{nat_tests}
 use Rattle.do_behave.specs.declared.invocation.Reason.{Reason}
 use Rattle.do_behave.specs.declared.invocation.Reason.TheVariants as reasons
 use Rattle.do_machine.specs.Lists.{change_first}
-use Rattle.do_facts.specs.calls.Calls.{Answer, Atom, Called, Frame, RootAnswer, RootAsk}
-use Rattle.do_facts.specs.calls.Calls.{Wait}
-use Rattle.do_facts.specs.calls.Moves.{behind, first_rested}
-use Rattle.do_facts.specs.calls.Moves.{first_waits, is_call, is_on_peer}
+use Rattle.do_facts.specs.calls.Calls.{Answer, Atom, Called, Frame, RootAnswer, RootAsk, Wait}
+use Rattle.do_facts.specs.calls.Moves.{behind, first_rested, first_waits, is_call, is_on_peer}
 use Rattle.do_facts.specs.calls.Moves.{rested, without_peer}
 use Rattle.do_facts.proofs.links.ListsChanged.{open_less}
 
@@ -78,7 +75,5 @@ module _ (G : ℕ → ℕ → Type 0) where
 
   -- a reason that is no call
   pub serve_none : (reason : Reason) → is_call reason ≡ false → ReasonGiven G reason
-  serve_none reasons.Start e = tt
-  serve_none reasons.Local e = tt
-  serve_none (reasons.Oneway peer) e = tt
   serve_none (reasons.Call peer k) e = absurd (cc (e))
+  serve_none _ e = tt

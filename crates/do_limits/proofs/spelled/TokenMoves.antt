@@ -1,6 +1,5 @@
 -- Moves of lends give tokens one after another, and tell those alone that were given.
-use Rattle.std.proofs.Common.{◌≡◌, ◌<◌, ◌≤◌, ℕ, true, not}
-use Rattle.std.proofs.Common.{arith, filter}
+use Rattle.std.proofs.Common.{◌≡◌, ◌<◌, ◌≤◌, ℕ, true, not, arith, filter}
 use Rattle.std.specs.List.{AllByRecursion}
 use Rattle.do_machine.specs.declared.node.Wanted.{Wanted}
 use Rattle.do_machine.specs.lend.Asking.{same_wanted, wanted, wanted_lt}
@@ -11,16 +10,14 @@ use Rattle.do_facts.specs.links.Links as Atoms
 use Rattle.do_facts.specs.links.Links.{Atom, Links}
 use Rattle.do_facts.specs.links.Moves.{Asks, AsksOnce, Closes, Ends, Frees, GivesUp, Grants, Hears}
 use Rattle.do_facts.specs.links.Moves.{Holds, Leaves, Lends, Mentions, Misses, Move, Names}
-use Rattle.do_facts.specs.links.Moves.{Receives, Refuses, Returns, Settles, Stores, Strikes}
-use Rattle.do_facts.specs.links.Moves.{may, moved, note, opens, posts, takes}
+use Rattle.do_facts.specs.links.Moves.{Receives, Refuses, Returns, Settles, may, moved, note, opens}
+use Rattle.do_facts.specs.links.Moves.{posts, takes, link_rules}
 use Rattle.do_facts.proofs.links.ListsChanged.{was_open}
 use Rattle.do_facts.proofs.links.PlainMoves.{other}
-use Rattle.do_facts.proofs.EachOfLists.{each_filtered}
+use Rattle.do_facts.proofs.EachOfLists.{each_filtered, each_weaker}
 use Rattle.do_limits.proofs.Lists.{each_placed}
-use Rattle.do_facts.proofs.EachOfLists.{each_weaker}
 use Rattle.do_limits.proofs.spelled.LentTokens.{AskGiven, TokenGiven, ask_among, told_given}
 use Rattle.do_facts.specs.Moves.{Keeps}
-use Rattle.do_facts.specs.links.Moves.{link_rules}
 use Rattle.do_facts.proofs.links.LinksKept.{links_keep}
 use Rattle.do_limits.proofs.spelled.Given.{AllGiven, GiveNumbers, IsGiven, given_keeps, one_taken}
 use Rattle.do_limits.proofs.spelled.Wires.{OfNotes}
@@ -40,48 +37,13 @@ TokensGiven net = AllGiven link_rules (λ p. p.token) AsksGiven TokenGiven net
 -- no move takes a token back
 token_grows : (p : Links) (v : Move) → p.token ≤ (moved p v).token
 token_grows p (Names to s) = omega arith
-token_grows p (Mentions to s) = omega arith
-token_grows p (Lends to o) = omega arith
-token_grows p (Leaves o) = omega arith
-token_grows p (Closes peer) = omega arith
-token_grows p (GivesUp w told) = omega arith
-token_grows p (Holds from s) = omega arith
-token_grows p (Asks from o t) = omega arith
-token_grows p (AsksOnce from o t) = omega arith
-token_grows p (Returns from o t) = omega arith
-token_grows p (Grants from s t) = omega arith
-token_grows p (Refuses from s t) = omega arith
-token_grows p (Receives from s t told) = omega arith
-token_grows p (Misses from s t told) = omega arith
-token_grows p (Settles from k) = omega arith
-token_grows p (Frees from s) = omega arith
-token_grows p (Ends from names) = omega arith
-token_grows p (Hears from s) = omega arith
-token_grows p (Stores heap serial) = omega arith
-token_grows p (Strikes heap) = omega arith
+token_grows p _ = omega arith
 
 -- no move opens an end
 opens_less : (p : Links) (v : Move) (peer : ℕ) → opens (moved p v) peer ≡ true → opens p peer ≡ true
-opens_less p (Names to s) peer o = o
-opens_less p (Mentions to s) peer o = o
-opens_less p (Lends to x) peer o = o
-opens_less p (Leaves x) peer o = o
 opens_less p (Closes shut) peer o = was_open p shut peer o
-opens_less p (GivesUp w told) peer o = o
-opens_less p (Holds from s) peer o = o
-opens_less p (Asks from x t) peer o = o
-opens_less p (AsksOnce from x t) peer o = o
-opens_less p (Returns from x t) peer o = o
-opens_less p (Grants from s t) peer o = o
-opens_less p (Refuses from s t) peer o = o
-opens_less p (Receives from s t told) peer o = o
-opens_less p (Misses from s t told) peer o = o
-opens_less p (Settles from k) peer o = o
-opens_less p (Frees from s) peer o = o
 opens_less p (Ends from names) peer o = was_open p from peer o
-opens_less p (Hears from s) peer o = o
-opens_less p (Stores heap serial) peer o = o
-opens_less p (Strikes heap) peer o = o
+opens_less p _ peer o = o
 
 module _ (G : ℕ → ℕ → Type 0) (a : ℕ) (p : Links) (all : AsksGiven G p) where
   -- the asks without one
@@ -90,28 +52,13 @@ module _ (G : ℕ → ℕ → Type 0) (a : ℕ) (p : Links) (all : AsksGiven G p
 
   -- what the node asks for then
   asks_then : (v : Move) → may p v → Takes G a v → AsksGiven G (moved p v)
-  asks_then (Names to s) m took = all
-  asks_then (Mentions to s) m took = all
-  asks_then (Lends to o) m took = all
-  asks_then (Leaves o) m took = all
-  asks_then (Closes peer) m took = all
   asks_then (GivesUp w told) m took = fewer w
-  asks_then (Holds from s) m took = all
   asks_then (Asks from o t) m took =
       each_placed (AskGiven G) wanted_lt (wanted o from t) p.asked
       took.0 all
-  asks_then (AsksOnce from o t) m took = all
-  asks_then (Returns from o t) m took = all
-  asks_then (Grants from s t) m took = all
-  asks_then (Refuses from s t) m took = all
   asks_then (Receives from s t told) m took = fewer (wanted (object_at from s) t.lender t.number)
   asks_then (Misses from s t told) m took = fewer (wanted (object_at from s) t.lender t.number)
-  asks_then (Settles from k) m took = all
-  asks_then (Frees from s) m took = all
-  asks_then (Ends from names) m took = all
-  asks_then (Hears from s) m took = all
-  asks_then (Stores heap serial) m took = all
-  asks_then (Strikes heap) m took = all
+  asks_then _ m took = all
 
   -- what it posts
   posted : (v : Move) → may p v → Takes G a v →
@@ -124,33 +71,24 @@ module _ (G : ℕ → ℕ → Type 0) (a : ℕ) (p : Links) (all : AsksGiven G p
   posted (Closes peer) m took new = (tt, tt)
   posted (GivesUp w told) m took new =
       told_given G a told w.token (ask_among G w p.asked all m.1)
-  posted (Holds from s) m took new = tt
   posted (Asks from o t) m took new = took
-  posted (AsksOnce from o t) m took new = tt
   posted (Returns from o t) m took new = took
   posted (Grants from s t) m took new = took
   posted (Refuses from s t) m took new = took
   posted (Receives from s t told) m took new = told_given G a told t took.0
   posted (Misses from s t told) m took new = told_given G a told t took.0
-  posted (Settles from k) m took new = tt
-  posted (Frees from s) m took new = tt
   posted (Ends from names) m took new = (tt, tt)
-  posted (Hears from s) m took new = tt
-  posted (Stores heap serial) m took new = tt
-  posted (Strikes heap) m took new = tt
+  posted _ m took new = tt
 
 -- an atom
 atom_still : (G H : ℕ → ℕ → Type 0) → ((n k : ℕ) → G n k → H n k) → (x y : ℕ) (at : Atom) →
     TokenGiven G x y at → TokenGiven H x y at
-atom_still G H more x y (Atoms.Mine s) h = tt
-atom_still G H more x y (Atoms.Yours s) h = tt
 atom_still G H more x y (Atoms.Lent o k) h = more x k h
 atom_still G H more x y (Atoms.Ask s t) h = more t.lender t.number h
 atom_still G H more x y (Atoms.Granted s t) h = more t.lender t.number h
 atom_still G H more x y (Atoms.Gone s t) h = more t.lender t.number h
 atom_still G H more x y (Atoms.Settled k) h = more y k h
-atom_still G H more x y (Atoms.Left s) h = tt
-atom_still G H more x y (Atoms.End names) h = tt
+atom_still G H more x y _ h = tt
 
 -- lends give tokens one after another
 give_tokens : GiveNumbers link_rules (λ p. p.token) AsksGiven TokenGiven
@@ -178,12 +116,6 @@ one net a from x hold all o first =
 taken : (net : Net Links Atom) (a : ℕ) (v : Move) → LinksHold net → TokensGiven net →
     may (net.part a) v → StandFirst a (takes v) net →
     Takes (IsGiven link_rules (λ p. p.token) AsksGiven TokenGiven net) a v
-taken net a (Names to s) hold all m f = tt
-taken net a (Mentions to s) hold all m f = tt
-taken net a (Lends to o) hold all m f = tt
-taken net a (Leaves o) hold all m f = tt
-taken net a (Closes peer) hold all m f = tt
-taken net a (GivesUp w told) hold all m f = tt
 taken net a (Holds from s) hold all m f = one net a from (Atoms.Mine s) hold all m f
 taken net a (Asks from o t) hold all m f = one net a from (Atoms.Lent o t) hold all m.0 f
 taken net a (AsksOnce from o t) hold all m f = one net a from (Atoms.Lent o t) hold all m.0 f
@@ -197,8 +129,7 @@ taken net a (Settles from k) hold all m f = one net a from (Atoms.Settled k) hol
 taken net a (Frees from s) hold all m f = one net a from (Atoms.Left s) hold all m f
 taken net a (Ends from names) hold all m f = one net a from (Atoms.End names) hold all m f
 taken net a (Hears from s) hold all m f = one net a from (Atoms.Yours s) hold all m f
-taken net a (Stores heap serial) hold all m f = tt
-taken net a (Strikes heap) hold all m f = tt
+taken net a _ hold all m f = tt
 
 -- whatever happens
 pub tokens_given_keep : Keeps link_rules (λ net. LinksHold net × TokensGiven net)

@@ -5,8 +5,7 @@ use Rattle.std.specs.Prelude.{All, Some}
 use Rattle.std.proofs.lemmas.List.Elements.{recursion_from_All}
 use Rattle.std.specs.List.{AllByRecursion, insert}
 use Rattle.do_base.specs.declared.events.event.Event.{Event}
-use Rattle.do_base.specs.declared.events.event.Event.TheVariants.{Check, Close, Lose, Run, Start}
-use Rattle.do_base.specs.declared.events.event.Event.TheVariants.{Take, Timeout}
+use Rattle.do_base.specs.declared.events.event.Event.TheVariants.{Close, Run, Start, Timeout}
 use Rattle.do_class.specs.Class.{Class}
 use Rattle.do_machine.specs.declared.item.Item.TheVariants as items
 use Rattle.do_machine.specs.declared.node.Node.{Node}
@@ -65,9 +64,7 @@ module _ (table : List Class) (act : Acting) (small : HasMethods table)
   ruled (Timeout at) k port n e here q =
       done_there (time_out n) e
       (time_out_sendable n (node_sendable table S ok port n here).0) q
-  ruled (Take at from) k port n e here q = absurd q
-  ruled (Lose from to after) k port n e here q = absurd q
-  ruled Check k port n e here q = absurd q
+  ruled _ k port n e here q = absurd q
 
   -- what an event comes to
   came : (event : Event) → StartsSendable event → (s : Stepped) →

@@ -11,8 +11,7 @@ use Rattle.do_sig.specs.declared.signature.Signature.{Signature}
 use Rattle.do_behave.specs.declared.invocation.Answer.{Answer}
 use Rattle.do_behave.specs.declared.invocation.Answer.TheVariants.{Given, Raised}
 use Rattle.do_behave.specs.declared.invocation.InvState.{InvState}
-use Rattle.do_behave.specs.declared.invocation.InvState.TheVariants.{Answered, Below, Running}
-use Rattle.do_behave.specs.declared.invocation.InvState.TheVariants.{Waits}
+use Rattle.do_behave.specs.declared.invocation.InvState.TheVariants.{Answered, Waits}
 use Rattle.do_behave.specs.declared.invocation.Waited.{Waited}
 use Rattle.do_behave.specs.declared.invocation.Waited.TheVariants as waiteds
 use Rattle.do_machine.specs.declared.node.Node.{Node}
@@ -51,10 +50,9 @@ answers table (v ∷ w ∷ vs) h waiteds.Root = textless TypeFault refl
 state_answered : (answer : Waited → Answer) → ((what : Waited) → AnswerIsSendable (answer what)) →
     (state : InvState) → HasSendableAnswer state →
     HasSendableAnswer (answered_state answer state)
-state_answered answer h Running k = tt
-state_answered answer h Below k = tt
 state_answered answer h (Waits call peer what) k = h what
 state_answered answer h (Answered a) k = k
+state_answered answer h _ k = tt
 
 -- a node that has an answer
 pub answered : {table : List Class} {port : ℕ} → (k : AnsweredCall) (answer : Waited → Answer) →

@@ -4,9 +4,7 @@ use Rattle.do_base.specs.declared.events.exception.Exc.TheVariants.{ConnectionDi
 use Rattle.do_class.specs.Class.{Class}
 use Rattle.do_behave.specs.declared.invocation.Answer.TheVariants.{Raised}
 use Rattle.do_behave.specs.declared.invocation.InvState.{InvState}
-use Rattle.do_behave.specs.declared.invocation.InvState.TheVariants.{Answered, Below, Running}
-use Rattle.do_behave.specs.declared.invocation.InvState.TheVariants.{Waits}
-use Rattle.do_machine.specs.declared.item.Item.TheVariants as items
+use Rattle.do_behave.specs.declared.invocation.InvState.TheVariants.{Answered, Waits}
 use Rattle.do_machine.specs.declared.node.Node.{Node}
 use Rattle.do_machine.specs.ends.Closing.{closing, died, parted, without_answer}
 use Rattle.do_limits.specs.SendableStates.{AsksForOne, HasSendableAnswer, HasSerial}
@@ -19,8 +17,6 @@ use Rattle.do_limits.proofs.runs.Verdicts.{textless}
 -- an invocation that loses a peer
 state_died : (peer : ℕ) (state : InvState) → HasSendableAnswer state →
     HasSendableAnswer (died peer state)
-state_died peer Running h = tt
-state_died peer Below h = tt
 state_died peer (Answered a) h = h
 state_died peer (Waits call p what) h = go (p == peer)
   where
@@ -28,6 +24,7 @@ state_died peer (Waits call p what) h = go (p == peer)
         (cond b (Answered (Raised ConnectionDied)) (Waits call p what))
     go true = textless ConnectionDied refl
     go false = tt
+state_died peer _ h = tt
 
 -- a node that parts from a peer
 pub parts : {table : List Class} {port : ℕ} → (peer : ℕ) (n : Node) → NodeIsSendable table port n →

@@ -5,7 +5,7 @@ use Rattle.std.specs.List.{AllByRecursion}
 use Rattle.do_base.specs.names.Names.{ObjectName}
 use Rattle.do_class.specs.Class.{Class}
 use Rattle.do_class.specs.declared.packet.Name.{Name}
-use Rattle.do_class.specs.declared.packet.Name.TheVariants.{Lent, Mine, Yours}
+use Rattle.do_class.specs.declared.packet.Name.TheVariants.{Mine}
 use Rattle.do_packet.specs.Met.{has_object}
 use Rattle.do_machine.specs.declared.item.Item.{Item}
 use Rattle.do_machine.specs.declared.item.Item.TheVariants as items
@@ -52,8 +52,7 @@ module _ (table : List Class) (from to : ℕ) where
   -- a name
   one_name : (x : Name) → NameIsSendable table from to x → IfExported (name_naming from to x)
   one_name (Mine serial class) h e = h.0
-  one_name (Yours serial) h e = absurd (cc (e))
-  one_name (Lent o class token) h e = absurd (cc (e))
+  one_name _ h e = absurd (cc (e))
 
   -- names
   each_name : (xs : List Name) → AllByRecursion (NameIsSendable table from to) xs →
@@ -74,15 +73,13 @@ module _ (table : List Class) (from to : ℕ) where
   item_names (items.Oneway m) h =
       ((λ e. absurd (cc (e))), each_name m.packet.names h.packet.names)
   item_names (items.Reply number packet) h = each_name packet.names h.names
-  item_names (items.Raised number e) h = tt
-  item_names (items.RootAsk number) h = tt
   item_names (items.RootAnswer number packet) h = each_name packet.names h.names
   item_names (items.Ask serial token) h = ((λ e. absurd (cc (e))), tt)
   item_names (items.Granted serial token) h = ((λ e. h), tt)
   item_names (items.Gone serial token) h = ((λ e. absurd (cc (e))), tt)
   item_names (items.Left serial) h = ((λ e. absurd (cc (e))), tt)
-  item_names (items.Settled number) h = tt
   item_names (items.End serials) h = each_told serials
+  item_names _ h = tt
 
   -- what an item exports
   pub exports_made : (item : Item) → ItemIsSendable table from to item →

@@ -3,7 +3,6 @@ use Rattle.std.specs.Prelude.{None, Option, Some, ◌≤◌}
 use Rattle.do_facts.proofs.methods.FewArguments.{found_few, fitting_length}
 use Rattle.do_limits.proofs.Signatures.{HasMethods}
 use Rattle.std.proofs.Common.{subst, ◌≡◌, ℕ, false, List, [], ◌∷◌, map, arith, fold}
-use Rattle.do_base.specs.declared.events.shown.Shown.TheVariants as shown
 use Rattle.do_base.proofs.Weights.{weight_of-Nil, weight_of-Obj}
 use Rattle.do_base.specs.values.Values.{weight_of}
 use Rattle.do_base.specs.declared.values.value.Value.TheVariants.{Nil, Obj}
@@ -11,7 +10,6 @@ use Rattle.do_packet.specs.Copies.{Placed}
 use Rattle.do_class.specs.declared.packet.Name.TheVariants.{Lent}
 use Rattle.do_class.specs.declared.packet.Packet.{Packet}
 use Rattle.do_behave.specs.declared.invocation.Answer.TheVariants.{Raised}
-use Rattle.do_behave.specs.declared.invocation.Reason.TheVariants as reasons
 use Rattle.do_machine.specs.declared.item.Item.{Item}
 use Rattle.do_machine.specs.declared.item.Item.TheVariants as items
 use Rattle.do_machine.specs.Context.{Context, own_class}
@@ -51,16 +49,9 @@ carried table from to (items.Oneway m) h packet is =
     let same : m.packet ≡ packet = cc (is) in subst (IsSendablePacket table from to) same h.packet
 carried table from to (items.Reply number p) h packet is =
     let same : p ≡ packet = cc (is) in subst (IsSendablePacket table from to) same h
-carried table from to (items.Raised number e) h packet is = absurd (cc (is))
-carried table from to (items.RootAsk number) h packet is = absurd (cc (is))
 carried table from to (items.RootAnswer number p) h packet is =
     let same : p ≡ packet = cc (is) in subst (IsSendablePacket table from to) same h
-carried table from to (items.Ask serial token) h packet is = absurd (cc (is))
-carried table from to (items.Granted serial token) h packet is = absurd (cc (is))
-carried table from to (items.Gone serial token) h packet is = absurd (cc (is))
-carried table from to (items.Left serial) h packet is = absurd (cc (is))
-carried table from to (items.Settled number) h packet is = absurd (cc (is))
-carried table from to (items.End serials) h packet is = absurd (cc (is))
+carried table from to _ h packet is = absurd (cc (is))
 
 module _ (c : Context) (from : ℕ) (few : HasMethods c.table) (ok : ContextIsSendable c) where
   -- the weight of a root

@@ -15,8 +15,7 @@ use Rattle.do_class.specs.declared.ids.ClassId.{ClassId}
 use Rattle.do_class.specs.declared.ids.Slot.{Slot}
 use Rattle.do_class.specs.declared.packet.Name.TheVariants.{Lent, Mine, Yours}
 use Rattle.do_packet.specs.Copies.{Placed, contents, copied_at, copies_of, grown, marks}
-use Rattle.do_packet.specs.Copies.{most_copies}
-use Rattle.do_packet.specs.Copies.{rounds, slot_values}
+use Rattle.do_packet.specs.Copies.{most_copies, rounds, slot_values}
 use Rattle.do_packet.specs.Met.{has_object, is_copied, met, met_one, role_of}
 use Rattle.do_packet.specs.Packing.{Naming, class_at, copied_of, name_next, part_at}
 use Rattle.do_packet.specs.Seen.{Sender}

@@ -1,8 +1,7 @@
 -- A message of values that can be carried is one of parts that can be spelled.
 use Rattle.std.proofs.Common.{◌≡◌, ◌-◌, ℕ, ℤ, Bool, true, false, cond, List as Listed, [], ◌∷◌}
-use Rattle.std.proofs.Common.{◌&&◌}
-use Rattle.std.proofs.Common.{Err, Ok, Result, length, map, refl, sym, ap, ◌∙◌, subst, rules, ◌^◌}
-use Rattle.std.proofs.Common.{arith}
+use Rattle.std.proofs.Common.{◌&&◌, Err, Ok, Result, length, map, refl, sym, ap, ◌∙◌, subst, rules}
+use Rattle.std.proofs.Common.{◌^◌, arith}
 use Rattle.std.specs.Prelude.{nat_le, nat_lt, ◌≤◌}
 use Rattle.std.specs.List.{AllByRecursion, list_all}
 use Rattle.std.proofs.lemmas.Bool.{and_from, and_parts}
@@ -27,8 +26,8 @@ use Rattle.do_packet.specs.Seen.{Sender}
 use Rattle.do_packet.specs.declared.fault.PackFault.{PackFault}
 use Rattle.do_packet.specs.declared.role.Role.{Role}
 use Rattle.do_packet.specs.declared.role.Role.TheVariants.{Absent, Copied, Named}
-use Rattle.do_limits.specs.Sendable.{AreSendableParts, CopyIsSendable, IsSendable}
-use Rattle.do_limits.specs.Sendable.{IsSendablePacket, NameIsSendable, can_carry, can_spell}
+use Rattle.do_limits.specs.Sendable.{AreSendableParts, CopyIsSendable, IsSendable, IsSendablePacket}
+use Rattle.do_limits.specs.Sendable.{NameIsSendable, can_carry, can_spell}
 use Rattle.do_packet.proofs.Keeping.{packed_keeps}
 use Rattle.do_facts.proofs.links.NamedInMessages.{all_nameable}
 use Rattle.do_limits.proofs.values.Naming.{IsOwn, SenderIsSendable, copies_own, copy_whole}

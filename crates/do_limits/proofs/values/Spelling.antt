@@ -1,7 +1,6 @@
 -- A part of a message has a spelling where its places are there.
 use Rattle.std.proofs.Common.{◌≡◌, ◌-◌, ℕ, Bool, true, List as Listed, [], ◌∷◌, ◌&&◌, length, map}
-use Rattle.std.proofs.Common.{refl, sym, ap, ◌∙◌, rules}
-use Rattle.std.proofs.Common.{arith}
+use Rattle.std.proofs.Common.{refl, sym, ap, ◌∙◌, rules, arith}
 use Rattle.std.specs.Prelude.{Some, get_or, nat_le, nat_lt, option_map, slice_get, suc, zero, ◌<◌}
 use Rattle.std.specs.Prelude.{◌≤◌}
 use Rattle.std.specs.List.{All, AllByRecursion, list_all}
@@ -18,8 +17,7 @@ use Rattle.do_coder.specs.Packets.{IsCopied, most_copies, slot_counts}
 use Rattle.do_coder.specs.Parts.{IsPart, part_fits}
 use Rattle.do_coder.proofs.values.PartFacts.{fits-Copy, fits-Named, fits-Nil, fits-Num, fits-Text}
 use Rattle.do_packet.specs.Limits.{HasPlaces, places_within}
-use Rattle.do_limits.specs.Sendable.{AreSendableParts, CopyIsSendable}
-use Rattle.do_limits.specs.Sendable.{IsSendablePacket, can_spell}
+use Rattle.do_limits.specs.Sendable.{AreSendableParts, CopyIsSendable, IsSendablePacket, can_spell}
 use Rattle.do_limits.proofs.values.Packing.{spell-List, spell-Num, spell-Text, tests}
 use Rattle.do_limits.proofs.values.Unpacking.{part_induction}
 

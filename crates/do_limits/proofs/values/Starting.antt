@@ -14,8 +14,7 @@ use Rattle.do_coder.proofs.values.PartFacts.{bytes_all}
 use Rattle.do_machine.specs.check.Blocks.{events_of}
 use Rattle.do_sched.specs.Good.{IsLine, IsPlain, nil, number, text}
 use Rattle.do_sched.specs.declared.line.Line.{Line}
-use Rattle.do_sched.specs.declared.line.Line.TheVariants.{Check, Close, Lose, Run, Start, Take}
-use Rattle.do_sched.specs.declared.line.Line.TheVariants.{Timeout}
+use Rattle.do_sched.specs.declared.line.Line.TheVariants.{Run, Start}
 use Rattle.do_facts.proofs.EachOfLists.{each_joined}
 use Rattle.do_limits.specs.Sendable.{AreSendable, IsSendable}
 use Rattle.do_limits.specs.SendableActs.{AllStartSendable, StartsSendable}
@@ -51,11 +50,7 @@ runs_start (suc count) port = (tt, runs_start count port)
 line_starts : (line : Line) → IsLine line → AllStartSendable (events_of line)
 line_starts (Start port selector values) h = (all_plain values h.plain, tt)
 line_starts (Run port count) h = runs_start count port
-line_starts (Take port from) h = (tt, tt)
-line_starts (Close port peer) h = (tt, tt)
-line_starts (Lose from to after) h = (tt, tt)
-line_starts (Timeout port) h = (tt, tt)
-line_starts Check h = (tt, tt)
+line_starts _ h = (tt, tt)
 
 -- and so do those of lines
 pub lines_start : (lines : Listed Line) → AllByRecursion IsLine lines

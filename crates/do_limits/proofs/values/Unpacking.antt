@@ -19,8 +19,7 @@ use Rattle.do_class.specs.declared.packet.Part.TheVariants as part
 use Rattle.do_packet.specs.Unpacking.{copy_at, made_of, name_value, name_values, unpacked, value_of}
 use Rattle.do_packet.specs.declared.receipt.Receipt.{Receipt}
 use Rattle.do_limits.specs.Sendable.{AreSendable, AreSendableParts, CopyIsSendable, HasSlots}
-use Rattle.do_limits.specs.Sendable.{IsSendablePacket}
-use Rattle.do_limits.specs.Sendable.{can_carry, can_spell}
+use Rattle.do_limits.specs.Sendable.{IsSendablePacket, can_carry, can_spell}
 use Rattle.do_limits.proofs.values.Packing.{spell-List, spell-Num, spell-Text, tests}
 use Rattle.do_limits.proofs.values.Carried.{carry-List, carry-Nil, carry-Num, carry-Obj, carry-Text}
 

@@ -1,11 +1,9 @@
 -- An event at which a node acts sends what has a spelling.
-use Rattle.std.proofs.Common.{◌≡◌, ◌≤◌, ℕ, Bool, true, false, cond, List}
-use Rattle.std.proofs.Common.{not, refl, sym, ap, ◌∙◌, subst, arith}
-use Rattle.std.specs.Prelude.{None, Option, Some, option_and_then, option_map, suc}
-use Rattle.std.specs.Prelude.{unwrap_or}
+use Rattle.std.proofs.Common.{◌≡◌, ◌≤◌, ℕ, Bool, true, false, cond, List, not, refl, sym, ap, ◌∙◌}
+use Rattle.std.proofs.Common.{subst, arith}
+use Rattle.std.specs.Prelude.{None, Option, Some, option_and_then, option_map, suc, unwrap_or}
 use Rattle.do_base.specs.declared.events.event.Event.{Event}
-use Rattle.do_base.specs.declared.events.event.Event.TheVariants.{Close, Run, Start}
-use Rattle.do_base.specs.declared.events.event.Event.TheVariants.{Timeout}
+use Rattle.do_base.specs.declared.events.event.Event.TheVariants.{Close, Run, Start, Timeout}
 use Rattle.do_base.specs.declared.values.value.Value.{Value}
 use Rattle.do_class.specs.Class.{Class}
 use Rattle.do_class.specs.Table.{IsTable}
@@ -23,8 +21,7 @@ use Rattle.do_machine.specs.run.Run.{Acting, run_effect}
 use Rattle.do_network.specs.declared.input.Input.{Input}
 use Rattle.do_network.specs.declared.input.Input.TheVariants as inputs
 use Rattle.do_network.specs.Links.{Part}
-use Rattle.do_network.specs.Net.{Net, Place}
-use Rattle.do_network.specs.Net.{part_at, place_at}
+use Rattle.do_network.specs.Net.{Net, Place, part_at, place_at}
 use Rattle.do_network.specs.Site.{Handled, enabled_input, moves}
 use Rattle.do_facts.specs.steps.IsStep.{IsRuleOf}
 use Rattle.do_limits.specs.SendableStates.{StateIsSendable}

@@ -28,12 +28,12 @@ use Rattle.do_limits.proofs.spelled.Tokens.{tokens_given}
 use Rattle.do_limits.proofs.states.Steps.{reached_sendable}
 use Rattle.do_agreement.specs.Along.{EventsSendSpelled}
 use Rattle.do_agreement.proofs.agreement.GoesOn.{Goes, goes_on, opening_goes}
-use Rattle.do_agreement.proofs.channels.SendingsSpelled.{all_front}
 use Rattle.do_within.specs.Received.{ReceivedWithin, net_reached}
 use Rattle.do_within.proofs.events.LossEvents.{event_within}
 use Rattle.do_within.proofs.events.Within.{EventWithin}
 use Rattle.do_within.proofs.schedules.Opening.{opening_within}
 use Rattle.do_within.proofs.sent.Effects.{WaitsSpelled}
+use Rattle.do_facts.proofs.EachOfLists.{each_former}
 
 -- steps along two lists
 steps_behind : (table : List Class) (act : Acting) (xs ys : List Event) (s : Stepped) →
@@ -91,7 +91,7 @@ module _ (table : List Class) (act : Acting) (seats : List Seat) (world : IsWorl
       -- and so are those before
       starts_now : AllStartSendable now
       starts_now =
-          all_front StartsSendable now events
+          each_former StartsSendable now events
           (subst (AllByRecursion StartsSendable) (sym split) starts)
 
       -- the state after this event
@@ -111,7 +111,7 @@ module _ (table : List Class) (act : Acting) (seats : List Seat) (world : IsWorl
             event_within table world.classes act N S known.goes
             (reached_sendable table act (has_methods table world.classes world.signatures) acts
             seats before world.seated
-            (all_front StartsSendable before (event ∷ []) starts_now)) (length before)
+            (each_former StartsSendable before (event ∷ []) starts_now)) (length before)
             (omega (arith, one_more, still_few)) known.received event
             (λ port. subst (WaitsSpelled table port) step_then
             (waits_spelled now starts_now still_few port))

@@ -93,20 +93,10 @@ module _ (received : Counts) (to : ℕ) where
   first_amount x xs here h = go x.item refl
     where
       go : (item : Item) → x.item ≡ item → HasAmount item (amount_of received x.to item)
-      go (items.Call k m) e = tt
-      go (items.Oneway m) e = tt
-      go (items.Reply k p) e = tt
-      go (items.Raised k p) e = tt
-      go (items.RootAsk k) e = tt
-      go (items.RootAnswer k p) e = tt
-      go (items.Ask s t) e = tt
-      go (items.Granted s t) e = tt
-      go (items.Gone s t) e = tt
       go (items.Left s) e =
           subst (λ k. IsSerial (count_of received k s)) (sym (eqb-true x.to to here))
           (h s (one_given x xs here s e))
-      go (items.Settled k) e = tt
-      go (items.End serials) e = tt
+      go _ e = tt
 
   -- each amount of what goes to the peer
   pub amounts_sent : (sent : List Parcel) → GivesBack sent →
@@ -125,18 +115,9 @@ module _ (around : Surroundings) where
   -- the frame of an item that has a spelling, with an amount that has one
   note_spelled : (item : Item) (amount : ℕ) → ItemIsSpelled around item →
       HasAmount item amount → IsFrame around (frame_of amount item)
-  note_spelled (items.Call k m) amount h a = h
-  note_spelled (items.Oneway m) amount h a = h
-  note_spelled (items.Reply k p) amount h a = h
-  note_spelled (items.Raised k p) amount h a = h
-  note_spelled (items.RootAsk k) amount h a = h
-  note_spelled (items.RootAnswer k p) amount h a = h
-  note_spelled (items.Ask s t) amount h a = h
-  note_spelled (items.Granted s t) amount h a = h
-  note_spelled (items.Gone s t) amount h a = h
   note_spelled (items.Left s) amount h a = h amount a
-  note_spelled (items.Settled k) amount h a = h
   note_spelled (items.End serials) amount h a = tt
+  note_spelled _ amount h a = h
 
   -- each frame of what is under way
   pub notes_spelled : (xs : List Note) → AllByRecursion (ItemIsSpelled around) (items_of xs) →

@@ -27,11 +27,11 @@ use Rattle.do_agreement.specs.IsEffectOf.{IsEffectOf}
 use Rattle.do_agreement.specs.NetCommit.{effected}
 use Rattle.do_agreement.specs.NotesSent.{notes_to}
 use Rattle.do_agreement.specs.Shows.{ShowsBut}
-use Rattle.do_agreement.proofs.channels.SendingsSpelled.{all_behind}
 use Rattle.do_agreement.proofs.commits.CommitShows.{items_sent}
 use Rattle.do_within.proofs.sent.Amounts.{GivesBack, amounts_sent, notes_spelled, returned_held}
 use Rattle.do_within.proofs.sent.Peers.{linked_there}
 use Rattle.do_within.proofs.sent.Sendings.{GoesSpelled, NotesSpelled, all_spelled}
+use Rattle.do_facts.proofs.EachOfLists.{each_latter}
 
 -- no object was received more often than an amount can say
 abbrev pub FewReceived : Counts → Type 0
@@ -88,7 +88,7 @@ module _ (table : List Class) (port : ℕ) (n : Node) (N : Net) (under_way : ℕ
       let P = ItemIsSpelled (surroundings table port to) in
       notes_spelled (surroundings table port to) (notes_to p.own.received to e.sent)
       (subst (AllByRecursion P) (sym (items_sent p.own.received to e.sent))
-      (all_behind P waiting (items_to to e.sent)
+      (each_latter P waiting (items_to to e.sent)
       (spelled to (waiting ++ items_to to e.sent)
       (grows_behind port to e T.stations waiting (queue_is to q k other)))))
       (amounts_sent p.own.received to e.sent (gives to))

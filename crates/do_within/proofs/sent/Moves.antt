@@ -36,7 +36,6 @@ use Rattle.do_agreement.specs.IsEffectOf.{IsEffectOf}
 use Rattle.do_agreement.specs.NetCommit.{effected, net_commit, with_sent}
 use Rattle.do_agreement.specs.Shows.{ShowsBut}
 use Rattle.do_agreement.specs.Tallies.{left_after}
-use Rattle.do_agreement.proofs.channels.SendingsSpelled.{all_front}
 use Rattle.do_agreement.proofs.commits.CommitFits.{commit_fits}
 use Rattle.do_agreement.proofs.commits.CommitShows.{commit_shows}
 use Rattle.do_agreement.proofs.commits.EntriesJudged.{counts_judge}
@@ -47,6 +46,7 @@ use Rattle.do_agreement.proofs.places.StepAsCommits.{sent_twice}
 use Rattle.do_agreement.proofs.sites.RuleEffects.{leaving_effect}
 use Rattle.do_within.proofs.sent.Effects.{FewReceived, WaitsSpelled, effect_spelled}
 use Rattle.do_within.proofs.sent.Sendings.{all_both}
+use Rattle.do_facts.proofs.EachOfLists.{each_former}
 
 -- an effect counts nothing more as received
 pub received_less : (p : Own) (e : Effect) (home serial : ℕ) →
@@ -63,7 +63,7 @@ received_less p e home serial =
 waits_before : (table : List Class) (port : ℕ) (e : Effect) (U : State) →
     WaitsSpelled table port (commit port e U) → WaitsSpelled table port U
 waits_before table port e U spelled to waiting h =
-    all_front (ItemIsSpelled (surroundings table port to)) waiting (items_to to e.sent)
+    each_former (ItemIsSpelled (surroundings table port to)) waiting (items_to to e.sent)
     (spelled to (waiting ++ items_to to e.sent) (grows_behind port to e U.stations waiting h))
 
 module _ (table : List Class) (port : ℕ) (n : Node) (N : Net) (under_way : ℕ → ℕ → List Note)

@@ -53,19 +53,13 @@ exports_few : (table : List Class) (a m from to : ℕ) (item : Item) →
 exports_few table a m from to (items.Call k x) h = packet_few from to x.packet h.packet.limits.names
 exports_few table a m from to (items.Oneway x) h = packet_few from to x.packet h.packet.limits.names
 exports_few table a m from to (items.Reply k p) h = packet_few from to p h.limits.names
-exports_few table a m from to (items.Raised k e) h = omega arith
-exports_few table a m from to (items.RootAsk k) h = omega arith
 exports_few table a m from to (items.RootAnswer k p) h = packet_few from to p h.limits.names
-exports_few table a m from to (items.Ask s t) h = omega arith
-exports_few table a m from to (items.Granted s t) h = omega arith
-exports_few table a m from to (items.Gone s t) h = omega arith
-exports_few table a m from to (items.Left s) h = omega arith
-exports_few table a m from to (items.Settled k) h = omega arith
 exports_few table a m from to (items.End serials) h = none serials
   where
     none : (xs : List ℕ) → length (exported from to (items.End xs)) ≤ most_names
     none [] = omega arith
     none (x ∷ xs) = none xs
+exports_few table a m from to _ h = omega arith
 
 -- with an item in hand
 pub hand_within : (table : List Class) (a m from : ℕ) (x : Note) (p : Own) →

@@ -1,17 +1,12 @@
 -- What a site sends when it takes an item has a spelling.
-use Rattle.std.proofs.Common.{◌≡◌, ◌==◌, ◌≤◌, ℕ, Bool, true, false, cond, List, [], ◌∷◌}
-use Rattle.std.proofs.Common.{map, drop, not, refl, sym, ap, ◌∙◌, subst, arith}
-use Rattle.std.specs.Prelude.{None, Ok, Option, Some, option_map, slice_get, unwrap_or, suc}
-use Rattle.std.specs.List.{AllByRecursion}
-use Rattle.std.proofs.lemmas.Bool.Decides.{nat_tests}
+use Rattle.std.proofs.Common.{◌≡◌, ◌==◌, ◌≤◌, ℕ, true, false, cond, List, ◌∷◌}
+use Rattle.std.proofs.Common.{map, drop, not, sym, ap, ◌∙◌, subst}
+use Rattle.std.specs.Prelude.{None, Option, Some, option_map, slice_get, unwrap_or, suc}
 use Rattle.do_base.specs.declared.events.event.Event.TheVariants.{Take}
 use Rattle.do_class.specs.Class.{Class}
 use Rattle.do_class.specs.Table.{IsTable}
-use Rattle.do_coder.specs.Packets.{surroundings}
 use Rattle.do_coder.specs.declared.recent.pair.Pair.{Pair}
-use Rattle.do_frames.specs.Frames.{IsFrame, after_frame, raw}
 use Rattle.do_machine.specs.declared.item.Item.{Item}
-use Rattle.do_machine.specs.declared.item.Item.TheVariants as items
 use Rattle.do_machine.specs.declared.node.Node.{Node}
 use Rattle.do_machine.specs.declared.state.Effect.{Effect}
 use Rattle.do_machine.specs.declared.state.State.{State}
@@ -23,14 +18,13 @@ use Rattle.do_machine.specs.Step.{step}
 use Rattle.do_machine.specs.run.Run.{Acting}
 use Rattle.do_machine.specs.take.Take.{can_take, take_effect}
 use Rattle.do_network.specs.declared.input.Done.TheVariants as dones
-use Rattle.do_network.specs.Frames.{item_of, read_frame}
-use Rattle.do_network.specs.Links.{Link, Part, names_read}
-use Rattle.do_network.specs.Net.{Carried, Lost, Net, Place, Whole, part_at, place_at}
+use Rattle.do_network.specs.Frames.{item_of}
+use Rattle.do_network.specs.Links.{Part}
+use Rattle.do_network.specs.Net.{Carried, Net, Place, part_at, place_at}
 use Rattle.do_network.specs.Own.{counted_around}
 use Rattle.do_network.specs.Site.{Handled, enabled_input, moves, released_by}
 use Rattle.do_network.specs.Step.{input_of}
-use Rattle.do_network.specs.fits.Notes.{Note, carried, note_frame}
-use Rattle.do_network.proofs.FramesRead.{read_back}
+use Rattle.do_network.specs.fits.Notes.{Note, note_frame}
 use Rattle.do_facts.specs.Net.{noted}
 use Rattle.do_facts.specs.calls.Facts.{CallsAreKept}
 use Rattle.do_facts.specs.links.Links.{atoms}
@@ -42,22 +36,20 @@ use Rattle.do_limits.proofs.states.States.{queue_sendable}
 use Rattle.do_agreement.specs.Agrees.{Agrees}
 use Rattle.do_agreement.specs.Classed.{ClassesAreTold}
 use Rattle.do_agreement.specs.CountsFit.{ChannelCarries}
-use Rattle.do_agreement.specs.NetInHand.{carried_as, closes_for, ends, net_in_hand}
+use Rattle.do_agreement.specs.NetInHand.{carried_as, closes_for, net_in_hand}
 use Rattle.do_agreement.specs.NetInHand.{part_in_hand, with_part, without_first}
 use Rattle.do_agreement.proofs.acts.ActsAgree.{node_is}
 use Rattle.do_agreement.proofs.acts.StepTallies.{hand_there, sound_after, sound_here}
 use Rattle.do_agreement.proofs.hands.HandFits.{hand_fits, other, way}
 use Rattle.do_agreement.proofs.hands.HandShows.{hand_shows}
-use Rattle.do_agreement.proofs.sites.RuleEffects.{take_is_effect}
-use Rattle.do_agreement.proofs.takes.TakeEvents.{faultless, names, one_effect, port_is, site_is}
-use Rattle.do_agreement.proofs.takes.TakeEvents.{waits}
-use Rattle.do_agreement.proofs.takes.TakesAlike.{frame_done, hand_done, mark_done}
+use Rattle.do_agreement.proofs.takes.TakeEvents.{names, one_effect, site_is, waits}
 use Rattle.do_within.specs.Received.{CountsWithin}
 use Rattle.do_within.proofs.sites.Acts.{DoesWithin, few_received}
 use Rattle.do_within.proofs.sent.Effects.{WaitsSpelled}
-use Rattle.do_within.proofs.sites.Ends.{closes_alone, end_closes}
 use Rattle.do_within.proofs.sites.Exports.{hand_within, moved_within}
 use Rattle.do_within.proofs.sent.Moves.{move_spelled}
+use Rattle.do_agreement.proofs.takes.TakenFrame.{input_done, stands_first}
+use Rattle.do_agreement.proofs.acts.StepTallies.{is_effect, others, shuts}
 
 module _ (table : List Class) (t : IsTable table) (act : Acting) (N : Net) (S : State)
     (agrees : Agrees table N S) (kept : LinksAreKept S) (calls : CallsAreKept S)
@@ -172,22 +164,6 @@ module _ (table : List Class) (t : IsTable table) (act : Acting) (N : Net) (S : 
   alike = one_effect table t act N S agrees kept calls told port from pl pf there sender can here x
       xs first
 
-  -- an end that closes is closed
-  shuts : (m : ℕ) → closes_for port from x port m ≡ true → is_open e.node m ≡ false
-  shuts m c =
-      let k = closes_alone port from x port m c in
-      ap (λ q. is_open e.node q) k.1 ∙ end_closes judged from x.amount x.lost x.item k.0.0
-
-  -- and no other node closes one
-  others : (a m : ℕ) → (port == a) ≡ false → closes_for port from x a m ≡ false
-  others a m ne = go (closes_for port from x a m) refl
-    where
-      go : (b : Bool) → closes_for port from x a m ≡ b → b ≡ false
-      go false h = refl
-      go true h =
-          absurd (let same = (closes_alone port from x a m h).0.1 in
-          grind (arith, nat_tests, ne, same))
-
   -- few objects are received with the item in hand
   hand_few : CountsWithin (suc events) hand.own.received
   hand_few =
@@ -209,9 +185,12 @@ module _ (table : List Class) (t : IsTable table) (act : Acting) (N : Net) (S : 
             (with_part hand pl)
             (hand_there table S kept N agrees.tallies port pl there dones.Moved t from pf sender
             here x xs first judged.around) e
-            (take_is_effect judged from item here sound
-            (agrees.tallies.counts.owns port p site_there).reached)
-            shuts others
+            (is_effect table S kept N agrees.tallies port pl there dones.Moved t from pf sender here
+            x xs first judged.around)
+            (shuts table S kept N agrees.tallies port pl there dones.Moved t from pf sender here x
+            xs first judged.around)
+            (others table S kept N agrees.tallies port pl there dones.Moved t from pf sender here x
+            xs first judged.around)
             (sound_after S kept port p.own.node node_there (noted from (atoms item)) e
             (link_bridge.take judged from item here sound))
             (few_received (suc events) small hand.own.received hand_few)
@@ -222,50 +201,13 @@ module _ (table : List Class) (t : IsTable table) (act : Acting) (N : Net) (S : 
 
   -- ---- the input
 
-  -- the frame is read
-  reads : read_frame table from p.own.node.port (names_read p from) (raw front (note_frame x))
-      ≡ Ok (note_frame x)
-  reads =
-      ap (λ k. read_frame table from k (names_read p from) (raw front (note_frame x)))
-      (port_is table t act N S agrees kept calls told port from pl pf there sender can here x xs
-      first)
-      ∙ ap (λ k. read_frame table from port k (raw front (note_frame x)))
-      (ap (λ o. unwrap_or (option_map (λ (l : Link). l.read) o) []) here_way.reads
-      ∙ sym (here_way.carries.tables.read refl))
-      ∙ read_back table t from port front here_way.carries.tables.recent
-      here_way.carries.tables.known (note_frame x)
-      (subst (AllByRecursion (λ y. IsFrame (surroundings table from port) (note_frame y))) first
-      here_way.carries.spelled).0
-
-  -- what the input does
-  done : enabled_input table act p (input_of from (carried_as front x))
-      ≡ Some (hand_done table act p from can x)
-  done = go x.lost refl
-    where
-      go : (b : Bool) → x.lost ≡ b →
-          enabled_input table act p (input_of from (carried_as front x))
-          ≡ Some (hand_done table act p from can x)
-      go true h =
-          mark_done table act p from can front x h
-          ((subst (AllByRecursion (λ y. y.lost ≡ true → y.item ≡ items.End [])) first
-          here_way.marks.lost).0 h)
-      go false h =
-          frame_done table act p from can t front x h reads
-          (faultless table t act N S agrees kept calls told port from pl pf there sender can here x
-          xs first)
-
   -- what stands first in the channel
   first_is : (y : Carried) → slice_get here_way.between.waiting 0 ≡ Some y →
       carried_as front x ≡ y
-  first_is y h = go x.lost (sym (ap (λ w. slice_get w 0)
-      (here_way.carries.waiting ∙ ap (carried front) first)) ∙ h)
-    where
-      go : (b : Bool) → slice_get
-          (cond b (Lost ∷ carried front xs)
-          (Whole (raw front (note_frame x)) ∷ carried (after_frame front (note_frame x)) xs)) 0
-          ≡ Some y → cond b Lost (Whole (raw front (note_frame x))) ≡ y
-      go true e = ap (λ o. unwrap_or o y) e
-      go false e = ap (λ o. unwrap_or o y) e
+  first_is y h =
+      let is = stands_first table t act N S agrees kept calls told port from pl pf there sender can
+      here x xs first in
+      ap (λ o. unwrap_or o y) (sym (ap (λ w. slice_get w 0) is.1) ∙ h)
 
   -- what the site does for what stands first
   pub take_does : (y : Carried) → slice_get here_way.between.waiting 0 ≡ Some y →
@@ -273,7 +215,8 @@ module _ (table : List Class) (t : IsTable table) (act : Acting) (N : Net) (S : 
       DoesWithin table events h
   take_does y is h enabled =
       let same = ap (λ o. unwrap_or o h)
-      (sym done
+      (sym (input_done table t act N S agrees kept calls told port from pl pf there sender can here
+      x xs first)
       ∙ ap (λ z. enabled_input table act p (input_of from z)) (first_is y is) ∙ enabled) in
       subst (DoesWithin table events) same
       (subst (λ d. DoesWithin table events (moves hand d))

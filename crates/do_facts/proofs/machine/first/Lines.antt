@@ -34,13 +34,9 @@ runs_are_none port (suc k) = (tt, runs_are_none port k)
 
 -- nor are the events of a line of version 1
 events_are_none : (l : Line) → IsLineOf First l → AreNoTimeOuts (events_of l)
-events_are_none (lines.Start port selector values) h = (tt, tt)
 events_are_none (lines.Run port count) h = runs_are_none port count
-events_are_none (lines.Take port from) h = (tt, tt)
-events_are_none (lines.Close port peer) h = (tt, tt)
-events_are_none (lines.Lose from to after) h = (tt, tt)
 events_are_none (lines.Timeout port) h = absurd (cc (h.0))
-events_are_none lines.Check h = (tt, tt)
+events_are_none _ h = (tt, tt)
 
 module _ (table : List Class) (act : Acting) where
   -- events that are no time-outs

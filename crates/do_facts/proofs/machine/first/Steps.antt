@@ -2,8 +2,7 @@
 use Rattle.std.proofs.Common.{◌≡◌, ℕ, not, List, refl, ap, cond}
 use Rattle.std.specs.Prelude.{None, Option, Some, drop, slice_get, unwrap_or}
 use Rattle.do_base.specs.declared.events.event.Event.{Event}
-use Rattle.do_base.specs.declared.events.event.Event.TheVariants.{Check, Close, Lose, Run, Start}
-use Rattle.do_base.specs.declared.events.event.Event.TheVariants.{Take, Timeout}
+use Rattle.do_base.specs.declared.events.event.Event.TheVariants.{Close, Take, Timeout}
 use Rattle.do_class.specs.Class.{Class}
 use Rattle.do_machine.specs.declared.item.Item.{Item}
 use Rattle.do_machine.specs.declared.node.Node.{Node}
@@ -98,15 +97,12 @@ module _ (table : List Class) (S : State) (on_time : AllOnTime S) (port from : �
 -- every event but a time-out
 pub same_step : (table : List Class) (act : Acting) (S : State) (event : Event) →
     IsNoTimeOut event → AllOnTime S → step table act S event ≡ step_1 table act S event
-same_step table act S (Start port selector values) q h = refl
-same_step table act S (Run port) q h = refl
 same_step table act S (Take port from) q h =
     ap (λ x. unwrap_or x (skipped S)) (same_take table S h port from)
 same_step table act S (Close port peer) q h =
     ap (λ x. unwrap_or x (skipped S)) (same_close table S h port peer)
-same_step table act S (Lose from to k) q h = refl
 same_step table act S (Timeout port) q h = absurd q
-same_step table act S Check q h = refl
+same_step table act S _ q h = refl
 
 -- without a time-out no call is given up
 pub stays_on_time : (table : List Class) (act : Acting) (S : State) (event : Event) →

@@ -16,7 +16,7 @@ use Rattle.do_machine.specs.take.Receipt.{arrived, received, receiving}
 use Rattle.do_machine.specs.take.Take.{arrival, holding, method_call, root_call, take_effect}
 use Rattle.do_machine.specs.take.Take.{values_arrival}
 use Rattle.do_facts.proofs.machine.Version1.{same_answering, same_closing}
-use Rattle.do_facts.proofs.machine.follows.Steady.{by_receiving}
+use Rattle.do_facts.proofs.machine.follows.SteadyTakes.{by_receiving}
 
 -- an answer with values
 same_values : (c : Context) (from : ℕ) (packet : Packet) (k : AnsweredCall) (n : Node) →
@@ -31,20 +31,13 @@ same_values c from packet k n h =
 -- any item
 same_arrival : (c : Context) (from : ℕ) (item : Item) (n : Node) → IsOnTime n →
     arrival c from item n ≡ arrival_1 c from item n
-same_arrival c from (items.Call number m) n h = refl
-same_arrival c from (items.Oneway m) n h = refl
 same_arrival c from (items.Reply number packet) n h =
     same_values c from packet (method_call from number) n h
 same_arrival c from (items.Raised number e) n h = same_answering (method_call from number) _ n h
-same_arrival c from (items.RootAsk number) n h = refl
 same_arrival c from (items.RootAnswer number packet) n h =
     same_values c from packet (root_call from number) n h
-same_arrival c from (items.Ask serial token) n h = refl
-same_arrival c from (items.Granted serial token) n h = refl
-same_arrival c from (items.Gone serial token) n h = refl
-same_arrival c from (items.Left serial) n h = refl
-same_arrival c from (items.Settled number) n h = refl
 same_arrival c from (items.End serials) n h = same_closing from n h
+same_arrival c from _ n h = refl
 
 -- a take
 pub same_take_effect : (c : Context) (from : ℕ) (item : Item) → IsOnTime c.node →

@@ -15,9 +15,9 @@ use Rattle.do_facts.specs.laws.Follows.{AllHoldOpen, EachNode, Follows, Grows, H
 use Rattle.do_facts.specs.laws.Follows.{IsNoTimeOut}
 use Rattle.do_facts.specs.steps.IsStep.{IsRuleOf, without_oldest}
 use Rattle.do_facts.proofs.machine.follows.Follows.{after, by_leaving, grow_after, grown}
-use Rattle.do_facts.proofs.machine.follows.Steady.{by_take}
 use Rattle.do_facts.proofs.machine.follows.Steps.{rule_follows, rule_grows}
 use Rattle.do_facts.proofs.steps.NodeSteps.{Acted, NodeStep, Stands, Took, node_step}
+use Rattle.do_facts.proofs.machine.follows.SteadyTakes.{by_take}
 
 -- a node stands so to itself
 same_grows : (n : Node) → Grows n n

@@ -130,19 +130,14 @@ pub exported_of : (from to : ℕ) (item : Item) (o : ObjectName) →
 exported_of from to (items.Call number m) o h = names_exported from to m.packet.names o h
 exported_of from to (items.Oneway m) o h = names_exported from to m.packet.names o h
 exported_of from to (items.Reply number p) o h = names_exported from to p.names o h
-exported_of from to (items.Raised number e) o h = absurd (cc)
-exported_of from to (items.RootAsk number) o h = absurd (cc)
 exported_of from to (items.RootAnswer number p) o h = names_exported from to p.names o h
-exported_of from to (items.Ask serial token) o h = absurd (cc)
 exported_of from to (items.Granted serial token) o h =
     elim (or_cases (same_object o (object_at from serial)) _ h) [
       | inl e ↦ ap (λ x. x.node) (same_is o (object_at from serial) e)
       | inr e ↦ absurd (cc)
     ]
-exported_of from to (items.Gone serial token) o h = absurd (cc)
-exported_of from to (items.Left serial) o h = absurd (cc)
-exported_of from to (items.Settled number) o h = absurd (cc)
 exported_of from to (items.End serials) o h = absurd (none_exported to serials o h)
+exported_of from to _ o h = absurd (cc)
 
 -- a node that holds it, over an open end
 pub by_holding : (from : ℕ) (item : Item) (n : Node) → is_open n from ≡ true →

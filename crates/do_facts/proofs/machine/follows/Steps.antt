@@ -3,8 +3,7 @@ use Rattle.std.proofs.Common.{◌≡◌, ◌∙◌, ℕ, Bool, true, false, List
 use Rattle.std.specs.Prelude.{Some}
 use Rattle.std.specs.List.{insert}
 use Rattle.do_base.specs.declared.events.event.Event.{Event}
-use Rattle.do_base.specs.declared.events.event.Event.TheVariants.{Check, Close, Lose, Run, Start}
-use Rattle.do_base.specs.declared.events.event.Event.TheVariants.{Take, Timeout}
+use Rattle.do_base.specs.declared.events.event.Event.TheVariants.{Close, Run, Start, Timeout}
 use Rattle.do_class.specs.Class.{Class}
 use Rattle.do_machine.specs.declared.item.Item.TheVariants as items
 use Rattle.do_machine.specs.declared.node.Node.{Node}
@@ -25,10 +24,11 @@ use Rattle.do_facts.specs.steps.IsStep.{without_oldest}
 use Rattle.do_facts.proofs.machine.follows.Follows.{by_leaving}
 use Rattle.do_facts.proofs.machine.follows.Moves.{Moves}
 use Rattle.do_facts.proofs.machine.follows.States.{changed, requeued}
-use Rattle.do_facts.proofs.machine.follows.Steady.{IsSteady, by_closing, by_run, by_start, by_take}
-use Rattle.do_facts.proofs.machine.follows.Steady.{by_time_out}
+use Rattle.do_facts.proofs.machine.follows.Steady.{IsSteady}
 use Rattle.do_facts.proofs.steps.EachIsStep.{step_is}
 use Rattle.do_facts.proofs.walk.Done.{done_there}
+use Rattle.do_facts.proofs.machine.follows.SteadyTakes.{by_closing, by_take}
+use Rattle.do_facts.proofs.machine.follows.SteadyRuns.{by_run, by_start, by_time_out}
 
 -- the event is a time-out
 abbrev pub is_time_out : Event → Bool
@@ -42,13 +42,8 @@ is_close _ = false
 
 -- an event that is no time-out
 no_time_out : (event : Event) → IsNoTimeOut event → is_time_out event ≡ false
-no_time_out (Start port selector values) on = refl
-no_time_out (Run port) on = refl
-no_time_out (Take port from) on = refl
-no_time_out (Close port peer) on = refl
-no_time_out (Lose from to after) on = refl
 no_time_out (Timeout port) on = absurd on
-no_time_out Check on = refl
+no_time_out _ on = refl
 
 module _ (table : List Class) (act : Acting) (S : State) where
   -- the effect of an event's rule
@@ -58,12 +53,10 @@ module _ (table : List Class) (act : Acting) (S : State) where
       done_there (start_effect table selector values n) e (by_start table selector values n) rule
   rule_steady (Run port) n e rule =
       done_there (run_effect act (context table S n)) e (by_run act (context table S n)) rule
-  rule_steady (Take port from) n e rule = absurd rule
   rule_steady (Close port peer) n e rule =
       subst (IsSteady false true n) (sym rule.1) (by_closing peer n)
-  rule_steady (Lose from to after) n e rule = absurd rule
   rule_steady (Timeout port) n e rule = done_there (time_out n) e (by_time_out n) rule
-  rule_steady Check n e rule = absurd rule
+  rule_steady _ n e rule = absurd rule
 
   -- by it a node grows
   pub rule_grows : (event : Event) (n : Node) (e : Effect) → IsRuleOf table act S event n e →

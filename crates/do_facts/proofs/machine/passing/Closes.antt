@@ -15,10 +15,11 @@ use Rattle.do_machine.specs.Items.{Released, is_released, named_as, naming}
 use Rattle.do_machine.specs.State.{is_open}
 use Rattle.do_machine.specs.ends.Closing.{asked_of, closing, parted, serials_of}
 use Rattle.do_machine.specs.lend.Asking.{settling}
-use Rattle.do_facts.proofs.machine.Parting.{parted_parts, settled_node}
+use Rattle.do_facts.proofs.machine.Parting.{parted_parts}
 use Rattle.do_facts.proofs.machine.passing.Passes.{Passes, gives, gives_back, gives_none}
 use Rattle.do_facts.proofs.machine.passing.Passes.{with_first}
 use Rattle.do_facts.proofs.machine.passing.Quiet.{settlings_quiet}
+use Rattle.do_facts.proofs.walk.SmallEffects.{settled_node}
 
 -- an end that names the objects held of a peer releases each of them
 end_releases : (o : ObjectName) (held : List ObjectName) →

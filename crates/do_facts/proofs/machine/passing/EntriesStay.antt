@@ -4,8 +4,7 @@ use Rattle.std.specs.Prelude.{None, Some}
 use Rattle.std.proofs.lemmas.Bool.{eqb-true}
 use Rattle.do_base.specs.names.Names.{ObjectName}
 use Rattle.do_base.specs.declared.events.event.Event.{Event}
-use Rattle.do_base.specs.declared.events.event.Event.TheVariants.{Check, Close, Lose, Run, Start}
-use Rattle.do_base.specs.declared.events.event.Event.TheVariants.{Take, Timeout}
+use Rattle.do_base.specs.declared.events.event.Event.TheVariants.{Close, Run, Start, Timeout}
 use Rattle.do_class.specs.Class.{Class}
 use Rattle.do_machine.specs.declared.item.Item.{Item}
 use Rattle.do_machine.specs.declared.node.Node.{Node}
@@ -23,10 +22,9 @@ use Rattle.do_machine.specs.take.Take.{take_effect}
 use Rattle.do_machine.proofs.Bools.{fails}
 use Rattle.do_facts.specs.laws.Entries.{HasQueues, IsNoStepOf}
 use Rattle.do_facts.specs.laws.Follows.{AllHoldOpen, Grows, HoldsOpen}
-use Rattle.do_facts.specs.steps.IsStep.{Acts, Checks, IsActOf, IsRuleOf, IsStep, Loses, Skips}
+use Rattle.do_facts.specs.steps.IsStep.{Acts, Checks, IsRuleOf, IsStep, Loses, Skips}
 use Rattle.do_facts.specs.steps.IsStep.{Takes, without_oldest}
 use Rattle.do_facts.proofs.machine.follows.States.{changed, requeued}
-use Rattle.do_facts.proofs.machine.follows.Steady.{by_take}
 use Rattle.do_facts.proofs.machine.follows.Steps.{rule_grows}
 use Rattle.do_facts.proofs.machine.passing.Closes.{passes_closing}
 use Rattle.do_facts.proofs.machine.passing.Commits.{Entered, entered_none, entry_after}
@@ -39,7 +37,8 @@ use Rattle.do_facts.proofs.machine.passing.Quiet.{rule_quiet}
 use Rattle.do_facts.proofs.machine.passing.Takes.{comes, passes_take}
 use Rattle.do_facts.proofs.steps.EachIsStep.{step_is}
 use Rattle.do_facts.proofs.steps.EntriesOfSteps.{entry_stays}
-use Rattle.do_facts.proofs.steps.OthersStay.{apart_act}
+use Rattle.do_facts.proofs.steps.OthersStay.{apart_act, no_act}
+use Rattle.do_facts.proofs.machine.follows.SteadyTakes.{by_take}
 
 -- a node that is open and closed is none
 both : (n : Node) (peer : ℕ) → is_open n peer ≡ true → is_open n peer ≡ false → ⊥
@@ -48,17 +47,6 @@ both n peer a b = cc
 -- nothing came
 none_came : {P : Type 0} → false ≡ true → P
 none_came h = absurd (cc (h))
-
--- an event by which another node acts is no step of a node
-no_act : (event : Event) (port other : ℕ) → IsActOf port event → (other == port) ≡ false →
-    IsNoStepOf other event
-no_act (Start actor selector values) port other own h = ap (λ p. other == p) own ∙ h
-no_act (Run actor) port other own h = ap (λ p. other == p) own ∙ h
-no_act (Take actor from) port other own h = absurd own
-no_act (Close actor peer) port other own h = ap (λ p. other == p) own ∙ h
-no_act (Lose from to after) port other own h = absurd own
-no_act (Timeout actor) port other own h = ap (λ p. other == p) own ∙ h
-no_act Check port other own h = absurd own
 
 module _ (o : ObjectName) (port : ℕ) (apart : (o.node == port) ≡ false) where
   module _ (S : State) (e : Effect) (n : Node) (came : Bool) (here : node S port ≡ Some n)
@@ -97,13 +85,11 @@ module _ (o : ObjectName) (port : ℕ) (apart : (o.node == port) ≡ false) wher
         passes_quiet port o n e (rule_quiet table act S (Start p selector values) n e rule refl)
     rule_passes table act (Run p) e rule =
         passes_quiet port o n e (rule_quiet table act S (Run p) n e rule refl)
-    rule_passes table act (Take p from) e rule = absurd rule
     rule_passes table act (Close p peer) e rule =
         subst (Passes port o n false) (sym rule.1) (passes_closing port o peer n rule.0)
-    rule_passes table act (Lose from to after) e rule = absurd rule
     rule_passes table act (Timeout p) e rule =
         passes_quiet port o n e (rule_quiet table act S (Timeout p) n e rule refl)
-    rule_passes table act Check e rule = absurd rule
+    rule_passes table act _ e rule = absurd rule
 
     -- the entry of the node that acts stays
     own_acts : (table : List Class) (act : Acting) (event : Event) (e : Effect) →

@@ -40,15 +40,10 @@ releases_none : (from to : ℕ) (item : Item) → is_release item ≡ false → 
 releases_none from to (items.Call number m) h = names_release_none from to m.packet.names
 releases_none from to (items.Oneway m) h = names_release_none from to m.packet.names
 releases_none from to (items.Reply number p) h = names_release_none from to p.names
-releases_none from to (items.Raised number e) h = refl
-releases_none from to (items.RootAsk number) h = refl
 releases_none from to (items.RootAnswer number p) h = names_release_none from to p.names
-releases_none from to (items.Ask serial token) h = refl
-releases_none from to (items.Granted serial token) h = refl
-releases_none from to (items.Gone serial token) h = refl
 releases_none from to (items.Left serial) h = absurd (cc)
-releases_none from to (items.Settled number) h = refl
 releases_none from to (items.End serials) h = absurd (cc)
+releases_none from to _ h = refl
 
 module _ (port : ℕ) (o : ObjectName) where
   -- an item releases the object

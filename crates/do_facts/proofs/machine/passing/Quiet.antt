@@ -16,9 +16,10 @@ use Rattle.do_machine.specs.run.Run.{Acting}
 use Rattle.do_machine.specs.take.Take.{arrival}
 use Rattle.do_facts.specs.steps.IsStep.{IsRuleOf}
 use Rattle.do_facts.proofs.EachOfLists.{each_weaker}
-use Rattle.do_facts.proofs.machine.follows.Steady.{IsSteady, NoRelease, by_arrival, by_settlings}
+use Rattle.do_facts.proofs.machine.follows.Steady.{IsSteady, NoRelease, by_settlings}
 use Rattle.do_facts.proofs.machine.follows.Steady.{is_end, is_release}
 use Rattle.do_facts.proofs.machine.follows.Steps.{is_close, is_time_out, rule_steady}
+use Rattle.do_facts.proofs.machine.follows.SteadyTakes.{by_arrival}
 
 -- none of these parcels releases anything
 abbrev pub NoneReleases : List Parcel → Type 0

@@ -49,16 +49,10 @@ exported_to from to other (items.Call number m) =
     names_exported_to from to other m.packet.names
 exported_to from to other (items.Oneway m) = names_exported_to from to other m.packet.names
 exported_to from to other (items.Reply number p) = names_exported_to from to other p.names
-exported_to from to other (items.Raised number e) = refl
-exported_to from to other (items.RootAsk number) = refl
 exported_to from to other (items.RootAnswer number p) = names_exported_to from to other p.names
-exported_to from to other (items.Ask serial token) = refl
-exported_to from to other (items.Granted serial token) = refl
-exported_to from to other (items.Gone serial token) = refl
-exported_to from to other (items.Left serial) = refl
-exported_to from to other (items.Settled number) = refl
 exported_to from to other (items.End serials) =
     ends_export_none to serials ∙ sym (ends_export_none other serials)
+exported_to from to other _ = refl
 
 -- ---- a take
 
