@@ -1,5 +1,6 @@
 -- Frames and lines in cells: put behind the others of their queue, and taken out before them.
-use Rattle.std.proofs.Common.{◌≡◌, ◌++◌, ◌+◌, ◌-◌, ◌<◌, ◌≤◌, ◌∷◌, ◌∙◌, List, None, Option, Some, [], ap}
+use Rattle.std.proofs.Common.{◌≡◌, ◌++◌, ◌+◌, ◌-◌, ◌<◌, ◌≤◌, ◌∷◌, ◌∙◌, List, None}
+use Rattle.std.proofs.Common.{Option, Some, [], ap}
 use Rattle.std.proofs.Common.{arith, get_or, length, map, refl, sym, ℕ}
 use Rattle.std.specs.Prelude.{MatchOption, slice_get, slice_set}
 use Rattle.std.proofs.lemmas.List.{map-append}

@@ -132,7 +132,8 @@ module _ (ports : List ℕ) (ends : List End) (are : ArePorts ports ends) where
           let some = sym first ∙ none in cc
       go false new =
           let first = ap (λ (o : Outbox). o.sent)
-          (greeting_first (map link_of ends) (posted_of x) (map posted_of xs) found.0 found.1 new) in
+          (greeting_first (map link_of ends) (posted_of x) (map posted_of xs)
+          found.0 found.1 new) in
           let some = sym first ∙ none in cc
 
   -- so where nothing is sent no frame waits

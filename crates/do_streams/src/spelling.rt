@@ -1,5 +1,6 @@
 //! The oldest frame that waits, spelled.
-ghost use Rattle.std.specs.Prelude.{◌≡◌, ◌≤◌, ◌<◌, ◌+◌, ◌++◌, ◌∷◌, ◌==◌, [], IfOk, IfSome, IsNone, List};
+ghost use Rattle.std.specs.Prelude.{◌≡◌, ◌≤◌, ◌<◌, ◌+◌, ◌++◌, ◌∷◌, ◌==◌, []};
+ghost use Rattle.std.specs.Prelude.{IfOk, IfSome, IsNone, List};
 ghost use Rattle.std.specs.Prelude.{MatchOption, None, OnErr, length};
 ghost use Rattle.std.specs.Prelude.{OnOk, Some, position, slice_get, true, ℕ};
 ghost use Rattle.do_coder.specs.declared.recent.pair.Pair.{Pair};

@@ -139,8 +139,8 @@ impl Streams {
     /// Takes out the oldest frame that waits, or the greeting before it, appends its bytes, and
     /// tells the peer that it goes to. None exactly where no frame waits.
     ///
-    /// Frames are sent from this port, by these classes. If memory runs out, or the oldest frame has
-    /// no spelling that its peer can read, what waits is unchanged, as are the bytes.
+    /// Frames are sent from this port, by these classes. If memory runs out, or the oldest frame
+    /// has no spelling that its peer can read, what waits is unchanged, as are the bytes.
     pub fn next_frame(
         &mut self,
         table: &ClassTable,
@@ -160,6 +160,10 @@ impl Streams {
         ensures err { OnErr result
             ((self.new.frames ≡ self.old.frames) × (bytes.new ≡ bytes.old)) }
     {
+        // Most steps send nothing, and their lines are taken out first.
+        if self.is_fetched() {
+            return Ok(None);
+        }
         let alloc = bytes.allocator();
         spell_if_none(
             alloc,

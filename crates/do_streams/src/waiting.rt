@@ -28,9 +28,9 @@ pub enum Queued {
 /// The frames to all peers and the lines that wait, for which room is one number.
 ///
 /// Contracts see both lists, the oldest first, how many more of either can be put behind them with
-/// no memory, and how many places there are, which only `reserve` changes. The oldest frame is taken
-/// out of its cell before it is spelled, so its place is room again; it waits before the others
-/// until it is handed out.
+/// no memory, and how many places there are, which only `reserve` changes. The oldest frame is
+/// taken out of its cell before it is spelled, so its place is room again; it waits before the
+/// others until it is handed out.
 #[derive(Drop)]
 pub struct Waiting {
     cells: Cells<Queued>,

@@ -27,11 +27,13 @@ stays ends was mid at e f same there is =
 -- there is an end for each port
 pub is_greeted-requires : goal.is_greeted-requires
 is_greeted-requires c =
-    as_many c.args.ports.now c.args.ends.now c.requires.ordered c.in-Some.at c.in-Some.ensures.within
+    as_many c.args.ports.now c.args.ends.now c.requires.ordered
+    c.in-Some.at c.in-Some.ensures.within
 
 pub at_mut-requires : goal.at_mut-requires
 at_mut-requires c =
-    as_many c.args.ports.now c.args.ends.now c.requires.ordered c.in-Some.at c.in-Some.ensures.within
+    as_many c.args.ports.now c.args.ends.now c.requires.ordered
+    c.in-Some.at c.in-Some.ensures.within
 
 -- where the greeting is not spelled the links are as before
 pub returns-in_err-spell_greeting-clause-links : goal.returns-in_err-spell_greeting-clause-links

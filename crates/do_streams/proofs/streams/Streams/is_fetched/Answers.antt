@@ -23,7 +23,8 @@ pub returns-clause-value : goal.returns-clause-value
 returns-clause-value c = (
   λ yes.
       let i = c.self.inside in
-      let none : i.spelled ≡ None = none_of i.spelled (sym c.is_some.ensures ∙ c.if-is_some.false) in
+      let none : i.spelled ≡ None
+      = none_of i.spelled (sym c.is_some.ensures ∙ c.if-is_some.false) in
       let empty = c.is_empty.ensures.value.0 yes in (
         sym (ap (λ (v : Streamed). v.frames) c.self.view_is)
             ∙ (λ j. spelled_first (none j) ++ (outbox_of i.ends (empty.0 j)).sent),
