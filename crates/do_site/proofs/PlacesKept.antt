@@ -8,7 +8,8 @@ use Rattle.do_streams.specs.Streamed.{Fixed, Streamed}
 use Rattle.do_effects.specs.Bounded.{HasNoMore}
 use Rattle.do_effects.specs.declared.changing.Core.{Core}
 use Rattle.do_effects.proofs.ObjectsLeft.{few_pass}
-use Rattle.do_site.specs.Room.{HasPlace, HasPlaces, HasPlaceToClose, HasPlaceToLeave}
+use Rattle.do_site.specs.Room.{HasPlace, HasPlaceFor, HasPlaces, HasPlaceToClose}
+use Rattle.do_site.specs.Room.{HasPlaceToLeave, to_keep}
 use Rattle.do_site.specs.declared.needs.Needs.{Needs}
 use Rattle.do_site.specs.declared.told.Told.{Told}
 
@@ -90,6 +91,31 @@ pub fetched_place : (c : Core) (t : Told) → HasPlaces c t →
 fetched_place c t h room =
     let hp = h.places in
     record { places = h; waiting = omega (arith, hp, room) }
+
+-- where all was fetched there is room to keep no more names
+pub kept_place : (c : Core) (t : Told) → HasPlaces c t →
+    c.streams.room ≡ c.streams.fixed.places → HasPlaceFor (to_keep 0) c t
+kept_place c t h room =
+    let hf = h.freed in
+    let hl = h.left in
+    let hs = h.settled in
+    let hp = h.places in
+    record {
+      room = record {
+        part = record {
+          objects = omega arith;
+          invocations = omega arith;
+          names = omega arith;
+          entries = omega arith;
+        };
+        waiting = omega arith;
+      };
+      freed = omega (arith, hf);
+      left = omega (arith, hl);
+      settled = omega (arith, hs);
+      waiting = omega (arith, hp, room);
+      places = omega (arith, hp);
+    }
 
 -- a place that was made is one to settle what there is
 pub made_places : (needs : Needs) (c : Core) (t : Told) → HasPlace needs c t → HasPlaces c t

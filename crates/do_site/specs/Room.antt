@@ -1,5 +1,5 @@
 -- The room that a step of a site is to find.
-use Rattle.std.specs.Prelude.{length, vec_capacity, ◌+◌, ◌≤◌}
+use Rattle.std.specs.Prelude.{length, vec_capacity, ℕ, ◌+◌, ◌≤◌}
 use Rattle.do_effects.specs.Room.{HasRoom, Needs as Wants}
 use Rattle.do_effects.specs.declared.changing.Core.{Core}
 use Rattle.do_rules.specs.declared.take.ruling.Ruling.{Ruling}
@@ -18,9 +18,13 @@ needed n = record {
   waiting = n.waiting;
 }
 
+-- so many names to keep, and nothing else
+abbrev pub to_keep : ℕ → Wants
+to_keep names = record { objects = 0; invocations = 0; names = names; entries = 0; waiting = 0 }
+
 -- What a step takes has room, and behind it there is room to free all that is then stored, to leave
--- all that is then held, and to end all that is then asked for; and there are places to do that once
--- more, with two frames or lines besides, when all that waits was fetched.
+-- all that is then held, and to end all that is then asked for; and there are places to do that
+-- once more, with two frames or lines besides, when all that waits was fetched.
 pub record HasPlaceFor (n : Wants) (c : Core) (t : Told) : Type 0 where
   pub room : HasRoom n c
   pub freed : length c.part.own.node.heap + n.objects ≤ vec_capacity t.freed
@@ -35,8 +39,8 @@ pub record HasPlaceFor (n : Wants) (c : Core) (t : Told) : Type 0 where
 abbrev pub HasPlace : Needs → Core → Told → Type 0
 HasPlace n c t = HasPlaceFor (needed n) c t
 
--- there is room to free what is stored, to leave what is held, and to end what is asked for, with two
--- frames or lines besides, when all that waits was fetched
+-- there is room to free what is stored, to leave what is held, and to end what is asked for, with
+-- two frames or lines besides, when all that waits was fetched
 pub record HasPlaces (c : Core) (t : Told) : Type 0 where
   pub freed : length c.part.own.node.heap ≤ vec_capacity t.freed
   pub left : length c.part.own.node.held ≤ vec_capacity t.left

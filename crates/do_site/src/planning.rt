@@ -97,7 +97,10 @@ pub fn planned(ground: &Ground<'_>, top: &Invocation, verdict: Verdict) -> Resul
     match verdict {
         Verdict::Goes { into, value, pc } => Ok(Plan::Goes { into, value, pc }),
         Verdict::Uses { value, outs } => Ok(Plan::Uses { value, outs }),
-        Verdict::Steps { .. } => Err(AllocError),
+        Verdict::Steps { .. } => {
+            drop(verdict);
+            Err(AllocError)
+        }
         Verdict::Makes { class, into, pc } => making(ground, class, into, pc),
         Verdict::Vends { root, pc } => Ok(Plan::Vends { root, pc }),
         Verdict::Says { value, pc } => Ok(Plan::Says { value, pc }),

@@ -9,7 +9,8 @@ ghost use Rattle.do_stack.specs.Answered.{values_taken};
 ghost use Rattle.do_part.specs.Names.{sizes_of, values_of};
 ghost use Rattle.do_rules.specs.Ruling.{names_in};
 ghost use Rattle.do_machine.specs.declared.item.Item.{Item as Taken};
-ghost use Rattle.do_site.specs.Plans.{AllowsItem, AllowsMessage, AllowsRuling, IsEnough, is_no_lend};
+ghost use Rattle.do_site.specs.Plans.{AllowsItem, AllowsMessage, AllowsRuling};
+ghost use Rattle.do_site.specs.Plans.{IsEnough, is_no_lend};
 ghost use Rattle.do_site.specs.Stored.{Tallies};
 
 use crate::allowing::names_sent;

@@ -26,8 +26,8 @@ use std::marker::Model;
 /// One node of a network: it knows of the other nodes what it counts, and speaks with them by
 /// frames.
 ///
-/// Contracts see the classes, what decides the acts, and what its steps change. Classes and acts are
-/// shared with other sites.
+/// Contracts see the classes, what decides the acts, and what its steps change. Classes and acts
+/// are shared with other sites.
 #[derive(Drop)]
 pub struct Site<B: Behaviour + Drop> {
     table: Shared<ClassTable>,

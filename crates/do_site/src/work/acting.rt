@@ -15,7 +15,7 @@ ghost use Rattle.do_effects.specs.Tidy.{IsTidy};
 ghost use Rattle.do_site.specs.Kept.{IsKept, StaysBut};
 ghost use Rattle.do_site.specs.Packable.{is_light};
 ghost use Rattle.do_site.specs.Plans.{IsEnough};
-ghost use Rattle.do_site.specs.Room.{CanSettle, HasPlace, HasPlaceToLeave};
+ghost use Rattle.do_site.specs.Room.{CanSettle, HasPlace, HasPlaceFor, HasPlaceToLeave, to_keep};
 ghost use Rattle.do_site.specs.Running.{IsRunOf, makes_light};
 ghost use Rattle.do_site.specs.Steps.{IsSame, Moves};
 
@@ -142,11 +142,29 @@ impl Work {
         turn.next_change(acts)
     }
 
+    /// Makes room for so many more names to keep. Most steps keep none, and find their room where
+    /// all was fetched that waited.
+    ///
+    /// An error means that memory ran out; nothing but room changed then.
+    fn make_room_to_keep(&mut self, names: u64) -> Result<(), AllocError>
+        requires { CanSettle self.old }
+        ensures same { IsSame self.old.core self.new.core }
+        ensures stays { StaysBut self.old self.new }
+        ensures places { CanSettle self.new }
+        ensures room { OnOk result (HasPlaceFor (to_keep names) self.new.core self.new.told) }
+    {
+        if names == 0 && self.core.streams.is_fetched() {
+            return Ok(());
+        }
+        self.make_room(&Needs::to_keep(names))
+    }
+
     /// The top invocation is changed, in room that is made for that. What is left to do of an act
     /// that is no step is told.
     ///
     /// An error means that memory ran out; nothing but room changed then.
     fn make_change(&mut self, change: Change) -> Result<Option<Act>, AllocError>
+        requires places { CanSettle self.old }
         requires top { 0 < length self.old.core.part.own.node.stack }
         requires fits { (top : Invocation)
             → slice_get self.old.core.part.own.node.stack 0 ≡ Some top → IsFitting top change }
@@ -159,14 +177,14 @@ impl Work {
             ≡ act_left_on change self.old.core.part.own.node.stack) }
         ensures err { OnErr result (IsSame self.old.core self.new.core) }
         ensures stays { StaysBut self.old self.new }
-        ensures places { CanSettle self.old → CanSettle self.new }
+        ensures places { CanSettle self.new }
         ensures room { OnOk result (HasPlaceToLeave self.new.core self.new.told) }
     {
         let part = &self.core.part;
         let Some(names) = (Reach { part, more: 0 }).of_change(&change) else {
             return Err(AllocError);
         };
-        self.make_room(&Needs::to_keep(names))?;
+        self.make_room_to_keep(names)?;
         self.core.part.step(change)
     }
 

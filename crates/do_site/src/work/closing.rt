@@ -53,8 +53,8 @@ impl Work {
 
     /// Closes the end towards a peer, which is open, and leaves what then nothing holds.
     ///
-    /// An error means that memory ran out, which it cannot where all was fetched that waited; nothing
-    /// but room changed then.
+    /// An error means that memory ran out, which it cannot where all was fetched that waited;
+    /// nothing but room changed then.
     pub fn close(&mut self, peer: NodeId) -> Result<(), AllocError>
         requires tidy { IsTidy self.old.core.part.own }
         requires places { CanSettle self.old }

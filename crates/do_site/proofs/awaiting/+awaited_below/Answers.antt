@@ -6,7 +6,8 @@ use Rattle.do_site.proofs.awaiting.+awaited_below.Goals as goal
 pub returns-then-awaits : goal.returns-then-awaits
 returns-then-awaits t c =
     c.asked_by.ensures
-    ∙ top_awaits (call_of c.args.call.now) c.args.part.now.own.node.stack c.args.height (omega arith)
+    ∙ top_awaits (call_of c.args.call.now) c.args.part.now.own.node.stack c.args.height
+    (omega arith)
     c.requires c.in-Some.top.now (c.in-Some.ensures.within (omega arith)) (cc)
 
 pub returns : goal.returns

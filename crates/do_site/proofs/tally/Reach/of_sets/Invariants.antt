@@ -7,5 +7,6 @@ use Rattle.do_site.proofs.tally.Reach.of_sets.Given as goal
 -- what these so far name is counted
 abbrev pub invariant-loop-set : goal.invariant-loop-set
 invariant-loop-set l = Tallies l.self.part.now.own.node l.self.more
-    (values_of (set_values (take l.set-index l.sets))) (sizes_of (set_values (take l.set-index l.sets)))
+    (values_of (set_values (take l.set-index l.sets)))
+    (sizes_of (set_values (take l.set-index l.sets)))
     l.names

@@ -121,7 +121,8 @@ decide-requires-clause-runs g c =
     let found = run_of c.args.table.now p c.requires.runs in
     subst (λ (d : Doing). IsRunning d.own.node.stack)
     (sym (unchanged c.args.table.now c.args.self.now.core c.make_change.new.self.core found.0
-    found.1 c.in_ok-change.change (next_act (g.B.Behaviour.act c.args.acts.now) found.0) c.in-Some.act
+    found.1 c.in_ok-change.change (next_act (g.B.Behaviour.act c.args.acts.now) found.0)
+    c.in-Some.act
     (c.in_ok-change.ensures found.0 found.1)
     (sym c.in_ok-act.ensures.left ∙ c.in-Some.is) c.in_ok-act.ensures.own))
     c.requires.runs

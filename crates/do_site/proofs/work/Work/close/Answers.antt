@@ -16,7 +16,8 @@ pub leave-requires-clause-place : goal.leave-requires-clause-place
 leave-requires-clause-place c =
     let mid = c.make_room_to_close.new.self in
     let room = c.close.ensures.room in
-    closed_place mid.core c.close.new.self mid.told (record mid.told { settled = c.close.new.settled })
+    closed_place mid.core c.close.new.self mid.told
+    (record mid.told { settled = c.close.new.settled })
     c.in_ok-make_room_to_close.ensures.room
     (parted_fewer c.args.peer mid.core.part.own.node c.close.new.self.part.own.node
     c.close.ensures.node)

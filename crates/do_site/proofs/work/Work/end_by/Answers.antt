@@ -87,7 +87,8 @@ pub returns-clause-sure : goal.returns-clause-sure
 returns-clause-sure c = λ fetched.
     c.follow.ensures.sure (ending_quiet c.args.ruling c.requires.over)
 
-pub returns-in_err-make_room_to_close-clause-kept : goal.returns-in_err-make_room_to_close-clause-kept
+pub returns-in_err-make_room_to_close-clause-kept :
+    goal.returns-in_err-make_room_to_close-clause-kept
 returns-in_err-make_room_to_close-clause-kept c =
     same_kept c.args.table.now c.args.self.now c.make_room_to_close.new.self
     c.in_err-make_room_to_close.ensures.same c.in_err-make_room_to_close.ensures.stays

@@ -19,29 +19,27 @@ use Rattle.do_site.proofs.work.Work.make_change.Goals as goal
 pub step-requires-clause-top : goal.step-requires-clause-top
 step-requires-clause-top c =
     subst (λ (p : Own). 0 < length p.node.stack)
-    (sym (ap (λ (d : Doing). d.own) c.in_ok-make_room.ensures.same)) c.requires.top
+    (sym (ap (λ (d : Doing). d.own) c.in_ok-make_room_to_keep.ensures.same)) c.requires.top
 
 -- the change fits it
 pub step-requires-clause-fits : goal.step-requires-clause-fits
 step-requires-clause-fits c =
     subst (λ (p : Own). (top : Invocation) → slice_get p.node.stack 0 ≡ Some top →
     IsFitting top c.args.change)
-    (sym (ap (λ (d : Doing). d.own) c.in_ok-make_room.ensures.same)) c.requires.fits
+    (sym (ap (λ (d : Doing). d.own) c.in_ok-make_room_to_keep.ensures.same)) c.requires.fits
 
 -- there is room for the names that are given and written
 pub step-requires-clause-names : goal.step-requires-clause-names
 step-requires-clause-names c =
-    let room = c.in_ok-make_room.ensures.room.room.part.names in
+    let room = c.in_ok-make_room_to_keep.ensures.room.room.part.names in
     let count = c.in-Some.ensures.counted in
-    let needs = c.to_keep.ensures in
-    let same = ap (λ n. n.names) needs in
-    omega (arith, room, count, same)
+    omega (arith, room, count)
 
 -- what is given is stored
 pub step-requires-clause-locals : goal.step-requires-clause-locals
 step-requires-clause-locals c =
     subst (λ (p : Own). AreStored p.node (values_of (given c.args.change)))
-    (sym (ap (λ (d : Doing). d.own) c.in_ok-make_room.ensures.same))
+    (sym (ap (λ (d : Doing). d.own) c.in_ok-make_room_to_keep.ensures.same))
     (there_stored c.args.self.now.core.part.own.node (values_of (given c.args.change))
     c.in-Some.ensures.first)
 
@@ -50,17 +48,17 @@ pub step-requires-clause-stored : goal.step-requires-clause-stored
 step-requires-clause-stored c =
     subst (λ (p : Own). AreStored p.node
     (values_of (written_values (change_writes c.args.change))))
-    (sym (ap (λ (d : Doing). d.own) c.in_ok-make_room.ensures.same))
+    (sym (ap (λ (d : Doing). d.own) c.in_ok-make_room_to_keep.ensures.same))
     (there_stored c.args.self.now.core.part.own.node
     (values_of (written_values (change_writes c.args.change))) c.in-Some.ensures.second)
 
 -- the node is changed, and nothing else
 pub returns-clause-own : goal.returns-clause-own
 returns-clause-own c =
-    let same : doing c.make_room.new.self.core ≡ doing c.args.self.now.core
-    = c.in_ok-make_room.ensures.same in
+    let same : doing c.make_room_to_keep.new.self.core ≡ doing c.args.self.now.core
+    = c.in_ok-make_room_to_keep.ensures.same in
     on_ok c.step.result (λ own.
-    (λ j. record (doing c.make_room.new.self.core) { own = own j })
+    (λ j. record (doing c.make_room_to_keep.new.self.core) { own = own j })
     ∙ (λ j. record (same j) {
       own = record (same j).own { node = changed c.args.change (same j).own.node };
     })) c.step.ensures.own
@@ -70,27 +68,27 @@ pub returns-clause-left : goal.returns-clause-left
 returns-clause-left c =
     if_ok c.step.result (λ act left. left
     ∙ ap (λ (d : Doing). act_left_on c.args.change d.own.node.stack)
-    c.in_ok-make_room.ensures.same) c.step.ensures.left
+    c.in_ok-make_room_to_keep.ensures.same) c.step.ensures.left
 
 -- without memory nothing but room changed
 pub returns-clause-err : goal.returns-clause-err
 returns-clause-err c =
     on_err c.step.result (λ own.
-    (λ j. record (doing c.make_room.new.self.core) { own = own j })
-    ∙ c.in_ok-make_room.ensures.same) c.step.ensures.err
+    (λ j. record (doing c.make_room_to_keep.new.self.core) { own = own j })
+    ∙ c.in_ok-make_room_to_keep.ensures.same) c.step.ensures.err
 
 -- the flag and the classes are as they were
 pub returns-clause-stays : goal.returns-clause-stays
 returns-clause-stays c = record {
-  packable = c.in_ok-make_room.ensures.stays.packable;
-  classes = c.in_ok-make_room.ensures.stays.classes;
+  packable = c.in_ok-make_room_to_keep.ensures.stays.packable;
+  classes = c.in_ok-make_room_to_keep.ensures.stays.classes;
 }
 
 -- there is room to leave what nothing holds
 pub returns-clause-room : goal.returns-clause-room
 returns-clause-room c =
-    let keeps = change_keeps c.args.change c.make_room.new.self.core.part.own.node in
-    let place = c.in_ok-make_room.ensures.room in
+    let keeps = change_keeps c.args.change c.make_room_to_keep.new.self.core.part.own.node in
+    let place = c.in_ok-make_room_to_keep.ensures.room in
     on_ok c.step.result (λ own.
     let count = ap (λ (p : Own). length p.node.heap) own ∙ keeps.count in
     let held = ap (λ (p : Own). length p.node.held) own ∙ ap (λ os. length os) keeps.held in
@@ -112,11 +110,11 @@ returns-clause-room c =
 
 -- there are places as before, also where memory ran out
 pub returns-clause-places : goal.returns-clause-places
-returns-clause-places c = λ had.
-    let mid = c.make_room.new.self in
+returns-clause-places c =
+    let mid = c.make_room_to_keep.new.self in
     let new : Core = record mid.core { part = c.step.new.self } in
     let keeps = change_keeps c.args.change mid.core.part.own.node in
-    let places = c.in_ok-make_room.ensures.places had in
+    let places = c.in_ok-make_room_to_keep.ensures.places in
     either_way c.step.result
     (on_ok c.step.result (λ own.
     let count = ap (λ (p : Own). length p.node.heap) own ∙ keeps.count in

@@ -50,7 +50,8 @@ leave-requires-clause-place c =
     let asked = ap (λ (p : Own). length p.node.asked) c.give_back.ensures in
     let read = ap (λ (s : Streamed). s.room) c.keep_read.ensures.same in
     let line = c.show.ensures.room in
-    closed_place mid.core (record mid.core { part = c.give_back.new.part; streams = c.show.new.self })
+    closed_place mid.core
+    (record mid.core { part = c.give_back.new.part; streams = c.show.new.self })
     mid.told mid.told c.in_ok-make_room_to_close.ensures.room
     (record {
       stored = omega (arith, heap);

@@ -13,7 +13,8 @@ pub returns-in-Nothing-clause-done : goal.returns-in-Nothing-clause-done
 returns-in-Nothing-clause-done g c =
     let old = c.args.self.now.core in
     subst (λ (e : Option Effect). Does old old false e)
-    (sym (nothing_runs (g.B.Behaviour.act c.args.acts.now) (site_context c.args.table.now old.part.own)
+    (sym (nothing_runs (g.B.Behaviour.act c.args.acts.now)
+    (site_context c.args.table.now old.part.own)
     old.part.own.node.stack (sym c.next_of.ensures ∙ c.in-Nothing.is)))
     (refl, refl)
 
@@ -29,7 +30,8 @@ returns-in_ok-act-in-Act-clause-done g c =
     let runs = act_runs old.part.own.node.stack (sym c.next_of.ensures ∙ c.in-Act.is) in
     let found = run_of c.args.table.now old.part.own runs in
     subst (λ (e : Option Effect). Does old c.act.new.self.core true e)
-    (sym (run_acts (g.B.Behaviour.act c.args.acts.now) c.args.table.now old.part.own found.0 found.1 runs))
+    (sym (run_acts (g.B.Behaviour.act c.args.acts.now) c.args.table.now old.part.own
+    found.0 found.1 runs))
     (refl, c.in_ok-act-in-Act.ensures.ok found.0 found.1)
 
 -- what goes on with what a call gave has that
@@ -46,7 +48,8 @@ returns-in_ok-use_given-in-Given-clause-done g c =
     let found = answered_run c.args.table.now p answer given.1.1 in
     let is = answer_state c.args.table.now p found.0 answer found.1 given.1.1 in
     subst (λ (e : Option Effect). Does old c.use_given.new.self.core true e)
-    (sym (run_answers (g.B.Behaviour.act c.args.acts.now) c.args.table.now p found.0 found.1 answer is))
+    (sym (run_answers (g.B.Behaviour.act c.args.acts.now) c.args.table.now p
+    found.0 found.1 answer is))
     (refl, c.in_ok-use_given-in-Given.ensures.ok c.args.table.now found.0 answer found.1 is)
 
 -- what goes on with an exception has that
@@ -54,7 +57,8 @@ pub use_raised-requires-clause-raised : goal.use_raised-requires-clause-raised
 use_raised-requires-clause-raised g c = sym c.next_of.ensures ∙ c.in-Raised.is
 
 -- an exception goes where the rules say
-pub returns-in_ok-use_raised-in-Raised-clause-done : goal.returns-in_ok-use_raised-in-Raised-clause-done
+pub returns-in_ok-use_raised-in-Raised-clause-done :
+    goal.returns-in_ok-use_raised-in-Raised-clause-done
 returns-in_ok-use_raised-in-Raised-clause-done g c =
     let old = c.args.self.now.core in
     let p = old.part.own in
@@ -63,5 +67,6 @@ returns-in_ok-use_raised-in-Raised-clause-done g c =
     let found = answered_run c.args.table.now p answer raised.1 in
     let is = answer_state c.args.table.now p found.0 answer found.1 raised.1 in
     subst (λ (e : Option Effect). Does old c.use_raised.new.self.core true e)
-    (sym (run_answers (g.B.Behaviour.act c.args.acts.now) c.args.table.now p found.0 found.1 answer is))
+    (sym (run_answers (g.B.Behaviour.act c.args.acts.now) c.args.table.now p
+    found.0 found.1 answer is))
     (refl, c.in_ok-use_raised-in-Raised.ensures.ok found.0 answer found.1 is)

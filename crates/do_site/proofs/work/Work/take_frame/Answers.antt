@@ -15,4 +15,5 @@ returns-in-Some-clause-done c act =
 pub returns-clause-done : goal.returns-clause-done
 returns-clause-done c act =
     taken_came c.args.table.now act c.args.self.now.core c.take_allowed.new.self.core c.args.from
-    c.args.reading.frame _ (sym c.peer_fault.ensures ∙ c.in_default.is) c.in_ok-take_allowed.ensures.ok
+    c.args.reading.frame _ (sym c.peer_fault.ensures ∙ c.in_default.is)
+    c.in_ok-take_allowed.ensures.ok
