@@ -1,7 +1,8 @@
 //! The ruling on an item that is taken, carried out.
 mod receiving;
 
-ghost use Rattle.std.specs.Prelude.{◌≡◌, ◌≤◌, ◌<◌, IsOk, OnOk, OnErr, false, length, true, vec_capacity};
+ghost use Rattle.std.specs.Prelude.{◌≡◌, ◌≤◌, ◌<◌, IsOk, OnOk, OnErr, false};
+ghost use Rattle.std.specs.Prelude.{length, true, vec_capacity};
 ghost use Rattle.std.specs.List.{list_any};
 ghost use Rattle.do_effects.specs.Doing.{doing};
 ghost use Rattle.do_effects.specs.Taking.{CanTake, ended_own, is_granted, on_message, takes};

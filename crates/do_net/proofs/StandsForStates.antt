@@ -109,7 +109,8 @@ module _ (table : List Class) (act : Acting) where
     -- a node can take the same
     pub takes_as_one : (port from : ℕ) → net_can_take N port from ≡ machine_can_take S port from
     takes_as_one port from =
-        go (part_at N port) ∙ ap (some_passes (can_take from)) (stands.agrees.tallies.shows.nodes port)
+        go (part_at N port) ∙ ap (some_passes (can_take from))
+        (stands.agrees.tallies.shows.nodes port)
       where
         go : (found : Option Part) → (elim found [
           | None ↦ false

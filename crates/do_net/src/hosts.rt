@@ -253,7 +253,8 @@ pub(crate) fn snapshot<S: Hosted>(hosts: &Hosts<S>) -> Result<Snapshot, AllocErr
 
 /// Whether nothing stands in the lanes of sites.
 pub(crate) fn are_quiet<S: Hosted>(hosts: &Hosts<S>) -> bool
-    ensures { result ≡ list_all (λ h. list_all (λ c. length c.waiting == 0) h.lanes) hosts.now.items }
+    ensures { result ≡
+        list_all (λ h. list_all (λ c. length c.waiting == 0) h.lanes) hosts.now.items }
 {
     hosts.items.as_slice().iter().all(|host| host.is_quiet())
 }

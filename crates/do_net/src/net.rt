@@ -83,8 +83,8 @@ impl<S: Hosted> Net<S> {
 
     /// Does one event. One that is not enabled shows and sends nothing and leaves the network as it
     /// was. What is sent waits for `next_wire`. Where the network stands for a state of the one
-    /// machine, the event shows what it shows there, and the network then stands for the state after
-    /// it.
+    /// machine, the event shows what it shows there, and the network then stands for the state
+    /// after it.
     ///
     /// The one error is that memory ran out, that a number would pass what a site can count, or
     /// that a frame has no spelling. Each later step then answers it, and the network is no more

@@ -16,7 +16,8 @@ returns-in-Some-clause-fetched g c fetched =
     c.advance.result
     (place_found (hosting seen) c.args.from hosts.items c.in-Some.at x first c.at_mut.ensures.value)
     c.advance.ensures.kept
-    (place_set (hosting seen) c.args.from hosts.items _ c.in-Some.at x z first c.at_mut.ensures.value
+    (place_set (hosting seen) c.args.from hosts.items _ c.in-Some.at x z first
+    c.at_mut.ensures.value
     refl) fetched
 
 pub returns-in-Some-clause-net : goal.returns-in-Some-clause-net
@@ -30,7 +31,8 @@ returns-in-Some-clause-net g c table act rest =
     c.args.to c.advance.result rest
     (place_found (hosting seen) c.args.from hosts.items c.in-Some.at x first c.at_mut.ensures.value)
     c.advance.ensures.kept
-    (place_set (hosting seen) c.args.from hosts.items _ c.in-Some.at x z first c.at_mut.ensures.value
+    (place_set (hosting seen) c.args.from hosts.items _ c.in-Some.at x z first
+    c.at_mut.ensures.value
     refl)
 
 pub returns-in-None-clause-net : goal.returns-in-None-clause-net

@@ -24,10 +24,12 @@ returns-in-Some g c table act rest =
     let z = c.hand.new.self in
     let first = sym c.in-Some.ensures.index in
     let found =
-    place_found (hosting seen) c.args.port hosts.items c.in-Some.at x first c.at_mut.ensures.value in
+    place_found (hosting seen) c.args.port hosts.items c.in-Some.at x first
+    c.at_mut.ensures.value in
     hand_result table act (hostings seen hosts) (hosting seen x) (hosting seen z) _ c.args.port
     c.args.input.now c.args.wires.now.items c.hand.new.wires.items c.hand.result rest found
-    (place_set (hosting seen) c.args.port hosts.items _ c.in-Some.at x z first c.at_mut.ensures.value
+    (place_set (hosting seen) c.args.port hosts.items _ c.in-Some.at x z first
+    c.at_mut.ensures.value
     refl)
     c.hand.ensures.outcome c.hand.ensures.host c.hand.ensures.wires
     (hand_spelled table act (hostings seen hosts) (hosting seen x) c.args.port c.args.input.now

@@ -29,7 +29,8 @@ returns g c table act wires rest =
     c.args.to c.args.after c.in_ok-told.told wires c.shows_nothing-2.result opened
     (place_found (hosting seen) c.args.from hosts.items c.in-Some.at x first c.at_mut.ensures.value)
     c.in_ok-told.ensures.told
-    (place_set (hosting seen) c.args.from hosts.items _ c.in-Some.at x z first c.at_mut.ensures.value
+    (place_set (hosting seen) c.args.from hosts.items _ c.in-Some.at x z first
+    c.at_mut.ensures.value
     refl)
     c.shows_nothing-2.ensures rest
 

@@ -83,23 +83,27 @@ returns-clause-prefix g c =
 -- ---- as one machine
 
 -- nothing was written
-pub returns-in_err-waiting-clause-one_machine_first : goal.returns-in_err-waiting-clause-one_machine_first
+pub returns-in_err-waiting-clause-one_machine_first :
+    goal.returns-in_err-waiting-clause-one_machine_first
 returns-in_err-waiting-clause-one_machine_first g c =
     λ seats world opens. begun_as_one c.args.table.now
     (g.S.Acts.Behaviour.act c.args.net.now.acts) seats world
     (network g.S.Hosted.seen c.args.net.now) opens c.args.lines (g.K.Sink.written c.args.out.now)
 
-pub returns-in_err-push_block-clause-one_machine_first : goal.returns-in_err-push_block-clause-one_machine_first
+pub returns-in_err-push_block-clause-one_machine_first :
+    goal.returns-in_err-push_block-clause-one_machine_first
 returns-in_err-push_block-clause-one_machine_first g c =
     λ seats world opens. written_as_one _ _ seats world _ opens c.args.lines _ _ _ _ _
     c.loop-line.invariant.written c.loop-line.invariant.spelled
 
-pub returns-in_err-push_bytes-clause-one_machine_first : goal.returns-in_err-push_bytes-clause-one_machine_first
+pub returns-in_err-push_bytes-clause-one_machine_first :
+    goal.returns-in_err-push_bytes-clause-one_machine_first
 returns-in_err-push_bytes-clause-one_machine_first g c =
     λ seats world opens. written_as_one _ _ seats world _ opens c.args.lines _ _ _ _ _
     c.loop-line.invariant.written c.loop-line.invariant.spelled
 
-pub returns-in_err-flush_if_long-clause-one_machine_first : goal.returns-in_err-flush_if_long-clause-one_machine_first
+pub returns-in_err-flush_if_long-clause-one_machine_first :
+    goal.returns-in_err-flush_if_long-clause-one_machine_first
 returns-in_err-flush_if_long-clause-one_machine_first g c =
     let i = c.loop-line.invariant in
     let p = c.in_ok-push_block.ensures in
@@ -110,7 +114,8 @@ returns-in_err-flush_if_long-clause-one_machine_first g c =
     next.written next.spelled _ c.flush_if_long.ensures.prefix
 
 -- all lines were done
-pub returns-in_err-flush-clause-one_machine_first : goal.returns-in_err-flush-clause-one_machine_first
+pub returns-in_err-flush-clause-one_machine_first :
+    goal.returns-in_err-flush-clause-one_machine_first
 returns-in_err-flush-clause-one_machine_first g c =
     let none : into_iter_items c.loop-line.line-iterator ≡ [] =
     nil_from_length _ (sym c.loop-line.line-iterator.rest.ok.0 ∙ c.in-None.ensures.steps.0) in

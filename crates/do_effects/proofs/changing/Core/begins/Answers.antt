@@ -39,7 +39,8 @@ push-requires-clause-running c =
 pub push-requires-clause-stored : goal.push-requires-clause-stored
 push-requires-clause-stored c =
     gained_stored (doing c.gain.new.self) (doing c.args.self.now) c.args.from c.args.item.now
-    c.args.line c.args.copies (values_of (invocation_values c.args.invocation)) c.in_ok-gain.ensures.ok
+    c.args.line c.args.copies (values_of (invocation_values c.args.invocation))
+    c.in_ok-gain.ensures.ok
     c.requires.values
 
 -- what comes is received, and then the invocation begins

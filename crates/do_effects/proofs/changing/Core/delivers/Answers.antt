@@ -39,7 +39,8 @@ returns-in-Shows c =
           (tidy_node d.own (top_popped n) (record { ends = refl; held = refl; asked = refl })
           c.requires.tidy);
       within = bounded_node (delivery_needs c.args.delivery) old a (top_popped n)
-          c.ends.ensures.own (omega arith) (omega arith) (omega arith) (omega arith) c.show.ensures.fixed;
+          c.ends.ensures.own (omega arith) (omega arith) (omega arith) (omega arith)
+          c.show.ensures.fixed;
     }
 
 -- the top invocation is popped, and the one below it has the answer

@@ -10,7 +10,8 @@ use Rattle.do_part.specs.Owned.{Owned}
 use Rattle.do_streams.specs.Streamed.{outbox}
 use Rattle.do_effects.specs.Bounded.{HasNoMore}
 use Rattle.do_effects.specs.Tidy.{IsTidy}
-use Rattle.do_effects.proofs.ObjectsLeft.{few_frames, few_freed, few_left, few_lines, left_done, left_fewer}
+use Rattle.do_effects.proofs.ObjectsLeft.{few_frames, few_freed, few_left, few_lines}
+use Rattle.do_effects.proofs.ObjectsLeft.{left_done, left_fewer}
 use Rattle.do_effects.proofs.ObjectsLeft.{shown_by_port}
 use Rattle.do_effects.proofs.TidyCounts.{counted_is_tidy}
 use Rattle.do_effects.proofs.changing.Core.leave.Goals as goal

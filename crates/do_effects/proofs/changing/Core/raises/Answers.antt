@@ -41,4 +41,5 @@ returns-clause-within c =
     let b : Core = record { part = c.answer.new.self; streams = c.show.new.self } in
     bounded_node (taking_needs p.node c.args.item.now (rulings.Raises c.args.call c.args.exc))
     c.args.self.now b (answered_with (call_of c.args.call) (Some (Raised c.args.exc)) p.node)
-    c.answer.ensures.own (omega arith) (omega arith) (omega arith) (omega arith) c.show.ensures.fixed
+    c.answer.ensures.own (omega arith) (omega arith) (omega arith) (omega arith)
+    c.show.ensures.fixed

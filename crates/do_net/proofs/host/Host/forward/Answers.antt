@@ -9,6 +9,7 @@ loop-wire-preserved g c =
     let seen = g.S.Hosted.seen in
     forwards_more (hosting seen c.args.self.now) (hosting seen c.loop-wire.self)
     (hosting seen c.fetch_sent.new.self)
-    (hosting seen (record c.fetch_sent.new.self { lanes = c.carry.new.self })) c.args.wires.now.items
+    (hosting seen (record c.fetch_sent.new.self { lanes = c.carry.new.self }))
+    c.args.wires.now.items
     c.loop-wire.wires.items c.post.new.self.items c.in-Some.wire c.loop-wire.invariant
     (search rules) (search rules) (search rules) (search rules)
