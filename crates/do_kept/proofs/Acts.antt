@@ -1,7 +1,7 @@
 -- Acts of native methods whose values can be carried.
 use Rattle.std.proofs.Common.{◌≡◌, ◌==◌, ◌&&◌, ◌+◌, ℕ, Bool, true, false, cond}
 use Rattle.std.proofs.Common.{List as Listed, [], ◌∷◌, length, map, refl, ◌∙◌}
-use Rattle.std.specs.Prelude.{None, Option, Some, slice_get, slice_index_or, slice_set, suc, zero}
+use Rattle.std.specs.Prelude.{None, Option, Some, slice_index_or, slice_set, suc, zero}
 use Rattle.std.specs.List.{AllByRecursion, list_all}
 use Rattle.std.specs.Option.{IfSome}
 use Rattle.std.proofs.lemmas.Bool.{and_parts}
@@ -13,7 +13,7 @@ use Rattle.do_base.specs.declared.values.value.Value.{Value}
 use Rattle.do_class.specs.Class.{Class}
 use Rattle.do_grammar.specs.Words.{◌>>?◌}
 use Rattle.do_behave.specs.Changes.{with_set}
-use Rattle.do_behave.specs.Steps.{local, local_values, or_fault}
+use Rattle.do_behave.specs.Steps.{local, or_fault}
 use Rattle.do_behave.specs.declared.act.Act.{Act}
 use Rattle.do_behave.specs.declared.act.Act.TheVariants.{Raise, Return, Step}
 use Rattle.do_behave.specs.declared.act.Write.{Write}
@@ -27,18 +27,13 @@ use Rattle.do_facts.proofs.EachOfLists.{each_joined, each_mapped, each_set}
 use Rattle.do_limits.specs.Sendable.{AreSendable, IsSendable, IsSendableExc}
 use Rattle.do_limits.specs.SendableActs.{ActIsSendable}
 use Rattle.do_limits.proofs.runs.Verdicts.{textless}
+use Rattle.do_limits.proofs.scripts.Locals.{value_at}
 
 -- a value that can be carried where it passes the test of native acts
 abbrev pub IsSendableIfLimited : Value → Type 0
 IsSendableIfLimited v = is_limited v ≡ true → IsSendable v
 
 -- ---- lists of values
-
--- a value at a place
-pub value_at : (vs : Listed Value) (k : ℕ) → AreSendable vs → IfSome (slice_get vs k) IsSendable
-value_at [] k h = tt
-value_at (v ∷ vs) zero h = h.0
-value_at (v ∷ vs) (suc k) h = value_at vs k h.1
 
 -- locals once others are set
 set_kept : (sets : Listed LocalSet) (locals : Listed Value) → AreSendable locals →
@@ -123,18 +118,6 @@ module _ (table : Listed Class) (inv : Invocation) (all : AreSendable inv.locals
   pub local_sound : (k : ℕ) (f : Value → Option Act) →
       ((v : Value) → IsSendable v → MaySound (f v)) → MaySound (local inv k >>? f)
   local_sound k f each = then_sound IsSendable (local inv k) f (value_at inv.locals k all) each
-
-  -- what several locals hold
-  pub each_local : (from : Listed ℕ) → IfSome (local_values inv from) AreSendable
-  each_local [] = tt
-  each_local (k ∷ ks) =
-      one (local inv k) (local_values inv ks) (value_at inv.locals k all) (each_local ks)
-    where
-      one : (o : Option Value) (p : Option (Listed Value)) → IfSome o IsSendable →
-          IfSome p AreSendable → IfSome (o >>? λ v. p >>? λ vs. Some (v ∷ vs)) AreSendable
-      one None p q rest = tt
-      one (Some v) None q rest = tt
-      one (Some v) (Some vs) q rest = (q, rest)
 
   -- the answer is returned
   pub returns_sound : MaySound (returns inv)

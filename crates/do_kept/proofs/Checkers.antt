@@ -27,6 +27,7 @@ use Rattle.do_check.specs.declared.rules.Verdict.{Verdict}
 use Rattle.do_check.specs.declared.rules.Verdict.TheVariants.{Deny, Forward}
 use Rattle.do_limits.specs.Sendable.{AreSendable, IsSendable}
 use Rattle.do_limits.specs.SendableActs.{KeepsSendable}
+use Rattle.do_limits.proofs.scripts.Locals.{each_local}
 use Rattle.do_limits.proofs.values.Carried.{carry-Nil, carry-Obj}
 use Rattle.do_kept.specs.Kept.{RulesAreSendable, VerdictIsSendable}
 use Rattle.do_kept.proofs.Acts as acts
@@ -89,7 +90,7 @@ module _ (table : Listed Class) (inv : Invocation) (slots : Listed Value)
       target_kept
       (λ target q. acts.then_sound table inv all sixteen AreSendable (local_values inv from)
       (λ args. Some (Send target selector args 14 from 1))
-      (acts.each_local table inv all sixteen from) (λ args r. ((q, r), (tt, (tt, tt)))))
+      (each_local inv all from) (λ args r. ((q, r), (tt, (tt, tt)))))
 
   -- by the verdict
   follows_sound : (selector : Listed ℕ) (verdict : Verdict) → VerdictIsSendable verdict →

@@ -36,6 +36,7 @@ use Rattle.do_names.specs.declared.calls.Call.TheVariants.{Lookup, Register, Unr
 use Rattle.do_facts.proofs.EachOfLists.{each_joined, each_mapped, each_weaker}
 use Rattle.do_limits.specs.Sendable.{AreSendable, IsSendable}
 use Rattle.do_limits.specs.SendableActs.{KeepsSendable}
+use Rattle.do_limits.proofs.scripts.Locals.{value_at}
 use Rattle.do_limits.proofs.scripts.MadeLists.{items_sendable}
 use Rattle.do_limits.proofs.scripts.MadeNumbers.{count_sendable, truth_sendable}
 use Rattle.do_limits.proofs.values.Carried.{carry-Text}
@@ -276,7 +277,7 @@ module _ (table : Listed Class) (inv : Invocation) (slots : Listed Value)
   -- the call of a selector
   call_is : (selector : Listed ℕ) → IfSome (call_in selector inv) IsCallOf
   call_is selector =
-      go (local inv 0) (local inv 1) (acts.value_at inv.locals 0 all)
+      go (local inv 0) (local inv 1) (value_at inv.locals 0 all)
     where
       by_port : (name : Listed ℕ) → IsName name → (o : Option ℕ) → IfSome o IsPortNumber →
           IfSome (call_with selector o name) IsCallOf

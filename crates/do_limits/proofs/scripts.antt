@@ -1,3 +1,4 @@
 pub mod MadeNumbers
 pub mod MadeLists
+pub mod Locals
 pub mod Instructions

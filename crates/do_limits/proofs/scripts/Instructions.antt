@@ -31,16 +31,11 @@ use Rattle.do_limits.specs.SendableCodes.{CodeIsSendable, CodesAreSendable, Give
 use Rattle.do_facts.proofs.EachOfLists.{each_joined, each_set}
 use Rattle.do_limits.proofs.runs.Verdicts.{textless}
 use Rattle.do_limits.proofs.values.Carried.{carry-Nil, carry-Obj}
+use Rattle.do_limits.proofs.scripts.Locals.{each_local, value_at}
 use Rattle.do_limits.proofs.scripts.MadeLists.{count_kept, empty_sendable, items_sendable}
 use Rattle.do_limits.proofs.scripts.MadeLists.{pushed_sendable}
 use Rattle.do_limits.proofs.scripts.MadeNumbers.{i64_sendable, number_kept, text_kept}
 use Rattle.do_limits.proofs.scripts.MadeNumbers.{truth_sendable}
-
--- a value at a place
-got : (vs : Listed Value) (k : ℕ) → AreSendable vs → IfSome (slice_get vs k) IsSendable
-got [] k h = tt
-got (v ∷ vs) zero h = h.0
-got (v ∷ vs) (suc k) h = got vs k h.1
 
 -- the one that is chosen
 chosen : {A : Type 0} (P : A → Type 0) (b : Bool) (x y : A) → (b ≡ true → P x) → P y →
@@ -75,14 +70,14 @@ module _ (table : Listed Class) (inv : Invocation) (slots : Listed Value)
   -- what the value in a local leads to
   local_sound : (k : ℕ) (f : Value → Option Act) →
       ((v : Value) → IsSendable v → MaySound (f v)) → MaySound (local inv k >>? f)
-  local_sound k f each = then_sound IsSendable (local inv k) f (got inv.locals k all) each
+  local_sound k f each = then_sound IsSendable (local inv k) f (value_at inv.locals k all) each
 
   -- what an answer about a local leads to
   local_then : {A : Type 0} (question : Value → Option A) (P : A → Type 0) (k : ℕ)
       (f : A → Option Act) → ((v : Value) → IsSendable v → IfSome (question v) P) →
       ((x : A) → P x → MaySound (f x)) → MaySound (local inv k >>? question >>? f)
   local_then question P k f answer each =
-      then_sound P (local inv k >>? question) f (asked (local inv k) (got inv.locals k all)) each
+      then_sound P (local inv k >>? question) f (asked (local inv k) (value_at inv.locals k all)) each
     where
       asked : (o : Option Value) → IfSome o IsSendable → IfSome (o >>? question) P
       asked None q = tt
@@ -153,7 +148,7 @@ module _ (table : Listed Class) (inv : Invocation) (slots : Listed Value)
   -- an item of a list
   item_kept : (vs : Listed Value) (at : ℤ) → IsSendable (List vs) →
       IfSome (item_at vs at) IsSendable
-  item_kept vs (pos k) q = got vs k (items_sendable vs q)
+  item_kept vs (pos k) q = value_at vs k (items_sendable vs q)
   item_kept vs (negsuc k) q = tt
 
   -- an item is given
@@ -165,25 +160,13 @@ module _ (table : Listed Class) (inv : Invocation) (slots : Listed Value)
       (λ at. Some (gives_found inv d (item_at vs at))) (λ v _. any (number v))
       (λ at _. found_given d (item_at vs at) (item_kept vs at q)))
 
-  -- what several locals hold
-  each_local : (from : Listed ℕ) → IfSome (local_values inv from) AreSendable
-  each_local [] = tt
-  each_local (k ∷ ks) =
-      one (local inv k) (local_values inv ks) (got inv.locals k all) (each_local ks)
-    where
-      one : (o : Option Value) (p : Option (Listed Value)) → IfSome o IsSendable →
-          IfSome p AreSendable → IfSome (o >>? λ v. p >>? λ vs. Some (v ∷ vs)) AreSendable
-      one None p q rest = tt
-      one (Some v) None q rest = tt
-      one (Some v) (Some vs) q rest = (q, rest)
-
   -- a message is sent
   sent : (d t : ℕ) (selector from : Listed ℕ) → MaySound (sends inv d t selector from)
   sent d t selector from =
       local_sound t
       (λ v. local_values inv from >>? λ args. Some (Send v selector args d from (next inv)))
       (λ v q. then_sound AreSendable (local_values inv from)
-      (λ args. Some (Send v selector args d from (next inv))) (each_local from)
+      (λ args. Some (Send v selector args d from (next inv))) (each_local inv all from)
       (λ args r. ((q, r), (tt, (tt, tt)))))
 
   -- the act of an instruction
@@ -197,7 +180,7 @@ module _ (table : Listed Class) (inv : Invocation) (slots : Listed Value)
   performed of_slots code few (does.Move d s) t w =
       local_sound s (λ v. Some (gives inv d v)) (given d)
   performed of_slots code few (does.Get d k) t w =
-      then_sound IsSendable (slice_get slots k) (λ v. Some (gives inv d v)) (got slots k of_slots)
+      then_sound IsSendable (slice_get slots k) (λ v. Some (gives inv d v)) (value_at slots k of_slots)
       (given d)
   performed of_slots code few (does.Set k s) t w =
       local_sound s (λ v. Some (writes inv k v))
