@@ -11,9 +11,9 @@ const HEAD: &[u8] = b"Distributed Objects, proved. The forms of the words are:\n
 
 /// What stands behind the forms.
 const FOOT: &[u8] =
-    b"\nWORLD is :counter, :mesh or the name of a file; SCHEDULE, RECORD, STARTS and PLAN are names\n\
-      of files. Up to 64 records may stand there. NUMBER is below 2^64, COUNT is 1 to 100000, PORT\n\
-      is 1 to 65535, TURNS is 1 to 2^40.\n";
+    b"\nWORLD is :counter, :mesh or the name of a file; SCHEDULE, RECORD, STARTS and PLAN are \
+      names\nof files. Up to 64 records may stand there. NUMBER is below 2^64, COUNT is 1 to \
+      100000, PORT\nis 1 to 65535, TURNS is 1 to 2^40.\n";
 
 /// The program's name and version.
 const VERSION: &[u8] = b"nukwashe 1\n";

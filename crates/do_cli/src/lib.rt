@@ -2,7 +2,8 @@
 //!
 //! It stands on do_base for words and on do_grammar for their numbers. It promises that words of a
 //! form are read as its command, that all others are refused at the first word with which no form
-//! goes on, and that the text of `--help` is that of the same table of forms. The forms are this project's own.
+//! goes on, and that the text of `--help` is that of the same table of forms. The forms are this
+//! project's own.
 #![tactic(auto)]
 
 mod command;

@@ -86,8 +86,8 @@ fn served(
 ) -> Result<Option<Command>, AllocError>
     ensures ok { IfOk result (λ command. command
         ≡ served (number_in Port port.now) world.now starts.now (number_in Turns turns.now)) }
-    ensures err { OnErr result
-        (IsSome (served (number_in Port port.now) world.now starts.now (number_in Turns turns.now))) }
+    ensures err { OnErr result (IsSome
+        (served (number_in Port port.now) world.now starts.now (number_in Turns turns.now))) }
 {
     let (Some(port), Some(turns)) = (node_of(port), Kind::Turns.number(turns)) else {
         return Ok(None);

@@ -63,8 +63,8 @@ fn line(alloc: Global, x: u64) -> Result<Line, AllocError>
 /// start, a run or a take, and a check behind them.
 ///
 /// The numbers are those of a linear congruential generator of 64 bits, with Knuth's multiplier for
-/// MMIX. With a count of 1 to 100,000 the lines have at most 800,001 single steps, so they may stand
-/// in a schedule; for a count of 0 there is the check alone.
+/// MMIX. With a count of 1 to 100,000 the lines have at most 800,001 single steps, so they may
+/// stand in a schedule; for a count of 0 there is the check alone.
 pub fn generate(alloc: Global, number: u64, count: u64) -> Result<Lines, AllocError>
     ensures { IfOk result (λ lines. lines ≡ generated count number) }
 {

@@ -1,5 +1,6 @@
 -- How the stored objects that nothing can reach any more are written.
-use Rattle.std.specs.Prelude.{Bool, List, None, Option, Some, [], if◌then◌else◌, map, codes, slice_get, ℕ}
+use Rattle.std.specs.Prelude.{Bool, List, None, Option, Some, [], if◌then◌else◌, map}
+use Rattle.std.specs.Prelude.{codes, slice_get, ℕ}
 use Rattle.std.specs.Prelude.{option_and_then, option_map, ◌++◌, ◌∷◌}
 use Rattle.do_base.specs.names.Names.{ObjectName}
 use Rattle.do_class.specs.Class.{Class}

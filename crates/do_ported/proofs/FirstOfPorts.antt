@@ -1,6 +1,7 @@
 -- Ports in a list, by where they stand, and what has them.
 use Rattle.std.proofs.Common.{◌≡◌, ◌==◌, ◌||◌, ℕ, zero, suc, ◌≤◌, ◌<◌, ◌+◌, ◌-◌, true, false, cond}
-use Rattle.std.proofs.Common.{List, [], ◌∷◌, inl, inr, Bool, Some, None, get_or, is_some, length, map}
+use Rattle.std.proofs.Common.{List, [], ◌∷◌, inl, inr, Bool, Some, None}
+use Rattle.std.proofs.Common.{get_or, is_some, length, map}
 use Rattle.std.proofs.Common.{refl, ap, sym, ◌∙◌, subst, arith}
 use Rattle.std.specs.Prelude.{nat_lt, slice_get, slice_set}
 use Rattle.std.specs.List.{find, list_any, position, position_or_len, remove}
@@ -32,7 +33,8 @@ place_is_among t (x ∷ xs) = stands t x xs
 pub rises_without : (xs : List ℕ) (i : ℕ) → i < length xs → IsNonDecreasing xs →
     IsNonDecreasing (remove xs i)
 rises_without xs i within rising j k d le inside =
-    let size : k + 1 < length xs = let n = length-remove xs i within in omega (arith, n, inside, within) in
+    let n = length-remove xs i within in
+    let size : k + 1 < length xs = omega (arith, n, inside, within) in
     elim (cases_lt k i) [
       | inl below ↦
           rw (

@@ -1,5 +1,6 @@
 -- Texts and lists that have a spelling as values of a message.
-use Rattle.std.proofs.Common.{◌≡◌, ◌↔◌, ℕ, ◌-◌, ◌<◌, ◌≤◌, List as Listed, length, true, sym, ◌∙◌, refl}
+use Rattle.std.proofs.Common.{◌≡◌, ◌↔◌, ℕ, ◌-◌, ◌<◌, ◌≤◌, List as Listed, length}
+use Rattle.std.proofs.Common.{true, sym, ◌∙◌, refl}
 use Rattle.std.proofs.Common.{arith}
 use Rattle.std.specs.Prelude.{nat_le, ◌&&◌, Bool, false}
 use Rattle.std.specs.List.{AllByRecursion}
@@ -14,7 +15,8 @@ module _ (copies names depth : ℕ) where
   -- a text of bytes has a spelling just where it is not too long
   pub text_fits : (t : Listed ℕ) → IsBytes t
       → (length t ≤ 1048575) ↔ IsPart copies names depth (Text t)
-  text_fits t small = (λ few. there (more few), λ fits. less (sym (fits-Text copies names depth t) ∙ fits))
+  text_fits t small =
+      (λ few. there (more few), λ fits. less (sym (fits-Text copies names depth t) ∙ fits))
     where
       more : length t ≤ 1048575 → nat_le (length t) 1048575 ≡ true
       more few = grind (arith, nat_tests)

@@ -36,10 +36,10 @@ fn has_token(serial: u64, token: &Token) -> bool
 /// classes reads.
 ///
 /// It has none where a number is 0 or above 2^63 - 1, a text has over 1,048,575 bytes, a selector
-/// is none, or the packet has over 65,536 names, 4,096 copies or 9 values, lists of over 1,024 items
-/// or more than 8 in one another, a copy or a name that is not there, a class that the table does
-/// not have, a copied object with fewer or more slots than its class, or a lent object that lives
-/// at one of the two nodes. It takes no memory.
+/// is none, or the packet has over 65,536 names, 4,096 copies or 9 values, lists of over 1,024
+/// items or more than 8 in one another, a copy or a name that is not there, a class that the table
+/// does not have, a copied object with fewer or more slots than its class, or a lent object that
+/// lives at one of the two nodes. It takes no memory.
 pub fn has_spelling(frame: &Frame, table: &ClassTable, from: NodeId, to: NodeId) -> bool
     ensures { IsTrue result ↔ IsFrame (surroundings table.now from to) frame.now }
 {

@@ -7,7 +7,8 @@ use Rattle.std.specs.Cmp.{signed_Decides, unsigned_Decides}
 use Rattle.std.specs.Cmp.Lexicographic.{pointwise, bytes_decides}
 use Rattle.std.proofs.Common.{rules, arith}
 use Rattle.do_base.specs.values.Induction.{value_induction}
-use Rattle.do_base.specs.declared.values.value.Value.{Value, List, fold-Value, out-Value, the_lemmas}
+use Rattle.do_base.specs.declared.values.value.Value.{Value, List, fold-Value}
+use Rattle.do_base.specs.declared.values.value.Value.{out-Value, the_lemmas}
 use Rattle.do_base.specs.declared.values.value.Value.TheVariants.{Nil, Num, Text, Obj}
 use Rattle.do_base.specs.declared.values.value.Value.TheOpen.{Value-F}
 

@@ -61,7 +61,8 @@ impl Text {
         })
     }
 
-    /// Takes over the bytes of a `Vec` with no copy; memory is taken for the count of sharers alone.
+    /// Takes over the bytes of a `Vec` with no copy; memory is taken for the count of sharers
+    /// alone.
     pub fn from_vec(alloc: Global, bytes: Vec<u8>) -> Result<Text, AllocError>
         ensures { IfOk result (λ t. t ≡ bytes.items) }
     {
@@ -138,8 +139,8 @@ impl Text {
         Ok(())
     }
 
-    /// Makes room for `more` bytes. An empty text takes none. No clause says how much room there is: it
-    /// serves speed alone.
+    /// Makes room for `more` bytes. An empty text takes none. No clause says how much room there
+    /// is: it serves speed alone.
     pub fn reserve(&mut self, more: usize) -> Result<(), AllocError>
         ensures { self.new ≡ self.old }
     {

@@ -77,7 +77,8 @@ module _ (table : Listed Class) (inv : Invocation) (slots : Listed Value)
       (f : A → Option Act) → ((v : Value) → IsSendable v → IfSome (question v) P) →
       ((x : A) → P x → MaySound (f x)) → MaySound (local inv k >>? question >>? f)
   local_then question P k f answer each =
-      then_sound P (local inv k >>? question) f (asked (local inv k) (value_at inv.locals k all)) each
+      then_sound P (local inv k >>? question) f
+      (asked (local inv k) (value_at inv.locals k all)) each
     where
       asked : (o : Option Value) → IfSome o IsSendable → IfSome (o >>? question) P
       asked None q = tt
@@ -180,8 +181,8 @@ module _ (table : Listed Class) (inv : Invocation) (slots : Listed Value)
   performed of_slots code few (does.Move d s) t w =
       local_sound s (λ v. Some (gives inv d v)) (given d)
   performed of_slots code few (does.Get d k) t w =
-      then_sound IsSendable (slice_get slots k) (λ v. Some (gives inv d v)) (value_at slots k of_slots)
-      (given d)
+      then_sound IsSendable (slice_get slots k) (λ v. Some (gives inv d v))
+      (value_at slots k of_slots) (given d)
   performed of_slots code few (does.Set k s) t w =
       local_sound s (λ v. Some (writes inv k v))
       (λ v q. (each_joined IsSendable inv.locals (v ∷ []) all (q, tt), (sixteen, (tt, tt))))

@@ -6,4 +6,5 @@ use Rattle.do_spelled.proofs.name.have_names.Given as goal
 
 abbrev pub invariant-loop-name : goal.invariant-loop-name
 invariant-loop-name l =
-    AllByRecursion (IsName (sides_of (surroundings l.table l.from l.to))) (take l.name-index l.names)
+    AllByRecursion (IsName (sides_of (surroundings l.table l.from l.to)))
+    (take l.name-index l.names)

@@ -3,7 +3,8 @@ use Rattle.std.specs.List.{AllByRecursion}
 use Rattle.do_grammar.specs.Reader.{no_kind, short, bad}
 use Rattle.do_grammar.proofs.faults.AnswerExact.{bytes_from_each}
 use Rattle.do_coder.specs.Recent.{IsKnown}
-use Rattle.do_coder.proofs.packets.PacketRead.{packet_found, packet_only, packet_known, packet_short}
+use Rattle.do_coder.proofs.packets.PacketRead.{packet_found, packet_only}
+use Rattle.do_coder.proofs.packets.PacketRead.{packet_known, packet_short}
 use Rattle.do_coder.proofs.packets.PacketRead.{packet_left, packet_bad, packet_never}
 use Rattle.do_coder.proofs.read.front.decode.Goals as goal
 
