@@ -1,5 +1,5 @@
 pub mod PartlyAdded
-pub mod DecimalPairs
+pub mod DecimalThrees
 pub mod DigitsLoop
 pub mod TimesLoop
 pub mod WordLoop

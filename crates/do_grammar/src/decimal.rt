@@ -104,17 +104,23 @@ pub fn push_dec(out: &mut Text, n: u64) -> Result<(), AllocError>
     ensures ok { OnOk result (out.new ≡ out.old ++ decimal n) }
     ensures partly { OnErr result (AddedPartly out.old (decimal n) out.new) }
 {
-    if n < 10 {
-        return out.push(b'0' + n as u8);
-    }
-    let front = n / 10;
     let last = b'0' + (n % 10) as u8;
-    if front < 10 {
-        return out.push_bytes(&[b'0' + front as u8, last]);
+    if n < 10 {
+        return out.push(last);
     }
-    // Two digits at a time, since each push asks whether the text is shared.
-    push_dec(out, front / 10)?;
-    out.push_bytes(&[b'0' + (front % 10) as u8, last])
+    let tens = n / 10;
+    let second = b'0' + (tens % 10) as u8;
+    if tens < 10 {
+        return out.push_bytes(&[second, last]);
+    }
+    let hundreds = tens / 10;
+    let third = b'0' + (hundreds % 10) as u8;
+    if hundreds < 10 {
+        return out.push_bytes(&[third, second, last]);
+    }
+    // Three digits at a time, since each push asks whether the text is shared.
+    push_dec(out, hundreds / 10)?;
+    out.push_bytes(&[third, second, last])
 }
 
 /// Adds the decimal digits of a signed number, behind a `-` where it is below 0.

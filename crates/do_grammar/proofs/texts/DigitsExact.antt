@@ -55,7 +55,8 @@ module _ {K : Type 0} (why : K) (Fits : ℕ → Type 0) (goes : ℕ → ℕ
       }
 
   -- behind the last byte the number is known
-  digits_none : (least : ℕ) → goes 0 least ≡ true → Reads (FittingDigits Fits 0 least) (read 0 least)
+  digits_none : (least : ℕ) → goes 0 least ≡ true
+      → Reads (FittingDigits Fits 0 least) (read 0 least)
   digits_none least e =
       Reads-as (Done least) (FittingDigits Fits 0 least) (done least) (read 0 least) there back
       (read_none least) (Reads-done least)
