@@ -39,6 +39,9 @@ impl Model for IndexedClass {
 impl IndexedClass {
     ghost use Rattle.do_class.specs.Class.{IsClass};
 
+    /// A class of this name, with an index of its methods by their selectors.
+    ///
+    /// Fails only where memory runs out.
     pub fn new(
         alloc: Global,
         name: Text,
@@ -58,24 +61,28 @@ impl IndexedClass {
         })
     }
 
+    /// The name of the class.
     pub fn name(&self) -> &Text
         ensures { result.now ≡ self.now.name }
     {
         &self.name
     }
 
+    /// The slots of the class, in order.
     pub fn slots(&self) -> &Slots
         ensures { result.now ≡ self.now.slots }
     {
         &self.slots
     }
 
+    /// Whether there is a method at this place; places are from 0.
     pub fn has(&self, place: u32) -> bool
         ensures { result ≡ nat_lt place (length self.now.methods) }
     {
         (place as usize) < self.methods.len()
     }
 
+    /// The method at this place.
     pub fn method(&self, place: u32) -> &Method
         requires { place < length self.now.methods }
         ensures { slice_get self.now.methods place ≡ Some result.now }
@@ -83,6 +90,7 @@ impl IndexedClass {
         &self.methods.as_slice()[place as usize]
     }
 
+    /// The place of the method of this selector; none where the class has no such method.
     pub fn place(&self, selector: &Text) -> Option<u32>
         ensures place { result ≡ place_of selector.now (selectors_of self.now.methods) }
     {
@@ -90,6 +98,7 @@ impl IndexedClass {
     }
 }
 
+/// The place of each method, by its selector.
 fn index_of(alloc: Global, methods: &Methods) -> Result<BTreeMap<Text, u32>, AllocError>
     requires { AreMethods methods.now }
     ensures { IfOk result (IsIndexOf (selectors_of methods.now)) }

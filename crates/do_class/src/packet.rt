@@ -33,13 +33,17 @@ pub type NameList = Items<Name>;
 /// Clones are exact. The type itself keeps no limit on texts, lists, nesting or places.
 #[derive(Debug, PartialEq, Eq, Drop)]
 pub enum Part {
+    /// Nil.
     Nil,
+    /// A number.
     Num(i64),
+    /// A text.
     Text(Text),
     /// The copied object at this place, from 0.
     Copy(u64),
     /// The named object at this place, from 0.
     Named(u64),
+    /// A list of values.
     List(Parts),
 }
 

@@ -8,7 +8,9 @@ use do_base::LONGEST_TEXT;
 /// The second has longer texts than the first, and time-outs. The forms are this project's own.
 #[derive(Clone, Copy, Debug, PartialEq, Eq)]
 pub enum Version {
+    /// Version 1: shorter texts, and no time-outs.
     First,
+    /// Version 2: longer texts, and time-outs.
     Second,
 }
 
