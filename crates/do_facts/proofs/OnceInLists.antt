@@ -1,11 +1,11 @@
 -- Lists in which nothing stands twice, and what is taken out of them.
 use Rattle.std.proofs.Common.{◌≡◌, ◌||◌, ◌&&◌, Bool, true, false, cond, not, List, [], ◌∷◌, filter}
-use Rattle.std.proofs.Common.{refl, sym, ap, ◌∙◌, ◌++◌, inl, inr, subst}
+use Rattle.std.proofs.Common.{refl, sym, ap, ◌∙◌, ◌++◌, inl, inr, subst, arith}
 use Rattle.std.specs.List.{AllByRecursion, IsDistinct, list_any}
 use Rattle.std.proofs.lemmas.Map.Keys.{IsDistinct-IsPermutation}
 use Rattle.std.proofs.lemmas.Map.Views.{any-filter_same}
 use Rattle.do_machine.specs.Lists.{IsIn, inserted}
-use Rattle.do_machine.proofs.Bools.{fails, or_right}
+use Rattle.do_machine.proofs.Bools.{or_right}
 use Rattle.do_machine.proofs.Inserting.{inserted_moves}
 use Rattle.do_facts.specs.StandOnce.{StandOnce}
 
@@ -29,13 +29,7 @@ module _ {X : Type 0} where
   none_filtered : (p f : X → Bool) (xs : List X) → list_any p xs ≡ false →
       list_any p (filter f xs) ≡ false
   none_filtered p f [] h = refl
-  none_filtered p f (x ∷ xs) h =
-      go (f x) (none_filtered p f xs (second_failed (p x) (list_any p xs) h))
-    where
-      go : (b : Bool) → list_any p (filter f xs) ≡ false →
-          list_any p (cond b (x ∷ filter f xs) (filter f xs)) ≡ false
-      go true e = both_fail (p x) _ (first_failed (p x) (list_any p xs) h) e
-      go false e = e
+  none_filtered p f (x ∷ xs) h = grind (arith, h, none_filtered p f xs)
 
   -- two tests that agree on what is in a list leave the same of it
   pub filter_agrees : (f g : X → Bool) (xs : List X) → ((x : X) → IsIn xs x → f x ≡ g x) →
@@ -49,13 +43,7 @@ module _ {X : Type 0} where
   pub filter_twice : (f g : X → Bool) (xs : List X) →
       filter f (filter g xs) ≡ filter (λ x. g x && f x) xs
   filter_twice f g [] = refl
-  filter_twice f g (x ∷ xs) = go (g x) (filter_twice f g xs)
-    where
-      go : (b : Bool) → filter f (filter g xs) ≡ filter (λ y. g y && f y) xs →
-          filter f (cond b (x ∷ filter g xs) (filter g xs))
-          ≡ cond (b && f x) (x ∷ filter (λ y. g y && f y) xs) (filter (λ y. g y && f y) xs)
-      go true e = ap (λ ys. cond (f x) (x ∷ ys) ys) e
-      go false e = e
+  filter_twice f g (x ∷ xs) = grind (arith, filter_twice f g xs)
 
   module _ (same : X → X → Bool) where
     -- some of what stands once stands once
@@ -135,35 +123,14 @@ module _ {X : Type 0} where
       found_among : (xs : List X) (x : X) → IsIn xs x → test x ≡ true →
           list_any (λ w. same w x) (filter test xs) ≡ true
       found_among [] x i h = absurd i
-      found_among (y ∷ ys) x (inl e) h = go (test y) (ap test e ∙ h)
-        where
-          go : (b : Bool) → b ≡ true →
-              list_any (λ w. same w x) (cond b (y ∷ filter test ys) (filter test ys)) ≡ true
-          go true k =
-              ap (λ b. b || list_any (λ w. same w x) (filter test ys))
-              (ap (λ z. same y z) (sym e) ∙ itself y)
-          go false k = absurd (cc)
-      found_among (y ∷ ys) x (inr i) h = go (test y) (found_among ys x i h)
-        where
-          go : (b : Bool) → list_any (λ w. same w x) (filter test ys) ≡ true →
-              list_any (λ w. same w x) (cond b (y ∷ filter test ys) (filter test ys)) ≡ true
-          go true k = or_right (same y x) _ k
-          go false k = k
+      found_among (y ∷ ys) x (inl e) h = grind (arith, e, h, itself x)
+      found_among (y ∷ ys) x (inr i) h = grind (arith, found_among ys x i h)
 
       -- what does not pass is the same as nothing that passes
       not_among : (xs : List X) (x : X) → test x ≡ false →
           list_any (λ w. same w x) (filter test xs) ≡ false
       not_among [] x h = refl
-      not_among (y ∷ ys) x h = go (test y) refl (not_among ys x h)
-        where
-          go : (b : Bool) → test y ≡ b → list_any (λ w. same w x) (filter test ys) ≡ false →
-              list_any (λ w. same w x) (cond b (y ∷ filter test ys) (filter test ys)) ≡ false
-          go true e k =
-              both_fail (same y x) _ (fails (same y x) (λ s. no (alike y x s) e)) k
-            where
-              no : test y ≡ test x → test y ≡ true → ⊥
-              no a b = cc
-          go false e k = k
+      not_among (y ∷ ys) x h = grind (arith, h, alike y x, not_among ys x h)
 
       -- once all that pass are taken out one after another, those that do not pass are left
       pub passing_taken : (xs : List X) →

@@ -1,5 +1,5 @@
 -- How nets are as a machine opens.
-use Rattle.std.proofs.Common.{◌≡◌, ◌==◌, ℕ, Bool, true, false, cond, List, [], ◌∷◌, map}
+use Rattle.std.proofs.Common.{◌≡◌, ◌==◌, ℕ, Bool, true, false, cond, List, [], ◌∷◌, map, arith}
 use Rattle.std.proofs.Common.{refl, sym, subst}
 use Rattle.std.proofs.lemmas.Bool.{eqb-true}
 use Rattle.std.specs.Prelude.{None, Option, Some, option_and_then, option_map}
@@ -40,32 +40,15 @@ module _ (table : List Class) (all : List ℕ) where
         wire_seen view (option_map (λ (q : Queue). q.items)
         (find (λ (q : Queue). to == q.to) (map (λ p. record { to = p; items = [] }) ps))) ≡ []
     queues_empty to [] = refl
-    queues_empty to (p ∷ ps) = go (to == p) (queues_empty to ps)
-      where
-        go : (b : Bool) →
-            wire_seen view (option_map (λ (q : Queue). q.items)
-            (find (λ (q : Queue). to == q.to) (map (λ p. record { to = p; items = [] }) ps))) ≡ [] →
-            wire_seen view (option_map (λ (q : Queue). q.items)
-            (cond b (Some (record { to = p; items = [] }))
-            (find (λ (q : Queue). to == q.to) (map (λ p. record { to = p; items = [] }) ps)))) ≡ []
-        go true k = refl
-        go false k = k
+    queues_empty to (p ∷ ps) = grind (arith, queues_empty to ps)
 
     -- and so are those of each of stations that open
     wires_empty : (seats : List Seat) (from to : ℕ) →
         wire_seen view (option_and_then (λ s. queue_to to s)
         (find (λ s. from == s.port) (map (opening_station table all) seats))) ≡ []
     wires_empty [] from to = refl
-    wires_empty (s ∷ seats) from to = go (from == s.node) (wires_empty seats from to)
-      where
-        go : (b : Bool) →
-            wire_seen view (option_and_then (λ s. queue_to to s)
-            (find (λ s. from == s.port) (map (opening_station table all) seats))) ≡ [] →
-            wire_seen view (option_and_then (λ s. queue_to to s)
-            (cond b (Some (opening_station table all s))
-            (find (λ s. from == s.port) (map (opening_station table all) seats)))) ≡ []
-        go true k = queues_empty to (others all s.node)
-        go false k = k
+    wires_empty (s ∷ seats) from to =
+        grind (arith, queues_empty to (others all s.node), wires_empty seats from to)
 
 module _ (table : List Class) (seats : List Seat) {P A : Type 0} (view : View P A) where
   -- the ports of the nodes, in their order

@@ -1,5 +1,5 @@
 -- Sums along lists that change.
-use Rattle.std.proofs.Common.{◌≡◌, ◌+◌, ◌≤◌, ℕ, Bool, true, false, cond, List, [], ◌∷◌, filter, map}
+use Rattle.std.proofs.Common.{◌≡◌, ◌+◌, ◌≤◌, ℕ, Bool, true, false, List, [], ◌∷◌, filter, map}
 use Rattle.std.proofs.Common.{take, drop, refl, ap, arith}
 use Rattle.std.specs.Prelude.{None, Option, Some, if◌then◌else◌, position}
 use Rattle.std.proofs.lemmas.List.{take-append-drop}
@@ -36,46 +36,26 @@ module _ {X : Type 0} (f : X → ℕ) where
   -- without some
   pub filtered_le : (test : X → Bool) (xs : List X) → total f (filter test xs) ≤ total f xs
   filtered_le test [] = omega arith
-  filtered_le test (x ∷ xs) = go (test x) (filtered_le test xs)
-    where
-      go : (b : Bool) → total f (filter test xs) ≤ total f xs →
-          total f (cond b (x ∷ filter test xs) (filter test xs)) ≤ f x + total f xs
-      go true h = omega (arith, h)
-      go false h = omega (arith, h)
+  filtered_le test (x ∷ xs) = grind (arith, filtered_le test xs)
 
   -- without some that count for nothing
   pub filtered_same : (test : X → Bool) → ((x : X) → test x ≡ false → f x ≡ 0) → (xs : List X) →
       total f (filter test xs) ≡ total f xs
   filtered_same test none [] = refl
-  filtered_same test none (x ∷ xs) = go (test x) refl (filtered_same test none xs)
-    where
-      go : (b : Bool) → test x ≡ b → total f (filter test xs) ≡ total f xs →
-          total f (cond b (x ∷ filter test xs) (filter test xs)) ≡ f x + total f xs
-      go true e h = omega (arith, h)
-      go false e h = omega (arith, h, none x e)
+  filtered_same test none (x ∷ xs) = grind (arith, none x, filtered_same test none xs)
 
   -- with the first that passes changed to what counts no more
   pub changed_le : (test : X → Bool) (g : X → X) → ((x : X) → f (g x) ≤ f x) → (xs : List X) →
       total f (change_first test g xs) ≤ total f xs
   changed_le test g less [] = omega arith
-  changed_le test g less (x ∷ xs) = go (test x) (changed_le test g less xs)
-    where
-      go : (b : Bool) → total f (change_first test g xs) ≤ total f xs →
-          total f (cond b (g x ∷ xs) (x ∷ change_first test g xs)) ≤ f x + total f xs
-      go true h = omega (arith, less x)
-      go false h = omega (arith, h)
+  changed_le test g less (x ∷ xs) = grind (arith, less x, changed_le test g less xs)
 
   -- or to what counts as much
   pub changed_same : (test : X → Bool) (g : X → X) →
       ((x : X) → test x ≡ true → f (g x) ≡ f x) → (xs : List X) →
       total f (change_first test g xs) ≡ total f xs
   changed_same test g same [] = refl
-  changed_same test g same (x ∷ xs) = go (test x) refl (changed_same test g same xs)
-    where
-      go : (b : Bool) → test x ≡ b → total f (change_first test g xs) ≡ total f xs →
-          total f (cond b (g x ∷ xs) (x ∷ change_first test g xs)) ≡ f x + total f xs
-      go true e h = omega (arith, same x e)
-      go false e h = omega (arith, h)
+  changed_same test g same (x ∷ xs) = grind (arith, same x, changed_same test g same xs)
 
   -- with each changed to what counts no more
   pub mapped_le : (g : X → X) → ((x : X) → f (g x) ≤ f x) → (xs : List X) →

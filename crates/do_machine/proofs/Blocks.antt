@@ -3,7 +3,7 @@ use Rattle.std.proofs.Common.{◌≡◌, ℕ, zero, suc, ◌+◌, ◌-◌, ◌*�
 use Rattle.std.proofs.Common.{◌++◌, length, get_or, refl, ap, sym, ◌∙◌, arith}
 use Rattle.std.specs.Prelude.{slice_get}
 use Rattle.std.specs.List.{All, flat_map}
-use Rattle.std.proofs.lemmas.List.{append_assoc, append-nil}
+use Rattle.std.proofs.lemmas.List.{append_assoc, flat_map_more}
 use Rattle.std.proofs.lemmas.List.Elements.{All-head, All-tail}
 
 module _ {X : Type 0} where
@@ -14,11 +14,10 @@ module _ {X : Type 0} where
   front (x ∷ xs) ys (suc i) h = front xs ys i (omega arith)
 
   -- what stands within the second
-  behind : (xs ys : List X) (i : ℕ) → slice_get (xs ++ ys) (length xs + i) ≡ slice_get ys i
-  behind [] ys i = let same : 0 + i ≡ i = omega arith in ap (slice_get ys) same
-  behind (x ∷ xs) ys i =
-      let same : suc (length xs) + i ≡ suc (length xs + i) = omega arith in
-      ap (slice_get (x ∷ (xs ++ ys))) same ∙ behind xs ys i
+  behind : (xs ys : List X) (i j : ℕ) → i ≡ length xs + j → slice_get (xs ++ ys) i ≡ slice_get ys j
+  behind [] ys i j e = grind (arith, e)
+  behind (x ∷ xs) ys zero j e = absurd (omega (arith, e))
+  behind (x ∷ xs) ys (suc i) j e = behind xs ys i j (omega arith)
 
   -- the blocks as one list
   abbrev all : List (List X) → List X
@@ -28,41 +27,32 @@ module _ {X : Type 0} where
   abbrev AreFull : List (List X) → Type 0
   AreFull = All (λ block. length block ≡ 256)
 
-  -- behind a full block each place is 256 further on
-  further : (block xs : List X) (i : ℕ) → length block ≡ 256 →
-      slice_get (block ++ xs) (256 + i) ≡ slice_get xs i
-  further block xs i h = ap (λ n. slice_get (block ++ xs) (n + i)) (sym h) ∙ behind block xs i
-
   -- what stands in a full block
   in_block : (blocks : List (List X)) (last : List X) (k r : ℕ) (d : List X) → AreFull blocks →
       k < length blocks → r < 256 →
       slice_get (all blocks ++ last) (k * 256 + r) ≡ slice_get (get_or blocks k d) r
   in_block [] last k r d full h l = absurd (omega (arith, h))
   in_block (b ∷ bs) last zero r d full h l =
-      let long : length b ≡ 256 = All-head (λ block. length block ≡ 256) b bs full in
-      let place : 0 * 256 + r ≡ r = omega arith in
-      ap (slice_get (all (b ∷ bs) ++ last)) place
-      ∙ ap (λ xs. slice_get xs r) (append_assoc b (all bs) last)
-      ∙ front b (all bs ++ last) r (omega arith)
+      let long = All-head (λ block. length block ≡ 256) b bs full in
+      grind (arith, l, long, append_assoc b (all bs) last, front b (all bs ++ last) r)
   in_block (b ∷ bs) last (suc k) r d full h l =
-      let long : length b ≡ 256 = All-head (λ block. length block ≡ 256) b bs full in
-      let place : suc k * 256 + r ≡ 256 + (k * 256 + r) = omega arith in
-      ap (slice_get (all (b ∷ bs) ++ last)) place
-      ∙ ap (λ xs. slice_get xs (256 + (k * 256 + r))) (append_assoc b (all bs) last)
-      ∙ further b (all bs ++ last) (k * 256 + r) long
-      ∙ in_block bs last k r d (All-tail (λ block. length block ≡ 256) b bs full) (omega arith) l
+      let long = All-head (λ block. length block ≡ 256) b bs full in
+      let rest = All-tail (λ block. length block ≡ 256) b bs full in
+      ap (λ xs. slice_get xs (suc k * 256 + r)) (append_assoc b (all bs) last)
+      ∙ behind b (all bs ++ last) (suc k * 256 + r) (k * 256 + r) (omega arith)
+      ∙ in_block bs last k r d rest (omega arith) l
 
   -- what stands behind the full blocks
   in_last : (blocks : List (List X)) (last : List X) (r : ℕ) → AreFull blocks →
       slice_get (all blocks ++ last) (length blocks * 256 + r) ≡ slice_get last r
-  in_last [] last r full = let place : 0 * 256 + r ≡ r = omega arith in ap (slice_get last) place
+  in_last [] last r full = grind (arith)
   in_last (b ∷ bs) last r full =
-      let long : length b ≡ 256 = All-head (λ block. length block ≡ 256) b bs full in
-      let place : suc (length bs) * 256 + r ≡ 256 + (length bs * 256 + r) = omega arith in
-      ap (slice_get (all (b ∷ bs) ++ last)) place
-      ∙ ap (λ xs. slice_get xs (256 + (length bs * 256 + r))) (append_assoc b (all bs) last)
-      ∙ further b (all bs ++ last) (length bs * 256 + r) long
-      ∙ in_last bs last r (All-tail (λ block. length block ≡ 256) b bs full)
+      let long = All-head (λ block. length block ≡ 256) b bs full in
+      let rest = All-tail (λ block. length block ≡ 256) b bs full in
+      let place = suc (length bs) * 256 + r in
+      ap (λ xs. slice_get xs place) (append_assoc b (all bs) last)
+      ∙ behind b (all bs ++ last) place (length bs * 256 + r) (omega arith)
+      ∙ in_last bs last r rest
 
   -- a place in a full block is found by division
   pub block_get : (blocks : List (List X)) (last : List X) (at : ℕ) (block : List X) →
@@ -83,17 +73,11 @@ module _ {X : Type 0} where
       sym (ap (slice_get (all blocks ++ last)) place
       ∙ in_last blocks last (at - length blocks * 256) full)
 
-  -- one block more
-  all_push : (blocks : List (List X)) (block : List X) →
-      all (blocks ++ block ∷ []) ≡ all blocks ++ block
-  all_push [] block = append-nil block
-  all_push (b ∷ bs) block =
-      ap (λ xs. b ++ xs) (all_push bs block) ∙ sym (append_assoc b (all bs) block)
-
   -- a last block that is full becomes one of the others
   pub block_more : (blocks : List (List X)) (last : List X) (x : X) →
       all (blocks ++ last ∷ []) ++ x ∷ [] ≡ (all blocks ++ last) ++ x ∷ []
-  block_more blocks last x = ap (λ xs. xs ++ x ∷ []) (all_push blocks last)
+  block_more blocks last x =
+      ap (λ xs. xs ++ x ∷ []) (sym (flat_map_more (λ block. block) [] blocks last))
 
   -- one more in the last block is one more
   pub last_more : (blocks : List (List X)) (last : List X) (x : X) →

@@ -1,5 +1,4 @@
 pub mod Blocks
-pub mod Equality
 pub mod Inserting
 pub mod Bools
 pub mod Having

@@ -23,6 +23,7 @@ pub struct SendAct {
 /// What is asked of a peer.
 #[derive(Drop)]
 pub enum Request {
+    /// Its root.
     Root,
     /// A method of an object of the peer.
     Call { method: MethodId, message: Message },

@@ -1,5 +1,5 @@
 -- Invocations can act in every state.
-use Rattle.std.proofs.Common.{◌≡◌, List, [], ◌∷◌, map, arith}
+use Rattle.std.proofs.Common.{◌≡◌, List, map, arith}
 use Rattle.std.specs.List.{AllByRecursion}
 use Rattle.std.specs.Option.{IsSome}
 use Rattle.do_base.specs.declared.events.event.Event.{Event}
@@ -19,9 +19,9 @@ use Rattle.do_facts.proofs.OpeningAsNet.{opened}
 use Rattle.do_facts.proofs.methods.FewArguments.{takes_few}
 use Rattle.do_objects.specs.CanAct.{AllCanAct, CanAct, KeepsLocals}
 use Rattle.do_objects.specs.OwnClass.{AllSound}
-use Rattle.do_objects.specs.Reached.{after, reached}
+use Rattle.do_objects.specs.Reached.{reached}
 use Rattle.do_objects.proofs.Known.{begun_locals, has_method, HoldsAfter, HoldsBegun, Known}
-use Rattle.do_objects.proofs.Sound.{opens_sound, stays_sound}
+use Rattle.do_objects.proofs.Sound.{after_keeps, opens_sound, stays_sound}
 use Rattle.do_objects.proofs.Steps.{before_of}
 use Rattle.do_objects.proofs.Whole.{known_of, whole_of}
 
@@ -60,25 +60,15 @@ still_can table act S event fed s can = record {
 -- there are no invocations as a machine opens
 pub opens_able : (table : List Class) (seats : List Seat) → AllCanAct table (opening table seats)
 opens_able table seats = record {
-  each = λ port n h.
-      let sorted = by_port seats in
-      opened table (map (λ s. s.node) sorted)
-      (λ p (n : Node). AllByRecursion (CanAct table) n.stack) (λ s. tt) sorted port n h;
+  each = opened table (map (λ s. s.node) (by_port seats))
+      (λ p (n : Node). AllByRecursion (CanAct table) n.stack) (λ s. tt) (by_port seats);
 }
 
--- they can act after any events
-pub after_able : (table : List Class) (act : Acting) (S : State) (events : List Event) →
-    KeepsLocals table act → AllSound S → AllCanAct table S →
-    AllCanAct table (after table act S events)
-after_able table act S [] fed s can = can
-after_able table act S (event ∷ events) fed s can =
-    after_able table act (step table act S event).state events fed
-    (stays_sound table act S event s) (still_can table act S event fed s can)
-
--- and in every state that is reached
+-- they can act in every state that is reached
 pub reached_able : (table : List Class) (act : Acting) (seats : List Seat)
     (events : List Event) → KeepsLocals table act →
     AllCanAct table (reached table act seats events)
 reached_able table act seats events fed =
-    after_able table act (opening table seats) events fed (opens_sound table seats)
-    (opens_able table seats)
+    (after_keeps table act (λ S. AllSound S × AllCanAct table S)
+    (λ S event h. (stays_sound table act S event h.0, still_can table act S event fed h.0 h.1))
+    (opening table seats) events (opens_sound table seats, opens_able table seats)).1

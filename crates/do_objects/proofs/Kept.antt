@@ -1,8 +1,10 @@
 -- What the effects of a node keep: what it stores, and that it is whole.
-use Rattle.std.proofs.Common.{◌≡◌, ◌⊎◌, ◌<◌, ◌≤◌, ◌+◌, ◌==◌, ℕ, Bool, List, [], length, refl, sym}
-use Rattle.std.proofs.Common.{ap, ◌∙◌, subst, arith, inl, inr}
+use Rattle.std.proofs.Common.{◌≡◌, ◌<◌, ◌≤◌, ◌+◌, ◌==◌, ◌++◌, ℕ, Bool, List, [], length}
+use Rattle.std.proofs.Common.{sym, arith, refl, subst}
 use Rattle.std.specs.Prelude.{None, Option, Some}
+use Rattle.std.proofs.lemmas.List.Folds.{find-append}
 use Rattle.do_behave.specs.declared.act.Write.{Write}
+use Rattle.do_behave.specs.declared.invocation.Invocation.{Invocation}
 use Rattle.do_class.specs.declared.ids.ClassId.{ClassId}
 use Rattle.do_packet.specs.declared.receipt.Made.{Made}
 use Rattle.do_machine.specs.declared.node.Node.{Node}
@@ -10,126 +12,106 @@ use Rattle.do_machine.specs.declared.node.Stored.{Stored}
 use Rattle.do_machine.specs.State.{stored}
 use Rattle.do_machine.specs.held.Leaving.{leaving}
 use Rattle.do_machine.specs.run.Changes.{with_writes}
-use Rattle.do_machine.specs.run.Fresh.{with_objects, with_serials}
-use Rattle.do_objects.specs.OwnClass.{WasMadeOf}
+use Rattle.do_machine.specs.run.Fresh.{with_serials}
+use Rattle.do_objects.proofs.Finding.{AreFewer, fewer_left, not_new}
 use Rattle.do_objects.proofs.Known.{Known}
-use Rattle.do_objects.proofs.Whole.{AreOwn, IsWhole, still_own}
-use Rattle.do_objects.proofs.Finding.{AreFewer, absent, fewer_left, found_behind, there}
-use Rattle.do_objects.proofs.Finding.{found_first, none_more, not_new}
-
--- What a node stored is there after an effect, with these writes, and what it did not store is not
--- there but under a new serial
-pub record Stays (writes : ℕ → List Write) (n m : Node) : Type 0 where
-  pub kept : (k : ℕ) (x : Stored) → stored k n.heap ≡ Some x →
-      stored k m.heap ≡ Some (with_writes (writes k) x)
-  pub gone : (k : ℕ) → (k < n.next_serial) ⊎ (m.next_serial ≤ k) → stored k n.heap ≡ None →
-      stored k m.heap ≡ None
-  pub next : n.next_serial ≤ m.next_serial
-
--- so is a node after an effect, and it is whole if it was
-pub record Keeps (W : Known) (writes : ℕ → List Write) (n m : Node) : Type 0 where
-  pub heap : Stays writes n m
-  pub whole : IsWhole W n → IsWhole W m
+use Rattle.do_objects.proofs.Whole.{AreOwn, IsMade, IsWhole, Stock, still_own, stock}
 
 -- nothing is written
 abbrev pub none : ℕ → List Write
 none k = []
 
+-- What was stored is there after an effect, with these writes, and what was not stored is not there
+-- but under a new serial
+pub record Stays (writes : ℕ → List Write) (n m : Stock) : Type 0 where
+  pub kept : (k : ℕ) (x : Stored) → stored k n.heap ≡ Some x →
+      stored k m.heap ≡ Some (with_writes (writes k) x)
+  pub gone : (k : ℕ) → (n.next_serial ≤ k → m.next_serial ≤ k) → stored k n.heap ≡ None →
+      stored k m.heap ≡ None
+  pub next : n.next_serial ≤ m.next_serial
+
+-- so it is after an effect of a node, which is whole if it was
+pub record Keeps (W : Known) (writes : ℕ → List Write) (n m : Stock) : Type 0 where
+  pub heap : Stays writes n m
+  pub whole : IsWhole W n → IsWhole W m
+
 -- what is kept with some writes is kept with equal ones
-pub same_writes : {W : Known} (n m : Node) (writes others : ℕ → List Write) →
+pub same_writes : {W : Known} (n m : Stock) (writes others : ℕ → List Write) →
     ((k : ℕ) → others k ≡ writes k) → Keeps W writes n m → Keeps W others n m
-same_writes n m writes others e h = record {
-  heap = record {
-    kept = λ k x there.
-        h.heap.kept k x there ∙ ap (λ ws. Some (with_writes ws x)) (sym (e k));
-    gone = h.heap.gone;
-    next = h.heap.next;
-  };
-  whole = h.whole;
-}
+same_writes {W} n m writes others e h =
+    subst (λ ws. Keeps W ws n m) (sym (λ i k. e k i)) h
 
 -- what was made is of its class still
-pub still_made : {writes : ℕ → List Write} (n m : Node) → Stays writes n m → (serial : ℕ)
-    (class : ClassId) → WasMadeOf n serial class → WasMadeOf m serial class
+pub still_made : {writes : ℕ → List Write} (n m : Stock) → Stays writes n m → (serial : ℕ)
+    (class : ClassId) → IsMade n serial class → IsMade m serial class
 still_made {writes} n m h serial class made =
     (omega (arith, made.0, h.next), λ x found. by x found (stored serial n.heap) refl)
   where
     by : (x : Stored) → stored serial m.heap ≡ Some x → (was : Option Stored) →
         stored serial n.heap ≡ was → x.class ≡ class
-    by x found None e =
-        absurd (absent x (stored serial m.heap) found (h.gone serial (inl made.0) e))
-    by x found (Some y) e =
-        let is : with_writes (writes serial) y ≡ x =
-        there (stored serial m.heap) (with_writes (writes serial) y) x (h.kept serial y e) found in
-        ap (λ z. z.class) (sym is) ∙ made.1 y e
+    by x found None e = cc (found, h.gone serial (λ le. omega (arith, made.0)) e)
+    by x found (Some y) e = grind (arith, found, h.kept serial y e, made.1 y e)
 
 -- a node is whole after an effect whose invocations have their own methods
-pub keeps_by : (W : Known) {writes : ℕ → List Write} (n m : Node) → Stays writes n m →
+pub keeps_by : (W : Known) {writes : ℕ → List Write} (n m : Stock) → Stays writes n m →
     (IsWhole W n → AreOwn W n m.stack) → Keeps W writes n m
 keeps_by W n m h own = record {
   heap = h;
   whole = λ s. record {
-    given = λ k new. h.gone k (inr new) (s.given k (omega (arith, new, h.next)));
+    given = λ k new. h.gone k (λ _. new) (s.given k (omega (arith, new, h.next)));
     invocations = still_own W n m (still_made n m h) m.stack (own s);
   };
 }
 
--- a node with the same objects, on whose stack invocations have their own methods
-pub restacked : {W : Known} (n m : Node) → m.heap ≡ n.heap → m.next_serial ≡ n.next_serial →
-    (IsWhole W n → AreOwn W n m.stack) → Keeps W none n m
-restacked {W} n m heap next methods =
-    keeps_by W n m
-    (record {
-      kept = λ k x h. ap (stored k) heap ∙ h;
-      gone = λ k new h. ap (stored k) heap ∙ h;
-      next = omega arith;
-    }) methods
+-- a node that does nothing
+pub idle : {W : Known} (n : Stock) → Keeps W none n n
+idle n = record {
+  heap = record { kept = λ k x was. was; gone = λ k old was. was; next = omega arith };
+  whole = λ s. s;
+}
 
--- a node with the same objects and the same stack
-pub same : {W : Known} (n m : Node) → m.heap ≡ n.heap → m.next_serial ≡ n.next_serial →
-    m.stack ≡ n.stack → Keeps W none n m
-same {W} n m heap next stack =
-    restacked n m heap next (λ s. subst (AreOwn W n) (sym stack) s.invocations)
+-- other invocations, which have their own methods, of a node that kept what a first one stored
+pub restacks : {W : Known} (first n : Stock) (stack : List Invocation) → Keeps W none first n →
+    (IsWhole W first → IsWhole W n → AreOwn W n stack) →
+    Keeps W none first (record n { stack = stack })
+restacks first n stack h own = record {
+  heap = record { kept = h.heap.kept; gone = h.heap.gone; next = h.heap.next };
+  whole = λ s. record { given = (h.whole s).given; invocations = own s (h.whole s) };
+}
+
+-- other invocations of a node
+pub restacked : {W : Known} (n : Stock) (stack : List Invocation) →
+    (IsWhole W n → AreOwn W n stack) → Keeps W none n (record n { stack = stack })
+restacked n stack own = restacks n n stack (idle n) (λ _. own)
 
 -- one effect after another
-pub then_keeps : {W : Known} (n m l : Node) → Keeps W none n m → Keeps W none m l → Keeps W none n l
+pub then_keeps : {W : Known} (n m l : Stock) → Keeps W none n m → Keeps W none m l →
+    Keeps W none n l
 then_keeps n m l a b = record {
   heap = record {
-    kept = λ k x h. b.heap.kept k x (a.heap.kept k x h);
-    gone = λ k new h. by k new (a.heap.gone k (first k new) h);
+    kept = λ k x was. b.heap.kept k x (a.heap.kept k x was);
+    gone = λ k new was.
+        b.heap.gone k (λ le. new (omega (arith, le, a.heap.next)))
+        (a.heap.gone k (λ le. omega (arith, new le, b.heap.next)) was);
     next = omega (arith, a.heap.next, b.heap.next);
   };
   whole = λ s. b.whole (a.whole s);
 }
-  where
-    first : (k : ℕ) → (k < n.next_serial) ⊎ (l.next_serial ≤ k) →
-        (k < n.next_serial) ⊎ (m.next_serial ≤ k)
-    first k (inl h) = inl h
-    first k (inr h) = inr (omega (arith, h, b.heap.next))
 
-    by : (k : ℕ) → (k < n.next_serial) ⊎ (l.next_serial ≤ k) → stored k m.heap ≡ None →
-        stored k l.heap ≡ None
-    by k (inl h) e = b.heap.gone k (inl (omega (arith, h, a.heap.next))) e
-    by k (inr h) e = b.heap.gone k (inr h) e
-
-module _ (n : Node) (new : List Made) where
-  -- under an old serial, and behind the new ones, there is what was there
-  old : (k : ℕ) → (k < n.next_serial) ⊎ (n.next_serial + length new ≤ k) →
-      stored k n.heap ≡ None → stored k (with_objects new n).heap ≡ None
-  old k h e =
-      found_behind (λ x. x.serial == k) n.heap (with_serials n.next_serial new) e
-      ∙ not_new k n.next_serial new h
-
-  -- a node with new objects
-  pub makes : {W : Known} → Keeps W none n (with_objects new n)
-  makes {W} =
-      keeps_by W n (with_objects new n)
-      (record {
-        kept = λ k x h.
-            found_first (λ z. z.serial == k) n.heap (with_serials n.next_serial new) x h;
-        gone = old;
-        next = omega arith;
-      }) (λ s. s.invocations)
+-- new objects
+pub makes : {W : Known} (n : Stock) (new : List Made) →
+    Keeps W none n (record n {
+      heap = n.heap ++ with_serials n.next_serial new;
+      next_serial = n.next_serial + length new;
+    })
+makes {W} n new =
+    let both = λ (k : ℕ).
+    find-append (λ (x : Stored). x.serial == k) n.heap (with_serials n.next_serial new) in
+    keeps_by W n _ (record {
+      kept = λ k x was. grind (arith, both k, was);
+      gone = λ k old was. grind (arith, both k, was, not_new k n.next_serial new old);
+      next = omega arith;
+    }) (λ s. s.invocations)
 
 -- A node after a step: what it stores was there, with these writes, or has a new serial, and it is
 -- whole if it was
@@ -138,47 +120,36 @@ pub record Became (W : Known) (writes : ℕ → List Write) (n m : Node) : Type 
       y ≡ with_writes (writes k) x
   pub gone : (k : ℕ) → k < n.next_serial → stored k n.heap ≡ None → stored k m.heap ≡ None
   pub next : n.next_serial ≤ m.next_serial
-  pub whole : IsWhole W n → IsWhole W m
+  pub whole : IsWhole W (stock n) → IsWhole W (stock m)
 
 -- a node that does nothing
 pub stayed : {W : Known} (n : Node) (writes : ℕ → List Write) → ((k : ℕ) → writes k ≡ []) →
     Became W writes n n
 stayed n writes quiet = record {
-  kept = λ k x y h q.
-      let is : y ≡ x = cc (h, q) in
-      is ∙ ap (λ ws. with_writes ws x) (sym (quiet k));
+  kept = λ k x y was now. grind (arith, was, now, quiet k);
   gone = λ k old h. h;
   next = omega arith;
   whole = λ s. s;
 }
 
-module _ (entry : ℕ → ℕ → Bool) (n : Node) where
-  -- what a node leaves is what it stored, or less
-  fewer : AreFewer (leaving entry n).node.heap n.heap
-  fewer = fewer_left (length n.heap) entry n n.heap
-
-  -- a node that left what nothing holds is whole, if it was
-  whole_left : (W : Known) → IsWhole W n → IsWhole W (leaving entry n).node
-  whole_left W s = record {
-    given = λ k h. none_more (leaving entry n).node.heap n.heap fewer k (s.given k h);
-    invocations =
-        still_own W n (leaving entry n).node
-        (λ k class made. (made.0, λ x h. made.1 x (fewer k x h)))
-        n.stack s.invocations;
-  }
-
 -- an effect, and then the node leaves what nothing holds
 pub became : {W : Known} (writes : ℕ → List Write) (entry : ℕ → ℕ → Bool) (n m : Node) →
-    Keeps W writes n m →
-    Became W writes n (leaving entry m).node
+    Keeps W writes (stock n) (stock m) → Became W writes n (leaving entry m).node
 became {W} writes entry n m h = record {
-  kept = λ k x y there found.
-      let now = fewer entry m k y found in
-      let was = h.heap.kept k x there in
-      cc (now, was);
-  gone = λ k old q.
-      none_more (leaving entry m).node.heap m.heap (fewer entry m) k
-      (h.heap.gone k (inl old) q);
+  kept = λ k x y was now. grind (arith, fewer k, h.heap.kept k x was, now);
+  gone = λ k old was. none_more k (h.heap.gone k (λ le. absurd (omega (arith, le, old))) was);
   next = h.heap.next;
-  whole = λ s. whole_left entry m W (h.whole s);
+  whole = λ s. record {
+    given = λ k new. none_more k ((h.whole s).given k new);
+    invocations =
+        still_own W (stock m) (stock (leaving entry m).node)
+        (λ k class made. (made.0, λ x found. made.1 x (grind (arith, fewer k, found))))
+        m.stack (h.whole s).invocations;
+  };
 }
+  where
+    fewer : AreFewer (leaving entry m).node.heap m.heap
+    fewer = fewer_left (length m.heap) entry m m.heap
+
+    none_more : (k : ℕ) → stored k m.heap ≡ None → stored k (leaving entry m).node.heap ≡ None
+    none_more k was = grind (arith, fewer k, was)

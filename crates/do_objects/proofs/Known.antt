@@ -1,7 +1,6 @@
 -- What else a node's steps keep of its invocations, and how many locals these begin with.
-use Rattle.std.proofs.Common.{◌≡◌, ◌-◌, ◌≤◌, ◌++◌, ℕ, List, length, ◌∙◌, ◌+◌, ap, arith, not, false}
-use Rattle.std.proofs.Common.{refl}
-use Rattle.std.specs.Prelude.{Some, replicate, None, Option, option_map}
+use Rattle.std.proofs.Common.{◌≡◌, ◌-◌, ◌≤◌, ◌++◌, ℕ, List, length, ◌+◌, arith}
+use Rattle.std.specs.Prelude.{Some, replicate}
 use Rattle.std.specs.List.{AllByRecursion}
 use Rattle.do_base.specs.declared.values.value.Value.{Value}
 use Rattle.do_base.specs.declared.values.value.Value.TheVariants.{Nil}
@@ -14,11 +13,7 @@ use Rattle.do_behave.specs.declared.invocation.Invocation.{Invocation}
 use Rattle.do_machine.specs.Context.{Found}
 use Rattle.std.specs.Option.{IsSome}
 use Rattle.std.proofs.lemmas.List.{length-append, length-replicate}
-use Rattle.do_class.specs.declared.method.Method.{Method}
-use Rattle.do_sig.specs.Calls.{args_fit}
 use Rattle.do_sig.specs.declared.signature.Signature.{Signature}
-use Rattle.do_facts.proofs.Chains.{not_closed}
-use Rattle.do_facts.proofs.methods.FewArguments.{fitting_length}
 
 -- what is known of an invocation, by its method and how many locals it has
 abbrev pub Known : Type 1
@@ -50,25 +45,9 @@ HoldsAfter W i a = W i.method (length i.locals) → W i.method (count_after i a)
 -- a method with a signature is one of the table
 pub has_method : (table : List Class) (id : MethodId) (s : Signature) →
     signature_of table id ≡ Some s → IsSome (method_at table id)
-has_method table id s h = by (method_at table id) h
-  where
-    by : (m : Option Method) → option_map (λ m. m.signature) m ≡ Some s → IsSome m
-    by None q = absurd (cc)
-    by (Some m) q = refl
+has_method table id s h = grind (arith, h)
 
 -- an invocation begins with 16 locals, where its values are no more
 pub begun_locals : (values : List Value) → length values ≤ 16 →
     begun_count values ≡ 16
-begun_locals values few =
-    length-append values (replicate (16 - length values) Nil)
-    ∙ ap (λ k. length values + k) (length-replicate (16 - length values) Nil)
-    ∙ omega (arith, few)
-
--- values that fit a method are no more than its arguments
-pub fitting_few : (m : Found) (values : List Value) →
-    not (args_fit m.signature values) ≡ false → length values ≤ length m.signature.args
-fitting_few m values fit =
-    omega (
-      arith,
-      fitting_length m.signature values (not_closed (args_fit m.signature values) fit),
-    )
+begun_locals values few = simp (length-append, length-replicate) (omega (arith, few))

@@ -1,142 +1,86 @@
 -- Small effects, and taking an item, keep what a node stores.
-use Rattle.std.proofs.Common.{◌≡◌, ℕ, Bool, true, false, cond, List, [], ◌∷◌, map, refl, arith}
+use Rattle.std.proofs.Common.{◌≤◌, ℕ, length, map, arith}
 use Rattle.do_behave.specs.declared.invocation.Answer.{Answer}
-use Rattle.do_behave.specs.declared.invocation.Invocation.{Invocation}
 use Rattle.do_behave.specs.declared.invocation.Waited.{Waited}
 use Rattle.do_machine.specs.declared.item.Item.{Item}
-use Rattle.do_machine.specs.declared.node.Lend.{Lend}
 use Rattle.do_machine.specs.declared.node.Node.{Node}
+use Rattle.do_machine.specs.Context.{Context}
 use Rattle.do_machine.specs.ends.Closing.{closing, parted, without_answer}
-use Rattle.do_machine.specs.lend.Asking.{wanted, with_wanted, without_wanted}
-use Rattle.do_machine.specs.lend.Lending.{lending, with_settled}
 use Rattle.do_machine.specs.take.Awaiting.{AnsweredCall, answering, awaits, stack_answered}
 use Rattle.do_machine.specs.take.Awaiting.{with_answer}
-use Rattle.do_facts.proofs.walk.SmallEffects.{Small, by_closing as closes}
-use Rattle.do_objects.proofs.Known.{Known, HoldsBegun}
-use Rattle.do_objects.proofs.Whole.{AreOwn, stored_made}
-use Rattle.do_objects.proofs.Kept.{Keeps, none, restacked, same, then_keeps, makes, still_made}
-use Rattle.std.specs.Prelude.{Some}
-use Rattle.do_base.specs.declared.values.value.Value.{Value}
-use Rattle.do_sig.specs.Calls.{args_fit}
-use Rattle.do_behave.specs.declared.invocation.Reason.{Reason}
-use Rattle.do_machine.specs.declared.item.Message.{Message}
-use Rattle.do_machine.specs.Context.{Context, Found, method_for, own_class}
-use Rattle.do_machine.specs.Items.{exported}
-use Rattle.do_machine.specs.State.{own}
-use Rattle.do_machine.specs.run.Fresh.{fresh, pushed}
 use Rattle.do_machine.specs.take.Receipt.{arrived}
-use Rattle.do_machine.specs.take.Take.{holding, take_effect}
+use Rattle.do_machine.specs.take.Take.{take_effect}
+use Rattle.do_facts.proofs.EachOfLists.{each_changed, each_mapped}
 use Rattle.do_facts.proofs.methods.FewArguments.{fitting_length}
-use Rattle.do_facts.proofs.methods.MethodsFound.{method_found, signature_found}
+use Rattle.do_facts.proofs.walk.SmallEffects.{Small, by_closing as closes}
 use Rattle.do_facts.proofs.walk.Takes.{Takes, by_take as taken}
-
--- a node that lends
-pub lends : {W : Known} (n m : Node) (new : List Lend) →
-    Keeps W none n m → Keeps W none n (lending new m)
-lends n m new h = then_keeps n m (lending new m) h (same m (lending new m) refl refl refl)
-
--- invocations that lose a peer keep their methods and locals
-parted_own : (W : Known) (n : Node) (peer : ℕ) (is : List Invocation) → AreOwn W n is →
-    AreOwn W n (map (without_answer peer) is)
-parted_own W n peer [] h = tt
-parted_own W n peer (i ∷ is) h = (h.0, parted_own W n peer is h.1)
-
-module _ (W : Known) (n : Node) (k : AnsweredCall) (answer : Waited → Answer) where
-  -- an invocation that is answered keeps its method and its locals
-  answered_own : (is : List Invocation) → AreOwn W n is →
-      AreOwn W n (stack_answered k answer is)
-  answered_own [] h = tt
-  answered_own (i ∷ is) h = by (awaits k i.state) (answered_own is h.1)
-    where
-      by : (b : Bool) → AreOwn W n (stack_answered k answer is) →
-          AreOwn W n
-          (cond b (with_answer answer i ∷ is) (i ∷ stack_answered k answer is))
-      by true r = h
-      by false r = (h.0, r)
-
-  -- an answer that is taken
-  pub by_answering : Keeps W none n (answering k answer n).node
-  by_answering =
-      restacked n (answering k answer n).node refl refl
-      (λ s. answered_own n.stack s.invocations)
+use Rattle.do_objects.proofs.Known.{HoldsBegun, Known}
+use Rattle.do_objects.proofs.Kept.{Keeps, idle, makes, none, restacks, still_made, then_keeps}
+use Rattle.do_objects.proofs.Whole.{IsOwn, begun_own, stock}
 
 -- nothing is said of what is sent
 abbrev pub Any : ℕ → Item → Type 0
 Any to item = Unit {0}
 
 module _ (W : Known) (first : Node) where
-  -- a node that keeps what the first one stores, and so another of the same objects and stack
-  pub unchanged : (n m : Node) → m.heap ≡ n.heap → m.next_serial ≡ n.next_serial →
-      m.stack ≡ n.stack → Keeps W none first n → Keeps W none first m
-  unchanged n m heap next stack h = then_keeps first n m h (same n m heap next stack)
+  -- a node that keeps what the first one stores
+  abbrev pub After : Node → Type 0
+  After n = Keeps W none (stock first) (stock n)
 
   -- asks, grants and ends
-  pub small : Small (Keeps W none first) Any
-  small = record {
-    over = λ w n. unchanged n (without_wanted w n) refl refl refl;
-    settles = λ w n o h. tt;
-  }
+  small : Small After Any
+  small = record { over = λ w n h. h; settles = λ w n o h. tt }
 
--- a node that parts from a peer
-pub parts : (W : Known) (peer : ℕ) (n : Node) → Keeps W none n (parted peer n)
-parts W peer n =
-    restacked n (parted peer n) refl refl (λ s. parted_own W n peer n.stack s.invocations)
+  -- an answer that is taken
+  answers : (k : AnsweredCall) (answer : Waited → Answer) (n : Node) → After n →
+      After (answering k answer n).node
+  answers k answer n h =
+      restacks (stock first) (stock n) (stack_answered k answer n.stack) h
+      (λ _ s.
+      each_changed (IsOwn W (stock n)) (λ i. awaits k i.state) (with_answer answer) (λ i own. own)
+      n.stack s.invocations)
+
+  -- a node that parts from a peer
+  parts : (peer : ℕ) (n : Node) → After n → After (parted peer n)
+  parts peer n h =
+      restacks (stock first) (stock n) (map (without_answer peer) n.stack) h
+      (λ _ s. each_mapped (IsOwn W (stock n)) (without_answer peer) n.stack s.invocations)
 
 -- a node that closes its end
-pub by_closing : {W : Known} (peer : ℕ) (n : Node) → Keeps W none n (closing peer n).node
-by_closing {W} peer n = (closes (small W n) peer n (parts W peer n) tt).node
-
--- ---- a take
+pub by_closing : {W : Known} (peer : ℕ) (n : Node) →
+    Keeps W none (stock n) (stock (closing peer n).node)
+by_closing {W} peer n = (closes (small W n) peer n (parts W n peer n (idle (stock n))) tt).node
 
 module _ (W : Known) (c : Context) (begin : HoldsBegun W c.table) (from : ℕ) where
-  -- an invocation that a message begins
-  begins : (reason : Reason) (m : Message) (values : List Value) (f : Found) →
-      method_for c.table (own_class c.node m.target) m.selector ≡ Some f →
-      args_fit f.signature values ≡ true → (n : Node) → Keeps W none c.node n →
-      Keeps W none c.node (pushed (fresh (own c.node m.target) f.id reason values) n)
-  begins reason m values f found fit n since = record {
-    heap = record {
-      kept = since.heap.kept;
-      gone = since.heap.gone;
-      next = since.heap.next;
-    };
-    whole = λ s. record {
-      given = (since.whole s).given;
-      invocations = (
-        (
-          still_made c.node n since.heap m.target f.id.class
-              (stored_made c.node m.target f.id.class s.given
-              (method_found c.table (own_class c.node m.target) m.selector f found).0),
-          begin f values
-              (signature_found c.table (own_class c.node m.target) m.selector f found)
-              (omega (arith, fitting_length f.signature values fit)),
-        ),
-        (since.whole s).invocations,
-      );
-    };
-  }
-
   -- what a take is made of
-  takes : (item : Item) → Takes (Keeps W none c.node) Any c from item
+  takes : (item : Item) → Takes (After W c.node) Any c from item
   takes item = record {
     small = small W c.node;
-    asks = λ packet is o class token among n ends h.
-        (unchanged W c.node n (with_wanted (wanted o from token) n) refl refl refl h, tt);
+    asks = λ packet is o class token among n ends h. (h, tt);
     grants = λ serial token is n e h. tt;
     lacks = λ serial token is n e h. tt;
-    makes = λ packet is n h.
-        then_keeps c.node n _ h (makes n (arrived c from packet).copies);
-    begins = λ reason m f is. begins reason m (arrived c from m.packet).values f;
+    makes = λ packet is n h. then_keeps _ _ _ h (makes (stock n) (arrived c from packet).copies);
+    begins = λ reason m f is found fit n h.
+        let values = (arrived c from m.packet).values in
+        let few : length values ≤ length f.signature.args =
+        omega (arith, fitting_length f.signature values fit) in
+        let begun = begun_own W c.table begin c.node m.target m.selector f reason values in
+        restacks (stock c.node) (stock n) _ h
+        (λ s t. (
+          (
+            still_made _ _ h.heap m.target f.id.class (begun s.given found few).0,
+            (begun s.given found few).1,
+          ),
+          t.invocations,
+        ));
     refuses = λ number e h. tt;
-    answers = λ k packet is n h. then_keeps c.node n _ h (by_answering W n k _);
-    fails = λ k number e is n h. then_keeps c.node n _ h (by_answering W n k _);
+    answers = λ k packet is n h. answers W c.node k _ n h;
+    fails = λ k number e is n h. answers W c.node k _ n h;
     gives = λ number. tt;
-    settles = λ number n. unchanged W c.node n (with_settled from number n) refl refl refl;
-    parts = λ serials is n h. (then_keeps c.node n (parted from n) h (parts W from n), tt);
+    settles = λ number n h. h;
+    parts = λ serials is n h. (parts W c.node from n h, tt);
   }
 
   -- a take
-  pub by_take : (item : Item) → Keeps W none c.node (take_effect c from item).node
-  by_take item =
-      (taken c from item (takes item)
-      (same c.node (holding (exported from c.node.port item) c.node) refl refl refl)).node
+  pub by_take : (item : Item) → After W c.node (take_effect c from item).node
+  by_take item = (taken c from item (takes item) (idle (stock c.node))).node

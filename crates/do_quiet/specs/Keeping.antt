@@ -17,15 +17,18 @@ use Rattle.do_machine.specs.held.Refers.{objects_in, stack_objects}
 use Rattle.do_facts.specs.Made.{is_stored}
 use Rattle.do_facts.specs.steps.Held.{RefersToHeld}
 
--- what holds an object up beside entries: it is a root, or it is named by an invocation, by an item
--- on its way, or by a slot of one of these objects, on whichever node
+-- what holds an object up beside entries
 pub data IsHeldUp (S : State) (these : ObjectName → Bool) (o : ObjectName) : Type 0 where
+  -- it is a root
   ByRoot : (n : Node) → node S o.node ≡ Some n → is_root n o.serial ≡ true → IsHeldUp S these o
+  -- an invocation names it
   ByInvocation : (port : ℕ) → (n : Node) → node S port ≡ Some n →
       has_object (stack_objects n.stack) o ≡ true → IsHeldUp S these o
+  -- an item on its way names it
   ByItem : (from : ℕ) → (to : ℕ) → (items : List Item) → queue S from to ≡ Some items →
       list_any (λ item. has_object (map (λ x. x.object) (names from to item)) o) items ≡ true →
       IsHeldUp S these o
+  -- a slot of one of these objects names it, on any node
   BySlot : (port : ℕ) → (n : Node) → (x : Stored) → node S port ≡ Some n → IsIn n.heap x →
       these (object_at port x.serial) ≡ true → has_object (objects_in x.slots) o ≡ true →
       IsHeldUp S these o

@@ -1,5 +1,5 @@
 -- How often calls are waited for and served, once frames change.
-use Rattle.std.proofs.Common.{◌≡◌, ◌==◌, ◌&&◌, ◌+◌, ◌≤◌, ℕ, Bool, true, false, cond, not, List, []}
+use Rattle.std.proofs.Common.{◌≡◌, ◌==◌, ◌&&◌, ◌+◌, ◌≤◌, ℕ, Bool, true, false, not, List, []}
 use Rattle.std.proofs.Common.{◌∷◌, filter, map, refl, sym, arith}
 use Rattle.std.specs.Prelude.{if◌then◌else◌}
 use Rattle.std.specs.Bool.{beq}
@@ -13,7 +13,7 @@ use Rattle.do_facts.specs.Net.{total}
 use Rattle.do_facts.specs.calls.Calls.{Calls, Frame, Idle, Lower, On, Wait}
 use Rattle.do_facts.specs.calls.Facts.{late_of, number_late, number_on, numbers, on_of, serves_of}
 use Rattle.do_facts.specs.calls.Facts.{waits}
-use Rattle.do_facts.specs.calls.Moves.{idle, is_call, is_first_lower, is_on, is_on_peer}
+use Rattle.do_facts.specs.calls.Moves.{idle, is_call, is_first_lower, is_on}
 use Rattle.do_facts.specs.calls.Moves.{first_rested, rested, without_peer}
 use Rattle.do_facts.proofs.SumsOfLists.{changed_le, changed_same, filtered_le, filtered_same}
 use Rattle.do_facts.proofs.SumsOfLists.{mapped_le, mapped_same, number_if, total_le}
@@ -149,19 +149,7 @@ module _ (peer : ℕ) where
   -- a frame that waits for another peer waits still
   parted_on : (j : AnsweredCall) → (j.peer == peer) ≡ false → (f : Frame) →
       on_of j (without_peer peer f) ≡ on_of j f
-  parted_on j h f = go f.wait
-    where
-      go : (w : Wait) → on_of j (without_peer peer (record { reason = f.reason; wait = w }))
-          ≡ on_of j (record { reason = f.reason; wait = w })
-      go Idle = refl
-      go Lower = refl
-      go (On p number root) = by (p == peer) refl
-        where
-          by : (b : Bool) → (p == peer) ≡ b → on_of j (cond b (idle f.reason)
-              (record { reason = f.reason; wait = On p number root }))
-              ≡ on_of j (record { reason = f.reason; wait = On p number root })
-          by true e = grind (arith, nat_tests, h, e)
-          by false e = refl
+  parted_on j h f = grind (arith, nat_tests, h)
 
   -- a late call to another peer is late still
   late_apart : (j : AnsweredCall) → (j.peer == peer) ≡ false → (c : LateCall) →
@@ -182,11 +170,7 @@ module _ (peer : ℕ) where
   -- a frame serves the same call
   parted_serves_one : (n j : ℕ) (f : Frame) →
       serves_of n j (without_peer peer f) ≡ serves_of n j f
-  parted_serves_one n j f = go (is_on_peer peer f.wait)
-    where
-      go : (b : Bool) → serves_of n j (cond b (rested f) f) ≡ serves_of n j f
-      go true = refl
-      go false = refl
+  parted_serves_one n j f = grind arith
 
   -- as many calls are served
   pub parted_serves : (n j : ℕ) (fs : List Frame) →
@@ -196,11 +180,7 @@ module _ (peer : ℕ) where
 
   -- a frame waits for no more numbers
   parted_number : (j : ℕ) (f : Frame) → number_on j (without_peer peer f) ≤ number_on j f
-  parted_number j f = go (is_on_peer peer f.wait)
-    where
-      go : (b : Bool) → number_on j (cond b (rested f) f) ≤ number_on j f
-      go true = omega arith
-      go false = omega arith
+  parted_number j f = grind arith
 
   -- no more numbers are waited for
   pub parted_numbers : (p : Calls) (j : ℕ) →

@@ -127,10 +127,7 @@ module _ (net : Net Calls Atom) (a : ℕ) (hold : CallsHold net) where
 lost_call : (net : Net Calls Atom) (from to : ℕ) (first rest : List Atom) →
     net.wire from to ≡ first ++ rest → (x y z : ℕ) → OneCall net x y z →
     OneCall (record net { wire = with_wire from to (first ++ rest) net.wire }) x y z
-lost_call net from to first rest e x y z one = record {
-  methods = λ d. grind (arith, nat_tests, total-append, one, e);
-  roots = λ d. grind (arith, nat_tests, total-append, one, e);
-}
+lost_call net from to first rest e x y z one = grind (arith, nat_tests, total-append, one, e)
 
 -- whatever happens
 pub calls_keep : Keeps call_rules CallsHold

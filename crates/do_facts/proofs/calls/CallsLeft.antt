@@ -1,18 +1,14 @@
 -- What leaves the calls of a node, and what answers and closing make of them.
-use Rattle.std.proofs.Common.{◌≡◌, ◌==◌, ◌++◌, ℕ, Bool, true, false, cond, not, List, [], ◌∷◌, map}
-use Rattle.std.proofs.Common.{filter, refl, sym, ap, ◌∙◌, subst}
+use Rattle.std.proofs.Common.{◌≡◌, ◌++◌, ℕ, Bool, true, not, List, [], ◌∷◌, map, arith, filter}
+use Rattle.std.proofs.Common.{refl, sym, ap, ◌∙◌, subst}
 use Rattle.std.specs.List.{list_any}
 use Rattle.do_base.specs.names.Names.{ObjectName}
-use Rattle.do_base.specs.declared.events.exception.Exc.TheVariants.{ConnectionDied}
 use Rattle.do_packet.specs.Met.{has_object}
 use Rattle.do_class.specs.declared.packet.Name.{Name}
 use Rattle.do_class.specs.declared.packet.Name.TheVariants.{Lent}
 use Rattle.do_behave.specs.declared.invocation.Invocation.{Invocation}
-use Rattle.do_behave.specs.declared.invocation.InvState.{InvState}
-use Rattle.do_behave.specs.declared.invocation.InvState.TheVariants as states
 use Rattle.do_behave.specs.declared.invocation.Waited.{Waited}
 use Rattle.do_behave.specs.declared.invocation.Answer.{Answer as Given}
-use Rattle.do_behave.specs.declared.invocation.Answer.TheVariants.{Raised}
 use Rattle.do_machine.specs.declared.node.LateCall.{LateCall}
 use Rattle.do_machine.specs.declared.node.Node.{Node}
 use Rattle.do_machine.specs.declared.node.Wanted.{Wanted}
@@ -20,20 +16,18 @@ use Rattle.do_machine.specs.declared.state.Effect.{Effect}
 use Rattle.do_machine.specs.Effect.{each, only}
 use Rattle.do_machine.specs.Lists.{change_first}
 use Rattle.do_machine.specs.State.{is_open}
-use Rattle.do_machine.specs.ends.Closing.{asked_of, closing, died, parted, without_answer}
+use Rattle.do_machine.specs.ends.Closing.{asked_of, closing, parted, without_answer}
 use Rattle.do_machine.specs.held.Kept.{kept}
 use Rattle.do_machine.specs.held.Leaving.{freeing, leaving, left}
 use Rattle.do_machine.specs.held.Refers.{node_objects}
 use Rattle.do_machine.specs.lend.Asking.{asking, same_wanted, settling, wanted}
-use Rattle.do_machine.specs.take.Awaiting.{AnsweredCall, answered_state, answering, awaits}
-use Rattle.do_machine.specs.take.Awaiting.{is_answered, late_answered, stack_answered}
+use Rattle.do_machine.specs.take.Awaiting.{AnsweredCall, answering, late_answered, stack_answered}
 use Rattle.do_machine.specs.take.Receipt.{receiving_name}
 use Rattle.do_facts.specs.Moves.{Runs}
 use Rattle.do_facts.specs.View.{AreMoves, posted}
-use Rattle.do_facts.specs.calls.Calls.{Calls, Frame, calls, calls_of, frame_of, wait_of}
+use Rattle.do_facts.specs.calls.Calls.{Calls, Frame, calls, calls_of, frame_of}
 use Rattle.do_facts.specs.calls.Moves as Move
-use Rattle.do_facts.specs.calls.Moves.{answered_call, call_rules, idle, is_on, lower, note, rested}
-use Rattle.do_facts.specs.calls.Moves.{without_peer}
+use Rattle.do_facts.specs.calls.Moves.{answered_call, call_rules, is_on, note, rested, without_peer}
 use Rattle.do_facts.proofs.Chains.{either}
 use Rattle.do_facts.proofs.CommitAsNet.{posted_behind}
 use Rattle.do_facts.proofs.Runs.{moves_once, stands_by}
@@ -95,34 +89,7 @@ pub frames_answered : (k : AnsweredCall) (answer : Waited → Given) (stack : Li
     map frame_of (stack_answered k answer stack)
     ≡ change_first (λ f. is_on k f.wait) rested (map frame_of stack)
 frames_answered k answer [] = refl
-frames_answered k answer (i ∷ is) = go i.state (frames_answered k answer is)
-  where
-    go : (state : InvState) →
-        map frame_of (stack_answered k answer is)
-        ≡ change_first (λ f. is_on k f.wait) rested (map frame_of is) →
-        map frame_of (cond (awaits k state)
-        (record i { state = answered_state answer state } ∷ is)
-        (record i { state = state } ∷ stack_answered k answer is))
-        ≡ cond (is_on k (wait_of state)) (idle i.reason ∷ map frame_of is)
-        (record { reason = i.reason; wait = wait_of state }
-        ∷ change_first (λ f. is_on k f.wait) rested (map frame_of is))
-    go states.Running r = ap (λ fs. idle i.reason ∷ fs) r
-    go states.Below r = ap (λ fs. lower i.reason ∷ fs) r
-    go (states.Answered a) r = ap (λ fs. idle i.reason ∷ fs) r
-    go (states.Waits call peer what) r = by (is_answered k peer call.number what)
-      where
-        by : (b : Bool) → map frame_of (cond b
-            (record i { state = answered_state answer (states.Waits call peer what) } ∷ is)
-            (record i { state = states.Waits call peer what } ∷ stack_answered k answer is))
-            ≡ cond b (idle i.reason ∷ map frame_of is)
-            (record { reason = i.reason; wait = wait_of (states.Waits call peer what) }
-            ∷ change_first (λ f. is_on k f.wait) rested (map frame_of is))
-        by true = refl
-        by false =
-            ap (λ fs. record {
-              reason = i.reason;
-              wait = wait_of (states.Waits call peer what);
-            } ∷ fs) r
+frames_answered k answer (i ∷ is) = grind (arith, frames_answered k answer is)
 
 -- the calls of a node with other frames and late calls
 abbrev pub with_calls : Calls → List Frame → List LateCall → Calls
@@ -152,33 +119,7 @@ by_answering from number root answer n m same ends =
 pub frames_parted : (peer : ℕ) (stack : List Invocation) →
     map frame_of (map (without_answer peer) stack) ≡ map (without_peer peer) (map frame_of stack)
 frames_parted peer [] = refl
-frames_parted peer (i ∷ is) = go i.state (frames_parted peer is)
-  where
-    go : (state : InvState) →
-        map frame_of (map (without_answer peer) is)
-        ≡ map (without_peer peer) (map frame_of is) →
-        frame_of (record i { state = died peer state })
-        ∷ map frame_of (map (without_answer peer) is)
-        ≡ without_peer peer (record { reason = i.reason; wait = wait_of state })
-        ∷ map (without_peer peer) (map frame_of is)
-    go states.Running r = ap (λ fs. idle i.reason ∷ fs) r
-    go states.Below r = ap (λ fs. lower i.reason ∷ fs) r
-    go (states.Answered a) r = ap (λ fs. idle i.reason ∷ fs) r
-    go (states.Waits call p what) r = by (p == peer)
-      where
-        by : (b : Bool) → frame_of (record i {
-          state = cond b (states.Answered (Raised ConnectionDied))
-              (states.Waits call p what);
-        }) ∷ map frame_of (map (without_answer peer) is)
-            ≡ cond b (idle i.reason)
-            (record { reason = i.reason; wait = wait_of (states.Waits call p what) })
-            ∷ map (without_peer peer) (map frame_of is)
-        by true = ap (λ fs. idle i.reason ∷ fs) r
-        by false =
-            ap (λ fs. record {
-              reason = i.reason;
-              wait = wait_of (states.Waits call p what);
-            } ∷ fs) r
+frames_parted peer (i ∷ is) = grind (arith, frames_parted peer is)
 
 -- a node closes its end
 pub by_closing : (peer : ℕ) (n : Node) → is_open n peer ≡ true →

@@ -45,14 +45,8 @@ hold_of_new : (net : Net Calls Atom) → ((n : ℕ) → IsNew n (net.part n)) �
 hold_of_new net new none = record {
   apart = λ n. (new n).apart;
   shaped = λ n. subst AreShaped (sym (new n).stack) tt;
-  calls = λ n m k. record {
-    methods = λ d. grind (arith, nat_tests, none n m, none m n, (new m).stack);
-    roots = λ d. grind (arith, nat_tests, none n m, none m n);
-  };
-  numbers = λ n k. record {
-    once = grind (arith, nat_tests, (new n).stack, (new n).late);
-    fresh = λ d. grind (arith, nat_tests, (new n).stack, (new n).late);
-  };
+  calls = λ n m k. grind (arith, nat_tests, none n m, none m n, (new m).stack);
+  numbers = λ n k. grind (arith, nat_tests, (new n).stack, (new n).late);
 }
 
 -- an answer on its way to an open end is waited for by exactly one

@@ -1,5 +1,5 @@
 -- Moves of the top invocation keep each call in one place.
-use Rattle.std.proofs.Common.{◌≡◌, ◌≢◌, ◌==◌, ◌&&◌, ◌+◌, ℕ, Bool, true, false, cond, List, [], ◌∷◌}
+use Rattle.std.proofs.Common.{◌≡◌, ◌≢◌, ◌==◌, ◌+◌, ℕ, Bool, true, false, cond, List, [], ◌∷◌}
 use Rattle.std.proofs.Common.{refl, sym, ap, ◌∙◌, subst, arith}
 use Rattle.std.specs.Prelude.{if◌then◌else◌}
 use Rattle.std.specs.Bool.{beq}
@@ -27,12 +27,7 @@ on_asked : (j : AnsweredCall) (to k : ℕ) (reason : Reason) (root : Bool) →
     on_of j (record { reason = reason; wait = On to k root })
     ≡ (if j.peer == to then (if j.number == k then (if beq root j.root then 1 else 0) else 0)
     else 0)
-on_asked j to k reason root = go (beq root j.root)
-  where
-    go : (b : Bool) → number_if ((k == j.number) && (to == j.peer) && b)
-        ≡ (if j.peer == to then (if j.number == k then number_if b else 0) else 0)
-    go true = grind (arith, nat_tests)
-    go false = grind (arith, nat_tests)
+on_asked j to k reason root = grind (arith, nat_tests)
 
 module _ (net : Net Calls Atom) (a : ℕ) (hold : CallsHold net) where
   -- the part of the node

@@ -24,28 +24,24 @@ module _ (net : Net Links Atom) (a : ℕ) (asks : EachAsk net) where
   -- an ask is granted
   pub grants : (from s : ℕ) (k : TokenName) (rest : List Atom) → net.wire from a ≡ Ask s k ∷ rest →
       EachAsk (after (net.part a) (note from (Ask s k)) (note from (Granted s k)))
-  grants from s k rest e x z u w v = record {
-    once = λ d. grind (arith, steps, asks x z u w v, e);
-  }
+  grants from s k rest e x z u w v = grind (arith, steps, asks x z u w v, e)
 
   -- an ask is refused
   pub refuses : (from s : ℕ) (k : TokenName) (rest : List Atom) → net.wire from a ≡ Ask s k ∷ rest →
       EachAsk (after (net.part a) (note from (Ask s k)) (note from (Gone s k)))
-  refuses from s k rest e x z u w v = record {
-    once = λ d. grind (arith, steps, asks x z u w v, e);
-  }
+  refuses from s k rest e x z u w v = grind (arith, steps, asks x z u w v, e)
 
   -- a third node's object is lent
   pub lends : (to : ℕ) (o : ObjectName) → EachAsk (after (moved (net.part a) (Lends to o)) []
       (note to (Lent o (net.part a).token)))
-  lends to o x z u w v = record { once = λ d. grind (arith, steps, asks x z u w v) }
+  lends to o x z u w v = grind (arith, steps, asks x z u w v)
 
   -- an end is closed
   pub closes : (peer : ℕ) (names : List ℕ) →
       EachAsk (after (closed peer (net.part a)) [] (note peer (End names)))
   closes peer names x z u w v =
       let ends = open_less z peer (net.part a).open_to in
-      record { once = λ d. grind (arith, steps, asks x z u w v, ends) }
+      grind (arith, steps, asks x z u w v, ends)
 
   -- an ask of which the home's end is closed is over, and the lender is told
   pub tells : (h s l t : ℕ) → opens (net.part a) h ≡ false →
@@ -53,14 +49,14 @@ module _ (net : Net Links Atom) (a : ℕ) (asks : EachAsk net) where
       (note l (Settled t)))
   tells h s l t c x z u w v =
       let less = asked_less z u w v (wanted (object_at h s) l t) (net.part a).asked in
-      record { once = λ d. grind (arith, steps, asks x z u w v, c, less) }
+      grind (arith, steps, asks x z u w v, c, less)
 
   -- and where the lender can't be told
   pub keeps_quiet : (h s l t : ℕ) → opens (net.part a) h ≡ false →
       EachAsk (after (without_ask (wanted (object_at h s) l t) (net.part a)) [] [])
   keeps_quiet h s l t c x z u w v =
       let less = asked_less z u w v (wanted (object_at h s) l t) (net.part a).asked in
-      record { once = λ d. grind (arith, steps, asks x z u w v, c, less) }
+      grind (arith, steps, asks x z u w v, c, less)
 
   -- an object that was lent is asked for
   pub asks_home : (from h s t : ℕ) (rest : List Atom) (asked : List Wanted) → h ≢ a →
@@ -72,20 +68,20 @@ module _ (net : Net Links Atom) (a : ℕ) (asks : EachAsk net) where
       (note from (Lent (object_at h s) t))
       (note h (Ask s (record { lender = from; number = t }))))
   asks_home from h s t rest asked apart e none more x z u w v =
-      record { once = λ d. grind (arith, steps, asks x z u w v, apart, e, none, more z u w v) }
+      grind (arith, steps, asks x z u w v, apart, e, none, more z u w v)
 
   -- a lend is over, since nothing can be asked for
   pub returns : (from h s t : ℕ) (rest : List Atom) →
       net.wire from a ≡ Lent (object_at h s) t ∷ rest →
       EachAsk (after (net.part a) (note from (Lent (object_at h s) t)) (note from (Settled t)))
   returns from h s t rest e x z u w v =
-      record { once = λ d. grind (arith, steps, asks x z u w v, e) }
+      grind (arith, steps, asks x z u w v, e)
 
   -- a lend is known to be over
   pub settles : (from number : ℕ) (rest : List Atom) → net.wire from a ≡ Settled number ∷ rest →
       EachAsk (after (moved (net.part a) (Settles from number)) (note from (Settled number)) [])
   settles from number rest e x z u w v =
-      record { once = λ d. grind (arith, steps, asks x z u w v, e) }
+      grind (arith, steps, asks x z u w v, e)
 
   module _ (from s l t : ℕ) (x : Atom) (no_ask : (u w v : ℕ) → ask_of u w v x ≡ 0)
       (answers : (u w v : ℕ) → answer_of u w v x ≡ same3 u w v s l t) (rest : List Atom)
@@ -101,19 +97,7 @@ module _ (net : Net Links Atom) (a : ℕ) (asks : EachAsk net) where
         (record (net.part a) { held = held })) (note from x) (note l (Settled t)))
     answered_told held z h u w v =
         let less = asked_less h u w v (wanted (object_at from s) l t) (net.part a).asked in
-        record {
-          once = λ d. grind (
-            arith,
-            steps,
-            asks z h u w v,
-            apart,
-            o,
-            e,
-            less,
-            no_ask u w v,
-            answers u w v,
-          );
-        }
+        grind (arith, steps, asks z h u w v, apart, o, e, less, no_ask u w v, answers u w v)
 
     -- and where the lender can't be told
     pub answered_quiet : (held : List ObjectName) →
@@ -121,16 +105,4 @@ module _ (net : Net Links Atom) (a : ℕ) (asks : EachAsk net) where
         (record (net.part a) { held = held })) (note from x) [])
     answered_quiet held z h u w v =
         let less = asked_less h u w v (wanted (object_at from s) l t) (net.part a).asked in
-        record {
-          once = λ d. grind (
-            arith,
-            steps,
-            asks z h u w v,
-            apart,
-            o,
-            e,
-            less,
-            no_ask u w v,
-            answers u w v,
-          );
-        }
+        grind (arith, steps, asks z h u w v, apart, o, e, less, no_ask u w v, answers u w v)

@@ -28,43 +28,27 @@ module _ (net : Net Links Atom) (a : ℕ) (fresh : EachFresh net) where
   lends to o x y z u v =
       let p = net.part a in
       let l = next_lend p to o in
-      record {
-        unlent = λ d. grind (arith, steps, fresh x y z u v, lent_more y v z u l p.lent);
-        untold = λ d. grind (arith, steps, fresh x y z u v, lends_more y v l p.lent);
-        unsent = λ d. grind (arith, steps, fresh x y z u v);
-      }
+      grind (arith, steps, fresh x y z u v, lent_more y v z u l p.lent, lends_more y v l p.lent)
 
   -- an end is closed
   pub closes : (peer : ℕ) (names : List ℕ) →
       EachFresh (after (closed peer (net.part a)) [] (note peer (End names)))
   closes peer names x y z u v =
       let lent = (net.part a).lent in
-      record {
-        unlent = λ d. grind (arith, steps, fresh x y z u v, lent_apart y v z u peer lent);
-        untold = λ d. grind (arith, steps, fresh x y z u v, lends_apart y v peer lent);
-        unsent = λ d. grind (arith, steps, fresh x y z u v);
-      }
+      grind (arith, steps, fresh x y z u v, lent_apart y v z u peer lent, lends_apart y v peer lent)
 
   -- an ask is over, and the lender is told
   pub tells : (w : Wanted) → EachFresh (after (without_ask w (net.part a)) []
       (note w.token.lender (Settled w.token.number)))
   tells w x y z u v =
       let less = asked_less z u x v w (net.part a).asked in
-      record {
-        unlent = λ d. grind (arith, steps, fresh x y z u v, less);
-        untold = λ d. grind (arith, steps, fresh x y z u v, less);
-        unsent = λ d. grind (arith, steps, fresh x y z u v, less);
-      }
+      grind (arith, steps, fresh x y z u v, less)
 
   -- an ask is over, and the lender can't be told
   pub keeps_quiet : (w : Wanted) → EachFresh (after (without_ask w (net.part a)) [] [])
   keeps_quiet w x y z u v =
       let less = asked_less z u x v w (net.part a).asked in
-      record {
-        unlent = λ d. grind (arith, steps, fresh x y z u v, less);
-        untold = λ d. grind (arith, steps, fresh x y z u v, less);
-        unsent = λ d. grind (arith, steps, fresh x y z u v, less);
-      }
+      grind (arith, steps, fresh x y z u v, less)
 
   -- an object that was lent is asked for
   pub asks : (from h s t : ℕ) (rest : List Atom) (asked : List Wanted) →
@@ -77,29 +61,18 @@ module _ (net : Net Links Atom) (a : ℕ) (fresh : EachFresh net) where
       (note h (Ask s (record { lender = from; number = t }))))
   asks from h s t rest asked e more x y z u v =
       let sent = fresh from a h s t in
-      record {
-        unlent = λ d. grind (arith, steps, fresh x y z u v, e);
-        untold = λ d. grind (arith, steps, fresh x y z u v, e);
-        unsent = λ d. grind (arith, steps, fresh x y z u v, sent, e, more z u x v);
-      }
+      grind (arith, steps, fresh x y z u v, e, sent, more z u x v)
 
   -- a lend is over, since nothing can be asked for, or it is asked for already
   pub returns : (from h s t : ℕ) (rest : List Atom) →
       net.wire from a ≡ Lent (object_at h s) t ∷ rest →
       EachFresh (after (net.part a) (note from (Lent (object_at h s) t)) (note from (Settled t)))
-  returns from h s t rest e x y z u v = record {
-    unlent = λ d. grind (arith, steps, fresh x y z u v, e);
-    untold = λ d. grind (arith, steps, fresh x y z u v, e);
-    unsent = λ d. grind (arith, steps, fresh x y z u v, e);
-  }
+  returns from h s t rest e x y z u v = grind (arith, steps, fresh x y z u v, e)
 
   -- a lend is known to be over
   pub settles : (from number : ℕ) (rest : List Atom) → net.wire from a ≡ Settled number ∷ rest →
       EachFresh (after (moved (net.part a) (Settles from number)) (note from (Settled number)) [])
   settles from number rest e x y z u v =
       let lent = (net.part a).lent in
-      record {
-        unlent = λ d. grind (arith, steps, fresh x y z u v, e, lent_less y v z u from number lent);
-        untold = λ d. grind (arith, steps, fresh x y z u v, e, lends_less y v from number lent);
-        unsent = λ d. grind (arith, steps, fresh x y z u v, e);
-      }
+      let less = lent_less y v z u from number lent in
+      grind (arith, steps, fresh x y z u v, e, less, lends_less y v from number lent)

@@ -1,5 +1,5 @@
 -- What is stored once slots are written, objects are made, or some are freed.
-use Rattle.std.proofs.Common.{◌≡◌, ◌==◌, ◌++◌, ◌+◌, ◌<◌, ℕ, Bool, zero, suc, true, false, cond}
+use Rattle.std.proofs.Common.{◌≡◌, ◌==◌, ◌++◌, ◌+◌, ◌<◌, ℕ, Bool, zero, suc, true, false}
 use Rattle.std.proofs.Common.{List, [], ◌∷◌, filter, length, refl, ap, ◌∙◌, sym, arith}
 use Rattle.std.specs.Prelude.{None, Option, Some, is_some}
 use Rattle.std.specs.Option.{option_or}
@@ -27,14 +27,7 @@ written_there k serial ws (x ∷ heap) = grind (arith, nat_tests, written_there 
 pub new_below : (k serial : ℕ) (new : List Made) → is_there (with_serials serial new) k ≡ true →
     k < serial + length new
 new_below k serial [] h = absurd (cc)
-new_below k serial (m ∷ new) h = go (serial == k) refl (new_below k (suc serial) new) h
-  where
-    go : (b : Bool) → (serial == k) ≡ b →
-        (is_there (with_serials (suc serial) new) k ≡ true → k < suc serial + length new) →
-        is_some (cond b (Some (record { serial = serial; class = m.class; slots = m.slots }))
-        (stored k (with_serials (suc serial) new))) ≡ true → k < serial + suc (length new)
-    go true e r f = grind (arith, nat_tests, e)
-    go false e r f = omega (arith, r f)
+new_below k serial (m ∷ new) h = grind (arith, nat_tests, h, new_below k (suc serial) new)
 
 module _ (p : Links) (given : (s : ℕ) → stores p s ≡ true → s < p.serial) where
   -- a heap in which slots were written

@@ -1,37 +1,23 @@
 -- What an entry holds up is kept.
-use Rattle.std.proofs.Common.{◌≡◌, ◌==◌, ◌||◌, ℕ, Bool, zero, suc, true, false, cond, List, [], ◌∷◌}
-use Rattle.std.proofs.Common.{filter, length, refl, ap, ◌∙◌}
-use Rattle.std.specs.Prelude.{Some, is_some}
+use Rattle.std.proofs.Common.{◌≡◌, ◌==◌, ◌||◌, ℕ, Bool, zero, suc, true, false, List, [], ◌∷◌}
+use Rattle.std.proofs.Common.{filter, length, refl, ap, ◌∙◌, arith}
 use Rattle.std.specs.List.{list_any}
 use Rattle.std.proofs.lemmas.Bool.{eqb-true}
 use Rattle.do_packet.specs.Met.{has_object}
 use Rattle.do_machine.specs.declared.node.Node.{Node}
 use Rattle.do_machine.specs.declared.node.Stored.{Stored}
-use Rattle.do_machine.specs.State.{own, stored}
+use Rattle.do_machine.specs.State.{own}
 use Rattle.do_machine.specs.held.Kept.{is_held_up, is_root, kept, stays, struck, struck_by}
 use Rattle.do_machine.specs.held.Refers.{heap_objects, stack_objects}
 use Rattle.do_facts.specs.links.Moves.{is_there}
+use Rattle.std.proofs.lemmas.Bool.Decides.{nat_tests}
 
 -- an object is there still, where each of its serial passes
 there_still : (f : Stored → Bool) (s : ℕ) →
     ((x : Stored) → (x.serial == s) ≡ true → f x ≡ true) → (heap : List Stored) →
     is_there heap s ≡ true → is_there (filter f heap) s ≡ true
 there_still f s pass [] h = h
-there_still f s pass (x ∷ heap) h =
-    go (x.serial == s) refl (f x) refl (there_still f s pass heap) h
-  where
-    go : (b : Bool) → (x.serial == s) ≡ b → (c : Bool) → f x ≡ c →
-        (is_there heap s ≡ true → is_there (filter f heap) s ≡ true) →
-        is_some (cond b (Some x) (stored s heap)) ≡ true →
-        is_there (cond c (x ∷ filter f heap) (filter f heap)) s ≡ true
-    go true e true g rest k = ap (λ b. is_some (cond b (Some x) (stored s (filter f heap)))) e
-    go true e false g rest k = absurd (no (pass x e) g)
-      where
-        no : f x ≡ true → f x ≡ false → ⊥
-        no y z = cc
-    go false e true g rest k =
-        ap (λ b. is_some (cond b (Some x) (stored s (filter f heap)))) e ∙ rest k
-    go false e false g rest k = rest k
+there_still f s pass (x ∷ heap) h = grind (arith, h, pass x, there_still f s pass heap)
 
 module _ (entry : ℕ → ℕ → Bool) (n : Node) (s : ℕ) (up : is_held_up entry n s ≡ true) where
   -- what is held up stays
@@ -76,13 +62,4 @@ entry_holds_up entry n m s ends e =
     among : (ps : List ℕ) → list_any (λ p. p == m) ps ≡ true →
         list_any (λ peer. entry peer s) ps ≡ true
     among [] h = absurd (cc)
-    among (p ∷ ps) h = go (p == m) refl (among ps) h
-      where
-        go : (b : Bool) → (p == m) ≡ b → (list_any (λ q. q == m) ps ≡ true →
-            list_any (λ peer. entry peer s) ps ≡ true) →
-            (b || list_any (λ q. q == m) ps) ≡ true →
-            (entry p s || list_any (λ peer. entry peer s) ps) ≡ true
-        go true h rest k =
-            ap (λ b. b || list_any (λ peer. entry peer s) ps)
-            (ap (λ q. entry q s) (eqb-true p m h) ∙ e)
-        go false h rest k = last (entry p s) (list_any (λ peer. entry peer s) ps) (rest k)
+    among (p ∷ ps) h = grind (arith, nat_tests, h, e, among ps)

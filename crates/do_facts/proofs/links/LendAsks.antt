@@ -33,37 +33,8 @@ module _ (net : Net Links Atom) (a : ℕ) (one : EachLend net)
   lends to o x y z u v =
       let p = net.part a in
       let l = next_lend p to o in
-      record {
-        once = λ h. grind (arith, steps, one x y z u v, fresh x y z u v);
-        most = λ h. grind (
-          arith,
-          steps,
-          one x y z u v,
-          fresh x y z u v,
-          lent_more y v z u l p.lent,
-        );
-        least = λ h. grind (
-          arith,
-          steps,
-          one x y z u v,
-          fresh x y z u v,
-          lent_more y v z u l p.lent,
-        );
-        known = λ h. grind (
-          arith,
-          steps,
-          one x y z u v,
-          fresh x y z u v,
-          lent_more y v z u l p.lent,
-        );
-        told = λ h. grind (
-          arith,
-          steps,
-          one x y z u v,
-          fresh x y z u v,
-          lends_more y v l p.lent,
-        );
-      }
+      let lent = lent_more y v z u l p.lent in
+      grind (arith, steps, one x y z u v, fresh x y z u v, lent, lends_more y v l p.lent)
 
   -- an end is closed
   pub closes : (peer : ℕ) (names : List ℕ) →
@@ -74,13 +45,7 @@ module _ (net : Net Links Atom) (a : ℕ) (one : EachLend net)
       let other = lends_apart y v peer p.lent in
       let mine = open_less y peer p.open_to in
       let theirs = open_less x peer p.open_to in
-      record {
-        once = λ h. grind (arith, steps, one x y z u v);
-        most = λ h. grind (arith, steps, one x y z u v, lent, mine);
-        least = λ h. grind (arith, steps, one x y z u v, lent, mine, theirs);
-        known = λ h. grind (arith, steps, one x y z u v, lent, mine);
-        told = λ h. grind (arith, steps, one x y z u v, other, mine);
-      }
+      grind (arith, steps, one x y z u v, lent, mine, theirs, other)
 
   module _ (h s l t : ℕ) (asked : asked_in net a h s l t ≡ true) where
     -- the ask that is answered
@@ -94,22 +59,8 @@ module _ (net : Net Links Atom) (a : ℕ) (one : EachLend net)
         let p = net.part a in
         let less = asked_less z u x v ask p.asked in
         let same = tokens x v z u y h s y in
-        record {
-          once = λ d. grind (arith, steps, one x y z u v, less);
-          most = λ d. grind (arith, steps, one x y z u v, one x y h s v, less, same, o, asked);
-          least = λ d. grind (arith, steps, one x y z u v, one x y h s v, less, same, o, asked);
-          known = λ d. grind (arith, steps, one x y z u v, less);
-          told = λ d. grind (
-            arith,
-            steps,
-            one x y z u v,
-            one x y h s v,
-            less,
-            o,
-            asked,
-            lent_lends y v h s (net.part x).lent,
-          );
-        }
+        let lent = lent_lends y v h s (net.part x).lent in
+        grind (arith, steps, one x y z u v, less, one x y h s v, same, o, asked, lent)
 
     -- an ask is over, and the lender can't be told
     pub keeps_quiet : opens (net.part a) l ≡ false →
@@ -117,13 +68,7 @@ module _ (net : Net Links Atom) (a : ℕ) (one : EachLend net)
     keeps_quiet o x y z u v =
         let p = net.part a in
         let less = asked_less z u x v ask p.asked in
-        record {
-          once = λ d. grind (arith, steps, one x y z u v, less);
-          most = λ d. grind (arith, steps, one x y z u v, less);
-          least = λ d. grind (arith, steps, one x y z u v, less, o);
-          known = λ d. grind (arith, steps, one x y z u v, less);
-          told = λ d. grind (arith, steps, one x y z u v, less);
-        }
+        grind (arith, steps, one x y z u v, less, o)
 
   -- an object that was lent is asked for
   pub asks : (from h s t : ℕ) (rest : List Atom) (asked : List Wanted) →
@@ -158,13 +103,7 @@ module _ (net : Net Links Atom) (a : ℕ) (one : EachLend net)
   returns from h s t rest e x y z u v =
       let same = tokens x v z u y h s y in
       let lent = lent_lends y v h s (net.part x).lent in
-      record {
-        once = λ d. grind (arith, steps, one x y z u v, e);
-        most = λ d. grind (arith, steps, one x y z u v, one x y h s v, e, same);
-        least = λ d. grind (arith, steps, one x y z u v, one x y h s v, e, same);
-        known = λ d. grind (arith, steps, one x y z u v, e);
-        told = λ d. grind (arith, steps, one x y z u v, one x y h s v, e, lent);
-      }
+      grind (arith, steps, one x y z u v, e, one x y h s v, same, lent)
 
   -- a lend is known to be over
   pub settles : (from number h s : ℕ) (rest : List Atom) →
@@ -176,19 +115,4 @@ module _ (net : Net Links Atom) (a : ℕ) (one : EachLend net)
       let p = net.part a in
       let less = lent_less y v z u from number p.lent in
       let other = lends_less y v from number p.lent in
-      record {
-        once = λ d. grind (arith, steps, one x y z u v, e);
-        most = λ d. grind (arith, steps, one x y z u v, e, less);
-        least = λ d. grind (arith, steps, one x y z u v, e, less);
-        known = λ d. grind (arith, steps, one x y z u v, e, o, less);
-        told = λ d. grind (
-          arith,
-          steps,
-          one x y z u v,
-          one a from h s number,
-          e,
-          o,
-          there,
-          other,
-        );
-      }
+      grind (arith, steps, one x y z u v, e, less, o, one a from h s number, there, other)

@@ -188,14 +188,9 @@ module _ (net : Net Links Atom) (a : ℕ) (hold : LinksHold net) where
   -- a lend of which the end is told is lent
   lend_known : (from number : ℕ) (rest : List Atom) → opens p from ≡ true →
       net.wire from a ≡ Atoms.Settled number ∷ rest → lends_to net a number from ≡ true
-  lend_known from number rest o e = go (lends_to net a number from) refl
-    where
-      go : (b : Bool) → lends_to net a number from ≡ b → b ≡ true
-      go true k = refl
-      go false k =
-          let none = (hold.lends a from 0 0 number).told (λ x. other net a hold from o (sym x)) o
-          k in
-          absurd (grind (arith, nat_tests, none, e))
+  lend_known from number rest o e =
+      let told = (hold.lends a from 0 0 number).told (λ x. other net a hold from o (sym x)) o in
+      grind (arith, nat_tests, told, e)
 
   -- a lend is known to be over
   settles : (from number : ℕ) → opens p from ≡ true →

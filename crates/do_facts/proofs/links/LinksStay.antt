@@ -1,19 +1,18 @@
 -- Where what a node takes and posts counts for no lend and for no ask, each is where it was.
-use Rattle.std.proofs.Common.{◌≡◌, ◌==◌, ◌+◌, ◌≤◌, ◌∙◌, ℕ, Bool, true, false, cond, List, [], ◌∷◌}
-use Rattle.std.proofs.Common.{refl, sym, ap, subst, arith}
+use Rattle.std.proofs.Common.{◌≡◌, ◌+◌, ◌∙◌, ℕ, Bool, List, [], refl, ap, subst, arith}
 use Rattle.std.specs.List.{list_any}
-use Rattle.std.proofs.lemmas.Bool.{eqb-true}
 use Rattle.do_base.specs.names.Names.{ObjectName}
 use Rattle.do_machine.specs.Objects.{object_at}
 use Rattle.do_machine.specs.lend.Asking.{wanted}
 use Rattle.do_machine.specs.lend.Lending.{is_lend}
 use Rattle.do_facts.specs.Net.{Net, Note, StandFirst, atoms_of, net_after, total}
 use Rattle.do_facts.specs.links.Facts.{EachAsk, EachFresh, EachLend, answer_of, ask_of, asked_in}
-use Rattle.do_facts.specs.links.Facts.{back_of, is_lent_to, lend_out, settled, way_of}
+use Rattle.do_facts.specs.links.Facts.{back_of, is_lent_to, lend_out, way_of}
 use Rattle.do_facts.specs.links.Links.{Atom, Links}
 use Rattle.do_facts.specs.links.Moves.{has_wanted, note, opens}
 use Rattle.do_facts.proofs.SumsOfLists.{number_if}
 use Rattle.do_facts.proofs.Nets.{net_twice, part_here, total_stays}
+use Rattle.std.proofs.lemmas.Bool.Decides.{nat_tests}
 
 -- notes that count for no lend: none is on its way, and none over
 pub record NoLends (xs : List (Note Atom)) : Type 0 where
@@ -28,11 +27,7 @@ pub record NoAsks (xs : List (Note Atom)) : Type 0 where
 -- an atom that counts for nothing counts for nothing as a note
 pub weightless : (f : Atom → ℕ) (peer y : ℕ) (x : Atom) → f x ≡ 0 →
     total f (atoms_of y (note peer x)) ≡ 0
-weightless f peer y x none = go (peer == y)
-  where
-    go : (b : Bool) → total f (cond b (x ∷ []) []) ≡ 0
-    go true = omega (arith, none)
-    go false = refl
+weightless f peer y x none = grind (arith, nat_tests, none)
 
 -- an atom that counts for no lend
 pub no_lend : (peer : ℕ) (x : Atom) → ((h s t : ℕ) → way_of h s t x ≡ 0) →
@@ -70,11 +65,7 @@ module _ (net : Net Links Atom) (a : ℕ) (held : List ObjectName) (taken sent :
   -- what is read of a part beside what is held is as it was
   pub as_was : {X : Type 0} → (read : Links → X) → read q ≡ read (net.part a) → (x : ℕ) →
       read (now.part x) ≡ read (net.part x)
-  as_was {X} read same x = go (x == a) refl
-    where
-      go : (b : Bool) → (x == a) ≡ b → read (cond b q (net.part x)) ≡ read (net.part x)
-      go true e = same ∙ ap (λ y. read (net.part y)) (sym (eqb-true x a e))
-      go false e = refl
+  as_was {X} read same x = grind (arith, nat_tests, same)
 
   -- a sum along a wire is as it was
   abbrev Stays : (Atom → ℕ) → ℕ → ℕ → Type 0
@@ -105,21 +96,11 @@ module _ (net : Net Links Atom) (a : ℕ) (held : List ObjectName) (taken sent :
         let was = one x y z u v in
         let out = out_stays x y z u v in
         let back = back_stays v y x in
-        let sum = ap (λ (k : ℕ). k + settled now x y v) out
-        ∙ ap (λ (k : ℕ). lend_out net x y z u v + k) back
-        in
         let mine = as_was (λ r. opens r y) refl x in
         let theirs = as_was (λ r. opens r x) refl y in
         let lent = as_was (λ r. list_any (is_lent_to y v z u) r.lent) refl x in
         let lends = as_was (λ r. list_any (is_lend y v) r.lent) refl x in
-        record {
-          once = λ d. subst (λ k. k ≤ 1) (sym out) (was.once d);
-          most = λ d o l. subst (λ k. k ≤ 1) (sym sum)
-              (was.most d (sym mine ∙ o) (sym lent ∙ l));
-          least = λ d o t l. sum ∙ was.least d (sym mine ∙ o) (sym theirs ∙ t) (sym lent ∙ l);
-          known = λ d o l. out ∙ was.known d (sym mine ∙ o) (sym lent ∙ l);
-          told = λ d o l. back ∙ was.told d (sym mine ∙ o) (sym lends ∙ l);
-        }
+        grind (arith, was, out, back, mine, theirs, lent, lends)
 
     -- each token that was not given is nowhere still
     pub fresh_stay : EachFresh net → EachFresh now
@@ -128,11 +109,7 @@ module _ (net : Net Links Atom) (a : ℕ) (held : List ObjectName) (taken sent :
         let token = as_was (λ r. r.token) refl x in
         let lent = as_was (λ r. list_any (is_lent_to y v z u) r.lent) refl x in
         let lends = as_was (λ r. list_any (is_lend y v) r.lent) refl x in
-        record {
-          unlent = λ d. lent ∙ was.unlent (subst (λ k. k ≤ v) token d);
-          untold = λ d. lends ∙ was.untold (subst (λ k. k ≤ v) token d);
-          unsent = λ d. out_stays x y z u v ∙ was.unsent (subst (λ k. k ≤ v) token d);
-        }
+        grind (arith, was, token, lent, lends, out_stays x y z u v)
 
   -- each ask is where it was
   pub asks_stay : NoAsks taken → NoAsks sent → EachAsk net → EachAsk now
@@ -147,13 +124,7 @@ module _ (net : Net Links Atom) (a : ℕ) (held : List ObjectName) (taken sent :
       in
       let mine = as_was (λ r. opens r z) refl x in
       let asked = as_was (λ r. has_wanted r (wanted (object_at z u) w v)) refl x in
-      record {
-        once = λ d o.
-            ap (λ (k : ℕ). k + total (answer_of u w v) (now.wire z x)) ask
-            ∙ ap (λ (k : ℕ). total (ask_of u w v) (net.wire x z) + k) answer
-            ∙ (asks x z u w v).once d (sym mine ∙ o)
-            ∙ ap number_if (sym asked);
-      }
+      grind (arith, asks x z u w v, ask, answer, mine, asked)
 
 -- what holds once an atom is taken, and then the links change and more is posted, holds where this
 -- comes at once

@@ -33,22 +33,14 @@ module _ (h s l t : ℕ) where
   asked_more w xs =
       sym (list_any-IsPermutation (same_wanted (wanted (object_at h s) l t)) (w ∷ xs)
       (inserted wanted_lt w xs) (inserted_moves wanted_lt w xs))
-      ∙ go (list_any (same_wanted (wanted (object_at h s) l t)) xs)
-    where
-      go : (b : Bool) → (same_wanted (wanted (object_at h s) l t) w || b)
-          ≡ (if is_ask w h s l t then true else b)
-      go b = grind (arith, nat_tests)
+      ∙ grind (arith, nat_tests)
 
   -- among the asks without one
   pub asked_less : (w : Wanted) (xs : List Wanted) →
       list_any (same_wanted (wanted (object_at h s) l t)) (filter (λ v. not (same_wanted w v)) xs)
       ≡ (if is_ask w h s l t then false
       else list_any (same_wanted (wanted (object_at h s) l t)) xs)
-  asked_less w [] = go (is_ask w h s l t)
-    where
-      go : (b : Bool) → false ≡ (if b then false else false)
-      go true = refl
-      go false = refl
+  asked_less w [] = grind (arith, nat_tests)
   asked_less w (x ∷ xs) = grind (arith, nat_tests, asked_less w xs)
 
 -- a lend is of these numbers
@@ -63,11 +55,7 @@ module _ (b t h s : ℕ) where
       list_any (is_lent_to b t h s) (xs ++ l ∷ [])
       ≡ (if is_lend_of l b t h s then true else list_any (is_lent_to b t h s) xs)
   lent_more l xs =
-      list_any-append (is_lent_to b t h s) xs (l ∷ []) ∙ go (list_any (is_lent_to b t h s) xs)
-    where
-      go : (c : Bool) → (c || (is_lent_to b t h s l || false))
-          ≡ (if is_lend_of l b t h s then true else c)
-      go c = grind (arith, nat_tests)
+      list_any-append (is_lent_to b t h s) xs (l ∷ []) ∙ grind (arith, nat_tests)
 
   -- without those to a peer
   pub lent_apart : (peer : ℕ) (xs : List Lend) →
@@ -91,11 +79,7 @@ module _ (b t : ℕ) where
       ≡ (if b == l.borrower then (if t == l.number then true else list_any (is_lend b t) xs)
       else list_any (is_lend b t) xs)
   lends_more l xs =
-      list_any-append (is_lend b t) xs (l ∷ []) ∙ go (list_any (is_lend b t) xs)
-    where
-      go : (c : Bool) → (c || (is_lend b t l || false))
-          ≡ (if b == l.borrower then (if t == l.number then true else c) else c)
-      go c = grind (arith, nat_tests)
+      list_any-append (is_lend b t) xs (l ∷ []) ∙ grind (arith, nat_tests)
 
   -- without those to a peer
   pub lends_apart : (peer : ℕ) (xs : List Lend) →

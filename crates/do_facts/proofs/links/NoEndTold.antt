@@ -1,6 +1,6 @@
 -- Over an end that is open no end was told that names an object, whatever happens.
-use Rattle.std.proofs.Common.{◌≡◌, ◌==◌, ◌++◌, ◌≤◌, ℕ, zero, suc, Bool, true, false, cond, List, []}
-use Rattle.std.proofs.Common.{◌∷◌, drop, length, refl, sym, subst, arith}
+use Rattle.std.proofs.Common.{◌≡◌, ◌≤◌, ℕ, zero, suc, Bool, true, false, List, [], ◌∷◌, drop}
+use Rattle.std.proofs.Common.{length, refl, arith}
 use Rattle.std.proofs.lemmas.Bool.Decides.{nat_tests}
 use Rattle.do_base.specs.names.Names.{TokenName}
 use Rattle.do_machine.specs.ends.Closing.{serials_of}
@@ -9,9 +9,8 @@ use Rattle.do_facts.specs.Moves.{Happening, Happens, Keeps, Lost, Moved, net_the
 use Rattle.do_facts.specs.links.Facts.{EachSilent, told_of}
 use Rattle.do_facts.specs.links.Links.{Ask, Atom, End, Gone, Granted, Left, Lent, Links, Mine}
 use Rattle.do_facts.specs.links.Links.{Settled, Yours}
-use Rattle.do_facts.specs.links.Moves.{Asks, AsksOnce, Closes, Ends, Frees, GivesUp, Grants, Holds}
-use Rattle.do_facts.specs.links.Moves.{Hears, Leaves, Lends, Mentions, Misses, Move, Names}
-use Rattle.do_facts.specs.links.Moves.{Receives, Refuses, Returns, Settles, Stores, Strikes, closed}
+use Rattle.do_facts.specs.links.Moves.{Asks, Closes, Ends, GivesUp, Grants, Leaves, Lends, Mentions}
+use Rattle.do_facts.specs.links.Moves.{Misses, Move, Names, Receives, Refuses, Returns, closed}
 use Rattle.do_facts.specs.links.Moves.{link_rules, moved, note, opens, posts, takes, telling}
 use Rattle.do_facts.proofs.Notes.{total-append}
 use Rattle.do_facts.proofs.links.ListsChanged.{open_less, was_open}
@@ -29,11 +28,7 @@ IsSilent q sent = (z s : ℕ) → opens q z ≡ true → total (told_of s) (atom
 -- an atom that is no end
 silent_note : (q : Links) (to : ℕ) (x : Atom) → ((s : ℕ) → told_of s x ≡ 0) →
     IsSilent q (note to x)
-silent_note q to x none z s o = go (to == z)
-  where
-    go : (b : Bool) → total (told_of s) (cond b (x ∷ []) []) ≡ 0
-    go true = omega (arith, none s)
-    go false = refl
+silent_note q to x none z s o = grind (arith, nat_tests, none s)
 
 -- a lender that is told, or not
 silent_telling : (q : Links) (told : Bool) (token : TokenName) → IsSilent q (telling told token)
@@ -43,11 +38,7 @@ silent_telling q false token = λ z s o. refl
 -- an end that goes over the end that is closed
 silent_end : (p : Links) (peer : ℕ) (names : List ℕ) →
     IsSilent (closed peer p) (note peer (End names))
-silent_end p peer names z s o = go (peer == z) refl
-  where
-    go : (b : Bool) → (peer == z) ≡ b → total (told_of s) (cond b (End names ∷ []) []) ≡ 0
-    go true e = absurd (grind (arith, nat_tests, e, o, open_less z peer p.open_to))
-    go false e = refl
+silent_end p peer names z s o = grind (arith, nat_tests, o, open_less z peer p.open_to)
 
 module _ (net : Net Links Atom) (a : ℕ) (silent : EachSilent net) where
   -- the part of the node
@@ -58,33 +49,10 @@ module _ (net : Net Links Atom) (a : ℕ) (silent : EachSilent net) where
   silent_after : (q : Links) (taken sent : List (Note Atom)) →
       ((z : ℕ) → opens q z ≡ true → opens p z ≡ true) → IsSilent q sent →
       EachSilent (net_after a q taken sent net)
-  silent_after q taken sent open_still quiet x z s = go (x == a) refl
-    where
-      go : (b : Bool) → (x == a) ≡ b → opens (cond b q (net.part x)) z ≡ true →
-          total (told_of s) (cond b (net.wire x z ++ atoms_of z sent)
-          (cond (z == a) (drop (length (atoms_of x taken)) (net.wire x z)) (net.wire x z))) ≡ 0
-      go true e o =
-          omega (
-            arith,
-            total-append (told_of s) (net.wire x z) (atoms_of z sent),
-            quiet z s o,
-            silent x z s (subst (λ y. opens (net.part y) z ≡ true) (sym (same x e))
-                (open_still z o)),
-          )
-        where
-          same : (y : ℕ) → (y == a) ≡ true → y ≡ a
-          same y h = grind (arith, nat_tests, h)
-      go false e o = by (z == a)
-        where
-          by : (c : Bool) → total (told_of s)
-              (cond c (drop (length (atoms_of x taken)) (net.wire x z)) (net.wire x z)) ≡ 0
-          by true =
-              omega (
-                arith,
-                total_dropped (told_of s) (length (atoms_of x taken)) (net.wire x z),
-                silent x z s o,
-              )
-          by false = silent x z s o
+  silent_after q taken sent open_still quiet x z s o =
+      let more = total-append (told_of s) (net.wire x z) (atoms_of z sent) in
+      let less = total_dropped (told_of s) (length (atoms_of x taken)) (net.wire x z) in
+      grind (arith, nat_tests, o, more, less, quiet z s, silent x z s, open_still z)
 
   -- any move
   silent_moved : (v : Move) → EachSilent (net_after a (moved p v) (takes v) (posts p v) net)
@@ -93,24 +61,7 @@ module _ (net : Net Links Atom) (a : ℕ) (silent : EachSilent net) where
       opened : (v : Move) (z : ℕ) → opens (moved p v) z ≡ true → opens p z ≡ true
       opened (Closes peer) z o = was_open p peer z o
       opened (Ends from serials) z o = was_open p from z o
-      opened (Names to s) z o = o
-      opened (Lends to o) z h = h
-      opened (Leaves o) z h = h
-      opened (GivesUp w told) z o = o
-      opened (Holds from s) z o = o
-      opened (Asks from o t) z h = h
-      opened (AsksOnce from o t) z h = h
-      opened (Returns from o t) z h = h
-      opened (Grants from s k) z o = o
-      opened (Refuses from s k) z o = o
-      opened (Receives from s k told) z o = o
-      opened (Misses from s k told) z o = o
-      opened (Settles from number) z o = o
-      opened (Frees from s) z o = o
-      opened (Mentions to s) z o = o
-      opened (Hears from s) z o = o
-      opened (Stores heap serial) z o = o
-      opened (Strikes heap) z o = o
+      opened v z o = o
 
       quiet : (v : Move) → IsSilent (moved p v) (posts p v)
       quiet (Closes peer) = silent_end p peer (serials_of peer p.held)
@@ -119,19 +70,15 @@ module _ (net : Net Links Atom) (a : ℕ) (silent : EachSilent net) where
       quiet (Lends to o) = silent_note (moved p (Lends to o)) to (Lent o p.token) (λ s. refl)
       quiet (Leaves o) = silent_note (moved p (Leaves o)) o.node (Left o.serial) (λ s. refl)
       quiet (GivesUp w told) = silent_telling (moved p (GivesUp w told)) told w.token
-      quiet (Holds from s) = λ z s o. refl
       quiet (Asks from o t) =
           silent_note (moved p (Asks from o t)) o.node
           (Ask o.serial (record { lender = from; number = t })) (λ s. refl)
-      quiet (AsksOnce from o t) = λ z s o. refl
       quiet (Returns from o t) = silent_note p from (Settled t) (λ s. refl)
       quiet (Grants from s k) = silent_note p from (Granted s k) (λ s. refl)
       quiet (Refuses from s k) = silent_note p from (Gone s k) (λ s. refl)
       quiet (Receives from s k told) = silent_telling (moved p (Receives from s k told)) told k
       quiet (Misses from s k told) = silent_telling (moved p (Misses from s k told)) told k
-      quiet (Frees from s) = λ z s o. refl
       quiet (Mentions to s) = silent_note p to (Yours s) (λ s. refl)
-      quiet (Hears from s) = λ z s o. refl
       quiet _ = λ z s o. refl
 
 -- whatever happens

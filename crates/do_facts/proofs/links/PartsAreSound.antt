@@ -1,7 +1,6 @@
 -- Every move keeps what every node keeps of foreign objects.
 use Rattle.std.proofs.Common.{◌≡◌, ◌==◌, ◌⊎◌, ◌++◌, ◌<◌, ℕ, suc, Bool, true, false, cond, not, List}
 use Rattle.std.proofs.Common.{[], ◌∷◌, filter, refl, ap, ◌∙◌, arith, inl, inr}
-use Rattle.std.specs.List.{list_any}
 use Rattle.std.proofs.lemmas.Bool.Decides.{nat_tests}
 use Rattle.do_base.specs.names.Names.{ObjectName}
 use Rattle.do_packet.specs.Met.{has_object, same_object}
@@ -22,6 +21,7 @@ use Rattle.do_facts.specs.links.Moves.{may, moved, next_lend, opens, with_held, 
 use Rattle.do_facts.specs.links.Sound.{IsSound}
 use Rattle.do_facts.proofs.OnceInLists.{once_filtered, once_inserted}
 use Rattle.do_facts.proofs.links.SameIsEqual.{object_flips, object_is, wanted_flips}
+use Rattle.do_facts.proofs.links.ListsChanged.{open_less}
 
 -- an object more is held once
 held_once : (os : List ObjectName) (o : ObjectName) → StandOnce same_object os →
@@ -49,12 +49,7 @@ module _ (p : Links) (sound : IsSound p) where
   -- other lends under another token
   sound_lent : (lent : List Lend) (token : ℕ) →
       IsSound (record p { lent = lent; token = token })
-  sound_lent lent token = record {
-    held = sound.held;
-    reached = sound.reached;
-    asked = sound.asked;
-    given = sound.given;
-  }
+  sound_lent lent token = grind arith
 
   -- an ask less
   sound_less : (w : Wanted) → IsSound (without_ask w p)
@@ -69,12 +64,7 @@ module _ (p : Links) (sound : IsSound p) where
   sound_stored : (heap : List Stored) (serial : ℕ) →
       ((s : ℕ) → is_there heap s ≡ true → s < serial) →
       IsSound (record p { heap = heap; serial = serial })
-  sound_stored heap serial given = record {
-    held = sound.held;
-    reached = sound.reached;
-    asked = sound.asked;
-    given = given;
-  }
+  sound_stored heap serial given = grind arith
 
   -- an object of an open end is held
   sound_held : (from serial : ℕ) → opens p from ≡ true →
@@ -89,12 +79,6 @@ module _ (p : Links) (sound : IsSound p) where
     given = sound.given;
   }
 
-  -- an end that is open still
-  still_open : (peer x : ℕ) (ps : List ℕ) → list_any (λ q. q == x) ps ≡ true →
-      not (x == peer) ≡ true → list_any (λ q. q == x) (filter (λ q. not (q == peer)) ps) ≡ true
-  still_open peer x [] h k = h
-  still_open peer x (q ∷ ps) h k = grind (arith, nat_tests, h, k, still_open peer x ps)
-
   -- an end is closed
   sound_closed : (peer : ℕ) → IsSound (closed peer p)
   sound_closed peer =
@@ -102,8 +86,9 @@ module _ (p : Links) (sound : IsSound p) where
       record {
         held = once_filtered same_object away p.held sound.held;
         reached = λ o h.
-            still_open peer o.node p.open_to (sound.reached o (has_passing away p.held o h))
-            (passes_among away p.held o h);
+            let was = sound.reached o (has_passing away p.held o h) in
+            let other = passes_among away p.held o h in
+            grind (arith, nat_tests, was, other, open_less o.node peer p.open_to);
         asked = sound.asked;
         given = sound.given;
       }

@@ -21,25 +21,15 @@ module _ (net : Net Links Atom) (a : ℕ) (heap : List Stored) (serial : ℕ) wh
 
   -- each lend is where it was
   lends_stored : EachLend net → EachLend after
-  lends_stored one x y z u v = record {
-    once = λ d. grind (arith, steps, one x y z u v);
-    most = λ d. grind (arith, steps, one x y z u v);
-    least = λ d. grind (arith, steps, one x y z u v);
-    known = λ d. grind (arith, steps, one x y z u v);
-    told = λ d. grind (arith, steps, one x y z u v);
-  }
+  lends_stored one x y z u v = grind (arith, steps, one x y z u v)
 
   -- each token that was not given is nowhere still
   fresh_stored : EachFresh net → EachFresh after
-  fresh_stored fresh x y z u v = record {
-    unlent = λ d. grind (arith, steps, fresh x y z u v);
-    untold = λ d. grind (arith, steps, fresh x y z u v);
-    unsent = λ d. grind (arith, steps, fresh x y z u v);
-  }
+  fresh_stored fresh x y z u v = grind (arith, steps, fresh x y z u v)
 
   -- each ask is where it was
   asks_stored : EachAsk net → EachAsk after
-  asks_stored asks x z u w v = record { once = λ d. grind (arith, steps, asks x z u w v) }
+  asks_stored asks x z u w v = grind (arith, steps, asks x z u w v)
 
   -- all of it
   pub stored_hold : LinksHold net → LinksHold after

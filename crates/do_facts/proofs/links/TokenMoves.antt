@@ -31,7 +31,7 @@ module _ (net : Net Links Atom) (a : ℕ) (q : Links) (taken sent : List (Note A
   pub tokens_same : EachToken net → q.lent ≡ (net.part a).lent →
       EachToken (net_after a q taken sent net)
   tokens_same tokens e x v z u y i r c =
-      record { same = grind (arith, steps, tokens x v z u y i r c, e) }
+      grind (arith, steps, tokens x v z u y i r c, e)
 
 module _ (net : Net Links Atom) (a : ℕ) (taken sent : List (Note Atom)) where
   -- an end is closed
@@ -45,30 +45,18 @@ module _ (net : Net Links Atom) (a : ℕ) (taken sent : List (Note Atom)) where
       EachToken (net_after a (closed peer (net.part a)) taken sent net)
   tokens_closed peer tokens x v z u y i r c =
       let lent = (net.part a).lent in
-      record {
-        same = grind (
-          arith,
-          steps,
-          tokens x v z u y i r c,
-          lent_apart y v z u peer lent,
-          lent_apart c v i r peer lent,
-        );
-      }
+      let first = lent_apart y v z u peer lent in
+      let second = lent_apart c v i r peer lent in
+      grind (arith, steps, tokens x v z u y i r c, first, second)
 
   -- a lend is over
   pub tokens_settled : (from number : ℕ) → EachToken net →
       EachToken (net_after a (moved (net.part a) (Settles from number)) taken sent net)
   tokens_settled from number tokens x v z u y i r c =
       let lent = (net.part a).lent in
-      record {
-        same = grind (
-          arith,
-          steps,
-          tokens x v z u y i r c,
-          lent_less y v z u from number lent,
-          lent_less c v i r from number lent,
-        );
-      }
+      let first = lent_less y v z u from number lent in
+      let second = lent_less c v i r from number lent in
+      grind (arith, steps, tokens x v z u y i r c, first, second)
 
 -- a lend among those with one more is that one, or was there
 lent_cases : (b t h s : ℕ) (l : Lend) (xs : List Lend) →
@@ -137,22 +125,12 @@ module _ (net : Net Links Atom) (a m : ℕ) (first rest : List Atom)
 
   -- each lend is where it was
   pub lends_lost : EachLend net → EachLend lost
-  lends_lost one x y z u v = record {
-    once = λ d. grind (arith, steps, one x y z u v, e);
-    most = λ d. grind (arith, steps, one x y z u v, e);
-    least = λ d. grind (arith, steps, one x y z u v, e);
-    known = λ d. grind (arith, steps, one x y z u v, e);
-    told = λ d. grind (arith, steps, one x y z u v, e);
-  }
+  lends_lost one x y z u v = grind (arith, steps, one x y z u v, e)
 
   -- and each token that was not given nowhere
   pub fresh_lost : EachFresh net → EachFresh lost
-  fresh_lost fresh x y z u v = record {
-    unlent = (fresh x y z u v).unlent;
-    untold = (fresh x y z u v).untold;
-    unsent = λ d. grind (arith, steps, fresh x y z u v, e);
-  }
+  fresh_lost fresh x y z u v = grind (arith, steps, fresh x y z u v, e)
 
   -- and each ask where it was
   pub asks_lost : EachAsk net → EachAsk lost
-  asks_lost asks x z u w v = record { once = λ d. grind (arith, steps, asks x z u w v, e) }
+  asks_lost asks x z u w v = grind (arith, steps, asks x z u w v, e)

@@ -1,8 +1,7 @@
 -- Which invocation an answer goes to.
-use Rattle.std.proofs.Common.{◌≡◌, ◌||◌, ℕ, Bool, true, false, cond, List, [], ◌∷◌, ◌++◌, refl}
-use Rattle.std.proofs.Common.{sym, ap, ◌∙◌, subst, arith}
+use Rattle.std.proofs.Common.{◌≡◌, ◌||◌, ℕ, Bool, true, false, List, [], ◌∷◌, ◌++◌, refl, sym}
+use Rattle.std.proofs.Common.{sym, ap, ◌∙◌, arith, subst}
 use Rattle.std.specs.Prelude.{All, IfSome, Option}
-use Rattle.std.specs.Bool.{beq}
 use Rattle.std.specs.List.{list_any}
 use Rattle.std.proofs.lemmas.Grind.{common_steps}
 use Rattle.std.proofs.lemmas.List.Elements.{All-head, All-tail}
@@ -10,19 +9,19 @@ use Rattle.std.proofs.lemmas.List.Sorted.{list_any-IsPermutation}
 use Rattle.do_base.specs.names.Names.{CallName}
 use Rattle.do_behave.specs.declared.invocation.Answer.{Answer}
 use Rattle.do_behave.specs.declared.invocation.Invocation.{Invocation}
-use Rattle.do_behave.specs.declared.invocation.InvState.{InvState}
 use Rattle.do_behave.specs.declared.invocation.InvState.TheVariants.{Waits}
 use Rattle.do_behave.specs.declared.invocation.Waited.{Waited}
 use Rattle.do_machine.specs.declared.node.LateCall.{LateCall}
 use Rattle.do_machine.specs.declared.node.Node.{Node}
-use Rattle.do_machine.specs.declared.state.Effect.{Effect}
 use Rattle.do_machine.specs.Lists.{inserted}
 use Rattle.do_machine.specs.ends.TimeOut.{give_up, late_lt, time_out, time_out_on}
 use Rattle.do_facts.specs.laws.Calls.{IsGivenUp, answered_call}
 use Rattle.do_machine.specs.take.Awaiting.{AnsweredCall, answering, awaits, is_answered}
-use Rattle.do_machine.specs.take.Awaiting.{is_for_root, stack_answered, with_answer}
+use Rattle.do_machine.specs.take.Awaiting.{stack_answered, with_answer}
 use Rattle.do_machine.proofs.Inserting.{inserted_moves}
 use Rattle.do_facts.proofs.machine.Parting.{none_left}
+use Rattle.do_behave.specs.declared.invocation.InvState.{InvState}
+use Rattle.do_machine.specs.declared.state.Effect.{Effect}
 
 -- no invocation of these waits for the answer
 abbrev NoneAwaits : AnsweredCall → List Invocation → Type 0
@@ -33,14 +32,11 @@ module _ (k : AnsweredCall) (answer : Waited → Answer) where
   caller_in : (above : List Invocation) (i : Invocation) (below : List Invocation) →
       NoneAwaits k above → awaits k i.state ≡ true →
       stack_answered k answer (above ++ i ∷ below) ≡ above ++ with_answer answer i ∷ below
-  caller_in [] i below none h =
-      ap (λ b. cond b (with_answer answer i ∷ below) (i ∷ stack_answered k answer below)) h
+  caller_in [] i below none h = rw h
   caller_in (j ∷ above) i below none h =
       let P : Invocation → Type 0 = λ x. awaits k x.state ≡ false in
-      let rest = above ++ i ∷ below in
-      ap (λ b. cond b (with_answer answer j ∷ rest) (j ∷ stack_answered k answer rest))
-      (All-head P j above none)
-      ∙ ap (λ l. j ∷ l) (caller_in above i below (All-tail P j above none) h)
+      rw (All-head P j above none)
+      (ap (λ l. j ∷ l) (caller_in above i below (All-tail P j above none) h))
 
   -- where none passes, nothing changes
   no_caller_in : (stack : List Invocation) → NoneAwaits k stack →
@@ -48,9 +44,8 @@ module _ (k : AnsweredCall) (answer : Waited → Answer) where
   no_caller_in [] none = refl
   no_caller_in (j ∷ stack) none =
       let P : Invocation → Type 0 = λ x. awaits k x.state ≡ false in
-      ap (λ b. cond b (with_answer answer j ∷ stack) (j ∷ stack_answered k answer stack))
-      (All-head P j stack none)
-      ∙ ap (λ l. j ∷ l) (no_caller_in stack (All-tail P j stack none))
+      rw (All-head P j stack none)
+      (ap (λ l. j ∷ l) (no_caller_in stack (All-tail P j stack none)))
 
   -- an answer goes to the first that waits for it
   pub finds_caller : (n : Node) (above : List Invocation) (i : Invocation)
@@ -70,37 +65,24 @@ module _ (k : AnsweredCall) (answer : Waited → Answer) where
       All (λ c. is_answered k c.peer c.number c.what ≡ false) (answering k answer n).node.late
   late_is_over n = none_left (λ c. is_answered k c.peer c.number c.what) n.late
 
--- a test is equal to itself
-beq_same : (b : Bool) → beq b b ≡ true
-beq_same true = refl
-beq_same false = refl
-
 -- a call is answered by its own answer
 answers_itself : (call : CallName) (peer : ℕ) (what : Waited) →
     is_answered (answered_call call peer what) peer call.number what ≡ true
-answers_itself call peer what = grind (arith, common_steps, beq_same (is_for_root what))
+answers_itself call peer what = grind (arith, common_steps)
 
--- a call that is given up is late, and its invocation has an exception
-given_up_state : (i : Invocation) (below : List Invocation) (call : CallName) (peer : ℕ)
-    (what : Waited) (n : Node) →
-    IfSome (give_up (Waits call peer what) i below n) (IsGivenUp i below call peer what)
-given_up_state i below call peer what n =
-    let c : LateCall = record { number = call.number; peer = peer; what = what } in
-    let k = answered_call call peer what in
-    let test : LateCall → Bool = λ d. is_answered k d.peer d.number d.what in
-    record {
-      stack = refl;
-      late = sym (list_any-IsPermutation test (c ∷ n.late) (inserted late_lt c n.late)
-          (inserted_moves late_lt c n.late))
-          ∙ ap (λ b. b || list_any test n.late) (answers_itself call peer what);
-    }
-
--- a time-out gives up the call of the top invocation
+-- a time-out gives up the call of the top invocation: it is late, and this has an exception
 pub given_up : (n : Node) (i : Invocation) (below : List Invocation) (call : CallName)
     (peer : ℕ) (what : Waited) → n.stack ≡ i ∷ below → i.state ≡ Waits call peer what →
     IfSome (time_out n) (IsGivenUp i below call peer what)
 given_up n i below call peer what stack state =
     let Q : Option Effect → Type 0 = λ e. IfSome e (IsGivenUp i below call peer what) in
+    let c : LateCall = record { number = call.number; peer = peer; what = what } in
+    let k = answered_call call peer what in
+    let test : LateCall → Bool = λ d. is_answered k d.peer d.number d.what in
     subst (λ (s : List Invocation). Q (time_out_on s n)) (sym stack)
-    (subst (λ (s : InvState). Q (give_up s i below n)) (sym state)
-    (given_up_state i below call peer what n))
+    (subst (λ (s : InvState). Q (give_up s i below n)) (sym state) (record {
+      stack = refl;
+      late = sym (list_any-IsPermutation test (c ∷ n.late) (inserted late_lt c n.late)
+          (inserted_moves late_lt c n.late))
+          ∙ ap (λ b. b || list_any test n.late) (answers_itself call peer what);
+    }))

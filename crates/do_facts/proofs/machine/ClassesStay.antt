@@ -1,13 +1,12 @@
 -- The class of an object stays.
-use Rattle.std.proofs.Common.{◌≡◌, ℕ, Bool, zero, suc, true, false, cond, List, [], ◌∷◌, ◌++◌}
-use Rattle.std.proofs.Common.{Option, Some, ◌==◌}
+use Rattle.std.proofs.Common.{◌≡◌, ℕ, zero, suc, List, [], ◌∷◌, ◌++◌, Option, Some, ◌==◌, arith}
 use Rattle.std.specs.Prelude.{option_and_then, slice_get}
 use Rattle.std.specs.List.{find}
 use Rattle.do_base.specs.names.Names.{ObjectName}
 use Rattle.do_class.specs.declared.ids.ClassId.{ClassId}
 use Rattle.do_machine.specs.declared.state.Effect.{Effect}
 use Rattle.do_machine.specs.declared.state.Station.{Station}
-use Rattle.do_machine.specs.Commit.{committed}
+use Rattle.do_machine.specs.Commit.{committed, born}
 use Rattle.do_machine.specs.Lists.{change_first}
 use Rattle.do_machine.specs.State.{class_given}
 
@@ -37,32 +36,10 @@ abbrev after : ℕ → Effect → List Station → List Station
 after port e ss = change_first (λ s. port == s.port) (committed e) ss
 
 module _ (port : ℕ) (e : Effect) (o : ObjectName) (class : ClassId) where
-  -- the station of the effect gave the classes that it gave before
-  at_first : (s : Station) (ss : List Station) (b : Bool) →
-      given_by o (cond b (Some s) (home_in o ss)) ≡ Some class →
-      given_by o (cond b (Some (committed e s)) (home_in o ss)) ≡ Some class
-  at_first s ss true h = class_stays s.classes _ o.serial class h
-  at_first s ss false h = h
-
-  -- another station is as it was
-  at_rest : (s : Station) (ss : List Station) (b : Bool) →
-      (given_by o (home_in o ss) ≡ Some class →
-      given_by o (home_in o (after port e ss)) ≡ Some class) →
-      given_by o (cond b (Some s) (home_in o ss)) ≡ Some class →
-      given_by o (cond b (Some s) (home_in o (after port e ss))) ≡ Some class
-  at_rest s ss true k h = h
-  at_rest s ss false k h = k h
-
   -- the class stays, whichever station is changed
   pub stays : (ss : List Station) → given_by o (home_in o ss) ≡ Some class →
       given_by o (home_in o (after port e ss)) ≡ Some class
   stays [] h = h
-  stays (s ∷ ss) h = go (port == s.port) (stays ss) h
-    where
-      go : (b : Bool) →
-          (given_by o (home_in o ss) ≡ Some class →
-          given_by o (home_in o (after port e ss)) ≡ Some class) →
-          given_by o (home_in o (s ∷ ss)) ≡ Some class →
-          given_by o (home_in o (cond b (committed e s ∷ ss) (s ∷ after port e ss))) ≡ Some class
-      go true k q = at_first s ss (o.node == s.port) q
-      go false k q = at_rest s ss (o.node == s.port) k q
+  stays (s ∷ ss) h =
+      let new = born s.node.next_serial e.node in
+      grind (arith, h, class_stays s.classes new o.serial class, stays ss)

@@ -1,11 +1,9 @@
 -- The nodes of a state stand by rising port.
-use Rattle.std.proofs.Common.{◌≡◌, ℕ, Bool, true, false, cond, List, [], ◌∷◌, map, refl, ap, ◌∙◌}
-use Rattle.std.proofs.Common.{subst, sym}
+use Rattle.std.proofs.Common.{◌≡◌, ℕ, List, [], ◌∷◌, map, refl, ap, ◌∙◌, subst, sym, arith}
 use Rattle.std.specs.Prelude.{◌==◌}
 use Rattle.std.specs.List.Sorted.{IsStrictlyIncreasing}
 use Rattle.do_base.specs.declared.events.event.Event.{Event}
 use Rattle.do_class.specs.Class.{Class}
-use Rattle.do_machine.specs.declared.node.Node.{Node}
 use Rattle.do_machine.specs.declared.state.Seat.{Seat}
 use Rattle.do_machine.specs.declared.state.State.{State}
 use Rattle.do_machine.specs.declared.state.Station.{Station}
@@ -18,28 +16,18 @@ use Rattle.do_machine.specs.run.Run.{Acting}
 use Rattle.do_machine.proofs.Inserting.{by_port_rises}
 use Rattle.do_facts.proofs.machine.follows.Moves.{Moves}
 use Rattle.do_facts.proofs.machine.follows.Steps.{by_any_step}
+use Rattle.do_facts.proofs.machine.passing.Linked.{Any}
 
 -- a station that changes but for its port leaves the ports as they are
 kept_ports : (port : ℕ) (f : Station → Station) → ((s : Station) → (f s).port ≡ s.port) →
     (ss : List Station) →
     map (λ s. s.port) (change_first (λ s. port == s.port) f ss) ≡ map (λ s. s.port) ss
 kept_ports port f h [] = refl
-kept_ports port f h (s ∷ ss) = go (port == s.port) (kept_ports port f h ss)
-  where
-    go : (b : Bool) →
-        map (λ x. x.port) (change_first (λ x. port == x.port) f ss) ≡ map (λ x. x.port) ss →
-        map (λ x. x.port) (cond b (f s ∷ ss) (s ∷ change_first (λ x. port == x.port) f ss))
-        ≡ s.port ∷ map (λ x. x.port) ss
-    go true e = ap (λ p. p ∷ map (λ x. x.port) ss) (h s)
-    go false e = ap (λ ps. s.port ∷ ps) e
+kept_ports port f h (s ∷ ss) = grind (arith, h s, kept_ports port f h ss)
 
 -- the ports are the same
 abbrev SamePorts : State → State → Type 0
 SamePorts S T = ports T ≡ ports S
-
--- nothing is asked of a node
-abbrev Any : Node → Node → Type 0
-Any n m = Unit {0}
 
 -- each move keeps the ports
 port_moves : Moves Any SamePorts

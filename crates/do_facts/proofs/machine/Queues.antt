@@ -1,6 +1,6 @@
 -- What is in the queues of stations once one queue has other items, or an effect sent some.
-use Rattle.std.proofs.Common.{◌≡◌, ◌==◌, ◌&&◌, ◌++◌, ℕ, cond, List, [], ◌∷◌, map, refl, ap, arith}
-use Rattle.std.specs.Prelude.{Bool, None, Option, Some, false, option_and_then, option_map, true}
+use Rattle.std.proofs.Common.{◌≡◌, ◌==◌, ◌&&◌, ◌++◌, ℕ, cond, List, [], ◌∷◌, map, refl, arith}
+use Rattle.std.specs.Prelude.{Option, Some, option_and_then, option_map}
 use Rattle.std.specs.List.{find}
 use Rattle.std.proofs.lemmas.Grind.{common_steps}
 use Rattle.do_machine.specs.declared.item.Item.{Item}
@@ -59,16 +59,3 @@ pub grows_behind : (port to : ℕ) (e : Effect) (ss : List Station) (waiting : L
     ≡ Some (waiting ++ items_to to e.sent)
 grows_behind port to e ss waiting h =
     grind (arith, common_steps, h, queue_behind port port to e ss)
-
--- where there is no queue once items were changed, there was none
-pub none_before : (b : Bool) (f : List Item → List Item) (found : Option (List Item)) →
-    cond b (option_map f found) found ≡ None → found ≡ None
-none_before true f None h = refl
-none_before true f (Some w) h = absurd (cc (h))
-none_before false f found h = h
-
--- and where there was none, there is none
-pub none_then : (b : Bool) (f : List Item → List Item) (found : Option (List Item)) →
-    found ≡ None → cond b (option_map f found) found ≡ None
-none_then true f found h = ap (option_map f) h
-none_then false f found h = h

@@ -1,6 +1,6 @@
 -- In every state that a machine comes to, each node stands at its own port.
-use Rattle.std.proofs.Common.{◌≡◌, ℕ, List, refl, sym, ap, ◌∙◌, map, subst}
-use Rattle.std.specs.Prelude.{None, Option, Some, unwrap_or}
+use Rattle.std.proofs.Common.{◌≡◌, ℕ, List, refl, ◌∙◌, map}
+use Rattle.std.specs.Prelude.{Option, Some}
 use Rattle.do_base.specs.declared.events.event.Event.{Event}
 use Rattle.do_class.specs.Class.{Class}
 use Rattle.do_machine.specs.declared.node.Node.{Node}
@@ -11,7 +11,7 @@ use Rattle.do_machine.specs.Step.{step}
 use Rattle.do_machine.specs.World.{by_port, opening}
 use Rattle.do_facts.specs.laws.Follows.{Grows}
 use Rattle.do_machine.specs.run.Run.{Acting}
-use Rattle.do_facts.proofs.machine.follows.Every.{grow_steps}
+use Rattle.do_facts.proofs.machine.follows.Every.{grow_steps, was}
 use Rattle.do_facts.proofs.OpeningAsNet.{opened}
 
 -- each node stands at its own port
@@ -31,15 +31,8 @@ module _ (table : List Class) (act : Acting) where
   pub was_there : (S : State) (event : Event) (port : ℕ) (m : Node) →
       node (step table act S event).state port ≡ Some m → (found : Option Node) →
       node S port ≡ found → (n : Node) × (node S port ≡ Some n) × Grows n m
-  was_there S event port m here None q =
-      absurd (no ((grow_steps table act S event).absent port q))
-    where
-      no : node (step table act S event).state port ≡ None → ⊥
-      no x = cc (x, here)
-  was_there S event port m here (Some n) q =
-      let r = (grow_steps table act S event).stands port n q in
-      let same : r.0 ≡ m = ap (λ x. unwrap_or x m) (sym r.1 ∙ here) in
-      (n, q, subst (Grows n) same r.2)
+  was_there S event =
+      was Grows S (step table act S event).state (grow_steps table act S event)
 
   -- a step
   pub step_home : (S : State) (event : Event) → AllAtHome S →

@@ -26,6 +26,8 @@ use Rattle.do_facts.proofs.machine.Frame.{elsewhere}
 use Rattle.do_facts.proofs.machine.follows.States.{changed, requeued}
 use Rattle.do_facts.specs.steps.IsStep.{Acts, Checks, IsActOf, IsStep, Loses, Skips, Takes}
 use Rattle.do_base.specs.declared.events.event.Event.TheVariants.{Check, Lose, Take}
+use Rattle.do_facts.proofs.machine.follows.Moves.{Moves}
+use Rattle.do_facts.proofs.machine.follows.Steps.{by_form}
 
 -- numbers that are equal to one number and not to the other
 differ : (other actor port : ℕ) → actor ≡ port → (other == actor) ≡ false →
@@ -104,26 +106,23 @@ class_requeued from to items o [] = refl
 class_requeued from to items o (s ∷ ss) = grind (arith, class_requeued from to items o ss)
 
 module _ (o : ObjectName) (class : ClassId) where
-  -- a move keeps the class
-  class_moved : (port : ℕ) (e : Effect) (S : State) → class_of S o ≡ Some class →
-      class_of (moved port S e).state o ≡ Some class
-  class_moved port e S h =
-      let U = commit port e S in
-      stays port (leaving (around U e.node).entry e.node) o class U.stations
-      (stays port e o class S.stations h)
+  -- the class was given
+  abbrev IsGiven : State → Type 0
+  IsGiven S = class_of S o ≡ Some class
+
+  -- each move keeps the class
+  class_moves : Moves (λ n m. Unit {0}) (λ S T. IsGiven S → IsGiven T)
+  class_moves = record {
+    same = λ S h. h;
+    after = λ S T U a b h. b (a h);
+    commits = λ port e S n here g. stays port e o class S.stations;
+    requeues = λ from to items S h. class_requeued from to items o S.stations ∙ h;
+  }
 
   -- a class that was given stays
   pub class_stays : {table : List Class} {act : Acting} (S : State)
       (event : Event) (s : Stepped) → IsStep table act S event s →
       class_of S o ≡ Some class → class_of s.state o ≡ Some class
-  class_stays S event s (Skips e) h = ap (λ x. class_of x.state o) e ∙ h
-  class_stays S event s (Acts port n d own here rule e) h =
-      ap (λ x. class_of x.state o) e ∙ class_moved port d S h
-  class_stays S event s (Takes port from n item rest d is here rule waits e) h =
-      ap (λ x. class_of x.state o) e
-      ∙ class_moved port d (change from (with_queue port rest) S)
-      (class_requeued from port rest o S.stations ∙ h)
-  class_stays S event s (Loses from to k waiting is waits few e) h =
-      ap (λ x. class_of x.state o) e
-      ∙ class_requeued from to (insert waiting k (items.End [])) o S.stations ∙ h
-  class_stays S event s (Checks is e) h = ap (λ x. class_of x.state o) e ∙ h
+  class_stays {table} {act} S =
+      by_form (λ n m. Unit {0}) (λ S T. IsGiven S → IsGiven T) class_moves (λ n m f. tt) table
+      act S (λ n m g. tt)

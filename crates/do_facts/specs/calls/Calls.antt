@@ -14,8 +14,11 @@ use Rattle.do_facts.specs.View.{View}
 -- what an invocation waits for: nothing, the one above it, or a call of a peer, which is for a root
 -- or not
 pub data Wait : Type 0 where
+  -- it waits for nothing
   Idle : Wait
+  -- it waits for the invocation above it
   Lower : Wait
+  -- it waits for the answer of a call, which is for a root or not
   On : (peer : ℕ) → (number : ℕ) → (root : Bool) → Wait
 
 -- why an invocation was begun, and what it waits for
@@ -33,9 +36,13 @@ pub record Calls : Type 0 where
 
 -- what one item says of a call: it is made, or answered, or for a root, or answered with a root
 pub data Atom : Type 0 where
+  -- a call is made
   Called : (number : ℕ) → Atom
+  -- a call is answered
   Answer : (number : ℕ) → Atom
+  -- a root is asked for
   RootAsk : (number : ℕ) → Atom
+  -- a root is given
   RootAnswer : (number : ℕ) → Atom
 
 -- what an invocation of a state waits for

@@ -19,6 +19,9 @@ pub record TakesNotice (S : State) (event : Event) (port : ℕ) (l : Lend) : Typ
 -- What becomes of a lend of the node of a port by an event, which makes another of it: the lend
 -- stays, or the end towards the borrower was open and is closed, or the borrower's notice is taken
 pub data Lasts (S : State) (event : Event) (port : ℕ) (n m : Node) (l : Lend) : Type 0 where
+  -- the lend stays
   Stays : IsIn m.lent l → Lasts S event port n m l
+  -- the end towards the borrower was open, and is closed
   Parts : is_open n l.borrower ≡ true → is_open m l.borrower ≡ false → Lasts S event port n m l
+  -- the borrower's notice is taken
   Ends : TakesNotice S event port l → Lasts S event port n m l

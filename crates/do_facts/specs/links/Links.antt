@@ -27,14 +27,23 @@ pub record Links : Type 0 where
 -- what one item says of one object. A serial is of an object of the sender in a name, a grant and a
 -- refusal, of the receiver in a mention, an ask, a release and an end
 pub data Atom : Type 0 where
+  -- an own object of the sender is named
   Mine : (serial : ℕ) → Atom
+  -- an object of the receiver is named
   Yours : (serial : ℕ) → Atom
+  -- an object of a third node is lent
   Lent : (object : ObjectName) → (token : ℕ) → Atom
+  -- a lent object is asked for
   Ask : (serial : ℕ) → (token : TokenName) → Atom
+  -- an ask is granted
   Granted : (serial : ℕ) → (token : TokenName) → Atom
+  -- an ask is refused
   Gone : (serial : ℕ) → (token : TokenName) → Atom
+  -- a lend is over
   Settled : (number : ℕ) → Atom
+  -- an object is released
   Left : (serial : ℕ) → Atom
+  -- the end is closed, and these objects are released
   End : (serials : List ℕ) → Atom
 
 -- that part of a node

@@ -40,11 +40,13 @@ pub data Move : Type 0 where
   AsksOnce : (from : ℕ) → (object : ObjectName) → (token : ℕ) → Move
   -- it can't be asked for, so the lend is over
   Returns : (from : ℕ) → (object : ObjectName) → (token : ℕ) → Move
-  -- an ask is granted, or refused
+  -- an ask is granted
   Grants : (from : ℕ) → (serial : ℕ) → (token : TokenName) → Move
+  -- an ask is refused
   Refuses : (from : ℕ) → (serial : ℕ) → (token : TokenName) → Move
-  -- an object that was asked for is held, or it is no more
+  -- an object that was asked for is held
   Receives : (from : ℕ) → (serial : ℕ) → (token : TokenName) → (told : Bool) → Move
+  -- an object that was asked for is no more
   Misses : (from : ℕ) → (serial : ℕ) → (token : TokenName) → (told : Bool) → Move
   -- a lend is over
   Settles : (from : ℕ) → (number : ℕ) → Move

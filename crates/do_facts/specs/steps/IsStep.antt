@@ -45,23 +45,25 @@ abbrev pub IsTakeOf : List Class → State → Node → ℕ → Item → Effect 
 IsTakeOf table T n from item e =
     (is_open n from ≡ true) × (e ≡ take_effect (context table T n) from item)
 
--- an event comes to one of these: it is skipped; its node moves, by the effect of the event's rule
--- and by what it frees and leaves then; its node takes the oldest item of one queue over an open
--- end and moves so; an end that names nothing is put into one queue; or it is a check, and the
--- state stays
+-- what an event comes to in a state
 pub data IsStep (table : List Class) (act : Acting) (S : State) (event : Event) (s : Stepped) :
     Type 0 where
+  -- it is skipped
   Skips : s ≡ skipped S → IsStep table act S event s
+  -- its node moves, by the effect of the event's rule and by what it frees and leaves then
   Acts : (port : ℕ) → (n : Node) → (e : Effect) → IsActOf port event → node S port ≡ Some n →
       IsRuleOf table act S event n e → s ≡ moved port S e → IsStep table act S event s
+  -- its node takes the oldest item of one queue over an open end, and moves so
   Takes : (port : ℕ) → (from : ℕ) → (n : Node) → (item : Item) → (rest : List Item) →
       (e : Effect) → event ≡ events.Take port from → node S port ≡ Some n →
       IsTakeOf table (without_oldest S from port rest) n from item e →
       queue S from port ≡ Some (item ∷ rest) → s ≡ moved port (without_oldest S from port rest) e →
       IsStep table act S event s
+  -- an end that names nothing is put into one queue
   Loses : (from : ℕ) → (to : ℕ) → (after : ℕ) → (waiting : List Item) →
       event ≡ events.Lose from to after → queue S from to ≡ Some waiting →
       after ≤ length waiting →
       s ≡ showed [] (change from (with_queue to (insert waiting after (items.End []))) S) →
       IsStep table act S event s
+  -- it is a check, and the state stays
   Checks : event ≡ events.Check → s ≡ showed [] S → IsStep table act S event s

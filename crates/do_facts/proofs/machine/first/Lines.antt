@@ -1,6 +1,5 @@
 -- Over the lines of version 1 the machine does what the rules of version 1 give.
-use Rattle.std.proofs.Common.{◌≡◌, ℕ, zero, suc, List, [], ◌∷◌, refl, ap, ◌∙◌}
-use Rattle.std.specs.Prelude.{replicate}
+use Rattle.std.proofs.Common.{◌≡◌, List, [], ◌∷◌, refl, ap, ◌∙◌}
 use Rattle.std.specs.List.{AllByRecursion}
 use Rattle.do_base.specs.declared.events.event.Event.{Event}
 use Rattle.do_base.specs.declared.events.event.Event.TheVariants as events
@@ -22,51 +21,39 @@ use Rattle.do_facts.specs.laws.first.Step.{AllOnTime}
 use Rattle.do_machine.specs.run.Run.{Acting}
 use Rattle.do_facts.proofs.machine.Opening.{opening_on_time}
 use Rattle.do_facts.proofs.machine.first.Steps.{same_step, stays_on_time}
+use Rattle.do_facts.proofs.EachOfLists.{each_replicated}
 
 -- no event is a time-out
 abbrev AreNoTimeOuts : List Event → Type 0
 AreNoTimeOuts = AllByRecursion IsNoTimeOut
 
--- runs are no time-outs
-runs_are_none : (port count : ℕ) → AreNoTimeOuts (replicate count (events.Run port))
-runs_are_none port zero = tt
-runs_are_none port (suc k) = (tt, runs_are_none port k)
-
--- nor are the events of a line of version 1
+-- nor is one of those of a line of version 1
 events_are_none : (l : Line) → IsLineOf First l → AreNoTimeOuts (events_of l)
-events_are_none (lines.Run port count) h = runs_are_none port count
+events_are_none (lines.Run port count) h =
+    each_replicated IsNoTimeOut count (events.Run port) tt
 events_are_none (lines.Timeout port) h = absurd (cc (h.0))
 events_are_none _ h = (tt, tt)
 
 module _ (table : List Class) (act : Acting) where
-  -- events that are no time-outs
+  -- events that are no time-outs, and after them no call is given up
   same_steps : (es : List Event) → AreNoTimeOuts es → (s : Stepped) → AllOnTime s.state →
-      steps table act es s ≡ steps_1 table act es s
-  same_steps [] q s h = refl
+      (steps table act es s ≡ steps_1 table act es s) × AllOnTime (steps table act es s).state
+  same_steps [] q s h = (refl, h)
   same_steps (e ∷ es) q s h =
-      same_steps es q.1 (followed s (step table act s.state e))
-      (stays_on_time table act s.state e q.0 h)
-      ∙ ap (λ t. steps_1 table act es (followed s t)) (same_step table act s.state e q.0 h)
-
-  -- after them no call is given up
-  stay_on_time : (es : List Event) → AreNoTimeOuts es → (s : Stepped) → AllOnTime s.state →
-      AllOnTime (steps table act es s).state
-  stay_on_time [] q s h = h
-  stay_on_time (e ∷ es) q s h =
-      stay_on_time es q.1 (followed s (step table act s.state e))
-      (stays_on_time table act s.state e q.0 h)
+      let t = step table act s.state e in
+      let r = same_steps es q.1 (followed s t) (stays_on_time table act s.state e q.0 h) in
+      let same = same_step table act s.state e q.0 h in
+      (r.0 ∙ ap (λ x. steps_1 table act es (followed s x)) same, r.1)
 
   -- lines of version 1
   same_blocks_from : (ls : List Line) → AllByRecursion (IsLineOf First) ls → (S : State) →
       AllOnTime S → blocks table act S ls ≡ blocks_1 table act S ls
   same_blocks_from [] good S h = refl
   same_blocks_from (l ∷ ls) good S h =
-      let q = events_are_none l good.0 in
       let s : Stepped = line_step table act S l in
-      ap (λ bs. block l s ∷ bs)
-      (same_blocks_from ls good.1 s.state (stay_on_time (events_of l) q (skipped S) h))
-      ∙ ap (λ t. block l t ∷ blocks_1 table act t.state ls)
-      (same_steps (events_of l) q (skipped S) h)
+      let r = same_steps (events_of l) (events_are_none l good.0) (skipped S) h in
+      ap (λ bs. block l s ∷ bs) (same_blocks_from ls good.1 s.state r.1)
+      ∙ ap (λ t. block l t ∷ blocks_1 table act t.state ls) r.0
 
 -- a schedule of version 1, from the opening on
 pub same_blocks : (table : List Class) (act : Acting) (seats : List Seat) (ls : List Line) →

@@ -17,7 +17,7 @@ use Rattle.do_machine.specs.Context.{Context, RunContext}
 use Rattle.do_machine.specs.Start.{start_effect}
 use Rattle.do_machine.specs.State.{own}
 use Rattle.do_machine.specs.ends.TimeOut.{time_out}
-use Rattle.do_machine.specs.lend.Lending.{lending, lends_of}
+use Rattle.do_machine.specs.lend.Lending.{lending, lends_of, posting}
 use Rattle.do_machine.specs.run.Answers.{answer_line, exc_name}
 use Rattle.do_machine.specs.run.Changes.{goes_on, goes_to, stands, uses_number}
 use Rattle.do_machine.specs.run.Delivery.{below_answered, popped, with_top}
@@ -25,11 +25,11 @@ use Rattle.do_machine.specs.run.Fresh.{blank, pushed, with_objects, with_stack}
 use Rattle.do_machine.specs.run.Run.{Acting, run_effect}
 use Rattle.do_machine.specs.run.Verdicts.{effect_of, requesting, waits_for}
 use Rattle.do_facts.proofs.Deliveries.{Delivers, by_delivery, by_failing}
-use Rattle.do_facts.proofs.machine.follows.Follows.{grown}
 use Rattle.do_facts.proofs.walk.Done.{Done, alone, queues, shows}
 use Rattle.do_facts.proofs.walk.Possible.{by_begins, by_giving_up, by_verdicts}
 use Rattle.do_facts.proofs.machine.follows.Steady.{IsSteady, IsSteadyIf, NoRelease, Steady}
-use Rattle.do_facts.proofs.machine.follows.Steady.{calls, facts, lends, makes, steady}
+use Rattle.do_facts.proofs.machine.follows.Steady.{calls, facts, lends, makes, steady, is_release}
+use Rattle.do_machine.specs.declared.item.Item.{Item}
 
 module _ (r : RunContext) where
   -- what comes of the node
@@ -40,10 +40,12 @@ module _ (r : RunContext) where
   so : (m : Node) → facts m ≡ facts r.context.node → Steady false false r.context.node m
   so = steady false false r.context.node
 
-  -- what a message lends
-  lending_so : (peer : ℕ) (packet : Packet) (m : Node) → Steady false false r.context.node m →
-      Steady false false r.context.node (lending (lends_of peer packet) m)
-  lending_so peer packet = lends false false r.context.node (lends_of peer packet)
+  -- a message is posted, by an item that releases nothing
+  posts : (peer : ℕ) (packet : Packet) (item : Item) → is_release item ≡ false → (m : Node) →
+      Steady false false r.context.node m → Comes (posting peer packet item m)
+  posts peer packet item none m h =
+      queues peer item (lending (lends_of peer packet) m) (λ p. none)
+      (lends false false r.context.node (lends_of peer packet) m h)
 
   -- an answer, wherever it goes
   delivers : Delivers (λ reason e. Comes e) r
@@ -53,22 +55,18 @@ module _ (r : RunContext) where
     unheard = λ peer. alone (popped r) (so (popped r) refl);
     told = λ peer e. shows _ (popped r) (so (popped r) refl);
     dropped = λ peer number o. alone (popped r) (so (popped r) refl);
-    raised = λ peer number e o.
-        queues peer (items.Raised number e) (popped r) (λ p. refl) (so (popped r) refl);
+    raised = λ peer number e o. queues peer _ (popped r) (λ p. refl) (so (popped r) refl);
     replied = λ peer number v outs packet o q.
-        queues peer (items.Reply number packet) (lending (lends_of peer packet) (popped r))
-        (λ p. refl) (lending_so peer packet (popped r) (so (popped r) refl));
+        posts peer packet (items.Reply number packet) refl (popped r) (so (popped r) refl);
     caught = λ e h. alone _ (so (with_top r (goes_on h.into (Text (exc_name e)) h.pc r.top)) refl);
   }
 
   -- a request to a peer
   by_requesting : (peer number : ℕ) (request : Request) (m : Node) →
       Steady false false r.context.node m → Comes (requesting peer number request m)
-  by_requesting peer number requests.Root m h =
-      queues peer (items.RootAsk number) m (λ p. refl) h
+  by_requesting peer number requests.Root m h = queues peer _ m (λ p. refl) h
   by_requesting peer number (requests.Call method x) m h =
-      queues peer (items.Call number x) (lending (lends_of peer x.packet) m) (λ p. refl)
-      (lending_so peer x.packet m h)
+      posts peer x.packet (items.Call number x) refl m h
 
   -- each verdict
   by_verdict : (v : Verdict) → Comes (effect_of r v)
@@ -83,9 +81,8 @@ module _ (r : RunContext) where
       by_requesting peer r.context.node.next_call request (uses_number m)
       (calls false false r.context.node m (so m refl))
   by_verdict (Tells peer m into pc) =
-      let n = with_top r (goes_on into Nil pc r.top) in
-      queues peer (items.Oneway m) (lending (lends_of peer m.packet) n) (λ p. refl)
-      (lending_so peer m.packet n (so n refl))
+      posts peer m.packet (items.Oneway m) refl (with_top r (goes_on into Nil pc r.top))
+      (so _ refl)
   by_verdict (Returns result outs) =
       by_delivery (λ reason e. Comes e) r delivers (Given result outs) r.top.reason
   by_verdict (Fails e) = by_failing (λ reason e. Comes e) r delivers e r.top.handler
@@ -108,9 +105,4 @@ by_start table selector values n =
 pub by_time_out : (n : Node) → IsSteadyIf true false n (time_out n)
 by_time_out n =
     by_giving_up (Done (Steady true false n) (NoRelease false)) n
-    (λ call peer what i below. alone _ (record {
-      grows = grown n _ refl refl refl (omega arith) (omega arith) (omega arith);
-      late = λ t. absurd (cc (t));
-      held = λ p. refl;
-      ends = λ p. refl;
-    }))
+    (λ call peer what i below. alone _ (grind arith))

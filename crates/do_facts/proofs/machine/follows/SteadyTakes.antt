@@ -1,5 +1,5 @@
 -- Closes and takes are steady, but that a node parts from a peer by an end.
-use Rattle.std.proofs.Common.{◌≡◌, ℕ, Bool, true, false, List, refl, ap}
+use Rattle.std.proofs.Common.{◌≡◌, ℕ, Bool, true, false, refl, ap}
 use Rattle.do_class.specs.declared.packet.Packet.{Packet}
 use Rattle.do_machine.specs.declared.item.Item.{Item}
 use Rattle.do_machine.specs.declared.item.Item.TheVariants as items
@@ -14,35 +14,19 @@ use Rattle.do_facts.specs.laws.Follows.{Follows}
 use Rattle.do_facts.proofs.machine.follows.Follows.{after, by_holding, by_parted}
 use Rattle.do_facts.proofs.walk.SmallEffects.{by_closing as closes}
 use Rattle.do_facts.proofs.walk.Takes.{Takes, by_arrival as arrives, by_receiving as receives}
-use Rattle.do_facts.proofs.machine.follows.Steady.{IsSteady, NoRelease, Steady, answers}
+use Rattle.do_facts.proofs.machine.follows.Steady.{IsSteady, NoRelease, Steady, answers, parts_so}
 use Rattle.do_facts.proofs.machine.follows.Steady.{is_end, makes, small, steady, still, then_so}
 
 -- a close
 pub by_closing : (peer : ℕ) (n : Node) → IsSteady false true n (closing peer n)
 by_closing peer n =
-    closes (small false true n) peer n (parts_from n) (λ p. absurd (cc (p)))
-  where
-    parts_from : (n : Node) → Steady false true n (parted peer n)
-    parts_from n =
-        let f = by_parted peer n in
-        record {
-          grows = f.grows;
-          late = λ t. f.late;
-          held = λ p. absurd (cc (p));
-          ends = λ p. absurd (cc (p));
-        }
+    closes (small false true n) peer n
+    (parts_so false true n (parted peer n) refl (by_parted peer n)) (λ p. absurd (cc (p)))
 
 module _ (c : Context) (from : ℕ) (item : Item) (first : Node) where
   -- it closes an end
   abbrev ends : Bool
   ends = is_end item
-
-  -- an item that closes an end, and does not, is none
-  not_both : (serials : List ℕ) → item ≡ items.End serials → ends ≡ false → ⊥
-  not_both serials is none = apart (ap is_end is) none
-    where
-      apart : ends ≡ true → ends ≡ false → ⊥
-      apart a b = cc
 
   -- what is made of an item, once its exports are held
   takes : Takes (Steady false ends first) (NoRelease ends) c from item
@@ -53,23 +37,17 @@ module _ (c : Context) (from : ℕ) (item : Item) (first : Node) where
     grants = λ serial token is n e h p. refl;
     lacks = λ serial token is n e h p. refl;
     makes = λ packet is n h. makes false ends first (arrived c from packet).copies n h;
-    begins = λ reason m f is found fit n h.
-        still false ends first n _ refl h;
+    begins = λ reason m f is found fit n h. still false ends first n _ refl h;
     refuses = λ number e h p. refl;
     answers = λ k packet is n h. answers false ends first k _ n h;
     fails = λ k number e is n h. answers false ends first k _ n h;
     gives = λ number p. refl;
-    settles = λ number n h.
-        still false ends first n _ refl h;
+    settles = λ number n h. still false ends first n _ refl h;
     parts = λ serials is n h.
-        let f = by_parted from n in (
-          then_so false ends first n (parted from n) h (record {
-            grows = f.grows;
-            late = λ t. f.late;
-            held = λ p. absurd (not_both serials is p);
-            ends = λ p. absurd (not_both serials is p);
-          }),
-          λ p. absurd (not_both serials is p),
+        let closes : ends ≡ true = ap is_end is in (
+          then_so false ends first n (parted from n) h
+              (parts_so false ends n (parted from n) closes (by_parted from n)),
+          λ p. absurd (cc (closes, p)),
         );
   }
 

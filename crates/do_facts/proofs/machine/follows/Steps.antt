@@ -41,7 +41,7 @@ is_close (Close port peer) = true
 is_close _ = false
 
 -- an event that is no time-out
-no_time_out : (event : Event) → IsNoTimeOut event → is_time_out event ≡ false
+pub no_time_out : (event : Event) → IsNoTimeOut event → is_time_out event ≡ false
 no_time_out (Timeout port) on = absurd on
 no_time_out _ on = refl
 
@@ -63,13 +63,6 @@ module _ (table : List Class) (act : Acting) (S : State) where
       Grows n e.node
   rule_grows event n e rule = (rule_steady event n e rule).node.grows
 
-  -- and but for a time-out it follows what it was
-  pub rule_follows : (event : Event) → IsNoTimeOut event → (n : Node) (e : Effect) →
-      IsRuleOf table act S event n e → Follows n e.node
-  rule_follows event on n e rule =
-      let s = (rule_steady event n e rule).node in
-      record { grows = s.grows; late = s.late (no_time_out event on) }
-
 module _ (G : Node → Node → Type 0) (K : State → State → Type 0) (moves : Moves G K)
     (given : (n m : Node) → Follows n m → G n m) where
   -- a node moves
@@ -85,7 +78,7 @@ module _ (G : Node → Node → Type 0) (K : State → State → Type 0) (moves 
   module _ (table : List Class) (act : Acting) (S : State)
       (grown : (n m : Node) → Grows n m → G n m) where
     -- each form of a step
-    by_form : (event : Event) (s : Stepped) → IsStep table act S event s → K S s.state
+    pub by_form : (event : Event) (s : Stepped) → IsStep table act S event s → K S s.state
     by_form event s (Skips e) = subst (λ x. K S x.state) (sym e) (moves.same S)
     by_form event s (Acts port n d own here rule e) =
         subst (λ x. K S x.state) (sym e)

@@ -1,7 +1,7 @@
 -- What an effect of a peer does to the entries that it has.
-use Rattle.std.proofs.Common.{sym, ◌≡◌, ◌==◌, ◌&&◌, ◌||◌, ℕ, Bool, true, false, List, refl, arith}
+use Rattle.std.proofs.Common.{◌≡◌, ◌==◌, ◌&&◌, ◌||◌, ℕ, Bool, true, false, List, refl, arith}
 use Rattle.std.proofs.Common.{ap, ◌∙◌}
-use Rattle.std.specs.Prelude.{None, Option, Some, option_and_then, option_map}
+use Rattle.std.specs.Prelude.{None, Option, Some}
 use Rattle.std.specs.List.{list_any}
 use Rattle.std.proofs.lemmas.List.Folds.{list_any-append}
 use Rattle.do_base.specs.names.Names.{ObjectName}
@@ -15,24 +15,12 @@ use Rattle.do_machine.specs.Entry.{has_entry, is_holder, is_on_its_way_back, is_
 use Rattle.do_machine.specs.Entry.{is_under_way}
 use Rattle.do_machine.specs.Items.{released}
 use Rattle.do_machine.specs.Lists.{some_passes}
-use Rattle.do_machine.specs.State.{holds, is_open, node, queue, queue_to}
-use Rattle.do_facts.proofs.machine.Entries.{entry_by}
+use Rattle.do_machine.specs.State.{is_open, node, queue}
 use Rattle.do_facts.proofs.machine.Frame.{elsewhere}
 use Rattle.do_facts.proofs.machine.Queues.{grows_behind}
 use Rattle.do_facts.proofs.machine.follows.States.{changed}
-use Rattle.do_machine.proofs.Bools.{fails}
 use Rattle.do_facts.proofs.machine.passing.NoQueue.{stays_none}
-use Rattle.do_facts.proofs.machine.passing.Passes.{Passes, gives_back}
-
--- what was given back behind what was on its way
-arrange : (a r h x u b : Bool) → (a || r) ≡ (h || x) →
-    ((a || u) || (b || r)) ≡ ((h || (x || u)) || b)
-arrange a r h x u b e = grind (arith, e)
-
--- where there is no queue back, nothing is held, and nothing came
-arrange_none : (a r h x u : Bool) → h ≡ false → x ≡ false → (a || r) ≡ (h || x) →
-    ((a || u) || false) ≡ ((h || (x || u)) || false)
-arrange_none a r h x u p q e = grind (arith, p, q, e)
+use Rattle.do_facts.proofs.machine.passing.Passes.{Passes}
 
 module _ (port : ℕ) (o : ObjectName) (apart : (o.node == port) ≡ false) where
   -- an entry of the peer, with what came
@@ -44,10 +32,7 @@ module _ (port : ℕ) (o : ObjectName) (apart : (o.node == port) ≡ false) wher
   -- where nothing came it is the entry
   pub entered_none : (S : State) (n : Node) → node S port ≡ Some n →
       Entered S n false ≡ has_entry S port o
-  entered_none S n h =
-      ap (λ found. is_reached S port o
-      && ((some_passes (is_holder o) found || is_under_way S port o)
-      || is_on_its_way_back S port o)) (sym h)
+  entered_none S n h = rw h
 
   module _ (e : Effect) (T : State) (n : Node) (came : Bool) (here : node T port ≡ Some n)
       (linked : queue T port o.node ≡ None → is_open n o.node ≡ false)
@@ -64,37 +49,17 @@ module _ (port : ℕ) (o : ObjectName) (apart : (o.node == port) ≡ false) wher
         ≡ ((is_holder o n || (came || is_under_way T port o)) || back found)
     by_queue (Some w) q =
         let f : Item → Bool = λ item. has_object (released port o.node item) o in
-        let grown = grows_behind port o.node e T.stations w q in
-        ap (λ x. (is_holder o e.node || is_under_way T port o) || back x) grown
-        ∙ ap (λ x. (is_holder o e.node || is_under_way T port o) || x)
-        (list_any-append f w (items_to o.node e.sent))
-        ∙ arrange (is_holder o e.node) (gives_back port o e.sent) (is_holder o n) came
-        (is_under_way T port o) (list_any f w) passes.same
+        ap (λ x. (is_holder o e.node || is_under_way T port o) || back x)
+        (grows_behind port o.node e T.stations w q)
+        ∙ grind (arith, list_any-append f w (items_to o.node e.sent), passes.same)
     by_queue None q =
-        let f = elsewhere_none q in
-        let closed = linked q in
-        let none : is_holder o n ≡ false = ap (λ b. b && holds n o) closed in
-        let gone : came ≡ false = fails came (λ c. no (arrives c) closed) in
-        ap (λ x. (is_holder o e.node || is_under_way T port o) || back x) f
-        ∙ arrange_none (is_holder o e.node) (gives_back port o e.sent) (is_holder o n) came
-        (is_under_way T port o) none gone passes.same
-      where
-        no : is_open n o.node ≡ true → is_open n o.node ≡ false → ⊥
-        no a b = cc
-
-        elsewhere_none : queue T port o.node ≡ None → queue (commit port e T) port o.node ≡ None
-        elsewhere_none h = stays_none port o.node e T.stations h
+        let gone : came ≡ false = grind (arith, linked q, arrives) in
+        ap (λ x. (is_holder o e.node || is_under_way T port o) || back x)
+        (stays_none port o.node e T.stations q)
+        ∙ grind (arith, linked q, gone, passes.same)
 
     -- an entry after the effect
     pub entry_after : has_entry (commit port e T) port o ≡ Entered T n came
     entry_after =
-        let U = commit port e T in
-        let f = entry_by port o in
-        let at_home = elsewhere port o.node e T.stations apart in
-        ap (λ x. f x (node U port) (queue U o.node port) (queue U port o.node))
-        (ap (λ x. option_map (λ s. s.node) x) at_home)
-        ∙ ap (λ x. f (node T o.node) x (queue U o.node port) (queue U port o.node))
-        (changed port e n T.stations here)
-        ∙ ap (λ x. f (node T o.node) (Some e.node) x (queue U port o.node))
-        (ap (λ x. option_and_then (λ s. queue_to port s) x) at_home)
-        ∙ ap (λ b. is_reached T port o && b) (by_queue (queue T port o.node) refl)
+        rw (elsewhere port o.node e T.stations apart, changed port e n T.stations here)
+        (ap (λ b. is_reached T port o && b) (by_queue (queue T port o.node) refl))

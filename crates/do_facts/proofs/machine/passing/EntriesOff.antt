@@ -1,7 +1,7 @@
 -- The entries of a node's objects once another node took an item off, and before it held what came.
 use Rattle.std.proofs.Common.{◌≡◌, ◌==◌, ◌&&◌, ◌||◌, ℕ, Bool, true, false, List, ◌∷◌, refl, sym, ap}
-use Rattle.std.proofs.Common.{◌∙◌, arith, subst}
-use Rattle.std.specs.Prelude.{Option, Some}
+use Rattle.std.proofs.Common.{◌∙◌, arith}
+use Rattle.std.specs.Prelude.{Some}
 use Rattle.std.specs.List.{list_any}
 use Rattle.std.proofs.lemmas.Bool.{eqb-true}
 use Rattle.std.proofs.lemmas.Grind.{common_steps}
@@ -9,17 +9,17 @@ use Rattle.do_base.specs.names.Names.{ObjectName}
 use Rattle.do_packet.specs.Met.{has_object}
 use Rattle.do_machine.specs.Entry.{has_entry, is_holder, is_on_its_way_back, is_reached}
 use Rattle.do_machine.specs.Entry.{is_under_way}
-use Rattle.do_machine.specs.Items.{exported, released}
+use Rattle.do_machine.specs.Items.{exported}
 use Rattle.do_machine.specs.Lists.{some_passes}
 use Rattle.do_machine.specs.State.{change, is_open, node, queue, with_queue}
 use Rattle.do_machine.specs.declared.item.Item.{Item}
 use Rattle.do_machine.specs.declared.node.Node.{Node}
 use Rattle.do_machine.specs.declared.state.State.{State}
-use Rattle.do_facts.proofs.machine.Entries.{entry_by}
 use Rattle.do_facts.proofs.machine.follows.States.{requeued}
 use Rattle.do_facts.proofs.machine.passing.Commits.{Entered, entered_none}
 use Rattle.do_facts.proofs.machine.passing.Lookups.{elsewhere_stays, other_stays, that_changed}
 use Rattle.do_facts.proofs.machine.passing.Takes.{comes}
+use Rattle.do_facts.proofs.machine.follows.Follows.{open_at}
 
 module _ (o : ObjectName) (port : ℕ) (apart : (o.node == port) ≡ false) (S : State) (n : Node)
     (here : node S port ≡ Some n) (from : ℕ) (item : Item) (w : List Item)
@@ -37,52 +37,35 @@ module _ (o : ObjectName) (port : ℕ) (apart : (o.node == port) ≡ false) (S :
       ap (λ found. some_passes (list_any (λ x. has_object (exported o.node port x) o)) found)
       (elsewhere_stays from port w S.stations o.node port other)
   came_from true h =
-      let same : from ≡ o.node = eqb-true from o.node h in
-      let f = λ (found : Option (List Item)).
-      some_passes (list_any (λ x. has_object (exported o.node port x) o)) found in
-      let left : queue left_off o.node port ≡ Some w =
-      subst (λ k. queue left_off k port ≡ Some w) same
-      (that_changed from port w (item ∷ w) S.stations waits) in
-      let was : queue S o.node port ≡ Some (item ∷ w) =
-      subst (λ k. queue S k port ≡ Some (item ∷ w)) same waits in
-      ap (λ k. has_object (exported k port item) o || is_under_way left_off port o) same
-      ∙ ap (λ found. has_object (exported o.node port item) o || f found) left
-      ∙ sym (ap f was)
+      let same : o.node ≡ from = sym (eqb-true from o.node h) in
+      let left = that_changed from port w (item ∷ w) S.stations waits in
+      rw (same, left, waits)
 
   -- an open end towards the sender is open towards the home of what came
   pub reaches : is_open n from ≡ true → comes port o from item ≡ true →
       is_open n o.node ≡ true
-  reaches ends h = go (from == o.node) refl h
-    where
-      go : (b : Bool) → (from == o.node) ≡ b →
-          (b && has_object (exported from port item) o) ≡ true → is_open n o.node ≡ true
-      go true q k = subst (λ p. is_open n p ≡ true) (eqb-true from o.node q) ends
-      go false q k = cc
+  reaches ends h = open_at n from o.node ends (grind (arith, h))
 
   -- the node's own entry, with what came
   pub own_off : Entered port o apart left_off n (comes port o from item) ≡ has_entry S port o
   own_off =
-      ap (λ found. some_passes (λ m. is_open m port) found
-      && ((is_holder o n || (comes port o from item || is_under_way left_off port o))
-      || is_on_its_way_back left_off port o)) (requeued from port o.node w S.stations)
-      ∙ ap (λ b. is_reached S port o
-      && ((is_holder o n || b) || is_on_its_way_back left_off port o))
+      rw (
+        requeued from port o.node w S.stations,
+        other_stays from port w S.stations port o.node
+            apart,
+      )
+      (ap (λ b. is_reached S port o && ((is_holder o n || b) || is_on_its_way_back S port o))
       (came_from (from == o.node) refl)
-      ∙ ap (λ found. is_reached S port o && ((is_holder o n || is_under_way S port o)
-      || some_passes (list_any (λ x. has_object (released port o.node x) o)) found))
-      (other_stays from port w S.stations port o.node apart)
-      ∙ entered_none port o apart S n here
+      ∙ entered_none port o apart S n here)
 
   -- entries of other peers
   pub others_off : (peer : ℕ) → (peer == port) ≡ false →
       has_entry left_off peer o ≡ has_entry S peer o
   others_off peer h =
-      let f = entry_by peer o in
-      ap (λ x. f x (node left_off peer) (queue left_off o.node peer) (queue left_off peer o.node))
-      (requeued from port o.node w S.stations)
-      ∙ ap (λ x. f (node S o.node) x (queue left_off o.node peer) (queue left_off peer o.node))
-      (requeued from port peer w S.stations)
-      ∙ ap (λ x. f (node S o.node) (node S peer) x (queue left_off peer o.node))
-      (other_stays from port w S.stations o.node peer h)
-      ∙ ap (λ x. f (node S o.node) (node S peer) (queue S o.node peer) x)
-      (other_stays from port w S.stations peer o.node apart)
+      rw (
+        requeued from port o.node w S.stations,
+        requeued from port peer w S.stations,
+        other_stays from port w S.stations o.node peer h,
+        other_stays from port w S.stations peer
+            o.node apart,
+      )

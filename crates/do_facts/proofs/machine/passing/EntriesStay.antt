@@ -1,10 +1,11 @@
 -- A node's entries change by its own steps alone.
 use Rattle.std.proofs.Common.{◌≡◌, ◌==◌, ℕ, Bool, true, false, List, ◌∷◌, ap, refl, sym, subst, ◌∙◌}
+use Rattle.std.proofs.Common.{arith}
 use Rattle.std.specs.Prelude.{None, Some}
 use Rattle.std.proofs.lemmas.Bool.{eqb-true}
 use Rattle.do_base.specs.names.Names.{ObjectName}
 use Rattle.do_base.specs.declared.events.event.Event.{Event}
-use Rattle.do_base.specs.declared.events.event.Event.TheVariants.{Close, Run, Start, Timeout}
+use Rattle.do_base.specs.declared.events.event.Event.TheVariants.{Close}
 use Rattle.do_class.specs.Class.{Class}
 use Rattle.do_machine.specs.declared.item.Item.{Item}
 use Rattle.do_machine.specs.declared.node.Node.{Node}
@@ -19,7 +20,6 @@ use Rattle.do_machine.specs.Step.{step}
 use Rattle.do_machine.specs.held.Leaving.{leaving}
 use Rattle.do_machine.specs.run.Run.{Acting}
 use Rattle.do_machine.specs.take.Take.{take_effect}
-use Rattle.do_machine.proofs.Bools.{fails}
 use Rattle.do_facts.specs.laws.Entries.{HasQueues, IsNoStepOf}
 use Rattle.do_facts.specs.laws.Follows.{AllHoldOpen, Grows, HoldsOpen}
 use Rattle.do_facts.specs.steps.IsStep.{Acts, Checks, IsRuleOf, IsStep, Loses, Skips}
@@ -40,40 +40,21 @@ use Rattle.do_facts.proofs.steps.EntriesOfSteps.{entry_stays}
 use Rattle.do_facts.proofs.steps.OthersStay.{apart_act, no_act}
 use Rattle.do_facts.proofs.machine.follows.SteadyTakes.{by_take}
 
--- a node that is open and closed is none
-both : (n : Node) (peer : ℕ) → is_open n peer ≡ true → is_open n peer ≡ false → ⊥
-both n peer a b = cc
-
--- nothing came
-none_came : {P : Type 0} → false ≡ true → P
-none_came h = absurd (cc (h))
-
 module _ (o : ObjectName) (port : ℕ) (apart : (o.node == port) ≡ false) where
   module _ (S : State) (e : Effect) (n : Node) (came : Bool) (here : node S port ≡ Some n)
       (linked : queue S port o.node ≡ None → is_open n o.node ≡ false)
       (arrives : came ≡ true → is_open n o.node ≡ true)
       (grows : Grows n e.node) (held : HoldsOpen n) (passes : Passes port o n came e) where
-    -- the state after the effect
-    abbrev after : State
-    after = commit port e S
-
-    -- the node is there as the effect left it
-    left_here : node after port ≡ Some e.node
-    left_here = changed port e n S.stations here
-
-    -- its end is closed where it has no queue
-    left_linked : queue after port o.node ≡ None → is_open e.node o.node ≡ false
-    left_linked q =
-        let closed = linked (commit_leaves port e S port o.node q) in
-        fails (is_open e.node o.node) (λ h. both n o.node (grows.ends o.node h) closed)
-
     -- the entry of the node that moves
     own_moved : has_entry (moved port S e).state port o ≡ Entered port o apart S n came
     own_moved =
-        let entry = (around after e.node).entry in
-        entry_after port o apart (leaving entry e.node) after e.node false left_here left_linked
-        none_came (passes_leaving port o entry e.node (grows.holding held))
-        ∙ entered_none port o apart after e.node left_here
+        let T = commit port e S in
+        let entry = (around T e.node).entry in
+        let there = changed port e n S.stations here in
+        entry_after port o apart (leaving entry e.node) T e.node false there
+        (λ q. grind (arith, linked (commit_leaves port e S port o.node q), grows.ends o.node))
+        (λ c. absurd (cc (c))) (passes_leaving port o entry e.node (grows.holding held))
+        ∙ entered_none port o apart T e.node there
         ∙ entry_after port o apart e S n came here linked arrives passes
 
   module _ (S : State) (held : AllHoldOpen S) (queues : HasQueues S) (n : Node)
@@ -81,22 +62,17 @@ module _ (o : ObjectName) (port : ℕ) (apart : (o.node == port) ≡ false) wher
     -- the effect of an event's rule passes on what the node holds
     rule_passes : (table : List Class) (act : Acting) (event : Event) (e : Effect) →
         IsRuleOf table act S event n e → Passes port o n false e
-    rule_passes table act (Start p selector values) e rule =
-        passes_quiet port o n e (rule_quiet table act S (Start p selector values) n e rule refl)
-    rule_passes table act (Run p) e rule =
-        passes_quiet port o n e (rule_quiet table act S (Run p) n e rule refl)
     rule_passes table act (Close p peer) e rule =
         subst (Passes port o n false) (sym rule.1) (passes_closing port o peer n rule.0)
-    rule_passes table act (Timeout p) e rule =
-        passes_quiet port o n e (rule_quiet table act S (Timeout p) n e rule refl)
-    rule_passes table act _ e rule = absurd rule
+    rule_passes table act event e rule =
+        passes_quiet port o n e (rule_quiet table act S event n e rule refl)
 
     -- the entry of the node that acts stays
     own_acts : (table : List Class) (act : Acting) (event : Event) (e : Effect) →
         IsRuleOf table act S event n e →
         has_entry (moved port S e).state port o ≡ has_entry S port o
     own_acts table act event e rule =
-        own_moved S e n false here (queues.closed port o.node n here) none_came
+        own_moved S e n false here (queues.closed port o.node n here) (λ c. absurd (cc (c)))
         (rule_grows table act S event n e rule) (held.each port n here)
         (rule_passes table act event e rule)
         ∙ entered_none port o apart S n here
@@ -128,33 +104,33 @@ module _ (table : List Class) (act : Acting) (S : State) (event : Event) (peer :
   Same T = has_entry T peer o ≡ has_entry S peer o
 
   -- of the entry of a node that moves, and of that of another
-  moves_so : (port : ℕ) (s : Stepped) → IsStep table act S event s → (T : State) →
-      s.state ≡ T → ((peer == port) ≡ false → IsNoStepOf peer event) →
-      (has_entry T port o ≡ has_entry S port o) → Same s.state
-  moves_so port s is T e other own = go (peer == port) refl
+  moves_so : (port : ℕ) (T : Stepped) → IsStep table act S event T →
+      ((peer == port) ≡ false → IsNoStepOf peer event) →
+      has_entry T.state port o ≡ has_entry S port o → Same T.state
+  moves_so port T is other own = go (peer == port) refl
     where
-      go : (b : Bool) → (peer == port) ≡ b → Same s.state
-      go false q = entry_stays S event s is peer o home (other q)
+      go : (b : Bool) → (peer == port) ≡ b → Same T.state
+      go false q = entry_stays S event T is peer o home (other q)
       go true q =
-          let same : peer ≡ port = eqb-true peer port q in
-          ap (λ x. has_entry x peer o) e
-          ∙ subst (λ k. has_entry T k o ≡ has_entry S k o) (sym same) own
+          subst (λ k. has_entry T.state k o ≡ has_entry S k o) (sym (eqb-true peer port q)) own
 
   -- each form of a step
   by_form : (s : Stepped) → IsStep table act S event s → Same s.state
   by_form s (Skips e) = ap (λ x. has_entry x.state peer o) e
   by_form s (Acts port n d own here rule e) =
-      moves_so port s (Acts port n d own here rule e) (moved port S d).state (ap (λ x. x.state) e)
+      subst (λ x. Same x.state) (sym e)
+      (moves_so port (moved port S d) (Acts port n d own here rule refl)
       (no_act event port peer own)
       (own_acts o port (apart_act event port o.node own home) S held queues n here table act event d
-      rule)
+      rule))
   by_form s (Takes port from n item rest d is here rule waits e) =
       let T = without_oldest S from port rest in
-      moves_so port s (Takes port from n item rest d is here rule waits e)
-      (moved port T d).state (ap (λ x. x.state) e) (λ q. subst (IsNoStepOf peer) (sym is) q)
+      subst (λ x. Same x.state) (sym e)
+      (moves_so port (moved port T d) (Takes port from n item rest d is here rule waits refl)
+      (subst (IsNoStepOf peer) (sym is))
       (subst (λ x. has_entry (moved port T x).state port o ≡ has_entry S port o) (sym rule.1)
       (own_takes o port (subst (IsNoStepOf o.node) is home) S held queues n here table from item
-      rest rule.0 waits))
+      rest rule.0 waits)))
   by_form s (Loses from to k waiting is waits few e) =
       entry_stays {table = table} {act = act} S event s
       (Loses from to k waiting is waits few e) peer o home (subst (IsNoStepOf peer) (sym is) tt)

@@ -1,7 +1,6 @@
 -- A node's end is closed where it has no queue.
-use Rattle.std.proofs.Common.{◌≡◌, ◌==◌, ◌||◌, ◌++◌, ℕ, Bool, true, false, cond, List, [], ◌∷◌, map}
-use Rattle.std.proofs.Common.{refl, sym, ap, ◌∙◌, arith}
-use Rattle.std.specs.Prelude.{None, Option, Some, option_and_then, option_map, unwrap_or}
+use Rattle.std.proofs.Common.{◌≡◌, ◌==◌, ℕ, false, List, [], ◌∷◌, map, refl, arith}
+use Rattle.std.specs.Prelude.{None, Some, option_and_then, option_map}
 use Rattle.std.specs.List.{find, list_any}
 use Rattle.std.proofs.lemmas.Grind.{common_steps}
 use Rattle.do_base.specs.declared.events.event.Event.{Event}
@@ -11,19 +10,17 @@ use Rattle.do_machine.specs.declared.state.Effect.{Effect}
 use Rattle.do_machine.specs.declared.state.Queue.{Queue}
 use Rattle.do_machine.specs.declared.state.Seat.{Seat}
 use Rattle.do_machine.specs.declared.state.State.{State}
-use Rattle.do_machine.specs.Commit.{commit, items_to}
+use Rattle.do_machine.specs.Commit.{commit}
 use Rattle.do_machine.specs.State.{is_open, node, queue, queue_to}
 use Rattle.do_machine.specs.Step.{step}
 use Rattle.do_machine.specs.World.{by_port, opening, opening_station, others}
 use Rattle.do_facts.specs.laws.Entries.{HasQueues}
-use Rattle.do_facts.specs.laws.Follows.{EachNode, Grows}
 use Rattle.do_machine.specs.run.Run.{Acting}
-use Rattle.do_facts.proofs.machine.Queues.{none_before, queue_behind}
-use Rattle.do_facts.proofs.machine.follows.Every.{grow_steps}
+use Rattle.do_facts.proofs.machine.Queues.{queue_behind}
 use Rattle.do_facts.proofs.machine.follows.Moves.{Moves}
 use Rattle.do_facts.proofs.machine.follows.Steps.{by_any_step}
-use Rattle.do_machine.proofs.Bools.{fails}
 use Rattle.do_facts.proofs.machine.passing.Lookups.{none_goes}
+use Rattle.do_facts.proofs.steps.NodesAtHome.{was_there}
 
 -- no queue goes
 abbrev pub QueuesStay : State → State → Type 0
@@ -35,9 +32,7 @@ Any n m = Unit {0}
 
 -- no queue goes by an effect
 pub commit_leaves : (port : ℕ) (e : Effect) (S : State) → QueuesStay S (commit port e S)
-commit_leaves port e S a b h =
-    none_before (a == port) (λ w. w ++ items_to b e.sent) (queue S a b)
-    (sym (queue_behind port a b e S.stations) ∙ h)
+commit_leaves port e S a b h = grind (arith, h, queue_behind port a b e S.stations)
 
 -- each move leaves the queues
 pub queue_moves : Moves Any QueuesStay
@@ -48,36 +43,17 @@ queue_moves = record {
   requeues = λ from to items S. none_goes from to items S;
 }
 
--- a node that is there is not absent
-there : (m : Node) (found : Option Node) → found ≡ Some m → found ≡ None → ⊥
-there m found h q = cc
-
-module _ (S T : State) (grows : EachNode Grows S T) (stay : QueuesStay S T)
-    (old : HasQueues S) where
-  -- an end that was closed stays so
-  closed_of : (port peer : ℕ) (m : Node) → node T port ≡ Some m → queue T port peer ≡ None →
-      (found : Option Node) → node S port ≡ found → is_open m peer ≡ false
-  closed_of port peer m h q None k = absurd (there m (node T port) h (grows.absent port k))
-  closed_of port peer m h q (Some n) k =
-      let x = grows.stands port n k in
-      let same : x.0 ≡ m = ap (λ y. unwrap_or y m) (sym x.1 ∙ h) in
-      let closed = old.closed port peer n k (stay port peer q) in
-      fails (is_open m peer)
-      (λ o. apart n (x.2.ends peer (ap (λ y. is_open y peer) same ∙ o)) closed)
-    where
-      apart : (n : Node) → is_open n peer ≡ true → is_open n peer ≡ false → ⊥
-      apart n a b = cc
-
-  -- and so a node has its queues
-  have_queues : HasQueues T
-  have_queues = record { closed = λ port peer m h q. closed_of port peer m h q (node S port) refl }
-
 -- each event leaves a node its queues
 pub queues_stay : (table : List Class) (act : Acting) (S : State) (event : Event) → HasQueues S →
     HasQueues (step table act S event).state
-queues_stay table act S event h =
-    have_queues S (step table act S event).state (grow_steps table act S event)
-    (by_any_step Any QueuesStay queue_moves (λ n m f. tt) table act S (λ n m g. tt) event) h
+queues_stay table act S event old = record {
+  closed = λ port peer m here none.
+      let was = was_there table act S event port m here (node S port) refl in
+      let gone : QueuesStay S (step table act S event).state =
+      by_any_step Any QueuesStay queue_moves (λ n k f. tt) table act S (λ n k g. tt) event in
+      let closed = old.closed port peer was.0 was.1 (gone port peer none) in
+      grind (arith, closed, was.2.ends peer);
+}
 
 -- ---- as a machine opens
 
@@ -87,20 +63,7 @@ pub found_for : (peer : ℕ) (ps : List ℕ) →
     (find (λ (q : Queue). peer == q.to) (map (λ p. record { to = p; items = [] }) ps)) ≡ None →
     list_any (λ p. p == peer) ps ≡ false
 found_for peer [] h = refl
-found_for peer (p ∷ ps) h = go (peer == p) refl (found_for peer ps) h
-  where
-    go : (b : Bool) → (peer == p) ≡ b →
-        (option_map (λ (q : Queue). q.items)
-        (find (λ (q : Queue). peer == q.to) (map (λ p. record { to = p; items = [] }) ps)) ≡ None →
-        list_any (λ x. x == peer) ps ≡ false) →
-        option_map (λ (q : Queue). q.items)
-        (cond b (Some (record { to = p; items = [] }))
-        (find (λ (q : Queue). peer == q.to) (map (λ p. record { to = p; items = [] }) ps))) ≡ None →
-        list_any (λ x. x == peer) (p ∷ ps) ≡ false
-    go true e r k = absurd (cc)
-    go false e r k =
-        let other : (p == peer) ≡ false = grind (arith, common_steps, e) in
-        ap (λ b. b || list_any (λ x. x == peer) ps) other ∙ r k
+found_for peer (p ∷ ps) h = grind (arith, common_steps, h, found_for peer ps)
 
 -- a station that opens has a queue for each open end
 opens_linked : (table : List Class) (all : List ℕ) (seats : List Seat) (port peer : ℕ) (n : Node) →
@@ -111,25 +74,8 @@ opens_linked : (table : List Class) (all : List ℕ) (seats : List Seat) (port p
     is_open n peer ≡ false
 opens_linked table all [] port peer n h q = absurd (cc)
 opens_linked table all (s ∷ seats) port peer n h q =
-    go (port == s.node) (opens_linked table all seats port peer n) h q
-  where
-    go : (b : Bool) →
-        (option_map (λ x. x.node)
-        (find (λ x. port == x.port) (map (opening_station table all) seats)) ≡ Some n →
-        option_and_then (λ x. queue_to peer x)
-        (find (λ x. port == x.port) (map (opening_station table all) seats)) ≡ None →
-        is_open n peer ≡ false) →
-        option_map (λ x. x.node)
-        (cond b (Some (opening_station table all s))
-        (find (λ x. port == x.port) (map (opening_station table all) seats))) ≡ Some n →
-        option_and_then (λ x. queue_to peer x)
-        (cond b (Some (opening_station table all s))
-        (find (λ x. port == x.port) (map (opening_station table all) seats))) ≡ None →
-        is_open n peer ≡ false
-    go true r x y =
-        let same : (opening_station table all s).node ≡ n = cc in
-        ap (λ m. is_open m peer) (sym same) ∙ found_for peer (others all s.node) y
-    go false r x y = r x y
+    let here = found_for peer (others all s.node) in
+    grind (arith, h, q, here, opens_linked table all seats port peer n)
 
 -- a machine opens with its queues
 pub opening_queues : (table : List Class) (seats : List Seat) → HasQueues (opening table seats)

@@ -1,5 +1,5 @@
 -- Which items wait where, once those of one queue are others.
-use Rattle.std.proofs.Common.{◌≡◌, ◌==◌, ◌&&◌, ◌∙◌, ℕ, false, List, sym, arith}
+use Rattle.std.proofs.Common.{◌≡◌, ◌==◌, ℕ, false, List, arith}
 use Rattle.std.specs.Prelude.{None, Some}
 use Rattle.std.proofs.lemmas.Grind.{common_steps}
 use Rattle.do_machine.specs.declared.item.Item.{Item}
@@ -7,7 +7,7 @@ use Rattle.do_machine.specs.declared.state.State.{State}
 use Rattle.do_machine.specs.declared.state.Station.{Station}
 use Rattle.do_machine.specs.Lists.{change_first}
 use Rattle.do_machine.specs.State.{change, queue, with_queue}
-use Rattle.do_facts.proofs.machine.Queues.{none_before, queue_among, queue_with}
+use Rattle.do_facts.proofs.machine.Queues.{queue_among, queue_with}
 
 -- the stations with other items in one queue
 abbrev changed : ℕ → ℕ → List Item → List Station → List Station
@@ -35,5 +35,4 @@ module _ (from to : ℕ) (items : List Item) where
   pub none_goes : (S : State) (a b : ℕ) →
       queue (change from (with_queue to items) S) a b ≡ None → queue S a b ≡ None
   none_goes S a b h =
-      none_before ((a == from) && (b == to)) (λ w. items) (queue S a b)
-      (sym (queue_with from to items a b S.stations) ∙ h)
+      grind (arith, common_steps, h, queue_with from to items a b S.stations)

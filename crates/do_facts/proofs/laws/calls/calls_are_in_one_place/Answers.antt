@@ -2,14 +2,10 @@ use Rattle.do_facts.proofs.calls.ReachedCalls.{opening_keeps, reached_keeps, rea
 use Rattle.do_facts.proofs.calls.ReachedCalls.{step_keeps}
 use Rattle.do_facts.proofs.laws.calls.calls_are_in_one_place.Goals as goal
 
-pub returns-clause-opening : goal.returns-clause-opening
-returns-clause-opening c = opening_keeps
-
-pub returns-clause-steps : goal.returns-clause-steps
-returns-clause-steps c = step_keeps
-
-pub returns-clause-schedules : goal.returns-clause-schedules
-returns-clause-schedules c = reached_keeps
-
-pub returns-clause-answers : goal.returns-clause-answers
-returns-clause-answers c = reached_known
+pub returns : goal.returns
+returns c = record {
+  opening = opening_keeps;
+  steps = step_keeps;
+  schedules = reached_keeps;
+  answers = reached_known;
+}
