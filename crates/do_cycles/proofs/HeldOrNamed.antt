@@ -1,7 +1,6 @@
 -- What a node stores is named by the state, or held by a slot of a stored object.
-use Rattle.std.proofs.Common.{◌≡◌, ◌==◌, ◌∙◌, ◌++◌, ◌||◌, ◌⊎◌, ℕ, Bool, true, List}
-use Rattle.std.proofs.Common.{[], ◌∷◌, map, Option, Some, None, refl, sym, ap, subst, inl, inr}
-use Rattle.std.proofs.Common.{arith}
+use Rattle.std.proofs.Common.{◌≡◌, ◌==◌, ◌∙◌, ◌++◌, ◌||◌, ◌⊎◌, ℕ, Bool, true, List, [], ◌∷◌, map}
+use Rattle.std.proofs.Common.{Option, Some, None, refl, sym, ap, inl, inr, arith}
 use Rattle.std.specs.Prelude.{is_some}
 use Rattle.std.specs.List.{list_any}
 use Rattle.std.proofs.lemmas.Bool.{and_parts}
@@ -10,29 +9,25 @@ use Rattle.do_base.specs.names.Names.{ObjectName}
 use Rattle.do_leaks.specs.Heap.{heap_of}
 use Rattle.do_leaks.specs.Leaks.{holder}
 use Rattle.do_leaks.proofs.Named.{in_either, in_left, in_right}
-use Rattle.do_lost.specs.Named.{item_names, named, node_names, root_names, root_of, serves}
-use Rattle.do_machine.specs.declared.item.Item.{Item}
+use Rattle.do_lost.specs.Named.{named, node_names, root_names, root_of}
 use Rattle.do_machine.specs.declared.node.Node.{Node}
 use Rattle.do_machine.specs.declared.node.Stored.{Stored}
 use Rattle.do_machine.specs.declared.state.State.{State}
 use Rattle.do_machine.specs.declared.state.Station.{Station}
-use Rattle.do_machine.specs.Entry.{has_entry, is_holder, is_on_its_way_back, is_reached}
-use Rattle.do_machine.specs.Entry.{is_under_way}
-use Rattle.do_machine.specs.Items.{exported, released}
+use Rattle.do_machine.specs.Entry.{has_entry, is_holder}
 use Rattle.do_machine.specs.Lists.{IsIn, some_passes}
-use Rattle.do_machine.specs.State.{holds, is_open, node, own, queue}
+use Rattle.do_machine.specs.State.{holds, is_open, node, own}
 use Rattle.do_machine.specs.check.Snapshot.{object_line, snapshot}
 use Rattle.do_machine.specs.held.Kept.{is_root}
-use Rattle.do_machine.specs.held.Refers.{heap_objects, node_objects}
-use Rattle.do_machine.specs.held.Refers.{stack_objects}
-use Rattle.do_machine.proofs.Bools.{or_cases, or_left, or_right}
+use Rattle.do_machine.specs.held.Refers.{heap_objects, node_objects, stack_objects}
+use Rattle.do_machine.proofs.Bools.{or_cases}
 use Rattle.do_packet.specs.Met.{has_object}
 use Rattle.do_quiet.specs.Keeping.{NodesKeep}
 use Rattle.do_quiet.proofs.StoredKept.{heap_found, passing}
-use Rattle.do_cycles.proofs.Among.{item_named, node_named, own_named, stored_listed}
+use Rattle.do_cycles.proofs.Among.{node_named, own_named, stored_listed}
 use Rattle.do_cycles.proofs.StationsOfPorts.{IsFoundOrOpens}
 use Rattle.do_cycles.proofs.SlotsHold.{held_by_line}
-use Rattle.do_cycles.proofs.NamedInItems.{exported_named, released_named}
+use Rattle.do_cycles.proofs.EntriesNamed.{entry_held_or_named}
 
 -- a root is named
 root_named : (n : Node) (serial : ℕ) → is_root n serial ≡ true →
@@ -113,47 +108,12 @@ module _ (S : State) (keep : NodesKeep S) (o : ObjectName) where
         | inr x ↦ by_use port n e x
       ]
 
-  -- an item of a queue passes where one test does wherever the other does
-  some_item : (f g : Item → Bool) → ((item : Item) → f item ≡ true → g item ≡ true) →
-      (items : List Item) → list_any f items ≡ true → list_any g items ≡ true
-  some_item f g leads [] h = h
-  some_item f g leads (x ∷ xs) h = elim (or_cases (f x) (list_any f xs) h) [
-    | inl e ↦ or_left (g x) (list_any g xs) (leads x e)
-    | inr e ↦ or_right (g x) (list_any g xs)
-        (some_item f g leads xs e)
-  ]
-
-  -- an object that waits in a queue
-  by_queue : (from to : ℕ) (f : Item → Bool) →
-      ((item : Item) → f item ≡ true →
-      has_object (item_names from to (serves S to from) item) o ≡ true) →
-      (found : Option (List Item)) → queue S from to ≡ found →
-      some_passes (list_any f) found ≡ true → IsHeldOrNamed
-  by_queue from to f leads None e h = absurd (cc)
-  by_queue from to f leads (Some items) e h =
-      inl (item_named S o from to items e
-      (some_item f (λ item. has_object (item_names from to (serves S to from) item) o) leads items
-      h))
-
   -- an object with an entry
   by_entry : (peer : ℕ) → has_entry S peer o ≡ true → IsHeldOrNamed
-  by_entry peer h =
-      let held = some_passes (is_holder o) (node S peer) in
-      let out = is_under_way S peer o in
-      let back = is_on_its_way_back S peer o in
-      let parts = and_parts (is_reached S peer o) ((held || out) || back) h in
-      elim (or_cases (held || out) back parts.1) [
-        | inl x ↦ elim (or_cases held out x) [
-          | inl y ↦ by_holder peer (node S peer) refl y
-          | inr y ↦ by_queue o.node peer (λ item. has_object (exported o.node peer item) o)
-              (λ item e. exported_named o.node peer (serves S peer o.node) item o e)
-              (queue S o.node peer) refl y
-        ]
-        | inr x ↦ by_queue peer o.node (λ item. has_object (released peer o.node item) o)
-            (λ item e.
-            subst (λ b. has_object (item_names peer o.node b item) o ≡ true) (sym parts.0)
-            (released_named peer o.node item o e)) (queue S peer o.node) refl x
-      ]
+  by_entry peer h = elim (entry_held_or_named S o peer h) [
+    | inl y ↦ by_holder peer (node S peer) refl y
+    | inr y ↦ inl y
+  ]
 
 -- an object that a station stores is named by the state, or held by a slot
 pub held_or_named : (S : State) (keep : NodesKeep S) (s : Station) → IsIn S.stations s →

@@ -3,6 +3,7 @@ pub mod StationsOfPorts
 pub mod Among
 pub mod NamedInItems
 pub mod SlotsHold
+pub mod EntriesNamed
 pub mod HeldOrNamed
 pub mod EachTold
 pub mod QuietSettled

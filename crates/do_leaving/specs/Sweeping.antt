@@ -21,7 +21,9 @@ unused old os spare = record old { uses = all_off old.uses os; spare = spare }
 
 -- these objects were taken out one after the other, each with no holder and named by no slot then
 pub data TakenOut (node : ℕ) : List Stored → List Stored → List Stored → Type 0 where
+  -- none is taken out
   none : (xs : List Stored) → TakenOut node xs [] xs
+  -- one is taken out, and then others
   more : (xs gone ys : List Stored) (o : Stored) → find_stored xs o.serial ≡ Some o → o.held ≡ 0
       → named_in node o.serial xs ≡ 0 → TakenOut node (replaced o.serial (λ s. []) xs) gone ys
       → TakenOut node xs (o ∷ gone) ys

@@ -1,4 +1,4 @@
-//! What is under way between the nodes of a network names.
+//! The objects that items on their way between the nodes of a network name.
 ghost use Rattle.std.specs.Prelude.{◌≡◌, ◌++◌, ◌∷◌, ℕ, IfOk, List, OnOk, false, length};
 ghost use Rattle.std.specs.List.{flat_map};
 ghost use Rattle.do_machine.specs.World.{others};
@@ -19,8 +19,9 @@ use do_net::{Kept, Lane, Net, others};
 use do_traced::Traced;
 use std::alloc::AllocError;
 
-/// Appends what a frame that stands in a lane names, read by the names that its reader read last.
-/// The mark of a loss names nothing. False exactly where it is a frame that cannot be read.
+/// Appends the objects that a frame in a lane names, read by the names that its reader read last.
+///
+/// The mark of a loss names nothing. False exactly where the frame cannot be read.
 #[tactic(auto, using(crate::proofs::LaneTurn::lane_turns))]
 fn push_kept(
     objects: &mut Oids,
@@ -48,8 +49,9 @@ fn push_kept(
     }
 }
 
-/// Appends what the frames in a lane name, read by the names that its reader read last, up to the
-/// first that cannot be read.
+/// Appends the objects that the frames in a lane name, up to the first frame that cannot be read.
+///
+/// They are read by the names that the lane's reader read last.
 fn push_lane(
     objects: &mut Oids,
     table: &ClassTable,
@@ -72,7 +74,7 @@ fn push_lane(
     Ok(())
 }
 
-/// The names that a node read last from another; none where it is no node.
+/// The names that a node read last from another; none where there is no such node.
 fn names_by<S: Traced>(net: &Net<S>, port: NodeId, from: NodeId) -> Result<Recent, AllocError>
     ensures names { IfOk result (λ names.
         names ≡ names_by (network S.seen net.now) port from) }
@@ -85,7 +87,7 @@ fn names_by<S: Traced>(net: &Net<S>, port: NodeId, from: NodeId) -> Result<Recen
     }
 }
 
-/// Appends what is under way from one node to another names.
+/// Appends the objects that the frames on their way from one node to another name.
 fn push_way<S: Traced>(
     objects: &mut Oids,
     net: &Net<S>,
@@ -114,7 +116,7 @@ fn push_way<S: Traced>(
     )
 }
 
-/// Appends what is under way from one node to these names.
+/// Appends the objects that the frames on their way from one node to these peers name.
 fn push_ways_to<S: Traced>(
     objects: &mut Oids,
     net: &Net<S>,
@@ -132,7 +134,7 @@ fn push_ways_to<S: Traced>(
     Ok(())
 }
 
-/// Appends what is under way between the nodes of these ports names.
+/// Appends the objects that the frames on their way between the nodes of these ports name.
 pub(crate) fn push_ways<S: Traced>(
     objects: &mut Oids,
     net: &Net<S>,

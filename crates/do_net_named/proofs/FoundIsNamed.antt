@@ -1,18 +1,15 @@
 -- What is found by what nodes and queues tell is named in the state.
-use Rattle.std.proofs.Common.{◌≡◌, ◌∙◌, ◌++◌, ◌||◌, ℕ, Bool, true, false, List, [], ◌∷◌, map}
-use Rattle.std.proofs.Common.{Option, Some, None, refl, sym, ap, subst, inl, inr}
+use Rattle.std.proofs.Common.{◌≡◌, ◌∙◌, ◌++◌, ℕ, Bool, true, false, List, [], ◌∷◌, map, Option}
+use Rattle.std.proofs.Common.{Some, None, refl, sym, ap, subst, inl, inr}
 use Rattle.std.specs.Prelude.{not}
 use Rattle.std.specs.List.{filter, flat_map, list_any}
 use Rattle.std.proofs.lemmas.Bool.{and_parts}
 use Rattle.do_base.specs.names.Names.{ObjectName}
 use Rattle.do_cycles.proofs.Among.{item_named, node_named}
 use Rattle.do_cycles.proofs.InLists.{any_passes, images_in, joined_in, named_by_any}
-use Rattle.do_cycles.proofs.NamedInItems.{exported_named, released_named}
 use Rattle.do_leaks.proofs.Named.{in_either, same_is}
 use Rattle.do_lost.specs.Named.{item_names, named, serves}
-use Rattle.do_machine.specs.Entry.{has_entry, is_holder, is_on_its_way_back, is_reached}
-use Rattle.do_machine.specs.Entry.{is_under_way}
-use Rattle.do_machine.specs.Items.{exported, released}
+use Rattle.do_machine.specs.Entry.{has_entry, is_holder}
 use Rattle.do_machine.specs.Lists.{IsIn, some_passes}
 use Rattle.do_machine.specs.State.{holds, is_open, node, own, ports, queue}
 use Rattle.do_machine.specs.World.{others}
@@ -30,6 +27,7 @@ use Rattle.do_trace.specs.declared.outcome.NodeLine.{NodeLine}
 use Rattle.do_net_named.proofs.StandAlone.{chosen_in}
 use Rattle.do_net_named.proofs.StateNamed.{between_names, items_names, names_at, state_named}
 use Rattle.do_net_named.proofs.StateNamed.{told_at}
+use Rattle.do_cycles.proofs.EntriesNamed.{entry_held_or_named}
 
 -- an element that passes is in the list
 pub passing_in : {X : Type 0} (test : X → Bool) (xs : List X) → list_any test xs ≡ true →
@@ -66,19 +64,6 @@ module _ (S : State) (o : ObjectName) where
   named_more from to b (items.End serials) h = absurd (cc)
   named_more from to b _ h = h
 
-  -- items of which one passes a test name the object
-  by_items : (from to : ℕ) (test : Item → Bool) →
-      ((item : Item) → test item ≡ true →
-      has_object (item_names from to (serves S to from) item) o ≡ true) →
-      (found : Option (List Item)) → queue S from to ≡ found →
-      some_passes (list_any test) found ≡ true → has_object (named S) o ≡ true
-  by_items from to test leads None e h = absurd (cc)
-  by_items from to test leads (Some sent) e h =
-      let at = passing_in test sent h in
-      item_named S o from to sent e
-      (any_passes (λ item. has_object (item_names from to (serves S to from) item) o) sent at.0 at.1
-      (leads at.0 at.2))
-
   -- a peer whose end is closed is no holder
   no_holder : (peer : ℕ) (found : Option Node) → node S peer ≡ found →
       serves S peer o.node ≡ false → some_passes (is_holder o) found ≡ true → ⊥
@@ -93,23 +78,10 @@ module _ (S : State) (o : ObjectName) where
   -- an object in use at a peer whose end is closed is named by an item
   entry_named : (peer : ℕ) → has_entry S peer o ≡ true → serves S peer o.node ≡ false →
       has_object (named S) o ≡ true
-  entry_named peer h shut =
-      let held = some_passes (is_holder o) (node S peer) in
-      let out = is_under_way S peer o in
-      let back = is_on_its_way_back S peer o in
-      let parts = and_parts (is_reached S peer o) ((held || out) || back) h in
-      elim (or_cases (held || out) back parts.1) [
-        | inl x ↦ elim (or_cases held out x) [
-          | inl y ↦ absurd (no_holder peer (node S peer) refl shut y)
-          | inr y ↦ by_items o.node peer (λ item. has_object (exported o.node peer item) o)
-              (λ item e. exported_named o.node peer (serves S peer o.node) item o e)
-              (queue S o.node peer) refl y
-        ]
-        | inr x ↦ by_items peer o.node (λ item. has_object (released peer o.node item) o)
-            (λ item e.
-            subst (λ b. has_object (item_names peer o.node b item) o ≡ true) (sym parts.0)
-            (released_named peer o.node item o e)) (queue S peer o.node) refl x
-      ]
+  entry_named peer h shut = elim (entry_held_or_named S o peer h) [
+    | inl y ↦ absurd (no_holder peer (node S peer) refl shut y)
+    | inr y ↦ y
+  ]
 
   -- what an end that closed tells of is named
   told_named : (line : NodeLine) → IsIn (snapshot S).nodes line →
