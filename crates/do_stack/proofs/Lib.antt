@@ -1,5 +1,5 @@
 mod Answers
-mod LateRows
+mod rows
 pub mod UsesMove
 mod UsesExchanged
 mod References

@@ -1,6 +1,7 @@
 //! The stack of a node: what a caller sees of it, and each change.
 mod calls;
 mod ends;
+mod steps;
 
 ghost use Rattle.std.specs.Prelude.{◌≡◌, ◌+◌, ◌-◌, ◌<◌, ◌≤◌, ◌∷◌, [], length, OnOk, OnErr, IfOk};
 ghost use Rattle.std.specs.Prelude.{IfErr, IsOk, MatchOption, Some, None, slice_get, cond, List};
@@ -25,6 +26,7 @@ use std::marker::Model;
 /// An invocation that found no memory, handed back.
 #[derive(Debug, Drop)]
 pub struct PushBack {
+    /// The invocation.
     pub inv: Invocation,
 }
 
@@ -76,6 +78,9 @@ impl Stack {
         ensures ok { OnOk result (more ≤ self.new.spare) }
         ensures kept { self.old.spare ≤ self.new.spare }
     {
+        if more == 0 {
+            return Ok(());
+        }
         self.invs.reserve(more as usize)?;
         self.late.reserve(more)
     }

@@ -8,11 +8,12 @@ ghost use Rattle.do_stack.specs.Waiting.{waiting, with_answer, with_top};
 ghost use Rattle.do_stack.specs.Uses.{uses, stack_uses};
 ghost use Rattle.do_stack.specs.Places.{NoneWaits, IsPlaceOf};
 ghost use Rattle.do_machine.specs.held.Refers.{answer_values, state_values};
+ghost use Rattle.do_machine.specs.run.Changes.{stands};
 ghost use Rattle.do_stack.specs.Answered.{answer_taken, top_answer, values_taken};
 
 use super::Stack;
 use crate::waits::{asked, take_answer, waits};
-use do_base::{CallId, NodeId};
+use do_base::{CallId, Locals, NodeId};
 use do_behave::{Answer, InvState, Waited};
 
 impl Stack {
@@ -74,6 +75,22 @@ impl Stack {
             ≡ stack_uses o self.old.invocations }
     {
         self.invs[0].state = InvState::Waits { call, peer, what };
+    }
+
+    /// The top invocation stands at a place of its method in a state, and what comes then goes to
+    /// these locals.
+    pub fn stand(&mut self, pc: u32, into: u8, outs: Locals, state: InvState)
+        requires { 0 < length self.old.invocations }
+        ensures invocations { self.new.invocations
+            ≡ with_top (stands pc into outs state) self.old.invocations }
+        ensures late { self.new.late ≡ self.old.late }
+        ensures spare { self.new.spare ≡ self.old.spare }
+    {
+        let top = &mut self.invs[0];
+        top.pc = pc;
+        top.into = into;
+        top.outs = outs;
+        top.state = state;
     }
 
     /// Takes the answer that the top invocation has, which then runs. None exactly where it has

@@ -4,7 +4,7 @@ use Rattle.std.specs.FinMap.{is_sorted}
 use Rattle.std.specs.FinMap.Entries.{is_sorted-where_key}
 use Rattle.do_machine.specs.take.Awaiting.{AnsweredCall}
 use Rattle.do_stack.specs.LateCalls.{call_of}
-use Rattle.do_stack.proofs.LateRows.{removed_is, none_answered}
+use Rattle.do_stack.proofs.rows.CallsAnswered.{removed_is, none_answered}
 use Rattle.do_stack.proofs.late.LateCalls.end.Goals as goal
 
 -- the rows stay sorted where one is taken out

@@ -1,6 +1,6 @@
 use Rattle.std.proofs.Common.{arith}
 use Rattle.do_machine.specs.take.Awaiting.{AnsweredCall}
-use Rattle.do_stack.proofs.LateRows.{found_is}
+use Rattle.do_stack.proofs.rows.CallsAnswered.{found_is}
 use Rattle.do_stack.proofs.late.LateCalls.has.Goals as goal
 
 -- no row has the number

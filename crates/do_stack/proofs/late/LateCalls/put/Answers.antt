@@ -4,7 +4,7 @@ use Rattle.std.specs.Cmp.{nat_cmp_total}
 use Rattle.std.specs.FinMap.{is_sorted}
 use Rattle.std.specs.FinMap.Entries.{is_sorted-put}
 use Rattle.do_stack.specs.LateCalls.{call_of}
-use Rattle.do_stack.proofs.LateRows.{kept_is}
+use Rattle.do_stack.proofs.rows.CallsKept.{kept_is}
 use Rattle.do_stack.proofs.late.LateCalls.put.Goals as goal
 
 -- a row that is put in its place leaves the rows sorted
