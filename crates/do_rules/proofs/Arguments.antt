@@ -1,16 +1,18 @@
 -- The members of lists that stand beside the arguments of a signature, from one argument on.
 use Rattle.std.proofs.Common.{◌≡◌, ℕ, zero, suc, ◌+◌, ◌-◌, ◌<◌, ◌≤◌, Bool, true, false, cond, List}
 use Rattle.std.proofs.Common.{[], ◌∷◌}
-use Rattle.std.proofs.Common.{◌++◌, length, map, take, drop, Some, refl, ap, ◌∙◌, subst, arith}
-use Rattle.std.specs.Prelude.{get_or, not, slice_get}
+use Rattle.std.proofs.Common.{◌++◌, length, map, take, drop, Some, refl, ap, ◌∙◌, subst, sym, arith}
+use Rattle.std.proofs.Common.{append_assoc}
+use Rattle.std.proofs.lemmas.List.{append-nil}
+use Rattle.std.specs.Prelude.{Err, Ok, OnOk, Result, get_or, not, slice_get}
 use Rattle.do_base.specs.declared.values.value.Value.{Value}
+use Rattle.do_base.specs.declared.values.value.Value.TheVariants.{Nil}
 use Rattle.do_sig.specs.MethodTypes.{MethodType, QualifiedType}
 use Rattle.do_sig.specs.Calls.{arg_fits, encoding_fits, is_oneway, qualifier_of, qualifiers_of}
 use Rattle.do_sig.specs.Calls.{some_fits}
 use Rattle.do_sig.specs.Fits.{each_takes}
 use Rattle.do_sig.specs.declared.qualifiers.Qualifier.{Qualifier}
-use Rattle.do_machine.specs.run.Send.{input, inputs_by, outs_by}
-use Rattle.do_rules.specs.Beside.{coming_out, passed}
+use Rattle.do_machine.specs.run.Send.{inputs_by, outs_by}
 
 -- An argument that stands first from a place on.
 record StandsFirst (oneway : Bool) (es : List QualifiedType) (k : ℕ) (q : Qualifier) : Type 0 where
@@ -151,19 +153,90 @@ qualifiers_more s k q h =
 
 pub ruleset qualifier_steps = (qualifiers_more)
 
--- values are passed as their arguments say
-pub passed_is : (oneway : Bool) (es : List QualifiedType) (vs : List Value) →
-    passed (map (qualifier_of oneway) es) vs ≡ inputs_by es vs
-passed_is oneway [] vs = refl
-passed_is oneway (e ∷ es) [] = refl
-passed_is oneway (e ∷ es) (v ∷ vs) = ap (λ ws. input e v ∷ ws) (passed_is oneway es vs)
+-- past the last argument no value is passed
+pub passed_past : (s : MethodType) (k : ℕ) (old vs : List Value) → length s.args ≤ k →
+    old ≡ old ++ inputs_by (drop k s.args) vs
+passed_past s k old vs h =
+    sym (ap (λ es. old ++ inputs_by es vs) (none_left s.args k h) ∙ append-nil old)
 
--- members come out as their arguments say
-pub coming_out_is : {X : Type 0} (oneway : Bool) (es : List QualifiedType) (xs : List X) →
-    coming_out (map (qualifier_of oneway) es) xs ≡ outs_by oneway es xs
-coming_out_is oneway [] xs = refl
-coming_out_is oneway (e ∷ es) [] = refl
-coming_out_is oneway (e ∷ es) (x ∷ xs) =
-    ap (λ ys. cond (qualifier_of oneway e).comes_out (x ∷ ys) ys) (coming_out_is oneway es xs)
+-- without a value none is passed
+pub passed_none : (es : List QualifiedType) (old vs : List Value) → length vs < 1 →
+    old ≡ old ++ inputs_by es vs
+passed_none [] old vs h = sym (append-nil old)
+passed_none (e ∷ es) old [] h = sym (append-nil old)
+passed_none (e ∷ es) old (v ∷ vs) h = absurd (omega (arith, h))
 
-pub ruleset beside_steps = (passed_is, coming_out_is)
+-- the first value is passed as the argument at the place says
+passed_next : (s : MethodType) (k : ℕ) (q : Qualifier) (v : Value) (vs : List Value) →
+    slice_get (qualifiers_of s) k ≡ Some q →
+    inputs_by (drop k s.args) (v ∷ vs) ≡ cond q.goes_in v Nil ∷ inputs_by (drop (k + 1) s.args) vs
+passed_next s k q v vs h =
+    let f = stands_first (is_oneway s) s.args k q h in
+    ap (λ es. inputs_by es (v ∷ vs)) (first_is s k q f)
+    ∙ ap (λ (w : Qualifier). cond w.goes_in v Nil ∷ inputs_by (drop (k + 1) s.args) vs) f.is
+
+-- the first value is appended as it is passed, and those behind it follow
+pub passed_at : (s : MethodType) (k : ℕ) (q : Qualifier) (xs : List Value) (v w : Value)
+    (old mid new : List Value) → 1 ≤ length xs → v ≡ get_or xs 0 v →
+    slice_get (qualifiers_of s) k ≡ Some q → w ≡ cond q.goes_in v Nil → mid ≡ old ++ w ∷ [] →
+    new ≡ mid ++ inputs_by (drop (k + 1) s.args) (take (length xs - 1) (drop 1 xs)) →
+    new ≡ old ++ inputs_by (drop k s.args) xs
+passed_at s k q [] v w old mid new some at h is more rest = absurd (omega (arith, some))
+passed_at s k q (y ∷ ys) v w old mid new some at h is more rest =
+    let others = inputs_by (drop (k + 1) s.args) ys in
+    rest ∙ ap (λ zs. mid ++ inputs_by (drop (k + 1) s.args) zs) (behind ys)
+    ∙ ap (λ m. m ++ others) more ∙ append_assoc old (w ∷ []) others
+    ∙ ap (λ u. old ++ u ∷ others) (is ∙ ap (λ z. cond q.goes_in z Nil) at)
+    ∙ ap (λ zs. old ++ zs) (sym (passed_next s k q y ys h))
+
+-- past the last argument nothing comes out
+pub outs_past : {X : Type 0} (s : MethodType) (k : ℕ) (old xs : List X) → length s.args ≤ k →
+    old ≡ old ++ outs_by (is_oneway s) (drop k s.args) xs
+outs_past s k old xs h =
+    sym (ap (λ es. old ++ outs_by (is_oneway s) es xs) (none_left s.args k h) ∙ append-nil old)
+
+-- of an empty list nothing comes out
+pub outs_none : {X : Type 0} (oneway : Bool) (es : List QualifiedType) (old xs : List X) →
+    length xs < 1 → old ≡ old ++ outs_by oneway es xs
+outs_none oneway [] old xs h = sym (append-nil old)
+outs_none oneway (e ∷ es) old [] h = sym (append-nil old)
+outs_none oneway (e ∷ es) old (x ∷ xs) h = absurd (omega (arith, h))
+
+-- a member alone, and then the others
+one_first : {X : Type 0} (b : Bool) (x : X) (xs : List X) →
+    cond b (x ∷ []) [] ++ xs ≡ cond b (x ∷ xs) xs
+one_first true x xs = refl
+one_first false x xs = refl
+
+-- the first member comes out where the argument at the place does
+outs_next : {X : Type 0} (s : MethodType) (k : ℕ) (q : Qualifier) (x : X) (xs : List X) →
+    slice_get (qualifiers_of s) k ≡ Some q →
+    outs_by (is_oneway s) (drop k s.args) (x ∷ xs)
+    ≡ cond q.comes_out (x ∷ outs_by (is_oneway s) (drop (k + 1) s.args) xs)
+    (outs_by (is_oneway s) (drop (k + 1) s.args) xs)
+outs_next s k q x xs h =
+    let f = stands_first (is_oneway s) s.args k q h in
+    let others = outs_by (is_oneway s) (drop (k + 1) s.args) xs in
+    ap (λ es. outs_by (is_oneway s) es (x ∷ xs)) (first_is s k q f)
+    ∙ ap (λ (w : Qualifier). cond w.comes_out (x ∷ others) others) f.is
+
+-- the first member is appended where it comes out, and those behind it follow
+pub outs_at : {X : Type 0} (s : MethodType) (k : ℕ) (q : Qualifier) (xs : List X) (x : X)
+    (old mid new : List X) → 1 ≤ length xs → x ≡ get_or xs 0 x →
+    slice_get (qualifiers_of s) k ≡ Some q → mid ≡ old ++ cond q.comes_out (x ∷ []) [] →
+    new ≡ mid ++ outs_by (is_oneway s) (drop (k + 1) s.args) (take (length xs - 1) (drop 1 xs)) →
+    new ≡ old ++ outs_by (is_oneway s) (drop k s.args) xs
+outs_at s k q [] x old mid new some at h more rest = absurd (omega (arith, some))
+outs_at s k q (y ∷ ys) x old mid new some at h more rest =
+    let es = drop (k + 1) s.args in
+    let others = outs_by (is_oneway s) es ys in
+    rest ∙ ap (λ zs. mid ++ outs_by (is_oneway s) es zs) (behind ys)
+    ∙ ap (λ m. m ++ others) more ∙ append_assoc old (cond q.comes_out (x ∷ []) []) others
+    ∙ ap (λ zs. old ++ zs) (one_first q.comes_out x others)
+    ∙ ap (λ z. old ++ cond q.comes_out (z ∷ others) others) at
+    ∙ ap (λ zs. old ++ zs) (sym (outs_next s k q y ys h))
+
+-- what follows of a value holds where a call gave one
+pub on_ok : {A E : Type 0} {P Q : Type 0} (r : Result A E) → (P → Q) → OnOk r P → OnOk r Q
+on_ok (Ok x) f p = f p
+on_ok (Err e) f p = tt

@@ -1,9 +1,11 @@
 -- What the program judges a step by, as the definitions have it.
-use Rattle.std.specs.Prelude.{Bool, List, Option, [], option_map, ℕ}
+use Rattle.std.specs.Prelude.{Bool, List, Option, [], option_map, ℕ, ◌∷◌, ◌≡◌}
 use Rattle.do_base.specs.declared.values.value.Value.{Value}
 use Rattle.do_behave.specs.declared.invocation.Invocation.{Invocation}
 use Rattle.do_machine.specs.declared.node.Node.{Node}
 use Rattle.do_machine.specs.declared.state.State.{State}
+use Rattle.do_machine.specs.declared.state.Effect.{Effect}
+use Rattle.do_machine.specs.Effect.{only}
 use Rattle.do_machine.specs.Entry.{has_entry}
 use Rattle.do_machine.specs.State.{own, stored}
 use Rattle.do_machine.specs.Context.{Context, Found, RunContext, context}
@@ -18,6 +20,18 @@ step_of c = context c.table.now c.state.now c.node.now
 -- a run of a node
 abbrev pub run_of : Run → RunContext
 run_of r = record { context = step_of r.context; top = r.top.now; below = r.below.now }
+
+-- a run of the invocation on top of its node's stack
+abbrev pub IsOfNode : Run → Type 0
+IsOfNode r = r.context.node.now.stack ≡ r.top.now ∷ r.below.now
+
+-- a node as it is before a run of it
+abbrev pub IsRunAt : Run → Node → Type 0
+IsRunAt r n = (n ≡ r.context.node.now) × IsOfNode r
+
+-- an effect of a run that nothing was done to yet
+abbrev pub IsBegun : Run → Effect → Type 0
+IsBegun r e = (e ≡ only r.context.node.now) × IsOfNode r
 
 -- a run as it is judged, in which the invocations below do not matter
 abbrev pub turn_in : Context → Invocation → RunContext

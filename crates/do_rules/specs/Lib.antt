@@ -3,7 +3,6 @@ pub mod Judged
 pub mod Exporting
 pub mod Naming
 pub mod HeldUp
-pub mod Beside
 pub mod Answering
 pub mod Packable
 pub mod Ruling

@@ -12,26 +12,57 @@ pub(crate) mod named;
 pub(crate) mod naming;
 pub(crate) mod objects;
 
+use crate::lists::{Test, has};
 use do_base::{Items, NodeId, Oid, Oids};
 use do_behave::{InvState, Invocation};
 use do_class::ClassId;
-use do_machine::{Heap, Node, Shared, Stored};
+use do_machine::{Heap, Node, Shared, Stored, Wanted};
 
 /// The most invocations of a node.
 const MOST: usize = 256;
+
+impl Test<NodeId> for NodeId {
+    ghost use Rattle.std.specs.Prelude.{◌==◌};
+
+    ghost passes = { λ node other. other == node };
+
+    fn passes(&self, other: &NodeId) -> bool {
+        *other == *self
+    }
+}
+
+impl Test<Oid> for Oid {
+    ghost use Rattle.do_packet.specs.Met.{same_object};
+
+    ghost passes = { same_object };
+
+    fn passes(&self, other: &Oid) -> bool {
+        *self == *other
+    }
+}
+
+impl Test<Wanted> for Oid {
+    ghost use Rattle.do_packet.specs.Met.{same_object};
+
+    ghost passes = { λ object wanted. same_object object wanted.object };
+
+    fn passes(&self, wanted: &Wanted) -> bool {
+        *self == wanted.object
+    }
+}
 
 /// Whether the node's end towards a peer is open.
 pub fn is_open(node: &Node, peer: NodeId) -> bool
     ensures { result ≡ is_open node.now peer }
 {
-    node.open_to.as_slice().iter().any(|port| *port == peer)
+    has(node.open_to.as_slice(), &peer)
 }
 
 /// Whether an object is among others.
 pub fn has_object(objects: &Oids, object: &Oid) -> bool
     ensures { result ≡ has_object objects.now object.now }
 {
-    objects.as_slice().iter().any(|other| *object == *other)
+    has(objects.as_slice(), object)
 }
 
 /// Whether the node counts as a holder of a foreign object.
@@ -45,10 +76,7 @@ pub(crate) fn holds(node: &Node, object: &Oid) -> bool
 fn has_asked(node: &Node, object: &Oid) -> bool
     ensures { result ≡ has_asked node.now object.now }
 {
-    node.asked
-        .as_slice()
-        .iter()
-        .any(|wanted| *object == wanted.object)
+    has(node.asked.as_slice(), object)
 }
 
 /// Whether the node may use a foreign object.

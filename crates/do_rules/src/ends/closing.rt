@@ -10,6 +10,7 @@ use crate::effect::{Done, given, queue, unchanged};
 use crate::ends::peers::BesidePeer;
 use crate::lend::asking::settle_all;
 use crate::lists::keep;
+use crate::run::changes::be_answered;
 use do_base::{Exc, Items, NodeId, Oids};
 use do_behave::{Answer, InvState, Invocation};
 use do_machine::{Effect, Item, Node, Wanted};
@@ -32,14 +33,26 @@ fn serials_of(peer: NodeId, objects: &Oids) -> Result<Items<u64>, AllocError>
 fn lose(peer: NodeId, invocation: &mut Invocation)
     ensures { invocation.new ≡ without_answer peer invocation.old }
 {
-    let InvState::Waits { peer: asked, .. } = &invocation.state else {
-        return;
-    };
-    let waits_on = *asked;
-    if waits_on != peer {
-        return;
+    match &invocation.state {
+        InvState::Waits { peer: asked, .. } => {
+            let asked = *asked;
+            if asked == peer {
+                be_answered(invocation, Answer::Raised(Exc::ConnectionDied));
+            }
+        }
+        InvState::Running => {}
+        InvState::Below => {}
+        InvState::Answered(_) => {}
     }
-    invocation.state = InvState::Answered(Answer::Raised(Exc::ConnectionDied));
+}
+
+/// A copy of an invocation, which loses a peer.
+fn without_answer(peer: NodeId, invocation: &Invocation) -> Result<Invocation, AllocError>
+    ensures { IfOk result (λ i. i ≡ without_answer peer invocation.now) }
+{
+    let mut next = invocation.clone()?;
+    lose(peer, &mut next);
+    Ok(next)
 }
 
 /// Invocations that lose a peer.
@@ -48,9 +61,7 @@ fn stack_without(peer: NodeId, stack: &Items<Invocation>) -> Result<Items<Invoca
 {
     let mut after = Items::new(stack.allocator());
     for invocation in stack.as_slice() {
-        let mut next = invocation.clone()?;
-        lose(peer, &mut next);
-        after.push(next)?;
+        after.push(without_answer(peer, invocation)?)?;
     }
     Ok(after)
 }

@@ -9,7 +9,7 @@ ghost use Rattle.do_machine.specs.State.{is_open, node};
 ghost use Rattle.do_rules.specs.Exporting.{exports_of, releases_of};
 ghost use Rattle.do_rules.specs.HeldUp.{entered, held_of, held_up, named_by};
 
-use crate::effect::Done;
+use crate::effect::{Done, given};
 use crate::node::naming::{push_exports, push_releases};
 use crate::node::objects::push_stack;
 use crate::node::{has_object, is_open};
@@ -109,12 +109,19 @@ fn push_all_entered(objects: &mut Oids, state: &State, node: &Node) -> Done
     Ok(())
 }
 
+/// Appends the objects of a node that an invocation names or that have an entry for a peer.
+fn push_held_up(objects: &mut Oids, state: &State, node: &Node) -> Done
+    ensures { OnOk result (objects.new ≡ objects.old ++ held_up state.now node.now) }
+{
+    push_stack(objects, &node.stack)?;
+    push_all_entered(objects, state, node)
+}
+
 /// The objects of a node that an invocation names or that have an entry for a peer.
 pub(crate) fn held_up(state: &State, node: &Node) -> Result<Oids, AllocError>
     ensures { IfOk result (λ os. os ≡ held_up state.now node.now) }
 {
     let mut objects = Oids::new(node.stack.allocator());
-    push_stack(&mut objects, &node.stack)?;
-    push_all_entered(&mut objects, state, node)?;
-    Ok(objects)
+    let done = push_held_up(&mut objects, state, node);
+    given(objects, done)
 }

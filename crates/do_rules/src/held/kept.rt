@@ -8,12 +8,15 @@ ghost use Rattle.do_machine.specs.held.Refers.{heap_objects, stack_objects};
 ghost use Rattle.do_rules.specs.HeldUp.{stays_by};
 ghost use Rattle.do_rules.specs.Judged.{entry_in};
 
+use crate::effect::given;
 use crate::held::entered::held_up;
+use crate::lists::{Test, all, keep};
 use crate::node::named::Named;
 use crate::node::objects::{heap_objects, push_stack};
 use crate::node::own;
 use do_base::{Items, Oids};
-use do_machine::{Heap, Node, State, Stored};
+use do_behave::Invocation;
+use do_machine::{Heap, Node, Shared, State, Stored};
 use std::alloc::AllocError;
 
 /// Whether an own object is the root.
@@ -36,6 +39,29 @@ fn stays(node: &Node, held_up: &Named, named: &Named, stored: &Stored) -> bool
     is_root(node, stored.serial) || held_up.has(&object) || named.has(&object)
 }
 
+/// Objects of a heap that stay, by the objects that slots name.
+#[derive(Drop)]
+struct Staying<'a> {
+    node: &'a Node,
+    held_up: &'a Named,
+    named: &'a Named,
+}
+
+impl<'a> Test<Shared<Stored>> for Staying<'a> {
+    ghost use Rattle.std.specs.Prelude.{◌||◌};
+    ghost use Rattle.do_packet.specs.Met.{has_object};
+    ghost use Rattle.do_machine.specs.State.{own};
+    ghost use Rattle.do_machine.specs.held.Kept.{is_root};
+
+    ghost passes = { λ staying stored. (is_root staying.node.now stored.serial
+        || has_object staying.held_up.now (own staying.node.now stored.serial))
+        || has_object staying.named.now (own staying.node.now stored.serial) };
+
+    fn passes(&self, stored: &Shared<Stored>) -> bool {
+        stays(self.node, self.held_up, self.named, stored.get())
+    }
+}
+
 /// Whether each object of a node is the root, or among those that are held up, or among those that
 /// slots name.
 fn all_among(node: &Node, held_up: &Named, named: &Named) -> bool
@@ -43,11 +69,28 @@ fn all_among(node: &Node, held_up: &Named, named: &Named) -> bool
         || has_object held_up.now (own node.now x.serial))
         || has_object named.now (own node.now x.serial)) node.now.heap }
 {
-    node.heap
-        .get()
-        .as_slice()
-        .iter()
-        .all(|stored| stays(node, held_up, named, stored.get()))
+    let staying = Staying {
+        node,
+        held_up,
+        named,
+    };
+    all(node.heap.get().as_slice(), &staying)
+}
+
+/// The objects that invocations name.
+fn called(stack: &Items<Invocation>) -> Result<Named, AllocError>
+    ensures { IfOk result (λ named. named ≡ stack_objects stack.now) }
+{
+    let mut objects = Oids::new(stack.allocator());
+    let done = push_stack(&mut objects, stack);
+    Named::new(given(objects, done)?)
+}
+
+/// The objects that the slots of a heap name.
+fn named_in(heap: &Heap) -> Result<Named, AllocError>
+    ensures { IfOk result (λ named. named ≡ heap_objects heap.now) }
+{
+    Named::new(heap_objects(heap)?)
 }
 
 /// Whether each object stays even with no entry: it is the root, or an invocation or a slot names
@@ -56,10 +99,8 @@ pub(crate) fn all_stay(node: &Node) -> Result<bool, AllocError>
     ensures { IfOk result (λ all. all ≡ list_all
         (stays_by (stack_objects node.now.stack) node.now node.now.heap) node.now.heap) }
 {
-    let mut called = Oids::new(node.stack.allocator());
-    push_stack(&mut called, &node.stack)?;
-    let called = Named::new(called)?;
-    let named = Named::new(heap_objects(node.heap.get())?)?;
+    let called = called(&node.stack)?;
+    let named = named_in(node.heap.get())?;
     let all = all_among(node, &called, &named);
     Ok(all)
 }
@@ -75,12 +116,13 @@ fn those_that_stay(
         || has_object held_up.now (own node.now x.serial))
         || has_object named.now (own node.now x.serial)) heap.now) }
 {
-    let mut left = Items::new(heap.allocator());
-    for stored in heap.as_slice() {
-        if stays(node, held_up, named, stored.get()) {
-            left.push(stored.clone()?)?;
-        }
-    }
+    let mut left = heap.clone()?;
+    let staying = Staying {
+        node,
+        held_up,
+        named,
+    };
+    keep(&mut left, &staying);
     Ok(left)
 }
 
@@ -88,7 +130,7 @@ fn those_that_stay(
 fn struck(node: &Node, held_up: &Named, heap: &Heap) -> Result<Heap, AllocError>
     ensures { IfOk result (λ xs. xs ≡ filter (stays_by held_up.now node.now heap.now) heap.now) }
 {
-    let named = Named::new(heap_objects(heap)?)?;
+    let named = named_in(heap)?;
     those_that_stay(node, held_up, &named, heap)
 }
 

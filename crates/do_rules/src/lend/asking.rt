@@ -1,14 +1,12 @@
 //! What a node that was lent an object does until it holds it.
 ghost use Rattle.std.specs.Prelude.{◌≡◌, OnOk};
-ghost use Rattle.std.specs.List.{list_any};
 ghost use Rattle.do_machine.specs.Effect.{each};
 ghost use Rattle.do_machine.specs.lend.Asking.{ask_over, asking, same_wanted, settling};
 ghost use Rattle.do_rules.specs.Doing.{and_then};
 
 use crate::effect::{Done, queue};
-use crate::lists::{Ordered, Test, insert, keep};
+use crate::lists::{Ordered, Test, has, insert, keep};
 use crate::node::is_open;
-use do_base::Items;
 use do_machine::{Effect, Item, Wanted};
 
 impl Ordered for Wanted {
@@ -37,14 +35,14 @@ fn same_wanted(a: &Wanted, b: &Wanted) -> bool
     a.object == b.object && a_token.lender == b_token.lender && a_token.number == b_token.number
 }
 
-/// Whether an ask stands among others.
-fn has_wanted(asked: &Items<Wanted>, wanted: &Wanted) -> bool
-    ensures { result ≡ list_any (same_wanted wanted.now) asked.now }
-{
-    asked
-        .as_slice()
-        .iter()
-        .any(|other| same_wanted(wanted, other))
+impl Test<Wanted> for Wanted {
+    ghost use Rattle.do_machine.specs.lend.Asking.{same_wanted};
+
+    ghost passes = { same_wanted };
+
+    fn passes(&self, other: &Wanted) -> bool {
+        same_wanted(self, other)
+    }
 }
 
 /// All asks but one.
@@ -93,7 +91,7 @@ pub(crate) fn ask(effect: &mut Effect, wanted: &Wanted) -> Done
     if !is_open(&effect.node, home) {
         return settle(effect, wanted);
     }
-    if has_wanted(&effect.node.asked, wanted) {
+    if has(effect.node.asked.as_slice(), wanted) {
         return Ok(());
     }
     insert(&mut effect.node.asked, wanted.clone()?)?;

@@ -4,7 +4,7 @@ ghost use Rattle.do_base.specs.values.Values.{objects_of};
 ghost use Rattle.do_machine.specs.held.Refers.{heap_objects, invocation_objects, node_objects};
 ghost use Rattle.do_machine.specs.held.Refers.{objects_in, stack_objects, state_values};
 
-use crate::effect::Done;
+use crate::effect::{Done, given};
 use do_base::{Items, Oids, Value, Values};
 use do_behave::{Answer, Frame, InvState, Invocation};
 use do_machine::{Heap, Lends, Node, Wanted};
@@ -109,13 +109,21 @@ fn push_asked(objects: &mut Oids, asked: &Items<Wanted>) -> Done
     Ok(())
 }
 
+/// Appends the objects to which a node refers beside those that slots name.
+fn push_beside_heap(objects: &mut Oids, node: &Node) -> Done
+    ensures { OnOk result (objects.new ≡ objects.old ++ stack_objects node.now.stack
+        ++ map (λ l. l.object) node.now.lent ++ map (λ w. w.object) node.now.asked) }
+{
+    push_stack(objects, &node.stack)?;
+    push_lent(objects, &node.lent)?;
+    push_asked(objects, &node.asked)
+}
+
 /// All objects to which a node refers: in slots, invocations, lends and asks.
 pub(crate) fn node_objects(node: &Node) -> Result<Oids, AllocError>
     ensures { IfOk result (λ os. os ≡ node_objects node.now) }
 {
     let mut objects = heap_objects(node.heap.get())?;
-    push_stack(&mut objects, &node.stack)?;
-    push_lent(&mut objects, &node.lent)?;
-    push_asked(&mut objects, &node.asked)?;
-    Ok(objects)
+    let done = push_beside_heap(&mut objects, node);
+    given(objects, done)
 }

@@ -1,14 +1,14 @@
 //! Whether a node keeps no more than packing can count.
-ghost use Rattle.std.specs.Prelude.{◌≡◌, ◌&&◌, ◌<◌, length, nat_lt};
-ghost use Rattle.std.specs.List.{list_all};
+ghost use Rattle.std.specs.Prelude.{◌≡◌};
 ghost use Rattle.do_machine.specs.State.{class_of};
-ghost use Rattle.do_rules.specs.Packable.{is_class_in, is_light, is_packable};
+ghost use Rattle.do_rules.specs.Packable.{is_class_in, is_packable};
 
+use crate::lists::{Test, all};
 use crate::packing::weights::are_light;
 use crate::state::class_of;
-use do_base::{Items, Oid, Oids};
+use do_base::Oid;
 use do_class::{ClassId, ClassTable};
-use do_machine::{Heap, Node, State, Wanted};
+use do_machine::{Node, Shared, State, Stored, Wanted};
 
 /// Whether a class, if it is known, is one of the table.
 fn is_class_in(table: &ClassTable, class: Option<ClassId>) -> bool
@@ -20,24 +20,6 @@ fn is_class_in(table: &ClassTable, class: Option<ClassId>) -> bool
     }
 }
 
-/// Whether stored objects are of classes of the table.
-fn are_classed(table: &ClassTable, heap: &Heap) -> bool
-    ensures { result ≡ list_all (λ x. nat_lt x.class.0 (length table.now)) heap.now }
-{
-    heap.as_slice()
-        .iter()
-        .all(|stored| is_class_in(table, Some(stored.get().class)))
-}
-
-/// Whether the slots of stored objects weigh less than packing can count.
-fn slots_are_light(heap: &Heap) -> bool
-    ensures { result ≡ list_all is_light heap.now }
-{
-    heap.as_slice()
-        .iter()
-        .all(|stored| are_light(&stored.get().slots))
-}
-
 /// Whether the class of a foreign object, if it is known, is one of the table.
 fn is_classed(table: &ClassTable, state: &State, object: &Oid) -> bool
     ensures { result ≡ is_class_in table.now (class_of state.now object.now) }
@@ -45,25 +27,59 @@ fn is_classed(table: &ClassTable, state: &State, object: &Oid) -> bool
     is_class_in(table, class_of(state, object))
 }
 
-/// Whether the classes of foreign objects are of the table.
-fn held_is_classed(table: &ClassTable, state: &State, held: &Oids) -> bool
-    ensures { result ≡ list_all
-        (λ o. is_class_in table.now (class_of state.now o)) held.now }
-{
-    held.as_slice()
-        .iter()
-        .all(|object| is_classed(table, state, object))
+/// Objects whose class, if it is known, is one of the table.
+#[derive(Drop)]
+struct Classed<'a> {
+    table: &'a ClassTable,
+    state: &'a State,
 }
 
-/// The same of foreign objects that were asked for.
-fn asked_is_classed(table: &ClassTable, state: &State, asked: &Items<Wanted>) -> bool
-    ensures { result ≡ list_all
-        (λ w. is_class_in table.now (class_of state.now w.object)) asked.now }
-{
-    asked
-        .as_slice()
-        .iter()
-        .all(|wanted| is_classed(table, state, &wanted.object))
+impl<'a> Test<Shared<Stored>> for Classed<'a> {
+    ghost use Rattle.std.specs.Prelude.{length, nat_lt};
+
+    ghost passes = { λ classed stored. nat_lt stored.class.0 (length classed.table.now) };
+
+    fn passes(&self, stored: &Shared<Stored>) -> bool {
+        is_class_in(self.table, Some(stored.get().class))
+    }
+}
+
+impl<'a> Test<Oid> for Classed<'a> {
+    ghost use Rattle.do_machine.specs.State.{class_of};
+    ghost use Rattle.do_rules.specs.Packable.{is_class_in};
+
+    ghost passes = { λ classed object. is_class_in classed.table.now
+        (class_of classed.state.now object) };
+
+    fn passes(&self, object: &Oid) -> bool {
+        is_classed(self.table, self.state, object)
+    }
+}
+
+impl<'a> Test<Wanted> for Classed<'a> {
+    ghost use Rattle.do_machine.specs.State.{class_of};
+    ghost use Rattle.do_rules.specs.Packable.{is_class_in};
+
+    ghost passes = { λ classed wanted. is_class_in classed.table.now
+        (class_of classed.state.now wanted.object) };
+
+    fn passes(&self, wanted: &Wanted) -> bool {
+        is_classed(self.table, self.state, &wanted.object)
+    }
+}
+
+/// Stored objects whose slots weigh less than packing can count.
+#[derive(Clone, Copy)]
+struct Light;
+
+impl Test<Shared<Stored>> for Light {
+    ghost use Rattle.do_rules.specs.Packable.{is_light};
+
+    ghost passes = { λ light stored. is_light stored };
+
+    fn passes(&self, stored: &Shared<Stored>) -> bool {
+        are_light(&stored.get().slots)
+    }
 }
 
 /// Whether all objects that the node may name are of classes of the table, and the slots of its
@@ -71,8 +87,10 @@ fn asked_is_classed(table: &ClassTable, state: &State, asked: &Items<Wanted>) ->
 pub(crate) fn is_packable(table: &ClassTable, state: &State, node: &Node) -> bool
     ensures { result ≡ is_packable table.now state.now node.now }
 {
-    are_classed(table, node.heap.get())
-        && slots_are_light(node.heap.get())
-        && held_is_classed(table, state, &node.held)
-        && asked_is_classed(table, state, &node.asked)
+    let classed = Classed { table, state };
+    let heap = node.heap.get().as_slice();
+    all(heap, &classed)
+        && all(heap, &Light)
+        && all(node.held.as_slice(), &classed)
+        && all(node.asked.as_slice(), &classed)
 }

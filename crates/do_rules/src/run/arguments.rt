@@ -1,37 +1,24 @@
 //! The values of a send and of an answer, as the signature has them.
-ghost use Rattle.std.specs.Prelude.{◌≡◌, ◌++◌, IfOk, OnOk, drop, if◌then◌else◌, map};
+ghost use Rattle.std.specs.Prelude.{◌≡◌, ◌∷◌, ◌++◌, [], IfOk, OnOk, drop, if◌then◌else◌, map};
 ghost use Rattle.do_sig.specs.Calls.{encoding_fits, is_oneway, qualifiers_of};
 ghost use Rattle.do_sig.specs.Fits.{each_takes};
-ghost use Rattle.do_machine.specs.run.Send.{inputs, outs_by, outs_of};
-ghost use Rattle.do_rules.specs.Beside.{coming_out, passed};
+ghost use Rattle.do_machine.specs.run.Send.{inputs, inputs_by, outs_by, outs_of};
 
 use crate::effect::Done;
 use crate::lists::copied;
 use do_base::{ExactClone, Flags, Items, Value, Values, copy_value};
 use do_machine::SendAct;
-use do_sig::{Qualifier, Signature};
+use do_sig::Signature;
 use std::alloc::{AllocError, Global};
 
-/// What the signature says of each argument, from the first on.
-#[tactic(auto, using(crate::proofs::Arguments::qualifier_steps))]
-fn qualifiers(alloc: Global, signature: &Signature) -> Result<Items<Qualifier>, AllocError>
-    ensures { IfOk result (λ qs. qs ≡ qualifiers_of signature.now) }
-{
-    let mut qualifiers = Items::new(alloc);
-    for k in 0..signature.args() {
-        qualifiers.push(signature.qualifier(k))?;
-    }
-    Ok(qualifiers)
-}
-
 /// Which arguments are copied.
+#[tactic(auto, using(crate::proofs::Arguments::qualifier_steps))]
 pub(crate) fn copy_marks(alloc: Global, signature: &Signature) -> Result<Flags, AllocError>
     ensures { IfOk result (λ flags. flags ≡ map (λ q. q.copy) (qualifiers_of signature.now)) }
 {
-    let qualifiers = qualifiers(alloc, signature)?;
     let mut marks = Flags::new(alloc);
-    for qualifier in qualifiers.as_slice() {
-        marks.push(qualifier.copy)?;
+    for k in 0..signature.args() {
+        marks.push(signature.qualifier(k).copy)?;
     }
     Ok(marks)
 }
@@ -47,61 +34,70 @@ fn input(goes_in: bool, value: &Value) -> Result<Value, AllocError>
     }
 }
 
-/// Appends values as they are passed, each beside what is said of its argument.
-fn push_passed(inputs: &mut Values, qualifiers: &[Qualifier], values: &[Value]) -> Done
-    ensures { OnOk result (inputs.new ≡ inputs.old ++ passed qualifiers.now values.now) }
+/// Appends values as they are passed, the first of them beside the argument at a place.
+fn push_passed(inputs: &mut Values, signature: &Signature, k: usize, values: &[Value]) -> Done
+    ensures { OnOk result (inputs.new
+        ≡ inputs.old ++ inputs_by (drop k signature.now.args) values.now) }
 {
-    let [qualifier, qualifiers @ ..] = qualifiers else {
+    if k >= signature.args() {
         return Ok(());
-    };
+    }
     let [value, values @ ..] = values else {
         return Ok(());
     };
-    inputs.push(input(qualifier.goes_in, value)?)?;
-    push_passed(inputs, qualifiers, values)
+    inputs.push(input(signature.qualifier(k).goes_in, value)?)?;
+    push_passed(inputs, signature, k + 1, values)
 }
 
 /// The values of a send as they are passed.
-#[tactic(auto, using(crate::proofs::Arguments::beside_steps))]
 pub(crate) fn inputs(signature: &Signature, send: &SendAct) -> Result<Values, AllocError>
     ensures { IfOk result (λ vs. vs ≡ inputs signature.now send.now) }
 {
-    let alloc = send.args.allocator();
-    let qualifiers = qualifiers(alloc, signature)?;
-    let mut values = Values::new(alloc);
-    push_passed(&mut values, qualifiers.as_slice(), send.args.as_slice())?;
+    let mut values = Values::new(send.args.allocator());
+    push_passed(&mut values, signature, 0, send.args.as_slice())?;
     Ok(values)
 }
 
-/// Appends of a list with one member beside each argument those at arguments that come out.
-fn push_outs<T: ExactClone>(outs: &mut Items<T>, qualifiers: &[Qualifier], items: &[T]) -> Done
-    ensures { OnOk result (outs.new ≡ outs.old ++ coming_out qualifiers.now items.now) }
+/// Appends a copy of a member whose argument comes out.
+fn push_if<T: ExactClone>(outs: &mut Items<T>, comes_out: bool, item: &T) -> Done
+    ensures { OnOk result (outs.new ≡ outs.old ++ (if comes_out then item.now ∷ [] else [])) }
 {
-    let [qualifier, qualifiers @ ..] = qualifiers else {
+    if !comes_out {
         return Ok(());
-    };
+    }
+    outs.push(copied(item)?)
+}
+
+/// Appends those members that stand beside arguments that come out, the first of them beside the
+/// argument at a place.
+fn push_outs<T: ExactClone>(
+    outs: &mut Items<T>,
+    signature: &Signature,
+    k: usize,
+    items: &[T],
+) -> Done
+    ensures { OnOk result (outs.new ≡ outs.old
+        ++ outs_by (is_oneway signature.now) (drop k signature.now.args) items.now) }
+{
+    if k >= signature.args() {
+        return Ok(());
+    }
     let [item, rest @ ..] = items else {
         return Ok(());
     };
-    if !qualifier.comes_out {
-        return push_outs(outs, qualifiers, rest);
-    }
-    outs.push(copied(item)?)?;
-    push_outs(outs, qualifiers, rest)
+    push_if(outs, signature.qualifier(k).comes_out, item)?;
+    push_outs(outs, signature, k + 1, rest)
 }
 
 /// Of a list with one member for each argument those that come out.
-#[tactic(auto, using(crate::proofs::Arguments::beside_steps))]
 pub(crate) fn outs_of<T: ExactClone>(
     signature: &Signature,
     items: &Items<T>,
 ) -> Result<Items<T>, AllocError>
     ensures { IfOk result (λ xs. xs ≡ outs_of signature.now items.now) }
 {
-    let alloc = items.allocator();
-    let qualifiers = qualifiers(alloc, signature)?;
-    let mut outs = Items::new(alloc);
-    push_outs(&mut outs, qualifiers.as_slice(), items.as_slice())?;
+    let mut outs = Items::new(items.allocator());
+    push_outs(&mut outs, signature, 0, items.as_slice())?;
     Ok(outs)
 }
 

@@ -1,49 +1,67 @@
 //! How an invocation changes.
-ghost use Rattle.std.specs.Prelude.{◌≡◌, IfOk};
-ghost use Rattle.do_machine.specs.run.Changes.{answered, stands, with_outs};
+ghost use Rattle.std.specs.Prelude.{◌≡◌, OnOk};
+ghost use Rattle.do_machine.specs.run.Changes.{answered, goes_on, stands, steps_to, uses};
+ghost use Rattle.do_machine.specs.run.Changes.{with_outs};
 
-use crate::lists::with_item;
-use do_base::{Locals, Value, copy_value};
-use do_behave::{Answer, Frame, Held, InvState, Invocation};
-use std::alloc::AllocError;
+use crate::effect::Done;
+use crate::lists::set_item;
+use do_base::{Locals, Value, Values, copy_value};
+use do_behave::{Answer, Frame, Handler, Held, InvState, Invocation};
 
 /// Values go to locals in order, so that a later one wins.
-pub(crate) fn with_outs(outs: &[u8], values: &[Value], locals: Frame) -> Result<Frame, AllocError>
-    ensures { IfOk result (λ vs. vs ≡ with_outs outs.now values.now locals) }
+fn set_outs(locals: &mut Frame, outs: &[u8], values: &[Value]) -> Done
+    ensures { OnOk result (locals.new ≡ with_outs outs.now values.now locals.old) }
 {
     let [local, outs @ ..] = outs else {
-        return Ok(locals);
+        return Ok(());
     };
     let [value, values @ ..] = values else {
-        return Ok(locals);
+        return Ok(());
     };
-    let held = Held::new(copy_value(value)?);
-    with_outs(outs, values, with_item(locals, *local as usize, held))
+    set_item(locals, *local as usize, Held::new(copy_value(value)?));
+    set_outs(locals, outs, values)
+}
+
+/// The invocation uses its answer: the result first, and then what came out.
+pub(crate) fn use_answer(top: &mut Invocation, value: Value, outs: &Values) -> Done
+    ensures { OnOk result (top.new ≡ uses value outs.now top.old) }
+{
+    set_item(&mut top.locals, top.into as usize, Held::new(value));
+    set_outs(&mut top.locals, top.outs.as_slice(), outs.as_slice())?;
+    top.state = InvState::Running;
+    Ok(())
+}
+
+/// The invocation goes on with other locals and another handler.
+pub(crate) fn step_to(top: &mut Invocation, pc: u32, locals: Frame, handler: Option<Handler>)
+    ensures { top.new ≡ steps_to pc locals handler top.old }
+{
+    top.pc = pc;
+    top.locals = locals;
+    top.handler = handler;
+}
+
+/// The invocation goes on with a value in a local.
+pub(crate) fn go_on(top: &mut Invocation, into: u8, value: Value, pc: u32)
+    ensures { top.new ≡ goes_on into value pc top.old }
+{
+    drop(top.set_local(into, value, pc));
+    top.state = InvState::Running;
 }
 
 /// The invocation stands in a state until something comes.
-pub(crate) fn stands(
-    top: &Invocation,
-    pc: u32,
-    into: u8,
-    outs: Locals,
-    state: InvState,
-) -> Result<Invocation, AllocError>
-    ensures { IfOk result (λ i. i ≡ stands pc into outs state top.now) }
+pub(crate) fn stand(top: &mut Invocation, pc: u32, into: u8, outs: Locals, state: InvState)
+    ensures { top.new ≡ stands pc into outs state top.old }
 {
-    let mut next = top.clone()?;
-    next.pc = pc;
-    next.into = into;
-    next.outs = outs;
-    next.state = state;
-    Ok(next)
+    top.pc = pc;
+    top.into = into;
+    top.outs = outs;
+    top.state = state;
 }
 
 /// An answer came.
-pub(crate) fn answered(invocation: &Invocation, answer: Answer) -> Result<Invocation, AllocError>
-    ensures { IfOk result (λ i. i ≡ answered answer invocation.now) }
+pub(crate) fn be_answered(invocation: &mut Invocation, answer: Answer)
+    ensures { invocation.new ≡ answered answer invocation.old }
 {
-    let mut next = invocation.clone()?;
-    next.state = InvState::Answered(answer);
-    Ok(next)
+    invocation.state = InvState::Answered(answer);
 }

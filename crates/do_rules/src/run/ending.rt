@@ -1,63 +1,50 @@
 //! How an invocation ends, and how its answer goes where it is waited for.
 ghost use Rattle.std.specs.Prelude.{◌≡◌, OnOk};
-ghost use Rattle.do_machine.specs.Effect.{only};
 ghost use Rattle.do_machine.specs.run.Delivery.{below_answered, delivery, failing, popped};
-ghost use Rattle.do_machine.specs.run.Delivery.{with_top};
 ghost use Rattle.do_machine.specs.run.Fresh.{with_stack};
 ghost use Rattle.do_rules.specs.Delivery.{delivered};
-ghost use Rattle.do_rules.specs.Judged.{run_of};
+ghost use Rattle.do_rules.specs.Judged.{IsBegun, IsRunAt, run_of};
 
 use crate::effect::{Done, given, queue, show};
 use crate::judged::{Run, Turn};
 use crate::lend::lending::lend;
 use crate::run::answers::exc_name;
-use crate::run::changes::answered;
+use crate::run::changes::be_answered;
 use crate::run::delivery::Delivery;
-use crate::run::fresh::put_on;
 use do_base::{Exc, NodeId, Value};
-use do_behave::{Answer, Handler, Invocation};
+use do_behave::{Answer, Handler};
 use do_class::Packet;
 use do_machine::{Effect, Item, Node};
 
 impl<'a> Run<'a> {
-    /// Replaces the top invocation.
-    pub(crate) fn put_top(&self, node: &mut Node, top: Invocation) -> Done
-        requires { node.old ≡ self.now.context.node.now }
-        ensures { OnOk result (node.new ≡ with_top (run_of self.now) top) }
-    {
-        put_on(node, top, self.below)
-    }
-
     /// Removes the top invocation.
-    fn pop(&self, node: &mut Node) -> Done
-        requires { node.old ≡ self.now.context.node.now }
-        ensures { OnOk result (node.new ≡ popped (run_of self.now)) }
+    fn pop(&self, node: &mut Node)
+        requires { IsRunAt self.now node.old }
+        ensures { node.new ≡ popped (run_of self.now) }
     {
-        node.stack.clear();
-        node.stack.extend_from_slice(self.below)
+        drop(node.stack.remove(0));
     }
 
     /// Removes the top invocation, and answers the one below it.
-    fn answer_below(&self, node: &mut Node, answer: Answer) -> Done
-        requires { node.old ≡ self.now.context.node.now }
-        ensures { OnOk result (node.new ≡ with_stack
-            (below_answered answer (run_of self.now).below) (run_of self.now).context.node) }
+    fn answer_below(&self, node: &mut Node, answer: Answer)
+        requires { IsRunAt self.now node.old }
+        ensures { node.new ≡ with_stack
+            (below_answered answer (run_of self.now).below) (run_of self.now).context.node }
     {
-        let [first, rest @ ..] = self.below else {
-            node.stack.clear();
-            return Ok(());
-        };
-        put_on(node, answered(first, answer)?, rest)
+        self.pop(node);
+        if !self.below.is_empty() {
+            be_answered(node.stack.at_mut(0), answer);
+        }
     }
 
     /// Removes the top invocation; a peer gets the message of its answer, and what that names of
     /// third nodes is lent.
     fn reply(&self, effect: &mut Effect, peer: NodeId, number: u64, packet: Packet) -> Done
-        requires { effect.old ≡ only self.now.context.node.now }
+        requires { IsBegun self.now effect.old }
         ensures { OnOk result (effect.new
             ≡ delivered (run_of self.now) (Delivery.Replies peer number packet)) }
     {
-        let packet = given(packet, self.pop(&mut effect.node))?;
+        self.pop(&mut effect.node);
         let done = lend(&mut effect.node, peer, &packet);
         let packet = given(packet, done)?;
         queue(effect, peer, Item::Reply { number, packet })
@@ -65,38 +52,44 @@ impl<'a> Run<'a> {
 
     /// Removes the top invocation; a peer gets the exception that it ended with.
     fn raise(&self, effect: &mut Effect, peer: NodeId, number: u64, exc: Exc) -> Done
-        requires { effect.old ≡ only self.now.context.node.now }
+        requires { IsBegun self.now effect.old }
         ensures { OnOk result (effect.new
             ≡ delivered (run_of self.now) (Delivery.Raises peer number exc)) }
     {
-        let exc = given(exc, self.pop(&mut effect.node))?;
+        self.pop(&mut effect.node);
         queue(effect, peer, Item::Raised { number, exc })
     }
 
     /// What the delivery of an answer does.
     fn hand_over(&self, effect: &mut Effect, delivery: Delivery) -> Done
-        requires { effect.old ≡ only self.now.context.node.now }
+        requires { IsBegun self.now effect.old }
         ensures { OnOk result (effect.new ≡ delivered (run_of self.now) delivery) }
     {
         match delivery {
             Delivery::Shows { line } => {
-                let line = given(line, self.pop(&mut effect.node))?;
+                self.pop(&mut effect.node);
                 show(effect, line)
             }
-            Delivery::Answers { answer } => self.answer_below(&mut effect.node, answer),
+            Delivery::Answers { answer } => {
+                self.answer_below(&mut effect.node, answer);
+                Ok(())
+            }
             Delivery::Replies {
                 peer,
                 number,
                 packet,
             } => self.reply(effect, peer, number, packet),
             Delivery::Raises { peer, number, exc } => self.raise(effect, peer, number, exc),
-            Delivery::Drops => self.pop(&mut effect.node),
+            Delivery::Drops => {
+                self.pop(&mut effect.node);
+                Ok(())
+            }
         }
     }
 
     /// The top invocation is popped, and its answer goes where it is waited for.
     pub(crate) fn deliver(&self, effect: &mut Effect, answer: Answer) -> Done
-        requires { effect.old ≡ only self.now.context.node.now }
+        requires { IsBegun self.now effect.old }
         ensures { OnOk result (effect.new
             ≡ delivery (run_of self.now) answer self.now.top.now.reason) }
     {
@@ -110,14 +103,15 @@ impl<'a> Run<'a> {
 
     /// An exception goes to the handler of the invocation, which stays, or ends it.
     pub(crate) fn fails(&self, effect: &mut Effect, exc: Exc, handler: Option<Handler>) -> Done
-        requires { effect.old ≡ only self.now.context.node.now }
+        requires { IsBegun self.now effect.old }
         ensures { OnOk result (effect.new ≡ failing (run_of self.now) exc handler) }
     {
         match handler {
             None => self.deliver(effect, Answer::Raised(exc)),
             Some(handler) => {
                 let name = exc_name(self.context.node.stack.allocator(), &exc)?;
-                self.goes(effect, handler.into, Value::Text(name), handler.pc)
+                self.goes(effect, handler.into, Value::Text(name), handler.pc);
+                Ok(())
             }
         }
     }

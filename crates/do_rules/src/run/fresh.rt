@@ -1,9 +1,11 @@
 //! An invocation as it begins, and objects as they are made.
-ghost use Rattle.std.specs.Prelude.{◌≡◌, ◌++◌, ◌-◌, ◌∷◌, [], IfOk, OnOk, length, replicate};
+ghost use Rattle.std.specs.Prelude.{◌≡◌, ◌≤◌, ◌+◌, ◌++◌, ◌-◌, ◌∷◌, [], IfOk, OnOk, length};
+ghost use Rattle.std.specs.Prelude.{replicate, vec_capacity, vec_len};
 ghost use Rattle.do_machine.specs.run.Fresh.{blank, fresh, pushed, with_objects};
-ghost use Rattle.do_machine.specs.run.Fresh.{with_serials, with_stack};
+ghost use Rattle.do_machine.specs.run.Fresh.{with_serials};
 
 use crate::effect::Done;
+use crate::lists::one;
 use do_base::{Items, Locals, Oid, Value, Values, copy_value};
 use do_behave::{Frame, Held, InvState, Invocation, Reason};
 use do_class::{ClassId, ClassTable, MethodId};
@@ -14,25 +16,28 @@ use std::alloc::{AllocError, Global};
 /// How many locals an invocation has.
 const LOCALS: usize = 16;
 
-/// Adds values as locals.
-fn add_values(locals: &mut Frame, values: &Values) -> Done
-    ensures { OnOk result (locals.new ≡ locals.old ++ values.now) }
+/// Adds values as locals, in room that was made before.
+fn add_values(locals: &mut Vec<Held>, values: &Values) -> Done
+    requires { vec_len locals.old + length values.now ≤ vec_capacity locals.old }
+    ensures items { OnOk result (locals.new.items ≡ locals.old.items ++ values.now) }
+    ensures count { OnOk result (vec_len locals.new ≡ vec_len locals.old + length values.now) }
+    ensures room { OnOk result (vec_capacity locals.new ≡ vec_capacity locals.old) }
 {
     for value in values.as_slice() {
-        locals.push(Held::new(copy_value(value)?))?;
+        locals.push_reserved(Held::new(copy_value(value)?));
     }
     Ok(())
 }
 
-/// Adds so many nils as locals.
+/// Adds so many nils as locals, in room that was made before.
 #[tactic(auto, using(crate::proofs::Padding::nil_steps))]
-fn add_nils(locals: &mut Frame, count: usize) -> Done
-    ensures { OnOk result (locals.new ≡ locals.old ++ replicate count Value.Nil) }
+fn add_nils(locals: &mut Vec<Held>, count: usize)
+    requires { vec_len locals.old + count ≤ vec_capacity locals.old }
+    ensures { locals.new.items ≡ locals.old.items ++ replicate count Value.Nil }
 {
     for _at in 0..count {
-        locals.push(Held::new(Value::Nil))?;
+        locals.push_reserved(Held::new(Value::Nil));
     }
-    Ok(())
 }
 
 /// Values in the first locals, and nil in the others.
@@ -40,10 +45,11 @@ fn first_locals(values: &Values) -> Result<Frame, AllocError>
     ensures { IfOk result (λ locals.
         locals ≡ values.now ++ replicate (16 - length values.now) Value.Nil) }
 {
-    let mut locals = Frame::with_capacity(values.allocator(), LOCALS)?;
+    let nils = LOCALS.saturating_sub(values.len());
+    let mut locals = Vec::with_capacity(values.allocator(), values.len() + nils)?;
     add_values(&mut locals, values)?;
-    add_nils(&mut locals, LOCALS.saturating_sub(values.len()))?;
-    Ok(locals)
+    add_nils(&mut locals, nils);
+    Ok(Frame::from_vec(locals))
 }
 
 /// A method of an own object as it begins: at place 0, with these values in the first of its 16
@@ -70,15 +76,6 @@ pub fn fresh(
         outs: Locals::new(values.allocator()),
         state: InvState::Running,
     })
-}
-
-/// The node with another stack: an invocation on top of others.
-pub(crate) fn put_on(node: &mut Node, top: Invocation, below: &[Invocation]) -> Done
-    ensures { OnOk result (node.new ≡ with_stack (top ∷ below.now) node.old) }
-{
-    node.stack.clear();
-    node.stack.push(top)?;
-    node.stack.extend_from_slice(below)
 }
 
 /// A method of an own object begins, on top of the node's stack.
@@ -129,9 +126,7 @@ pub(crate) fn one_blank(
 ) -> Result<ObjList, AllocError>
     ensures { IfOk result (λ new. new ≡ blank table.now class ∷ []) }
 {
-    let mut new = Items::new(alloc);
-    new.push(blank(alloc, table, class)?)?;
-    Ok(new)
+    one(alloc, blank(alloc, table, class)?)
 }
 
 /// An object as it is stored under a serial.

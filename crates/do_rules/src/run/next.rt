@@ -3,7 +3,7 @@ ghost use Rattle.std.specs.Prelude.{◌≡◌, IfOk, option_map};
 ghost use Rattle.do_behave.specs.Changes.{IsFitting, Means, meaning};
 ghost use Rattle.do_machine.specs.run.Run.{answer_rule, next_act, run_effect, state_rule};
 ghost use Rattle.do_machine.specs.run.Verdicts.{effect_of};
-ghost use Rattle.do_rules.specs.Judged.{run_of, step_of, turn_in};
+ghost use Rattle.do_rules.specs.Judged.{IsOfNode, run_of, step_of, turn_in};
 ghost use Rattle.do_rules.specs.Writing.{done_by, writing};
 
 use crate::basis::Basis;
@@ -168,6 +168,7 @@ impl<'a, N: Basis> Turn<'a, N> {
 impl<'a> Run<'a> {
     /// What the top invocation does, where it can act.
     fn effect<B: Behaviour>(&self, behaviour: &B) -> Result<Option<Effect>, AllocError>
+        requires { IsOfNode self.now }
         ensures { IfOk result (λ e. e ≡ option_map (effect_of (run_of self.now))
             (state_rule (B.act behaviour.now) (run_of self.now) (run_of self.now).top.state)) }
     {

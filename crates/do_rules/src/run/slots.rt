@@ -4,24 +4,22 @@ ghost use Rattle.do_behave.specs.InPlace.{written};
 ghost use Rattle.do_machine.specs.Lists.{change_first};
 ghost use Rattle.do_machine.specs.run.Changes.{with_slots, with_writes};
 
-use crate::effect::Done;
-use crate::lists::{item_at, with_item};
+use crate::effect::{Done, given};
+use crate::lists::{item_at, set_item};
 use do_base::{Values, copy_value};
 use do_behave::{Write, Writes};
 use do_machine::{Heap, Node, Shared, Stored};
 use std::alloc::AllocError;
 
-/// The slots with values written into them, in order.
-fn written(writes: &[Write], slots: Values) -> Result<Values, AllocError>
-    ensures { IfOk result (λ vs. vs ≡ written slots writes.now) }
+/// Writes values into slots, in order.
+fn write(slots: &mut Values, writes: &[Write]) -> Done
+    ensures { OnOk result (slots.new ≡ written slots.old writes.now) }
 {
-    match writes {
-        [] => Ok(slots),
-        [first, rest @ ..] => {
-            let slots = with_item(slots, first.slot, copy_value(&first.value)?);
-            written(rest, slots)
-        }
-    }
+    let [first, rest @ ..] = writes else {
+        return Ok(());
+    };
+    set_item(slots, first.slot, copy_value(&first.value)?);
+    write(slots, rest)
 }
 
 /// Where the stored object of a serial stands.
@@ -38,10 +36,12 @@ fn stored_at(heap: &Heap, serial: u64) -> Option<usize>
 fn with_writes(writes: &Writes, stored: &Stored) -> Result<Shared<Stored>, AllocError>
     ensures { IfOk result (λ x. x ≡ with_writes writes.now stored.now) }
 {
+    let mut slots = stored.slots.clone()?;
+    let done = write(&mut slots, writes.as_slice());
     let changed = Stored {
         serial: stored.serial,
         class: stored.class,
-        slots: written(writes.as_slice(), stored.slots.clone()?)?,
+        slots: given(slots, done)?,
     };
     Shared::new(stored.slots.allocator(), changed)
 }

@@ -7,19 +7,18 @@ ghost use Rattle.do_machine.specs.run.Delivery.{with_top};
 ghost use Rattle.do_machine.specs.run.Verdicts.{effect_of, waits_for};
 ghost use Rattle.do_machine.specs.declared.item.Item.TheVariants.{Oneway};
 ghost use Rattle.do_rules.specs.Doing.{and_then};
-ghost use Rattle.do_rules.specs.Judged.{run_of};
+ghost use Rattle.do_rules.specs.Judged.{IsBegun, IsOfNode, run_of};
 
 use crate::effect::{Done, given, queue, show, unchanged};
 use crate::judged::Run;
 use crate::lend::lending::lend;
-use crate::lists::with_item;
 use crate::node::own;
 use crate::run::asking::{request, use_number, waits_for};
-use crate::run::changes::{stands, with_outs};
+use crate::run::changes::{go_on, stand, step_to, use_answer};
 use crate::run::fresh::{begin, one_blank, store};
 use crate::run::slots::write_slots;
 use do_base::{Locals, NodeId, Oid, Shown, Value, Values};
-use do_behave::{Answer, Frame, Handler, Held, InvState, Reason, Writes};
+use do_behave::{Answer, Frame, Handler, InvState, Reason, Writes};
 use do_class::{ClassId, MethodId};
 use do_machine::{Effect, Item, Message, Request, Verdict};
 use std::alloc::AllocError;
@@ -36,40 +35,31 @@ fn tell(effect: &mut Effect, peer: NodeId, message: Message) -> Done
 
 impl<'a> Run<'a> {
     /// The top invocation goes on with a value in a local.
-    pub(crate) fn goes(&self, effect: &mut Effect, into: u8, value: Value, pc: u32) -> Done
-        requires { effect.old ≡ only self.now.context.node.now }
-        ensures { OnOk result (effect.new
-            ≡ effect_of (run_of self.now) (Verdict.Goes into value pc)) }
+    pub(crate) fn goes(&self, effect: &mut Effect, into: u8, value: Value, pc: u32)
+        requires { IsBegun self.now effect.old }
+        ensures { effect.new ≡ effect_of (run_of self.now) (Verdict.Goes into value pc) }
     {
-        let Ok(mut top) = self.top.clone() else {
-            drop(value);
-            return Err(AllocError);
-        };
-        drop(top.set_local(into, value, pc));
-        top.state = InvState::Running;
-        self.put_top(&mut effect.node, top)
+        go_on(effect.node.stack.at_mut(0), into, value, pc);
     }
 
     /// The top invocation goes on at a place.
-    fn goes_to(&self, effect: &mut Effect, pc: u32) -> Done
-        requires { effect.old ≡ only self.now.context.node.now }
-        ensures { OnOk result (effect.new
-            ≡ only (with_top (run_of self.now) (goes_to pc self.now.top.now))) }
+    fn goes_to(&self, effect: &mut Effect, pc: u32)
+        requires { IsBegun self.now effect.old }
+        ensures { effect.new ≡ only (with_top (run_of self.now) (goes_to pc self.now.top.now)) }
     {
-        let mut top = self.top.clone()?;
+        let top = effect.node.stack.at_mut(0);
         top.pc = pc;
-        self.put_top(&mut effect.node, top)
     }
 
     /// An object is made, and its name goes to a local.
     fn makes(&self, effect: &mut Effect, class: ClassId, into: u8, pc: u32) -> Done
-        requires { effect.old ≡ only self.now.context.node.now }
+        requires { IsBegun self.now effect.old }
         ensures { OnOk result (effect.new
             ≡ effect_of (run_of self.now) (Verdict.Makes class into pc)) }
     {
         let node = self.context.node;
         let made = Value::Obj(own(node, node.next_serial));
-        self.goes(effect, into, made, pc)?;
+        self.goes(effect, into, made, pc);
         let new = one_blank(node.stack.allocator(), self.context.table, class)?;
         store(&mut effect.node, &new)
     }
@@ -84,14 +74,13 @@ impl<'a> Run<'a> {
         outs: Locals,
         pc: u32,
     ) -> Done
-        requires { effect.old ≡ only self.now.context.node.now }
+        requires { IsBegun self.now effect.old }
         ensures { OnOk result (effect.new ≡ only (uses_number
             (with_top (run_of self.now) (stands pc into outs
             (waits_for self.now.context.node.now peer asked.now) self.now.top.now)))) }
     {
         let state = waits_for(self.context.node, peer, asked);
-        let top = stands(self.top, pc, into, outs, state)?;
-        self.put_top(&mut effect.node, top)?;
+        stand(effect.node.stack.at_mut(0), pc, into, outs, state);
         use_number(&mut effect.node)
     }
 
@@ -105,7 +94,7 @@ impl<'a> Run<'a> {
         outs: Locals,
         pc: u32,
     ) -> Done
-        requires { effect.old ≡ only self.now.context.node.now }
+        requires { IsBegun self.now effect.old }
         ensures { OnOk result (effect.new
             ≡ effect_of (run_of self.now) (Verdict.Asks peer asked into outs pc)) }
     {
@@ -125,42 +114,31 @@ impl<'a> Run<'a> {
         outs: Locals,
         pc: u32,
     ) -> Done
-        requires { effect.old ≡ only self.now.context.node.now }
+        requires { IsBegun self.now effect.old }
         ensures { OnOk result (effect.new ≡ effect_of (run_of self.now)
             (Verdict.Begins object method values.now into outs pc)) }
     {
-        let top = stands(self.top, pc, into, outs, InvState::Below)?;
-        self.put_top(&mut effect.node, top)?;
+        stand(effect.node.stack.at_mut(0), pc, into, outs, InvState::Below);
         begin(&mut effect.node, object, method, Reason::Local, values)
     }
 
     /// The top invocation goes on, and a peer gets a message that nobody waits for.
     fn tells(&self, effect: &mut Effect, peer: NodeId, message: Message, into: u8, pc: u32) -> Done
-        requires { effect.old ≡ only self.now.context.node.now }
+        requires { IsBegun self.now effect.old }
         ensures { OnOk result (effect.new
             ≡ effect_of (run_of self.now) (Verdict.Tells peer message into pc)) }
     {
-        let message = given(message, self.goes(effect, into, Value::Nil, pc))?;
+        self.goes(effect, into, Value::Nil, pc);
         tell(effect, peer, message)
     }
 
     /// The top invocation goes on with its answer.
     fn uses(&self, effect: &mut Effect, value: Value, outs: &Values) -> Done
-        requires { effect.old ≡ only self.now.context.node.now }
+        requires { IsBegun self.now effect.old }
         ensures { OnOk result (effect.new
             ≡ effect_of (run_of self.now) (Verdict.Uses value outs.now)) }
     {
-        let was = self.top;
-        let Ok(locals) = was.locals.clone() else {
-            drop(value);
-            return Err(AllocError);
-        };
-        let locals = with_item(locals, was.into as usize, Held::new(value));
-        let locals = with_outs(was.outs.as_slice(), outs.as_slice(), locals)?;
-        let mut top = was.clone()?;
-        top.locals = locals;
-        top.state = InvState::Running;
-        self.put_top(&mut effect.node, top)
+        use_answer(effect.node.stack.at_mut(0), value, outs)
     }
 
     /// The top invocation goes on with other locals, and slots of its object are written.
@@ -172,26 +150,25 @@ impl<'a> Run<'a> {
         handler: Option<Handler>,
         writes: &Writes,
     ) -> Done
-        requires { effect.old ≡ only self.now.context.node.now }
+        requires { IsBegun self.now effect.old }
         ensures { OnOk result (effect.new ≡ effect_of (run_of self.now)
             (Verdict.Steps pc locals handler writes.now)) }
     {
-        let mut top = self.top.clone()?;
-        top.pc = pc;
-        top.locals = locals;
-        top.handler = handler;
-        self.put_top(&mut effect.node, top)?;
+        step_to(effect.node.stack.at_mut(0), pc, locals, handler);
         let object = &self.top.object;
         write_slots(&mut effect.node, object.serial, writes)
     }
 
     /// What a verdict does.
     fn carry_out(&self, effect: &mut Effect, verdict: Verdict) -> Done
-        requires { effect.old ≡ only self.now.context.node.now }
+        requires { IsBegun self.now effect.old }
         ensures { OnOk result (effect.new ≡ effect_of (run_of self.now) verdict) }
     {
         match verdict {
-            Verdict::Goes { into, value, pc } => self.goes(effect, into, value, pc),
+            Verdict::Goes { into, value, pc } => {
+                self.goes(effect, into, value, pc);
+                Ok(())
+            }
             Verdict::Uses { value, outs } => self.uses(effect, value, &outs),
             Verdict::Steps {
                 pc,
@@ -201,12 +178,12 @@ impl<'a> Run<'a> {
             } => self.steps(effect, pc, locals, handler, &writes),
             Verdict::Makes { class, into, pc } => self.makes(effect, class, into, pc),
             Verdict::Vends { root, pc } => {
-                self.goes_to(effect, pc)?;
+                self.goes_to(effect, pc);
                 effect.node.root = root;
                 Ok(())
             }
             Verdict::Says { value, pc } => {
-                let value = given(value, self.goes_to(effect, pc))?;
+                self.goes_to(effect, pc);
                 show(effect, Shown::Say(value))
             }
             Verdict::Asks {
@@ -243,6 +220,7 @@ impl<'a> Run<'a> {
 
     /// The effect of a verdict.
     pub(crate) fn effect_of(&self, verdict: Verdict) -> Result<Effect, AllocError>
+        requires { IsOfNode self.now }
         ensures { IfOk result (λ e. e ≡ effect_of (run_of self.now) verdict) }
     {
         match unchanged(self.context.node) {

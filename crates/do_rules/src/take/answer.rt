@@ -2,6 +2,7 @@
 ghost use Rattle.std.specs.Prelude.{◌≡◌, IfOk};
 ghost use Rattle.do_machine.specs.take.Awaiting.{method_answer, values_answer};
 
+use crate::effect::given;
 use crate::node::methods::signature_of;
 use crate::run::arguments::outs_take;
 use do_base::{Exc, Value, Values, copy_value};
@@ -9,6 +10,19 @@ use do_behave::{Answer, Waited};
 use do_class::ClassTable;
 use do_sig::Signature;
 use std::alloc::{AllocError, Global};
+
+/// The answer of a result and out values.
+fn given_answer(value: &Value, outs: Values) -> Result<Answer, AllocError>
+    ensures { IfOk result (λ a. a ≡ Answer.Given value.now outs) }
+{
+    match copy_value(value) {
+        Ok(result) => Ok(Answer::Given { result, outs }),
+        Err(error) => {
+            drop(outs);
+            Err(error)
+        }
+    }
+}
 
 /// A result and out values that fit the method that was called.
 fn method_answer(
@@ -19,15 +33,17 @@ fn method_answer(
 ) -> Result<Answer, AllocError>
     ensures { IfOk result (λ a. a ≡ method_answer signature.now value.now outs.now) }
 {
-    let mut given = Values::new(alloc);
-    given.extend_from_slice(outs)?;
-    if signature.result_fits(value) && outs_take(signature, &given) {
-        return Ok(Answer::Given {
-            result: copy_value(value)?,
-            outs: given,
-        });
+    if !signature.result_fits(value) {
+        return Ok(Answer::Raised(Exc::TypeFault));
     }
-    Ok(Answer::Raised(Exc::TypeFault))
+    let mut values = Values::new(alloc);
+    let done = values.extend_from_slice(outs);
+    let outs = given(values, done)?;
+    if !outs_take(signature, &outs) {
+        drop(outs);
+        return Ok(Answer::Raised(Exc::TypeFault));
+    }
+    given_answer(value, outs)
 }
 
 /// What values are as an answer.
@@ -52,10 +68,7 @@ pub(crate) fn values_answer(
             let [value] = values.as_slice() else {
                 return Ok(Answer::Raised(Exc::TypeFault));
             };
-            Ok(Answer::Given {
-                result: copy_value(value)?,
-                outs: Values::new(values.allocator()),
-            })
+            given_answer(value, Values::new(values.allocator()))
         }
     }
 }

@@ -8,6 +8,7 @@ ghost use Rattle.do_rules.specs.Answering.{asked_by, awaited_in, call_of};
 ghost use Rattle.do_rules.specs.Ruling.{answering_with};
 
 use crate::lists::{Test, keep};
+use crate::run::changes::be_answered;
 use do_base::{Items, NodeId};
 use do_behave::{Answer, InvState, Invocation, Waited};
 use do_machine::{LateCall, Node};
@@ -87,7 +88,7 @@ fn have_answer(invocation: &mut Invocation, answer: Answer)
     ensures { invocation.new ≡ with_answer (λ what. answer) invocation.old }
 {
     if let InvState::Waits { .. } = &invocation.state {
-        invocation.state = InvState::Answered(answer);
+        be_answered(invocation, answer);
     }
 }
 

@@ -3,6 +3,7 @@ ghost use Rattle.std.specs.Prelude.{◌≡◌, ◌∷◌, [], IfOk};
 ghost use Rattle.do_machine.specs.take.Take.{root_packet};
 
 use crate::basis::Basis;
+use crate::lists::one;
 use do_base::{Items, NodeId};
 use do_class::{ClassId, Name, Packet, Part};
 use std::alloc::{AllocError, Global};
@@ -11,12 +12,10 @@ use std::alloc::{AllocError, Global};
 fn nil_packet(alloc: Global) -> Result<Packet, AllocError>
     ensures { IfOk result (λ p. p ≡ record { names = []; copies = []; values = Part.Nil ∷ [] }) }
 {
-    let mut values = Items::new(alloc);
-    values.push(Part::Nil)?;
     Ok(Packet {
+        values: one(alloc, Part::Nil)?,
         names: Items::new(alloc),
         copies: Items::new(alloc),
-        values,
     })
 }
 
@@ -28,10 +27,8 @@ fn own_packet(alloc: Global, serial: u64, class: ClassId) -> Result<Packet, Allo
       values = Part.Named 0 ∷ [];
     }) }
 {
-    let mut names = Items::new(alloc);
-    names.push(Name::Mine { serial, class })?;
-    let mut values = Items::new(alloc);
-    values.push(Part::Named(0))?;
+    let names = one(alloc, Name::Mine { serial, class })?;
+    let values = one(alloc, Part::Named(0))?;
     Ok(Packet {
         names,
         copies: Items::new(alloc),

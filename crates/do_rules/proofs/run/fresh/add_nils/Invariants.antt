@@ -1,8 +1,11 @@
-use Rattle.std.proofs.Common.{◌≡◌, ◌++◌}
-use Rattle.std.proofs.Common.{replicate}
+use Rattle.std.proofs.Common.{◌≡◌, ◌+◌, ◌++◌, replicate}
+use Rattle.std.specs.Prelude.{vec_capacity, vec_len}
 use Rattle.do_base.specs.declared.values.value.Value.TheVariants.{Nil}
 use Rattle.do_rules.proofs.run.fresh.add_nils.Given as goal
 
 abbrev pub invariant-loop-at : goal.invariant-loop-at
-invariant-loop-at l =
-    l.locals ≡ l.fn.locals ++ replicate l._at Nil
+invariant-loop-at l = record {
+  items : l.locals.items ≡ l.fn.locals.items ++ replicate l._at Nil;
+  count : vec_len l.locals ≡ vec_len l.fn.locals + l._at;
+  room : vec_capacity l.locals ≡ vec_capacity l.fn.locals;
+}
