@@ -74,7 +74,9 @@ pub enum Frame {
 /// bytes.
 #[derive(Debug, Drop)]
 pub struct RawFrame {
+    /// The number of the kind, 1 to 12 for a frame that has one.
     pub kind: u8,
+    /// The bytes of the payload.
     pub payload: Bytes,
 }
 

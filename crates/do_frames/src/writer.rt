@@ -17,6 +17,9 @@ use do_coder::{NameLog, Recent, push_packet};
 use do_grammar::{push_num, push_text};
 use std::alloc::{AllocError, Global};
 
+/// For how many bytes of a payload room is made at once; most have fewer.
+const SHORT: usize = 48;
+
 /// The kind of a frame.
 fn kind_of(frame: &Frame) -> Kind
     ensures { result ≡ frame_kind frame.now }
@@ -170,7 +173,7 @@ fn framed(alloc: Global, frame: &Frame, recent: &mut NameLog) -> Result<Option<T
         ≡ record { now = after_frame recent.old.now frame.now; kept = recent.old.kept }) }
     ensures err { OnErr result (recent.new.kept ≡ recent.old.kept) }
 {
-    let mut payload = Text::new(alloc);
+    let mut payload = Text::from_vec(alloc, Vec::with_capacity(alloc, SHORT)?)?;
     push_payload(&mut payload, frame, recent)?;
     let length = payload.len();
     if length > LONGEST_PAYLOAD as usize {

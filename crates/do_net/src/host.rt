@@ -98,6 +98,7 @@ impl<S: Hosted> Host<S> {
 
     /// Hands the site an input, and fetches what it then shows and sends. What is sent goes into
     /// its lanes and behind the wires.
+    #[inline(always)]
     pub fn hand(&mut self, input: &Input, wires: &mut Reserved<Wire>) -> Result<Outcome, AllocError>
         requires { HasFetched (hosting S.seen self.old) }
         ensures outcome { IfOk result (λ outcome.

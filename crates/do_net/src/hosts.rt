@@ -51,6 +51,7 @@ fn shows_nothing(alloc: Global, enabled: bool) -> Outcome
 }
 
 /// The site of a port is handed an input.
+#[inline(always)]
 fn hand<S: Hosted>(
     hosts: &mut Hosts<S>,
     port: NodeId,
@@ -207,6 +208,7 @@ fn lose<S: Hosted>(
 }
 
 /// What an event does to the sites.
+#[inline(always)]
 pub(crate) fn step<S: Hosted>(
     hosts: &mut Hosts<S>,
     event: &Event,

@@ -89,6 +89,7 @@ impl<S: Hosted> Net<S> {
     /// The one error is that memory ran out, that a number would pass what a site can count, or
     /// that a frame has no spelling. Each later step then answers it, and the network is no more
     /// that of the definitions.
+    #[inline(always)]
     pub fn step(&mut self, event: &Event) -> Result<Outcome, AllocError>
         requires { Stands S.seen (S.Acts.act self.old.acts) self.old }
         ensures stands { Stands S.seen (S.Acts.act self.old.acts) self.new }
