@@ -14,6 +14,7 @@ use Rattle.do_machine.specs.declared.node.Node.{Node}
 use Rattle.do_machine.specs.declared.node.Stored.{Stored}
 use Rattle.do_machine.specs.run.Changes.{with_slots, with_writes}
 use Rattle.do_machine.specs.run.Fresh.{with_objects, with_serials}
+use Rattle.do_network.specs.Own.{Own}
 use Rattle.do_packet.specs.declared.receipt.Made.{Made}
 use Rattle.do_part.specs.Filled.{blank_of, filled, made_values, writes_from}
 use Rattle.do_part.specs.Names.{values_of, size_of, sizes_of}
@@ -101,6 +102,15 @@ objects-none n = λ j. record n { heap = none n.heap j; next_serial = zero_more 
 
     zero_more : n.next_serial + 0 ≡ n.next_serial
     zero_more = omega arith
+
+-- so what a node has of its own is as it was
+pub own-none : (own : Own) (copies : Listed Made) → copies ≡ []
+    → own ≡ record own { node = with_objects copies own.node }
+own-none own copies none =
+    sym (ap (λ l. record own { node = with_objects l own.node }) none
+    ∙ ap (λ n. record own { node = n }) (objects-none own.node))
+
+pub ruleset none_steps = (own-none)
 
 -- the first object and then the others
 pub objects-more : (m : Made) (ms : Listed Made) (n : Node)

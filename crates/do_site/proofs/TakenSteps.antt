@@ -23,11 +23,10 @@ use Rattle.do_rules.specs.declared.take.ruling.Ruling.{Ruling}
 use Rattle.do_streams.specs.Reading.{names_of}
 use Rattle.do_streams.proofs.LinksRead.{names_stay}
 use Rattle.do_effects.specs.Doing.{Doing, cleared, does, doing, effected, moved}
-use Rattle.do_effects.specs.Room.{HasRoom}
 use Rattle.do_effects.specs.Taking.{ruling_copies, taken, takes, taking_needs}
 use Rattle.do_effects.specs.declared.changing.Core.{Core}
 use Rattle.do_site.proofs.PackableSteps.{packable_after}
-use Rattle.do_site.proofs.PlansKeep.{enough_place, enough_room}
+use Rattle.do_site.proofs.PlansKeep.{enough_place}
 use Rattle.do_site.proofs.RulingsKeep.{got_classed, ruled_apart, ruled_kept}
 use Rattle.do_site.proofs.SentBehind.{sent_after_reading}
 use Rattle.do_site.proofs.StepsDone.{then_left}
@@ -127,11 +126,6 @@ module _ (from : ℕ) (item : Item) (r : Ruling) (needs : Needs) (before mid : C
   room_enough =
       subst (λ (d : Doing). IsEnough (taking_needs d.own.node item r) needs) (sym same) a.enough
 
-  -- there is room to do what the ruling says
-  pub ruling_room : HasRoom (taking_needs mid.part.own.node item r) mid
-  ruling_room =
-      enough_room (taking_needs mid.part.own.node item r) needs mid room_enough place.room
-
-  -- and then to leave what is stored and held
+  -- there is room to do what the ruling says, and then to leave what is stored and held
   pub ruling_place : HasPlaceFor (taking_needs mid.part.own.node item r) mid t
   ruling_place = enough_place (taking_needs mid.part.own.node item r) needs mid t room_enough place

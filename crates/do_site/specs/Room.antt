@@ -1,6 +1,11 @@
 -- The room that a step of a site is to find.
 use Rattle.std.specs.Prelude.{length, vec_capacity, ℕ, ◌+◌, ◌≤◌}
+use Rattle.do_machine.specs.declared.item.Item.{Item}
+use Rattle.do_machine.specs.run.Fresh.{with_objects}
+use Rattle.do_part.specs.Filled.{made_values}
+use Rattle.do_part.specs.Names.{AreStored, values_of}
 use Rattle.do_effects.specs.Room.{HasRoom, Needs as Wants}
+use Rattle.do_effects.specs.Taking.{CanFollow, ruling_copies, ruling_values, taking_needs}
 use Rattle.do_effects.specs.declared.changing.Core.{Core}
 use Rattle.do_rules.specs.declared.take.ruling.Ruling.{Ruling}
 use Rattle.do_rules.specs.declared.take.ruling.Ruling.TheVariants.{Closes, EndsLend}
@@ -58,6 +63,16 @@ pub record HasPlaceToClose (c : Core) (t : Told) : Type 0 where
 pub record HasPlaceToLeave (c : Core) (t : Told) : Type 0 where
   pub places : HasPlaces c t
   pub waiting : length c.part.own.node.heap + length c.part.own.node.held ≤ c.streams.room
+
+-- a node can do what the ruling on an item of a peer says, in room that is there
+pub record IsReadyToTake (from : ℕ) (item : Item) (r : Ruling) (c : Core) (t : Told)
+    : Type 0 where
+  pub copies : AreStored (with_objects (ruling_copies r) c.part.own.node)
+      (values_of (made_values (ruling_copies r)))
+  pub values : AreStored (with_objects (ruling_copies r) c.part.own.node)
+      (values_of (ruling_values r))
+  pub can : CanFollow c.part.own.node from item r
+  pub place : HasPlaceFor (taking_needs c.part.own.node item r) c t
 
 -- a ruling by which a lend is over, or the node's end is closed
 abbrev pub IsEnding : Ruling → Type 0

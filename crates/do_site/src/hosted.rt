@@ -24,6 +24,7 @@ impl<B: Behaviour + Drop> Hosted for Site<B> {
         Site::new(seat.node, seat.root, ports, table.clone()?, acts.clone()?)
     }
 
+    #[inline(always)]
     fn handle(&mut self, input: &Input) -> Result<Done, AllocError> {
         Site::handle(self, input)
     }

@@ -66,9 +66,10 @@ fn delivering(ground: &Ground<'_>, top: &Invocation, answer: Answer) -> Result<P
 {
     deliveries_are_made();
     let turn = Turn { basis: ground, top };
-    Ok(Plan::Delivers {
-        delivery: turn.delivery(answer)?,
-    })
+    let Ok(delivery) = turn.delivery(answer) else {
+        return Err(AllocError);
+    };
+    Ok(Plan::Delivers { delivery })
 }
 
 /// An exception goes to the handler of the invocation, which stays, or ends it.

@@ -94,6 +94,7 @@ impl<B: Behaviour + Drop> Site<B> {
     /// A frame of kind 10, 11 or 12, a close and the end of a connection take no memory, so that
     /// what is held and lent can always be given back: no error comes of them where no frame waits
     /// to be fetched, and no line.
+    #[inline(always)]
     pub fn handle(&mut self, input: &Input) -> Result<Done, AllocError>
         ensures settles { GivesBack input.now → IsFetched self.old.work.core → IsOk result }
         ensures handles { Handles (seen_of self.old.table (B.act self.old.acts) self.old.work.core)

@@ -14,7 +14,7 @@ ghost use Rattle.do_effects.specs.Plans.{CanCarryOut, IsRun, IsRunning, plan_eff
 ghost use Rattle.do_effects.specs.Tidy.{IsTidy};
 ghost use Rattle.do_site.specs.Kept.{IsKept, StaysBut};
 ghost use Rattle.do_site.specs.Packable.{is_light};
-ghost use Rattle.do_site.specs.Plans.{IsEnough};
+ghost use Rattle.do_site.specs.Plans.{Allows, IsEnough};
 ghost use Rattle.do_site.specs.Room.{CanSettle, HasPlace, HasPlaceFor, HasPlaceToLeave, to_keep};
 ghost use Rattle.do_site.specs.Running.{IsRunOf, makes_light};
 ghost use Rattle.do_site.specs.Steps.{IsSame, Moves};
@@ -63,6 +63,25 @@ impl Work {
         self.leave();
     }
 
+    /// Makes room for a plan, and tells what it takes.
+    ///
+    /// An error means that memory ran out, or that a number would pass what a node can count;
+    /// nothing but room changed then.
+    pub(super) fn make_room_for(&mut self, plan: &Plan) -> Result<Needs, AllocError>
+        ensures same { IsSame self.old.core self.new.core }
+        ensures stays { StaysBut self.old self.new }
+        ensures places { CanSettle self.old → CanSettle self.new }
+        ensures allowed { IfOk result (λ needs.
+            Allows self.old.core.part.own.node plan.now needs) }
+        ensures room { IfOk result (λ needs. HasPlace needs self.new.core self.new.told) }
+    {
+        let Some(needs) = allowed(&self.core.part, plan) else {
+            return Err(AllocError);
+        };
+        self.make_room(&needs)?;
+        Ok(needs)
+    }
+
     /// What the top invocation, which runs, was planned to do is done.
     ///
     /// An error means that memory ran out, or that a number would pass what a node can count;
@@ -77,11 +96,11 @@ impl Work {
         ensures kept { IsKept table.now self.new }
         ensures places { CanSettle self.new }
     {
-        let Some(needs) = allowed(&self.core.part, &plan) else {
+        let packable = stays_packable(self.packable, table, &plan);
+        let Ok(needs) = self.make_room_for(&plan) else {
+            drop(plan);
             return Err(AllocError);
         };
-        let packable = stays_packable(self.packable, table, &plan);
-        self.make_room(&needs)?;
         self.finish(plan, &needs);
         self.packable = packable;
         Ok(())
@@ -102,7 +121,9 @@ impl Work {
             basis: &ground,
             top,
         };
-        let verdict = turn.act_rule(act)?;
+        let Ok(verdict) = turn.act_rule(act) else {
+            return Err(AllocError);
+        };
         planned(&ground, top, verdict)
     }
 
@@ -120,7 +141,9 @@ impl Work {
         ensures kept { IsKept table.now self.new }
         ensures places { CanSettle self.new }
     {
-        let plan = self.plan_of(table, act)?;
+        let Ok(plan) = self.plan_of(table, act) else {
+            return Err(AllocError);
+        };
         self.carry_out(table, plan)
     }
 
@@ -208,9 +231,14 @@ impl Work {
         ensures kept { IsKept table.now self.new }
         ensures places { CanSettle self.new }
     {
-        let change = self.next_change(table, acts)?;
+        let Ok(change) = self.next_change(table, acts) else {
+            return Err(AllocError);
+        };
         let packable = stays_light(self.packable, &change);
-        let Some(act) = self.make_change(change)? else {
+        let Ok(left) = self.make_change(change) else {
+            return Err(AllocError);
+        };
+        let Some(act) = left else {
             self.packable = packable;
             self.leave();
             return Ok(());

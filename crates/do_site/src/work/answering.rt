@@ -9,7 +9,6 @@ ghost use Rattle.do_site.specs.Running.{AnswerUsed, IsOver, PlansAnswer, next_of
 ghost use Rattle.do_site.specs.Steps.{IsSame};
 ghost use Rattle.do_site.specs.Taken.{IsTaken};
 
-use crate::allowing::allowed;
 use crate::ground::judged_by;
 use crate::needs::Needs;
 use crate::planning::failing;
@@ -107,10 +106,10 @@ impl Work {
         ensures places { CanSettle self.new }
     {
         let plan = self.plan_of_raised(table)?;
-        let Some(needs) = allowed(&self.core.part, &plan) else {
+        let Ok(needs) = self.make_room_for(&plan) else {
+            drop(plan);
             return Err(AllocError);
         };
-        self.make_room(&needs)?;
         drop(take_answer(&mut self.core.part));
         self.finish(plan, &needs);
         Ok(())

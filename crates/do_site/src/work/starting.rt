@@ -65,7 +65,10 @@ impl Work {
         ensures places { CanSettle self.new }
     {
         let ground = judged_by(table, &self.core.part, self.packable);
-        let Some(invocation) = begun(&ground, selector, values)? else {
+        let Ok(started) = begun(&ground, selector, values) else {
+            return Err(AllocError);
+        };
+        let Some(invocation) = started else {
             return Ok(false);
         };
         self.begin(invocation)?;

@@ -18,9 +18,9 @@ ghost use Rattle.do_rules.specs.Ruling.{names_in, ruling as ruling_on};
 ghost use Rattle.do_streams.specs.Reading.{AreKnown, IsReadBy, IsReading, names_of};
 ghost use Rattle.do_effects.specs.Doing.{doing};
 ghost use Rattle.do_effects.specs.Taking.{CanTake, on_message, ruling_copies, taking_needs};
-ghost use Rattle.do_site.specs.Kept.{IsKept};
+ghost use Rattle.do_site.specs.Kept.{IsKept, StaysBut};
 ghost use Rattle.do_site.specs.Packable.{is_kept, is_named};
-ghost use Rattle.do_site.specs.Room.{CanSettle, HasPlaceFor};
+ghost use Rattle.do_site.specs.Room.{CanSettle, HasPlaceFor, IsReadyToTake};
 ghost use Rattle.do_site.specs.Steps.{Handles, IsFetched, IsSame, Makes, item_move, part_of};
 ghost use Rattle.do_site.specs.Steps.{seen_of};
 ghost use Rattle.do_site.specs.Steps.{with_reading};
@@ -92,6 +92,43 @@ impl Work {
         Ok(())
     }
 
+    /// What the rules say of an item of a peer.
+    fn judged(&self, table: &ClassTable, from: NodeId, item: &Item) -> Result<Ruling, AllocError>
+        requires { IsKept table.now self.now }
+        ensures { IfOk result (λ r. r
+            ≡ ruling_on (site_context table.now self.now.core.part.own) from item.now) }
+    {
+        let ground = judged_by(table, &self.core.part, self.packable);
+        ruling(&ground, from, item)
+    }
+
+    /// Makes room to do what the ruling on an item of a peer says, and tells the line that shows
+    /// the item.
+    ///
+    /// An error means that memory ran out, or that a number would pass what a node can count;
+    /// nothing but room changed then.
+    fn make_room_to_take(
+        &mut self,
+        from: NodeId,
+        item: &Item,
+        ruling: &Ruling,
+    ) -> Result<Shown, AllocError>
+        ensures same { IsSame self.old.core self.new.core }
+        ensures stays { StaysBut self.old self.new }
+        ensures places { CanSettle self.old → CanSettle self.new }
+        ensures line { IfOk result (λ line. line
+            ≡ Shown.Took (item_line from self.old.core.part.own.node.port item.now)) }
+        ensures ready { OnOk result
+            (IsReadyToTake from item.now ruling.now self.new.core self.new.told) }
+    {
+        let Some(needs) = ruling_allowed(&self.core.part, from, item, ruling) else {
+            return Err(AllocError);
+        };
+        self.make_room(&needs)?;
+        let line = item_line(from, self.core.part.port(), item)?;
+        Ok(Shown::Took(line))
+    }
+
     /// An item of a peer is judged and taken.
     fn take_item(
         &mut self,
@@ -112,16 +149,14 @@ impl Work {
         ensures kept { IsKept table.now self.new }
         ensures places { CanSettle self.new }
     {
-        let line = item_line(from, self.core.part.port(), item)?;
-        let ruling = {
-            let ground = judged_by(table, &self.core.part, self.packable);
-            ruling(&ground, from, item)?
-        };
-        let Some(needs) = ruling_allowed(&self.core.part, from, item, &ruling) else {
+        let Ok(ruling) = self.judged(table, from, item) else {
             return Err(AllocError);
         };
-        self.make_room(&needs)?;
-        self.follow(table, from, item, Shown::Took(line), ruling, names)
+        let Ok(line) = self.make_room_to_take(from, item, &ruling) else {
+            drop(ruling);
+            return Err(AllocError);
+        };
+        self.follow(table, from, item, line, ruling, names)
     }
 
     /// A frame that its peer may send is taken.

@@ -7,7 +7,6 @@ ghost use Rattle.do_machine.specs.run.Changes.{stands, uses_number};
 ghost use Rattle.do_machine.specs.run.Fresh.{with_stack};
 ghost use Rattle.do_stack.specs.Waiting.{with_top};
 
-use super::standing::stand_top;
 use crate::part::Part;
 use do_base::{CallId, Locals, NodeId};
 use do_behave::{InvState, Waited};
@@ -30,7 +29,7 @@ impl Part {
         ensures names { self.new.room.names ≡ self.old.room.names }
         ensures entries { self.new.room.entries ≡ self.old.room.entries }
     {
-        stand_top(&mut self.stack, pc, into, outs, InvState::Below);
+        self.stack.stand(pc, into, outs, InvState::Below);
     }
 
     /// The top invocation stands at a place of its method and waits for the next call of this node,
@@ -61,7 +60,7 @@ impl Part {
             number,
         };
         let state = InvState::Waits { call, peer, what };
-        stand_top(&mut self.stack, pc, into, outs, state);
+        self.stack.stand(pc, into, outs, state);
         self.next_call = number + 1;
         number
     }

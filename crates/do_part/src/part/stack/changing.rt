@@ -1,7 +1,8 @@
 //! The top invocation changed in place.
-ghost use Rattle.std.specs.Prelude.{◌≡◌, ◌<◌, ◌≤◌, ◌+◌, [], false, Some, length, slice_get};
+ghost use Rattle.std.specs.Prelude.{◌≡◌, ◌<◌, ◌≤◌, ◌+◌, ◌∷◌, [], false, Some, length, slice_get};
 ghost use Rattle.do_behave.specs.Changes.{IsFitting, meaning, with_set};
 ghost use Rattle.do_behave.specs.InPlace.{after_act};
+ghost use Rattle.do_behave.specs.declared.change.Change.TheVariants.{Goto, Local};
 ghost use Rattle.do_behave.specs.declared.invocation.Invocation.{Invocation};
 ghost use Rattle.do_machine.specs.run.Changes.{steps_to};
 ghost use Rattle.do_machine.specs.run.Fresh.{with_stack};
@@ -11,6 +12,7 @@ ghost use Rattle.do_part.specs.Changed.{set_values};
 ghost use Rattle.do_part.specs.Names.{values_of, sizes_of, AreStored};
 
 use crate::part::Part;
+use do_base::Value;
 use do_behave::{Change, Handler, LocalSets};
 
 impl Part {
@@ -36,6 +38,40 @@ impl Part {
             unreachable!();
         };
         self.holders.go_taken(&done.taken);
+    }
+
+    /// Sets a local of the top invocation, which then goes on.
+    pub(super) fn set_local(&mut self, into: u8, value: Value, pc: u32)
+        requires top { 0 < length self.old.own.node.stack }
+        requires names { sizes_of (value ∷ []) ≤ self.old.room.names }
+        requires stored { AreStored self.old.own.node (values_of (value ∷ [])) }
+        ensures own { self.new.own ≡ record self.old.own {
+          node = with_stack (with_top (λ i. (after_act (meaning i (Local into value pc)) i []).inv)
+              self.old.own.node.stack) self.old.own.node;
+        } }
+        ensures objects { self.new.room.objects ≡ self.old.room.objects }
+        ensures invocations { self.new.room.invocations ≡ self.old.room.invocations }
+        ensures names { self.old.room.names ≤ self.new.room.names + sizes_of (value ∷ []) }
+        ensures entries { self.new.room.entries ≡ self.old.room.entries }
+    {
+        self.holders.come_local(&value);
+        let was = self.stack.set_local(into, value, pc);
+        self.holders.go_local(&was);
+    }
+
+    /// The top invocation goes on.
+    pub(super) fn go_to(&mut self, pc: u32)
+        requires { 0 < length self.old.own.node.stack }
+        ensures own { self.new.own ≡ record self.old.own {
+          node = with_stack (with_top (λ i. (after_act (meaning i (Goto pc)) i []).inv)
+              self.old.own.node.stack) self.old.own.node;
+        } }
+        ensures objects { self.new.room.objects ≡ self.old.room.objects }
+        ensures invocations { self.new.room.invocations ≡ self.old.room.invocations }
+        ensures names { self.new.room.names ≡ self.old.room.names }
+        ensures entries { self.new.room.entries ≡ self.old.room.entries }
+    {
+        self.stack.go_to(pc);
     }
 
     /// The serial of the object of the top invocation.

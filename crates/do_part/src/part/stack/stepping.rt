@@ -31,7 +31,7 @@ impl Part {
         ensures entries { self.new.room.entries ≡ self.old.room.entries }
     {
         let serial = self.top_serial();
-        self.exchange(Change::Goto { pc });
+        self.go_to(pc);
         self.write(serial, slot, value);
     }
 
@@ -110,6 +110,14 @@ impl Part {
         ensures entries { self.new.room.entries ≡ self.old.room.entries }
     {
         match change {
+            Change::Local { into, value, pc } => {
+                self.set_local(into, value, pc);
+                Ok(None)
+            }
+            Change::Goto { pc } => {
+                self.go_to(pc);
+                Ok(None)
+            }
             Change::Slot { slot, value, pc } => {
                 self.step_slot(slot, value, pc);
                 Ok(None)

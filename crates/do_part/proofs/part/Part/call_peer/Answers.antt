@@ -21,11 +21,11 @@ invariant_of-self c =
     let state = Waits (record { node = i.holders.node; number = i.next_call }) c.args.peer
     c.args.what in
     let next : suc i.next_call ≡ i.next_call + 1 = omega arith in
-    subst (λ n. IsSound (record i { stack = c.stand_top.new.stack; next_call = n })) next
-    (sound_stacked i c.self.invariant c.stand_top.new.stack (suc i.next_call)
-    (λ o. ap (λ l. stack_of l o) c.stand_top.ensures.invocations
+    subst (λ n. IsSound (record i { stack = c.stand.new.self; next_call = n })) next
+    (sound_stacked i c.self.invariant c.stand.new.self (suc i.next_call)
+    (λ o. ap (λ l. stack_of l o) c.stand.ensures.invocations
     ∙ stands-moves c.args.pc c.args.into c.args.outs state i.stack.invocations o refl used)
     (numbered_called i.holders.node i.next_call i.stack.invocations i.stack.late
     c.self.invariant.numbered (stands c.args.pc c.args.into c.args.outs state) c.args.peer
-    c.args.what c.stand_top.new.stack (λ x. refl) c.stand_top.ensures.invocations
-    c.stand_top.ensures.late))
+    c.args.what c.stand.new.self (λ x. refl) c.stand.ensures.invocations
+    c.stand.ensures.late))

@@ -18,10 +18,10 @@ invariant_of-self c =
     let i = c.self.inside in
     let used = subst (λ (v : Owned). (top : Invocation) → slice_get v.own.node.stack 0 ≡ Some top
     → state_values top.state ≡ []) (sym c.self.view_is) c.requires.used in
-    sound_stacked i c.self.invariant c.stand_top.new.stack i.next_call
-    (λ o. ap (λ l. stack_of l o) c.stand_top.ensures.invocations
+    sound_stacked i c.self.invariant c.stand.new.self i.next_call
+    (λ o. ap (λ l. stack_of l o) c.stand.ensures.invocations
     ∙ stands-moves c.args.pc c.args.into c.args.outs Below i.stack.invocations o refl used)
-    (numbered_eased i c.self.invariant c.stand_top.new.stack
+    (numbered_eased i c.self.invariant c.stand.new.self
     (with_top (stands c.args.pc c.args.into c.args.outs Below) i.stack.invocations)
     (eased-top (stands c.args.pc c.args.into c.args.outs Below) i.stack.invocations
-    (λ x. inr refl)) c.stand_top.ensures.invocations c.stand_top.ensures.late)
+    (λ x. inr refl)) c.stand.ensures.invocations c.stand.ensures.late)

@@ -9,11 +9,11 @@ use Rattle.do_part.proofs.part.Part.step_slot.Goals as goal
 pub write-requires : goal.write-requires
 write-requires c =
     let x = c.requires.names in
-    let y = c.exchange.ensures.names in
+    let y = c.go_to.ensures.names in
     record {
       names = omega (arith, x, y);
       stored = subst (λ (o : Own). AreStored o.node (value_of c.args.value))
-          (sym c.exchange.ensures.own) c.requires.stored;
+          (sym c.go_to.ensures.own) c.requires.stored;
     }
 
 -- to go on, and then to write the slot, is the whole step
@@ -21,7 +21,7 @@ pub returns-clause-own : goal.returns-clause-own
 returns-clause-own c =
     let node = c.args.self.now.own.node in
     then-written c.args.self.now.own c.top_serial-serial.result
-    (record { slot = c.args.slot; value = c.args.value } ∷ []) c.exchange.ensures.own
+    (record { slot = c.args.slot; value = c.args.value } ∷ []) c.go_to.ensures.own
     c.write.ensures.own
     (slot-stepped node.stack node c.top_serial-serial.result c.args.slot c.args.pc c.args.value
     c.requires.top c.top_serial-serial.ensures)

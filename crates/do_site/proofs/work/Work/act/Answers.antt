@@ -35,37 +35,37 @@ pub make_change-requires-clause-fits : goal.make_change-requires-clause-fits
 make_change-requires-clause-fits g c =
     let p = c.args.self.now.core.part.own in
     let found = run_of c.args.table.now p c.requires.runs in
-    change_fits c.args.table.now p found.0 found.1 c.in_ok-change.change
-    (next_act (g.B.Behaviour.act c.args.acts.now) found.0) (c.in_ok-change.ensures found.0 found.1)
+    change_fits c.args.table.now p found.0 found.1 c.in-Ok.change
+    (next_act (g.B.Behaviour.act c.args.acts.now) found.0) (c.in-Ok.ensures found.0 found.1)
 
 -- a tidy node is tidy once the step is done
 pub leave-requires-clause-tidy : goal.leave-requires-clause-tidy
 leave-requires-clause-tidy g c =
     let p = c.args.self.now.core.part.own in
-    let keeps = change_keeps c.in_ok-change.change p.node in
-    subst IsTidy (sym (ap (λ (d : Doing). d.own) c.in_ok-act.ensures.own))
-    (tidy_alone p (changed c.in_ok-change.change p.node) c.requires.kept.tidy keeps.ends
+    let keeps = change_keeps c.in-Ok.change p.node in
+    subst IsTidy (sym (ap (λ (d : Doing). d.own) c.in-Ok-make_change.ensures.own))
+    (tidy_alone p (changed c.in-Ok.change p.node) c.requires.kept.tidy keeps.ends
     keeps.held keeps.asked)
 
 -- there is a place to leave what nothing holds
 pub leave-requires-clause-place : goal.leave-requires-clause-place
-leave-requires-clause-place g c = c.in_ok-act.ensures.room
+leave-requires-clause-place g c = c.in-Ok-make_change.ensures.room
 
 -- a step is done
-pub returns-in_default-clause-ok : goal.returns-in_default-clause-ok
-returns-in_default-clause-ok g c = λ r run.
+pub returns-in_default-left-clause-ok : goal.returns-in_default-left-clause-ok
+returns-in_default-left-clause-ok g c = λ r run.
     let old = c.args.self.now.core in
     let p = old.part.own in
-    let change = c.in_ok-change.change in
+    let change = c.in-Ok.change in
     let act = next_act (g.B.Behaviour.act c.args.acts.now) r in
-    let means = c.in_ok-change.ensures r run in
+    let means = c.in-Ok.ensures r run in
     let keeps = change_keeps change p.node in
     let none : (after_act act r.top []).left ≡ None
     = sym (left_meant c.args.table.now p r run change act means)
-    ∙ sym c.in_ok-act.ensures.left ∙ c.in_default.is in
+    ∙ sym c.in-Ok-make_change.ensures.left ∙ c.in_default-left.is in
     let e : Effect = effect_of r (act_rule r act) in
     let did : doing c.make_change.new.self.core ≡ does (doing old) e
-    = c.in_ok-act.ensures.own
+    = c.in-Ok-make_change.ensures.own
     ∙ alone_does (doing old) (changed change p.node) c.requires.kept.tidy keeps.ends keeps.held
     keeps.asked
     ∙ ap (λ (n : Node). does (doing old) (only n))
@@ -75,15 +75,15 @@ returns-in_default-clause-ok g c = λ r run.
     c.leave.ensures.moved
 
 -- what a site keeps true is true once a step is done
-pub returns-in_default-clause-kept : goal.returns-in_default-clause-kept
-returns-in_default-clause-kept g c =
+pub returns-in_default-left-clause-kept : goal.returns-in_default-left-clause-kept
+returns-in_default-left-clause-kept g c =
     let table = c.args.table.now in
     let old = c.args.self.now in
     let p = old.core.part.own in
-    let change = c.in_ok-change.change in
+    let change = c.in-Ok.change in
     let n = changed change p.node in
     let keeps = change_keeps change p.node in
-    let did = c.in_ok-act.ensures.own
+    let did = c.in-Ok-make_change.ensures.own
     ∙ alone_does (doing old.core) n c.requires.kept.tidy keeps.ends keeps.held keeps.asked in
     record {
       tidy = c.leave.ensures.tidy;
@@ -91,7 +91,7 @@ returns-in_default-clause-kept g c =
           (doing c.leave.new.self.core) (only n) refl did c.leave.ensures.moved
           ((λ j. is_open (record n { open_to = keeps.ends j }) (keeps.port j))
           ∙ c.requires.kept.apart);
-      classes = c.leave.ensures.stays.classes ∙ c.in_ok-act.ensures.stays.classes
+      classes = c.leave.ensures.stays.classes ∙ c.in-Ok-make_change.ensures.stays.classes
           ∙ c.requires.kept.classes;
       packs = λ on.
           let was = both old.packable (list_all (λ w. is_light w.value) (change_writes change))
@@ -109,10 +109,10 @@ decide-requires-clause-kept g c =
     let found = run_of c.args.table.now p c.requires.runs in
     same_kept c.args.table.now c.args.self.now c.make_change.new.self
     (unchanged c.args.table.now c.args.self.now.core c.make_change.new.self.core found.0 found.1
-    c.in_ok-change.change (next_act (g.B.Behaviour.act c.args.acts.now) found.0) c.in-Some.act
-    (c.in_ok-change.ensures found.0 found.1)
-    (sym c.in_ok-act.ensures.left ∙ c.in-Some.is) c.in_ok-act.ensures.own)
-    c.in_ok-act.ensures.stays c.requires.kept
+    c.in-Ok.change (next_act (g.B.Behaviour.act c.args.acts.now) found.0) c.in-Some.act
+    (c.in-Ok.ensures found.0 found.1)
+    (sym c.in-Ok-make_change.ensures.left ∙ c.in-Some.is) c.in-Ok-make_change.ensures.own)
+    c.in-Ok-make_change.ensures.stays c.requires.kept
 
 -- the top invocation runs still
 pub decide-requires-clause-runs : goal.decide-requires-clause-runs
@@ -121,10 +121,10 @@ decide-requires-clause-runs g c =
     let found = run_of c.args.table.now p c.requires.runs in
     subst (λ (d : Doing). IsRunning d.own.node.stack)
     (sym (unchanged c.args.table.now c.args.self.now.core c.make_change.new.self.core found.0
-    found.1 c.in_ok-change.change (next_act (g.B.Behaviour.act c.args.acts.now) found.0)
+    found.1 c.in-Ok.change (next_act (g.B.Behaviour.act c.args.acts.now) found.0)
     c.in-Some.act
-    (c.in_ok-change.ensures found.0 found.1)
-    (sym c.in_ok-act.ensures.left ∙ c.in-Some.is) c.in_ok-act.ensures.own))
+    (c.in-Ok.ensures found.0 found.1)
+    (sym c.in-Ok-make_change.ensures.left ∙ c.in-Some.is) c.in-Ok-make_change.ensures.own))
     c.requires.runs
 
 -- what the rules decide of an act that is left is done
@@ -134,12 +134,12 @@ returns-clause-ok g c =
     let old = c.args.self.now.core in
     let p = old.part.own in
     let act = next_act (g.B.Behaviour.act c.args.acts.now) r in
-    let means = c.in_ok-change.ensures r run in
-    let left = sym c.in_ok-act.ensures.left ∙ c.in-Some.is in
+    let means = c.in-Ok.ensures r run in
+    let left = sym c.in-Ok-make_change.ensures.left ∙ c.in-Some.is in
     let same = unchanged c.args.table.now old c.make_change.new.self.core r run
-    c.in_ok-change.change act c.in-Some.act means left c.in_ok-act.ensures.own in
+    c.in-Ok.change act c.in-Some.act means left c.in-Ok-make_change.ensures.own in
     let stays = act_stays r act c.in-Some.act
-    (sym (left_meant c.args.table.now p r run c.in_ok-change.change act means) ∙ left) in
+    (sym (left_meant c.args.table.now p r run c.in-Ok.change act means) ∙ left) in
     subst (λ (a : Act). Moves old c.decide.new.self.core (effect_of r (act_rule r a))) stays.0
     (same_moves (doing old) (doing c.make_change.new.self.core) (doing c.decide.new.self.core)
     (effect_of r (act_rule r c.in-Some.act)) same
@@ -153,7 +153,7 @@ returns-clause-err g c =
     let found = run_of c.args.table.now p c.requires.runs in
     on_err c.decide.result (λ same. same
     ∙ unchanged c.args.table.now c.args.self.now.core c.make_change.new.self.core found.0 found.1
-    c.in_ok-change.change (next_act (g.B.Behaviour.act c.args.acts.now) found.0) c.in-Some.act
-    (c.in_ok-change.ensures found.0 found.1)
-    (sym c.in_ok-act.ensures.left ∙ c.in-Some.is) c.in_ok-act.ensures.own)
+    c.in-Ok.change (next_act (g.B.Behaviour.act c.args.acts.now) found.0) c.in-Some.act
+    (c.in-Ok.ensures found.0 found.1)
+    (sym c.in-Ok-make_change.ensures.left ∙ c.in-Some.is) c.in-Ok-make_change.ensures.own)
     c.decide.ensures.err

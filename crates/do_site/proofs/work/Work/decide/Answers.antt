@@ -9,4 +9,4 @@ pub returns-clause-ok : goal.returns-clause-ok
 returns-clause-ok c =
     on_ok c.carry_out.result (λ done r run.
     subst (λ (e : Effect). Moves c.args.self.now.core c.carry_out.new.self.core e)
-    (c.in_ok-plan.ensures r run) (done r run)) c.carry_out.ensures.ok
+    (c.in-Ok.ensures r run) (done r run)) c.carry_out.ensures.ok

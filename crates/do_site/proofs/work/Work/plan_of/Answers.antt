@@ -15,7 +15,7 @@ returns c =
     c.judged_by-ground.ensures.table (ap (λ p. p.own) c.judged_by-ground.ensures.part)
     (sym c.top.ensures ∙ ap option_copied c.in-Some.is) run in
     planned r turn
-    ∙ ap (effect_of r) (c.in_ok-verdict.ensures
+    ∙ ap (effect_of r) (c.in-Ok.ensures
     ∙ same_rule r (site_context c.judged_by-ground.result.table.now
     c.judged_by-ground.result.part.now.own) c.in-Some.top.now turn.context turn.acts c.args.act))
     c.planned.ensures
