@@ -22,9 +22,11 @@ pub record IsObject (o : ObjectName) : Type 0 where
   pub least : 1 ≤ o.serial
   pub most : o.serial < 2 ^ 63
 
--- a value that is no list: nil, a number of 64 bits, a text, or an object's name
+-- a value that is no list
 pub data IsSingle (v : Value) : Type 0 where
+  -- nil, a number of 64 bits or a text
   plain : IsPlain longest_text v → IsSingle v
+  -- the name of an object
   object : (o : ObjectName) → v ≡ Obj o → IsObject o → IsSingle v
 
 -- a list of which each item is so

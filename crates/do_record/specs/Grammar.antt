@@ -60,13 +60,15 @@ pub record IsNoLine (port : ℕ) (blocks : Listed Block) (rest : Listed ℕ) : T
       → rest ≢ fed (shown_text port s) ++ more
   pub no_end : (more : Listed ℕ) → rest ≢ last_line ++ more
 
--- the line is the first that may not stand at its place: as the first line, behind the first line
--- and some blocks, or behind the last line
+-- the line is the first that may not stand at its place
 pub data IsFaultAt (bytes : Listed ℕ) : ℕ → Type 0 where
+  -- it is no first line
   at_first : ((port : ℕ) (rest : Listed ℕ) → IsPort port → bytes ≢ first_line port ++ rest)
       → IsFaultAt bytes 1
+  -- behind the first line and some blocks it is no line of a record
   between : (port : ℕ) (blocks : Listed Block) (rest : Listed ℕ) → Begins bytes port blocks rest
       → IsNoLine port blocks rest → IsFaultAt bytes (lines_in (begun port blocks) + 1)
+  -- it stands behind the last line
   behind : (port : ℕ) (blocks : Listed Block) (rest : Listed ℕ)
       → Begins bytes port blocks (last_line ++ rest) → rest ≢ []
       → IsFaultAt bytes (lines_in (begun port blocks) + 2)

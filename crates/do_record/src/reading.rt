@@ -1,5 +1,5 @@
 //! Records, read line by line.
-ghost use Rattle.std.specs.Prelude.{◌≡◌, ◌++◌, ◌∷◌, [], ℕ, Err, IfOk, Ok};
+ghost use Rattle.std.specs.Prelude.{◌≡◌, ◌++◌, ◌∷◌, [], ℕ, Err, IfOk, Ok, OnOk};
 ghost use Rattle.do_sched.specs.Answers.{AnswersWith};
 ghost use Rattle.do_sched.specs.declared.fault.SchedFault.TheVariants.{BadLine};
 ghost use Rattle.do_record.specs.Grammar.{IsFaultAt, IsRecord, TellsRecord};
@@ -7,11 +7,20 @@ ghost use Rattle.do_record.specs.Recorded.{HasShown, record_of, with_shown};
 ghost use Rattle.do_record.specs.declared.parts.Record as parts;
 
 use crate::line::{RecordText, first_port, text_of};
-use crate::parts::{Block, Blocks, Record};
+use crate::parts::{Block, Blocks, Record, RecordLine};
 use do_base::Text;
 use do_grammar::line_of;
 use do_sched::SchedFault;
 use std::alloc::{AllocError, Global};
+
+/// Begins a block with an input, which shows nothing yet.
+fn begin_block(blocks: &mut Blocks, line: u64, input: RecordLine) -> Result<(), AllocError>
+    ensures { OnOk result (blocks.new ≡ blocks.old
+        ++ record { line = line; input = input; shown = [] } ∷ []) }
+{
+    let shown = Text::new(blocks.allocator());
+    blocks.push(Block { line, input, shown })
+}
 
 /// Adds a line to what the last block shows. False where there is no block.
 #[tactic(auto, using(crate::proofs::records::Showing::shown_last))]
@@ -71,14 +80,7 @@ fn record_in(alloc: Global, bytes: &[u8]) -> Result<Record, SchedFault>
                 }
                 return Err(SchedFault::BadLine(number + 1));
             }
-            RecordText::Input(input) => {
-                let shown = Text::new(alloc);
-                blocks.push(Block {
-                    line: number,
-                    input,
-                    shown,
-                })?;
-            }
+            RecordText::Input(input) => begin_block(&mut blocks, number, input)?,
             RecordText::Shown => {
                 if !add_shown(&mut blocks, text)? {
                     return Err(SchedFault::BadLine(number));

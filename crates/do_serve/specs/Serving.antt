@@ -21,10 +21,13 @@ pub record Server (Part : Type 0) : Type 0 where
 
 -- ---- a turn
 
--- what a turn comes to: a server and what it wrote, a poll of the link, or the end
+-- what a turn comes to
 pub data Turn (Part : Type 0) : Type 0 where
+  -- it goes on with this server, and wrote these bytes
   goes : Server Part → List ℕ → Turn Part
+  -- it polls the link
   polls : Turn Part
+  -- serving ends
   ends : Turn Part
 
 -- an input was done
@@ -87,10 +90,13 @@ hand (frame ∷ frames) peers told = None
 
 -- ---- all turns
 
--- how serving stopped: by the line `end`, with all its turns taken, or where the link told no more
+-- how serving stopped
 pub data How : Type 0 where
+  -- by the line `end`
   ended : How
+  -- all turns were taken
   spent : How
+  -- the link told no more
   unfinished : How
 
 -- what serving came to: what it wrote behind the first line, the frames that were to be handed to
