@@ -1,9 +1,9 @@
 //! Calls of a list.
 
 use call_rows::{Part, count_at, count_value, list_at, no_call, number_at, number_or_nil};
-use do_acts::as_number;
 use do_base::{Items, Value, Values};
 use do_grammar::is_text;
+use do_native_acts::as_number;
 use std::alloc::{AllocError, Global};
 use std::test::Fail;
 

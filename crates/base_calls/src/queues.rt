@@ -2,9 +2,9 @@
 
 use crate::lists::{past, shown};
 use call_rows::{Part, count_at, count_value, no_call, number_at, number_or_nil};
-use do_acts::as_number;
 use do_base::{Reserved, Value, Values};
 use do_grammar::is_text;
+use do_native_acts::as_number;
 use std::alloc::Global;
 use std::mem;
 use std::test::Fail;

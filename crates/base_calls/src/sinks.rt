@@ -3,9 +3,9 @@ ghost use Rattle.std.specs.Prelude.{Some};
 
 use crate::shelves::calls_of;
 use call_rows::{Part, list_at, no_call, printed, text_at};
-use do_acts::as_number;
 use do_base::{Items, MemSink, PutFail, Sink, Text, Value, Values, write_all};
 use do_grammar::is_text;
+use do_native_acts::as_number;
 use std::alloc::Global;
 use std::test::Fail;
 

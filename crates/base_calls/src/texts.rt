@@ -1,9 +1,9 @@
 //! Calls of a text.
 
 use call_rows::{Part, count_value, no_call, number_at, text_at};
-use do_acts::as_number;
 use do_base::{Text, Value, Values};
 use do_grammar::is_text;
+use do_native_acts::as_number;
 use std::alloc::Global;
 use std::test::Fail;
 

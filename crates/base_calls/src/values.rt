@@ -1,9 +1,9 @@
 //! Calls of values, of nodes and of what a step shows.
 
 use call_rows::{Part, copy_at, count_at, no_call, number_or_nil, text_at, value_at};
-use do_acts::{as_number, is_limited};
 use do_base::{Exc, NodeId, Shown, Value, Values, copy_value, same_value, weight};
 use do_grammar::is_text;
+use do_native_acts::{as_number, is_limited};
 use std::alloc::Global;
 use std::test::Fail;
 

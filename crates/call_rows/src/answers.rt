@@ -1,7 +1,7 @@
 //! Answers as values.
 
-use do_acts::CoreFault;
 use do_base::{Oid, Text, Value, Values};
+use do_native_acts::CoreFault;
 use std::alloc::{AllocError, Global};
 use std::fmt;
 use std::test::Fail;

@@ -1,7 +1,7 @@
 //! The arguments of a call.
 
-use do_acts::{port_in, read_list};
 use do_base::{Oid, Text, Texts, Value, Values, copy_value};
+use do_native_acts::{port_in, read_list};
 use std::test::Fail;
 
 /// The argument at a place.

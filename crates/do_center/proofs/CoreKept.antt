@@ -2,17 +2,15 @@
 use Rattle.std.proofs.Common.{◌≡◌, ℕ, zero, suc, ◌<◌, ◌≤◌, Bool, true, false, ◌&&◌, List, [], ◌∷◌}
 use Rattle.std.proofs.Common.{◌++◌}
 use Rattle.std.proofs.Common.{length, Option, Some, None, refl, sym, ◌∙◌, ap}
-use Rattle.std.proofs.Common.{arith, length-append, is_some}
+use Rattle.std.proofs.Common.{arith, length-append}
 use Rattle.std.specs.Prelude.{if◌then◌else◌, not, ◌||◌, slice_get, nat_le}
 use Rattle.std.specs.List.{list_all}
-use Rattle.std.specs.Option.{option_map}
 use Rattle.std.proofs.lemmas.Bool.{and_parts, and_from, leb-true, le-leb}
 use Rattle.std.proofs.lemmas.List.{map-append, length-map}
-use Rattle.std.proofs.lemmas.List.Folds.{list_all-append}
+use Rattle.std.proofs.lemmas.List.Folds.{list_all-append, list_any-append}
 use Rattle.do_base.specs.names.Names.{ObjectName}
 use Rattle.do_center.specs.Notes.{is_note}
-use Rattle.do_center.specs.Observers.{are_distinct, first_of, has_object, same_object}
-use Rattle.do_center.specs.Observers.{without_first}
+use Rattle.do_center.specs.Observers.{are_distinct, has_object, same_object, without_object}
 use Rattle.do_center.specs.Posting.{came_to_all}
 use Rattle.do_center.specs.Queues.{with_queue}
 use Rattle.do_center.specs.Registrations.{is_registration}
@@ -147,17 +145,6 @@ added_kept ss r few good is =
     (and_from (is_registration r) true good refl) refl))
     (apart_pushed ss r parts.2)
 
--- an object is the first of these or among the others
-pub has_first : (y : ObjectName) (os : List ObjectName) (x : ObjectName)
-    → has_object (y ∷ os) x ≡ (same_object y x || has_object os x)
-has_first y os x = by (same_object y x) (first_of (λ z. z) os x)
-  where
-    by : (b : Bool) (f : Option ℕ)
-        → is_some (if b then Some 0 else option_map suc f) ≡ (b || is_some f)
-    by true f = refl
-    by false None = refl
-    by false (Some k) = refl
-
 -- what is none of two is neither
 none_of : (a b : Bool) → (a || b) ≡ false → (a ≡ false) × (b ≡ false)
 none_of true b e = cc
@@ -168,14 +155,16 @@ pub not_of : (b : Bool) → not b ≡ true → b ≡ false
 not_of true e = cc
 not_of false e = refl
 
--- an object is not among others and one more that it is not
-absent_pushed : (os : List ObjectName) (o x : ObjectName) → same_object o x ≡ false
-    → has_object os x ≡ false → has_object (os ++ o ∷ []) x ≡ false
-absent_pushed [] o x apart none = has_first o [] x ∙ ap (λ b. b || false) apart
-absent_pushed (y ∷ os) o x apart none =
-    let both = none_of (same_object y x) (has_object os x) (sym (has_first y os x) ∙ none) in
-    has_first y (os ++ o ∷ []) x ∙ ap (λ b. b || has_object (os ++ o ∷ []) x) both.0
-    ∙ absent_pushed os o x apart both.1
+-- an object is among others and one more where it is among them or is it
+pub has_pushed : (os : List ObjectName) (o x : ObjectName)
+    → has_object (os ++ o ∷ []) x ≡ (has_object os x || same_object x o)
+has_pushed os o x =
+    list_any-append (same_object x) os (o ∷ [])
+    ∙ ap (λ b. has_object os x || b) (by (same_object x o))
+  where
+    by : (b : Bool) → (b || false) ≡ b
+    by true = refl
+    by false = refl
 
 -- with one more that is not among them no object is there twice
 pub distinct_pushed : (os : List ObjectName) (o : ObjectName) → has_object os o ≡ false
@@ -183,52 +172,52 @@ pub distinct_pushed : (os : List ObjectName) (o : ObjectName) → has_object os 
 distinct_pushed [] o absent distinct = refl
 distinct_pushed (x ∷ os) o absent distinct =
     let parts = and_parts (not (has_object os x)) (are_distinct os) distinct in
-    let both = none_of (same_object x o) (has_object os o) (sym (has_first x os o) ∙ absent) in
+    let both = none_of (same_object o x) (has_object os o) absent in
     and_from (not (has_object (os ++ o ∷ []) x)) (are_distinct (os ++ o ∷ []))
-    (ap not (absent_pushed os o x (same_sym o x ∙ both.0) (not_of (has_object os x) parts.0)))
+    (ap not
+    (has_pushed os o x ∙ ap (λ b. b || same_object x o) (not_of (has_object os x) parts.0)
+    ∙ same_sym x o ∙ both.0))
     (distinct_pushed os o both.1 parts.1)
 
 -- an object that is not among these is not among those left
 has_left : (os : List ObjectName) (o x : ObjectName) → has_object os x ≡ false
-    → has_object (without_first (λ z. z) os o) x ≡ false
+    → has_object (without_object os o) x ≡ false
 has_left [] o x none = refl
 has_left (y ∷ os) o x none =
-    let both = none_of (same_object y x) (has_object os x) (sym (has_first y os x) ∙ none) in
-    by (same_object y o) both.0 both.1 (has_left os o x both.1)
+    let both = none_of (same_object x y) (has_object os x) none in
+    by (same_object o y) both.0 both.1 (has_left os o x both.1)
   where
-    by : (b : Bool) → same_object y x ≡ false → has_object os x ≡ false
-        → has_object (without_first (λ z. z) os o) x ≡ false
-        → has_object (if b then os else y ∷ without_first (λ z. z) os o) x ≡ false
+    by : (b : Bool) → same_object x y ≡ false → has_object os x ≡ false
+        → has_object (without_object os o) x ≡ false
+        → has_object (if b then os else y ∷ without_object os o) x ≡ false
     by true first others rest = others
-    by false first others rest =
-        has_first y (without_first (λ z. z) os o) x
-        ∙ ap (λ b. b || has_object (without_first (λ z. z) os o) x) first ∙ rest
+    by false first others rest = ap (λ b. b || has_object (without_object os o) x) first ∙ rest
 
 -- without one no object is there twice
 pub distinct_left : (os : List ObjectName) (o : ObjectName) → are_distinct os ≡ true
-    → (are_distinct (without_first (λ z. z) os o) ≡ true)
+    → (are_distinct (without_object os o) ≡ true)
 distinct_left [] o distinct = refl
 distinct_left (x ∷ os) o distinct =
     let parts = and_parts (not (has_object os x)) (are_distinct os) distinct in
-    by (same_object x o) parts.0 parts.1 (distinct_left os o parts.1)
+    by (same_object o x) parts.0 parts.1 (distinct_left os o parts.1)
   where
     by : (b : Bool) → not (has_object os x) ≡ true → are_distinct os ≡ true
-        → are_distinct (without_first (λ z. z) os o) ≡ true
-        → are_distinct (if b then os else x ∷ without_first (λ z. z) os o) ≡ true
+        → are_distinct (without_object os o) ≡ true
+        → are_distinct (if b then os else x ∷ without_object os o) ≡ true
     by true alone others rest = others
     by false alone others rest =
-        and_from (not (has_object (without_first (λ z. z) os o) x))
-        (are_distinct (without_first (λ z. z) os o))
+        and_from (not (has_object (without_object os o) x))
+        (are_distinct (without_object os o))
         (ap not (has_left os o x (not_of (has_object os x) alone))) rest
 
 -- and there are no more
 fewer_left : (os : List ObjectName) (o : ObjectName)
-    → length (without_first (λ z. z) os o) ≤ length os
+    → length (without_object os o) ≤ length os
 fewer_left [] o = omega arith
-fewer_left (x ∷ os) o = by (same_object x o) (fewer_left os o)
+fewer_left (x ∷ os) o = by (same_object o x) (fewer_left os o)
   where
-    by : (b : Bool) → length (without_first (λ z. z) os o) ≤ length os
-        → length (if b then os else x ∷ without_first (λ z. z) os o) ≤ length (x ∷ os)
+    by : (b : Bool) → length (without_object os o) ≤ length os
+        → length (if b then os else x ∷ without_object os o) ≤ length (x ∷ os)
     by true few = omega arith
     by false few = omega (arith, few)
 
@@ -243,12 +232,12 @@ suspended_kept os o few absent is =
 
 -- and one may be resumed
 pub resumed_kept : (os : List ObjectName) (o : ObjectName) → are_suspended os ≡ true
-    → are_suspended (without_first (λ z. z) os o) ≡ true
+    → are_suspended (without_object os o) ≡ true
 resumed_kept os o is =
     let parts = and_parts (nat_le (length os) 256) (are_distinct os) is in
-    and_from (nat_le (length (without_first (λ z. z) os o)) 256)
-    (are_distinct (without_first (λ z. z) os o))
-    (le-leb (length (without_first (λ z. z) os o)) 256
+    and_from (nat_le (length (without_object os o)) 256)
+    (are_distinct (without_object os o))
+    (le-leb (length (without_object os o)) 256
     (omega (arith, fewer_left os o, leb-true (length os) 256 parts.0)))
     (distinct_left os o parts.1)
 

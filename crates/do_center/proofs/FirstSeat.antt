@@ -1,15 +1,14 @@
 -- The queue of an observer stands at its first registration.
 use Rattle.std.proofs.Common.{◌≡◌, ℕ, suc, Bool, true, false, List, [], ◌∷◌, Option, Some}
-use Rattle.std.proofs.Common.{None, refl, sym, ap, ◌∙◌, ◌++◌, length}
+use Rattle.std.proofs.Common.{None, refl, ap, ◌∙◌}
 use Rattle.std.specs.Prelude.{if◌then◌else◌, slice_get, slice_set}
-use Rattle.std.specs.Option.{option_map, option_or}
+use Rattle.std.specs.Option.{option_map}
 use Rattle.do_base.specs.names.Names.{ObjectName}
-use Rattle.do_acts.specs.laws.KindLaws.{some_same}
+use Rattle.do_native_acts.specs.laws.KindLaws.{some_same}
 use Rattle.do_center.specs.Observers.{first_of, same_object}
 use Rattle.do_center.specs.Queues.{queue_of, seat_with, with_queue}
 use Rattle.do_center.specs.declared.queues.Queued.{Queued}
 use Rattle.do_center.specs.declared.seats.Seat.{Seat}
-use Rattle.do_center.proofs.FirstPlace.{first_more}
 
 -- the place of the first registration of an observer
 abbrev pub first_seat : List Seat → ObjectName → Option ℕ
@@ -82,29 +81,3 @@ with_found (x ∷ ss) o q k s e at =
         ap (λ ys. x ∷ ys) (rest j refl (ap (slice_get (x ∷ ss)) (some_same e) ∙ at))
         ∙ ap (λ j. slice_set (x ∷ ss) j (seat_with s q)) (some_same e)
     by false None rest e = cc
-
--- and another queue of an observer leaves the first places
-pub first_kept : (ss : List Seat) (o : ObjectName) (q : List Queued) (p : ObjectName)
-    → first_seat (with_queue ss o q) p ≡ first_seat ss p
-first_kept [] o q p = refl
-first_kept (s ∷ ss) o q p = by (same_object s.registration.observer o) (first_kept ss o q p)
-  where
-    by : (b : Bool) → first_seat (with_queue ss o q) p ≡ first_seat ss p
-        → first_seat (if b then seat_with s q ∷ ss else s ∷ with_queue ss o q) p
-        ≡ first_seat (s ∷ ss) p
-    by true rest = refl
-    by false rest =
-        ap (λ f. if same_object s.registration.observer p then Some 0 else option_map suc f) rest
-
--- where one registration more is entered that had no place, the places are still the first ones
-pub entered_kept : (before after : ObjectName → Option ℕ) (ss : List Seat) (s : Seat)
-    → ((p : ObjectName) → before p ≡ first_seat ss p)
-    → ((p : ObjectName) → after p ≡ option_or (before p)
-    (if same_object s.registration.observer p then Some (length ss) else None))
-    → (p : ObjectName) → after p ≡ first_seat (ss ++ s ∷ []) p
-entered_kept before after ss s kept updates p =
-    let last : Option ℕ =
-    if same_object s.registration.observer p then Some (length ss) else None in
-    updates p
-    ∙ ap (λ f. option_or f last) (kept p)
-    ∙ sym (first_more (λ (x : Seat). x.registration.observer) p ss s)

@@ -4,7 +4,7 @@ use Rattle.std.proofs.Common.{refl, ap, ◌∙◌}
 use Rattle.std.specs.Prelude.{if◌then◌else◌, slice_get}
 use Rattle.std.specs.Option.{option_map}
 use Rattle.do_base.specs.names.Names.{ObjectName}
-use Rattle.do_acts.specs.laws.KindLaws.{some_same}
+use Rattle.do_native_acts.specs.laws.KindLaws.{some_same}
 use Rattle.do_center.specs.Observers.{first_of, same_object}
 use Rattle.do_center.specs.Slots.{queue_among}
 use Rattle.do_center.specs.declared.slots.Waiting.{Waiting}

@@ -6,7 +6,7 @@ use Rattle.std.specs.List.{list_all}
 use Rattle.std.proofs.lemmas.Bool.{and_parts, and_from}
 use Rattle.std.proofs.lemmas.List.Folds.{list_all-append}
 use Rattle.do_base.specs.names.Names.{ObjectName}
-use Rattle.do_acts.specs.laws.KindLaws.{some_same}
+use Rattle.do_native_acts.specs.laws.KindLaws.{some_same}
 use Rattle.do_center.specs.Notes.{is_note}
 use Rattle.do_center.specs.Observers.{has_object}
 use Rattle.do_center.specs.Posting.{arrives, came, comes_to, due, flushed, held, waits}

@@ -9,7 +9,7 @@ use Rattle.std.specs.Option.{option_map}
 use Rattle.std.proofs.lemmas.List.{length-map, map-append}
 use Rattle.do_base.specs.names.Names.{ObjectName}
 use Rattle.do_center.specs.Calls.{added, suspended, with_suspended}
-use Rattle.do_acts.specs.History.{left}
+use Rattle.do_native_acts.specs.History.{left}
 use Rattle.do_center.specs.History.{after, registered, with_last}
 use Rattle.do_center.specs.Observers.{has_object}
 use Rattle.do_center.specs.Posting.{arrives, came, came_to_all, comes_to, due, held}

@@ -2,7 +2,7 @@
 use Rattle.std.proofs.Common.{◌≡◌, ℕ, zero, suc, ◌+◌, List, [], ◌∷◌, ◌++◌, Some}
 use Rattle.std.proofs.Common.{sym, ◌∙◌, ap, drop, append_assoc, add-one}
 use Rattle.std.specs.Prelude.{slice_get}
-use Rattle.do_acts.specs.laws.KindLaws.{some_same}
+use Rattle.do_native_acts.specs.laws.KindLaws.{some_same}
 use Rattle.do_center.specs.Observers.{without_first}
 use Rattle.do_center.specs.Slots.{queue_among, seated}
 use Rattle.do_center.specs.declared.registrations.Registration.{Registration}

@@ -14,10 +14,10 @@ use Rattle.do_base.specs.values.Kinds.{object}
 use Rattle.do_base.specs.declared.values.value.Value.{Value}
 use Rattle.do_base.specs.declared.values.value.Value.TheVariants.{Num, Text, Obj}
 use Rattle.do_grammar.specs.Words.{◌>>?◌}
-use Rattle.do_acts.specs.Rows.{rows_in, listed}
-use Rattle.do_acts.specs.laws.KindLaws.{text_of_Text, number_of_Num, object_of_Obj}
-use Rattle.do_acts.specs.laws.KindLaws.{items_of_List, then_is}
-use Rattle.do_acts.specs.laws.RowLaws.{read_shown}
+use Rattle.do_native_acts.specs.Rows.{rows_in, listed}
+use Rattle.do_native_acts.specs.laws.KindLaws.{text_of_Text, number_of_Num, object_of_Obj}
+use Rattle.do_native_acts.specs.laws.KindLaws.{items_of_List, then_is}
+use Rattle.do_native_acts.specs.laws.RowLaws.{read_shown}
 use Rattle.do_center.specs.Notes.{info_in, info_within, is_label, is_note, is_short, label_in}
 use Rattle.do_center.specs.Notes.{label_value, note_in}
 use Rattle.do_center.specs.Observers.{same_object, without_first}

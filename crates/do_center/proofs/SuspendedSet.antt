@@ -1,13 +1,11 @@
 -- Observers in a set, as the list of them.
 use Rattle.std.proofs.Common.{◌≡◌, ℕ, zero, suc, Bool, true, false, not, ◌&&◌, List, [], ◌∷◌, ◌++◌}
 use Rattle.std.proofs.Common.{Some, None, take, refl, sym, ◌∙◌, ap, true≢false}
-use Rattle.std.specs.Prelude.{cond, if◌then◌else◌, slice_get, ◌||◌}
-use Rattle.std.specs.List.{list_any}
-use Rattle.std.specs.Set.{remove_key}
+use Rattle.std.specs.Prelude.{if◌then◌else◌, slice_get, ◌||◌}
 use Rattle.indexmap.specs.IndexSet.{insert_key}
 use Rattle.do_base.specs.names.Names.{ObjectName}
-use Rattle.do_acts.specs.laws.KindLaws.{some_same}
-use Rattle.do_center.specs.Observers.{are_distinct, has_object, same_object, without_first}
+use Rattle.do_native_acts.specs.laws.KindLaws.{some_same}
+use Rattle.do_center.specs.Observers.{are_distinct, has_object, same_object}
 use Rattle.std.specs.Cmp.Lexicographic.{pointwise}
 use Rattle.do_base.specs.values.Equal.{value_eq}
 use Rattle.do_base.specs.declared.values.value.Value.{Value}
@@ -15,44 +13,22 @@ use Rattle.std.proofs.lemmas.Bool.{and_from}
 use Rattle.do_center.specs.Seats.{are_seats, are_suspended, read_suspended}
 use Rattle.do_center.specs.Slots.{of_core, to_slots}
 use Rattle.do_center.specs.declared.seats.Seat.{Seat}
-use Rattle.do_center.proofs.CoreKept.{has_first}
-use Rattle.do_center.proofs.SameObject.{same_is, same_refl, same_sym}
+use Rattle.do_center.proofs.SameObject.{same_is, same_refl}
 
--- an observer is in the set where it is among these
-pub member_is_among : (os : List ObjectName) (o : ObjectName)
-    → list_any (same_object o) os ≡ has_object os o
-member_is_among [] o = refl
-member_is_among (x ∷ os) o =
-    ap (λ b. b || list_any (same_object o) os) (same_sym o x)
-    ∙ ap (λ b. same_object x o || b) (member_is_among os o)
-    ∙ sym (has_first x os o)
-
--- one that is not goes last
+-- one that is not among these goes last in the set
 pub new_goes_last : (os : List ObjectName) (o : ObjectName) → has_object os o ≡ false
     → insert_key same_object os o ≡ os ++ o ∷ []
-new_goes_last os o absent =
-    ap (λ b. if b then os else os ++ o ∷ []) (member_is_among os o ∙ absent)
-
--- and the set without one has the others, in their order
-pub left_is_without : (os : List ObjectName) (o : ObjectName)
-    → remove_key (same_object o) os ≡ without_first (λ z. z) os o
-left_is_without [] o = refl
-left_is_without (x ∷ os) o =
-    ap (λ b. cond b os (x ∷ remove_key (same_object o) os)) (same_sym o x)
-    ∙ ap (λ xs. if same_object x o then os else x ∷ xs) (left_is_without os o)
+new_goes_last os o absent = ap (λ b. if b then os else os ++ o ∷ []) absent
 
 -- an object that is at a place is among these
 there : (os : List ObjectName) (k : ℕ) (o : ObjectName) → slice_get os k ≡ Some o
     → has_object os o ≡ true
 there [] k o found = cc
 there (x ∷ os) zero o found =
-    has_first x os o
-    ∙ ap (λ y. same_object y o || has_object os o) (some_same found)
+    ap (λ y. same_object o y || has_object os o) (some_same found)
     ∙ ap (λ b. b || has_object os o) (same_refl o)
 there (x ∷ os) (suc k) o found =
-    has_first x os o
-    ∙ ap (λ b. same_object x o || b) (there os k o found)
-    ∙ or_true (same_object x o)
+    ap (λ b. same_object o x || b) (there os k o found) ∙ or_true (same_object o x)
   where
     or_true : (b : Bool) → (b || true) ≡ true
     or_true true = refl
@@ -64,19 +40,18 @@ pub there_twice : (os : List ObjectName) (k : ℕ) (o : ObjectName) → slice_ge
 there_twice [] k o found before = cc
 there_twice (x ∷ os) zero o found before = absurd (true≢false (sym before))
 there_twice (x ∷ os) (suc k) o found before =
-    by (same_object x o) refl (sym (has_first x (take k os) o) ∙ before)
-    (there_twice os k o found)
+    by (same_object o x) refl before (there_twice os k o found)
   where
     and_false : (b : Bool) → (b && false) ≡ false
     and_false true = refl
     and_false false = refl
 
-    by : (b : Bool) → same_object x o ≡ b → (b || has_object (take k os) o) ≡ true
+    by : (b : Bool) → same_object o x ≡ b → (b || has_object (take k os) o) ≡ true
         → (has_object (take k os) o ≡ true → are_distinct os ≡ false)
         → (not (has_object os x) && are_distinct os) ≡ false
     by true same either later =
         ap (λ b. not b && are_distinct os)
-        (ap (has_object os) (same_is x o same) ∙ there os k o found)
+        (ap (has_object os) (sym (same_is o x same)) ∙ there os k o found)
     by false differs either later =
         ap (λ b. not (has_object os x) && b) (later either) ∙ and_false (not (has_object os x))
 

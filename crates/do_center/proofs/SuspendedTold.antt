@@ -7,9 +7,9 @@ use Rattle.std.specs.Option.{option_map}
 use Rattle.std.proofs.lemmas.Bool.{and_parts}
 use Rattle.do_base.specs.names.Names.{ObjectName}
 use Rattle.do_center.specs.Calls.{added, suspended, with_suspended}
-use Rattle.do_acts.specs.History.{left}
+use Rattle.do_native_acts.specs.History.{left}
 use Rattle.do_center.specs.History.{after, is_suspended}
-use Rattle.do_center.specs.Observers.{are_distinct, has_object, same_object, without_first}
+use Rattle.do_center.specs.Observers.{are_distinct, has_object, same_object, without_object}
 use Rattle.do_center.specs.Posting.{came_to_all, posted_of}
 use Rattle.do_center.specs.Queues.{deliveries}
 use Rattle.do_center.specs.Seats.{Core}
@@ -18,8 +18,8 @@ use Rattle.do_center.specs.declared.calls.Call.TheVariants.{Add, Remove, Suspend
 use Rattle.do_center.specs.declared.notes.Delivery.{Delivery}
 use Rattle.do_center.specs.declared.posting.Posting.{Posting}
 use Rattle.do_center.specs.declared.registrations.Registration.{Registration}
-use Rattle.do_center.proofs.CoreKept.{distinct_left, distinct_pushed, fresh, has_first, not_of}
-use Rattle.do_center.proofs.SameObject.{same_is, same_sym}
+use Rattle.do_center.proofs.CoreKept.{distinct_left, distinct_pushed, fresh, has_pushed, not_of}
+use Rattle.do_center.proofs.SameObject.{same_is}
 
 -- a registration more leaves those that are suspended
 add_same : (c : Core) (r : Registration)
@@ -87,23 +87,6 @@ after_distinct (Post note immediate ∷ h) =
     let c = after h in
     ap are_distinct (post_same c (came_to_all note immediate c.1 c.0)) ∙ after_distinct h
 
--- an object is among others or is the last one
-has_pushed : (os : List ObjectName) (o x : ObjectName)
-    → has_object (os ++ o ∷ []) x ≡ (has_object os x || same_object x o)
-has_pushed [] o x = has_first o [] x ∙ by (same_object o x) ∙ same_sym o x
-  where
-    by : (b : Bool) → (b || false) ≡ b
-    by true = refl
-    by false = refl
-has_pushed (y ∷ os) o x =
-    has_first y (os ++ o ∷ []) x ∙ ap (λ b. same_object y x || b) (has_pushed os o x)
-    ∙ by (same_object y x) (has_object os x) (same_object x o)
-    ∙ ap (λ b. b || same_object x o) (sym (has_first y os x))
-  where
-    by : (a b c : Bool) → (a || (b || c)) ≡ ((a || b) || c)
-    by true b c = refl
-    by false b c = refl
-
 -- what suspending one leaves of another
 suspend_told : (os : List ObjectName) (o x : ObjectName)
     → has_object (suspended_with os (with_suspended os o)) x
@@ -130,7 +113,7 @@ suspend_told os o x =
 
 -- what resuming one leaves of another
 resume_told : (os : List ObjectName) (o x : ObjectName) → are_distinct os ≡ true
-    → has_object (without_first (λ y. y) os o) x ≡ (not (same_object x o) && has_object os x)
+    → has_object (without_object os o) x ≡ (not (same_object x o) && has_object os x)
 resume_told [] o x distinct = by (same_object x o)
   where
     by : (b : Bool) → false ≡ (not b && false)
@@ -138,30 +121,26 @@ resume_told [] o x distinct = by (same_object x o)
     by false = refl
 resume_told (y ∷ os) o x distinct =
     let parts = and_parts (not (has_object os y)) (are_distinct os) distinct in
-    by (same_object y o) (same_object x o) refl refl (not_of (has_object os y) parts.0)
+    by (same_object o y) (same_object x o) refl refl (not_of (has_object os y) parts.0)
     (resume_told os o x parts.1)
   where
     rest : List ObjectName
-    rest = without_first (λ z. z) os o
+    rest = without_object os o
 
-    by : (b c : Bool) → same_object y o ≡ b → same_object x o ≡ c → has_object os y ≡ false
+    by : (b c : Bool) → same_object o y ≡ b → same_object x o ≡ c → has_object os y ≡ false
         → has_object rest x ≡ (not (same_object x o) && has_object os x)
         → has_object (if b then os else y ∷ rest) x ≡ (not c && has_object (y ∷ os) x)
     by true true first other alone told =
-        ap (has_object os) (same_is x o other ∙ sym (same_is y o first)) ∙ alone
+        ap (has_object os) (same_is x o other ∙ same_is o y first) ∙ alone
     by true false first other alone told =
-        sym (has_first y os x
-        ∙ ap (λ z. same_object z x || has_object os x) (same_is y o first)
-        ∙ ap (λ b. b || has_object os x) (same_sym o x ∙ other))
+        sym (ap (λ z. same_object x z || has_object os x) (sym (same_is o y first))
+        ∙ ap (λ b. b || has_object os x) other)
     by false true first other alone told =
-        has_first y rest x
-        ∙ ap (λ z. same_object y z || has_object rest x) (same_is x o other)
+        ap (λ z. same_object z y || has_object rest x) (same_is x o other)
         ∙ ap (λ b. b || has_object rest x) first
         ∙ told ∙ ap (λ b. not b && has_object os x) other
     by false false first other alone told =
-        has_first y rest x
-        ∙ ap (λ b. same_object y x || b) (told ∙ ap (λ b. not b && has_object os x) other)
-        ∙ sym (has_first y os x)
+        ap (λ b. same_object x y || b) (told ∙ ap (λ b. not b && has_object os x) other)
 
 -- an observer is suspended after the calls where they tell it
 suspended_told : (h : List Call) (o : ObjectName) → has_object (after h).1 o ≡ is_suspended h o

@@ -4,7 +4,7 @@ use Rattle.std.proofs.Common.{ℕ, zero, suc, ◌+◌, take, sym, Some, add-one}
 use Rattle.std.specs.Prelude.{if◌then◌else◌, slice_get}
 use Rattle.std.proofs.lemmas.List.{map-append}
 use Rattle.do_base.specs.declared.values.value.Value.{Value}
-use Rattle.do_acts.specs.laws.KindLaws.{some_same}
+use Rattle.do_native_acts.specs.laws.KindLaws.{some_same}
 use Rattle.do_center.specs.Seats.{is_none}
 use Rattle.do_center.specs.Slots.{waiting, waiting_value}
 use Rattle.do_center.specs.declared.seats.Seat.{Seat}

@@ -14,8 +14,8 @@ use Rattle.do_behave.specs.declared.invocation.Invocation.{Invocation}
 use Rattle.do_behave.specs.declared.act.Act.{Act}
 use Rattle.do_behave.specs.declared.act.Act.TheVariants.{Send}
 use Rattle.do_behave.specs.declared.change.LocalSet.{LocalSet}
-use Rattle.do_acts.specs.Places.{by_selector, returns}
-use Rattle.do_acts.specs.Steps.{changes, fits, steps}
+use Rattle.do_native_acts.specs.Places.{by_selector, returns}
+use Rattle.do_native_acts.specs.Steps.{changes, fits, steps}
 use Rattle.do_center.specs.Calls.{does}
 use Rattle.do_center.specs.Notes.{delivery_value, label_in, note_in}
 use Rattle.do_center.specs.Registrations.{registration_from, selector_in}

@@ -3,10 +3,10 @@ use Rattle.std.specs.Prelude.{◌≡◌, ℕ, Bool, true, false, nat_lt, IsTrue,
 use Rattle.std.specs.Prelude.{List, [], ◌∷◌, ◌++◌, length, if◌then◌else◌}
 use Rattle.std.specs.Option.{option_map}
 use Rattle.do_base.specs.names.Names.{ObjectName}
-use Rattle.do_acts.specs.declared.fault.CoreFault.{CoreFault}
-use Rattle.do_acts.specs.declared.fault.CoreFault.TheVariants.{Full, Memory}
+use Rattle.do_native_acts.specs.declared.fault.CoreFault.{CoreFault}
+use Rattle.do_native_acts.specs.declared.fault.CoreFault.TheVariants.{Full, Memory}
 use Rattle.do_center.specs.Notes.{is_note}
-use Rattle.do_center.specs.Observers.{has_object, without_first}
+use Rattle.do_center.specs.Observers.{has_object, without_object}
 use Rattle.do_center.specs.Posting.{posted}
 use Rattle.do_center.specs.Queues.{deliveries, queue_of, with_queue}
 use Rattle.do_center.specs.Registrations.{is_registration}
@@ -34,7 +34,7 @@ with_suspended os o =
 abbrev pub suspended : Core → ObjectName → Bool → Option (Core × List Delivery)
 suspended c o true = option_map (λ os. ((c.0, os), [])) (with_suspended c.1 o)
 suspended c o false =
-    Some ((with_queue c.0 o [], without_first (λ x. x) c.1 o), deliveries c.0 (queue_of c.0 o))
+    Some ((with_queue c.0 o [], without_object c.1 o), deliveries c.0 (queue_of c.0 o))
 
 -- what a call needs: a registration or a notification within the limits
 abbrev pub IsCall : Call → Type 0

@@ -3,7 +3,7 @@ use Rattle.std.specs.Prelude.{Bool, true, false, not, ◌&&◌, ◌||◌, nat_lt
 use Rattle.std.specs.Prelude.{List, [], ◌∷◌, ◌++◌, length, if◌then◌else◌}
 use Rattle.std.specs.List.{filter}
 use Rattle.do_base.specs.names.Names.{ObjectName}
-use Rattle.do_acts.specs.History.{after_calls}
+use Rattle.do_native_acts.specs.History.{after_calls}
 use Rattle.do_center.specs.Calls.{does}
 use Rattle.do_center.specs.Observers.{same_object}
 use Rattle.do_center.specs.Removing.{goes}

@@ -1,7 +1,9 @@
 -- What is kept by observer.
-use Rattle.std.specs.Prelude.{ℕ, suc, Bool, true, not, ◌&&◌, ◌==◌, is_some}
+use Rattle.std.specs.Prelude.{ℕ, suc, Bool, true, not, ◌&&◌, ◌==◌}
 use Rattle.std.specs.Prelude.{Option, Some, None, List, [], ◌∷◌, if◌then◌else◌}
+use Rattle.std.specs.List.{list_any}
 use Rattle.std.specs.Option.{option_map}
+use Rattle.std.specs.Set.{remove_key}
 use Rattle.do_base.specs.names.Names.{ObjectName}
 
 -- two names of one object
@@ -22,7 +24,11 @@ without_first observer (x ∷ xs) o =
 
 -- the object is among these
 abbrev pub has_object : List ObjectName → ObjectName → Bool
-has_object os o = is_some (first_of (λ x. x) os o)
+has_object os o = list_any (same_object o) os
+
+-- these without one
+abbrev pub without_object : List ObjectName → ObjectName → List ObjectName
+without_object os o = remove_key (same_object o) os
 
 -- no object is there twice
 abbrev pub are_distinct : List ObjectName → Bool

@@ -8,7 +8,7 @@ use Rattle.do_base.specs.values.Kinds.{number, object, items}
 use Rattle.do_base.specs.declared.values.value.Value.{Value, List}
 use Rattle.do_base.specs.declared.values.value.Value.TheVariants.{Num, Text, Obj}
 use Rattle.do_grammar.specs.Words.{◌>>?◌}
-use Rattle.do_acts.specs.Rows.{rows_in, listed}
+use Rattle.do_native_acts.specs.Rows.{rows_in, listed}
 use Rattle.do_center.specs.Notes.{label_value, note_in}
 use Rattle.do_center.specs.Observers.{same_object, without_first}
 use Rattle.do_center.specs.Registrations.{registration_in, registration_value}

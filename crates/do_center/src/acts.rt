@@ -1,7 +1,7 @@
 //! The acts of a centre: what a method does but delivering, and the behaviour as a whole.
 ghost use Rattle.std.specs.Prelude.{◌≡◌, IfOk, map};
 ghost use Rattle.do_base.specs.declared.values.value.Value.{List};
-ghost use Rattle.do_acts.specs.Steps.{steps};
+ghost use Rattle.do_native_acts.specs.Steps.{steps};
 ghost use Rattle.do_behave.specs.Changes.{Means};
 ghost use Rattle.do_behave.specs.Steps.{or_fault};
 ghost use Rattle.do_center.specs.Acts.{first, kept, method_act};
@@ -11,10 +11,10 @@ use crate::center::Center;
 use crate::delivering::later;
 use crate::methods::{Method, call_in, kept_in, method_of};
 use crate::notes::{Deliveries, delivery_value};
-use do_acts::{CoreFault, changes, selector_in, step};
 use do_base::{Exc, Text, Value, Values};
 use do_behave::{Act, Behaviour, Change, Invocation, LocalSet, LocalSets, Writes};
 use do_class::ClassTable;
+use do_native_acts::{CoreFault, changes, selector_in, step};
 use std::alloc::AllocError;
 
 /// The local of what a method answers.

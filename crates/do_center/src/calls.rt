@@ -7,8 +7,8 @@ ghost use Rattle.do_center.specs.declared.calls.Call.{Call};
 use crate::center::Center;
 use crate::notes::{Deliveries, Note};
 use crate::registrations::Registration;
-use do_acts::CoreFault;
 use do_base::{Oid, Text};
+use do_native_acts::CoreFault;
 
 /// A call of a core.
 #[derive(Debug, Drop)]
@@ -36,7 +36,7 @@ pub enum Call {
 
 impl Center {
     /// Does a call, and gives its deliveries, in order. On any error the core is unchanged.
-    #[tactic(auto, using(do_acts::specs::laws::HistoryLaws::after_call))]
+    #[tactic(auto, using(do_native_acts::specs::laws::HistoryLaws::after_call))]
     pub fn perform(&mut self, call: Call) -> Result<Deliveries, CoreFault>
         requires { IsCall call }
         ensures done { IfOk result (λ sent. does self.old call ≡ Some (self.new, sent)) }

@@ -1,6 +1,6 @@
 ghost use Rattle.std.specs.Prelude.{◌≡◌, ◌∷◌, [], IsTrue, List, IfOk, IfErr, IfSome, OnErr, OnOk};
 ghost use Rattle.std.specs.Prelude.{Some, true};
-ghost use Rattle.do_acts.specs.Faults.{FaultOf};
+ghost use Rattle.do_native_acts.specs.Faults.{FaultOf};
 ghost use Rattle.do_center.specs.Calls.{Refused, added, suspended};
 ghost use Rattle.do_center.specs.History.{after, is_suspended, registered};
 ghost use Rattle.do_center.specs.Notes.{is_note};
@@ -18,11 +18,11 @@ use crate::posting::came_to_all;
 use crate::queues::Queue;
 use crate::registrations::Registration;
 use crate::removing::{Gone, left_of};
-use crate::seats::{Seat, Seats, deliveries, registrations_of};
+use crate::seats::{Seat, Seats, deliveries, queue_of, registrations_of, replace_queue};
 use crate::slots::{AllWaiting, Waiting, queues_slot, registrations_slot, seated};
 use crate::suspended::{MAX_SUSPENDED, Suspended};
-use do_acts::{CoreFault, read_rows, show_rows};
 use do_base::{Items, Oid, Oids, Text, Value, Values};
+use do_native_acts::{CoreFault, read_rows, show_rows};
 use std::alloc::{AllocError, Global};
 use std::marker::Model;
 
@@ -228,10 +228,10 @@ impl Center {
             self.hold(observer)?;
             return Ok(Deliveries::new(self.seats.allocator()));
         }
-        let queue = self.seats.queue_of(observer)?;
+        let queue = queue_of(&self.seats, observer)?;
         let sent = deliveries(&self.seats, &queue)?;
         let none = Queue::new(self.seats.allocator());
-        self.seats.replace_queue(observer, none);
+        replace_queue(&mut self.seats, observer, none);
         self.suspended.remove(observer);
         Ok(sent)
     }

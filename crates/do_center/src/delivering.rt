@@ -8,9 +8,9 @@ ghost use Rattle.do_center.specs.Acts.{delivers, delivery_at, found, later, read
 use crate::center::MAX_DELIVERIES;
 use crate::methods::{Method, kept_in};
 use crate::registrations::selector_in;
-use do_acts::{answer, step};
 use do_base::{Locals, Value, Values, copy_value};
 use do_behave::{Act, Change, Handler, Invocation, LocalSets, Writes};
+use do_native_acts::{answer, step};
 use std::alloc::AllocError;
 
 /// The local that takes what a delivered message gives.

@@ -1,4 +1,4 @@
-//! Observers as keys of a set or a map.
+//! Observers as keys of a set.
 ghost use Rattle.std.specs.Prelude.{◌≡◌};
 
 use crate::observers::same;
@@ -6,7 +6,7 @@ use do_base::Oid;
 use std::hash::{Hash, Hasher};
 use std::marker::Model;
 
-/// An observer as a key of a set or a map, which contracts see as its name.
+/// An observer as a key of a set, which contracts see as its name.
 #[derive(Drop)]
 pub(crate) struct Key {
     observer: Oid,

@@ -1,7 +1,7 @@
 //! A notification centre: observers with registrations, posts, and what waits for observers that
 //! are suspended. Its core, and the acts of its methods.
 //!
-//! It stands on the acts of do_acts. It keeps what Apple's documentation of
+//! It stands on the acts of do_native_acts. It keeps what Apple's documentation of
 //! `NSDistributedNotificationCenter` says of the four suspension behaviours and of coalescing. What
 //! is promised is exact: each call, its deliveries and their order, and the act of every method,
 //! for every invocation and all slots. The slots and the limits are this project's own.

@@ -17,8 +17,11 @@ const MAX_NESTING: u32 = 4;
 /// stand inside one another.
 #[derive(Clone, Debug, Drop)]
 pub struct Note {
+    /// The name.
     pub name: Text,
+    /// The object that it is about, if any.
     pub object: Option<Text>,
+    /// The user information.
     pub info: Value,
 }
 
@@ -32,8 +35,11 @@ impl ExactClone for Note {
 /// and the information.
 #[derive(Debug, Drop)]
 pub struct Delivery {
+    /// The object that is sent it.
     pub observer: Oid,
+    /// The selector that is sent.
     pub selector: Text,
+    /// The notification.
     pub note: Note,
 }
 

@@ -5,7 +5,7 @@ ghost use Rattle.do_center.specs.Queues.{queue_of};
 
 use crate::notes::Note;
 use crate::queues::{Queue, Queued, coalesced, enqueued};
-use crate::seats::Seats;
+use crate::seats::{Seats, replace_queue};
 use crate::suspended::Suspended;
 use crate::suspension::Suspension;
 use do_base::Oid;
@@ -34,7 +34,7 @@ fn waits(posting: Posting, observer: Oid, queue: Queue) -> Posting
     ensures { result ≡ waits posting observer queue }
 {
     let Posting { mut seats, due } = posting;
-    seats.replace_queue(observer, queue);
+    replace_queue(&mut seats, observer, queue);
     Posting { seats, due }
 }
 
@@ -45,7 +45,7 @@ fn taken(posting: Posting, observer: Oid) -> (Posting, Queue)
 {
     let Posting { mut seats, due } = posting;
     let none = Queue::new(seats.allocator());
-    let queue = seats.replace_queue(observer, none);
+    let queue = replace_queue(&mut seats, observer, none);
     (Posting { seats, due }, queue)
 }
 
@@ -132,7 +132,7 @@ pub(crate) fn came_to_all(
         ≡ came_to_all note.now immediate suspended.now seats.now) }
 {
     let mut posting = Posting {
-        seats: seats.copied()?,
+        seats: seats.clone()?,
         due: Queue::new(seats.allocator()),
     };
     for at in 0..seats.len() {

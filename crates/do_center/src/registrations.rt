@@ -8,9 +8,9 @@ ghost use Rattle.do_center.specs.Registrations.{registration_from, registration_
 use crate::labels::{is_label, label_in, label_value};
 use crate::notes::{Delivery, Note};
 use crate::suspension::{Suspension, behaviour_in};
-use do_acts::Row;
 use do_base::{ExactClone, Oid, Text, Value, Values};
 use do_grammar::{colons_in, is_selector};
+use do_native_acts::Row;
 use std::alloc::AllocError;
 
 /// The colons of a selector that notifications are sent by.
@@ -22,10 +22,15 @@ const COLONS: usize = 3;
 /// The selector has three colons, and a name or an object at most 255 bytes.
 #[derive(Clone, Debug, Drop)]
 pub struct Registration {
+    /// The observer.
     pub observer: Oid,
+    /// The selector that the observer is sent.
     pub selector: Text,
+    /// The name of the notifications that it wants; none for every name.
     pub name: Option<Text>,
+    /// The object that these are about; none for every object.
     pub object: Option<Text>,
+    /// What becomes of notifications while the observer is suspended.
     pub behaviour: Suspension,
 }
 

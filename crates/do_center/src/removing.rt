@@ -7,7 +7,7 @@ ghost use Rattle.do_center.specs.Removing.{place_left, seats_left};
 use crate::observers::same;
 use crate::queues::{Queue, Queued};
 use crate::registrations::{Registration, fits_label};
-use crate::seats::{Seats, seat_of};
+use crate::seats::{Seats, queue_of, replace_queue, seat_of};
 use do_base::{Items, Oid, Text};
 use std::alloc::AllocError;
 
@@ -109,7 +109,7 @@ pub(crate) fn left_of(seats: &Seats, gone: &Gone) -> Result<Seats, AllocError>
 {
     let places = new_places(seats, gone)?;
     let mut left = seats_left(seats, gone, &places)?;
-    let queue = moved(&seats.queue_of(gone.observer)?, &places)?;
-    left.replace_queue(gone.observer, queue);
+    let queue = moved(&queue_of(seats, gone.observer)?, &places)?;
+    replace_queue(&mut left, gone.observer, queue);
     Ok(left)
 }

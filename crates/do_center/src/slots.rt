@@ -1,20 +1,20 @@
 //! Cores as slots keep them.
-ghost use Rattle.std.specs.Prelude.{◌≡◌, ◌<◌, ◌++◌, ◌∷◌, [], IfOk, IfSome, length, map};
+ghost use Rattle.std.specs.Prelude.{◌≡◌, ◌++◌, ◌∷◌, [], IfOk, map};
 ghost use Rattle.do_center.specs.Seats.{Core, registrations};
 ghost use Rattle.do_center.specs.Slots.{place_in, queue_among, queued_of, seated, waiting};
 ghost use Rattle.do_center.specs.Slots.{waiting_of, waiting_value};
 ghost use Rattle.do_center.specs.Registrations.{registration_value};
-ghost use Rattle.do_acts.specs.Rows.{listed};
-ghost use Rattle.do_center.specs.Observers.{first_of, without_first};
+ghost use Rattle.do_native_acts.specs.Rows.{listed};
+ghost use Rattle.do_center.specs.Observers.{without_first};
 
 use crate::labels::label_value;
 use crate::notes::note_in;
-use crate::observers::same;
+use crate::observers::{Observed, first_of};
 use crate::queues::{Queue, Queued, is_none};
 use crate::registrations::Registration;
 use crate::seats::{Seat, Seats, seat_of};
-use do_acts::{Row, read_rows, show_rows};
 use do_base::{Items, Oid, Value, Values, copy_value};
+use do_native_acts::{Row, read_rows, show_rows};
 use std::alloc::AllocError;
 
 /// An observer with its queue, as a slot keeps them.
@@ -122,17 +122,12 @@ impl Row for Waiting {
     }
 }
 
-/// The place of the first that is an observer's.
-fn first_of(waiting: &[Waiting], observer: Oid) -> Option<usize>
-    ensures first { result ≡ first_of (λ w. w.observer) waiting.now observer }
-    ensures within { IfSome result (λ at. at < length waiting.now) }
-{
-    for (at, one) in waiting.iter().enumerate() {
-        if same(one.observer, observer) {
-            return Some(at);
-        }
+impl Observed for Waiting {
+    ghost observer = { λ w. w.observer };
+
+    fn observer(&self) -> Oid {
+        self.observer
     }
-    None
 }
 
 /// Takes the queue of an observer out of these.

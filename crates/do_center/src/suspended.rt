@@ -3,7 +3,7 @@
 //! They are kept in a set of the kit's `indexmap`, which finds an observer without a walk and keeps
 //! the order in which they came.
 ghost use Rattle.std.specs.Prelude.{◌≡◌, ◌++◌, ◌∷◌, [], IfOk, OnOk, OnErr, false, length};
-ghost use Rattle.do_center.specs.Observers.{has_object, without_first};
+ghost use Rattle.do_center.specs.Observers.{has_object, without_object};
 ghost use Rattle.do_center.specs.Seats.{read_suspended};
 
 use crate::key::Key;
@@ -68,7 +68,6 @@ impl Suspended {
     }
 
     /// Whether an observer is among them.
-    #[tactic(auto, using(crate::proofs::SuspendedSet::member_is_among))]
     pub(crate) fn contains(&self, observer: Oid) -> bool
         ensures { result ≡ has_object self.now observer }
     {
@@ -101,9 +100,8 @@ impl Suspended {
     }
 
     /// Takes an observer out, if it is there. The others keep their order.
-    #[tactic(auto, using(crate::proofs::SuspendedSet::left_is_without))]
     pub(crate) fn remove(&mut self, observer: Oid)
-        ensures { self.new ≡ without_first (λ x. x) self.old observer }
+        ensures { self.new ≡ without_object self.old observer }
     {
         self.set.shift_remove(&Key::new(observer));
     }

@@ -19,9 +19,9 @@ use Rattle.do_behave.specs.declared.act.Act.{Act}
 use Rattle.do_behave.specs.declared.act.Act.TheVariants.{Step, Send, Return, Raise}
 use Rattle.do_behave.specs.declared.act.Write.{Write}
 use Rattle.do_behave.specs.declared.change.LocalSet.{LocalSet}
-use Rattle.do_acts.specs.Limited.{is_limited}
-use Rattle.do_acts.specs.Places.{selector_in, returns}
-use Rattle.do_acts.specs.Steps.{steps}
+use Rattle.do_native_acts.specs.Limited.{is_limited}
+use Rattle.do_native_acts.specs.Places.{selector_in, returns}
+use Rattle.do_native_acts.specs.Steps.{steps}
 use Rattle.do_check.specs.Acts.{target_in, sets_target, keeps_target, guards, firsts}
 use Rattle.do_check.specs.Acts.{passes_on, forwards, follows, checks, check_act}
 use Rattle.do_check.specs.Rules.{verdict_of}

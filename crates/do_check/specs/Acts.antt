@@ -13,8 +13,8 @@ use Rattle.do_behave.specs.Steps.{local, local_values}
 use Rattle.do_behave.specs.declared.invocation.Invocation.{Invocation}
 use Rattle.do_behave.specs.declared.act.Act.{Act}
 use Rattle.do_behave.specs.declared.act.Act.TheVariants.{Send, Return, Raise}
-use Rattle.do_acts.specs.Places.{at_place, by_selector, returns}
-use Rattle.do_acts.specs.Steps.{steps}
+use Rattle.do_native_acts.specs.Places.{at_place, by_selector, returns}
+use Rattle.do_native_acts.specs.Steps.{steps}
 use Rattle.do_check.specs.Rules.{verdict_of}
 use Rattle.do_check.specs.declared.rules.Rule.{Rule}
 use Rattle.do_check.specs.declared.rules.Verdict.{Verdict}

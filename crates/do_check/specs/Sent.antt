@@ -9,7 +9,7 @@ use Rattle.do_class.specs.Class.{Class}
 use Rattle.do_behave.specs.declared.invocation.Invocation.{Invocation}
 use Rattle.do_behave.specs.declared.act.Act.{Act}
 use Rattle.do_behave.specs.declared.act.Act.TheVariants.{Step, Send, Raise}
-use Rattle.do_acts.specs.Places.{selector_in}
+use Rattle.do_native_acts.specs.Places.{selector_in}
 use Rattle.do_check.specs.Acts.{target_in, check_act}
 use Rattle.do_check.specs.Rules.{verdict_of}
 use Rattle.do_check.specs.declared.rules.Rule.{Rule}

@@ -8,10 +8,10 @@ use crate::forward::forward;
 use crate::guard::guard;
 use crate::lookup::verdict;
 use crate::rules::{Rules, Verdict};
-use do_acts::selector_in;
 use do_base::{Exc, Text, Values};
 use do_behave::{Act, Behaviour, Change, Invocation};
 use do_class::ClassTable;
+use do_native_acts::selector_in;
 use std::alloc::AllocError;
 use std::marker::Model;
 

@@ -5,10 +5,10 @@ ghost use Rattle.do_behave.specs.Changes.{Means};
 ghost use Rattle.do_behave.specs.Steps.{local_values, or_fault};
 ghost use Rattle.do_check.specs.Acts.{firsts, forwards, passes_on};
 
-use do_acts::answer;
 use do_base::{Locals, Text, Value, Values, copy_value};
 use do_behave::{Act, Change, Invocation};
 use do_grammar::colons_in;
+use do_native_acts::answer;
 use std::alloc::{AllocError, Global};
 
 /// How many colons a selector has: one for each argument.

@@ -6,9 +6,9 @@ ghost use Rattle.do_behave.specs.Changes.{Means};
 ghost use Rattle.do_behave.specs.Steps.{local, or_fault};
 ghost use Rattle.do_check.specs.Acts.{guards, keeps_target, sets_target};
 
-use do_acts::step;
 use do_base::{Exc, Oid, Text, Value, Values};
 use do_behave::{Act, Change, Invocation, LocalSets, Write, Writes};
+use do_native_acts::step;
 use std::alloc::AllocError;
 
 /// The object that the first argument names; none where it is no object.

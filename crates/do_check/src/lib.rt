@@ -1,7 +1,7 @@
 //! A checker: an object that passes on to its target the messages that its rules allow, and raises
 //! an exception for those that they deny.
 //!
-//! It stands on the acts of do_acts. It follows GNUstep's and Apple's documentation of
+//! It stands on the acts of do_native_acts. It follows GNUstep's and Apple's documentation of
 //! `NSProtocolChecker`, with one rule for each selector in place of a protocol: a message is
 //! forwarded with the arguments and the result as they are, or raises the text of its rule. What is
 //! promised is exact: the act of every method, for every invocation and all slots; laws say what is

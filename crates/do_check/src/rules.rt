@@ -12,7 +12,9 @@ pub enum Verdict {
 /// What is done with the messages of a selector.
 #[derive(Debug, PartialEq, Eq, Drop)]
 pub struct Rule {
+    /// The selector of the messages.
     pub selector: Text,
+    /// What is done with them.
     pub verdict: Verdict,
 }
 

@@ -8,7 +8,7 @@ use Rattle.do_sig.specs.declared.fault.EncFault.{EncFault}
 use Rattle.do_sig.specs.declared.fault.EncFault.TheVariants as enc
 use Rattle.do_sig.specs.reading.Signatures.{signature_at}
 use Rattle.do_class.specs.Class.{Class}
-use Rattle.do_kinds.specs.declared.kind.Kind.{Kind}
+use Rattle.do_class_kinds.specs.declared.kind.Kind.{Kind}
 use Rattle.do_document.specs.Checks.{is_text, is_text_with, misfit, required, unknown}
 use Rattle.do_document.specs.ClassFaults.{class_checks, class_keys, is_kind, is_new_name}
 use Rattle.do_document.specs.ClassFaults.{parts_fault, types_fault}

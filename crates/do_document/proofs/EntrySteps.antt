@@ -11,7 +11,7 @@ use Rattle.do_sig.specs.MethodTypes.{MethodType}
 use Rattle.do_class.specs.declared.method.Method.{Method}
 use Rattle.do_check.specs.Rules.{AreRules, IsRule}
 use Rattle.do_check.specs.declared.rules.Rule.{Rule}
-use Rattle.do_kinds.specs.Methods.{method_said, signature_of}
+use Rattle.do_class_kinds.specs.Methods.{method_said, signature_of}
 use Rattle.do_document.specs.ClassFaults.{entry_checks, is_rule, method_checks, rule_fault}
 use Rattle.do_document.specs.Classes.{method_of, rule_for, rule_of}
 use Rattle.do_document.specs.Document.{text_at}

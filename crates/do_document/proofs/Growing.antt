@@ -15,7 +15,7 @@ use Rattle.do_grammar.specs.Names.{colons, is_selector}
 use Rattle.do_sig.specs.Calls.{arg_count}
 use Rattle.do_class.specs.Class.{AreMethods, selectors_of}
 use Rattle.do_class.specs.declared.method.Method.{Method}
-use Rattle.do_kinds.proofs.Growing.{maybe_more}
+use Rattle.do_class_kinds.proofs.Growing.{maybe_more}
 use Rattle.do_document.specs.ClassFaults.{is_new_selector}
 
 -- what is not so is false

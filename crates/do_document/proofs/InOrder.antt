@@ -13,7 +13,7 @@ use Rattle.do_sig.specs.MethodTypes.{MethodType}
 use Rattle.do_sig.specs.declared.fault.EncFault.{EncFault}
 use Rattle.do_sig.specs.reading.Signatures.{signature_at}
 use Rattle.do_class.specs.declared.method.Method.{Method}
-use Rattle.do_kinds.specs.Methods.{method_said, signature_of}
+use Rattle.do_class_kinds.specs.Methods.{method_said, signature_of}
 use Rattle.do_document.specs.Checks.{first_of, is_text, is_text_with, misfit, missing, required}
 use Rattle.do_document.specs.Checks.{unknown, wrong_unless}
 use Rattle.do_document.specs.ClassFaults.{count_fault}

@@ -2,9 +2,9 @@
 use Rattle.std.proofs.Common.{◌≡◌, ℕ, List, Some, None}
 use Rattle.std.specs.Prelude.{codes}
 use Rattle.toml.specs.Data.{Data, Members, as_str, get_member}
-use Rattle.do_kinds.specs.Kinds.{kind_named}
-use Rattle.do_kinds.specs.declared.kind.Kind.{Kind}
-use Rattle.do_kinds.specs.declared.kind.Kind.TheVariants.{Script}
+use Rattle.do_class_kinds.specs.Kinds.{kind_named}
+use Rattle.do_class_kinds.specs.declared.kind.Kind.{Kind}
+use Rattle.do_class_kinds.specs.declared.kind.Kind.TheVariants.{Script}
 use Rattle.do_document.specs.Checks.{is_text_with, misfit}
 use Rattle.do_document.specs.ClassFaults.{is_kind}
 use Rattle.do_document.specs.Classes.{kind_of}

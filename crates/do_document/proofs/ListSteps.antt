@@ -8,7 +8,7 @@ use Rattle.std.proofs.lemmas.List.{take_all}
 use Rattle.toml.specs.Data.{Data, Members, as_array, as_str, as_table, get_member}
 use Rattle.toml.specs.View.{items_view, view}
 use Rattle.toml.specs.declared.value.Value.{Value}
-use Rattle.do_kinds.proofs.Growing.{maybe_more}
+use Rattle.do_class_kinds.proofs.Growing.{maybe_more}
 use Rattle.do_document.specs.Checks.{first_among, first_behind, is_list, is_of_kind, list_fault}
 use Rattle.do_document.specs.Checks.{member_fault, misfit, wrong_unless}
 use Rattle.do_document.specs.Document.{members_at, tables_at, texts_at}

@@ -11,10 +11,10 @@ use Rattle.do_class.proofs.Methods.{AreMethods-none}
 use Rattle.do_class.specs.declared.ids.Slot.{Slot}
 use Rattle.do_check.specs.Rules.{IsRule}
 use Rattle.do_check.specs.declared.rules.Rule.{Rule}
-use Rattle.do_kinds.specs.Methods.{AreTyped}
-use Rattle.do_kinds.specs.Native.{native_methods, native_slots}
-use Rattle.do_kinds.specs.declared.kind.Kind.{Kind}
-use Rattle.do_kinds.specs.declared.kind.Kind.TheVariants as kinds
+use Rattle.do_class_kinds.specs.Methods.{AreTyped}
+use Rattle.do_class_kinds.specs.Native.{native_methods, native_slots}
+use Rattle.do_class_kinds.specs.declared.kind.Kind.{Kind}
+use Rattle.do_class_kinds.specs.declared.kind.Kind.TheVariants as kinds
 use Rattle.do_sig.specs.MethodTypes.{IsMethodType}
 use Rattle.do_document.specs.Checks.{misfit}
 use Rattle.do_document.specs.ClassFaults.{methods_fault, native_fault, neither, own_fault}

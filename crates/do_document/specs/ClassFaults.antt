@@ -16,10 +16,10 @@ use Rattle.do_class.specs.Class.{Class}
 use Rattle.do_class.specs.Table.{class_named}
 use Rattle.do_class.specs.declared.ids.Slot.{Slot}
 use Rattle.do_class.specs.declared.method.Method.{Method}
-use Rattle.do_kinds.specs.Kinds.{kind_named}
-use Rattle.do_kinds.specs.Native.{native_methods}
-use Rattle.do_kinds.specs.declared.kind.Kind.{Kind}
-use Rattle.do_kinds.specs.declared.kind.Kind.TheVariants as kinds
+use Rattle.do_class_kinds.specs.Kinds.{kind_named}
+use Rattle.do_class_kinds.specs.Native.{native_methods}
+use Rattle.do_class_kinds.specs.declared.kind.Kind.{Kind}
+use Rattle.do_class_kinds.specs.declared.kind.Kind.TheVariants as kinds
 use Rattle.do_document.specs.Checks.{first_among, first_of, is_text, is_text_with, list_fault}
 use Rattle.do_document.specs.Checks.{misfit, required, unknown, wrong_unless}
 use Rattle.do_document.specs.Classes.{allowed_methods, class_of, kind_of, method_of, slot_of}

@@ -12,11 +12,11 @@ use Rattle.do_class.specs.declared.ids.Slot.{Slot}
 use Rattle.do_class.specs.declared.method.Method.{Method}
 use Rattle.do_check.specs.declared.rules.Rule.{Rule}
 use Rattle.do_check.specs.declared.rules.Verdict.TheVariants.{Deny, Forward}
-use Rattle.do_kinds.specs.Kinds.{kind_named}
-use Rattle.do_kinds.specs.Methods.{method_said}
-use Rattle.do_kinds.specs.Native.{native_methods, native_slots}
-use Rattle.do_kinds.specs.declared.kind.Kind.{Kind}
-use Rattle.do_kinds.specs.declared.kind.Kind.TheVariants as kinds
+use Rattle.do_class_kinds.specs.Kinds.{kind_named}
+use Rattle.do_class_kinds.specs.Methods.{method_said}
+use Rattle.do_class_kinds.specs.Native.{native_methods, native_slots}
+use Rattle.do_class_kinds.specs.declared.kind.Kind.{Kind}
+use Rattle.do_class_kinds.specs.declared.kind.Kind.TheVariants as kinds
 use Rattle.do_document.specs.Document.{tables_at, text_at, texts_at}
 use Rattle.do_document.specs.Lists.{key_of}
 use Rattle.do_document.specs.declared.lists.MethodList.{MethodList}

@@ -12,9 +12,9 @@ use Rattle.do_class.specs.declared.ids.Slot.{Slot}
 use Rattle.do_class.specs.declared.method.Method.{Method}
 use Rattle.do_check.specs.Rules.{AreRules, IsRule}
 use Rattle.do_check.specs.declared.rules.Rule.{Rule}
-use Rattle.do_kinds.specs.Methods.{AreTyped}
-use Rattle.do_kinds.specs.declared.kind.Kind.{Kind}
-use Rattle.do_kinds.specs.declared.kind.Kind.TheVariants as kinds
+use Rattle.do_class_kinds.specs.Methods.{AreTyped}
+use Rattle.do_class_kinds.specs.declared.kind.Kind.{Kind}
+use Rattle.do_class_kinds.specs.declared.kind.Kind.TheVariants as kinds
 use Rattle.do_document.specs.ClassFaults.{is_new_selector}
 use Rattle.do_document.specs.Classes.{class_of, kind_of, method_of, methods_by, rule_of, rules_by}
 use Rattle.do_document.specs.Classes.{slots_by}

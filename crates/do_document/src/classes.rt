@@ -6,7 +6,7 @@ ghost use Rattle.std.specs.List.{All, AllZip, filter_map};
 ghost use Rattle.toml.specs.View.{table_view};
 ghost use Rattle.do_class.specs.Class.{AreMethods};
 ghost use Rattle.do_class.specs.Table.{class_named};
-ghost use Rattle.do_kinds.specs.Kinds.{AreKindsOf};
+ghost use Rattle.do_class_kinds.specs.Kinds.{AreKindsOf};
 ghost use Rattle.do_document.specs.Checks.{first_among, is_text_with, misfit, required};
 ghost use Rattle.do_document.specs.ClassFaults.{class_checks, class_fault, is_kind, is_new_name};
 ghost use Rattle.do_document.specs.Classes.{class_of, class_rules, kind_of};
@@ -20,8 +20,8 @@ use crate::parts::{Parts, parts_at};
 use crate::place::Place;
 use do_base::Text;
 use do_class::{ClassFault, ClassTable, Methods, Slots};
+use do_class_kinds::{Kind, Kinds, RuleTable, kind_named};
 use do_grammar::is_name;
-use do_kinds::{Kind, Kinds, RuleTable, kind_named};
 use std::alloc::{AllocError, Global};
 use toml::Table;
 
@@ -32,8 +32,11 @@ const KEYS: [&str; 6] = ["allow", "deny", "method", "name", "native", "slots"];
 /// place.
 #[derive(Debug, Drop)]
 pub struct Classes {
+    /// The classes with their slots and methods, in the order of the document.
     pub table: ClassTable,
+    /// The kind of each class.
     pub kinds: Kinds,
+    /// The rules of each class; only checkers have some.
     pub rules: RuleTable,
 }
 

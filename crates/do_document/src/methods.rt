@@ -5,7 +5,7 @@ ghost use Rattle.toml.specs.View.{table_view};
 ghost use Rattle.do_grammar.specs.Names.{colons};
 ghost use Rattle.do_sig.specs.Calls.{arg_count};
 ghost use Rattle.do_sig.specs.MethodTypes.{IsMethodType};
-ghost use Rattle.do_kinds.specs.Methods.{signature_of};
+ghost use Rattle.do_class_kinds.specs.Methods.{signature_of};
 ghost use Rattle.do_document.specs.Checks.{is_text_with, required};
 ghost use Rattle.do_document.specs.ClassFaults.{is_new_selector, method_checks, types_fault};
 ghost use Rattle.do_document.specs.Document.{text_at};

@@ -5,7 +5,7 @@ ghost use Rattle.do_document.specs.Checks.{misfit};
 ghost use Rattle.do_document.specs.ClassFaults.{neither, parts_fault};
 ghost use Rattle.do_document.specs.Finding.{Finds};
 ghost use Rattle.do_document.specs.Sound.{AreGood, ArePartsOf, IsRuleless};
-ghost use Rattle.do_kinds.specs.Native.{native_methods};
+ghost use Rattle.do_class_kinds.specs.Native.{native_methods};
 
 use crate::document::value_at;
 use crate::entries::{Listed, entries_at};
@@ -15,7 +15,7 @@ use crate::place::Place;
 use crate::slots::slots_at;
 use do_check::Rules;
 use do_class::{Methods, Slots};
-use do_kinds::{Kind, native_methods, native_slots};
+use do_class_kinds::{Kind, native_methods, native_slots};
 use std::alloc::{AllocError, Global};
 use toml::Table;
 

@@ -8,7 +8,7 @@ use Rattle.do_class.specs.Class.{Class}
 use Rattle.do_class.specs.Table.{selector_of}
 use Rattle.do_behave.specs.declared.invocation.Invocation.{Invocation}
 use Rattle.do_behave.specs.declared.invocation.InvState.TheVariants.{Running}
-use Rattle.do_acts.specs.Places.{selector_in}
+use Rattle.do_native_acts.specs.Places.{selector_in}
 use Rattle.do_check.specs.Rules.{verdict_of}
 use Rattle.do_check.specs.declared.rules.Rule.{Rule}
 use Rattle.do_check.specs.declared.rules.Verdict.TheVariants.{Deny}

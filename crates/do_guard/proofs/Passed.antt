@@ -25,8 +25,8 @@ use Rattle.do_behave.specs.declared.invocation.Invocation.{Invocation}
 use Rattle.do_behave.specs.declared.invocation.InvState.{InvState}
 use Rattle.do_behave.specs.declared.invocation.InvState.TheVariants.{Answered, Below, Running}
 use Rattle.do_behave.specs.declared.invocation.InvState.TheVariants.{Waits}
-use Rattle.do_acts.specs.Places.{selector_in}
-use Rattle.do_acts.specs.laws.KindLaws.{object_read}
+use Rattle.do_native_acts.specs.Places.{selector_in}
+use Rattle.do_native_acts.specs.laws.KindLaws.{object_read}
 use Rattle.do_check.specs.Acts.{check_act, target_in}
 use Rattle.do_check.specs.Rules.{verdict_of}
 use Rattle.do_check.specs.Sent.{IsAllowed}

@@ -16,7 +16,7 @@ use Rattle.do_check.specs.Acts.{target_in}
 use Rattle.do_check.specs.Rules.{verdict_of}
 use Rattle.do_check.specs.declared.rules.Rule.{Rule}
 use Rattle.do_check.specs.declared.rules.Verdict.TheVariants.{Forward}
-use Rattle.do_kinds.specs.declared.kind.Kind.TheVariants.{Checker}
+use Rattle.do_class_kinds.specs.declared.kind.Kind.TheVariants.{Checker}
 use Rattle.do_native.specs.Acts.{native_act}
 use Rattle.do_native.specs.declared.native.Native.{Native}
 use Rattle.do_machine.specs.declared.item.Item.{Item}

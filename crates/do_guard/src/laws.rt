@@ -7,7 +7,7 @@ ghost use Rattle.do_class.specs.Class.{Class};
 ghost use Rattle.do_class.specs.Table.{selector_of};
 ghost use Rattle.do_behave.specs.declared.invocation.Invocation.{Invocation};
 ghost use Rattle.do_behave.specs.declared.invocation.InvState.TheVariants.{Running};
-ghost use Rattle.do_acts.specs.Places.{selector_in};
+ghost use Rattle.do_native_acts.specs.Places.{selector_in};
 ghost use Rattle.do_check.specs.Rules.{verdict_of};
 ghost use Rattle.do_check.specs.declared.rules.Rule.{Rule};
 ghost use Rattle.do_check.specs.declared.rules.Verdict.TheVariants.{Deny};

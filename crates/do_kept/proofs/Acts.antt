@@ -20,9 +20,9 @@ use Rattle.do_behave.specs.declared.act.Write.{Write}
 use Rattle.do_behave.specs.declared.change.LocalSet.{LocalSet}
 use Rattle.do_behave.specs.declared.invocation.Handler.{Handler}
 use Rattle.do_behave.specs.declared.invocation.Invocation.{Invocation}
-use Rattle.do_acts.specs.Limited.{is_limited}
-use Rattle.do_acts.specs.Places.{at_place, by_selector, in_two, returns, selector_in}
-use Rattle.do_acts.specs.Steps.{changes, fits, steps}
+use Rattle.do_native_acts.specs.Limited.{is_limited}
+use Rattle.do_native_acts.specs.Places.{at_place, by_selector, in_two, returns, selector_in}
+use Rattle.do_native_acts.specs.Steps.{changes, fits, steps}
 use Rattle.do_facts.proofs.EachOfLists.{each_joined, each_mapped, each_set}
 use Rattle.do_limits.specs.Sendable.{AreSendable, IsSendable, IsSendableExc}
 use Rattle.do_limits.specs.SendableActs.{ActIsSendable}

@@ -17,7 +17,7 @@ use Rattle.do_behave.specs.Steps.{local, local_values}
 use Rattle.do_behave.specs.declared.act.Act.{Act}
 use Rattle.do_behave.specs.declared.act.Act.TheVariants.{Raise, Send}
 use Rattle.do_behave.specs.declared.invocation.Invocation.{Invocation}
-use Rattle.do_acts.specs.Steps.{steps}
+use Rattle.do_native_acts.specs.Steps.{steps}
 use Rattle.do_check.specs.Acts.{check_act, checks, firsts, follows, forward_places, guard_places}
 use Rattle.do_check.specs.Acts.{guards}
 use Rattle.do_check.specs.Acts.{keeps_target, passes_on, sets_target, target_in}

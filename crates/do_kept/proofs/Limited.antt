@@ -16,7 +16,7 @@ use Rattle.do_grammar.specs.Num.{zigzag}
 use Rattle.do_coder.specs.Parts.{is_bytes}
 use Rattle.do_behave.specs.Limits.{has_small_parts, nests_within}
 use Rattle.do_behave.specs.laws.Nesting.{nests_within-List_none, nests_within-deeper}
-use Rattle.do_acts.specs.Limited.{is_limited}
+use Rattle.do_native_acts.specs.Limited.{is_limited}
 use Rattle.do_limits.specs.Sendable.{IsSendable, can_carry}
 use Rattle.do_limits.proofs.values.Carried.{carry-List, carry-Nil, carry-Num, carry-Obj, carry-Text}
 use Rattle.do_kept.specs.Atoms.{has_atoms}

@@ -22,10 +22,10 @@ use Rattle.do_coder.specs.Parts.{is_bytes}
 use Rattle.do_behave.specs.Steps.{local}
 use Rattle.do_behave.specs.laws.ValueKinds.{by_items, by_text}
 use Rattle.do_behave.specs.declared.invocation.Invocation.{Invocation}
-use Rattle.do_acts.specs.Places.{in_two}
-use Rattle.do_acts.specs.Ports.{port_in, port_number}
-use Rattle.do_acts.specs.Rows.{listed, pair_of, read_all, rows_in, with_first}
-use Rattle.do_acts.specs.Steps.{answered, changes, fits}
+use Rattle.do_native_acts.specs.Places.{in_two}
+use Rattle.do_native_acts.specs.Ports.{port_in, port_number}
+use Rattle.do_native_acts.specs.Rows.{listed, pair_of, read_all, rows_in, with_first}
+use Rattle.do_native_acts.specs.Steps.{answered, changes, fits}
 use Rattle.do_table.specs.Entries.{removed, value_of}
 use Rattle.do_names.specs.Acts.{first, names_act}
 use Rattle.do_names.specs.Calls.{as_number, call_in, call_with, does, port_or_none}

@@ -7,9 +7,9 @@ use Rattle.do_base.specs.declared.values.value.Value.{Value}
 use Rattle.do_class.specs.Class.{Class}
 use Rattle.do_behave.specs.declared.invocation.Invocation.{Invocation}
 use Rattle.do_check.specs.Acts.{check_act}
-use Rattle.do_kinds.specs.declared.kind.Kind.{Kind}
-use Rattle.do_kinds.specs.declared.kind.Kind.TheVariants.{Center, Checker, Names, Pasteboard}
-use Rattle.do_kinds.specs.declared.kind.Kind.TheVariants.{Script, Services}
+use Rattle.do_class_kinds.specs.declared.kind.Kind.{Kind}
+use Rattle.do_class_kinds.specs.declared.kind.Kind.TheVariants.{Center, Checker, Names, Pasteboard}
+use Rattle.do_class_kinds.specs.declared.kind.Kind.TheVariants.{Script, Services}
 use Rattle.do_native.specs.Acts.{acts_as, native_act}
 use Rattle.do_native.specs.declared.native.Native.{Native}
 use Rattle.do_limits.specs.Sendable.{AreSendable}

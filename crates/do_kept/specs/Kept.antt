@@ -6,8 +6,8 @@ use Rattle.do_class.specs.Class.{Class}
 use Rattle.do_check.specs.declared.rules.Rule.{Rule}
 use Rattle.do_check.specs.declared.rules.Verdict.{Verdict}
 use Rattle.do_check.specs.declared.rules.Verdict.TheVariants.{Deny, Forward}
-use Rattle.do_kinds.specs.declared.kind.Kind.{Kind}
-use Rattle.do_kinds.specs.declared.kind.Kind.TheVariants.{Center, Pasteboard, Services}
+use Rattle.do_class_kinds.specs.declared.kind.Kind.{Kind}
+use Rattle.do_class_kinds.specs.declared.kind.Kind.TheVariants.{Center, Pasteboard, Services}
 use Rattle.do_pboard.specs.Acts.{pasteboard_act}
 use Rattle.do_services.specs.Acts.{services_act}
 use Rattle.do_center.specs.Acts.{center_act}

@@ -9,11 +9,11 @@ use Rattle.std.proofs.lemmas.Option.{option_and_then_some}
 use Rattle.do_base.specs.declared.values.value.Value.{Value}
 use Rattle.do_base.specs.declared.values.value.Value.TheVariants.{Num, Text}
 use Rattle.do_base.specs.values.Kinds.{text}
-use Rattle.do_acts.specs.Ports.{port_in}
-use Rattle.do_acts.specs.Rows.{rows_in, listed}
-use Rattle.do_acts.specs.laws.KindLaws.{some_same, passed, text_of_Text, text_read}
-use Rattle.do_acts.specs.laws.PortLaws.{port_of_Num, port_read}
-use Rattle.do_acts.specs.laws.RowLaws.{read_shown, shown_read, pair_shown, pair_back}
+use Rattle.do_native_acts.specs.Ports.{port_in}
+use Rattle.do_native_acts.specs.Rows.{rows_in, listed}
+use Rattle.do_native_acts.specs.laws.KindLaws.{some_same, passed, text_of_Text, text_read}
+use Rattle.do_native_acts.specs.laws.PortLaws.{port_of_Num, port_read}
+use Rattle.do_native_acts.specs.laws.RowLaws.{read_shown, shown_read, pair_shown, pair_back}
 use Rattle.do_table.specs.laws.TableLaws.{table_parts}
 use Rattle.do_names.specs.Core.{Entry, is_entry, are_names, name_in, entry_in, row, of_core}
 use Rattle.do_names.specs.Core.{from_slots, to_slots}

@@ -4,7 +4,7 @@ use Rattle.do_base.specs.declared.values.value.Value.{Value}
 use Rattle.do_class.specs.Class.{Class}
 use Rattle.do_behave.specs.declared.invocation.Invocation.{Invocation}
 use Rattle.do_behave.specs.declared.act.Act.{Act}
-use Rattle.do_acts.specs.Places.{by_selector, does_call, in_two}
+use Rattle.do_native_acts.specs.Places.{by_selector, does_call, in_two}
 use Rattle.do_names.specs.Core.{from_slots, to_slots}
 use Rattle.do_names.specs.Calls.{call_in, does}
 

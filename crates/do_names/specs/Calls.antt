@@ -9,7 +9,7 @@ use Rattle.do_behave.specs.Numbers.{truth}
 use Rattle.do_behave.specs.Steps.{local}
 use Rattle.do_behave.specs.declared.invocation.Invocation.{Invocation}
 use Rattle.do_table.specs.Entries.{value_of}
-use Rattle.do_acts.specs.Ports.{port_in}
+use Rattle.do_native_acts.specs.Ports.{port_in}
 use Rattle.do_names.specs.Core.{is_entry, name_in, registered, unregistered}
 use Rattle.do_names.specs.Core.{Entry}
 use Rattle.do_names.specs.declared.calls.Call.{Call}

@@ -5,8 +5,8 @@ use Rattle.std.specs.Prelude.{if◌then◌else◌, option_and_then}
 use Rattle.do_base.specs.values.Kinds.{text}
 use Rattle.do_base.specs.declared.values.value.Value.{Value, List}
 use Rattle.do_base.specs.declared.values.value.Value.TheVariants.{Num, Text}
-use Rattle.do_acts.specs.Ports.{port_in}
-use Rattle.do_acts.specs.Rows.{rows_in, pair_in, listed}
+use Rattle.do_native_acts.specs.Ports.{port_in}
+use Rattle.do_native_acts.specs.Rows.{rows_in, pair_in, listed}
 use Rattle.do_table.specs.Entries.{value_of, removed, is_table}
 
 -- a name and its port

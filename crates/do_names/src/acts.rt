@@ -1,15 +1,15 @@
 ghost use Rattle.std.specs.Prelude.{◌≡◌, IfOk};
 ghost use Rattle.do_behave.specs.Changes.{Means};
 ghost use Rattle.do_behave.specs.Steps.{or_fault};
-ghost use Rattle.do_acts.specs.Places.{in_two};
+ghost use Rattle.do_native_acts.specs.Places.{in_two};
 ghost use Rattle.do_names.specs.Acts.{first};
 
 use crate::calls::call_in;
 use crate::names::Names;
-use do_acts::{CoreFault, answer, answered, changes, selector_in};
 use do_base::{Exc, Text, Values};
 use do_behave::{Act, Behaviour, Change, Invocation};
 use do_class::ClassTable;
+use do_native_acts::{CoreFault, answer, answered, changes, selector_in};
 use std::alloc::AllocError;
 
 /// The first act of a method: all that it does but returning.

@@ -3,8 +3,8 @@ ghost use Rattle.std.specs.Prelude.{◌≡◌, ◌∷◌, List, IfOk, IfErr, OnO
 ghost use Rattle.std.specs.Option.{option_copied};
 ghost use Rattle.do_grammar.specs.Words.{◌>>?◌};
 ghost use Rattle.do_behave.specs.Steps.{local};
-ghost use Rattle.do_acts.specs.Faults.{FaultOf};
-ghost use Rattle.do_acts.specs.Ports.{port_in};
+ghost use Rattle.do_native_acts.specs.Faults.{FaultOf};
+ghost use Rattle.do_native_acts.specs.Ports.{port_in};
 ghost use Rattle.do_names.specs.Core.{name_in};
 ghost use Rattle.do_names.specs.Calls.{IsCall, does, call_in, call_with};
 ghost use Rattle.do_names.specs.History.{after};
@@ -12,9 +12,9 @@ ghost use Rattle.do_names.specs.declared.calls.Call.{Call};
 
 use crate::entries::name_in;
 use crate::names::Names;
-use do_acts::{CoreFault, as_number, port_in};
 use do_base::{Text, Value};
 use do_behave::Invocation;
+use do_native_acts::{CoreFault, as_number, port_in};
 use std::alloc::AllocError;
 
 /// A call of a core.
@@ -72,7 +72,7 @@ pub(crate) fn call_in(selector: &Text, inv: &Invocation) -> Result<Option<Call>,
 impl Names {
     /// Does a call, and gives its answer as a value: 1 or 0 for yes or no, the port or 0 of a
     /// lookup. On any error the names are unchanged.
-    #[tactic(auto, using(do_acts::specs::laws::HistoryLaws::after_call))]
+    #[tactic(auto, using(do_native_acts::specs::laws::HistoryLaws::after_call))]
     pub fn perform(&mut self, call: Call) -> Result<Value, CoreFault>
         requires { IsCall call }
         ensures done { IfOk result (λ answer. does self.old call ≡ Some (self.new, answer)) }

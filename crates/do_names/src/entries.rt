@@ -3,8 +3,8 @@ ghost use Rattle.std.specs.Prelude.{◌≡◌, IfOk};
 ghost use Rattle.std.specs.Option.{option_copied};
 ghost use Rattle.do_names.specs.Core.{name_in, row};
 
-use do_acts::{Row, port_in};
 use do_base::{Items, Text, Value, Values};
+use do_native_acts::{Row, port_in};
 use std::alloc::AllocError;
 use std::marker::Model;
 

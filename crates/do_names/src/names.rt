@@ -1,8 +1,8 @@
 ghost use Rattle.std.specs.Prelude.{◌≡◌, [], List, IsTrue, IfOk, IfErr, IfSome, OnErr, Some, None};
 ghost use Rattle.std.specs.Prelude.{map};
 ghost use Rattle.std.specs.List.{list_all};
-ghost use Rattle.do_acts.specs.Faults.{FaultOf};
-ghost use Rattle.do_acts.specs.Rows.{listed};
+ghost use Rattle.do_native_acts.specs.Faults.{FaultOf};
+ghost use Rattle.do_native_acts.specs.Rows.{listed};
 ghost use Rattle.do_table.specs.Entries.{value_of};
 ghost use Rattle.do_names.specs.Core.{is_entry, from_slots, to_slots, row};
 ghost use Rattle.do_names.specs.Core.{registered, unregistered};
@@ -11,8 +11,8 @@ ghost use Rattle.do_names.specs.Meaning.{told};
 ghost use Rattle.do_names.specs.declared.calls.Call.{Call};
 
 use crate::entries::{Entries, Entry, row};
-use do_acts::{CoreFault, read_rows};
 use do_base::{Text, Value, Values};
+use do_native_acts::{CoreFault, read_rows};
 use do_table::Table;
 use std::alloc::{AllocError, Global};
 use std::marker::Model;

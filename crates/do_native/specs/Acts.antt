@@ -9,10 +9,10 @@ use Rattle.do_behave.specs.Steps.{or_fault}
 use Rattle.do_behave.specs.declared.invocation.Invocation.{Invocation}
 use Rattle.do_behave.specs.declared.act.Act.{Act}
 use Rattle.do_check.specs.Acts.{check_act}
-use Rattle.do_kinds.specs.Kinds.{AreKindsOf}
-use Rattle.do_kinds.specs.declared.kind.Kind.{Kind}
-use Rattle.do_kinds.specs.declared.kind.Kind.TheVariants.{Script, Names, Pasteboard, Services}
-use Rattle.do_kinds.specs.declared.kind.Kind.TheVariants.{Center, Checker}
+use Rattle.do_class_kinds.specs.Kinds.{AreKindsOf}
+use Rattle.do_class_kinds.specs.declared.kind.Kind.{Kind}
+use Rattle.do_class_kinds.specs.declared.kind.Kind.TheVariants.{Script, Names, Pasteboard, Services}
+use Rattle.do_class_kinds.specs.declared.kind.Kind.TheVariants.{Center, Checker}
 use Rattle.do_names.specs.Acts.{names_act}
 use Rattle.do_pboard.specs.Acts.{pasteboard_act}
 use Rattle.do_services.specs.Acts.{services_act}

@@ -5,7 +5,7 @@ use Rattle.do_class.specs.Class.{Class}
 use Rattle.do_behave.specs.declared.invocation.Invocation.{Invocation}
 use Rattle.do_check.specs.Acts.{check_act}
 use Rattle.do_check.specs.declared.rules.Rule.{Rule}
-use Rattle.do_kinds.specs.declared.kind.Kind.TheVariants.{Checker}
+use Rattle.do_class_kinds.specs.declared.kind.Kind.TheVariants.{Checker}
 use Rattle.do_native.specs.Acts.{native_act}
 use Rattle.do_native.specs.declared.native.Native.{Native}
 

@@ -8,7 +8,7 @@ use do_behave::{Behaviour, Change, Invocation, Program};
 use do_center::NotificationCenter;
 use do_check::check_act;
 use do_class::ClassTable;
-use do_kinds::{Kind, Kinds, RuleTable};
+use do_class_kinds::{Kind, Kinds, RuleTable};
 use do_names::NameServer;
 use do_pboard::PasteboardServer;
 use do_services::ServiceServer;

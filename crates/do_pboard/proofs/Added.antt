@@ -16,7 +16,7 @@ use Rattle.do_pboard.specs.Changes.{extended}
 use Rattle.do_pboard.specs.Changes.{is_owned, same_owner, with_all}
 use Rattle.do_pboard.specs.Changes.{with_types}
 use Rattle.do_pboard.specs.Core.{Pasteboard}
-use Rattle.do_acts.specs.History.{left}
+use Rattle.do_native_acts.specs.History.{left}
 use Rattle.do_pboard.specs.Meaning.{joined, told_count, told_data}
 use Rattle.do_pboard.specs.Meaning.{told_owner, told_types}
 use Rattle.do_pboard.specs.declared.calls.Call.{Call}

@@ -1,35 +1,35 @@
 -- What stays of what a pasteboard can be.
 use Rattle.std.proofs.Common.{◌≡◌, ℕ, ◌+◌, ◌<◌, ◌==◌, Bool, true, false, not, ◌&&◌, nat_lt, nat_le}
 use Rattle.std.proofs.Common.{List, [], ◌∷◌, ◌++◌, length, length-append, Option, None, refl}
-use Rattle.std.proofs.Common.{◌∙◌, ap, arith, is_some, IsTrue}
+use Rattle.std.proofs.Common.{sym, ◌∙◌, ap, arith, is_some, IsTrue}
 use Rattle.std.specs.Prelude.{if◌then◌else◌}
+use Rattle.std.specs.List.{list_all}
+use Rattle.std.specs.Map.{keys_of}
+use Rattle.std.specs.Str.{bytes_eq}
 use Rattle.std.proofs.lemmas.Bool.{and_parts, and_from, le-leb, eqb-true, ltb-true}
+use Rattle.std.proofs.lemmas.Map.{length-set_value}
+use Rattle.std.proofs.lemmas.Map.Entries.{length-keys_of}
 use Rattle.do_base.specs.names.Names.{ObjectName}
+use Rattle.do_native_acts.specs.Types as texts
+use Rattle.do_native_acts.specs.Types.{are_types, is_type}
 use Rattle.do_table.specs.Entries.{value_of, are_distinct, replaced}
 use Rattle.do_table.specs.laws.TableLaws.{distinct_pushed}
 use Rattle.do_pboard.specs.Changes.{can_grow, declared, with_types}
-use Rattle.do_pboard.specs.Core.{Pasteboard, Declared, NamedBoard, are_declared, are_types}
+use Rattle.do_pboard.specs.Core.{Pasteboard, Declared, NamedBoard, are_declared}
 use Rattle.do_pboard.specs.Core.{bare, is_board}
-use Rattle.do_pboard.specs.laws.SlotsExact.{board_is, is_board_of}
-use Rattle.do_pboard.proofs.TypesAdded.{all_types, distinct_joined}
-use Rattle.do_pboard.proofs.TypesReplaced.{distinct_replaced}
-use Rattle.do_pboard.proofs.TypesAdded.{types_joined}
-use Rattle.do_pboard.proofs.TypesReplaced.{length_replaced, types_replaced}
+use Rattle.do_pboard.specs.laws.SlotsExact.{board_is, declared_parts, distinct_names, is_board_of}
+use Rattle.do_pboard.proofs.TypesAdded.{distinct_joined, keys_bare, keys_joined, types_joined}
+use Rattle.do_pboard.proofs.TypesReplaced.{keys_replaced}
 
--- types are few, each is one, and none is there twice
-pub declared_parts : (ts : List Declared) → are_declared ts ≡ true
-    → (nat_le (length ts) 64 ≡ true) × (all_types ts ≡ true) × (are_distinct ts ≡ true)
-declared_parts ts is =
-    let first = and_parts (nat_le (length ts) 64) (all_types ts && are_distinct ts) is in
-    let second = and_parts (all_types ts) (are_distinct ts) first.1 in
-    (first.0, second.0, second.1)
-
--- and so they can be a pasteboard's
-pub declared_of : (ts : List Declared) → nat_le (length ts) 64 ≡ true → all_types ts ≡ true
-    → are_distinct ts ≡ true → are_declared ts ≡ true
+-- types that are few, of which each is one and none is there twice, can be a pasteboard's
+declared_of : (ts : List Declared) → nat_le (length ts) 64 ≡ true
+    → list_all is_type (keys_of ts) ≡ true → are_distinct ts ≡ true → are_declared ts ≡ true
 declared_of ts few each distinct =
-    and_from (nat_le (length ts) 64) (all_types ts && are_distinct ts) few
-    (and_from (all_types ts) (are_distinct ts) each distinct)
+    let ks = keys_of ts in
+    and_from (nat_le (length ks) 64) (list_all is_type ks && texts.are_distinct ks)
+    (ap (λ n. nat_le n 64) (length-keys_of ts) ∙ few)
+    (and_from (list_all is_type ks) (texts.are_distinct ks) each
+    (sym (distinct_names ts) ∙ distinct))
 
 -- a pasteboard whose change count is above 0 begins in any way
 begins_later : (n : ℕ) (b : Bool) → 0 < n → (if n == 0 then b else true) ≡ true
@@ -54,7 +54,7 @@ declared_board b types owner is good room =
       begins =
           begins_later (b.count + 1) (not (is_some owner) && length (bare types) == 0)
           (omega arith);
-      types = good;
+      types = ap are_types (keys_bare types) ∙ good;
       boards = parts.boards;
     })
 
@@ -66,7 +66,7 @@ pub added_board : (b : Pasteboard) (types : List (List ℕ)) → IsTrue (is_boar
 added_board b types is good above few =
     let parts = board_is b is in
     let old = declared_parts b.types parts.types in
-    let more = declared_parts (bare types) good in
+    let more = declared_parts (bare types) (ap are_types (keys_bare types) ∙ good) in
     let all = with_types b.types types in
     is_board_of (record b { types = all }) (record {
       count = parts.count;
@@ -74,7 +74,10 @@ added_board b types is good above few =
           begins_later b.count (not (is_some b.owner) && length all == 0)
           (ltb-true 0 b.count above);
       types =
-          declared_of all few (types_joined b.types types old.1 more.1)
+          declared_of all few
+          (ap (list_all is_type) (keys_joined b.types types)
+          ∙ types_joined (keys_of b.types) types old.1
+          (sym (ap (list_all is_type) (keys_bare types)) ∙ more.1))
           (distinct_joined b.types types old.2);
       boards = parts.boards;
     })
@@ -84,17 +87,12 @@ pub supplied_board : (b : Pasteboard) (kind : List ℕ) (content : Option (List 
     → IsTrue (is_board b) → IsTrue (is_board (record b { types = replaced b.types kind content }))
 supplied_board b kind content is =
     let parts = board_is b is in
-    let old = declared_parts b.types parts.types in
-    let new = replaced b.types kind content in
-    is_board_of (record b { types = new }) (record {
+    is_board_of (record b { types = replaced b.types kind content }) (record {
       count = parts.count;
       begins =
           ap (λ n. if b.count == 0 then not (is_some b.owner) && n == 0 else true)
-          (length_replaced kind content b.types) ∙ parts.begins;
-      types =
-          declared_of new (ap (λ n. nat_le n 64) (length_replaced kind content b.types) ∙ old.0)
-          (types_replaced kind content b.types ∙ old.1)
-          (distinct_replaced kind content b.types ∙ old.2);
+          (length-set_value (bytes_eq kind) b.types content) ∙ parts.begins;
+      types = ap are_types (keys_replaced kind content b.types) ∙ parts.types;
       boards = parts.boards;
     })
 

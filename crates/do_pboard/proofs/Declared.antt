@@ -10,7 +10,7 @@ use Rattle.do_table.specs.Entries.{value_of}
 use Rattle.do_pboard.specs.Calls.{with_count}
 use Rattle.do_pboard.specs.Changes.{can_grow, declared}
 use Rattle.do_pboard.specs.Core.{Pasteboard}
-use Rattle.do_acts.specs.History.{left}
+use Rattle.do_native_acts.specs.History.{left}
 use Rattle.do_pboard.specs.History.{after}
 use Rattle.do_pboard.specs.Meaning.{told_count, told_data}
 use Rattle.do_pboard.specs.Meaning.{told_owner, told_types}

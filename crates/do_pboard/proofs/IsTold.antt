@@ -10,7 +10,7 @@ use Rattle.do_pboard.specs.Calls.{as_object}
 use Rattle.do_pboard.specs.Changes.{can_grow, data_for, found, held}
 use Rattle.do_pboard.specs.Changes.{keep_at}
 use Rattle.do_pboard.specs.Core.{Pasteboard}
-use Rattle.do_acts.specs.History.{left}
+use Rattle.do_native_acts.specs.History.{left}
 use Rattle.do_pboard.specs.History.{after}
 use Rattle.do_pboard.specs.Meaning.{is_told, told_count, told_data, told_for}
 use Rattle.do_pboard.specs.Meaning.{told_owner, told_types}

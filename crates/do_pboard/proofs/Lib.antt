@@ -1,4 +1,5 @@
 pub mod TypesAdded
+pub mod TypeTables
 pub mod TypesReplaced
 pub mod TypesLater
 pub mod CoreLaws
@@ -6,5 +7,4 @@ pub mod Declared
 pub mod Added
 pub mod Supplied
 pub mod IsTold
-pub mod Places
 pub mod MergedRows

@@ -6,6 +6,7 @@ use Rattle.std.specs.Prelude.{if◌then◌else◌}
 use Rattle.std.specs.List.{list_any}
 use Rattle.std.specs.Ordering.{int_eq}
 use Rattle.std.specs.Str.{bytes_eq}
+use Rattle.std.proofs.lemmas.Map.Made.{is_some-lookup}
 use Rattle.do_base.specs.names.Names.{ObjectName}
 use Rattle.do_table.specs.Entries.{value_of, replaced}
 use Rattle.do_table.specs.laws.TableLaws.{same_name}
@@ -15,9 +16,7 @@ use Rattle.do_pboard.specs.Meaning.{is_told, told_count, told_data}
 use Rattle.do_pboard.specs.Meaning.{told_owner, told_types}
 use Rattle.do_pboard.specs.declared.calls.Call.{Call}
 use Rattle.do_pboard.specs.declared.calls.Call.TheVariants.{SetData}
-use Rattle.do_pboard.proofs.TypesAdded.{there_is_any}
-use Rattle.do_pboard.proofs.TypesReplaced.{keys_replaced}
-use Rattle.do_pboard.proofs.TypesReplaced.{value_replaced}
+use Rattle.do_pboard.proofs.TypesReplaced.{keys_replaced, value_replaced}
 use Rattle.do_pboard.proofs.Declared.{Has, IsTold}
 
 -- other data of the same types
@@ -123,7 +122,7 @@ pub supplied_told : (h : List Call) (b : Pasteboard) (content other : List ℕ) 
     → IsTold h b → IsTold (SetData content other count ∷ h) (supplied b content other count).0
 supplied_told h b content other count is =
     let there : is_some (value_of b.types other) ≡ is_told h other =
-    there_is_any b.types other ∙ ap (list_any (bytes_eq other)) is.types in
+    is_some-lookup (bytes_eq other) b.types ∙ ap (list_any (bytes_eq other)) is.types in
     subst (λ (c : Pasteboard). Has c (told_count h) (told_owner h) (told_types h)
     (data_with h content other (int_eq count (pos (told_count h))) (is_told h other)))
     (ap (λ n. set_left b content other (int_eq count (pos n)) (is_told h other)) (sym is.count)

@@ -1,15 +1,15 @@
 -- Types behind others, and how many they are.
 use Rattle.std.proofs.Common.{◌≡◌, ℕ, Bool, true, false, List, [], ◌∷◌}
-use Rattle.std.proofs.Common.{◌++◌, length, Some, None, refl, sym, ◌∙◌, ap, is_some}
+use Rattle.std.proofs.Common.{◌++◌, length, Some, None, refl, ◌∙◌, ap, is_some}
 use Rattle.std.proofs.Common.{take, arith, zero, suc, ◌+◌, length-append}
 use Rattle.std.specs.Prelude.{if◌then◌else◌, cond}
 use Rattle.std.specs.Str.{bytes_eq}
 use Rattle.do_table.specs.Entries.{value_of, added, given, are_distinct}
+use Rattle.do_table.specs.laws.Entered.{given_none, value_added}
 use Rattle.do_table.specs.laws.TableLaws.{first_alone}
 use Rattle.std.proofs.lemmas.Cmp.{nat_list_eq_equiv}
 use Rattle.do_pboard.specs.Changes.{count_new, with_types}
 use Rattle.do_pboard.specs.Core.{Declared, bare}
-use Rattle.do_pboard.proofs.TypesAdded.{value_added, given_none}
 
 -- the first types stay where more are behind them
 take_more : (n : ℕ) (ts us : List Declared) → length (take n ts) ≡ n
@@ -43,8 +43,8 @@ count_added ts new (t ∷ more) absent =
     by false differs none later =
         let other : bytes_eq t new ≡ false = nat_list_eq_equiv.symm t new ∙ differs in
         let stays : value_of (added ts new None) t ≡ value_of ts t =
-        value_added ts new t ∙ ap (given (value_of ts t) None) other
-        ∙ sym (given_none (value_of ts t)) in
+        value_added ts new None t ∙ ap (given (value_of ts t) None) other
+        ∙ given_none (value_of ts t) None in
         ap (λ o. if is_some o then count_new (added ts new None) more
         else count_new (added ts new None) more + 1) stays
         ∙ ap (λ n. if is_some (value_of ts t) then n else n + 1) (later none)

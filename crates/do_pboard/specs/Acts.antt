@@ -15,12 +15,14 @@ use Rattle.do_behave.specs.declared.invocation.Invocation.{Invocation}
 use Rattle.do_behave.specs.declared.act.Act.{Act}
 use Rattle.do_behave.specs.declared.act.Act.TheVariants.{New, Raise}
 use Rattle.do_behave.specs.declared.change.LocalSet.{LocalSet}
-use Rattle.do_acts.specs.Limited.{is_limited}
-use Rattle.do_acts.specs.Places.{at_place, by_selector, does_call, in_two, returns, sends}
-use Rattle.do_acts.specs.Steps.{caught_to, changes, fits, set, steps}
+use Rattle.do_native_acts.specs.Limited.{is_limited}
+use Rattle.do_native_acts.specs.Places.{at_place, by_selector, does_call, in_two, returns, sends}
+use Rattle.do_native_acts.specs.Steps.{caught_to, changes, fits, set, steps}
+use Rattle.do_native_acts.specs.Owners.{owner_in}
+use Rattle.do_native_acts.specs.Types.{types_in}
 use Rattle.do_table.specs.Entries.{value_of}
-use Rattle.do_pboard.specs.Core.{Pasteboard, boards_slot, from_slots, owner_in, to_slots}
-use Rattle.do_pboard.specs.Calls.{call_in, does, types_in}
+use Rattle.do_pboard.specs.Core.{Pasteboard, boards_slot, from_slots, to_slots}
+use Rattle.do_pboard.specs.Calls.{call_in, does}
 use Rattle.do_pboard.specs.Changes.{data_for, keeps, same_owner}
 use Rattle.do_pboard.specs.declared.board.BoardData.{BoardData}
 use Rattle.do_pboard.specs.declared.board.BoardData.TheVariants.{Here, Ask, Absent}

@@ -12,8 +12,10 @@ use Rattle.do_grammar.specs.Words.{◌>>?◌}
 use Rattle.do_behave.specs.Numbers.{truth}
 use Rattle.do_behave.specs.Steps.{local}
 use Rattle.do_behave.specs.declared.invocation.Invocation.{Invocation}
-use Rattle.do_acts.specs.Rows.{list_in}
-use Rattle.do_pboard.specs.Core.{Pasteboard, are_types, owner_in}
+use Rattle.do_native_acts.specs.Owners.{owner_in}
+use Rattle.do_native_acts.specs.Rows.{list_in}
+use Rattle.do_native_acts.specs.Types.{are_types, types_in}
+use Rattle.do_pboard.specs.Core.{Pasteboard}
 use Rattle.do_pboard.specs.Changes.{can_grow, declared, extended, supplied, available, keeps}
 use Rattle.do_pboard.specs.declared.calls.Call.{Call}
 use Rattle.do_pboard.specs.declared.calls.Call.TheVariants.{Declare, AddTypes, SetData, Available}
@@ -62,10 +64,6 @@ does b (Available texts) = Some (b, text_or_nil (available b texts >>? λ k. sli
 does b Types = Some (b, List (map Text (keys_of b.types)))
 does b ChangeCount = Some (with_count b)
 does b (Keep name board) = option_map as_object (keeps b name board)
-
--- a list of types
-abbrev pub types_in : Value → Option (Listed (Listed ℕ))
-types_in v = list_in text v >>? λ types. if are_types types then Some types else None
 
 -- the call `addTypes:owner:`
 abbrev pub adds_types : Invocation → Option Call

@@ -1,7 +1,7 @@
 -- What the calls of a pasteboard leave and answer.
 use Rattle.std.specs.Prelude.{ℕ, ℤ, pos, ◌+◌, ◌^◌, Bool, true, false, is_some, ◌&&◌, ◌==◌, nat_lt}
 use Rattle.std.specs.Prelude.{nat_le, Option, Some, None, List, [], ◌∷◌, ◌++◌, length}
-use Rattle.std.specs.Prelude.{if◌then◌else◌}
+use Rattle.std.specs.Prelude.{if◌then◌else◌, position}
 use Rattle.std.specs.Option.{option_map}
 use Rattle.std.specs.Ordering.{int_eq}
 use Rattle.do_base.specs.names.Names.{ObjectName}
@@ -84,15 +84,9 @@ found owner (Some content) = held owner content
 abbrev pub data_for : Pasteboard → List ℕ → BoardData
 data_for b kind = found b.owner (value_of b.types kind)
 
--- the place of the first text that passes
-abbrev pub first_place : (List ℕ → Bool) → List (List ℕ) → Option ℕ
-first_place test [] = None
-first_place test (s ∷ ss) =
-    if test s then Some 0 else option_map (λ k. k + 1) (first_place test ss)
-
 -- the place of the first text that is a declared type
 abbrev pub available : Pasteboard → List (List ℕ) → Option ℕ
-available b texts = first_place (λ t. is_some (value_of b.types t)) texts
+available b texts = position (λ t. is_some (value_of b.types t)) texts
 
 -- the pasteboard and what is kept under the name, where something is or there is room
 abbrev pub keep_at : Pasteboard → List ℕ → ObjectName → Option ObjectName

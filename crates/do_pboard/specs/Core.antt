@@ -4,7 +4,6 @@ use Rattle.std.specs.Prelude.{Option, Some, None, List as Listed, [], ◌∷◌,
 use Rattle.std.specs.Prelude.{if◌then◌else◌}
 use Rattle.std.specs.Prelude.{refl}
 use Rattle.std.specs.Coded.{Coded, code_by, coded×, coded_ℕ, coded_list, coded_option}
-use Rattle.std.specs.List.{list_all}
 use Rattle.std.specs.Map.{keys_of}
 use Rattle.std.specs.Option.{option_map}
 use Rattle.std.specs.Str.{bytes_eq}
@@ -14,7 +13,9 @@ use Rattle.do_base.specs.declared.values.value.Value.{Value, List, out-Value}
 use Rattle.do_base.specs.declared.values.value.Value.TheVariants.{Nil, Num, Text, Obj}
 use Rattle.do_base.specs.declared.values.value.Value.TheOpen.{Value-F}
 use Rattle.do_grammar.specs.Words.{◌>>?◌}
-use Rattle.do_acts.specs.Rows.{rows_in, pair_in, listed}
+use Rattle.do_native_acts.specs.Owners.{owner_in}
+use Rattle.do_native_acts.specs.Rows.{rows_in, pair_in, listed}
+use Rattle.do_native_acts.specs.Types.{are_types}
 use Rattle.do_table.specs.Entries.{are_distinct}
 
 -- a type, with its data if there is any
@@ -63,17 +64,9 @@ empty = record { count = 0; owner = None; types = []; boards = [] }
 abbrev pub bare : Listed (Listed ℕ) → Listed Declared
 bare types = map (λ t. (t, None)) types
 
--- a type has 1 to 255 bytes
-abbrev pub is_type : Listed ℕ → Bool
-is_type t = nat_lt 0 (length t) && nat_le (length t) 255
-
--- the types of a pasteboard: at most 64, none of them twice
+-- types that a pasteboard can have, with data or without
 abbrev pub are_declared : Listed Declared → Bool
-are_declared ts = nat_le (length ts) 64 && (list_all (λ t. is_type t.0) ts && are_distinct ts)
-
--- a list of types
-abbrev pub are_types : Listed (Listed ℕ) → Bool
-are_types types = are_declared (bare types)
+are_declared ts = are_types (keys_of ts)
 
 -- the named pasteboards: at most 256, no name twice
 abbrev pub are_boards : Listed NamedBoard → Bool
@@ -96,15 +89,6 @@ count_level _ = None
 -- the change count that a slot holds: nil for 0
 abbrev pub count_in : Value → Option ℕ
 count_in v = count_level (out-Value v)
-
-abbrev owner_level : Value-F Value → Option (Option ObjectName)
-owner_level Value-F.Nil = Some None
-owner_level (Value-F.Obj o) = Some (Some o)
-owner_level _ = None
-
--- the owner that a value names: nil for none
-abbrev pub owner_in : Value → Option (Option ObjectName)
-owner_in v = owner_level (out-Value v)
 
 -- a type and its data, as a list of both
 abbrev pub content_in : Value → Option Content
@@ -131,7 +115,7 @@ merged (t ∷ ts) (d ∷ ds) =
 abbrev pub types_read : Value → Value → Option (Listed Declared)
 types_read types kept =
     rows_in text types >>? λ kinds. rows_in content_in kept >>? λ data_of. merged kinds data_of
-    >>? λ ts. if are_declared ts then Some ts else None
+    >>? λ ts. if are_types kinds then Some ts else None
 
 -- the named pasteboards that a slot holds, where a pasteboard can have them
 abbrev pub boards_read : Value → Option (Listed NamedBoard)

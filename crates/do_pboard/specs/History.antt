@@ -1,7 +1,7 @@
 -- What the calls made so far leave.
 use Rattle.std.specs.Prelude.{List}
 use Rattle.do_pboard.specs.Core.{Pasteboard, empty}
-use Rattle.do_acts.specs.History.{after_calls}
+use Rattle.do_native_acts.specs.History.{after_calls}
 use Rattle.do_pboard.specs.Calls.{does}
 use Rattle.do_pboard.specs.declared.calls.Call.{Call}
 

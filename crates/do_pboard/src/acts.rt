@@ -1,5 +1,5 @@
 ghost use Rattle.std.specs.Prelude.{◌≡◌, IfOk};
-ghost use Rattle.do_acts.specs.Places.{does_call, in_two};
+ghost use Rattle.do_native_acts.specs.Places.{does_call, in_two};
 ghost use Rattle.do_behave.specs.Changes.{Means};
 ghost use Rattle.do_behave.specs.Steps.{or_fault};
 ghost use Rattle.do_pboard.specs.Acts.{answers, method_act};
@@ -11,10 +11,10 @@ use crate::board::Board;
 use crate::calls::call_in;
 use crate::declaring::declare_act;
 use crate::naming::name_act;
-use do_acts::{CoreFault, answer, answered, changes, selector_in};
 use do_base::{Exc, Text, Values};
 use do_behave::{Act, Behaviour, Change, Invocation};
 use do_class::ClassTable;
+use do_native_acts::{CoreFault, answer, answered, changes, selector_in};
 use std::alloc::AllocError;
 
 /// The first act of a method that only answers: all that it does but returning.

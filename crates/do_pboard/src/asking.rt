@@ -3,16 +3,16 @@ ghost use Rattle.std.specs.Prelude.{◌≡◌, ◌∷◌, [], IfOk};
 ghost use Rattle.do_base.specs.declared.values.value.Value.TheVariants.{Nil};
 ghost use Rattle.do_behave.specs.Changes.{Means};
 ghost use Rattle.do_behave.specs.Steps.{or_fault};
-ghost use Rattle.do_acts.specs.Places.{at_place};
-ghost use Rattle.do_acts.specs.Steps.{set};
+ghost use Rattle.do_native_acts.specs.Places.{at_place};
+ghost use Rattle.do_native_acts.specs.Steps.{set};
 ghost use Rattle.do_pboard.specs.Acts.{asks, data_places, found_now, look_next, look_sets, looks};
 ghost use Rattle.do_pboard.specs.Acts.{looks_again};
 
 use crate::board::{Board, BoardData};
 use crate::sets::{ANSWER, caught_to, one_set, two_sets};
-use do_acts::{answer, local_number, local_text, send, step};
 use do_base::{Text, Value, Values};
 use do_behave::{Change, Invocation, LocalSet, LocalSets, Writes};
+use do_native_acts::{answer, local_number, local_text, send, step};
 use std::alloc::AllocError;
 
 /// What the first look sets where the answer is known: nobody to ask, the change count, and it.

@@ -1,9 +1,10 @@
 ghost use Rattle.std.specs.Prelude.{◌≡◌, ◌+◌, pos, IsTrue, IfOk, IfErr, IfSome, OnOk, OnErr, Some};
 ghost use Rattle.std.specs.Prelude.{List, is_some};
 ghost use Rattle.std.specs.Map.{keys_of};
-ghost use Rattle.do_acts.specs.Faults.{FaultOf};
+ghost use Rattle.do_native_acts.specs.Faults.{FaultOf};
+ghost use Rattle.do_native_acts.specs.Types.{are_types};
 ghost use Rattle.do_table.specs.Entries.{value_of};
-ghost use Rattle.do_pboard.specs.Core.{are_types, empty};
+ghost use Rattle.do_pboard.specs.Core.{empty};
 ghost use Rattle.do_pboard.specs.Changes.{available, can_grow, data_for, declared, extended};
 ghost use Rattle.do_pboard.specs.Changes.{is_owned, keeps, supplied, takes};
 ghost use Rattle.do_pboard.specs.History.{after};
@@ -12,8 +13,8 @@ ghost use Rattle.do_pboard.specs.declared.calls.Call.{Call};
 
 use crate::parts::same_owner;
 use crate::types::{TypeTable, add_types, bare_table};
-use do_acts::CoreFault;
 use do_base::{Oid, Text, Texts};
+use do_native_acts::CoreFault;
 use do_table::Table;
 use std::alloc::{AllocError, Global};
 use std::marker::Model;
@@ -220,14 +221,7 @@ impl Board {
     pub fn available(&self, types: &Texts) -> Option<usize>
         ensures { result ≡ available self.now types.now }
     {
-        let mut at = 0;
-        for kind in types.as_slice() {
-            if self.has_type(kind) {
-                return Some(at);
-            }
-            at += 1;
-        }
-        None
+        types.as_slice().iter().position(|kind| self.has_type(kind))
     }
 
     /// The pasteboard that is kept under a name; none where there is none.

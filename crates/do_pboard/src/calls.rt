@@ -2,23 +2,23 @@
 ghost use Rattle.std.specs.Prelude.{◌≡◌, ◌∷◌, List, IfOk, IfErr, OnOk, OnErr, Some, slice_get};
 ghost use Rattle.do_grammar.specs.Words.{◌>>?◌};
 ghost use Rattle.do_behave.specs.Steps.{local};
-ghost use Rattle.do_acts.specs.Faults.{FaultOf};
-ghost use Rattle.do_acts.specs.Rows.{list_in};
-ghost use Rattle.do_pboard.specs.Core.{owner_in};
+ghost use Rattle.do_native_acts.specs.Faults.{FaultOf};
+ghost use Rattle.do_native_acts.specs.Rows.{list_in};
+ghost use Rattle.do_native_acts.specs.Types.{types_in};
 ghost use Rattle.do_pboard.specs.Calls.{IsCall, adds_types, asks_available, call_in, does};
 ghost use Rattle.do_pboard.specs.Calls.{limit_of};
-ghost use Rattle.do_pboard.specs.Calls.{sets_data, text_or_nil, types_in};
+ghost use Rattle.do_pboard.specs.Calls.{sets_data, text_or_nil};
 ghost use Rattle.do_pboard.specs.Changes.{available};
 ghost use Rattle.do_pboard.specs.History.{after};
 ghost use Rattle.do_pboard.specs.declared.calls.Call.{Call};
 ghost use Rattle.do_pboard.specs.declared.calls.Call.TheVariants.{Declare};
 
 use crate::board::Board;
-use crate::parts::owner_in;
-use crate::types::types_in;
-use do_acts::{CoreFault, as_number, local_number, local_text, read_list, show_list};
 use do_base::{Oid, Text, Texts, Value};
 use do_behave::Invocation;
+use do_native_acts::{
+    CoreFault, as_number, local_number, local_owner, local_text, read_list, show_list, types_in,
+};
 use std::alloc::AllocError;
 
 /// A call of a core.
@@ -63,14 +63,6 @@ pub(crate) fn local_types(inv: &Invocation, k: u8) -> Result<Option<Texts>, Allo
         Some(value) => types_in(value),
         None => Ok(None),
     }
-}
-
-/// The owner that a local names, which may be nil; none where it holds another value, or there is
-/// no such local.
-pub fn local_owner(inv: &Invocation, k: u8) -> Option<Option<Oid>>
-    ensures { result ≡ (local inv.now k >>? owner_in) }
-{
-    owner_in(inv.local(k)?)
 }
 
 /// The call that adds types.
@@ -179,7 +171,7 @@ fn declare(board: &mut Board, types: Texts, owner: Option<Oid>) -> Result<Value,
 impl Board {
     /// Does a call, and gives its answer as a value: a change count, 1 or 0 for yes or no, a text,
     /// an object, a list of texts, or nil for none. On any error the pasteboard is unchanged.
-    #[tactic(auto, using(do_acts::specs::laws::HistoryLaws::after_call))]
+    #[tactic(auto, using(do_native_acts::specs::laws::HistoryLaws::after_call))]
     pub fn perform(&mut self, call: Call) -> Result<Value, CoreFault>
         requires { IsCall call }
         ensures done { IfOk result (λ answer. does self.old call ≡ Some (self.new, answer)) }

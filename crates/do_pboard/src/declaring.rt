@@ -3,18 +3,18 @@ ghost use Rattle.std.specs.Prelude.{◌≡◌, ◌∷◌, [], IfOk};
 ghost use Rattle.do_base.specs.declared.values.value.Value.TheVariants.{Obj};
 ghost use Rattle.do_behave.specs.Changes.{Means};
 ghost use Rattle.do_behave.specs.Steps.{or_fault};
-ghost use Rattle.do_acts.specs.Places.{at_place, sends};
+ghost use Rattle.do_native_acts.specs.Places.{at_place, sends};
 ghost use Rattle.do_pboard.specs.Acts.{changed_owner, declare_next, declare_places, declares};
 ghost use Rattle.do_pboard.specs.Acts.{to_tell};
 ghost use Rattle.do_pboard.specs.Core.{to_slots};
 
 use crate::board::Board;
-use crate::calls::{Call, local_owner, local_types};
+use crate::calls::{Call, local_types};
 use crate::parts::same_owner;
 use crate::sets::{ANSWER, caught_to, two_sets};
-use do_acts::{CoreFault, answer, changes, send, step};
 use do_base::{Exc, Oid, Value, Values};
 use do_behave::{Act, Change, Invocation};
+use do_native_acts::{CoreFault, answer, changes, local_owner, send, step};
 use std::alloc::AllocError;
 
 /// The former owner, where it is to be told of the new one.

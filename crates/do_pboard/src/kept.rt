@@ -1,8 +1,8 @@
 //! What the slots of a pasteboard keep in lists.
 ghost use Rattle.std.specs.Prelude.{◌≡◌};
 
-use do_acts::Row;
 use do_base::{Items, Oid, Text, Value, Values};
+use do_native_acts::Row;
 use do_table::Entry;
 use std::alloc::AllocError;
 use std::marker::Model;

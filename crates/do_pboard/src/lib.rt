@@ -1,7 +1,7 @@
 //! A pasteboard: types with data, which an owner gives when it is asked for them. Its core, and the
 //! acts of its methods.
 //!
-//! It stands on the acts of do_acts. It keeps what Apple's and GNUstep's documentation of
+//! It stands on the acts of do_native_acts. It keeps what Apple's and GNUstep's documentation of
 //! `NSPasteboard` says: each declaration raises the change count and takes the data away, a lazy
 //! owner is asked once data is wanted, and data that belongs to an earlier change count is refused.
 //! What is promised is exact: each call, what a pasteboard has as the calls made so far tell it,
@@ -22,6 +22,4 @@ mod types;
 
 pub use acts::PasteboardServer;
 pub use board::{Board, BoardData};
-pub use calls::{Call, local_owner};
-pub use parts::owner_in;
-pub use types::{are_types, types_in};
+pub use calls::Call;

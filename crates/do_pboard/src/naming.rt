@@ -2,8 +2,8 @@
 ghost use Rattle.std.specs.Prelude.{◌≡◌, IfOk};
 ghost use Rattle.do_behave.specs.Changes.{Means};
 ghost use Rattle.do_behave.specs.Steps.{or_fault};
-ghost use Rattle.do_acts.specs.Places.{at_place};
-ghost use Rattle.do_acts.specs.Steps.{fits};
+ghost use Rattle.do_native_acts.specs.Places.{at_place};
+ghost use Rattle.do_native_acts.specs.Steps.{fits};
 ghost use Rattle.do_base.specs.values.Kinds.{object};
 ghost use Rattle.do_grammar.specs.Words.{◌>>?◌};
 ghost use Rattle.do_behave.specs.Steps.{local};
@@ -13,9 +13,9 @@ ghost use Rattle.do_pboard.specs.Changes.{keeps};
 use crate::board::Board;
 use crate::sets::{ANSWER, one_set, two_sets};
 use crate::slots::boards_slot;
-use do_acts::{CoreFault, answer, changes, is_limited, local_text, step};
 use do_base::{Exc, Oid, Text, Value, Values};
 use do_behave::{Act, Change, Invocation, Writes};
+use do_native_acts::{CoreFault, answer, changes, is_limited, local_text, step};
 use std::alloc::AllocError;
 
 /// The step before a pasteboard is made, where the slot that will keep it is within the limits.

@@ -1,6 +1,6 @@
 //! The change count, the owner and the named pasteboards, as slots keep them.
 ghost use Rattle.std.specs.Prelude.{◌≡◌, ◌<◌, ◌^◌, IfOk, Some, None, if◌then◌else◌};
-ghost use Rattle.do_pboard.specs.Core.{are_boards, count_in, count_value, owner_in, owner_value};
+ghost use Rattle.do_pboard.specs.Core.{are_boards, count_in, count_value, owner_value};
 ghost use Rattle.do_pboard.specs.Changes.{same_owner};
 
 use crate::board::MAX_BOARDS;
@@ -29,17 +29,6 @@ pub(crate) fn count_value(count: u64) -> Value
         Value::Num(count as i64)
     } else {
         Value::Nil
-    }
-}
-
-/// The owner that a value names: nil for none.
-pub fn owner_in(value: &Value) -> Option<Option<Oid>>
-    ensures { result ≡ owner_in value.now }
-{
-    match value {
-        Value::Nil => Some(None),
-        Value::Obj(owner) => Some(Some(*owner)),
-        _ => None,
     }
 }
 

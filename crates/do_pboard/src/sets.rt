@@ -1,6 +1,6 @@
 //! Values for locals.
 ghost use Rattle.std.specs.Prelude.{◌≡◌, ◌∷◌, [], IfOk};
-ghost use Rattle.do_acts.specs.Steps.{caught_to, set};
+ghost use Rattle.do_native_acts.specs.Steps.{caught_to, set};
 
 use do_base::Value;
 use do_behave::{Handler, LocalSet, LocalSets};

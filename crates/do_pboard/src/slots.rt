@@ -6,10 +6,10 @@ ghost use Rattle.do_pboard.specs.Core.{from_slots, of_parts, to_slots, types_rea
 
 use crate::board::Board;
 use crate::kept::{Content, NamedBoard};
-use crate::parts::{board_rows, boards_of, count_in, count_value, owner_in, owner_value};
+use crate::parts::{board_rows, boards_of, count_in, count_value, owner_value};
 use crate::types::{TypeTable, contents_of, merged_table};
-use do_acts::{read_rows, show_rows};
 use do_base::{Oid, Text, Value, Values};
+use do_native_acts::{owner_in, read_rows, show_rows};
 use do_table::Table;
 use std::alloc::{AllocError, Global};
 

@@ -1,52 +1,26 @@
 //! The types of a pasteboard, with their data.
 ghost use Rattle.std.specs.Prelude.{◌≡◌, IfOk, OnOk, OnErr, IfErr, Some, None, if◌then◌else◌};
 ghost use Rattle.std.specs.Prelude.{◌++◌, [], ◌≤◌, IsTrue, length, nat_le};
-ghost use Rattle.std.specs.List.{list_all};
-ghost use Rattle.do_base.specs.values.Kinds.{text};
 ghost use Rattle.do_grammar.specs.Words.{◌>>?◌};
-ghost use Rattle.do_acts.specs.Faults.{FaultOf};
-ghost use Rattle.do_table.specs.Entries.{added};
-ghost use Rattle.do_pboard.specs.Core.{are_declared, are_types, bare, contents, is_type, merged};
-ghost use Rattle.do_pboard.specs.Core.{with_content};
-ghost use Rattle.do_pboard.specs.Calls.{types_in};
+ghost use Rattle.do_native_acts.specs.Faults.{FaultOf};
+ghost use Rattle.do_native_acts.specs.Types.{are_types};
+ghost use Rattle.do_table.specs.Entries.{added, once};
+ghost use Rattle.do_pboard.specs.Core.{bare, contents, merged, with_content};
 ghost use Rattle.do_pboard.specs.Changes.{count_new, few_types, with_types};
 
 use crate::kept::{Content, Contents, Declared, DeclaredTypes};
-use do_acts::{CoreFault, read_list};
-use do_base::{Text, Texts, Value};
+use do_base::{Text, Texts};
+use do_native_acts::{CoreFault, MAX_TYPES, are_types};
 use do_table::Table;
 use std::alloc::AllocError;
-
-/// The most types of a pasteboard.
-const MAX_TYPES: usize = 64;
-
-/// The most bytes of a type.
-const LONGEST_TYPE: usize = 255;
 
 /// Declared types, with their data.
 pub(crate) type TypeTable = Table<Option<Text>>;
 
-/// Whether each type has 1 to 255 bytes.
-fn are_kinds(types: &DeclaredTypes) -> bool
-    ensures { result ≡ list_all (λ t. is_type t.0) types.now }
+/// The table of declared types; none where one is there twice.
+fn table_of(types: &DeclaredTypes) -> Result<Option<TypeTable>, AllocError>
+    ensures { IfOk result (λ table. table ≡ once types.now) }
 {
-    for declared in types.as_slice() {
-        if declared.kind.is_empty() || declared.kind.len() > LONGEST_TYPE {
-            return false;
-        }
-    }
-    true
-}
-
-/// The table of declared types; none where they are too many, one is there twice, or one has no
-/// byte or too many.
-pub(crate) fn table_of(types: &DeclaredTypes) -> Result<Option<TypeTable>, AllocError>
-    ensures { IfOk result (λ table.
-        table ≡ (if are_declared types.now then Some types.now else None)) }
-{
-    if types.len() > MAX_TYPES || !are_kinds(types) {
-        return Ok(None);
-    }
     Table::of(types.allocator(), types.as_slice())
 }
 
@@ -64,33 +38,15 @@ fn bare(types: &Texts) -> Result<DeclaredTypes, AllocError>
 
 /// The table of these types without data; none where they are too many, one is there twice, or one
 /// has no byte or too many.
+#[tactic(auto, using(crate::proofs::TypeTables::once_bare))]
 pub(crate) fn bare_table(types: &Texts) -> Result<Option<TypeTable>, AllocError>
     ensures { IfOk result (λ table.
         table ≡ (if are_types types.now then Some (bare types.now) else None)) }
 {
-    table_of(&bare(types)?)
-}
-
-/// Whether these can be the types of a pasteboard: at most 64, none of them twice, each of 1 to 255
-/// bytes.
-pub fn are_types(types: &Texts) -> Result<bool, AllocError>
-    ensures { IfOk result (λ is. is ≡ are_types types.now) }
-{
-    Ok(bare_table(types)?.is_some())
-}
-
-/// The types that a value is: a list of them.
-pub fn types_in(value: &Value) -> Result<Option<Texts>, AllocError>
-    ensures { IfOk result (λ types. types ≡ types_in value.now) }
-{
-    let Some(types) = read_list::<Text>(value)? else {
+    if !are_types(types) {
         return Ok(None);
-    };
-    if are_types(&types)? {
-        Ok(Some(types))
-    } else {
-        Ok(None)
     }
+    table_of(&bare(types)?)
 }
 
 /// The types with their data; none where the data does not stand in the order of the types.
@@ -119,16 +75,17 @@ fn merge(types: &Texts, contents: &Contents) -> Result<Option<DeclaredTypes>, Al
 }
 
 /// The table of the types with their data, where a pasteboard can have them.
+#[tactic(auto, using(crate::proofs::TypeTables::once_merged))]
 pub(crate) fn merged_table(
     types: &Texts,
     contents: &Contents,
 ) -> Result<Option<TypeTable>, AllocError>
     ensures { IfOk result (λ table. table ≡ (merged types.now contents.now >>? λ ts.
-        if are_declared ts then Some ts else None)) }
+        if are_types types.now then Some ts else None)) }
 {
     match merge(types, contents)? {
-        Some(declared) => table_of(&declared),
-        None => Ok(None),
+        Some(declared) if are_types(types) => table_of(&declared),
+        _ => Ok(None),
     }
 }
 

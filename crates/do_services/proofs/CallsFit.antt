@@ -2,8 +2,8 @@
 use Rattle.std.proofs.Common.{◌≡◌, ℕ, List as Listed, Some}
 use Rattle.do_behave.specs.Steps.{local}
 use Rattle.do_behave.specs.declared.invocation.Invocation.{Invocation}
-use Rattle.do_acts.specs.laws.FoundLaws.{of_found}
-use Rattle.do_acts.specs.laws.KindLaws.{found_of}
+use Rattle.do_native_acts.specs.laws.FoundLaws.{of_found}
+use Rattle.do_native_acts.specs.laws.KindLaws.{found_of}
 use Rattle.do_services.specs.Calls.{IsCall, call_in}
 use Rattle.do_services.specs.Core.{service_in}
 use Rattle.do_services.specs.declared.calls.Call.{Call}

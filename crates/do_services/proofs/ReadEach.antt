@@ -10,8 +10,8 @@ use Rattle.std.proofs.lemmas.List.{append-nil, append_assoc, at_drop_more, lengt
 use Rattle.std.proofs.lemmas.Option.{slice_get-get_or}
 use Rattle.do_base.specs.declared.values.value.Value.{Value}
 use Rattle.do_grammar.specs.Words.{◌>>?◌}
-use Rattle.do_acts.specs.Rows.{read_all, with_first}
-use Rattle.do_acts.specs.laws.KindLaws.{then_is}
+use Rattle.do_native_acts.specs.Rows.{read_all, with_first}
+use Rattle.do_native_acts.specs.laws.KindLaws.{then_is}
 use Rattle.do_table.specs.Entries.{added, are_distinct, once, value_of}
 use Rattle.do_table.specs.laws.TableLaws.{distinct_pushed, entry_refused}
 use Rattle.do_services.specs.Core.{Entry, keyed, service_in}

@@ -13,9 +13,9 @@ use Rattle.do_behave.specs.declared.invocation.Invocation.{Invocation}
 use Rattle.do_behave.specs.declared.act.Act.{Act}
 use Rattle.do_behave.specs.declared.act.Act.TheVariants.{Root, Send}
 use Rattle.do_behave.specs.declared.change.LocalSet.{LocalSet}
-use Rattle.do_acts.specs.Places.{at_place, by_selector, does_call, in_two, returns}
-use Rattle.do_acts.specs.Steps.{caught_to, set, steps}
-use Rattle.do_pboard.specs.Core.{owner_in}
+use Rattle.do_native_acts.specs.Places.{at_place, by_selector, does_call, in_two, returns}
+use Rattle.do_native_acts.specs.Steps.{caught_to, set, steps}
+use Rattle.do_native_acts.specs.Owners.{owner_in}
 use Rattle.do_table.specs.Entries.{value_of}
 use Rattle.do_services.specs.Calls.{call_in, does}
 use Rattle.do_services.specs.Core.{from_slots, row, service_in, texts_value, to_slots}

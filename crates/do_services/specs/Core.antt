@@ -7,10 +7,9 @@ use Rattle.do_base.specs.declared.values.value.Value.{Value, List}
 use Rattle.do_base.specs.declared.values.value.Value.TheVariants.{Num, Text}
 use Rattle.do_grammar.specs.Names.{is_name}
 use Rattle.do_grammar.specs.Words.{◌>>?◌}
-use Rattle.do_acts.specs.Ports.{port_in}
-use Rattle.do_acts.specs.Rows.{rows_in, listed}
-use Rattle.do_pboard.specs.Calls.{types_in}
-use Rattle.do_pboard.specs.Core.{are_types}
+use Rattle.do_native_acts.specs.Ports.{port_in}
+use Rattle.do_native_acts.specs.Rows.{rows_in, listed}
+use Rattle.do_native_acts.specs.Types.{are_types, types_in}
 use Rattle.do_table.specs.Entries.{value_of, removed, is_table}
 use Rattle.do_services.specs.declared.service.Service.{Service}
 

@@ -1,6 +1,6 @@
 -- What the calls made so far leave.
 use Rattle.std.specs.Prelude.{List, []}
-use Rattle.do_acts.specs.History.{after_calls}
+use Rattle.do_native_acts.specs.History.{after_calls}
 use Rattle.do_services.specs.Calls.{does}
 use Rattle.do_services.specs.Core.{Entry}
 use Rattle.do_services.specs.declared.calls.Call.{Call}

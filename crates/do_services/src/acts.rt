@@ -1,5 +1,5 @@
 ghost use Rattle.std.specs.Prelude.{◌≡◌, IfOk};
-ghost use Rattle.do_acts.specs.Places.{does_call};
+ghost use Rattle.do_native_acts.specs.Places.{does_call};
 ghost use Rattle.do_behave.specs.Changes.{Means};
 ghost use Rattle.do_behave.specs.Steps.{or_fault};
 ghost use Rattle.do_services.specs.Acts.{answers, method_act};
@@ -9,10 +9,10 @@ ghost use Rattle.do_services.specs.Core.{from_slots, to_slots};
 use crate::calls::call_in;
 use crate::performing::perform_act;
 use crate::services::Services;
-use do_acts::{CoreFault, answer, answered, changes, selector_in};
 use do_base::{Exc, Text, Values};
 use do_behave::{Act, Behaviour, Change, Invocation};
 use do_class::ClassTable;
+use do_native_acts::{CoreFault, answer, answered, changes, selector_in};
 use std::alloc::AllocError;
 
 /// The first act of a method that only answers: all that it does but returning.

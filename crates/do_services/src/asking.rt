@@ -9,9 +9,9 @@ ghost use Rattle.do_services.specs.Acts.{asks_provider, asks_root, asks_type, pr
 use crate::calls::local_service;
 use crate::locals::{ASIDE, BOARD, ERROR, KIND, PROVIDER, SERVICE};
 use crate::service::Service;
-use do_acts::show_list;
 use do_base::{Locals, Text, Value, Values, copy_value};
 use do_behave::{Act, Change, Invocation};
+use do_native_acts::show_list;
 use std::alloc::{AllocError, Global};
 
 /// Asks the pasteboard for one of the types that are sent.

@@ -3,7 +3,7 @@ ghost use Rattle.std.specs.Prelude.{◌≡◌, ◌∷◌, List, IfOk, IfErr, OnO
 ghost use Rattle.std.specs.Option.{option_copied};
 ghost use Rattle.do_grammar.specs.Words.{◌>>?◌};
 ghost use Rattle.do_behave.specs.Steps.{local};
-ghost use Rattle.do_acts.specs.Faults.{FaultOf};
+ghost use Rattle.do_native_acts.specs.Faults.{FaultOf};
 ghost use Rattle.do_services.specs.Calls.{IsCall, call_in, does, row_or_nil};
 ghost use Rattle.do_services.specs.Core.{service_in};
 ghost use Rattle.do_services.specs.History.{after};
@@ -12,9 +12,9 @@ ghost use Rattle.do_services.specs.declared.calls.Call.TheVariants.{Add};
 
 use crate::service::Service;
 use crate::services::Services;
-use do_acts::{CoreFault, Row, as_number, local_text, show_list};
 use do_base::{Text, Value};
 use do_behave::Invocation;
+use do_native_acts::{CoreFault, Row, as_number, local_text, show_list};
 use std::alloc::AllocError;
 
 /// A call of a core.
@@ -93,7 +93,7 @@ fn row_or_nil(service: Option<&Service>) -> Result<Value, AllocError>
 impl Services {
     /// Does a call, and gives its answer as a value: 1 or 0 for yes or no, a list of items, or a
     /// service as a list, nil for none. On any error the services are unchanged.
-    #[tactic(auto, using(do_acts::specs::laws::HistoryLaws::after_call))]
+    #[tactic(auto, using(do_native_acts::specs::laws::HistoryLaws::after_call))]
     pub fn perform(&mut self, call: Call) -> Result<Value, CoreFault>
         requires { IsCall call }
         ensures done { IfOk result (λ answer. does self.old call ≡ Some (self.new, answer)) }

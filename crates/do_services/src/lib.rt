@@ -1,7 +1,7 @@
 //! A server of services: an item names what a provider does with a pasteboard. Its core, and the
 //! acts of its methods.
 //!
-//! It stands on the acts of do_acts and on the types of do_pboard. It keeps what Apple's and
+//! It stands on the acts of do_native_acts. It keeps what Apple's and
 //! GNUstep's documentation of `NSPerformService` and of services providers says: the pasteboard is
 //! asked for one of the types that are sent, the provider of the port performs the service, and an
 //! error that it sets or raises is handed back. What is promised is exact: each call, the service

@@ -6,8 +6,8 @@ ghost use Rattle.do_base.specs.declared.values.value.Value.TheVariants.{Num};
 ghost use Rattle.do_base.specs.declared.values.value.Value.TheVariants.{Text as TextValue};
 ghost use Rattle.do_behave.specs.Changes.{Means};
 ghost use Rattle.do_behave.specs.Steps.{or_fault};
-ghost use Rattle.do_acts.specs.Places.{at_place};
-ghost use Rattle.do_acts.specs.Steps.{set};
+ghost use Rattle.do_native_acts.specs.Places.{at_place};
+ghost use Rattle.do_native_acts.specs.Steps.{set};
 ghost use Rattle.do_services.specs.Acts.{has_type, keeps_on, perform_next, perform_places};
 ghost use Rattle.do_services.specs.Acts.{performs, was_performed, was_raised};
 
@@ -15,10 +15,9 @@ use crate::asking::{asks_provider, asks_root, asks_type};
 use crate::locals::{ANSWER, BOARD, CAUGHT, ERROR, ITEM, KIND, SERVICE};
 use crate::service::Service;
 use crate::services::Services;
-use do_acts::{Row, answer, as_number, local_text, step};
 use do_base::{Text, Value, Values};
 use do_behave::{Change, Handler, Invocation, LocalSet, LocalSets, Writes};
-use do_pboard::local_owner;
+use do_native_acts::{Row, answer, as_number, local_owner, local_text, step};
 use std::alloc::AllocError;
 
 /// Goes on at a place with these locals set, and the handler as it is.

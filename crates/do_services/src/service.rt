@@ -3,10 +3,9 @@ ghost use Rattle.std.specs.Prelude.{◌≡◌, ◌∷◌, [], IfOk};
 ghost use Rattle.std.specs.Option.{option_copied};
 ghost use Rattle.do_services.specs.Core.{is_message, is_service, message_in, service_of};
 
-use do_acts::{Row, port_in, show_list};
 use do_base::{Text, Texts, Value, Values, copy_value};
 use do_grammar::is_name;
-use do_pboard::{are_types, types_in};
+use do_native_acts::{Row, are_types, port_in, show_list, types_in};
 use std::alloc::AllocError;
 
 /// The most bytes of a message.
@@ -39,13 +38,13 @@ pub fn is_message(message: &Text) -> bool
 
 /// Whether this is a service: its message is a name of at most 40 bytes, its port is not 0, and
 /// both its lists are types of a pasteboard.
-pub fn is_service(service: &Service) -> Result<bool, AllocError>
-    ensures { IfOk result (λ is. is ≡ is_service service.now) }
+pub fn is_service(service: &Service) -> bool
+    ensures { result ≡ is_service service.now }
 {
-    if service.port == 0 || !is_message(&service.message) {
-        return Ok(false);
-    }
-    Ok(are_types(&service.send)? && are_types(&service.returned)?)
+    service.port != 0
+        && is_message(&service.message)
+        && are_types(&service.send)
+        && are_types(&service.returned)
 }
 
 /// The message that a value is.

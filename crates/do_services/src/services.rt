@@ -2,8 +2,8 @@ ghost use Rattle.std.specs.Prelude.{◌≡◌, [], List, IsTrue, IfOk, IfErr, If
 ghost use Rattle.std.specs.Prelude.{map, is_some};
 ghost use Rattle.std.specs.Map.{keys_of};
 ghost use Rattle.std.specs.Option.{option_copied};
-ghost use Rattle.do_acts.specs.Faults.{FaultOf};
-ghost use Rattle.do_acts.specs.Rows.{listed, read_all, rows_in};
+ghost use Rattle.do_native_acts.specs.Faults.{FaultOf};
+ghost use Rattle.do_native_acts.specs.Rows.{listed, read_all, rows_in};
 ghost use Rattle.do_grammar.specs.Words.{◌>>?◌};
 ghost use Rattle.do_table.specs.Entries.{once, value_of};
 ghost use Rattle.do_services.specs.Core.{from_slots, is_service, keyed, row, service_in, to_slots};
@@ -13,8 +13,8 @@ ghost use Rattle.do_services.specs.Meaning.{told};
 ghost use Rattle.do_services.specs.declared.calls.Call.{Call};
 
 use crate::service::Service;
-use do_acts::{CoreFault, Row};
 use do_base::{Text, Texts, Value, Values};
+use do_native_acts::{CoreFault, Row};
 use do_table::Table;
 use std::alloc::{AllocError, Global};
 use std::marker::Model;

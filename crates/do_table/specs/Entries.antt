@@ -3,7 +3,7 @@ use Rattle.std.specs.Prelude.{ℕ, Bool, true, not, ◌&&◌, is_some, List, [],
 use Rattle.std.specs.Prelude.{Some, None, if◌then◌else◌, nat_le, length}
 use Rattle.std.specs.List.{list_all}
 use Rattle.std.specs.Borrow.{Bor}
-use Rattle.std.specs.Map.{lookup, remove_entry}
+use Rattle.std.specs.Map.{lookup, remove_entry, set_value}
 use Rattle.std.specs.Str.{bytes_eq}
 
 -- the value of a name
@@ -14,15 +14,17 @@ value_of es name = lookup (bytes_eq name) es
 abbrev pub added : {V : Type 0} → List (List ℕ × V) → List ℕ → V → List (List ℕ × V)
 added es name value = if is_some (value_of es name) then es else es ++ (name, value) ∷ []
 
+-- the entries with one more, where there is room for it
+abbrev pub entered : {V : Type 0} → List (List ℕ × V) → List ℕ × V → Bool → List (List ℕ × V)
+entered es e room = if room then added es e.0 e.1 else es
+
 -- the entries without a name
 abbrev pub removed : {V : Type 0} → List (List ℕ × V) → List ℕ → List (List ℕ × V)
 removed es name = remove_entry (bytes_eq name) es
 
 -- the entries with another value under a name, if it is there
 abbrev pub replaced : {V : Type 0} → List (List ℕ × V) → List ℕ → V → List (List ℕ × V)
-replaced [] name value = []
-replaced (e ∷ es) name value =
-    if bytes_eq name e.0 then (e.0, value) ∷ es else e ∷ replaced es name value
+replaced es name value = set_value (bytes_eq name) es value
 
 -- no name is there twice
 abbrev pub are_distinct : {V : Type 0} → List (List ℕ × V) → Bool

@@ -13,8 +13,8 @@ use Rattle.do_class.specs.Class.{Class}
 use Rattle.do_class.specs.declared.ids.Slot.{Slot}
 use Rattle.do_class.specs.declared.method.Method.{Method}
 use Rattle.do_script.specs.Listing.{IsWithin, Listing}
-use Rattle.do_kinds.specs.declared.kind.Kind.{Kind}
-use Rattle.do_kinds.specs.declared.kind.Kind.TheVariants as kinds
+use Rattle.do_class_kinds.specs.declared.kind.Kind.{Kind}
+use Rattle.do_class_kinds.specs.declared.kind.Kind.TheVariants as kinds
 use Rattle.do_document.specs.Classes.{class_by, class_of, kind_of, methods_by, slots_by, slots_in}
 use Rattle.do_document.specs.Document.{tables_at, text_at}
 use Rattle.do_document.specs.Finding.{Finds}

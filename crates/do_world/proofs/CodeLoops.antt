@@ -9,7 +9,7 @@ use Rattle.std.proofs.lemmas.List.{map-append, map_more, take_all}
 use Rattle.toml.specs.Data.{Members}
 use Rattle.do_script.specs.Listing.{Listing}
 use Rattle.do_class.specs.Class.{Class}
-use Rattle.do_kinds.specs.declared.kind.Kind.{Kind}
+use Rattle.do_class_kinds.specs.declared.kind.Kind.{Kind}
 use Rattle.do_document.specs.Checks.{first_among, first_behind}
 use Rattle.do_document.specs.Classes.{kind_of}
 use Rattle.do_document.specs.Document.{tables_at}

@@ -8,9 +8,9 @@ use Rattle.do_class.specs.Class.{Class, IsClass}
 use Rattle.do_class.specs.Table.{IsTable}
 use Rattle.do_check.specs.Rules.{AreRules, IsRule}
 use Rattle.do_check.specs.declared.rules.Rule.{Rule}
-use Rattle.do_kinds.specs.Kinds.{AreKindsOf}
-use Rattle.do_kinds.specs.Methods.{AreTyped}
-use Rattle.do_kinds.specs.declared.kind.Kind.{Kind}
+use Rattle.do_class_kinds.specs.Kinds.{AreKindsOf}
+use Rattle.do_class_kinds.specs.Methods.{AreTyped}
+use Rattle.do_class_kinds.specs.declared.kind.Kind.{Kind}
 use Rattle.do_document.specs.Sound.{HasTypes}
 use Rattle.do_grammar.specs.Names.{is_selector}
 use Rattle.do_machine.specs.World.{IsSeat, IsWorld}

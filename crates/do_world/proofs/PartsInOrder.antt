@@ -11,8 +11,8 @@ use Rattle.do_class.specs.Table.{IsTable, names_of}
 use Rattle.do_document.specs.Checks.{first_among}
 use Rattle.do_document.specs.ClassFaults.{class_fault}
 use Rattle.do_check.specs.declared.rules.Rule.{Rule}
-use Rattle.do_kinds.specs.Kinds.{AreKindsOf}
-use Rattle.do_kinds.specs.declared.kind.Kind.{Kind}
+use Rattle.do_class_kinds.specs.Kinds.{AreKindsOf}
+use Rattle.do_class_kinds.specs.declared.kind.Kind.{Kind}
 use Rattle.do_document.specs.Classes.{class_of, class_rules, classes_in, kind_of}
 use Rattle.do_document.specs.Document.{tables_at}
 use Rattle.do_document.specs.Sound.{HasTypes}

@@ -5,8 +5,8 @@ use Rattle.do_sig.specs.declared.signature.Signature.{Signature}
 use Rattle.do_sig.specs.declared.value_type.Scalar.TheVariants.{LongLong}
 use Rattle.do_class.specs.Class.{Class}
 use Rattle.do_check.specs.declared.rules.Rule.{Rule}
-use Rattle.do_kinds.specs.declared.kind.Kind.{Kind}
-use Rattle.do_kinds.specs.declared.kind.Kind.TheVariants.{Script}
+use Rattle.do_class_kinds.specs.declared.kind.Kind.{Kind}
+use Rattle.do_class_kinds.specs.declared.kind.Kind.TheVariants.{Script}
 use Rattle.do_script.specs.Listing.{Listing}
 use Rattle.do_script.specs.declared.instruction.Instruction.TheVariants as does
 use Rattle.do_machine.specs.declared.state.Seat.{Seat}

@@ -14,8 +14,8 @@ use Rattle.do_script.specs.declared.fault.AsmFault.{AsmFault}
 use Rattle.do_document.specs.Checks.{first_among, first_of, is_text, is_text_with, list_fault}
 use Rattle.do_document.specs.Checks.{misfit, missing, required, unknown}
 use Rattle.do_document.specs.ClassFaults.{class_fault}
-use Rattle.do_kinds.specs.declared.kind.Kind.{Kind}
-use Rattle.do_kinds.specs.declared.kind.Kind.TheVariants.{Script}
+use Rattle.do_class_kinds.specs.declared.kind.Kind.{Kind}
+use Rattle.do_class_kinds.specs.declared.kind.Kind.TheVariants.{Script}
 use Rattle.do_document.specs.Classes.{classes_in, kind_of, slots_in}
 use Rattle.do_document.specs.Document.{tables_at}
 use Rattle.do_document.specs.Paths.{path}

@@ -4,7 +4,7 @@ use Rattle.std.specs.List.{All, IsDistinct}
 use Rattle.toml.specs.Data.{Members}
 use Rattle.do_behave.specs.Programs.{IsMadeFor}
 use Rattle.do_class.specs.Class.{Class}
-use Rattle.do_kinds.specs.Kinds.{AreKindsOf}
+use Rattle.do_class_kinds.specs.Kinds.{AreKindsOf}
 use Rattle.do_machine.specs.World.{IsSeat, IsWorld}
 use Rattle.do_machine.specs.declared.state.Seat.{Seat}
 use Rattle.do_world.specs.Faults.{is_free}

@@ -8,8 +8,8 @@ use Rattle.toml.specs.Data.{Data, Members, get_member, as_integer, as_str}
 use Rattle.do_class.specs.Class.{Class}
 use Rattle.do_class.specs.Table.{class_named, names_of}
 use Rattle.do_class.specs.declared.ids.Slot.{Slot}
-use Rattle.do_kinds.specs.declared.kind.Kind.{Kind}
-use Rattle.do_kinds.specs.declared.kind.Kind.TheVariants.{Script}
+use Rattle.do_class_kinds.specs.declared.kind.Kind.{Kind}
+use Rattle.do_class_kinds.specs.declared.kind.Kind.TheVariants.{Script}
 use Rattle.do_document.specs.Classes.{classes_in, kind_of, kinds_in, methods_by, rule_lists}
 use Rattle.do_document.specs.Classes.{slots_in}
 use Rattle.do_document.specs.Document.{tables_at, text_at}

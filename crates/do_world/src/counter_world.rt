@@ -16,7 +16,7 @@ use do_base::{NodeId, Text};
 use do_behave::{ClassCodes, Codes, Program};
 use do_check::Rules;
 use do_class::{ClassFault, ClassId, ClassTable, Method, Methods, Slot, Slots};
-use do_kinds::{Kind, Kinds, RuleTable};
+use do_class_kinds::{Kind, Kinds, RuleTable};
 use do_machine::{Seat, Seats};
 use do_script::{Code, Names};
 use do_sig::{Scalar, Signature};

@@ -1,6 +1,6 @@
 use do_behave::Program;
 use do_class::ClassTable;
-use do_kinds::{Kinds, RuleTable};
+use do_class_kinds::{Kinds, RuleTable};
 use do_machine::Seats;
 
 /// A world: its classes, what decides the acts of each, and its nodes in any order.
@@ -9,9 +9,14 @@ use do_machine::Seats;
 /// native classes are empty.
 #[derive(Debug, Drop)]
 pub struct World {
+    /// The classes with their slots and methods.
     pub table: ClassTable,
+    /// The kind of each class.
     pub kinds: Kinds,
+    /// The rules of each class; only checkers have some.
     pub rules: RuleTable,
+    /// The code of each method.
     pub program: Program,
+    /// The port of each node, and the class of its root.
     pub nodes: Seats,
 }

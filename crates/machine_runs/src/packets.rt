@@ -1,10 +1,10 @@
 //! Calls of a packet and its copy.
 
 use call_rows::{Part, count_value, no_call, number_or_nil};
-use do_acts::as_number;
 use do_base::{Text, Value, Values};
 use do_class::{self as class, ClassId, Copied, CopyList, Name, NameList, Packet, Parts};
 use do_grammar::is_text;
+use do_native_acts::as_number;
 use std::alloc::{AllocError, Global};
 use std::test::Fail;
 

@@ -2,11 +2,11 @@
 
 use crate::machines::machine_of;
 use call_rows::{Part, list_at, no_call, text_at};
-use do_acts::as_number;
 use do_base::{Event, NodeId, Value, Values};
 use do_behave::Program;
 use do_grammar::is_text;
 use do_local::Local;
+use do_native_acts::as_number;
 use std::test::Fail;
 
 /// A machine of the counter world.

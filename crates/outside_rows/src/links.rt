@@ -6,10 +6,10 @@ ghost use Rattle.do_link.specs.InMemory.{IsPiece};
 
 use crate::words::{calls_of, node_of, peers_of, port_value, push_word};
 use call_rows::{Part, list_at, no_call, number_at, text_at};
-use do_acts::as_number;
 use do_base::{CallList, Items, NodeId, Text, Value, Values};
 use do_grammar::is_text;
 use do_link::{Link, LinkEvent, LinkFail, MemLink, ScriptEvent, ScriptList, Sent};
+use do_native_acts::as_number;
 use std::alloc::{AllocError, Global};
 use std::test::Fail;
 

@@ -1,15 +1,15 @@
 //! Calls that change a pasteboard.
 ghost use Rattle.std.specs.Prelude.{IfOk, IsTrue};
-ghost use Rattle.do_pboard.specs.Core.{are_types};
+ghost use Rattle.do_native_acts.specs.Types.{are_types};
 
 use call_rows::{
     count_at, digits, list_at, no_call, number_at, object_at, object_or_nil, refused, text_at,
     texts_at, value_at,
 };
-use do_acts::as_number;
 use do_base::{Oid, Texts, Value, Values};
 use do_grammar::is_text;
-use do_pboard::{Board, Call, are_types, owner_in};
+use do_native_acts::{are_types, as_number, owner_in};
+use do_pboard::{Board, Call};
 use std::alloc::Global;
 use std::test::Fail;
 
@@ -18,7 +18,7 @@ fn types_at(args: &Values, at: usize) -> Result<Texts, Fail>
     ensures { IfOk result (λ types. IsTrue (are_types types)) }
 {
     let types = texts_at(args, at)?;
-    if are_types(&types)? {
+    if are_types(&types) {
         Ok(types)
     } else {
         Err(Fail::from("no types"))

@@ -2,10 +2,10 @@
 
 use crate::board_changes::change;
 use call_rows::{Part, count_value, object_or_nil, text_at, texts_at};
-use do_acts::{as_number, show_list};
 use do_base::{Text, Texts, Value, Values};
 use do_grammar::is_text;
-use do_pboard::{Board, BoardData, are_types};
+use do_native_acts::{are_types, as_number, show_list};
+use do_pboard::{Board, BoardData};
 use std::alloc::Global;
 use std::test::Fail;
 
@@ -54,7 +54,7 @@ impl BoardCalls {
             return available(&self.board, &texts_at(args, 0)?);
         }
         if is_text(word, b"are_types") {
-            return Ok(as_number(are_types(&texts_at(args, 0)?)?));
+            return Ok(as_number(are_types(&texts_at(args, 0)?)));
         }
         change(self.alloc, &mut self.board, word, args)
     }

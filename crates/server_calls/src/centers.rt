@@ -4,10 +4,10 @@ use crate::center_parts::{
     delivery_value, good_note, good_registration, label_at, note_of, numbered_note, registration_of,
 };
 use call_rows::{Part, count_at, count_value, list_at, no_call, number_at, object_at, refused};
-use do_acts::{CoreFault, as_number, show_list};
 use do_base::{Oid, Value, Values, copy_value};
 use do_center::{Center, Deliveries, Registration, is_note, is_registration};
 use do_grammar::is_text;
+use do_native_acts::{CoreFault, as_number, show_list};
 use std::alloc::{AllocError, Global};
 use std::test::Fail;
 

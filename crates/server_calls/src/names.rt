@@ -3,10 +3,10 @@
 use call_rows::{
     Part, count_at, digits, list_at, no_call, number_or_nil, port_at, refused, text_at,
 };
-use do_acts::{CoreFault, as_number};
 use do_base::{Text, Value, Values};
 use do_grammar::is_text;
 use do_names::{Call, Names};
+use do_native_acts::{CoreFault, as_number};
 use std::alloc::Global;
 use std::test::Fail;
 

@@ -5,9 +5,9 @@ ghost use Rattle.do_services.specs.Core.{is_service};
 use call_rows::{
     Part, copy_at, count_at, count_value, digits, list_at, no_call, refused, text_at, texts_at,
 };
-use do_acts::{Row, as_number, show_list};
 use do_base::{Text, Value, Values};
 use do_grammar::is_text;
+use do_native_acts::{Row, as_number, show_list};
 use do_services::{Call, Service, Services, is_message, is_service};
 use std::alloc::Global;
 use std::test::Fail;
@@ -37,7 +37,7 @@ fn good_service(parts: &Values) -> Result<Service, Fail>
     ensures { IfOk result (λ service. IsTrue (is_service service)) }
 {
     let service = service_of(parts)?;
-    if is_service(&service)? {
+    if is_service(&service) {
         Ok(service)
     } else {
         Err(Fail::from("no service"))
@@ -50,7 +50,7 @@ fn numbered_service(alloc: Global, parts: &Values, number: u16) -> Result<Servic
 {
     let mut service = service_of(parts)?;
     service.item = digits(alloc, u64::from(number))?;
-    if is_service(&service)? {
+    if is_service(&service) {
         Ok(service)
     } else {
         Err(Fail::from("no service"))
@@ -159,7 +159,7 @@ impl Part for ServiceCalls {
             return Ok(as_number(is_message(text_at(args, 0)?)));
         }
         if is_text(word, b"is_service") {
-            return Ok(as_number(is_service(&service_of(list_at(args, 0)?)?)?));
+            return Ok(as_number(is_service(&service_of(list_at(args, 0)?)?)));
         }
         if is_text(word, b"find") {
             return find(&self.services, text_at(args, 0)?);

@@ -6,13 +6,13 @@ use call_rows::{
     Part, copy_at, count_at, count_value, list_at, local_at, no_call, number_or_nil, text_at,
     value_at,
 };
-use do_acts::{
-    Row, answer, answered, as_number, changes, is_limited, local_number, local_text, port_in,
-    read_rows, selector_in, send, show_rows, step,
-};
 use do_base::{Oid, Text, Value, Values, copy_value};
 use do_behave::{Change, Handler, LocalSet, LocalSets, Write, Writes, make_change};
 use do_grammar::is_text;
+use do_native_acts::{
+    Row, answer, answered, as_number, changes, is_limited, local_number, local_text, port_in,
+    read_rows, selector_in, send, show_rows, step,
+};
 use std::alloc::{AllocError, Global};
 use std::test::Fail;
 

@@ -1,9 +1,9 @@
 //! Calls of a table by name.
 
 use call_rows::{Part, count_at, count_value, no_call, number_at, number_or_nil, text_at};
-use do_acts::{as_number, show_list};
 use do_base::{Text, Value, Values};
 use do_grammar::is_text;
+use do_native_acts::{as_number, show_list};
 use do_table::Table;
 use std::alloc::Global;
 use std::test::Fail;

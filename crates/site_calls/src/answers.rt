@@ -1,9 +1,9 @@
 //! Answers as values.
 
 use call_rows::count_value;
-use do_acts::as_number;
 use do_base::{Oid, Token, Value, Values};
 use do_class::ClassId;
+use do_native_acts::as_number;
 use std::alloc::{AllocError, Global};
 use std::test::Fail;
 

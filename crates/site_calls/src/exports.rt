@@ -5,10 +5,10 @@
 use crate::answers::{amount_or_nil, amount_value, triple_value};
 use crate::arguments::{amount_at, node_at};
 use call_rows::{Part, count_at, no_call, object_at, text_value};
-use do_acts::as_number;
 use do_base::{NodeId, Oid, Value, Values};
 use do_export::{Exports, OverRelease};
 use do_grammar::is_text;
+use do_native_acts::as_number;
 use std::alloc::Global;
 use std::test::Fail;
 

@@ -3,9 +3,9 @@ ghost use Rattle.std.specs.Prelude.{◌≡◌, length};
 
 use crate::arguments::amount_at;
 use call_rows::{Part, count_at, no_call, number_at, number_or_nil};
-use do_acts::as_number;
 use do_base::{Value, Values};
 use do_grammar::is_text;
+use do_native_acts::as_number;
 use do_pool::Cells;
 use std::alloc::{AllocError, Global};
 use std::test::Fail;

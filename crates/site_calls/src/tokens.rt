@@ -4,10 +4,10 @@
 use crate::answers::{done_or_nil, token_value};
 use crate::arguments::{class_at, node_at, token_at};
 use call_rows::{no_call, object_at, object_or_nil};
-use do_acts::as_number;
 use do_base::{Oid, Token, Value, Values};
 use do_grammar::is_text;
 use do_import::Imports;
+use do_native_acts::as_number;
 use part_samples::{ask, granted, lend as lend_object};
 use std::test::Fail;
 

@@ -4,7 +4,7 @@ use do_base::{Text, Value, Values};
 use do_behave::{Act, ClassCodes, Codes, Invocation, Program};
 use do_check::{Rule, Rules, Verdict};
 use do_class::ClassTable;
-use do_kinds::{Kind, Kinds, RuleTable};
+use do_class_kinds::{Kind, Kinds, RuleTable};
 use do_native::Native;
 use do_script::{Names, assemble};
 use server_samples::{

@@ -1,10 +1,10 @@
 //! Calls of the reader of a command's words, and of the texts of `--help` and `--version`.
 
 use call_rows::{Part, count_at, count_value, no_call, printed, text_at, text_value};
-use do_acts::as_number;
 use do_base::{Items, Text, Texts, Value, Values};
 use do_cli::{Command, WordFault, push_help, push_version, read_words};
 use do_grammar::is_text;
+use do_native_acts::as_number;
 use std::alloc::{AllocError, Global};
 use std::test::Fail;
 

@@ -1,11 +1,11 @@
 //! Calls of what reads names, quoted texts, lines and words.
 
 use call_rows::{Part, count_at, count_value, no_call, text_at, text_value};
-use do_acts::as_number;
 use do_base::{Text, Value, Values};
 use do_grammar::{
     colons_in, is_name, is_selector, is_text, line_of, part_of, push_quoted, quoted_of, word_of,
 };
+use do_native_acts::as_number;
 use std::alloc::{AllocError, Global};
 use std::test::Fail;
 

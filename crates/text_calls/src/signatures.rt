@@ -1,9 +1,9 @@
 //! Calls of type encodings and signatures.
 
 use call_rows::{Part, count_at, count_value, list_at, no_call, printed, text_at, value_at};
-use do_acts::as_number;
 use do_base::{Text, Value, Values};
 use do_grammar::is_text;
+use do_native_acts::as_number;
 use do_sig::{EncFault, Encoding, Scalar, Signature};
 use std::alloc::Global;
 use std::test::Fail;

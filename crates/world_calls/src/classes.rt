@@ -1,12 +1,12 @@
 //! What the classes of a world have.
 
 use call_rows::{count_at, count_value, no_call, number_or_nil, text_at, text_value, word_with};
-use do_acts::as_number;
 use do_base::{Value, Values};
 use do_check::{Verdict, verdict};
 use do_class::ClassId;
 use do_document::Classes;
 use do_grammar::is_text;
+use do_native_acts::as_number;
 use std::alloc::Global;
 use std::test::Fail;
 

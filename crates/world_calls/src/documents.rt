@@ -5,15 +5,15 @@ use crate::faults::{fault_value, outcome};
 use crate::places::{fault_at, key_of, path};
 use crate::texts::framed;
 use call_rows::{Part, count_at, count_value, text_at, text_value};
-use do_acts::as_number;
 use do_base::{Text, Value, Values};
 use do_class::ClassTable;
+use do_class_kinds::{Kinds, RuleTable};
 use do_document::{
     Classes, ItemKind, Place, WorldFault, check_list, classes_of, known_keys, required, tables_at,
     text_of, value_at,
 };
 use do_grammar::is_text;
-use do_kinds::{Kinds, RuleTable};
+use do_native_acts::as_number;
 use std::alloc::Global;
 use std::test::Fail;
 use toml::Table;

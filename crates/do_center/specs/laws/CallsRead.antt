@@ -12,7 +12,7 @@ use Rattle.do_base.specs.declared.values.value.Value.TheVariants.{Nil, Num, Text
 use Rattle.do_grammar.specs.Words.{◌>>?◌}
 use Rattle.do_behave.specs.Steps.{local}
 use Rattle.do_behave.specs.declared.invocation.Invocation.{Invocation}
-use Rattle.do_acts.specs.laws.KindLaws.{found_of, passed, some_same}
+use Rattle.do_native_acts.specs.laws.KindLaws.{found_of, passed, some_same}
 use Rattle.do_center.specs.Acts.{call_in, truth_in}
 use Rattle.do_center.specs.Calls.{IsCall}
 use Rattle.do_center.specs.Notes.{info_in, info_within, is_label, is_note, is_short, label_in}

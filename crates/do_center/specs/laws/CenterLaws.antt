@@ -20,13 +20,13 @@ use Rattle.do_behave.specs.declared.invocation.Invocation.{Invocation}
 use Rattle.do_behave.specs.declared.act.Act.{Act}
 use Rattle.do_behave.specs.declared.act.Act.TheVariants.{Send}
 use Rattle.do_behave.specs.laws.Sound.{IsKept, get_kept}
-use Rattle.do_acts.specs.Places.{returns}
-use Rattle.do_acts.specs.Steps.{steps}
-use Rattle.do_acts.specs.laws.FoundLaws.{of_found}
-use Rattle.do_acts.specs.laws.GoodActs.{IsGood, MayGood, choice_good, fits_kept, kept_good}
-use Rattle.do_acts.specs.laws.GoodActs.{returns_good, selector_good, then_good, type_good}
-use Rattle.do_acts.specs.laws.GoodSteps.{keeps_good, sets_good}
-use Rattle.do_acts.specs.laws.KindLaws.{found_of, items_read, passed}
+use Rattle.do_native_acts.specs.Places.{returns}
+use Rattle.do_native_acts.specs.Steps.{steps}
+use Rattle.do_native_acts.specs.laws.FoundLaws.{of_found}
+use Rattle.do_native_acts.specs.laws.GoodActs.{IsGood, MayGood, choice_good, fits_kept, kept_good}
+use Rattle.do_native_acts.specs.laws.GoodActs.{returns_good, selector_good, then_good, type_good}
+use Rattle.do_native_acts.specs.laws.GoodSteps.{keeps_good, sets_good}
+use Rattle.do_native_acts.specs.laws.KindLaws.{found_of, items_read, passed}
 use Rattle.do_center.specs.Acts.{act_of, call_in, center_act, delivering, delivers, delivery_at}
 use Rattle.do_center.specs.Acts.{few}
 use Rattle.do_center.specs.Acts.{first, found, keeps, kept, kept_in, later, method_act, method_of}

@@ -8,8 +8,8 @@ use Rattle.do_base.specs.values.Equal.{value_eq, value_eq-Decides}
 use Rattle.do_base.specs.values.Kinds.{object}
 use Rattle.do_base.specs.declared.values.value.Value.{Value}
 use Rattle.do_grammar.specs.Words.{◌>>?◌}
-use Rattle.do_acts.specs.Rows.{rows_in}
-use Rattle.do_acts.specs.laws.KindLaws.{found_of, passed}
+use Rattle.do_native_acts.specs.Rows.{rows_in}
+use Rattle.do_native_acts.specs.laws.KindLaws.{found_of, passed}
 use Rattle.do_center.specs.Registrations.{registration_in}
 use Rattle.do_center.specs.Seats.{Core, is_core}
 use Rattle.do_center.specs.Slots.{from_slots, of_core, seated, to_slots, waiting_in}

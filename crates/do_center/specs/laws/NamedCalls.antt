@@ -6,19 +6,20 @@ use Rattle.std.specs.List.{All, flat_map}
 use Rattle.std.specs.Option.{IfSome}
 use Rattle.std.proofs.lemmas.List.Elements.{All-nil, All-cons, All-head, All-tail, All-append}
 use Rattle.std.proofs.lemmas.List.Elements.{All-filter, All-push}
+use Rattle.std.proofs.lemmas.Map.Views.{All-remove_key}
 use Rattle.do_base.specs.names.Names.{ObjectName}
 use Rattle.do_base.specs.values.Kinds.{object}
 use Rattle.do_base.specs.declared.values.value.Value.{Value}
 use Rattle.do_grammar.specs.Words.{◌>>?◌}
 use Rattle.do_behave.specs.Steps.{local}
 use Rattle.do_behave.specs.declared.invocation.Invocation.{Invocation}
-use Rattle.do_acts.specs.laws.FoundLaws.{if_chosen, if_found, if_mapped, if_room, of_chosen}
-use Rattle.do_acts.specs.laws.KindLaws.{object_read}
-use Rattle.do_acts.specs.laws.NamedValues.{Named, NamedObject, local_found, local_object}
+use Rattle.do_native_acts.specs.laws.FoundLaws.{if_chosen, if_found, if_mapped, if_room, of_chosen}
+use Rattle.do_native_acts.specs.laws.KindLaws.{object_read}
+use Rattle.do_native_acts.specs.laws.NamedValues.{Named, NamedObject, local_found, local_object}
 use Rattle.do_center.specs.Acts.{call_in, truth_in}
 use Rattle.do_center.specs.Calls.{added, does, with_suspended}
 use Rattle.do_center.specs.Notes.{label_in, note_in}
-use Rattle.do_center.specs.Observers.{has_object, same_object, without_first}
+use Rattle.do_center.specs.Observers.{has_object, same_object}
 use Rattle.do_center.specs.Posting.{arrives, came, came_to_all, comes_to, due, held}
 use Rattle.do_center.specs.Posting.{posted_of, waits}
 use Rattle.do_center.specs.Queues.{coalesced, deliveries, delivered_at, delivery_at, enqueued}
@@ -224,16 +225,6 @@ module _ (inv : Invocation) (slots : Listed Value) where
       (flat_kept IsSeat IsSeat (seat_left out ps) (stays_named out ps) ss all)
       (moved_named ps (queue_of ss o) (queue_named ss o all))
 
-  -- observers without one
-  without_named : (os : Listed ObjectName) (o : ObjectName) → All IsShown os
-      → All IsShown (without_first (λ x. x) os o)
-  without_named [] o all = all
-  without_named (x ∷ os) o all =
-      let rest = All-tail IsShown x os all in
-      of_chosen (All IsShown) (same_object x o) os (x ∷ without_first (λ y. y) os o) rest
-      (All-cons IsShown x (without_first (λ y. y) os o) (All-head IsShown x os all)
-      (without_named os o rest))
-
   -- the object or the information of a call may be named
   abbrev pub NamedCall : Call → Type 0
   NamedCall (Add r) = IsShown r.observer
@@ -306,7 +297,7 @@ module _ (inv : Invocation) (slots : Listed Value) where
   done_named c (Suspend o false) named given = (
     record {
       seats = with_named c.0 o [] named.seats (All-nil IsEntry);
-      suspended = without_named c.1 o named.suspended;
+      suspended = All-remove_key (same_object o) IsShown c.1 named.suspended;
     },
     deliveries_named c.0 (queue_of c.0 o) named.seats (queue_named c.0 o named.seats),
   )

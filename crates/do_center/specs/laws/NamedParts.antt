@@ -7,12 +7,14 @@ use Rattle.std.proofs.lemmas.List.Elements.{All-map, All-weaker}
 use Rattle.do_base.specs.declared.values.value.Value.{Value}
 use Rattle.do_base.specs.declared.values.value.Value.TheVariants.{Num, Text, Obj}
 use Rattle.do_behave.specs.declared.invocation.Invocation.{Invocation}
-use Rattle.do_acts.specs.Rows.{listed}
-use Rattle.do_acts.specs.laws.FoundLaws.{of_chosen}
-use Rattle.do_acts.specs.laws.GoodSteps.{SetsNamed}
-use Rattle.do_acts.specs.laws.NamedValues.{EachNamed, Named, NamedObject, core_read, list_named}
-use Rattle.do_acts.specs.laws.NamedValues.{list_of_parts, nil_named, number_named, parts_of_list}
-use Rattle.do_acts.specs.laws.NamedValues.{rows_to, slot_from, slot_to, text_named}
+use Rattle.do_native_acts.specs.Rows.{listed}
+use Rattle.do_native_acts.specs.laws.FoundLaws.{of_chosen}
+use Rattle.do_native_acts.specs.laws.GoodSteps.{SetsNamed}
+use Rattle.do_native_acts.specs.laws.NamedValues.{EachNamed, Named, NamedObject, core_read}
+use Rattle.do_native_acts.specs.laws.NamedValues.{list_named}
+use Rattle.do_native_acts.specs.laws.NamedValues.{list_of_parts, nil_named, number_named}
+use Rattle.do_native_acts.specs.laws.NamedValues.{parts_of_list}
+use Rattle.do_native_acts.specs.laws.NamedValues.{rows_to, slot_from, slot_to, text_named}
 use Rattle.do_center.specs.Acts.{kept}
 use Rattle.do_center.specs.Notes.{delivery_value, label_value}
 use Rattle.do_center.specs.Registrations.{number_of, registration_value}

@@ -19,9 +19,9 @@ use Rattle.do_behave.specs.Steps.{local, local_values}
 use Rattle.do_behave.specs.declared.invocation.Invocation.{Invocation}
 use Rattle.do_behave.specs.declared.act.Act.TheVariants.{Send}
 use Rattle.do_behave.specs.laws.Sound.{get_kept}
-use Rattle.do_acts.specs.laws.GoodActs.{IsGood, MayGood, kept_good, then_good, choice_good}
-use Rattle.do_acts.specs.laws.GoodActs.{places_good, returns_good, selector_good}
-use Rattle.do_acts.specs.laws.KindLaws.{some_same}
+use Rattle.do_native_acts.specs.laws.GoodActs.{IsGood, MayGood, kept_good, then_good, choice_good}
+use Rattle.do_native_acts.specs.laws.GoodActs.{places_good, returns_good, selector_good}
+use Rattle.do_native_acts.specs.laws.KindLaws.{some_same}
 use Rattle.do_check.specs.Acts.{target_in, firsts, passes_on, forward_places, forwards, guards}
 use Rattle.do_check.specs.Acts.{follows, checks, check_act}
 use Rattle.do_check.specs.Rules.{IsVerdict, AreRules, verdict_of}

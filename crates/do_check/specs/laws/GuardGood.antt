@@ -17,12 +17,12 @@ use Rattle.do_behave.specs.declared.invocation.Invocation.{Invocation}
 use Rattle.do_behave.specs.declared.act.Act.TheVariants.{Return, Raise}
 use Rattle.do_behave.specs.declared.act.Write.{Write}
 use Rattle.do_behave.specs.declared.change.LocalSet.{LocalSet}
-use Rattle.do_acts.specs.Steps.{steps}
-use Rattle.do_acts.specs.laws.GoodActs.{IsGood, MayGood, kept_good, then_good, choice_good}
-use Rattle.do_acts.specs.laws.GoodActs.{places_good}
-use Rattle.do_acts.specs.laws.GoodSteps.{steps_good}
-use Rattle.do_acts.specs.laws.KindLaws.{object_read}
-use Rattle.do_acts.specs.laws.NamedValues.{Named, local_named}
+use Rattle.do_native_acts.specs.Steps.{steps}
+use Rattle.do_native_acts.specs.laws.GoodActs.{IsGood, MayGood, kept_good, then_good, choice_good}
+use Rattle.do_native_acts.specs.laws.GoodActs.{places_good}
+use Rattle.do_native_acts.specs.laws.GoodSteps.{steps_good}
+use Rattle.do_native_acts.specs.laws.KindLaws.{object_read}
+use Rattle.do_native_acts.specs.laws.NamedValues.{Named, local_named}
 use Rattle.do_check.specs.Acts.{target_in, sets_target, keeps_target, guard_places, guards}
 
 module _ (made : Type 0) (table : Listed Class) (inv : Invocation) (slots : Listed Value) where

@@ -8,7 +8,7 @@ use Rattle.std.specs.Str.{bytes_eq}
 use Rattle.std.proofs.lemmas.List.Elements.{All-head, All-tail}
 use Rattle.std.proofs.lemmas.Slice.Eq.{bytes_eq-Decides}
 use Rattle.do_grammar.specs.Names.{is_selector}
-use Rattle.do_acts.specs.laws.KindLaws.{some_same}
+use Rattle.do_native_acts.specs.laws.KindLaws.{some_same}
 use Rattle.do_check.specs.Rules.{IsRule, IsVerdict, AreRules, verdict_of}
 use Rattle.do_check.specs.declared.rules.Rule.{Rule}
 use Rattle.do_check.specs.declared.rules.Verdict.{Verdict}

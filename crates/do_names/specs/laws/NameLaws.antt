@@ -8,11 +8,11 @@ use Rattle.do_behave.specs.Answers.{AnswersWell, NamesShown}
 use Rattle.do_behave.specs.Numbers.{truth}
 use Rattle.do_behave.specs.Ready.{IsReady}
 use Rattle.do_behave.specs.declared.invocation.Invocation.{Invocation}
-use Rattle.do_acts.specs.Places.{in_two}
-use Rattle.do_acts.specs.laws.GoodActs.{IsGood, selector_good}
-use Rattle.do_acts.specs.laws.GoodSteps.{answers_good}
-use Rattle.do_acts.specs.laws.NamedValues.{EachNamed, Named, list_of_parts, number_named}
-use Rattle.do_acts.specs.laws.NamedValues.{rows_named, text_named}
+use Rattle.do_native_acts.specs.Places.{in_two}
+use Rattle.do_native_acts.specs.laws.GoodActs.{IsGood, selector_good}
+use Rattle.do_native_acts.specs.laws.GoodSteps.{answers_good}
+use Rattle.do_native_acts.specs.laws.NamedValues.{EachNamed, Named, list_of_parts, number_named}
+use Rattle.do_native_acts.specs.laws.NamedValues.{rows_named, text_named}
 use Rattle.do_table.specs.Entries.{value_of}
 use Rattle.do_names.specs.Acts.{first, names_act}
 use Rattle.do_names.specs.Calls.{as_number, call_in, does, port_or_none}

@@ -26,24 +26,27 @@ use Rattle.do_behave.specs.declared.act.Act.TheVariants.{New, Raise}
 use Rattle.do_base.specs.declared.events.exception.Exc.TheVariants.{Range}
 use Rattle.do_behave.specs.declared.change.LocalSet.{LocalSet}
 use Rattle.do_behave.specs.laws.Sound.{get_kept}
-use Rattle.do_acts.specs.Limited.{is_limited}
-use Rattle.do_acts.specs.Places.{at_place, sends}
-use Rattle.do_acts.specs.Steps.{caught_to, set, steps}
-use Rattle.do_acts.specs.laws.FoundLaws.{of_chosen}
-use Rattle.do_acts.specs.laws.GoodActs.{IsGood, MayGood, choice_good, fits_good, fits_kept}
-use Rattle.do_acts.specs.laws.GoodActs.{places_good, range_good, returns_good, selector_good}
-use Rattle.do_acts.specs.laws.GoodActs.{sends_good, then_good}
-use Rattle.do_acts.specs.laws.GoodSteps.{SetsNamed, answers_good, keeps_good, sets_good}
-use Rattle.do_acts.specs.laws.NamedValues.{EachNamed, Named, NamedObject, local_object, nil_named}
-use Rattle.do_acts.specs.laws.NamedValues.{number_named, text_named}
+use Rattle.do_native_acts.specs.Limited.{is_limited}
+use Rattle.do_native_acts.specs.Places.{at_place, sends}
+use Rattle.do_native_acts.specs.Steps.{caught_to, set, steps}
+use Rattle.do_native_acts.specs.laws.FoundLaws.{of_chosen}
+use Rattle.do_native_acts.specs.laws.GoodActs.{IsGood, MayGood, choice_good, fits_good, fits_kept}
+use Rattle.do_native_acts.specs.laws.GoodActs.{places_good, range_good, returns_good, selector_good}
+use Rattle.do_native_acts.specs.laws.GoodActs.{sends_good, then_good}
+use Rattle.do_native_acts.specs.laws.GoodSteps.{SetsNamed, answers_good, keeps_good, sets_good}
+use Rattle.do_native_acts.specs.laws.NamedValues.{EachNamed, Named, NamedObject, local_object}
+use Rattle.do_native_acts.specs.laws.NamedValues.{nil_named}
+use Rattle.do_native_acts.specs.laws.NamedValues.{number_named, text_named}
+use Rattle.do_native_acts.specs.Types.{types_in}
+use Rattle.do_native_acts.specs.Owners.{owner_in}
 use Rattle.do_table.specs.Entries.{value_of}
 use Rattle.do_pboard.specs.Acts.{answers, asks, changed_owner, data_places, declare_next}
 use Rattle.do_pboard.specs.Acts.{declare_places, declares, found_now, look_next, look_sets}
 use Rattle.do_pboard.specs.Acts.{looks, looks_again, makes_next, method_act, name_next, name_places}
 use Rattle.do_pboard.specs.Acts.{names_keep, names_look, pasteboard_act, provide, to_tell}
-use Rattle.do_pboard.specs.Calls.{call_in, does, types_in}
+use Rattle.do_pboard.specs.Calls.{call_in, does}
 use Rattle.do_pboard.specs.Changes.{data_for, keeps}
-use Rattle.do_pboard.specs.Core.{Pasteboard, boards_slot, from_slots, owner_in, to_slots}
+use Rattle.do_pboard.specs.Core.{Pasteboard, boards_slot, from_slots, to_slots}
 use Rattle.do_pboard.specs.declared.board.BoardData.{BoardData}
 use Rattle.do_pboard.specs.declared.board.BoardData.TheVariants.{Here, Ask, Absent}
 use Rattle.do_pboard.specs.declared.calls.Call.TheVariants.{Declare}

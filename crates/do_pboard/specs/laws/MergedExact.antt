@@ -5,7 +5,7 @@ use Rattle.std.specs.Prelude.{if◌then◌else◌, cond}
 use Rattle.std.specs.Map.{keys_of}
 use Rattle.std.specs.Str.{bytes_eq}
 use Rattle.std.proofs.lemmas.Slice.Eq.{bytes_eq-Decides}
-use Rattle.do_acts.specs.laws.KindLaws.{some_same, mapped_of}
+use Rattle.do_native_acts.specs.laws.KindLaws.{some_same, mapped_of}
 use Rattle.do_table.specs.Entries.{value_of, are_distinct}
 use Rattle.do_table.specs.laws.TableLaws.{first_alone, same_name}
 use Rattle.do_pboard.specs.Core.{Declared, Content}

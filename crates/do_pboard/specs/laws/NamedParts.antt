@@ -17,22 +17,26 @@ use Rattle.do_grammar.specs.Words.{◌>>?◌}
 use Rattle.do_behave.specs.Numbers.{truth}
 use Rattle.do_behave.specs.Steps.{local}
 use Rattle.do_behave.specs.declared.invocation.Invocation.{Invocation}
-use Rattle.do_acts.specs.Rows.{list_in}
-use Rattle.do_acts.specs.laws.FoundLaws.{if_chosen, if_found, if_mapped, if_room, of_chosen}
-use Rattle.do_acts.specs.laws.KindLaws.{found_of}
-use Rattle.do_acts.specs.laws.NamedValues.{EachNamed, Named, NamedObject, core_read, each_named}
-use Rattle.do_acts.specs.laws.NamedValues.{list_named, list_of_parts, local_found, nil_named}
-use Rattle.do_acts.specs.laws.NamedValues.{number_named, parts_of_list, rows_named, slot_from}
-use Rattle.do_acts.specs.laws.NamedValues.{slot_to, text_named}
+use Rattle.do_native_acts.specs.Rows.{list_in}
+use Rattle.do_native_acts.specs.laws.FoundLaws.{if_chosen, if_found, if_mapped, if_room, of_chosen}
+use Rattle.do_native_acts.specs.laws.KindLaws.{found_of}
+use Rattle.do_native_acts.specs.laws.NamedValues.{EachNamed, Named, NamedObject, core_read}
+use Rattle.do_native_acts.specs.laws.NamedValues.{each_named}
+use Rattle.do_native_acts.specs.laws.NamedValues.{list_named, list_of_parts, local_found, nil_named}
+use Rattle.do_native_acts.specs.laws.NamedValues.{number_named, parts_of_list, rows_named}
+use Rattle.do_native_acts.specs.laws.NamedValues.{slot_from}
+use Rattle.do_native_acts.specs.laws.NamedValues.{slot_to, text_named}
+use Rattle.do_native_acts.specs.Types.{types_in}
+use Rattle.do_native_acts.specs.Owners.{owner_in}
 use Rattle.do_table.specs.Entries.{value_of, replaced}
 use Rattle.do_pboard.specs.Acts.{found_now, if_here, to_tell}
 use Rattle.do_pboard.specs.Calls.{adds_types, as_number, as_object, asks_available, call_in, does}
-use Rattle.do_pboard.specs.Calls.{sets_data, text_or_nil, types_in, with_count}
+use Rattle.do_pboard.specs.Calls.{sets_data, text_or_nil, with_count}
 use Rattle.do_pboard.specs.Changes.{available, can_grow, data_for, declared, extended, few_types}
 use Rattle.do_pboard.specs.Changes.{found, held, is_owned, keep_at, keeps, same_owner, supplied}
 use Rattle.do_pboard.specs.Changes.{takes, with_all, with_types}
 use Rattle.do_pboard.specs.Core.{Pasteboard, Content, Declared, NamedBoard, board_row, content_row}
-use Rattle.do_pboard.specs.Core.{contents, count_value, from_slots, owner_in, owner_value, to_slots}
+use Rattle.do_pboard.specs.Core.{contents, count_value, from_slots, owner_value, to_slots}
 use Rattle.do_pboard.specs.declared.board.BoardData.{BoardData}
 use Rattle.do_pboard.specs.declared.board.BoardData.TheVariants.{Here, Ask, Absent}
 use Rattle.do_pboard.specs.declared.calls.Call.{Call}

@@ -12,13 +12,14 @@ use Rattle.do_base.specs.values.Induction.{value_induction}
 use Rattle.do_base.specs.values.Kinds.{text, object}
 use Rattle.do_base.specs.declared.values.value.Value.{Value, List, the_lemmas}
 use Rattle.do_base.specs.declared.values.value.Value.TheVariants.{Nil, Num, Text, Obj}
-use Rattle.do_acts.specs.laws.KindLaws.{some_same, text_of_Text, object_of_Obj}
-use Rattle.do_acts.specs.laws.KindLaws.{text_read, object_read}
-use Rattle.do_acts.specs.laws.RowLaws.{pair_shown, pair_back}
+use Rattle.do_native_acts.specs.laws.KindLaws.{some_same, text_of_Text, object_of_Obj}
+use Rattle.do_native_acts.specs.laws.KindLaws.{text_read, object_read}
+use Rattle.do_native_acts.specs.laws.RowLaws.{pair_shown, pair_back}
+use Rattle.do_native_acts.specs.Owners.{owner_in}
 use Rattle.do_pboard.specs.Core.{Content, NamedBoard}
 use Rattle.do_pboard.specs.Core.{board_in, board_row, content_in}
 use Rattle.do_pboard.specs.Core.{content_row, count_in, count_value}
-use Rattle.do_pboard.specs.Core.{owner_in, owner_value}
+use Rattle.do_pboard.specs.Core.{owner_value}
 
 -- nil is the change count 0
 count_of_Nil : count_in Nil ≡ Some 0
@@ -116,12 +117,6 @@ owner_back =
     (λ s o e. cc (e, owner_of_Text s))
     (λ p o e. ap owner_value (sym (some_same (sym (owner_of_Obj p) ∙ e))))
     (λ vs _ o e. cc (e, owner_of_List vs))
-
--- each text is read as it was shown
-pub texts_read : (ts : Listed (Listed ℕ)) → All (λ t. text (Text t) ≡ Some t) ts
-texts_read [] = All-nil (λ (t : Listed ℕ). text (Text t) ≡ Some t)
-texts_read (t ∷ ts) =
-    All-cons (λ (s : Listed ℕ). text (Text s) ≡ Some s) t ts (text_of_Text t) (texts_read ts)
 
 -- each type with its data is read as it was shown
 pub contents_read : (ds : Listed Content) → All (λ d. content_in (content_row d) ≡ Some d) ds

@@ -1,34 +1,34 @@
 -- The slots of a pasteboard are read as it, and only slots of a pasteboard are read.
-use Rattle.std.proofs.Common.{◌≡◌, ℕ, Bool, true, false, ◌&&◌, nat_lt}
+use Rattle.std.proofs.Common.{◌≡◌, ℕ, Bool, true, ◌&&◌, nat_lt}
 use Rattle.std.proofs.Common.{List as Listed, [], ◌∷◌, Option, Some, None, map, refl, sym, ◌∙◌, ap}
-use Rattle.std.proofs.Common.{subst, IsTrue}
+use Rattle.std.proofs.Common.{subst, IsTrue, not}
 use Rattle.std.specs.Prelude.{if◌then◌else◌, length, nat_le, ◌^◌}
-use Rattle.std.specs.List.{list_all}
+use Rattle.std.specs.List.{list_all, list_any}
 use Rattle.std.specs.Map.{keys_of}
 use Rattle.std.specs.Option.{IfSome}
+use Rattle.std.specs.Str.{bytes_eq}
 use Rattle.std.proofs.lemmas.Bool.{and_parts, and_from}
+use Rattle.std.proofs.lemmas.Map.Made.{is_some-lookup}
 use Rattle.do_base.specs.values.Kinds.{text}
-use Rattle.do_base.specs.declared.values.value.Value.{Value, List}
+use Rattle.do_base.specs.declared.values.value.Value.{Value}
 use Rattle.do_base.specs.declared.values.value.Value.TheVariants.{Text}
-use Rattle.do_grammar.specs.Words.{◌>>?◌}
-use Rattle.do_acts.specs.Rows.{rows_in, list_in, listed}
-use Rattle.do_acts.specs.laws.KindLaws.{passed, then_is}
-use Rattle.do_acts.specs.laws.KindLaws.{some_same, found_of}
-use Rattle.do_acts.specs.laws.KindLaws.{text_read}
-use Rattle.do_acts.specs.laws.RowLaws.{read_shown, shown_read, list_shown, list_back}
+use Rattle.do_native_acts.specs.Rows.{rows_in, listed}
+use Rattle.do_native_acts.specs.laws.KindLaws.{found_of, passed, text_read, then_is}
+use Rattle.do_native_acts.specs.laws.RowLaws.{read_shown, shown_read}
+use Rattle.do_native_acts.specs.Types as texts
+use Rattle.do_native_acts.specs.Types.{are_types, is_type}
+use Rattle.do_native_acts.specs.Owners.{owner_in}
+use Rattle.do_native_acts.specs.laws.TypeLaws.{texts_read}
 use Rattle.do_table.specs.Entries.{are_distinct}
-use Rattle.do_pboard.specs.Calls.{types_in}
-use Rattle.do_pboard.specs.Core.{Pasteboard, are_types, Declared, NamedBoard, are_boards}
+use Rattle.do_pboard.specs.Core.{Pasteboard, Declared, NamedBoard, are_boards}
 use Rattle.do_pboard.specs.Core.{are_declared, begins_empty, board_in, board_row, content_in}
 use Rattle.do_pboard.specs.Core.{content_row, contents, count_in, from_slots}
-use Rattle.do_pboard.specs.Core.{is_board, is_type, merged, of_parts, owner_in, to_slots}
+use Rattle.do_pboard.specs.Core.{is_board, merged, of_parts, to_slots}
 use Rattle.do_pboard.specs.Core.{boards_read, types_read}
 use Rattle.do_pboard.specs.laws.PartsExact.{count_shown, count_back, owner_shown}
-use Rattle.do_pboard.specs.laws.PartsExact.{owner_back, texts_read, contents_read}
-use Rattle.do_pboard.specs.laws.PartsExact.{contents_read, rows_read, content_back}
+use Rattle.do_pboard.specs.laws.PartsExact.{owner_back, contents_read, rows_read, content_back}
 use Rattle.do_pboard.specs.laws.PartsExact.{board_back}
 use Rattle.do_pboard.specs.laws.MergedExact.{merged_shown, merged_back}
-use Rattle.do_pboard.specs.laws.MergedExact.{merged_back}
 
 -- what can be a pasteboard, in parts
 pub record IsBoard (b : Pasteboard) : Type 0 where
@@ -55,12 +55,23 @@ is_board_of b is =
     (and_from (begins_empty b) (are_declared b.types && are_boards b.boards) is.begins
     (and_from (are_declared b.types) (are_boards b.boards) is.types is.boards))
 
--- the types of a pasteboard are distinct
-types_distinct : (ts : Listed Declared) → are_declared ts ≡ true → are_distinct ts ≡ true
-types_distinct ts is =
-    let rest = list_all (λ t. is_type t.0) ts && are_distinct ts in
-    let first = and_parts (nat_le (length ts) 64) rest is in
-    (and_parts (list_all (λ t. is_type t.0) ts) (are_distinct ts) first.1).1
+-- types are distinct as their names are
+pub distinct_names : (ts : Listed Declared) → are_distinct ts ≡ texts.are_distinct (keys_of ts)
+distinct_names [] = refl
+distinct_names (t ∷ ts) =
+    ap (λ b. not b && are_distinct ts) (is_some-lookup (bytes_eq t.0) ts)
+    ∙ ap (λ b. not (list_any (bytes_eq t.0) (keys_of ts)) && b) (distinct_names ts)
+
+-- types of a pasteboard are few, each is one, and none is there twice
+pub declared_parts : (ts : Listed Declared) → are_declared ts ≡ true
+    → (nat_le (length (keys_of ts)) 64 ≡ true) × (list_all is_type (keys_of ts) ≡ true)
+    × (are_distinct ts ≡ true)
+declared_parts ts is =
+    let ks = keys_of ts in
+    let rest = list_all is_type ks && texts.are_distinct ks in
+    let first = and_parts (nat_le (length ks) 64) rest is in
+    let second = and_parts (list_all is_type ks) (texts.are_distinct ks) first.1 in
+    (first.0, second.0, distinct_names ts ∙ second.1)
 
 -- declared types are read as they were shown
 declared_shown : (ts : Listed Declared) → are_declared ts ≡ true
@@ -68,7 +79,8 @@ declared_shown : (ts : Listed Declared) → are_declared ts ≡ true
 declared_shown ts is =
     then_is _ (read_shown text (λ (s : Listed ℕ). Text s) (keys_of ts) (texts_read (keys_of ts)))
     ∙ then_is _ (read_shown content_in content_row (contents ts) (contents_read (contents ts)))
-    ∙ then_is _ (merged_shown ts (types_distinct ts is)) ∙ ap (λ b. if b then Some ts else None) is
+    ∙ then_is _ (merged_shown ts (declared_parts ts is).2)
+    ∙ ap (λ b. if b then Some ts else None) is
 
 -- named pasteboards are read as they were shown
 named_shown : (bs : Listed NamedBoard) → are_boards bs ≡ true
@@ -94,8 +106,8 @@ declared_back types kept ts is =
     let ks = found_of (rows_in text types) _ ts is in
     let ds = found_of (rows_in content_in kept) _ ts ks.2 in
     let us = found_of (merged ks.0 ds.0) _ ts ds.2 in
-    let known = passed us.0 ts are_declared (are_declared us.0) refl us.2 in
-    let from = merged_back ks.0 ds.0 us.0 us.1 in (
+    let from = merged_back ks.0 ds.0 us.0 us.1 in
+    let known = passed us.0 ts are_declared (are_types ks.0) (ap are_types from.0) us.2 in (
       ap (λ xs. listed (map Text (keys_of xs))) (sym known.0)
           ∙ ap (λ xs. listed (map Text xs)) from.0
           ∙ shown_read text (λ (s : Listed ℕ). Text s) text_read types ks.0 ks.1,
@@ -171,21 +183,3 @@ pub exact_read : (slots : Listed Value) (o : Option Pasteboard) → o ≡ from_s
     → IfSome o (λ b. to_slots b ≡ slots)
 exact_read slots None is = tt
 exact_read slots (Some b) is = read_back slots b (sym is)
-
--- a list of types is read as it was shown
-pub types_shown : (types : Listed (Listed ℕ)) → are_types types ≡ true
-    → types_in (List (map (λ (s : Listed ℕ). Text s) types)) ≡ Some types
-types_shown types is =
-    then_is _ (list_shown text (λ (s : Listed ℕ). Text s) types (texts_read types))
-    ∙ ap (λ b. if b then Some types else None) is
-
--- and shown as it was read
-pub types_back : (v : Value) (types : Listed (Listed ℕ)) → types_in v ≡ Some types
-    → (List (map (λ (s : Listed ℕ). Text s) types) ≡ v) × (are_types types ≡ true)
-types_back v types is =
-    let found = found_of (list_in text v) _ types is in
-    let chosen = passed found.0 types are_types (are_types found.0) refl found.2 in (
-      ap (λ ts. List (map (λ (s : Listed ℕ). Text s) ts)) (sym chosen.0)
-          ∙ list_back text (λ (s : Listed ℕ). Text s) text_read v found.0 found.1,
-      chosen.1,
-    )

@@ -7,7 +7,7 @@ use Rattle.do_base.specs.values.Kinds.{text}
 use Rattle.do_grammar.specs.Words.{◌>>?◌}
 use Rattle.do_behave.specs.Steps.{local}
 use Rattle.do_behave.specs.declared.invocation.Invocation.{Invocation}
-use Rattle.do_acts.specs.laws.FoundLaws.{if_chosen, if_found}
+use Rattle.do_native_acts.specs.laws.FoundLaws.{if_chosen, if_found}
 use Rattle.do_services.specs.Calls.{call_in}
 use Rattle.do_services.specs.Core.{service_in}
 use Rattle.do_services.specs.declared.calls.Call.{Call}

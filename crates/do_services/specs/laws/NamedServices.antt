@@ -14,11 +14,13 @@ use Rattle.do_grammar.specs.Words.{◌>>?◌}
 use Rattle.do_behave.specs.Numbers.{truth}
 use Rattle.do_behave.specs.Steps.{local}
 use Rattle.do_behave.specs.declared.invocation.Invocation.{Invocation}
-use Rattle.do_acts.specs.laws.FoundLaws.{if_mapped, if_room, of_chosen}
-use Rattle.do_acts.specs.laws.KindLaws.{found_of}
-use Rattle.do_acts.specs.laws.NamedValues.{EachNamed, Named, core_read, each_named, list_named}
-use Rattle.do_acts.specs.laws.NamedValues.{local_found, nil_named, number_named, slot_from, slot_to}
-use Rattle.do_acts.specs.laws.NamedValues.{text_named}
+use Rattle.do_native_acts.specs.laws.FoundLaws.{if_mapped, if_room, of_chosen}
+use Rattle.do_native_acts.specs.laws.KindLaws.{found_of}
+use Rattle.do_native_acts.specs.laws.NamedValues.{EachNamed, Named, core_read, each_named}
+use Rattle.do_native_acts.specs.laws.NamedValues.{list_named}
+use Rattle.do_native_acts.specs.laws.NamedValues.{local_found, nil_named, number_named, slot_from}
+use Rattle.do_native_acts.specs.laws.NamedValues.{slot_to}
+use Rattle.do_native_acts.specs.laws.NamedValues.{text_named}
 use Rattle.do_table.specs.Entries.{value_of, removed}
 use Rattle.do_services.specs.Calls.{as_number, call_in, does, row_or_nil}
 use Rattle.do_services.specs.Core.{Entry, add_at, from_slots, keyed, row, service_in, texts_value}

@@ -22,14 +22,14 @@ use Rattle.do_behave.specs.declared.act.Act.{Act}
 use Rattle.do_behave.specs.declared.act.Act.TheVariants.{Root, Send}
 use Rattle.do_behave.specs.declared.change.LocalSet.{LocalSet}
 use Rattle.do_behave.specs.laws.Sound.{IsKept, get_kept}
-use Rattle.do_acts.specs.Places.{at_place}
-use Rattle.do_acts.specs.Steps.{caught_to, set}
-use Rattle.do_acts.specs.laws.GoodActs.{IsGood, MayGood, choice_good, kept_good, places_good}
-use Rattle.do_acts.specs.laws.GoodActs.{returns_good, selector_good, then_good}
-use Rattle.do_acts.specs.laws.GoodSteps.{SetsNamed, answers_good, sets_good}
-use Rattle.do_acts.specs.laws.KindLaws.{found_of}
-use Rattle.do_acts.specs.laws.NamedValues.{Named, nil_named, number_named, text_named}
-use Rattle.do_pboard.specs.Core.{owner_in}
+use Rattle.do_native_acts.specs.Places.{at_place}
+use Rattle.do_native_acts.specs.Steps.{caught_to, set}
+use Rattle.do_native_acts.specs.laws.GoodActs.{IsGood, MayGood, choice_good, kept_good, places_good}
+use Rattle.do_native_acts.specs.laws.GoodActs.{returns_good, selector_good, then_good}
+use Rattle.do_native_acts.specs.laws.GoodSteps.{SetsNamed, answers_good, sets_good}
+use Rattle.do_native_acts.specs.laws.KindLaws.{found_of}
+use Rattle.do_native_acts.specs.laws.NamedValues.{Named, nil_named, number_named, text_named}
+use Rattle.do_native_acts.specs.Owners.{owner_in}
 use Rattle.do_table.specs.Entries.{value_of}
 use Rattle.do_services.specs.Acts.{answers, asks_provider, asks_root, asks_type, has_type, keeps_on}
 use Rattle.do_services.specs.Acts.{kept_service, method_act, perform_next, perform_places, performs}

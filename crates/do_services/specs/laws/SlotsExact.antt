@@ -12,15 +12,15 @@ use Rattle.do_base.specs.values.Kinds.{text, items}
 use Rattle.do_base.specs.declared.values.value.Value.{Value, List}
 use Rattle.do_base.specs.declared.values.value.Value.TheVariants.{Num, Text}
 use Rattle.do_grammar.specs.Words.{◌>>?◌}
-use Rattle.do_acts.specs.Ports.{port_in}
-use Rattle.do_acts.specs.Rows.{rows_in, listed}
-use Rattle.do_acts.specs.laws.KindLaws.{some_same, found_of, text_of_Text, text_read, items_of_List}
-use Rattle.do_acts.specs.laws.KindLaws.{items_read, passed, then_is}
-use Rattle.do_acts.specs.laws.PortLaws.{port_of_Num, port_read}
-use Rattle.do_acts.specs.laws.RowLaws.{read_shown, rows_hold, shown_read}
-use Rattle.do_pboard.specs.Calls.{types_in}
-use Rattle.do_pboard.specs.Core.{are_types}
-use Rattle.do_pboard.specs.laws.SlotsExact.{types_back, types_shown}
+use Rattle.do_native_acts.specs.Ports.{port_in}
+use Rattle.do_native_acts.specs.Rows.{rows_in, listed}
+use Rattle.do_native_acts.specs.laws.KindLaws.{some_same, found_of, text_of_Text, text_read}
+use Rattle.do_native_acts.specs.laws.KindLaws.{items_of_List}
+use Rattle.do_native_acts.specs.laws.KindLaws.{items_read, passed, then_is}
+use Rattle.do_native_acts.specs.laws.PortLaws.{port_of_Num, port_read}
+use Rattle.do_native_acts.specs.laws.RowLaws.{read_shown, rows_hold, shown_read}
+use Rattle.do_native_acts.specs.Types.{are_types, types_in}
+use Rattle.do_native_acts.specs.laws.TypeLaws.{types_back, types_shown}
 use Rattle.do_table.specs.laws.TableLaws.{same_name, table_parts}
 use Rattle.do_services.specs.Core.{Entry, are_services, from_slots, is_entry, is_message}
 use Rattle.do_services.specs.Core.{is_service, keyed, message_in, of_core, row, service_in}

@@ -24,5 +24,7 @@ returns c =
     let slots = c.args.slots.now in
     let seats : are_seats ss ≡ true = grind (arith, common_steps) in
     let read : read_suspended c.args.suspended ≡ Some xs = grind (arith, common_steps) in
-    let shown : pointwise value_eq (to_slots (ss, xs)) slots ≡ false = grind (arith, common_steps) in
+    let shown : pointwise value_eq (to_slots (ss, xs)) slots ≡ false =
+    grind (arith, common_steps)
+    in
     sym (core_shown slots ss c.args.suspended xs false seats read shown)

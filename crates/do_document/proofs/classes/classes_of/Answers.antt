@@ -6,7 +6,7 @@ use Rattle.toml.specs.View.{table_view}
 use Rattle.toml.specs.declared.value.Value.{Value}
 use Rattle.do_check.specs.Rules.{AreRules}
 use Rattle.do_class.specs.Class.{Class}
-use Rattle.do_kinds.proofs.Growing.{surely_more}
+use Rattle.do_class_kinds.proofs.Growing.{surely_more}
 use Rattle.do_document.specs.ClassFaults.{class_checks}
 use Rattle.do_document.specs.Classes.{class_of, class_rules, kind_of}
 use Rattle.do_document.specs.Sound.{HasTypes, IsClassOf, IsKindOf}

@@ -8,7 +8,7 @@ use Rattle.do_sig.specs.MethodTypes.{IsMethodType}
 use Rattle.do_class.specs.Class.{AreMethods}
 use Rattle.do_class.specs.declared.method.Method.{Method}
 use Rattle.do_check.specs.Rules.{AreRules}
-use Rattle.do_kinds.specs.Methods.{AreTyped}
+use Rattle.do_class_kinds.specs.Methods.{AreTyped}
 use Rattle.do_document.specs.ClassFaults.{entry_checks}
 use Rattle.do_document.specs.Classes.{method_of, rule_of}
 use Rattle.do_document.specs.Lists.{place_of}

@@ -4,7 +4,7 @@ use Rattle.do_base.specs.declared.values.value.Value.{Value}
 use Rattle.do_base.specs.declared.values.value.Value.TheVariants.{Nil, Num, Text}
 use Rattle.do_behave.specs.Changes.{Means}
 use Rattle.do_behave.specs.declared.change.LocalSet.{LocalSet}
-use Rattle.do_acts.specs.Steps.{set}
+use Rattle.do_native_acts.specs.Steps.{set}
 use Rattle.do_services.specs.Acts.{keeps_on}
 use Rattle.do_services.proofs.performing.unknown_item.Goals as goal
 

@@ -1,6 +1,6 @@
 use Rattle.std.proofs.Common.{sym, ◌∙◌}
 use Rattle.std.proofs.lemmas.Result.{IfOk-weaker}
-use Rattle.do_acts.specs.Rows.{rows_in}
+use Rattle.do_native_acts.specs.Rows.{rows_in}
 use Rattle.do_services.specs.Core.{service_in}
 use Rattle.do_services.specs.laws.SlotsExact.{rows_good}
 use Rattle.do_services.proofs.CoreRead.{core_read}

@@ -3,7 +3,7 @@ use Rattle.std.proofs.lemmas.Result.{err_from_is_err_and}
 use Rattle.toml.specs.View.{table_view}
 use Rattle.do_behave.specs.Programs.{HasCodes}
 use Rattle.do_class.specs.Table.{names_of}
-use Rattle.do_kinds.specs.declared.kind.Kind.TheVariants.{Script}
+use Rattle.do_class_kinds.specs.declared.kind.Kind.TheVariants.{Script}
 use Rattle.do_document.specs.Classes.{kind_of}
 use Rattle.do_document.specs.Sound.{IsClassOf, IsKindOf}
 use Rattle.do_document.proofs.Finding.{turn_end}

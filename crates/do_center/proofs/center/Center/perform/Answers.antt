@@ -1,5 +1,5 @@
 use Rattle.std.proofs.Common.{[], Some, sym, ◌∙◌, ap}
-use Rattle.do_acts.specs.laws.HistoryLaws.{after_call}
+use Rattle.do_native_acts.specs.laws.HistoryLaws.{after_call}
 use Rattle.do_center.specs.Calls.{does}
 use Rattle.do_center.specs.Seats.{Core}
 use Rattle.do_center.proofs.center.Center.perform.Goals as goal

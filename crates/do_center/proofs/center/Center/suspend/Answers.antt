@@ -10,7 +10,7 @@ invariant_of-self c =
     let os = c.self-2.inside.suspended in
     let o = c.args.observer in
     let parts = core_parts ss os c.self-2.invariant in
-    core_from c.replace_queue.new.self c.remove.new.self
+    core_from c.replace_queue.new.seats c.remove.new.self
     (subst (λ xs. are_seats xs ≡ true)
     (sym (c.replace_queue.ensures.left ∙ ap (with_queue ss o) c.new-none.ensures))
     (cleared_kept ss o parts.0))

@@ -1,6 +1,0 @@
-use Rattle.std.proofs.Common.{◌≡◌, take}
-use Rattle.do_acts.specs.Places.{aside}
-use Rattle.do_acts.proofs.answers.aside.Given as goal
-
-abbrev pub invariant-loop : goal.invariant-loop
-invariant-loop l = l.from ≡ aside (take l.index l.items)

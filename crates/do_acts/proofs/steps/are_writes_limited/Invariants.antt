@@ -1,8 +1,0 @@
-use Rattle.std.proofs.Common.{◌≡◌, true, take}
-use Rattle.std.specs.List.{list_all}
-use Rattle.do_acts.specs.Limited.{is_limited}
-use Rattle.do_acts.proofs.steps.are_writes_limited.Given as goal
-
-abbrev pub invariant-loop-write : goal.invariant-loop-write
-invariant-loop-write l =
-    list_all (λ w. is_limited w.value) (take l.write-index l.write-items) ≡ true

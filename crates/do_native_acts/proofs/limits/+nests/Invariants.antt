@@ -1,0 +1,8 @@
+use Rattle.std.proofs.Common.{◌≡◌, true, take}
+use Rattle.std.specs.List.{list_all}
+use Rattle.do_behave.specs.Limits.{nests_within}
+use Rattle.do_native_acts.proofs.limits.+nests.Given as goal
+
+abbrev pub invariant-all_nest_within-loop-item : goal.invariant-all_nest_within-loop-item
+invariant-all_nest_within-loop-item l =
+    list_all (λ v. nests_within v l.depth) (take l.item-index l.item-items) ≡ true

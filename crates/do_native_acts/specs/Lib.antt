@@ -1,0 +1,10 @@
+pub mod Limited
+pub mod Rows
+pub mod Ports
+pub mod Types
+pub mod Owners
+pub mod Steps
+pub mod Places
+pub mod Faults
+pub mod History
+pub mod laws
