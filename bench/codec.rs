@@ -5,6 +5,9 @@
 use std::collections::{HashMap, VecDeque};
 use std::hint::black_box;
 
+mod processor_time;
+use processor_time::processor_time;
+
 const TOP: u64 = i64::MAX as u64;
 
 // ---- what is sent
@@ -855,24 +858,6 @@ fn drawn_frames(count: u32) -> u64 {
 }
 
 // ---- what frames cost
-
-#[repr(C)]
-struct Timespec {
-    seconds: i64,
-    nanoseconds: i64,
-}
-
-extern "C" {
-    fn clock_gettime(clock: i32, time: *mut Timespec) -> i32;
-}
-
-/// The processor time of this process so far, in nanoseconds.
-fn processor_time() -> i64 {
-    const PROCESS_CPU_TIME: i32 = 2;
-    let mut time = Timespec { seconds: 0, nanoseconds: 0 };
-    unsafe { clock_gettime(PROCESS_CPU_TIME, &mut time) };
-    time.seconds * 1_000_000_000 + time.nanoseconds
-}
 
 fn numbers(count: u64) -> Vec<Part> {
     (0..count).map(|k| Part::Num((k % 4_096) as i64)).collect()

@@ -3,6 +3,9 @@
 use std::hint::black_box;
 use std::rc::Rc;
 
+mod processor_time;
+use processor_time::processor_time;
+
 const MOST_ITEMS: usize = 1_024;
 const MOST_NESTING: u32 = 8;
 const MOST_WEIGHT: u64 = 2_097_152;
@@ -273,24 +276,6 @@ impl Program {
             }
         }
     }
-}
-
-#[repr(C)]
-struct Timespec {
-    seconds: i64,
-    nanoseconds: i64,
-}
-
-extern "C" {
-    fn clock_gettime(clock: i32, time: *mut Timespec) -> i32;
-}
-
-/// The processor time of this process so far, in nanoseconds.
-fn processor_time() -> i64 {
-    const PROCESS_CPU_TIME: i32 = 2;
-    let mut time = Timespec { seconds: 0, nanoseconds: 0 };
-    unsafe { clock_gettime(PROCESS_CPU_TIME, &mut time) };
-    time.seconds * 1_000_000_000 + time.nanoseconds
 }
 
 /// Does acts of a method, at most `acts` and only before the one that ends it, and says how many.

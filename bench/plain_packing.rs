@@ -4,6 +4,9 @@ use std::collections::HashMap;
 use std::hint::black_box;
 use std::rc::Rc;
 
+mod processor_time;
+use processor_time::processor_time;
+
 const MOST_COPIES: usize = 4_096;
 const MOST_WEIGHT: u64 = 2_097_152;
 const MOST_NAMES: u32 = 43_690;
@@ -264,24 +267,6 @@ fn unpack(packet: &Packet, entries: &[bool], open_home: &[bool]) -> Unpacked {
         copies: packet.copies.iter().map(made).collect(),
         values: receipt.values(&packet.values),
     }
-}
-
-#[repr(C)]
-struct Timespec {
-    seconds: i64,
-    nanoseconds: i64,
-}
-
-extern "C" {
-    fn clock_gettime(clock: i32, time: *mut Timespec) -> i32;
-}
-
-/// The processor time of this process so far, in nanoseconds.
-fn processor_time() -> i64 {
-    const PROCESS_CPU_TIME: i32 = 2;
-    let mut time = Timespec { seconds: 0, nanoseconds: 0 };
-    unsafe { clock_gettime(PROCESS_CPU_TIME, &mut time) };
-    time.seconds * 1_000_000_000 + time.nanoseconds
 }
 
 fn report(what: &str, items: u32, times: u32, taken: i64) {

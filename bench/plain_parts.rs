@@ -1,30 +1,15 @@
 // Plain Rust beside the parts in crates/speeds: std's queue and ordered map, with the same calls.
 use std::collections::{BTreeMap, BTreeSet, VecDeque};
 
+mod processor_time;
+use processor_time::processor_time;
+
 const ROUNDS: u32 = 1_000_000;
 // How often foreign objects are used, and how many leave.
 const LEAVES: u32 = 10_000;
 
-#[repr(C)]
-struct Timespec {
-    seconds: i64,
-    nanoseconds: i64,
-}
-
-extern "C" {
-    fn clock_gettime(clock: i32, time: *mut Timespec) -> i32;
-}
-
-// The processor time that this process took so far, in nanoseconds.
-fn now() -> u128 {
-    const PROCESS_CPU_TIME: i32 = 2;
-    let mut time = Timespec { seconds: 0, nanoseconds: 0 };
-    unsafe { clock_gettime(PROCESS_CPU_TIME, &mut time) };
-    time.seconds as u128 * 1_000_000_000 + time.nanoseconds as u128
-}
-
-fn say(name: &str, members: u64, calls: u32, start: u128) {
-    let hundredths = (now() - start) * 100 / calls as u128;
+fn say(name: &str, members: u64, calls: u32, start: i64) {
+    let hundredths = (processor_time() - start) * 100 / i64::from(calls);
     eprintln!("{name}, {members} members: {calls} calls, {hundredths} hundredths of a ns each");
 }
 
@@ -32,7 +17,7 @@ fn queueing(members: u64) {
     let mut queue: VecDeque<u64> = (0..members).collect();
     queue.reserve(1);
     let mut sum = 0u64;
-    let start = now();
+    let start = processor_time();
     for round in 0..ROUNDS {
         let item = queue.pop_front().unwrap_or(1);
         sum = sum.wrapping_add(item ^ round as u64);
@@ -49,7 +34,7 @@ fn filled(members: u64) -> BTreeMap<(u16, u64), u64> {
 fn counting(members: u64) {
     let mut counts = filled(members);
     let mut state = 1u64;
-    let start = now();
+    let start = processor_time();
     for _ in 0..ROUNDS {
         state = state
             .wrapping_mul(6364136223846793005)
@@ -68,7 +53,7 @@ fn counting(members: u64) {
 
 fn closing(members: u64) {
     let mut counts = filled(members);
-    let start = now();
+    let start = processor_time();
     let mut from = 0u64;
     let mut seen = 0u64;
     while let Some((key, _)) = counts.range((7002, from)..).next() {
@@ -167,7 +152,7 @@ fn releasing(members: u64) {
     }
     store.retain(members);
     assert!(store.sweep().is_none());
-    let start = now();
+    let start = processor_time();
     store.release(members);
     let freed = (0..members).filter(|_| store.sweep().is_some()).count();
     say("an object of a chain freed", members, members as u32, start);
@@ -186,7 +171,7 @@ fn holding(members: u64) {
         store.retain(serial);
     }
     let mut state = 1u64;
-    let start = now();
+    let start = processor_time();
     for _ in 0..ROUNDS {
         state = next(state);
         let serial = (state >> 33) % members + 1;
@@ -240,7 +225,7 @@ fn importing(members: u64) {
         imports.got((7002, serial));
     }
     let mut state = 1u64;
-    let start = now();
+    let start = processor_time();
     for _ in 0..LEAVES {
         state = next(state);
         let key = (7002, (state >> 33) % members);
@@ -249,7 +234,7 @@ fn importing(members: u64) {
         imports.unrefer(key);
     }
     say("an object received, used and used no more", members, LEAVES, start);
-    let start = now();
+    let start = processor_time();
     for count in 0..LEAVES {
         assert!(imports.leave_next().is_some());
         imports.got((7002, members + count as u64));

@@ -4,28 +4,13 @@ use std::collections::BTreeMap;
 use std::hint::black_box;
 use std::mem;
 
+mod processor_time;
+use processor_time::processor_time;
+
 const ROUNDS: u32 = 1_000_000;
 
-#[repr(C)]
-struct Timespec {
-    seconds: i64,
-    nanoseconds: i64,
-}
-
-extern "C" {
-    fn clock_gettime(clock: i32, time: *mut Timespec) -> i32;
-}
-
-// The processor time that this process took so far, in nanoseconds.
-fn now() -> u128 {
-    const PROCESS_CPU_TIME: i32 = 2;
-    let mut time = Timespec { seconds: 0, nanoseconds: 0 };
-    unsafe { clock_gettime(PROCESS_CPU_TIME, &mut time) };
-    time.seconds as u128 * 1_000_000_000 + time.nanoseconds as u128
-}
-
-fn say(name: &str, members: u64, done: u32, start: u128) {
-    let hundredths = (now() - start) * 100 / ROUNDS as u128;
+fn say(name: &str, members: u64, done: u32, start: i64) {
+    let hundredths = (processor_time() - start) * 100 / i64::from(ROUNDS);
     assert!(done == ROUNDS);
     eprintln!("{name}, {members} members: {ROUNDS} calls, {hundredths} hundredths of a ns each");
 }
@@ -146,17 +131,17 @@ fn measure(depth: u64) {
         stack.push();
         stack.wait(number, peer);
     }
-    let start = now();
+    let start = processor_time();
     let done = times(|round| black_box(&stack).place(round as u64 % 2, peer).is_some());
     say("the lowest that waits found", depth, done, start);
-    let start = now();
+    let start = processor_time();
     let done = times(|_| {
         let top = black_box(stack.invocations.pop().unwrap());
         stack.invocations.push(top);
         true
     });
     say("an invocation taken off and put on", depth, done, start);
-    let start = now();
+    let start = processor_time();
     let done = times(|_| {
         stack.wait(depth, peer);
         stack.answer(depth, peer, Answer::Raised(0)) && stack.take_answer().is_some()
@@ -172,7 +157,7 @@ fn measure_late(others: u64) {
         stack.wait(number, peer);
         stack.give_up();
     }
-    let start = now();
+    let start = processor_time();
     let done = times(|_| {
         stack.wait(others, peer);
         stack.give_up() && stack.late(others, peer, true)
