@@ -1,5 +1,6 @@
 //! Texts, which are bytes of any kind.
-ghost use Rattle.std.specs.Prelude.{◌≡◌, [], ◌∷◌, ◌++◌, length, ◌↔◌, IsTrue, IfOk, OnOk, OnErr};
+ghost use Rattle.std.specs.Prelude.{◌≡◌, ◌<◌, [], ◌∷◌, ◌++◌, length, slice_set, ◌↔◌, IsTrue, IfOk};
+ghost use Rattle.std.specs.Prelude.{OnErr, OnOk};
 
 use crate::lists::exact::{ExactClone, ExactEq};
 use crate::lists::items::Items;
@@ -103,26 +104,37 @@ impl Text {
     }
 
     /// Appends a byte. If memory runs out, the text is unchanged.
+    #[inline(always)]
     pub fn push(&mut self, byte: u8) -> Result<(), AllocError>
         ensures ok { OnOk result (self.new ≡ self.old ++ byte ∷ []) }
         ensures err { OnErr result (self.new ≡ self.old) }
     {
-        match &mut self.bytes {
-            None => {
-                let mut bytes = Vec::new(self.alloc);
-                bytes.push(byte)?;
-                self.bytes = Some(Rc::new(self.alloc, bytes)?);
+        if let Some(bytes) = &mut self.bytes {
+            if let Some(own) = Rc::get_mut(bytes) {
+                own.push(byte)?;
+                return Ok(());
             }
-            Some(bytes) => match Rc::get_mut(bytes) {
-                Some(own) => own.push(byte)?,
-                None => Rc::make_mut(bytes)?.push(byte)?,
-            },
         }
-        Ok(())
+        self.push_bytes_anew(&[byte])
     }
 
     /// Appends these bytes. If memory runs out, the text is unchanged.
+    #[inline(always)]
     pub fn push_bytes(&mut self, bytes: &[u8]) -> Result<(), AllocError>
+        ensures ok { OnOk result (self.new ≡ self.old ++ bytes.now) }
+        ensures err { OnErr result (self.new ≡ self.old) }
+    {
+        if let Some(old) = &mut self.bytes {
+            if let Some(own) = Rc::get_mut(old) {
+                return own.extend_from_slice(bytes);
+            }
+        }
+        self.push_bytes_anew(bytes)
+    }
+
+    /// Appends bytes to an empty text, or to one whose bytes are shared, in a block of its own.
+    #[inline(never)]
+    fn push_bytes_anew(&mut self, bytes: &[u8]) -> Result<(), AllocError>
         ensures ok { OnOk result (self.new ≡ self.old ++ bytes.now) }
         ensures err { OnErr result (self.new ≡ self.old) }
     {
@@ -131,12 +143,31 @@ impl Text {
                 let bytes = Vec::from_slice(self.alloc, bytes)?;
                 self.bytes = Some(Rc::new(self.alloc, bytes)?);
             }
-            Some(old) => match Rc::get_mut(old) {
-                Some(own) => own.extend_from_slice(bytes)?,
-                None => Rc::make_mut(old)?.extend_from_slice(bytes)?,
-            },
+            Some(old) => Rc::make_mut(old)?.extend_from_slice(bytes)?,
         }
         Ok(())
+    }
+
+    /// Puts a byte at a place, counted from 0. If memory runs out, the text is unchanged.
+    pub fn set(&mut self, at: usize, byte: u8) -> Result<(), AllocError>
+        requires { at < length self.old }
+        ensures ok { OnOk result (self.new ≡ slice_set self.old at byte) }
+        ensures err { OnErr result (self.new ≡ self.old) }
+    {
+        if let Some(bytes) = &mut self.bytes {
+            Rc::make_mut(bytes)?[at] = byte;
+        }
+        Ok(())
+    }
+
+    /// Gives the bytes as a `Vec`. They are copied only where they are shared.
+    pub fn into_vec(self) -> Result<Vec<u8>, AllocError>
+        ensures { IfOk result (λ bytes. bytes.items ≡ self) }
+    {
+        match self.bytes {
+            None => Ok(Vec::new(self.alloc)),
+            Some(bytes) => Rc::unwrap_or_clone(bytes),
+        }
     }
 
     /// Makes room for `more` bytes. An empty text takes none. No clause says how much room there
