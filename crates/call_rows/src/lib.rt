@@ -1,5 +1,5 @@
-//! Rows of calls, each with its answer beside it, and how they are played: for the programs that
-//! test what parts answer to many calls; and acts and handlers as values.
+//! Rows of calls, each with its answer beside it, and how they are played, for the programs that
+//! test what parts answer to many calls. Acts and handlers as values stand here too.
 //!
 //! It stands on the values of do_base, on how schedules write them, and on the acts of do_behave,
 //! and promises nothing of its own: its functions are safe, and end. The form of rows is this

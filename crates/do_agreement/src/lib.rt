@@ -1,9 +1,9 @@
 //! Why a network of sites goes on standing for a state of the machine.
 //!
-//! It stands on the definitions of a network of sites and on the facts of the machine's states,
-//! and has no code of its own: each of its functions is a law, of every behaviour. It promises
-//! that a network opens in agreement with the machine, that every event comes to the same in both
-//! and keeps them in agreement, and that a network that agrees stands for the state.
+//! It stands on the definitions of a network of sites and on the facts of the machine's states. It
+//! has no code of its own: each of its functions is a law, of every behaviour. It promises that a
+//! network opens in agreement with the machine. Every event comes to the same in both and keeps
+//! them in agreement, and a network that agrees stands for the state.
 #![tactic(auto)]
 
 mod laws;

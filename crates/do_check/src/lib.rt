@@ -2,7 +2,7 @@
 //! an exception for those that they deny.
 //!
 //! It stands on the acts of do_native_acts. It follows GNUstep's and Apple's documentation of
-//! `NSProtocolChecker`, with one rule for each selector in place of a protocol: a message is
+//! `NSProtocolChecker`, with one rule for each selector in place of a protocol. A message is
 //! forwarded with the arguments and the result as they are, or raises the text of its rule. What is
 //! promised is exact: the act of every method, for every invocation and all slots; laws say what is
 //! never sent, and that a target stays.

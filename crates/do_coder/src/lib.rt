@@ -1,8 +1,8 @@
 //! Packets as bytes: each has one spelling, by a table of the objects that the sender named lately.
 //!
 //! The crate stands on the packets of do_class and on the numbers and texts of do_grammar. It
-//! promises that what `encode` writes is what `decode` reads, whatever follows, that `decode` tells
-//! the first byte with which no packet goes on, and that both leave equal tables equal.
+//! promises that what `encode` writes is what `decode` reads, whatever follows, and that both leave
+//! equal tables equal. `decode` tells the first byte with which no packet goes on.
 //!
 //! The form is this project's own. A packet is three lists, of names, copies and values, each
 //! behind its length:

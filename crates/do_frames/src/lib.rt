@@ -2,8 +2,8 @@
 //! them.
 //!
 //! The crate stands on the packets of do_coder and on the buffers of bytes. It promises that what
-//! `write` writes is what a `Reader`, fed it in any pieces, and then `read_raw` give back, and that
-//! each byte with which no frame goes on is refused at once.
+//! `write` writes is what a `Reader`, fed it in any pieces, and then `read_raw` give back. Each
+//! byte with which no frame goes on is refused at once.
 //!
 //! The form is this project's own. A stream begins with the six bytes 13, 0, 0, 0, 1, 2, which say
 //! that it is of version 2; frames follow. A frame is its kind, four bytes of the payload's length,

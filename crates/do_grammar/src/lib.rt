@@ -1,6 +1,6 @@
-//! What exact readers of bytes share: what it is to read a grammar exactly (specs/ and proofs/),
-//! and
-//! numbers, texts, names and lines, read with the first byte at which reading has to stop.
+//! What exact readers of bytes share. What it is to read a grammar exactly stands in specs/ and
+//! proofs/. Numbers, texts, names and lines are read with the first byte at which reading has to
+//! stop.
 #![tactic(auto)]
 
 mod beside;

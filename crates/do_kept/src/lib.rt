@@ -1,9 +1,9 @@
 //! Acts of native classes keep values within what a message can carry.
 //!
-//! It stands on the definitions of the acts of each kind of class and on the limits of messages,
-//! and has no code of its own: each of its functions is a law, of every table, invocation and
-//! slots. It promises it of checkers and of servers of names, and of a world's whole behaviour
-//! where it holds of the other servers that the world has.
+//! It stands on the definitions of the acts of each kind of class and on the limits of messages. It
+//! has no code of its own: each of its functions is a law, of every table, invocation and slots. It
+//! promises it of checkers and of servers of names, and of a world's whole behaviour where it holds
+//! of the other servers that the world has.
 #![tactic(auto)]
 
 mod laws;

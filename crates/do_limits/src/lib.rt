@@ -1,10 +1,10 @@
 //! What a machine's states hold and send stays within what messages can carry.
 //!
-//! It stands on the definitions of the machine, of messages and of their spellings, and has no
-//! code of its own: each of its functions is a law, of every behaviour that keeps the limits. It
-//! promises that in every state that a machine comes to each value can be carried by a message,
-//! that the numbers of calls, objects and lends rise by no more than a bound with each event, and
-//! that while they are small the frame of each item on its way has a spelling.
+//! It stands on the definitions of the machine, of messages and of their spellings. It has no code
+//! of its own: each of its functions is a law, of every behaviour that keeps the limits. It
+//! promises that in every state that a machine comes to each value can be carried by a message.
+//! With each event the numbers of calls, objects and lends rise by no more than a bound. While they
+//! are small the frame of each item on its way has a spelling.
 #![tactic(auto)]
 
 mod laws;

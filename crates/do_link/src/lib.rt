@@ -2,8 +2,8 @@
 //!
 //! It stands on the names, lists and texts of do_base and on do_output's words of what an outside
 //! tells. It promises that a link tells one list in which each listen, each event and each send
-//! stands in order, and that each fault and each poll that found nothing is counted. The forms are
-//! this project's own.
+//! stands in order. Each fault and each poll that found nothing is counted. The forms are this
+//! project's own.
 #![tactic(auto)]
 
 mod link;

@@ -3,8 +3,8 @@
 //!
 //! It stands on do_net and on what do_traced asks of sites, reads what is under way by do_streams,
 //! and rests on the laws of do_net_named. It promises exactly the objects from which a search for
-//! what nothing can reach starts in the machine's state for which the network stands, and the text
-//! of what the search finds. The form is this project's own.
+//! what nothing can reach starts in the machine's state, and the text of what the search finds.
+//! That state is the one for which the network stands. The form is this project's own.
 #![tactic(auto)]
 
 mod frames;

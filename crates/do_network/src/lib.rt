@@ -1,10 +1,10 @@
 //! The definitions of a site and of a network of sites: its types, its rules in `specs/`, and their
 //! laws.
 //!
-//! It stands on the rules of the machine, which a site follows too, judged by its own counts in
-//! place of a look at the other nodes, and on the frames in which sites send their items. It
+//! It stands on the rules of the machine and on the frames in which sites send their items. A site
+//! follows these rules too, judged by its own counts in place of a look at the other nodes. It
 //! promises what one input does to a site, what one event does to a network, and when a network
-//! stands for a state of the machine; no program that runs them stands here.
+//! stands for a state of the machine. No program that runs them stands here.
 //!
 //! Proxies, their connections and what a connection vends are those of Apple's Distributed Objects
 //! Programming Topics and of GNUstep's Base documentation of NSConnection. That a node counts the

@@ -2,9 +2,10 @@
 //! status come out.
 //!
 //! It stands on the machine, the readers of texts and the outside as traits. It promises what the
-//! call answers for every input, and that what it writes is the transcript of the schedule over the
-//! world, what nothing can reach after it, the schedule that records are woven to, the schedule
-//! written anew, the record of a node that is served, or how the children of a plan ended.
+//! call answers for every input, and what each command writes. Of a schedule over a world that is
+//! its transcript, what it came to in numbers, or what nothing can reach after it. Other commands
+//! write the schedule that records are woven to, a schedule written anew, the record of a node that
+//! is served, or how the children of a plan ended.
 #![tactic(auto)]
 
 mod answering;

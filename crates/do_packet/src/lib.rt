@@ -1,9 +1,9 @@
 //! Packing values into messages between nodes, and unpacking them at their receiver.
 //!
 //! It stands on class tables, which own the types of messages. It promises that `pack` gives
-//! exactly the message of the definition or says which limit it breaks, that `unpack` gives exactly
-//! what the definition makes of it, and that what is unpacked is what was packed, with the copies
-//! renamed. The form of messages is this project's own, for what GNUstep's `NSDistantObject` and
+//! exactly the message of the definition or says which limit it breaks. `unpack` gives exactly what
+//! the definition makes of it, and what is unpacked is what was packed, with the copies renamed.
+//! The form of messages is this project's own, for what GNUstep's `NSDistantObject` and
 //! `NSPortCoder` do.
 #![tactic(auto)]
 

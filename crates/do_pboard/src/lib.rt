@@ -2,10 +2,10 @@
 //! acts of its methods.
 //!
 //! It stands on the acts of do_native_acts. It keeps what Apple's and GNUstep's documentation of
-//! `NSPasteboard` says: each declaration raises the change count and takes the data away, a lazy
+//! `NSPasteboard` says. Each declaration raises the change count and takes the data away. A lazy
 //! owner is asked once data is wanted, and data that belongs to an earlier change count is refused.
-//! What is promised is exact: each call, what a pasteboard has as the calls made so far tell it,
-//! and the act of every method, for every invocation and all slots.
+//! What is promised is exact: each call, and what a pasteboard has as the calls made so far tell
+//! it. So is the act of every method, for every invocation and all slots.
 #![tactic(auto)]
 
 mod acts;

@@ -1,9 +1,9 @@
 //! What holds while all ends are open, and what is left once nothing is on its way between nodes.
 //!
-//! It stands on the definitions of the machine and the facts of its states, and has no code of its
+//! It stands on the definitions of the machine and the facts of its states. It has no code of its
 //! own: each of its functions is a law, of every behaviour. It promises that while all ends are
-//! open a node keeps what it lends, and that once nothing is on its way nothing is lent and
-//! nothing asked for, and what is stored is held up by roots, invocations and slots alone.
+//! open a node keeps what it lends. Once nothing is on its way nothing is lent and nothing asked
+//! for, and what is stored is held up by roots, invocations and slots alone.
 #![tactic(auto)]
 
 mod laws;

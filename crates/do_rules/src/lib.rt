@@ -1,10 +1,10 @@
-//! The rules of the machine as functions that change nothing: what a run, an item that is taken, a
-//! start, a closed end and a time-out come to at a node, and what the node then frees and leaves.
-//! What a rule judges by is a `Basis`, so that each node is judged by the same rules, however it is
-//! kept.
+//! The rules of the machine as functions that change nothing. They say what a run, an item that is
+//! taken, a start, a closed end and a time-out come to at a node, and what it then frees and
+//! leaves. What a rule judges by is a `Basis`, so that each node is judged by the same rules,
+//! however it is kept.
 //!
 //! It stands on do_machine, whose definitions it computes, and on do_packet for messages. It
-//! promises that each function gives exactly what its definition says, in every state; its one
+//! promises that each function gives exactly what its definition says, in every state. Its one
 //! error is that memory ran out, or that a number would pass what a machine can count.
 #![tactic(auto)]
 

@@ -1,10 +1,10 @@
 //! Serving one node over a link: its turns, each the first that is possible, and its record.
 //!
-//! It stands on the links of do_link, the frames of do_frames, the starts of do_plan, the lines
-//! of do_lines and the inputs of do_network, and on a node's own state as a trait, which each site
-//! of do_net meets that is `Runnable`. It promises that the record is that of the turns over what
-//! the link told, that each frame was handed over once and in order, and why it ended. The forms
-//! are this project's own.
+//! It stands on the links of do_link, the frames of do_frames, the starts of do_plan, the lines of
+//! do_lines and the inputs of do_network. A node's own state is a trait, which each site of do_net
+//! meets that is `Runnable`. It promises that the record is that of the turns over what the link
+//! told, that each frame was handed over once and in order, and why it ended. The forms are this
+//! project's own.
 #![tactic(auto)]
 
 mod entering;

@@ -1,12 +1,11 @@
 //! A server of services: an item names what a provider does with a pasteboard. Its core, and the
 //! acts of its methods.
 //!
-//! It stands on the acts of do_native_acts. It keeps what Apple's and
-//! GNUstep's documentation of `NSPerformService` and of services providers says: the pasteboard is
-//! asked for one of the types that are sent, the provider of the port performs the service, and an
-//! error that it sets or raises is handed back. What is promised is exact: each call, the service
-//! of an item as the calls made so far tell it, and the act of every method, for every invocation
-//! and all slots.
+//! It stands on the acts of do_native_acts. It keeps what Apple's and GNUstep's documentation of
+//! `NSPerformService` and of services providers says. The pasteboard is asked for one of the types
+//! that are sent, and the provider of the port performs the service. An error that it sets or
+//! raises is handed back. What is promised is exact: each call, and the service of an item as the
+//! calls made so far tell it. So is the act of every method, for every invocation and all slots.
 #![tactic(auto)]
 
 mod acts;

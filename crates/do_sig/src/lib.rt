@@ -2,13 +2,13 @@
 //! say of the values of a call.
 //!
 //! It stands on do_base for values and texts, and on do_grammar for readers that are exact. It
-//! promises that every `Encoding` and every `Signature` has a spelling, that what is printed is
-//! read again as the same value, and that each refusal names the first byte that is wrong.
+//! promises that every `Encoding` and every `Signature` has a spelling, and that what is printed is
+//! read again as the same value. Each refusal names the first byte that is wrong.
 //!
 //! The letters are those of "Type Encodings" in Apple's Objective-C Runtime Programming Guide, as
 //! `@encode` of clang and of GNUstep's and Apple's runtimes gives them. The profile is this
-//! project's own, with its limits (eight types open at once, counts up to 1,024, names up to 64
-//! bytes, eight arguments), and so is what fits which type.
+//! project's own, and so is what fits which type. Its limits are eight types open at once, counts
+//! up to 1,024, names up to 64 bytes and eight arguments.
 #![tactic(auto)]
 
 mod encoding;

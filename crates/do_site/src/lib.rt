@@ -3,8 +3,8 @@
 //!
 //! It stands on the rules of do_rules, by which a site is judged as the plain machine is, and on
 //! do_effects, which carries out in place what they decide. It promises that each input does to a
-//! site what do_network's `site_step` says, whatever a peer sends, and that a site for which memory
-//! ran out is as it was before.
+//! site what do_network's `site_step` says, whatever a peer sends. A site for which memory ran out
+//! is as it was before.
 #![tactic(auto)]
 
 mod allowing;

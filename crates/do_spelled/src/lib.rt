@@ -1,9 +1,9 @@
 //! Whether a frame has a spelling that its reader reads.
 //!
 //! The crate stands on the frames of do_frames and on the class table that both ends of a
-//! connection have. It promises that `has_spelling` tells exactly this: a frame that it takes is
-//! read back from its bytes, and one that it refuses has a number, a text, a name, a place or a
-//! list past the limits that do_coder and do_frames set.
+//! connection have. It promises that a frame which `has_spelling` takes is read back from its
+//! bytes. One that it refuses has a number, a text, a name, a place or a list past the limits that
+//! do_coder and do_frames set.
 //!
 //! The limits are this project's own.
 #![tactic(auto)]

@@ -2,8 +2,8 @@
 //!
 //! It stands on do_base and do_behave, keeps late calls in a map of do_sorted, and takes the words
 //! for waiting and late calls from do_machine. It promises the invocations and the late calls after
-//! each change, that an answer finds the invocation that waits for it, and what a change of the top
-//! takes out of it.
+//! each change, and what a change of the top takes out of it. An answer finds the invocation that
+//! waits for it.
 #![tactic(auto)]
 
 mod late;

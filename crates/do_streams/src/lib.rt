@@ -1,13 +1,13 @@
-//! What a site keeps of the streams between it and its peers: the tables of recent names, the
-//! frames that wait to be fetched, and the lines that wait to be shown.
+//! What a site keeps of the streams between it and its peers: tables of recent names, frames that
+//! wait to be fetched, and lines that wait to be shown.
 //!
-//! It stands on the frames of do_frames, on the cells of do_pool, in which all that waits stands,
-//! on do_spelled, which tells what has a spelling, and on the words for links of do_network. It
+//! It stands on the frames of do_frames and on the cells of do_pool, in which all that waits
+//! stands. do_spelled tells what has a spelling, and do_network has the words for links. It
 //! promises that the bytes that are fetched are those of the frames that were posted, in order,
-//! each spelled by the names that were sent over its link before, with the greeting before the
-//! first, and that its peer can read each; that a peer's frame is read by the names that its frames
-//! named lately; and that posting takes no memory where room was made before, which is one room for
-//! frames and lines. The form is this project's own.
+//! with the greeting before the first. Each is spelled by the names that were sent over its link
+//! before, and its peer can read it. A peer's frame is read by the names that its frames named
+//! lately. Posting takes no memory where room was made before, which is one room for frames and
+//! lines. The form is this project's own.
 #![tactic(auto)]
 
 mod end;

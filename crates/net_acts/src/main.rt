@@ -1,7 +1,7 @@
 //! Counts the acts that each node of a network is asked for, over a schedule.
 //!
-//! It stands on do_net, do_site and do_replay: each node gets a behaviour of its own that counts.
-//! A site asks for an act only where its own top invocation runs, and once for each step of it, so
+//! It stands on do_net, do_site and do_replay: each node gets a behaviour of its own that counts. A
+//! site asks for an act only where its own top invocation runs, and once for each step of it. So
 //! the counts are those of the instructions that ran at each node, which were counted by hand.
 #![tactic(auto)]
 

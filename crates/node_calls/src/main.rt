@@ -1,5 +1,5 @@
 //! Plays rows of calls of `run`, the program behind its words, over files and outputs that fail
-//! where a row says so, and compares each answer with the one that stands beside the call.
+//! where a row says so. Each answer is compared with the one that stands beside the call.
 //!
 //! It stands on do_node and the outside in memory, and calls public functions alone. The rows are
 //! files; what they expect was worked out by hand. A row whose answer is another one is printed

@@ -1,8 +1,8 @@
 //! Drives the parts of a site by 100,000 drawn calls each, beside plain lists and maps, which must
-//! be equal after each, and prints how many calls were alike and what they came to: queues in one
-//! region, a map by rising key, the counts of exports, imports, the store and the stack. Then
-//! measures what calls of the stack cost, in processor time, and says so on standard error.
-//! `docs/PERFORMANCE.md` has the figures.
+//! be equal after each. The parts are queues in one region, a map by rising key, the counts of
+//! exports, imports, the store and the stack. It prints how many calls were alike and what they
+//! came to. Then it measures what calls of the stack cost, in processor time, and says so on
+//! standard error. `docs/PERFORMANCE.md` has the figures.
 //!
 //! With the word `memory` 300 calls of each are made, and nothing is measured. A call for which
 //! memory ran out must leave the part equal to the plain one, and is made again. With the word

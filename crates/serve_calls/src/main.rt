@@ -1,5 +1,5 @@
 //! Plays rows of calls of links and of children in memory, of plans that are run, and of a node
-//! that is served, and compares each answer with the one that stands beside the call.
+//! that is served. Each answer is compared with the one that stands beside the call.
 //!
 //! It stands on do_link, do_lab, do_serve and how rows are played, and calls public functions
 //! alone. The node that is served is the least that can be: it sends back what it takes. The rows

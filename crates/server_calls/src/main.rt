@@ -1,7 +1,7 @@
-//! Plays rows of calls of servers: of tables by name, of the cores of servers of names, of
-//! pasteboards, of servers of services and of notification centres, of their acts, place by place,
-//! and of the calls that these acts share, and compares each answer with the one that stands beside
-//! the call.
+//! Plays rows of calls of servers, and compares each answer with the one that stands beside the
+//! call. The rows are of tables by name, and of the cores of servers of names, of pasteboards, of
+//! servers of services and of notification centres. They are of the acts of these, place by place,
+//! and of the calls that the acts share.
 //!
 //! It stands on the crates of the servers, and calls public functions alone. The rows are files;
 //! what they expect was worked out by hand or by another program. A row whose answer is another one

@@ -1,5 +1,5 @@
-//! Plays rows of calls of the parts of a site: a pool, exports, a store, imports and a stack, and
-//! compares each answer with the one that stands beside the call.
+//! Plays rows of calls of the parts of a site: a pool, exports, a store, imports and a stack. Each
+//! answer is compared with the one that stands beside the call.
 //!
 //! It stands on the crates of these parts, and calls public functions alone. The rows are files;
 //! what they expect was worked out by hand. A row whose answer is another one is printed with it;

@@ -1,6 +1,7 @@
 //! Plays rows of calls of what reads and writes texts, and compares each answer with the one that
-//! stands beside the call: numbers, names, quoted texts, lines, type encodings, method texts,
-//! schedules, the words of a command, the blocks of a transcript, and a grammar of our own.
+//! stands beside the call. The texts are numbers, names, quoted texts, lines, type encodings,
+//! method texts and schedules. They are also the words of a command, the blocks of a transcript,
+//! and those of a grammar of our own.
 //!
 //! It stands on do_grammar, do_sig, do_script, do_sched, do_cli and do_lines, and calls public
 //! functions alone.

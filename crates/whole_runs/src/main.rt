@@ -1,5 +1,6 @@
-//! Replays schedules over worlds in files, one after another, and writes their transcripts: the
-//! first ones with each frame that is sent, byte for byte, those behind them without what is sent.
+//! Replays schedules over worlds in files, one after another, and writes their transcripts. The
+//! first ones are written with each frame that is sent, byte for byte, those behind them without
+//! what is sent.
 //!
 //! It stands on do_node and do_host, as the program does. What it must write was worked out by hand
 //! or by another program, and stands beside it. Behind these, the same schedules and generated ones
