@@ -69,11 +69,12 @@ returns c =
     let n1 = e.names in
     let n2 = g.names in
     rw (← c.self.view_is) (record {
-      own = own_stack i c.go_local.new.self c.set_local-was.new.self (with_top
-          (λ t. (after_act (meaning t change) t []).inv) i.stack.invocations) numbers
+      own = own_stack i c.go_local.new.self c.set_local-was.new.self
+          (with_top (λ t. (after_act (meaning t change) t []).inv) i.stack.invocations) numbers
           (heap_kept i.holders c.come_local.new.self c.go_local.new.self
           (values_of (c.args.value ∷ [])) (values_of (c.set_local-was.result ∷ []))
-          (sizes_of (c.args.value ∷ [])) e g) c.set_local-was.ensures.invocations c.set_local-was.ensures.late;
+          (sizes_of (c.args.value ∷ [])) e g)
+          c.set_local-was.ensures.invocations c.set_local-was.ensures.late;
       objects = room_kept i.holders c.go_local.new.self numbers;
       invocations = c.set_local-was.ensures.spare;
       names = omega (arith, s1, s2, n1, n2);
