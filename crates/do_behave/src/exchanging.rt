@@ -1,6 +1,5 @@
 //! A change of an invocation in place, which hands back what it took out.
-ghost use Rattle.std.specs.Prelude.{◌≡◌, ◌∷◌, [], List, get_or, slice_set, false, IfOk, OnOk};
-ghost use Rattle.std.specs.Prelude.{OnErr, IsOk};
+ghost use Rattle.std.specs.Prelude.{◌≡◌, List, false, IfOk, OnOk, OnErr, IsOk};
 ghost use Rattle.do_base.specs.declared.values.value.Value.{Value};
 ghost use Rattle.do_behave.specs.Changes.{IsFitting, meaning, with_set};
 ghost use Rattle.do_behave.specs.Exchange.{taken, slots_after, act_left, set_out, act_taken};
@@ -11,24 +10,11 @@ ghost use Rattle.do_behave.specs.declared.exchanged.Taken.TheVariants.{Nothing};
 use crate::act::Act;
 use crate::change::{Change, LocalSet, LocalSets};
 use crate::exchanged::{Exchanged, Left, Taken};
-use crate::held::{Frame, Held};
+use crate::held::Frame;
 use crate::invocation::Invocation;
-use do_base::{Value, Values};
+use crate::setting::put_local;
+use do_base::Values;
 use std::alloc::AllocError;
-use std::mem;
-
-/// Puts a value into a local, and hands back what it held. Where there is no such local, none is
-/// set, and the value itself comes back.
-#[inline(always)]
-fn put(locals: &mut Frame, at: usize, value: Value) -> Value
-    ensures locals { locals.new ≡ slice_set locals.old at value }
-    ensures taken { result ≡ get_or locals.old at value }
-{
-    if at >= locals.len() {
-        return value;
-    }
-    locals.replace(at, Held::new(value)).into_value()
-}
 
 /// Sets locals in order, and takes what each held before it was set.
 ///
@@ -41,7 +27,7 @@ fn put_all(locals: &mut Frame, mut sets: LocalSets) -> Result<Values, AllocError
     let mut was = Vec::with_capacity(sets.allocator(), sets.len())?;
     while !sets.is_empty() {
         let LocalSet { local, value } = sets.remove(0);
-        let before = put(locals, local as usize, value);
+        let before = put_local(locals, local, value);
         was.push_reserved(before);
     }
     Ok(Values::from_vec(was))
@@ -75,9 +61,7 @@ fn exchange_act(inv: &mut Invocation, act: Act) -> Exchanged
             handler,
             writes,
         } => {
-            let was = mem::replace(&mut inv.locals, locals);
-            inv.pc = pc;
-            inv.handler = handler;
+            let was = inv.step_to(pc, locals, handler);
             Exchanged {
                 taken: Taken::All(was),
                 left: Left::Slots(writes),
@@ -105,8 +89,7 @@ pub fn exchange(inv: &mut Invocation, change: Change) -> Result<Exchanged, Alloc
 {
     match change {
         Change::Local { into, value, pc } => {
-            inv.pc = pc;
-            let was = put(&mut inv.locals, into as usize, value);
+            let was = inv.set_local(into, value, pc);
             Ok(Exchanged {
                 taken: Taken::One(was),
                 left: Left::Nothing,

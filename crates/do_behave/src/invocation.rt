@@ -1,4 +1,4 @@
-use crate::held::{Frame, Held};
+use crate::held::Frame;
 use crate::moving::copied;
 use do_base::{CallId, ExactClone, Exc, Locals, NodeId, Oid, Value, Values};
 use do_class::MethodId;
@@ -88,9 +88,8 @@ pub struct Invocation {
 }
 
 impl Invocation {
-    ghost use Rattle.std.specs.Prelude.{◌≡◌, IfOk, OnOk, OnErr, IsSomeAnd, slice_get, slice_set};
+    ghost use Rattle.std.specs.Prelude.{◌≡◌, IfOk};
     ghost use Rattle.std.specs.Option.{option_copied};
-    ghost use Rattle.do_behave.specs.LongerList.{FitsIn, longer_at};
     ghost use Rattle.do_behave.specs.Steps.{local};
 
     /// What a local holds; none where there is no such local.
@@ -108,48 +107,6 @@ impl Invocation {
             Some(value) => Ok(Some(copied(value)?)),
             None => Ok(None),
         }
-    }
-
-    /// Sets a local, and goes on at a place. What the local held is handed back; where there is no
-    /// such local none is set.
-    #[tactic(auto, using(crate::proofs::ListUpdates::set_steps))]
-    pub fn set_local(&mut self, into: u8, value: Value, pc: u32) -> Option<Value>
-        ensures new { self.new
-            ≡ record self.old { pc = pc; locals = slice_set self.old.locals into value } }
-        ensures was { result ≡ slice_get self.old.locals into }
-    {
-        self.pc = pc;
-        let at = into as usize;
-        if at < self.locals.len() {
-            Some(self.locals.replace(at, Held::new(value)).into_value())
-        } else {
-            None
-        }
-    }
-
-    /// Appends an item to the list in a local, which then has this weight, and goes on at a place.
-    /// If memory runs out, the invocation is unchanged.
-    #[tactic(auto, using(crate::proofs::ListUpdates::set_steps))]
-    pub fn push_item(
-        &mut self,
-        list: u8,
-        item: Value,
-        weight: u64,
-        pc: u32,
-    ) -> Result<(), AllocError>
-        requires { IsSomeAnd (local self.old list) (λ value. FitsIn value item weight) }
-        ensures ok { OnOk result (self.new ≡ record self.old {
-          pc = pc;
-          locals = longer_at self.old.locals list item;
-        }) }
-        ensures err { OnErr result (self.new ≡ self.old) }
-    {
-        let at = list as usize;
-        if at < self.locals.len() {
-            self.locals.at_mut(at).push(item, weight)?;
-        }
-        self.pc = pc;
-        Ok(())
     }
 }
 

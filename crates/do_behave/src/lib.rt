@@ -21,6 +21,7 @@ mod moving;
 mod numbers;
 mod program;
 mod script;
+mod setting;
 mod steps;
 
 pub use act::{Act, Write, Writes};
@@ -32,3 +33,4 @@ pub use held::{Frame, Held};
 pub use in_place::{act_in_place, make_change};
 pub use invocation::{Answer, Handler, InvState, Invocation, Reason, Waited};
 pub use program::{ClassCodes, Codes, Program};
+pub use setting::put_local;

@@ -136,14 +136,13 @@ impl ScriptCalls {
         self.shown(left, &before)
     }
 
-    /// Sets a local and the place, and gives what the local held, if it is there.
+    /// Sets a local and the place, and gives what the local held; where it is not there, the value
+    /// itself.
     fn set_local(&mut self, args: &Values) -> Result<Value, Fail> {
         let local = local_at(args, 0)?;
         let pc = u32::from(count_at(args, 2)?);
-        match self.inv.set_local(local, copy_at(args, 1)?, pc) {
-            Some(was) => Ok(word_with(self.alloc, b"was", was)?),
-            None => Ok(Value::Nil),
-        }
+        let was = self.inv.set_local(local, copy_at(args, 1)?, pc);
+        Ok(word_with(self.alloc, b"was", was)?)
     }
 
     /// Makes a call that sets a part of the invocation, or tells one.

@@ -33,16 +33,11 @@ fn serials_of(peer: NodeId, objects: &Oids) -> Result<Items<u64>, AllocError>
 fn lose(peer: NodeId, invocation: &mut Invocation)
     ensures { invocation.new ≡ without_answer peer invocation.old }
 {
-    match &invocation.state {
-        InvState::Waits { peer: asked, .. } => {
-            let asked = *asked;
-            if asked == peer {
-                be_answered(invocation, Answer::Raised(Exc::ConnectionDied));
-            }
-        }
-        InvState::Running => {}
-        InvState::Below => {}
-        InvState::Answered(_) => {}
+    let InvState::Waits { peer: asked, .. } = &invocation.state else {
+        return;
+    };
+    if *asked == peer {
+        be_answered(invocation, Answer::Raised(Exc::ConnectionDied));
     }
 }
 

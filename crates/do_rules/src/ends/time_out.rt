@@ -58,17 +58,13 @@ pub fn time_out(node: &Node) -> Result<Option<Effect>, AllocError>
     let [top, below @ ..] = node.stack.as_slice() else {
         return Ok(None);
     };
-    match &top.state {
-        InvState::Waits { call, peer, what } => {
-            let late = LateCall {
-                number: call.number,
-                peer: *peer,
-                what: *what,
-            };
-            Ok(Some(given_up(node, late, top, below)?))
-        }
-        InvState::Running => Ok(None),
-        InvState::Below => Ok(None),
-        InvState::Answered(_) => Ok(None),
-    }
+    let InvState::Waits { call, peer, what } = &top.state else {
+        return Ok(None);
+    };
+    let late = LateCall {
+        number: call.number,
+        peer: *peer,
+        what: *what,
+    };
+    Ok(Some(given_up(node, late, top, below)?))
 }

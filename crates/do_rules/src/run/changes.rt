@@ -1,12 +1,10 @@
 //! How an invocation changes.
 ghost use Rattle.std.specs.Prelude.{◌≡◌, OnOk};
-ghost use Rattle.do_machine.specs.run.Changes.{answered, goes_on, stands, steps_to, uses};
-ghost use Rattle.do_machine.specs.run.Changes.{with_outs};
+ghost use Rattle.do_machine.specs.run.Changes.{answered, goes_on, uses, with_outs};
 
 use crate::effect::Done;
-use crate::lists::set_item;
-use do_base::{Locals, Value, Values, copy_value};
-use do_behave::{Answer, Frame, Handler, Held, InvState, Invocation};
+use do_base::{Value, Values, copy_value};
+use do_behave::{Answer, Frame, InvState, Invocation, put_local};
 
 /// Values go to locals in order, so that a later one wins.
 fn set_outs(locals: &mut Frame, outs: &[u8], values: &[Value]) -> Done
@@ -18,7 +16,7 @@ fn set_outs(locals: &mut Frame, outs: &[u8], values: &[Value]) -> Done
     let [value, values @ ..] = values else {
         return Ok(());
     };
-    set_item(locals, *local as usize, Held::new(copy_value(value)?));
+    drop(put_local(locals, *local, copy_value(value)?));
     set_outs(locals, outs, values)
 }
 
@@ -26,19 +24,10 @@ fn set_outs(locals: &mut Frame, outs: &[u8], values: &[Value]) -> Done
 pub(crate) fn use_answer(top: &mut Invocation, value: Value, outs: &Values) -> Done
     ensures { OnOk result (top.new ≡ uses value outs.now top.old) }
 {
-    set_item(&mut top.locals, top.into as usize, Held::new(value));
+    drop(put_local(&mut top.locals, top.into, value));
     set_outs(&mut top.locals, top.outs.as_slice(), outs.as_slice())?;
     top.state = InvState::Running;
     Ok(())
-}
-
-/// The invocation goes on with other locals and another handler.
-pub(crate) fn step_to(top: &mut Invocation, pc: u32, locals: Frame, handler: Option<Handler>)
-    ensures { top.new ≡ steps_to pc locals handler top.old }
-{
-    top.pc = pc;
-    top.locals = locals;
-    top.handler = handler;
 }
 
 /// The invocation goes on with a value in a local.
@@ -47,16 +36,6 @@ pub(crate) fn go_on(top: &mut Invocation, into: u8, value: Value, pc: u32)
 {
     drop(top.set_local(into, value, pc));
     top.state = InvState::Running;
-}
-
-/// The invocation stands in a state until something comes.
-pub(crate) fn stand(top: &mut Invocation, pc: u32, into: u8, outs: Locals, state: InvState)
-    ensures { top.new ≡ stands pc into outs state top.old }
-{
-    top.pc = pc;
-    top.into = into;
-    top.outs = outs;
-    top.state = state;
 }
 
 /// An answer came.

@@ -14,7 +14,7 @@ use crate::judged::Run;
 use crate::lend::lending::lend;
 use crate::node::own;
 use crate::run::asking::{request, use_number, waits_for};
-use crate::run::changes::{go_on, stand, step_to, use_answer};
+use crate::run::changes::{go_on, use_answer};
 use crate::run::fresh::{begin, one_blank, store};
 use crate::run::slots::write_slots;
 use do_base::{Locals, NodeId, Oid, Shown, Value, Values};
@@ -80,7 +80,7 @@ impl<'a> Run<'a> {
             (waits_for self.now.context.node.now peer asked.now) self.now.top.now)))) }
     {
         let state = waits_for(self.context.node, peer, asked);
-        stand(effect.node.stack.at_mut(0), pc, into, outs, state);
+        effect.node.stack.at_mut(0).stand(pc, into, outs, state);
         use_number(&mut effect.node)
     }
 
@@ -118,7 +118,8 @@ impl<'a> Run<'a> {
         ensures { OnOk result (effect.new ≡ effect_of (run_of self.now)
             (Verdict.Begins object method values.now into outs pc)) }
     {
-        stand(effect.node.stack.at_mut(0), pc, into, outs, InvState::Below);
+        let top = effect.node.stack.at_mut(0);
+        top.stand(pc, into, outs, InvState::Below);
         begin(&mut effect.node, object, method, Reason::Local, values)
     }
 
@@ -154,7 +155,7 @@ impl<'a> Run<'a> {
         ensures { OnOk result (effect.new ≡ effect_of (run_of self.now)
             (Verdict.Steps pc locals handler writes.now)) }
     {
-        step_to(effect.node.stack.at_mut(0), pc, locals, handler);
+        drop(effect.node.stack.at_mut(0).step_to(pc, locals, handler));
         let object = &self.top.object;
         write_slots(&mut effect.node, object.serial, writes)
     }

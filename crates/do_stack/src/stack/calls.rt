@@ -86,11 +86,7 @@ impl Stack {
         ensures late { self.new.late ≡ self.old.late }
         ensures spare { self.new.spare ≡ self.old.spare }
     {
-        let top = &mut self.invs[0];
-        top.pc = pc;
-        top.into = into;
-        top.outs = outs;
-        top.state = state;
+        self.invs[0].stand(pc, into, outs, state);
     }
 
     /// Takes the answer that the top invocation has, which then runs. None exactly where it has

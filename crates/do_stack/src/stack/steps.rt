@@ -5,18 +5,6 @@ ghost use Rattle.do_stack.specs.Waiting.{with_top};
 
 use super::Stack;
 use do_base::Value;
-use do_behave::{Frame, Held};
-
-/// Puts a value into a local, and hands back what it held; where there is no such local, the value.
-fn put(locals: &mut Frame, at: usize, value: Value) -> Value
-    ensures locals { locals.new ≡ slice_set locals.old at value }
-    ensures was { result ≡ get_or locals.old at value }
-{
-    if at >= locals.len() {
-        return value;
-    }
-    locals.replace(at, Held::new(value)).into_value()
-}
 
 impl Stack {
     /// Sets a local of the top invocation, which goes on at a place. What the local held is handed
@@ -31,8 +19,7 @@ impl Stack {
         ensures late { self.new.late ≡ self.old.late }
         ensures spare { self.new.spare ≡ self.old.spare }
     {
-        self.invs[0].pc = pc;
-        put(&mut self.invs[0].locals, into as usize, value)
+        self.invs[0].set_local(into, value, pc)
     }
 
     /// The top invocation goes on at a place.
