@@ -1,5 +1,4 @@
 pub mod PartlyAdded
-pub mod DecimalThrees
 pub mod DigitsLoop
 pub mod TimesLoop
 pub mod WordLoop

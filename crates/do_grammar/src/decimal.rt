@@ -7,6 +7,7 @@ ghost use Rattle.do_grammar.specs.PartlyAdded.{AddedPartly};
 
 use crate::byte::split_byte;
 use do_base::Text;
+use itoa::Buffer;
 use std::alloc::AllocError;
 
 /// The number between two bounds that all the bytes spell in decimal digits.
@@ -36,28 +37,30 @@ fn whole_dec(bytes: &[u8], low: u64, high: u64) -> Option<u64>
         }
         0
     } else {
-        number_from(bytes, high, 0)?
+        number_from(bytes, high)?
     };
     (low <= n).then_some(n)
 }
 
-/// The number that goes on with these digits, up to `high`.
-fn number_from(bytes: &[u8], high: u64, n: u64) -> Option<u64>
-    requires { n ≤ high }
-    ensures value { result ≡ dec_from high n bytes.now }
-    ensures within { IfSome result (λ m. m ≤ high) }
+/// The number that these digits spell, up to `high`.
+fn number_from(bytes: &[u8], high: u64) -> Option<u64>
+    ensures value { result ≡ dec_from high 0 bytes.now }
+    ensures within { IfSome result (λ n. n ≤ high) }
 {
-    let Some((b, rest)) = split_byte(bytes) else {
-        return Some(n);
-    };
-    if b < b'0' || b > b'9' {
-        return None;
+    let mut n: u64 = 0;
+    let mut rest = bytes;
+    while let [b, after @ ..] = rest {
+        if *b < b'0' || *b > b'9' {
+            return None;
+        }
+        let next = n.checked_mul(10)?.checked_add(u64::from(*b - b'0'))?;
+        if next > high {
+            return None;
+        }
+        n = next;
+        rest = after;
     }
-    let next = n.checked_mul(10)?.checked_add(u64::from(b - b'0'))?;
-    if next > high {
-        return None;
-    }
-    number_from(rest, high, next)
+    Some(n)
 }
 
 /// The signed number that all the bytes spell: decimal digits, behind a `-` where it is below 0.
@@ -104,23 +107,8 @@ pub fn push_dec(out: &mut Text, n: u64) -> Result<(), AllocError>
     ensures ok { OnOk result (out.new ≡ out.old ++ decimal n) }
     ensures partly { OnErr result (AddedPartly out.old (decimal n) out.new) }
 {
-    let last = b'0' + (n % 10) as u8;
-    if n < 10 {
-        return out.push(last);
-    }
-    let tens = n / 10;
-    let second = b'0' + (tens % 10) as u8;
-    if tens < 10 {
-        return out.push_bytes(&[second, last]);
-    }
-    let hundreds = tens / 10;
-    let third = b'0' + (hundreds % 10) as u8;
-    if hundreds < 10 {
-        return out.push_bytes(&[third, second, last]);
-    }
-    // Three digits at a time, since each push asks whether the text is shared.
-    push_dec(out, hundreds / 10)?;
-    out.push_bytes(&[third, second, last])
+    let mut digits = Buffer::new();
+    out.push_bytes(digits.format(n).as_bytes())
 }
 
 /// Adds the decimal digits of a signed number, behind a `-` where it is below 0.
