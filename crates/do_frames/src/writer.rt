@@ -1,6 +1,6 @@
 //! Writing frames.
 ghost use Rattle.std.specs.Prelude.{◌≡◌, ◌++◌, ◌∷◌, ◌≤◌, ◌<◌, ◌^◌, ◌↔◌, [], length, IfOk, OnOk};
-ghost use Rattle.std.specs.Prelude.{IfSome, IsNone, OnErr};
+ghost use Rattle.std.specs.Prelude.{IfSome, IsNone, List, OnErr, ℕ};
 ghost use Rattle.do_grammar.specs.Num.{num, digits, counted};
 ghost use Rattle.do_coder.specs.Packets.{packet_spelling, after_packet};
 ghost use Rattle.do_frames.specs.Exceptions.{exc_spelling};
@@ -17,7 +17,10 @@ use do_coder::{NameLog, Recent, push_packet};
 use do_grammar::{push_num, push_text};
 use std::alloc::{AllocError, Global};
 
-/// For how many bytes of a payload room is made at once; most have fewer.
+/// How many bytes of a frame stand before its payload.
+const HEADER: usize = 5;
+
+/// For how many bytes of a frame room is made at once; most have fewer.
 const SHORT: usize = 48;
 
 /// The kind of a frame.
@@ -146,20 +149,27 @@ fn push_payload(out: &mut Text, frame: &Frame, recent: &mut NameLog) -> Result<(
     }
 }
 
-/// Adds the number of a kind and the length of a payload.
-fn push_header(out: &mut Vec<u8>, kind: Kind, length: u32) -> Result<(), AllocError>
-    ensures { OnOk result (out.new.items
-        ≡ out.old.items ++ kind_number kind ∷ digits 4 length) }
+/// A frame of a kind of which no payload is spelled yet: four zeros stand for its length.
+fn begun(alloc: Global, kind: Kind) -> Result<Text, AllocError>
+    ensures { IfOk result (λ text. text ≡ kind_number kind ∷ 0 ∷ 0 ∷ 0 ∷ 0 ∷ []) }
 {
-    let low = length % 0x100_0000;
+    let mut bytes = Vec::with_capacity(alloc, SHORT)?;
+    bytes.extend_from_slice(&[number_of(kind), 0, 0, 0, 0])?;
+    Text::from_vec(alloc, bytes)
+}
+
+/// Puts the length of a payload into the place that was left for it.
+fn put_length(text: &mut Text, size: u32) -> Result<(), AllocError>
+    requires { 5 ≤ length text.old }
+    ensures { (kind : ℕ) (payload : List ℕ) → text.old ≡ kind ∷ 0 ∷ 0 ∷ 0 ∷ 0 ∷ payload →
+        OnOk result (text.new ≡ kind ∷ (digits 4 size ++ payload)) }
+{
+    let low = size % 0x100_0000;
     let lower = low % 0x1_0000;
-    out.extend_from_slice(&[
-        number_of(kind),
-        (length / 0x100_0000) as u8,
-        (low / 0x1_0000) as u8,
-        (lower / 0x100) as u8,
-        (lower % 0x100) as u8,
-    ])
+    text.set(1, (size / 0x100_0000) as u8)?;
+    text.set(2, (low / 0x1_0000) as u8)?;
+    text.set(3, (lower / 0x100) as u8)?;
+    text.set(4, (lower % 0x100) as u8)
 }
 
 /// The spelling of a frame by the table, which is then the one after the frame. None where the
@@ -173,16 +183,13 @@ fn framed(alloc: Global, frame: &Frame, recent: &mut NameLog) -> Result<Option<T
         ≡ record { now = after_frame recent.old.now frame.now; kept = recent.old.kept }) }
     ensures err { OnErr result (recent.new.kept ≡ recent.old.kept) }
 {
-    let mut payload = Text::from_vec(alloc, Vec::with_capacity(alloc, SHORT)?)?;
-    push_payload(&mut payload, frame, recent)?;
-    let length = payload.len();
+    let mut text = begun(alloc, kind_of(frame))?;
+    push_payload(&mut text, frame, recent)?;
+    let length = text.len() - HEADER;
     if length > LONGEST_PAYLOAD as usize {
         return Ok(None);
     }
-    let mut out = Vec::with_capacity(alloc, 5 + length)?;
-    push_header(&mut out, kind_of(frame), length as u32)?;
-    out.extend_from_slice(payload.as_slice())?;
-    let text = Text::from_vec(alloc, out)?;
+    put_length(&mut text, length as u32)?;
     Ok(Some(text))
 }
 
