@@ -16,7 +16,7 @@ ghost use Rattle.do_net.specs.Lanes.{carried_of};
 use crate::by_port::Hosts;
 use crate::host::Host;
 use crate::hosted::Hosted;
-use crate::lane::{Kept, frame_in};
+use crate::lane::{Kept, taken_frame};
 use do_base::{Event, NodeId, Reserved, ShownList};
 use do_machine::{NodeLines, Outcome, Snapshot};
 use do_network::{Input, Wire};
@@ -93,14 +93,13 @@ pub(crate) fn is_open<S: Hosted>(hosts: &Hosts<S>, port: NodeId, peer: NodeId) -
 }
 
 /// What a node is handed of what stands in a lane from another.
-fn input_of(alloc: Global, from: NodeId, kept: &Kept) -> Result<Input, AllocError>
-    ensures { IfOk result (λ input. input ≡ input_of from (carried_of kept.now)) }
+fn input_of(from: NodeId, kept: Kept) -> Result<Input, AllocError>
+    ensures { IfOk result (λ input. input ≡ input_of from (carried_of kept)) }
 {
-    let Kept::Frame(bytes) = kept else {
-        return Ok(Input::Ended(from));
-    };
-    let frame = frame_in(alloc, bytes)?;
-    Ok(Input::Frame(from, frame))
+    match kept {
+        Kept::Frame(bytes) => Ok(Input::Frame(from, taken_frame(bytes)?)),
+        Kept::Loss => Ok(Input::Ended(from)),
+    }
 }
 
 /// Takes out the oldest of what stands in the lane from one node to another.
@@ -123,7 +122,7 @@ fn hand_kept<S: Hosted>(
     hosts: &mut Hosts<S>,
     port: NodeId,
     from: NodeId,
-    kept: &Kept,
+    kept: Kept,
     wires: &mut Reserved<Wire>,
 ) -> Result<Outcome, AllocError>
     requires { AllByRecursion HasFetched (hostings S.seen hosts.old) }
@@ -131,10 +130,10 @@ fn hand_kept<S: Hosted>(
         AllByRecursion (Rests table act) (hostings S.seen hosts.old) →
         IfOk result (λ outcome. Goes table act (hostings S.seen hosts.new) wires.old.items
         wires.new.items outcome (net_handed table act (net_of (hostings S.seen hosts.old)) port
-        (input_of from (carried_of kept.now))) (HandsSpelled table act
-        (net_of (hostings S.seen hosts.old)) port (input_of from (carried_of kept.now)))) }
+        (input_of from (carried_of kept))) (HandsSpelled table act
+        (net_of (hostings S.seen hosts.old)) port (input_of from (carried_of kept)))) }
 {
-    let input = input_of(hosts.items.allocator(), from, kept)?;
+    let input = input_of(from, kept)?;
     hand(hosts, port, &input, wires)
 }
 
@@ -155,7 +154,7 @@ fn take_oldest<S: Hosted>(
         (SendsSpelled table act (net_of (hostings S.seen hosts.old)) (Take port from))) }
 {
     match advance(hosts, from, port) {
-        Some(kept) => hand_kept(hosts, port, from, &kept, wires),
+        Some(kept) => hand_kept(hosts, port, from, kept, wires),
         None => Ok(shows_nothing(hosts.items.allocator(), false)),
     }
 }

@@ -50,13 +50,19 @@ impl Model for Lane {
 pub fn frame_in(alloc: Global, bytes: &Text) -> Result<RawFrame, AllocError>
     ensures { IfOk result (λ frame. frame ≡ frame_in bytes.now) }
 {
-    let bytes = bytes.as_slice();
-    let kind = match bytes.first() {
+    taken_frame(Text::from_slice(alloc, bytes.as_slice())?)
+}
+
+/// The same of bytes that are given away. They are copied only where they are shared.
+pub(crate) fn taken_frame(bytes: Text) -> Result<RawFrame, AllocError>
+    ensures { IfOk result (λ frame. frame ≡ frame_in bytes) }
+{
+    let mut payload = Bytes::from_vec(bytes.into_vec()?)?;
+    let kind = match payload.as_slice().first() {
         Some(kind) => *kind,
         None => 0,
     };
-    let begins = bytes.len().min(5);
-    let payload = Bytes::copy_from_slice(alloc, &bytes[begins..])?;
+    payload.advance(payload.len().min(5));
     Ok(RawFrame { kind, payload })
 }
 
