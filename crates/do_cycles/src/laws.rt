@@ -19,9 +19,9 @@ pub fn each_lost_object_is_told()
         TellsEachLost (reached table act seats events) }
 {}
 
-/// Where nothing is on its way, and all ends are open, no node lends or asks for anything, the
-/// search starts at roots and invocations alone, and what is stored is held up by these and by
-/// slots, on whichever node.
+/// Where nothing is on its way, and all ends are open, no node lends or asks for anything, and the
+/// search starts at roots and invocations alone. What is stored is held up by these and by slots,
+/// on whichever node.
 ///
 /// All ends are open as long as nothing was closed and nothing lost.
 pub fn quiet_states_are_settled()

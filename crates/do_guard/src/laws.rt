@@ -43,7 +43,7 @@ pub fn targets_stay()
 {}
 
 /// A law alone: in every state, what a run of a checker's invocation sends to a peer or to an own
-/// object goes to the checker's target, with the selector of the method that was invoked, which a
+/// object goes to the checker's target. It has the selector of the method that was invoked, which a
 /// rule of its class allows.
 pub fn checkers_send_to_their_target()
     ensures { (b : Native) (rules : List Rule) (table : List Class) (S : State) (port : ℕ)
@@ -56,7 +56,7 @@ pub fn checkers_send_to_their_target()
 }
 
 /// A law alone: in every state that a schedule comes to, a running invocation of a checker whose
-/// method's selector is denied raises the text of the rule: it goes to the invocation's handler, or
+/// method's selector is denied raises the text of the rule. It goes to the invocation's handler, or
 /// ends it. So it is in any state at all where the invocation has its 16 locals.
 ///
 /// The signatures of the table are to be those of methods, as in every world. `guard:` is left out,

@@ -27,9 +27,9 @@ pub fn servers_of_names_keep_values_sendable()
 
 /// So does a behaviour of classes of all kinds.
 ///
-/// Premises are that the codes of its scripts are valid and have only numbers and texts that a
-/// message can carry, that so have its rules, and that the servers of pasteboards, services and
-/// notifications, where a class is of their kind, keep values so.
+/// Premises are that the codes of its scripts are valid, and that these and its rules have only
+/// numbers and texts that a message can carry. The servers of pasteboards, services and
+/// notifications, where a class is of their kind, are to keep values so.
 pub fn native_acts_keep_values_sendable()
     ensures { (b : Native) → CodesAreSendable b.program →
         AllByRecursion RulesAreSendable b.rules → (table : List Class) →

@@ -25,14 +25,14 @@ ghost use Rattle.do_limits.specs.SendableStates.{StateIsSendable};
 ghost use Rattle.do_limits.specs.Spelled.{ItemIsSpelled};
 
 /// In every state that a machine comes to, each value of a slot, a local or an answer can be
-/// carried by a message, each object has the slots of its class, each invocation has its sixteen
-/// locals, and each message on its way is within the limits: its places are there, its selector is
+/// carried by a message. Each object has the slots of its class, each invocation has its sixteen
+/// locals, and each message on its way is within the limits. Its places are there, its selector is
 /// one, its names are of classes of the table, and its values can be spelled. Serials are from 1
 /// on.
 ///
-/// Premises are that the world is one, that the acts of the behaviour keep this of the values that
-/// they see, where an invocation has its sixteen locals, and make objects of the table's classes,
-/// and that the values of each start are such.
+/// Premises are that the world is one, and that the values of each start are such. The acts of the
+/// behaviour are to keep this of the values that they see, where an invocation has its sixteen
+/// locals, and to make objects of the table's classes.
 pub fn values_of_states_can_be_sent()
     ensures opening { (table : List Class) (seats : List Seat) → IsWorld table seats →
         StateIsSendable table (opening table seats) }
@@ -58,7 +58,7 @@ pub fn numbers_of_states_are_bounded()
 {}
 
 /// In every state that a machine comes to by fewer than 2^46 events, the frame of each item on its
-/// way has a spelling that its reader reads, by the same classes; a release has one for each amount
+/// way has a spelling that its reader reads by these classes. A release has one for each amount
 /// from 1 to 2^63 - 1.
 ///
 /// Premises are those of `values_of_states_can_be_sent`.

@@ -17,18 +17,18 @@ ghost use Rattle.do_packet.specs.Met.{has_object};
 /// A network names, beside the slots of its objects, exactly the objects that the state of the one
 /// machine names for which it stands.
 ///
-/// What its sites name is known to them; what is under way is read from the bytes of the frames, by
-/// the names that their reader read last; and what the bytes of ends leave out are the objects that
-/// a site still counts for peers whose ends are closed.
+/// What its sites name is known to them. What is under way is read from the bytes of the frames, by
+/// the names that their reader read last. What the bytes of ends leave out are the objects that a
+/// site still counts for peers whose ends are closed.
 pub fn networks_name_what_states_name()
     ensures { (table : List Class) (act : Acting) (N : Net) (S : State) →
         StandsFor table act N S → (o : ObjectName) →
         has_object (net_named table N) o ≡ has_object (named S) o }
 {}
 
-/// So a search from what a network names finds what a search in the state finds: the same objects
-/// that nothing can reach, each with the same slot that names it and of the same class, and whether
-/// nothing is under way.
+/// So a search from what a network names finds what a search in the state finds. The same objects
+/// are those that nothing can reach, each with the same slot that names it and of the same class.
+/// Both tell alike whether nothing is under way.
 pub fn searches_find_the_same()
     ensures leaks { (table : List Class) (act : Acting) (N : Net) (S : State) →
         StandsFor table act N S →

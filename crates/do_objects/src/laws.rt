@@ -17,7 +17,7 @@ ghost use Rattle.do_objects.specs.Reached.{object_of, reached};
 ghost use Rattle.do_objects.specs.Writes.{writes_to};
 
 /// A law alone: an object that is stored before an event and after it is the same but for what the
-/// event writes to it, which is nothing, or what the running act of an invocation of it writes.
+/// event writes to it. That is nothing, or what the running act of an invocation of it writes.
 pub fn slots_are_written_by_own_acts()
     ensures { (table : List Class) (act : Acting) (S : State) (event : Event) (o : ObjectName)
         (x y : Stored) → object_of S o ≡ Some x →
@@ -35,7 +35,7 @@ pub fn freed_objects_never_return()
 {}
 
 /// A law alone: in every state that a schedule comes to, each invocation is of an object that its
-/// node made, and runs a method of the class that this has as long as it is stored.
+/// node made. It runs a method of the class that this object has as long as it is stored.
 pub fn invocations_run_own_methods()
     ensures opening { (table : List Class) (seats : List Seat) → AllSound (opening table seats) }
     ensures steps { (table : List Class) (act : Acting) (S : State) (event : Event) →
@@ -47,7 +47,7 @@ pub fn invocations_run_own_methods()
 /// A law alone: in every state that a schedule comes to, each invocation runs a method that the
 /// table has, and has 16 locals.
 ///
-/// The signatures of the table are to be those of methods, as in every world, and each step of the
+/// The signatures of the table are to be those of methods, as in every world. Each step of the
 /// behaviour is to give 16 locals, as each of a program and of native classes does.
 pub fn invocations_can_act()
     ensures opening { (table : List Class) (seats : List Seat) →

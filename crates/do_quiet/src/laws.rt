@@ -18,8 +18,8 @@ pub fn ends_stay_open_unless_broken()
         AllByRecursion IsNoBreak events → AllEndsOpen (reached table act seats events) }
 {}
 
-/// As long as all ends are open, each node holds or asks for each object that it lends: from when
-/// it lends the object until it takes the notice that the lend is over.
+/// As long as all ends are open, each node holds or asks for each object that it lends. It does
+/// from when it lends the object until it takes the notice that the lend is over.
 pub fn lent_objects_are_kept()
     ensures { (table : List Class) (act : Acting) (seats : List Seat) (events : List Event) →
         AllEndsOpen (reached table act seats events) →
@@ -27,7 +27,7 @@ pub fn lent_objects_are_kept()
 {}
 
 /// As long as all ends are open, a lend lasts over a run until its node takes the borrower's notice
-/// that it is over, and so long the node holds or asks for the object.
+/// that it is over. So long the node holds or asks for the object.
 pub fn lends_last_while_ends_are_open()
     ensures { (table : List Class) (act : Acting) (seats : List Seat) (events more : List Event)
         (port : ℕ) (l : Lend) → IsLent (reached table act seats events) port l →
@@ -53,15 +53,15 @@ pub fn nothing_is_lent_when_quiet()
 {}
 
 /// In every state that a machine comes to, what each node stores holds itself up, with the entries
-/// of that state, and a node holds no foreign object that it does not name.
+/// of that state. A node holds no foreign object that it does not name.
 pub fn nodes_keep_what_is_held_up()
     ensures { (table : List Class) (act : Acting) (seats : List Seat) (events : List Event) →
         NodesKeep (reached table act seats events) }
 {}
 
 /// Where all ends are open and nothing is on its way, the stored objects are exactly those that all
-/// nodes together keep: the greatest set of stored objects of which each is a root, or is named by
-/// an invocation or by a slot of one of them, on whichever node.
+/// nodes together keep. That is the greatest set of stored objects of which each is a root, or is
+/// named by an invocation or by a member's slot, on whichever node.
 pub fn stored_are_kept_by_all()
     ensures { (table : List Class) (act : Acting) (seats : List Seat) (events : List Event) →
         AllEndsOpen (reached table act seats events) →

@@ -20,11 +20,11 @@ ghost use Rattle.do_agreement.specs.Along.{ComesToTheSame, EventsSendSpelled, Li
 ghost use Rattle.do_agreement.specs.HasWires.{HasWires};
 ghost use Rattle.do_within.specs.Received.{ReceivedWithin, net_reached};
 
-/// After so many events no node has received an object more often than 65,536 times for each
-/// event, so the amount of each release over fewer than 2^46 events is below 2^63.
+/// After so many events no node has received an object more often than 65,536 times for each event.
+/// So the amount of each release over fewer than 2^46 events is below 2^63.
 ///
-/// Premises are that the world is one, that the acts of the behaviour keep values within the
-/// limits, that the values of each start are such, and that there are fewer than 2^46 events.
+/// Premises are that the world is one, that acts of the behaviour and values of starts are within
+/// the limits, and that there are fewer than 2^46 events.
 pub fn amounts_are_bounded()
     ensures { (table : List Class) (act : Acting) (seats : List Seat) (events : List Event) →
         IsWorld table seats → KeepsSendable table act → AllStartSendable events →
@@ -48,8 +48,8 @@ pub fn frames_have_spellings()
 {}
 
 /// Over each schedule of fewer than 2^46 events, each event comes to the same in a network of sites
-/// and in one machine, and what is written of the network is the machine's transcript, with lines
-/// `wire ..` put between its lines.
+/// and in one machine. What is written of the network is the machine's transcript, with lines `wire
+/// ..` put between its lines.
 ///
 /// Premises are those of `amounts_are_bounded`.
 pub fn networks_are_one_machine()
@@ -65,7 +65,7 @@ pub fn networks_are_one_machine()
 {}
 
 /// So it is of a world whose methods are scripts, where each method's code is valid and has only
-/// numbers and texts that a message can carry: nothing is asked of its acts.
+/// numbers and texts that a message can carry. Nothing is asked of its acts.
 pub fn scripted_networks_are_one_machine()
     ensures { (codes : List (List Listing)) → CodesAreSendable codes → (table : List Class)
         (seats : List Seat) (lines : List Line) → IsWorld table seats →

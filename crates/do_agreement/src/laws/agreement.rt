@@ -34,8 +34,8 @@ pub fn networks_open_in_agreement()
 {}
 
 /// A network that agrees with a state stands for it, where each lend, ask and call of the state is
-/// in one place, as in each state that a machine comes to: so its sites are judged as the machine's
-/// nodes, and none of them closes an end for a fault.
+/// in one place, as in each reached state. So its sites are judged as the machine's nodes, and none
+/// of them closes an end for a fault.
 pub fn agreeing_networks_stand_for_states()
     ensures { (table : List Class) (N : Net) (S : State) → Agrees table N S → LinksAreKept S →
         CallsAreKept S → Fits table N S }
@@ -72,8 +72,8 @@ pub fn snapshots_are_equal()
 {}
 
 /// Over every schedule of lines, what a network of sites shows and lists is what the one machine
-/// shows and lists, line by line; and what is written of it is the machine's transcript, with
-/// lines `wire ..` put between its lines.
+/// shows and lists, line by line. What is written of it is the machine's transcript, with lines
+/// `wire ..` put between its lines.
 ///
 /// The premise is that each frame sent on the way has a spelling.
 pub fn networks_write_what_one_machine_writes()

@@ -10,9 +10,9 @@ ghost use Rattle.do_facts.specs.calls.Facts.{CallsAreKept};
 ghost use Rattle.do_facts.specs.links.LinksAreKept.{LinksAreKept};
 ghost use Rattle.do_agreement.specs.StandBetween.{StandBetween};
 
-/// Where notes stand for the queues between two nodes of a state, each lend, each ask and each
-/// call between these nodes is in one place, as it is in the state; and over an open end no end is
-/// on its way that tells of an object.
+/// Where notes stand for the queues between two nodes of a state, each lend, each ask and each call
+/// between these nodes is in one place, as it is in the state. Over an open end no end is on its
+/// way that tells of an object.
 pub fn pairs_stand_as_in_the_state()
     ensures lends { (S : State) → LinksAreKept S → (n m : Node) (there back : List Note) →
         StandBetween S n m there back → (o : ObjectName) (number : ℕ) →

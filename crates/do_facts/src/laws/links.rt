@@ -20,7 +20,7 @@ ghost use Rattle.do_facts.specs.links.Links.{links};
 ghost use Rattle.do_facts.specs.links.LinksAreKept.{LinksAreKept};
 ghost use Rattle.do_facts.specs.links.Moves.{link_rules};
 
-/// Every step is a list of moves of what the event's node has of foreign objects; a loss is one
+/// Every step is a list of moves of what the event's node has of foreign objects. A loss is one
 /// loss, in the queue that it names, and a check is nothing.
 ///
 /// Each move takes one atom at most, and posts one at most, over an open end.
@@ -33,7 +33,7 @@ pub fn steps_are_moves()
 /// In every state that a machine comes to, each lend and each ask is in one place, and a token that
 /// was not given is nowhere.
 ///
-/// So what comes over an open end is known: a lend that is over is lent, an answer to an ask is
+/// So what comes over an open end is known. A lend that is over is lent, an answer to an ask is
 /// asked for, each once, and what is lent anew was not asked for.
 pub fn lends_and_asks_are_in_one_place()
     ensures opening { (table : List Class) (seats : List Seat) →
@@ -47,8 +47,8 @@ pub fn lends_and_asks_are_in_one_place()
         ReportsAreKnown (net_of links (reached table act seats events)) }
 {}
 
-/// A lend lasts until its node takes the borrower's notice that it is over, or closes the end
-/// towards the borrower, in every state in which each lend is in one place.
+/// Where each lend is in one place, a lend lasts until its node takes the borrower's notice that it
+/// is over, or closes the end towards it.
 ///
 /// It is in all that a machine comes to.
 pub fn lends_last_until_settled()

@@ -25,7 +25,7 @@ ghost use Rattle.do_facts.specs.steps.IsStep.{IsActOf, IsRuleOf, IsStep};
 ghost use Rattle.do_facts.specs.steps.Queues.{IsLost, IsTaken, StandBehind, touches};
 
 /// A step is two effects of one node, that of the event's rule and what the node frees and leaves
-/// then; before them the node takes one item out of one queue at most. Or a step is a loss, which
+/// then. Before them the node takes one item out of one queue at most. Or a step is a loss, which
 /// puts one end into one queue. Where a rule gives its node an effect, the event is not skipped.
 ///
 /// So it changes no node but its own, and the class of an object that was made stays known and the

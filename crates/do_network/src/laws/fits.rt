@@ -43,7 +43,7 @@ pub fn fitting_frames_have_no_fault()
 {}
 
 /// In a network that stands for a state, a site that can take the next frame in a channel to it
-/// reads and takes it: no site closes an end for a fault.
+/// reads and takes it. No site closes an end for a fault.
 pub fn fitting_frames_are_taken()
     ensures { (table : List Class) → IsTable table → (act : Acting) (N : Net) (S : State) →
         Fits table N S → (port from : ℕ) (p : Part) → part_at N port ≡ Some p →
