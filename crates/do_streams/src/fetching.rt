@@ -35,7 +35,8 @@ fn append(bytes: &mut Text, more: &Text) -> Result<(), AllocError>
 /// Appends the bytes of what a port sends, and tells the peer that it goes to.
 ///
 /// An error means that memory ran out, or that what is sent has no spelling that its peer can read;
-/// the bytes are then unchanged.
+/// the bytes are then unchanged. It is a call of its own, since most steps send nothing.
+#[inline(never)]
 pub fn fetch(
     next: &Spelled,
     table: &ClassTable,

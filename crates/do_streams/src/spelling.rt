@@ -116,6 +116,9 @@ fn spell_next(
 
 /// Spells what is to be fetched next, if that is not done: then nothing is spelled exactly where no
 /// frame waits. If memory runs out, what waits is as before.
+///
+/// It is a call of its own, since most steps spell nothing.
+#[inline(never)]
 pub fn spell_if_none(
     alloc: Global,
     spelled: &mut Option<Spelled>,

@@ -62,7 +62,8 @@ fn opening_ends(alloc: Global, peers: &Peers) -> Result<Items<End>, AllocError>
     Ok(ends)
 }
 
-/// What was fetched is no longer spelled.
+/// What was fetched is no longer spelled. It is a call of its own, since most steps send nothing.
+#[inline(never)]
 fn forget(spelled: &mut Option<Spelled>)
     ensures { spelled.new ≡ None }
 {

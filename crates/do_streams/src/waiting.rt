@@ -69,7 +69,9 @@ fn take_frame(cells: &mut Cells<Queued>) -> Option<Outgoing>
     }
 }
 
-/// Takes the oldest line out of its cell. None exactly where no cell holds one.
+/// Takes the oldest line out of its cell. None exactly where no cell holds one. It is a call of its
+/// own, since most steps show nothing.
+#[inline(never)]
 fn take_line(cells: &mut Cells<Queued>) -> Option<Shown>
     requires { AreApart cells.old }
     ensures apart { AreApart cells.new }
@@ -192,6 +194,9 @@ impl Waiting {
         ensures room { self.old.room ≤ self.new.room }
         ensures places { self.new.places ≡ self.old.places }
     {
+        if self.is_empty() {
+            return None;
+        }
         let line = take_line(&mut self.cells)?;
         self.room += 1;
         Some(line)
