@@ -85,11 +85,11 @@ impl Part {
         self.write_all(serial, writes);
     }
 
-    /// Makes a change of the top invocation: a step is done, with its writes of slots, and any
-    /// other act is handed back.
+    /// Makes a change of the top invocation of any kind: a step is done, with its writes of slots,
+    /// and any other act is handed back.
     ///
     /// Only a push takes memory. If that runs out, what the part has is unchanged.
-    pub fn step(&mut self, change: Change) -> Result<Option<Act>, AllocError>
+    fn step_any(&mut self, change: Change) -> Result<Option<Act>, AllocError>
         requires top { 0 < length self.old.own.node.stack }
         requires fits { (top : Invocation) → slice_get self.old.own.node.stack 0 ≡ Some top
             → IsFitting top change }
@@ -110,14 +110,6 @@ impl Part {
         ensures entries { self.new.room.entries ≡ self.old.room.entries }
     {
         match change {
-            Change::Local { into, value, pc } => {
-                self.set_local(into, value, pc);
-                Ok(None)
-            }
-            Change::Goto { pc } => {
-                self.go_to(pc);
-                Ok(None)
-            }
             Change::Slot { slot, value, pc } => {
                 self.step_slot(slot, value, pc);
                 Ok(None)
@@ -156,6 +148,44 @@ impl Part {
                 self.exchange(other);
                 Ok(None)
             }
+        }
+    }
+
+    /// Makes a change of the top invocation: a step is done, with its writes of slots, and any
+    /// other act is handed back.
+    ///
+    /// Only a push takes memory. If that runs out, what the part has is unchanged.
+    pub fn step(&mut self, change: Change) -> Result<Option<Act>, AllocError>
+        requires top { 0 < length self.old.own.node.stack }
+        requires fits { (top : Invocation) → slice_get self.old.own.node.stack 0 ≡ Some top
+            → IsFitting top change }
+        requires names { sizes_of (given change)
+            + sizes_of (written_values (change_writes change)) ≤ self.old.room.names }
+        requires locals { AreStored self.old.own.node (values_of (given change)) }
+        requires stored { AreStored self.old.own.node
+            (values_of (written_values (change_writes change))) }
+        ensures own { OnOk result (self.new.own
+            ≡ record self.old.own { node = changed change self.old.own.node }) }
+        ensures left { IfOk result (λ act. act ≡ act_left_on change self.old.own.node.stack) }
+        ensures err { OnErr result (self.new.own ≡ self.old.own) }
+        ensures sure { is_push change ≡ false → IsOk result }
+        ensures objects { self.new.room.objects ≡ self.old.room.objects }
+        ensures invocations { self.new.room.invocations ≡ self.old.room.invocations }
+        ensures names { self.old.room.names ≤ self.new.room.names + sizes_of (given change)
+            + sizes_of (written_values (change_writes change)) }
+        ensures entries { self.new.room.entries ≡ self.old.room.entries }
+    {
+        // Most steps set a local or go on.
+        match change {
+            Change::Local { into, value, pc } => {
+                self.set_local(into, value, pc);
+                Ok(None)
+            }
+            Change::Goto { pc } => {
+                self.go_to(pc);
+                Ok(None)
+            }
+            other => self.step_any(other),
         }
     }
 }
