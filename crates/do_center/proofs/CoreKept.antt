@@ -1,13 +1,17 @@
 -- What each call leaves of a core is a core.
 use Rattle.std.proofs.Common.{◌≡◌, ℕ, zero, suc, ◌<◌, ◌≤◌, Bool, true, false, ◌&&◌, List, [], ◌∷◌}
 use Rattle.std.proofs.Common.{◌++◌}
-use Rattle.std.proofs.Common.{length, Option, Some, None, refl, sym, ◌∙◌, ap}
+use Rattle.std.proofs.Common.{length, Option, Some, None, refl, sym, ◌∙◌, ap, subst}
 use Rattle.std.proofs.Common.{arith, length-append}
 use Rattle.std.specs.Prelude.{if◌then◌else◌, not, ◌||◌, slice_get, nat_le}
-use Rattle.std.specs.List.{list_all}
-use Rattle.std.proofs.lemmas.Bool.{and_parts, and_from, leb-true, le-leb}
+use Rattle.std.specs.List.{All, list_all}
+use Rattle.std.specs.Option.{option_map}
+use Rattle.std.proofs.lemmas.Bool.{and_parts, and_from, cond_both, leb-true, le-leb, not-true}
+use Rattle.std.proofs.lemmas.Bool.{or_from, or_parts, or_right}
 use Rattle.std.proofs.lemmas.List.{map-append, length-map}
+use Rattle.std.proofs.lemmas.List.Elements.{All-nil, All-push, All-weaker}
 use Rattle.std.proofs.lemmas.List.Folds.{list_all-append, list_any-append}
+use Rattle.std.proofs.lemmas.Option.{slice_get-map}
 use Rattle.do_base.specs.names.Names.{ObjectName}
 use Rattle.do_center.specs.Notes.{is_note}
 use Rattle.do_center.specs.Observers.{are_distinct, has_object, same_object, without_object}
@@ -15,43 +19,46 @@ use Rattle.do_center.specs.Posting.{came_to_all}
 use Rattle.do_center.specs.Queues.{with_queue}
 use Rattle.do_center.specs.Registrations.{is_registration}
 use Rattle.do_center.specs.Seats.{are_apart, are_seats, are_suspended, has_none, is_core}
-use Rattle.do_center.specs.Seats.{is_of, is_queue, is_queued, is_seat, registrations}
+use Rattle.do_center.specs.Seats.{is_of, is_seat, registrations}
 use Rattle.do_center.specs.declared.notes.Note.{Note}
 use Rattle.do_center.specs.declared.queues.Queued.{Queued}
 use Rattle.do_center.specs.declared.registrations.Registration.{Registration}
 use Rattle.do_center.specs.declared.seats.Seat.{Seat}
-use Rattle.do_center.proofs.PostKept.{came_kept}
-use Rattle.do_center.proofs.SameObject.{same_sym}
-use Rattle.do_center.proofs.SeatsKept.{with_registrations, with_length, with_seats, with_apart}
+use Rattle.do_center.specs.laws.PostLaws.{came_kept}
+use Rattle.do_center.specs.laws.SameObject.{same_refl, same_sym}
+use Rattle.do_center.proofs.SeatsKept.{AreSeats, CameBy, IsSeat, seats_are, seats_of, seats_posted}
 
--- the parts of registrations that can be a core's
+-- registrations of a core are at most 256, each with a queue that its observer may have
 pub seats_parts : (ss : List Seat) → are_seats ss ≡ true
-    → (nat_le (length ss) 256 ≡ true) × (list_all (is_seat (registrations ss)) ss ≡ true)
-    × (are_apart ss ≡ true)
+    → (length (registrations ss) ≤ 256) × AreSeats (registrations ss) ss
 seats_parts ss is =
-    let limits =
-    and_parts (nat_le (length ss) 256) (list_all (is_seat (registrations ss)) ss && are_apart ss)
-    is in
-    let others = and_parts (list_all (is_seat (registrations ss)) ss) (are_apart ss) limits.1 in
-    (limits.0, others.0, others.1)
+    let rs = registrations ss in
+    let limits = and_parts (nat_le (length ss) 256) (list_all (is_seat rs) ss && are_apart ss) is in
+    let others = and_parts (list_all (is_seat rs) ss) (are_apart ss) limits.1 in (
+      subst (λ n. n ≤ 256) (sym (length-map ss (λ (s : Seat). s.registration)))
+          (leb-true (length ss) 256 limits.0),
+      (refl, seats_of rs ss others.0, others.1),
+    )
 
--- and they make them
-pub seats_from : (ss : List Seat) (rs : List Registration) → registrations ss ≡ rs
-    → nat_le (length ss) 256 ≡ true → list_all (is_seat rs) ss ≡ true → are_apart ss ≡ true
+-- and such can be a core's
+pub seats_from : (rs : List Registration) (ss : List Seat) → length rs ≤ 256 → AreSeats rs ss
     → are_seats ss ≡ true
-seats_from ss rs same few all apart =
-    and_from (nat_le (length ss) 256) (list_all (is_seat (registrations ss)) ss && are_apart ss) few
+seats_from rs ss few are =
+    let many : length rs ≡ length ss =
+    sym (ap length are.0) ∙ length-map ss (λ (s : Seat). s.registration) in
+    and_from (nat_le (length ss) 256) (list_all (is_seat (registrations ss)) ss && are_apart ss)
+    (le-leb (length ss) 256 (subst (λ n. n ≤ 256) many few))
     (and_from (list_all (is_seat (registrations ss)) ss) (are_apart ss)
-    (ap (λ xs. list_all (is_seat xs) ss) same ∙ all) apart)
+    (ap (λ xs. list_all (is_seat xs) ss) are.0 ∙ seats_are rs ss are.1) are.2)
 
 -- registrations can be a core's without the queue of an observer
 pub cleared_kept : (ss : List Seat) (o : ObjectName) → are_seats ss ≡ true
     → are_seats (with_queue ss o []) ≡ true
 cleared_kept ss o is =
+    let rs = registrations ss in
     let parts = seats_parts ss is in
-    seats_from (with_queue ss o []) (registrations ss) (with_registrations ss o [])
-    (ap (λ n. nat_le n 256) (with_length ss o []) ∙ parts.0)
-    (with_seats (registrations ss) ss o [] parts.1 refl) (with_apart ss o [] parts.2)
+    seats_from rs (with_queue ss o []) parts.0
+    ((seats_posted rs).replaced ss o [] parts.1 ((seats_posted rs).none o))
 
 -- what stands at a place of a list stands there when more follow
 get_before : {A : Type 0} (xs more : List A) (k : ℕ) (x : A) → slice_get xs k ≡ Some x
@@ -62,8 +69,7 @@ get_before (y ∷ xs) more (suc k) x e = get_before xs more k x e
 
 module _ (rs : List Registration) (r : Registration) where
   -- what waits at a registration waits there when one more is added
-  queued_before : (o : ObjectName) (e : Queued) → is_queued rs o e ≡ true
-      → is_queued (rs ++ r ∷ []) o e ≡ true
+  queued_before : (o : ObjectName) (e : Queued) → CameBy rs o e → CameBy (rs ++ r ∷ []) o e
   queued_before o e is = by (slice_get rs e.place) refl is
     where
       by : (f : Option Registration) → slice_get rs e.place ≡ f
@@ -73,46 +79,21 @@ module _ (rs : List Registration) (r : Registration) where
       by (Some x) at both =
           ap (λ f. is_of o f && is_note e.note) (get_before rs (r ∷ []) e.place x at) ∙ both
 
-  -- and all that wait do
-  all_before : (o : ObjectName) (q : List Queued) → list_all (is_queued rs o) q ≡ true
-      → list_all (is_queued (rs ++ r ∷ []) o) q ≡ true
-  all_before o [] all = refl
-  all_before o (e ∷ q) all =
-      let parts = and_parts (is_queued rs o e) (list_all (is_queued rs o) q) all in
-      and_from (is_queued (rs ++ r ∷ []) o e) (list_all (is_queued (rs ++ r ∷ []) o) q)
-      (queued_before o e parts.0) (all_before o q parts.1)
-
   -- so each registration keeps the limits
-  seats_before : (ss : List Seat) → list_all (is_seat rs) ss ≡ true
-      → list_all (is_seat (rs ++ r ∷ [])) ss ≡ true
-  seats_before [] all = refl
-  seats_before (s ∷ ss) all =
-      let both = and_parts (is_seat rs s) (list_all (is_seat rs) ss) all in
-      let parts =
-      and_parts (is_registration s.registration) (is_queue rs s.registration.observer s.queue)
-      both.0 in
-      let queue =
-      and_parts (nat_le (length s.queue) 64)
-      (list_all (is_queued rs s.registration.observer) s.queue) parts.1 in
-      and_from (is_seat (rs ++ r ∷ []) s) (list_all (is_seat (rs ++ r ∷ [])) ss)
-      (and_from (is_registration s.registration)
-      (is_queue (rs ++ r ∷ []) s.registration.observer s.queue) parts.0
-      (and_from (nat_le (length s.queue) 64)
-      (list_all (is_queued (rs ++ r ∷ []) s.registration.observer) s.queue) queue.0
-      (all_before s.registration.observer s.queue queue.1)))
-      (seats_before ss both.1)
+  seats_before : (ss : List Seat) → All (IsSeat rs) ss → All (IsSeat (rs ++ r ∷ [])) ss
+  seats_before ss all =
+      All-weaker (IsSeat rs) (IsSeat (rs ++ r ∷ [])) (λ s is.
+      let o = s.registration.observer in (
+        is.0,
+        (
+          is.1.0,
+          All-weaker (CameBy rs o) (CameBy (rs ++ r ∷ []) o) (queued_before o) s.queue is.1.1,
+        ),
+      )) ss all
 
 -- a registration without queue
 abbrev pub fresh : Registration → Seat
 fresh r = record { registration = r; queue = [] }
-
--- it has none
-fresh_none : (p : ObjectName) (r : Registration) → has_none p (fresh r) ≡ true
-fresh_none p r = by (same_object r.observer p)
-  where
-    by : (b : Bool) → (not b || true) ≡ true
-    by true = refl
-    by false = refl
 
 -- one more without queue keeps queues apart
 apart_pushed : (ss : List Seat) (r : Registration) → are_apart ss ≡ true
@@ -124,36 +105,23 @@ apart_pushed (s ∷ ss) r apart =
     and_from (list_all (has_none p) (ss ++ fresh r ∷ [])) (are_apart (ss ++ fresh r ∷ []))
     (list_all-append (has_none p) ss (fresh r ∷ [])
     ∙ and_from (list_all (has_none p) ss) (list_all (has_none p) (fresh r ∷ [])) parts.0
-    (and_from (has_none p (fresh r)) true (fresh_none p r) refl))
+    (and_from (has_none p (fresh r)) true (or_right (not (same_object r.observer p)) true refl)
+    refl))
     (apart_pushed ss r parts.1)
 
 -- one registration more can be a core's, where there is room
 pub added_kept : (ss : List Seat) (r : Registration) → length ss < 256
     → is_registration r ≡ true → are_seats ss ≡ true → are_seats (ss ++ fresh r ∷ []) ≡ true
 added_kept ss r few good is =
-    let parts = seats_parts ss is in
     let rs = registrations ss in
-    seats_from (ss ++ fresh r ∷ []) (rs ++ r ∷ [])
-    (map-append (λ (s : Seat). s.registration) ss (fresh r ∷ []))
-    (le-leb (length (ss ++ fresh r ∷ [])) 256
-    (omega (arith, length-append ss (fresh r ∷ []), few)))
-    (list_all-append (is_seat (rs ++ r ∷ [])) ss (fresh r ∷ [])
-    ∙ and_from (list_all (is_seat (rs ++ r ∷ [])) ss)
-    (list_all (is_seat (rs ++ r ∷ [])) (fresh r ∷ []))
-    (seats_before rs r ss parts.1)
-    (and_from (is_seat (rs ++ r ∷ []) (fresh r)) true
-    (and_from (is_registration r) true good refl) refl))
-    (apart_pushed ss r parts.2)
-
--- what is none of two is neither
-none_of : (a b : Bool) → (a || b) ≡ false → (a ≡ false) × (b ≡ false)
-none_of true b e = cc
-none_of false b e = (refl, e)
-
--- a test is not passed
-pub not_of : (b : Bool) → not b ≡ true → b ≡ false
-not_of true e = cc
-not_of false e = refl
+    let are = (seats_parts ss is).1 in
+    seats_from (rs ++ r ∷ []) (ss ++ fresh r ∷ [])
+    (omega (arith, length-append rs (r ∷ []), length-map ss (λ (s : Seat). s.registration), few)) (
+      map-append (λ (s : Seat). s.registration) ss (fresh r ∷ []),
+      All-push (IsSeat (rs ++ r ∷ [])) ss (fresh r) (seats_before rs r ss are.1)
+          (good, (omega arith, All-nil (CameBy (rs ++ r ∷ []) r.observer))),
+      apart_pushed ss r are.2,
+    )
 
 -- an object is among others and one more where it is among them or is it
 pub has_pushed : (os : List ObjectName) (o x : ObjectName)
@@ -172,10 +140,10 @@ pub distinct_pushed : (os : List ObjectName) (o : ObjectName) → has_object os 
 distinct_pushed [] o absent distinct = refl
 distinct_pushed (x ∷ os) o absent distinct =
     let parts = and_parts (not (has_object os x)) (are_distinct os) distinct in
-    let both = none_of (same_object o x) (has_object os o) absent in
+    let both = or_parts (same_object o x) (has_object os o) absent in
     and_from (not (has_object (os ++ o ∷ []) x)) (are_distinct (os ++ o ∷ []))
     (ap not
-    (has_pushed os o x ∙ ap (λ b. b || same_object x o) (not_of (has_object os x) parts.0)
+    (has_pushed os o x ∙ ap (λ b. b || same_object x o) (not-true (has_object os x) parts.0)
     ∙ same_sym x o ∙ both.0))
     (distinct_pushed os o both.1 parts.1)
 
@@ -184,14 +152,11 @@ has_left : (os : List ObjectName) (o x : ObjectName) → has_object os x ≡ fal
     → has_object (without_object os o) x ≡ false
 has_left [] o x none = refl
 has_left (y ∷ os) o x none =
-    let both = none_of (same_object x y) (has_object os x) none in
-    by (same_object o y) both.0 both.1 (has_left os o x both.1)
-  where
-    by : (b : Bool) → same_object x y ≡ false → has_object os x ≡ false
-        → has_object (without_object os o) x ≡ false
-        → has_object (if b then os else y ∷ without_object os o) x ≡ false
-    by true first others rest = others
-    by false first others rest = ap (λ b. b || has_object (without_object os o) x) first ∙ rest
+    let both = or_parts (same_object x y) (has_object os x) none in
+    cond_both (same_object o y) os (y ∷ without_object os o) (λ ys. has_object ys x ≡ false)
+    (λ _. both.1)
+    (λ _. or_from (same_object x y) (has_object (without_object os o) x) both.0
+    (has_left os o x both.1))
 
 -- without one no object is there twice
 pub distinct_left : (os : List ObjectName) (o : ObjectName) → are_distinct os ≡ true
@@ -199,27 +164,18 @@ pub distinct_left : (os : List ObjectName) (o : ObjectName) → are_distinct os 
 distinct_left [] o distinct = refl
 distinct_left (x ∷ os) o distinct =
     let parts = and_parts (not (has_object os x)) (are_distinct os) distinct in
-    by (same_object o x) parts.0 parts.1 (distinct_left os o parts.1)
-  where
-    by : (b : Bool) → not (has_object os x) ≡ true → are_distinct os ≡ true
-        → are_distinct (without_object os o) ≡ true
-        → are_distinct (if b then os else x ∷ without_object os o) ≡ true
-    by true alone others rest = others
-    by false alone others rest =
-        and_from (not (has_object (without_object os o) x))
-        (are_distinct (without_object os o))
-        (ap not (has_left os o x (not_of (has_object os x) alone))) rest
+    let left = without_object os o in
+    cond_both (same_object o x) os (x ∷ left) (λ ys. are_distinct ys ≡ true) (λ _. parts.1)
+    (λ _. and_from (not (has_object left x)) (are_distinct left)
+    (ap not (has_left os o x (not-true (has_object os x) parts.0))) (distinct_left os o parts.1))
 
 -- and there are no more
 fewer_left : (os : List ObjectName) (o : ObjectName)
     → length (without_object os o) ≤ length os
 fewer_left [] o = omega arith
-fewer_left (x ∷ os) o = by (same_object o x) (fewer_left os o)
-  where
-    by : (b : Bool) → length (without_object os o) ≤ length os
-        → length (if b then os else x ∷ without_object os o) ≤ length (x ∷ os)
-    by true few = omega arith
-    by false few = omega (arith, few)
+fewer_left (x ∷ os) o =
+    cond_both (same_object o x) os (x ∷ without_object os o) (λ ys. length ys ≤ length (x ∷ os))
+    (λ _. omega arith) (λ _. omega (arith, fewer_left os o))
 
 -- one more observer may be suspended, where there is room
 pub suspended_kept : (os : List ObjectName) (o : ObjectName) → length os < 256
@@ -246,15 +202,18 @@ pub posted_kept : (ss : List Seat) (note : Note) (immediate : Bool) (os : List O
     → is_note note ≡ true → are_seats ss ≡ true
     → are_seats (came_to_all note immediate os ss).seats ≡ true
 posted_kept ss note immediate os good is =
-    let parts = seats_parts ss is in
     let rs = registrations ss in
+    let parts = seats_parts ss is in
     let kept =
-    came_kept rs note immediate os good ss (length ss) refl parts.1 parts.2 in
-    let xs = (came_to_all note immediate os ss).seats in
-    let many : length xs ≡ length ss =
-    sym (length-map xs (λ (s : Seat). s.registration)) ∙ ap length kept.same
-    ∙ length-map ss (λ (s : Seat). s.registration) in
-    seats_from xs rs kept.same (ap (λ n. nat_le n 256) many ∙ parts.0) kept.seats kept.apart
+    came_kept (seats_posted rs) note immediate os (λ xs k s are at.
+    let o = s.registration.observer in
+    let there : slice_get rs k ≡ Some s.registration =
+    ap (λ ys. slice_get ys k) (sym are.0)
+    ∙ slice_get-map (λ (x : Seat). x.registration) xs k
+    ∙ ap (option_map (λ (x : Seat). x.registration)) at in
+    and_from (is_of o (slice_get rs k)) (is_note note) (ap (is_of o) there ∙ same_refl o) good) ss
+    (length ss) parts.1 in
+    seats_from rs ((came_to_all note immediate os ss).seats) parts.0 kept.seats
 
 -- the parts of a core
 pub core_parts : (ss : List Seat) (os : List ObjectName) → is_core (ss, os) ≡ true

@@ -4,10 +4,7 @@ pub mod FirstSeat
 pub mod FirstWaiting
 pub mod SeatedMore
 pub mod WaitingMore
-pub mod SameObject
 pub mod SeatsKept
-pub mod QueuesKept
-pub mod PostKept
 pub mod RemovedKept
 pub mod CoreKept
 pub mod SuspendedSet

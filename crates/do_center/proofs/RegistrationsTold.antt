@@ -1,84 +1,42 @@
 -- The registrations that the calls leave are those that they tell.
-use Rattle.std.proofs.Common.{◌≡◌, ℕ, zero, suc, Bool, true, false, List, [], ◌∷◌, ◌++◌}
-use Rattle.std.proofs.Common.{length}
-use Rattle.std.proofs.Common.{Option, Some, None, refl, sym, ◌∙◌, ap, nat_lt}
-use Rattle.std.proofs.Common.{nat_le}
-use Rattle.std.specs.Prelude.{if◌then◌else◌, not, slice_get}
+use Rattle.std.proofs.Common.{◌≡◌, ℕ, Bool, true, false, List, [], ◌∷◌, ◌++◌, length}
+use Rattle.std.proofs.Common.{Option, Some, None, refl, sym, ◌∙◌, ap, nat_lt, nat_le}
+use Rattle.std.specs.Prelude.{if◌then◌else◌, not}
 use Rattle.std.specs.List.{filter}
 use Rattle.std.specs.Option.{option_map}
 use Rattle.std.proofs.lemmas.List.{length-map, map-append}
 use Rattle.do_base.specs.names.Names.{ObjectName}
-use Rattle.do_center.specs.Calls.{added, suspended, with_suspended}
 use Rattle.do_native_acts.specs.History.{left}
+use Rattle.do_native_acts.specs.laws.KeptLaws.{each_holds}
+use Rattle.do_center.specs.Calls.{added, suspended, with_suspended}
 use Rattle.do_center.specs.History.{after, registered, with_last}
-use Rattle.do_center.specs.Observers.{has_object}
-use Rattle.do_center.specs.Posting.{arrives, came, came_to_all, comes_to, due, held}
-use Rattle.do_center.specs.Posting.{posted_of}
-use Rattle.do_center.specs.Queues.{coalesced, deliveries, enqueued, queue_of}
-use Rattle.do_center.specs.Registrations.{matches}
+use Rattle.do_center.specs.Posting.{came_to_all, posted_of}
+use Rattle.do_center.specs.Queues.{deliveries, queue_of}
 use Rattle.do_center.specs.Removing.{goes, moved, new_places, seats_left}
 use Rattle.do_center.specs.Seats.{Core, registrations}
 use Rattle.do_center.specs.declared.calls.Call.{Call}
 use Rattle.do_center.specs.declared.calls.Call.TheVariants.{Add, Remove, Suspend, Post}
 use Rattle.do_center.specs.declared.notes.Delivery.{Delivery}
-use Rattle.do_center.specs.declared.notes.Note.{Note}
 use Rattle.do_center.specs.declared.posting.Posting.{Posting}
 use Rattle.do_center.specs.declared.queues.Queued.{Queued}
 use Rattle.do_center.specs.declared.registrations.Registration.{Registration}
 use Rattle.do_center.specs.declared.seats.Seat.{Seat}
-use Rattle.do_center.specs.declared.suspension.Suspension.{Suspension}
-use Rattle.do_center.specs.declared.suspension.Suspension.TheVariants.{Drop, Coalesce, Hold}
-use Rattle.do_center.specs.declared.suspension.Suspension.TheVariants.{DeliverImmediately}
+use Rattle.do_center.specs.laws.PostLaws.{IsPosted, came_kept}
 use Rattle.do_center.proofs.CoreKept.{fresh}
 use Rattle.do_center.proofs.SeatsKept.{with_registrations}
 
--- a notification that is held leaves the registrations
-held_same : (p : Posting) (o : ObjectName) (b : Suspension) (e : Queued)
-    → registrations (held p o b e).seats ≡ registrations p.seats
-held_same p o Drop e = refl
-held_same p o Coalesce e =
-    with_registrations p.seats o (enqueued (coalesced (queue_of p.seats o) e) e)
-held_same p o Hold e = with_registrations p.seats o (enqueued (queue_of p.seats o) e)
-held_same p o DeliverImmediately e = with_registrations p.seats o []
-
-module _ (note : Note) (immediate : Bool) (suspended : List ObjectName) where
-  -- and so does one that arrives
-  arrives_same : (p : Posting) (r : Registration) (e : Queued)
-      → registrations (arrives note immediate suspended p r e).seats ≡ registrations p.seats
-  arrives_same p r e = by (has_object suspended r.observer)
-    where
-      behaviour : Suspension
-      behaviour = if immediate then DeliverImmediately else r.behaviour
-
-      by : (b : Bool)
-          → registrations ((if b then held p r.observer behaviour e else due p e).seats)
-          ≡ registrations p.seats
-      by true = held_same p r.observer behaviour e
-      by false = refl
-
-  -- one that comes to a registration
-  comes_same : (p : Posting) (k : ℕ) (o : Option Seat)
-      → registrations (comes_to note immediate suspended p k o).seats ≡ registrations p.seats
-  comes_same p k None = refl
-  comes_same p k (Some s) = by (matches s.registration note)
-    where
-      e : Queued
-      e = record { place = k; note = note }
-
-      by : (b : Bool)
-          → registrations
-          ((if b then arrives note immediate suspended p s.registration e else p).seats)
-          ≡ registrations p.seats
-      by true = arrives_same p s.registration e
-      by false = refl
-
-  -- and one that comes to all
-  came_same : (ss : List Seat) (k : ℕ)
-      → registrations (came note immediate suspended ss k).seats ≡ registrations ss
-  came_same ss zero = refl
-  came_same ss (suc k) =
-      let p = came note immediate suspended ss k in
-      comes_same p k (slice_get p.seats k) ∙ came_same ss k
+-- each step of a post leaves the registrations
+post_same : (rs : List Registration)
+    → IsPosted (λ ss. registrations ss ≡ rs) (λ o q. Unit {0}) (λ o e. Unit {0}) (λ e. Unit {0})
+post_same rs = record {
+  queue = λ ss o same. tt;
+  none = λ o. tt;
+  replaced = λ ss o q same is. with_registrations ss o q ∙ same;
+  pushed = λ o q e is new. tt;
+  reduced = λ o q e is. tt;
+  due = λ o q is. each_holds (λ (e : Queued). Unit {0}) (λ e. tt) q;
+  new = λ o e new. tt;
+}
 
 -- those that stay are the registrations that do not go
 left_same : (out : Registration → Bool) (ps : List (Option ℕ)) (ss : List Seat)
@@ -160,7 +118,8 @@ registrations_told (Suspend o on ∷ h) =
 registrations_told (Post note immediate ∷ h) =
     let c = after h in
     posted_same c (came_to_all note immediate c.1 c.0)
-    (came_same note immediate c.1 c.0 (length c.0))
+    ((came_kept (post_same (registrations c.0)) note immediate c.1 (λ ss k s same at. tt) c.0
+    (length c.0) refl).seats)
     ∙ registrations_told h
 
 -- and so it is of a core that the calls left

@@ -2,25 +2,36 @@
 use Rattle.std.proofs.Common.{◌≡◌, ℕ, zero, suc, ◌+◌, ◌≤◌, Bool, true, false, ◌&&◌, List, [], ◌∷◌}
 use Rattle.std.proofs.Common.{◌++◌, length, Option, Some, None, refl, sym, ◌∙◌, ap}
 use Rattle.std.proofs.Common.{arith, length-append, append_assoc}
-use Rattle.std.specs.Prelude.{if◌then◌else◌, not, ◌||◌, slice_get, slice_index_or, nat_le}
+use Rattle.std.specs.Prelude.{if◌then◌else◌, not, ◌||◌, slice_get, slice_index_or}
 use Rattle.std.specs.List.{list_all}
-use Rattle.std.proofs.lemmas.Bool.{and_parts, and_from, leb-true, le-leb}
-use Rattle.std.proofs.lemmas.List.Folds.{list_all-append}
+use Rattle.std.proofs.lemmas.Bool.{and_parts, and_from, cond_both}
+use Rattle.std.proofs.lemmas.List.{length-map}
 use Rattle.do_base.specs.names.Names.{ObjectName}
+use Rattle.do_native_acts.specs.laws.KeptLaws.{flat_fewer}
 use Rattle.do_native_acts.specs.laws.KindLaws.{some_same}
 use Rattle.do_center.specs.Notes.{is_note}
 use Rattle.do_center.specs.Observers.{same_object}
-use Rattle.do_center.specs.Queues.{queue_of, with_queue}
-use Rattle.do_center.specs.Registrations.{is_registration}
+use Rattle.do_center.specs.Queues.{queue_of, seat_with, with_queue}
 use Rattle.do_center.specs.Removing.{count_left, left_of, moved, moved_entry, new_places}
-use Rattle.do_center.specs.Removing.{place_left, seats_left}
-use Rattle.do_center.specs.Seats.{are_apart, has_none, is_none, is_of, is_queue, is_queued, is_seat}
-use Rattle.do_center.specs.Seats.{are_seats, registrations}
+use Rattle.do_center.specs.Removing.{place_left, seat_left, seats_left}
+use Rattle.do_center.specs.Seats.{are_apart, are_seats, has_none, is_none, is_of, registrations}
 use Rattle.do_center.specs.declared.queues.Queued.{Queued}
 use Rattle.do_center.specs.declared.registrations.Registration.{Registration}
 use Rattle.do_center.specs.declared.seats.Seat.{Seat}
-use Rattle.do_center.proofs.SeatsKept.{with_registrations, with_length, with_seats, queue_kept}
-use Rattle.do_center.proofs.SeatsKept.{with_apart}
+use Rattle.do_center.specs.laws.QueueLaws.{left_fit, moved_kept}
+use Rattle.do_center.proofs.CoreKept.{seats_from, seats_parts}
+use Rattle.do_center.proofs.SeatsKept.{AreSeats, CameBy, IsGiven, MayWait, NoneOf, none_fit}
+use Rattle.do_center.proofs.SeatsKept.{none_from, seats_posted}
+
+-- no more wait than did
+moved_fewer : (ps : List (Option ℕ)) (q : List Queued) → length (moved ps q) ≤ length q
+moved_fewer ps q =
+    flat_fewer (λ e. moved_entry (slice_index_or ps e.place None) e)
+    (λ e. one (slice_index_or ps e.place None) e) q
+  where
+    one : (p : Option ℕ) (e : Queued) → length (moved_entry p e) ≤ 1
+    one None e = omega arith
+    one (Some k) e = omega arith
 
 -- behind others an item stands at the place behind them
 get_behind : {A : Type 0} (pre xs : List A) (x : A)
@@ -74,77 +85,16 @@ module _ (out : Registration → Bool) where
     abbrev pub left : List Registration
     left = left_registrations places ss
 
-    -- what waits at one that stays waits there, and what waits at another goes
-    entry_kept : (o : ObjectName) (e : Queued) (p : Option ℕ)
-        → slice_index_or places e.place None ≡ p
-        → is_queued (registrations ss) o e ≡ true
-        → (length (moved_entry p e) ≤ 1) × (list_all (is_queued left o) (moved_entry p e) ≡ true)
-    entry_kept o e None at queued = (omega arith, refl)
-    entry_kept o e (Some j) at queued =
-        let parts =
-        and_parts (is_of o (slice_get (registrations ss) e.place)) (is_note e.note) queued in (
-          omega arith,
-          and_from (is_of o (slice_get left j) && is_note e.note) true
-              (and_from (is_of o (slice_get left j)) (is_note e.note)
-              (ap (is_of o) (place_kept places [] ss e.place j 0 refl at) ∙ parts.0) parts.1) refl,
-        )
-
-    -- and so it is in a queue, which gets no longer
-    moved_kept : (o : ObjectName) (q : List Queued)
-        → list_all (is_queued (registrations ss) o) q ≡ true
-        → (length (moved places q) ≤ length q)
-        × (list_all (is_queued left o) (moved places q) ≡ true)
-    moved_kept o [] all = (omega arith, refl)
-    moved_kept o (e ∷ q) all =
-        let parts =
-        and_parts (is_queued (registrations ss) o e)
-        (list_all (is_queued (registrations ss) o) q) all in
-        let p = slice_index_or places e.place None in
-        let first = entry_kept o e p refl parts.0 in
-        let rest = moved_kept o q parts.1 in (
-          omega (arith, length-append (moved_entry p e) (moved places q), first.0, rest.0),
-          list_all-append (is_queued left o) (moved_entry p e) (moved places q)
-              ∙ and_from (list_all (is_queued left o) (moved_entry p e))
-              (list_all (is_queued left o) (moved places q)) first.1 rest.1,
-        )
-
-    -- so it is one that the observer may have
-    queue_left : (o : ObjectName) (q : List Queued) → is_queue (registrations ss) o q ≡ true
-        → is_queue left o (moved places q) ≡ true
-    queue_left o q is =
-        let parts =
-        and_parts (nat_le (length q) 64) (list_all (is_queued (registrations ss) o) q) is in
-        let kept = moved_kept o q parts.1 in
-        and_from (nat_le (length (moved places q)) 64)
-        (list_all (is_queued left o) (moved places q))
-        (le-leb (length (moved places q)) 64
-        (omega (arith, kept.0, leb-true (length q) 64 parts.0))) kept.1
-
-    -- each registration that stays keeps the limits
-    each_left : (xs : List Seat) → list_all (is_seat (registrations ss)) xs ≡ true
-        → list_all (is_seat left) (seats_left out places xs) ≡ true
-    each_left [] all = refl
-    each_left (s ∷ xs) all =
-        let parts =
-        and_parts (is_seat (registrations ss) s) (list_all (is_seat (registrations ss)) xs) all in
-        by (out s.registration) parts.0 (each_left xs parts.1)
-      where
-        seat : Seat
-        seat = record { registration = s.registration; queue = moved places s.queue }
-
-        by : (b : Bool) → is_seat (registrations ss) s ≡ true
-            → list_all (is_seat left) (seats_left out places xs) ≡ true
-            → list_all (is_seat left) ((if b then [] else seat ∷ []) ++ seats_left out places xs)
-            ≡ true
-        by true first rest = rest
-        by false first rest =
-            let parts =
-            and_parts (is_registration s.registration)
-            (is_queue (registrations ss) s.registration.observer s.queue) first in
-            and_from (is_seat left seat) (list_all (is_seat left) (seats_left out places xs))
-            (and_from (is_registration s.registration)
-            (is_queue left s.registration.observer (moved places s.queue)) parts.0
-            (queue_left s.registration.observer s.queue parts.1)) rest
+    -- the observer may have what is left of its queue
+    queue_left : (o : ObjectName) (q : List Queued) → MayWait (registrations ss) o q
+        → MayWait left o (moved places q)
+    queue_left o q may = (
+      omega (arith, moved_fewer places q, may.0),
+      moved_kept (CameBy (registrations ss) o) (CameBy left o) places
+          (λ e j at came.
+          ap (λ f. is_of o f && is_note e.note) (place_kept places [] ss e.place j 0 refl at)
+          ∙ came) q may.1,
+    )
 
   module _ (ps : List (Option ℕ)) where
     -- where nothing waits nothing is left
@@ -152,83 +102,56 @@ module _ (out : Registration → Bool) where
     none_left [] e = refl
     none_left (e ∷ q) is = cc
 
-    -- an observer without queue has none
-    none_stays : (p : ObjectName) (xs : List Seat) → list_all (has_none p) xs ≡ true
-        → list_all (has_none p) (seats_left out ps xs) ≡ true
-    none_stays p [] all = refl
-    none_stays p (s ∷ xs) all =
-        let parts = and_parts (has_none p s) (list_all (has_none p) xs) all in
-        by (out s.registration) (none_stays p xs parts.1) parts.0
-      where
-        seat : Seat
-        seat = record { registration = s.registration; queue = moved ps s.queue }
-
-        either : (a : Bool) → (not a || is_none s.queue) ≡ true
-            → (not a || is_none (moved ps s.queue)) ≡ true
-        either true none = none_left s.queue none
-        either false none = refl
-
-        by : (b : Bool) → list_all (has_none p) (seats_left out ps xs) ≡ true
-            → has_none p s ≡ true
-            → list_all (has_none p) ((if b then [] else seat ∷ []) ++ seats_left out ps xs) ≡ true
-        by true rest first = rest
-        by false rest first =
-            and_from (has_none p seat) (list_all (has_none p) (seats_left out ps xs))
-            (either (same_object s.registration.observer p) first) rest
+    -- and nothing at registrations that are an observer's
+    none_moved : (b : Bool) (q : List Queued) → (not b || is_none q) ≡ true
+        → (not b || is_none (moved ps q)) ≡ true
+    none_moved true q none = none_left q none
+    none_moved false q none = refl
 
     -- each queue stands at the first registration of its observer
     apart_left : (xs : List Seat) → are_apart xs ≡ true → are_apart (seats_left out ps xs) ≡ true
     apart_left [] all = refl
     apart_left (s ∷ xs) all =
-        let parts =
-        and_parts (list_all (has_none s.registration.observer) xs) (are_apart xs) all in
-        by (out s.registration) (none_stays s.registration.observer xs parts.0)
-        (apart_left xs parts.1)
-      where
-        seat : Seat
-        seat = record { registration = s.registration; queue = moved ps s.queue }
-
-        by : (b : Bool)
-            → list_all (has_none s.registration.observer) (seats_left out ps xs) ≡ true
-            → are_apart (seats_left out ps xs) ≡ true
-            → are_apart ((if b then [] else seat ∷ []) ++ seats_left out ps xs) ≡ true
-        by true none rest = rest
-        by false none rest =
-            and_from (list_all (has_none s.registration.observer) (seats_left out ps xs))
-            (are_apart (seats_left out ps xs)) none rest
+        let p = s.registration.observer in
+        let rest = seats_left out ps xs in
+        let parts = and_parts (list_all (has_none p) xs) (are_apart xs) all in
+        cond_both (out s.registration) [] (seat_with s (moved ps s.queue) ∷ [])
+        (λ first. are_apart (first ++ rest) ≡ true) (λ _. apart_left xs parts.1)
+        (λ _. and_from (list_all (has_none p) rest) (are_apart rest)
+        (none_from p rest
+        (left_fit (λ r. Unit {0}) (NoneOf p) (NoneOf p) out ps
+        (λ o q none. none_moved (same_object o p) q none) xs (none_fit p xs parts.0)))
+        (apart_left xs parts.1))
 
     -- no more stay than there were
     fewer_left : (xs : List Seat) → length (seats_left out ps xs) ≤ length xs
-    fewer_left [] = omega arith
-    fewer_left (s ∷ xs) = by (out s.registration) (fewer_left xs)
-      where
-        seat : Seat
-        seat = record { registration = s.registration; queue = moved ps s.queue }
-
-        by : (b : Bool) → length (seats_left out ps xs) ≤ length xs
-            → length ((if b then [] else seat ∷ []) ++ seats_left out ps xs) ≤ length (s ∷ xs)
-        by true few = omega (arith, few)
-        by false few = omega (arith, few)
+    fewer_left xs =
+        flat_fewer (seat_left out ps) (λ s.
+        cond_both (out s.registration) [] (seat_with s (moved ps s.queue) ∷ [])
+        (λ left. length left ≤ 1) (λ _. omega arith) (λ _. omega arith)) xs
 
   -- what is left of the registrations of a core can be a core's
   pub left_kept : (o : ObjectName) (ss : List Seat) → are_seats ss ≡ true
       → are_seats (left_of out o ss) ≡ true
   left_kept o ss is =
       let ps = new_places out 0 ss in
-      let q = moved ps (queue_of ss o) in
+      let q = queue_of ss o in
       let xs = seats_left out ps ss in
-      let limits =
-      and_parts (nat_le (length ss) 256) (list_all (is_seat (registrations ss)) ss && are_apart ss)
-      is in
-      let others = and_parts (list_all (is_seat (registrations ss)) ss) (are_apart ss) limits.1 in
-      let queue = queue_left ss o (queue_of ss o) (queue_kept (registrations ss) ss o others.0) in
-      let seats = with_seats (registrations xs) xs o q (each_left ss ss others.0) queue in
-      and_from (nat_le (length (with_queue xs o q)) 256)
-      (list_all (is_seat (registrations (with_queue xs o q))) (with_queue xs o q)
-      && are_apart (with_queue xs o q))
-      (le-leb (length (with_queue xs o q)) 256
-      (omega (arith, with_length xs o q, fewer_left ps ss, leb-true (length ss) 256 limits.0)))
-      (and_from (list_all (is_seat (registrations (with_queue xs o q))) (with_queue xs o q))
-      (are_apart (with_queue xs o q))
-      (ap (λ rs. list_all (is_seat rs) (with_queue xs o q)) (with_registrations xs o q) ∙ seats)
-      (with_apart xs o q (apart_left ps ss others.1)))
+      let rs = registrations ss in
+      let few = (seats_parts ss is).0 in
+      let are = (seats_parts ss is).1 in
+      let stay : AreSeats (registrations xs) xs = (
+        refl,
+        left_fit IsGiven (MayWait rs) (MayWait (registrations xs)) out ps (queue_left ss) ss are.1,
+        apart_left ps ss are.2,
+      ) in
+      seats_from (registrations xs) (with_queue xs o (moved ps q))
+      (omega (
+        arith,
+        length-map xs (λ (s : Seat). s.registration),
+        fewer_left ps ss,
+        length-map ss (λ (s : Seat). s.registration),
+        few,
+      ))
+      ((seats_posted (registrations xs)).replaced xs o (moved ps q) stay
+      (queue_left ss o q ((seats_posted rs).queue ss o are)))

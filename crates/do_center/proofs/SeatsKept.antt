@@ -1,42 +1,37 @@
--- What holds of registrations with their queues, where the queue of an observer is another.
-use Rattle.std.proofs.Common.{◌≡◌, Bool, true, false, List, [], ◌∷◌, length}
-use Rattle.std.proofs.Common.{refl, sym, ◌∙◌, ap, subst, arith}
-use Rattle.std.specs.Prelude.{if◌then◌else◌, not, ◌||◌}
-use Rattle.std.specs.List.{list_all}
-use Rattle.std.proofs.lemmas.Bool.{and_parts, and_from}
+-- What holds of the registrations of a core with their queues holds where the queue of an observer
+-- is another.
+use Rattle.std.proofs.Common.{◌≡◌, ◌<◌, ◌≤◌, Bool, true, false, List, [], ◌∷◌, length, refl}
+use Rattle.std.proofs.Common.{◌∙◌}
+use Rattle.std.proofs.Common.{ap, arith, length-append}
+use Rattle.std.specs.Prelude.{if◌then◌else◌, not, ◌||◌, nat_le, nat_lt, remove}
+use Rattle.std.specs.List.{All, list_all}
+use Rattle.std.proofs.lemmas.Bool.{and_parts, and_from, cond_both, le-leb, leb-true, ltb-true}
+use Rattle.std.proofs.lemmas.List.Elements.{All-nil, All-weaker}
+use Rattle.std.proofs.lemmas.List.Sums.{AllPass-from_list_all, list_all-from_AllPass}
+use Rattle.std.proofs.lemmas.List.Sums.{count_by-le-length, length-filter}
 use Rattle.do_base.specs.names.Names.{ObjectName}
+use Rattle.do_native_acts.specs.laws.KeptLaws.{each_holds}
 use Rattle.do_center.specs.Observers.{same_object}
-use Rattle.do_center.specs.Queues.{queue_of, seat_with, with_queue}
+use Rattle.do_center.specs.Queues.{same_kind, seat_with, with_queue, with_room}
 use Rattle.do_center.specs.Registrations.{is_registration}
-use Rattle.do_center.specs.Seats.{are_apart, has_none, is_none, is_queue, is_seat, registrations}
+use Rattle.do_center.specs.Seats.{are_apart, has_none, is_none, is_queue, is_queued, is_seat}
+use Rattle.do_center.specs.Seats.{registrations}
 use Rattle.do_center.specs.declared.queues.Queued.{Queued}
 use Rattle.do_center.specs.declared.registrations.Registration.{Registration}
 use Rattle.do_center.specs.declared.seats.Seat.{Seat}
-use Rattle.do_center.proofs.SameObject.{same_is, same_sym}
+use Rattle.do_center.specs.laws.PostLaws.{IsPosted}
+use Rattle.do_center.specs.laws.QueueLaws.{Fits, coalesced_kept, enqueued_kept, queue_fits}
+use Rattle.do_center.specs.laws.QueueLaws.{with_fits}
+use Rattle.do_center.specs.laws.SameObject.{same_sym}
 
 -- the registrations are the same
 pub with_registrations : (ss : List Seat) (o : ObjectName) (q : List Queued)
     → registrations (with_queue ss o q) ≡ registrations ss
 with_registrations [] o q = refl
 with_registrations (s ∷ ss) o q =
-    by (same_object s.registration.observer o) (with_registrations ss o q)
-  where
-    by : (b : Bool) → registrations (with_queue ss o q) ≡ registrations ss
-        → registrations (if b then seat_with s q ∷ ss else s ∷ with_queue ss o q)
-        ≡ s.registration ∷ registrations ss
-    by true rest = refl
-    by false rest = ap (λ rs. s.registration ∷ rs) rest
-
--- there are as many
-pub with_length : (ss : List Seat) (o : ObjectName) (q : List Queued)
-    → length (with_queue ss o q) ≡ length ss
-with_length [] o q = refl
-with_length (s ∷ ss) o q = by (same_object s.registration.observer o) (with_length ss o q)
-  where
-    by : (b : Bool) → length (with_queue ss o q) ≡ length ss
-        → length (if b then seat_with s q ∷ ss else s ∷ with_queue ss o q) ≡ length (s ∷ ss)
-    by true rest = refl
-    by false rest = omega (arith, rest)
+    cond_both (same_object s.registration.observer o) (seat_with s q ∷ ss)
+    (s ∷ with_queue ss o q) (λ xs. registrations xs ≡ registrations (s ∷ ss)) (λ _. refl)
+    (λ _. ap (λ rs. s.registration ∷ rs) (with_registrations ss o q))
 
 -- of two queues that an observer gets the last one stays
 pub with_again : (ss : List Seat) (o : ObjectName) (p q : List Queued)
@@ -56,93 +51,124 @@ with_again (s ∷ ss) o p q =
         else s ∷ with_queue (with_queue ss o p) o q) same
         ∙ ap (λ xs. s ∷ xs) rest
 
+-- a registration within the limits
+abbrev pub IsGiven : Registration → Type 0
+IsGiven r = is_registration r ≡ true
+
 module _ (rs : List Registration) where
-  -- a registration keeps the limits with another queue of its observer
-  seat_kept : (s : Seat) (o : ObjectName) (q : List Queued)
-      → same_object s.registration.observer o ≡ true → is_seat rs s ≡ true
-      → is_queue rs o q ≡ true → is_seat rs (seat_with s q) ≡ true
-  seat_kept s o q same is queue =
-      let parts =
-      and_parts (is_registration s.registration) (is_queue rs s.registration.observer s.queue) is in
-      and_from (is_registration s.registration) (is_queue rs s.registration.observer q) parts.0
-      (subst (λ p. is_queue rs p q ≡ true) (sym (same_is s.registration.observer o same)) queue)
+  -- a notification that came by a registration of the observer
+  abbrev pub CameBy : ObjectName → Queued → Type 0
+  CameBy o e = is_queued rs o e ≡ true
 
-  -- and so do all
-  pub with_seats : (ss : List Seat) (o : ObjectName) (q : List Queued)
-      → list_all (is_seat rs) ss ≡ true → is_queue rs o q ≡ true
-      → list_all (is_seat rs) (with_queue ss o q) ≡ true
-  with_seats [] o q all queue = refl
-  with_seats (s ∷ ss) o q all queue =
-      let parts = and_parts (is_seat rs s) (list_all (is_seat rs) ss) all in
-      by (same_object s.registration.observer o) refl parts.0 parts.1
-      (with_seats ss o q parts.1 queue)
-    where
-      by : (b : Bool) → same_object s.registration.observer o ≡ b → is_seat rs s ≡ true
-          → list_all (is_seat rs) ss ≡ true → list_all (is_seat rs) (with_queue ss o q) ≡ true
-          → list_all (is_seat rs) (if b then seat_with s q ∷ ss else s ∷ with_queue ss o q)
-          ≡ true
-      by true same first others rest =
-          and_from (is_seat rs (seat_with s q)) (list_all (is_seat rs) ss)
-          (seat_kept s o q same first queue) others
-      by false same first others rest =
-          and_from (is_seat rs s) (list_all (is_seat rs) (with_queue ss o q)) first rest
+  -- a queue that the observer may have
+  abbrev pub MayWait : ObjectName → List Queued → Type 0
+  MayWait o q = (length q ≤ 64) × All (CameBy o) q
 
-  -- the queue of an observer is one that it may have
-  pub queue_kept : (ss : List Seat) (o : ObjectName) → list_all (is_seat rs) ss ≡ true
-      → is_queue rs o (queue_of ss o) ≡ true
-  queue_kept [] o all = refl
-  queue_kept (s ∷ ss) o all =
-      let parts = and_parts (is_seat rs s) (list_all (is_seat rs) ss) all in
-      by (same_object s.registration.observer o) refl parts.0 (queue_kept ss o parts.1)
-    where
-      by : (b : Bool) → same_object s.registration.observer o ≡ b → is_seat rs s ≡ true
-          → is_queue rs o (queue_of ss o) ≡ true
-          → is_queue rs o (if b then s.queue else queue_of ss o) ≡ true
-      by true same first rest =
-          let parts =
-          and_parts (is_registration s.registration) (is_queue rs s.registration.observer s.queue)
-          first in
-          subst (λ p. is_queue rs p s.queue ≡ true) (same_is s.registration.observer o same) parts.1
-      by false same first rest = rest
+  -- a registration with a queue that its observer may have
+  abbrev pub IsSeat : Seat → Type 0
+  IsSeat s = Fits IsGiven MayWait s
 
--- an observer without queue has none where another gets one
-none_kept : (p o : ObjectName) (ss : List Seat) (q : List Queued) → same_object p o ≡ false
-    → list_all (has_none p) ss ≡ true → list_all (has_none p) (with_queue ss o q) ≡ true
-none_kept p o [] q apart all = refl
-none_kept p o (s ∷ ss) q apart all =
-    let parts = and_parts (has_none p s) (list_all (has_none p) ss) all in
-    by (same_object s.registration.observer o) refl parts.0 parts.1
-    (none_kept p o ss q apart parts.1)
-  where
-    other : same_object s.registration.observer o ≡ true
-        → (not (same_object s.registration.observer p) || is_none q) ≡ true
-    other same =
-        ap (λ x. not (same_object x p) || is_none q) (same_is s.registration.observer o same)
-        ∙ ap (λ b. not b || is_none q) (same_sym o p ∙ apart)
+  -- registrations that keep the limits are such
+  pub seats_of : (ss : List Seat) → list_all (is_seat rs) ss ≡ true → All IsSeat ss
+  seats_of ss all =
+      All-weaker (λ (s : Seat). is_seat rs s ≡ true) IsSeat (λ s is.
+      let o = s.registration.observer in
+      let parts = and_parts (is_registration s.registration) (is_queue rs o s.queue) is in
+      let queue =
+      and_parts (nat_le (length s.queue) 64) (list_all (is_queued rs o) s.queue) parts.1 in (
+        parts.0,
+        (
+          leb-true (length s.queue) 64 queue.0,
+          AllPass-from_list_all (is_queued rs o) s.queue queue.1,
+        ),
+      )) ss (AllPass-from_list_all (is_seat rs) ss all)
 
-    by : (b : Bool) → same_object s.registration.observer o ≡ b → has_none p s ≡ true
-        → list_all (has_none p) ss ≡ true → list_all (has_none p) (with_queue ss o q) ≡ true
-        → list_all (has_none p) (if b then seat_with s q ∷ ss else s ∷ with_queue ss o q) ≡ true
-    by true same first others rest =
-        and_from (has_none p (seat_with s q)) (list_all (has_none p) ss) (other same) others
-    by false same first others rest =
-        and_from (has_none p s) (list_all (has_none p) (with_queue ss o q)) first rest
+  -- and the other way round
+  pub seats_are : (ss : List Seat) → All IsSeat ss → list_all (is_seat rs) ss ≡ true
+  seats_are ss all =
+      list_all-from_AllPass (is_seat rs) ss
+      (All-weaker IsSeat (λ (s : Seat). is_seat rs s ≡ true) (λ s is.
+      let o = s.registration.observer in
+      and_from (is_registration s.registration) (is_queue rs o s.queue) is.0
+      (and_from (nat_le (length s.queue) 64) (list_all (is_queued rs o) s.queue)
+      (le-leb (length s.queue) 64 is.1.0)
+      (list_all-from_AllPass (is_queued rs o) s.queue is.1.1))) ss all)
+
+module _ (p : ObjectName) where
+  -- a queue that is none of this observer's, or is empty
+  abbrev pub NoneOf : ObjectName → List Queued → Type 0
+  NoneOf o q = (not (same_object o p) || is_none q) ≡ true
+
+  -- so it is where the observer has no queue
+  pub none_fit : (ss : List Seat) → list_all (has_none p) ss ≡ true
+      → All (Fits (λ r. Unit {0}) NoneOf) ss
+  none_fit ss all =
+      All-weaker (λ (s : Seat). has_none p s ≡ true) (Fits (λ r. Unit {0}) NoneOf)
+      (λ s is. (tt, is)) ss (AllPass-from_list_all (has_none p) ss all)
+
+  -- and the other way round
+  pub none_from : (ss : List Seat) → All (Fits (λ r. Unit {0}) NoneOf) ss
+      → list_all (has_none p) ss ≡ true
+  none_from ss all =
+      list_all-from_AllPass (has_none p) ss
+      (All-weaker (Fits (λ r. Unit {0}) NoneOf) (λ (s : Seat). has_none p s ≡ true)
+      (λ s is. is.1) ss all)
 
 -- each queue still stands at the first registration of its observer
-pub with_apart : (ss : List Seat) (o : ObjectName) (q : List Queued) → are_apart ss ≡ true
+with_apart : (ss : List Seat) (o : ObjectName) (q : List Queued) → are_apart ss ≡ true
     → are_apart (with_queue ss o q) ≡ true
 with_apart [] o q apart = refl
 with_apart (s ∷ ss) o q apart =
-    let parts = and_parts (list_all (has_none s.registration.observer) ss) (are_apart ss) apart in
-    by (same_object s.registration.observer o) refl parts.0 parts.1 (with_apart ss o q parts.1)
-  where
-    by : (b : Bool) → same_object s.registration.observer o ≡ b
-        → list_all (has_none s.registration.observer) ss ≡ true → are_apart ss ≡ true
-        → are_apart (with_queue ss o q) ≡ true
-        → are_apart (if b then seat_with s q ∷ ss else s ∷ with_queue ss o q) ≡ true
-    by true same none others rest =
-        and_from (list_all (has_none s.registration.observer) ss) (are_apart ss) none others
-    by false same none others rest =
-        and_from (list_all (has_none s.registration.observer) (with_queue ss o q))
-        (are_apart (with_queue ss o q))
-        (none_kept s.registration.observer o ss q same none) rest
+    let p = s.registration.observer in
+    let parts = and_parts (list_all (has_none p) ss) (are_apart ss) apart in
+    cond_both (same_object p o) (seat_with s q ∷ ss) (s ∷ with_queue ss o q)
+    (λ xs. are_apart xs ≡ true) (λ _. apart)
+    (λ other. and_from (list_all (has_none p) (with_queue ss o q)) (are_apart (with_queue ss o q))
+    (none_from p (with_queue ss o q)
+    (with_fits (λ r. Unit {0}) (NoneOf p) ss o q
+    (ap (λ b. not b || is_none q) (same_sym o p ∙ other)) (none_fit p ss parts.0)))
+    (with_apart ss o q parts.1))
+
+-- without its first a queue is shorter
+shorter : (q : List Queued) → length q ≤ 64 → length (remove q 0) < 64
+shorter [] few = omega arith
+shorter (e ∷ q) few = omega (arith, few)
+
+-- with room it has at most 63
+with_room_few : (q : List Queued) → length q ≤ 64 → length (with_room q) < 64
+with_room_few q few =
+    cond_both (nat_lt (length q) 64) q (remove q 0) (λ xs. length xs < 64)
+    (λ short. ltb-true (length q) 64 short) (λ _. shorter q few)
+
+-- registrations that are these, each with a queue that its observer may have
+abbrev pub AreSeats : List Registration → List Seat → Type 0
+AreSeats rs ss = (registrations ss ≡ rs) × All (IsSeat rs) ss × (are_apart ss ≡ true)
+
+-- a post leaves them such
+pub seats_posted : (rs : List Registration)
+    → IsPosted (AreSeats rs) (MayWait rs) (CameBy rs) (λ e. Unit {0})
+seats_posted rs = record {
+  queue =
+      λ ss o are. queue_fits IsGiven (MayWait rs) ss o
+      (omega arith, All-nil (CameBy rs o)) are.1;
+  none = λ o. (omega arith, All-nil (CameBy rs o));
+  replaced =
+      λ ss o q are queue. (
+        with_registrations ss o q ∙ are.0,
+        with_fits IsGiven (MayWait rs) ss o q queue are.1,
+        with_apart ss o q are.2,
+      );
+  pushed =
+      λ o q e may new. (
+        omega (arith, length-append (with_room q) (e ∷ []), with_room_few q may.0),
+        enqueued_kept (CameBy rs o) q e may.1 new,
+      );
+  reduced =
+      λ o q e may.
+      let stays = λ (x : Queued). not (same_kind x e) in (
+        omega (arith, length-filter stays q, count_by-le-length stays q, may.0),
+        coalesced_kept (CameBy rs o) q e may.1,
+      );
+  due = λ o q may. each_holds (λ (e : Queued). Unit {0}) (λ e. tt) q;
+  new = λ o e new. tt;
+}

@@ -1,13 +1,12 @@
 -- The slots of a core are read as that core, and only slots of a core are read.
 use Rattle.std.proofs.Common.{◌≡◌, ℕ, pos, Bool, true, false, ◌&&◌, List as Listed, [], ◌∷◌}
-use Rattle.std.proofs.Common.{length, Option, Some, None, map, refl, sym, ◌∙◌, ap, subst, IsTrue}
+use Rattle.std.proofs.Common.{length, Option, Some, None, map, refl, sym, ◌∙◌, ap, IsTrue}
 use Rattle.std.proofs.Common.{arith, zero, suc, ◌<◌, ◌≤◌, true≢false}
-use Rattle.std.specs.Prelude.{if◌then◌else◌, nat_le, nat_lt, not, ◌||◌, slice_get}
+use Rattle.std.specs.Prelude.{if◌then◌else◌, nat_lt, not, ◌||◌, slice_get}
 use Rattle.std.specs.Cmp.Lexicographic.{pointwise, pointwise_decides}
 use Rattle.std.specs.List.{All, list_all}
-use Rattle.std.proofs.lemmas.Bool.{and_parts, and_from, leb-true, lt-ltb}
-use Rattle.std.proofs.lemmas.List.{length-map}
-use Rattle.std.proofs.lemmas.List.Elements.{All-nil, All-cons}
+use Rattle.std.proofs.lemmas.Bool.{and_parts, and_from, lt-ltb}
+use Rattle.std.proofs.lemmas.List.Elements.{All-weaker}
 use Rattle.do_base.specs.names.Names.{ObjectName}
 use Rattle.do_base.specs.values.Equal.{value_eq, value_eq-Decides}
 use Rattle.do_base.specs.values.Kinds.{object}
@@ -15,6 +14,7 @@ use Rattle.do_base.specs.declared.values.value.Value.{Value}
 use Rattle.do_base.specs.declared.values.value.Value.TheVariants.{Num, Text, Obj}
 use Rattle.do_grammar.specs.Words.{◌>>?◌}
 use Rattle.do_native_acts.specs.Rows.{rows_in, listed}
+use Rattle.do_native_acts.specs.laws.KeptLaws.{each_holds}
 use Rattle.do_native_acts.specs.laws.KindLaws.{text_of_Text, number_of_Num, object_of_Obj}
 use Rattle.do_native_acts.specs.laws.KindLaws.{items_of_List, then_is}
 use Rattle.do_native_acts.specs.laws.RowLaws.{read_shown}
@@ -27,7 +27,7 @@ use Rattle.do_center.specs.Registrations.{registration_in, registration_of}
 use Rattle.do_center.specs.Registrations.{registration_value, selector_in, takes_three}
 use Rattle.do_center.specs.Seats.{Core, are_apart, are_seats, are_suspended, has_none, is_core}
 use Rattle.do_center.specs.Seats.{is_none}
-use Rattle.do_center.specs.Seats.{is_of, is_queue, is_queued, is_seat, registrations}
+use Rattle.do_center.specs.Seats.{is_of, registrations}
 use Rattle.do_center.specs.Slots.{from_slots, of_core, place_in, place_number, queue_among}
 use Rattle.do_center.specs.Slots.{queued_in}
 use Rattle.do_center.specs.Slots.{queued_of, queued_value, seated, to_slots, waiting, waiting_in}
@@ -41,8 +41,10 @@ use Rattle.do_center.specs.declared.suspension.Suspension.{Suspension}
 use Rattle.do_center.specs.declared.suspension.Suspension.TheVariants.{Drop, Coalesce, Hold}
 use Rattle.do_center.specs.declared.suspension.Suspension.TheVariants.{DeliverImmediately}
 use Rattle.do_center.specs.laws.CallsRead.{label_of_Nil, label_of_Text}
+use Rattle.do_center.specs.laws.QueueLaws.{registrations_fit, waiting_fit}
+use Rattle.do_center.specs.laws.SameObject.{same_refl}
 use Rattle.do_center.proofs.CoreKept.{seats_parts}
-use Rattle.do_center.proofs.SameObject.{same_refl}
+use Rattle.do_center.proofs.SeatsKept.{CameBy, IsGiven, IsSeat, MayWait}
 
 -- a queue of which nothing waits is empty
 empty_of : (q : Listed Queued) → is_none q ≡ true → q ≡ []
@@ -158,75 +160,39 @@ small_place k n lt le = lt-ltb k 4294967296 (omega (arith, lt, le))
 
 module _ (rs : Listed Registration) (few : length rs ≤ 256) where
   -- what waits in a queue of an observer is read as it was shown
-  queue_back : (o : ObjectName) (q : Listed Queued) → list_all (is_queued rs o) q ≡ true
+  queue_back : (o : ObjectName) (q : Listed Queued) → All (CameBy rs o) q
       → All (λ e. queued_in (queued_value e) ≡ Some e) q
-  queue_back o [] all = All-nil (λ (e : Queued). queued_in (queued_value e) ≡ Some e)
-  queue_back o (e ∷ q) all =
-      let parts = and_parts (is_queued rs o e) (list_all (is_queued rs o) q) all in
-      let both = and_parts (is_of o (slice_get rs e.place)) (is_note e.note) parts.0 in
-      All-cons (λ (x : Queued). queued_in (queued_value x) ≡ Some x) e q
-      (queued_back e
-      (small_place e.place (length rs) (within (is_of o) refl rs e.place both.0) few) both.1)
-      (queue_back o q parts.1)
+  queue_back o q all =
+      All-weaker (CameBy rs o) (λ (e : Queued). queued_in (queued_value e) ≡ Some e) (λ e came.
+      let both = and_parts (is_of o (slice_get rs e.place)) (is_note e.note) came in
+      queued_back e
+      (small_place e.place (length rs) (within (is_of o) refl rs e.place both.0) few) both.1) q all
 
   -- an observer with its queue is read as it was shown
-  waiting_back : (w : Waiting) → list_all (is_queued rs w.observer) w.queue ≡ true
+  waiting_back : (w : Waiting) → MayWait rs w.observer w.queue
       → waiting_in (waiting_value w) ≡ Some w
-  waiting_back w all =
+  waiting_back w may =
       let q = listed (map queued_value w.queue) in
       then_is waiting_of (items_of_List (Obj w.observer ∷ q ∷ []))
       ∙ then_is (λ o. rows_in queued_in q >>? λ es. Some (record { observer = o; queue = es }))
       (object_of_Obj w.observer)
       ∙ then_is (λ es. Some (record { observer = w.observer; queue = es }))
-      (read_shown queued_in queued_value w.queue (queue_back w.observer w.queue all))
+      (read_shown queued_in queued_value w.queue (queue_back w.observer w.queue may.1))
 
   -- and so are all
-  all_back : (ss : Listed Seat) → list_all (is_seat rs) ss ≡ true
+  all_back : (ss : Listed Seat) → All (IsSeat rs) ss
       → All (λ w. waiting_in (waiting_value w) ≡ Some w) (waiting ss)
-  all_back [] all = All-nil (λ (w : Waiting). waiting_in (waiting_value w) ≡ Some w)
-  all_back (s ∷ ss) all =
-      let both = and_parts (is_seat rs s) (list_all (is_seat rs) ss) all in
-      let parts =
-      and_parts (is_registration s.registration) (is_queue rs s.registration.observer s.queue)
-      both.0 in
-      let queue =
-      and_parts (nat_le (length s.queue) 64)
-      (list_all (is_queued rs s.registration.observer) s.queue) parts.1 in
-      by (is_none s.queue) queue.1 (all_back ss both.1)
-    where
-      w : Waiting
-      w = record { observer = s.registration.observer; queue = s.queue }
-
-      by : (b : Bool) → list_all (is_queued rs s.registration.observer) s.queue ≡ true
-          → All (λ w. waiting_in (waiting_value w) ≡ Some w) (waiting ss)
-          → All (λ w. waiting_in (waiting_value w) ≡ Some w)
-          (if b then waiting ss else w ∷ waiting ss)
-      by true queue rest = rest
-      by false queue rest =
-          All-cons (λ (x : Waiting). waiting_in (waiting_value x) ≡ Some x) w (waiting ss)
-          (waiting_back w queue) rest
+  all_back ss all =
+      All-weaker (λ (w : Waiting). MayWait rs w.observer w.queue)
+      (λ (w : Waiting). waiting_in (waiting_value w) ≡ Some w) waiting_back (waiting ss)
+      (waiting_fit IsGiven (MayWait rs) ss all)
 
 -- registrations are read as they were shown
-registrations_back : (rs : Listed Registration) (ss : Listed Seat)
-    → list_all (is_seat rs) ss ≡ true
+registrations_back : (rs : Listed Registration) (ss : Listed Seat) → All (IsSeat rs) ss
     → All (λ r. registration_in (registration_value r) ≡ Some r) (registrations ss)
-registrations_back rs [] all =
-    All-nil (λ (r : Registration). registration_in (registration_value r) ≡ Some r)
-registrations_back rs (s ∷ ss) all =
-    let both = and_parts (is_seat rs s) (list_all (is_seat rs) ss) all in
-    All-cons (λ (r : Registration). registration_in (registration_value r) ≡ Some r)
-    s.registration (registrations ss)
-    (registration_back s.registration
-    ((and_parts (is_registration s.registration)
-    (is_queue rs s.registration.observer s.queue) both.0).0))
-    (registrations_back rs ss both.1)
-
--- objects are read as they were shown
-objects_back : (os : Listed ObjectName) → All (λ o. object (Obj o) ≡ Some o) os
-objects_back [] = All-nil (λ (o : ObjectName). object (Obj o) ≡ Some o)
-objects_back (o ∷ os) =
-    All-cons (λ (x : ObjectName). object (Obj x) ≡ Some x) o os (object_of_Obj o)
-    (objects_back os)
+registrations_back rs ss all =
+    All-weaker IsGiven (λ (r : Registration). registration_in (registration_value r) ≡ Some r)
+    registration_back (registrations ss) (registrations_fit IsGiven (MayWait rs) ss all)
 
 -- an observer without queue is not among those that have one
 none_among : (o : ObjectName) (ss : Listed Seat) → list_all (has_none o) ss ≡ true
@@ -302,19 +268,17 @@ from_to c is =
     let halves = and_parts (are_seats c.0) (are_suspended c.1) is in
     let parts = seats_parts c.0 halves.0 in
     let rs = registrations c.0 in
-    let few : length rs ≤ 256 =
-    subst (λ n. n ≤ 256) (sym (length-map c.0 (λ (s : Seat). s.registration)))
-    (leb-true (length c.0) 256 parts.0) in
     let b = listed (map Obj c.1) in
     let w = listed (map waiting_value (waiting c.0)) in
     then_is (λ xs. rows_in object b >>? λ os. rows_in waiting_in w >>? λ ws.
     of_core (to_slots c) (seated xs ws, os))
-    (read_shown registration_in registration_value rs (registrations_back rs c.0 parts.1))
+    (read_shown registration_in registration_value rs (registrations_back rs c.0 parts.1.1))
     ∙ then_is (λ os. rows_in waiting_in w >>? λ ws. of_core (to_slots c) (seated rs ws, os))
-    (read_shown object Obj c.1 (objects_back c.1))
+    (read_shown object Obj c.1
+    (each_holds (λ (o : ObjectName). object (Obj o) ≡ Some o) object_of_Obj c.1))
     ∙ then_is (λ ws. of_core (to_slots c) (seated rs ws, c.1))
-    (read_shown waiting_in waiting_value (waiting c.0) (all_back rs few c.0 parts.1))
-    ∙ ap (λ ss. of_core (to_slots c) (ss, c.1)) (seated_back c.0 parts.2)
+    (read_shown waiting_in waiting_value (waiting c.0) (all_back rs parts.0 c.0 parts.1.1))
+    ∙ ap (λ ss. of_core (to_slots c) (ss, c.1)) (seated_back c.0 parts.1.2)
     ∙ lets_pass (is_core c && pointwise value_eq (to_slots c) (to_slots c)) c
     (and_from (is_core c) (pointwise value_eq (to_slots c) (to_slots c)) is
     (slots_same (to_slots c)))

@@ -13,7 +13,7 @@ use Rattle.std.proofs.lemmas.Bool.{and_from}
 use Rattle.do_center.specs.Seats.{are_seats, are_suspended, read_suspended}
 use Rattle.do_center.specs.Slots.{of_core, to_slots}
 use Rattle.do_center.specs.declared.seats.Seat.{Seat}
-use Rattle.do_center.proofs.SameObject.{same_is, same_refl}
+use Rattle.do_center.specs.laws.SameObject.{same_is, same_refl}
 
 -- one that is not among these goes last in the set
 pub new_goes_last : (os : List ObjectName) (o : ObjectName) → has_object os o ≡ false

@@ -4,7 +4,7 @@ use Rattle.std.proofs.Common.{nat_lt}
 use Rattle.std.proofs.Common.{Option, Some, None, refl, sym, ◌∙◌, ap, nat_le}
 use Rattle.std.specs.Prelude.{if◌then◌else◌, not, ◌||◌}
 use Rattle.std.specs.Option.{option_map}
-use Rattle.std.proofs.lemmas.Bool.{and_parts}
+use Rattle.std.proofs.lemmas.Bool.{and_parts, not-true}
 use Rattle.do_base.specs.names.Names.{ObjectName}
 use Rattle.do_center.specs.Calls.{added, suspended, with_suspended}
 use Rattle.do_native_acts.specs.History.{left}
@@ -18,8 +18,8 @@ use Rattle.do_center.specs.declared.calls.Call.TheVariants.{Add, Remove, Suspend
 use Rattle.do_center.specs.declared.notes.Delivery.{Delivery}
 use Rattle.do_center.specs.declared.posting.Posting.{Posting}
 use Rattle.do_center.specs.declared.registrations.Registration.{Registration}
-use Rattle.do_center.proofs.CoreKept.{distinct_left, distinct_pushed, fresh, has_pushed, not_of}
-use Rattle.do_center.proofs.SameObject.{same_is}
+use Rattle.do_center.proofs.CoreKept.{distinct_left, distinct_pushed, fresh, has_pushed}
+use Rattle.do_center.specs.laws.SameObject.{same_is}
 
 -- a registration more leaves those that are suspended
 add_same : (c : Core) (r : Registration)
@@ -121,7 +121,7 @@ resume_told [] o x distinct = by (same_object x o)
     by false = refl
 resume_told (y ∷ os) o x distinct =
     let parts = and_parts (not (has_object os y)) (are_distinct os) distinct in
-    by (same_object o y) (same_object x o) refl refl (not_of (has_object os y) parts.0)
+    by (same_object o y) (same_object x o) refl refl (not-true (has_object os y) parts.0)
     (resume_told os o x parts.1)
   where
     rest : List ObjectName

@@ -4,7 +4,8 @@ use Rattle.std.proofs.Common.{length, Option, Some, None, map, refl, sym, ◌∙
 use Rattle.std.specs.Prelude.{option_and_then, if◌then◌else◌}
 use Rattle.std.specs.List.{All, list_all}
 use Rattle.std.proofs.lemmas.Bool.{and_parts}
-use Rattle.std.proofs.lemmas.List.Elements.{All-nil, All-cons}
+use Rattle.std.proofs.lemmas.List.Elements.{All-weaker}
+use Rattle.std.proofs.lemmas.List.Sums.{AllPass-from_list_all}
 use Rattle.std.proofs.lemmas.Option.{option_and_then_some}
 use Rattle.do_base.specs.declared.values.value.Value.{Value}
 use Rattle.do_base.specs.declared.values.value.Value.TheVariants.{Num, Text}
@@ -34,11 +35,9 @@ entry_of_row e is =
 -- and so is each of a core
 entries_read : (es : Listed Entry) → list_all is_entry es ≡ true
     → All (λ e. entry_in (row e) ≡ Some e) es
-entries_read [] all = All-nil (λ (e : Entry). entry_in (row e) ≡ Some e)
-entries_read (e ∷ es) all =
-    let parts = and_parts (is_entry e) (list_all is_entry es) all in
-    All-cons (λ (x : Entry). entry_in (row x) ≡ Some x) e es (entry_of_row e parts.0)
-    (entries_read es parts.1)
+entries_read es all =
+    All-weaker (λ (e : Entry). is_entry e ≡ true) (λ (e : Entry). entry_in (row e) ≡ Some e)
+    entry_of_row es (AllPass-from_list_all is_entry es all)
 
 -- the slots of a core are read as that core
 pub from_to : (es : Listed Entry) → IsTrue (are_names es) → from_slots (to_slots es) ≡ Some es

@@ -1,5 +1,6 @@
 pub mod KindLaws
 pub mod FoundLaws
+pub mod KeptLaws
 pub mod RowLaws
 pub mod PortLaws
 pub mod TypeLaws

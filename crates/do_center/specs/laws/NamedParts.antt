@@ -3,12 +3,12 @@ use Rattle.std.proofs.Common.{◌≡◌, ℕ, pos, List as Listed, [], ◌∷◌
 use Rattle.std.specs.Prelude.{if◌then◌else◌}
 use Rattle.std.specs.List.{All}
 use Rattle.std.proofs.lemmas.List.Elements.{All-nil, All-cons, All-head, All-tail}
-use Rattle.std.proofs.lemmas.List.Elements.{All-map, All-weaker}
+use Rattle.std.proofs.lemmas.List.Elements.{All-weaker}
+use Rattle.do_base.specs.names.Names.{ObjectName}
 use Rattle.do_base.specs.declared.values.value.Value.{Value}
 use Rattle.do_base.specs.declared.values.value.Value.TheVariants.{Num, Text, Obj}
 use Rattle.do_behave.specs.declared.invocation.Invocation.{Invocation}
 use Rattle.do_native_acts.specs.Rows.{listed}
-use Rattle.do_native_acts.specs.laws.FoundLaws.{of_chosen}
 use Rattle.do_native_acts.specs.laws.GoodSteps.{SetsNamed}
 use Rattle.do_native_acts.specs.laws.NamedValues.{EachNamed, Named, NamedObject, core_read}
 use Rattle.do_native_acts.specs.laws.NamedValues.{list_named}
@@ -27,10 +27,11 @@ use Rattle.do_center.specs.declared.registrations.Registration.{Registration}
 use Rattle.do_center.specs.declared.seats.Seat.{Seat}
 use Rattle.do_center.specs.declared.slots.Waiting.{Waiting}
 use Rattle.do_center.specs.laws.CoreRead.{read_back}
+use Rattle.do_center.specs.laws.QueueLaws.{Fits, registrations_fit, waiting_fit}
 
 module _ (inv : Invocation) (slots : Listed Value) where
   -- a registration whose observer may be named
-  abbrev NamedRegistration : Registration → Type 0
+  abbrev pub NamedRegistration : Registration → Type 0
   NamedRegistration r = NamedObject inv slots r.observer
 
   -- what waits, with information that may be named
@@ -46,9 +47,8 @@ module _ (inv : Invocation) (slots : Listed Value) where
   NamedWaiting w = NamedObject inv slots w.observer × NamedQueue w.queue
 
   -- a registration whose observer may be named, with such a queue
-  pub record NamedSeat (s : Seat) : Type 0 where
-    pub observer : NamedRegistration s.registration
-    pub queue : NamedQueue s.queue
+  abbrev pub NamedSeat : Seat → Type 0
+  NamedSeat s = Fits NamedRegistration (λ o q. NamedQueue q) s
 
   -- registrations of such
   abbrev pub NamedSeats : Listed Seat → Type 0
@@ -120,11 +120,10 @@ module _ (inv : Invocation) (slots : Listed Value) where
       → All NamedWaiting (waiting ss) → NamedSeats ss
   seats_from [] all queues = All-nil NamedSeat
   seats_from (s ∷ ss) all queues =
-      let r = s.registration in
       let own = by s.queue queues in
       All-cons NamedSeat s ss
-      (record { observer = All-head NamedRegistration r (registrations ss) all; queue = own.0 })
-      (seats_from ss (All-tail NamedRegistration r (registrations ss) all) own.1)
+      (All-head NamedRegistration s.registration (registrations ss) all, own.0)
+      (seats_from ss (All-tail NamedRegistration s.registration (registrations ss) all) own.1)
     where
       by : (q : Listed Queued)
           → All NamedWaiting (if is_none q then waiting ss
@@ -135,23 +134,12 @@ module _ (inv : Invocation) (slots : Listed Value) where
           let w : Waiting = record { observer = s.registration.observer; queue = e ∷ q } in
           ((All-head NamedWaiting w (waiting ss) rest).1, All-tail NamedWaiting w (waiting ss) rest)
 
-  -- the registrations of such may be named
-  registrations_to : (ss : Listed Seat) → NamedSeats ss
-      → All NamedRegistration (registrations ss)
-  registrations_to ss all =
-      All-map NamedRegistration (λ (s : Seat). s.registration) ss
-      (All-weaker NamedSeat (λ (s : Seat). NamedRegistration s.registration)
-      (λ s named. named.observer) ss all)
-
-  -- and so may the queues
+  -- and so may the queues with their observers
   queues_to : (ss : Listed Seat) → NamedSeats ss → All NamedWaiting (waiting ss)
-  queues_to [] all = All-nil NamedWaiting
-  queues_to (s ∷ ss) all =
-      let w : Waiting = record { observer = s.registration.observer; queue = s.queue } in
-      let own = All-head NamedSeat s ss all in
-      let rest = queues_to ss (All-tail NamedSeat s ss all) in
-      of_chosen (All NamedWaiting) (is_none s.queue) (waiting ss) (w ∷ waiting ss) rest
-      (All-cons NamedWaiting w (waiting ss) (own.observer, own.queue) rest)
+  queues_to ss all =
+      let Q = λ (o : ObjectName) (q : Listed Queued). NamedObject inv slots o × NamedQueue q in
+      waiting_fit NamedRegistration Q ss
+      (All-weaker NamedSeat (Fits NamedRegistration Q) (λ s is. (is.0, (is.0, is.1))) ss all)
 
   -- a core that is read from the slots may be named
   pub core_from : (c : Core) → from_slots slots ≡ Some c → NamedCore c
@@ -169,7 +157,7 @@ module _ (inv : Invocation) (slots : Listed Value) where
   pub core_to : (c : Core) → NamedCore c → EachNamed inv slots (to_slots c)
   core_to c named = (
     slot_to inv slots registration_value NamedRegistration registration_to (registrations c.0)
-        (registrations_to c.0 named.seats),
+        (registrations_fit NamedRegistration (λ o q. NamedQueue q) c.0 named.seats),
     (
       slot_to inv slots Obj (NamedObject inv slots) (λ o it. it) c.1 named.suspended,
       (

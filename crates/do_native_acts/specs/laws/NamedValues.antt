@@ -3,7 +3,7 @@ use Rattle.std.proofs.Common.{◌≡◌, ℕ, ℤ, List as Listed, [], ◌∷◌
 use Rattle.std.proofs.Common.{rules}
 use Rattle.std.specs.List.{All, AllByRecursion, Contains, flat_map}
 use Rattle.std.specs.Option.{IfSome}
-use Rattle.std.proofs.lemmas.List.Elements.{All-nil, All-cons, All-head, All-tail, All-append}
+use Rattle.std.proofs.lemmas.List.Elements.{All-nil, All-cons, All-head, All-tail}
 use Rattle.std.proofs.lemmas.List.Elements.{All-map, All-weaker}
 use Rattle.std.proofs.lemmas.List.Elements.{All-from_recursion, recursion_from_All}
 use Rattle.do_base.specs.names.Names.{ObjectName}
@@ -19,6 +19,7 @@ use Rattle.do_behave.specs.laws.ObjectsKept.{arguments_among, objects_kept}
 use Rattle.do_behave.specs.laws.Sound.{get_kept}
 use Rattle.do_grammar.specs.Words.{◌>>?◌}
 use Rattle.do_native_acts.specs.Rows.{listed}
+use Rattle.do_native_acts.specs.laws.KeptLaws.{each_holds, kept_flat}
 use Rattle.do_native_acts.specs.laws.KindLaws.{found_of, object_read}
 
 -- the objects of a list are those of its items
@@ -63,11 +64,10 @@ module _ (inv : Invocation) (slots : Listed Value) where
   objects_among : (vs : Listed Value) → All Named vs
       → All (Contains (objects_named inv slots))
       (flat_map (λ (os : Listed ObjectName). os) (map objects_of vs))
-  objects_among [] all = All-nil (Contains (objects_named inv slots))
-  objects_among (v ∷ vs) all =
-      All-append (Contains (objects_named inv slots)) (objects_of v)
-      (flat_map (λ (os : Listed ObjectName). os) (map objects_of vs)) (All-head Named v vs all)
-      (objects_among vs (All-tail Named v vs all))
+  objects_among vs all =
+      let named = Contains (objects_named inv slots) in
+      kept_flat (All named) named (λ os. os) (λ os it. it) (map objects_of vs)
+      (All-map (All named) objects_of vs all)
 
   -- a list names what its items name
   pub list_named : (vs : Listed Value) → All Named vs → Named (List vs)
@@ -103,9 +103,7 @@ module _ (inv : Invocation) (slots : Listed Value) where
   -- values that may each be named may all be named
   pub each_named : {A : Type 0} (value : A → Value) → ((x : A) → Named (value x)) → (xs : Listed A)
       → All Named (map value xs)
-  each_named value each [] = All-nil Named
-  each_named value each (x ∷ xs) =
-      All-cons Named (value x) (map value xs) (each x) (each_named value each xs)
+  each_named value each xs = All-map Named value xs (each_holds (λ x. Named (value x)) each xs)
 
   -- rows of which none names anything else, as a slot keeps them
   pub rows_named : {A : Type 0} (value : A → Value) → ((x : A) → Named (value x))

@@ -1,22 +1,20 @@
 -- A list of types is read as it was shown, and shown as it was read.
 use Rattle.std.proofs.Common.{◌≡◌, ℕ, true, List as Listed, Some, None, map, refl, sym, ◌∙◌}
-use Rattle.std.proofs.Common.{ap, [], ◌∷◌}
+use Rattle.std.proofs.Common.{ap}
 use Rattle.std.specs.Prelude.{if◌then◌else◌}
 use Rattle.std.specs.List.{All}
-use Rattle.std.proofs.lemmas.List.Elements.{All-nil, All-cons}
 use Rattle.do_base.specs.values.Kinds.{text}
 use Rattle.do_base.specs.declared.values.value.Value.{Value, List}
 use Rattle.do_base.specs.declared.values.value.Value.TheVariants.{Text}
 use Rattle.do_native_acts.specs.Rows.{list_in}
 use Rattle.do_native_acts.specs.Types.{are_types, types_in}
+use Rattle.do_native_acts.specs.laws.KeptLaws.{each_holds}
 use Rattle.do_native_acts.specs.laws.KindLaws.{found_of, passed, text_of_Text, text_read, then_is}
 use Rattle.do_native_acts.specs.laws.RowLaws.{list_back, list_shown}
 
 -- each text is read as it was shown
 pub texts_read : (ts : Listed (Listed ℕ)) → All (λ t. text (Text t) ≡ Some t) ts
-texts_read [] = All-nil (λ (t : Listed ℕ). text (Text t) ≡ Some t)
-texts_read (t ∷ ts) =
-    All-cons (λ (s : Listed ℕ). text (Text s) ≡ Some s) t ts (text_of_Text t) (texts_read ts)
+texts_read = each_holds (λ (t : Listed ℕ). text (Text t) ≡ Some t) text_of_Text
 
 -- a list of types is read as it was shown
 pub types_shown : (types : Listed (Listed ℕ)) → are_types types ≡ true

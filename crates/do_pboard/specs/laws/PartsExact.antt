@@ -6,12 +6,12 @@ use Rattle.std.proofs.Common.{rules, true≢false, arith}
 use Rattle.std.specs.Prelude.{if◌then◌else◌}
 use Rattle.std.specs.List.{All}
 use Rattle.std.proofs.lemmas.Bool.{lt-ltb}
-use Rattle.std.proofs.lemmas.List.Elements.{All-nil, All-cons}
 use Rattle.do_base.specs.names.Names.{ObjectName}
 use Rattle.do_base.specs.values.Induction.{value_induction}
 use Rattle.do_base.specs.values.Kinds.{text, object}
 use Rattle.do_base.specs.declared.values.value.Value.{Value, List, the_lemmas}
 use Rattle.do_base.specs.declared.values.value.Value.TheVariants.{Nil, Num, Text, Obj}
+use Rattle.do_native_acts.specs.laws.KeptLaws.{each_holds}
 use Rattle.do_native_acts.specs.laws.KindLaws.{some_same, text_of_Text, object_of_Obj}
 use Rattle.do_native_acts.specs.laws.KindLaws.{text_read, object_read}
 use Rattle.do_native_acts.specs.laws.RowLaws.{pair_shown, pair_back}
@@ -120,19 +120,17 @@ owner_back =
 
 -- each type with its data is read as it was shown
 pub contents_read : (ds : Listed Content) → All (λ d. content_in (content_row d) ≡ Some d) ds
-contents_read [] = All-nil (λ (d : Content). content_in (content_row d) ≡ Some d)
-contents_read (d ∷ ds) =
-    All-cons (λ (x : Content). content_in (content_row x) ≡ Some x) d ds
-    (pair_shown text text (λ (s : Listed ℕ). Text s) (λ (s : Listed ℕ). Text s) d
-    (text_of_Text d.0) (text_of_Text d.1)) (contents_read ds)
+contents_read =
+    each_holds (λ (d : Content). content_in (content_row d) ≡ Some d) (λ d.
+    pair_shown text text (λ (s : Listed ℕ). Text s) (λ (s : Listed ℕ). Text s) d
+    (text_of_Text d.0) (text_of_Text d.1))
 
 -- each named pasteboard is read as it was shown
 pub rows_read : (bs : Listed NamedBoard) → All (λ b. board_in (board_row b) ≡ Some b) bs
-rows_read [] = All-nil (λ (b : NamedBoard). board_in (board_row b) ≡ Some b)
-rows_read (b ∷ bs) =
-    All-cons (λ (x : NamedBoard). board_in (board_row x) ≡ Some x) b bs
-    (pair_shown text object (λ (s : Listed ℕ). Text s) (λ (o : ObjectName). Obj o) b
-    (text_of_Text b.0) (object_of_Obj b.1)) (rows_read bs)
+rows_read =
+    each_holds (λ (b : NamedBoard). board_in (board_row b) ≡ Some b) (λ b.
+    pair_shown text object (λ (s : Listed ℕ). Text s) (λ (o : ObjectName). Obj o) b
+    (text_of_Text b.0) (object_of_Obj b.1))
 
 -- a type with its data is shown as it was read
 pub content_back : (v : Value) (d : Content) → content_in v ≡ Some d → content_row d ≡ v

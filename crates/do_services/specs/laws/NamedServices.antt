@@ -6,7 +6,7 @@ use Rattle.std.specs.List.{All}
 use Rattle.std.specs.Map.{keys_of}
 use Rattle.std.specs.Option.{IfSome}
 use Rattle.std.specs.Str.{bytes_eq}
-use Rattle.std.proofs.lemmas.List.Elements.{All-cons, All-head, All-tail, All-push}
+use Rattle.std.proofs.lemmas.List.Elements.{All-push}
 use Rattle.std.proofs.lemmas.Map.Entries.{All-lookup}
 use Rattle.do_base.specs.declared.values.value.Value.{Value}
 use Rattle.do_base.specs.declared.values.value.Value.TheVariants.{Text}
@@ -14,7 +14,8 @@ use Rattle.do_grammar.specs.Words.{◌>>?◌}
 use Rattle.do_behave.specs.Numbers.{truth}
 use Rattle.do_behave.specs.Steps.{local}
 use Rattle.do_behave.specs.declared.invocation.Invocation.{Invocation}
-use Rattle.do_native_acts.specs.laws.FoundLaws.{if_mapped, if_room, of_chosen}
+use Rattle.do_native_acts.specs.laws.FoundLaws.{if_mapped, if_room}
+use Rattle.do_native_acts.specs.laws.KeptLaws.{kept_entries}
 use Rattle.do_native_acts.specs.laws.KindLaws.{found_of}
 use Rattle.do_native_acts.specs.laws.NamedValues.{EachNamed, Named, core_read, each_named}
 use Rattle.do_native_acts.specs.laws.NamedValues.{list_named}
@@ -68,12 +69,7 @@ module _ (inv : Invocation) (slots : Listed Value) where
 
   -- services that stay may be named
   left_named : (es : Listed Entry) (item : Listed ℕ) → NamedCore es → NamedCore (removed es item)
-  left_named [] item all = all
-  left_named (e ∷ es) item all =
-      let rest = All-tail NamedEntry e es all in
-      of_chosen NamedCore (bytes_eq item e.0) es (e ∷ removed es item) rest
-      (All-cons NamedEntry e (removed es item) (All-head NamedEntry e es all)
-      (left_named es item rest))
+  left_named es item all = kept_entries NamedEntry (bytes_eq item) es all
 
   -- the service of a call may be named
   abbrev pub NamedCall : Call → Type 0

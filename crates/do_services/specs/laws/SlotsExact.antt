@@ -6,7 +6,8 @@ use Rattle.std.specs.List.{All, list_all}
 use Rattle.std.specs.Option.{IfSome}
 use Rattle.std.specs.Str.{bytes_eq}
 use Rattle.std.proofs.lemmas.Bool.{and_parts, and_from}
-use Rattle.std.proofs.lemmas.List.Elements.{All-nil, All-cons}
+use Rattle.std.proofs.lemmas.List.Elements.{All-map, All-weaker}
+use Rattle.std.proofs.lemmas.List.Sums.{AllPass-from_list_all}
 use Rattle.std.proofs.lemmas.Slice.Eq.{bytes_eq-Decides}
 use Rattle.do_base.specs.values.Kinds.{text, items}
 use Rattle.do_base.specs.declared.values.value.Value.{Value, List}
@@ -156,12 +157,12 @@ rows_of (e ∷ es) = ap (λ xs. row e.1 ∷ xs) (rows_of es)
 -- each service of entries is read as it was shown
 services_read : (es : Listed Entry) → list_all is_entry es ≡ true
     → All (λ s. service_in (row s) ≡ Some s) (map (λ (e : Entry). e.1) es)
-services_read [] all = All-nil (λ (s : Service). service_in (row s) ≡ Some s)
-services_read (e ∷ es) all =
-    let first = and_parts (is_entry e) (list_all is_entry es) all in
-    let parts = and_parts (bytes_eq e.0 e.1.item) (is_service e.1) first.0 in
-    All-cons (λ (s : Service). service_in (row s) ≡ Some s) e.1 (map (λ (x : Entry). x.1) es)
-    (service_shown e.1 parts.1) (services_read es first.1)
+services_read es all =
+    let read = λ (s : Service). service_in (row s) ≡ Some s in
+    All-map read (λ (e : Entry). e.1) es
+    (All-weaker (λ (e : Entry). is_entry e ≡ true) (λ (e : Entry). read e.1)
+    (λ e is. service_shown e.1 ((and_parts (bytes_eq e.0 e.1.item) (is_service e.1) is).1)) es
+    (AllPass-from_list_all is_entry es all))
 
 -- the entries of a core stand under their items
 pub entries_of : (es : Listed Entry) → are_services es ≡ true → list_all is_entry es ≡ true
