@@ -1,12 +1,14 @@
 -- What a change that means an act does.
-use Rattle.std.proofs.Common.{◌≡◌, ◌<◌, List, [], ◌∷◌, length, Some}
-use Rattle.std.proofs.Common.{ap, false, sym, ◌∙◌, subst, arith}
+use Rattle.std.proofs.Common.{◌≡◌, ◌<◌, List, [], ◌∷◌, length, None, Some}
+use Rattle.std.proofs.Common.{ap, false, refl, sym, true, ◌∙◌, subst, arith}
 use Rattle.std.specs.Prelude.{Err, Ok, OnErr, Result, slice_get}
 use Rattle.do_class.specs.Class.{Class}
 use Rattle.do_behave.specs.Changes.{IsFitting, Means}
 use Rattle.do_behave.specs.InPlace.{after_act}
 use Rattle.do_behave.specs.declared.act.Act.{Act}
+use Rattle.do_behave.specs.declared.act.Act.TheVariants as acts
 use Rattle.do_behave.specs.declared.change.Change.{Change}
+use Rattle.do_behave.specs.declared.change.Change.TheVariants as changes
 use Rattle.do_behave.specs.declared.invocation.Invocation.{Invocation}
 use Rattle.do_machine.specs.declared.node.Node.{Node}
 use Rattle.do_machine.specs.Context.{Context, RunContext}
@@ -19,12 +21,10 @@ use Rattle.do_effects.specs.Tidy.{IsTidy}
 use Rattle.do_machine.specs.State.{is_open}
 use Rattle.do_machine.specs.declared.state.Effect.{Effect}
 use Rattle.do_network.specs.Site.{site_move}
-use Rattle.do_effects.specs.declared.changing.Core.{Core}
-use Rattle.do_site.proofs.StepsDone.{act_stays}
 use Rattle.do_site.specs.declared.work.Work.{Work}
 use Rattle.do_site.specs.Kept.{IsKept, StaysBut}
 use Rattle.do_site.specs.Packable.{IsPackable}
-use Rattle.do_site.specs.Running.{IsRunOf}
+use Rattle.do_site.specs.Running.{IsRunOf, is_step}
 
 module _ (table : List Class) (p : Own) (r : RunContext) (run : IsRunOf table p r)
     (change : Change) (act : Act) (means : Means r.top change act) where
@@ -87,18 +87,32 @@ pub same_moves : (d one new : Doing) (e : Effect) → one ≡ d →
 same_moves d one new e same moves =
     moves ∙ ap (λ (x : Doing). moved x (site_move x.own e)) same
 
--- where an act is left to do nothing was changed
-pub unchanged : (table : List Class) (old one : Core) (r : RunContext) →
-    IsRunOf table old.part.own r → (change : Change) (act left : Act) →
-    Means r.top change act → act_left_on change old.part.own.node.stack ≡ Some left →
-    doing one ≡ record (doing old) {
-      own = record old.part.own { node = changed change old.part.own.node };
-    } →
-    doing one ≡ doing old
-unchanged table old one r run change act left means is made =
-    let stays = act_stays r act left
-    (sym (left_meant table old.part.own r run change act means) ∙ is) in
-    let node : changed change old.part.own.node ≡ old.part.own.node
-    = change_meant table old.part.own r run change act means ∙ stays.1
-    ∙ ap (λ (c : Context). c.node) run.context in
-    made ∙ (λ j. record (doing old) { own = record old.part.own { node = node j } })
+-- an act that is a step leaves none to do
+step_left : (act : Act) (top : Invocation) → is_step act ≡ true →
+    (after_act act top []).left ≡ None
+step_left (acts.Step pc locals handler writes) top e = refl
+step_left (acts.New class into pc) top e = cc
+step_left (acts.Send target selector args into from pc) top e = cc
+step_left (acts.Root port into pc) top e = cc
+step_left (acts.Vend value pc) top e = cc
+step_left (acts.Say value pc) top e = cc
+step_left (acts.Return value) top e = cc
+step_left (acts.Raise exc) top e = cc
+
+-- so does a change that is one
+pub act_leaves_none : (act : Act) (stack : List Invocation) → is_step act ≡ true →
+    act_left_on (changes.Other act) stack ≡ None
+act_leaves_none act [] e = refl
+act_leaves_none act (top ∷ below) e = step_left act top e
+
+-- and any change but an act
+pub change_leaves_none : (change : Change) (stack : List Invocation) →
+    ((act : Act) → change ≡ changes.Other act → ⊥) → act_left_on change stack ≡ None
+change_leaves_none change [] other = refl
+change_leaves_none (changes.Local into value pc) (top ∷ below) other = refl
+change_leaves_none (changes.Push list item weight pc) (top ∷ below) other = refl
+change_leaves_none (changes.Goto pc) (top ∷ below) other = refl
+change_leaves_none (changes.Slot at value pc) (top ∷ below) other = refl
+change_leaves_none (changes.Slots sets handler writes pc) (top ∷ below) other = refl
+change_leaves_none (changes.Handler handler pc) (top ∷ below) other = refl
+change_leaves_none (changes.Other act) (top ∷ below) other = absurd (other act refl)

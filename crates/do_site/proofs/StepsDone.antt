@@ -135,18 +135,6 @@ module _ (r : RunContext) where
   step_done (acts.Return value) e = cc
   step_done (acts.Raise exc) e = cc
 
-  -- any other is left as it is, and changed nothing
-  pub act_stays : (act left : Act) → (after_act act r.top []).left ≡ Some left →
-      (left ≡ act) × (act_done act r.top r.below r.context.node ≡ r.context.node)
-  act_stays (acts.Step pc locals handler writes) left e = cc
-  act_stays (acts.New class into pc) left e = (cc, refl)
-  act_stays (acts.Send target selector args into from pc) left e = (cc, refl)
-  act_stays (acts.Root port into pc) left e = (cc, refl)
-  act_stays (acts.Vend value pc) left e = (cc, refl)
-  act_stays (acts.Say value pc) left e = (cc, refl)
-  act_stays (acts.Return value) left e = (cc, refl)
-  act_stays (acts.Raise exc) left e = (cc, refl)
-
   -- a step keeps all but the stack and the heap
   pub step_keeps : (act : Act) →
       ((act_done act r.top r.below r.context.node).open_to ≡ r.context.node.open_to)

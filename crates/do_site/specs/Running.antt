@@ -1,7 +1,9 @@
 -- What a run of a site goes on with, and what an answer is that was not used yet.
-use Rattle.std.specs.Prelude.{Bool, List, None, Option, Some, [], true, ◌≡◌, ◌∷◌}
+use Rattle.std.specs.Prelude.{Bool, List, None, Option, Some, [], false, true, ◌≡◌, ◌∷◌}
 use Rattle.do_base.specs.declared.events.exception.Exc.{Exc}
 use Rattle.do_class.specs.Class.{Class}
+use Rattle.do_behave.specs.declared.act.Act.{Act}
+use Rattle.do_behave.specs.declared.act.Act.TheVariants.{Step}
 use Rattle.do_behave.specs.declared.invocation.Answer.{Answer}
 use Rattle.do_behave.specs.declared.invocation.Answer.TheVariants.{Given, Raised}
 use Rattle.do_behave.specs.declared.invocation.Invocation.{Invocation}
@@ -45,6 +47,11 @@ raised_in _ = None
 abbrev pub next_of : List Invocation → Next
 next_of [] = nexts.Nothing
 next_of (top ∷ below) = next_in top.state
+
+-- an act is a step: it sets locals and the handler and writes slots, and no more
+abbrev pub is_step : Act → Bool
+is_step (Step pc locals handler writes) = true
+is_step _ = false
 
 -- the run of the top invocation, by what its site is judged by
 pub record IsRunOf (table : List Class) (p : Own) (r : RunContext) : Type 0 where

@@ -1,5 +1,5 @@
 //! Acts: the top invocation does its next act.
-ghost use Rattle.std.specs.Prelude.{◌≡◌, ◌&&◌, IfOk, IfSome, OnErr, OnOk, Some};
+ghost use Rattle.std.specs.Prelude.{◌≡◌, ◌&&◌, IfOk, IfSome, None, OnErr, OnOk, Some};
 ghost use Rattle.std.specs.Prelude.{◌<◌, length, slice_get};
 ghost use Rattle.std.specs.List.{list_all};
 ghost use Rattle.do_behave.specs.Changes.{IsFitting, Means};
@@ -16,7 +16,7 @@ ghost use Rattle.do_site.specs.Kept.{IsKept, StaysBut};
 ghost use Rattle.do_site.specs.Packable.{is_light};
 ghost use Rattle.do_site.specs.Plans.{Allows, IsEnough};
 ghost use Rattle.do_site.specs.Room.{CanSettle, HasPlace, HasPlaceFor, HasPlaceToLeave, to_keep};
-ghost use Rattle.do_site.specs.Running.{IsRunOf, makes_light};
+ghost use Rattle.do_site.specs.Running.{IsRunOf, is_step, makes_light};
 ghost use Rattle.do_site.specs.Steps.{IsSame, Moves};
 
 use crate::allowing::allowed;
@@ -45,6 +45,13 @@ fn stays_light(packable: bool, change: &Change) -> bool
         ≡ (packable && list_all (λ w. is_light w.value) (change_writes change.now)) }
 {
     packable && writes_light(change)
+}
+
+/// Whether an act is a step, which is done in place.
+fn is_step(act: &Act) -> bool
+    ensures { result ≡ is_step act.now }
+{
+    matches!(act, Act::Step { .. })
 }
 
 impl Work {
@@ -211,6 +218,52 @@ impl Work {
         self.core.part.step(change)
     }
 
+    /// The top invocation goes on by a change that is a step.
+    ///
+    /// An error means that memory ran out; nothing but room changed then.
+    fn go_on(&mut self, table: &ClassTable, change: Change) -> Result<(), AllocError>
+        requires kept { IsKept table.now self.old }
+        requires places { CanSettle self.old }
+        requires top { 0 < length self.old.core.part.own.node.stack }
+        requires fits { (top : Invocation)
+            → slice_get self.old.core.part.own.node.stack 0 ≡ Some top → IsFitting top change }
+        requires step { act_left_on change self.old.core.part.own.node.stack ≡ None }
+        ensures ok { OnOk result ((r : RunContext) (act : Act)
+            → IsRunOf table.now self.old.core.part.own r → Means r.top change act
+            → Moves self.old.core self.new.core (effect_of r (act_rule r act))) }
+        ensures err { OnErr result (IsSame self.old.core self.new.core) }
+        ensures kept { IsKept table.now self.new }
+        ensures places { CanSettle self.new }
+    {
+        let packable = stays_light(self.packable, &change);
+        self.make_change(change)?;
+        self.packable = packable;
+        self.leave();
+        Ok(())
+    }
+
+    /// An act of the top invocation, which runs, is done: a step in place, and any other as the
+    /// rules decide.
+    ///
+    /// An error means that memory ran out, or that a number would pass what a node can count;
+    /// nothing but room changed then.
+    fn do_act(&mut self, table: &ClassTable, act: Act) -> Result<(), AllocError>
+        requires kept { IsKept table.now self.old }
+        requires places { CanSettle self.old }
+        requires runs { IsRunning self.old.core.part.own.node.stack }
+        ensures ok { OnOk result ((r : RunContext) → IsRunOf table.now self.old.core.part.own r
+            → Moves self.old.core self.new.core (effect_of r (act_rule r act))) }
+        ensures err { OnErr result (IsSame self.old.core self.new.core) }
+        ensures kept { IsKept table.now self.new }
+        ensures places { CanSettle self.new }
+    {
+        if is_step(&act) {
+            self.go_on(table, Change::Other(act))
+        } else {
+            self.decide(table, act)
+        }
+    }
+
     /// The top invocation, which runs, does its next act: a step is done in place, and of any other
     /// the rules decide.
     ///
@@ -234,15 +287,9 @@ impl Work {
         let Ok(change) = self.next_change(table, acts) else {
             return Err(AllocError);
         };
-        let packable = stays_light(self.packable, &change);
-        let Ok(left) = self.make_change(change) else {
-            return Err(AllocError);
-        };
-        let Some(act) = left else {
-            self.packable = packable;
-            self.leave();
-            return Ok(());
-        };
-        self.decide(table, act)
+        match change {
+            Change::Other(act) => self.do_act(table, act),
+            step => self.go_on(table, step),
+        }
     }
 }
