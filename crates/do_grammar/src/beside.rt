@@ -138,7 +138,7 @@ fn slow_num<'a>(
     if n > 8 {
         return Err(ReadFault::Bad(bytes.len()));
     }
-    let from = low.max(least_number(n) as u64);
+    let from = low.max(least_number(n));
     match next_free(holes, from, high) {
         Some(free) => {
             if u128::from(free) < span_of(n) {

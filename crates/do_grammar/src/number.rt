@@ -7,17 +7,17 @@ ghost use Rattle.do_grammar.specs.RestAnswers.{Gives, TellsRest, FindsRest};
 ghost use Rattle.do_grammar.specs.Grammar.{Takes};
 ghost use Rattle.do_grammar.specs.PartlyAdded.{AddedPartly};
 
+use crate::byte::split_byte;
 use crate::fault::ReadFault;
 use do_base::Text;
 use std::alloc::AllocError;
 
-/// How many numbers k bytes have.
-pub(crate) fn span_of(k: u8) -> u128
-    requires { k ≤ 8 }
+/// How many numbers k bytes have, where k is below 8.
+fn step_of(k: u8) -> u64
+    requires { k < 8 }
     ensures value { result ≡ span k }
-    ensures small { k < 8 → result ≤ 2 ^ 56 }
+    ensures small { result ≤ 2 ^ 56 }
     ensures positive { 0 < result }
-    ensures most { result ≤ 2 ^ 64 }
 {
     match k {
         0 => 1,
@@ -27,18 +27,32 @@ pub(crate) fn span_of(k: u8) -> u128
         4 => 0x1_0000_0000,
         5 => 0x100_0000_0000,
         6 => 0x1_0000_0000_0000,
-        7 => 0x100_0000_0000_0000,
-        _ => 0x1_0000_0000_0000_0000,
+        _ => 0x100_0000_0000_0000,
+    }
+}
+
+/// How many numbers k bytes have.
+pub(crate) fn span_of(k: u8) -> u128
+    requires { k ≤ 8 }
+    ensures value { result ≡ span k }
+    ensures small { k < 8 → result ≤ 2 ^ 56 }
+    ensures positive { 0 < result }
+    ensures most { result ≤ 2 ^ 64 }
+{
+    if k < 8 {
+        u128::from(step_of(k))
+    } else {
+        1 << 64
     }
 }
 
 /// The least number that needs n bytes.
-pub(crate) fn least_number(n: u8) -> u128
+pub(crate) fn least_number(n: u8) -> u64
     requires { n ≤ 8 }
     ensures value { result ≡ least_of n }
     ensures small { result ≤ 2 ^ 56 }
 {
-    if n == 0 { 0 } else { span_of(n - 1) }
+    if n == 0 { 0 } else { step_of(n - 1) }
 }
 
 /// The next k bytes of a number between two bounds, and the bytes behind them.
@@ -61,21 +75,28 @@ pub fn digits_of(
         (digits_at no_kind low high k least bytes.now) }
     ensures no_memory { IfErr result (λ fault. fault ≢ Memory) }
 {
-    if k == 0 {
-        return Ok((least, bytes));
+    let mut number = least;
+    let mut rest = bytes;
+    let mut left = k;
+    while left > 0 {
+        let Some((b, after)) = split_byte(rest) else {
+            return Err(ReadFault::Short);
+        };
+        let step = step_of(left - 1);
+        let Some(next) = number.checked_add(u64::from(b) * step) else {
+            return Err(ReadFault::Bad(rest.len()));
+        };
+        if next > high {
+            return Err(ReadFault::Bad(rest.len()));
+        }
+        if step <= low.saturating_sub(next) {
+            return Err(ReadFault::Bad(rest.len()));
+        }
+        number = next;
+        rest = after;
+        left -= 1;
     }
-    let [b, after @ ..] = bytes else {
-        return Err(ReadFault::Short);
-    };
-    let step = span_of(k - 1);
-    let next = u128::from(least) + u128::from(*b) * step;
-    if next > u128::from(high) {
-        return Err(ReadFault::Bad(bytes.len()));
-    }
-    if next + step <= u128::from(low) {
-        return Err(ReadFault::Bad(bytes.len()));
-    }
-    digits_of(after, low, high, next as u64, k - 1)
+    Ok((number, rest))
 }
 
 /// The number between two bounds that begins the bytes, and the bytes behind it.
@@ -106,9 +127,8 @@ fn front_num(bytes: &[u8], low: u64, high: u64) -> Result<(u64, &[u8]), ReadFaul
         return Err(ReadFault::Short);
     };
     let n = *n;
-    if n <= 8 && least_number(n) <= u128::from(high) && u128::from(low) < span_of(n) {
-        let least = least_number(n) as u64;
-        digits_of(rest, low.max(least), high, 0, n)
+    if n <= 8 && least_number(n) <= high && (n == 8 || low < step_of(n)) {
+        digits_of(rest, low.max(least_number(n)), high, 0, n)
     } else {
         Err(ReadFault::Bad(bytes.len()))
     }
@@ -150,7 +170,7 @@ fn push_digits(out: &mut Text, k: u8, x: u64) -> Result<(), AllocError>
     if k == 0 {
         return Ok(());
     }
-    let step = span_of(k - 1) as u64;
+    let step = step_of(k - 1);
     out.push((x / step) as u8)?;
     push_digits(out, k - 1, x % step)
 }

@@ -1,6 +1,6 @@
 -- The steps of the loops over the bytes of a number.
 use Rattle.std.proofs.Common.{◌≡◌, ℕ, zero, suc, ◌+◌, ◌-◌, ◌*◌, ◌/◌, ◌%◌, ◌<◌, ◌≤◌, true, false}
-use Rattle.std.proofs.Common.{cond, ltb, leb, List, [], ◌∷◌, length, get_or, drop, Result, Ok, Err}
+use Rattle.std.proofs.Common.{cond, ltb, leb, List, [], ◌∷◌, length, Result, Ok, Err}
 use Rattle.std.proofs.Common.{refl, arith}
 use Rattle.std.specs.Prelude.{◌&&◌}
 use Rattle.std.proofs.lemmas.Bool.{lt-ltb, le-ltb, le-leb, lt-leb}
@@ -15,54 +15,55 @@ pub at_last : (low high least k : ℕ) (bytes : List ℕ) → k ≡ 0
 at_last low high least k bytes e = rw e refl
 
 -- the bytes end before the number does
-pub at_end : (low high least k : ℕ) (bytes : List ℕ) → 0 < k → length bytes ≡ 0
+pub at_end : (low high least k : ℕ) (bytes : List ℕ) → 0 < k → bytes ≡ []
     → digits_at no_kind low high k least bytes ≡ Err short
 at_end low high least zero bytes h e = absurd (omega arith)
-at_end low high least (suc k) [] h e = refl
-at_end low high least (suc k) (b ∷ bytes) h e = absurd (omega arith)
+at_end low high least (suc k) bytes h e = rw e refl
 
 -- a byte with which a number between the bounds goes on
-pub at_byte : (low high least : ℕ) (bytes : List ℕ) (k : ℕ) → 0 < k → 0 < length bytes
-    → least + get_or bytes 0 0 * span (k - 1) ≤ high
-    → low < (least + get_or bytes 0 0 * span (k - 1)) + span (k - 1)
+pub at_byte : (low high least : ℕ) (k b : ℕ) (bytes after : List ℕ) → 0 < k → bytes ≡ b ∷ after
+    → least + b * span (k - 1) ≤ high → low < (least + b * span (k - 1)) + span (k - 1)
     → digits_at no_kind low high k least bytes
-    ≡ digits_at no_kind low high (k - 1) (least + get_or bytes 0 0 * span (k - 1))
-    (drop 1 bytes)
-at_byte low high least bytes zero h l p q = absurd (omega arith)
-at_byte low high least [] (suc k) h l p q = absurd (omega arith)
-at_byte low high least (b ∷ after) (suc k) h l p q =
+    ≡ digits_at no_kind low high (k - 1) (least + b * span (k - 1)) after
+at_byte low high least zero b bytes after h parts p q = absurd (omega arith)
+at_byte low high least (suc k) b bytes after h parts p q =
     let e : suc k - 1 ≡ k = omega arith in
     let p' = rw e at p in
     let q' = rw e at q in
-    rw (e, le-leb (least + b * span k) high p', lt-ltb low ((least + b * span k) + span k) q') refl
+    rw (
+      parts,
+      e,
+      le-leb (least + b * span k) high p',
+      lt-ltb low ((least + b * span k) + span k) q',
+    )
+    refl
 
 -- a byte with which all numbers are above the bounds
-pub at_over : (low high least : ℕ) (bytes : List ℕ) (k : ℕ) → 0 < k → 0 < length bytes
-    → high < least + get_or bytes 0 0 * span (k - 1)
+pub at_over : (low high least : ℕ) (k b : ℕ) (bytes after : List ℕ) → 0 < k → bytes ≡ b ∷ after
+    → high < least + b * span (k - 1)
     → digits_at no_kind low high k least bytes ≡ Err (bad no_kind (length bytes))
-at_over low high least bytes zero h l p = absurd (omega arith)
-at_over low high least [] (suc k) h l p = absurd (omega arith)
-at_over low high least (b ∷ after) (suc k) h l p =
+at_over low high least zero b bytes after h parts p = absurd (omega arith)
+at_over low high least (suc k) b bytes after h parts p =
     let e : suc k - 1 ≡ k = omega arith in
     let p' = rw e at p in
-    rw (lt-leb (least + b * span k) high p') refl
+    rw (parts, lt-leb (least + b * span k) high p') refl
 
 -- a byte with which all numbers are below them
-pub at_under : (low high least : ℕ) (bytes : List ℕ) (k : ℕ) → 0 < k → 0 < length bytes
-    → (least + get_or bytes 0 0 * span (k - 1)) + span (k - 1) ≤ low
+pub at_under : (low high least : ℕ) (k b : ℕ) (bytes after : List ℕ) → 0 < k
+    → bytes ≡ b ∷ after → (least + b * span (k - 1)) + span (k - 1) ≤ low
     → digits_at no_kind low high k least bytes ≡ Err (bad no_kind (length bytes))
-at_under low high least bytes zero h l p = absurd (omega arith)
-at_under low high least [] (suc k) h l p = absurd (omega arith)
-at_under low high least (b ∷ after) (suc k) h l p =
+at_under low high least zero b bytes after h parts p = absurd (omega arith)
+at_under low high least (suc k) b bytes after h parts p =
     let e : suc k - 1 ≡ k = omega arith in
     let p' = rw e at p in
     let f = le-ltb low ((least + b * span k) + span k) p' in
-    elim (leb (least + b * span k) high) as (λ t.
+    rw parts
+    (elim (leb (least + b * span k) high) as (λ t.
     ((cond {A =
     Result (ℕ × List ℕ) (Stop (Unit {0}))} (t && ltb low ((least + b * span k) + span k))
     (Ok (b, after)) (Err (bad no_kind (suc (length after)))) >>= λ (x : ℕ × List ℕ).
     digits_at no_kind low high k (least + x.0 * span k) x.1))
-    ≡ Err (bad no_kind (suc (length after)))) [ true ↦ rw f refl | false ↦ refl ]
+    ≡ Err (bad no_kind (suc (length after)))) [ true ↦ rw f refl | false ↦ refl ])
 
 pub ruleset digits_facts = (at_last, at_end, at_byte, at_over, at_under)
 
