@@ -160,7 +160,8 @@ impl Text {
         Ok(())
     }
 
-    /// Gives the bytes as a `Vec`. They are copied only where they are shared.
+    /// Gives the bytes as a `Vec`. They are copied only where they are shared; `AllocError` comes
+    /// where memory ran out for that copy.
     pub fn into_vec(self) -> Result<Vec<u8>, AllocError>
         ensures { IfOk result (λ bytes. bytes.items ≡ self) }
     {
