@@ -16,7 +16,7 @@ ghost use Rattle.do_effects.specs.Room.{PartHasRoom, PartKeepsRoom};
 ghost use Rattle.do_effects.specs.declared.plan.Plan.TheVariants.{Begins, Makes};
 
 use do_base::{Locals, Value, Values};
-use do_behave::{Change, Invocation};
+use do_behave::Invocation;
 use do_class::ClassId;
 use do_part::Part;
 
@@ -31,9 +31,7 @@ pub fn goes(part: &mut Part, into: u8, value: Value, pc: u32)
     ensures within { PartKeepsRoom (to_keep (sizes_of (value ∷ []))) part.old.room
         part.new.room }
 {
-    let Ok(_none) = part.step(Change::Local { into, value, pc }) else {
-        unreachable!();
-    };
+    part.set_local(into, value, pc);
 }
 
 /// The top invocation, which runs, goes on.
@@ -44,9 +42,7 @@ pub fn goes_to(part: &mut Part, pc: u32)
     } }
     ensures within { PartKeepsRoom (to_keep 0) part.old.room part.new.room }
 {
-    let Ok(_none) = part.step(Change::Goto { pc }) else {
-        unreachable!();
-    };
+    part.go_to(pc);
 }
 
 /// The local of the top invocation to which an out value goes, and the place where that goes on.

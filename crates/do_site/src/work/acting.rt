@@ -189,22 +189,20 @@ impl Work {
         self.make_room(&Needs::to_keep(names))
     }
 
-    /// The top invocation is changed, in room that is made for that. What is left to do of an act
-    /// that is no step is told.
+    /// The top invocation is changed by a step, in room that is made for that.
     ///
     /// An error means that memory ran out; nothing but room changed then.
-    fn make_change(&mut self, change: Change) -> Result<Option<Act>, AllocError>
+    fn make_change(&mut self, change: Change) -> Result<(), AllocError>
         requires places { CanSettle self.old }
         requires top { 0 < length self.old.core.part.own.node.stack }
         requires fits { (top : Invocation)
             → slice_get self.old.core.part.own.node.stack 0 ≡ Some top → IsFitting top change }
+        requires step { act_left_on change self.old.core.part.own.node.stack ≡ None }
         ensures own { OnOk result (doing self.new.core ≡ record (doing self.old.core) {
           own = record self.old.core.part.own {
             node = changed change self.old.core.part.own.node;
           };
         }) }
-        ensures left { IfOk result (λ act. act
-            ≡ act_left_on change self.old.core.part.own.node.stack) }
         ensures err { OnErr result (IsSame self.old.core self.new.core) }
         ensures stays { StaysBut self.old self.new }
         ensures places { CanSettle self.new }

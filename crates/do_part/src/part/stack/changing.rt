@@ -1,14 +1,13 @@
 //! The top invocation changed in place.
 ghost use Rattle.std.specs.Prelude.{◌≡◌, ◌<◌, ◌≤◌, ◌+◌, ◌∷◌, [], false, Some, length, slice_get};
-ghost use Rattle.do_behave.specs.Changes.{IsFitting, meaning, with_set};
-ghost use Rattle.do_behave.specs.InPlace.{after_act};
+ghost use Rattle.do_behave.specs.Changes.{IsFitting, with_set};
 ghost use Rattle.do_behave.specs.declared.change.Change.TheVariants.{Goto, Local};
 ghost use Rattle.do_behave.specs.declared.invocation.Invocation.{Invocation};
 ghost use Rattle.do_machine.specs.run.Changes.{steps_to};
 ghost use Rattle.do_machine.specs.run.Fresh.{with_stack};
 ghost use Rattle.do_stack.specs.Exchange.{given, takes_memory};
 ghost use Rattle.do_stack.specs.Waiting.{with_top};
-ghost use Rattle.do_part.specs.Changed.{set_values};
+ghost use Rattle.do_part.specs.Changed.{set_values, top_turned};
 ghost use Rattle.do_part.specs.Names.{values_of, sizes_of, AreStored};
 
 use crate::part::Part;
@@ -25,8 +24,7 @@ impl Part {
         requires names { sizes_of (given change) ≤ self.old.room.names }
         requires stored { AreStored self.old.own.node (values_of (given change)) }
         ensures own { self.new.own ≡ record self.old.own {
-          node = with_stack (with_top (λ i. (after_act (meaning i change) i []).inv)
-              self.old.own.node.stack) self.old.own.node;
+          node = top_turned change self.old.own.node;
         } }
         ensures objects { self.new.room.objects ≡ self.old.room.objects }
         ensures invocations { self.new.room.invocations ≡ self.old.room.invocations }
@@ -41,13 +39,12 @@ impl Part {
     }
 
     /// Sets a local of the top invocation, which then goes on.
-    pub(super) fn set_local(&mut self, into: u8, value: Value, pc: u32)
+    pub fn set_local(&mut self, into: u8, value: Value, pc: u32)
         requires top { 0 < length self.old.own.node.stack }
         requires names { sizes_of (value ∷ []) ≤ self.old.room.names }
         requires stored { AreStored self.old.own.node (values_of (value ∷ [])) }
         ensures own { self.new.own ≡ record self.old.own {
-          node = with_stack (with_top (λ i. (after_act (meaning i (Local into value pc)) i []).inv)
-              self.old.own.node.stack) self.old.own.node;
+          node = top_turned (Local into value pc) self.old.own.node;
         } }
         ensures objects { self.new.room.objects ≡ self.old.room.objects }
         ensures invocations { self.new.room.invocations ≡ self.old.room.invocations }
@@ -60,11 +57,10 @@ impl Part {
     }
 
     /// The top invocation goes on.
-    pub(super) fn go_to(&mut self, pc: u32)
+    pub fn go_to(&mut self, pc: u32)
         requires { 0 < length self.old.own.node.stack }
         ensures own { self.new.own ≡ record self.old.own {
-          node = with_stack (with_top (λ i. (after_act (meaning i (Goto pc)) i []).inv)
-              self.old.own.node.stack) self.old.own.node;
+          node = top_turned (Goto pc) self.old.own.node;
         } }
         ensures objects { self.new.room.objects ≡ self.old.room.objects }
         ensures invocations { self.new.room.invocations ≡ self.old.room.invocations }

@@ -1,6 +1,6 @@
 //! Changes of the top invocation that are steps, with their writes of slots.
 ghost use Rattle.std.specs.Prelude.{◌≡◌, ◌<◌, ◌≤◌, ◌+◌, [], ◌∷◌, length, false, Some, slice_get};
-ghost use Rattle.std.specs.Prelude.{OnOk, OnErr, IfOk, IsOk};
+ghost use Rattle.std.specs.Prelude.{None, OnOk, OnErr, IsOk};
 ghost use Rattle.do_behave.specs.Changes.{IsFitting};
 ghost use Rattle.do_behave.specs.declared.invocation.Invocation.{Invocation};
 ghost use Rattle.do_behave.specs.declared.act.Act.TheVariants.{Step};
@@ -85,14 +85,14 @@ impl Part {
         self.write_all(serial, writes);
     }
 
-    /// Makes a change of the top invocation of any kind: a step is done, with its writes of slots,
-    /// and any other act is handed back.
+    /// Makes a change of the top invocation that is a step, with its writes of slots.
     ///
     /// Only a push takes memory. If that runs out, what the part has is unchanged.
-    fn step_any(&mut self, change: Change) -> Result<Option<Act>, AllocError>
+    pub fn step(&mut self, change: Change) -> Result<(), AllocError>
         requires top { 0 < length self.old.own.node.stack }
         requires fits { (top : Invocation) → slice_get self.old.own.node.stack 0 ≡ Some top
             → IsFitting top change }
+        requires step { act_left_on change self.old.own.node.stack ≡ None }
         requires names { sizes_of (given change)
             + sizes_of (written_values (change_writes change)) ≤ self.old.room.names }
         requires locals { AreStored self.old.own.node (values_of (given change)) }
@@ -100,7 +100,6 @@ impl Part {
             (values_of (written_values (change_writes change))) }
         ensures own { OnOk result (self.new.own
             ≡ record self.old.own { node = changed change self.old.own.node }) }
-        ensures left { IfOk result (λ act. act ≡ act_left_on change self.old.own.node.stack) }
         ensures err { OnErr result (self.new.own ≡ self.old.own) }
         ensures sure { is_push change ≡ false → IsOk result }
         ensures objects { self.new.room.objects ≡ self.old.room.objects }
@@ -110,19 +109,24 @@ impl Part {
         ensures entries { self.new.room.entries ≡ self.old.room.entries }
     {
         match change {
+            Change::Local { into, value, pc } => {
+                self.set_local(into, value, pc);
+                Ok(())
+            }
+            Change::Goto { pc } => {
+                self.go_to(pc);
+                Ok(())
+            }
             Change::Slot { slot, value, pc } => {
                 self.step_slot(slot, value, pc);
-                Ok(None)
+                Ok(())
             }
             Change::Push {
                 list,
                 item,
                 weight,
                 pc,
-            } => {
-                self.push_item(list, item, weight, pc)?;
-                Ok(None)
-            }
+            } => self.push_item(list, item, weight, pc),
             Change::Slots {
                 sets,
                 handler,
@@ -130,7 +134,11 @@ impl Part {
                 pc,
             } => {
                 self.step_slots(sets, handler, writes, pc);
-                Ok(None)
+                Ok(())
+            }
+            Change::Handler { handler, pc } => {
+                self.exchange(Change::Handler { handler, pc });
+                Ok(())
             }
             Change::Other(
                 Act::Step {
@@ -141,51 +149,9 @@ impl Part {
                 },
             ) => {
                 self.step_act(pc, locals, handler, writes);
-                Ok(None)
+                Ok(())
             }
-            Change::Other(act) => Ok(Some(act)),
-            other => {
-                self.exchange(other);
-                Ok(None)
-            }
-        }
-    }
-
-    /// Makes a change of the top invocation: a step is done, with its writes of slots, and any
-    /// other act is handed back.
-    ///
-    /// Only a push takes memory. If that runs out, what the part has is unchanged.
-    pub fn step(&mut self, change: Change) -> Result<Option<Act>, AllocError>
-        requires top { 0 < length self.old.own.node.stack }
-        requires fits { (top : Invocation) → slice_get self.old.own.node.stack 0 ≡ Some top
-            → IsFitting top change }
-        requires names { sizes_of (given change)
-            + sizes_of (written_values (change_writes change)) ≤ self.old.room.names }
-        requires locals { AreStored self.old.own.node (values_of (given change)) }
-        requires stored { AreStored self.old.own.node
-            (values_of (written_values (change_writes change))) }
-        ensures own { OnOk result (self.new.own
-            ≡ record self.old.own { node = changed change self.old.own.node }) }
-        ensures left { IfOk result (λ act. act ≡ act_left_on change self.old.own.node.stack) }
-        ensures err { OnErr result (self.new.own ≡ self.old.own) }
-        ensures sure { is_push change ≡ false → IsOk result }
-        ensures objects { self.new.room.objects ≡ self.old.room.objects }
-        ensures invocations { self.new.room.invocations ≡ self.old.room.invocations }
-        ensures names { self.old.room.names ≤ self.new.room.names + sizes_of (given change)
-            + sizes_of (written_values (change_writes change)) }
-        ensures entries { self.new.room.entries ≡ self.old.room.entries }
-    {
-        // Most steps set a local or go on.
-        match change {
-            Change::Local { into, value, pc } => {
-                self.set_local(into, value, pc);
-                Ok(None)
-            }
-            Change::Goto { pc } => {
-                self.go_to(pc);
-                Ok(None)
-            }
-            other => self.step_any(other),
+            Change::Other(_) => unreachable!(),
         }
     }
 }

@@ -11,7 +11,7 @@ use Rattle.do_effects.specs.declared.changing.Core.{Core}
 use Rattle.do_site.proofs.ActsDone.{on_err}
 use Rattle.do_site.proofs.ActsKeep.{change_keeps}
 use Rattle.do_site.proofs.PlacesKept.{either_way, places_fewer, places_same}
-use Rattle.do_site.proofs.PlansKeep.{if_ok, on_ok}
+use Rattle.do_site.proofs.PlansKeep.{on_ok}
 use Rattle.do_site.proofs.Stored.{there_stored}
 use Rattle.do_site.proofs.work.Work.make_change.Goals as goal
 
@@ -27,6 +27,12 @@ step-requires-clause-fits c =
     subst (λ (p : Own). (top : Invocation) → slice_get p.node.stack 0 ≡ Some top →
     IsFitting top c.args.change)
     (sym (ap (λ (d : Doing). d.own) c.in_ok-make_room_to_keep.ensures.same)) c.requires.fits
+
+-- it is a step
+pub step-requires-clause-step : goal.step-requires-clause-step
+step-requires-clause-step c =
+    ap (λ (d : Doing). act_left_on c.args.change d.own.node.stack)
+    c.in_ok-make_room_to_keep.ensures.same ∙ c.requires.step
 
 -- there is room for the names that are given and written
 pub step-requires-clause-names : goal.step-requires-clause-names
@@ -62,13 +68,6 @@ returns-clause-own c =
     ∙ (λ j. record (same j) {
       own = record (same j).own { node = changed c.args.change (same j).own.node };
     })) c.step.ensures.own
-
--- what is left of an act is told
-pub returns-clause-left : goal.returns-clause-left
-returns-clause-left c =
-    if_ok c.step.result (λ act left. left
-    ∙ ap (λ (d : Doing). act_left_on c.args.change d.own.node.stack)
-    c.in_ok-make_room_to_keep.ensures.same) c.step.ensures.left
 
 -- without memory nothing but room changed
 pub returns-clause-err : goal.returns-clause-err
