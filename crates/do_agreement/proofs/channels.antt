@@ -1,3 +1,4 @@
 pub mod SendsCarried
 pub mod FirstTaken
 pub mod SendingsSpelled
+pub mod ChannelsStay

@@ -1,4 +1,5 @@
 pub mod CommitFits
 pub mod CommitShows
 pub mod EntriesJudged
+pub mod Moving
 pub mod MoveTallies

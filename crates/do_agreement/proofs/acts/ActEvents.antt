@@ -17,6 +17,7 @@ use Rattle.do_machine.specs.Step.{moved_by, step}
 use Rattle.do_machine.specs.ends.Closing.{closing}
 use Rattle.do_machine.specs.ends.TimeOut.{time_out}
 use Rattle.do_machine.specs.run.Run.{Acting, run_effect}
+use Rattle.do_facts.specs.links.LinksAreKept.{LinksAreKept}
 use Rattle.do_network.specs.declared.input.Input.{Input}
 use Rattle.do_network.specs.declared.input.Input.TheVariants as inputs
 use Rattle.do_network.specs.Links.{Part}
@@ -26,12 +27,11 @@ use Rattle.do_network.specs.Site.{enabled_input, moves}
 use Rattle.do_network.specs.Spelled.{SendsSpelled}
 use Rattle.do_network.specs.Step.{net_moved, net_skipped, net_step}
 use Rattle.do_network.proofs.JudgedAlike.{context_alike}
-use Rattle.do_facts.specs.links.LinksAreKept.{LinksAreKept}
 use Rattle.do_agreement.specs.Agrees.{Agrees, StepAgrees}
 use Rattle.do_agreement.specs.Classed.{ClassesAreTold}
 use Rattle.do_agreement.proofs.acts.ActsAgree.{act_if, close_if, node_is, skip_agrees}
 use Rattle.do_agreement.proofs.commits.EntriesJudged.{counts_judge}
-use Rattle.do_agreement.proofs.commits.MoveTallies.{shown_but}
+use Rattle.do_agreement.proofs.commits.Moving.{shown_but}
 
 -- a site of a network that agrees is judged as the machine's node
 pub judged_so : (table : List Class) (N : Net) (S : State) → Agrees table N S → (port : ℕ)

@@ -14,6 +14,12 @@ use Rattle.do_machine.specs.State.{class_of, is_known, node}
 use Rattle.do_machine.specs.Step.{moved_by}
 use Rattle.do_machine.specs.held.Leaving.{leaving}
 use Rattle.do_machine.specs.run.Run.{Acting}
+use Rattle.do_facts.specs.links.Links.{links_of}
+use Rattle.do_facts.specs.links.LinksAreKept.{LinksAreKept}
+use Rattle.do_facts.specs.links.Sound.{IsSound}
+use Rattle.do_facts.specs.steps.IsStep.{Acts, IsActOf, IsRuleOf, IsStep}
+use Rattle.do_facts.proofs.links.Bridge.{link_bridge}
+use Rattle.do_facts.proofs.steps.OthersStay.{class_stays}
 use Rattle.do_network.specs.declared.input.Done.TheVariants as dones
 use Rattle.do_network.specs.Counting.{counted}
 use Rattle.do_network.specs.Links.{Part}
@@ -22,12 +28,6 @@ use Rattle.do_network.specs.Own.{class_kept, is_counted}
 use Rattle.do_network.specs.Site.{moves}
 use Rattle.do_network.specs.Spelled.{SentSpelled}
 use Rattle.do_network.specs.Step.{net_moved, net_skipped, place_after}
-use Rattle.do_facts.specs.links.Links.{links_of}
-use Rattle.do_facts.specs.links.LinksAreKept.{LinksAreKept}
-use Rattle.do_facts.specs.links.Sound.{IsSound}
-use Rattle.do_facts.specs.steps.IsStep.{Acts, IsActOf, IsRuleOf, IsStep}
-use Rattle.do_facts.proofs.links.Bridge.{link_bridge}
-use Rattle.do_facts.proofs.steps.OthersStay.{class_stays}
 use Rattle.do_agreement.specs.Agrees.{Agrees, StepAgrees}
 use Rattle.do_agreement.specs.Classed.{ClassesAreTold}
 use Rattle.do_agreement.specs.Tallies.{left_after}
@@ -35,7 +35,7 @@ use Rattle.do_agreement.proofs.classes.ClassesAfter.{IsClassed, classes_moved, c
 use Rattle.do_agreement.proofs.classes.ClassesAfter.{known_classed}
 use Rattle.do_agreement.proofs.classes.KnownAfter.{known_after}
 use Rattle.do_agreement.proofs.places.PlacesChanged.{by_part}
-use Rattle.do_agreement.proofs.acts.StepTallies.{act_outcome, act_tallies, rule_moves, sound_after}
+use Rattle.do_agreement.proofs.acts.StepTallies.{act_outcome, act_sound, act_tallies, rule_moves}
 use Rattle.do_agreement.proofs.acts.StepTallies.{sound_here}
 
 -- what a node knows once it left what it does without, it knew before
@@ -89,20 +89,19 @@ module _ (table : List Class) (act : Acting) (N : Net) (S : State) (agrees : Agr
         let classes = agrees.classes port p site_there in
         record {
           agrees = record {
-            tallies = act_tallies table S kept N agrees.tallies port pl there dones.Moved act event
-                e rule spelled;
+            tallies = act_tallies kept agrees.tallies port there act event e rule dones.Moved
+                spelled;
             classes = by_part port (place_after (moves p e)) (λ x. refl) N pl there
                 (λ a z. (o : ObjectName) → class_kept z.own o ≡ (around T z.own.node).class_of o)
                 (classes_moved S T still p.own e (left_after p.own e)
                 (known_after (IsClassed S p.own.classes) n [] e runs
                 (known_classed S p.own some classes) tt)
                 (left_known e.node (is_counted (counted p.own e))
-                (sound_after S kept port n here [] e runs)))
+                (act_sound kept agrees.tallies port there act event e rule)))
                 (λ a z ne k. classes_stay_so S T still z.own (known_some a z k)
                 (agrees.classes a z k));
           };
-          outcome = act_outcome table S kept N agrees.tallies port pl there dones.Moved act event e
-              rule spelled;
+          outcome = act_outcome kept agrees.tallies port there act event e rule dones.Moved spelled;
         }
 
     -- an effect of the site's node, where there is one

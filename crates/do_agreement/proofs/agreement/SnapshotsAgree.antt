@@ -19,7 +19,7 @@ use Rattle.do_network.specs.Own.{is_counted}
 use Rattle.do_network.specs.Snapshot.{closed_links, net_snapshot, part_line}
 use Rattle.do_agreement.specs.Agrees.{Agrees}
 use Rattle.do_agreement.proofs.commits.EntriesJudged.{counts_judge}
-use Rattle.do_agreement.proofs.commits.MoveTallies.{shown_but}
+use Rattle.do_agreement.proofs.commits.Moving.{shown_but}
 use Rattle.do_agreement.proofs.places.PlacesChanged.{some_is}
 use Rattle.do_agreement.proofs.places.Numbers.{flipped, same_number}
 

@@ -1,16 +1,16 @@
 -- The counts of a network fit after an effect of one of its sites.
-use Rattle.do_machine.specs.World.{others as other_ports}
 use Rattle.std.proofs.Common.{map, ◌≡◌, ◌==◌, ◌++◌, ◌+◌, ℕ, Bool, true, false, cond, List, refl}
 use Rattle.std.proofs.Common.{sym, ap, ◌∙◌, subst, fold, arith}
 use Rattle.std.specs.Prelude.{Some, [], is_some, option_and_then, option_map}
 use Rattle.std.specs.List.{AllByRecursion}
 use Rattle.do_class.specs.Class.{Class}
+use Rattle.do_machine.specs.World.{others as other_ports}
 use Rattle.do_machine.specs.declared.state.Effect.{Effect}
 use Rattle.do_machine.specs.Objects.{object_at}
 use Rattle.do_machine.specs.State.{holds, is_open}
 use Rattle.do_network.specs.Frames.{all_posted}
 use Rattle.do_network.specs.Links.{Link, Part}
-use Rattle.do_network.specs.Net.{net_ports, Net, Place, channel_to, part_at, place_at}
+use Rattle.do_network.specs.Net.{Net, Place, channel_to, net_ports, part_at, place_at}
 use Rattle.do_network.specs.Spelled.{IsSpelledSending}
 use Rattle.do_network.specs.Step.{place_after, with_sending}
 use Rattle.do_network.specs.fits.Counted.{Counted}
@@ -25,12 +25,13 @@ use Rattle.do_agreement.proofs.counts.MovesAccount.{apart}
 use Rattle.do_agreement.proofs.counts.NamesCounted.{names_counted}
 use Rattle.do_agreement.proofs.counts.ReturnsCounted.{returns_counted}
 use Rattle.do_agreement.proofs.counts.ReturnsSent.{told_sent}
-use Rattle.do_agreement.proofs.places.PlacesChanged.{ports_same, by_part, channel_elsewhere}
-use Rattle.do_agreement.proofs.places.PlacesChanged.{channel_here, part_there}
+use Rattle.do_agreement.proofs.places.PlacesChanged.{by_part, channel_elsewhere, channel_here}
+use Rattle.do_agreement.proofs.places.PlacesChanged.{part_there, ports_same}
 use Rattle.do_agreement.proofs.pairs.NotesAsAtoms.{total_behind}
 use Rattle.do_agreement.proofs.sites.HeldKept.{holds_after}
-use Rattle.do_agreement.proofs.sites.ReaderStays.{peers_stay, ReadFrom, reader_stays}
+use Rattle.do_agreement.proofs.sites.ReaderStays.{ReadFrom, peers_stay, reader_stays}
 use Rattle.do_agreement.proofs.places.Numbers.{flipped, never_apart}
+use Rattle.do_agreement.proofs.channels.ChannelsStay.{carries_still}
 
 module _ (table : List Class) (port : ℕ) (N : Net) (under_way : ℕ → ℕ → List Note)
     (closes : ℕ → ℕ → Bool) (fit : CountsFit table N under_way closes) (pl : Place)
@@ -283,17 +284,8 @@ module _ (table : List Class) (port : ℕ) (N : Net) (under_way : ℕ → ℕ �
   channel_of_others b c z w other l n ne =
       let old = fit.channels b c z w l n ne in
       subst (ChannelCarries table M b c z w) (sym (now_other b c other))
-      (record {
-        between = old.between;
-        stands = channel_elsewhere port (place_after (effected p e)) keeps N b c other
-            ∙ old.stands;
-        writer = old.writer;
-        writes = old.writes;
-        reader = old.reader;
-        reads = old.reads;
-        carries = old.carries;
-        marks = old.marks;
-      })
+      (carries_still old
+      (channel_elsewhere port (place_after (effected p e)) keeps N b c other ∙ old.stands))
 
   -- each channel
   channels_after : (a m : ℕ) (x y : Part) → part_at M a ≡ Some x → part_at M m ≡ Some y →

@@ -24,6 +24,7 @@ use Rattle.do_agreement.proofs.hands.HandSites.{Hand, at_from, at_port, by_hand,
 use Rattle.do_agreement.proofs.hands.HandSites.{keeps_part, now_from, now_rest, now_to, other}
 use Rattle.do_agreement.proofs.hands.HandSites.{there_still}
 use Rattle.do_agreement.proofs.hands.LinksRead.{found_read, read_if, read_keeps}
+use Rattle.do_agreement.proofs.channels.ChannelsStay.{carries_still}
 
 module _ {table : List Class} {port from : ℕ} {N : Net} {under_way : ℕ → ℕ → List Note} {x : Note}
     {xs : List Note} (hand : Hand table port from N under_way x xs) where
@@ -113,22 +114,13 @@ module _ {table : List Class} {port from : ℕ} {N : Net} {under_way : ℕ → �
     channel_of_sender ne =
         let old = hand.fit.channels from m q w (at_from hand) n ne in
         subst (ChannelCarries table H from m q w) (sym (now_to hand from m third))
-        (record {
-          between = old.between;
-          stands =
-              channel_elsewhere port (with_part (part_in_hand from x p)) (keeps_part hand) K from m
-              (flipped from port (other hand))
-              ∙ channel_here from less (keeps_less hand) N hand.pf hand.sender m
-              ∙ found_elsewhere (λ d. d.to) (advanced (carried_as front x)) (λ d. refl) port m
-              third hand.pf.channels
-              ∙ sym (ap (option_and_then (channel_to m)) hand.sender) ∙ old.stands;
-          writer = old.writer;
-          writes = old.writes;
-          reader = old.reader;
-          reads = old.reads;
-          carries = old.carries;
-          marks = old.marks;
-        })
+        (carries_still old
+        (channel_elsewhere port (with_part (part_in_hand from x p)) (keeps_part hand) K from m
+        (flipped from port (other hand))
+        ∙ channel_here from less (keeps_less hand) N hand.pf hand.sender m
+        ∙ found_elsewhere (λ d. d.to) (advanced (carried_as front x)) (λ d. refl) port m third
+        hand.pf.channels
+        ∙ sym (ap (option_and_then (channel_to m)) hand.sender) ∙ old.stands))
 
     -- a channel of the taker
     channel_of_taker : ChannelCarries table H port m (part_in_hand from x p) w (now port m)
@@ -204,19 +196,9 @@ module _ {table : List Class} {port from : ℕ} {N : Net} {under_way : ℕ → �
       go false e =
           let old = hand.fit.channels b c y w l n ne in
           subst (ChannelCarries table H b c y w) (sym (now_to hand b c fourth))
-          (record {
-            between = old.between;
-            stands =
-                channel_elsewhere port (with_part (part_in_hand from x p)) (keeps_part hand) K b c
-                third
-                ∙ channel_elsewhere from less (keeps_less hand) N b c e ∙ old.stands;
-            writer = old.writer;
-            writes = old.writes;
-            reader = old.reader;
-            reads = old.reads;
-            carries = old.carries;
-            marks = old.marks;
-          })
+          (carries_still old
+          (channel_elsewhere port (with_part (part_in_hand from x p)) (keeps_part hand) K b c third
+          ∙ channel_elsewhere from less (keeps_less hand) N b c e ∙ old.stands))
 
   -- a channel to the taker
   channel_to_hand : (b : ℕ) (y : Part) → (port == b) ≡ false → part_at N b ≡ Some y →

@@ -1,17 +1,14 @@
 -- The counts of a network fit while one of its sites has an item in hand.
-use Rattle.do_machine.specs.World.{others}
-use Rattle.std.proofs.Common.{map, ◌≡◌, ◌==◌, ℕ, true, false, List, ◌∷◌, sym, ap, ◌∙◌}
-use Rattle.std.specs.Prelude.{Some, is_some}
+use Rattle.std.proofs.Common.{map, ◌≡◌, ℕ, true, List, sym, ap, ◌∙◌}
+use Rattle.std.specs.Prelude.{is_some}
 use Rattle.do_class.specs.Class.{Class}
-use Rattle.do_class.specs.Table.{IsTable}
-use Rattle.do_coder.specs.declared.recent.pair.Pair.{Pair}
+use Rattle.do_machine.specs.World.{others}
 use Rattle.do_machine.specs.State.{is_open}
 use Rattle.do_network.specs.Links.{Link, Part}
-use Rattle.do_network.specs.Net.{net_ports, Net, Place, part_at, place_at}
+use Rattle.do_network.specs.Net.{Net, Place, net_ports, part_at}
 use Rattle.do_network.specs.fits.Notes.{Note}
-use Rattle.do_agreement.specs.CountsFit.{ChannelCarries, CountsFit, HoldsReceived, none_closes}
-use Rattle.do_agreement.specs.NetInHand.{carried_as, closes_for, net_in_hand, net_without}
-use Rattle.do_agreement.specs.NetInHand.{part_in_hand, with_part, without_first}
+use Rattle.do_agreement.specs.CountsFit.{CountsFit, HoldsReceived}
+use Rattle.do_agreement.specs.NetInHand.{closes_for, part_in_hand, with_part}
 use Rattle.do_agreement.proofs.places.PlacesChanged.{ports_same}
 use Rattle.do_agreement.proofs.sites.HeldKept.{holds_in_hand}
 use Rattle.do_agreement.proofs.hands.HandChannels.{channels_in_hand}
@@ -44,8 +41,8 @@ module _ {table : List Class} {port from : ℕ} {N : Net} {under_way : ℕ → �
   now = sites.now hand
 
   -- the counts fit with the item in hand
-  fits : CountsFit table H now (closes_for port from x)
-  fits = record {
+  pub hand_fits : CountsFit table H now (closes_for port from x)
+  hand_fits = record {
     owns = by_hand hand (λ a z. HoldsReceived a z.own)
         (holds_in_hand port from x p.own (hand.fit.owns port p (at_port hand)) hand.here)
         (λ a z third k. hand.fit.owns a z k);
@@ -64,47 +61,3 @@ module _ {table : List Class} {port from : ℕ} {N : Net} {under_way : ℕ → �
         (λ o. sites_there hand peer (hand.fit.peers port peer p (at_port hand) o))
         (λ b z third l o. sites_there hand peer (hand.fit.peers b peer z l o)) a y h;
   }
-
-module _ (table : List Class) (t : IsTable table) (port from : ℕ) (N : Net)
-    (under_way : ℕ → ℕ → List Note) (fit : CountsFit table N under_way none_closes) (pl pf : Place)
-    (there : place_at N port ≡ Some pl) (sender : place_at N from ≡ Some pf)
-    (here : is_open pl.part.own.node from ≡ true) (x : Note) (xs : List Note)
-    (first : under_way from port ≡ x ∷ xs) where
-  -- the item that is taken
-  abbrev hand : Hand table port from N under_way x xs
-  hand = record {
-    is_table = t;
-    fit = fit;
-    pl = pl;
-    pf = pf;
-    there = there;
-    sender = sender;
-    here = here;
-    first = first;
-  }
-
-  -- the two sites are apart
-  pub other : (from == port) ≡ false
-  other = sites.other hand
-
-  -- the channel between them
-  abbrev pub way : ChannelCarries table N from port pf.part pl.part (under_way from port)
-  way = sites.way hand
-
-  -- the names by which the item is spelled
-  abbrev pub front : List Pair
-  front = sites.front hand
-
-  -- the site that takes is there without the item
-  pub there_still : place_at (net_without port from (carried_as front x) N) port ≡ Some pl
-  there_still = sites.there_still hand
-
-  -- no site changes where the item leaves the channel
-  pub parts_still : (a : ℕ) →
-      part_at (net_without port from (carried_as front x) N) a ≡ part_at N a
-  parts_still = sites.parts_still hand
-
-  -- the counts fit with the item in hand
-  pub hand_fits : CountsFit table (net_in_hand port from front x pl.part N)
-      (without_first port from xs under_way) (closes_for port from x)
-  hand_fits = fits hand

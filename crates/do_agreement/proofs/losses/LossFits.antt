@@ -1,15 +1,15 @@
 -- A loss keeps a network in agreement with the state.
-use Rattle.do_machine.specs.World.{others}
 use Rattle.std.proofs.Common.{◌≡◌, ◌==◌, ◌&&◌, ℕ, zero, suc, Bool, true, false, cond, List, [], ◌∷◌}
 use Rattle.std.proofs.Common.{map, length, refl, sym, ap, ◌∙◌, subst, arith}
 use Rattle.std.specs.Prelude.{Some, if◌then◌else◌, is_some, option_and_then, option_map}
 use Rattle.std.specs.List.{AllByRecursion, insert}
 use Rattle.std.proofs.lemmas.Bool.{eqb-true}
 use Rattle.do_class.specs.Class.{Class}
+use Rattle.do_machine.specs.World.{others}
+use Rattle.do_machine.specs.declared.item.Item.TheVariants.{End}
 use Rattle.do_coder.specs.declared.recent.pair.Pair.{Pair}
 use Rattle.do_coder.specs.Packets.{surroundings}
 use Rattle.do_frames.specs.Frames.{IsFrame, after_frame, raw}
-use Rattle.do_machine.specs.declared.item.Item.TheVariants.{End}
 use Rattle.do_network.specs.Links.{Part}
 use Rattle.do_network.specs.Net.{Carried, Lost, Net, Place, Whole, change_place, channel}
 use Rattle.do_network.specs.Net.{channel_to, part_at, place_at, with_channel}
@@ -20,9 +20,10 @@ use Rattle.do_network.specs.fits.Notes.{Note, carried, exports_of, names_behind,
 use Rattle.do_network.specs.fits.Notes.{returns_of, tells_of, total}
 use Rattle.do_agreement.specs.CountsFit.{ChannelCarries, CountsFit, none_closes}
 use Rattle.do_agreement.proofs.places.KeyedLists.{found_changed, found_elsewhere}
-use Rattle.do_agreement.proofs.places.PlacesChanged.{ports_same, channel_elsewhere, channel_here}
-use Rattle.do_agreement.proofs.places.PlacesChanged.{part_elsewhere, part_here}
+use Rattle.do_agreement.proofs.places.PlacesChanged.{channel_elsewhere, channel_here}
+use Rattle.do_agreement.proofs.places.PlacesChanged.{part_elsewhere, part_here, ports_same}
 use Rattle.do_agreement.proofs.places.Numbers.{flipped}
+use Rattle.do_agreement.proofs.channels.ChannelsStay.{carries_still}
 
 -- the mark of a loss, under way
 abbrev pub mark : Note
@@ -236,32 +237,15 @@ module _ (table : List Class) (from to after : ℕ) (N : Net) (under_way : ℕ �
       }
   channel_now a m p q old true false e k =
       let is_from : a ≡ from = eqb-true a from e in
-      record {
-        between = old.between;
-        stands =
-            ap (λ z. channel L z m) is_from
-            ∙ channel_here from more keeps N pf sender m
-            ∙ found_elsewhere (λ d. d.to) (with_loss after) (λ d. refl) to m (flipped m to k)
-            pf.channels
-            ∙ sym (ap (option_and_then (channel_to m)) sender)
-            ∙ sym (ap (λ z. channel N z m) is_from) ∙ old.stands;
-        writer = old.writer;
-        writes = old.writes;
-        reader = old.reader;
-        reads = old.reads;
-        carries = old.carries;
-        marks = old.marks;
-      }
-  channel_now a m p q old false c e k = record {
-    between = old.between;
-    stands = channel_elsewhere from more keeps N a m (flipped a from e) ∙ old.stands;
-    writer = old.writer;
-    writes = old.writes;
-    reader = old.reader;
-    reads = old.reads;
-    carries = old.carries;
-    marks = old.marks;
-  }
+      carries_still old
+      (ap (λ z. channel L z m) is_from
+      ∙ channel_here from more keeps N pf sender m
+      ∙ found_elsewhere (λ d. d.to) (with_loss after) (λ d. refl) to m (flipped m to k) pf.channels
+      ∙ sym (ap (option_and_then (channel_to m)) sender)
+      ∙ sym (ap (λ z. channel N z m) is_from) ∙ old.stands)
+  channel_now a m p q old false c e k =
+      carries_still old
+      (channel_elsewhere from more keeps N a m (flipped a from e) ∙ old.stands)
 
   -- the counts fit after the loss
   pub loss_fits : CountsFit table L now none_closes

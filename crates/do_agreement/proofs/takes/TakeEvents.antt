@@ -1,37 +1,40 @@
 -- A take keeps a network in agreement with the state.
-use Rattle.std.proofs.Common.{◌≡◌, ◌==◌, ◌&&◌, ◌||◌, ℕ, Bool, true, false, List, [], ◌∷◌, map, refl}
-use Rattle.std.proofs.Common.{sym, ap, ◌∙◌, arith}
-use Rattle.do_packet.specs.Met.{same_object}
-use Rattle.do_machine.specs.declared.node.Wanted.{Wanted}
-use Rattle.do_machine.specs.lend.Asking.{same_wanted, wanted}
+use Rattle.std.proofs.Common.{◌≡◌, ◌==◌, ◌&&◌, ◌||◌, ℕ, Bool, true, false, List, [], ◌∷◌, refl, sym}
+use Rattle.std.proofs.Common.{ap, ◌∙◌, arith}
 use Rattle.std.specs.Prelude.{None, Some, option_map}
 use Rattle.std.specs.List.{AllByRecursion, list_any}
 use Rattle.std.proofs.lemmas.Bool.Decides.{nat_tests}
 use Rattle.do_base.specs.declared.events.event.Event.TheVariants.{Take}
 use Rattle.do_base.specs.names.Names.{ObjectName}
 use Rattle.do_class.specs.Class.{Class}
-use Rattle.do_class.specs.Table.{IsTable}
 use Rattle.do_class.specs.declared.ids.ClassId.{ClassId}
-use Rattle.do_coder.specs.declared.recent.pair.Pair.{Pair}
+use Rattle.do_packet.specs.Met.{same_object}
+use Rattle.do_machine.specs.declared.node.Wanted.{Wanted}
+use Rattle.do_machine.specs.lend.Asking.{same_wanted, wanted}
 use Rattle.do_machine.specs.declared.item.Item.{Item}
 use Rattle.do_machine.specs.declared.item.Item.TheVariants as items
 use Rattle.do_machine.specs.declared.node.Node.{Node}
 use Rattle.do_machine.specs.declared.state.Effect.{Effect}
 use Rattle.do_machine.specs.declared.state.State.{State}
 use Rattle.do_machine.specs.Commit.{moved}
-use Rattle.do_machine.specs.Context.{Context, Surroundings, around, context}
+use Rattle.do_machine.specs.Context.{Surroundings, around, context}
 use Rattle.do_machine.specs.Entry.{has_entry}
 use Rattle.do_machine.specs.Objects.{object_at}
-use Rattle.do_machine.specs.State.{class_of, holds, is_known, is_open, queue}
+use Rattle.do_machine.specs.State.{class_of, holds, is_known, node}
 use Rattle.do_machine.specs.run.Run.{Acting}
-use Rattle.do_machine.specs.take.Take.{can_take, take_effect}
+use Rattle.do_machine.specs.take.Take.{take_effect}
+use Rattle.do_facts.specs.Net.{noted}
+use Rattle.do_facts.specs.links.Links.{atoms}
+use Rattle.do_facts.specs.steps.IsStep.{IsStep, Takes}
+use Rattle.do_facts.proofs.steps.OthersStay.{class_requeued, class_stays}
+use Rattle.do_coder.specs.declared.recent.pair.Pair.{Pair}
 use Rattle.do_network.specs.declared.fault.PeerFault.{PeerFault}
 use Rattle.do_network.specs.declared.input.Done.TheVariants as dones
 use Rattle.do_network.specs.Counting.{counted, item_classes}
 use Rattle.do_network.specs.Faults.{is_asked, peer_fault, unless}
 use Rattle.do_network.specs.Frames.{frame_of, item_of}
 use Rattle.do_network.specs.Links.{Part}
-use Rattle.do_network.specs.Net.{Net, Place, part_at, place_at}
+use Rattle.do_network.specs.Net.{Net}
 use Rattle.do_network.specs.Own.{class_kept, counted_around, is_counted}
 use Rattle.do_network.specs.Site.{handled, moves, released_by, site_move}
 use Rattle.do_network.specs.Spelled.{SentSpelled}
@@ -39,15 +42,7 @@ use Rattle.do_network.specs.Step.{NetStepped, net_moved, place_after}
 use Rattle.do_network.specs.fits.Fits.{Fits}
 use Rattle.do_network.specs.fits.Notes.{Note, note_frame}
 use Rattle.do_network.proofs.NoFault.{fits_faultless}
-use Rattle.do_facts.specs.Net.{noted}
-use Rattle.do_facts.specs.calls.Facts.{CallsAreKept}
-use Rattle.do_facts.specs.links.Links.{atoms}
-use Rattle.do_facts.specs.links.LinksAreKept.{LinksAreKept}
-use Rattle.do_facts.specs.steps.IsStep.{IsStep, Takes, without_oldest}
-use Rattle.do_facts.proofs.links.Bridge.{link_bridge}
-use Rattle.do_facts.proofs.steps.OthersStay.{class_stays, class_requeued}
 use Rattle.do_agreement.specs.Agrees.{Agrees, StepAgrees}
-use Rattle.do_agreement.specs.Classed.{ClassesAreTold}
 use Rattle.do_agreement.specs.InHand.{in_hand, taken_by}
 use Rattle.do_agreement.specs.NetInHand.{carried_as, closes_for, ends, net_in_hand, net_without}
 use Rattle.do_agreement.specs.NetInHand.{part_in_hand, without_first}
@@ -55,17 +50,18 @@ use Rattle.do_agreement.specs.Tallies.{left_after}
 use Rattle.do_agreement.proofs.classes.ClassesAfter.{IsClassed, classes_moved, classes_stay_so}
 use Rattle.do_agreement.proofs.classes.ClassesAfter.{known_in_hand, told_in_hand}
 use Rattle.do_agreement.proofs.classes.KnownAfter.{GrantedIs, item_such, known_after}
-use Rattle.do_agreement.proofs.acts.ActsAgree.{known_some, left_known, node_is}
+use Rattle.do_agreement.proofs.acts.ActsAgree.{known_some, left_known}
 use Rattle.do_agreement.proofs.agreement.AgreesFits.{fits_so, same_way}
 use Rattle.do_agreement.proofs.commits.EntriesJudged.{counts_judge}
-use Rattle.do_agreement.proofs.hands.HandFits.{front, hand_fits, other, parts_still, there_still}
-use Rattle.do_agreement.proofs.hands.HandFits.{way}
-use Rattle.do_agreement.proofs.hands.HandShows.{hand_shows}
 use Rattle.do_agreement.proofs.places.PlacesChanged.{by_part}
-use Rattle.do_agreement.proofs.acts.StepTallies.{hand_there, sound_after, sound_here, take_outcome}
-use Rattle.do_agreement.proofs.acts.StepTallies.{take_tallies}
+use Rattle.do_agreement.proofs.takes.TakeTallies.{take_commits, take_moves, take_outcome}
+use Rattle.do_agreement.proofs.takes.TakeTallies.{take_sound, take_tallies}
 use Rattle.do_agreement.proofs.takes.TakesAlike.{around_alike, site_effect, take_alike}
 use Rattle.do_agreement.proofs.places.Numbers.{flipped}
+use Rattle.do_agreement.proofs.takes.Taking as takes
+use Rattle.do_agreement.proofs.takes.Taking.{Taking, apart_from, node_there, port_is, sender_there}
+use Rattle.do_agreement.proofs.takes.Taking.{site_there, waits}
+use Rattle.do_agreement.proofs.hands.HandSites.{parts_still, there_still}
 
 -- what an ask is of is known
 pub asked_known : (home serial lender number : ℕ) (n : Node) →
@@ -89,44 +85,32 @@ no_fault : (b : Bool) (fault : PeerFault) → unless b fault ≡ None → b ≡ 
 no_fault true fault e = refl
 no_fault false fault e = absurd (cc)
 
-module _ (table : List Class) (t : IsTable table) (act : Acting) (N : Net) (S : State)
-    (agrees : Agrees table N S) (kept : LinksAreKept S) (calls : CallsAreKept S)
-    (told : ClassesAreTold S) (port from : ℕ) (pl pf : Place) (there : place_at N port ≡ Some pl)
-    (sender : place_at N from ≡ Some pf) (can : can_take from pl.part.own.node ≡ true)
-    (here : is_open pl.part.own.node from ≡ true) (x : Note) (xs : List Note)
-    (first : agrees.tallies.under_way from port ≡ x ∷ xs) where
+module _ {table : List Class} {act : Acting} {N : Net} {S : State} {agrees : Agrees table N S}
+    {port from : ℕ} {x : Note} {xs : List Note}
+    (taking : Taking table act N S agrees port from x xs) where
   -- the site
   abbrev p : Part
-  p = pl.part
+  p = taking.pl.part
 
   -- what is under way
   abbrev under_way : ℕ → ℕ → List Note
   under_way = agrees.tallies.under_way
 
-  -- it is there
-  site_there : part_at N port ≡ Some p
-  site_there = ap (option_map (λ y. y.part)) there
-
-  -- and the sender
-  sender_there : part_at N from ≡ Some pf.part
-  sender_there = ap (option_map (λ y. y.part)) sender
-
   -- the names by which the item is spelled
-  abbrev pub names : List Pair
-  names = front table t port from N under_way agrees.tallies.counts pl pf there sender here x xs
-      first
+  abbrev names : List Pair
+  names = takes.names taking
+
+  -- the items that are left
+  abbrev rest : List Item
+  rest = takes.rest taking
+
+  -- the state without the item
+  abbrev T : State
+  T = takes.T taking
 
   -- the network without the item
   abbrev K : Net
   K = net_without port from (carried_as names x) N
-
-  -- the items that are left
-  abbrev rest : List Item
-  rest = map (λ (y : Note). y.item) xs
-
-  -- the state without the item
-  abbrev T : State
-  T = without_oldest S from port rest
 
   -- what the take is judged by, at the site
   abbrev site_around : Surroundings
@@ -141,43 +125,20 @@ module _ (table : List Class) (t : IsTable table) (act : Acting) (N : Net) (S : 
   abbrev machine : Effect
   machine = take_effect (context table T p.own.node) from x.item
 
-  -- the two are apart
-  apart_from : (from == port) ≡ false
-  apart_from = other table t port from N under_way agrees.tallies.counts pl pf there sender here x
-      xs first
-
-  -- what waits for the node
-  pub waits : queue S from port ≡ Some (x.item ∷ rest)
-  waits =
-      sym (agrees.tallies.shows.queues from port)
-      ∙ ap (option_map (λ c. map (λ (y : Note). y.item) (under_way from port)))
-      (agrees.tallies.counts.channels from port pf.part p sender_there site_there apart_from).stands
-      ∙ ap (λ ys. Some (map (λ (y : Note). y.item) ys)) first
-
-  -- the site is of its port
-  pub port_is : p.own.node.port ≡ port
-  port_is = (agrees.tallies.counts.owns port p site_there).port_is
-
   -- an item that is no end is judged as the machine judges
   judged : ends x.item ≡ false → site_around ≡ around T p.own.node
   judged open_still =
-      let way_is = way table t port from N under_way agrees.tallies.counts pl pf there sender here x
-      xs first in
       around_alike S T (λ o. class_requeued from port rest o S.stations) p.own
-      (known_some table act N S agrees kept told port p site_there)
-      (agrees.classes port p site_there) from x
+      (known_some table act N S agrees taking.kept taking.told port p (site_there taking))
+      (agrees.classes port p (site_there taking)) from x
       (λ peer serial.
+      let commits = take_commits taking site_around in
       counts_judge table port p.own.node (net_in_hand port from names x p N)
       (without_first port from xs under_way) T (closes_for port from x)
-      (hand_fits table t port from N under_way agrees.tallies.counts pl pf there sender here x xs
-      first)
-      (hand_shows port from names x xs N under_way S agrees.tallies.shows pl pf there sender
-      apart_from first (way_is.between, way_is.stands))
-      (part_in_hand from x p)
-      (ap (option_map (λ y. y.part)) (hand_there table S kept N agrees.tallies port pl there
-      dones.Moved t from pf sender here x xs first site_around)) (λ k. refl)
+      commits.fit commits.shows (part_in_hand from x p)
+      (ap (option_map (λ y. y.part)) commits.there) (λ k. refl)
       (λ k. ap (λ b. b && ((port == port) && (k == from))) open_still) peer serial
-      ∙ ap (λ k. has_entry T peer (object_at k serial)) (sym port_is))
+      ∙ ap (λ k. has_entry T peer (object_at k serial)) (sym (port_is taking)))
 
   -- so the site and the node have one effect
   pub one_effect : site ≡ machine
@@ -190,19 +151,20 @@ module _ (table : List Class) (t : IsTable table) (act : Acting) (N : Net) (S : 
 
   -- the network stands for the state
   abbrev F : Fits table N S
-  F = fits_so table N S agrees kept calls
+  F = fits_so table N S agrees taking.kept taking.calls
 
   -- the frame is none of the faults
   pub faultless : peer_fault p.own from (note_frame x) ≡ None
   faultless =
-      fits_faultless table N S F port from p pf.part site_there sender_there
-      (flipped from port apart_from) here x xs
-      (same_way table N S agrees kept calls from port ∙ first)
+      fits_faultless table N S F port from p taking.pf.part (site_there taking)
+      (sender_there taking)
+      (flipped from port (apart_from taking)) taking.here x xs
+      (same_way table N S agrees taking.kept taking.calls from port ∙ taking.first)
 
   -- what the item tells
   tells : AllByRecursion (λ y. class_of S y.object ≡ Some y.class)
       (item_classes from x.item)
-  tells = (told.told from port (x.item ∷ rest) waits).0
+  tells = (taking.told.told from port (x.item ∷ rest) (waits taking)).0
 
   -- an object that is granted is known, and the right class is kept of it
   granted : GrantedIs (IsClassed S (in_hand from x p.own).classes) from
@@ -213,8 +175,9 @@ module _ (table : List Class) (t : IsTable table) (act : Acting) (N : Net) (S : 
           is_asked from s (record { lender = lender; number = number }) p.own.node ≡ true →
           IsClassed S (in_hand from x p.own).classes (object_at from s)
       known s lender number h =
-          known_in_hand S p.own (known_some table act N S agrees kept told port p site_there)
-          (agrees.classes port p site_there) from x tells (object_at from s)
+          known_in_hand S p.own (known_some table act N S agrees taking.kept taking.told port p
+          (site_there taking))
+          (agrees.classes port p (site_there taking)) from x tells (object_at from s)
           (asked_known from s lender number p.own.node h)
 
       go : (item : Item) → peer_fault p.own from (frame_of x.amount item) ≡ None →
@@ -238,29 +201,25 @@ module _ (table : List Class) (t : IsTable table) (act : Acting) (N : Net) (S : 
     still o c h =
         let form : IsStep table act S (Take port from) (moved port T site) =
         Takes port from p.own.node x.item rest site refl
-        (node_is table act N S agrees kept told port p site_there) (here, one_effect) waits refl in
+        (node_there taking) (taking.here, one_effect) (waits taking) refl in
         class_stays o c S (Take port from) (moved port T site) form h
 
     -- the network agrees with the state after the take
     pub take_agrees : StepAgrees table does (moved port T site)
     take_agrees =
         let n = p.own.node in
-        let there_is = node_is table act N S agrees kept told port p site_there in
-        let sound = sound_here S kept port n there_is in
-        let c : Context = record { table = table; around = site_around; node = n } in
-        let runs = link_bridge.take c from (item_of (note_frame x)) here sound in
-        let some = known_some table act N S agrees kept told port p site_there in
-        let classes = agrees.classes port p site_there in
+        let runs = take_moves taking site_around in
+        let some = known_some table act N S agrees taking.kept taking.told port p
+        (site_there taking) in
+        let classes = agrees.classes port p (site_there taking) in
         let mine = in_hand from x p.own in
         record {
           agrees = record {
-            tallies = take_tallies table S kept N agrees.tallies port pl there dones.Moved t from pf
-                sender here x xs first site_around spelled;
+            tallies = take_tallies taking site_around spelled;
             classes = by_part port
                 (place_after (handled (part_in_hand from x p) dones.Moved (site_move mine site)))
-                (λ y. refl) K pl
-                (there_still table t port from N under_way agrees.tallies.counts pl pf there sender
-                here x xs first)
+                (λ y. refl) K taking.pl
+                (there_still (takes.hand taking))
                 (λ a z. (o : ObjectName) →
                 class_kept z.own o ≡ (around after z.own.node).class_of o)
                 (classes_moved S after still mine site (left_after mine site)
@@ -270,14 +229,12 @@ module _ (table : List Class) (t : IsTable table) (act : Acting) (N : Net) (S : 
                 (item_such (IsClassed S mine.classes) from (item_of (note_frame x))
                 (told_in_hand S p.own some classes from x tells) granted))
                 (left_known site.node (is_counted (counted mine site))
-                (sound_after S kept port n there_is (noted from (atoms (item_of (note_frame x))))
-                site runs)))
+                (take_sound taking site_around)))
                 (λ a z ne k.
-                let was = sym (parts_still table t port from N under_way agrees.tallies.counts pl pf
-                there sender here x xs first a) ∙ k in
+                let was = sym (parts_still (takes.hand taking) a) ∙ k in
                 classes_stay_so S after still z.own
-                (known_some table act N S agrees kept told a z was) (agrees.classes a z was));
+                (known_some table act N S agrees taking.kept taking.told a z was)
+                (agrees.classes a z was));
           };
-          outcome = take_outcome table S kept N agrees.tallies port pl there dones.Moved t from pf
-              sender here x xs first site_around spelled;
+          outcome = take_outcome taking site_around spelled;
         }

@@ -1,22 +1,24 @@
 -- The event of a take keeps a network in agreement with the state.
-use Rattle.std.proofs.Common.{◌≡◌, ◌==◌, ◌&&◌, ℕ, Bool, true, false, cond, not, List, [], ◌∷◌, map}
-use Rattle.std.proofs.Common.{refl, sym, ap, ◌∙◌, drop, subst}
+use Rattle.std.proofs.Common.{◌≡◌, ◌==◌, ◌&&◌, ℕ, Bool, true, false, List, [], ◌∷◌, map, refl, sym}
+use Rattle.std.proofs.Common.{ap, ◌∙◌, cond, subst, not}
 use Rattle.std.specs.Prelude.{None, Option, Some, is_some, option_map, slice_get, unwrap_or}
 use Rattle.std.proofs.lemmas.Bool.{eqb-true}
 use Rattle.do_base.specs.declared.events.event.Event.TheVariants.{Take}
 use Rattle.do_class.specs.Class.{Class}
 use Rattle.do_class.specs.Table.{IsTable}
-use Rattle.do_coder.specs.declared.recent.pair.Pair.{Pair}
 use Rattle.do_machine.specs.declared.item.Item.{Item}
 use Rattle.do_machine.specs.declared.node.Node.{Node}
 use Rattle.do_machine.specs.declared.state.State.{State}
-use Rattle.do_machine.specs.declared.state.Stepped.{Stepped}
 use Rattle.do_machine.specs.Commit.{moved, skipped}
-use Rattle.do_machine.specs.Context.{context}
-use Rattle.do_machine.specs.State.{change, is_open, node, queue, with_queue}
-use Rattle.do_machine.specs.Step.{step}
+use Rattle.do_machine.specs.Context.{around}
+use Rattle.do_machine.specs.State.{is_open, node, queue}
 use Rattle.do_machine.specs.run.Run.{Acting}
 use Rattle.do_machine.specs.take.Take.{can_serve, can_take, take_effect}
+use Rattle.do_machine.specs.declared.state.Stepped.{Stepped}
+use Rattle.do_machine.specs.Step.{step}
+use Rattle.do_facts.specs.calls.Facts.{CallsAreKept}
+use Rattle.do_facts.specs.links.LinksAreKept.{LinksAreKept}
+use Rattle.do_coder.specs.declared.recent.pair.Pair.{Pair}
 use Rattle.do_network.specs.declared.input.Done.TheVariants as dones
 use Rattle.do_network.specs.Frames.{item_of}
 use Rattle.do_network.specs.Links.{Part}
@@ -26,18 +28,19 @@ use Rattle.do_network.specs.Site.{enabled_input, handled, moves, released_by, si
 use Rattle.do_network.specs.Spelled.{SendsSpelled, SentSpelled}
 use Rattle.do_network.specs.Step.{NetStepped, hands, input_of, net_moved, net_skipped, net_step}
 use Rattle.do_network.specs.fits.Notes.{Note, carried, note_frame}
-use Rattle.do_facts.specs.calls.Facts.{CallsAreKept}
-use Rattle.do_facts.specs.links.LinksAreKept.{LinksAreKept}
 use Rattle.do_agreement.specs.Agrees.{Agrees, StepAgrees}
 use Rattle.do_agreement.specs.Classed.{ClassesAreTold}
-use Rattle.do_agreement.specs.CountsFit.{ChannelCarries}
 use Rattle.do_agreement.specs.InHand.{in_hand}
 use Rattle.do_agreement.specs.NetInHand.{carried_as, net_without, part_in_hand}
-use Rattle.do_agreement.proofs.counts.MovesAccount.{apart}
+use Rattle.do_agreement.specs.CountsFit.{ChannelCarries}
 use Rattle.do_agreement.proofs.acts.ActsAgree.{node_is, skip_agrees}
-use Rattle.do_agreement.proofs.hands.HandFits.{there_still, way}
-use Rattle.do_agreement.proofs.takes.TakeEvents.{names, one_effect, site_is, take_agrees, waits}
 use Rattle.do_agreement.proofs.takes.TakesAlike.{hand_done}
+use Rattle.do_agreement.proofs.counts.MovesAccount.{apart}
+use Rattle.do_agreement.proofs.takes.Taking as takes
+use Rattle.do_agreement.proofs.takes.Taking.{Taking, waits}
+use Rattle.do_agreement.proofs.hands.HandSites.{there_still}
+use Rattle.do_agreement.proofs.takes.MachineTakes as machine
+use Rattle.do_agreement.proofs.takes.TakeEvents.{one_effect, site_is, take_agrees}
 use Rattle.do_agreement.proofs.takes.TakenFrame.{input_done, stands_first}
 
 module _ (table : List Class) (t : IsTable table) (act : Acting) (N : Net) (S : State)
@@ -61,18 +64,11 @@ module _ (table : List Class) (t : IsTable table) (act : Acting) (N : Net) (S : 
 
   -- the state with these items left in the queue
   abbrev left : List Item → State
-  left w = change from (with_queue port w) S
+  left = machine.left table S port from
 
   -- what the machine does with a queue
   abbrev machine_from : Node → Option (List Item) → Option Stepped
-  machine_from n found = elim found [
-    | None ↦ None
-    | Some w ↦ elim (slice_get w 0) [
-      | None ↦ None
-      | Some item ↦ Some (moved port (left (drop 1 w))
-          (take_effect (context table (left (drop 1 w)) n) from item))
-    ]
-  ]
+  machine_from = machine.machine_from table S port from
 
   -- both come to the same
   abbrev Same : Option NetStepped → Option Stepped → Type 0
@@ -98,47 +94,54 @@ module _ (table : List Class) (t : IsTable table) (act : Acting) (N : Net) (S : 
     sender_there = ap (option_map (λ y. y.part)) sender
 
     module _ (x : Note) (xs : List Note) (first : under_way from port ≡ x ∷ xs) where
+      -- the take
+      abbrev taking : Taking table act N S agrees port from x xs
+      taking = record {
+        is_table = t;
+        kept = kept;
+        calls = calls;
+        told = told;
+        pl = pl;
+        pf = pf;
+        there = there;
+        sender = sender;
+        can = can;
+        here = here;
+        first = first;
+      }
+
       -- the channel
       abbrev here_way : ChannelCarries table N from port pf.part p (under_way from port)
-      here_way = way table t port from N under_way agrees.tallies.counts pl pf there sender here x
-          xs first
+      here_way = takes.way taking
 
       -- the names by which the item is spelled
       abbrev front : List Pair
-      front = names table t act N S agrees kept calls told port from pl pf there sender can here x
-          xs first
+      front = takes.names taking
 
       -- the item stands first in the channel
       waiting : (rest : List Carried)
           × (here_way.between.waiting ≡ carried_as front x ∷ rest)
-      waiting =
-          stands_first table t act N S agrees kept calls told port from pl pf there sender can here
-          x xs first
+      waiting = stands_first taking
 
       -- what the input does
       done : enabled_input table act p (input_of from (carried_as front x))
           ≡ Some (hand_done table act p from can x)
-      done =
-          input_done table t act N S agrees kept calls told port from pl pf there sender can here x
-          xs first
+      done = input_done taking
 
       -- what the site sends for the item has a spelling
       sent_spelled : SentSpelled table (hand_done table act p from can x)
       sent_spelled =
           spelled here_way.between here_way.stands (carried_as front x)
           (ap (λ w. slice_get w 0) waiting.1) p
-          (ap (option_map (λ (y : Place). y.part)) (there_still table t port from N under_way
-          agrees.tallies.counts pl pf there sender here x xs first))
+          (ap (option_map (λ (y : Place). y.part)) (there_still (takes.hand taking)))
           (hand_done table act p from can x) done
 
       -- the item is taken
       taken : Same (net_from (channel N from port))
           (machine_from p.own.node (queue S from port))
       taken =
-          let is = site_is table t act N S agrees kept calls told port from pl pf there sender can
-          here x xs first in
-          let alike = one_effect table t act N S agrees kept calls told port from pl pf there sender
-          can here x xs first in
+          let is = site_is taking in
+          let alike = one_effect taking in
           let K = net_without port from (carried_as front x) N in
           subst (λ found. Same (net_from found) (machine_from p.own.node (queue S from port)))
           (sym here_way.stands)
@@ -146,15 +149,13 @@ module _ (table : List Class) (t : IsTable table) (act : Acting) (N : Net) (S : 
           (sym waiting.1)
           (subst (λ found. Same (net_of (carried_as front x ∷ waiting.0))
           (machine_from p.own.node found))
-          (sym (waits table t act N S agrees kept calls told port from pl pf there sender can here x
-          xs first))
+          (sym (waits taking))
           (subst (λ found. Same (elim found [
             | None ↦ None
             | Some r ↦ option_map (net_moved port K)
                 (enabled_input table act r (input_of from (carried_as front x)))
           ]) (machine_from p.own.node (Some (x.item ∷ map (λ (y : Note). y.item) xs))))
-          (sym (ap (option_map (λ (y : Place). y.part)) (there_still table t port from N under_way
-          agrees.tallies.counts pl pf there sender here x xs first)))
+          (sym (ap (option_map (λ (y : Place). y.part)) (there_still (takes.hand taking))))
           (subst (λ h. Same (option_map (net_moved port K) h)
           (machine_from p.own.node (Some (x.item ∷ map (λ (y : Note). y.item) xs)))) (sym done)
           (subst (λ e. StepAgrees table (net_moved port K (hand_done table act p from can x))
@@ -170,8 +171,7 @@ module _ (table : List Class) (t : IsTable table) (act : Acting) (N : Net) (S : 
                 (released_by from (note_frame x) p.own);
             node = p.own.node;
           }) from (item_of (note_frame x))))) (sym is)
-          (take_agrees table t act N S agrees kept calls told port from pl pf there sender can here
-          x xs first
+          (take_agrees taking
           (subst (λ e. SentSpelled table (moves (part_in_hand from x p) e)) is sent_spelled))))))))
 
     -- nothing waits, or something

@@ -18,12 +18,12 @@ use Rattle.do_machine.specs.Step.{moved_by, step}
 use Rattle.do_machine.specs.ends.Closing.{closing}
 use Rattle.do_machine.specs.ends.TimeOut.{time_out}
 use Rattle.do_machine.specs.run.Run.{Acting, run_effect}
+use Rattle.do_facts.specs.steps.IsStep.{IsRuleOf}
 use Rattle.do_network.specs.declared.input.Input.{Input}
 use Rattle.do_network.specs.declared.input.Input.TheVariants as inputs
 use Rattle.do_network.specs.Links.{Part}
 use Rattle.do_network.specs.Net.{Net, Place, part_at, place_at}
 use Rattle.do_network.specs.Site.{Handled, enabled_input, moves}
-use Rattle.do_facts.specs.steps.IsStep.{IsRuleOf}
 use Rattle.do_limits.specs.SendableStates.{StateIsSendable}
 use Rattle.do_agreement.proofs.acts.ActEvents.{judged_so}
 use Rattle.do_agreement.proofs.acts.ActsAgree.{node_is}
@@ -47,9 +47,8 @@ module _ (table : List Class) (t : IsTable table) (act : Acting) (N : Net) (S : 
   effect_if event port pl there None rule spelled h q = absurd (cc)
   effect_if event port pl there (Some e) rule spelled h q =
       subst (DoesWithin table events) (some_is (moves pl.part e) h q)
-      (act_does table act N S goes.agrees goes.links goes.classes.told events
-      (omega (arith, small)) port pl there
-      (all port pl.part (ap (option_map (λ (x : Place). x.part)) there)) event e (rule e refl)
+      (act_does goes.agrees goes.links events (omega (arith, small)) port there
+      (all port pl.part (ap (option_map (λ (x : Place). x.part)) there)) act event e (rule e refl)
       (spelled e refl))
 
   -- an act of a site, whose effect is the machine's

@@ -1,6 +1,6 @@
 -- The event of a take sends what has a spelling.
-use Rattle.std.proofs.Common.{◌≡◌, ◌==◌, ◌&&◌, ◌≤◌, ℕ, Bool, true, false, cond, List, [], ◌∷◌}
-use Rattle.std.proofs.Common.{not, refl, sym, ap, ◌∙◌}
+use Rattle.std.proofs.Common.{◌≡◌, ◌==◌, ◌&&◌, ◌≤◌, ℕ, Bool, true, false, cond, List, [], ◌∷◌, not}
+use Rattle.std.proofs.Common.{refl, sym, ap, ◌∙◌}
 use Rattle.std.specs.Prelude.{None, Option, Some, option_and_then, option_map, slice_get, suc}
 use Rattle.std.specs.Prelude.{unwrap_or}
 use Rattle.std.proofs.lemmas.Bool.{eqb-true}
@@ -22,8 +22,9 @@ use Rattle.do_agreement.specs.CountsFit.{ChannelCarries}
 use Rattle.do_agreement.specs.NetInHand.{net_without}
 use Rattle.do_agreement.proofs.agreement.GoesOn.{Goes}
 use Rattle.do_agreement.proofs.counts.MovesAccount.{apart}
-use Rattle.do_agreement.proofs.hands.HandFits.{way as oldest}
 use Rattle.do_agreement.proofs.places.PlacesChanged.{some_is}
+use Rattle.do_agreement.proofs.takes.Taking as takes
+use Rattle.do_agreement.proofs.takes.Taking.{Taking}
 use Rattle.do_within.specs.Received.{ReceivedWithin}
 use Rattle.do_within.proofs.events.Within.{AfterSpelled, EventWithin}
 use Rattle.do_within.proofs.sites.Acts.{DoesWithin}
@@ -103,11 +104,22 @@ module _ (table : List Class) (t : IsTable table) (act : Acting) (N : Net) (S : 
           none : None ≡ Some y → ⊥
           none k = cc
       by_notes (x ∷ xs) e =
-          let between = oldest table t port from N goes.agrees.tallies.under_way
-          goes.agrees.tallies.counts pl pf there sender here x xs e in
-          take_does table t act N S goes.agrees goes.links goes.calls goes.classes.told ok events
-          small port from pl pf there sender can here (all port p site_there) (spelled port) x xs e
-          y (first_there between.between between.stands) h q
+          let taking : Taking table act N S goes.agrees port from x xs = record {
+            is_table = t;
+            kept = goes.links;
+            calls = goes.calls;
+            told = goes.classes.told;
+            pl = pl;
+            pf = pf;
+            there = there;
+            sender = sender;
+            can = can;
+            here = here;
+            first = e;
+          } in
+          let between = takes.way taking in
+          take_does taking ok events small (all port p site_there) (spelled port) y
+          (first_there between.between between.stands) h q
 
     -- the sender is there
     by_sender : (found : Option Place) → place_at N from ≡ found →

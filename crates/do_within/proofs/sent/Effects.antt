@@ -5,8 +5,6 @@ use Rattle.std.specs.Prelude.{None, Option, Some, is_some, nat_lt, option_map}
 use Rattle.std.specs.List.{AllByRecursion}
 use Rattle.std.proofs.lemmas.Bool.Decides.{nat_tests}
 use Rattle.do_class.specs.Class.{Class}
-use Rattle.do_coder.specs.Packets.{surroundings}
-use Rattle.do_export.specs.Counts.{Counts, count_of}
 use Rattle.do_machine.specs.declared.item.Item.{Item}
 use Rattle.do_machine.specs.declared.node.Node.{Node}
 use Rattle.do_machine.specs.declared.state.Effect.{Effect}
@@ -17,21 +15,21 @@ use Rattle.do_machine.specs.State.{holds, queue}
 use Rattle.do_facts.specs.View.{posted}
 use Rattle.do_facts.specs.links.Links.{links, links_of}
 use Rattle.do_facts.proofs.machine.Queues.{grows_behind}
+use Rattle.do_facts.proofs.EachOfLists.{each_latter}
+use Rattle.do_export.specs.Counts.{Counts, count_of}
+use Rattle.do_coder.specs.Packets.{surroundings}
 use Rattle.do_network.specs.Links.{Part}
-use Rattle.do_network.specs.Net.{Net, Place, part_at, place_at}
+use Rattle.do_network.specs.Net.{Net, Place, part_at}
 use Rattle.do_network.specs.Spelled.{IsSpelledSending}
 use Rattle.do_network.specs.fits.Notes.{Note}
 use Rattle.do_limits.specs.Spelled.{ItemIsSpelled}
-use Rattle.do_agreement.specs.CountsFit.{CountsFit}
-use Rattle.do_agreement.specs.IsEffectOf.{IsEffectOf}
 use Rattle.do_agreement.specs.NetCommit.{effected}
 use Rattle.do_agreement.specs.NotesSent.{notes_to}
-use Rattle.do_agreement.specs.Shows.{ShowsBut}
 use Rattle.do_agreement.proofs.commits.CommitShows.{items_sent}
+use Rattle.do_agreement.proofs.commits.Moving.{Commits, site_there}
 use Rattle.do_within.proofs.sent.Amounts.{GivesBack, amounts_sent, notes_spelled, returned_held}
 use Rattle.do_within.proofs.sent.Peers.{linked_there}
 use Rattle.do_within.proofs.sent.Sendings.{GoesSpelled, NotesSpelled, all_spelled}
-use Rattle.do_facts.proofs.EachOfLists.{each_latter}
 
 -- no object was received more often than an amount can say
 abbrev pub FewReceived : Counts → Type 0
@@ -43,18 +41,14 @@ WaitsSpelled table port S =
     (to : ℕ) (waiting : List Item) → queue S port to ≡ Some waiting →
     AllByRecursion (ItemIsSpelled (surroundings table port to)) waiting
 
-module _ (table : List Class) (port : ℕ) (n : Node) (N : Net) (under_way : ℕ → ℕ → List Note)
-    (T : State) (closes : ℕ → ℕ → Bool) (fit : CountsFit table N under_way closes)
-    (shows : ShowsBut port n N under_way T) (pl : Place) (there : place_at N port ≡ Some pl)
-    (e : Effect) (is : IsEffectOf pl.part.own.node e) (few : FewReceived pl.part.own.received)
+module _ {table : List Class} {port : ℕ} {n : Node} {N : Net} {under_way : ℕ → ℕ → List Note}
+    {T : State} {closes : ℕ → ℕ → Bool} {pl : Place} {e : Effect}
+    (commits : Commits table port n N under_way T closes pl e)
+    (few : FewReceived pl.part.own.received)
     (spelled : WaitsSpelled table port (commit port e T)) where
   -- the site
   abbrev p : Part
   p = pl.part
-
-  -- it is there
-  site_there : part_at N port ≡ Some p
-  site_there = ap (option_map (λ x. x.part)) there
 
   -- what it gives back was received
   gives : (to : ℕ) → GivesBack p.own.received to e.sent
@@ -62,10 +56,10 @@ module _ (table : List Class) (port : ℕ) (n : Node) (N : Net) (under_way : ℕ
     where
       held : holds p.own.node (object_at to s) ≡ true
       held = returned_held to s (links_of p.own.node) (links_of e.node) (posted links e.sent)
-          (is.account to s 1) k
+          (commits.is.account to s 1) k
 
       was : nat_lt 0 (count_of p.own.received to s) ≡ holds p.own.node (object_at to s)
-      was = (fit.owns port p site_there).received (object_at to s)
+      was = (commits.fit.owns port p (site_there commits)).received (object_at to s)
 
       above : (b : Bool) → b ≡ true → nat_lt 0 (count_of p.own.received to s) ≡ b →
           1 ≤ count_of p.own.received to s
@@ -75,9 +69,9 @@ module _ (table : List Class) (port : ℕ) (n : Node) (N : Net) (under_way : ℕ
   queue_is : (to : ℕ) (q : Part) → part_at N to ≡ Some q → (port == to) ≡ false →
       queue T port to ≡ Some (map (λ (x : Note). x.item) (under_way port to))
   queue_is to q k other =
-      sym (shows.queues port to)
+      sym (commits.shows.queues port to)
       ∙ ap (option_map (λ c. map (λ (x : Note). x.item) (under_way port to)))
-      (fit.channels port to p q site_there k other).stands
+      (commits.fit.channels port to p q (site_there commits) k other).stands
 
   -- what goes to it has a spelling
   notes_there : (to : ℕ) (found : Option Part) → part_at N to ≡ found → is_some found ≡ true →
@@ -96,7 +90,8 @@ module _ (table : List Class) (port : ℕ) (n : Node) (N : Net) (under_way : ℕ
   -- what goes to each peer has a spelling
   goes_spelled : GoesSpelled table port p.own.received e.sent p.links
   goes_spelled to linked =
-      let at = linked_there N port to p.links (fit.links port p site_there) linked in
+      let links_there = commits.fit.links port p (site_there commits) in
+      let at = linked_there N port to p.links links_there linked in
       notes_there to (part_at N to) refl at.0 at.1
 
   -- all that the site sends by the effect

@@ -1,24 +1,20 @@
 -- What a site sends when its node acts has a spelling.
-use Rattle.std.proofs.Common.{◌≡◌, ◌≤◌, ℕ, true, false, List, [], refl, ap, arith}
-use Rattle.std.specs.Prelude.{Some, option_map, suc}
+use Rattle.std.proofs.Common.{◌≡◌, ◌≤◌, ℕ, List, arith}
+use Rattle.std.specs.Prelude.{Some, suc}
 use Rattle.do_base.specs.declared.events.event.Event.{Event}
 use Rattle.do_class.specs.Class.{Class}
-use Rattle.do_export.specs.Counts.{Counts}
 use Rattle.do_machine.specs.declared.state.Effect.{Effect}
 use Rattle.do_machine.specs.declared.state.State.{State}
 use Rattle.do_machine.specs.Commit.{moved}
 use Rattle.do_machine.specs.run.Run.{Acting}
+use Rattle.do_facts.specs.links.LinksAreKept.{LinksAreKept}
+use Rattle.do_facts.specs.steps.IsStep.{IsRuleOf}
+use Rattle.do_export.specs.Counts.{Counts}
 use Rattle.do_network.specs.Net.{Net, Place, place_at}
 use Rattle.do_network.specs.Site.{Handled, moves}
 use Rattle.do_network.specs.Spelled.{SentSpelled}
-use Rattle.do_facts.specs.links.LinksAreKept.{LinksAreKept}
-use Rattle.do_facts.specs.steps.IsStep.{IsRuleOf}
 use Rattle.do_agreement.specs.Agrees.{Agrees}
-use Rattle.do_agreement.specs.Classed.{ClassesAreTold}
-use Rattle.do_agreement.proofs.acts.ActsAgree.{node_is}
-use Rattle.do_agreement.proofs.acts.StepTallies.{rule_moves, sound_after, sound_here}
-use Rattle.do_agreement.proofs.commits.MoveTallies.{shown_but}
-use Rattle.do_agreement.proofs.sites.RuleEffects.{rule_effect}
+use Rattle.do_agreement.proofs.acts.StepTallies.{act_commits, act_sound}
 use Rattle.do_within.specs.Received.{CountsWithin}
 use Rattle.do_within.proofs.sent.Effects.{FewReceived, WaitsSpelled}
 use Rattle.do_within.proofs.sites.Exports.{later_within, moved_within}
@@ -35,30 +31,18 @@ pub few_received : (events : ℕ) → events ≤ 70368744177664 → (received : 
 few_received events small received within home serial =
     omega (arith, small, within home serial)
 
-module _ (table : List Class) (act : Acting) (N : Net) (S : State) (agrees : Agrees table N S)
-    (kept : LinksAreKept S) (told : ClassesAreTold S) (events : ℕ)
-    (small : events ≤ 70368744177664) (port : ℕ) (pl : Place) (there : place_at N port ≡ Some pl)
-    (within : CountsWithin events pl.part.own.received) where
+module _ {table : List Class} {N : Net} {S : State} (agrees : Agrees table N S)
+    (kept : LinksAreKept S) (events : ℕ) (small : events ≤ 70368744177664) (port : ℕ) {pl : Place}
+    (there : place_at N port ≡ Some pl) (within : CountsWithin events pl.part.own.received) where
   -- a node acts
-  pub act_does : (event : Event) (e : Effect) → IsRuleOf table act S event pl.part.own.node e →
-      WaitsSpelled table port (moved port S e).state →
-      DoesWithin table events (moves pl.part e)
-  act_does event e rule spelled =
+  pub act_does : (act : Acting) (event : Event) (e : Effect) →
+      IsRuleOf table act S event pl.part.own.node e →
+      WaitsSpelled table port (moved port S e).state → DoesWithin table events (moves pl.part e)
+  act_does act event e rule spelled =
       let p = pl.part in
-      let n = p.own.node in
-      let site_there = ap (option_map (λ (x : Place). x.part)) there in
-      let here = node_is table act N S agrees kept told port p site_there in
-      let sound = sound_here S kept port n here in
-      let t = agrees.tallies in
       record {
-        sent = move_spelled table port n N t.under_way S (λ a m. false) t.counts
-            (shown_but port N t.under_way S t.shows p site_there) pl there e
-            (rule_effect table act S event n e sound (t.counts.owns port p site_there).reached rule)
-            (λ m c. absurd (never c)) (λ a m ne. refl)
-            (sound_after S kept port n here [] e (rule_moves table act S event n e sound rule))
+        sent = move_spelled (act_commits kept agrees.tallies port there act event e rule)
+            (act_sound kept agrees.tallies port there act event e rule)
             (few_received events small p.own.received within) spelled;
         received = later_within (moves p e).part.own events (moved_within p.own e events within);
       }
-    where
-      never : false ≡ true → ⊥
-      never c = cc
