@@ -2,8 +2,6 @@
 use Rattle.std.proofs.Common.{◌≡◌, ◌==◌, ◌+◌, ℕ, Bool, true, false, List, [], ◌∷◌, refl, sym, ap}
 use Rattle.std.proofs.Common.{◌∙◌, cond, arith}
 use Rattle.std.specs.List.{list_any}
-use Rattle.do_class.specs.declared.packet.Name.{Name}
-use Rattle.do_class.specs.declared.packet.Name.TheVariants.{Lent, Mine, Yours}
 use Rattle.do_packet.specs.Met.{has_object}
 use Rattle.do_machine.specs.declared.item.Item.{Item}
 use Rattle.do_machine.specs.declared.item.Item.TheVariants as items
@@ -17,11 +15,11 @@ use Rattle.do_facts.specs.Net.{atoms_of, total}
 use Rattle.do_facts.specs.View.{posted}
 use Rattle.do_facts.specs.links.Facts.{told_of}
 use Rattle.do_facts.specs.links.Links as Atoms
-use Rattle.do_facts.specs.links.Links.{Atom, atoms, links, links_of, name_atoms}
+use Rattle.do_facts.specs.links.Links.{Atom, atoms, links, links_of}
 use Rattle.do_facts.specs.links.Moves.{opens}
 use Rattle.do_agreement.specs.Accounted.{Accounted, worth_of}
 use Rattle.do_agreement.proofs.counts.MovesAccount.{apart}
-use Rattle.do_agreement.proofs.pairs.NotesAsAtoms.{none_named, posted_total}
+use Rattle.do_agreement.proofs.pairs.NotesAsAtoms.{CountsNoName, own_alone, own_atoms, posted_total}
 
 -- an atom that may release objects
 abbrev releases : Atom → Bool
@@ -31,10 +29,12 @@ releases _ = false
 
 module _ (g : Atom → ℕ) (none : (x : Atom) → releases x ≡ false → g x ≡ 0) where
   -- names release nothing
-  named : (x : Name) → total g (name_atoms x) ≡ 0
-  named (Mine s class) = omega (arith, none (Atoms.Mine s) refl)
-  named (Yours s) = omega (arith, none (Atoms.Yours s) refl)
-  named (Lent o class t) = omega (arith, none (Atoms.Lent o t) refl)
+  named : CountsNoName g
+  named = record {
+    mine = λ s. none (Atoms.Mine s) refl;
+    yours = λ s. none (Atoms.Yours s) refl;
+    lent = λ o t. none (Atoms.Lent o t) refl;
+  }
 
   -- an atom alone
   alone : (x : Atom) → releases x ≡ false → total g (x ∷ []) ≡ 0
@@ -42,19 +42,16 @@ module _ (g : Atom → ℕ) (none : (x : Atom) → releases x ≡ false → g x 
 
   -- an item that is no release counts for nothing
   item_none : (item : Item) → is_release item ≡ false → total g (atoms item) ≡ 0
-  item_none (items.Call k m) e =
-      omega (arith, none (Atoms.Yours m.target) refl, none_named g named m.packet.names)
-  item_none (items.Oneway m) e =
-      omega (arith, none (Atoms.Yours m.target) refl, none_named g named m.packet.names)
-  item_none (items.Reply k p) e = sym (none_named g named p.names)
-  item_none (items.RootAnswer k p) e = sym (none_named g named p.names)
-  item_none (items.Ask s t) e = alone (Atoms.Ask s t) refl
-  item_none (items.Granted s t) e = alone (Atoms.Granted s t) refl
-  item_none (items.Gone s t) e = alone (Atoms.Gone s t) refl
-  item_none (items.Left s) e = absurd (cc)
-  item_none (items.Settled k) e = alone (Atoms.Settled k) refl
-  item_none (items.End serials) e = absurd (cc)
-  item_none _ e = refl
+  item_none item e = sym (own_alone g named item) ∙ go item e
+    where
+      go : (item : Item) → is_release item ≡ false → total g (own_atoms item) ≡ 0
+      go (items.Ask s t) e = alone (Atoms.Ask s t) refl
+      go (items.Granted s t) e = alone (Atoms.Granted s t) refl
+      go (items.Gone s t) e = alone (Atoms.Gone s t) refl
+      go (items.Left s) e = absurd (cc)
+      go (items.Settled k) e = alone (Atoms.Settled k) refl
+      go (items.End serials) e = absurd (cc)
+      go _ e = refl
 
   -- parcels of which none releases anything count for nothing
   none_sent : (home : ℕ) (sent : List Parcel) → NoneReleases sent →

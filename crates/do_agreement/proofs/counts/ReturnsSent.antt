@@ -5,8 +5,6 @@ use Rattle.std.specs.Prelude.{None, unwrap_or}
 use Rattle.std.specs.FinMap as map_of
 use Rattle.std.specs.FinMap.{get-retain_keys}
 use Rattle.std.proofs.lemmas.Bool.{eqb-true}
-use Rattle.do_class.specs.declared.packet.Name.{Name}
-use Rattle.do_class.specs.declared.packet.Name.TheVariants.{Mine}
 use Rattle.do_export.specs.Counts.{Counts, count_of}
 use Rattle.do_export.proofs.Order.{entry_same}
 use Rattle.do_import.specs.ByObject.{object_of}
@@ -22,11 +20,11 @@ use Rattle.do_network.specs.fits.Notes.{given_up, returns_of, tells_of, total}
 use Rattle.do_facts.specs.Net as nets
 use Rattle.do_facts.specs.View.{posted}
 use Rattle.do_facts.specs.links.Facts.{told_of}
-use Rattle.do_facts.specs.links.Links.{atoms, links, name_atoms}
+use Rattle.do_facts.specs.links.Links.{atoms, links}
 use Rattle.do_agreement.specs.Accounted.{given, told, worth_of}
 use Rattle.do_agreement.specs.NotesSent.{note_sent, notes_to}
 use Rattle.do_agreement.proofs.pairs.LinksOfNotes.{tells_alike}
-use Rattle.do_agreement.proofs.pairs.NotesAsAtoms.{none_named, sent_total}
+use Rattle.do_agreement.proofs.pairs.NotesAsAtoms.{own_alone, own_atoms, sent_total}
 
 module _ (received : Counts) (h s : ℕ) where
   -- how often the object was received
@@ -44,22 +42,18 @@ module _ (received : Counts) (h s : ℕ) where
           omega (arith, same)
       go false e = refl
 
-  -- no name gives anything back
-  no_name : (y : Name) → nets.total (worth_of h s often) (name_atoms y) ≡ 0
-  no_name (Mine r class) = refl
-  no_name _ = refl
-
   -- what an item to a home gives back
   returned_alike : (item : Item) → given_up s item (amount_of received h item)
       ≡ nets.total (worth_of h s often) (atoms item)
-  returned_alike (items.Call k m) =
-      omega (arith, none_named (worth_of h s often) no_name m.packet.names)
-  returned_alike (items.Oneway m) =
-      omega (arith, none_named (worth_of h s often) no_name m.packet.names)
-  returned_alike (items.Reply k p) = none_named (worth_of h s often) no_name p.names
-  returned_alike (items.RootAnswer k p) = none_named (worth_of h s often) no_name p.names
-  returned_alike (items.Left r) = count_alike r
-  returned_alike _ = refl
+  returned_alike item =
+      go item
+      ∙ own_alone (worth_of h s often)
+      (record { mine = λ r. refl; yours = λ r. refl; lent = λ o t. refl }) item
+    where
+      go : (item : Item) → given_up s item (amount_of received h item)
+          ≡ nets.total (worth_of h s often) (own_atoms item)
+      go (items.Left r) = count_alike r
+      go _ = refl
 
   -- what is sent gives back what its atoms give back
   pub returned : (sent : List Parcel) →

@@ -19,13 +19,13 @@ use Rattle.do_network.specs.fits.Calls.{OneCall, awaiting, is_begun_for, serving
 use Rattle.do_network.specs.fits.Notes.{Note, total}
 use Rattle.do_facts.specs.Net.{Net}
 use Rattle.do_facts.specs.Net as nets
-use Rattle.do_facts.specs.View.{net_of, part_seen, wire_seen}
-use Rattle.do_facts.specs.calls.Calls.{Atom, Calls, atoms, calls, calls_of, frame_of, wait_of}
+use Rattle.do_facts.specs.View.{net_of, part_seen}
+use Rattle.do_facts.specs.calls.Calls.{Atom, Calls, calls, calls_of, frame_of, wait_of}
 use Rattle.do_facts.specs.calls.Facts.{CallsAreKept, late_of, on_of, serves_of, waits}
 use Rattle.do_facts.specs.calls.Moves.{is_on, opens}
 use Rattle.do_facts.proofs.calls.CallCounts.{waits_at_most}
 use Rattle.do_agreement.specs.StandBetween.{StandBetween}
-use Rattle.do_agreement.proofs.pairs.NotesAsAtoms.{summed}
+use Rattle.do_agreement.proofs.pairs.NotesAsAtoms.{back_sum, there_sum}
 use Rattle.do_agreement.proofs.pairs.CallsOfNotes.{calls_alike, replies_alike, root_answers_alike}
 use Rattle.do_agreement.proofs.pairs.CallsOfNotes.{root_asks_alike}
 
@@ -89,18 +89,6 @@ module _ (S : State) (kept : CallsAreKept S) (n m : Node) (there back : List Not
   abbrev net : Net Calls Atom
   net = net_of calls S
 
-  -- what is under way there
-  there_sum : (f : Note → ℕ) (g : Atom → ℕ) → ((x : Note) → f x ≡ nets.total g (atoms x.item)) →
-      total f there ≡ nets.total g (net.wire n.port m.port)
-  there_sum f g alike =
-      summed atoms f g alike there ∙ ap (λ w. nets.total g (wire_seen calls w)) (sym stand.goes)
-
-  -- what is under way back
-  back_sum : (f : Note → ℕ) (g : Atom → ℕ) → ((x : Note) → f x ≡ nets.total g (atoms x.item)) →
-      total f back ≡ nets.total g (net.wire m.port n.port)
-  back_sum f g alike =
-      summed atoms f g alike back ∙ ap (λ w. nets.total g (wire_seen calls w)) (sym stand.comes)
-
   -- the node's end towards the peer
   opens_there : opens (net.part n.port) m.port ≡ is_open n m.port
   opens_there = ap (λ found. opens (part_seen calls found) m.port) stand.here
@@ -139,8 +127,8 @@ module _ (S : State) (kept : CallsAreKept S) (n m : Node) (there back : List Not
             omega (
               arith,
               fact.methods stand.apart (opens_there ∙ o),
-              there_sum _ _ (calls_alike number),
-              back_sum _ _ (replies_alike number),
+              there_sum calls stand _ _ (calls_alike number),
+              back_sum calls stand _ _ (replies_alike number),
               serving_here number,
               waits_here (method_call m.port number),
             );
@@ -148,8 +136,8 @@ module _ (S : State) (kept : CallsAreKept S) (n m : Node) (there back : List Not
             omega (
               arith,
               fact.roots stand.apart (opens_there ∙ o),
-              there_sum _ _ (root_asks_alike number),
-              back_sum _ _ (root_answers_alike number),
+              there_sum calls stand _ _ (root_asks_alike number),
+              back_sum calls stand _ _ (root_answers_alike number),
               waits_here (root_call m.port number),
             );
         fresh = λ low. (

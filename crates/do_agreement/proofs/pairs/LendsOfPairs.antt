@@ -17,14 +17,14 @@ use Rattle.do_network.specs.fits.Lends.{settles_of}
 use Rattle.do_network.specs.fits.Notes.{Note, once, tells_of, total}
 use Rattle.do_facts.specs.Net.{Net}
 use Rattle.do_facts.specs.Net as nets
-use Rattle.do_facts.specs.View.{net_of, part_seen, wire_seen}
+use Rattle.do_facts.specs.View.{net_of, part_seen}
 use Rattle.do_facts.specs.links.Facts.{ask_of, is_lent_to, way_of}
 use Rattle.do_facts.specs.links.Facts as facts
 use Rattle.do_facts.specs.links.LinksAreKept.{LinksAreKept}
-use Rattle.do_facts.specs.links.Links.{Atom, Links, atoms, links}
+use Rattle.do_facts.specs.links.Links.{Atom, Links, links}
 use Rattle.do_facts.specs.links.Moves.{has_wanted, opens}
 use Rattle.do_agreement.specs.StandBetween.{StandBetween}
-use Rattle.do_agreement.proofs.pairs.NotesAsAtoms.{summed}
+use Rattle.do_agreement.proofs.pairs.NotesAsAtoms.{back_sum, there_sum}
 use Rattle.do_agreement.proofs.pairs.LinksOfNotes.{answers_alike, asks_alike, lends_alike}
 use Rattle.do_agreement.proofs.pairs.LinksOfNotes.{settles_alike, tells_alike}
 use Rattle.do_agreement.proofs.places.Numbers.{same_number}
@@ -69,18 +69,6 @@ module _ (S : State) (kept : LinksAreKept S) (n m : Node) (there back : List Not
   abbrev net : Net Links Atom
   net = net_of links S
 
-  -- what is under way there
-  there_sum : (f : Note → ℕ) (g : Atom → ℕ) → ((x : Note) → f x ≡ nets.total g (atoms x.item)) →
-      total f there ≡ nets.total g (net.wire n.port m.port)
-  there_sum f g alike =
-      summed atoms f g alike there ∙ ap (λ w. nets.total g (wire_seen links w)) (sym stand.goes)
-
-  -- what is under way back
-  back_sum : (f : Note → ℕ) (g : Atom → ℕ) → ((x : Note) → f x ≡ nets.total g (atoms x.item)) →
-      total f back ≡ nets.total g (net.wire m.port n.port)
-  back_sum f g alike =
-      summed atoms f g alike back ∙ ap (λ w. nets.total g (wire_seen links w)) (sym stand.comes)
-
   -- the node's end towards the peer
   opens_there : opens (net.part n.port) m.port ≡ is_open n m.port
   opens_there = ap (λ found. opens (part_seen links found) m.port) stand.here
@@ -110,12 +98,12 @@ module _ (S : State) (kept : LinksAreKept S) (n m : Node) (there back : List Not
       ap (λ found. nets.total (way_of o.node o.serial number) (net.wire n.port m.port)
       + once (has_wanted (part_seen links found) (wanted o n.port number))) stand.peer
       ∙ ap (λ k. k + once (has_wanted (part_seen links (Some m)) (wanted o n.port number)))
-      (sym (there_sum _ _ (lends_alike m.port o number)))
+      (sym (there_sum links stand _ _ (lends_alike m.port o number)))
 
   -- how often the end of a lend is on its way back
   settled_alike : (number : ℕ) →
       facts.settled net n.port m.port number ≡ total (settles_of number) back
-  settled_alike number = sym (back_sum _ _ (settles_alike number))
+  settled_alike number = sym (back_sum links stand _ _ (settles_alike number))
 
   -- each lend to the peer is in one place
   pub one_lend : (o : ObjectName) (number : ℕ) → OneLend n m there back o number
@@ -148,9 +136,10 @@ module _ (S : State) (kept : LinksAreKept S) (n m : Node) (there back : List Not
   -- each ask of the peer is in one place
   pub one_ask : (serial : ℕ) (token : TokenName) → OneAsk n m there back serial token
   one_ask serial token o' =
-      ap (λ k. k + total (answers_of serial token) back) (there_sum _ _ (asks_alike serial token))
+      ap (λ k. k + total (answers_of serial token) back)
+      (there_sum links stand _ _ (asks_alike serial token))
       ∙ ap (λ k. nets.total (ask_of serial token.lender token.number) (net.wire n.port m.port) + k)
-      (back_sum _ _ (answers_alike serial token))
+      (back_sum links stand _ _ (answers_alike serial token))
       ∙ (kept.hold.asks n.port m.port serial token.lender token.number).once stand.apart
       (opens_there ∙ o')
       ∙ ap (λ found. once (has_wanted (part_seen links found)
@@ -159,4 +148,5 @@ module _ (S : State) (kept : LinksAreKept S) (n m : Node) (there back : List Not
   -- over an open end no end was told that names an object
   pub silent : (serial : ℕ) → is_open n m.port ≡ true → total (tells_of serial) there ≡ 0
   silent serial o' =
-      there_sum _ _ (tells_alike serial) ∙ kept.silent n.port m.port serial (opens_there ∙ o')
+      there_sum links stand _ _ (tells_alike serial)
+      ∙ kept.silent n.port m.port serial (opens_there ∙ o')

@@ -15,7 +15,7 @@ use Rattle.do_network.specs.fits.Notes.{Note, once, tells_of}
 use Rattle.do_facts.specs.Net as nets
 use Rattle.do_facts.specs.links.Facts.{answer_of, ask_of, back_of, same3, told_of, way_of}
 use Rattle.do_facts.specs.links.Links.{atoms, name_atoms}
-use Rattle.do_agreement.proofs.pairs.NotesAsAtoms.{none_named}
+use Rattle.do_agreement.proofs.pairs.NotesAsAtoms.{one_alike, own_alone, own_atoms}
 
 -- three numbers are three others
 three_alike : (a b c x y z : ℕ) →
@@ -26,10 +26,6 @@ three_alike a b c x y z = grind (arith, nat_tests)
 lend_alike : (a b c x y z n : ℕ) →
     cond ((z == c) && ((x == a) && (y == b))) (suc n) n ≡ same3 a b c x y z + n
 lend_alike a b c x y z n = grind (arith, nat_tests)
-
--- a number is another, the other way
-one_alike : (a x : ℕ) → once (x == a) ≡ cond (a == x) 1 0 + 0
-one_alike a x = grind (arith, nat_tests)
 
 -- a test that counts one
 test_alike : (b : Bool) → once b ≡ cond b 1 0 + 0
@@ -77,44 +73,28 @@ lends_alike to o number x = go x.item
 -- what an item settles
 pub settles_alike : (number : ℕ) (x : Note) →
     settles_of number x ≡ nets.total (back_of number) (atoms x.item)
-settles_alike number x = go x.item
+settles_alike number x =
+    go x.item
+    ∙ own_alone (back_of number)
+    (record { mine = λ s. refl; yours = λ s. refl; lent = λ o t. refl }) x.item
   where
-    none : (y : Name) → nets.total (back_of number) (name_atoms y) ≡ 0
-    none (Mine s class) = refl
-    none (Yours s) = refl
-    none (Lent o class t) = refl
-
     go : (item : Item) →
         settles_of number (record { item = item; amount = x.amount; lost = x.lost })
-        ≡ nets.total (back_of number) (atoms item)
-    go (items.Call k m) =
-        omega (arith, none_named (back_of number) none m.packet.names)
-    go (items.Oneway m) =
-        omega (arith, none_named (back_of number) none m.packet.names)
-    go (items.Reply k p) = none_named (back_of number) none p.names
-    go (items.RootAnswer k p) = none_named (back_of number) none p.names
+        ≡ nets.total (back_of number) (own_atoms item)
     go (items.Settled k) = one_alike number k
     go _ = refl
 
 -- what an item asks for
 pub asks_alike : (serial : ℕ) (token : TokenName) (x : Note) →
     asks_of serial token x ≡ nets.total (ask_of serial token.lender token.number) (atoms x.item)
-asks_alike serial token x = go x.item
+asks_alike serial token x =
+    go x.item
+    ∙ own_alone (ask_of serial token.lender token.number)
+    (record { mine = λ s. refl; yours = λ s. refl; lent = λ o t. refl }) x.item
   where
-    none : (y : Name) → nets.total (ask_of serial token.lender token.number) (name_atoms y) ≡ 0
-    none (Mine s class) = refl
-    none (Yours s) = refl
-    none (Lent o class t) = refl
-
     go : (item : Item) →
         asks_of serial token (record { item = item; amount = x.amount; lost = x.lost })
-        ≡ nets.total (ask_of serial token.lender token.number) (atoms item)
-    go (items.Call k m) =
-        omega (arith, none_named (ask_of serial token.lender token.number) none m.packet.names)
-    go (items.Oneway m) =
-        omega (arith, none_named (ask_of serial token.lender token.number) none m.packet.names)
-    go (items.Reply k p) = none_named (ask_of serial token.lender token.number) none p.names
-    go (items.RootAnswer k p) = none_named (ask_of serial token.lender token.number) none p.names
+        ≡ nets.total (ask_of serial token.lender token.number) (own_atoms item)
     go (items.Ask s t) = three_alike serial token.lender token.number s t.lender t.number
     go _ = refl
 
@@ -122,22 +102,14 @@ asks_alike serial token x = go x.item
 pub answers_alike : (serial : ℕ) (token : TokenName) (x : Note) →
     answers_of serial token x
     ≡ nets.total (answer_of serial token.lender token.number) (atoms x.item)
-answers_alike serial token x = go x.item
+answers_alike serial token x =
+    go x.item
+    ∙ own_alone (answer_of serial token.lender token.number)
+    (record { mine = λ s. refl; yours = λ s. refl; lent = λ o t. refl }) x.item
   where
-    none : (y : Name) → nets.total (answer_of serial token.lender token.number) (name_atoms y) ≡ 0
-    none (Mine s class) = refl
-    none (Yours s) = refl
-    none (Lent o class t) = refl
-
     go : (item : Item) →
         answers_of serial token (record { item = item; amount = x.amount; lost = x.lost })
-        ≡ nets.total (answer_of serial token.lender token.number) (atoms item)
-    go (items.Call k m) =
-        omega (arith, none_named (answer_of serial token.lender token.number) none m.packet.names)
-    go (items.Oneway m) =
-        omega (arith, none_named (answer_of serial token.lender token.number) none m.packet.names)
-    go (items.Reply k p) = none_named (answer_of serial token.lender token.number) none p.names
-    go (items.RootAnswer k p) = none_named (answer_of serial token.lender token.number) none p.names
+        ≡ nets.total (answer_of serial token.lender token.number) (own_atoms item)
     go (items.Granted s t) = three_alike serial token.lender token.number s t.lender t.number
     go (items.Gone s t) = three_alike serial token.lender token.number s t.lender t.number
     go _ = refl
@@ -145,21 +117,13 @@ answers_alike serial token x = go x.item
 -- what an end tells
 pub tells_alike : (serial : ℕ) (x : Note) →
     tells_of serial x ≡ nets.total (told_of serial) (atoms x.item)
-tells_alike serial x = go x.item
+tells_alike serial x =
+    go x.item
+    ∙ own_alone (told_of serial)
+    (record { mine = λ s. refl; yours = λ s. refl; lent = λ o t. refl }) x.item
   where
-    none : (y : Name) → nets.total (told_of serial) (name_atoms y) ≡ 0
-    none (Mine s class) = refl
-    none (Yours s) = refl
-    none (Lent o class t) = refl
-
     go : (item : Item) →
         tells_of serial (record { item = item; amount = x.amount; lost = x.lost })
-        ≡ nets.total (told_of serial) (atoms item)
-    go (items.Call k m) =
-        omega (arith, none_named (told_of serial) none m.packet.names)
-    go (items.Oneway m) =
-        omega (arith, none_named (told_of serial) none m.packet.names)
-    go (items.Reply k p) = none_named (told_of serial) none p.names
-    go (items.RootAnswer k p) = none_named (told_of serial) none p.names
+        ≡ nets.total (told_of serial) (own_atoms item)
     go (items.End serials) = test_alike (list_any (λ r. r == serial) serials)
     go _ = refl
