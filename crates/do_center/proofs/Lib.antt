@@ -1,7 +1,5 @@
 pub mod InfoDeeper
-pub mod FirstPlace
-pub mod FirstSeat
-pub mod FirstWaiting
+pub mod FirstOf
 pub mod SeatedMore
 pub mod WaitingMore
 pub mod SeatsKept

@@ -1,10 +1,12 @@
 //! The acts of a centre: what a method does but delivering, and the behaviour as a whole.
-ghost use Rattle.std.specs.Prelude.{◌≡◌, IfOk, map};
+ghost use Rattle.std.specs.Prelude.{◌≡◌, IfOk, Some, map};
 ghost use Rattle.do_base.specs.declared.values.value.Value.{List};
-ghost use Rattle.do_native_acts.specs.Steps.{steps};
+ghost use Rattle.do_grammar.specs.Words.{◌>>?◌};
+ghost use Rattle.do_native_acts.specs.Steps.{fits, steps};
 ghost use Rattle.do_behave.specs.Changes.{Means};
 ghost use Rattle.do_behave.specs.Steps.{or_fault};
-ghost use Rattle.do_center.specs.Acts.{first, kept, method_act};
+ghost use Rattle.do_center.specs.Acts.{call_in, first, keeps, kept, method_act};
+ghost use Rattle.do_center.specs.Calls.{does};
 ghost use Rattle.do_center.specs.Notes.{delivery_value};
 
 use crate::center::Center;
@@ -52,15 +54,17 @@ fn keeps(
     Ok(step(inv, 1, sets, inv.handler, writes))
 }
 
-/// The first act of a method: all that it does but delivering.
+/// Does the call of a method, and keeps its deliveries.
 #[tactic(auto, using(crate::specs::laws::CallsRead::call_good))]
-fn first(method: Method, inv: &Invocation, slots: &Values) -> Result<Change, AllocError>
-    ensures { IfOk result (λ change.
-        Means inv.now change (or_fault (first method inv.now slots.now))) }
+fn first_on(
+    center: &mut Center,
+    method: Method,
+    inv: &Invocation,
+    slots: &Values,
+) -> Result<Change, AllocError>
+    ensures { IfOk result (λ change. Means inv.now change (or_fault (call_in method inv.now
+        >>? λ call. Some (fits (does center.old call) (keeps method inv.now slots.now))))) }
 {
-    let Some(mut center) = Center::from_slots(slots)? else {
-        return Ok(Change::type_fault());
-    };
     let Some(call) = call_in(method, inv)? else {
         return Ok(Change::type_fault());
     };
@@ -68,6 +72,17 @@ fn first(method: Method, inv: &Invocation, slots: &Values) -> Result<Change, All
         Ok(sent) => keeps(method, inv, &sent, changes(slots, &center.to_slots()?)?),
         Err(CoreFault::Full(_)) => Ok(Change::Other(Act::Raise(Exc::Range))),
         Err(CoreFault::Memory) => Err(AllocError),
+    }
+}
+
+/// The first act of a method: all that it does but delivering.
+fn first(method: Method, inv: &Invocation, slots: &Values) -> Result<Change, AllocError>
+    ensures { IfOk result (λ change.
+        Means inv.now change (or_fault (first method inv.now slots.now))) }
+{
+    match Center::from_slots(slots)? {
+        Some(mut center) => first_on(&mut center, method, inv, slots),
+        None => Ok(Change::type_fault()),
     }
 }
 

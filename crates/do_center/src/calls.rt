@@ -35,14 +35,11 @@ pub enum Call {
 }
 
 impl Center {
-    /// Does a call, and gives its deliveries, in order. On any error the core is unchanged.
-    #[tactic(auto, using(do_native_acts::specs::laws::HistoryLaws::after_call))]
-    pub fn perform(&mut self, call: Call) -> Result<Deliveries, CoreFault>
+    /// Does a call, and gives its deliveries.
+    fn answer(&mut self, call: Call) -> Result<Deliveries, CoreFault>
         requires { IsCall call }
         ensures done { IfOk result (λ sent. does self.old call ≡ Some (self.new, sent)) }
         ensures fault { IfErr result (Refused (limit_of call) (does self.old call)) }
-        ensures history { (h : List Call) → self.old ≡ after h
-            → OnOk result (self.new ≡ after (call ∷ h)) }
         ensures err { OnErr result (self.new ≡ self.old) }
     {
         let alloc = self.allocator();
@@ -62,5 +59,17 @@ impl Center {
             Call::Suspend { observer, on } => self.suspend(observer, on),
             Call::Post { note, immediate } => self.post(&note, immediate),
         }
+    }
+
+    /// Does a call, and gives its deliveries, in order. On any error the core is unchanged.
+    pub fn perform(&mut self, call: Call) -> Result<Deliveries, CoreFault>
+        requires { IsCall call }
+        ensures done { IfOk result (λ sent. does self.old call ≡ Some (self.new, sent)) }
+        ensures fault { IfErr result (Refused (limit_of call) (does self.old call)) }
+        ensures history { (h : List Call) → self.old ≡ after h
+            → OnOk result (self.new ≡ after (call ∷ h)) }
+        ensures err { OnErr result (self.new ≡ self.old) }
+    {
+        self.answer(call)
     }
 }

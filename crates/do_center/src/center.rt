@@ -1,6 +1,9 @@
 ghost use Rattle.std.specs.Prelude.{◌≡◌, ◌∷◌, [], IsTrue, List, IfOk, IfErr, IfSome, OnErr, OnOk};
 ghost use Rattle.std.specs.Prelude.{Some, true};
+ghost use Rattle.do_base.specs.values.Kinds.{object};
+ghost use Rattle.do_grammar.specs.Words.{◌>>?◌};
 ghost use Rattle.do_native_acts.specs.Faults.{FaultOf};
+ghost use Rattle.do_native_acts.specs.Rows.{rows_in};
 ghost use Rattle.do_center.specs.Calls.{Refused, added, suspended};
 ghost use Rattle.do_center.specs.History.{after, is_suspended, registered};
 ghost use Rattle.do_center.specs.Notes.{is_note};
@@ -8,7 +11,7 @@ ghost use Rattle.do_center.specs.Posting.{posted};
 ghost use Rattle.do_center.specs.Registrations.{is_registration};
 ghost use Rattle.do_center.specs.Removing.{removed};
 ghost use Rattle.do_center.specs.Seats.{registrations};
-ghost use Rattle.do_center.specs.Slots.{from_slots, of_core, seated, to_slots};
+ghost use Rattle.do_center.specs.Slots.{from_slots, of_core, seated, to_slots, waiting_in};
 ghost use Rattle.do_center.specs.Observers.{has_object};
 ghost use Rattle.do_center.specs.declared.calls.Call.{Call};
 
@@ -90,6 +93,28 @@ fn of_rows(
     of_core(slots, seats, suspended)
 }
 
+/// The core of these registrations, and of the suspended observers and the queues that two slots
+/// hold, if it is one and has these slots.
+fn of_slots(
+    slots: &Values,
+    registrations: &Items<Registration>,
+    suspended: &Value,
+    queues: &Value,
+) -> Result<Option<Center>, AllocError>
+    ensures { IfOk result (λ read. read ≡ (rows_in object suspended.now >>? λ os.
+        rows_in waiting_in queues.now >>? λ ws.
+        of_core slots.now (seated registrations.now ws, os))) }
+{
+    let alloc = slots.allocator();
+    let Some(suspended) = read_rows::<Oid>(alloc, suspended)? else {
+        return Ok(None);
+    };
+    match read_rows::<Waiting>(alloc, queues)? {
+        Some(waiting) => of_rows(slots, registrations, suspended, waiting),
+        None => Ok(None),
+    }
+}
+
 /// A list of three values.
 fn three(alloc: Global, first: Value, second: Value, third: Value) -> Result<Values, AllocError>
     ensures { IfOk result (λ values. values ≡ first ∷ second ∷ third ∷ []) }
@@ -117,25 +142,25 @@ impl Center {
         self.seats.allocator()
     }
 
+    /// The core whose slots these are.
+    fn read(slots: &Values) -> Result<Option<Center>, AllocError>
+        ensures { IfOk result (λ read. read ≡ from_slots slots.now) }
+    {
+        let [registrations, suspended, queues] = slots.as_slice() else {
+            return Ok(None);
+        };
+        match read_rows::<Registration>(slots.allocator(), registrations)? {
+            Some(registrations) => of_slots(slots, &registrations, suspended, queues),
+            None => Ok(None),
+        }
+    }
+
     /// The core whose slots these are; none exactly where no core has these slots.
     pub fn from_slots(slots: &Values) -> Result<Option<Center>, AllocError>
         ensures value { IfOk result (λ read. read ≡ from_slots slots.now) }
         ensures exact { IfOk result (λ read. IfSome read (λ core. to_slots core ≡ slots.now)) }
     {
-        let [registrations, suspended, queues] = slots.as_slice() else {
-            return Ok(None);
-        };
-        let alloc = slots.allocator();
-        let Some(registrations) = read_rows::<Registration>(alloc, registrations)? else {
-            return Ok(None);
-        };
-        let Some(suspended) = read_rows::<Oid>(alloc, suspended)? else {
-            return Ok(None);
-        };
-        let Some(waiting) = read_rows::<Waiting>(alloc, queues)? else {
-            return Ok(None);
-        };
-        of_rows(slots, &registrations, suspended, waiting)
+        Center::read(slots)
     }
 
     /// The slots of the core: its registrations, the suspended observers, and the queues with their

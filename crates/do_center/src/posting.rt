@@ -1,5 +1,5 @@
 //! Posts: to whom a notification is due, and for whom it waits.
-ghost use Rattle.std.specs.Prelude.{◌≡◌, ◌<◌, ◌≤◌, [], IfOk, length, slice_get};
+ghost use Rattle.std.specs.Prelude.{◌≡◌, ◌<◌, ◌≤◌, [], IfOk, OnOk, length, slice_get};
 ghost use Rattle.do_center.specs.Posting.{came_to_all, comes_to, due, flushed, held, waits};
 ghost use Rattle.do_center.specs.Queues.{queue_of};
 
@@ -21,66 +21,62 @@ pub(crate) struct Posting {
 }
 
 /// One notification more is due.
-fn due(posting: Posting, entry: Queued) -> Result<Posting, AllocError>
-    ensures { IfOk result (λ after. after ≡ due posting entry) }
+fn due(posting: &mut Posting, entry: Queued) -> Result<(), AllocError>
+    ensures ok { OnOk result (posting.new ≡ due posting.old entry) }
 {
-    let Posting { seats, mut due } = posting;
-    due.push(entry)?;
-    Ok(Posting { seats, due })
+    posting.due.push(entry)?;
+    Ok(())
 }
 
 /// This waits for the observer now.
-fn waits(posting: Posting, observer: Oid, queue: Queue) -> Posting
-    ensures { result ≡ waits posting observer queue }
+fn waits(posting: &mut Posting, observer: Oid, queue: Queue)
+    ensures { posting.new ≡ waits posting.old observer queue }
 {
-    let Posting { mut seats, due } = posting;
-    replace_queue(&mut seats, observer, queue);
-    Posting { seats, due }
+    replace_queue(&mut posting.seats, observer, queue);
 }
 
 /// Takes out all that waits for the observer.
-fn taken(posting: Posting, observer: Oid) -> (Posting, Queue)
-    ensures left { result.0 ≡ waits posting observer [] }
-    ensures was { result.1 ≡ queue_of posting.seats observer }
+fn taken(posting: &mut Posting, observer: Oid) -> Queue
+    ensures left { posting.new ≡ waits posting.old observer [] }
+    ensures was { result ≡ queue_of posting.old.seats observer }
 {
-    let Posting { mut seats, due } = posting;
-    let none = Queue::new(seats.allocator());
-    let queue = replace_queue(&mut seats, observer, none);
-    (Posting { seats, due }, queue)
+    let none = Queue::new(posting.seats.allocator());
+    replace_queue(&mut posting.seats, observer, none)
 }
 
 /// All that waits for the observer is due, and behind it this.
-fn flushed(posting: Posting, observer: Oid, entry: Queued) -> Result<Posting, AllocError>
-    ensures { IfOk result (λ after. after ≡ flushed posting observer entry) }
+fn flushed(posting: &mut Posting, observer: Oid, entry: Queued) -> Result<(), AllocError>
+    ensures ok { OnOk result (posting.new ≡ flushed posting.old observer entry) }
 {
-    let (posting, mut queue) = taken(posting, observer);
+    let mut queue = taken(posting, observer);
     queue.push(entry)?;
-    let Posting { seats, mut due } = posting;
-    due.append(queue)?;
-    Ok(Posting { seats, due })
+    posting.due.append(queue)?;
+    Ok(())
 }
 
 /// Does what the behaviour says of a notification for an observer that is suspended.
 #[tactic(auto, using(crate::proofs::SeatsKept::with_again))]
 fn held(
-    posting: Posting,
+    posting: &mut Posting,
     observer: Oid,
     behaviour: Suspension,
     entry: Queued,
-) -> Result<Posting, AllocError>
-    ensures { IfOk result (λ after. after ≡ held posting observer behaviour entry) }
+) -> Result<(), AllocError>
+    ensures ok { OnOk result (posting.new ≡ held posting.old observer behaviour entry) }
 {
     match behaviour {
-        Suspension::Drop => Ok(posting),
+        Suspension::Drop => Ok(()),
         Suspension::Coalesce => {
-            let (posting, queue) = taken(posting, observer);
+            let queue = taken(posting, observer);
             let queue = enqueued(coalesced(queue, &entry), entry)?;
-            Ok(waits(posting, observer, queue))
+            waits(posting, observer, queue);
+            Ok(())
         }
         Suspension::Hold => {
-            let (posting, queue) = taken(posting, observer);
+            let queue = taken(posting, observer);
             let queue = enqueued(queue, entry)?;
-            Ok(waits(posting, observer, queue))
+            waits(posting, observer, queue);
+            Ok(())
         }
         Suspension::DeliverImmediately => flushed(posting, observer, entry),
     }
@@ -88,21 +84,21 @@ fn held(
 
 /// The notification comes to the registration at a place.
 fn comes_to(
-    posting: Posting,
+    posting: &mut Posting,
     at: usize,
     note: &Note,
     immediate: bool,
     suspended: &Suspended,
-) -> Result<Posting, AllocError>
+) -> Result<(), AllocError>
     requires within { at < 256 }
-    ensures { IfOk result (λ after. after
-        ≡ comes_to note.now immediate suspended.now posting at (slice_get posting.seats at)) }
+    ensures ok { OnOk result (posting.new ≡ comes_to note.now immediate suspended.now posting.old
+        at (slice_get posting.old.seats at)) }
 {
     let Some(seat) = posting.seats.get(at) else {
-        return Ok(posting);
+        return Ok(());
     };
     if !seat.registration.matches(note) {
-        return Ok(posting);
+        return Ok(());
     }
     let observer = seat.registration.observer;
     let behaviour = if immediate {
@@ -136,7 +132,7 @@ pub(crate) fn came_to_all(
         due: Queue::new(seats.allocator()),
     };
     for at in 0..seats.len() {
-        posting = comes_to(posting, at, note, immediate, suspended)?;
+        comes_to(&mut posting, at, note, immediate, suspended)?;
     }
     Ok(posting)
 }

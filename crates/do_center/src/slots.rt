@@ -131,7 +131,6 @@ impl Observed for Waiting {
 }
 
 /// Takes the queue of an observer out of these.
-#[tactic(auto, using(crate::proofs::FirstWaiting::waiting_steps))]
 fn take_queue(waiting: &mut AllWaiting, observer: Oid) -> Queue
     ensures was { result ≡ queue_among waiting.old observer }
     ensures left { waiting.new ≡ without_first (λ w. w.observer) waiting.old observer }

@@ -23,12 +23,6 @@ core_of slots core c is =
     (pointwise_decides value_eq-Decides (to_slots c) slots).0
     ((and_parts (is_core c) (pointwise value_eq (to_slots c) slots) tests.1).1)
 
--- and so has one that may be read
-pub shown_of : (slots : Listed Value) (core : Core) (read : Option Core)
-    → read ≡ of_core slots core → IfSome read (λ c. to_slots c ≡ slots)
-shown_of slots core None e = tt
-shown_of slots core (Some c) e = core_of slots core c (sym e)
-
 -- a core that is read has the slots that it was read from
 pub read_back : (slots : Listed Value) (c : Core) → from_slots slots ≡ Some c → to_slots c ≡ slots
 read_back [] c is = cc
@@ -43,3 +37,9 @@ read_back (a ∷ b ∷ w ∷ []) c is =
     let ws = found_of (rows_in waiting_in w) (λ ws. of_core slots (seated rs.0 ws, os.0)) c os.2 in
     core_of slots (seated rs.0 ws.0, os.0) c ws.2
 read_back (a ∷ b ∷ w ∷ x ∷ vs) c is = cc
+
+-- whatever is read has the slots that it was read from
+pub exact_read : (slots : Listed Value) (read : Option Core) → read ≡ from_slots slots
+    → IfSome read (λ c. to_slots c ≡ slots)
+exact_read slots None e = tt
+exact_read slots (Some c) e = read_back slots c (sym e)

@@ -1,11 +1,11 @@
-use Rattle.std.proofs.Common.{[], Some, sym, ◌∙◌, ap}
+use Rattle.std.proofs.Common.{[]}
+use Rattle.std.proofs.lemmas.Result.{IfOk-weaker}
 use Rattle.do_native_acts.specs.laws.HistoryLaws.{after_call}
 use Rattle.do_center.specs.Calls.{does}
-use Rattle.do_center.specs.Seats.{Core}
 use Rattle.do_center.proofs.center.Center.perform.Goals as goal
 
-pub returns-in-Ok-remove-clause-history : goal.returns-in-Ok-remove-clause-history
-returns-in-Ok-remove-clause-history c h is =
-    after_call ([], []) does h c.args.call c.args.self.now c.remove.new.self [] is
-    (ap (does c.args.self.now) c.in-Remove.is
-    ∙ ap (λ (d : Core). Some (d, [])) (sym c.in-Ok-remove.ensures.ok))
+pub returns-clause-history : goal.returns-clause-history
+returns-clause-history c =
+    λ h is. IfOk-weaker c.answer.result _ _ (λ sent done.
+    after_call ([], []) does h c.args.call c.args.self.now c.answer.new.self sent is done)
+    c.answer.ensures.done
