@@ -1,13 +1,18 @@
 //! Calls of what writes the blocks of a transcript.
 
-use call_rows::{Part, copy_at, list_at, object_at, port_at, text_at};
-use do_base::{Exc, Items, NodeId, Oid, Peers, Shown, Text, Took, Value, Values};
-use do_class::{ClassId, ClassTable, Methods, Slot, Slots};
+mod listed;
+mod took;
+
+use crate::blocks::listed::{extend, node_at, push_node};
+use crate::blocks::took::push_took;
+use call_rows::{Part, copy_at, object_at, text_at};
+use do_base::{Exc, Items, Shown, Text, Value, Values};
+use do_class::{ClassTable, Methods, Slot, Slots};
 use do_grammar::is_text;
 use do_lines::{check_text, line_text};
 use do_sched::read_schedule;
-use do_trace::{Entry, EntryList, NodeLine, ObjLine, ObjLines, Outcome, Snapshot};
-use std::alloc::{AllocError, Global};
+use do_trace::{Outcome, Snapshot};
+use std::alloc::Global;
 use std::test::Fail;
 
 /// What a step showed so far, and what a check lists.
@@ -17,77 +22,6 @@ pub(crate) struct BlockCalls {
     outcome: Outcome,
     table: ClassTable,
     listed: Snapshot,
-}
-
-/// The node of a port.
-fn node_at(args: &Values, at: usize) -> Result<NodeId, Fail> {
-    Ok(NodeId::new(port_at(args, at)?).ok_or("no port is 0")?)
-}
-
-/// The text at the second place.
-fn name_at(args: &Values) -> Result<Text, Fail> {
-    Ok(text_at(args, 1)?.clone()?)
-}
-
-/// Shows that an item without a part of its own was taken.
-fn push_plain(shown: &mut Items<Shown>, word: &[u8]) -> Result<(), Fail> {
-    if is_text(word, b"reply") {
-        return Ok(shown.push(Shown::Took(Took::Reply))?);
-    }
-    if is_text(word, b"rootask") {
-        return Ok(shown.push(Shown::Took(Took::RootAsk))?);
-    }
-    if is_text(word, b"rootanswer") {
-        return Ok(shown.push(Shown::Took(Took::RootAnswer))?);
-    }
-    if is_text(word, b"settled") {
-        return Ok(shown.push(Shown::Took(Took::Settled))?);
-    }
-    if is_text(word, b"end") {
-        return Ok(shown.push(Shown::Took(Took::End))?);
-    }
-    Err(Fail::from("no such item"))
-}
-
-/// Shows that an item about an object was taken.
-fn push_about(shown: &mut Items<Shown>, word: &[u8], oid: Oid) -> Result<(), Fail> {
-    if is_text(word, b"ask") {
-        return Ok(shown.push(Shown::Took(Took::Ask(oid)))?);
-    }
-    if is_text(word, b"granted") {
-        return Ok(shown.push(Shown::Took(Took::Granted(oid)))?);
-    }
-    if is_text(word, b"gone") {
-        return Ok(shown.push(Shown::Took(Took::Gone(oid)))?);
-    }
-    if is_text(word, b"left") {
-        return Ok(shown.push(Shown::Took(Took::Left(oid)))?);
-    }
-    Err(Fail::from("no such item"))
-}
-
-/// Shows that an item with a text was taken.
-fn push_named(shown: &mut Items<Shown>, word: &[u8], text: Text) -> Result<(), Fail> {
-    if is_text(word, b"call") {
-        return Ok(shown.push(Shown::Took(Took::Call(text)))?);
-    }
-    if is_text(word, b"oneway") {
-        return Ok(shown.push(Shown::Took(Took::Oneway(text)))?);
-    }
-    if is_text(word, b"raised") {
-        return Ok(shown.push(Shown::Took(Took::Raised(Exc::User(text))))?);
-    }
-    Err(Fail::from("no such item"))
-}
-
-/// Shows that the item of these arguments was taken: a word, and what it is about.
-fn push_took(shown: &mut Items<Shown>, args: &Values) -> Result<(), Fail> {
-    let word = text_at(args, 0)?.as_slice();
-    match args.get(1) {
-        None => push_plain(shown, word),
-        Some(Value::Obj(oid)) => push_about(shown, word, *oid),
-        Some(_) => push_named(shown, word, name_at(args)?),
-    }
 }
 
 /// The block of the line of a schedule that came to this.
@@ -111,45 +45,6 @@ fn pair_table(alloc: Global) -> Result<ClassTable, Fail> {
     let name = Text::from_slice(alloc, b"Pair")?;
     table.add_class(name, slots, Methods::new(alloc))?;
     Ok(table)
-}
-
-/// Lists one more node, which has nothing.
-fn push_node(listed: &mut Snapshot, alloc: Global, node: NodeId) -> Result<(), AllocError> {
-    listed.nodes.push(NodeLine {
-        node,
-        root: None,
-        closed: Peers::new(alloc),
-        objects: ObjLines::new(alloc),
-        entries: EntryList::new(alloc),
-    })
-}
-
-/// Lists an object of the pair's class with these slots.
-fn push_object(line: &mut NodeLine, oid: Oid, slots: Values) -> Result<(), AllocError> {
-    let class = ClassId(0);
-    line.objects.push(ObjLine { oid, class, slots })
-}
-
-/// Adds to what is listed of the last node.
-fn extend(line: &mut NodeLine, word: &[u8], args: &Values) -> Result<(), Fail> {
-    if is_text(word, b"root") {
-        line.root = Some(object_at(args, 0)?);
-        return Ok(());
-    }
-    if is_text(word, b"closed") {
-        line.closed.push(node_at(args, 0)?)?;
-        return Ok(());
-    }
-    if is_text(word, b"object") {
-        return Ok(push_object(line, object_at(args, 0)?, list_at(args, 1)?.clone()?)?);
-    }
-    if is_text(word, b"entry") {
-        let peer = node_at(args, 0)?;
-        let object = object_at(args, 1)?;
-        line.entries.push(Entry { peer, object })?;
-        return Ok(());
-    }
-    Err(Fail::from("no such call"))
 }
 
 impl BlockCalls {
