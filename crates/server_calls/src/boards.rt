@@ -1,6 +1,8 @@
 //! Calls of a pasteboard.
 
-use crate::board_changes::change;
+mod changes;
+
+use crate::boards::changes::change;
 use call_rows::{Part, count_value, object_or_nil, text_at, texts_at};
 use do_base::{Text, Texts, Value, Values};
 use do_grammar::is_text;

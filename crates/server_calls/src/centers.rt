@@ -1,14 +1,15 @@
 //! Calls of the core of a notification centre.
 
-use crate::center_parts::{
-    delivery_value, good_note, good_registration, label_at, note_of, numbered_note, registration_of,
-};
-use call_rows::{Part, count_at, count_value, list_at, no_call, number_at, object_at, refused};
-use do_base::{Oid, Value, Values, copy_value};
-use do_center::{Center, Deliveries, Registration, is_note, is_registration};
+mod parts;
+mod told;
+
+use crate::centers::parts::{good_note, good_registration, label_at, note_of, numbered_note};
+use call_rows::{Part, count_at, count_value, list_at, number_at, object_at, refused};
+use do_base::{Oid, Value, Values};
+use do_center::{Center, Deliveries};
 use do_grammar::is_text;
-use do_native_acts::{CoreFault, as_number, show_list};
-use std::alloc::{AllocError, Global};
+use do_native_acts::{CoreFault, as_number};
+use std::alloc::Global;
 use std::test::Fail;
 
 /// A centre, the deliveries of the last call that had any, and slots that were kept.
@@ -31,24 +32,6 @@ fn add_suspended(center: &mut Center, observer: Oid, args: &Values) -> Result<()
 fn post_number(center: &mut Center, alloc: Global, number: u16) -> Result<usize, Fail> {
     let note = good_note(numbered_note(alloc, number)?)?;
     Ok(center.post(&note, false)?.len())
-}
-
-/// The observers of deliveries, in order.
-fn observers(sent: &Deliveries) -> Result<Value, AllocError> {
-    let mut values = Values::new(sent.allocator());
-    for delivery in sent.as_slice() {
-        values.push(Value::Obj(delivery.observer))?;
-    }
-    Ok(Value::List(values))
-}
-
-/// The information of deliveries, in order.
-fn infos(sent: &Deliveries) -> Result<Value, AllocError> {
-    let mut values = Values::new(sent.allocator());
-    for delivery in sent.as_slice() {
-        values.push(copy_value(&delivery.note.info)?)?;
-    }
-    Ok(Value::List(values))
 }
 
 impl CenterCalls {
@@ -126,42 +109,6 @@ impl CenterCalls {
         };
         self.center = center;
         Ok(as_number(true))
-    }
-
-    /// Tells of the last deliveries.
-    fn tell_sent(&self, word: &[u8], args: &Values) -> Result<Value, Fail> {
-        if is_text(word, b"delivery") {
-            let at = usize::from(count_at(args, 0)?);
-            return delivery_value(self.alloc, self.sent.get(at).ok_or("no delivery")?);
-        }
-        if is_text(word, b"infos") {
-            return Ok(infos(&self.sent)?);
-        }
-        if is_text(word, b"observers") {
-            return Ok(observers(&self.sent)?);
-        }
-        no_call()
-    }
-
-    /// Tells what the centre has, or whether a part keeps the limits.
-    fn tell(&self, word: &[u8], args: &Values) -> Result<Value, Fail> {
-        if is_text(word, b"is_suspended") {
-            return Ok(as_number(self.center.is_suspended(object_at(args, 0)?)));
-        }
-        if is_text(word, b"registrations") {
-            return Ok(show_list::<Registration>(&self.center.registrations()?)?);
-        }
-        if is_text(word, b"count_registrations") {
-            return count_value(self.center.registrations()?.len());
-        }
-        if is_text(word, b"is_registration") {
-            let registration = registration_of(object_at(args, 0)?, args)?;
-            return Ok(as_number(is_registration(&registration)));
-        }
-        if is_text(word, b"is_note") {
-            return Ok(as_number(is_note(&note_of(args)?)));
-        }
-        self.tell_sent(word, args)
     }
 
     /// Reads slots, keeps them or tells them.

@@ -10,9 +10,7 @@
 
 mod acts;
 mod bench;
-mod board_changes;
 mod boards;
-mod center_parts;
 mod centers;
 mod names;
 mod services;
