@@ -8,16 +8,11 @@
 
 mod answers;
 mod arguments;
-mod changes;
-mod exchanges;
 mod exports;
 mod imports;
-mod invocations;
 mod pool;
 mod stack;
 mod store;
-mod tokens;
-mod waiting;
 
 use crate::exports::ExportCalls;
 use crate::imports::ImportCalls;
