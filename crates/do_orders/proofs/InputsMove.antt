@@ -17,12 +17,13 @@ use Rattle.do_record.specs.declared.parts.RecordLine.TheVariants.{Close, Ended, 
 use Rattle.do_weave.specs.Inputs.{ending, takes, tried}
 use Rattle.do_weave.specs.Rules.{Rules}
 use Rattle.do_facts.proofs.steps.RuleMoves.{rule_moves}
+use Rattle.do_agreement.proofs.takes.MachineTakes.{take_moves}
 use Rattle.do_orders.specs.Inputs.{ByMove}
 use Rattle.do_orders.proofs.Acts.{acted, chosen}
 use Rattle.do_orders.proofs.LedBack.{LedBack}
 use Rattle.do_orders.specs.Moves.{without_first}
 use Rattle.do_orders.proofs.Moving.{off_is}
-use Rattle.do_orders.proofs.TakesMove.{ending_moves, open_of, take_moves, take_there}
+use Rattle.do_orders.proofs.TakesMove.{ending_moves, open_of, take_there}
 use Rattle.do_base.specs.declared.events.event.Event.TheVariants as events
 use Rattle.do_machine.specs.declared.item.Item.TheVariants as items
 

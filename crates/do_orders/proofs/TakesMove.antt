@@ -1,7 +1,7 @@
 -- A take is a move, and so is an end without notice, which is a loss and the take behind it.
 use Rattle.std.proofs.Common.{◌≡◌, ◌&&◌, ℕ, Bool, true, false, cond, not, List, [], ◌∷◌, refl, ap}
-use Rattle.std.proofs.Common.{◌∙◌, arith, drop}
-use Rattle.std.specs.Prelude.{None, Option, Some, length, nat_lt, option_map, slice_get, unwrap_or}
+use Rattle.std.proofs.Common.{◌∙◌, arith}
+use Rattle.std.specs.Prelude.{None, Option, Some, length, nat_lt, option_map, unwrap_or}
 use Rattle.std.specs.List.{insert}
 use Rattle.std.proofs.lemmas.Bool.Decides.{nat_tests}
 use Rattle.do_class.specs.Class.{Class}
@@ -18,6 +18,7 @@ use Rattle.do_machine.specs.run.Run.{Acting}
 use Rattle.do_machine.specs.take.Take.{can_serve, can_take, take_effect}
 use Rattle.do_facts.proofs.machine.follows.States.{requeued}
 use Rattle.do_facts.proofs.machine.passing.Lookups.{that_changed}
+use Rattle.do_agreement.proofs.takes.MachineTakes.{machine_by, machine_from, take_moves}
 use Rattle.do_orders.proofs.PutBack.{put_back}
 use Rattle.do_base.specs.declared.events.event.Event.TheVariants as events
 use Rattle.do_machine.specs.declared.item.Item.TheVariants as items
@@ -32,39 +33,6 @@ none_shorter : (w : List Item) → nat_lt (length w) 0 ≡ false
 none_shorter w = grind (arith, nat_tests)
 
 module _ (table : List Class) (S : State) (port from : ℕ) where
-  -- the state with these items left in the queue
-  abbrev left : List Item → State
-  left rest = change from (with_queue port rest) S
-
-  -- a take of the oldest of these items
-  abbrev oldest : Node → List Item → Option Stepped
-  oldest n w = elim (slice_get w 0) [
-    | None ↦ None
-    | Some x ↦ Some (moved port (left (drop 1 w))
-        (take_effect (context table (left (drop 1 w)) n) from x))
-  ]
-
-  -- a take from a queue
-  abbrev from_queue : Node → Option (List Item) → Option Stepped
-  from_queue n found = elim found [ None ↦ None | Some w ↦ oldest n w ]
-
-  -- a take by a node
-  abbrev by_node : Option Node → Option Stepped
-  by_node found = elim found [
-    | None ↦ None
-    | Some n ↦ cond (not (can_take from n)) None (from_queue n (queue S from port))
-  ]
-
-  -- a take of an item that waits is the move by what the item comes to
-  pub take_moves : (act : Acting) (n : Node) (item : Item) (rest : List Item) →
-      node S port ≡ Some n → can_take from n ≡ true → queue S from port ≡ Some (item ∷ rest) →
-      step table act S (events.Take port from)
-      ≡ moved port (left rest) (take_effect (context table (left rest) n) from item)
-  take_moves act n item rest here able waits =
-      ap (λ found. unwrap_or (by_node found) (skipped S)) here
-      ∙ ap (λ b. unwrap_or (cond (not b) None (from_queue n (queue S from port))) (skipped S)) able
-      ∙ ap (λ found. unwrap_or (from_queue n found) (skipped S)) waits
-
   -- what an enabled take has before it
   pub record Taking : Type 0 where
     pub doer : Node
@@ -85,19 +53,20 @@ module _ (table : List Class) (S : State) (port from : ℕ) where
 
       at_queue : (n : Node) → node S port ≡ Some n → can_take from n ≡ true →
           (found : Option (List Item)) → queue S from port ≡ found →
-          is_on (from_queue n found) ≡ true → Taking
+          is_on (machine_from table S port from n found) ≡ true → Taking
       at_queue n here able None waits on = absurd (cc)
       at_queue n here able (Some []) waits on = absurd (cc)
       at_queue n here able (Some (x ∷ rest)) waits on =
           record { doer = n; item = x; rest = rest; here = here; able = able; waits = waits }
 
       at_test : (n : Node) → node S port ≡ Some n → (b : Bool) → can_take from n ≡ b →
-          is_on (cond (not b) None (from_queue n (queue S from port))) ≡ true → Taking
+          is_on (cond (not b) None (machine_from table S port from n (queue S from port))) ≡ true →
+          Taking
       at_test n here true able on = at_queue n here able (queue S from port) refl on
       at_test n here false able on = absurd (cc)
 
       at_node : (found : Option Node) → node S port ≡ found →
-          is_on (by_node found) ≡ true → Taking
+          is_on (machine_by table S port from found) ≡ true → Taking
       at_node None here on = absurd (cc)
       at_node (Some n) here on = at_test n here (can_take from n) refl on
 

@@ -70,6 +70,10 @@ module _ (table : List Class) (t : IsTable table) (act : Acting) (N : Net) (S : 
   abbrev machine_from : Node → Option (List Item) → Option Stepped
   machine_from = machine.machine_from table S port from
 
+  -- and with a node
+  abbrev machine_by : Option Node → Option Stepped
+  machine_by = machine.machine_by table S port from
+
   -- both come to the same
   abbrev Same : Option NetStepped → Option Stepped → Type 0
   Same s u = StepAgrees table (unwrap_or s (net_skipped N)) (unwrap_or u (skipped S))
@@ -232,24 +236,15 @@ module _ (table : List Class) (t : IsTable table) (act : Acting) (N : Net) (S : 
       Same (elim (option_map (λ (y : Place). y.part) found) [
         | None ↦ None
         | Some p ↦ cond (not (can_take from p.own.node)) None (net_from (channel N from port))
-      ]) (elim (node S port) [
-        | None ↦ None
-        | Some n ↦ cond (not (can_take from n)) None (machine_from n (queue S from port))
-      ])
+      ]) (machine_by (node S port))
   by_site None k =
-      subst (λ o. Same None (elim o [
-        | None ↦ None
-        | Some n ↦ cond (not (can_take from n)) None (machine_from n (queue S from port))
-      ]))
+      subst (λ o. Same None (machine_by o))
       (ap (λ (o : Option Place). option_map (λ (r : Part). r.own.node)
       (option_map (λ (y : Place). y.part) o)) (sym k)
       ∙ agrees.tallies.shows.nodes port) none
   by_site (Some pl) k =
       subst (λ o. Same (cond (not (can_take from pl.part.own.node)) None
-      (net_from (channel N from port))) (elim o [
-        | None ↦ None
-        | Some n ↦ cond (not (can_take from n)) None (machine_from n (queue S from port))
-      ]))
+      (net_from (channel N from port))) (machine_by o))
       (sym (node_is table act N S agrees kept told port pl.part
       (ap (option_map (λ (y : Place). y.part)) k)))
       (by_node pl k (can_take from pl.part.own.node) refl)

@@ -1,18 +1,17 @@
 -- What a site sends when it takes an item has a spelling.
-use Rattle.std.proofs.Common.{◌≡◌, ◌≤◌, ℕ, cond, List, ◌∷◌, not, sym, ap, ◌∙◌, subst}
-use Rattle.std.specs.Prelude.{None, Option, Some, slice_get, suc, unwrap_or}
+use Rattle.std.proofs.Common.{◌≡◌, ◌≤◌, ℕ, List, ◌∷◌, sym, ap, ◌∙◌, subst}
+use Rattle.std.specs.Prelude.{Some, slice_get, suc, unwrap_or}
 use Rattle.do_base.specs.declared.events.event.Event.TheVariants.{Take}
 use Rattle.do_class.specs.Class.{Class}
 use Rattle.do_machine.specs.declared.item.Item.{Item}
-use Rattle.do_machine.specs.declared.node.Node.{Node}
 use Rattle.do_machine.specs.declared.state.Effect.{Effect}
 use Rattle.do_machine.specs.declared.state.State.{State}
-use Rattle.do_machine.specs.Commit.{moved, skipped}
+use Rattle.do_machine.specs.Commit.{moved}
 use Rattle.do_machine.specs.Context.{Context, context}
-use Rattle.do_machine.specs.State.{node, queue}
+use Rattle.do_machine.specs.State.{node}
 use Rattle.do_machine.specs.Step.{step}
 use Rattle.do_machine.specs.run.Run.{Acting}
-use Rattle.do_machine.specs.take.Take.{can_take, take_effect}
+use Rattle.do_machine.specs.take.Take.{take_effect}
 use Rattle.do_coder.specs.declared.recent.pair.Pair.{Pair}
 use Rattle.do_network.specs.Frames.{item_of}
 use Rattle.do_network.specs.Links.{Part}
@@ -29,7 +28,7 @@ use Rattle.do_agreement.specs.NetInHand.{carried_as, part_in_hand}
 use Rattle.do_agreement.proofs.takes.TakenFrame.{input_done, stands_first}
 use Rattle.do_agreement.proofs.takes.Taking as takes
 use Rattle.do_agreement.proofs.takes.Taking.{Taking, node_there, waits}
-use Rattle.do_agreement.proofs.takes.MachineTakes.{machine_from}
+use Rattle.do_agreement.proofs.takes.MachineTakes.{take_moves}
 use Rattle.do_agreement.proofs.takes.TakeEvents.{one_effect, site_is}
 use Rattle.do_agreement.proofs.takes.TakeTallies.{take_commits, take_sound}
 use Rattle.do_within.specs.Received.{CountsWithin}
@@ -78,14 +77,8 @@ module _ {table : List Class} {act : Acting} {N : Net} {S : State} {agrees : Agr
   -- the machine's node takes the item
   step_is : step table act S (Take port from) ≡ moved port T machine
   step_is =
-      ap (λ (o : Option Node). unwrap_or (elim o [
-        | None ↦ None
-        | Some n ↦ cond (not (can_take from n)) None
-            (machine_from table S port from n (queue S from port))
-      ]) (skipped S)) (node_there taking)
-      ∙ ap (λ b. unwrap_or (cond (not b) None
-      (machine_from table S port from p.own.node (queue S from port))) (skipped S)) taking.can
-      ∙ ap (λ w. unwrap_or (machine_from table S port from p.own.node w) (skipped S)) (waits taking)
+      take_moves table S port from act p.own.node x.item rest (node_there taking) taking.can
+      (waits taking)
 
   -- ---- the site
 
