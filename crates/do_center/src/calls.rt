@@ -36,6 +36,8 @@ pub enum Call {
 
 impl Center {
     /// Does a call, and gives its deliveries.
+    // What calls in a row come to is proved once, at the one return of `perform`, and not at each
+    // arm here.
     fn answer(&mut self, call: Call) -> Result<Deliveries, CoreFault>
         requires { IsCall call }
         ensures done { IfOk result (λ sent. does self.old call ≡ Some (self.new, sent)) }

@@ -143,6 +143,7 @@ impl Center {
     }
 
     /// The core whose slots these are.
+    // That it shows the same slots is proved once, at the one return of `from_slots`.
     fn read(slots: &Values) -> Result<Option<Center>, AllocError>
         ensures { IfOk result (λ read. read ≡ from_slots slots.now) }
     {
