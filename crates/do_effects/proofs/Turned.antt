@@ -1,5 +1,5 @@
 -- The top invocation changed, as the definitions of a run say it and as a node's own state does it.
-use Rattle.std.proofs.Common.{◌≡◌, ℕ, List, [], ◌∷◌, ap, sym, ◌∙◌}
+use Rattle.std.proofs.Common.{◌≡◌, ℕ, List, [], ◌∷◌, ap, sym}
 use Rattle.do_base.specs.declared.values.value.Value.{Value}
 use Rattle.do_behave.specs.Changes.{meaning}
 use Rattle.do_behave.specs.InPlace.{after_act}

@@ -109,37 +109,22 @@ impl Part {
         ensures entries { self.new.room.entries ≡ self.old.room.entries }
     {
         match change {
-            Change::Local { into, value, pc } => {
-                self.set_local(into, value, pc);
-                Ok(())
-            }
-            Change::Goto { pc } => {
-                self.go_to(pc);
-                Ok(())
-            }
-            Change::Slot { slot, value, pc } => {
-                self.step_slot(slot, value, pc);
-                Ok(())
-            }
+            Change::Local { into, value, pc } => self.set_local(into, value, pc),
+            Change::Goto { pc } => self.go_to(pc),
+            Change::Slot { slot, value, pc } => self.step_slot(slot, value, pc),
             Change::Push {
                 list,
                 item,
                 weight,
                 pc,
-            } => self.push_item(list, item, weight, pc),
+            } => self.push_item(list, item, weight, pc)?,
             Change::Slots {
                 sets,
                 handler,
                 writes,
                 pc,
-            } => {
-                self.step_slots(sets, handler, writes, pc);
-                Ok(())
-            }
-            Change::Handler { handler, pc } => {
-                self.exchange(Change::Handler { handler, pc });
-                Ok(())
-            }
+            } => self.step_slots(sets, handler, writes, pc),
+            Change::Handler { handler, pc } => self.exchange(Change::Handler { handler, pc }),
             Change::Other(
                 Act::Step {
                     pc,
@@ -147,11 +132,9 @@ impl Part {
                     handler,
                     writes,
                 },
-            ) => {
-                self.step_act(pc, locals, handler, writes);
-                Ok(())
-            }
+            ) => self.step_act(pc, locals, handler, writes),
             Change::Other(_) => unreachable!(),
         }
+        Ok(())
     }
 }
