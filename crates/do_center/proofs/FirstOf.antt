@@ -1,6 +1,6 @@
 -- What a walk gives that ends at the first that is an observer's: its queue, or the list without it
 -- or with another.
-use Rattle.std.proofs.Common.{◌≡◌, ℕ, zero, suc, Bool, true, false, List, [], ◌∷◌, Option, Some}
+use Rattle.std.proofs.Common.{◌≡◌, ℕ, suc, Bool, true, false, List, [], ◌∷◌, Option, Some}
 use Rattle.std.proofs.Common.{None, refl, ap, ◌∙◌}
 use Rattle.std.specs.Prelude.{if◌then◌else◌, remove, slice_get, slice_set}
 use Rattle.std.specs.Option.{option_map}

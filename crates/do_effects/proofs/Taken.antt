@@ -1,7 +1,6 @@
 -- What the ruling on an item does, behind what comes in the item.
 use Rattle.std.proofs.Common.{◌≡◌, ℕ, List, [], ◌∷◌, ◌++◌, Option, Some, None, refl, ap, sym, ◌∙◌}
-use Rattle.std.proofs.Common.{◌≤◌, ◌==◌, Bool, true, false, cond, not, filter, length, arith}
-use Rattle.do_base.specs.names.Names.{ObjectName}
+use Rattle.std.proofs.Common.{◌≤◌, ◌==◌, not, length}
 use Rattle.std.proofs.lemmas.List.{append-nil}
 use Rattle.do_base.specs.declared.events.exception.Exc.{Exc}
 use Rattle.do_base.specs.declared.events.shown.Shown.{Shown}

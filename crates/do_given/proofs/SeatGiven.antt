@@ -1,5 +1,5 @@
 -- A world that a word gives, and its node of a port.
-use Rattle.std.proofs.Common.{◌≡◌, ◌⊎◌, ℕ, List, Option, None, Some, Ok, Err, inl, inr, ap, sym}
+use Rattle.std.proofs.Common.{◌≡◌, ◌⊎◌, ℕ, List, None, Some, Ok, Err, inl, inr, ap, sym}
 use Rattle.std.proofs.Common.{subst, codes, ◌∙◌, refl}
 use Rattle.do_base.specs.declared.outside.shelf.NamedFile.{NamedFile}
 use Rattle.do_document.specs.declared.fault.WorldFault.TheVariants.{Wrong}

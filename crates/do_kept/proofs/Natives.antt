@@ -1,6 +1,6 @@
 -- A behaviour of classes of all kinds keeps what can be carried.
 use Rattle.std.proofs.Common.{◌≡◌, ℕ, List as Listed, [], ◌∷◌, length}
-use Rattle.std.specs.Prelude.{Option, Some, slice_get, suc, zero}
+use Rattle.std.specs.Prelude.{Some, slice_get, suc, zero}
 use Rattle.std.specs.List.{AllByRecursion}
 use Rattle.std.specs.Option.{IfSome}
 use Rattle.do_base.specs.declared.values.value.Value.{Value}

@@ -15,7 +15,6 @@ use Rattle.do_class.specs.declared.ids.Slot.{Slot}
 use Rattle.do_packet.specs.declared.receipt.Made.{Made}
 use Rattle.do_behave.specs.declared.invocation.Invocation.{Invocation}
 use Rattle.do_behave.specs.declared.invocation.Reason.{Reason}
-use Rattle.do_machine.specs.declared.item.Item.TheVariants as items
 use Rattle.do_machine.specs.declared.node.Node.{Node}
 use Rattle.do_machine.specs.declared.node.Wanted.{Wanted}
 use Rattle.do_machine.specs.declared.state.Effect.{Effect}

@@ -1,6 +1,6 @@
 -- What lines that were done over a network come to, in numbers.
 use Rattle.std.specs.Prelude.{Bool, List, None, Option, Some, [], false, if◌then◌else◌, length}
-use Rattle.std.specs.Prelude.{not, sum_by, true, ℕ, ◌+◌, ◌∷◌}
+use Rattle.std.specs.Prelude.{sum_by, true, ℕ, ◌+◌, ◌∷◌}
 use Rattle.std.specs.List.{count_by}
 use Rattle.do_base.specs.declared.events.shown.Shown.{Shown}
 use Rattle.do_base.specs.declared.events.shown.Shown.TheVariants as shown

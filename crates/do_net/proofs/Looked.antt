@@ -1,5 +1,5 @@
 -- What a caller looks up in a network is what stands there by its places.
-use Rattle.std.proofs.Common.{◌≡◌, ◌==◌, ◌∙◌, ℕ, List, [], ◌∷◌, map, Option, Some, None, refl, ap}
+use Rattle.std.proofs.Common.{◌≡◌, ◌==◌, ℕ, List, [], ◌∷◌, map, Option, Some, None, refl, ap}
 use Rattle.std.specs.Prelude.{option_and_then, position, slice_get}
 use Rattle.std.specs.List.{find, AllByRecursion}
 use Rattle.do_class.specs.Class.{Class}

@@ -1,5 +1,5 @@
 -- What a state of the machine names, in the order of a network's search.
-use Rattle.std.specs.Prelude.{Bool, List, None, Option, Some, [], false, filter, map, not, ℕ, ◌++◌}
+use Rattle.std.specs.Prelude.{List, None, Option, Some, [], false, filter, map, not, ℕ, ◌++◌}
 use Rattle.std.specs.List.{flat_map}
 use Rattle.do_base.specs.names.Names.{ObjectName}
 use Rattle.do_lost.specs.Named.{item_names, node_names, serves}

@@ -1,5 +1,5 @@
 -- The stations of a state are found at their ports, and their queues at their peers.
-use Rattle.std.proofs.Common.{◌≡◌, ◌==◌, ◌∙◌, ℕ, List, map, Some, sym, ap, subst}
+use Rattle.std.proofs.Common.{◌≡◌, ◌==◌, ◌∙◌, ℕ, Some, sym, ap, subst}
 use Rattle.std.specs.Prelude.{find, not, option_and_then, option_map}
 use Rattle.std.specs.List.{IsDistinct}
 use Rattle.do_agreement.proofs.agreement.SnapshotsAgree.{all_found}

@@ -4,7 +4,6 @@ use Rattle.std.specs.Prelude.{true, ℕ, ◌==◌}
 use Rattle.std.specs.Prelude.{◌≡◌}
 use Rattle.std.specs.List.{list_all}
 use Rattle.do_base.specs.names.Names.{ObjectName}
-use Rattle.do_class.specs.Class.{Class}
 use Rattle.do_class.specs.declared.ids.ClassId.{ClassId}
 use Rattle.do_leaks.specs.declared.leak.Leak.{Leak}
 use Rattle.do_machine.specs.Context.{own_class}

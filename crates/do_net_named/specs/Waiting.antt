@@ -9,7 +9,7 @@ use Rattle.do_frames.specs.Frames.{after_frame}
 use Rattle.do_lost.specs.Named.{item_names}
 use Rattle.do_machine.specs.declared.item.Item.{Item}
 use Rattle.do_network.specs.Frames.{item_of, read_frame}
-use Rattle.do_network.specs.Links.{Part, names_read}
+use Rattle.do_network.specs.Links.{names_read}
 use Rattle.do_network.specs.Net.{Carried, Channel, Lost, Net, Whole, channel, part_at}
 
 -- the items of what stands in a channel, up to the first frame that cannot be read; the mark of a

@@ -1,8 +1,7 @@
 -- What is refused, and what something that ran may end with.
-use Rattle.std.proofs.Common.{◌≡◌, ◌⊎◌, ℕ, List, Option, inl, inr, subst, sym}
+use Rattle.std.proofs.Common.{ℕ, List, Option, inl, inr, subst, sym}
 use Rattle.do_base.specs.declared.outside.shelf.NamedFile.{NamedFile}
 use Rattle.do_plan.specs.Form.{Form}
-use Rattle.do_plan.specs.Plan.{plan_form}
 use Rattle.do_plan.specs.Starts.{starts_form}
 use Rattle.do_plan.specs.declared.plan.PlanLine.{PlanLine}
 use Rattle.do_sched.specs.declared.fault.SchedFault.{SchedFault}

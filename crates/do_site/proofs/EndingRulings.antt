@@ -1,5 +1,5 @@
 -- Rulings by which a lend is over or an end closes: they take no memory.
-use Rattle.std.proofs.Common.{◌≡◌, ◌≤◌, ◌+◌, ℕ, false, length, refl, arith}
+use Rattle.std.proofs.Common.{◌≡◌, ◌≤◌, ℕ, false, refl, arith}
 use Rattle.do_frames.specs.declared.frame.Frame.{Frame}
 use Rattle.do_frames.specs.declared.frame.Frame.TheVariants as frames
 use Rattle.do_frames.specs.Frames.{kind_of}

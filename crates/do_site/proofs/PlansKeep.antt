@@ -1,6 +1,6 @@
 -- What a plan keeps of its node, and what it stores.
-use Rattle.std.proofs.Common.{◌≡◌, ℕ, ◌≤◌, false, true, List, [], ◌∷◌, ◌++◌, refl, ap}
-use Rattle.std.proofs.Common.{arith, length, sym, ◌+◌, ◌∙◌}
+use Rattle.std.proofs.Common.{◌≡◌, ℕ, false, true, List, [], ◌∷◌, ◌++◌, refl, ap}
+use Rattle.std.proofs.Common.{arith, sym, ◌+◌, ◌∙◌}
 use Rattle.std.specs.Prelude.{Err, IfOk, Ok, OnOk, Result, Some, slice_get, vec_capacity, ◌&&◌}
 use Rattle.std.proofs.lemmas.List.{append-nil}
 use Rattle.std.specs.List.{list_all}

@@ -1,6 +1,6 @@
 -- Nodes, sites and networks of two, for examples.
 use Rattle.std.proofs.Common.{ℕ, List, [], ◌∷◌, map}
-use Rattle.std.specs.Prelude.{None, Option, Some, false, replicate}
+use Rattle.std.specs.Prelude.{None, replicate}
 use Rattle.do_base.specs.names.Names.{CallName, ObjectName, TokenName}
 use Rattle.do_base.specs.declared.values.value.Value.TheVariants.{Nil}
 use Rattle.do_class.specs.declared.ids.MethodId.{MethodId}
@@ -12,7 +12,7 @@ use Rattle.do_behave.specs.declared.invocation.Reason.TheVariants as reasons
 use Rattle.do_behave.specs.declared.invocation.Waited.TheVariants as waiteds
 use Rattle.do_machine.specs.declared.node.Node.{Node}
 use Rattle.do_network.specs.Links.{Part}
-use Rattle.do_network.specs.Net.{Carried, Channel, Net, Place, opening_channel, opening_link}
+use Rattle.do_network.specs.Net.{Carried, Channel, Net, opening_channel, opening_link}
 use Rattle.do_network.specs.Net.{opening_own}
 
 -- a node of a port with open ends to these peers

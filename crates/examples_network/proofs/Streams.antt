@@ -5,11 +5,11 @@ use Rattle.do_class.specs.declared.packet.Name.TheVariants.{Lent, Mine, Yours}
 use Rattle.do_class.specs.declared.packet.Packet.{Packet}
 use Rattle.do_coder.specs.Recent.{pair}
 use Rattle.do_frames.specs.declared.frame.Frame.{Frame}
-use Rattle.do_frames.specs.declared.frame.Frame.TheVariants.{Oneway, Release, Reply, RootAsk}
+use Rattle.do_frames.specs.declared.frame.Frame.TheVariants.{Release, Reply, RootAsk}
 use Rattle.do_frames.specs.declared.frame.Frame.TheVariants.{Shutdown}
 use Rattle.do_grammar.specs.Num.{num, size}
 use Rattle.do_network.specs.declared.wire.Wire.{Wire}
-use Rattle.do_network.specs.Links.{Link, all_sent, link_to}
+use Rattle.do_network.specs.Links.{Link, all_sent}
 use Rattle.do_network.specs.Frames.{Posted}
 use Rattle.do_network.specs.Net.{opening_link}
 use Rattle.do_network.specs.Step.{wire_of}

@@ -6,7 +6,6 @@ use Rattle.std.specs.List.{list_any}
 use Rattle.do_base.specs.declared.events.shown.Shown.{Shown}
 use Rattle.do_base.specs.declared.events.shown.Shown.TheVariants.{Say, Took}
 use Rattle.do_base.specs.declared.events.shown.Took.TheVariants.{End, Oneway}
-use Rattle.do_base.specs.declared.values.value.Value.{Value}
 use Rattle.do_base.specs.declared.values.value.Value.TheVariants.{Num}
 use Rattle.do_frames.specs.declared.frame.RawFrame.{RawFrame}
 use Rattle.do_network.specs.declared.fault.PeerFault.TheVariants.{BadFrame}

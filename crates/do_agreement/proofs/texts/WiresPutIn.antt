@@ -5,7 +5,6 @@ use Rattle.std.specs.Prelude.{None, Option, Some, codes}
 use Rattle.std.specs.List.{flat_map}
 use Rattle.std.proofs.lemmas.Grind.{flat_map-append}
 use Rattle.std.proofs.lemmas.List.{append-nil}
-use Rattle.do_base.specs.declared.events.shown.Shown.{Shown}
 use Rattle.do_class.specs.Class.{Class}
 use Rattle.do_lines.specs.Block.{shown_by, shown_lines, stepped_node}
 use Rattle.do_lines.specs.Shown.{shown_text}

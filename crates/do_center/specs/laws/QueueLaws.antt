@@ -1,7 +1,7 @@
 -- What holds of registrations and of the queues of their observers holds where some change or go.
 use Rattle.std.proofs.Common.{◌≡◌, ℕ, Bool, List, [], ◌∷◌, Option, Some, None}
 use Rattle.std.proofs.Common.{length, refl, sym, subst}
-use Rattle.std.specs.Prelude.{if◌then◌else◌, not, nat_lt, remove, slice_index_or}
+use Rattle.std.specs.Prelude.{not, nat_lt, remove, slice_index_or}
 use Rattle.std.specs.List.{All}
 use Rattle.std.proofs.lemmas.Bool.{cond_both}
 use Rattle.std.proofs.lemmas.List.Elements.{All-nil, All-cons, All-head, All-tail}

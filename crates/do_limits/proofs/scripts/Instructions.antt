@@ -1,7 +1,7 @@
 -- Each instruction keeps that values can be carried.
 use Rattle.std.proofs.Common.{◌≡◌, ◌++◌, ◌+ℤ◌, ◌-ℤ◌, ◌*ℤ◌, ◌≤◌, ◌∙◌, ℕ, ℤ, Bool, true, false, cond}
 use Rattle.std.proofs.Common.{List as Listed, [], ◌∷◌, length, refl, arith}
-use Rattle.std.specs.Prelude.{None, Option, Some, negsuc, pos, slice_get, slice_set, suc, zero}
+use Rattle.std.specs.Prelude.{None, Option, Some, negsuc, pos, slice_get, slice_set}
 use Rattle.std.specs.Option.{IfSome}
 use Rattle.std.proofs.lemmas.List.{length-set}
 use Rattle.std.proofs.lemmas.List.Elements.{All-from_recursion}

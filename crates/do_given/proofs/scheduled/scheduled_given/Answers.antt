@@ -1,6 +1,6 @@
-use Rattle.std.proofs.Common.{◌≡◌, ◌∙◌, Err, Ok, Some}
+use Rattle.std.proofs.Common.{◌∙◌, Err, Ok, Some}
 use Rattle.do_sched.specs.declared.version.Version.TheVariants.{Second}
-use Rattle.do_given.specs.Reading.{GivesWorld, RefusesWorld, SaysLines, SaysNoLines}
+use Rattle.do_given.specs.Reading.{GivesWorld, RefusesWorld, SaysNoLines}
 use Rattle.do_given.proofs.BothGiven.{first_stops, given_is_read, refuses_behind, refuses_first}
 use Rattle.do_given.proofs.BothGiven.{second_stops}
 use Rattle.do_given.proofs.FilesTold.{no_err}

@@ -1,6 +1,6 @@
-use Rattle.std.proofs.Common.{◌≡◌, ◌∙◌, Err, Ok, Some}
+use Rattle.std.proofs.Common.{◌∙◌, Err, Ok, Some}
 use Rattle.do_plan.specs.Starts.{starts_form}
-use Rattle.do_given.specs.Serving.{GivesSeat, RefusesSeat, SaysNoText, SaysStarts}
+use Rattle.do_given.specs.Serving.{GivesSeat, RefusesSeat, SaysNoText}
 use Rattle.do_given.proofs.BothGiven.{first_stops, given_is_read, refuses_behind, refuses_first}
 use Rattle.do_given.proofs.BothGiven.{second_stops}
 use Rattle.do_given.proofs.FilesTold.{no_err}

@@ -3,7 +3,7 @@ use Rattle.do_node.proofs.AsOneMachine.{memory_adds}
 use Rattle.do_node.proofs.LeaksTold.{leaks_told}
 use Rattle.do_node.proofs.RecordsGiven.{gives_back}
 use Rattle.do_node.proofs.Upgraded.{replayed_alike}
-use Rattle.do_node.proofs.WordsRead.{asked_no_word, memory_told, no_command, none_asked}
+use Rattle.do_node.proofs.WordsRead.{memory_told, no_command, none_asked}
 use Rattle.do_node.proofs.WordsRead.{usage_told}
 use Rattle.do_node.proofs.call.run.Goals as goal
 

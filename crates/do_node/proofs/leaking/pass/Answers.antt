@@ -1,4 +1,4 @@
-use Rattle.std.proofs.Common.{◌≡◌, [], ◌∙◌, ap, rules, sym}
+use Rattle.std.proofs.Common.{◌≡◌, [], ◌∙◌, rules, sym}
 use Rattle.std.proofs.lemmas.List.{nil_from_length}
 use Rattle.std.specs.Vec.Iter.{into_iter_items}
 use Rattle.do_net.specs.Net.{network}

@@ -1,4 +1,3 @@
-use Rattle.std.proofs.Common.{sym}
 use Rattle.do_net.specs.Net.{network}
 use Rattle.do_net.proofs.StandsForStates.{line_as_one}
 use Rattle.do_node.proofs.leaking.pass_line.Goals as goal

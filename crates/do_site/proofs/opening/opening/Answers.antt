@@ -1,5 +1,4 @@
 use Rattle.std.proofs.Common.{◌∙◌, ap}
-use Rattle.do_network.specs.Links.{Part}
 use Rattle.do_effects.specs.Doing.{Doing}
 use Rattle.do_site.proofs.ActsDone.{same_kept}
 use Rattle.do_site.proofs.PlacesKept.{made_places}

@@ -1,4 +1,4 @@
-use Rattle.std.proofs.Common.{◌≡◌, ◌≢◌, ℕ, ◌∙◌, ap, sym, arith, refl}
+use Rattle.std.proofs.Common.{◌∙◌, ap, sym, arith, refl}
 use Rattle.do_base.specs.names.Names.{ObjectName}
 use Rattle.part_samples.proofs.MayName.{foreign_may, stored_may}
 use Rattle.part_samples.proofs.may.may_be_named.Goals as goal

@@ -6,7 +6,7 @@ use Rattle.do_machine.specs.take.Lines.{item_line}
 use Rattle.do_network.specs.Own.{Own, site_context}
 use Rattle.do_rules.specs.Ruling.{ruling}
 use Rattle.do_streams.specs.Reading.{AreKnown, IsReadBy, names_of}
-use Rattle.do_effects.specs.Doing.{Doing, doing, moved}
+use Rattle.do_effects.specs.Doing.{Doing, moved}
 use Rattle.do_effects.specs.Tidy.{IsTidy}
 use Rattle.do_site.specs.Steps.{item_move, with_reading}
 use Rattle.do_site.proofs.ActsDone.{on_err, same_kept}

@@ -1,6 +1,5 @@
-use Rattle.std.proofs.Common.{◌≡◌, ap, subst, sym}
+use Rattle.std.proofs.Common.{subst, sym}
 use Rattle.do_site.specs.Room.{HasPlaceFor, needed, to_keep}
-use Rattle.do_effects.specs.Room.{Needs as Wants}
 use Rattle.do_site.specs.declared.needs.Needs.{Needs}
 use Rattle.do_site.proofs.PlacesKept.{kept_place}
 use Rattle.do_site.proofs.PlansKeep.{on_ok}
