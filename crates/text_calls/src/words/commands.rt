@@ -1,5 +1,6 @@
 //! Calls of the reader of a command's words, and of the texts of `--help` and `--version`.
 
+use crate::repeated::repeated;
 use call_rows::{Part, count_at, count_value, no_call, printed, text_at, text_value};
 use do_base::{Items, Text, Texts, Value, Values};
 use do_cli::{Command, WordFault, push_help, push_version, read_words};
@@ -12,15 +13,6 @@ use std::test::Fail;
 #[derive(Drop)]
 pub(crate) struct CommandCalls {
     alloc: Global,
-}
-
-/// A line with a piece behind it so many times.
-fn repeated(line: &Text, piece: &Text, count: u16) -> Result<Text, AllocError> {
-    let mut line = line.clone()?;
-    for _ in 0..count {
-        line.push_bytes(piece.as_slice())?;
-    }
-    Ok(line)
 }
 
 /// The words of a line, of which a space stands between each two; none in an empty line.
@@ -67,7 +59,7 @@ impl CommandCalls {
     /// The word of a line at which no form goes on, nil where there is none. A piece stands behind
     /// the line so many times.
     fn stuck(&self, line: &Text, piece: &Text, count: u16) -> Result<Value, Fail> {
-        let line = repeated(line, piece, count)?;
+        let line = repeated(self.alloc, line.as_slice(), piece.as_slice(), count)?;
         let words = words(self.alloc, line.as_slice())?;
         match read_words(words.as_slice()) {
             Ok(_) => Ok(Value::Nil),

@@ -1,6 +1,6 @@
 //! Calls of the reader of starts.
 
-use crate::answers::{fault_value, push_count, push_text, push_word, repeated};
+use crate::plans::answers::{fault_value, push_count, push_text, push_word, repeated_at};
 use call_rows::{Part, count_value, no_call, text_at};
 use do_base::{Value, Values};
 use do_grammar::is_text;
@@ -92,7 +92,7 @@ impl Part for StartCalls {
             return self.starts(text_at(args, 0)?.as_slice());
         }
         if is_text(word, b"many_starts") {
-            return self.count_starts(repeated(args)?.as_slice());
+            return self.count_starts(repeated_at(args)?.as_slice());
         }
         no_call()
     }

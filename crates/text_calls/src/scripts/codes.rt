@@ -1,5 +1,7 @@
 //! Calls of the assembler of method texts.
 
+use crate::repeated::repeated;
+use crate::scripts::names::names;
 use call_rows::{Part, count_at, count_value, no_call, number_at, printed, text_at, text_value};
 use do_base::{Text, Texts, Value, Values};
 use do_grammar::is_text;
@@ -19,15 +21,6 @@ pub(crate) struct CodeCalls {
     alloc: Global,
     slots: Texts,
     classes: Texts,
-}
-
-/// These words as a list of names.
-fn names(alloc: Global, words: &[&[u8]]) -> Result<Texts, AllocError> {
-    let mut names = Texts::new(alloc);
-    for word in words {
-        names.push(Text::from_slice(alloc, word)?)?;
-    }
-    Ok(names)
 }
 
 /// The instruction at a place, printed, or nil.
@@ -83,10 +76,7 @@ impl CodeCalls {
 
     /// A first line, as many jumps to the end, and the end.
     fn jumps(&self, first: &Text, count: u16) -> Result<Text, AllocError> {
-        let mut text = first.clone()?;
-        for _jump in 0..count {
-            text.push_bytes(b"jump @end\n")?;
-        }
+        let mut text = repeated(self.alloc, first.as_slice(), b"jump @end\n", count)?;
         text.push_bytes(b"; the end\n@end")?;
         Ok(text)
     }

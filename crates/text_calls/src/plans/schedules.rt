@@ -1,5 +1,6 @@
 //! Calls of the readers of schedules, and of their printer.
 
+use crate::repeated::repeated;
 use call_rows::{Part, count_value, no_call, number_at, printed, text_at};
 use do_base::{Text, Value, Values};
 use do_grammar::is_text;
@@ -76,10 +77,7 @@ impl ScheduleCalls {
 
     /// A thousand runs of a thousand steps, and then these lines.
     fn million(&self, last: &Text) -> Result<Value, Fail> {
-        let mut text = Text::from_slice(self.alloc, b"schedule 2\n")?;
-        for _run in 0..1000 {
-            text.push_bytes(b"run 1 1000\n")?;
-        }
+        let mut text = repeated(self.alloc, b"schedule 2\n", b"run 1 1000\n", 1000)?;
         text.push_bytes(last.as_slice())?;
         self.lines(&text)
     }

@@ -1,5 +1,6 @@
-//! What the arguments and answers of several files share.
+//! What the arguments and answers of rows of starts and of plans share.
 
+use crate::repeated::repeated;
 use call_rows::{count_at, text_at};
 use do_base::{Text, Value, Values};
 use do_sched::SchedFault;
@@ -43,19 +44,13 @@ pub(crate) fn fault_value(alloc: Global, fault: SchedFault) -> Result<Value, Fai
     Ok(Value::List(answer))
 }
 
-/// The line of the third argument behind a text, as often as the second says, and the fourth.
-fn push_repeated(text: &mut Text, args: &Values) -> Result<(), Fail> {
+/// The first argument, the third behind it as often as the second says, and the fourth.
+pub(crate) fn repeated_at(args: &Values) -> Result<Text, Fail> {
+    let first = text_at(args, 0)?.as_slice();
+    let count = count_at(args, 1)?;
     let line = text_at(args, 2)?.as_slice();
-    for _line in 0..count_at(args, 1)? {
-        text.push_bytes(line)?;
-    }
-    text.push_bytes(text_at(args, 3)?.as_slice())?;
-    Ok(())
-}
-
-/// A first line, a line so many times, and a last part.
-pub(crate) fn repeated(args: &Values) -> Result<Text, Fail> {
-    let mut text = text_at(args, 0)?.clone()?;
-    push_repeated(&mut text, args)?;
+    let last = text_at(args, 3)?.as_slice();
+    let mut text = repeated(args.allocator(), first, line, count)?;
+    text.push_bytes(last)?;
     Ok(text)
 }

@@ -1,9 +1,10 @@
 //! Programs of one method, from its text.
 
-use do_base::{Text, Texts};
+use crate::scripts::names::names;
+use do_base::Text;
 use do_behave::{ClassCodes, Codes, Program};
 use do_class::{ClassTable, Methods, Slots};
-use do_script::{Code, Names, assemble};
+use do_script::{Code, assemble};
 use std::alloc::{AllocError, Global};
 use std::test::Fail;
 
@@ -15,15 +16,6 @@ pub(crate) fn two_classes(alloc: Global) -> Result<ClassTable, Fail> {
     let second = Text::from_slice(alloc, b"Second")?;
     table.add_class(second, Slots::new(alloc), Methods::new(alloc))?;
     Ok(table)
-}
-
-/// These words as names.
-fn names(alloc: Global, words: &[&[u8]]) -> Result<Names, AllocError> {
-    let mut names = Texts::new(alloc);
-    for word in words {
-        names.push(Text::from_slice(alloc, word)?)?;
-    }
-    Ok(names)
 }
 
 /// The code of a method's text: its slots are `a`, `b` and `c`, its classes `First` and `Second`.

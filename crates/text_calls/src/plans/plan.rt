@@ -1,6 +1,6 @@
 //! Calls of the reader of plans.
 
-use crate::answers::{fault_value, push_count, push_text, repeated};
+use crate::plans::answers::{fault_value, push_count, push_text, repeated_at};
 use call_rows::{Part, count_value, no_call, text_at};
 use do_base::{Value, Values};
 use do_grammar::is_text;
@@ -73,7 +73,7 @@ impl Part for PlanCalls {
             return self.plan(text_at(args, 0)?.as_slice());
         }
         if is_text(word, b"many_nodes") {
-            return self.count_plan(repeated(args)?.as_slice());
+            return self.count_plan(repeated_at(args)?.as_slice());
         }
         no_call()
     }

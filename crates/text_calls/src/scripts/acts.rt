@@ -1,8 +1,8 @@
 //! An invocation of a script with the slots of its object, and its acts.
 
-use crate::changes::{add_handler, add_locals, add_slots, sets_of, values_of, writes_of};
-use crate::frames::{invocation, set_first, slots};
-use crate::programs::{program_of, text_around, two_classes};
+use crate::scripts::changes::{add_handler, add_locals, add_slots, sets_of, values_of, writes_of};
+use crate::scripts::frames::{invocation, set_first, slots};
+use crate::scripts::programs::{program_of, text_around, two_classes};
 use call_rows::{Part, act_value, copy_at, count_at, list_at, local_at, no_call, word_with};
 use do_base::{Value, Values};
 use do_behave::{Act, Change, Handler, Held, Invocation, Program, act_in_place, make_change};
