@@ -5,10 +5,10 @@ mod exchanges;
 mod invocations;
 mod waiting;
 
-use crate::arguments::{amount_at, node_at};
-use crate::stack::changes::{Script, act, replace_locals, set_locals};
-use crate::stack::invocations::{invocation_or_nil, local_or_nil};
-use crate::stack::waiting::{abandon, call_of_peer, is_call_word, take_answer};
+use crate::parts::arguments::{amount_at, node_at};
+use crate::parts::stack::changes::{Script, act, replace_locals, set_locals};
+use crate::parts::stack::invocations::{invocation_or_nil, local_or_nil};
+use crate::parts::stack::waiting::{abandon, call_of_peer, is_call_word, take_answer};
 use call_rows::{Part, copy_at, count_at, count_value, local_at, no_call, value_at};
 use do_base::{Oid, Value, Values};
 use do_behave::Invocation;

@@ -2,8 +2,8 @@
 ghost use Rattle.std.specs.Prelude.{IsTrue, IsSome};
 ghost use Rattle.do_stack.specs.Late.{top_call};
 
-use crate::arguments::{call_at, node_at};
-use crate::stack::invocations::{answer_value, asked_at, asked_value};
+use crate::parts::arguments::{call_at, node_at};
+use crate::parts::stack::invocations::{answer_value, asked_at, asked_value};
 use call_rows::{copy_at, no_call, number_at};
 use do_base::{CallId, Exc, NodeId, Value, Values};
 use do_behave::{Answer, InvState};

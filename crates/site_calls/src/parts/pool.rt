@@ -1,7 +1,7 @@
 //! Calls of a pool of queues.
 ghost use Rattle.std.specs.Prelude.{◌≡◌, length};
 
-use crate::arguments::amount_at;
+use crate::parts::arguments::amount_at;
 use call_rows::{Part, count_at, no_call, number_at, number_or_nil};
 use do_base::{Value, Values};
 use do_grammar::is_text;

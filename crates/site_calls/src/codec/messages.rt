@@ -1,7 +1,7 @@
 //! Calls of what reads and writes packets and frames, by tables of the objects named lately.
 
-use crate::loads::{empty, put_object, put_texts};
-use crate::reading::Reading;
+use crate::codec::loads::{empty, put_object, put_texts};
+use crate::codec::reading::Reading;
 use bytes::Bytes;
 use call_rows::{
     Part, count_at, count_value, no_call, number_at, text_at, text_value, value_at, word_with,

@@ -1,6 +1,6 @@
 //! Changes of the top of a stack: by the code of its method, or of all locals and of several.
 
-use crate::stack::exchanges::exchanged_or_nil;
+use crate::parts::stack::exchanges::exchanged_or_nil;
 use call_rows::{copy_at, count_at, list_at, text_at};
 use do_base::{Text, Value, Values, copy_value};
 use do_behave::{

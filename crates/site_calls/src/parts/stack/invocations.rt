@@ -1,7 +1,7 @@
 //! Invocations, and what they wait for and have, as values. A call is written as an object: the
 //! caller's port, and its number.
 
-use crate::answers::triple_value;
+use crate::parts::answers::triple_value;
 use call_rows::{count_at, text_value, value_at, word_with};
 use do_base::{CallId, Exc, NodeId, Oid, Value, Values, copy_value};
 use do_behave::{Answer, InvState, Invocation, Waited};

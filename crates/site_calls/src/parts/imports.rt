@@ -2,9 +2,9 @@
 
 mod tokens;
 
-use crate::answers::{amount_value, ask_value, class_or_nil, left_value};
-use crate::arguments::{amount_at, class_at, node_at};
-use crate::imports::tokens::{ask_call, is_ask_word, lend, settle};
+use crate::parts::answers::{amount_value, ask_value, class_or_nil, left_value};
+use crate::parts::arguments::{amount_at, class_at, node_at};
+use crate::parts::imports::tokens::{ask_call, is_ask_word, lend, settle};
 use call_rows::{Part, count_at, no_call, object_at};
 use do_base::{NodeId, Oid, Value, Values};
 use do_class::ClassId;

@@ -1,8 +1,8 @@
 //! Calls of a store, whose objects have two slots: the second is nil when they are made.
 ghost use Rattle.std.specs.Prelude.{◌≡◌};
 
-use crate::answers::{amount_value, class_value, pair_value, triple_value};
-use crate::arguments::{amount_at, class_at, node_at};
+use crate::parts::answers::{amount_value, class_value, pair_value, triple_value};
+use crate::parts::arguments::{amount_at, class_at, node_at};
 use call_rows::{Part, copy_at, count_at, no_call, object_at, object_or_nil, text_value};
 use do_base::{NodeId, Oid, Value, Values};
 use do_class::ClassId;

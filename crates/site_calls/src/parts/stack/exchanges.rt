@@ -1,6 +1,6 @@
 //! What a change of the top of a stack took out of the locals, and what is left to do, as values.
 
-use crate::answers::{pair_value, triple_value};
+use crate::parts::answers::{pair_value, triple_value};
 use call_rows::{count_value, list_from, text_value, word_with};
 use do_base::{Value, Values, copy_value};
 use do_behave::{Act, Frame, Writes};

@@ -1,8 +1,8 @@
 //! Calls of imports about lends and asks. A token is written as an object: the lender's port, and
 //! its number.
 
-use crate::answers::{done_or_nil, token_value};
-use crate::arguments::{class_at, node_at, token_at};
+use crate::parts::answers::{done_or_nil, token_value};
+use crate::parts::arguments::{class_at, node_at, token_at};
 use call_rows::{no_call, object_at, object_or_nil};
 use do_base::{Oid, Token, Value, Values};
 use do_grammar::is_text;

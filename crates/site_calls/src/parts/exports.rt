@@ -2,8 +2,8 @@
 //!
 //! An entry is written as an object: the peer's port, and the serial of the own object.
 
-use crate::answers::{amount_or_nil, amount_value, triple_value};
-use crate::arguments::{amount_at, node_at};
+use crate::parts::answers::{amount_or_nil, amount_value, triple_value};
+use crate::parts::arguments::{amount_at, node_at};
 use call_rows::{Part, count_at, no_call, object_at, text_value};
 use do_base::{NodeId, Oid, Value, Values};
 use do_export::{Exports, OverRelease};
