@@ -1,45 +1,43 @@
-ghost use Rattle.std.specs.Prelude.{◌≡◌, IfOk};
-ghost use Rattle.do_behave.specs.Changes.{Means};
-ghost use Rattle.do_behave.specs.Steps.{or_fault};
-ghost use Rattle.do_native_acts.specs.Places.{in_two};
-ghost use Rattle.do_names.specs.Acts.{first};
-
-use crate::calls::call_in;
+use crate::calls::{Call, call_in};
 use crate::names::Names;
-use do_base::{Exc, Text, Values};
-use do_behave::{Act, Behaviour, Change, Invocation};
+use do_base::{Text, Value, Values};
+use do_behave::{Behaviour, Change, Invocation};
 use do_class::ClassTable;
-use do_native_acts::{CoreFault, answer, answered, changes, selector_in};
+use do_native_acts::{Core, CoreFault, call_act, selector_in};
 use std::alloc::AllocError;
 
-/// The first act of a method: all that it does but returning.
-fn first(selector: &Text, inv: &Invocation, slots: &Values) -> Result<Change, AllocError>
-    ensures { IfOk result (λ change.
-        Means inv.now change (or_fault (first selector.now inv.now slots.now))) }
-{
-    let Some(mut names) = Names::from_slots(slots)? else {
-        return Ok(Change::type_fault());
-    };
-    let Some(call) = call_in(selector, inv)? else {
-        return Ok(Change::type_fault());
-    };
-    match names.perform(call) {
-        Ok(value) => answered(inv, value, changes(slots, &names.to_slots()?)?),
-        Err(CoreFault::Full(_)) => Ok(Change::Other(Act::Raise(Exc::Range))),
-        Err(CoreFault::Memory) => Err(AllocError),
-    }
-}
+impl Core for Names {
+    ghost use Rattle.do_names.specs.Calls.{IsCall, call_in, does};
+    ghost use Rattle.do_names.specs.Core.{from_slots, to_slots};
 
-/// The act of the method with this selector.
-fn method_act(selector: &Text, inv: &Invocation, slots: &Values) -> Result<Change, AllocError>
-    ensures { IfOk result (λ change.
-        Means inv.now change
-        (or_fault (in_two inv.now (first selector.now inv.now slots.now)))) }
-{
-    match inv.pc {
-        0 => first(selector, inv, slots),
-        1 => answer(inv),
-        _ => Ok(Change::type_fault()),
+    type Call = Call;
+
+    ghost read = { from_slots };
+
+    ghost shown = { to_slots };
+
+    ghost asked = { call_in };
+
+    ghost Takes = { IsCall };
+
+    ghost leaves = { does };
+
+    ghost limit = { λ _. 512 };
+
+    fn from_slots(slots: &Values) -> Result<Option<Names>, AllocError> {
+        Names::from_slots(slots)
+    }
+
+    fn to_slots(&self) -> Result<Values, AllocError> {
+        self.to_slots()
+    }
+
+    fn call_in(selector: &Text, inv: &Invocation) -> Result<Option<Call>, AllocError> {
+        call_in(selector, inv)
+    }
+
+    fn perform(&mut self, call: Call) -> Result<Value, CoreFault> {
+        self.perform(call)
     }
 }
 
@@ -67,7 +65,7 @@ impl Behaviour for NameServer {
         slots: &Values,
     ) -> Result<Change, AllocError> {
         match selector_in(table, inv) {
-            Some(selector) => method_act(selector, inv, slots),
+            Some(selector) => call_act::<Names>(selector, inv, slots),
             None => Ok(Change::type_fault()),
         }
     }

@@ -6,6 +6,7 @@
 #![tactic(auto)]
 
 mod answers;
+mod cores;
 mod fault;
 mod limits;
 mod locals;
@@ -16,6 +17,7 @@ mod steps;
 mod types;
 
 pub use answers::{answer, send};
+pub use cores::{Core, call_act};
 pub use fault::CoreFault;
 pub use limits::is_limited;
 pub use locals::{as_number, local_number, local_owner, local_text, owner_in};

@@ -8,3 +8,4 @@ pub mod Added
 pub mod Supplied
 pub mod IsTold
 pub mod MergedRows
+pub mod CallsFit

@@ -1,49 +1,51 @@
 ghost use Rattle.std.specs.Prelude.{◌≡◌, IfOk};
-ghost use Rattle.do_native_acts.specs.Places.{does_call, in_two};
 ghost use Rattle.do_behave.specs.Changes.{Means};
 ghost use Rattle.do_behave.specs.Steps.{or_fault};
-ghost use Rattle.do_pboard.specs.Acts.{answers, method_act};
-ghost use Rattle.do_pboard.specs.Calls.{call_in, does};
-ghost use Rattle.do_pboard.specs.Core.{from_slots, to_slots};
+ghost use Rattle.do_pboard.specs.Acts.{method_act};
 
 use crate::asking::data_act;
 use crate::board::Board;
-use crate::calls::call_in;
+use crate::calls::{Call, call_in};
 use crate::declaring::declare_act;
 use crate::naming::name_act;
-use do_base::{Exc, Text, Values};
-use do_behave::{Act, Behaviour, Change, Invocation};
+use do_base::{Text, Value, Values};
+use do_behave::{Behaviour, Change, Invocation};
 use do_class::ClassTable;
-use do_native_acts::{CoreFault, answer, answered, changes, selector_in};
+use do_native_acts::{Core, CoreFault, call_act, selector_in};
 use std::alloc::AllocError;
 
-/// The first act of a method that only answers: all that it does but returning.
-fn first(selector: &Text, inv: &Invocation, slots: &Values) -> Result<Change, AllocError>
-    ensures { IfOk result (λ change. Means inv.now change (or_fault
-        (does_call from_slots to_slots does (call_in selector.now inv.now) inv.now slots.now))) }
-{
-    let Some(mut board) = Board::from_slots(slots)? else {
-        return Ok(Change::type_fault());
-    };
-    let Some(call) = call_in(selector, inv)? else {
-        return Ok(Change::type_fault());
-    };
-    match board.perform(call) {
-        Ok(value) => answered(inv, value, changes(slots, &board.to_slots()?)?),
-        Err(CoreFault::Full(_)) => Ok(Change::Other(Act::Raise(Exc::Range))),
-        Err(CoreFault::Memory) => Err(AllocError),
-    }
-}
+impl Core for Board {
+    ghost use Rattle.do_pboard.specs.Calls.{IsCall, call_in, does, limit_of};
+    ghost use Rattle.do_pboard.specs.Core.{from_slots, to_slots};
 
-/// The act of a method that only answers.
-fn answers(selector: &Text, inv: &Invocation, slots: &Values) -> Result<Change, AllocError>
-    ensures { IfOk result (λ change.
-        Means inv.now change (or_fault (answers selector.now inv.now slots.now))) }
-{
-    match inv.pc {
-        0 => first(selector, inv, slots),
-        1 => answer(inv),
-        _ => Ok(Change::type_fault()),
+    type Call = Call;
+
+    ghost read = { from_slots };
+
+    ghost shown = { to_slots };
+
+    ghost asked = { call_in };
+
+    ghost Takes = { IsCall };
+
+    ghost leaves = { does };
+
+    ghost limit = { limit_of };
+
+    fn from_slots(slots: &Values) -> Result<Option<Board>, AllocError> {
+        Board::from_slots(slots)
+    }
+
+    fn to_slots(&self) -> Result<Values, AllocError> {
+        self.to_slots()
+    }
+
+    fn call_in(selector: &Text, inv: &Invocation) -> Result<Option<Call>, AllocError> {
+        call_in(selector, inv)
+    }
+
+    fn perform(&mut self, call: Call) -> Result<Value, CoreFault> {
+        self.perform(call)
     }
 }
 
@@ -61,7 +63,7 @@ fn method_act(selector: &Text, inv: &Invocation, slots: &Values) -> Result<Chang
     if selector.is(b"pasteboardNamed:") {
         return name_act(inv, slots);
     }
-    answers(selector, inv, slots)
+    call_act::<Board>(selector, inv, slots)
 }
 
 /// The behaviour of pasteboards. The slots of one hold its change count, its owner, the types,
