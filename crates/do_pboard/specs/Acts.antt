@@ -40,13 +40,16 @@ declare_next inv None answer slots new =
 declare_next inv (Some former) answer slots new =
     steps inv 1 (set 2 (Obj former) ∷ set 14 answer ∷ []) (caught_to 2) (changes 0 slots new)
 
--- declares types of an owner
-abbrev pub declares : Invocation → Listed Value → Option Act
-declares inv slots =
-    from_slots slots >>? λ b. local inv 0 >>? types_in >>? λ types.
-    local inv 1 >>? owner_in >>? λ owner.
+-- declares types of an owner on this pasteboard
+abbrev pub declares_on : Invocation → Listed Value → Pasteboard → Option Act
+declares_on inv slots b =
+    local inv 0 >>? types_in >>? λ types. local inv 1 >>? owner_in >>? λ owner.
     Some (fits (does b (Declare types owner))
     (λ d. declare_next inv (to_tell b.owner owner) d.1 slots (to_slots d.0)))
+
+-- declares types of an owner
+abbrev pub declares : Invocation → Listed Value → Option Act
+declares inv slots = from_slots slots >>? declares_on inv slots
 
 abbrev pub changed_owner : Listed ℕ
 changed_owner = codes "pasteboardChangedOwner:"
@@ -67,11 +70,14 @@ look_next inv count (Here content) =
     steps inv 3 (look_sets Nil count (set 14 (Text content) ∷ [])) inv.handler []
 look_next inv count Absent = steps inv 3 (look_sets Nil count (set 14 Nil ∷ [])) inv.handler []
 
+-- looks for the data of a type on this pasteboard
+abbrev pub looks_on : Invocation → Pasteboard → Option Act
+looks_on inv b =
+    local inv 0 >>? text >>? λ kind. Some (look_next inv b.count (data_for b kind))
+
 -- looks for the data of a type
 abbrev pub looks : Invocation → Listed Value → Option Act
-looks inv slots =
-    from_slots slots >>? λ b. local inv 0 >>? text >>? λ kind.
-    Some (look_next inv b.count (data_for b kind))
+looks inv slots = from_slots slots >>? looks_on inv
 
 -- the data, if it is there
 abbrev pub if_here : BoardData → Value
@@ -82,11 +88,15 @@ if_here _ = Nil
 abbrev pub found_now : Pasteboard → Listed ℕ → ℤ → Value
 found_now b kind count = if int_eq count (pos b.count) then if_here (data_for b kind) else Nil
 
+-- looks again on this pasteboard, once the owner was asked
+abbrev pub looks_again_on : Invocation → Pasteboard → Option Act
+looks_again_on inv b =
+    local inv 0 >>? text >>? λ kind. local inv 2 >>? number >>? λ count.
+    Some (steps inv 3 (set 14 (found_now b kind count) ∷ []) inv.handler [])
+
 -- looks again, once the owner was asked
 abbrev pub looks_again : Invocation → Listed Value → Option Act
-looks_again inv slots =
-    from_slots slots >>? λ b. local inv 0 >>? text >>? λ kind. local inv 2 >>? number >>? λ count.
-    Some (steps inv 3 (set 14 (found_now b kind count) ∷ []) inv.handler [])
+looks_again inv slots = from_slots slots >>? looks_again_on inv
 
 abbrev pub provide : Listed ℕ
 provide = codes "pasteboard:provideDataForType:"
@@ -119,12 +129,16 @@ names_look inv slots =
     from_slots slots >>? λ b. local inv 0 >>? text >>? λ name.
     Some (name_next inv b name (value_of b.boards name))
 
--- keeps the new pasteboard under the name
-abbrev pub names_keep : Invocation → Listed Value → Option Act
-names_keep inv slots =
-    from_slots slots >>? λ b. local inv 0 >>? text >>? λ name. local inv 1 >>? object >>? λ new.
+-- keeps the new pasteboard under the name on this one
+abbrev pub names_keep_on : Invocation → Listed Value → Pasteboard → Option Act
+names_keep_on inv slots b =
+    local inv 0 >>? text >>? λ name. local inv 1 >>? object >>? λ new.
     Some (fits (keeps b name new)
     (λ d. steps inv 3 (set 14 (Obj d.1) ∷ []) inv.handler (changes 0 slots (to_slots d.0))))
+
+-- keeps the new pasteboard under the name
+abbrev pub names_keep : Invocation → Listed Value → Option Act
+names_keep inv slots = from_slots slots >>? names_keep_on inv slots
 
 -- the places of `pasteboardNamed:`
 abbrev pub name_places : Invocation → Listed Value → Listed (Option Act)

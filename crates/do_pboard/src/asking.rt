@@ -6,7 +6,7 @@ ghost use Rattle.do_behave.specs.Steps.{or_fault};
 ghost use Rattle.do_native_acts.specs.Places.{at_place};
 ghost use Rattle.do_native_acts.specs.Steps.{set};
 ghost use Rattle.do_pboard.specs.Acts.{asks, data_places, found_now, look_next, look_sets, looks};
-ghost use Rattle.do_pboard.specs.Acts.{looks_again};
+ghost use Rattle.do_pboard.specs.Acts.{looks_again, looks_again_on, looks_on};
 
 use crate::board::{Board, BoardData};
 use crate::sets::{ANSWER, caught_to, one_set, two_sets};
@@ -45,15 +45,22 @@ fn look_next(inv: &Invocation, board: &Board, found: BoardData) -> Result<Change
     Ok(step(inv, 3, sets, inv.handler, Writes::new(alloc)))
 }
 
+/// Looks for the data on this pasteboard.
+fn looks_on(board: &Board, inv: &Invocation) -> Result<Change, AllocError>
+    ensures { IfOk result (λ change. Means inv.now change (or_fault (looks_on inv.now board.now))) }
+{
+    match local_text(inv, 0) {
+        Some(kind) => look_next(inv, board, board.data_for(kind)?),
+        None => Ok(Change::type_fault()),
+    }
+}
+
 /// Looks for the data.
 fn looks(inv: &Invocation, slots: &Values) -> Result<Change, AllocError>
     ensures { IfOk result (λ change. Means inv.now change (or_fault (looks inv.now slots.now))) }
 {
-    let Some(board) = Board::from_slots(slots)? else {
-        return Ok(Change::type_fault());
-    };
-    match local_text(inv, 0) {
-        Some(kind) => look_next(inv, &board, board.data_for(kind)?),
+    match Board::from_slots(slots)? {
+        Some(board) => looks_on(&board, inv),
         None => Ok(Change::type_fault()),
     }
 }
@@ -84,14 +91,11 @@ fn found_now(board: &Board, kind: &Text, count: i64) -> Result<Value, AllocError
     }
 }
 
-/// Looks again, once the owner was asked.
-fn looks_again(inv: &Invocation, slots: &Values) -> Result<Change, AllocError>
+/// Looks again on this pasteboard, once the owner was asked.
+fn looks_again_on(board: &Board, inv: &Invocation) -> Result<Change, AllocError>
     ensures { IfOk result (λ change.
-        Means inv.now change (or_fault (looks_again inv.now slots.now))) }
+        Means inv.now change (or_fault (looks_again_on inv.now board.now))) }
 {
-    let Some(board) = Board::from_slots(slots)? else {
-        return Ok(Change::type_fault());
-    };
     let Some(kind) = local_text(inv, 0) else {
         return Ok(Change::type_fault());
     };
@@ -99,8 +103,19 @@ fn looks_again(inv: &Invocation, slots: &Values) -> Result<Change, AllocError>
         return Ok(Change::type_fault());
     };
     let alloc = inv.locals.allocator();
-    let sets = one_set(alloc, ANSWER, found_now(&board, kind, count)?)?;
+    let sets = one_set(alloc, ANSWER, found_now(board, kind, count)?)?;
     Ok(step(inv, 3, sets, inv.handler, Writes::new(alloc)))
+}
+
+/// Looks again, once the owner was asked.
+fn looks_again(inv: &Invocation, slots: &Values) -> Result<Change, AllocError>
+    ensures { IfOk result (λ change.
+        Means inv.now change (or_fault (looks_again inv.now slots.now))) }
+{
+    match Board::from_slots(slots)? {
+        Some(board) => looks_again_on(&board, inv),
+        None => Ok(Change::type_fault()),
+    }
 }
 
 /// The act of `dataForType:` at its place.

@@ -169,15 +169,13 @@ fn declare(board: &mut Board, types: Texts, owner: Option<Oid>) -> Result<Value,
 }
 
 impl Board {
-    /// Does a call, and gives its answer as a value: a change count, 1 or 0 for yes or no, a text,
-    /// an object, a list of texts, or nil for none. On any error the pasteboard is unchanged.
-    #[tactic(auto, using(do_native_acts::specs::laws::HistoryLaws::after_call))]
-    pub fn perform(&mut self, call: Call) -> Result<Value, CoreFault>
+    /// Does a call, and gives its answer as a value.
+    // What calls in a row come to is proved once, at the one return of `perform`, and not at each
+    // arm here.
+    fn answer(&mut self, call: Call) -> Result<Value, CoreFault>
         requires { IsCall call }
         ensures done { IfOk result (λ answer. does self.old call ≡ Some (self.new, answer)) }
         ensures fault { IfErr result (FaultOf (limit_of call) (does self.old call)) }
-        ensures history { (h : List Call) → self.old ≡ after h
-            → OnOk result (self.new ≡ after (call ∷ h)) }
         ensures err { OnErr result (self.new ≡ self.old) }
     {
         match call {
@@ -199,5 +197,18 @@ impl Board {
                 Err(fault) => Err(fault),
             },
         }
+    }
+
+    /// Does a call, and gives its answer as a value: a change count, 1 or 0 for yes or no, a text,
+    /// an object, a list of texts, or nil for none. On any error the pasteboard is unchanged.
+    pub fn perform(&mut self, call: Call) -> Result<Value, CoreFault>
+        requires { IsCall call }
+        ensures done { IfOk result (λ answer. does self.old call ≡ Some (self.new, answer)) }
+        ensures fault { IfErr result (FaultOf (limit_of call) (does self.old call)) }
+        ensures history { (h : List Call) → self.old ≡ after h
+            → OnOk result (self.new ≡ after (call ∷ h)) }
+        ensures err { OnErr result (self.new ≡ self.old) }
+    {
+        self.answer(call)
     }
 }

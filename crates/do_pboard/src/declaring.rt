@@ -5,7 +5,7 @@ ghost use Rattle.do_behave.specs.Changes.{Means};
 ghost use Rattle.do_behave.specs.Steps.{or_fault};
 ghost use Rattle.do_native_acts.specs.Places.{at_place, sends};
 ghost use Rattle.do_pboard.specs.Acts.{changed_owner, declare_next, declare_places, declares};
-ghost use Rattle.do_pboard.specs.Acts.{to_tell};
+ghost use Rattle.do_pboard.specs.Acts.{declares_on, to_tell};
 ghost use Rattle.do_pboard.specs.Core.{to_slots};
 
 use crate::board::Board;
@@ -53,14 +53,11 @@ fn declare_next(
     }
 }
 
-/// Declares the types.
-fn declares(inv: &Invocation, slots: &Values) -> Result<Change, AllocError>
+/// Declares the types on this pasteboard.
+fn declares_on(board: &mut Board, inv: &Invocation, slots: &Values) -> Result<Change, AllocError>
     ensures { IfOk result (λ change.
-        Means inv.now change (or_fault (declares inv.now slots.now))) }
+        Means inv.now change (or_fault (declares_on inv.now slots.now board.old))) }
 {
-    let Some(mut board) = Board::from_slots(slots)? else {
-        return Ok(Change::type_fault());
-    };
     let Some(types) = local_types(inv, 0)? else {
         return Ok(Change::type_fault());
     };
@@ -69,9 +66,20 @@ fn declares(inv: &Invocation, slots: &Values) -> Result<Change, AllocError>
     };
     let told = to_tell(board.owner(), &owner);
     match board.perform(Call::Declare { types, owner }) {
-        Ok(answer) => declare_next(inv, told, answer, slots, &board),
+        Ok(answer) => declare_next(inv, told, answer, slots, board),
         Err(CoreFault::Full(_)) => Ok(Change::Other(Act::Raise(Exc::Range))),
         Err(CoreFault::Memory) => Err(AllocError),
+    }
+}
+
+/// Declares the types.
+fn declares(inv: &Invocation, slots: &Values) -> Result<Change, AllocError>
+    ensures { IfOk result (λ change.
+        Means inv.now change (or_fault (declares inv.now slots.now))) }
+{
+    match Board::from_slots(slots)? {
+        Some(mut board) => declares_on(&mut board, inv, slots),
+        None => Ok(Change::type_fault()),
     }
 }
 

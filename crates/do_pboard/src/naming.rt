@@ -8,6 +8,7 @@ ghost use Rattle.do_base.specs.values.Kinds.{object};
 ghost use Rattle.do_grammar.specs.Words.{◌>>?◌};
 ghost use Rattle.do_behave.specs.Steps.{local};
 ghost use Rattle.do_pboard.specs.Acts.{makes_next, name_next, name_places, names_keep, names_look};
+ghost use Rattle.do_pboard.specs.Acts.{names_keep_on};
 ghost use Rattle.do_pboard.specs.Changes.{keeps};
 
 use crate::board::Board;
@@ -32,13 +33,12 @@ fn makes_next(inv: &Invocation, board: &Board) -> Result<Change, AllocError>
 
 /// The step where nothing is kept under the name yet: whether there is room is seen with the own
 /// object, which is as heavy as a new one.
-fn makes(inv: &Invocation, board: Board, name: &Text) -> Result<Change, AllocError>
+fn makes(inv: &Invocation, board: &mut Board, name: &Text) -> Result<Change, AllocError>
     ensures { IfOk result (λ change. Means inv.now change
-        (fits (keeps board name.now inv.now.object) (λ d. makes_next inv.now d.0))) }
+        (fits (keeps board.old name.now inv.now.object) (λ d. makes_next inv.now d.0))) }
 {
-    let mut board = board;
     match board.keep(name.clone()?, inv.object) {
-        Ok(_) => makes_next(inv, &board),
+        Ok(_) => makes_next(inv, board),
         Err(CoreFault::Full(_)) => Ok(Change::Other(Act::Raise(Exc::Range))),
         Err(CoreFault::Memory) => Err(AllocError),
     }
@@ -47,12 +47,12 @@ fn makes(inv: &Invocation, board: Board, name: &Text) -> Result<Change, AllocErr
 /// The step after the name was looked for.
 fn name_next(
     inv: &Invocation,
-    board: Board,
+    board: &mut Board,
     name: &Text,
     kept: Option<Oid>,
 ) -> Result<Change, AllocError>
     ensures { IfOk result (λ change.
-        Means inv.now change (name_next inv.now board name.now kept)) }
+        Means inv.now change (name_next inv.now board.old name.now kept)) }
 {
     let Some(kept) = kept else {
         return makes(inv, board, name);
@@ -67,14 +67,14 @@ fn names_look(inv: &Invocation, slots: &Values) -> Result<Change, AllocError>
     ensures { IfOk result (λ change.
         Means inv.now change (or_fault (names_look inv.now slots.now))) }
 {
-    let Some(board) = Board::from_slots(slots)? else {
+    let Some(mut board) = Board::from_slots(slots)? else {
         return Ok(Change::type_fault());
     };
     let Some(name) = local_text(inv, 0) else {
         return Ok(Change::type_fault());
     };
     let kept = board.named(name);
-    name_next(inv, board, name, kept)
+    name_next(inv, &mut board, name, kept)
 }
 
 /// The object that local 1 holds.
@@ -84,14 +84,11 @@ fn new_board(inv: &Invocation) -> Option<Oid>
     inv.local(1)?.object()
 }
 
-/// Keeps the new pasteboard under the name.
-fn names_keep(inv: &Invocation, slots: &Values) -> Result<Change, AllocError>
+/// Keeps the new pasteboard under the name on this one.
+fn names_keep_on(board: &mut Board, inv: &Invocation, slots: &Values) -> Result<Change, AllocError>
     ensures { IfOk result (λ change.
-        Means inv.now change (or_fault (names_keep inv.now slots.now))) }
+        Means inv.now change (or_fault (names_keep_on inv.now slots.now board.old))) }
 {
-    let Some(mut board) = Board::from_slots(slots)? else {
-        return Ok(Change::type_fault());
-    };
     let Some(name) = local_text(inv, 0) else {
         return Ok(Change::type_fault());
     };
@@ -106,6 +103,17 @@ fn names_keep(inv: &Invocation, slots: &Values) -> Result<Change, AllocError>
         }
         Err(CoreFault::Full(_)) => Ok(Change::Other(Act::Raise(Exc::Range))),
         Err(CoreFault::Memory) => Err(AllocError),
+    }
+}
+
+/// Keeps the new pasteboard under the name.
+fn names_keep(inv: &Invocation, slots: &Values) -> Result<Change, AllocError>
+    ensures { IfOk result (λ change.
+        Means inv.now change (or_fault (names_keep inv.now slots.now))) }
+{
+    match Board::from_slots(slots)? {
+        Some(mut board) => names_keep_on(&mut board, inv, slots),
+        None => Ok(Change::type_fault()),
     }
 }
 

@@ -1,8 +1,13 @@
 //! The slots of a pasteboard.
-ghost use Rattle.std.specs.Prelude.{◌≡◌, IsTrue, IfOk, IfSome, Some, None};
+ghost use Rattle.std.specs.Prelude.{◌≡◌, ◌++◌, ◌^◌, ◌&&◌, [], nat_lt, IsTrue, IfOk, IfSome, OnOk};
+ghost use Rattle.std.specs.Prelude.{Some, None, map};
+ghost use Rattle.std.specs.Map.{keys_of};
+ghost use Rattle.do_base.specs.declared.values.value.Value.TheVariants.{Text as TextValue};
 ghost use Rattle.do_grammar.specs.Words.{◌>>?◌};
-ghost use Rattle.do_pboard.specs.Core.{are_boards, are_declared, boards_read, boards_slot};
-ghost use Rattle.do_pboard.specs.Core.{from_slots, of_parts, to_slots, types_read};
+ghost use Rattle.do_native_acts.specs.Rows.{listed};
+ghost use Rattle.do_pboard.specs.Core.{are_boards, are_declared, begins_empty, boards_read};
+ghost use Rattle.do_pboard.specs.Core.{boards_slot, content_row, contents, from_slots, of_parts};
+ghost use Rattle.do_pboard.specs.Core.{to_slots, types_read};
 
 use crate::board::Board;
 use crate::kept::{Content, NamedBoard};
@@ -13,6 +18,15 @@ use do_native_acts::{owner_in, read_rows, show_rows};
 use do_table::Table;
 use std::alloc::{AllocError, Global};
 
+/// Whether a pasteboard can begin so: its change count has 63 bits, and where nothing was declared
+/// yet there is no owner and no type.
+fn can_begin(count: u64, owner: &Option<Oid>, types: &TypeTable) -> bool
+    ensures { result ≡ (nat_lt count (2 ^ 63) && begins_empty
+        (record { count = count; owner = owner.now; types = types.now; boards = [] })) }
+{
+    count < 1 << 63 && (count > 0 || (owner.is_none() && types.len() == 0))
+}
+
 /// A pasteboard of these parts; none where no pasteboard has them.
 fn of_parts(count: u64, owner: Option<Oid>, types: TypeTable, boards: Table<Oid>) -> Option<Board>
     requires types { IsTrue (are_declared types) }
@@ -20,10 +34,7 @@ fn of_parts(count: u64, owner: Option<Oid>, types: TypeTable, boards: Table<Oid>
     ensures { result ≡ of_parts
         (record { count = count; owner = owner; types = types; boards = boards }) }
 {
-    if count >= 1 << 63 {
-        return None;
-    }
-    if count == 0 && (owner.is_some() || types.len() > 0) {
+    if !can_begin(count, &owner, &types) {
         return None;
     }
     Some(Board {
@@ -55,6 +66,20 @@ fn boards_read(alloc: Global, slot: &Value) -> Result<Option<Table<Oid>>, AllocE
         Some(rows) => boards_of(&rows),
         None => Ok(None),
     }
+}
+
+/// The declared types as a slot keeps them.
+fn types_slot(types: &TypeTable) -> Result<Value, AllocError>
+    ensures { IfOk result (λ value. value ≡ listed (map TextValue (keys_of types.now))) }
+{
+    show_rows::<Text>(&types.names()?)
+}
+
+/// The types that have data, with it, as a slot keeps them.
+fn contents_slot(types: &TypeTable) -> Result<Value, AllocError>
+    ensures { IfOk result (λ value. value ≡ listed (map content_row (contents types.now))) }
+{
+    show_rows::<Content>(&contents_of(types)?)
 }
 
 /// The named pasteboards as a slot keeps them.
@@ -113,16 +138,24 @@ impl Board {
         Board::read(slots)
     }
 
+    /// Appends the slots of the core.
+    fn push_slots(&self, slots: &mut Values) -> Result<(), AllocError>
+        ensures ok { OnOk result (slots.new ≡ slots.old ++ to_slots self.now) }
+    {
+        slots.push(count_value(self.count))?;
+        slots.push(owner_value(self.owner))?;
+        slots.push(types_slot(&self.types)?)?;
+        slots.push(contents_slot(&self.types)?)?;
+        slots.push(boards_slot(&self.boards)?)?;
+        Ok(())
+    }
+
     /// The slots of the core.
     fn slots(&self) -> Result<Values, AllocError>
         ensures { IfOk result (λ slots. slots ≡ to_slots self.now) }
     {
         let mut slots = Values::with_capacity(self.types.allocator(), 5)?;
-        slots.push(count_value(self.count))?;
-        slots.push(owner_value(self.owner))?;
-        slots.push(show_rows::<Text>(&self.types.names()?)?)?;
-        slots.push(show_rows::<Content>(&contents_of(&self.types)?)?)?;
-        slots.push(boards_slot(&self.boards)?)?;
+        self.push_slots(&mut slots)?;
         Ok(slots)
     }
 

@@ -1,6 +1,7 @@
 //! The types of a pasteboard, with their data.
 ghost use Rattle.std.specs.Prelude.{◌≡◌, IfOk, OnOk, OnErr, IfErr, Some, None, if◌then◌else◌};
-ghost use Rattle.std.specs.Prelude.{◌++◌, [], ◌≤◌, IsTrue, length, nat_le};
+ghost use Rattle.std.specs.Prelude.{◌++◌, ◌∷◌, [], ◌≤◌, IsTrue, length, nat_le};
+ghost use Rattle.std.specs.Option.{option_copied};
 ghost use Rattle.do_grammar.specs.Words.{◌>>?◌};
 ghost use Rattle.do_native_acts.specs.Faults.{FaultOf};
 ghost use Rattle.do_native_acts.specs.Types.{are_types};
@@ -24,14 +25,31 @@ fn table_of(types: &DeclaredTypes) -> Result<Option<TypeTable>, AllocError>
     Table::of(types.allocator(), types.as_slice())
 }
 
+/// Appends a type to the others, with its data if there is any.
+fn push_declared(
+    declared: &mut DeclaredTypes,
+    kind: &Text,
+    content: Option<&Text>,
+) -> Result<(), AllocError>
+    ensures ok { OnOk result (declared.new
+        ≡ declared.old ++ (kind.now, option_copied content.entry) ∷ []) }
+{
+    let kind = kind.clone()?;
+    let data = match content {
+        Some(content) => Some(content.clone()?),
+        None => None,
+    };
+    declared.push(Declared { kind, data })?;
+    Ok(())
+}
+
 /// Types without data.
 fn bare(types: &Texts) -> Result<DeclaredTypes, AllocError>
     ensures { IfOk result (λ declared. declared ≡ bare types.now) }
 {
     let mut declared = DeclaredTypes::with_capacity(types.allocator(), types.len())?;
     for kind in types.as_slice() {
-        let kind = kind.clone()?;
-        declared.push(Declared { kind, data: None })?;
+        push_declared(&mut declared, kind, None)?;
     }
     Ok(declared)
 }
@@ -57,15 +75,14 @@ fn merge(types: &Texts, contents: &Contents) -> Result<Option<DeclaredTypes>, Al
     let rows = contents.as_slice();
     let mut used = 0;
     for of in types.as_slice() {
-        let kind = of.clone()?;
-        let data = match rows.get(used) {
-            Some(row) if *of == row.kind => Some(row.data.clone()?),
+        let content = match rows.get(used) {
+            Some(row) if *of == row.kind => Some(&row.data),
             _ => None,
         };
-        if data.is_some() {
+        push_declared(&mut declared, of, content)?;
+        if content.is_some() {
             used += 1;
         }
-        declared.push(Declared { kind, data })?;
     }
     if used == rows.len() {
         Ok(Some(declared))

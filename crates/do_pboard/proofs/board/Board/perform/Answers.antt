@@ -1,0 +1,12 @@
+use Rattle.std.proofs.Common.{◌≡◌, ◌∷◌}
+use Rattle.std.proofs.lemmas.Result.{IfOk-weaker}
+use Rattle.do_native_acts.specs.laws.HistoryLaws.{after_call}
+use Rattle.do_pboard.specs.Calls.{does}
+use Rattle.do_pboard.specs.Core.{empty}
+use Rattle.do_pboard.proofs.board.Board.perform.Goals as goal
+
+pub returns-clause-history : goal.returns-clause-history
+returns-clause-history c =
+    λ h is. IfOk-weaker c.answer.result _ _ (λ answer done.
+    after_call empty does h c.args.call c.args.self.now c.answer.new.self answer is done)
+    c.answer.ensures.done
