@@ -79,7 +79,7 @@ fn fill(packet: &mut Packet, alloc: Global, load: &Load, turn: u64) -> io::Resul
 }
 
 /// A call that holds a load.
-fn call(alloc: Global, load: &Load, turn: u64) -> io::Result<Frame> {
+pub fn call(alloc: Global, load: &Load, turn: u64) -> io::Result<Frame> {
     let selector = Text::from_slice(alloc, b"add:and:")?;
     let mut packet = empty(alloc);
     fill(&mut packet, alloc, load, turn)?;

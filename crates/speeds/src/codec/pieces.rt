@@ -1,11 +1,11 @@
 //! What it costs to take frames from a stream that comes in pieces.
 ghost use Rattle.std.specs.Prelude.{◌<◌};
 
-use crate::codec::frames::{Load, calls};
+use crate::codec::frames::{Load, call};
 use crate::codec::measure::report;
 use do_base::Text;
 use do_coder::Recent;
-use do_frames::{Reader, write_within};
+use do_frames::{Frame, Reader, write_within};
 use std::alloc::Global;
 use std::io::{self, Eprint};
 use std::time::CpuClock;
@@ -40,6 +40,14 @@ fn all_fed(alloc: Global, bytes: &[u8], piece: usize, turns: u64) -> io::Result<
     Ok(())
 }
 
+/// The bytes of a frame, the first that is written.
+fn written(alloc: Global, frame: &Frame) -> io::Result<Text> {
+    match write_within(alloc, frame, &mut Recent::new(alloc))? {
+        Some(text) => Ok(text),
+        None => Err(io::Error::other("too long")),
+    }
+}
+
 /// A call that holds a text of 100,000 bytes, as bytes.
 fn long_frame(alloc: Global) -> io::Result<Text> {
     let load = Load {
@@ -47,15 +55,7 @@ fn long_frame(alloc: Global) -> io::Result<Text> {
         values: 0,
         bytes: 100_000,
     };
-    let frames = calls(alloc, &load, 1)?;
-    let mut sent = Recent::new(alloc);
-    match frames.as_slice() {
-        [frame, ..] => match write_within(alloc, frame, &mut sent)? {
-            Some(text) => Ok(text),
-            None => Err(io::Error::other("too long")),
-        },
-        [] => Err(io::Error::other("no frame")),
-    }
+    written(alloc, &call(alloc, &load, 0)?)
 }
 
 /// Says what it costs to take a frame of a text of 100,000 bytes from a stream in such pieces.

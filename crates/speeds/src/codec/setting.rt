@@ -2,7 +2,7 @@
 ghost use Rattle.std.specs.Prelude.{◌≡◌, length, IfOk};
 
 use do_base::{Items, NodeId, Text};
-use do_class::{ClassTable, Slot};
+use do_class::{ClassTable, Slot, Slots};
 use std::alloc::Global;
 use std::io;
 
@@ -21,20 +21,24 @@ fn slot(alloc: Global, name: &[u8]) -> io::Result<Slot> {
     })
 }
 
-/// A class of two slots and one of none.
-pub fn classes(alloc: Global) -> io::Result<ClassTable> {
-    let mut slots = Items::new(alloc);
+/// The two slots of a class.
+fn two_slots(alloc: Global) -> io::Result<Slots> {
+    let mut slots = Slots::new(alloc);
     slots.push(slot(alloc, b"n")?)?;
     slots.push(slot(alloc, b"t")?)?;
-    let mut table = ClassTable::new(alloc);
+    Ok(slots)
+}
+
+/// A class of two slots and one of none.
+pub fn classes(alloc: Global) -> io::Result<ClassTable> {
+    let slots = two_slots(alloc)?;
     let pair = Text::from_slice(alloc, b"Pair")?;
-    if table.add_class(pair, slots, Items::new(alloc)).is_err() {
-        return Err(io::Error::other("no class"));
-    }
     let item = Text::from_slice(alloc, b"Item")?;
-    if table
-        .add_class(item, Items::new(alloc), Items::new(alloc))
-        .is_err()
+    let mut table = ClassTable::new(alloc);
+    if table.add_class(pair, slots, Items::new(alloc)).is_err()
+        || table
+            .add_class(item, Items::new(alloc), Items::new(alloc))
+            .is_err()
     {
         return Err(io::Error::other("no class"));
     }

@@ -1,9 +1,11 @@
 //! A small message where memory runs out.
+ghost use Rattle.std.specs.Prelude.{◌≡◌, ◌<◌, ◌^◌, sum_by};
+ghost use Rattle.do_base.specs.values.Values.{weight_of};
 
 use do_base::{Oid, Value, Values};
 use do_class::{ClassId, Name, Packet, Part};
 use do_packet::{PackFault, Unpacked, pack, unpack};
-use packet_samples::{Ports, flags, item_table, listed, ring};
+use packet_samples::{Node, Ports, flags, item_table, listed, ring};
 use std::alloc::Global;
 use std::io::{self, Eprint};
 
@@ -53,29 +55,46 @@ fn is_unpacked(received: &Unpacked, ports: &Ports, lent: Oid) -> bool {
         && two_objects(inner) == Some((first, lent))
 }
 
-/// Packs a list of the first of two linked items, and of an object of a third node; a second time
-/// where memory ran out.
-fn try_packing(rt: &impl Eprint, alloc: Global, ports: &Ports, lent: Oid) -> io::Result<Packet> {
+/// Packs the values of a ring's node, a second time where memory ran out.
+fn packed(
+    rt: &impl Eprint,
+    alloc: Global,
+    ports: &Ports,
+    ring: &Node,
+    sent: &Values,
+) -> io::Result<Packet>
+    requires class { ring.now.class.0 ≡ 0 }
+    requires light { sum_by weight_of sent.now < 2 ^ 32 }
+{
     let table = item_table(alloc)?;
+    let copy = flags(alloc, sent.len())?;
+    let (from, to) = (ports.sender, ports.receiver);
+    let packed = match pack(alloc, &table, ring, from, to, &copy, sent, 5) {
+        Err(PackFault::Memory) => {
+            eprintln!(rt; "pack ran out of memory")?;
+            pack(alloc, &table, ring, from, to, &copy, sent, 5)
+        }
+        done => done,
+    };
+    match packed {
+        Ok(packet) => Ok(packet),
+        Err(_) => Err(io::Error::other("pack gave something else")),
+    }
+}
+
+/// Packs a list of the first of two linked items, and of an object of a third node.
+fn try_packing(rt: &impl Eprint, alloc: Global, ports: &Ports, lent: Oid) -> io::Result<Packet> {
     let ring = ring(alloc, ports, 2)?;
     let first = Oid {
         node: ports.sender,
         serial: 0,
     };
     let sent = listed(alloc, &[first, lent])?;
-    let copy = flags(alloc, 1)?;
-    let (from, to) = (ports.sender, ports.receiver);
-    let packed = match pack(alloc, &table, &ring, from, to, &copy, &sent, 5) {
-        Err(PackFault::Memory) => {
-            eprintln!(rt; "pack ran out of memory")?;
-            pack(alloc, &table, &ring, from, to, &copy, &sent, 5)
-        }
-        done => done,
-    };
-    match packed {
-        Ok(packet) if is_packed(&packet, lent) => Ok(packet),
-        _ => Err(io::Error::other("pack gave something else")),
+    let packet = packed(rt, alloc, ports, &ring, &sent)?;
+    if !is_packed(&packet, lent) {
+        return Err(io::Error::other("pack gave something else"));
     }
+    Ok(packet)
 }
 
 /// Unpacks that message, a second time where memory ran out.

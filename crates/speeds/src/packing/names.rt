@@ -1,11 +1,10 @@
 //! As many names as a message holds by its weight.
 ghost use Rattle.std.specs.Prelude.{◌≡◌, ◌≤◌, IfOk, length};
 
-use crate::packing::rings::report;
+use crate::packing::rings::{report, time_packing};
 use do_base::{NodeId, Oid, Oids};
 use do_class::ClassId;
-use do_packet::pack;
-use packet_samples::{Node, Ports, flags, item_table, objects};
+use packet_samples::{Node, Ports, objects};
 use std::alloc::{AllocError, Global};
 use std::io::{self, Eprint};
 use std::time::CpuClock;
@@ -40,23 +39,29 @@ fn measure_oids(
 ) -> io::Result<()>
     requires { length oids.now ≡ 43690 }
 {
-    let table = item_table(alloc)?;
     let node = Node::new(alloc, ports.sender, ports.closed, ClassId(0));
     let sent = objects(alloc, oids.as_slice())?;
-    let copy = flags(alloc, sent.len())?;
-    let (from, to) = (ports.sender, ports.receiver);
-    let mut named = 0;
-    let start = rt.process_cpu_time()?;
-    for _ in 0..TIMES {
-        if let Ok(packet) = pack(alloc, &table, &node, from, to, &copy, &sent, 1) {
-            named = packet.names.len();
+    let (spent, last) = time_packing(rt, alloc, ports, &node, &sent, TIMES)?;
+    match last {
+        Some(packet) if packet.names.len() == oids.len() => {
+            report(rt, what, MOST_NAMES, TIMES, spent)
         }
+        _ => Err(io::Error::other("not all objects were named")),
     }
-    let end = rt.process_cpu_time()?;
-    if named != oids.len() {
-        return Err(io::Error::other("not all objects were named"));
-    }
-    report(rt, what, MOST_NAMES, TIMES, end.saturating_sub(start))
+}
+
+/// Packs 43,690 objects of a third node whose serials are `first`, and `step` more each, and says
+/// what one cost.
+fn measure_stepping(
+    rt: &(impl CpuClock + Eprint),
+    alloc: Global,
+    ports: &Ports,
+    what: &str,
+    first: u64,
+    step: u64,
+) -> io::Result<()> {
+    let oids = stepping(alloc, ports.third, first, step)?;
+    measure_oids(rt, alloc, ports, what, &oids)
 }
 
 /// Packs 43,690 objects of a third node with serials that rise, that fall, that are scattered, and
@@ -66,12 +71,8 @@ pub fn measure_names(
     alloc: Global,
     ports: &Ports,
 ) -> io::Result<()> {
-    let rising = stepping(alloc, ports.third, 1, 1)?;
-    measure_oids(rt, alloc, ports, "names rising", &rising)?;
-    let falling = stepping(alloc, ports.third, u64::MAX, u64::MAX)?;
-    measure_oids(rt, alloc, ports, "names falling", &falling)?;
-    let scattered = stepping(alloc, ports.third, 1, SCATTER)?;
-    measure_oids(rt, alloc, ports, "names scattered", &scattered)?;
-    let apart = stepping(alloc, ports.third, 0, 1 << 48)?;
-    measure_oids(rt, alloc, ports, "names far apart", &apart)
+    measure_stepping(rt, alloc, ports, "names rising", 1, 1)?;
+    measure_stepping(rt, alloc, ports, "names falling", u64::MAX, u64::MAX)?;
+    measure_stepping(rt, alloc, ports, "names scattered", 1, SCATTER)?;
+    measure_stepping(rt, alloc, ports, "names far apart", 0, 1 << 48)
 }

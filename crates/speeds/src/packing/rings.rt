@@ -1,10 +1,11 @@
 //! Rings of items, each linked to the next and to the first.
-ghost use Rattle.std.specs.Prelude.{◌<◌, ◌≤◌};
+ghost use Rattle.std.specs.Prelude.{◌≡◌, ◌<◌, ◌≤◌, ◌^◌, sum_by};
+ghost use Rattle.do_base.specs.values.Values.{weight_of};
 
-use do_base::Flags;
+use do_base::{Oid, Values};
 use do_class::Packet;
 use do_packet::{pack, unpack};
-use packet_samples::{Ports, flags, item_table, objects, objects_of, ring};
+use packet_samples::{Node, Ports, flags, item_table, objects, ring};
 use std::alloc::Global;
 use std::io::{self, Eprint};
 use std::time::{CpuClock, Duration};
@@ -24,6 +25,31 @@ pub fn report(
     eprintln!(rt; "{what} {items}: {times} times, {hundredths} hundredths of a ns an item")
 }
 
+/// Packs objects `times` times, and tells how long that took, and the last message if there was
+/// memory for it.
+pub fn time_packing(
+    rt: &impl CpuClock,
+    alloc: Global,
+    ports: &Ports,
+    node: &Node,
+    sent: &Values,
+    times: u32,
+) -> io::Result<(Duration, Option<Packet>)>
+    requires class { node.now.class.0 ≡ 0 }
+    requires light { sum_by weight_of sent.now < 2 ^ 32 }
+{
+    let table = item_table(alloc)?;
+    let copy = flags(alloc, sent.len())?;
+    let (from, to) = (ports.sender, ports.receiver);
+    let start = rt.process_cpu_time()?;
+    let mut last = None;
+    for _ in 0..times {
+        last = pack(alloc, &table, node, from, to, &copy, sent, 1).ok();
+    }
+    let end = rt.process_cpu_time()?;
+    Ok((end.saturating_sub(start), last))
+}
+
 /// Packs a ring of `count` items and unpacks it, each `times` times, and says what an item cost.
 pub fn measure_ring(
     rt: &(impl CpuClock + Eprint),
@@ -35,19 +61,11 @@ pub fn measure_ring(
     requires count { 0 < count }
     requires times { 0 < times }
 {
-    let table = item_table(alloc)?;
+    let node = ports.sender;
     let ring = ring(alloc, ports, count as u64)?;
-    let first = objects_of(alloc, ports.sender, 1)?;
-    let sent = objects(alloc, first.as_slice())?;
-    let copy = Flags::from_slice(alloc, &[true])?;
-    let (from, to) = (ports.sender, ports.receiver);
-    let start = rt.process_cpu_time()?;
-    let mut last = None;
-    for _ in 0..times {
-        last = pack(alloc, &table, &ring, from, to, &copy, &sent, 1).ok();
-    }
-    let end = rt.process_cpu_time()?;
-    report(rt, "pack", count, times, end.saturating_sub(start))?;
+    let sent = objects(alloc, &[Oid { node, serial: 0 }])?;
+    let (spent, last) = time_packing(rt, alloc, ports, &ring, &sent, times)?;
+    report(rt, "pack", count, times, spent)?;
     match last {
         Some(packet) if packet.copies.len() == count as usize => {
             measure_unpacking(rt, alloc, ports, &packet, times)
