@@ -124,21 +124,27 @@ fn call(
     }
 }
 
-/// Drives exports by so many drawn calls, and tells how many were alike before one was not, and how
-/// many names given back were refused.
-pub fn drive_exports(alloc: Global, calls: u32) -> io::Result<(u32, u64)> {
+/// Makes so many drawn calls of both, and tells how many were alike before one was not.
+fn driven(exports: &mut Exports, plain: &mut PlainExports, calls: u32) -> io::Result<u32> {
     let mut generator = Generator::new(3);
-    let mut exports = Exports::new(alloc);
-    let mut plain = PlainExports::new(alloc);
     for turn in 0..calls {
         let drawn = draw(&mut generator);
         let Some(peer) = peer_at(drawn.group) else {
             return Err(io::Error::other("no port"));
         };
-        let answered = call(&mut exports, &mut plain, peer, drawn)?;
-        if !answered || !same(&exports, &plain) {
-            return Ok((turn, plain.refused()));
+        let answered = call(exports, plain, peer, drawn)?;
+        if !answered || !same(exports, plain) {
+            return Ok(turn);
         }
     }
-    Ok((calls, plain.refused()))
+    Ok(calls)
+}
+
+/// Drives exports by so many drawn calls, and tells how many were alike before one was not, and how
+/// many names given back were refused.
+pub fn drive_exports(alloc: Global, calls: u32) -> io::Result<(u32, u64)> {
+    let mut exports = Exports::new(alloc);
+    let mut plain = PlainExports::new(alloc);
+    let alike = driven(&mut exports, &mut plain, calls)?;
+    Ok((alike, plain.refused()))
 }

@@ -6,7 +6,7 @@ use std::alloc::{AllocError, Global};
 pub type Named = Option<(u16, u64)>;
 
 /// An object of two slots, with its holders outside them.
-#[derive(Clone, Copy, Debug, PartialEq, Eq)]
+#[derive(Clone, Copy)]
 pub struct PlainObject {
     pub serial: u64,
     pub class: u32,

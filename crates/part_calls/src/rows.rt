@@ -97,18 +97,28 @@ fn call(
     }
 }
 
+/// Makes so many drawn calls of both, and tells how many were alike before one was not.
+fn driven(
+    map: &mut Sorted<u64, u64>,
+    plain: &mut PlainRows,
+    calls: u32,
+) -> Result<u32, AllocError> {
+    let mut generator = Generator::new(2);
+    for turn in 0..calls {
+        let drawn = draw(&mut generator);
+        let answered = call(map, plain, drawn)?;
+        if !answered || !same(map, plain) {
+            return Ok(turn);
+        }
+    }
+    Ok(calls)
+}
+
 /// Drives a map by so many drawn calls, and tells how many were alike before one was not, and how
 /// many keys were taken out.
 pub fn drive_rows(alloc: Global, calls: u32) -> Result<(u32, u64), AllocError> {
-    let mut generator = Generator::new(2);
     let mut map = Sorted::new(alloc);
     let mut plain = PlainRows::new(alloc);
-    for turn in 0..calls {
-        let drawn = draw(&mut generator);
-        let answered = call(&mut map, &mut plain, drawn)?;
-        if !answered || !same(&map, &plain) {
-            return Ok((turn, plain.removed()));
-        }
-    }
-    Ok((calls, plain.removed()))
+    let alike = driven(&mut map, &mut plain, calls)?;
+    Ok((alike, plain.removed()))
 }

@@ -23,22 +23,34 @@ fn step(
     Ok(answered && same(stack, plain))
 }
 
-/// Makes so many drawn calls, and tells how many were alike before one was not, and what they came
-/// to.
-pub fn drive_stack(alloc: Global, calls: u32) -> io::Result<(u32, Tally)> {
-    let Some(node) = NodeId::new(4) else {
-        return Err(io::Error::other("no port"));
-    };
+/// Makes so many drawn calls of both, and tells how many were alike before one was not.
+fn driven(
+    alloc: Global,
+    stack: &mut Stack,
+    plain: &mut PlainStack,
+    node: NodeId,
+    calls: u32,
+) -> io::Result<u32> {
     let mut generator = Generator::new(8);
-    let mut stack = Stack::new(alloc);
-    let mut plain = PlainStack::new(alloc);
     for turn in 0..calls {
         let Some(drawn) = draw(&mut generator, node, 12 + u64::from(turn) / 40) else {
             return Err(io::Error::other("no port"));
         };
-        if !step(alloc, &mut stack, &mut plain, &drawn)? {
-            return Ok((turn, plain.tally()));
+        if !step(alloc, stack, plain, &drawn)? {
+            return Ok(turn);
         }
     }
-    Ok((calls, plain.tally()))
+    Ok(calls)
+}
+
+/// Drives a stack by so many drawn calls, and tells how many were alike before one was not, and
+/// what they came to.
+pub fn drive_stack(alloc: Global, calls: u32) -> io::Result<(u32, Tally)> {
+    let Some(node) = NodeId::new(4) else {
+        return Err(io::Error::other("no port"));
+    };
+    let mut stack = Stack::new(alloc);
+    let mut plain = PlainStack::new(alloc);
+    let alike = driven(alloc, &mut stack, &mut plain, node, calls)?;
+    Ok((alike, plain.tally()))
 }

@@ -29,17 +29,22 @@ fn wait(stack: &mut Stack, call: CallId, peer: NodeId) {
     }
 }
 
-/// A stack of so many invocations, of which the k-th from the bottom, from 0, waits for a peer by
-/// the call of the number k.
-fn filled(alloc: Global, node: NodeId, peer: NodeId, depth: u32) -> Result<Stack, AllocError> {
-    let mut stack = Stack::new(alloc);
+/// Puts so many invocations on a stack, of which the k-th, from 0, waits for a peer by the call of
+/// the number k.
+fn fill(
+    stack: &mut Stack,
+    alloc: Global,
+    node: NodeId,
+    peer: NodeId,
+    depth: u32,
+) -> Result<(), AllocError> {
     stack.reserve(u64::from(depth))?;
     for k in 0..depth {
-        push(&mut stack, alloc, node)?;
+        push(stack, alloc, node)?;
         let number = u64::from(k);
-        wait(&mut stack, CallId { node, number }, peer);
+        wait(stack, CallId { node, number }, peer);
     }
-    Ok(stack)
+    Ok(())
 }
 
 /// Takes the top off and puts it on again, so often, and tells how often that was done.
@@ -128,23 +133,52 @@ fn say(
     eprintln!(rt; "{name}, {members} members: {ROUNDS} calls, {hundredths} hundredths of a ns each")
 }
 
+/// Measures what calls of a stack cost on which so many invocations are put.
+fn time_calls(
+    rt: &(impl CpuClock + Eprint),
+    alloc: Global,
+    stack: &mut Stack,
+    node: NodeId,
+    peer: NodeId,
+    depth: u32,
+) -> io::Result<()> {
+    fill(stack, alloc, node, peer, depth)?;
+    let start = rt.process_cpu_time()?;
+    let done = find_each(stack, node, peer);
+    say(rt, "the lowest that waits found", depth, done, start)?;
+    let start = rt.process_cpu_time()?;
+    let done = move_each(stack);
+    say(rt, "an invocation taken off and put on", depth, done, start)?;
+    let number = u64::from(depth);
+    let start = rt.process_cpu_time()?;
+    let done = answer_each(stack, CallId { node, number }, peer);
+    say(rt, "a call waited for and answered", depth, done, start)
+}
+
 /// Measures what calls of a stack of so many invocations cost.
 pub fn measure(rt: &(impl CpuClock + Eprint), alloc: Global, depth: u32) -> io::Result<()> {
     let (Some(node), Some(peer)) = (NodeId::new(7001), NodeId::new(7002)) else {
         return Err(io::Error::other("no port"));
     };
-    let number = u64::from(depth);
-    let call = CallId { node, number };
-    let mut stack = filled(alloc, node, peer, depth)?;
+    time_calls(rt, alloc, &mut Stack::new(alloc), node, peer, depth)
+}
+
+/// Measures what a call costs that is given up and then answered, where the one invocation of a
+/// stack gave up so many others.
+fn time_late(
+    rt: &(impl CpuClock + Eprint),
+    alloc: Global,
+    stack: &mut Stack,
+    node: NodeId,
+    peer: NodeId,
+    others: u32,
+) -> io::Result<()> {
+    fill(stack, alloc, node, peer, 1)?;
+    give_up_many(stack, node, peer, others)?;
+    let number = u64::from(others);
     let start = rt.process_cpu_time()?;
-    let done = find_each(&stack, node, peer);
-    say(rt, "the lowest that waits found", depth, done, start)?;
-    let start = rt.process_cpu_time()?;
-    let done = move_each(&mut stack);
-    say(rt, "an invocation taken off and put on", depth, done, start)?;
-    let start = rt.process_cpu_time()?;
-    let done = answer_each(&mut stack, call, peer);
-    say(rt, "a call waited for and answered", depth, done, start)
+    let done = give_up_each(stack, CallId { node, number }, peer)?;
+    say(rt, "a call given up and then answered", others, done, start)
 }
 
 /// Measures what a call costs that is given up and then answered, where so many others are late.
@@ -152,10 +186,5 @@ pub fn measure_late(rt: &(impl CpuClock + Eprint), alloc: Global, others: u32) -
     let (Some(node), Some(peer)) = (NodeId::new(7001), NodeId::new(7002)) else {
         return Err(io::Error::other("no port"));
     };
-    let number = u64::from(others);
-    let mut stack = filled(alloc, node, peer, 1)?;
-    give_up_many(&mut stack, node, peer, others)?;
-    let start = rt.process_cpu_time()?;
-    let done = give_up_each(&mut stack, CallId { node, number }, peer)?;
-    say(rt, "a call given up and then answered", others, done, start)
+    time_late(rt, alloc, &mut Stack::new(alloc), node, peer, others)
 }

@@ -2,7 +2,7 @@
 use std::alloc::{AllocError, Global};
 
 /// What an invocation does.
-#[derive(Clone, Copy, Debug, PartialEq, Eq)]
+#[derive(Clone, Copy, PartialEq)]
 pub enum Doing {
     Running,
     /// Waits for the answer of a port to a call, of its root or of a method.
@@ -13,7 +13,7 @@ pub enum Doing {
 }
 
 /// The exceptions that come to invocations here.
-#[derive(Clone, Copy, Debug, PartialEq, Eq)]
+#[derive(Clone, Copy, PartialEq)]
 pub enum Raised {
     Deep,
     Died,
@@ -22,7 +22,7 @@ pub enum Raised {
 }
 
 /// What is seen of an invocation: its place, its one local, and what it does.
-#[derive(Clone, Copy, Debug, PartialEq, Eq)]
+#[derive(Clone, Copy, PartialEq)]
 pub struct Seen {
     pub pc: u32,
     pub local: i64,
@@ -30,7 +30,7 @@ pub struct Seen {
 }
 
 /// A call that was given up.
-#[derive(Clone, Copy, Debug, PartialEq, Eq)]
+#[derive(Clone, Copy, PartialEq)]
 struct Late {
     number: u64,
     port: u16,
@@ -38,7 +38,7 @@ struct Late {
 }
 
 /// What the calls came to.
-#[derive(Clone, Copy, Debug, PartialEq, Eq)]
+#[derive(Clone, Copy)]
 pub struct Tally {
     /// How many answers found an invocation that waits.
     pub answered: u64,
