@@ -13,6 +13,19 @@ fn listed<P: Player>(alloc: Global, player: &P) -> Result<Text, AllocError> {
     Ok(text)
 }
 
+/// Does an input again for which memory ran out. The site must be listed as before.
+fn hand_again<P: Player>(
+    alloc: Global,
+    player: &mut P,
+    input: &Input,
+    before: &Text,
+) -> Result<Done, Fail> {
+    if !listed(alloc, player)?.is(before.as_slice()) {
+        return Err("changed".into());
+    }
+    Ok(player.hand(input)?)
+}
+
 /// Does an input. Where memory ran out, the site must be listed as before, and it is done again.
 pub(crate) fn hand_input<P: Player>(
     alloc: Global,
@@ -23,10 +36,7 @@ pub(crate) fn hand_input<P: Player>(
     if let Ok(done) = player.hand(input) {
         return Ok(done);
     }
-    if !listed(alloc, player)?.is(before.as_slice()) {
-        return Err("changed".into());
-    }
-    Ok(player.hand(input)?)
+    hand_again(alloc, player, input, &before)
 }
 
 /// Takes out the oldest that was sent, again where memory ran out, and appends its bytes.

@@ -31,12 +31,22 @@ const OTHERS: [&str; 3] = [
     "heavy_messages.runs",
 ];
 
+/// Plays the runs of a file, adds what comes of them to a text, and writes it.
+fn write_played<P: Player>(
+    rt: &HostRuntime,
+    player: &mut P,
+    name: &str,
+    out: &mut Text,
+) -> Result<(), Fail> {
+    play_lines(player, fs::read(rt, name)?.as_slice(), out)?;
+    rt.stdout().write_all(out.as_slice())?;
+    Ok(())
+}
+
 /// Plays the runs of a file, and writes what comes of them.
 fn play_file<P: Player>(rt: &HostRuntime, player: &mut P, name: &str) -> Result<(), Fail> {
     let mut out = Text::new(rt.alloc());
-    play_lines(player, fs::read(rt, name)?.as_slice(), &mut out)?;
-    rt.stdout().write_all(out.as_slice())?;
-    Ok(())
+    write_played(rt, player, name, &mut out)
 }
 
 /// Plays the one run, and the others but for the word `memory`, and writes what comes of them.

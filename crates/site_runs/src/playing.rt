@@ -11,18 +11,23 @@ use crate::player::Player;
 use crate::told::{push_done, push_waiting};
 use do_base::Text;
 use do_grammar::line_of;
+use do_network::Input;
 use std::alloc::AllocError;
 use std::test::Fail;
 
-/// Hands to a site what a line says, and adds what comes of it.
-fn hand<P: Player>(player: &mut P, said: &[u8], out: &mut Text) -> Result<(), Fail> {
-    let Some(input) = input_in(out.allocator(), said)? else {
-        player.push_listed(out)?;
-        return Ok(());
-    };
-    let done = hand_input(out.allocator(), player, &input)?;
+/// Hands an input to a site, and adds what comes of it.
+fn push_handed<P: Player>(player: &mut P, input: &Input, out: &mut Text) -> Result<(), Fail> {
+    let done = hand_input(out.allocator(), player, input)?;
     push_done(out, done)?;
     push_waiting(player, out)
+}
+
+/// Hands to a site what a line says, and adds what comes of it.
+fn hand<P: Player>(player: &mut P, said: &[u8], out: &mut Text) -> Result<(), Fail> {
+    match input_in(out.allocator(), said)? {
+        Some(input) => push_handed(player, &input, out),
+        None => Ok(player.push_listed(out)?),
+    }
 }
 
 /// Hands to a site what the lines behind a mark say, and adds what comes of them.
@@ -42,13 +47,11 @@ fn hand_all<P: Player>(player: &mut P, lines: &[u8], mark: u8, out: &mut Text) -
 }
 
 /// Adds what came behind a line that was tried, or that it was what came behind the last one.
-fn push_later(last: &mut Text, later: Text, out: &mut Text) -> Result<(), AllocError> {
+fn push_later(last: &Text, later: &Text, out: &mut Text) -> Result<(), AllocError> {
     if last.is(later.as_slice()) {
         return out.push_bytes(b"as above\n");
     }
-    out.push_bytes(later.as_slice())?;
-    *last = later;
-    Ok(())
+    out.push_bytes(later.as_slice())
 }
 
 /// Tries a line, in front of which these stand, and adds what comes of it and of those behind it.
@@ -65,7 +68,8 @@ fn try_line<P: Player>(
     hand(player, said, out)?;
     let mut later = Text::new(alloc);
     hand_all(player, before, b'<', &mut later)?;
-    push_later(last, later, out)?;
+    push_later(last, &later, out)?;
+    *last = later;
     Ok(())
 }
 
@@ -87,13 +91,14 @@ fn play_line<P: Player>(
     }
 }
 
-/// Plays the lines of a file, and adds each with what comes of it.
-pub(crate) fn play_lines<P: Player>(
+/// Plays lines, and adds each with what comes of it. `last` is what came behind the last one that
+/// was tried.
+fn play_each<P: Player>(
     player: &mut P,
     lines: &[u8],
+    last: &mut Text,
     out: &mut Text,
 ) -> Result<(), Fail> {
-    let mut last = Text::new(out.allocator());
     let mut rest = lines;
     for _line in 0..lines.len() {
         let Some((line, _, behind)) = line_of(rest) else {
@@ -101,8 +106,18 @@ pub(crate) fn play_lines<P: Player>(
         };
         let before = lines.len().saturating_sub(rest.len());
         let before = lines.get(..before).unwrap_or(&[]);
-        play_line(player, before, line, &mut last, out)?;
+        play_line(player, before, line, last, out)?;
         rest = behind;
     }
     Ok(())
+}
+
+/// Plays the lines of a file, and adds each with what comes of it.
+pub(crate) fn play_lines<P: Player>(
+    player: &mut P,
+    lines: &[u8],
+    out: &mut Text,
+) -> Result<(), Fail> {
+    let mut last = Text::new(out.allocator());
+    play_each(player, lines, &mut last, out)
 }

@@ -38,18 +38,27 @@ fn ports_of(nodes: &Seats) -> Result<Peers, AllocError> {
     Ok(ports)
 }
 
+/// The first of these nodes, and the ports of all.
+fn places_of(nodes: &Seats) -> Result<(Seat, Peers), Fail> {
+    let seat = *nodes.first().ok_or("no node")?;
+    Ok((seat, ports_of(nodes)?))
+}
+
+/// Classes and the code of their methods, to be shared.
+fn shared(
+    alloc: Global,
+    table: ClassTable,
+    program: Program,
+) -> Result<(Shared<ClassTable>, Shared<Program>), AllocError> {
+    let table = Shared::new(alloc, table)?;
+    Ok((table, Shared::new(alloc, program)?))
+}
+
 /// What the site of the first node of a world is opened with, all of whose classes are scripts.
 fn opening_of(alloc: Global, world: World) -> Result<Opening, Fail> {
-    let World {
-        table,
-        program,
-        nodes,
-        ..
-    } = world;
-    let seat = *nodes.first().ok_or("no node")?;
-    let ports = ports_of(&nodes)?;
-    let table = Shared::new(alloc, table)?;
-    let acts = Shared::new(alloc, program)?;
+    let (seat, ports) = places_of(&world.nodes)?;
+    let World { table, program, .. } = world;
+    let (table, acts) = shared(alloc, table, program)?;
     Ok(Opening {
         table,
         acts,
@@ -66,11 +75,26 @@ fn site_of(opening: &Opening) -> Result<Site<Program>, AllocError> {
     Site::new(node, root, &opening.ports, table, acts)
 }
 
+/// The world in a file.
+fn world_in(rt: &HostRuntime, name: &str) -> Result<World, Fail> {
+    Ok(read_world(rt.alloc(), fs::read(rt, name)?.as_slice())?)
+}
+
+/// Adds what is listed of a site to what is listed of nodes, and this to a text.
+fn push_site(
+    site: &Site<Program>,
+    table: &ClassTable,
+    listed: &mut Snapshot,
+    out: &mut Text,
+) -> Result<(), AllocError> {
+    listed.nodes.push(site.snapshot()?)?;
+    push_check(out, table, listed)
+}
+
 impl Opened {
     /// The site of the first node of the world in a file.
     pub(crate) fn of(rt: &HostRuntime, name: &str) -> Result<Opened, Fail> {
-        let world = read_world(rt.alloc(), fs::read(rt, name)?.as_slice())?;
-        let opening = opening_of(rt.alloc(), world)?;
+        let opening = opening_of(rt.alloc(), world_in(rt, name)?)?;
         let site = site_of(&opening)?;
         Ok(Opened { opening, site })
     }
@@ -95,8 +119,8 @@ impl Player for Opened {
     }
 
     fn push_listed(&self, out: &mut Text) -> Result<(), AllocError> {
-        let mut nodes = NodeLines::new(out.allocator());
-        nodes.push(self.site.snapshot()?)?;
-        push_check(out, self.opening.table.get(), &Snapshot { nodes })
+        let nodes = NodeLines::new(out.allocator());
+        let table = self.opening.table.get();
+        push_site(&self.site, table, &mut Snapshot { nodes }, out)
     }
 }

@@ -51,26 +51,35 @@ pub(crate) fn push_done(out: &mut Text, done: Done) -> Result<(), AllocError> {
     }
 }
 
-/// Adds bytes that go to a peer.
-fn push_sent(out: &mut Text, peer: u16, bytes: &[u8]) -> Result<(), Fail> {
-    let digits = hex::encode(out.allocator(), bytes)?;
+/// Adds the digits of bytes that go to a peer.
+fn push_wire(out: &mut Text, peer: u16, digits: &[u8]) -> Result<(), AllocError> {
     out.push_bytes(b"wire ")?;
     push_dec(out, u64::from(PORT))?;
     out.push(b' ')?;
     push_dec(out, u64::from(peer))?;
     out.push(b' ')?;
-    out.push_bytes(digits.as_bytes())?;
-    out.push(b'\n')?;
-    Ok(())
+    out.push_bytes(digits)?;
+    out.push(b'\n')
+}
+
+/// Adds bytes that go to a peer.
+fn push_sent(out: &mut Text, peer: u16, bytes: &[u8]) -> Result<(), Fail> {
+    let digits = hex::encode(out.allocator(), bytes)?;
+    Ok(push_wire(out, peer, digits.as_bytes())?)
+}
+
+/// Takes out the oldest that was sent, its bytes into an empty text, and adds it.
+fn push_next<P: Player>(player: &mut P, bytes: &mut Text, out: &mut Text) -> Result<(), Fail> {
+    match fetch_frame(player, bytes)? {
+        Some(peer) => push_sent(out, peer.port(), bytes.as_slice()),
+        None => Ok(()),
+    }
 }
 
 /// Takes out the oldest that was sent, and adds it.
 fn push_frame<P: Player>(player: &mut P, out: &mut Text) -> Result<(), Fail> {
     let mut bytes = Text::new(out.allocator());
-    match fetch_frame(player, &mut bytes)? {
-        Some(peer) => push_sent(out, peer.port(), bytes.as_slice()),
-        None => Ok(()),
-    }
+    push_next(player, &mut bytes, out)
 }
 
 /// Takes out the oldest that was shown, and adds it.
