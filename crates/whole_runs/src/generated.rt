@@ -15,23 +15,38 @@ const SCHEDULES: u64 = 40;
 /// How many lines each has, a check behind them.
 const LINES: u64 = 250;
 
+/// The schedule of a number.
+fn schedule_of(alloc: Global, number: u64) -> Result<Text, AllocError> {
+    let lines = generate(alloc, number, LINES)?;
+    schedule_text(alloc, &lines)
+}
+
+/// The schedule of a number in the file `s`.
+fn file_of(alloc: Global, number: u64) -> Result<NamedFile, AllocError> {
+    let bytes = schedule_of(alloc, number)?;
+    let name = Text::from_slice(alloc, b"s")?;
+    Ok(NamedFile { name, bytes })
+}
+
 /// A shelf with the schedule of a number in the file `s`.
 fn shelf_of(alloc: Global, number: u64) -> Result<MemShelf, AllocError> {
-    let lines = generate(alloc, number, LINES)?;
-    let name = Text::from_slice(alloc, b"s")?;
-    let bytes = schedule_text(alloc, &lines)?;
     let mut files = FileList::new(alloc);
-    files.push(NamedFile { name, bytes })?;
+    files.push(file_of(alloc, number)?)?;
     MemShelf::new(alloc, files, CallList::new(alloc))
 }
 
-/// Reports a schedule over which the two come to different things, by its number.
-fn compare(alloc: Global, number: u64, report: &mut Text) -> Result<(), Fail> {
+/// Whether the two come to the same over the schedule of a number.
+fn is_number_alike(alloc: Global, number: u64) -> Result<bool, Fail> {
     let asked = Asked {
         world: ":mesh",
         schedule: "s",
     };
-    if !is_alike(alloc, &asked, &mut shelf_of(alloc, number)?)? {
+    is_alike(alloc, &asked, &mut shelf_of(alloc, number)?)
+}
+
+/// Reports a schedule over which the two come to different things, by its number.
+fn compare(alloc: Global, number: u64, report: &mut Text) -> Result<(), Fail> {
+    if !is_number_alike(alloc, number)? {
         push_dec(report, number)?;
         report.push_bytes(b" DIFFERS\n")?;
     }

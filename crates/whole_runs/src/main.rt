@@ -106,22 +106,60 @@ fn compare<H: Shelf>(
     Ok(())
 }
 
-fn main(rt: HostRuntime) -> Result<(), Fail> {
-    let alloc = rt.alloc();
-    let mut shelf = FileShelf::new(alloc, rt);
-    for (world, schedule) in SENT {
-        let whole = Asked { world, schedule }.written(alloc, "replay", &mut shelf)?;
+/// Writes the transcripts of these schedules.
+fn write_whole<H: Shelf>(
+    rt: &HostRuntime,
+    asked: &[(&str, &str)],
+    shelf: &mut H,
+) -> Result<(), Fail> {
+    for (world, schedule) in asked {
+        let whole = Asked { world, schedule }.written(rt.alloc(), "replay", shelf)?;
         rt.stdout().write_all(whole.as_slice())?;
     }
-    for (world, schedule) in SHOWN {
-        let whole = Asked { world, schedule }.written(alloc, "replay", &mut shelf)?;
-        let plain = without_wires(alloc, &whole)?;
+    Ok(())
+}
+
+/// The transcript of a schedule, without what is sent.
+fn plain_of<H: Shelf>(alloc: Global, asked: &Asked, shelf: &mut H) -> Result<Text, Fail> {
+    let whole = asked.written(alloc, "replay", shelf)?;
+    Ok(without_wires(alloc, &whole)?)
+}
+
+/// Writes the transcripts of these schedules, without what is sent.
+fn write_plain<H: Shelf>(
+    rt: &HostRuntime,
+    asked: &[(&str, &str)],
+    shelf: &mut H,
+) -> Result<(), Fail> {
+    for (world, schedule) in asked {
+        let plain = plain_of(rt.alloc(), &Asked { world, schedule }, shelf)?;
         rt.stdout().write_all(plain.as_slice())?;
     }
-    let mut report = Text::new(alloc);
-    compare(alloc, &SENT, &mut shelf, &mut report)?;
-    compare(alloc, &SHOWN, &mut shelf, &mut report)?;
-    compare_all(alloc, &mut report)?;
+    Ok(())
+}
+
+/// Compares all schedules, reports on them, and writes the report.
+fn write_compared<H: Shelf>(
+    rt: &HostRuntime,
+    shelf: &mut H,
+    report: &mut Text,
+) -> Result<(), Fail> {
+    compare(rt.alloc(), &SENT, shelf, report)?;
+    compare(rt.alloc(), &SHOWN, shelf, report)?;
+    compare_all(rt.alloc(), report)?;
     rt.stdout().write_all(report.as_slice())?;
     Ok(())
+}
+
+/// Writes all transcripts, and how they compare.
+fn write_all<H: Shelf>(rt: &HostRuntime, shelf: &mut H) -> Result<(), Fail> {
+    write_whole(rt, &SENT, shelf)?;
+    write_plain(rt, &SHOWN, shelf)?;
+    let mut report = Text::new(rt.alloc());
+    write_compared(rt, shelf, &mut report)
+}
+
+fn main(rt: HostRuntime) -> Result<(), Fail> {
+    let mut shelf = FileShelf::new(rt.alloc(), rt);
+    write_all(&rt, &mut shelf)
 }
