@@ -5,7 +5,7 @@ ghost use Rattle.do_services.specs.Core.{is_service};
 use call_rows::{
     Part, copy_at, count_at, count_value, digits, list_at, no_call, refused, text_at, texts_at,
 };
-use do_base::{Text, Value, Values};
+use do_base::{Text, Texts, Value, Values};
 use do_grammar::is_text;
 use do_native_acts::{Row, as_number, show_list};
 use do_services::{Call, Service, Services, is_message, is_service};
@@ -19,42 +19,61 @@ pub(crate) struct ServiceCalls {
     alloc: Global,
 }
 
+/// The item of a service of these parts, and its message.
+fn names_of(parts: &Values) -> Result<(Text, Text), Fail> {
+    let (item, message) = (text_at(parts, 0)?, text_at(parts, 1)?);
+    let item = item.clone()?;
+    Ok((item, message.clone()?))
+}
+
+/// The types that the service of these parts is sent, and those that it returns.
+fn types_of(parts: &Values) -> Result<(Texts, Texts), Fail> {
+    let send = texts_at(parts, 3)?;
+    Ok((send, texts_at(parts, 4)?))
+}
+
 /// The service of these parts: item, message, port, types sent, types returned and user data.
 fn service_of(parts: &Values) -> Result<Service, Fail> {
     let port = count_at(parts, 2)?;
+    let user = copy_at(parts, 5)?;
+    let (item, message) = names_of(parts)?;
+    let (send, returned) = types_of(parts)?;
     Ok(Service {
-        item: text_at(parts, 0)?.clone()?,
-        message: text_at(parts, 1)?.clone()?,
+        item,
+        message,
         port,
-        send: texts_at(parts, 3)?,
-        returned: texts_at(parts, 4)?,
-        user: copy_at(parts, 5)?,
+        send,
+        returned,
+        user,
     })
+}
+
+/// A service, where it is one.
+fn checked(service: Service) -> Result<Service, Fail>
+    ensures { IfOk result (λ service. IsTrue (is_service service)) }
+{
+    if is_service(&service) {
+        Ok(service)
+    } else {
+        Err(Fail::from("no service"))
+    }
 }
 
 /// The service of these parts, where it is one.
 fn good_service(parts: &Values) -> Result<Service, Fail>
     ensures { IfOk result (λ service. IsTrue (is_service service)) }
 {
-    let service = service_of(parts)?;
-    if is_service(&service) {
-        Ok(service)
-    } else {
-        Err(Fail::from("no service"))
-    }
+    checked(service_of(parts)?)
 }
 
 /// The service of these parts, under the item that a number is.
 fn numbered_service(alloc: Global, parts: &Values, number: u16) -> Result<Service, Fail>
     ensures { IfOk result (λ service. IsTrue (is_service service)) }
 {
+    let item = digits(alloc, u64::from(number))?;
     let mut service = service_of(parts)?;
-    service.item = digits(alloc, u64::from(number))?;
-    if is_service(&service) {
-        Ok(service)
-    } else {
-        Err(Fail::from("no service"))
-    }
+    service.item = item;
+    checked(service)
 }
 
 /// Makes a call that is one value and names an item.

@@ -6,7 +6,7 @@ use call_rows::{
     Part, copy_at, count_at, count_value, list_at, local_at, no_call, number_or_nil, text_at,
     value_at,
 };
-use do_base::{Oid, Text, Value, Values, copy_value};
+use do_base::{Items, Oid, Text, Value, Values, copy_value};
 use do_behave::{Change, Handler, LocalSet, LocalSets, Write, Writes, make_change};
 use do_grammar::is_text;
 use do_native_acts::{
@@ -22,25 +22,42 @@ pub(crate) struct SharedCalls {
     bench: Bench,
 }
 
-/// Writes as a list of slots and values.
-fn writes_value(alloc: Global, writes: &Writes) -> Result<Value, Fail> {
-    let mut values = Values::new(alloc);
+/// Adds writes, each its slot and its value.
+fn push_writes(values: &mut Values, writes: &Writes) -> Result<(), Fail> {
     for write in writes.as_slice() {
         values.push(count_value(write.slot)?)?;
         values.push(copy_value(&write.value)?)?;
     }
+    Ok(())
+}
+
+/// Writes as a list of slots and values.
+fn writes_value(alloc: Global, writes: &Writes) -> Result<Value, Fail> {
+    let mut values = Values::new(alloc);
+    push_writes(&mut values, writes)?;
+    Ok(Value::List(values))
+}
+
+/// Adds how many rows there are, and the rows as they are shown.
+fn push_rows<T: Row>(values: &mut Values, rows: &Items<T>) -> Result<(), Fail> {
+    values.push(count_value(rows.len())?)?;
+    values.push(show_rows(rows)?)?;
+    Ok(())
+}
+
+/// Rows, shown again, behind how many they are.
+fn shown_rows<T: Row>(alloc: Global, rows: &Items<T>) -> Result<Value, Fail> {
+    let mut values = Values::new(alloc);
+    push_rows(&mut values, rows)?;
     Ok(Value::List(values))
 }
 
 /// Rows that a slot holds, shown again, behind how many they are; nil where it holds none.
 fn rows_value<T: Row>(alloc: Global, slot: &Value) -> Result<Value, Fail> {
-    let Some(rows) = read_rows::<T>(alloc, slot)? else {
-        return Ok(Value::Nil);
-    };
-    let mut values = Values::new(alloc);
-    values.push(count_value(rows.len())?)?;
-    values.push(show_rows(&rows)?)?;
-    Ok(Value::List(values))
+    match read_rows::<T>(alloc, slot)? {
+        Some(rows) => shown_rows(alloc, &rows),
+        None => Ok(Value::Nil),
+    }
 }
 
 /// A value for a local.
@@ -77,11 +94,11 @@ impl SharedCalls {
     /// place 7 with local 15.
     fn step(&mut self, args: &Values) -> Result<Value, Fail> {
         let alloc = self.bench.alloc;
-        let sets = one_set(alloc, 3, copy_at(args, 1)?)?;
-        let slot = usize::from(count_at(args, 2)?);
-        let writes = one_write(alloc, slot, copy_at(args, 3)?)?;
-        let handler = Some(Handler { into: 15, pc: 7 });
         let to = u32::from(count_at(args, 0)?);
+        let slot = usize::from(count_at(args, 2)?);
+        let handler = Some(Handler { into: 15, pc: 7 });
+        let sets = one_set(alloc, 3, copy_at(args, 1)?)?;
+        let writes = one_write(alloc, slot, copy_at(args, 3)?)?;
         let change = step(&self.bench.inv, to, sets, handler, writes);
         self.change(change)
     }
@@ -103,9 +120,9 @@ impl SharedCalls {
     /// Sends a message to what a local holds.
     fn send(&mut self, args: &Values) -> Result<Value, Fail> {
         let target = local_at(args, 0)?;
-        let arguments = list_at(args, 2)?.clone()?;
         let selector = text_at(args, 1)?.as_slice();
         let to = u32::from(count_at(args, 3)?);
+        let arguments = list_at(args, 2)?.clone()?;
         let change = send(&self.bench.inv, target, selector, arguments, to)?;
         self.change(change)
     }

@@ -5,7 +5,7 @@ use do_base::{Text, Value, Values};
 use do_grammar::is_text;
 use do_native_acts::{as_number, show_list};
 use do_table::Table;
-use std::alloc::Global;
+use std::alloc::{AllocError, Global};
 use std::test::Fail;
 
 /// A table of numbers.
@@ -13,6 +13,12 @@ use std::test::Fail;
 pub(crate) struct TableCalls {
     table: Table<i64>,
     alloc: Global,
+}
+
+/// Adds a name and its number.
+fn push_entry(values: &mut Values, name: &Text, number: i64) -> Result<(), AllocError> {
+    values.push(Value::Text(name.clone()?))?;
+    values.push(Value::Num(number))
 }
 
 impl TableCalls {
@@ -44,8 +50,7 @@ impl TableCalls {
         }
         let (name, number) = self.table.entry(at);
         let mut values = Values::new(self.alloc);
-        values.push(Value::Text(name.clone()?))?;
-        values.push(Value::Num(*number))?;
+        push_entry(&mut values, name, *number)?;
         Ok(Value::List(values))
     }
 

@@ -10,7 +10,7 @@ use do_base::{Oid, Texts, Value, Values};
 use do_grammar::is_text;
 use do_native_acts::{are_types, as_number, owner_in};
 use do_pboard::{Board, Call};
-use std::alloc::Global;
+use std::alloc::{AllocError, Global};
 use std::test::Fail;
 
 /// The texts at a place, where they can be types.
@@ -30,18 +30,23 @@ fn owner_at(args: &Values, at: usize) -> Result<Option<Oid>, Fail> {
     Ok(owner_in(value_at(args, at)?).ok_or("no owner")?)
 }
 
-/// Declares types, and answers the change count and who was the owner before.
-fn declare(alloc: Global, board: &mut Board, args: &Values) -> Result<Value, Fail> {
-    let owner = owner_at(args, 1)?;
-    let types = types_at(args, 0)?;
-    if !board.can_declare() {
-        return Err(Fail::from("the last change count"));
-    }
-    let (count, former) = board.declare(types, owner)?;
+/// A change count and who was the owner before, as a list.
+fn declared_value(alloc: Global, count: i64, former: Option<Oid>) -> Result<Value, AllocError> {
     let mut values = Values::new(alloc);
     values.push(Value::Num(count))?;
     values.push(object_or_nil(former))?;
     Ok(Value::List(values))
+}
+
+/// Declares types, and answers the change count and who was the owner before.
+fn declare(alloc: Global, board: &mut Board, args: &Values) -> Result<Value, Fail> {
+    let owner = owner_at(args, 1)?;
+    if !board.can_declare() {
+        return Err(Fail::from("the last change count"));
+    }
+    let types = types_at(args, 0)?;
+    let (count, former) = board.declare(types, owner)?;
+    Ok(declared_value(alloc, count, former)?)
 }
 
 /// Adds types, and answers the change count.

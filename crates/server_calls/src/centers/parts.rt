@@ -80,13 +80,18 @@ fn label_value(label: &Option<Text>) -> Result<Value, AllocError> {
     }
 }
 
-/// A delivery as a list: observer, selector, name, object and information.
-pub(crate) fn delivery_value(alloc: Global, delivery: &Delivery) -> Result<Value, Fail> {
-    let mut values = Values::new(alloc);
+/// Adds the parts of a delivery: observer, selector, name, object and information.
+fn push_delivery(values: &mut Values, delivery: &Delivery) -> Result<(), AllocError> {
     values.push(Value::Obj(delivery.observer))?;
     values.push(Value::Text(delivery.selector.clone()?))?;
     values.push(Value::Text(delivery.note.name.clone()?))?;
     values.push(label_value(&delivery.note.object)?)?;
-    values.push(copy_value(&delivery.note.info)?)?;
+    values.push(copy_value(&delivery.note.info)?)
+}
+
+/// A delivery as a list of its parts.
+pub(crate) fn delivery_value(alloc: Global, delivery: &Delivery) -> Result<Value, Fail> {
+    let mut values = Values::new(alloc);
+    push_delivery(&mut values, delivery)?;
     Ok(Value::List(values))
 }
