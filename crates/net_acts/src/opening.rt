@@ -46,8 +46,8 @@ pub(crate) fn replay(
     requires alike { AreAlike (λ c. script c.program) makers.now }
 {
     let alloc = nodes.allocator();
-    let mut net: Net<Site<Counting>> = Net::new(table.clone()?, nodes, makers)?;
     let mut sink = MemSink::new(alloc, CallList::new(alloc))?;
+    let mut net: Net<Site<Counting>> = Net::new(table.clone()?, nodes, makers)?;
     match write_transcript(alloc, table.get(), &mut net, lines, &mut sink) {
         Ok(()) => Ok(()),
         Err(_) => Err("not whole".into()),
