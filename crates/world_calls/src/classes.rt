@@ -10,55 +10,74 @@ use do_native_acts::as_number;
 use std::alloc::Global;
 use std::test::Fail;
 
-/// The names of the classes, in order.
-fn names(alloc: Global, classes: &Classes) -> Result<Value, Fail> {
-    let mut values = Values::new(alloc);
+/// Adds the names of the classes, in order.
+fn push_names(values: &mut Values, classes: &Classes) -> Result<(), Fail> {
     for class in 0..classes.table.count() {
         values.push(Value::Text(classes.table.name(ClassId(class)).clone()?))?;
     }
-    Ok(Value::List(values))
+    Ok(())
 }
 
-/// The kinds of the classes, as they are printed.
-fn kinds(alloc: Global, classes: &Classes) -> Result<Value, Fail> {
-    let mut values = Values::new(alloc);
+/// Adds the kinds of the classes, as they are printed.
+fn push_kinds(values: &mut Values, classes: &Classes) -> Result<(), Fail> {
+    let alloc = values.allocator();
     for kind in classes.kinds.as_slice() {
         let printed = format!(in alloc; "{kind:?}")?;
         values.push(text_value(alloc, printed.as_bytes())?)?;
     }
-    Ok(Value::List(values))
+    Ok(())
 }
 
-/// How many slots each class has.
-fn slot_counts(alloc: Global, classes: &Classes) -> Result<Value, Fail> {
-    let mut values = Values::new(alloc);
+/// Adds how many slots each class has.
+fn push_slot_counts(values: &mut Values, classes: &Classes) -> Result<(), Fail> {
     for class in 0..classes.table.count() {
         values.push(count_value(classes.table.slots(ClassId(class)).len())?)?;
     }
-    Ok(Value::List(values))
+    Ok(())
 }
 
-/// How many rules each class has.
-fn rule_counts(alloc: Global, classes: &Classes) -> Result<Value, Fail> {
-    let mut values = Values::new(alloc);
+/// Adds how many rules each class has.
+fn push_rule_counts(values: &mut Values, classes: &Classes) -> Result<(), Fail> {
     for rules in classes.rules.as_slice() {
         values.push(count_value(rules.len())?)?;
     }
-    Ok(Value::List(values))
+    Ok(())
 }
 
-/// The slots of a class: the name of each, and whether it is copied.
-fn slots(alloc: Global, classes: &Classes, args: &Values) -> Result<Value, Fail> {
+/// Adds the slots of a class: the name of each, and whether it is copied.
+fn push_slots(values: &mut Values, classes: &Classes, args: &Values) -> Result<(), Fail> {
     let class = ClassId(u32::from(count_at(args, 0)?));
     if class.0 >= classes.table.count() {
         return Err(Fail::from("no class"));
     }
-    let mut values = Values::new(alloc);
     for slot in classes.table.slots(class).as_slice() {
         values.push(Value::Text(slot.name.clone()?))?;
         values.push(as_number(slot.copy))?;
     }
-    Ok(Value::List(values))
+    Ok(())
+}
+
+/// Adds the list that a word names, and tells whether it names one.
+fn push_list(
+    values: &mut Values,
+    classes: &Classes,
+    word: &[u8],
+    args: &Values,
+) -> Result<bool, Fail> {
+    if is_text(word, b"names") {
+        push_names(values, classes)?;
+    } else if is_text(word, b"kinds") {
+        push_kinds(values, classes)?;
+    } else if is_text(word, b"slot_counts") {
+        push_slot_counts(values, classes)?;
+    } else if is_text(word, b"rule_counts") {
+        push_rule_counts(values, classes)?;
+    } else if is_text(word, b"slots") {
+        push_slots(values, classes, args)?;
+    } else {
+        return Ok(false);
+    }
+    Ok(true)
 }
 
 /// Whether a class has a method.
@@ -82,11 +101,8 @@ fn class_verdict(alloc: Global, classes: &Classes, args: &Values) -> Result<Valu
     }
 }
 
-/// Tells what one class has.
+/// Tells one thing of a class.
 fn tell_one(alloc: Global, classes: &Classes, word: &[u8], args: &Values) -> Result<Value, Fail> {
-    if is_text(word, b"slots") {
-        return slots(alloc, classes, args);
-    }
     if is_text(word, b"has_method") {
         return has_method(classes, args);
     }
@@ -107,17 +123,9 @@ pub(crate) fn tell(
     word: &[u8],
     args: &Values,
 ) -> Result<Value, Fail> {
-    if is_text(word, b"names") {
-        return names(alloc, classes);
-    }
-    if is_text(word, b"kinds") {
-        return kinds(alloc, classes);
-    }
-    if is_text(word, b"slot_counts") {
-        return slot_counts(alloc, classes);
-    }
-    if is_text(word, b"rule_counts") {
-        return rule_counts(alloc, classes);
+    let mut values = Values::new(alloc);
+    if push_list(&mut values, classes, word, args)? {
+        return Ok(Value::List(values));
     }
     tell_one(alloc, classes, word, args)
 }

@@ -62,9 +62,10 @@ fn item_kind(word: &[u8]) -> ItemKind {
 impl DocumentCalls {
     /// An empty document, no classes, and nothing around texts.
     pub(crate) fn new(alloc: Global) -> Result<DocumentCalls, Fail> {
+        let document = document(alloc, &Text::new(alloc))?;
         Ok(DocumentCalls {
             frame: Values::new(alloc),
-            document: document(alloc, &Text::new(alloc))?,
+            document,
             classes: Classes {
                 table: ClassTable::new(alloc),
                 kinds: Kinds::new(alloc),
@@ -79,16 +80,22 @@ impl DocumentCalls {
         framed(&self.frame, pieces)
     }
 
-    /// Reads the classes of a text, and keeps them.
-    fn classes(&mut self, text: &Text) -> Result<Value, Fail> {
-        let document = document(self.alloc, text)?;
-        match read_classes(self.alloc, &document) {
+    /// Keeps classes that were read.
+    fn keep_classes(&mut self, read: Result<Classes, WorldFault>) -> Result<Value, Fail> {
+        match read {
             Ok(classes) => {
                 self.classes = classes;
                 Ok(text_value(self.alloc, b"read")?)
             }
             Err(fault) => fault_value(self.alloc, &fault),
         }
+    }
+
+    /// Reads the classes of a text, and keeps them.
+    fn classes(&mut self, text: &Text) -> Result<Value, Fail> {
+        let document = document(self.alloc, text)?;
+        let read = read_classes(self.alloc, &document);
+        self.keep_classes(read)
     }
 
     /// Whether all keys of the document are among these.

@@ -54,12 +54,18 @@ fn push_at(out: &mut Text, pieces: &Values, at: usize) -> Result<(), Fail> {
     }
 }
 
+/// Adds the pieces of a frame, with others in its gaps and behind it.
+fn push_framed(out: &mut Text, frame: &Values, pieces: &Values) -> Result<(), Fail> {
+    for at in 0..frame.len().max(pieces.len()) {
+        push_at(out, frame, at)?;
+        push_at(out, pieces, at)?;
+    }
+    Ok(())
+}
+
 /// The pieces of a frame, with others in its gaps and behind it.
 pub(crate) fn framed(frame: &Values, pieces: &Values) -> Result<Text, Fail> {
     let mut out = Text::new(frame.allocator());
-    for at in 0..frame.len().max(pieces.len()) {
-        push_at(&mut out, frame, at)?;
-        push_at(&mut out, pieces, at)?;
-    }
+    push_framed(&mut out, frame, pieces)?;
     Ok(out)
 }

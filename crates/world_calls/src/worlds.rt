@@ -67,14 +67,26 @@ fn count_all_read(alloc: Global, text: &Text) -> Result<Value, AllocError> {
     Ok(Value::Num(count))
 }
 
-/// The ports of nodes, each with the class of its root.
-fn nodes_value(alloc: Global, nodes: &Seats) -> Result<Value, AllocError> {
-    let mut values = Values::new(alloc);
+/// Adds the ports of nodes, each with the class of its root.
+fn push_nodes(values: &mut Values, nodes: &Seats) -> Result<(), AllocError> {
     for seat in nodes.as_slice() {
         values.push(Value::Num(i64::from(seat.node.port())))?;
         values.push(Value::Num(i64::from(seat.root.0)))?;
     }
+    Ok(())
+}
+
+/// The ports of nodes, each with the class of its root.
+fn nodes_value(alloc: Global, nodes: &Seats) -> Result<Value, AllocError> {
+    let mut values = Values::new(alloc);
+    push_nodes(&mut values, nodes)?;
     Ok(Value::List(values))
+}
+
+/// The world `:counter` as it is printed.
+fn printed_counter(alloc: Global) -> Result<Text, Fail> {
+    let world = counter(alloc)?;
+    printed(alloc, &world)
 }
 
 /// What is kept of a world.
@@ -102,9 +114,10 @@ fn kept_of(alloc: Global, world: World) -> Result<Kept, Fail> {
 impl WorldCalls {
     /// The world `:counter`, and nothing around texts.
     pub(crate) fn new(alloc: Global) -> Result<WorldCalls, Fail> {
+        let kept = kept_of(alloc, counter(alloc)?)?;
         Ok(WorldCalls {
             frame: Values::new(alloc),
-            kept: kept_of(alloc, counter(alloc)?)?,
+            kept,
             alloc,
         })
     }
@@ -114,11 +127,17 @@ impl WorldCalls {
         framed(&self.frame, pieces)
     }
 
+    /// Keeps a world.
+    fn keep(&mut self, world: World) -> Result<(), Fail> {
+        self.kept = kept_of(self.alloc, world)?;
+        Ok(())
+    }
+
     /// Reads a text, and keeps the world that it says.
     fn read(&mut self, text: &Text) -> Result<Value, Fail> {
         match read_world(self.alloc, text.as_slice()) {
             Ok(world) => {
-                self.kept = kept_of(self.alloc, world)?;
+                self.keep(world)?;
                 Ok(text_value(self.alloc, b"read")?)
             }
             Err(fault) => fault_value(self.alloc, &fault),
@@ -130,8 +149,14 @@ impl WorldCalls {
         let Some(world) = builtin(self.alloc, name)? else {
             return Ok(as_number(false));
         };
-        self.kept = kept_of(self.alloc, world)?;
+        self.keep(world)?;
         Ok(as_number(true))
+    }
+
+    /// Whether the world that is kept is printed as `:counter` is.
+    fn is_counter(&self) -> Result<Value, Fail> {
+        let counter = printed_counter(self.alloc)?;
+        Ok(as_number(self.kept.printed == counter))
     }
 }
 
@@ -152,7 +177,7 @@ impl Part for WorldCalls {
             return self.built_in(text_at(args, 0)?);
         }
         if is_text(word, b"is_counter") {
-            return Ok(as_number(self.kept.printed == printed(self.alloc, &counter(self.alloc)?)?));
+            return self.is_counter();
         }
         if is_text(word, b"nodes") {
             return Ok(nodes_value(self.alloc, &self.kept.nodes)?);
