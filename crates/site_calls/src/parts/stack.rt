@@ -75,9 +75,10 @@ fn told(alloc: Global, stack: &Stack, word: &[u8], args: &Values) -> Result<Valu
 impl StackCalls {
     /// An empty stack.
     pub(crate) fn new(alloc: Global) -> Result<StackCalls, Fail> {
+        let script = Script::new(alloc)?;
         Ok(StackCalls {
             stack: Stack::new(alloc),
-            script: Script::new(alloc)?,
+            script,
             alloc,
         })
     }

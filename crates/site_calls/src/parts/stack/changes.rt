@@ -30,13 +30,19 @@ fn program(alloc: Global, table: &ClassTable, code: Code) -> Result<Program, All
     Ok(Program::new(table, codes))
 }
 
-/// Texts as the lines of one text.
-fn lines_of(texts: &Values) -> Result<Text, Fail> {
-    let mut lines = Text::new(texts.allocator());
+/// Adds texts, each as a line.
+fn push_lines(lines: &mut Text, texts: &Values) -> Result<(), Fail> {
     for at in 0..texts.len() {
         lines.push_bytes(text_at(texts, at)?.as_slice())?;
         lines.push(b'\n')?;
     }
+    Ok(())
+}
+
+/// Texts as the lines of one text.
+fn lines_of(texts: &Values) -> Result<Text, Fail> {
+    let mut lines = Text::new(texts.allocator());
+    push_lines(&mut lines, texts)?;
     Ok(lines)
 }
 
@@ -85,15 +91,21 @@ pub(crate) fn act(alloc: Global, stack: &mut Stack, script: &Script) -> Result<V
     exchanged_or_nil(alloc, Some(done))
 }
 
-/// Values for the first locals.
-fn first_sets(values: &Values) -> Result<LocalSets, AllocError> {
-    let mut sets = LocalSets::new(values.allocator());
+/// Adds values for the first locals.
+fn push_sets(sets: &mut LocalSets, values: &Values) -> Result<(), AllocError> {
     let mut local: u8 = 0;
     for value in values.as_slice() {
         let value = copy_value(value)?;
         sets.push(LocalSet { local, value })?;
         local = local.saturating_add(1);
     }
+    Ok(())
+}
+
+/// Values for the first locals.
+fn first_sets(values: &Values) -> Result<LocalSets, AllocError> {
+    let mut sets = LocalSets::new(values.allocator());
+    push_sets(&mut sets, values)?;
     Ok(sets)
 }
 

@@ -37,13 +37,19 @@ fn slot_value(alloc: Global, slot: usize, value: Value) -> Result<Value, Fail> {
     Ok(triple_value(alloc, text_value(alloc, b"slot")?, slot, value)?)
 }
 
-/// Each slot, and what is to be written to it.
-fn writes_value(alloc: Global, writes: &Writes) -> Result<Value, Fail> {
-    let mut values = list_from(alloc, b"slots")?;
+/// Adds each slot, and what is to be written to it.
+fn push_writes(values: &mut Values, writes: &Writes) -> Result<(), Fail> {
     for write in writes.as_slice() {
         values.push(count_value(write.slot)?)?;
         values.push(copy_value(&write.value)?)?;
     }
+    Ok(())
+}
+
+/// Each slot, and what is to be written to it.
+fn writes_value(alloc: Global, writes: &Writes) -> Result<Value, Fail> {
+    let mut values = list_from(alloc, b"slots")?;
+    push_writes(&mut values, writes)?;
     Ok(Value::List(values))
 }
 
