@@ -44,8 +44,8 @@ pub trait Core: Drop {
         ensures value { IfOk result (λ slots. slots ≡ shown self.now) }
         ensures exact { IfOk result (λ slots. read slots ≡ Some self.now) };
 
-    /// The call that a selector and the locals make, of those that only answer; none where they make
-    /// none. An error means that memory ran out.
+    /// The call that a selector and the locals make, of those that only answer; none where they
+    /// make none. An error means that memory ran out.
     fn call_in(selector: &Text, inv: &Invocation) -> Result<Option<Self::Call>, AllocError>
         ensures value { IfOk result (λ call. call ≡ asked selector.now inv.now) }
         ensures taken { IfOk result (λ call. IfSome call Takes) };

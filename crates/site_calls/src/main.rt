@@ -1,5 +1,5 @@
-//! Plays rows of calls of the parts of a site, and of what reads and writes its messages as bytes,
-//! and compares each answer with the one that stands beside the call.
+//! Plays rows of calls of the parts of a site, and of what reads and writes its messages as bytes.
+//! Each answer is compared with the one that stands beside the call.
 //!
 //! It stands on the crates of these parts, do_coder and do_frames, and calls public functions
 //! alone. The rows are files; their bytes and what they expect were worked out by hand. A row whose
