@@ -37,22 +37,37 @@ pub fn answer_for<B: Behaviour>(
     act_of(alloc, behaviour, signature, &mut inv, slots)
 }
 
-/// Whether an act raises Type.
-pub fn is_type_fault(act: Option<Act>) -> bool {
-    matches!(&act, Some(Act::Raise(Exc::TypeFault)))
+// Each of these takes the act that it tells of, so that no test drops one. What it tells is told
+// behind a reference, where no act is owned.
+
+fn has_type_fault(act: &Option<Act>) -> bool {
+    matches!(act, Some(Act::Raise(Exc::TypeFault)))
 }
 
-/// Whether an act raises a text.
-pub fn raises(act: Option<Act>, bytes: &[u8]) -> bool {
-    match &act {
+/// Whether an act raises Type.
+pub fn is_type_fault(act: Option<Act>) -> bool {
+    has_type_fault(&act)
+}
+
+fn has_text(act: &Option<Act>, bytes: &[u8]) -> bool {
+    match act {
         Some(Act::Raise(Exc::User(text))) => text.is(bytes),
         _ => false,
     }
 }
 
+/// Whether an act raises a text.
+pub fn raises(act: Option<Act>, bytes: &[u8]) -> bool {
+    has_text(&act, bytes)
+}
+
+fn has_nil(act: &Option<Act>) -> bool {
+    matches!(act, Some(Act::Return { value: Value::Nil }))
+}
+
 /// Whether an act returns nil.
 pub fn returns_nil(act: Option<Act>) -> bool {
-    matches!(&act, Some(Act::Return { value: Value::Nil }))
+    has_nil(&act)
 }
 
 /// Whether an act is a step.
@@ -60,17 +75,20 @@ pub fn is_step(act: Option<Act>) -> bool {
     act.is_none()
 }
 
-/// Whether an act returns this value.
-pub fn returns(act: Option<Act>, value: Value) -> bool {
+fn has_value(act: &Option<Act>, value: &Value) -> bool {
     match act {
-        Some(Act::Return { value: returned }) => returned == value,
+        Some(Act::Return { value: returned }) => *returned == *value,
         _ => false,
     }
 }
 
-/// Whether an act sends this message to an object, with these arguments.
-pub fn sends(act: Option<Act>, to: Oid, name: &[u8], arguments: Values) -> bool {
-    match &act {
+/// Whether an act returns this value.
+pub fn returns(act: Option<Act>, value: Value) -> bool {
+    has_value(&act, &value)
+}
+
+fn has_message(act: &Option<Act>, to: Oid, name: &[u8], arguments: &Values) -> bool {
+    match act {
         Some(
             Act::Send {
                 target,
@@ -78,7 +96,12 @@ pub fn sends(act: Option<Act>, to: Oid, name: &[u8], arguments: Values) -> bool 
                 args,
                 ..
             },
-        ) => *target == Value::Obj(to) && selector.is(name) && *args == arguments,
+        ) => *target == Value::Obj(to) && selector.is(name) && *args == *arguments,
         _ => false,
     }
+}
+
+/// Whether an act sends this message to an object, with these arguments.
+pub fn sends(act: Option<Act>, to: Oid, name: &[u8], arguments: Values) -> bool {
+    has_message(&act, to, name, &arguments)
 }
