@@ -4,12 +4,16 @@ ghost use Rattle.std.specs.Prelude.{◌≡◌, ◌+◌, ◌<◌, ◌≤◌, OnOk
 use do_base::Word;
 use do_lab::{ChildId, SpawnFail, Spawner};
 use std::alloc::Global;
-use std::net::{Ipv4Addr, Net, TcpStream};
+use std::net::{Ipv4Addr, Net, OpenStream, SocketAddr, TcpStream};
 use std::process::{Child, Command, Processes, Stdio};
-use std::{io, str};
+use std::time::{Clock, Duration};
+use std::{io, str, thread};
 
-/// How often the port of a new child is tried.
-const TRIES: u32 = 100_000;
+/// How often the port of a new child is tried, a millisecond apart.
+const TRIES: u32 = 10_000;
+
+/// For how many milliseconds one try waits. A child whose queue is full does not answer.
+const TRY_TIME: u64 = 100;
 
 /// What `sh` does with its words: the path of the program, a command, and the port. The words are
 /// parameters, and no part of this text.
@@ -17,8 +21,9 @@ const SCRIPT: &str = "p=$3; exec \"$@\" >\"$p.record\"";
 
 /// Starts a program through `sh`, which sends its standard output to the file `PORT.record`.
 ///
-/// A start answers once the port accepts a connection or 100,000 tries were spent. It is `Failed`
-/// only where the program could not be started. It tells no list.
+/// A start answers once the port accepts a connection, the child has ended, or 10,000 tries were
+/// spent, a millisecond apart. It is `Failed` only where the program could not be started. It tells
+/// no list.
 #[derive(Drop)]
 pub struct ProcSpawner<R: Processes> {
     rt: R,
@@ -62,12 +67,27 @@ fn start_child<R: Processes>(
     command.spawn(rt)
 }
 
-/// Tries a port until it accepts a connection, or the tries are spent.
-fn await_port<R: Net>(rt: &R, port: u16) {
+/// Tries a port until it accepts a connection, the child has ended, or the tries are spent.
+fn await_port<R: Processes + Net + Clock>(rt: &R, child: &mut Child<R::Started>, port: u16) {
+    let address = SocketAddr::from((Ipv4Addr::LOCALHOST, port));
     for _ in 0..TRIES {
-        if TcpStream::connect(rt, (Ipv4Addr::LOCALHOST, port)).is_ok() {
+        match TcpStream::connect_timeout(rt, &address, Duration::from_millis(TRY_TIME)) {
+            Ok(stream) if !is_own(&stream) => return,
+            _ => {}
+        }
+        if matches!(child.try_wait(), Ok(Some(_))) {
             return;
         }
+        thread::sleep(rt, Duration::from_millis(1));
+    }
+}
+
+/// Whether a stream goes to itself. The system may give a stream the very port that it asks for,
+/// where nobody listens there.
+fn is_own(stream: &impl OpenStream) -> bool {
+    match (stream.local_addr(), stream.peer_addr()) {
+        (Ok(near), Ok(far)) => near == far,
+        _ => false,
     }
 }
 
@@ -80,7 +100,7 @@ fn port_of(words: &[Word]) -> Option<u16> {
     }
 }
 
-impl<R: Processes + Net> ProcSpawner<R> {
+impl<R: Processes + Net + Clock> ProcSpawner<R> {
     /// Starts a child, and waits for its port.
     fn start_one(&mut self, words: &[Word]) -> io::Result<()>
         ensures faults { self.new.faults ≡ self.old.faults }
@@ -91,16 +111,16 @@ impl<R: Processes + Net> ProcSpawner<R> {
             return Err(io::Error::from(io::ErrorKind::NotFound));
         };
         self.children.reserve(1)?;
-        let child = start_child(&self.rt, self.alloc, program.as_str(), words)?;
-        self.children.push(child)?;
+        let mut child = start_child(&self.rt, self.alloc, program.as_str(), words)?;
         if let Some(port) = port_of(words) {
-            await_port(&self.rt, port);
+            await_port(&self.rt, &mut child, port);
         }
+        self.children.push(child)?;
         Ok(())
     }
 }
 
-impl<R: Processes + Net> Spawner for ProcSpawner<R> {
+impl<R: Processes + Net + Clock> Spawner for ProcSpawner<R> {
     ghost told = { λ _. None };
 
     ghost faults = { λ s. s.faults };

@@ -1,23 +1,26 @@
 //! The sink over an output of the system.
-ghost use Rattle.std.specs.Prelude.{◌≡◌, ◌<◌, ◌≤◌, length, take, None, Err, IfOk, IfSome};
+ghost use Rattle.std.specs.Prelude.{◌≡◌, ◌<◌, ◌≤◌, [], length, take, Some, Err, IfOk, IfSome};
 ghost use Rattle.std.specs.Prelude.{MatchOption, IsErrOf, OnOk, OnErr};
 ghost use Rattle.std.specs.Io.KnownBytes.{Keeps, Appends, WriteAppends};
 ghost use Rattle.do_base.specs.outside.Bytes.{with_more};
 ghost use Rattle.do_base.specs.outside.Causes.{next_count, Rose};
 
 use do_base::{PutFail, Sink};
+use do_taken::{Piece, Taken};
 use std::io::{ErrorKind, Write};
 use std::marker::Model;
 
 /// An output of the system, as standard output, with no buffer between.
 ///
-/// Contracts see it as the output and a count of faults: puts that answered `Failed`. No contract
-/// can see what an output of the system holds; one in memory may tell. The form is this
-/// project's own.
+/// Contracts see it as the output, a count of faults, which are puts that answered `Failed`, and the
+/// bytes that the output took: those that its writes counted, in order. It tells these bytes. No
+/// contract can see what an output of the system makes of them; one in memory may tell. The form is
+/// this project's own.
 #[derive(Drop)]
 pub struct StdSink<W: Write> {
     out: W,
     faults: u64,
+    taken: Taken,
 }
 
 impl<W: Write> Model for StdSink<W> {
@@ -27,15 +30,19 @@ impl<W: Write> Model for StdSink<W> {
 
     ghost coded = { counting_code W.code };
 
-    ghost view = { λ s. record { output = s.out; faults = s.faults } };
+    ghost view = { λ s. record { output = s.out; faults = s.faults; taken = s.taken.bytes } };
 }
 
 impl<W: Write> StdSink<W> {
     /// A sink before its first put.
     pub fn new(out: W) -> StdSink<W>
-        ensures { result ≡ record { output = out; faults = 0 } }
+        ensures { result ≡ record { output = out; faults = 0; taken = [] } }
     {
-        StdSink { out, faults: 0 }
+        StdSink {
+            out,
+            faults: 0,
+            taken: Taken::new(),
+        }
     }
 }
 
@@ -61,7 +68,7 @@ fn write_some<W: Write>(out: &mut W, piece: &[u8]) -> Option<usize>
 }
 
 impl<W: Write> Sink for StdSink<W> {
-    ghost written = { λ _. None };
+    ghost written = { λ s. Some s.taken };
 
     ghost faults = { λ s. s.faults };
 
@@ -72,6 +79,9 @@ impl<W: Write> Sink for StdSink<W> {
     fn put(&mut self, piece: &[u8]) -> Result<usize, PutFail>
         requires { 0 < length piece.now }
         ensures count { IfOk result (λ n. (0 < n) × (n ≤ length piece.now)) }
+        ensures ok { IfOk result
+            (λ n. Some self.new.taken ≡ with_more (Some self.old.taken) (take n piece.now)) }
+        ensures err { OnErr result (Some self.new.taken ≡ Some self.old.taken) }
         ensures later { self.old.faults ≤ self.new.faults }
         ensures failed { IsErrOf result PutFail.Failed → Rose self.old.faults self.new.faults }
 
@@ -85,7 +95,13 @@ impl<W: Write> Sink for StdSink<W> {
         ensures no_fault { OnOk result (self.new.faults ≡ self.old.faults) }
     {
         match write_some(&mut self.out, piece) {
-            Some(count) => Ok(count),
+            Some(count) => {
+                self.taken = self.taken.with(&Piece {
+                    bytes: piece,
+                    count,
+                });
+                Ok(count)
+            }
             None => {
                 self.faults = self.faults.saturating_add(1);
                 Err(PutFail::Failed)

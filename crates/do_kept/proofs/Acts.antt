@@ -1,33 +1,40 @@
 -- Acts of native methods whose values can be carried.
-use Rattle.std.proofs.Common.{◌≡◌, ◌==◌, ◌&&◌, ◌+◌, ℕ, Bool, true, false, cond}
+use Rattle.std.proofs.Common.{◌≡◌, ◌==◌, ◌&&◌, ◌+◌, ◌<◌, ℕ, Bool, true, false, cond}
 use Rattle.std.proofs.Common.{List as Listed, [], ◌∷◌, length, map, refl, ◌∙◌}
-use Rattle.std.specs.Prelude.{None, Option, Some, slice_index_or, slice_set, suc, zero}
+use Rattle.std.specs.Prelude.{None, Option, Some, option_and_then, option_map, slice_get}
+use Rattle.std.specs.Prelude.{slice_index_or, slice_set, suc, zero}
 use Rattle.std.specs.List.{AllByRecursion, list_all}
 use Rattle.std.specs.Option.{IfSome}
 use Rattle.std.proofs.lemmas.Bool.{and_parts}
 use Rattle.std.proofs.lemmas.List.{length-set}
+use Rattle.std.proofs.lemmas.Option.{slice_get_within}
 use Rattle.do_base.specs.values.Equal.{value_eq}
 use Rattle.do_base.specs.declared.events.exception.Exc.{Exc}
 use Rattle.do_base.specs.declared.events.exception.Exc.TheVariants.{Range, TypeFault}
 use Rattle.do_base.specs.declared.values.value.Value.{Value}
 use Rattle.do_class.specs.Class.{Class}
+use Rattle.do_class.specs.Table.{selector_of}
+use Rattle.do_class.specs.declared.ids.MethodId.{MethodId}
+use Rattle.do_class.specs.declared.method.Method.{Method}
 use Rattle.do_grammar.specs.Words.{◌>>?◌}
 use Rattle.do_behave.specs.Changes.{with_set}
 use Rattle.do_behave.specs.Steps.{local, or_fault}
 use Rattle.do_behave.specs.declared.act.Act.{Act}
-use Rattle.do_behave.specs.declared.act.Act.TheVariants.{Raise, Return, Step}
+use Rattle.do_behave.specs.declared.act.Act.TheVariants.{Raise, Return, Send, Step}
 use Rattle.do_behave.specs.declared.act.Write.{Write}
 use Rattle.do_behave.specs.declared.change.LocalSet.{LocalSet}
 use Rattle.do_behave.specs.declared.invocation.Handler.{Handler}
 use Rattle.do_behave.specs.declared.invocation.Invocation.{Invocation}
 use Rattle.do_native_acts.specs.Limited.{is_limited}
-use Rattle.do_native_acts.specs.Places.{at_place, by_selector, in_two, returns, selector_in}
-use Rattle.do_native_acts.specs.Steps.{changes, fits, steps}
-use Rattle.do_facts.proofs.EachOfLists.{each_joined, each_mapped, each_set}
-use Rattle.do_limits.specs.Sendable.{AreSendable, IsSendable, IsSendableExc}
+use Rattle.do_native_acts.specs.Places.{aside, at_place, by_selector, does_call, in_two}
+use Rattle.do_native_acts.specs.Places.{returns, selector_in, sends}
+use Rattle.do_native_acts.specs.Steps.{answered, changes, fits, set, steps}
+use Rattle.do_facts.proofs.EachOfLists.{each_joined, each_mapped, each_set, each_weaker}
+use Rattle.do_limits.specs.Sendable.{AreSendable, IsOfTable, IsSendable, IsSendableExc}
 use Rattle.do_limits.specs.SendableActs.{ActIsSendable}
 use Rattle.do_limits.proofs.runs.Verdicts.{textless}
 use Rattle.do_limits.proofs.scripts.Locals.{value_at}
+use Rattle.do_kept.proofs.Limited.{AllHaveAtoms, HasAtoms, limited_sendable}
 
 -- a value that can be carried where it passes the test of native acts
 abbrev pub IsSendableIfLimited : Value → Type 0
@@ -72,6 +79,20 @@ changes_kept P at (v ∷ old) (w ∷ new) h =
         (record { slot = at; value = w } ∷ changes (at + 1) old new))
     go true rest = rest
     go false rest = (h.0, rest)
+
+-- ---- classes
+
+-- the class of a method that is there is one of the table
+pub class_there : (table : Listed Class) (method : MethodId) (selector : Listed ℕ) →
+    selector_of table method ≡ Some selector → IsOfTable table method.class
+class_there table method selector is = by (slice_get table method.class.0) refl is
+  where
+    by : (o : Option Class) → slice_get table method.class.0 ≡ o →
+        option_map (λ (m : Method). m.selector)
+        (option_and_then (λ (c : Class). slice_get c.methods method.index) o) ≡ Some selector →
+        method.class.0 < length table
+    by None at e = cc
+    by (Some c) at e = slice_get_within table method.class.0 c at
 
 -- ---- acts
 
@@ -149,6 +170,18 @@ module _ (table : Listed Class) (inv : Invocation) (all : AreSendable inv.locals
       ((selector : Listed ℕ) → MaySound (does selector)) → Sound (by_selector table inv does)
   selector_sound does each = whatever_sound (selector_in table inv) does each
 
+  -- the act of each selector of a method that is there
+  pub known_sound : (does : Listed ℕ → Option Act) →
+      ((selector : Listed ℕ) → selector_of table inv.method ≡ Some selector →
+      MaySound (does selector)) → Sound (by_selector table inv does)
+  known_sound does each = by (length inv.locals == 16) (selector_of table inv.method) refl
+    where
+      by : (b : Bool) (o : Option (Listed ℕ)) → selector_of table inv.method ≡ o →
+          MaySound (cond b o None >>? does)
+      by true None is = type_fault
+      by true (Some selector) is = each selector is
+      by false o is = type_fault
+
   -- a step, whose new values are tested
   pub step_sound : (to : ℕ) (sets : Listed LocalSet) (handler : Option Handler)
       (writes : Listed Write) →
@@ -179,3 +212,52 @@ module _ (table : Listed Class) (inv : Invocation) (all : AreSendable inv.locals
       ((x : A) → P x → Sound (f x)) → Sound (fits o f)
   fits_sound P None f q each = range_fault
   fits_sound P (Some x) f q each = each x q
+
+  -- a step that sets such values
+  pub sets_sound : (to : ℕ) (sets : Listed LocalSet) (handler : Option Handler) →
+      AllByRecursion (λ (s : LocalSet). HasAtoms s.value) sets →
+      Sound (steps inv to sets handler [])
+  sets_sound to sets handler new =
+      step_sound to sets handler []
+      (each_weaker (λ (s : LocalSet). HasAtoms s.value)
+      (λ (s : LocalSet). IsSendableIfLimited s.value) (λ s. limited_sendable s.value) sets new) tt
+
+  -- a step that also keeps slots
+  pub keeps_sound : (to : ℕ) (sets : Listed LocalSet) (handler : Option Handler)
+      (slots new : Listed Value) → AllByRecursion (λ (s : LocalSet). HasAtoms s.value) sets →
+      AllHaveAtoms new → Sound (steps inv to sets handler (changes 0 slots new))
+  keeps_sound to sets handler slots new set kept =
+      step_sound to sets handler (changes 0 slots new)
+      (each_weaker (λ (s : LocalSet). HasAtoms s.value)
+      (λ (s : LocalSet). IsSendableIfLimited s.value) (λ s. limited_sendable s.value) sets set)
+      (changes_kept IsSendableIfLimited 0 slots new
+      (each_weaker HasAtoms IsSendableIfLimited limited_sendable new kept))
+
+  -- a message to what a local holds
+  pub sends_sound : (target : ℕ) (selector : Listed ℕ) (args : Listed Value) (to : ℕ) →
+      AreSendable args → MaySound (sends inv target selector args to)
+  sends_sound target selector args to h =
+      local_sound target (λ v. Some (Send v selector args 13 (aside args) to))
+      (λ v k. ((k, h), (tt, (tt, tt))))
+
+  -- a method that only answers
+  pub answers_sound : {Core Call : Type 0} (from : Listed Value → Option Core)
+      (to : Core → Listed Value) (does : Core → Call → Option (Core × Value)) (call : Option Call)
+      (slots : Listed Value) (KeptCore : Core → Type 0) (KeptCall : Call → Type 0) →
+      IfSome (from slots) KeptCore → IfSome call KeptCall →
+      ((core : Core) (asked : Call) → KeptCore core → KeptCall asked →
+      IfSome (does core asked) (λ (d : Core × Value). KeptCore d.0 × HasAtoms d.1)) →
+      ((core : Core) → KeptCore core → AllHaveAtoms (to core)) →
+      MaySound (in_two inv (does_call from to does call inv slots))
+  answers_sound {Core} {Call} from to does call slots KeptCore KeptCall read asks done shows =
+      two_sound (does_call from to does call inv slots)
+      (then_sound KeptCore (from slots)
+      (λ core. call >>? λ asked.
+      Some (fits (does core asked) (λ d. answered inv d.1 (changes 0 slots (to d.0))))) read
+      (λ core h. then_sound KeptCall call
+      (λ asked. Some (fits (does core asked) (λ d. answered inv d.1 (changes 0 slots (to d.0)))))
+      asks
+      (λ asked k. fits_sound (λ (d : Core × Value). KeptCore d.0 × HasAtoms d.1) (does core asked)
+      (λ d. answered inv d.1 (changes 0 slots (to d.0))) (done core asked h k)
+      (λ d q. keeps_sound 1 (set 14 d.1 ∷ []) inv.handler slots (to d.0) (q.1, tt)
+      (shows d.0 q.0)))))

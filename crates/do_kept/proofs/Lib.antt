@@ -1,5 +1,12 @@
 pub mod Limited
+pub mod ReadValues
+pub mod Tables
 pub mod Acts
 pub mod Checkers
 pub mod Names
+pub mod Services
+pub mod Boards
+pub mod Notifications
+pub mod Centers
 pub mod Natives
+pub mod Ranged

@@ -1,7 +1,8 @@
 -- A value within the limits on its texts and lists can be carried where its atoms can.
-use Rattle.std.proofs.Common.{◌≡◌, ◌&&◌, ◌-◌, ℕ, ℤ, Bool, true, List as Listed, [], ◌∷◌}
+use Rattle.std.proofs.Common.{◌≡◌, ◌&&◌, ◌-◌, ◌*◌, ◌<◌, ℕ, ℤ, Bool, true, false}
+use Rattle.std.proofs.Common.{List as Listed, [], ◌∷◌}
 use Rattle.std.proofs.Common.{length, map, refl, sym, ap, ◌∙◌, arith, rules}
-use Rattle.std.specs.Prelude.{nat_le, nat_lt, suc, zero, ◌^◌}
+use Rattle.std.specs.Prelude.{nat_le, nat_lt, pos, suc, zero, ◌^◌}
 use Rattle.std.specs.List.{AllByRecursion, list_all}
 use Rattle.std.proofs.lemmas.Bool.{and_from, and_parts}
 use Rattle.std.proofs.lemmas.Bool.Decides.{nat_tests}
@@ -16,7 +17,9 @@ use Rattle.do_grammar.specs.Num.{zigzag}
 use Rattle.do_coder.specs.Parts.{is_bytes}
 use Rattle.do_behave.specs.Limits.{has_small_parts, nests_within}
 use Rattle.do_behave.specs.laws.Nesting.{nests_within-List_none, nests_within-deeper}
+use Rattle.do_behave.specs.Numbers.{truth}
 use Rattle.do_native_acts.specs.Limited.{is_limited}
+use Rattle.do_native_acts.specs.Rows.{listed}
 use Rattle.do_limits.specs.Sendable.{IsSendable, can_carry}
 use Rattle.do_limits.proofs.values.Carried.{carry-List, carry-Nil, carry-Num, carry-Obj, carry-Text}
 use Rattle.do_kept.specs.Atoms.{has_atoms}
@@ -59,6 +62,36 @@ list_atoms vs h = atoms-List vs ∙ go vs h
     go : (vs : Listed Value) → AllHaveAtoms vs → list_all (λ b. b) (map has_atoms vs) ≡ true
     go [] h = refl
     go (v ∷ vs) h = and_from (has_atoms v) _ h.0 (go vs h.1)
+
+-- and the items of such a list
+pub parts_atoms : (vs : Listed Value) → HasAtoms (List vs) → AllHaveAtoms vs
+parts_atoms vs h = go vs (sym (atoms-List vs) ∙ h)
+  where
+    go : (vs : Listed Value) → list_all (λ b. b) (map has_atoms vs) ≡ true → AllHaveAtoms vs
+    go [] e = tt
+    go (v ∷ vs) e = let es = and_parts (has_atoms v) _ e in (es.0, go vs es.1)
+
+-- a list as a slot keeps it
+pub listed_atoms : (vs : Listed Value) → AllHaveAtoms vs → HasAtoms (listed vs)
+listed_atoms [] h = atoms-Nil
+listed_atoms (v ∷ vs) h = list_atoms (v ∷ vs) h
+
+-- and the items of such a list
+pub rows_atoms : (vs : Listed Value) → HasAtoms (listed vs) → AllHaveAtoms vs
+rows_atoms [] h = tt
+rows_atoms (v ∷ vs) h = parts_atoms (v ∷ vs) h
+
+-- a number from 0 on of 63 bits has atoms
+pub count_atoms : (n : ℕ) → n < 9223372036854775808 → HasAtoms (Num (pos n))
+count_atoms n h = atoms-Num (pos n) ∙ less n h
+  where
+    less : (k : ℕ) → k < 9223372036854775808 → nat_lt (2 * k) 18446744073709551616 ≡ true
+    less k h = grind (arith, nat_tests, h)
+
+-- so has a truth
+pub truth_atoms : (b : Bool) → HasAtoms (Num (truth b))
+truth_atoms true = count_atoms 1 (omega arith)
+truth_atoms false = count_atoms 0 (omega arith)
 
 -- ---- small parts, kind by kind
 

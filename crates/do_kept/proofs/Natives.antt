@@ -16,10 +16,13 @@ use Rattle.do_limits.specs.Sendable.{AreSendable}
 use Rattle.do_limits.specs.SendableActs.{KeepsSendable}
 use Rattle.do_limits.specs.SendableCodes.{CodesAreSendable}
 use Rattle.do_limits.proofs.scripts.Instructions.{scripts_keep}
-use Rattle.do_kept.specs.Kept.{KindKeeps, RulesAreSendable}
+use Rattle.do_kept.specs.Kept.{RulesAreSendable}
 use Rattle.do_kept.proofs.Acts as acts
+use Rattle.do_kept.proofs.Boards.{pasteboards_keep}
+use Rattle.do_kept.proofs.Centers.{centers_keep}
 use Rattle.do_kept.proofs.Checkers.{checkers_keep}
 use Rattle.do_kept.proofs.Names.{names_keep}
+use Rattle.do_kept.proofs.Services.{services_keep}
 
 -- what holds of each holds of one that is found
 found : {X : Type 0} (P : X → Type 0) (xs : Listed X) (k : ℕ) → AllByRecursion P xs →
@@ -33,14 +36,14 @@ module _ (b : Native) (codes : CodesAreSendable b.program)
     (slots : Listed Value) (all : AreSendable inv.locals) (sixteen : length inv.locals ≡ 16)
     (of_slots : AreSendable slots) where
   -- the act of each kind
-  kind_sound : (kind : Kind) → KindKeeps table kind →
+  kind_sound : (kind : Kind) →
       acts.MaySound table inv all sixteen (acts_as b kind table inv slots)
-  kind_sound Script h = scripts_keep b.program codes table inv slots all sixteen of_slots
-  kind_sound Names h = names_keep table inv slots all sixteen of_slots
-  kind_sound Pasteboard h = h inv slots all sixteen of_slots
-  kind_sound Services h = h inv slots all sixteen of_slots
-  kind_sound Center h = h inv slots all sixteen of_slots
-  kind_sound Checker h =
+  kind_sound Script = scripts_keep b.program codes table inv slots all sixteen of_slots
+  kind_sound Names = names_keep table inv slots all sixteen of_slots
+  kind_sound Pasteboard = pasteboards_keep table inv slots all sixteen of_slots
+  kind_sound Services = services_keep table inv slots all sixteen of_slots
+  kind_sound Center = centers_keep table inv slots all sixteen of_slots
+  kind_sound Checker =
       acts.then_sound table inv all sixteen RulesAreSendable
       (slice_get b.rules inv.method.class.0) (λ rs. Some (check_act rs table inv slots))
       (found RulesAreSendable b.rules inv.method.class.0 rules)
@@ -49,9 +52,8 @@ module _ (b : Native) (codes : CodesAreSendable b.program)
 -- each act
 pub natives_keep : (b : Native) → CodesAreSendable b.program →
     AllByRecursion RulesAreSendable b.rules → (table : Listed Class) →
-    AllByRecursion (KindKeeps table) b.kinds → KeepsSendable table (native_act b)
-natives_keep b codes rules table kinds inv slots all sixteen of_slots =
-    acts.then_sound table inv all sixteen (KindKeeps table)
-    (slice_get b.kinds inv.method.class.0) (λ kind. acts_as b kind table inv slots)
-    (found (KindKeeps table) b.kinds inv.method.class.0 kinds)
+    KeepsSendable table (native_act b)
+natives_keep b codes rules table inv slots all sixteen of_slots =
+    acts.whatever_sound table inv all sixteen (slice_get b.kinds inv.method.class.0)
+    (λ kind. acts_as b kind table inv slots)
     (kind_sound b codes rules table inv slots all sixteen of_slots)

@@ -2,13 +2,13 @@
 //!
 //! It stands on the definitions of the acts of each kind of class and on the limits of messages. It
 //! has no code of its own: each of its functions is a law, of every table, invocation and slots. It
-//! promises it of checkers and of servers of names, and of a world's whole behaviour where it holds
-//! of the other servers that the world has.
+//! promises it of checkers and of servers of each kind, and so of a world's whole behaviour.
 #![tactic(auto)]
 
 mod laws;
 
 pub use laws::{
-    checkers_keep_values_sendable, native_acts_keep_values_sendable,
-    servers_of_names_keep_values_sendable,
+    centers_keep_values_sendable, checkers_keep_values_sendable, native_acts_keep_values_sendable,
+    pasteboards_keep_values_sendable, servers_of_names_keep_values_sendable,
+    servers_of_services_keep_values_sendable, worlds_keep_values_sendable,
 };

@@ -1,6 +1,6 @@
 -- What of a text that is so was added.
 use Rattle.std.proofs.Common.{◌≡◌, ◌⊎◌, ℕ, List, None, Option, Some, Result, Ok}
-use Rattle.std.proofs.Common.{Err, inl, inr, refl}
+use Rattle.std.proofs.Common.{Err, ◌∙◌, inl, inr, refl}
 use Rattle.std.specs.Prelude.{IfSome, IsOk, OnOk, codes}
 use Rattle.do_base.specs.outside.Bytes.{with_more, HasWritten}
 use Rattle.do_base.specs.declared.outside.shelf.NamedFile.{NamedFile}
@@ -12,10 +12,16 @@ use Rattle.do_given.specs.Parts.{behaviour_of}
 use Rattle.do_given.specs.Reading.{GivesScheduled, GivesWorld}
 use Rattle.do_given.specs.declared.scheduled.Scheduled.{Scheduled}
 use Rattle.do_native.specs.Acts.{native_act}
+use Rattle.do_transcript.specs.Transcript.{transcript_from}
+use Rattle.do_world.specs.Sound.{IsSound}
 use Rattle.do_world.specs.declared.world.World.{World}
+use Rattle.do_plain.specs.Named.{AreNamed}
+use Rattle.do_plain.proofs.Texts.{transcript_stays}
+use Rattle.do_plain.proofs.Worlds.{builtin_has, text_has}
 use Rattle.do_network.specs.Net.{net_opening}
 use Rattle.do_network.specs.Wired.{net_blocks}
 use Rattle.do_agreement.specs.HasWires.{HasWires}
+use Rattle.do_agreement.specs.WithoutWires.{without_wires}
 use Rattle.do_agreement.proofs.texts.WiresDropped.{wires_fall_out}
 use Rattle.do_replay.specs.Replayed.{WritesWithWires}
 use Rattle.do_given.specs.declared.status.Status.{Status}
@@ -45,32 +51,50 @@ module _ (Is : List ℕ → Type 0) (old new : Option (List ℕ)) where
   adds_so text (Err status) so found written first =
       record { whole = λ ok. absurd (not_ok status ok); first = first }
 
+-- the classes of a world that a word gives have names
+given_named : (told : Option (List NamedFile)) (word : List ℕ) (world : World) →
+    GivesWorld told word world → AreNamed world.table
+given_named told word world (inl is) = builtin_has word world is
+given_named told word world (inr says) = text_has says.1.bytes world says.1.is_read
+
+-- no line of the one machine's transcript says what was sent
+transcript_plain : (told : Option (List NamedFile)) (word name : List ℕ) (given : Scheduled) →
+    IsSound given.world → GivesScheduled told word name given →
+    without_wires (world_transcript given.world given.lines)
+    ≡ world_transcript given.world given.lines
+unfolding world_transcript transcript_from
+transcript_plain told word name given sound gives =
+    transcript_stays given.world.table sound.opens.classes
+    (given_named told word given.world gives.gives) (native_act (behaviour_of given.world))
+    given.world.nodes given.lines gives.says.is_read.good
+
 -- a text that is the one machine's with what was sent put in
 local_replay : (told : Option (List NamedFile)) (word name : List ℕ) (given : Scheduled) →
-    GivesScheduled told word name given → (text : List ℕ) →
+    IsSound given.world → GivesScheduled told word name given → (text : List ℕ) →
     HasWires (world_transcript given.world given.lines) text → IsLocalReplay told word name text
-local_replay told word name given gives text so = record {
+local_replay told word name given sound gives text so = record {
   given = given;
   gives = gives;
+  dropped = wires_fall_out (world_transcript given.world given.lines) text so
+      ∙ transcript_plain told word name given sound gives;
   wires = so;
-  dropped = wires_fall_out (world_transcript given.world given.lines) text so;
 }
 
 -- a replay added such a text, or the beginning of one
 pub replay_adds : (told : Option (List NamedFile)) (word name : List ℕ) (given : Scheduled) →
-    GivesScheduled told word name given → (old new : Option (List ℕ))
+    IsSound given.world → GivesScheduled told word name given → (old new : Option (List ℕ))
     (result : Result Unit Status) →
     OnOk result
     (HasWires (world_transcript given.world given.lines) (world_wired given.world given.lines)) →
     OnOk result (new ≡ with_more old (world_wired given.world given.lines)) →
     WritesWithWires old new (world_transcript given.world given.lines) →
     Adds (IsLocalReplay told word name) old new (IsOk result)
-replay_adds told word name given gives old new result wires written first =
+replay_adds told word name given sound gives old new result wires written first =
     adds_so (IsLocalReplay told word name) old new (world_wired given.world given.lines) result
-    (local_replay told word name given gives (world_wired given.world given.lines)) wires written
+    (local_replay told word name given sound gives (world_wired given.world given.lines)) wires written
     (inr (record {
       text = first.text;
-      writes = local_replay told word name given gives first.text first.wires;
+      writes = local_replay told word name given sound gives first.text first.wires;
       written = first.written;
     }))
 

@@ -13,7 +13,8 @@ use Rattle.do_net.specs.OneMachine.{StandsFor}
 use Rattle.do_network.specs.Net.{Net}
 use Rattle.do_sched.specs.declared.line.Line.{Line}
 use Rattle.do_world.specs.declared.world.World.{World}
-use Rattle.do_node.specs.Replaying.{lost_after, state_after, world_lost}
+use Rattle.do_node.specs.Replaying.{lost_after, world_lost}
+use Rattle.do_replay.specs.Replayed.{state_after}
 
 -- A network stands for a state from which the lines that are left lead to a last one
 pub record LeadsOn (table : List Class) (act : Acting) (last : State) (N : Net) (left : List Line)

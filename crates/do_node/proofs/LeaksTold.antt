@@ -1,6 +1,9 @@
 -- What `leaks` tells is each stored object that nothing can reach.
 use Rattle.std.proofs.Common.{◌≡◌, ℕ, List, Option, true, refl, ap, ◌∙◌, subst}
 use Rattle.std.specs.List.{AllByRecursion, flat_map}
+use Rattle.do_at_hand.specs.AtHand.{NamedAreStored}
+use Rattle.do_at_hand.proofs.Plain.{lines_plain}
+use Rattle.do_at_hand.proofs.Reached.{reached_stored}
 use Rattle.do_base.specs.declared.outside.shelf.NamedFile.{NamedFile}
 use Rattle.do_cycles.specs.Settled.{IsSettled}
 use Rattle.do_cycles.specs.Told.{TellsEachLost}
@@ -15,7 +18,9 @@ use Rattle.do_machine.specs.World.{opening}
 use Rattle.do_machine.specs.check.Blocks.{events_of}
 use Rattle.do_machine.specs.run.Run.{Acting}
 use Rattle.do_native.specs.Acts.{native_act}
+use Rattle.do_native.specs.laws.NativeLaws.{native_names_shown}
 use Rattle.do_quiet.proofs.EndsStayOpen.{stay_open}
+use Rattle.do_sched.specs.Good.{IsLine}
 use Rattle.do_sched.specs.declared.line.Line.{Line}
 use Rattle.do_world.specs.declared.world.World.{World}
 use Rattle.do_node.specs.Call.{IsLost}
@@ -48,6 +53,15 @@ module _ (w : World) (ls : List Line) where
       (stay_open w.table w.nodes acts events (lines_unbroken ls unbroken))
       (ap quiet is_reached ∙ idle))
 
+  -- where no end closed, what slots and invocations name is stored
+  is_named : AllByRecursion IsLine ls → AllByRecursion BreaksNothing ls →
+      NamedAreStored (world_after w ls)
+  is_named good unbroken =
+      let events = flat_map events_of ls in
+      subst NamedAreStored is_reached
+      (reached_stored w.table acts w.nodes (native_names_shown (behaviour_of w) w.table) events
+      (lines_plain ls good) (stay_open w.table w.nodes acts events (lines_unbroken ls unbroken)))
+
   -- the text is that of this state
   same_text : world_lost w ls ≡ lost_text w.table (world_after w ls)
   unfolding world_lost lost_after world_after
@@ -62,4 +76,5 @@ leaks_told told word name text h = record {
   is = h.is ∙ same_text h.given.world h.given.lines;
   each = all_told h.given.world h.given.lines;
   settled = is_settled h.given.world h.given.lines;
+  named = is_named h.given.world h.given.lines h.gives.says.is_read.good;
 }

@@ -15,3 +15,4 @@ pub mod TextsCome
 pub mod AsOneMachine
 pub mod RunsCome
 pub mod NodesCome
+pub mod OrdersKept

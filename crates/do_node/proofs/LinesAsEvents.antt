@@ -14,7 +14,7 @@ use Rattle.do_sched.specs.declared.line.Line.{Line}
 use Rattle.do_sched.specs.declared.line.Line.TheVariants as lines
 use Rattle.do_quiet.specs.Quiet.{IsNoBreak}
 use Rattle.do_node.specs.Leaking.{BreaksNothing}
-use Rattle.do_node.specs.Replaying.{state_after}
+use Rattle.do_replay.specs.Replayed.{state_after}
 
 module _ (table : List Class) (act : Acting) where
   -- events lead on from the state alone, whatever was shown before

@@ -17,7 +17,7 @@ use Rattle.do_node.specs.Rewoven.{GivesBack}
 use Rattle.do_node.specs.Weaving.{IsWoven, rules_of, world_woven}
 
 -- files that say records have bytes that are read as these
-files_read : (told : Option (List NamedFile)) (seats : List Seat) (names : List (List ℕ))
+pub files_read : (told : Option (List NamedFile)) (seats : List Seat) (names : List (List ℕ))
     (earlier records : List Record) → SayRecords told seats earlier names records →
     (files : List (List ℕ)) × AreRead seats earlier files records
 files_read told seats [] earlier records say = ([], say)
@@ -26,7 +26,7 @@ files_read told seats (name ∷ names) earlier records say =
     (say.1.bytes ∷ rest.0, (say.0, say.1.is_read, rest.1))
 
 -- what is woven over a world, from its opening on
-over_world : (w : World) (records : List Record) (lines : List Line) →
+pub over_world : (w : World) (records : List Record) (lines : List Line) →
     world_woven w records ≡ Ok lines →
     woven (rules_of w) (opening w.table w.nodes) records ≡ Ok lines
 unfolding world_woven

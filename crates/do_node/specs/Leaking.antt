@@ -2,6 +2,7 @@
 use Rattle.std.specs.Prelude.{◌≡◌, ℕ, List, Option, true}
 use Rattle.std.specs.List.{AllByRecursion}
 use Rattle.do_base.specs.declared.outside.shelf.NamedFile.{NamedFile}
+use Rattle.do_at_hand.specs.AtHand.{NamedAreStored}
 use Rattle.do_cycles.specs.Settled.{IsSettled}
 use Rattle.do_cycles.specs.Told.{TellsEachLost}
 use Rattle.do_given.specs.Parts.{behaviour_of}
@@ -12,7 +13,7 @@ use Rattle.do_lost.specs.Text.{lost_text}
 use Rattle.do_machine.specs.World.{opening}
 use Rattle.do_machine.specs.declared.state.State.{State}
 use Rattle.do_native.specs.Acts.{native_act}
-use Rattle.do_node.specs.Replaying.{state_after}
+use Rattle.do_replay.specs.Replayed.{state_after}
 use Rattle.do_sched.specs.declared.line.Line.{Line}
 use Rattle.do_sched.specs.declared.line.Line.TheVariants as lines
 use Rattle.do_world.specs.declared.world.World.{World}
@@ -29,7 +30,8 @@ world_after w ls = state_after w.table (native_act (behaviour_of w)) (opening w.
 
 -- The text is what nothing can reach after a schedule over a world, and none of it is left out.
 -- Where the schedule breaks nothing and nothing is on its way after it, the search for it started
--- at roots and invocations alone.
+-- at roots and invocations alone. Where it breaks nothing, each object that a slot or an invocation
+-- names is stored.
 pub record TellsLost (told : Option (List NamedFile)) (word name text : List ℕ) : Type 0 where
   pub given : Scheduled
   pub gives : GivesScheduled told word name given
@@ -38,3 +40,5 @@ pub record TellsLost (told : Option (List NamedFile)) (word name text : List ℕ
   pub settled : AllByRecursion BreaksNothing given.lines →
       quiet (world_after given.world given.lines) ≡ true →
       IsSettled (world_after given.world given.lines)
+  pub named : AllByRecursion BreaksNothing given.lines →
+      NamedAreStored (world_after given.world given.lines)

@@ -10,3 +10,4 @@ pub mod Rewoven
 pub mod Answering
 pub mod Running
 pub mod Call
+pub mod Orders

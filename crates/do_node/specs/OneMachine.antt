@@ -22,14 +22,13 @@ use Rattle.do_agreement.specs.WithoutWires.{without_wires}
 use Rattle.do_node.specs.Added.{AddsAll, AddsFirst}
 use Rattle.do_node.specs.Replaying.{world_transcript}
 
--- the text is the transcript of a schedule over one local machine, with lines `wire ..` put between
--- its lines
+-- The text is the transcript of a schedule over one local machine, once the lines that begin with
+-- `wire ` are dropped. These are whole lines, put between those of the transcript.
 pub record IsLocalReplay (told : Option (List NamedFile)) (word name text : List ℕ) : Type 0 where
   pub given : Scheduled
   pub gives : GivesScheduled told word name given
+  pub dropped : without_wires text ≡ world_transcript given.world given.lines
   pub wires : HasWires (world_transcript given.world given.lines) text
-  -- dropping the lines that begin with `wire ` leaves what it leaves of the transcript
-  pub dropped : without_wires text ≡ without_wires (world_transcript given.world given.lines)
 
 -- what each of these lines comes to in the one machine of a world
 abbrev pub local_blocks : World → List Line → List (Block Line)

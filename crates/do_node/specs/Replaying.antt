@@ -1,9 +1,8 @@
 -- What a schedule comes to over a world: as a transcript, in numbers, and what is lost then.
-use Rattle.std.specs.Prelude.{ℕ, List, [], ◌∷◌}
+use Rattle.std.specs.Prelude.{ℕ, List}
 use Rattle.do_sched.specs.declared.line.Line.{Line}
 use Rattle.do_class.specs.Class.{Class}
 use Rattle.do_machine.specs.World.{opening}
-use Rattle.do_machine.specs.check.Blocks.{line_step}
 use Rattle.do_machine.specs.declared.state.State.{State}
 use Rattle.do_machine.specs.run.Run.{Acting}
 use Rattle.do_native.specs.Acts.{native_act}
@@ -16,7 +15,7 @@ use Rattle.do_make.specs.Summary.{summary_of}
 use Rattle.do_make.specs.Text.{summary_text}
 use Rattle.do_network.specs.Net.{net_opening}
 use Rattle.do_network.specs.Wired.{net_blocks}
-use Rattle.do_replay.specs.Replayed.{wired_from}
+use Rattle.do_replay.specs.Replayed.{state_after, wired_from}
 
 -- the transcript of these lines over a world, from its opening on
 unfoldable pub world_transcript : World → List Line → List ℕ
@@ -32,12 +31,6 @@ world_wired w lines =
 unfoldable pub world_summary : World → List Line → List ℕ
 world_summary w lines = summary_text (summary_of
     (net_blocks w.table (native_act (behaviour_of w)) (net_opening w.table w.nodes) lines))
-
--- the state that these lines lead to
-abbrev pub state_after : List Class → Acting → State → List Line → State
-state_after table act S [] = S
-state_after table act S (line ∷ lines) =
-    state_after table act (line_step table act S line).state lines
 
 -- what nothing can reach after these lines, of classes whose objects act so
 unfoldable pub lost_after : List Class → Acting → State → List Line → List ℕ

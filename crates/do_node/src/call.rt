@@ -8,10 +8,12 @@ ghost use Rattle.do_cli.specs.Forms.{command_in, stuck_at};
 ghost use Rattle.do_cli.specs.declared.command.Command as commands;
 ghost use Rattle.do_cli.specs.declared.command.Command.TheVariants.{Leaks, Upgrade, Weave};
 ghost use Rattle.do_given.specs.declared.status.Status as declared;
+ghost use Rattle.do_given.specs.declared.status.Status.TheVariants as statuses;
 ghost use Rattle.do_node.specs.Call.{CanWrite, HasUnread, IsRefusal, Refuses, Writes, WritesAll};
 ghost use Rattle.do_node.specs.Call.{WritesNothing, WritesSome};
 ghost use Rattle.do_node.specs.OneMachine.{AddsAsOne};
 ghost use Rattle.do_node.specs.Leaking.{TellsLost};
+ghost use Rattle.do_node.specs.Orders.{HaveNoOrder, HaveOrder};
 ghost use Rattle.do_node.specs.Rewoven.{GivesBack};
 ghost use Rattle.do_node.specs.Running.{EndsWith, IsRunEnd, Links, Spawns};
 ghost use Rattle.do_node.specs.Running.{link_seen, spawner_seen};
@@ -123,6 +125,15 @@ pub fn run<H: Shelf, K: Sink, L: Link, P: Spawner>(
     ensures rewoven { (world : List ℕ) (records : List (List ℕ)) (text : List ℕ)
         → Writes (H.files shelf.old) (Weave world records) text
         → GivesBack (H.files shelf.old) world records text }
+
+    // That `weave` finds an order of the records' inputs, and a contradiction exactly where none
+    // does what the records say.
+    ensures ordered { (world : List ℕ) (records : List (List ℕ)) (text : List ℕ)
+        → Writes (H.files shelf.old) (Weave world records) text
+        → HaveOrder (H.files shelf.old) world records }
+    ensures unordered { (world : List ℕ) (records : List (List ℕ)) (index line : ℕ)
+        → Refuses (H.files shelf.old) (Weave world records) (statuses.Contradiction index line)
+        → HaveNoOrder (H.files shelf.old) world records }
 
     ensures same { H.files shelf.new ≡ H.files shelf.old }
     ensures shelf_faults { H.faults shelf.old ≤ H.faults shelf.new }

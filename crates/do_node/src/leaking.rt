@@ -4,7 +4,8 @@ ghost use Rattle.do_machine.specs.declared.state.State.{State};
 ghost use Rattle.do_machine.specs.check.Blocks.{line_step};
 ghost use Rattle.do_net.specs.Net.{Stands, network};
 ghost use Rattle.do_net.specs.OneMachine.{StandsFor};
-ghost use Rattle.do_node.specs.Replaying.{state_after, world_lost};
+ghost use Rattle.do_node.specs.Replaying.{world_lost};
+ghost use Rattle.do_replay.specs.Replayed.{state_after};
 ghost use Rattle.do_world.specs.Sound.{IsSound};
 
 use crate::networks::world_net;

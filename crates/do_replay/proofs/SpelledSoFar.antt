@@ -8,6 +8,7 @@ use Rattle.do_sched.specs.declared.line.Line.{Line}
 use Rattle.do_network.specs.Net.{Net}
 use Rattle.do_network.specs.Wired.{net_blocks, net_line_step, wired_block}
 use Rattle.do_agreement.specs.Along.{EventsSendSpelled, LinesSendSpelled}
+use Rattle.do_replay.specs.Replayed.{net_after}
 
 -- Of these lines from a network on some were done, which led to another network, and these are left
 pub record SpelledSoFar (table : List Class) (act : Acting) (N : Net) (lines : List Line)
@@ -18,12 +19,20 @@ pub record SpelledSoFar (table : List Class) (act : Acting) (N : Net) (lines : L
       net_blocks table act N (done ++ ls) ≡ net_blocks table act N done ++ net_blocks table act M ls
   pub sends : (ls : List Line) → LinesSendSpelled table act M ls →
       LinesSendSpelled table act N (done ++ ls)
+  pub leads : (ls : List Line) →
+      net_after table act N (done ++ ls) ≡ net_after table act M ls
 
 -- nothing was done
 pub spelled_first : (table : List Class) (act : Acting) (N : Net) (lines left : List Line) →
     left ≡ lines → SpelledSoFar table act N lines N left
 spelled_first table act N lines left all =
-    record { done = []; joins = all; blocks = λ ls. refl; sends = λ ls s. s }
+    record {
+      done = [];
+      joins = all;
+      blocks = λ ls. refl;
+      sends = λ ls s. s;
+      leads = λ ls. refl;
+    }
 
 -- one line more was done
 pub spelled_next : (table : List Class) (act : Acting) (N M K : Net) (lines left rest : List Line)
@@ -47,6 +56,7 @@ spelled_next table act N M K lines left rest line is goes now s =
       sends = λ ls rest_sends.
           subst (LinesSendSpelled table act N) (sym (same ls))
           (s.sends (line ∷ ls) (now, rest_sends));
+      leads = λ ls. ap (net_after table act N) (same ls) ∙ s.leads (line ∷ ls);
     })
 
 -- in the lines that were done each frame that was sent has a spelling
@@ -62,3 +72,10 @@ spelled_all table act N M lines left none s =
     subst (LinesSendSpelled table act N)
     (sym (append-nil s.done) ∙ ap (λ ls. s.done ++ ls) (sym none) ∙ s.joins)
     (spelled_done table act N M lines left s)
+
+-- where nothing is left, the network is the one to which all lines lead
+pub led_by_all : (table : List Class) (act : Acting) (N M : Net) (lines left : List Line) →
+    left ≡ [] → SpelledSoFar table act N lines M left → M ≡ net_after table act N lines
+led_by_all table act N M lines left none s =
+    sym (s.leads [])
+    ∙ ap (net_after table act N) (ap (λ ls. s.done ++ ls) (sym none) ∙ s.joins)

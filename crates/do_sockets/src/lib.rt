@@ -1,6 +1,6 @@
 //! Links between processes as they are: sockets of this machine.
 //!
-//! It stands on the trait of do_link, on std's net and on mio, which waits for sockets. It promises
+//! It stands on the trait of do_link, on std's net and clock, and on mio, which waits for sockets. It promises
 //! the trait's clauses on faults and empty polls; no contract can see what a socket gives. The form
 //! of the streams is this project's own.
 #![tactic(auto)]
@@ -8,8 +8,10 @@
 mod peer;
 mod reading;
 mod sending;
+mod spinning;
 mod streams;
 mod tcp_link;
+mod timing;
 mod waiter;
 
 pub use tcp_link::TcpLink;

@@ -9,6 +9,10 @@ use std::alloc::{AllocError, Global};
 use std::collections::VecDeque;
 use std::io::Read;
 
+/// How many bytes of a peer are kept while a send waits, before it is read no more: 16 MiB less what
+/// one read gives, which are seven of the largest frames.
+const MOST_KEPT: usize = 16_711_680;
+
 /// The stream to a peer.
 #[derive(Drop)]
 pub enum Outgoing<S> {
@@ -23,6 +27,7 @@ pub enum Outgoing<S> {
 /// The streams between the node and one peer.
 #[derive(Drop)]
 pub struct Peer<S> {
+    alloc: Global,
     /// The peer's port.
     pub id: NodeId,
     /// The stream from it.
@@ -43,6 +48,7 @@ impl<S: Read + Drop> Peer<S> {
     /// A peer of which nothing came.
     pub fn new(alloc: Global, id: NodeId) -> Self {
         Peer {
+            alloc,
             id,
             incoming: None,
             token: None,
@@ -65,6 +71,11 @@ impl<S: Read + Drop> Peer<S> {
     pub fn found_ready(&mut self, failed: bool) {
         self.is_ready = true;
         self.is_to_drain = self.is_to_drain || failed;
+    }
+
+    /// Whether more of this peer may be there, without a look at its socket.
+    pub fn has_more(&self) -> bool {
+        self.is_ready || !self.kept.is_empty()
     }
 
     /// What the stream from this peer has. It is not read where nothing came since it had nothing
@@ -98,6 +109,10 @@ impl<S: Read + Drop> Peer<S> {
     {
         let count = take_kept(&mut self.kept, buf);
         if count > 0 {
+            if self.kept.is_empty() {
+                // So that its memory is given back.
+                self.kept = VecDeque::new(self.alloc);
+            }
             return Got::Bytes(count);
         }
         let got = self.read(buf);
@@ -107,8 +122,21 @@ impl<S: Read + Drop> Peer<S> {
         got
     }
 
-    /// Keeps what has come. It says whether anything had.
+    /// What comes next from this peer, whether or not it was found ready.
+    pub fn poll_now(&mut self, buf: &mut [u8]) -> Got
+        ensures room { length buf.new ≡ length buf.old }
+        ensures bytes { (n : ℕ) → result ≡ Bytes n → (0 < n) × (n ≤ length buf.new) }
+    {
+        self.is_ready = true;
+        self.poll(buf)
+    }
+
+    /// Keeps what has come, unless much is kept: the peer then waits for its next poll. It says
+    /// whether anything was kept.
     pub fn keep(&mut self, buf: &mut [u8]) -> Result<bool, AllocError> {
+        if self.kept.len() >= MOST_KEPT {
+            return Ok(false);
+        }
         match self.read(buf) {
             Got::Bytes(count) => {
                 for byte in &buf[..count] {

@@ -4,6 +4,8 @@ ghost use Rattle.do_link.specs.Told.{IsWithin};
 
 use crate::peer::Peer;
 use crate::reading::{Got, Naming, Unnamed};
+use crate::spinning::Spinning;
+use crate::timing::{Span, has_ended};
 use crate::waiter::Waiter;
 use do_base::NodeId;
 use do_link::{LinkEvent, LinkFail};
@@ -12,9 +14,13 @@ use std::alloc::{AllocError, Global};
 use std::collections::VecDeque;
 use std::io::{ErrorKind, Read};
 use std::net::{Ipv4Addr, Net, OpenListener, OpenStream, TcpListener};
+use std::time::Clock;
 
 /// How many streams may be kept that have not said their port.
 const MOST_UNNAMED: usize = 128;
+
+/// For how many microseconds a poll reads on before it sleeps.
+const SPIN_TIME: u64 = 50;
 
 /// The listener's token. Streams that are accepted have those from 1 on.
 const LISTENER: Token = Token(0);
@@ -35,6 +41,11 @@ pub struct Streams<R: Net> {
     has_strangers: bool,
     pub peers: Vec<Peer<R::Stream>>,
     turn: usize,
+    /// The place of the peer that was heard or sent to last.
+    pub hot: usize,
+    /// Whether more of the peer that was heard last may be there.
+    has_more: bool,
+    spinning: Spinning,
     pub waiter: Option<Waiter>,
 }
 
@@ -50,6 +61,9 @@ impl<R: Net> Streams<R> {
             has_strangers: true,
             peers: Vec::new(alloc),
             turn: 0,
+            hot: 0,
+            has_more: false,
+            spinning: Spinning::new(),
             waiter: None,
         }
     }
@@ -79,6 +93,7 @@ impl<R: Net> Streams<R> {
     /// Waits until a socket is ready, at most so long, and takes in the streams that came. With 0
     /// it does not wait.
     pub fn look(&mut self, micros: u64) {
+        self.spinning.looked();
         if let Some(waiter) = &mut self.waiter {
             waiter.wait(micros);
             for event in waiter.found() {
@@ -142,11 +157,15 @@ impl<R: Net> Streams<R> {
         let count = self.peers.len();
         for step in 0..count {
             let at = self.turn.wrapping_add(step) % count;
-            let peer = &mut self.peers[at];
+            let Some(peer) = self.peers.get_mut(at) else {
+                return LinkEvent::Quiet;
+            };
             let id = peer.id;
             match peer.poll(buf) {
                 Got::Bytes(bytes) => {
-                    self.turn = at + 1;
+                    self.has_more = peer.has_more();
+                    self.turn = at.wrapping_add(1);
+                    self.hot = at;
                     return LinkEvent::Bytes(id, bytes);
                 }
                 Got::Ended => return LinkEvent::Ended(id),
@@ -166,6 +185,93 @@ impl<R: Net> Streams<R> {
             }
         }
         Ok(any)
+    }
+}
+
+impl<R: Net + Clock> Streams<R> {
+    /// What comes next. Where nothing has, it waits for a socket, at most this many microseconds.
+    pub fn hear(&mut self, rt: &R, buf: &mut [u8], wait: u64) -> LinkEvent
+        ensures room { length buf.new ≡ length buf.old }
+        ensures within { IsWithin (length buf.old) result }
+    {
+        let event = self.poll(buf);
+        match &event {
+            LinkEvent::Quiet => {}
+            LinkEvent::Bytes(..) if self.has_more => {
+                // So that the others have their turn too.
+                self.look(0);
+                return event;
+            }
+            _ => return event,
+        }
+        if wait > 0 && self.spinning.is_due() {
+            let event = self.hear_soon(rt, buf);
+            if !matches!(&event, LinkEvent::Quiet) {
+                return event;
+            }
+        }
+        self.sleep(rt, buf, wait)
+    }
+
+    /// What comes soon, without a sleep. Now and then it looks at all sockets first, so that a peer
+    /// that always answers soon keeps no other out.
+    fn hear_soon(&mut self, rt: &R, buf: &mut [u8]) -> LinkEvent
+        ensures room { length buf.new ≡ length buf.old }
+        ensures within { IsWithin (length buf.old) result }
+    {
+        if self.spinning.is_to_look() {
+            self.look(0);
+            let event = self.poll(buf);
+            if !matches!(&event, LinkEvent::Quiet) {
+                return event;
+            }
+        }
+        let event = self.spin(rt, buf);
+        self.spinning.read_on(!matches!(&event, LinkEvent::Quiet));
+        event
+    }
+
+    /// Reads the peer that was heard or sent to last, for a short time, until something comes.
+    fn spin(&mut self, rt: &R, buf: &mut [u8]) -> LinkEvent
+        ensures room { length buf.new ≡ length buf.old }
+        ensures within { IsWithin (length buf.old) result }
+    {
+        let Some(peer) = self.peers.get_mut(self.hot) else {
+            return LinkEvent::Quiet;
+        };
+        if peer.incoming.is_none() {
+            return LinkEvent::Quiet;
+        }
+        let id = peer.id;
+        let limit = Span::of_micros(rt, SPIN_TIME);
+        for _ in 0..u64::MAX {
+            match peer.poll_now(buf) {
+                Got::Bytes(bytes) => {
+                    self.turn = self.hot.saturating_add(1);
+                    return LinkEvent::Bytes(id, bytes);
+                }
+                Got::Ended => return LinkEvent::Ended(id),
+                Got::Nothing => {}
+            }
+            if has_ended(limit, rt) {
+                return LinkEvent::Quiet;
+            }
+        }
+        LinkEvent::Quiet
+    }
+
+    /// Waits for a socket, and gives what comes next then.
+    fn sleep(&mut self, rt: &R, buf: &mut [u8], wait: u64) -> LinkEvent
+        ensures room { length buf.new ≡ length buf.old }
+        ensures within { IsWithin (length buf.old) result }
+    {
+        let soon = Span::of_micros(rt, SPIN_TIME);
+        self.look(wait);
+        let is_soon = !has_ended(soon, rt);
+        let event = self.poll(buf);
+        self.spinning
+            .slept(is_soon && !matches!(&event, LinkEvent::Quiet));
+        event
     }
 }
 

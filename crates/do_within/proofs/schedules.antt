@@ -1,3 +1,4 @@
 pub mod Opening
 pub mod Walk
 pub mod Lines
+pub mod Few

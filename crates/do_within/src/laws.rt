@@ -1,11 +1,13 @@
 //! Laws of bounded schedules, each carried by a function that does nothing else.
-ghost use Rattle.std.specs.Prelude.{List, length, ◌*◌, ◌<◌, ◌^◌};
+ghost use Rattle.std.specs.Prelude.{List, length, ◌*◌, ◌<◌, ◌≤◌, ◌^◌};
 ghost use Rattle.std.specs.List.{AllByRecursion, flat_map};
 ghost use Rattle.do_base.specs.declared.events.event.Event.{Event};
 ghost use Rattle.do_class.specs.Class.{Class};
 ghost use Rattle.do_script.specs.Listing.{Listing};
 ghost use Rattle.do_behave.specs.Script.{script};
 ghost use Rattle.do_sched.specs.Good.{IsLine};
+ghost use Rattle.do_sched.specs.Schedule.{most_steps};
+ghost use Rattle.do_sched.specs.Spelling.{steps_of};
 ghost use Rattle.do_sched.specs.declared.line.Line.{Line};
 ghost use Rattle.do_lines.specs.Transcript.{transcript};
 ghost use Rattle.do_machine.specs.declared.state.Seat.{Seat};
@@ -44,6 +46,20 @@ pub fn frames_have_spellings()
     ensures lines { (table : List Class) (act : Acting) (seats : List Seat)
         (lines : List Line) → IsWorld table seats → KeepsSendable table act →
         AllByRecursion IsLine lines → length (flat_map events_of lines) < 2 ^ 46 →
+        LinesSendSpelled table act (net_opening table seats) lines }
+{}
+
+/// A schedule that may stand in a file has fewer events. So each frame that a network of sites sends
+/// in its lines has a spelling that its peer reads.
+///
+/// Premises are that the world is one, that acts of the behaviour are within the limits, and that
+/// the lines have at most a million single steps.
+pub fn frames_of_schedules_have_spellings()
+    ensures few { (lines : List Line) → steps_of lines ≤ most_steps →
+        length (flat_map events_of lines) < 2 ^ 46 }
+    ensures spelled { (table : List Class) (act : Acting) (seats : List Seat)
+        (lines : List Line) → IsWorld table seats → KeepsSendable table act →
+        AllByRecursion IsLine lines → steps_of lines ≤ most_steps →
         LinesSendSpelled table act (net_opening table seats) lines }
 {}
 

@@ -10,6 +10,6 @@
 mod laws;
 
 pub use laws::{
-    amounts_are_bounded, frames_have_spellings, networks_are_one_machine,
-    scripted_networks_are_one_machine,
+    amounts_are_bounded, frames_have_spellings, frames_of_schedules_have_spellings,
+    networks_are_one_machine, scripted_networks_are_one_machine,
 };

@@ -1,6 +1,7 @@
 use Rattle.do_cli.specs.Forms.{command_in}
 use Rattle.do_node.proofs.AsOneMachine.{memory_adds}
 use Rattle.do_node.proofs.LeaksTold.{leaks_told}
+use Rattle.do_node.proofs.OrdersKept.{no_order, some_order}
 use Rattle.do_node.proofs.RecordsGiven.{gives_back}
 use Rattle.do_node.proofs.Upgraded.{replayed_alike}
 use Rattle.do_node.proofs.WordsRead.{memory_told, no_command, none_asked}
@@ -54,6 +55,24 @@ returns-in-Err-Memory-clause-rewoven g c = gives_back (g.H.Shelf.files c.args.sh
 
 pub returns-clause-rewoven : goal.returns-clause-rewoven
 returns-clause-rewoven g c = gives_back (g.H.Shelf.files c.args.shelf.now)
+
+pub returns-in-Err-Usage-clause-ordered : goal.returns-in-Err-Usage-clause-ordered
+returns-in-Err-Usage-clause-ordered g c = some_order (g.H.Shelf.files c.args.shelf.now)
+
+pub returns-in-Err-Memory-clause-ordered : goal.returns-in-Err-Memory-clause-ordered
+returns-in-Err-Memory-clause-ordered g c = some_order (g.H.Shelf.files c.args.shelf.now)
+
+pub returns-clause-ordered : goal.returns-clause-ordered
+returns-clause-ordered g c = some_order (g.H.Shelf.files c.args.shelf.now)
+
+pub returns-in-Err-Usage-clause-unordered : goal.returns-in-Err-Usage-clause-unordered
+returns-in-Err-Usage-clause-unordered g c = no_order (g.H.Shelf.files c.args.shelf.now)
+
+pub returns-in-Err-Memory-clause-unordered : goal.returns-in-Err-Memory-clause-unordered
+returns-in-Err-Memory-clause-unordered g c = no_order (g.H.Shelf.files c.args.shelf.now)
+
+pub returns-clause-unordered : goal.returns-clause-unordered
+returns-clause-unordered g c = no_order (g.H.Shelf.files c.args.shelf.now)
 
 pub returns-in-Err-Usage-clause-links : goal.returns-in-Err-Usage-clause-links
 returns-in-Err-Usage-clause-links g c = none_asked c.args.words.now c.in-Err-Usage.word _

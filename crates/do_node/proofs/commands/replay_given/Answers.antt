@@ -28,8 +28,8 @@ pub returns-in-Ok-clause-one_machine : goal.returns-in-Ok-clause-one_machine
 returns-in-Ok-clause-one_machine g c =
     let w = c.write_replay.ensures in
     let told = g.H.Shelf.files c.args.shelf.now in
-    replay_adds told c.args.world.now c.args.schedule.now c.in-Ok.given c.in-Ok.ensures.gives _ _
-    c.write_replay.result w.one_machine w.ok w.one_machine_first
+    replay_adds told c.args.world.now c.args.schedule.now c.in-Ok.given c.in-Ok.ensures.sound
+    c.in-Ok.ensures.gives _ _ c.write_replay.result w.one_machine w.ok w.one_machine_first
 
 pub returns-in-Err-clause-one_machine : goal.returns-in-Err-clause-one_machine
 returns-in-Err-clause-one_machine g c = adds_nothing _ _ c.in-Err.status

@@ -4,7 +4,7 @@ use Rattle.std.specs.Vec.Iter.{into_iter_items}
 use Rattle.do_machine.specs.declared.state.State.{State}
 use Rattle.do_net.specs.Net.{Stands, network}
 use Rattle.do_net.specs.OneMachine.{StandsFor}
-use Rattle.do_node.specs.Replaying.{state_after}
+use Rattle.do_replay.specs.Replayed.{state_after}
 use Rattle.do_node.proofs.LeaksLast.{LeadsOn}
 use Rattle.do_node.proofs.leaking.pass.Given as goal
 

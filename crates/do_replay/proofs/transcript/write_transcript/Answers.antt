@@ -5,7 +5,8 @@ use Rattle.do_net.specs.Net.{network}
 use Rattle.do_replay.proofs.AsOneMachine.{begun_as_one, more_as_one, whole_as_one, written_as_one}
 use Rattle.do_replay.proofs.BlocksToCome.{ahead_start, ahead_end}
 use Rattle.do_replay.proofs.LineDone.{line_done}
-use Rattle.do_replay.proofs.SpelledSoFar.{spelled_all, spelled_first}
+use Rattle.do_replay.proofs.LinesAsOne.{led_as_one}
+use Rattle.do_replay.proofs.SpelledSoFar.{led_by_all, spelled_all, spelled_first}
 use Rattle.do_output.proofs.SentIsPrefix.{ahead_sent, ahead_prefix, ahead_part, ahead_whole}
 use Rattle.do_replay.proofs.transcript.write_transcript.Goals as goal
 
@@ -143,3 +144,21 @@ returns-clause-one_machine g c =
     nil_from_length _ (sym c.loop-line.line-iterator.rest.ok.0 ∙ c.in-None.ensures.steps.0) in
     λ seats world opens. whole_as_one _ _ seats world _ opens c.args.lines
     (spelled_all _ _ _ _ _ _ none c.loop-line.invariant.spelled)
+
+-- ---- the network
+
+-- it is the one to which all lines led
+pub returns-clause-network : goal.returns-clause-network
+returns-clause-network g c =
+    let none : into_iter_items c.loop-line.line-iterator ≡ [] =
+    nil_from_length _ (sym c.loop-line.line-iterator.rest.ok.0 ∙ c.in-None.ensures.steps.0) in
+    led_by_all _ _ _ _ _ _ none c.loop-line.invariant.spelled
+
+-- so it stands for the state to which they lead
+pub returns-clause-agrees : goal.returns-clause-agrees
+returns-clause-agrees g c =
+    let none : into_iter_items c.loop-line.line-iterator ≡ [] =
+    nil_from_length _ (sym c.loop-line.line-iterator.rest.ok.0 ∙ c.in-None.ensures.steps.0) in
+    λ state stands. led_as_one _ _ c.args.lines _ _ state
+    (led_by_all _ _ _ _ _ _ none c.loop-line.invariant.spelled)
+    (spelled_all _ _ _ _ _ _ none c.loop-line.invariant.spelled) stands

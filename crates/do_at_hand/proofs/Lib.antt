@@ -1,0 +1,9 @@
+pub mod Shown
+pub mod Within
+pub mod Leaves
+pub mod Runs
+pub mod Arrivals
+pub mod Grown
+pub mod Takes
+pub mod Reached
+pub mod Plain

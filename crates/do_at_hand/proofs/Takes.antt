@@ -1,0 +1,433 @@
+-- A take leaves a node that names only what is at hand.
+use Rattle.std.proofs.Common.{◌≡◌, ◌∙◌, ◌==◌, ◌+◌, ◌<◌, ◌&&◌, ◌++◌, ℕ, Bool, true, false, cond}
+use Rattle.std.proofs.Common.{List, [], ◌∷◌, inl, inr, length, map, refl, sym, ap, subst, arith}
+use Rattle.std.specs.Prelude.{None, Option, Some, is_some}
+use Rattle.std.specs.List.{AllByRecursion}
+use Rattle.std.proofs.lemmas.List.{length-map}
+use Rattle.do_base.specs.names.Names.{ObjectName, TokenName}
+use Rattle.do_base.specs.declared.events.exception.Exc.TheVariants.{ConnectionDied, TypeFault}
+use Rattle.do_base.specs.declared.values.value.Value.{Value}
+use Rattle.do_base.specs.declared.values.value.Value.TheVariants.{Nil, Obj}
+use Rattle.do_class.specs.Class.{Class}
+use Rattle.do_class.specs.Table.{signature_of}
+use Rattle.do_class.specs.declared.ids.ClassId.{ClassId}
+use Rattle.do_class.specs.declared.packet.Name.{Name}
+use Rattle.do_class.specs.declared.packet.Name.TheVariants.{Lent, Mine, Yours}
+use Rattle.do_class.specs.declared.packet.Packet.{Packet}
+use Rattle.do_sig.specs.Calls.{encoding_fits, returned_fits}
+use Rattle.do_sig.specs.Fits.{each_takes}
+use Rattle.do_sig.specs.declared.signature.Signature.{Signature}
+use Rattle.do_behave.specs.declared.invocation.Answer.{Answer}
+use Rattle.do_behave.specs.declared.invocation.Answer.TheVariants.{Given, Raised}
+use Rattle.do_behave.specs.declared.invocation.InvState.{InvState}
+use Rattle.do_behave.specs.declared.invocation.InvState.TheVariants.{Answered, Waits}
+use Rattle.do_behave.specs.declared.invocation.Reason.TheVariants as reasons
+use Rattle.do_behave.specs.declared.invocation.Waited.{Waited}
+use Rattle.do_behave.specs.declared.invocation.Waited.TheVariants as waiteds
+use Rattle.do_packet.specs.Met.{has_object, same_object}
+use Rattle.do_packet.specs.Unpacking.{made_of, name_value, name_values}
+use Rattle.do_packet.specs.declared.receipt.Receipt.{Receipt}
+use Rattle.do_machine.specs.declared.item.Item.{Item}
+use Rattle.do_machine.specs.declared.item.Item.TheVariants as items
+use Rattle.do_machine.specs.declared.node.Node.{Node}
+use Rattle.do_machine.specs.declared.node.Wanted.{Wanted}
+use Rattle.do_machine.specs.Context.{Context}
+use Rattle.do_machine.specs.Effect.{queueing}
+use Rattle.do_machine.specs.Items.{exported}
+use Rattle.do_machine.specs.Lists.{IsIn}
+use Rattle.do_machine.specs.Objects.{object_at}
+use Rattle.do_machine.specs.State.{has_asked, holds, is_known, is_open, own, stored}
+use Rattle.do_machine.specs.ends.Closing.{died, parted, without_answer}
+use Rattle.do_machine.specs.held.Refers.{answer_values, state_values}
+use Rattle.do_machine.specs.lend.Asking.{wanted, without_wanted}
+use Rattle.do_machine.specs.run.Fresh.{with_objects, with_serials}
+use Rattle.do_machine.specs.run.Send.{outs_of}
+use Rattle.do_machine.specs.take.Awaiting.{AnsweredCall, answered_state, answering, awaits}
+use Rattle.do_machine.specs.take.Awaiting.{method_answer, values_answer, with_answer}
+use Rattle.do_machine.specs.take.Receipt.{arrived, is_entered, is_reachable, reading, receiving}
+use Rattle.do_machine.specs.take.Take.{holding, take_effect}
+use Rattle.do_machine.proofs.Bools.{or_cases, or_left, or_right}
+use Rattle.do_facts.proofs.Chains.{either}
+use Rattle.do_facts.proofs.EachOfLists.{each_changed, each_joined, each_mapped, each_weaker}
+use Rattle.do_facts.proofs.walk.SmallEffects.{settling_node}
+use Rattle.do_facts.proofs.walk.Takes.{Takes, by_take as taken, packet_in}
+use Rattle.do_quiet.specs.Quiet.{is_gone}
+use Rattle.do_at_hand.specs.AtHand.{is_at_hand}
+use Rattle.do_at_hand.proofs.Arrivals.{copies_fine, parts_fine}
+use Rattle.do_at_hand.proofs.Grown.{Grown, asked_or, by_names, by_request, held_now, held_still}
+use Rattle.do_at_hand.proofs.Grown.{lent_asked, named_exported, then_grown}
+use Rattle.do_at_hand.proofs.Runs.{stored_own}
+use Rattle.do_at_hand.proofs.Shown.{AllName, Names, nil, one}
+use Rattle.do_at_hand.proofs.Within.{AtHand, InvocationWithin, NodeWithin, begins, foreign_hand}
+use Rattle.do_at_hand.proofs.Within.{node_weaker, numbered, own_hand, own_is, still_at_hand}
+use Rattle.do_at_hand.proofs.Within.{stored_behind, stored_first, stored_new}
+
+-- the item closes no end
+abbrev pub IsNoEnd : Item → Type 0
+IsNoEnd (items.End serials) = ⊥
+IsNoEnd _ = Unit {0}
+
+-- ---- what a message comes to
+
+module _ (K : ObjectName → Bool) where
+  -- an answer of values that fit, or the fault of type
+  answer_by : (b : Bool) (v : Value) (vs : List Value) → Names K v → AllName K vs →
+      AllName K (answer_values (cond b (Given v vs) (Raised TypeFault)))
+  answer_by true v vs h k = (h, k)
+  answer_by false v vs h k = tt
+
+  -- values as an answer
+  answers : (table : List Class) (values : List Value) → AllName K values → (what : Waited) →
+      AllName K (answer_values (values_answer table values what))
+  answers table [] h waiteds.Root = tt
+  answers table [] h (waiteds.Method method) = tt
+  answers table (v ∷ vs) h (waiteds.Method method) = go (signature_of table method)
+    where
+      go : (found : Option Signature) → AllName K (answer_values
+          (elim found [ None ↦ Raised TypeFault | Some s ↦ method_answer s v vs ]))
+      go None = tt
+      go (Some s) =
+          answer_by (returned_fits s v && each_takes (map encoding_fits (outs_of s s.args)) vs) v
+          vs h.0 h.1
+  answers table (v ∷ []) h waiteds.Root = (h.0, tt)
+  answers table (v ∷ w ∷ vs) h waiteds.Root = tt
+
+  -- an invocation that has its answer
+  state_answered : (answer : Waited → Answer) →
+      ((what : Waited) → AllName K (answer_values (answer what))) → (state : InvState) →
+      AllName K (state_values state) → AllName K (state_values (answered_state answer state))
+  state_answered answer h (Waits call peer what) k = h what
+  state_answered answer h (Answered a) k = k
+  state_answered answer h _ k = tt
+
+  -- a node that has an answer
+  answered : (k : AnsweredCall) (answer : Waited → Answer) →
+      ((what : Waited) → AllName K (answer_values (answer what))) → (n : Node) →
+      NodeWithin K n → NodeWithin K (answering k answer n).node
+  answered k answer h n ok = record {
+    heap = ok.heap;
+    stack = each_changed (InvocationWithin K) (λ i. awaits k i.state) (with_answer answer)
+        (λ i g. record {
+          object = g.object;
+          locals = g.locals;
+          answer = state_answered answer h i.state g.answer;
+        }) n.stack ok.stack;
+    root = ok.root;
+  }
+
+  -- a state once an end closed
+  state_died : (peer : ℕ) (state : InvState) → AllName K (state_values state) →
+      AllName K (state_values (died peer state))
+  state_died peer (Waits call p what) k = go (p == peer)
+    where
+      go : (b : Bool) → AllName K (state_values
+          (cond b (Answered (Raised ConnectionDied)) (Waits call p what)))
+      go true = tt
+      go false = tt
+  state_died peer (Answered a) k = k
+  state_died peer _ k = tt
+
+  -- a node that parts from a peer
+  parts : (peer : ℕ) (n : Node) → NodeWithin K n → NodeWithin K (parted peer n)
+  parts peer n ok = record {
+    heap = ok.heap;
+    stack = each_mapped (InvocationWithin K) (without_answer peer) n.stack
+        (each_weaker (InvocationWithin K) (λ i. InvocationWithin K (without_answer peer i))
+        (λ i g. record {
+          object = g.object;
+          locals = g.locals;
+          answer = state_died peer i.state g.answer;
+        }) n.stack ok.stack);
+    root = ok.root;
+  }
+
+module _ (c : Context) (from : ℕ) (ok : AtHand c.node)
+    (apart : (peer : ℕ) → is_open c.node peer ≡ true → (peer == c.node.port) ≡ false)
+    (ends : is_open c.node from ≡ true)
+    (entered : (s : ℕ) → c.around.entry from s ≡ true →
+    is_some (stored s c.node.heap) ≡ true) where
+  -- the node
+  abbrev n : Node
+  n = c.node
+
+  -- what an item leaves of it
+  abbrev after : Item → Node
+  after item = (take_effect c from item).node
+
+  -- it stores the copies of a message, and holds and asks for what the message names
+  record Comes (packet : Packet) (m : Node) : Type 0 where
+    pub heap : m.heap ≡ n.heap ++ with_serials n.next_serial (arrived c from packet).copies
+    pub port : m.port ≡ n.port
+    pub held : (o : ObjectName) → holds n o ≡ true → holds m o ≡ true
+    pub asked : (o : ObjectName) → has_asked n o ≡ true → has_asked m o ≡ true
+    pub mine : (s : ℕ) (class : ClassId) → IsIn packet.names (Mine s class) →
+        holds m (object_at from s) ≡ true
+    pub lent : (o : ObjectName) (class : ClassId) (token : ℕ) →
+        IsIn packet.names (Lent o class token) → is_open n o.node ≡ true → has_asked m o ≡ true
+
+  -- the node as it holds what the item exports and stores the copies
+  abbrev first : Item → Packet → Node
+  first item packet =
+      with_objects (arrived c from packet).copies (holding (exported from n.port item) n)
+
+  -- a message that is received
+  comes : (item : Item) (packet : Packet) (m : Node) →
+      ((s : ℕ) (class : ClassId) → IsIn packet.names (Mine s class) →
+      has_object (exported from n.port item) (object_at from s) ≡ true) →
+      Grown (receiving c from packet (holding (exported from n.port item) n)).node m →
+      Comes packet m
+  comes item packet m exports after_it =
+      let start = first item packet in
+      let more = exported from n.port item in
+      let all = then_grown start
+      (receiving c from packet (holding (exported from n.port item) n)).node m
+      (by_names from packet.names start) after_it in
+      record {
+        heap = all.heap;
+        port = all.port;
+        held = λ o h. ap (λ os. has_object os o) all.held ∙ held_still o more n.held h;
+        asked = λ o h. all.asked o h;
+        mine = λ s class i.
+            ap (λ os. has_object os (object_at from s)) all.held
+            ∙ held_now (object_at from s) more n.held (exports s class i);
+        lent = λ o class token i open_to.
+            after_it.asked o (lent_asked from o class token packet.names i start open_to);
+      }
+
+  -- so it is with each item that has a message
+  item_comes : (item : Item) (packet : Packet) → packet_in item ≡ Some packet →
+      Comes packet (after item)
+  item_comes (items.Call number m) packet is =
+      let item = items.Call number m in
+      let at : m.packet ≡ packet = cc (is) in
+      subst (λ p. Comes p (after item)) at
+      (comes item m.packet (after item)
+      (λ s class i. named_exported from n.port s class m.packet.names i)
+      (by_request c from (reasons.Call from number) m (arrived c from m.packet).values
+      (receiving c from m.packet (holding (exported from n.port item) n)).node))
+  item_comes (items.Oneway m) packet is =
+      let item = items.Oneway m in
+      let at : m.packet ≡ packet = cc (is) in
+      subst (λ p. Comes p (after item)) at
+      (comes item m.packet (after item)
+      (λ s class i. named_exported from n.port s class m.packet.names i)
+      (by_request c from (reasons.Oneway from) m (arrived c from m.packet).values
+      (receiving c from m.packet (holding (exported from n.port item) n)).node))
+  item_comes (items.Reply number p) packet is =
+      let item = items.Reply number p in
+      let at : p ≡ packet = cc (is) in
+      subst (λ q. Comes q (after item)) at
+      (comes item p (after item) (λ s class i. named_exported from n.port s class p.names i)
+      (record { heap = refl; held = refl; port = refl; ends = refl; asked = λ o h. h }))
+  item_comes (items.RootAnswer number p) packet is =
+      let item = items.RootAnswer number p in
+      let at : p ≡ packet = cc (is) in
+      subst (λ q. Comes q (after item)) at
+      (comes item p (after item) (λ s class i. named_exported from n.port s class p.names i)
+      (record { heap = refl; held = refl; port = refl; ends = refl; asked = λ o h. h }))
+  item_comes _ packet is = absurd (cc (is))
+
+  -- ---- what is at hand is so still
+
+  -- an object is at hand after an item where it was
+  abbrev Still : Node → Type 0
+  Still m = (o : ObjectName) → is_at_hand n o ≡ true → is_at_hand m o ≡ true
+
+  -- what is known is so still
+  knows : (m : Node) → ((o : ObjectName) → holds n o ≡ true → holds m o ≡ true) →
+      ((o : ObjectName) → has_asked n o ≡ true → has_asked m o ≡ true) → (o : ObjectName) →
+      is_known n o ≡ true → is_known m o ≡ true
+  knows m held asked o h = elim (or_cases (holds n o) (has_asked n o) h) [
+    | inl a ↦ or_left (holds m o) (has_asked m o) (held o a)
+    | inr b ↦ or_right (holds m o) (has_asked m o) (asked o b)
+  ]
+
+  -- once a message came
+  still_comes : (packet : Packet) (m : Node) → Comes packet m → Still m
+  still_comes packet m k =
+      still_at_hand n m k.port
+      (λ j there. ap (λ heap. is_some (stored j heap)) k.heap
+      ∙ stored_first j n.heap (with_serials n.next_serial (arrived c from packet).copies) there)
+      (λ o other. knows m k.held k.asked o)
+
+  -- a node that stores, holds and asks for the same
+  still_same : (m : Node) → m.port ≡ n.port → m.heap ≡ n.heap → m.held ≡ n.held →
+      m.asked ≡ n.asked → Still m
+  still_same m port heap held asked =
+      still_at_hand n m port (λ j there. ap (λ xs. is_some (stored j xs)) heap ∙ there)
+      (λ o other. knows m (λ z h. ap (λ os. has_object os z) held ∙ h)
+      (λ z h. subst (λ (ws : List Wanted). has_asked (record n { asked = ws }) z ≡ true)
+      (sym asked) h) o)
+
+  -- once an ask was granted
+  still_granted : (serial : ℕ) (token : TokenName) → Still (after (items.Granted serial token))
+  still_granted serial token =
+      let w = wanted (object_at from serial) token.lender token.number in
+      let m = without_wanted w (holding (object_at from serial ∷ []) n) in
+      subst Still (sym (settling_node w m))
+      (still_at_hand n m refl (λ j there. there) (λ o other h. elim
+      (or_cases (holds n o) (has_asked n o) h) [
+        | inl a ↦ or_left (holds m o) (has_asked m o)
+            (held_still o (object_at from serial ∷ []) n.held a)
+        | inr b ↦ elim (asked_or w n.asked o b) [
+          | inl x ↦ or_left (holds m o) (has_asked m o)
+              (held_now o (object_at from serial ∷ []) n.held
+              (or_left (same_object o (object_at from serial)) false x))
+          | inr y ↦ or_right (holds m o) (has_asked m o) y
+        ]
+      ]))
+
+  -- any item
+  still : (item : Item) → is_gone item ≡ false → IsNoEnd item → Still (after item)
+  still (items.Call number m) g e =
+      still_comes m.packet _ (item_comes (items.Call number m) m.packet refl)
+  still (items.Oneway m) g e =
+      still_comes m.packet _ (item_comes (items.Oneway m) m.packet refl)
+  still (items.Reply number p) g e =
+      still_comes p _ (item_comes (items.Reply number p) p refl)
+  still (items.RootAnswer number p) g e =
+      still_comes p _ (item_comes (items.RootAnswer number p) p refl)
+  still (items.Raised number x) g e = λ o h. h
+  still (items.RootAsk number) g e = λ o h. h
+  still (items.Ask serial token) g e =
+      either (λ d. Still d.node) (is_some (stored serial n.heap))
+      (queueing from (items.Granted serial token) n) (queueing from (items.Gone serial token) n)
+      (λ _ o h. h) (λ _ o h. h)
+  still (items.Granted serial token) g e = still_granted serial token
+  still (items.Gone serial token) g e = absurd (cc (g))
+  still (items.Left serial) g e = λ o h. h
+  still (items.Settled number) g e = λ o h. h
+  still (items.End serials) g e = absurd e
+
+  module _ (item : Item) (whole : is_gone item ≡ false) (no_end : IsNoEnd item) where
+    -- what is at hand afterwards
+    abbrev K : ObjectName → Bool
+    K = is_at_hand (after item)
+
+    -- what was is so
+    kept : Still (after item)
+    kept = still item whole no_end
+
+    -- the node as it was
+    was : NodeWithin K n
+    was = node_weaker (is_at_hand n) K kept n ok
+
+    module _ (packet : Packet) (is : packet_in item ≡ Some packet) where
+      -- what came
+      came : Comes packet (after item)
+      came = item_comes item packet is
+
+      -- how it was read
+      abbrev r : Receipt
+      r = reading c from packet
+
+      -- an object of another node that is known
+      foreign : (o : ObjectName) → is_open n o.node ≡ true →
+          is_known (after item) o ≡ true → K o ≡ true
+      foreign o open_to known =
+          foreign_hand (after item) o
+          (ap (λ p. o.node == p) came.port ∙ apart o.node open_to) known
+
+      -- the value of a name
+      name_named : (x : Name) → IsIn packet.names x →
+          Names K (name_value r x (is_entered c from x) (is_reachable c x))
+      name_named (Mine s class) i =
+          one K (object_at from s) (foreign (object_at from s) ends
+          (or_left (holds (after item) (object_at from s))
+          (has_asked (after item) (object_at from s)) (came.mine s class i)))
+      name_named (Yours s) i = go (c.around.entry from s) refl
+        where
+          go : (b : Bool) → c.around.entry from s ≡ b →
+              Names K (cond b (Obj (own n s)) Nil)
+          go true e =
+              one K (own n s) (kept (own n s) (own_hand n (own n s) (own_is n s) (entered s e)))
+          go false e = nil K
+      name_named (Lent o class token) i = go (is_open n o.node) refl
+        where
+          go : (b : Bool) → is_open n o.node ≡ b → Names K (cond b (Obj o) Nil)
+          go true e =
+              one K o (foreign o e (or_right (holds (after item) o) (has_asked (after item) o)
+              (came.lent o class token i e)))
+          go false e = nil K
+
+      -- the values of names
+      names_named : (xs : List Name) → ((x : Name) → IsIn xs x → IsIn packet.names x) →
+          AllName K (name_values r xs (map (is_entered c from) xs) (map (is_reachable c) xs))
+      names_named [] within = tt
+      names_named (x ∷ xs) within = (
+        name_named x (within x (inl refl)),
+        names_named xs (λ y i. within y (inr i)),
+      )
+
+      -- those of the message
+      abbrev named : List Value
+      named =
+          name_values r packet.names (map (is_entered c from) packet.names)
+          (map (is_reachable c) packet.names)
+
+      -- a copy is stored
+      copied : (k : ℕ) → k < length packet.copies → K (object_at n.port (n.next_serial + k)) ≡ true
+      copied k few =
+          let new = (arrived c from packet).copies in
+          own_hand (after item) (object_at n.port (n.next_serial + k))
+          (ap (λ p. n.port == p) came.port ∙ own_is n (n.next_serial + k))
+          (ap (λ heap. is_some (stored (n.next_serial + k) heap)) came.heap
+          ∙ stored_behind (n.next_serial + k) n.heap (with_serials n.next_serial new)
+          (stored_new k n.next_serial new
+          (omega (arith, few, length-map packet.copies (made_of r named)))))
+
+      -- the values of the message
+      values : AllName K (arrived c from packet).values
+      values = parts_fine K r named (names_named packet.names (λ x i. i)) copied packet.values
+
+      -- its copies
+      copies : AllByRecursion (λ m. AllName K m.slots) (arrived c from packet).copies
+      copies = copies_fine K r named (names_named packet.names (λ x i. i)) copied packet.copies
+
+    -- what a take is made of
+    takes : Takes (NodeWithin K) (λ to sent. Unit {0}) c from item
+    takes = record {
+      small = record {
+        over = λ w m h. record { heap = h.heap; stack = h.stack; root = h.root };
+        settles = λ w m o h. tt;
+      };
+      asks = λ packet is o class token among m open_to h.
+          (record { heap = h.heap; stack = h.stack; root = h.root }, tt);
+      grants = λ serial token is m e h. tt;
+      lacks = λ serial token is m e h. tt;
+      makes = λ packet is m h. record {
+        heap = each_joined (λ x. AllName K x.slots) m.heap
+            (with_serials m.next_serial (arrived c from packet).copies) h.heap
+            (numbered K m.next_serial (arrived c from packet).copies (copies packet is));
+        stack = h.stack;
+        root = h.root;
+      };
+      begins = λ reason x f is found fit m h.
+          let there = stored_own c.table (stored x.target n.heap) x.selector (ap is_some found) in
+          let target = kept (own n x.target)
+          (own_hand n (own n x.target) (own_is n x.target) there) in
+          record {
+            heap = h.heap;
+            stack = (
+              begins K (own n x.target) f.id reason (arrived c from x.packet).values target
+                  (values x.packet is),
+              h.stack,
+            );
+            root = h.root;
+          };
+      refuses = λ number e h. tt;
+      answers = λ k packet is m h.
+          answered K k (values_answer c.table (arrived c from packet).values)
+          (answers K c.table (arrived c from packet).values (values packet is)) m h;
+      fails = λ k number e is m h. answered K k (λ what. Raised e) (λ what. tt) m h;
+      gives = λ number. tt;
+      settles = λ number m h. record { heap = h.heap; stack = h.stack; root = h.root };
+      parts = λ serials is m h. (parts K from m h, tt);
+    }
+
+    -- a take
+    pub take_good : AtHand (after item)
+    take_good =
+        let first : NodeWithin K (holding (exported from n.port item) n) =
+        record { heap = was.heap; stack = was.stack; root = was.root } in
+        (taken c from item takes first).node

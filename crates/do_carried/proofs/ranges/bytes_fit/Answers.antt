@@ -1,0 +1,7 @@
+use Rattle.std.proofs.Common.{arith}
+use Rattle.do_grammar.proofs.faults.AnswerExact.{bytes_from_each}
+use Rattle.do_carried.proofs.ranges.bytes_fit.Goals as goal
+
+-- each element of a slice of bytes is below 256
+pub returns : goal.returns
+returns c = bytes_from_each c.args.bytes.now (λ i. omega (arith, c.type_inv.bytes i))

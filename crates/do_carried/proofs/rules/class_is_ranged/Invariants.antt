@@ -1,0 +1,7 @@
+use Rattle.std.proofs.Common.{take}
+use Rattle.std.specs.List.{AllByRecursion}
+use Rattle.do_carried.specs.Ranged.{RuleIsRanged}
+use Rattle.do_carried.proofs.rules.class_is_ranged.Given as goal
+
+abbrev pub invariant-loop-rule : goal.invariant-loop-rule
+invariant-loop-rule l = AllByRecursion RuleIsRanged (take l.rule-index l.rules)

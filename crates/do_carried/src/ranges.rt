@@ -1,0 +1,16 @@
+//! What the types of numbers and texts give: laws alone, for which nothing is tested.
+ghost use Rattle.std.specs.Prelude.{◌<◌, ◌^◌};
+ghost use Rattle.do_grammar.specs.Grammar.{IsBytes};
+ghost use Rattle.do_grammar.specs.Num.{zigzag};
+
+/// A number of 64 bits is spelled by one of 64 bits.
+pub(crate) fn number_fits(number: i64)
+    ensures { zigzag number < 2 ^ 64 }
+{}
+
+/// What a slice of bytes holds are bytes.
+pub(crate) fn bytes_fit(bytes: &[u8])
+    ensures { IsBytes bytes.now }
+{
+    let _few = bytes.len();
+}

@@ -1,0 +1,6 @@
+use Rattle.do_plain.proofs.Texts.{transcript_stays}
+use Rattle.do_plain.proofs.laws.machines_write_plain_lines.Goals as goal
+
+-- a whole transcript is left
+pub returns : goal.returns
+returns c table ok named act seats lines good = transcript_stays table ok named act seats lines good
