@@ -1,0 +1,43 @@
+#!/bin/sh
+# Tests the Python package: frames that were worked out elsewhere, nodes that are Python programs
+# beside one another, and beside nodes of the program if it was built.
+#
+#   clients/python/test.sh [PROGRAM]
+#
+# PROGRAM is the proved program; if none is given it is looked for where `./replay` builds it, and
+# where the toolchain keeps what it proved. What is missing is said, and is no failure. Tests that
+# fail are run once more alone, since a machine under load can make any of them late; they have
+# failed where they fail again.
+cd "$(dirname "$0")" || exit 1
+tell() { echo "clients/python: $*" >&2; }
+
+if ! python3 -c 'import sys; sys.exit(sys.version_info < (3, 11))' 2> /dev/null; then
+    tell "not tested, since there is no python3 of 3.11 or later"
+    exit 0
+fi
+
+# The newest of these files that can be run.
+newest() {
+    found=
+    for file in "$@"; do
+        if [ -f "$file" ] && [ -x "$file" ] && { [ -z "$found" ] || [ "$file" -nt "$found" ]; }; then
+            found=$file
+        fi
+    done
+    echo "$found"
+}
+
+program=$1
+if [ -z "$program" ]; then
+    kit=$(dirname "$(dirname "$(readlink -f "$(command -v rt)")")")
+    program=$(newest "$PWD/../../crates/nukwashe/out/nukwashe" \
+        "$(dirname "$kit")"/rattle-kept/proof-nukwashe-*/0)
+fi
+if [ -n "$program" ]; then
+    tell "with the program $program"
+    export NUKWASHE="$program"
+else
+    tell "without the program, which was not built: nothing is tried beside it"
+fi
+export PYTHONDONTWRITEBYTECODE=1
+exec python3 -m tests
