@@ -22,13 +22,15 @@ class Install(unittest.TestCase):
     def test_the_package_and_its_programs(self):
         with tempfile.TemporaryDirectory() as name:
             folder = pathlib.Path(name)
-            if run(sys.executable, "-m", "venv", folder).returncode:
+            if run(sys.executable, "-m", "venv", "--without-pip", folder).returncode:
                 self.skipTest("this python3 makes no environments")
-            pip = run(folder / "bin/pip", "install", PACKAGE)
+            if run(sys.executable, "-m", "pip", "--python", folder, "list").returncode:
+                self.skipTest("there is no pip that installs into another environment")
+            pip = run(sys.executable, "-m", "pip", "--python", folder, "install", PACKAGE)
             self.assertEqual(pip.returncode, 0, pip.stderr)
             script = "import nukwashe; print(nukwashe.World.read(':counter').slot_counts)"
             self.assertEqual(run(folder / "bin/python3", "-c", script).stdout, "[1, 0]\n")
-            for program in ("copy", "paste", "post", "look"):
+            for program in ("copy", "paste", "post", "look", "chart"):
                 shown = run(folder / f"bin/nukwashe-{program}", "--help")
                 self.assertIn(f"usage: nukwashe-{program}", shown.stdout)
             paste = run(folder / "bin/nukwashe-paste", "--session", folder / "absent")
