@@ -94,10 +94,10 @@ written_light : (vs : List Value) (ws : List Write) → are_light vs ≡ true �
     list_all (λ (w : Write). is_light w.value) ws ≡ true → are_light (written vs ws) ≡ true
 written_light vs [] h k = h
 written_light vs (w ∷ ws) h k =
-    let a = both (nat_le (length vs) 1024) (list_all is_light vs) h in
+    let a = both (nat_le (length vs) 16) (list_all is_light vs) h in
     let b = both (is_light w.value) (list_all (λ (x : Write). is_light x.value) ws) k in
     written_light (slice_set vs w.slot w.value) ws
-    (ap (λ n. nat_le n 1024 && list_all is_light (slice_set vs w.slot w.value))
+    (ap (λ n. nat_le n 16 && list_all is_light (slice_set vs w.slot w.value))
     (put_count vs w.slot w.value)
     ∙ ap (λ c. c && list_all is_light (slice_set vs w.slot w.value)) a.0
     ∙ put_passes is_light vs w.slot w.value a.1 b.0) b.1

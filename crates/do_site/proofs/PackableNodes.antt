@@ -43,11 +43,11 @@ found_passes p q (y ∷ ys) x h e =
 
 -- light values weigh no more together than that many times the most
 light_sum : (vs : List Value) → list_all is_light vs ≡ true →
-    sum_by weight_of vs ≤ length vs * 4194303
+    sum_by weight_of vs ≤ length vs * 268435455
 light_sum [] h = omega arith
 light_sum (v ∷ vs) h =
     let b = both (is_light v) (list_all is_light vs) h in
-    let one = ltb-true (weight_of v) 4194304 b.0 in
+    let one = ltb-true (weight_of v) 268435456 b.0 in
     let rest = light_sum vs b.1 in
     let sum = sum_by-cons weight_of v vs in
     omega (arith, one, rest, sum)
@@ -55,8 +55,8 @@ light_sum (v ∷ vs) h =
 -- few and light slots weigh less than 2^32 together
 slots_light : (vs : List Value) → are_light vs ≡ true → sum_by weight_of vs < 2 ^ 32
 slots_light vs h =
-    let b = both (nat_le (length vs) 1024) (list_all is_light vs) h in
-    let few : length vs ≤ 1024 = grind (arith, nat_tests, b.0) in
+    let b = both (nat_le (length vs) 16) (list_all is_light vs) h in
+    let few : length vs ≤ 16 = grind (arith, nat_tests, b.0) in
     let sum = light_sum vs b.1 in
     omega (arith, few, sum)
 

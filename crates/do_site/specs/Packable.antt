@@ -12,13 +12,13 @@ use Rattle.do_class.specs.declared.packet.Name.TheVariants.{Lent, Mine, Yours}
 use Rattle.do_machine.specs.declared.node.Stored.{Stored}
 use Rattle.do_network.specs.Own.{Own}
 
--- a value weighs so little that 1,024 of them weigh less than 2^32
+-- a value weighs so little that 16 of them weigh less than 2^32
 abbrev pub is_light : Value → Bool
-is_light v = nat_lt (weight_of v) 4194304
+is_light v = nat_lt (weight_of v) 268435456
 
 -- slots that are few and weigh little
 abbrev pub are_light : List Value → Bool
-are_light slots = nat_le (length slots) 1024 && list_all is_light slots
+are_light slots = nat_le (length slots) 16 && list_all is_light slots
 
 -- a class of the table
 abbrev pub is_classed : List Class → ClassId → Bool

@@ -12,11 +12,12 @@ use do_effects::Plan;
 use do_packet::Made;
 use do_rules::left_behind;
 
-/// What a value weighs at most of which 1,024 can be counted.
-const LIGHT: u64 = 4_194_303;
+/// What a value weighs at most of which 16 can be counted. What an act makes weighs at most
+/// 2,097,152, and what a payload of 2,098,176 bytes gives weighs less than 2^26.
+const LIGHT: u64 = 268_435_455;
 
-/// The most slots of an object that can be counted.
-const SLOTS: usize = 1024;
+/// The most slots of an object that can be counted: as many as a class may have.
+const SLOTS: usize = 16;
 
 /// Whether a value weighs little.
 fn is_light(value: &Value) -> bool
