@@ -1,19 +1,23 @@
 //! Children that run a program through `sh`.
 ghost use Rattle.std.specs.Prelude.{◌≡◌, ◌+◌, ◌<◌, ◌≤◌, OnOk, None, vec_len};
 
-use do_base::Word;
+use do_base::{NodeId, Word};
 use do_lab::{ChildId, SpawnFail, Spawner};
+use do_sockets::{Deadline, connect_once};
 use std::alloc::Global;
-use std::net::{Ipv4Addr, Net, OpenStream, SocketAddr, TcpStream};
+use std::net::Net;
 use std::process::{Child, Command, Processes, Stdio};
 use std::time::{Clock, Duration};
 use std::{io, str, thread};
 
-/// How often the port of a new child is tried, a millisecond apart.
-const TRIES: u32 = 10_000;
+/// How often the port of a new child is tried.
+const TRIES: u32 = 100_000;
 
-/// For how many milliseconds one try waits. A child whose queue is full does not answer.
-const TRY_TIME: u64 = 100;
+/// How many microseconds a start pauses before it tries again.
+const PAUSE: u64 = 100;
+
+/// For how many microseconds a start tries.
+const START_TIME: u64 = 30_000_000;
 
 /// What `sh` does with its words: the path of the program, a command, and the port. The words are
 /// parameters, and no part of this text.
@@ -21,8 +25,8 @@ const SCRIPT: &str = "p=$3; exec \"$@\" >\"$p.record\"";
 
 /// Starts a program through `sh`, which sends its standard output to the file `PORT.record`.
 ///
-/// A start answers once the port accepts a connection, the child has ended, or 10,000 tries were
-/// spent, a millisecond apart. It is `Failed` only where the program could not be started. It tells
+/// A start answers once the port accepts a connection, the child has ended, or 100,000 tries or
+/// half a minute were spent. It is `Failed` only where the program could not be started. It tells
 /// no list.
 #[derive(Drop)]
 pub struct ProcSpawner<R: Processes> {
@@ -68,34 +72,24 @@ fn start_child<R: Processes>(
 }
 
 /// Tries a port until it accepts a connection, the child has ended, or the tries are spent.
-fn await_port<R: Processes + Net + Clock>(rt: &R, child: &mut Child<R::Started>, port: u16) {
-    let address = SocketAddr::from((Ipv4Addr::LOCALHOST, port));
+fn await_port<R: Processes + Net + Clock>(rt: &R, child: &mut Child<R::Started>, port: NodeId) {
+    let deadline = Deadline::after(rt, START_TIME);
     for _ in 0..TRIES {
-        match TcpStream::connect_timeout(rt, &address, Duration::from_millis(TRY_TIME)) {
-            Ok(stream) if !is_own(&stream) => return,
-            _ => {}
-        }
-        if matches!(child.try_wait(), Ok(Some(_))) {
+        if connect_once(rt, port).is_some() || matches!(child.try_wait(), Ok(Some(_))) {
             return;
         }
-        thread::sleep(rt, Duration::from_millis(1));
-    }
-}
-
-/// Whether a stream goes to itself. The system may give a stream the very port that it asks for,
-/// where nobody listens there.
-fn is_own(stream: &impl OpenStream) -> bool {
-    match (stream.local_addr(), stream.peer_addr()) {
-        (Ok(near), Ok(far)) => near == far,
-        _ => false,
+        if deadline.has_passed(rt) {
+            return;
+        }
+        thread::sleep(rt, Duration::from_micros(PAUSE));
     }
 }
 
 /// The port that the second word is.
-fn port_of(words: &[Word]) -> Option<u16> {
+fn port_of(words: &[Word]) -> Option<NodeId> {
     let word = words.get(1)?;
     match str::from_utf8(word.as_slice()) {
-        Ok(text) => text.parse::<u16>().ok(),
+        Ok(text) => NodeId::new(text.parse::<u16>().ok()?),
         Err(_) => None,
     }
 }

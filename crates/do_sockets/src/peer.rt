@@ -2,15 +2,16 @@
 ghost use Rattle.std.specs.Prelude.{◌≡◌, ◌<◌, ◌≤◌, ℕ, length};
 ghost use Rattle.do_sockets.specs.declared.reading.Got.TheVariants.{Bytes};
 
+use crate::outbox::Outbox;
 use crate::reading::{Got, read_some};
 use do_base::NodeId;
 use mio::Token;
 use std::alloc::{AllocError, Global};
 use std::collections::VecDeque;
-use std::io::Read;
+use std::io::{Read, Write};
 
-/// How many bytes of a peer are kept while a send waits, before it is read no more: 16 MiB less what
-/// one read gives, which are seven of the largest frames.
+/// How many bytes of a peer are kept while a send waits, before it is read no more: 16 MiB less
+/// what one read gives, which are seven of the largest frames.
 const MOST_KEPT: usize = 16_711_680;
 
 /// The stream to a peer.
@@ -19,7 +20,7 @@ pub enum Outgoing<S> {
     /// Nothing was sent so far.
     NotYet,
     /// It takes bytes.
-    Open(S),
+    Open(Outbox<S>),
     /// It failed, or a send has it.
     Closed,
 }
@@ -35,13 +36,13 @@ pub struct Peer<S> {
     /// The token of the first stream from it; none before there was one.
     pub token: Option<Token>,
     /// Whether that stream may have something to read.
-    pub is_ready: bool,
+    is_ready: bool,
     /// Whether it counts as ready until a read finds nothing, though one left room in its buffer.
-    pub is_to_drain: bool,
+    is_to_drain: bool,
     /// The stream to it.
     pub outgoing: Outgoing<S>,
     /// What came while a send waited.
-    pub kept: VecDeque<u8>,
+    kept: VecDeque<u8>,
 }
 
 impl<S: Read + Drop> Peer<S> {
@@ -147,6 +148,21 @@ impl<S: Read + Drop> Peer<S> {
             // The end is read again by the next poll.
             _ => Ok(false),
         }
+    }
+}
+
+impl<S: Write + Drop> Peer<S> {
+    /// Gives the peer what it takes now of the bytes that wait for it, and says whether some still
+    /// do. A stream that failed is dropped.
+    pub fn flush(&mut self) -> bool {
+        let Outgoing::Open(outbox) = &mut self.outgoing else {
+            return false;
+        };
+        if outbox.flush() {
+            return outbox.is_waiting();
+        }
+        self.outgoing = Outgoing::Closed;
+        false
     }
 }
 

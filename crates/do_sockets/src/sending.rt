@@ -1,63 +1,47 @@
-//! Streams to peers.
+//! Sends to peers.
+use crate::connecting::open;
+use crate::outbox::Outbox;
 use crate::peer::Outgoing;
-use crate::streams::{OUTGOING, Streams};
-use crate::timing::{Span, has_ended};
-use crate::waiter::Waiter;
+use crate::streams::Streams;
+use crate::timing::Deadline;
 use do_base::NodeId;
-use mio::Interest;
-use std::io::{ErrorKind, Write};
-use std::net::{Ipv4Addr, Net, OpenStream, SocketAddr, TcpStream};
-use std::time::{Clock, Duration};
-use std::{mem, thread};
-
-/// How often a send asks for a stream.
-const CONNECT_TRIES: u32 = 1_000;
-
-/// For how many microseconds a send asks for a stream.
-const CONNECT_TIME: u64 = 1_000_000;
-
-/// For how many microseconds one ask for a stream waits. A peer whose queue is full does not answer.
-const TRY_TIME: u64 = 100_000;
-
-/// For how many microseconds a send waits in all until its peer has taken its bytes.
-const SEND_TIME: u64 = 60_000_000;
+use do_link::{LinkEvent, LinkFail};
+use std::mem;
+use std::net::Net;
+use std::time::Clock;
 
 /// A thousandth of a second, in microseconds.
 const MILLISECOND: u64 = 1_000;
 
-/// How a send ended.
-pub enum Sent {
-    /// All bytes were written.
-    All,
-    /// The stream could not be opened, or took no more.
-    Failed,
-    /// Memory ran out.
-    Memory,
-}
+/// For how many microseconds a link that is dropped waits until its peers have taken their bytes.
+const LAST_TIME: u64 = 60_000_000;
 
 impl<R: Net + Clock> Streams<R> {
-    /// Sends all to a peer. A stream that failed is dropped, and later sends fail at once.
-    pub fn send(&mut self, rt: &R, to: NodeId, bytes: &[u8]) -> Sent {
-        let Some(mut stream) = self.take_stream(rt, to) else {
-            return Sent::Failed;
-        };
-        let sent = self.write_all(rt, &mut stream, bytes);
-        if matches!(&sent, Sent::All) {
-            self.put_stream(to, stream);
+    /// Sends all to a peer: the stream takes it, or it waits in the peer's queue. A stream that
+    /// failed is dropped, and later sends fail at once.
+    pub fn send(&mut self, rt: &R, to: NodeId, bytes: &[u8]) -> Result<(), LinkFail> {
+        let mut outbox = self.take_outbox(rt, to).ok_or(LinkFail::Failed)?;
+        self.make_room(rt, &mut outbox)?;
+        if !outbox.put(bytes)? {
+            return Err(LinkFail::Failed);
         }
-        sent
+        self.is_waiting = self.is_waiting || outbox.is_waiting();
+        self.put_outbox(to, outbox);
+        Ok(())
     }
 
-    /// The open stream to a peer, taken out.
-    fn take_stream(&mut self, rt: &R, to: NodeId) -> Option<R::Stream> {
+    /// The open stream to a peer with its queue, taken out.
+    fn take_outbox(&mut self, rt: &R, to: NodeId) -> Option<Outbox<R::Stream>> {
         for (at, peer) in self.peers.iter_mut().enumerate() {
             if peer.id == to {
                 // An answer may come soon.
                 self.hot = at;
                 return match mem::replace(&mut peer.outgoing, Outgoing::Closed) {
-                    Outgoing::Open(stream) => Some(stream),
+                    Outgoing::Open(outbox) => Some(outbox),
                     Outgoing::NotYet => match (self.port, &self.waiter) {
-                        (Some(port), Some(waiter)) => open(rt, to, port, waiter),
+                        (Some(port), Some(waiter)) => {
+                            Some(Outbox::new(self.alloc, open(rt, to, port, waiter)?))
+                        }
                         _ => None,
                     },
                     Outgoing::Closed => None,
@@ -67,82 +51,61 @@ impl<R: Net + Clock> Streams<R> {
         None
     }
 
-    /// Puts the stream to a peer back.
-    fn put_stream(&mut self, to: NodeId, stream: R::Stream) {
+    /// Puts the stream to a peer back, with its queue.
+    fn put_outbox(&mut self, to: NodeId, outbox: Outbox<R::Stream>) {
         for peer in self.peers.iter_mut() {
             if peer.id == to {
-                peer.outgoing = Outgoing::Open(stream);
+                peer.outgoing = Outgoing::Open(outbox);
                 return;
             }
         }
     }
 
-    /// Writes all. Where that would wait it keeps what comes in, so that of two nodes that both
-    /// send neither waits for the other. A minute of such waits is the most for one send.
-    fn write_all(&mut self, rt: &R, stream: &mut R::Stream, bytes: &[u8]) -> Sent {
-        let mut at = 0;
-        let mut limit = None;
+    /// Waits until a queue has room. Meanwhile it keeps what comes in and gives the other peers
+    /// their bytes, so that of two nodes that both send neither waits for the other.
+    fn make_room(&mut self, rt: &R, outbox: &mut Outbox<R::Stream>) -> Result<(), LinkFail> {
         for _ in 0..u64::MAX {
-            if at >= bytes.len() {
-                return Sent::All;
+            if !outbox.flush() {
+                return Err(LinkFail::Failed);
             }
-            match stream.write(&bytes[at..]) {
-                Ok(0) => return Sent::Failed,
-                Ok(count) => at += count,
-                Err(e) if e.kind() == ErrorKind::Interrupted => {}
-                Err(e) if e.kind() == ErrorKind::WouldBlock => {
-                    if limit.is_none() {
-                        limit = Span::of_micros(rt, SEND_TIME);
-                    }
-                    if has_ended(limit, rt) {
-                        return Sent::Failed;
-                    }
-                    match self.keep_all() {
-                        Ok(true) => self.look(0),
-                        Ok(false) => self.look(MILLISECOND),
-                        Err(_) => return Sent::Memory,
-                    }
-                }
-                Err(_) => return Sent::Failed,
+            if !outbox.is_full() {
+                return Ok(());
+            }
+            if outbox.is_overdue(rt) {
+                return Err(LinkFail::Failed);
+            }
+            self.flush_all();
+            let wait = if self.keep_all()? { 0 } else { MILLISECOND };
+            self.look(rt, wait);
+        }
+        Err(LinkFail::Failed)
+    }
+
+    /// Gives each peer what it takes now of the bytes that wait for it.
+    pub fn flush_all(&mut self) {
+        if !self.is_waiting {
+            return;
+        }
+        self.is_waiting = false;
+        for peer in self.peers.iter_mut() {
+            if peer.flush() {
+                self.is_waiting = true;
             }
         }
-        Sent::Failed
     }
-}
 
-/// A stream to a peer, which says the own port first.
-fn open<R: Net + Clock>(rt: &R, to: NodeId, port: NodeId, waiter: &Waiter) -> Option<R::Stream> {
-    let mut stream = connect(rt, to)?;
-    stream.set_nodelay(true).ok()?;
-    stream.write_all(&port.port().to_be_bytes()).ok()?;
-    stream.set_nonblocking(true).ok()?;
-    waiter
-        .watch(&stream, OUTGOING, Interest::WRITABLE)
-        .then_some(stream)
-}
-
-/// A peer that does not listen yet, or whose queue is full, is asked again, a millisecond apart.
-fn connect<R: Net + Clock>(rt: &R, to: NodeId) -> Option<R::Stream> {
-    let limit = Span::of_micros(rt, CONNECT_TIME);
-    let address = SocketAddr::from((Ipv4Addr::LOCALHOST, to.port()));
-    for _ in 0..CONNECT_TRIES {
-        match TcpStream::connect_timeout(rt, &address, Duration::from_micros(TRY_TIME)) {
-            Ok(stream) if !is_own(&stream) => return Some(stream),
-            _ => {}
+    /// Gives all peers the bytes that wait for them, within a minute. What comes meanwhile is
+    /// dropped, so that of two nodes that both end neither waits for the other.
+    pub fn finish(&mut self, rt: &R) {
+        let deadline = Deadline::after(rt, LAST_TIME);
+        let mut buf = [0u8; 65536];
+        for _ in 0..u64::MAX {
+            self.flush_all();
+            if !self.is_waiting || deadline.has_passed(rt) {
+                return;
+            }
+            let is_quiet = matches!(self.poll(&mut buf), LinkEvent::Quiet);
+            self.look(rt, if is_quiet { MILLISECOND } else { 0 });
         }
-        if has_ended(limit, rt) {
-            return None;
-        }
-        thread::sleep(rt, Duration::from_micros(MILLISECOND));
-    }
-    None
-}
-
-/// Whether a stream goes to itself. The system may give a stream the very port that it asks for,
-/// where nobody listens there.
-fn is_own(stream: &impl OpenStream) -> bool {
-    match (stream.local_addr(), stream.peer_addr()) {
-        (Ok(near), Ok(far)) => near == far,
-        _ => false,
     }
 }

@@ -12,9 +12,9 @@ const TRUSTED: u32 = 64;
 
 /// Whether a poll that finds nothing reads on for a while before it sleeps.
 ///
-/// It does once a wait was quick, which shows that an answer comes sooner than a sleeper wakes. Each
-/// time that it read on for nothing it asks for twice as many quick waits first. So a node whose
-/// peers are slow, or have no processor of their own, sleeps.
+/// It does once a wait was quick, which shows that an answer comes sooner than a sleeper wakes.
+/// Each time that it read on for nothing it asks for twice as many quick waits first. So a node
+/// whose peers are slow, or have no processor of their own, sleeps.
 #[derive(Clone, Copy)]
 pub struct Spinning {
     /// How many quick waits it asks for after it read on for nothing.
@@ -77,7 +77,7 @@ impl Spinning {
         }
     }
 
-    /// A sleep ended; it was quick where something came soon. After one that was not it sleeps again.
+    /// A sleep ended; it was quick where something came soon. After another it sleeps again.
     pub fn slept(&mut self, is_quick: bool)
         ensures slow { is_quick ≡ false → 0 < self.new.left }
     {

@@ -1,7 +1,6 @@
 //! The link over sockets of this machine.
 ghost use Rattle.std.specs.Prelude.{◌≡◌, ◌∷◌, [], None};
 
-use crate::sending::Sent;
 use crate::streams::Streams;
 use do_base::NodeId;
 use do_link::{Link, LinkEvent, LinkFail};
@@ -12,21 +11,26 @@ use std::time::Clock;
 /// A link over sockets of this machine: a stream for each direction between two nodes, which begins
 /// with the sender's port as two bytes, the high byte first.
 ///
-/// It opens a stream to a peer at the first send; a peer that does not listen yet, or whose queue is
-/// full, is asked again for a second. A stream that goes to itself is dropped. An incoming stream
-/// that ends before it said its port, that says one of no peer, or one for the second time, is
-/// dropped, and so is the oldest of more than 128 streams that have said nothing.
+/// It opens a stream to a peer at the first send; a peer that does not listen yet, or whose queue
+/// is full, is asked again for a second. A stream that goes to itself is dropped. So is an incoming
+/// stream that ends before it said its port, that says one of no peer, or one for the second time;
+/// and so is the oldest of 512 streams that have said nothing, once it is 50 milliseconds old and
+/// another comes.
 ///
 /// A poll that finds nothing waits for a socket, at most as long as it was made to. Where an answer
 /// came soon before, it first reads the peer that was heard or sent to last, 50 microseconds at
 /// most; a node to which nothing comes sleeps.
 ///
-/// A send keeps what comes in while its peer takes nothing, so that of two nodes that both send
-/// neither waits for the other; it is `Failed` where it took a minute. Of each peer 16 MiB are kept
-/// so at most; it is read no more then, until a poll gave them. A poll reads 64 KiB at most, and
-/// nothing is read between polls. It tells no list.
-#[derive(Drop)]
-pub struct TcpLink<R: Net> {
+/// What a peer does not take at once waits in a queue, and is given on by later polls and sends,
+/// and by the drop of the link. A send is done once its bytes were taken or wait. Where 16 MiB wait
+/// for its peer, the send waits for room first. It is `Failed` where a minute later some of the
+/// bytes that stood there are not taken; the peer is then given up, and so is one whose stream
+/// breaks.
+///
+/// Meanwhile it keeps what comes in, so that of two nodes that both send neither waits for the
+/// other. Of each peer 16 MiB are kept so at most; it is read no more then, until a poll gave them.
+/// A poll reads 64 KiB at most, and nothing is read between polls. It tells no list.
+pub struct TcpLink<R: Net + Clock> {
     rt: R,
     streams: Streams<R>,
     faults: u64,
@@ -34,7 +38,7 @@ pub struct TcpLink<R: Net> {
     wait: u64,
 }
 
-impl<R: Net + Drop> TcpLink<R> {
+impl<R: Net + Clock + Drop> TcpLink<R> {
     /// A link before its listen. A poll that finds nothing waits `wait` microseconds at most for a
     /// socket; the system may round them up to a millisecond. For 0 it does not wait.
     pub fn new(alloc: Global, rt: R, wait: u64) -> Self {
@@ -45,6 +49,20 @@ impl<R: Net + Drop> TcpLink<R> {
             quiets: 0,
             wait,
         }
+    }
+}
+
+impl<R: Net + Clock + Drop> Drop for TcpLink<R> {
+    /// Waits until the peers have taken the bytes that wait for them, a minute at most.
+    fn drop(mut self) {
+        self.streams.finish(&self.rt);
+        let TcpLink {
+            rt: _,
+            streams: _,
+            faults: _,
+            quiets: _,
+            wait: _,
+        } = self;
     }
 }
 
@@ -72,13 +90,10 @@ impl<R: Net + Clock> Link for TcpLink<R> {
     }
 
     fn send(&mut self, to: NodeId, bytes: &[u8]) -> Result<(), LinkFail> {
-        match self.streams.send(&self.rt, to, bytes) {
-            Sent::All => Ok(()),
-            Sent::Memory => Err(LinkFail::Memory),
-            Sent::Failed => {
-                self.faults = self.faults.saturating_add(1);
-                Err(LinkFail::Failed)
-            }
+        let sent = self.streams.send(&self.rt, to, bytes);
+        if matches!(&sent, Err(LinkFail::Failed)) {
+            self.faults = self.faults.saturating_add(1);
         }
+        sent
     }
 }

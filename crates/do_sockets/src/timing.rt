@@ -1,34 +1,28 @@
 //! Times that end.
 use std::time::{Clock, Duration, Instant};
 
-/// A time that ends, from a moment on.
+/// A moment after which a wait is given up.
 #[derive(Clone, Copy)]
-pub struct Span {
-    began: Instant,
+pub struct Deadline {
+    /// When the time began. None where the system told no time.
+    began: Option<Instant>,
     most: Duration,
 }
 
-impl Span {
-    /// The next microseconds, this many. None where the system tells no time.
-    pub fn of_micros(clock: &impl Clock, micros: u64) -> Option<Span> {
-        let began = Instant::now(clock).ok()?;
-        let most = Duration::from_micros(micros);
-        Some(Span { began, most })
-    }
-
-    /// Whether it has ended; so it has where the system tells no time any more.
-    pub fn is_over(&self, clock: &impl Clock) -> bool {
-        match self.began.elapsed(clock) {
-            Ok(time) => time >= self.most,
-            Err(_) => true,
+impl Deadline {
+    /// The moment this many microseconds from now.
+    pub fn after(clock: &impl Clock, micros: u64) -> Deadline {
+        Deadline {
+            began: Instant::now(clock).ok(),
+            most: Duration::from_micros(micros),
         }
     }
-}
 
-/// Whether a time ended, or could not be told.
-pub fn has_ended(span: Option<Span>, clock: &impl Clock) -> bool {
-    match span {
-        Some(span) => span.is_over(clock),
-        None => true,
+    /// Whether the moment has passed. Where the system tells no time it has.
+    pub fn has_passed(&self, clock: &impl Clock) -> bool {
+        match self.began.map(|began| began.elapsed(clock)) {
+            Some(Ok(time)) => time >= self.most,
+            _ => true,
+        }
     }
 }

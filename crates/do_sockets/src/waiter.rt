@@ -8,6 +8,12 @@ use std::net::Net;
 use std::os::fd::AsRawFd;
 use std::time::Duration;
 
+/// The listener's token. Streams that are accepted have those from 1 on.
+pub const LISTENER: Token = Token(0);
+
+/// The token of all streams to peers: that they are ready ends a wait, and no more.
+pub const OUTGOING: Token = Token(usize::MAX);
+
 /// The sockets that a poll waits for, each under a token.
 #[derive(Drop)]
 pub struct Waiter {
