@@ -16,7 +16,7 @@ class Link:
 
     def __init__(self, port: int, peers: Iterable[int], patience: float) -> None:
         """Listens at a port. Raises OSError where the port is taken."""
-        self._port, self._patience = port, patience
+        self._port, self._patience, self._is_closed = port, patience, False
         self.channels = {peer: Channel(peer) for peer in peers}
         self._selector = selectors.DefaultSelector()
         self._listener = socket.create_server((HOST, port), backlog=128)
@@ -38,11 +38,14 @@ class Link:
 
     def move(self, timeout: float) -> None:
         """Waits for sockets at most so many seconds, and moves what they have and take."""
-        for key, _ in self._selector.select(timeout):
+        for key, _ in self._selector.select(timeout) if not self._is_closed else ():
             key.data()
 
     def close(self) -> None:
-        """Sends what waits for a second at most, and closes all sockets."""
+        """Sends what waits for a second at most, and closes all sockets. A closed link does
+        nothing more."""
+        if self._is_closed:
+            return
         end = time.monotonic() + 1
         while any(each.waiting for each in self.channels.values()) and time.monotonic() < end:
             self.move(0.01)
@@ -52,6 +55,7 @@ class Link:
             if channel.incoming is not None:
                 channel.incoming.close()
         self._selector.close()
+        self._is_closed = True
 
     # ---- sending
 

@@ -45,9 +45,10 @@ class Node(Site):
                  patience: float = 1.0, record: str | os.PathLike[str] | None = None) -> None:
         """Listens at a port of a world, with a root for those who ask for it.
 
-        `classes` are those of the objects that peers may copy to this node; for a class of the
-        world that is not among them one without methods is made. A peer that does not listen yet
-        is tried for `patience` seconds. What the node takes is written to the file `record`.
+        `classes` are those of the objects that peers may copy to this node, which are made without
+        a call of `__init__`; for a class of the world that is not among them one without methods
+        is made. A peer that does not listen yet is tried for `patience` seconds, and is closed
+        then. What the node takes is written to the file `record`.
         Raises OSError where the port is taken or the file cannot be written, and ValueError where
         the world has no such node or its file no world.
         """
@@ -181,8 +182,11 @@ class Node(Site):
                 self._close(peer)
 
     def close(self) -> None:
-        """Leaves, closes all sockets, and ends the record."""
+        """Leaves, closes all sockets, and ends the record. A closed node takes nothing, and its
+        calls raise ConnectionDied."""
         self.leave()
+        for peer in self.peers.values():
+            self.close_end(peer)
         self._link.close()
         if self._record is not None:
             self._record.end()

@@ -56,7 +56,10 @@ class World:
             return cls(file.read())
 
     def ports_of(self, kind: str) -> list[int]:
-        """The ports of the nodes whose roots are of a native kind, such as `pasteboard`."""
+        """The ports of the nodes whose roots are of a native kind, by rising port.
+
+            board = node.root(node.world.ports_of("pasteboard")[0])
+        """
         return sorted(port for port, cls in self.roots.items() if cls.native == kind)
 
 

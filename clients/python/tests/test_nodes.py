@@ -144,6 +144,15 @@ class Holding(ThreeNodes):
             self.node.root(self.ports[1])
 
 
+    def test_a_closed_node_does_nothing_more(self):
+        self.node.close()
+        self.node.close()
+        self.assertFalse(self.node.poll())
+        for call in (lambda: self.second.echo_(1), lambda: self.node.root(self.ports[3])):
+            with self.assertRaises(nukwashe.ConnectionDied):
+                call()
+
+
 class Loops(unittest.TestCase):
     def test_another_event_loop_waits_for_the_fileno(self):
         ports = free_ports(2)
