@@ -85,7 +85,7 @@ class Session(Live):
             node.root(self.center).addObserver_selector_name_object_suspensionBehavior_(
                 reader, "note:object:info:", "saved", None, 4)
             node.root(self.names).register_port_("note", self.reader)
-            self.assertEqual(self.command("post", "--about", "a.txt", "saved", "one", "two")[0], 0)
+            self.assertEqual(self.command("post", "saved", "--about", "a.txt", "one", "two")[0], 0)
             self.assertTrue(node.run(lambda: reader.notes, PATIENCE))
             self.assertEqual(reader.notes, (("saved", "a.txt", ["one", "two"]),))
             self.assertEqual(self.command("look", "note"), (0, b"%d\n" % self.reader, ""))

@@ -77,7 +77,7 @@ def post() -> None:
     words.add_argument("--about", metavar="TEXT", help="the object that it is about")
     words.add_argument("name", metavar="NAME")
     words.add_argument("info", metavar="WORD", nargs="*")
-    given = words.parse_args()
+    given = words.parse_intermixed_args()
     _ask("post", given.session, {"name": given.name, "about": given.about, "info": given.info})
 
 
