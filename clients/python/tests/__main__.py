@@ -6,9 +6,10 @@ from .support import HERE
 
 
 def run(suite):
-    """Runs tests: those that did not pass."""
+    """Runs tests: the names of those that did not pass. A part of a test stands for the test."""
     result = unittest.TextTestRunner(buffer=True).run(suite)
-    return [test for test, _ in result.failures + result.errors]
+    failed = [test for test, _ in result.failures + result.errors]
+    return sorted({getattr(test, "test_case", test).id() for test in failed})
 
 
 def tests():
@@ -16,7 +17,7 @@ def tests():
 
 
 def main():
-    names = [test.id() for test in run(tests())]
+    names = run(tests())
     if names:
         print("once more, alone:", *names, file=sys.stderr)
         return bool(run(unittest.defaultTestLoader.loadTestsFromNames(names)))
