@@ -59,7 +59,11 @@ USER = 8
 
 
 def error_of(number: int, text: str | None) -> NodeError:
-    """The exception of a number, with the text of `User`."""
+    """The exception of a number, with the text of `User`.
+
+        >>> error_of(8, "broken").text
+        'broken'
+    """
     kind = IN_ORDER[number - 1]
     return kind() if text is None else kind(text)
 

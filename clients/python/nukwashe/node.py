@@ -65,6 +65,8 @@ class Node(Site):
     def root(self, port: int, timeout: float | None = None) -> Any:
         """The root of the node at a port, or None where it has none.
 
+            counter = node.root(7002, timeout=5)
+
         Raises ConnectionDied where the connection is closed or no node of the world has the port,
         and TimedOut after so many seconds.
         """
@@ -88,9 +90,10 @@ class Node(Site):
         """Sends a message to a foreign object, and waits for the answer: the result, or a tuple of
         the result and each value that comes out. A oneway message gives None at once.
 
+            node.send(counter, "add:", [5])  # or counter.add_(5)
+
         Raises what the receiver raised, and of its own ConnectionDied, NotVended, NotUnderstood,
-        Type, TooLarge and Deep; TimedOut after so many seconds. `proxy.add_(5)` is the shorter
-        form of `node.send(proxy, "add:", [5])`.
+        Type, TooLarge and Deep; TimedOut after so many seconds.
         """
         self.give_back()
         peer, signature = self._receiver(proxy, selector)
@@ -145,7 +148,11 @@ class Node(Site):
 
     def poll(self, timeout: float = 0) -> bool:
         """Takes one thing that came, and waits for it at most so many seconds. It says whether
-        something was taken; then there may be more."""
+        something was taken; then there may be more.
+
+            while node.poll():
+                pass
+        """
         self.give_back()
         if self._take():
             return True
@@ -176,7 +183,10 @@ class Node(Site):
     # ---- ends
 
     def leave(self) -> None:
-        """Closes each open connection over which something was sent or taken."""
+        """Closes each open connection over which something was sent or taken.
+
+            node.leave()  # from now on calls raise ConnectionDied
+        """
         for peer in self.peers.values():
             if peer.is_open and peer.is_used:
                 self._close(peer)

@@ -48,7 +48,10 @@ class Proxy:
         self._node, self._id, self._class = node, oid, cls
 
     def send(self, selector: str, *values: Any, timeout: float | None = None) -> Any:
-        """Sends a message by its selector, as `counter.send("add:", 5)`."""
+        """Sends a message by its selector, and gives what Node.send does.
+
+            counter.send("add:", 5, timeout=10)
+        """
         return self._node.send(self, selector, values, timeout)
 
     def __getattr__(self, name: str) -> Callable[..., Any]:

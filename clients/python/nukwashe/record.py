@@ -16,7 +16,11 @@ _END = "> end\n"
 
 
 def quoted(text: bytes) -> str:
-    """A text as schedules and transcripts write it."""
+    """A text as schedules and transcripts write it.
+
+        >>> print(quoted(b'a"'))
+        "a\\22"
+    """
     return '"' + "".join(chr(byte) if 32 <= byte <= 126 and byte not in b'"\\'
                          else f"\\{byte:02x}" for byte in text) + '"'
 

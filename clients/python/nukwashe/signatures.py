@@ -130,7 +130,11 @@ def read_signature(types: str) -> Signature:
 
 
 def fits(value: object, kind: TypeOf) -> bool:
-    """Whether a value fits a type. A text is bytes; an object fits `@` alone."""
+    """Whether a value fits a type. A text is bytes; an object fits `@` alone.
+
+        >>> fits(128, "c"), fits(None, "*"), fits([1, 2], Array(2, "c"))
+        (False, True, True)
+    """
     match kind:
         case Pointer(to):
             return value is None or fits(value, to)

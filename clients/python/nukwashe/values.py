@@ -12,7 +12,11 @@ from .objects import Object, Proxy
 
 def to_message(value: Any, lists: int = MOST_NESTED) -> Any:
     """A program's value as messages have it. Raises TooLarge past a limit on texts and lists, Type
-    for a number that 64 bits cannot hold, and TypeError for what no message has."""
+    for a number that 64 bits cannot hold, and TypeError for what no message has.
+
+        >>> to_message((True, "a"))
+        [1, b'a']
+    """
     match value:
         case None | Object() | Proxy():
             return value
@@ -39,7 +43,11 @@ def to_text(data: bytes) -> str:
 
 
 def weight(value: Any) -> int:
-    """What a value of a message weighs."""
+    """What a value of a message weighs.
+
+        >>> weight([None, b"ab"])
+        35
+    """
     match value:
         case None:
             return 1

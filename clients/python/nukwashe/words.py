@@ -12,6 +12,10 @@ def is_name(text: bytes) -> bool:
 
 def is_selector(text: bytes) -> bool:
     """Whether a text is a selector: it has no colon or ends with one, 8 colons and 255 bytes at
-    most."""
+    most.
+
+        >>> is_selector(b"set:to:"), is_selector(b"set:to")
+        (True, False)
+    """
     return (_SELECTOR.match(text) is not None and len(text) <= 255 and text.count(b":") <= 8
             and (b":" not in text or text.endswith(b":")))

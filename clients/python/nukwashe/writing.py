@@ -74,6 +74,7 @@ _FIELDS: dict[str, Callable[..., bytes]] = {
 def frame_bytes(frame: Frame, table: Table) -> bytes:
     """A frame, with its kind and length. The table changes as its names are written.
 
+        >>> from nukwashe.frames import RootAsk
         >>> frame_bytes(RootAsk(1), Table()).hex()
         '05000000020101'
     """
