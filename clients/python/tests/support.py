@@ -33,21 +33,25 @@ def _is_free(port):
     return True
 
 
+def _lock(path):
+    """A file that nobody else has locked, locked; None where it cannot be."""
+    try:
+        file = open(path, "w")
+        fcntl.flock(file, fcntl.LOCK_EX | fcntl.LOCK_NB)
+    except OSError:
+        return None
+    return file
+
+
 def free_ports(count):
     """So many ports that nobody listens at, and that no other run of these tests takes: a lock
     keeps each block of 16 until this process ends. They are none that the system gives out."""
     for first in random.sample(range(20_000, 32_000, 16), 200):
-        lock = open(pathlib.Path(tempfile.gettempdir()) / f"nukwashe-ports-{first}", "w")
-        try:
-            fcntl.flock(lock, fcntl.LOCK_EX | fcntl.LOCK_NB)
-        except OSError:
-            lock.close()
-            continue
-        ports = range(first, first + count)
-        if all(map(_is_free, ports)):
+        ports = list(range(first, first + count))
+        lock = _lock(pathlib.Path(tempfile.gettempdir()) / f"nukwashe-ports-{first}")
+        if lock is not None and all(map(_is_free, ports)):
             _locks.append(lock)
-            return list(ports)
-        lock.close()
+            return ports
     raise unittest.SkipTest("no free ports")
 
 

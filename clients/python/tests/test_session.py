@@ -1,9 +1,11 @@
 """The console programs, beside servers of the proved program."""
 import os
+import pathlib
 import signal
 import stat
 import subprocess
 import sys
+import tempfile
 import unittest
 
 from nukwashe import Node, Object
@@ -25,15 +27,19 @@ class Session(Live):
     def setUp(self):
         super().setUp()
         self.names, self.board, self.owner, self.reader, self.center = self.ports
-        self.socket = self.folder / "session"
+        # The path of a socket has 107 bytes at most, and the folder for tests may have a long one.
+        short = tempfile.TemporaryDirectory(dir="/tmp")
+        self.addCleanup(short.cleanup)
+        self.socket = pathlib.Path(short.name) / "session"
         self.environment = {**os.environ, "PYTHONPATH": str(HERE.parent),
                             "NUKWASHE_SESSION": str(self.socket)}
 
-    def begin(self):
-        for port in (self.names, self.board, self.center):
+    def begin(self, *ports, patience="20"):
+        """Starts the servers at these ports, all three if none is given, and a session."""
+        for port in ports or (self.names, self.board, self.center):
             self.serve(port, "until 1")
         self.session = subprocess.Popen(
-            [sys.executable, "-m", "nukwashe.session", "--patience", "20", "world.toml"],
+            [sys.executable, "-m", "nukwashe.session", "--patience", patience, "world.toml"],
             cwd=self.folder, env=self.environment, stdout=subprocess.PIPE, stderr=subprocess.PIPE)
         self.addCleanup(self.session.stdout.close)
         self.addCleanup(self.kill, self.session)
@@ -90,6 +96,19 @@ class Session(Live):
             self.assertEqual(reader.notes, (("saved", "a.txt", ["one", "two"]),))
             self.assertEqual(self.command("look", "note"), (0, b"%d\n" % self.reader, ""))
             self.assertEqual(self.command("look", "absent")[0], 1)
+
+    def test_a_server_that_is_not_there_is_told_and_the_others_work(self):
+        self.begin(self.board, patience="2")
+        self.assertEqual(self.command("copy", data=b"hi")[0], 0)
+        self.assertEqual(self.command("paste"), (0, b"hi", ""))
+        status, _, error = self.command("post", "saved")
+        self.assertEqual(status, 3)
+        self.assertIn(f"The notification centre at port {self.center} does not answer.", error)
+        self.session.send_signal(signal.SIGTERM)
+        self.assertEqual(self.session.wait(PATIENCE), 0)
+        told = self.session.stderr.read().decode()
+        for name, port in (("name server", self.names), ("notification centre", self.center)):
+            self.assertIn(f"The {name} at port {port} does not answer.", told)
 
     def test_what_is_wrong_is_said_in_a_sentence(self):
         status, _, error = self.command("paste")
