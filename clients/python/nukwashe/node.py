@@ -58,7 +58,11 @@ class Node(Site):
         sys.setrecursionlimit(max(sys.getrecursionlimit(), 20 * MOST_DEPTH))
         self._link = Link(port, self.peers, patience)
         self._order = deque(self.peers.values())
-        self._record = None if record is None else Record(record, port)
+        try:
+            self._record = None if record is None else Record(record, port)
+        except OSError:
+            self._link.close()
+            raise
 
     # ---- messages
 
@@ -68,13 +72,16 @@ class Node(Site):
             counter = node.root(7002, timeout=5)
 
         Raises ConnectionDied where the connection is closed or no node of the world has the port,
-        and TimedOut after so many seconds.
+        Type where the peer answers with another number of values than one, and TimedOut after so
+        many seconds.
         """
         if port == self.port:
             return self.own_root
         if not self.is_open(port):
             raise ConnectionDied(f"the connection to {port} is closed")
-        return self._await(self.peers[port], lambda call: RootAsk(call), True, timeout)[0]
+        answer = self._await(self.peers[port], RootAsk, True, timeout)
+        require_fit(answer, [Place("@")])
+        return answer[0]
 
     def vend(self, root: Object | None) -> None:
         """Makes an own object the root, or leaves the node without one.

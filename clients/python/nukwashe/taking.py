@@ -72,9 +72,8 @@ def take(site: Site, peer: Peer, frame: Frame) -> None:
 
 
 def _call(site: Site, peer: Peer, frame: Call) -> None:
-    values = unpack(site, peer.port, frame.packet)
     try:
-        places = perform(site, peer, frame, values)
+        places = perform(site, peer, frame, unpack(site, peer.port, frame.packet))
         if peer.is_open:
             site.transmit(peer, Reply(frame.call, pack(site, peer, places)))
     except Exception as error:

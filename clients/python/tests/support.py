@@ -1,11 +1,10 @@
 """What the tests share: ports that are free, worlds at them, and nodes that serve in a thread."""
+import atexit
 import contextlib
-import fcntl
 import os
 import pathlib
 import random
 import socket
-import tempfile
 import threading
 import time
 import unittest
@@ -20,7 +19,20 @@ PROGRAM = os.environ.get("NUKWASHE", str(TOP / "crates/nukwashe/out/nukwashe"))
 #: Seconds in which what a test waits for must come, on however busy a machine.
 PATIENCE = 40
 
-_locks = []
+#: The sockets that keep blocks of ports for this run.
+_kept = contextlib.ExitStack()
+atexit.register(_kept.close)
+
+
+def _keep(port):
+    """A socket bound to a port as long as this process runs; None where somebody has the port."""
+    sock = socket.socket()
+    try:
+        sock.bind(("127.0.0.1", port))
+    except OSError:
+        sock.close()
+        return None
+    return _kept.enter_context(sock)
 
 
 def _is_free(port):
@@ -33,24 +45,12 @@ def _is_free(port):
     return True
 
 
-def _lock(path):
-    """A file that nobody else has locked, locked; None where it cannot be."""
-    try:
-        file = open(path, "w")
-        fcntl.flock(file, fcntl.LOCK_EX | fcntl.LOCK_NB)
-    except OSError:
-        return None
-    return file
-
-
 def free_ports(count):
-    """So many ports that nobody listens at, and that no other run of these tests takes: a lock
-    keeps each block of 16 until this process ends. They are none that the system gives out."""
+    """So many ports that nobody listens at, none of which the system gives out by itself. They are
+    of a block of 16 whose last is kept bound, so that no other run of these tests takes it."""
     for first in random.sample(range(20_000, 32_000, 16), 200):
         ports = list(range(first, first + count))
-        lock = _lock(pathlib.Path(tempfile.gettempdir()) / f"nukwashe-ports-{first}")
-        if lock is not None and all(map(_is_free, ports)):
-            _locks.append(lock)
+        if _keep(first + 15) is not None and all(map(_is_free, ports)):
             return ports
     raise unittest.SkipTest("no free ports")
 

@@ -1,8 +1,10 @@
 """What a lying peer sends closes the end towards it, and no other."""
 import logging
 import socket
+import threading
 import unittest
 
+import nukwashe
 from nukwashe import Node
 
 from .support import PATIENCE, Peer, free_ports, listener, peers_world
@@ -72,6 +74,34 @@ class Lies(unittest.TestCase):
                     frame(8, "0101", "021b5b", "0101"),  # granted, and was not asked
                     frame(9, "0101", "021b5b", "0101")]:
             self.answers(lie)
+
+    def test_an_answer_of_other_values(self):
+        port, liar, _ = self.ports[:3]
+        answers = {1: frame(6, "0101", "00", "00", "00"),
+                   2: frame(6, "0102", "00", "00", "0102", "00", "00")}
+        with listener(liar) as sock, Node(port, self.world, Peer()) as node:
+            sender = threading.Thread(target=self.answer_asks, args=(sock, port, liar, answers))
+            sender.start()
+            for _ in answers:
+                with self.assertRaises(nukwashe.Type):
+                    node.root(liar, timeout=PATIENCE)
+            self.assertTrue(node.is_open(liar))
+            node.close()
+            sender.join(PATIENCE)
+
+    def answer_asks(self, sock, port, liar, answers):
+        """Answers each ask for the root as it is given, by the numbers of calls."""
+        stream, _ = sock.accept()
+        with stream, socket.create_connection(("127.0.0.1", port)) as out:
+            stream.settimeout(PATIENCE)
+            out.sendall(liar.to_bytes(2, "big") + bytes.fromhex(GREETING))
+            got = b""
+            for number, answer in answers.items():
+                while not got.endswith(bytes.fromhex(frame(5, f"01{number:02x}"))):
+                    got += stream.recv(1)
+                out.sendall(bytes.fromhex(answer))
+            while stream.recv(1 << 16):
+                pass
 
     def test_another_greeting(self):
         port, liar, _ = self.ports[:3]
