@@ -51,7 +51,8 @@ project = tomllib.loads(pathlib.Path(sys.argv[1]).read_text())["project"]
 for name, place in project["scripts"].items():
     module, call = place.split(":")
     script = pathlib.Path(sys.argv[2], name)
-    script.write_text(f"#!/usr/bin/env python3\nfrom {module} import {call}\n{call}()\n")
+    script.write_text("#!/usr/bin/env python3\nimport sys\n"
+                      f"from {module} import {call}\nsys.exit({call}())\n")
     script.chmod(0o755)
 END
 

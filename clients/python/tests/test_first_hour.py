@@ -1,4 +1,4 @@
-"""The man page says what the program and the documents say, and `./replay` reads its words first."""
+"""The man page says what program and documents say, and `./replay` reads its words first."""
 import os
 import pathlib
 import re

@@ -30,7 +30,7 @@ class Install(unittest.TestCase):
             self.assertEqual(pip.returncode, 0, pip.stderr)
             script = "import nukwashe; print(nukwashe.World.read(':counter').slot_counts)"
             self.assertEqual(run(folder / "bin/python3", "-c", script).stdout, "[1, 0]\n")
-            for program in ("copy", "paste", "post", "look", "chart"):
+            for program in ("copy", "paste", "post", "look", "session", "chart"):
                 shown = run(folder / f"bin/nukwashe-{program}", "--help")
                 self.assertIn(f"usage: nukwashe-{program}", shown.stdout)
             paste = run(folder / "bin/nukwashe-paste", "--session", folder / "absent")

@@ -40,7 +40,7 @@ class Package(unittest.TestCase):
         self.assertEqual(transcript, (share / "examples/double.transcript").read_text())
         chart = self.run_in(share / "examples", "nukwashe-chart", *words)
         self.assertTrue(chart.startswith("sequenceDiagram\n"))
-        for name in ("copy", "paste", "post", "look"):
+        for name in ("copy", "paste", "post", "look", "session"):
             self.assertIn(f"nukwashe-{name}", self.run_in(self.root, f"nukwashe-{name}", "--help"))
         for name in ("usr/share/man/man1/nukwashe.1.gz", "usr/share/doc/nukwashe/docs/TOUR.md",
                      "usr/share/doc/nukwashe/README.md"):

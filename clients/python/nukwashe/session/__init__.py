@@ -1,7 +1,7 @@
 """A session for a desktop: one node that stays, and short programs that attach to it.
 
 A closed connection between two nodes never opens again, so a program that only copies or pastes
-cannot be a node of its own each time. `python3 -m nukwashe.session WORLD` keeps one node; and
-`nukwashe-copy`, `nukwashe-paste`, `nukwashe-post` and `nukwashe-look` speak to it over a socket
-that only its user can open.
+cannot be a node of its own each time. `nukwashe-session WORLD` keeps one node. `nukwashe-copy`,
+`nukwashe-paste`, `nukwashe-post` and `nukwashe-look` speak to it over a socket that only its user
+can open.
 """

@@ -1,4 +1,4 @@
-"""`python3 -m nukwashe.session WORLD` keeps a node until it is ended by INT or TERM."""
+"""`nukwashe-session WORLD` keeps a node until it is ended by INT or TERM."""
 import argparse
 import signal
 import sys
@@ -12,7 +12,7 @@ from .place import socket_path
 
 def _words() -> argparse.Namespace:
     words = argparse.ArgumentParser(
-        prog="python3 -m nukwashe.session",
+        prog="nukwashe-session",
         description="Keeps one node of a world, for nukwashe-copy and its fellows.")
     words.add_argument("--port", type=int, help="the node's port; else the first for programs")
     words.add_argument("--session", metavar="PATH", help="where the session's socket stands")

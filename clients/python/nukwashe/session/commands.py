@@ -37,7 +37,7 @@ def _ask(do: str, session: str | None, request: dict[str, Any]) -> Any:
             answer = lines.receive(sock)
     except (FileNotFoundError, ConnectionRefusedError):
         _end(do, FAILED, f"There is no session at {path}. Start one by "
-                           "`python3 -m nukwashe.session WORLD`.")
+                           "`nukwashe-session WORLD`.")
     except (OSError, ValueError) as fault:
         _end(do, FAILED, f"The session does not answer: {fault}.")
     if "error" in answer:
