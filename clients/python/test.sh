@@ -8,6 +8,8 @@
 # where the toolchain keeps what it proved. What is missing is said, and is no failure. Tests that
 # fail are run once more alone, since a machine under load can make any of them late; they have
 # failed where they fail again.
+program=
+if [ $# -gt 0 ]; then program=$(realpath "$1"); fi
 cd "$(dirname "$0")" || exit 1
 tell() { echo "clients/python: $*" >&2; }
 
@@ -20,14 +22,12 @@ fi
 newest() {
     found=
     for file in "$@"; do
-        if [ -f "$file" ] && [ -x "$file" ] && { [ -z "$found" ] || [ "$file" -nt "$found" ]; }; then
-            found=$file
-        fi
+        [ -f "$file" ] && [ -x "$file" ] || continue
+        if [ -z "$found" ] || [ "$file" -nt "$found" ]; then found=$file; fi
     done
     echo "$found"
 }
 
-program=$1
 if [ -z "$program" ]; then
     kit=$(dirname "$(dirname "$(readlink -f "$(command -v rt)")")")
     program=$(newest "$PWD/../../crates/nukwashe/out/nukwashe" \
