@@ -1,6 +1,5 @@
 -- One child more, before the others, was started or waited for.
-use Rattle.std.proofs.Common.{◌≡◌, ℕ, ◌+◌, ◌-◌, ◌^◌, ◌≤◌, List, ◌∷◌, Option, inl, inr, arith}
-use Rattle.std.specs.Prelude.{min, ◌⊎◌}
+use Rattle.std.proofs.Common.{◌≡◌, ℕ, ◌≤◌, List, ◌∷◌, Option, inl, inr, arith}
 use Rattle.do_base.specs.outside.Causes.{Rose}
 use Rattle.do_plan.specs.declared.plan.PlanLine.{PlanLine}
 use Rattle.do_lab.specs.declared.spawner.ChildId.{ChildId}

@@ -1,7 +1,7 @@
 -- Why the first child that failed did.
-use Rattle.std.proofs.Common.{◌≡◌, ℕ, ◌+◌, ◌≤◌, ℤ, pos, Bool, true, false, cond, List, [], ◌∷◌}
+use Rattle.std.proofs.Common.{◌≡◌, ℕ, ◌+◌, pos, Bool, true, false, cond, List, [], ◌∷◌}
 use Rattle.std.proofs.Common.{refl}
-use Rattle.std.proofs.Common.{Option, Some, None, inl, inr, arith}
+use Rattle.std.proofs.Common.{Option, Some, None, inl, inr}
 use Rattle.std.specs.Ordering.{int_eq}
 use Rattle.do_base.specs.outside.Causes.{Rose}
 use Rattle.do_plan.specs.declared.plan.PlanLine.{PlanLine}

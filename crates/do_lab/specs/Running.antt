@@ -1,5 +1,5 @@
 -- Children that were given and were not waited for.
-use Rattle.std.specs.Prelude.{◌≡◌, ◌≢◌, ℕ, ◌+◌, ◌<◌, ◌≤◌, ◌⊎◌, List, [], ◌∷◌, Option, Some, None}
+use Rattle.std.specs.Prelude.{◌≡◌, ◌≢◌, ℕ, ◌+◌, ◌≤◌, ◌⊎◌, List, [], ◌∷◌, Option, Some, None}
 use Rattle.do_plan.specs.declared.plan.PlanLine.{PlanLine}
 use Rattle.do_lab.specs.declared.spawner.ChildId.{ChildId}
 use Rattle.do_lab.specs.Told.{Spawned, Started}

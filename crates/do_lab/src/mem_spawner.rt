@@ -1,14 +1,14 @@
 //! A spawner whose children are numbers, and whose faults are listed beforehand.
-ghost use Rattle.std.specs.Prelude.{◌≡◌, ◌≢◌, ◌<◌, ◌≤◌, ◌++◌, ◌∷◌, [], ℕ, length, Some, Ok, IfOk};
-ghost use Rattle.std.specs.Prelude.{IsErrOf, true, false, map, slice_set};
+ghost use Rattle.std.specs.Prelude.{◌≡◌, ◌≢◌, ◌<◌, ◌≤◌, ◌↔◌, ◌++◌, ◌∷◌, [], ℕ, length, Some, Ok};
+ghost use Rattle.std.specs.Prelude.{IfOk, OnOk, OnErr, IsOk, IsErrOf, true, false, slice_get, slice_set};
 ghost use Rattle.do_base.specs.outside.Causes.{Rose, next_count};
 ghost use Rattle.do_base.specs.outside.InMemory.{FailsNext};
 ghost use Rattle.do_output.specs.Told.{TellsMore};
 ghost use Rattle.do_lab.specs.Told.{start_told, wait_told};
-ghost use Rattle.do_lab.specs.InMemory.{IsRunning, kept_told, told_while, status_at};
+ghost use Rattle.do_lab.specs.InMemory.{IsRunning, running, status_at};
 
 use crate::spawner::{ChildId, SpawnFail, Spawner};
-use do_base::{CallList, Flags, Items, Reserved, Texts, Word};
+use do_base::{CallList, Items, Reserved, Texts, Word};
 use std::alloc::{AllocError, Global};
 use std::marker::Model;
 
@@ -24,7 +24,8 @@ pub(crate) enum Kept {
 
 /// A spawner in memory, whose listed starts and waits fail.
 ///
-/// A child without a listed status ends with 0. Each wait is kept in room that its start took.
+/// A child without a listed status ends with 0. It tells each start and each wait: a wait is kept in
+/// room that its start took.
 #[derive(Debug, Drop)]
 pub struct MemSpawner {
     alloc: Global,
@@ -34,14 +35,13 @@ pub struct MemSpawner {
     starts: u64,
     waits: u64,
     faults: u64,
-    waited: Flags,
+    waited: Vec<bool>,
     log: Reserved<Kept>,
-    tells: bool,
 }
 
 impl Model for MemSpawner {
-    ghost use Rattle.std.specs.Prelude.{map};
-    ghost use Rattle.do_lab.specs.InMemory.{SpawnState, kept_told, told_while};
+    ghost use Rattle.std.specs.Prelude.{◌≤◌, map};
+    ghost use Rattle.do_lab.specs.InMemory.{SpawnState, kept_told, running};
 
     ghost Value = { SpawnState };
 
@@ -52,9 +52,11 @@ impl Model for MemSpawner {
       starts = s.starts;
       waits = s.waits;
       faults = s.faults;
-      waited = s.waited;
-      told = told_while s.tells (map kept_told s.log.items);
+      waited = s.waited.items;
+      told = map kept_told s.log.items;
     } };
+
+    ghost invariant = { λ s. running s.waited.items ≤ s.log.spare };
 }
 
 impl MemSpawner {
@@ -73,7 +75,7 @@ impl MemSpawner {
           waits = 0;
           faults = 0;
           waited = [];
-          told = Some [];
+          told = [];
         }) }
     {
         Ok(MemSpawner {
@@ -84,9 +86,8 @@ impl MemSpawner {
             starts: 0,
             waits: 0,
             faults: 0,
-            waited: Flags::new(alloc),
+            waited: Vec::new(alloc),
             log: Reserved::new(alloc),
-            tells: true,
         })
     }
 
@@ -110,20 +111,32 @@ fn copy_words(alloc: Global, words: &[Word]) -> Result<Texts, AllocError>
     Ok(copy)
 }
 
-/// Keeps a wait where there is room, and else says that the list is told no more.
-fn keep_wait(log: &mut Reserved<Kept>, tells: &mut bool, kept: Kept)
-    ensures { TellsMore (told_while tells.old (map kept_told log.old.items))
-        (told_while tells.new (map kept_told log.new.items)) (kept_told kept ∷ []) }
+/// Adds a child that runs, and gives its number.
+fn add_child(waited: &mut Vec<bool>) -> Result<u64, AllocError>
+    ensures number { IfOk result (λ child. child ≡ length waited.old.items) }
+    ensures ok { OnOk result (waited.new.items ≡ waited.old.items ++ false ∷ []) }
+    ensures err { OnErr result (waited.new.items ≡ waited.old.items) }
 {
-    if log.spare() == 0 {
-        *tells = false;
-        return;
-    }
-    log.post(kept);
+    let child = waited.len() as u64;
+    waited.push(false)?;
+    Ok(child)
+}
+
+/// Keeps the wait for a child that runs, in room that its start took, and says that it was waited
+/// for.
+fn keep_wait(waited: &mut Vec<bool>, log: &mut Reserved<Kept>, child: u64, status: Option<i32>)
+    requires runs { slice_get waited.old.items child ≡ Some false }
+    requires room { running waited.old.items ≤ log.old.spare }
+    ensures waited { waited.new.items ≡ slice_set waited.old.items child true }
+    ensures log { log.new.items ≡ log.old.items ++ Kept.Waited child status ∷ [] }
+    ensures room { running waited.new.items ≤ log.new.spare }
+{
+    waited[child as usize] = true;
+    log.post(Kept::Waited(child, status));
 }
 
 impl Spawner for MemSpawner {
-    ghost told = { λ s. s.told };
+    ghost told = { λ s. Some s.told };
 
     ghost faults = { λ s. s.faults };
 
@@ -133,7 +146,8 @@ impl Spawner for MemSpawner {
 
     /// Gives the next child. It fails exactly where the start is listed, which is then a fault.
     fn start(&mut self, words: &[Word]) -> Result<ChildId, SpawnFail>
-        ensures told { TellsMore self.old.told self.new.told (start_told words.now result) }
+        ensures told { TellsMore (Some self.old.told) (Some self.new.told)
+            (start_told words.now result) }
         ensures fresh { IfOk result (λ child. (length self.old.waited ≤ child.0)
             × (child.0 < length self.new.waited) × IsRunning self.new child.0) }
         ensures rises { length self.old.waited ≤ length self.new.waited }
@@ -141,23 +155,28 @@ impl Spawner for MemSpawner {
         ensures later { self.old.faults ≤ self.new.faults }
         ensures failed { IsErrOf result SpawnFail.Failed → Rose self.old.faults self.new.faults }
 
-        // The child is the next one, unless the start is listed to fail; if memory ran out nothing
-        // changed.
+        // Unless memory runs out, it fails exactly where it is listed.
         ensures memory { IsErrOf result SpawnFail.Memory → self.new ≡ self.old }
         ensures listed { IsErrOf result SpawnFail.Failed
             → FailsNext self.old.fail_start self.old.starts }
+        ensures started { IsOk result → ¬ (FailsNext self.old.fail_start self.old.starts) }
+
+        // One more fault where it fails, and else the next child; nothing else changes but the
+        // count of starts and what is told.
+        ensures fault { IsErrOf result SpawnFail.Failed → self.new ≡ record self.old {
+          starts = next_count self.old.starts;
+          faults = next_count self.old.faults;
+          told = self.new.told;
+        } }
         ensures next { IfOk result (λ child. (child.0 ≡ length self.old.waited)
-            × (self.new.waited ≡ self.old.waited ++ false ∷ [])) }
-        ensures counted { ¬ (IsErrOf result SpawnFail.Memory)
-            → self.new ≡ record self.old {
+            × (self.new ≡ record self.old {
               starts = next_count self.old.starts;
-              faults = self.new.faults;
-              waited = self.new.waited;
+              waited = self.old.waited ++ false ∷ [];
               told = self.new.told;
-            } }
+            })) }
     {
         let words = copy_words(self.alloc, words)?;
-        self.log.reserve(self.waited.len().saturating_add(2))?;
+        self.log.reserve(self.waited.len() + 2)?;
         let starts = self.starts.saturating_add(1);
         if self.fail_start.contains(&starts) {
             self.starts = starts;
@@ -165,8 +184,7 @@ impl Spawner for MemSpawner {
             self.log.post(Kept::Started(words, None));
             return Err(SpawnFail::Failed);
         }
-        let child = self.waited.len() as u64;
-        self.waited.push(false)?;
+        let child = add_child(&mut self.waited)?;
         self.starts = starts;
         self.log.post(Kept::Started(words, Some(child)));
         Ok(ChildId(child))
@@ -176,7 +194,8 @@ impl Spawner for MemSpawner {
     /// fault.
     fn ended(&mut self, child: ChildId) -> Result<i32, SpawnFail>
         requires { IsRunning self.old child.0 }
-        ensures told { TellsMore self.old.told self.new.told (wait_told child.0 result ∷ []) }
+        ensures told { TellsMore (Some self.old.told) (Some self.new.told)
+            (wait_told child.0 result ∷ []) }
         ensures others { (n : ℕ) → n ≢ child.0 → IsRunning self.old n → IsRunning self.new n }
         ensures rises { length self.old.waited ≤ length self.new.waited }
         ensures later { self.old.faults ≤ self.new.faults }
@@ -184,28 +203,31 @@ impl Spawner for MemSpawner {
         ensures no_memory { ¬ (IsErrOf result SpawnFail.Memory) }
 
         ensures listed { IsErrOf result SpawnFail.Failed
-            → FailsNext self.old.fail_wait self.old.waits }
+            ↔ FailsNext self.old.fail_wait self.old.waits }
         ensures status { IfOk result (λ status. status ≡ status_at self.old.statuses child.0) }
+
+        // One more wait, for a child that is waited for now, and one more fault where it fails.
         ensures counted { self.new ≡ record self.old {
           waits = next_count self.old.waits;
           faults = self.new.faults;
           waited = slice_set self.old.waited child.0 true;
           told = self.new.told;
         } }
+        ensures fault { FailsNext self.old.fail_wait self.old.waits
+            → self.new.faults ≡ next_count self.old.faults }
+        ensures no_fault { ¬ (FailsNext self.old.fail_wait self.old.waits)
+            → self.new.faults ≡ self.old.faults }
     {
-        self.waits = self.waits.saturating_add(1);
-        self.waited.set(child.0 as usize, true);
-        if self.fail_wait.contains(&self.waits) {
+        let waits = self.waits.saturating_add(1);
+        let failed = self.fail_wait.contains(&waits);
+        let status = self.status_of(child);
+        self.waits = waits;
+        if failed {
             self.faults = self.faults.saturating_add(1);
-            keep_wait(&mut self.log, &mut self.tells, Kept::Waited(child.0, None));
+            keep_wait(&mut self.waited, &mut self.log, child.0, None);
             return Err(SpawnFail::Failed);
         }
-        let status = self.status_of(child);
-        keep_wait(
-            &mut self.log,
-            &mut self.tells,
-            Kept::Waited(child.0, Some(status)),
-        );
+        keep_wait(&mut self.waited, &mut self.log, child.0, Some(status));
         Ok(status)
     }
 }
