@@ -1,6 +1,6 @@
 #!/bin/sh
-# Turns definitions, and shows which laws fall with each. A must-fail edit reaches its own crate
-# alone; a change here is made to a crate further below than the laws that must refuse it.
+# Turns definitions and statements, and shows which laws fall with each. A must-fail edit reaches
+# its own crate alone; a change here may be made to a crate below the laws that must refuse it.
 # sh bench/turned_definitions.sh [NAME..]
 # Each change bench/turned/NAME.edit is made to a copy of this repository, and the crate of laws
 # that its first line names is proved there. A line is printed for each: `NAME refused: LAW ..`, the
