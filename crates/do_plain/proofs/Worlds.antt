@@ -23,9 +23,10 @@ use Rattle.do_document.specs.declared.place.Place.TheVariants as at
 use Rattle.do_document.specs.declared.fault.WorldFault.{WorldFault}
 use Rattle.do_document.specs.declared.fault.WorldFault.TheVariants.{Toml}
 use Rattle.do_grammar.specs.Names.{is_name}
-use Rattle.do_world.specs.Builtin.{builtin_world, mesh_text, said}
+use Rattle.do_world.specs.Builtin.{builtin_world}
 use Rattle.do_world.specs.Counter.{counter_classes, counter_world}
 use Rattle.do_world.specs.Faults.{fault_of}
+use Rattle.do_world.specs.Mesh.{mesh_classes, mesh_world}
 use Rattle.do_world.specs.Reading.{IsWorldText, document, first_fault, world_in}
 use Rattle.do_world.specs.Worlds.{world_of}
 use Rattle.do_world.specs.declared.world.World.{World}
@@ -202,15 +203,13 @@ unfolding is_name
 counter_has =
     (record { name = refl; slots = (refl, tt) }, (record { name = refl; slots = tt }, tt))
 
--- a text that says a built-in world says it without a fault
-said_is : (bytes : List ℕ) (world : World) → said bytes ≡ Some world → IsWorldText bytes world
-unfolding said
-said_is bytes world e = go (first_fault bytes) refl e
-  where
-    go : (found : Option WorldFault) → first_fault bytes ≡ found →
-        cond (is_some found) None (world_in bytes) ≡ Some world → IsWorldText bytes world
-    go None good says = record { good = good; says = says }
-    go (Some f) good says = absurd (cc (says))
+-- and those of the mesh
+mesh_has : AreNamed mesh_classes
+unfolding is_name
+mesh_has = (
+  record { name = refl; slots = (refl, tt) },
+  (record { name = refl; slots = (refl, (refl, tt)) }, tt),
+)
 
 -- and so have those of each built-in world
 pub builtin_has : (word : List ℕ) (world : World) → builtin_world word ≡ Some world →
@@ -218,10 +217,12 @@ pub builtin_has : (word : List ℕ) (world : World) → builtin_world word ≡ S
 unfolding builtin_world
 builtin_has word world e = by (bytes_eq word (codes ":counter")) (bytes_eq word (codes ":mesh")) e
   where
-    by : (a b : Bool) → cond a (Some counter_world) (cond b (said mesh_text) None) ≡ Some world →
+    by : (a b : Bool) → cond a (Some counter_world) (cond b (Some mesh_world) None) ≡ Some world →
         AreNamed world.table
     by true b q =
         let same : counter_world ≡ world = cc (q) in
         subst (λ (w : World). AreNamed w.table) same counter_has
-    by false true q = text_has mesh_text world (said_is mesh_text world q)
+    by false true q =
+        let same : mesh_world ≡ world = cc (q) in
+        subst (λ (w : World). AreNamed w.table) same mesh_has
     by false false q = absurd (cc (q))

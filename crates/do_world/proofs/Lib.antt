@@ -1,6 +1,7 @@
 mod CounterClasses
 mod CounterTexts
 mod CounterSound
+mod MeshText
 mod NoCode
 pub mod AssemblyFaults
 pub mod CodeSteps

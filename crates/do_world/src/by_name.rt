@@ -1,6 +1,8 @@
 //! The worlds that are built in, by their names.
 ghost use Rattle.std.specs.Prelude.{◌≡◌, IfOk, IfSome};
-ghost use Rattle.do_world.specs.Builtin.{builtin_world, mesh_text, said};
+ghost use Rattle.do_world.specs.Builtin.{builtin_world};
+ghost use Rattle.do_world.specs.Mesh.{mesh_text, mesh_world};
+ghost use Rattle.do_world.specs.Reading.{IsWorldText};
 ghost use Rattle.do_world.specs.Sound.{IsSound};
 
 use crate::counter_world::counter;
@@ -11,10 +13,11 @@ use do_document::WorldFault;
 use do_grammar::is_text;
 use std::alloc::{AllocError, Global};
 
-/// The text of the world `:mesh`.
-#[tactic(auto, unfolding(crate::specs::Builtin::mesh_text))]
+/// The text of the world `:mesh`, which has no fault.
+#[tactic(auto, unfolding(crate::specs::Mesh::mesh_text))]
 fn mesh_text() -> &'static [u8]
-    ensures { result.now ≡ mesh_text }
+    ensures value { result.now ≡ mesh_text }
+    ensures says { IsWorldText result.now mesh_world }
 {
     b"version = 1
 
@@ -71,21 +74,22 @@ root = 'Peer'
 "
 }
 
-/// The world `:mesh`: four peers, each of which can make an item, and send it to another by its
-/// name and as a copy. None if its text had a fault, which a test shows that it has not.
-#[tactic(auto, unfolding(crate::specs::Builtin::said))]
-fn mesh(alloc: Global) -> Result<Option<World>, AllocError>
-    ensures value { IfOk result (λ world. world ≡ said mesh_text) }
-    ensures sound { IfOk result (λ world. IfSome world IsSound) }
+/// The world `:mesh`: nodes 7001 to 7004 have a peer each as their root.
+///
+/// A peer's `go:` takes a port, makes an item, and sends it to that node's peer by its name and as
+/// a copy. A machine can open with it. Fails where memory ran out.
+pub fn mesh(alloc: Global) -> Result<World, AllocError>
+    ensures value { IfOk result (λ world. world ≡ mesh_world) }
+    ensures sound { IfOk result IsSound }
 {
     match read_world(alloc, mesh_text()) {
-        Ok(world) => Ok(Some(world)),
+        Ok(world) => Ok(world),
         Err(WorldFault::Memory) => Err(AllocError),
-        Err(_) => Ok(None),
+        Err(_) => unreachable!(),
     }
 }
 
-/// The built-in world of a name. None exactly for another name than `:counter` and `:mesh`.
+/// The built-in world of a name, and None exactly for another name than `:counter` and `:mesh`.
 ///
 /// A machine can open with either. Fails where memory ran out.
 #[tactic(auto, unfolding(crate::specs::Builtin::builtin_world))]
@@ -99,7 +103,7 @@ pub fn builtin(alloc: Global, name: &Text) -> Result<Option<World>, AllocError>
     }
     if is_text(name.as_slice(), b":mesh") {
         let world = mesh(alloc)?;
-        return Ok(world);
+        return Ok(Some(world));
     }
     Ok(None)
 }

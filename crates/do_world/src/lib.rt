@@ -13,7 +13,7 @@ mod reader;
 mod seats;
 mod world;
 
-pub use by_name::builtin;
+pub use by_name::{builtin, mesh};
 pub use counter_world::counter;
 pub use do_document::WorldFault;
 pub use reader::read_world;

@@ -1,0 +1,8 @@
+use Rattle.do_world.specs.Mesh.{mesh_text}
+use Rattle.do_world.proofs.MeshText.{mesh_is_text}
+use Rattle.do_world.proofs.by_name.mesh_text.Goals as goal
+
+-- the text has no fault
+pub returns-clause-says : goal.returns-clause-says
+unfolding mesh_text
+returns-clause-says c = mesh_is_text
