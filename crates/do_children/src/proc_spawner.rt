@@ -1,9 +1,10 @@
 //! Children that run a program through `sh`.
-ghost use Rattle.std.specs.Prelude.{◌≡◌, ◌+◌, ◌<◌, ◌≤◌, OnOk, None, vec_len};
+ghost use Rattle.std.specs.Prelude.{◌≡◌, ◌+◌, ◌<◌, ◌≤◌, OnOk, Some, vec_len};
 
 use do_base::{NodeId, Word};
 use do_lab::{ChildId, SpawnFail, Spawner};
 use do_sockets::{Deadline, connect_once};
+use do_told::{Child as Told, Children};
 use std::alloc::Global;
 use std::net::Net;
 use std::process::{Child, Command, Processes, Stdio};
@@ -26,14 +27,16 @@ const SCRIPT: &str = "p=$3; exec \"$@\" >\"$p.record\"";
 /// Starts a program through `sh`, which sends its standard output to the file `PORT.record`.
 ///
 /// A start answers once the port accepts a connection, the child has ended, or 100,000 tries or
-/// half a minute were spent. It is `Failed` only where the program could not be started. It tells
-/// no list.
+/// half a minute were spent. It is `Failed` only where the program could not be started.
+///
+/// It tells each start and each wait. No contract can see what a process makes of them.
 #[derive(Drop)]
 pub struct ProcSpawner<R: Processes> {
     rt: R,
     alloc: Global,
     program: Option<String>,
     children: Vec<Child<R::Started>>,
+    told: Children,
     faults: u64,
 }
 
@@ -45,6 +48,7 @@ impl<R: Processes + Drop> ProcSpawner<R> {
             alloc,
             program,
             children: Vec::new(alloc),
+            told: Children::new(),
             faults: 0,
         }
     }
@@ -98,6 +102,7 @@ impl<R: Processes + Net + Clock> ProcSpawner<R> {
     /// Starts a child, and waits for its port.
     fn start_one(&mut self, words: &[Word]) -> io::Result<()>
         ensures faults { self.new.faults ≡ self.old.faults }
+        ensures told { self.new.told ≡ self.old.told }
         ensures kept { vec_len self.old.children ≤ vec_len self.new.children }
         ensures added { OnOk result (vec_len self.new.children ≡ vec_len self.old.children + 1) }
     {
@@ -115,7 +120,7 @@ impl<R: Processes + Net + Clock> ProcSpawner<R> {
 }
 
 impl<R: Processes + Net + Clock> Spawner for ProcSpawner<R> {
-    ghost told = { λ _. None };
+    ghost told = { λ s. Some s.told.list };
 
     ghost faults = { λ s. s.faults };
 
@@ -126,10 +131,14 @@ impl<R: Processes + Net + Clock> Spawner for ProcSpawner<R> {
     fn start(&mut self, words: &[Word]) -> Result<ChildId, SpawnFail> {
         let number = self.children.len() as u64;
         match self.start_one(words) {
-            Ok(()) => Ok(ChildId(number)),
+            Ok(()) => {
+                self.told = self.told.with(&Told::Started(words, Some(ChildId(number))));
+                Ok(ChildId(number))
+            }
             Err(e) if e.kind() == io::ErrorKind::OutOfMemory => Err(SpawnFail::Memory),
             Err(_) => {
                 self.faults = self.faults.saturating_add(1);
+                self.told = self.told.with(&Told::Started(words, None));
                 Err(SpawnFail::Failed)
             }
         }
@@ -137,8 +146,13 @@ impl<R: Processes + Net + Clock> Spawner for ProcSpawner<R> {
 
     fn ended(&mut self, child: ChildId) -> Result<i32, SpawnFail> {
         match self.children[child.0 as usize].wait() {
-            Ok(status) => Ok(status.code().unwrap_or(-1)),
+            Ok(status) => {
+                let status = status.code().unwrap_or(-1);
+                self.told = self.told.with(&Told::Waited(child, Some(status)));
+                Ok(status)
+            }
             Err(_) => {
+                self.told = self.told.with(&Told::Waited(child, None));
                 self.faults = self.faults.saturating_add(1);
                 Err(SpawnFail::Failed)
             }

@@ -1,9 +1,10 @@
 //! The link over sockets of this machine.
-ghost use Rattle.std.specs.Prelude.{◌≡◌, ◌∷◌, [], None};
+ghost use Rattle.std.specs.Prelude.{◌≡◌, ◌∷◌, [], Some};
 
 use crate::streams::Streams;
 use do_base::NodeId;
 use do_link::{Link, LinkEvent, LinkFail};
+use do_told::{Call, Calls};
 use std::alloc::Global;
 use std::net::Net;
 use std::time::Clock;
@@ -29,10 +30,13 @@ use std::time::Clock;
 ///
 /// Meanwhile it keeps what comes in, so that of two nodes that both send neither waits for the
 /// other. Of each peer 16 MiB are kept so at most; it is read no more then, until a poll gave them.
-/// A poll reads 64 KiB at most, and nothing is read between polls. It tells no list.
+/// A poll reads 64 KiB at most, and nothing is read between polls.
+///
+/// It tells each listen, each event and each send. No contract can see what a socket makes of them.
 pub struct TcpLink<R: Net + Clock> {
     rt: R,
     streams: Streams<R>,
+    calls: Calls,
     faults: u64,
     quiets: u64,
     wait: u64,
@@ -45,6 +49,7 @@ impl<R: Net + Clock + Drop> TcpLink<R> {
         TcpLink {
             rt,
             streams: Streams::new(alloc),
+            calls: Calls::new(),
             faults: 0,
             quiets: 0,
             wait,
@@ -59,6 +64,7 @@ impl<R: Net + Clock + Drop> Drop for TcpLink<R> {
         let TcpLink {
             rt: _,
             streams: _,
+            calls: _,
             faults: _,
             quiets: _,
             wait: _,
@@ -67,7 +73,7 @@ impl<R: Net + Clock + Drop> Drop for TcpLink<R> {
 }
 
 impl<R: Net + Clock> Link for TcpLink<R> {
-    ghost told = { λ _. None };
+    ghost told = { λ s. Some s.calls.list };
 
     ghost faults = { λ s. s.faults };
 
@@ -75,8 +81,13 @@ impl<R: Net + Clock> Link for TcpLink<R> {
 
     fn listen(&mut self, port: NodeId, peers: &[NodeId]) -> Result<(), LinkFail> {
         let listened = self.streams.listen(&self.rt, port, peers);
-        if matches!(&listened, Err(LinkFail::Failed)) {
-            self.faults = self.faults.saturating_add(1);
+        match &listened {
+            Ok(()) => self.calls = self.calls.with(&Call::Listened(port, peers, false)),
+            Err(LinkFail::Failed) => {
+                self.faults = self.faults.saturating_add(1);
+                self.calls = self.calls.with(&Call::Listened(port, peers, true));
+            }
+            Err(LinkFail::Memory) => {}
         }
         listened
     }
@@ -86,13 +97,19 @@ impl<R: Net + Clock> Link for TcpLink<R> {
         if matches!(&event, LinkEvent::Quiet) {
             self.quiets = self.quiets.saturating_add(1);
         }
+        self.calls = self.calls.with(&Call::Came(event, buf));
         event
     }
 
     fn send(&mut self, to: NodeId, bytes: &[u8]) -> Result<(), LinkFail> {
         let sent = self.streams.send(&self.rt, to, bytes);
-        if matches!(&sent, Err(LinkFail::Failed)) {
-            self.faults = self.faults.saturating_add(1);
+        match &sent {
+            Ok(()) => self.calls = self.calls.with(&Call::Sent(to, bytes, false)),
+            Err(LinkFail::Failed) => {
+                self.faults = self.faults.saturating_add(1);
+                self.calls = self.calls.with(&Call::Sent(to, bytes, true));
+            }
+            Err(LinkFail::Memory) => {}
         }
         sent
     }
