@@ -1,0 +1,5 @@
+use Rattle.do_peers.proofs.Reached.{reached_entries}
+use Rattle.do_peers.proofs.laws.entries_change_at_home.Goals as goal
+
+pub returns : goal.returns
+returns c = reached_entries
