@@ -1,3 +1,2 @@
+pub mod Inputs
 pub mod Chain
-pub mod Exchange
-pub mod Weaves

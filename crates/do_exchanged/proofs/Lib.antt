@@ -1,0 +1,10 @@
+pub mod Spellings
+pub mod Flows
+pub mod Sites
+pub mod Drawn
+pub mod Walk
+pub mod Inputs
+pub mod Known
+pub mod Threads
+pub mod Opening
+pub mod Exchange
