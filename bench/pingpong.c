@@ -1,10 +1,10 @@
-/* Round trips of 20 bytes over TCP on this machine, between two processes.
+/* Round trips over TCP on this machine, between two processes, of 20 bytes or so many as are said.
  *
- *   cc -O2 -o pingpong bench/pingpong.c && ./pingpong COUNT
+ *   cc -O2 -o pingpong bench/pingpong.c && ./pingpong COUNT [BYTES]
  *
- * Prints the microseconds of one round trip, first where both processes block in their reads of one
- * stream, then as nodes do it: over a stream for each direction, with a wait for sockets before
- * each read. The starts of both ends are not in it.
+ * Prints the microseconds of one round trip, their median and what one of a hundred exceeds. First
+ * both processes block in their reads of one stream. Then they do as nodes do, over a stream for
+ * each direction, with a wait for sockets before each read. The starts of both ends are not in it.
  */
 #include <arpa/inet.h>
 #include <fcntl.h>
@@ -18,7 +18,9 @@
 #include <time.h>
 #include <unistd.h>
 
-enum { SIZE = 20, ROOM = 65536 };
+enum { ROOM = 1 << 20 };
+
+static size_t size = 20;
 
 /* What a process reads from and writes to, and what it waits by; -1 where it blocks. */
 struct ends {
@@ -27,18 +29,18 @@ struct ends {
 
 static void hear(struct ends *at) {
     static char bytes[ROOM];
-    for (size_t done = 0; done < SIZE;) {
+    for (size_t done = 0; done < size;) {
         struct epoll_event found[16];
         if (at->waiter >= 0 && epoll_wait(at->waiter, found, 16, 1) < 1) continue;
-        ssize_t n = read(at->in, bytes, at->waiter < 0 ? SIZE - done : ROOM);
+        ssize_t n = read(at->in, bytes, at->waiter < 0 ? size - done : ROOM);
         if (n <= 0) exit(1);
         done += (size_t) n;
     }
 }
 
 static void tell(struct ends *at) {
-    static const char bytes[SIZE];
-    if (write(at->out, bytes, SIZE) != SIZE) exit(1);
+    static const char bytes[ROOM];
+    if (write(at->out, bytes, size) != (ssize_t) size) exit(1);
 }
 
 static void set(struct ends *at, int waits) {
@@ -51,6 +53,17 @@ static void set(struct ends *at, int waits) {
         at->waiter = epoll_create1(0);
         epoll_ctl(at->waiter, EPOLL_CTL_ADD, at->in, &what);
     }
+}
+
+static double now(void) {
+    struct timespec at;
+    clock_gettime(CLOCK_MONOTONIC, &at);
+    return (double) at.tv_sec * 1e6 + (double) at.tv_nsec / 1e3;
+}
+
+static int by_size(const void *a, const void *b) {
+    double x = *(const double *) a, y = *(const double *) b;
+    return (x > y) - (x < y);
 }
 
 static void measure(long count, int as_nodes, const char *how) {
@@ -78,16 +91,18 @@ static void measure(long count, int as_nodes, const char *how) {
         if (connect(near.in, (struct sockaddr *) &at, length)) exit(1);
     }
     set(&near, as_nodes);
-    struct timespec began, ended;
-    clock_gettime(CLOCK_MONOTONIC, &began);
+    double *spans = malloc((size_t) count * sizeof *spans), began = now(), last = began;
     for (long i = 0; i < count; i++) {
         tell(&near);
         hear(&near);
+        double time = now();
+        spans[i] = time - last;
+        last = time;
     }
-    clock_gettime(CLOCK_MONOTONIC, &ended);
-    double seconds = (double) (ended.tv_sec - began.tv_sec)
-        + (double) (ended.tv_nsec - began.tv_nsec) / 1e9;
-    printf("%.1f microseconds a round trip, %s\n", seconds / (double) count * 1e6, how);
+    qsort(spans, (size_t) count, sizeof *spans, by_size);
+    printf("%.1f microseconds a round trip (median %.1f, p99 %.1f), %s\n",
+        (last - began) / (double) count, spans[count / 2], spans[count * 99 / 100], how);
+    free(spans);
     fflush(stdout);
     wait(NULL);
     close(near.in);
@@ -96,6 +111,8 @@ static void measure(long count, int as_nodes, const char *how) {
 
 int main(int argc, char **argv) {
     long count = argc > 1 ? atol(argv[1]) : 20000;
+    if (argc > 2) size = (size_t) atol(argv[2]);
+    if (count < 1 || size < 1 || size > ROOM) return 1;
     measure(count, 0, "each blocking in its read");
     measure(count, 1, "each waiting as a node does");
     return 0;
