@@ -1,130 +1,126 @@
+//! Links over sockets that hear each other.
+
 use do_base::{NodeId, Text};
 use do_host::TcpLink;
 use do_link::{Link, LinkEvent};
-use std::alloc::Global;
-use std::io::{Read, Write};
-use std::net::{Ipv4Addr, SocketAddr, TcpListener, TcpStream};
+use std::alloc::{AllocError, Global};
+use std::net::{Ipv4Addr, SocketAddr, TcpListener};
 use std::test::Fail;
 
-// How long a poll that finds nothing waits, in microseconds.
-const WAIT: u64 = 500;
+/// How long a poll that finds nothing waits, in microseconds.
+pub(crate) const WAIT: u64 = 500;
 
-// A port of this machine that is free.
-fn free_port(rt: &HostRuntime) -> Result<NodeId, Fail> {
+/// A port of this machine that is free.
+pub(crate) fn free_port(rt: &HostRuntime) -> Result<NodeId, Fail> {
     let any = SocketAddr::from((Ipv4Addr::LOCALHOST, 0));
     let listener = TcpListener::bind(rt, any)?;
     Ok(NodeId::new(listener.local_addr()?.port()).ok_or("no port")?)
 }
 
-// A stream to the node of a port.
-fn stream_to(rt: &HostRuntime, node: NodeId) -> Result<TcpStream, Fail> {
-    let address = SocketAddr::from((Ipv4Addr::LOCALHOST, node.port()));
-    Ok(TcpStream::connect(rt, address)?)
-}
-
-// Whether a poll finds nothing.
-fn hears_nothing<L: Link>(alloc: Global, link: &mut L) -> Result<bool, Fail> {
-    let mut buf = vec![in alloc; 0u8; 4_096]?;
-    Ok(link.next(buf.as_mut_slice()) == LinkEvent::Quiet)
-}
-
-// The next that a link hears: from which peer, and which bytes; none of them at its end.
-fn heard<L: Link>(alloc: Global, link: &mut L) -> Result<(NodeId, Text), Fail> {
-    for _ in 0..20_000u32 {
-        let mut buf = vec![in alloc; 0u8; 4_096]?;
-        match link.next(buf.as_mut_slice()) {
-            LinkEvent::Bytes(peer, count) => {
-                return Ok((peer, Text::from_slice(alloc, &buf[..count])?));
+/// Adds what a link hears next to the bytes of a peer, and tells whether it is that peer's and not
+/// its end.
+pub(crate) fn hear<L: Link>(
+    link: &mut L,
+    peer: NodeId,
+    buf: &mut [u8],
+    heard: &mut Text,
+) -> Result<bool, Fail> {
+    for _poll in 0..20_000u32 {
+        match link.next(buf) {
+            LinkEvent::Bytes(from, count) => {
+                heard.push_bytes(&buf[..count])?;
+                return Ok(from == peer);
             }
-            LinkEvent::Ended(peer) => return Ok((peer, Text::new(alloc))),
+            LinkEvent::Ended(_) => return Ok(false),
             LinkEvent::Quiet => {}
         }
     }
     Err(Fail::from("nothing came"))
 }
 
-// All that a link hears from a peer until its end.
-fn heard_all<L: Link>(alloc: Global, link: &mut L, peer: NodeId) -> Result<Text, Fail> {
-    let mut all = Text::new(alloc);
-    for _ in 0..20_000u32 {
-        let (from, bytes) = heard(alloc, link)?;
-        if from != peer {
-            return Err(Fail::from("another peer"));
+/// Whether a link hears these bytes of a peer next.
+pub(crate) fn hears<L: Link>(
+    alloc: Global,
+    link: &mut L,
+    peer: NodeId,
+    bytes: &[u8],
+) -> Result<bool, Fail> {
+    let mut buf = vec![in alloc; 0u8; 4_096]?;
+    let mut heard = Text::new(alloc);
+    let came = hear(link, peer, buf.as_mut_slice(), &mut heard)?;
+    Ok(came && heard.is(bytes))
+}
+
+/// All that a link hears from a peer until its end, to which nothing of another is added.
+pub(crate) fn heard_all<L: Link>(alloc: Global, link: &mut L, peer: NodeId) -> Result<Text, Fail> {
+    let mut buf = vec![in alloc; 0u8; 4_096]?;
+    let mut heard = Text::new(alloc);
+    for _piece in 0..20_000u32 {
+        if !hear(link, peer, buf.as_mut_slice(), &mut heard)? {
+            return Ok(heard);
         }
-        if bytes.is_empty() {
-            return Ok(all);
-        }
-        all.push_bytes(bytes.as_slice())?;
     }
     Err(Fail::from("no end came"))
 }
 
-#[test]
-fn links_hear_each_other(rt: HostRuntime) -> Result<(), Fail> {
+/// Sends bytes to a peer, and tells whether they went.
+fn sends<L: Link>(link: &mut L, peer: NodeId, bytes: &[u8]) -> bool {
+    link.send(peer, bytes).is_ok()
+}
+
+/// Whether what one link sends is heard by the other, both ways.
+fn both_ways<L: Link>(
+    alloc: Global,
+    here: &mut L,
+    there: &mut L,
+    near: NodeId,
+    far: NodeId,
+) -> Result<bool, Fail> {
+    let sent = sends(here, far, b"one");
+    let heard = hears(alloc, there, near, b"one")?;
+    let answered = sends(there, near, b"two");
+    Ok(sent && heard && answered && hears(alloc, here, far, b"two")?)
+}
+
+/// More bytes than a poll gives: 100,000 letters, and another behind them.
+fn much(alloc: Global) -> Result<Vec<u8>, AllocError> {
+    let mut bytes = vec![in alloc; b'a'; 100_001]?;
+    if let Some(last) = bytes.last_mut() {
+        *last = b'z';
+    }
+    Ok(bytes)
+}
+
+/// Sends much to a peer, the last byte by itself.
+fn send_much<L: Link>(link: &mut L, peer: NodeId, much: &[u8]) -> bool {
+    match much {
+        [long @ .., last] => sends(link, peer, long) && sends(link, peer, &[*last]),
+        [] => false,
+    }
+}
+
+/// Whether a link hears all that another sent before it ended, and then can send nothing there.
+fn hears_until_the_end<L: Link>(
+    alloc: Global,
+    here: &mut L,
+    far: NodeId,
+    much: &[u8],
+) -> Result<bool, Fail> {
+    let all = heard_all(alloc, here, far)?;
+    let gone = !sends(here, far, b"one") || !sends(here, far, b"one");
+    Ok(gone && all.is(much))
+}
+
+/// Whether two links hear each other, and one hears all that the other sent before its end.
+pub(crate) fn links_hear_each_other(rt: HostRuntime) -> Result<bool, Fail> {
     let alloc = rt.alloc();
     let (near, far) = (free_port(&rt)?, free_port(&rt)?);
     let mut here = TcpLink::new(alloc, rt, WAIT);
     let mut there = TcpLink::new(alloc, rt, 0);
-    assert!(rt; here.listen(near, &[far]).is_ok());
-    assert!(rt; there.listen(far, &[near]).is_ok());
-    assert!(rt; here.send(far, b"one").is_ok());
-    let (from, bytes) = heard(alloc, &mut there)?;
-    assert!(rt; from == near && bytes.is(b"one"));
-    assert!(rt; there.send(near, b"two").is_ok());
-    let (from, bytes) = heard(alloc, &mut here)?;
-    assert!(rt; from == far && bytes.is(b"two"));
-    // More than a poll gives, and the end right behind it.
-    let long = vec![in alloc; b'a'; 100_000]?;
-    assert!(rt; there.send(near, long.as_slice()).is_ok());
-    assert!(rt; there.send(near, b"z").is_ok());
+    let listening = here.listen(near, &[far]).is_ok() && there.listen(far, &[near]).is_ok();
+    let much = much(alloc)?;
+    let both = both_ways(alloc, &mut here, &mut there, near, far)?;
+    let sent = send_much(&mut there, near, much.as_slice());
     drop(there);
-    let all = heard_all(alloc, &mut here, far)?;
-    assert_eq!(rt; all.len(), 100_001);
-    assert!(rt; all.as_slice().starts_with(long.as_slice()) && all.as_slice().ends_with(b"z"));
-    // Nobody listens there any more.
-    assert!(rt; here.send(far, b"one").is_err() || here.send(far, b"one").is_err());
-    Ok(())
-}
-
-#[test]
-fn strangers_keep_no_peer_out(rt: HostRuntime) -> Result<(), Fail> {
-    let alloc = rt.alloc();
-    let (node, peer) = (free_port(&rt)?, free_port(&rt)?);
-    let mut link = TcpLink::new(alloc, rt, WAIT);
-    assert!(rt; link.listen(node, &[peer]).is_ok());
-    let mut silent = Vec::new(alloc);
-    for _ in 0..300u32 {
-        silent.push(stream_to(&rt, node)?)?;
-        assert!(rt; hears_nothing(alloc, &mut link)?);
-    }
-    // A port of no node, one of no peer, and a stream that ends before it said one.
-    stream_to(&rt, node)?.write_all(&[0, 0, 1, 2])?;
-    let mut nobody = stream_to(&rt, node)?;
-    nobody.write_all(&node.port().to_be_bytes())?;
-    nobody.write_all(b"nobody")?;
-    stream_to(&rt, node)?.write_all(&[1])?;
-    assert!(rt; hears_nothing(alloc, &mut link)?);
-    // The peer says its port and all else a byte at a time.
-    let mut stream = stream_to(&rt, node)?;
-    for byte in peer.port().to_be_bytes() {
-        stream.write_all(&[byte])?;
-        assert!(rt; hears_nothing(alloc, &mut link)?);
-    }
-    for byte in b"abc" {
-        stream.write_all(&[*byte])?;
-        let (from, bytes) = heard(alloc, &mut link)?;
-        assert!(rt; from == peer && bytes.is(&[*byte]));
-    }
-    // A second stream of that peer is dropped, and the first goes on.
-    let mut second = stream_to(&rt, node)?;
-    second.write_all(&peer.port().to_be_bytes())?;
-    stream.write_all(b"d")?;
-    drop(stream);
-    let all = heard_all(alloc, &mut link, peer)?;
-    assert!(rt; all.is(b"d"));
-    for _ in 0..3u32 {
-        assert!(rt; hears_nothing(alloc, &mut link)?);
-    }
-    assert!(rt; !matches!(second.read(&mut [0u8; 1]), Ok(1)));
-    Ok(())
+    Ok(listening && both && sent && hears_until_the_end(alloc, &mut here, far, much.as_slice())?)
 }
