@@ -1,5 +1,6 @@
 //! Rows of calls, each with its answer beside it, and how they are played, for the programs that
-//! test what parts answer to many calls. Acts and handlers as values stand here too.
+//! test what parts answer to many calls. Acts and handlers as values stand here too, and an
+//! invocation at the beginning of its method.
 //!
 //! It stands on the values of do_base, on how schedules write them, and on the acts of do_behave,
 //! and promises nothing of its own: its functions are safe, and end. The form of rows is this
@@ -9,6 +10,7 @@
 mod acts;
 mod answers;
 mod arguments;
+mod invocations;
 mod reading;
 mod rows;
 mod values;
@@ -22,5 +24,6 @@ pub use arguments::{
     copy_at, count_at, list_at, local_at, number_at, object_at, port_at, text_at, texts_at,
     value_at,
 };
+pub use invocations::begun;
 pub use rows::{Part, play_file};
 pub use values::digits;

@@ -1,25 +1,32 @@
-//! Acts of the methods of a server.
+//! Acts of the methods of a class.
 
+use crate::behaviours::behaviour_of;
 use crate::bench::Bench;
 use call_rows::{Part, count_at};
 use do_base::{Value, Values};
-use do_behave::{Behaviour, act_in_place};
+use do_behave::act_in_place;
+use do_class_kinds::Kind;
 use do_grammar::is_text;
+use do_native::Native;
 use std::alloc::Global;
 use std::test::Fail;
 
 /// An invocation and slots, and what decides their acts.
 #[derive(Drop)]
-pub(crate) struct ActCalls<B> {
-    behaviour: B,
+pub(crate) struct ActCalls {
+    behaviour: Native,
     bench: Bench,
 }
 
-impl<B: Behaviour + Drop> ActCalls<B> {
-    /// An invocation of a method without arguments, of an object without slots.
-    pub(crate) fn new(alloc: Global, behaviour: B) -> Result<ActCalls<B>, Fail> {
+impl ActCalls {
+    /// An invocation of a method without arguments, of an object without slots, whose class is of a
+    /// kind.
+    pub(crate) fn new(alloc: Global, kind: Kind) -> Result<ActCalls, Fail> {
         let bench = Bench::new(alloc)?;
-        Ok(ActCalls { behaviour, bench })
+        Ok(ActCalls {
+            behaviour: behaviour_of(alloc, kind)?,
+            bench,
+        })
     }
 
     /// Does the next act.
@@ -45,7 +52,7 @@ impl<B: Behaviour + Drop> ActCalls<B> {
     }
 }
 
-impl<B: Behaviour + Drop> Part for ActCalls<B> {
+impl Part for ActCalls {
     fn call(&mut self, word: &[u8], args: &Values) -> Result<Value, Fail> {
         if is_text(word, b"act") {
             return self.act();

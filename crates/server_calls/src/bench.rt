@@ -1,11 +1,13 @@
 //! An invocation with the slots of its object.
 
-use call_rows::{act_value, copy_at, count_at, handler_value, list_at, local_at, no_call, text_at};
+use crate::classes::table;
+use call_rows::{
+    act_value, begun, copy_at, count_at, handler_value, list_at, local_at, no_call, text_at,
+};
 use do_base::{Value, Values};
 use do_behave::{Act, Invocation};
-use do_class::ClassTable;
+use do_class::{ClassId, ClassTable};
 use do_grammar::is_text;
-use server_samples::{begun, table};
 use std::alloc::Global;
 use std::test::Fail;
 
@@ -83,6 +85,10 @@ impl Bench {
         }
         if is_text(word, b"set_method") {
             self.inv.method.index = u32::from(count_at(args, 0)?);
+            return Ok(Value::Nil);
+        }
+        if is_text(word, b"set_class") {
+            self.inv.method.class = ClassId(u32::from(count_at(args, 0)?));
             return Ok(Value::Nil);
         }
         if is_text(word, b"keep_locals") {

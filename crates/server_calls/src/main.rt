@@ -1,17 +1,20 @@
 //! Plays rows of calls of servers, and compares each answer with the one that stands beside the
 //! call. The rows are of tables by name, and of the cores of servers of names, of pasteboards, of
-//! servers of services and of notification centres. They are of the acts of these, place by place,
-//! and of the calls that the acts share.
+//! servers of services and of notification centres. They are of the acts of classes of each kind,
+//! scripts and checkers among them, place by place, and of the calls that the acts share.
 //!
-//! It stands on the crates of the servers, and calls public functions alone. The rows are files;
+//! It stands on the crates of the servers, of which do_native decides the acts of each kind, and
+//! calls public functions alone. The rows are files;
 //! what they expect was worked out by hand or by another program. A row whose answer is another one
 //! is printed with it; at the end of each file stands how many rows it has.
 #![tactic(auto)]
 
 mod acts;
+mod behaviours;
 mod bench;
 mod boards;
 mod centers;
+mod classes;
 mod names;
 mod services;
 mod shared;
@@ -26,10 +29,7 @@ use crate::shared::SharedCalls;
 use crate::tables::TableCalls;
 use call_rows::play_file;
 use do_base::Text;
-use do_center::NotificationCenter;
-use do_names::NameServer;
-use do_pboard::PasteboardServer;
-use do_services::ServiceServer;
+use do_class_kinds::Kind;
 use std::io::Write;
 use std::test::Fail;
 
@@ -43,18 +43,24 @@ fn play_cores(rt: &HostRuntime, report: &mut Text) -> Result<(), Fail> {
     play_file(rt, "centers.rows", CenterCalls::new(alloc), report)
 }
 
-/// Plays the rows of the acts.
+/// Each file of acts, and the kind of the class whose acts they are.
+const ACTS: [(&str, Kind); 6] = [
+    ("script_acts.rows", Kind::Script),
+    ("name_acts.rows", Kind::Names),
+    ("board_acts.rows", Kind::Pasteboard),
+    ("service_acts.rows", Kind::Services),
+    ("center_acts.rows", Kind::Center),
+    ("checker_acts.rows", Kind::Checker),
+];
+
+/// Plays the rows of what acts share, and those of acts.
 fn play_acts(rt: &HostRuntime, report: &mut Text) -> Result<(), Fail> {
     let alloc = rt.alloc();
     play_file(rt, "shared.rows", SharedCalls::new(alloc)?, report)?;
-    let names = ActCalls::new(alloc, NameServer)?;
-    play_file(rt, "name_acts.rows", names, report)?;
-    let boards = ActCalls::new(alloc, PasteboardServer)?;
-    play_file(rt, "board_acts.rows", boards, report)?;
-    let services = ActCalls::new(alloc, ServiceServer)?;
-    play_file(rt, "service_acts.rows", services, report)?;
-    let centers = ActCalls::new(alloc, NotificationCenter)?;
-    play_file(rt, "center_acts.rows", centers, report)
+    for (name, kind) in ACTS {
+        play_file(rt, name, ActCalls::new(alloc, kind)?, report)?;
+    }
+    Ok(())
 }
 
 fn main(rt: HostRuntime) -> Result<(), Fail> {
