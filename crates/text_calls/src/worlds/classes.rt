@@ -1,9 +1,12 @@
 //! What the classes of a world have.
 
+ghost use Rattle.std.specs.Prelude.{IsSome};
+ghost use Rattle.do_class.specs.Table.{method_at};
+
 use call_rows::{count_at, count_value, no_call, number_or_nil, text_at, text_value, word_with};
 use do_base::{Value, Values};
 use do_check::{Verdict, verdict};
-use do_class::ClassId;
+use do_class::{ClassId, ClassTable, MethodId};
 use do_document::Classes;
 use do_grammar::is_text;
 use do_native_acts::as_number;
@@ -90,6 +93,29 @@ fn has_method(classes: &Classes, args: &Values) -> Result<Value, Fail> {
     Ok(as_number(found.is_some()))
 }
 
+/// The place of a method in its class, its selector and how many arguments it takes.
+fn method_value(alloc: Global, table: &ClassTable, method: MethodId) -> Result<Value, Fail>
+    requires { IsSome (method_at table.now method) }
+{
+    let mut values = Values::new(alloc);
+    values.push(Value::Num(i64::from(method.index)))?;
+    values.push(Value::Text(table.selector(method).clone()?))?;
+    values.push(count_value(table.signature(method).args())?)?;
+    Ok(Value::List(values))
+}
+
+/// The method of a class that has a selector, or nil.
+fn find(alloc: Global, table: &ClassTable, args: &Values) -> Result<Value, Fail> {
+    let class = ClassId(u32::from(count_at(args, 0)?));
+    if class.0 >= table.count() {
+        return Err(Fail::from("no class"));
+    }
+    match table.find(class, text_at(args, 1)?) {
+        Some(method) => method_value(alloc, table, method),
+        None => Ok(Value::Nil),
+    }
+}
+
 /// What the rules of a class say of a selector: that it goes on, why it is denied, or nil.
 fn class_verdict(alloc: Global, classes: &Classes, args: &Values) -> Result<Value, Fail> {
     let class = usize::from(count_at(args, 0)?);
@@ -105,6 +131,9 @@ fn class_verdict(alloc: Global, classes: &Classes, args: &Values) -> Result<Valu
 fn tell_one(alloc: Global, classes: &Classes, word: &[u8], args: &Values) -> Result<Value, Fail> {
     if is_text(word, b"has_method") {
         return has_method(classes, args);
+    }
+    if is_text(word, b"find") {
+        return find(alloc, &classes.table, args);
     }
     if is_text(word, b"verdict") {
         return class_verdict(alloc, classes, args);

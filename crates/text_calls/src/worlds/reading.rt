@@ -1,8 +1,8 @@
 //! Worlds that are read from texts, and those that are built in.
 
-use crate::classes::tell;
-use crate::faults::fault_value;
-use crate::texts::framed;
+use crate::worlds::classes::tell;
+use crate::worlds::faults::fault_value;
+use crate::worlds::texts::framed;
 use call_rows::{Part, text_at, text_value};
 use do_base::{Text, Value, Values};
 use do_document::Classes;

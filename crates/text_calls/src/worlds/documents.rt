@@ -1,9 +1,9 @@
 //! Documents: what stands in them, and their classes.
 
-use crate::classes::tell;
-use crate::faults::{fault_value, outcome};
-use crate::places::{fault_at, key_of, path};
-use crate::texts::framed;
+use crate::worlds::classes::tell;
+use crate::worlds::faults::{fault_value, outcome};
+use crate::worlds::places::{fault_at, key_of, path};
+use crate::worlds::texts::framed;
 use call_rows::{Part, count_at, count_value, text_at, text_value};
 use do_base::{Text, Value, Values};
 use do_class::ClassTable;

@@ -1,6 +1,6 @@
 //! Places of documents as rows write them.
 
-use crate::faults::fault_value;
+use crate::worlds::faults::fault_value;
 use call_rows::{count_at, list_at, text_at};
 use do_base::{Text, Value, Values};
 use do_document::{Place, WorldFault};
