@@ -1,16 +1,19 @@
 //! Calls of what reads and writes packets and frames, by tables of the objects named lately.
 
+use crate::codec::changed::{Payload, Stream, sum_of_changes};
 use crate::codec::loads::{empty, put_object, put_texts};
 use crate::codec::reading::Reading;
 use bytes::Bytes;
 use call_rows::{
-    Part, count_at, count_value, no_call, number_at, text_at, text_value, value_at, word_with,
+    Part, count_at, count_value, digits, no_call, number_at, text_at, text_value, value_at,
+    word_with,
 };
 use do_base::{Text, Value, Values};
-use do_class::Packet;
+use do_class::{self as class, Packet};
 use do_coder::{Recent, encode};
 use do_frames::{Frame, RawFault, RawFrame, write, write_within};
 use do_grammar::{CodeFault, is_text};
+use do_native_acts::as_number;
 use std::alloc::{AllocError, Global};
 use std::test::Fail;
 use std::{fmt, mem};
@@ -26,7 +29,7 @@ pub(crate) struct MessageCalls {
 }
 
 /// What is printed of something.
-fn shown<D: fmt::Debug>(alloc: Global, what: &D) -> Result<Value, Fail> {
+pub(crate) fn shown<D: fmt::Debug>(alloc: Global, what: &D) -> Result<Value, Fail> {
     let printed = format!(in alloc; "{what:?}")?;
     Ok(text_value(alloc, printed.as_bytes())?)
 }
@@ -164,6 +167,42 @@ impl MessageCalls {
         no_call()
     }
 
+    /// The answers to a payload that is cut and changed at each byte, summed up.
+    fn changes(&self, kind: u8, payload: &Text) -> Result<Value, Fail> {
+        let reading = &self.reading;
+        let sum = sum_of_changes(self.alloc, &Payload { reading, kind }, payload.as_slice())?;
+        Ok(Value::Text(digits(self.alloc, sum)?))
+    }
+
+    /// The answers to a stream that is cut and changed at each byte, summed up.
+    fn stream_changes(&self, stream: &Text) -> Result<Value, Fail> {
+        let alloc = self.alloc;
+        let sum = sum_of_changes(alloc, &Stream { alloc }, stream.as_slice())?;
+        Ok(Value::Text(digits(alloc, sum)?))
+    }
+
+    /// Makes a call that sums up answers, or tells what is there.
+    fn summed(&mut self, word: &[u8], args: &Values) -> Result<Value, Fail> {
+        if is_text(word, b"changes") {
+            let kind = u8::try_from(number_at(args, 0)?)?;
+            return self.changes(kind, text_at(args, 1)?);
+        }
+        if is_text(word, b"changed_stream") {
+            return self.stream_changes(text_at(args, 0)?);
+        }
+        self.told(word, args)
+    }
+
+    /// Whether a clone of the packet is equal to it, and whether it is with nil behind its values.
+    fn cloned(&self) -> Result<Value, Fail> {
+        let mut values = Values::new(self.alloc);
+        let mut copy = self.packet.clone()?;
+        values.push(as_number(copy == self.packet))?;
+        copy.values.push(class::Part::Nil)?;
+        values.push(as_number(copy == self.packet))?;
+        Ok(Value::List(values))
+    }
+
     /// Makes a call that tells what is there.
     fn told(&mut self, word: &[u8], args: &Values) -> Result<Value, Fail> {
         if is_text(word, b"frame") {
@@ -171,6 +210,9 @@ impl MessageCalls {
         }
         if is_text(word, b"packet") {
             return shown(self.alloc, &self.packet);
+        }
+        if is_text(word, b"clone") {
+            return self.cloned();
         }
         if is_text(word, b"known") {
             return count_value(self.reading.known());
@@ -194,6 +236,6 @@ impl Part for MessageCalls {
         if is_text(word, b"decode") {
             return self.decode(text_at(args, 0)?);
         }
-        self.told(word, args)
+        self.summed(word, args)
     }
 }

@@ -4,6 +4,7 @@ ghost use Rattle.std.specs.List.{AllByRecursion};
 ghost use Rattle.std.proofs.Props.{props};
 ghost use Rattle.do_coder.specs.Recent.{IsKnown};
 
+use bytes::Bytes;
 use do_base::{NodeId, Text};
 use do_class::{ClassTable, Methods, Packet, Slot, Slots};
 use do_coder::{Recent, decode};
@@ -84,6 +85,26 @@ impl Reading {
             &mut self.known,
             raw,
         )
+    }
+
+    /// The answer to a payload of a kind, of which nothing is kept: the place of a fault, or a
+    /// million and how many objects would be known.
+    pub(crate) fn answer(&self, kind: u8, payload: &[u8]) -> Result<u64, Fail> {
+        let payload = Bytes::copy_from_slice(self.alloc, payload)?;
+        let raw = RawFrame { kind, payload };
+        let mut known = self.known.copy()?;
+        match read_raw(
+            self.alloc,
+            &self.table,
+            self.from,
+            self.to,
+            &mut known,
+            &raw,
+        ) {
+            Ok(_) => Ok(1_000_000u64.saturating_add(known.len() as u64)),
+            Err(RawFault::BadFrame(place)) => Ok(place as u64),
+            Err(RawFault::Memory) => Err(Fail::from(AllocError)),
+        }
     }
 
     /// The packet that begins the bytes, and how many bytes it takes.

@@ -1,9 +1,11 @@
 //! Calls of imports.
 
+mod counts;
 mod tokens;
 
 use crate::parts::answers::{amount_value, ask_value, class_or_nil, left_value};
 use crate::parts::arguments::{amount_at, class_at, node_at};
+use crate::parts::imports::counts::{got, refer, unrefer};
 use crate::parts::imports::tokens::{ask_call, is_ask_word, lend, settle};
 use call_rows::{Part, count_at, no_call, object_at};
 use do_base::{NodeId, Oid, Value, Values};
@@ -11,7 +13,6 @@ use do_class::ClassId;
 use do_grammar::is_text;
 use do_import::Imports;
 use do_native_acts::{as_number, show_list};
-use part_samples::{got, refer, unrefer};
 use std::alloc::Global;
 use std::test::Fail;
 

@@ -9,13 +9,12 @@ use crate::parts::arguments::{amount_at, node_at};
 use crate::parts::stack::changes::{Script, act, replace_locals, set_locals};
 use crate::parts::stack::invocations::{invocation_or_nil, local_or_nil};
 use crate::parts::stack::waiting::{abandon, call_of_peer, is_call_word, take_answer};
-use call_rows::{Part, copy_at, count_at, count_value, local_at, no_call, value_at};
+use call_rows::{Part, begun, copy_at, count_at, count_value, local_at, no_call, value_at};
 use do_base::{Oid, Value, Values};
 use do_behave::Invocation;
 use do_grammar::is_text;
 use do_native_acts::{as_number, show_list};
 use do_stack::{Stack, objects_named};
-use server_samples::begun;
 use std::alloc::Global;
 use std::test::Fail;
 

@@ -1,15 +1,18 @@
 //! Calls of a store, whose objects have two slots: the second is nil when they are made.
 ghost use Rattle.std.specs.Prelude.{◌≡◌};
 
+mod may;
+mod objects;
+
 use crate::parts::answers::{amount_value, class_value, pair_value, triple_value};
 use crate::parts::arguments::{amount_at, class_at, node_at};
+use crate::parts::store::objects::{create, hold, let_go, write_slot};
 use call_rows::{Part, copy_at, count_at, no_call, object_at, object_or_nil, text_value};
 use do_base::{NodeId, Oid, Value, Values};
 use do_class::ClassId;
 use do_grammar::is_text;
 use do_native_acts::{as_number, show_list};
 use do_store::{Freed, Store};
-use part_samples::{create, hold, let_go, write_slot};
 use std::alloc::{AllocError, Global};
 use std::test::Fail;
 

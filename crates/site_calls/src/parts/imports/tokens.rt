@@ -3,12 +3,12 @@
 
 use crate::parts::answers::{done_or_nil, token_value};
 use crate::parts::arguments::{class_at, node_at, token_at};
+use crate::parts::imports::counts::{ask, granted, lend as lend_object};
 use call_rows::{no_call, object_at, object_or_nil};
 use do_base::{Oid, Token, Value, Values};
 use do_grammar::is_text;
 use do_import::Imports;
 use do_native_acts::as_number;
-use part_samples::{ask, granted, lend as lend_object};
 use std::test::Fail;
 
 /// Lends an object to a borrower, and tells the token; nil where there is no room.

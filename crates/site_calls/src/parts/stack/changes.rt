@@ -1,7 +1,7 @@
 //! Changes of the top of a stack: by the code of its method, or of all locals and of several.
 
 use crate::parts::stack::exchanges::exchanged_or_nil;
-use call_rows::{copy_at, count_at, list_at, text_at};
+use call_rows::{begun, copy_at, count_at, list_at, text_at};
 use do_base::{Text, Value, Values, copy_value};
 use do_behave::{
     Act, Behaviour, Change, ClassCodes, Codes, Frame, Handler, Invocation, LocalSet, LocalSets,
@@ -10,7 +10,6 @@ use do_behave::{
 use do_class::ClassTable;
 use do_script::{Code, Names, assemble};
 use do_stack::{Exchanged, Stack};
-use server_samples::begun;
 use std::alloc::{AllocError, Global};
 use std::test::Fail;
 

@@ -1,9 +1,0 @@
-use Rattle.packet_samples.proofs.Light.{light_either}
-use Rattle.packet_samples.proofs.node.Node.add.Goals as goal
-
-pub invariant_of-self : goal.invariant_of-self
-invariant_of-self c = record {
-  light =
-      light_either _ c.args.self.now.objects.items _ _ c.args.self.now.light
-      c.in_ok-values.ensures.light c.push.ensures.items;
-}

@@ -1,0 +1,2 @@
+mod Light
+pub mod MayName
