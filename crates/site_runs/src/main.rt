@@ -1,69 +1,105 @@
-//! Hands one site what its peers send, also such as lie, and writes what it answers, sends and
-//! shows. With the word `memory` it only plays one run. A call for which memory ran out is made
-//! again, at a site that must be listed as before.
+//! Hands one site what its peers send, also such as lie, and compares what it answers, sends and
+//! shows with what it should. With the word `memory` it only plays one file. A call for which
+//! memory ran out is made again, at a site that must be listed as before.
 //!
-//! It stands on do_site, and on how schedules are written. What it must write stands beside it, and
-//! was worked out by hand or by another program.
+//! It stands on do_site, and on how schedules are written. Runs are files, in which each line that
+//! is handed over is followed by what comes of it, worked out by hand or by another program. A file
+//! of which something else comes is printed as it comes; behind it stands how many lines of it were
+//! handed over.
+//!
+//! It is a program of its own since it stands on sites alone: it is proved beside what stands on
+//! them.
 #![tactic(auto)]
 
 mod again;
 mod inputs;
 mod player;
 mod playing;
+mod runs;
 mod sites;
 mod told;
 
-use crate::player::Player;
-use crate::playing::play_lines;
-use crate::sites::Opened;
+use crate::runs::{handed_over, push_runs};
+use crate::sites::{Opening, opening_in};
 use do_base::Text;
+use do_grammar::push_dec;
+use std::alloc::AllocError;
 use std::io::Write;
 use std::test::Fail;
 use std::{env, fs};
 
-/// The file of the one run in which each call may be made again.
+/// The file in which each call may be made again.
 const ONE: &str = "passing_on.runs";
 
-/// The files of the other runs.
+/// The other files.
 const OTHERS: [&str; 3] = [
     "lying_peers.runs",
     "hostile_frames.runs",
     "heavy_messages.runs",
 ];
 
-/// Plays the runs of a file, adds what comes of them to a text, and writes it.
-fn write_played<P: Player>(
+/// Reports what came of a file, where that is not what it has, and how many lines were handed over.
+fn report_file(report: &mut Text, name: &str, runs: &[u8], came: &Text) -> Result<(), AllocError> {
+    if !came.is(runs) {
+        report.push_bytes(came.as_slice())?;
+    }
+    report.push_bytes(name.as_bytes())?;
+    report.push_bytes(b": ")?;
+    push_dec(report, handed_over(runs))?;
+    report.push_bytes(b" lines\n")
+}
+
+/// Plays the runs of a file, and reports on them.
+fn play_runs(opening: &Opening, name: &str, runs: &[u8], report: &mut Text) -> Result<(), Fail> {
+    let mut came = Text::new(report.allocator());
+    push_runs(opening, runs, &mut came)?;
+    Ok(report_file(report, name, runs, &came)?)
+}
+
+/// Plays the runs of the file of a name.
+fn play_file(
     rt: &HostRuntime,
-    player: &mut P,
+    opening: &Opening,
     name: &str,
-    out: &mut Text,
+    report: &mut Text,
 ) -> Result<(), Fail> {
-    play_lines(player, fs::read(rt, name)?.as_slice(), out)?;
-    rt.stdout().write_all(out.as_slice())?;
-    Ok(())
+    let runs = fs::read(rt, name)?;
+    play_runs(opening, name, runs.as_slice(), report)
 }
 
-/// Plays the runs of a file, and writes what comes of them.
-fn play_file<P: Player>(rt: &HostRuntime, player: &mut P, name: &str) -> Result<(), Fail> {
-    let mut out = Text::new(rt.alloc());
-    write_played(rt, player, name, &mut out)
-}
-
-/// Plays the one run, and the others but for the word `memory`, and writes what comes of them.
-fn play_all<P: Player>(rt: &HostRuntime, player: &mut P) -> Result<(), Fail> {
-    play_file(rt, player, ONE)?;
+/// Whether a word of the command line is `memory`.
+fn is_for_memory(rt: &HostRuntime) -> Result<bool, Fail> {
     for word in env::args(rt)?.skip(1) {
         if word.as_str() == "memory" {
-            return Ok(());
+            return Ok(true);
         }
     }
+    Ok(false)
+}
+
+/// Plays the one file, and the others but for the word `memory`.
+fn play_all(rt: &HostRuntime, opening: &Opening, report: &mut Text) -> Result<(), Fail> {
+    play_file(rt, opening, ONE, report)?;
+    if is_for_memory(rt)? {
+        return Ok(());
+    }
     for name in OTHERS {
-        play_file(rt, player, name)?;
+        play_file(rt, opening, name, report)?;
     }
     Ok(())
+}
+
+/// What the runs of all files come to, as a report.
+fn reported(rt: &HostRuntime, opening: &Opening) -> Result<Text, Fail> {
+    let mut report = Text::new(rt.alloc());
+    match play_all(rt, opening, &mut report) {
+        Ok(()) => Ok(report),
+        Err(fail) => Err(fail),
+    }
 }
 
 fn main(rt: HostRuntime) -> Result<(), Fail> {
-    let mut player = Opened::of(&rt, "peers.world")?;
-    play_all(&rt, &mut player)
+    let report = reported(&rt, &opening_in(&rt, "peers.world")?)?;
+    rt.stdout().write_all(report.as_slice())?;
+    Ok(())
 }

@@ -6,9 +6,6 @@ use std::alloc::AllocError;
 
 /// A site, as one sees it that hands it inputs. Its port is 7001.
 pub(crate) trait Player {
-    /// Begins anew: it is then as before its first input.
-    fn begin(&mut self) -> Result<(), AllocError>;
-
     /// Does one input.
     fn hand(&mut self, input: &Input) -> Result<Done, AllocError>;
 

@@ -1,9 +1,4 @@
-//! Runs of a site, in a file.
-//!
-//! A run begins with `= NAME`, at a site before its first input. Each line behind `> ` hands
-//! something to the site; what it then answers, sends and shows is added, and behind `> check` what
-//! is listed of it. A line behind `? ` is tried: it is handed to a site to which those behind `> `
-//! in front of it were handed, and behind it those behind `< ` in front of it are.
+//! What is handed to one site in a run, and what comes of it.
 
 use crate::again::hand_input;
 use crate::inputs::input_in;
@@ -46,6 +41,37 @@ fn hand_all<P: Player>(player: &mut P, lines: &[u8], mark: u8, out: &mut Text) -
     Ok(())
 }
 
+/// Adds a line.
+pub(crate) fn push_line(out: &mut Text, line: &[u8]) -> Result<(), AllocError> {
+    out.push_bytes(line)?;
+    out.push(b'\n')
+}
+
+/// Plays a line of a run but such as are tried, and adds it with what comes of it.
+fn play_line<P: Player>(player: &mut P, line: &[u8], out: &mut Text) -> Result<(), Fail> {
+    match line {
+        [b'=' | b'<', ..] => Ok(push_line(out, line)?),
+        [b'>', b' ', said @ ..] => {
+            push_line(out, line)?;
+            hand(player, said, out)
+        }
+        _ => Ok(()),
+    }
+}
+
+/// Plays the lines of a run but such as are tried, and adds each with what comes of it.
+fn play_lines<P: Player>(player: &mut P, run: &[u8], out: &mut Text) -> Result<(), Fail> {
+    let mut rest = run;
+    for _line in 0..run.len() {
+        let Some((line, _, behind)) = line_of(rest) else {
+            return Ok(());
+        };
+        rest = behind;
+        play_line(player, line, out)?;
+    }
+    Ok(())
+}
+
 /// Adds what came behind a line that was tried, or that it was what came behind the last one.
 fn push_later(last: &Text, later: &Text, out: &mut Text) -> Result<(), AllocError> {
     if last.is(later.as_slice()) {
@@ -54,70 +80,44 @@ fn push_later(last: &Text, later: &Text, out: &mut Text) -> Result<(), AllocErro
     out.push_bytes(later.as_slice())
 }
 
-/// Tries a line, in front of which these stand, and adds what comes of it and of those behind it.
+/// Hands over what follows a line that was tried, and keeps what comes of that as the last.
+fn hand_later<P: Player>(
+    player: &mut P,
+    run: &[u8],
+    last: &mut Text,
+    out: &mut Text,
+) -> Result<(), Fail> {
+    let mut later = Text::new(out.allocator());
+    hand_all(player, run, b'<', &mut later)?;
+    push_later(last, &later, out)?;
+    last.clear();
+    Ok(last.push_bytes(later.as_slice())?)
+}
+
+/// Tries a line of a run, and adds what comes of it and of what follows.
 fn try_line<P: Player>(
     player: &mut P,
-    before: &[u8],
+    run: &[u8],
     said: &[u8],
     last: &mut Text,
     out: &mut Text,
 ) -> Result<(), Fail> {
-    let alloc = out.allocator();
-    player.begin()?;
-    hand_all(player, before, b'>', &mut Text::new(alloc))?;
+    hand_all(player, run, b'>', &mut Text::new(out.allocator()))?;
     hand(player, said, out)?;
-    let mut later = Text::new(alloc);
-    hand_all(player, before, b'<', &mut later)?;
-    push_later(last, &later, out)?;
-    *last = later;
-    Ok(())
+    hand_later(player, run, last, out)
 }
 
-/// Plays a line, in front of which these stand, and adds it with what comes of it.
-fn play_line<P: Player>(
+/// Plays a run at a new site, but for the lines to be tried, or tries one of these. What comes of
+/// it is added. `last` is what came behind the last line that was tried.
+pub(crate) fn play<P: Player>(
     player: &mut P,
-    before: &[u8],
-    line: &[u8],
+    run: &[u8],
+    tried: Option<&[u8]>,
     last: &mut Text,
     out: &mut Text,
 ) -> Result<(), Fail> {
-    out.push_bytes(line)?;
-    out.push(b'\n')?;
-    match line {
-        [b'>', b' ', said @ ..] => hand(player, said, out),
-        [b'?', b' ', said @ ..] => try_line(player, before, said, last, out),
-        [b'=', ..] => Ok(player.begin()?),
-        _ => Ok(()),
+    match tried {
+        Some(said) => try_line(player, run, said, last, out),
+        None => play_lines(player, run, out),
     }
-}
-
-/// Plays lines, and adds each with what comes of it. `last` is what came behind the last one that
-/// was tried.
-fn play_each<P: Player>(
-    player: &mut P,
-    lines: &[u8],
-    last: &mut Text,
-    out: &mut Text,
-) -> Result<(), Fail> {
-    let mut rest = lines;
-    for _line in 0..lines.len() {
-        let Some((line, _, behind)) = line_of(rest) else {
-            return Ok(());
-        };
-        let before = lines.len().saturating_sub(rest.len());
-        let before = lines.get(..before).unwrap_or(&[]);
-        play_line(player, before, line, last, out)?;
-        rest = behind;
-    }
-    Ok(())
-}
-
-/// Plays the lines of a file, and adds each with what comes of it.
-pub(crate) fn play_lines<P: Player>(
-    player: &mut P,
-    lines: &[u8],
-    out: &mut Text,
-) -> Result<(), Fail> {
-    let mut last = Text::new(out.allocator());
-    play_each(player, lines, &mut last, out)
 }

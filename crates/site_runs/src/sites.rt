@@ -1,6 +1,7 @@
 //! The site of the first node of a world.
 
 use crate::player::Player;
+use crate::playing::play;
 use do_base::{NodeId, Peers, Shown, Text};
 use do_behave::Program;
 use do_class::ClassTable;
@@ -9,23 +10,23 @@ use do_machine::{NodeLines, Seat, Seats, Shared, Snapshot};
 use do_network::{Done, Input};
 use do_site::Site;
 use do_world::{World, read_world};
-use std::alloc::{AllocError, Global};
+use std::alloc::AllocError;
 use std::fs;
 use std::test::Fail;
 
 /// What a site is opened with.
 #[derive(Drop)]
-struct Opening {
+pub(crate) struct Opening {
     table: Shared<ClassTable>,
     acts: Shared<Program>,
     seat: Seat,
     ports: Peers,
 }
 
-/// A site, and what it is opened anew with.
+/// A site, and its classes.
 #[derive(Drop)]
-pub(crate) struct Opened {
-    opening: Opening,
+struct Opened {
+    table: Shared<ClassTable>,
     site: Site<Program>,
 }
 
@@ -38,27 +39,16 @@ fn ports_of(nodes: &Seats) -> Result<Peers, AllocError> {
     Ok(ports)
 }
 
-/// The first of these nodes, and the ports of all.
-fn places_of(nodes: &Seats) -> Result<(Seat, Peers), Fail> {
-    let seat = *nodes.first().ok_or("no node")?;
-    Ok((seat, ports_of(nodes)?))
-}
-
-/// Classes and the code of their methods, to be shared.
-fn shared(
-    alloc: Global,
+/// What the site of a seat is opened with.
+fn opening_at(
     table: ClassTable,
     program: Program,
-) -> Result<(Shared<ClassTable>, Shared<Program>), AllocError> {
+    seat: Seat,
+    ports: Peers,
+) -> Result<Opening, AllocError> {
+    let alloc = ports.allocator();
     let table = Shared::new(alloc, table)?;
-    Ok((table, Shared::new(alloc, program)?))
-}
-
-/// What the site of the first node of a world is opened with, all of whose classes are scripts.
-fn opening_of(alloc: Global, world: World) -> Result<Opening, Fail> {
-    let (seat, ports) = places_of(&world.nodes)?;
-    let World { table, program, .. } = world;
-    let (table, acts) = shared(alloc, table, program)?;
+    let acts = Shared::new(alloc, program)?;
     Ok(Opening {
         table,
         acts,
@@ -67,17 +57,48 @@ fn opening_of(alloc: Global, world: World) -> Result<Opening, Fail> {
     })
 }
 
-/// The site, before its first input.
-fn site_of(opening: &Opening) -> Result<Site<Program>, AllocError> {
-    let Seat { node, root } = opening.seat;
-    let table = opening.table.clone()?;
-    let acts = opening.acts.clone()?;
-    Site::new(node, root, &opening.ports, table, acts)
+/// What the site of the first node of a world is opened with, all of whose classes are scripts.
+fn opening_of(world: World) -> Result<Opening, Fail> {
+    let ports = ports_of(&world.nodes)?;
+    let World {
+        table,
+        program,
+        nodes,
+        ..
+    } = world;
+    match nodes.first() {
+        Some(seat) => Ok(opening_at(table, program, *seat, ports)?),
+        None => Err(Fail::from("no node")),
+    }
 }
 
-/// The world in a file.
-fn world_in(rt: &HostRuntime, name: &str) -> Result<World, Fail> {
-    Ok(read_world(rt.alloc(), fs::read(rt, name)?.as_slice())?)
+/// What the site of the first node of the world in a file is opened with.
+pub(crate) fn opening_in(rt: &HostRuntime, name: &str) -> Result<Opening, Fail> {
+    opening_of(read_world(rt.alloc(), fs::read(rt, name)?.as_slice())?)
+}
+
+/// The site, before its first input.
+fn site_at(opening: &Opening) -> Result<Opened, AllocError> {
+    let Seat { node, root } = opening.seat;
+    let shown = opening.table.clone()?;
+    let table = opening.table.clone()?;
+    let acts = opening.acts.clone()?;
+    match Site::new(node, root, &opening.ports, table, acts) {
+        Ok(site) => Ok(Opened { table: shown, site }),
+        Err(AllocError) => Err(AllocError),
+    }
+}
+
+/// Plays the lines of a run at a new site, or tries one of them.
+pub(crate) fn play_new(
+    opening: &Opening,
+    run: &[u8],
+    tried: Option<&[u8]>,
+    last: &mut Text,
+    out: &mut Text,
+) -> Result<(), Fail> {
+    let mut player = site_at(opening)?;
+    play(&mut player, run, tried, last, out)
 }
 
 /// Adds what is listed of a site to what is listed of nodes, and this to a text.
@@ -91,21 +112,7 @@ fn push_site(
     push_check(out, table, listed)
 }
 
-impl Opened {
-    /// The site of the first node of the world in a file.
-    pub(crate) fn of(rt: &HostRuntime, name: &str) -> Result<Opened, Fail> {
-        let opening = opening_of(rt.alloc(), world_in(rt, name)?)?;
-        let site = site_of(&opening)?;
-        Ok(Opened { opening, site })
-    }
-}
-
 impl Player for Opened {
-    fn begin(&mut self) -> Result<(), AllocError> {
-        self.site = site_of(&self.opening)?;
-        Ok(())
-    }
-
     fn hand(&mut self, input: &Input) -> Result<Done, AllocError> {
         self.site.handle(input)
     }
@@ -120,7 +127,6 @@ impl Player for Opened {
 
     fn push_listed(&self, out: &mut Text) -> Result<(), AllocError> {
         let nodes = NodeLines::new(out.allocator());
-        let table = self.opening.table.get();
-        push_site(&self.site, table, &mut Snapshot { nodes }, out)
+        push_site(&self.site, self.table.get(), &mut Snapshot { nodes }, out)
     }
 }

@@ -1,8 +1,8 @@
-//! The one machine of the definitions, and what a network must write as it does.
+//! The one machine of the definitions, and whether a network comes to what it does.
 
-use crate::plain::without_wires;
-use crate::running::Asked;
-use do_base::{CallList, MemSink, Shelf, Text};
+use crate::outside::Outside;
+use crate::transcripts::without_wires;
+use do_base::{CallList, MemSink, Text};
 use do_given::{Scheduled, scheduled_given};
 use do_local::Local;
 use do_lost::lost_text;
@@ -13,49 +13,23 @@ use do_world::World;
 use std::alloc::{AllocError, Global};
 use std::test::Fail;
 
-/// What the machine comes to over a schedule.
-#[derive(Drop)]
-struct Outcome {
-    /// The transcript.
-    transcript: Text,
-    /// What nothing can reach then.
-    lost: Text,
-}
-
-/// Writes the transcript of a machine over lines into an empty sink, and tells it.
-fn transcript_in(
-    alloc: Global,
-    machine: &mut Local<Native>,
-    lines: Lines,
-    sink: &mut MemSink,
-) -> Result<Text, Fail> {
-    if write_transcript(alloc, machine, lines, sink).is_err() {
-        return Err("not written".into());
-    }
-    Ok(sink.bytes().clone()?)
-}
-
-/// The transcript of a machine over lines.
-fn transcript_of(alloc: Global, machine: &mut Local<Native>, lines: Lines) -> Result<Text, Fail> {
-    let mut sink = MemSink::new(alloc, CallList::new(alloc))?;
-    transcript_in(alloc, machine, lines, &mut sink)
-}
-
 /// What nothing can reach in a machine.
 fn lost_in(alloc: Global, machine: &Local<Native>) -> Result<Text, AllocError> {
     let listed = machine.snapshot()?;
     lost_text(alloc, machine.table(), machine.state(), &listed)
 }
 
-/// What a machine comes to over lines.
-fn played(alloc: Global, machine: &mut Local<Native>, lines: Lines) -> Result<Outcome, Fail> {
-    let transcript = transcript_of(alloc, machine, lines)?;
-    let lost = lost_in(alloc, machine)?;
-    Ok(Outcome { transcript, lost })
+/// Writes the transcript of a machine over lines, and then what nothing can reach in it.
+fn play(machine: &mut Local<Native>, lines: Lines, shown: &mut MemSink) -> Result<Text, Fail> {
+    let alloc = lines.allocator();
+    match write_transcript(alloc, machine, lines, shown) {
+        Ok(()) => Ok(lost_in(alloc, machine)?),
+        Err(_) => Err(Fail::from("not written")),
+    }
 }
 
-/// What the machine of a world comes to over a schedule.
-fn shown(alloc: Global, given: Scheduled) -> Result<Outcome, Fail> {
+/// Writes what the machine of a world shows over a schedule, and tells what nothing can reach then.
+fn played(given: Scheduled, shown: &mut MemSink) -> Result<Text, Fail> {
     let Scheduled { world, lines } = given;
     let World {
         table,
@@ -65,65 +39,36 @@ fn shown(alloc: Global, given: Scheduled) -> Result<Outcome, Fail> {
         nodes,
     } = world;
     let mut machine = Local::new(table, &nodes, Native::new(kinds, program, rules))?;
-    played(alloc, &mut machine, lines)
+    play(&mut machine, lines, shown)
 }
 
-/// What the machine comes to over a schedule that words name.
-fn machine_shown<H: Shelf>(
-    alloc: Global,
-    world: &Text,
-    schedule: &Text,
-    shelf: &mut H,
-) -> Result<Outcome, Fail> {
-    match scheduled_given(alloc, world, schedule, shelf) {
-        Ok(given) => shown(alloc, given),
-        Err(_) => Err("not given".into()),
+/// Writes what the machine of a world shows over the schedule in the file `s`, and tells what
+/// nothing can reach then.
+fn machine_played(outside: &mut Outside, world: &Text, shown: &mut MemSink) -> Result<Text, Fail> {
+    let alloc = world.allocator();
+    let schedule = Text::from_slice(alloc, b"s")?;
+    match scheduled_given(alloc, world, &schedule, outside.shelf()) {
+        Ok(given) => played(given, shown),
+        Err(_) => Err(Fail::from("not given")),
     }
 }
 
-/// What the machine comes to over a schedule.
-fn machine_of<H: Shelf>(alloc: Global, asked: &Asked, shelf: &mut H) -> Result<Outcome, Fail> {
-    let world = Text::from_slice(alloc, asked.world.as_bytes())?;
-    let schedule = Text::from_slice(alloc, asked.schedule.as_bytes())?;
-    machine_shown(alloc, &world, &schedule, shelf)
+/// Whether the network of a world shows this over the schedule in the file `s`, without what is
+/// sent, and tells this as lost.
+fn comes_to(outside: &mut Outside, world: &Text, shown: &Text, lost: &Text) -> Result<bool, Fail> {
+    outside.run_form(b"leaks", world)?;
+    if !outside.written().is(lost.as_slice()) {
+        return Ok(false);
+    }
+    outside.run_form(b"replay", world)?;
+    Ok(without_wires(outside.written())?.is(shown.as_slice()))
 }
 
-/// Whether a network shows of a schedule this transcript, without what is sent.
-fn shows<H: Shelf>(
-    alloc: Global,
-    asked: &Asked,
-    shelf: &mut H,
-    transcript: &Text,
-) -> Result<bool, Fail> {
-    let replayed = without_wires(alloc, &asked.written(alloc, "replay", shelf)?)?;
-    Ok(replayed.is(transcript.as_slice()))
-}
-
-/// Whether a network tells this as lost.
-fn loses<H: Shelf>(alloc: Global, asked: &Asked, shelf: &mut H, lost: &Text) -> Result<bool, Fail> {
-    let told = asked.written(alloc, "leaks", shelf)?;
-    Ok(told.is(lost.as_slice()))
-}
-
-/// Whether a network shows and tells as lost what a machine came to.
-fn is_outcome<H: Shelf>(
-    alloc: Global,
-    asked: &Asked,
-    shelf: &mut H,
-    machine: &Outcome,
-) -> Result<bool, Fail> {
-    let is_shown = shows(alloc, asked, shelf, &machine.transcript)?;
-    let is_lost = loses(alloc, asked, shelf, &machine.lost)?;
-    Ok(is_shown && is_lost)
-}
-
-/// Whether a network shows of a schedule what the machine shows, without what is sent, and tells as
-/// lost what is lost in the machine.
-pub(crate) fn is_alike<H: Shelf>(
-    alloc: Global,
-    asked: &Asked,
-    shelf: &mut H,
-) -> Result<bool, Fail> {
-    let machine = machine_of(alloc, asked, shelf)?;
-    is_outcome(alloc, asked, shelf, &machine)
+/// Whether the network of a world shows over the schedule in the file `s` what the machine shows,
+/// without what is sent, and tells as lost what nothing can reach in the machine.
+pub(crate) fn is_alike(outside: &mut Outside, world: &Text) -> Result<bool, Fail> {
+    let alloc = world.allocator();
+    let mut shown = MemSink::new(alloc, CallList::new(alloc))?;
+    let lost = machine_played(outside, world, &mut shown)?;
+    comes_to(outside, world, shown.bytes(), &lost)
 }

@@ -1,7 +1,0 @@
-use Rattle.net_acts.proofs.Alike.{count_alike}
-use Rattle.net_acts.proofs.count.Goals as goal
-
--- all count for one program
-pub replay-requires-clause-alike : goal.replay-requires-clause-alike
-replay-requires-clause-alike c =
-    count_alike _ c.in_ok-makers.makers c.in_ok-makers.ensures.one

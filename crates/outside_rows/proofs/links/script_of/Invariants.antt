@@ -1,7 +1,0 @@
--- All events so far are pieces that fit.
-use Rattle.std.specs.List.{All}
-use Rattle.do_link.specs.InMemory.{IsPiece}
-use Rattle.outside_rows.proofs.links.script_of.Given as goal
-
-abbrev pub invariant-loop-value : goal.invariant-loop-value
-invariant-loop-value l = All IsPiece l.script
