@@ -19,14 +19,15 @@ pub(crate) fn free_port(rt: &HostRuntime) -> Result<NodeId, Fail> {
 
 /// Adds what a link hears next to the bytes of a peer, and tells whether it is that peer's and not
 /// its end.
-pub(crate) fn hear<L: Link>(
+fn hear<L: Link>(
+    alloc: Global,
     link: &mut L,
     peer: NodeId,
-    buf: &mut [u8],
     heard: &mut Text,
 ) -> Result<bool, Fail> {
     for _poll in 0..20_000u32 {
-        match link.next(buf) {
+        let mut buf = vec![in alloc; 0u8; 4_096]?;
+        match link.next(buf.as_mut_slice()) {
             LinkEvent::Bytes(from, count) => {
                 heard.push_bytes(&buf[..count])?;
                 return Ok(from == peer);
@@ -45,18 +46,16 @@ pub(crate) fn hears<L: Link>(
     peer: NodeId,
     bytes: &[u8],
 ) -> Result<bool, Fail> {
-    let mut buf = vec![in alloc; 0u8; 4_096]?;
     let mut heard = Text::new(alloc);
-    let came = hear(link, peer, buf.as_mut_slice(), &mut heard)?;
+    let came = hear(alloc, link, peer, &mut heard)?;
     Ok(came && heard.is(bytes))
 }
 
 /// All that a link hears from a peer until its end, to which nothing of another is added.
 pub(crate) fn heard_all<L: Link>(alloc: Global, link: &mut L, peer: NodeId) -> Result<Text, Fail> {
-    let mut buf = vec![in alloc; 0u8; 4_096]?;
     let mut heard = Text::new(alloc);
     for _piece in 0..20_000u32 {
-        if !hear(link, peer, buf.as_mut_slice(), &mut heard)? {
+        if !hear(alloc, link, peer, &mut heard)? {
             return Ok(heard);
         }
     }
