@@ -1,4 +1,5 @@
 """Peers that take nothing, or little, while the node sends to them."""
+import itertools
 import socket
 import threading
 import time
@@ -72,7 +73,10 @@ def flood_from(peer, piece, ended):
     peer.outgoing.socket.settimeout(1)
 
     def write():
-        while not ended.is_set():
+        for turn in itertools.count():
+            # A node that takes far too much is found so, and need not take more.
+            if ended.is_set() or turn % 256 == 0 and peer.node.most_memory() > 2 * MOST_MEMORY:
+                return
             try:
                 sent[0] += peer.outgoing.socket.send(piece)
             except socket.timeout:

@@ -7,6 +7,15 @@ import time
 
 TURNS = "1000000000"
 
+# The processes that have not been ended.
+_running = set()
+
+
+def end_all():
+    """Ends the nodes of cases that are cut off."""
+    for process in list(_running):
+        process.kill()
+
 
 class Broken(Exception):
     """The program did what it must not do."""
@@ -28,6 +37,7 @@ class Node:
                 stdout=record,
                 stderr=subprocess.PIPE,
             )
+        _running.add(self.process)
         if wait:
             self._await_port()
 
@@ -37,6 +47,7 @@ class Node:
     def __exit__(self, *_):
         self.process.kill()
         self.process.wait()
+        _running.discard(self.process)
         self.process.stderr.close()
         self.folder.cleanup()
 
