@@ -1,6 +1,5 @@
 """Peers that take nothing, or little, while the node sends to them."""
 import itertools
-import socket
 import threading
 import time
 
@@ -79,7 +78,7 @@ def flood_from(peer, piece, ended):
                 return
             try:
                 sent[0] += peer.outgoing.socket.send(piece)
-            except socket.timeout:
+            except TimeoutError:
                 pass
             except OSError:
                 return

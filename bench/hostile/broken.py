@@ -45,7 +45,7 @@ def changed(program):
                     good.ask()
                 except Broken as error:
                     number = first + len(peers) - 1
-                    raise Broken(f"byte {at}, change {number}: {error}") from None
+                    raise type(error)(f"byte {at}, change {number}: {error}") from None
             slowest, most = max(slowest, good.slowest), max(most, node.most_memory())
             for peer in [good, *peers]:
                 peer.close()

@@ -13,7 +13,7 @@ import threading
 import time
 import traceback
 
-from node import Broken, end_all
+from node import Broken, Late, end_all
 
 # How many seconds all cases have, and those that are tried again where they failed.
 LIMIT, SHORT = 110, 40
@@ -61,12 +61,20 @@ class Run(threading.Thread):
         try:
             self.found = self.case(self.program)
         except Broken as error:
-            self.failed, self.found = True, f"FAILED: {error}"
+            if isinstance(error, Late) and is_busy():
+                self.found = f"skipped, since this machine has too much to do: {error}"
+            else:
+                self.failed, self.found = True, f"FAILED: {error}"
         except (OSError, EOFError) as error:
             self.found = f"skipped: {error!r}"
         except Exception:
             last = traceback.format_exc().splitlines()[-1]
             self.found = f"skipped, by a fault of the bench: {last}"
+
+
+def is_busy():
+    """Whether so much waits for the processors that what is late tells nothing."""
+    return os.getloadavg()[0] > 3 * (os.cpu_count() or 1)
 
 
 def cut_off(*_):

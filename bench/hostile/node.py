@@ -21,6 +21,10 @@ class Broken(Exception):
     """The program did what it must not do."""
 
 
+class Late(Broken):
+    """The program did not do in time what it must do."""
+
+
 class Node:
     """The program, as `node PORT WORLD STARTS TURNS` in a folder of its own."""
 
@@ -60,7 +64,7 @@ class Node:
                 return
             except OSError:
                 time.sleep(0.01)
-        raise Broken("the node does not listen")
+        raise Late("the node does not listen")
 
     def must_live(self):
         if self.process.poll() is not None:
@@ -71,7 +75,7 @@ class Node:
         try:
             return self.process.wait(seconds)
         except subprocess.TimeoutExpired:
-            raise Broken(f"the node did not end within {seconds} s") from None
+            raise Late(f"the node did not end within {seconds} s") from None
 
     def most_memory(self):
         """The greatest memory so far, in MB."""

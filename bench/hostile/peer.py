@@ -4,7 +4,7 @@ import struct
 import time
 
 from formats import GREETING, call, number, root_ask, string, take_frame, values
-from node import Broken
+from node import Broken, Late
 
 # How many seconds an honest peer waits for an answer.
 PATIENCE = 30
@@ -85,6 +85,8 @@ class Honest(Peer):
                 self.accept()
             self.incoming.socket.settimeout(patience)
             found = take_frame(self.incoming)
+        except TimeoutError as error:
+            raise Late(f"an honest peer is not served: {error!r}") from None
         except (OSError, EOFError) as error:
             self.node.must_live()
             raise Broken(f"an honest peer is not served: {error!r}") from None
@@ -123,4 +125,4 @@ def silent_stream(port):
             return Stream(socket.create_connection(("127.0.0.1", port), 5))
         except OSError:
             time.sleep(0.02)
-    raise Broken("the node does not listen")
+    raise Late("the node does not listen")
