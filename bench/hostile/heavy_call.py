@@ -132,6 +132,9 @@ def kept_by(program, value):
         peer = Peer(node, other)
         try:
             answered(peer, value)
+        except TimeoutError:
+            node.must_live()
+            raise
         except (OSError, EOFError) as error:
             raise Broken(f"{error!r}, and the status is {node.ended(PATIENCE)}") from None
         if status := node.ended(PATIENCE):
@@ -162,6 +165,8 @@ def main(program):
             found = run(program)
         except Broken as error:
             failed, found = 1, f"FAILED: {error}"
+        except OSError as error:
+            found = f"skipped: {error!r}"
         print(f"{name}: {found}", flush=True)
     return failed
 
