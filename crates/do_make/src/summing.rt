@@ -2,12 +2,15 @@
 ghost use Rattle.std.specs.Prelude.{◌≡◌, [], List, OnOk, IfOk, map};
 ghost use Rattle.do_agreement.specs.Along.{EventsSendSpelled};
 ghost use Rattle.do_machine.specs.declared.state.Seat.{Seat};
+ghost use Rattle.do_machine.specs.declared.state.State.{State};
 ghost use Rattle.do_machine.specs.World.{IsWorld, opening};
 ghost use Rattle.do_machine.specs.check.Blocks.{blocks, events_of};
 ghost use Rattle.do_make.specs.Summary.{summary_of, with_block};
 ghost use Rattle.do_net.specs.Net.{Stands, network};
+ghost use Rattle.do_net.specs.OneMachine.{StandsFor};
 ghost use Rattle.do_network.specs.Net.{net_opening};
 ghost use Rattle.do_network.specs.Wired.{net_blocks, net_line_step, wired_block};
+ghost use Rattle.do_replay.specs.Replayed.{net_after, state_after};
 
 use crate::adding::{add_listed, add_outcome, add_wires};
 use crate::counts::Summary;
@@ -46,8 +49,9 @@ fn add_line<S: Hosted>(
 /// Does what the lines say, one after another, and counts what they come to.
 ///
 /// The network stands, and has nothing sent that was not fetched. From the opening of a world on,
-/// the lines come to what they come to in one local machine. The one error is that memory ran out,
-/// or that a number would pass 64 bits.
+/// the lines come to what they come to in one local machine. The network that was lent is then the
+/// one to which the lines lead, and where it stood for a state of the one machine it stands for the
+/// state after them. The one error is that memory ran out, or that a number would pass 64 bits.
 pub fn summary<S: Hosted>(
     alloc: Global,
     net: &mut Net<S>,
@@ -62,6 +66,16 @@ pub fn summary<S: Hosted>(
         → OnOk result (map (λ b. b.block) (net_blocks net.old.table (S.Acts.act net.old.acts)
         (network S.seen net.old) lines) ≡ blocks net.old.table (S.Acts.act net.old.acts)
         (opening net.old.table seats) lines) }
+    ensures network { OnOk result (network S.seen net.new ≡ net_after net.old.table
+        (S.Acts.act net.old.acts) (network S.seen net.old) lines) }
+    ensures agrees { (state : State)
+        → StandsFor net.old.table (S.Acts.act net.old.acts) (network S.seen net.old) state
+        → OnOk result (StandsFor net.old.table (S.Acts.act net.old.acts) (network S.seen net.new)
+        (state_after net.old.table (S.Acts.act net.old.acts) state lines)) }
+    ensures stands { OnOk result (Stands S.seen (S.Acts.act net.new.acts) net.new) }
+    ensures same_table { OnOk result (net.new.table ≡ net.old.table) }
+    ensures acts { OnOk result (net.new.acts ≡ net.old.acts) }
+    ensures fetched { OnOk result (net.new.wires.items ≡ []) }
 {
     let mut sum = Summary::new();
     for line in lines.into_vec() {

@@ -6,7 +6,8 @@ use Rattle.do_net.specs.Net.{network}
 use Rattle.do_network.specs.Wired.{net_blocks}
 use Rattle.do_make.proofs.LinesSummed.{counts_line, summed, summed_first, summed_last}
 use Rattle.do_agreement.proofs.texts.TextsAgree.{opened_blocks}
-use Rattle.do_replay.proofs.SpelledSoFar.{spelled_all, spelled_first, spelled_next}
+use Rattle.do_replay.proofs.LinesAsOne.{led_as_one}
+use Rattle.do_replay.proofs.SpelledSoFar.{led_by_all, spelled_all, spelled_first, spelled_next}
 use Rattle.do_make.proofs.summing.summary.Goals as goal
 
 -- at first nothing is counted
@@ -66,3 +67,19 @@ returns-clause-one_machine g c =
     c.args.lines
     (spelled_all c.args.net.now.table act opened _ c.args.lines _ none
     c.loop-line.invariant.spelled)
+
+-- the network is the one to which all lines led
+pub returns-clause-network : goal.returns-clause-network
+returns-clause-network g c =
+    let none : into_iter_items c.loop-line.line-iterator ≡ [] =
+    nil_from_length _ (sym c.loop-line.line-iterator.rest.ok.0 ∙ c.in-None.ensures.steps.0) in
+    led_by_all _ _ _ _ _ _ none c.loop-line.invariant.spelled
+
+-- so it stands for the state to which they lead
+pub returns-clause-agrees : goal.returns-clause-agrees
+returns-clause-agrees g c =
+    let none : into_iter_items c.loop-line.line-iterator ≡ [] =
+    nil_from_length _ (sym c.loop-line.line-iterator.rest.ok.0 ∙ c.in-None.ensures.steps.0) in
+    λ state stands. led_as_one _ _ c.args.lines _ _ state
+    (led_by_all _ _ _ _ _ _ none c.loop-line.invariant.spelled)
+    (spelled_all _ _ _ _ _ _ none c.loop-line.invariant.spelled) stands
