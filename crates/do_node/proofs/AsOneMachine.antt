@@ -1,7 +1,7 @@
 -- What of a text that is so was added.
 use Rattle.std.proofs.Common.{◌≡◌, ◌⊎◌, ℕ, List, None, Option, Some, Result, Ok}
 use Rattle.std.proofs.Common.{Err, ◌∙◌, inl, inr, refl}
-use Rattle.std.specs.Prelude.{IfSome, IsOk, OnOk, codes}
+use Rattle.std.specs.Prelude.{IfSome, IsOk, OnOk}
 use Rattle.do_base.specs.outside.Bytes.{with_more, HasWritten}
 use Rattle.do_base.specs.declared.outside.shelf.NamedFile.{NamedFile}
 use Rattle.do_cli.specs.declared.command.Command.{Command}
@@ -13,6 +13,7 @@ use Rattle.do_given.specs.Reading.{GivesScheduled, GivesWorld}
 use Rattle.do_given.specs.declared.scheduled.Scheduled.{Scheduled}
 use Rattle.do_native.specs.Acts.{native_act}
 use Rattle.do_transcript.specs.Transcript.{transcript_from}
+use Rattle.do_world.specs.Mesh.{mesh_world}
 use Rattle.do_world.specs.Sound.{IsSound}
 use Rattle.do_world.specs.declared.world.World.{World}
 use Rattle.do_plain.specs.Named.{AreNamed}
@@ -31,7 +32,7 @@ use Rattle.do_node.specs.Call.{Obeys}
 use Rattle.do_node.specs.Added.{AddsFirst}
 use Rattle.do_node.specs.OneMachine.{Adds, AddsAsOne, ComesAsOne}
 use Rattle.do_node.specs.OneMachine.{IsLocalReplay, IsLocalSummary}
-use Rattle.do_node.specs.Replaying.{world_summary, world_transcript, world_wired}
+use Rattle.do_node.specs.Replaying.{made_text, world_summary, world_transcript, world_wired}
 use Rattle.do_node.specs.Running.{Counts}
 use Rattle.do_node.proofs.RefusalsTold.{stops_not_ok}
 
@@ -91,46 +92,42 @@ pub replay_adds : (told : Option (List NamedFile)) (word name : List ℕ) (given
     Adds (IsLocalReplay told word name) old new (IsOk result)
 replay_adds told word name given sound gives old new result wires written first =
     adds_so (IsLocalReplay told word name) old new (world_wired given.world given.lines) result
-    (local_replay told word name given sound gives (world_wired given.world given.lines)) wires written
-    (inr (record {
+    (local_replay told word name given sound gives (world_wired given.world given.lines)) wires
+    written (inr (record {
       text = first.text;
       writes = local_replay told word name given sound gives first.text first.wires;
       written = first.written;
     }))
 
--- where lines come to what they come to in one machine, their summary is that of the machine
-local_summary : (told : Option (List NamedFile)) (number count : ℕ) (world : World) →
-    GivesWorld told (codes ":mesh") world → ComesAsOne world (generated count number) →
-    IsLocalSummary told number count (world_summary world (generated count number))
+-- where generated lines come to what they come to in one machine, their summary is that of the
+-- machine
+local_summary : (number count : ℕ) → ComesAsOne mesh_world (generated count number) →
+    IsLocalSummary number count (made_text number count)
 unfolding world_summary
-local_summary told number count world gives same = record {
-  world = world;
-  gives = gives;
-  wired = net_blocks world.table (native_act (behaviour_of world))
-      (net_opening world.table world.nodes) (generated count number);
+local_summary number count same = record {
+  wired = net_blocks mesh_world.table (native_act (behaviour_of mesh_world))
+      (net_opening mesh_world.table mesh_world.nodes) (generated count number);
   same = same;
   is = refl;
 }
 
 -- and such a summary was added
-pub summary_adds : (told : Option (List NamedFile)) (number count : ℕ) (world : World) →
-    GivesWorld told (codes ":mesh") world → (old new : Option (List ℕ))
-    (result : Result Unit Status) → OnOk result (ComesAsOne world (generated count number)) →
-    OnOk result (new ≡ with_more old (world_summary world (generated count number))) →
-    HasWritten old new (world_summary world (generated count number)) →
-    (new ≡ old) ⊎ ComesAsOne world (generated count number) →
-    Adds (IsLocalSummary told number count) old new (IsOk result)
-summary_adds told number count world gives old new result same written prefix first =
-    adds_so (IsLocalSummary told number count) old new
-    (world_summary world (generated count number)) result
-    (local_summary told number count world gives) same written (go first)
+pub summary_adds : (number count : ℕ) (old new : Option (List ℕ)) (result : Result Unit Status) →
+    OnOk result (ComesAsOne mesh_world (generated count number)) →
+    OnOk result (new ≡ with_more old (made_text number count)) →
+    HasWritten old new (made_text number count) →
+    (new ≡ old) ⊎ ComesAsOne mesh_world (generated count number) →
+    Adds (IsLocalSummary number count) old new (IsOk result)
+summary_adds number count old new result same written prefix first =
+    adds_so (IsLocalSummary number count) old new (made_text number count) result
+    (local_summary number count) same written (go first)
   where
-    go : (new ≡ old) ⊎ ComesAsOne world (generated count number) →
-        (new ≡ old) ⊎ AddsFirst (IsLocalSummary told number count) old new
+    go : (new ≡ old) ⊎ ComesAsOne mesh_world (generated count number) →
+        (new ≡ old) ⊎ AddsFirst (IsLocalSummary number count) old new
     go (inl none) = inl none
     go (inr so) = inr (record {
-      text = world_summary world (generated count number);
-      writes = local_summary told number count world gives so;
+      text = made_text number count;
+      writes = local_summary number count so;
       written = prefix;
     })
 

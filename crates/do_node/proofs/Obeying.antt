@@ -1,7 +1,7 @@
 -- What obeying a command comes to.
 use Rattle.std.proofs.Common.{◌≡◌, ◌⊎◌, ℕ, List, Option, Some, None, Result, Ok, Err, inl, inr}
 use Rattle.std.proofs.Common.{[], ◌∷◌, ◌++◌, ap, subst, refl}
-use Rattle.std.specs.Prelude.{OnOk, IfErr, IsErrOf, IsOk, codes}
+use Rattle.std.specs.Prelude.{OnOk, IfErr, IsErrOf, IsOk}
 use Rattle.std.specs.Option.{IsSomeAnd}
 use Rattle.do_base.specs.outside.Bytes.{with_more, HasWritten}
 use Rattle.do_base.specs.outside.Causes.{Rose}
@@ -96,9 +96,7 @@ all_are_read told files before now (Weave world names) text is writes calm (inl 
     unread.1
 all_are_read told files before now (Upgrade schedule) text is writes calm unread =
     told_is_read told files before now schedule _ _ is writes.file calm unread
-all_are_read told files before now (Make number count) text is writes calm unread =
-    world_is_read told files before now (codes ":mesh") writes.world is writes.gives calm unread.0
-    unread.1
+all_are_read told files before now (Make number count) text is writes calm unread = unread
 all_are_read told files before now (Node port world starts turns) text is writes calm unread =
     served_is_read told files before now port world starts writes.given is writes.gives calm unread
 all_are_read told files before now (Lab plan) text is writes calm unread =

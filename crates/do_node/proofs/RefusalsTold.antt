@@ -1,6 +1,6 @@
 -- A refusal is neither an answer that all is well nor one on the words.
 use Rattle.std.proofs.Common.{◌≡◌, ℕ, ◌+◌, List, [], ◌∷◌, ◌++◌, length, Option, inl, inr, subst}
-use Rattle.std.proofs.Common.{codes, sym}
+use Rattle.std.proofs.Common.{sym}
 use Rattle.do_base.specs.declared.outside.shelf.NamedFile.{NamedFile}
 use Rattle.do_cli.specs.declared.command.Command.{Command}
 use Rattle.do_cli.specs.declared.command.Command.TheVariants as asked
@@ -120,8 +120,7 @@ refusal_told told (asked.Weave world names) status (inr (inr third)) =
     subst IsTold (sym third.contradicts.tells) (weaving_told third.contradicts.fault)
 refusal_told told (asked.Upgrade schedule) status refused =
     lines_told First told schedule status refused
-refusal_told told (asked.Make number count) status refused =
-    world_told told (codes ":mesh") status refused
+refusal_told told (asked.Make number count) status refused = absurd refused
 refusal_told told (asked.Node port world starts turns) status refused =
     served_told told port world starts status refused
 refusal_told told (asked.Lab plan) status refused = text_told plan_form told plan status refused

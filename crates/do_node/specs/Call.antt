@@ -1,27 +1,25 @@
 -- What a command writes, and why it is refused.
 use Rattle.std.specs.Prelude.{◌≡◌, ℕ, ◌⊎◌, List, Option, Some, None, Result, OnOk, IfErr, IsOk}
-use Rattle.std.specs.Prelude.{IsErrOf, codes}
+use Rattle.std.specs.Prelude.{IsErrOf}
 use Rattle.do_base.specs.outside.Causes.{Rose}
 use Rattle.do_base.specs.declared.outside.shelf.NamedFile.{NamedFile}
 use Rattle.do_cli.specs.Help.{help_text, version_text}
 use Rattle.do_cli.specs.declared.command.Command.{Command}
 use Rattle.do_cli.specs.declared.command.Command.TheVariants.{Replay, Leaks, Weave, Upgrade}
 use Rattle.do_cli.specs.declared.command.Command.TheVariants.{Make, Node, Lab, Help, Version}
-use Rattle.do_generate.specs.Generated.{generated}
 use Rattle.do_sched.specs.declared.line.Line.{Line}
 use Rattle.do_sched.specs.declared.version.Version.TheVariants.{First}
-use Rattle.do_world.specs.Builtin.{builtin_world}
 use Rattle.do_world.specs.declared.world.World.{World}
 use Rattle.do_given.specs.declared.scheduled.Scheduled.{Scheduled}
 use Rattle.do_given.specs.declared.status.Status.{Status}
 use Rattle.do_given.specs.declared.status.Status.TheVariants as answer
 use Rattle.do_given.specs.Files.{IsUnread}
-use Rattle.do_given.specs.Reading.{GivesScheduled, GivesWorld, HasUnreadScheduled, IsUpgrade}
-use Rattle.do_given.specs.Reading.{RefusesScheduled, RefusesWorld, SaysNoLines, Stops}
+use Rattle.do_given.specs.Reading.{GivesScheduled, HasUnreadScheduled, IsUpgrade}
+use Rattle.do_given.specs.Reading.{RefusesScheduled, SaysNoLines, Stops}
 use Rattle.do_given.specs.Serving.{RefusesServed, SaysNoText}
 use Rattle.do_plan.specs.Plan.{plan_form}
 use Rattle.do_node.specs.Added.{AddsAll, AddsFirst}
-use Rattle.do_node.specs.Replaying.{world_lost, world_summary, world_wired}
+use Rattle.do_node.specs.Replaying.{made_text, world_lost, world_wired}
 use Rattle.do_node.specs.Running.{Counts, EndsWith, IsRun, IsRunEnd, IsServed}
 use Rattle.do_node.specs.Weaving.{HasUnreadPart, IsWoven, RefusesWeaving}
 
@@ -40,20 +38,13 @@ IsReplay = IsOver world_wired
 abbrev pub IsLost : Option (List NamedFile) → List ℕ → List ℕ → List ℕ → Type 0
 IsLost = IsOver world_lost
 
--- the text is the summary of a schedule that a number generates, over the world of a name
-pub record IsMade (told : Option (List NamedFile)) (number count : ℕ) (text : List ℕ) : Type 0
-  where
-    pub world : World
-    pub gives : GivesWorld told (codes ":mesh") world
-    pub is : text ≡ world_summary world (generated count number)
-
 -- what a command writes, where the shelf tells such files
 abbrev pub Writes : Option (List NamedFile) → Command → List ℕ → Type 0
 Writes told (Replay world schedule) text = IsReplay told world schedule text
 Writes told (Leaks world schedule) text = IsLost told world schedule text
 Writes told (Weave world files) text = IsWoven told world files text
 Writes told (Upgrade schedule) text = IsUpgrade told schedule text
-Writes told (Make number count) text = IsMade told number count text
+Writes told (Make number count) text = text ≡ made_text number count
 Writes told (Node port world starts turns) text = IsServed told port world starts turns text
 Writes told (Lab plan) text = IsRun told plan text
 Writes told Help text = text ≡ help_text
@@ -66,7 +57,6 @@ Refuses told (Replay world schedule) status = RefusesScheduled told world schedu
 Refuses told (Leaks world schedule) status = RefusesScheduled told world schedule status
 Refuses told (Weave world files) status = RefusesWeaving told world files status
 Refuses told (Upgrade schedule) status = SaysNoLines First told schedule status
-Refuses told (Make number count) status = RefusesWorld told (codes ":mesh") status
 Refuses told (Node port world starts turns) status = RefusesServed told port world starts status
 Refuses told (Lab plan) status = SaysNoText plan_form told plan status
 Refuses told command status = ⊥
@@ -79,8 +69,6 @@ HasUnread told before now (Leaks world schedule) =
     HasUnreadScheduled told before now world schedule
 HasUnread told before now (Weave world files) = HasUnreadPart told before now world files
 HasUnread told before now (Upgrade schedule) = IsUnread told before now schedule
-HasUnread told before now (Make number count) =
-    (builtin_world (codes ":mesh") ≡ None) × IsUnread told before now (codes ":mesh")
 HasUnread told before now (Node port world starts turns) =
     HasUnreadScheduled told before now world starts
 HasUnread told before now (Lab plan) = IsUnread told before now plan

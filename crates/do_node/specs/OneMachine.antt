@@ -1,11 +1,11 @@
 -- That what a command writes of a network is what one local machine comes to.
-use Rattle.std.specs.Prelude.{◌≡◌, ℕ, ◌⊎◌, List, Option, codes, map}
+use Rattle.std.specs.Prelude.{◌≡◌, ℕ, ◌⊎◌, List, Option, map}
 use Rattle.do_base.specs.declared.outside.shelf.NamedFile.{NamedFile}
 use Rattle.do_cli.specs.declared.command.Command.{Command}
 use Rattle.do_cli.specs.declared.command.Command.TheVariants.{Replay, Make}
 use Rattle.do_generate.specs.Generated.{generated}
 use Rattle.do_given.specs.Parts.{behaviour_of}
-use Rattle.do_given.specs.Reading.{GivesScheduled, GivesWorld}
+use Rattle.do_given.specs.Reading.{GivesScheduled}
 use Rattle.do_given.specs.declared.scheduled.Scheduled.{Scheduled}
 use Rattle.do_machine.specs.World.{opening}
 use Rattle.do_machine.specs.check.Blocks.{blocks}
@@ -14,6 +14,7 @@ use Rattle.do_make.specs.Text.{summary_text}
 use Rattle.do_native.specs.Acts.{native_act}
 use Rattle.do_sched.specs.declared.line.Line.{Line}
 use Rattle.do_trace.specs.Block.{Block}
+use Rattle.do_world.specs.Mesh.{mesh_world}
 use Rattle.do_world.specs.declared.world.World.{World}
 use Rattle.do_network.specs.Net.{net_opening}
 use Rattle.do_network.specs.Wired.{WiredBlock, net_blocks}
@@ -42,14 +43,11 @@ ComesAsOne w lines =
     (net_opening w.table w.nodes) lines)
     ≡ local_blocks w lines
 
--- the text is the summary of what the lines that a number generates come to in one local machine,
--- with what was sent in each
-pub record IsLocalSummary (told : Option (List NamedFile)) (number count : ℕ) (text : List ℕ)
-    : Type 0 where
-  pub world : World
-  pub gives : GivesWorld told (codes ":mesh") world
+-- the text is the summary of what the lines that a number generates come to in one local machine
+-- of the mesh, with what was sent in each
+pub record IsLocalSummary (number count : ℕ) (text : List ℕ) : Type 0 where
   pub wired : List WiredBlock
-  pub same : map (λ b. b.block) wired ≡ local_blocks world (generated count number)
+  pub same : map (λ b. b.block) wired ≡ local_blocks mesh_world (generated count number)
   pub is : text ≡ summary_text (summary_of wired)
 
 -- a text that is so was added where all was done, and else its first bytes or nothing
@@ -63,5 +61,5 @@ abbrev pub AddsAsOne : Option (List NamedFile) → Option (List ℕ) → Option 
 AddsAsOne told old new done (Replay world schedule) =
     Adds (IsLocalReplay told world schedule) old new done
 AddsAsOne told old new done (Make number count) =
-    Adds (IsLocalSummary told number count) old new done
+    Adds (IsLocalSummary number count) old new done
 AddsAsOne told old new done command = Unit {0}

@@ -7,7 +7,9 @@ use Rattle.do_machine.specs.declared.state.State.{State}
 use Rattle.do_machine.specs.run.Run.{Acting}
 use Rattle.do_native.specs.Acts.{native_act}
 use Rattle.do_given.specs.Parts.{behaviour_of}
+use Rattle.do_generate.specs.Generated.{generated}
 use Rattle.do_world.specs.Counter.{counter_world}
+use Rattle.do_world.specs.Mesh.{mesh_world}
 use Rattle.do_world.specs.declared.world.World.{World}
 use Rattle.do_transcript.specs.Transcript.{transcript_from}
 use Rattle.do_lost.specs.Text.{lost_text}
@@ -31,6 +33,10 @@ world_wired w lines =
 unfoldable pub world_summary : World → List Line → List ℕ
 world_summary w lines = summary_text (summary_of
     (net_blocks w.table (native_act (behaviour_of w)) (net_opening w.table w.nodes) lines))
+
+-- the summary of the lines that a number generates, over the network of the mesh
+abbrev pub made_text : ℕ → ℕ → List ℕ
+made_text number count = world_summary mesh_world (generated count number)
 
 -- what nothing can reach after these lines, of classes whose objects act so
 unfoldable pub lost_after : List Class → Acting → State → List Line → List ℕ

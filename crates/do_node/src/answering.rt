@@ -7,7 +7,7 @@ ghost use Rattle.do_node.specs.OneMachine.{AddsAsOne};
 ghost use Rattle.do_node.specs.Running.{Links, Spawns, link_seen, spawner_seen};
 
 use crate::commands::{
-    leaks_given, make_given, replay_given, write_help, write_upgraded, write_version, write_woven,
+    leaks_given, replay_given, write_help, write_made, write_upgraded, write_version, write_woven,
 };
 use do_base::{Shelf, Sink};
 use do_cli::Command;
@@ -70,7 +70,7 @@ pub fn obey<S: Runnable + Traced + Hosted<Acts = Native>, H: Shelf, K: Sink, L: 
         }
         Command::Upgrade { schedule } => answer_of(write_upgraded(alloc, &schedule, shelf, out)),
         Command::Make { number, count } => {
-            answer_of(make_given::<S, H, K>(alloc, number, count, shelf, out))
+            answer_of(write_made::<S, K>(alloc, number, count, out))
         }
         Command::Node {
             port,

@@ -1,18 +1,20 @@
 //! The commands that write a text: what each reads, and what it writes.
-ghost use Rattle.std.specs.Prelude.{◌≡◌, ◌≤◌, ◌⊎◌, OnOk, IfErr, IfOk, IsOk, codes, length};
+ghost use Rattle.std.specs.Prelude.{◌≡◌, ◌≤◌, ◌⊎◌, OnOk, IfErr, IsOk, length};
 ghost use Rattle.do_base.specs.outside.Bytes.{with_more, HasWritten};
 ghost use Rattle.do_base.specs.outside.Causes.{Rose};
 ghost use Rattle.do_cli.specs.declared.command.Command.TheVariants.{Replay, Leaks, Weave};
-ghost use Rattle.do_cli.specs.declared.command.Command.TheVariants.{Upgrade, Make, Help, Version};
+ghost use Rattle.do_cli.specs.declared.command.Command.TheVariants.{Upgrade};
 ghost use Rattle.do_cli.specs.Help.{help_text, version_text};
 ghost use Rattle.do_node.specs.Call.{Obeys};
 ghost use Rattle.do_given.specs.Reading.{Stops};
 ghost use Rattle.do_generate.specs.Generated.{generated};
+ghost use Rattle.do_world.specs.Mesh.{mesh_world};
 ghost use Rattle.do_world.specs.Sound.{IsSound};
 ghost use Rattle.do_agreement.specs.HasWires.{HasWires};
 ghost use Rattle.do_replay.specs.Replayed.{WritesWithWires};
 ghost use Rattle.do_node.specs.OneMachine.{AddsAsOne, ComesAsOne};
-ghost use Rattle.do_node.specs.Replaying.{world_lost, world_summary, world_transcript, world_wired};
+ghost use Rattle.do_node.specs.Replaying.{made_text, world_lost, world_summary, world_transcript};
+ghost use Rattle.do_node.specs.Replaying.{world_wired};
 
 use crate::leaking::world_lost;
 use crate::making::summary_text;
@@ -21,13 +23,13 @@ use crate::weaving::woven_given;
 use do_base::{Shelf, Sink, Text, Word, write_all};
 use do_cli::{Words, push_help, push_version};
 use do_generate::generate;
-use do_given::{Scheduled, Status, scheduled_given, upgrade_given, world_given};
+use do_given::{Scheduled, Status, scheduled_given, upgrade_given};
 use do_native::Native;
 use do_net::Hosted;
 use do_sched::Lines;
 use do_traced::Traced;
-use do_world::World;
-use std::alloc::{AllocError, Global};
+use do_world::{World, mesh};
+use std::alloc::Global;
 
 /// Writes the transcript of a schedule over the network of a world.
 fn write_replay<S: Hosted<Acts = Native>, K: Sink>(
@@ -199,62 +201,26 @@ fn write_summary<S: Hosted<Acts = Native>, K: Sink>(
     write_text(&text, out)
 }
 
-/// Generates the schedule of a number, replays it over a world, and writes the summary.
-fn write_made<S: Hosted<Acts = Native>, K: Sink>(
+/// Replays the schedule that a number generates over the network of `:mesh`, and writes its summary.
+pub fn write_made<S: Hosted<Acts = Native>, K: Sink>(
     alloc: Global,
-    world: World,
     number: u64,
     count: u64,
     out: &mut K,
 ) -> Result<(), Status>
-    requires { IsSound world }
-    ensures ok { OnOk result (K.written out.new ≡ with_more (K.written out.old)
-        (world_summary world (generated count number))) }
-    ensures prefix { HasWritten (K.written out.old) (K.written out.new)
-        (world_summary world (generated count number)) }
-    ensures one_machine { OnOk result (ComesAsOne world (generated count number)) }
+    ensures ok { OnOk result
+        (K.written out.new ≡ with_more (K.written out.old) (made_text number count)) }
+    ensures prefix { HasWritten (K.written out.old) (K.written out.new) (made_text number count) }
+    ensures one_machine { OnOk result (ComesAsOne mesh_world (generated count number)) }
     ensures one_machine_first { (K.written out.new ≡ K.written out.old)
-        ⊎ ComesAsOne world (generated count number) }
+        ⊎ ComesAsOne mesh_world (generated count number) }
     ensures stopped { IfErr result
         (Stops ⊥ (Rose (K.faults out.old) (K.faults out.new)) (λ _. ⊥)) }
     ensures later { K.faults out.old ≤ K.faults out.new }
 {
+    let world = mesh(alloc)?;
     let lines = generate(alloc, number, count)?;
     write_summary::<S, K>(alloc, world, lines, out)
-}
-
-/// The name of the world over which generated schedules are replayed.
-fn mesh_name(alloc: Global) -> Result<Text, AllocError>
-    ensures { IfOk result (λ name. name ≡ codes ":mesh") }
-{
-    Text::from_slice(alloc, b":mesh")
-}
-
-/// Replays the schedule that a number generates, and writes the summary.
-pub fn make_given<S: Hosted<Acts = Native>, H: Shelf, K: Sink>(
-    alloc: Global,
-    number: u64,
-    count: u64,
-    shelf: &mut H,
-    out: &mut K,
-) -> Result<(), Status>
-    ensures obeys { Obeys (H.files shelf.old) (Make number count)
-        (record { before = H.faults shelf.old; now = H.faults shelf.new })
-        (K.written out.old) (K.written out.new)
-        (record { before = K.faults out.old; now = K.faults out.new }) result }
-    ensures one_machine { AddsAsOne (H.files shelf.old) (K.written out.old) (K.written out.new)
-        (IsOk result) (Make number count) }
-    ensures same { H.files shelf.new ≡ H.files shelf.old }
-    ensures shelf_faults { H.faults shelf.old ≤ H.faults shelf.new }
-    ensures sink_faults { K.faults out.old ≤ K.faults out.new }
-{
-    let Ok(name) = mesh_name(alloc) else {
-        return Err(Status::Memory);
-    };
-    match world_given(alloc, &name, shelf) {
-        Ok(world) => write_made::<S, K>(alloc, world, number, count, out),
-        Err(status) => Err(status),
-    }
 }
 
 /// Writes the text of `--help`.

@@ -1,8 +1,9 @@
 use Rattle.std.proofs.Common.{refl}
 use Rattle.do_cli.specs.Help.{help_text, version_text}
-use Rattle.do_cli.specs.declared.command.Command.TheVariants.{Help, Version}
+use Rattle.do_cli.specs.declared.command.Command.TheVariants.{Help, Make, Version}
+use Rattle.do_node.specs.Replaying.{made_text}
 use Rattle.do_node.specs.Running.{link_seen, spawner_seen}
-use Rattle.do_node.proofs.AsOneMachine.{answered_so}
+use Rattle.do_node.proofs.AsOneMachine.{answered_so, summary_adds}
 use Rattle.do_node.proofs.NodesCome.{node_comes, plan_comes}
 use Rattle.do_node.proofs.Obeying.{obeys_writing}
 use Rattle.do_node.proofs.TextsCome.{text_comes}
@@ -31,7 +32,9 @@ returns-in-Upgrade-clause-comes g c = rw c.in-Upgrade.is (rw c.answer_of-in-Upgr
 -- so does a summary
 pub returns-in-Make-clause-comes : goal.returns-in-Make-clause-comes
 returns-in-Make-clause-comes g c = rw c.in-Make.is (rw c.answer_of-in-Make.ensures
-    (text_comes _ _ _ _ _ _ _ c.make_given.ensures.obeys))
+    (text_comes _ _ _ _ _ _ _ (obeys_writing _ (Make c.in-Make.number c.in-Make.count) _ _ _ _
+    (made_text c.in-Make.number c.in-Make.count) _ refl (λ files st is none. none)
+    c.write_made.ensures.ok c.write_made.ensures.prefix c.write_made.ensures.stopped)))
 
 -- a node that is served comes to what its serving says
 pub returns-in-Node-clause-comes : goal.returns-in-Node-clause-comes
@@ -71,7 +74,15 @@ returns-in-Replay-clause-one_machine g c = rw c.in-Replay.is (rw c.answer_of.ens
 -- so is what a summary counts
 pub returns-in-Make-clause-one_machine : goal.returns-in-Make-clause-one_machine
 returns-in-Make-clause-one_machine g c = rw c.in-Make.is (rw c.answer_of-in-Make.ensures
-    (answered_so _ _ _ _ _ _ _ _ c.make_given.ensures.obeys c.make_given.ensures.one_machine))
+    (answered_so _ _ (record { before = 0; now = 0 }) (record {
+      before = g.K.Sink.faults c.args.out.now;
+      now = g.K.Sink.faults c.write_made.new.out;
+    }) _ _ _ _
+    (obeys_writing (g.H.Shelf.files c.args.shelf.now) (Make c.in-Make.number c.in-Make.count) _ _ _
+    _ (made_text c.in-Make.number c.in-Make.count) _ refl (λ files st is none. none)
+    c.write_made.ensures.ok c.write_made.ensures.prefix c.write_made.ensures.stopped)
+    (summary_adds c.in-Make.number c.in-Make.count _ _ _ c.write_made.ensures.one_machine
+    c.write_made.ensures.ok c.write_made.ensures.prefix c.write_made.ensures.one_machine_first)))
 
 -- of what nothing can reach no such thing is said
 pub returns-in-Leaks-clause-one_machine : goal.returns-in-Leaks-clause-one_machine
