@@ -1,11 +1,14 @@
 -- What is woven is an order of the records' inputs, and where they contradict there is none.
 use Rattle.std.proofs.Common.{◌≡◌, ◌++◌, ℕ, List, [], ◌∷◌, Option, Ok, Err, inl, inr, subst}
 use Rattle.do_base.specs.declared.outside.shelf.NamedFile.{NamedFile}
+use Rattle.do_exchanged.proofs.Exchange.{exchanged_done}
+use Rattle.do_given.specs.Parts.{behaviour_of}
 use Rattle.do_given.specs.Reading.{RefusesWorld}
 use Rattle.do_given.specs.declared.status.Status.{Status}
 use Rattle.do_given.specs.declared.status.Status.TheVariants.{Contradiction}
 use Rattle.do_machine.specs.World.{opening}
 use Rattle.do_machine.specs.declared.state.Seat.{Seat}
+use Rattle.do_native.specs.Acts.{native_act}
 use Rattle.do_orders.proofs.InputsCommute.{inputs_commute}
 use Rattle.do_record.specs.declared.parts.Record.{Record}
 use Rattle.do_rewoven.proofs.RecordsBehind.{read_sound}
@@ -72,15 +75,19 @@ no_order told word names index line (inr (inr h)) =
     let read = files_read told w.nodes names [] h.records h.given.say in
     let sound = read_sound w.nodes read.0 h.records read.1 in
     let fault = h.contradicts.fault in
+    let none : CanBeDone R (opening w.table w.nodes) h.records → ⊥ = λ order.
+    fault_stands R h.records w.nodes (inputs_commute R w.nodes) (blocks_in h.records)
+    (opening w.table w.nodes) (threads_of h.records) fault IsReached.at_opening
+    (threads_apart h.records sound.apart)
+    (fault_over w h.records fault h.contradicts.is_fault) order in
     record {
       world = w;
       records = h.records;
       given = h.given;
-      none = λ order.
-          fault_stands R h.records w.nodes (inputs_commute R w.nodes) (blocks_in h.records)
-          (opening w.table w.nodes) (threads_of h.records) fault IsReached.at_opening
-          (threads_apart h.records sound.apart)
-          (fault_over w h.records fault h.contradicts.is_fault) order;
+      none = none;
+      altered = λ x. none (subst (CanBeDone R (opening w.table w.nodes)) x.are
+          (exchanged_done w.table (native_act (behaviour_of w)) w.nodes x.opens x.keeps x.runs
+          x.exchanged));
     }
 
 -- what is woven is an order of all inputs

@@ -127,7 +127,7 @@ pub fn run<H: Shelf, K: Sink, L: Link, P: Spawner>(
         → GivesBack (H.files shelf.old) world records text }
 
     // That `weave` finds an order of the records' inputs, and a contradiction exactly where none
-    // does what the records say.
+    // does what the records say. What nodes recorded that exchanged their bytes has an order.
     ensures ordered { (world : List ℕ) (records : List (List ℕ)) (text : List ℕ)
         → Writes (H.files shelf.old) (Weave world records) text
         → HaveOrder (H.files shelf.old) world records }
