@@ -18,11 +18,11 @@ if ! python3 -c 'import sys; sys.exit(sys.version_info < (3, 11))' 2> /dev/null;
     exit 0
 fi
 
-# The newest of these files that can be run.
+# The newest of these files.
 newest() {
     found=
     for file in "$@"; do
-        [ -f "$file" ] && [ -x "$file" ] || continue
+        [ -f "$file" ] || continue
         if [ -z "$found" ] || [ "$file" -nt "$found" ]; then found=$file; fi
     done
     echo "$found"
@@ -33,11 +33,18 @@ if [ -z "$program" ]; then
     program=$(newest "$PWD/../../crates/nukwashe/out/nukwashe" \
         "$(dirname "$kit")"/rattle-kept/proof-nukwashe-*/0)
 fi
+folder=$(mktemp -d) || exit 0
+trap 'rm -rf "$folder"' EXIT
 if [ -n "$program" ]; then
     tell "with the program $program"
+    # What the toolchain keeps cannot be started where it lies.
+    if [ ! -x "$program" ]; then
+        cp "$program" "$folder/nukwashe" && chmod +x "$folder/nukwashe"
+        program=$folder/nukwashe
+    fi
     export NUKWASHE="$program"
 else
     tell "without the program, which was not built: nothing is tried beside it"
 fi
 export PYTHONDONTWRITEBYTECODE=1
-exec python3 -m tests
+python3 -m tests

@@ -17,7 +17,7 @@ class Package(unittest.TestCase):
         root = self.root / "usr"
         done = subprocess.run(
             list(map(str, words)), cwd=folder, capture_output=True, check=False,
-            timeout=PATIENCE, text=True,
+            timeout=4 * PATIENCE, text=True,
             env={**os.environ, "PATH": f"{root}/bin:{os.environ['PATH']}",
                  "PYTHONPATH": str(root / "lib/python3/dist-packages")})
         self.assertEqual(done.returncode, 0, done.stderr)
