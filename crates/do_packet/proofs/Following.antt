@@ -1,7 +1,7 @@
 -- What the walk over the copies keeps, and what it ends with.
 use Rattle.std.proofs.Common.{◌≡◌, ℕ, zero, suc, ◌+◌, ◌≤◌, ◌<◌, nat_lt, Bool, true, false, List, []}
 use Rattle.std.proofs.Common.{◌∷◌, ◌++◌, map, length, take, sum_by, Some, Ok, Err}
-use Rattle.std.proofs.Common.{refl, sym, ap, ◌∙◌, subst, arith, get_or, add-one, min}
+use Rattle.std.proofs.Common.{refl, sym, ap, ◌∙◌, subst, arith, get_or, add-one, add-zero, min}
 use Rattle.std.specs.List.{flat_map, zip}
 use Rattle.std.proofs.lemmas.Grind.{common_steps}
 use Rattle.std.proofs.lemmas.List.Folds.{fold-map}
@@ -19,8 +19,8 @@ use Rattle.do_class.specs.declared.packet.Name.{Name}
 use Rattle.do_packet.specs.Copies.{Placed, copied_at, copies_of, most_copies, named_at, names_with}
 use Rattle.do_packet.specs.Copies.{slot_values, slots_at}
 use Rattle.do_packet.specs.Met.{met}
-use Rattle.do_packet.specs.Packing.{class_at, copied_of, message_weight, most_weight, names_to}
-use Rattle.do_packet.specs.Packing.{packed, packed_with, packet_with, part_at}
+use Rattle.do_packet.specs.Packing.{capped, class_at, copied_of, message_weight, most_weight}
+use Rattle.do_packet.specs.Packing.{names_to, packed, packed_with, packet_with, part_at}
 use Rattle.do_packet.specs.Seen.{Sender}
 use Rattle.do_packet.specs.walk.Following.{Followed}
 use Rattle.do_packet.specs.walk.Walking.{IsPrefix, Walked}
@@ -70,19 +70,26 @@ lt_true a b h = grind (arith, common_steps)
 pub lt_false : (a b : ℕ) → b ≤ a → nat_lt a b ≡ false
 lt_false a b h = grind (arith, common_steps)
 
+-- a weight of which more than the limit is told is over it
+over_limit : (w : ℕ) → most_weight < capped w → nat_lt most_weight w ≡ true
+over_limit w h = grind (arith, common_steps)
+
+-- a weight of which no more than the limit is told is not over it
+within_limit : (w : ℕ) → capped w ≤ most_weight → nat_lt most_weight w ≡ false
+within_limit w h = grind (arith, common_steps)
+
 module _ (s : Sender) (values : List Placed) where
   -- before any copy is gone through, the values are packed
   pub followed_start : (walk : Walk) (ps : List Part) (w : ℕ) →
       Walked (flat_map (copied_at s) values) (flat_map (named_at s) values)
       (λ C N. map (part_at s C N) values) (record { copies = []; names = [] }) walk ps →
-      w ≡ sum_by (λ p. weight_of p.1) values → w ≤ 4294967312 → Followed s values 0 walk ps [] w
-  followed_start walk ps w walked e small = record {
+      w ≡ capped (sum_by (λ p. weight_of p.1) values) → Followed s values 0 walk ps [] w
+  followed_start walk ps w walked e = record {
     reached = reached_start s values walk.copies walk.names walked.copies walked.names;
     parts_stand = walked.stands;
     copied_stand = λ C N p q. refl;
-    weighed = omega (arith, e);
+    weighed = e ∙ ap capped (sym (add-zero (sum_by (λ p. weight_of p.1) values)));
     few = omega arith;
-    light = omega arith;
   }
 
   -- one more copy is packed
@@ -91,9 +98,9 @@ module _ (s : Sender) (values : List Placed) where
       length old.copies ≤ most_copies → take (k + 1) old.copies ≡ take k old.copies ++ o ∷ [] →
       Walked (flat_map (copied_at s) (slots_at s o)) (flat_map (named_at s) (slots_at s o))
       (λ C N. copied_of s C N o) old new c →
-      more ≡ sum_by weight_of (slot_values s o) → more < 4294967296 →
-      Followed s values (k + 1) new ps (cs ++ c ∷ []) (w + (16 + more))
-  followed_next k old new ps cs c w more o f h few e walked m light =
+      more ≡ capped (16 + sum_by weight_of (slot_values s o)) →
+      Followed s values (k + 1) new ps (cs ++ c ∷ []) (capped (w + more))
+  followed_next k old new ps cs c w more o f h few e walked m =
       let pc : IsPrefix old.copies new.copies =
       subst (λ (l : List ObjectName). IsPrefix old.copies l) (sym walked.copies)
       (prefix_met old.copies (flat_map (copied_at s) (slots_at s o))) in
@@ -117,7 +124,6 @@ module _ (s : Sender) (values : List Placed) where
             rw front (grind (arith, common_steps, a, b));
         weighed = rw front (grind (arith, common_steps, f.weighed, m));
         few = omega arith;
-        light = omega (arith, f.light);
       }
 
   module _ (to token k : ℕ) (walk : Walk) (ps : List Part) (cs : List Copied) (w : ℕ)
@@ -140,8 +146,8 @@ module _ (s : Sender) (values : List Placed) where
       all = grind (arith, common_steps)
 
       -- what was summed is the weight of the message
-      weighed : w ≡ message_weight s values walk.copies
-      weighed = f.weighed ∙ ap (message_weight s values) all
+      weighed : w ≡ capped (message_weight s values walk.copies)
+      weighed = f.weighed ∙ ap (λ os. capped (message_weight s values os)) all
 
       -- with all copies gone through, the message is the one with those that were met
       packed_is : packed s to token values ≡ packed_with s to token values walk.copies
@@ -153,9 +159,9 @@ module _ (s : Sender) (values : List Placed) where
       -- where it weighs more than the limit, it is refused
       pub packed_heavy : most_weight < w → Err (TooLarge w 2097152) ≡ packed s to token values
       packed_heavy heavy =
+          let over = over_limit _ (subst (λ n. most_weight < n) weighed heavy) in
           let d : packed_with s to token values walk.copies ≡ Err (TooLarge w 2097152) =
-          rw (lt_false most_copies (length walk.copies) few, ← weighed, lt_true most_weight w heavy)
-          refl in
+          rw (lt_false most_copies (length walk.copies) few, over, ← weighed) refl in
           sym (packed_is ∙ d)
 
       -- else it is what was made
@@ -175,8 +181,7 @@ module _ (s : Sender) (values : List Placed) where
           let d : packed_with s to token values walk.copies ≡ Ok packet =
           rw (
             lt_false most_copies (length walk.copies) few,
-            ← weighed,
-            lt_false most_weight w light,
+            within_limit _ (subst (λ n. n ≤ most_weight) weighed light),
             ← named,
           ) (ap Ok (sym p)) in
           sym (packed_is ∙ d)

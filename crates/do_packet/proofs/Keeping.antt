@@ -47,7 +47,7 @@ filter_le p (o ∷ os) = go (p o) (filter_le p os)
     go false h = omega arith
 
 -- the objects met are no more than those that were there and those that were met
-met_le : (os more : Listed ObjectName) → length (met os more) ≤ length os + length more
+pub met_le : (os more : Listed ObjectName) → length (met os more) ≤ length os + length more
 met_le os [] = omega arith
 met_le os (o ∷ more) =
     let one = go (has_object os o) in
@@ -58,11 +58,11 @@ met_le os (o ∷ more) =
     go false = omega (arith, length-append os (o ∷ []))
 
 -- an object weighs 48
-weight_of-Obj : (o : ObjectName) → weight_of (Obj o) ≡ 48
+pub weight_of-Obj : (o : ObjectName) → weight_of (Obj o) ≡ 48
 weight_of-Obj o = search (rules, the_lemmas)
 
 -- a list weighs at least what its items weigh
-weight_of-List : (vs : Listed Value) → weight_of (List vs) ≡ 16 + sum_by weight_of vs
+pub weight_of-List : (vs : Listed Value) → weight_of (List vs) ≡ 16 + sum_by weight_of vs
 weight_of-List vs =
     let e : weight_of (List vs) ≡ 16 + sum (map weight_of vs) = search (rules, the_lemmas) in
     e ∙ ap (λ n. 16 + n) (sum-map weight_of vs)
@@ -113,7 +113,7 @@ module _ (s : Sender) where
       )
 
   -- values with places weigh no more than the values
-  zip_weighs : (ms : Listed Bool) (vs : Listed Value) →
+  pub zip_weighs : (ms : Listed Bool) (vs : Listed Value) →
       sum_by (λ p. weight_of p.1) (zip ms vs) ≤ sum_by weight_of vs
   zip_weighs [] vs = omega arith
   zip_weighs (m ∷ ms) [] = omega arith

@@ -3,14 +3,15 @@ mod Rounds
 mod Copying
 mod Once
 mod Named
-mod Values
+pub mod Values
 mod Walks
 mod Reaching
 mod Following
 mod Places
 mod Covers
+mod Capped
 mod Classes
-mod Packed
-mod Meanings
+pub mod Packed
+pub mod Meanings
 mod RoundTrip
 pub mod Keeping

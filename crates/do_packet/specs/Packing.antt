@@ -1,6 +1,6 @@
 -- A message, packed.
-use Rattle.std.specs.Prelude.{Err, List, Ok, Result, [], fold, if◌then◌else◌, length, map, nat_lt}
-use Rattle.std.specs.Prelude.{suc, sum_by, unwrap_or, ℕ, ◌+◌, ◌++◌, ◌==◌, ◌∷◌}
+use Rattle.std.specs.Prelude.{Err, List, Ok, Result, [], fold, if◌then◌else◌, length, map, min}
+use Rattle.std.specs.Prelude.{nat_lt, suc, sum_by, unwrap_or, ℕ, ◌+◌, ◌++◌, ◌==◌, ◌∷◌}
 use Rattle.do_base.specs.names.Names.{ObjectName}
 use Rattle.do_base.specs.values.Values.{weight_of}
 use Rattle.do_class.specs.Table.{class_id}
@@ -71,12 +71,16 @@ packet_with s to token values copies names = record {
   values = map (part_at s copies names) values;
 }
 
+-- what 64 bits can tell of a number: the number, or 2^64 - 1 where it is more
+abbrev pub capped : ℕ → ℕ
+capped n = min 18446744073709551615 n
+
 -- the message with these copies, or that they are too many, or else that it weighs too much
 abbrev pub packed_with : Sender → ℕ → ℕ → List Placed → List ObjectName → Result Packet PackFault
 packed_with s to token values copies =
     if nat_lt most_copies (length copies) then Err (TooLarge (suc most_copies) most_copies)
     else (if nat_lt most_weight (message_weight s values copies)
-    then Err (TooLarge (message_weight s values copies) most_weight)
+    then Err (TooLarge (capped (message_weight s values copies)) most_weight)
     else Ok (packet_with s to token values copies (names_with s values copies)))
 
 -- values as a message to a node, from the next token on

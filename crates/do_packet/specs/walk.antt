@@ -1,4 +1,3 @@
 pub mod Places
-pub mod Sees
 pub mod Walking
 pub mod Following

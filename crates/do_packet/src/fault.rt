@@ -6,7 +6,7 @@ use std::fmt;
 #[derive(Debug, PartialEq, Eq, Drop)]
 pub enum PackFault {
     /// A message has at most 4,096 copies and weighs at most 2,097,152: how much there is, and the
-    /// limit. Copies are counted up to the first that is too many.
+    /// limit. Copies are counted up to the first that is too many, and a weight up to 2^64 - 1.
     TooLarge { count: u64, limit: u64 },
     /// Memory ran out.
     Memory,

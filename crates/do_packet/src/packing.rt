@@ -5,13 +5,11 @@ mod places;
 mod walk;
 mod weights;
 
-ghost use Rattle.std.specs.Prelude.{◌≡◌, ◌<◌, ◌≤◌, ◌^◌, ◌⊎◌, Err, IfOk, length, sum_by};
+ghost use Rattle.std.specs.Prelude.{◌≡◌, ◌≤◌, ◌^◌, ◌⊎◌, Err, IfOk, length};
 ghost use Rattle.std.specs.List.{zip};
-ghost use Rattle.do_base.specs.values.Values.{weight_of};
 ghost use Rattle.do_packet.specs.Limits.{KeepsLimits};
 ghost use Rattle.do_packet.specs.Packing.{packed};
 ghost use Rattle.do_packet.specs.Seen.{sender};
-ghost use Rattle.do_packet.specs.walk.Sees.{AreLight, IsTabled};
 ghost use Rattle.do_packet.specs.declared.fault.PackFault.TheVariants.{Memory};
 
 use crate::fault::PackFault;
@@ -21,7 +19,7 @@ use do_class::{ClassTable, Packet};
 use naming::names_of;
 use std::alloc::Global;
 use walk::Walk;
-use weights::{slots_weight, sum_of_weights};
+use weights::{copy_weight, plus, sum_of_weights};
 
 const MOST_COPIES: usize = 4096;
 
@@ -32,7 +30,8 @@ const MOST_WEIGHT: u64 = 2_097_152;
 ///
 /// `TooLarge` comes exactly where the message would have more than 4,096 copies, with 4,097 and
 /// 4,096, or else weighs more than 2,097,152, with its weight and that limit; and `Memory` where
-/// memory ran out. Nothing that was given changes, and a message that is refused uses no token.
+/// memory ran out. Of a weight past 2^64 - 1 that number is told. Nothing that was given changes,
+/// and a message that is refused uses no token.
 /// The time grows with the message and, for each object that it copies or names, with the logarithm
 /// of how many there are, whatever these are called.
 pub fn pack<V: View>(
@@ -45,10 +44,7 @@ pub fn pack<V: View>(
     values: &Values,
     next_token: u64,
 ) -> Result<Packet, PackFault>
-    requires classes { IsTabled table.now (V.sees view.now) }
-    requires slots { AreLight (V.sees view.now) }
     requires places { length copy.now ≡ length values.now }
-    requires light { sum_by weight_of values.now < 2 ^ 32 }
     requires token { next_token ≤ 2 ^ 62 }
     ensures value { (result ≡ Err Memory) ⊎ (result ≡
         packed (sender table.now from (V.sees view.now)) to next_token (zip copy.now values.now)) }
@@ -70,7 +66,7 @@ pub fn pack<V: View>(
         }
         let oid = found[k];
         copies.push(walk.copied(alloc, table, view, from, oid)?)?;
-        weight += 16 + slots_weight(table, view, from, oid);
+        weight = plus(weight, copy_weight(table, view, from, oid));
         k += 1;
     }
     if weight > MOST_WEIGHT {

@@ -2,7 +2,6 @@ mod Arguments
 mod Deliveries
 mod Exports
 mod HeldUp
-mod Known
 mod Left
 mod Naming
 mod Nested
@@ -15,4 +14,3 @@ pub mod Sets
 mod Sharing
 mod Striking
 mod Taking
-mod Weights

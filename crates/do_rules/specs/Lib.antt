@@ -4,7 +4,6 @@ pub mod Exporting
 pub mod Naming
 pub mod HeldUp
 pub mod Answering
-pub mod Packable
 pub mod Ruling
 pub mod Delivery
 pub mod Writing

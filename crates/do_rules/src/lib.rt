@@ -33,7 +33,6 @@ pub use law::{deliveries_are_made, rulings_are_arrivals};
 pub use lists::{item_at, put_at};
 pub use node::methods::{Found, method_for};
 pub use node::{can_take, has_object, is_open, own};
-pub use packing::weights::{are_light, left_behind};
 pub use run::answers::exc_name;
 pub use run::delivery::Delivery;
 pub use run::fresh::{blank, fresh};

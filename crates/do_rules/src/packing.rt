@@ -4,9 +4,7 @@ ghost use Rattle.std.specs.List.{zip};
 ghost use Rattle.do_machine.specs.Packing.{packed_for};
 ghost use Rattle.do_machine.specs.take.Receipt.{arrived, is_entered, is_reachable};
 
-pub(crate) mod limits;
 mod view;
-pub(crate) mod weights;
 
 use crate::basis::Basis;
 use do_base::{Flags, NodeId, Values};
@@ -14,7 +12,6 @@ use do_class::{Name, Packet};
 use do_packet::{PackFault, Unpacked, pack, unpack};
 use std::alloc::AllocError;
 use view::Packer;
-use weights::are_light;
 
 /// The last number of a serial or a token from which a message may count on.
 const MOST_NUMBER: u64 = 4_611_686_018_427_387_904;
@@ -53,7 +50,7 @@ fn packed<N: Basis>(basis: &N, to: NodeId, pairs: &Marked) -> Result<Option<Pack
 {
     let (marks, values) = (&pairs.marks, &pairs.values);
     let token = basis.next_token();
-    if !basis.is_packable() || !are_light(values) || token > MOST_NUMBER {
+    if token > MOST_NUMBER {
         return Err(AllocError);
     }
     let alloc = values.allocator();
@@ -68,8 +65,7 @@ fn packed<N: Basis>(basis: &N, to: NodeId, pairs: &Marked) -> Result<Option<Pack
 
 /// A node's values as a message to a peer, if they are not too large.
 ///
-/// An error is want of memory, or that the node keeps more than packing can count: a value of
-/// 2^32 and more, an object of no class, or a token past 2^62.
+/// An error is want of memory, or a token past 2^62.
 pub(crate) fn packed_for<N: Basis>(
     basis: &N,
     to: NodeId,

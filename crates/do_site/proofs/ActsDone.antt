@@ -23,7 +23,6 @@ use Rattle.do_machine.specs.declared.state.Effect.{Effect}
 use Rattle.do_network.specs.Site.{site_move}
 use Rattle.do_site.specs.declared.work.Work.{Work}
 use Rattle.do_site.specs.Kept.{IsKept, StaysBut}
-use Rattle.do_site.specs.Packable.{IsPackable}
 use Rattle.do_site.specs.Running.{IsRunOf, is_step}
 
 module _ (table : List Class) (p : Own) (r : RunContext) (run : IsRunOf table p r)
@@ -78,7 +77,6 @@ same_kept table old new same stays k =
       tidy = subst IsTidy (sym own) k.tidy;
       apart = subst (λ (p : Own). is_open p.node p.node.port ≡ false) (sym own) k.apart;
       classes = stays.classes ∙ k.classes;
-      packs = λ on. subst (IsPackable table) (sym own) (k.packs (sym stays.packable ∙ on));
     }
 
 -- a move of the same is that move

@@ -1,6 +1,6 @@
 -- What a run does that uses an answer, once the answer was taken.
 use Rattle.std.proofs.Common.{◌≡◌, ℕ, List, [], ◌∷◌, None, Some, refl, ap}
-use Rattle.std.proofs.Common.{arith, length, sym, ◌∙◌, subst, true}
+use Rattle.std.proofs.Common.{arith, length, sym, ◌∙◌, subst}
 use Rattle.do_base.specs.declared.events.exception.Exc.{Exc}
 use Rattle.do_base.specs.declared.values.value.Value.{Value}
 use Rattle.do_class.specs.Class.{Class}
@@ -32,7 +32,7 @@ use Rattle.do_site.proofs.ActsDone.{same_moves, tidy_alone}
 use Rattle.do_site.proofs.PlansKeep.{enough_room}
 use Rattle.do_site.specs.Plans.{IsEnough}
 use Rattle.do_site.specs.Room.{HasPlace}
-use Rattle.do_site.specs.Running.{IsOver, IsRunOf, makes_light, next_of, raised_in}
+use Rattle.do_site.specs.Running.{IsOver, IsRunOf, next_of, raised_in}
 use Rattle.do_site.specs.Steps.{Moves}
 use Rattle.do_site.specs.Stored.{top_answered}
 use Rattle.do_site.specs.Taken.{IsTaken, own_taken, taken}
@@ -191,18 +191,6 @@ taken_can n (Says value pc) o h = absurd o
 taken_can n (Asks peer request into outs pc) o h = absurd o
 taken_can n (Begins i into outs pc) o h = absurd o
 taken_can n (Tells peer m into pc) o h = absurd o
-
--- such a plan makes nothing
-pub over_light : (table : List Class) (plan : Plan) → IsOver plan → makes_light table plan ≡ true
-over_light table (Goes into value pc) o = refl
-over_light table (Uses value outs) o = refl
-over_light table (Delivers d) o = refl
-over_light table (Makes class slots into pc) o = absurd o
-over_light table (Vends root pc) o = absurd o
-over_light table (Says value pc) o = absurd o
-over_light table (Asks peer request into outs pc) o = absurd o
-over_light table (Begins i into outs pc) o = absurd o
-over_light table (Tells peer m into pc) o = absurd o
 
 module _ (core : Core) (part : Owned) (is : IsTaken core.part part) where
   -- the site with that part

@@ -2,8 +2,7 @@
 use Rattle.std.proofs.Common.{◌≡◌, ℕ, ◌+◌, ◌≤◌, Bool, true, false, cond, List, [], ◌∷◌, length}
 use Rattle.std.proofs.Common.{refl, ap, sym, subst, ◌∙◌, arith}
 use Rattle.std.specs.Prelude.{filter, not, ◌==◌, ◌||◌}
-use Rattle.std.specs.List.{list_all, list_any}
-use Rattle.do_class.specs.Class.{Class}
+use Rattle.std.specs.List.{list_any}
 use Rattle.do_machine.specs.declared.node.Node.{Node}
 use Rattle.do_machine.specs.declared.node.Wanted.{Wanted}
 use Rattle.do_machine.specs.declared.state.Effect.{Effect}
@@ -14,9 +13,7 @@ use Rattle.do_machine.specs.lend.Asking.{settling}
 use Rattle.do_network.specs.Own.{Own}
 use Rattle.do_network.specs.Site.{site_move}
 use Rattle.do_effects.specs.Doing.{Doing, cleared, does, moved}
-use Rattle.do_site.proofs.PackableSteps.{packable_after}
 use Rattle.do_site.proofs.StepsDone.{then_left}
-use Rattle.do_site.specs.Packable.{IsPackable, is_kept_at}
 
 -- whichever of two effects comes, it leaves the node
 pub either_node : (n : Node) (b : Bool) (e d : Effect) → e.node ≡ n → d.node ≡ n →
@@ -94,12 +91,6 @@ module _ (d mid b c : Doing) (e : Effect) (same : mid ≡ d) (did : b ≡ does m
   -- no end leads to itself
   pub apart_then : is_open e.node e.node.port ≡ false → is_open c.own.node c.own.node.port ≡ false
   apart_then h = subst (λ (p : Own). is_open p.node p.node.port ≡ false) (sym own_then) h
-
-  -- it is packable if what it stores is
-  pub packable_then : (table : List Class) → IsPackable table d.own →
-      list_all (is_kept_at table) e.node.heap ≡ true → IsPackable table c.own
-  packable_then table h heap =
-      subst (IsPackable table) (sym own_then) (packable_after table d.own e heap h.known)
 
 -- so much room it keeps though a line was shown before
 pub parted_room_shown : (peer : ℕ) (n m : Node) (asked room shown after : ℕ) → m ≡ parted peer n →

@@ -6,14 +6,11 @@ pub mod DistinctPorts
 pub mod EffectsTold
 pub mod FetchedFrames
 pub mod FramesTaken
-pub mod HeapsOfEffects
 pub mod InputsHandled
 pub mod KindsRead
 pub mod KeptSteps
 pub mod ListedSites
 pub mod OpenedSites
-pub mod PackableNodes
-pub mod PackableSteps
 pub mod PlansAlike
 pub mod PlansDone
 pub mod PlansKeep

@@ -1,6 +1,6 @@
 -- What a site that opens keeps true.
 use Rattle.std.proofs.Common.{◌≡◌, ℕ, Bool, true, false, cond, List, [], ◌∷◌, refl, sym, ap, ◌∙◌}
-use Rattle.std.proofs.Common.{Some, None, ◌&&◌, ◌||◌, ◌+◌, not, arith}
+use Rattle.std.proofs.Common.{None, ◌&&◌, ◌||◌, ◌+◌, not, arith}
 use Rattle.std.proofs.lemmas.Bool.Decides.{nat_tests}
 use Rattle.std.specs.Prelude.{is_some, nat_le, nat_lt, ◌==◌}
 use Rattle.std.specs.List.{list_any}
@@ -15,13 +15,12 @@ use Rattle.do_machine.specs.declared.state.Seat.{Seat}
 use Rattle.do_machine.specs.Objects.{object_at}
 use Rattle.do_machine.specs.State.{is_open, stored}
 use Rattle.do_machine.specs.World.{opening_node, others}
-use Rattle.do_machine.specs.run.Fresh.{blank, with_objects}
+use Rattle.do_machine.specs.run.Fresh.{with_objects}
 use Rattle.do_network.specs.Net.{opening_own}
 use Rattle.do_packet.specs.declared.receipt.Made.{Made}
 use Rattle.do_part.specs.Names.{AreStored, value_of}
 use Rattle.do_effects.specs.Tidy.{IsTidy}
 use Rattle.do_effects.proofs.TidyCounts.{kept_get}
-use Rattle.do_site.specs.Packable.{IsPackable, is_kept}
 use Rattle.do_site.specs.Stored.{is_there}
 use Rattle.do_site.proofs.Stored.{one_there, there_with}
 
@@ -60,15 +59,6 @@ opened_tidy n = record {
   counts = none_kept _;
   received = none_kept _;
   classes = none_kept _;
-}
-
--- a node that opens is packable where its root is an object that packing can count
-pub opened_packs : (table : List Class) (ports : List ℕ) (s : Seat) →
-    is_kept table s.root (blank table s.root).slots ≡ true →
-    IsPackable table (opening_own (opening_node table ports s))
-opened_packs table ports s kept = record {
-  stored = ap (λ b. b && true) kept;
-  known = λ k c found. let e : None ≡ Some c = sym (get-empty entry_cmp k) ∙ found in absurd cc;
 }
 
 -- the serial that the next object gets is there where one comes

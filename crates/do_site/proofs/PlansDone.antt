@@ -1,5 +1,5 @@
 -- What a site keeps true where a plan was done.
-use Rattle.std.proofs.Common.{◌≡◌, List, false, true, ap, sym, subst, ◌∙◌}
+use Rattle.std.proofs.Common.{◌≡◌, List, false, ap, sym, subst, ◌∙◌}
 use Rattle.do_class.specs.Class.{Class}
 use Rattle.do_machine.specs.Context.{Context, RunContext}
 use Rattle.do_machine.specs.State.{is_open}
@@ -10,11 +10,9 @@ use Rattle.do_effects.specs.Plans.{plan_effect}
 use Rattle.do_effects.specs.Tidy.{IsTidy}
 use Rattle.do_effects.specs.declared.changing.Core.{Core}
 use Rattle.do_effects.specs.declared.plan.Plan.{Plan}
-use Rattle.do_site.proofs.PackableSteps.{packable_after}
-use Rattle.do_site.proofs.PlansKeep.{plan_apart, plan_stores}
+use Rattle.do_site.proofs.PlansKeep.{plan_apart}
 use Rattle.do_site.specs.Kept.{IsKept, StaysBut}
-use Rattle.do_site.specs.Packable.{IsPackable}
-use Rattle.do_site.specs.Running.{IsRunOf, makes_light}
+use Rattle.do_site.specs.Running.{IsRunOf}
 use Rattle.do_site.specs.Steps.{Moves}
 use Rattle.do_site.specs.declared.work.Work.{Work}
 
@@ -35,24 +33,13 @@ module _ (table : List Class) (old new : Core) (r : RunContext) (plan : Plan)
       subst (λ (p : Own). is_open p.node p.node.port ≡ false) (sym own_after)
       (plan_apart r plan old.part.own.node ran_before h)
 
-  -- it is packable, where it was and what the plan makes is so
-  pub packs_after : makes_light table plan ≡ true → IsPackable table old.part.own →
-      IsPackable table new.part.own
-  packs_after light h =
-      subst (IsPackable table) (sym own_after)
-      (packable_after table old.part.own (plan_effect r plan)
-      (plan_stores table r plan old.part.own.node ran_before light h.stored) h.known)
-
--- a site keeps true what it did, where a plan that makes nothing was done
+-- a site keeps true what it did, where a plan was done
 pub plan_kept : (table : List Class) (old new : Work) (r : RunContext) (plan : Plan) →
     IsRunOf table old.core.part.own r → Moves old.core new.core (plan_effect r plan) →
-    makes_light table plan ≡ true → IsTidy new.core.part.own → StaysBut old new →
+    IsTidy new.core.part.own → StaysBut old new →
     IsKept table old → IsKept table new
-plan_kept table old new r plan run moves light tidy stays k = record {
+plan_kept table old new r plan run moves tidy stays k = record {
   tidy = tidy;
   apart = apart_after table old.core new.core r plan run moves k.apart;
   classes = stays.classes ∙ k.classes;
-  packs = λ on.
-      packs_after table old.core new.core r plan run moves light
-      (k.packs (sym stays.packable ∙ on));
 }

@@ -1,17 +1,13 @@
--- What a plan keeps of its node, and what it stores.
-use Rattle.std.proofs.Common.{◌≡◌, ℕ, false, true, List, [], ◌∷◌, ◌++◌, refl, ap}
-use Rattle.std.proofs.Common.{arith, sym, ◌+◌, ◌∙◌}
-use Rattle.std.specs.Prelude.{Err, IfOk, Ok, OnOk, Result, Some, slice_get, vec_capacity, ◌&&◌}
-use Rattle.std.proofs.lemmas.List.{append-nil}
-use Rattle.std.specs.List.{list_all}
+-- What a plan keeps of its node.
+use Rattle.std.proofs.Common.{◌≡◌, false, List, [], ◌∷◌, refl, ap}
+use Rattle.std.proofs.Common.{arith, sym, ◌∙◌}
+use Rattle.std.specs.Prelude.{Err, IfOk, Ok, OnOk, Result, Some, slice_get, vec_capacity}
 use Rattle.do_class.specs.Class.{Class}
-use Rattle.do_packet.specs.declared.receipt.Made.{Made}
 use Rattle.do_behave.specs.declared.invocation.Invocation.{Invocation}
 use Rattle.do_machine.specs.declared.node.Node.{Node}
 use Rattle.do_machine.specs.declared.verdict.Request.TheVariants as requests
 use Rattle.do_machine.specs.Context.{Context, RunContext}
 use Rattle.do_machine.specs.State.{is_open}
-use Rattle.do_machine.specs.run.Fresh.{with_serials}
 use Rattle.do_network.specs.Own.{Own, site_context}
 use Rattle.do_rules.specs.declared.run.delivery.Delivery.TheVariants as deliveries
 use Rattle.do_streams.specs.Streamed.{Fixed}
@@ -22,48 +18,33 @@ use Rattle.do_effects.specs.declared.changing.Core.{Core}
 use Rattle.do_effects.specs.declared.plan.Plan.{Plan}
 use Rattle.do_effects.specs.declared.plan.Plan.TheVariants.{Asks, Begins, Delivers, Goes, Makes}
 use Rattle.do_effects.specs.declared.plan.Plan.TheVariants.{Says, Tells, Uses, Vends}
-use Rattle.do_site.specs.Packable.{is_kept_at}
 use Rattle.do_site.specs.Plans.{IsEnough, IsTurnOf}
 use Rattle.do_site.specs.Room.{HasPlaceFor, HasPlaceToLeave, HasPlace, needed}
-use Rattle.do_site.specs.Running.{IsRunOf, makes_light}
+use Rattle.do_site.specs.Running.{IsRunOf}
 use Rattle.do_site.specs.declared.needs.Needs.{Needs}
 use Rattle.do_site.specs.declared.told.Told.{Told}
-use Rattle.do_site.proofs.PackableSteps.{all_append}
 
--- the objects that a plan makes
-abbrev pub plan_made : Plan → List Made
-plan_made (Makes class slots into pc) = record { class = class; slots = slots } ∷ []
-plan_made plan = []
-
--- a node keeps the ends and the port of another, and stores these objects behind its own
-pub record KeepsBut (made : List Made) (n m : Node) : Type 0 where
+-- a node keeps the ends and the port of another
+pub record KeepsEnds (n m : Node) : Type 0 where
   pub ends : m.open_to ≡ n.open_to
   pub port : m.port ≡ n.port
-  pub heap : m.heap ≡ n.heap ++ with_serials n.next_serial made
-
--- so does one that changes nothing of these
-keeps_all : (n m : Node) → m.open_to ≡ n.open_to → m.port ≡ n.port → m.heap ≡ n.heap →
-    KeepsBut [] n m
-keeps_all n m ends port heap =
-    record { ends = ends; port = port; heap = heap ∙ sym (append-nil n.heap) }
 
 -- so does a plan
-pub plan_keeps : (r : RunContext) (plan : Plan) →
-    KeepsBut (plan_made plan) r.context.node (plan_effect r plan).node
-plan_keeps r (Goes into value pc) = keeps_all _ _ refl refl refl
-plan_keeps r (Uses value outs) = keeps_all _ _ refl refl refl
-plan_keeps r (Makes class slots into pc) = record { ends = refl; port = refl; heap = refl }
-plan_keeps r (Vends root pc) = keeps_all _ _ refl refl refl
-plan_keeps r (Says value pc) = keeps_all _ _ refl refl refl
-plan_keeps r (Asks peer requests.Root into outs pc) = keeps_all _ _ refl refl refl
-plan_keeps r (Asks peer (requests.Call method m) into outs pc) = keeps_all _ _ refl refl refl
-plan_keeps r (Begins i into outs pc) = keeps_all _ _ refl refl refl
-plan_keeps r (Tells peer m into pc) = keeps_all _ _ refl refl refl
-plan_keeps r (Delivers (deliveries.Shows line)) = keeps_all _ _ refl refl refl
-plan_keeps r (Delivers (deliveries.Answers a)) = keeps_all _ _ refl refl refl
-plan_keeps r (Delivers (deliveries.Replies peer number packet)) = keeps_all _ _ refl refl refl
-plan_keeps r (Delivers (deliveries.Raises peer number e)) = keeps_all _ _ refl refl refl
-plan_keeps r (Delivers deliveries.Drops) = keeps_all _ _ refl refl refl
+plan_keeps : (r : RunContext) (plan : Plan) → KeepsEnds r.context.node (plan_effect r plan).node
+plan_keeps r (Goes into value pc) = record { ends = refl; port = refl }
+plan_keeps r (Uses value outs) = record { ends = refl; port = refl }
+plan_keeps r (Makes class slots into pc) = record { ends = refl; port = refl }
+plan_keeps r (Vends root pc) = record { ends = refl; port = refl }
+plan_keeps r (Says value pc) = record { ends = refl; port = refl }
+plan_keeps r (Asks peer requests.Root into outs pc) = record { ends = refl; port = refl }
+plan_keeps r (Asks peer (requests.Call method m) into outs pc) = record { ends = refl; port = refl }
+plan_keeps r (Begins i into outs pc) = record { ends = refl; port = refl }
+plan_keeps r (Tells peer m into pc) = record { ends = refl; port = refl }
+plan_keeps r (Delivers (deliveries.Shows line)) = record { ends = refl; port = refl }
+plan_keeps r (Delivers (deliveries.Answers a)) = record { ends = refl; port = refl }
+plan_keeps r (Delivers (deliveries.Replies peer number packet)) = record { ends = refl; port = refl }
+plan_keeps r (Delivers (deliveries.Raises peer number e)) = record { ends = refl; port = refl }
+plan_keeps r (Delivers deliveries.Drops) = record { ends = refl; port = refl }
 
 -- a node with no end towards itself has none then
 pub plan_apart : (r : RunContext) (plan : Plan) (n : Node) → r.context.node ≡ n →
@@ -74,31 +55,6 @@ plan_apart r plan n is apart =
     (λ j. is_open (record (plan_effect r plan).node { open_to = k.ends j }) (k.port j))
     ∙ (λ j. is_open (is j) (is j).port)
     ∙ apart
-
--- what it makes is such where the plan is
-made_kept : (table : List Class) (serial : ℕ) (plan : Plan) → makes_light table plan ≡ true →
-    list_all (is_kept_at table) (with_serials serial (plan_made plan)) ≡ true
-made_kept table serial (Goes into value pc) h = refl
-made_kept table serial (Uses value outs) h = refl
-made_kept table serial (Makes class slots into pc) h = ap (λ b. b && true) h
-made_kept table serial (Vends root pc) h = refl
-made_kept table serial (Says value pc) h = refl
-made_kept table serial (Asks peer request into outs pc) h = refl
-made_kept table serial (Begins i into outs pc) h = refl
-made_kept table serial (Tells peer m into pc) h = refl
-made_kept table serial (Delivers d) h = refl
-
--- all that is stored then is kept
-pub plan_stores : (table : List Class) (r : RunContext) (plan : Plan) (n : Node) →
-    r.context.node ≡ n → makes_light table plan ≡ true →
-    list_all (is_kept_at table) n.heap ≡ true →
-    list_all (is_kept_at table) (plan_effect r plan).node.heap ≡ true
-plan_stores table r plan n is light stored =
-    ap (list_all (is_kept_at table)) (plan_keeps r plan).heap
-    ∙ all_append (is_kept_at table) r.context.node.heap
-    (with_serials r.context.node.next_serial (plan_made plan))
-    (ap (λ (m : Node). list_all (is_kept_at table) m.heap) is ∙ stored)
-    (made_kept table r.context.node.next_serial plan light)
 
 -- there is a run of a top invocation that runs
 pub run_of : (table : List Class) (p : Own) → IsRunning p.node.stack →

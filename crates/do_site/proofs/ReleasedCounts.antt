@@ -1,25 +1,20 @@
 -- Names that a peer gives back leave a node tidy.
 use Rattle.std.proofs.Common.{◌≡◌, ℕ, Bool, true, false, cond, Option, None, refl, ap, sym}
-use Rattle.std.proofs.Common.{subst, ◌∙◌, ◌-◌, ◌<◌, List, [], Some, arith}
+use Rattle.std.proofs.Common.{◌∙◌, ◌-◌, ◌<◌, Some, arith}
 use Rattle.std.specs.Prelude.{is_some, nat_lt, unwrap_or, ◌==◌}
 use Rattle.std.proofs.lemmas.Bool.{ltb-true}
 use Rattle.std.proofs.lemmas.Bool.Decides.{nat_tests}
 use Rattle.std.specs.Ordering.{eq_by_cmp}
 use Rattle.std.specs.FinMap as map
 use Rattle.std.specs.FinMap.{get-insert, get-remove, same_map}
-use Rattle.do_class.specs.Class.{Class}
 use Rattle.do_export.specs.Counts.{Counts, count_of, entry_cmp, lowered}
 use Rattle.do_export.proofs.Order.{entry_same, entry_total}
 use Rattle.do_machine.specs.declared.node.Node.{Node}
-use Rattle.do_machine.specs.Effect.{only}
 use Rattle.do_machine.specs.State.{is_open}
 use Rattle.do_network.specs.Counting.{given_back, over_open_ends}
 use Rattle.do_network.specs.Own.{Own}
-use Rattle.do_effects.proofs.TidyCounts.{kept_get, node_alone, tied}
-use Rattle.do_effects.specs.Doing.{cleared}
+use Rattle.do_effects.proofs.TidyCounts.{kept_get, tied}
 use Rattle.do_effects.specs.Tidy.{IsTidy}
-use Rattle.do_site.proofs.PackableSteps.{packable_after}
-use Rattle.do_site.specs.Packable.{IsPackable}
 
 module _ (n : Node) (c m : Counts) (k : ℕ × ℕ) (w : Option ℕ) (tidy : over_open_ends n c ≡ c)
     (is : is_open n k.0 ≡ true)
@@ -71,15 +66,6 @@ released_tidy p peer serial amount tidy is = record {
   received = tidy.received;
   classes = tidy.classes;
 }
-
--- a tidy node that is packable is so once it left what nothing holds
-pub left_packable : (table : List Class) (q p : Own) → IsTidy q → p ≡ (cleared q).own →
-    IsPackable table q → IsPackable table p
-left_packable table q p tidy left k =
-    subst (IsPackable table)
-    (sym (left ∙ ap (λ (x : Own). (cleared x).own)
-    (sym (node_alone q q.node [] tidy refl refl refl))))
-    (packable_after table q (only q.node) k.stored k.known)
 
 module _ (c : Counts) (peer serial : ℕ)
     (there : map.contains_key c (peer, serial) ≡ nat_lt 0 (count_of c peer serial)) where

@@ -1,7 +1,6 @@
 -- What taking an item comes to, with a frame read besides.
-use Rattle.std.proofs.Common.{◌≡◌, ℕ, true, List, refl, ap, sym, subst, ◌∙◌}
+use Rattle.std.proofs.Common.{◌≡◌, ℕ, List, refl, ap, sym, subst, ◌∙◌}
 use Rattle.std.specs.Prelude.{false}
-use Rattle.std.specs.List.{list_all}
 use Rattle.do_base.specs.declared.events.shown.Shown.{Shown}
 use Rattle.do_base.specs.declared.events.shown.Shown.TheVariants as shows
 use Rattle.do_class.specs.Class.{Class}
@@ -18,19 +17,17 @@ use Rattle.do_network.specs.Counting.{got}
 use Rattle.do_network.specs.Frames.{all_posted}
 use Rattle.do_network.specs.Own.{Own, site_context}
 use Rattle.do_network.specs.Site.{site_move}
-use Rattle.do_rules.specs.Ruling.{RulingsAreArrivals, names_in, ruling}
+use Rattle.do_rules.specs.Ruling.{RulingsAreArrivals, ruling}
 use Rattle.do_rules.specs.declared.take.ruling.Ruling.{Ruling}
 use Rattle.do_streams.specs.Reading.{names_of}
 use Rattle.do_streams.proofs.LinksRead.{names_stay}
 use Rattle.do_effects.specs.Doing.{Doing, cleared, does, doing, effected, moved}
-use Rattle.do_effects.specs.Taking.{ruling_copies, taken, takes, taking_needs}
+use Rattle.do_effects.specs.Taking.{taken, takes, taking_needs}
 use Rattle.do_effects.specs.declared.changing.Core.{Core}
-use Rattle.do_site.proofs.PackableSteps.{packable_after}
 use Rattle.do_site.proofs.PlansKeep.{enough_place}
-use Rattle.do_site.proofs.RulingsKeep.{got_classed, ruled_apart, ruled_kept}
+use Rattle.do_site.proofs.RulingsKeep.{ruled_apart}
 use Rattle.do_site.proofs.SentBehind.{sent_after_reading}
 use Rattle.do_site.proofs.StepsDone.{then_left}
-use Rattle.do_site.specs.Packable.{IsPackable, is_kept, is_named}
 use Rattle.do_site.specs.Plans.{AllowsRuling, IsEnough}
 use Rattle.do_site.specs.Room.{HasPlace, HasPlaceFor}
 use Rattle.do_site.specs.Steps.{item_move, with_reading}
@@ -89,18 +86,6 @@ module _ (from : ℕ) (item : Item) (line : Shown) (r : Ruling) (d one : Doing)
   taken_apart p left h =
       subst (λ (q : Own). is_open q.node q.node.port ≡ false) (sym (taken_own p left))
       (ruled_apart from item r (holding (exported from d.own.node.port item) d.own.node) h)
-
-  -- it is packable where what the item names and what comes with it is such
-  pub taken_packable : (table : List Class) (p : Own) → p ≡ (cleared one.own).own →
-      list_all (is_named table) (names_in item) ≡ true →
-      list_all (λ m. is_kept table m.class m.slots) (ruling_copies r) ≡ true →
-      IsPackable table d.own → IsPackable table p
-  taken_packable table p left named copies k =
-      subst (IsPackable table) (sym (taken_own p left))
-      (packable_after table (got from item d.own) done_by
-      (ruled_kept table from item r (holding (exported from d.own.node.port item) d.own.node)
-      k.stored copies)
-      (got_classed table from item d.own named k.known))
 
 -- an item is taken as the ruling on it says, with a frame read besides
 pub follows : RulingsAreArrivals → (table : List Class) (from : ℕ) (item : Item) (f : Frame)

@@ -1,4 +1,3 @@
-pub mod Packable
 pub mod Listed
 pub mod Sited
 pub mod Steps

@@ -17,7 +17,6 @@ use Rattle.do_effects.specs.Plans.{plan_effect}
 use Rattle.do_effects.specs.declared.changing.Core.{Core}
 use Rattle.do_effects.specs.declared.plan.Plan.{Plan}
 use Rattle.do_effects.specs.declared.plan.Plan.TheVariants as plans
-use Rattle.do_site.specs.Packable.{is_kept}
 use Rattle.do_site.specs.Steps.{Moves}
 use Rattle.do_site.specs.declared.work.running.Next.{Next}
 use Rattle.do_site.specs.declared.work.running.Next.TheVariants as nexts
@@ -75,8 +74,3 @@ IsOver (plans.Goes into value pc) = Unit {0}
 IsOver (plans.Uses value outs) = Unit {0}
 IsOver (plans.Delivers d) = Unit {0}
 IsOver _ = ⊥
-
--- what a plan makes is of a class of the table, with few and light slots
-abbrev pub makes_light : List Class → Plan → Bool
-makes_light table (plans.Makes class slots into pc) = is_kept table class slots
-makes_light table plan = true

@@ -80,8 +80,4 @@ impl<'a> Basis for Ground<'a> {
     fn awaited(&self, call: &Answered) -> Option<Waited> {
         awaited(self.part, call)
     }
-
-    fn is_packable(&self) -> bool {
-        self.packable
-    }
 }

@@ -24,7 +24,6 @@ mod site;
 mod tally;
 mod told;
 mod traced;
-mod weighing;
 mod work;
 
 pub use site::Site;

@@ -5,14 +5,12 @@ ghost use Rattle.do_machine.specs.World.{opening_node, others};
 ghost use Rattle.do_machine.specs.run.Fresh.{blank, with_objects};
 ghost use Rattle.do_network.specs.Net.{opening_own, opening_part};
 ghost use Rattle.do_site.specs.Kept.{IsKept};
-ghost use Rattle.do_site.specs.Packable.{is_kept};
 ghost use Rattle.do_site.specs.Room.{CanSettle};
 ghost use Rattle.do_site.specs.Steps.{part_of};
 
 use crate::needs::Needs;
 use crate::tally::Reach;
 use crate::told::Told;
-use crate::weighing::is_kept;
 use crate::work::Work;
 use do_base::{NodeId, Peers};
 use do_class::{ClassId, ClassTable};
@@ -65,19 +63,15 @@ fn are_apart(peers: &[NodeId]) -> bool
     peers.len() <= PEERS && are_distinct(peers)
 }
 
-/// Stores an object of a class, with nil slots, and makes it the root. Told is whether packing can
-/// count the object.
-fn set_root(part: &mut Part, table: &ClassTable, class: ClassId) -> Result<bool, AllocError>
+/// Stores an object of a class, with nil slots, and makes it the root.
+fn set_root(part: &mut Part, table: &ClassTable, class: ClassId) -> Result<(), AllocError>
     ensures own { OnOk result (part.new.own ≡ record part.old.own {
       node = record (with_objects (blank table.now class ∷ []) part.old.own.node) {
         root = Some part.old.own.node.next_serial;
       };
     }) }
-    ensures packs { IfOk result (λ packs. packs
-        ≡ is_kept table.now class (blank table.now class).slots) }
 {
     let root = blank(part.allocator(), table, class)?;
-    let packable = is_kept(table, class, &root.slots);
     let reach = Reach { part, more: 0 };
     let Some(names) = reach.of_values(root.slots.as_slice()) else {
         return Err(AllocError);
@@ -88,28 +82,25 @@ fn set_root(part: &mut Part, table: &ClassTable, class: ClassId) -> Result<bool,
     part.reserve(1, 0, names, 0)?;
     let oid = part.create(class, root.slots);
     part.set_root(Some(oid.serial));
-    Ok(packable)
+    Ok(())
 }
 
-/// What a node with these peers has of its own, with its root alone. Told is whether packing can
-/// count the root.
+/// What a node with these peers has of its own, with its root alone.
 fn opening_own(
     table: &ClassTable,
     ports: &Peers,
     seat: Seat,
     peers: Peers,
-) -> Result<(Part, bool), AllocError>
+) -> Result<Part, AllocError>
     requires peers { peers ≡ others ports.now seat.node }
     requires few { length peers ≤ 64 }
     requires distinct { IsDistinct (λ (p q : ℕ). p == q) peers }
-    ensures own { IfOk result (λ opened.
-        opened.0.own ≡ opening_own (opening_node table.now ports.now seat)) }
-    ensures packs { IfOk result (λ opened. opened.1
-        ≡ is_kept table.now seat.root (blank table.now seat.root).slots) }
+    ensures { IfOk result (λ part.
+        part.own ≡ opening_own (opening_node table.now ports.now seat)) }
 {
     let mut part = Part::new(ports.allocator(), seat.node, peers)?;
-    let packable = set_root(&mut part, table, seat.root)?;
-    Ok((part, packable))
+    set_root(&mut part, table, seat.root)?;
+    Ok(part)
 }
 
 /// What the steps of a site change, before its first input, with no room.
@@ -125,11 +116,10 @@ fn built(table: &ClassTable, seat: Seat, ports: &Peers) -> Result<Work, AllocErr
         return Err(AllocError);
     }
     let streams = Streams::new(alloc, &peers, table.count() as usize)?;
-    let (part, packable) = opening_own(table, ports, seat, peers)?;
+    let part = opening_own(table, ports, seat, peers)?;
     Ok(Work {
         core: Core { part, streams },
         told: Told::new(alloc),
-        packable,
     })
 }
 

@@ -28,9 +28,6 @@ pub struct Work {
     pub core: Core,
     /// The lists into which a step tells what it freed, left and settled.
     pub told: Told,
-    /// Whether the node keeps no more than packing can count. It is true at the start, and false
-    /// from a step on that writes a slot of 2^22 and more, or makes an object of no class.
-    pub packable: bool,
 }
 
 impl Work {

@@ -12,8 +12,8 @@ use Rattle.do_class.specs.declared.packet.Name.{Name}
 use Rattle.do_class.specs.declared.packet.Name.TheVariants.{Lent, Mine, Yours}
 use Rattle.do_class.specs.declared.packet.Packet.{Packet}
 use Rattle.do_packet.specs.Copies.{Placed, copies_of, most_copies, names_with}
-use Rattle.do_packet.specs.Packing.{Naming, class_at, message_weight, most_weight, name_next}
-use Rattle.do_packet.specs.Packing.{names_to, packed, packed_with, packet_with}
+use Rattle.do_packet.specs.Packing.{Naming, capped, class_at, message_weight, most_weight}
+use Rattle.do_packet.specs.Packing.{name_next, names_to, packed, packed_with, packet_with}
 use Rattle.do_packet.specs.Seen.{Sender}
 use Rattle.do_packet.specs.declared.fault.PackFault.TheVariants.{TooLarge}
 use Rattle.do_machine.specs.Context.{Context, class_seen}
@@ -100,7 +100,7 @@ module _ (c : Context) where
       where
         go : (b d : Bool) →
             ToldIf (result_ok (cond b (Err (TooLarge (suc most_copies) most_copies))
-            (cond d (Err (TooLarge (message_weight s values copies) most_weight))
+            (cond d (Err (TooLarge (capped (message_weight s values copies)) most_weight))
             (Ok (packet_with s to token values copies (names_with s values copies))))))
         go true d = tt
         go false true = tt

@@ -1,10 +1,10 @@
 -- What packing has done once it has gone through some of the copies.
-use Rattle.std.specs.Prelude.{◌≡◌, ◌≤◌, ℕ, List, [], ◌*◌, ◌+◌, fold, length, map, take}
+use Rattle.std.specs.Prelude.{◌≡◌, ◌≤◌, ℕ, List, [], ◌+◌, fold, length, map, take}
 use Rattle.do_base.specs.names.Names.{ObjectName}
 use Rattle.do_class.specs.declared.packet.Copied.{Copied}
 use Rattle.do_class.specs.declared.packet.Part.{Part}
 use Rattle.do_packet.specs.Copies.{Placed, grown, most_copies, names_with}
-use Rattle.do_packet.specs.Packing.{Naming, copied_of, message_weight, name_next, part_at}
+use Rattle.do_packet.specs.Packing.{Naming, capped, copied_of, message_weight, name_next, part_at}
 use Rattle.do_packet.specs.Seen.{Sender}
 use Rattle.do_packet.specs.walk.Walking.{IsPrefix}
 use Rattle.do_packet.specs.declared.packing.walk.Walk.{Walk}
@@ -26,9 +26,8 @@ pub record Followed (s : Sender) (values : List Placed) (k : ℕ) (walk : Walk) 
   pub copied_stand : (copies names : List ObjectName) → IsPrefix walk.copies copies →
       IsPrefix walk.names names →
       copied ≡ map (copied_of s copies names) (take k walk.copies)
-  pub weighed : weight ≡ message_weight s values (take k walk.copies)
+  pub weighed : weight ≡ capped (message_weight s values (take k walk.copies))
   pub few : k ≤ most_copies
-  pub light : weight ≤ (k + 1) * 4294967312
 
 -- these are the names of the objects so far, with at most so many tokens used
 pub record IsNaming (s : Sender) (to token : ℕ) (os : List ObjectName) (most : ℕ) (n : Naming)

@@ -1,17 +1,26 @@
-ghost use Rattle.std.specs.Prelude.{◌≡◌, ◌<◌, length, IfOk, map};
+ghost use Rattle.std.specs.Prelude.{◌≡◌, [], length, IfOk, map};
 ghost use Rattle.std.specs.Option.{IsSome};
 ghost use Rattle.std.specs.List.{flat_map, zip};
 ghost use Rattle.do_packet.specs.Copies.{copied_at, named_at, slots_at};
 ghost use Rattle.do_packet.specs.Packing.{copied_of, part_at};
 ghost use Rattle.do_packet.specs.Seen.{sender};
-ghost use Rattle.do_packet.specs.walk.Sees.{IsTabled};
 ghost use Rattle.do_packet.specs.walk.Walking.{Walked};
 
 use super::walk::Walk;
 use crate::view::View;
 use do_base::{Flags, Items, NodeId, Oid, Values};
-use do_class::{ClassTable, Copied, Parts, Slots};
+use do_class::{ClassId, ClassTable, Copied, Parts, Slots};
 use std::alloc::{AllocError, Global};
+
+/// A copy of an object of a class, without slots.
+fn bare(alloc: Global, class: ClassId) -> Copied
+    ensures { result ≡ record { class = class; slots = [] } }
+{
+    Copied {
+        class,
+        slots: Items::new(alloc),
+    }
+}
 
 impl Walk {
     /// Meets the objects of the values sent, each in a place that is bycopy or not.
@@ -83,7 +92,6 @@ impl Walk {
         from: NodeId,
         oid: Oid,
     ) -> Result<Copied, AllocError>
-        requires tabled { IsTabled table.now (V.sees view.now) }
         requires classed { IsSome ((V.sees view.now).class_of oid) }
         ensures { IfOk result (λ copied. Walked
             (flat_map (copied_at (sender table.now from (V.sees view.now)))
@@ -97,11 +105,11 @@ impl Walk {
         let Some(class) = view.class_of(oid) else {
             unreachable!()
         };
+        if class.0 >= table.count() {
+            return Ok(bare(alloc, class));
+        }
         let Some(values) = view.slots(oid) else {
-            return Ok(Copied {
-                class,
-                slots: Items::new(alloc),
-            });
+            return Ok(bare(alloc, class));
         };
         let slots = self.slots(table, view, from, table.slots(class), values)?;
         Ok(Copied { class, slots })

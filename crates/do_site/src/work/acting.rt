@@ -1,22 +1,20 @@
 //! Acts: the top invocation does its next act.
-ghost use Rattle.std.specs.Prelude.{◌≡◌, ◌&&◌, IfOk, IfSome, None, OnErr, OnOk, Some};
+ghost use Rattle.std.specs.Prelude.{◌≡◌, ◌&&◌, IfOk, None, OnErr, OnOk, Some};
 ghost use Rattle.std.specs.Prelude.{◌<◌, length, slice_get};
-ghost use Rattle.std.specs.List.{list_all};
 ghost use Rattle.do_behave.specs.Changes.{IsFitting, Means};
 ghost use Rattle.do_behave.specs.declared.invocation.Invocation.{Invocation};
 ghost use Rattle.do_machine.specs.Context.{RunContext};
 ghost use Rattle.do_machine.specs.run.Acts.{act_rule};
 ghost use Rattle.do_machine.specs.run.Run.{next_act};
 ghost use Rattle.do_machine.specs.run.Verdicts.{effect_of};
-ghost use Rattle.do_part.specs.Changed.{act_left_on, change_writes, changed};
+ghost use Rattle.do_part.specs.Changed.{act_left_on, changed};
 ghost use Rattle.do_effects.specs.Doing.{doing};
 ghost use Rattle.do_effects.specs.Plans.{CanCarryOut, IsRun, IsRunning, plan_effect, plan_needs};
 ghost use Rattle.do_effects.specs.Tidy.{IsTidy};
 ghost use Rattle.do_site.specs.Kept.{IsKept, StaysBut};
-ghost use Rattle.do_site.specs.Packable.{is_light};
 ghost use Rattle.do_site.specs.Plans.{Allows, IsEnough};
 ghost use Rattle.do_site.specs.Room.{CanSettle, HasPlace, HasPlaceFor, HasPlaceToLeave, to_keep};
-ghost use Rattle.do_site.specs.Running.{IsRunOf, is_step, makes_light};
+ghost use Rattle.do_site.specs.Running.{IsRunOf, is_step};
 ghost use Rattle.do_site.specs.Steps.{IsSame, Moves};
 
 use crate::allowing::allowed;
@@ -24,28 +22,12 @@ use crate::ground::judged_by;
 use crate::needs::Needs;
 use crate::planning::planned;
 use crate::tally::Reach;
-use crate::weighing::{makes_light, writes_light};
 use crate::work::Work;
 use do_behave::{Act, Behaviour, Change};
 use do_class::ClassTable;
 use do_effects::Plan;
 use do_rules::Turn;
 use std::alloc::AllocError;
-
-/// Whether a node that is packable or not is so once a plan is carried out.
-fn stays_packable(packable: bool, table: &ClassTable, plan: &Plan) -> bool
-    ensures { result ≡ (packable && makes_light table.now plan.now) }
-{
-    packable && makes_light(table, plan)
-}
-
-/// Whether a node that is packable or not is so once a change is done.
-fn stays_light(packable: bool, change: &Change) -> bool
-    ensures { result
-        ≡ (packable && list_all (λ w. is_light w.value) (change_writes change.now)) }
-{
-    packable && writes_light(change)
-}
 
 /// Whether an act is a step, which is done in place.
 fn is_step(act: &Act) -> bool
@@ -103,27 +85,25 @@ impl Work {
         ensures kept { IsKept table.now self.new }
         ensures places { CanSettle self.new }
     {
-        let packable = stays_packable(self.packable, table, &plan);
         let Ok(needs) = self.make_room_for(&plan) else {
             drop(plan);
             return Err(AllocError);
         };
         self.finish(plan, &needs);
-        self.packable = packable;
         Ok(())
     }
 
     /// What the rules decide of an act of the top invocation, with all that carrying it out needs.
     fn plan_of(&self, table: &ClassTable, act: Act) -> Result<Plan, AllocError>
-        requires { IsKept table.now self.now }
         ensures { IfOk result (λ plan. (r : RunContext)
             → IsRunOf table.now self.now.core.part.own r
             → plan_effect r plan ≡ effect_of r (act_rule r act)) }
     {
-        let Some(top) = self.core.part.top() else {
+        let part = &self.core.part;
+        let Some(top) = part.top() else {
             return Err(AllocError);
         };
-        let ground = judged_by(table, &self.core.part, self.packable);
+        let ground = judged_by(table, part);
         let turn = Turn {
             basis: &ground,
             top,
@@ -156,15 +136,15 @@ impl Work {
 
     /// The next act of the top invocation, which runs, as the one change that it makes.
     fn next_change<B: Behaviour>(&self, table: &ClassTable, acts: &B) -> Result<Change, AllocError>
-        requires kept { IsKept table.now self.now }
         ensures { IfOk result (λ change. (r : RunContext)
             → IsRunOf table.now self.now.core.part.own r
             → Means r.top change (next_act (B.act acts.now) r)) }
     {
-        let Some(top) = self.core.part.top() else {
+        let part = &self.core.part;
+        let Some(top) = part.top() else {
             return Err(AllocError);
         };
-        let ground = judged_by(table, &self.core.part, self.packable);
+        let ground = judged_by(table, part);
         let turn = Turn {
             basis: &ground,
             top,
@@ -233,9 +213,7 @@ impl Work {
         ensures kept { IsKept table.now self.new }
         ensures places { CanSettle self.new }
     {
-        let packable = stays_light(self.packable, &change);
         self.make_change(change)?;
-        self.packable = packable;
         self.leave();
         Ok(())
     }

@@ -77,17 +77,17 @@ impl Work {
     /// What becomes of the exception with which the call of the top invocation ended, with all that
     /// carrying it out needs.
     fn plan_of_raised(&self, table: &ClassTable) -> Result<Plan, AllocError>
-        requires { IsKept table.now self.now }
         ensures effect { IfOk result (PlansAnswer table.now self.now.core.part.own) }
         ensures over { IfOk result IsOver }
     {
-        let Some(top) = self.core.part.top() else {
+        let part = &self.core.part;
+        let Some(top) = part.top() else {
             return Err(AllocError);
         };
         let Some(exc) = raised(&top.state)? else {
             return Err(AllocError);
         };
-        let ground = judged_by(table, &self.core.part, self.packable);
+        let ground = judged_by(table, part);
         failing(&ground, top, exc)
     }
 

@@ -1,10 +1,10 @@
 //! Starts.
-ghost use Rattle.std.specs.Prelude.{◌≡◌, IfOk, OnErr, OnOk};
+ghost use Rattle.std.specs.Prelude.{IfOk, OnErr, OnOk};
 ghost use Rattle.do_machine.specs.Start.{start_effect};
 ghost use Rattle.do_machine.specs.Effect.{only};
 ghost use Rattle.do_machine.specs.run.Fresh.{pushed};
 ghost use Rattle.do_effects.specs.Tidy.{IsTidy};
-ghost use Rattle.do_site.specs.Kept.{IsKept, StaysKept};
+ghost use Rattle.do_site.specs.Kept.{StaysKept};
 ghost use Rattle.do_site.specs.Room.{CanSettle};
 ghost use Rattle.do_site.specs.Steps.{Does, IsSame, Moves};
 
@@ -56,7 +56,6 @@ impl Work {
         selector: &Text,
         values: &Values,
     ) -> Result<bool, AllocError>
-        requires kept { IsKept table.now self.old }
         requires places { CanSettle self.old }
         ensures done { IfOk result (λ told. Does self.old.core self.new.core told
             (start_effect table.now selector.now values.now self.old.core.part.own.node)) }
@@ -64,7 +63,7 @@ impl Work {
         ensures kept { StaysKept self.old self.new }
         ensures places { CanSettle self.new }
     {
-        let ground = judged_by(table, &self.core.part, self.packable);
+        let ground = judged_by(table, &self.core.part);
         let Ok(started) = begun(&ground, selector, values) else {
             return Err(AllocError);
         };

@@ -1,7 +1,6 @@
 //! Frames that are taken.
-ghost use Rattle.std.specs.Prelude.{◌≡◌, ◌≢◌, ◌≤◌, ◌&&◌, IfErr, IfOk, IfSome, IsOk, OnErr, OnOk};
+ghost use Rattle.std.specs.Prelude.{◌≡◌, ◌≢◌, ◌≤◌, IfErr, IfOk, IfSome, IsOk, OnErr, OnOk};
 ghost use Rattle.std.specs.Prelude.{None, Some, false, true};
-ghost use Rattle.std.specs.List.{list_all};
 ghost use Rattle.do_frames.specs.declared.fault.RawFault.TheVariants.{Memory};
 ghost use Rattle.do_frames.specs.declared.frame.Frame.{Frame as Framed};
 ghost use Rattle.do_frames.specs.Frames.{kind_of};
@@ -14,12 +13,11 @@ ghost use Rattle.do_network.specs.Links.{having_read};
 ghost use Rattle.do_network.specs.Own.{site_context};
 ghost use Rattle.do_network.specs.Site.{frame_input, frame_move, takes_frame};
 ghost use Rattle.do_machine.specs.take.Lines.{item_line};
-ghost use Rattle.do_rules.specs.Ruling.{names_in, ruling as ruling_on};
+ghost use Rattle.do_rules.specs.Ruling.{ruling as ruling_on};
 ghost use Rattle.do_streams.specs.Reading.{AreKnown, IsReadBy, IsReading, names_of};
 ghost use Rattle.do_effects.specs.Doing.{doing};
-ghost use Rattle.do_effects.specs.Taking.{CanTake, on_message, ruling_copies, taking_needs};
+ghost use Rattle.do_effects.specs.Taking.{CanTake, on_message, taking_needs};
 ghost use Rattle.do_site.specs.Kept.{IsKept, StaysBut};
-ghost use Rattle.do_site.specs.Packable.{is_kept, is_named};
 ghost use Rattle.do_site.specs.Room.{CanSettle, HasPlaceFor, IsReadyToTake};
 ghost use Rattle.do_site.specs.Steps.{Handles, IsFetched, IsSame, Makes, item_move, part_of};
 ghost use Rattle.do_site.specs.Steps.{seen_of};
@@ -29,7 +27,6 @@ use crate::faults::peer_fault;
 use crate::ground::judged_by;
 use crate::items::item_of;
 use crate::ruling::{copies_in, names_in, ruling_allowed};
-use crate::weighing::{are_kept, are_named};
 use crate::work::Work;
 use do_base::{NodeId, Shown};
 use do_class::ClassTable;
@@ -40,14 +37,6 @@ use do_network::{Done, PeerFault};
 use do_rules::{Ruling, item_line, ruling, rulings_are_arrivals};
 use do_streams::Reading;
 use std::alloc::AllocError;
-
-/// Whether a node that is packable or not is so once an item is taken as its ruling says.
-fn stays_packable(packable: bool, table: &ClassTable, item: &Item, ruling: &Ruling) -> bool
-    ensures { result ≡ ((packable && list_all (is_named table.now) (names_in item.now))
-        && list_all (λ m. is_kept table.now m.class m.slots) (ruling_copies ruling.now)) }
-{
-    packable && are_named(table, names_in(item)) && are_kept(table, copies_in(ruling))
-}
 
 impl Work {
     /// What the ruling on an item says is done, in room that was made before.
@@ -83,22 +72,19 @@ impl Work {
         ensures sure { on_message ruling ≡ false → IsOk result }
     {
         rulings_are_arrivals();
-        let packable = stays_packable(self.packable, table, item, &ruling);
         self.core
             .rule(from, item, line, ruling, &mut self.told.settled)?;
         self.core.streams.keep_read(from, names);
-        self.packable = packable;
         self.leave();
         Ok(())
     }
 
     /// What the rules say of an item of a peer.
     fn judged(&self, table: &ClassTable, from: NodeId, item: &Item) -> Result<Ruling, AllocError>
-        requires { IsKept table.now self.now }
         ensures { IfOk result (λ r. r
             ≡ ruling_on (site_context table.now self.now.core.part.own) from item.now) }
     {
-        let ground = judged_by(table, &self.core.part, self.packable);
+        let ground = judged_by(table, &self.core.part);
         ruling(&ground, from, item)
     }
 

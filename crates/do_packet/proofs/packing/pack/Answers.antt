@@ -4,6 +4,7 @@ use Rattle.std.specs.List.{All, zip}
 use Rattle.std.proofs.lemmas.Grind.{common_steps}
 use Rattle.do_base.specs.names.Names.{ObjectName}
 use Rattle.do_packet.specs.Copies.{most_copies}
+use Rattle.do_packet.specs.Packing.{capped}
 use Rattle.do_packet.specs.Seen.{sender}
 use Rattle.do_packet.proofs.Classes.{HasClass, copies_have, names_have}
 use Rattle.do_packet.proofs.Following.{followed_next, followed_start, packed_fits, packed_heavy}
@@ -19,8 +20,7 @@ loop-k-init g c =
     rw c.new-copies.ensures
     (followed_start s vs _ _ _ w
     (c.sum_of_weights-weight.ensures
-    ∙ sym (weights_zip c.args.copy.now c.args.values.now c.requires.places))
-    (omega (arith, c.requires.light)))
+    ∙ ap capped (sym (weights_zip c.args.copy.now c.args.values.now c.requires.places))))
 
 pub loop-k-preserved : goal.loop-k-preserved
 loop-k-preserved g c =
@@ -34,11 +34,10 @@ loop-k-preserved g c =
     let few : length found ≤ most_copies = omega (arith, ap length c.as_slice-found.ensures) in
     let e : take (k + 1) found ≡ take k found ++ c.index-found-k.result ∷ [] =
     grind (arith, common_steps, is) in
-    rw c.in_ok-push.ensures.ok
+    rw (c.in_ok-push.ensures.ok, c.plus-weight.ensures)
     (followed_next s vs k c.loop-k.walk c.copied.new.self c.in_ok-parts.parts c.loop-k.copies
-    c.in_ok-copied.field-0 c.loop-k.weight c.slots_weight.result c.index-found-k.result
-    c.loop-k.invariant h few e c.in_ok-copied.ensures c.slots_weight.ensures.value
-    (omega (arith, c.slots_weight.ensures.small)))
+    c.in_ok-copied.field-0 c.loop-k.weight c.copy_weight.result c.index-found-k.result
+    c.loop-k.invariant h few e c.in_ok-copied.ensures c.copy_weight.ensures)
 
 pub returns-then-found-gt-MOST_COPIES-clause-value :
     goal.returns-then-found-gt-MOST_COPIES-clause-value
@@ -73,8 +72,8 @@ returns-clause-limits g c =
     (sym (packed_fits s vs c.args.to c.args.next_token _ _ _ _ _ c.loop-k.invariant
     (omega (arith, c.len.ensures)) _ (omega arith) (rw c.as_slice.ensures at n)))
 
-pub copied-requires-clause-classed : goal.copied-requires-clause-classed
-copied-requires-clause-classed g c =
+pub copied-requires : goal.copied-requires
+copied-requires g c =
     let s = sender c.args.table.now c.args.from (g.V.View.sees c.args.view.now) in
     let vs = zip c.args.copy.now c.args.values.now in
     let k = c.loop-k.k in
@@ -85,7 +84,9 @@ copied-requires-clause-classed g c =
     let all : All (HasClass s) found =
     subst (λ (l : List ObjectName). All (HasClass s) l) (sym c.loop-k.invariant.reached.found)
     (copies_have s vs (take k found)) in
-    subst (λ (o : ObjectName). HasClass s o) (sym is) (all k c.index-found-k.result h)
+    record {
+      classed = subst (λ (o : ObjectName). HasClass s o) (sym is) (all k c.index-found-k.result h);
+    }
 
 pub names_of-requires-clause-classed : goal.names_of-requires-clause-classed
 names_of-requires-clause-classed g c =

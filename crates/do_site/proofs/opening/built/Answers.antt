@@ -4,8 +4,7 @@ use Rattle.do_machine.specs.World.{opening_node}
 use Rattle.do_network.specs.Own.{Own}
 use Rattle.do_streams.specs.Streamed.{Streamed}
 use Rattle.do_effects.specs.Tidy.{IsTidy}
-use Rattle.do_site.specs.Packable.{IsPackable}
-use Rattle.do_site.proofs.OpenedSites.{opened_apart, opened_packs, opened_tidy}
+use Rattle.do_site.proofs.OpenedSites.{opened_apart, opened_tidy}
 use Rattle.do_site.proofs.opening.built.Goals as goal
 
 pub returns-clause-kept : goal.returns-clause-kept
@@ -13,13 +12,11 @@ returns-clause-kept c =
     let table = c.args.table.now in
     let ports = c.args.ports.now in
     let seat = c.args.seat in
-    let own = c.in_ok-part.ensures.own in
+    let own = c.in_ok-part.ensures in
     record {
       tidy = subst IsTidy (sym own) (opened_tidy (opening_node table ports seat));
       apart = subst (λ (p : Own). is_open p.node p.node.port ≡ false) (sym own)
           (opened_apart table ports seat);
       classes = ap (λ (s : Streamed). s.fixed.classes) c.in_ok-streams.ensures
           ∙ c.count.ensures.value;
-      packs = λ on. subst (IsPackable table) (sym own)
-          (opened_packs table ports seat (sym c.in_ok-part.ensures.packs ∙ on));
     }

@@ -1,5 +1,4 @@
 use Rattle.std.proofs.Common.{◌≡◌, arith, false, length, refl, ap, sym, subst, ◌∙◌}
-use Rattle.std.specs.List.{list_all}
 use Rattle.do_machine.specs.Effect.{only}
 use Rattle.do_machine.specs.State.{is_open}
 use Rattle.do_machine.specs.run.Fresh.{pushed}
@@ -9,9 +8,8 @@ use Rattle.do_stack.specs.Uses.{invocation_values}
 use Rattle.do_effects.specs.Doing.{Doing, does, doing}
 use Rattle.do_effects.specs.Tidy.{IsTidy}
 use Rattle.do_effects.specs.declared.changing.Core.{Core}
-use Rattle.do_site.specs.Packable.{is_kept_at}
 use Rattle.do_site.specs.Room.{needed}
-use Rattle.do_site.proofs.KeptSteps.{apart_then, packable_then}
+use Rattle.do_site.proofs.KeptSteps.{apart_then}
 use Rattle.do_site.proofs.PlansKeep.{place_left}
 use Rattle.do_site.proofs.StepsDone.{alone_does}
 use Rattle.do_site.proofs.Stored.{there_stored}
@@ -63,11 +61,4 @@ returns-clause-kept c table k =
           (subst (λ (p : Own). is_open p.node p.node.port ≡ false) (sym own) k.apart);
       classes = c.leave.ensures.stays.classes ∙ c.in_ok-make_room.ensures.stays.classes
           ∙ k.classes;
-      packs = λ on.
-          let was = sym c.in_ok-make_room.ensures.stays.packable
-          ∙ (sym c.leave.ensures.stays.packable ∙ on) in
-          packable_then (doing old.core) (doing mid.core) one (doing new.core) (only n) same did
-          c.leave.ensures.moved table (k.packs was)
-          (ap (λ (p : Own). list_all (is_kept_at table) p.node.heap) own
-          ∙ (k.packs was).stored);
     }

@@ -4,10 +4,8 @@ use Rattle.do_part.specs.Names.{AreStored, values_of}
 use Rattle.do_effects.specs.Doing.{Doing, doing}
 use Rattle.do_effects.specs.Plans.{CanDo, IsRunning, plan_effect, plan_needs, plan_values}
 use Rattle.do_effects.specs.Tidy.{IsTidy}
-use Rattle.do_site.specs.Running.{makes_light}
 use Rattle.do_site.proofs.ActsDone.{same_kept, same_moves}
-use Rattle.do_site.proofs.PackableNodes.{both}
-use Rattle.do_site.proofs.PlansDone.{apart_after, packs_after}
+use Rattle.do_site.proofs.PlansDone.{apart_after}
 use Rattle.do_site.proofs.PlansKeep.{enough_room, is_run, run_of}
 use Rattle.do_site.proofs.work.Work.carry_out.Goals as goal
 
@@ -54,11 +52,6 @@ returns-clause-kept c =
           c.requires.kept.apart;
       classes = c.finish.ensures.stays.classes ∙ c.in-Ok.ensures.stays.classes
           ∙ c.requires.kept.classes;
-      packs = λ on.
-          let was = both old.packable (makes_light table c.args.plan)
-          (sym c.stays_packable-packable.ensures ∙ on) in
-          packs_after table old.core new.core r c.args.plan found.1 done was.1
-          (c.requires.kept.packs was.0);
     }
 
 -- without memory nothing but room changed

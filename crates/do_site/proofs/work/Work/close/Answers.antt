@@ -1,13 +1,10 @@
 use Rattle.std.proofs.Common.{◌≡◌, arith, false, ap, refl, sym, subst, ◌∙◌}
-use Rattle.std.specs.List.{list_all}
 use Rattle.do_machine.specs.State.{is_open}
 use Rattle.do_machine.specs.ends.Closing.{closing}
 use Rattle.do_network.specs.Own.{Own}
 use Rattle.do_streams.specs.Streamed.{Fixed}
 use Rattle.do_effects.specs.Doing.{Doing, doing}
-use Rattle.do_site.specs.Packable.{is_kept_at}
-use Rattle.do_site.proofs.HeapsOfEffects.{closing_heap}
-use Rattle.do_site.proofs.KeptSteps.{apart_then, closing_apart, packable_then}
+use Rattle.do_site.proofs.KeptSteps.{apart_then, closing_apart}
 use Rattle.do_site.proofs.PlacesKept.{closed_place, parted_fewer}
 use Rattle.do_site.proofs.work.Work.close.Goals as goal
 
@@ -42,12 +39,4 @@ returns-clause-kept c table k =
       classes = c.leave.ensures.stays.classes
           ∙ ap (λ (f : Fixed). f.classes) c.close.ensures.fixed
           ∙ c.in_ok-make_room_to_close.ensures.stays.classes ∙ k.classes;
-      packs = λ on.
-          let was = sym c.in_ok-make_room_to_close.ensures.stays.packable
-          ∙ (sym c.leave.ensures.stays.packable ∙ on) in
-          packable_then (doing old.core) (doing mid.core) (doing one) (doing new.core) e same
-          c.close.ensures.closed c.leave.ensures.moved table (k.packs was)
-          (ap (list_all (is_kept_at table)) (closing_heap c.args.peer mid.core.part.own.node)
-          ∙ ap (λ (p : Own). list_all (is_kept_at table) p.node.heap) own
-          ∙ (k.packs was).stored);
     }

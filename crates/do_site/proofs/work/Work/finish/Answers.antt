@@ -24,7 +24,6 @@ returns-clause-done c = λ r run.
 -- the flag and the classes are as they were
 pub returns-clause-stays : goal.returns-clause-stays
 returns-clause-stays c = record {
-  packable = c.leave.ensures.stays.packable;
   classes = c.leave.ensures.stays.classes
       ∙ ap (λ (f : Fixed). f.classes) c.carry_out.ensures.within.fixed;
 }

@@ -1,18 +1,14 @@
 use Rattle.std.proofs.Common.{◌≡◌, ap, refl, sym, subst, ◌∙◌}
-use Rattle.std.specs.Prelude.{IfSome, ◌&&◌}
-use Rattle.std.specs.List.{list_all}
-use Rattle.do_rules.specs.Ruling.{names_in}
+use Rattle.std.specs.Prelude.{IfSome}
 use Rattle.do_streams.specs.Reading.{AreKnown, IsReadBy}
 use Rattle.do_streams.specs.Streamed.{Fixed, Streamed}
 use Rattle.do_effects.specs.Doing.{Doing, doing}
-use Rattle.do_effects.specs.Taking.{ruling_copies, taking_needs}
-use Rattle.do_site.specs.Packable.{is_kept, is_named}
+use Rattle.do_effects.specs.Taking.{taking_needs}
 use Rattle.do_site.specs.Steps.{with_reading}
 use Rattle.do_site.specs.declared.told.Told.{Told}
-use Rattle.do_site.proofs.PackableNodes.{both}
 use Rattle.do_site.proofs.PlacesKept.{read_place}
 use Rattle.do_site.proofs.PlansKeep.{place_left}
-use Rattle.do_site.proofs.TakenSteps.{follows, names_taken, taken_apart, taken_packable}
+use Rattle.do_site.proofs.TakenSteps.{follows, names_taken, taken_apart}
 use Rattle.do_site.proofs.TakenSteps.{taken_then_left}
 use Rattle.do_site.proofs.work.Work.follow.Goals as goal
 
@@ -73,12 +69,4 @@ returns-clause-kept c =
           ∙ ap (λ (f : Fixed). f.classes) (ap (λ (s : Streamed). s.fixed) c.keep_read.ensures.same
           ∙ c.rule.ensures.within.fixed)
           ∙ c.requires.kept.classes;
-      packs = λ on.
-          let all = sym c.stays_packable-packable.ensures
-          ∙ (sym c.leave.ensures.stays.packable ∙ on) in
-          let first = both (old.packable && list_all (is_named table) (names_in item))
-          (list_all (λ m. is_kept table m.class m.slots) (ruling_copies c.args.ruling)) all in
-          let was = both old.packable (list_all (is_named table) (names_in item)) first.0 in
-          taken_packable c.args.from item c.args.line c.args.ruling (doing old.core) one done
-          table _ left was.1 first.1 (c.requires.kept.packs was.0);
     }

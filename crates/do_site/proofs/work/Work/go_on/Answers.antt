@@ -1,5 +1,4 @@
 use Rattle.std.proofs.Common.{◌≡◌, ◌∙◌, None, [], ap, refl, subst, sym}
-use Rattle.std.specs.List.{list_all}
 use Rattle.do_behave.specs.InPlace.{after_act}
 use Rattle.do_machine.specs.declared.node.Node.{Node}
 use Rattle.do_machine.specs.declared.state.Effect.{Effect}
@@ -7,14 +6,12 @@ use Rattle.do_machine.specs.Effect.{only}
 use Rattle.do_machine.specs.State.{is_open}
 use Rattle.do_machine.specs.run.Acts.{act_rule}
 use Rattle.do_machine.specs.run.Verdicts.{effect_of}
-use Rattle.do_part.specs.Changed.{change_writes, changed}
+use Rattle.do_part.specs.Changed.{changed}
 use Rattle.do_effects.specs.Doing.{Doing, does, doing}
 use Rattle.do_effects.specs.Tidy.{IsTidy}
-use Rattle.do_site.specs.Packable.{is_light}
 use Rattle.do_site.proofs.ActsDone.{change_meant, left_meant, tidy_alone}
-use Rattle.do_site.proofs.ActsKeep.{change_keeps, change_stores}
-use Rattle.do_site.proofs.KeptSteps.{apart_then, packable_then}
-use Rattle.do_site.proofs.PackableNodes.{both}
+use Rattle.do_site.proofs.ActsKeep.{change_keeps}
+use Rattle.do_site.proofs.KeptSteps.{apart_then}
 use Rattle.do_site.proofs.StepsDone.{alone_does, step_done, then_left}
 use Rattle.do_site.proofs.work.Work.go_on.Goals as goal
 
@@ -70,11 +67,4 @@ returns-clause-kept c =
           ∙ c.requires.kept.apart);
       classes = c.leave.ensures.stays.classes ∙ c.in_ok-make_change.ensures.stays.classes
           ∙ c.requires.kept.classes;
-      packs = λ on.
-          let was = both old.packable (list_all (λ w. is_light w.value) (change_writes change))
-          (sym c.stays_light-packable.ensures ∙ (sym c.leave.ensures.stays.packable ∙ on)) in
-          packable_then (doing old.core) (doing old.core) (doing c.make_change.new.self.core)
-          (doing c.leave.new.self.core) (only n) refl did c.leave.ensures.moved table
-          (c.requires.kept.packs was.0)
-          (change_stores table change p.node was.1 (c.requires.kept.packs was.0).stored);
     }

@@ -1,4 +1,4 @@
-use Rattle.std.proofs.Common.{ap, arith, refl}
+use Rattle.std.proofs.Common.{ap, arith}
 use Rattle.do_streams.specs.Streamed.{Fixed}
 use Rattle.do_site.specs.declared.told.Told.{Told}
 use Rattle.do_site.proofs.PlacesKept.{places_fewer}
@@ -19,6 +19,5 @@ returns-clause-places c =
 -- the links read by the same classes
 pub returns-clause-stays : goal.returns-clause-stays
 returns-clause-stays c = record {
-  packable = refl;
   classes = ap (λ (f : Fixed). f.classes) c.leave.ensures.fixed;
 }

@@ -79,7 +79,6 @@ returns-clause-err c =
 -- the flag and the classes are as they were
 pub returns-clause-stays : goal.returns-clause-stays
 returns-clause-stays c = record {
-  packable = c.in_ok-make_room_to_keep.ensures.stays.packable;
   classes = c.in_ok-make_room_to_keep.ensures.stays.classes;
 }
 

@@ -15,10 +15,9 @@ use Rattle.do_streams.specs.Reading.{IsReadBy, names_of}
 use Rattle.do_streams.specs.Streamed.{Fixed, Streamed}
 use Rattle.do_effects.specs.Doing.{Doing, cleared, does, doing, moved}
 use Rattle.do_effects.specs.Tidy.{IsTidy}
-use Rattle.do_site.specs.Packable.{IsPackable}
 use Rattle.do_site.specs.Steps.{with_reading}
 use Rattle.do_site.proofs.PlacesKept.{closed_place}
-use Rattle.do_site.proofs.ReleasedCounts.{left_packable, released_tidy}
+use Rattle.do_site.proofs.ReleasedCounts.{released_tidy}
 use Rattle.do_site.proofs.StepsDone.{shown_does, then_left}
 use Rattle.do_site.proofs.work.Work.release.Goals as goal
 
@@ -119,12 +118,4 @@ returns-clause-kept c table k =
           ∙ ap (λ (f : Fixed). f.classes) (c.show.ensures.fixed
           ∙ ap (λ (s : Streamed). s.fixed) c.keep_read.ensures.same)
           ∙ c.in_ok-make_room_to_close.ensures.stays.classes ∙ k.classes;
-      packs = λ on.
-          let was = subst (IsPackable table) own
-          (k.packs (sym c.in_ok-make_room_to_close.ensures.stays.packable
-          ∙ (sym c.leave.ensures.stays.packable ∙ on))) in
-          left_packable table q c.leave.new.self.core.part.own
-          (released_tidy mid c.args.from c.args.serial c.args.amount (subst IsTidy own k.tidy)
-          (subst (λ (p : Own). is_open p.node c.args.from ≡ true) own c.requires.open)) left
-          (record { stored = was.stored; known = was.known });
     }

@@ -1,6 +1,6 @@
 use Rattle.std.proofs.Common.{◌≡◌, arith, false, length, true, Some, refl, ap, sym, subst, ◌∙◌}
 use Rattle.std.specs.Prelude.{◌==◌}
-use Rattle.std.specs.List.{list_all, list_any}
+use Rattle.std.specs.List.{list_any}
 use Rattle.do_machine.specs.Effect.{only}
 use Rattle.do_machine.specs.State.{is_open}
 use Rattle.do_machine.specs.ends.TimeOut.{time_out}
@@ -8,11 +8,9 @@ use Rattle.do_network.specs.Own.{Own}
 use Rattle.do_effects.specs.Doing.{Doing, does, doing}
 use Rattle.do_effects.specs.Tidy.{IsTidy}
 use Rattle.do_effects.specs.declared.changing.Core.{Core}
-use Rattle.do_site.specs.Packable.{is_kept_at}
 use Rattle.do_site.specs.Room.{needed}
 use Rattle.do_site.specs.Steps.{Does}
 use Rattle.do_site.proofs.KeptSteps.{apart_then, made_then_left}
-use Rattle.do_site.proofs.KeptSteps.{packable_then}
 use Rattle.do_site.proofs.PlansKeep.{place_left}
 use Rattle.do_site.proofs.StepsDone.{Keeps, alone_does, time_out_keeps}
 use Rattle.do_site.proofs.work.Work.time_out.Goals as goal
@@ -87,12 +85,4 @@ returns-clause-kept c table k =
           ∙ subst (λ (p : Own). is_open p.node p.node.port ≡ false) (sym own) k.apart);
       classes = c.leave.ensures.stays.classes ∙ c.in_ok-make_room.ensures.stays.classes
           ∙ k.classes;
-      packs = λ on.
-          let was = sym c.in_ok-make_room.ensures.stays.packable
-          ∙ (sym c.leave.ensures.stays.packable ∙ on) in
-          packable_then (doing old.core) (doing mid.core) one (doing new.core) (only m) same did
-          c.leave.ensures.moved table (k.packs was)
-          (ap (list_all (is_kept_at table)) keeps.heap
-          ∙ ap (λ (p : Own). list_all (is_kept_at table) p.node.heap) own
-          ∙ (k.packs was).stored);
     }

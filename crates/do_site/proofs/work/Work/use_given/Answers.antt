@@ -1,4 +1,4 @@
-use Rattle.std.proofs.Common.{◌≡◌, ◌∷◌, Some, ap, refl, subst, sym, ◌∙◌}
+use Rattle.std.proofs.Common.{◌≡◌, ◌∷◌, Some, ap, subst, sym, ◌∙◌}
 use Rattle.do_behave.specs.declared.invocation.Answer.{Answer}
 use Rattle.do_behave.specs.declared.invocation.Answer.TheVariants.{Given}
 use Rattle.do_machine.specs.run.Run.{answer_rule}
@@ -92,8 +92,7 @@ returns-clause-kept c table k =
     plan_kept table old new found.0 (Uses v outs) found.1
     (used_moves mid.core c.take_answer.new.part c.take_answer.ensures.taken table old.core new.core
     (Uses v outs) tt same c.finish.ensures.done found.0 found.1)
-    refl c.finish.ensures.tidy
+    c.finish.ensures.tidy
     (record {
-      packable = c.finish.ensures.stays.packable ∙ c.in_ok-make_room.ensures.stays.packable;
       classes = c.finish.ensures.stays.classes ∙ c.in_ok-make_room.ensures.stays.classes;
     }) k

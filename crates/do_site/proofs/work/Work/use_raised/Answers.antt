@@ -9,7 +9,7 @@ use Rattle.do_effects.specs.Plans.{CanDo, plan_values}
 use Rattle.do_effects.specs.Tidy.{IsTidy}
 use Rattle.do_site.specs.Steps.{Moves}
 use Rattle.do_site.proofs.ActsDone.{same_kept}
-use Rattle.do_site.proofs.AnswersUsed.{answered_run, can_use, over_light, place_taken, raised_is}
+use Rattle.do_site.proofs.AnswersUsed.{answered_run, can_use, place_taken, raised_is}
 use Rattle.do_site.proofs.AnswersUsed.{used_moves}
 use Rattle.do_site.proofs.PlansDone.{plan_kept}
 use Rattle.do_site.proofs.work.Work.use_raised.Goals as goal
@@ -62,9 +62,8 @@ returns-clause-kept c =
     (used_moves c.make_room_for.new.self.core c.take_answer.new.part c.take_answer.ensures.taken
     table old.core new.core plan over c.in-Ok.ensures.same c.finish.ensures.done found.0
     found.1)
-    (over_light table plan over) c.finish.ensures.tidy
+    c.finish.ensures.tidy
     (record {
-      packable = c.finish.ensures.stays.packable ∙ c.in-Ok.ensures.stays.packable;
       classes = c.finish.ensures.stays.classes ∙ c.in-Ok.ensures.stays.classes;
     }) c.requires.kept
 

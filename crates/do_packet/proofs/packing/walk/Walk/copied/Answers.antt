@@ -10,6 +10,6 @@ returns-in_default-slots g c =
     let e = c.class_of.ensures in
     let h = c.in_default-slots.is in
     let k = c.in-Some.is in
-    rw c.new.ensures
+    rw c.bare-in_default-slots.ensures
     (walked_bare s c.args.oid c.args.self.now c.in-Some.class (rw (← e, k) refl)
     (rw (← d, h) (zip_none _)))
