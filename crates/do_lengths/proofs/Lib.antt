@@ -1,0 +1,6 @@
+mod Numbers
+mod Parts
+mod Copies
+mod Names
+mod Selectors
+mod Frames

@@ -1,0 +1,11 @@
+//! How many bytes a message takes at most, by what it weighs.
+//!
+//! It stands on packing and on how packets and frames are spelled. It has no code of its own: each
+//! of its functions is a law. It promises that a packet that was packed is spelled in no more bytes
+//! than it weighs and 27. So the payload of each frame that has a spelling is within the limit of a
+//! payload, whatever was named lately.
+#![tactic(auto)]
+
+mod laws;
+
+pub use laws::{packets_are_no_longer_than_they_weigh, payloads_are_within_the_limit};
