@@ -1,15 +1,9 @@
 -- How a node accounts for what it held by what it posts.
-use Rattle.std.specs.Prelude.{false, if◌then◌else◌, true, ℕ, ◌+◌, ◌<◌, ◌==◌, ◌≡◌}
-use Rattle.std.specs.Prelude.{List}
+use Rattle.std.specs.Prelude.{false, if◌then◌else◌, true, ℕ, ◌+◌, ◌<◌, ◌==◌, ◌≡◌, List}
 use Rattle.do_packet.specs.Met.{has_object}
-use Rattle.do_machine.specs.Objects.{object_at}
-use Rattle.do_machine.specs.declared.node.Node.{Node}
-use Rattle.do_machine.specs.declared.state.Effect.{Effect}
-use Rattle.do_facts.specs.Net.{Note, atoms_of, total}
-use Rattle.do_facts.specs.View.{posted}
-use Rattle.do_facts.specs.links.Facts.{told_of}
-use Rattle.do_facts.specs.links.Links.{Atom, Left, Links, links, links_of}
-use Rattle.do_facts.specs.links.Moves.{opens}
+use Rattle.do_machine.specs.{Objects.object_at, declared.{node.Node.Node, state.Effect.Effect}}
+use Rattle.do_facts.specs.{Net.{Note, atoms_of, total}, View.posted, links.Facts.told_of}
+use Rattle.do_facts.specs.links.{Links.{Atom, Left, Links, links, links_of}, Moves.opens}
 
 module _ (home serial often : ℕ) where
   -- what an atom gives back of an object that was received so often

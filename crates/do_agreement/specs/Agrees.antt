@@ -2,13 +2,8 @@
 use Rattle.std.specs.Prelude.{List, Some, ℕ, ◌≡◌}
 use Rattle.do_base.specs.names.Names.{ObjectName}
 use Rattle.do_class.specs.Class.{Class}
-use Rattle.do_machine.specs.declared.state.State.{State}
-use Rattle.do_machine.specs.declared.state.Stepped.{Stepped}
-use Rattle.do_machine.specs.Context.{around}
-use Rattle.do_network.specs.Links.{Part}
-use Rattle.do_network.specs.Net.{Net, part_at}
-use Rattle.do_network.specs.Own.{class_kept}
-use Rattle.do_network.specs.Step.{NetStepped}
+use Rattle.do_machine.specs.{declared.state.{State.State, Stepped.Stepped}, Context.around}
+use Rattle.do_network.specs.{Links.Part, Net.{Net, part_at}, Own.class_kept, Step.NetStepped}
 use Rattle.do_agreement.specs.Tallies.{Tallies}
 
 -- A network tallies with a state, and its classes are the state's for what is held or asked for

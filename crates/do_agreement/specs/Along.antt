@@ -2,15 +2,10 @@
 use Rattle.std.specs.Prelude.{List, [], ◌∷◌, ◌≡◌}
 use Rattle.do_base.specs.declared.events.event.Event.{Event}
 use Rattle.do_class.specs.Class.{Class}
-use Rattle.do_machine.specs.declared.state.State.{State}
-use Rattle.do_machine.specs.Step.{step}
-use Rattle.do_machine.specs.check.Blocks.{events_of}
+use Rattle.do_machine.specs.{declared.state.State.State, Step.step, check.Blocks.events_of}
 use Rattle.do_machine.specs.run.Run.{Acting}
 use Rattle.do_sched.specs.declared.line.Line.{Line}
-use Rattle.do_network.specs.Net.{Net}
-use Rattle.do_network.specs.Spelled.{SendsSpelled}
-use Rattle.do_network.specs.Step.{net_step}
-use Rattle.do_network.specs.Wired.{net_line_step}
+use Rattle.do_network.specs.{Net.Net, Spelled.SendsSpelled, Step.net_step, Wired.net_line_step}
 use Rattle.do_agreement.specs.Agrees.{Agrees}
 
 module _ (table : List Class) (act : Acting) where

@@ -1,8 +1,6 @@
 -- What the names that a node sends tell.
-use Rattle.std.specs.Prelude.{List, Some, ◌≡◌}
-use Rattle.std.specs.List.{AllByRecursion}
-use Rattle.do_machine.specs.declared.state.Parcel.{Parcel}
-use Rattle.do_machine.specs.Context.{Context, class_seen}
+use Rattle.std.specs.{Prelude.{List, Some, ◌≡◌}, List.AllByRecursion}
+use Rattle.do_machine.specs.{declared.state.Parcel.Parcel, Context.{Context, class_seen}}
 use Rattle.do_network.specs.Counting.{Classed, item_classes}
 
 -- a name tells the class that a node sees of the object

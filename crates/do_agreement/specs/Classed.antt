@@ -1,10 +1,7 @@
 -- What a state tells of the classes of objects.
-use Rattle.std.specs.Prelude.{List, Some, is_some, true, ℕ, ◌≡◌}
-use Rattle.std.specs.List.{AllByRecursion}
+use Rattle.std.specs.{Prelude.{List, Some, is_some, true, ℕ, ◌≡◌}, List.AllByRecursion}
 use Rattle.do_base.specs.names.Names.{ObjectName}
-use Rattle.do_machine.specs.declared.item.Item.{Item}
-use Rattle.do_machine.specs.declared.node.Node.{Node}
-use Rattle.do_machine.specs.declared.state.State.{State}
+use Rattle.do_machine.specs.declared.{item.Item.Item, node.Node.Node, state.State.State}
 use Rattle.do_machine.specs.State.{class_of, is_known, node, queue}
 use Rattle.do_network.specs.Counting.{item_classes}
 

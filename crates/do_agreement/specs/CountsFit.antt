@@ -1,21 +1,17 @@
 -- When the counts of the sites of a network, their links, and the channels between them fit.
+use Rattle.std.specs.FinMap as map_of
 use Rattle.std.specs.Prelude.{Bool, List, Some, [], false, is_some, map, nat_lt, true, ℕ, ◌==◌, ◌≡◌}
 use Rattle.std.specs.List.{AllByRecursion}
-use Rattle.std.specs.FinMap as map_of
 use Rattle.do_base.specs.names.Names.{ObjectName}
 use Rattle.do_class.specs.Class.{Class}
 use Rattle.do_export.specs.Counts.{count_of}
 use Rattle.do_import.specs.ByObject.{object_of}
-use Rattle.do_machine.specs.declared.item.Item.TheVariants.{End}
-use Rattle.do_machine.specs.State.{holds, is_open}
+use Rattle.do_machine.specs.{declared.item.Item.TheVariants.End, State.{holds, is_open}}
 use Rattle.do_machine.specs.World.{others}
 use Rattle.do_facts.specs.laws.Follows.{HoldsOpen}
 use Rattle.do_network.specs.Links.{Link, Part, link_to}
-use Rattle.do_network.specs.Net.{Channel, Net, channel, net_ports, part_at}
-use Rattle.do_network.specs.Own.{Own}
-use Rattle.do_network.specs.fits.Channels.{Carries}
-use Rattle.do_network.specs.fits.Counted.{Counted}
-use Rattle.do_network.specs.fits.Notes.{Note, tells_of, total}
+use Rattle.do_network.specs.{Net.{Channel, Net, channel, net_ports, part_at}, Own.Own}
+use Rattle.do_network.specs.fits.{Channels.Carries, Counted.Counted, Notes.{Note, tells_of, total}}
 
 -- A node holds what it received, over open ends
 pub record HoldsReceived (port : ℕ) (p : Own) : Type 0 where

@@ -1,9 +1,7 @@
 -- A transcript, and the same with what was sent between its lines.
-use Rattle.std.specs.Prelude.{List, map, ℕ, ◌++◌, ◌≡◌}
-use Rattle.std.specs.List.{flat_map}
+use Rattle.std.specs.{Prelude.{List, map, ℕ, ◌++◌, ◌≡◌}, List.flat_map}
 use Rattle.do_lines.specs.Lines.{joined}
-use Rattle.do_network.specs.declared.wire.Wire.{Wire}
-use Rattle.do_network.specs.Wired.{wire_line}
+use Rattle.do_network.specs.{declared.wire.Wire.Wire, Wired.wire_line}
 
 -- some lines of a text, and what was sent behind them
 pub record Stretch : Type 0 where

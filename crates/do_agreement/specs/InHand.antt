@@ -1,14 +1,10 @@
 -- A node that has an item in hand, and what the item comes to there.
 use Rattle.std.specs.Prelude.{List, ℕ}
 use Rattle.do_class.specs.Class.{Class}
-use Rattle.do_machine.specs.declared.state.Effect.{Effect}
-use Rattle.do_machine.specs.Items.{exported}
+use Rattle.do_machine.specs.{declared.state.Effect.Effect, Items.exported}
 use Rattle.do_machine.specs.take.Take.{holding, take_effect}
-use Rattle.do_network.specs.Counting.{got}
-use Rattle.do_network.specs.Frames.{item_of}
-use Rattle.do_network.specs.Own.{Own, site_context}
-use Rattle.do_network.specs.Site.{released_by}
-use Rattle.do_network.specs.fits.Notes.{Note, note_frame}
+use Rattle.do_network.specs.{Counting.got, Frames.item_of, Own.{Own, site_context}}
+use Rattle.do_network.specs.{Site.released_by, fits.Notes.{Note, note_frame}}
 
 -- The node that takes an item of a peer, before the item comes to anything: it holds what the item
 -- exports and has received it once more, and what the item gives back is taken off

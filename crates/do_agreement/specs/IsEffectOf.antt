@@ -1,9 +1,7 @@
 -- What is known of an effect of a site's node.
 use Rattle.std.specs.Prelude.{Bool, filter, true, ℕ, ◌≡◌}
 use Rattle.do_base.specs.names.Names.{ObjectName}
-use Rattle.do_machine.specs.declared.node.Node.{Node}
-use Rattle.do_machine.specs.declared.state.Effect.{Effect}
-use Rattle.do_machine.specs.State.{is_open}
+use Rattle.do_machine.specs.{declared.{node.Node.Node, state.Effect.Effect}, State.is_open}
 use Rattle.do_facts.specs.laws.Follows.{HoldsOpen}
 use Rattle.do_agreement.specs.Accounted.{AccountsFor}
 

@@ -1,15 +1,10 @@
 -- A network after an effect of one of its sites.
+use Rattle.do_network.specs.declared.input.Done.TheVariants as dones
 use Rattle.std.specs.Prelude.{List, if◌then◌else◌, ℕ, ◌++◌, ◌==◌}
 use Rattle.do_export.specs.Counts.{Counts}
-use Rattle.do_machine.specs.declared.state.Effect.{Effect}
-use Rattle.do_machine.specs.declared.state.Parcel.{Parcel}
-use Rattle.do_network.specs.declared.input.Done.TheVariants as dones
-use Rattle.do_network.specs.Counting.{counted}
-use Rattle.do_network.specs.Frames.{all_posted}
-use Rattle.do_network.specs.Links.{Part}
-use Rattle.do_network.specs.Net.{Net, change_place}
-use Rattle.do_network.specs.Site.{Handled, handled}
-use Rattle.do_network.specs.Step.{place_after}
+use Rattle.do_machine.specs.declared.state.{Effect.Effect, Parcel.Parcel}
+use Rattle.do_network.specs.{Counting.counted, Frames.all_posted, Links.Part}
+use Rattle.do_network.specs.{Net.{Net, change_place}, Site.{Handled, handled}, Step.place_after}
 use Rattle.do_network.specs.fits.Notes.{Note}
 use Rattle.do_agreement.specs.NotesSent.{notes_to}
 

@@ -1,13 +1,12 @@
 -- A network in which a site has an item in hand.
+use Rattle.do_machine.specs.declared.item.Item.TheVariants as items
 use Rattle.std.specs.Prelude.{Bool, List, false, if◌then◌else◌, true, ℕ, ◌&&◌, ◌==◌}
 use Rattle.do_coder.specs.declared.recent.pair.Pair.{Pair}
 use Rattle.do_frames.specs.Frames.{after_frame, raw}
 use Rattle.do_machine.specs.declared.item.Item.{Item}
-use Rattle.do_machine.specs.declared.item.Item.TheVariants as items
 use Rattle.do_network.specs.Links.{Link, Part, change_link}
 use Rattle.do_network.specs.Net.{Carried, Lost, Net, Place, Whole, change_place, with_channel}
-use Rattle.do_network.specs.Step.{advanced}
-use Rattle.do_network.specs.fits.Notes.{Note, note_frame}
+use Rattle.do_network.specs.{Step.advanced, fits.Notes.{Note, note_frame}}
 use Rattle.do_agreement.specs.InHand.{in_hand}
 
 -- what stands in a channel for something under way, by the table of the names before it

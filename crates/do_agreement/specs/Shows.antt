@@ -1,10 +1,8 @@
 -- When a network has the nodes and the queues of a state of the machine.
 use Rattle.std.specs.Prelude.{List, Some, false, map, option_map, ℕ, ◌==◌, ◌≡◌}
-use Rattle.do_machine.specs.declared.node.Node.{Node}
-use Rattle.do_machine.specs.declared.state.State.{State}
+use Rattle.do_machine.specs.declared.{node.Node.Node, state.State.State}
 use Rattle.do_machine.specs.State.{node, ports, queue}
-use Rattle.do_network.specs.Net.{Net, channel, net_ports, part_at}
-use Rattle.do_network.specs.fits.Notes.{Note}
+use Rattle.do_network.specs.{Net.{Net, channel, net_ports, part_at}, fits.Notes.Note}
 
 -- A network has the nodes of a state, and what is under way is of the items that wait there
 pub record Shows (N : Net) (under_way : ℕ → ℕ → List Note) (S : State) : Type 0 where

@@ -1,8 +1,6 @@
 -- What is under way between two nodes of a state.
 use Rattle.std.specs.Prelude.{List, Some, map, ◌≡◌, ◌≢◌}
-use Rattle.do_machine.specs.declared.node.Node.{Node}
-use Rattle.do_machine.specs.declared.state.State.{State}
-use Rattle.do_machine.specs.State.{node, queue}
+use Rattle.do_machine.specs.{declared.{node.Node.Node, state.State.State}, State.{node, queue}}
 use Rattle.do_network.specs.fits.Notes.{Note}
 
 -- Two nodes are those of their ports in a state, and notes there and back are of the items that

@@ -1,15 +1,9 @@
 -- When a network tallies with a state of the machine.
 use Rattle.std.specs.Prelude.{List, ℕ}
 use Rattle.do_class.specs.Class.{Class}
-use Rattle.do_machine.specs.declared.state.Effect.{Effect}
-use Rattle.do_machine.specs.declared.state.State.{State}
-use Rattle.do_machine.specs.held.Leaving.{leaving}
-use Rattle.do_network.specs.Counting.{counted}
-use Rattle.do_network.specs.Net.{Net}
-use Rattle.do_network.specs.Own.{Own, is_counted}
-use Rattle.do_network.specs.fits.Notes.{Note}
-use Rattle.do_agreement.specs.CountsFit.{CountsFit, none_closes}
-use Rattle.do_agreement.specs.Shows.{Shows}
+use Rattle.do_machine.specs.{declared.state.{Effect.Effect, State.State}, held.Leaving.leaving}
+use Rattle.do_network.specs.{Counting.counted, Net.Net, Own.{Own, is_counted}, fits.Notes.Note}
+use Rattle.do_agreement.specs.{CountsFit.{CountsFit, none_closes}, Shows.Shows}
 
 -- A network has the nodes and the queues of a state, and its counts, links and channels fit
 pub record Tallies (table : List Class) (N : Net) (S : State) : Type 0 where

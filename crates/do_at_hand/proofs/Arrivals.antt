@@ -1,18 +1,13 @@
 -- What comes in a message names only objects that pass, where its names and copies do.
-use Rattle.std.proofs.Common.{◌≡◌, ◌+◌, ◌<◌, ℕ, ℤ, zero, suc, Bool, true, false, cond}
-use Rattle.std.proofs.Common.{List as Listed, [], ◌∷◌, map, refl, sym, subst, rules}
-use Rattle.std.specs.Prelude.{nat_lt, slice_get, unwrap_or}
-use Rattle.std.specs.List.{AllByRecursion}
-use Rattle.std.proofs.lemmas.Bool.Decides.{nat_tests}
-use Rattle.std.proofs.Common.{arith}
-use Rattle.do_base.specs.names.Names.{ObjectName}
-use Rattle.do_base.specs.declared.values.value.Value.{Value, List}
-use Rattle.do_base.specs.declared.values.value.Value.TheVariants.{Nil, Num, Obj, Text}
-use Rattle.do_class.specs.declared.packet.Copied.{Copied}
-use Rattle.do_class.specs.declared.packet.Part.{List as Parts, Part, ind-Part, map-Part, roll-Part}
-use Rattle.do_class.specs.declared.packet.Part.{the_lemmas}
-use Rattle.do_class.specs.declared.packet.Part.TheOpen.{Part-F}
 use Rattle.do_class.specs.declared.packet.Part.TheVariants as part
+use Rattle.std.proofs.Common.{◌≡◌, ◌+◌, ◌<◌, ℕ, ℤ, zero, suc, Bool, true, false, cond}
+use Rattle.std.proofs.Common.{List as Listed, [], ◌∷◌, map, refl, sym, subst, rules, arith}
+use Rattle.std.specs.{Prelude.{nat_lt, slice_get, unwrap_or}, List.AllByRecursion}
+use Rattle.std.proofs.lemmas.Bool.Decides.{nat_tests}
+use Rattle.do_base.specs.{names.Names.ObjectName, declared.values.value.Value.{Value, List}}
+use Rattle.do_base.specs.declared.values.value.Value.TheVariants.{Nil, Num, Obj, Text}
+use Rattle.do_class.specs.declared.packet.{Copied.Copied, Part.{List as Parts, Part, ind-Part}}
+use Rattle.do_class.specs.declared.packet.Part.{map-Part, roll-Part, the_lemmas, TheOpen.Part-F}
 use Rattle.do_packet.specs.Unpacking.{copy_at, made_of, value_of}
 use Rattle.do_packet.specs.declared.receipt.Receipt.{Receipt}
 use Rattle.do_machine.specs.Objects.{object_at}

@@ -1,39 +1,25 @@
 -- What a message that is received adds to what a node holds and asks for.
+use Rattle.do_behave.specs.declared.invocation.Reason.TheVariants as reasons
 use Rattle.std.proofs.Common.{◌≡◌, ◌∙◌, ◌==◌, ◌||◌, ◌⊎◌, ℕ, Bool, true, false, cond, not, List, []}
 use Rattle.std.proofs.Common.{◌∷◌, filter, fold, inl, inr, map, refl, sym, ap, subst, arith}
-use Rattle.std.specs.Prelude.{Err, Ok, Result}
-use Rattle.std.specs.List.{list_any}
-use Rattle.std.proofs.lemmas.Bool.Decides.{nat_tests}
-use Rattle.std.proofs.lemmas.List.Sorted.{list_any-IsPermutation}
-use Rattle.do_base.specs.names.Names.{ObjectName}
-use Rattle.do_base.specs.declared.events.exception.Exc.{Exc}
+use Rattle.std.specs.{Prelude.{Err, Ok, Result}, List.list_any}
+use Rattle.std.proofs.lemmas.{Bool.Decides.nat_tests, List.Sorted.list_any-IsPermutation}
+use Rattle.do_base.specs.{names.Names.ObjectName, declared.events.exception.Exc.Exc}
 use Rattle.do_base.specs.declared.values.value.Value.{Value}
-use Rattle.do_class.specs.declared.ids.ClassId.{ClassId}
-use Rattle.do_class.specs.declared.ids.MethodId.{MethodId}
-use Rattle.do_class.specs.declared.packet.Name.{Name}
+use Rattle.do_class.specs.declared.{ids.{ClassId.ClassId, MethodId.MethodId}, packet.Name.Name}
 use Rattle.do_class.specs.declared.packet.Name.TheVariants.{Lent, Mine, Yours}
 use Rattle.do_packet.specs.Met.{has_object, same_object}
 use Rattle.do_behave.specs.declared.invocation.Reason.{Reason}
-use Rattle.do_behave.specs.declared.invocation.Reason.TheVariants as reasons
-use Rattle.do_machine.specs.declared.item.Message.{Message}
-use Rattle.do_machine.specs.declared.node.Node.{Node}
-use Rattle.do_machine.specs.declared.node.Wanted.{Wanted}
-use Rattle.do_machine.specs.Context.{Context}
-use Rattle.do_machine.specs.Effect.{each, only}
-use Rattle.do_machine.specs.Items.{is_exported, name_naming, named_as}
-use Rattle.do_machine.specs.Lists.{IsIn, inserted}
-use Rattle.do_machine.specs.Objects.{joined, object_at}
-use Rattle.do_machine.specs.State.{has_asked, is_open}
+use Rattle.do_machine.specs.declared.{item.Message.Message, node.{Node.Node, Wanted.Wanted}}
+use Rattle.do_machine.specs.{Context.Context, Effect.{each, only}}
+use Rattle.do_machine.specs.{Items.{is_exported, name_naming, named_as}, Lists.{IsIn, inserted}}
+use Rattle.do_machine.specs.{Objects.{joined, object_at}, State.{has_asked, is_open}}
 use Rattle.do_machine.specs.lend.Asking.{asking, same_wanted, settling, wanted, wanted_lt}
-use Rattle.do_machine.specs.take.Receipt.{receiving_name}
-use Rattle.do_machine.specs.take.Requests.{admission, request}
-use Rattle.do_machine.proofs.Bools.{or_left, or_right}
-use Rattle.do_machine.proofs.Inserting.{inserted_moves}
-use Rattle.do_facts.proofs.Chains.{either, is_closed}
-use Rattle.do_facts.proofs.links.HeldChanged.{held_more}
+use Rattle.do_machine.specs.take.{Receipt.receiving_name, Requests.{admission, request}}
+use Rattle.do_machine.proofs.{Bools.{or_left, or_right}, Inserting.inserted_moves}
+use Rattle.do_facts.proofs.{Chains.{either, is_closed}, links.HeldChanged.held_more}
 use Rattle.do_facts.proofs.links.SameIsEqual.{object_itself, wanted_is}
-use Rattle.do_facts.proofs.walk.SmallEffects.{settling_node}
-use Rattle.do_facts.proofs.walk.Takes.{admitted}
+use Rattle.do_facts.proofs.walk.{SmallEffects.settling_node, Takes.admitted}
 
 -- a node that stores, holds and reaches the same, and asks for what it asked for
 pub record Grown (n m : Node) : Type 0 where

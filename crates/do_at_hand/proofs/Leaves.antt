@@ -1,27 +1,19 @@
 -- What a node names is at hand still once it freed and left what it does without.
-use Rattle.std.proofs.Common.{◌≡◌, ◌==◌, ◌||◌, ℕ, Bool, true, false, cond, inl, inr}
-use Rattle.std.proofs.Common.{List, [], ◌∷◌, filter, refl, sym, ap, subst, ◌∙◌, arith}
-use Rattle.std.specs.Prelude.{None, Option, Some, is_some}
-use Rattle.std.specs.List.{AllByRecursion}
-use Rattle.std.proofs.lemmas.Bool.{eqb-true}
-use Rattle.std.proofs.lemmas.Bool.Decides.{nat_tests}
-use Rattle.std.proofs.lemmas.List.Folds.{list_any-append}
+use Rattle.std.proofs.Common.{◌≡◌, ◌==◌, ◌||◌, ℕ, Bool, true, false, cond, inl, inr, List, [], ◌∷◌}
+use Rattle.std.proofs.Common.{filter, refl, sym, ap, subst, ◌∙◌, arith}
+use Rattle.std.specs.{Prelude.{None, Option, Some, is_some}, List.AllByRecursion}
+use Rattle.std.proofs.lemmas.{Bool.{eqb-true, Decides.nat_tests}, List.Folds.list_any-append}
 use Rattle.do_base.specs.names.Names.{ObjectName}
 use Rattle.do_packet.specs.Met.{has_object, same_object}
-use Rattle.do_machine.specs.declared.node.Node.{Node}
-use Rattle.do_machine.specs.declared.node.Stored.{Stored}
-use Rattle.do_machine.specs.Lists.{IsIn}
-use Rattle.do_machine.specs.Objects.{object_at}
-use Rattle.do_machine.specs.State.{has_asked, holds, is_known, is_own, own, stored}
-use Rattle.do_machine.specs.held.Kept.{AreAmong, HoldsItself, is_held_up, is_root, kept, stays}
-use Rattle.do_machine.specs.held.Leaving.{leaving}
+use Rattle.do_machine.specs.{declared.node.{Node.Node, Stored.Stored}, Lists.IsIn}
+use Rattle.do_machine.specs.{Objects.object_at, State.{has_asked, holds, is_known, is_own, own}}
+use Rattle.do_machine.specs.{State.stored, held.Kept.{AreAmong, HoldsItself, is_held_up, is_root}}
+use Rattle.do_machine.specs.held.{Kept.{kept, stays}, Leaving.leaving}
 use Rattle.do_machine.specs.held.Refers.{heap_objects, node_objects, objects_in, stack_objects}
-use Rattle.do_machine.proofs.Bools.{or_cases, or_left, or_right}
-use Rattle.do_machine.proofs.Keeping.{are_kept}
+use Rattle.do_machine.proofs.{Bools.{or_cases, or_left, or_right}, Keeping.are_kept}
 use Rattle.do_facts.proofs.links.SameIsEqual.{object_is}
 use Rattle.do_at_hand.specs.AtHand.{in_use, is_at_hand}
-use Rattle.do_at_hand.proofs.Shown.{AllName}
-use Rattle.do_at_hand.proofs.Within.{AtHand, RootWithin, foreign_hand, of_passes}
+use Rattle.do_at_hand.proofs.{Shown.AllName, Within.{AtHand, RootWithin, foreign_hand, of_passes}}
 use Rattle.do_at_hand.proofs.Within.{own_hand, own_is, passes_of}
 
 -- what holds of each of a heap holds of one in it

@@ -1,17 +1,13 @@
 -- Starts that may stand in a schedule give no objects.
-use Rattle.std.proofs.Common.{◌≡◌, ℕ, zero, suc, List as Listed, [], ◌∷◌, sym, subst}
-use Rattle.std.specs.Prelude.{replicate}
-use Rattle.std.specs.List.{AllByRecursion, flat_map}
-use Rattle.do_base.specs.values.Values.{objects_of}
 use Rattle.do_base.specs.declared.events.event.Event.TheVariants as events
-use Rattle.do_base.specs.declared.values.value.Value.{Value}
+use Rattle.std.proofs.Common.{◌≡◌, ℕ, zero, suc, List as Listed, [], ◌∷◌, sym, subst}
+use Rattle.std.specs.{Prelude.replicate, List.{AllByRecursion, flat_map}}
+use Rattle.do_base.specs.{values.Values.objects_of, declared.values.value.Value.Value}
 use Rattle.do_machine.specs.check.Blocks.{events_of}
-use Rattle.do_sched.specs.Good.{IsLine, IsPlain, nil, number, text}
-use Rattle.do_sched.specs.declared.line.Line.{Line}
+use Rattle.do_sched.specs.{Good.{IsLine, IsPlain, nil, number, text}, declared.line.Line.Line}
 use Rattle.do_sched.specs.declared.line.Line.TheVariants.{Start, Run}
 use Rattle.do_facts.proofs.EachOfLists.{each_joined}
-use Rattle.do_at_hand.specs.AtHand.{StartsPlain}
-use Rattle.do_at_hand.proofs.Shown.{none_in, number_in, text_in}
+use Rattle.do_at_hand.{specs.AtHand.StartsPlain, proofs.Shown.{none_in, number_in, text_in}}
 
 -- there are no objects in a value
 abbrev HasNone : Value → Type 0

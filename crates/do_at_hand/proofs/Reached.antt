@@ -1,70 +1,41 @@
 -- In every state with all ends open that a machine comes to, nodes name only what is at hand, and
 -- each object that they name is stored at its home.
+use Rattle.do_base.specs.declared.events.event.Event.TheVariants as events
+use Rattle.do_machine.specs.declared.item.Item.TheVariants as items
 use Rattle.std.proofs.Common.{◌≡◌, ◌∙◌, ◌==◌, ◌&&◌, ◌||◌, ℕ, Bool, true, false, cond, not, List, []}
 use Rattle.std.proofs.Common.{◌∷◌, filter, map, refl, sym, ap, subst, arith, inl, inr}
-use Rattle.std.specs.Prelude.{Option, Some, is_some, unwrap_or}
-use Rattle.std.specs.List.{AllByRecursion, list_any}
-use Rattle.std.proofs.lemmas.Bool.{eqb-true}
-use Rattle.std.proofs.lemmas.Bool.Decides.{nat_tests}
-use Rattle.std.proofs.lemmas.List.Elements.{recursion_from_All}
-use Rattle.do_base.specs.names.Names.{ObjectName}
-use Rattle.do_base.specs.declared.events.event.Event.{Event}
-use Rattle.do_base.specs.declared.events.event.Event.TheVariants as events
+use Rattle.std.specs.{Prelude.{Option, Some, is_some, unwrap_or}, List.{AllByRecursion, list_any}}
+use Rattle.std.proofs.lemmas.{Bool.{eqb-true, Decides.nat_tests}, List.Elements.recursion_from_All}
+use Rattle.do_base.specs.{names.Names.ObjectName, declared.events.event.Event.Event}
 use Rattle.do_class.specs.Class.{Class}
 use Rattle.do_packet.specs.Met.{has_object, same_object}
-use Rattle.do_machine.specs.declared.item.Item.{Item}
-use Rattle.do_machine.specs.declared.item.Item.TheVariants as items
-use Rattle.do_machine.specs.declared.node.Node.{Node}
-use Rattle.do_machine.specs.declared.node.Wanted.{Wanted}
-use Rattle.do_machine.specs.declared.state.Effect.{Effect}
-use Rattle.do_machine.specs.declared.state.Seat.{Seat}
-use Rattle.do_machine.specs.declared.state.State.{State}
-use Rattle.do_machine.specs.declared.state.Stepped.{Stepped}
-use Rattle.do_machine.specs.Commit.{skipped}
-use Rattle.do_machine.specs.Context.{Context, context}
-use Rattle.do_machine.specs.Entry.{has_entry, is_holder, is_on_its_way_back, is_reached}
-use Rattle.do_machine.specs.Entry.{is_under_way}
-use Rattle.do_machine.specs.Items.{exported, released}
-use Rattle.do_machine.specs.Lists.{some_passes}
-use Rattle.do_machine.specs.Objects.{object_at}
+use Rattle.do_machine.specs.declared.{item.Item.Item, node.{Node.Node, Wanted.Wanted}}
+use Rattle.do_machine.specs.declared.state.{Effect.Effect, Seat.Seat, State.State, Stepped.Stepped}
+use Rattle.do_machine.specs.{Commit.skipped, Context.{Context, context}, Entry.has_entry}
+use Rattle.do_machine.specs.Entry.{is_holder, is_on_its_way_back, is_reached, is_under_way}
+use Rattle.do_machine.specs.{Items.{exported, released}, Lists.some_passes, Objects.object_at}
 use Rattle.do_machine.specs.State.{has_asked, holds, is_known, is_open, is_own, node, own, queue}
-use Rattle.do_machine.specs.State.{stored}
-use Rattle.do_machine.specs.Step.{step}
-use Rattle.do_machine.specs.World.{by_port, opening, opening_node}
-use Rattle.do_machine.specs.check.Blocks.{followed, steps}
-use Rattle.do_machine.specs.ends.Closing.{asked_of, closing, parted}
-use Rattle.do_machine.specs.held.Leaving.{leaving}
-use Rattle.do_machine.specs.lend.Asking.{same_wanted}
-use Rattle.do_machine.specs.run.Fresh.{blank}
-use Rattle.do_machine.specs.run.Run.{Acting}
-use Rattle.do_machine.specs.take.Take.{holding, take_effect}
+use Rattle.do_machine.specs.{State.stored, Step.step, World.{by_port, opening, opening_node}}
+use Rattle.do_machine.specs.{check.Blocks.{followed, steps}, ends.Closing.{asked_of, closing}}
+use Rattle.do_machine.specs.{ends.Closing.parted, held.Leaving.leaving, lend.Asking.same_wanted}
+use Rattle.do_machine.specs.{run.{Fresh.blank, Run.Acting}, take.Take.{holding, take_effect}}
 use Rattle.do_machine.proofs.Bools.{fails, or_cases, or_right}
-use Rattle.do_facts.specs.Made.{is_stored}
-use Rattle.do_facts.specs.Reached.{reached}
-use Rattle.do_facts.specs.Net.{total}
-use Rattle.do_facts.specs.View.{net_of, part_seen, wire_seen}
-use Rattle.do_facts.specs.links.Links.{links}
-use Rattle.do_facts.specs.links.Moves.{has_wanted, opens}
+use Rattle.do_facts.specs.{Made.is_stored, Reached.reached, Net.total, View.{net_of, part_seen}}
+use Rattle.do_facts.specs.{View.wire_seen, links.{Links.links, Moves.{has_wanted, opens}}}
 use Rattle.do_facts.specs.steps.IsStep.{IsActOf, IsRuleOf, without_oldest}
-use Rattle.do_facts.proofs.OpeningAsNet.{opened}
-use Rattle.do_facts.proofs.links.EntriesStored.{entered_stored, stored_same}
+use Rattle.do_facts.proofs.{OpeningAsNet.opened, links.EntriesStored.{entered_stored, stored_same}}
 use Rattle.do_facts.proofs.links.SameIsEqual.{object_is, wanted_itself}
-use Rattle.do_facts.proofs.machine.follows.Every.{grow_steps}
-use Rattle.do_facts.proofs.machine.follows.States.{requeued}
+use Rattle.do_facts.proofs.machine.follows.{Every.grow_steps, States.requeued}
 use Rattle.do_facts.proofs.machine.passing.Lookups.{elsewhere_stays, that_changed}
 use Rattle.do_facts.proofs.steps.NodeSteps.{Acted, NodeStep, Stands, Took, node_step}
 use Rattle.do_facts.proofs.walk.SmallEffects.{settled_node}
 use Rattle.do_quiet.specs.Quiet.{AllEndsOpen, is_gone}
-use Rattle.do_quiet.proofs.Backing.{all_in, asked_stored, gone_of}
-use Rattle.do_quiet.proofs.LendsKept.{StandsLent, first_ends, opening_lent, step_lent}
-use Rattle.do_quiet.proofs.QuietStates.{reach}
-use Rattle.do_at_hand.specs.AtHand.{AllAtHand, NamedAreStored, ShowsNames, StartsPlain}
-use Rattle.do_at_hand.specs.AtHand.{is_at_hand}
-use Rattle.do_at_hand.proofs.Leaves.{leaves_at_hand}
-use Rattle.do_at_hand.proofs.Runs.{Good, GoodIf, run_good, start_good, time_out_good}
-use Rattle.do_at_hand.proofs.Takes.{IsNoEnd, take_good}
-use Rattle.do_at_hand.proofs.Within.{AtHand, blank_within, own_hand, own_is, passes_of}
-use Rattle.do_at_hand.proofs.Within.{stored_one}
+use Rattle.do_quiet.proofs.{Backing.{all_in, asked_stored, gone_of}, LendsKept.StandsLent}
+use Rattle.do_quiet.proofs.{LendsKept.{first_ends, opening_lent, step_lent}, QuietStates.reach}
+use Rattle.do_at_hand.specs.AtHand.{AllAtHand, NamedAreStored, ShowsNames, StartsPlain, is_at_hand}
+use Rattle.do_at_hand.proofs.{Leaves.leaves_at_hand, Runs.{Good, GoodIf, run_good, start_good}}
+use Rattle.do_at_hand.proofs.{Runs.time_out_good, Takes.{IsNoEnd, take_good}}
+use Rattle.do_at_hand.proofs.Within.{AtHand, blank_within, own_hand, own_is, passes_of, stored_one}
 
 -- an end that is closed is not open
 end_closed : (peer : ℕ) (ps : List ℕ) →

@@ -1,62 +1,40 @@
 -- A run, a start and a time-out leave a node that names only what is at hand.
-use Rattle.std.proofs.Common.{◌≡◌, ◌∙◌, ◌==◌, ℕ, Bool, true, false, cond, not, List, [], ◌∷◌}
-use Rattle.std.proofs.Common.{map, refl, sym, ap, subst, arith}
-use Rattle.std.specs.Prelude.{None, Option, Some, is_some, option_map, slice_set}
-use Rattle.std.specs.List.{AllByRecursion}
-use Rattle.std.proofs.lemmas.Bool.{eqb-true}
-use Rattle.std.proofs.lemmas.List.Elements.{recursion_from_All}
-use Rattle.do_base.specs.names.Names.{ObjectName}
-use Rattle.do_base.specs.values.Kinds.{is_nil, object}
-use Rattle.do_base.specs.values.Values.{objects_of}
-use Rattle.do_base.specs.declared.events.exception.Exc.{Exc}
-use Rattle.do_base.specs.declared.events.exception.Exc.TheVariants.{TooLarge, TypeFault}
-use Rattle.do_base.specs.declared.values.value.Value.{Value}
-use Rattle.do_base.specs.declared.values.value.Value.TheVariants.{Nil, Obj, Text}
-use Rattle.do_class.specs.Class.{Class}
-use Rattle.do_class.specs.declared.ids.ClassId.{ClassId}
-use Rattle.do_sig.specs.Calls.{args_fit, is_in, is_oneway, qualifier_of}
-use Rattle.do_sig.specs.declared.encoding.Encoding.{Encoding}
-use Rattle.do_sig.specs.declared.signature.Signature.{Signature}
-use Rattle.do_behave.specs.Answers.{NamesOnly, NamesShown, objects_named, values_of}
-use Rattle.do_behave.specs.InPlace.{written}
-use Rattle.do_behave.specs.declared.act.Act.{Act}
 use Rattle.do_behave.specs.declared.act.Act.TheVariants as acts
-use Rattle.do_behave.specs.declared.act.Write.{Write}
-use Rattle.do_behave.specs.declared.invocation.Answer.{Answer}
-use Rattle.do_behave.specs.declared.invocation.Answer.TheVariants.{Given, Raised}
-use Rattle.do_behave.specs.declared.invocation.Handler.{Handler}
-use Rattle.do_behave.specs.declared.invocation.Invocation.{Invocation}
-use Rattle.do_behave.specs.declared.invocation.InvState.{InvState}
-use Rattle.do_behave.specs.declared.invocation.InvState.TheVariants.{Answered, Below, Running}
-use Rattle.do_behave.specs.declared.invocation.InvState.TheVariants.{Waits}
-use Rattle.do_behave.specs.declared.invocation.Reason.{Reason}
 use Rattle.do_behave.specs.declared.invocation.Reason.TheVariants as reasons
 use Rattle.do_machine.specs.declared.item.Item.TheVariants as items
-use Rattle.do_machine.specs.declared.node.Lend.{Lend}
-use Rattle.do_machine.specs.declared.node.Node.{Node}
-use Rattle.do_machine.specs.declared.node.Stored.{Stored}
-use Rattle.do_machine.specs.declared.state.Effect.{Effect}
-use Rattle.do_machine.specs.declared.verdict.Request.{Request}
 use Rattle.do_machine.specs.declared.verdict.Request.TheVariants as requests
-use Rattle.do_machine.specs.declared.verdict.SendAct.{SendAct}
-use Rattle.do_machine.specs.declared.verdict.Verdict.{Verdict}
+use Rattle.std.proofs.Common.{◌≡◌, ◌∙◌, ◌==◌, ℕ, Bool, true, false, cond, not, List, [], ◌∷◌, map}
+use Rattle.std.{proofs.Common.{refl, sym, ap, subst, arith}, specs.Prelude.{None, Option, Some}}
+use Rattle.std.specs.{Prelude.{is_some, option_map, slice_set}, List.AllByRecursion}
+use Rattle.std.proofs.lemmas.{Bool.eqb-true, List.Elements.recursion_from_All}
+use Rattle.do_base.specs.{names.Names.ObjectName, values.Kinds.{is_nil, object}}
+use Rattle.do_base.specs.{values.Values.objects_of, declared.events.exception.Exc.Exc}
+use Rattle.do_base.specs.declared.events.exception.Exc.TheVariants.{TooLarge, TypeFault}
+use Rattle.do_base.specs.declared.values.value.Value.{Value, TheVariants.{Nil, Obj, Text}}
+use Rattle.do_class.specs.{Class.Class, declared.ids.ClassId.ClassId}
+use Rattle.do_sig.specs.Calls.{args_fit, is_in, is_oneway, qualifier_of}
+use Rattle.do_sig.specs.declared.{encoding.Encoding.Encoding, signature.Signature.Signature}
+use Rattle.do_behave.specs.Answers.{NamesOnly, NamesShown, objects_named, values_of}
+use Rattle.do_behave.specs.{InPlace.written, declared.act.{Act.Act, Write.Write}}
+use Rattle.do_behave.specs.declared.invocation.Answer.{Answer, TheVariants.{Given, Raised}}
+use Rattle.do_behave.specs.declared.invocation.{Handler.Handler, Invocation.Invocation}
+use Rattle.do_behave.specs.declared.invocation.InvState.{InvState, TheVariants.{Answered, Below}}
+use Rattle.do_behave.specs.declared.invocation.InvState.TheVariants.{Running, Waits}
+use Rattle.do_behave.specs.declared.invocation.Reason.{Reason}
+use Rattle.do_machine.specs.declared.node.{Lend.Lend, Node.Node, Stored.Stored}
+use Rattle.do_machine.specs.declared.{state.Effect.Effect, verdict.Request.Request}
+use Rattle.do_machine.specs.declared.verdict.{SendAct.SendAct, Verdict.Verdict}
 use Rattle.do_machine.specs.declared.verdict.Verdict.TheVariants.{Asks, Begins, Fails, Goes, Makes}
 use Rattle.do_machine.specs.declared.verdict.Verdict.TheVariants.{Returns, Says, Steps, Tells, Uses}
-use Rattle.do_machine.specs.declared.verdict.Verdict.TheVariants.{Vends}
-use Rattle.do_machine.specs.Context.{Context, RunContext, method_for, own_class}
-use Rattle.do_machine.specs.Effect.{only, queueing}
-use Rattle.do_machine.specs.Lists.{change_first}
-use Rattle.do_machine.specs.Objects.{object_at}
-use Rattle.do_machine.specs.Packing.{packed_for}
-use Rattle.do_machine.specs.Start.{is_busy, start_effect}
-use Rattle.do_machine.specs.State.{is_open, is_own, own, stored}
+use Rattle.do_machine.specs.{declared.verdict.Verdict.TheVariants.Vends, Context.Context}
+use Rattle.do_machine.specs.{Context.{RunContext, method_for, own_class}, Effect.{only, queueing}}
+use Rattle.do_machine.specs.{Lists.change_first, Objects.object_at, Packing.packed_for}
+use Rattle.do_machine.specs.{Start.{is_busy, start_effect}, State.{is_open, is_own, own, stored}}
 use Rattle.do_machine.specs.ends.TimeOut.{give_up, time_out, time_out_on}
 use Rattle.do_machine.specs.held.Refers.{answer_values, state_values}
-use Rattle.do_machine.specs.lend.Lending.{lending, posting}
-use Rattle.do_machine.specs.run.Acts.{act_rule, vend_rule}
+use Rattle.do_machine.specs.{lend.Lending.{lending, posting}, run.Acts.{act_rule, vend_rule}}
 use Rattle.do_machine.specs.run.Answers.{answer_placed, exc_name, oneway_answer, replying}
-use Rattle.do_machine.specs.run.Changes.{goes_on, goes_to, stands, with_outs}
-use Rattle.do_machine.specs.run.Changes.{with_writes}
+use Rattle.do_machine.specs.run.Changes.{goes_on, goes_to, stands, with_outs, with_writes}
 use Rattle.do_machine.specs.run.Delivery.{below_answered, delivery, failing, popped, with_top}
 use Rattle.do_machine.specs.run.Fresh.{blank, fresh, pushed, with_objects}
 use Rattle.do_machine.specs.run.Run.{Acting, next_act, run_effect, run_on, slots_seen, state_rule}
@@ -67,11 +45,10 @@ use Rattle.do_facts.proofs.EachOfLists.{each_changed, each_former, each_joined, 
 use Rattle.do_facts.proofs.EachOfLists.{each_set, each_weaker, found_is}
 use Rattle.do_facts.proofs.RulesOfActs.{Sends, by_return, by_root, by_send}
 use Rattle.do_at_hand.specs.AtHand.{ShowsNames, is_at_hand}
-use Rattle.do_at_hand.proofs.Shown.{AllName, AllPass, Names, all_from_named, flat, nil}
-use Rattle.do_at_hand.proofs.Shown.{of_object, one, texts}
-use Rattle.do_at_hand.proofs.Within.{AtHand, InvocationWithin, RootWithin, begins}
-use Rattle.do_at_hand.proofs.Within.{blank_within, more_at_hand, node_weaker, numbered, own_hand}
-use Rattle.do_at_hand.proofs.Within.{own_is, still_at_hand, stored_behind, stored_one}
+use Rattle.do_at_hand.proofs.Shown.{AllName, AllPass, Names, all_from_named, flat, nil, of_object}
+use Rattle.do_at_hand.proofs.{Shown.{one, texts}, Within.{AtHand, InvocationWithin, RootWithin}}
+use Rattle.do_at_hand.proofs.Within.{begins, blank_within, more_at_hand, node_weaker, numbered}
+use Rattle.do_at_hand.proofs.Within.{own_hand, own_is, still_at_hand, stored_behind, stored_one}
 
 -- ---- invocations, slots and values
 

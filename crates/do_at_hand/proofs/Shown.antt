@@ -1,19 +1,15 @@
 -- Values in which all objects pass a test.
 use Rattle.std.proofs.Common.{◌≡◌, ◌∙◌, ◌++◌, ◌||◌, ℕ, ℤ, Bool, true, false, List as Listed, []}
 use Rattle.std.proofs.Common.{◌∷◌, map, refl, sym, ap, subst, rules}
-use Rattle.std.specs.Prelude.{Some}
-use Rattle.std.specs.List.{AllByRecursion, Contains, flat_map}
+use Rattle.std.specs.{Prelude.Some, List.{AllByRecursion, Contains, flat_map}}
 use Rattle.std.proofs.lemmas.List.Elements.{All-contains, All-from_recursion, All-weaker}
 use Rattle.std.proofs.lemmas.List.Elements.{recursion_from_All}
-use Rattle.do_base.specs.names.Names.{ObjectName}
-use Rattle.do_base.specs.values.Kinds.{object}
-use Rattle.do_base.specs.values.Values.{objects_of}
+use Rattle.do_base.specs.{names.Names.ObjectName, values.{Kinds.object, Values.objects_of}}
 use Rattle.do_base.specs.declared.values.value.Value.{Value, List, the_lemmas}
 use Rattle.do_base.specs.declared.values.value.Value.TheVariants.{Nil, Num, Text, Obj}
 use Rattle.do_behave.specs.Answers.{NamesOnly}
 use Rattle.do_packet.specs.Met.{has_object, same_object}
-use Rattle.do_machine.specs.held.Refers.{objects_in}
-use Rattle.do_machine.proofs.Bools.{or_left, or_right}
+use Rattle.do_machine.{specs.held.Refers.objects_in, proofs.Bools.{or_left, or_right}}
 use Rattle.do_facts.proofs.EachOfLists.{each_former, each_joined, each_latter, each_weaker}
 use Rattle.do_facts.proofs.links.SameIsEqual.{object_is, object_itself}
 

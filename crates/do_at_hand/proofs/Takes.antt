@@ -1,62 +1,42 @@
 -- A take leaves a node that names only what is at hand.
+use Rattle.do_behave.specs.declared.invocation.Reason.TheVariants as reasons
+use Rattle.do_behave.specs.declared.invocation.Waited.TheVariants as waiteds
+use Rattle.do_machine.specs.declared.item.Item.TheVariants as items
 use Rattle.std.proofs.Common.{◌≡◌, ◌∙◌, ◌==◌, ◌+◌, ◌<◌, ◌&&◌, ◌++◌, ℕ, Bool, true, false, cond}
 use Rattle.std.proofs.Common.{List, [], ◌∷◌, inl, inr, length, map, refl, sym, ap, subst, arith}
-use Rattle.std.specs.Prelude.{None, Option, Some, is_some}
-use Rattle.std.specs.List.{AllByRecursion}
+use Rattle.std.specs.{Prelude.{None, Option, Some, is_some}, List.AllByRecursion}
 use Rattle.std.proofs.lemmas.List.{length-map}
 use Rattle.do_base.specs.names.Names.{ObjectName, TokenName}
 use Rattle.do_base.specs.declared.events.exception.Exc.TheVariants.{ConnectionDied, TypeFault}
-use Rattle.do_base.specs.declared.values.value.Value.{Value}
-use Rattle.do_base.specs.declared.values.value.Value.TheVariants.{Nil, Obj}
-use Rattle.do_class.specs.Class.{Class}
-use Rattle.do_class.specs.Table.{signature_of}
-use Rattle.do_class.specs.declared.ids.ClassId.{ClassId}
-use Rattle.do_class.specs.declared.packet.Name.{Name}
-use Rattle.do_class.specs.declared.packet.Name.TheVariants.{Lent, Mine, Yours}
+use Rattle.do_base.specs.declared.values.value.Value.{Value, TheVariants.{Nil, Obj}}
+use Rattle.do_class.specs.{Class.Class, Table.signature_of, declared.ids.ClassId.ClassId}
+use Rattle.do_class.specs.declared.packet.Name.{Name, TheVariants.{Lent, Mine, Yours}}
 use Rattle.do_class.specs.declared.packet.Packet.{Packet}
-use Rattle.do_sig.specs.Calls.{encoding_fits, returned_fits}
-use Rattle.do_sig.specs.Fits.{each_takes}
+use Rattle.do_sig.specs.{Calls.{encoding_fits, returned_fits}, Fits.each_takes}
 use Rattle.do_sig.specs.declared.signature.Signature.{Signature}
-use Rattle.do_behave.specs.declared.invocation.Answer.{Answer}
-use Rattle.do_behave.specs.declared.invocation.Answer.TheVariants.{Given, Raised}
-use Rattle.do_behave.specs.declared.invocation.InvState.{InvState}
-use Rattle.do_behave.specs.declared.invocation.InvState.TheVariants.{Answered, Waits}
-use Rattle.do_behave.specs.declared.invocation.Reason.TheVariants as reasons
+use Rattle.do_behave.specs.declared.invocation.Answer.{Answer, TheVariants.{Given, Raised}}
+use Rattle.do_behave.specs.declared.invocation.InvState.{InvState, TheVariants.{Answered, Waits}}
 use Rattle.do_behave.specs.declared.invocation.Waited.{Waited}
-use Rattle.do_behave.specs.declared.invocation.Waited.TheVariants as waiteds
-use Rattle.do_packet.specs.Met.{has_object, same_object}
-use Rattle.do_packet.specs.Unpacking.{made_of, name_value, name_values}
-use Rattle.do_packet.specs.declared.receipt.Receipt.{Receipt}
-use Rattle.do_machine.specs.declared.item.Item.{Item}
-use Rattle.do_machine.specs.declared.item.Item.TheVariants as items
-use Rattle.do_machine.specs.declared.node.Node.{Node}
-use Rattle.do_machine.specs.declared.node.Wanted.{Wanted}
-use Rattle.do_machine.specs.Context.{Context}
-use Rattle.do_machine.specs.Effect.{queueing}
-use Rattle.do_machine.specs.Items.{exported}
-use Rattle.do_machine.specs.Lists.{IsIn}
-use Rattle.do_machine.specs.Objects.{object_at}
-use Rattle.do_machine.specs.State.{has_asked, holds, is_known, is_open, own, stored}
-use Rattle.do_machine.specs.ends.Closing.{died, parted, without_answer}
-use Rattle.do_machine.specs.held.Refers.{answer_values, state_values}
-use Rattle.do_machine.specs.lend.Asking.{wanted, without_wanted}
-use Rattle.do_machine.specs.run.Fresh.{with_objects, with_serials}
-use Rattle.do_machine.specs.run.Send.{outs_of}
-use Rattle.do_machine.specs.take.Awaiting.{AnsweredCall, answered_state, answering, awaits}
-use Rattle.do_machine.specs.take.Awaiting.{method_answer, values_answer, with_answer}
-use Rattle.do_machine.specs.take.Receipt.{arrived, is_entered, is_reachable, reading, receiving}
-use Rattle.do_machine.specs.take.Take.{holding, take_effect}
+use Rattle.do_packet.specs.{Met.{has_object, same_object}, Unpacking.{made_of, name_value}}
+use Rattle.do_packet.specs.{Unpacking.name_values, declared.receipt.Receipt.Receipt}
+use Rattle.do_machine.specs.declared.{item.Item.Item, node.{Node.Node, Wanted.Wanted}}
+use Rattle.do_machine.specs.{Context.Context, Effect.queueing, Items.exported, Lists.IsIn}
+use Rattle.do_machine.specs.{Objects.object_at, State.{has_asked, holds, is_known, is_open, own}}
+use Rattle.do_machine.specs.{State.stored, ends.Closing.{died, parted, without_answer}}
+use Rattle.do_machine.specs.{held.Refers.{answer_values, state_values}, lend.Asking.wanted}
+use Rattle.do_machine.specs.{lend.Asking.without_wanted, run.Fresh.{with_objects, with_serials}}
+use Rattle.do_machine.specs.{run.Send.outs_of, take.Awaiting.{AnsweredCall, answered_state}}
+use Rattle.do_machine.specs.take.Awaiting.{answering, awaits, method_answer, values_answer}
+use Rattle.do_machine.specs.take.{Awaiting.with_answer, Receipt.{arrived, is_entered, is_reachable}}
+use Rattle.do_machine.specs.take.{Receipt.{reading, receiving}, Take.{holding, take_effect}}
 use Rattle.do_machine.proofs.Bools.{or_cases, or_left, or_right}
-use Rattle.do_facts.proofs.Chains.{either}
-use Rattle.do_facts.proofs.EachOfLists.{each_changed, each_joined, each_mapped, each_weaker}
-use Rattle.do_facts.proofs.walk.SmallEffects.{settling_node}
+use Rattle.do_facts.proofs.{Chains.either, EachOfLists.{each_changed, each_joined, each_mapped}}
+use Rattle.do_facts.proofs.{EachOfLists.each_weaker, walk.SmallEffects.settling_node}
 use Rattle.do_facts.proofs.walk.Takes.{Takes, by_take as taken, packet_in}
 use Rattle.do_quiet.specs.Quiet.{is_gone}
-use Rattle.do_at_hand.specs.AtHand.{is_at_hand}
-use Rattle.do_at_hand.proofs.Arrivals.{copies_fine, parts_fine}
+use Rattle.do_at_hand.{specs.AtHand.is_at_hand, proofs.Arrivals.{copies_fine, parts_fine}}
 use Rattle.do_at_hand.proofs.Grown.{Grown, asked_or, by_names, by_request, held_now, held_still}
-use Rattle.do_at_hand.proofs.Grown.{lent_asked, named_exported, then_grown}
-use Rattle.do_at_hand.proofs.Runs.{stored_own}
+use Rattle.do_at_hand.proofs.{Grown.{lent_asked, named_exported, then_grown}, Runs.stored_own}
 use Rattle.do_at_hand.proofs.Shown.{AllName, Names, nil, one}
 use Rattle.do_at_hand.proofs.Within.{AtHand, InvocationWithin, NodeWithin, begins, foreign_hand}
 use Rattle.do_at_hand.proofs.Within.{node_weaker, numbered, own_hand, own_is, still_at_hand}

@@ -2,33 +2,23 @@
 -- what is at hand.
 use Rattle.std.proofs.Common.{◌≡◌, ◌==◌, ◌+◌, ◌<◌, ◌++◌, ℕ, zero, suc, Bool, true, false, cond}
 use Rattle.std.proofs.Common.{List, [], ◌∷◌, length, map, refl, ap, subst, ◌∙◌, arith}
-use Rattle.std.specs.Prelude.{None, Option, Some, is_some, replicate, ◌-◌}
-use Rattle.std.specs.List.{AllByRecursion}
+use Rattle.std.specs.{Prelude.{None, Option, Some, is_some, replicate, ◌-◌}, List.AllByRecursion}
 use Rattle.std.proofs.lemmas.Bool.Decides.{nat_tests}
-use Rattle.do_base.specs.names.Names.{ObjectName}
-use Rattle.do_base.specs.declared.values.value.Value.{Value}
+use Rattle.do_base.specs.{names.Names.ObjectName, declared.values.value.Value.Value}
 use Rattle.do_base.specs.declared.values.value.Value.TheVariants.{Nil}
-use Rattle.do_class.specs.Class.{Class}
-use Rattle.do_class.specs.Table.{slots_of}
-use Rattle.do_class.specs.declared.ids.ClassId.{ClassId}
-use Rattle.do_class.specs.declared.ids.MethodId.{MethodId}
-use Rattle.do_class.specs.declared.ids.Slot.{Slot}
-use Rattle.do_packet.specs.declared.receipt.Made.{Made}
-use Rattle.do_packet.specs.Met.{has_object}
-use Rattle.do_behave.specs.declared.invocation.Invocation.{Invocation}
-use Rattle.do_behave.specs.declared.invocation.Reason.{Reason}
-use Rattle.do_machine.specs.declared.node.Node.{Node}
-use Rattle.do_machine.specs.declared.node.Stored.{Stored}
-use Rattle.do_machine.specs.Objects.{object_at}
+use Rattle.do_class.specs.{Class.Class, Table.slots_of, declared.ids.ClassId.ClassId}
+use Rattle.do_class.specs.declared.ids.{MethodId.MethodId, Slot.Slot}
+use Rattle.do_packet.specs.{declared.receipt.Made.Made, Met.has_object}
+use Rattle.do_behave.specs.declared.invocation.{Invocation.Invocation, Reason.Reason}
+use Rattle.do_machine.specs.{declared.node.{Node.Node, Stored.Stored}, Objects.object_at}
 use Rattle.do_machine.specs.State.{is_known, is_own, own, stored}
 use Rattle.do_machine.specs.held.Refers.{heap_objects, invocation_objects, objects_in}
 use Rattle.do_machine.specs.held.Refers.{stack_objects, state_values}
 use Rattle.do_machine.specs.run.Fresh.{blank, fresh, with_objects, with_serials}
 use Rattle.do_facts.proofs.EachOfLists.{each_former, each_joined, each_latter, each_replicated}
 use Rattle.do_facts.proofs.EachOfLists.{each_weaker}
-use Rattle.do_at_hand.specs.AtHand.{in_use, is_at_hand}
-use Rattle.do_at_hand.proofs.Shown.{AllName, AllPass, Names, Passes, flat, from_among, nil}
-use Rattle.do_at_hand.proofs.Shown.{of_among, unflat, weaker}
+use Rattle.do_at_hand.{specs.AtHand.{in_use, is_at_hand}, proofs.Shown.{AllName, AllPass, Names}}
+use Rattle.do_at_hand.proofs.Shown.{Passes, flat, from_among, nil, of_among, unflat, weaker}
 
 module _ (H : ObjectName → Bool) where
   -- an invocation, its locals and its answer name only such objects

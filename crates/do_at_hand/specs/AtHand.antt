@@ -1,20 +1,15 @@
 -- The objects that slots and invocations name, and whether their nodes can use them.
+use Rattle.do_base.specs.declared.events.event.Event.TheVariants as events
 use Rattle.std.specs.Prelude.{Bool, List, Some, [], if◌then◌else◌, is_some, true, ℕ, ◌++◌, ◌≡◌}
 use Rattle.std.specs.List.{AllByRecursion}
-use Rattle.do_base.specs.names.Names.{ObjectName}
-use Rattle.do_base.specs.values.Values.{objects_of}
-use Rattle.do_base.specs.declared.events.event.Event.{Event}
-use Rattle.do_base.specs.declared.events.event.Event.TheVariants as events
-use Rattle.do_base.specs.declared.values.value.Value.{Value}
+use Rattle.do_base.specs.{names.Names.ObjectName, values.Values.objects_of}
+use Rattle.do_base.specs.declared.{events.event.Event.Event, values.value.Value.Value}
 use Rattle.do_class.specs.Class.{Class}
-use Rattle.do_behave.specs.Answers.{NamesShown}
-use Rattle.do_behave.specs.declared.invocation.Invocation.{Invocation}
+use Rattle.do_behave.specs.{Answers.NamesShown, declared.invocation.Invocation.Invocation}
 use Rattle.do_packet.specs.Met.{has_object}
-use Rattle.do_machine.specs.declared.node.Node.{Node}
-use Rattle.do_machine.specs.declared.state.State.{State}
+use Rattle.do_machine.specs.declared.{node.Node.Node, state.State.State}
 use Rattle.do_machine.specs.State.{is_known, is_own, node, stored}
-use Rattle.do_machine.specs.held.Refers.{heap_objects, stack_objects}
-use Rattle.do_machine.specs.run.Run.{Acting}
+use Rattle.do_machine.specs.{held.Refers.{heap_objects, stack_objects}, run.Run.Acting}
 use Rattle.do_facts.specs.Made.{is_stored}
 
 -- the node can use an object: an own one that it stores, or a foreign one that it holds or asked

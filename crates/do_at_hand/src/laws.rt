@@ -1,12 +1,9 @@
-ghost use Rattle.std.specs.Prelude.{List};
-ghost use Rattle.std.specs.List.{AllByRecursion, flat_map};
+ghost use Rattle.std.specs.{Prelude.List, List.{AllByRecursion, flat_map}};
 ghost use Rattle.do_base.specs.declared.events.event.Event.{Event};
 ghost use Rattle.do_class.specs.Class.{Class};
-ghost use Rattle.do_machine.specs.declared.state.Seat.{Seat};
-ghost use Rattle.do_machine.specs.run.Run.{Acting};
+ghost use Rattle.do_machine.specs.{declared.state.Seat.Seat, run.Run.Acting};
 ghost use Rattle.do_machine.specs.check.Blocks.{events_of};
-ghost use Rattle.do_sched.specs.Good.{IsLine};
-ghost use Rattle.do_sched.specs.declared.line.Line.{Line};
+ghost use Rattle.do_sched.specs.{Good.IsLine, declared.line.Line.Line};
 ghost use Rattle.do_facts.specs.Reached.{reached};
 ghost use Rattle.do_quiet.specs.Quiet.{AllEndsOpen};
 ghost use Rattle.do_at_hand.specs.AtHand.{AllAtHand, NamedAreStored, ShowsNames, StartsPlain};

@@ -1,11 +1,8 @@
 -- A search for a file by its name, step by step.
 use Rattle.std.proofs.Common.{◌≡◌, ℕ, ◌+◌, ◌<◌, List, get_or, drop, length, Some, Bool, true, false}
-use Rattle.std.proofs.Common.{refl, add-one}
-use Rattle.std.proofs.Math.Seq.{drop-cons}
-use Rattle.std.proofs.lemmas.Slice.Eq.{bytes_eq-Decides}
+use Rattle.std.proofs.{Common.{refl, add-one}, Math.Seq.drop-cons, lemmas.Slice.Eq.bytes_eq-Decides}
 use Rattle.std.specs.Str.{bytes_eq}
-use Rattle.do_base.specs.outside.Files.{file_named}
-use Rattle.do_base.specs.declared.outside.shelf.NamedFile.{NamedFile}
+use Rattle.do_base.specs.{outside.Files.file_named, declared.outside.shelf.NamedFile.NamedFile}
 
 -- the test is true at equal texts, and false at others
 bytes_eq-same : (xs ys : List ℕ) → xs ≡ ys → bytes_eq xs ys ≡ true

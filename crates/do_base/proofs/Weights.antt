@@ -1,7 +1,6 @@
 -- The weight of each kind of value, and that no value weighs nothing.
 use Rattle.std.proofs.Common.{◌≡◌, ℕ, ℤ, List as Listed, ◌≤◌, ◌+◌, length, sum, map, arith, rules}
-use Rattle.do_base.specs.names.Names.{ObjectName}
-use Rattle.do_base.specs.values.Values.{weight_of}
+use Rattle.do_base.specs.{names.Names.ObjectName, values.Values.weight_of}
 use Rattle.do_base.specs.values.Induction.{value_induction}
 use Rattle.do_base.specs.declared.values.value.Value.{Value, List, the_lemmas}
 use Rattle.do_base.specs.declared.values.value.Value.TheVariants.{Nil, Num, Text, Obj}

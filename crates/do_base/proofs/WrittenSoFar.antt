@@ -1,8 +1,6 @@
 -- What a sink holds after the next bytes.
 use Rattle.std.proofs.Common.{◌≡◌, ℕ, ◌+◌, ◌-◌, length, arith, List, take, drop, Option, Some, None}
-use Rattle.std.proofs.Common.{refl, append_assoc}
-use Rattle.std.proofs.Math.Seq.{take-add}
-use Rattle.std.proofs.lemmas.Grind.{common_steps}
+use Rattle.std.proofs.{Common.{refl, append_assoc}, Math.Seq.take-add, lemmas.Grind.common_steps}
 use Rattle.do_base.specs.outside.Bytes.{with_more}
 
 -- a slice from a place to its end

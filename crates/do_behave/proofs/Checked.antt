@@ -1,8 +1,6 @@
 -- A number that is told exactly where it has 64 bits.
 use Rattle.std.proofs.Common.{◌≡◌, Option, Some, None, ℤ, pos, negsuc, arith}
-use Rattle.std.specs.Prelude.{FitsSigned}
-use Rattle.std.specs.Int.{w64}
-use Rattle.std.specs.Option.{SomeIff}
+use Rattle.std.specs.{Prelude.FitsSigned, Int.w64, Option.SomeIff}
 use Rattle.std.proofs.lemmas.Grind.{common_steps}
 use Rattle.do_behave.specs.Numbers.{checked}
 

@@ -1,17 +1,12 @@
 -- What is known of a list's weight, with one item more too.
-use Rattle.std.proofs.Common.{◌≡◌, ℕ, zero, suc, List as Listed, [], ◌∷◌, ◌++◌, ◌<◌, ◌+◌, ◌-◌}
-use Rattle.std.proofs.Common.{Some, None, Bool, refl, true, false, ◌&&◌, nat_lt, nat_le, length}
-use Rattle.std.proofs.Common.{sym, ◌∙◌, ap, subst, arith}
-use Rattle.std.specs.List.{list_all}
-use Rattle.std.proofs.lemmas.Bool.{and_parts}
+use Rattle.std.proofs.Common.{◌≡◌, ℕ, zero, suc, List as Listed, [], ◌∷◌, ◌++◌, ◌<◌, ◌+◌, ◌-◌, Some}
+use Rattle.std.proofs.Common.{None, Bool, refl, true, false, ◌&&◌, nat_lt, nat_le, length, sym, ◌∙◌}
+use Rattle.std.{proofs.Common.{ap, subst, arith}, specs.List.list_all, proofs.lemmas.Bool.and_parts}
 use Rattle.std.proofs.lemmas.Grind.{common_steps}
-use Rattle.do_base.specs.values.Values.{weight_of}
-use Rattle.do_base.specs.values.Kinds.{items}
+use Rattle.do_base.specs.values.{Values.weight_of, Kinds.items}
 use Rattle.do_base.specs.declared.values.value.Value.{Value, List}
-use Rattle.do_behave.specs.KnownWeight.{IsKnown}
-use Rattle.do_behave.specs.laws.ValueKinds.{items-List}
-use Rattle.do_behave.specs.Limits.{left_of, nests_within}
-use Rattle.do_behave.specs.Lists.{can_be}
+use Rattle.do_behave.specs.{KnownWeight.IsKnown, laws.ValueKinds.items-List}
+use Rattle.do_behave.specs.{Limits.{left_of, nests_within}, Lists.can_be}
 use Rattle.do_behave.specs.LongerList.{FitsIn, longer, longer_than}
 use Rattle.do_behave.specs.laws.Nesting.{nests_within-deeper, can_be_push, weight_of-push}
 

@@ -1,10 +1,7 @@
 -- Lists with items set.
 use Rattle.std.proofs.Common.{◌≡◌, ℕ, zero, suc, ◌≤◌, List, [], ◌∷◌, length, Some, None, refl, sym}
-use Rattle.std.proofs.Common.{◌∙◌, ap, arith}
-use Rattle.std.specs.Prelude.{slice_get, slice_set, remove}
-use Rattle.do_behave.specs.InPlace.{written}
-use Rattle.do_behave.specs.Changes.{with_set}
-use Rattle.do_behave.specs.declared.act.Write.{Write}
+use Rattle.std.{proofs.Common.{◌∙◌, ap, arith}, specs.Prelude.{slice_get, slice_set, remove}}
+use Rattle.do_behave.specs.{InPlace.written, Changes.with_set, declared.act.Write.Write}
 use Rattle.do_behave.specs.declared.change.LocalSet.{LocalSet}
 use Rattle.do_base.specs.declared.values.value.Value.{Value}
 use Rattle.do_behave.specs.LongerList.{longer, longer_at}

@@ -1,22 +1,15 @@
 -- A push, as the act that it is.
 use Rattle.std.proofs.Common.{◌≡◌, ℕ, List as Listed, [], ◌∷◌, ◌++◌, Option, Some, sym, ◌∙◌, ap}
-use Rattle.std.proofs.Common.{true, subst}
-use Rattle.std.specs.Prelude.{if◌then◌else◌, slice_set, IsSomeAnd}
-use Rattle.do_base.specs.values.Kinds.{items}
-use Rattle.do_base.specs.declared.values.value.Value.{Value, List}
+use Rattle.std.{proofs.Common.{true, subst}, specs.Prelude.{if◌then◌else◌, slice_set, IsSomeAnd}}
+use Rattle.do_base.specs.{values.Kinds.items, declared.values.value.Value.{Value, List}}
 use Rattle.do_base.specs.declared.events.exception.Exc.TheVariants.{Range}
 use Rattle.do_grammar.specs.Words.{◌>>?◌}
-use Rattle.do_behave.specs.Changes.{Means}
-use Rattle.do_behave.specs.Lists.{can_be, gives_list, pushes}
-use Rattle.do_behave.specs.LongerList.{FitsIn, longer_at}
-use Rattle.do_behave.specs.Steps.{local, next, gives, or_fault}
-use Rattle.do_behave.specs.laws.ValueKinds.{items-List}
-use Rattle.do_behave.specs.declared.invocation.Invocation.{Invocation}
-use Rattle.do_behave.specs.declared.act.Act.{Act}
-use Rattle.do_behave.specs.declared.act.Act.TheVariants.{Step, Raise}
+use Rattle.do_behave.specs.{Changes.Means, Lists.{can_be, gives_list, pushes}}
+use Rattle.do_behave.specs.{LongerList.{FitsIn, longer_at}, Steps.{local, next, gives, or_fault}}
+use Rattle.do_behave.specs.{laws.ValueKinds.items-List, declared.invocation.Invocation.Invocation}
+use Rattle.do_behave.specs.declared.act.Act.{Act, TheVariants.{Step, Raise}}
 use Rattle.do_behave.specs.declared.change.Change.TheVariants.{Push}
-use Rattle.do_behave.proofs.KnownWeights.{fits_list, longer_list}
-use Rattle.do_behave.proofs.ListUpdates.{set_longer}
+use Rattle.do_behave.proofs.{KnownWeights.{fits_list, longer_list}, ListUpdates.set_longer}
 
 module _ (inv : Invocation) (list item : ℕ) (vs : Listed Value) (v : Value)
     (at_list : local inv list ≡ Some (List vs)) (at_item : local inv item ≡ Some v)

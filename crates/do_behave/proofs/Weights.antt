@@ -1,6 +1,5 @@
 -- What is left of a limit behind one weight after another.
-use Rattle.std.proofs.Common.{◌≡◌, ℕ, ◌+◌, Some, None, arith}
-use Rattle.std.proofs.lemmas.Grind.{common_steps}
+use Rattle.std.proofs.{Common.{◌≡◌, ℕ, ◌+◌, Some, None, arith}, lemmas.Grind.common_steps}
 use Rattle.do_behave.specs.Limits.{left_of}
 
 -- what is left behind the second weight is left behind both

@@ -1,17 +1,14 @@
 -- What holds of every answer of a behaviour.
 use Rattle.std.specs.Prelude.{◌≡◌, ℕ, ◌<◌, ◌≤◌, List, [], ◌∷◌, ◌++◌, length, map, IsTrue}
 use Rattle.std.specs.List.{All, Contains, flat_map}
-use Rattle.do_base.specs.names.Names.{ObjectName}
-use Rattle.do_base.specs.values.Values.{objects_of}
+use Rattle.do_base.specs.{names.Names.ObjectName, values.Values.objects_of}
 use Rattle.do_base.specs.declared.values.value.Value.{Value}
 use Rattle.do_class.specs.Class.{Class}
 use Rattle.do_grammar.specs.Names.{is_selector, colons}
 use Rattle.do_behave.specs.Limits.{IsLimited, IsLimitedExc}
 use Rattle.do_script.specs.Listing.{IsLocal}
-use Rattle.do_behave.specs.Ready.{IsHandler}
-use Rattle.do_behave.specs.Parts.{WeighsWithin}
-use Rattle.do_behave.specs.declared.invocation.Invocation.{Invocation}
-use Rattle.do_behave.specs.declared.act.Act.{Act}
+use Rattle.do_behave.specs.{Ready.IsHandler, Parts.WeighsWithin}
+use Rattle.do_behave.specs.declared.{invocation.Invocation.Invocation, act.Act.Act}
 use Rattle.do_behave.specs.declared.act.Act.TheVariants.{Step, New, Send, Root, Vend, Say, Return}
 use Rattle.do_behave.specs.declared.act.Act.TheVariants.{Raise}
 

@@ -1,15 +1,11 @@
 -- Which act a change is.
 use Rattle.std.specs.Prelude.{◌≡◌, List, [], ◌∷◌, slice_set, IsSomeAnd}
 use Rattle.do_base.specs.declared.values.value.Value.{Value}
-use Rattle.do_behave.specs.LongerList.{FitsIn, longer_at}
-use Rattle.do_behave.specs.Steps.{local}
-use Rattle.do_behave.specs.declared.invocation.Invocation.{Invocation}
-use Rattle.do_behave.specs.declared.act.Act.{Act}
-use Rattle.do_behave.specs.declared.act.Act.TheVariants.{Step}
-use Rattle.do_behave.specs.declared.change.LocalSet.{LocalSet}
-use Rattle.do_behave.specs.declared.change.Change.{Change}
-use Rattle.do_behave.specs.declared.change.Change.TheVariants.{Local, Push, Goto, Slot, Slots}
-use Rattle.do_behave.specs.declared.change.Change.TheVariants.{Handler, Other}
+use Rattle.do_behave.specs.{LongerList.{FitsIn, longer_at}, Steps.local}
+use Rattle.do_behave.specs.declared.{invocation.Invocation.Invocation, act.Act.Act}
+use Rattle.do_behave.specs.declared.{act.Act.TheVariants.Step, change.LocalSet.LocalSet}
+use Rattle.do_behave.specs.declared.change.Change.{Change, TheVariants.{Local, Push, Goto, Slot}}
+use Rattle.do_behave.specs.declared.change.Change.TheVariants.{Slots, Handler, Other}
 
 -- locals after these are set, in order
 abbrev pub with_set : List Value → List LocalSet → List Value

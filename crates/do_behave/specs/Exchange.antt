@@ -1,17 +1,13 @@
 -- What a change takes out of an invocation, and what it leaves to do.
-use Rattle.std.specs.Prelude.{Bool, true, false, List, [], ◌∷◌, Option, Some, None}
-use Rattle.std.specs.Prelude.{slice_set, get_or}
-use Rattle.do_base.specs.declared.values.value.Value.{Value}
-use Rattle.do_behave.specs.InPlace.{written}
-use Rattle.do_behave.specs.declared.act.Act.{Act}
-use Rattle.do_behave.specs.declared.act.Act.TheVariants.{Step}
-use Rattle.do_behave.specs.declared.change.Change.{Change}
 use Rattle.do_behave.specs.declared.change.Change.TheVariants as changes
-use Rattle.do_behave.specs.declared.change.LocalSet.{LocalSet}
-use Rattle.do_behave.specs.declared.exchanged.Left.{Left}
 use Rattle.do_behave.specs.declared.exchanged.Left.TheVariants as lefts
-use Rattle.do_behave.specs.declared.exchanged.Taken.{Taken}
 use Rattle.do_behave.specs.declared.exchanged.Taken.TheVariants as takens
+use Rattle.std.specs.Prelude.{Bool, true, false, List, [], ◌∷◌, Option, Some, None, slice_set}
+use Rattle.std.specs.Prelude.{get_or}
+use Rattle.do_base.specs.declared.values.value.Value.{Value}
+use Rattle.do_behave.specs.{InPlace.written, declared.act.Act.{Act, TheVariants.Step}}
+use Rattle.do_behave.specs.declared.{change.{Change.Change, LocalSet.LocalSet}, exchanged.Left.Left}
+use Rattle.do_behave.specs.declared.exchanged.Taken.{Taken}
 
 -- the values that were taken out of locals
 abbrev pub taken : Taken → List Value

@@ -1,9 +1,7 @@
 -- What an act comes to where the invocation and its object stand.
 use Rattle.std.specs.Prelude.{List, [], ◌∷◌, Option, Some, None, slice_set}
 use Rattle.do_base.specs.declared.values.value.Value.{Value}
-use Rattle.do_behave.specs.declared.act.Act.{Act}
-use Rattle.do_behave.specs.declared.act.Act.TheVariants.{Step}
-use Rattle.do_behave.specs.declared.act.Write.{Write}
+use Rattle.do_behave.specs.declared.act.{Act.{Act, TheVariants.Step}, Write.Write}
 use Rattle.do_behave.specs.declared.invocation.Invocation.{Invocation}
 
 -- slots after these writes, in order

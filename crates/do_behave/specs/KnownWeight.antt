@@ -1,7 +1,6 @@
 -- What a local remembers of its value: its weight.
 use Rattle.std.specs.Prelude.{◌≡◌, ℕ, zero, suc, true}
-use Rattle.do_base.specs.values.Values.{weight_of}
-use Rattle.do_base.specs.declared.values.value.Value.{Value}
+use Rattle.do_base.specs.{values.Values.weight_of, declared.values.value.Value.Value}
 use Rattle.do_behave.specs.Limits.{nests_within}
 
 -- a value, as contracts see it

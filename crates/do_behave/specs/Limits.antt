@@ -1,14 +1,10 @@
 -- The limits on a value: bytes of its texts, items and nesting of its lists, and its weight.
 use Rattle.std.specs.Prelude.{ℕ, zero, suc, ◌≤◌, ◌-◌, Bool, true, false, ◌&&◌, nat_le, IsTrue}
-use Rattle.std.specs.Prelude.{length}
-use Rattle.std.specs.Prelude.{Option, Some, None, if◌then◌else◌}
-use Rattle.std.specs.List.{list_all}
-use Rattle.do_base.specs.values.Texts.{longest_text}
-use Rattle.do_base.specs.values.Values.{weight_of}
+use Rattle.std.specs.{Prelude.{length, Option, Some, None, if◌then◌else◌}, List.list_all}
+use Rattle.do_base.specs.values.{Texts.longest_text, Values.weight_of}
 use Rattle.do_base.specs.declared.values.value.Value.{Value, fold-Value}
 use Rattle.do_base.specs.declared.values.value.Value.TheOpen.{Value-F, Text, List}
-use Rattle.do_base.specs.declared.events.exception.Exc.{Exc}
-use Rattle.do_base.specs.declared.events.exception.Exc.TheVariants.{User}
+use Rattle.do_base.specs.declared.events.exception.Exc.{Exc, TheVariants.User}
 
 abbrev pub nests_step : Value-F (ℕ → Bool) → ℕ → Bool
 nests_step (List items) zero = false

@@ -1,17 +1,13 @@
 -- Lists, and what else can be counted.
 use Rattle.std.specs.Prelude.{ℕ, ℤ, pos, negsuc, [], ◌∷◌, ◌++◌, Bool, ◌&&◌, nat_le, if◌then◌else◌}
 use Rattle.std.specs.Prelude.{Option, Some, None, List as Listed, length, slice_get}
-use Rattle.do_base.specs.values.Kinds.{items, number}
-use Rattle.do_base.specs.values.Values.{weight_of}
-use Rattle.do_base.specs.declared.values.value.Value.{Value, List, out-Value}
-use Rattle.do_base.specs.declared.values.value.Value.TheVariants.{Num}
+use Rattle.do_base.specs.values.{Kinds.{items, number}, Values.weight_of}
+use Rattle.do_base.specs.declared.values.value.Value.{Value, List, out-Value, TheVariants.Num}
 use Rattle.do_base.specs.declared.values.value.Value.TheOpen.{Value-F}
 use Rattle.do_base.specs.declared.events.exception.Exc.TheVariants.{Range}
 use Rattle.do_grammar.specs.Words.{◌>>?◌}
-use Rattle.do_behave.specs.Limits.{nests_within}
-use Rattle.do_behave.specs.Steps.{local, gives}
-use Rattle.do_behave.specs.declared.invocation.Invocation.{Invocation}
-use Rattle.do_behave.specs.declared.act.Act.{Act}
+use Rattle.do_behave.specs.{Limits.nests_within, Steps.{local, gives}}
+use Rattle.do_behave.specs.declared.{invocation.Invocation.Invocation, act.Act.Act}
 use Rattle.do_behave.specs.declared.act.Act.TheVariants.{Raise}
 
 -- a list within the limits on items, nesting and weight

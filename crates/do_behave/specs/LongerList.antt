@@ -1,8 +1,7 @@
 -- A list with one item more.
 use Rattle.std.specs.Prelude.{◌≡◌, ℕ, zero, suc, [], ◌∷◌, ◌++◌, true, Option, Some, None}
 use Rattle.std.specs.Prelude.{List as Listed}
-use Rattle.do_base.specs.values.Kinds.{items}
-use Rattle.do_base.specs.values.Values.{weight_of}
+use Rattle.do_base.specs.values.{Kinds.items, Values.weight_of}
 use Rattle.do_base.specs.declared.values.value.Value.{Value, List}
 use Rattle.do_behave.specs.Lists.{can_be}
 

@@ -1,16 +1,12 @@
 -- Arithmetic and comparison, where nil counts as 0.
 use Rattle.std.specs.Prelude.{ℕ, ◌^◌, Bool, true, false, nat_lt, ◌==◌, if◌then◌else◌, ℤ, pos}
 use Rattle.std.specs.Prelude.{negsuc, int_lt, Option, Some, None}
-use Rattle.do_base.specs.values.Kinds.{counted}
-use Rattle.do_base.specs.declared.values.value.Value.{Value, out-Value}
-use Rattle.do_base.specs.declared.values.value.Value.TheVariants.{Num}
-use Rattle.do_base.specs.declared.values.value.Value.TheOpen.{Value-F}
+use Rattle.do_base.specs.{values.Kinds.counted, declared.values.value.Value.{Value, out-Value}}
+use Rattle.do_base.specs.declared.values.value.Value.{TheVariants.Num, TheOpen.Value-F}
 use Rattle.do_base.specs.declared.events.exception.Exc.TheVariants.{Range}
 use Rattle.do_grammar.specs.Words.{◌>>?◌}
-use Rattle.do_behave.specs.Steps.{local, gives}
-use Rattle.do_behave.specs.declared.invocation.Invocation.{Invocation}
-use Rattle.do_behave.specs.declared.act.Act.{Act}
-use Rattle.do_behave.specs.declared.act.Act.TheVariants.{Raise}
+use Rattle.do_behave.specs.{Steps.{local, gives}, declared.invocation.Invocation.Invocation}
+use Rattle.do_behave.specs.declared.act.Act.{Act, TheVariants.Raise}
 
 -- a number of 64 bits with a sign
 abbrev pub is_i64 : ℤ → Bool

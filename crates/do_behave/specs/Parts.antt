@@ -1,8 +1,6 @@
 -- The parts of a value.
-use Rattle.std.specs.Prelude.{◌≤◌, ◌⊎◌, List as Listed}
-use Rattle.std.specs.List.{Contains}
-use Rattle.do_base.specs.values.Values.{weight_of}
-use Rattle.do_base.specs.declared.values.value.Value.{Value, List}
+use Rattle.std.specs.{Prelude.{◌≤◌, ◌⊎◌, List as Listed}, List.Contains}
+use Rattle.do_base.specs.{values.Values.weight_of, declared.values.value.Value.{Value, List}}
 
 -- a value stands in itself, and in a list in whose items it stands
 pub data StandsIn (v : Value) : Value → Type 0 where

@@ -1,6 +1,5 @@
 -- A program, as the listings of its methods by class and by place there.
-use Rattle.std.specs.Prelude.{ℕ, ◌≤◌, List, length}
-use Rattle.std.specs.List.{AllZip}
+use Rattle.std.specs.{Prelude.{ℕ, ◌≤◌, List, length}, List.AllZip}
 use Rattle.do_class.specs.Class.{Class}
 use Rattle.do_script.specs.Listing.{Listing, IsValid}
 

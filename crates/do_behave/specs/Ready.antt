@@ -2,11 +2,9 @@
 use Rattle.std.specs.Prelude.{◌≡◌, List, length, Option, Some}
 use Rattle.std.specs.Option.{option_map, IsSome, IfSome}
 use Rattle.do_base.specs.declared.values.value.Value.{Value}
-use Rattle.do_class.specs.Class.{Class}
-use Rattle.do_class.specs.Table.{method_at, slots_of}
+use Rattle.do_class.specs.{Class.Class, Table.{method_at, slots_of}}
 use Rattle.do_script.specs.Listing.{IsLocal}
-use Rattle.do_behave.specs.declared.invocation.Handler.{Handler}
-use Rattle.do_behave.specs.declared.invocation.Invocation.{Invocation}
+use Rattle.do_behave.specs.declared.invocation.{Handler.Handler, Invocation.Invocation}
 use Rattle.do_behave.specs.declared.invocation.InvState.TheVariants.{Running}
 
 -- the handler's local is there

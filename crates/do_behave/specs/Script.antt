@@ -1,24 +1,18 @@
 -- What a script does: one instruction is one act.
+use Rattle.do_base.specs.declared.values.value.Value.TheVariants as values
+use Rattle.do_script.specs.declared.instruction.Instruction.TheVariants as does
 use Rattle.std.specs.Prelude.{ℕ, ◌==◌, nat_le, Bool, ◌&&◌, List, [], ◌+ℤ◌, ◌-ℤ◌, ◌*ℤ◌, length}
 use Rattle.std.specs.Prelude.{if◌then◌else◌, Option, Some, None, option_and_then, slice_get}
-use Rattle.do_base.specs.values.Equal.{value_eq}
-use Rattle.do_base.specs.values.Kinds.{number, text}
+use Rattle.do_base.specs.values.{Equal.value_eq, Kinds.{number, text}}
 use Rattle.do_base.specs.declared.values.value.Value.{Value, List as ListValue}
-use Rattle.do_base.specs.declared.values.value.Value.TheVariants as values
 use Rattle.do_base.specs.declared.events.exception.Exc.TheVariants.{User}
-use Rattle.do_class.specs.Class.{Class}
-use Rattle.do_class.specs.Table.{class_id}
-use Rattle.do_class.specs.declared.ids.MethodId.{MethodId}
+use Rattle.do_class.specs.{Class.Class, Table.class_id, declared.ids.MethodId.MethodId}
 use Rattle.do_grammar.specs.Words.{◌>>?◌}
-use Rattle.do_script.specs.Listing.{Listing}
-use Rattle.do_script.specs.declared.instruction.Instruction.{Instruction}
-use Rattle.do_script.specs.declared.instruction.Instruction.TheVariants as does
+use Rattle.do_script.specs.{Listing.Listing, declared.instruction.Instruction.Instruction}
 use Rattle.do_behave.specs.Steps.{local, local_values, next, gives, goes_to, writes, handles}
-use Rattle.do_behave.specs.Steps.{or_fault}
-use Rattle.do_behave.specs.Numbers.{checked, calculates, less, truth, is_zero}
+use Rattle.do_behave.specs.{Steps.or_fault, Numbers.{checked, calculates, less, truth, is_zero}}
 use Rattle.do_behave.specs.Lists.{pushes, picks, counts}
-use Rattle.do_behave.specs.declared.invocation.Invocation.{Invocation}
-use Rattle.do_behave.specs.declared.act.Act.{Act}
+use Rattle.do_behave.specs.declared.{invocation.Invocation.Invocation, act.Act.Act}
 use Rattle.do_behave.specs.declared.act.Act.TheVariants.{New, Send, Root, Vend, Say, Return, Raise}
 
 -- a text is raised as it is

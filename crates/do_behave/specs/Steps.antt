@@ -3,10 +3,8 @@ use Rattle.std.specs.Prelude.{ℕ, ◌+◌, List, [], ◌∷◌, Option, Some, N
 use Rattle.do_base.specs.declared.values.value.Value.{Value}
 use Rattle.do_base.specs.declared.events.exception.Exc.TheVariants.{TypeFault}
 use Rattle.do_grammar.specs.Words.{◌>>?◌}
-use Rattle.do_behave.specs.declared.invocation.Handler.{Handler}
-use Rattle.do_behave.specs.declared.invocation.Invocation.{Invocation}
-use Rattle.do_behave.specs.declared.act.Act.{Act}
-use Rattle.do_behave.specs.declared.act.Act.TheVariants.{Step, Raise}
+use Rattle.do_behave.specs.declared.invocation.{Handler.Handler, Invocation.Invocation}
+use Rattle.do_behave.specs.declared.act.Act.{Act, TheVariants.{Step, Raise}}
 
 -- what a local holds, if it is there
 abbrev pub local : Invocation → ℕ → Option Value

@@ -1,11 +1,8 @@
 ghost use Rattle.std.specs.Prelude.{◌≡◌, List, IfOk};
 ghost use Rattle.do_base.specs.declared.values.value.Value.{Value};
 ghost use Rattle.do_class.specs.Class.{Class};
-ghost use Rattle.do_behave.specs.declared.act.Act.{Act};
-ghost use Rattle.do_behave.specs.declared.invocation.Invocation.{Invocation};
-ghost use Rattle.do_behave.specs.Ready.{IsReady};
-ghost use Rattle.do_behave.specs.Changes.{Means};
-ghost use Rattle.do_behave.specs.Answers.{AnswersWell, NamesShown};
+ghost use Rattle.do_behave.specs.declared.{act.Act.Act, invocation.Invocation.Invocation};
+ghost use Rattle.do_behave.specs.{Ready.IsReady, Changes.Means, Answers.{AnswersWell, NamesShown}};
 
 use crate::change::Change;
 use crate::invocation::Invocation;

@@ -3,8 +3,7 @@ ghost use Rattle.std.specs.Prelude.{◌≡◌, List, false, IfOk, OnOk, OnErr, I
 ghost use Rattle.do_base.specs.declared.values.value.Value.{Value};
 ghost use Rattle.do_behave.specs.Changes.{IsFitting, meaning, with_set};
 ghost use Rattle.do_behave.specs.Exchange.{taken, slots_after, act_left, set_out, act_taken};
-ghost use Rattle.do_behave.specs.Exchange.{taken_by, takes_memory};
-ghost use Rattle.do_behave.specs.InPlace.{after_act};
+ghost use Rattle.do_behave.specs.{Exchange.{taken_by, takes_memory}, InPlace.after_act};
 ghost use Rattle.do_behave.specs.declared.exchanged.Taken.TheVariants.{Nothing};
 
 use crate::act::Act;

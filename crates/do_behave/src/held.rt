@@ -1,7 +1,6 @@
 //! The value of a local, which remembers what it weighs.
 ghost use Rattle.std.specs.Prelude.{◌≡◌, OnOk, OnErr};
-ghost use Rattle.do_behave.specs.KnownWeight.{IsKnown};
-ghost use Rattle.do_behave.specs.LongerList.{FitsIn, longer};
+ghost use Rattle.do_behave.specs.{KnownWeight.IsKnown, LongerList.{FitsIn, longer}};
 
 use crate::moving::{append, discard};
 use do_base::{ExactClone, Items, Value, copy_value};

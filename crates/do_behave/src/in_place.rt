@@ -1,7 +1,6 @@
 //! Acts done where the invocation and the slots of its object stand.
 ghost use Rattle.std.specs.Prelude.{◌≡◌, slice_set, IfOk, OnErr};
-ghost use Rattle.do_behave.specs.Changes.{IsFitting, meaning};
-ghost use Rattle.do_behave.specs.Exchange.{slots_after, act_left};
+ghost use Rattle.do_behave.specs.{Changes.{IsFitting, meaning}, Exchange.{slots_after, act_left}};
 ghost use Rattle.do_behave.specs.InPlace.{after_act, written};
 
 use crate::act::{Act, Writes};

@@ -88,8 +88,7 @@ pub struct Invocation {
 }
 
 impl Invocation {
-    ghost use Rattle.std.specs.Prelude.{◌≡◌, IfOk};
-    ghost use Rattle.std.specs.Option.{option_copied};
+    ghost use Rattle.std.specs.{Prelude.{◌≡◌, IfOk}, Option.option_copied};
     ghost use Rattle.do_behave.specs.Steps.{local};
 
     /// What a local holds; none where there is no such local.

@@ -1,6 +1,5 @@
 //! The limits on a value: how deep its lists nest, and what it weighs.
-ghost use Rattle.std.specs.Prelude.{◌≡◌, sum_by};
-ghost use Rattle.std.specs.List.{list_all};
+ghost use Rattle.std.specs.{Prelude.{◌≡◌, sum_by}, List.list_all};
 ghost use Rattle.do_base.specs.values.Values.{weight_of};
 ghost use Rattle.do_behave.specs.Limits.{left_of, nests_within};
 

@@ -1,14 +1,10 @@
 ghost use Rattle.std.specs.Prelude.{◌≡◌, ◌<◌, ◌+◌, ◌^◌, [], ◌∷◌, ◌++◌, length, nat_lt, ◌&&◌, pos};
-ghost use Rattle.std.specs.Prelude.{IfOk, IfSome, IfNone, false};
-ghost use Rattle.std.specs.List.{list_all};
+ghost use Rattle.std.specs.{Prelude.{IfOk, IfSome, IfNone, false}, List.list_all};
 ghost use Rattle.std.specs.Option.{option_copied};
 ghost use Rattle.do_behave.specs.Lists.{pushes, picks, counts, gives_found, can_be};
-ghost use Rattle.do_behave.specs.Steps.{or_fault};
-ghost use Rattle.do_behave.specs.Limits.{left_of, nests_within};
+ghost use Rattle.do_behave.specs.{Steps.or_fault, Limits.{left_of, nests_within}};
 ghost use Rattle.do_base.specs.values.Values.{weight_of};
-ghost use Rattle.do_behave.specs.Changes.{Means};
-ghost use Rattle.do_behave.specs.KnownWeight.{IsKnown};
-ghost use Rattle.do_behave.specs.LongerList.{FitsIn};
+ghost use Rattle.do_behave.specs.{Changes.Means, KnownWeight.IsKnown, LongerList.FitsIn};
 
 use crate::act::Act;
 use crate::change::Change;

@@ -2,8 +2,7 @@
 ghost use Rattle.std.specs.Prelude.{◌≡◌, ◌<◌, ◌+◌, ◌^◌, Some, IfOk};
 ghost use Rattle.do_class.specs.Table.{class_id};
 ghost use Rattle.do_grammar.specs.Words.{◌>>?◌};
-ghost use Rattle.do_behave.specs.Steps.{local, local_values, next, or_fault};
-ghost use Rattle.do_behave.specs.Changes.{Means};
+ghost use Rattle.do_behave.specs.{Steps.{local, local_values, next, or_fault}, Changes.Means};
 ghost use Rattle.do_behave.specs.Script.{raises, asks_root, sends};
 
 use crate::act::Act;

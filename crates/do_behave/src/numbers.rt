@@ -1,8 +1,7 @@
 ghost use Rattle.std.specs.Prelude.{◌≡◌, ◌<◌, ◌+◌, ◌^◌, ◌+ℤ◌, ◌-ℤ◌, ◌*ℤ◌};
 ghost use Rattle.do_base.specs.values.Kinds.{counted};
 ghost use Rattle.do_grammar.specs.Words.{◌>>?◌};
-ghost use Rattle.do_behave.specs.Steps.{local, or_fault};
-ghost use Rattle.do_behave.specs.Changes.{Means};
+ghost use Rattle.do_behave.specs.{Steps.{local, or_fault}, Changes.Means};
 ghost use Rattle.do_behave.specs.Numbers.{is_zero, calculates, checked, gives_number, less, truth};
 
 use crate::act::Act;

@@ -1,5 +1,4 @@
-ghost use Rattle.std.specs.Prelude.{◌≡◌, ◌≤◌, length};
-ghost use Rattle.std.specs.Option.{option_copied};
+ghost use Rattle.std.specs.{Prelude.{◌≡◌, ◌≤◌, length}, Option.option_copied};
 ghost use Rattle.do_behave.specs.Script.{code_of, is_ready};
 
 use crate::act::Act;
@@ -28,10 +27,9 @@ pub struct Program {
 }
 
 impl Model for Program {
-    ghost use Rattle.std.specs.Prelude.{List};
-    ghost use Rattle.std.specs.Coded.{codes};
-    ghost use Rattle.do_script.specs.Listing.{Listing};
     ghost use Rattle.do_script.specs.contracts.instruction.Instruction as instruction;
+    ghost use Rattle.std.specs.{Prelude.List, Coded.codes};
+    ghost use Rattle.do_script.specs.Listing.{Listing};
 
     ghost Value = { List (List Listing) };
 
@@ -72,8 +70,7 @@ fn is_ready(table: &ClassTable, inv: &Invocation, slots: &Values, code: &Code) -
 }
 
 impl Behaviour for Program {
-    ghost use Rattle.do_behave.specs.Programs.{IsMadeFor};
-    ghost use Rattle.do_behave.specs.Script.{script};
+    ghost use Rattle.do_behave.specs.{Programs.IsMadeFor, Script.script};
     ghost use Rattle.do_behave.specs.laws.ScriptLaws.{script_names_shown, script_answers_well};
 
     ghost act = { script };

@@ -3,8 +3,7 @@ ghost use Rattle.std.specs.Prelude.{◌≡◌, ◌<◌, ◌+◌, ◌^◌, [], le
 ghost use Rattle.std.specs.Option.{option_copied};
 ghost use Rattle.do_grammar.specs.Words.{◌>>?◌};
 ghost use Rattle.do_script.specs.Listing.{IsWithin};
-ghost use Rattle.do_behave.specs.Steps.{local, gives, writes, handles, or_fault};
-ghost use Rattle.do_behave.specs.Changes.{Means};
+ghost use Rattle.do_behave.specs.{Steps.{local, gives, writes, handles, or_fault}, Changes.Means};
 ghost use Rattle.do_behave.specs.Script.{performs, compares, goes_if_zero};
 
 use crate::change::Change;

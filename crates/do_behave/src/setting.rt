@@ -1,8 +1,7 @@
 //! How an invocation changes in place: what it held and no longer does is handed back.
 ghost use Rattle.std.specs.Prelude.{◌≡◌, OnOk, OnErr, IsSomeAnd, get_or, slice_set};
 ghost use Rattle.do_base.specs.declared.values.value.Value.{Value};
-ghost use Rattle.do_behave.specs.LongerList.{FitsIn, longer_at};
-ghost use Rattle.do_behave.specs.Steps.{local};
+ghost use Rattle.do_behave.specs.{LongerList.{FitsIn, longer_at}, Steps.local};
 
 use crate::held::{Frame, Held};
 use crate::invocation::{Handler, InvState, Invocation};

@@ -1,6 +1,5 @@
 ghost use Rattle.std.specs.Prelude.{◌≡◌, ◌<◌, ◌+◌, ◌^◌};
-ghost use Rattle.do_behave.specs.Steps.{gives, goes_to, writes, handles};
-ghost use Rattle.do_behave.specs.Changes.{Means};
+ghost use Rattle.do_behave.specs.{Steps.{gives, goes_to, writes, handles}, Changes.Means};
 
 use crate::change::Change;
 use crate::invocation::{Handler, Invocation};

@@ -1,14 +1,9 @@
 -- Code and rules whose numbers have 64 bits, and whose texts are of bytes.
-use Rattle.std.specs.Prelude.{List, ◌<◌, ◌^◌}
-use Rattle.std.specs.List.{AllByRecursion}
-use Rattle.do_grammar.specs.Grammar.{IsBytes}
-use Rattle.do_grammar.specs.Num.{zigzag}
-use Rattle.do_script.specs.Listing.{Listing}
-use Rattle.do_script.specs.declared.instruction.Instruction.{Instruction}
+use Rattle.std.specs.{Prelude.{List, ◌<◌, ◌^◌}, List.AllByRecursion}
+use Rattle.do_grammar.specs.{Grammar.IsBytes, Num.zigzag}
+use Rattle.do_script.specs.{Listing.Listing, declared.instruction.Instruction.Instruction}
 use Rattle.do_script.specs.declared.instruction.Instruction.TheVariants.{Number, Text}
-use Rattle.do_check.specs.declared.rules.Rule.{Rule}
-use Rattle.do_check.specs.declared.rules.Verdict.{Verdict}
-use Rattle.do_check.specs.declared.rules.Verdict.TheVariants.{Deny, Forward}
+use Rattle.do_check.specs.declared.rules.{Rule.Rule, Verdict.{Verdict, TheVariants.{Deny, Forward}}}
 
 -- the number of an instruction has 64 bits, or its text is of bytes
 abbrev pub IsRanged : Instruction → Type 0

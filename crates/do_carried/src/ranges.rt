@@ -1,7 +1,6 @@
 //! What the types of numbers and texts give: laws alone, for which nothing is tested.
 ghost use Rattle.std.specs.Prelude.{◌<◌, ◌^◌};
-ghost use Rattle.do_grammar.specs.Grammar.{IsBytes};
-ghost use Rattle.do_grammar.specs.Num.{zigzag};
+ghost use Rattle.do_grammar.specs.{Grammar.IsBytes, Num.zigzag};
 
 /// A number of 64 bits is spelled by one of 64 bits.
 pub(crate) fn number_fits(number: i64)

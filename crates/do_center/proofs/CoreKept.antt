@@ -1,31 +1,20 @@
 -- What each call leaves of a core is a core.
 use Rattle.std.proofs.Common.{◌≡◌, ℕ, zero, suc, ◌<◌, ◌≤◌, Bool, true, false, ◌&&◌, List, [], ◌∷◌}
-use Rattle.std.proofs.Common.{◌++◌}
-use Rattle.std.proofs.Common.{length, Option, Some, None, refl, sym, ◌∙◌, ap, subst}
-use Rattle.std.proofs.Common.{arith, length-append}
-use Rattle.std.specs.Prelude.{not, ◌||◌, slice_get, nat_le}
-use Rattle.std.specs.List.{All, list_all}
-use Rattle.std.specs.Option.{option_map}
+use Rattle.std.proofs.Common.{◌++◌, length, Option, Some, None, refl, sym, ◌∙◌, ap, subst, arith}
+use Rattle.std.{proofs.Common.length-append, specs.Prelude.{not, ◌||◌, slice_get, nat_le}}
+use Rattle.std.specs.{List.{All, list_all}, Option.option_map}
 use Rattle.std.proofs.lemmas.Bool.{and_parts, and_from, cond_both, leb-true, le-leb, not-true}
-use Rattle.std.proofs.lemmas.Bool.{or_from, or_parts, or_right}
-use Rattle.std.proofs.lemmas.List.{map-append, length-map}
+use Rattle.std.proofs.lemmas.{Bool.{or_from, or_parts, or_right}, List.{map-append, length-map}}
 use Rattle.std.proofs.lemmas.List.Elements.{All-nil, All-push, All-weaker}
-use Rattle.std.proofs.lemmas.List.Folds.{list_all-append, list_any-append}
-use Rattle.std.proofs.lemmas.Option.{slice_get-map}
+use Rattle.std.proofs.lemmas.{List.Folds.{list_all-append, list_any-append}, Option.slice_get-map}
 use Rattle.do_base.specs.names.Names.{ObjectName}
-use Rattle.do_center.specs.Notes.{is_note}
-use Rattle.do_center.specs.Observers.{are_distinct, has_object, same_object, without_object}
-use Rattle.do_center.specs.Posting.{came_to_all}
-use Rattle.do_center.specs.Queues.{with_queue}
-use Rattle.do_center.specs.Registrations.{is_registration}
-use Rattle.do_center.specs.Seats.{are_apart, are_seats, are_suspended, has_none, is_core}
-use Rattle.do_center.specs.Seats.{is_of, is_seat, registrations}
-use Rattle.do_center.specs.declared.notes.Note.{Note}
-use Rattle.do_center.specs.declared.queues.Queued.{Queued}
-use Rattle.do_center.specs.declared.registrations.Registration.{Registration}
-use Rattle.do_center.specs.declared.seats.Seat.{Seat}
-use Rattle.do_center.specs.laws.PostLaws.{came_kept}
-use Rattle.do_center.specs.laws.SameObject.{same_refl, same_sym}
+use Rattle.do_center.specs.{Notes.is_note, Observers.{are_distinct, has_object, same_object}}
+use Rattle.do_center.specs.{Observers.without_object, Posting.came_to_all, Queues.with_queue}
+use Rattle.do_center.specs.{Registrations.is_registration, Seats.{are_apart, are_seats}}
+use Rattle.do_center.specs.Seats.{are_suspended, has_none, is_core, is_of, is_seat, registrations}
+use Rattle.do_center.specs.declared.{notes.Note.Note, queues.Queued.Queued}
+use Rattle.do_center.specs.declared.{registrations.Registration.Registration, seats.Seat.Seat}
+use Rattle.do_center.specs.laws.{PostLaws.came_kept, SameObject.{same_refl, same_sym}}
 use Rattle.do_center.proofs.SeatsKept.{AreSeats, CameBy, IsSeat, seats_are, seats_of, seats_posted}
 
 -- registrations of a core are at most 256, each with a queue that its observer may have

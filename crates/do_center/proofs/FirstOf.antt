@@ -1,17 +1,13 @@
 -- What a walk gives that ends at the first that is an observer's: its queue, or the list without it
 -- or with another.
-use Rattle.std.proofs.Common.{◌≡◌, ℕ, suc, Bool, true, false, List, [], ◌∷◌, Option, Some}
-use Rattle.std.proofs.Common.{None, refl, ap, ◌∙◌}
-use Rattle.std.specs.Prelude.{if◌then◌else◌, remove, slice_get, slice_set}
-use Rattle.std.specs.Option.{option_map}
+use Rattle.std.proofs.Common.{◌≡◌, ℕ, suc, Bool, true, false, List, [], ◌∷◌, Option, Some, None}
+use Rattle.std.proofs.Common.{refl, ap, ◌∙◌}
+use Rattle.std.specs.{Prelude.{if◌then◌else◌, remove, slice_get, slice_set}, Option.option_map}
 use Rattle.do_base.specs.names.Names.{ObjectName}
 use Rattle.do_native_acts.specs.laws.KindLaws.{some_same}
 use Rattle.do_center.specs.Observers.{first_of, same_object, without_first}
-use Rattle.do_center.specs.Queues.{queue_of, seat_with, with_queue}
-use Rattle.do_center.specs.Slots.{queue_among}
-use Rattle.do_center.specs.declared.queues.Queued.{Queued}
-use Rattle.do_center.specs.declared.seats.Seat.{Seat}
-use Rattle.do_center.specs.declared.slots.Waiting.{Waiting}
+use Rattle.do_center.specs.{Queues.{queue_of, seat_with, with_queue}, Slots.queue_among}
+use Rattle.do_center.specs.declared.{queues.Queued.Queued, seats.Seat.Seat, slots.Waiting.Waiting}
 
 -- what is given where none of a list is an observer's, and what at the first that is
 pub record Given {A B : Type 0} (observer : A → ObjectName) (o : ObjectName) (xs : List A)

@@ -1,7 +1,6 @@
 -- User information in a list stands one list deeper.
 use Rattle.std.proofs.Common.{◌≡◌, ℕ, zero, suc, ◌<◌, ◌-◌, List as Listed, map, ◌∙◌, ap, arith}
-use Rattle.std.proofs.Common.{Bool, rules}
-use Rattle.std.specs.List.{list_all}
+use Rattle.std.{proofs.Common.{Bool, rules}, specs.List.list_all}
 use Rattle.std.proofs.lemmas.List.Folds.{list_all-map}
 use Rattle.do_base.specs.declared.values.value.Value.{Value, List, the_lemmas}
 use Rattle.do_center.specs.Notes.{info_within}

@@ -1,29 +1,19 @@
 -- The registrations that the calls leave are those that they tell.
-use Rattle.std.proofs.Common.{◌≡◌, ℕ, Bool, true, false, List, [], ◌∷◌, ◌++◌, length}
-use Rattle.std.proofs.Common.{Option, Some, None, refl, sym, ◌∙◌, ap, nat_lt, nat_le}
-use Rattle.std.specs.Prelude.{if◌then◌else◌, not}
-use Rattle.std.specs.List.{filter}
-use Rattle.std.specs.Option.{option_map}
+use Rattle.std.proofs.Common.{◌≡◌, ℕ, Bool, true, false, List, [], ◌∷◌, ◌++◌, length, Option, Some}
+use Rattle.std.proofs.Common.{None, refl, sym, ◌∙◌, ap, nat_lt, nat_le}
+use Rattle.std.specs.{Prelude.{if◌then◌else◌, not}, List.filter, Option.option_map}
 use Rattle.std.proofs.lemmas.List.{length-map, map-append}
 use Rattle.do_base.specs.names.Names.{ObjectName}
-use Rattle.do_native_acts.specs.History.{left}
-use Rattle.do_native_acts.specs.laws.KeptLaws.{each_holds}
-use Rattle.do_center.specs.Calls.{added, suspended, with_suspended}
-use Rattle.do_center.specs.History.{after, registered, with_last}
-use Rattle.do_center.specs.Posting.{came_to_all, posted_of}
-use Rattle.do_center.specs.Queues.{deliveries, queue_of}
-use Rattle.do_center.specs.Removing.{goes, moved, new_places, seats_left}
-use Rattle.do_center.specs.Seats.{Core, registrations}
-use Rattle.do_center.specs.declared.calls.Call.{Call}
+use Rattle.do_native_acts.specs.{History.left, laws.KeptLaws.each_holds}
+use Rattle.do_center.specs.{Calls.{added, suspended, with_suspended}, History.{after, registered}}
+use Rattle.do_center.specs.{History.with_last, Posting.{came_to_all, posted_of}, Queues.deliveries}
+use Rattle.do_center.specs.{Queues.queue_of, Removing.{goes, moved, new_places, seats_left}}
+use Rattle.do_center.specs.{Seats.{Core, registrations}, declared.calls.Call.Call}
 use Rattle.do_center.specs.declared.calls.Call.TheVariants.{Add, Remove, Suspend, Post}
-use Rattle.do_center.specs.declared.notes.Delivery.{Delivery}
-use Rattle.do_center.specs.declared.posting.Posting.{Posting}
-use Rattle.do_center.specs.declared.queues.Queued.{Queued}
-use Rattle.do_center.specs.declared.registrations.Registration.{Registration}
-use Rattle.do_center.specs.declared.seats.Seat.{Seat}
-use Rattle.do_center.specs.laws.PostLaws.{IsPosted, came_kept}
-use Rattle.do_center.proofs.CoreKept.{fresh}
-use Rattle.do_center.proofs.SeatsKept.{with_registrations}
+use Rattle.do_center.specs.declared.{notes.Delivery.Delivery, posting.Posting.Posting}
+use Rattle.do_center.specs.declared.{queues.Queued.Queued, registrations.Registration.Registration}
+use Rattle.do_center.specs.{declared.seats.Seat.Seat, laws.PostLaws.{IsPosted, came_kept}}
+use Rattle.do_center.proofs.{CoreKept.fresh, SeatsKept.with_registrations}
 
 -- each step of a post leaves the registrations
 post_same : (rs : List Registration)

@@ -1,27 +1,19 @@
 -- What is left of the registrations of a core is a core's.
 use Rattle.std.proofs.Common.{◌≡◌, ℕ, zero, suc, ◌+◌, ◌≤◌, Bool, true, false, ◌&&◌, List, [], ◌∷◌}
-use Rattle.std.proofs.Common.{◌++◌, length, Option, Some, None, refl, sym, ◌∙◌, ap}
-use Rattle.std.proofs.Common.{arith, length-append, append_assoc}
-use Rattle.std.specs.Prelude.{if◌then◌else◌, not, ◌||◌, slice_get, slice_index_or}
-use Rattle.std.specs.List.{list_all}
-use Rattle.std.proofs.lemmas.Bool.{and_parts, and_from, cond_both}
-use Rattle.std.proofs.lemmas.List.{length-map}
+use Rattle.std.proofs.Common.{◌++◌, length, Option, Some, None, refl, sym, ◌∙◌, ap, arith}
+use Rattle.std.proofs.Common.{length-append, append_assoc}
+use Rattle.std.specs.{Prelude.{if◌then◌else◌, not, ◌||◌, slice_get, slice_index_or}, List.list_all}
+use Rattle.std.proofs.lemmas.{Bool.{and_parts, and_from, cond_both}, List.length-map}
 use Rattle.do_base.specs.names.Names.{ObjectName}
-use Rattle.do_native_acts.specs.laws.KeptLaws.{flat_fewer}
-use Rattle.do_native_acts.specs.laws.KindLaws.{some_same}
-use Rattle.do_center.specs.Notes.{is_note}
-use Rattle.do_center.specs.Observers.{same_object}
-use Rattle.do_center.specs.Queues.{queue_of, seat_with, with_queue}
-use Rattle.do_center.specs.Removing.{count_left, left_of, moved, moved_entry, new_places}
-use Rattle.do_center.specs.Removing.{place_left, seat_left, seats_left}
+use Rattle.do_native_acts.specs.laws.{KeptLaws.flat_fewer, KindLaws.some_same}
+use Rattle.do_center.specs.{Notes.is_note, Observers.same_object, Queues.{queue_of, seat_with}}
+use Rattle.do_center.specs.{Queues.with_queue, Removing.{count_left, left_of, moved, moved_entry}}
+use Rattle.do_center.specs.Removing.{new_places, place_left, seat_left, seats_left}
 use Rattle.do_center.specs.Seats.{are_apart, are_seats, has_none, is_none, is_of, registrations}
-use Rattle.do_center.specs.declared.queues.Queued.{Queued}
-use Rattle.do_center.specs.declared.registrations.Registration.{Registration}
-use Rattle.do_center.specs.declared.seats.Seat.{Seat}
-use Rattle.do_center.specs.laws.QueueLaws.{left_fit, moved_kept}
-use Rattle.do_center.proofs.CoreKept.{seats_from, seats_parts}
-use Rattle.do_center.proofs.SeatsKept.{AreSeats, CameBy, IsGiven, MayWait, NoneOf, none_fit}
-use Rattle.do_center.proofs.SeatsKept.{none_from, seats_posted}
+use Rattle.do_center.specs.declared.{queues.Queued.Queued, registrations.Registration.Registration}
+use Rattle.do_center.specs.{declared.seats.Seat.Seat, laws.QueueLaws.{left_fit, moved_kept}}
+use Rattle.do_center.proofs.{CoreKept.{seats_from, seats_parts}, SeatsKept.{AreSeats, CameBy}}
+use Rattle.do_center.proofs.SeatsKept.{IsGiven, MayWait, NoneOf, none_fit, none_from, seats_posted}
 
 -- no more wait than did
 moved_fewer : (ps : List (Option ℕ)) (q : List Queued) → length (moved ps q) ≤ length q

@@ -1,12 +1,9 @@
 -- One registration more, with its queue.
-use Rattle.std.proofs.Common.{◌≡◌, ℕ, zero, suc, ◌+◌, List, [], ◌∷◌, ◌++◌, Some}
-use Rattle.std.proofs.Common.{sym, ◌∙◌, ap, drop, append_assoc, add-one}
-use Rattle.std.specs.Prelude.{slice_get}
+use Rattle.std.proofs.Common.{◌≡◌, ℕ, zero, suc, ◌+◌, List, [], ◌∷◌, ◌++◌, Some, sym, ◌∙◌, ap, drop}
+use Rattle.std.{proofs.Common.{append_assoc, add-one}, specs.Prelude.slice_get}
 use Rattle.do_native_acts.specs.laws.KindLaws.{some_same}
-use Rattle.do_center.specs.Observers.{without_first}
-use Rattle.do_center.specs.Slots.{queue_among, seated}
-use Rattle.do_center.specs.declared.registrations.Registration.{Registration}
-use Rattle.do_center.specs.declared.seats.Seat.{Seat}
+use Rattle.do_center.specs.{Observers.without_first, Slots.{queue_among, seated}}
+use Rattle.do_center.specs.declared.{registrations.Registration.Registration, seats.Seat.Seat}
 use Rattle.do_center.specs.declared.slots.Waiting.{Waiting}
 
 -- what stands at a place stands in front of what is behind it

@@ -1,27 +1,19 @@
 -- What holds of the registrations of a core with their queues holds where the queue of an observer
 -- is another.
-use Rattle.std.proofs.Common.{◌≡◌, ◌<◌, ◌≤◌, Bool, true, false, List, [], ◌∷◌, length, refl}
-use Rattle.std.proofs.Common.{◌∙◌}
-use Rattle.std.proofs.Common.{ap, arith, length-append}
-use Rattle.std.specs.Prelude.{if◌then◌else◌, not, ◌||◌, nat_le, nat_lt, remove}
-use Rattle.std.specs.List.{All, list_all}
+use Rattle.std.proofs.Common.{◌≡◌, ◌<◌, ◌≤◌, Bool, true, false, List, [], ◌∷◌, length, refl, ◌∙◌}
+use Rattle.std.{proofs.Common.{ap, arith, length-append}, specs.Prelude.{if◌then◌else◌, not, ◌||◌}}
+use Rattle.std.specs.{Prelude.{nat_le, nat_lt, remove}, List.{All, list_all}}
 use Rattle.std.proofs.lemmas.Bool.{and_parts, and_from, cond_both, le-leb, leb-true, ltb-true}
-use Rattle.std.proofs.lemmas.List.Elements.{All-nil, All-weaker}
-use Rattle.std.proofs.lemmas.List.Sums.{AllPass-from_list_all, list_all-from_AllPass}
-use Rattle.std.proofs.lemmas.List.Sums.{count_by-le-length, length-filter}
+use Rattle.std.proofs.lemmas.List.{Elements.{All-nil, All-weaker}, Sums.AllPass-from_list_all}
+use Rattle.std.proofs.lemmas.List.Sums.{list_all-from_AllPass, count_by-le-length, length-filter}
 use Rattle.do_base.specs.names.Names.{ObjectName}
 use Rattle.do_native_acts.specs.laws.KeptLaws.{each_holds}
-use Rattle.do_center.specs.Observers.{same_object}
-use Rattle.do_center.specs.Queues.{same_kind, seat_with, with_queue, with_room}
-use Rattle.do_center.specs.Registrations.{is_registration}
-use Rattle.do_center.specs.Seats.{are_apart, has_none, is_none, is_queue, is_queued, is_seat}
-use Rattle.do_center.specs.Seats.{registrations}
-use Rattle.do_center.specs.declared.queues.Queued.{Queued}
-use Rattle.do_center.specs.declared.registrations.Registration.{Registration}
-use Rattle.do_center.specs.declared.seats.Seat.{Seat}
-use Rattle.do_center.specs.laws.PostLaws.{IsPosted}
-use Rattle.do_center.specs.laws.QueueLaws.{Fits, coalesced_kept, enqueued_kept, queue_fits}
-use Rattle.do_center.specs.laws.QueueLaws.{with_fits}
+use Rattle.do_center.specs.{Observers.same_object, Queues.{same_kind, seat_with, with_queue}}
+use Rattle.do_center.specs.{Queues.with_room, Registrations.is_registration, Seats.are_apart}
+use Rattle.do_center.specs.Seats.{has_none, is_none, is_queue, is_queued, is_seat, registrations}
+use Rattle.do_center.specs.declared.{queues.Queued.Queued, registrations.Registration.Registration}
+use Rattle.do_center.specs.{declared.seats.Seat.Seat, laws.{PostLaws.IsPosted, QueueLaws.Fits}}
+use Rattle.do_center.specs.laws.QueueLaws.{coalesced_kept, enqueued_kept, queue_fits, with_fits}
 use Rattle.do_center.specs.laws.SameObject.{same_sym}
 
 -- the registrations are the same

@@ -1,50 +1,34 @@
 -- The slots of a core are read as that core, and only slots of a core are read.
-use Rattle.std.proofs.Common.{◌≡◌, ℕ, pos, Bool, true, false, ◌&&◌, List as Listed, [], ◌∷◌}
-use Rattle.std.proofs.Common.{length, Option, Some, None, map, refl, sym, ◌∙◌, ap, IsTrue}
-use Rattle.std.proofs.Common.{arith, zero, suc, ◌<◌, ◌≤◌, true≢false}
+use Rattle.std.proofs.Common.{◌≡◌, ℕ, pos, Bool, true, false, ◌&&◌, List as Listed, [], ◌∷◌, length}
+use Rattle.std.proofs.Common.{Option, Some, None, map, refl, sym, ◌∙◌, ap, IsTrue, arith, zero, suc}
+use Rattle.std.proofs.Common.{◌<◌, ◌≤◌, true≢false}
 use Rattle.std.specs.Prelude.{if◌then◌else◌, nat_lt, not, ◌||◌, slice_get}
-use Rattle.std.specs.Cmp.Lexicographic.{pointwise, pointwise_decides}
-use Rattle.std.specs.List.{All, list_all}
-use Rattle.std.proofs.lemmas.Bool.{and_parts, and_from, lt-ltb}
-use Rattle.std.proofs.lemmas.List.Elements.{All-weaker}
-use Rattle.do_base.specs.names.Names.{ObjectName}
-use Rattle.do_base.specs.values.Equal.{value_eq, value_eq-Decides}
-use Rattle.do_base.specs.values.Kinds.{object}
-use Rattle.do_base.specs.declared.values.value.Value.{Value}
+use Rattle.std.specs.{Cmp.Lexicographic.{pointwise, pointwise_decides}, List.{All, list_all}}
+use Rattle.std.proofs.lemmas.{Bool.{and_parts, and_from, lt-ltb}, List.Elements.All-weaker}
+use Rattle.do_base.specs.{names.Names.ObjectName, values.Equal.{value_eq, value_eq-Decides}}
+use Rattle.do_base.specs.{values.Kinds.object, declared.values.value.Value.Value}
 use Rattle.do_base.specs.declared.values.value.Value.TheVariants.{Num, Text, Obj}
 use Rattle.do_grammar.specs.Words.{◌>>?◌}
-use Rattle.do_native_acts.specs.Rows.{rows_in, listed}
-use Rattle.do_native_acts.specs.laws.KeptLaws.{each_holds}
+use Rattle.do_native_acts.specs.{Rows.{rows_in, listed}, laws.KeptLaws.each_holds}
 use Rattle.do_native_acts.specs.laws.KindLaws.{text_of_Text, number_of_Num, object_of_Obj}
-use Rattle.do_native_acts.specs.laws.KindLaws.{items_of_List, then_is}
-use Rattle.do_native_acts.specs.laws.RowLaws.{read_shown}
+use Rattle.do_native_acts.specs.laws.{KindLaws.{items_of_List, then_is}, RowLaws.read_shown}
 use Rattle.do_center.specs.Notes.{info_in, info_within, is_label, is_note, is_short, label_in}
-use Rattle.do_center.specs.Notes.{label_value, note_in}
-use Rattle.do_center.specs.Observers.{same_object, without_first}
+use Rattle.do_center.specs.{Notes.{label_value, note_in}, Observers.{same_object, without_first}}
 use Rattle.do_center.specs.Registrations.{behaviour_in, behaviour_number, is_registration}
-use Rattle.do_center.specs.Registrations.{number_of}
-use Rattle.do_center.specs.Registrations.{registration_in, registration_of}
+use Rattle.do_center.specs.Registrations.{number_of, registration_in, registration_of}
 use Rattle.do_center.specs.Registrations.{registration_value, selector_in, takes_three}
 use Rattle.do_center.specs.Seats.{Core, are_apart, are_seats, are_suspended, has_none, is_core}
-use Rattle.do_center.specs.Seats.{is_none}
-use Rattle.do_center.specs.Seats.{is_of, registrations}
+use Rattle.do_center.specs.Seats.{is_none, is_of, registrations}
 use Rattle.do_center.specs.Slots.{from_slots, of_core, place_in, place_number, queue_among}
-use Rattle.do_center.specs.Slots.{queued_in}
-use Rattle.do_center.specs.Slots.{queued_of, queued_value, seated, to_slots, waiting, waiting_in}
-use Rattle.do_center.specs.Slots.{waiting_of, waiting_value}
-use Rattle.do_center.specs.declared.notes.Note.{Note}
-use Rattle.do_center.specs.declared.queues.Queued.{Queued}
-use Rattle.do_center.specs.declared.registrations.Registration.{Registration}
-use Rattle.do_center.specs.declared.seats.Seat.{Seat}
-use Rattle.do_center.specs.declared.slots.Waiting.{Waiting}
-use Rattle.do_center.specs.declared.suspension.Suspension.{Suspension}
-use Rattle.do_center.specs.declared.suspension.Suspension.TheVariants.{Drop, Coalesce, Hold}
-use Rattle.do_center.specs.declared.suspension.Suspension.TheVariants.{DeliverImmediately}
+use Rattle.do_center.specs.Slots.{queued_in, queued_of, queued_value, seated, to_slots, waiting}
+use Rattle.do_center.specs.{Slots.{waiting_in, waiting_of, waiting_value}, declared.notes.Note.Note}
+use Rattle.do_center.specs.declared.{queues.Queued.Queued, registrations.Registration.Registration}
+use Rattle.do_center.specs.declared.{seats.Seat.Seat, slots.Waiting.Waiting}
+use Rattle.do_center.specs.declared.suspension.Suspension.{Suspension, TheVariants.{Drop, Coalesce}}
+use Rattle.do_center.specs.declared.suspension.Suspension.TheVariants.{Hold, DeliverImmediately}
 use Rattle.do_center.specs.laws.CallsRead.{label_of_Nil, label_of_Text}
-use Rattle.do_center.specs.laws.QueueLaws.{registrations_fit, waiting_fit}
-use Rattle.do_center.specs.laws.SameObject.{same_refl}
-use Rattle.do_center.proofs.CoreKept.{seats_parts}
-use Rattle.do_center.proofs.SeatsKept.{CameBy, IsGiven, IsSeat, MayWait}
+use Rattle.do_center.specs.laws.{QueueLaws.{registrations_fit, waiting_fit}, SameObject.same_refl}
+use Rattle.do_center.proofs.{CoreKept.seats_parts, SeatsKept.{CameBy, IsGiven, IsSeat, MayWait}}
 
 -- a queue of which nothing waits is empty
 empty_of : (q : Listed Queued) → is_none q ≡ true → q ≡ []

@@ -7,12 +7,10 @@ use Rattle.do_base.specs.names.Names.{ObjectName}
 use Rattle.do_native_acts.specs.laws.KindLaws.{some_same}
 use Rattle.do_center.specs.Observers.{are_distinct, has_object, same_object}
 use Rattle.std.specs.Cmp.Lexicographic.{pointwise}
-use Rattle.do_base.specs.values.Equal.{value_eq}
-use Rattle.do_base.specs.declared.values.value.Value.{Value}
+use Rattle.do_base.specs.{values.Equal.value_eq, declared.values.value.Value.Value}
 use Rattle.std.proofs.lemmas.Bool.{and_from}
 use Rattle.do_center.specs.Seats.{are_seats, are_suspended, read_suspended}
-use Rattle.do_center.specs.Slots.{of_core, to_slots}
-use Rattle.do_center.specs.declared.seats.Seat.{Seat}
+use Rattle.do_center.specs.{Slots.{of_core, to_slots}, declared.seats.Seat.Seat}
 use Rattle.do_center.specs.laws.SameObject.{same_is, same_refl}
 
 -- one that is not among these goes last in the set

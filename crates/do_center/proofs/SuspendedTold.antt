@@ -1,22 +1,16 @@
 -- The observers that the calls leave suspended are those that they tell.
-use Rattle.std.proofs.Common.{◌≡◌, Bool, true, false, ◌&&◌, List, [], ◌∷◌, ◌++◌, length}
-use Rattle.std.proofs.Common.{nat_lt}
+use Rattle.std.proofs.Common.{◌≡◌, Bool, true, false, ◌&&◌, List, [], ◌∷◌, ◌++◌, length, nat_lt}
 use Rattle.std.proofs.Common.{Option, Some, None, refl, sym, ◌∙◌, ap, nat_le}
-use Rattle.std.specs.Prelude.{if◌then◌else◌, not, ◌||◌}
-use Rattle.std.specs.Option.{option_map}
+use Rattle.std.specs.{Prelude.{if◌then◌else◌, not, ◌||◌}, Option.option_map}
 use Rattle.std.proofs.lemmas.Bool.{and_parts, not-true}
 use Rattle.do_base.specs.names.Names.{ObjectName}
 use Rattle.do_center.specs.Calls.{added, suspended, with_suspended}
 use Rattle.do_native_acts.specs.History.{left}
 use Rattle.do_center.specs.History.{after, is_suspended}
 use Rattle.do_center.specs.Observers.{are_distinct, has_object, same_object, without_object}
-use Rattle.do_center.specs.Posting.{came_to_all, posted_of}
-use Rattle.do_center.specs.Queues.{deliveries}
-use Rattle.do_center.specs.Seats.{Core}
-use Rattle.do_center.specs.declared.calls.Call.{Call}
-use Rattle.do_center.specs.declared.calls.Call.TheVariants.{Add, Remove, Suspend, Post}
-use Rattle.do_center.specs.declared.notes.Delivery.{Delivery}
-use Rattle.do_center.specs.declared.posting.Posting.{Posting}
+use Rattle.do_center.specs.{Posting.{came_to_all, posted_of}, Queues.deliveries, Seats.Core}
+use Rattle.do_center.specs.declared.calls.Call.{Call, TheVariants.{Add, Remove, Suspend, Post}}
+use Rattle.do_center.specs.declared.{notes.Delivery.Delivery, posting.Posting.Posting}
 use Rattle.do_center.specs.declared.registrations.Registration.{Registration}
 use Rattle.do_center.proofs.CoreKept.{distinct_left, distinct_pushed, fresh, has_pushed}
 use Rattle.do_center.specs.laws.SameObject.{same_is}

@@ -1,13 +1,10 @@
 -- The queues of registrations, and of one more.
-use Rattle.std.proofs.Common.{◌≡◌, Bool, true, false, List, [], ◌∷◌, ◌++◌, refl, ap, ◌∙◌, map}
-use Rattle.std.proofs.Common.{ℕ, zero, suc, ◌+◌, take, sym, Some, add-one}
-use Rattle.std.specs.Prelude.{if◌then◌else◌, slice_get}
-use Rattle.std.proofs.lemmas.List.{map-append}
+use Rattle.std.proofs.Common.{◌≡◌, Bool, true, false, List, [], ◌∷◌, ◌++◌, refl, ap, ◌∙◌, map, ℕ}
+use Rattle.std.proofs.Common.{zero, suc, ◌+◌, take, sym, Some, add-one}
+use Rattle.std.{specs.Prelude.{if◌then◌else◌, slice_get}, proofs.lemmas.List.map-append}
 use Rattle.do_base.specs.declared.values.value.Value.{Value}
 use Rattle.do_native_acts.specs.laws.KindLaws.{some_same}
-use Rattle.do_center.specs.Seats.{is_none}
-use Rattle.do_center.specs.Slots.{waiting, waiting_value}
-use Rattle.do_center.specs.declared.seats.Seat.{Seat}
+use Rattle.do_center.specs.{Seats.is_none, Slots.{waiting, waiting_value}, declared.seats.Seat.Seat}
 use Rattle.do_center.specs.declared.slots.Waiting.{Waiting}
 
 -- the queue of a registration with its observer

@@ -1,31 +1,20 @@
 -- The acts of the methods.
-use Rattle.std.specs.Prelude.{ℕ, ℤ, pos, ◌+◌, ◌-◌, ◌*◌, ◌/◌, ◌%◌, ◌==◌, Bool, nat_le}
-use Rattle.std.specs.Prelude.{Option, Some, None, List as Listed, [], ◌∷◌, length, map, codes}
-use Rattle.std.specs.Prelude.{if◌then◌else◌, slice_get}
-use Rattle.std.specs.Ordering.{int_eq}
-use Rattle.std.specs.Str.{bytes_eq}
+use Rattle.do_center.specs.declared.methods.Method.TheVariants as method
+use Rattle.std.specs.Prelude.{ℕ, ℤ, pos, ◌+◌, ◌-◌, ◌*◌, ◌/◌, ◌%◌, ◌==◌, Bool, nat_le, Option, Some}
+use Rattle.std.specs.Prelude.{None, List as Listed, [], ◌∷◌, length, map, codes, if◌then◌else◌}
+use Rattle.std.specs.{Prelude.slice_get, Ordering.int_eq, Str.bytes_eq}
 use Rattle.do_base.specs.values.Kinds.{items, number, object}
-use Rattle.do_base.specs.declared.values.value.Value.{Value, List}
-use Rattle.do_base.specs.declared.values.value.Value.TheVariants.{Nil}
+use Rattle.do_base.specs.declared.values.value.Value.{Value, List, TheVariants.Nil}
 use Rattle.do_class.specs.Class.{Class}
 use Rattle.do_grammar.specs.Words.{◌>>?◌}
-use Rattle.do_behave.specs.Steps.{local}
-use Rattle.do_behave.specs.declared.invocation.Invocation.{Invocation}
-use Rattle.do_behave.specs.declared.act.Act.{Act}
-use Rattle.do_behave.specs.declared.act.Act.TheVariants.{Send}
-use Rattle.do_behave.specs.declared.change.LocalSet.{LocalSet}
-use Rattle.do_native_acts.specs.Places.{by_selector, returns}
-use Rattle.do_native_acts.specs.Steps.{changes, fits, steps}
-use Rattle.do_center.specs.Calls.{does}
-use Rattle.do_center.specs.Notes.{delivery_value, label_in, note_in}
-use Rattle.do_center.specs.Registrations.{registration_from, selector_in}
-use Rattle.do_center.specs.Seats.{Core}
-use Rattle.do_center.specs.Slots.{from_slots, to_slots}
-use Rattle.do_center.specs.declared.calls.Call.{Call}
+use Rattle.do_behave.specs.{Steps.local, declared.{invocation.Invocation.Invocation, act.Act.Act}}
+use Rattle.do_behave.specs.declared.{act.Act.TheVariants.Send, change.LocalSet.LocalSet}
+use Rattle.do_native_acts.specs.{Places.{by_selector, returns}, Steps.{changes, fits, steps}}
+use Rattle.do_center.specs.{Calls.does, Notes.{delivery_value, label_in, note_in}}
+use Rattle.do_center.specs.{Registrations.{registration_from, selector_in}, Seats.Core}
+use Rattle.do_center.specs.{Slots.{from_slots, to_slots}, declared.calls.Call.Call}
 use Rattle.do_center.specs.declared.calls.Call.TheVariants.{Add, Remove, Suspend, Post}
-use Rattle.do_center.specs.declared.methods.Method.{Method}
-use Rattle.do_center.specs.declared.methods.Method.TheVariants as method
-use Rattle.do_center.specs.declared.notes.Delivery.{Delivery}
+use Rattle.do_center.specs.declared.{methods.Method.Method, notes.Delivery.Delivery}
 
 -- the method of a selector
 abbrev pub method_of : Listed ℕ → Option Method

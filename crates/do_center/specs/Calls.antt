@@ -1,19 +1,12 @@
 -- The calls of a core, and what each does.
-use Rattle.std.specs.Prelude.{◌≡◌, ℕ, Bool, true, false, nat_lt, IsTrue, Option, Some, None}
-use Rattle.std.specs.Prelude.{List, [], ◌∷◌, ◌++◌, length, if◌then◌else◌}
-use Rattle.std.specs.Option.{option_map}
+use Rattle.std.specs.Prelude.{◌≡◌, ℕ, Bool, true, false, nat_lt, IsTrue, Option, Some, None, List}
+use Rattle.std.specs.{Prelude.{[], ◌∷◌, ◌++◌, length, if◌then◌else◌}, Option.option_map}
 use Rattle.do_base.specs.names.Names.{ObjectName}
-use Rattle.do_native_acts.specs.declared.fault.CoreFault.{CoreFault}
-use Rattle.do_native_acts.specs.declared.fault.CoreFault.TheVariants.{Full, Memory}
-use Rattle.do_center.specs.Notes.{is_note}
-use Rattle.do_center.specs.Observers.{has_object, without_object}
-use Rattle.do_center.specs.Posting.{posted}
+use Rattle.do_native_acts.specs.declared.fault.CoreFault.{CoreFault, TheVariants.{Full, Memory}}
+use Rattle.do_center.specs.{Notes.is_note, Observers.{has_object, without_object}, Posting.posted}
 use Rattle.do_center.specs.Queues.{deliveries, queue_of, with_queue}
-use Rattle.do_center.specs.Registrations.{is_registration}
-use Rattle.do_center.specs.Removing.{removed}
-use Rattle.do_center.specs.Seats.{Core}
-use Rattle.do_center.specs.declared.calls.Call.{Call}
-use Rattle.do_center.specs.declared.calls.Call.TheVariants.{Add, Remove, Suspend, Post}
+use Rattle.do_center.specs.{Registrations.is_registration, Removing.removed, Seats.Core}
+use Rattle.do_center.specs.declared.calls.Call.{Call, TheVariants.{Add, Remove, Suspend, Post}}
 use Rattle.do_center.specs.declared.notes.Delivery.{Delivery}
 use Rattle.do_center.specs.declared.registrations.Registration.{Registration}
 

@@ -1,15 +1,10 @@
 -- What the calls made so far leave, and what they tell of registrations and of who is suspended.
-use Rattle.std.specs.Prelude.{Bool, true, false, not, ◌&&◌, ◌||◌, nat_lt}
-use Rattle.std.specs.Prelude.{List, [], ◌∷◌, ◌++◌, length, if◌then◌else◌}
-use Rattle.std.specs.List.{filter}
+use Rattle.std.specs.Prelude.{Bool, true, false, not, ◌&&◌, ◌||◌, nat_lt, List, [], ◌∷◌, ◌++◌}
+use Rattle.std.specs.{Prelude.{length, if◌then◌else◌}, List.filter}
 use Rattle.do_base.specs.names.Names.{ObjectName}
 use Rattle.do_native_acts.specs.History.{after_calls}
-use Rattle.do_center.specs.Calls.{does}
-use Rattle.do_center.specs.Observers.{same_object}
-use Rattle.do_center.specs.Removing.{goes}
-use Rattle.do_center.specs.Seats.{Core}
-use Rattle.do_center.specs.declared.calls.Call.{Call}
-use Rattle.do_center.specs.declared.calls.Call.TheVariants.{Add, Remove, Suspend}
+use Rattle.do_center.specs.{Calls.does, Observers.same_object, Removing.goes, Seats.Core}
+use Rattle.do_center.specs.declared.calls.Call.{Call, TheVariants.{Add, Remove, Suspend}}
 use Rattle.do_center.specs.declared.registrations.Registration.{Registration}
 
 -- the core after these calls, of which the first made stands last

@@ -1,14 +1,11 @@
 -- Notifications and deliveries: what they may be, and as values.
 use Rattle.std.specs.Prelude.{ℕ, zero, suc, Bool, true, false, ◌&&◌, nat_le, Option, Some, None}
-use Rattle.std.specs.Prelude.{List as Listed, [], ◌∷◌, length, if◌then◌else◌}
-use Rattle.std.specs.List.{list_all}
+use Rattle.std.specs.{Prelude.{List as Listed, [], ◌∷◌, length, if◌then◌else◌}, List.list_all}
 use Rattle.do_base.specs.values.Kinds.{text}
 use Rattle.do_base.specs.declared.values.value.Value.{Value, List, out-Value, fold-Value}
-use Rattle.do_base.specs.declared.values.value.Value.TheOpen.{Value-F}
-use Rattle.do_base.specs.declared.values.value.Value.TheVariants.{Nil, Text, Obj}
+use Rattle.do_base.specs.declared.values.value.Value.{TheOpen.Value-F, TheVariants.{Nil, Text, Obj}}
 use Rattle.do_grammar.specs.Words.{◌>>?◌}
-use Rattle.do_center.specs.declared.notes.Note.{Note}
-use Rattle.do_center.specs.declared.notes.Delivery.{Delivery}
+use Rattle.do_center.specs.declared.notes.{Note.Note, Delivery.Delivery}
 
 -- a text of at most 255 bytes
 abbrev pub is_short : Listed ℕ → Bool

@@ -1,8 +1,6 @@
 -- What is kept by observer.
-use Rattle.std.specs.Prelude.{ℕ, suc, Bool, true, not, ◌&&◌, ◌==◌}
-use Rattle.std.specs.Prelude.{Option, Some, None, List, [], ◌∷◌, if◌then◌else◌}
-use Rattle.std.specs.List.{list_any}
-use Rattle.std.specs.Option.{option_map}
+use Rattle.std.specs.Prelude.{ℕ, suc, Bool, true, not, ◌&&◌, ◌==◌, Option, Some, None, List, []}
+use Rattle.std.specs.{Prelude.{◌∷◌, if◌then◌else◌}, List.list_any, Option.option_map}
 use Rattle.std.specs.Set.{remove_key}
 use Rattle.do_base.specs.names.Names.{ObjectName}
 

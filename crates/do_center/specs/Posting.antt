@@ -1,20 +1,14 @@
 -- What a post leaves, and what is due at once.
-use Rattle.std.specs.Prelude.{ℕ, zero, suc, Bool, nat_le, Option, Some, None}
-use Rattle.std.specs.Prelude.{List, [], ◌∷◌, ◌++◌, length, slice_get, if◌then◌else◌}
+use Rattle.std.specs.Prelude.{ℕ, zero, suc, Bool, nat_le, Option, Some, None, List, [], ◌∷◌, ◌++◌}
+use Rattle.std.specs.Prelude.{length, slice_get, if◌then◌else◌}
 use Rattle.do_base.specs.names.Names.{ObjectName}
 use Rattle.do_center.specs.Observers.{has_object}
 use Rattle.do_center.specs.Queues.{coalesced, deliveries, enqueued, queue_of, with_queue}
-use Rattle.do_center.specs.Registrations.{matches}
-use Rattle.do_center.specs.Seats.{Core}
-use Rattle.do_center.specs.declared.notes.Delivery.{Delivery}
-use Rattle.do_center.specs.declared.notes.Note.{Note}
-use Rattle.do_center.specs.declared.posting.Posting.{Posting}
-use Rattle.do_center.specs.declared.queues.Queued.{Queued}
-use Rattle.do_center.specs.declared.registrations.Registration.{Registration}
-use Rattle.do_center.specs.declared.seats.Seat.{Seat}
-use Rattle.do_center.specs.declared.suspension.Suspension.{Suspension}
-use Rattle.do_center.specs.declared.suspension.Suspension.TheVariants.{Drop, Coalesce, Hold}
-use Rattle.do_center.specs.declared.suspension.Suspension.TheVariants.{DeliverImmediately}
+use Rattle.do_center.specs.{Registrations.matches, Seats.Core, declared.notes.Delivery.Delivery}
+use Rattle.do_center.specs.declared.{notes.Note.Note, posting.Posting.Posting, queues.Queued.Queued}
+use Rattle.do_center.specs.declared.{registrations.Registration.Registration, seats.Seat.Seat}
+use Rattle.do_center.specs.declared.suspension.Suspension.{Suspension, TheVariants.{Drop, Coalesce}}
+use Rattle.do_center.specs.declared.suspension.Suspension.TheVariants.{Hold, DeliverImmediately}
 
 -- one notification more is due
 abbrev pub due : Posting → Queued → Posting

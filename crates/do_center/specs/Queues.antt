@@ -1,14 +1,10 @@
 -- The queues of observers, and the deliveries of what waits.
 use Rattle.std.specs.Prelude.{ℕ, Bool, true, false, not, ◌&&◌, ◌==◌, nat_lt, Option, Some, None}
 use Rattle.std.specs.Prelude.{List, [], ◌∷◌, ◌++◌, length, slice_get, remove, if◌then◌else◌}
-use Rattle.std.specs.List.{filter, flat_map}
-use Rattle.std.specs.Str.{bytes_eq}
+use Rattle.std.specs.{List.{filter, flat_map}, Str.bytes_eq}
 use Rattle.do_base.specs.names.Names.{ObjectName}
-use Rattle.do_center.specs.Observers.{same_object}
-use Rattle.do_center.specs.Registrations.{delivered}
-use Rattle.do_center.specs.declared.notes.Note.{Note}
-use Rattle.do_center.specs.declared.notes.Delivery.{Delivery}
-use Rattle.do_center.specs.declared.queues.Queued.{Queued}
+use Rattle.do_center.specs.{Observers.same_object, Registrations.delivered}
+use Rattle.do_center.specs.declared.{notes.{Note.Note, Delivery.Delivery}, queues.Queued.Queued}
 use Rattle.do_center.specs.declared.seats.Seat.{Seat}
 
 -- the queue of an observer: what stands at its first registration

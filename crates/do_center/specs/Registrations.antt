@@ -1,19 +1,14 @@
 -- Registrations: what they may be, which notifications they are for, and as values.
-use Rattle.std.specs.Prelude.{ℕ, ℤ, pos, Bool, true, false, ◌&&◌, ◌||◌, ◌==◌}
-use Rattle.std.specs.Prelude.{Option, Some, None, List as Listed, [], ◌∷◌, if◌then◌else◌}
-use Rattle.std.specs.Str.{bytes_eq}
+use Rattle.std.specs.Prelude.{ℕ, ℤ, pos, Bool, true, false, ◌&&◌, ◌||◌, ◌==◌, Option, Some, None}
+use Rattle.std.specs.{Prelude.{List as Listed, [], ◌∷◌, if◌then◌else◌}, Str.bytes_eq}
 use Rattle.do_base.specs.values.Kinds.{text, number, object, items}
-use Rattle.do_base.specs.declared.values.value.Value.{Value, List}
-use Rattle.do_base.specs.declared.values.value.Value.TheVariants.{Num, Text, Obj}
-use Rattle.do_grammar.specs.Names.{is_selector, colons}
-use Rattle.do_grammar.specs.Words.{◌>>?◌}
-use Rattle.do_center.specs.Notes.{is_label, label_in, label_value}
-use Rattle.do_center.specs.declared.notes.Note.{Note}
+use Rattle.do_base.specs.declared.values.value.Value.{Value, List, TheVariants.{Num, Text, Obj}}
+use Rattle.do_grammar.specs.{Names.{is_selector, colons}, Words.◌>>?◌}
+use Rattle.do_center.specs.{Notes.{is_label, label_in, label_value}, declared.notes.Note.Note}
 use Rattle.do_center.specs.declared.notes.Delivery.{Delivery}
 use Rattle.do_center.specs.declared.registrations.Registration.{Registration}
-use Rattle.do_center.specs.declared.suspension.Suspension.{Suspension}
-use Rattle.do_center.specs.declared.suspension.Suspension.TheVariants.{Drop, Coalesce, Hold}
-use Rattle.do_center.specs.declared.suspension.Suspension.TheVariants.{DeliverImmediately}
+use Rattle.do_center.specs.declared.suspension.Suspension.{Suspension, TheVariants.{Drop, Coalesce}}
+use Rattle.do_center.specs.declared.suspension.Suspension.TheVariants.{Hold, DeliverImmediately}
 
 -- a selector of three colons
 abbrev pub takes_three : Listed ℕ → Bool

@@ -1,14 +1,10 @@
 -- What is left once registrations of an observer are taken out.
-use Rattle.std.specs.Prelude.{ℕ, ◌+◌, Bool, ◌&&◌, Option, Some, None}
-use Rattle.std.specs.Prelude.{List, [], ◌∷◌, slice_index_or, if◌then◌else◌}
-use Rattle.std.specs.List.{flat_map}
+use Rattle.std.specs.Prelude.{ℕ, ◌+◌, Bool, ◌&&◌, Option, Some, None, List, [], ◌∷◌, slice_index_or}
+use Rattle.std.specs.{Prelude.if◌then◌else◌, List.flat_map}
 use Rattle.do_base.specs.names.Names.{ObjectName}
-use Rattle.do_center.specs.Observers.{same_object}
-use Rattle.do_center.specs.Queues.{queue_of, with_queue}
-use Rattle.do_center.specs.Registrations.{fits_label}
-use Rattle.do_center.specs.Seats.{Core}
-use Rattle.do_center.specs.declared.registrations.Registration.{Registration}
-use Rattle.do_center.specs.declared.queues.Queued.{Queued}
+use Rattle.do_center.specs.{Observers.same_object, Queues.{queue_of, with_queue}}
+use Rattle.do_center.specs.{Registrations.fits_label, Seats.Core}
+use Rattle.do_center.specs.declared.{registrations.Registration.Registration, queues.Queued.Queued}
 use Rattle.do_center.specs.declared.seats.Seat.{Seat}
 
 -- a registration is this observer's, and has this name and this object, where none stands for any

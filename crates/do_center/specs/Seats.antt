@@ -1,14 +1,10 @@
 -- Registrations with the queues of their observers, and observers that are suspended.
-use Rattle.std.specs.Prelude.{Bool, true, false, not, ◌&&◌, ◌||◌, nat_le}
-use Rattle.std.specs.Prelude.{Option, Some, None, List, [], ◌∷◌, length, map, slice_get}
-use Rattle.std.specs.Prelude.{if◌then◌else◌}
-use Rattle.std.specs.List.{list_all}
+use Rattle.std.specs.Prelude.{Bool, true, false, not, ◌&&◌, ◌||◌, nat_le, Option, Some, None, List}
+use Rattle.std.specs.{Prelude.{[], ◌∷◌, length, map, slice_get, if◌then◌else◌}, List.list_all}
 use Rattle.do_base.specs.names.Names.{ObjectName}
-use Rattle.do_center.specs.Notes.{is_note}
-use Rattle.do_center.specs.Observers.{same_object, are_distinct}
+use Rattle.do_center.specs.{Notes.is_note, Observers.{same_object, are_distinct}}
 use Rattle.do_center.specs.Registrations.{is_registration}
-use Rattle.do_center.specs.declared.registrations.Registration.{Registration}
-use Rattle.do_center.specs.declared.queues.Queued.{Queued}
+use Rattle.do_center.specs.declared.{registrations.Registration.Registration, queues.Queued.Queued}
 use Rattle.do_center.specs.declared.seats.Seat.{Seat}
 
 -- a core: registrations with queues, the oldest first, and the suspended observers

@@ -1,22 +1,16 @@
 -- A core as slots.
-use Rattle.std.specs.Prelude.{ℕ, ℤ, pos, ◌&&◌, nat_lt, Option, Some, None}
-use Rattle.std.specs.Prelude.{List as Listed, [], ◌∷◌, map, if◌then◌else◌}
-use Rattle.std.specs.Cmp.Lexicographic.{pointwise}
-use Rattle.do_base.specs.names.Names.{ObjectName}
-use Rattle.do_base.specs.values.Equal.{value_eq}
+use Rattle.std.specs.Prelude.{ℕ, ℤ, pos, ◌&&◌, nat_lt, Option, Some, None, List as Listed, [], ◌∷◌}
+use Rattle.std.specs.{Prelude.{map, if◌then◌else◌}, Cmp.Lexicographic.pointwise}
+use Rattle.do_base.specs.{names.Names.ObjectName, values.Equal.value_eq}
 use Rattle.do_base.specs.values.Kinds.{number, object, items}
-use Rattle.do_base.specs.declared.values.value.Value.{Value, List}
-use Rattle.do_base.specs.declared.values.value.Value.TheVariants.{Num, Text, Obj}
+use Rattle.do_base.specs.declared.values.value.Value.{Value, List, TheVariants.{Num, Text, Obj}}
 use Rattle.do_grammar.specs.Words.{◌>>?◌}
 use Rattle.do_native_acts.specs.Rows.{rows_in, listed}
-use Rattle.do_center.specs.Notes.{label_value, note_in}
-use Rattle.do_center.specs.Observers.{same_object, without_first}
+use Rattle.do_center.specs.{Notes.{label_value, note_in}, Observers.{same_object, without_first}}
 use Rattle.do_center.specs.Registrations.{registration_in, registration_value}
 use Rattle.do_center.specs.Seats.{Core, is_core, is_none, registrations}
-use Rattle.do_center.specs.declared.registrations.Registration.{Registration}
-use Rattle.do_center.specs.declared.queues.Queued.{Queued}
-use Rattle.do_center.specs.declared.slots.Waiting.{Waiting}
-use Rattle.do_center.specs.declared.seats.Seat.{Seat}
+use Rattle.do_center.specs.declared.{registrations.Registration.Registration, queues.Queued.Queued}
+use Rattle.do_center.specs.declared.{slots.Waiting.Waiting, seats.Seat.Seat}
 
 -- what waits, as a value
 abbrev pub queued_value : Queued → Value

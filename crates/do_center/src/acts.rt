@@ -3,10 +3,8 @@ ghost use Rattle.std.specs.Prelude.{◌≡◌, IfOk, Some, map};
 ghost use Rattle.do_base.specs.declared.values.value.Value.{List};
 ghost use Rattle.do_grammar.specs.Words.{◌>>?◌};
 ghost use Rattle.do_native_acts.specs.Steps.{fits, steps};
-ghost use Rattle.do_behave.specs.Changes.{Means};
-ghost use Rattle.do_behave.specs.Steps.{or_fault};
-ghost use Rattle.do_center.specs.Acts.{call_in, first, keeps, kept, method_act};
-ghost use Rattle.do_center.specs.Calls.{does};
+ghost use Rattle.do_behave.specs.{Changes.Means, Steps.or_fault};
+ghost use Rattle.do_center.specs.{Acts.{call_in, first, keeps, kept, method_act}, Calls.does};
 ghost use Rattle.do_center.specs.Notes.{delivery_value};
 
 use crate::center::Center;

@@ -1,7 +1,6 @@
 //! The calls of a core, as one type.
 ghost use Rattle.std.specs.Prelude.{◌≡◌, ◌∷◌, List, IfOk, IfErr, OnOk, OnErr, Some};
-ghost use Rattle.do_center.specs.Calls.{IsCall, Refused, does, limit_of};
-ghost use Rattle.do_center.specs.History.{after};
+ghost use Rattle.do_center.specs.{Calls.{IsCall, Refused, does, limit_of}, History.after};
 ghost use Rattle.do_center.specs.declared.calls.Call.{Call};
 
 use crate::center::Center;

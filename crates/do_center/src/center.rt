@@ -2,18 +2,13 @@ ghost use Rattle.std.specs.Prelude.{◌≡◌, ◌∷◌, [], IsTrue, List, IfOk
 ghost use Rattle.std.specs.Prelude.{Some, true};
 ghost use Rattle.do_base.specs.values.Kinds.{object};
 ghost use Rattle.do_grammar.specs.Words.{◌>>?◌};
-ghost use Rattle.do_native_acts.specs.Faults.{FaultOf};
-ghost use Rattle.do_native_acts.specs.Rows.{rows_in};
+ghost use Rattle.do_native_acts.specs.{Faults.FaultOf, Rows.rows_in};
 ghost use Rattle.do_center.specs.Calls.{Refused, added, suspended};
-ghost use Rattle.do_center.specs.History.{after, is_suspended, registered};
-ghost use Rattle.do_center.specs.Notes.{is_note};
-ghost use Rattle.do_center.specs.Posting.{posted};
-ghost use Rattle.do_center.specs.Registrations.{is_registration};
-ghost use Rattle.do_center.specs.Removing.{removed};
+ghost use Rattle.do_center.specs.{History.{after, is_suspended, registered}, Notes.is_note};
+ghost use Rattle.do_center.specs.{Posting.posted, Registrations.is_registration, Removing.removed};
 ghost use Rattle.do_center.specs.Seats.{registrations};
 ghost use Rattle.do_center.specs.Slots.{from_slots, of_core, seated, to_slots, waiting_in};
-ghost use Rattle.do_center.specs.Observers.{has_object};
-ghost use Rattle.do_center.specs.declared.calls.Call.{Call};
+ghost use Rattle.do_center.specs.{Observers.has_object, declared.calls.Call.Call};
 
 use crate::limits::{MAX_REGISTRATIONS, are_seats};
 use crate::notes::{Deliveries, Note};
@@ -45,9 +40,8 @@ pub struct Center {
 }
 
 impl Model for Center {
-    ghost use Rattle.std.specs.Prelude.{IsTrue};
-    ghost use Rattle.std.specs.Coded.{codes};
     ghost use Rattle.do_base.specs.contracts.values.value.Value as v;
+    ghost use Rattle.std.specs.{Prelude.IsTrue, Coded.codes};
     ghost use Rattle.do_center.specs.Seats.{Core, is_core};
 
     ghost Value = { Core };

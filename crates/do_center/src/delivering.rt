@@ -1,8 +1,7 @@
 //! The acts that deliver: before each message a step, and behind all of them the return.
 ghost use Rattle.std.specs.Prelude.{◌≡◌, ◌∷◌, [], ◌-◌, ◌<◌, ◌≤◌, IfOk, IfSome, length};
 ghost use Rattle.std.specs.Option.{option_copied};
-ghost use Rattle.do_behave.specs.Changes.{Means};
-ghost use Rattle.do_behave.specs.Steps.{or_fault};
+ghost use Rattle.do_behave.specs.{Changes.Means, Steps.or_fault};
 ghost use Rattle.do_center.specs.Acts.{delivers, delivery_at, found, later, readies};
 
 use crate::center::MAX_DELIVERIES;

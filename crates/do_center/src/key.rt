@@ -37,8 +37,7 @@ impl Key {
 }
 
 impl PartialEq for Key {
-    ghost use Rattle.std.specs.Cmp.Rules.{comparing};
-    ghost use Rattle.std.proofs.Common.{rules};
+    ghost use Rattle.std.{specs.Cmp.Rules.comparing, proofs.Common.rules};
     ghost use Rattle.do_center.specs.Observers.{same_object};
 
     ghost eq = { same_object };
@@ -51,17 +50,14 @@ impl PartialEq for Key {
 }
 
 impl Eq for Key {
-    ghost use Rattle.std.specs.Cmp.Rules.{comparing};
-    ghost use Rattle.std.proofs.Common.{rules};
+    ghost use Rattle.std.{specs.Cmp.Rules.comparing, proofs.Common.rules};
 
     ghost laws = { Prim.search (comparing, rules) };
 }
 
 impl Hash for Key {
-    ghost use Rattle.std.specs.Cmp.Rules.{hashing};
-    ghost use Rattle.std.specs.Prelude.{◌++◌};
-    ghost use Rattle.std.proofs.Common.{rules};
     ghost use Rattle.std.specs.Hash as fed;
+    ghost use Rattle.std.{specs.{Cmp.Rules.hashing, Prelude.◌++◌}, proofs.Common.rules};
 
     ghost hash_input = { λ o. fed.u16 o.node ++ fed.u64 o.serial };
 

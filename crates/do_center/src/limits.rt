@@ -1,8 +1,7 @@
 //! The limits of registrations and of their queues.
-ghost use Rattle.std.specs.Prelude.{◌≡◌, slice_get};
-ghost use Rattle.std.specs.List.{list_all};
-ghost use Rattle.do_center.specs.Seats.{are_apart, are_seats, has_none};
-ghost use Rattle.do_center.specs.Seats.{is_of, is_queue, is_queued, is_seat, registrations};
+ghost use Rattle.std.specs.{Prelude.{◌≡◌, slice_get}, List.list_all};
+ghost use Rattle.do_center.specs.Seats.{are_apart, are_seats, has_none, is_of, is_queue, is_queued};
+ghost use Rattle.do_center.specs.Seats.{is_seat, registrations};
 
 use crate::notes::is_note;
 use crate::observers::same;

@@ -3,9 +3,8 @@ ghost use Rattle.std.specs.Prelude.{◌≡◌, IfOk};
 ghost use Rattle.do_base.specs.values.Kinds.{object};
 ghost use Rattle.do_grammar.specs.Words.{◌>>?◌};
 ghost use Rattle.do_behave.specs.Steps.{local};
-ghost use Rattle.do_center.specs.Acts.{adds, call_in, kept_in, method_of, posts, removes};
-ghost use Rattle.do_center.specs.Acts.{suspends, truth_in};
-ghost use Rattle.do_center.specs.Notes.{label_in};
+ghost use Rattle.do_center.specs.Acts.{adds, call_in, kept_in, method_of, posts, removes, suspends};
+ghost use Rattle.do_center.specs.{Acts.truth_in, Notes.label_in};
 
 use crate::calls::Call;
 use crate::labels::label_in;

@@ -1,9 +1,6 @@
 //! Notifications, and what is sent of them.
-ghost use Rattle.std.specs.Prelude.{◌≡◌, IfOk};
-ghost use Rattle.std.specs.List.{list_all};
-ghost use Rattle.std.specs.Option.{option_copied};
-ghost use Rattle.do_center.specs.Notes.{delivery_value, info_within, is_note, note_in};
-ghost use Rattle.do_center.specs.Notes.{posted_name};
+ghost use Rattle.std.specs.{Prelude.{◌≡◌, IfOk}, List.list_all, Option.option_copied};
+ghost use Rattle.do_center.specs.Notes.{delivery_value, info_within, is_note, note_in, posted_name};
 
 use crate::labels::{is_label, is_short, label_in, label_value};
 use do_base::{ExactClone, Items, Oid, Text, Value, Values, copy_value};

@@ -1,9 +1,8 @@
 //! Registrations of observers.
-ghost use Rattle.std.specs.Prelude.{◌≡◌, IfOk};
-ghost use Rattle.std.specs.Option.{option_copied};
-ghost use Rattle.do_center.specs.Registrations.{delivered, fits_label};
-ghost use Rattle.do_center.specs.Registrations.{is_registration, matches, registration_value};
-ghost use Rattle.do_center.specs.Registrations.{registration_from, registration_of, selector_in};
+ghost use Rattle.std.specs.{Prelude.{◌≡◌, IfOk}, Option.option_copied};
+ghost use Rattle.do_center.specs.Registrations.{delivered, fits_label, is_registration, matches};
+ghost use Rattle.do_center.specs.Registrations.{registration_value, registration_from};
+ghost use Rattle.do_center.specs.Registrations.{registration_of, selector_in};
 
 use crate::labels::{is_label, label_in, label_value};
 use crate::notes::{Delivery, Note};

@@ -1,7 +1,6 @@
 //! Registrations with the queues of their observers.
 ghost use Rattle.std.specs.Prelude.{◌≡◌, IfOk};
-ghost use Rattle.do_center.specs.Queues.{deliveries, queue_of, with_queue};
-ghost use Rattle.do_center.specs.Seats.{registrations};
+ghost use Rattle.do_center.specs.{Queues.{deliveries, queue_of, with_queue}, Seats.registrations};
 
 use crate::notes::Deliveries;
 use crate::observers::{Observed, first_of};

@@ -1,8 +1,7 @@
 //! Cores as slots keep them.
 ghost use Rattle.std.specs.Prelude.{◌≡◌, ◌++◌, ◌∷◌, [], IfOk, map};
-ghost use Rattle.do_center.specs.Seats.{Core, registrations};
-ghost use Rattle.do_center.specs.Slots.{place_in, queue_among, queued_of, seated, waiting};
-ghost use Rattle.do_center.specs.Slots.{waiting_of, waiting_value};
+ghost use Rattle.do_center.specs.{Seats.{Core, registrations}, Slots.{place_in, queue_among}};
+ghost use Rattle.do_center.specs.Slots.{queued_of, seated, waiting, waiting_of, waiting_value};
 ghost use Rattle.do_center.specs.Registrations.{registration_value};
 ghost use Rattle.do_native_acts.specs.Rows.{listed};
 ghost use Rattle.do_center.specs.Observers.{without_first};

@@ -3,8 +3,7 @@
 //! They are kept in a set of the kit's `indexmap`, which finds an observer without a walk and keeps
 //! the order in which they came.
 ghost use Rattle.std.specs.Prelude.{◌≡◌, ◌++◌, ◌∷◌, [], IfOk, OnOk, OnErr, false, length};
-ghost use Rattle.do_center.specs.Observers.{has_object, without_object};
-ghost use Rattle.do_center.specs.Seats.{read_suspended};
+ghost use Rattle.do_center.specs.{Observers.{has_object, without_object}, Seats.read_suspended};
 
 use crate::key::Key;
 use do_base::{Oid, Oids};

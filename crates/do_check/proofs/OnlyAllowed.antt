@@ -2,33 +2,21 @@
 -- each denial raises the text of its rule.
 use Rattle.std.proofs.Common.{◌≡◌, ℕ, zero, suc, ◌&&◌, Bool, true, false, List as Listed, [], ◌∷◌}
 use Rattle.std.proofs.Common.{Option, Some, None, refl, sym, ◌∙◌, ap, subst}
-use Rattle.std.specs.Prelude.{codes, if◌then◌else◌, slice_index_or}
-use Rattle.std.specs.List.{list_all}
-use Rattle.std.specs.Str.{bytes_eq}
-use Rattle.do_base.specs.names.Names.{ObjectName}
-use Rattle.do_base.specs.values.Kinds.{is_nil, object}
-use Rattle.do_base.specs.declared.values.value.Value.{Value}
-use Rattle.do_base.specs.declared.values.value.Value.TheVariants.{Nil, Obj}
+use Rattle.std.specs.{Prelude.{codes, if◌then◌else◌, slice_index_or}, List.list_all, Str.bytes_eq}
+use Rattle.do_base.specs.{names.Names.ObjectName, values.Kinds.{is_nil, object}}
+use Rattle.do_base.specs.declared.values.value.Value.{Value, TheVariants.{Nil, Obj}}
 use Rattle.do_base.specs.declared.events.exception.Exc.TheVariants.{Range, TypeFault, User}
 use Rattle.do_class.specs.Class.{Class}
-use Rattle.do_grammar.specs.Names.{colons}
-use Rattle.do_grammar.specs.Words.{◌>>?◌}
+use Rattle.do_grammar.specs.{Names.colons, Words.◌>>?◌}
 use Rattle.do_behave.specs.Steps.{local, local_values, or_fault}
-use Rattle.do_behave.specs.declared.invocation.Invocation.{Invocation}
-use Rattle.do_behave.specs.declared.act.Act.{Act}
-use Rattle.do_behave.specs.declared.act.Act.TheVariants.{Step, Send, Return, Raise}
-use Rattle.do_behave.specs.declared.act.Write.{Write}
+use Rattle.do_behave.specs.declared.{invocation.Invocation.Invocation, act.Act.Act}
+use Rattle.do_behave.specs.declared.act.{Act.TheVariants.{Step, Send, Return, Raise}, Write.Write}
 use Rattle.do_behave.specs.declared.change.LocalSet.{LocalSet}
-use Rattle.do_native_acts.specs.Limited.{is_limited}
-use Rattle.do_native_acts.specs.Places.{selector_in, returns}
-use Rattle.do_native_acts.specs.Steps.{steps}
-use Rattle.do_check.specs.Acts.{target_in, sets_target, keeps_target, guards, firsts}
-use Rattle.do_check.specs.Acts.{passes_on, forwards, follows, checks, check_act}
-use Rattle.do_check.specs.Rules.{verdict_of}
+use Rattle.do_native_acts.specs.{Limited.is_limited, Places.{selector_in, returns}, Steps.steps}
+use Rattle.do_check.specs.Acts.{target_in, sets_target, keeps_target, guards, firsts, passes_on}
+use Rattle.do_check.specs.{Acts.{forwards, follows, checks, check_act}, Rules.verdict_of}
 use Rattle.do_check.specs.Sent.{IsAllowed, IsNoStep, OnlyAllowedIsSent, TargetStays, DenialRaises}
-use Rattle.do_check.specs.declared.rules.Rule.{Rule}
-use Rattle.do_check.specs.declared.rules.Verdict.{Verdict}
-use Rattle.do_check.specs.declared.rules.Verdict.TheVariants.{Forward, Deny}
+use Rattle.do_check.specs.declared.rules.{Rule.Rule, Verdict.{Verdict, TheVariants.{Forward, Deny}}}
 
 -- what is shown of every act where it is shown of a fault of type
 module _ (P : Act → Type 0) (fault : P (Raise TypeFault)) where

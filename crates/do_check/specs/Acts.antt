@@ -1,23 +1,15 @@
 -- The acts of a checker.
 use Rattle.std.specs.Prelude.{ℕ, Option, Some, None, List, [], ◌∷◌, if◌then◌else◌, codes}
-use Rattle.std.specs.List.{range_with_len}
-use Rattle.std.specs.Str.{bytes_eq}
-use Rattle.do_base.specs.values.Kinds.{is_nil, object}
-use Rattle.do_base.specs.declared.values.value.Value.{Value}
+use Rattle.std.specs.{List.range_with_len, Str.bytes_eq}
+use Rattle.do_base.specs.{values.Kinds.{is_nil, object}, declared.values.value.Value.Value}
 use Rattle.do_base.specs.declared.values.value.Value.TheVariants.{Nil, Obj}
 use Rattle.do_base.specs.declared.events.exception.Exc.TheVariants.{User}
 use Rattle.do_class.specs.Class.{Class}
-use Rattle.do_grammar.specs.Names.{colons}
-use Rattle.do_grammar.specs.Words.{◌>>?◌}
-use Rattle.do_behave.specs.Steps.{local, local_values}
-use Rattle.do_behave.specs.declared.invocation.Invocation.{Invocation}
-use Rattle.do_behave.specs.declared.act.Act.{Act}
-use Rattle.do_behave.specs.declared.act.Act.TheVariants.{Send, Return, Raise}
-use Rattle.do_native_acts.specs.Places.{at_place, by_selector, returns}
-use Rattle.do_native_acts.specs.Steps.{steps}
-use Rattle.do_check.specs.Rules.{verdict_of}
-use Rattle.do_check.specs.declared.rules.Rule.{Rule}
-use Rattle.do_check.specs.declared.rules.Verdict.{Verdict}
+use Rattle.do_grammar.specs.{Names.colons, Words.◌>>?◌}
+use Rattle.do_behave.specs.{Steps.{local, local_values}, declared.invocation.Invocation.Invocation}
+use Rattle.do_behave.specs.declared.act.Act.{Act, TheVariants.{Send, Return, Raise}}
+use Rattle.do_native_acts.specs.{Places.{at_place, by_selector, returns}, Steps.steps}
+use Rattle.do_check.specs.{Rules.verdict_of, declared.rules.{Rule.Rule, Verdict.Verdict}}
 use Rattle.do_check.specs.declared.rules.Verdict.TheVariants.{Forward, Deny}
 
 -- the target, which is the one slot

@@ -1,12 +1,8 @@
 -- The rules of a class of checkers.
-use Rattle.std.specs.Prelude.{ℕ, ◌≤◌, Option, List, length, IsTrue}
-use Rattle.std.specs.List.{find, All}
-use Rattle.std.specs.Option.{option_map}
-use Rattle.std.specs.Str.{bytes_eq}
+use Rattle.std.specs.{Prelude.{ℕ, ◌≤◌, Option, List, length, IsTrue}, List.{find, All}}
+use Rattle.std.specs.{Option.option_map, Str.bytes_eq}
 use Rattle.do_grammar.specs.Names.{is_selector}
-use Rattle.do_check.specs.declared.rules.Rule.{Rule}
-use Rattle.do_check.specs.declared.rules.Verdict.{Verdict}
-use Rattle.do_check.specs.declared.rules.Verdict.TheVariants.{Forward, Deny}
+use Rattle.do_check.specs.declared.rules.{Rule.Rule, Verdict.{Verdict, TheVariants.{Forward, Deny}}}
 
 -- what is done with the messages of a selector: the verdict of its first rule
 abbrev pub verdict_of : List Rule → List ℕ → Option Verdict

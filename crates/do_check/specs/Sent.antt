@@ -1,18 +1,13 @@
 -- What a checker sends and what it never does: it sends only what a rule allows, and only to its
 -- target; a target that is set stays; a denial raises its text.
-use Rattle.std.specs.Prelude.{◌≡◌, ℕ, Bool, true, false, List, Option, Some, codes}
-use Rattle.std.specs.Str.{bytes_eq}
-use Rattle.do_base.specs.values.Kinds.{is_nil}
-use Rattle.do_base.specs.declared.values.value.Value.{Value}
+use Rattle.std.specs.{Prelude.{◌≡◌, ℕ, Bool, true, false, List, Option, Some, codes}, Str.bytes_eq}
+use Rattle.do_base.specs.{values.Kinds.is_nil, declared.values.value.Value.Value}
 use Rattle.do_base.specs.declared.events.exception.Exc.TheVariants.{User}
 use Rattle.do_class.specs.Class.{Class}
-use Rattle.do_behave.specs.declared.invocation.Invocation.{Invocation}
-use Rattle.do_behave.specs.declared.act.Act.{Act}
+use Rattle.do_behave.specs.declared.{invocation.Invocation.Invocation, act.Act.Act}
 use Rattle.do_behave.specs.declared.act.Act.TheVariants.{Step, Send, Raise}
 use Rattle.do_native_acts.specs.Places.{selector_in}
-use Rattle.do_check.specs.Acts.{target_in, check_act}
-use Rattle.do_check.specs.Rules.{verdict_of}
-use Rattle.do_check.specs.declared.rules.Rule.{Rule}
+use Rattle.do_check.specs.{Acts.{target_in, check_act}, Rules.verdict_of, declared.rules.Rule.Rule}
 use Rattle.do_check.specs.declared.rules.Verdict.TheVariants.{Forward, Deny}
 
 -- a Send is of the message at hand, which a rule allows, to the target

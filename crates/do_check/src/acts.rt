@@ -1,7 +1,6 @@
 ghost use Rattle.std.specs.Prelude.{◌≡◌, IfOk, IsTrue};
 ghost use Rattle.do_grammar.specs.Names.{is_selector};
-ghost use Rattle.do_behave.specs.Changes.{Means};
-ghost use Rattle.do_behave.specs.Steps.{or_fault};
+ghost use Rattle.do_behave.specs.{Changes.Means, Steps.or_fault};
 ghost use Rattle.do_check.specs.Acts.{check_act, checks};
 
 use crate::forward::forward;
@@ -63,9 +62,8 @@ pub struct Checker {
 }
 
 impl Model for Checker {
-    ghost use Rattle.std.specs.Prelude.{List};
-    ghost use Rattle.std.specs.Coded.{codes};
     ghost use Rattle.do_check.specs.contracts.rules.Rule as rule;
+    ghost use Rattle.std.specs.{Prelude.List, Coded.codes};
     ghost use Rattle.do_check.specs.declared.rules.Rule.{Rule};
 
     ghost Value = { List Rule };
@@ -92,8 +90,7 @@ impl Checker {
 }
 
 impl Behaviour for Checker {
-    ghost use Rattle.do_check.specs.Acts.{check_act};
-    ghost use Rattle.do_check.specs.Rules.{AreRules};
+    ghost use Rattle.do_check.specs.{Acts.check_act, Rules.AreRules};
     ghost use Rattle.do_check.specs.laws.CheckLaws.{check_names_shown, check_answers_well};
 
     ghost act = { check_act };

@@ -1,8 +1,7 @@
 //! A message that is passed on to the target.
 ghost use Rattle.std.specs.Prelude.{◌≡◌, ◌≤◌, ◌++◌, ◌∷◌, [], IfOk, OnOk, OnErr, IsTrue};
 ghost use Rattle.do_grammar.specs.Names.{colons, is_selector};
-ghost use Rattle.do_behave.specs.Changes.{Means};
-ghost use Rattle.do_behave.specs.Steps.{local_values, or_fault};
+ghost use Rattle.do_behave.specs.{Changes.Means, Steps.{local_values, or_fault}};
 ghost use Rattle.do_check.specs.Acts.{firsts, forwards, passes_on};
 
 use do_base::{Locals, Text, Value, Values, copy_value};

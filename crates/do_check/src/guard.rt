@@ -2,8 +2,7 @@
 ghost use Rattle.std.specs.Prelude.{◌≡◌, IfOk};
 ghost use Rattle.do_base.specs.values.Kinds.{object};
 ghost use Rattle.do_grammar.specs.Words.{◌>>?◌};
-ghost use Rattle.do_behave.specs.Changes.{Means};
-ghost use Rattle.do_behave.specs.Steps.{local, or_fault};
+ghost use Rattle.do_behave.specs.{Changes.Means, Steps.{local, or_fault}};
 ghost use Rattle.do_check.specs.Acts.{guards, keeps_target, sets_target};
 
 use do_base::{Exc, Oid, Text, Value, Values};

@@ -1,7 +1,4 @@
-ghost use Rattle.std.specs.Prelude.{◌≡◌, IfOk};
-ghost use Rattle.std.specs.Option.{option_copied};
-ghost use Rattle.std.specs.List.{find};
-ghost use Rattle.std.specs.Str.{bytes_eq};
+ghost use Rattle.std.specs.{Prelude.{◌≡◌, IfOk}, Option.option_copied, List.find, Str.bytes_eq};
 ghost use Rattle.do_check.specs.Rules.{verdict_of};
 
 use crate::rules::{Rule, Rules, Verdict};

@@ -1,18 +1,12 @@
 -- How a list of methods grows.
 use Rattle.std.proofs.Common.{◌≡◌, ◌<◌, ℕ, List, [], ◌∷◌, ◌++◌, length, None, sym, subst, arith}
-use Rattle.std.proofs.Common.{length-append}
-use Rattle.std.specs.Prelude.{IsTrue}
-use Rattle.std.specs.List.{IsDistinct}
-use Rattle.std.specs.Str.{bytes_eq}
-use Rattle.std.proofs.lemmas.Cmp.{nat_list_eq_equiv}
-use Rattle.std.proofs.lemmas.List.{map-append}
-use Rattle.std.proofs.lemmas.List.Elements.{All-push}
+use Rattle.std.{proofs.Common.length-append, specs.{Prelude.IsTrue, List.IsDistinct, Str.bytes_eq}}
+use Rattle.std.proofs.lemmas.{Cmp.nat_list_eq_equiv, List.{map-append, Elements.All-push}}
 use Rattle.std.proofs.lemmas.Map.Keys.{IsDistinct-push}
 use Rattle.do_sig.specs.Calls.{arg_count}
 use Rattle.do_grammar.specs.Names.{is_selector, colons}
 use Rattle.do_class.specs.Class.{AreMethods, place_of, selectors_of}
-use Rattle.do_class.specs.declared.method.Method.{Method}
-use Rattle.do_class.proofs.Places.{list_any-none}
+use Rattle.do_class.{specs.declared.method.Method.Method, proofs.Places.list_any-none}
 
 -- no number is below zero
 none : (k : ℕ) → k < 0 → ⊥

@@ -1,24 +1,15 @@
 -- Where a text stands in a list, and the map that tells it.
 use Rattle.std.proofs.Common.{◌≡◌, ℕ, ◌+◌, ◌<◌, Bool, true, false, List, [], ◌∷◌, ◌++◌, length}
 use Rattle.std.proofs.Common.{Option, Some, None, cond, refl, sym, ◌∙◌, ap, subst, arith, ⊎_elim}
-use Rattle.std.proofs.Common.{suc, take, drop, get_or}
-use Rattle.std.specs.List.{position, IsDistinct, AllByRecursion, list_any}
-use Rattle.std.specs.Str.{bytes_eq}
-use Rattle.std.specs.BTreeMap.{BTreeMap, Updates, get}
-use Rattle.std.specs.Cmp.{IsEquivalence}
-use Rattle.std.specs.Cmp.Lexicographic.{slice_cmp}
-use Rattle.std.specs.Ordering.{nat_cmp}
-use Rattle.std.proofs.lemmas.Bool.{cases_Bool}
-use Rattle.std.proofs.lemmas.Cmp.{nat_list_eq_equiv}
-use Rattle.std.proofs.lemmas.Grind.{common_steps}
-use Rattle.std.proofs.lemmas.List.Folds.{position_or_len_push}
-use Rattle.std.proofs.lemmas.List.Sums.{prefix_len-le-length}
-use Rattle.std.proofs.lemmas.Map.Text.{is_eq-slice_cmp}
-use Rattle.std.proofs.lemmas.Slice.Eq.{bytes_eq-Decides}
+use Rattle.std.{proofs.Common.{suc, take, drop, get_or}, specs.List.{position, IsDistinct}}
+use Rattle.std.specs.{List.{AllByRecursion, list_any}, Str.bytes_eq, BTreeMap.{BTreeMap, Updates}}
+use Rattle.std.specs.{BTreeMap.get, Cmp.{IsEquivalence, Lexicographic.slice_cmp}, Ordering.nat_cmp}
+use Rattle.std.proofs.lemmas.{Bool.cases_Bool, Cmp.nat_list_eq_equiv, Grind.common_steps}
+use Rattle.std.proofs.lemmas.List.{Folds.position_or_len_push, Sums.prefix_len-le-length}
+use Rattle.std.proofs.lemmas.{Map.Text.is_eq-slice_cmp, Slice.Eq.bytes_eq-Decides}
 use Rattle.std.proofs.Math.Seq.{split_at}
 use Rattle.std.proofs.lemmas.List.{take_more, map-append, length-map, length-take-le}
-use Rattle.do_class.specs.Class.{place_of, selectors_of}
-use Rattle.do_class.specs.declared.method.Method.{Method}
+use Rattle.do_class.specs.{Class.{place_of, selectors_of}, declared.method.Method.Method}
 use Rattle.do_class.specs.Index.{IsIndexOf}
 
 -- an item that fails the test changes nothing

@@ -1,21 +1,12 @@
 -- A table with no class, and one with a class more.
 use Rattle.std.proofs.Common.{◌≡◌, ℕ, ◌<◌, List, [], ◌∷◌, ◌++◌, length, false, Option, Some, None}
 use Rattle.std.proofs.Common.{refl, sym, ◌∙◌, ap, subst, arith, length-append}
-use Rattle.std.specs.List.{IsDistinct}
-use Rattle.std.specs.Str.{bytes_eq}
-use Rattle.std.specs.BTreeMap.{BTreeMap, Updates, IsEmpty, get, is_at}
-use Rattle.std.specs.Map.{lookup}
-use Rattle.std.specs.Prelude.{is_some}
-use Rattle.std.specs.Cmp.Lexicographic.{slice_cmp}
-use Rattle.std.specs.Ordering.{nat_cmp}
-use Rattle.std.proofs.lemmas.Cmp.{nat_list_eq_equiv}
-use Rattle.std.proofs.lemmas.List.{map-append, length-map}
-use Rattle.std.proofs.lemmas.List.Elements.{All-push}
-use Rattle.std.proofs.lemmas.Map.Keys.{IsDistinct-push}
-use Rattle.do_class.specs.Class.{Class, IsClass}
-use Rattle.do_class.specs.Table.{names_of}
-use Rattle.do_class.specs.Index.{IsIndexOf, IsIndexedTable}
-use Rattle.do_class.proofs.Places.{IsIndexOf-push, list_any-none}
+use Rattle.std.specs.{List.IsDistinct, Str.bytes_eq, BTreeMap.{BTreeMap, Updates, IsEmpty, get}}
+use Rattle.std.specs.{BTreeMap.is_at, Map.lookup, Prelude.is_some, Cmp.Lexicographic.slice_cmp}
+use Rattle.std.{specs.Ordering.nat_cmp, proofs.lemmas.{Cmp.nat_list_eq_equiv, List.map-append}}
+use Rattle.std.proofs.lemmas.{List.{length-map, Elements.All-push}, Map.Keys.IsDistinct-push}
+use Rattle.do_class.specs.{Class.{Class, IsClass}, Table.names_of, Index.IsIndexOf}
+use Rattle.do_class.{specs.Index.IsIndexedTable, proofs.Places.{IsIndexOf-push, list_any-none}}
 
 -- no number is below zero
 less-zero : (k : ℕ) → k < 0 → ⊥

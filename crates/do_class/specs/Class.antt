@@ -1,11 +1,9 @@
 -- A class, as a contract sees it.
 use Rattle.std.specs.Prelude.{◌≡◌, ℕ, ◌≤◌, List, length, map, Option, IsTrue}
-use Rattle.std.specs.List.{All, IsDistinct, position}
-use Rattle.std.specs.Str.{bytes_eq}
+use Rattle.std.specs.{List.{All, IsDistinct, position}, Str.bytes_eq}
 use Rattle.do_sig.specs.Calls.{arg_count}
 use Rattle.do_grammar.specs.Names.{is_selector, colons}
-use Rattle.do_class.specs.declared.ids.Slot.{Slot}
-use Rattle.do_class.specs.declared.method.Method.{Method}
+use Rattle.do_class.specs.declared.{ids.Slot.Slot, method.Method.Method}
 
 -- a class: its name, and its slots and its methods in order
 pub record Class : Type 0 where

@@ -1,7 +1,5 @@
 -- What makes a look-up by text exact.
-use Rattle.std.specs.Prelude.{◌≡◌, ℕ, List}
-use Rattle.std.specs.BTreeMap.{BTreeMap, get}
-use Rattle.std.specs.Cmp.Lexicographic.{slice_cmp}
+use Rattle.std.specs.{Prelude.{◌≡◌, ℕ, List}, BTreeMap.{BTreeMap, get}, Cmp.Lexicographic.slice_cmp}
 use Rattle.std.specs.Ordering.{nat_cmp}
 use Rattle.do_class.specs.Class.{Class, IsClass, place_of, selectors_of}
 use Rattle.do_class.specs.Table.{IsTable, names_of}

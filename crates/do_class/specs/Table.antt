@@ -1,13 +1,9 @@
 -- A class table, as a plain list of classes: a class is named by its place in the list, and a
 -- method by its place in its class.
 use Rattle.std.specs.Prelude.{ℕ, ◌≤◌, List, length, map, Option, option_and_then, slice_get}
-use Rattle.std.specs.List.{All, IsDistinct}
-use Rattle.std.specs.Option.{option_map}
-use Rattle.std.specs.Str.{bytes_eq}
+use Rattle.std.specs.{List.{All, IsDistinct}, Option.option_map, Str.bytes_eq}
 use Rattle.do_class.specs.Class.{Class, IsClass, place_of, selectors_of}
-use Rattle.do_class.specs.declared.ids.ClassId.{ClassId}
-use Rattle.do_class.specs.declared.ids.MethodId.{MethodId}
-use Rattle.do_class.specs.declared.ids.Slot.{Slot}
+use Rattle.do_class.specs.declared.ids.{ClassId.ClassId, MethodId.MethodId, Slot.Slot}
 use Rattle.do_class.specs.declared.method.Method.{Method}
 use Rattle.do_sig.specs.declared.signature.Signature.{Signature}
 

@@ -1,8 +1,6 @@
 ghost use Rattle.std.specs.Prelude.{◌≡◌, ◌<◌, ◌≤◌, ℕ, length, nat_lt, IfOk, IfSome, slice_get};
-ghost use Rattle.std.specs.Prelude.{Some};
-ghost use Rattle.std.specs.Option.{option_copied};
-ghost use Rattle.do_class.specs.Class.{AreMethods, place_of, selectors_of};
-ghost use Rattle.do_class.specs.Index.{IsIndexOf};
+ghost use Rattle.std.specs.{Prelude.Some, Option.option_copied};
+ghost use Rattle.do_class.specs.{Class.{AreMethods, place_of, selectors_of}, Index.IsIndexOf};
 
 use crate::ids::Slots;
 use crate::method::{Method, Methods};
@@ -21,10 +19,9 @@ pub struct IndexedClass {
 }
 
 impl Model for IndexedClass {
-    ghost use Rattle.std.specs.Coded.{codes};
     ghost use Rattle.do_sig.specs.contracts.signature.Signature as signature;
-    ghost use Rattle.do_class.specs.Class.{Class};
-    ghost use Rattle.do_class.specs.Index.{IsIndexed};
+    ghost use Rattle.std.specs.Coded.{codes};
+    ghost use Rattle.do_class.specs.{Class.Class, Index.IsIndexed};
 
     ghost Value = { Class };
 

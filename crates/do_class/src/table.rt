@@ -1,7 +1,6 @@
 ghost use Rattle.std.specs.Prelude.{◌≡◌, ◌<◌, ◌≤◌, ◌↔◌, IsTrue, [], ◌∷◌, ◌++◌, ℕ, length, IfOk};
 ghost use Rattle.std.specs.Prelude.{OnOk, OnErr, IsErrOf, IfSome, IsSome, IsNone, Some};
-ghost use Rattle.std.specs.BTreeMap.{Updates, IsUnchanged};
-ghost use Rattle.std.specs.Cmp.Lexicographic.{slice_cmp};
+ghost use Rattle.std.specs.{BTreeMap.{Updates, IsUnchanged}, Cmp.Lexicographic.slice_cmp};
 ghost use Rattle.std.specs.Ordering.{nat_cmp};
 
 use crate::fault::ClassFault;
@@ -27,12 +26,9 @@ pub struct ClassTable {
 }
 
 impl Model for ClassTable {
-    ghost use Rattle.std.specs.Prelude.{List};
-    ghost use Rattle.std.specs.Coded.{codes};
     ghost use Rattle.do_sig.specs.contracts.signature.Signature as signature;
-    ghost use Rattle.do_class.specs.Class.{Class};
-    ghost use Rattle.do_class.specs.Table.{names_of, IsTable};
-    ghost use Rattle.do_class.specs.Index.{IsIndexedTable};
+    ghost use Rattle.std.specs.{Prelude.List, Coded.codes};
+    ghost use Rattle.do_class.specs.{Class.Class, Table.{names_of, IsTable}, Index.IsIndexedTable};
 
     ghost Value = { List Class };
 

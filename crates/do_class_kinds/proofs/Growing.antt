@@ -1,10 +1,8 @@
 -- How what is made of a list grows, item by item.
 use Rattle.std.proofs.Common.{◌≡◌, ℕ, ◌+◌, ◌<◌, List, [], ◌∷◌, ◌++◌, length, map, take, get_or}
 use Rattle.std.proofs.Common.{Option, Some, None, refl, sym, ◌∙◌, ap}
-use Rattle.std.specs.List.{cons_option, filter_map}
-use Rattle.std.specs.Option.{option_to_list}
-use Rattle.std.proofs.lemmas.List.{map-append, map_more}
-use Rattle.std.proofs.lemmas.List.Elements.{filter_map-append}
+use Rattle.std.specs.{List.{cons_option, filter_map}, Option.option_to_list}
+use Rattle.std.proofs.lemmas.List.{map-append, map_more, Elements.filter_map-append}
 
 -- an item that is there or not, before no others
 single : {A : Type 0} (o : Option A) → cons_option o [] ≡ option_to_list o

@@ -1,24 +1,16 @@
 -- The slots and methods of each kind are those of a class.
+use Rattle.do_class_kinds.specs.declared.kind.Kind.TheVariants as kinds
 use Rattle.std.proofs.Common.{◌≡◌, ◌≤◌, ◌∙◌, ℕ, List, [], ◌∷◌, length, map, take, refl, sym, ap}
 use Rattle.std.proofs.Common.{subst, arith, false, Bor, ◌++◌, ◌<◌, ◌+◌, get_or}
-use Rattle.std.specs.List.{AllByRecursion, IsDistinct}
-use Rattle.std.specs.Option.{option_to_list}
-use Rattle.std.specs.Str.{bytes_eq}
-use Rattle.std.proofs.lemmas.Cmp.{nat_list_eq_equiv}
-use Rattle.std.proofs.lemmas.List.{take_all}
-use Rattle.std.proofs.lemmas.Map.Made.{IsDistinct-from_count}
+use Rattle.std.specs.{List.{AllByRecursion, IsDistinct}, Option.option_to_list, Str.bytes_eq}
+use Rattle.std.proofs.lemmas.{Cmp.nat_list_eq_equiv, List.take_all, Map.Made.IsDistinct-from_count}
 use Rattle.do_grammar.specs.Names.{is_selector}
 use Rattle.do_sig.specs.reading.Outermost.{encoding_at, outermost_at}
-use Rattle.do_sig.specs.reading.Signatures.{args_at, bare_at, signature_at}
-use Rattle.do_sig.specs.reading.Types.{type_at}
-use Rattle.do_class.specs.Class.{AreMethods}
-use Rattle.do_class.specs.declared.ids.Slot.{Slot}
-use Rattle.do_class.specs.declared.method.Method.{Method}
+use Rattle.do_sig.specs.reading.{Signatures.{args_at, bare_at, signature_at}, Types.type_at}
+use Rattle.do_class.specs.{Class.AreMethods, declared.{ids.Slot.Slot, method.Method.Method}}
 use Rattle.do_class_kinds.specs.Methods.{method_said}
 use Rattle.do_class_kinds.specs.Native.{native_methods, native_slots, slot_names, spellings}
-use Rattle.do_class_kinds.specs.declared.kind.Kind.{Kind}
-use Rattle.do_class_kinds.specs.declared.kind.Kind.TheVariants as kinds
-use Rattle.do_class_kinds.proofs.Growing.{maybe_more}
+use Rattle.do_class_kinds.{specs.declared.kind.Kind.Kind, proofs.Growing.maybe_more}
 use Rattle.do_class_kinds.proofs.Said.{IsSaid, all_said, are_methods, none_lost}
 
 -- ---- the slots

@@ -1,16 +1,11 @@
 -- What holds of methods whose selectors and types say methods.
-use Rattle.std.proofs.Common.{◌≡◌, ◌≤◌, ℕ, List, [], ◌∷◌, length, map, refl, sym, ap, arith}
-use Rattle.std.proofs.Common.{Option, Some, None, subst}
-use Rattle.std.specs.Prelude.{IsTrue}
-use Rattle.std.specs.List.{AllByRecursion, IsDistinct, cons_option, filter_map}
-use Rattle.std.specs.Option.{option_map}
-use Rattle.std.specs.Str.{bytes_eq}
-use Rattle.std.proofs.lemmas.List.Elements.{All-from_recursion}
+use Rattle.std.proofs.Common.{◌≡◌, ◌≤◌, ℕ, List, [], ◌∷◌, length, map, refl, sym, ap, arith, Option}
+use Rattle.std.{proofs.Common.{Some, None, subst}, specs.Prelude.IsTrue}
+use Rattle.std.specs.{List.{AllByRecursion, IsDistinct, cons_option, filter_map}, Option.option_map}
+use Rattle.std.{specs.Str.bytes_eq, proofs.lemmas.List.Elements.All-from_recursion}
 use Rattle.do_grammar.specs.Names.{colons, is_selector}
-use Rattle.do_sig.specs.Calls.{arg_count}
-use Rattle.do_sig.specs.MethodTypes.{MethodType}
-use Rattle.do_class.specs.Class.{AreMethods, selectors_of}
-use Rattle.do_class.specs.declared.method.Method.{Method}
+use Rattle.do_sig.specs.{Calls.arg_count, MethodTypes.MethodType}
+use Rattle.do_class.specs.{Class.{AreMethods, selectors_of}, declared.method.Method.Method}
 use Rattle.do_native_acts.specs.laws.KindLaws.{some_same}
 use Rattle.do_class_kinds.specs.Methods.{method_said, signature_of}
 

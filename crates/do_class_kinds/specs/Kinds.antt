@@ -1,13 +1,10 @@
 -- The kinds of classes by their names, and what a table of classes has of them.
 use Rattle.std.specs.Prelude.{◌≡◌, ℕ, List, length, Option, Some, None, codes, if◌then◌else◌}
-use Rattle.std.specs.List.{All}
-use Rattle.std.specs.Str.{bytes_eq}
-use Rattle.do_check.specs.Rules.{AreRules}
-use Rattle.do_check.specs.declared.rules.Rule.{Rule}
+use Rattle.std.specs.{List.All, Str.bytes_eq}
+use Rattle.do_check.specs.{Rules.AreRules, declared.rules.Rule.Rule}
 use Rattle.do_class.specs.Class.{Class}
-use Rattle.do_class_kinds.specs.declared.kind.Kind.{Kind}
-use Rattle.do_class_kinds.specs.declared.kind.Kind.TheVariants.{Names, Pasteboard, Services, Center}
-use Rattle.do_class_kinds.specs.declared.kind.Kind.TheVariants.{Checker}
+use Rattle.do_class_kinds.specs.declared.kind.Kind.{Kind, TheVariants.{Names, Pasteboard, Services}}
+use Rattle.do_class_kinds.specs.declared.kind.Kind.TheVariants.{Center, Checker}
 
 -- the native kind of a name
 abbrev pub kind_named : List ℕ → Option Kind

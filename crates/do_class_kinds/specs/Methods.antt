@@ -1,10 +1,6 @@
 -- Methods, as a selector and types say them.
-use Rattle.std.specs.Prelude.{ℕ, List, Option}
-use Rattle.std.specs.List.{All}
-use Rattle.std.specs.Option.{option_map}
-use Rattle.std.specs.Result.{result_ok}
-use Rattle.do_sig.specs.Answers.{answer_of}
-use Rattle.do_sig.specs.MethodTypes.{IsMethodType, MethodType}
+use Rattle.std.specs.{Prelude.{ℕ, List, Option}, List.All, Option.option_map, Result.result_ok}
+use Rattle.do_sig.specs.{Answers.answer_of, MethodTypes.{IsMethodType, MethodType}}
 use Rattle.do_sig.specs.reading.Signatures.{signature_at}
 use Rattle.do_class.specs.declared.method.Method.{Method}
 

@@ -1,10 +1,7 @@
 -- The slots and the methods that classes of each kind have by themselves.
-use Rattle.std.specs.Prelude.{ℕ, false, List, [], ◌∷◌, map, codes}
-use Rattle.std.specs.List.{filter_map}
-use Rattle.do_class.specs.declared.ids.Slot.{Slot}
-use Rattle.do_class.specs.declared.method.Method.{Method}
-use Rattle.do_class_kinds.specs.Methods.{method_said}
-use Rattle.do_class_kinds.specs.declared.kind.Kind.{Kind}
+use Rattle.std.specs.{Prelude.{ℕ, false, List, [], ◌∷◌, map, codes}, List.filter_map}
+use Rattle.do_class.specs.declared.{ids.Slot.Slot, method.Method.Method}
+use Rattle.do_class_kinds.specs.{Methods.method_said, declared.kind.Kind.Kind}
 use Rattle.do_class_kinds.specs.declared.kind.Kind.TheVariants.{Script, Names, Pasteboard, Services}
 use Rattle.do_class_kinds.specs.declared.kind.Kind.TheVariants.{Center, Checker}
 

@@ -1,5 +1,4 @@
-ghost use Rattle.std.specs.Prelude.{◌≡◌, ◌++◌, length, map, IfOk, OnOk};
-ghost use Rattle.std.specs.List.{All};
+ghost use Rattle.std.specs.{Prelude.{◌≡◌, ◌++◌, length, map, IfOk, OnOk}, List.All};
 ghost use Rattle.std.specs.Option.{option_to_list};
 ghost use Rattle.do_sig.specs.MethodTypes.{IsMethodType};
 ghost use Rattle.do_class.specs.Class.{AreMethods};

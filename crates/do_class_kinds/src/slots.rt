@@ -1,6 +1,5 @@
 ghost use Rattle.std.specs.Prelude.{◌≡◌, ◌≤◌, ◌++◌, ◌∷◌, [], false, length, map, IfOk, OnOk};
-ghost use Rattle.std.specs.List.{IsDistinct};
-ghost use Rattle.std.specs.Str.{bytes_eq};
+ghost use Rattle.std.specs.{List.IsDistinct, Str.bytes_eq};
 ghost use Rattle.do_class_kinds.specs.Native.{native_slots, slot_names};
 
 use crate::kind::Kind;

@@ -1,9 +1,8 @@
 -- Words that fit some kinds, and then some more.
-use Rattle.std.proofs.Common.{◌≡◌, ℕ, suc, ◌+◌, ◌<◌, true, false, List, [], ◌∷◌}
-use Rattle.std.proofs.Common.{◌++◌, length, drop, refl, sym, ap, ◌∙◌, arith, inl, inr, zero-add}
+use Rattle.std.proofs.Common.{◌≡◌, ℕ, suc, ◌+◌, ◌<◌, true, false, List, [], ◌∷◌, ◌++◌, length, drop}
+use Rattle.std.proofs.Common.{refl, sym, ap, ◌∙◌, arith, inl, inr, zero-add}
 use Rattle.std.proofs.lemmas.Bool.{cases_Bool, cond-false, cond-true}
-use Rattle.do_cli.specs.declared.form.Kind.{Kind}
-use Rattle.do_cli.specs.Forms.{fitting, is_of}
+use Rattle.do_cli.specs.{declared.form.Kind.Kind, Forms.{fitting, is_of}}
 
 module _ (k : Kind) (ks : List Kind) (w : List ℕ) (ws : List (List ℕ)) where
   -- a word that fits

@@ -1,18 +1,14 @@
 -- How many records a command may name.
-use Rattle.std.proofs.Common.{◌≡◌, ◌≤◌, ℕ, suc, true, List, [], ◌∷◌, ◌++◌, length}
-use Rattle.std.proofs.Common.{None, Option, Some, arith, inl, inr, subst, sym}
-use Rattle.std.specs.Prelude.{IfSome}
+use Rattle.std.proofs.Common.{◌≡◌, ◌≤◌, ℕ, suc, true, List, [], ◌∷◌, ◌++◌, length, None, Option}
+use Rattle.std.{proofs.Common.{Some, arith, inl, inr, subst, sym}, specs.Prelude.IfSome}
 use Rattle.std.proofs.lemmas.Bool.{and_parts, cases_Bool, cond-false, cond-true, eqb-true}
 use Rattle.std.specs.Str.{bytes_eq}
-use Rattle.do_cli.specs.declared.command.Command.{Command}
-use Rattle.do_cli.specs.declared.form.Form.{Form}
-use Rattle.do_cli.specs.declared.form.Form.TheVariants.{Replay, Leaks, Weave, Upgrade, Make}
-use Rattle.do_cli.specs.declared.form.Form.TheVariants.{Node, Lab, Help, Version}
-use Rattle.do_cli.specs.declared.form.TheConstants.{FORMS}
+use Rattle.do_cli.specs.declared.{command.Command.Command, form.Form.Form}
+use Rattle.do_cli.specs.declared.form.Form.TheVariants.{Replay, Leaks, Weave, Upgrade, Make, Node}
+use Rattle.do_cli.specs.declared.form.{Form.TheVariants.{Lab, Help, Version}, TheConstants.FORMS}
 use Rattle.do_cli.specs.declared.form.Kind.{Kind}
-use Rattle.do_cli.specs.Forms.{command_among, command_by, fitting, follows, going}
-use Rattle.do_cli.specs.Forms.{is_of, kinds_of, made, more_of, name_of, number_in, records_in}
-use Rattle.do_cli.specs.Forms.{served}
+use Rattle.do_cli.specs.Forms.{command_among, command_by, fitting, follows, going, is_of, kinds_of}
+use Rattle.do_cli.specs.Forms.{made, more_of, name_of, number_in, records_in, served}
 use Rattle.do_cli.specs.declared.form.Kind.TheVariants.{Count, Number, Port, Turns}
 
 -- no more words fit than there are kinds

@@ -1,18 +1,14 @@
 -- The forms of the words of the command line.
-use Rattle.std.specs.Prelude.{ℕ, suc, nat_le, max, ◌==◌, ◌&&◌, ◌||◌, not, if◌then◌else◌, Bool}
-use Rattle.std.specs.Prelude.{List, [], ◌∷◌, ◌++◌, length, replicate, codes, Option, Some, None}
-use Rattle.std.specs.Prelude.{false, is_some}
-use Rattle.std.specs.Str.{bytes_eq}
-use Rattle.do_grammar.specs.Dec.{dec_in}
-use Rattle.do_cli.specs.declared.command.Command.{Command}
 use Rattle.do_cli.specs.declared.command.Command.TheVariants as command
-use Rattle.do_cli.specs.declared.form.Kind.{Kind}
+use Rattle.std.specs.Prelude.{ℕ, suc, nat_le, max, ◌==◌, ◌&&◌, ◌||◌, not, if◌then◌else◌, Bool, List}
+use Rattle.std.specs.Prelude.{[], ◌∷◌, ◌++◌, length, replicate, codes, Option, Some, None, false}
+use Rattle.std.specs.{Prelude.is_some, Str.bytes_eq}
+use Rattle.do_grammar.specs.Dec.{dec_in}
+use Rattle.do_cli.specs.declared.{command.Command.Command, form.Kind.Kind}
 use Rattle.do_cli.specs.declared.form.Kind.TheVariants.{World, Schedule, Record, Number, Count}
-use Rattle.do_cli.specs.declared.form.Kind.TheVariants.{Port, Starts, Turns, Plan}
-use Rattle.do_cli.specs.declared.form.Form.{Form}
-use Rattle.do_cli.specs.declared.form.Form.TheVariants.{Replay, Leaks, Weave, Upgrade, Make}
-use Rattle.do_cli.specs.declared.form.Form.TheVariants.{Node, Lab, Help, Version}
-use Rattle.do_cli.specs.declared.form.TheConstants.{FORMS}
+use Rattle.do_cli.specs.declared.form.{Kind.TheVariants.{Port, Starts, Turns, Plan}, Form.Form}
+use Rattle.do_cli.specs.declared.form.Form.TheVariants.{Replay, Leaks, Weave, Upgrade, Make, Node}
+use Rattle.do_cli.specs.declared.form.{Form.TheVariants.{Lab, Help, Version}, TheConstants.FORMS}
 
 -- a file's name: 1 to 4,096 bytes, of which the first is neither a dash nor a colon
 abbrev pub names_file : List ℕ → Bool

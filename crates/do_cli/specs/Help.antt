@@ -1,9 +1,7 @@
 -- The texts of `--help` and `--version`.
 use Rattle.std.specs.Prelude.{ℕ, List, [], ◌∷◌, ◌++◌, ◌==◌, codes, if◌then◌else◌, length}
 use Rattle.std.specs.List.{flat_map}
-use Rattle.do_cli.specs.declared.form.Kind.{Kind}
-use Rattle.do_cli.specs.declared.form.Form.{Form}
-use Rattle.do_cli.specs.declared.form.TheConstants.{FORMS}
+use Rattle.do_cli.specs.declared.form.{Kind.Kind, Form.Form, TheConstants.FORMS}
 use Rattle.do_cli.specs.declared.help.TheConstants.{HEAD, FOOT, VERSION}
 use Rattle.do_cli.specs.Forms.{deed_of, kinds_of, more_of, name_of, placeholder}
 

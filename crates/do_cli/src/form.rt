@@ -1,8 +1,7 @@
 //! The forms: a later one joins as a variant, with an arm in each table.
 ghost use Rattle.std.specs.Prelude.{◌≡◌};
-ghost use Rattle.do_cli.specs.Forms.{deed_of, is_of, kinds_of, name_of, more_of};
-ghost use Rattle.do_cli.specs.Forms.{names_file, number_in, placeholder};
-ghost use Rattle.do_cli.specs.declared.form.Kind.TheVariants.{Port};
+ghost use Rattle.do_cli.specs.Forms.{deed_of, is_of, kinds_of, name_of, more_of, names_file};
+ghost use Rattle.do_cli.specs.{Forms.{number_in, placeholder}, declared.form.Kind.TheVariants.Port};
 
 use do_base::{NodeId, Text};
 use do_grammar::dec_of;

@@ -1,10 +1,8 @@
 -- The table of recent names while a message is read or written, as a log and an index of it.
 use Rattle.std.specs.Prelude.{◌≡◌, ◌⊎◌, ℕ, ◌<◌, ◌≤◌, List, length, drop, take, get_or, Some}
-use Rattle.std.specs.declared.cmp.Ordering.{Ordering}
-use Rattle.std.specs.Ordering.{nat_cmp, ordering_then}
+use Rattle.std.specs.{declared.cmp.Ordering.Ordering, Ordering.{nat_cmp, ordering_then}}
 use Rattle.std.specs.BTreeMap.{BTreeMap, get}
-use Rattle.do_coder.specs.declared.recent.pair.Pair.{Pair}
-use Rattle.do_coder.specs.declared.recent.index.Places.{Places}
+use Rattle.do_coder.specs.declared.recent.{pair.Pair.Pair, index.Places.Places}
 use Rattle.do_coder.specs.Recent.{pair, IsRecent}
 
 -- the table as it is, and as it was when it was last kept

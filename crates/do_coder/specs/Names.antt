@@ -1,16 +1,11 @@
 -- The names of packets: the spelling of each by the table of recent names, and how they are read.
 use Rattle.std.specs.Prelude.{◌==◌, ◌&&◌, ◌||◌, not, ℕ, zero, suc, ◌-◌, ◌<◌, Bool, List, [], ◌∷◌}
-use Rattle.std.specs.Prelude.{◌++◌, length, map, nat_lt, get_or, Option, Some, None}
-use Rattle.std.specs.List.{filter}
-use Rattle.do_class.specs.declared.packet.Name.{Name}
-use Rattle.do_class.specs.declared.packet.Name.TheVariants.{Mine, Yours, Lent}
-use Rattle.do_grammar.specs.Reader.{Reader, no_kind, mapped}
-use Rattle.do_grammar.specs.Num.{num, num_at}
-use Rattle.do_grammar.specs.OneSpelling.{both, tagged, list_at, list_spelling, times_by}
-use Rattle.do_grammar.specs.OneSpelling.{spelling_by}
+use Rattle.std.specs.{Prelude.{◌++◌, length, map, nat_lt, get_or, Option, Some, None}, List.filter}
+use Rattle.do_class.specs.declared.packet.Name.{Name, TheVariants.{Mine, Yours, Lent}}
+use Rattle.do_grammar.specs.{Reader.{Reader, no_kind, mapped}, Num.{num, num_at}, OneSpelling.both}
+use Rattle.do_grammar.specs.OneSpelling.{tagged, list_at, list_spelling, times_by, spelling_by}
 use Rattle.do_grammar.specs.BesideHoles.{some_beside, num_beside, IsBeside}
-use Rattle.do_coder.specs.declared.read.sides.Sides.{Sides}
-use Rattle.do_coder.specs.declared.recent.pair.Pair.{Pair}
+use Rattle.do_coder.specs.declared.{read.sides.Sides.Sides, recent.pair.Pair.Pair}
 use Rattle.do_coder.specs.Recent.{pair, place_in, after_name, IsSerial}
 
 -- ---- one spelling

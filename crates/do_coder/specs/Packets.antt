@@ -1,19 +1,13 @@
 -- Packets: the one spelling of each by a table of recent names, and how they are read.
 use Rattle.std.specs.Prelude.{ℕ, ◌-◌, ◌<◌, List, [], ◌∷◌, ◌++◌, length, map, get_or}
 use Rattle.std.specs.List.{flat_map, fold, AllByRecursion}
-use Rattle.do_class.specs.Class.{Class}
-use Rattle.do_class.specs.declared.packet.Part.{Part}
-use Rattle.do_class.specs.declared.packet.Name.{Name}
-use Rattle.do_class.specs.declared.packet.Copied.{Copied}
+use Rattle.do_class.specs.{Class.Class, declared.packet.{Part.Part, Name.Name, Copied.Copied}}
 use Rattle.do_class.specs.declared.packet.Packet.{Packet}
-use Rattle.do_grammar.specs.Reader.{Reader, no_kind, mapped, times}
-use Rattle.do_grammar.specs.Num.{num, num_at}
+use Rattle.do_grammar.specs.{Reader.{Reader, no_kind, mapped, times}, Num.{num, num_at}}
 use Rattle.do_grammar.specs.OneSpelling.{Spelled, both, list_at, list_spelling, FitsList}
-use Rattle.do_coder.specs.declared.recent.pair.Pair.{Pair}
-use Rattle.do_coder.specs.Recent.{after_name}
-use Rattle.do_coder.specs.declared.read.sides.Sides.{Sides}
-use Rattle.do_coder.specs.Names.{names_spelling, names_at, IsName}
-use Rattle.do_coder.specs.Parts.{part_spelling, IsPart, part_at}
+use Rattle.do_coder.specs.{declared.recent.pair.Pair.Pair, Recent.after_name}
+use Rattle.do_coder.specs.{declared.read.sides.Sides.Sides, Names.{names_spelling, names_at}}
+use Rattle.do_coder.specs.{Names.IsName, Parts.{part_spelling, IsPart, part_at}}
 
 -- what a message is read for: how many slots each class has, and the ports of its sender and its
 -- receiver

@@ -2,9 +2,8 @@
 use Rattle.std.specs.Prelude.{◌≡◌, ◌==◌, ◌&&◌, ◌||◌, ℕ, zero, suc, ◌-◌, ◌^◌, Bool, true}
 use Rattle.std.specs.Prelude.{List as Listed, [], ◌∷◌, ◌++◌, length, nat_lt, nat_le}
 use Rattle.std.specs.List.{flat_map, list_all}
-use Rattle.do_class.specs.declared.packet.Part.{Part, List, fold-Part}
-use Rattle.do_class.specs.declared.packet.Part.TheVariants.{Nil, Num, Text, Copy, Named}
-use Rattle.do_class.specs.declared.packet.Part.TheOpen.{Part-F}
+use Rattle.do_class.specs.declared.packet.Part.{Part, List, fold-Part, TheVariants.{Nil, Num, Text}}
+use Rattle.do_class.specs.declared.packet.Part.{TheVariants.{Copy, Named}, TheOpen.Part-F}
 use Rattle.do_grammar.specs.Reader.{Reader, no_kind, done, mapped, times}
 use Rattle.do_grammar.specs.Num.{num, num_at, counted, counted_at, signed_at, zigzag}
 use Rattle.do_grammar.specs.OneSpelling.{tagged, list_at}

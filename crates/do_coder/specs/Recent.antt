@@ -1,10 +1,8 @@
 -- The table of recent names, as a list of at most 256 pairs of serial and class, the oldest first.
 use Rattle.std.specs.Prelude.{◌≡◌, ◌==◌, ◌&&◌, ℕ, suc, ◌-◌, ◌<◌, ◌≤◌, Bool, List, [], ◌∷◌, ◌++◌}
-use Rattle.std.specs.Prelude.{length, drop, Option, Some, None, if◌then◌else◌}
-use Rattle.std.specs.Option.{option_map}
+use Rattle.std.specs.{Prelude.{length, drop, Option, Some, None, if◌then◌else◌}, Option.option_map}
 use Rattle.do_coder.specs.declared.recent.pair.Pair.{Pair}
-use Rattle.do_class.specs.declared.packet.Name.{Name}
-use Rattle.do_class.specs.declared.packet.Name.TheVariants.{Mine, Yours, Lent}
+use Rattle.do_class.specs.declared.packet.Name.{Name, TheVariants.{Mine, Yours, Lent}}
 
 -- an object by its serial and its class
 abbrev pub pair : ℕ → ℕ → Pair

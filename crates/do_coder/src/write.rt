@@ -3,8 +3,7 @@ ghost use Rattle.std.specs.Prelude.{◌≡◌, ◌++◌, ◌∷◌, [], length, 
 ghost use Rattle.std.specs.List.{flat_map, fold};
 ghost use Rattle.do_coder.specs.Recent.{place_in, after_name};
 ghost use Rattle.do_grammar.specs.OneSpelling.{list_spelling, spelling_by};
-ghost use Rattle.do_coder.specs.Names.{name_spelling, names_spelling};
-ghost use Rattle.do_coder.specs.Parts.{part_spelling};
+ghost use Rattle.do_coder.specs.{Names.{name_spelling, names_spelling}, Parts.part_spelling};
 ghost use Rattle.do_coder.specs.Packets.{copied_spelling, packet_spelling, after_packet};
 
 use crate::recent::name_log::NameLog;

@@ -1,24 +1,16 @@
 -- What a state has is among what it names and what a check lists of it.
 use Rattle.std.proofs.Common.{◌≡◌, ◌==◌, ◌∙◌, ℕ, true, List, map, refl, sym, subst}
 use Rattle.std.specs.Prelude.{None, Option, Some, option_and_then, option_map}
-use Rattle.std.specs.List.{find, flat_map, list_any}
-use Rattle.std.proofs.lemmas.Bool.{eqb-true}
+use Rattle.std.{specs.List.{find, flat_map, list_any}, proofs.lemmas.Bool.eqb-true}
 use Rattle.do_base.specs.names.Names.{ObjectName}
-use Rattle.do_leaks.specs.Heap.{heap_of}
-use Rattle.do_leaks.proofs.Named.{in_left, in_right}
+use Rattle.do_leaks.{specs.Heap.heap_of, proofs.Named.{in_left, in_right}}
 use Rattle.do_lost.specs.Named.{item_names, named, node_names, queue_names, serves, station_names}
-use Rattle.do_machine.specs.declared.item.Item.{Item}
-use Rattle.do_machine.specs.declared.node.Node.{Node}
-use Rattle.do_machine.specs.declared.node.Stored.{Stored}
-use Rattle.do_machine.specs.declared.state.Queue.{Queue}
-use Rattle.do_machine.specs.declared.state.State.{State}
-use Rattle.do_machine.specs.declared.state.Station.{Station}
-use Rattle.do_machine.specs.Lists.{IsIn}
+use Rattle.do_machine.specs.declared.{item.Item.Item, node.{Node.Node, Stored.Stored}}
+use Rattle.do_machine.specs.{declared.state.{Queue.Queue, State.State, Station.Station}, Lists.IsIn}
 use Rattle.do_machine.specs.State.{node, queue, queue_to, station}
 use Rattle.do_machine.specs.check.Snapshot.{node_line, object_line, snapshot}
 use Rattle.do_packet.specs.Met.{has_object}
-use Rattle.do_trace.specs.declared.outcome.NodeLine.{NodeLine}
-use Rattle.do_trace.specs.declared.outcome.ObjLine.{ObjLine}
+use Rattle.do_trace.specs.declared.outcome.{NodeLine.NodeLine, ObjLine.ObjLine}
 use Rattle.do_cycles.proofs.InLists.{any_passes, found_in, images_in, in_images, in_joined}
 use Rattle.do_cycles.proofs.InLists.{joined_in, named_by_any}
 

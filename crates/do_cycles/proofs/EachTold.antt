@@ -1,38 +1,24 @@
 -- A search for leaks tells each stored object of a state that nothing can reach.
 use Rattle.std.proofs.Common.{◌≡◌, ◌∙◌, ◌⊎◌, Bool, true, false, cond, not, List, [], ◌∷◌, map}
 use Rattle.std.proofs.Common.{Option, Some, None, IsSome, refl, sym, ap, inl, inr, rules}
-use Rattle.std.specs.Prelude.{is_some}
-use Rattle.std.specs.List.{list_any}
-use Rattle.std.proofs.lemmas.Bool.{both_ways, not-true}
+use Rattle.std.{specs.{Prelude.is_some, List.list_any}, proofs.lemmas.Bool.{both_ways, not-true}}
 use Rattle.std.proofs.lemmas.List.Elements.{All-from_recursion, All-weaker}
-use Rattle.do_base.specs.declared.events.event.Event.{Event}
-use Rattle.do_base.specs.names.Names.{ObjectName}
+use Rattle.do_base.specs.{declared.events.event.Event.Event, names.Names.ObjectName}
 use Rattle.do_class.specs.Class.{Class}
-use Rattle.do_leaks.specs.Heap.{heap_of}
-use Rattle.do_leaks.specs.Laws.{AreHeld, AreLost}
-use Rattle.do_leaks.specs.Leaks.{holder}
-use Rattle.do_leaks.specs.Reach.{missed, reach}
-use Rattle.do_leaks.proofs.Lost.{all_listed, each_lost}
-use Rattle.do_leaks.proofs.Named.{same_is, same_self}
-use Rattle.do_leaks.proofs.Reaching.{reach_least}
+use Rattle.do_leaks.specs.{Heap.heap_of, Laws.{AreHeld, AreLost}, Leaks.holder}
+use Rattle.do_leaks.{specs.Reach.{missed, reach}, proofs.Lost.{all_listed, each_lost}}
+use Rattle.do_leaks.proofs.{Named.{same_is, same_self}, Reaching.reach_least}
 use Rattle.do_lost.specs.Named.{named}
-use Rattle.do_machine.specs.declared.state.Seat.{Seat}
-use Rattle.do_machine.specs.declared.state.State.{State}
-use Rattle.do_machine.specs.declared.state.Station.{Station}
-use Rattle.do_machine.specs.Lists.{IsIn}
-use Rattle.do_machine.specs.check.Snapshot.{object_line, snapshot}
-use Rattle.do_machine.specs.run.Run.{Acting}
+use Rattle.do_machine.specs.{declared.state.{Seat.Seat, State.State, Station.Station}, Lists.IsIn}
+use Rattle.do_machine.specs.{check.Snapshot.{object_line, snapshot}, run.Run.Acting}
 use Rattle.do_machine.proofs.Bools.{or_cases, or_left, or_right}
 use Rattle.do_packet.specs.Met.{has_object, same_object}
 use Rattle.do_facts.specs.Reached.{reached}
-use Rattle.do_quiet.specs.Keeping.{NodesKeep}
-use Rattle.do_quiet.proofs.NodesKeep.{reached_nodes_keep}
+use Rattle.do_quiet.{specs.Keeping.NodesKeep, proofs.NodesKeep.reached_nodes_keep}
 use Rattle.do_trace.specs.declared.outcome.ObjLine.{ObjLine}
-use Rattle.do_cycles.specs.Told.{TellsEachLost, lost, told}
-use Rattle.do_cycles.proofs.Among.{listed_stored}
-use Rattle.do_cycles.proofs.HeldOrNamed.{held_or_named}
-use Rattle.do_cycles.proofs.StationsOfPorts.{IsFoundOrOpens, reached_stations}
-use Rattle.do_cycles.proofs.InLists.{all_filtered}
+use Rattle.do_cycles.{specs.Told.{TellsEachLost, lost, told}, proofs.Among.listed_stored}
+use Rattle.do_cycles.proofs.{HeldOrNamed.held_or_named, StationsOfPorts.IsFoundOrOpens}
+use Rattle.do_cycles.proofs.{StationsOfPorts.reached_stations, InLists.all_filtered}
 
 -- an option that has a value
 has_some : {X : Type 0} (x : Option X) → is_some x ≡ true → IsSome x

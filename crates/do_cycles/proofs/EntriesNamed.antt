@@ -1,21 +1,15 @@
 -- An object of which a peer has an entry is held by the peer, or named by an item on its way.
 use Rattle.std.proofs.Common.{◌≡◌, ◌||◌, ◌⊎◌, ℕ, Bool, true, List, [], ◌∷◌, Option, Some, None}
-use Rattle.std.proofs.Common.{refl, sym, subst, inl, inr}
-use Rattle.std.specs.List.{list_any}
+use Rattle.std.{proofs.Common.{refl, sym, subst, inl, inr}, specs.List.list_any}
 use Rattle.std.proofs.lemmas.Bool.{and_parts}
 use Rattle.do_base.specs.names.Names.{ObjectName}
 use Rattle.do_lost.specs.Named.{item_names, named, serves}
-use Rattle.do_machine.specs.declared.item.Item.{Item}
-use Rattle.do_machine.specs.declared.state.State.{State}
-use Rattle.do_machine.specs.Entry.{has_entry, is_holder, is_on_its_way_back, is_reached}
-use Rattle.do_machine.specs.Entry.{is_under_way}
-use Rattle.do_machine.specs.Items.{exported, released}
-use Rattle.do_machine.specs.Lists.{some_passes}
-use Rattle.do_machine.specs.State.{node, queue}
+use Rattle.do_machine.specs.{declared.{item.Item.Item, state.State.State}, Entry.has_entry}
+use Rattle.do_machine.specs.Entry.{is_holder, is_on_its_way_back, is_reached, is_under_way}
+use Rattle.do_machine.specs.{Items.{exported, released}, Lists.some_passes, State.{node, queue}}
 use Rattle.do_machine.proofs.Bools.{or_cases, or_left, or_right}
 use Rattle.do_packet.specs.Met.{has_object}
-use Rattle.do_cycles.proofs.Among.{item_named}
-use Rattle.do_cycles.proofs.NamedInItems.{exported_named, released_named}
+use Rattle.do_cycles.proofs.{Among.item_named, NamedInItems.{exported_named, released_named}}
 
 -- an item passes one test where it passes the other
 some_item : (f g : Item → Bool) → ((item : Item) → f item ≡ true → g item ≡ true) →

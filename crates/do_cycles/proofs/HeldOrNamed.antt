@@ -1,32 +1,22 @@
 -- What a node stores is named by the state, or held by a slot of a stored object.
 use Rattle.std.proofs.Common.{◌≡◌, ◌==◌, ◌∙◌, ◌++◌, ◌||◌, ◌⊎◌, ℕ, Bool, true, List, [], ◌∷◌, map}
 use Rattle.std.proofs.Common.{Option, Some, None, refl, sym, ap, inl, inr, arith}
-use Rattle.std.specs.Prelude.{is_some}
-use Rattle.std.specs.List.{list_any}
-use Rattle.std.proofs.lemmas.Bool.{and_parts}
-use Rattle.std.proofs.lemmas.Bool.Decides.{nat_tests}
+use Rattle.std.specs.{Prelude.is_some, List.list_any}
+use Rattle.std.proofs.lemmas.Bool.{and_parts, Decides.nat_tests}
 use Rattle.do_base.specs.names.Names.{ObjectName}
-use Rattle.do_leaks.specs.Heap.{heap_of}
-use Rattle.do_leaks.specs.Leaks.{holder}
+use Rattle.do_leaks.specs.{Heap.heap_of, Leaks.holder}
 use Rattle.do_leaks.proofs.Named.{in_either, in_left, in_right}
 use Rattle.do_lost.specs.Named.{named, node_names, root_names, root_of}
-use Rattle.do_machine.specs.declared.node.Node.{Node}
-use Rattle.do_machine.specs.declared.node.Stored.{Stored}
-use Rattle.do_machine.specs.declared.state.State.{State}
-use Rattle.do_machine.specs.declared.state.Station.{Station}
-use Rattle.do_machine.specs.Entry.{has_entry, is_holder}
-use Rattle.do_machine.specs.Lists.{IsIn, some_passes}
-use Rattle.do_machine.specs.State.{holds, is_open, node, own}
-use Rattle.do_machine.specs.check.Snapshot.{object_line, snapshot}
-use Rattle.do_machine.specs.held.Kept.{is_root}
+use Rattle.do_machine.specs.declared.{node.{Node.Node, Stored.Stored}, state.State.State}
+use Rattle.do_machine.specs.{declared.state.Station.Station, Entry.{has_entry, is_holder}}
+use Rattle.do_machine.specs.{Lists.{IsIn, some_passes}, State.{holds, is_open, node, own}}
+use Rattle.do_machine.specs.{check.Snapshot.{object_line, snapshot}, held.Kept.is_root}
 use Rattle.do_machine.specs.held.Refers.{heap_objects, node_objects, stack_objects}
 use Rattle.do_machine.proofs.Bools.{or_cases}
 use Rattle.do_packet.specs.Met.{has_object}
-use Rattle.do_quiet.specs.Keeping.{NodesKeep}
-use Rattle.do_quiet.proofs.StoredKept.{heap_found, passing}
+use Rattle.do_quiet.{specs.Keeping.NodesKeep, proofs.StoredKept.{heap_found, passing}}
 use Rattle.do_cycles.proofs.Among.{node_named, own_named, stored_listed}
-use Rattle.do_cycles.proofs.StationsOfPorts.{IsFoundOrOpens}
-use Rattle.do_cycles.proofs.SlotsHold.{held_by_line}
+use Rattle.do_cycles.proofs.{StationsOfPorts.IsFoundOrOpens, SlotsHold.held_by_line}
 use Rattle.do_cycles.proofs.EntriesNamed.{entry_held_or_named}
 
 -- a root is named

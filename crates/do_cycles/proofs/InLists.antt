@@ -1,9 +1,8 @@
 -- What is in lists that are made of others.
-use Rattle.std.proofs.Common.{◌≡◌, ◌∙◌, ◌++◌, ◌||◌, ◌⊎◌, Bool, true, false, cond, List, []}
-use Rattle.std.proofs.Common.{◌∷◌, map, Some, refl, sym, ap, subst, inl, inr}
+use Rattle.std.proofs.Common.{◌≡◌, ◌∙◌, ◌++◌, ◌||◌, ◌⊎◌, Bool, true, false, cond, List, [], ◌∷◌}
+use Rattle.std.proofs.Common.{map, Some, refl, sym, ap, subst, inl, inr}
 use Rattle.std.specs.List.{AllByRecursion, filter, find, flat_map, list_all, list_any}
-use Rattle.std.proofs.lemmas.Bool.{and_parts}
-use Rattle.std.proofs.lemmas.List.Folds.{list_any-append}
+use Rattle.std.proofs.lemmas.{Bool.and_parts, List.Folds.list_any-append}
 use Rattle.do_base.specs.names.Names.{ObjectName}
 use Rattle.do_machine.specs.Lists.{IsIn}
 use Rattle.do_packet.specs.Met.{has_object, same_object}

@@ -1,15 +1,12 @@
 -- What an item on its way exports or releases is among what it names.
-use Rattle.std.proofs.Common.{◌≡◌, ◌∙◌, ◌||◌, ℕ, Bool, true, false, cond, List, [], ◌∷◌, map}
-use Rattle.std.proofs.Common.{refl, sym, ap, inl, inr}
-use Rattle.std.specs.List.{filter}
+use Rattle.do_machine.specs.declared.item.Item.TheVariants as items
+use Rattle.std.proofs.Common.{◌≡◌, ◌∙◌, ◌||◌, ℕ, Bool, true, false, cond, List, [], ◌∷◌, map, refl}
+use Rattle.std.{proofs.Common.{sym, ap, inl, inr}, specs.List.filter}
 use Rattle.do_base.specs.names.Names.{ObjectName}
 use Rattle.do_lost.specs.Named.{item_names}
-use Rattle.do_machine.specs.declared.item.Item.{Item}
-use Rattle.do_machine.specs.declared.item.Item.TheVariants as items
-use Rattle.do_machine.specs.Items.{Naming, Released, Role, exported, is_exported, is_released}
-use Rattle.do_machine.specs.Items.{named_as, names, naming, released}
-use Rattle.do_machine.specs.Objects.{object_at}
-use Rattle.do_machine.proofs.Bools.{or_cases, or_left, or_right}
+use Rattle.do_machine.specs.{declared.item.Item.Item, Items.{Naming, Released, Role, exported}}
+use Rattle.do_machine.specs.Items.{is_exported, is_released, named_as, names, naming, released}
+use Rattle.do_machine.{specs.Objects.object_at, proofs.Bools.{or_cases, or_left, or_right}}
 use Rattle.do_packet.specs.Met.{has_object, same_object}
 
 -- what is named in some roles is among all that is named

@@ -1,32 +1,20 @@
 -- Where nothing is on its way and all ends are open, a state is settled.
-use Rattle.std.proofs.Common.{◌≡◌, ◌==◌, ◌∙◌, ◌++◌, true, List, [], ◌∷◌, map, length}
-use Rattle.std.proofs.Common.{refl, sym, ap, inl, inr, arith}
-use Rattle.std.specs.List.{flat_map}
-use Rattle.std.proofs.lemmas.Bool.Decides.{nat_tests}
-use Rattle.std.proofs.lemmas.List.{append-nil}
-use Rattle.do_base.specs.declared.events.event.Event.{Event}
-use Rattle.do_base.specs.names.Names.{ObjectName}
+use Rattle.std.proofs.Common.{◌≡◌, ◌==◌, ◌∙◌, ◌++◌, true, List, [], ◌∷◌, map, length, refl, sym, ap}
+use Rattle.std.{proofs.Common.{inl, inr, arith}, specs.List.flat_map}
+use Rattle.std.proofs.lemmas.{Bool.Decides.nat_tests, List.append-nil}
+use Rattle.do_base.specs.{declared.events.event.Event.Event, names.Names.ObjectName}
 use Rattle.do_class.specs.Class.{Class}
 use Rattle.do_lost.specs.Named.{is_idle, item_names, queue_names, quiet, root_names, serves}
 use Rattle.do_lost.specs.Named.{station_names}
-use Rattle.do_machine.specs.declared.node.Lend.{Lend}
-use Rattle.do_machine.specs.declared.node.Wanted.{Wanted}
-use Rattle.do_machine.specs.declared.state.Queue.{Queue}
-use Rattle.do_machine.specs.declared.state.Seat.{Seat}
-use Rattle.do_machine.specs.declared.state.State.{State}
-use Rattle.do_machine.specs.declared.state.Station.{Station}
-use Rattle.do_machine.specs.Lists.{IsIn}
-use Rattle.do_machine.specs.held.Refers.{stack_objects}
-use Rattle.do_machine.specs.run.Run.{Acting}
+use Rattle.do_machine.specs.declared.{node.{Lend.Lend, Wanted.Wanted}, state.Queue.Queue}
+use Rattle.do_machine.specs.{declared.state.{Seat.Seat, State.State, Station.Station}, Lists.IsIn}
+use Rattle.do_machine.specs.{held.Refers.stack_objects, run.Run.Acting}
 use Rattle.do_facts.specs.Reached.{reached}
-use Rattle.do_quiet.specs.Keeping.{NodesKeep}
-use Rattle.do_quiet.specs.Quiet.{AllEndsOpen, NothingLent, NothingWaits}
-use Rattle.do_quiet.proofs.NodesKeep.{reached_nodes_keep}
-use Rattle.do_quiet.proofs.QuietStates.{quiet_lends_nothing}
+use Rattle.do_quiet.specs.{Keeping.NodesKeep, Quiet.{AllEndsOpen, NothingLent, NothingWaits}}
+use Rattle.do_quiet.proofs.{NodesKeep.reached_nodes_keep, QuietStates.quiet_lends_nothing}
 use Rattle.do_quiet.proofs.StoredKept.{stored_kept_by_all}
 use Rattle.do_cycles.specs.Settled.{IsSettled, rooted_at}
-use Rattle.do_cycles.proofs.Among.{queue_at}
-use Rattle.do_cycles.proofs.StationsOfPorts.{IsFoundOrOpens, reached_stations}
+use Rattle.do_cycles.proofs.{Among.queue_at, StationsOfPorts.{IsFoundOrOpens, reached_stations}}
 use Rattle.do_cycles.proofs.InLists.{all_pass, joined_alike, joined_none}
 
 -- a list without items

@@ -1,17 +1,11 @@
 -- An object that slots name has a holder.
 use Rattle.std.proofs.Common.{◌≡◌, ◌⊎◌, ◌+◌, ℕ, Bool, true, false, cond, List, [], ◌∷◌, refl, sym}
 use Rattle.std.proofs.Common.{Option, Some, None, subst, inl, inr}
-use Rattle.std.specs.Prelude.{is_some}
-use Rattle.std.specs.Option.{option_or}
-use Rattle.std.proofs.lemmas.Bool.{both_ways}
-use Rattle.do_base.specs.names.Names.{ObjectName}
-use Rattle.do_base.specs.values.Values.{objects_of}
+use Rattle.std.{specs.{Prelude.is_some, Option.option_or}, proofs.lemmas.Bool.both_ways}
+use Rattle.do_base.specs.{names.Names.ObjectName, values.Values.objects_of}
 use Rattle.do_base.specs.declared.values.value.Value.{Value}
-use Rattle.do_leaks.specs.Heap.{names_in}
-use Rattle.do_leaks.specs.Leaks.{holder, holder_in}
-use Rattle.do_leaks.proofs.Named.{in_either}
-use Rattle.do_machine.specs.Lists.{IsIn}
-use Rattle.do_machine.specs.held.Refers.{objects_in}
+use Rattle.do_leaks.{specs.{Heap.names_in, Leaks.{holder, holder_in}}, proofs.Named.in_either}
+use Rattle.do_machine.specs.{Lists.IsIn, held.Refers.objects_in}
 use Rattle.do_packet.specs.Met.{has_object}
 use Rattle.do_trace.specs.declared.outcome.ObjLine.{ObjLine}
 

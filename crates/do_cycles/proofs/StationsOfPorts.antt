@@ -1,27 +1,16 @@
 -- A station of a state that a machine comes to is the one of its port, or as it opened.
 use Rattle.std.proofs.Common.{◌≡◌, ◌==◌, ◌∙◌, ◌||◌, ◌⊎◌, ℕ, Bool, true, false, cond, List, [], ◌∷◌}
 use Rattle.std.proofs.Common.{map, Some, refl, sym, ap, subst, inl, inr, arith}
-use Rattle.std.specs.Prelude.{option_map}
-use Rattle.std.specs.List.{find, list_any}
-use Rattle.std.proofs.lemmas.Bool.{eqb-true}
-use Rattle.std.proofs.lemmas.Bool.Decides.{nat_tests}
+use Rattle.std.specs.{Prelude.option_map, List.{find, list_any}}
+use Rattle.std.proofs.lemmas.Bool.{eqb-true, Decides.nat_tests}
 use Rattle.do_base.specs.declared.events.event.Event.{Event}
 use Rattle.do_class.specs.Class.{Class}
-use Rattle.do_machine.specs.declared.node.Node.{Node}
-use Rattle.do_machine.specs.declared.node.Stored.{Stored}
-use Rattle.do_machine.specs.declared.state.Seat.{Seat}
-use Rattle.do_machine.specs.declared.state.State.{State}
-use Rattle.do_machine.specs.declared.state.Station.{Station}
-use Rattle.do_machine.specs.Commit.{committed}
-use Rattle.do_machine.specs.Lists.{IsIn, change_first}
-use Rattle.do_machine.specs.State.{node, with_queue}
-use Rattle.do_machine.specs.Step.{step}
+use Rattle.do_machine.specs.declared.{node.{Node.Node, Stored.Stored}, state.Seat.Seat}
+use Rattle.do_machine.specs.{declared.state.{State.State, Station.Station}, Commit.committed}
+use Rattle.do_machine.specs.{Lists.{IsIn, change_first}, State.{node, with_queue}, Step.step}
 use Rattle.do_machine.specs.World.{by_port, opening, opening_node, opening_station}
-use Rattle.do_machine.specs.held.Kept.{is_root}
-use Rattle.do_machine.specs.run.Run.{Acting}
-use Rattle.do_facts.proofs.machine.follows.Moves.{Moves}
-use Rattle.do_facts.proofs.machine.follows.Steps.{by_any_step}
-use Rattle.do_facts.specs.Reached.{reached}
+use Rattle.do_machine.specs.{held.Kept.is_root, run.Run.Acting}
+use Rattle.do_facts.{proofs.machine.follows.{Moves.Moves, Steps.by_any_step}, specs.Reached.reached}
 use Rattle.do_facts.proofs.ReachedStates.{holds_of_reached}
 
 -- a port is among these

@@ -1,14 +1,11 @@
 -- States in which nothing is lent, asked for or on its way.
-use Rattle.std.specs.Prelude.{List, ◌++◌, ◌≡◌}
-use Rattle.std.specs.List.{flat_map}
+use Rattle.std.specs.{Prelude.{List, ◌++◌, ◌≡◌}, List.flat_map}
 use Rattle.do_base.specs.names.Names.{ObjectName}
 use Rattle.do_facts.specs.Made.{is_stored}
 use Rattle.do_lost.specs.Named.{named, root_names}
-use Rattle.do_machine.specs.declared.state.State.{State}
-use Rattle.do_machine.specs.declared.state.Station.{Station}
+use Rattle.do_machine.specs.declared.state.{State.State, Station.Station}
 use Rattle.do_machine.specs.held.Refers.{stack_objects}
-use Rattle.do_quiet.specs.Keeping.{AreKeptByAll}
-use Rattle.do_quiet.specs.Quiet.{NothingLent}
+use Rattle.do_quiet.specs.{Keeping.AreKeptByAll, Quiet.NothingLent}
 
 -- the objects that the root and the invocations of a node name
 abbrev pub rooted_at : Station → List ObjectName

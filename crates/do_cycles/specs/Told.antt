@@ -1,12 +1,9 @@
 -- What a search for leaks tells of a state.
 use Rattle.std.specs.Prelude.{All, List, map, true, ◌≡◌}
 use Rattle.do_base.specs.names.Names.{ObjectName}
-use Rattle.do_leaks.specs.Laws.{lost_names}
-use Rattle.do_leaks.specs.Leaks.{leaks}
-use Rattle.do_leaks.specs.declared.leak.Leak.{Leak}
+use Rattle.do_leaks.specs.{Laws.lost_names, Leaks.leaks, declared.leak.Leak.Leak}
 use Rattle.do_lost.specs.Named.{named}
-use Rattle.do_machine.specs.check.Snapshot.{snapshot}
-use Rattle.do_machine.specs.declared.state.State.{State}
+use Rattle.do_machine.specs.{check.Snapshot.snapshot, declared.state.State.State}
 use Rattle.do_packet.specs.Met.{has_object}
 
 -- the leaks of a state

@@ -1,14 +1,11 @@
-ghost use Rattle.std.specs.Prelude.{◌≡◌, List, true};
-ghost use Rattle.std.specs.List.{AllByRecursion};
+ghost use Rattle.std.specs.{Prelude.{◌≡◌, List, true}, List.AllByRecursion};
 ghost use Rattle.do_base.specs.declared.events.event.Event.{Event};
 ghost use Rattle.do_class.specs.Class.{Class};
-ghost use Rattle.do_machine.specs.declared.state.Seat.{Seat};
-ghost use Rattle.do_machine.specs.run.Run.{Acting};
+ghost use Rattle.do_machine.specs.{declared.state.Seat.Seat, run.Run.Acting};
 ghost use Rattle.do_facts.specs.Reached.{reached};
 ghost use Rattle.do_lost.specs.Named.{quiet};
 ghost use Rattle.do_quiet.specs.Quiet.{AllEndsOpen, IsNoBreak};
-ghost use Rattle.do_cycles.specs.Settled.{IsSettled};
-ghost use Rattle.do_cycles.specs.Told.{TellsEachLost};
+ghost use Rattle.do_cycles.specs.{Settled.IsSettled, Told.TellsEachLost};
 
 /// In every state that a machine comes to, the search tells each stored object that nothing can
 /// reach, and the object whose slot still names it is told too.

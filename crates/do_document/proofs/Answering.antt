@@ -1,27 +1,20 @@
 -- What the checks of a class come to, and the refusals of types.
-use Rattle.std.proofs.Common.{◌≡◌, ◌≢◌, ℕ, List, Some, None}
-use Rattle.std.proofs.Common.{refl, sym, ◌⊎◌, inl, inr, Result, Err}
+use Rattle.do_sig.specs.declared.fault.EncFault.TheVariants as enc
+use Rattle.do_document.specs.declared.place.Place.TheVariants as at
+use Rattle.std.proofs.Common.{◌≡◌, ◌≢◌, ℕ, List, Some, None, refl, sym, ◌⊎◌, inl, inr, Result, Err}
 use Rattle.std.specs.Prelude.{codes, option_and_then}
 use Rattle.toml.specs.Data.{Members}
-use Rattle.do_sig.specs.Answers.{IsAnswer, answer_of}
-use Rattle.do_sig.specs.declared.fault.EncFault.{EncFault}
-use Rattle.do_sig.specs.declared.fault.EncFault.TheVariants as enc
+use Rattle.do_sig.specs.{Answers.{IsAnswer, answer_of}, declared.fault.EncFault.EncFault}
 use Rattle.do_sig.specs.reading.Signatures.{signature_at}
 use Rattle.do_class.specs.Class.{Class}
 use Rattle.do_class_kinds.specs.declared.kind.Kind.{Kind}
 use Rattle.do_document.specs.Checks.{is_text, is_text_with, misfit, required, unknown}
 use Rattle.do_document.specs.ClassFaults.{class_checks, class_keys, is_kind, is_new_name}
-use Rattle.do_document.specs.ClassFaults.{parts_fault, types_fault}
-use Rattle.do_document.specs.Classes.{kind_of}
-use Rattle.do_document.specs.Document.{text_at}
-use Rattle.do_document.specs.Paths.{path}
-use Rattle.do_document.specs.declared.place.Place.{Place}
-use Rattle.do_document.specs.declared.place.Place.TheVariants as at
-use Rattle.do_document.specs.declared.fault.WorldFault.{WorldFault}
-use Rattle.do_document.specs.declared.fault.WorldFault.TheVariants.{Memory, Sig}
+use Rattle.do_document.specs.{ClassFaults.{parts_fault, types_fault}, Classes.kind_of}
+use Rattle.do_document.specs.{Document.text_at, Paths.path, declared.place.Place.Place}
+use Rattle.do_document.specs.declared.fault.WorldFault.{WorldFault, TheVariants.{Memory, Sig}}
 use Rattle.do_document.proofs.InOrder.{Tells, four_first, four_fourth, four_none, four_second}
-use Rattle.do_document.proofs.InOrder.{four_third, types_refused}
-use Rattle.do_document.proofs.InRow.{told_by}
+use Rattle.do_document.proofs.{InOrder.{four_third, types_refused}, InRow.told_by}
 
 -- a refusal that is none of memory is the answer
 refusal_is : {A : Type 0} (f : EncFault) (x : Result A EncFault) → IsAnswer (Err f) x

@@ -1,13 +1,11 @@
 -- What the next class of a document says of its table.
-use Rattle.std.proofs.Common.{◌≡◌, ◌∙◌, ap, sym, List, [], Some}
-use Rattle.std.specs.Option.{option_map_or}
+use Rattle.std.{proofs.Common.{◌≡◌, ◌∙◌, ap, sym, List, [], Some}, specs.Option.option_map_or}
 use Rattle.toml.specs.Data.{Members}
 use Rattle.do_native_acts.specs.laws.KindLaws.{some_same}
 use Rattle.do_check.specs.declared.rules.Rule.{Rule}
 use Rattle.do_class.specs.Class.{Class}
 use Rattle.do_class_kinds.specs.declared.kind.Kind.{Kind}
-use Rattle.do_document.specs.Classes.{class_rules, rules_by}
-use Rattle.do_document.specs.Sound.{IsClassOf, IsNextClass}
+use Rattle.do_document.specs.{Classes.{class_rules, rules_by}, Sound.{IsClassOf, IsNextClass}}
 
 module _ (classes : List Class) (t : Members) (kind : Kind) (c : Class) (rules : List Rule)
     (next : IsNextClass classes t kind c rules) where

@@ -1,24 +1,18 @@
 -- The rule of a table beside its method, and what both make of a list.
-use Rattle.std.proofs.Common.{◌≡◌, ◌≤◌, ℕ, List, ◌++◌, length}
-use Rattle.std.proofs.Common.{append-nil, subst, nat_le, Option, Some, None, true, sym, arith}
-use Rattle.std.proofs.lemmas.Bool.{and_parts}
+use Rattle.std.proofs.Common.{◌≡◌, ◌≤◌, ℕ, List, ◌++◌, length, append-nil, subst, nat_le, Option}
+use Rattle.std.proofs.{Common.{Some, None, true, sym, arith}, lemmas.Bool.and_parts}
 use Rattle.std.proofs.lemmas.Bool.Decides.{nat_tests}
-use Rattle.std.specs.Prelude.{IfSome, codes, option_and_then}
-use Rattle.std.specs.Option.{option_map, option_to_list}
+use Rattle.std.specs.{Prelude.{IfSome, codes, option_and_then}, Option.{option_map, option_to_list}}
 use Rattle.std.proofs.lemmas.List.Elements.{All-push}
 use Rattle.toml.specs.Data.{Members}
 use Rattle.do_sig.specs.MethodTypes.{MethodType}
 use Rattle.do_class.specs.declared.method.Method.{Method}
-use Rattle.do_check.specs.Rules.{AreRules, IsRule}
-use Rattle.do_check.specs.declared.rules.Rule.{Rule}
+use Rattle.do_check.specs.{Rules.{AreRules, IsRule}, declared.rules.Rule.Rule}
 use Rattle.do_class_kinds.specs.Methods.{method_said, signature_of}
 use Rattle.do_document.specs.ClassFaults.{entry_checks, is_rule, method_checks, rule_fault}
-use Rattle.do_document.specs.Classes.{method_of, rule_for, rule_of}
-use Rattle.do_document.specs.Document.{text_at}
-use Rattle.do_document.specs.Lists.{keys_of}
-use Rattle.do_document.specs.declared.lists.MethodList.{MethodList}
-use Rattle.do_document.specs.declared.place.Place.{Place}
-use Rattle.do_document.specs.declared.fault.WorldFault.{WorldFault}
+use Rattle.do_document.specs.{Classes.{method_of, rule_for, rule_of}, Document.text_at}
+use Rattle.do_document.specs.{Lists.keys_of, declared.lists.MethodList.MethodList}
+use Rattle.do_document.specs.declared.{place.Place.Place, fault.WorldFault.WorldFault}
 use Rattle.do_document.proofs.InOrder.{Tells, two_first, two_none, two_second}
 
 -- a method has the selector that its table says, by what the types spell

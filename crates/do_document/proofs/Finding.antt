@@ -1,15 +1,11 @@
 -- How the faults of several checks come to the first.
-use Rattle.std.proofs.Common.{◌≡◌, ℕ, ◌+◌, ◌<◌, ◌≤◌, List, length, map, take, drop}
-use Rattle.std.proofs.Common.{get_or, Option, Some, None, Bool, sym, ◌∙◌}
-use Rattle.std.specs.Option.{option_or}
+use Rattle.std.proofs.Common.{◌≡◌, ℕ, ◌+◌, ◌<◌, ◌≤◌, List, length, map, take, drop, get_or, Option}
+use Rattle.std.{proofs.Common.{Some, None, Bool, sym, ◌∙◌}, specs.Option.option_or}
 use Rattle.std.proofs.lemmas.List.{drop_more, map_more, drop_all}
 use Rattle.toml.specs.Data.{Data, Members, get_member, as_str}
 use Rattle.do_document.specs.Checks.{first_behind, misfit, missing, required, wrong_unless}
-use Rattle.do_document.specs.Document.{text_at}
-use Rattle.do_document.specs.Paths.{path}
-use Rattle.do_document.specs.declared.place.Place.{Place}
-use Rattle.do_document.specs.declared.fault.WorldFault.{WorldFault}
-use Rattle.do_document.specs.declared.fault.WorldFault.TheVariants.{Missing}
+use Rattle.do_document.specs.{Document.text_at, Paths.path, declared.place.Place.Place}
+use Rattle.do_document.specs.declared.fault.WorldFault.{WorldFault, TheVariants.Missing}
 
 -- behind no fault the next one counts
 pub or_none : (a b : Option WorldFault) → a ≡ None → option_or a b ≡ b

@@ -1,20 +1,14 @@
 -- How what is read of a list grows, member by member.
 use Rattle.std.proofs.Common.{◌≡◌, ℕ, ◌+◌, ◌<◌, ◌≤◌, ◌||◌, not, Bool, true, false, List, [], ◌∷◌}
-use Rattle.std.proofs.Common.{◌++◌, length, map, take, get_or, Option, Some, refl, sym}
-use Rattle.std.proofs.Common.{◌∙◌, ap, append_assoc, subst, arith, length-append}
-use Rattle.std.specs.Prelude.{IsTrue}
-use Rattle.std.specs.List.{AllZip, IsDistinct, filter_map, list_any}
-use Rattle.std.specs.Option.{option_to_list}
-use Rattle.std.specs.Str.{bytes_eq}
-use Rattle.std.proofs.lemmas.Bool.{and_parts}
-use Rattle.std.proofs.lemmas.Cmp.{nat_list_eq_equiv}
+use Rattle.std.proofs.Common.{◌++◌, length, map, take, get_or, Option, Some, refl, sym, ◌∙◌, ap}
+use Rattle.std.{proofs.Common.{append_assoc, subst, arith, length-append}, specs.Prelude.IsTrue}
+use Rattle.std.specs.{List.{AllZip, IsDistinct, filter_map, list_any}, Option.option_to_list}
+use Rattle.std.{specs.Str.bytes_eq, proofs.lemmas.{Bool.and_parts, Cmp.nat_list_eq_equiv}}
 use Rattle.std.proofs.lemmas.List.{length-map, length-take-le, map-append, map_more}
-use Rattle.std.proofs.lemmas.List.Elements.{All-push, filter_map-append}
-use Rattle.std.proofs.lemmas.Map.Keys.{IsDistinct-push}
+use Rattle.std.proofs.lemmas.{List.Elements.{All-push, filter_map-append}, Map.Keys.IsDistinct-push}
 use Rattle.do_grammar.specs.Names.{colons, is_selector}
 use Rattle.do_sig.specs.Calls.{arg_count}
-use Rattle.do_class.specs.Class.{AreMethods, selectors_of}
-use Rattle.do_class.specs.declared.method.Method.{Method}
+use Rattle.do_class.specs.{Class.{AreMethods, selectors_of}, declared.method.Method.Method}
 use Rattle.do_class_kinds.proofs.Growing.{maybe_more}
 use Rattle.do_document.specs.ClassFaults.{is_new_selector}
 

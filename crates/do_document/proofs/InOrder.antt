@@ -1,29 +1,18 @@
 -- The first of several faults, and what checks come to, as a reader's answers need it.
 use Rattle.std.proofs.Common.{◌≡◌, ℕ, ◌==◌, List, [], ◌∷◌, Option, Some, None, Bool, true, false}
-use Rattle.std.proofs.Common.{sym, ◌∙◌, ap, ◌⊎◌, inl, inr, Ok, Err}
-use Rattle.std.specs.List.{find, list_any}
-use Rattle.std.specs.Option.{option_or}
-use Rattle.std.specs.Prelude.{codes, not, option_and_then}
-use Rattle.std.specs.Str.{bytes_eq}
+use Rattle.std.{proofs.Common.{sym, ◌∙◌, ap, ◌⊎◌, inl, inr, Ok, Err}, specs.List.{find, list_any}}
+use Rattle.std.specs.{Option.option_or, Prelude.{codes, not, option_and_then}, Str.bytes_eq}
 use Rattle.toml.specs.Data.{Data, Members, as_str, get_member}
 use Rattle.do_grammar.specs.Names.{colons}
-use Rattle.do_sig.specs.Answers.{answer_of}
-use Rattle.do_sig.specs.Calls.{arg_count}
-use Rattle.do_sig.specs.MethodTypes.{MethodType}
-use Rattle.do_sig.specs.declared.fault.EncFault.{EncFault}
-use Rattle.do_sig.specs.reading.Signatures.{signature_at}
+use Rattle.do_sig.specs.{Answers.answer_of, Calls.arg_count, MethodTypes.MethodType}
+use Rattle.do_sig.specs.{declared.fault.EncFault.EncFault, reading.Signatures.signature_at}
 use Rattle.do_class.specs.declared.method.Method.{Method}
 use Rattle.do_class_kinds.specs.Methods.{method_said, signature_of}
 use Rattle.do_document.specs.Checks.{first_of, is_text, is_text_with, misfit, missing, required}
-use Rattle.do_document.specs.Checks.{unknown, wrong_unless}
-use Rattle.do_document.specs.ClassFaults.{count_fault}
-use Rattle.do_document.specs.ClassFaults.{is_new_selector, method_checks}
-use Rattle.do_document.specs.ClassFaults.{signature_fault, types_fault}
-use Rattle.do_document.specs.Classes.{method_of}
-use Rattle.do_document.specs.Document.{keys, text_at}
-use Rattle.do_document.specs.Paths.{path}
-use Rattle.do_document.specs.declared.place.Place.{Place}
-use Rattle.do_document.specs.declared.fault.WorldFault.{WorldFault}
+use Rattle.do_document.specs.{Checks.{unknown, wrong_unless}, ClassFaults.count_fault}
+use Rattle.do_document.specs.ClassFaults.{is_new_selector, method_checks, signature_fault}
+use Rattle.do_document.specs.{ClassFaults.types_fault, Classes.method_of, Document.{keys, text_at}}
+use Rattle.do_document.specs.{Paths.path, declared.{place.Place.Place, fault.WorldFault.WorldFault}}
 use Rattle.do_document.specs.declared.fault.WorldFault.TheVariants.{Memory, Sig, Wrong}
 use Rattle.do_document.proofs.Finding.{or_some}
 

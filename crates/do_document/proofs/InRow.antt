@@ -1,9 +1,7 @@
 -- The first of several checks in a row that finds a fault.
-use Rattle.std.proofs.Common.{◌≡◌, List, [], ◌∷◌, Option, None, refl, ◌∙◌}
-use Rattle.std.proofs.Common.{inl, inr, Result, Ok, Err}
-use Rattle.do_document.specs.Checks.{first_of}
-use Rattle.do_document.specs.Finding.{Finds}
-use Rattle.do_document.specs.declared.fault.WorldFault.{WorldFault}
+use Rattle.std.proofs.Common.{◌≡◌, List, [], ◌∷◌, Option, None, refl, ◌∙◌, inl, inr, Result, Ok}
+use Rattle.std.proofs.Common.{Err}
+use Rattle.do_document.specs.{Checks.first_of, Finding.Finds, declared.fault.WorldFault.WorldFault}
 use Rattle.do_document.proofs.InOrder.{Tells, in_first, two_none, two_second}
 
 -- a fault of an equal check is told

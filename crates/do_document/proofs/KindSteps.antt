@@ -1,16 +1,9 @@
 -- What stands at `native`, and the kind that it is.
-use Rattle.std.proofs.Common.{◌≡◌, ℕ, List, Some, None}
-use Rattle.std.specs.Prelude.{codes}
+use Rattle.std.{proofs.Common.{◌≡◌, ℕ, List, Some, None}, specs.Prelude.codes}
 use Rattle.toml.specs.Data.{Data, Members, as_str, get_member}
-use Rattle.do_class_kinds.specs.Kinds.{kind_named}
-use Rattle.do_class_kinds.specs.declared.kind.Kind.{Kind}
-use Rattle.do_class_kinds.specs.declared.kind.Kind.TheVariants.{Script}
-use Rattle.do_document.specs.Checks.{is_text_with, misfit}
-use Rattle.do_document.specs.ClassFaults.{is_kind}
-use Rattle.do_document.specs.Classes.{kind_of}
-use Rattle.do_document.specs.Paths.{path}
-use Rattle.do_document.specs.declared.place.Place.{Place}
-use Rattle.do_document.specs.declared.fault.WorldFault.{WorldFault}
+use Rattle.do_class_kinds.specs.{Kinds.kind_named, declared.kind.Kind.{Kind, TheVariants.Script}}
+use Rattle.do_document.specs.{Checks.{is_text_with, misfit}, ClassFaults.is_kind, Classes.kind_of}
+use Rattle.do_document.specs.{Paths.path, declared.{place.Place.Place, fault.WorldFault.WorldFault}}
 use Rattle.do_document.specs.declared.fault.WorldFault.TheVariants.{Wrong}
 use Rattle.do_document.proofs.InOrder.{Is, Tells, told}
 

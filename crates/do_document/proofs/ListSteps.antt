@@ -1,26 +1,18 @@
 -- How lists of a document are read, member by member.
 use Rattle.std.proofs.Common.{◌≡◌, ℕ, suc, ◌+◌, ◌<◌, ◌≤◌, List, [], ◌∷◌, ◌++◌, length, map, take}
-use Rattle.std.proofs.Common.{drop, get_or, Option, Some, None, true, false, refl, sym, ◌∙◌}
-use Rattle.std.proofs.Common.{ap, arith}
-use Rattle.std.specs.List.{cons_option, filter_map}
-use Rattle.std.specs.Option.{option_or, option_to_list}
-use Rattle.std.proofs.lemmas.List.{take_all}
+use Rattle.std.proofs.Common.{drop, get_or, Option, Some, None, true, false, refl, sym, ◌∙◌, ap}
+use Rattle.std.{proofs.Common.arith, specs.List.{cons_option, filter_map}}
+use Rattle.std.{specs.Option.{option_or, option_to_list}, proofs.lemmas.List.take_all}
 use Rattle.toml.specs.Data.{Data, Members, as_array, as_str, as_table, get_member}
-use Rattle.toml.specs.View.{items_view, view}
-use Rattle.toml.specs.declared.value.Value.{Value}
+use Rattle.toml.specs.{View.{items_view, view}, declared.value.Value.Value}
 use Rattle.do_class_kinds.proofs.Growing.{maybe_more}
 use Rattle.do_document.specs.Checks.{first_among, first_behind, is_list, is_of_kind, list_fault}
 use Rattle.do_document.specs.Checks.{member_fault, misfit, wrong_unless}
-use Rattle.do_document.specs.Document.{members_at, tables_at, texts_at}
-use Rattle.do_document.specs.Paths.{numbered, path}
-use Rattle.do_document.specs.declared.document.ItemKind.{ItemKind}
-use Rattle.do_document.specs.declared.place.Place.{Place}
-use Rattle.do_document.specs.declared.fault.WorldFault.{WorldFault}
-use Rattle.do_document.specs.declared.fault.WorldFault.TheVariants.{Wrong}
-use Rattle.do_document.proofs.Finding.{turn_bad, turn_good}
-use Rattle.do_document.proofs.Growing.{so_far}
-use Rattle.do_document.proofs.InOrder.{Tells, in_first}
-use Rattle.do_document.proofs.Seen.{members_seen}
+use Rattle.do_document.specs.{Document.{members_at, tables_at, texts_at}, Paths.{numbered, path}}
+use Rattle.do_document.specs.declared.{document.ItemKind.ItemKind, place.Place.Place}
+use Rattle.do_document.specs.declared.fault.WorldFault.{WorldFault, TheVariants.Wrong}
+use Rattle.do_document.proofs.{Finding.{turn_bad, turn_good}, Growing.so_far}
+use Rattle.do_document.proofs.{InOrder.{Tells, in_first}, Seen.members_seen}
 
 -- the members of a list that stands at a key
 pub members_there : (key : List ℕ) (t : Members) (d : Data) (vs : List Value)

@@ -1,30 +1,21 @@
 -- What one more slot, method or class does to what was read so far, and what all come to.
+use Rattle.do_document.specs.declared.place.Place.TheVariants as at
 use Rattle.std.proofs.Common.{◌≡◌, ℕ, ◌+◌, ◌-◌, ◌<◌, ◌≤◌, List, ◌++◌, length, map, take, drop}
-use Rattle.std.proofs.Common.{get_or, Option, Some, None, true, sym, ◌∙◌, ap}
-use Rattle.std.proofs.Common.{arith, Result, Ok, Err, inl, inr, subst}
-use Rattle.std.specs.List.{filter_map}
-use Rattle.std.specs.Prelude.{codes}
+use Rattle.std.proofs.Common.{get_or, Option, Some, None, true, sym, ◌∙◌, ap, arith, Result, Ok}
+use Rattle.std.{proofs.Common.{Err, inl, inr, subst}, specs.{List.filter_map, Prelude.codes}}
 use Rattle.std.proofs.lemmas.List.{length-map}
 use Rattle.toml.specs.Data.{Members}
-use Rattle.do_class.specs.Class.{Class}
-use Rattle.do_class.specs.declared.ids.Slot.{Slot}
-use Rattle.do_class.specs.declared.method.Method.{Method}
+use Rattle.do_class.specs.{Class.Class, declared.{ids.Slot.Slot, method.Method.Method}}
 use Rattle.do_document.specs.Checks.{first_among, first_behind, list_fault}
 use Rattle.do_document.specs.ClassFaults.{class_checks, class_fault, entry_checks, entry_fault}
 use Rattle.do_document.specs.ClassFaults.{is_new_slot, methods_fault, slot_fault, slots_fault}
 use Rattle.do_document.specs.Classes.{class_of, method_of, slot_of, slots_in}
-use Rattle.do_document.specs.Document.{members_at, tables_at, texts_at}
-use Rattle.do_document.specs.Finding.{Finds}
-use Rattle.do_document.specs.Lists.{key_of, place_of}
-use Rattle.do_document.specs.declared.lists.MethodList.{MethodList}
+use Rattle.do_document.specs.{Document.{members_at, tables_at, texts_at}, Finding.Finds}
+use Rattle.do_document.specs.{Lists.{key_of, place_of}, declared.lists.MethodList.MethodList}
 use Rattle.do_document.specs.declared.document.ItemKind.TheVariants.{Text, Table}
-use Rattle.do_document.specs.declared.place.Place.{Place}
-use Rattle.do_document.specs.declared.place.Place.TheVariants as at
-use Rattle.do_document.specs.declared.fault.WorldFault.{WorldFault}
-use Rattle.do_document.proofs.Finding.{turn_bad, turn_good}
-use Rattle.do_document.proofs.Growing.{so_far}
-use Rattle.do_document.proofs.InOrder.{Tells, two_first, two_none, two_second}
-use Rattle.do_document.proofs.InRow.{second_found}
+use Rattle.do_document.specs.declared.{place.Place.Place, fault.WorldFault.WorldFault}
+use Rattle.do_document.proofs.{Finding.{turn_bad, turn_good}, Growing.so_far}
+use Rattle.do_document.proofs.{InOrder.{Tells, two_first, two_none, two_second}, InRow.second_found}
 use Rattle.do_document.proofs.ListSteps.{few_tables, few_texts}
 
 module _ {A : Type 0} where

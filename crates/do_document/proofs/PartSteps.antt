@@ -1,34 +1,25 @@
 -- What the checks of a class's parts come to, kind by kind.
+use Rattle.do_class_kinds.specs.declared.kind.Kind.TheVariants as kinds
+use Rattle.do_document.specs.declared.lists.MethodList.TheVariants as lists
+use Rattle.do_document.specs.declared.place.Place.TheVariants as at
 use Rattle.std.proofs.Common.{◌≡◌, ◌∙◌, ◌≤◌, ℕ, List, [], ◌∷◌, ◌++◌, length, Option, Some, None}
 use Rattle.std.proofs.Common.{refl, sym, ap, arith, false, Result}
-use Rattle.std.specs.Prelude.{codes, option_and_then}
-use Rattle.std.specs.List.{cons_option, filter_map}
+use Rattle.std.specs.{Prelude.{codes, option_and_then}, List.{cons_option, filter_map}}
 use Rattle.std.proofs.lemmas.List.Elements.{All-nil}
 use Rattle.toml.specs.Data.{Members}
-use Rattle.do_class.specs.declared.method.Method.{Method}
-use Rattle.do_class.specs.Class.{AreMethods}
-use Rattle.do_class.proofs.Methods.{AreMethods-none}
-use Rattle.do_class.specs.declared.ids.Slot.{Slot}
-use Rattle.do_check.specs.Rules.{IsRule}
-use Rattle.do_check.specs.declared.rules.Rule.{Rule}
-use Rattle.do_class_kinds.specs.Methods.{AreTyped}
-use Rattle.do_class_kinds.specs.Native.{native_methods, native_slots}
+use Rattle.do_class.specs.{declared.method.Method.Method, Class.AreMethods}
+use Rattle.do_class.{proofs.Methods.AreMethods-none, specs.declared.ids.Slot.Slot}
+use Rattle.do_check.specs.{Rules.IsRule, declared.rules.Rule.Rule}
+use Rattle.do_class_kinds.specs.{Methods.AreTyped, Native.{native_methods, native_slots}}
 use Rattle.do_class_kinds.specs.declared.kind.Kind.{Kind}
-use Rattle.do_class_kinds.specs.declared.kind.Kind.TheVariants as kinds
 use Rattle.do_sig.specs.MethodTypes.{IsMethodType}
-use Rattle.do_document.specs.Checks.{misfit}
-use Rattle.do_document.specs.ClassFaults.{methods_fault, native_fault, neither, own_fault}
-use Rattle.do_document.specs.ClassFaults.{parts_fault, rules_fault, slots_fault}
+use Rattle.do_document.specs.{Checks.misfit, ClassFaults.{methods_fault, native_fault, neither}}
+use Rattle.do_document.specs.ClassFaults.{own_fault, parts_fault, rules_fault, slots_fault}
 use Rattle.do_document.specs.Classes.{allowed_methods, methods_by, methods_in, rule_for, rule_of}
 use Rattle.do_document.specs.Classes.{rules_by, rules_in, slots_by, slots_in}
-use Rattle.do_document.specs.Document.{tables_at, text_at}
-use Rattle.do_document.specs.Finding.{Finds}
-use Rattle.do_document.specs.Lists.{key_of}
+use Rattle.do_document.specs.{Document.{tables_at, text_at}, Finding.Finds, Lists.key_of}
 use Rattle.do_document.specs.Sound.{AreGood, AreMore, ArePartsOf, IsRuleless}
-use Rattle.do_document.specs.declared.lists.MethodList.TheVariants as lists
-use Rattle.do_document.specs.declared.place.Place.{Place}
-use Rattle.do_document.specs.declared.place.Place.TheVariants as at
-use Rattle.do_document.specs.declared.fault.WorldFault.{WorldFault}
+use Rattle.do_document.specs.declared.{place.Place.Place, fault.WorldFault.WorldFault}
 use Rattle.do_document.proofs.InOrder.{Tells, two_first, two_none, two_second}
 use Rattle.do_document.proofs.InRow.{row_first, row_next, row_none, second_found, told_by}
 

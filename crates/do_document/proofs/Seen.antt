@@ -1,15 +1,10 @@
 -- What the lists and tables of the kit's `toml` are seen as.
-use Rattle.std.proofs.Common.{◌≡◌, ℕ, ◌<◌, ◌≤◌, ◌&&◌, nat_le, List, [], ◌∷◌, length, map}
-use Rattle.std.proofs.Common.{true, false, Some, None, String, Global, string_bytes, refl}
-use Rattle.std.proofs.Common.{ap, arith, ◌∙◌}
-use Rattle.std.specs.Map.{keys_of}
-use Rattle.std.proofs.lemmas.Bool.Decides.{nat_tests}
-use Rattle.std.proofs.lemmas.List.{length-map}
-use Rattle.toml.specs.Data.{Data, as_array}
-use Rattle.toml.specs.View.{items_view, members_view, view}
+use Rattle.std.proofs.Common.{◌≡◌, ℕ, ◌<◌, ◌≤◌, ◌&&◌, nat_le, List, [], ◌∷◌, length, map, true}
+use Rattle.std.proofs.Common.{false, Some, None, String, Global, string_bytes, refl, ap, arith, ◌∙◌}
+use Rattle.std.{specs.Map.keys_of, proofs.lemmas.{Bool.Decides.nat_tests, List.length-map}}
+use Rattle.toml.specs.{Data.{Data, as_array}, View.{items_view, members_view, view}}
 use Rattle.toml.specs.declared.value.Value.{Value}
-use Rattle.do_document.specs.Checks.{is_list}
-use Rattle.do_document.specs.Document.{keys, members}
+use Rattle.do_document.specs.{Checks.is_list, Document.{keys, members}}
 
 -- the keys of a table are those of its map
 pub keys_seen : (es : List (String Global × Value))

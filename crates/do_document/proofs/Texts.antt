@@ -2,11 +2,8 @@
 use Rattle.std.proofs.Common.{◌≡◌, ℕ, List, Option, Some, None, Bool, true, false, refl, inl, inr}
 use Rattle.toml.specs.Data.{Data, Members, as_str, get_member}
 use Rattle.do_document.specs.Checks.{is_text, is_text_with, misfit, missing, required}
-use Rattle.do_document.specs.Document.{text_at}
-use Rattle.do_document.specs.Paths.{path}
-use Rattle.do_document.specs.declared.place.Place.{Place}
-use Rattle.do_document.specs.declared.fault.WorldFault.{WorldFault}
-use Rattle.do_document.specs.declared.fault.WorldFault.TheVariants.{Wrong}
+use Rattle.do_document.specs.{Document.text_at, Paths.path, declared.place.Place.Place}
+use Rattle.do_document.specs.declared.fault.WorldFault.{WorldFault, TheVariants.Wrong}
 use Rattle.do_document.proofs.InOrder.{Is, Tells, required_failed, required_passed}
 
 module _ (place : Place) (key : List ℕ) (test : List ℕ → Bool) (t : Members) where

@@ -1,18 +1,12 @@
 -- What may be wrong at a place of a document, and which of several faults is the first.
-use Rattle.std.specs.Prelude.{ℕ, nat_le, Bool, true, false, not, ◌&&◌, if◌then◌else◌, is_some}
-use Rattle.std.specs.Prelude.{List, [], ◌∷◌, ◌++◌, length, find, Option, Some, None}
-use Rattle.std.specs.Prelude.{option_and_then}
-use Rattle.std.specs.List.{list_any}
-use Rattle.std.specs.Option.{option_map, option_map_or, option_or}
-use Rattle.std.specs.Str.{bytes_eq}
+use Rattle.std.specs.Prelude.{ℕ, nat_le, Bool, true, false, not, ◌&&◌, if◌then◌else◌, is_some, List}
+use Rattle.std.specs.Prelude.{[], ◌∷◌, ◌++◌, length, find, Option, Some, None, option_and_then}
+use Rattle.std.specs.{List.list_any, Option.{option_map, option_map_or, option_or}, Str.bytes_eq}
 use Rattle.toml.specs.Data.{Data, Members, get_member, as_array, as_str, as_table}
-use Rattle.do_document.specs.declared.document.ItemKind.{ItemKind}
-use Rattle.do_document.specs.declared.document.ItemKind.TheVariants.{Text, Table}
-use Rattle.do_document.specs.declared.place.Place.{Place}
-use Rattle.do_document.specs.declared.fault.WorldFault.{WorldFault}
+use Rattle.do_document.specs.declared.document.ItemKind.{ItemKind, TheVariants.{Text, Table}}
+use Rattle.do_document.specs.declared.{place.Place.Place, fault.WorldFault.WorldFault}
 use Rattle.do_document.specs.declared.fault.WorldFault.TheVariants.{Missing, Wrong}
-use Rattle.do_document.specs.Document.{keys, members, members_at}
-use Rattle.do_document.specs.Paths.{numbered, path}
+use Rattle.do_document.specs.{Document.{keys, members, members_at}, Paths.{numbered, path}}
 
 -- the first of several faults, some of which may not be there
 abbrev pub first_of : List (Option WorldFault) → Option WorldFault

@@ -1,38 +1,27 @@
 -- What may be wrong with the classes of a document, in the order in which it counts; the codes of
 -- methods are judged once all classes are.
-use Rattle.std.specs.Prelude.{ℕ, ◌-◌, ◌==◌, nat_le, Bool, false, not, ◌&&◌, is_some, List, []}
-use Rattle.std.specs.Prelude.{◌∷◌, ◌++◌, length, codes, Option, Some, None, option_and_then}
-use Rattle.std.specs.Prelude.{Result, Ok, Err}
-use Rattle.std.specs.List.{filter_map, list_any}
-use Rattle.std.specs.Option.{option_map, option_map_or}
+use Rattle.do_class_kinds.specs.declared.kind.Kind.TheVariants as kinds
+use Rattle.do_document.specs.declared.lists.MethodList.TheVariants as lists
+use Rattle.do_document.specs.declared.place.Place.TheVariants as at
+use Rattle.std.specs.Prelude.{ℕ, ◌-◌, ◌==◌, nat_le, Bool, false, not, ◌&&◌, is_some, List, [], ◌∷◌}
+use Rattle.std.specs.Prelude.{◌++◌, length, codes, Option, Some, None, option_and_then, Result, Ok}
+use Rattle.std.specs.{Prelude.Err, List.{filter_map, list_any}, Option.{option_map, option_map_or}}
 use Rattle.std.specs.Str.{bytes_eq}
 use Rattle.toml.specs.Data.{Members}
 use Rattle.do_grammar.specs.Names.{colons, is_name, is_selector}
-use Rattle.do_sig.specs.Answers.{answer_of}
-use Rattle.do_sig.specs.Calls.{arg_count}
-use Rattle.do_sig.specs.declared.fault.EncFault.{EncFault}
+use Rattle.do_sig.specs.{Answers.answer_of, Calls.arg_count, declared.fault.EncFault.EncFault}
 use Rattle.do_sig.specs.reading.Signatures.{signature_at}
-use Rattle.do_class.specs.Class.{Class}
-use Rattle.do_class.specs.Table.{class_named}
-use Rattle.do_class.specs.declared.ids.Slot.{Slot}
+use Rattle.do_class.specs.{Class.Class, Table.class_named, declared.ids.Slot.Slot}
 use Rattle.do_class.specs.declared.method.Method.{Method}
-use Rattle.do_class_kinds.specs.Kinds.{kind_named}
-use Rattle.do_class_kinds.specs.Native.{native_methods}
-use Rattle.do_class_kinds.specs.declared.kind.Kind.{Kind}
-use Rattle.do_class_kinds.specs.declared.kind.Kind.TheVariants as kinds
+use Rattle.do_class_kinds.specs.{Kinds.kind_named, Native.native_methods, declared.kind.Kind.Kind}
 use Rattle.do_document.specs.Checks.{first_among, first_of, is_text, is_text_with, list_fault}
 use Rattle.do_document.specs.Checks.{misfit, required, unknown, wrong_unless}
 use Rattle.do_document.specs.Classes.{allowed_methods, class_of, kind_of, method_of, slot_of}
 use Rattle.do_document.specs.Document.{tables_at, text_at, texts_at}
-use Rattle.do_document.specs.Lists.{key_of, keys_of, place_of}
-use Rattle.do_document.specs.Paths.{numbered, path}
+use Rattle.do_document.specs.{Lists.{key_of, keys_of, place_of}, Paths.{numbered, path}}
 use Rattle.do_document.specs.declared.document.ItemKind.TheVariants.{Text, Table}
-use Rattle.do_document.specs.declared.lists.MethodList.{MethodList}
-use Rattle.do_document.specs.declared.lists.MethodList.TheVariants as lists
-use Rattle.do_document.specs.declared.place.Place.{Place}
-use Rattle.do_document.specs.declared.place.Place.TheVariants as at
-use Rattle.do_document.specs.declared.fault.WorldFault.{WorldFault}
-use Rattle.do_document.specs.declared.fault.WorldFault.TheVariants.{Sig}
+use Rattle.do_document.specs.declared.{lists.MethodList.MethodList, place.Place.Place}
+use Rattle.do_document.specs.declared.fault.WorldFault.{WorldFault, TheVariants.Sig}
 
 -- no slot of these has the name
 abbrev pub is_new_slot : List Slot → Slot → Bool

@@ -1,26 +1,18 @@
 -- What classes a document says, without the codes of their methods. What is missing or has another
 -- form says nothing here; that it is refused, and where, stands in ClassFaults.
-use Rattle.std.specs.Prelude.{ℕ, ◌-◌, Bool, true, false, if◌then◌else◌, List, [], ◌++◌, length}
-use Rattle.std.specs.Prelude.{map, take, drop, codes, Option, Some, None, option_and_then}
-use Rattle.std.specs.List.{filter_map}
-use Rattle.std.specs.Option.{option_map, option_map_or}
-use Rattle.std.specs.Str.{bytes_eq}
+use Rattle.do_class_kinds.specs.declared.kind.Kind.TheVariants as kinds
+use Rattle.do_document.specs.declared.lists.MethodList.TheVariants as lists
+use Rattle.std.specs.Prelude.{ℕ, ◌-◌, Bool, true, false, if◌then◌else◌, List, [], ◌++◌, length, map}
+use Rattle.std.specs.Prelude.{take, drop, codes, Option, Some, None, option_and_then}
+use Rattle.std.specs.{List.filter_map, Option.{option_map, option_map_or}, Str.bytes_eq}
 use Rattle.toml.specs.Data.{Members, as_str, get_member}
 use Rattle.do_grammar.specs.Names.{is_name}
-use Rattle.do_class.specs.Class.{Class}
-use Rattle.do_class.specs.declared.ids.Slot.{Slot}
-use Rattle.do_class.specs.declared.method.Method.{Method}
-use Rattle.do_check.specs.declared.rules.Rule.{Rule}
-use Rattle.do_check.specs.declared.rules.Verdict.TheVariants.{Deny, Forward}
-use Rattle.do_class_kinds.specs.Kinds.{kind_named}
-use Rattle.do_class_kinds.specs.Methods.{method_said}
-use Rattle.do_class_kinds.specs.Native.{native_methods, native_slots}
-use Rattle.do_class_kinds.specs.declared.kind.Kind.{Kind}
-use Rattle.do_class_kinds.specs.declared.kind.Kind.TheVariants as kinds
-use Rattle.do_document.specs.Document.{tables_at, text_at, texts_at}
-use Rattle.do_document.specs.Lists.{key_of}
+use Rattle.do_class.specs.{Class.Class, declared.{ids.Slot.Slot, method.Method.Method}}
+use Rattle.do_check.specs.declared.rules.{Rule.Rule, Verdict.TheVariants.{Deny, Forward}}
+use Rattle.do_class_kinds.specs.{Kinds.kind_named, Methods.method_said}
+use Rattle.do_class_kinds.specs.{Native.{native_methods, native_slots}, declared.kind.Kind.Kind}
+use Rattle.do_document.specs.{Document.{tables_at, text_at, texts_at}, Lists.key_of}
 use Rattle.do_document.specs.declared.lists.MethodList.{MethodList}
-use Rattle.do_document.specs.declared.lists.MethodList.TheVariants as lists
 
 -- a slot of a name
 abbrev pub slot_named : Bool → List ℕ → Option Slot

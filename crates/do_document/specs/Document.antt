@@ -1,6 +1,5 @@
 -- What stands in a document: at the keys of a table, and in a list.
-use Rattle.std.specs.Prelude.{ℕ, List, [], ◌∷◌, Option, option_and_then}
-use Rattle.std.specs.List.{filter_map}
+use Rattle.std.specs.{Prelude.{ℕ, List, [], ◌∷◌, Option, option_and_then}, List.filter_map}
 use Rattle.std.specs.Option.{option_map_or}
 use Rattle.toml.specs.Data.{Data, Items, no_items, item, Members, no_members, member, get_member}
 use Rattle.toml.specs.Data.{as_array, as_str, as_table}

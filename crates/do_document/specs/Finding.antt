@@ -1,7 +1,6 @@
 -- What reading a part of a document answers.
 use Rattle.std.specs.Prelude.{◌≡◌, ◌⊎◌, Option, Some, None, Result, Ok, Err}
-use Rattle.do_document.specs.declared.fault.WorldFault.{WorldFault}
-use Rattle.do_document.specs.declared.fault.WorldFault.TheVariants.{Memory}
+use Rattle.do_document.specs.declared.fault.WorldFault.{WorldFault, TheVariants.Memory}
 
 -- unless memory ran out, the answer is this one
 abbrev pub OrMemory : {A : Type 0} → Result A WorldFault → Result A WorldFault → Type 0

@@ -1,9 +1,8 @@
 -- The lists of methods that a class may have.
-use Rattle.std.specs.Prelude.{ℕ, List, [], ◌∷◌, codes}
-use Rattle.do_document.specs.declared.lists.MethodList.{MethodList}
 use Rattle.do_document.specs.declared.lists.MethodList.TheVariants as lists
-use Rattle.do_document.specs.declared.place.Place.{Place}
 use Rattle.do_document.specs.declared.place.Place.TheVariants as at
+use Rattle.std.specs.Prelude.{ℕ, List, [], ◌∷◌, codes}
+use Rattle.do_document.specs.declared.{lists.MethodList.MethodList, place.Place.Place}
 
 -- the key at which a list stands in its class
 abbrev pub key_of : MethodList → List ℕ

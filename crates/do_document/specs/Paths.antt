@@ -1,7 +1,6 @@
 -- How a place in a document is written.
 use Rattle.std.specs.Prelude.{ℕ, List, [], ◌++◌, codes, decimal}
-use Rattle.do_document.specs.declared.place.Place.{Place}
-use Rattle.do_document.specs.declared.place.Place.TheVariants.{Top, Class, Method, Node}
+use Rattle.do_document.specs.declared.place.Place.{Place, TheVariants.{Top, Class, Method, Node}}
 use Rattle.do_document.specs.declared.place.Place.TheVariants.{Allowed, Denied}
 
 -- a member of a list, counted from 0

@@ -1,24 +1,16 @@
 -- What holds of the parts of a class that are read.
+use Rattle.do_class_kinds.specs.declared.kind.Kind.TheVariants as kinds
 use Rattle.std.specs.Prelude.{◌≡◌, ◌≤◌, ◌+◌, ◌++◌, IsTrue, IsNone, IfSome, List, length, Option}
-use Rattle.std.specs.Prelude.{Some, codes}
-use Rattle.std.specs.List.{filter_map}
+use Rattle.std.specs.{Prelude.{Some, codes}, List.filter_map}
 use Rattle.toml.specs.Data.{Members}
 use Rattle.do_grammar.specs.Names.{colons}
-use Rattle.do_sig.specs.Calls.{arg_count}
-use Rattle.do_sig.specs.MethodTypes.{IsMethodType}
-use Rattle.do_class.specs.Class.{AreMethods, Class}
-use Rattle.do_class.specs.Table.{class_named}
-use Rattle.do_class.specs.declared.ids.Slot.{Slot}
+use Rattle.do_sig.specs.{Calls.arg_count, MethodTypes.IsMethodType}
+use Rattle.do_class.specs.{Class.{AreMethods, Class}, Table.class_named, declared.ids.Slot.Slot}
 use Rattle.do_class.specs.declared.method.Method.{Method}
-use Rattle.do_check.specs.Rules.{AreRules, IsRule}
-use Rattle.do_check.specs.declared.rules.Rule.{Rule}
-use Rattle.do_class_kinds.specs.Methods.{AreTyped}
-use Rattle.do_class_kinds.specs.declared.kind.Kind.{Kind}
-use Rattle.do_class_kinds.specs.declared.kind.Kind.TheVariants as kinds
-use Rattle.do_document.specs.ClassFaults.{is_new_selector}
-use Rattle.do_document.specs.Classes.{class_of, kind_of, method_of, methods_by, rule_of, rules_by}
-use Rattle.do_document.specs.Classes.{slots_by}
-use Rattle.do_document.specs.Document.{tables_at}
+use Rattle.do_check.specs.{Rules.{AreRules, IsRule}, declared.rules.Rule.Rule}
+use Rattle.do_class_kinds.specs.{Methods.AreTyped, declared.kind.Kind.Kind}
+use Rattle.do_document.specs.{ClassFaults.is_new_selector, Classes.{class_of, kind_of, method_of}}
+use Rattle.do_document.specs.{Classes.{methods_by, rule_of, rules_by, slots_by}, Document.tables_at}
 use Rattle.do_document.specs.declared.lists.MethodList.{MethodList}
 
 -- the method of a table, which can stand behind others in a class

@@ -1,16 +1,12 @@
 //! The classes of a world, without the codes of their methods.
-ghost use Rattle.std.specs.Prelude.{◌≡◌, ◌≤◌, ◌<◌, ◌∷◌, [], ◌++◌, IsNone, IsTrue, OnOk};
-ghost use Rattle.std.specs.Prelude.{Some};
-ghost use Rattle.std.specs.Prelude.{codes, length, map};
-ghost use Rattle.std.specs.List.{All, AllZip, filter_map};
+ghost use Rattle.std.specs.Prelude.{◌≡◌, ◌≤◌, ◌<◌, ◌∷◌, [], ◌++◌, IsNone, IsTrue, OnOk, Some};
+ghost use Rattle.std.specs.{Prelude.{codes, length, map}, List.{All, AllZip, filter_map}};
 ghost use Rattle.toml.specs.View.{table_view};
-ghost use Rattle.do_class.specs.Class.{AreMethods};
-ghost use Rattle.do_class.specs.Table.{class_named};
+ghost use Rattle.do_class.specs.{Class.AreMethods, Table.class_named};
 ghost use Rattle.do_class_kinds.specs.Kinds.{AreKindsOf};
 ghost use Rattle.do_document.specs.Checks.{first_among, is_text_with, misfit, required};
 ghost use Rattle.do_document.specs.ClassFaults.{class_checks, class_fault, is_kind, is_new_name};
-ghost use Rattle.do_document.specs.Classes.{class_of, class_rules, kind_of};
-ghost use Rattle.do_document.specs.Document.{text_at};
+ghost use Rattle.do_document.specs.{Classes.{class_of, class_rules, kind_of}, Document.text_at};
 ghost use Rattle.do_document.specs.Finding.{Finds};
 ghost use Rattle.do_document.specs.Sound.{HasTypes, IsClassOf, IsKindOf, IsNextClass};
 

@@ -1,16 +1,13 @@
 //! What stands in a document: at the keys of a table, and in its lists.
-ghost use Rattle.std.specs.Prelude.{◌≡◌, ◌⊎◌, Some, None, map, not, find, string_bytes};
-ghost use Rattle.std.specs.Prelude.{◌++◌, ◌≤◌, IfOk, MatchResult, OnOk, length};
-ghost use Rattle.std.specs.List.{list_any};
-ghost use Rattle.std.specs.Option.{option_map, option_to_list};
-ghost use Rattle.std.specs.Str.{bytes_eq};
+ghost use Rattle.std.specs.Prelude.{◌≡◌, ◌⊎◌, Some, None, map, not, find, string_bytes, ◌++◌, ◌≤◌};
+ghost use Rattle.std.specs.{Prelude.{IfOk, MatchResult, OnOk, length}, List.list_any};
+ghost use Rattle.std.specs.{Option.{option_map, option_to_list}, Str.bytes_eq};
 ghost use Rattle.toml.specs.Data.{as_array, as_str, as_table, get_member};
 ghost use Rattle.toml.specs.View.{items_view, table_view, view};
 ghost use Rattle.do_document.specs.Checks.{is_list, is_of_kind, is_text, list_fault, missing};
 ghost use Rattle.do_document.specs.Checks.{required, unknown, wrong_unless};
 ghost use Rattle.do_document.specs.Document.{keys, members_at, tables_at, text_at, texts_at};
-ghost use Rattle.do_document.specs.Paths.{path};
-ghost use Rattle.do_document.specs.Finding.{Finds};
+ghost use Rattle.do_document.specs.{Paths.path, Finding.Finds};
 
 use crate::fault::WorldFault;
 use crate::place::Place;

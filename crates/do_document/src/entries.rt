@@ -1,17 +1,13 @@
 //! The lists of methods of a class, with the rules of a checker beside them.
-ghost use Rattle.std.specs.Prelude.{◌≡◌, ◌≤◌, ◌+◌, ◌++◌, IfSome, IsTrue, OnOk, Some, codes};
-ghost use Rattle.std.specs.Prelude.{length, map};
-ghost use Rattle.std.specs.Option.{option_to_list};
+ghost use Rattle.std.specs.Prelude.{◌≡◌, ◌≤◌, ◌+◌, ◌++◌, IfSome, IsTrue, OnOk, Some, codes, length};
+ghost use Rattle.std.specs.{Prelude.map, Option.option_to_list};
 ghost use Rattle.toml.specs.View.{table_view};
 ghost use Rattle.do_grammar.specs.Names.{is_selector};
 ghost use Rattle.do_check.specs.Rules.{IsRule};
 ghost use Rattle.do_document.specs.Checks.{first_among, is_text_with, required};
 ghost use Rattle.do_document.specs.ClassFaults.{entry_checks, entry_fault, is_rule, methods_fault};
-ghost use Rattle.do_document.specs.ClassFaults.{rule_fault};
-ghost use Rattle.do_document.specs.Classes.{rule_for};
-ghost use Rattle.do_document.specs.Document.{tables_at, text_at};
-ghost use Rattle.do_document.specs.Finding.{Finds};
-ghost use Rattle.do_document.specs.Lists.{key_of};
+ghost use Rattle.do_document.specs.{ClassFaults.rule_fault, Classes.rule_for};
+ghost use Rattle.do_document.specs.{Document.{tables_at, text_at}, Finding.Finds, Lists.key_of};
 ghost use Rattle.do_document.specs.Sound.{AreGood, AreMore, IsNextMethod, IsRuleOf};
 
 use crate::document::{ItemKind, check_list, tables_at, text_required};

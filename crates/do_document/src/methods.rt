@@ -1,17 +1,12 @@
 //! One method of a class: its selector and its signature. Its code is read once all classes are.
-ghost use Rattle.std.specs.Prelude.{◌≡◌, ◌≢◌, ◌⊎◌, ◌==◌, IsTrue, Some, codes, map};
-ghost use Rattle.std.specs.Prelude.{option_and_then};
+ghost use Rattle.std.specs.Prelude.{◌≡◌, ◌≢◌, ◌⊎◌, ◌==◌, IsTrue, Some, codes, map, option_and_then};
 ghost use Rattle.toml.specs.View.{table_view};
 ghost use Rattle.do_grammar.specs.Names.{colons};
-ghost use Rattle.do_sig.specs.Calls.{arg_count};
-ghost use Rattle.do_sig.specs.MethodTypes.{IsMethodType};
+ghost use Rattle.do_sig.specs.{Calls.arg_count, MethodTypes.IsMethodType};
 ghost use Rattle.do_class_kinds.specs.Methods.{signature_of};
-ghost use Rattle.do_document.specs.Checks.{is_text_with, required};
-ghost use Rattle.do_document.specs.ClassFaults.{is_new_selector, method_checks, types_fault};
-ghost use Rattle.do_document.specs.Document.{text_at};
-ghost use Rattle.do_document.specs.Finding.{Finds};
-ghost use Rattle.do_document.specs.Paths.{path};
-ghost use Rattle.do_document.specs.Sound.{IsNextMethod};
+ghost use Rattle.do_document.specs.{Checks.{is_text_with, required}, ClassFaults.is_new_selector};
+ghost use Rattle.do_document.specs.{ClassFaults.{method_checks, types_fault}, Document.text_at};
+ghost use Rattle.do_document.specs.{Finding.Finds, Paths.path, Sound.IsNextMethod};
 
 use crate::document::{known_keys, required, text_of, text_required};
 use crate::fault::WorldFault;

@@ -1,10 +1,8 @@
 //! What stands in a class behind its name and its kind: slots, methods and rules.
 ghost use Rattle.std.specs.Prelude.{◌≡◌, [], false, IfOk};
 ghost use Rattle.toml.specs.View.{table_view};
-ghost use Rattle.do_document.specs.Checks.{misfit};
-ghost use Rattle.do_document.specs.ClassFaults.{neither, parts_fault};
-ghost use Rattle.do_document.specs.Finding.{Finds};
-ghost use Rattle.do_document.specs.Sound.{AreGood, ArePartsOf, IsRuleless};
+ghost use Rattle.do_document.specs.{Checks.misfit, ClassFaults.{neither, parts_fault}};
+ghost use Rattle.do_document.specs.{Finding.Finds, Sound.{AreGood, ArePartsOf, IsRuleless}};
 ghost use Rattle.do_class_kinds.specs.Native.{native_methods};
 
 use crate::document::value_at;

@@ -1,11 +1,9 @@
 //! The slots of a class.
-ghost use Rattle.std.specs.Prelude.{◌≡◌, ◌≤◌, IfOk, length, map};
-ghost use Rattle.std.specs.List.{filter_map};
+ghost use Rattle.std.specs.{Prelude.{◌≡◌, ◌≤◌, IfOk, length, map}, List.filter_map};
 ghost use Rattle.toml.specs.View.{table_view};
 ghost use Rattle.do_document.specs.Checks.{first_among};
 ghost use Rattle.do_document.specs.ClassFaults.{is_new_slot, slot_fault, slots_fault};
-ghost use Rattle.do_document.specs.Classes.{slot_of, slots_in};
-ghost use Rattle.do_document.specs.Finding.{Finds};
+ghost use Rattle.do_document.specs.{Classes.{slot_of, slots_in}, Finding.Finds};
 
 use crate::document::{ItemKind, check_list, texts_at};
 use crate::fault::WorldFault;

@@ -1,30 +1,19 @@
 -- Effects that change a tidy node and tell nothing of counts, by themselves and behind another.
 use Rattle.std.proofs.Common.{◌≡◌, ℕ, List, [], ◌∷◌, ◌++◌, refl, ap, sym, ◌∙◌, append_assoc, fold}
 use Rattle.std.proofs.Common.{Option, Some, None, add-zero, subst}
-use Rattle.std.proofs.lemmas.List.{append-nil, map-append}
-use Rattle.std.proofs.lemmas.List.Sums.{fold-append}
-use Rattle.do_base.specs.names.Names.{ObjectName}
-use Rattle.do_base.specs.declared.events.shown.Shown.{Shown}
+use Rattle.std.proofs.lemmas.List.{append-nil, map-append, Sums.fold-append}
+use Rattle.do_base.specs.{names.Names.ObjectName, declared.events.shown.Shown.Shown}
 use Rattle.do_class.specs.declared.packet.Packet.{Packet}
-use Rattle.do_machine.specs.declared.item.Item.{Item}
-use Rattle.do_machine.specs.declared.node.Lend.{Lend}
-use Rattle.do_machine.specs.lend.Lending.{lending}
-use Rattle.do_machine.specs.declared.node.Node.{Node}
-use Rattle.do_machine.specs.declared.state.Effect.{Effect}
+use Rattle.do_machine.specs.{declared.{item.Item.Item, node.Lend.Lend}, lend.Lending.lending}
+use Rattle.do_machine.specs.declared.{node.Node.Node, state.Effect.Effect}
 use Rattle.do_machine.specs.Effect.{only, queueing, showing, ◌>>=◌}
 use Rattle.do_export.specs.Counts.{Counts, raised}
 use Rattle.do_import.specs.ByObject.{object_of}
-use Rattle.do_machine.specs.Items.{exported}
-use Rattle.do_machine.specs.State.{holds, is_known, is_open}
-use Rattle.do_network.specs.Counting.{named_to, packet_of, of_held, of_known}
-use Rattle.do_network.specs.Counting.{over_open_ends}
-use Rattle.do_network.specs.Frames.{all_posted, frame_of, posted}
-use Rattle.do_network.specs.Links.{sending}
-use Rattle.do_network.specs.Own.{Own}
+use Rattle.do_machine.specs.{Items.exported, State.{holds, is_known, is_open}}
+use Rattle.do_network.specs.Counting.{named_to, packet_of, of_held, of_known, over_open_ends}
+use Rattle.do_network.specs.{Frames.{all_posted, frame_of, posted}, Links.sending, Own.Own}
 use Rattle.do_effects.specs.Doing.{Doing, does, effected, moved}
-use Rattle.do_effects.specs.Sends.{GivesNothingUp, sends, sends_with}
-use Rattle.do_effects.specs.Taking.{lent_by}
-use Rattle.do_effects.specs.Tidy.{IsTidy}
+use Rattle.do_effects.specs.{Sends.{GivesNothingUp, sends, sends_with}, Taking.lent_by, Tidy.IsTidy}
 use Rattle.do_effects.proofs.TidyCounts.{counted_is_tidy, kept_twice, node_alone}
 
 -- a node that keeps its ends, and what it holds and asked for

@@ -1,24 +1,18 @@
 -- A node whose ask is over is tidy still.
-use Rattle.std.proofs.Common.{◌≡◌, ◌||◌, ◌+◌, ℕ, Bool, true, false, cond, not, List, [], ◌∷◌}
-use Rattle.std.proofs.Common.{refl, ap, ◌∙◌, filter, ◌⊎◌, inl, inr}
-use Rattle.std.specs.List.{list_any}
+use Rattle.std.proofs.Common.{◌≡◌, ◌||◌, ◌+◌, ℕ, Bool, true, false, cond, not, List, [], ◌∷◌, refl}
+use Rattle.std.{proofs.Common.{ap, ◌∙◌, filter, ◌⊎◌, inl, inr}, specs.List.list_any}
 use Rattle.std.proofs.lemmas.Bool.{false≢true}
 use Rattle.do_base.specs.names.Names.{ObjectName}
 use Rattle.do_export.specs.Counts.{count_of}
 use Rattle.do_import.specs.ByObject.{object_of}
-use Rattle.do_machine.specs.declared.node.Node.{Node}
-use Rattle.do_machine.specs.declared.node.Wanted.{Wanted}
+use Rattle.do_machine.specs.declared.node.{Node.Node, Wanted.Wanted}
 use Rattle.do_machine.specs.State.{has_asked, holds, is_known}
-use Rattle.do_machine.specs.lend.Asking.{same_wanted, without_wanted}
-use Rattle.do_machine.specs.take.Take.{holding}
-use Rattle.do_machine.proofs.Bools.{or_cases, or_left, or_right}
-use Rattle.do_machine.proofs.Having.{has_joined_all, same_is}
+use Rattle.do_machine.specs.{lend.Asking.{same_wanted, without_wanted}, take.Take.holding}
+use Rattle.do_machine.proofs.{Bools.{or_cases, or_left, or_right}, Having.{has_joined_all, same_is}}
 use Rattle.do_network.specs.Own.{Own}
 use Rattle.do_packet.specs.Met.{same_object}
-use Rattle.do_effects.specs.Taking.{gone_own, granted_own}
-use Rattle.do_effects.specs.Tidy.{IsTidy}
-use Rattle.do_effects.proofs.KeptRows.{put_kept, wider}
-use Rattle.do_effects.proofs.NamesAsk.{and_first, same_self}
+use Rattle.do_effects.specs.{Taking.{gone_own, granted_own}, Tidy.IsTidy}
+use Rattle.do_effects.proofs.{KeptRows.{put_kept, wider}, NamesAsk.{and_first, same_self}}
 use Rattle.do_effects.proofs.TidyCounts.{kept_twice}
 
 -- what is asked for is asked for by another ask still, or is the object of the one that is over

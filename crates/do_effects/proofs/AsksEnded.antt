@@ -1,47 +1,29 @@
 -- Asks that are over, granted or gone.
-use Rattle.std.proofs.Common.{◌≡◌, ◌+◌, ℕ, Bool, true, false, cond, not, List, [], ◌∷◌, ◌++◌}
-use Rattle.std.proofs.Common.{Result, Ok, Err, if◌then◌else◌, refl, ap, sym, ◌∙◌}
-use Rattle.std.specs.List.{list_any}
-use Rattle.std.proofs.Common.{◌≤◌, length, arith}
-use Rattle.std.proofs.lemmas.Bool.{false≢true}
-use Rattle.std.proofs.lemmas.List.Sorted.{length_permutation}
-use Rattle.do_base.specs.names.Names.{ObjectName}
-use Rattle.do_base.specs.declared.events.exception.Exc.{Exc}
-use Rattle.do_base.specs.declared.events.shown.Shown.{Shown}
-use Rattle.do_behave.specs.declared.invocation.Invocation.{Invocation}
-use Rattle.do_behave.specs.declared.invocation.Reason.{Reason}
 use Rattle.do_behave.specs.declared.invocation.Reason.TheVariants as reasons
+use Rattle.do_machine.specs.declared.item.Item.TheVariants as items
+use Rattle.do_rules.specs.declared.take.ruling.Ruling.TheVariants as rulings
+use Rattle.std.proofs.Common.{◌≡◌, ◌+◌, ℕ, Bool, true, false, cond, not, List, [], ◌∷◌, ◌++◌}
+use Rattle.std.proofs.Common.{Result, Ok, Err, if◌then◌else◌, refl, ap, sym, ◌∙◌, ◌≤◌, length}
+use Rattle.std.{proofs.Common.arith, specs.List.list_any, proofs.lemmas.Bool.false≢true}
+use Rattle.std.proofs.lemmas.List.Sorted.{length_permutation}
+use Rattle.do_base.specs.{names.Names.ObjectName, declared.events.exception.Exc.Exc}
+use Rattle.do_base.specs.declared.events.shown.Shown.{Shown}
+use Rattle.do_behave.specs.declared.invocation.{Invocation.Invocation, Reason.Reason}
 use Rattle.do_class.specs.declared.ids.MethodId.{MethodId}
 use Rattle.do_import.specs.ByObject.{added, object_of}
-use Rattle.do_machine.specs.declared.item.Item.{Item}
-use Rattle.do_machine.specs.declared.item.Item.TheVariants as items
-use Rattle.do_machine.specs.declared.node.Node.{Node}
-use Rattle.do_machine.specs.declared.node.Wanted.{Wanted}
-use Rattle.do_machine.specs.Context.{Context}
-use Rattle.do_machine.specs.Effect.{only, queueing}
-use Rattle.do_machine.specs.Lists.{inserted}
-use Rattle.do_machine.specs.Objects.{joined, object_at, object_lt}
-use Rattle.do_machine.specs.State.{is_known, is_open}
+use Rattle.do_machine.specs.declared.{item.Item.Item, node.{Node.Node, Wanted.Wanted}}
+use Rattle.do_machine.specs.{Context.Context, Effect.{only, queueing}, Lists.inserted}
+use Rattle.do_machine.specs.{Objects.{joined, object_at, object_lt}, State.{is_known, is_open}}
 use Rattle.do_machine.specs.lend.Asking.{same_wanted, settling, without_wanted}
-use Rattle.do_machine.specs.take.Receipt.{arrived}
-use Rattle.do_machine.specs.take.Requests.{admission}
-use Rattle.do_machine.specs.take.Take.{holding}
+use Rattle.do_machine.specs.take.{Receipt.arrived, Requests.admission, Take.holding}
 use Rattle.do_machine.proofs.Inserting.{inserted_moves}
-use Rattle.do_network.specs.Counting.{got, of_known}
-use Rattle.do_network.specs.Own.{Own}
-use Rattle.do_packet.specs.Met.{has_object}
-use Rattle.do_packet.specs.declared.receipt.Made.{Made}
-use Rattle.do_rules.specs.Ruling.{admitted, ruling}
-use Rattle.do_rules.specs.declared.take.ruling.Ruling.{Ruling}
-use Rattle.do_rules.specs.declared.take.ruling.Ruling.TheVariants as rulings
+use Rattle.do_network.specs.{Counting.{got, of_known}, Own.Own}
+use Rattle.do_packet.specs.{Met.has_object, declared.receipt.Made.Made}
+use Rattle.do_rules.specs.{Ruling.{admitted, ruling}, declared.take.ruling.Ruling.Ruling}
 use Rattle.do_effects.specs.Doing.{Doing, does, effected, moved}
-use Rattle.do_effects.specs.Taking.{CanFollow, ended_own, gone_own, granted_own, is_granted}
-use Rattle.do_effects.specs.Taking.{takes}
-use Rattle.do_effects.specs.Tidy.{IsTidy}
-use Rattle.do_effects.proofs.Alone.{line_first}
-use Rattle.do_effects.proofs.ObjectsLeft.{few_pass}
-use Rattle.do_effects.proofs.TidyCounts.{kept_twice}
-use Rattle.do_effects.proofs.AskedNode.{granted_tidy, gone_tidy}
+use Rattle.do_effects.specs.Taking.{CanFollow, ended_own, gone_own, granted_own, is_granted, takes}
+use Rattle.do_effects.{specs.Tidy.IsTidy, proofs.{Alone.line_first, ObjectsLeft.few_pass}}
+use Rattle.do_effects.proofs.{TidyCounts.kept_twice, AskedNode.{granted_tidy, gone_tidy}}
 
 -- the ruling ends an ask
 abbrev on_ask : Ruling → Bool

@@ -1,34 +1,20 @@
 -- What a run does, said by the node's own state and by the definitions of a run.
-use Rattle.std.proofs.Common.{◌≡◌, ◌≤◌, ◌+◌, ℕ, List, [], ◌∷◌, ◌++◌, refl, ap, sym, ◌∙◌, subst}
-use Rattle.std.proofs.Common.{length}
-use Rattle.std.proofs.Common.{fold}
-use Rattle.std.proofs.Common.{Option, Some, None, arith}
-use Rattle.std.specs.Prelude.{MatchOption}
-use Rattle.do_base.specs.declared.events.shown.Shown.{Shown}
-use Rattle.do_behave.specs.declared.invocation.Answer.{Answer}
-use Rattle.do_behave.specs.declared.invocation.Invocation.{Invocation}
-use Rattle.do_machine.specs.declared.node.Node.{Node}
-use Rattle.do_machine.specs.declared.node.Stored.{Stored}
-use Rattle.do_machine.specs.declared.state.Effect.{Effect}
-use Rattle.do_machine.specs.declared.verdict.Request.{Request}
 use Rattle.do_machine.specs.declared.verdict.Request.TheVariants as requests
-use Rattle.do_machine.specs.Context.{RunContext}
-use Rattle.do_machine.specs.Effect.{only}
-use Rattle.do_machine.specs.run.Changes.{answered}
-use Rattle.do_machine.specs.run.Delivery.{below_answered, popped}
-use Rattle.do_machine.specs.run.Fresh.{with_stack}
-use Rattle.do_machine.specs.run.Verdicts.{requesting}
-use Rattle.do_network.specs.Counting.{named_to, of_held, of_known, over_open_ends}
-use Rattle.do_network.specs.Own.{Own}
+use Rattle.std.proofs.Common.{◌≡◌, ◌≤◌, ◌+◌, ℕ, List, [], ◌∷◌, ◌++◌, refl, ap, sym, ◌∙◌, subst}
+use Rattle.std.{proofs.Common.{length, fold, Option, Some, None, arith}, specs.Prelude.MatchOption}
+use Rattle.do_base.specs.declared.events.shown.Shown.{Shown}
+use Rattle.do_behave.specs.declared.invocation.{Answer.Answer, Invocation.Invocation}
+use Rattle.do_machine.specs.declared.{node.{Node.Node, Stored.Stored}, state.Effect.Effect}
+use Rattle.do_machine.specs.{declared.verdict.Request.Request, Context.RunContext, Effect.only}
+use Rattle.do_machine.specs.run.{Changes.answered, Delivery.{below_answered, popped}}
+use Rattle.do_machine.specs.run.{Fresh.with_stack, Verdicts.requesting}
+use Rattle.do_network.specs.{Counting.{named_to, of_held, of_known, over_open_ends}, Own.Own}
 use Rattle.do_stack.specs.Waiting.{with_top as first_changed}
 use Rattle.do_streams.specs.Streamed.{Streamed, outbox}
-use Rattle.do_effects.specs.Bounded.{IsBounded}
-use Rattle.do_effects.specs.Doing.{Doing, does, doing}
-use Rattle.do_effects.specs.Plans.{Did, IsRun, below, requested, top_popped}
-use Rattle.do_effects.specs.Room.{Needs}
+use Rattle.do_effects.specs.{Bounded.IsBounded, Doing.{Doing, does, doing}}
+use Rattle.do_effects.specs.{Plans.{Did, IsRun, below, requested, top_popped}, Room.Needs}
 use Rattle.do_effects.specs.Sends.{CanNameAll, CanSend, GivesNothingUp, names_counted, sends}
-use Rattle.do_effects.specs.Tidy.{IsTidy}
-use Rattle.do_effects.specs.declared.changing.Core.{Core}
+use Rattle.do_effects.specs.{Tidy.IsTidy, declared.changing.Core.Core}
 use Rattle.do_effects.proofs.Alone.{KeepsCounts, only_alone, shows_alone, tidy_node}
 
 -- what changes a tidy node, and shows, is the effect that leaves the node so

@@ -1,29 +1,21 @@
 -- What comes in the message of an item, copies and names.
+use Rattle.do_machine.specs.declared.item.Item.TheVariants as items
 use Rattle.std.proofs.Common.{◌≡◌, ℕ, List, [], ◌∷◌, ◌++◌, Option, Some, None, refl, ap, sym, ◌∙◌}
-use Rattle.std.proofs.Common.{◌+◌, ◌<◌, ◌≤◌, IsSome, add-one, drop, get_or, length}
-use Rattle.std.proofs.Common.{drop-cons, length-append, subst, suc}
-use Rattle.std.proofs.Math.ListN.{drop_of_length-le}
+use Rattle.std.proofs.Common.{◌+◌, ◌<◌, ◌≤◌, IsSome, add-one, drop, get_or, length, drop-cons}
+use Rattle.std.proofs.{Common.{length-append, subst, suc}, Math.ListN.drop_of_length-le}
 use Rattle.std.proofs.lemmas.List.{append-nil}
 use Rattle.do_class.specs.declared.packet.Packet.{Packet}
 use Rattle.std.specs.Prelude.{option_map}
-use Rattle.do_base.specs.declared.events.shown.Shown.{Shown}
-use Rattle.do_base.specs.names.Names.{ObjectName}
+use Rattle.do_base.specs.{declared.events.shown.Shown.Shown, names.Names.ObjectName}
 use Rattle.do_class.specs.declared.packet.Name.{Name}
-use Rattle.do_machine.specs.declared.item.Item.{Item}
-use Rattle.do_machine.specs.declared.item.Item.TheVariants as items
-use Rattle.do_machine.specs.declared.node.Node.{Node}
-use Rattle.do_machine.specs.Items.{exported}
-use Rattle.do_machine.specs.run.Fresh.{with_objects, with_serials}
-use Rattle.do_machine.specs.take.Take.{holding}
+use Rattle.do_machine.specs.{declared.{item.Item.Item, node.Node.Node}, Items.exported}
+use Rattle.do_machine.specs.{run.Fresh.{with_objects, with_serials}, take.Take.holding}
 use Rattle.do_network.specs.Counting.{got, packet_of}
 use Rattle.do_packet.specs.declared.receipt.Made.{Made}
 use Rattle.do_part.specs.Names.{AreStored}
 use Rattle.do_rules.specs.Ruling.{gaining, names_in}
-use Rattle.do_effects.specs.Doing.{Doing, effected, moved}
-use Rattle.do_effects.specs.Taking.{gained, gains}
-use Rattle.do_effects.specs.Tidy.{IsTidy}
-use Rattle.do_effects.proofs.Alone.{line_first}
-use Rattle.do_effects.proofs.NamesAsk.{names_node}
+use Rattle.do_effects.specs.{Doing.{Doing, effected, moved}, Taking.{gained, gains}, Tidy.IsTidy}
+use Rattle.do_effects.proofs.{Alone.line_first, NamesAsk.names_node}
 
 -- what was made and shown, before names are received
 abbrev pub made : Shown → List Made → Doing → Doing

@@ -1,19 +1,13 @@
 -- What a core is once an item was sent.
 use Rattle.std.proofs.Common.{◌≡◌, ℕ, ◌+◌, ◌≤◌, List, [], ◌∷◌, ◌++◌, length, refl, ap, sym, ◌∙◌}
-use Rattle.std.proofs.Common.{arith}
-use Rattle.std.specs.Prelude.{None, Option, Some, fold}
+use Rattle.std.{proofs.Common.arith, specs.Prelude.{None, Option, Some, fold}}
 use Rattle.std.proofs.lemmas.List.{append-nil}
 use Rattle.do_base.specs.declared.events.shown.Shown.{Shown}
 use Rattle.do_class.specs.declared.packet.Packet.{Packet}
-use Rattle.do_machine.specs.declared.item.Item.{Item}
-use Rattle.do_machine.specs.declared.node.Node.{Node}
-use Rattle.do_machine.specs.declared.state.Parcel.{Parcel}
-use Rattle.do_network.specs.Counting.{counted, packet_of}
-use Rattle.do_network.specs.Frames.{all_posted, frame_of}
-use Rattle.do_network.specs.Links.{Outbox, sending}
-use Rattle.do_network.specs.Own.{Own}
-use Rattle.do_effects.specs.Doing.{Doing, does}
-use Rattle.do_effects.specs.declared.changing.Core.{Core}
+use Rattle.do_machine.specs.declared.{item.Item.Item, node.Node.Node, state.Parcel.Parcel}
+use Rattle.do_network.specs.{Counting.{counted, packet_of}, Frames.{all_posted, frame_of}}
+use Rattle.do_network.specs.{Links.{Outbox, sending}, Own.Own}
+use Rattle.do_effects.specs.{Doing.{Doing, does}, declared.changing.Core.Core}
 use Rattle.do_effects.specs.Room.{HasRoom, IsWithin, PartHasRoom, PartKeepsRoom, to_name, to_send}
 use Rattle.do_effects.specs.Sends.{GivesNothingUp, names_counted, sends, sends_with}
 

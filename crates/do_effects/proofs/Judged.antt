@@ -1,35 +1,26 @@
 -- What the ruling on an item says of the item.
-use Rattle.std.proofs.Common.{◌≡◌, ℕ, Bool, true, false, List, [], ◌∷◌, IsSome, Result, Ok, Err}
-use Rattle.std.proofs.Common.{refl}
-use Rattle.std.proofs.Common.{ap, sym, ◌∙◌, ◌++◌, fold, map, is_some, if◌then◌else◌}
-use Rattle.std.proofs.lemmas.Bool.{false≢true}
-use Rattle.do_base.specs.names.Names.{TokenName}
-use Rattle.do_base.specs.declared.events.exception.Exc.{Exc}
-use Rattle.do_base.specs.declared.events.shown.Shown.{Shown}
-use Rattle.do_behave.specs.declared.invocation.Invocation.{Invocation}
-use Rattle.do_behave.specs.declared.invocation.Reason.{Reason}
-use Rattle.do_class.specs.declared.ids.MethodId.{MethodId}
 use Rattle.do_behave.specs.declared.invocation.Reason.TheVariants as reasons
-use Rattle.do_machine.specs.declared.item.Item.{Item}
 use Rattle.do_machine.specs.declared.item.Item.TheVariants as items
+use Rattle.do_rules.specs.declared.take.ruling.Ruling.TheVariants as rulings
+use Rattle.std.proofs.Common.{◌≡◌, ℕ, Bool, true, false, List, [], ◌∷◌, IsSome, Result, Ok, Err}
+use Rattle.std.proofs.Common.{refl, ap, sym, ◌∙◌, ◌++◌, fold, map, is_some, if◌then◌else◌}
+use Rattle.std.proofs.lemmas.Bool.{false≢true}
+use Rattle.do_base.specs.{names.Names.TokenName, declared.events.exception.Exc.Exc}
+use Rattle.do_base.specs.declared.events.shown.Shown.{Shown}
+use Rattle.do_behave.specs.declared.invocation.{Invocation.Invocation, Reason.Reason}
+use Rattle.do_class.specs.declared.ids.MethodId.{MethodId}
+use Rattle.do_machine.specs.declared.item.Item.{Item}
 use Rattle.do_export.specs.Counts.{Counts}
 use Rattle.do_machine.specs.Context.{Context, own_class}
 use Rattle.do_import.specs.ByObject.{added}
 use Rattle.do_machine.specs.Effect.{showing, ◌>>=◌}
 use Rattle.do_machine.specs.Items.{Released, exported, is_exported, named_as, naming}
-use Rattle.do_machine.specs.take.Requests.{admission}
-use Rattle.do_machine.specs.take.Receipt.{arrived}
-use Rattle.do_machine.specs.take.Take.{holding, is_waiting}
-use Rattle.do_network.specs.Counting.{got, item_classes, packet_of, with_class}
-use Rattle.do_network.specs.Frames.{amount_of}
+use Rattle.do_machine.specs.take.{Requests.admission, Receipt.arrived, Take.{holding, is_waiting}}
+use Rattle.do_network.specs.{Counting.{got, item_classes, packet_of, with_class}, Frames.amount_of}
 use Rattle.do_packet.specs.declared.receipt.Made.{Made}
-use Rattle.do_rules.specs.Ruling.{admitted, ruled, ruling}
-use Rattle.do_rules.specs.declared.take.ruling.Ruling.{Ruling}
-use Rattle.do_rules.specs.declared.take.ruling.Ruling.TheVariants as rulings
-use Rattle.do_effects.specs.Doing.{Doing, effected, moved}
-use Rattle.do_effects.specs.Sends.{GivesNothingUp}
-use Rattle.do_effects.specs.Taking.{on_message, takes}
-use Rattle.do_effects.proofs.Alone.{line_first}
+use Rattle.do_rules.specs.{Ruling.{admitted, ruled, ruling}, declared.take.ruling.Ruling.Ruling}
+use Rattle.do_effects.specs.{Doing.{Doing, effected, moved}, Sends.GivesNothingUp}
+use Rattle.do_effects.{specs.Taking.{on_message, takes}, proofs.Alone.line_first}
 
 -- a ruling on a message is on an item that has one
 pub has_message : (g : Context) (from : ℕ) (item : Item) → on_message (ruling g from item) ≡ true →

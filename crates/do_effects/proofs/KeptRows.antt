@@ -1,14 +1,11 @@
 -- Maps by entries of which those stay whose keys pass a test.
+use Rattle.std.specs.FinMap as map
 use Rattle.std.proofs.Common.{◌≡◌, ℕ, Bool, true, false, cond, Option, Some, None, List, [], ◌∷◌}
 use Rattle.std.proofs.Common.{is_some, fold, refl, ap, sym, ◌∙◌}
-use Rattle.std.specs.FinMap as map
-use Rattle.std.specs.FinMap.{get-insert, same_map}
-use Rattle.std.specs.Option.{unwrap_or}
-use Rattle.std.specs.Ordering.{eq_by_cmp}
+use Rattle.std.specs.{FinMap.{get-insert, same_map}, Option.unwrap_or, Ordering.eq_by_cmp}
 use Rattle.do_base.specs.names.Names.{ObjectName}
 use Rattle.do_class.specs.declared.ids.ClassId.{ClassId}
-use Rattle.do_export.specs.Counts.{entry_cmp}
-use Rattle.do_export.proofs.Order.{entry_same, entry_total}
+use Rattle.do_export.{specs.Counts.entry_cmp, proofs.Order.{entry_same, entry_total}}
 use Rattle.do_import.specs.ByObject.{ClassMap, first_kept}
 use Rattle.do_network.specs.Counting.{Classed, with_class}
 use Rattle.do_effects.proofs.TidyCounts.{kept_get, tied}

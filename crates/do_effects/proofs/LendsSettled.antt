@@ -1,30 +1,18 @@
 -- What is sent where lends are over.
-use Rattle.std.proofs.Common.{◌≡◌, ℕ, Bool, true, false, List, [], ◌∷◌, ◌++◌, refl, ap, sym, ◌∙◌}
-use Rattle.std.specs.Prelude.{fold, if◌then◌else◌, map, not}
-use Rattle.std.proofs.lemmas.List.{append-nil}
-use Rattle.do_base.specs.declared.events.shown.Shown.{Shown}
-use Rattle.do_base.specs.names.Names.{ObjectName, TokenName}
-use Rattle.do_export.specs.Counts.{Counts, raised}
 use Rattle.do_frames.specs.declared.frame.Frame.TheVariants as frames
 use Rattle.do_machine.specs.declared.item.Item.TheVariants as items
-use Rattle.do_machine.specs.declared.node.Node.{Node}
-use Rattle.do_machine.specs.declared.node.Wanted.{Wanted}
-use Rattle.do_machine.specs.declared.state.Effect.{Effect}
-use Rattle.do_machine.specs.declared.state.Parcel.{Parcel}
-use Rattle.do_machine.specs.Chain.{when◌then◌}
-use Rattle.do_machine.specs.Effect.{each, only, queueing}
-use Rattle.do_machine.specs.State.{is_open}
-use Rattle.do_machine.specs.ends.Closing.{asked_of, closing, parted, serials_of}
-use Rattle.do_machine.specs.lend.Asking.{settling, wanted}
+use Rattle.std.proofs.Common.{◌≡◌, ℕ, Bool, true, false, List, [], ◌∷◌, ◌++◌, refl, ap, sym, ◌∙◌}
+use Rattle.std.{specs.Prelude.{fold, if◌then◌else◌, map, not}, proofs.lemmas.List.append-nil}
+use Rattle.do_base.specs.{declared.events.shown.Shown.Shown, names.Names.{ObjectName, TokenName}}
+use Rattle.do_export.specs.Counts.{Counts, raised}
+use Rattle.do_machine.specs.declared.{node.{Node.Node, Wanted.Wanted}, state.Effect.Effect}
+use Rattle.do_machine.specs.{declared.state.Parcel.Parcel, Chain.when◌then◌, Effect.{each, only}}
+use Rattle.do_machine.specs.{Effect.queueing, State.is_open, ends.Closing.{asked_of, closing}}
+use Rattle.do_machine.specs.{ends.Closing.{parted, serials_of}, lend.Asking.{settling, wanted}}
 use Rattle.do_network.specs.Counting.{counted, named_to, of_held, of_known, over_open_ends}
-use Rattle.do_network.specs.Frames.{Posted, all_posted}
-use Rattle.do_network.specs.Links.{Outbox, sending}
-use Rattle.do_network.specs.Own.{Own}
-use Rattle.do_effects.specs.Doing.{Doing, does}
-use Rattle.do_effects.specs.Settled.{settle_post, settle_posts}
-use Rattle.do_effects.specs.Tidy.{IsTidy}
-use Rattle.do_effects.proofs.NamesSent.{none_exported}
-use Rattle.do_effects.proofs.TidyCounts.{node_alone}
+use Rattle.do_network.specs.{Frames.{Posted, all_posted}, Links.{Outbox, sending}, Own.Own}
+use Rattle.do_effects.specs.{Doing.{Doing, does}, Settled.{settle_post, settle_posts}, Tidy.IsTidy}
+use Rattle.do_effects.proofs.{NamesSent.none_exported, TidyCounts.node_alone}
 
 -- what a lender is told, over an open end
 abbrev told : Node → TokenName → List Parcel

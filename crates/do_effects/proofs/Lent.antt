@@ -1,22 +1,14 @@
 -- Objects that a peer lent, received one at a time.
-use Rattle.std.proofs.Common.{◌≡◌, Bool, true, false, not, [], ◌∷◌, refl, ap, sym, ◌∙◌}
-use Rattle.std.proofs.Common.{cond, if◌then◌else◌}
-use Rattle.std.proofs.lemmas.Bool.{false≢true}
-use Rattle.do_base.specs.names.Names.{ObjectName, TokenName}
-use Rattle.do_class.specs.declared.ids.ClassId.{ClassId}
-use Rattle.do_class.specs.declared.packet.Name.TheVariants.{Lent}
 use Rattle.do_machine.specs.declared.item.Item.TheVariants as items
-use Rattle.do_machine.specs.declared.node.Node.{Node}
-use Rattle.do_machine.specs.declared.node.Wanted.{Wanted}
-use Rattle.do_machine.specs.Effect.{only, queueing}
-use Rattle.do_machine.specs.State.{is_open}
-use Rattle.do_machine.specs.lend.Asking.{settling, wanted}
+use Rattle.std.proofs.Common.{◌≡◌, Bool, true, false, not, [], ◌∷◌, refl, ap, sym, ◌∙◌, cond}
+use Rattle.std.proofs.{Common.if◌then◌else◌, lemmas.Bool.false≢true}
+use Rattle.do_base.specs.names.Names.{ObjectName, TokenName}
+use Rattle.do_class.specs.declared.{ids.ClassId.ClassId, packet.Name.TheVariants.Lent}
+use Rattle.do_machine.specs.{declared.node.{Node.Node, Wanted.Wanted}, Effect.{only, queueing}}
+use Rattle.do_machine.specs.{State.is_open, lend.Asking.{settling, wanted}}
 use Rattle.do_network.specs.Own.{Own}
-use Rattle.do_effects.specs.Doing.{Doing, does}
-use Rattle.do_effects.specs.Taking.{HasClasses, gains}
-use Rattle.do_effects.specs.Tidy.{IsTidy}
-use Rattle.do_effects.proofs.Alone.{does_tells}
-use Rattle.do_effects.proofs.NamesAlone.{closed_alone}
+use Rattle.do_effects.specs.{Doing.{Doing, does}, Taking.{HasClasses, gains}, Tidy.IsTidy}
+use Rattle.do_effects.proofs.{Alone.does_tells, NamesAlone.closed_alone}
 
 -- by a test that fails it is the second
 pub either_own : (b : Bool) (x y p : Own) → b ≡ false → p ≡ (if b then x else y) → p ≡ y

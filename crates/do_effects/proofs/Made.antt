@@ -1,13 +1,9 @@
 -- The name of an object that was made.
-use Rattle.std.proofs.Common.{◌≡◌, ◌&&◌, ◌<◌, ℕ, Bool, true, false, cond, eqb, List, [], ◌∷◌}
-use Rattle.std.proofs.Common.{◌++◌}
+use Rattle.std.proofs.Common.{◌≡◌, ◌&&◌, ◌<◌, ℕ, Bool, true, false, cond, eqb, List, [], ◌∷◌, ◌++◌}
 use Rattle.std.proofs.Common.{IsSome, Some, None, is_some, refl, ap, ◌∙◌, arith}
-use Rattle.do_base.specs.declared.values.value.Value.{Value}
-use Rattle.do_base.specs.declared.values.value.Value.TheVariants.{Obj}
+use Rattle.do_base.specs.declared.values.value.Value.{Value, TheVariants.Obj}
 use Rattle.do_class.specs.declared.ids.ClassId.{ClassId}
-use Rattle.do_machine.specs.declared.node.Node.{Node}
-use Rattle.do_machine.specs.declared.node.Stored.{Stored}
-use Rattle.do_machine.specs.State.{own, stored}
+use Rattle.do_machine.specs.{declared.node.{Node.Node, Stored.Stored}, State.{own, stored}}
 use Rattle.do_machine.specs.run.Fresh.{with_objects}
 use Rattle.do_part.specs.Names.{AreStored, values_of}
 use Rattle.do_store.proofs.Valued.{names-Obj}

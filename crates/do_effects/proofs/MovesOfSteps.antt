@@ -2,9 +2,7 @@
 use Rattle.std.proofs.Common.{◌≡◌, List, [], ◌∷◌, ◌++◌, refl, sym, append_assoc}
 use Rattle.std.specs.Prelude.{fold}
 use Rattle.do_machine.specs.declared.state.Effect.{Effect}
-use Rattle.do_network.specs.Frames.{Posted}
-use Rattle.do_network.specs.Links.{Outbox, sending}
-use Rattle.do_network.specs.Site.{site_move}
+use Rattle.do_network.specs.{Frames.Posted, Links.{Outbox, sending}, Site.site_move}
 use Rattle.do_effects.specs.Doing.{Doing, cleared, does, effected, moved}
 
 -- frames behind others are sent behind them

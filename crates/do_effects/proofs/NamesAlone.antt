@@ -1,38 +1,25 @@
 -- One name of a peer, received alone.
-use Rattle.std.proofs.Common.{◌≡◌, ◌||◌, ◌+◌, ℕ, Bool, true, false, List, [], ◌∷◌}
-use Rattle.std.proofs.Common.{refl, ap, sym, ◌∙◌, inl, inr}
-use Rattle.std.specs.List.{list_any}
-use Rattle.std.proofs.lemmas.List.{append-nil}
+use Rattle.do_frames.specs.declared.frame.Frame.TheVariants as frames
+use Rattle.std.proofs.Common.{◌≡◌, ◌||◌, ◌+◌, ℕ, Bool, true, false, List, [], ◌∷◌, refl, ap, sym}
+use Rattle.std.{proofs.Common.{◌∙◌, inl, inr}, specs.List.list_any, proofs.lemmas.List.append-nil}
 use Rattle.std.proofs.lemmas.List.Sorted.{list_any-IsPermutation}
 use Rattle.do_base.specs.names.Names.{ObjectName}
 use Rattle.do_class.specs.declared.ids.ClassId.{ClassId}
 use Rattle.do_class.specs.declared.packet.Name.TheVariants.{Lent, Mine, Yours}
-use Rattle.do_frames.specs.declared.frame.Frame.TheVariants as frames
 use Rattle.do_export.specs.Counts.{count_of}
 use Rattle.do_import.specs.ByObject.{added, first_kept, object_of}
-use Rattle.do_machine.specs.declared.node.Node.{Node}
-use Rattle.do_machine.specs.declared.node.Wanted.{Wanted}
-use Rattle.do_machine.specs.declared.state.Effect.{Effect}
-use Rattle.do_machine.specs.Effect.{each, ◌>>=◌}
-use Rattle.do_machine.specs.Objects.{object_at}
-use Rattle.do_machine.specs.State.{has_asked, holds, is_known, is_open}
-use Rattle.do_machine.specs.lend.Asking.{asking, same_wanted, wanted, wanted_lt}
-use Rattle.do_machine.specs.lend.Asking.{with_wanted}
-use Rattle.do_machine.specs.take.Receipt.{receiving_name}
-use Rattle.do_machine.specs.take.Take.{holding}
-use Rattle.do_machine.proofs.Bools.{or_cases, or_left, or_right}
-use Rattle.do_machine.proofs.Having.{has_joined_all}
-use Rattle.do_machine.proofs.Inserting.{inserted_moves}
-use Rattle.do_network.specs.Counting.{of_known}
-use Rattle.do_network.specs.Links.{sending}
+use Rattle.do_machine.specs.declared.{node.{Node.Node, Wanted.Wanted}, state.Effect.Effect}
+use Rattle.do_machine.specs.{Effect.{each, ◌>>=◌}, Objects.object_at, State.{has_asked, holds}}
+use Rattle.do_machine.specs.{State.{is_known, is_open}, lend.Asking.{asking, same_wanted, wanted}}
+use Rattle.do_machine.specs.{lend.Asking.{wanted_lt, with_wanted}, take.Receipt.receiving_name}
+use Rattle.do_machine.{specs.take.Take.holding, proofs.Bools.{or_cases, or_left, or_right}}
+use Rattle.do_machine.proofs.{Having.has_joined_all, Inserting.inserted_moves}
+use Rattle.do_network.specs.{Counting.of_known, Links.sending}
 use Rattle.do_packet.specs.Met.{has_object, same_object}
-use Rattle.do_effects.specs.Doing.{Doing, effected, moved}
-use Rattle.do_effects.specs.Taking.{HasClasses, gains, got_names}
-use Rattle.do_effects.specs.Tidy.{IsTidy}
-use Rattle.do_effects.proofs.KeptRows.{agree_dropped, first_stays, kept_agree, kept_there}
-use Rattle.do_effects.proofs.KeptRows.{put_kept}
-use Rattle.do_effects.proofs.NamesAsk.{and_first, same_self, closed_asking, asked_asking}
-use Rattle.do_effects.proofs.NamesAsk.{new_asking}
+use Rattle.do_effects.specs.{Doing.{Doing, effected, moved}, Taking.{HasClasses, gains, got_names}}
+use Rattle.do_effects.{specs.Tidy.IsTidy, proofs.KeptRows.{agree_dropped, first_stays, kept_agree}}
+use Rattle.do_effects.proofs.{KeptRows.{kept_there, put_kept}, NamesAsk.{and_first, same_self}}
+use Rattle.do_effects.proofs.NamesAsk.{closed_asking, asked_asking, new_asking}
 
 module _ (d : Doing) (from : ℕ) (tidy : IsTidy d.own) where
   -- an object of the peer is held, and counted as received once more

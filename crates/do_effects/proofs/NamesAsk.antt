@@ -1,19 +1,13 @@
 -- What receiving a name asks for, and what it leaves as it was.
+use Rattle.do_machine.specs.declared.item.Item.TheVariants as items
 use Rattle.std.proofs.Common.{◌≡◌, ℕ, Bool, true, false, not, List, [], ◌∷◌, eqb, eq-eqb, ◌&&◌}
-use Rattle.std.proofs.Common.{if◌then◌else◌, refl, ap, ◌∙◌}
-use Rattle.std.specs.List.{list_any}
-use Rattle.do_class.specs.declared.packet.Name.{Name}
-use Rattle.do_class.specs.declared.packet.Name.TheVariants.{Lent, Mine, Yours}
+use Rattle.std.{proofs.Common.{if◌then◌else◌, refl, ap, ◌∙◌}, specs.List.list_any}
+use Rattle.do_class.specs.declared.packet.Name.{Name, TheVariants.{Lent, Mine, Yours}}
 use Rattle.do_base.specs.names.Names.{ObjectName}
 use Rattle.do_packet.specs.Met.{same_object}
-use Rattle.do_machine.specs.declared.item.Item.TheVariants as items
-use Rattle.do_machine.specs.declared.node.Node.{Node}
-use Rattle.do_machine.specs.declared.node.Wanted.{Wanted}
-use Rattle.do_machine.specs.declared.state.Effect.{Effect}
-use Rattle.do_machine.specs.Effect.{each, only, queueing}
-use Rattle.do_machine.specs.State.{is_open}
-use Rattle.do_machine.specs.lend.Asking.{asking, same_wanted, wanted}
-use Rattle.do_machine.specs.lend.Asking.{with_wanted}
+use Rattle.do_machine.specs.declared.{node.{Node.Node, Wanted.Wanted}, state.Effect.Effect}
+use Rattle.do_machine.specs.{Effect.{each, only, queueing}, State.is_open}
+use Rattle.do_machine.specs.lend.Asking.{asking, same_wanted, wanted, with_wanted}
 use Rattle.do_machine.specs.take.Receipt.{receiving_name}
 
 -- an object is the one that it is

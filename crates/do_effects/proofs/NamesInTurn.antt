@@ -1,33 +1,23 @@
 -- Names of a peer's message that are received one after another.
-use Rattle.std.proofs.Common.{◌≡◌, ℕ, Bool, true, false, List, [], ◌∷◌}
-use Rattle.std.proofs.Common.{refl, ap, sym, ◌∙◌, fold}
+use Rattle.do_frames.specs.declared.frame.Frame.TheVariants as frames
+use Rattle.std.proofs.Common.{◌≡◌, ℕ, Bool, true, false, List, [], ◌∷◌, refl, ap, sym, ◌∙◌, fold}
 use Rattle.std.specs.List.{filter_map, list_any}
 use Rattle.do_base.specs.names.Names.{ObjectName}
-use Rattle.do_class.specs.declared.ids.ClassId.{ClassId}
-use Rattle.do_class.specs.declared.packet.Name.{Name}
+use Rattle.do_class.specs.declared.{ids.ClassId.ClassId, packet.Name.Name}
 use Rattle.do_class.specs.declared.packet.Name.TheVariants.{Lent, Mine, Yours}
-use Rattle.do_frames.specs.declared.frame.Frame.TheVariants as frames
 use Rattle.do_import.specs.ByObject.{ClassMap, first_kept, object_of}
-use Rattle.do_machine.specs.declared.node.Node.{Node}
-use Rattle.do_machine.specs.declared.node.Wanted.{Wanted}
-use Rattle.do_machine.specs.declared.state.Effect.{Effect}
-use Rattle.do_machine.specs.Effect.{each, ◌>>=◌}
-use Rattle.do_machine.specs.State.{is_known, is_open}
-use Rattle.do_machine.specs.lend.Asking.{asking, same_wanted, wanted}
-use Rattle.do_machine.specs.lend.Asking.{with_wanted}
-use Rattle.do_machine.specs.take.Receipt.{receiving_name}
-use Rattle.do_machine.specs.take.Take.{holding}
-use Rattle.do_network.specs.Counting.{classed_name, of_known, with_class}
-use Rattle.do_network.specs.Links.{sending}
+use Rattle.do_machine.specs.declared.{node.{Node.Node, Wanted.Wanted}, state.Effect.Effect}
+use Rattle.do_machine.specs.{Effect.{each, ◌>>=◌}, State.{is_known, is_open}}
+use Rattle.do_machine.specs.lend.Asking.{asking, same_wanted, wanted, with_wanted}
+use Rattle.do_machine.specs.take.{Receipt.receiving_name, Take.holding}
+use Rattle.do_network.specs.{Counting.{classed_name, of_known, with_class}, Links.sending}
 use Rattle.do_effects.specs.Doing.{Doing, effected, moved}
 use Rattle.do_effects.specs.Taking.{HasClasses, exports, gains, got_names, receiving_names}
-use Rattle.do_effects.specs.Tidy.{IsTidy}
-use Rattle.do_effects.proofs.Alone.{tidy_after}
+use Rattle.do_effects.{specs.Tidy.IsTidy, proofs.Alone.tidy_after}
 use Rattle.do_effects.proofs.KeptRows.{agree_all, agree_dropped, kept_agree, kept_there}
 use Rattle.do_effects.proofs.NamesAsk.{names_node, closed_asking, asked_asking, new_asking}
-use Rattle.do_effects.proofs.StaysUnknown.{stays_unknown}
-use Rattle.do_effects.proofs.NamesAlone.{mine_alone, yours_alone, closed_alone, asked_alone}
-use Rattle.do_effects.proofs.NamesAlone.{new_alone, asked_known}
+use Rattle.do_effects.proofs.{StaysUnknown.stays_unknown, NamesAlone.{mine_alone, yours_alone}}
+use Rattle.do_effects.proofs.NamesAlone.{closed_alone, asked_alone, new_alone, asked_known}
 
 module _ (d : Doing) (from : ℕ) (xs : List Name) (tidy : IsTidy d.own) (knows : HasClasses d.own)
     (opened : is_open d.own.node from ≡ true) where

@@ -1,28 +1,19 @@
 -- What a node counts of the names that it sends.
-use Rattle.std.proofs.Common.{◌≡◌, ℕ, suc, ◌+◌, true, List, [], ◌∷◌, length, refl, ap, sym}
-use Rattle.std.proofs.Common.{◌∙◌}
-use Rattle.std.proofs.Common.{append_assoc, arith}
-use Rattle.std.specs.Prelude.{None, Some, fold, map}
+use Rattle.do_machine.specs.declared.item.Item.TheVariants as items
+use Rattle.std.proofs.Common.{◌≡◌, ℕ, suc, ◌+◌, true, List, [], ◌∷◌, length, refl, ap, sym, ◌∙◌}
+use Rattle.std.{proofs.Common.{append_assoc, arith}, specs.Prelude.{None, Some, fold, map}}
 use Rattle.std.proofs.lemmas.List.{append-nil}
 use Rattle.do_base.specs.names.Names.{ObjectName}
-use Rattle.do_class.specs.declared.packet.Name.{Name}
-use Rattle.do_class.specs.declared.packet.Name.TheVariants.{Lent, Mine, Yours}
+use Rattle.do_class.specs.declared.packet.Name.{Name, TheVariants.{Lent, Mine, Yours}}
 use Rattle.do_class.specs.declared.packet.Packet.{Packet}
 use Rattle.do_export.specs.Counts.{Counts, raised}
-use Rattle.do_machine.specs.declared.item.Item.{Item}
-use Rattle.do_machine.specs.declared.item.Item.TheVariants as items
-use Rattle.do_machine.specs.declared.node.Lend.{Lend}
-use Rattle.do_machine.specs.declared.node.Node.{Node}
-use Rattle.do_machine.specs.Items.{Released, exported, is_exported, name_naming, named_as}
-use Rattle.do_machine.specs.Items.{naming}
-use Rattle.do_machine.specs.State.{is_open}
-use Rattle.do_machine.specs.lend.Lending.{lend_of, lending, lends_of}
+use Rattle.do_machine.specs.declared.{item.Item.Item, node.{Lend.Lend, Node.Node}}
+use Rattle.do_machine.specs.Items.{Released, exported, is_exported, name_naming, named_as, naming}
+use Rattle.do_machine.specs.{State.is_open, lend.Lending.{lend_of, lending, lends_of}}
 use Rattle.std.specs.List.{filter_map}
-use Rattle.do_network.specs.Counting.{counted, of_held, of_known, over_open_ends}
-use Rattle.do_network.specs.Own.{Own}
+use Rattle.do_network.specs.{Counting.{counted, of_held, of_known, over_open_ends}, Own.Own}
 use Rattle.do_effects.specs.Named.{all_named_to, item_named_to, named_to}
-use Rattle.do_effects.specs.Sends.{CanNameAll, CanSend, sends, sends_with}
-use Rattle.do_effects.specs.Tidy.{IsTidy}
+use Rattle.do_effects.specs.{Sends.{CanNameAll, CanSend, sends, sends_with}, Tidy.IsTidy}
 use Rattle.do_effects.proofs.TidyCounts.{raised_open}
 
 -- one object named once more to a peer

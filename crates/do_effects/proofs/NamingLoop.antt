@@ -1,16 +1,12 @@
 -- Names that are sent one after another.
-use Rattle.std.proofs.Common.{◌≡◌, ℕ, ◌+◌, ◌≤◌, ◌^◌, true, List, ◌∷◌, length, refl, ap}
-use Rattle.std.proofs.Common.{◌∙◌}
-use Rattle.std.proofs.Common.{sym, subst, arith, drop, get_or, ◌<◌}
-use Rattle.std.proofs.lemmas.List.{drop_all, drop_more}
-use Rattle.do_class.specs.declared.packet.Name.{Name}
-use Rattle.do_class.specs.declared.packet.Name.TheVariants.{Lent, Mine, Yours}
+use Rattle.std.proofs.Common.{◌≡◌, ℕ, ◌+◌, ◌≤◌, ◌^◌, true, List, ◌∷◌, length, refl, ap, ◌∙◌, sym}
+use Rattle.std.proofs.{Common.{subst, arith, drop, get_or, ◌<◌}, lemmas.List.{drop_all, drop_more}}
+use Rattle.do_class.specs.declared.packet.Name.{Name, TheVariants.{Lent, Mine, Yours}}
 use Rattle.do_machine.specs.State.{is_open}
 use Rattle.do_network.specs.Own.{Own}
 use Rattle.do_part.specs.Owned.{Owned, Room}
-use Rattle.do_effects.specs.Named.{all_named_to, named_to}
-use Rattle.do_effects.specs.Room.{PartHasRoom, PartKeepsRoom, to_name}
-use Rattle.do_effects.specs.Sends.{CanName, CanNameAll, token_after}
+use Rattle.do_effects.specs.{Named.{all_named_to, named_to}, Room.{PartHasRoom, PartKeepsRoom}}
+use Rattle.do_effects.specs.{Room.to_name, Sends.{CanName, CanNameAll, token_after}}
 
 -- so many names were sent, these are left, and they still can be sent
 pub record IsNaming (to : ℕ) (whole left : List Name) (done : ℕ) (was : Owned) (p : Own)

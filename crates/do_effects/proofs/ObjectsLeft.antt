@@ -1,32 +1,23 @@
 -- How much a node frees and leaves.
+use Rattle.do_base.specs.declared.events.shown.Shown.TheVariants as shows
+use Rattle.do_machine.specs.declared.item.Item.TheVariants as items
 use Rattle.std.proofs.Common.{◌≡◌, ℕ, ◌≤◌, ◌==◌, Bool, true, false, cond, List, [], ◌∷◌, ◌++◌}
-use Rattle.std.proofs.Common.{length}
-use Rattle.std.proofs.Common.{ap, sym, subst, suc, zero, arith}
-use Rattle.std.specs.Prelude.{filter, fold, map, not}
-use Rattle.std.specs.List.{list_any}
+use Rattle.std.proofs.Common.{length, ap, sym, subst, suc, zero, arith}
+use Rattle.std.specs.{Prelude.{filter, fold, map, not}, List.list_any}
 use Rattle.std.proofs.lemmas.List.{append-nil, length-map}
 use Rattle.do_base.specs.names.Names.{ObjectName}
-use Rattle.do_base.specs.declared.events.shown.Shown.TheVariants as shows
 use Rattle.do_packet.specs.Met.{has_object}
-use Rattle.do_machine.specs.declared.item.Item.TheVariants as items
-use Rattle.do_machine.specs.State.{own}
-use Rattle.do_machine.specs.held.Kept.{kept, stays, struck, struck_by}
+use Rattle.do_machine.specs.{State.own, held.Kept.{kept, stays, struck, struck_by}}
 use Rattle.do_machine.specs.held.Refers.{node_objects}
 use Rattle.do_base.specs.declared.events.shown.Shown.{Shown}
-use Rattle.do_machine.specs.Objects.{object_at}
-use Rattle.do_machine.specs.declared.node.Node.{Node}
-use Rattle.do_machine.specs.declared.node.Stored.{Stored}
-use Rattle.do_machine.specs.declared.state.Parcel.{Parcel}
-use Rattle.do_machine.specs.ends.Closing.{asked_of}
+use Rattle.do_machine.specs.{Objects.object_at, declared.node.{Node.Node, Stored.Stored}}
+use Rattle.do_machine.specs.{declared.state.Parcel.Parcel, ends.Closing.asked_of}
 use Rattle.do_export.specs.Counts.{Counts}
 use Rattle.do_machine.specs.held.Leaving.{leaving}
-use Rattle.do_network.specs.Counting.{counted}
-use Rattle.do_network.specs.Frames.{Posted, all_posted, posted}
+use Rattle.do_network.specs.{Counting.counted, Frames.{Posted, all_posted, posted}}
 use Rattle.do_part.specs.Left.{given_up}
-use Rattle.do_network.specs.Links.{Outbox, sending}
-use Rattle.do_network.specs.Own.{Own, is_counted}
-use Rattle.do_effects.specs.Bounded.{HasNoMore}
-use Rattle.do_effects.specs.Doing.{Doing, cleared, moved}
+use Rattle.do_network.specs.{Links.{Outbox, sending}, Own.{Own, is_counted}}
+use Rattle.do_effects.specs.{Bounded.HasNoMore, Doing.{Doing, cleared, moved}}
 
 -- of a list at most all passes a test
 pub few_pass : {X : Type 0} (test : X → Bool) (xs : List X) → length (filter test xs) ≤ length xs

@@ -1,21 +1,16 @@
 -- Out values of an answer that go to locals one after another.
 use Rattle.std.proofs.Common.{◌≡◌, ◌+◌, ℕ, List, [], ◌∷◌, Option, Some, None, drop, suc, zero, refl}
-use Rattle.std.proofs.Common.{ap, sym}
-use Rattle.std.proofs.Common.{◌∙◌, ◌<◌, add-one, arith, length}
+use Rattle.std.proofs.Common.{ap, sym, ◌∙◌, ◌<◌, add-one, arith, length}
 use Rattle.std.specs.Prelude.{option_map, remove, slice_get, slice_set}
 use Rattle.do_base.specs.declared.values.value.Value.{Value}
-use Rattle.do_behave.specs.declared.invocation.Invocation.{Invocation}
-use Rattle.do_behave.specs.declared.invocation.InvState.TheVariants.{Running}
-use Rattle.do_machine.specs.declared.node.Node.{Node}
-use Rattle.do_machine.specs.held.Refers.{state_values}
-use Rattle.do_machine.specs.run.Changes.{goes_on, uses, with_outs}
-use Rattle.do_machine.specs.run.Fresh.{with_stack}
+use Rattle.do_behave.specs.declared.invocation.{Invocation.Invocation, InvState.TheVariants.Running}
+use Rattle.do_machine.specs.{declared.node.Node.Node, held.Refers.state_values}
+use Rattle.do_machine.specs.run.{Changes.{goes_on, uses, with_outs}, Fresh.with_stack}
 use Rattle.std.proofs.lemmas.List.Sums.{sum_by-cons}
 use Rattle.do_part.specs.Names.{AreStored, values_of}
 use Rattle.do_stack.specs.Waiting.{with_top as first_changed}
 use Rattle.do_store.specs.Names.{value_names}
-use Rattle.do_effects.specs.Outs.{out_at, uses_outs}
-use Rattle.do_effects.specs.Plans.{IsRunning, top_changed}
+use Rattle.do_effects.specs.{Outs.{out_at, uses_outs}, Plans.{IsRunning, top_changed}}
 
 -- a local, with the place at which an invocation goes on
 abbrev placed : Invocation → Option ℕ → Option (ℕ × ℕ)

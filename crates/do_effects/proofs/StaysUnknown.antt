@@ -1,21 +1,14 @@
 -- What does not become known by names of a peer.
-use Rattle.std.proofs.Common.{◌≡◌, ◌||◌, ℕ, Bool, true, false, List, [], ◌∷◌, eqb}
-use Rattle.std.proofs.Common.{refl, ap, sym, ◌∙◌, ◌&&◌}
-use Rattle.std.specs.List.{list_any}
+use Rattle.std.proofs.Common.{◌≡◌, ◌||◌, ℕ, Bool, true, false, List, [], ◌∷◌, eqb, refl, ap, sym}
+use Rattle.std.{proofs.Common.{◌∙◌, ◌&&◌}, specs.List.list_any}
 use Rattle.std.proofs.lemmas.List.Sorted.{list_any-IsPermutation}
 use Rattle.do_base.specs.names.Names.{ObjectName}
-use Rattle.do_class.specs.declared.packet.Name.{Name}
-use Rattle.do_class.specs.declared.packet.Name.TheVariants.{Lent, Mine, Yours}
-use Rattle.do_machine.specs.declared.node.Node.{Node}
-use Rattle.do_machine.specs.declared.node.Wanted.{Wanted}
-use Rattle.do_machine.specs.Effect.{each}
+use Rattle.do_class.specs.declared.packet.Name.{Name, TheVariants.{Lent, Mine, Yours}}
+use Rattle.do_machine.specs.{declared.node.{Node.Node, Wanted.Wanted}, Effect.each}
 use Rattle.do_machine.specs.State.{has_asked, holds, is_known, is_open}
-use Rattle.do_machine.specs.lend.Asking.{asking, same_wanted, wanted, wanted_lt}
-use Rattle.do_machine.specs.Lists.{inserted}
-use Rattle.do_machine.specs.take.Receipt.{receiving_name}
-use Rattle.do_machine.specs.take.Take.{holding}
-use Rattle.do_machine.proofs.Having.{has_joined_all}
-use Rattle.do_machine.proofs.Inserting.{inserted_moves}
+use Rattle.do_machine.specs.{lend.Asking.{asking, same_wanted, wanted, wanted_lt}, Lists.inserted}
+use Rattle.do_machine.specs.take.{Receipt.receiving_name, Take.holding}
+use Rattle.do_machine.proofs.{Having.has_joined_all, Inserting.inserted_moves}
 use Rattle.do_packet.specs.Met.{has_object, same_object}
 use Rattle.do_effects.specs.Taking.{exports, receiving_names}
 use Rattle.do_effects.proofs.NamesAsk.{asking_by, names_node, name_node}

@@ -1,43 +1,25 @@
 -- What the ruling on an item does, behind what comes in the item.
-use Rattle.std.proofs.Common.{◌≡◌, ℕ, List, [], ◌∷◌, ◌++◌, Option, Some, None, refl, ap, sym, ◌∙◌}
-use Rattle.std.proofs.Common.{◌≤◌, ◌==◌, not, length}
-use Rattle.std.proofs.lemmas.List.{append-nil}
-use Rattle.do_base.specs.declared.events.exception.Exc.{Exc}
-use Rattle.do_base.specs.declared.events.shown.Shown.{Shown}
-use Rattle.do_base.specs.declared.events.shown.Shown.TheVariants.{Raise}
-use Rattle.do_behave.specs.declared.invocation.Answer.{Answer}
-use Rattle.do_behave.specs.declared.invocation.Invocation.{Invocation}
-use Rattle.do_behave.specs.declared.invocation.Reason.{Reason}
 use Rattle.do_behave.specs.declared.invocation.Reason.TheVariants as reasons
 use Rattle.do_frames.specs.declared.frame.Frame.TheVariants as frames
-use Rattle.do_machine.specs.declared.item.Item.{Item}
 use Rattle.do_machine.specs.declared.item.Item.TheVariants as items
-use Rattle.do_machine.specs.declared.node.Node.{Node}
-use Rattle.do_machine.specs.declared.state.Effect.{Effect}
-use Rattle.do_machine.specs.Effect.{only, queueing, showing, ◌>>=◌}
-use Rattle.do_machine.specs.Items.{exported}
-use Rattle.do_machine.specs.ends.Closing.{closing, parted}
-use Rattle.do_machine.specs.run.Fresh.{pushed}
-use Rattle.do_machine.specs.take.Awaiting.{AnsweredCall}
-use Rattle.do_machine.specs.take.Take.{holding}
-use Rattle.do_network.specs.Counting.{got, packet_of}
-use Rattle.do_network.specs.Links.{sending}
+use Rattle.do_rules.specs.declared.take.ruling.Ruling.TheVariants as rulings
+use Rattle.std.proofs.Common.{◌≡◌, ℕ, List, [], ◌∷◌, ◌++◌, Option, Some, None, refl, ap, sym, ◌∙◌}
+use Rattle.std.proofs.{Common.{◌≤◌, ◌==◌, not, length}, lemmas.List.append-nil}
+use Rattle.do_base.specs.declared.events.{exception.Exc.Exc, shown.Shown.{Shown, TheVariants.Raise}}
+use Rattle.do_behave.specs.declared.invocation.{Answer.Answer, Invocation.Invocation, Reason.Reason}
+use Rattle.do_machine.specs.declared.{item.Item.Item, node.Node.Node, state.Effect.Effect}
+use Rattle.do_machine.specs.{Effect.{only, queueing, showing, ◌>>=◌}, Items.exported}
+use Rattle.do_machine.specs.{ends.Closing.{closing, parted}, run.Fresh.pushed}
+use Rattle.do_machine.specs.take.{Awaiting.AnsweredCall, Take.holding}
+use Rattle.do_network.specs.{Counting.{got, packet_of}, Links.sending}
 use Rattle.do_packet.specs.declared.receipt.Made.{Made}
 use Rattle.do_part.specs.Answers.{answered_with}
-use Rattle.do_rules.specs.Answering.{call_of}
-use Rattle.do_rules.specs.Ruling.{answering_with, gaining, ruled}
-use Rattle.do_rules.specs.declared.take.awaiting.Answered.{Answered}
-use Rattle.do_rules.specs.declared.take.ruling.Ruling.{Ruling}
-use Rattle.do_rules.specs.declared.take.ruling.Ruling.TheVariants as rulings
-use Rattle.do_effects.specs.Doing.{Doing, does, effected, moved}
-use Rattle.do_effects.specs.Sends.{sends}
-use Rattle.do_effects.specs.Taking.{gained, lent_by, takes}
-use Rattle.do_effects.specs.Tidy.{IsTidy}
-use Rattle.do_effects.proofs.Alone.{IsPlain, KeepsCounts, does_tells, lends_none, then_node}
-use Rattle.do_effects.proofs.Alone.{then_sends}
-use Rattle.do_effects.proofs.Did.{does_only}
-use Rattle.do_effects.proofs.Judged.{IsQuiet, quiet_takes}
-use Rattle.do_effects.proofs.ObjectsLeft.{few_pass}
+use Rattle.do_rules.specs.{Answering.call_of, Ruling.{answering_with, gaining, ruled}}
+use Rattle.do_rules.specs.declared.take.{awaiting.Answered.Answered, ruling.Ruling.Ruling}
+use Rattle.do_effects.specs.{Doing.{Doing, does, effected, moved}, Sends.sends}
+use Rattle.do_effects.{specs.{Taking.{gained, lent_by, takes}, Tidy.IsTidy}, proofs.Alone.IsPlain}
+use Rattle.do_effects.proofs.Alone.{KeepsCounts, does_tells, lends_none, then_node, then_sends}
+use Rattle.do_effects.proofs.{Did.does_only, Judged.{IsQuiet, quiet_takes}, ObjectsLeft.few_pass}
 
 -- an exception that goes back names nothing
 pub raised_plain : (to number : ℕ) (e : Exc) → IsPlain to (items.Raised number e)

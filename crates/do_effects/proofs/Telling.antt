@@ -1,14 +1,10 @@
 -- A core that tells peers and its user of one thing after another.
 use Rattle.std.proofs.Common.{◌≡◌, ℕ, ◌+◌, ◌<◌, ◌≤◌, List, ◌∷◌, ◌++◌, [], ap, arith, drop, get_or}
-use Rattle.std.proofs.Common.{length}
-use Rattle.std.proofs.Common.{refl, sym, ◌∙◌, append_assoc, map}
-use Rattle.std.specs.Prelude.{fold}
+use Rattle.std.{proofs.Common.{length, refl, sym, ◌∙◌, append_assoc, map}, specs.Prelude.fold}
 use Rattle.std.proofs.lemmas.List.{append-nil, drop_all, drop_more}
-use Rattle.do_network.specs.Frames.{Posted}
-use Rattle.do_network.specs.Links.{Outbox, sending}
+use Rattle.do_network.specs.{Frames.Posted, Links.{Outbox, sending}}
 use Rattle.do_base.specs.declared.events.shown.Shown.{Shown}
-use Rattle.do_effects.specs.declared.changing.Core.{Core}
-use Rattle.do_effects.proofs.MovesOfSteps.{fold_behind}
+use Rattle.do_effects.{specs.declared.changing.Core.Core, proofs.MovesOfSteps.fold_behind}
 
 -- so many of these were told
 pub record IsTelling (done whole : ℕ) (was now : Core) : Type 0 where

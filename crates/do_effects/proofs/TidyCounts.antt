@@ -1,20 +1,15 @@
 -- Counts that are kept, and how an effect keeps them.
-use Rattle.std.proofs.Common.{◌≡◌, ℕ, Bool, true, false, cond, List, [], refl, ap}
-use Rattle.std.proofs.Common.{sym, ◌∙◌, Option, Some, None, ◌+◌, T, subst}
-use Rattle.std.specs.Option.{unwrap_or}
-use Rattle.std.specs.Ordering.{eq_by_cmp, is_eq}
-use Rattle.std.specs.declared.cmp.Ordering.{Ordering}
-use Rattle.std.specs.declared.cmp.Ordering.TheVariants.{Less, Equal, Greater}
 use Rattle.std.specs.FinMap as map
+use Rattle.std.proofs.Common.{◌≡◌, ℕ, Bool, true, false, cond, List, [], refl, ap, sym, ◌∙◌, Option}
+use Rattle.std.proofs.Common.{Some, None, ◌+◌, T, subst}
+use Rattle.std.specs.{Option.unwrap_or, Ordering.{eq_by_cmp, is_eq}, declared.cmp.Ordering.Ordering}
+use Rattle.std.specs.declared.cmp.Ordering.TheVariants.{Less, Equal, Greater}
 use Rattle.std.specs.FinMap.{get-insert, get-retain_keys, same_map}
 use Rattle.do_base.specs.declared.events.shown.Shown.{Shown}
 use Rattle.do_export.specs.Counts.{Counts, count_of, entry_cmp, raised}
 use Rattle.do_export.proofs.Order.{entry_same, entry_total}
-use Rattle.do_machine.specs.declared.node.Node.{Node}
-use Rattle.do_machine.specs.declared.state.Effect.{Effect}
-use Rattle.do_machine.specs.State.{is_open}
-use Rattle.do_network.specs.Counting.{counted, of_held, of_known, over_open_ends}
-use Rattle.do_network.specs.Own.{Own}
+use Rattle.do_machine.specs.{declared.{node.Node.Node, state.Effect.Effect}, State.is_open}
+use Rattle.do_network.specs.{Counting.{counted, of_held, of_known, over_open_ends}, Own.Own}
 use Rattle.do_effects.specs.Tidy.{IsTidy}
 
 module _ {V : Type 0} (m : map.FinMap entry_cmp V) (p : ℕ × ℕ → Bool) where

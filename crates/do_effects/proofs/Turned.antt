@@ -1,15 +1,11 @@
 -- The top invocation changed, as the definitions of a run say it and as a node's own state does it.
 use Rattle.std.proofs.Common.{◌≡◌, ℕ, List, [], ◌∷◌, ap, sym}
 use Rattle.do_base.specs.declared.values.value.Value.{Value}
-use Rattle.do_behave.specs.Changes.{meaning}
-use Rattle.do_behave.specs.InPlace.{after_act}
+use Rattle.do_behave.specs.{Changes.meaning, InPlace.after_act}
 use Rattle.do_behave.specs.declared.change.Change.TheVariants.{Local}
 use Rattle.do_behave.specs.declared.invocation.Invocation.{Invocation}
-use Rattle.do_machine.specs.declared.node.Node.{Node}
-use Rattle.do_machine.specs.Context.{RunContext}
-use Rattle.do_machine.specs.run.Changes.{goes_on}
-use Rattle.do_machine.specs.run.Delivery.{with_top}
-use Rattle.do_machine.specs.run.Fresh.{with_stack}
+use Rattle.do_machine.specs.{declared.node.Node.Node, Context.RunContext, run.Changes.goes_on}
+use Rattle.do_machine.specs.run.{Delivery.with_top, Fresh.with_stack}
 use Rattle.do_stack.specs.Waiting.{with_top as changed_first}
 use Rattle.do_effects.specs.Plans.{IsRun, IsRunning, top_changed}
 

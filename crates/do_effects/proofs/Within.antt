@@ -2,9 +2,7 @@
 use Rattle.std.proofs.Common.{◌≡◌, ◌≤◌, ◌+◌, ◌∙◌, ℕ, List, [], arith}
 use Rattle.do_packet.specs.declared.receipt.Made.{Made}
 use Rattle.do_streams.specs.Streamed.{Streamed}
-use Rattle.do_effects.specs.Room.{IsWithin, to_tell}
-use Rattle.do_effects.specs.Taking.{to_gain}
-use Rattle.do_effects.specs.declared.changing.Core.{Core}
+use Rattle.do_effects.specs.{Room.{IsWithin, to_tell}, Taking.to_gain, declared.changing.Core.Core}
 
 -- a core whose streams alone changed took no more than what was told
 pub told_within : (many : ℕ) (c : Core) (later : Streamed) →

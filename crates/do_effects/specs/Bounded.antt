@@ -1,8 +1,7 @@
 -- What a step tells and keeps at most.
 use Rattle.std.specs.Prelude.{length, ◌+◌, ◌≡◌, ◌≤◌}
 use Rattle.do_machine.specs.declared.node.Node.{Node}
-use Rattle.do_effects.specs.Room.{Needs}
-use Rattle.do_effects.specs.declared.changing.Core.{Core}
+use Rattle.do_effects.specs.{Room.Needs, declared.changing.Core.Core}
 
 -- a core came of another: no more objects are stored, held and asked for, and no more is told, and
 -- the links read by the same classes, with as many places

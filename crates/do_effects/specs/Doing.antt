@@ -1,13 +1,9 @@
 -- A site while it does a step: what an effect does to it, and what it then leaves.
 use Rattle.std.specs.Prelude.{List, fold, ◌++◌}
 use Rattle.do_base.specs.declared.events.shown.Shown.{Shown}
-use Rattle.do_machine.specs.declared.state.Effect.{Effect}
-use Rattle.do_machine.specs.held.Leaving.{leaving}
-use Rattle.do_network.specs.Counting.{counted}
-use Rattle.do_network.specs.Frames.{all_posted}
-use Rattle.do_network.specs.Links.{Outbox, sending}
-use Rattle.do_network.specs.Own.{Own, is_counted}
-use Rattle.do_network.specs.Site.{Move}
+use Rattle.do_machine.specs.{declared.state.Effect.Effect, held.Leaving.leaving}
+use Rattle.do_network.specs.{Counting.counted, Frames.all_posted, Links.{Outbox, sending}}
+use Rattle.do_network.specs.{Own.{Own, is_counted}, Site.Move}
 use Rattle.do_streams.specs.Streamed.{outbox}
 use Rattle.do_effects.specs.declared.changing.Core.{Core}
 

@@ -1,17 +1,12 @@
 -- What a message names, one name after another: to the peer that it is sent to, and at the node
 -- that it comes to.
-use Rattle.std.specs.Prelude.{List, [], fold, if◌then◌else◌, ℕ, ◌∷◌}
-use Rattle.std.specs.List.{list_any}
-use Rattle.do_class.specs.declared.packet.Name.{Name}
-use Rattle.do_class.specs.declared.packet.Name.TheVariants.{Lent, Mine, Yours}
+use Rattle.std.specs.{Prelude.{List, [], fold, if◌then◌else◌, ℕ, ◌∷◌}, List.list_any}
+use Rattle.do_class.specs.declared.packet.Name.{Name, TheVariants.{Lent, Mine, Yours}}
 use Rattle.do_export.specs.Counts.{raised}
 use Rattle.do_import.specs.ByObject.{added, first_kept}
-use Rattle.do_machine.specs.declared.item.Item.{Item}
-use Rattle.do_machine.specs.declared.item.Item.TheVariants.{Granted}
-use Rattle.do_machine.specs.Objects.{joined, object_at}
-use Rattle.do_machine.specs.State.{is_open}
-use Rattle.do_machine.specs.lend.Asking.{same_wanted, wanted, with_wanted}
-use Rattle.do_machine.specs.lend.Lending.{lending}
+use Rattle.do_machine.specs.declared.item.Item.{Item, TheVariants.Granted}
+use Rattle.do_machine.specs.{Objects.{joined, object_at}, State.is_open}
+use Rattle.do_machine.specs.lend.{Asking.{same_wanted, wanted, with_wanted}, Lending.lending}
 use Rattle.do_network.specs.Own.{Own}
 use Rattle.do_effects.specs.Sends.{names_sent}
 

@@ -1,8 +1,7 @@
 -- The out values of an answer, one after another.
 use Rattle.std.specs.Prelude.{List, None, Option, [], drop, option_map, slice_get, ℕ, ◌∷◌}
 use Rattle.do_base.specs.declared.values.value.Value.{Value}
-use Rattle.do_behave.specs.declared.invocation.Invocation.{Invocation}
-use Rattle.do_behave.specs.declared.invocation.InvState.TheVariants.{Running}
+use Rattle.do_behave.specs.declared.invocation.{Invocation.Invocation, InvState.TheVariants.Running}
 use Rattle.do_machine.specs.run.Changes.{with_outs}
 
 -- an invocation with the values that come out from a place on

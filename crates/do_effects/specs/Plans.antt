@@ -1,39 +1,23 @@
 -- What a plan does, and when it can be carried out.
-use Rattle.std.specs.Prelude.{List, [], length, ◌+◌, ◌-◌, ◌<◌, ◌≡◌, ◌≤◌, ◌^◌, ◌∷◌, ℕ}
-use Rattle.std.specs.Prelude.{false, true}
-use Rattle.do_base.specs.declared.values.value.Value.{Value}
-use Rattle.do_base.specs.declared.values.value.Value.TheVariants.{Obj}
-use Rattle.do_behave.specs.declared.invocation.Invocation.{Invocation}
-use Rattle.do_behave.specs.declared.invocation.InvState.TheVariants.{Below, Running}
-use Rattle.do_machine.specs.declared.item.Item.{Item}
-use Rattle.do_machine.specs.declared.node.Node.{Node}
-use Rattle.do_machine.specs.declared.state.Effect.{Effect}
-use Rattle.do_machine.specs.declared.verdict.Request.{Request}
-use Rattle.do_machine.specs.Context.{RunContext}
-use Rattle.do_machine.specs.Effect.{only}
-use Rattle.do_machine.specs.State.{is_open, own}
-use Rattle.do_machine.specs.held.Refers.{answer_values}
-use Rattle.do_machine.specs.run.Changes.{goes_on, stands}
-use Rattle.do_machine.specs.run.Delivery.{with_top}
-use Rattle.do_machine.specs.run.Fresh.{pushed, with_objects, with_stack}
-use Rattle.do_machine.specs.run.Verdicts.{effect_of}
-use Rattle.do_machine.specs.take.Take.{is_waiting}
 use Rattle.do_machine.specs.declared.item.Item.TheVariants as items
 use Rattle.do_machine.specs.declared.verdict.Request.TheVariants as requests
 use Rattle.do_machine.specs.declared.verdict.Verdict.TheVariants as verdicts
-use Rattle.do_part.specs.Names.{AreStored, sizes_of, values_of}
-use Rattle.do_part.specs.Rooting.{root_of}
-use Rattle.do_rules.specs.Delivery.{delivered}
-use Rattle.do_rules.specs.declared.run.delivery.Delivery.{Delivery}
 use Rattle.do_rules.specs.declared.run.delivery.Delivery.TheVariants as deliveries
-use Rattle.do_stack.specs.Uses.{invocation_values}
-use Rattle.do_stack.specs.Waiting.{with_top as changed_first}
-use Rattle.do_effects.specs.Doing.{doing, does}
-use Rattle.do_effects.specs.Room.{HasRoom, Needs, to_send, to_tell}
-use Rattle.do_effects.specs.Sends.{CanSend, names_counted}
-use Rattle.do_effects.specs.Tidy.{IsTidy}
-use Rattle.do_effects.specs.declared.changing.Core.{Core}
-use Rattle.do_effects.specs.declared.plan.Plan.{Plan}
+use Rattle.std.specs.Prelude.{List, [], length, ◌+◌, ◌-◌, ◌<◌, ◌≡◌, ◌≤◌, ◌^◌, ◌∷◌, ℕ, false, true}
+use Rattle.do_base.specs.declared.values.value.Value.{Value, TheVariants.Obj}
+use Rattle.do_behave.specs.declared.invocation.Invocation.{Invocation}
+use Rattle.do_behave.specs.declared.invocation.InvState.TheVariants.{Below, Running}
+use Rattle.do_machine.specs.declared.{item.Item.Item, node.Node.Node, state.Effect.Effect}
+use Rattle.do_machine.specs.{declared.verdict.Request.Request, Context.RunContext, Effect.only}
+use Rattle.do_machine.specs.{State.{is_open, own}, held.Refers.answer_values, run.Changes.goes_on}
+use Rattle.do_machine.specs.run.{Changes.stands, Delivery.with_top, Fresh.{pushed, with_objects}}
+use Rattle.do_machine.specs.{run.{Fresh.with_stack, Verdicts.effect_of}, take.Take.is_waiting}
+use Rattle.do_part.specs.{Names.{AreStored, sizes_of, values_of}, Rooting.root_of}
+use Rattle.do_rules.specs.{Delivery.delivered, declared.run.delivery.Delivery.Delivery}
+use Rattle.do_stack.specs.{Uses.invocation_values, Waiting.with_top as changed_first}
+use Rattle.do_effects.specs.{Doing.{doing, does}, Room.{HasRoom, Needs, to_send, to_tell}}
+use Rattle.do_effects.specs.{Sends.{CanSend, names_counted}, Tidy.IsTidy}
+use Rattle.do_effects.specs.declared.{changing.Core.Core, plan.Plan.Plan}
 use Rattle.do_effects.specs.declared.plan.Plan.TheVariants.{Asks, Begins, Delivers, Goes, Makes}
 use Rattle.do_effects.specs.declared.plan.Plan.TheVariants.{Says, Tells, Uses, Vends}
 

@@ -2,8 +2,7 @@
 use Rattle.std.specs.Prelude.{length, ℕ, ◌+◌, ◌≡◌, ◌≤◌}
 use Rattle.do_machine.specs.declared.item.Item.{Item}
 use Rattle.do_part.specs.Owned.{Room}
-use Rattle.do_effects.specs.Sends.{names_counted}
-use Rattle.do_effects.specs.declared.changing.Core.{Core}
+use Rattle.do_effects.specs.{Sends.names_counted, declared.changing.Core.Core}
 
 -- so many objects, invocations, names and entries, and so many frames and lines
 pub record Needs : Type 0 where

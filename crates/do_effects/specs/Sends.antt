@@ -1,21 +1,13 @@
 -- What a node does that sends one item, and which items it can send.
 use Rattle.std.specs.Prelude.{IsSome, List, None, Option, Some, [], length, option_map, unwrap_or}
-use Rattle.std.specs.Prelude.{ℕ}
-use Rattle.std.specs.Prelude.{◌+◌, ◌∷◌, ◌≡◌, ◌≢◌}
-use Rattle.do_class.specs.declared.packet.Name.{Name}
-use Rattle.do_class.specs.declared.packet.Name.TheVariants.{Lent, Mine, Yours}
+use Rattle.std.specs.Prelude.{ℕ, ◌+◌, ◌∷◌, ◌≡◌, ◌≢◌}
+use Rattle.do_class.specs.declared.packet.Name.{Name, TheVariants.{Lent, Mine, Yours}}
 use Rattle.do_class.specs.declared.packet.Packet.{Packet}
 use Rattle.do_export.specs.Counts.{Counts}
-use Rattle.do_machine.specs.declared.item.Item.{Item}
-use Rattle.do_machine.specs.declared.item.Item.TheVariants.{Granted}
-use Rattle.do_machine.specs.declared.node.Node.{Node}
-use Rattle.do_machine.specs.declared.node.Stored.{Stored}
-use Rattle.do_machine.specs.declared.state.Effect.{Effect}
-use Rattle.do_machine.specs.Effect.{queueing}
-use Rattle.do_machine.specs.State.{stored}
-use Rattle.do_machine.specs.lend.Lending.{posting}
-use Rattle.do_network.specs.Counting.{packet_of}
-use Rattle.do_network.specs.Frames.{amount_of}
+use Rattle.do_machine.specs.declared.{item.Item.{Item, TheVariants.Granted}, node.Node.Node}
+use Rattle.do_machine.specs.{declared.{node.Stored.Stored, state.Effect.Effect}, Effect.queueing}
+use Rattle.do_machine.specs.{State.stored, lend.Lending.posting}
+use Rattle.do_network.specs.{Counting.packet_of, Frames.amount_of}
 
 -- an item is queued, and what its message names of third nodes is lent, where it has one
 abbrev pub sends_with : Option Packet → ℕ → Item → Node → Effect

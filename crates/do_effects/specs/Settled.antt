@@ -1,9 +1,8 @@
 -- The frames that tell lenders that their lends are over.
+use Rattle.do_frames.specs.declared.frame.Frame.TheVariants as frames
 use Rattle.std.specs.Prelude.{List, [], if◌then◌else◌, not, ◌++◌, ◌∷◌}
 use Rattle.do_base.specs.names.Names.{TokenName}
-use Rattle.do_frames.specs.declared.frame.Frame.TheVariants as frames
-use Rattle.do_machine.specs.declared.node.Node.{Node}
-use Rattle.do_machine.specs.State.{is_open}
+use Rattle.do_machine.specs.{declared.node.Node.Node, State.is_open}
 use Rattle.do_network.specs.Frames.{Posted}
 
 -- the frame that tells a lender, where the end towards it is open

@@ -1,46 +1,30 @@
 -- What taking an item does to a node, and when it can be done.
+use Rattle.std.specs.FinMap as map
 use Rattle.std.specs.Prelude.{Bool, List, None, Option, Some, [], false, fold, length}
 use Rattle.std.specs.Prelude.{map as mapped, if◌then◌else◌, true, ℕ, ◌+◌, ◌<◌, ◌≡◌, ◌∷◌}
-use Rattle.std.specs.FinMap as map
 use Rattle.std.specs.List.{filter_map, list_any}
-use Rattle.do_base.specs.names.Names.{ObjectName}
-use Rattle.do_base.specs.declared.events.shown.Shown.{Shown}
+use Rattle.do_base.specs.{names.Names.ObjectName, declared.events.shown.Shown.Shown}
 use Rattle.do_base.specs.declared.values.value.Value.{Value}
 use Rattle.do_class.specs.declared.packet.Name.{Name}
 use Rattle.do_import.specs.ByObject.{added}
-use Rattle.do_machine.specs.declared.item.Item.{Item}
-use Rattle.do_machine.specs.declared.item.Item.TheVariants.{Granted}
-use Rattle.do_machine.specs.declared.node.Node.{Node}
-use Rattle.do_machine.specs.declared.node.Wanted.{Wanted}
-use Rattle.do_machine.specs.declared.state.Effect.{Effect}
-use Rattle.do_machine.specs.Context.{Context}
+use Rattle.do_machine.specs.declared.{item.Item.{Item, TheVariants.Granted}, node.Node.Node}
+use Rattle.do_machine.specs.{declared.{node.Wanted.Wanted, state.Effect.Effect}, Context.Context}
 use Rattle.do_machine.specs.Effect.{each, showing, ◌>>=◌}
 use Rattle.do_machine.specs.Items.{exported, is_exported, name_naming, named_as}
-use Rattle.do_machine.specs.State.{is_known, is_open}
-use Rattle.do_machine.specs.declared.node.Lend.{Lend}
+use Rattle.do_machine.specs.{State.{is_known, is_open}, declared.node.Lend.Lend}
 use Rattle.do_class.specs.declared.packet.Packet.{Packet}
-use Rattle.do_machine.specs.lend.Asking.{same_wanted, without_wanted}
-use Rattle.do_machine.specs.lend.Lending.{lends_of}
-use Rattle.do_machine.specs.run.Fresh.{with_objects}
-use Rattle.do_machine.specs.take.Receipt.{receiving_name}
-use Rattle.do_machine.specs.take.Take.{holding}
-use Rattle.do_network.specs.Counting.{classed_name, got, of_known, packet_of}
-use Rattle.do_network.specs.Counting.{with_class}
-use Rattle.do_network.specs.Own.{Own}
+use Rattle.do_machine.specs.lend.{Asking.{same_wanted, without_wanted}, Lending.lends_of}
+use Rattle.do_machine.specs.{run.Fresh.with_objects, take.{Receipt.receiving_name, Take.holding}}
+use Rattle.do_network.specs.{Counting.{classed_name, got, of_known, packet_of, with_class}, Own.Own}
 use Rattle.do_packet.specs.declared.receipt.Made.{Made}
-use Rattle.do_part.specs.Filled.{made_values}
-use Rattle.do_part.specs.Names.{AreStored, sizes_of, values_of}
+use Rattle.do_part.specs.{Filled.made_values, Names.{AreStored, sizes_of, values_of}}
 use Rattle.do_rules.specs.Ruling.{gaining, names_in, ruled, ruling}
 use Rattle.do_rules.specs.declared.take.ruling.Ruling.{Ruling}
 use Rattle.do_rules.specs.declared.take.ruling.Ruling.TheVariants.{Answers, Begins, Closes, EndsAsk}
-use Rattle.do_rules.specs.declared.take.ruling.Ruling.TheVariants.{Refuses}
-use Rattle.do_rules.specs.declared.take.ruling.Ruling.TheVariants.{Replies}
-use Rattle.do_stack.specs.Answered.{values_taken}
-use Rattle.do_stack.specs.Uses.{invocation_values}
-use Rattle.do_effects.specs.Doing.{Doing, effected, moved}
-use Rattle.do_effects.specs.Plans.{CanSendTo, to_keep}
-use Rattle.do_effects.specs.Room.{HasRoom, Needs, to_send, to_tell}
-use Rattle.do_effects.specs.Tidy.{IsTidy}
+use Rattle.do_rules.specs.declared.take.ruling.Ruling.TheVariants.{Refuses, Replies}
+use Rattle.do_stack.specs.{Answered.values_taken, Uses.invocation_values}
+use Rattle.do_effects.specs.{Doing.{Doing, effected, moved}, Plans.{CanSendTo, to_keep}}
+use Rattle.do_effects.specs.{Room.{HasRoom, Needs, to_send, to_tell}, Tidy.IsTidy}
 use Rattle.do_effects.specs.declared.changing.Core.{Core}
 
 -- ---- what taking does

@@ -1,7 +1,6 @@
 -- A node that counts nothing that it does not keep.
 use Rattle.std.specs.Prelude.{◌≡◌}
-use Rattle.do_network.specs.Counting.{of_held, of_known, over_open_ends}
-use Rattle.do_network.specs.Own.{Own}
+use Rattle.do_network.specs.{Counting.{of_held, of_known, over_open_ends}, Own.Own}
 
 -- it counts names over open ends alone, how often it received what it holds, and the classes of
 -- what it holds or asked for

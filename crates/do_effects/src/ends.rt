@@ -1,15 +1,12 @@
 //! An end that closes, and what a node leaves after a step.
 ghost use Rattle.std.specs.Prelude.{◌≡◌, ◌≤◌, ◌+◌, ◌++◌, fold, length, map, true, vec_capacity};
 ghost use Rattle.do_leaving.specs.Left.{free_shown};
-ghost use Rattle.do_machine.specs.State.{is_open};
-ghost use Rattle.do_machine.specs.ends.Closing.{closing, parted};
+ghost use Rattle.do_machine.specs.{State.is_open, ends.Closing.{closing, parted}};
 ghost use Rattle.do_network.specs.Links.{sending};
 ghost use Rattle.do_part.specs.Left.{given_up};
 ghost use Rattle.do_streams.specs.Streamed.{outbox};
-ghost use Rattle.do_effects.specs.Bounded.{HasNoMore};
-ghost use Rattle.do_effects.specs.Settled.{settle_posts};
-ghost use Rattle.do_effects.specs.Doing.{cleared, doing, does, moved};
-ghost use Rattle.do_effects.specs.Tidy.{IsTidy};
+ghost use Rattle.do_effects.specs.{Bounded.HasNoMore, Settled.settle_posts};
+ghost use Rattle.do_effects.specs.{Doing.{cleared, doing, does, moved}, Tidy.IsTidy};
 
 use crate::changing::Core;
 use do_base::{NodeId, Oid, Shown, Token};

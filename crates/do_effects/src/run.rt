@@ -2,16 +2,12 @@
 mod running;
 
 ghost use Rattle.std.specs.Prelude.{◌≡◌, ◌<◌, ◌-◌, ◌^◌, length};
-ghost use Rattle.do_machine.specs.Effect.{queueing, showing};
-ghost use Rattle.do_machine.specs.run.Verdicts.{awaited_after};
+ghost use Rattle.do_machine.specs.{Effect.{queueing, showing}, run.Verdicts.awaited_after};
 ghost use Rattle.do_part.specs.Names.{AreStored, values_of};
 ghost use Rattle.do_rules.specs.Delivery.{delivered};
 ghost use Rattle.do_effects.specs.Plans.{CanCarryOut, CanDeliver, CanSendTo, Did, IsRunning};
 ghost use Rattle.do_effects.specs.Plans.{delivery_needs, delivery_values, plan_effect, plan_needs};
-ghost use Rattle.do_effects.specs.Plans.{requested};
-ghost use Rattle.do_effects.specs.Bounded.{IsBounded};
-ghost use Rattle.do_effects.specs.Room.{HasRoom};
-ghost use Rattle.do_effects.specs.Tidy.{IsTidy};
+ghost use Rattle.do_effects.specs.{Plans.requested, Bounded.IsBounded, Room.HasRoom, Tidy.IsTidy};
 
 use crate::changing::Core;
 use crate::plan::Plan;

@@ -6,11 +6,8 @@ ghost use Rattle.do_machine.specs.lend.Asking.{settling, wanted};
 ghost use Rattle.do_effects.specs.Doing.{doing, does};
 ghost use Rattle.do_effects.specs.Named.{all_named_to, item_named_to, named_to};
 ghost use Rattle.do_effects.specs.Room.{HasRoom, IsWithin, PartHasRoom, PartKeepsRoom, to_name};
-ghost use Rattle.do_effects.specs.Room.{to_send};
-ghost use Rattle.do_effects.specs.Room.{to_tell};
-ghost use Rattle.do_effects.specs.Sends.{CanName, CanNameAll, CanSend, GivesNothingUp};
-ghost use Rattle.do_effects.specs.Sends.{names_counted, sends};
-ghost use Rattle.do_effects.specs.Tidy.{IsTidy};
+ghost use Rattle.do_effects.specs.{Room.{to_send, to_tell}, Sends.{CanName, CanNameAll, CanSend}};
+ghost use Rattle.do_effects.specs.{Sends.{GivesNothingUp, names_counted, sends}, Tidy.IsTidy};
 
 use crate::changing::Core;
 use crate::framing::frame_of;

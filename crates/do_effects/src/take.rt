@@ -1,15 +1,12 @@
 //! The ruling on an item that is taken, carried out.
 mod receiving;
 
-ghost use Rattle.std.specs.Prelude.{◌≡◌, ◌≤◌, ◌<◌, IsOk, OnOk, OnErr, false};
-ghost use Rattle.std.specs.Prelude.{length, true, vec_capacity};
-ghost use Rattle.std.specs.List.{list_any};
-ghost use Rattle.do_effects.specs.Doing.{doing};
-ghost use Rattle.do_effects.specs.Taking.{CanTake, ended_own, is_granted, on_message, takes};
-ghost use Rattle.do_effects.specs.Taking.{taking_needs};
+ghost use Rattle.std.specs.Prelude.{◌≡◌, ◌≤◌, ◌<◌, IsOk, OnOk, OnErr, false, length, true};
+ghost use Rattle.std.specs.{Prelude.vec_capacity, List.list_any};
+ghost use Rattle.do_effects.specs.{Doing.doing, Taking.{CanTake, ended_own, is_granted}};
+ghost use Rattle.do_effects.specs.Taking.{on_message, takes, taking_needs};
 ghost use Rattle.do_machine.specs.lend.Asking.{same_wanted};
-ghost use Rattle.do_effects.specs.Bounded.{IsBounded};
-ghost use Rattle.do_effects.specs.Tidy.{IsTidy};
+ghost use Rattle.do_effects.specs.{Bounded.IsBounded, Tidy.IsTidy};
 
 use crate::changing::Core;
 use do_base::{Exc, NodeId, Shown, Token};

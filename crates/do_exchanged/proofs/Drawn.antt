@@ -1,24 +1,17 @@
 -- A network from which an input took what it takes.
-use Rattle.std.proofs.Common.{◌≡◌, ◌==◌, ◌++◌, ℕ, Bool, true, false, cond, List, [], ◌∷◌}
-use Rattle.std.proofs.Common.{refl, sym, ap, ◌∙◌, subst, append_assoc, append-nil, drop}
-use Rattle.std.specs.Prelude.{Some, option_map}
-use Rattle.std.proofs.lemmas.Bool.{eqb-true}
-use Rattle.do_frames.specs.Pieces.{some_frame, stream_of}
-use Rattle.do_frames.specs.declared.frame.RawFrame.{RawFrame}
-use Rattle.do_network.specs.declared.input.Done.{Done}
-use Rattle.do_network.specs.declared.input.Done.TheVariants.{Closed, Moved, Skipped}
-use Rattle.do_network.specs.declared.input.Input.{Input}
-use Rattle.do_network.specs.declared.input.Input.TheVariants.{Ended, Frame}
-use Rattle.do_network.specs.Links.{Link}
-use Rattle.do_network.specs.Net.{Carried, Channel, Lost, Net, Place, Whole}
-use Rattle.do_network.specs.Net.{change_place, channel_to, place_at, with_channel}
-use Rattle.do_network.specs.Step.{advanced, with_loss}
+use Rattle.std.proofs.Common.{◌≡◌, ◌==◌, ◌++◌, ℕ, Bool, true, false, cond, List, [], ◌∷◌, refl, sym}
+use Rattle.std.proofs.Common.{ap, ◌∙◌, subst, append_assoc, append-nil, drop}
+use Rattle.std.{specs.Prelude.{Some, option_map}, proofs.lemmas.Bool.eqb-true}
+use Rattle.do_frames.specs.{Pieces.{some_frame, stream_of}, declared.frame.RawFrame.RawFrame}
+use Rattle.do_network.specs.declared.input.Done.{Done, TheVariants.{Closed, Moved, Skipped}}
+use Rattle.do_network.specs.{declared.input.Input.{Input, TheVariants.{Ended, Frame}}, Links.Link}
+use Rattle.do_network.specs.Net.{Carried, Channel, Lost, Net, Place, Whole, change_place}
+use Rattle.do_network.specs.{Net.{channel_to, place_at, with_channel}, Step.{advanced, with_loss}}
 use Rattle.do_agreement.proofs.places.KeyedLists.{found_changed, found_elsewhere}
 use Rattle.do_agreement.proofs.places.PlacesChanged.{place_elsewhere, place_here, some_is}
 use Rattle.do_agreement.proofs.places.Numbers.{same_number}
 use Rattle.do_serve.specs.Rules.{Outgoing}
-use Rattle.do_exchanged.specs.Exchange.{frame_from}
-use Rattle.do_exchanged.proofs.Flows.{Flows, whole}
+use Rattle.do_exchanged.{specs.Exchange.frame_from, proofs.Flows.{Flows, whole}}
 
 -- A place was this before: its site is the same, what it sent to others is as it was, and of what
 -- it sent to the port the input took a frame at most

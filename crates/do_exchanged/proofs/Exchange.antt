@@ -1,49 +1,38 @@
 -- Nodes that exchange their bytes do what the one machine does.
+use Rattle.do_network.specs.declared.input.Input.TheVariants as inputs
+use Rattle.do_sched.specs.declared.line.Line.TheVariants as lines
+use Rattle.do_serve.specs.Rules as rules_of
 use Rattle.std.proofs.Common.{◌≡◌, ◌==◌, ◌<◌, ◌+◌, ◌*◌, ◌++◌, ℕ, zero, suc, Bool, true, false, cond}
-use Rattle.std.proofs.Common.{List, [], ◌∷◌, length, map, refl, sym, ap, ◌∙◌, subst, inl, inr, arith}
-use Rattle.std.specs.Prelude.{None, Option, Some, not, slice_get, slice_set}
-use Rattle.std.specs.List.{AllByRecursion}
-use Rattle.std.proofs.lemmas.List.{length-append}
+use Rattle.std.proofs.Common.{List, [], ◌∷◌, length, map, refl, sym, ap, ◌∙◌, subst, inl, inr}
+use Rattle.std.{proofs.Common.arith, specs.Prelude.{None, Option, Some, not, slice_get, slice_set}}
+use Rattle.std.{specs.List.AllByRecursion, proofs.lemmas.List.length-append}
 use Rattle.do_base.specs.declared.events.event.Event.{Event}
 use Rattle.do_class.specs.Class.{Class}
 use Rattle.do_facts.proofs.EachOfLists.{each_joined}
-use Rattle.do_frames.specs.Pieces.{stream_of}
-use Rattle.do_frames.specs.declared.frame.RawFrame.{RawFrame}
+use Rattle.do_frames.specs.{Pieces.stream_of, declared.frame.RawFrame.RawFrame}
 use Rattle.do_limits.proofs.values.Starting.{lines_start}
 use Rattle.do_limits.specs.SendableActs.{AllStartSendable, KeepsSendable, StartsSendable}
-use Rattle.do_machine.specs.World.{IsWorld, opening}
-use Rattle.do_machine.specs.declared.state.Seat.{Seat}
-use Rattle.do_machine.specs.run.Run.{Acting}
+use Rattle.do_machine.specs.{World.{IsWorld, opening}, declared.state.Seat.Seat, run.Run.Acting}
 use Rattle.do_machine.specs.take.Take.{can_take}
 use Rattle.do_net.specs.Seen.{Seen, at_rest}
-use Rattle.do_network.proofs.EnabledIsDone.{enabled_done}
-use Rattle.do_network.specs.declared.input.Done.{Done}
-use Rattle.do_network.specs.declared.input.Done.TheVariants.{Closed, Moved, Skipped}
-use Rattle.do_network.specs.declared.input.Input.{Input}
-use Rattle.do_network.specs.declared.input.Input.TheVariants as inputs
-use Rattle.do_network.specs.laws.Sites.{IsDone}
-use Rattle.do_network.specs.Net.{place_at}
-use Rattle.do_network.specs.Site.{Handled, enabled_input}
+use Rattle.do_network.{proofs.EnabledIsDone.enabled_done, specs.declared.input.Done.Done}
+use Rattle.do_network.specs.declared.input.{Done.TheVariants.{Closed, Moved, Skipped}, Input.Input}
+use Rattle.do_network.specs.{laws.Sites.IsDone, Net.place_at, Site.{Handled, enabled_input}}
 use Rattle.do_agreement.proofs.places.Numbers.{same_number}
 use Rattle.do_record.specs.declared.parts.Record.{Record}
-use Rattle.do_sched.specs.declared.line.Line.TheVariants as lines
 use Rattle.do_serve.specs.Hosting.{site_rules}
-use Rattle.do_serve.specs.Rules as rules_of
-use Rattle.do_weave.specs.Orders.{CanBeDone, HasOrder}
-use Rattle.do_weave.specs.Threads.{threads_of}
+use Rattle.do_weave.specs.{Orders.{CanBeDone, HasOrder}, Threads.threads_of}
 use Rattle.do_weave.proofs.Left.{order_of_all}
 use Rattle.do_recorded.specs.Inputs.{IsServed, blocks_of, line_by, with_block}
 use Rattle.do_exchanged.specs.Exchange.{Doing, HasExchange, TakesGiven, frame_from, having_done}
 use Rattle.do_exchanged.specs.Runs.{Exchanged, Ran, beginning, inputs_in, record_of_run}
-use Rattle.do_exchanged.proofs.Flows.{Flows, whole}
-use Rattle.do_exchanged.proofs.Inputs.{Did, close_did, end_did, frame_did, net, rules, run_did}
-use Rattle.do_exchanged.proofs.Inputs.{sender, apart, start_did, state}
+use Rattle.do_exchanged.proofs.{Flows.{Flows, whole}, Inputs.{Did, close_did, end_did, frame_did}}
+use Rattle.do_exchanged.proofs.Inputs.{net, rules, run_did, sender, apart, start_did, state}
 use Rattle.do_exchanged.proofs.Known.{Known, Stands, after_input, comes_to, done_is, known_still}
 use Rattle.do_exchanged.proofs.Known.{known_then, looked, skipped_is, with_after}
 use Rattle.do_exchanged.proofs.Opening.{from_map, nodes, opening_known, opening_left, records}
-use Rattle.do_exchanged.proofs.Spellings.{next_taken}
-use Rattle.do_exchanged.proofs.Threads.{Left, Thread, all_ended, left_still, left_then, then_threads, turn}
-use Rattle.do_exchanged.proofs.Threads.{turn_agrees, turn_is}
+use Rattle.do_exchanged.proofs.{Spellings.next_taken, Threads.{Left, Thread, all_ended, left_still}}
+use Rattle.do_exchanged.proofs.Threads.{left_then, then_threads, turn, turn_agrees, turn_is}
 use Rattle.do_exchanged.proofs.Walk.{most_events}
 
 -- what holds of all elements holds of each

@@ -1,27 +1,19 @@
 -- What a site sends stands in its channels, and its bytes behind those that it sent before.
 use Rattle.std.proofs.Common.{◌≡◌, ◌==◌, ◌++◌, ℕ, Bool, true, false, cond, List, [], ◌∷◌, map}
 use Rattle.std.proofs.Common.{filter, fold, refl, sym, ap, ◌∙◌, subst, append_assoc, append-nil}
-use Rattle.std.specs.Prelude.{None, Option, Some, find, option_map}
-use Rattle.std.specs.List.{flat_map}
-use Rattle.std.proofs.lemmas.Bool.{eqb-true}
-use Rattle.std.proofs.lemmas.Grind.{flat_map-append}
-use Rattle.std.proofs.lemmas.List.{map-append}
+use Rattle.std.specs.{Prelude.{None, Option, Some, find, option_map}, List.flat_map}
+use Rattle.std.proofs.lemmas.{Bool.eqb-true, Grind.flat_map-append, List.map-append}
 use Rattle.std.proofs.lemmas.List.Elements.{filter-append}
-use Rattle.do_frames.specs.declared.frame.Frame.{Frame}
-use Rattle.do_frames.specs.declared.frame.RawFrame.{RawFrame}
-use Rattle.do_frames.specs.Frames.{raw, raw_spelling}
-use Rattle.do_frames.specs.Pieces.{some_frame, stream_of}
-use Rattle.do_frames.specs.Streams.{hello}
-use Rattle.do_network.specs.Frames.{Posted}
-use Rattle.do_network.specs.Links.{Framed, Greeting, Link, Outbox, Piece, Sending, all_sent}
-use Rattle.do_network.specs.Links.{change_link, link_to, piece_bytes, sending, sendings}
+use Rattle.do_frames.specs.{declared.frame.{Frame.Frame, RawFrame.RawFrame}, Frames.raw}
+use Rattle.do_frames.specs.{Frames.raw_spelling, Pieces.{some_frame, stream_of}, Streams.hello}
+use Rattle.do_network.specs.{Frames.Posted, Links.{Framed, Greeting, Link, Outbox, Piece, Sending}}
+use Rattle.do_network.specs.Links.{all_sent, change_link, link_to, piece_bytes, sending, sendings}
 use Rattle.do_network.specs.Net.{Carried, Channel, Whole, change_channel}
 use Rattle.do_network.specs.Step.{carrying, with_sending}
 use Rattle.do_agreement.proofs.channels.SendsCarried.{sent_over}
 use Rattle.do_agreement.proofs.places.KeyedLists.{fold_behind, found_changed, found_elsewhere}
 use Rattle.do_agreement.proofs.places.Numbers.{same_number}
-use Rattle.do_serve.specs.Hosting.{outgoing}
-use Rattle.do_serve.specs.Rules.{Outgoing}
+use Rattle.do_serve.specs.{Hosting.outgoing, Rules.Outgoing}
 use Rattle.do_exchanged.specs.Exchange.{bytes_for}
 use Rattle.do_exchanged.proofs.Spellings.{some_more, stream_first, stream_more}
 

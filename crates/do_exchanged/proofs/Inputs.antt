@@ -1,51 +1,36 @@
 -- An input of a site is done by the events that its record stands for.
-use Rattle.std.proofs.Common.{◌≡◌, ◌==◌, ◌<◌, ◌≤◌, ◌+◌, ◌++◌, ℕ, Bool, true, false, cond, not}
-use Rattle.std.proofs.Common.{List, [], ◌∷◌, length, refl, sym, ap, ◌∙◌, append_assoc, arith}
-use Rattle.std.specs.Prelude.{None, Option, Some, is_some, nat_lt, option_and_then}
-use Rattle.std.specs.Prelude.{option_map, slice_get, unwrap_or}
-use Rattle.std.proofs.lemmas.Bool.{and_parts, eqb-true}
-use Rattle.std.proofs.lemmas.Bool.Decides.{nat_tests}
-use Rattle.std.proofs.lemmas.List.{length-append}
-use Rattle.do_base.specs.declared.events.event.Event.{Event}
 use Rattle.do_base.specs.declared.events.event.Event.TheVariants as events
-use Rattle.do_base.specs.declared.values.value.Value.{Value}
+use Rattle.do_network.specs.declared.input.Done.TheVariants as done
+use Rattle.do_network.specs.declared.input.Input.TheVariants as inputs
+use Rattle.do_record.specs.declared.parts.RecordLine.TheVariants as records
+use Rattle.std.proofs.Common.{◌≡◌, ◌==◌, ◌<◌, ◌≤◌, ◌+◌, ◌++◌, ℕ, Bool, true, false, cond, not, List}
+use Rattle.std.proofs.Common.{[], ◌∷◌, length, refl, sym, ap, ◌∙◌, append_assoc, arith}
+use Rattle.std.specs.Prelude.{None, Option, Some, is_some, nat_lt, option_and_then, option_map}
+use Rattle.std.specs.Prelude.{slice_get, unwrap_or}
+use Rattle.std.proofs.lemmas.{Bool.{and_parts, eqb-true, Decides.nat_tests}, List.length-append}
+use Rattle.do_base.specs.declared.{events.event.Event.Event, values.value.Value.Value}
 use Rattle.do_class.specs.Class.{Class}
-use Rattle.do_facts.proofs.EachOfLists.{each_joined}
-use Rattle.do_facts.specs.Reached.{reached}
+use Rattle.do_facts.{proofs.EachOfLists.each_joined, specs.Reached.reached}
 use Rattle.do_frames.specs.declared.frame.RawFrame.{RawFrame}
 use Rattle.do_limits.specs.SendableActs.{AllStartSendable, KeepsSendable, StartsSendable}
-use Rattle.do_machine.specs.Lists.{some_passes}
-use Rattle.do_machine.specs.State.{is_open, node}
-use Rattle.do_machine.specs.Step.{step}
-use Rattle.do_machine.specs.World.{IsWorld}
-use Rattle.do_machine.specs.declared.node.Node.{Node}
-use Rattle.do_machine.specs.declared.state.Effect.{Effect}
-use Rattle.do_machine.specs.declared.state.Seat.{Seat}
-use Rattle.do_machine.specs.declared.state.State.{State}
-use Rattle.do_machine.specs.declared.state.Stepped.{Stepped}
-use Rattle.do_machine.specs.run.Run.{Acting}
+use Rattle.do_machine.specs.{Lists.some_passes, State.{is_open, node}, Step.step, World.IsWorld}
+use Rattle.do_machine.specs.declared.{node.Node.Node, state.{Effect.Effect, Seat.Seat, State.State}}
+use Rattle.do_machine.specs.{declared.state.Stepped.Stepped, run.Run.Acting}
 use Rattle.do_machine.specs.take.Take.{can_serve, can_take}
 use Rattle.do_trace.specs.declared.outcome.Outcome.{Outcome}
-use Rattle.do_network.specs.declared.input.Done.TheVariants as done
-use Rattle.do_network.specs.declared.input.Input.{Input}
-use Rattle.do_network.specs.declared.input.Input.TheVariants as inputs
-use Rattle.do_network.specs.Links.{Part}
+use Rattle.do_network.specs.{declared.input.Input.Input, Links.Part}
 use Rattle.do_network.specs.Net.{Carried, Channel, Lost, Net, Place, Whole, change_place, channel}
 use Rattle.do_network.specs.Net.{channel_to, part_at, place_at, with_channel}
 use Rattle.do_network.specs.Site.{Handled, enabled_input, moves, passed}
 use Rattle.do_network.specs.Step.{NetStepped, advanced, hands, input_of, net_moved, net_skipped}
-use Rattle.do_network.specs.Step.{net_stays, net_step, with_loss}
-use Rattle.do_network.proofs.FramesRead.{fits_taken}
-use Rattle.do_agreement.proofs.agreement.AgreesFits.{fits_so}
-use Rattle.do_agreement.proofs.agreement.GoesOn.{Goes}
+use Rattle.do_network.{specs.Step.{net_stays, net_step, with_loss}, proofs.FramesRead.fits_taken}
+use Rattle.do_agreement.proofs.agreement.{AgreesFits.fits_so, GoesOn.Goes}
 use Rattle.do_agreement.proofs.places.KeyedLists.{changed_twice, found_changed}
 use mathlib.Core.Path.{fun_ext}
 use Rattle.do_agreement.proofs.places.PlacesChanged.{place_elsewhere, place_here, place_twice}
 use Rattle.do_agreement.proofs.places.PlacesChanged.{some_is}
 use Rattle.do_record.specs.declared.parts.RecordLine.{RecordLine}
-use Rattle.do_record.specs.declared.parts.RecordLine.TheVariants as records
-use Rattle.do_weave.specs.Inputs.{ending, tried, tried_step}
-use Rattle.do_weave.specs.Rules.{Rules}
+use Rattle.do_weave.specs.{Inputs.{ending, tried, tried_step}, Rules.Rules}
 use Rattle.do_within.specs.Received.{net_reached}
 use Rattle.do_recorded.specs.Inputs.{line_by}
 use Rattle.do_exchanged.specs.Exchange.{frame_from}

@@ -1,25 +1,19 @@
 -- What is known of nodes and of the network that does what they did.
-use Rattle.std.proofs.Common.{◌≡◌, ◌≢◌, ◌==◌, ◌++◌, ◌⊎◌, ℕ, Bool, true, false, List, [], map}
-use Rattle.std.proofs.Common.{refl, sym, ap, ◌∙◌, subst, inl, inr, append-nil, arith}
+use Rattle.std.proofs.Common.{◌≡◌, ◌≢◌, ◌==◌, ◌++◌, ◌⊎◌, ℕ, Bool, true, false, List, [], map, refl}
+use Rattle.std.proofs.Common.{sym, ap, ◌∙◌, subst, inl, inr, append-nil, arith}
 use Rattle.std.specs.Prelude.{None, Option, Some, slice_get, slice_set, unwrap_or}
-use Rattle.std.proofs.lemmas.Bool.{cases_eq, eqb-true}
-use Rattle.std.proofs.lemmas.Bool.Decides.{nat_tests}
+use Rattle.std.proofs.lemmas.Bool.{cases_eq, eqb-true, Decides.nat_tests}
 use mathlib.Core.Path.{fun_ext}
 use Rattle.do_class.specs.Class.{Class}
 use Rattle.do_machine.specs.run.Run.{Acting}
 use Rattle.do_net.specs.Seen.{Seen, at_rest}
-use Rattle.do_network.specs.declared.input.Input.{Input}
-use Rattle.do_network.specs.Net.{Net, Place, place_at}
-use Rattle.do_network.specs.Site.{Handled, enabled_input, passed}
-use Rattle.do_network.specs.Step.{net_moved, place_after}
+use Rattle.do_network.specs.{declared.input.Input.Input, Net.{Net, Place, place_at}}
+use Rattle.do_network.specs.{Site.{Handled, enabled_input, passed}, Step.{net_moved, place_after}}
 use Rattle.do_agreement.proofs.places.PlacesChanged.{place_elsewhere, place_here, some_is}
-use Rattle.do_serve.specs.Hosting.{outgoing, site_moved, site_rules}
-use Rattle.do_serve.specs.Rules.{Moved}
+use Rattle.do_serve.specs.{Hosting.{outgoing, site_moved, site_rules}, Rules.Moved}
 use Rattle.do_weave.proofs.Places.{get_set_other, get_set_same}
 use Rattle.do_exchanged.specs.Exchange.{Doing, frame_from, having_done}
-use Rattle.do_exchanged.proofs.Drawn.{Drawn}
-use Rattle.do_exchanged.proofs.Flows.{Flows}
-use Rattle.do_exchanged.proofs.Sites.{input_flows, input_sends}
+use Rattle.do_exchanged.proofs.{Drawn.Drawn, Flows.Flows, Sites.{input_flows, input_sends}}
 
 -- ports that differ
 apart_numbers : (n m : ℕ) → n ≢ m → (n == m) ≡ false

@@ -1,37 +1,29 @@
 -- What is known as a world opens, and what is left of its nodes' records.
+use Rattle.do_weave.specs.Threads as threads
 use Rattle.std.proofs.Common.{◌≡◌, ◌==◌, ◌+◌, ◌<◌, ◌||◌, ℕ, zero, suc, Bool, true, false, cond}
-use Rattle.std.proofs.Common.{List, [], ◌∷◌, length, map, get_or, refl, sym, ap, ◌∙◌, subst}
-use Rattle.std.proofs.Common.{inl, inr, arith}
+use Rattle.std.proofs.Common.{List, [], ◌∷◌, length, map, get_or, refl, sym, ap, ◌∙◌, subst, inl}
+use Rattle.std.proofs.Common.{inr, arith}
 use Rattle.std.specs.Prelude.{None, Option, Some, find, nat_eq, option_map, slice_get}
-use Rattle.std.specs.List.{Contains, IsDistinct, list_any}
-use Rattle.std.specs.List.Sorted.{IsPermutation}
-use Rattle.std.proofs.lemmas.Bool.{both_ways, cases_order, eq-eqb, eqb-true}
-use Rattle.std.proofs.lemmas.Bool.Decides.{nat_tests}
+use Rattle.std.specs.List.{Contains, IsDistinct, list_any, Sorted.IsPermutation}
+use Rattle.std.proofs.lemmas.Bool.{both_ways, cases_order, eq-eqb, eqb-true, Decides.nat_tests}
 use Rattle.std.proofs.lemmas.List.Sorted.{Contains-permutation, IsPermutation-map}
 use Rattle.std.proofs.lemmas.List.Sorted.{IsPermutation-sym, IsPermutation-trans}
 use Rattle.std.proofs.lemmas.List.Sorted.{list_any-IsPermutation}
 use Rattle.std.proofs.lemmas.Map.Keys.{IsDistinct-IsPermutation, apart_from_distinct}
 use Rattle.std.proofs.lemmas.Option.{get_or_from_slice_get, slice_get-map, slice_get_within}
 use Rattle.do_class.specs.Class.{Class}
-use Rattle.do_machine.specs.World.{IsWorld, by_port, is_before, others}
-use Rattle.do_machine.specs.declared.state.Seat.{Seat}
+use Rattle.do_machine.specs.{World.{IsWorld, by_port, is_before, others}, declared.state.Seat.Seat}
 use Rattle.do_machine.specs.run.Run.{Acting}
 use Rattle.do_net.specs.Seen.{Seen}
 use Rattle.do_network.specs.Net.{Net, Place, net_opening, opening_channel, opening_link}
 use Rattle.do_network.specs.Net.{opening_place, place_at}
-use Rattle.do_network.proofs.ListSearch.{find_mapped, other_found}
-use Rattle.do_network.proofs.OpeningFits.{seat_among}
-use Rattle.do_agreement.proofs.places.Numbers.{flipped}
-use Rattle.do_agreement.proofs.places.PlacesChanged.{some_is}
+use Rattle.do_network.proofs.{ListSearch.{find_mapped, other_found}, OpeningFits.seat_among}
+use Rattle.do_agreement.proofs.places.{Numbers.flipped, PlacesChanged.some_is}
 use Rattle.do_record.specs.declared.parts.Record.{Record}
-use Rattle.do_weave.proofs.Again.{threads_apart}
-use Rattle.do_weave.proofs.Sorting.{all_inserted_moves}
-use Rattle.do_weave.specs.Threads as threads
+use Rattle.do_weave.proofs.{Again.threads_apart, Sorting.all_inserted_moves}
 use Rattle.do_weave.specs.Threads.{threads_from, threads_of}
-use Rattle.do_exchanged.specs.Exchange.{Doing}
-use Rattle.do_exchanged.specs.Runs.{Ran, beginning, record_of_run}
-use Rattle.do_exchanged.proofs.Flows.{Flows}
-use Rattle.do_exchanged.proofs.Known.{Known, Stands}
+use Rattle.do_exchanged.specs.{Exchange.Doing, Runs.{Ran, beginning, record_of_run}}
+use Rattle.do_exchanged.proofs.{Flows.Flows, Known.{Known, Stands}}
 use Rattle.do_exchanged.proofs.Threads.{Left, NodeLeft, Thread}
 
 -- ---- places in lists

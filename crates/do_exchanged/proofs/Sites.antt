@@ -1,35 +1,22 @@
 -- What an input makes of a site: it reads at most one frame, and sends frames over its links.
-use Rattle.std.proofs.Common.{◌≡◌, ◌==◌, ◌++◌, ℕ, Bool, true, false, List, [], map}
-use Rattle.std.proofs.Common.{fold, refl, sym, ap, ◌∙◌, subst, Result, Ok, Err}
-use Rattle.std.specs.Prelude.{None, Option, Some, if◌then◌else◌, not, option_map}
-use Rattle.std.proofs.lemmas.Bool.{eqb-true}
-use Rattle.do_class.specs.Class.{Class}
-use Rattle.do_frames.specs.Frames.{after_frame}
-use Rattle.do_frames.specs.declared.frame.Frame.{Frame}
-use Rattle.do_frames.specs.declared.frame.RawFrame.{RawFrame}
-use Rattle.do_machine.specs.declared.state.Effect.{Effect}
-use Rattle.do_machine.specs.Start.{start_effect}
-use Rattle.do_machine.specs.State.{is_open}
-use Rattle.do_machine.specs.declared.item.Item.TheVariants.{End}
-use Rattle.do_machine.specs.ends.Closing.{closing}
-use Rattle.do_machine.specs.ends.TimeOut.{time_out}
-use Rattle.do_machine.specs.run.Run.{Acting, run_effect}
-use Rattle.do_machine.specs.take.Take.{can_take, take_effect}
-use Rattle.do_network.specs.Faults.{peer_fault}
-use Rattle.do_network.specs.Frames.{read_frame}
-use Rattle.do_network.specs.Own.{site_context}
-use Rattle.do_network.specs.declared.fault.PeerFault.{PeerFault}
-use Rattle.do_network.specs.declared.input.Input.{Input}
 use Rattle.do_network.specs.declared.input.Input.TheVariants as inputs
+use Rattle.std.proofs.Common.{◌≡◌, ◌==◌, ◌++◌, ℕ, Bool, true, false, List, [], map, fold, refl, sym}
+use Rattle.std.{proofs.Common.{ap, ◌∙◌, subst, Result, Ok, Err}, specs.Prelude.{None, Option, Some}}
+use Rattle.std.{specs.Prelude.{if◌then◌else◌, not, option_map}, proofs.lemmas.Bool.eqb-true}
+use Rattle.do_class.specs.Class.{Class}
+use Rattle.do_frames.specs.{Frames.after_frame, declared.frame.{Frame.Frame, RawFrame.RawFrame}}
+use Rattle.do_machine.specs.{declared.state.Effect.Effect, Start.start_effect, State.is_open}
+use Rattle.do_machine.specs.{declared.item.Item.TheVariants.End, ends.Closing.closing}
+use Rattle.do_machine.specs.{ends.TimeOut.time_out, run.Run.{Acting, run_effect}}
+use Rattle.do_machine.specs.take.Take.{can_take, take_effect}
+use Rattle.do_network.specs.{Faults.peer_fault, Frames.read_frame, Own.site_context}
+use Rattle.do_network.specs.declared.{fault.PeerFault.PeerFault, input.Input.Input}
 use Rattle.do_network.specs.Links.{Link, Part, change_link, having_read, link_to, names_read}
-use Rattle.do_network.specs.Net.{Channel}
-use Rattle.do_network.specs.Site.{Handled, Move, enabled_input, frame_move, handled, moves}
-use Rattle.do_network.specs.Site.{site_move, takes, takes_frame}
-use Rattle.do_network.specs.Step.{with_sending}
+use Rattle.do_network.specs.{Net.Channel, Site.{Handled, Move, enabled_input, frame_move, handled}}
+use Rattle.do_network.specs.{Site.{moves, site_move, takes, takes_frame}, Step.with_sending}
 use Rattle.do_agreement.proofs.places.KeyedLists.{found_changed, found_elsewhere}
 use Rattle.do_agreement.proofs.places.PlacesChanged.{some_is}
-use Rattle.do_serve.specs.Hosting.{outgoing}
-use Rattle.do_serve.specs.Rules.{Outgoing}
+use Rattle.do_serve.specs.{Hosting.outgoing, Rules.Outgoing}
 use Rattle.do_exchanged.proofs.Flows.{Flows, sent_flows}
 
 -- a link is still there, and its stream has begun where it had, once another or it was read

@@ -1,12 +1,9 @@
 -- No spelling of a frame begins another's, and streams of one frame more.
 use Rattle.std.proofs.Common.{◌≡◌, ◌++◌, ◌/◌, ◌%◌, ℕ, true, false, List, [], ◌∷◌, length, drop}
 use Rattle.std.proofs.Common.{take, refl, sym, ap, ◌∙◌, arith, append_assoc, append-nil, get_or}
-use Rattle.std.specs.List.{flat_map}
-use Rattle.std.proofs.lemmas.Grind.{flat_map-append}
+use Rattle.std.{specs.List.flat_map, proofs.lemmas.Grind.flat_map-append}
 use Rattle.do_grammar.specs.Num.{digits}
-use Rattle.do_frames.specs.Frames.{raw_spelling}
-use Rattle.do_frames.specs.Pieces.{some_frame, stream_of}
-use Rattle.do_frames.specs.Streams.{hello}
+use Rattle.do_frames.specs.{Frames.raw_spelling, Pieces.{some_frame, stream_of}, Streams.hello}
 use Rattle.do_frames.specs.declared.frame.RawFrame.{RawFrame}
 
 -- the digits of a number are those of no other

@@ -1,35 +1,22 @@
 -- What is left of records while nodes do what these say, one block after another.
-use Rattle.std.proofs.Common.{◌≡◌, ◌≢◌, ◌+◌, ◌++◌, ℕ, suc, Bool, true, false, List, [], ◌∷◌}
-use Rattle.std.proofs.Common.{length, map, refl, sym, ap, ◌∙◌, subst, inl, inr, Ok, append_assoc}
-use Rattle.std.proofs.Common.{arith, take}
-use Rattle.std.specs.Prelude.{None, Some, nat_eq, option_and_then, option_map, slice_get}
-use Rattle.std.specs.Prelude.{slice_set}
-use Rattle.std.specs.Str.{bytes_eq}
-use Rattle.std.proofs.lemmas.Bool.{and_from, cases_eq}
-use Rattle.std.proofs.lemmas.Bool.Decides.{nat_tests}
-use Rattle.std.proofs.lemmas.List.{length-append}
+use Rattle.std.proofs.Common.{◌≡◌, ◌≢◌, ◌+◌, ◌++◌, ℕ, suc, Bool, true, false, List, [], ◌∷◌, length}
+use Rattle.std.proofs.Common.{map, refl, sym, ap, ◌∙◌, subst, inl, inr, Ok, append_assoc, arith}
+use Rattle.std.{proofs.Common.take, specs.Prelude.{None, Some, nat_eq, option_and_then, option_map}}
+use Rattle.std.specs.{Prelude.{slice_get, slice_set}, Str.bytes_eq}
+use Rattle.std.proofs.lemmas.{Bool.{and_from, cases_eq, Decides.nat_tests}, List.length-append}
 use Rattle.do_base.specs.declared.events.shown.Shown.{Shown}
-use Rattle.do_lines.specs.Lines.{joined}
-use Rattle.do_lines.specs.Shown.{shown_text}
-use Rattle.do_machine.specs.declared.state.State.{State}
-use Rattle.do_machine.specs.declared.state.Stepped.{Stepped}
+use Rattle.do_lines.specs.{Lines.joined, Shown.shown_text}
+use Rattle.do_machine.specs.declared.state.{State.State, Stepped.Stepped}
 use Rattle.do_net.specs.Seen.{Seen}
-use Rattle.do_record.specs.Grammar.{lines_in}
-use Rattle.do_record.specs.Recorded.{recorded}
-use Rattle.do_record.specs.Spelling.{block_text}
-use Rattle.do_record.specs.declared.parts.Block.{Block}
-use Rattle.do_record.specs.declared.parts.Record.{Record}
-use Rattle.do_record.specs.declared.parts.RecordLine.{RecordLine}
+use Rattle.do_record.specs.{Grammar.lines_in, Recorded.recorded, Spelling.block_text}
+use Rattle.do_record.specs.declared.parts.{Block.Block, Record.Record, RecordLine.RecordLine}
 use Rattle.do_serve.specs.Hosting.{site_rules}
 use Rattle.do_weave.proofs.Places.{get_set_other, get_set_same, one_there}
-use Rattle.do_weave.proofs.Woven.{ThreadsApart, still_apart}
-use Rattle.do_weave.specs.Inputs.{tried}
-use Rattle.do_weave.specs.Rules.{Rules}
+use Rattle.do_weave.{proofs.Woven.{ThreadsApart, still_apart}, specs.{Inputs.tried, Rules.Rules}}
 use Rattle.do_weave.specs.Threads.{advanced, is_cut, next_block, threads_of}
 use Rattle.do_weave.specs.Weaving.{Turn, agreed, agrees, ended, threads_after, turn_of, unless_left}
 use Rattle.do_recorded.specs.Inputs.{block_at, blocks_of}
-use Rattle.do_exchanged.specs.Exchange.{Doing}
-use Rattle.do_exchanged.proofs.Known.{looked}
+use Rattle.do_exchanged.{specs.Exchange.Doing, proofs.Known.looked}
 
 -- what a list is of
 abbrev element_of : {X : Type 0} → List X → Type 0

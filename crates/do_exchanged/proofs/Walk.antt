@@ -1,27 +1,18 @@
 -- Where events lead a network and the machine, they agree, and one event more comes to the same.
-use Rattle.std.proofs.Common.{◌≡◌, ◌<◌, ◌++◌, ℕ, List, [], ◌∷◌, length, refl, ap}
-use Rattle.std.proofs.Common.{arith}
+use Rattle.std.proofs.Common.{◌≡◌, ◌<◌, ◌++◌, ℕ, List, [], ◌∷◌, length, refl, ap, arith}
 use Rattle.std.proofs.lemmas.List.{length-append}
 use Rattle.do_base.specs.declared.events.event.Event.{Event}
 use Rattle.do_class.specs.Class.{Class}
-use Rattle.do_facts.proofs.EachOfLists.{each_former}
-use Rattle.do_facts.specs.Reached.{reached}
+use Rattle.do_facts.{proofs.EachOfLists.each_former, specs.Reached.reached}
 use Rattle.do_limits.specs.SendableActs.{AllStartSendable, KeepsSendable, StartsSendable}
-use Rattle.do_machine.specs.Commit.{skipped}
-use Rattle.do_machine.specs.Step.{step}
-use Rattle.do_machine.specs.World.{IsWorld, opening}
-use Rattle.do_machine.specs.check.Blocks.{followed, steps}
-use Rattle.do_machine.specs.declared.state.Seat.{Seat}
-use Rattle.do_machine.specs.declared.state.Stepped.{Stepped}
-use Rattle.do_machine.specs.run.Run.{Acting}
-use Rattle.do_network.specs.Net.{net_opening}
-use Rattle.do_network.specs.Spelled.{SendsSpelled}
-use Rattle.do_network.specs.Step.{NetStepped, net_skipped, net_step}
-use Rattle.do_network.specs.Wired.{net_followed, net_steps}
+use Rattle.do_machine.specs.{Commit.skipped, Step.step, World.{IsWorld, opening}}
+use Rattle.do_machine.specs.{check.Blocks.{followed, steps}, declared.state.Seat.Seat}
+use Rattle.do_machine.specs.{declared.state.Stepped.Stepped, run.Run.Acting}
+use Rattle.do_network.specs.{Net.net_opening, Spelled.SendsSpelled, Step.{NetStepped, net_skipped}}
+use Rattle.do_network.specs.{Step.net_step, Wired.{net_followed, net_steps}}
 use Rattle.do_agreement.specs.Along.{EventsSendSpelled}
 use Rattle.do_agreement.proofs.agreement.GoesOn.{Goes, goes_on, opening_goes}
-use Rattle.do_within.proofs.schedules.Walk.{from_opening}
-use Rattle.do_within.specs.Received.{net_reached}
+use Rattle.do_within.{proofs.schedules.Walk.from_opening, specs.Received.net_reached}
 
 -- how many events a schedule has fewer than
 abbrev pub most_events : ℕ

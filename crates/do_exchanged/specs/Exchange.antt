@@ -1,12 +1,8 @@
 -- Nodes that exchanged their bytes unchanged, in some order of what they did.
 use Rattle.std.specs.Prelude.{List, Some, [], filter, if◌then◌else◌, slice_get, slice_set, suc}
-use Rattle.std.specs.Prelude.{zero, ℕ, ◌++◌, ◌==◌, ◌∷◌, ◌≡◌}
-use Rattle.std.specs.List.{AllByRecursion, flat_map}
-use Rattle.do_frames.specs.Pieces.{stream_of}
-use Rattle.do_frames.specs.declared.frame.RawFrame.{RawFrame}
-use Rattle.do_network.specs.declared.input.Done.{Done}
-use Rattle.do_network.specs.declared.input.Done.TheVariants.{Skipped}
-use Rattle.do_network.specs.declared.input.Input.{Input}
+use Rattle.std.specs.{Prelude.{zero, ℕ, ◌++◌, ◌==◌, ◌∷◌, ◌≡◌}, List.{AllByRecursion, flat_map}}
+use Rattle.do_frames.specs.{Pieces.stream_of, declared.frame.RawFrame.RawFrame}
+use Rattle.do_network.specs.declared.input.{Done.{Done, TheVariants.Skipped}, Input.Input}
 use Rattle.do_network.specs.declared.input.Input.TheVariants.{Frame}
 use Rattle.do_serve.specs.Rules.{Outgoing, Rules}
 

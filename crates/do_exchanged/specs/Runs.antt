@@ -1,16 +1,11 @@
 -- What the nodes of a world did that exchanged their bytes, and what they recorded.
 use Rattle.std.specs.Prelude.{Bool, List, [], length, map, ℕ, ◌<◌, ◌^◌}
-use Rattle.std.specs.List.{AllByRecursion, sum_by}
-use Rattle.std.specs.List.Sorted.{IsPermutation}
+use Rattle.std.specs.List.{AllByRecursion, sum_by, Sorted.IsPermutation}
 use Rattle.do_class.specs.Class.{Class}
-use Rattle.do_machine.specs.World.{by_port}
-use Rattle.do_machine.specs.declared.state.Seat.{Seat}
-use Rattle.do_machine.specs.run.Run.{Acting}
+use Rattle.do_machine.specs.{World.by_port, declared.state.Seat.Seat, run.Run.Acting}
 use Rattle.do_net.specs.Seen.{Seen, at_rest}
-use Rattle.do_network.specs.Net.{opening_part}
-use Rattle.do_network.specs.declared.input.Input.{Input}
-use Rattle.do_record.specs.Recorded.{recorded}
-use Rattle.do_record.specs.declared.parts.Record.{Record}
+use Rattle.do_network.specs.{Net.opening_part, declared.input.Input.Input}
+use Rattle.do_record.specs.{Recorded.recorded, declared.parts.Record.Record}
 use Rattle.do_serve.specs.Hosting.{site_rules}
 use Rattle.do_recorded.specs.Inputs.{IsServed, blocks_of}
 use Rattle.do_exchanged.specs.Exchange.{Doing, HasExchange}

@@ -1,8 +1,7 @@
 ghost use Rattle.std.specs.Prelude.{List, map};
 ghost use Rattle.do_class.specs.Class.{Class};
 ghost use Rattle.do_limits.specs.SendableActs.{KeepsSendable};
-ghost use Rattle.do_machine.specs.World.{IsWorld, opening};
-ghost use Rattle.do_machine.specs.declared.state.Seat.{Seat};
+ghost use Rattle.do_machine.specs.{World.{IsWorld, opening}, declared.state.Seat.Seat};
 ghost use Rattle.do_machine.specs.run.Run.{Acting};
 ghost use Rattle.do_weave.specs.Orders.{CanBeDone};
 ghost use Rattle.do_exchanged.specs.Runs.{Exchanged, Ran, record_of_run};

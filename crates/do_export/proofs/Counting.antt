@@ -1,16 +1,11 @@
 -- The count of an entry, where one is added or taken off.
-use Rattle.std.proofs.Common.{◌≡◌, ℕ, ◌+◌, ◌-◌, ◌<◌, Bool, true, false, cond, ◌&&◌, eqb, ◌==◌}
-use Rattle.std.proofs.Common.{arith}
-use Rattle.std.proofs.Common.{Option, Some, None, if◌then◌else◌, eqb-true, refl, ap, ◌∙◌}
-use Rattle.std.proofs.lemmas.Bool.{eqb-false}
-use Rattle.std.proofs.lemmas.Bool.Decides.{nat_tests}
-use Rattle.std.specs.Option.{unwrap_or}
-use Rattle.std.specs.Ordering.{eq_by_cmp}
 use Rattle.std.specs.FinMap as map
-use Rattle.std.specs.FinMap.{get-insert, get-remove}
+use Rattle.std.proofs.Common.{◌≡◌, ℕ, ◌+◌, ◌-◌, ◌<◌, Bool, true, false, cond, ◌&&◌, eqb, ◌==◌}
+use Rattle.std.proofs.Common.{arith, Option, Some, None, if◌then◌else◌, eqb-true, refl, ap, ◌∙◌}
+use Rattle.std.proofs.lemmas.Bool.{eqb-false, Decides.nat_tests}
+use Rattle.std.specs.{Option.unwrap_or, Ordering.eq_by_cmp, FinMap.{get-insert, get-remove}}
 use Rattle.do_export.specs.Counts.{Counts, IsPositive, entry_cmp, count_of, raised, lowered}
-use Rattle.do_export.proofs.Order.{entry_total}
-use Rattle.do_export.proofs.Positive.{put_positive, out_positive}
+use Rattle.do_export.proofs.{Order.entry_total, Positive.{put_positive, out_positive}}
 
 -- one at an entry, and none at another
 abbrev pub at : ℕ → ℕ → ℕ → ℕ → ℕ

@@ -1,19 +1,15 @@
 -- The order of entries, and what sorted rows of them say as counts.
-use Rattle.std.proofs.Common.{◌==◌, not, ◌≡◌, ◌≢◌, ℕ, ◌<◌, ◌≤◌, false, T, List, Some, None, Option}
-use Rattle.std.proofs.Common.{IsSome, refl}
-use Rattle.std.proofs.Common.{sym, ap, ◌∙◌, subst, arith}
-use Rattle.std.specs.Ordering.{nat_cmp, is_eq, is_lt, ordering_then}
-use Rattle.std.specs.Cmp.{IsTotalOrder, on_total, then_total, nat_cmp_total}
 use Rattle.std.specs.FinMap as map
-use Rattle.std.specs.FinMap.{find, is_sorted, IsAntisymmetric, nat_cmp-IsAntisymmetric}
-use Rattle.std.specs.FinMap.{get-from_sorted}
+use Rattle.std.proofs.Common.{◌==◌, not, ◌≡◌, ◌≢◌, ℕ, ◌<◌, ◌≤◌, false, T, List, Some, None, Option}
+use Rattle.std.proofs.Common.{IsSome, refl, sym, ap, ◌∙◌, subst, arith}
+use Rattle.std.specs.Ordering.{nat_cmp, is_eq, is_lt, ordering_then}
+use Rattle.std.specs.{Cmp.{IsTotalOrder, on_total, then_total, nat_cmp_total}, FinMap.find}
+use Rattle.std.specs.FinMap.{is_sorted, IsAntisymmetric, nat_cmp-IsAntisymmetric, get-from_sorted}
 use Rattle.std.proofs.lemmas.Bool.Decides.{nat_tests}
-use Rattle.std.specs.declared.cmp.Ordering.{Ordering}
-use Rattle.std.specs.declared.cmp.Ordering.TheVariants.{Less, Equal, Greater}
-use Rattle.do_sorted.specs.Rows.{first_from}
+use Rattle.std.specs.declared.cmp.Ordering.{Ordering, TheVariants.{Less, Equal, Greater}}
+use Rattle.do_sorted.specs.Rows.{first_from, without}
 use Rattle.std.specs.Option.{unwrap_or}
 use Rattle.std.specs.FinMap.Entries.{put, where_key, is_sorted-put, is_sorted-where_key}
-use Rattle.do_sorted.specs.Rows.{without}
 use Rattle.do_sorted.proofs.RowsAsMap.{from_put, from_without, from_where_key}
 use Rattle.do_sorted.proofs.FirstRow.{none_from, first_there, first_lowest, first_not_below}
 use Rattle.do_export.specs.Counts.{entry_cmp, HasNoneFrom, IsLowest, IsLowestFrom}

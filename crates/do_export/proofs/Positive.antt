@@ -1,11 +1,9 @@
 -- That no entry counts 0, after each change.
+use Rattle.std.specs.FinMap as map
 use Rattle.std.proofs.Common.{◌≡◌, ℕ, ◌<◌, Bool, true, false, not, cond, ◌==◌, T, Option, Some}
 use Rattle.std.proofs.Common.{None, List, is_some, sym, ap, subst}
-use Rattle.std.specs.Option.{unwrap_or}
-use Rattle.std.specs.Ordering.{eq_by_cmp}
-use Rattle.std.specs.FinMap as map
-use Rattle.std.specs.FinMap.{get-empty, get-insert, get-remove, get-retain_keys}
-use Rattle.std.specs.FinMap.Entries.{put, where_key}
+use Rattle.std.specs.{Option.unwrap_or, Ordering.eq_by_cmp, FinMap.{get-empty, get-insert}}
+use Rattle.std.specs.FinMap.{get-remove, get-retain_keys, Entries.{put, where_key}}
 use Rattle.do_sorted.specs.Rows.{without}
 use Rattle.do_export.specs.Counts.{Counts, IsPositive, AreEntries, entry_cmp, others_of}
 use Rattle.do_export.proofs.Order.{entry_total, entry_same, put_is, without_is, others_are}

@@ -1,11 +1,9 @@
 -- How many names of its objects a node has sent to its peers and not had back.
-use Rattle.std.specs.Prelude.{◌≡◌, ℕ, not, ◌+◌, ◌-◌, ◌<◌, ◌≤◌, ◌==◌, if◌then◌else◌, None, IsSome}
-use Rattle.std.specs.Prelude.{T, true, List, refl}
-use Rattle.std.specs.Option.{unwrap_or}
-use Rattle.std.specs.Ordering.{nat_cmp, on, then_cmp}
-use Rattle.std.specs.declared.cmp.Ordering.{Ordering}
-use Rattle.std.specs.Coded.{Coded, code_by, coded×, coded_ℕ}
 use Rattle.std.specs.FinMap as map
+use Rattle.std.specs.Prelude.{◌≡◌, ℕ, not, ◌+◌, ◌-◌, ◌<◌, ◌≤◌, ◌==◌, if◌then◌else◌, None, IsSome, T}
+use Rattle.std.specs.{Prelude.{true, List, refl}, Option.unwrap_or}
+use Rattle.std.specs.{Ordering.{nat_cmp, on, then_cmp}, declared.cmp.Ordering.Ordering}
+use Rattle.std.specs.Coded.{Coded, code_by, coded×, coded_ℕ}
 
 -- entries are in the order of their peers' ports, and of their serials at one peer
 abbrev pub entry_cmp : ℕ × ℕ → ℕ × ℕ → Ordering

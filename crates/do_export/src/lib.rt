@@ -5,11 +5,11 @@
 //! memory where there is room.
 #![tactic(auto)]
 
-ghost use Rattle.std.specs.Prelude.{◌≡◌, ◌+◌, ◌-◌, ◌<◌, ◌≤◌, ◌^◌, OnOk, OnErr, IfOk};
-ghost use Rattle.std.specs.Prelude.{IfErr, MatchOption, MatchResult, if◌then◌else◌};
 ghost use Rattle.std.specs.FinMap as map;
-ghost use Rattle.do_export.specs.Counts.{count_of, raised, lowered, HasNone, IsLowest};
-ghost use Rattle.do_export.specs.Counts.{HasNoneFrom, IsLowestFrom, IsPositive, others_of};
+ghost use Rattle.std.specs.Prelude.{◌≡◌, ◌+◌, ◌-◌, ◌<◌, ◌≤◌, ◌^◌, OnOk, OnErr, IfOk, IfErr};
+ghost use Rattle.std.specs.Prelude.{MatchOption, MatchResult, if◌then◌else◌};
+ghost use Rattle.do_export.specs.Counts.{count_of, raised, lowered, HasNone, IsLowest, HasNoneFrom};
+ghost use Rattle.do_export.specs.Counts.{IsLowestFrom, IsPositive, others_of};
 
 mod over_release;
 

@@ -1,18 +1,13 @@
 -- What a rule asks of a peer goes over an open end, and names what the node may name.
-use Rattle.std.proofs.Common.{◌≡◌, ◌&&◌, Bool, true, false}
-use Rattle.do_behave.specs.declared.act.Act.{Act}
 use Rattle.do_behave.specs.declared.act.Act.TheVariants as acts
-use Rattle.do_behave.specs.declared.invocation.Answer.{Answer}
+use Rattle.std.proofs.Common.{◌≡◌, ◌&&◌, Bool, true, false}
+use Rattle.do_behave.specs.declared.{act.Act.Act, invocation.Answer.Answer}
 use Rattle.do_behave.specs.declared.invocation.Answer.TheVariants.{Given, Raised}
 use Rattle.do_base.specs.names.Names.{ObjectName}
 use Rattle.do_class.specs.declared.packet.Packet.{Packet}
-use Rattle.do_machine.specs.declared.verdict.SendAct.{SendAct}
-use Rattle.do_machine.specs.declared.verdict.Verdict.{Verdict}
-use Rattle.do_machine.specs.Context.{Found, RunContext}
-use Rattle.do_machine.specs.State.{is_known, is_open}
-use Rattle.do_machine.specs.run.Acts.{act_rule}
-use Rattle.do_machine.specs.run.Run.{answer_rule}
-use Rattle.do_machine.specs.run.Send.{arguments, message}
+use Rattle.do_machine.specs.declared.verdict.{SendAct.SendAct, Verdict.Verdict}
+use Rattle.do_machine.specs.{Context.{Found, RunContext}, State.{is_known, is_open}}
+use Rattle.do_machine.specs.run.{Acts.act_rule, Run.answer_rule, Send.{arguments, message}}
 use Rattle.do_facts.proofs.IsSent.{IsMessage, IsSent}
 use Rattle.do_facts.proofs.RulesOfActs.{IsToPeer, Sends, by_return, by_root, by_send, by_vend}
 use Rattle.do_facts.proofs.links.TokensOfMessages.{names_lent}

@@ -1,21 +1,13 @@
 -- What is to be shown of moves, so that every step of the machine is moves.
+use Rattle.do_machine.specs.declared.item.Item.TheVariants as items
 use Rattle.std.proofs.Common.{◌≡◌, ℕ, Bool, true, false, List, []}
 use Rattle.do_base.specs.declared.values.value.Value.{Value}
 use Rattle.do_class.specs.Class.{Class}
-use Rattle.do_machine.specs.declared.item.Item.{Item}
-use Rattle.do_machine.specs.declared.item.Item.TheVariants as items
-use Rattle.do_machine.specs.declared.node.Node.{Node}
-use Rattle.do_machine.specs.Context.{Context}
-use Rattle.do_machine.specs.Start.{start_effect}
-use Rattle.do_machine.specs.State.{is_open}
-use Rattle.do_machine.specs.ends.Closing.{closing}
-use Rattle.do_machine.specs.ends.TimeOut.{time_out}
-use Rattle.do_machine.specs.held.Leaving.{leaving}
-use Rattle.do_machine.specs.run.Run.{Acting, run_effect}
-use Rattle.do_machine.specs.take.Take.{take_effect}
-use Rattle.do_facts.specs.Net.{atoms_of, noted}
-use Rattle.do_facts.specs.Moves.{Rules}
-use Rattle.do_facts.specs.View.{AreMoves, AreMovesIf, View}
+use Rattle.do_machine.specs.{declared.{item.Item.Item, node.Node.Node}, Context.Context}
+use Rattle.do_machine.specs.{Start.start_effect, State.is_open, ends.Closing.closing}
+use Rattle.do_machine.specs.{ends.TimeOut.time_out, held.Leaving.leaving}
+use Rattle.do_machine.specs.{run.Run.{Acting, run_effect}, take.Take.take_effect}
+use Rattle.do_facts.specs.{Net.{atoms_of, noted}, Moves.Rules, View.{AreMoves, AreMovesIf, View}}
 
 -- Each rule of a step is moves of its node, where the node is as it should be: moves keep it so,
 -- open no end, and post over open ends alone

@@ -1,25 +1,16 @@
 -- A state after an effect, after a take and after a loss, as a net.
 use Rattle.std.proofs.Common.{◌≡◌, ◌==◌, ◌++◌, ℕ, Bool, true, false, cond, List, [], ◌∷◌, map}
 use Rattle.std.proofs.Common.{filter, refl, sym, ap, ◌∙◌, subst, append_assoc}
-use Rattle.std.specs.Prelude.{None, Option, Some, option_and_then, option_map}
-use Rattle.std.specs.List.{flat_map}
-use Rattle.std.proofs.lemmas.Grind.{flat_map-append}
-use Rattle.std.proofs.lemmas.Bool.{eqb-true}
+use Rattle.std.specs.{Prelude.{None, Option, Some, option_and_then, option_map}, List.flat_map}
+use Rattle.std.proofs.lemmas.{Grind.flat_map-append, Bool.eqb-true}
 use mathlib.Core.Path.{fun_ext}
-use Rattle.do_machine.specs.declared.item.Item.{Item}
-use Rattle.do_machine.specs.declared.node.Node.{Node}
-use Rattle.do_machine.specs.declared.state.Effect.{Effect}
-use Rattle.do_machine.specs.declared.state.Parcel.{Parcel}
-use Rattle.do_machine.specs.declared.state.State.{State}
-use Rattle.do_machine.specs.Commit.{commit, items_to}
+use Rattle.do_machine.specs.declared.{item.Item.Item, node.Node.Node, state.Effect.Effect}
+use Rattle.do_machine.specs.{declared.state.{Parcel.Parcel, State.State}, Commit.{commit, items_to}}
 use Rattle.do_machine.specs.State.{node, queue, queue_to}
-use Rattle.do_facts.proofs.machine.Frame.{elsewhere}
-use Rattle.do_facts.proofs.machine.Queues.{grows_behind}
-use Rattle.do_facts.proofs.machine.follows.States.{changed}
-use Rattle.do_facts.proofs.machine.passing.NoQueue.{stays_none}
-use Rattle.do_facts.specs.Net.{atoms_of, net_after, noted, with_part}
-use Rattle.do_facts.specs.View.{View, net_of, part_seen, posted, wire_seen}
-use Rattle.do_facts.proofs.Notes.{atoms_behind, atoms_noted, none_noted}
+use Rattle.do_facts.proofs.machine.{Frame.elsewhere, Queues.grows_behind, follows.States.changed}
+use Rattle.do_facts.{proofs.machine.passing.NoQueue.stays_none, specs.Net.{atoms_of, net_after}}
+use Rattle.do_facts.specs.{Net.{noted, with_part}, View.{View, net_of, part_seen, posted}}
+use Rattle.do_facts.{specs.View.wire_seen, proofs.Notes.{atoms_behind, atoms_noted, none_noted}}
 
 module _ {P A : Type 0} (view : View P A) where
   -- the notes of parcels behind others

@@ -1,28 +1,17 @@
 -- What holds of each effect that an answer may have holds of the one that it has.
-use Rattle.std.proofs.Common.{◌≡◌, ℕ, true, false, not, List}
-use Rattle.std.specs.Prelude.{None, Option, Some}
-use Rattle.do_base.specs.declared.events.exception.Exc.{Exc}
-use Rattle.do_base.specs.declared.events.exception.Exc.TheVariants.{TooLarge}
 use Rattle.do_base.specs.declared.events.shown.Shown.TheVariants as shows
-use Rattle.do_base.specs.declared.values.value.Value.{Value}
-use Rattle.do_base.specs.declared.values.value.Value.TheVariants.{Text}
-use Rattle.do_class.specs.declared.packet.Packet.{Packet}
-use Rattle.do_behave.specs.declared.invocation.Answer.{Answer}
-use Rattle.do_behave.specs.declared.invocation.Answer.TheVariants.{Given, Raised}
-use Rattle.do_behave.specs.declared.invocation.Handler.{Handler}
-use Rattle.do_behave.specs.declared.invocation.Reason.{Reason}
 use Rattle.do_behave.specs.declared.invocation.Reason.TheVariants as reasons
 use Rattle.do_machine.specs.declared.item.Item.TheVariants as items
-use Rattle.do_machine.specs.declared.node.Node.{Node}
-use Rattle.do_machine.specs.declared.state.Effect.{Effect}
-use Rattle.do_machine.specs.Context.{RunContext}
-use Rattle.do_machine.specs.Effect.{only, queueing, showing}
-use Rattle.do_machine.specs.Packing.{packed_for}
-use Rattle.do_machine.specs.State.{is_open}
-use Rattle.do_machine.specs.lend.Lending.{posting}
-use Rattle.do_machine.specs.run.Answers.{answer_line, answer_placed, exc_name, oneway_answer}
-use Rattle.do_machine.specs.run.Answers.{replying}
-use Rattle.do_machine.specs.run.Changes.{goes_on}
+use Rattle.std.{proofs.Common.{◌≡◌, ℕ, true, false, not, List}, specs.Prelude.{None, Option, Some}}
+use Rattle.do_base.specs.declared.events.exception.Exc.{Exc, TheVariants.TooLarge}
+use Rattle.do_base.specs.declared.values.value.Value.{Value, TheVariants.Text}
+use Rattle.do_class.specs.declared.packet.Packet.{Packet}
+use Rattle.do_behave.specs.declared.invocation.Answer.{Answer, TheVariants.{Given, Raised}}
+use Rattle.do_behave.specs.declared.invocation.{Handler.Handler, Reason.Reason}
+use Rattle.do_machine.specs.{declared.{node.Node.Node, state.Effect.Effect}, Context.RunContext}
+use Rattle.do_machine.specs.{Effect.{only, queueing, showing}, Packing.packed_for, State.is_open}
+use Rattle.do_machine.specs.{lend.Lending.posting, run.Answers.{answer_line, answer_placed}}
+use Rattle.do_machine.specs.run.{Answers.{exc_name, oneway_answer, replying}, Changes.goes_on}
 use Rattle.do_machine.specs.run.Delivery.{below_answered, delivery, failing, popped, with_top}
 use Rattle.do_machine.specs.run.Fresh.{with_stack}
 use Rattle.do_facts.proofs.Chains.{either, found_or, is_closed, not_closed}

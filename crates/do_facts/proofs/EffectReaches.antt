@@ -2,22 +2,14 @@
 use Rattle.std.proofs.Common.{◌≡◌, ◌++◌, ℕ, false, List, [], ◌∷◌, refl, sym, ap, ◌∙◌, subst}
 use Rattle.std.specs.Prelude.{None, Some}
 use Rattle.do_base.specs.declared.events.shown.Shown.{Shown}
-use Rattle.do_machine.specs.declared.node.Node.{Node}
-use Rattle.do_machine.specs.declared.state.Effect.{Effect}
-use Rattle.do_machine.specs.declared.state.State.{State}
-use Rattle.do_machine.specs.Commit.{commit, moved, then_leaves}
-use Rattle.do_machine.specs.Context.{around}
-use Rattle.do_machine.specs.State.{is_open, node, queue}
-use Rattle.do_machine.specs.held.Leaving.{leaving}
-use Rattle.do_facts.proofs.machine.follows.States.{changed}
-use Rattle.do_facts.proofs.machine.passing.Linked.{commit_leaves}
-use Rattle.do_facts.specs.ByEvents.{IsMoveOf}
-use Rattle.do_facts.specs.Net.{Note, atoms_of, net_after}
+use Rattle.do_machine.specs.declared.{node.Node.Node, state.{Effect.Effect, State.State}}
+use Rattle.do_machine.specs.{Commit.{commit, moved, then_leaves}, Context.around}
+use Rattle.do_machine.specs.{State.{is_open, node, queue}, held.Leaving.leaving}
+use Rattle.do_facts.proofs.machine.{follows.States.changed, passing.Linked.commit_leaves}
+use Rattle.do_facts.specs.{ByEvents.IsMoveOf, Net.{Note, atoms_of, net_after}}
 use Rattle.do_facts.specs.Moves.{Mays, Reaches, Rules, Runs, afters, all_posts}
 use Rattle.do_facts.specs.View.{AreMoves, View, net_of, part_seen, posted}
-use Rattle.do_facts.proofs.Bridge.{Bridge}
-use Rattle.do_facts.proofs.CommitAsNet.{net_committed}
-use Rattle.do_facts.proofs.Notes.{atoms_behind}
+use Rattle.do_facts.proofs.{Bridge.Bridge, CommitAsNet.net_committed, Notes.atoms_behind}
 use Rattle.do_facts.proofs.Paths.{reaches_by, reaches_on}
 
 -- a node's ends are closed towards each port to which it has no queue

@@ -1,13 +1,9 @@
 -- What a node asks of its peers goes over open ends, and names what it may name.
-use Rattle.std.specs.Prelude.{true, ℕ, ◌≡◌}
-use Rattle.do_machine.specs.declared.item.Message.{Message}
-use Rattle.do_machine.specs.declared.node.Node.{Node}
-use Rattle.do_machine.specs.declared.verdict.Request.{Request}
 use Rattle.do_machine.specs.declared.verdict.Request.TheVariants as requests
-use Rattle.do_machine.specs.declared.verdict.Verdict.{Verdict}
 use Rattle.do_machine.specs.declared.verdict.Verdict.TheVariants as verdicts
-use Rattle.do_machine.specs.Objects.{object_at}
-use Rattle.do_machine.specs.State.{is_open}
+use Rattle.std.specs.Prelude.{true, ℕ, ◌≡◌}
+use Rattle.do_machine.specs.declared.{item.Message.Message, node.Node.Node, verdict.Request.Request}
+use Rattle.do_machine.specs.{declared.verdict.Verdict.Verdict, Objects.object_at, State.is_open}
 use Rattle.do_facts.proofs.links.AreNamed.{NamedBy, is_usable}
 
 -- a message to a peer is for an object that the node may use, and names what it may name

@@ -1,7 +1,6 @@
 -- Nets after what nodes take and post.
-use Rattle.std.proofs.Common.{◌≡◌, ◌==◌, ◌++◌, ℕ, Bool, true, false, cond, List, []}
-use Rattle.std.proofs.Common.{length, drop, refl, ap, ◌∙◌, arith, append_assoc}
-use Rattle.std.proofs.lemmas.Bool.{eqb-true}
+use Rattle.std.proofs.Common.{◌≡◌, ◌==◌, ◌++◌, ℕ, Bool, true, false, cond, List, [], length, drop}
+use Rattle.std.proofs.{Common.{refl, ap, ◌∙◌, arith, append_assoc}, lemmas.Bool.eqb-true}
 use Rattle.std.proofs.lemmas.Bool.Decides.{nat_tests}
 use mathlib.Core.Path.{fun_ext}
 use Rattle.do_facts.specs.Net.{Net, Note, StandFirst, atoms_of, net_after, total, wires_after}

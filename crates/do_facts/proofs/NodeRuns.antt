@@ -1,26 +1,16 @@
 -- By a step the part of each node is moved by moves that take what the step takes, or stays.
+use Rattle.do_base.specs.declared.events.event.Event.TheVariants as events
 use Rattle.std.proofs.Common.{◌≡◌, ◌++◌, ℕ, Bool, List, [], ◌∷◌, refl, sym, ap, append-nil, subst}
 use Rattle.std.specs.Prelude.{None, Option, Some, unwrap_or}
 use Rattle.do_base.specs.declared.events.event.Event.{Event}
-use Rattle.do_base.specs.declared.events.event.Event.TheVariants as events
 use Rattle.do_class.specs.Class.{Class}
-use Rattle.do_machine.specs.declared.item.Item.{Item}
-use Rattle.do_machine.specs.declared.node.Node.{Node}
-use Rattle.do_machine.specs.declared.state.Effect.{Effect}
-use Rattle.do_machine.specs.declared.state.State.{State}
-use Rattle.do_machine.specs.Context.{context}
-use Rattle.do_machine.specs.Start.{start_effect}
-use Rattle.do_machine.specs.State.{node, queue}
-use Rattle.do_machine.specs.ends.TimeOut.{time_out}
-use Rattle.do_machine.specs.held.Leaving.{leaving}
+use Rattle.do_machine.specs.declared.{item.Item.Item, node.Node.Node, state.Effect.Effect}
+use Rattle.do_machine.specs.{declared.state.State.State, Context.context, Start.start_effect}
+use Rattle.do_machine.specs.{State.{node, queue}, ends.TimeOut.time_out, held.Leaving.leaving}
 use Rattle.do_machine.specs.run.Run.{Acting, run_effect}
-use Rattle.do_facts.specs.Net.{Note, noted}
-use Rattle.do_facts.specs.Moves.{Rules, Runs}
-use Rattle.do_facts.specs.View.{AreMoves, AreMovesIf, View, part_seen, posted}
-use Rattle.do_facts.specs.steps.IsStep.{IsRuleOf, without_oldest}
-use Rattle.do_facts.proofs.Bridge.{Bridge}
-use Rattle.do_facts.proofs.EffectReaches.{ok_still}
-use Rattle.do_facts.proofs.Runs.{runs_on, stands_by}
+use Rattle.do_facts.specs.{Net.{Note, noted}, Moves.{Rules, Runs}, View.{AreMoves, AreMovesIf}}
+use Rattle.do_facts.specs.{View.{View, part_seen, posted}, steps.IsStep.{IsRuleOf, without_oldest}}
+use Rattle.do_facts.proofs.{Bridge.Bridge, EffectReaches.ok_still, Runs.{runs_on, stands_by}}
 use Rattle.do_facts.proofs.steps.NodeSteps.{Acted, NodeStep, Stands, Took as TakesOne}
 
 -- what the node of a port takes by an event: nothing, or the oldest item of a queue

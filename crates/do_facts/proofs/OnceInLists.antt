@@ -2,11 +2,9 @@
 use Rattle.std.proofs.Common.{◌≡◌, ◌||◌, ◌&&◌, Bool, true, false, cond, not, List, [], ◌∷◌, filter}
 use Rattle.std.proofs.Common.{refl, sym, ap, ◌∙◌, ◌++◌, inl, inr, subst, arith}
 use Rattle.std.specs.List.{AllByRecursion, IsDistinct, list_any}
-use Rattle.std.proofs.lemmas.Map.Keys.{IsDistinct-IsPermutation}
-use Rattle.std.proofs.lemmas.Map.Views.{any-filter_same}
+use Rattle.std.proofs.lemmas.Map.{Keys.IsDistinct-IsPermutation, Views.any-filter_same}
 use Rattle.do_machine.specs.Lists.{IsIn, inserted}
-use Rattle.do_machine.proofs.Bools.{or_right}
-use Rattle.do_machine.proofs.Inserting.{inserted_moves}
+use Rattle.do_machine.proofs.{Bools.or_right, Inserting.inserted_moves}
 use Rattle.do_facts.specs.StandOnce.{StandOnce}
 
 -- neither of two tests passed

@@ -1,13 +1,9 @@
 -- How nets are as a machine opens.
 use Rattle.std.proofs.Common.{◌≡◌, ◌==◌, ℕ, Bool, true, false, cond, List, [], ◌∷◌, map, arith}
-use Rattle.std.proofs.Common.{refl, sym, subst}
-use Rattle.std.proofs.lemmas.Bool.{eqb-true}
-use Rattle.std.specs.Prelude.{None, Option, Some, option_and_then, option_map}
-use Rattle.std.specs.List.{find}
+use Rattle.std.proofs.{Common.{refl, sym, subst}, lemmas.Bool.eqb-true}
+use Rattle.std.specs.{Prelude.{None, Option, Some, option_and_then, option_map}, List.find}
 use Rattle.do_class.specs.Class.{Class}
-use Rattle.do_machine.specs.declared.node.Node.{Node}
-use Rattle.do_machine.specs.declared.state.Queue.{Queue}
-use Rattle.do_machine.specs.declared.state.Seat.{Seat}
+use Rattle.do_machine.specs.declared.{node.Node.Node, state.{Queue.Queue, Seat.Seat}}
 use Rattle.do_machine.specs.State.{node, queue_to}
 use Rattle.do_machine.specs.World.{by_port, opening, opening_node, opening_station, others}
 use Rattle.do_facts.specs.View.{View, net_of, part_seen, wire_seen}

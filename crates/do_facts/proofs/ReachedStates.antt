@@ -2,14 +2,9 @@
 use Rattle.std.proofs.Common.{List, [], ◌∷◌}
 use Rattle.do_base.specs.declared.events.event.Event.{Event}
 use Rattle.do_class.specs.Class.{Class}
-use Rattle.do_machine.specs.declared.state.Seat.{Seat}
-use Rattle.do_machine.specs.declared.state.State.{State}
-use Rattle.do_machine.specs.declared.state.Stepped.{Stepped}
-use Rattle.do_machine.specs.Commit.{skipped}
-use Rattle.do_machine.specs.Step.{step}
-use Rattle.do_machine.specs.World.{opening}
-use Rattle.do_machine.specs.check.Blocks.{followed, steps}
-use Rattle.do_machine.specs.run.Run.{Acting}
+use Rattle.do_machine.specs.declared.state.{Seat.Seat, State.State, Stepped.Stepped}
+use Rattle.do_machine.specs.{Commit.skipped, Step.step, World.opening}
+use Rattle.do_machine.specs.{check.Blocks.{followed, steps}, run.Run.Acting}
 use Rattle.do_facts.specs.Reached.{reached}
 
 module _ (table : List Class) (act : Acting) (P : State → Type 0)

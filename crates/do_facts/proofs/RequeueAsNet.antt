@@ -1,21 +1,15 @@
 -- A state after an item is taken, and after a loss, as a net.
-use Rattle.std.proofs.Common.{◌≡◌, ◌==◌, ◌++◌, ℕ, Bool, true, false, cond, List, []}
-use Rattle.std.proofs.Common.{length, drop, refl, sym, ap, ◌∙◌, arith, append-nil}
-use Rattle.std.specs.Prelude.{Some}
-use Rattle.std.specs.List.{flat_map}
-use Rattle.std.proofs.lemmas.Bool.{eqb-true}
-use Rattle.std.proofs.lemmas.Bool.Decides.{nat_tests}
+use Rattle.std.proofs.Common.{◌≡◌, ◌==◌, ◌++◌, ℕ, Bool, true, false, cond, List, [], length, drop}
+use Rattle.std.{proofs.Common.{refl, sym, ap, ◌∙◌, arith, append-nil}, specs.Prelude.Some}
+use Rattle.std.{specs.List.flat_map, proofs.lemmas.Bool.{eqb-true, Decides.nat_tests}}
 use mathlib.Core.Path.{fun_ext}
-use Rattle.do_machine.specs.declared.item.Item.{Item}
-use Rattle.do_machine.specs.declared.state.State.{State}
+use Rattle.do_machine.specs.declared.{item.Item.Item, state.State.State}
 use Rattle.do_machine.specs.State.{change, queue, with_queue}
 use Rattle.do_facts.proofs.machine.follows.States.{requeued}
 use Rattle.do_facts.proofs.machine.passing.Lookups.{elsewhere_stays, other_stays, that_changed}
-use Rattle.do_facts.specs.Net.{Net, atoms_of, net_after, noted, with_part}
-use Rattle.do_facts.specs.Moves.{with_wire}
+use Rattle.do_facts.specs.{Net.{Net, atoms_of, net_after, noted, with_part}, Moves.with_wire}
 use Rattle.do_facts.specs.View.{View, net_of, part_seen, wire_seen}
-use Rattle.do_facts.proofs.Nets.{part_same}
-use Rattle.do_facts.proofs.Notes.{atoms_noted, first_dropped, none_noted}
+use Rattle.do_facts.proofs.{Nets.part_same, Notes.{atoms_noted, first_dropped, none_noted}}
 
 module _ {P A : Type 0} (view : View P A) (from to : ℕ) (S : State) (waiting items : List Item)
     (here : queue S from to ≡ Some waiting) where

@@ -1,31 +1,23 @@
 -- What holds of each verdict that a rule of an act may give holds of the one that it gives.
+use Rattle.do_machine.specs.declared.verdict.Request.TheVariants as requests
 use Rattle.std.proofs.Common.{◌≡◌, ◌==◌, ◌&&◌, ◌||◌, ℕ, Bool, true, false, cond, not, [], refl}
 use Rattle.std.specs.Prelude.{None, Option, Some}
-use Rattle.do_base.specs.names.Names.{ObjectName}
-use Rattle.do_base.specs.values.Kinds.{is_nil, number, object}
-use Rattle.do_base.specs.declared.values.value.Value.{Value}
-use Rattle.do_base.specs.declared.values.value.Value.TheVariants.{Nil}
-use Rattle.do_base.specs.declared.events.exception.Exc.{Exc}
-use Rattle.do_base.specs.declared.events.exception.Exc.TheVariants.{ConnectionDied, Deep}
+use Rattle.do_base.specs.{names.Names.ObjectName, values.Kinds.{is_nil, number, object}}
+use Rattle.do_base.specs.declared.values.value.Value.{Value, TheVariants.Nil}
+use Rattle.do_base.specs.declared.events.exception.Exc.{Exc, TheVariants.{ConnectionDied, Deep}}
 use Rattle.do_base.specs.declared.events.exception.Exc.TheVariants.{NotUnderstood, NotVended}
 use Rattle.do_base.specs.declared.events.exception.Exc.TheVariants.{TooLarge, TypeFault}
-use Rattle.do_class.specs.Table.{signature_of}
-use Rattle.do_class.specs.declared.packet.Packet.{Packet}
+use Rattle.do_class.specs.{Table.signature_of, declared.packet.Packet.Packet}
 use Rattle.do_sig.specs.Calls.{inputs_fit, is_oneway, is_void, returned_fits}
 use Rattle.do_sig.specs.declared.signature.Signature.{Signature}
-use Rattle.do_machine.specs.declared.verdict.Request.TheVariants as requests
-use Rattle.do_machine.specs.declared.verdict.SendAct.{SendAct}
-use Rattle.do_machine.specs.declared.verdict.Verdict.{Verdict}
+use Rattle.do_machine.specs.declared.verdict.{SendAct.SendAct, Verdict.Verdict}
 use Rattle.do_machine.specs.declared.verdict.Verdict.TheVariants.{Asks, Begins, Fails, Goes}
 use Rattle.do_machine.specs.declared.verdict.Verdict.TheVariants.{Returns, Tells, Vends}
 use Rattle.do_machine.specs.Context.{Found, RunContext, class_seen, method_for}
-use Rattle.do_machine.specs.Packing.{packed_for}
-use Rattle.do_machine.specs.State.{is_known, is_open, is_own}
+use Rattle.do_machine.specs.{Packing.packed_for, State.{is_known, is_open, is_own}}
 use Rattle.do_machine.specs.run.Acts.{outs_fit, port_of, return_rule, root_rule, root_value}
-use Rattle.do_machine.specs.run.Acts.{vend_rule}
-use Rattle.do_machine.specs.run.Fresh.{is_full}
-use Rattle.do_machine.specs.run.Send.{arguments, inputs, local_rule, message, outs_of, remote_rule}
-use Rattle.do_machine.specs.run.Send.{send_rule}
+use Rattle.do_machine.specs.run.{Acts.vend_rule, Fresh.is_full, Send.{arguments, inputs}}
+use Rattle.do_machine.specs.run.Send.{local_rule, message, outs_of, remote_rule, send_rule}
 use Rattle.do_facts.proofs.Chains.{either, found_or, not_closed}
 
 -- of an object that is not the node's own, what did not fail holds

@@ -1,39 +1,24 @@
 -- Every step of the machine is moves of one node, or a loss.
+use Rattle.do_machine.specs.declared.item.Item.TheVariants as items
 use Rattle.std.proofs.Common.{◌≡◌, ◌++◌, ℕ, Bool, true, false, cond, not, List, [], ◌∷◌, drop, take}
 use Rattle.std.proofs.Common.{refl, sym, ap, ◌∙◌, subst}
 use Rattle.std.specs.Prelude.{None, Option, Some, length, nat_lt, option_and_then, option_map}
 use Rattle.std.specs.List.{flat_map, insert}
-use Rattle.std.proofs.lemmas.Grind.{flat_map-append}
-use Rattle.std.proofs.lemmas.List.{take-append-drop}
-use Rattle.std.proofs.lemmas.List.Concat.{flat_map-cons}
-use Rattle.do_base.specs.declared.events.event.Event.{Event}
-use Rattle.do_base.specs.declared.events.event.Event.TheVariants.{Check, Close, Lose, Run, Start}
-use Rattle.do_base.specs.declared.events.event.Event.TheVariants.{Take, Timeout}
+use Rattle.std.proofs.lemmas.{Grind.flat_map-append, List.{take-append-drop, Concat.flat_map-cons}}
+use Rattle.do_base.specs.declared.events.event.Event.{Event, TheVariants.{Check, Close, Lose, Run}}
+use Rattle.do_base.specs.declared.events.event.Event.TheVariants.{Start, Take, Timeout}
 use Rattle.do_class.specs.Class.{Class}
-use Rattle.do_machine.specs.declared.item.Item.{Item}
-use Rattle.do_machine.specs.declared.item.Item.TheVariants as items
-use Rattle.do_machine.specs.declared.node.Node.{Node}
-use Rattle.do_machine.specs.declared.state.Effect.{Effect}
-use Rattle.do_machine.specs.declared.state.State.{State}
-use Rattle.do_machine.specs.declared.state.Stepped.{Stepped}
-use Rattle.do_machine.specs.Commit.{moved, showed}
-use Rattle.do_machine.specs.Context.{context}
-use Rattle.do_machine.specs.Start.{start_effect}
-use Rattle.do_machine.specs.State.{change, is_open, node, queue, with_queue}
-use Rattle.do_machine.specs.Step.{moved_by, step}
-use Rattle.do_machine.specs.ends.Closing.{closing}
-use Rattle.do_machine.specs.ends.Losing.{lost}
-use Rattle.do_machine.specs.ends.TimeOut.{time_out}
+use Rattle.do_machine.specs.declared.{item.Item.Item, node.Node.Node, state.Effect.Effect}
+use Rattle.do_machine.specs.{declared.state.{State.State, Stepped.Stepped}, Commit.{moved, showed}}
+use Rattle.do_machine.specs.{Context.context, Start.start_effect, State.{change, is_open, node}}
+use Rattle.do_machine.specs.{State.{queue, with_queue}, Step.{moved_by, step}, ends.Closing.closing}
+use Rattle.do_machine.specs.ends.{Losing.lost, TimeOut.time_out}
 use Rattle.do_facts.specs.laws.Entries.{HasQueues}
 use Rattle.do_machine.specs.run.Run.{Acting, run_effect}
-use Rattle.do_facts.specs.ByEvents.{IsBy, IsLossOn, IsMoveOf}
-use Rattle.do_facts.specs.Moves.{Happening, Reaches, Rules, with_wire}
-use Rattle.do_facts.specs.View.{AreApart, AreMovesIf, View, net_of, part_seen, wire_seen}
-use Rattle.do_facts.proofs.Bridge.{Bridge}
-use Rattle.do_facts.proofs.EffectReaches.{reaches_moved}
-use Rattle.do_facts.proofs.Paths.{reaches_lost}
-use Rattle.do_facts.proofs.RequeueAsNet.{net_requeued}
-use Rattle.do_facts.proofs.Chains.{not_closed}
+use Rattle.do_facts.specs.{ByEvents.{IsBy, IsLossOn, IsMoveOf}, Moves.{Happening, Reaches, Rules}}
+use Rattle.do_facts.specs.{Moves.with_wire, View.{AreApart, AreMovesIf, View, net_of, part_seen}}
+use Rattle.do_facts.{specs.View.wire_seen, proofs.{Bridge.Bridge, EffectReaches.reaches_moved}}
+use Rattle.do_facts.proofs.{Paths.reaches_lost, RequeueAsNet.net_requeued, Chains.not_closed}
 use Rattle.do_facts.proofs.TakeReaches.{Comes, comes_if, comes_same, comes_take, linked_here}
 
 module _ {P A V : Type 0} (view : View P A) (rules : Rules P A V) (Ok : P → Type 0)

@@ -1,11 +1,9 @@
 -- Sums along lists that change.
-use Rattle.std.proofs.Common.{◌≡◌, ◌+◌, ◌≤◌, ℕ, Bool, true, false, List, [], ◌∷◌, filter, map}
-use Rattle.std.proofs.Common.{take, drop, refl, ap, arith}
-use Rattle.std.specs.Prelude.{None, Option, Some, if◌then◌else◌, position}
-use Rattle.std.proofs.lemmas.List.{take-append-drop}
+use Rattle.std.proofs.Common.{◌≡◌, ◌+◌, ◌≤◌, ℕ, Bool, true, false, List, [], ◌∷◌, filter, map, take}
+use Rattle.std.{proofs.Common.{drop, refl, ap, arith}, specs.Prelude.{None, Option, Some}}
+use Rattle.std.{specs.Prelude.{if◌then◌else◌, position}, proofs.lemmas.List.take-append-drop}
 use Rattle.do_machine.specs.Lists.{change_first, inserted, put_at}
-use Rattle.do_facts.specs.Net.{total}
-use Rattle.do_facts.proofs.Notes.{total-append}
+use Rattle.do_facts.{specs.Net.total, proofs.Notes.total-append}
 
 -- 1 where a test passes
 abbrev pub number_if : Bool → ℕ

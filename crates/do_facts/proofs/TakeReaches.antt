@@ -1,32 +1,22 @@
 -- A take is moves of the node that takes.
 use Rattle.std.proofs.Common.{◌≡◌, ◌==◌, ◌++◌, ℕ, Bool, true, false, cond, not, List, [], ◌∷◌, drop}
 use Rattle.std.proofs.Common.{refl, sym, ap, ◌∙◌, subst, append-nil}
-use Rattle.std.specs.Prelude.{None, Option, Some, slice_get, unwrap_or}
-use Rattle.std.specs.List.{flat_map}
+use Rattle.std.specs.{Prelude.{None, Option, Some, slice_get, unwrap_or}, List.flat_map}
 use Rattle.std.proofs.lemmas.Bool.{eqb-true}
 use Rattle.do_class.specs.Class.{Class}
-use Rattle.do_machine.specs.declared.item.Item.{Item}
-use Rattle.do_machine.specs.declared.node.Node.{Node}
-use Rattle.do_machine.specs.declared.state.Effect.{Effect}
-use Rattle.do_machine.specs.declared.state.State.{State}
-use Rattle.do_machine.specs.declared.state.Stepped.{Stepped}
-use Rattle.do_machine.specs.Commit.{commit, moved, skipped}
-use Rattle.do_machine.specs.Context.{context}
+use Rattle.do_machine.specs.declared.{item.Item.Item, node.Node.Node, state.Effect.Effect}
+use Rattle.do_machine.specs.declared.state.{State.State, Stepped.Stepped}
+use Rattle.do_machine.specs.{Commit.{commit, moved, skipped}, Context.context}
 use Rattle.do_machine.specs.State.{change, is_open, node, queue, with_queue}
 use Rattle.do_facts.specs.laws.Entries.{HasQueues}
-use Rattle.do_machine.specs.take.Take.{can_serve, can_take, take_effect}
-use Rattle.do_machine.proofs.Bools.{fails}
-use Rattle.do_facts.proofs.Chains.{first_of}
-use Rattle.do_facts.proofs.machine.follows.States.{changed, requeued}
+use Rattle.do_machine.{specs.take.Take.{can_serve, can_take, take_effect}, proofs.Bools.fails}
+use Rattle.do_facts.proofs.{Chains.first_of, machine.follows.States.{changed, requeued}}
 use Rattle.do_facts.proofs.machine.passing.Lookups.{none_goes}
-use Rattle.do_facts.specs.Net.{Net, StandFirst, atoms_of, net_after, noted}
-use Rattle.do_facts.specs.ByEvents.{IsMoveOf}
-use Rattle.do_facts.specs.Moves.{Happening, Reaches, Rules, Runs}
-use Rattle.do_facts.specs.View.{AreApart, AreMoves, View, net_of, part_seen, posted, wire_seen}
-use Rattle.do_facts.proofs.Bridge.{Bridge}
+use Rattle.do_facts.specs.{Net.{Net, StandFirst, atoms_of, net_after, noted}, ByEvents.IsMoveOf}
+use Rattle.do_facts.specs.{Moves.{Happening, Reaches, Rules, Runs}, View.{AreApart, AreMoves, View}}
+use Rattle.do_facts.{specs.View.{net_of, part_seen, posted, wire_seen}, proofs.Bridge.Bridge}
 use Rattle.do_facts.proofs.EffectReaches.{IsLinked, linked_by, net_by, ok_by, reaches_leaving}
-use Rattle.do_facts.proofs.Nets.{net_twice}
-use Rattle.do_facts.proofs.Notes.{atoms_noted, none_noted}
+use Rattle.do_facts.proofs.{Nets.net_twice, Notes.{atoms_noted, none_noted}}
 use Rattle.do_facts.proofs.Paths.{reaches_by, reaches_on, reaches_same}
 use Rattle.do_facts.proofs.RequeueAsNet.{net_requeued, net_taken}
 

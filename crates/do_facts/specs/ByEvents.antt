@@ -1,7 +1,7 @@
 -- By which events what happens to a net may happen.
+use Rattle.do_base.specs.declared.events.event.Event.TheVariants as events
 use Rattle.std.specs.Prelude.{ℕ, ◌≡◌}
 use Rattle.do_base.specs.declared.events.event.Event.{Event}
-use Rattle.do_base.specs.declared.events.event.Event.TheVariants as events
 use Rattle.do_facts.specs.Moves.{Happening, Lost, Moved}
 
 -- the node of a port moves

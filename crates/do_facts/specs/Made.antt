@@ -1,12 +1,8 @@
 -- What is named was made, and what is in use is stored.
 use Rattle.std.specs.Prelude.{All, Bool, List, Some, is_some, nat_lt, true, ℕ, ◌≡◌}
 use Rattle.do_base.specs.names.Names.{ObjectName}
-use Rattle.do_machine.specs.declared.item.Item.{Item}
-use Rattle.do_machine.specs.declared.node.Node.{Node}
-use Rattle.do_machine.specs.declared.state.State.{State}
-use Rattle.do_machine.specs.Entry.{has_entry}
-use Rattle.do_machine.specs.Items.{names}
-use Rattle.do_machine.specs.Lists.{some_passes}
+use Rattle.do_machine.specs.declared.{item.Item.Item, node.Node.Node, state.State.State}
+use Rattle.do_machine.specs.{Entry.has_entry, Items.names, Lists.some_passes}
 use Rattle.do_machine.specs.State.{node, queue, stored}
 
 -- the object's home gave its serial

@@ -1,14 +1,11 @@
 -- Exceptions as bytes: the number of each, and a user's text behind it.
 use Rattle.std.specs.Prelude.{◌==◌, ℕ, ◌≤◌, List, [], ◌++◌, length, if◌then◌else◌}
-use Rattle.do_base.specs.declared.events.exception.Exc.{Exc}
-use Rattle.do_base.specs.declared.events.exception.Exc.TheVariants.{TypeFault, Range, Deep}
+use Rattle.do_base.specs.declared.events.exception.Exc.{Exc, TheVariants.{TypeFault, Range, Deep}}
 use Rattle.do_base.specs.declared.events.exception.Exc.TheVariants.{NotUnderstood, ConnectionDied}
 use Rattle.do_base.specs.declared.events.exception.Exc.TheVariants.{NotVended, TooLarge, User}
 use Rattle.do_base.specs.declared.events.exception.Exc.TheVariants.{TimedOut}
-use Rattle.do_grammar.specs.Grammar.{IsBytes}
-use Rattle.do_grammar.specs.Num.{num, num_at, counted, counted_at}
-use Rattle.do_grammar.specs.OneSpelling.{both}
-use Rattle.do_grammar.specs.Reader.{Reader, no_kind, done, mapped}
+use Rattle.do_grammar.specs.{Grammar.IsBytes, Num.{num, num_at, counted, counted_at}}
+use Rattle.do_grammar.specs.{OneSpelling.both, Reader.{Reader, no_kind, done, mapped}}
 
 -- ---- one spelling
 

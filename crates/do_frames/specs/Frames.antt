@@ -1,19 +1,15 @@
 -- Frames: the kind and the one spelling of each payload, by a table of recent names.
+use Rattle.do_frames.specs.declared.kind.Kind.TheVariants as kinds
 use Rattle.std.specs.Prelude.{ℕ, ◌≤◌, List, [], ◌∷◌, ◌++◌, length}
 use Rattle.do_base.specs.names.Names.{TokenName}
 use Rattle.do_grammar.specs.Num.{num, digits, counted}
-use Rattle.do_coder.specs.declared.recent.pair.Pair.{Pair}
-use Rattle.do_coder.specs.Recent.{IsSerial}
+use Rattle.do_coder.specs.{declared.recent.pair.Pair.Pair, Recent.IsSerial}
 use Rattle.do_coder.specs.Packets.{Surroundings, packet_spelling, IsPacket, after_packet}
-use Rattle.do_frames.specs.declared.frame.Frame.{Frame}
-use Rattle.do_frames.specs.declared.frame.Frame.TheVariants.{Call, Oneway, Reply, Raised, RootAsk}
-use Rattle.do_frames.specs.declared.frame.Frame.TheVariants.{RootAnswer, Retain, Granted, Gone}
-use Rattle.do_frames.specs.declared.frame.Frame.TheVariants.{Release, Settle, Shutdown}
-use Rattle.do_frames.specs.declared.frame.RawFrame.{RawFrame}
-use Rattle.do_frames.specs.declared.kind.Kind.{Kind}
-use Rattle.do_frames.specs.declared.kind.Kind.TheVariants as kinds
-use Rattle.do_frames.specs.Exceptions.{exc_spelling, IsExc}
-use Rattle.do_frames.specs.Kinds.{kind_number}
+use Rattle.do_frames.specs.declared.frame.Frame.{Frame, TheVariants.{Call, Oneway, Reply, Raised}}
+use Rattle.do_frames.specs.declared.frame.Frame.TheVariants.{RootAsk, RootAnswer, Retain, Granted}
+use Rattle.do_frames.specs.declared.frame.Frame.TheVariants.{Gone, Release, Settle, Shutdown}
+use Rattle.do_frames.specs.declared.{frame.RawFrame.RawFrame, kind.Kind.Kind}
+use Rattle.do_frames.specs.{Exceptions.{exc_spelling, IsExc}, Kinds.kind_number}
 use Rattle.do_frames.specs.Selectors.{IsSelector}
 
 abbrev pub kind_of : Frame → Kind

@@ -1,7 +1,7 @@
 -- The kinds of frames by their numbers.
+use Rattle.do_frames.specs.declared.kind.Kind.TheVariants as kinds
 use Rattle.std.specs.Prelude.{ℕ, ◌==◌, Bool, ◌||◌, nat_le, Option, Some, None, if◌then◌else◌}
 use Rattle.do_frames.specs.declared.kind.Kind.{Kind}
-use Rattle.do_frames.specs.declared.kind.Kind.TheVariants as kinds
 
 -- the number of a kind
 abbrev pub kind_number : Kind → ℕ

@@ -1,27 +1,19 @@
 -- Payloads of frames: what they spell by their kind, how they are read, and what an answer tells.
-use Rattle.std.specs.Prelude.{◌≡◌, ℕ, List, length, Result, Ok, Err, Option, Some, None}
-use Rattle.std.specs.Prelude.{◌⊎◌}
+use Rattle.do_frames.specs.declared.kind.Kind.TheVariants as kinds
+use Rattle.std.specs.Prelude.{◌≡◌, ℕ, List, length, Result, Ok, Err, Option, Some, None, ◌⊎◌}
 use Rattle.do_base.specs.names.Names.{TokenName}
 use Rattle.do_class.specs.declared.packet.Packet.{Packet}
-use Rattle.do_grammar.specs.Grammar.{IsProperFront, IsFirstBadWhole}
-use Rattle.do_grammar.specs.Num.{num_at}
-use Rattle.do_grammar.specs.OneSpelling.{Spelled, both}
-use Rattle.do_grammar.specs.Reader.{Reader, no_kind, done, mapped}
-use Rattle.do_coder.specs.declared.recent.pair.Pair.{Pair}
-use Rattle.do_coder.specs.Names.{serial_at}
+use Rattle.do_grammar.specs.{Grammar.{IsProperFront, IsFirstBadWhole}, Num.num_at}
+use Rattle.do_grammar.specs.{OneSpelling.{Spelled, both}, Reader.{Reader, no_kind, done, mapped}}
+use Rattle.do_coder.specs.{declared.recent.pair.Pair.Pair, Names.serial_at}
 use Rattle.do_coder.specs.Packets.{Surroundings, packet_at}
-use Rattle.do_frames.specs.declared.fault.RawFault.{RawFault}
-use Rattle.do_frames.specs.declared.fault.RawFault.TheVariants.{BadFrame, Memory}
-use Rattle.do_frames.specs.declared.frame.Frame.{Frame}
-use Rattle.do_frames.specs.declared.frame.Frame.TheVariants.{Call, Oneway, Reply, Raised, RootAsk}
-use Rattle.do_frames.specs.declared.frame.Frame.TheVariants.{RootAnswer, Retain, Granted, Gone}
-use Rattle.do_frames.specs.declared.frame.Frame.TheVariants.{Release, Settle, Shutdown}
-use Rattle.do_frames.specs.declared.kind.Kind.{Kind}
-use Rattle.do_frames.specs.declared.kind.Kind.TheVariants as kinds
-use Rattle.do_frames.specs.Exceptions.{exc_at}
+use Rattle.do_frames.specs.declared.fault.RawFault.{RawFault, TheVariants.{BadFrame, Memory}}
+use Rattle.do_frames.specs.declared.frame.Frame.{Frame, TheVariants.{Call, Oneway, Reply, Raised}}
+use Rattle.do_frames.specs.declared.frame.Frame.TheVariants.{RootAsk, RootAnswer, Retain, Granted}
+use Rattle.do_frames.specs.declared.frame.Frame.TheVariants.{Gone, Release, Settle, Shutdown}
+use Rattle.do_frames.specs.{declared.kind.Kind.Kind, Exceptions.exc_at}
 use Rattle.do_frames.specs.Frames.{kind_of, payload_spelling, IsFrame}
-use Rattle.do_frames.specs.Kinds.{kind_number, kind_at}
-use Rattle.do_frames.specs.Selectors.{selector_at}
+use Rattle.do_frames.specs.{Kinds.{kind_number, kind_at}, Selectors.selector_at}
 
 -- The grammar of the payloads of frames whose kind has a number, by the surroundings and a table of
 -- recent names.

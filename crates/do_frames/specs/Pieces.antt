@@ -1,13 +1,10 @@
 -- Whole streams, in whatever pieces they come: the frames behind the greeting, and what has come of
 -- the next one.
-use Rattle.std.specs.Prelude.{◌≡◌, ℕ, ◌-◌, Bool, true, false, List, [], ◌∷◌, ◌++◌, length}
-use Rattle.std.specs.Prelude.{None}
+use Rattle.std.specs.Prelude.{◌≡◌, ℕ, ◌-◌, Bool, true, false, List, [], ◌∷◌, ◌++◌, length, None}
 use Rattle.std.specs.List.{flat_map, AllByRecursion}
 use Rattle.do_grammar.specs.Grammar.{IsProperFront, IsFirstBad}
-use Rattle.do_frames.specs.declared.fault.StreamFault.{StreamFault}
-use Rattle.do_frames.specs.declared.fault.StreamFault.TheVariants.{Memory}
-use Rattle.do_frames.specs.declared.frame.RawFrame.{RawFrame}
-use Rattle.do_frames.specs.Frames.{raw_spelling}
+use Rattle.do_frames.specs.declared.fault.StreamFault.{StreamFault, TheVariants.Memory}
+use Rattle.do_frames.specs.{declared.frame.RawFrame.RawFrame, Frames.raw_spelling}
 use Rattle.do_frames.specs.Streams.{hello, IsRaw, Front, Stream, fault_of, place_after}
 
 -- there is a frame, so that the greeting was passed over

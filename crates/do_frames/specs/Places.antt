@@ -1,10 +1,8 @@
 -- Where a frame stands in the bytes that it begins.
 use Rattle.std.specs.Prelude.{ℕ, ◌-◌, ◌≤◌, Bool, List, length, drop, take, Result, Ok, Err}
-use Rattle.do_grammar.specs.declared.fault.ReadFault.{ReadFault}
-use Rattle.do_grammar.specs.declared.fault.ReadFault.TheVariants.{Memory, Short, Bad}
+use Rattle.do_grammar.specs.declared.fault.ReadFault.{ReadFault, TheVariants.{Memory, Short, Bad}}
 use Rattle.do_grammar.specs.Grammar.{IsProperFront, IsFirstBad, Takes}
-use Rattle.do_frames.specs.declared.stream.front.FramePlace.{FramePlace}
-use Rattle.do_frames.specs.Streams.{Front}
+use Rattle.do_frames.specs.{declared.stream.front.FramePlace.FramePlace, Streams.Front}
 
 -- a frame begins the bytes, and its payload stands between two places
 pub record IsPlaced (greeted : Bool) (bytes : List ℕ) (p : FramePlace) : Type 0 where

@@ -1,8 +1,7 @@
 -- Selectors behind their length, read byte by byte.
-use Rattle.std.specs.Prelude.{◌≡◌, ◌==◌, ◌&&◌, ◌||◌, not, ℕ, zero, suc, ◌-◌, Bool, true}
-use Rattle.std.specs.Prelude.{List, [], ◌∷◌, nat_lt, if◌then◌else◌}
-use Rattle.do_grammar.specs.Names.{begins_name, goes_in_selector, is_selector}
-use Rattle.do_grammar.specs.Num.{num_at}
+use Rattle.std.specs.Prelude.{◌≡◌, ◌==◌, ◌&&◌, ◌||◌, not, ℕ, zero, suc, ◌-◌, Bool, true, List, []}
+use Rattle.std.specs.Prelude.{◌∷◌, nat_lt, if◌then◌else◌}
+use Rattle.do_grammar.specs.{Names.{begins_name, goes_in_selector, is_selector}, Num.num_at}
 use Rattle.do_grammar.specs.OneSpelling.{both}
 use Rattle.do_grammar.specs.Reader.{Reader, no_kind, done, and_then, mapped, byte_of}
 

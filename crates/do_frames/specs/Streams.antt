@@ -1,16 +1,13 @@
 -- Streams of frames, which begin with a greeting, and how they are read.
-use Rattle.std.specs.Prelude.{◌≡◌, ◌==◌, ◌&&◌, ℕ, ◌+◌, ◌-◌, ◌%◌, ◌^◌, ◌≤◌, Bool, true, false}
-use Rattle.std.specs.Prelude.{List, [], ◌∷◌, ◌++◌, length, get_or, nat_le, nat_lt, Option, Some}
-use Rattle.std.specs.Prelude.{None, Result, Ok, Err, if◌then◌else◌}
-use Rattle.do_grammar.specs.Grammar.{IsBytes, IsProperFront, IsFirstBad}
-use Rattle.do_grammar.specs.Num.{digits_at}
+use Rattle.std.specs.Prelude.{◌≡◌, ◌==◌, ◌&&◌, ℕ, ◌+◌, ◌-◌, ◌%◌, ◌^◌, ◌≤◌, Bool, true, false, List}
+use Rattle.std.specs.Prelude.{[], ◌∷◌, ◌++◌, length, get_or, nat_le, nat_lt, Option, Some, None}
+use Rattle.std.specs.Prelude.{Result, Ok, Err, if◌then◌else◌}
+use Rattle.do_grammar.specs.{Grammar.{IsBytes, IsProperFront, IsFirstBad}, Num.digits_at}
 use Rattle.do_grammar.specs.OneSpelling.{Spelled, both}
 use Rattle.do_grammar.specs.Reader.{Reader, no_kind, done, and_then, mapped, byte_of, bytes_of}
-use Rattle.do_frames.specs.declared.fault.StreamFault.{StreamFault}
-use Rattle.do_frames.specs.declared.fault.StreamFault.TheVariants.{BadKind, BadLength, BadVersion}
-use Rattle.do_frames.specs.declared.fault.StreamFault.TheVariants.{Memory}
-use Rattle.do_frames.specs.declared.frame.RawFrame.{RawFrame}
-use Rattle.do_frames.specs.Frames.{raw_spelling}
+use Rattle.do_frames.specs.declared.fault.StreamFault.{StreamFault, TheVariants.BadKind}
+use Rattle.do_frames.specs.declared.fault.StreamFault.TheVariants.{BadLength, BadVersion, Memory}
+use Rattle.do_frames.specs.{declared.frame.RawFrame.RawFrame, Frames.raw_spelling}
 
 -- ---- the grammar
 

@@ -5,8 +5,7 @@ ghost use Rattle.do_grammar.specs.Num.{num, digits, counted};
 ghost use Rattle.do_coder.specs.Packets.{packet_spelling, after_packet};
 ghost use Rattle.do_frames.specs.Exceptions.{exc_spelling};
 ghost use Rattle.do_frames.specs.Frames.{kind_of as frame_kind, token_spelling, payload_spelling};
-ghost use Rattle.do_frames.specs.Frames.{frame_spelling, after_frame};
-ghost use Rattle.do_frames.specs.Kinds.{kind_number};
+ghost use Rattle.do_frames.specs.{Frames.{frame_spelling, after_frame}, Kinds.kind_number};
 
 use crate::frame::Frame;
 use crate::kind::{Kind, number_of};

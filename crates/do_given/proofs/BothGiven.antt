@@ -1,13 +1,10 @@
 -- What two words give, of which the second is read only where the first gives something.
 use Rattle.std.proofs.Common.{◌≤◌, ◌⊎◌, ℕ, List, Option, Ok, Err, inl, inr, arith, sym}
 use Rattle.std.proofs.Math.Path.{ap₂}
-use Rattle.do_base.specs.outside.Causes.{Rose}
-use Rattle.do_base.specs.declared.outside.shelf.NamedFile.{NamedFile}
-use Rattle.do_given.specs.declared.status.Status.{Status}
-use Rattle.do_given.specs.Files.{IsUnread}
+use Rattle.do_base.specs.{outside.Causes.Rose, declared.outside.shelf.NamedFile.NamedFile}
+use Rattle.do_given.specs.{declared.status.Status.Status, Files.IsUnread}
 use Rattle.do_given.specs.Reading.{OrUnread, RefusesSecond, Stops}
-use Rattle.do_given.proofs.FilesTold.{no_err, read_is}
-use Rattle.do_given.proofs.Stopping.{give_any, must_be, stops_as}
+use Rattle.do_given.proofs.{FilesTold.{no_err, read_is}, Stopping.{give_any, must_be, stops_as}}
 
 -- a count that rose in a part of a call rose in the whole
 rose_earlier : (before mid now : ℕ) → before ≤ mid → Rose mid now → Rose before now

@@ -1,11 +1,8 @@
 -- What is answered of a file that the shelf tells.
-use Rattle.std.proofs.Common.{◌≡◌, ◌≤◌, ◌<◌, ℕ, List, Option, Some, Result, Ok, Err}
-use Rattle.std.proofs.Common.{length, inl, inr, subst, arith, refl}
-use Rattle.std.specs.Option.{ForSome, IsSomeAnd}
-use Rattle.do_base.specs.outside.Files.{file_named}
-use Rattle.do_base.specs.declared.outside.shelf.NamedFile.{NamedFile}
-use Rattle.do_given.specs.declared.status.Status.{Status}
-use Rattle.do_given.specs.Files.{IsFile, IsLong}
+use Rattle.std.proofs.Common.{◌≡◌, ◌≤◌, ◌<◌, ℕ, List, Option, Some, Result, Ok, Err, length, inl}
+use Rattle.std.{proofs.Common.{inr, subst, arith, refl}, specs.Option.{ForSome, IsSomeAnd}}
+use Rattle.do_base.specs.{outside.Files.file_named, declared.outside.shelf.NamedFile.NamedFile}
+use Rattle.do_given.specs.{declared.status.Status.Status, Files.{IsFile, IsLong}}
 use Rattle.do_given.specs.Reading.{HasText, NamesNone, OrMemory, OrUnread}
 
 -- a file that was read is the one that is told

@@ -1,10 +1,8 @@
 -- A world that no built-in one's name gives.
 use Rattle.std.proofs.Common.{◌≡◌, ℕ, List, Option, Some, None, Result, Ok, inl, inr}
 use Rattle.do_base.specs.declared.outside.shelf.NamedFile.{NamedFile}
-use Rattle.do_world.specs.Builtin.{builtin_world}
-use Rattle.do_world.specs.declared.world.World.{World}
-use Rattle.do_given.specs.declared.status.Status.{Status}
-use Rattle.do_given.specs.Reading.{GivesWorld, OrUnread, SaysWorld}
+use Rattle.do_world.specs.{Builtin.builtin_world, declared.world.World.World}
+use Rattle.do_given.specs.{declared.status.Status.Status, Reading.{GivesWorld, OrUnread, SaysWorld}}
 
 -- where a word names no built-in world, its file gives it
 pub given_by_file : (found : Option World) (files : List NamedFile) (word : List ℕ) (world : World)

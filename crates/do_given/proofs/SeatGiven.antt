@@ -1,17 +1,15 @@
 -- A world that a word gives, and its node of a port.
-use Rattle.std.proofs.Common.{◌≡◌, ◌⊎◌, ℕ, List, None, Some, Ok, Err, inl, inr, ap, sym}
-use Rattle.std.proofs.Common.{subst, codes, ◌∙◌, refl}
+use Rattle.std.proofs.Common.{◌≡◌, ◌⊎◌, ℕ, List, None, Some, Ok, Err, inl, inr, ap, sym, subst}
+use Rattle.std.proofs.Common.{codes, ◌∙◌, refl}
 use Rattle.do_base.specs.declared.outside.shelf.NamedFile.{NamedFile}
 use Rattle.do_document.specs.declared.fault.WorldFault.TheVariants.{Wrong}
 use Rattle.do_machine.specs.declared.state.Seat.{Seat}
 use Rattle.do_world.specs.declared.world.World.{World}
-use Rattle.do_given.specs.declared.seated.Seated.{Seated}
-use Rattle.do_given.specs.declared.status.Status.{Status}
+use Rattle.do_given.specs.declared.{seated.Seated.Seated, status.Status.Status}
 use Rattle.do_given.specs.declared.status.Status.TheVariants.{BadWorld, Memory}
 use Rattle.do_given.specs.Reading.{GivesWorld, OrUnread, RefusesWorld}
 use Rattle.do_given.specs.Serving.{GivesSeat, RefusesSeat, seat_at}
-use Rattle.do_given.proofs.FilesTold.{no_err, read_is}
-use Rattle.do_given.proofs.Stopping.{give_any, must_be}
+use Rattle.do_given.proofs.{FilesTold.{no_err, read_is}, Stopping.{give_any, must_be}}
 
 module _ (files : List NamedFile) (port : ℕ) (word : List ℕ) where
   -- where no world was read, a refusal is answered that must be

@@ -1,8 +1,7 @@
 -- What stops a command, and what is answered where something must be.
-use Rattle.std.proofs.Common.{◌≡◌, ◌⊎◌, Result, Ok, Err, inl, inr, ap}
-use Rattle.do_given.specs.declared.status.Status.{Status}
 use Rattle.do_given.specs.declared.status.Status.TheVariants as answer
-use Rattle.do_given.specs.Reading.{OrUnread, Stops}
+use Rattle.std.proofs.Common.{◌≡◌, ◌⊎◌, Result, Ok, Err, inl, inr, ap}
+use Rattle.do_given.specs.{declared.status.Status.Status, Reading.{OrUnread, Stops}}
 
 -- a status that is answered where another must be
 pub must_be : {A B : Type 0} (wanted status : Status) → OrUnread {A = A} (Err wanted) (Err status)

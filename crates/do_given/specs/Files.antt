@@ -1,11 +1,9 @@
 -- The files that a command reads.
 use Rattle.std.specs.Prelude.{◌≡◌, ℕ, ◌+◌, ◌<◌, ◌≤◌, ◌⊎◌, List, length, Option, Some, None}
 use Rattle.std.specs.Option.{ForSome, IsSomeAnd}
-use Rattle.do_base.specs.outside.Causes.{Rose}
-use Rattle.do_base.specs.outside.Files.{file_named}
+use Rattle.do_base.specs.outside.{Causes.Rose, Files.file_named}
 use Rattle.do_base.specs.declared.outside.shelf.NamedFile.{NamedFile}
-use Rattle.do_given.specs.declared.status.Status.{Status}
-use Rattle.do_given.specs.declared.status.Status.TheVariants.{TooLong}
+use Rattle.do_given.specs.declared.status.Status.{Status, TheVariants.TooLong}
 
 -- the most bytes of a world's file
 abbrev pub most_of_world : ℕ

@@ -1,19 +1,14 @@
 -- What the words of a command give: a world, the lines of a schedule, an upgraded schedule.
+use Rattle.do_sched.specs.declared.fault.SchedFault.TheVariants as sched
 use Rattle.std.specs.Prelude.{◌≡◌, ℕ, ◌⊎◌, List, Option, Some, None, Result, Err}
 use Rattle.do_base.specs.declared.outside.shelf.NamedFile.{NamedFile}
-use Rattle.do_sched.specs.declared.line.Line.{Line}
-use Rattle.do_sched.specs.declared.fault.SchedFault.{SchedFault}
-use Rattle.do_sched.specs.declared.fault.SchedFault.TheVariants as sched
-use Rattle.do_sched.specs.declared.version.Version.{Version}
-use Rattle.do_sched.specs.declared.version.Version.TheVariants.{First, Second}
-use Rattle.do_sched.specs.Schedule.{IsScheduleOf, IsFaultOf}
-use Rattle.do_sched.specs.Spelling.{spelling}
-use Rattle.do_world.specs.Builtin.{builtin_world}
-use Rattle.do_world.specs.Reading.{IsWorldText, first_fault}
+use Rattle.do_sched.specs.declared.{line.Line.Line, fault.SchedFault.SchedFault}
+use Rattle.do_sched.specs.declared.version.Version.{Version, TheVariants.{First, Second}}
+use Rattle.do_sched.specs.{Schedule.{IsScheduleOf, IsFaultOf}, Spelling.spelling}
+use Rattle.do_world.specs.{Builtin.builtin_world, Reading.{IsWorldText, first_fault}}
 use Rattle.do_document.specs.declared.fault.WorldFault.{WorldFault}
 use Rattle.do_world.specs.declared.world.World.{World}
-use Rattle.do_given.specs.declared.scheduled.Scheduled.{Scheduled}
-use Rattle.do_given.specs.declared.status.Status.{Status}
+use Rattle.do_given.specs.declared.{scheduled.Scheduled.Scheduled, status.Status.Status}
 use Rattle.do_given.specs.declared.status.Status.TheVariants.{ReadFault, BadWorld, BadSchedule}
 use Rattle.do_given.specs.declared.status.Status.TheVariants.{WriteFault, Memory}
 use Rattle.do_given.specs.Files.{IsFile, IsLong, IsUnread, most_of_schedule, most_of_world}

@@ -3,20 +3,14 @@ use Rattle.std.specs.Prelude.{◌≡◌, ℕ, ◌⊎◌, ◌==◌, List, Option,
 use Rattle.do_base.specs.declared.outside.shelf.NamedFile.{NamedFile}
 use Rattle.do_document.specs.declared.fault.WorldFault.TheVariants.{Wrong}
 use Rattle.do_machine.specs.declared.state.Seat.{Seat}
-use Rattle.do_plan.specs.Form.{Form, IsText, IsFault}
-use Rattle.do_plan.specs.Plan.{plan_form}
-use Rattle.do_plan.specs.Starts.{starts_form}
-use Rattle.do_plan.specs.declared.plan.PlanLine.{PlanLine}
-use Rattle.do_plan.specs.declared.starts.StartLine.{StartLine}
+use Rattle.do_plan.specs.{Form.{Form, IsText, IsFault}, Plan.plan_form, Starts.starts_form}
+use Rattle.do_plan.specs.declared.{plan.PlanLine.PlanLine, starts.StartLine.StartLine}
 use Rattle.do_sched.specs.declared.fault.SchedFault.{SchedFault}
 use Rattle.do_world.specs.declared.world.World.{World}
-use Rattle.do_given.specs.declared.seated.Seated.{Seated}
-use Rattle.do_given.specs.declared.served.Served.{Served}
-use Rattle.do_given.specs.declared.status.Status.{Status}
-use Rattle.do_given.specs.declared.status.Status.TheVariants.{BadWorld}
-use Rattle.do_given.specs.Files.{most_of_starts}
-use Rattle.do_given.specs.Reading.{GivesWorld, HasText, NamesNone, RefusesSecond, RefusesWorld}
-use Rattle.do_given.specs.Reading.{told_of}
+use Rattle.do_given.specs.declared.{seated.Seated.Seated, served.Served.Served}
+use Rattle.do_given.specs.declared.status.Status.{Status, TheVariants.BadWorld}
+use Rattle.do_given.specs.{Files.most_of_starts, Reading.{GivesWorld, HasText, NamesNone}}
+use Rattle.do_given.specs.Reading.{RefusesSecond, RefusesWorld, told_of}
 
 -- the bytes are no text of a form, and the answer tells the line of their fault
 pub record IsNoText {A : Type 0} (form : Form A) (bytes : List ℕ) (status : Status)

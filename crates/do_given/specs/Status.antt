@@ -1,7 +1,7 @@
 -- What the program tells of each status.
+use Rattle.do_base.specs.declared.outside.sink.PutFail.TheVariants as put
 use Rattle.std.specs.Prelude.{ℕ, List, ◌++◌, codes, decimal}
 use Rattle.do_base.specs.declared.outside.sink.PutFail.{PutFail}
-use Rattle.do_base.specs.declared.outside.sink.PutFail.TheVariants as put
 use Rattle.do_given.specs.declared.status.Status.{Status}
 use Rattle.do_given.specs.declared.status.Status.TheVariants.{Ok, Usage, ReadFault, TooLong}
 use Rattle.do_given.specs.declared.status.Status.TheVariants.{BadWorld, BadSchedule, WriteFault}

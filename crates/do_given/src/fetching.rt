@@ -1,8 +1,7 @@
+ghost use Rattle.do_given.specs.declared.status.Status as declared;
 ghost use Rattle.std.specs.Prelude.{◌≡◌, ◌<◌, ◌≤◌, ◌^◌, ℕ, List, Ok, Err, IfOk, IfErr, Some};
 ghost use Rattle.do_base.specs.declared.outside.shelf.NamedFile.{NamedFile};
-ghost use Rattle.do_given.specs.declared.status.Status as declared;
-ghost use Rattle.do_given.specs.Files.{IsFile, IsLong, IsUnread};
-ghost use Rattle.do_given.specs.Reading.{OrUnread, Stops};
+ghost use Rattle.do_given.specs.{Files.{IsFile, IsLong, IsUnread}, Reading.{OrUnread, Stops}};
 
 use crate::status::Status;
 use do_base::{FetchFail, Shelf, Text, Word};

@@ -1,14 +1,10 @@
 //! Starts and plans as the words of a command give them.
+ghost use Rattle.do_given.specs.declared.status.Status as declared;
 ghost use Rattle.std.specs.Prelude.{◌≡◌, ◌≤◌, ℕ, List, Ok, Err, IfOk, IfErr, Some};
 ghost use Rattle.do_base.specs.declared.outside.shelf.NamedFile.{NamedFile};
-ghost use Rattle.do_plan.specs.Form.{IsText};
-ghost use Rattle.do_plan.specs.Plan.{plan_form};
-ghost use Rattle.do_plan.specs.Starts.{starts_form};
-ghost use Rattle.do_plan.specs.declared.plan.PlanLine.{PlanLine};
-ghost use Rattle.do_plan.specs.declared.starts.StartLine.{StartLine};
-ghost use Rattle.do_given.specs.declared.status.Status as declared;
-ghost use Rattle.do_given.specs.Files.{IsUnread};
-ghost use Rattle.do_given.specs.Reading.{OrMemory, OrUnread, Stops};
+ghost use Rattle.do_plan.specs.{Form.IsText, Plan.plan_form, Starts.starts_form};
+ghost use Rattle.do_plan.specs.declared.{plan.PlanLine.PlanLine, starts.StartLine.StartLine};
+ghost use Rattle.do_given.specs.{Files.IsUnread, Reading.{OrMemory, OrUnread, Stops}};
 ghost use Rattle.do_given.specs.Serving.{IsNoText, SaysNoText, SaysPlan, SaysStarts};
 
 use crate::fetching::fetch_within;

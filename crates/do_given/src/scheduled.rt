@@ -1,9 +1,9 @@
 //! A world, and the lines of a schedule over it, as the words of a command give them.
+ghost use Rattle.do_given.specs.declared.scheduled.Scheduled as declared;
+ghost use Rattle.do_given.specs.declared.status.Status as statuses;
 ghost use Rattle.std.specs.Prelude.{◌≡◌, ◌≤◌, List, Ok, Err, IfOk, IfErr, Some};
 ghost use Rattle.do_base.specs.declared.outside.shelf.NamedFile.{NamedFile};
 ghost use Rattle.do_world.specs.Sound.{IsSound};
-ghost use Rattle.do_given.specs.declared.scheduled.Scheduled as declared;
-ghost use Rattle.do_given.specs.declared.status.Status as statuses;
 ghost use Rattle.do_given.specs.Reading.{GivesScheduled, HasUnreadScheduled, OrUnread};
 ghost use Rattle.do_given.specs.Reading.{RefusesScheduled, Stops};
 

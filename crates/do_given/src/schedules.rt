@@ -1,9 +1,8 @@
+ghost use Rattle.do_given.specs.declared.status.Status as declared;
 ghost use Rattle.std.specs.Prelude.{◌≡◌, ◌≤◌, ℕ, List, Ok, Err, IfOk, IfErr, Some};
 ghost use Rattle.do_base.specs.declared.outside.shelf.NamedFile.{NamedFile};
-ghost use Rattle.do_sched.specs.Schedule.{IsSchedule};
-ghost use Rattle.do_sched.specs.declared.line.Line.{Line};
+ghost use Rattle.do_sched.specs.{Schedule.IsSchedule, declared.line.Line.Line};
 ghost use Rattle.do_sched.specs.declared.version.Version.TheVariants.{First, Second};
-ghost use Rattle.do_given.specs.declared.status.Status as declared;
 ghost use Rattle.do_given.specs.Files.{IsUnread};
 ghost use Rattle.do_given.specs.Reading.{IsNoSchedule, IsUpgrade, IsUpgraded, OrMemory, OrUnread};
 ghost use Rattle.do_given.specs.Reading.{SaysLines, SaysNoLines, Stops, told_of};

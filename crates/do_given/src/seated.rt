@@ -1,15 +1,13 @@
 //! A node of a world, as the words of a command give it.
+ghost use Rattle.do_given.specs.declared.seated.Seated as declared;
+ghost use Rattle.do_given.specs.declared.status.Status as statuses;
 ghost use Rattle.std.specs.Prelude.{◌≡◌, ◌≤◌, ◌==◌, ◌⊎◌, List, None, Ok, Err, IfOk, IfErr, Some};
-ghost use Rattle.std.specs.Prelude.{codes, find};
-ghost use Rattle.std.specs.Option.{option_copied};
+ghost use Rattle.std.specs.{Prelude.{codes, find}, Option.option_copied};
 ghost use Rattle.do_base.specs.declared.outside.shelf.NamedFile.{NamedFile};
 ghost use Rattle.do_world.specs.Builtin.{builtin_world};
 ghost use Rattle.do_document.specs.declared.fault.WorldFault.TheVariants.{Wrong};
-ghost use Rattle.do_given.specs.declared.seated.Seated as declared;
-ghost use Rattle.do_given.specs.declared.status.Status as statuses;
 ghost use Rattle.do_given.specs.declared.status.Status.TheVariants.{BadWorld, Memory};
-ghost use Rattle.do_given.specs.Files.{IsUnread};
-ghost use Rattle.do_given.specs.Reading.{OrUnread, Stops};
+ghost use Rattle.do_given.specs.{Files.IsUnread, Reading.{OrUnread, Stops}};
 ghost use Rattle.do_given.specs.Serving.{GivesSeat, RefusesSeat};
 
 use crate::status::Status;

@@ -1,8 +1,8 @@
 //! A node of a world, and its starts, as the words of a command give them.
-ghost use Rattle.std.specs.Prelude.{◌≡◌, ◌≤◌, List, Ok, Err, IfOk, IfErr, Some};
-ghost use Rattle.do_base.specs.declared.outside.shelf.NamedFile.{NamedFile};
 ghost use Rattle.do_given.specs.declared.served.Served as declared;
 ghost use Rattle.do_given.specs.declared.status.Status as statuses;
+ghost use Rattle.std.specs.Prelude.{◌≡◌, ◌≤◌, List, Ok, Err, IfOk, IfErr, Some};
+ghost use Rattle.do_base.specs.declared.outside.shelf.NamedFile.{NamedFile};
 ghost use Rattle.do_given.specs.Reading.{HasUnreadScheduled, OrUnread, Stops};
 ghost use Rattle.do_given.specs.Serving.{GivesServed, RefusesServed};
 

@@ -1,13 +1,10 @@
-ghost use Rattle.std.specs.Prelude.{◌≡◌, ◌≤◌, List, Ok, Err, IfOk, IfErr, None, Some};
-ghost use Rattle.do_base.specs.declared.outside.shelf.NamedFile.{NamedFile};
-ghost use Rattle.do_world.specs.Builtin.{builtin_world};
-ghost use Rattle.do_world.specs.Reading.{IsWorldText};
-ghost use Rattle.do_world.specs.Sound.{IsSound};
 ghost use Rattle.do_world.specs.declared.world.World as world;
 ghost use Rattle.do_given.specs.declared.status.Status as declared;
-ghost use Rattle.do_given.specs.Files.{IsUnread};
-ghost use Rattle.do_given.specs.Reading.{GivesWorld, IsNoWorld, SaysNoWorld, OrMemory, OrUnread};
-ghost use Rattle.do_given.specs.Reading.{RefusesWorld, SaysWorld, Stops};
+ghost use Rattle.std.specs.Prelude.{◌≡◌, ◌≤◌, List, Ok, Err, IfOk, IfErr, None, Some};
+ghost use Rattle.do_base.specs.declared.outside.shelf.NamedFile.{NamedFile};
+ghost use Rattle.do_world.specs.{Builtin.builtin_world, Reading.IsWorldText, Sound.IsSound};
+ghost use Rattle.do_given.specs.{Files.IsUnread, Reading.{GivesWorld, IsNoWorld, SaysNoWorld}};
+ghost use Rattle.do_given.specs.Reading.{OrMemory, OrUnread, RefusesWorld, SaysWorld, Stops};
 
 use crate::fetching::fetch_within;
 use crate::status::Status;

@@ -1,7 +1,6 @@
 -- Numbers between two bounds and beside some that are left out.
 use Rattle.std.specs.Prelude.{◌≡◌, ◌==◌, ℕ, zero, suc, ◌+◌, ◌*◌, ◌≤◌, Bool, false, List, [], ◌∷◌}
-use Rattle.std.specs.Prelude.{nat_lt, nat_le, max, ◌&&◌, if◌then◌else◌}
-use Rattle.std.specs.List.{list_any}
+use Rattle.std.specs.{Prelude.{nat_lt, nat_le, max, ◌&&◌, if◌then◌else◌}, List.list_any}
 use Rattle.do_grammar.specs.Reader.{Reader, no_kind, done, and_then, byte_of}
 use Rattle.do_grammar.specs.Num.{span, least_of}
 

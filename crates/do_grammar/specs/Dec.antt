@@ -1,7 +1,6 @@
 -- Numbers and signed numbers in decimal digits, with no zero in front.
-use Rattle.std.specs.Option.{option_map}
-use Rattle.std.specs.Prelude.{ℤ, pos, negsuc, ℕ, ◌+◌, ◌-◌, ◌*◌, ◌≤◌, ◌==◌, ◌&&◌, nat_le, List, []}
-use Rattle.std.specs.Prelude.{◌∷◌, Option, Some, None, if◌then◌else◌}
+use Rattle.std.specs.{Option.option_map, Prelude.{ℤ, pos, negsuc, ℕ, ◌+◌, ◌-◌, ◌*◌, ◌≤◌, ◌==◌}}
+use Rattle.std.specs.Prelude.{◌&&◌, nat_le, List, [], ◌∷◌, Option, Some, None, if◌then◌else◌}
 
 -- the number that goes on with these digits, up to a bound
 abbrev pub dec_from : ℕ → ℕ → List ℕ → Option ℕ

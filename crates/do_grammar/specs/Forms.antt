@@ -2,8 +2,7 @@
 -- proofs/ that this reader reads it exactly.
 use Rattle.std.specs.Prelude.{◌≡◌, ◌≢◌, ℕ, zero, suc, ◌<◌, Bool, true, false, List, [], ◌∷◌, ◌++◌}
 use Rattle.std.specs.Prelude.{length, Option, Some, Result, Ok, Err}
-use Rattle.do_grammar.specs.Reader.{Step, goes, leaves, fails}
-use Rattle.do_grammar.specs.Grammar.{IsBytes}
+use Rattle.do_grammar.specs.{Reader.{Step, goes, leaves, fails}, Grammar.IsBytes}
 
 -- a value that is spelled by no bytes
 pub record Done {A : Type 0} (x : A) (text : List ℕ) (y : A) : Type 0 where

@@ -1,8 +1,7 @@
 -- Texts of lines, and machines that go over the members of a list.
 use Rattle.std.specs.Prelude.{◌≡◌, ℕ, suc, ◌+◌, ◌<◌, ◌==◌, Bool, true, false, List, [], ◌∷◌, ◌++◌}
 use Rattle.std.specs.Prelude.{length, take, Option, Some, Result, Err, if◌then◌else◌}
-use Rattle.do_grammar.specs.Reader.{Stop, bad, accepted, by_result}
-use Rattle.do_grammar.specs.Forms.{OnGo}
+use Rattle.do_grammar.specs.{Reader.{Stop, bad, accepted, by_result}, Forms.OnGo}
 
 -- a line without its line feed, and whether it has one
 pub record Line : Type 0 where

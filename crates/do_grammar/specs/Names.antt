@@ -1,7 +1,6 @@
 -- Names and selectors.
 use Rattle.std.specs.Prelude.{ℕ, Bool, false, ◌==◌, ◌&&◌, ◌||◌, nat_le, List, [], ◌∷◌, length}
-use Rattle.std.specs.List.{list_all, count_by}
-use Rattle.std.specs.Char.{is_ascii_alphabetic, is_ascii_alphanumeric}
+use Rattle.std.specs.{List.{list_all, count_by}, Char.{is_ascii_alphabetic, is_ascii_alphanumeric}}
 use Rattle.std.specs.Io.BufRead.{ends_with_byte}
 
 -- the first byte is a letter or `_`

@@ -1,7 +1,6 @@
 -- What an answer tells of the bytes, by a grammar.
 use Rattle.std.specs.Prelude.{◌≡◌, ℕ, ◌≤◌, List, length, take, Result, Ok, Err}
-use Rattle.do_grammar.specs.declared.fault.CodeFault.{CodeFault}
-use Rattle.do_grammar.specs.declared.fault.CodeFault.TheVariants.{Bad, Short, Memory}
+use Rattle.do_grammar.specs.declared.fault.CodeFault.{CodeFault, TheVariants.{Bad, Short, Memory}}
 use Rattle.do_grammar.specs.Grammar.{IsProperFront, IsFirstBad}
 
 -- a value with the length of its spelling, which begins the bytes

@@ -1,11 +1,8 @@
 -- Texts in quotes, in which each byte stands for itself or as `\` and two hexadecimal digits.
 use Rattle.std.specs.Prelude.{◌≡◌, ℕ, zero, suc, ◌+◌, ◌-◌, ◌*◌, ◌/◌, ◌%◌, ◌≤◌, ◌==◌, ◌&&◌, Bool}
 use Rattle.std.specs.Prelude.{not, nat_le, nat_lt, List, [], ◌∷◌, ◌++◌, length, Option, Some, None}
-use Rattle.std.specs.Prelude.{if◌then◌else◌}
-use Rattle.std.specs.List.{flat_map}
-use Rattle.std.specs.Borrow.{Bor}
-use Rattle.do_grammar.specs.Words.{◌>>?◌}
-use Rattle.do_grammar.specs.Grammar.{IsBytes}
+use Rattle.std.specs.{Prelude.if◌then◌else◌, List.flat_map, Borrow.Bor}
+use Rattle.do_grammar.specs.{Words.◌>>?◌, Grammar.IsBytes}
 
 -- a byte that stands for itself: from the space to `~`, but neither `"` nor `\`
 abbrev pub is_plain : ℕ → Bool

@@ -1,9 +1,7 @@
 -- What an answer of a reader, with the bytes behind a spelling, says: which step of reading it
 -- gives, and what it tells of the bytes.
-use Rattle.std.specs.Prelude.{◌≡◌, ℕ, ◌-◌, ◌≤◌, List, length, Result, Ok, Err}
-use Rattle.std.specs.Borrow.{Bor}
-use Rattle.do_grammar.specs.declared.fault.ReadFault.{ReadFault}
-use Rattle.do_grammar.specs.declared.fault.ReadFault.TheVariants.{Memory, Short, Bad}
+use Rattle.std.specs.{Prelude.{◌≡◌, ℕ, ◌-◌, ◌≤◌, List, length, Result, Ok, Err}, Borrow.Bor}
+use Rattle.do_grammar.specs.declared.fault.ReadFault.{ReadFault, TheVariants.{Memory, Short, Bad}}
 use Rattle.do_grammar.specs.Reader.{Stop, no_kind, short, bad}
 use Rattle.do_grammar.specs.Grammar.{IsProperFront, IsFirstBad, Takes}
 

@@ -1,13 +1,10 @@
 //! Numbers beside some that are left out.
 ghost use Rattle.std.specs.Prelude.{◌≡◌, ◌++◌, ◌≤◌, ◌<◌, ◌+◌, ◌^◌, ◌↔◌, ℕ, List, MatchOption, IfOk};
 ghost use Rattle.std.specs.Prelude.{IfErr, ◌≢◌};
-ghost use Rattle.do_grammar.specs.declared.fault.ReadFault.TheVariants.{Memory};
-ghost use Rattle.do_grammar.specs.Num.{span, num};
-ghost use Rattle.do_grammar.specs.Grammar.{Takes};
-ghost use Rattle.do_grammar.specs.OneSpelling.{Spelled};
-ghost use Rattle.do_grammar.specs.RestAnswers.{Gives, TellsRest, FindsRest};
-ghost use Rattle.do_grammar.specs.BesideHoles.{is_hole, next_beside, digits_beside, num_beside};
-ghost use Rattle.do_grammar.specs.BesideHoles.{IsBeside};
+ghost use Rattle.do_grammar.specs.{declared.fault.ReadFault.TheVariants.Memory, Num.{span, num}};
+ghost use Rattle.do_grammar.specs.{Grammar.Takes, OneSpelling.Spelled};
+ghost use Rattle.do_grammar.specs.{RestAnswers.{Gives, TellsRest, FindsRest}, BesideHoles.is_hole};
+ghost use Rattle.do_grammar.specs.BesideHoles.{next_beside, digits_beside, num_beside, IsBeside};
 
 use crate::byte::split_byte;
 use crate::fault::ReadFault;

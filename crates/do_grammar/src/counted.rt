@@ -1,8 +1,6 @@
 ghost use Rattle.std.specs.Prelude.{◌≡◌, ◌++◌, List, ℕ, OnOk, OnErr};
-ghost use Rattle.do_grammar.specs.Num.{counted, counted_at, CountedText};
-ghost use Rattle.do_grammar.specs.Reader.{no_kind};
-ghost use Rattle.do_grammar.specs.RestAnswers.{Gives, TellsRest, FindsRest};
-ghost use Rattle.do_grammar.specs.Grammar.{Takes};
+ghost use Rattle.do_grammar.specs.{Num.{counted, counted_at, CountedText}, Reader.no_kind};
+ghost use Rattle.do_grammar.specs.{RestAnswers.{Gives, TellsRest, FindsRest}, Grammar.Takes};
 ghost use Rattle.do_grammar.specs.PartlyAdded.{AddedPartly};
 
 use crate::fault::ReadFault;

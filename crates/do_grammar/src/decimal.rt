@@ -1,9 +1,6 @@
 ghost use Rattle.std.specs.Prelude.{◌≡◌, ◌≤◌, ◌^◌, ◌++◌, ℕ, ℤ, Some, FitsSigned, OnOk, OnErr};
-ghost use Rattle.std.specs.Prelude.{IfSome};
-ghost use Rattle.std.specs.Int.{w64};
-ghost use Rattle.std.specs.Fmt.{decimal, signed_decimal};
-ghost use Rattle.do_grammar.specs.Dec.{dec_from, dec_in, int_in, minus};
-ghost use Rattle.do_grammar.specs.PartlyAdded.{AddedPartly};
+ghost use Rattle.std.specs.{Prelude.IfSome, Int.w64, Fmt.{decimal, signed_decimal}};
+ghost use Rattle.do_grammar.specs.{Dec.{dec_from, dec_in, int_in, minus}, PartlyAdded.AddedPartly};
 
 use crate::byte::split_byte;
 use do_base::Text;

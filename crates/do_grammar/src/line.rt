@@ -1,7 +1,6 @@
 ghost use Rattle.std.specs.Prelude.{◌≡◌, ◌<◌, [], ◌∷◌, ◌++◌, length, MatchOption, IfSome};
 ghost use Rattle.std.specs.Str.{bytes_eq};
-ghost use Rattle.do_grammar.specs.Words.{Without, EndsBefore};
-ghost use Rattle.do_grammar.specs.Lines.{cut};
+ghost use Rattle.do_grammar.specs.{Words.{Without, EndsBefore}, Lines.cut};
 
 /// The bytes before the first byte `end`, and those after it; none where `end` stands nowhere.
 ///

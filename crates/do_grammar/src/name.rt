@@ -1,6 +1,4 @@
-ghost use Rattle.std.specs.Prelude.{◌≡◌};
-ghost use Rattle.std.specs.List.{list_all};
-ghost use Rattle.std.specs.Io.BufRead.{ends_with_byte};
+ghost use Rattle.std.specs.{Prelude.◌≡◌, List.list_all, Io.BufRead.ends_with_byte};
 ghost use Rattle.do_grammar.specs.Names.{begins_name, goes_in_name, goes_in_selector, colons};
 ghost use Rattle.do_grammar.specs.Names.{is_name, is_selector};
 

@@ -2,10 +2,8 @@ ghost use Rattle.std.specs.Prelude.{◌≡◌, ◌+◌, ◌<◌, ◌≤◌, ◌^
 ghost use Rattle.std.specs.Prelude.{OnErr, IfErr, ◌≢◌};
 ghost use Rattle.do_grammar.specs.declared.fault.ReadFault.TheVariants.{Memory};
 ghost use Rattle.do_grammar.specs.Num.{span, least_of, digits, digits_at, num, num_at, size, Num};
-ghost use Rattle.do_grammar.specs.Reader.{no_kind};
-ghost use Rattle.do_grammar.specs.RestAnswers.{Gives, TellsRest, FindsRest};
-ghost use Rattle.do_grammar.specs.Grammar.{Takes};
-ghost use Rattle.do_grammar.specs.PartlyAdded.{AddedPartly};
+ghost use Rattle.do_grammar.specs.{Reader.no_kind, RestAnswers.{Gives, TellsRest, FindsRest}};
+ghost use Rattle.do_grammar.specs.{Grammar.Takes, PartlyAdded.AddedPartly};
 
 use crate::byte::split_byte;
 use crate::fault::ReadFault;

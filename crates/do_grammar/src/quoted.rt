@@ -1,10 +1,8 @@
 ghost use Rattle.std.specs.Prelude.{◌≡◌, ◌<◌, ◌+◌, ◌*◌, ◌++◌, ℕ, List, Some, IfOk, IfSome, OnOk};
-ghost use Rattle.std.specs.Prelude.{OnErr};
-ghost use Rattle.std.specs.List.{flat_map};
+ghost use Rattle.std.specs.{Prelude.OnErr, List.flat_map};
 ghost use Rattle.do_grammar.specs.Quoted.{is_plain, hex_digit, hex_value, quoted_byte, quoted};
 ghost use Rattle.do_grammar.specs.Quoted.{escape_at, piece_at, closing, denoted, quoted_at};
-ghost use Rattle.do_grammar.specs.Quoted.{front_view, slice_view, Quoted};
-ghost use Rattle.do_grammar.specs.Grammar.{Takes};
+ghost use Rattle.do_grammar.specs.{Quoted.{front_view, slice_view, Quoted}, Grammar.Takes};
 ghost use Rattle.do_grammar.specs.PartlyAdded.{AddedPartly};
 
 use crate::byte::split_byte;

@@ -1,10 +1,7 @@
-ghost use Rattle.std.specs.Prelude.{◌≡◌, ◌++◌, ℤ, List, ℕ, OnOk, OnErr, IfErr};
-ghost use Rattle.std.specs.Prelude.{◌≢◌};
+ghost use Rattle.std.specs.Prelude.{◌≡◌, ◌++◌, ℤ, List, ℕ, OnOk, OnErr, IfErr, ◌≢◌};
 ghost use Rattle.do_grammar.specs.declared.fault.ReadFault.TheVariants.{Memory};
-ghost use Rattle.do_grammar.specs.Num.{num, zigzag, signed_at, Signed};
-ghost use Rattle.do_grammar.specs.Reader.{no_kind};
-ghost use Rattle.do_grammar.specs.RestAnswers.{Gives, TellsRest, FindsRest};
-ghost use Rattle.do_grammar.specs.Grammar.{Takes};
+ghost use Rattle.do_grammar.specs.{Num.{num, zigzag, signed_at, Signed}, Reader.no_kind};
+ghost use Rattle.do_grammar.specs.{RestAnswers.{Gives, TellsRest, FindsRest}, Grammar.Takes};
 ghost use Rattle.do_grammar.specs.PartlyAdded.{AddedPartly};
 
 use crate::fault::ReadFault;

@@ -1,7 +1,5 @@
-ghost use Rattle.std.specs.Prelude.{◌≡◌, ℕ, List, Some, IfSome};
-ghost use Rattle.std.specs.Option.{option_map};
-ghost use Rattle.do_grammar.specs.Quoted.{denoted, quoted_at, slice_view, Quoted};
-ghost use Rattle.do_grammar.specs.Grammar.{Takes};
+ghost use Rattle.std.specs.{Prelude.{◌≡◌, ℕ, List, Some, IfSome}, Option.option_map};
+ghost use Rattle.do_grammar.specs.{Quoted.{denoted, quoted_at, slice_view, Quoted}, Grammar.Takes};
 
 use crate::byte::split_byte;
 use crate::quoted::{closing_of, piece_of};

@@ -1,29 +1,18 @@
 -- Over every schedule, a denial raises its rule.
 use Rattle.std.proofs.Common.{◌≡◌, ◌∙◌, ◌==◌, ℕ, List, false, cond, ap, length, subst}
-use Rattle.std.specs.Prelude.{None, Some, codes}
-use Rattle.std.specs.List.{All, AllByRecursion}
-use Rattle.std.specs.Str.{bytes_eq}
+use Rattle.std.specs.{Prelude.{None, Some, codes}, List.{All, AllByRecursion}, Str.bytes_eq}
 use Rattle.do_base.specs.declared.events.event.Event.{Event}
-use Rattle.do_class.specs.Class.{Class}
-use Rattle.do_class.specs.Table.{selector_of}
-use Rattle.do_behave.specs.declared.invocation.Invocation.{Invocation}
-use Rattle.do_behave.specs.declared.invocation.InvState.TheVariants.{Running}
+use Rattle.do_class.specs.{Class.Class, Table.selector_of}
+use Rattle.do_behave.specs.declared.invocation.{Invocation.Invocation, InvState.TheVariants.Running}
 use Rattle.do_native_acts.specs.Places.{selector_in}
-use Rattle.do_check.specs.Rules.{verdict_of}
-use Rattle.do_check.specs.declared.rules.Rule.{Rule}
-use Rattle.do_check.specs.declared.rules.Verdict.TheVariants.{Deny}
-use Rattle.do_native.specs.Acts.{native_act}
-use Rattle.do_native.specs.declared.native.Native.{Native}
+use Rattle.do_check.specs.{Rules.verdict_of, declared.rules.{Rule.Rule, Verdict.TheVariants.Deny}}
+use Rattle.do_native.specs.{Acts.native_act, declared.native.Native.Native}
 use Rattle.do_native.specs.laws.NativeLaws.{native_names_shown}
-use Rattle.do_machine.specs.declared.node.Node.{Node}
-use Rattle.do_machine.specs.declared.state.Seat.{Seat}
-use Rattle.do_machine.specs.declared.state.State.{State}
+use Rattle.do_machine.specs.declared.{node.Node.Node, state.{Seat.Seat, State.State}}
 use Rattle.do_machine.specs.World.{HasSignatures}
-use Rattle.do_objects.specs.CanAct.{CanAct, KeepsLocals}
-use Rattle.do_objects.specs.Reached.{reached}
+use Rattle.do_objects.specs.{CanAct.{CanAct, KeepsLocals}, Reached.reached}
 use Rattle.do_objects.proofs.Able.{reached_able}
-use Rattle.do_guard.specs.Checkers.{RunRaises, RunsChecker}
-use Rattle.do_guard.proofs.Passed.{raises}
+use Rattle.do_guard.{specs.Checkers.{RunRaises, RunsChecker}, proofs.Passed.raises}
 
 -- where there are 16 locals, the selector of the method is at hand
 selects : (table : List Class) (i : Invocation) (selector : List ℕ) → length i.locals ≡ 16 →

@@ -1,63 +1,38 @@
 -- A checker sends only what its class allows, to its target, and each denial raises its rule.
+use Rattle.do_behave.specs.declared.act.Act.TheVariants as acts
 use Rattle.std.proofs.Common.{◌≡◌, ◌∙◌, ◌==◌, ℕ, Bool, true, false, cond, List, [], ◌∷◌, ◌++◌}
 use Rattle.std.proofs.Common.{filter, length, map, refl, sym, ap, subst, arith}
-use Rattle.std.specs.Prelude.{None, Option, Some, codes, option_and_then, option_map}
-use Rattle.std.specs.Prelude.{slice_get}
-use Rattle.std.specs.Prelude.{unwrap_or}
-use Rattle.std.specs.List.{AllByRecursion}
-use Rattle.std.specs.Str.{bytes_eq}
-use Rattle.std.proofs.lemmas.Bool.{eqb-true}
-use Rattle.std.proofs.lemmas.List.{append-nil, append_assoc}
-use Rattle.do_base.specs.names.Names.{ObjectName}
-use Rattle.do_base.specs.values.Kinds.{object}
+use Rattle.std.specs.Prelude.{None, Option, Some, codes, option_and_then, option_map, slice_get}
+use Rattle.std.specs.{Prelude.unwrap_or, List.AllByRecursion, Str.bytes_eq}
+use Rattle.std.proofs.lemmas.{Bool.eqb-true, List.{append-nil, append_assoc}}
+use Rattle.do_base.specs.{names.Names.ObjectName, values.Kinds.object}
 use Rattle.do_base.specs.declared.events.event.Event.TheVariants.{Run}
-use Rattle.do_base.specs.declared.events.exception.Exc.TheVariants.{User}
-use Rattle.do_base.specs.declared.values.value.Value.{Value}
-use Rattle.do_class.specs.Class.{Class}
-use Rattle.do_class.specs.Table.{selector_of}
+use Rattle.do_base.specs.declared.{events.exception.Exc.TheVariants.User, values.value.Value.Value}
+use Rattle.do_class.specs.{Class.Class, Table.selector_of}
 use Rattle.do_grammar.specs.Words.{◌>>?◌}
-use Rattle.do_behave.specs.Steps.{or_fault}
-use Rattle.do_behave.specs.declared.act.Act.{Act}
-use Rattle.do_behave.specs.declared.act.Act.TheVariants as acts
-use Rattle.do_behave.specs.declared.invocation.Answer.{Answer}
+use Rattle.do_behave.specs.{Steps.or_fault, declared.{act.Act.Act, invocation.Answer.Answer}}
 use Rattle.do_behave.specs.declared.invocation.Answer.TheVariants.{Given, Raised}
-use Rattle.do_behave.specs.declared.invocation.Invocation.{Invocation}
-use Rattle.do_behave.specs.declared.invocation.InvState.{InvState}
+use Rattle.do_behave.specs.declared.invocation.{Invocation.Invocation, InvState.InvState}
 use Rattle.do_behave.specs.declared.invocation.InvState.TheVariants.{Answered, Below, Running}
 use Rattle.do_behave.specs.declared.invocation.InvState.TheVariants.{Waits}
-use Rattle.do_native_acts.specs.Places.{selector_in}
-use Rattle.do_native_acts.specs.laws.KindLaws.{object_read}
-use Rattle.do_check.specs.Acts.{check_act, target_in}
-use Rattle.do_check.specs.Rules.{verdict_of}
-use Rattle.do_check.specs.Sent.{IsAllowed}
-use Rattle.do_check.specs.declared.rules.Rule.{Rule}
-use Rattle.do_check.specs.declared.rules.Verdict.TheVariants.{Deny, Forward}
+use Rattle.do_native_acts.specs.{Places.selector_in, laws.KindLaws.object_read}
+use Rattle.do_check.specs.{Acts.{check_act, target_in}, Rules.verdict_of, Sent.IsAllowed}
+use Rattle.do_check.specs.declared.rules.{Rule.Rule, Verdict.TheVariants.{Deny, Forward}}
 use Rattle.do_check.proofs.OnlyAllowed.{denial_raises, only_allowed_is_sent}
-use Rattle.do_native.specs.Acts.{acts_as, native_act}
-use Rattle.do_native.specs.declared.native.Native.{Native}
-use Rattle.do_machine.specs.declared.item.Item.{Item}
-use Rattle.do_machine.specs.declared.node.Node.{Node}
-use Rattle.do_machine.specs.declared.state.Effect.{Effect}
-use Rattle.do_machine.specs.declared.state.Parcel.{Parcel}
-use Rattle.do_machine.specs.declared.state.State.{State}
-use Rattle.do_machine.specs.declared.verdict.SendAct.{SendAct}
-use Rattle.do_machine.specs.declared.verdict.Verdict.{Verdict}
-use Rattle.do_machine.specs.Commit.{commit, items_to, moved, skipped}
-use Rattle.do_machine.specs.Context.{RunContext, around, class_seen, context}
-use Rattle.do_machine.specs.State.{node, queue, stored}
-use Rattle.do_machine.specs.Step.{enabled_step, moved_by, step}
-use Rattle.do_machine.specs.held.Leaving.{left, leaving}
-use Rattle.do_machine.specs.run.Acts.{act_rule}
-use Rattle.do_machine.specs.run.Delivery.{failing}
+use Rattle.do_native.specs.{Acts.{acts_as, native_act}, declared.native.Native.Native}
+use Rattle.do_machine.specs.declared.{item.Item.Item, node.Node.Node, state.Effect.Effect}
+use Rattle.do_machine.specs.declared.{state.{Parcel.Parcel, State.State}, verdict.SendAct.SendAct}
+use Rattle.do_machine.specs.{declared.verdict.Verdict.Verdict, Commit.{commit, items_to, moved}}
+use Rattle.do_machine.specs.{Commit.skipped, Context.{RunContext, around, class_seen, context}}
+use Rattle.do_machine.specs.{State.{node, queue, stored}, Step.{enabled_step, moved_by, step}}
+use Rattle.do_machine.specs.{held.Leaving.{left, leaving}, run.{Acts.act_rule, Delivery.failing}}
 use Rattle.do_machine.specs.run.Run.{Acting, answer_rule, next_act, run_effect, run_on, slots_seen}
-use Rattle.do_machine.specs.run.Run.{state_rule}
-use Rattle.do_machine.specs.run.Verdicts.{effect_of}
+use Rattle.do_machine.specs.run.{Run.state_rule, Verdicts.effect_of}
 use Rattle.do_guard.specs.Checkers.{AddsOnly, IfMessage, IsOfCheckers, MaySend, RunsChecker}
 use Rattle.do_guard.specs.Checkers.{SendsOnly}
 use Rattle.do_facts.proofs.EachOfLists.{each_joined}
 use Rattle.do_facts.proofs.RulesOfActs.{Sends, by_return, by_root, by_send, by_vend}
-use Rattle.do_facts.proofs.steps.OthersStay.{move_leaves_own}
-use Rattle.do_facts.proofs.methods.MethodsFound.{method_found}
+use Rattle.do_facts.proofs.{steps.OthersStay.move_leaves_own, methods.MethodsFound.method_found}
 use Rattle.do_guard.proofs.Sent.{EffectSends, MaySendAll, VerdictSends, by_verdict}
 use Rattle.do_objects.proofs.Finding.{there}
 

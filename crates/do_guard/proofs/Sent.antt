@@ -1,26 +1,17 @@
 -- What a run of a checker sends.
-use Rattle.std.proofs.Common.{◌≡◌, ◌<◌, ◌≤◌, ℕ, List, []}
-use Rattle.std.proofs.Common.{◌∷◌, length, refl, subst, arith}
-use Rattle.std.specs.Prelude.{Some}
-use Rattle.std.specs.List.{AllByRecursion}
-use Rattle.do_base.specs.names.Names.{ObjectName}
-use Rattle.do_class.specs.Class.{Class}
-use Rattle.do_class.specs.Table.{selector_of}
-use Rattle.do_behave.specs.declared.invocation.Answer.{Answer}
-use Rattle.do_behave.specs.declared.invocation.Answer.TheVariants.{Given}
-use Rattle.do_behave.specs.declared.invocation.Invocation.{Invocation}
 use Rattle.do_behave.specs.declared.invocation.Reason.TheVariants as reasons
-use Rattle.do_machine.specs.declared.state.Effect.{Effect}
-use Rattle.do_machine.specs.declared.state.Parcel.{Parcel}
 use Rattle.do_machine.specs.declared.verdict.Request.TheVariants as requests
-use Rattle.do_machine.specs.declared.verdict.Verdict.{Verdict}
+use Rattle.std.proofs.Common.{◌≡◌, ◌<◌, ◌≤◌, ℕ, List, [], ◌∷◌, length, refl, subst, arith}
+use Rattle.std.specs.{Prelude.Some, List.AllByRecursion}
+use Rattle.do_base.specs.names.Names.{ObjectName}
+use Rattle.do_class.specs.{Class.Class, Table.selector_of}
+use Rattle.do_behave.specs.declared.invocation.Answer.{Answer, TheVariants.Given}
+use Rattle.do_behave.specs.declared.invocation.Invocation.{Invocation}
+use Rattle.do_machine.specs.declared.{state.{Effect.Effect, Parcel.Parcel}, verdict.Verdict.Verdict}
 use Rattle.do_machine.specs.declared.verdict.Verdict.TheVariants.{Asks, Begins, Fails, Goes, Makes}
 use Rattle.do_machine.specs.declared.verdict.Verdict.TheVariants.{Returns, Says, Steps, Tells, Uses}
-use Rattle.do_machine.specs.declared.verdict.Verdict.TheVariants.{Vends}
-use Rattle.do_machine.specs.Context.{RunContext}
-use Rattle.do_machine.specs.Objects.{object_at}
-use Rattle.do_machine.specs.run.Delivery.{below_answered}
-use Rattle.do_machine.specs.run.Fresh.{fresh}
+use Rattle.do_machine.specs.{declared.verdict.Verdict.TheVariants.Vends, Context.RunContext}
+use Rattle.do_machine.specs.{Objects.object_at, run.{Delivery.below_answered, Fresh.fresh}}
 use Rattle.do_machine.specs.run.Verdicts.{effect_of}
 use Rattle.do_facts.proofs.Deliveries.{Delivers, by_delivery, by_failing}
 use Rattle.do_guard.specs.Checkers.{IfMessage, IsOfMessage}

@@ -1,42 +1,29 @@
 -- A checker keeps its target.
+use Rattle.do_behave.specs.declared.act.Act.TheVariants as acts
 use Rattle.std.proofs.Common.{◌≡◌, ◌∙◌, ◌==◌, ◌<◌, ℕ, Bool, true, false, cond, List, [], ◌∷◌, ◌++◌}
 use Rattle.std.proofs.Common.{refl, sym, ap, subst, arith}
 use Rattle.std.specs.Prelude.{None, Option, Some, option_and_then, option_map, slice_get, unwrap_or}
 use Rattle.std.proofs.lemmas.Bool.{eqb-true}
-use Rattle.do_base.specs.names.Names.{ObjectName}
-use Rattle.do_base.specs.declared.events.event.Event.{Event}
+use Rattle.do_base.specs.{names.Names.ObjectName, declared.events.event.Event.Event}
 use Rattle.do_base.specs.declared.events.event.Event.TheVariants.{Check, Close, Lose, Run, Start}
 use Rattle.do_base.specs.declared.events.event.Event.TheVariants.{Take, Timeout}
 use Rattle.do_class.specs.Class.{Class}
 use Rattle.do_grammar.specs.Words.{◌>>?◌}
-use Rattle.do_behave.specs.Steps.{or_fault}
-use Rattle.do_behave.specs.declared.act.Act.{Act}
-use Rattle.do_behave.specs.declared.act.Act.TheVariants as acts
-use Rattle.do_behave.specs.declared.invocation.Invocation.{Invocation}
-use Rattle.do_behave.specs.declared.invocation.InvState.{InvState}
+use Rattle.do_behave.specs.{Steps.or_fault, declared.act.Act.Act}
+use Rattle.do_behave.specs.declared.invocation.{Invocation.Invocation, InvState.InvState}
 use Rattle.do_behave.specs.declared.invocation.InvState.TheVariants.{Answered, Below, Running}
 use Rattle.do_behave.specs.declared.invocation.InvState.TheVariants.{Waits}
-use Rattle.do_check.specs.Acts.{check_act}
-use Rattle.do_check.specs.Sent.{IsNoStep}
-use Rattle.do_check.specs.declared.rules.Rule.{Rule}
+use Rattle.do_check.specs.{Acts.check_act, Sent.IsNoStep, declared.rules.Rule.Rule}
 use Rattle.do_check.proofs.OnlyAllowed.{target_stays}
-use Rattle.do_native.specs.Acts.{acts_as, native_act}
-use Rattle.do_native.specs.declared.native.Native.{Native}
-use Rattle.do_machine.specs.declared.node.Node.{Node}
-use Rattle.do_machine.specs.declared.node.Stored.{Stored}
-use Rattle.do_machine.specs.declared.state.Seat.{Seat}
-use Rattle.do_machine.specs.declared.state.State.{State}
-use Rattle.do_machine.specs.State.{node, stored}
-use Rattle.do_machine.specs.Step.{step}
-use Rattle.do_machine.specs.World.{opening}
-use Rattle.do_machine.specs.run.Changes.{with_writes}
-use Rattle.do_machine.specs.run.Run.{Acting, slots_seen}
+use Rattle.do_native.specs.{Acts.{acts_as, native_act}, declared.native.Native.Native}
+use Rattle.do_machine.specs.declared.{node.{Node.Node, Stored.Stored}, state.Seat.Seat}
+use Rattle.do_machine.specs.{declared.state.State.State, State.{node, stored}, Step.step}
+use Rattle.do_machine.specs.{World.opening, run.{Changes.with_writes, Run.{Acting, slots_seen}}}
 use Rattle.do_guard.specs.Checkers.{HasTarget, IsOfCheckers}
 use Rattle.do_objects.specs.OwnClass.{AllSound, HaveOwnMethods, WasMadeOf}
 use Rattle.do_objects.specs.Reached.{after, object_of, reached}
 use Rattle.do_objects.specs.Writes.{act_at, run_writes, writes_in, writes_of, writes_to}
-use Rattle.do_objects.proofs.Finding.{absent, there}
-use Rattle.do_objects.proofs.Whole.{stored_made}
+use Rattle.do_objects.proofs.{Finding.{absent, there}, Whole.stored_made}
 use Rattle.do_objects.proofs.Sound.{before, has_writes, reached_sound, stays_sound}
 
 -- an act that is no step writes nothing

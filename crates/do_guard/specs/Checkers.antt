@@ -1,36 +1,21 @@
 -- What checkers keep and send, over every schedule.
-use Rattle.std.specs.Prelude.{List, Option, Some, false, length, slice_get, ℕ, ◌++◌, ◌<◌, ◌∷◌}
-use Rattle.std.specs.Prelude.{◌≡◌}
+use Rattle.do_machine.specs.declared.item.Item.TheVariants as items
+use Rattle.std.specs.Prelude.{List, Option, Some, false, length, slice_get, ℕ, ◌++◌, ◌<◌, ◌∷◌, ◌≡◌}
 use Rattle.std.specs.List.{AllByRecursion}
-use Rattle.do_base.specs.names.Names.{ObjectName}
-use Rattle.do_base.specs.values.Kinds.{is_nil}
+use Rattle.do_base.specs.{names.Names.ObjectName, values.Kinds.is_nil}
 use Rattle.do_base.specs.declared.events.event.Event.TheVariants.{Run}
-use Rattle.do_base.specs.declared.events.exception.Exc.TheVariants.{User}
-use Rattle.do_base.specs.declared.values.value.Value.{Value}
+use Rattle.do_base.specs.declared.{events.exception.Exc.TheVariants.User, values.value.Value.Value}
 use Rattle.do_base.specs.declared.values.value.Value.TheVariants.{Obj}
-use Rattle.do_class.specs.Class.{Class}
-use Rattle.do_class.specs.Table.{selector_of}
-use Rattle.do_class.specs.declared.ids.ClassId.{ClassId}
+use Rattle.do_class.specs.{Class.Class, Table.selector_of, declared.ids.ClassId.ClassId}
 use Rattle.do_behave.specs.declared.invocation.Invocation.{Invocation}
-use Rattle.do_check.specs.Acts.{target_in}
-use Rattle.do_check.specs.Rules.{verdict_of}
-use Rattle.do_check.specs.declared.rules.Rule.{Rule}
+use Rattle.do_check.specs.{Acts.target_in, Rules.verdict_of, declared.rules.Rule.Rule}
 use Rattle.do_check.specs.declared.rules.Verdict.TheVariants.{Forward}
 use Rattle.do_class_kinds.specs.declared.kind.Kind.TheVariants.{Checker}
-use Rattle.do_native.specs.Acts.{native_act}
-use Rattle.do_native.specs.declared.native.Native.{Native}
-use Rattle.do_machine.specs.declared.item.Item.{Item}
-use Rattle.do_machine.specs.declared.node.Node.{Node}
-use Rattle.do_machine.specs.declared.node.Stored.{Stored}
-use Rattle.do_machine.specs.declared.state.State.{State}
-use Rattle.do_machine.specs.Commit.{moved}
-use Rattle.do_machine.specs.Context.{context}
-use Rattle.do_machine.specs.Objects.{object_at}
-use Rattle.do_machine.specs.State.{node, queue, stored}
-use Rattle.do_machine.specs.Step.{enabled_step}
-use Rattle.do_machine.specs.run.Delivery.{failing}
-use Rattle.do_machine.specs.run.Run.{slots_seen}
-use Rattle.do_machine.specs.declared.item.Item.TheVariants as items
+use Rattle.do_native.specs.{Acts.native_act, declared.native.Native.Native}
+use Rattle.do_machine.specs.declared.{item.Item.Item, node.{Node.Node, Stored.Stored}}
+use Rattle.do_machine.specs.{declared.state.State.State, Commit.moved, Context.context}
+use Rattle.do_machine.specs.{Objects.object_at, State.{node, queue, stored}, Step.enabled_step}
+use Rattle.do_machine.specs.run.{Delivery.failing, Run.slots_seen}
 
 -- a class is one of checkers
 abbrev pub IsOfCheckers : Native → ClassId → Type 0

@@ -1,28 +1,19 @@
 ghost use Rattle.std.specs.Prelude.{◌≡◌, ◌++◌, ◌∷◌, ℕ, All, List, Some, codes, false};
 ghost use Rattle.std.specs.Str.{bytes_eq};
-ghost use Rattle.do_base.specs.names.Names.{ObjectName};
-ghost use Rattle.do_base.specs.declared.events.event.Event.{Event};
+ghost use Rattle.do_base.specs.{names.Names.ObjectName, declared.events.event.Event.Event};
 ghost use Rattle.do_base.specs.declared.events.event.Event.TheVariants.{Run};
-ghost use Rattle.do_class.specs.Class.{Class};
-ghost use Rattle.do_class.specs.Table.{selector_of};
+ghost use Rattle.do_class.specs.{Class.Class, Table.selector_of};
 ghost use Rattle.do_behave.specs.declared.invocation.Invocation.{Invocation};
 ghost use Rattle.do_behave.specs.declared.invocation.InvState.TheVariants.{Running};
 ghost use Rattle.do_native_acts.specs.Places.{selector_in};
-ghost use Rattle.do_check.specs.Rules.{verdict_of};
-ghost use Rattle.do_check.specs.declared.rules.Rule.{Rule};
+ghost use Rattle.do_check.specs.{Rules.verdict_of, declared.rules.Rule.Rule};
 ghost use Rattle.do_check.specs.declared.rules.Verdict.TheVariants.{Deny};
-ghost use Rattle.do_native.specs.Acts.{native_act};
-ghost use Rattle.do_native.specs.declared.native.Native.{Native};
-ghost use Rattle.do_machine.specs.declared.node.Node.{Node};
-ghost use Rattle.do_machine.specs.declared.node.Stored.{Stored};
-ghost use Rattle.do_machine.specs.declared.state.Seat.{Seat};
-ghost use Rattle.do_machine.specs.declared.state.State.{State};
-ghost use Rattle.do_machine.specs.Step.{step};
-ghost use Rattle.do_machine.specs.World.{HasSignatures};
-ghost use Rattle.do_objects.specs.OwnClass.{AllSound};
-ghost use Rattle.do_objects.specs.Reached.{after, object_of, reached};
-ghost use Rattle.do_guard.specs.Checkers.{HasTarget, IsOfCheckers, MaySend, RunRaises};
-ghost use Rattle.do_guard.specs.Checkers.{RunsChecker, SendsOnly};
+ghost use Rattle.do_native.specs.{Acts.native_act, declared.native.Native.Native};
+ghost use Rattle.do_machine.specs.declared.{node.{Node.Node, Stored.Stored}, state.Seat.Seat};
+ghost use Rattle.do_machine.specs.{declared.state.State.State, Step.step, World.HasSignatures};
+ghost use Rattle.do_objects.specs.{OwnClass.AllSound, Reached.{after, object_of, reached}};
+ghost use Rattle.do_guard.specs.Checkers.{HasTarget, IsOfCheckers, MaySend, RunRaises, RunsChecker};
+ghost use Rattle.do_guard.specs.Checkers.{SendsOnly};
 
 use do_facts::queues_grow_behind;
 

@@ -1,10 +1,8 @@
 -- Known bytes that calls keep, append to or read.
 use Rattle.std.proofs.Common.{◌≡◌, ℕ, ◌+◌, ◌≤◌, List, [], ◌∷◌, length, take, ◌++◌, Option, Some}
 use Rattle.std.proofs.Common.{None, refl, sym, ap, ◌∙◌, append-nil, arith}
-use Rattle.std.proofs.lemmas.List.{length-take, take_all}
-use Rattle.std.proofs.lemmas.List.Elements.{All-push}
-use Rattle.std.specs.List.{All}
-use Rattle.std.specs.Io.KnownBytes.{Keeps, Appends}
+use Rattle.std.proofs.lemmas.List.{length-take, take_all, Elements.All-push}
+use Rattle.std.specs.{List.All, Io.KnownBytes.{Keeps, Appends}}
 
 -- an output that was not touched keeps its bytes
 pub keeps_refl : (a : Option (List ℕ)) → Keeps a a

@@ -1,6 +1,5 @@
 -- An output with a count of faults, and the bytes that it took.
-use Rattle.std.specs.Prelude.{List, refl, ℕ}
-use Rattle.std.specs.Coded.{Coded, code_by, coded×, coded_list, coded_ℕ}
+use Rattle.std.specs.{Prelude.{List, refl, ℕ}, Coded.{Coded, code_by, coded×, coded_list, coded_ℕ}}
 
 -- the output, how many puts failed, and the bytes that were counted as taken by the others
 pub record Counting (W : Type 0) : Type 0 where

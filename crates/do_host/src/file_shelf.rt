@@ -1,8 +1,7 @@
 //! The shelf of real files.
 ghost use Rattle.std.specs.Prelude.{◌≡◌, ◌+◌, ◌^◌, ◌<◌, ◌≤◌, ◌⊎◌, ◌↔◌, None, IfSome, IsErrOf};
 ghost use Rattle.std.specs.IoError.{error_kind};
-ghost use Rattle.do_base.specs.outside.Causes.{next_count};
-ghost use Rattle.do_base.specs.outside.Files.{FetchCause};
+ghost use Rattle.do_base.specs.outside.{Causes.next_count, Files.FetchCause};
 ghost use Rattle.do_host.specs.Reading.{KeepsLimit, TellsOf};
 
 use do_base::{FetchFail, Shelf, Text, Word};

@@ -2,8 +2,7 @@
 ghost use Rattle.std.specs.Prelude.{◌≡◌, ◌<◌, ◌≤◌, [], length, take, Some, Err, IfOk, IfSome};
 ghost use Rattle.std.specs.Prelude.{MatchOption, IsErrOf, OnOk, OnErr};
 ghost use Rattle.std.specs.Io.KnownBytes.{Keeps, Appends, WriteAppends};
-ghost use Rattle.do_base.specs.outside.Bytes.{with_more};
-ghost use Rattle.do_base.specs.outside.Causes.{next_count, Rose};
+ghost use Rattle.do_base.specs.outside.{Bytes.with_more, Causes.{next_count, Rose}};
 
 use do_base::{PutFail, Sink};
 use do_taken::{Piece, Taken};

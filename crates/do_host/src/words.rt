@@ -1,6 +1,5 @@
 //! The words of the command line, as bytes.
-ghost use Rattle.std.specs.Prelude.{◌≤◌, length, IfOk};
-ghost use Rattle.std.specs.List.{All};
+ghost use Rattle.std.specs.{Prelude.{◌≤◌, length, IfOk}, List.All};
 
 use do_base::{Text, Texts};
 use std::alloc::{AllocError, Global};

@@ -1,9 +1,8 @@
 -- That asks and names are counted by object, after each change.
-use Rattle.std.proofs.Common.{◌≡◌, ℕ, ◌+◌, ◌<◌, Bool, true, false, cond, not, T, ◌==◌}
-use Rattle.std.proofs.Common.{List, Option, Some, None, is_some, if◌then◌else◌, count_by}
-use Rattle.std.proofs.Common.{map as each, refl, sym, ap, ◌∙◌, subst, arith}
 use Rattle.std.specs.FinMap as map
-use Rattle.std.specs.FinMap.{get-empty, get-retain_keys}
+use Rattle.std.proofs.Common.{◌≡◌, ℕ, ◌+◌, ◌<◌, Bool, true, false, cond, not, T, ◌==◌, List, Option}
+use Rattle.std.proofs.Common.{Some, None, is_some, if◌then◌else◌, count_by, map as each, refl, sym}
+use Rattle.std.{proofs.Common.{ap, ◌∙◌, subst, arith}, specs.FinMap.{get-empty, get-retain_keys}}
 use Rattle.do_base.specs.names.Names.{ObjectName, TokenName}
 use Rattle.do_class.specs.declared.ids.ClassId.{ClassId}
 use Rattle.do_export.specs.Counts.{Counts, entry_cmp, others_of}
@@ -11,12 +10,10 @@ use Rattle.do_export.proofs.Order.{entry_total, entry_same}
 use Rattle.do_import.specs.Asked.{AskKey, AskMap, CountsAsks, ask_cmp, ask_key, asks_of}
 use Rattle.do_import.specs.ByObject.{added, taken_off}
 use Rattle.do_import.specs.Imported.{AreNumbered, CountsNames, LendMap, all_off, lends_of, lent_to}
-use Rattle.do_import.proofs.AskRows.{ask_total, ask_same}
-use Rattle.do_import.proofs.ObjectCounts.{among, counts_less, counts_more, counts_none, counts_off}
-use Rattle.do_import.proofs.ObjectCounts.{is_of}
-use Rattle.do_import.proofs.KeptClasses.{out_at, put_at, tie, tied}
-use Rattle.do_import.proofs.RowCounts.{count_split, entries-empty, entries-retain, rows_out}
-use Rattle.do_import.proofs.RowCounts.{rows_put}
+use Rattle.do_import.proofs.{AskRows.{ask_total, ask_same}, ObjectCounts.{among, counts_less}}
+use Rattle.do_import.proofs.ObjectCounts.{counts_more, counts_none, counts_off, is_of}
+use Rattle.do_import.proofs.{KeptClasses.{out_at, put_at, tie, tied}, RowCounts.count_split}
+use Rattle.do_import.proofs.RowCounts.{entries-empty, entries-retain, rows_out, rows_put}
 
 -- what is not found is nothing
 nothing : {V : Type 0} (found : Option V) → is_some found ≡ false → found ≡ None

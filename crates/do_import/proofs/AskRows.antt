@@ -1,22 +1,16 @@
 -- The asks as rows in their order.
-use Rattle.std.proofs.Common.{◌≡◌, ◌≢◌, ◌<◌, arith, false, Some, None, IsSome, ℕ, T, List, is_some}
-use Rattle.std.proofs.Common.{refl, sym, ap, ◌∙◌, subst}
-use Rattle.std.specs.Ordering.{is_eq, is_lt, ordering_then}
-use mathlib.Core.Bool.{false≢true}
-use Rattle.std.proofs.Common.{Bool, true, not, eqb, eq-eqb, ne_eqb, inl, inr}
-use Rattle.std.proofs.lemmas.Bool.{cases_eq}
-use Rattle.std.specs.Cmp.{IsTotalOrder, on_total, then_total}
 use Rattle.std.specs.FinMap as map
+use Rattle.std.proofs.Common.{◌≡◌, ◌≢◌, ◌<◌, arith, false, Some, None, IsSome, ℕ, T, List, is_some}
+use Rattle.std.proofs.Common.{refl, sym, ap, ◌∙◌, subst, Bool, true, not, eqb, eq-eqb, ne_eqb, inl}
+use Rattle.std.{proofs.Common.inr, specs.Ordering.{is_eq, is_lt, ordering_then}}
+use mathlib.Core.Bool.{false≢true}
+use Rattle.std.{proofs.lemmas.Bool.cases_eq, specs.Cmp.{IsTotalOrder, on_total, then_total}}
 use Rattle.std.specs.FinMap.{find, put, is_sorted, IsAntisymmetric, get-from_sorted}
 use Rattle.std.specs.FinMap.Entries.{is_sorted-put, is_sorted-where_key}
-use Rattle.std.specs.declared.cmp.Ordering.{Ordering}
-use Rattle.std.specs.declared.cmp.Ordering.TheVariants.{Less, Equal, Greater}
-use Rattle.do_sorted.specs.Rows.{without}
-use Rattle.do_sorted.proofs.RowsAsMap.{from_put, from_without}
-use Rattle.do_export.specs.Counts.{entry_cmp}
-use Rattle.do_export.proofs.Order.{entry_total, entry_same}
+use Rattle.std.specs.declared.cmp.Ordering.{Ordering, TheVariants.{Less, Equal, Greater}}
+use Rattle.do_sorted.{specs.Rows.{without, first_from}, proofs.RowsAsMap.{from_put, from_without}}
+use Rattle.do_export.{specs.Counts.entry_cmp, proofs.Order.{entry_total, entry_same}}
 use Rattle.do_class.specs.declared.ids.ClassId.{ClassId}
-use Rattle.do_sorted.specs.Rows.{first_from}
 use Rattle.do_sorted.proofs.FirstRow.{none_from, first_there, first_lowest, first_not_below}
 use Rattle.std.proofs.lemmas.Bool.Decides.{nat_tests}
 use Rattle.do_import.specs.Asked.{AskKey, ask_cmp, HasNoAsk, IsLowestAsk}

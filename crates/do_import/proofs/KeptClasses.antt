@@ -1,13 +1,10 @@
 -- That a class is kept of just the objects that were received or asked for, after each change.
+use Rattle.std.specs.FinMap as map
 use Rattle.std.proofs.Common.{◌≡◌, ℕ, ◌-◌, Bool, true, false, not, cond, ◌&&◌, ◌||◌, ◌==◌, T}
 use Rattle.std.proofs.Common.{if◌then◌else◌, Some, None, is_some, Option, refl, sym, ap, ◌∙◌, subst}
-use Rattle.std.specs.Option.{unwrap_or}
-use Rattle.std.specs.Cmp.{tied_itself}
-use Rattle.std.specs.Ordering.{eq_by_cmp, is_eq}
-use Rattle.std.specs.FinMap as map
+use Rattle.std.specs.{Option.unwrap_or, Cmp.tied_itself, Ordering.{eq_by_cmp, is_eq}}
 use Rattle.std.specs.FinMap.{get-empty, get-insert, get-remove, get-retain_keys}
-use Rattle.std.specs.declared.cmp.Ordering.{Ordering}
-use Rattle.std.specs.declared.cmp.Ordering.TheVariants.{Less, Equal, Greater}
+use Rattle.std.specs.declared.cmp.Ordering.{Ordering, TheVariants.{Less, Equal, Greater}}
 use Rattle.do_base.specs.names.Names.{ObjectName}
 use Rattle.do_class.specs.declared.ids.ClassId.{ClassId}
 use Rattle.do_export.specs.Counts.{Counts, entry_cmp, count_of, lowered, others_of}

@@ -1,12 +1,9 @@
 -- What one lend more or less takes off, along the rows of lends.
 use Rattle.std.proofs.Common.{◌≡◌, ℕ, ◌+◌, true, false, cond, ◌==◌, List, ◌∷◌, Some, slice_get}
-use Rattle.std.proofs.Common.{drop}
-use Rattle.std.proofs.Common.{◌∙◌, sym, ap, map as each}
-use Rattle.std.specs.Prelude.{filter}
+use Rattle.std.{proofs.Common.{drop, ◌∙◌, sym, ap, map as each}, specs.Prelude.filter}
 use Rattle.do_base.specs.names.Names.{ObjectName}
 use Rattle.do_export.specs.Counts.{Counts}
-use Rattle.do_import.specs.ByObject.{taken_off}
-use Rattle.do_import.specs.Imported.{all_off, lent_to}
+use Rattle.do_import.specs.{ByObject.taken_off, Imported.{all_off, lent_to}}
 use Rattle.do_import.proofs.NextRow.{drop_row}
 
 -- a row of the lends

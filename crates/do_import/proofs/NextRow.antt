@@ -1,12 +1,9 @@
 -- A loop that reads a list's items by their places.
 use Rattle.std.proofs.Common.{◌≡◌, ℕ, zero, suc, ◌+◌, ◌≤◌, List, [], ◌∷◌, ◌++◌, length, take, drop}
-use Rattle.std.proofs.Common.{Some}
-use Rattle.std.proofs.Common.{None, slice_get, sym, ap, ◌∙◌, arith, map as each}
+use Rattle.std.proofs.Common.{Some, None, slice_get, sym, ap, ◌∙◌, arith, map as each}
 use mathlib.Core.Bool.{false≢true}
-use Rattle.std.specs.Option.{is_some}
-use Rattle.std.proofs.lemmas.Grind.{take_at_read}
-use Rattle.std.proofs.lemmas.List.{at_drop_more, map_push}
-use Rattle.std.proofs.lemmas.Option.{slice_get_within, get_or_from_slice_get}
+use Rattle.std.{specs.Option.is_some, proofs.lemmas.{Grind.take_at_read, List.at_drop_more}}
+use Rattle.std.proofs.lemmas.{List.map_push, Option.{slice_get_within, get_or_from_slice_get}}
 
 module _ {X : Type 0} where
   -- one item more is read

@@ -1,19 +1,13 @@
 -- Counts of something by object, once there is one more or one less of an object.
-use Rattle.std.proofs.Common.{◌≡◌, ℕ, ◌+◌, ◌<◌, ◌==◌, ◌&&◌, Bool, cond, eqb}
-use Rattle.std.proofs.Common.{List, [], ◌∷◌, if◌then◌else◌, count_by}
-use Rattle.std.proofs.Common.{refl, sym, ap, ◌∙◌, subst, arith, ne_eqb}
-use Rattle.std.proofs.lemmas.Bool.Decides.{nat_tests}
-use Rattle.std.specs.Option.{unwrap_or}
 use Rattle.std.specs.FinMap as map
-use Rattle.std.specs.FinMap.{get-empty}
+use Rattle.std.proofs.Common.{◌≡◌, ℕ, ◌+◌, ◌<◌, ◌==◌, ◌&&◌, Bool, cond, eqb, List, [], ◌∷◌}
+use Rattle.std.proofs.Common.{if◌then◌else◌, count_by, refl, sym, ap, ◌∙◌, subst, arith, ne_eqb}
+use Rattle.std.{proofs.lemmas.Bool.Decides.nat_tests, specs.{Option.unwrap_or, FinMap.get-empty}}
 use Rattle.do_base.specs.names.Names.{ObjectName}
 use Rattle.do_export.specs.Counts.{Counts, entry_cmp, count_of, lowered}
 use Rattle.do_export.proofs.Counting.{at, count-raised, count-lowered, positive-raised}
-use Rattle.do_export.proofs.Counting.{positive-lowered}
-use Rattle.do_export.proofs.Positive.{none_positive}
-use Rattle.do_import.specs.Asked.{AreCounts}
-use Rattle.do_import.specs.ByObject.{added, taken_off}
-use Rattle.do_import.specs.Imported.{all_off}
+use Rattle.do_export.proofs.{Counting.positive-lowered, Positive.none_positive}
+use Rattle.do_import.specs.{Asked.AreCounts, ByObject.{added, taken_off}, Imported.all_off}
 use Rattle.do_import.proofs.RowCounts.{in_front}
 
 -- the test of an object at a key

@@ -1,15 +1,13 @@
 -- That the thread has room for each object that was received.
-use Rattle.std.proofs.Common.{◌==◌, ◌≡◌, ℕ, ◌+◌, ◌-◌, ◌<◌, ◌≤◌, min, Bool, true, false, not, cond}
-use Rattle.std.proofs.Common.{◌&&◌}
-use Rattle.std.proofs.Common.{T, List, [], length, Some, None, Option, is_some, IsTrue, ◌⊎◌, inl}
-use Rattle.std.proofs.Common.{inr, refl, sym, ap, ◌∙◌, subst, arith}
 use Rattle.std.specs.FinMap as map
+use Rattle.std.proofs.Common.{◌==◌, ◌≡◌, ℕ, ◌+◌, ◌-◌, ◌<◌, ◌≤◌, min, Bool, true, false, not, cond}
+use Rattle.std.proofs.Common.{◌&&◌, T, List, [], length, Some, None, Option, is_some, IsTrue, ◌⊎◌}
+use Rattle.std.proofs.Common.{inl, inr, refl, sym, ap, ◌∙◌, subst, arith}
 use Rattle.std.specs.FinMap.{find, entries_sorted, get-empty, get-entries, len-empty, len-entries}
 use Rattle.std.specs.FinMap.{len-insert, len-remove, get-retain_keys}
 use Rattle.do_sorted.proofs.FewerRows.{HasAll, no_longer, shorter}
 use Rattle.do_export.specs.Counts.{Counts, IsPositive, entry_cmp, raised, count_of, others_of}
-use Rattle.do_export.proofs.Order.{entry_total, entry_same}
-use Rattle.do_export.proofs.Positive.{none_positive}
+use Rattle.do_export.proofs.{Order.{entry_total, entry_same}, Positive.none_positive}
 use Rattle.do_import.specs.Held.{may_leave, IsThread, IsRoomy}
 
 -- a row of the thread

@@ -1,17 +1,14 @@
 -- The rows of a map, and how many of them pass a test, once one is put in or some are taken out.
-use Rattle.std.proofs.Common.{◌≡◌, ◌+◌, Bool, true, false, cond, not, T}
-use Rattle.std.proofs.Common.{List, [], ◌∷◌, Option, Some, None, is_some, count_by, filter}
-use Rattle.std.proofs.Common.{map as each, length, refl, sym, ap, ◌∙◌, subst, arith}
-use Rattle.std.proofs.lemmas.List.Sums.{sum_by-cons}
-use Rattle.std.specs.Cmp.{IsTotalOrder, eq_by_cmp_equiv, tied_itself}
-use Rattle.std.specs.Ordering.{eq_by_cmp, is_eq}
 use Rattle.std.specs.FinMap as map
+use Rattle.std.proofs.Common.{◌≡◌, ◌+◌, Bool, true, false, cond, not, T, List, [], ◌∷◌, Option}
+use Rattle.std.proofs.Common.{Some, None, is_some, count_by, filter, map as each, length, refl, sym}
+use Rattle.std.proofs.{Common.{ap, ◌∙◌, subst, arith}, lemmas.List.Sums.sum_by-cons}
+use Rattle.std.specs.{Cmp.{IsTotalOrder, eq_by_cmp_equiv, tied_itself}, Ordering.{eq_by_cmp, is_eq}}
 use Rattle.std.specs.FinMap.{IsAntisymmetric, entries_sorted, get-entries, get-insert, get-remove}
 use Rattle.std.specs.FinMap.{get-retain_keys, entries-insert, len-empty, len-entries, same_map}
 use Rattle.std.specs.FinMap.Entries.{find, put, by_order, where_key, find-where_key}
 use Rattle.std.specs.FinMap.Entries.{is_sorted-where_key, same_entries}
-use Rattle.std.specs.declared.cmp.Ordering.{Ordering}
-use Rattle.std.specs.declared.cmp.Ordering.TheVariants.{Less, Equal, Greater}
+use Rattle.std.specs.declared.cmp.Ordering.{Ordering, TheVariants.{Less, Equal, Greater}}
 
 -- one more in front
 pub in_front : {Y : Type 0} (p : Y → Bool) (y : Y) (ys : List Y)

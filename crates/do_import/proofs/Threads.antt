@@ -1,19 +1,14 @@
 -- What each change of the counts asks of the thread of objects that may leave.
+use Rattle.std.specs.FinMap as map
 use Rattle.std.proofs.Common.{◌≡◌, ℕ, ◌+◌, ◌-◌, ◌<◌, arith, Bool, true, false, not, cond, ◌&&◌}
 use Rattle.std.proofs.Common.{◌==◌, ◌||◌, T, List, [], ◌∷◌, Some, None, is_some, slice_get}
-use Rattle.std.proofs.Common.{if◌then◌else◌}
-use Rattle.std.proofs.Common.{refl, sym, ap, ◌∙◌, subst, Option}
-use Rattle.std.proofs.lemmas.Bool.{eq-eqb, ne_eqb}
-use Rattle.std.specs.Ordering.{eq_by_cmp, is_eq, is_lt}
-use Rattle.std.specs.Cmp.{alike_right, eq_by_cmp_equiv, tied_itself}
-use Rattle.std.specs.FinMap as map
-use Rattle.std.specs.FinMap.{find, put, is_sorted, get-insert, get-remove, get-retain_keys}
-use Rattle.std.specs.FinMap.Entries.{where_key, is_sorted-put, is_sorted-where_key, find-put}
-use Rattle.std.specs.FinMap.Entries.{find-where_key}
-use Rattle.std.specs.declared.cmp.Ordering.{Ordering}
-use Rattle.std.specs.declared.cmp.Ordering.TheVariants.{Less, Equal, Greater}
-use Rattle.do_sorted.specs.Rows.{without}
-use Rattle.do_sorted.proofs.RowOrGap.{first, find_below, below_first}
+use Rattle.std.proofs.Common.{if◌then◌else◌, refl, sym, ap, ◌∙◌, subst, Option}
+use Rattle.std.{proofs.lemmas.Bool.{eq-eqb, ne_eqb}, specs.Ordering.{eq_by_cmp, is_eq, is_lt}}
+use Rattle.std.specs.{Cmp.{alike_right, eq_by_cmp_equiv, tied_itself}, FinMap.{find, put}}
+use Rattle.std.specs.FinMap.{is_sorted, get-insert, get-remove, get-retain_keys, Entries.where_key}
+use Rattle.std.specs.FinMap.Entries.{is_sorted-put, is_sorted-where_key, find-put, find-where_key}
+use Rattle.std.specs.declared.cmp.Ordering.{Ordering, TheVariants.{Less, Equal, Greater}}
+use Rattle.do_sorted.{specs.Rows.without, proofs.RowOrGap.{first, find_below, below_first}}
 use Rattle.do_export.specs.Counts.{Counts, entry_cmp, count_of, lowered, others_of}
 use Rattle.do_export.proofs.Order.{entry_total, entry_same, some_above}
 use Rattle.do_import.specs.Held.{IsThread, NoneLeaves, IsLowestLeaving}

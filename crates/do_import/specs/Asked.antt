@@ -1,10 +1,8 @@
 -- The asks of a node that are not answered yet.
-use Rattle.std.specs.Prelude.{◌≡◌, ◌<◌, ℕ, None, IsSome, ◌==◌, ◌&&◌, count_by, refl}
-use Rattle.std.specs.Coded.{Coded, code_by, coded×, coded_ℕ}
-use Rattle.std.specs.Ordering.{on, then_cmp}
 use Rattle.std.specs.FinMap as map
-use Rattle.std.specs.declared.cmp.Ordering.{Ordering}
-use Rattle.std.specs.declared.cmp.Ordering.TheVariants.{Less}
+use Rattle.std.specs.Prelude.{◌≡◌, ◌<◌, ℕ, None, IsSome, ◌==◌, ◌&&◌, count_by, refl}
+use Rattle.std.specs.{Coded.{Coded, code_by, coded×, coded_ℕ}, Ordering.{on, then_cmp}}
+use Rattle.std.specs.declared.cmp.Ordering.{Ordering, TheVariants.Less}
 use Rattle.do_base.specs.names.Names.{ObjectName, TokenName}
 use Rattle.do_class.specs.declared.ids.ClassId.{ClassId}
 use Rattle.do_export.specs.Counts.{Counts, IsPositive, count_of, entry_cmp}

@@ -1,10 +1,8 @@
 -- The foreign objects that a node received and that it uses, and which of them may leave.
-use Rattle.std.specs.Prelude.{◌≡◌, ◌≤◌, ◌+◌, length, ℕ, Bool, true, false, not, ◌&&◌, T, List}
-use Rattle.std.specs.Prelude.{is_some, refl}
-use Rattle.std.specs.Coded.{Coded, code_by, coded×, coded_ℕ}
 use Rattle.std.specs.FinMap as map
-use Rattle.std.specs.FinMap.{find, is_sorted}
-use Rattle.std.specs.declared.cmp.Ordering.TheVariants.{Less}
+use Rattle.std.specs.Prelude.{◌≡◌, ◌≤◌, ◌+◌, length, ℕ, Bool, true, false, not, ◌&&◌, T, List}
+use Rattle.std.specs.{Prelude.{is_some, refl}, Coded.{Coded, code_by, coded×, coded_ℕ}}
+use Rattle.std.specs.{FinMap.{find, is_sorted}, declared.cmp.Ordering.TheVariants.Less}
 use Rattle.do_export.specs.Counts.{Counts, IsPositive, entry_cmp}
 
 -- how often each foreign object was received and is used, and how many more fit with no memory

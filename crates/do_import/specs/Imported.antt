@@ -1,15 +1,13 @@
 -- What contracts see of a node's imports.
+use Rattle.std.specs.FinMap as map
 use Rattle.std.specs.Prelude.{◌≡◌, ◌||◌, ◌&&◌, ◌==◌, ◌+◌, ◌<◌, ℕ, true, List, [], ◌∷◌, filter}
 use Rattle.std.specs.Prelude.{map as each, min, count_by, refl}
 use Rattle.std.specs.Coded.{Coded, code_by, coded×, coded_ℕ}
-use Rattle.std.specs.FinMap as map
 use Rattle.do_base.specs.names.Names.{ObjectName}
 use Rattle.do_class.specs.declared.ids.ClassId.{ClassId}
 use Rattle.do_export.specs.Counts.{Counts, entry_cmp}
 use Rattle.do_import.specs.Asked.{AreCounts, AskMap, Asked, CountsAsks, asks_of, class_code}
-use Rattle.do_import.specs.ByObject.{Rows, ClassMap, taken_off}
-use Rattle.do_import.specs.Held.{Held}
-use Rattle.do_import.specs.Lent.{Lent, name_code}
+use Rattle.do_import.specs.{ByObject.{Rows, ClassMap, taken_off}, Held.Held, Lent.{Lent, name_code}}
 
 -- the object of each lend, by borrower and number
 abbrev pub LendMap : Type 0

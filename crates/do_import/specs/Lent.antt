@@ -1,7 +1,6 @@
 -- The lends of a node that are not settled.
-use Rattle.std.specs.Prelude.{ℕ, refl}
-use Rattle.std.specs.Coded.{Coded, code_by, coded×, coded_ℕ}
 use Rattle.std.specs.FinMap as map
+use Rattle.std.specs.{Prelude.{ℕ, refl}, Coded.{Coded, code_by, coded×, coded_ℕ}}
 use Rattle.do_base.specs.names.Names.{ObjectName}
 use Rattle.do_export.specs.Counts.{entry_cmp}
 

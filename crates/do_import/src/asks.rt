@@ -1,8 +1,7 @@
 //! The objects that a node asked their homes for, by the tokens under which they were lent to it.
-ghost use Rattle.std.specs.Prelude.{◌≡◌, ◌+◌, ◌<◌, ◌≤◌, not, OnOk, OnErr, MatchOption};
-ghost use Rattle.std.specs.Prelude.{if◌then◌else◌};
-ghost use Rattle.std.specs.Option.{option_copied};
 ghost use Rattle.std.specs.FinMap as map;
+ghost use Rattle.std.specs.Prelude.{◌≡◌, ◌+◌, ◌<◌, ◌≤◌, not, OnOk, OnErr, MatchOption};
+ghost use Rattle.std.specs.{Prelude.if◌then◌else◌, Option.option_copied};
 ghost use Rattle.do_import.specs.Asked.{ask_key, HasNoAsk, IsLowestAsk};
 
 use do_base::{NodeId, Oid, Token};
@@ -20,8 +19,8 @@ pub struct Asks {
 }
 
 impl Model for Asks {
-    ghost use Rattle.std.specs.Prelude.{T};
     ghost use Rattle.std.specs.FinMap as map;
+    ghost use Rattle.std.specs.Prelude.{T};
     ghost use Rattle.do_import.specs.Asked.{Asked, asked_code, ask_cmp};
 
     ghost Value = { Asked };

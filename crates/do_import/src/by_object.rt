@@ -1,8 +1,7 @@
 //! A map by foreign objects: counts of them, or their classes.
-ghost use Rattle.std.specs.Prelude.{◌≡◌, ◌+◌, ◌-◌, ◌<◌, ◌≤◌, ◌^◌, OnOk, OnErr, IfOk, IsSome};
-ghost use Rattle.std.specs.Prelude.{map as each, slice_get, length};
-ghost use Rattle.std.specs.Option.{option_copied};
 ghost use Rattle.std.specs.FinMap as map;
+ghost use Rattle.std.specs.Prelude.{◌≡◌, ◌+◌, ◌-◌, ◌<◌, ◌≤◌, ◌^◌, OnOk, OnErr, IfOk, IsSome};
+ghost use Rattle.std.specs.{Prelude.{map as each, slice_get, length}, Option.option_copied};
 ghost use Rattle.do_export.specs.Counts.{count_of};
 ghost use Rattle.do_import.specs.ByObject.{object_of, added, taken_off, first_kept, left_of};
 ghost use Rattle.do_import.specs.ByObject.{home_ended};
@@ -20,8 +19,8 @@ pub struct ByObject<V> {
 }
 
 impl<V> Model for ByObject<V> {
-    ghost use Rattle.std.specs.Prelude.{T};
     ghost use Rattle.std.specs.FinMap as map;
+    ghost use Rattle.std.specs.Prelude.{T};
     ghost use Rattle.do_export.specs.Counts.{entry_cmp};
     ghost use Rattle.do_import.specs.ByObject.{Rows, rows_code};
 

@@ -1,10 +1,9 @@
 //! The foreign objects that a node received and that it uses, and which of them may leave.
 mod leaving;
 
-ghost use Rattle.std.specs.Prelude.{◌≡◌, ◌+◌, ◌-◌, ◌<◌, ◌≤◌, ◌^◌, ◌⊎◌, ◌||◌, IsTrue, length, OnOk};
-ghost use Rattle.std.specs.Prelude.{if◌then◌else◌};
 ghost use Rattle.std.specs.FinMap as map;
-ghost use Rattle.std.specs.FinMap.{put};
+ghost use Rattle.std.specs.Prelude.{◌≡◌, ◌+◌, ◌-◌, ◌<◌, ◌≤◌, ◌^◌, ◌⊎◌, ◌||◌, IsTrue, length, OnOk};
+ghost use Rattle.std.specs.{Prelude.if◌then◌else◌, FinMap.put};
 ghost use Rattle.do_export.specs.Counts.{count_of, raised, lowered, entry_cmp, IsPositive};
 ghost use Rattle.do_import.specs.ByObject.{taken_off};
 
@@ -26,8 +25,8 @@ pub struct Holdings {
 }
 
 impl Model for Holdings {
-    ghost use Rattle.std.specs.Prelude.{min, ◌+◌, ◌-◌, length};
     ghost use Rattle.std.specs.FinMap as map;
+    ghost use Rattle.std.specs.Prelude.{min, ◌+◌, ◌-◌, length};
     ghost use Rattle.do_import.specs.Held.{Held, held_code, IsRoomy};
 
     ghost Value = { Held };

@@ -4,12 +4,10 @@ mod ending;
 mod lending;
 mod using;
 
-ghost use Rattle.std.specs.Prelude.{◌≡◌, ◌≤◌, ◌||◌, OnOk, IfOk, is_some, map as each};
 ghost use Rattle.std.specs.FinMap as map;
+ghost use Rattle.std.specs.Prelude.{◌≡◌, ◌≤◌, ◌||◌, OnOk, IfOk, is_some, map as each};
 ghost use Rattle.do_export.specs.Counts.{count_of, IsPositive};
-ghost use Rattle.do_import.specs.Asked.{CountsAsks, ask_key};
-ghost use Rattle.do_import.specs.ByObject.{object_of};
-ghost use Rattle.do_import.specs.Imported.{IsTied};
+ghost use Rattle.do_import.specs.{Asked.{CountsAsks, ask_key}, ByObject.object_of, Imported.IsTied};
 
 use crate::asks::Asks;
 use crate::by_object::ByObject;

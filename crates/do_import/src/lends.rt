@@ -1,8 +1,7 @@
 //! The names of foreign objects that a node lent to third nodes.
-ghost use Rattle.std.specs.Prelude.{◌≡◌, ◌+◌, ◌<◌, ◌≤◌, ◌^◌, is_some, OnOk, OnErr, MatchOption};
-ghost use Rattle.std.specs.Prelude.{Some, if◌then◌else◌, slice_get, length};
-ghost use Rattle.std.specs.Option.{option_copied};
 ghost use Rattle.std.specs.FinMap as map;
+ghost use Rattle.std.specs.Prelude.{◌≡◌, ◌+◌, ◌<◌, ◌≤◌, ◌^◌, is_some, OnOk, OnErr, MatchOption};
+ghost use Rattle.std.specs.{Prelude.{Some, if◌then◌else◌, slice_get, length}, Option.option_copied};
 ghost use Rattle.do_export.specs.Counts.{HasNoneFrom, IsLowestFrom, others_of};
 
 use do_base::{NodeId, Oid};
@@ -21,8 +20,8 @@ pub struct Lends {
 }
 
 impl Model for Lends {
-    ghost use Rattle.std.specs.Prelude.{T};
     ghost use Rattle.std.specs.FinMap as map;
+    ghost use Rattle.std.specs.Prelude.{T};
     ghost use Rattle.do_export.specs.Counts.{entry_cmp};
     ghost use Rattle.do_import.specs.Lent.{Lent, lent_code};
 

@@ -1,39 +1,26 @@
 -- Acts of native methods whose values can be carried.
-use Rattle.std.proofs.Common.{◌≡◌, ◌==◌, ◌&&◌, ◌+◌, ◌<◌, ℕ, Bool, true, false, cond}
-use Rattle.std.proofs.Common.{List as Listed, [], ◌∷◌, length, map, refl, ◌∙◌}
-use Rattle.std.specs.Prelude.{None, Option, Some, option_and_then, option_map, slice_get}
-use Rattle.std.specs.Prelude.{slice_index_or, slice_set, suc, zero}
-use Rattle.std.specs.List.{AllByRecursion, list_all}
-use Rattle.std.specs.Option.{IfSome}
-use Rattle.std.proofs.lemmas.Bool.{and_parts}
-use Rattle.std.proofs.lemmas.List.{length-set}
-use Rattle.std.proofs.lemmas.Option.{slice_get_within}
-use Rattle.do_base.specs.values.Equal.{value_eq}
-use Rattle.do_base.specs.declared.events.exception.Exc.{Exc}
+use Rattle.std.proofs.Common.{◌≡◌, ◌==◌, ◌&&◌, ◌+◌, ◌<◌, ℕ, Bool, true, false, cond, List as Listed}
+use Rattle.std.{proofs.Common.{[], ◌∷◌, length, map, refl, ◌∙◌}, specs.Prelude.{None, Option, Some}}
+use Rattle.std.specs.Prelude.{option_and_then, option_map, slice_get, slice_index_or, slice_set}
+use Rattle.std.specs.{Prelude.{suc, zero}, List.{AllByRecursion, list_all}, Option.IfSome}
+use Rattle.std.proofs.lemmas.{Bool.and_parts, List.length-set, Option.slice_get_within}
+use Rattle.do_base.specs.{values.Equal.value_eq, declared.events.exception.Exc.Exc}
 use Rattle.do_base.specs.declared.events.exception.Exc.TheVariants.{Range, TypeFault}
 use Rattle.do_base.specs.declared.values.value.Value.{Value}
-use Rattle.do_class.specs.Class.{Class}
-use Rattle.do_class.specs.Table.{selector_of}
-use Rattle.do_class.specs.declared.ids.MethodId.{MethodId}
+use Rattle.do_class.specs.{Class.Class, Table.selector_of, declared.ids.MethodId.MethodId}
 use Rattle.do_class.specs.declared.method.Method.{Method}
 use Rattle.do_grammar.specs.Words.{◌>>?◌}
-use Rattle.do_behave.specs.Changes.{with_set}
-use Rattle.do_behave.specs.Steps.{local, or_fault}
-use Rattle.do_behave.specs.declared.act.Act.{Act}
-use Rattle.do_behave.specs.declared.act.Act.TheVariants.{Raise, Return, Send, Step}
-use Rattle.do_behave.specs.declared.act.Write.{Write}
-use Rattle.do_behave.specs.declared.change.LocalSet.{LocalSet}
-use Rattle.do_behave.specs.declared.invocation.Handler.{Handler}
+use Rattle.do_behave.specs.{Changes.with_set, Steps.{local, or_fault}, declared.act.Act.Act}
+use Rattle.do_behave.specs.declared.act.{Act.TheVariants.{Raise, Return, Send, Step}, Write.Write}
+use Rattle.do_behave.specs.declared.{change.LocalSet.LocalSet, invocation.Handler.Handler}
 use Rattle.do_behave.specs.declared.invocation.Invocation.{Invocation}
-use Rattle.do_native_acts.specs.Limited.{is_limited}
-use Rattle.do_native_acts.specs.Places.{aside, at_place, by_selector, does_call, in_two}
-use Rattle.do_native_acts.specs.Places.{returns, selector_in, sends}
+use Rattle.do_native_acts.specs.{Limited.is_limited, Places.{aside, at_place, by_selector}}
+use Rattle.do_native_acts.specs.Places.{does_call, in_two, returns, selector_in, sends}
 use Rattle.do_native_acts.specs.Steps.{answered, changes, fits, set, steps}
 use Rattle.do_facts.proofs.EachOfLists.{each_joined, each_mapped, each_set, each_weaker}
 use Rattle.do_limits.specs.Sendable.{AreSendable, IsOfTable, IsSendable, IsSendableExc}
 use Rattle.do_limits.specs.SendableActs.{ActIsSendable}
-use Rattle.do_limits.proofs.runs.Verdicts.{textless}
-use Rattle.do_limits.proofs.scripts.Locals.{value_at}
+use Rattle.do_limits.proofs.{runs.Verdicts.textless, scripts.Locals.value_at}
 use Rattle.do_kept.proofs.Limited.{AllHaveAtoms, HasAtoms, limited_sendable}
 
 -- a value that can be carried where it passes the test of native acts

@@ -1,34 +1,21 @@
 -- Pasteboards keep what can be carried.
+use Rattle.do_kept.proofs.Acts as acts
 use Rattle.std.proofs.Common.{◌≡◌, ◌+◌, ◌++◌, ◌<◌, ◌&&◌, ℕ, ℤ, Bool, true, false, cond}
 use Rattle.std.proofs.Common.{List as Listed, [], ◌∷◌, length, map, arith, ◌∙◌}
 use Rattle.std.specs.Prelude.{None, Option, Some, codes, nat_le, nat_lt, option_map, pos, slice_get}
-use Rattle.std.specs.Prelude.{is_some, suc, zero}
-use Rattle.std.specs.List.{AllByRecursion}
-use Rattle.std.specs.Map.{keys_of}
-use Rattle.std.specs.Option.{IfSome}
-use Rattle.std.specs.Ordering.{int_eq}
-use Rattle.std.specs.Str.{bytes_eq}
-use Rattle.std.proofs.lemmas.Bool.{and_parts}
-use Rattle.std.proofs.lemmas.Bool.Decides.{nat_tests}
-use Rattle.do_base.specs.names.Names.{ObjectName}
-use Rattle.do_base.specs.values.Kinds.{number, object, text}
-use Rattle.do_base.specs.declared.values.value.Value.{Value}
-use Rattle.do_base.specs.declared.values.value.Value.TheVariants.{Nil, Num, Obj, Text}
+use Rattle.std.specs.{Prelude.{is_some, suc, zero}, List.AllByRecursion, Map.keys_of, Option.IfSome}
+use Rattle.std.specs.{Ordering.int_eq, Str.bytes_eq}
+use Rattle.std.proofs.lemmas.Bool.{and_parts, Decides.nat_tests}
+use Rattle.do_base.specs.{names.Names.ObjectName, values.Kinds.{number, object, text}}
+use Rattle.do_base.specs.declared.values.value.Value.{Value, TheVariants.{Nil, Num, Obj, Text}}
 use Rattle.do_base.specs.declared.events.exception.Exc.TheVariants.{Range}
-use Rattle.do_class.specs.Class.{Class}
-use Rattle.do_class.specs.Table.{selector_of}
+use Rattle.do_class.specs.{Class.Class, Table.selector_of}
 use Rattle.do_grammar.specs.Words.{◌>>?◌}
-use Rattle.do_behave.specs.Numbers.{truth}
-use Rattle.do_behave.specs.Steps.{local}
-use Rattle.do_behave.specs.declared.act.Act.{Act}
-use Rattle.do_behave.specs.declared.act.Act.TheVariants.{Raise}
+use Rattle.do_behave.specs.{Numbers.truth, Steps.local, declared.act.Act.{Act, TheVariants.Raise}}
 use Rattle.do_behave.specs.declared.invocation.Invocation.{Invocation}
-use Rattle.do_native_acts.specs.Limited.{is_limited}
-use Rattle.do_native_acts.specs.Owners.{owner_in}
-use Rattle.do_native_acts.specs.Places.{at_place, sends}
-use Rattle.do_native_acts.specs.Rows.{list_in, rows_in}
-use Rattle.do_native_acts.specs.Steps.{caught_to, changes, fits, set, steps}
-use Rattle.do_native_acts.specs.Types.{are_types, types_in}
+use Rattle.do_native_acts.specs.{Limited.is_limited, Owners.owner_in, Places.{at_place, sends}}
+use Rattle.do_native_acts.specs.{Rows.{list_in, rows_in}, Steps.{caught_to, changes, fits, set}}
+use Rattle.do_native_acts.specs.{Steps.steps, Types.{are_types, types_in}}
 use Rattle.do_table.specs.Entries.{added, replaced, value_of}
 use Rattle.do_pboard.specs.Acts.{answers, asks, changed_owner, data_places, declare_next}
 use Rattle.do_pboard.specs.Acts.{declare_places, declares, declares_on, found_now, if_here}
@@ -37,28 +24,21 @@ use Rattle.do_pboard.specs.Acts.{makes_next, method_act, name_next, name_places,
 use Rattle.do_pboard.specs.Acts.{names_keep_on, names_look, pasteboard_act, provide, to_tell}
 use Rattle.do_pboard.specs.Calls.{adds_types, as_number, as_object, asks_available, call_in, does}
 use Rattle.do_pboard.specs.Calls.{sets_data, text_or_nil, with_count}
-use Rattle.do_pboard.specs.Changes.{available, can_grow, data_for, declared}
-use Rattle.do_pboard.specs.Changes.{found, is_owned, keep_at, keeps, owned, takes}
-use Rattle.do_pboard.specs.Changes.{with_all, with_types}
+use Rattle.do_pboard.specs.Changes.{available, can_grow, data_for, declared, found, is_owned}
+use Rattle.do_pboard.specs.Changes.{keep_at, keeps, owned, takes, with_all, with_types}
 use Rattle.do_pboard.specs.Core.{Content, Declared, NamedBoard, Pasteboard, are_boards}
 use Rattle.do_pboard.specs.Core.{begins_empty, board_in, board_row, boards_read, boards_slot}
-use Rattle.do_pboard.specs.Core.{content_in, content_row, contents, count_in}
-use Rattle.do_pboard.specs.Core.{from_slots, in_front, merged, of_parts, owner_value, to_slots}
-use Rattle.do_pboard.specs.Core.{types_read, with_content}
-use Rattle.do_pboard.specs.declared.board.BoardData.{BoardData}
-use Rattle.do_pboard.specs.declared.board.BoardData.TheVariants.{Absent, Ask, Here}
+use Rattle.do_pboard.specs.Core.{content_in, content_row, contents, count_in, from_slots, in_front}
+use Rattle.do_pboard.specs.Core.{merged, of_parts, owner_value, to_slots, types_read, with_content}
+use Rattle.do_pboard.specs.declared.board.BoardData.{BoardData, TheVariants.{Absent, Ask, Here}}
 use Rattle.do_pboard.specs.declared.calls.Call.{Call}
 use Rattle.do_pboard.specs.declared.calls.Call.TheVariants.{AddTypes, Available, ChangeCount}
 use Rattle.do_pboard.specs.declared.calls.Call.TheVariants.{Declare, Keep, SetData, Types}
 use Rattle.do_facts.proofs.EachOfLists.{each_joined, each_mapped, each_weaker}
-use Rattle.do_limits.specs.Sendable.{AreSendable, IsSendable}
-use Rattle.do_limits.specs.SendableActs.{KeepsSendable}
-use Rattle.do_limits.proofs.scripts.Locals.{value_at}
-use Rattle.do_limits.proofs.values.Carried.{carry-Obj}
-use Rattle.do_kept.proofs.Acts as acts
-use Rattle.do_kept.proofs.Acts.{class_there}
-use Rattle.do_kept.proofs.Limited.{AllHaveAtoms, HasAtoms, atoms-Nil, atoms-Obj, atoms-Text}
-use Rattle.do_kept.proofs.Limited.{count_atoms, list_atoms, listed_atoms, truth_atoms}
+use Rattle.do_limits.specs.{Sendable.{AreSendable, IsSendable}, SendableActs.KeepsSendable}
+use Rattle.do_limits.proofs.{scripts.Locals.value_at, values.Carried.carry-Obj}
+use Rattle.do_kept.proofs.{Acts.class_there, Limited.{AllHaveAtoms, HasAtoms, atoms-Nil, atoms-Obj}}
+use Rattle.do_kept.proofs.Limited.{atoms-Text, count_atoms, list_atoms, listed_atoms, truth_atoms}
 use Rattle.do_kept.proofs.ReadValues.{AreOfBytes, IsOfBytes, if_any, if_passed, if_then, list_is}
 use Rattle.do_kept.proofs.ReadValues.{pair_is, rows_are, text_is, types_are}
 use Rattle.do_kept.proofs.Tables.{texts_atoms, value_is}

@@ -1,62 +1,40 @@
 -- Notification centres keep what can be carried.
-use Rattle.std.proofs.Common.{◌≡◌, ◌+◌, ◌++◌, ◌*◌, ◌==◌, ℕ, Bool, true, false, cond}
-use Rattle.std.proofs.Common.{List as Listed, [], ◌∷◌, length, refl}
-use Rattle.std.specs.Prelude.{None, Option, Some, codes, nat_le, nat_lt, option_map, slice_get}
-use Rattle.std.specs.Prelude.{◌-◌, ◌/◌, ◌%◌}
-use Rattle.std.specs.List.{All}
-use Rattle.std.specs.Option.{IfSome}
-use Rattle.std.specs.Str.{bytes_eq}
-use Rattle.std.proofs.lemmas.Bool.{ltb-true}
-use Rattle.std.proofs.lemmas.List.Elements.{All-cons, All-nil, All-push}
-use Rattle.do_base.specs.names.Names.{ObjectName}
-use Rattle.do_base.specs.values.Kinds.{items, object}
+use Rattle.do_center.specs.laws.PostLaws as posting
+use Rattle.do_kept.proofs.Acts as acts
+use Rattle.std.proofs.Common.{◌≡◌, ◌+◌, ◌++◌, ◌*◌, ◌==◌, ℕ, Bool, true, false, cond, List as Listed}
+use Rattle.std.proofs.Common.{[], ◌∷◌, length, refl}
+use Rattle.std.specs.Prelude.{None, Option, Some, codes, nat_le, nat_lt, option_map, slice_get, ◌-◌}
+use Rattle.std.specs.{Prelude.{◌/◌, ◌%◌}, List.All, Option.IfSome, Str.bytes_eq}
+use Rattle.std.proofs.lemmas.{Bool.ltb-true, List.Elements.{All-cons, All-nil, All-push}}
+use Rattle.do_base.specs.{names.Names.ObjectName, values.Kinds.{items, object}}
 use Rattle.do_base.specs.declared.values.value.Value.{Value}
 use Rattle.do_class.specs.Class.{Class}
 use Rattle.do_grammar.specs.Words.{◌>>?◌}
-use Rattle.do_behave.specs.Steps.{local}
-use Rattle.do_behave.specs.laws.ValueKinds.{by_items}
-use Rattle.do_behave.specs.declared.act.Act.{Act}
-use Rattle.do_behave.specs.declared.act.Act.TheVariants.{Send}
-use Rattle.do_behave.specs.declared.invocation.Invocation.{Invocation}
-use Rattle.do_native_acts.specs.Places.{returns}
-use Rattle.do_native_acts.specs.Steps.{fits, steps}
-use Rattle.do_native_acts.specs.laws.FoundLaws.{if_chosen}
+use Rattle.do_behave.specs.{Steps.local, laws.ValueKinds.by_items, declared.act.Act.Act}
+use Rattle.do_behave.specs.declared.{act.Act.TheVariants.Send, invocation.Invocation.Invocation}
+use Rattle.do_native_acts.specs.{Places.returns, Steps.{fits, steps}, laws.FoundLaws.if_chosen}
 use Rattle.do_native_acts.specs.laws.KeptLaws.{kept_at, kept_flat}
 use Rattle.do_center.specs.Acts.{act_of, adds, call_in, center_act, delivering, delivers}
 use Rattle.do_center.specs.Acts.{delivery_at as parts_at, few, first, found, keeps, kept, kept_in}
 use Rattle.do_center.specs.Acts.{later, method_act, method_of, of_five, posts, readies, removes}
-use Rattle.do_center.specs.Acts.{suspends, truth_in}
-use Rattle.do_center.specs.Calls.{IsCall, does, with_suspended}
-use Rattle.do_center.specs.Notes.{label_in, note_in}
-use Rattle.do_center.specs.Posting.{came_to_all, due}
+use Rattle.do_center.specs.{Acts.{suspends, truth_in}, Calls.{IsCall, does, with_suspended}}
+use Rattle.do_center.specs.{Notes.{label_in, note_in}, Posting.{came_to_all, due}}
 use Rattle.do_center.specs.Queues.{deliveries, delivered_at, delivery_at, queue_of, with_queue}
 use Rattle.do_center.specs.Registrations.{registration_from, selector_in}
-use Rattle.do_center.specs.Removing.{goes, left_of, moved, new_places, seats_left}
-use Rattle.do_center.specs.Seats.{Core}
-use Rattle.do_center.specs.Slots.{from_slots, to_slots}
-use Rattle.do_center.specs.declared.calls.Call.{Call}
+use Rattle.do_center.specs.{Removing.{goes, left_of, moved, new_places, seats_left}, Seats.Core}
+use Rattle.do_center.specs.{Slots.{from_slots, to_slots}, declared.calls.Call.Call}
 use Rattle.do_center.specs.declared.calls.Call.TheVariants.{Add, Post, Remove, Suspend}
-use Rattle.do_center.specs.declared.notes.Delivery.{Delivery}
-use Rattle.do_center.specs.declared.notes.Note.{Note}
-use Rattle.do_center.specs.declared.queues.Queued.{Queued}
-use Rattle.do_center.specs.declared.registrations.Registration.{Registration}
-use Rattle.do_center.specs.declared.seats.Seat.{Seat}
-use Rattle.do_center.specs.laws.CallsRead.{call_good}
-use Rattle.do_center.specs.laws.PostLaws as posting
-use Rattle.do_center.specs.laws.PostLaws.{came_kept}
+use Rattle.do_center.specs.declared.{notes.{Delivery.Delivery, Note.Note}, queues.Queued.Queued}
+use Rattle.do_center.specs.declared.{registrations.Registration.Registration, seats.Seat.Seat}
+use Rattle.do_center.specs.laws.{CallsRead.call_good, PostLaws.came_kept}
 use Rattle.do_center.specs.laws.QueueLaws.{coalesced_kept, enqueued_kept, left_fit, moved_kept}
-use Rattle.do_center.specs.laws.QueueLaws.{queue_fits, with_fits}
-use Rattle.do_center.proofs.CoreKept.{added_kept, cleared_kept, posted_kept}
-use Rattle.do_center.proofs.RemovedKept.{left_kept}
-use Rattle.do_limits.specs.Sendable.{AreSendable, IsSendable}
-use Rattle.do_limits.specs.SendableActs.{KeepsSendable}
-use Rattle.do_limits.proofs.scripts.Locals.{value_at}
-use Rattle.do_limits.proofs.scripts.MadeLists.{items_sendable}
-use Rattle.do_kept.proofs.Acts as acts
-use Rattle.do_kept.proofs.Limited.{atoms-Nil}
-use Rattle.do_kept.proofs.Notifications.{AreEntries, IsCoreOf, IsDelivery, IsEntry, IsPosted}
-use Rattle.do_kept.proofs.Notifications.{IsRegistered, IsSeat, core_is, deliveries_atoms, note_is}
-use Rattle.do_kept.proofs.Notifications.{registration_is, slots_atoms}
+use Rattle.do_center.{specs.laws.QueueLaws.{queue_fits, with_fits}, proofs.CoreKept.added_kept}
+use Rattle.do_center.proofs.{CoreKept.{cleared_kept, posted_kept}, RemovedKept.left_kept}
+use Rattle.do_limits.specs.{Sendable.{AreSendable, IsSendable}, SendableActs.KeepsSendable}
+use Rattle.do_limits.proofs.scripts.{Locals.value_at, MadeLists.items_sendable}
+use Rattle.do_kept.proofs.{Limited.atoms-Nil, Notifications.{AreEntries, IsCoreOf, IsDelivery}}
+use Rattle.do_kept.proofs.Notifications.{IsEntry, IsPosted, IsRegistered, IsSeat, core_is}
+use Rattle.do_kept.proofs.Notifications.{deliveries_atoms, note_is, registration_is, slots_atoms}
 use Rattle.do_kept.proofs.ReadValues.{Taken, if_any, if_passed, if_then}
 
 -- ---- calls

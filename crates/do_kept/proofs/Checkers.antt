@@ -1,36 +1,24 @@
 -- Checkers keep what can be carried.
+use Rattle.do_kept.proofs.Acts as acts
 use Rattle.std.proofs.Common.{◌≡◌, ℕ, Bool, true, false, cond, List as Listed, [], ◌∷◌, length}
-use Rattle.std.proofs.Common.{arith, refl}
-use Rattle.std.specs.Prelude.{Option, Some, codes, option_map}
-use Rattle.std.specs.List.{find}
-use Rattle.std.specs.Option.{IfSome}
-use Rattle.std.specs.Str.{bytes_eq}
+use Rattle.std.{proofs.Common.{arith, refl}, specs.Prelude.{Option, Some, codes, option_map}}
+use Rattle.std.specs.{List.find, Option.IfSome, Str.bytes_eq}
 use Rattle.do_base.specs.values.Kinds.{is_nil, object}
-use Rattle.do_base.specs.declared.events.exception.Exc.TheVariants.{User}
-use Rattle.do_base.specs.declared.values.value.Value.{Value}
+use Rattle.do_base.specs.declared.{events.exception.Exc.TheVariants.User, values.value.Value.Value}
 use Rattle.do_base.specs.declared.values.value.Value.TheVariants.{Obj}
 use Rattle.do_class.specs.Class.{Class}
-use Rattle.do_grammar.specs.Names.{colons}
-use Rattle.do_grammar.specs.Words.{◌>>?◌}
+use Rattle.do_grammar.specs.{Names.colons, Words.◌>>?◌}
 use Rattle.do_coder.proofs.values.PartFacts.{all_bytes}
-use Rattle.do_behave.specs.Steps.{local, local_values}
-use Rattle.do_behave.specs.declared.act.Act.{Act}
-use Rattle.do_behave.specs.declared.act.Act.TheVariants.{Raise, Send}
-use Rattle.do_behave.specs.declared.invocation.Invocation.{Invocation}
+use Rattle.do_behave.specs.{Steps.{local, local_values}, declared.act.Act.{Act, TheVariants.Raise}}
+use Rattle.do_behave.specs.declared.{act.Act.TheVariants.Send, invocation.Invocation.Invocation}
 use Rattle.do_native_acts.specs.Steps.{steps}
 use Rattle.do_check.specs.Acts.{check_act, checks, firsts, follows, forward_places, guard_places}
-use Rattle.do_check.specs.Acts.{guards}
-use Rattle.do_check.specs.Acts.{keeps_target, passes_on, sets_target, target_in}
-use Rattle.do_check.specs.Rules.{verdict_of}
-use Rattle.do_check.specs.declared.rules.Rule.{Rule}
-use Rattle.do_check.specs.declared.rules.Verdict.{Verdict}
+use Rattle.do_check.specs.Acts.{guards, keeps_target, passes_on, sets_target, target_in}
+use Rattle.do_check.specs.{Rules.verdict_of, declared.rules.{Rule.Rule, Verdict.Verdict}}
 use Rattle.do_check.specs.declared.rules.Verdict.TheVariants.{Deny, Forward}
-use Rattle.do_limits.specs.Sendable.{AreSendable, IsSendable}
-use Rattle.do_limits.specs.SendableActs.{KeepsSendable}
-use Rattle.do_limits.proofs.scripts.Locals.{each_local}
-use Rattle.do_limits.proofs.values.Carried.{carry-Nil, carry-Obj}
+use Rattle.do_limits.specs.{Sendable.{AreSendable, IsSendable}, SendableActs.KeepsSendable}
+use Rattle.do_limits.proofs.{scripts.Locals.each_local, values.Carried.{carry-Nil, carry-Obj}}
 use Rattle.do_kept.specs.Kept.{RulesAreSendable, VerdictIsSendable}
-use Rattle.do_kept.proofs.Acts as acts
 
 -- the verdict of a rule that is found
 verdict_found : (rules : Listed Rule) (selector : Listed ℕ) → RulesAreSendable rules →

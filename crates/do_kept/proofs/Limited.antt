@@ -1,16 +1,11 @@
 -- A value within the limits on its texts and lists can be carried where its atoms can.
-use Rattle.std.proofs.Common.{◌≡◌, ◌&&◌, ◌-◌, ◌*◌, ◌<◌, ℕ, ℤ, Bool, true, false}
-use Rattle.std.proofs.Common.{List as Listed, [], ◌∷◌}
-use Rattle.std.proofs.Common.{length, map, refl, sym, ap, ◌∙◌, arith, rules}
+use Rattle.std.proofs.Common.{◌≡◌, ◌&&◌, ◌-◌, ◌*◌, ◌<◌, ℕ, ℤ, Bool, true, false, List as Listed, []}
+use Rattle.std.proofs.Common.{◌∷◌, length, map, refl, sym, ap, ◌∙◌, arith, rules}
 use Rattle.std.specs.Prelude.{nat_le, nat_lt, pos, suc, zero, ◌^◌}
 use Rattle.std.specs.List.{AllByRecursion, list_all}
-use Rattle.std.proofs.lemmas.Bool.{and_from, and_parts}
-use Rattle.std.proofs.lemmas.Bool.Decides.{nat_tests}
-use Rattle.std.proofs.lemmas.List.{length-map}
-use Rattle.do_base.specs.names.Names.{ObjectName}
-use Rattle.do_base.specs.values.Induction.{value_induction}
-use Rattle.do_base.specs.values.Texts.{longest_text}
-use Rattle.do_base.specs.values.Values.{weight_of}
+use Rattle.std.proofs.lemmas.{Bool.{and_from, and_parts, Decides.nat_tests}, List.length-map}
+use Rattle.do_base.specs.{names.Names.ObjectName, values.Induction.value_induction}
+use Rattle.do_base.specs.values.{Texts.longest_text, Values.weight_of}
 use Rattle.do_base.specs.declared.values.value.Value.{List, Value, the_lemmas}
 use Rattle.do_base.specs.declared.values.value.Value.TheVariants.{Nil, Num, Obj, Text}
 use Rattle.do_grammar.specs.Num.{zigzag}
@@ -18,8 +13,7 @@ use Rattle.do_coder.specs.Parts.{is_bytes}
 use Rattle.do_behave.specs.Limits.{has_small_parts, nests_within}
 use Rattle.do_behave.specs.laws.Nesting.{nests_within-List_none, nests_within-deeper}
 use Rattle.do_behave.specs.Numbers.{truth}
-use Rattle.do_native_acts.specs.Limited.{is_limited}
-use Rattle.do_native_acts.specs.Rows.{listed}
+use Rattle.do_native_acts.specs.{Limited.is_limited, Rows.listed}
 use Rattle.do_limits.specs.Sendable.{IsSendable, can_carry}
 use Rattle.do_limits.proofs.values.Carried.{carry-List, carry-Nil, carry-Num, carry-Obj, carry-Text}
 use Rattle.do_kept.specs.Atoms.{has_atoms}

@@ -1,36 +1,26 @@
 -- Servers of names keep what can be carried.
+use Rattle.do_kept.proofs.Acts as acts
 use Rattle.std.proofs.Common.{◌≡◌, ◌++◌, ℕ, Bool, true, false, cond, List as Listed, [], ◌∷◌}
 use Rattle.std.proofs.Common.{length, map, ◌∙◌, arith}
 use Rattle.std.specs.Prelude.{None, Option, Some, codes, nat_lt, option_and_then, option_map, pos}
-use Rattle.std.specs.List.{AllByRecursion}
-use Rattle.std.specs.Option.{IfSome}
-use Rattle.std.specs.Str.{bytes_eq}
-use Rattle.do_base.specs.values.Kinds.{text}
-use Rattle.do_base.specs.declared.values.value.Value.{Value}
+use Rattle.std.specs.{List.AllByRecursion, Option.IfSome, Str.bytes_eq}
+use Rattle.do_base.specs.{values.Kinds.text, declared.values.value.Value.Value}
 use Rattle.do_base.specs.declared.values.value.Value.TheVariants.{Num, Text}
 use Rattle.do_class.specs.Class.{Class}
 use Rattle.do_grammar.specs.Words.{◌>>?◌}
-use Rattle.do_behave.specs.Steps.{local}
-use Rattle.do_behave.specs.declared.invocation.Invocation.{Invocation}
-use Rattle.do_native_acts.specs.Places.{in_two}
-use Rattle.do_native_acts.specs.Ports.{port_in}
-use Rattle.do_native_acts.specs.Rows.{rows_in}
+use Rattle.do_behave.specs.{Steps.local, declared.invocation.Invocation.Invocation}
+use Rattle.do_native_acts.specs.{Places.in_two, Ports.port_in, Rows.rows_in}
 use Rattle.do_table.specs.Entries.{value_of}
-use Rattle.do_names.specs.Acts.{first, names_act}
-use Rattle.do_names.specs.Calls.{as_number, call_in, call_with, does, port_or_none}
-use Rattle.do_names.specs.Core.{Entry, are_names, entry_in, from_slots, name_in, of_core}
-use Rattle.do_names.specs.Core.{register_at, row, to_slots, unregistered}
-use Rattle.do_names.specs.declared.calls.Call.{Call}
-use Rattle.do_names.specs.declared.calls.Call.TheVariants.{Lookup, Register, Unregister}
+use Rattle.do_names.specs.{Acts.{first, names_act}, Calls.{as_number, call_in, call_with, does}}
+use Rattle.do_names.specs.{Calls.port_or_none, Core.{Entry, are_names, entry_in, from_slots}}
+use Rattle.do_names.specs.Core.{name_in, of_core, register_at, row, to_slots, unregistered}
+use Rattle.do_names.specs.declared.calls.Call.{Call, TheVariants.{Lookup, Register, Unregister}}
 use Rattle.do_facts.proofs.EachOfLists.{each_joined, each_mapped, each_weaker}
-use Rattle.do_limits.specs.Sendable.{AreSendable, IsSendable}
-use Rattle.do_limits.specs.SendableActs.{KeepsSendable}
+use Rattle.do_limits.specs.{Sendable.{AreSendable, IsSendable}, SendableActs.KeepsSendable}
 use Rattle.do_limits.proofs.scripts.Locals.{value_at}
-use Rattle.do_kept.proofs.Acts as acts
 use Rattle.do_kept.proofs.Limited.{AllHaveAtoms, HasAtoms, atoms-Text, count_atoms, list_atoms}
-use Rattle.do_kept.proofs.Limited.{listed_atoms, truth_atoms}
-use Rattle.do_kept.proofs.ReadValues.{IsOfBytes, IsPortNumber, if_passed, pair_is, port_is}
-use Rattle.do_kept.proofs.ReadValues.{rows_are, text_is}
+use Rattle.do_kept.proofs.{Limited.{listed_atoms, truth_atoms}, ReadValues.IsOfBytes}
+use Rattle.do_kept.proofs.ReadValues.{IsPortNumber, if_passed, pair_is, port_is, rows_are, text_is}
 use Rattle.do_kept.proofs.Tables.{removed_are, value_is}
 
 -- ---- entries

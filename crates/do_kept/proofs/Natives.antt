@@ -1,28 +1,20 @@
 -- A behaviour of classes of all kinds keeps what can be carried.
+use Rattle.do_kept.proofs.Acts as acts
 use Rattle.std.proofs.Common.{◌≡◌, ℕ, List as Listed, [], ◌∷◌, length}
-use Rattle.std.specs.Prelude.{Some, slice_get, suc, zero}
-use Rattle.std.specs.List.{AllByRecursion}
-use Rattle.std.specs.Option.{IfSome}
+use Rattle.std.specs.{Prelude.{Some, slice_get, suc, zero}, List.AllByRecursion, Option.IfSome}
 use Rattle.do_base.specs.declared.values.value.Value.{Value}
 use Rattle.do_class.specs.Class.{Class}
 use Rattle.do_behave.specs.declared.invocation.Invocation.{Invocation}
 use Rattle.do_check.specs.Acts.{check_act}
-use Rattle.do_class_kinds.specs.declared.kind.Kind.{Kind}
-use Rattle.do_class_kinds.specs.declared.kind.Kind.TheVariants.{Center, Checker, Names, Pasteboard}
-use Rattle.do_class_kinds.specs.declared.kind.Kind.TheVariants.{Script, Services}
-use Rattle.do_native.specs.Acts.{acts_as, native_act}
-use Rattle.do_native.specs.declared.native.Native.{Native}
-use Rattle.do_limits.specs.Sendable.{AreSendable}
-use Rattle.do_limits.specs.SendableActs.{KeepsSendable}
+use Rattle.do_class_kinds.specs.declared.kind.Kind.{Kind, TheVariants.{Center, Checker, Names}}
+use Rattle.do_class_kinds.specs.declared.kind.Kind.TheVariants.{Pasteboard, Script, Services}
+use Rattle.do_native.specs.{Acts.{acts_as, native_act}, declared.native.Native.Native}
+use Rattle.do_limits.specs.{Sendable.AreSendable, SendableActs.KeepsSendable}
 use Rattle.do_limits.specs.SendableCodes.{CodesAreSendable}
 use Rattle.do_limits.proofs.scripts.Instructions.{scripts_keep}
 use Rattle.do_kept.specs.Kept.{RulesAreSendable}
-use Rattle.do_kept.proofs.Acts as acts
-use Rattle.do_kept.proofs.Boards.{pasteboards_keep}
-use Rattle.do_kept.proofs.Centers.{centers_keep}
-use Rattle.do_kept.proofs.Checkers.{checkers_keep}
-use Rattle.do_kept.proofs.Names.{names_keep}
-use Rattle.do_kept.proofs.Services.{services_keep}
+use Rattle.do_kept.proofs.{Boards.pasteboards_keep, Centers.centers_keep, Checkers.checkers_keep}
+use Rattle.do_kept.proofs.{Names.names_keep, Services.services_keep}
 
 -- what holds of each holds of one that is found
 found : {X : Type 0} (P : X → Type 0) (xs : Listed X) (k : ℕ) → AllByRecursion P xs →

@@ -1,44 +1,33 @@
 -- What a notification centre keeps and delivers is of texts and numbers that can be carried.
+use Rattle.do_center.proofs.SeatsKept as center
 use Rattle.std.proofs.Common.{◌≡◌, ◌<◌, ◌≤◌, ◌&&◌, ℕ, ℤ, Bool, true, false, cond, refl, sym, subst}
 use Rattle.std.proofs.Common.{List as Listed, [], ◌∷◌, length, map, arith, rules, true≢false, ◌∙◌}
-use Rattle.std.specs.Prelude.{None, Option, Some, pos, slice_get}
-use Rattle.std.specs.Cmp.Lexicographic.{pointwise}
-use Rattle.std.specs.List.{All, AllByRecursion}
-use Rattle.std.specs.Option.{IfSome}
-use Rattle.std.proofs.lemmas.Bool.{and_parts}
+use Rattle.std.specs.{Prelude.{None, Option, Some, pos, slice_get}, Cmp.Lexicographic.pointwise}
+use Rattle.std.{specs.{List.{All, AllByRecursion}, Option.IfSome}, proofs.lemmas.Bool.and_parts}
 use Rattle.std.proofs.lemmas.List.Elements.{All-from_recursion, All-nil, recursion_from_All}
 use Rattle.std.proofs.lemmas.Option.{slice_get_within}
-use Rattle.do_base.specs.names.Names.{ObjectName}
-use Rattle.do_base.specs.values.Equal.{value_eq}
-use Rattle.do_base.specs.values.Induction.{value_induction}
-use Rattle.do_base.specs.values.Kinds.{object, text}
+use Rattle.do_base.specs.{names.Names.ObjectName, values.Equal.value_eq}
+use Rattle.do_base.specs.values.{Induction.value_induction, Kinds.{object, text}}
 use Rattle.do_base.specs.declared.values.value.Value.{List, Value, the_lemmas}
 use Rattle.do_base.specs.declared.values.value.Value.TheVariants.{Nil, Num, Obj, Text}
 use Rattle.do_grammar.specs.Words.{◌>>?◌}
 use Rattle.do_behave.specs.laws.ValueKinds.{by_items}
 use Rattle.do_native_acts.specs.Rows.{listed, rows_in}
 use Rattle.do_center.specs.Notes.{delivery_value, info_in, info_within, is_note, is_short, label_in}
-use Rattle.do_center.specs.Notes.{label_value, note_in, posted_name}
-use Rattle.do_center.specs.Observers.{same_object, without_first}
-use Rattle.do_center.specs.Registrations.{behaviour_in, number_of, registration_from}
-use Rattle.do_center.specs.Registrations.{registration_in, registration_of, registration_value}
-use Rattle.do_center.specs.Registrations.{selector_in, takes_three}
+use Rattle.do_center.specs.{Notes.{label_value, note_in, posted_name}, Observers.same_object}
+use Rattle.do_center.specs.{Observers.without_first, Registrations.{behaviour_in, number_of}}
+use Rattle.do_center.specs.Registrations.{registration_from, registration_in, registration_of}
+use Rattle.do_center.specs.Registrations.{registration_value, selector_in, takes_three}
 use Rattle.do_center.specs.Seats.{Core, are_seats, are_suspended, is_core, is_of, is_queued}
-use Rattle.do_center.specs.Seats.{registrations}
-use Rattle.do_center.specs.Slots.{from_slots, of_core, place_in, queue_among, queued_in, queued_of}
-use Rattle.do_center.specs.Slots.{queued_value, seated, to_slots, waiting, waiting_in, waiting_of}
-use Rattle.do_center.specs.Slots.{waiting_value}
-use Rattle.do_center.specs.declared.notes.Delivery.{Delivery}
-use Rattle.do_center.specs.declared.notes.Note.{Note}
-use Rattle.do_center.specs.declared.queues.Queued.{Queued}
-use Rattle.do_center.specs.declared.registrations.Registration.{Registration}
-use Rattle.do_center.specs.declared.seats.Seat.{Seat}
-use Rattle.do_center.specs.declared.suspension.Suspension.{Suspension}
-use Rattle.do_center.specs.declared.suspension.Suspension.TheVariants.{Coalesce, Drop, Hold}
-use Rattle.do_center.specs.declared.suspension.Suspension.TheVariants.{DeliverImmediately}
+use Rattle.do_center.specs.{Seats.registrations, Slots.{from_slots, of_core, place_in, queue_among}}
+use Rattle.do_center.specs.Slots.{queued_in, queued_of, queued_value, seated, to_slots, waiting}
+use Rattle.do_center.specs.Slots.{waiting_in, waiting_of, waiting_value}
+use Rattle.do_center.specs.declared.{notes.{Delivery.Delivery, Note.Note}, queues.Queued.Queued}
+use Rattle.do_center.specs.declared.{registrations.Registration.Registration, seats.Seat.Seat}
+use Rattle.do_center.specs.declared.suspension.Suspension.{Suspension, TheVariants.{Coalesce, Drop}}
+use Rattle.do_center.specs.declared.suspension.Suspension.TheVariants.{Hold, DeliverImmediately}
 use Rattle.do_center.specs.laws.QueueLaws.{Fits, registrations_fit, waiting_fit}
 use Rattle.do_center.proofs.CoreKept.{seats_parts}
-use Rattle.do_center.proofs.SeatsKept as center
 use Rattle.do_facts.proofs.EachOfLists.{each_mapped, each_of, each_weaker}
 use Rattle.do_limits.specs.Sendable.{AreSendable, IsSendable}
 use Rattle.do_limits.proofs.scripts.MadeLists.{items_sendable}

@@ -1,37 +1,27 @@
 -- Codes and rules within their limits, of numbers of 64 bits and texts of bytes, can be carried.
-use Rattle.std.proofs.Common.{◌≡◌, ◌<◌, ◌∙◌, ℕ, true, arith, subst}
-use Rattle.std.proofs.Common.{List as Listed, [], ◌∷◌, length}
+use Rattle.do_native.specs.Acts as native
+use Rattle.std.proofs.Common.{◌≡◌, ◌<◌, ◌∙◌, ℕ, true, arith, subst, List as Listed, [], ◌∷◌, length}
 use Rattle.std.specs.Prelude.{Some, nat_le, nat_lt, slice_get, suc, zero}
-use Rattle.std.specs.List.{AllByRecursion, AllZip}
-use Rattle.std.proofs.lemmas.Bool.{and_from, le-leb}
-use Rattle.std.proofs.lemmas.Bool.Decides.{nat_tests}
-use Rattle.std.proofs.lemmas.List.Elements.{recursion_from_All}
+use Rattle.std.{specs.List.{AllByRecursion, AllZip}, proofs.lemmas.Bool.{and_from, le-leb}}
+use Rattle.std.proofs.lemmas.{Bool.Decides.nat_tests, List.Elements.recursion_from_All}
 use Rattle.do_base.specs.values.Texts.{longest_text}
-use Rattle.do_class.specs.Class.{Class}
-use Rattle.do_class.specs.declared.method.Method.{Method}
+use Rattle.do_class.specs.{Class.Class, declared.method.Method.Method}
 use Rattle.do_grammar.specs.Num.{zigzag}
-use Rattle.do_coder.specs.Parts.{is_bytes}
-use Rattle.do_coder.proofs.values.PartFacts.{bytes_all}
+use Rattle.do_coder.{specs.Parts.is_bytes, proofs.values.PartFacts.bytes_all}
 use Rattle.do_script.specs.Listing.{IsWithin, Listing}
 use Rattle.do_script.specs.declared.instruction.Instruction.{Instruction}
 use Rattle.do_script.specs.declared.instruction.Instruction.TheVariants.{Number, Text}
-use Rattle.do_behave.specs.Programs.{HasCodes, IsMadeFor, Suits}
-use Rattle.do_behave.specs.Script.{code_of}
-use Rattle.do_check.specs.Rules.{AreRules, IsRule, IsVerdict}
-use Rattle.do_check.specs.declared.rules.Rule.{Rule}
-use Rattle.do_check.specs.declared.rules.Verdict.{Verdict}
-use Rattle.do_check.specs.declared.rules.Verdict.TheVariants.{Deny, Forward}
-use Rattle.do_native.specs.Acts as native
-use Rattle.do_native.specs.Acts.{native_act}
-use Rattle.do_native.specs.declared.native.Native.{Native}
+use Rattle.do_behave.specs.{Programs.{HasCodes, IsMadeFor, Suits}, Script.code_of}
+use Rattle.do_check.specs.{Rules.{AreRules, IsRule, IsVerdict}, declared.rules.Rule.Rule}
+use Rattle.do_check.specs.declared.rules.Verdict.{Verdict, TheVariants.{Deny, Forward}}
+use Rattle.do_native.specs.{Acts.native_act, declared.native.Native.Native}
 use Rattle.do_native_acts.specs.laws.KindLaws.{some_same}
-use Rattle.do_carried.specs.Ranged.{AreRanged, CodeIsRanged, CodesAreRanged, IsRanged}
-use Rattle.do_carried.specs.Ranged.{RuleIsRanged, RulesAreRanged, VerdictIsRanged}
+use Rattle.do_carried.specs.Ranged.{AreRanged, CodeIsRanged, CodesAreRanged, IsRanged, RuleIsRanged}
+use Rattle.do_carried.specs.Ranged.{RulesAreRanged, VerdictIsRanged}
 use Rattle.do_limits.specs.SendableActs.{KeepsSendable}
 use Rattle.do_limits.specs.SendableCodes.{CodeIsSendable, CodesAreSendable, GivesSendable}
 use Rattle.do_limits.proofs.values.Carried.{carry-Num, carry-Text}
-use Rattle.do_kept.specs.Kept.{RulesAreSendable, VerdictIsSendable}
-use Rattle.do_kept.proofs.Natives.{natives_keep}
+use Rattle.do_kept.{specs.Kept.{RulesAreSendable, VerdictIsSendable}, proofs.Natives.natives_keep}
 
 -- ---- codes
 

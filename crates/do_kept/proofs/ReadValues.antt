@@ -1,26 +1,20 @@
 -- What native acts read of values that can be carried.
-use Rattle.std.proofs.Common.{◌≡◌, ◌&&◌, ◌<◌, ℕ, ℤ, Bool, true, false, cond}
-use Rattle.std.proofs.Common.{List as Listed, [], ◌∷◌, length, refl, sym, subst, ◌∙◌, arith, rules}
+use Rattle.std.proofs.Common.{◌≡◌, ◌&&◌, ◌<◌, ℕ, ℤ, Bool, true, false, cond, List as Listed, []}
+use Rattle.std.proofs.Common.{◌∷◌, length, refl, sym, subst, ◌∙◌, arith, rules}
 use Rattle.std.specs.Prelude.{None, Option, Some, nat_le, nat_lt, negsuc, option_map, pos}
-use Rattle.std.specs.List.{AllByRecursion}
-use Rattle.std.specs.Option.{IfSome}
-use Rattle.std.proofs.lemmas.Bool.{and_parts}
-use Rattle.std.proofs.lemmas.Bool.Decides.{nat_tests}
-use Rattle.do_base.specs.names.Names.{ObjectName}
-use Rattle.do_base.specs.values.Induction.{value_induction}
-use Rattle.do_base.specs.values.Kinds.{number, text}
-use Rattle.do_base.specs.values.Texts.{longest_text}
+use Rattle.std.specs.{List.AllByRecursion, Option.IfSome}
+use Rattle.std.proofs.lemmas.Bool.{and_parts, Decides.nat_tests}
+use Rattle.do_base.specs.{names.Names.ObjectName, values.Induction.value_induction}
+use Rattle.do_base.specs.values.{Kinds.{number, text}, Texts.longest_text}
 use Rattle.do_base.specs.declared.values.value.Value.{List, Value, the_lemmas}
 use Rattle.do_base.specs.declared.values.value.Value.TheVariants.{Nil, Num, Obj, Text}
 use Rattle.do_grammar.specs.Words.{◌>>?◌}
 use Rattle.do_coder.specs.Parts.{is_bytes}
 use Rattle.do_behave.specs.laws.ValueKinds.{by_items, by_text}
-use Rattle.do_native_acts.specs.Ports.{port_in, port_number}
-use Rattle.do_native_acts.specs.Rows.{list_in, pair_in, pair_of, read_all, rows_in, with_first}
-use Rattle.do_native_acts.specs.Types.{are_types, types_in}
+use Rattle.do_native_acts.specs.{Ports.{port_in, port_number}, Rows.{list_in, pair_in, pair_of}}
+use Rattle.do_native_acts.specs.{Rows.{read_all, rows_in, with_first}, Types.{are_types, types_in}}
 use Rattle.do_limits.specs.Sendable.{AreSendable, IsSendable}
-use Rattle.do_limits.proofs.scripts.MadeLists.{items_sendable}
-use Rattle.do_limits.proofs.values.Carried.{carry-Text}
+use Rattle.do_limits.proofs.{scripts.MadeLists.items_sendable, values.Carried.carry-Text}
 
 -- ---- what is found or chosen
 

@@ -1,25 +1,17 @@
 -- Servers of services keep what can be carried.
+use Rattle.do_kept.proofs.Acts as acts
 use Rattle.std.proofs.Common.{◌≡◌, ◌++◌, ℕ, Bool, true, false, cond, List as Listed, [], ◌∷◌}
 use Rattle.std.proofs.Common.{length, map, refl, sym, subst, arith, ◌∙◌}
 use Rattle.std.specs.Prelude.{None, Option, Some, codes, nat_lt, option_map, pos}
-use Rattle.std.specs.List.{AllByRecursion}
-use Rattle.std.specs.Map.{keys_of}
-use Rattle.std.specs.Option.{IfSome}
-use Rattle.std.specs.Str.{bytes_eq}
-use Rattle.do_base.specs.values.Kinds.{is_nil, text}
-use Rattle.do_base.specs.declared.values.value.Value.{Value}
+use Rattle.std.specs.{List.AllByRecursion, Map.keys_of, Option.IfSome, Str.bytes_eq}
+use Rattle.do_base.specs.{values.Kinds.{is_nil, text}, declared.values.value.Value.Value}
 use Rattle.do_base.specs.declared.values.value.Value.TheVariants.{Nil, Num, Text}
 use Rattle.do_class.specs.Class.{Class}
 use Rattle.do_grammar.specs.Words.{◌>>?◌}
-use Rattle.do_behave.specs.Numbers.{truth}
-use Rattle.do_behave.specs.Steps.{local}
-use Rattle.do_behave.specs.declared.act.Act.{Act}
-use Rattle.do_behave.specs.declared.act.Act.TheVariants.{Root, Send}
-use Rattle.do_behave.specs.declared.change.LocalSet.{LocalSet}
+use Rattle.do_behave.specs.{Numbers.truth, Steps.local, declared.act.Act.Act}
+use Rattle.do_behave.specs.declared.{act.Act.TheVariants.{Root, Send}, change.LocalSet.LocalSet}
 use Rattle.do_behave.specs.declared.invocation.Invocation.{Invocation}
-use Rattle.do_native_acts.specs.Owners.{owner_in}
-use Rattle.do_native_acts.specs.Places.{at_place}
-use Rattle.do_native_acts.specs.Rows.{rows_in}
+use Rattle.do_native_acts.specs.{Owners.owner_in, Places.at_place, Rows.rows_in}
 use Rattle.do_native_acts.specs.Steps.{caught_to, set}
 use Rattle.do_table.specs.Entries.{value_of}
 use Rattle.do_services.specs.Acts.{answers, asks_provider, asks_root, asks_type, has_type, keeps_on}
@@ -28,17 +20,12 @@ use Rattle.do_services.specs.Acts.{provider_message, services_act, was_performed
 use Rattle.do_services.specs.Calls.{as_number, call_in, does, row_or_nil}
 use Rattle.do_services.specs.Core.{Entry, add_at, are_services, from_slots, keyed, of_core, row}
 use Rattle.do_services.specs.Core.{service_in, texts_value, to_slots, with_service, without}
-use Rattle.do_services.specs.declared.calls.Call.{Call}
-use Rattle.do_services.specs.declared.calls.Call.TheVariants.{Add, Items, Named, Remove}
-use Rattle.do_services.specs.declared.service.Service.{Service}
-use Rattle.do_services.specs.laws.SlotsExact.{service_back}
+use Rattle.do_services.specs.declared.calls.Call.{Call, TheVariants.{Add, Items, Named, Remove}}
+use Rattle.do_services.specs.{declared.service.Service.Service, laws.SlotsExact.service_back}
 use Rattle.do_facts.proofs.EachOfLists.{each_joined, each_mapped, each_weaker}
-use Rattle.do_limits.specs.Sendable.{AreSendable, IsSendable}
-use Rattle.do_limits.specs.SendableActs.{KeepsSendable}
-use Rattle.do_limits.proofs.scripts.Locals.{value_at}
-use Rattle.do_limits.proofs.scripts.MadeLists.{items_sendable}
+use Rattle.do_limits.specs.{Sendable.{AreSendable, IsSendable}, SendableActs.KeepsSendable}
+use Rattle.do_limits.proofs.scripts.{Locals.value_at, MadeLists.items_sendable}
 use Rattle.do_limits.proofs.values.Carried.{carry-Nil}
-use Rattle.do_kept.proofs.Acts as acts
 use Rattle.do_kept.proofs.Limited.{AllHaveAtoms, HasAtoms, atoms-Nil, atoms-Text, count_atoms}
 use Rattle.do_kept.proofs.Limited.{list_atoms, listed_atoms, parts_atoms, sendable_atoms}
 use Rattle.do_kept.proofs.Limited.{truth_atoms}

@@ -1,14 +1,9 @@
 -- What holds of each entry of a table holds of what is found in it and of what is left.
-use Rattle.std.proofs.Common.{ℕ, Bool, true, false, cond, List as Listed, [], ◌∷◌, map}
-use Rattle.std.proofs.Common.{◌∙◌}
-use Rattle.std.specs.Prelude.{Some}
-use Rattle.std.specs.List.{AllByRecursion}
-use Rattle.std.specs.Option.{IfSome}
-use Rattle.std.specs.Str.{bytes_eq}
+use Rattle.std.proofs.Common.{ℕ, Bool, true, false, cond, List as Listed, [], ◌∷◌, map, ◌∙◌}
+use Rattle.std.specs.{Prelude.Some, List.AllByRecursion, Option.IfSome, Str.bytes_eq}
 use Rattle.do_base.specs.declared.values.value.Value.TheVariants.{Text}
 use Rattle.do_table.specs.Entries.{removed, value_of}
-use Rattle.do_kept.proofs.Limited.{AllHaveAtoms, atoms-Text}
-use Rattle.do_kept.proofs.ReadValues.{AreOfBytes}
+use Rattle.do_kept.proofs.{Limited.{AllHaveAtoms, atoms-Text}, ReadValues.AreOfBytes}
 
 -- the value of a name
 pub value_is : {V : Type 0} (P : V → Type 0) (es : Listed (Listed ℕ × V)) (name : Listed ℕ) →

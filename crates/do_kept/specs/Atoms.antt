@@ -1,6 +1,5 @@
 -- Values whose numbers and bytes a message can carry, however long and deep they are.
-use Rattle.std.specs.Prelude.{Bool, nat_lt, true, ◌^◌}
-use Rattle.std.specs.List.{list_all}
+use Rattle.std.specs.{Prelude.{Bool, nat_lt, true, ◌^◌}, List.list_all}
 use Rattle.do_base.specs.declared.values.value.Value.{Value, fold-Value}
 use Rattle.do_base.specs.declared.values.value.Value.TheOpen.{List, Num, Text, Value-F}
 use Rattle.do_grammar.specs.Num.{zigzag}

@@ -1,10 +1,7 @@
 -- Rules of checkers whose acts keep values within what a message can carry.
-use Rattle.std.specs.Prelude.{List}
-use Rattle.std.specs.List.{AllByRecursion}
+use Rattle.std.specs.{Prelude.List, List.AllByRecursion}
 use Rattle.do_base.specs.declared.events.exception.Exc.TheVariants.{User}
-use Rattle.do_check.specs.declared.rules.Rule.{Rule}
-use Rattle.do_check.specs.declared.rules.Verdict.{Verdict}
-use Rattle.do_check.specs.declared.rules.Verdict.TheVariants.{Deny, Forward}
+use Rattle.do_check.specs.declared.rules.{Rule.Rule, Verdict.{Verdict, TheVariants.{Deny, Forward}}}
 use Rattle.do_limits.specs.Sendable.{IsSendableExc}
 
 -- the text of a denial can be carried

@@ -1,18 +1,14 @@
 //! Laws of native acts, each carried by a function that does nothing else.
-ghost use Rattle.std.specs.Prelude.{List};
-ghost use Rattle.std.specs.List.{AllByRecursion};
+ghost use Rattle.std.specs.{Prelude.List, List.AllByRecursion};
 ghost use Rattle.do_class.specs.Class.{Class};
-ghost use Rattle.do_check.specs.Acts.{check_act};
-ghost use Rattle.do_check.specs.declared.rules.Rule.{Rule};
+ghost use Rattle.do_check.specs.{Acts.check_act, declared.rules.Rule.Rule};
 ghost use Rattle.do_names.specs.Acts.{names_act};
 ghost use Rattle.do_pboard.specs.Acts.{pasteboard_act};
 ghost use Rattle.do_services.specs.Acts.{services_act};
 ghost use Rattle.do_center.specs.Acts.{center_act};
-ghost use Rattle.do_native.specs.Acts.{IsMadeFor, native_act};
-ghost use Rattle.do_native.specs.declared.native.Native.{Native};
+ghost use Rattle.do_native.specs.{Acts.{IsMadeFor, native_act}, declared.native.Native.Native};
 ghost use Rattle.do_carried.specs.Ranged.{CodesAreRanged, RulesAreRanged};
-ghost use Rattle.do_limits.specs.SendableActs.{KeepsSendable};
-ghost use Rattle.do_limits.specs.SendableCodes.{CodesAreSendable};
+ghost use Rattle.do_limits.specs.{SendableActs.KeepsSendable, SendableCodes.CodesAreSendable};
 ghost use Rattle.do_kept.specs.Kept.{RulesAreSendable};
 
 /// A checker keeps values within the limits: where sixteen locals and the slots can be carried by

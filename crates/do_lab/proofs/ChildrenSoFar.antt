@@ -2,10 +2,8 @@
 use Rattle.std.proofs.Common.{◌≡◌, ℕ, ◌≤◌, List, ◌∷◌, Option, inl, inr, arith}
 use Rattle.do_base.specs.outside.Causes.{Rose}
 use Rattle.do_plan.specs.declared.plan.PlanLine.{PlanLine}
-use Rattle.do_lab.specs.declared.spawner.ChildId.{ChildId}
-use Rattle.do_lab.specs.declared.children.ChildEnd.{ChildEnd}
-use Rattle.do_lab.specs.declared.children.ChildEnd.TheVariants.{NotWaited}
-use Rattle.do_lab.specs.Told.{Spawned}
+use Rattle.do_lab.specs.declared.{spawner.ChildId.ChildId, children.ChildEnd.ChildEnd}
+use Rattle.do_lab.specs.{declared.children.ChildEnd.TheVariants.NotWaited, Told.Spawned}
 use Rattle.do_output.specs.Told.{TellsMore}
 use Rattle.do_lab.specs.Children.{waits_for, Fits}
 use Rattle.do_lab.specs.Running.{HasStarted, HaveStarted, HasNone, HaveWaited, HasUnwaited}

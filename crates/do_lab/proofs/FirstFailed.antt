@@ -1,20 +1,15 @@
 -- Why the first child that failed did.
-use Rattle.std.proofs.Common.{◌≡◌, ℕ, ◌+◌, pos, Bool, true, false, cond, List, [], ◌∷◌}
-use Rattle.std.proofs.Common.{refl}
-use Rattle.std.proofs.Common.{Option, Some, None, inl, inr}
-use Rattle.std.specs.Ordering.{int_eq}
+use Rattle.std.proofs.Common.{◌≡◌, ℕ, ◌+◌, pos, Bool, true, false, cond, List, [], ◌∷◌, refl}
+use Rattle.std.{proofs.Common.{Option, Some, None, inl, inr}, specs.Ordering.int_eq}
 use Rattle.do_base.specs.outside.Causes.{Rose}
 use Rattle.do_plan.specs.declared.plan.PlanLine.{PlanLine}
-use Rattle.do_lab.specs.declared.spawner.ChildId.{ChildId}
-use Rattle.do_lab.specs.declared.children.ChildEnd.{ChildEnd}
+use Rattle.do_lab.specs.declared.{spawner.ChildId.ChildId, children.ChildEnd.ChildEnd}
 use Rattle.do_lab.specs.declared.children.ChildEnd.TheVariants.{Status, NotStarted, NotWaited}
 use Rattle.do_lab.specs.declared.children.LabEnd.{LabEnd}
 use Rattle.do_lab.specs.declared.children.LabEnd.TheVariants.{Done, ChildFailed, WriteFault, Memory}
 use Rattle.do_base.specs.outside.Bytes.{with_more}
-use Rattle.do_lab.specs.Told.{Spawned}
-use Rattle.do_lab.specs.Children.{AllFit, HasChildCause, first_failed, HaveEnded, lab_text}
-use Rattle.do_lab.specs.Children.{TellsLab}
-use Rattle.do_lab.specs.Running.{HasNone, HasUnwaited}
+use Rattle.do_lab.specs.{Told.Spawned, Children.{AllFit, HasChildCause, first_failed, HaveEnded}}
+use Rattle.do_lab.specs.{Children.{lab_text, TellsLab}, Running.{HasNone, HasUnwaited}}
 
 -- a start or a wait that failed is behind a child that was not started or not waited for
 pub cause_of_first : (f g : ℕ) (children : List (Option ChildId)) (ends : List ChildEnd)

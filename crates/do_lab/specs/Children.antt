@@ -1,14 +1,10 @@
 -- The children of a plan: how they were started, how they ended, and what is written of them.
-use Rattle.std.specs.Prelude.{◌≡◌, ℕ, ◌+◌, ◌⊎◌, ℤ, pos, List, [], ◌∷◌, ◌++◌, codes, decimal}
-use Rattle.std.specs.Prelude.{Option, Some, None, if◌then◌else◌}
-use Rattle.std.specs.Fmt.{signed_decimal}
-use Rattle.std.specs.Ordering.{int_eq}
-use Rattle.do_base.specs.outside.Bytes.{with_more, HasWritten}
-use Rattle.do_base.specs.outside.Causes.{Rose}
+use Rattle.std.specs.Prelude.{◌≡◌, ℕ, ◌+◌, ◌⊎◌, ℤ, pos, List, [], ◌∷◌, ◌++◌, codes, decimal, Option}
+use Rattle.std.specs.{Prelude.{Some, None, if◌then◌else◌}, Fmt.signed_decimal, Ordering.int_eq}
+use Rattle.do_base.specs.outside.{Bytes.{with_more, HasWritten}, Causes.Rose}
 use Rattle.do_sched.specs.Spelling.{fed}
 use Rattle.do_plan.specs.declared.plan.PlanLine.{PlanLine}
-use Rattle.do_lab.specs.declared.spawner.ChildId.{ChildId}
-use Rattle.do_lab.specs.declared.children.ChildEnd.{ChildEnd}
+use Rattle.do_lab.specs.declared.{spawner.ChildId.ChildId, children.ChildEnd.ChildEnd}
 use Rattle.do_lab.specs.declared.children.ChildEnd.TheVariants.{Status, NotStarted, NotWaited}
 use Rattle.do_lab.specs.declared.children.LabEnd.{LabEnd}
 use Rattle.do_lab.specs.declared.children.LabEnd.TheVariants.{Done, ChildFailed, WriteFault, Memory}

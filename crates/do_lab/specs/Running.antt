@@ -1,12 +1,10 @@
 -- Children that were given and were not waited for.
 use Rattle.std.specs.Prelude.{◌≡◌, ◌≢◌, ℕ, ◌+◌, ◌≤◌, ◌⊎◌, List, [], ◌∷◌, Option, Some, None}
 use Rattle.do_plan.specs.declared.plan.PlanLine.{PlanLine}
-use Rattle.do_lab.specs.declared.spawner.ChildId.{ChildId}
-use Rattle.do_lab.specs.Told.{Spawned, Started}
+use Rattle.do_lab.specs.{declared.spawner.ChildId.ChildId, Told.{Spawned, Started}}
 use Rattle.do_output.specs.Told.{TellsMore}
 use Rattle.do_base.specs.outside.Causes.{Rose}
-use Rattle.do_lab.specs.declared.children.ChildEnd.{ChildEnd}
-use Rattle.do_lab.specs.declared.children.ChildEnd.TheVariants.{NotWaited}
+use Rattle.do_lab.specs.declared.children.ChildEnd.{ChildEnd, TheVariants.NotWaited}
 use Rattle.do_lab.specs.Children.{line_words, number_of, starts_told, waits_told, AsMany, AllFit}
 use Rattle.do_lab.specs.Children.{HaveEnded, HasChildCause, first_failed}
 

@@ -1,8 +1,8 @@
 //! A spawner whose children are numbers, and whose faults are listed beforehand.
 ghost use Rattle.std.specs.Prelude.{◌≡◌, ◌≢◌, ◌<◌, ◌≤◌, ◌↔◌, ◌++◌, ◌∷◌, [], ℕ, length, Some, Ok};
-ghost use Rattle.std.specs.Prelude.{IfOk, OnOk, OnErr, IsOk, IsErrOf, true, false, slice_get, slice_set};
-ghost use Rattle.do_base.specs.outside.Causes.{Rose, next_count};
-ghost use Rattle.do_base.specs.outside.InMemory.{FailsNext};
+ghost use Rattle.std.specs.Prelude.{IfOk, OnOk, OnErr, IsOk, IsErrOf, true, false, slice_get};
+ghost use Rattle.std.specs.Prelude.{slice_set};
+ghost use Rattle.do_base.specs.outside.{Causes.{Rose, next_count}, InMemory.FailsNext};
 ghost use Rattle.do_output.specs.Told.{TellsMore};
 ghost use Rattle.do_lab.specs.Told.{start_told, wait_told};
 ghost use Rattle.do_lab.specs.InMemory.{IsRunning, running, status_at};

@@ -1,8 +1,7 @@
 //! A plan's children, started, waited for and told of.
 ghost use Rattle.std.specs.Prelude.{◌≡◌, ◌≤◌, ◌<◌, ◌+◌, ◌^◌, ◌++◌, length, OnOk, IfOk};
 ghost use Rattle.do_lab.specs.Children.{end_word, end_line, end_lines, lab_text, first_failed};
-ghost use Rattle.do_lab.specs.Children.{TellsLab, HasChildCause};
-ghost use Rattle.do_lab.specs.Running.{HaveRun};
+ghost use Rattle.do_lab.specs.{Children.{TellsLab, HasChildCause}, Running.HaveRun};
 
 use crate::children::{ChildEnd, ChildEnds, LabEnd};
 use crate::parts::split;

@@ -2,9 +2,8 @@
 ghost use Rattle.std.specs.Prelude.{◌≡◌, ◌≤◌, ℕ, IfOk, decimal};
 ghost use Rattle.do_base.specs.outside.Causes.{Rose};
 ghost use Rattle.do_output.specs.Told.{TellsMore};
-ghost use Rattle.do_lab.specs.Children.{line_words, waits_for, Fits};
-ghost use Rattle.do_lab.specs.Running.{Runs, AllRun, IsNot, Rises, HasStarted, HaveStarted};
-ghost use Rattle.do_lab.specs.Running.{HaveWaited};
+ghost use Rattle.do_lab.specs.{Children.{line_words, waits_for, Fits}, Running.{Runs, AllRun}};
+ghost use Rattle.do_lab.specs.Running.{IsNot, Rises, HasStarted, HaveStarted, HaveWaited};
 
 use crate::children::{ChildEnd, ChildEnds};
 use crate::parts::split;

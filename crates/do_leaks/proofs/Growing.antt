@@ -1,7 +1,6 @@
 -- A loop over a list that adds to what was there before it.
 use Rattle.std.proofs.Common.{◌≡◌, ℕ, ◌<◌, ◌+◌, List, [], ◌∷◌, ◌++◌, length, get_or, take, sym, ap}
-use Rattle.std.proofs.Common.{◌∙◌}
-use Rattle.std.proofs.lemmas.List.{take_more}
+use Rattle.std.proofs.{Common.◌∙◌, lemmas.List.take_more}
 
 module _ {X M : Type 0} (f : List X → M) (op : M → M → M)
     (apart : (xs ys : List X) → f (xs ++ ys) ≡ op (f xs) (f ys)) where

@@ -1,20 +1,13 @@
 -- What slots in a row name first.
 use Rattle.std.proofs.Common.{◌≡◌, List, [], ◌∷◌, ◌++◌, Option, Some, None, refl, ap, ◌∙◌, sym}
-use Rattle.std.proofs.Common.{cond}
-use Rattle.std.proofs.Common.{Bool, true, false, ◌||◌, ℕ, ◌+◌, length, arith}
-use Rattle.std.specs.Option.{option_or}
-use Rattle.std.proofs.Common.{◌<◌, get_or, take, length-take}
-use Rattle.std.proofs.lemmas.List.{append-nil, take_more}
-use Rattle.std.proofs.lemmas.Grind.{flat_map-append}
-use Rattle.do_base.specs.names.Names.{ObjectName}
-use Rattle.do_base.specs.values.Values.{objects_of}
+use Rattle.std.proofs.Common.{cond, Bool, true, false, ◌||◌, ℕ, ◌+◌, length, arith, ◌<◌, get_or}
+use Rattle.std.{proofs.Common.{take, length-take}, specs.Option.option_or}
+use Rattle.std.proofs.lemmas.{List.{append-nil, take_more}, Grind.flat_map-append}
+use Rattle.do_base.specs.{names.Names.ObjectName, values.Values.objects_of}
 use Rattle.do_base.specs.declared.values.value.Value.{Value}
 use Rattle.do_packet.specs.Met.{has_object, same_object}
-use Rattle.do_trace.specs.declared.outcome.ObjLine.{ObjLine}
-use Rattle.do_trace.specs.declared.outcome.NodeLine.{NodeLine}
-use Rattle.do_leaks.specs.Heap.{objects_at}
-use Rattle.do_leaks.specs.declared.leak.Holder.{Holder}
-use Rattle.do_leaks.specs.Leaks.{holder, holder_in}
+use Rattle.do_trace.specs.declared.outcome.{ObjLine.ObjLine, NodeLine.NodeLine}
+use Rattle.do_leaks.specs.{Heap.objects_at, declared.leak.Holder.Holder, Leaks.{holder, holder_in}}
 use Rattle.do_leaks.specs.Rest.{noted}
 
 -- the first of three, however they are grouped

@@ -1,26 +1,18 @@
 -- Leaks and their holders are stored and cannot be reached.
 use Rattle.std.proofs.Common.{◌≡◌, Bool, true, false, not, List, [], ◌∷◌, ◌++◌, Option, Some, None}
 use Rattle.std.proofs.Common.{refl, sym, ap, ◌∙◌, subst, inl, inr, IsSome, map, All, ℕ, ◌+◌}
-use Rattle.std.specs.List.{AllByRecursion, flat_map, list_any}
-use Rattle.std.specs.Option.{option_or}
+use Rattle.std.specs.{List.{AllByRecursion, flat_map, list_any}, Option.option_or}
 use Rattle.std.proofs.lemmas.Bool.{cases_Bool, both_ways, cond-false, cond-true, false_from_ne_true}
-use Rattle.std.proofs.lemmas.Bool.{or_left, or_right}
-use Rattle.std.proofs.lemmas.List.Elements.{All-append, All-cons, All-nil, recursion_from_All}
-use Rattle.std.proofs.lemmas.List.{map-append}
-use Rattle.do_base.specs.names.Names.{ObjectName}
-use Rattle.do_base.specs.values.Values.{objects_of}
+use Rattle.std.proofs.lemmas.{Bool.{or_left, or_right}, List.Elements.{All-append, All-cons}}
+use Rattle.std.proofs.lemmas.List.{Elements.{All-nil, recursion_from_All}, map-append}
+use Rattle.do_base.specs.{names.Names.ObjectName, values.Values.objects_of}
 use Rattle.do_base.specs.declared.values.value.Value.{Value}
 use Rattle.do_packet.specs.Met.{has_object, same_object}
-use Rattle.do_trace.specs.declared.outcome.ObjLine.{ObjLine}
-use Rattle.do_trace.specs.declared.outcome.Snapshot.{Snapshot}
-use Rattle.do_leaks.proofs.Named.{in_left, in_right, same_self}
-use Rattle.do_leaks.proofs.Reaching.{reach_least, weaker}
-use Rattle.do_leaks.specs.Heap.{heap_of}
-use Rattle.do_leaks.specs.Laws.{AreHeld, AreLost, IsLost, lost_names}
-use Rattle.do_leaks.specs.Leaks.{held_by, holder, holder_in, leak_of, leaks}
-use Rattle.do_leaks.specs.Reach.{PassesTo, missed, reach}
-use Rattle.do_leaks.specs.declared.leak.Holder.{Holder}
-use Rattle.do_leaks.specs.declared.leak.Leak.{Leak}
+use Rattle.do_trace.specs.declared.outcome.{ObjLine.ObjLine, Snapshot.Snapshot}
+use Rattle.do_leaks.proofs.{Named.{in_left, in_right, same_self}, Reaching.{reach_least, weaker}}
+use Rattle.do_leaks.specs.{Heap.heap_of, Laws.{AreHeld, AreLost, IsLost, lost_names}}
+use Rattle.do_leaks.specs.{Leaks.{held_by, holder, holder_in, leak_of, leaks}, Reach.PassesTo}
+use Rattle.do_leaks.specs.{Reach.{missed, reach}, declared.leak.{Holder.Holder, Leak.Leak}}
 
 -- what an option of a holder is
 one_holder : {a b : Holder} → Some a ≡ Some b → a ≡ b

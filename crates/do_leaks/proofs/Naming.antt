@@ -1,13 +1,9 @@
 -- What the objects of joined heaps name.
 use Rattle.std.proofs.Common.{◌≡◌, List, [], ◌∷◌, ◌++◌, Option, Some, None, refl, ap, ◌∙◌, sym}
-use Rattle.std.proofs.Common.{append_assoc}
-use Rattle.std.proofs.lemmas.List.{append-nil}
-use Rattle.std.proofs.lemmas.Grind.{flat_map-append}
+use Rattle.std.proofs.{Common.append_assoc, lemmas.{List.append-nil, Grind.flat_map-append}}
 use Rattle.do_base.specs.names.Names.{ObjectName}
-use Rattle.do_trace.specs.declared.outcome.ObjLine.{ObjLine}
-use Rattle.do_trace.specs.declared.outcome.NodeLine.{NodeLine}
-use Rattle.do_leaks.specs.Heap.{objects_at}
-use Rattle.do_leaks.specs.Rest.{joined, named_at, named_from}
+use Rattle.do_trace.specs.declared.outcome.{ObjLine.ObjLine, NodeLine.NodeLine}
+use Rattle.do_leaks.specs.{Heap.objects_at, Rest.{joined, named_at, named_from}}
 
 -- nothing behind a list leaves the list
 pub joined_none : (a : Option (List ObjectName)) → joined a None ≡ a

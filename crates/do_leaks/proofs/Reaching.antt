@@ -1,16 +1,13 @@
 -- What is computed is the smallest set.
 use Rattle.std.proofs.Common.{◌≡◌, Bool, true, false, not, ℕ, suc, zero, ◌≤◌, List, [], ◌∷◌, ◌++◌}
-use Rattle.std.proofs.Common.{length, refl, sym, ap, subst, arith, inl, inr}
-use Rattle.std.specs.Prelude.{filter}
-use Rattle.std.specs.List.{AllByRecursion, flat_map}
-use Rattle.std.proofs.lemmas.Bool.{cases_Bool, both_ways, cond-false, cond-true}
-use Rattle.std.proofs.lemmas.List.Elements.{All-from_recursion, recursion_from_All}
-use Rattle.std.proofs.lemmas.List.Filters.{length-filter_both}
+use Rattle.std.{proofs.Common.{length, refl, sym, ap, subst, arith, inl, inr}, specs.Prelude.filter}
+use Rattle.std.{specs.List.{AllByRecursion, flat_map}, proofs.lemmas.Bool.{cases_Bool, both_ways}}
+use Rattle.std.proofs.lemmas.{Bool.{cond-false, cond-true}, List.Elements.All-from_recursion}
+use Rattle.std.proofs.lemmas.List.{Elements.recursion_from_All, Filters.length-filter_both}
 use Rattle.do_base.specs.names.Names.{ObjectName}
 use Rattle.do_packet.specs.Met.{has_object}
 use Rattle.do_trace.specs.declared.outcome.ObjLine.{ObjLine}
-use Rattle.do_leaks.proofs.Named.{in_either, in_left, in_right}
-use Rattle.do_leaks.specs.Heap.{names_in}
+use Rattle.do_leaks.{proofs.Named.{in_either, in_left, in_right}, specs.Heap.names_in}
 use Rattle.do_leaks.specs.Reach.{AllPass, IsReach, PassesTo, found, missed, reach, reach_in}
 
 -- what holds of the objects found and of those missed holds of all

@@ -1,15 +1,12 @@
 -- Taking out what can be reached, one object at a time.
 use Rattle.std.proofs.Common.{◌≡◌, List, [], ◌∷◌, ◌++◌, Option, Some, None, refl, ap, ◌∙◌, sym}
-use Rattle.std.proofs.Common.{cond}
-use Rattle.std.proofs.Common.{Bool, true, false, ◌||◌, IsSome, inl, inr}
-use Rattle.std.specs.Prelude.{is_none}
-use Rattle.std.proofs.lemmas.Bool.{cases_Bool, both_ways, cond-false, cond-true, or_cases, or_left}
-use Rattle.std.proofs.lemmas.Bool.{or_right}
+use Rattle.std.proofs.Common.{cond, Bool, true, false, ◌||◌, IsSome, inl, inr}
+use Rattle.std.{specs.Prelude.is_none, proofs.lemmas.Bool.{cases_Bool, both_ways, cond-false}}
+use Rattle.std.proofs.lemmas.Bool.{cond-true, or_cases, or_left, or_right}
 use Rattle.do_base.specs.names.Names.{ObjectName}
 use Rattle.do_packet.specs.Met.{has_object, same_object}
-use Rattle.do_leaks.proofs.Named.{in_either, in_left, in_one, in_right, same_is}
-use Rattle.do_leaks.proofs.Named.{same_self, some_list, some_of}
-use Rattle.do_leaks.specs.Reach.{AllPass}
+use Rattle.do_leaks.proofs.Named.{in_either, in_left, in_one, in_right, same_is, same_self}
+use Rattle.do_leaks.{proofs.Named.{some_list, some_of}, specs.Reach.AllPass}
 use Rattle.do_leaks.specs.Rest.{IsStruck, NamesByObject, PassesOn, is_gone, names_of, or_none}
 
 -- an object waits to be taken out, or is gone

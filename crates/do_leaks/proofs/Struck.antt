@@ -1,6 +1,6 @@
 -- What is left of a heap is what was not reached.
-use Rattle.std.proofs.Common.{◌≡◌, Bool, true, List, [], ◌∷◌, ◌++◌, Option, Some, None, refl}
-use Rattle.std.proofs.Common.{sym, ap, ◌∙◌, subst, inl, inr, cond, IsSome}
+use Rattle.std.proofs.Common.{◌≡◌, Bool, true, List, [], ◌∷◌, ◌++◌, Option, Some, None, refl, sym}
+use Rattle.std.proofs.Common.{ap, ◌∙◌, subst, inl, inr, cond, IsSome}
 use Rattle.std.specs.List.{AllByRecursion, flat_map}
 use Rattle.std.proofs.lemmas.Bool.{cases_Bool, both_ways, cond-false, cond-true, false_from_ne_true}
 use Rattle.std.proofs.lemmas.List.Elements.{All-from_recursion, recursion_from_All}
@@ -9,13 +9,10 @@ use Rattle.do_packet.specs.Met.{has_object, same_object}
 use Rattle.do_trace.specs.declared.outcome.ObjLine.{ObjLine}
 use Rattle.do_leaks.proofs.Named.{in_either, in_left, in_right, same_is, same_self}
 use Rattle.do_leaks.proofs.Reaching.{reach_least, weaker}
-use Rattle.do_leaks.specs.Heap.{names_in}
-use Rattle.do_leaks.specs.Leaks.{held_by, leak_of, leaks_of}
-use Rattle.do_leaks.specs.Listed.{leak_left}
-use Rattle.do_leaks.specs.Reach.{AllPass, PassesTo, reach}
+use Rattle.do_leaks.specs.{Heap.names_in, Leaks.{held_by, leak_of, leaks_of, holder}}
+use Rattle.do_leaks.specs.{Listed.leak_left, Reach.{AllPass, PassesTo, reach}}
 use Rattle.do_leaks.specs.Rest.{HoldersByObject, IsRestOf, IsStruck, NamesByObject, holder_at}
 use Rattle.do_leaks.specs.Rest.{is_gone, joined, named_at, named_from, names_of}
-use Rattle.do_leaks.specs.Leaks.{holder}
 
 -- an option is a list that has these objects
 abbrev Covers : Option (List ObjectName) → List ObjectName → Type 0

@@ -1,6 +1,5 @@
 //! The objects that values name.
-ghost use Rattle.std.specs.Prelude.{◌≡◌, ◌++◌, IfOk, OnOk};
-ghost use Rattle.std.specs.List.{flat_map};
+ghost use Rattle.std.specs.{Prelude.{◌≡◌, ◌++◌, IfOk, OnOk}, List.flat_map};
 ghost use Rattle.do_base.specs.values.Values.{objects_of};
 ghost use Rattle.do_leaks.specs.Heap.{names_in};
 

@@ -1,18 +1,14 @@
 -- Counts once uses were taken off.
-use Rattle.std.proofs.Common.{◌≡◌, ◌≢◌, ℕ, ◌+◌, ◌-◌, Bool, true, false, cond, List, []}
-use Rattle.std.proofs.Common.{◌∷◌, refl, ◌∙◌, arith, not}
-use Rattle.std.specs.Prelude.{◌==◌, ◌&&◌, if◌then◌else◌}
 use Rattle.std.specs.FinMap as map
-use Rattle.std.specs.FinMap.{get-insert, get-remove}
-use Rattle.std.proofs.lemmas.Bool.Decides.{nat_tests}
-use Rattle.std.proofs.lemmas.List.Sums.{sum_by-cons}
+use Rattle.std.proofs.Common.{◌≡◌, ◌≢◌, ℕ, ◌+◌, ◌-◌, Bool, true, false, cond, List, [], ◌∷◌, refl}
+use Rattle.std.proofs.Common.{◌∙◌, arith, not}
+use Rattle.std.specs.{Prelude.{◌==◌, ◌&&◌, if◌then◌else◌}, FinMap.{get-insert, get-remove}}
+use Rattle.std.proofs.lemmas.{Bool.Decides.nat_tests, List.Sums.sum_by-cons}
 use Rattle.do_base.specs.names.Names.{ObjectName}
 use Rattle.do_packet.specs.Met.{same_object}
 use Rattle.do_export.specs.Counts.{Counts, count_of, lowered}
-use Rattle.do_import.specs.ByObject.{taken_off}
-use Rattle.do_import.specs.Imported.{all_off}
-use Rattle.do_leaving.specs.Counted.{times}
-use Rattle.do_leaving.specs.Sweeping.{foreign}
+use Rattle.do_import.specs.{ByObject.taken_off, Imported.all_off}
+use Rattle.do_leaving.specs.{Counted.times, Sweeping.foreign}
 use Rattle.do_export.proofs.Order.{entry_total}
 use Rattle.do_leaving.proofs.SlotNames.{once}
 

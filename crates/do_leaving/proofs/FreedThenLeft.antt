@@ -1,14 +1,10 @@
 -- First what is freed, then what is left.
-use Rattle.std.proofs.Common.{ℕ, Bool, List as Listed, [], sym, ◌∙◌}
-use Rattle.std.proofs.Common.{append-nil}
+use Rattle.std.proofs.Common.{ℕ, Bool, List as Listed, [], sym, ◌∙◌, append-nil}
 use Rattle.do_base.specs.names.Names.{ObjectName}
-use Rattle.do_machine.specs.declared.node.Node.{Node}
-use Rattle.do_machine.specs.held.Kept.{kept}
-use Rattle.do_machine.specs.held.Leaving.{freeing, leaving}
+use Rattle.do_machine.specs.{declared.node.Node.Node, held.{Kept.kept, Leaving.{freeing, leaving}}}
 use Rattle.do_export.specs.Counts.{IsPositive}
 use Rattle.do_import.specs.Imported.{Imported}
-use Rattle.do_leaving.specs.Leavers.{AllLeave}
-use Rattle.do_leaving.specs.Left.{IsEffect}
+use Rattle.do_leaving.specs.{Leavers.AllLeave, Left.IsEffect}
 use Rattle.do_store.specs.Names.{Objects}
 use Rattle.do_leaving.proofs.LeaversAreDropped.{drops}
 

@@ -1,30 +1,22 @@
 -- The foreign objects that leave are those that the machine drops.
-use Rattle.std.proofs.Common.{◌≡◌, ℕ, ◌<◌, Bool, true, false, cond, not, ◌||◌}
-use Rattle.std.proofs.Common.{List, [], ◌∷◌, ◌++◌, Some, None, Option, map as each, filter, refl}
-use Rattle.std.proofs.Common.{sym, ap, ◌∙◌, subst, arith, inl, inr}
-use Rattle.std.specs.Prelude.{is_some}
-use Rattle.std.specs.Option.{unwrap_or}
 use Rattle.std.specs.FinMap as map
+use Rattle.std.proofs.Common.{◌≡◌, ℕ, ◌<◌, Bool, true, false, cond, not, ◌||◌, List, [], ◌∷◌, ◌++◌}
+use Rattle.std.proofs.Common.{Some, None, Option, map as each, filter, refl, sym, ap, ◌∙◌, subst}
+use Rattle.std.{proofs.Common.{arith, inl, inr}, specs.{Prelude.is_some, Option.unwrap_or}}
 use Rattle.std.specs.FinMap.{entries_sorted, get-entries, get-retain_keys}
 use Rattle.std.specs.FinMap.Entries.{find-where_key, is_sorted-where_key, same_entries, where_key}
-use Rattle.std.proofs.Math.Bool.{or_assoc}
-use Rattle.std.proofs.lemmas.Bool.{cases_eq, or_cases, or_left, or_right}
-use Rattle.std.proofs.lemmas.Bool.Decides.{nat_tests}
-use Rattle.std.proofs.lemmas.List.Folds.{list_any-append}
-use Rattle.std.proofs.lemmas.Simd.{map-map}
+use Rattle.std.proofs.{Math.Bool.or_assoc, lemmas.Bool.{cases_eq, or_cases, or_left, or_right}}
+use Rattle.std.proofs.lemmas.{Bool.Decides.nat_tests, List.Folds.list_any-append, Simd.map-map}
 use Rattle.do_base.specs.names.Names.{ObjectName}
 use Rattle.do_packet.specs.Met.{has_object, same_object}
-use Rattle.do_machine.specs.declared.node.Node.{Node}
-use Rattle.do_machine.specs.Lists.{IsIn}
-use Rattle.do_machine.specs.held.Leaving.{dropping, left}
+use Rattle.do_machine.specs.{declared.node.Node.Node, Lists.IsIn, held.Leaving.{dropping, left}}
 use Rattle.do_machine.specs.held.Refers.{heap_objects, node_objects, stack_objects}
 use Rattle.do_import.specs.ByObject.{object_of}
 use Rattle.do_machine.proofs.Having.{has_passing}
 use Rattle.do_leaving.specs.Counted.{Counted, IsUsed, objects_besides}
 use Rattle.do_export.specs.Counts.{Counts, IsPositive, entry_cmp, count_of}
 use Rattle.do_import.specs.Imported.{Imported}
-use Rattle.do_leaving.specs.Leavers.{AllLeave, leavers, told}
-use Rattle.do_leaving.specs.Left.{IsEffect, left_sent}
+use Rattle.do_leaving.specs.{Leavers.{AllLeave, leavers, told}, Left.{IsEffect, left_sent}}
 use Rattle.do_store.specs.Names.{Objects}
 use Rattle.do_leaving.proofs.SlotNames.{times_has}
 use Rattle.do_export.proofs.Order.{entry_total, entry_same}

@@ -1,20 +1,14 @@
 -- What has left so far, from nothing to all that leaves.
-use Rattle.std.proofs.Common.{◌≡◌, ℕ, ◌+◌, ◌-◌, ◌<◌, arith, inl, inr, Bool, true, false, cond, not}
-use Rattle.std.proofs.Common.{◌||◌, List, [], ◌∷◌, ◌++◌}
-use Rattle.std.proofs.Common.{Option, None, map as each, refl, sym, ap, ◌∙◌, subst, append_assoc}
-use Rattle.std.proofs.Common.{append-nil}
-use Rattle.std.specs.Prelude.{is_some}
-use Rattle.std.proofs.Math.Bool.{or-true}
-use Rattle.std.specs.Ordering.{eq_by_cmp}
 use Rattle.std.specs.FinMap as map
-use Rattle.std.specs.FinMap.{empty_of_len, get-empty, get-remove, get-retain_keys, len-remove}
-use Rattle.std.specs.FinMap.{same_map}
+use Rattle.std.proofs.Common.{◌≡◌, ℕ, ◌+◌, ◌-◌, ◌<◌, arith, inl, inr, Bool, true, false, cond, not}
+use Rattle.std.proofs.Common.{◌||◌, List, [], ◌∷◌, ◌++◌, Option, None, map as each, refl, sym, ap}
+use Rattle.std.{proofs.Common.{◌∙◌, subst, append_assoc, append-nil}, specs.Prelude.is_some}
+use Rattle.std.{proofs.Math.Bool.or-true, specs.{Ordering.eq_by_cmp, FinMap.empty_of_len}}
+use Rattle.std.specs.FinMap.{get-empty, get-remove, get-retain_keys, len-remove, same_map}
 use Rattle.std.proofs.lemmas.Bool.{cases_eq}
 use Rattle.do_base.specs.names.Names.{ObjectName}
 use Rattle.do_export.specs.Counts.{Counts, entry_cmp, count_of}
-use Rattle.do_import.specs.ByObject.{left_of}
-use Rattle.do_import.specs.Held.{NoneLeaves, IsLowestLeaving}
-use Rattle.do_import.specs.Imported.{Imported}
+use Rattle.do_import.specs.{ByObject.left_of, Held.{NoneLeaves, IsLowestLeaving}, Imported.Imported}
 use Rattle.do_leaving.specs.Leavers.{leavers, told, classes_left, AllLeave}
 use Rattle.do_export.proofs.Order.{entry_total, entry_same}
 use Rattle.do_leaving.proofs.LeaversFound.{none_leaves, tied}

@@ -1,22 +1,15 @@
 -- What sweeping leaves is what the machine keeps.
-use Rattle.std.proofs.Common.{◌≡◌, ℕ, zero, suc, ◌≤◌, Bool, true, false}
-use Rattle.std.proofs.Common.{List as Listed, [], ◌∷◌, length, refl, sym, ap, ◌∙◌}
-use Rattle.std.proofs.Common.{arith, inl, inr, Contains}
-use Rattle.std.specs.Prelude.{◌==◌}
-use Rattle.std.specs.List.{list_any}
+use Rattle.std.proofs.Common.{◌≡◌, ℕ, zero, suc, ◌≤◌, Bool, true, false, List as Listed, [], ◌∷◌}
+use Rattle.std.proofs.Common.{length, refl, sym, ap, ◌∙◌, arith, inl, inr, Contains}
+use Rattle.std.specs.{Prelude.◌==◌, List.list_any}
 use Rattle.std.proofs.lemmas.Bool.{eq-eqb, eqb-true, or_cases, or_left, or_right}
-use Rattle.std.proofs.lemmas.List.Folds.{list_any-append}
-use Rattle.std.proofs.lemmas.List.Sums.{sum_by-cons}
+use Rattle.std.proofs.lemmas.List.{Folds.list_any-append, Sums.sum_by-cons}
 use Rattle.do_base.specs.names.Names.{ObjectName}
 use Rattle.do_packet.specs.Met.{has_object, same_object}
-use Rattle.do_machine.specs.declared.node.Node.{Node}
-use Rattle.do_machine.specs.declared.node.Stored.{Stored as Object}
-use Rattle.do_machine.specs.Lists.{IsIn}
-use Rattle.do_machine.specs.held.Kept.{kept, stays}
-use Rattle.do_machine.specs.held.Kept.{struck, struck_by}
+use Rattle.do_machine.specs.{declared.node.{Node.Node, Stored.Stored as Object}, Lists.IsIn}
+use Rattle.do_machine.specs.held.Kept.{kept, stays, struck, struck_by}
 use Rattle.do_machine.specs.held.Refers.{heap_objects, objects_in}
-use Rattle.do_store.specs.Listing.{Rising}
-use Rattle.do_store.specs.Names.{Stored, named_in, values_name}
+use Rattle.do_store.specs.{Listing.Rising, Names.{Stored, named_in, values_name}}
 use Rattle.do_leaving.proofs.RisingLists.{rising-filter}
 
 -- ---- members

@@ -1,14 +1,10 @@
 -- What one more object that leaves changes, from the first on to the last.
-use Rattle.std.proofs.Common.{◌≡◌, ℕ, Bool, true, false, cond, not, ◌&&◌}
-use Rattle.std.proofs.Common.{List, ◌∷◌, Some, None, Option, refl, sym, ap}
-use Rattle.std.proofs.Common.{◌∙◌}
-use Rattle.std.specs.Prelude.{is_some}
-use Rattle.std.specs.Ordering.{eq_by_cmp, is_eq, ordering_reverse}
-use Rattle.std.specs.Option.{unwrap_or}
 use Rattle.std.specs.FinMap as map
+use Rattle.std.proofs.Common.{◌≡◌, ℕ, Bool, true, false, cond, not, ◌&&◌, List, ◌∷◌, Some, None}
+use Rattle.std.{proofs.Common.{Option, refl, sym, ap, ◌∙◌}, specs.Prelude.is_some}
+use Rattle.std.specs.{Ordering.{eq_by_cmp, is_eq, ordering_reverse}, Option.unwrap_or}
 use Rattle.std.specs.FinMap.{find, is_sorted, get-remove, get-retain_keys, same_map}
-use Rattle.std.specs.FinMap.Entries.{same_entries, below_all}
-use Rattle.std.specs.declared.cmp.Ordering.{Ordering}
+use Rattle.std.specs.{FinMap.Entries.{same_entries, below_all}, declared.cmp.Ordering.Ordering}
 use Rattle.std.specs.declared.cmp.Ordering.TheVariants.{Less, Equal, Greater}
 use Rattle.do_export.specs.Counts.{Counts, entry_cmp, count_of}
 use Rattle.do_import.specs.Held.{NoneLeaves, IsLowestLeaving}

@@ -1,19 +1,13 @@
 -- The serials of what is gone, in rising order.
 use Rattle.std.proofs.Common.{◌≡◌, ℕ, suc, ◌+◌, ◌<◌, ◌≤◌, Bool, true, false, cond, not, List, []}
-use Rattle.std.proofs.Common.{◌∷◌, filter, length, get_or, map, refl, sym, ap, ◌∙◌, arith}
-use Rattle.std.proofs.Common.{inl, inr, sum_by, eq-eqb, ne_eqb, ◌↔◌}
-use Rattle.std.specs.Prelude.{◌==◌, ◌||◌}
-use Rattle.std.specs.List.Sorted.{IsNonDecreasing, IsPermutation, IsSorted}
-use Rattle.std.specs.Ordering.{nat_cmp}
-use Rattle.std.proofs.lemmas.Bool.{cases_eq, cases_lt}
-use Rattle.std.proofs.lemmas.List.Sorted.{IsNonDecreasingBy-from_sort, sum_by-IsPermutation}
-use Rattle.std.proofs.lemmas.List.Sums.{sum_by-cons}
-use Rattle.std.proofs.lemmas.Simd.{map-map}
+use Rattle.std.proofs.Common.{◌∷◌, filter, length, get_or, map, refl, sym, ap, ◌∙◌, arith, inl, inr}
+use Rattle.std.{proofs.Common.{sum_by, eq-eqb, ne_eqb, ◌↔◌}, specs.Prelude.{◌==◌, ◌||◌}}
+use Rattle.std.specs.{List.Sorted.{IsNonDecreasing, IsPermutation, IsSorted}, Ordering.nat_cmp}
+use Rattle.std.proofs.lemmas.{Bool.{cases_eq, cases_lt}, List.Sorted.IsNonDecreasingBy-from_sort}
+use Rattle.std.proofs.lemmas.{List.{Sorted.sum_by-IsPermutation, Sums.sum_by-cons}, Simd.map-map}
 use Rattle.do_leaving.specs.Counted.{heap_of, plain, serial_of}
-use Rattle.do_store.specs.Listing.{Rising}
-use Rattle.do_store.specs.Names.{Stored}
-use Rattle.do_leaving.specs.Sweeping.{TakenOut}
-use Rattle.do_leaving.proofs.MachineKeeps.{has_serial, object_serial}
+use Rattle.do_store.specs.{Listing.Rising, Names.Stored}
+use Rattle.do_leaving.{specs.Sweeping.TakenOut, proofs.MachineKeeps.{has_serial, object_serial}}
 use Rattle.do_leaving.proofs.RisingLists.{filter-map, rising-filter, rising-map}
 use Rattle.do_leaving.proofs.TakenInTurn.{taken_sum}
 

@@ -1,11 +1,8 @@
 -- Stored objects: look-ups, members, and what is left once one is taken out.
-use Rattle.std.proofs.Common.{length, ◌≤◌, ◌≡◌, ◌≢◌, ℕ, ◌+◌, ◌<◌, cond, List, []}
-use Rattle.std.proofs.Common.{◌∷◌, ◌++◌, refl, sym, ap, ◌∙◌, subst, arith}
-use Rattle.std.proofs.Common.{inl, inr, eq-eqb, ne_eqb, sum_by, Some}
-use Rattle.std.proofs.lemmas.Bool.{cases_eq}
-use Rattle.std.proofs.lemmas.List.Sums.{sum_by-cons}
-use Rattle.do_store.specs.Listing.{Rising}
-use Rattle.do_store.specs.Names.{Stored, find_stored, replaced}
+use Rattle.std.proofs.Common.{length, ◌≤◌, ◌≡◌, ◌≢◌, ℕ, ◌+◌, ◌<◌, cond, List, [], ◌∷◌, ◌++◌, refl}
+use Rattle.std.proofs.Common.{sym, ap, ◌∙◌, subst, arith, inl, inr, eq-eqb, ne_eqb, sum_by, Some}
+use Rattle.std.proofs.lemmas.{Bool.cases_eq, List.Sums.sum_by-cons}
+use Rattle.do_store.specs.{Listing.Rising, Names.{Stored, find_stored, replaced}}
 use Rattle.do_leaving.specs.Counted.{serial_of}
 use Rattle.do_machine.specs.Lists.{IsIn}
 use Rattle.do_leaving.proofs.RisingLists.{rising-least, rising-from}

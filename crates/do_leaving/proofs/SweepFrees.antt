@@ -1,18 +1,12 @@
 -- A sweep frees what the machine frees, and leaves every count right.
-use Rattle.std.proofs.Common.{◌≡◌, ◌≢◌, ℕ, Bool, not, List as Listed}
-use Rattle.std.proofs.Common.{[], ◌∷◌, map, filter, refl, sym, ap, ◌∙◌, subst, arith, sum_by}
 use Rattle.std.specs.FinMap as map
-use Rattle.std.specs.List.Sorted.{IsPermutation, IsSorted}
-use Rattle.std.specs.Ordering.{nat_cmp}
-use Rattle.std.proofs.lemmas.List.Sums.{sum_by-cons}
 use Rattle.do_base.specs.declared.events.shown.Shown.TheVariants as shows
+use Rattle.std.proofs.Common.{◌≡◌, ◌≢◌, ℕ, Bool, not, List as Listed, [], ◌∷◌, map, filter, refl}
+use Rattle.std.{proofs.Common.{sym, ap, ◌∙◌, subst, arith, sum_by}, specs.List.Sorted.IsPermutation}
+use Rattle.std.{specs.{List.Sorted.IsSorted, Ordering.nat_cmp}, proofs.lemmas.List.Sums.sum_by-cons}
 use Rattle.do_base.specs.names.Names.{ObjectName}
-use Rattle.do_machine.specs.declared.node.Node.{Node}
-use Rattle.do_machine.specs.declared.node.Stored.{Stored as Object}
-use Rattle.do_machine.specs.Lists.{IsIn}
-use Rattle.do_machine.specs.State.{own}
-use Rattle.do_machine.specs.held.Kept.{AreKept, kept}
-use Rattle.do_machine.specs.held.Leaving.{freeing}
+use Rattle.do_machine.specs.{declared.node.{Node.Node, Stored.Stored as Object}, Lists.IsIn}
+use Rattle.do_machine.specs.{State.own, held.{Kept.{AreKept, kept}, Leaving.freeing}}
 use Rattle.do_machine.specs.held.Refers.{heap_objects, objects_in}
 use Rattle.do_leaving.specs.Counted.{Counted, IsUsed, heap_of, serial_of, times}
 use Rattle.do_import.specs.ByObject.{object_of}
@@ -20,14 +14,10 @@ use Rattle.do_export.specs.Counts.{count_of}
 use Rattle.do_import.specs.Imported.{Imported}
 use Rattle.do_store.specs.Kept.{LeavesKept, NoneIdle, Swept}
 use Rattle.do_leaving.specs.Left.{IsEffect, free_shown}
-use Rattle.do_store.specs.Listing.{Rising}
-use Rattle.do_store.specs.Names.{Stored, Objects}
-use Rattle.do_leaving.specs.Sweeping.{Sweeps, foreign_names}
-use Rattle.do_leaving.proofs.SweptIsKept.{left_is_kept}
-use Rattle.do_leaving.proofs.MachineKeeps.{has_serial, object_serial}
-use Rattle.do_leaving.proofs.SlotNames.{times-append}
-use Rattle.do_leaving.proofs.CountsOff.{all_off-count, foreign-times}
-use Rattle.do_leaving.proofs.SerialsRise.{gone_in_order}
+use Rattle.do_store.specs.{Listing.Rising, Names.{Stored, Objects}}
+use Rattle.do_leaving.{specs.Sweeping.{Sweeps, foreign_names}, proofs.SweptIsKept.left_is_kept}
+use Rattle.do_leaving.proofs.{MachineKeeps.{has_serial, object_serial}, SlotNames.times-append}
+use Rattle.do_leaving.proofs.{CountsOff.{all_off-count, foreign-times}, SerialsRise.gone_in_order}
 use Rattle.do_leaving.proofs.TakenInTurn.{taken_rises, taken_sum, taken_swept, taken_within}
 
 -- how often the slots of one object name an object

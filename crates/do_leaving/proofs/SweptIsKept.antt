@@ -1,23 +1,16 @@
 -- What sweeping leaves is what the machine keeps: each holds itself up, and each is the greatest.
-use Rattle.std.proofs.Common.{◌≡◌, ◌↔◌, ℕ, ◌<◌, Bool, true, List as Listed, refl}
-use Rattle.std.proofs.Common.{sym, ap, ◌∙◌, subst, arith, inl, inr, Some, None, IsSome}
-use Rattle.std.proofs.Common.{Option}
-use Rattle.std.specs.Prelude.{is_some}
-use Rattle.std.proofs.lemmas.Bool.{or_cases, or_left, or_right}
-use Rattle.do_machine.specs.declared.node.Node.{Node}
-use Rattle.do_machine.specs.declared.node.Stored.{Stored as Object}
-use Rattle.do_machine.specs.Lists.{IsIn}
-use Rattle.do_machine.specs.State.{own}
-use Rattle.do_machine.specs.held.Kept.{AreAmong, AreKept, HoldsItself, is_held_up, kept, stays}
-use Rattle.do_machine.specs.held.Refers.{heap_objects, objects_in}
+use Rattle.std.proofs.Common.{◌≡◌, ◌↔◌, ℕ, ◌<◌, Bool, true, List as Listed, refl, sym, ap, ◌∙◌}
+use Rattle.std.proofs.Common.{subst, arith, inl, inr, Some, None, IsSome, Option}
+use Rattle.std.{specs.Prelude.is_some, proofs.lemmas.Bool.{or_cases, or_left, or_right}}
+use Rattle.do_machine.specs.{declared.node.{Node.Node, Stored.Stored as Object}, Lists.IsIn}
+use Rattle.do_machine.specs.{State.own, held.Kept.{AreAmong, AreKept, HoldsItself, is_held_up}}
+use Rattle.do_machine.specs.held.{Kept.{kept, stays}, Refers.{heap_objects, objects_in}}
 use Rattle.do_leaving.specs.Counted.{plain, heap_of, serial_of, times}
-use Rattle.do_store.specs.Kept.{HoldsUp, LeavesKept}
-use Rattle.do_store.specs.Listing.{Rising}
-use Rattle.do_store.specs.Names.{Stored, find_stored}
+use Rattle.do_store.specs.{Kept.{HoldsUp, LeavesKept}, Listing.Rising, Names.{Stored, find_stored}}
 use Rattle.do_leaving.proofs.SlotNames.{heap_times, values_times, times_has}
-use Rattle.do_leaving.proofs.MachineKeeps.{contains_in, in_contains}
-use Rattle.do_leaving.proofs.MachineKeeps.{named_by, one_names, object_serial, has_serial}
-use Rattle.do_leaving.proofs.MachineKeeps.{its_serial, kept-rises, with_serial}
+use Rattle.do_leaving.proofs.MachineKeeps.{contains_in, in_contains, named_by, one_names}
+use Rattle.do_leaving.proofs.MachineKeeps.{object_serial, has_serial, its_serial, kept-rises}
+use Rattle.do_leaving.proofs.MachineKeeps.{with_serial}
 use Rattle.do_leaving.proofs.RisingLists.{in_map, of_map, rising-map, rising-one, rising-same}
 use Rattle.do_leaving.proofs.StoreLookups.{find_in, in_find}
 

@@ -1,18 +1,15 @@
 -- What a sweep has taken out so far, from nothing to all that goes.
-use Rattle.std.proofs.Common.{◌≡◌, ℕ, List as Listed, [], ◌∷◌, ◌++◌, Some, map}
-use Rattle.std.proofs.Common.{refl, sym, ap, ◌∙◌, subst, append-nil, append_assoc}
-use Rattle.std.proofs.lemmas.List.{map-append}
+use Rattle.std.proofs.Common.{◌≡◌, ℕ, List as Listed, [], ◌∷◌, ◌++◌, Some, map, refl, sym, ap, ◌∙◌}
+use Rattle.std.proofs.{Common.{subst, append-nil, append_assoc}, lemmas.List.map-append}
 use Rattle.std.proofs.lemmas.List.Concat.{flat_map-append}
 use Rattle.do_machine.specs.declared.node.Stored.{Stored as Object}
 use Rattle.do_machine.specs.held.Refers.{heap_objects, objects_in}
 use Rattle.do_leaving.specs.Counted.{heap_of, plain, serial_of}
 use Rattle.do_export.specs.Counts.{Counts}
 use Rattle.do_import.specs.Imported.{Imported, all_off}
-use Rattle.do_store.specs.Kept.{NoneIdle}
-use Rattle.do_store.specs.Names.{Stored, Objects, find_stored, named_in, replaced}
+use Rattle.do_store.specs.{Kept.NoneIdle, Names.{Stored, Objects, find_stored, named_in, replaced}}
 use Rattle.do_leaving.specs.Sweeping.{Sweeps, TakenOut, foreign, foreign_names}
-use Rattle.do_leaving.proofs.TakenInTurn.{taken_more}
-use Rattle.do_leaving.proofs.UsesOff.{all_off-append, foreign-append}
+use Rattle.do_leaving.proofs.{TakenInTurn.taken_more, UsesOff.{all_off-append, foreign-append}}
 
 -- what a sweep has taken out so far, and what of the counts is left
 pub record SweptSoFar (old now : Objects) (before : Imported) (uses : Counts)

@@ -1,11 +1,9 @@
 -- Objects taken out one after the other.
-use Rattle.std.proofs.Common.{◌≡◌, ℕ, ◌+◌, List, [], ◌∷◌, ◌++◌}
-use Rattle.std.proofs.Common.{arith, Some, sum_by}
+use Rattle.std.proofs.Common.{◌≡◌, ℕ, ◌+◌, List, [], ◌∷◌, ◌++◌, arith, Some, sum_by}
 use Rattle.std.proofs.lemmas.List.Sums.{sum_by-cons}
 use Rattle.do_machine.specs.Lists.{IsIn}
 use Rattle.do_leaving.specs.Counted.{serial_of}
-use Rattle.do_store.specs.Kept.{Swept}
-use Rattle.do_store.specs.Listing.{Rising}
+use Rattle.do_store.specs.{Kept.Swept, Listing.Rising}
 use Rattle.do_store.specs.Names.{Stored, find_stored, named_in, replaced}
 use Rattle.do_leaving.specs.Sweeping.{TakenOut}
 use Rattle.do_leaving.proofs.StoreLookups.{in_without, rising-without, sum-without}

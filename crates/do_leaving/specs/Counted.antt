@@ -1,18 +1,14 @@
 -- What the store and the imports of a node say of the node that the machine's rules speak of.
+use Rattle.std.specs.FinMap as map
 use Rattle.std.specs.Prelude.{◌≡◌, ◌≢◌, ◌↔◌, ℕ, ◌+◌, ◌<◌, Bool, true, List, ◌++◌, map as each}
 use Rattle.std.specs.Prelude.{count_by}
-use Rattle.std.specs.FinMap as map
 use Rattle.do_base.specs.names.Names.{ObjectName}
 use Rattle.do_packet.specs.Met.{has_object, same_object}
 use Rattle.do_export.specs.Counts.{Counts, count_of}
 use Rattle.do_store.specs.Names.{Stored, Objects}
-use Rattle.do_import.specs.ByObject.{object_of}
-use Rattle.do_import.specs.Imported.{Imported}
-use Rattle.do_machine.specs.declared.node.Node.{Node}
-use Rattle.do_machine.specs.declared.node.Stored.{Stored as Object}
-use Rattle.do_machine.specs.Lists.{IsIn}
-use Rattle.do_machine.specs.held.Kept.{is_held_up}
-use Rattle.do_machine.specs.held.Refers.{heap_objects, stack_objects}
+use Rattle.do_import.specs.{ByObject.object_of, Imported.Imported}
+use Rattle.do_machine.specs.{declared.node.{Node.Node, Stored.Stored as Object}, Lists.IsIn}
+use Rattle.do_machine.specs.held.{Kept.is_held_up, Refers.{heap_objects, stack_objects}}
 
 -- a stored object without the number of its holders
 abbrev pub plain : Stored → Object

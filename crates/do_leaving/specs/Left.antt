@@ -1,13 +1,9 @@
 -- What a node frees and leaves, told by its store and its imports.
-use Rattle.std.specs.Prelude.{◌≡◌, ℕ, Bool, List, map}
-use Rattle.do_base.specs.names.Names.{ObjectName}
-use Rattle.do_base.specs.declared.events.shown.Shown.{Shown}
 use Rattle.do_base.specs.declared.events.shown.Shown.TheVariants as shows
-use Rattle.do_machine.specs.State.{own}
-use Rattle.do_machine.specs.declared.node.Node.{Node}
-use Rattle.do_machine.specs.declared.state.Effect.{Effect}
-use Rattle.do_machine.specs.declared.state.Parcel.{Parcel}
-use Rattle.do_machine.specs.held.Leaving.{left}
+use Rattle.std.specs.Prelude.{◌≡◌, ℕ, Bool, List, map}
+use Rattle.do_base.specs.{names.Names.ObjectName, declared.events.shown.Shown.Shown}
+use Rattle.do_machine.specs.{State.own, declared.{node.Node.Node, state.Effect.Effect}}
+use Rattle.do_machine.specs.{declared.state.Parcel.Parcel, held.Leaving.left}
 use Rattle.do_leaving.specs.Counted.{Counted}
 use Rattle.do_store.specs.Names.{Objects}
 use Rattle.do_import.specs.Imported.{Imported}

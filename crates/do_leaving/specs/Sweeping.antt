@@ -1,8 +1,7 @@
 -- What a sweep takes out, and which uses go with it.
 use Rattle.std.specs.Prelude.{◌≡◌, ℕ, ◌==◌, not, List, [], ◌∷◌, Some, map, filter}
 use Rattle.do_base.specs.names.Names.{ObjectName}
-use Rattle.do_store.specs.Kept.{NoneIdle}
-use Rattle.do_store.specs.Names.{Stored, Objects, named_in, find_stored, replaced}
+use Rattle.do_store.specs.{Kept.NoneIdle, Names.{Stored, Objects, named_in, find_stored, replaced}}
 use Rattle.do_import.specs.Imported.{Imported, all_off}
 use Rattle.do_machine.specs.held.Refers.{heap_objects}
 use Rattle.do_leaving.specs.Counted.{heap_of, serial_of}

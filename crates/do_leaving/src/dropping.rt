@@ -1,6 +1,6 @@
 //! Foreign objects that nothing uses any more.
-ghost use Rattle.std.specs.Prelude.{◌≡◌, ℕ, ◌+◌, ◌≤◌, vec_len, vec_capacity};
 ghost use Rattle.std.specs.FinMap as map;
+ghost use Rattle.std.specs.Prelude.{◌≡◌, ℕ, ◌+◌, ◌≤◌, vec_len, vec_capacity};
 ghost use Rattle.do_export.specs.Counts.{IsPositive};
 ghost use Rattle.do_leaving.specs.Leavers.{AllLeave};
 

@@ -1,13 +1,10 @@
 //! All that a node frees and leaves after a step.
+ghost use Rattle.std.specs.FinMap as map;
 ghost use Rattle.std.specs.Prelude.{◌≡◌, ℕ, ◌+◌, ◌≤◌, Bool, [], length, vec_capacity, map as each};
 ghost use Rattle.std.specs.Prelude.{List, OnOk};
-ghost use Rattle.std.specs.FinMap as map;
-ghost use Rattle.do_machine.specs.declared.node.Node.{Node};
-ghost use Rattle.do_machine.specs.held.Leaving.{leaving};
-ghost use Rattle.do_leaving.specs.Counted.{Counted};
-ghost use Rattle.do_leaving.specs.Leavers.{classes_left, leavers, told};
-ghost use Rattle.do_leaving.specs.Left.{IsEffect};
-ghost use Rattle.do_leaving.specs.Sweeping.{TakenOut, foreign_names};
+ghost use Rattle.do_machine.specs.{declared.node.Node.Node, held.Leaving.leaving};
+ghost use Rattle.do_leaving.specs.{Counted.Counted, Leavers.{classes_left, leavers, told}};
+ghost use Rattle.do_leaving.specs.{Left.IsEffect, Sweeping.{TakenOut, foreign_names}};
 ghost use Rattle.do_import.specs.Imported.{all_off};
 ghost use Rattle.do_store.specs.Names.{Stored};
 

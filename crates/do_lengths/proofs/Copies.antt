@@ -1,21 +1,14 @@
 -- How many bytes the copies of a packet take, by what they weigh.
-use Rattle.std.proofs.Common.{ℕ, ◌+◌, ◌*◌, ◌≤◌, List as Listed, [], ◌∷◌, ◌++◌, arith, length}
-use Rattle.std.proofs.Common.{ap, length-append, map, sum_by}
-use Rattle.std.specs.List.{flat_map}
-use Rattle.std.proofs.lemmas.Grind.{flat_map-append}
-use Rattle.std.proofs.lemmas.List.{length-map}
-use Rattle.std.proofs.lemmas.List.Sums.{sum_by-cons}
-use Rattle.do_base.specs.names.Names.{ObjectName}
-use Rattle.do_base.specs.values.Values.{weight_of}
+use Rattle.std.proofs.Common.{ℕ, ◌+◌, ◌*◌, ◌≤◌, List as Listed, [], ◌∷◌, ◌++◌, arith, length, ap}
+use Rattle.std.{proofs.Common.{length-append, map, sum_by}, specs.List.flat_map}
+use Rattle.std.proofs.lemmas.{Grind.flat_map-append, List.{length-map, Sums.sum_by-cons}}
+use Rattle.do_base.specs.{names.Names.ObjectName, values.Values.weight_of}
 use Rattle.do_grammar.specs.Num.{num}
-use Rattle.do_coder.specs.Packets.{copied_spelling}
-use Rattle.do_coder.specs.Parts.{part_spelling}
+use Rattle.do_coder.specs.{Packets.copied_spelling, Parts.part_spelling}
 use Rattle.do_packet.specs.Copies.{marks, named_at, slot_values, slots_at}
-use Rattle.do_packet.specs.Packing.{class_at, copied_of, most_weight, part_at}
-use Rattle.do_packet.specs.Seen.{Sender}
+use Rattle.do_packet.specs.{Packing.{class_at, copied_of, most_weight, part_at}, Seen.Sender}
 use Rattle.do_packet.proofs.Keeping.{zip_weighs}
-use Rattle.do_lengths.proofs.Numbers.{num_short, num_small}
-use Rattle.do_lengths.proofs.Parts.{places_count, places_fit}
+use Rattle.do_lengths.proofs.{Numbers.{num_short, num_small}, Parts.{places_count, places_fit}}
 
 module _ (s : Sender) (copies names : Listed ObjectName) where
   -- what a copy weighs

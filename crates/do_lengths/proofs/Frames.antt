@@ -1,23 +1,18 @@
 -- How many bytes the payload of a frame takes.
 use Rattle.std.proofs.Common.{ℕ, ◌+◌, ◌≤◌, Bool, true, false, cond, List, [], ◌++◌, arith, length}
-use Rattle.std.proofs.Common.{length-append}
-use Rattle.std.specs.Prelude.{◌==◌}
-use Rattle.do_base.specs.names.Names.{TokenName}
-use Rattle.do_base.specs.declared.events.exception.Exc.{Exc}
+use Rattle.std.{proofs.Common.length-append, specs.Prelude.◌==◌}
+use Rattle.do_base.specs.{names.Names.TokenName, declared.events.exception.Exc.Exc}
 use Rattle.do_class.specs.declared.packet.Packet.{Packet}
 use Rattle.do_grammar.specs.Num.{counted, num}
-use Rattle.do_coder.specs.declared.recent.pair.Pair.{Pair}
-use Rattle.do_coder.specs.Packets.{Surroundings, packet_spelling}
-use Rattle.do_frames.specs.declared.frame.Frame.{Frame}
-use Rattle.do_frames.specs.declared.frame.Frame.TheVariants.{Call, Gone, Granted, Oneway, Raised}
-use Rattle.do_frames.specs.declared.frame.Frame.TheVariants.{Release, Reply, Retain, RootAnswer}
-use Rattle.do_frames.specs.declared.frame.Frame.TheVariants.{RootAsk, Settle, Shutdown}
+use Rattle.do_coder.specs.{declared.recent.pair.Pair.Pair, Packets.{Surroundings, packet_spelling}}
+use Rattle.do_frames.specs.declared.frame.Frame.{Frame, TheVariants.{Call, Gone, Granted, Oneway}}
+use Rattle.do_frames.specs.declared.frame.Frame.TheVariants.{Raised, Release, Reply, Retain}
+use Rattle.do_frames.specs.declared.frame.Frame.TheVariants.{RootAnswer, RootAsk, Settle, Shutdown}
 use Rattle.do_frames.specs.Exceptions.{exc_number, exc_spelling, exc_text, text_spelling}
 use Rattle.do_frames.specs.Frames.{IsFrame, payload_spelling, token_spelling}
 use Rattle.do_frames.specs.Selectors.{IsSelector}
 use Rattle.do_lengths.specs.Short.{HasShortPacket, IsShort, longest_payload}
-use Rattle.do_lengths.proofs.Numbers.{num_short}
-use Rattle.do_lengths.proofs.Selectors.{selector_short}
+use Rattle.do_lengths.proofs.{Numbers.num_short, Selectors.selector_short}
 
 -- a text with its length takes nine bytes more
 counted_short : (text : List ℕ) → length (counted text) ≤ 9 + length text

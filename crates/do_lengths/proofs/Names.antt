@@ -1,28 +1,19 @@
 -- How many bytes the names of a packet take, and the whole packet.
-use Rattle.std.proofs.Common.{◌≡◌, ℕ, ◌+◌, ◌*◌, ◌≤◌, List as Listed, [], ◌∷◌, ◌++◌, None, Ok, Option}
-use Rattle.std.proofs.Common.{Some, ap, arith, length, length-append, map, refl, subst, sym}
-use Rattle.std.specs.List.{flat_map}
-use Rattle.std.proofs.lemmas.Grind.{flat_map-append}
-use Rattle.do_class.specs.declared.packet.Name.{Name}
-use Rattle.do_class.specs.declared.packet.Name.TheVariants.{Lent, Mine, Yours}
+use Rattle.std.proofs.Common.{◌≡◌, ℕ, ◌+◌, ◌*◌, ◌≤◌, List as Listed, [], ◌∷◌, ◌++◌, None, Ok}
+use Rattle.std.proofs.Common.{Option, Some, ap, arith, length, length-append, map, refl, subst, sym}
+use Rattle.std.{specs.List.flat_map, proofs.lemmas.Grind.flat_map-append}
+use Rattle.do_class.specs.declared.packet.Name.{Name, TheVariants.{Lent, Mine, Yours}}
 use Rattle.do_class.specs.declared.packet.Packet.{Packet}
-use Rattle.do_grammar.specs.Num.{num}
-use Rattle.do_grammar.specs.OneSpelling.{spelling_by}
+use Rattle.do_grammar.specs.{Num.num, OneSpelling.spelling_by}
 use Rattle.do_coder.specs.declared.recent.pair.Pair.{Pair}
 use Rattle.do_coder.specs.Names.{mine_body, mine_tag, name_spelling, names_spelling}
-use Rattle.do_coder.specs.Packets.{copied_spelling, packet_spelling}
-use Rattle.do_coder.specs.Parts.{part_spelling}
+use Rattle.do_coder.specs.{Packets.{copied_spelling, packet_spelling}, Parts.part_spelling}
 use Rattle.do_coder.specs.Recent.{after_name, place_in}
 use Rattle.do_packet.specs.Copies.{Placed, contents, copies_of, named_at, names_with, slots_at}
 use Rattle.do_packet.specs.Packing.{copied_of, message_weight, names_to, packed, packet_with}
-use Rattle.do_packet.specs.Packing.{part_at}
-use Rattle.do_packet.specs.Seen.{Sender}
-use Rattle.do_packet.proofs.Keeping.{met_le}
-use Rattle.do_packet.proofs.Meanings.{names_count}
-use Rattle.do_packet.proofs.Packed.{packed_as}
-use Rattle.do_lengths.proofs.Copies.{copies_fit}
-use Rattle.do_lengths.proofs.Numbers.{num_short}
-use Rattle.do_lengths.proofs.Parts.{places_fit}
+use Rattle.do_packet.specs.{Packing.part_at, Seen.Sender}
+use Rattle.do_packet.proofs.{Keeping.met_le, Meanings.names_count, Packed.packed_as}
+use Rattle.do_lengths.proofs.{Copies.copies_fit, Numbers.num_short, Parts.places_fit}
 
 -- a name of the sender takes at most 37 bytes
 mine_short : (place : Option ℕ) (serial class : ℕ) →

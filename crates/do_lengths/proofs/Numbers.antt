@@ -1,7 +1,6 @@
 -- How many bytes a number takes.
 use Rattle.std.proofs.Common.{◌≡◌, ℕ, zero, suc, ◌≤◌, ◌<◌, Bool, true, false, cond, length, nat_lt}
-use Rattle.std.proofs.Common.{refl, ap, ◌∙◌, arith, ◌%◌}
-use Rattle.std.proofs.lemmas.Grind.{common_steps}
+use Rattle.std.proofs.{Common.{refl, ap, ◌∙◌, arith, ◌%◌}, lemmas.Grind.common_steps}
 use Rattle.do_grammar.specs.Num.{digits, num, size, size_within, span}
 
 -- so many bytes are as many

@@ -1,24 +1,17 @@
 -- How many bytes a value takes in a packet, by what it weighs.
+use Rattle.do_class.specs.declared.packet.Part.TheVariants as part
 use Rattle.std.proofs.Common.{◌≡◌, ℕ, ℤ, ◌+◌, ◌*◌, ◌≤◌, Bool, cond, List as Listed, [], ◌∷◌, ◌++◌}
 use Rattle.std.proofs.Common.{ap, arith, filter, length, length-append, map, rules, sum_by}
-use Rattle.std.specs.List.{AllByRecursion, flat_map}
-use Rattle.std.proofs.lemmas.List.Sums.{sum_by-cons}
-use Rattle.do_base.specs.names.Names.{ObjectName}
-use Rattle.do_base.specs.values.Induction.{value_induction}
-use Rattle.do_base.specs.values.Values.{weight_of}
-use Rattle.do_base.specs.declared.values.value.Value.{List, Value, the_lemmas}
-use Rattle.do_base.specs.declared.values.value.Value.TheVariants.{Nil, Num, Obj, Text}
+use Rattle.std.{specs.List.{AllByRecursion, flat_map}, proofs.lemmas.List.Sums.sum_by-cons}
+use Rattle.do_base.specs.{names.Names.ObjectName, values.Induction.value_induction}
+use Rattle.do_base.specs.{values.Values.weight_of, declared.values.value.Value.{List, Value}}
+use Rattle.do_base.specs.declared.values.value.Value.{the_lemmas, TheVariants.{Nil, Num, Obj, Text}}
 use Rattle.do_class.specs.declared.packet.Part.{Part, List as Parts, the_lemmas as part_lemmas}
-use Rattle.do_class.specs.declared.packet.Part.TheVariants as part
 use Rattle.do_grammar.specs.Num.{counted, num, zigzag}
 use Rattle.do_coder.specs.Parts.{part_spelling}
-use Rattle.do_packet.specs.Copies.{Placed, named_at}
-use Rattle.do_packet.specs.Met.{is_named, named_in, place, role_of}
-use Rattle.do_packet.specs.Packing.{part_at}
-use Rattle.do_packet.specs.Parts.{object_part, part_of}
-use Rattle.do_packet.specs.Seen.{Seen, Sender}
-use Rattle.do_packet.specs.declared.role.Role.{Role}
-use Rattle.do_packet.specs.declared.role.Role.TheVariants.{Absent, Copied, Named}
+use Rattle.do_packet.specs.{Copies.{Placed, named_at}, Met.{is_named, named_in, place, role_of}}
+use Rattle.do_packet.specs.{Packing.part_at, Parts.{object_part, part_of}, Seen.{Seen, Sender}}
+use Rattle.do_packet.specs.declared.role.Role.{Role, TheVariants.{Absent, Copied, Named}}
 use Rattle.do_packet.proofs.Keeping.{weight_of-List, weight_of-Obj}
 use Rattle.do_packet.proofs.Values.{named_in-List, objects_of-Nil, objects_of-Num, objects_of-Obj}
 use Rattle.do_packet.proofs.Values.{objects_of-Text, part_of-List, part_of-Nil, part_of-Num}

@@ -1,8 +1,6 @@
 -- How long a selector is.
 use Rattle.std.proofs.Common.{◌≡◌, ◌≤◌, ℕ, Bool, true, false, List, arith, length, refl}
-use Rattle.std.specs.Prelude.{nat_le, ◌&&◌, ◌==◌, ◌||◌}
-use Rattle.std.specs.Io.BufRead.{ends_with_byte}
-use Rattle.std.specs.List.{list_all}
+use Rattle.std.specs.{Prelude.{nat_le, ◌&&◌, ◌==◌, ◌||◌}, Io.BufRead.ends_with_byte, List.list_all}
 use Rattle.std.proofs.lemmas.Bool.Decides.{nat_tests}
 use Rattle.do_grammar.specs.Names.{begins_name, colons, goes_in_selector, is_selector}
 use Rattle.do_frames.specs.Selectors.{IsSelector}

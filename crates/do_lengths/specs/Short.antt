@@ -1,8 +1,7 @@
 -- Which frames have a packet that is no longer than the heaviest message allows.
 use Rattle.std.specs.Prelude.{ℕ, ◌+◌, ◌≤◌, List, length}
 use Rattle.do_class.specs.declared.packet.Packet.{Packet}
-use Rattle.do_coder.specs.declared.recent.pair.Pair.{Pair}
-use Rattle.do_coder.specs.Packets.{packet_spelling}
+use Rattle.do_coder.specs.{declared.recent.pair.Pair.Pair, Packets.packet_spelling}
 use Rattle.do_frames.specs.declared.frame.Frame.{Frame}
 use Rattle.do_frames.specs.declared.frame.Frame.TheVariants.{Call, Oneway, Reply, RootAnswer}
 use Rattle.do_packet.specs.Packing.{most_weight}

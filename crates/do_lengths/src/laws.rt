@@ -3,11 +3,9 @@ ghost use Rattle.std.specs.Prelude.{◌≡◌, ◌+◌, ◌≤◌, ℕ, List, Ok
 ghost use Rattle.do_class.specs.declared.packet.Packet.{Packet};
 ghost use Rattle.do_coder.specs.declared.recent.pair.Pair.{Pair};
 ghost use Rattle.do_coder.specs.Packets.{Surroundings, packet_spelling};
-ghost use Rattle.do_frames.specs.declared.frame.Frame.{Frame};
-ghost use Rattle.do_frames.specs.Frames.{IsFrame, payload_spelling};
+ghost use Rattle.do_frames.specs.{declared.frame.Frame.Frame, Frames.{IsFrame, payload_spelling}};
 ghost use Rattle.do_lengths.specs.Short.{HasShortPacket, longest_payload};
-ghost use Rattle.do_packet.specs.Copies.{Placed, copies_of};
-ghost use Rattle.do_packet.specs.Packing.{message_weight, packed};
+ghost use Rattle.do_packet.specs.{Copies.{Placed, copies_of}, Packing.{message_weight, packed}};
 ghost use Rattle.do_packet.specs.Seen.{Sender};
 
 /// A packet that was packed is spelled in no more bytes than the message weighs and 27, by any

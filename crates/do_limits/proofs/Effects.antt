@@ -2,34 +2,23 @@
 use Rattle.std.proofs.Common.{arith, length-append, ◌≤◌, ap, sym, slice_get, zero, ◌<◌, ◌≡◌, ℕ, not}
 use Rattle.std.proofs.Common.{List, [], ◌∷◌, ◌-◌, length, filter, map, refl}
 use Rattle.std.proofs.lemmas.List.{length-map, length-replicate}
-use Rattle.std.specs.Prelude.{None, Option, Some, option_map, replicate, suc}
-use Rattle.std.specs.List.{AllByRecursion}
-use Rattle.do_base.specs.names.Names.{ObjectName}
-use Rattle.do_base.specs.declared.values.value.Value.{Value}
+use Rattle.std.specs.{Prelude.{None, Option, Some, option_map, replicate, suc}, List.AllByRecursion}
+use Rattle.do_base.specs.{names.Names.ObjectName, declared.values.value.Value.Value}
 use Rattle.do_base.specs.declared.values.value.Value.TheVariants.{Nil}
-use Rattle.do_class.specs.Class.{Class}
-use Rattle.do_class.specs.Table.{slots_of}
-use Rattle.do_class.specs.declared.ids.ClassId.{ClassId}
-use Rattle.do_class.specs.declared.ids.MethodId.{MethodId}
-use Rattle.do_class.specs.declared.ids.Slot.{Slot}
+use Rattle.do_class.specs.{Class.Class, Table.slots_of, declared.ids.ClassId.ClassId}
+use Rattle.do_class.specs.declared.ids.{MethodId.MethodId, Slot.Slot}
 use Rattle.do_packet.specs.declared.receipt.Made.{Made}
-use Rattle.do_behave.specs.declared.invocation.Invocation.{Invocation}
-use Rattle.do_behave.specs.declared.invocation.Reason.{Reason}
-use Rattle.do_machine.specs.declared.node.Node.{Node}
-use Rattle.do_machine.specs.declared.node.Wanted.{Wanted}
-use Rattle.do_machine.specs.declared.state.Effect.{Effect}
-use Rattle.do_machine.specs.declared.state.Parcel.{Parcel}
-use Rattle.do_machine.specs.Lists.{inserted}
+use Rattle.do_behave.specs.declared.invocation.{Invocation.Invocation, Reason.Reason}
+use Rattle.do_machine.specs.declared.{node.{Node.Node, Wanted.Wanted}, state.Effect.Effect}
+use Rattle.do_machine.specs.{declared.state.Parcel.Parcel, Lists.inserted}
 use Rattle.do_machine.specs.lend.Asking.{same_wanted, wanted_lt, with_wanted}
 use Rattle.do_machine.specs.run.Fresh.{blank, fresh, pushed, with_objects, with_serials}
 use Rattle.do_limits.specs.Sendable.{AreSendable, HasSlots, IsOfTable, IsSendable}
 use Rattle.do_limits.specs.SendableStates.{InvocationIsSendable, ItemIsSendable, NodeIsSendable}
 use Rattle.do_limits.specs.SendableStates.{AsksForOne, HasNumbers, HasSerial, ObjectIsSendable}
-use Rattle.do_facts.proofs.walk.SmallEffects.{Small}
-use Rattle.do_facts.proofs.walk.Done.{Done, DoneIf}
+use Rattle.do_facts.proofs.walk.{SmallEffects.Small, Done.{Done, DoneIf}}
 use Rattle.do_facts.proofs.EachOfLists.{each_filtered, each_joined, each_replicated}
-use Rattle.do_limits.proofs.Lists.{each_placed}
-use Rattle.do_limits.proofs.values.Carried.{carry-Nil}
+use Rattle.do_limits.proofs.{Lists.each_placed, values.Carried.carry-Nil}
 
 -- an item that is sent
 abbrev pub ParcelIsSendable : List Class → ℕ → Parcel → Type 0

@@ -2,12 +2,9 @@
 use Rattle.std.proofs.Common.{◌≡◌, ℕ, Bool, true, false, cond, List, [], ◌∷◌, length, map, refl}
 use Rattle.std.proofs.Common.{arith, subst, sym}
 use Rattle.std.specs.Prelude.{None, Option, Some, option_and_then, option_map, suc, nat_lt, not}
-use Rattle.std.specs.Prelude.{◌+◌, ◌<◌, IsTrue}
-use Rattle.std.specs.List.{All, AllByRecursion, position_or_len}
-use Rattle.std.proofs.lemmas.Bool.Decides.{nat_tests}
-use Rattle.std.specs.Str.{bytes_eq}
-use Rattle.std.proofs.lemmas.Slice.Eq.{bytes_eq-Decides}
-use Rattle.std.proofs.lemmas.List.Elements.{recursion_from_All}
+use Rattle.std.specs.{Prelude.{◌+◌, ◌<◌, IsTrue}, List.{All, AllByRecursion, position_or_len}}
+use Rattle.std.{proofs.lemmas.Bool.Decides.nat_tests, specs.Str.bytes_eq}
+use Rattle.std.proofs.lemmas.{Slice.Eq.bytes_eq-Decides, List.Elements.recursion_from_All}
 use Rattle.do_class.specs.Class.{Class, IsClass, place_of, selectors_of}
 use Rattle.do_class.specs.declared.method.Method.{Method}
 use Rattle.do_frames.specs.Selectors.{IsSelector}
@@ -15,8 +12,7 @@ use Rattle.do_grammar.specs.Names.{is_selector}
 use Rattle.do_class.specs.Table.{IsTable, class_at, method_id, signature_of}
 use Rattle.do_class.specs.declared.ids.ClassId.{ClassId}
 use Rattle.do_sig.specs.declared.signature.Signature.{Signature}
-use Rattle.do_machine.specs.Context.{Found, method_for}
-use Rattle.do_machine.specs.World.{HasSignatures}
+use Rattle.do_machine.specs.{Context.{Found, method_for}, World.HasSignatures}
 use Rattle.do_facts.proofs.methods.FewArguments.{takes_few}
 use Rattle.do_limits.proofs.Signatures.{HasMethods, one_at}
 

@@ -5,17 +5,13 @@ use Rattle.std.specs.Prelude.{None, Option, Some, option_map, unwrap_or}
 use Rattle.std.proofs.lemmas.Bool.{eqb-true}
 use Rattle.do_base.specs.names.Names.{ObjectName}
 use Rattle.do_sched.specs.Good.{IsPort}
-use Rattle.do_class.specs.Class.{Class}
-use Rattle.do_class.specs.declared.ids.ClassId.{ClassId}
+use Rattle.do_class.specs.{Class.Class, declared.ids.ClassId.ClassId}
 use Rattle.do_packet.specs.Copies.{slot_values}
-use Rattle.do_machine.specs.declared.node.Stored.{Stored}
-use Rattle.do_machine.specs.Context.{Context, class_seen}
-use Rattle.do_machine.specs.Packing.{packer}
-use Rattle.do_machine.specs.State.{is_own, stored}
+use Rattle.do_machine.specs.{declared.node.Stored.Stored, Context.{Context, class_seen}}
+use Rattle.do_machine.specs.{Packing.packer, State.{is_own, stored}}
 use Rattle.do_limits.specs.Sendable.{AreSendable, HasSlots, IsOfTable}
 use Rattle.do_limits.specs.SendableStates.{NodeIsSendable, ObjectIsSendable}
-use Rattle.do_limits.proofs.Lists.{found_by}
-use Rattle.do_limits.proofs.values.Naming.{SenderIsSendable}
+use Rattle.do_limits.proofs.{Lists.found_by, values.Naming.SenderIsSendable}
 
 -- A node, and what it is told of the classes of foreign objects
 pub record ContextIsSendable (c : Context) : Type 0 where

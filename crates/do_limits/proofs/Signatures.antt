@@ -1,21 +1,14 @@
 -- A method has few arguments, so an invocation has no more of them than locals.
 use Rattle.std.proofs.Common.{◌≡◌, ◌≤◌, ℕ, Bool, true, false, cond, List, [], ◌∷◌, length, map}
-use Rattle.std.proofs.Common.{refl, arith, subst}
-use Rattle.std.specs.Prelude.{None, Option, Some, slice_get, suc, zero}
-use Rattle.std.specs.List.{AllByRecursion}
-use Rattle.std.proofs.lemmas.List.{length-map}
+use Rattle.std.{proofs.Common.{refl, arith, subst}, specs.Prelude.{None, Option, Some, slice_get}}
+use Rattle.std.{specs.{Prelude.{suc, zero}, List.AllByRecursion}, proofs.lemmas.List.length-map}
 use Rattle.do_class.specs.Class.{Class}
 use Rattle.do_frames.specs.Selectors.{IsSelector}
-use Rattle.do_class.specs.Table.{signature_of}
-use Rattle.do_class.specs.declared.ids.ClassId.{ClassId}
-use Rattle.do_class.specs.declared.ids.MethodId.{MethodId}
+use Rattle.do_class.specs.{Table.signature_of, declared.ids.{ClassId.ClassId, MethodId.MethodId}}
 use Rattle.do_sig.specs.Calls.{is_oneway, qualifier_of, qualifiers_of}
-use Rattle.do_sig.specs.declared.qualifiers.Qualifier.{Qualifier}
-use Rattle.do_sig.specs.declared.encoding.Encoding.{Encoding}
+use Rattle.do_sig.specs.declared.{qualifiers.Qualifier.Qualifier, encoding.Encoding.Encoding}
 use Rattle.do_sig.specs.declared.signature.Signature.{Signature}
-use Rattle.do_machine.specs.Context.{Found, method_for}
-use Rattle.do_machine.specs.run.Answers.{answer_marks}
-use Rattle.do_machine.specs.run.Send.{outs_by}
+use Rattle.do_machine.specs.{Context.{Found, method_for}, run.{Answers.answer_marks, Send.outs_by}}
 
 -- Each method of a table takes eight arguments at most, and what finds one is a selector
 pub record HasMethods (table : List Class) : Type 0 where

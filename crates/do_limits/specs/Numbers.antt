@@ -1,10 +1,7 @@
 -- How far the numbers of nodes rise.
 use Rattle.std.specs.Prelude.{Some, ℕ, ◌*◌, ◌+◌, ◌≡◌, ◌≤◌}
-use Rattle.do_packet.specs.Copies.{most_copies}
-use Rattle.do_packet.specs.Limits.{most_names}
-use Rattle.do_machine.specs.declared.node.Node.{Node}
-use Rattle.do_machine.specs.declared.state.State.{State}
-use Rattle.do_machine.specs.State.{node}
+use Rattle.do_packet.specs.{Copies.most_copies, Limits.most_names}
+use Rattle.do_machine.specs.{declared.{node.Node.Node, state.State.State}, State.node}
 
 -- The numbers of a node after so many events: calls, tokens and serials begin with 1, and the root
 -- has the first serial

@@ -1,22 +1,15 @@
 -- The values that a message can carry, and the messages of such values.
 use Rattle.std.specs.Prelude.{Bool, List as Listed, length, nat_le, nat_lt, true, ℕ, ◌&&◌, ◌-◌, ◌^◌}
-use Rattle.std.specs.Prelude.{◌≡◌}
-use Rattle.std.specs.Prelude.{[], ◌∷◌, ◌<◌, ◌≤◌, Some, option_map}
+use Rattle.std.specs.Prelude.{◌≡◌, [], ◌∷◌, ◌<◌, ◌≤◌, Some, option_map}
 use Rattle.std.specs.List.{AllByRecursion, list_all}
-use Rattle.do_base.specs.values.Texts.{longest_text}
-use Rattle.do_base.specs.declared.events.exception.Exc.{Exc}
+use Rattle.do_base.specs.{values.Texts.longest_text, declared.events.exception.Exc.Exc}
 use Rattle.do_base.specs.declared.values.value.Value.{Value, fold-Value}
 use Rattle.do_base.specs.declared.values.value.Value.TheOpen.{List, Num, Text, Value-F}
-use Rattle.do_class.specs.Class.{Class}
-use Rattle.do_class.specs.Table.{slots_of}
-use Rattle.do_class.specs.declared.ids.ClassId.{ClassId}
-use Rattle.do_class.specs.declared.packet.Copied.{Copied}
-use Rattle.do_class.specs.declared.packet.Name.{Name}
-use Rattle.do_class.specs.declared.packet.Name.TheVariants.{Lent, Mine, Yours}
-use Rattle.do_class.specs.declared.packet.Packet.{Packet}
+use Rattle.do_class.specs.{Class.Class, Table.slots_of, declared.ids.ClassId.ClassId}
+use Rattle.do_class.specs.declared.packet.{Copied.Copied, Name.Name}
+use Rattle.do_class.specs.declared.packet.{Name.TheVariants.{Lent, Mine, Yours}, Packet.Packet}
 use Rattle.do_grammar.specs.BesideHoles.{IsBeside}
-use Rattle.do_class.specs.declared.packet.Part.{Part, fold-Part}
-use Rattle.do_class.specs.declared.packet.Part.TheOpen.{Part-F}
+use Rattle.do_class.specs.declared.packet.Part.{Part, fold-Part, TheOpen.Part-F}
 use Rattle.do_grammar.specs.Num.{zigzag}
 use Rattle.do_coder.specs.Parts.{is_bytes}
 use Rattle.do_frames.specs.Exceptions.{IsExc}

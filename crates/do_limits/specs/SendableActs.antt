@@ -1,14 +1,10 @@
 -- Behaviours and starts that give only values that a message can carry.
-use Rattle.std.specs.Prelude.{List, length, ◌≡◌}
-use Rattle.std.specs.List.{AllByRecursion}
-use Rattle.do_base.specs.declared.events.event.Event.{Event}
-use Rattle.do_base.specs.declared.events.event.Event.TheVariants.{Start}
+use Rattle.std.specs.{Prelude.{List, length, ◌≡◌}, List.AllByRecursion}
+use Rattle.do_base.specs.declared.events.event.Event.{Event, TheVariants.Start}
 use Rattle.do_base.specs.declared.values.value.Value.{Value}
 use Rattle.do_class.specs.Class.{Class}
-use Rattle.do_behave.specs.Answers.{HasLocals, values_of}
-use Rattle.do_behave.specs.declared.act.Act.{Act}
-use Rattle.do_behave.specs.declared.act.Act.TheVariants.{New, Raise}
-use Rattle.do_behave.specs.declared.invocation.Invocation.{Invocation}
+use Rattle.do_behave.specs.{Answers.{HasLocals, values_of}, declared.act.Act.{Act, TheVariants.New}}
+use Rattle.do_behave.specs.declared.{act.Act.TheVariants.Raise, invocation.Invocation.Invocation}
 use Rattle.do_machine.specs.run.Run.{Acting}
 use Rattle.do_limits.specs.Sendable.{AreSendable, IsOfTable, IsSendableExc}
 

@@ -1,7 +1,6 @@
 -- Code that has only numbers and texts that a message can carry.
-use Rattle.std.specs.Prelude.{List, Some, ◌≡◌}
-use Rattle.std.specs.List.{AllByRecursion}
 use Rattle.do_base.specs.declared.values.value.Value.TheVariants as values
+use Rattle.std.specs.{Prelude.{List, Some, ◌≡◌}, List.AllByRecursion}
 use Rattle.do_class.specs.declared.ids.MethodId.{MethodId}
 use Rattle.do_script.specs.Listing.{IsValid, Listing}
 use Rattle.do_script.specs.declared.instruction.Instruction.{Instruction}

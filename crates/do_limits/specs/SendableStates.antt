@@ -1,24 +1,16 @@
 -- States whose values a message can carry, wherever they stand.
-use Rattle.std.specs.Prelude.{List, length, ℕ, ◌≡◌, ◌≤◌}
-use Rattle.std.specs.List.{AllByRecursion}
+use Rattle.do_machine.specs.declared.item.Item.TheVariants as items
+use Rattle.std.specs.{Prelude.{List, length, ℕ, ◌≡◌, ◌≤◌}, List.AllByRecursion}
 use Rattle.do_sched.specs.Good.{IsPort}
 use Rattle.do_base.specs.names.Names.{ObjectName}
 use Rattle.do_class.specs.Class.{Class}
 use Rattle.do_frames.specs.Selectors.{IsSelector}
-use Rattle.do_behave.specs.declared.invocation.Answer.{Answer}
-use Rattle.do_behave.specs.declared.invocation.Answer.TheVariants.{Given, Raised}
-use Rattle.do_behave.specs.declared.invocation.Invocation.{Invocation}
-use Rattle.do_behave.specs.declared.invocation.InvState.{InvState}
+use Rattle.do_behave.specs.declared.invocation.Answer.{Answer, TheVariants.{Given, Raised}}
+use Rattle.do_behave.specs.declared.invocation.{Invocation.Invocation, InvState.InvState}
 use Rattle.do_behave.specs.declared.invocation.InvState.TheVariants.{Answered}
-use Rattle.do_machine.specs.declared.item.Item.{Item}
-use Rattle.do_machine.specs.declared.item.Item.TheVariants as items
-use Rattle.do_machine.specs.declared.item.Message.{Message}
-use Rattle.do_machine.specs.declared.node.Node.{Node}
-use Rattle.do_machine.specs.declared.node.Stored.{Stored}
-use Rattle.do_machine.specs.declared.node.Wanted.{Wanted}
-use Rattle.do_machine.specs.declared.state.Queue.{Queue}
-use Rattle.do_machine.specs.declared.state.Station.{Station}
-use Rattle.do_machine.specs.declared.state.State.{State}
+use Rattle.do_machine.specs.declared.{item.{Item.Item, Message.Message}, node.Node.Node}
+use Rattle.do_machine.specs.declared.{node.{Stored.Stored, Wanted.Wanted}, state.Queue.Queue}
+use Rattle.do_machine.specs.declared.state.{Station.Station, State.State}
 use Rattle.do_limits.specs.Sendable.{AreSendable, HasSlots, IsOfTable, IsSendable, IsSendableExc}
 use Rattle.do_limits.specs.Sendable.{IsSendablePacket}
 

@@ -1,11 +1,10 @@
 -- Items whose frames have spellings.
-use Rattle.std.specs.Prelude.{ℕ}
-use Rattle.do_coder.specs.Packets.{Surroundings}
-use Rattle.do_coder.specs.Recent.{IsSerial}
-use Rattle.do_frames.specs.Frames.{IsFrame}
 use Rattle.do_frames.specs.declared.frame.Frame.TheVariants as frames
-use Rattle.do_machine.specs.declared.item.Item.{Item}
 use Rattle.do_machine.specs.declared.item.Item.TheVariants as items
+use Rattle.std.specs.Prelude.{ℕ}
+use Rattle.do_coder.specs.{Packets.Surroundings, Recent.IsSerial}
+use Rattle.do_frames.specs.Frames.{IsFrame}
+use Rattle.do_machine.specs.declared.item.Item.{Item}
 
 -- the frame of an item has a spelling that its reader reads, and so has that of a release of any
 -- amount that has one

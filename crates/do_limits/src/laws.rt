@@ -2,27 +2,20 @@
 ghost use Rattle.std.specs.Prelude.{List, Some, length, ℕ, ◌<◌, ◌^◌, ◌≡◌};
 ghost use Rattle.std.specs.List.{All, AllByRecursion, flat_map};
 ghost use Rattle.do_base.specs.declared.events.event.Event.{Event};
-ghost use Rattle.do_class.specs.Class.{Class};
-ghost use Rattle.do_class.specs.Table.{IsTable};
+ghost use Rattle.do_class.specs.{Class.Class, Table.IsTable};
 ghost use Rattle.do_coder.specs.Packets.{surroundings};
-ghost use Rattle.do_machine.specs.declared.item.Item.{Item};
-ghost use Rattle.do_machine.specs.declared.state.Seat.{Seat};
-ghost use Rattle.do_machine.specs.declared.state.State.{State};
+ghost use Rattle.do_machine.specs.declared.{item.Item.Item, state.{Seat.Seat, State.State}};
 ghost use Rattle.do_machine.specs.State.{queue};
 ghost use Rattle.do_script.specs.Listing.{Listing};
 ghost use Rattle.do_behave.specs.Script.{script};
-ghost use Rattle.do_sched.specs.Good.{IsLine};
-ghost use Rattle.do_sched.specs.declared.line.Line.{Line};
+ghost use Rattle.do_sched.specs.{Good.IsLine, declared.line.Line.Line};
 ghost use Rattle.do_limits.specs.SendableCodes.{CodesAreSendable};
-ghost use Rattle.do_machine.specs.Step.{step};
-ghost use Rattle.do_machine.specs.check.Blocks.{events_of};
-ghost use Rattle.do_machine.specs.World.{HasSignatures, IsWorld, opening};
-ghost use Rattle.do_machine.specs.run.Run.{Acting};
+ghost use Rattle.do_machine.specs.{Step.step, check.Blocks.events_of};
+ghost use Rattle.do_machine.specs.{World.{HasSignatures, IsWorld, opening}, run.Run.Acting};
 ghost use Rattle.do_facts.specs.Reached.{reached};
 ghost use Rattle.do_limits.specs.Numbers.{AllNumbersWithin};
 ghost use Rattle.do_limits.specs.SendableActs.{AllStartSendable, KeepsSendable, StartsSendable};
-ghost use Rattle.do_limits.specs.SendableStates.{StateIsSendable};
-ghost use Rattle.do_limits.specs.Spelled.{ItemIsSpelled};
+ghost use Rattle.do_limits.specs.{SendableStates.StateIsSendable, Spelled.ItemIsSpelled};
 
 /// In every state that a machine comes to, each value of a slot, a local or an answer can be
 /// carried by a message. Each object has the slots of its class, each invocation has its sixteen

@@ -1,13 +1,10 @@
 -- How a line of a schedule is written with what it showed.
 use Rattle.std.specs.Prelude.{ℕ, List, [], ◌∷◌, ◌++◌, map, codes, if◌then◌else◌, Option, Some, None}
 use Rattle.do_base.specs.declared.events.shown.Shown.{Shown}
-use Rattle.do_sched.specs.declared.line.Line.{Line}
-use Rattle.do_sched.specs.declared.line.Line.TheVariants.{Start, Run, Take, Close, Lose, Timeout}
-use Rattle.do_sched.specs.declared.line.Line.TheVariants.{Check}
-use Rattle.do_sched.specs.Spelling.{line_spelling}
+use Rattle.do_sched.specs.declared.line.Line.{Line, TheVariants.{Start, Run, Take, Close, Lose}}
+use Rattle.do_sched.specs.{declared.line.Line.TheVariants.{Timeout, Check}, Spelling.line_spelling}
 use Rattle.do_trace.specs.declared.outcome.Outcome.{Outcome}
-use Rattle.do_lines.specs.Shown.{shown_text}
-use Rattle.do_lines.specs.Lines.{joined}
+use Rattle.do_lines.specs.{Shown.shown_text, Lines.joined}
 
 -- the node that a line steps; a loss and a check step none
 abbrev pub stepped_node : Line → Option ℕ

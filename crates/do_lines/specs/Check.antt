@@ -1,14 +1,9 @@
 -- How a check is written.
 use Rattle.std.specs.Prelude.{ℕ, List, [], ◌∷◌, ◌++◌, map, Option, Some, None, codes, decimal}
 use Rattle.std.specs.List.{flat_map}
-use Rattle.do_base.specs.names.Names.{ObjectName}
-use Rattle.do_base.specs.declared.values.value.Value.{Value}
-use Rattle.do_class.specs.Class.{Class}
-use Rattle.do_class.specs.Table.{name_of, slots_of}
-use Rattle.do_class.specs.declared.ids.Slot.{Slot}
-use Rattle.do_trace.specs.declared.outcome.ObjLine.{ObjLine}
-use Rattle.do_trace.specs.declared.outcome.Entry.{Entry}
-use Rattle.do_trace.specs.declared.outcome.NodeLine.{NodeLine}
+use Rattle.do_base.specs.{names.Names.ObjectName, declared.values.value.Value.Value}
+use Rattle.do_class.specs.{Class.Class, Table.{name_of, slots_of}, declared.ids.Slot.Slot}
+use Rattle.do_trace.specs.declared.outcome.{ObjLine.ObjLine, Entry.Entry, NodeLine.NodeLine}
 use Rattle.do_trace.specs.declared.outcome.Snapshot.{Snapshot}
 use Rattle.do_sched.specs.Value.{object_name, value_text, spaced}
 use Rattle.do_lines.specs.Lines.{joined}

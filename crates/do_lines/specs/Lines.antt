@@ -1,6 +1,5 @@
 -- Lines of a text.
-use Rattle.std.specs.Prelude.{ℕ, List, [], ◌∷◌, ◌++◌}
-use Rattle.std.specs.List.{flat_map}
+use Rattle.std.specs.{Prelude.{ℕ, List, [], ◌∷◌, ◌++◌}, List.flat_map}
 
 -- lines in a row, each with its line feed
 abbrev pub joined : List (List ℕ) → List ℕ

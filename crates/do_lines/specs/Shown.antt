@@ -1,16 +1,14 @@
 -- How what a step shows is written.
+use Rattle.do_base.specs.declared.events.shown.Shown.TheVariants as shown
 use Rattle.std.specs.Prelude.{ℕ, List, ◌∷◌, ◌++◌, codes, decimal}
-use Rattle.do_base.specs.declared.events.exception.Exc.{Exc}
-use Rattle.do_base.specs.declared.events.exception.Exc.TheVariants.{TypeFault, Range, Deep}
+use Rattle.do_base.specs.declared.events.exception.Exc.{Exc, TheVariants.{TypeFault, Range, Deep}}
 use Rattle.do_base.specs.declared.events.exception.Exc.TheVariants.{NotUnderstood, ConnectionDied}
 use Rattle.do_base.specs.declared.events.exception.Exc.TheVariants.{NotVended, TooLarge, User}
-use Rattle.do_base.specs.declared.events.exception.Exc.TheVariants.{TimedOut}
-use Rattle.do_base.specs.declared.events.shown.Took.{Took}
+use Rattle.do_base.specs.declared.events.{exception.Exc.TheVariants.TimedOut, shown.Took.Took}
 use Rattle.do_base.specs.declared.events.shown.Took.TheVariants.{Call, Oneway, Reply, Raised}
 use Rattle.do_base.specs.declared.events.shown.Took.TheVariants.{RootAsk, RootAnswer, Ask, Granted}
 use Rattle.do_base.specs.declared.events.shown.Took.TheVariants.{Gone, Left, Settled, End}
 use Rattle.do_base.specs.declared.events.shown.Shown.{Shown}
-use Rattle.do_base.specs.declared.events.shown.Shown.TheVariants as shown
 use Rattle.do_grammar.specs.Quoted.{quoted}
 use Rattle.do_sched.specs.Value.{object_name, value_text}
 

@@ -1,13 +1,9 @@
 -- A transcript.
-use Rattle.std.specs.Prelude.{ℕ, List, [], ◌∷◌, ◌++◌, codes, Option, Some, None}
-use Rattle.std.specs.List.{flat_map}
+use Rattle.std.specs.{Prelude.{ℕ, List, [], ◌∷◌, ◌++◌, codes, Option, Some, None}, List.flat_map}
 use Rattle.do_class.specs.Class.{Class}
 use Rattle.do_sched.specs.declared.line.Line.{Line}
-use Rattle.do_trace.specs.declared.outcome.Snapshot.{Snapshot}
-use Rattle.do_trace.specs.Block.{Block}
-use Rattle.do_lines.specs.Lines.{joined}
-use Rattle.do_lines.specs.Block.{line_lines}
-use Rattle.do_lines.specs.Check.{check_lines}
+use Rattle.do_trace.specs.{declared.outcome.Snapshot.Snapshot, Block.Block}
+use Rattle.do_lines.specs.{Lines.joined, Block.line_lines, Check.check_lines}
 
 -- what a check lists stands behind its line
 abbrev pub listed_lines : List Class → Option Snapshot → List ℕ

@@ -1,7 +1,6 @@
 ghost use Rattle.std.specs.Prelude.{◌≡◌, ◌∷◌, [], ◌++◌, OnOk, decimal, map};
 ghost use Rattle.do_sched.specs.Value.{object_name, value_text};
-ghost use Rattle.do_lines.specs.Shown.{exception_text, took_text, shown_text};
-ghost use Rattle.do_lines.specs.Lines.{joined};
+ghost use Rattle.do_lines.specs.{Shown.{exception_text, took_text, shown_text}, Lines.joined};
 
 use do_base::{Exc, Oid, Shown, ShownList, Text, Took, Value};
 use do_grammar::{push_dec, push_quoted};

@@ -68,8 +68,7 @@ pub enum LinkEvent {
 /// list has each listen and each send with its arguments and whether it failed, and each event that
 /// was given, in order; a call in which memory ran out is not in it. A link may stop telling.
 pub trait Link {
-    ghost use Rattle.do_link.specs.Told.{Told};
-    ghost use Rattle.do_link.specs.declared.link.LinkEvent.TheVariants.{Quiet};
+    ghost use Rattle.do_link.specs.{Told.Told, declared.link.LinkEvent.TheVariants.Quiet};
     ghost use Rattle.do_link.specs.declared.link.LinkFail.TheVariants.{Failed};
 
     ghost told: { Self → Option (List Told) };

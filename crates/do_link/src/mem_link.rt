@@ -1,9 +1,7 @@
 //! A link whose events stand in memory, and whose faults are listed beforehand.
 ghost use Rattle.std.specs.Prelude.{◌≡◌, ◌<◌, ◌≤◌, ◌++◌, ◌∷◌, [], ◌↔◌, length, Some, IfOk, OnOk};
-ghost use Rattle.std.specs.Prelude.{IsErrOf, IsOk, ◌+◌};
-ghost use Rattle.std.specs.List.{All};
-ghost use Rattle.do_base.specs.outside.Causes.{next_count, Rose};
-ghost use Rattle.do_base.specs.outside.InMemory.{FailsNext};
+ghost use Rattle.std.specs.{Prelude.{IsErrOf, IsOk, ◌+◌}, List.All};
+ghost use Rattle.do_base.specs.outside.{Causes.{next_count, Rose}, InMemory.FailsNext};
 ghost use Rattle.do_output.specs.Told.{TellsMore};
 ghost use Rattle.do_link.specs.Told.{IsWithin, Listened, Came, called, handed, came};
 ghost use Rattle.do_link.specs.InMemory.{IsPiece, next_event, next_script, quiet, all_told};
@@ -50,8 +48,7 @@ pub struct MemLink {
 }
 
 impl Model for MemLink {
-    ghost use Rattle.std.specs.Prelude.{reverse, length, ◌≤◌};
-    ghost use Rattle.std.specs.List.{All};
+    ghost use Rattle.std.specs.{Prelude.{reverse, length, ◌≤◌}, List.All};
     ghost use Rattle.do_link.specs.InMemory.{LinkState, IsPiece, all_told, told_below};
 
     ghost Value = { LinkState };

@@ -1,8 +1,6 @@
 -- A queue behind which something comes.
-use Rattle.std.proofs.Common.{◌≡◌, List, [], ◌++◌, ap, sym, ◌∙◌}
-use Rattle.std.proofs.lemmas.List.{append-nil}
-use Rattle.do_machine.specs.declared.item.Item.{Item}
-use Rattle.do_machine.specs.declared.state.Queue.{Queue}
+use Rattle.std.proofs.{Common.{◌≡◌, List, [], ◌++◌, ap, sym, ◌∙◌}, lemmas.List.append-nil}
+use Rattle.do_machine.specs.declared.{item.Item.Item, state.Queue.Queue}
 
 -- a queue behind which nothing comes
 pub queue_stays : (q r : Queue) (more : List Item) → r ≡ q → more ≡ []

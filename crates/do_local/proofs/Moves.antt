@@ -1,21 +1,13 @@
 -- What a node's move comes to, from what its parts come to.
 use Rattle.std.proofs.Common.{◌≡◌, ℕ, ◌++◌, Bool, true, List, Option, None, Some, refl, ap, sym}
-use Rattle.std.proofs.Common.{◌∙◌}
-use Rattle.std.specs.Prelude.{drop, if◌then◌else◌, not, slice_get}
+use Rattle.std.{proofs.Common.◌∙◌, specs.Prelude.{drop, if◌then◌else◌, not, slice_get}}
 use Rattle.do_base.specs.declared.events.shown.Shown.{Shown}
 use Rattle.do_class.specs.Class.{Class}
-use Rattle.do_machine.specs.Commit.{commit, moved, showed}
-use Rattle.do_machine.specs.Context.{context}
-use Rattle.do_machine.specs.State.{change, is_open, node, queue, with_queue}
-use Rattle.do_machine.specs.Step.{close, take}
-use Rattle.do_machine.specs.declared.item.Item.{Item}
-use Rattle.do_machine.specs.declared.node.Node.{Node}
-use Rattle.do_machine.specs.declared.state.Effect.{Effect}
-use Rattle.do_machine.specs.declared.state.State.{State}
-use Rattle.do_machine.specs.declared.state.Stepped.{Stepped}
-use Rattle.do_machine.specs.ends.Closing.{closing}
-use Rattle.do_machine.specs.held.Leaving.{leaving}
-use Rattle.do_machine.specs.take.Take.{can_take, take_effect}
+use Rattle.do_machine.specs.{Commit.{commit, moved, showed}, Context.context}
+use Rattle.do_machine.specs.{State.{change, is_open, node, queue, with_queue}, Step.{close, take}}
+use Rattle.do_machine.specs.declared.{item.Item.Item, node.Node.Node, state.Effect.Effect}
+use Rattle.do_machine.specs.{declared.state.{State.State, Stepped.Stepped}, ends.Closing.closing}
+use Rattle.do_machine.specs.{held.Leaving.leaving, take.Take.{can_take, take_effect}}
 use Rattle.do_rules.specs.Judged.{entry_in}
 
 -- an effect is committed, and then what the node leaves

@@ -1,8 +1,7 @@
 -- What comes of the elements that pass a test, up to one element more.
 use Rattle.std.proofs.Common.{◌≡◌, ℕ, ◌+◌, ◌<◌, List, [], ◌∷◌, ◌++◌, length, take, get_or, Bool}
 use Rattle.std.proofs.Common.{true, false, cond, filter, map, ap, sym, ◌∙◌}
-use Rattle.std.proofs.lemmas.List.{append-nil, map-append, take_more}
-use Rattle.std.proofs.lemmas.List.Elements.{filter-append}
+use Rattle.std.proofs.lemmas.List.{append-nil, map-append, take_more, Elements.filter-append}
 
 module _ {X Y Z : Type 0} (f : Y → Z) (p : Y → Bool) (g : X → Y) where
   -- what comes of elements

@@ -1,8 +1,6 @@
 -- What a node does of which nothing is shown.
 use Rattle.std.specs.Prelude.{List, []}
-use Rattle.do_machine.specs.declared.node.Node.{Node}
-use Rattle.do_machine.specs.declared.state.Parcel.{Parcel}
-use Rattle.do_machine.specs.declared.state.Effect.{Effect}
+use Rattle.do_machine.specs.declared.{node.Node.Node, state.{Parcel.Parcel, Effect.Effect}}
 
 -- the node is another and sent these parcels
 abbrev pub sending : List Parcel → Node → Effect

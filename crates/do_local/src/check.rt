@@ -1,9 +1,7 @@
 //! What a check lists of a state.
-ghost use Rattle.std.specs.Prelude.{◌≡◌, IfOk, map, option_map};
-ghost use Rattle.std.specs.List.{flat_map};
-ghost use Rattle.do_machine.specs.State.{own, ports};
-ghost use Rattle.do_machine.specs.check.Snapshot.{closed_ends, entries_for, node_line, object_line};
-ghost use Rattle.do_machine.specs.check.Snapshot.{snapshot};
+ghost use Rattle.std.specs.{Prelude.{◌≡◌, IfOk, map, option_map}, List.flat_map};
+ghost use Rattle.do_machine.specs.{State.{own, ports}, check.Snapshot.{closed_ends, entries_for}};
+ghost use Rattle.do_machine.specs.check.Snapshot.{node_line, object_line, snapshot};
 
 use do_base::{NodeId, Oid, Peers};
 use do_machine::{

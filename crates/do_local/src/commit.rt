@@ -1,8 +1,7 @@
 //! What a state is after an effect of one of its nodes.
 ghost use Rattle.std.specs.Prelude.{◌≡◌, ◌++◌, ◌==◌, [], IfOk, map};
 ghost use Rattle.do_machine.specs.Commit.{born, commit, committed, items_to, moved, showed};
-ghost use Rattle.do_machine.specs.Commit.{skipped, with_sent};
-ghost use Rattle.do_machine.specs.Lists.{change_first};
+ghost use Rattle.do_machine.specs.{Commit.{skipped, with_sent}, Lists.change_first};
 ghost use Rattle.do_local.specs.Sending.{sending};
 
 use crate::stations::{station_at, with_items};

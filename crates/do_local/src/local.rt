@@ -1,7 +1,5 @@
 ghost use Rattle.std.specs.Prelude.{◌≡◌, IfOk, OnErr, OnOk};
-ghost use Rattle.do_machine.specs.Step.{step};
-ghost use Rattle.do_machine.specs.World.{opening};
-ghost use Rattle.do_machine.specs.check.Snapshot.{snapshot};
+ghost use Rattle.do_machine.specs.{Step.step, World.opening, check.Snapshot.snapshot};
 
 use crate::check::snapshot;
 use crate::opening::opening;

@@ -1,8 +1,6 @@
 //! What a lost connection does to a state.
-ghost use Rattle.std.specs.Prelude.{◌≡◌, [], IfOk, option_map};
-ghost use Rattle.std.specs.List.{insert};
-ghost use Rattle.do_machine.specs.Commit.{showed};
-ghost use Rattle.do_machine.specs.ends.Losing.{lost};
+ghost use Rattle.std.specs.{Prelude.{◌≡◌, [], IfOk, option_map}, List.insert};
+ghost use Rattle.do_machine.specs.{Commit.showed, ends.Losing.lost};
 
 use crate::commit::shows_nothing;
 use crate::stations::with_queue_of;

@@ -1,7 +1,6 @@
 //! The stations of a state, and their queues.
 ghost use Rattle.std.specs.Prelude.{◌≡◌, ◌==◌, ◌<◌, IfOk, IfSome, length, position};
-ghost use Rattle.do_machine.specs.Lists.{change_first};
-ghost use Rattle.do_machine.specs.State.{change, with_items, with_queue};
+ghost use Rattle.do_machine.specs.{Lists.change_first, State.{change, with_items, with_queue}};
 
 use do_base::{Items, NodeId};
 use do_machine::{Item, Queue, Shared, State, Station};

@@ -1,20 +1,12 @@
 -- The objects that a state names beside the slots of stored objects.
 use Rattle.std.specs.Prelude.{Bool, List, None, Option, Some, [], if◌then◌else◌, length, map, ℕ}
-use Rattle.std.specs.Prelude.{◌++◌, ◌==◌, ◌∷◌}
-use Rattle.std.specs.List.{flat_map, list_all}
+use Rattle.std.specs.{Prelude.{◌++◌, ◌==◌, ◌∷◌}, List.{flat_map, list_all}}
 use Rattle.do_base.specs.names.Names.{ObjectName}
 use Rattle.do_class.specs.declared.packet.Name.{Name}
-use Rattle.do_machine.specs.Items.{name_naming, names}
-use Rattle.do_machine.specs.Lists.{some_passes}
-use Rattle.do_machine.specs.Objects.{object_at}
-use Rattle.do_machine.specs.State.{is_open, node, own}
-use Rattle.do_machine.specs.held.Refers.{stack_objects}
-use Rattle.do_machine.specs.declared.item.Item.{Item}
-use Rattle.do_machine.specs.declared.item.Item.TheVariants.{End}
-use Rattle.do_machine.specs.declared.item.Message.{Message}
-use Rattle.do_machine.specs.declared.node.Node.{Node}
-use Rattle.do_machine.specs.declared.state.Queue.{Queue}
-use Rattle.do_machine.specs.declared.state.State.{State}
+use Rattle.do_machine.specs.{Items.{name_naming, names}, Lists.some_passes, Objects.object_at}
+use Rattle.do_machine.specs.{State.{is_open, node, own}, held.Refers.stack_objects}
+use Rattle.do_machine.specs.declared.item.{Item.{Item, TheVariants.End}, Message.Message}
+use Rattle.do_machine.specs.declared.{node.Node.Node, state.{Queue.Queue, State.State}}
 use Rattle.do_machine.specs.declared.state.Station.{Station}
 
 -- the root of a node, if it has one

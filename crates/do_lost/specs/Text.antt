@@ -1,17 +1,11 @@
 -- How the stored objects that nothing can reach any more are written.
-use Rattle.std.specs.Prelude.{Bool, List, None, Option, Some, [], if◌then◌else◌, map}
-use Rattle.std.specs.Prelude.{codes, slice_get, ℕ}
-use Rattle.std.specs.Prelude.{option_and_then, option_map, ◌++◌, ◌∷◌}
+use Rattle.std.specs.Prelude.{Bool, List, None, Option, Some, [], if◌then◌else◌, map, codes}
+use Rattle.std.specs.Prelude.{slice_get, ℕ, option_and_then, option_map, ◌++◌, ◌∷◌}
 use Rattle.do_base.specs.names.Names.{ObjectName}
-use Rattle.do_class.specs.Class.{Class}
-use Rattle.do_class.specs.Table.{name_of, slots_of}
-use Rattle.do_class.specs.declared.ids.ClassId.{ClassId}
-use Rattle.do_leaks.specs.Leaks.{leaks}
-use Rattle.do_leaks.specs.declared.leak.Leak.{Leak}
+use Rattle.do_class.specs.{Class.Class, Table.{name_of, slots_of}, declared.ids.ClassId.ClassId}
+use Rattle.do_leaks.specs.{Leaks.leaks, declared.leak.Leak.Leak}
 use Rattle.do_lines.specs.Lines.{joined}
-use Rattle.do_machine.specs.State.{class_of}
-use Rattle.do_machine.specs.check.Snapshot.{snapshot}
-use Rattle.do_machine.specs.declared.state.State.{State}
+use Rattle.do_machine.specs.{State.class_of, check.Snapshot.snapshot, declared.state.State.State}
 use Rattle.do_sched.specs.Value.{object_name}
 use Rattle.do_lost.specs.Named.{named, quiet}
 

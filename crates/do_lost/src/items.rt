@@ -1,6 +1,5 @@
 //! The objects that items under way name.
-ghost use Rattle.std.specs.Prelude.{◌≡◌, ◌++◌, ◌∷◌, [], OnOk, map};
-ghost use Rattle.std.specs.List.{flat_map};
+ghost use Rattle.std.specs.{Prelude.{◌≡◌, ◌++◌, ◌∷◌, [], OnOk, map}, List.flat_map};
 ghost use Rattle.do_machine.specs.Objects.{object_at};
 ghost use Rattle.do_lost.specs.Named.{item_names, message_names, name_object};
 

@@ -1,6 +1,5 @@
 //! The objects that a whole state names, and whether anything is under way.
-ghost use Rattle.std.specs.Prelude.{◌≡◌, ◌++◌, ◌==◌, IfOk, OnOk, length};
-ghost use Rattle.std.specs.List.{flat_map};
+ghost use Rattle.std.specs.{Prelude.{◌≡◌, ◌++◌, ◌==◌, IfOk, OnOk, length}, List.flat_map};
 ghost use Rattle.do_lost.specs.Named.{is_idle, named, queue_names, quiet, serves, station_names};
 
 use crate::items::{Way, push_items};

@@ -1,12 +1,11 @@
 //! How the stored objects that nothing can reach any more are written.
 ghost use Rattle.std.specs.Prelude.{◌≡◌, ◌++◌, ◌<◌, [], ◌∷◌, IfOk, OnOk, codes, map};
 ghost use Rattle.std.specs.Option.{option_copied};
-ghost use Rattle.do_machine.specs.State.{class_given, class_of};
-ghost use Rattle.do_machine.specs.check.Snapshot.{snapshot};
+ghost use Rattle.do_machine.specs.{State.{class_given, class_of}, check.Snapshot.snapshot};
 ghost use Rattle.do_lines.specs.Lines.{joined};
 ghost use Rattle.do_leaks.specs.Leaks.{leaks};
-ghost use Rattle.do_lost.specs.Text.{class_behind, leak_line, leak_told, lost_text};
-ghost use Rattle.do_lost.specs.Text.{quiet_line, slot_behind};
+ghost use Rattle.do_lost.specs.Text.{class_behind, leak_line, leak_told, lost_text, quiet_line};
+ghost use Rattle.do_lost.specs.Text.{slot_behind};
 
 use crate::state::{named, quiet};
 use do_base::{Oid, Text};

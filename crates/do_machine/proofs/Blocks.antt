@@ -1,10 +1,8 @@
 -- Lists in full blocks of 256, and a last block behind them.
 use Rattle.std.proofs.Common.{◌≡◌, ℕ, zero, suc, ◌+◌, ◌-◌, ◌*◌, ◌/◌, ◌%◌, ◌<◌, ◌≤◌, List, [], ◌∷◌}
 use Rattle.std.proofs.Common.{◌++◌, length, get_or, refl, ap, sym, ◌∙◌, arith}
-use Rattle.std.specs.Prelude.{slice_get}
-use Rattle.std.specs.List.{All, flat_map}
-use Rattle.std.proofs.lemmas.List.{append_assoc, flat_map_more}
-use Rattle.std.proofs.lemmas.List.Elements.{All-head, All-tail}
+use Rattle.std.specs.{Prelude.slice_get, List.{All, flat_map}}
+use Rattle.std.proofs.lemmas.List.{append_assoc, flat_map_more, Elements.{All-head, All-tail}}
 
 module _ {X : Type 0} where
   -- what stands within the first of two lists

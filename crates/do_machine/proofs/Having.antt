@@ -1,13 +1,10 @@
 -- Which objects are among others.
-use Rattle.std.proofs.Common.{◌≡◌, ◌||◌, Bool, true, List, [], ◌∷◌, filter, fold}
-use Rattle.std.proofs.Common.{refl, sym, ◌∙◌, ◌⊎◌, arith}
-use Rattle.std.proofs.lemmas.List.Sorted.{list_any-IsPermutation}
+use Rattle.std.proofs.Common.{◌≡◌, ◌||◌, Bool, true, List, [], ◌∷◌, filter, fold, refl, sym, ◌∙◌}
+use Rattle.std.proofs.{Common.{◌⊎◌, arith}, lemmas.List.Sorted.list_any-IsPermutation}
 use Rattle.do_base.specs.names.Names.{ObjectName}
 use Rattle.do_packet.specs.Met.{has_object, same_object}
-use Rattle.do_machine.specs.Lists.{inserted}
-use Rattle.do_machine.specs.Objects.{joined, object_lt}
-use Rattle.do_machine.proofs.Bools.{or_cases}
-use Rattle.do_machine.proofs.Inserting.{inserted_moves}
+use Rattle.do_machine.specs.{Lists.inserted, Objects.{joined, object_lt}}
+use Rattle.do_machine.proofs.{Bools.or_cases, Inserting.inserted_moves}
 
 -- what is among the elements that pass is among all, and passes
 pub has_passing : (p : ObjectName → Bool) (os : List ObjectName) (o : ObjectName) →

@@ -1,16 +1,12 @@
 -- What a node keeps is the greatest part of its heap that holds itself up.
-use Rattle.std.proofs.Common.{◌≡◌, ℕ, zero, suc, ◌<◌, ◌≤◌, Bool, true, false, List, [], ◌∷◌}
-use Rattle.std.proofs.Common.{filter, length, refl, sym, ◌∙◌, subst, arith, ◌⊎◌, inl, inr, ◌==◌}
+use Rattle.std.proofs.Common.{◌≡◌, ℕ, zero, suc, ◌<◌, ◌≤◌, Bool, true, false, List, [], ◌∷◌, filter}
+use Rattle.std.proofs.Common.{length, refl, sym, ◌∙◌, subst, arith, ◌⊎◌, inl, inr, ◌==◌}
 use Rattle.std.proofs.lemmas.List.Folds.{list_any-append}
 use Rattle.do_base.specs.names.Names.{ObjectName}
 use Rattle.do_packet.specs.Met.{has_object, same_object}
-use Rattle.do_machine.specs.declared.node.Node.{Node}
-use Rattle.do_machine.specs.declared.node.Stored.{Stored}
-use Rattle.do_machine.specs.Lists.{IsIn}
-use Rattle.do_machine.specs.State.{own}
-use Rattle.do_machine.specs.held.Kept.{AreAmong, AreKept, HoldsItself, kept, stays}
-use Rattle.do_machine.specs.held.Kept.{struck, struck_by}
-use Rattle.do_machine.specs.held.Refers.{heap_objects, objects_in}
+use Rattle.do_machine.specs.{declared.node.{Node.Node, Stored.Stored}, Lists.IsIn, State.own}
+use Rattle.do_machine.specs.held.Kept.{AreAmong, AreKept, HoldsItself, kept, stays, struck}
+use Rattle.do_machine.specs.held.{Kept.struck_by, Refers.{heap_objects, objects_in}}
 use Rattle.do_machine.proofs.Bools.{or_cases}
 
 -- ---- membership

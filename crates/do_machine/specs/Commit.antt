@@ -2,17 +2,10 @@
 use Rattle.std.specs.Prelude.{List, [], false, filter, map, nat_le, true, ℕ, ◌++◌, ◌==◌}
 use Rattle.do_base.specs.declared.events.shown.Shown.{Shown}
 use Rattle.do_class.specs.declared.ids.ClassId.{ClassId}
-use Rattle.do_machine.specs.declared.item.Item.{Item}
-use Rattle.do_machine.specs.declared.node.Node.{Node}
-use Rattle.do_machine.specs.declared.state.Queue.{Queue}
-use Rattle.do_machine.specs.declared.state.Station.{Station}
-use Rattle.do_machine.specs.declared.state.State.{State}
-use Rattle.do_machine.specs.declared.state.Parcel.{Parcel}
-use Rattle.do_machine.specs.declared.state.Effect.{Effect}
-use Rattle.do_machine.specs.declared.state.Stepped.{Stepped}
-use Rattle.do_machine.specs.Context.{around}
-use Rattle.do_machine.specs.State.{change, with_items}
-use Rattle.do_machine.specs.held.Leaving.{leaving}
+use Rattle.do_machine.specs.declared.{item.Item.Item, node.Node.Node, state.Queue.Queue}
+use Rattle.do_machine.specs.declared.state.{Station.Station, State.State, Parcel.Parcel}
+use Rattle.do_machine.specs.{declared.state.{Effect.Effect, Stepped.Stepped}, Context.around}
+use Rattle.do_machine.specs.{State.{change, with_items}, held.Leaving.leaving}
 
 -- the items of parcels to a peer
 abbrev pub items_to : ℕ → List Parcel → List Item

@@ -2,15 +2,11 @@
 use Rattle.std.specs.Prelude.{Bool, List, None, Option, if◌then◌else◌, option_and_then, option_map}
 use Rattle.std.specs.Prelude.{ℕ}
 use Rattle.do_base.specs.names.Names.{ObjectName}
-use Rattle.do_class.specs.Class.{Class}
-use Rattle.do_class.specs.Table.{find_method, signature_of}
-use Rattle.do_class.specs.declared.ids.ClassId.{ClassId}
-use Rattle.do_class.specs.declared.ids.MethodId.{MethodId}
+use Rattle.do_class.specs.{Class.Class, Table.{find_method, signature_of}}
+use Rattle.do_class.specs.declared.ids.{ClassId.ClassId, MethodId.MethodId}
 use Rattle.do_sig.specs.declared.signature.Signature.{Signature}
 use Rattle.do_behave.specs.declared.invocation.Invocation.{Invocation}
-use Rattle.do_machine.specs.declared.node.Node.{Node}
-use Rattle.do_machine.specs.declared.state.State.{State}
-use Rattle.do_machine.specs.Entry.{has_entry}
+use Rattle.do_machine.specs.{declared.{node.Node.Node, state.State.State}, Entry.has_entry}
 use Rattle.do_machine.specs.State.{class_of, is_known, is_own, own, stored}
 
 -- what a node knows of the rest of the machine

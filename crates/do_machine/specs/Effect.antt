@@ -1,9 +1,7 @@
 -- What one step of a node does.
 use Rattle.std.specs.Prelude.{List, [], ℕ, ◌++◌, ◌∷◌}
 use Rattle.do_base.specs.declared.events.shown.Shown.{Shown}
-use Rattle.do_machine.specs.declared.item.Item.{Item}
-use Rattle.do_machine.specs.declared.node.Node.{Node}
-use Rattle.do_machine.specs.declared.state.Effect.{Effect}
+use Rattle.do_machine.specs.declared.{item.Item.Item, node.Node.Node, state.Effect.Effect}
 
 -- the node alone changes
 abbrev pub only : Node → Effect

@@ -1,13 +1,9 @@
 -- Which own objects of a node are in use at a peer, or on their way there or back.
-use Rattle.std.specs.Prelude.{Bool, ℕ, ◌&&◌, ◌||◌}
-use Rattle.std.specs.List.{list_any}
+use Rattle.std.specs.{Prelude.{Bool, ℕ, ◌&&◌, ◌||◌}, List.list_any}
 use Rattle.do_base.specs.names.Names.{ObjectName}
 use Rattle.do_packet.specs.Met.{has_object}
-use Rattle.do_machine.specs.declared.node.Node.{Node}
-use Rattle.do_machine.specs.declared.state.State.{State}
-use Rattle.do_machine.specs.Items.{exported, released}
-use Rattle.do_machine.specs.Lists.{some_passes}
-use Rattle.do_machine.specs.State.{holds, is_open, node, queue}
+use Rattle.do_machine.specs.{declared.{node.Node.Node, state.State.State}, Items.exported}
+use Rattle.do_machine.specs.{Items.released, Lists.some_passes, State.{holds, is_open, node, queue}}
 
 -- the peer holds the object, and its end towards the home is open
 abbrev pub is_holder : ObjectName → Node → Bool

@@ -1,12 +1,11 @@
 -- Which events may come.
+use Rattle.do_base.specs.declared.events.event.Event.TheVariants as events
 use Rattle.std.specs.Prelude.{All, IsTrue, [], length, ◌≡◌}
 use Rattle.do_packet.specs.Packing.{most_weight}
-use Rattle.do_base.specs.values.Values.{objects_of}
-use Rattle.do_base.specs.declared.values.value.Value.{Value}
+use Rattle.do_base.specs.{values.Values.objects_of, declared.values.value.Value.Value}
 use Rattle.do_base.specs.declared.events.event.Event.{Event}
 use Rattle.do_behave.specs.Limits.{IsLimited}
 use Rattle.do_grammar.specs.Names.{colons, is_selector}
-use Rattle.do_base.specs.declared.events.event.Event.TheVariants as events
 
 -- a value without objects, within the limits
 pub record IsPlain (v : Value) : Type 0 where

@@ -1,13 +1,10 @@
 -- Which objects an item names, and how.
-use Rattle.std.specs.Prelude.{Bool, List, [], false, filter, map, true, ℕ, ◌∷◌}
-use Rattle.do_base.specs.names.Names.{ObjectName}
-use Rattle.do_base.specs.values.Kinds.{number}
-use Rattle.do_class.specs.declared.packet.Packet.{Packet}
-use Rattle.do_class.specs.declared.packet.Name.{Name}
-use Rattle.do_class.specs.declared.packet.Name.TheVariants.{Lent, Mine, Yours}
-use Rattle.do_machine.specs.declared.item.Item.{Item}
-use Rattle.do_machine.specs.Objects.{object_at}
 use Rattle.do_machine.specs.declared.item.Item.TheVariants as items
+use Rattle.std.specs.Prelude.{Bool, List, [], false, filter, map, true, ℕ, ◌∷◌}
+use Rattle.do_base.specs.{names.Names.ObjectName, values.Kinds.number}
+use Rattle.do_class.specs.declared.packet.{Packet.Packet, Name.Name}
+use Rattle.do_class.specs.declared.packet.Name.TheVariants.{Lent, Mine, Yours}
+use Rattle.do_machine.specs.{declared.item.Item.Item, Objects.object_at}
 
 -- how an item names an object
 pub data Role : Type 0 where

@@ -1,7 +1,6 @@
 -- Words on lists.
 use Rattle.std.specs.Prelude.{Bool, List, None, Option, Some, [], false, if◌then◌else◌, nat_lt}
-use Rattle.std.specs.Prelude.{position, ℕ, ◌++◌, ◌==◌, ◌∷◌, ◌≡◌, ◌⊎◌}
-use Rattle.std.specs.List.{insert}
+use Rattle.std.specs.{Prelude.{position, ℕ, ◌++◌, ◌==◌, ◌∷◌, ◌≡◌, ◌⊎◌}, List.insert}
 
 -- the list with its first element that passes changed
 abbrev pub change_first : {X : Type 0} → (X → Bool) → (X → X) → List X → List X

@@ -2,14 +2,10 @@
 use Rattle.std.specs.Prelude.{List, None, Option, if◌then◌else◌, option_map, ℕ, ◌&&◌}
 use Rattle.std.specs.Result.{result_ok}
 use Rattle.do_base.specs.names.Names.{ObjectName}
-use Rattle.do_packet.specs.Copies.{Placed}
-use Rattle.do_packet.specs.Packing.{packed}
-use Rattle.do_packet.specs.Seen.{Seen, Sender, sender}
+use Rattle.do_packet.specs.{Copies.Placed, Packing.packed, Seen.{Seen, Sender, sender}}
 use Rattle.do_class.specs.declared.packet.Packet.{Packet}
-use Rattle.do_machine.specs.declared.node.Node.{Node}
-use Rattle.do_machine.specs.declared.node.Stored.{Stored}
-use Rattle.do_machine.specs.Context.{Context, class_seen}
-use Rattle.do_machine.specs.State.{is_known, is_open, is_own, stored}
+use Rattle.do_machine.specs.{declared.node.{Node.Node, Stored.Stored}, Context.Context}
+use Rattle.do_machine.specs.{Context.class_seen, State.{is_known, is_open, is_own, stored}}
 
 -- the own object of a name, where it is stored
 abbrev own_stored : Node → ObjectName → Option Stored

@@ -1,17 +1,13 @@
 -- How a node is started.
+use Rattle.do_behave.specs.declared.invocation.Reason.TheVariants as reasons
 use Rattle.std.specs.Prelude.{Bool, List, None, Option, Some, length, not, option_map, ℕ, ◌==◌}
 use Rattle.do_base.specs.declared.values.value.Value.{Value}
 use Rattle.do_class.specs.Class.{Class}
 use Rattle.do_sig.specs.Calls.{args_fit}
 use Rattle.do_behave.specs.declared.invocation.Invocation.{Invocation}
-use Rattle.do_machine.specs.declared.node.Node.{Node}
-use Rattle.do_machine.specs.declared.state.Effect.{Effect}
-use Rattle.do_machine.specs.Chain.{when◌then◌, ◌>>=◌, ◌>>◌, ◌otherwise◌}
-use Rattle.do_machine.specs.Effect.{only}
-use Rattle.do_machine.specs.Context.{method_for, own_class}
-use Rattle.do_machine.specs.State.{own}
-use Rattle.do_machine.specs.run.Fresh.{fresh, pushed}
-use Rattle.do_behave.specs.declared.invocation.Reason.TheVariants as reasons
+use Rattle.do_machine.specs.declared.{node.Node.Node, state.Effect.Effect}
+use Rattle.do_machine.specs.{Chain.{when◌then◌, ◌>>=◌, ◌>>◌, ◌otherwise◌}, Effect.only}
+use Rattle.do_machine.specs.{Context.{method_for, own_class}, State.own, run.Fresh.{fresh, pushed}}
 
 -- a node with an invocation
 abbrev pub is_busy : Node → Bool

@@ -1,18 +1,12 @@
 -- The state of the machine.
 use Rattle.std.specs.Prelude.{Bool, List, None, Option, find, map, option_and_then, option_map}
-use Rattle.std.specs.Prelude.{slice_get, suc, zero, ℕ, ◌==◌, ◌||◌}
-use Rattle.std.specs.List.{list_any}
+use Rattle.std.specs.{Prelude.{slice_get, suc, zero, ℕ, ◌==◌, ◌||◌}, List.list_any}
 use Rattle.do_base.specs.names.Names.{ObjectName}
 use Rattle.do_packet.specs.Met.{has_object, same_object}
 use Rattle.do_class.specs.declared.ids.ClassId.{ClassId}
-use Rattle.do_machine.specs.declared.item.Item.{Item}
-use Rattle.do_machine.specs.declared.node.Node.{Node}
-use Rattle.do_machine.specs.declared.node.Stored.{Stored}
-use Rattle.do_machine.specs.declared.state.Queue.{Queue}
-use Rattle.do_machine.specs.declared.state.Station.{Station}
-use Rattle.do_machine.specs.declared.state.State.{State}
-use Rattle.do_machine.specs.Lists.{change_first}
-use Rattle.do_machine.specs.Objects.{object_at}
+use Rattle.do_machine.specs.declared.{item.Item.Item, node.{Node.Node, Stored.Stored}}
+use Rattle.do_machine.specs.declared.state.{Queue.Queue, Station.Station, State.State}
+use Rattle.do_machine.specs.{Lists.change_first, Objects.object_at}
 
 -- the ports of a state's nodes
 abbrev pub ports : State → List ℕ

@@ -1,23 +1,15 @@
 -- The machine: what each event does to a state.
+use Rattle.do_base.specs.declared.events.event.Event.TheVariants as events
 use Rattle.std.specs.Prelude.{List, None, Option, Some, [], drop, not, option_and_then, option_map}
 use Rattle.std.specs.Prelude.{slice_get, unwrap_or, ℕ}
-use Rattle.do_base.specs.declared.values.value.Value.{Value}
-use Rattle.do_base.specs.declared.events.event.Event.{Event}
+use Rattle.do_base.specs.declared.{values.value.Value.Value, events.event.Event.Event}
 use Rattle.do_class.specs.Class.{Class}
-use Rattle.do_machine.specs.declared.state.State.{State}
-use Rattle.do_machine.specs.declared.state.Effect.{Effect}
-use Rattle.do_machine.specs.declared.state.Stepped.{Stepped}
+use Rattle.do_machine.specs.declared.state.{State.State, Effect.Effect, Stepped.Stepped}
 use Rattle.do_machine.specs.Chain.{when◌then◌, ◌>>=◌, ◌>>◌, ◌otherwise◌}
-use Rattle.do_machine.specs.Commit.{moved, showed, skipped}
-use Rattle.do_machine.specs.Context.{context}
-use Rattle.do_machine.specs.Start.{start_effect}
+use Rattle.do_machine.specs.{Commit.{moved, showed, skipped}, Context.context, Start.start_effect}
 use Rattle.do_machine.specs.State.{change, is_open, node, queue, with_queue}
-use Rattle.do_machine.specs.take.Take.{can_take, take_effect}
-use Rattle.do_machine.specs.ends.Closing.{closing}
-use Rattle.do_machine.specs.ends.Losing.{lost}
-use Rattle.do_machine.specs.ends.TimeOut.{time_out}
-use Rattle.do_machine.specs.run.Run.{Acting, run_effect}
-use Rattle.do_base.specs.declared.events.event.Event.TheVariants as events
+use Rattle.do_machine.specs.{take.Take.{can_take, take_effect}, ends.{Closing.closing, Losing.lost}}
+use Rattle.do_machine.specs.{ends.TimeOut.time_out, run.Run.{Acting, run_effect}}
 
 -- where there is an effect, the node moves
 abbrev pub moved_by : ℕ → State → Option Effect → Option Stepped

@@ -1,17 +1,11 @@
 -- Worlds, and how a machine opens.
 use Rattle.std.specs.Prelude.{All, Bool, List, Some, [], filter, length, map, nat_lt, not, ℕ, ◌<◌}
-use Rattle.std.specs.Prelude.{◌==◌, ◌∷◌, ◌≤◌}
-use Rattle.std.specs.List.{IsDistinct}
+use Rattle.std.specs.{Prelude.{◌==◌, ◌∷◌, ◌≤◌}, List.IsDistinct}
 use Rattle.do_sched.specs.Good.{IsPort}
 use Rattle.do_sig.specs.MethodTypes.{IsMethodType}
-use Rattle.do_class.specs.Class.{Class}
-use Rattle.do_class.specs.Table.{IsTable}
-use Rattle.do_machine.specs.declared.node.Node.{Node}
-use Rattle.do_machine.specs.declared.state.Station.{Station}
-use Rattle.do_machine.specs.declared.state.State.{State}
-use Rattle.do_machine.specs.declared.state.Seat.{Seat}
-use Rattle.do_machine.specs.Lists.{all_inserted}
-use Rattle.do_machine.specs.State.{ports}
+use Rattle.do_class.specs.{Class.Class, Table.IsTable}
+use Rattle.do_machine.specs.declared.{node.Node.Node, state.{Station.Station, State.State}}
+use Rattle.do_machine.specs.{declared.state.Seat.Seat, Lists.all_inserted, State.ports}
 use Rattle.do_machine.specs.run.Fresh.{blank, with_serials}
 
 -- the signatures of a class keep to what every signature keeps to

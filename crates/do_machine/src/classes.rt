@@ -24,8 +24,7 @@ pub struct Classes {
 }
 
 impl Model for Classes {
-    ghost use Rattle.std.specs.Prelude.{List, ◌++◌, ◌≡◌, length};
-    ghost use Rattle.std.specs.List.{All, flat_map};
+    ghost use Rattle.std.specs.{Prelude.{List, ◌++◌, ◌≡◌, length}, List.{All, flat_map}};
     ghost use Rattle.do_class.specs.declared.ids.ClassId.{ClassId};
 
     ghost Value = { List ClassId };

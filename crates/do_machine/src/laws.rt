@@ -1,11 +1,8 @@
 ghost use Rattle.std.specs.Prelude.{[], ◌≡◌, ℕ, Bool, List, false};
 ghost use Rattle.do_base.specs.declared.events.event.Event.{Event};
 ghost use Rattle.do_class.specs.Class.{Class};
-ghost use Rattle.do_machine.specs.declared.node.Node.{Node};
-ghost use Rattle.do_machine.specs.declared.state.State.{State};
-ghost use Rattle.do_machine.specs.Step.{step};
-ghost use Rattle.do_machine.specs.held.Kept.{AreKept, kept};
-ghost use Rattle.do_machine.specs.run.Run.{Acting};
+ghost use Rattle.do_machine.specs.{declared.{node.Node.Node, state.State.State}, Step.step};
+ghost use Rattle.do_machine.specs.{held.Kept.{AreKept, kept}, run.Run.Acting};
 
 /// What a node keeps is the greatest part of its heap that holds itself up.
 pub fn kept_is_greatest()

@@ -1,13 +1,10 @@
 -- What the lines so far come to, with those that are left.
-use Rattle.std.proofs.Common.{◌≡◌, ℕ, ◌+◌, List, [], ◌∷◌, Option, Some, None, length, sum_by}
-use Rattle.std.proofs.Common.{ap, arith, refl, sym, ◌∙◌}
-use Rattle.std.specs.Prelude.{if◌then◌else◌}
-use Rattle.std.specs.List.{count_by}
+use Rattle.std.proofs.Common.{◌≡◌, ℕ, ◌+◌, List, [], ◌∷◌, Option, Some, None, length, sum_by, ap}
+use Rattle.std.{proofs.Common.{arith, refl, sym, ◌∙◌}, specs.{Prelude.if◌then◌else◌, List.count_by}}
 use Rattle.std.proofs.lemmas.List.Sums.{sum_by-cons}
 use Rattle.do_class.specs.Class.{Class}
 use Rattle.do_machine.specs.run.Run.{Acting}
-use Rattle.do_network.specs.Net.{Net}
-use Rattle.do_network.specs.Wired.{WiredBlock, net_blocks, net_line_step, wired_block}
+use Rattle.do_network.specs.{Net.Net, Wired.{WiredBlock, net_blocks, net_line_step, wired_block}}
 use Rattle.do_sched.specs.declared.line.Line.{Line}
 use Rattle.do_trace.specs.declared.outcome.Snapshot.{Snapshot}
 use Rattle.do_make.specs.Summary.{bytes_sent, entries_listed, is_free, is_say, last_listed, nothing}

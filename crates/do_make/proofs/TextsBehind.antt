@@ -1,8 +1,7 @@
 -- Texts that are added one behind another.
 use Rattle.std.proofs.Common.{◌≡◌, ◌++◌, ◌∙◌, Err, List, Ok, Result, ap, append_assoc, ℕ}
 use Rattle.std.specs.Prelude.{OnOk, codes}
-use Rattle.do_make.specs.Text.{counted, done_text, left_text}
-use Rattle.do_make.specs.declared.counts.Summary.{Summary}
+use Rattle.do_make.specs.{Text.{counted, done_text, left_text}, declared.counts.Summary.Summary}
 
 -- four that are added one by one stand behind what was there
 pub four_behind : {T E : Type 0} (result : Result T E) (o p q r t a b c d : List ℕ) → p ≡ o ++ a

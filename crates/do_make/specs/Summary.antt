@@ -1,12 +1,10 @@
 -- What lines that were done over a network come to, in numbers.
-use Rattle.std.specs.Prelude.{Bool, List, None, Option, Some, [], false, if◌then◌else◌, length}
-use Rattle.std.specs.Prelude.{sum_by, true, ℕ, ◌+◌, ◌∷◌}
-use Rattle.std.specs.List.{count_by}
-use Rattle.do_base.specs.declared.events.shown.Shown.{Shown}
 use Rattle.do_base.specs.declared.events.shown.Shown.TheVariants as shown
+use Rattle.std.specs.Prelude.{Bool, List, None, Option, Some, [], false, if◌then◌else◌, length}
+use Rattle.std.specs.{Prelude.{sum_by, true, ℕ, ◌+◌, ◌∷◌}, List.count_by}
+use Rattle.do_base.specs.declared.events.shown.Shown.{Shown}
 use Rattle.do_network.specs.Wired.{WiredBlock}
-use Rattle.do_trace.specs.declared.outcome.NodeLine.{NodeLine}
-use Rattle.do_trace.specs.declared.outcome.Snapshot.{Snapshot}
+use Rattle.do_trace.specs.declared.outcome.{NodeLine.NodeLine, Snapshot.Snapshot}
 use Rattle.do_make.specs.declared.counts.Summary.{Summary}
 
 -- a value is said

@@ -1,15 +1,11 @@
 //! The summary of a schedule over a network.
 ghost use Rattle.std.specs.Prelude.{◌≡◌, [], List, OnOk, IfOk, map};
 ghost use Rattle.do_agreement.specs.Along.{EventsSendSpelled};
-ghost use Rattle.do_machine.specs.declared.state.Seat.{Seat};
-ghost use Rattle.do_machine.specs.declared.state.State.{State};
-ghost use Rattle.do_machine.specs.World.{IsWorld, opening};
-ghost use Rattle.do_machine.specs.check.Blocks.{blocks, events_of};
+ghost use Rattle.do_machine.specs.declared.state.{Seat.Seat, State.State};
+ghost use Rattle.do_machine.specs.{World.{IsWorld, opening}, check.Blocks.{blocks, events_of}};
 ghost use Rattle.do_make.specs.Summary.{summary_of, with_block};
-ghost use Rattle.do_net.specs.Net.{Stands, network};
-ghost use Rattle.do_net.specs.OneMachine.{StandsFor};
-ghost use Rattle.do_network.specs.Net.{net_opening};
-ghost use Rattle.do_network.specs.Wired.{net_blocks, net_line_step, wired_block};
+ghost use Rattle.do_net.specs.{Net.{Stands, network}, OneMachine.StandsFor};
+ghost use Rattle.do_network.specs.{Net.net_opening, Wired.{net_blocks, net_line_step, wired_block}};
 ghost use Rattle.do_replay.specs.Replayed.{net_after, state_after};
 
 use crate::adding::{add_listed, add_outcome, add_wires};

@@ -1,9 +1,7 @@
 -- One invocation more, from the top on.
-use Rattle.std.proofs.Common.{◌≡◌, ◌∙◌, ◌++◌, ◌+◌, ◌-◌, ◌<◌, ℕ, List, [], ◌∷◌, length, take}
-use Rattle.std.proofs.Common.{Option, Some, None, append_assoc, sym, ap, arith}
-use Rattle.std.specs.Prelude.{slice_get}
-use Rattle.std.proofs.lemmas.Grind.{flat_map-append}
-use Rattle.std.proofs.lemmas.List.{append-nil}
+use Rattle.std.proofs.Common.{◌≡◌, ◌∙◌, ◌++◌, ◌+◌, ◌-◌, ◌<◌, ℕ, List, [], ◌∷◌, length, take, Option}
+use Rattle.std.{proofs.Common.{Some, None, append_assoc, sym, ap, arith}, specs.Prelude.slice_get}
+use Rattle.std.proofs.lemmas.{Grind.flat_map-append, List.append-nil}
 use Rattle.std.proofs.lemmas.Option.{get_or_from_slice_get, slice_get-get_or, slice_get_within}
 use Rattle.do_base.specs.names.Names.{ObjectName}
 use Rattle.do_behave.specs.declared.invocation.Invocation.{Invocation}

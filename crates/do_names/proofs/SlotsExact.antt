@@ -1,17 +1,12 @@
 -- The slots of a core are read as that core, and only slots of a core are read.
 use Rattle.std.proofs.Common.{◌≡◌, ℕ, pos, Bool, true, false, ◌&&◌, nat_lt, List as Listed, [], ◌∷◌}
 use Rattle.std.proofs.Common.{length, Option, Some, None, map, refl, sym, ◌∙◌, ap, IsTrue}
-use Rattle.std.specs.Prelude.{option_and_then, if◌then◌else◌}
-use Rattle.std.specs.List.{All, list_all}
-use Rattle.std.proofs.lemmas.Bool.{and_parts}
-use Rattle.std.proofs.lemmas.List.Elements.{All-weaker}
-use Rattle.std.proofs.lemmas.List.Sums.{AllPass-from_list_all}
-use Rattle.std.proofs.lemmas.Option.{option_and_then_some}
-use Rattle.do_base.specs.declared.values.value.Value.{Value}
-use Rattle.do_base.specs.declared.values.value.Value.TheVariants.{Num, Text}
+use Rattle.std.specs.{Prelude.{option_and_then, if◌then◌else◌}, List.{All, list_all}}
+use Rattle.std.proofs.lemmas.{Bool.and_parts, List.Elements.All-weaker}
+use Rattle.std.proofs.lemmas.{List.Sums.AllPass-from_list_all, Option.option_and_then_some}
+use Rattle.do_base.specs.declared.values.value.Value.{Value, TheVariants.{Num, Text}}
 use Rattle.do_base.specs.values.Kinds.{text}
-use Rattle.do_native_acts.specs.Ports.{port_in}
-use Rattle.do_native_acts.specs.Rows.{rows_in, listed}
+use Rattle.do_native_acts.specs.{Ports.port_in, Rows.{rows_in, listed}}
 use Rattle.do_native_acts.specs.laws.KindLaws.{some_same, passed, text_of_Text, text_read}
 use Rattle.do_native_acts.specs.laws.PortLaws.{port_of_Num, port_read}
 use Rattle.do_native_acts.specs.laws.RowLaws.{read_shown, shown_read, pair_shown, pair_back}

@@ -2,11 +2,9 @@
 use Rattle.std.specs.Prelude.{ℕ, List, Option}
 use Rattle.do_base.specs.declared.values.value.Value.{Value}
 use Rattle.do_class.specs.Class.{Class}
-use Rattle.do_behave.specs.declared.invocation.Invocation.{Invocation}
-use Rattle.do_behave.specs.declared.act.Act.{Act}
+use Rattle.do_behave.specs.declared.{invocation.Invocation.Invocation, act.Act.Act}
 use Rattle.do_native_acts.specs.Places.{by_selector, does_call, in_two}
-use Rattle.do_names.specs.Core.{from_slots, to_slots}
-use Rattle.do_names.specs.Calls.{call_in, does}
+use Rattle.do_names.specs.{Core.{from_slots, to_slots}, Calls.{call_in, does}}
 
 -- the first act of a method: all that it does but returning
 abbrev pub first : List ℕ → Invocation → List Value → Option Act

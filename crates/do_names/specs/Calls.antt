@@ -1,19 +1,13 @@
 -- The calls of a core, and what each does.
 use Rattle.std.specs.Prelude.{ℕ, pos, Bool, Option, Some, None, List, if◌then◌else◌, codes, IsTrue}
-use Rattle.std.specs.Option.{option_map}
-use Rattle.std.specs.Str.{bytes_eq}
-use Rattle.do_base.specs.declared.values.value.Value.{Value}
-use Rattle.do_base.specs.declared.values.value.Value.TheVariants.{Num}
+use Rattle.std.specs.{Option.option_map, Str.bytes_eq}
+use Rattle.do_base.specs.declared.values.value.Value.{Value, TheVariants.Num}
 use Rattle.do_grammar.specs.Words.{◌>>?◌}
-use Rattle.do_behave.specs.Numbers.{truth}
-use Rattle.do_behave.specs.Steps.{local}
-use Rattle.do_behave.specs.declared.invocation.Invocation.{Invocation}
+use Rattle.do_behave.specs.{Numbers.truth, Steps.local, declared.invocation.Invocation.Invocation}
 use Rattle.do_table.specs.Entries.{value_of}
 use Rattle.do_native_acts.specs.Ports.{port_in}
-use Rattle.do_names.specs.Core.{is_entry, name_in, registered, unregistered}
-use Rattle.do_names.specs.Core.{Entry}
-use Rattle.do_names.specs.declared.calls.Call.{Call}
-use Rattle.do_names.specs.declared.calls.Call.TheVariants.{Register, Lookup, Unregister}
+use Rattle.do_names.specs.Core.{is_entry, name_in, registered, unregistered, Entry}
+use Rattle.do_names.specs.declared.calls.Call.{Call, TheVariants.{Register, Lookup, Unregister}}
 
 -- a name that is registered is not empty, and its port is not 0
 abbrev pub IsCall : Call → Type 0

@@ -1,12 +1,10 @@
 -- Names and their ports: in a list, and as slots.
-use Rattle.std.specs.Prelude.{ℕ, pos, Bool, true, is_some, ◌&&◌, ◌==◌, nat_lt}
-use Rattle.std.specs.Prelude.{Option, Some, None, List as Listed, [], ◌∷◌, ◌++◌, length, map}
-use Rattle.std.specs.Prelude.{if◌then◌else◌, option_and_then}
-use Rattle.do_base.specs.values.Kinds.{text}
-use Rattle.do_base.specs.declared.values.value.Value.{Value, List}
+use Rattle.std.specs.Prelude.{ℕ, pos, Bool, true, is_some, ◌&&◌, ◌==◌, nat_lt, Option, Some, None}
+use Rattle.std.specs.Prelude.{List as Listed, [], ◌∷◌, ◌++◌, length, map, if◌then◌else◌}
+use Rattle.std.specs.Prelude.{option_and_then}
+use Rattle.do_base.specs.{values.Kinds.text, declared.values.value.Value.{Value, List}}
 use Rattle.do_base.specs.declared.values.value.Value.TheVariants.{Num, Text}
-use Rattle.do_native_acts.specs.Ports.{port_in}
-use Rattle.do_native_acts.specs.Rows.{rows_in, pair_in, listed}
+use Rattle.do_native_acts.specs.{Ports.port_in, Rows.{rows_in, pair_in, listed}}
 use Rattle.do_table.specs.Entries.{value_of, removed, is_table}
 
 -- a name and its port

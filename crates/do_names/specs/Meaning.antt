@@ -1,10 +1,8 @@
 -- The port that a name has after the calls made so far, told by the calls alone.
-use Rattle.std.specs.Prelude.{ℕ, nat_lt, List, [], ◌∷◌, length, Option, None}
-use Rattle.std.specs.Prelude.{if◌then◌else◌}
+use Rattle.std.specs.Prelude.{ℕ, nat_lt, List, [], ◌∷◌, length, Option, None, if◌then◌else◌}
 use Rattle.std.specs.Str.{bytes_eq}
 use Rattle.do_table.specs.Entries.{given}
-use Rattle.do_names.specs.History.{after}
-use Rattle.do_names.specs.declared.calls.Call.{Call}
+use Rattle.do_names.specs.{History.after, declared.calls.Call.Call}
 use Rattle.do_names.specs.declared.calls.Call.TheVariants.{Register, Lookup, Unregister}
 
 -- A name has the port of the first `Register` that was accepted since its last `Unregister`; one is

@@ -7,8 +7,7 @@ use do_native_acts::{Core, CoreFault, call_act, selector_in};
 use std::alloc::AllocError;
 
 impl Core for Names {
-    ghost use Rattle.do_names.specs.Calls.{IsCall, call_in, does};
-    ghost use Rattle.do_names.specs.Core.{from_slots, to_slots};
+    ghost use Rattle.do_names.specs.{Calls.{IsCall, call_in, does}, Core.{from_slots, to_slots}};
 
     type Call = Call;
 

@@ -3,12 +3,9 @@ ghost use Rattle.std.specs.Prelude.{◌≡◌, ◌∷◌, List, IfOk, IfErr, OnO
 ghost use Rattle.std.specs.Option.{option_copied};
 ghost use Rattle.do_grammar.specs.Words.{◌>>?◌};
 ghost use Rattle.do_behave.specs.Steps.{local};
-ghost use Rattle.do_native_acts.specs.Faults.{FaultOf};
-ghost use Rattle.do_native_acts.specs.Ports.{port_in};
-ghost use Rattle.do_names.specs.Core.{name_in};
-ghost use Rattle.do_names.specs.Calls.{IsCall, does, call_in, call_with};
-ghost use Rattle.do_names.specs.History.{after};
-ghost use Rattle.do_names.specs.declared.calls.Call.{Call};
+ghost use Rattle.do_native_acts.specs.{Faults.FaultOf, Ports.port_in};
+ghost use Rattle.do_names.specs.{Core.name_in, Calls.{IsCall, does, call_in, call_with}};
+ghost use Rattle.do_names.specs.{History.after, declared.calls.Call.Call};
 
 use crate::entries::name_in;
 use crate::names::Names;

@@ -1,6 +1,5 @@
 //! Names with their ports, as a slot keeps them.
-ghost use Rattle.std.specs.Prelude.{◌≡◌, IfOk};
-ghost use Rattle.std.specs.Option.{option_copied};
+ghost use Rattle.std.specs.{Prelude.{◌≡◌, IfOk}, Option.option_copied};
 ghost use Rattle.do_names.specs.Core.{name_in, row};
 
 use do_base::{Items, Text, Value, Values};
@@ -19,8 +18,7 @@ pub(crate) struct Entry {
 pub(crate) type Entries = Items<Entry>;
 
 impl Model for Entry {
-    ghost use Rattle.std.specs.Prelude.{List, ℕ};
-    ghost use Rattle.std.specs.Coded.{coded×, coded_ℕ, coded_list};
+    ghost use Rattle.std.specs.{Prelude.{List, ℕ}, Coded.{coded×, coded_ℕ, coded_list}};
 
     ghost Value = { List ℕ × ℕ };
 

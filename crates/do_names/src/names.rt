@@ -1,13 +1,9 @@
 ghost use Rattle.std.specs.Prelude.{◌≡◌, [], List, IsTrue, IfOk, IfErr, IfSome, OnErr, Some, None};
-ghost use Rattle.std.specs.Prelude.{map};
-ghost use Rattle.std.specs.List.{list_all};
-ghost use Rattle.do_native_acts.specs.Faults.{FaultOf};
-ghost use Rattle.do_native_acts.specs.Rows.{listed};
+ghost use Rattle.std.specs.{Prelude.map, List.list_all};
+ghost use Rattle.do_native_acts.specs.{Faults.FaultOf, Rows.listed};
 ghost use Rattle.do_table.specs.Entries.{value_of};
-ghost use Rattle.do_names.specs.Core.{is_entry, from_slots, to_slots, row};
-ghost use Rattle.do_names.specs.Core.{registered, unregistered};
-ghost use Rattle.do_names.specs.History.{after};
-ghost use Rattle.do_names.specs.Meaning.{told};
+ghost use Rattle.do_names.specs.Core.{is_entry, from_slots, to_slots, row, registered};
+ghost use Rattle.do_names.specs.{Core.unregistered, History.after, Meaning.told};
 ghost use Rattle.do_names.specs.declared.calls.Call.{Call};
 
 use crate::entries::{Entries, Entry, row};
@@ -30,8 +26,7 @@ pub struct Names {
 }
 
 impl Model for Names {
-    ghost use Rattle.std.specs.Prelude.{List, ℕ, IsTrue};
-    ghost use Rattle.std.specs.Coded.{coded×, coded_ℕ, coded_list};
+    ghost use Rattle.std.specs.{Prelude.{List, ℕ, IsTrue}, Coded.{coded×, coded_ℕ, coded_list}};
     ghost use Rattle.do_names.specs.Core.{are_names};
 
     ghost Value = { List (List ℕ × ℕ) };

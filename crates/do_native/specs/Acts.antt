@@ -1,16 +1,13 @@
 -- The acts of classes of all kinds.
+use Rattle.do_behave.specs.Programs as programs
 use Rattle.std.specs.Prelude.{List, Option, Some, slice_get}
 use Rattle.do_base.specs.declared.values.value.Value.{Value}
 use Rattle.do_class.specs.Class.{Class}
 use Rattle.do_grammar.specs.Words.{◌>>?◌}
-use Rattle.do_behave.specs.Programs as programs
-use Rattle.do_behave.specs.Script.{script}
-use Rattle.do_behave.specs.Steps.{or_fault}
-use Rattle.do_behave.specs.declared.invocation.Invocation.{Invocation}
-use Rattle.do_behave.specs.declared.act.Act.{Act}
+use Rattle.do_behave.specs.{Script.script, Steps.or_fault}
+use Rattle.do_behave.specs.declared.{invocation.Invocation.Invocation, act.Act.Act}
 use Rattle.do_check.specs.Acts.{check_act}
-use Rattle.do_class_kinds.specs.Kinds.{AreKindsOf}
-use Rattle.do_class_kinds.specs.declared.kind.Kind.{Kind}
+use Rattle.do_class_kinds.specs.{Kinds.AreKindsOf, declared.kind.Kind.Kind}
 use Rattle.do_class_kinds.specs.declared.kind.Kind.TheVariants.{Script, Names, Pasteboard, Services}
 use Rattle.do_class_kinds.specs.declared.kind.Kind.TheVariants.{Center, Checker}
 use Rattle.do_names.specs.Acts.{names_act}

@@ -1,9 +1,7 @@
 -- The parts of a list are small where there are few and all have small parts.
 use Rattle.std.proofs.Common.{◌≡◌, ℕ, ◌<◌, ◌≤◌, Bool, true, false, ◌&&◌, nat_le, List as Listed}
-use Rattle.std.proofs.Common.{length, map, sym, ◌∙◌, ap, arith, rules}
-use Rattle.std.specs.List.{list_all}
-use Rattle.std.proofs.lemmas.List.{length-map}
-use Rattle.std.proofs.lemmas.List.Folds.{list_all-map}
+use Rattle.std.{proofs.Common.{length, map, sym, ◌∙◌, ap, arith, rules}, specs.List.list_all}
+use Rattle.std.proofs.lemmas.List.{length-map, Folds.list_all-map}
 use Rattle.do_base.specs.declared.values.value.Value.{Value, List, the_lemmas}
 use Rattle.do_behave.specs.Limits.{has_small_parts}
 

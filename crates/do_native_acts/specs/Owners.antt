@@ -1,7 +1,6 @@
 -- Objects that may be nil, as the owner of a pasteboard.
 use Rattle.std.specs.Prelude.{Option, Some, None}
-use Rattle.do_base.specs.names.Names.{ObjectName}
-use Rattle.do_base.specs.declared.values.value.Value.{Value, out-Value}
+use Rattle.do_base.specs.{names.Names.ObjectName, declared.values.value.Value.{Value, out-Value}}
 use Rattle.do_base.specs.declared.values.value.Value.TheOpen.{Value-F}
 
 abbrev owner_level : Value-F Value → Option (Option ObjectName)

@@ -2,13 +2,10 @@
 use Rattle.std.specs.Prelude.{ℕ, ◌==◌, Option, Some, None, List, map, length, if◌then◌else◌}
 use Rattle.std.specs.Prelude.{slice_index_or}
 use Rattle.do_base.specs.declared.values.value.Value.{Value}
-use Rattle.do_class.specs.Class.{Class}
-use Rattle.do_class.specs.Table.{selector_of}
+use Rattle.do_class.specs.{Class.Class, Table.selector_of}
 use Rattle.do_grammar.specs.Words.{◌>>?◌}
-use Rattle.do_behave.specs.Steps.{local, or_fault}
-use Rattle.do_behave.specs.declared.invocation.Invocation.{Invocation}
-use Rattle.do_behave.specs.declared.act.Act.{Act}
-use Rattle.do_behave.specs.declared.act.Act.TheVariants.{Send, Return}
+use Rattle.do_behave.specs.{Steps.{local, or_fault}, declared.invocation.Invocation.Invocation}
+use Rattle.do_behave.specs.declared.act.Act.{Act, TheVariants.{Send, Return}}
 use Rattle.do_native_acts.specs.Steps.{answered, changes, fits}
 
 -- the selector of the method that an invocation of 16 locals runs

@@ -1,7 +1,6 @@
 -- Ports as numbers.
 use Rattle.std.specs.Prelude.{ℕ, ℤ, pos, ◌&&◌, nat_lt, Option, Some, None, if◌then◌else◌}
-use Rattle.do_base.specs.values.Kinds.{number}
-use Rattle.do_base.specs.declared.values.value.Value.{Value}
+use Rattle.do_base.specs.{values.Kinds.number, declared.values.value.Value.Value}
 use Rattle.do_grammar.specs.Words.{◌>>?◌}
 
 -- a number, where it is one from 1 to 65,535

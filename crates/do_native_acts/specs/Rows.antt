@@ -1,10 +1,7 @@
 -- Lists as slots keep them: nil where there is nothing.
-use Rattle.std.specs.Prelude.{Option, Some, None, List as Listed, [], ◌∷◌}
-use Rattle.std.specs.Option.{option_map}
-use Rattle.do_base.specs.values.Kinds.{items}
-use Rattle.do_base.specs.declared.values.value.Value.{Value, List, out-Value}
-use Rattle.do_base.specs.declared.values.value.Value.TheVariants.{Nil}
-use Rattle.do_base.specs.declared.values.value.Value.TheOpen.{Value-F}
+use Rattle.std.specs.{Prelude.{Option, Some, None, List as Listed, [], ◌∷◌}, Option.option_map}
+use Rattle.do_base.specs.{values.Kinds.items, declared.values.value.Value.{Value, List, out-Value}}
+use Rattle.do_base.specs.declared.values.value.Value.{TheVariants.Nil, TheOpen.Value-F}
 use Rattle.do_grammar.specs.Words.{◌>>?◌}
 
 -- one in front of the others, where both are there

@@ -1,15 +1,11 @@
 -- Steps of native methods, whose new values keep the limits.
 use Rattle.std.specs.Prelude.{ℕ, ◌+◌, ◌&&◌, Option, Some, None, List, [], ◌∷◌, if◌then◌else◌}
 use Rattle.std.specs.List.{list_all}
-use Rattle.do_base.specs.values.Equal.{value_eq}
-use Rattle.do_base.specs.declared.values.value.Value.{Value}
+use Rattle.do_base.specs.{values.Equal.value_eq, declared.values.value.Value.Value}
 use Rattle.do_base.specs.declared.events.exception.Exc.TheVariants.{Range}
-use Rattle.do_behave.specs.Changes.{with_set}
-use Rattle.do_behave.specs.declared.invocation.Handler.{Handler}
-use Rattle.do_behave.specs.declared.invocation.Invocation.{Invocation}
-use Rattle.do_behave.specs.declared.act.Act.{Act}
-use Rattle.do_behave.specs.declared.act.Act.TheVariants.{Step, Raise}
-use Rattle.do_behave.specs.declared.act.Write.{Write}
+use Rattle.do_behave.specs.{Changes.with_set, declared.invocation.Handler.Handler}
+use Rattle.do_behave.specs.declared.{invocation.Invocation.Invocation, act.Act.Act}
+use Rattle.do_behave.specs.declared.act.{Act.TheVariants.{Step, Raise}, Write.Write}
 use Rattle.do_behave.specs.declared.change.LocalSet.{LocalSet}
 use Rattle.do_native_acts.specs.Limited.{is_limited}
 

@@ -1,10 +1,8 @@
 -- The types of pasteboards.
 use Rattle.std.specs.Prelude.{ℕ, Bool, true, not, ◌&&◌, nat_lt, nat_le, length, if◌then◌else◌}
-use Rattle.std.specs.Prelude.{Option, Some, None, List, [], ◌∷◌}
-use Rattle.std.specs.List.{list_all, list_any}
+use Rattle.std.specs.{Prelude.{Option, Some, None, List, [], ◌∷◌}, List.{list_all, list_any}}
 use Rattle.std.specs.Str.{bytes_eq}
-use Rattle.do_base.specs.values.Kinds.{text}
-use Rattle.do_base.specs.declared.values.value.Value.{Value}
+use Rattle.do_base.specs.{values.Kinds.text, declared.values.value.Value.Value}
 use Rattle.do_grammar.specs.Words.{◌>>?◌}
 use Rattle.do_native_acts.specs.Rows.{list_in}
 

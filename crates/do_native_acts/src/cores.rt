@@ -1,12 +1,10 @@
 //! The cores of servers, and the methods that only answer.
 ghost use Rattle.std.specs.Prelude.{◌≡◌, ℕ, List, Option, Some, IfOk, IfErr, IfSome, OnErr};
 ghost use Rattle.do_base.specs.declared.values.value.Value.{Value};
-ghost use Rattle.do_behave.specs.Changes.{Means};
-ghost use Rattle.do_behave.specs.Steps.{or_fault};
+ghost use Rattle.do_behave.specs.{Changes.Means, Steps.or_fault};
 ghost use Rattle.do_behave.specs.declared.invocation.Invocation.{Invocation};
 ghost use Rattle.do_grammar.specs.Words.{◌>>?◌};
-ghost use Rattle.do_native_acts.specs.Faults.{FaultOf};
-ghost use Rattle.do_native_acts.specs.Places.{does_call, in_two};
+ghost use Rattle.do_native_acts.specs.{Faults.FaultOf, Places.{does_call, in_two}};
 ghost use Rattle.do_native_acts.specs.Steps.{answered, changes, fits};
 
 use crate::answers::answer;

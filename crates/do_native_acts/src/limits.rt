@@ -1,5 +1,4 @@
-ghost use Rattle.std.specs.Prelude.{◌≡◌, min, sum_by};
-ghost use Rattle.std.specs.List.{list_all};
+ghost use Rattle.std.specs.{Prelude.{◌≡◌, min, sum_by}, List.list_all};
 ghost use Rattle.do_base.specs.values.Values.{weight_of};
 ghost use Rattle.do_behave.specs.Limits.{has_small_parts, nests_within};
 ghost use Rattle.do_native_acts.specs.Limited.{is_limited};

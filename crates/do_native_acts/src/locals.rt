@@ -1,10 +1,8 @@
 //! What a method reads of its locals, and the value that answers a question.
-ghost use Rattle.std.specs.Prelude.{◌≡◌};
-ghost use Rattle.std.specs.Option.{option_copied};
+ghost use Rattle.std.specs.{Prelude.◌≡◌, Option.option_copied};
 ghost use Rattle.do_base.specs.declared.values.value.Value.TheVariants.{Num};
 ghost use Rattle.do_base.specs.values.Kinds.{number, text};
-ghost use Rattle.do_behave.specs.Numbers.{truth};
-ghost use Rattle.do_behave.specs.Steps.{local};
+ghost use Rattle.do_behave.specs.{Numbers.truth, Steps.local};
 ghost use Rattle.do_native_acts.specs.Owners.{owner_in};
 ghost use Rattle.do_grammar.specs.Words.{◌>>?◌};
 

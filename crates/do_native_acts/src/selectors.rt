@@ -1,5 +1,4 @@
-ghost use Rattle.std.specs.Prelude.{◌≡◌, IfSome, IsTrue};
-ghost use Rattle.std.specs.Option.{option_copied};
+ghost use Rattle.std.specs.{Prelude.{◌≡◌, IfSome, IsTrue}, Option.option_copied};
 ghost use Rattle.do_grammar.specs.Names.{is_selector};
 ghost use Rattle.do_native_acts.specs.Places.{selector_in};
 

@@ -1,9 +1,7 @@
 //! Steps of native methods, which keep the limits on values.
-ghost use Rattle.std.specs.Prelude.{◌≡◌, IfOk};
-ghost use Rattle.std.specs.List.{list_all};
+ghost use Rattle.std.specs.{Prelude.{◌≡◌, IfOk}, List.list_all};
 ghost use Rattle.do_behave.specs.Changes.{Means};
-ghost use Rattle.do_native_acts.specs.Limited.{is_limited};
-ghost use Rattle.do_native_acts.specs.Steps.{answered, changes, steps};
+ghost use Rattle.do_native_acts.specs.{Limited.is_limited, Steps.{answered, changes, steps}};
 
 use crate::answers::ANSWER;
 use crate::limits::is_limited;

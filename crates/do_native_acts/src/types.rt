@@ -1,7 +1,5 @@
 //! The types of pasteboards, in which services are asked for too.
-ghost use Rattle.std.specs.Prelude.{◌≡◌, IfOk};
-ghost use Rattle.std.specs.List.{list_all, list_any};
-ghost use Rattle.std.specs.Str.{bytes_eq};
+ghost use Rattle.std.specs.{Prelude.{◌≡◌, IfOk}, List.{list_all, list_any}, Str.bytes_eq};
 ghost use Rattle.do_native_acts.specs.Types.{are_distinct, are_types, is_type, types_in};
 
 use crate::rows::read_list;

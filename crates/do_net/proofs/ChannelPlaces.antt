@@ -1,11 +1,9 @@
 -- The channels of a site by their places.
-use Rattle.std.proofs.Common.{◌≡◌, ◌==◌, ℕ, Bool, List, Option, Some, None, ap, sym, ◌∙◌}
-use Rattle.std.proofs.Common.{Result, Ok, Err, true, false, refl}
+use Rattle.std.proofs.Common.{◌≡◌, ◌==◌, ℕ, Bool, List, Option, Some, None, ap, sym, ◌∙◌, Result}
+use Rattle.std.proofs.Common.{Ok, Err, true, false, refl}
 use Rattle.std.specs.Prelude.{IfOk, if◌then◌else◌, length, nat_lt, not, option_and_then, position}
-use Rattle.std.specs.Prelude.{slice_get, slice_set}
-use Rattle.std.specs.List.{find}
-use Rattle.do_network.specs.Net.{Channel, change_channel}
-use Rattle.do_network.specs.Step.{advanced, with_loss}
+use Rattle.std.specs.{Prelude.{slice_get, slice_set}, List.find}
+use Rattle.do_network.specs.{Net.{Channel, change_channel}, Step.{advanced, with_loss}}
 use Rattle.do_net.specs.declared.lane.Kept.{Kept}
 use Rattle.do_net.specs.Lanes.{Advances, ChannelsAdvance, ChannelsLose, carried_of, has_behind}
 use Rattle.do_net.proofs.FirstFound.{first_set, found_at, found_none, set_same}

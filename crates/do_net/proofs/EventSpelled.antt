@@ -1,27 +1,20 @@
 -- What is sent in an event has a spelling, where what the sites sent has.
-use Rattle.std.proofs.Common.{◌≡◌, ℕ, false, List, Option, Some, None, Result, Ok, Err}
-use Rattle.std.proofs.Common.{[], ap, sym, subst, ◌∙◌}
-use Rattle.std.specs.Prelude.{OnOk, if◌then◌else◌, not, option_and_then, slice_get, unwrap_or}
-use Rattle.std.specs.List.{find, AllByRecursion}
+use Rattle.std.proofs.Common.{◌≡◌, ℕ, false, List, Option, Some, None, Result, Ok, Err, [], ap, sym}
+use Rattle.std.{proofs.Common.{subst, ◌∙◌}, specs.Prelude.{OnOk, if◌then◌else◌, not}}
+use Rattle.std.specs.{Prelude.{option_and_then, slice_get, unwrap_or}, List.{find, AllByRecursion}}
 use Rattle.do_base.specs.declared.events.event.Event.TheVariants.{Take}
 use Rattle.do_class.specs.Class.{Class}
-use Rattle.do_machine.specs.declared.item.Item.TheVariants.{End}
-use Rattle.do_machine.specs.run.Run.{Acting}
+use Rattle.do_machine.specs.{declared.item.Item.TheVariants.End, run.Run.Acting}
 use Rattle.do_machine.specs.take.Take.{can_take, take_effect}
-use Rattle.do_network.specs.declared.input.Input.{Input}
-use Rattle.do_network.specs.Frames.{read_frame}
-use Rattle.do_network.specs.Links.{Part, names_read}
-use Rattle.do_network.specs.Own.{site_context}
-use Rattle.do_network.specs.Net.{Carried, Lost, Net, Whole, change_place, part_at, place_at}
-use Rattle.do_network.specs.Net.{with_channel}
+use Rattle.do_network.specs.{declared.input.Input.Input, Frames.read_frame}
+use Rattle.do_network.specs.{Links.{Part, names_read}, Own.site_context, Net.{Carried, Lost, Net}}
+use Rattle.do_network.specs.Net.{Whole, change_place, part_at, place_at, with_channel}
 use Rattle.do_network.specs.Site.{enabled_input, moves, passed, site_step, takes}
 use Rattle.do_network.specs.Spelled.{HandsSpelled, SendsSpelled, SentSpelled}
 use Rattle.do_network.specs.Step.{advanced, input_of}
-use Rattle.do_net.specs.Hosts.{Hosting, Rests, net_can_take, net_of, oldest}
-use Rattle.do_net.specs.Seen.{Seen, site_handled}
-use Rattle.do_net.proofs.FirstFound.{each_found}
-use Rattle.do_net.proofs.HandIsStep.{of_port, part_found, part_missing}
-use Rattle.do_net.proofs.TakeIsStep.{by_place, part_stays}
+use Rattle.do_net.specs.{Hosts.{Hosting, Rests, net_can_take, net_of, oldest}, Seen.Seen}
+use Rattle.do_net.{specs.Seen.site_handled, proofs.{FirstFound.each_found, HandIsStep.of_port}}
+use Rattle.do_net.proofs.{HandIsStep.{part_found, part_missing}, TakeIsStep.{by_place, part_stays}}
 
 -- what the site of a port sent for an input is what it sends where that is enabled
 hands_spelled : (table : List Class) (act : Acting) (xs : List Hosting) (x : Hosting) (port : ℕ)

@@ -1,9 +1,8 @@
 -- The first element that passes, by its place.
 use Rattle.std.proofs.Common.{◌≡◌, ℕ, zero, suc, Bool, true, false, cond, List, [], ◌∷◌, Some, None}
 use Rattle.std.proofs.Common.{refl, ap, sym, ◌∙◌, subst, arith, map}
-use Rattle.std.specs.Prelude.{slice_get, slice_set}
-use Rattle.std.specs.List.{find, insert, position, position_or_len, AllByRecursion}
-use Rattle.std.proofs.lemmas.Grind.{common_steps}
+use Rattle.std.specs.{Prelude.{slice_get, slice_set}, List.{find, insert, position}}
+use Rattle.std.{specs.List.{position_or_len, AllByRecursion}, proofs.lemmas.Grind.common_steps}
 use Rattle.do_machine.specs.Lists.{change_first}
 
 module _ {X : Type 0} (p : X → Bool) where

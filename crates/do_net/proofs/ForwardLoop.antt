@@ -2,17 +2,14 @@
 use Rattle.std.proofs.Common.{◌≡◌, ◌==◌, Bool, true, false, cond, List, [], ◌∷◌, ◌++◌, fold, map}
 use Rattle.std.proofs.Common.{refl, ap, sym, subst, ◌∙◌, Some, None, append_assoc}
 use Rattle.std.proofs.lemmas.List.{append-nil}
-use Rattle.do_frames.specs.declared.frame.RawFrame.{RawFrame}
-use Rattle.do_frames.specs.Frames.{raw_spelling}
+use Rattle.do_frames.specs.{declared.frame.RawFrame.RawFrame, Frames.raw_spelling}
 use Rattle.do_machine.specs.Lists.{change_first}
-use Rattle.do_network.specs.declared.wire.Wire.{Wire}
-use Rattle.do_network.specs.Links.{Framed, Greeting, Piece, Sending, piece_bytes}
-use Rattle.do_network.specs.Net.{Channel, Whole, change_channel}
+use Rattle.do_network.specs.{declared.wire.Wire.Wire, Links.{Framed, Greeting, Piece, Sending}}
+use Rattle.do_network.specs.{Links.piece_bytes, Net.{Channel, Whole, change_channel}}
 use Rattle.do_network.specs.Step.{carrying, wire_of, with_sending}
 use Rattle.std.specs.List.{AllByRecursion}
-use Rattle.do_net.specs.Hosts.{FetchesWire, Hosting, forwarded}
-use Rattle.do_net.specs.Lanes.{IsSent, IsToldApart, frame_in, laden}
-use Rattle.do_net.specs.Seen.{FetchesSpelled, IsSpelledBy, Seen}
+use Rattle.do_net.specs.{Hosts.{FetchesWire, Hosting, forwarded}, Lanes.{IsSent, IsToldApart}}
+use Rattle.do_net.specs.{Lanes.{frame_in, laden}, Seen.{FetchesSpelled, IsSpelledBy, Seen}}
 
 -- changes that are alike change a list alike
 change_alike : {X : Type 0} (p : X → Bool) (f g : X → X) → ((x : X) → f x ≡ g x) →

@@ -1,35 +1,25 @@
 -- What a site sends at once is told apart by its first byte.
+use Rattle.do_frames.specs.declared.kind.Kind.TheVariants as kinds
+use Rattle.do_network.specs.declared.input.Done.TheVariants as dones
+use Rattle.do_network.specs.declared.input.Input.TheVariants as inputs
 use Rattle.std.proofs.Common.{◌≡◌, ℕ, Bool, true, false, List, [], ◌∷◌, ◌++◌, fold, refl, Option}
 use Rattle.std.proofs.Common.{Some, None, Result, Ok, Err}
 use Rattle.std.specs.Prelude.{if◌then◌else◌, not, option_map, unwrap_or, ◌==◌}
 use Rattle.do_class.specs.Class.{Class}
-use Rattle.do_frames.specs.declared.frame.Frame.{Frame}
-use Rattle.do_frames.specs.declared.kind.Kind.{Kind}
-use Rattle.do_frames.specs.Kinds.{kind_number}
-use Rattle.do_machine.specs.declared.state.Effect.{Effect}
-use Rattle.do_machine.specs.run.Run.{Acting, run_effect}
-use Rattle.do_machine.specs.declared.item.Item.TheVariants.{End}
-use Rattle.do_machine.specs.Start.{start_effect}
-use Rattle.do_machine.specs.State.{is_open}
-use Rattle.do_machine.specs.ends.Closing.{closing}
-use Rattle.do_machine.specs.ends.TimeOut.{time_out}
+use Rattle.do_frames.specs.{declared.{frame.Frame.Frame, kind.Kind.Kind}, Kinds.kind_number}
+use Rattle.do_machine.specs.{declared.state.Effect.Effect, run.Run.{Acting, run_effect}}
+use Rattle.do_machine.specs.{declared.item.Item.TheVariants.End, Start.start_effect, State.is_open}
+use Rattle.do_machine.specs.ends.{Closing.closing, TimeOut.time_out}
 use Rattle.do_machine.specs.take.Take.{can_take, take_effect}
-use Rattle.do_network.specs.declared.fault.PeerFault.{PeerFault}
-use Rattle.do_network.specs.declared.fault.PeerFault.TheVariants.{BadFrame}
-use Rattle.do_network.specs.declared.input.Done.{Done}
-use Rattle.do_network.specs.Faults.{peer_fault}
-use Rattle.do_network.specs.Own.{site_context}
-use Rattle.do_network.specs.declared.input.Input.{Input}
-use Rattle.do_network.specs.Frames.{Posted, read_frame}
+use Rattle.do_network.specs.declared.fault.PeerFault.{PeerFault, TheVariants.BadFrame}
+use Rattle.do_network.specs.{declared.input.Done.Done, Faults.peer_fault, Own.site_context}
+use Rattle.do_network.specs.{declared.input.Input.Input, Frames.{Posted, read_frame}}
 use Rattle.do_network.specs.Links.{Link, Outbox, Part, link_to, sending, having_read, names_read}
 use Rattle.do_network.specs.Links.{sendings}
 use Rattle.do_network.specs.Site.{Handled, enabled_input, moves, passed, site_step, takes, Move}
 use Rattle.do_network.specs.Site.{frame_move, handled, site_move, takes_frame}
 use Rattle.std.specs.List.{AllByRecursion}
 use Rattle.do_net.specs.Lanes.{IsSent}
-use Rattle.do_frames.specs.declared.kind.Kind.TheVariants as kinds
-use Rattle.do_network.specs.declared.input.Done.TheVariants as dones
-use Rattle.do_network.specs.declared.input.Input.TheVariants as inputs
 
 -- two lists are such where each is
 each_both : {X : Type 0} (P : X → Type 0) (xs ys : List X) → AllByRecursion P xs →

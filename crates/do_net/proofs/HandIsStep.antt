@@ -1,33 +1,21 @@
 -- What a network is once a site of it was handed an input.
+use Rattle.do_network.specs.declared.input.Done.TheVariants as dones
 use Rattle.std.proofs.Common.{◌≡◌, ◌==◌, ℕ, Bool, true, false, List, [], ◌∷◌, ◌++◌, cond, map, refl}
 use Rattle.std.proofs.Common.{ap, sym, subst, ◌∙◌, Option, Some, None, arith, Result, Ok, Err}
 use Rattle.std.specs.Prelude.{IfOk, OnOk, option_and_then, option_map, unwrap_or}
-use Rattle.std.specs.List.{find, AllByRecursion}
-use Rattle.std.proofs.lemmas.List.{append-nil}
+use Rattle.std.{specs.List.{find, AllByRecursion}, proofs.lemmas.List.append-nil}
 use Rattle.do_class.specs.Class.{Class}
-use Rattle.do_machine.specs.Lists.{change_first}
-use Rattle.do_machine.specs.State.{is_open}
-use Rattle.do_machine.specs.run.Run.{Acting}
-use Rattle.do_machine.specs.take.Take.{can_take}
+use Rattle.do_machine.specs.{Lists.change_first, State.is_open, run.Run.Acting, take.Take.can_take}
 use Rattle.do_trace.specs.declared.outcome.Outcome.{Outcome}
-use Rattle.do_network.specs.declared.input.Done.{Done}
-use Rattle.do_network.specs.declared.input.Done.TheVariants as dones
-use Rattle.do_network.specs.declared.input.Input.{Input}
-use Rattle.do_network.specs.declared.wire.Wire.{Wire}
-use Rattle.do_network.specs.Links.{Part}
+use Rattle.do_network.specs.{declared.{input.{Done.Done, Input.Input}, wire.Wire.Wire}, Links.Part}
 use Rattle.do_network.specs.Net.{Net, Place, change_place, part_at, with_channel}
-use Rattle.do_network.specs.Site.{Handled, enabled_input, passed, site_step}
-use Rattle.do_network.specs.Spelled.{HandsSpelled}
+use Rattle.do_network.specs.{Site.{Handled, enabled_input, passed, site_step}, Spelled.HandsSpelled}
 use Rattle.do_network.specs.Step.{NetStepped, advanced, net_moved, net_skipped, place_after}
-use Rattle.do_network.specs.Step.{wire_of}
-use Rattle.do_network.specs.laws.Sites.{IsDone}
-use Rattle.do_network.proofs.EnabledIsDone.{enabled_done}
+use Rattle.do_network.{specs.{Step.wire_of, laws.Sites.IsDone}, proofs.EnabledIsDone.enabled_done}
 use Rattle.do_net.specs.Hosts.{Goes, Hosting, Rests, hosting_after, net_handed, net_of, outcome_of}
 use Rattle.do_net.specs.Hosts.{HasFetched, HostAdvances, NetAdvances, net_can_take, net_is_open}
-use Rattle.do_net.specs.Hosts.{oldest_to, place_of, was_enabled}
-use Rattle.do_net.specs.declared.lane.Kept.{Kept}
-use Rattle.do_net.specs.Lanes.{carried_of}
-use Rattle.do_net.specs.Seen.{Seen, at_rest, site_handled}
+use Rattle.do_net.specs.{Hosts.{oldest_to, place_of, was_enabled}, declared.lane.Kept.Kept}
+use Rattle.do_net.specs.{Lanes.carried_of, Seen.{Seen, at_rest, site_handled}}
 use Rattle.do_net.proofs.FirstFound.{change_map, each_changed, each_found, found_map, found_passes}
 use Rattle.do_net.proofs.FirstFound.{change_same, each_then, none_map}
 

@@ -1,17 +1,13 @@
 -- The sites of a network by their places.
 use Rattle.std.proofs.Common.{◌≡◌, ◌==◌, ℕ, Bool, List, map, Option, Some, None, refl, ap, ◌∙◌}
 use Rattle.std.proofs.Common.{Result, Ok, Err, true, false}
-use Rattle.std.specs.Prelude.{IfOk, if◌then◌else◌, position, slice_get, slice_set}
-use Rattle.std.specs.List.{find}
+use Rattle.std.specs.{Prelude.{IfOk, if◌then◌else◌, position, slice_get, slice_set}, List.find}
 use Rattle.do_machine.specs.Lists.{change_first}
-use Rattle.do_network.specs.Net.{Channel, change_channel}
-use Rattle.do_network.specs.Step.{with_loss}
-use Rattle.do_net.specs.declared.lane.Kept.{Kept}
-use Rattle.do_net.specs.Hosts.{HostAdvances, HostLoses, Hosting}
+use Rattle.do_network.specs.{Net.{Channel, change_channel}, Step.with_loss}
+use Rattle.do_net.specs.{declared.lane.Kept.Kept, Hosts.{HostAdvances, HostLoses, Hosting}}
 use Rattle.do_net.specs.Lanes.{ChannelsAdvance, ChannelsLose}
 use Rattle.do_net.proofs.FirstFound.{change_map, found_at, found_map, found_none, none_map}
-use Rattle.do_net.proofs.FirstFound.{set_first}
-use Rattle.do_net.proofs.HandIsStep.{of_port}
+use Rattle.do_net.proofs.{FirstFound.set_first, HandIsStep.of_port}
 
 module _ {X : Type 0} (g : X → Hosting) (port : ℕ) where
   -- a site of that port

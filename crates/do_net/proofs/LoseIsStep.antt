@@ -2,22 +2,16 @@
 use Rattle.std.proofs.Common.{◌≡◌, ◌==◌, ℕ, Bool, true, false, List, [], refl, ap, sym, subst, ◌∙◌}
 use Rattle.std.proofs.Common.{Option, Some, None}
 use Rattle.std.specs.Prelude.{if◌then◌else◌, length, nat_lt, not, option_and_then, unwrap_or}
-use Rattle.std.specs.List.{find, AllByRecursion}
-use Rattle.std.proofs.lemmas.List.{append-nil}
+use Rattle.std.{specs.List.{find, AllByRecursion}, proofs.lemmas.List.append-nil}
 use Rattle.do_base.specs.declared.events.event.Event.TheVariants.{Lose}
 use Rattle.do_class.specs.Class.{Class}
-use Rattle.do_machine.specs.Lists.{change_first}
-use Rattle.do_machine.specs.State.{is_open}
-use Rattle.do_machine.specs.run.Run.{Acting}
+use Rattle.do_machine.specs.{Lists.change_first, State.is_open, run.Run.Acting}
 use Rattle.do_trace.specs.declared.outcome.Outcome.{Outcome}
-use Rattle.do_network.specs.declared.wire.Wire.{Wire}
-use Rattle.do_network.specs.Links.{Part}
-use Rattle.do_network.specs.Net.{Channel, Net, change_place, channel, channel_to, part_at}
-use Rattle.do_network.specs.Net.{change_channel, with_channel}
+use Rattle.do_network.specs.{declared.wire.Wire.Wire, Links.Part, Net.{Channel, Net, change_place}}
+use Rattle.do_network.specs.Net.{channel, channel_to, part_at, change_channel, with_channel}
 use Rattle.do_network.specs.Step.{NetStepped, net_lose, net_skipped, net_step, with_loss}
 use Rattle.do_net.specs.Hosts.{Goes, HostLoses, Hosting, Rests, net_is_open, net_of, place_of}
-use Rattle.do_net.specs.Lanes.{has_behind}
-use Rattle.do_net.specs.Seen.{Seen, at_rest}
+use Rattle.do_net.specs.{Lanes.has_behind, Seen.{Seen, at_rest}}
 use Rattle.do_net.proofs.FirstFound.{change_same, each_changed, each_found, found_map, none_map}
 use Rattle.do_net.proofs.HandIsStep.{net_changed, of_port, skip_goes}
 

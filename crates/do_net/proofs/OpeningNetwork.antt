@@ -1,12 +1,9 @@
 -- A network opens as its sites do.
 use Rattle.std.proofs.Common.{◌≡◌, ℕ, zero, suc, List, [], ◌∷◌, map, refl, ap, sym, subst, ◌∙◌}
 use Rattle.std.proofs.Common.{Some, ◌<◌, ◌+◌, ◌++◌, get_or, length, take}
-use Rattle.std.proofs.lemmas.List.{map-append, take_more}
-use Rattle.std.specs.Prelude.{slice_get}
+use Rattle.std.{proofs.lemmas.List.{map-append, take_more}, specs.Prelude.slice_get}
 use Rattle.do_class.specs.Class.{Class}
-use Rattle.do_machine.specs.declared.state.Seat.{Seat}
-use Rattle.do_machine.specs.run.Run.{Acting}
-use Rattle.do_machine.specs.World.{by_port}
+use Rattle.do_machine.specs.{declared.state.Seat.Seat, run.Run.Acting, World.by_port}
 use Rattle.do_network.specs.Net.{net_opening, opening_place}
 use Rattle.std.specs.List.{AllByRecursion}
 use Rattle.do_net.specs.Hosts.{Hosting, Rests, net_of, place_of}

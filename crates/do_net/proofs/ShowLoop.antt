@@ -1,7 +1,6 @@
 -- What is fetched of a site, one after another.
 use Rattle.std.proofs.Common.{◌≡◌, List, [], ◌∷◌, ◌++◌, refl, ap, sym, subst, ◌∙◌, Some, None}
-use Rattle.std.proofs.Common.{append_assoc}
-use Rattle.std.proofs.lemmas.List.{append-nil}
+use Rattle.std.proofs.{Common.append_assoc, lemmas.List.append-nil}
 use Rattle.do_base.specs.declared.events.shown.Shown.{Shown}
 use Rattle.do_network.specs.declared.input.Input.{Input}
 use Rattle.std.specs.List.{AllByRecursion}

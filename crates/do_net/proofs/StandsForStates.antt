@@ -1,49 +1,31 @@
 -- A network that stands for a state goes on standing for states, event by event.
-use Rattle.std.proofs.Common.{◌≡◌, ◌==◌, ◌++◌, ℕ, false, List, [], ◌∷◌, refl, sym, ap, ◌∙◌}
-use Rattle.std.proofs.Common.{subst, arith}
-use Rattle.std.specs.Prelude.{None, Option, Some, option_map}
-use Rattle.std.specs.List.{IsDistinct}
-use Rattle.std.proofs.lemmas.Bool.Decides.{Decides-eqb}
-use Rattle.std.proofs.lemmas.List.Kept.{AllPairs-from_increasing}
-use Rattle.std.proofs.lemmas.Map.Made.{IsDistinct-from_AllPairs}
+use Rattle.do_facts.proofs.calls.ReachedCalls as calls_kept
+use Rattle.do_facts.proofs.links.ReachedLinks as links_kept
+use Rattle.std.proofs.Common.{◌≡◌, ◌==◌, ◌++◌, ℕ, false, List, [], ◌∷◌, refl, sym, ap, ◌∙◌, subst}
+use Rattle.std.{proofs.Common.arith, specs.Prelude.{None, Option, Some, option_map}}
+use Rattle.std.{specs.List.IsDistinct, proofs.lemmas.Bool.Decides.Decides-eqb}
+use Rattle.std.proofs.lemmas.{List.Kept.AllPairs-from_increasing, Map.Made.IsDistinct-from_AllPairs}
 use Rattle.do_base.specs.declared.events.event.Event.{Event}
 use Rattle.do_class.specs.Class.{Class}
-use Rattle.do_machine.specs.declared.state.Seat.{Seat}
-use Rattle.do_machine.specs.declared.state.State.{State}
-use Rattle.do_machine.specs.declared.state.Stepped.{Stepped}
-use Rattle.do_machine.specs.Commit.{skipped}
-use Rattle.do_machine.specs.Lists.{some_passes}
-use Rattle.do_machine.specs.State.{node, ports}
-use Rattle.do_machine.specs.Step.{step}
+use Rattle.do_machine.specs.declared.state.{Seat.Seat, State.State, Stepped.Stepped}
+use Rattle.do_machine.specs.{Commit.skipped, Lists.some_passes, State.{node, ports}, Step.step}
 use Rattle.do_machine.specs.World.{IsWorld, opening}
 use Rattle.do_machine.specs.check.Blocks.{events_of, followed, line_step, steps}
-use Rattle.do_machine.specs.check.Snapshot.{snapshot}
-use Rattle.do_machine.specs.run.Run.{Acting}
-use Rattle.do_machine.specs.take.Take.{can_take}
+use Rattle.do_machine.specs.{check.Snapshot.snapshot, run.Run.Acting, take.Take.can_take}
 use Rattle.do_facts.proofs.machine.Ports.{opening_rises, step_ports}
 use Rattle.do_sched.specs.declared.line.Line.{Line}
 use Rattle.do_trace.specs.declared.outcome.Outcome.{Outcome}
-use Rattle.do_facts.specs.Reached.{reached}
-use Rattle.do_facts.specs.calls.Facts.{CallsAreKept}
-use Rattle.do_facts.specs.links.LinksAreKept.{LinksAreKept}
-use Rattle.do_facts.proofs.ReachedStates.{holds_of_reached}
-use Rattle.do_facts.proofs.calls.ReachedCalls as calls_kept
-use Rattle.do_facts.proofs.links.ReachedLinks as links_kept
-use Rattle.do_network.specs.Links.{Part}
-use Rattle.do_network.specs.Net.{Net, net_opening, part_at}
-use Rattle.do_network.specs.Snapshot.{net_snapshot}
-use Rattle.do_network.specs.Spelled.{SendsSpelled}
-use Rattle.do_network.specs.Step.{NetStepped, net_skipped, net_step}
+use Rattle.do_facts.specs.{Reached.reached, calls.Facts.CallsAreKept}
+use Rattle.do_facts.{specs.links.LinksAreKept.LinksAreKept, proofs.ReachedStates.holds_of_reached}
+use Rattle.do_network.specs.{Links.Part, Net.{Net, net_opening, part_at}, Snapshot.net_snapshot}
+use Rattle.do_network.specs.{Spelled.SendsSpelled, Step.{NetStepped, net_skipped, net_step}}
 use Rattle.do_network.specs.Wired.{net_line_step, net_steps}
-use Rattle.do_agreement.specs.Agrees.{Agrees, StepAgrees}
-use Rattle.do_agreement.specs.Along.{EventsSendSpelled}
+use Rattle.do_agreement.specs.{Agrees.{Agrees, StepAgrees}, Along.EventsSendSpelled}
 use Rattle.do_agreement.specs.Classed.{ClassesAreTold}
 use Rattle.do_agreement.proofs.agreement.OpeningAgrees.{opening_agrees}
-use Rattle.do_agreement.proofs.agreement.SnapshotsAgree.{snapshots_same}
-use Rattle.do_agreement.proofs.agreement.StepsAgree.{step_agrees}
+use Rattle.do_agreement.proofs.agreement.{SnapshotsAgree.snapshots_same, StepsAgree.step_agrees}
 use Rattle.do_agreement.proofs.told.EachState.{reached_told}
-use Rattle.do_net.specs.Hosts.{net_can_take}
-use Rattle.do_net.specs.OneMachine.{StandsFor, StepsAsOne, machine_can_take}
+use Rattle.do_net.specs.{Hosts.net_can_take, OneMachine.{StandsFor, StepsAsOne, machine_can_take}}
 
 module _ (table : List Class) (act : Acting) where
   -- one event more

@@ -1,20 +1,16 @@
 -- The sites go on as a take says.
 use Rattle.std.proofs.Common.{◌≡◌, ℕ, true, false, List, None, Some, Result, Ok, Err, [], ◌++◌, sym}
-use Rattle.std.proofs.Common.{subst}
-use Rattle.std.specs.Prelude.{IfOk}
-use Rattle.std.specs.List.{AllByRecursion}
+use Rattle.std.{proofs.Common.subst, specs.{Prelude.IfOk, List.AllByRecursion}}
 use Rattle.do_base.specs.declared.events.event.Event.TheVariants.{Take}
 use Rattle.do_class.specs.Class.{Class}
 use Rattle.do_machine.specs.run.Run.{Acting}
 use Rattle.do_trace.specs.declared.outcome.Outcome.{Outcome}
-use Rattle.do_network.specs.declared.wire.Wire.{Wire}
-use Rattle.do_network.specs.Net.{Carried, change_place, with_channel}
+use Rattle.do_network.specs.{declared.wire.Wire.Wire, Net.{Carried, change_place, with_channel}}
 use Rattle.do_network.specs.Spelled.{HandsSpelled, SendsSpelled}
 use Rattle.do_network.specs.Step.{advanced, input_of, net_step}
 use Rattle.do_net.specs.Hosts.{Goes, Hosting, Rests, net_can_take, net_handed, net_of, oldest}
 use Rattle.do_net.proofs.EventSpelled.{cannot_spelled, empty_spelled, taken_spelled}
-use Rattle.do_net.proofs.HandIsStep.{skip_goes}
-use Rattle.do_net.proofs.TakeIsStep.{take_cannot, take_empty, take_is}
+use Rattle.do_net.proofs.{HandIsStep.skip_goes, TakeIsStep.{take_cannot, take_empty, take_is}}
 
 -- the sites of a network after a take
 abbrev pub TakeGoes : List Class → Acting → List Hosting → List Hosting → ℕ → ℕ → List Wire →

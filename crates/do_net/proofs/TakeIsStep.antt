@@ -1,22 +1,16 @@
 -- What a network is once a node took something, or something was lost on its way.
 use Rattle.std.proofs.Common.{◌≡◌, ◌==◌, ℕ, Bool, true, false, cond, List, [], ◌∷◌, refl, ap, sym}
-use Rattle.std.proofs.Common.{Option, Some, None, ◌∙◌}
-use Rattle.std.specs.Prelude.{if◌then◌else◌, not, option_and_then, option_map, slice_get, unwrap_or}
-use Rattle.std.specs.List.{find}
+use Rattle.std.{proofs.Common.{Option, Some, None, ◌∙◌}, specs.Prelude.{if◌then◌else◌, not}}
+use Rattle.std.specs.{Prelude.{option_and_then, option_map, slice_get, unwrap_or}, List.find}
 use Rattle.do_base.specs.declared.events.event.Event.TheVariants.{Take}
 use Rattle.do_class.specs.Class.{Class}
-use Rattle.do_machine.specs.Lists.{change_first}
-use Rattle.do_machine.specs.run.Run.{Acting}
-use Rattle.do_machine.specs.take.Take.{can_take, take_effect}
+use Rattle.do_machine.specs.{Lists.change_first, run.Run.Acting, take.Take.{can_take, take_effect}}
 use Rattle.do_machine.specs.declared.item.Item.TheVariants.{End}
-use Rattle.do_network.specs.Frames.{read_frame}
-use Rattle.do_network.specs.Links.{Part, names_read}
-use Rattle.do_network.specs.Own.{site_context}
+use Rattle.do_network.specs.{Frames.read_frame, Links.{Part, names_read}, Own.site_context}
 use Rattle.do_network.specs.Net.{Carried, Channel, Lost, Net, Place, Whole, change_place, channel}
-use Rattle.do_network.specs.Net.{channel_to, part_at, place_at, with_channel}
-use Rattle.do_network.specs.Site.{Handled, enabled_input, moves, takes}
-use Rattle.do_network.specs.Step.{NetStepped, advanced, hands, input_of, net_moved, net_skipped}
-use Rattle.do_network.specs.Step.{net_step, net_take}
+use Rattle.do_network.specs.{Net.{channel_to, part_at, place_at, with_channel}, Site.Handled}
+use Rattle.do_network.specs.{Site.{enabled_input, moves, takes}, Step.{NetStepped, advanced, hands}}
+use Rattle.do_network.specs.Step.{input_of, net_moved, net_skipped, net_step, net_take}
 use Rattle.do_net.specs.Hosts.{net_can_take, net_handed, oldest, oldest_to}
 
 -- the part of a place that is found

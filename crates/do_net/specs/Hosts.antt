@@ -1,28 +1,18 @@
 -- The sites of a network with what is under way from each, and what a network is by them.
-use Rattle.std.specs.Prelude.{Bool, List, None, Option, Some, [], fold, false, map, true, ℕ, ◌≡◌}
-use Rattle.std.specs.Prelude.{if◌then◌else◌, option_and_then, slice_get}
-use Rattle.std.specs.Prelude.{unwrap_or, ◌++◌, ◌∷◌}
-use Rattle.do_class.specs.Class.{Class}
-use Rattle.do_machine.specs.State.{is_open}
-use Rattle.do_machine.specs.run.Run.{Acting}
-use Rattle.do_machine.specs.take.Take.{can_take}
-use Rattle.do_trace.specs.declared.outcome.Outcome.{Outcome}
-use Rattle.do_network.specs.declared.input.Done.{Done}
-use Rattle.do_network.specs.declared.input.Input.{Input}
-use Rattle.do_network.specs.declared.wire.Wire.{Wire}
-use Rattle.do_network.specs.Links.{Sending}
-use Rattle.do_network.specs.Net.{Carried, Channel, Net, Place, change_channel, change_place}
-use Rattle.do_network.specs.Net.{channel_to, part_at, place_at, with_channel}
-use Rattle.do_network.specs.Site.{Handled}
-use Rattle.do_network.specs.Step.{NetStepped, advanced, hands, net_skipped, wire_of, with_loss}
-use Rattle.do_network.specs.Step.{with_sending}
-use Rattle.do_net.specs.declared.by_port.Hosts.{Hosts}
-use Rattle.do_net.specs.declared.host.Host.{Host}
-use Rattle.do_net.specs.declared.lane.Kept.{Kept}
-use Rattle.std.specs.List.{AllByRecursion}
-use Rattle.do_net.specs.Lanes.{carried_of, has_behind}
-use Rattle.do_net.specs.Seen.{Seen, at_rest}
 use Rattle.do_network.specs.declared.input.Done.TheVariants as dones
+use Rattle.std.specs.Prelude.{Bool, List, None, Option, Some, [], fold, false, map, true, ℕ, ◌≡◌}
+use Rattle.std.specs.Prelude.{if◌then◌else◌, option_and_then, slice_get, unwrap_or, ◌++◌, ◌∷◌}
+use Rattle.do_class.specs.Class.{Class}
+use Rattle.do_machine.specs.{State.is_open, run.Run.Acting, take.Take.can_take}
+use Rattle.do_trace.specs.declared.outcome.Outcome.{Outcome}
+use Rattle.do_network.specs.declared.{input.{Done.Done, Input.Input}, wire.Wire.Wire}
+use Rattle.do_network.specs.{Links.Sending, Net.{Carried, Channel, Net, Place, change_channel}}
+use Rattle.do_network.specs.Net.{change_place, channel_to, part_at, place_at, with_channel}
+use Rattle.do_network.specs.{Site.Handled, Step.{NetStepped, advanced, hands, net_skipped, wire_of}}
+use Rattle.do_network.specs.Step.{with_loss, with_sending}
+use Rattle.do_net.specs.declared.{by_port.Hosts.Hosts, host.Host.Host, lane.Kept.Kept}
+use Rattle.std.specs.List.{AllByRecursion}
+use Rattle.do_net.specs.{Lanes.{carried_of, has_behind}, Seen.{Seen, at_rest}}
 
 -- a site of a port, with its channels by rising peer
 pub record Hosting : Type 0 where

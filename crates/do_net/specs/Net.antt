@@ -1,17 +1,13 @@
 -- A network by its sites, and what of it stays.
+use Rattle.do_network.specs.Net as definitions
 use Rattle.std.specs.Prelude.{Bool, List, None, Option, Some, [], false, length, map, ℕ, ◌==◌, ◌∷◌}
-use Rattle.std.specs.Prelude.{◌≡◌}
-use Rattle.std.specs.List.{list_all, AllByRecursion}
+use Rattle.std.specs.{Prelude.◌≡◌, List.{list_all, AllByRecursion}}
 use Rattle.do_class.specs.Class.{Class}
-use Rattle.do_machine.specs.declared.state.Seat.{Seat}
-use Rattle.do_machine.specs.World.{by_port, others}
-use Rattle.do_machine.specs.run.Run.{Acting}
+use Rattle.do_machine.specs.{declared.state.Seat.Seat, World.{by_port, others}, run.Run.Acting}
 use Rattle.do_network.specs.declared.wire.Wire.{Wire}
-use Rattle.do_net.specs.declared.net.Net.{Net}
-use Rattle.do_net.specs.Hosts.{Hosting, Rests, hostings, net_of}
+use Rattle.do_net.specs.{declared.net.Net.Net, Hosts.{Hosting, Rests, hostings, net_of}}
 use Rattle.do_net.specs.Seen.{Seen, at_rest}
 use Rattle.do_network.specs.Net.{opening_channel, opening_part}
-use Rattle.do_network.specs.Net as definitions
 
 -- the network that these sites are
 abbrev pub network : {S A : Type 0} → (S → Seen) → Net S A → definitions.Net

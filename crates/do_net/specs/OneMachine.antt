@@ -2,14 +2,8 @@
 use Rattle.std.specs.Prelude.{Bool, List, ℕ, ◌≡◌}
 use Rattle.do_base.specs.declared.events.event.Event.{Event}
 use Rattle.do_class.specs.Class.{Class}
-use Rattle.do_machine.specs.declared.state.Seat.{Seat}
-use Rattle.do_machine.specs.declared.state.State.{State}
-use Rattle.do_machine.specs.Lists.{some_passes}
-use Rattle.do_machine.specs.State.{node}
-use Rattle.do_machine.specs.Step.{step}
-use Rattle.do_machine.specs.World.{IsWorld}
-use Rattle.do_machine.specs.run.Run.{Acting}
-use Rattle.do_machine.specs.take.Take.{can_take}
+use Rattle.do_machine.specs.{declared.state.{Seat.Seat, State.State}, Lists.some_passes, State.node}
+use Rattle.do_machine.specs.{Step.step, World.IsWorld, run.Run.Acting, take.Take.can_take}
 use Rattle.do_trace.specs.declared.outcome.Outcome.{Outcome}
 use Rattle.do_facts.specs.Reached.{reached}
 use Rattle.do_network.specs.Net.{Net}

@@ -1,7 +1,6 @@
 -- What a site may do of its own.
 use Rattle.std.specs.Prelude.{Bool, List, [], false, true, ◌∷◌}
-use Rattle.do_behave.specs.declared.invocation.Invocation.{Invocation}
-use Rattle.do_behave.specs.declared.invocation.InvState.{InvState}
+use Rattle.do_behave.specs.declared.invocation.{Invocation.Invocation, InvState.InvState}
 use Rattle.do_behave.specs.declared.invocation.InvState.TheVariants.{Answered, Running}
 
 -- an invocation of this state runs or has an answer to use

@@ -1,17 +1,12 @@
 //! A site of a network with what is under way from it.
 ghost use Rattle.std.specs.Prelude.{◌≡◌, ◌++◌, ◌==◌, [], IfOk, OnOk, find, length, map, ℕ};
-ghost use Rattle.std.specs.Option.{option_copied};
-ghost use Rattle.std.specs.List.{list_all, AllByRecursion};
-ghost use Rattle.do_machine.specs.State.{is_open};
-ghost use Rattle.do_machine.specs.take.Take.{can_take};
-ghost use Rattle.do_network.specs.Site.{Handled};
-ghost use Rattle.do_network.specs.Snapshot.{part_line};
-ghost use Rattle.do_network.specs.Spelled.{SentSpelled};
+ghost use Rattle.std.specs.{Option.option_copied, List.{list_all, AllByRecursion}};
+ghost use Rattle.do_machine.specs.{State.is_open, take.Take.can_take};
+ghost use Rattle.do_network.specs.{Site.Handled, Snapshot.part_line, Spelled.SentSpelled};
 ghost use Rattle.do_network.specs.Step.{wire_of};
-ghost use Rattle.do_net.specs.Seen.{FetchesSpelled, IsSpelledBy, site_handled};
-ghost use Rattle.do_net.specs.Hosts.{FetchesWire, HasFetched, HostAdvances, HostLoses, forwarded};
-ghost use Rattle.do_net.specs.Hosts.{hosting, hosting_after, outcome_of, was_enabled};
-ghost use Rattle.do_net.specs.Lanes.{IsSent};
+ghost use Rattle.do_net.specs.{Seen.{FetchesSpelled, IsSpelledBy, site_handled}, Hosts.FetchesWire};
+ghost use Rattle.do_net.specs.Hosts.{HasFetched, HostAdvances, HostLoses, forwarded, hosting};
+ghost use Rattle.do_net.specs.{Hosts.{hosting_after, outcome_of, was_enabled}, Lanes.IsSent};
 
 use crate::hosted::Hosted;
 use crate::lane::{Kept, Lane};

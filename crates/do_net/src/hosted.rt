@@ -1,9 +1,7 @@
 //! What a network needs of its sites.
 ghost use Rattle.std.specs.Prelude.{◌≡◌, IfOk, OnErr};
-ghost use Rattle.do_machine.specs.State.{is_open};
-ghost use Rattle.do_machine.specs.take.Take.{can_take};
-ghost use Rattle.do_network.specs.Net.{opening_part};
-ghost use Rattle.do_network.specs.Snapshot.{part_line};
+ghost use Rattle.do_machine.specs.{State.is_open, take.Take.can_take};
+ghost use Rattle.do_network.specs.{Net.opening_part, Snapshot.part_line};
 ghost use Rattle.do_net.specs.Seen.{Seen, at_rest, site_handled, with_handled, FetchesFrame};
 ghost use Rattle.do_net.specs.Seen.{FetchesShown, FetchesSpelled};
 

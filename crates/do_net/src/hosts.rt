@@ -1,17 +1,14 @@
 //! What an event does to the sites of a network.
+ghost use Rattle.do_network.specs.declared.wire.Wire as sent;
 ghost use Rattle.std.specs.Prelude.{◌≡◌, ◌==◌, ◌<◌, List, IfOk, IfSome, Some, length, position, []};
-ghost use Rattle.std.specs.Prelude.{slice_get, true};
-ghost use Rattle.std.specs.List.{list_all, AllByRecursion};
+ghost use Rattle.std.specs.{Prelude.{slice_get, true}, List.{list_all, AllByRecursion}};
 ghost use Rattle.do_class.specs.Class.{Class};
 ghost use Rattle.do_machine.specs.run.Run.{Acting};
 ghost use Rattle.do_base.specs.declared.events.event.Event.TheVariants.{Lose, Take};
-ghost use Rattle.do_network.specs.Snapshot.{net_snapshot};
-ghost use Rattle.do_network.specs.Spelled.{HandsSpelled, SendsSpelled};
+ghost use Rattle.do_network.specs.{Snapshot.net_snapshot, Spelled.{HandsSpelled, SendsSpelled}};
 ghost use Rattle.do_network.specs.Step.{input_of, net_step};
-ghost use Rattle.do_network.specs.declared.wire.Wire as sent;
 ghost use Rattle.do_net.specs.Hosts.{Goes, HasFetched, NetAdvances, Rests, hostings, net_can_take};
-ghost use Rattle.do_net.specs.Hosts.{net_handed, net_is_open, net_of};
-ghost use Rattle.do_net.specs.Lanes.{carried_of};
+ghost use Rattle.do_net.specs.{Hosts.{net_handed, net_is_open, net_of}, Lanes.carried_of};
 
 use crate::by_port::Hosts;
 use crate::host::Host;

@@ -1,7 +1,6 @@
 //! What is under way from one node to another, as bytes.
 ghost use Rattle.std.specs.Prelude.{◌≡◌, ◌==◌, [], IfOk, OnOk, false, if◌then◌else◌, length};
-ghost use Rattle.std.specs.Prelude.{nat_lt, not, option_map, slice_get};
-ghost use Rattle.std.specs.Option.{option_copied};
+ghost use Rattle.std.specs.{Prelude.{nat_lt, not, option_map, slice_get}, Option.option_copied};
 ghost use Rattle.do_net.specs.Lanes.{Advances, carried_of, frame_in, greets, laden};
 ghost use Rattle.do_network.specs.Step.{with_loss};
 

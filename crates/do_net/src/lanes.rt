@@ -1,8 +1,6 @@
 //! The lanes of a site.
-ghost use Rattle.std.specs.Prelude.{◌≡◌, ◌==◌, IfOk, OnOk, find, length};
-ghost use Rattle.std.specs.Option.{option_copied};
-ghost use Rattle.std.specs.List.{list_all};
-ghost use Rattle.std.specs.List.Sorted.{IsNonDecreasingBy};
+ghost use Rattle.std.specs.{Prelude.{◌≡◌, ◌==◌, IfOk, OnOk, find, length}, Option.option_copied};
+ghost use Rattle.std.specs.List.{list_all, Sorted.IsNonDecreasingBy};
 ghost use Rattle.do_network.specs.Net.{change_channel};
 ghost use Rattle.do_net.specs.Lanes.{ChannelsAdvance, ChannelsLose, laden};
 
@@ -20,8 +18,7 @@ pub struct Lanes {
 }
 
 impl Model for Lanes {
-    ghost use Rattle.std.specs.Prelude.{List};
-    ghost use Rattle.std.specs.List.Sorted.{IsNonDecreasingBy};
+    ghost use Rattle.std.specs.{Prelude.List, List.Sorted.IsNonDecreasingBy};
     ghost use Rattle.do_network.specs.Net.{Channel};
 
     ghost Value = { List Channel };

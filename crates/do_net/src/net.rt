@@ -3,16 +3,12 @@ mod looking;
 
 ghost use Rattle.std.specs.Prelude.{◌≡◌, ◌++◌, ◌<◌, IfOk, IsErr, OnErr, OnOk, Some, [], false};
 ghost use Rattle.std.specs.Prelude.{length, slice_get, true};
-ghost use Rattle.do_machine.specs.World.{IsWorld, opening};
-ghost use Rattle.do_machine.specs.check.Snapshot.{snapshot};
+ghost use Rattle.do_machine.specs.{World.{IsWorld, opening}, check.Snapshot.snapshot};
 ghost use Rattle.do_machine.specs.declared.state.State.{State};
-ghost use Rattle.do_network.specs.Net.{net_opening};
-ghost use Rattle.do_network.specs.Snapshot.{net_snapshot};
-ghost use Rattle.do_network.specs.Spelled.{SendsSpelled};
+ghost use Rattle.do_network.specs.{Net.net_opening, Snapshot.net_snapshot, Spelled.SendsSpelled};
 ghost use Rattle.do_network.specs.Step.{net_step};
-ghost use Rattle.do_net.specs.Hosts.{net_can_take};
-ghost use Rattle.do_net.specs.Net.{AreAlike, HasSent, Stands, is_quiet, network};
-ghost use Rattle.do_net.specs.OneMachine.{StandsFor, StepsAsOne, machine_can_take};
+ghost use Rattle.do_net.specs.{Hosts.net_can_take, Net.{AreAlike, HasSent, Stands, is_quiet}};
+ghost use Rattle.do_net.specs.{Net.network, OneMachine.{StandsFor, StepsAsOne, machine_can_take}};
 
 use crate::by_port::Hosts;
 use crate::hosted::Hosted;

@@ -1,18 +1,13 @@
 -- One place more of a lane that is read.
 use Rattle.std.proofs.Common.{◌≡◌, ◌∙◌, ◌++◌, ◌+◌, ℕ, zero, suc, true, false, List, [], ◌∷◌, drop}
-use Rattle.std.proofs.Common.{Result, Ok, Err, Some, None, refl, sym, ap, append_assoc}
-use Rattle.std.proofs.Common.{arith}
-use Rattle.std.specs.Prelude.{is_err, slice_get}
-use Rattle.std.specs.List.{flat_map}
+use Rattle.std.proofs.Common.{Result, Ok, Err, Some, None, refl, sym, ap, append_assoc, arith}
+use Rattle.std.specs.{Prelude.{is_err, slice_get}, List.flat_map}
 use Rattle.do_base.specs.names.Names.{ObjectName}
 use Rattle.do_class.specs.Class.{Class}
 use Rattle.do_coder.specs.declared.recent.pair.Pair.{Pair}
-use Rattle.do_frames.specs.declared.frame.Frame.{Frame}
-use Rattle.do_frames.specs.declared.frame.RawFrame.{RawFrame}
-use Rattle.do_frames.specs.Frames.{after_frame}
+use Rattle.do_frames.specs.{declared.frame.{Frame.Frame, RawFrame.RawFrame}, Frames.after_frame}
 use Rattle.do_lost.specs.Named.{item_names}
-use Rattle.do_network.specs.Frames.{item_of, read_frame}
-use Rattle.do_network.specs.Net.{Carried, Whole}
+use Rattle.do_network.specs.{Frames.{item_of, read_frame}, Net.{Carried, Whole}}
 use Rattle.do_net_named.specs.Waiting.{items_in, lane_names}
 use Rattle.do_net_lost.specs.Read.{left_names}
 

@@ -1,10 +1,7 @@
 -- One element more whose names are among those of a list.
 use Rattle.std.proofs.Common.{◌≡◌, ◌∙◌, ◌++◌, ◌||◌, ◌+◌, ◌<◌, ℕ, Bool, true, false, List, []}
-use Rattle.std.proofs.Common.{get_or, length, take, refl, sym, ap}
-use Rattle.std.specs.List.{flat_map}
-use Rattle.std.proofs.lemmas.Grind.{flat_map-append}
-use Rattle.std.proofs.lemmas.List.{append-nil}
-use Rattle.std.proofs.lemmas.List.Folds.{list_any-append}
+use Rattle.std.{proofs.Common.{get_or, length, take, refl, sym, ap}, specs.List.flat_map}
+use Rattle.std.proofs.lemmas.{Grind.flat_map-append, List.{append-nil, Folds.list_any-append}}
 use Rattle.do_base.specs.names.Names.{ObjectName}
 use Rattle.do_leaks.proofs.Growing.{grown}
 use Rattle.do_packet.specs.Met.{has_object, same_object}

@@ -1,16 +1,12 @@
 -- What nothing can reach in a network is written as in the state for which it stands.
 use Rattle.std.proofs.Common.{◌≡◌, ◌∙◌, ◌++◌, List, [], ◌∷◌, ap, map, refl, subst}
-use Rattle.std.specs.Prelude.{codes}
-use Rattle.std.specs.List.{AllByRecursion}
+use Rattle.std.specs.{Prelude.codes, List.AllByRecursion}
 use Rattle.do_class.specs.Class.{Class}
-use Rattle.do_leaks.specs.Leaks.{leaks}
-use Rattle.do_leaks.specs.declared.leak.Leak.{Leak}
+use Rattle.do_leaks.specs.{Leaks.leaks, declared.leak.Leak.Leak}
 use Rattle.do_lines.specs.Lines.{joined}
 use Rattle.do_lost.specs.Named.{named, quiet}
 use Rattle.do_lost.specs.Text.{leak_line, leak_told, leaks_text, lost_text, quiet_line}
-use Rattle.do_machine.specs.State.{class_of}
-use Rattle.do_machine.specs.check.Snapshot.{snapshot}
-use Rattle.do_machine.specs.declared.state.State.{State}
+use Rattle.do_machine.specs.{State.class_of, check.Snapshot.snapshot, declared.state.State.State}
 use Rattle.do_machine.specs.run.Run.{Acting}
 use Rattle.do_net.specs.OneMachine.{StandsFor}
 use Rattle.do_network.specs.Net.{Net}

@@ -4,8 +4,7 @@ use Rattle.std.specs.Prelude.{true, ◌≡◌, ℕ}
 use Rattle.do_base.specs.names.Names.{ObjectName}
 use Rattle.do_class.specs.Class.{Class}
 use Rattle.do_coder.specs.declared.recent.pair.Pair.{Pair}
-use Rattle.do_frames.specs.declared.frame.Frame.{Frame}
-use Rattle.do_frames.specs.Frames.{after_frame}
+use Rattle.do_frames.specs.{declared.frame.Frame.Frame, Frames.after_frame}
 use Rattle.do_net_named.specs.Waiting.{lane_names}
 use Rattle.do_network.specs.Net.{Carried}
 

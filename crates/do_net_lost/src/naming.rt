@@ -1,14 +1,11 @@
 //! What a network names.
-ghost use Rattle.std.specs.Prelude.{◌≡◌, ◌||◌, IfOk, OnOk};
-ghost use Rattle.std.specs.List.{flat_map};
+ghost use Rattle.std.specs.{Prelude.{◌≡◌, ◌||◌, IfOk, OnOk}, List.flat_map};
 ghost use Rattle.do_base.specs.names.Names.{ObjectName};
 ghost use Rattle.do_lost.specs.Named.{named};
 ghost use Rattle.do_machine.specs.declared.state.State.{State};
-ghost use Rattle.do_net.specs.Net.{Stands, network};
-ghost use Rattle.do_net.specs.OneMachine.{StandsFor};
+ghost use Rattle.do_net.specs.{Net.{Stands, network}, OneMachine.StandsFor};
 ghost use Rattle.do_net_named.specs.Named.{net_named, part_names};
-ghost use Rattle.do_network.specs.Net.{part_at};
-ghost use Rattle.do_network.specs.Snapshot.{net_snapshot};
+ghost use Rattle.do_network.specs.{Net.part_at, Snapshot.net_snapshot};
 ghost use Rattle.do_packet.specs.Met.{has_object};
 
 use crate::told::push_told;

@@ -1,6 +1,5 @@
 //! Whether anything is under way in a network.
-ghost use Rattle.std.specs.Prelude.{◌≡◌, IfOk};
-ghost use Rattle.std.specs.List.{list_all};
+ghost use Rattle.std.specs.{Prelude.{◌≡◌, IfOk}, List.list_all};
 ghost use Rattle.do_machine.specs.World.{others};
 ghost use Rattle.do_net.specs.Net.{network};
 ghost use Rattle.do_net_named.specs.Lost.{is_still, is_still_from, net_still};

@@ -4,11 +4,9 @@ ghost use Rattle.do_leaks.specs.Leaks.{leaks};
 ghost use Rattle.do_lines.specs.Lines.{joined};
 ghost use Rattle.do_lost.specs.Text.{leak_line, lost_text};
 ghost use Rattle.do_machine.specs.declared.state.State.{State};
-ghost use Rattle.do_net.specs.Net.{Stands, network};
-ghost use Rattle.do_net.specs.OneMachine.{StandsFor};
+ghost use Rattle.do_net.specs.{Net.{Stands, network}, OneMachine.StandsFor};
 ghost use Rattle.do_net_lost.specs.Text.{net_lost_text};
-ghost use Rattle.do_net_named.specs.Lost.{net_class};
-ghost use Rattle.do_net_named.specs.Named.{net_named};
+ghost use Rattle.do_net_named.specs.{Lost.net_class, Named.net_named};
 ghost use Rattle.do_network.specs.Snapshot.{net_snapshot};
 
 use crate::naming::named;

@@ -1,6 +1,5 @@
 //! What ends that closed tell of: their bytes name nothing, but a node counts what it sent there.
-ghost use Rattle.std.specs.Prelude.{◌≡◌, ◌++◌, OnOk};
-ghost use Rattle.std.specs.List.{flat_map};
+ghost use Rattle.std.specs.{Prelude.{◌≡◌, ◌++◌, OnOk}, List.flat_map};
 ghost use Rattle.do_net.specs.Net.{network};
 ghost use Rattle.do_net_named.specs.Named.{told_in};
 

@@ -1,10 +1,8 @@
 //! The objects that items on their way between the nodes of a network name.
 ghost use Rattle.std.specs.Prelude.{◌≡◌, ◌++◌, ◌∷◌, ℕ, IfOk, List, OnOk, false, length};
 ghost use Rattle.std.specs.List.{flat_map};
-ghost use Rattle.do_machine.specs.World.{others};
-ghost use Rattle.do_machine.specs.run.Run.{Acting};
-ghost use Rattle.do_net.specs.Lanes.{carried_of};
-ghost use Rattle.do_net.specs.Net.{Stands, network};
+ghost use Rattle.do_machine.specs.{World.others, run.Run.Acting};
+ghost use Rattle.do_net.specs.{Lanes.carried_of, Net.{Stands, network}};
 ghost use Rattle.do_net_lost.specs.Read.{left_names};
 ghost use Rattle.do_net_named.specs.Waiting.{lane_names, names_by, way_names};
 ghost use Rattle.do_network.specs.Net.{Carried};

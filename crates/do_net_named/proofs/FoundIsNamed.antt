@@ -1,32 +1,22 @@
 -- What is found by what nodes and queues tell is named in the state.
+use Rattle.do_machine.specs.declared.item.Item.TheVariants as items
 use Rattle.std.proofs.Common.{◌≡◌, ◌∙◌, ◌++◌, ℕ, Bool, true, false, List, [], ◌∷◌, map, Option}
-use Rattle.std.proofs.Common.{Some, None, refl, sym, ap, subst, inl, inr}
-use Rattle.std.specs.Prelude.{not}
-use Rattle.std.specs.List.{filter, flat_map, list_any}
-use Rattle.std.proofs.lemmas.Bool.{and_parts}
+use Rattle.std.{proofs.Common.{Some, None, refl, sym, ap, subst, inl, inr}, specs.Prelude.not}
+use Rattle.std.{specs.List.{filter, flat_map, list_any}, proofs.lemmas.Bool.and_parts}
 use Rattle.do_base.specs.names.Names.{ObjectName}
 use Rattle.do_cycles.proofs.Among.{item_named, node_named}
 use Rattle.do_cycles.proofs.InLists.{any_passes, images_in, joined_in, named_by_any}
 use Rattle.do_leaks.proofs.Named.{in_either, same_is}
 use Rattle.do_lost.specs.Named.{item_names, named, serves}
-use Rattle.do_machine.specs.Entry.{has_entry, is_holder}
-use Rattle.do_machine.specs.Lists.{IsIn, some_passes}
-use Rattle.do_machine.specs.State.{holds, is_open, node, own, ports, queue}
-use Rattle.do_machine.specs.World.{others}
+use Rattle.do_machine.specs.{Entry.{has_entry, is_holder}, Lists.{IsIn, some_passes}}
+use Rattle.do_machine.specs.{State.{holds, is_open, node, own, ports, queue}, World.others}
 use Rattle.do_machine.specs.check.Snapshot.{entries_for, entry_of, node_line, own_objects, snapshot}
-use Rattle.do_machine.specs.declared.item.Item.{Item}
-use Rattle.do_machine.specs.declared.item.Item.TheVariants as items
-use Rattle.do_machine.specs.declared.node.Node.{Node}
-use Rattle.do_machine.specs.declared.node.Stored.{Stored}
-use Rattle.do_machine.specs.declared.state.State.{State}
-use Rattle.do_machine.specs.declared.state.Station.{Station}
-use Rattle.do_machine.proofs.Bools.{or_cases}
+use Rattle.do_machine.specs.declared.{item.Item.Item, node.{Node.Node, Stored.Stored}}
+use Rattle.do_machine.{specs.declared.state.{State.State, Station.Station}, proofs.Bools.or_cases}
 use Rattle.do_packet.specs.Met.{has_object, same_object}
-use Rattle.do_trace.specs.declared.outcome.Entry.{Entry}
-use Rattle.do_trace.specs.declared.outcome.NodeLine.{NodeLine}
-use Rattle.do_net_named.proofs.StandAlone.{chosen_in}
-use Rattle.do_net_named.proofs.StateNamed.{between_names, items_names, names_at, state_named}
-use Rattle.do_net_named.proofs.StateNamed.{told_at}
+use Rattle.do_trace.specs.declared.outcome.{Entry.Entry, NodeLine.NodeLine}
+use Rattle.do_net_named.proofs.{StandAlone.chosen_in, StateNamed.{between_names, items_names}}
+use Rattle.do_net_named.proofs.StateNamed.{names_at, state_named, told_at}
 use Rattle.do_cycles.proofs.EntriesNamed.{entry_held_or_named}
 
 -- an element that passes is in the list

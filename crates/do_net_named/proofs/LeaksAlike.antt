@@ -1,16 +1,11 @@
 -- The leaks are the same wherever what is named is.
-use Rattle.std.proofs.Common.{◌≡◌, ◌∙◌, true, List, ap, sym}
-use Rattle.std.specs.Prelude.{◌≡◌}
-use Rattle.std.specs.List.{flat_map}
+use Rattle.std.{proofs.Common.{◌≡◌, ◌∙◌, true, List, ap, sym}, specs.{Prelude.◌≡◌, List.flat_map}}
 use mathlib.Core.Path.{fun_ext}
 use Rattle.do_base.specs.names.Names.{ObjectName}
-use Rattle.do_leaks.specs.Heap.{heap_of}
-use Rattle.do_leaks.specs.Leaks.{leak_of, leaks}
-use Rattle.do_leaks.specs.Reach.{reach}
+use Rattle.do_leaks.specs.{Heap.heap_of, Leaks.{leak_of, leaks}, Reach.reach}
 use Rattle.do_leaks.proofs.Reaching.{reach_least}
 use Rattle.do_packet.specs.Met.{has_object}
-use Rattle.do_trace.specs.declared.outcome.ObjLine.{ObjLine}
-use Rattle.do_trace.specs.declared.outcome.Snapshot.{Snapshot}
+use Rattle.do_trace.specs.declared.outcome.{ObjLine.ObjLine, Snapshot.Snapshot}
 use Rattle.do_net_named.proofs.NamedAlike.{both_true}
 
 module _ (heap : List ObjLine) where

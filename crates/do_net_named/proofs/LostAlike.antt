@@ -1,49 +1,28 @@
 -- A network is still where the state is with which it agrees, and has the classes of what is lost.
 use Rattle.std.proofs.Common.{◌≡◌, ◌==◌, ◌∙◌, ◌&&◌, ℕ, Bool, true, false, cond, List, [], ◌∷◌}
 use Rattle.std.proofs.Common.{length, map, Option, Some, None, refl, sym, ap, subst, inl, inr}
-use Rattle.std.proofs.Common.{arith}
-use Rattle.std.specs.Prelude.{if◌then◌else◌, not, option_and_then, option_map}
-use Rattle.std.specs.List.{AllByRecursion, IsDistinct, list_all, list_any}
-use Rattle.std.proofs.lemmas.Bool.Decides.{nat_tests}
-use Rattle.std.proofs.lemmas.List.{length-map}
-use Rattle.std.proofs.lemmas.List.Elements.{recursion_from_All}
-use Rattle.std.proofs.lemmas.List.Folds.{list_all-map}
+use Rattle.std.{proofs.Common.arith, specs.Prelude.{if◌then◌else◌, not, option_and_then}}
+use Rattle.std.specs.{Prelude.option_map, List.{AllByRecursion, IsDistinct, list_all, list_any}}
+use Rattle.std.proofs.lemmas.{Bool.Decides.nat_tests, List.length-map}
+use Rattle.std.proofs.lemmas.List.{Elements.recursion_from_All, Folds.list_all-map}
 use Rattle.do_base.specs.names.Names.{ObjectName}
 use Rattle.do_class.specs.Class.{Class}
-use Rattle.do_agreement.specs.Agrees.{Agrees}
-use Rattle.do_agreement.proofs.losses.LossFits.{carried_length}
-use Rattle.do_agreement.proofs.told.ClassesKept.{seen_right}
-use Rattle.do_agreement.proofs.told.EachState.{AllKept}
+use Rattle.do_agreement.{specs.Agrees.Agrees, proofs.losses.LossFits.carried_length}
+use Rattle.do_agreement.proofs.told.{ClassesKept.seen_right, EachState.AllKept}
 use Rattle.do_cycles.proofs.Among.{listed_stored}
-use Rattle.do_leaks.specs.Heap.{heap_of}
-use Rattle.do_leaks.specs.Laws.{AreLost}
-use Rattle.do_leaks.specs.Leaks.{leaks}
-use Rattle.do_leaks.specs.declared.leak.Leak.{Leak}
-use Rattle.do_leaks.proofs.Lost.{each_lost}
-use Rattle.do_leaks.proofs.Named.{same_is}
+use Rattle.do_leaks.specs.{Heap.heap_of, Laws.AreLost, Leaks.leaks, declared.leak.Leak.Leak}
+use Rattle.do_leaks.proofs.{Lost.each_lost, Named.same_is}
 use Rattle.do_lost.specs.Named.{is_idle, quiet}
-use Rattle.do_machine.specs.Context.{context, own_class}
-use Rattle.do_machine.specs.Lists.{IsIn}
-use Rattle.do_machine.specs.State.{class_of, node, own, ports, queue, stored}
-use Rattle.do_machine.specs.World.{others}
-use Rattle.do_machine.specs.check.Snapshot.{snapshot}
-use Rattle.do_machine.specs.declared.item.Item.{Item}
-use Rattle.do_machine.specs.declared.node.Node.{Node}
-use Rattle.do_machine.specs.declared.node.Stored.{Stored}
-use Rattle.do_machine.specs.declared.state.Queue.{Queue}
-use Rattle.do_machine.specs.declared.state.State.{State}
-use Rattle.do_machine.specs.declared.state.Station.{Station}
-use Rattle.do_network.specs.Links.{Part}
-use Rattle.do_network.specs.Net.{Net, channel, net_ports, part_at}
-use Rattle.do_network.specs.fits.Notes.{Note}
+use Rattle.do_machine.specs.{Context.{context, own_class}, Lists.IsIn, State.{class_of, node, own}}
+use Rattle.do_machine.specs.{State.{ports, queue, stored}, World.others, check.Snapshot.snapshot}
+use Rattle.do_machine.specs.declared.{item.Item.Item, node.{Node.Node, Stored.Stored}}
+use Rattle.do_machine.specs.declared.state.{Queue.Queue, State.State, Station.Station}
+use Rattle.do_network.specs.{Links.Part, Net.{Net, channel, net_ports, part_at}, fits.Notes.Note}
 use Rattle.do_packet.specs.Met.{same_object}
 use Rattle.do_trace.specs.declared.outcome.ObjLine.{ObjLine}
 use Rattle.do_net_named.specs.Lost.{HasClassesOf, is_still, net_class, net_still}
-use Rattle.do_net_named.proofs.NetAsState.{sited}
-use Rattle.do_net_named.proofs.QueuesStand.{QueuesStand}
-use Rattle.do_net_named.proofs.StandAlone.{chosen_in}
-use Rattle.do_net_named.proofs.StationsFound.{node_found, queue_found}
-use Rattle.do_net_named.proofs.FoundIsNamed.{passing_in}
+use Rattle.do_net_named.proofs.{NetAsState.sited, QueuesStand.QueuesStand, StandAlone.chosen_in}
+use Rattle.do_net_named.proofs.{StationsFound.{node_found, queue_found}, FoundIsNamed.passing_in}
 
 -- tests that agree at each element of a list pass alike
 all_alike : {X : Type 0} (f g : X → Bool) (xs : List X) → ((x : X) → IsIn xs x → f x ≡ g x) →

@@ -1,39 +1,28 @@
 -- What a state names is what its nodes, its queues and the ends that closed tell of name.
+use Rattle.do_machine.specs.declared.item.Item.TheVariants as items
 use Rattle.std.proofs.Common.{◌≡◌, ◌==◌, ◌∙◌, ◌++◌, ◌&&◌, ◌||◌, ◌⊎◌, ℕ, Bool, true, false, List, []}
 use Rattle.std.proofs.Common.{◌∷◌, map, Option, Some, None, refl, sym, ap, subst, inl, inr}
-use Rattle.std.specs.Prelude.{is_some, not}
-use Rattle.std.specs.List.{IsDistinct, filter, flat_map, list_any}
+use Rattle.std.specs.{Prelude.{is_some, not}, List.{IsDistinct, filter, flat_map, list_any}}
 use Rattle.std.proofs.lemmas.Bool.{and_parts, eqb-true}
 use Rattle.do_base.specs.names.Names.{ObjectName}
-use Rattle.do_cycles.proofs.Among.{station_of}
-use Rattle.do_cycles.proofs.InLists.{any_passes, found_in, images_in, in_images, in_joined}
-use Rattle.do_cycles.proofs.InLists.{named_by_any}
+use Rattle.do_cycles.proofs.{Among.station_of, InLists.{any_passes, found_in, images_in, in_images}}
+use Rattle.do_cycles.proofs.InLists.{in_joined, named_by_any}
 use Rattle.do_facts.specs.Made.{EnteredAreStored}
 use Rattle.do_leaks.proofs.Named.{in_either, in_left, in_right, same_is, same_self}
 use Rattle.do_lost.specs.Named.{item_names, named, node_names, queue_names, serves, station_names}
 use Rattle.do_machine.specs.Entry.{has_entry, is_holder, is_on_its_way_back, is_reached}
-use Rattle.do_machine.specs.Entry.{is_under_way}
-use Rattle.do_machine.specs.Items.{Released, is_released, named_as, naming, released}
-use Rattle.do_machine.specs.Lists.{IsIn, some_passes}
-use Rattle.do_machine.specs.Objects.{object_at}
-use Rattle.do_machine.specs.State.{is_open, node, own, ports, queue, stored}
-use Rattle.do_machine.specs.World.{others}
+use Rattle.do_machine.specs.{Entry.is_under_way, Items.{Released, is_released, named_as, naming}}
+use Rattle.do_machine.specs.{Items.released, Lists.{IsIn, some_passes}, Objects.object_at}
+use Rattle.do_machine.specs.{State.{is_open, node, own, ports, queue, stored}, World.others}
 use Rattle.do_machine.specs.check.Snapshot.{entries_for, entry_of, node_line, own_objects, snapshot}
-use Rattle.do_machine.specs.declared.item.Item.{Item}
-use Rattle.do_machine.specs.declared.item.Item.TheVariants as items
-use Rattle.do_machine.specs.declared.node.Node.{Node}
-use Rattle.do_machine.specs.declared.node.Stored.{Stored}
-use Rattle.do_machine.specs.declared.state.Queue.{Queue}
-use Rattle.do_machine.specs.declared.state.State.{State}
-use Rattle.do_machine.specs.declared.state.Station.{Station}
+use Rattle.do_machine.specs.declared.{item.Item.Item, node.{Node.Node, Stored.Stored}}
+use Rattle.do_machine.specs.declared.state.{Queue.Queue, State.State, Station.Station}
 use Rattle.do_machine.proofs.Bools.{or_right}
 use Rattle.do_packet.specs.Met.{has_object, same_object}
 use Rattle.do_trace.specs.declared.outcome.Entry.{Entry}
-use Rattle.do_net_named.proofs.QueuesStand.{QueuesStand}
-use Rattle.do_net_named.proofs.StandAlone.{in_chosen}
-use Rattle.do_net_named.proofs.StationsFound.{node_found, queue_found}
-use Rattle.do_net_named.proofs.StateNamed.{between_names, items_names, names_at, state_named}
-use Rattle.do_net_named.proofs.StateNamed.{told_at}
+use Rattle.do_net_named.proofs.{QueuesStand.QueuesStand, StandAlone.in_chosen}
+use Rattle.do_net_named.proofs.{StationsFound.{node_found, queue_found}, StateNamed.between_names}
+use Rattle.do_net_named.proofs.StateNamed.{items_names, names_at, state_named, told_at}
 use Rattle.do_net_named.proofs.FoundIsNamed.{among_all, at_nodes, between, found_is_named}
 use Rattle.do_net_named.proofs.FoundIsNamed.{passing_in, told}
 

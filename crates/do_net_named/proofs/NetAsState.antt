@@ -1,43 +1,31 @@
 -- A network names what the state names with which it agrees.
-use Rattle.std.proofs.Common.{◌≡◌, ◌==◌, ◌∙◌, ◌++◌, ◌+◌, ℕ, Bool, true, false, cond, List, []}
-use Rattle.std.proofs.Common.{◌∷◌, map, Option, Some, None, refl, sym, ap, subst, inl, inr, arith}
-use Rattle.std.specs.Prelude.{find, not, option_map}
-use Rattle.std.specs.List.{IsDistinct, filter, flat_map, list_any}
-use Rattle.std.proofs.lemmas.Bool.Decides.{nat_tests}
+use Rattle.do_machine.specs.declared.item.Item.TheVariants as items
+use Rattle.std.proofs.Common.{◌≡◌, ◌==◌, ◌∙◌, ◌++◌, ◌+◌, ℕ, Bool, true, false, cond, List, [], ◌∷◌}
+use Rattle.std.proofs.Common.{map, Option, Some, None, refl, sym, ap, subst, inl, inr, arith}
+use Rattle.std.specs.{Prelude.{find, not, option_map}, List.{IsDistinct, filter, flat_map}}
+use Rattle.std.{specs.List.list_any, proofs.lemmas.Bool.Decides.nat_tests}
 use mathlib.Core.Path.{fun_ext}
 use Rattle.do_base.specs.names.Names.{ObjectName}
-use Rattle.do_class.specs.Class.{Class}
-use Rattle.do_class.specs.Table.{IsTable}
-use Rattle.do_agreement.specs.Agrees.{Agrees}
-use Rattle.do_agreement.proofs.agreement.SnapshotsAgree.{snapshots_same}
+use Rattle.do_class.specs.{Class.Class, Table.IsTable}
+use Rattle.do_agreement.{specs.Agrees.Agrees, proofs.agreement.SnapshotsAgree.snapshots_same}
 use Rattle.do_cycles.proofs.InLists.{any_passes, images_in, joined_alike}
 use Rattle.do_facts.specs.Made.{EnteredAreStored}
 use Rattle.do_leaks.proofs.Named.{same_is}
 use Rattle.do_lost.specs.Named.{named, serves}
-use Rattle.do_machine.specs.Lists.{IsIn, some_passes}
-use Rattle.do_machine.specs.Objects.{object_at}
-use Rattle.do_machine.specs.State.{is_open, node, ports, queue}
-use Rattle.do_machine.specs.World.{others}
-use Rattle.do_machine.specs.check.Snapshot.{snapshot}
-use Rattle.do_machine.specs.declared.item.Item.{Item}
-use Rattle.do_machine.specs.declared.item.Item.TheVariants as items
-use Rattle.do_machine.specs.declared.node.Node.{Node}
-use Rattle.do_machine.specs.declared.state.State.{State}
+use Rattle.do_machine.specs.{Lists.{IsIn, some_passes}, Objects.object_at, State.{is_open, node}}
+use Rattle.do_machine.specs.{State.{ports, queue}, World.others, check.Snapshot.snapshot}
+use Rattle.do_machine.specs.declared.{item.Item.Item, node.Node.Node, state.State.State}
 use Rattle.do_net.specs.Hosts.{net_is_open}
-use Rattle.do_network.specs.Links.{Part}
-use Rattle.do_network.specs.Net.{Channel, Net, Place, channel, net_ports, part_at}
+use Rattle.do_network.specs.{Links.Part, Net.{Channel, Net, Place, channel, net_ports, part_at}}
 use Rattle.do_network.specs.Snapshot.{net_snapshot}
 use Rattle.do_network.specs.fits.Notes.{Note, is_told, once, tells_of, total}
 use Rattle.do_packet.specs.Met.{has_object, same_object}
 use Rattle.do_trace.specs.declared.outcome.NodeLine.{NodeLine}
-use Rattle.do_net_named.specs.Named.{net_named, part_names, told_in}
-use Rattle.do_net_named.specs.Waiting.{way_names}
-use Rattle.do_net_named.proofs.NamedAlike.{EndsAreSilent, named_alike}
-use Rattle.do_net_named.proofs.QueuesStand.{QueuesStand}
+use Rattle.do_net_named.specs.{Named.{net_named, part_names, told_in}, Waiting.way_names}
+use Rattle.do_net_named.proofs.{NamedAlike.{EndsAreSilent, named_alike}, QueuesStand.QueuesStand}
 use Rattle.do_net_named.proofs.StandAlone.{chosen_in}
 use Rattle.do_net_named.proofs.StateNamed.{between_names, names_at, state_named, told_at}
-use Rattle.do_net_named.proofs.WaysAsQueues.{way_named}
-use Rattle.do_net_named.proofs.FoundIsNamed.{passing_in}
+use Rattle.do_net_named.proofs.{WaysAsQueues.way_named, FoundIsNamed.passing_in}
 
 -- each port of a network has a site
 pub sited : (N : Net) (port : ℕ) → IsIn (net_ports N) port → (p : Part) × (part_at N port ≡ Some p)

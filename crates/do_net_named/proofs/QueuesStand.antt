@@ -1,31 +1,19 @@
 -- In every state that a machine comes to, each node has one queue to each other node.
-use Rattle.std.proofs.Common.{◌≡◌, ◌==◌, ◌∙◌, ℕ, Bool, true, false, cond, List, [], ◌∷◌, map}
-use Rattle.std.proofs.Common.{refl, sym, ap, subst, arith}
-use Rattle.std.specs.List.{IsDistinct}
-use Rattle.std.proofs.lemmas.Bool.Decides.{Decides-eqb}
-use Rattle.std.proofs.lemmas.List.Kept.{AllPairs-from_increasing}
+use Rattle.std.proofs.Common.{◌≡◌, ◌==◌, ◌∙◌, ℕ, Bool, true, false, cond, List, [], ◌∷◌, map, refl}
+use Rattle.std.{proofs.Common.{sym, ap, subst, arith}, specs.List.IsDistinct}
+use Rattle.std.proofs.lemmas.{Bool.Decides.Decides-eqb, List.Kept.AllPairs-from_increasing}
 use Rattle.std.proofs.lemmas.Map.Made.{IsDistinct-from_AllPairs}
 use Rattle.do_base.specs.declared.events.event.Event.{Event}
 use Rattle.do_class.specs.Class.{Class}
 use Rattle.do_cycles.proofs.InLists.{images_in, in_images}
-use Rattle.do_facts.proofs.ReachedStates.{holds_of_reached}
-use Rattle.do_facts.proofs.machine.follows.Moves.{Moves}
-use Rattle.do_facts.proofs.machine.follows.Steps.{by_any_step}
-use Rattle.do_facts.specs.Reached.{reached}
-use Rattle.do_machine.specs.Commit.{committed, with_sent}
-use Rattle.do_machine.specs.Lists.{IsIn, change_first}
-use Rattle.do_machine.specs.State.{ports, with_items, with_queue}
-use Rattle.do_machine.specs.Step.{step}
-use Rattle.do_machine.proofs.Inserting.{by_port_rises}
-use Rattle.do_machine.specs.World.{IsWorld, by_port, opening, opening_station, others}
-use Rattle.do_machine.specs.declared.item.Item.{Item}
-use Rattle.do_machine.specs.declared.node.Node.{Node}
-use Rattle.do_machine.specs.declared.state.Queue.{Queue}
-use Rattle.do_machine.specs.declared.state.Seat.{Seat}
-use Rattle.do_machine.specs.declared.state.State.{State}
-use Rattle.do_machine.specs.declared.state.Station.{Station}
-use Rattle.do_machine.specs.declared.state.Effect.{Effect}
-use Rattle.do_machine.specs.run.Run.{Acting}
+use Rattle.do_facts.proofs.{ReachedStates.holds_of_reached, machine.follows.Moves.Moves}
+use Rattle.do_facts.{proofs.machine.follows.Steps.by_any_step, specs.Reached.reached}
+use Rattle.do_machine.specs.{Commit.{committed, with_sent}, Lists.{IsIn, change_first}}
+use Rattle.do_machine.specs.{State.{ports, with_items, with_queue}, Step.step}
+use Rattle.do_machine.{proofs.Inserting.by_port_rises, specs.World.{IsWorld, by_port, opening}}
+use Rattle.do_machine.specs.{World.{opening_station, others}, declared.item.Item.Item}
+use Rattle.do_machine.specs.declared.{node.Node.Node, state.{Queue.Queue, Seat.Seat, State.State}}
+use Rattle.do_machine.specs.{declared.state.{Station.Station, Effect.Effect}, run.Run.Acting}
 
 -- the peers to which a station has queues, in their order
 abbrev pub peers_of : Station → List ℕ

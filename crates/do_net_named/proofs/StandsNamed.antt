@@ -1,29 +1,21 @@
 -- A network that stands for a state names what the state names, so a search in it finds the same.
 use Rattle.std.proofs.Common.{◌≡◌, ◌==◌, ◌∙◌, ℕ, List, ap, subst, sym}
 use Rattle.std.specs.List.{AllByRecursion, IsDistinct}
-use Rattle.do_base.specs.names.Names.{ObjectName}
-use Rattle.do_base.specs.declared.events.event.Event.{Event}
+use Rattle.do_base.specs.{names.Names.ObjectName, declared.events.event.Event.Event}
 use Rattle.do_class.specs.Class.{Class}
 use Rattle.do_agreement.proofs.agreement.SnapshotsAgree.{snapshots_same}
 use Rattle.do_agreement.proofs.told.EachState.{AllKept, reached_all}
-use Rattle.do_facts.specs.Made.{EnteredAreStored}
-use Rattle.do_facts.specs.Reached.{reached}
+use Rattle.do_facts.specs.{Made.EnteredAreStored, Reached.reached}
 use Rattle.do_facts.proofs.links.EntriesStored.{entered_stored, reached_entries}
 use Rattle.do_lost.specs.Named.{named, quiet}
 use Rattle.do_leaks.specs.Leaks.{leaks}
-use Rattle.do_machine.specs.State.{ports}
-use Rattle.do_machine.specs.check.Snapshot.{snapshot}
-use Rattle.do_machine.specs.declared.state.Seat.{Seat}
-use Rattle.do_machine.specs.declared.state.State.{State}
-use Rattle.do_machine.specs.run.Run.{Acting}
+use Rattle.do_machine.specs.{State.ports, check.Snapshot.snapshot, declared.state.Seat.Seat}
+use Rattle.do_machine.specs.{declared.state.State.State, run.Run.Acting}
 use Rattle.do_net.specs.OneMachine.{StandsFor}
-use Rattle.do_network.specs.Net.{Net}
-use Rattle.do_network.specs.Snapshot.{net_snapshot}
+use Rattle.do_network.specs.{Net.Net, Snapshot.net_snapshot}
 use Rattle.do_packet.specs.Met.{has_object}
-use Rattle.do_net_named.specs.Lost.{HasClassesOf, net_still}
-use Rattle.do_net_named.specs.Named.{net_named}
-use Rattle.do_net_named.proofs.LeaksAlike.{leaks_alike}
-use Rattle.do_net_named.proofs.LostAlike.{classes_same, still_so}
+use Rattle.do_net_named.specs.{Lost.{HasClassesOf, net_still}, Named.net_named}
+use Rattle.do_net_named.proofs.{LeaksAlike.leaks_alike, LostAlike.{classes_same, still_so}}
 use Rattle.do_net_named.proofs.NetAsState.{net_named_same}
 use Rattle.do_net_named.proofs.QueuesStand.{QueuesStand, reached_differ, reached_queues}
 

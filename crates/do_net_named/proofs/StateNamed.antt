@@ -3,12 +3,8 @@ use Rattle.std.specs.Prelude.{List, None, Option, Some, [], false, filter, map, 
 use Rattle.std.specs.List.{flat_map}
 use Rattle.do_base.specs.names.Names.{ObjectName}
 use Rattle.do_lost.specs.Named.{item_names, node_names, serves}
-use Rattle.do_machine.specs.State.{node, ports, queue}
-use Rattle.do_machine.specs.World.{others}
-use Rattle.do_machine.specs.check.Snapshot.{snapshot}
-use Rattle.do_machine.specs.declared.item.Item.{Item}
-use Rattle.do_machine.specs.declared.node.Node.{Node}
-use Rattle.do_machine.specs.declared.state.State.{State}
+use Rattle.do_machine.specs.{State.{node, ports, queue}, World.others, check.Snapshot.snapshot}
+use Rattle.do_machine.specs.declared.{item.Item.Item, node.Node.Node, state.State.State}
 use Rattle.do_trace.specs.declared.outcome.NodeLine.{NodeLine}
 
 -- what a node names, if there is one

@@ -1,15 +1,10 @@
 -- The stations of a state are found at their ports, and their queues at their peers.
 use Rattle.std.proofs.Common.{◌≡◌, ◌==◌, ◌∙◌, ℕ, Some, sym, ap, subst}
-use Rattle.std.specs.Prelude.{find, not, option_and_then, option_map}
-use Rattle.std.specs.List.{IsDistinct}
+use Rattle.std.specs.{Prelude.{find, not, option_and_then, option_map}, List.IsDistinct}
 use Rattle.do_agreement.proofs.agreement.SnapshotsAgree.{all_found}
-use Rattle.do_machine.specs.Lists.{IsIn}
-use Rattle.do_machine.specs.State.{node, ports, queue, queue_to, station}
-use Rattle.do_machine.specs.declared.state.Queue.{Queue}
-use Rattle.do_machine.specs.declared.state.State.{State}
-use Rattle.do_machine.specs.declared.state.Station.{Station}
-use Rattle.do_net_named.proofs.QueuesStand.{QueuesStand}
-use Rattle.do_net_named.proofs.StandAlone.{chosen_distinct, each_in}
+use Rattle.do_machine.specs.{Lists.IsIn, State.{node, ports, queue, queue_to, station}}
+use Rattle.do_machine.specs.declared.state.{Queue.Queue, State.State, Station.Station}
+use Rattle.do_net_named.proofs.{QueuesStand.QueuesStand, StandAlone.{chosen_distinct, each_in}}
 
 module _ (S : State) (distinct : IsDistinct (λ (p q : ℕ). p == q) (ports S)) (s : Station)
     (i : IsIn S.stations s) where

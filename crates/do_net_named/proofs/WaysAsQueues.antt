@@ -1,30 +1,21 @@
 -- What is under way in a network names what the items name that wait in the machine's queues.
+use Rattle.do_machine.specs.declared.item.Item.TheVariants as items
 use Rattle.std.proofs.Common.{◌≡◌, ◌==◌, ◌∙◌, ◌++◌, ℕ, Bool, true, false, cond, List, [], ◌∷◌, map}
 use Rattle.std.proofs.Common.{Result, Ok, Err, Option, Some, None, length, refl, sym, ap}
-use Rattle.std.specs.Prelude.{option_map, unwrap_or}
-use Rattle.std.specs.List.{AllByRecursion, flat_map}
+use Rattle.std.specs.{Prelude.{option_map, unwrap_or}, List.{AllByRecursion, flat_map}}
 use Rattle.do_base.specs.names.Names.{ObjectName}
-use Rattle.do_class.specs.Class.{Class}
-use Rattle.do_class.specs.Table.{IsTable}
-use Rattle.do_coder.specs.declared.recent.pair.Pair.{Pair}
-use Rattle.do_coder.specs.Packets.{surroundings}
+use Rattle.do_class.specs.{Class.Class, Table.IsTable}
+use Rattle.do_coder.specs.{declared.recent.pair.Pair.Pair, Packets.surroundings}
 use Rattle.do_coder.specs.Recent.{IsKnown, IsRecent}
-use Rattle.do_frames.specs.declared.frame.Frame.{Frame}
-use Rattle.do_frames.specs.Frames.{IsFrame, after_frame, raw}
+use Rattle.do_frames.specs.{declared.frame.Frame.Frame, Frames.{IsFrame, after_frame, raw}}
 use Rattle.do_frames.proofs.payloads.WholePayload.{frame_known}
-use Rattle.do_agreement.specs.Agrees.{Agrees}
-use Rattle.do_agreement.specs.CountsFit.{ChannelCarries}
-use Rattle.do_agreement.proofs.agreement.AgreesFits.{queue_is}
-use Rattle.do_agreement.proofs.channels.FirstTaken.{frame_recent}
+use Rattle.do_agreement.specs.{Agrees.Agrees, CountsFit.ChannelCarries}
+use Rattle.do_agreement.proofs.{agreement.AgreesFits.queue_is, channels.FirstTaken.frame_recent}
 use Rattle.do_lost.specs.Named.{item_names}
-use Rattle.do_machine.specs.declared.item.Item.{Item}
-use Rattle.do_machine.specs.declared.item.Item.TheVariants as items
-use Rattle.do_machine.specs.declared.state.State.{State}
-use Rattle.do_network.specs.Frames.{frame_of, item_of}
-use Rattle.do_network.specs.Links.{Link, Part, names_read}
+use Rattle.do_machine.specs.declared.{item.Item.Item, state.State.State}
+use Rattle.do_network.specs.{Frames.{frame_of, item_of}, Links.{Link, Part, names_read}}
 use Rattle.do_network.specs.Net.{Lost, Net, Whole, part_at}
-use Rattle.do_network.specs.fits.Notes.{Note, carried, note_frame}
-use Rattle.do_network.proofs.FramesRead.{read_back}
+use Rattle.do_network.{specs.fits.Notes.{Note, carried, note_frame}, proofs.FramesRead.read_back}
 use Rattle.do_net_named.specs.Waiting.{channel_names, items_in, lane_names, names_by, way_names}
 use Rattle.do_net_named.proofs.StateNamed.{between_names, items_names}
 

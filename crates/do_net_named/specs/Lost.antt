@@ -1,14 +1,10 @@
 -- What is told beside what nothing can reach in a network: classes, and whether all is still.
-use Rattle.std.specs.Prelude.{Bool, List, None, Option, Some, length, option_and_then}
-use Rattle.std.specs.Prelude.{true, ℕ, ◌==◌}
-use Rattle.std.specs.Prelude.{◌≡◌}
-use Rattle.std.specs.List.{list_all}
+use Rattle.std.specs.Prelude.{Bool, List, None, Option, Some, length, option_and_then, true, ℕ}
+use Rattle.std.specs.{Prelude.{◌==◌, ◌≡◌}, List.list_all}
 use Rattle.do_base.specs.names.Names.{ObjectName}
 use Rattle.do_class.specs.declared.ids.ClassId.{ClassId}
 use Rattle.do_leaks.specs.declared.leak.Leak.{Leak}
-use Rattle.do_machine.specs.Context.{own_class}
-use Rattle.do_machine.specs.State.{class_of}
-use Rattle.do_machine.specs.World.{others}
+use Rattle.do_machine.specs.{Context.own_class, State.class_of, World.others}
 use Rattle.do_machine.specs.declared.state.State.{State}
 use Rattle.do_network.specs.Net.{Channel, Net, channel, net_ports, part_at}
 

@@ -1,14 +1,11 @@
 -- The objects that a network names beside the slots of stored objects.
-use Rattle.std.specs.Prelude.{List, None, Option, Some, [], filter, map, not, ◌++◌}
-use Rattle.std.specs.List.{flat_map}
+use Rattle.std.specs.{Prelude.{List, None, Option, Some, [], filter, map, not, ◌++◌}, List.flat_map}
 use Rattle.do_base.specs.names.Names.{ObjectName}
 use Rattle.do_class.specs.Class.{Class}
 use Rattle.do_lost.specs.Named.{node_names}
 use Rattle.do_machine.specs.World.{others}
 use Rattle.do_net.specs.Hosts.{net_is_open}
-use Rattle.do_network.specs.Links.{Part}
-use Rattle.do_network.specs.Net.{Net, net_ports, part_at}
-use Rattle.do_network.specs.Snapshot.{net_snapshot}
+use Rattle.do_network.specs.{Links.Part, Net.{Net, net_ports, part_at}, Snapshot.net_snapshot}
 use Rattle.do_trace.specs.declared.outcome.NodeLine.{NodeLine}
 use Rattle.do_net_named.specs.Waiting.{way_names}
 

@@ -1,15 +1,13 @@
 -- What is under way between the nodes of a network names, read by the names that its reader read
 -- last.
-use Rattle.std.specs.Prelude.{Err, List, None, Ok, Option, Some, [], false, ◌∷◌, ℕ}
-use Rattle.std.specs.List.{flat_map}
+use Rattle.std.specs.{Prelude.{Err, List, None, Ok, Option, Some, [], false, ◌∷◌, ℕ}, List.flat_map}
 use Rattle.do_base.specs.names.Names.{ObjectName}
 use Rattle.do_class.specs.Class.{Class}
 use Rattle.do_coder.specs.declared.recent.pair.Pair.{Pair}
 use Rattle.do_frames.specs.Frames.{after_frame}
 use Rattle.do_lost.specs.Named.{item_names}
 use Rattle.do_machine.specs.declared.item.Item.{Item}
-use Rattle.do_network.specs.Frames.{item_of, read_frame}
-use Rattle.do_network.specs.Links.{names_read}
+use Rattle.do_network.specs.{Frames.{item_of, read_frame}, Links.names_read}
 use Rattle.do_network.specs.Net.{Carried, Channel, Lost, Net, Whole, channel, part_at}
 
 -- the items of what stands in a channel, up to the first frame that cannot be read; the mark of a

@@ -1,17 +1,13 @@
-ghost use Rattle.std.specs.Prelude.{◌≡◌, List};
-ghost use Rattle.std.specs.List.{AllByRecursion};
+ghost use Rattle.std.specs.{Prelude.{◌≡◌, List}, List.AllByRecursion};
 ghost use Rattle.do_base.specs.names.Names.{ObjectName};
 ghost use Rattle.do_class.specs.Class.{Class};
 ghost use Rattle.do_leaks.specs.Leaks.{leaks};
 ghost use Rattle.do_lost.specs.Named.{named, quiet};
-ghost use Rattle.do_machine.specs.check.Snapshot.{snapshot};
-ghost use Rattle.do_machine.specs.declared.state.State.{State};
+ghost use Rattle.do_machine.specs.{check.Snapshot.snapshot, declared.state.State.State};
 ghost use Rattle.do_machine.specs.run.Run.{Acting};
 ghost use Rattle.do_net.specs.OneMachine.{StandsFor};
-ghost use Rattle.do_net_named.specs.Lost.{HasClassesOf, net_still};
-ghost use Rattle.do_net_named.specs.Named.{net_named};
-ghost use Rattle.do_network.specs.Net.{Net};
-ghost use Rattle.do_network.specs.Snapshot.{net_snapshot};
+ghost use Rattle.do_net_named.specs.{Lost.{HasClassesOf, net_still}, Named.net_named};
+ghost use Rattle.do_network.specs.{Net.Net, Snapshot.net_snapshot};
 ghost use Rattle.do_packet.specs.Met.{has_object};
 
 /// A network names, beside the slots of its objects, exactly the objects that the state of the one

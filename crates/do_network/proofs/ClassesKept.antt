@@ -1,19 +1,15 @@
 -- Which classes of foreign objects a site keeps.
+use Rattle.std.specs.FinMap as map_of
 use Rattle.std.proofs.Common.{◌≡◌, ℕ, Bool, true, false, cond, List, [], ◌∷◌, refl, ap, sym, ◌∙◌}
 use Rattle.std.proofs.Common.{fold}
-use Rattle.std.specs.Prelude.{None, Some, is_some}
-use Rattle.std.specs.Ordering.{eq_by_cmp, is_eq}
-use Rattle.std.specs.declared.cmp.Ordering.{Ordering}
-use Rattle.std.specs.declared.cmp.Ordering.TheVariants.{Equal, Greater, Less}
-use Rattle.std.specs.FinMap as map_of
+use Rattle.std.specs.{Prelude.{None, Some, is_some}, Ordering.{eq_by_cmp, is_eq}}
+use Rattle.std.specs.declared.cmp.Ordering.{Ordering, TheVariants.{Equal, Greater, Less}}
 use Rattle.std.specs.FinMap.{get-insert, get-retain_keys, get_tied}
 use Rattle.do_base.specs.names.Names.{ObjectName}
 use Rattle.do_class.specs.declared.ids.ClassId.{ClassId}
-use Rattle.do_export.specs.Counts.{entry_cmp}
-use Rattle.do_export.proofs.Order.{entry_same, entry_total}
+use Rattle.do_export.{specs.Counts.entry_cmp, proofs.Order.{entry_same, entry_total}}
 use Rattle.do_import.specs.ByObject.{ClassMap, object_of}
-use Rattle.do_machine.specs.declared.node.Node.{Node}
-use Rattle.do_machine.specs.State.{is_known}
+use Rattle.do_machine.specs.{declared.node.Node.Node, State.is_known}
 use Rattle.do_network.specs.Counting.{Classed, of_known, with_class}
 
 -- what is equal by its test is so

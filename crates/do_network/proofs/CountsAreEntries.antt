@@ -1,30 +1,21 @@
 -- In a network that fits, a node knows by its counts what it knows of the state.
 use Rattle.std.proofs.Common.{◌≡◌, ℕ, Bool, true, false, List, map, refl, ap, sym, ◌∙◌, subst, ◌==◌}
 use Rattle.std.proofs.Common.{◌+◌, ◌<◌, ◌||◌, ◌&&◌, arith}
-use Rattle.std.specs.Prelude.{None, Option, Some, is_some, nat_lt, option_map}
-use Rattle.std.specs.List.{list_any}
+use Rattle.std.specs.{Prelude.{None, Option, Some, is_some, nat_lt, option_map}, List.list_any}
 use Rattle.std.proofs.lemmas.Bool.{eqb-true}
 use Rattle.do_base.specs.names.Names.{ObjectName}
 use Rattle.do_class.specs.Class.{Class}
 use Rattle.do_coder.specs.Packets.{surroundings}
 use Rattle.do_export.specs.Counts.{count_of}
 use Rattle.do_packet.specs.Met.{has_object}
-use Rattle.do_machine.specs.declared.item.Item.{Item}
-use Rattle.do_machine.specs.declared.node.Node.{Node}
-use Rattle.do_machine.specs.declared.state.State.{State}
-use Rattle.do_machine.specs.Entry.{has_entry, is_holder}
-use Rattle.do_machine.specs.Items.{exported, released}
-use Rattle.do_machine.specs.Lists.{some_passes}
-use Rattle.do_machine.specs.Objects.{object_at}
+use Rattle.do_machine.specs.declared.{item.Item.Item, node.Node.Node, state.State.State}
+use Rattle.do_machine.specs.{Entry.{has_entry, is_holder}, Items.{exported, released}}
+use Rattle.do_machine.specs.{Lists.some_passes, Objects.object_at}
 use Rattle.do_machine.specs.State.{holds, is_open, node, queue}
-use Rattle.do_network.specs.Links.{Part}
-use Rattle.do_network.specs.Net.{Net, part_at}
-use Rattle.do_network.specs.Own.{Own, is_counted}
-use Rattle.do_network.specs.fits.Fits.{Fits, PairFits}
-use Rattle.do_network.specs.fits.Notes.{Note, exports_of, returns_of, tells_of, total}
-use Rattle.do_network.specs.laws.Sites.{SeesAs}
-use Rattle.do_network.proofs.ListSearch.{turned}
-use Rattle.do_network.proofs.NotesCounted.{some_export, some_release}
+use Rattle.do_network.specs.{Links.Part, Net.{Net, part_at}, Own.{Own, is_counted}}
+use Rattle.do_network.specs.fits.{Fits.{Fits, PairFits}, Notes.{Note, exports_of, returns_of}}
+use Rattle.do_network.specs.{fits.Notes.{tells_of, total}, laws.Sites.SeesAs}
+use Rattle.do_network.proofs.{ListSearch.turned, NotesCounted.{some_export, some_release}}
 
 -- both ends are open: what is counted is held, or under way there, or back
 counted_open : (c r x y t : ℕ) → c ≡ r + (x + y) → t ≡ 0 →

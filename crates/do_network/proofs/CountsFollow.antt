@@ -1,19 +1,15 @@
 -- What the counts of a site are once names were sent or given back, and over a closed end.
+use Rattle.std.specs.FinMap as map_of
 use Rattle.std.proofs.Common.{◌≡◌, ◌==◌, ◌+◌, ◌-◌, ℕ, Bool, true, false, cond, List, [], ◌∷◌, refl}
 use Rattle.std.proofs.Common.{ap, sym, ◌∙◌, fold, arith}
 use Rattle.std.specs.declared.cmp.Ordering.TheVariants.{Equal}
-use Rattle.std.specs.Prelude.{None, Option, Some, length, unwrap_or}
-use Rattle.std.specs.List.{filter}
-use Rattle.std.specs.Ordering.{eq_by_cmp}
-use Rattle.std.specs.FinMap as map_of
-use Rattle.std.specs.FinMap.{get-insert, get-remove, get-retain_keys}
-use Rattle.std.proofs.lemmas.Bool.{eqb-true}
-use Rattle.std.proofs.lemmas.Bool.Decides.{nat_tests}
+use Rattle.std.specs.{Prelude.{None, Option, Some, length, unwrap_or}, List.filter}
+use Rattle.std.specs.{Ordering.eq_by_cmp, FinMap.{get-insert, get-remove, get-retain_keys}}
+use Rattle.std.proofs.lemmas.Bool.{eqb-true, Decides.nat_tests}
 use Rattle.do_base.specs.names.Names.{ObjectName}
 use Rattle.do_export.specs.Counts.{Counts, count_of, entry_cmp, lowered, raised}
 use Rattle.do_export.proofs.Order.{entry_same, entry_total}
-use Rattle.do_machine.specs.declared.node.Node.{Node}
-use Rattle.do_machine.specs.State.{is_open}
+use Rattle.do_machine.specs.{declared.node.Node.Node, State.is_open}
 use Rattle.do_network.specs.Counting.{over_open_ends}
 
 -- two entries of one peer are the same where their serials are

@@ -1,9 +1,8 @@
 -- A greeting goes before the first frame over a link, and before no other.
 use Rattle.std.proofs.Common.{◌≡◌, ◌∙◌, Bool, true, false, cond, List, [], ◌∷◌, ap, map, refl}
 use Rattle.std.specs.Prelude.{Some}
-use Rattle.do_network.specs.Frames.{Posted}
-use Rattle.do_network.specs.Links.{Framed, Greeting, Link, Piece, Sending, sendings}
-use Rattle.do_network.specs.laws.Streams.{framed_to, greeting_to}
+use Rattle.do_network.specs.{Frames.Posted, Links.{Framed, Greeting, Link, Piece, Sending}}
+use Rattle.do_network.specs.{Links.sendings, laws.Streams.{framed_to, greeting_to}}
 use Rattle.do_frames.specs.Frames.{raw}
 
 module _ (x : Posted) (l : Link) where

@@ -1,37 +1,27 @@
 -- In a network that fits, the next frame on its way to a site is read back, and it is taken.
+use Rattle.do_network.specs.declared.input.Input.TheVariants as inputs
 use Rattle.std.proofs.Common.{◌≡◌, ℕ, Bool, true, false, List, [], ◌∷◌, length, refl, ap, sym}
 use Rattle.std.proofs.Common.{subst, ◌∙◌, ◌==◌, Ok, Err, cond}
 use Rattle.std.specs.Prelude.{None, Option, Result, Some, is_some, not, option_map, unwrap_or, ◌&&◌}
 use Rattle.std.specs.List.{AllByRecursion}
-use Rattle.do_class.specs.Class.{Class}
-use Rattle.do_class.specs.Table.{IsTable}
-use Rattle.do_coder.specs.declared.recent.pair.Pair.{Pair}
-use Rattle.do_coder.specs.Packets.{Surroundings, surroundings}
+use Rattle.do_class.specs.{Class.Class, Table.IsTable}
+use Rattle.do_coder.specs.{declared.recent.pair.Pair.Pair, Packets.{Surroundings, surroundings}}
 use Rattle.do_coder.specs.Recent.{IsKnown, IsRecent}
-use Rattle.do_frames.specs.declared.frame.Frame.{Frame}
-use Rattle.do_frames.specs.declared.frame.RawFrame.{RawFrame}
+use Rattle.do_frames.specs.declared.frame.{Frame.Frame, RawFrame.RawFrame}
 use Rattle.do_frames.specs.Frames.{IsFrame, after_frame, kind_of, payload_spelling, raw}
-use Rattle.do_frames.specs.Kinds.{kind_at, kind_number}
-use Rattle.do_frames.specs.Payloads.{SpellsPayload, payload_at}
+use Rattle.do_frames.specs.{Kinds.{kind_at, kind_number}, Payloads.{SpellsPayload, payload_at}}
 use Rattle.do_frames.proofs.payloads.PayloadParts.{number_at}
 use Rattle.do_frames.proofs.payloads.WholePayload.{whole_never, whole_only}
 use Rattle.do_grammar.specs.Reader.{Stop, no_kind, whole_of}
-use Rattle.do_machine.specs.declared.state.State.{State}
-use Rattle.do_machine.specs.State.{is_open}
-use Rattle.do_machine.specs.run.Run.{Acting}
+use Rattle.do_machine.specs.{declared.state.State.State, State.is_open, run.Run.Acting}
 use Rattle.do_machine.specs.take.Take.{can_serve, can_take}
-use Rattle.do_network.specs.declared.input.Done.TheVariants.{Moved}
-use Rattle.do_network.specs.declared.input.Input.TheVariants as inputs
-use Rattle.do_network.specs.Faults.{peer_fault}
+use Rattle.do_network.specs.{declared.input.Done.TheVariants.Moved, Faults.peer_fault}
 use Rattle.do_network.specs.Frames.{payload_read, read_frame, read_or_place}
-use Rattle.do_network.specs.Links.{Link, Part, having_read, names_read}
-use Rattle.do_network.specs.Net.{Carried, Channel, Lost, Net, Whole, channel, part_at}
-use Rattle.do_network.specs.Site.{passed, site_step, takes, takes_frame}
-use Rattle.do_network.specs.fits.Fits.{ChannelFits, Fits}
-use Rattle.do_network.specs.fits.Notes.{Note, carried, note_frame}
-use Rattle.do_network.proofs.ListSearch.{turned}
-use Rattle.do_network.proofs.CountsAreEntries.{not_itself}
-use Rattle.do_network.proofs.NoFault.{fits_faultless}
+use Rattle.do_network.specs.{Links.{Link, Part, having_read, names_read}, Net.{Carried, Channel}}
+use Rattle.do_network.specs.{Net.{Lost, Net, Whole, channel, part_at}, Site.{passed, site_step}}
+use Rattle.do_network.specs.{Site.{takes, takes_frame}, fits.Fits.{ChannelFits, Fits}}
+use Rattle.do_network.{specs.fits.Notes.{Note, carried, note_frame}, proofs.ListSearch.turned}
+use Rattle.do_network.proofs.{CountsAreEntries.not_itself, NoFault.fits_faultless}
 
 module _ (table : List Class) (t : IsTable table) (from to : ℕ) (recent : List Pair)
     (r : IsRecent recent) (known : AllByRecursion (IsKnown (length table)) recent) where

@@ -1,9 +1,7 @@
 -- What is found in a list that another is mapped to, or with an element left out.
 use Rattle.std.proofs.Common.{◌≡◌, ℕ, Bool, true, false, cond, List, [], ◌∷◌, map, refl, ap, sym}
-use Rattle.std.proofs.Common.{◌∙◌, ◌==◌, arith}
-use Rattle.std.specs.Prelude.{Some, not, option_map}
-use Rattle.std.specs.List.{find, list_any}
-use Rattle.std.proofs.lemmas.Bool.{eqb-true}
+use Rattle.std.{proofs.Common.{◌∙◌, ◌==◌, arith}, specs.Prelude.{Some, not, option_map}}
+use Rattle.std.{specs.List.{find, list_any}, proofs.lemmas.Bool.eqb-true}
 use Rattle.do_machine.specs.World.{others}
 
 -- to find among the results is to find among the elements

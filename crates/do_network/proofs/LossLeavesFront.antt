@@ -1,7 +1,6 @@
 -- A loss leaves what stands before it.
 use Rattle.std.proofs.Common.{◌≡◌, ℕ, zero, suc, Bool, true, false, List, [], ◌∷◌, refl, ap, arith}
-use Rattle.std.specs.Prelude.{length, nat_lt, take}
-use Rattle.std.specs.List.{insert}
+use Rattle.std.specs.{Prelude.{length, nat_lt, take}, List.insert}
 
 -- the front before an element that was put in stays
 pub front_stays : {X : Type 0} (xs : List X) (n : ℕ) (y : X) → nat_lt (length xs) n ≡ false →

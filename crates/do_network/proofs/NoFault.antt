@@ -1,31 +1,21 @@
 -- In a network that fits, a peer sends nothing that it may not send.
+use Rattle.do_machine.specs.declared.item.Item.TheVariants as items
 use Rattle.std.proofs.Common.{◌≡◌, ℕ, Bool, true, false, cond, List, [], ◌∷◌, refl, ap, subst, ◌∙◌}
 use Rattle.std.proofs.Common.{◌==◌, ◌+◌, ◌≤◌, ◌<◌, ◌||◌, ◌&&◌, arith}
-use Rattle.std.specs.Prelude.{None, Some, length, nat_lt}
-use Rattle.std.specs.List.{filter, list_any}
+use Rattle.std.specs.{Prelude.{None, Some, length, nat_lt}, List.{filter, list_any}}
 use Rattle.do_base.specs.names.Names.{TokenName}
 use Rattle.do_export.specs.Counts.{count_of}
-use Rattle.do_machine.specs.declared.item.Item.{Item}
-use Rattle.do_machine.specs.Objects.{object_at}
-use Rattle.do_machine.specs.State.{is_open}
-use Rattle.do_machine.specs.take.Awaiting.{AnsweredCall}
-use Rattle.do_machine.specs.take.Take.{method_call, root_call}
-use Rattle.do_machine.specs.declared.item.Item.TheVariants as items
-use Rattle.do_network.specs.declared.fault.PeerFault.{PeerFault}
-use Rattle.do_network.specs.declared.fault.PeerFault.TheVariants.{OverRelease}
+use Rattle.do_machine.specs.{declared.item.Item.Item, Objects.object_at, State.is_open}
+use Rattle.do_machine.specs.take.{Awaiting.AnsweredCall, Take.{method_call, root_call}}
+use Rattle.do_network.specs.declared.fault.PeerFault.{PeerFault, TheVariants.OverRelease}
 use Rattle.do_network.specs.Faults.{answer_fault, ask_fault, is_asked, is_awaited, is_late, is_lent}
 use Rattle.do_network.specs.Faults.{peer_fault, unless, release_fault, settle_fault}
-use Rattle.do_network.specs.Frames.{frame_of}
-use Rattle.do_network.specs.Own.{Own}
-use Rattle.do_network.specs.fits.Calls.{awaiting, is_reply, is_root_answer}
-use Rattle.do_network.specs.fits.Counted.{moving}
+use Rattle.do_network.specs.{Frames.frame_of, Own.Own}
+use Rattle.do_network.specs.fits.{Calls.{awaiting, is_reply, is_root_answer}, Counted.moving}
 use Rattle.do_class.specs.Class.{Class}
 use Rattle.do_machine.specs.declared.state.State.{State}
-use Rattle.do_network.specs.Links.{Part}
-use Rattle.do_network.specs.Net.{Net, part_at}
-use Rattle.do_network.specs.fits.Fits.{Fits, PairFits}
-use Rattle.do_network.specs.fits.Lends.{is_answering}
-use Rattle.do_network.specs.fits.Notes.{Note, note_frame, once}
+use Rattle.do_network.specs.{Links.Part, Net.{Net, part_at}, fits.Fits.{Fits, PairFits}}
+use Rattle.do_network.specs.fits.{Lends.is_answering, Notes.{Note, note_frame, once}}
 
 -- where some pass, there is one that passes
 some_pass : {X : Type 0} (test : X → Bool) (xs : List X) →

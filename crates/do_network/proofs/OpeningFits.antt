@@ -2,18 +2,13 @@
 use Rattle.std.proofs.Common.{◌≡◌, ℕ, Bool, true, false, cond, List, [], ◌∷◌, map, refl, ap, sym}
 use Rattle.std.proofs.Common.{◌∙◌, subst, ◌==◌, ◌||◌, arith}
 use Rattle.std.specs.Prelude.{None, Option, Some, is_some, option_and_then, option_map, unwrap_or}
-use Rattle.std.specs.List.{find, list_any}
-use Rattle.std.proofs.lemmas.Bool.{eqb-true}
+use Rattle.std.{specs.List.{find, list_any}, proofs.lemmas.Bool.eqb-true}
 use Rattle.do_class.specs.Class.{Class}
-use Rattle.do_machine.specs.declared.state.Queue.{Queue}
-use Rattle.do_machine.specs.declared.state.Seat.{Seat}
-use Rattle.do_machine.specs.State.{is_open, queue_to}
+use Rattle.do_machine.specs.{declared.state.{Queue.Queue, Seat.Seat}, State.{is_open, queue_to}}
 use Rattle.do_machine.specs.World.{by_port, opening, opening_station, others}
-use Rattle.do_network.specs.Links.{Part}
-use Rattle.do_network.specs.Net.{Channel, channel, channel_to, net_opening, opening_channel}
-use Rattle.do_network.specs.Net.{opening_place}
-use Rattle.do_network.specs.fits.Fits.{ChannelFits, Fits, OwnFits, PairFits}
-use Rattle.do_network.specs.fits.Notes.{Note}
+use Rattle.do_network.specs.{Links.Part, Net.{Channel, channel, channel_to, net_opening}}
+use Rattle.do_network.specs.Net.{opening_channel, opening_place}
+use Rattle.do_network.specs.fits.{Fits.{ChannelFits, Fits, OwnFits, PairFits}, Notes.Note}
 use Rattle.do_network.proofs.ListSearch.{among_others, find_mapped, turned}
 use Rattle.do_network.proofs.OpeningPairs.{at, channel_fits, own_fits, pair_fits}
 

@@ -1,18 +1,14 @@
 -- Two sites as a network opens, and the channel between them.
-use Rattle.std.proofs.Common.{◌≡◌, ℕ, true, false, List, [], ◌∷◌, map, refl, ap, sym, ◌∙◌, ◌==◌}
-use Rattle.std.proofs.Common.{◌+◌, arith}
-use Rattle.std.specs.Prelude.{length, nat_lt, unwrap_or}
-use Rattle.std.specs.List.{list_any}
 use Rattle.std.specs.FinMap as map_of
-use Rattle.std.specs.FinMap.{get-empty, len-empty, len-entries}
+use Rattle.std.proofs.Common.{◌≡◌, ℕ, true, false, List, [], ◌∷◌, map, refl, ap, sym, ◌∙◌, ◌==◌}
+use Rattle.std.{proofs.Common.{◌+◌, arith}, specs.Prelude.{length, nat_lt, unwrap_or}}
+use Rattle.std.specs.{List.list_any, FinMap.{get-empty, len-empty, len-entries}}
 use Rattle.do_class.specs.Class.{Class}
 use Rattle.do_export.specs.Counts.{Counts, count_of, entry_cmp}
 use Rattle.do_import.specs.ByObject.{object_of}
-use Rattle.do_machine.specs.declared.state.Seat.{Seat}
-use Rattle.do_machine.specs.World.{opening_by}
-use Rattle.do_network.specs.Links.{Part}
-use Rattle.do_network.specs.Net.{Net, channel, channel_to, opening_channel, opening_link}
-use Rattle.do_network.specs.Net.{opening_part, opening_place}
+use Rattle.do_machine.specs.{declared.state.Seat.Seat, World.opening_by}
+use Rattle.do_network.specs.{Links.Part, Net.{Net, channel, channel_to, opening_channel}}
+use Rattle.do_network.specs.Net.{opening_link, opening_part, opening_place}
 use Rattle.do_network.specs.fits.Fits.{ChannelFits, OwnFits, PairFits}
 use Rattle.do_network.proofs.ListSearch.{not_other, other_found}
 

@@ -1,21 +1,14 @@
 -- Items as frames, and frames as items.
-use Rattle.std.specs.Prelude.{Err, List, None, Ok, Option, Result, Some, [], length, map, ℕ, ◌-◌}
-use Rattle.do_class.specs.Class.{Class}
-use Rattle.do_class.specs.declared.packet.Packet.{Packet}
-use Rattle.do_coder.specs.declared.recent.pair.Pair.{Pair}
-use Rattle.do_coder.specs.Packets.{Surroundings, surroundings}
-use Rattle.do_export.specs.Counts.{Counts, count_of}
-use Rattle.do_frames.specs.declared.frame.Frame.{Frame}
-use Rattle.do_frames.specs.declared.frame.RawFrame.{RawFrame}
-use Rattle.do_frames.specs.declared.kind.Kind.{Kind}
-use Rattle.do_frames.specs.Kinds.{kind_at}
-use Rattle.do_frames.specs.Payloads.{payload_at}
-use Rattle.do_grammar.specs.Reader.{Stop, bad, no_kind, short, whole_of}
-use Rattle.do_machine.specs.declared.item.Item.{Item}
-use Rattle.do_machine.specs.declared.item.Message.{Message}
-use Rattle.do_machine.specs.declared.state.Parcel.{Parcel}
 use Rattle.do_frames.specs.declared.frame.Frame.TheVariants as frames
 use Rattle.do_machine.specs.declared.item.Item.TheVariants as items
+use Rattle.std.specs.Prelude.{Err, List, None, Ok, Option, Result, Some, [], length, map, ℕ, ◌-◌}
+use Rattle.do_class.specs.{Class.Class, declared.packet.Packet.Packet}
+use Rattle.do_coder.specs.{declared.recent.pair.Pair.Pair, Packets.{Surroundings, surroundings}}
+use Rattle.do_export.specs.Counts.{Counts, count_of}
+use Rattle.do_frames.specs.declared.{frame.{Frame.Frame, RawFrame.RawFrame}, kind.Kind.Kind}
+use Rattle.do_frames.specs.{Kinds.kind_at, Payloads.payload_at}
+use Rattle.do_grammar.specs.Reader.{Stop, bad, no_kind, short, whole_of}
+use Rattle.do_machine.specs.declared.{item.{Item.Item, Message.Message}, state.Parcel.Parcel}
 
 -- ---- items that are sent
 

@@ -1,15 +1,12 @@
 -- A network of sites, and how it opens.
+use Rattle.std.specs.FinMap as map_of
 use Rattle.std.specs.Prelude.{Bool, List, Option, [], false, find, map, ℕ, option_and_then}
 use Rattle.std.specs.Prelude.{option_map, ◌==◌}
-use Rattle.std.specs.FinMap as map_of
 use Rattle.do_class.specs.Class.{Class}
 use Rattle.do_frames.specs.declared.frame.RawFrame.{RawFrame}
-use Rattle.do_machine.specs.declared.node.Node.{Node}
-use Rattle.do_machine.specs.declared.state.Seat.{Seat}
-use Rattle.do_machine.specs.Lists.{change_first}
+use Rattle.do_machine.specs.{declared.{node.Node.Node, state.Seat.Seat}, Lists.change_first}
 use Rattle.do_machine.specs.World.{by_port, opening_node, others}
-use Rattle.do_network.specs.Links.{Link, Part}
-use Rattle.do_network.specs.Own.{Own}
+use Rattle.do_network.specs.{Links.{Link, Part}, Own.Own}
 
 -- what stands in the way from one node to another
 pub data Carried : Type 0 where

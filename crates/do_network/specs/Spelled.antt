@@ -1,19 +1,16 @@
 -- What sites send within what frames can spell.
-use Rattle.std.specs.Prelude.{List, Option, Some, slice_get, ℕ, ◌≡◌}
-use Rattle.std.specs.List.{AllByRecursion}
-use Rattle.do_base.specs.declared.events.event.Event.{Event}
 use Rattle.do_base.specs.declared.events.event.Event.TheVariants as events
+use Rattle.do_network.specs.declared.input.Input.TheVariants as inputs
+use Rattle.std.specs.{Prelude.{List, Option, Some, slice_get, ℕ, ◌≡◌}, List.AllByRecursion}
+use Rattle.do_base.specs.declared.events.event.Event.{Event}
 use Rattle.do_class.specs.Class.{Class}
 use Rattle.do_coder.specs.Packets.{surroundings}
 use Rattle.do_frames.specs.Frames.{IsFrame}
 use Rattle.do_machine.specs.run.Run.{Acting}
 use Rattle.do_network.specs.declared.input.Input.{Input}
-use Rattle.do_network.specs.declared.input.Input.TheVariants as inputs
-use Rattle.do_network.specs.Links.{Framed, Greeting, Part, Piece, Sending}
-use Rattle.do_network.specs.Net.{Carried, Channel, Net, change_place, channel, part_at}
-use Rattle.do_network.specs.Net.{with_channel}
-use Rattle.do_network.specs.Site.{Handled, enabled_input}
-use Rattle.do_network.specs.Step.{advanced, input_of}
+use Rattle.do_network.specs.{Links.{Framed, Greeting, Part, Piece, Sending}, Net.{Carried, Channel}}
+use Rattle.do_network.specs.Net.{Net, change_place, channel, part_at, with_channel}
+use Rattle.do_network.specs.{Site.{Handled, enabled_input}, Step.{advanced, input_of}}
 
 -- a frame from one port to another has a spelling, as the greeting always has
 abbrev pub IsSpelledPiece : List Class → ℕ → ℕ → Piece → Type 0

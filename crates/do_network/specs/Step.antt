@@ -1,23 +1,18 @@
 -- What one event does to a network of sites.
-use Rattle.std.specs.Prelude.{Bool, List, None, Option, Some, [], drop, false, fold, length, map}
-use Rattle.std.specs.Prelude.{nat_lt, not, option_map, slice_get, true, unwrap_or, ℕ, ◌&&◌, ◌++◌}
-use Rattle.std.specs.Prelude.{◌||◌, ◌∷◌}
-use Rattle.std.specs.List.{insert}
-use Rattle.do_base.specs.declared.events.event.Event.{Event}
-use Rattle.do_class.specs.Class.{Class}
-use Rattle.do_machine.specs.Chain.{when◌then◌, ◌>>=◌, ◌>>◌, ◌otherwise◌}
-use Rattle.do_machine.specs.State.{is_open}
-use Rattle.do_machine.specs.run.Run.{Acting}
-use Rattle.do_machine.specs.take.Take.{can_take}
-use Rattle.do_trace.specs.declared.outcome.Outcome.{Outcome}
-use Rattle.do_network.specs.declared.input.Input.{Input}
-use Rattle.do_network.specs.declared.wire.Wire.{Wire}
-use Rattle.do_network.specs.Links.{Piece, Sending, Greeting, Framed, piece_bytes}
-use Rattle.do_network.specs.Net.{Carried, Channel, Lost, Net, Place, Whole, change_channel}
-use Rattle.do_network.specs.Net.{change_place, channel, part_at, with_channel}
-use Rattle.do_network.specs.Site.{Handled, enabled_input}
 use Rattle.do_base.specs.declared.events.event.Event.TheVariants as events
 use Rattle.do_network.specs.declared.input.Input.TheVariants as inputs
+use Rattle.std.specs.Prelude.{Bool, List, None, Option, Some, [], drop, false, fold, length, map}
+use Rattle.std.specs.Prelude.{nat_lt, not, option_map, slice_get, true, unwrap_or, ℕ, ◌&&◌, ◌++◌}
+use Rattle.std.specs.{Prelude.{◌||◌, ◌∷◌}, List.insert}
+use Rattle.do_base.specs.declared.events.event.Event.{Event}
+use Rattle.do_class.specs.Class.{Class}
+use Rattle.do_machine.specs.{Chain.{when◌then◌, ◌>>=◌, ◌>>◌, ◌otherwise◌}, State.is_open}
+use Rattle.do_machine.specs.{run.Run.Acting, take.Take.can_take}
+use Rattle.do_trace.specs.declared.outcome.Outcome.{Outcome}
+use Rattle.do_network.specs.declared.{input.Input.Input, wire.Wire.Wire}
+use Rattle.do_network.specs.{Links.{Piece, Sending, Greeting, Framed, piece_bytes}, Net.Carried}
+use Rattle.do_network.specs.Net.{Channel, Lost, Net, Place, Whole, change_channel, change_place}
+use Rattle.do_network.specs.{Net.{channel, part_at, with_channel}, Site.{Handled, enabled_input}}
 
 -- a network after an event, what the event came to, and what was sent in it
 pub record NetStepped : Type 0 where

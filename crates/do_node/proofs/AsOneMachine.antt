@@ -1,40 +1,29 @@
 -- What of a text that is so was added.
-use Rattle.std.proofs.Common.{◌≡◌, ◌⊎◌, ℕ, List, None, Option, Some, Result, Ok}
-use Rattle.std.proofs.Common.{Err, ◌∙◌, inl, inr, refl}
-use Rattle.std.specs.Prelude.{IfSome, IsOk, OnOk}
+use Rattle.do_given.specs.declared.status.Status.TheVariants as answer
+use Rattle.std.proofs.Common.{◌≡◌, ◌⊎◌, ℕ, List, None, Option, Some, Result, Ok, Err, ◌∙◌, inl, inr}
+use Rattle.std.{proofs.Common.refl, specs.Prelude.{IfSome, IsOk, OnOk}}
 use Rattle.do_base.specs.outside.Bytes.{with_more, HasWritten}
 use Rattle.do_base.specs.declared.outside.shelf.NamedFile.{NamedFile}
 use Rattle.do_cli.specs.declared.command.Command.{Command}
-use Rattle.do_cli.specs.declared.command.Command.TheVariants.{Replay, Leaks, Weave, Upgrade}
-use Rattle.do_cli.specs.declared.command.Command.TheVariants.{Make, Node, Lab, Help, Version}
+use Rattle.do_cli.specs.declared.command.Command.TheVariants.{Replay, Leaks, Weave, Upgrade, Make}
+use Rattle.do_cli.specs.declared.command.Command.TheVariants.{Node, Lab, Help, Version}
 use Rattle.do_generate.specs.Generated.{generated}
-use Rattle.do_given.specs.Parts.{behaviour_of}
-use Rattle.do_given.specs.Reading.{GivesScheduled, GivesWorld}
+use Rattle.do_given.specs.{Parts.behaviour_of, Reading.{GivesScheduled, GivesWorld}}
 use Rattle.do_given.specs.declared.scheduled.Scheduled.{Scheduled}
 use Rattle.do_native.specs.Acts.{native_act}
 use Rattle.do_transcript.specs.Transcript.{transcript_from}
-use Rattle.do_world.specs.Mesh.{mesh_world}
-use Rattle.do_world.specs.Sound.{IsSound}
-use Rattle.do_world.specs.declared.world.World.{World}
+use Rattle.do_world.specs.{Mesh.mesh_world, Sound.IsSound, declared.world.World.World}
 use Rattle.do_plain.specs.Named.{AreNamed}
-use Rattle.do_plain.proofs.Texts.{transcript_stays}
-use Rattle.do_plain.proofs.Worlds.{builtin_has, text_has}
-use Rattle.do_network.specs.Net.{net_opening}
-use Rattle.do_network.specs.Wired.{net_blocks}
-use Rattle.do_agreement.specs.HasWires.{HasWires}
-use Rattle.do_agreement.specs.WithoutWires.{without_wires}
+use Rattle.do_plain.proofs.{Texts.transcript_stays, Worlds.{builtin_has, text_has}}
+use Rattle.do_network.specs.{Net.net_opening, Wired.net_blocks}
+use Rattle.do_agreement.specs.{HasWires.HasWires, WithoutWires.without_wires}
 use Rattle.do_agreement.proofs.texts.WiresDropped.{wires_fall_out}
 use Rattle.do_replay.specs.Replayed.{WritesWithWires}
 use Rattle.do_given.specs.declared.status.Status.{Status}
-use Rattle.do_given.specs.declared.status.Status.TheVariants as answer
-use Rattle.do_node.specs.Answering.{answer_of}
-use Rattle.do_node.specs.Call.{Obeys}
-use Rattle.do_node.specs.Added.{AddsFirst}
-use Rattle.do_node.specs.OneMachine.{Adds, AddsAsOne, ComesAsOne}
-use Rattle.do_node.specs.OneMachine.{IsLocalReplay, IsLocalSummary}
+use Rattle.do_node.specs.{Answering.answer_of, Call.Obeys, Added.AddsFirst}
+use Rattle.do_node.specs.OneMachine.{Adds, AddsAsOne, ComesAsOne, IsLocalReplay, IsLocalSummary}
 use Rattle.do_node.specs.Replaying.{made_text, world_summary, world_transcript, world_wired}
-use Rattle.do_node.specs.Running.{Counts}
-use Rattle.do_node.proofs.RefusalsTold.{stops_not_ok}
+use Rattle.do_node.{specs.Running.Counts, proofs.RefusalsTold.stops_not_ok}
 
 -- no fault is a good result
 not_ok : (status : Status) → IsOk {T = Unit} (Err status) → ⊥

@@ -4,9 +4,7 @@ use Rattle.std.specs.Prelude.{IfOk}
 use Rattle.do_class.specs.Class.{Class}
 use Rattle.do_given.specs.Parts.{behaviour_of}
 use Rattle.do_lost.specs.Text.{lost_text}
-use Rattle.do_machine.specs.World.{opening}
-use Rattle.do_machine.specs.check.Blocks.{line_step}
-use Rattle.do_machine.specs.declared.state.State.{State}
+use Rattle.do_machine.specs.{World.opening, check.Blocks.line_step, declared.state.State.State}
 use Rattle.do_machine.specs.run.Run.{Acting}
 use Rattle.do_native.specs.Acts.{native_act}
 use Rattle.do_net.specs.OneMachine.{StandsFor}

@@ -2,29 +2,19 @@
 use Rattle.std.proofs.Common.{◌≡◌, ℕ, List, Option, true, refl, ap, ◌∙◌, subst}
 use Rattle.std.specs.List.{AllByRecursion, flat_map}
 use Rattle.do_at_hand.specs.AtHand.{NamedAreStored}
-use Rattle.do_at_hand.proofs.Plain.{lines_plain}
-use Rattle.do_at_hand.proofs.Reached.{reached_stored}
+use Rattle.do_at_hand.proofs.{Plain.lines_plain, Reached.reached_stored}
 use Rattle.do_base.specs.declared.outside.shelf.NamedFile.{NamedFile}
-use Rattle.do_cycles.specs.Settled.{IsSettled}
-use Rattle.do_cycles.specs.Told.{TellsEachLost}
-use Rattle.do_cycles.proofs.EachTold.{reached_told}
-use Rattle.do_cycles.proofs.QuietSettled.{reached_settled}
+use Rattle.do_cycles.specs.{Settled.IsSettled, Told.TellsEachLost}
+use Rattle.do_cycles.proofs.{EachTold.reached_told, QuietSettled.reached_settled}
 use Rattle.do_facts.specs.Reached.{reached}
 use Rattle.do_given.specs.Parts.{behaviour_of}
-use Rattle.do_lost.specs.Named.{quiet}
-use Rattle.do_lost.specs.Text.{lost_text}
-use Rattle.do_machine.specs.Commit.{skipped}
-use Rattle.do_machine.specs.World.{opening}
-use Rattle.do_machine.specs.check.Blocks.{events_of}
-use Rattle.do_machine.specs.run.Run.{Acting}
-use Rattle.do_native.specs.Acts.{native_act}
-use Rattle.do_native.specs.laws.NativeLaws.{native_names_shown}
+use Rattle.do_lost.specs.{Named.quiet, Text.lost_text}
+use Rattle.do_machine.specs.{Commit.skipped, World.opening, check.Blocks.events_of, run.Run.Acting}
+use Rattle.do_native.specs.{Acts.native_act, laws.NativeLaws.native_names_shown}
 use Rattle.do_quiet.proofs.EndsStayOpen.{stay_open}
-use Rattle.do_sched.specs.Good.{IsLine}
-use Rattle.do_sched.specs.declared.line.Line.{Line}
+use Rattle.do_sched.specs.{Good.IsLine, declared.line.Line.Line}
 use Rattle.do_world.specs.declared.world.World.{World}
-use Rattle.do_node.specs.Call.{IsLost}
-use Rattle.do_node.specs.Leaking.{BreaksNothing, TellsLost, world_after}
+use Rattle.do_node.specs.{Call.IsLost, Leaking.{BreaksNothing, TellsLost, world_after}}
 use Rattle.do_node.specs.Replaying.{lost_after, world_lost}
 use Rattle.do_node.proofs.LinesAsEvents.{lines_lead, lines_unbroken}
 

@@ -1,17 +1,13 @@
 -- Lines lead where their events lead, one after another.
-use Rattle.std.proofs.Common.{◌≡◌, ◌∙◌, ◌++◌, ℕ, suc, zero, List, [], ◌∷◌, refl, ap}
-use Rattle.std.specs.Prelude.{replicate}
-use Rattle.std.specs.List.{AllByRecursion, flat_map}
-use Rattle.do_base.specs.declared.events.event.Event.{Event}
 use Rattle.do_base.specs.declared.events.event.Event.TheVariants as events
-use Rattle.do_class.specs.Class.{Class}
-use Rattle.do_machine.specs.declared.state.Stepped.{Stepped}
-use Rattle.do_machine.specs.Commit.{skipped}
-use Rattle.do_machine.specs.Step.{step}
-use Rattle.do_machine.specs.check.Blocks.{events_of, followed, steps}
-use Rattle.do_machine.specs.run.Run.{Acting}
-use Rattle.do_sched.specs.declared.line.Line.{Line}
 use Rattle.do_sched.specs.declared.line.Line.TheVariants as lines
+use Rattle.std.proofs.Common.{◌≡◌, ◌∙◌, ◌++◌, ℕ, suc, zero, List, [], ◌∷◌, refl, ap}
+use Rattle.std.specs.{Prelude.replicate, List.{AllByRecursion, flat_map}}
+use Rattle.do_base.specs.declared.events.event.Event.{Event}
+use Rattle.do_class.specs.Class.{Class}
+use Rattle.do_machine.specs.{declared.state.Stepped.Stepped, Commit.skipped, Step.step}
+use Rattle.do_machine.specs.{check.Blocks.{events_of, followed, steps}, run.Run.Acting}
+use Rattle.do_sched.specs.declared.line.Line.{Line}
 use Rattle.do_quiet.specs.Quiet.{IsNoBreak}
 use Rattle.do_node.specs.Leaking.{BreaksNothing}
 use Rattle.do_replay.specs.Replayed.{state_after}

@@ -1,27 +1,21 @@
 -- What serving a node and running a plan come to, as statuses tell it.
+use Rattle.do_cli.specs.declared.command.Command.TheVariants as asked
+use Rattle.do_given.specs.declared.status.Status.TheVariants as answer
+use Rattle.do_served.specs.Nodes as nodes
+use Rattle.do_served.specs.Plans as plans
 use Rattle.std.proofs.Common.{ℕ, List, Option, inl, inr, refl}
 use Rattle.do_base.specs.declared.outside.shelf.NamedFile.{NamedFile}
 use Rattle.do_cli.specs.declared.command.Command.{Command}
-use Rattle.do_cli.specs.declared.command.Command.TheVariants as asked
-use Rattle.do_given.specs.Files.{IsUnread}
-use Rattle.do_given.specs.Reading.{HasUnreadScheduled}
+use Rattle.do_given.specs.{Files.IsUnread, Reading.HasUnreadScheduled}
 use Rattle.do_given.specs.Serving.{GivesServed, RefusesServed, SaysNoText, SaysPlan}
-use Rattle.do_given.specs.declared.served.Served.{Served}
-use Rattle.do_given.specs.declared.status.Status.{Status}
-use Rattle.do_given.specs.declared.status.Status.TheVariants as answer
-use Rattle.do_lab.specs.Children.{lab_text}
-use Rattle.do_lab.specs.declared.children.ChildEnd.{ChildEnd}
+use Rattle.do_given.specs.declared.{served.Served.Served, status.Status.Status}
+use Rattle.do_lab.specs.{Children.lab_text, declared.children.ChildEnd.ChildEnd}
 use Rattle.do_link.specs.Told.{Told}
 use Rattle.do_output.proofs.ToldMore.{tells_none}
-use Rattle.do_plan.specs.Plan.{plan_form}
-use Rattle.do_plan.specs.declared.plan.PlanLine.{PlanLine}
+use Rattle.do_plan.specs.{Plan.plan_form, declared.plan.PlanLine.PlanLine}
 use Rattle.do_serve.specs.Answers.{record_text}
-use Rattle.do_served.specs.Nodes as nodes
-use Rattle.do_served.specs.Plans as plans
-use Rattle.do_node.specs.Call.{Comes, Writes}
-use Rattle.do_node.specs.Running.{Counts, Links, Spawns}
-use Rattle.do_node.proofs.FrontsWritten.{front_written}
-use Rattle.do_node.proofs.RunsCome.{EndSays, run_comes}
+use Rattle.do_node.specs.{Call.{Comes, Writes}, Running.{Counts, Links, Spawns}}
+use Rattle.do_node.proofs.{FrontsWritten.front_written, RunsCome.{EndSays, run_comes}}
 
 module _ (told : Option (List NamedFile)) (port : ℕ) (word name : List ℕ) (turns : ℕ)
     (old new : nodes.Seens) where

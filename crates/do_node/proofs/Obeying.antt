@@ -1,29 +1,21 @@
 -- What obeying a command comes to.
-use Rattle.std.proofs.Common.{◌≡◌, ◌⊎◌, ℕ, List, Option, Some, None, Result, Ok, Err, inl, inr}
-use Rattle.std.proofs.Common.{[], ◌∷◌, ◌++◌, ap, subst, refl}
-use Rattle.std.specs.Prelude.{OnOk, IfErr, IsErrOf, IsOk}
-use Rattle.std.specs.Option.{IsSomeAnd}
-use Rattle.do_base.specs.outside.Bytes.{with_more, HasWritten}
-use Rattle.do_base.specs.outside.Causes.{Rose}
-use Rattle.do_base.specs.outside.Files.{file_named}
+use Rattle.do_given.specs.declared.status.Status.TheVariants as answer
+use Rattle.std.proofs.Common.{◌≡◌, ◌⊎◌, ℕ, List, Option, Some, None, Result, Ok, Err, inl, inr, []}
+use Rattle.std.proofs.Common.{◌∷◌, ◌++◌, ap, subst, refl}
+use Rattle.std.specs.{Prelude.{OnOk, IfErr, IsErrOf, IsOk}, Option.IsSomeAnd}
+use Rattle.do_base.specs.outside.{Bytes.{with_more, HasWritten}, Causes.Rose, Files.file_named}
 use Rattle.do_base.specs.declared.outside.shelf.NamedFile.{NamedFile}
 use Rattle.do_cli.specs.declared.command.Command.{Command}
-use Rattle.do_cli.specs.declared.command.Command.TheVariants.{Replay, Leaks, Weave, Upgrade}
-use Rattle.do_cli.specs.declared.command.Command.TheVariants.{Make, Node, Lab, Help, Version}
+use Rattle.do_cli.specs.declared.command.Command.TheVariants.{Replay, Leaks, Weave, Upgrade, Make}
+use Rattle.do_cli.specs.declared.command.Command.TheVariants.{Node, Lab, Help, Version}
 use Rattle.do_machine.specs.declared.state.Seat.{Seat}
 use Rattle.do_record.specs.declared.parts.Record.{Record}
-use Rattle.do_world.specs.Builtin.{builtin_world}
-use Rattle.do_world.specs.declared.world.World.{World}
+use Rattle.do_world.specs.{Builtin.builtin_world, declared.world.World.World}
 use Rattle.do_given.specs.declared.status.Status.{Status}
-use Rattle.do_given.specs.declared.status.Status.TheVariants as answer
-use Rattle.do_node.specs.Call.{HasUnread, Obeys, Refuses, Writes}
-use Rattle.do_node.specs.Running.{Counts}
-use Rattle.do_given.specs.Serving.{GivesServed}
-use Rattle.do_given.specs.declared.served.Served.{Served}
-use Rattle.do_given.specs.Files.{IsFile, IsUnread}
-use Rattle.do_given.proofs.Stopping.{stops_as}
-use Rattle.do_given.specs.Reading.{GivesScheduled, GivesWorld, HasUnreadScheduled, OrUnread}
-use Rattle.do_given.specs.Reading.{Stops}
+use Rattle.do_node.specs.{Call.{HasUnread, Obeys, Refuses, Writes}, Running.Counts}
+use Rattle.do_given.specs.{Serving.GivesServed, declared.served.Served.Served}
+use Rattle.do_given.{specs.Files.{IsFile, IsUnread}, proofs.Stopping.stops_as}
+use Rattle.do_given.specs.Reading.{GivesScheduled, GivesWorld, HasUnreadScheduled, OrUnread, Stops}
 use Rattle.do_given.specs.declared.scheduled.Scheduled.{Scheduled}
 use Rattle.do_node.specs.Records.{AnyUnread, SayRecords}
 

@@ -1,26 +1,19 @@
 -- What is written from the opening of a world's network on.
-use Rattle.std.proofs.Common.{◌≡◌, ◌<◌, ◌++◌, ◌∙◌, ℕ, List, [], ◌∷◌, Some, ap, arith, length}
-use Rattle.std.proofs.Common.{Err, Ok, Option, Result, map, refl, subst, sym}
-use Rattle.std.specs.List.{AllByRecursion}
-use Rattle.std.specs.Prelude.{IfOk, OnOk, slice_get}
-use Rattle.do_machine.specs.World.{IsWorld, opening}
-use Rattle.do_machine.specs.check.Blocks.{blocks}
+use Rattle.std.proofs.Common.{◌≡◌, ◌<◌, ◌++◌, ◌∙◌, ℕ, List, [], ◌∷◌, Some, ap, arith, length, Err}
+use Rattle.std.proofs.Common.{Ok, Option, Result, map, refl, subst, sym}
+use Rattle.std.specs.{List.AllByRecursion, Prelude.{IfOk, OnOk, slice_get}}
+use Rattle.do_machine.specs.{World.{IsWorld, opening}, check.Blocks.blocks}
 use Rattle.do_lines.specs.Transcript.{transcript}
 use Rattle.do_transcript.specs.Transcript.{transcript_from}
-use Rattle.do_machine.specs.declared.state.Seat.{Seat}
-use Rattle.do_machine.specs.run.Run.{Acting}
-use Rattle.do_net.specs.Net.{AreAlike}
-use Rattle.do_net.specs.OneMachine.{StandsFor}
+use Rattle.do_machine.specs.{declared.state.Seat.Seat, run.Run.Acting}
+use Rattle.do_net.specs.{Net.AreAlike, OneMachine.StandsFor}
 use Rattle.do_net.proofs.StandsForStates.{opening_stands}
 use Rattle.do_class.specs.Class.{Class}
-use Rattle.do_make.specs.Summary.{summary_of}
-use Rattle.do_make.specs.Text.{summary_text}
-use Rattle.do_network.specs.Net.{Net, net_opening}
-use Rattle.do_network.specs.Wired.{WiredBlock, net_blocks}
+use Rattle.do_make.specs.{Summary.summary_of, Text.summary_text}
+use Rattle.do_network.specs.{Net.{Net, net_opening}, Wired.{WiredBlock, net_blocks}}
 use Rattle.do_agreement.specs.HasWires.{HasWires}
 use Rattle.do_sched.specs.declared.line.Line.{Line}
-use Rattle.do_native.specs.Acts.{native_act}
-use Rattle.do_native.specs.declared.native.Native.{Native}
+use Rattle.do_native.specs.{Acts.native_act, declared.native.Native.Native}
 use Rattle.do_replay.specs.Replayed.{WritesWithWires, wired_from}
 use Rattle.do_replay.proofs.AsOneMachine.{begun_as_one}
 use Rattle.do_world.specs.declared.world.World.{World}

@@ -1,34 +1,24 @@
 -- What is woven is an order of the records' inputs, and where they contradict there is none.
+use Rattle.do_sched.specs.declared.fault.SchedFault.TheVariants as sched
 use Rattle.std.proofs.Common.{◌≡◌, ◌++◌, ℕ, List, [], ◌∷◌, Option, Ok, Err, inl, inr, subst}
 use Rattle.do_base.specs.declared.outside.shelf.NamedFile.{NamedFile}
 use Rattle.do_exchanged.proofs.Exchange.{exchanged_done}
-use Rattle.do_given.specs.Parts.{behaviour_of}
-use Rattle.do_given.specs.Reading.{RefusesWorld}
-use Rattle.do_given.specs.declared.status.Status.{Status}
+use Rattle.do_given.specs.{Parts.behaviour_of, Reading.RefusesWorld, declared.status.Status.Status}
 use Rattle.do_given.specs.declared.status.Status.TheVariants.{Contradiction}
-use Rattle.do_machine.specs.World.{opening}
-use Rattle.do_machine.specs.declared.state.Seat.{Seat}
+use Rattle.do_machine.specs.{World.opening, declared.state.Seat.Seat}
 use Rattle.do_native.specs.Acts.{native_act}
 use Rattle.do_orders.proofs.InputsCommute.{inputs_commute}
 use Rattle.do_record.specs.declared.parts.Record.{Record}
 use Rattle.do_rewoven.proofs.RecordsBehind.{read_sound}
-use Rattle.do_sched.specs.declared.fault.SchedFault.{SchedFault}
-use Rattle.do_sched.specs.declared.line.Line.{Line}
-use Rattle.do_sched.specs.declared.fault.SchedFault.TheVariants as sched
-use Rattle.do_weave.proofs.Again.{threads_apart}
-use Rattle.do_weave.proofs.Standing.{fault_stands}
-use Rattle.do_weave.proofs.Left.{order_of_all}
+use Rattle.do_sched.specs.declared.{fault.SchedFault.SchedFault, line.Line.Line}
+use Rattle.do_weave.proofs.{Again.threads_apart, Standing.fault_stands, Left.order_of_all}
 use Rattle.do_weave.proofs.Orders.{woven_order}
-use Rattle.do_weave.specs.Orders.{CanBeDone, HasOrder, IsReached}
-use Rattle.do_weave.specs.Threads.{blocks_in, threads_of}
-use Rattle.do_weave.specs.Weaving.{woven}
-use Rattle.do_weave.specs.declared.fault.WeaveFault.{WeaveFault}
+use Rattle.do_weave.specs.{Orders.{CanBeDone, HasOrder, IsReached}, Threads.{blocks_in, threads_of}}
+use Rattle.do_weave.specs.{Weaving.woven, declared.fault.WeaveFault.WeaveFault}
 use Rattle.do_world.specs.declared.world.World.{World}
-use Rattle.do_node.specs.Orders.{HaveNoOrder, HaveOrder}
-use Rattle.do_node.specs.Records.{SayNoRecords, told_of_record}
+use Rattle.do_node.specs.{Orders.{HaveNoOrder, HaveOrder}, Records.{SayNoRecords, told_of_record}}
 use Rattle.do_node.specs.Weaving.{IsWoven, RefusesRecords, RefusesWeaving, RefusesWoven, rules_of}
-use Rattle.do_node.specs.Weaving.{world_woven}
-use Rattle.do_node.proofs.RecordsGiven.{files_read, over_world}
+use Rattle.do_node.{specs.Weaving.world_woven, proofs.RecordsGiven.{files_read, over_world}}
 
 -- what a world's records contradict, from its opening on
 fault_over : (w : World) (records : List Record) (fault : WeaveFault) →

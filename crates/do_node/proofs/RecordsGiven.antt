@@ -1,19 +1,14 @@
 -- What records are woven to gives them again.
 use Rattle.std.proofs.Common.{◌≡◌, ◌++◌, ℕ, List, [], ◌∷◌, Option, Ok, sym, subst}
 use Rattle.do_rewoven.specs.Read.{AreRead}
-use Rattle.do_rewoven.proofs.RecordsBehind.{read_sound}
-use Rattle.do_rewoven.proofs.WovenSchedule.{woven_schedule}
+use Rattle.do_rewoven.proofs.{RecordsBehind.read_sound, WovenSchedule.woven_schedule}
 use Rattle.do_base.specs.declared.outside.shelf.NamedFile.{NamedFile}
-use Rattle.do_machine.specs.World.{opening}
-use Rattle.do_machine.specs.declared.state.Seat.{Seat}
+use Rattle.do_machine.specs.{World.opening, declared.state.Seat.Seat}
 use Rattle.do_record.specs.declared.parts.Record.{Record}
-use Rattle.do_sched.specs.Schedule.{IsSchedule}
-use Rattle.do_sched.specs.declared.line.Line.{Line}
-use Rattle.do_weave.specs.Weaving.{woven}
-use Rattle.do_weave.proofs.Again.{given_again}
+use Rattle.do_sched.specs.{Schedule.IsSchedule, declared.line.Line.Line}
+use Rattle.do_weave.{specs.Weaving.woven, proofs.Again.given_again}
 use Rattle.do_world.specs.declared.world.World.{World}
-use Rattle.do_node.specs.Records.{SayRecords}
-use Rattle.do_node.specs.Rewoven.{GivesBack}
+use Rattle.do_node.specs.{Records.SayRecords, Rewoven.GivesBack}
 use Rattle.do_node.specs.Weaving.{IsWoven, rules_of, world_woven}
 
 -- files that say records have bytes that are read as these

@@ -1,22 +1,18 @@
 -- What is answered of the files of records, one behind another.
-use Rattle.std.proofs.Common.{◌≡◌, ◌≤◌, ℕ, ◌+◌, List, [], ◌∷◌, ◌++◌, length, Option, Some}
-use Rattle.std.proofs.Common.{◌-◌, Result, Ok, Err, inl, inr, ap, arith, drop, get_or, sym, subst}
-use Rattle.std.proofs.Common.{refl, take, ◌∙◌}
-use Rattle.std.proofs.Math.Seq.{take-length}
+use Rattle.do_sched.specs.declared.fault.SchedFault.TheVariants as sched
+use Rattle.std.proofs.Common.{◌≡◌, ◌≤◌, ℕ, ◌+◌, List, [], ◌∷◌, ◌++◌, length, Option, Some, ◌-◌}
+use Rattle.std.proofs.Common.{Result, Ok, Err, inl, inr, ap, arith, drop, get_or, sym, subst, refl}
+use Rattle.std.proofs.{Common.{take, ◌∙◌}, Math.Seq.take-length}
 use Rattle.do_base.specs.declared.outside.shelf.NamedFile.{NamedFile}
 use Rattle.do_machine.specs.declared.state.Seat.{Seat}
 use Rattle.do_record.specs.declared.parts.Record.{Record}
-use Rattle.do_sched.specs.Answers.{AnswersWith}
-use Rattle.do_sched.specs.declared.fault.SchedFault.{SchedFault}
-use Rattle.do_sched.specs.declared.fault.SchedFault.TheVariants as sched
+use Rattle.do_sched.specs.{Answers.AnswersWith, declared.fault.SchedFault.SchedFault}
 use Rattle.do_woven.specs.Judging.{judged}
-use Rattle.do_given.specs.declared.status.Status.{Status}
-use Rattle.do_given.specs.Files.{IsUnread}
+use Rattle.do_given.specs.{declared.status.Status.Status, Files.IsUnread}
 use Rattle.do_given.specs.Reading.{OrMemory, OrUnread, Stops}
 use Rattle.do_node.specs.Records.{AnyUnread, IsNoRecord, SayNoRecords, SayRecords, SaysNoRecord}
 use Rattle.do_node.specs.Records.{SaysRecord, told_of_record}
-use Rattle.do_given.proofs.FilesTold.{no_err, read_is}
-use Rattle.do_given.proofs.Stopping.{give_any, must_be, stops_as}
+use Rattle.do_given.proofs.{FilesTold.{no_err, read_is}, Stopping.{give_any, must_be, stops_as}}
 use Rattle.do_given.proofs.BothGiven.{unread_earlier}
 
 module _ (seats : List Seat) (earlier : List Record) (bytes : List ℕ) where

@@ -1,27 +1,23 @@
 -- A refusal is neither an answer that all is well nor one on the words.
+use Rattle.do_cli.specs.declared.command.Command.TheVariants as asked
+use Rattle.do_sched.specs.declared.fault.SchedFault.TheVariants as sched
+use Rattle.do_weave.specs.declared.fault.WeaveFault.TheVariants as weaving
+use Rattle.do_given.specs.declared.status.Status.TheVariants as answer
 use Rattle.std.proofs.Common.{◌≡◌, ℕ, ◌+◌, List, [], ◌∷◌, ◌++◌, length, Option, inl, inr, subst}
 use Rattle.std.proofs.Common.{sym}
 use Rattle.do_base.specs.declared.outside.shelf.NamedFile.{NamedFile}
 use Rattle.do_cli.specs.declared.command.Command.{Command}
-use Rattle.do_cli.specs.declared.command.Command.TheVariants as asked
 use Rattle.do_machine.specs.declared.state.Seat.{Seat}
 use Rattle.do_record.specs.declared.parts.Record.{Record}
-use Rattle.do_sched.specs.declared.fault.SchedFault.{SchedFault}
-use Rattle.do_sched.specs.declared.fault.SchedFault.TheVariants as sched
-use Rattle.do_sched.specs.declared.version.Version.{Version}
+use Rattle.do_sched.specs.declared.{fault.SchedFault.SchedFault, version.Version.Version}
 use Rattle.do_sched.specs.declared.version.Version.TheVariants.{First, Second}
 use Rattle.do_weave.specs.declared.fault.WeaveFault.{WeaveFault}
-use Rattle.do_weave.specs.declared.fault.WeaveFault.TheVariants as weaving
 use Rattle.do_given.specs.declared.status.Status.{Status}
-use Rattle.do_given.specs.declared.status.Status.TheVariants as answer
 use Rattle.do_node.specs.Call.{Refuses}
 use Rattle.do_given.specs.Files.{most_of_record, most_of_schedule, most_of_starts, most_of_world}
 use Rattle.do_given.specs.Reading.{IsNoSchedule, IsNoWorld, NamesNone, RefusesWorld, SaysNoLines}
-use Rattle.do_given.specs.Reading.{Stops, told_of}
-use Rattle.do_given.specs.Serving.{IsNoText, RefusesServed, SaysNoText}
-use Rattle.do_plan.specs.Form.{Form}
-use Rattle.do_plan.specs.Plan.{plan_form}
-use Rattle.do_plan.specs.Starts.{starts_form}
+use Rattle.do_given.specs.{Reading.{Stops, told_of}, Serving.{IsNoText, RefusesServed, SaysNoText}}
+use Rattle.do_plan.specs.{Form.Form, Plan.plan_form, Starts.starts_form}
 use Rattle.do_node.specs.Records.{IsNoRecord, SayNoRecords, told_of_record}
 use Rattle.do_node.specs.Weaving.{told_of_weaving}
 

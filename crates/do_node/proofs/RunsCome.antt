@@ -1,16 +1,13 @@
 -- What a command that runs something comes to, as a status tells it.
+use Rattle.do_given.specs.declared.status.Status.TheVariants as answer
 use Rattle.std.proofs.Common.{◌≡◌, ◌⊎◌, ℕ, List, Option, Some, inl, inr, subst, sym, refl}
-use Rattle.do_base.specs.outside.Causes.{Rose}
-use Rattle.do_base.specs.declared.outside.shelf.NamedFile.{NamedFile}
+use Rattle.do_base.specs.{outside.Causes.Rose, declared.outside.shelf.NamedFile.NamedFile}
 use Rattle.do_cli.specs.declared.command.Command.{Command}
 use Rattle.do_given.specs.declared.status.Status.{Status}
-use Rattle.do_given.specs.declared.status.Status.TheVariants as answer
 use Rattle.do_served.specs.Coming.{Because, ComesTo, OrNone, Ran}
 use Rattle.do_node.specs.Call.{CanWrite, Comes, HasUnread, IsRefusal, Refuses, Writes, WritesAll}
-use Rattle.do_node.specs.Call.{WritesNothing, WritesSome}
-use Rattle.do_node.specs.Running.{Counts, EndsWith, IsRunEnd}
-use Rattle.do_node.proofs.Obeying.{all_are_read}
-use Rattle.do_node.proofs.FrontsWritten.{all_is_some}
+use Rattle.do_node.specs.{Call.{WritesNothing, WritesSome}, Running.{Counts, EndsWith, IsRunEnd}}
+use Rattle.do_node.proofs.{Obeying.all_are_read, FrontsWritten.all_is_some}
 use Rattle.do_node.proofs.RefusalsTold.{refusal_told}
 
 -- what an end of what ran says of what was written

@@ -1,16 +1,12 @@
 -- A network that is a machine steps as the machine.
+use Rattle.do_network.specs.Net as definitions
 use Rattle.std.proofs.Common.{◌≡◌, ℕ, Bool, subst, sym}
 use Rattle.do_base.specs.declared.events.event.Event.{Event}
-use Rattle.do_machine.specs.declared.state.State.{State}
-use Rattle.do_machine.specs.run.Run.{Acting}
+use Rattle.do_machine.specs.{declared.state.State.State, run.Run.Acting}
 use Rattle.do_trace.specs.declared.outcome.Outcome.{Outcome}
-use Rattle.do_net.specs.Net.{network}
-use Rattle.do_net.specs.OneMachine.{StandsFor, StepsAsOne, machine_can_take}
-use Rattle.do_net.specs.Seen.{Seen}
-use Rattle.do_net.specs.declared.net.Net.{Net}
-use Rattle.do_network.specs.Net as definitions
-use Rattle.do_weave.specs.Inputs.{takes}
-use Rattle.do_weave.specs.Rules.{Rules}
+use Rattle.do_net.specs.{Net.network, OneMachine.{StandsFor, StepsAsOne, machine_can_take}}
+use Rattle.do_net.specs.{Seen.Seen, declared.net.Net.Net}
+use Rattle.do_weave.specs.{Inputs.takes, Rules.Rules}
 use Rattle.do_node.specs.WovenNet.{IsMachine}
 
 module _ {S A : Type 0} (seen : S → Seen) (act : Acting) (n : Net S A) (R : Rules) (state : State)

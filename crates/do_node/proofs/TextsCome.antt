@@ -1,17 +1,14 @@
 -- What a command that writes a text comes to, as a status tells it.
-use Rattle.std.proofs.Common.{◌≡◌, ◌⊎◌, ℕ, List, Option, Result, Ok, Err, inl, inr}
-use Rattle.std.proofs.Common.{subst}
+use Rattle.do_given.specs.declared.status.Status.TheVariants as answer
+use Rattle.std.proofs.Common.{◌≡◌, ◌⊎◌, ℕ, List, Option, Result, Ok, Err, inl, inr, subst}
 use Rattle.do_base.specs.declared.outside.shelf.NamedFile.{NamedFile}
 use Rattle.std.specs.Prelude.{IsErrOf, IsOk}
 use Rattle.do_cli.specs.declared.command.Command.{Command}
-use Rattle.do_given.specs.declared.status.Status.{Status}
-use Rattle.do_given.specs.declared.status.Status.TheVariants as answer
-use Rattle.do_given.specs.Reading.{Stops}
+use Rattle.do_given.specs.{declared.status.Status.Status, Reading.Stops}
 use Rattle.do_node.specs.Answering.{answer_of}
 use Rattle.do_base.specs.outside.Causes.{Rose}
 use Rattle.do_node.specs.Call.{CanWrite, Comes, HasUnread, IsRefusal, Obeys, Refuses}
-use Rattle.do_node.specs.Running.{Counts, EndsWith, IsRunEnd}
-use Rattle.do_node.proofs.FrontsWritten.{all_is_some}
+use Rattle.do_node.{specs.Running.{Counts, EndsWith, IsRunEnd}, proofs.FrontsWritten.all_is_some}
 use Rattle.do_node.proofs.RefusalsTold.{refusal_told, stops_no_word, stops_not_ok}
 
 -- what stops a command and says what is wrong with a file is a refusal

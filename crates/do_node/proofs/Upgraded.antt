@@ -1,9 +1,7 @@
 -- An upgraded schedule is replayed with the transcripts that the rules of the first version give.
 use Rattle.std.proofs.Common.{◌≡◌, ℕ, List, Option, ◌++◌, drop, ap, sym, ◌∙◌}
 use Rattle.do_base.specs.declared.outside.shelf.NamedFile.{NamedFile}
-use Rattle.do_sched.specs.Good.{IsLineOf}
-use Rattle.do_sched.specs.Version.{header}
-use Rattle.do_sched.specs.declared.line.Line.{Line}
+use Rattle.do_sched.specs.{Good.IsLineOf, Version.header, declared.line.Line.Line}
 use Rattle.do_sched.specs.declared.version.Version.TheVariants.{First, Second}
 use Rattle.do_sched.proofs.Upgraded.{upgrades}
 use Rattle.std.specs.List.{AllByRecursion}
@@ -12,8 +10,7 @@ use Rattle.do_native.specs.Acts.{native_act}
 use Rattle.do_world.specs.declared.world.World.{World}
 use Rattle.do_lines.specs.Transcript.{transcript}
 use Rattle.do_transcript.specs.Transcript.{transcript_from}
-use Rattle.do_given.specs.Reading.{IsUpgrade, IsUpgraded}
-use Rattle.do_given.specs.Parts.{behaviour_of}
+use Rattle.do_given.specs.{Reading.{IsUpgrade, IsUpgraded}, Parts.behaviour_of}
 use Rattle.do_node.specs.Replaying.{world_transcript}
 use Rattle.do_node.specs.Upgrading.{IsReplayedAlike, ReplaysAlike, first_transcript}
 

@@ -1,12 +1,10 @@
 -- What is answered to words that ask for no command.
-use Rattle.std.proofs.Common.{◌≡◌, ◌↔◌, ℕ, List, Some, None, Err, refl}
-use Rattle.std.proofs.Common.{subst, sym}
-use Rattle.std.specs.Prelude.{IfSome, IsErrOf}
-use Rattle.do_cli.specs.Forms.{command_in, stuck_at}
-use Rattle.do_cli.specs.declared.command.Command.{Command}
-use Rattle.do_cli.specs.declared.fault.WordFault.{WordFault}
 use Rattle.do_cli.specs.declared.fault.WordFault.TheVariants as words
 use Rattle.do_given.specs.declared.status.Status.TheVariants as answer
+use Rattle.std.proofs.Common.{◌≡◌, ◌↔◌, ℕ, List, Some, None, Err, refl, subst, sym}
+use Rattle.std.specs.Prelude.{IfSome, IsErrOf}
+use Rattle.do_cli.specs.{Forms.{command_in, stuck_at}, declared.command.Command.Command}
+use Rattle.do_cli.specs.declared.fault.WordFault.{WordFault}
 
 -- the words ask for no command, and this one is the first at fault
 abbrev IsStuck : List (List ℕ) → ℕ → Type 0

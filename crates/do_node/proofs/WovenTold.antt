@@ -1,41 +1,27 @@
 -- What is answered of records that are woven over a world.
-use Rattle.std.proofs.Common.{◌≡◌, ◌≤◌, ℕ, List, [], ◌∷◌, Option, None, Some, Result, Ok, Err}
-use Rattle.std.proofs.Common.{inl, inr, ap, arith, length, sum_by, sym, subst, refl, ◌∙◌}
-use Rattle.std.specs.Prelude.{IfErr}
-use Rattle.std.proofs.lemmas.List.Sums.{sum_by-cons}
-use Rattle.do_base.specs.declared.outside.shelf.NamedFile.{NamedFile}
-use Rattle.do_machine.specs.World.{opening}
-use Rattle.do_machine.specs.declared.state.State.{State}
-use Rattle.do_native.specs.Acts.{native_act}
-use Rattle.do_native.specs.declared.native.Native.{Native}
-use Rattle.do_net.specs.Net.{Stands, network}
-use Rattle.do_net.specs.OneMachine.{StandsFor}
-use Rattle.do_net.specs.Seen.{Seen}
-use Rattle.do_net.specs.declared.net.Net.{Net}
-use Rattle.do_record.specs.declared.parts.Block.{Block}
-use Rattle.do_record.specs.declared.parts.Record.{Record}
-use Rattle.do_record.specs.declared.parts.RecordLine.{RecordLine}
 use Rattle.do_record.specs.declared.parts.RecordLine.TheVariants as inputs
-use Rattle.do_sched.specs.Spelling.{spelling}
-use Rattle.do_sched.specs.declared.line.Line.{Line}
-use Rattle.do_sched.specs.declared.version.Version.TheVariants.{Second}
-use Rattle.do_weave.specs.Rules.{Rules}
-use Rattle.do_weave.specs.Telling.{Tells}
-use Rattle.do_weave.specs.Threads.{blocks_in}
-use Rattle.do_weave.specs.Weaving.{Woven, woven}
-use Rattle.do_weave.specs.declared.fault.WeaveFault.{WeaveFault}
 use Rattle.do_weave.specs.declared.fault.WeaveFault.TheVariants as weaving
+use Rattle.std.proofs.Common.{◌≡◌, ◌≤◌, ℕ, List, [], ◌∷◌, Option, None, Some, Result, Ok, Err, inl}
+use Rattle.std.proofs.Common.{inr, ap, arith, length, sum_by, sym, subst, refl, ◌∙◌}
+use Rattle.std.{specs.Prelude.IfErr, proofs.lemmas.List.Sums.sum_by-cons}
+use Rattle.do_base.specs.declared.outside.shelf.NamedFile.{NamedFile}
+use Rattle.do_machine.specs.{World.opening, declared.state.State.State}
+use Rattle.do_native.specs.{Acts.native_act, declared.native.Native.Native}
+use Rattle.do_net.specs.{Net.{Stands, network}, OneMachine.StandsFor, Seen.Seen}
+use Rattle.do_net.specs.declared.net.Net.{Net}
+use Rattle.do_record.specs.declared.parts.{Block.Block, Record.Record, RecordLine.RecordLine}
+use Rattle.do_sched.specs.{Spelling.spelling, declared.line.Line.Line}
+use Rattle.do_sched.specs.declared.version.Version.TheVariants.{Second}
+use Rattle.do_weave.specs.{Rules.Rules, Telling.Tells, Threads.blocks_in, Weaving.{Woven, woven}}
+use Rattle.do_weave.specs.declared.fault.WeaveFault.{WeaveFault}
 use Rattle.do_woven.specs.Steps.{block_steps, input_steps, record_steps, steps_in}
-use Rattle.do_world.specs.Builtin.{builtin_world}
-use Rattle.do_world.specs.declared.world.World.{World}
-use Rattle.do_given.specs.declared.status.Status.{Status}
-use Rattle.do_given.specs.Files.{IsUnread}
+use Rattle.do_world.specs.{Builtin.builtin_world, declared.world.World.World}
+use Rattle.do_given.specs.{declared.status.Status.Status, Files.IsUnread}
 use Rattle.do_given.specs.Reading.{GivesWorld, OrMemory, OrUnread, RefusesWorld, Stops}
 use Rattle.do_node.specs.Records.{AnyUnread, SayNoRecords, SayRecords}
 use Rattle.do_given.specs.Parts.{behaviour_of}
 use Rattle.do_node.specs.Weaving.{Contradicts, GivesRecords, HasUnreadPart, IsWoven, RefusesWeaving}
-use Rattle.do_node.specs.Weaving.{RefusesRecords, WeavesTo, rules_of, told_of_weaving}
-use Rattle.do_node.specs.Weaving.{world_woven}
+use Rattle.do_node.specs.Weaving.{RefusesRecords, WeavesTo, rules_of, told_of_weaving, world_woven}
 use Rattle.do_node.specs.WovenNet.{IsMachine}
 use Rattle.do_given.proofs.FilesTold.{no_err, or_unread, read_is}
 use Rattle.do_given.proofs.Stopping.{give_any, must_be, stops_as}

@@ -1,27 +1,21 @@
 -- What a command writes, and why it is refused.
+use Rattle.do_given.specs.declared.status.Status.TheVariants as answer
 use Rattle.std.specs.Prelude.{◌≡◌, ℕ, ◌⊎◌, List, Option, Some, None, Result, OnOk, IfErr, IsOk}
 use Rattle.std.specs.Prelude.{IsErrOf}
-use Rattle.do_base.specs.outside.Causes.{Rose}
-use Rattle.do_base.specs.declared.outside.shelf.NamedFile.{NamedFile}
-use Rattle.do_cli.specs.Help.{help_text, version_text}
-use Rattle.do_cli.specs.declared.command.Command.{Command}
-use Rattle.do_cli.specs.declared.command.Command.TheVariants.{Replay, Leaks, Weave, Upgrade}
-use Rattle.do_cli.specs.declared.command.Command.TheVariants.{Make, Node, Lab, Help, Version}
-use Rattle.do_sched.specs.declared.line.Line.{Line}
-use Rattle.do_sched.specs.declared.version.Version.TheVariants.{First}
+use Rattle.do_base.specs.{outside.Causes.Rose, declared.outside.shelf.NamedFile.NamedFile}
+use Rattle.do_cli.specs.{Help.{help_text, version_text}, declared.command.Command.Command}
+use Rattle.do_cli.specs.declared.command.Command.TheVariants.{Replay, Leaks, Weave, Upgrade, Make}
+use Rattle.do_cli.specs.declared.command.Command.TheVariants.{Node, Lab, Help, Version}
+use Rattle.do_sched.specs.declared.{line.Line.Line, version.Version.TheVariants.First}
 use Rattle.do_world.specs.declared.world.World.{World}
-use Rattle.do_given.specs.declared.scheduled.Scheduled.{Scheduled}
-use Rattle.do_given.specs.declared.status.Status.{Status}
-use Rattle.do_given.specs.declared.status.Status.TheVariants as answer
-use Rattle.do_given.specs.Files.{IsUnread}
-use Rattle.do_given.specs.Reading.{GivesScheduled, HasUnreadScheduled, IsUpgrade}
+use Rattle.do_given.specs.declared.{scheduled.Scheduled.Scheduled, status.Status.Status}
+use Rattle.do_given.specs.{Files.IsUnread, Reading.{GivesScheduled, HasUnreadScheduled, IsUpgrade}}
 use Rattle.do_given.specs.Reading.{RefusesScheduled, SaysNoLines, Stops}
 use Rattle.do_given.specs.Serving.{RefusesServed, SaysNoText}
 use Rattle.do_plan.specs.Plan.{plan_form}
-use Rattle.do_node.specs.Added.{AddsAll, AddsFirst}
-use Rattle.do_node.specs.Replaying.{made_text, world_lost, world_wired}
-use Rattle.do_node.specs.Running.{Counts, EndsWith, IsRun, IsRunEnd, IsServed}
-use Rattle.do_node.specs.Weaving.{HasUnreadPart, IsWoven, RefusesWeaving}
+use Rattle.do_node.specs.{Added.{AddsAll, AddsFirst}, Replaying.{made_text, world_lost}}
+use Rattle.do_node.specs.{Replaying.world_wired, Running.{Counts, EndsWith, IsRun, IsRunEnd}}
+use Rattle.do_node.specs.{Running.IsServed, Weaving.{HasUnreadPart, IsWoven, RefusesWeaving}}
 
 -- the text is what a schedule comes to over a world
 pub record IsOver (text_of : World → List Line → List ℕ) (told : Option (List NamedFile))

@@ -1,21 +1,16 @@
 -- What is known of the objects that `leaks` tells.
-use Rattle.std.specs.Prelude.{◌≡◌, ℕ, List, Option, true}
-use Rattle.std.specs.List.{AllByRecursion}
+use Rattle.do_sched.specs.declared.line.Line.TheVariants as lines
+use Rattle.std.specs.{Prelude.{◌≡◌, ℕ, List, Option, true}, List.AllByRecursion}
 use Rattle.do_base.specs.declared.outside.shelf.NamedFile.{NamedFile}
 use Rattle.do_at_hand.specs.AtHand.{NamedAreStored}
-use Rattle.do_cycles.specs.Settled.{IsSettled}
-use Rattle.do_cycles.specs.Told.{TellsEachLost}
-use Rattle.do_given.specs.Parts.{behaviour_of}
-use Rattle.do_given.specs.Reading.{GivesScheduled}
+use Rattle.do_cycles.specs.{Settled.IsSettled, Told.TellsEachLost}
+use Rattle.do_given.specs.{Parts.behaviour_of, Reading.GivesScheduled}
 use Rattle.do_given.specs.declared.scheduled.Scheduled.{Scheduled}
-use Rattle.do_lost.specs.Named.{quiet}
-use Rattle.do_lost.specs.Text.{lost_text}
-use Rattle.do_machine.specs.World.{opening}
-use Rattle.do_machine.specs.declared.state.State.{State}
+use Rattle.do_lost.specs.{Named.quiet, Text.lost_text}
+use Rattle.do_machine.specs.{World.opening, declared.state.State.State}
 use Rattle.do_native.specs.Acts.{native_act}
 use Rattle.do_replay.specs.Replayed.{state_after}
 use Rattle.do_sched.specs.declared.line.Line.{Line}
-use Rattle.do_sched.specs.declared.line.Line.TheVariants as lines
 use Rattle.do_world.specs.declared.world.World.{World}
 
 -- the line closes nothing and loses nothing

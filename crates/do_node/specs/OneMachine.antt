@@ -1,27 +1,19 @@
 -- That what a command writes of a network is what one local machine comes to.
 use Rattle.std.specs.Prelude.{◌≡◌, ℕ, ◌⊎◌, List, Option, map}
 use Rattle.do_base.specs.declared.outside.shelf.NamedFile.{NamedFile}
-use Rattle.do_cli.specs.declared.command.Command.{Command}
-use Rattle.do_cli.specs.declared.command.Command.TheVariants.{Replay, Make}
+use Rattle.do_cli.specs.declared.command.Command.{Command, TheVariants.{Replay, Make}}
 use Rattle.do_generate.specs.Generated.{generated}
-use Rattle.do_given.specs.Parts.{behaviour_of}
-use Rattle.do_given.specs.Reading.{GivesScheduled}
+use Rattle.do_given.specs.{Parts.behaviour_of, Reading.GivesScheduled}
 use Rattle.do_given.specs.declared.scheduled.Scheduled.{Scheduled}
-use Rattle.do_machine.specs.World.{opening}
-use Rattle.do_machine.specs.check.Blocks.{blocks}
-use Rattle.do_make.specs.Summary.{summary_of}
-use Rattle.do_make.specs.Text.{summary_text}
+use Rattle.do_machine.specs.{World.opening, check.Blocks.blocks}
+use Rattle.do_make.specs.{Summary.summary_of, Text.summary_text}
 use Rattle.do_native.specs.Acts.{native_act}
 use Rattle.do_sched.specs.declared.line.Line.{Line}
 use Rattle.do_trace.specs.Block.{Block}
-use Rattle.do_world.specs.Mesh.{mesh_world}
-use Rattle.do_world.specs.declared.world.World.{World}
-use Rattle.do_network.specs.Net.{net_opening}
-use Rattle.do_network.specs.Wired.{WiredBlock, net_blocks}
-use Rattle.do_agreement.specs.HasWires.{HasWires}
-use Rattle.do_agreement.specs.WithoutWires.{without_wires}
-use Rattle.do_node.specs.Added.{AddsAll, AddsFirst}
-use Rattle.do_node.specs.Replaying.{world_transcript}
+use Rattle.do_world.specs.{Mesh.mesh_world, declared.world.World.World}
+use Rattle.do_network.specs.{Net.net_opening, Wired.{WiredBlock, net_blocks}}
+use Rattle.do_agreement.specs.{HasWires.HasWires, WithoutWires.without_wires}
+use Rattle.do_node.specs.{Added.{AddsAll, AddsFirst}, Replaying.world_transcript}
 
 -- The text is the transcript of a schedule over one local machine, once the lines that begin with
 -- `wire ` are dropped. These are whole lines, put between those of the transcript.

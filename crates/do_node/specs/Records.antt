@@ -1,15 +1,13 @@
 -- What the files of records say, one behind another.
+use Rattle.do_sched.specs.declared.fault.SchedFault.TheVariants as sched
 use Rattle.std.specs.Prelude.{◌≡◌, ℕ, ◌+◌, ◌⊎◌, List, [], ◌∷◌, ◌++◌, Option, Ok, Err, length}
 use Rattle.do_base.specs.declared.outside.shelf.NamedFile.{NamedFile}
 use Rattle.do_machine.specs.declared.state.Seat.{Seat}
 use Rattle.do_record.specs.declared.parts.Record.{Record}
 use Rattle.do_sched.specs.declared.fault.SchedFault.{SchedFault}
-use Rattle.do_sched.specs.declared.fault.SchedFault.TheVariants as sched
 use Rattle.do_woven.specs.Judging.{judged}
-use Rattle.do_given.specs.declared.status.Status.{Status}
-use Rattle.do_given.specs.declared.status.Status.TheVariants.{BadRecord, Memory}
-use Rattle.do_given.specs.Files.{IsUnread, most_of_record}
-use Rattle.do_given.specs.Reading.{HasText, NamesNone}
+use Rattle.do_given.specs.declared.status.Status.{Status, TheVariants.{BadRecord, Memory}}
+use Rattle.do_given.specs.{Files.{IsUnread, most_of_record}, Reading.{HasText, NamesNone}}
 
 -- what is told of a fault of a record: which record it is, and the line
 abbrev pub told_of_record : ℕ → SchedFault → Status

@@ -2,21 +2,15 @@
 use Rattle.std.specs.Prelude.{ℕ, List}
 use Rattle.do_sched.specs.declared.line.Line.{Line}
 use Rattle.do_class.specs.Class.{Class}
-use Rattle.do_machine.specs.World.{opening}
-use Rattle.do_machine.specs.declared.state.State.{State}
-use Rattle.do_machine.specs.run.Run.{Acting}
+use Rattle.do_machine.specs.{World.opening, declared.state.State.State, run.Run.Acting}
 use Rattle.do_native.specs.Acts.{native_act}
 use Rattle.do_given.specs.Parts.{behaviour_of}
 use Rattle.do_generate.specs.Generated.{generated}
-use Rattle.do_world.specs.Counter.{counter_world}
-use Rattle.do_world.specs.Mesh.{mesh_world}
-use Rattle.do_world.specs.declared.world.World.{World}
+use Rattle.do_world.specs.{Counter.counter_world, Mesh.mesh_world, declared.world.World.World}
 use Rattle.do_transcript.specs.Transcript.{transcript_from}
 use Rattle.do_lost.specs.Text.{lost_text}
-use Rattle.do_make.specs.Summary.{summary_of}
-use Rattle.do_make.specs.Text.{summary_text}
-use Rattle.do_network.specs.Net.{net_opening}
-use Rattle.do_network.specs.Wired.{net_blocks}
+use Rattle.do_make.specs.{Summary.summary_of, Text.summary_text}
+use Rattle.do_network.specs.{Net.net_opening, Wired.net_blocks}
 use Rattle.do_replay.specs.Replayed.{state_after, wired_from}
 
 -- the transcript of these lines over a world, from its opening on

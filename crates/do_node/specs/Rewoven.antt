@@ -3,8 +3,7 @@ use Rattle.std.specs.Prelude.{ℕ, List, Option}
 use Rattle.do_base.specs.declared.outside.shelf.NamedFile.{NamedFile}
 use Rattle.do_machine.specs.World.{opening}
 use Rattle.do_record.specs.declared.parts.Record.{Record}
-use Rattle.do_sched.specs.Schedule.{IsSchedule}
-use Rattle.do_sched.specs.declared.line.Line.{Line}
+use Rattle.do_sched.specs.{Schedule.IsSchedule, declared.line.Line.Line}
 use Rattle.do_weave.specs.Laws.{GivesAgain}
 use Rattle.do_world.specs.declared.world.World.{World}
 use Rattle.do_node.specs.Weaving.{GivesRecords, rules_of}

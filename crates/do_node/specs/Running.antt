@@ -1,20 +1,16 @@
 -- What serving a node and running a plan come to, as commands.
+use Rattle.do_given.specs.declared.status.Status.TheVariants as answer
+use Rattle.do_served.specs.Nodes as nodes
+use Rattle.do_served.specs.Plans as plans
 use Rattle.std.specs.Prelude.{◌≡◌, ℕ, List, Option}
 use Rattle.do_base.specs.declared.outside.shelf.NamedFile.{NamedFile}
-use Rattle.do_cli.specs.declared.command.Command.{Command}
-use Rattle.do_cli.specs.declared.command.Command.TheVariants.{Node, Lab}
-use Rattle.do_given.specs.declared.served.Served.{Served}
-use Rattle.do_given.specs.declared.status.Status.{Status}
-use Rattle.do_given.specs.declared.status.Status.TheVariants as answer
+use Rattle.do_cli.specs.declared.command.Command.{Command, TheVariants.{Node, Lab}}
+use Rattle.do_given.specs.declared.{served.Served.Served, status.Status.Status}
 use Rattle.do_given.specs.Serving.{GivesServed, SaysPlan}
-use Rattle.do_lab.specs.Children.{lab_text}
-use Rattle.do_lab.specs.Told.{Spawned}
-use Rattle.do_lab.specs.declared.children.ChildEnd.{ChildEnd}
+use Rattle.do_lab.specs.{Children.lab_text, Told.Spawned, declared.children.ChildEnd.ChildEnd}
 use Rattle.do_link.specs.Told.{Told}
 use Rattle.do_plan.specs.declared.plan.PlanLine.{PlanLine}
 use Rattle.do_serve.specs.Answers.{record_text}
-use Rattle.do_served.specs.Nodes as nodes
-use Rattle.do_served.specs.Plans as plans
 
 -- the text is the record of a node that is given, over what a link may tell
 pub record IsServed (told : Option (List NamedFile)) (port : ℕ) (word name : List ℕ) (turns : ℕ)

@@ -1,17 +1,14 @@
 -- What is replayed of an upgraded schedule.
 use Rattle.std.specs.Prelude.{◌≡◌, ℕ, List, Option}
 use Rattle.do_base.specs.declared.outside.shelf.NamedFile.{NamedFile}
-use Rattle.do_sched.specs.Schedule.{IsSchedule, IsScheduleOf}
-use Rattle.do_sched.specs.declared.line.Line.{Line}
+use Rattle.do_sched.specs.{Schedule.{IsSchedule, IsScheduleOf}, declared.line.Line.Line}
 use Rattle.do_sched.specs.declared.version.Version.TheVariants.{First}
 use Rattle.do_machine.specs.World.{opening}
 use Rattle.do_facts.specs.laws.first.Blocks.{blocks_1}
 use Rattle.do_native.specs.Acts.{native_act}
 use Rattle.do_world.specs.declared.world.World.{World}
 use Rattle.do_lines.specs.Transcript.{transcript}
-use Rattle.do_given.specs.Files.{most_of_schedule}
-use Rattle.do_given.specs.Reading.{HasText}
-use Rattle.do_given.specs.Parts.{behaviour_of}
+use Rattle.do_given.specs.{Files.most_of_schedule, Reading.HasText, Parts.behaviour_of}
 use Rattle.do_node.specs.Replaying.{world_transcript}
 
 -- the transcript of these lines over a world by the rules of the first version

@@ -1,22 +1,17 @@
 -- What the records of a world's nodes are woven to.
+use Rattle.do_weave.specs.declared.fault.WeaveFault.TheVariants as weaving
 use Rattle.std.specs.Prelude.{◌≡◌, ℕ, ◌⊎◌, List, [], Option, None, Ok, Err}
 use Rattle.do_base.specs.declared.outside.shelf.NamedFile.{NamedFile}
 use Rattle.do_machine.specs.World.{opening}
 use Rattle.do_native.specs.Acts.{native_act}
 use Rattle.do_record.specs.declared.parts.Record.{Record}
-use Rattle.do_sched.specs.Spelling.{spelling}
-use Rattle.do_sched.specs.declared.line.Line.{Line}
+use Rattle.do_sched.specs.{Spelling.spelling, declared.line.Line.Line}
 use Rattle.do_sched.specs.declared.version.Version.TheVariants.{Second}
-use Rattle.do_weave.specs.Rules.{Rules}
-use Rattle.do_weave.specs.Weaving.{Woven, woven}
+use Rattle.do_weave.specs.{Rules.Rules, Weaving.{Woven, woven}}
 use Rattle.do_weave.specs.declared.fault.WeaveFault.{WeaveFault}
-use Rattle.do_weave.specs.declared.fault.WeaveFault.TheVariants as weaving
-use Rattle.do_world.specs.Builtin.{builtin_world}
-use Rattle.do_world.specs.declared.world.World.{World}
-use Rattle.do_given.specs.declared.status.Status.{Status}
-use Rattle.do_given.specs.declared.status.Status.TheVariants.{Contradiction, Memory}
-use Rattle.do_given.specs.Files.{IsUnread}
-use Rattle.do_given.specs.Reading.{GivesWorld, RefusesWorld}
+use Rattle.do_world.specs.{Builtin.builtin_world, declared.world.World.World}
+use Rattle.do_given.specs.declared.status.Status.{Status, TheVariants.{Contradiction, Memory}}
+use Rattle.do_given.specs.{Files.IsUnread, Reading.{GivesWorld, RefusesWorld}}
 use Rattle.do_node.specs.Records.{AnyUnread, SayNoRecords, SayRecords}
 use Rattle.do_given.specs.Parts.{behaviour_of}
 

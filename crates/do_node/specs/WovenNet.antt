@@ -1,10 +1,7 @@
 -- The network of a world as the machine that records are woven on.
 use Rattle.std.specs.Prelude.{◌≡◌}
-use Rattle.do_machine.specs.declared.state.State.{State}
-use Rattle.do_machine.specs.run.Run.{Acting}
-use Rattle.do_net.specs.Net.{Stands, network}
-use Rattle.do_net.specs.OneMachine.{StandsFor}
-use Rattle.do_net.specs.Seen.{Seen}
+use Rattle.do_machine.specs.{declared.state.State.State, run.Run.Acting}
+use Rattle.do_net.specs.{Net.{Stands, network}, OneMachine.StandsFor, Seen.Seen}
 use Rattle.do_net.specs.declared.net.Net.{Net}
 use Rattle.do_weave.specs.Rules.{Rules}
 

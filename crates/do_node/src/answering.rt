@@ -1,9 +1,7 @@
 //! What each command comes to.
 ghost use Rattle.std.specs.Prelude.{◌≡◌, ◌≤◌};
 ghost use Rattle.do_cli.specs.Forms.{records_in};
-ghost use Rattle.do_node.specs.Answering.{answer_of};
-ghost use Rattle.do_node.specs.Call.{Comes};
-ghost use Rattle.do_node.specs.OneMachine.{AddsAsOne};
+ghost use Rattle.do_node.specs.{Answering.answer_of, Call.Comes, OneMachine.AddsAsOne};
 ghost use Rattle.do_node.specs.Running.{Links, Spawns, link_seen, spawner_seen};
 
 use crate::commands::{

@@ -1,20 +1,16 @@
 //! The commands that write a text: what each reads, and what it writes.
 ghost use Rattle.std.specs.Prelude.{◌≡◌, ◌≤◌, ◌⊎◌, OnOk, IfErr, IsOk, length};
-ghost use Rattle.do_base.specs.outside.Bytes.{with_more, HasWritten};
-ghost use Rattle.do_base.specs.outside.Causes.{Rose};
-ghost use Rattle.do_cli.specs.declared.command.Command.TheVariants.{Replay, Leaks, Weave};
-ghost use Rattle.do_cli.specs.declared.command.Command.TheVariants.{Upgrade};
+ghost use Rattle.do_base.specs.outside.{Bytes.{with_more, HasWritten}, Causes.Rose};
+ghost use Rattle.do_cli.specs.declared.command.Command.TheVariants.{Replay, Leaks, Weave, Upgrade};
 ghost use Rattle.do_cli.specs.Help.{help_text, version_text};
 ghost use Rattle.do_node.specs.Call.{Obeys};
 ghost use Rattle.do_given.specs.Reading.{Stops};
 ghost use Rattle.do_generate.specs.Generated.{generated};
-ghost use Rattle.do_world.specs.Mesh.{mesh_world};
-ghost use Rattle.do_world.specs.Sound.{IsSound};
+ghost use Rattle.do_world.specs.{Mesh.mesh_world, Sound.IsSound};
 ghost use Rattle.do_agreement.specs.HasWires.{HasWires};
 ghost use Rattle.do_replay.specs.Replayed.{WritesWithWires};
-ghost use Rattle.do_node.specs.OneMachine.{AddsAsOne, ComesAsOne};
-ghost use Rattle.do_node.specs.Replaying.{made_text, world_lost, world_summary, world_transcript};
-ghost use Rattle.do_node.specs.Replaying.{world_wired};
+ghost use Rattle.do_node.specs.{OneMachine.{AddsAsOne, ComesAsOne}, Replaying.made_text};
+ghost use Rattle.do_node.specs.Replaying.{world_lost, world_summary, world_transcript, world_wired};
 
 use crate::leaking::world_lost;
 use crate::making::summary_text;

@@ -1,9 +1,7 @@
 //! What nothing can reach after a schedule over a world.
 ghost use Rattle.std.specs.Prelude.{◌≡◌, IfOk, OnOk};
-ghost use Rattle.do_machine.specs.declared.state.State.{State};
-ghost use Rattle.do_machine.specs.check.Blocks.{line_step};
-ghost use Rattle.do_net.specs.Net.{Stands, network};
-ghost use Rattle.do_net.specs.OneMachine.{StandsFor};
+ghost use Rattle.do_machine.specs.{declared.state.State.State, check.Blocks.line_step};
+ghost use Rattle.do_net.specs.{Net.{Stands, network}, OneMachine.StandsFor};
 ghost use Rattle.do_node.specs.Replaying.{world_lost};
 ghost use Rattle.do_replay.specs.Replayed.{state_after};
 ghost use Rattle.do_world.specs.Sound.{IsSound};

@@ -1,8 +1,7 @@
 //! The summary of a schedule over a world.
 ghost use Rattle.std.specs.Prelude.{◌≡◌, IfOk, OnOk};
 ghost use Rattle.do_world.specs.Sound.{IsSound};
-ghost use Rattle.do_node.specs.OneMachine.{ComesAsOne};
-ghost use Rattle.do_node.specs.Replaying.{world_summary};
+ghost use Rattle.do_node.specs.{OneMachine.ComesAsOne, Replaying.world_summary};
 
 use crate::networks::net_of;
 use do_base::Text;

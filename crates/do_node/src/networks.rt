@@ -1,10 +1,8 @@
 //! The network of a world.
-ghost use Rattle.std.specs.Prelude.{◌≡◌, ◌<◌, [], IfOk, length};
-ghost use Rattle.std.specs.List.{AllByRecursion};
+ghost use Rattle.std.specs.{Prelude.{◌≡◌, ◌<◌, [], IfOk, length}, List.AllByRecursion};
 ghost use Rattle.do_machine.specs.World.{opening};
 ghost use Rattle.do_native.specs.Acts.{native_act};
-ghost use Rattle.do_net.specs.Net.{Stands, network};
-ghost use Rattle.do_net.specs.OneMachine.{StandsFor};
+ghost use Rattle.do_net.specs.{Net.{Stands, network}, OneMachine.StandsFor};
 ghost use Rattle.do_network.specs.Net.{net_opening};
 ghost use Rattle.do_given.specs.Parts.{behaviour_of};
 ghost use Rattle.do_world.specs.Sound.{IsSound};

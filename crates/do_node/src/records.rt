@@ -1,11 +1,10 @@
+ghost use Rattle.do_record.specs.declared.parts.Record as parts;
+ghost use Rattle.do_given.specs.declared.status.Status as declared;
 ghost use Rattle.std.specs.Prelude.{◌≡◌, ◌+◌, ◌≤◌, List, Ok, Err, IfOk, IfErr, Some, length};
 ghost use Rattle.do_base.specs.declared.outside.shelf.NamedFile.{NamedFile};
-ghost use Rattle.do_record.specs.declared.parts.Record as parts;
 ghost use Rattle.do_sched.specs.Schedule.{most_steps};
 ghost use Rattle.do_woven.specs.Steps.{record_steps, steps_in};
-ghost use Rattle.do_given.specs.declared.status.Status as declared;
-ghost use Rattle.do_given.specs.Files.{IsUnread};
-ghost use Rattle.do_given.specs.Reading.{OrMemory, OrUnread, Stops};
+ghost use Rattle.do_given.specs.{Files.IsUnread, Reading.{OrMemory, OrUnread, Stops}};
 ghost use Rattle.do_node.specs.Records.{AnyUnread, IsNoRecord, IsRecord, SayNoRecords, SayRecords};
 ghost use Rattle.do_node.specs.Records.{SaysNoRecord, SaysRecord, told_of_record};
 

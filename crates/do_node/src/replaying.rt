@@ -1,7 +1,6 @@
 //! A schedule replayed over a world.
 ghost use Rattle.std.specs.Prelude.{◌≡◌, ◌≤◌, OnOk, IsErrOf};
-ghost use Rattle.do_base.specs.outside.Bytes.{with_more, HasWritten};
-ghost use Rattle.do_base.specs.outside.Causes.{Rose};
+ghost use Rattle.do_base.specs.outside.{Bytes.{with_more, HasWritten}, Causes.Rose};
 ghost use Rattle.do_world.specs.Sound.{IsSound};
 ghost use Rattle.do_agreement.specs.HasWires.{HasWires};
 ghost use Rattle.do_replay.specs.Replayed.{WritesWithWires};

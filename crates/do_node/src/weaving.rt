@@ -1,9 +1,9 @@
+ghost use Rattle.do_given.specs.declared.status.Status as declared;
 ghost use Rattle.std.specs.Prelude.{◌≡◌, ◌≤◌, ℕ, List, Ok, Err, IfOk, IfErr, Some, length};
 ghost use Rattle.do_base.specs.declared.outside.shelf.NamedFile.{NamedFile};
 ghost use Rattle.do_sched.specs.Schedule.{most_steps};
 ghost use Rattle.do_woven.specs.Steps.{steps_in};
 ghost use Rattle.do_world.specs.Sound.{IsSound};
-ghost use Rattle.do_given.specs.declared.status.Status as declared;
 ghost use Rattle.do_given.specs.Reading.{OrMemory, OrUnread, Stops};
 ghost use Rattle.do_node.specs.Weaving.{Contradicts, HasUnreadPart, IsWoven, RefusesWeaving};
 ghost use Rattle.do_node.specs.Weaving.{WeavesTo, told_of_weaving};

@@ -1,29 +1,17 @@
 -- Invocations can act in every state.
-use Rattle.std.proofs.Common.{◌≡◌, List, map, arith}
-use Rattle.std.specs.List.{AllByRecursion}
-use Rattle.std.specs.Option.{IsSome}
-use Rattle.do_base.specs.declared.events.event.Event.{Event}
-use Rattle.do_class.specs.Class.{Class}
-use Rattle.do_class.specs.Table.{method_at}
-use Rattle.do_behave.specs.Answers.{HasLocals}
-use Rattle.do_behave.specs.declared.act.Act.{Act}
 use Rattle.do_behave.specs.declared.act.Act.TheVariants as acts
+use Rattle.std.{proofs.Common.{◌≡◌, List, map, arith}, specs.{List.AllByRecursion, Option.IsSome}}
+use Rattle.do_base.specs.declared.events.event.Event.{Event}
+use Rattle.do_class.specs.{Class.Class, Table.method_at}
+use Rattle.do_behave.specs.{Answers.HasLocals, declared.act.Act.Act}
 use Rattle.do_behave.specs.declared.invocation.Invocation.{Invocation}
-use Rattle.do_machine.specs.declared.node.Node.{Node}
-use Rattle.do_machine.specs.declared.state.Seat.{Seat}
-use Rattle.do_machine.specs.declared.state.State.{State}
-use Rattle.do_machine.specs.Step.{step}
-use Rattle.do_machine.specs.World.{by_port, opening}
-use Rattle.do_machine.specs.run.Run.{Acting}
-use Rattle.do_facts.proofs.OpeningAsNet.{opened}
-use Rattle.do_facts.proofs.methods.FewArguments.{takes_few}
-use Rattle.do_objects.specs.CanAct.{AllCanAct, CanAct, KeepsLocals}
-use Rattle.do_objects.specs.OwnClass.{AllSound}
-use Rattle.do_objects.specs.Reached.{reached}
-use Rattle.do_objects.proofs.Known.{begun_locals, has_method, HoldsAfter, HoldsBegun, Known}
-use Rattle.do_objects.proofs.Sound.{after_keeps, opens_sound, stays_sound}
-use Rattle.do_objects.proofs.Steps.{before_of}
-use Rattle.do_objects.proofs.Whole.{known_of, whole_of}
+use Rattle.do_machine.specs.{declared.{node.Node.Node, state.{Seat.Seat, State.State}}, Step.step}
+use Rattle.do_machine.specs.{World.{by_port, opening}, run.Run.Acting}
+use Rattle.do_facts.proofs.{OpeningAsNet.opened, methods.FewArguments.takes_few}
+use Rattle.do_objects.specs.{CanAct.{AllCanAct, CanAct, KeepsLocals}, OwnClass.AllSound}
+use Rattle.do_objects.{specs.Reached.reached, proofs.Known.{begun_locals, has_method, HoldsAfter}}
+use Rattle.do_objects.proofs.{Known.{HoldsBegun, Known}, Sound.{after_keeps, opens_sound}}
+use Rattle.do_objects.proofs.{Sound.stays_sound, Steps.before_of, Whole.{known_of, whole_of}}
 
 module _ (table : List Class) (act : Acting) (fed : KeepsLocals table act) where
   -- the table has the method, and there are 16 locals

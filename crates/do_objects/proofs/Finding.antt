@@ -1,20 +1,13 @@
 -- What is found in a heap that grew, was written to, or lost objects.
-use Rattle.std.proofs.Common.{◌≡◌, ◌⊎◌, ◌≤◌, ◌+◌, ◌==◌, ℕ, zero, suc, Bool, cond, inr, arith}
-use Rattle.std.proofs.Common.{List, [], ◌∷◌, ◌||◌, filter, length, refl}
-use Rattle.std.specs.Prelude.{None, Option, Some, option_map}
-use Rattle.std.proofs.lemmas.Bool.Decides.{nat_tests}
+use Rattle.std.proofs.Common.{◌≡◌, ◌⊎◌, ◌≤◌, ◌+◌, ◌==◌, ℕ, zero, suc, Bool, cond, inr, arith, List}
+use Rattle.std.{proofs.Common.{[], ◌∷◌, ◌||◌, filter, length, refl}, specs.Prelude.{None, Option}}
+use Rattle.std.{specs.Prelude.{Some, option_map}, proofs.lemmas.Bool.Decides.nat_tests}
 use Rattle.do_behave.specs.declared.act.Write.{Write}
-use Rattle.do_packet.specs.Met.{has_object}
-use Rattle.do_packet.specs.declared.receipt.Made.{Made}
-use Rattle.do_machine.specs.declared.node.Node.{Node}
-use Rattle.do_machine.specs.declared.node.Stored.{Stored}
-use Rattle.do_machine.specs.Lists.{change_first}
-use Rattle.do_machine.specs.State.{own, stored}
-use Rattle.do_machine.specs.held.Kept.{is_held_up, struck, struck_by}
-use Rattle.do_machine.specs.held.Refers.{heap_objects}
-use Rattle.do_machine.specs.run.Changes.{with_writes}
-use Rattle.do_machine.specs.run.Fresh.{with_serials}
-use Rattle.do_machine.proofs.Keeping.{chosen}
+use Rattle.do_packet.specs.{Met.has_object, declared.receipt.Made.Made}
+use Rattle.do_machine.specs.{declared.node.{Node.Node, Stored.Stored}, Lists.change_first}
+use Rattle.do_machine.specs.{State.{own, stored}, held.Kept.{is_held_up, struck, struck_by}}
+use Rattle.do_machine.specs.{held.Refers.heap_objects, run.Changes.with_writes}
+use Rattle.do_machine.{specs.run.Fresh.with_serials, proofs.Keeping.chosen}
 
 -- what is there is not absent
 pub absent : {X : Type 0} (x : X) (found : Option X) → found ≡ Some x → found ≡ None → ⊥

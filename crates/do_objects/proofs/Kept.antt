@@ -1,20 +1,13 @@
 -- What the effects of a node keep: what it stores, and that it is whole.
-use Rattle.std.proofs.Common.{◌≡◌, ◌<◌, ◌≤◌, ◌+◌, ◌==◌, ◌++◌, ℕ, Bool, List, [], length}
-use Rattle.std.proofs.Common.{sym, arith, refl, subst}
-use Rattle.std.specs.Prelude.{None, Option, Some}
+use Rattle.std.proofs.Common.{◌≡◌, ◌<◌, ◌≤◌, ◌+◌, ◌==◌, ◌++◌, ℕ, Bool, List, [], length, sym, arith}
+use Rattle.std.{proofs.Common.{refl, subst}, specs.Prelude.{None, Option, Some}}
 use Rattle.std.proofs.lemmas.List.Folds.{find-append}
-use Rattle.do_behave.specs.declared.act.Write.{Write}
-use Rattle.do_behave.specs.declared.invocation.Invocation.{Invocation}
+use Rattle.do_behave.specs.declared.{act.Write.Write, invocation.Invocation.Invocation}
 use Rattle.do_class.specs.declared.ids.ClassId.{ClassId}
 use Rattle.do_packet.specs.declared.receipt.Made.{Made}
-use Rattle.do_machine.specs.declared.node.Node.{Node}
-use Rattle.do_machine.specs.declared.node.Stored.{Stored}
-use Rattle.do_machine.specs.State.{stored}
-use Rattle.do_machine.specs.held.Leaving.{leaving}
-use Rattle.do_machine.specs.run.Changes.{with_writes}
-use Rattle.do_machine.specs.run.Fresh.{with_serials}
-use Rattle.do_objects.proofs.Finding.{AreFewer, fewer_left, not_new}
-use Rattle.do_objects.proofs.Known.{Known}
+use Rattle.do_machine.specs.{declared.node.{Node.Node, Stored.Stored}, State.stored}
+use Rattle.do_machine.specs.{held.Leaving.leaving, run.{Changes.with_writes, Fresh.with_serials}}
+use Rattle.do_objects.proofs.{Finding.{AreFewer, fewer_left, not_new}, Known.Known}
 use Rattle.do_objects.proofs.Whole.{AreOwn, IsMade, IsWhole, Stock, still_own, stock}
 
 -- nothing is written

@@ -1,18 +1,13 @@
 -- What else a node's steps keep of its invocations, and how many locals these begin with.
 use Rattle.std.proofs.Common.{◌≡◌, ◌-◌, ◌≤◌, ◌++◌, ℕ, List, length, ◌+◌, arith}
-use Rattle.std.specs.Prelude.{Some, replicate}
-use Rattle.std.specs.List.{AllByRecursion}
-use Rattle.do_base.specs.declared.values.value.Value.{Value}
-use Rattle.do_base.specs.declared.values.value.Value.TheVariants.{Nil}
-use Rattle.do_class.specs.Class.{Class}
-use Rattle.do_class.specs.Table.{signature_of, method_at}
+use Rattle.std.specs.{Prelude.{Some, replicate}, List.AllByRecursion}
+use Rattle.do_base.specs.declared.values.value.Value.{Value, TheVariants.Nil}
+use Rattle.do_class.specs.{Class.Class, Table.{signature_of, method_at}}
 use Rattle.do_class.specs.declared.ids.MethodId.{MethodId}
-use Rattle.do_behave.specs.declared.act.Act.{Act}
-use Rattle.do_behave.specs.declared.act.Act.TheVariants.{Step}
+use Rattle.do_behave.specs.declared.act.Act.{Act, TheVariants.Step}
 use Rattle.do_behave.specs.declared.invocation.Invocation.{Invocation}
 use Rattle.do_machine.specs.Context.{Found}
-use Rattle.std.specs.Option.{IsSome}
-use Rattle.std.proofs.lemmas.List.{length-append, length-replicate}
+use Rattle.std.{specs.Option.IsSome, proofs.lemmas.List.{length-append, length-replicate}}
 use Rattle.do_sig.specs.declared.signature.Signature.{Signature}
 
 -- what is known of an invocation, by its method and how many locals it has

@@ -1,43 +1,34 @@
 -- What a run, a start and a time-out of a node write, and that they keep what it stores.
+use Rattle.do_behave.specs.declared.act.Act.TheVariants as acts
+use Rattle.do_behave.specs.declared.invocation.Reason.TheVariants as reasons
+use Rattle.do_machine.specs.declared.verdict.Request.TheVariants as requests
 use Rattle.std.proofs.Common.{◌≡◌, ◌≤◌, ◌∙◌, ◌==◌, ℕ, cond, not, List, [], ◌∷◌, refl, sym, ap}
 use Rattle.std.proofs.Common.{subst, length, arith}
 use Rattle.std.specs.Prelude.{None, Option, Some, option_map}
-use Rattle.do_base.specs.declared.values.value.Value.{Value}
-use Rattle.do_base.specs.declared.values.value.Value.TheVariants.{Nil, Obj}
+use Rattle.do_base.specs.declared.values.value.Value.{Value, TheVariants.{Nil, Obj}}
 use Rattle.do_class.specs.Class.{Class}
 use Rattle.do_sig.specs.Calls.{args_fit}
-use Rattle.do_behave.specs.declared.act.Act.{Act}
-use Rattle.do_behave.specs.declared.act.Act.TheVariants as acts
-use Rattle.do_behave.specs.declared.act.Write.{Write}
+use Rattle.do_behave.specs.declared.act.{Act.Act, Write.Write}
 use Rattle.do_behave.specs.declared.invocation.Answer.TheVariants.{Given, Raised}
-use Rattle.do_behave.specs.declared.invocation.Invocation.{Invocation}
-use Rattle.do_behave.specs.declared.invocation.InvState.{InvState}
+use Rattle.do_behave.specs.declared.invocation.{Invocation.Invocation, InvState.InvState}
 use Rattle.do_behave.specs.declared.invocation.InvState.TheVariants.{Answered, Running, Waits}
-use Rattle.do_behave.specs.declared.invocation.Reason.TheVariants as reasons
-use Rattle.do_machine.specs.declared.node.Node.{Node}
-use Rattle.do_machine.specs.declared.state.Effect.{Effect}
-use Rattle.do_machine.specs.declared.verdict.Request.TheVariants as requests
-use Rattle.do_machine.specs.declared.verdict.SendAct.{SendAct}
+use Rattle.do_machine.specs.declared.{node.Node.Node, state.Effect.Effect, verdict.SendAct.SendAct}
 use Rattle.do_machine.specs.declared.verdict.Verdict.{Verdict}
 use Rattle.do_machine.specs.declared.verdict.Verdict.TheVariants.{Fails, Makes, Says, Uses}
-use Rattle.do_machine.specs.Context.{Context, RunContext, method_for, own_class}
-use Rattle.do_machine.specs.Effect.{only}
-use Rattle.do_machine.specs.Start.{is_busy, start_effect}
-use Rattle.do_machine.specs.State.{own, stored}
+use Rattle.do_machine.specs.{Context.{Context, RunContext, method_for, own_class}, Effect.only}
+use Rattle.do_machine.specs.{Start.{is_busy, start_effect}, State.{own, stored}}
 use Rattle.do_machine.specs.ends.TimeOut.{give_up, time_out, time_out_on}
 use Rattle.do_machine.specs.run.Acts.{act_rule, return_rule, root_rule, root_value, vend_rule}
 use Rattle.do_machine.specs.run.Fresh.{blank, fresh, pushed}
 use Rattle.do_machine.specs.run.Run.{Acting, next_act, run_effect, run_on, slots_seen, state_rule}
-use Rattle.do_machine.specs.run.Send.{inputs, message, outs_of, send_rule}
-use Rattle.do_machine.specs.run.Verdicts.{effect_of}
+use Rattle.do_machine.specs.run.{Send.{inputs, message, outs_of, send_rule}, Verdicts.effect_of}
 use Rattle.do_facts.proofs.Chains.{either, found_or, not_closed}
 use Rattle.do_facts.proofs.RulesOfActs.{Sends, by_return, by_root, by_send, by_vend}
 use Rattle.do_facts.proofs.methods.FewArguments.{fitting_length, inputs_length}
 use Rattle.do_objects.specs.Writes.{run_writes, writes_in, writes_of}
 use Rattle.do_objects.proofs.Kept.{Keeps, makes, none, restacked, same_writes, then_keeps}
-use Rattle.do_objects.proofs.Known.{HoldsAfter, HoldsBegun, Known}
-use Rattle.do_objects.proofs.Verdicts.{Quiet, asks, fails, goes, methods, nothing}
-use Rattle.do_objects.proofs.Verdicts.{only_to, returns, used, writes_own}
+use Rattle.do_objects.proofs.{Known.{HoldsAfter, HoldsBegun, Known}, Verdicts.{Quiet, asks, fails}}
+use Rattle.do_objects.proofs.Verdicts.{goes, methods, nothing, only_to, returns, used, writes_own}
 use Rattle.do_objects.proofs.Whole.{AreOwn, begun_own, stock}
 
 -- what an effect writes and keeps; where there is none, nothing is written

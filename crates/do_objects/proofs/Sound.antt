@@ -2,29 +2,17 @@
 use Rattle.std.proofs.Common.{◌≡◌, ◌∙◌, ◌<◌, ℕ, List, [], ◌∷◌, map, sym, ap, subst}
 use Rattle.std.specs.Prelude.{None, Some, option_and_then}
 use Rattle.std.proofs.lemmas.Option.{option_and_then_some}
-use Rattle.do_base.specs.names.Names.{ObjectName}
-use Rattle.do_base.specs.declared.events.event.Event.{Event}
+use Rattle.do_base.specs.{names.Names.ObjectName, declared.events.event.Event.Event}
 use Rattle.do_class.specs.Class.{Class}
 use Rattle.do_behave.specs.declared.invocation.Invocation.{Invocation}
-use Rattle.do_machine.specs.declared.node.Node.{Node}
-use Rattle.do_machine.specs.declared.node.Stored.{Stored}
-use Rattle.do_machine.specs.declared.state.Seat.{Seat}
-use Rattle.do_machine.specs.declared.state.State.{State}
-use Rattle.do_machine.specs.State.{node, stored}
-use Rattle.do_machine.specs.Step.{step}
-use Rattle.do_machine.specs.World.{by_port, opening}
-use Rattle.do_machine.specs.run.Changes.{with_writes}
-use Rattle.do_machine.specs.run.Fresh.{blank}
+use Rattle.do_machine.specs.declared.{node.{Node.Node, Stored.Stored}, state.Seat.Seat}
+use Rattle.do_machine.specs.{declared.state.State.State, State.{node, stored}, Step.step}
+use Rattle.do_machine.specs.{World.{by_port, opening}, run.{Changes.with_writes, Fresh.blank}}
 use Rattle.do_machine.specs.run.Run.{Acting}
-use Rattle.do_facts.proofs.EachOfLists.{each_of}
-use Rattle.do_facts.proofs.OpeningAsNet.{opened}
-use Rattle.do_objects.specs.OwnClass.{AllSound, IsSound}
-use Rattle.do_objects.specs.Reached.{after, object_of, reached}
-use Rattle.do_objects.specs.Writes.{writes_to}
-use Rattle.do_objects.proofs.Finding.{not_new, there}
-use Rattle.do_objects.proofs.Kept.{Became}
-use Rattle.do_objects.proofs.Steps.{before_of, writes_at}
-use Rattle.do_objects.proofs.Whole.{Nothing, sound_of, whole_of}
+use Rattle.do_facts.proofs.{EachOfLists.each_of, OpeningAsNet.opened}
+use Rattle.do_objects.specs.{OwnClass.{AllSound, IsSound}, Reached.{after, object_of, reached}}
+use Rattle.do_objects.{specs.Writes.writes_to, proofs.{Finding.{not_new, there}, Kept.Became}}
+use Rattle.do_objects.proofs.{Steps.{before_of, writes_at}, Whole.{Nothing, sound_of, whole_of}}
 
 module _ (table : List Class) (act : Acting) (S : State) (event : Event) where
   -- the state after the event

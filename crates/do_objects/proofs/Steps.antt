@@ -1,36 +1,22 @@
 -- What each event does to a node of the machine.
-use Rattle.std.proofs.Common.{◌≡◌, ◌∙◌, ◌==◌, ℕ, Bool, true, false, List, ap, refl, subst}
-use Rattle.std.proofs.Common.{sym, arith}
-use Rattle.std.specs.Prelude.{None, Option, Some}
-use Rattle.std.proofs.lemmas.Bool.{eqb-true}
-use Rattle.std.proofs.lemmas.Bool.Decides.{nat_tests}
-use Rattle.do_base.specs.declared.events.event.Event.{Event}
-use Rattle.do_base.specs.declared.events.event.Event.TheVariants.{Close, Run, Start, Timeout}
-use Rattle.do_base.specs.declared.values.value.Value.{Value}
+use Rattle.std.proofs.Common.{◌≡◌, ◌∙◌, ◌==◌, ℕ, Bool, true, false, List, ap, refl, subst, sym}
+use Rattle.std.{proofs.Common.arith, specs.Prelude.{None, Option, Some}}
+use Rattle.std.proofs.lemmas.Bool.{eqb-true, Decides.nat_tests}
+use Rattle.do_base.specs.declared.events.event.Event.{Event, TheVariants.{Close, Run, Start}}
+use Rattle.do_base.specs.declared.{events.event.Event.TheVariants.Timeout, values.value.Value.Value}
 use Rattle.do_class.specs.Class.{Class}
-use Rattle.do_behave.specs.declared.act.Write.{Write}
-use Rattle.do_behave.specs.declared.invocation.Invocation.{Invocation}
-use Rattle.do_machine.specs.declared.node.Node.{Node}
-use Rattle.do_machine.specs.declared.state.Effect.{Effect}
-use Rattle.do_machine.specs.declared.state.State.{State}
-use Rattle.do_machine.specs.Commit.{commit}
-use Rattle.do_machine.specs.Context.{Context, around, context}
-use Rattle.do_machine.specs.Objects.{object_at}
-use Rattle.do_machine.specs.State.{node}
-use Rattle.do_machine.specs.Step.{step}
-use Rattle.do_machine.specs.held.Leaving.{leaving}
+use Rattle.do_behave.specs.declared.{act.Write.Write, invocation.Invocation.Invocation}
+use Rattle.do_machine.specs.declared.{node.Node.Node, state.{Effect.Effect, State.State}}
+use Rattle.do_machine.specs.{Commit.commit, Context.{Context, around, context}, Objects.object_at}
+use Rattle.do_machine.specs.{State.node, Step.step, held.Leaving.leaving}
 use Rattle.do_machine.specs.run.Run.{Acting, run_effect}
 use Rattle.do_facts.specs.steps.IsStep.{IsActOf, IsRuleOf, without_oldest}
 use Rattle.do_facts.proofs.steps.NodeSteps.{Acted, NodeStep, Stands, Took, node_step}
-use Rattle.do_facts.proofs.steps.OthersStay.{move_leaves_own}
-use Rattle.do_facts.proofs.steps.RuleMoves.{rule_moves}
-use Rattle.do_objects.specs.Writes.{run_writes, writes_to}
-use Rattle.do_objects.proofs.Finding.{there}
-use Rattle.do_objects.proofs.Kept.{Became, Keeps, became, none, same_writes, stayed}
-use Rattle.do_objects.proofs.Known.{HoldsAfter, HoldsBegun, Known}
-use Rattle.do_objects.proofs.Runs.{KeepsIf, by_run, by_start, by_time_out}
-use Rattle.do_objects.proofs.Taken.{by_closing, by_take}
-use Rattle.do_objects.proofs.Whole.{stock}
+use Rattle.do_facts.proofs.steps.{OthersStay.move_leaves_own, RuleMoves.rule_moves}
+use Rattle.do_objects.{specs.Writes.{run_writes, writes_to}, proofs.{Finding.there, Kept.Became}}
+use Rattle.do_objects.proofs.{Kept.{Keeps, became, none, same_writes, stayed}, Known.HoldsAfter}
+use Rattle.do_objects.proofs.{Known.{HoldsBegun, Known}, Runs.{KeepsIf, by_run, by_start}}
+use Rattle.do_objects.proofs.{Runs.by_time_out, Taken.{by_closing, by_take}, Whole.stock}
 
 module _ (table : List Class) (act : Acting) (S : State) where
   -- what an event writes at the node of a port

@@ -1,22 +1,15 @@
 -- Small effects, and taking an item, keep what a node stores.
 use Rattle.std.proofs.Common.{◌≤◌, ℕ, length, map, arith}
-use Rattle.do_behave.specs.declared.invocation.Answer.{Answer}
-use Rattle.do_behave.specs.declared.invocation.Waited.{Waited}
-use Rattle.do_machine.specs.declared.item.Item.{Item}
-use Rattle.do_machine.specs.declared.node.Node.{Node}
-use Rattle.do_machine.specs.Context.{Context}
+use Rattle.do_behave.specs.declared.invocation.{Answer.Answer, Waited.Waited}
+use Rattle.do_machine.specs.{declared.{item.Item.Item, node.Node.Node}, Context.Context}
 use Rattle.do_machine.specs.ends.Closing.{closing, parted, without_answer}
 use Rattle.do_machine.specs.take.Awaiting.{AnsweredCall, answering, awaits, stack_answered}
-use Rattle.do_machine.specs.take.Awaiting.{with_answer}
-use Rattle.do_machine.specs.take.Receipt.{arrived}
-use Rattle.do_machine.specs.take.Take.{take_effect}
+use Rattle.do_machine.specs.take.{Awaiting.with_answer, Receipt.arrived, Take.take_effect}
 use Rattle.do_facts.proofs.EachOfLists.{each_changed, each_mapped}
-use Rattle.do_facts.proofs.methods.FewArguments.{fitting_length}
-use Rattle.do_facts.proofs.walk.SmallEffects.{Small, by_closing as closes}
-use Rattle.do_facts.proofs.walk.Takes.{Takes, by_take as taken}
-use Rattle.do_objects.proofs.Known.{HoldsBegun, Known}
-use Rattle.do_objects.proofs.Kept.{Keeps, idle, makes, none, restacks, still_made, then_keeps}
-use Rattle.do_objects.proofs.Whole.{IsOwn, begun_own, stock}
+use Rattle.do_facts.proofs.{methods.FewArguments.fitting_length, walk.SmallEffects.Small}
+use Rattle.do_facts.proofs.walk.{SmallEffects.by_closing as closes, Takes.{Takes, by_take as taken}}
+use Rattle.do_objects.proofs.{Known.{HoldsBegun, Known}, Kept.{Keeps, idle, makes, none, restacks}}
+use Rattle.do_objects.proofs.{Kept.{still_made, then_keeps}, Whole.{IsOwn, begun_own, stock}}
 
 -- nothing is said of what is sent
 abbrev pub Any : ℕ → Item → Type 0

@@ -1,31 +1,21 @@
 -- What each verdict of a run keeps: what the node stores, and its invocations' methods and locals.
-use Rattle.std.proofs.Common.{◌≡◌, ◌∙◌, ◌==◌, ℕ, Bool, cond, List, [], ◌∷◌}
-use Rattle.std.proofs.Common.{length, sym, subst, arith}
-use Rattle.std.specs.Prelude.{Option, slice_set}
-use Rattle.std.proofs.lemmas.List.{length-set}
-use Rattle.do_base.specs.declared.events.exception.Exc.{Exc}
-use Rattle.do_base.specs.declared.values.value.Value.{Value}
-use Rattle.do_base.specs.declared.values.value.Value.TheVariants.{Text}
-use Rattle.do_behave.specs.declared.act.Write.{Write}
-use Rattle.do_behave.specs.declared.invocation.Answer.{Answer}
-use Rattle.do_behave.specs.declared.invocation.Answer.TheVariants.{Given}
-use Rattle.do_behave.specs.declared.invocation.Handler.{Handler}
-use Rattle.do_behave.specs.declared.invocation.Invocation.{Invocation}
-use Rattle.do_machine.specs.declared.state.Effect.{Effect}
-use Rattle.do_machine.specs.declared.verdict.Request.{Request}
 use Rattle.do_machine.specs.declared.verdict.Request.TheVariants as requests
+use Rattle.std.proofs.Common.{◌≡◌, ◌∙◌, ◌==◌, ℕ, Bool, cond, List, [], ◌∷◌, length, sym, subst}
+use Rattle.std.{proofs.Common.arith, specs.Prelude.{Option, slice_set}}
+use Rattle.std.proofs.lemmas.List.{length-set}
+use Rattle.do_base.specs.declared.{events.exception.Exc.Exc, values.value.Value.Value}
+use Rattle.do_base.specs.declared.values.value.Value.TheVariants.{Text}
+use Rattle.do_behave.specs.declared.{act.Write.Write, invocation.Answer.{Answer, TheVariants.Given}}
+use Rattle.do_behave.specs.declared.invocation.{Handler.Handler, Invocation.Invocation}
+use Rattle.do_machine.specs.declared.{state.Effect.Effect, verdict.Request.Request}
 use Rattle.do_machine.specs.declared.verdict.Verdict.TheVariants.{Asks, Fails, Goes, Returns, Steps}
-use Rattle.do_machine.specs.Context.{RunContext}
-use Rattle.do_machine.specs.run.Answers.{exc_name}
+use Rattle.do_machine.specs.{Context.RunContext, run.Answers.exc_name}
 use Rattle.do_machine.specs.run.Changes.{goes_on, uses, with_outs}
-use Rattle.do_machine.specs.run.Delivery.{below_answered, popped}
-use Rattle.do_machine.specs.run.Verdicts.{effect_of}
+use Rattle.do_machine.specs.run.{Delivery.{below_answered, popped}, Verdicts.effect_of}
 use Rattle.do_facts.proofs.Deliveries.{Delivers, by_delivery, by_failing}
 use Rattle.do_facts.proofs.methods.FewArguments.{outs_length}
-use Rattle.do_objects.proofs.Finding.{written_at}
-use Rattle.do_objects.proofs.Kept.{Keeps, keeps_by, none, restacked}
-use Rattle.do_objects.proofs.Known.{Known}
-use Rattle.do_objects.proofs.Whole.{AreOwn, IsWhole, Stock, stock}
+use Rattle.do_objects.proofs.{Finding.written_at, Kept.{Keeps, keeps_by, none, restacked}}
+use Rattle.do_objects.proofs.{Known.Known, Whole.{AreOwn, IsWhole, Stock, stock}}
 
 -- writes to the object of one serial
 abbrev pub only_to : ℕ → List Write → ℕ → List Write

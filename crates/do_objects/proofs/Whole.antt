@@ -1,22 +1,15 @@
 -- Nodes of which so much is known: what they store was given, and their invocations are their own.
 use Rattle.std.proofs.Common.{arith, ◌≡◌, ◌<◌, ◌≤◌, ℕ, List, [], ◌∷◌, length, ap}
-use Rattle.std.specs.Prelude.{None, Some, option_map}
-use Rattle.std.specs.List.{AllByRecursion}
+use Rattle.std.specs.{Prelude.{None, Some, option_map}, List.AllByRecursion}
 use Rattle.do_base.specs.declared.values.value.Value.{Value}
-use Rattle.do_class.specs.Class.{Class}
-use Rattle.do_class.specs.declared.ids.ClassId.{ClassId}
-use Rattle.do_behave.specs.declared.invocation.Invocation.{Invocation}
-use Rattle.do_behave.specs.declared.invocation.Reason.{Reason}
-use Rattle.do_machine.specs.declared.node.Node.{Node}
-use Rattle.do_machine.specs.declared.node.Stored.{Stored}
-use Rattle.do_machine.specs.Context.{Found, method_for, own_class}
-use Rattle.do_machine.specs.State.{own, stored}
-use Rattle.do_machine.specs.run.Fresh.{fresh}
+use Rattle.do_class.specs.{Class.Class, declared.ids.ClassId.ClassId}
+use Rattle.do_behave.specs.declared.invocation.{Invocation.Invocation, Reason.Reason}
+use Rattle.do_machine.specs.{declared.node.{Node.Node, Stored.Stored}, Context.{Found, method_for}}
+use Rattle.do_machine.specs.{Context.own_class, State.{own, stored}, run.Fresh.fresh}
 use Rattle.do_facts.proofs.EachOfLists.{each_weaker}
 use Rattle.do_facts.proofs.methods.MethodsFound.{method_found, signature_found}
 use Rattle.do_objects.specs.OwnClass.{HaveOwnMethods, IsSound, StoresGiven, WasMadeOf}
-use Rattle.do_objects.proofs.Finding.{absent, there}
-use Rattle.do_objects.proofs.Known.{AreKnown, HoldsBegun, Known}
+use Rattle.do_objects.proofs.{Finding.{absent, there}, Known.{AreKnown, HoldsBegun, Known}}
 
 -- what a node stores, the next serial that it gives, and its invocations
 pub record Stock : Type 0 where

@@ -1,17 +1,11 @@
 -- Each invocation can act: it runs a method that the table has, and has 16 locals.
-use Rattle.std.specs.Prelude.{List, Some, length, ℕ, ◌≡◌}
-use Rattle.std.specs.List.{All, AllByRecursion}
+use Rattle.std.specs.{Prelude.{List, Some, length, ℕ, ◌≡◌}, List.{All, AllByRecursion}}
 use Rattle.std.specs.Option.{IsSome}
 use Rattle.do_base.specs.declared.values.value.Value.{Value}
-use Rattle.do_class.specs.Class.{Class}
-use Rattle.do_class.specs.Table.{method_at}
-use Rattle.do_behave.specs.Answers.{HasLocals}
-use Rattle.do_behave.specs.declared.invocation.Invocation.{Invocation}
-use Rattle.do_machine.specs.declared.node.Node.{Node}
-use Rattle.do_machine.specs.declared.state.State.{State}
-use Rattle.do_machine.specs.State.{node}
-use Rattle.do_machine.specs.World.{HasSignatures}
-use Rattle.do_machine.specs.run.Run.{Acting}
+use Rattle.do_class.specs.{Class.Class, Table.method_at}
+use Rattle.do_behave.specs.{Answers.HasLocals, declared.invocation.Invocation.Invocation}
+use Rattle.do_machine.specs.{declared.{node.Node.Node, state.State.State}, State.node}
+use Rattle.do_machine.specs.{World.HasSignatures, run.Run.Acting}
 
 -- the table's signatures keep to what every signature keeps to, and over it each step of the
 -- behaviour gives 16 locals

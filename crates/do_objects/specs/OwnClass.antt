@@ -1,11 +1,8 @@
 -- Each invocation runs a method of its object's class.
-use Rattle.std.specs.Prelude.{List, None, Some, ℕ, ◌<◌, ◌≡◌, ◌≤◌}
-use Rattle.std.specs.List.{AllByRecursion}
+use Rattle.std.specs.{Prelude.{List, None, Some, ℕ, ◌<◌, ◌≡◌, ◌≤◌}, List.AllByRecursion}
 use Rattle.do_class.specs.declared.ids.ClassId.{ClassId}
 use Rattle.do_behave.specs.declared.invocation.Invocation.{Invocation}
-use Rattle.do_machine.specs.declared.node.Node.{Node}
-use Rattle.do_machine.specs.declared.node.Stored.{Stored}
-use Rattle.do_machine.specs.declared.state.State.{State}
+use Rattle.do_machine.specs.declared.{node.{Node.Node, Stored.Stored}, state.State.State}
 use Rattle.do_machine.specs.State.{node, stored}
 
 -- an object of this serial was made, and it is of this class as long as it is stored

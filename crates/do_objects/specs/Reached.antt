@@ -1,15 +1,9 @@
 -- Where schedules lead, and the objects that are stored there.
 use Rattle.std.specs.Prelude.{List, Option, [], option_and_then, ◌∷◌}
-use Rattle.do_base.specs.names.Names.{ObjectName}
-use Rattle.do_base.specs.declared.events.event.Event.{Event}
+use Rattle.do_base.specs.{names.Names.ObjectName, declared.events.event.Event.Event}
 use Rattle.do_class.specs.Class.{Class}
-use Rattle.do_machine.specs.declared.node.Stored.{Stored}
-use Rattle.do_machine.specs.declared.state.Seat.{Seat}
-use Rattle.do_machine.specs.declared.state.State.{State}
-use Rattle.do_machine.specs.State.{node, stored}
-use Rattle.do_machine.specs.Step.{step}
-use Rattle.do_machine.specs.World.{opening}
-use Rattle.do_machine.specs.run.Run.{Acting}
+use Rattle.do_machine.specs.declared.{node.Stored.Stored, state.{Seat.Seat, State.State}}
+use Rattle.do_machine.specs.{State.{node, stored}, Step.step, World.opening, run.Run.Acting}
 
 -- the state after events, one after another
 abbrev pub after : List Class → Acting → State → List Event → State

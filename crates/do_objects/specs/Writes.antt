@@ -1,20 +1,13 @@
 -- What an event writes to slots.
-use Rattle.std.specs.Prelude.{List, [], if◌then◌else◌, option_map, unwrap_or, ℕ, ◌==◌}
-use Rattle.std.specs.Prelude.{◌∷◌}
-use Rattle.do_base.specs.names.Names.{ObjectName}
-use Rattle.do_base.specs.declared.events.event.Event.{Event}
-use Rattle.do_class.specs.Class.{Class}
-use Rattle.do_behave.specs.declared.act.Act.{Act}
-use Rattle.do_behave.specs.declared.act.Act.TheVariants.{Step}
-use Rattle.do_behave.specs.declared.act.Write.{Write}
-use Rattle.do_behave.specs.declared.invocation.Invocation.{Invocation}
-use Rattle.do_behave.specs.declared.invocation.InvState.{InvState}
-use Rattle.do_behave.specs.declared.invocation.InvState.TheVariants.{Running}
-use Rattle.do_machine.specs.declared.node.Node.{Node}
-use Rattle.do_machine.specs.declared.state.State.{State}
-use Rattle.do_machine.specs.State.{node, stored}
-use Rattle.do_machine.specs.run.Run.{Acting, slots_seen}
 use Rattle.do_base.specs.declared.events.event.Event.TheVariants as events
+use Rattle.std.specs.Prelude.{List, [], if◌then◌else◌, option_map, unwrap_or, ℕ, ◌==◌, ◌∷◌}
+use Rattle.do_base.specs.{names.Names.ObjectName, declared.events.event.Event.Event}
+use Rattle.do_class.specs.Class.{Class}
+use Rattle.do_behave.specs.declared.act.{Act.{Act, TheVariants.Step}, Write.Write}
+use Rattle.do_behave.specs.declared.invocation.{Invocation.Invocation, InvState.InvState}
+use Rattle.do_behave.specs.declared.invocation.InvState.TheVariants.{Running}
+use Rattle.do_machine.specs.{declared.{node.Node.Node, state.State.State}, State.{node, stored}}
+use Rattle.do_machine.specs.run.Run.{Acting, slots_seen}
 
 -- the act that an invocation does next at a node
 abbrev pub act_at : List Class → Acting → Node → Invocation → Act

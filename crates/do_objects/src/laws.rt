@@ -1,20 +1,11 @@
 ghost use Rattle.std.specs.Prelude.{◌≡◌, ◌<◌, ℕ, List, None, Some};
-ghost use Rattle.do_base.specs.names.Names.{ObjectName};
-ghost use Rattle.do_base.specs.declared.events.event.Event.{Event};
+ghost use Rattle.do_base.specs.{names.Names.ObjectName, declared.events.event.Event.Event};
 ghost use Rattle.do_class.specs.Class.{Class};
-ghost use Rattle.do_machine.specs.declared.node.Node.{Node};
-ghost use Rattle.do_machine.specs.declared.node.Stored.{Stored};
-ghost use Rattle.do_machine.specs.declared.state.Seat.{Seat};
-ghost use Rattle.do_machine.specs.declared.state.State.{State};
-ghost use Rattle.do_machine.specs.State.{node, stored};
-ghost use Rattle.do_machine.specs.Step.{step};
-ghost use Rattle.do_machine.specs.World.{opening};
-ghost use Rattle.do_machine.specs.run.Changes.{with_writes};
-ghost use Rattle.do_machine.specs.run.Run.{Acting};
-ghost use Rattle.do_objects.specs.CanAct.{AllCanAct, KeepsLocals};
-ghost use Rattle.do_objects.specs.OwnClass.{AllSound};
-ghost use Rattle.do_objects.specs.Reached.{object_of, reached};
-ghost use Rattle.do_objects.specs.Writes.{writes_to};
+ghost use Rattle.do_machine.specs.declared.{node.{Node.Node, Stored.Stored}, state.Seat.Seat};
+ghost use Rattle.do_machine.specs.{declared.state.State.State, State.{node, stored}, Step.step};
+ghost use Rattle.do_machine.specs.{World.opening, run.{Changes.with_writes, Run.Acting}};
+ghost use Rattle.do_objects.specs.{CanAct.{AllCanAct, KeepsLocals}, OwnClass.AllSound};
+ghost use Rattle.do_objects.specs.{Reached.{object_of, reached}, Writes.writes_to};
 
 /// A law alone: an object that is stored before an event and after it is the same but for what the
 /// event writes to it. That is nothing, or what the running act of an invocation of it writes.

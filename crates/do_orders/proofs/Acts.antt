@@ -1,20 +1,13 @@
 -- An enabled event by which a node acts is the act that its rule gives.
+use Rattle.do_base.specs.declared.events.event.Event.TheVariants as events
 use Rattle.std.proofs.Common.{◌≡◌, ℕ, Bool, true, false, cond, refl, sym, ap, ◌∙◌, subst}
 use Rattle.std.specs.Prelude.{None, Some}
 use Rattle.do_base.specs.declared.events.event.Event.{Event}
-use Rattle.do_machine.specs.Commit.{moved}
-use Rattle.do_machine.specs.State.{node}
-use Rattle.do_machine.specs.Step.{step}
-use Rattle.do_machine.specs.declared.node.Node.{Node}
-use Rattle.do_machine.specs.declared.state.Effect.{Effect}
-use Rattle.do_machine.specs.declared.state.State.{State}
-use Rattle.do_machine.specs.declared.state.Stepped.{Stepped}
-use Rattle.do_weave.specs.Inputs.{tried_step}
-use Rattle.do_weave.specs.Rules.{Rules}
-use Rattle.do_facts.proofs.steps.EachIsStep.{step_is}
-use Rattle.do_facts.specs.steps.IsStep.{Acts, Checks, IsActOf, IsRuleOf, IsStep, Loses, Skips}
-use Rattle.do_facts.specs.steps.IsStep.{Takes}
-use Rattle.do_base.specs.declared.events.event.Event.TheVariants as events
+use Rattle.do_machine.specs.{Commit.moved, State.node, Step.step, declared.node.Node.Node}
+use Rattle.do_machine.specs.declared.state.{Effect.Effect, State.State, Stepped.Stepped}
+use Rattle.do_weave.specs.{Inputs.tried_step, Rules.Rules}
+use Rattle.do_facts.{proofs.steps.EachIsStep.step_is, specs.steps.IsStep.{Acts, Checks, IsActOf}}
+use Rattle.do_facts.specs.steps.IsStep.{IsRuleOf, IsStep, Loses, Skips, Takes}
 
 -- what is chosen by a test, which passes
 pub chosen : {X : Type 0} (b : Bool) (x y : X) → cond b (Some x) None ≡ Some y →

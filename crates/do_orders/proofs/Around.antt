@@ -1,22 +1,16 @@
 -- What a node knows of the rest of the machine stays behind a sound move of another node.
 use Rattle.std.proofs.Common.{◌≡◌, ◌==◌, ℕ, Bool, true, false, cond, List, [], ◌∷◌, ap, ◌∙◌, sym}
 use Rattle.std.proofs.Common.{arith, refl}
-use Rattle.std.specs.Prelude.{None, Option, Some, is_some, option_and_then}
-use Rattle.std.specs.List.{find}
+use Rattle.std.specs.{Prelude.{None, Option, Some, is_some, option_and_then}, List.find}
 use mathlib.Core.Path.{fun_ext}
 use Rattle.do_base.specs.names.Names.{ObjectName}
 use Rattle.do_class.specs.declared.ids.ClassId.{ClassId}
-use Rattle.do_machine.specs.Context.{around}
-use Rattle.do_machine.specs.State.{class_given, class_of, is_known, own}
-use Rattle.do_machine.specs.declared.node.Node.{Node}
-use Rattle.do_machine.specs.declared.state.State.{State}
-use Rattle.do_machine.specs.declared.state.Station.{Station}
+use Rattle.do_machine.specs.{Context.around, State.{class_given, class_of, is_known, own}}
+use Rattle.do_machine.specs.declared.{node.Node.Node, state.{State.State, Station.Station}}
 use Rattle.do_facts.proofs.machine.ClassesStay.{stays}
 use Rattle.do_orders.specs.Moves.{Move, Source, done, effected, taken_off, without_first}
 use Rattle.do_orders.specs.Moves.Source.{First}
-use Rattle.do_orders.proofs.Past.{entries_past}
-use Rattle.do_orders.proofs.SoundMoves.{IsSound, StandsIn}
-use Rattle.do_orders.proofs.Stations.{at_port}
+use Rattle.do_orders.proofs.{Past.entries_past, SoundMoves.{IsSound, StandsIn}, Stations.at_port}
 
 -- the class of an object among stations
 abbrev class_among : ObjectName → List Station → Option ClassId

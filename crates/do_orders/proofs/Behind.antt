@@ -1,12 +1,7 @@
 -- An input behind a sound move of another node is the same move and shows the same.
-use Rattle.std.proofs.Common.{◌≡◌, ◌==◌, ℕ, false, ap, ◌∙◌, sym}
-use Rattle.std.specs.Prelude.{◌++◌}
-use Rattle.do_machine.specs.Commit.{commit, showed}
-use Rattle.do_machine.specs.Context.{around}
-use Rattle.do_machine.specs.State.{node}
-use Rattle.do_machine.specs.declared.node.Node.{Node}
-use Rattle.do_machine.specs.declared.state.State.{State}
-use Rattle.do_machine.specs.declared.state.Stepped.{Stepped}
+use Rattle.std.{proofs.Common.{◌≡◌, ◌==◌, ℕ, false, ap, ◌∙◌, sym}, specs.Prelude.◌++◌}
+use Rattle.do_machine.specs.{Commit.{commit, showed}, Context.around, State.node}
+use Rattle.do_machine.specs.declared.{node.Node.Node, state.{State.State, Stepped.Stepped}}
 use Rattle.do_machine.specs.held.Leaving.{leaving}
 use Rattle.do_record.specs.declared.parts.RecordLine.{RecordLine}
 use Rattle.do_weave.specs.Rules.{Rules}
@@ -14,8 +9,7 @@ use Rattle.do_facts.proofs.steps.OthersStay.{commit_leaves_others}
 use Rattle.do_orders.specs.Inputs.{ByMove, effect_by, source_of}
 use Rattle.do_orders.specs.Moves.{Move, done, effected, performed, taken_off}
 use Rattle.do_orders.proofs.Around.{KnowsClasses, around_past, entry_same, knows_off}
-use Rattle.do_orders.proofs.Commuting.{effected_past, off_past, stands_after}
-use Rattle.do_orders.proofs.Moving.{turned_round}
+use Rattle.do_orders.proofs.{Commuting.{effected_past, off_past, stands_after}, Moving.turned_round}
 use Rattle.do_orders.proofs.SoundMoves.{IsSound, StandsIn, at_effect, at_off, node_off}
 
 -- the move that an input is

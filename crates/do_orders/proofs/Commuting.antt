@@ -1,8 +1,6 @@
 -- Steps of two nodes commute, part by part.
 use Rattle.std.proofs.Common.{◌≡◌, ◌==◌, ℕ, false, sym, ap, ◌∙◌}
-use Rattle.do_machine.specs.Commit.{commit}
-use Rattle.do_machine.specs.declared.state.Effect.{Effect}
-use Rattle.do_machine.specs.declared.state.State.{State}
+use Rattle.do_machine.specs.{Commit.commit, declared.state.{Effect.Effect, State.State}}
 use Rattle.do_orders.specs.Moves.{Move, Source, Stands, done, effected, taken_off}
 use Rattle.do_orders.proofs.Moving.{both_off, effects_apart, off_and_effect, stands_behind}
 use Rattle.do_orders.proofs.Moving.{stands_off, turned_round}

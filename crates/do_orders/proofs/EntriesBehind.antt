@@ -1,24 +1,15 @@
 -- The entries of a node's objects behind an effect of another node, and what this took off for it.
 use Rattle.std.proofs.Common.{◌≡◌, ◌==◌, ℕ, Bool, true, false, List, ◌∷◌, refl, sym, ap, ◌∙◌}
-use Rattle.std.specs.Prelude.{None, Some}
-use Rattle.std.proofs.lemmas.Bool.{eqb-true}
+use Rattle.std.{specs.Prelude.{None, Some}, proofs.lemmas.Bool.eqb-true}
 use Rattle.do_base.specs.names.Names.{ObjectName}
-use Rattle.do_machine.specs.Commit.{commit}
-use Rattle.do_machine.specs.Entry.{has_entry}
-use Rattle.do_machine.specs.State.{change, is_open, node, queue}
-use Rattle.do_machine.specs.declared.item.Item.{Item}
-use Rattle.do_machine.specs.declared.node.Node.{Node}
-use Rattle.do_machine.specs.declared.state.Effect.{Effect}
+use Rattle.do_machine.specs.{Commit.commit, Entry.has_entry, State.{change, is_open, node, queue}}
+use Rattle.do_machine.specs.declared.{item.Item.Item, node.Node.Node, state.Effect.Effect}
 use Rattle.do_machine.specs.declared.state.State.{State}
-use Rattle.do_facts.proofs.machine.Entries.{entry_stays}
-use Rattle.do_facts.proofs.machine.follows.States.{requeued}
+use Rattle.do_facts.proofs.machine.{Entries.entry_stays, follows.States.requeued}
 use Rattle.do_facts.proofs.machine.passing.Commits.{entered_none, entry_after}
 use Rattle.do_facts.proofs.machine.passing.EntriesOff.{left_off, others_off, own_off, reaches}
-use Rattle.do_facts.proofs.machine.passing.Lookups.{other_stays}
-use Rattle.do_facts.proofs.machine.passing.Passes.{Passes}
-use Rattle.do_facts.proofs.machine.passing.Takes.{comes}
-use Rattle.do_orders.specs.Moves.{without_first}
-use Rattle.do_orders.proofs.Moving.{off_is}
+use Rattle.do_facts.proofs.machine.passing.{Lookups.other_stays, Passes.Passes, Takes.comes}
+use Rattle.do_orders.{specs.Moves.without_first, proofs.Moving.off_is}
 
 module _ (o : ObjectName) (port : ℕ) (apart : (o.node == port) ≡ false) (e : Effect) (S : State)
     (n : Node) (here : node S port ≡ Some n)

@@ -1,23 +1,14 @@
 -- Two inputs of different nodes that are enabled in a reached state commute.
 use Rattle.std.proofs.Common.{◌≡◌, ◌==◌, ℕ, false, List, ap, sym, subst, ◌∙◌, ne_eqb}
 use Rattle.std.specs.Prelude.{Some}
-use Rattle.do_machine.specs.declared.state.Seat.{Seat}
-use Rattle.do_machine.specs.declared.state.State.{State}
-use Rattle.do_machine.specs.declared.state.Stepped.{Stepped}
+use Rattle.do_machine.specs.declared.state.{Seat.Seat, State.State, Stepped.Stepped}
 use Rattle.do_record.specs.declared.parts.RecordLine.{RecordLine}
-use Rattle.do_weave.specs.Inputs.{tried}
-use Rattle.do_weave.specs.Orders.{InputsCommute, IsReached}
-use Rattle.do_weave.specs.Rules.{Rules}
-use Rattle.do_agreement.specs.Classed.{ClassesAreTold}
-use Rattle.do_agreement.proofs.told.EachState.{reached_told}
-use Rattle.do_orders.specs.Inputs.{ByMove}
-use Rattle.do_orders.specs.Moves.{done, performed}
-use Rattle.do_orders.proofs.Behind.{behind, move_of}
-use Rattle.do_orders.proofs.Commuting.{done_past}
-use Rattle.do_orders.proofs.InputsMove.{input_moves, move_is_tried}
-use Rattle.do_orders.proofs.Moving.{turned_round}
-use Rattle.do_orders.proofs.Reached.{by_events, reached_stands}
-use Rattle.do_orders.proofs.SoundInputs.{sound_input, stands_here}
+use Rattle.do_weave.specs.{Inputs.tried, Orders.{InputsCommute, IsReached}, Rules.Rules}
+use Rattle.do_agreement.{specs.Classed.ClassesAreTold, proofs.told.EachState.reached_told}
+use Rattle.do_orders.specs.{Inputs.ByMove, Moves.{done, performed}}
+use Rattle.do_orders.proofs.{Behind.{behind, move_of}, Commuting.done_past, InputsMove.input_moves}
+use Rattle.do_orders.proofs.{InputsMove.move_is_tried, Moving.turned_round, Reached.by_events}
+use Rattle.do_orders.proofs.{Reached.reached_stands, SoundInputs.{sound_input, stands_here}}
 
 module _ (R : Rules) (seats : List Seat) (S : State) (there : IsReached R seats S) where
   -- each object that a node knows has a class

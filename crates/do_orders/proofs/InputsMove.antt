@@ -1,31 +1,20 @@
 -- An enabled input is a move, and an input that is such a move is enabled.
-use Rattle.std.proofs.Common.{◌≡◌, ℕ, Bool, true, false, cond, List, [], ◌∷◌, refl, sym, ap, ◌∙◌}
-use Rattle.std.specs.Prelude.{None, Option, Some, if◌then◌else◌}
-use Rattle.do_machine.specs.Commit.{moved}
-use Rattle.do_machine.specs.Context.{context}
-use Rattle.do_machine.specs.Lists.{some_passes}
-use Rattle.do_machine.specs.State.{change, is_open, node, queue}
-use Rattle.do_machine.specs.Step.{step}
-use Rattle.do_machine.specs.declared.item.Item.{Item}
-use Rattle.do_machine.specs.declared.node.Node.{Node}
-use Rattle.do_machine.specs.declared.state.State.{State}
-use Rattle.do_machine.specs.declared.state.Stepped.{Stepped}
-use Rattle.do_machine.specs.ends.Closing.{closing}
-use Rattle.do_machine.specs.take.Take.{can_serve, can_take, take_effect}
-use Rattle.do_record.specs.declared.parts.RecordLine.{RecordLine}
-use Rattle.do_record.specs.declared.parts.RecordLine.TheVariants.{Close, Ended, Run, Start, Take}
-use Rattle.do_weave.specs.Inputs.{ending, takes, tried}
-use Rattle.do_weave.specs.Rules.{Rules}
-use Rattle.do_facts.proofs.steps.RuleMoves.{rule_moves}
-use Rattle.do_agreement.proofs.takes.MachineTakes.{take_moves}
-use Rattle.do_orders.specs.Inputs.{ByMove}
-use Rattle.do_orders.proofs.Acts.{acted, chosen}
-use Rattle.do_orders.proofs.LedBack.{LedBack}
-use Rattle.do_orders.specs.Moves.{without_first}
-use Rattle.do_orders.proofs.Moving.{off_is}
-use Rattle.do_orders.proofs.TakesMove.{ending_moves, open_of, take_there}
 use Rattle.do_base.specs.declared.events.event.Event.TheVariants as events
 use Rattle.do_machine.specs.declared.item.Item.TheVariants as items
+use Rattle.std.proofs.Common.{◌≡◌, ℕ, Bool, true, false, cond, List, [], ◌∷◌, refl, sym, ap, ◌∙◌}
+use Rattle.std.specs.Prelude.{None, Option, Some, if◌then◌else◌}
+use Rattle.do_machine.specs.{Commit.moved, Context.context, Lists.some_passes, State.change}
+use Rattle.do_machine.specs.{State.{is_open, node, queue}, Step.step, declared.item.Item.Item}
+use Rattle.do_machine.specs.declared.{node.Node.Node, state.{State.State, Stepped.Stepped}}
+use Rattle.do_machine.specs.{ends.Closing.closing, take.Take.{can_serve, can_take, take_effect}}
+use Rattle.do_record.specs.declared.parts.RecordLine.{RecordLine}
+use Rattle.do_record.specs.declared.parts.RecordLine.TheVariants.{Close, Ended, Run, Start, Take}
+use Rattle.do_weave.specs.{Inputs.{ending, takes, tried}, Rules.Rules}
+use Rattle.do_facts.proofs.steps.RuleMoves.{rule_moves}
+use Rattle.do_agreement.proofs.takes.MachineTakes.{take_moves}
+use Rattle.do_orders.{specs.Inputs.ByMove, proofs.{Acts.{acted, chosen}, LedBack.LedBack}}
+use Rattle.do_orders.specs.Moves.{without_first}
+use Rattle.do_orders.proofs.{Moving.off_is, TakesMove.{ending_moves, open_of, take_there}}
 
 -- what passes a test is there
 some_there : {X : Type 0} (test : X → Bool) (found : Option X) → some_passes test found ≡ true →

@@ -1,23 +1,15 @@
 -- In every state that a machine comes to, each open end has the queue that leads to it.
-use Rattle.std.proofs.Common.{◌≡◌, ◌==◌, ◌&&◌, ◌||◌, ℕ, Bool, true, false, cond, not, List, []}
-use Rattle.std.proofs.Common.{◌∷◌, map, refl, sym, ap, ◌∙◌, arith}
+use Rattle.std.proofs.Common.{◌≡◌, ◌==◌, ◌&&◌, ◌||◌, ℕ, Bool, true, false, cond, not, List, [], ◌∷◌}
+use Rattle.std.proofs.Common.{map, refl, sym, ap, ◌∙◌, arith}
 use Rattle.std.specs.Prelude.{None, Option, Some, find, option_and_then, option_map}
-use Rattle.std.specs.List.{list_any}
-use Rattle.std.proofs.lemmas.Bool.{eqb-true}
-use Rattle.std.proofs.lemmas.Grind.{common_steps}
+use Rattle.std.{specs.List.list_any, proofs.lemmas.{Bool.eqb-true, Grind.common_steps}}
 use Rattle.do_base.specs.declared.events.event.Event.{Event}
 use Rattle.do_class.specs.Class.{Class}
-use Rattle.do_machine.specs.State.{is_open, node, queue, queue_to}
-use Rattle.do_machine.specs.Step.{step}
+use Rattle.do_machine.specs.{State.{is_open, node, queue, queue_to}, Step.step}
 use Rattle.do_machine.specs.World.{by_port, opening, opening_station, others}
-use Rattle.do_machine.specs.declared.node.Node.{Node}
-use Rattle.do_machine.specs.declared.state.Seat.{Seat}
-use Rattle.do_machine.specs.declared.state.State.{State}
-use Rattle.do_machine.specs.declared.state.Station.{Station}
-use Rattle.do_machine.specs.run.Run.{Acting}
-use Rattle.do_machine.proofs.Bools.{fails}
-use Rattle.do_facts.proofs.OpeningAsNet.{opened}
-use Rattle.do_facts.proofs.machine.follows.Steps.{by_any_step}
+use Rattle.do_machine.specs.declared.{node.Node.Node, state.{Seat.Seat, State.State}}
+use Rattle.do_machine.{specs.{declared.state.Station.Station, run.Run.Acting}, proofs.Bools.fails}
+use Rattle.do_facts.proofs.{OpeningAsNet.opened, machine.follows.Steps.by_any_step}
 use Rattle.do_facts.proofs.machine.passing.Linked.{Any, QueuesStay, found_for, queue_moves}
 use Rattle.do_facts.proofs.steps.NodesAtHome.{was_there}
 use Rattle.do_orders.proofs.TakesMove.{open_of}

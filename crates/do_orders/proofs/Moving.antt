@@ -1,19 +1,13 @@
 -- Steps of two nodes change a state to one state in either order.
-use Rattle.std.proofs.Common.{◌≡◌, ◌==◌, ℕ, Bool, true, false, cond, List, [], ◌∷◌, ◌++◌}
-use Rattle.std.proofs.Common.{refl, sym, ap, ◌∙◌, arith, subst}
-use Rattle.std.specs.Prelude.{Option, Some, drop, option_and_then}
-use Rattle.std.specs.List.{find}
-use Rattle.std.proofs.lemmas.Bool.{eqb-true}
-use Rattle.std.proofs.lemmas.Grind.{common_steps}
-use Rattle.do_facts.proofs.machine.Frame.{elsewhere}
-use Rattle.do_facts.proofs.machine.Queues.{grows_behind, queue_among}
+use Rattle.std.proofs.Common.{◌≡◌, ◌==◌, ℕ, Bool, true, false, cond, List, [], ◌∷◌, ◌++◌, refl, sym}
+use Rattle.std.proofs.Common.{ap, ◌∙◌, arith, subst}
+use Rattle.std.specs.{Prelude.{Option, Some, drop, option_and_then}, List.find}
+use Rattle.std.proofs.lemmas.{Bool.eqb-true, Grind.common_steps}
+use Rattle.do_facts.proofs.machine.{Frame.elsewhere, Queues.{grows_behind, queue_among}}
 use Rattle.do_facts.proofs.machine.passing.Lookups.{other_stays}
 use Rattle.do_machine.specs.Commit.{commit, committed, items_to}
-use Rattle.do_machine.specs.State.{change, queue, queue_to, with_queue}
-use Rattle.do_machine.specs.declared.item.Item.{Item}
-use Rattle.do_machine.specs.declared.state.Effect.{Effect}
-use Rattle.do_machine.specs.declared.state.State.{State}
-use Rattle.do_machine.specs.declared.state.Station.{Station}
+use Rattle.do_machine.specs.{State.{change, queue, queue_to, with_queue}, declared.item.Item.Item}
+use Rattle.do_machine.specs.declared.state.{Effect.Effect, State.State, Station.Station}
 use Rattle.do_orders.specs.Moves.{Source, Stands, taken_off, without_first}
 use Rattle.do_orders.specs.Moves.Source.{First, Still, There}
 use Rattle.do_orders.proofs.Stations.{at_port, queues_apart, sent_and_shortened, shortened_is}

@@ -1,17 +1,12 @@
 -- A sound move leaves the entries of the objects of other nodes as they were.
-use Rattle.std.proofs.Common.{◌≡◌, ◌==◌, ℕ, true, false, ◌∙◌}
-use Rattle.std.specs.Prelude.{None}
+use Rattle.std.{proofs.Common.{◌≡◌, ◌==◌, ℕ, true, false, ◌∙◌}, specs.Prelude.None}
 use Rattle.do_base.specs.names.Names.{ObjectName}
-use Rattle.do_machine.specs.Entry.{has_entry}
-use Rattle.do_machine.specs.State.{is_open, queue}
-use Rattle.do_machine.specs.declared.node.Node.{Node}
+use Rattle.do_machine.specs.{Entry.has_entry, State.{is_open, queue}, declared.node.Node.Node}
 use Rattle.do_machine.specs.declared.state.State.{State}
-use Rattle.do_facts.proofs.machine.follows.States.{changed}
-use Rattle.do_facts.proofs.machine.passing.Linked.{commit_leaves}
+use Rattle.do_facts.proofs.machine.{follows.States.changed, passing.Linked.commit_leaves}
 use Rattle.do_facts.proofs.machine.passing.Passes.{Passes}
 use Rattle.do_machine.proofs.Bools.{fails}
-use Rattle.do_orders.specs.Moves.{Move, Source, Stands, done, effected, taken_off}
-use Rattle.do_orders.specs.Moves.Source.{First}
+use Rattle.do_orders.specs.Moves.{Move, Source, Stands, done, effected, taken_off, Source.First}
 use Rattle.do_orders.proofs.EntriesBehind.{entries_of_effect, entries_of_take}
 use Rattle.do_orders.proofs.SoundMoves.{IsOver, IsSound, StandsIn, came, node_off, queue_off}
 

@@ -1,12 +1,8 @@
 -- A queue that has other items, and then its own again, is as it was.
 use Rattle.std.proofs.Common.{◌≡◌, ◌==◌, ℕ, Bool, true, false, cond, List, [], ◌∷◌, refl, sym, ap}
-use Rattle.std.proofs.Common.{◌∙◌}
-use Rattle.std.specs.Prelude.{Some, option_and_then, option_map}
-use Rattle.std.specs.List.{find}
+use Rattle.std.{proofs.Common.◌∙◌, specs.{Prelude.{Some, option_and_then, option_map}, List.find}}
 use Rattle.do_machine.specs.State.{change, queue, queue_to, with_items, with_queue}
-use Rattle.do_machine.specs.declared.item.Item.{Item}
-use Rattle.do_machine.specs.declared.state.Queue.{Queue}
-use Rattle.do_machine.specs.declared.state.State.{State}
+use Rattle.do_machine.specs.declared.{item.Item.Item, state.{Queue.Queue, State.State}}
 use Rattle.do_machine.specs.declared.state.Station.{Station}
 use Rattle.do_facts.proofs.machine.Queues.{queue_among, waiting_for}
 use Rattle.do_orders.proofs.Stations.{at_peer, at_port, changed_again, changes_it}

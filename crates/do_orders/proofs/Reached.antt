@@ -2,24 +2,15 @@
 use Rattle.std.proofs.Common.{◌≡◌, List, [], ◌∷◌, ◌++◌, refl, sym, ap, ◌∙◌, subst}
 use Rattle.do_base.specs.declared.events.event.Event.{Event}
 use Rattle.do_class.specs.Class.{Class}
-use Rattle.do_machine.specs.Commit.{skipped}
-use Rattle.do_machine.specs.Step.{step}
-use Rattle.do_machine.specs.World.{opening}
-use Rattle.do_machine.specs.check.Blocks.{followed, steps}
-use Rattle.do_machine.specs.declared.state.Seat.{Seat}
-use Rattle.do_machine.specs.declared.state.State.{State}
-use Rattle.do_machine.specs.declared.state.Stepped.{Stepped}
-use Rattle.do_machine.specs.run.Run.{Acting}
-use Rattle.do_facts.specs.Reached.{reached}
-use Rattle.do_facts.specs.laws.Entries.{HasQueues}
-use Rattle.do_facts.specs.laws.Follows.{AllHoldOpen}
-use Rattle.do_facts.proofs.ReachedStates.{holds_of_reached}
-use Rattle.do_facts.proofs.machine.Opening.{opening_holds}
+use Rattle.do_machine.specs.{Commit.skipped, Step.step, World.opening}
+use Rattle.do_machine.specs.{check.Blocks.{followed, steps}, declared.state.Seat.Seat}
+use Rattle.do_machine.specs.{declared.state.{State.State, Stepped.Stepped}, run.Run.Acting}
+use Rattle.do_facts.specs.{Reached.reached, laws.{Entries.HasQueues, Follows.AllHoldOpen}}
+use Rattle.do_facts.proofs.{ReachedStates.holds_of_reached, machine.Opening.opening_holds}
 use Rattle.do_facts.proofs.machine.follows.Every.{all_hold, grow_steps}
 use Rattle.do_facts.proofs.machine.passing.Linked.{opening_queues, queues_stay}
 use Rattle.do_facts.proofs.steps.NodesAtHome.{AllAtHome, opening_home, step_home}
-use Rattle.do_weave.specs.Orders.{IsReached, at_opening, by_event}
-use Rattle.do_weave.specs.Rules.{Rules}
+use Rattle.do_weave.specs.{Orders.{IsReached, at_opening, by_event}, Rules.Rules}
 use Rattle.do_orders.proofs.LedBack.{LedBack, opening_led, step_led}
 
 -- What every step keeps: nodes stand at their ports, hold over open ends, and each end that is open

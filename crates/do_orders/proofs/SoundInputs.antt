@@ -1,39 +1,24 @@
 -- The move of an input is sound: its node holds what it held and what came, or gives it back.
+use Rattle.do_machine.specs.declared.item.Item.TheVariants as items
 use Rattle.std.proofs.Common.{◌≡◌, ◌==◌, ◌&&◌, ℕ, Bool, true, false, [], refl, subst}
 use Rattle.std.specs.Prelude.{Some}
 use Rattle.do_base.specs.names.Names.{ObjectName}
 use Rattle.do_packet.specs.Met.{has_object}
-use Rattle.do_machine.specs.Commit.{commit}
-use Rattle.do_machine.specs.Context.{Surroundings, around}
-use Rattle.do_machine.specs.Items.{exported}
-use Rattle.do_machine.specs.Start.{start_effect}
-use Rattle.do_machine.specs.State.{is_open}
-use Rattle.do_machine.specs.declared.item.Item.{Item}
-use Rattle.do_machine.specs.declared.node.Node.{Node}
-use Rattle.do_machine.specs.declared.state.Effect.{Effect}
-use Rattle.do_machine.specs.declared.state.State.{State}
-use Rattle.do_machine.specs.declared.state.Stepped.{Stepped}
-use Rattle.do_machine.specs.ends.Closing.{closing}
-use Rattle.do_machine.specs.run.Run.{run_effect}
-use Rattle.do_machine.specs.take.Take.{can_serve, can_take, take_effect}
+use Rattle.do_machine.specs.{Commit.commit, Context.{Surroundings, around}, Items.exported}
+use Rattle.do_machine.specs.{Start.start_effect, State.is_open, declared.item.Item.Item}
+use Rattle.do_machine.specs.declared.{node.Node.Node, state.{Effect.Effect, State.State}}
+use Rattle.do_machine.specs.{declared.state.Stepped.Stepped, ends.Closing.closing}
+use Rattle.do_machine.specs.{run.Run.run_effect, take.Take.{can_serve, can_take, take_effect}}
 use Rattle.do_record.specs.declared.parts.RecordLine.{RecordLine}
 use Rattle.do_record.specs.declared.parts.RecordLine.TheVariants.{Close, Ended, Run, Start, Take}
 use Rattle.do_weave.specs.Rules.{Rules}
-use Rattle.do_facts.specs.laws.Entries.{HasQueues}
-use Rattle.do_facts.specs.laws.Follows.{Grows, HoldsOpen}
-use Rattle.do_facts.proofs.machine.passing.Closes.{passes_closing}
-use Rattle.do_facts.proofs.machine.passing.Leaves.{passes_leaving}
-use Rattle.do_facts.proofs.machine.passing.Passes.{Passes, passes_quiet}
-use Rattle.do_facts.proofs.machine.passing.Quiet.{quiet_of}
-use Rattle.do_facts.proofs.machine.passing.Takes.{comes, passes_take}
-use Rattle.do_facts.proofs.walk.Done.{done_there}
+use Rattle.do_facts.specs.laws.{Entries.HasQueues, Follows.{Grows, HoldsOpen}}
+use Rattle.do_facts.proofs.machine.passing.{Closes.passes_closing, Leaves.passes_leaving}
+use Rattle.do_facts.proofs.machine.passing.{Passes.{Passes, passes_quiet}, Quiet.quiet_of}
+use Rattle.do_facts.proofs.{machine.passing.Takes.{comes, passes_take}, walk.Done.done_there}
 use Rattle.do_orders.specs.Inputs.{ByMove, effect_by, knowing, source_of}
-use Rattle.do_orders.specs.Moves.{Source, taken_off}
-use Rattle.do_orders.proofs.Behind.{move_of}
-use Rattle.do_orders.proofs.Acts.{chosen}
-use Rattle.do_orders.proofs.SoundMoves.{IsOver, IsSound, StandsIn, came}
-use Rattle.do_orders.proofs.TakesMove.{open_of}
-use Rattle.do_machine.specs.declared.item.Item.TheVariants as items
+use Rattle.do_orders.{specs.Moves.{Source, taken_off}, proofs.{Behind.move_of, Acts.chosen}}
+use Rattle.do_orders.proofs.{SoundMoves.{IsOver, IsSound, StandsIn, came}, TakesMove.open_of}
 use Rattle.do_facts.proofs.machine.follows.SteadyTakes.{by_closing, by_take}
 use Rattle.do_facts.proofs.machine.follows.SteadyRuns.{by_run, by_start}
 

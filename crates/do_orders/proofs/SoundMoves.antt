@@ -1,24 +1,15 @@
 -- Moves that pass on what their node holds, and where they stand as they were.
 use Rattle.std.proofs.Common.{◌≡◌, ◌==◌, ℕ, Bool, true, false, List, [], ◌∷◌, refl, ap, ◌∙◌, arith}
-use Rattle.std.specs.Prelude.{None, Some, option_map}
-use Rattle.std.specs.List.{find}
+use Rattle.std.specs.{Prelude.{None, Some, option_map}, List.find}
 use Rattle.do_base.specs.names.Names.{ObjectName}
-use Rattle.do_machine.specs.Commit.{commit}
-use Rattle.do_machine.specs.State.{is_open, node, queue}
-use Rattle.do_machine.specs.declared.node.Node.{Node}
-use Rattle.do_machine.specs.declared.state.Effect.{Effect}
-use Rattle.do_machine.specs.declared.state.State.{State}
-use Rattle.do_machine.specs.declared.state.Station.{Station}
+use Rattle.do_machine.specs.{Commit.commit, State.{is_open, node, queue}, declared.node.Node.Node}
+use Rattle.do_machine.specs.declared.state.{Effect.Effect, State.State, Station.Station}
 use Rattle.do_facts.specs.laws.Follows.{Grows}
-use Rattle.do_facts.proofs.machine.passing.Linked.{commit_leaves}
-use Rattle.do_facts.proofs.machine.passing.Lookups.{none_goes}
-use Rattle.do_facts.proofs.machine.passing.Passes.{Passes}
-use Rattle.do_facts.proofs.machine.passing.Takes.{comes}
-use Rattle.do_facts.proofs.steps.OthersStay.{commit_leaves_others}
+use Rattle.do_facts.proofs.machine.passing.{Linked.commit_leaves, Lookups.none_goes, Passes.Passes}
+use Rattle.do_facts.proofs.{machine.passing.Takes.comes, steps.OthersStay.commit_leaves_others}
 use Rattle.do_orders.specs.Moves.{Move, Source, Stands, taken_off, without_first}
 use Rattle.do_orders.specs.Moves.Source.{First, Still, There}
-use Rattle.do_orders.proofs.Moving.{off_is, stands_behind, stands_off}
-use Rattle.do_orders.proofs.Stations.{at_port}
+use Rattle.do_orders.proofs.{Moving.{off_is, stands_behind, stands_off}, Stations.at_port}
 
 -- an object comes with what is taken off
 abbrev pub came : ℕ → ObjectName → Source → Bool

@@ -1,15 +1,10 @@
 -- Changes of two stations, or of one at two queues, commute.
-use Rattle.std.proofs.Common.{◌≡◌, ◌==◌, ℕ, Bool, true, false, cond, List, [], ◌∷◌, ◌++◌, map}
-use Rattle.std.proofs.Common.{refl, sym, ap, ◌∙◌, arith}
-use Rattle.std.specs.Prelude.{Some, drop, option_map}
-use Rattle.std.specs.List.{find}
+use Rattle.std.proofs.Common.{◌≡◌, ◌==◌, ℕ, Bool, true, false, cond, List, [], ◌∷◌, ◌++◌, map, refl}
+use Rattle.std.proofs.Common.{sym, ap, ◌∙◌, arith}
+use Rattle.std.specs.{Prelude.{Some, drop, option_map}, List.find}
 use Rattle.do_facts.proofs.machine.Queues.{waiting_for}
-use Rattle.do_machine.specs.Commit.{items_to, with_sent}
-use Rattle.do_machine.specs.Lists.{change_first}
-use Rattle.do_machine.specs.State.{with_items}
-use Rattle.do_machine.specs.declared.item.Item.{Item}
-use Rattle.do_machine.specs.declared.state.Parcel.{Parcel}
-use Rattle.do_machine.specs.declared.state.Queue.{Queue}
+use Rattle.do_machine.specs.{Commit.{items_to, with_sent}, Lists.change_first, State.with_items}
+use Rattle.do_machine.specs.declared.{item.Item.Item, state.{Parcel.Parcel, Queue.Queue}}
 use Rattle.do_machine.specs.declared.state.Station.{Station}
 use Rattle.do_orders.specs.Moves.{shortened}
 

@@ -1,27 +1,19 @@
 -- A take is a move, and so is an end without notice, which is a loss and the take behind it.
+use Rattle.do_base.specs.declared.events.event.Event.TheVariants as events
+use Rattle.do_machine.specs.declared.item.Item.TheVariants as items
 use Rattle.std.proofs.Common.{◌≡◌, ◌&&◌, ℕ, Bool, true, false, cond, not, List, [], ◌∷◌, refl, ap}
 use Rattle.std.proofs.Common.{◌∙◌, arith}
 use Rattle.std.specs.Prelude.{None, Option, Some, length, nat_lt, option_map, unwrap_or}
-use Rattle.std.specs.List.{insert}
-use Rattle.std.proofs.lemmas.Bool.Decides.{nat_tests}
+use Rattle.std.{specs.List.insert, proofs.lemmas.Bool.Decides.nat_tests}
 use Rattle.do_class.specs.Class.{Class}
-use Rattle.do_machine.specs.Commit.{moved, showed, skipped}
-use Rattle.do_machine.specs.Context.{context}
-use Rattle.do_machine.specs.State.{change, is_open, node, queue, with_queue}
-use Rattle.do_machine.specs.Step.{step}
-use Rattle.do_machine.specs.check.Blocks.{followed}
-use Rattle.do_machine.specs.declared.item.Item.{Item}
-use Rattle.do_machine.specs.declared.node.Node.{Node}
-use Rattle.do_machine.specs.declared.state.State.{State}
-use Rattle.do_machine.specs.declared.state.Stepped.{Stepped}
-use Rattle.do_machine.specs.run.Run.{Acting}
+use Rattle.do_machine.specs.{Commit.{moved, showed, skipped}, Context.context}
+use Rattle.do_machine.specs.{State.{change, is_open, node, queue, with_queue}, Step.step}
+use Rattle.do_machine.specs.{check.Blocks.followed, declared.{item.Item.Item, node.Node.Node}}
+use Rattle.do_machine.specs.{declared.state.{State.State, Stepped.Stepped}, run.Run.Acting}
 use Rattle.do_machine.specs.take.Take.{can_serve, can_take, take_effect}
-use Rattle.do_facts.proofs.machine.follows.States.{requeued}
-use Rattle.do_facts.proofs.machine.passing.Lookups.{that_changed}
+use Rattle.do_facts.proofs.machine.{follows.States.requeued, passing.Lookups.that_changed}
 use Rattle.do_agreement.proofs.takes.MachineTakes.{machine_by, machine_from, take_moves}
 use Rattle.do_orders.proofs.PutBack.{put_back}
-use Rattle.do_base.specs.declared.events.event.Event.TheVariants as events
-use Rattle.do_machine.specs.declared.item.Item.TheVariants as items
 
 -- a node's end is open, where the node can take
 pub open_of : (a b : Bool) → (a && b) ≡ true → a ≡ true

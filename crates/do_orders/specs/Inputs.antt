@@ -1,23 +1,15 @@
 -- What the inputs of a record are, as moves of their node.
+use Rattle.do_machine.specs.declared.item.Item.TheVariants as items
 use Rattle.std.specs.Prelude.{None, Option, Some, [], if◌then◌else◌, ℕ, ◌≡◌}
-use Rattle.do_machine.specs.Context.{Context, Surroundings, around}
-use Rattle.do_machine.specs.Commit.{moved}
-use Rattle.do_machine.specs.Start.{start_effect}
-use Rattle.do_machine.specs.State.{is_open, node}
-use Rattle.do_machine.specs.declared.item.Item.{Item}
-use Rattle.do_machine.specs.declared.node.Node.{Node}
-use Rattle.do_machine.specs.declared.state.Effect.{Effect}
-use Rattle.do_machine.specs.declared.state.State.{State}
-use Rattle.do_machine.specs.declared.state.Stepped.{Stepped}
-use Rattle.do_machine.specs.ends.Closing.{closing}
-use Rattle.do_machine.specs.run.Run.{run_effect}
-use Rattle.do_machine.specs.take.Take.{can_take, take_effect}
+use Rattle.do_machine.specs.{Context.{Context, Surroundings, around}, Commit.moved}
+use Rattle.do_machine.specs.{Start.start_effect, State.{is_open, node}, declared.item.Item.Item}
+use Rattle.do_machine.specs.declared.{node.Node.Node, state.{Effect.Effect, State.State}}
+use Rattle.do_machine.specs.{declared.state.Stepped.Stepped, ends.Closing.closing}
+use Rattle.do_machine.specs.{run.Run.run_effect, take.Take.{can_take, take_effect}}
 use Rattle.do_record.specs.declared.parts.RecordLine.{RecordLine}
 use Rattle.do_record.specs.declared.parts.RecordLine.TheVariants.{Close, Ended, Run, Start, Take}
 use Rattle.do_weave.specs.Rules.{Rules}
-use Rattle.do_orders.specs.Moves.{Source, Stands, taken_off}
-use Rattle.do_orders.specs.Moves.Source.{First, Still, There}
-use Rattle.do_machine.specs.declared.item.Item.TheVariants as items
+use Rattle.do_orders.specs.Moves.{Source, Stands, taken_off, Source.{First, Still, There}}
 
 -- what an input has of the queues to its node, where this item is the one that it takes
 abbrev pub source_of : RecordLine → Item → Source

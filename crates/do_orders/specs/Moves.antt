@@ -1,14 +1,9 @@
 -- What a step of one node changes of a state.
 use Rattle.std.specs.Prelude.{List, Some, drop, ℕ, ◌++◌, ◌==◌, ◌≡◌, ◌∷◌}
-use Rattle.do_machine.specs.Commit.{commit, showed}
-use Rattle.do_machine.specs.Lists.{change_first}
-use Rattle.do_machine.specs.State.{change, queue, with_items}
-use Rattle.do_machine.specs.declared.item.Item.{Item}
-use Rattle.do_machine.specs.declared.state.Effect.{Effect}
-use Rattle.do_machine.specs.declared.state.Queue.{Queue}
-use Rattle.do_machine.specs.declared.state.State.{State}
-use Rattle.do_machine.specs.declared.state.Station.{Station}
-use Rattle.do_machine.specs.declared.state.Stepped.{Stepped}
+use Rattle.do_machine.specs.{Commit.{commit, showed}, Lists.change_first}
+use Rattle.do_machine.specs.{State.{change, queue, with_items}, declared.item.Item.Item}
+use Rattle.do_machine.specs.declared.state.{Effect.Effect, Queue.Queue, State.State}
+use Rattle.do_machine.specs.declared.state.{Station.Station, Stepped.Stepped}
 
 -- What a step has of the queues to its node.
 pub data Source : Type 0 where

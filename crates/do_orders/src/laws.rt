@@ -1,19 +1,12 @@
 //! In which orders inputs of different nodes may come.
 ghost use Rattle.std.specs.Prelude.{◌==◌, ◌≡◌, Err, List, Some, false, ℕ};
-ghost use Rattle.do_machine.specs.World.{opening};
-ghost use Rattle.do_machine.specs.declared.state.Seat.{Seat};
-ghost use Rattle.do_machine.specs.declared.state.State.{State};
+ghost use Rattle.do_machine.specs.{World.opening, declared.state.{Seat.Seat, State.State}};
 ghost use Rattle.do_machine.specs.declared.state.Stepped.{Stepped};
-ghost use Rattle.do_record.specs.declared.parts.Record.{Record};
-ghost use Rattle.do_record.specs.declared.parts.RecordLine.{RecordLine};
-ghost use Rattle.do_weave.specs.Inputs.{tried};
-ghost use Rattle.do_weave.specs.Laws.{AreApart};
-ghost use Rattle.do_weave.specs.Orders.{CanBeDone, InputsCommute, IsReached};
-ghost use Rattle.do_weave.specs.Rules.{Rules};
-ghost use Rattle.do_weave.specs.Weaving.{woven};
-ghost use Rattle.do_weave.specs.declared.fault.WeaveFault.{WeaveFault};
-ghost use Rattle.do_orders.specs.Inputs.{ByMove};
-ghost use Rattle.do_orders.specs.Moves.{Move, Stands, done};
+ghost use Rattle.do_record.specs.declared.parts.{Record.Record, RecordLine.RecordLine};
+ghost use Rattle.do_weave.specs.{Inputs.tried, Laws.AreApart};
+ghost use Rattle.do_weave.specs.{Orders.{CanBeDone, InputsCommute, IsReached}, Rules.Rules};
+ghost use Rattle.do_weave.specs.{Weaving.woven, declared.fault.WeaveFault.WeaveFault};
+ghost use Rattle.do_orders.specs.{Inputs.ByMove, Moves.{Move, Stands, done}};
 
 /// Moves of two nodes change a state to one state in either order.
 ///

@@ -1,6 +1,5 @@
 -- Sums that are told in 64 bits.
-use Rattle.std.proofs.Common.{◌≡◌, ◌+◌, ℕ, arith}
-use Rattle.std.proofs.lemmas.Grind.{common_steps}
+use Rattle.std.proofs.{Common.{◌≡◌, ◌+◌, ℕ, arith}, lemmas.Grind.common_steps}
 use Rattle.do_packet.specs.Packing.{capped}
 
 -- what is told of a sum is told of it by what is told of its second part

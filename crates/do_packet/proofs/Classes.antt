@@ -1,16 +1,11 @@
 -- Each copy and each name of a message has a class.
-use Rattle.std.proofs.Common.{◌≡◌, ◌==◌, ℕ, Bool, true, false, cond, List, [], ◌∷◌, ◌++◌}
-use Rattle.std.proofs.Common.{filter, refl}
-use Rattle.std.specs.List.{All, AllByRecursion, flat_map}
-use Rattle.std.specs.Option.{IsSome, is_some}
-use Rattle.std.proofs.lemmas.List.Elements.{All-from_recursion}
-use Rattle.do_base.specs.names.Names.{ObjectName}
-use Rattle.do_base.specs.values.Values.{objects_of}
-use Rattle.do_packet.specs.Copies.{Placed, contents, grown, names_with}
-use Rattle.do_packet.specs.Met.{has_object, is_copied, is_named, met, met_one, role_of}
-use Rattle.do_packet.specs.Seen.{Seen, Sender}
-use Rattle.do_packet.specs.declared.role.Role.{Role}
-use Rattle.do_packet.specs.declared.role.Role.TheVariants.{Absent, Copied, Named}
+use Rattle.std.proofs.Common.{◌≡◌, ◌==◌, ℕ, Bool, true, false, cond, List, [], ◌∷◌, ◌++◌, filter}
+use Rattle.std.{proofs.Common.refl, specs.List.{All, AllByRecursion, flat_map}}
+use Rattle.std.{specs.Option.{IsSome, is_some}, proofs.lemmas.List.Elements.All-from_recursion}
+use Rattle.do_base.specs.{names.Names.ObjectName, values.Values.objects_of}
+use Rattle.do_packet.specs.{Copies.{Placed, contents, grown, names_with}, Met.has_object}
+use Rattle.do_packet.specs.{Met.{is_copied, is_named, met, met_one, role_of}, Seen.{Seen, Sender}}
+use Rattle.do_packet.specs.declared.role.Role.{Role, TheVariants.{Absent, Copied, Named}}
 
 module _ (P : ObjectName → Type 0) where
   -- what holds of two lists holds of both

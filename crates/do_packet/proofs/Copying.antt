@@ -1,12 +1,9 @@
 -- The copies that rounds find are the shortest list that is its own list of copies.
-use Rattle.std.proofs.Common.{◌≡◌, suc, ◌≤◌, ◌<◌, List, [], length, refl, arith}
-use Rattle.std.proofs.Common.{◌⊎◌, inl, inr}
+use Rattle.std.proofs.Common.{◌≡◌, suc, ◌≤◌, ◌<◌, List, [], length, refl, arith, ◌⊎◌, inl, inr}
 use Rattle.do_base.specs.names.Names.{ObjectName}
-use Rattle.do_packet.specs.Copies.{IsCopies, Placed, copies_of, grown, most_copies}
-use Rattle.do_packet.specs.Seen.{Sender}
+use Rattle.do_packet.specs.{Copies.{IsCopies, Placed, copies_of, grown, most_copies}, Seen.Sender}
 use Rattle.do_packet.specs.walk.Walking.{IsPrefix}
-use Rattle.do_packet.proofs.Prefixes.{prefix_length}
-use Rattle.do_packet.proofs.Rounds.{Decided, rounds_decide, rounds_least}
+use Rattle.do_packet.proofs.{Prefixes.prefix_length, Rounds.{Decided, rounds_decide, rounds_least}}
 
 module _ (s : Sender) (values : List Placed) where
   -- what is computed is its own list of copies, or there are too many

@@ -1,31 +1,19 @@
 -- What the walk over the copies keeps, and what it ends with.
 use Rattle.std.proofs.Common.{◌≡◌, ℕ, zero, suc, ◌+◌, ◌≤◌, ◌<◌, nat_lt, Bool, true, false, List, []}
-use Rattle.std.proofs.Common.{◌∷◌, ◌++◌, map, length, take, sum_by, Some, Ok, Err}
-use Rattle.std.proofs.Common.{refl, sym, ap, ◌∙◌, subst, arith, get_or, add-one, add-zero, min}
-use Rattle.std.specs.List.{flat_map, zip}
-use Rattle.std.proofs.lemmas.Grind.{common_steps}
-use Rattle.std.proofs.lemmas.List.Folds.{fold-map}
+use Rattle.std.proofs.Common.{◌∷◌, ◌++◌, map, length, take, sum_by, Some, Ok, Err, refl, sym, ap}
+use Rattle.std.proofs.Common.{◌∙◌, subst, arith, get_or, add-one, add-zero, min}
+use Rattle.std.{specs.List.{flat_map, zip}, proofs.lemmas.{Grind.common_steps, List.Folds.fold-map}}
 use Rattle.std.proofs.lemmas.Slice.Zip.{length-zip, seconds-zip}
-use Rattle.do_base.specs.names.Names.{ObjectName}
-use Rattle.do_base.specs.values.Values.{weight_of}
+use Rattle.do_base.specs.{names.Names.ObjectName, values.Values.weight_of}
 use Rattle.do_base.specs.declared.values.value.Value.{Value}
-use Rattle.do_class.specs.Table.{slots_of}
-use Rattle.do_class.specs.declared.ids.ClassId.{ClassId}
-use Rattle.do_class.specs.declared.ids.Slot.{Slot}
-use Rattle.do_class.specs.declared.packet.Part.{Part}
-use Rattle.do_class.specs.declared.packet.Copied.{Copied}
-use Rattle.do_class.specs.declared.packet.Packet.{Packet}
-use Rattle.do_class.specs.declared.packet.Name.{Name}
+use Rattle.do_class.specs.{Table.slots_of, declared.ids.{ClassId.ClassId, Slot.Slot}}
+use Rattle.do_class.specs.declared.packet.{Part.Part, Copied.Copied, Packet.Packet, Name.Name}
 use Rattle.do_packet.specs.Copies.{Placed, copied_at, copies_of, most_copies, named_at, names_with}
-use Rattle.do_packet.specs.Copies.{slot_values, slots_at}
-use Rattle.do_packet.specs.Met.{met}
+use Rattle.do_packet.specs.{Copies.{slot_values, slots_at}, Met.met}
 use Rattle.do_packet.specs.Packing.{capped, class_at, copied_of, message_weight, most_weight}
 use Rattle.do_packet.specs.Packing.{names_to, packed, packed_with, packet_with, part_at}
-use Rattle.do_packet.specs.Seen.{Sender}
-use Rattle.do_packet.specs.walk.Following.{Followed}
-use Rattle.do_packet.specs.walk.Walking.{IsPrefix, Walked}
-use Rattle.do_packet.specs.declared.packing.walk.Walk.{Walk}
-use Rattle.do_packet.specs.declared.fault.PackFault.TheVariants.{TooLarge}
+use Rattle.do_packet.specs.{Seen.Sender, walk.{Following.Followed, Walking.{IsPrefix, Walked}}}
+use Rattle.do_packet.specs.declared.{packing.walk.Walk.Walk, fault.PackFault.TheVariants.TooLarge}
 use Rattle.do_packet.proofs.Prefixes.{front_of, prefix_met, prefix_refl, prefix_trans}
 use Rattle.do_packet.proofs.Reaching.{reached_all, reached_many, reached_next, reached_start}
 

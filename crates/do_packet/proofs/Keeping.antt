@@ -1,34 +1,25 @@
 -- A packed message keeps the limits, and its places are there.
+use Rattle.do_class.specs.declared.packet.Part.TheVariants as part
 use Rattle.std.proofs.Common.{◌≡◌, ℕ, ℤ, ◌+◌, ◌*◌, ◌≤◌, suc, Bool, true, false, cond}
-use Rattle.std.proofs.Common.{List as Listed, [], ◌∷◌, ◌++◌, Ok, filter, length, map, sum_by}
-use Rattle.std.proofs.Common.{refl, sym, ap, ◌∙◌, subst, arith, rules, length-append, nat_lt}
+use Rattle.std.proofs.Common.{List as Listed, [], ◌∷◌, ◌++◌, Ok, filter, length, map, sum_by, refl}
+use Rattle.std.proofs.Common.{sym, ap, ◌∙◌, subst, arith, rules, length-append, nat_lt}
 use Rattle.std.specs.List.{All, AllByRecursion, flat_map, list_all, sum, zip}
-use Rattle.std.proofs.lemmas.Grind.{flat_map-append}
-use Rattle.std.proofs.lemmas.List.{length-map}
-use Rattle.std.proofs.lemmas.List.Elements.{All-from_recursion}
+use Rattle.std.proofs.lemmas.{Grind.flat_map-append, List.{length-map, Elements.All-from_recursion}}
 use Rattle.std.proofs.lemmas.List.Sums.{sum-map, sum_by-cons}
-use Rattle.do_base.specs.names.Names.{ObjectName}
-use Rattle.do_base.specs.values.Induction.{value_induction}
+use Rattle.do_base.specs.{names.Names.ObjectName, values.Induction.value_induction}
 use Rattle.do_base.specs.values.Values.{objects_of, weight_of}
-use Rattle.do_base.specs.declared.values.value.Value.{Value, List, the_lemmas}
-use Rattle.do_base.specs.declared.values.value.Value.TheVariants.{Obj}
+use Rattle.do_base.specs.declared.values.value.Value.{Value, List, the_lemmas, TheVariants.Obj}
 use Rattle.do_class.specs.declared.packet.Packet.{Packet}
 use Rattle.do_class.specs.declared.packet.Part.{Part, List as Parts, the_lemmas as part_lemmas}
-use Rattle.do_class.specs.declared.packet.Part.TheVariants as part
 use Rattle.do_packet.specs.Copies.{Placed, contents, copied_at, copies_of, named_at, names_with}
-use Rattle.do_packet.specs.Copies.{marks, slot_values, slots_at}
-use Rattle.do_packet.specs.Limits.{HasPlaces, KeepsLimits, places_within}
-use Rattle.do_packet.specs.Met.{copied_in, is_copied, is_named, met, met_one, named_in, role_of}
-use Rattle.do_packet.specs.Met.{has_object, place}
-use Rattle.do_packet.specs.Packing.{copied_of, message_weight, packed}
-use Rattle.do_packet.specs.Packing.{packet_with, part_at}
-use Rattle.do_packet.specs.Parts.{object_part, part_of}
-use Rattle.do_packet.specs.Seen.{Sender}
-use Rattle.do_packet.specs.declared.role.Role.{Role}
+use Rattle.do_packet.specs.{Copies.{marks, slot_values, slots_at}, Limits.{HasPlaces, KeepsLimits}}
+use Rattle.do_packet.specs.{Limits.places_within, Met.{copied_in, is_copied, is_named, met}}
+use Rattle.do_packet.specs.Met.{met_one, named_in, role_of, has_object, place}
+use Rattle.do_packet.specs.Packing.{copied_of, message_weight, packed, packet_with, part_at}
+use Rattle.do_packet.specs.{Parts.{object_part, part_of}, Seen.Sender, declared.role.Role.Role}
 use Rattle.do_packet.specs.declared.role.Role.TheVariants.{Absent, Copied, Named}
 use Rattle.do_packet.proofs.Covers.{Covers, covers_left, covers_right, place_lt}
-use Rattle.do_packet.proofs.Following.{lt_true}
-use Rattle.do_packet.proofs.Meanings.{names_count}
+use Rattle.do_packet.proofs.{Following.lt_true, Meanings.names_count}
 use Rattle.do_packet.proofs.Packed.{IsPackedAs, packed_as}
 use Rattle.do_packet.proofs.Values.{copied_in-List, named_in-List, objects_of-List, objects_of-Nil}
 use Rattle.do_packet.proofs.Values.{objects_of-Num, objects_of-Obj, objects_of-Text, part_of-List}

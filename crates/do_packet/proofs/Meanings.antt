@@ -1,22 +1,15 @@
 -- What the names of a message mean at its receiver.
 use Rattle.std.proofs.Common.{◌≡◌, ◌==◌, ◌<◌, ℕ, zero, suc, Bool, true, false, cond, List, [], ◌∷◌}
-use Rattle.std.proofs.Common.{◌++◌, Some, fold, length, refl, sym, ap, ◌∙◌, arith}
-use Rattle.std.proofs.Common.{append_assoc, append-nil}
-use Rattle.std.specs.List.{slice_get}
-use Rattle.std.specs.Option.{unwrap_or}
+use Rattle.std.proofs.Common.{◌++◌, Some, fold, length, refl, sym, ap, ◌∙◌, arith, append_assoc}
+use Rattle.std.{proofs.Common.append-nil, specs.{List.slice_get, Option.unwrap_or}}
 use Rattle.std.proofs.lemmas.Bool.{eqb-true}
-use Rattle.do_base.specs.names.Names.{ObjectName}
-use Rattle.do_base.specs.declared.values.value.Value.{Value}
+use Rattle.do_base.specs.{names.Names.ObjectName, declared.values.value.Value.Value}
 use Rattle.do_base.specs.declared.values.value.Value.TheVariants.{Nil, Obj}
-use Rattle.do_class.specs.declared.packet.Name.{Name}
-use Rattle.do_class.specs.declared.packet.Name.TheVariants.{Lent, Mine, Yours}
-use Rattle.do_packet.specs.Met.{has_object, place}
-use Rattle.do_packet.specs.Packing.{Naming, class_at, name_next, names_to}
-use Rattle.do_packet.specs.RoundTrip.{AllTrue, flag_at, meant, stays}
-use Rattle.do_packet.specs.Seen.{Sender}
-use Rattle.do_packet.specs.Unpacking.{name_value, name_values}
-use Rattle.do_packet.specs.declared.receipt.Receipt.{Receipt}
-use Rattle.do_packet.proofs.Covers.{at_place, place_lt}
+use Rattle.do_class.specs.declared.packet.Name.{Name, TheVariants.{Lent, Mine, Yours}}
+use Rattle.do_packet.specs.{Met.{has_object, place}, Packing.{Naming, class_at, name_next}}
+use Rattle.do_packet.specs.{Packing.names_to, RoundTrip.{AllTrue, flag_at, meant, stays}}
+use Rattle.do_packet.specs.{Seen.Sender, Unpacking.{name_value, name_values}}
+use Rattle.do_packet.{specs.declared.receipt.Receipt.Receipt, proofs.Covers.{at_place, place_lt}}
 
 module _ (s : Sender) (r : Receipt) where
   -- the name of an object, with a token if it needs one

@@ -1,13 +1,10 @@
 -- The names of a message name its objects.
 use Rattle.std.proofs.Common.{◌≡◌, ◌==◌, ℕ, Bool, true, false, cond, List, [], ◌∷◌, ◌++◌, map, fold}
-use Rattle.std.proofs.Common.{refl, sym, ap, ◌∙◌, append_assoc, append-nil}
-use Rattle.std.proofs.lemmas.Bool.{eqb-true}
+use Rattle.std.proofs.{Common.{refl, sym, ap, ◌∙◌, append_assoc, append-nil}, lemmas.Bool.eqb-true}
 use Rattle.std.proofs.lemmas.List.{map-append}
 use Rattle.do_base.specs.names.Names.{ObjectName}
-use Rattle.do_class.specs.declared.packet.Name.{Name}
-use Rattle.do_class.specs.declared.packet.Name.TheVariants.{Lent, Mine, Yours}
-use Rattle.do_packet.specs.Naming.{object_named}
-use Rattle.do_packet.specs.Packing.{Naming, class_at, name_next, names_to}
+use Rattle.do_class.specs.declared.packet.Name.{Name, TheVariants.{Lent, Mine, Yours}}
+use Rattle.do_packet.specs.{Naming.object_named, Packing.{Naming, class_at, name_next, names_to}}
 use Rattle.do_packet.specs.Seen.{Sender}
 
 module _ (s : Sender) (to : ℕ) where

@@ -1,16 +1,13 @@
 -- What a packed message is.
-use Rattle.std.proofs.Common.{◌≡◌, ◌≤◌, ℕ, nat_lt, Bool, true, false, cond, List, []}
-use Rattle.std.proofs.Common.{Ok, Err, Result, length, refl, subst, arith}
-use Rattle.std.specs.List.{flat_map}
+use Rattle.std.proofs.Common.{◌≡◌, ◌≤◌, ℕ, nat_lt, Bool, true, false, cond, List, [], Ok, Err}
+use Rattle.std.{proofs.Common.{Result, length, refl, subst, arith}, specs.List.flat_map}
 use Rattle.std.proofs.lemmas.Grind.{common_steps, flat_map-append}
 use Rattle.do_base.specs.names.Names.{ObjectName}
 use Rattle.do_class.specs.declared.packet.Packet.{Packet}
 use Rattle.do_packet.specs.Copies.{Placed, contents, copied_at, copies_of, most_copies, named_at}
 use Rattle.do_packet.specs.Copies.{names_with, slots_at}
-use Rattle.do_packet.specs.Packing.{message_weight, most_weight, packed, packet_with}
-use Rattle.do_packet.specs.Seen.{Sender}
-use Rattle.do_packet.specs.declared.fault.PackFault.{PackFault}
-use Rattle.do_packet.proofs.Copying.{copies_are}
+use Rattle.do_packet.specs.{Packing.{message_weight, most_weight, packed, packet_with}, Seen.Sender}
+use Rattle.do_packet.{specs.declared.fault.PackFault.PackFault, proofs.Copying.copies_are}
 use Rattle.do_packet.proofs.Covers.{Covers, covers_left, covers_right, met_covers}
 
 -- the message that values were packed as, within its limits, with each object that it needs

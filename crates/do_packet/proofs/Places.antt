@@ -1,18 +1,13 @@
 -- A map that has each object at its place.
-use Rattle.std.proofs.Common.{◌≡◌, ℕ, Bool, true, false, cond, List, [], ◌∷◌, ◌++◌, length}
-use Rattle.std.proofs.Common.{Option, Some, None, refl, sym, ap, ◌∙◌, arith, ⊎_elim}
+use Rattle.std.proofs.Common.{◌≡◌, ℕ, Bool, true, false, cond, List, [], ◌∷◌, ◌++◌, length, Option}
+use Rattle.std.proofs.Common.{Some, None, refl, sym, ap, ◌∙◌, arith, ⊎_elim}
 use Rattle.std.specs.BTreeMap.{BTreeMap, IsEmpty, Updates, get, is_at}
-use Rattle.std.specs.List.{list_any, position, position_or_len}
-use Rattle.std.specs.Map.{lookup}
-use Rattle.std.proofs.lemmas.Bool.{cases_Bool}
-use Rattle.std.proofs.lemmas.Grind.{common_steps}
-use Rattle.std.proofs.lemmas.List.Folds.{position_or_len_push}
+use Rattle.std.specs.{List.{list_any, position, position_or_len}, Map.lookup}
+use Rattle.std.proofs.lemmas.{Bool.cases_Bool, Grind.common_steps, List.Folds.position_or_len_push}
 use Rattle.std.proofs.lemmas.List.Sums.{prefix_len-le-length}
 use Rattle.do_base.specs.names.Names.{ObjectName}
-use Rattle.do_packet.specs.Met.{met_one, place, same_object}
-use Rattle.do_packet.specs.walk.Places.{ArePlaces, object_cmp}
-use Rattle.do_packet.proofs.Once.{same_is}
-use Rattle.do_packet.proofs.Walks.{same_object-refl}
+use Rattle.do_packet.specs.{Met.{met_one, place, same_object}, walk.Places.{ArePlaces, object_cmp}}
+use Rattle.do_packet.proofs.{Once.same_is, Walks.same_object-refl}
 
 -- an item that fails the test changes nothing
 push_fail : (p : ObjectName → Bool) (xs : List ObjectName) (y : ObjectName) → p y ≡ false →

@@ -1,11 +1,9 @@
 -- Lists of objects that begin with one another.
 use Rattle.std.proofs.Common.{◌≡◌, ◌≤◌, ℕ, Bool, true, false, cond, List, [], ◌∷◌, ◌++◌, length}
-use Rattle.std.proofs.Common.{take}
-use Rattle.std.proofs.lemmas.List.{take-append-le}
-use Rattle.std.proofs.Common.{refl, sym, ap, ◌∙◌, arith, append_assoc, append-nil, length-append}
+use Rattle.std.proofs.Common.{take, refl, sym, ap, ◌∙◌, arith, append_assoc, append-nil}
+use Rattle.std.proofs.{Common.length-append, lemmas.List.take-append-le}
 use Rattle.do_base.specs.names.Names.{ObjectName}
-use Rattle.do_packet.specs.Met.{has_object, met, met_one}
-use Rattle.do_packet.specs.walk.Walking.{IsPrefix}
+use Rattle.do_packet.specs.{Met.{has_object, met, met_one}, walk.Walking.IsPrefix}
 
 -- each list begins as itself
 pub prefix_refl : (xs : List ObjectName) → IsPrefix xs xs

@@ -1,15 +1,11 @@
 -- The walk finds the copies that the rounds find.
-use Rattle.std.proofs.Common.{◌≡◌, ℕ, ◌+◌, ◌≤◌, ◌<◌, List, [], ◌∷◌, ◌++◌, length, take, drop}
-use Rattle.std.proofs.Common.{refl, sym, ap, ◌∙◌, subst, arith, ◌⊎◌, inl, inr, append-nil}
-use Rattle.std.specs.List.{flat_map}
-use Rattle.std.proofs.lemmas.Grind.{common_steps}
+use Rattle.std.proofs.Common.{◌≡◌, ℕ, ◌+◌, ◌≤◌, ◌<◌, List, [], ◌∷◌, ◌++◌, length, take, drop, refl}
+use Rattle.std.proofs.Common.{sym, ap, ◌∙◌, subst, arith, ◌⊎◌, inl, inr, append-nil}
+use Rattle.std.{specs.List.flat_map, proofs.lemmas.Grind.common_steps}
 use Rattle.do_base.specs.names.Names.{ObjectName}
 use Rattle.do_packet.specs.Copies.{Placed, contents, copied_at, copies_of, grown, most_copies}
-use Rattle.do_packet.specs.Copies.{named_at, names_with, slots_at}
-use Rattle.do_packet.specs.Met.{met}
-use Rattle.do_packet.specs.Seen.{Sender}
-use Rattle.do_packet.specs.walk.Following.{Reached}
-use Rattle.do_packet.specs.walk.Walking.{IsPrefix}
+use Rattle.do_packet.specs.{Copies.{named_at, names_with, slots_at}, Met.met, Seen.Sender}
+use Rattle.do_packet.specs.walk.{Following.Reached, Walking.IsPrefix}
 use Rattle.do_packet.proofs.Copying.{computed, computed_least, copies_are}
 use Rattle.do_packet.proofs.Prefixes.{front_of, prefix_length, prefix_long, prefix_met}
 use Rattle.do_packet.proofs.Rounds.{grown_prefix, met-contents}

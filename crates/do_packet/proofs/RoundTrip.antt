@@ -1,33 +1,24 @@
 -- What is unpacked is what was packed, with the copies renamed.
-use Rattle.std.proofs.Common.{◌≡◌, ℕ, ℤ, Bool, cond, List as Listed, [], ◌∷◌, Ok, map, length}
-use Rattle.std.proofs.Common.{refl, sym, ap, ◌∙◌, subst, rules, true}
-use Rattle.std.proofs.lemmas.List.{length-map}
-use Rattle.std.specs.List.{AllByRecursion, flat_map, slice_get}
-use Rattle.std.specs.Option.{unwrap_or}
+use Rattle.do_class.specs.declared.packet.Part.TheVariants as part
+use Rattle.std.proofs.Common.{◌≡◌, ℕ, ℤ, Bool, cond, List as Listed, [], ◌∷◌, Ok, map, length, refl}
+use Rattle.std.proofs.{Common.{sym, ap, ◌∙◌, subst, rules, true}, lemmas.List.length-map}
+use Rattle.std.specs.{List.{AllByRecursion, flat_map, slice_get}, Option.unwrap_or}
 use Rattle.std.proofs.lemmas.Grind.{flat_map-append}
-use Rattle.do_base.specs.names.Names.{ObjectName}
-use Rattle.do_base.specs.values.Induction.{value_induction}
+use Rattle.do_base.specs.{names.Names.ObjectName, values.Induction.value_induction}
 use Rattle.do_base.specs.declared.values.value.Value.{Value, List, the_lemmas}
 use Rattle.do_base.specs.declared.values.value.Value.TheVariants.{Nil, Num, Text, Obj}
 use Rattle.do_class.specs.declared.packet.Packet.{Packet}
 use Rattle.do_class.specs.declared.packet.Part.{Part, List as Parts, the_lemmas as part_lemmas}
-use Rattle.do_class.specs.declared.packet.Part.TheVariants as part
-use Rattle.do_packet.specs.Copies.{Placed, copied_at, copies_of, named_at, names_with}
-use Rattle.do_packet.specs.Copies.{slots_at}
-use Rattle.do_packet.specs.Met.{copied_in, has_object, is_copied, is_named, named_in}
-use Rattle.do_packet.specs.Met.{place, role_of}
-use Rattle.do_packet.specs.Packing.{copied_of, names_to, packed, part_at}
-use Rattle.do_packet.specs.Parts.{object_part, part_of}
-use Rattle.do_packet.specs.RoundTrip.{AllTrue, meant, renamed, renamed_as, renamed_at}
-use Rattle.do_packet.specs.RoundTrip.{renamed_message, renamed_object}
-use Rattle.do_packet.specs.Seen.{Sender}
-use Rattle.do_packet.specs.Unpacking.{copy_at, made_of, name_values, unpacked, value_of}
-use Rattle.do_packet.specs.declared.receipt.Receipt.{Receipt}
-use Rattle.do_packet.specs.declared.role.Role.{Role}
+use Rattle.do_packet.specs.Copies.{Placed, copied_at, copies_of, named_at, names_with, slots_at}
+use Rattle.do_packet.specs.Met.{copied_in, has_object, is_copied, is_named, named_in, place}
+use Rattle.do_packet.specs.{Met.role_of, Packing.{copied_of, names_to, packed, part_at}}
+use Rattle.do_packet.specs.{Parts.{object_part, part_of}, RoundTrip.{AllTrue, meant, renamed}}
+use Rattle.do_packet.specs.RoundTrip.{renamed_as, renamed_at, renamed_message, renamed_object}
+use Rattle.do_packet.specs.{Seen.Sender, Unpacking.{copy_at, made_of, name_values, unpacked}}
+use Rattle.do_packet.specs.{Unpacking.value_of, declared.{receipt.Receipt.Receipt, role.Role.Role}}
 use Rattle.do_packet.specs.declared.role.Role.TheVariants.{Absent, Copied, Named}
 use Rattle.do_packet.proofs.Covers.{Covers, covers_left, covers_right, place_lt}
-use Rattle.do_packet.proofs.Following.{lt_true}
-use Rattle.do_packet.proofs.Meanings.{names_mean, true_means}
+use Rattle.do_packet.proofs.{Following.lt_true, Meanings.{names_mean, true_means}}
 use Rattle.do_packet.proofs.Packed.{IsPackedAs, packed_as}
 use Rattle.do_packet.proofs.Values.{copied_in-List, named_in-List, objects_of-Obj, part_of-List}
 use Rattle.do_packet.proofs.Values.{part_of-Nil, part_of-Num, part_of-Obj, part_of-Text}

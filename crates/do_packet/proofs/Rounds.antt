@@ -1,14 +1,11 @@
 -- What rounds of growing find.
-use Rattle.std.proofs.Common.{◌≡◌, ℕ, zero, suc, ◌+◌, ◌≤◌, ◌<◌, ◌==◌, Bool, true, false}
-use Rattle.std.proofs.Common.{List, [], ◌++◌, length, refl, sym, ap, ◌∙◌, subst, arith}
-use Rattle.std.proofs.Common.{◌⊎◌, inl, inr, append_assoc}
-use Rattle.std.specs.List.{flat_map}
+use Rattle.std.proofs.Common.{◌≡◌, ℕ, zero, suc, ◌+◌, ◌≤◌, ◌<◌, ◌==◌, Bool, true, false, List, []}
+use Rattle.std.proofs.Common.{◌++◌, length, refl, sym, ap, ◌∙◌, subst, arith, ◌⊎◌, inl, inr}
+use Rattle.std.{proofs.Common.append_assoc, specs.List.flat_map}
 use Rattle.std.proofs.lemmas.Grind.{common_steps, fold-append, flat_map-append}
 use Rattle.do_base.specs.names.Names.{ObjectName}
-use Rattle.do_packet.specs.Met.{met, met_one}
-use Rattle.do_packet.specs.Copies.{Placed, contents, copied_at, grown, rounds, slots_at}
-use Rattle.do_packet.specs.Seen.{Sender}
-use Rattle.do_packet.specs.walk.Walking.{IsPrefix}
+use Rattle.do_packet.specs.{Met.{met, met_one}, Copies.{Placed, contents, copied_at, grown, rounds}}
+use Rattle.do_packet.specs.{Copies.slots_at, Seen.Sender, walk.Walking.IsPrefix}
 use Rattle.do_packet.proofs.Prefixes.{prefix_length, prefix_long, prefix_met}
 
 module _ (f : Placed → List ObjectName) (s : Sender) (values : List Placed) where

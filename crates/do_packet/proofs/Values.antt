@@ -1,17 +1,14 @@
 -- The objects and the part of each kind of value.
-use Rattle.std.proofs.Common.{◌≡◌, ℕ, ℤ, Bool, List as Listed, [], ◌∷◌, ◌++◌, map, filter, refl}
-use Rattle.std.proofs.Common.{ap, ◌∙◌, rules}
-use Rattle.std.specs.List.{flat_map}
+use Rattle.do_class.specs.declared.packet.Part.TheVariants as part
+use Rattle.std.proofs.Common.{◌≡◌, ℕ, ℤ, Bool, List as Listed, [], ◌∷◌, ◌++◌, map, filter, refl, ap}
+use Rattle.std.{proofs.Common.{◌∙◌, rules}, specs.List.flat_map}
 use Rattle.std.proofs.lemmas.List.Elements.{filter-append}
-use Rattle.do_base.specs.names.Names.{ObjectName}
-use Rattle.do_base.specs.values.Values.{objects_of}
+use Rattle.do_base.specs.{names.Names.ObjectName, values.Values.objects_of}
 use Rattle.do_base.specs.declared.values.value.Value.{Value, List, the_lemmas}
 use Rattle.do_base.specs.declared.values.value.Value.TheVariants.{Nil, Num, Text, Obj}
 use Rattle.do_class.specs.declared.packet.Part.{List as Parts, Part}
-use Rattle.do_class.specs.declared.packet.Part.TheVariants as part
 use Rattle.do_packet.specs.Met.{role_of, copied_in, named_in, is_copied, is_named}
-use Rattle.do_packet.specs.Parts.{object_part, part_of}
-use Rattle.do_packet.specs.Seen.{Seen}
+use Rattle.do_packet.specs.{Parts.{object_part, part_of}, Seen.Seen}
 
 -- nil has no objects
 pub objects_of-Nil : objects_of Nil ≡ []

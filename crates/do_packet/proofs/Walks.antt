@@ -1,24 +1,18 @@
 -- What a walk over values keeps.
+use Rattle.do_packet.specs.declared.role.Role.TheVariants as roles
 use Rattle.std.proofs.Common.{◌≡◌, ℕ, ◌+◌, Bool, true, false, cond, not, ◌||◌, List, [], ◌∷◌, ◌++◌}
 use Rattle.std.proofs.Common.{map, refl, sym, ap, ◌∙◌, subst, arith, append_assoc, append-nil}
 use Rattle.std.specs.List.{flat_map, list_any, position_or_len}
 use Rattle.std.proofs.lemmas.Grind.{common_steps, fold-append, flat_map-append}
 use Rattle.do_base.specs.names.Names.{ObjectName}
-use Rattle.do_base.specs.declared.values.value.Value.{Value, List as Listed}
-use Rattle.do_base.specs.declared.values.value.Value.TheVariants.{Obj}
-use Rattle.do_class.specs.declared.packet.Part.{Part, List as Parts}
-use Rattle.do_class.specs.declared.packet.Part.TheVariants.{Nil, Copy, Named}
+use Rattle.do_base.specs.declared.values.value.Value.{Value, List as Listed, TheVariants.Obj}
+use Rattle.do_class.specs.declared.packet.Part.{Part, List as Parts, TheVariants.{Nil, Copy, Named}}
 use Rattle.do_packet.specs.Met.{copied_in, has_object, is_copied, is_named, met, met_one, named_in}
-use Rattle.do_packet.specs.Met.{place, role_of, same_object}
-use Rattle.do_packet.specs.Parts.{part_of, object_part}
-use Rattle.do_packet.specs.Seen.{Seen}
-use Rattle.do_packet.specs.walk.Walking.{IsPrefix, Walked}
-use Rattle.do_packet.specs.declared.packing.walk.Walk.{Walk}
-use Rattle.do_packet.specs.declared.role.Role.{Role}
-use Rattle.do_packet.specs.declared.role.Role.TheVariants as roles
-use Rattle.do_packet.proofs.Prefixes.{prefix_met, prefix_trans}
-use Rattle.do_packet.proofs.Values.{objects_of-Obj, part_of-Obj, part_of-List, copied_in-List}
-use Rattle.do_packet.proofs.Values.{named_in-List}
+use Rattle.do_packet.specs.{Met.{place, role_of, same_object}, Parts.{part_of, object_part}}
+use Rattle.do_packet.specs.{Seen.Seen, walk.Walking.{IsPrefix, Walked}}
+use Rattle.do_packet.specs.declared.{packing.walk.Walk.Walk, role.Role.Role}
+use Rattle.do_packet.proofs.{Prefixes.{prefix_met, prefix_trans}, Values.objects_of-Obj}
+use Rattle.do_packet.proofs.Values.{part_of-Obj, part_of-List, copied_in-List, named_in-List}
 
 -- each name is of the same object as itself
 pub same_object-refl : (o : ObjectName) → same_object o o ≡ true

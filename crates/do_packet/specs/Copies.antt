@@ -2,13 +2,9 @@
 use Rattle.std.specs.Prelude.{Bool, List, [], false, length, map, option_and_then, suc, zero}
 use Rattle.std.specs.Prelude.{Option, true, unwrap_or, ℕ, ◌++◌, ◌==◌, ◌≡◌, ◌≤◌}
 use Rattle.std.specs.List.{flat_map, zip}
-use Rattle.do_base.specs.names.Names.{ObjectName}
-use Rattle.do_base.specs.declared.values.value.Value.{Value}
-use Rattle.do_class.specs.Class.{Class}
-use Rattle.do_class.specs.Table.{slots_of}
-use Rattle.do_class.specs.declared.ids.ClassId.{ClassId}
-use Rattle.do_packet.specs.Met.{copied_in, met, named_in}
-use Rattle.do_packet.specs.Seen.{Sender}
+use Rattle.do_base.specs.{names.Names.ObjectName, declared.values.value.Value.Value}
+use Rattle.do_class.specs.{Class.Class, Table.slots_of, declared.ids.ClassId.ClassId}
+use Rattle.do_packet.specs.{Met.{copied_in, met, named_in}, Seen.Sender}
 
 -- a value, and whether its place is bycopy
 abbrev pub Placed : Type 0

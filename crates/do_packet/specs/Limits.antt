@@ -1,9 +1,6 @@
 -- The limits that a message keeps.
-use Rattle.std.specs.Prelude.{◌≡◌, ◌≤◌, ℕ, Bool, length, nat_lt, true}
-use Rattle.std.specs.List.{All, list_all}
-use Rattle.do_class.specs.declared.packet.Packet.{Packet}
-use Rattle.do_class.specs.declared.packet.Part.{Part, fold-Part}
-use Rattle.do_class.specs.declared.packet.Part.TheOpen.{Part-F}
+use Rattle.std.specs.{Prelude.{◌≡◌, ◌≤◌, ℕ, Bool, length, nat_lt, true}, List.{All, list_all}}
+use Rattle.do_class.specs.declared.packet.{Packet.Packet, Part.{Part, fold-Part, TheOpen.Part-F}}
 use Rattle.do_packet.specs.Copies.{most_copies}
 
 -- the most objects that a message may name

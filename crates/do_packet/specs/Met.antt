@@ -1,12 +1,9 @@
 -- What a message makes of each object, and the objects met in turn.
-use Rattle.std.specs.Prelude.{Bool, List, [], false, filter, fold, if◌then◌else◌, is_some, true}
-use Rattle.std.specs.Prelude.{ℕ, ◌&&◌, ◌++◌, ◌==◌, ◌∷◌}
-use Rattle.std.specs.List.{list_any, position_or_len}
-use Rattle.do_base.specs.names.Names.{ObjectName}
-use Rattle.do_base.specs.values.Values.{objects_of}
+use Rattle.std.specs.Prelude.{Bool, List, [], false, filter, fold, if◌then◌else◌, is_some, true, ℕ}
+use Rattle.std.specs.{Prelude.{◌&&◌, ◌++◌, ◌==◌, ◌∷◌}, List.{list_any, position_or_len}}
+use Rattle.do_base.specs.{names.Names.ObjectName, values.Values.objects_of}
 use Rattle.do_base.specs.declared.values.value.Value.{Value}
-use Rattle.do_packet.specs.Seen.{Seen}
-use Rattle.do_packet.specs.declared.role.Role.{Role}
+use Rattle.do_packet.specs.{Seen.Seen, declared.role.Role.Role}
 use Rattle.do_packet.specs.declared.role.Role.TheVariants.{Absent, Copied, Named}
 
 -- an own object is copied in a bycopy place and named in any other

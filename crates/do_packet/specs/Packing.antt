@@ -1,21 +1,13 @@
 -- A message, packed.
 use Rattle.std.specs.Prelude.{Err, List, Ok, Result, [], fold, if◌then◌else◌, length, map, min}
 use Rattle.std.specs.Prelude.{nat_lt, suc, sum_by, unwrap_or, ℕ, ◌+◌, ◌++◌, ◌==◌, ◌∷◌}
-use Rattle.do_base.specs.names.Names.{ObjectName}
-use Rattle.do_base.specs.values.Values.{weight_of}
-use Rattle.do_class.specs.Table.{class_id}
-use Rattle.do_class.specs.declared.ids.ClassId.{ClassId}
-use Rattle.do_class.specs.declared.packet.Copied.{Copied}
-use Rattle.do_class.specs.declared.packet.Name.{Name}
-use Rattle.do_class.specs.declared.packet.Name.TheVariants.{Lent, Mine, Yours}
-use Rattle.do_class.specs.declared.packet.Packet.{Packet}
-use Rattle.do_class.specs.declared.packet.Part.{Part}
+use Rattle.do_base.specs.{names.Names.ObjectName, values.Values.weight_of}
+use Rattle.do_class.specs.{Table.class_id, declared.{ids.ClassId.ClassId, packet.Copied.Copied}}
+use Rattle.do_class.specs.declared.packet.Name.{Name, TheVariants.{Lent, Mine, Yours}}
+use Rattle.do_class.specs.declared.packet.{Packet.Packet, Part.Part}
 use Rattle.do_packet.specs.Copies.{Placed, copies_of, most_copies, names_with, slot_values}
-use Rattle.do_packet.specs.Copies.{slots_at}
-use Rattle.do_packet.specs.Parts.{part_of}
-use Rattle.do_packet.specs.Seen.{Sender}
-use Rattle.do_packet.specs.declared.fault.PackFault.{PackFault}
-use Rattle.do_packet.specs.declared.fault.PackFault.TheVariants.{TooLarge}
+use Rattle.do_packet.specs.{Copies.slots_at, Parts.part_of, Seen.Sender}
+use Rattle.do_packet.specs.declared.fault.PackFault.{PackFault, TheVariants.TooLarge}
 
 -- the part for a place, in a message with these copies and names
 abbrev pub part_at : Sender → List ObjectName → List ObjectName → Placed → Part

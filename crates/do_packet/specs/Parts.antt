@@ -1,14 +1,11 @@
 -- The part that stands for a value in a message.
+use Rattle.do_packet.specs.declared.role.Role.TheVariants as roles
 use Rattle.std.specs.Prelude.{Bool, List, ℕ}
-use Rattle.do_base.specs.names.Names.{ObjectName}
-use Rattle.do_base.specs.declared.values.value.Value.{Value, fold-Value}
+use Rattle.do_base.specs.{names.Names.ObjectName, declared.values.value.Value.{Value, fold-Value}}
 use Rattle.do_base.specs.declared.values.value.Value.TheOpen.{Value-F}
 use Rattle.do_class.specs.declared.packet.Part.{List as Parts, Part}
 use Rattle.do_class.specs.declared.packet.Part.TheVariants.{Copy, Named, Nil, Num, Text}
-use Rattle.do_packet.specs.Met.{place, role_of}
-use Rattle.do_packet.specs.Seen.{Seen}
-use Rattle.do_packet.specs.declared.role.Role.{Role}
-use Rattle.do_packet.specs.declared.role.Role.TheVariants as roles
+use Rattle.do_packet.specs.{Met.{place, role_of}, Seen.Seen, declared.role.Role.Role}
 
 -- an object is its place among the copies, or among the names, or nil, by what becomes of it
 abbrev pub object_part : Role → List ObjectName → List ObjectName → ObjectName → Part

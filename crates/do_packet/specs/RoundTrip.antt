@@ -1,19 +1,12 @@
 -- What a receiver makes of a message, in words of what was sent.
 use Rattle.std.specs.Prelude.{Bool, List, false, if◌then◌else◌, map, slice_get, true, unwrap_or, ℕ}
-use Rattle.std.specs.Prelude.{◌+◌, ◌==◌, ◌≡◌}
-use Rattle.std.specs.List.{AllByRecursion}
-use Rattle.do_base.specs.names.Names.{ObjectName}
-use Rattle.do_base.specs.declared.values.value.Value.{List as Values, Value, fold-Value}
-use Rattle.do_base.specs.declared.values.value.Value.TheOpen.{Value-F}
+use Rattle.std.specs.{Prelude.{◌+◌, ◌==◌, ◌≡◌}, List.AllByRecursion}
+use Rattle.do_base.specs.{names.Names.ObjectName, declared.values.value.Value.List as Values}
+use Rattle.do_base.specs.declared.values.value.Value.{Value, fold-Value, TheOpen.Value-F}
 use Rattle.do_base.specs.declared.values.value.Value.TheVariants.{Nil, Num, Obj, Text}
-use Rattle.do_packet.specs.Copies.{Placed, slots_at}
-use Rattle.do_packet.specs.Met.{has_object, place, role_of}
-use Rattle.do_packet.specs.Packing.{class_at}
-use Rattle.do_packet.specs.Seen.{Sender}
-use Rattle.do_packet.specs.declared.receipt.Made.{Made}
-use Rattle.do_packet.specs.declared.receipt.Receipt.{Receipt}
-use Rattle.do_packet.specs.declared.receipt.Unpacked.{Unpacked}
-use Rattle.do_packet.specs.declared.role.Role.{Role}
+use Rattle.do_packet.specs.{Copies.{Placed, slots_at}, Met.{has_object, place, role_of}}
+use Rattle.do_packet.specs.{Packing.class_at, Seen.Sender, declared.receipt.Made.Made}
+use Rattle.do_packet.specs.declared.{receipt.{Receipt.Receipt, Unpacked.Unpacked}, role.Role.Role}
 use Rattle.do_packet.specs.declared.role.Role.TheVariants.{Absent, Copied, Named}
 
 -- a copied object becomes the new object of its place among the copies, a named one what it means

@@ -1,9 +1,7 @@
 -- What a packer sees of the sending node.
 use Rattle.std.specs.Prelude.{Bool, List, Option, ℕ}
-use Rattle.do_base.specs.names.Names.{ObjectName}
-use Rattle.do_base.specs.declared.values.value.Value.{Value}
-use Rattle.do_class.specs.Class.{Class}
-use Rattle.do_class.specs.declared.ids.ClassId.{ClassId}
+use Rattle.do_base.specs.{names.Names.ObjectName, declared.values.value.Value.Value}
+use Rattle.do_class.specs.{Class.Class, declared.ids.ClassId.ClassId}
 
 -- what the node sees of objects; of an object that it can't name at all it sees no class
 pub record Seen : Type 0 where

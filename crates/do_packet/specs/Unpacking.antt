@@ -3,15 +3,10 @@ use Rattle.std.specs.Prelude.{Bool, List, if◌then◌else◌, map, nat_lt, slic
 use Rattle.std.specs.List.{zip}
 use Rattle.do_base.specs.declared.values.value.Value.{List as Values, Value}
 use Rattle.do_base.specs.declared.values.value.Value.TheVariants.{Nil, Num, Obj, Text}
-use Rattle.do_class.specs.declared.packet.Copied.{Copied}
-use Rattle.do_class.specs.declared.packet.Name.{Name}
-use Rattle.do_class.specs.declared.packet.Name.TheVariants.{Lent, Mine, Yours}
-use Rattle.do_class.specs.declared.packet.Packet.{Packet}
-use Rattle.do_class.specs.declared.packet.Part.{Part, fold-Part}
-use Rattle.do_class.specs.declared.packet.Part.TheOpen.{Part-F}
-use Rattle.do_packet.specs.declared.receipt.Made.{Made}
-use Rattle.do_packet.specs.declared.receipt.Receipt.{Receipt}
-use Rattle.do_packet.specs.declared.receipt.Unpacked.{Unpacked}
+use Rattle.do_class.specs.declared.packet.{Copied.Copied, Name.Name}
+use Rattle.do_class.specs.declared.packet.{Name.TheVariants.{Lent, Mine, Yours}, Packet.Packet}
+use Rattle.do_class.specs.declared.packet.Part.{Part, fold-Part, TheOpen.Part-F}
+use Rattle.do_packet.specs.declared.receipt.{Made.Made, Receipt.Receipt, Unpacked.Unpacked}
 
 -- the value that a name stands for: an own object of the receiver without an entry for the sender,
 -- and one of a third node towards which the receiver's end is closed, become nil

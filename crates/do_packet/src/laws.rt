@@ -4,14 +4,10 @@ ghost use Rattle.do_base.specs.names.Names.{ObjectName};
 ghost use Rattle.do_base.specs.declared.values.value.Value.TheVariants.{Obj};
 ghost use Rattle.do_class.specs.declared.packet.Packet.{Packet};
 ghost use Rattle.do_packet.specs.Copies.{Placed, IsCopies, copies_of, grown, most_copies};
-ghost use Rattle.do_packet.specs.Copies.{names_with};
-ghost use Rattle.do_packet.specs.Met.{same_object};
-ghost use Rattle.do_packet.specs.Naming.{object_named};
-ghost use Rattle.do_packet.specs.Packing.{names_to, packed};
-ghost use Rattle.do_packet.specs.RoundTrip.{AllTrue, ArePlaced, meant, renamed_message};
-ghost use Rattle.do_packet.specs.Seen.{Sender};
-ghost use Rattle.do_packet.specs.Unpacking.{unpacked};
-ghost use Rattle.do_packet.specs.declared.receipt.Receipt.{Receipt};
+ghost use Rattle.do_packet.specs.{Copies.names_with, Met.same_object, Naming.object_named};
+ghost use Rattle.do_packet.specs.{Packing.{names_to, packed}, RoundTrip.{AllTrue, ArePlaced}};
+ghost use Rattle.do_packet.specs.{RoundTrip.{meant, renamed_message}, Seen.Sender};
+ghost use Rattle.do_packet.specs.{Unpacking.unpacked, declared.receipt.Receipt.Receipt};
 
 /// The copies of a message are the shortest list that is its own list of copied objects; where they
 /// are too many, each list that is its own is too long.

@@ -5,11 +5,8 @@ mod places;
 mod walk;
 mod weights;
 
-ghost use Rattle.std.specs.Prelude.{◌≡◌, ◌≤◌, ◌^◌, ◌⊎◌, Err, IfOk, length};
-ghost use Rattle.std.specs.List.{zip};
-ghost use Rattle.do_packet.specs.Limits.{KeepsLimits};
-ghost use Rattle.do_packet.specs.Packing.{packed};
-ghost use Rattle.do_packet.specs.Seen.{sender};
+ghost use Rattle.std.specs.{Prelude.{◌≡◌, ◌≤◌, ◌^◌, ◌⊎◌, Err, IfOk, length}, List.zip};
+ghost use Rattle.do_packet.specs.{Limits.KeepsLimits, Packing.packed, Seen.sender};
 ghost use Rattle.do_packet.specs.declared.fault.PackFault.TheVariants.{Memory};
 
 use crate::fault::PackFault;

@@ -3,8 +3,7 @@ use do_class::ClassId;
 
 /// What packing asks of the objects of the sending node.
 pub trait View {
-    ghost use Rattle.std.specs.Prelude.{◌≡◌};
-    ghost use Rattle.std.specs.Option.{option_copied};
+    ghost use Rattle.std.specs.{Prelude.◌≡◌, Option.option_copied};
     ghost use Rattle.do_packet.specs.Seen.{Seen};
 
     ghost sees: { Self → Seen };

@@ -1,22 +1,16 @@
 -- The invocation that waits for a peer's answer is the one that is found by its call.
-use Rattle.std.proofs.Common.{◌≡◌, ℕ, ◌+◌, ◌≤◌, Bool, true, false, cond, eqb, ◌&&◌}
-use Rattle.std.proofs.Common.{List as Listed, [], ◌∷◌, Option, Some, None, refl, sym, ap, ◌∙◌}
-use Rattle.std.proofs.Common.{arith}
-use Rattle.std.specs.Option.{is_some}
-use Rattle.std.specs.Bool.{beq}
+use Rattle.std.proofs.Common.{◌≡◌, ℕ, ◌+◌, ◌≤◌, Bool, true, false, cond, eqb, ◌&&◌, List as Listed}
+use Rattle.std.proofs.Common.{[], ◌∷◌, Option, Some, None, refl, sym, ap, ◌∙◌, arith}
+use Rattle.std.specs.{Option.is_some, Bool.beq}
 use Rattle.do_base.specs.names.Names.{CallName}
-use Rattle.do_behave.specs.declared.invocation.Answer.{Answer}
-use Rattle.do_behave.specs.declared.invocation.Invocation.{Invocation}
-use Rattle.do_behave.specs.declared.invocation.InvState.{InvState}
-use Rattle.do_behave.specs.declared.invocation.InvState.TheVariants.{Running, Below, Waits}
-use Rattle.do_behave.specs.declared.invocation.InvState.TheVariants.{Answered}
+use Rattle.do_behave.specs.declared.invocation.{Answer.Answer, Invocation.Invocation}
+use Rattle.do_behave.specs.declared.invocation.InvState.{InvState, TheVariants.{Running, Below}}
+use Rattle.do_behave.specs.declared.invocation.InvState.TheVariants.{Waits, Answered}
 use Rattle.do_behave.specs.declared.invocation.Waited.{Waited}
-use Rattle.do_machine.specs.Lists.{some_passes}
-use Rattle.do_machine.specs.take.Awaiting.{AnsweredCall, awaits, answered_state, is_for_root}
-use Rattle.do_machine.specs.take.Awaiting.{stack_answered}
+use Rattle.do_machine.specs.{Lists.some_passes, take.Awaiting.{AnsweredCall, awaits}}
+use Rattle.do_machine.specs.take.Awaiting.{answered_state, is_for_root, stack_answered}
 use Rattle.do_stack.specs.Waiting.{asked_by, waits_for, waiting, with_answer}
-use Rattle.do_part.specs.Numbered.{waits_at, waits_away}
-use Rattle.do_part.proofs.Numbering.{weigh, weigh-cons}
+use Rattle.do_part.{specs.Numbered.{waits_at, waits_away}, proofs.Numbering.{weigh, weigh-cons}}
 
 -- what passes is there
 pub passes-some : (test : Waited → Bool) (o : Option Waited) → some_passes test o ≡ true

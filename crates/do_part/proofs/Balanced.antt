@@ -1,19 +1,15 @@
 -- The balance after names were counted or taken off.
 use Rattle.std.proofs.Common.{◌≡◌, ◌≢◌, ℕ, ◌+◌, ◌<◌, ◌≤◌, ◌^◌, List, [], ◌∷◌, Some, None, Option}
 use Rattle.std.proofs.Common.{IsSome, map, refl, sym, ap, ◌∙◌, arith, inl, inr, subst}
-use Rattle.std.proofs.lemmas.Bool.{cases_eq}
-use Rattle.std.proofs.lemmas.List.Sums.{sum_by-cons}
+use Rattle.std.proofs.lemmas.{Bool.cases_eq, List.Sums.sum_by-cons}
 use Rattle.do_base.specs.names.Names.{ObjectName}
 use Rattle.do_import.specs.Imported.{Imported}
-use Rattle.do_machine.specs.Objects.{object_at}
-use Rattle.do_machine.specs.declared.node.Stored.{Stored}
+use Rattle.do_machine.specs.{Objects.object_at, declared.node.Stored.Stored}
 use Rattle.do_store.specs.Listing.{Rising}
 use Rattle.do_store.specs.Names.{Stored as Kept, find_stored, named_in, values_name}
 use Rattle.do_export.specs.Counts.{IsPositive}
-use Rattle.do_part.specs.Holding.{plain, most_names, CanCome, CanGo, Came}
-use Rattle.do_part.specs.Names.{heap_of}
-use Rattle.do_part.specs.Sound.{IsBalanced}
-use Rattle.do_part.specs.declared.holders.Holders.{Holders}
+use Rattle.do_part.specs.{Holding.{plain, most_names, CanCome, CanGo, Came}, Names.heap_of}
+use Rattle.do_part.specs.{Sound.IsBalanced, declared.holders.Holders.Holders}
 use Rattle.do_part.proofs.Replaced.{still}
 
 -- the store's words for names in slots are those of the node

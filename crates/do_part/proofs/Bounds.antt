@@ -1,11 +1,9 @@
 -- Counts are small: a value names an object no more often than it has names.
-use Rattle.std.proofs.Common.{◌≡◌, ℕ, ◌≤◌, Bool, true, false, cond, ◌&&◌, eqb}
-use Rattle.std.proofs.Common.{List as Listed, [], ◌∷◌, rules, arith, sum_by, length}
-use Rattle.std.proofs.lemmas.List.Sums.{sum_by-cons}
-use Rattle.std.specs.List.{AllByRecursion}
 use Rattle.std.specs.FinMap as map
-use Rattle.do_base.specs.names.Names.{ObjectName}
-use Rattle.do_base.specs.values.Induction.{value_induction}
+use Rattle.std.proofs.Common.{◌≡◌, ℕ, ◌≤◌, Bool, true, false, cond, ◌&&◌, eqb, List as Listed, []}
+use Rattle.std.proofs.{Common.{◌∷◌, rules, arith, sum_by, length}, lemmas.List.Sums.sum_by-cons}
+use Rattle.std.specs.List.{AllByRecursion}
+use Rattle.do_base.specs.{names.Names.ObjectName, values.Induction.value_induction}
 use Rattle.do_base.specs.declared.values.value.Value.{Value, the_lemmas}
 use Rattle.do_base.specs.declared.values.value.Value.TheVariants.{Nil, Num, Text}
 use Rattle.do_part.specs.Names.{value_of, values_of, size_of, sizes_of}

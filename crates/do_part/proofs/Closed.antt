@@ -1,22 +1,17 @@
 -- A part whose end towards a peer closes.
-use Rattle.std.proofs.Common.{◌≡◌, ℕ, ◌+◌, ◌<◌, ◌≤◌, ◌==◌, ◌&&◌, Bool, true, false, cond}
-use Rattle.std.proofs.Common.{not, T, List, [], ◌∷◌, Option, Some, None, is_some, filter, length}
-use Rattle.std.proofs.Common.{get_or, refl, sym, ap, ◌∙◌, subst, arith, eq-eqb, eqb-true}
+use Rattle.std.specs.FinMap as map
+use Rattle.std.proofs.Common.{◌≡◌, ℕ, ◌+◌, ◌<◌, ◌≤◌, ◌==◌, ◌&&◌, Bool, true, false, cond, not, T}
+use Rattle.std.proofs.Common.{List, [], ◌∷◌, Option, Some, None, is_some, filter, length, get_or}
+use Rattle.std.proofs.Common.{refl, sym, ap, ◌∙◌, subst, arith, eq-eqb, eqb-true}
 use Rattle.std.specs.Prelude.{suc, zero, nat_lt, position, remove, MatchOption}
 use Rattle.std.specs.List.{AllByRecursion, IsDistinct, position_or_len}
-use Rattle.std.specs.FinMap as map
-use Rattle.std.proofs.lemmas.List.Sums.{sum_by-cons}
-use Rattle.std.proofs.lemmas.Bool.{ltb-false, ltb-true}
-use Rattle.std.proofs.lemmas.Bool.Decides.{nat_tests}
+use Rattle.std.proofs.lemmas.{List.Sums.sum_by-cons, Bool.{ltb-false, ltb-true, Decides.nat_tests}}
 use Rattle.std.proofs.lemmas.List.Quantifiers.{position-Some}
 use Rattle.do_export.specs.Counts.{Counts, HasNoneFrom}
 use Rattle.do_ported.proofs.FirstOfPorts.{equal_either_way}
-use Rattle.do_part.specs.Seen.{own_of}
-use Rattle.do_part.specs.Sound.{IsSound, holders, uses}
+use Rattle.do_part.specs.{Seen.own_of, Sound.{IsSound, holders, uses}}
 use Rattle.do_part.specs.declared.part.Part.TheInside.{Inside}
-use Rattle.do_part.proofs.Balanced.{balanced-as}
-use Rattle.do_part.proofs.Entries.{entries_to}
-use Rattle.do_part.proofs.PartingRows.{open_parted}
+use Rattle.do_part.proofs.{Balanced.balanced-as, Entries.entries_to, PartingRows.open_parted}
 
 -- the other peers
 abbrev pub other_ends : ℕ → List ℕ → List ℕ

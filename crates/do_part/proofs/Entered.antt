@@ -1,27 +1,17 @@
 -- A part where a peer's entry changed.
-use Rattle.std.proofs.Common.{◌≡◌, ℕ, ◌+◌, ◌<◌, ◌≤◌, Some, None, Option, Bool, true, false}
-use Rattle.std.proofs.Common.{IsSome, cond, eqb, ◌&&◌, map, refl, sym, ap, ◌∙◌, arith, subst}
-use Rattle.std.proofs.Common.{List, eqb-true, if◌then◌else◌}
+use Rattle.std.proofs.Common.{◌≡◌, ℕ, ◌+◌, ◌<◌, ◌≤◌, Some, None, Option, Bool, true, false, IsSome}
+use Rattle.std.proofs.Common.{cond, eqb, ◌&&◌, map, refl, sym, ap, ◌∙◌, arith, subst, List}
+use Rattle.std.proofs.Common.{eqb-true, if◌then◌else◌}
 use Rattle.do_export.specs.Counts.{Counts, Exported}
-use Rattle.do_machine.specs.Objects.{object_at}
-use Rattle.do_machine.specs.State.{stored}
-use Rattle.do_machine.specs.declared.node.Stored.{Stored}
-use Rattle.do_part.specs.Holding.{plain, CanGo, HasCome, HasGone}
-use Rattle.do_part.specs.Linked.{AreLinked}
-use Rattle.do_part.specs.Names.{stack_of, AreStored}
-use Rattle.do_part.specs.Owned.{Owned}
-use Rattle.do_part.specs.Rooting.{root_of}
-use Rattle.do_part.specs.Seen.{own_of, owned_of}
-use Rattle.do_part.specs.Sound.{IsSound, holders, uses}
-use Rattle.do_part.specs.declared.holders.Holders.{Holders}
-use Rattle.do_part.specs.declared.part.Part.TheInside.{Inside}
+use Rattle.do_machine.specs.{Objects.object_at, State.stored, declared.node.Stored.Stored}
+use Rattle.do_part.specs.{Holding.{plain, CanGo, HasCome, HasGone}, Linked.AreLinked}
+use Rattle.do_part.specs.{Names.{stack_of, AreStored}, Owned.Owned, Rooting.root_of}
+use Rattle.do_part.specs.{Seen.{own_of, owned_of}, Sound.{IsSound, holders, uses}}
+use Rattle.do_part.specs.declared.{holders.Holders.Holders, part.Part.TheInside.Inside}
 use Rattle.do_part.specs.declared.tally.Tally.TheVariants.{More, Less}
-use Rattle.do_part.proofs.Balanced.{can_go}
-use Rattle.do_part.proofs.Entries.{entries_to, names-entry}
+use Rattle.do_part.proofs.{Balanced.can_go, Entries.{entries_to, names-entry}}
 use Rattle.do_part.proofs.Rest.{SameNumbers, numbers_came, numbers_gone, uses_kept, own_moved}
-use Rattle.do_part.proofs.Rooted.{root-away}
-use Rattle.do_part.proofs.Tallying.{tallied-none}
-use Rattle.do_part.proofs.Turning.{sound_turned}
+use Rattle.do_part.proofs.{Rooted.root-away, Tallying.tallied-none, Turning.sound_turned}
 
 -- the object of an entry is stored
 pub entry-stored : (heap : List Stored) (port at serial : ℕ) (b : Bool) (r : Option ℕ)

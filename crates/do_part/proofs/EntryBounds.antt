@@ -1,21 +1,15 @@
 -- Entries stay within bounds where one of them changes.
-use Rattle.std.proofs.Common.{◌≡◌, ℕ, ◌+◌, ◌-◌, ◌<◌, ◌≤◌, ◌==◌, Bool, true, false, cond}
-use Rattle.std.proofs.Common.{Option, Some, None, refl, sym, ap, ◌∙◌, arith}
-use Rattle.std.specs.Prelude.{if◌then◌else◌}
-use Rattle.std.specs.Option.{unwrap_or}
-use Rattle.std.specs.Ordering.{eq_by_cmp}
 use Rattle.std.specs.FinMap as map
-use Rattle.std.specs.FinMap.{get-insert, get-remove}
+use Rattle.std.proofs.Common.{◌≡◌, ℕ, ◌+◌, ◌-◌, ◌<◌, ◌≤◌, ◌==◌, Bool, true, false, cond, Option}
+use Rattle.std.{proofs.Common.{Some, None, refl, sym, ap, ◌∙◌, arith}, specs.Prelude.if◌then◌else◌}
+use Rattle.std.specs.{Option.unwrap_or, Ordering.eq_by_cmp, FinMap.{get-insert, get-remove}}
 use Rattle.do_export.specs.Counts.{Counts, count_of, entry_cmp, lowered, raised}
 use Rattle.do_export.proofs.Order.{entry_total, entry_same}
 use Rattle.do_machine.specs.State.{is_open}
-use Rattle.do_part.specs.Linked.{AreLinked}
-use Rattle.do_part.specs.Seen.{own_of}
-use Rattle.do_part.specs.declared.part.Part.TheInside.{Inside}
+use Rattle.do_part.specs.{Linked.AreLinked, Seen.own_of, declared.part.Part.TheInside.Inside}
 use Rattle.do_part.proofs.Bounds.{at-le}
 use Rattle.do_export.proofs.Counting.{count-raised}
-use Rattle.do_part.proofs.Entries.{counted-has}
-use Rattle.do_part.proofs.Linking.{SameImports, links_entered}
+use Rattle.do_part.proofs.{Entries.counted-has, Linking.{SameImports, links_entered}}
 use Rattle.do_part.proofs.MapKeys.{out_has, put_has, tied}
 
 -- entries are fewer, and count no more

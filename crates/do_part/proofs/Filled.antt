@@ -1,25 +1,19 @@
 -- Objects that were made blank and then filled are as if they had been made at once.
 use Rattle.std.proofs.Common.{◌≡◌, ℕ, ◌+◌, ◌≤◌, zero, suc, Bool, true, false, cond, eqb}
-use Rattle.std.proofs.Common.{List as Listed, [], ◌∷◌, ◌++◌, Some, None, IsSome, map, refl}
-use Rattle.std.proofs.Common.{sym, ap, ◌∙◌, arith, rules, length, replicate, eq-eqb, ne_eqb}
-use Rattle.std.proofs.lemmas.List.{append_assoc}
-use Rattle.std.specs.Prelude.{slice_set, ◌==◌}
-use Rattle.do_base.specs.names.Names.{ObjectName}
-use Rattle.do_base.specs.declared.values.value.Value.{Value, the_lemmas}
+use Rattle.std.proofs.Common.{List as Listed, [], ◌∷◌, ◌++◌, Some, None, IsSome, map, refl, sym, ap}
+use Rattle.std.proofs.Common.{◌∙◌, arith, rules, length, replicate, eq-eqb, ne_eqb}
+use Rattle.std.{proofs.lemmas.List.append_assoc, specs.Prelude.{slice_set, ◌==◌}}
+use Rattle.do_base.specs.{names.Names.ObjectName, declared.values.value.Value.{Value, the_lemmas}}
 use Rattle.do_base.specs.declared.values.value.Value.TheVariants.{Nil}
 use Rattle.do_behave.specs.InPlace.{written}
-use Rattle.do_machine.specs.Lists.{change_first}
-use Rattle.do_machine.specs.State.{stored}
-use Rattle.do_machine.specs.declared.node.Node.{Node}
-use Rattle.do_machine.specs.declared.node.Stored.{Stored}
-use Rattle.do_machine.specs.run.Changes.{with_slots, with_writes}
+use Rattle.do_machine.specs.{Lists.change_first, State.stored, declared.node.Node.Node}
+use Rattle.do_machine.specs.{declared.node.Stored.Stored, run.Changes.{with_slots, with_writes}}
 use Rattle.do_machine.specs.run.Fresh.{with_objects, with_serials}
 use Rattle.do_network.specs.Own.{Own}
 use Rattle.do_packet.specs.declared.receipt.Made.{Made}
 use Rattle.do_part.specs.Filled.{blank_of, filled, made_values, writes_from}
 use Rattle.do_part.specs.Names.{values_of, size_of, sizes_of}
-use Rattle.do_part.proofs.Exchanging.{of-append}
-use Rattle.do_part.proofs.Sequences.{size-append, size-cons}
+use Rattle.do_part.proofs.{Exchanging.of-append, Sequences.{size-append, size-cons}}
 
 -- values behind the first are written as if it were not there
 written-behind : (x : Value) (xs vs : Listed Value) (at : ℕ)

@@ -1,26 +1,16 @@
 -- A call that is given up is late under its number, which no other call has.
-use Rattle.std.proofs.Common.{◌≡◌, ℕ, ◌+◌, ◌≤◌, Bool, true, false, cond, eqb}
-use Rattle.std.proofs.Common.{List as Listed, [], ◌∷◌, Some, IsSome, refl, sym, ap}
-use Rattle.std.proofs.Common.{arith, eq-eqb, inr}
+use Rattle.std.proofs.Common.{◌≡◌, ℕ, ◌+◌, ◌≤◌, Bool, true, false, cond, eqb, List as Listed, []}
+use Rattle.std.proofs.Common.{◌∷◌, Some, IsSome, refl, sym, ap, arith, eq-eqb, inr}
 use Rattle.std.specs.Prelude.{not}
-use Rattle.std.proofs.lemmas.List.Sums.{sum_by-cons}
-use Rattle.std.proofs.lemmas.List.Sorted.{sum_by-IsPermutation}
+use Rattle.std.proofs.lemmas.List.{Sums.sum_by-cons, Sorted.sum_by-IsPermutation}
 use Rattle.do_base.specs.declared.events.exception.Exc.TheVariants.{TimedOut}
-use Rattle.do_behave.specs.declared.invocation.Answer.TheVariants.{Raised}
-use Rattle.do_behave.specs.declared.invocation.Invocation.{Invocation}
-use Rattle.do_behave.specs.declared.invocation.InvState.{InvState}
-use Rattle.do_behave.specs.declared.invocation.InvState.TheVariants.{Running, Below, Waits}
-use Rattle.do_behave.specs.declared.invocation.InvState.TheVariants.{Answered}
-use Rattle.do_machine.specs.Effect.{only}
-use Rattle.do_machine.specs.Lists.{inserted}
-use Rattle.do_machine.specs.declared.node.LateCall.{LateCall}
-use Rattle.do_machine.specs.declared.node.Node.{Node}
-use Rattle.do_machine.specs.ends.TimeOut.{late_lt, time_out, time_out_on}
-use Rattle.do_machine.specs.run.Changes.{answered}
-use Rattle.do_machine.proofs.Inserting.{inserted_moves}
-use Rattle.do_stack.specs.Late.{top_call}
-use Rattle.do_stack.specs.LateCalls.{kept, others}
-use Rattle.do_stack.specs.Waiting.{with_top}
+use Rattle.do_behave.specs.declared.invocation.{Answer.TheVariants.Raised, Invocation.Invocation}
+use Rattle.do_behave.specs.declared.invocation.InvState.{InvState, TheVariants.{Running, Below}}
+use Rattle.do_behave.specs.declared.invocation.InvState.TheVariants.{Waits, Answered}
+use Rattle.do_machine.specs.{Effect.only, Lists.inserted, declared.node.LateCall.LateCall}
+use Rattle.do_machine.specs.{declared.node.Node.Node, ends.TimeOut.{late_lt, time_out, time_out_on}}
+use Rattle.do_machine.{specs.run.Changes.answered, proofs.Inserting.inserted_moves}
+use Rattle.do_stack.specs.{Late.top_call, LateCalls.{kept, others}, Waiting.with_top}
 use Rattle.do_part.specs.Numbered.{IsNumbered, late_at, waits_at, waits_away}
 use Rattle.do_part.proofs.Numbering.{weigh, eased-top, late-filter, numbered-fewer, away-waiting}
 

@@ -1,40 +1,27 @@
 -- What a node holds and knows of foreign objects, by its maps.
-use Rattle.std.proofs.Common.{◌≡◌, ℕ, ◌+◌, ◌<◌, ◌==◌, ◌&&◌, ◌||◌, Bool, true, false, cond, T}
-use Rattle.std.proofs.Common.{List, [], ◌∷◌, Option, Some, None, is_some, filter, length, count_by}
-use Rattle.std.proofs.Common.{map as each, refl, sym, ap, ◌∙◌, subst, arith}
-use Rattle.std.specs.Prelude.{nat_lt, if◌then◌else◌}
-use Rattle.std.specs.List.{list_any}
-use Rattle.std.specs.Option.{unwrap_or}
-use Rattle.std.specs.Ordering.{eq_by_cmp, is_eq}
 use Rattle.std.specs.FinMap as map
-use Rattle.std.specs.FinMap.{contains_key-keys, entries-insert, entries_sorted, get-entries}
-use Rattle.std.specs.FinMap.{get-retain_keys, len-entries, same_map}
+use Rattle.std.proofs.Common.{◌≡◌, ℕ, ◌+◌, ◌<◌, ◌==◌, ◌&&◌, ◌||◌, Bool, true, false, cond, T, List}
+use Rattle.std.proofs.Common.{[], ◌∷◌, Option, Some, None, is_some, filter, length, count_by}
+use Rattle.std.proofs.Common.{map as each, refl, sym, ap, ◌∙◌, subst, arith}
+use Rattle.std.specs.{Prelude.{nat_lt, if◌then◌else◌}, List.list_any, Option.unwrap_or}
+use Rattle.std.specs.{Ordering.{eq_by_cmp, is_eq}, FinMap.{contains_key-keys, entries-insert}}
+use Rattle.std.specs.FinMap.{entries_sorted, get-entries, get-retain_keys, len-entries, same_map}
 use Rattle.std.proofs.lemmas.List.{length-map}
 use Rattle.std.specs.FinMap.Entries.{below_all, by_order, find, is_sorted, put}
-use Rattle.std.specs.declared.cmp.Ordering.{Ordering}
-use Rattle.std.specs.declared.cmp.Ordering.TheVariants.{Less, Equal, Greater}
+use Rattle.std.specs.declared.cmp.Ordering.{Ordering, TheVariants.{Less, Equal, Greater}}
 use Rattle.std.proofs.lemmas.Bool.Decides.{nat_tests}
 use Rattle.do_base.specs.names.Names.{ObjectName}
 use Rattle.do_class.specs.declared.ids.ClassId.{ClassId}
 use Rattle.do_packet.specs.Met.{has_object, same_object}
 use Rattle.do_export.specs.Counts.{Counts, IsPositive, count_of, entry_cmp}
 use Rattle.do_export.proofs.Order.{entry_total, entry_same}
-use Rattle.do_import.specs.Asked.{AskMap, CountsAsks}
-use Rattle.do_import.specs.ByObject.{ClassMap, object_of}
-use Rattle.do_import.specs.Imported.{KeepsClasses}
-use Rattle.do_import.proofs.RowCounts.{entries-retain, in_front}
-use Rattle.do_machine.specs.Lists.{inserted}
-use Rattle.do_machine.specs.Objects.{joined, object_lt}
-use Rattle.do_machine.specs.State.{is_known}
-use Rattle.do_machine.specs.declared.node.Node.{Node}
-use Rattle.do_machine.specs.lend.Asking.{wanted_lt}
-use Rattle.do_part.specs.Rooting.{held_of}
-use Rattle.do_part.specs.Seen.{ask_of}
-use Rattle.do_part.proofs.InsertedCounts.{any-all}
-use Rattle.do_part.proofs.MappedElements.{any-map, filter-map}
-use Rattle.do_part.proofs.PutInOrder.{inserted_is, put_in}
-use Rattle.do_part.proofs.LinkRows.{asked_list}
-use Rattle.do_part.proofs.TestsHold.{first_holds, is_less, second_holds}
+use Rattle.do_import.specs.{Asked.{AskMap, CountsAsks}, ByObject.{ClassMap, object_of}}
+use Rattle.do_import.{specs.Imported.KeepsClasses, proofs.RowCounts.{entries-retain, in_front}}
+use Rattle.do_machine.specs.{Lists.inserted, Objects.{joined, object_lt}, State.is_known}
+use Rattle.do_machine.specs.{declared.node.Node.Node, lend.Asking.wanted_lt}
+use Rattle.do_part.{specs.{Rooting.held_of, Seen.ask_of}, proofs.InsertedCounts.any-all}
+use Rattle.do_part.proofs.{MappedElements.{any-map, filter-map}, PutInOrder.{inserted_is, put_in}}
+use Rattle.do_part.proofs.{LinkRows.asked_list, TestsHold.{first_holds, is_less, second_holds}}
 
 -- ---- objects held
 

@@ -1,13 +1,9 @@
 -- Slots written one after another.
-use Rattle.std.proofs.Common.{◌≡◌, ℕ, Bool, true, false, cond, eqb, List, [], ◌∷◌}
-use Rattle.std.proofs.Common.{Some, IsSome, refl, ap, ◌∙◌}
-use Rattle.std.specs.Prelude.{◌==◌, slice_get, remove}
+use Rattle.std.proofs.Common.{◌≡◌, ℕ, Bool, true, false, cond, eqb, List, [], ◌∷◌, Some, IsSome}
+use Rattle.std.{proofs.Common.{refl, ap, ◌∙◌}, specs.Prelude.{◌==◌, slice_get, remove}}
 use Rattle.do_behave.specs.declared.act.Write.{Write}
-use Rattle.do_machine.specs.Lists.{change_first}
-use Rattle.do_machine.specs.State.{stored}
-use Rattle.do_machine.specs.declared.node.Node.{Node}
-use Rattle.do_machine.specs.declared.node.Stored.{Stored}
-use Rattle.do_machine.specs.run.Changes.{with_slots, with_writes}
+use Rattle.do_machine.specs.{Lists.change_first, State.stored, declared.node.Node.Node}
+use Rattle.do_machine.specs.{declared.node.Stored.Stored, run.Changes.{with_slots, with_writes}}
 
 -- the first of some objects changed twice is changed by both
 twice : (n : ℕ) (f g : Stored → Stored) → ((x : Stored) → (f x).serial ≡ x.serial)

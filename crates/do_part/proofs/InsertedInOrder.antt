@@ -1,6 +1,6 @@
 -- Inserted elements are in order, and so is what passes of them.
-use Rattle.std.proofs.Common.{◌≡◌, ℕ, Bool, true, false, cond, List, [], ◌∷◌, filter, refl, sym}
-use Rattle.std.proofs.Common.{ap, ◌∙◌, subst, inl, inr}
+use Rattle.std.proofs.Common.{◌≡◌, ℕ, Bool, true, false, cond, List, [], ◌∷◌, filter, refl, sym, ap}
+use Rattle.std.proofs.Common.{◌∙◌, subst, inl, inr}
 use Rattle.do_machine.specs.Lists.{IsIn, all_inserted, inserted}
 use Rattle.do_part.proofs.PassingElements.{in_filter}
 use Rattle.do_part.proofs.PutInOrder.{in_put, inserted_is, put_first, put_in}

@@ -1,50 +1,29 @@
 -- What a part has once it freed and left what it should, and what it told.
-use Rattle.std.proofs.Common.{◌≡◌, ℕ, ◌+◌, ◌++◌, ◌||◌, ◌==◌, cond, List}
-use Rattle.std.proofs.Common.{[], ◌∷◌, fold, Some, T, map as each, refl, sym, ap, ◌∙◌, subst}
-use Rattle.std.proofs.Common.{arith, inl, inr, not}
-use Rattle.std.specs.Prelude.{nat_lt, Result, Ok, Err, IfOk}
-use Rattle.std.specs.List.{list_any}
-use Rattle.std.specs.Option.{unwrap_or}
-use Rattle.std.specs.Ordering.{is_eq, is_lt, ordering_reverse}
-use Rattle.std.specs.Cmp.{tied_itself}
 use Rattle.std.specs.FinMap as map
-use Rattle.std.specs.FinMap.{entries_sorted, get-entries}
-use Rattle.std.specs.FinMap.Entries.{below_all, find, is_sorted}
-use Rattle.std.proofs.lemmas.Bool.Decides.{nat_tests}
-use Rattle.std.proofs.lemmas.List.Folds.{list_any-append}
+use Rattle.std.proofs.Common.{◌≡◌, ℕ, ◌+◌, ◌++◌, ◌||◌, ◌==◌, cond, List, [], ◌∷◌, fold, Some, T}
+use Rattle.std.proofs.Common.{map as each, refl, sym, ap, ◌∙◌, subst, arith, inl, inr, not}
+use Rattle.std.specs.{Prelude.{nat_lt, Result, Ok, Err, IfOk}, List.list_any, Option.unwrap_or}
+use Rattle.std.specs.{Ordering.{is_eq, is_lt, ordering_reverse}, Cmp.tied_itself}
+use Rattle.std.specs.FinMap.{entries_sorted, get-entries, Entries.{below_all, find, is_sorted}}
+use Rattle.std.proofs.lemmas.{Bool.Decides.nat_tests, List.Folds.list_any-append}
 use Rattle.do_base.specs.names.Names.{ObjectName}
 use Rattle.do_export.specs.Counts.{Counts, count_of, entry_cmp}
 use Rattle.do_export.proofs.Order.{entry_total, entry_same}
-use Rattle.do_import.specs.ByObject.{object_of}
-use Rattle.do_import.specs.Imported.{Imported, IsTied}
-use Rattle.do_leaving.specs.Left.{IsEffect, left_sent}
-use Rattle.do_leaving.specs.Leavers.{classes_left, leavers, told}
-use Rattle.do_machine.specs.Lists.{IsIn}
-use Rattle.do_machine.specs.held.Leaving.{leaving}
-use Rattle.do_machine.specs.declared.node.Lend.{Lend}
-use Rattle.do_machine.specs.declared.node.Node.{Node}
-use Rattle.do_machine.specs.declared.node.Wanted.{Wanted}
-use Rattle.do_machine.specs.declared.state.Parcel.{Parcel}
-use Rattle.do_network.specs.Counting.{counted, named_to, of_known}
-use Rattle.do_network.specs.Frames.{all_posted}
+use Rattle.do_import.specs.{ByObject.object_of, Imported.{Imported, IsTied}}
+use Rattle.do_leaving.specs.{Left.{IsEffect, left_sent}, Leavers.{classes_left, leavers, told}}
+use Rattle.do_machine.specs.{Lists.IsIn, held.Leaving.leaving, declared.node.{Lend.Lend, Node.Node}}
+use Rattle.do_machine.specs.declared.{node.Wanted.Wanted, state.Parcel.Parcel}
+use Rattle.do_network.specs.{Counting.{counted, named_to, of_known}, Frames.all_posted}
 use Rattle.do_network.specs.Own.{is_counted}
 use Rattle.do_packet.specs.Met.{has_object, same_object}
 use Rattle.do_store.specs.Names.{Objects}
-use Rattle.do_part.specs.Left.{given_up}
-use Rattle.do_part.specs.Linked.{AreLinked}
-use Rattle.do_part.specs.Seen.{own_of}
-use Rattle.do_part.specs.declared.part.Part.TheInside.{Inside}
-use Rattle.do_part.specs.Rooting.{held_of}
+use Rattle.do_part.specs.{Left.given_up, Linked.AreLinked, Seen.own_of}
+use Rattle.do_part.specs.{declared.part.Part.TheInside.Inside, Rooting.held_of}
 use Rattle.do_part.proofs.HeldRows.{AreAmong, any_counted, has-count, held_has}
-use Rattle.do_part.proofs.PassingElements.{in_filter}
-use Rattle.do_part.proofs.LeftBehind.{left_with}
-use Rattle.do_part.proofs.LinkEnds.{among_retained}
-use Rattle.do_part.proofs.LinkRows.{asked_list, lent_list}
-use Rattle.do_part.proofs.Linking.{classes_linked}
-use Rattle.do_part.proofs.MapKeys.{retain_all}
-use Rattle.do_part.proofs.PartingRows.{received_held}
-use Rattle.do_part.proofs.Referred.{asked-times, lent-times}
-use Rattle.do_part.proofs.TestsHold.{first_holds, is_less, second_holds}
+use Rattle.do_part.proofs.{PassingElements.in_filter, LeftBehind.left_with, LinkEnds.among_retained}
+use Rattle.do_part.proofs.{LinkRows.{asked_list, lent_list}, Linking.classes_linked}
+use Rattle.do_part.proofs.{MapKeys.retain_all, PartingRows.received_held, Referred.asked-times}
+use Rattle.do_part.proofs.{Referred.lent-times, TestsHold.{first_holds, is_less, second_holds}}
 
 -- ---- what is told
 

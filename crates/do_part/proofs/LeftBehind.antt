@@ -1,28 +1,22 @@
 -- A part once objects that nothing holds were taken out, and what is not used was left.
-use Rattle.std.proofs.Common.{◌≡◌, ◌≢◌, ℕ, ◌+◌, ◌<◌, ◌++◌, Bool, true, false, cond, eqb}
-use Rattle.std.proofs.Common.{List, [], ◌∷◌, Some, None, IsSome, is_some, T}
-use Rattle.std.proofs.Common.{refl, sym, ap, ◌∙◌, subst, arith, inl, inr, eqb-true, ne_eqb}
-use Rattle.std.proofs.lemmas.Bool.{cases_eq}
 use Rattle.std.specs.FinMap as map
+use Rattle.std.proofs.Common.{◌≡◌, ◌≢◌, ℕ, ◌+◌, ◌<◌, ◌++◌, Bool, true, false, cond, eqb, List, []}
+use Rattle.std.proofs.Common.{◌∷◌, Some, None, IsSome, is_some, T, refl, sym, ap, ◌∙◌, subst, arith}
+use Rattle.std.proofs.{Common.{inl, inr, eqb-true, ne_eqb}, lemmas.Bool.cases_eq}
 use Rattle.do_base.specs.names.Names.{ObjectName}
 use Rattle.do_export.specs.Counts.{IsPositive, count_of}
 use Rattle.do_import.specs.Imported.{Imported, all_off}
 use Rattle.do_leaving.specs.Counted.{heap_of as bare, serial_of}
 use Rattle.do_leaving.specs.Sweeping.{TakenOut, foreign_names}
-use Rattle.do_leaving.proofs.CountsOff.{all_off-count, foreign-times}
-use Rattle.do_leaving.proofs.SlotNames.{heap_times}
+use Rattle.do_leaving.proofs.{CountsOff.{all_off-count, foreign-times}, SlotNames.heap_times}
 use Rattle.do_leaving.proofs.StoreLookups.{rising-without, sum-without}
 use Rattle.do_leaving.proofs.TakenInTurn.{taken_rises, taken_sum}
 use Rattle.do_machine.specs.held.Refers.{heap_objects}
-use Rattle.do_store.specs.Listing.{Rising}
-use Rattle.do_store.specs.Names.{Objects, Stored as Kept, find_stored, named_in, replaced}
-use Rattle.do_store.specs.Names.{values_name}
-use Rattle.do_part.specs.Linked.{AreLinked}
-use Rattle.do_part.specs.Seen.{own_of}
-use Rattle.do_part.specs.Sound.{IsSound, holders, uses}
+use Rattle.do_store.specs.{Listing.Rising, Names.{Objects, Stored as Kept, find_stored, named_in}}
+use Rattle.do_store.specs.Names.{replaced, values_name}
+use Rattle.do_part.specs.{Linked.AreLinked, Seen.own_of, Sound.{IsSound, holders, uses}}
 use Rattle.do_part.specs.declared.part.Part.TheInside.{Inside}
-use Rattle.do_part.proofs.Balanced.{named-plain}
-use Rattle.do_part.proofs.LinkEnds.{links_retained}
+use Rattle.do_part.proofs.{Balanced.named-plain, LinkEnds.links_retained}
 
 -- an object of another serial is found still
 find_other : (m n : ℕ) → n ≢ m → (xs : List Kept)

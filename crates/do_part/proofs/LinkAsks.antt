@@ -1,28 +1,19 @@
 -- An ask that a node keeps, and one that was granted.
-use Rattle.std.proofs.lemmas.Bool.Decides.{nat_tests}
-use Rattle.std.proofs.Common.{◌==◌, ◌&&◌, cond, ◌≡◌, ◌≢◌, ℕ, ◌+◌, ◌≤◌, ◌<◌, Bool, true, false, not}
-use Rattle.std.proofs.Common.{T, [], ◌∷◌, Option, Some, None, is_some, refl, sym, ap, ◌∙◌, arith}
-use Rattle.std.proofs.Common.{subst}
-use Rattle.std.specs.Prelude.{if◌then◌else◌, ◌||◌}
-use Rattle.std.specs.List.{list_any}
 use Rattle.std.specs.FinMap as map
+use Rattle.std.proofs.{lemmas.Bool.Decides.nat_tests, Common.{◌==◌, ◌&&◌, cond, ◌≡◌, ◌≢◌, ℕ, ◌+◌}}
+use Rattle.std.proofs.Common.{◌≤◌, ◌<◌, Bool, true, false, not, T, [], ◌∷◌, Option, Some, None}
+use Rattle.std.proofs.Common.{is_some, refl, sym, ap, ◌∙◌, arith, subst}
+use Rattle.std.specs.{Prelude.{if◌then◌else◌, ◌||◌}, List.list_any}
 use Rattle.do_base.specs.names.Names.{ObjectName, TokenName}
 use Rattle.do_class.specs.declared.ids.ClassId.{ClassId}
-use Rattle.do_export.specs.Counts.{count_of}
-use Rattle.do_import.specs.Asked.{AskMap, ask_key}
-use Rattle.do_import.specs.ByObject.{added, first_kept, taken_off}
+use Rattle.do_export.specs.Counts.{count_of, IsPositive}
+use Rattle.do_import.specs.{Asked.{AskMap, ask_key}, ByObject.{added, first_kept, taken_off}}
 use Rattle.do_import.specs.Imported.{CountsNames, Imported, IsTied, all_off}
-use Rattle.do_import.proofs.AskCounts.{asks_out}
-use Rattle.do_import.proofs.AskRows.{ask_total, ask_same}
+use Rattle.do_import.proofs.{AskCounts.asks_out, AskRows.{ask_total, ask_same}}
 use Rattle.do_machine.specs.lend.Asking.{same_wanted, wanted, with_wanted}
-use Rattle.do_export.specs.Counts.{IsPositive}
-use Rattle.do_part.specs.Holding.{most_names}
-use Rattle.do_part.specs.Seen.{own_of}
-use Rattle.do_part.specs.Sound.{IsSound}
+use Rattle.do_part.specs.{Holding.most_names, Seen.own_of, Sound.IsSound}
 use Rattle.do_part.specs.declared.part.Part.TheInside.{Inside}
-use Rattle.do_part.proofs.Entries.{counted-has}
-use Rattle.do_part.specs.Rooting.{held_of}
-use Rattle.do_part.proofs.LinkEnds.{ask_enough}
+use Rattle.do_part.{proofs.Entries.counted-has, specs.Rooting.held_of, proofs.LinkEnds.ask_enough}
 use Rattle.do_part.proofs.Linking.{links_linked, links_unmoved, own_linked, with_imports}
 use Rattle.do_part.proofs.LinkRows.{asked_has, asked_list, asked_more, lent_list}
 use Rattle.do_part.proofs.LinkSteps.{got_linked, sound_got, sound_less, sound_more}

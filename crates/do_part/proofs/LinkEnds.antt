@@ -1,32 +1,22 @@
 -- What is left of a node's imports once a lend or an ask is over.
-use Rattle.std.proofs.Common.{◌≡◌, ℕ, ◌≤◌, ◌==◌, Bool, true, false, cond, T}
-use Rattle.std.proofs.Common.{List, [], ◌∷◌, Option, Some, None, is_some, refl, sym, ap, ◌∙◌, arith}
-use Rattle.std.proofs.Common.{eq-eqb, subst}
-use Rattle.std.specs.Prelude.{MatchOption, if◌then◌else◌, ◌||◌}
-use Rattle.std.specs.Option.{unwrap_or}
-use Rattle.std.specs.Ordering.{eq_by_cmp}
 use Rattle.std.specs.FinMap as map
-use Rattle.std.specs.FinMap.{get-remove}
+use Rattle.std.proofs.Common.{◌≡◌, ℕ, ◌≤◌, ◌==◌, Bool, true, false, cond, T, List, [], ◌∷◌, Option}
+use Rattle.std.proofs.Common.{Some, None, is_some, refl, sym, ap, ◌∙◌, arith, eq-eqb, subst}
+use Rattle.std.specs.{Prelude.{MatchOption, if◌then◌else◌, ◌||◌}, Option.unwrap_or}
+use Rattle.std.specs.{Ordering.eq_by_cmp, FinMap.get-remove}
 use Rattle.do_base.specs.names.Names.{ObjectName, TokenName}
 use Rattle.do_class.specs.declared.ids.ClassId.{ClassId}
-use Rattle.do_export.specs.Counts.{count_of, entry_cmp, others_of}
+use Rattle.do_export.specs.Counts.{count_of, entry_cmp, others_of, IsPositive}
 use Rattle.do_export.proofs.Order.{entry_total, entry_same}
-use Rattle.do_import.specs.Asked.{AskMap, ask_key}
-use Rattle.do_import.specs.ByObject.{ClassMap, home_ended, left_of, taken_off}
-use Rattle.do_import.specs.Imported.{CountsNames, Imported, IsTied, all_off, lent_to}
-use Rattle.do_import.proofs.AskCounts.{asks_out, lends_apart, lends_out}
-use Rattle.do_import.proofs.AskRows.{ask_total, ask_same}
-use Rattle.do_import.proofs.RowCounts.{in_front}
+use Rattle.do_import.specs.{Asked.{AskMap, ask_key}, ByObject.{ClassMap, home_ended, left_of}}
+use Rattle.do_import.specs.{ByObject.taken_off, Imported.{CountsNames, Imported, IsTied, all_off}}
+use Rattle.do_import.{specs.Imported.lent_to, proofs.AskCounts.{asks_out, lends_apart, lends_out}}
+use Rattle.do_import.proofs.{AskRows.{ask_total, ask_same}, RowCounts.in_front}
 use Rattle.do_packet.specs.Met.{same_object}
 use Rattle.do_leaving.specs.Counted.{times}
-use Rattle.do_export.specs.Counts.{IsPositive}
-use Rattle.do_part.specs.Linked.{AreLinked}
-use Rattle.do_part.specs.Sound.{IsSound}
-use Rattle.do_part.specs.declared.part.Part.TheInside.{Inside}
-use Rattle.do_part.proofs.HeldRows.{AreAmong}
-use Rattle.do_part.proofs.LinkSteps.{sound_less}
-use Rattle.do_part.proofs.Linking.{links_linked, with_imports}
-use Rattle.do_part.proofs.MapKeys.{none_out, retain_get, retain_has}
+use Rattle.do_part.specs.{Linked.AreLinked, Sound.IsSound, declared.part.Part.TheInside.Inside}
+use Rattle.do_part.proofs.{HeldRows.AreAmong, LinkSteps.sound_less, Linking.links_linked}
+use Rattle.do_part.proofs.{Linking.with_imports, MapKeys.{none_out, retain_get, retain_has}}
 
 -- some lends or asks are over, of these objects, and with them classes may be forgotten
 pub record AreOver (n m : Imported) : Type 0 where

@@ -1,35 +1,26 @@
 -- Lends and asks as a node lists them, when a row is put into their maps or taken out.
-use Rattle.std.proofs.Common.{◌≡◌, ℕ, ◌<◌, ◌++◌, ◌==◌, ◌&&◌, ◌||◌, Bool, true, false, not, ◌⊎◌}
-use Rattle.std.proofs.Common.{inl, inr, T, List, [], ◌∷◌, Option, Some, None, is_some, filter}
-use Rattle.std.proofs.Common.{length, map as each, refl, sym, ap, ◌∙◌, subst, arith, eqb}
-use Rattle.std.specs.Prelude.{nat_lt, if◌then◌else◌}
-use Rattle.std.specs.List.{list_any}
-use Rattle.std.specs.Ordering.{eq_by_cmp, is_eq, ordering_then}
-use Rattle.std.specs.Cmp.{IsTotalOrder, tied_itself}
 use Rattle.std.specs.FinMap as map
+use Rattle.std.proofs.Common.{◌≡◌, ℕ, ◌<◌, ◌++◌, ◌==◌, ◌&&◌, ◌||◌, Bool, true, false, not, ◌⊎◌, inl}
+use Rattle.std.proofs.Common.{inr, T, List, [], ◌∷◌, Option, Some, None, is_some, filter, length}
+use Rattle.std.proofs.Common.{map as each, refl, sym, ap, ◌∙◌, subst, arith, eqb}
+use Rattle.std.specs.{Prelude.{nat_lt, if◌then◌else◌}, List.list_any}
+use Rattle.std.specs.{Ordering.{eq_by_cmp, is_eq, ordering_then}, Cmp.{IsTotalOrder, tied_itself}}
 use Rattle.std.specs.FinMap.{contains_key-keys, entries-insert, get-entries, len-entries}
-use Rattle.std.specs.declared.cmp.Ordering.{Ordering}
-use Rattle.std.specs.declared.cmp.Ordering.TheVariants.{Less, Equal, Greater}
+use Rattle.std.specs.declared.cmp.Ordering.{Ordering, TheVariants.{Less, Equal, Greater}}
 use Rattle.std.proofs.lemmas.Bool.Decides.{nat_tests}
 use Rattle.do_base.specs.names.Names.{ObjectName, TokenName}
 use Rattle.do_class.specs.declared.ids.ClassId.{ClassId}
 use Rattle.do_export.specs.Counts.{entry_cmp, others_of}
-use Rattle.do_export.proofs.Order.{entry_total, entry_same}
-use Rattle.do_export.proofs.Counting.{tie}
+use Rattle.do_export.proofs.{Order.{entry_total, entry_same}, Counting.tie}
 use Rattle.do_import.specs.Asked.{AskKey, AskMap, ask_cmp, ask_key}
-use Rattle.do_import.specs.Imported.{AreNumbered, LendMap}
-use Rattle.do_import.proofs.AskRows.{ask_total, ask_same}
+use Rattle.do_import.{specs.Imported.{AreNumbered, LendMap}, proofs.AskRows.{ask_total, ask_same}}
 use Rattle.do_import.proofs.RowCounts.{entries-remove, entries-retain}
-use Rattle.do_machine.specs.Lists.{IsIn, all_inserted, inserted}
-use Rattle.do_machine.specs.declared.node.Lend.{Lend}
+use Rattle.do_machine.specs.{Lists.{IsIn, all_inserted, inserted}, declared.node.Lend.Lend}
 use Rattle.do_machine.specs.declared.node.Wanted.{Wanted}
-use Rattle.do_machine.specs.lend.Asking.{same_wanted, wanted, wanted_lt}
-use Rattle.do_machine.specs.lend.Lending.{is_lend}
-use Rattle.do_part.specs.Seen.{ask_of, lend_lt, lend_of}
-use Rattle.do_part.proofs.InsertedCounts.{any-all, length-all}
-use Rattle.do_part.proofs.InsertedInOrder.{IsOrder, filter-all}
-use Rattle.do_part.proofs.InsertionsCommute.{all-put}
-use Rattle.do_part.proofs.MappedElements.{any-map, filter-map, of_map}
+use Rattle.do_machine.specs.lend.{Asking.{same_wanted, wanted, wanted_lt}, Lending.is_lend}
+use Rattle.do_part.{specs.Seen.{ask_of, lend_lt, lend_of}, proofs.InsertedCounts.any-all}
+use Rattle.do_part.proofs.{InsertedCounts.length-all, InsertedInOrder.{IsOrder, filter-all}}
+use Rattle.do_part.proofs.{InsertionsCommute.all-put, MappedElements.{any-map, filter-map, of_map}}
 use Rattle.do_part.proofs.PutInOrder.{in_all, inserted_is, put_last}
 use Rattle.std.proofs.lemmas.List.{length-map}
 

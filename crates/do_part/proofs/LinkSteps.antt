@@ -1,23 +1,14 @@
 -- A part is sound once it lends or asks, or a lend or an ask is over.
-use Rattle.std.proofs.Common.{◌≡◌, ◌≢◌, ℕ, ◌+◌, ◌≤◌, ◌<◌, true, List, sym, ap, ◌∙◌, arith}
 use Rattle.std.specs.FinMap as map
+use Rattle.std.proofs.Common.{◌≡◌, ◌≢◌, ℕ, ◌+◌, ◌≤◌, ◌<◌, true, List, sym, ap, ◌∙◌, arith}
 use Rattle.do_base.specs.names.Names.{ObjectName}
-use Rattle.do_export.specs.Counts.{count_of}
-use Rattle.do_export.proofs.Order.{entry_total, entry_same}
-use Rattle.do_import.specs.Asked.{AskKey}
-use Rattle.do_import.specs.ByObject.{added}
-use Rattle.do_import.specs.Imported.{Imported, all_off}
-use Rattle.do_leaving.specs.Counted.{times}
-use Rattle.do_leaving.proofs.CountsOff.{all_off-count}
-use Rattle.do_export.specs.Counts.{IsPositive}
-use Rattle.do_part.specs.Holding.{most_names}
-use Rattle.do_part.specs.Linked.{AreLinked}
-use Rattle.do_part.specs.Sound.{IsSound}
-use Rattle.do_part.specs.declared.part.Part.TheInside.{Inside}
-use Rattle.do_part.proofs.Bounds.{at-le}
+use Rattle.do_export.{specs.Counts.{count_of, IsPositive}, proofs.Order.{entry_total, entry_same}}
+use Rattle.do_import.specs.{Asked.AskKey, ByObject.added, Imported.{Imported, all_off}}
+use Rattle.do_leaving.{specs.Counted.times, proofs.CountsOff.all_off-count}
+use Rattle.do_part.specs.{Holding.most_names, Linked.AreLinked, Sound.IsSound}
+use Rattle.do_part.{specs.declared.part.Part.TheInside.Inside, proofs.Bounds.at-le}
 use Rattle.do_export.proofs.Counting.{count-raised}
-use Rattle.do_part.proofs.Linking.{links_linked, sound_linked, with_imports}
-use Rattle.do_part.proofs.MapKeys.{put_has}
+use Rattle.do_part.proofs.{Linking.{links_linked, sound_linked, with_imports}, MapKeys.put_has}
 
 module _ (i : Inside) (s : IsSound i) (m : Imported) (home : m.own ≡ i.holders.imports.own)
     (positive : IsPositive m.uses) where

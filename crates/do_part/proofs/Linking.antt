@@ -1,29 +1,19 @@
 -- What a part has with its peers stays within bounds, and a part is sound with other lends and
 -- asks.
-use Rattle.std.proofs.Common.{◌==◌, ◌≡◌, ◌≢◌, ℕ, ◌+◌, ◌≤◌, ◌<◌, true, List, sym, ap, ◌∙◌, arith}
 use Rattle.std.specs.FinMap as map
+use Rattle.std.proofs.Common.{◌==◌, ◌≡◌, ◌≢◌, ℕ, ◌+◌, ◌≤◌, ◌<◌, true, List, sym, ap, ◌∙◌, arith}
 use Rattle.std.specs.List.{list_any}
 use Rattle.do_base.specs.names.Names.{ObjectName, TokenName}
-use Rattle.do_export.specs.Counts.{Counts, count_of}
-use Rattle.do_import.specs.Asked.{AskKey, AskMap, ask_key}
-use Rattle.do_import.specs.ByObject.{ClassMap, object_of}
-use Rattle.do_import.specs.Imported.{Imported, IsTied}
-use Rattle.do_import.proofs.AskRows.{ask_total, ask_same}
-use Rattle.do_machine.specs.State.{is_known, is_open}
-use Rattle.do_machine.specs.declared.node.Lend.{Lend}
-use Rattle.do_machine.specs.declared.node.Node.{Node}
+use Rattle.do_export.specs.Counts.{Counts, count_of, IsPositive}
+use Rattle.do_import.specs.{Asked.{AskKey, AskMap, ask_key}, ByObject.{ClassMap, object_of}}
+use Rattle.do_import.{specs.Imported.{Imported, IsTied}, proofs.AskRows.{ask_total, ask_same}}
+use Rattle.do_machine.specs.{State.{is_known, is_open}, declared.node.{Lend.Lend, Node.Node}}
 use Rattle.do_machine.specs.declared.node.Wanted.{Wanted}
 use Rattle.do_network.specs.Counting.{of_known}
-use Rattle.do_export.specs.Counts.{IsPositive}
-use Rattle.do_part.specs.Holding.{most_names}
-use Rattle.do_part.specs.Linked.{AreLinked}
-use Rattle.do_part.specs.Seen.{own_of}
-use Rattle.do_part.specs.Sound.{IsSound}
-use Rattle.do_part.specs.declared.part.Part.TheInside.{Inside}
-use Rattle.do_part.specs.Rooting.{held_of}
+use Rattle.do_part.specs.{Holding.most_names, Linked.AreLinked, Seen.own_of, Sound.IsSound}
+use Rattle.do_part.specs.{declared.part.Part.TheInside.Inside, Rooting.held_of}
 use Rattle.do_part.proofs.HeldRows.{AreAmong, classes_known, known_is}
-use Rattle.do_part.proofs.LinkRows.{asked_list, lent_list}
-use Rattle.do_part.proofs.MapKeys.{out_has}
+use Rattle.do_part.proofs.{LinkRows.{asked_list, lent_list}, MapKeys.out_has}
 
 -- what is held of other nodes is the same but for the uses
 abbrev pub SameImports : Imported → Imported → Type 0

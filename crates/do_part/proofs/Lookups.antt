@@ -1,26 +1,16 @@
 -- What slots, invocations, the root and entries of a part name is stored.
-use Rattle.std.proofs.Common.{◌≡◌, ℕ, ◌+◌, ◌<◌, ◌≤◌, Bool, true, false, cond, eqb, ◌||◌, arith}
-use Rattle.std.proofs.Common.{List, [], ◌∷◌, Some, IsSome, sum_by, refl, ap, ◌∙◌}
-use Rattle.std.proofs.Common.{eqb-true, eq-eqb, ne_eqb, is_some, Option, None, inl, inr}
-use Rattle.std.proofs.Common.{map as each}
-use Rattle.std.specs.List.{list_any}
-use Rattle.std.specs.Option.{unwrap_or}
 use Rattle.std.specs.FinMap as map
-use Rattle.std.proofs.lemmas.List.Sums.{sum_by-cons}
+use Rattle.std.proofs.Common.{◌≡◌, ℕ, ◌+◌, ◌<◌, ◌≤◌, Bool, true, false, cond, eqb, ◌||◌, arith}
+use Rattle.std.proofs.Common.{List, [], ◌∷◌, Some, IsSome, sum_by, refl, ap, ◌∙◌, eqb-true, eq-eqb}
+use Rattle.std.proofs.Common.{ne_eqb, is_some, Option, None, inl, inr, map as each}
+use Rattle.std.{specs.{List.list_any, Option.unwrap_or}, proofs.lemmas.List.Sums.sum_by-cons}
 use Rattle.do_export.specs.Counts.{Counts, count_of}
-use Rattle.do_machine.specs.State.{is_open, stored}
-use Rattle.do_machine.specs.Lists.{IsIn}
-use Rattle.do_machine.specs.declared.node.Stored.{Stored}
+use Rattle.do_machine.specs.{State.{is_open, stored}, Lists.IsIn, declared.node.Stored.Stored}
 use Rattle.do_machine.specs.held.Kept.{is_root}
-use Rattle.do_store.specs.Listing.{Rising}
-use Rattle.do_store.specs.Names.{Stored as Kept}
-use Rattle.do_part.specs.Holding.{plain}
-use Rattle.do_part.specs.Names.{heap_of, stack_of, AreStored}
-use Rattle.do_part.specs.Seen.{own_of}
-use Rattle.do_part.specs.Sound.{IsSound}
-use Rattle.do_part.specs.declared.part.Part.TheInside.{Inside}
-use Rattle.do_part.proofs.Balanced.{named-plain}
-use Rattle.do_part.proofs.Created.{none_from}
+use Rattle.do_store.specs.{Listing.Rising, Names.Stored as Kept}
+use Rattle.do_part.specs.{Holding.plain, Names.{heap_of, stack_of, AreStored}, Seen.own_of}
+use Rattle.do_part.specs.{Sound.IsSound, declared.part.Part.TheInside.Inside}
+use Rattle.do_part.proofs.{Balanced.named-plain, Created.none_from}
 use Rattle.do_part.proofs.Stored.{none-stored, stored-found}
 
 -- one of a list counts in the sum over it

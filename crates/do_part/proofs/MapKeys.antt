@@ -1,14 +1,11 @@
 -- Which keys a map has once one is put in or some are taken out.
-use Rattle.std.specs.Prelude.{suc, zero}
-use Rattle.std.proofs.Common.{◌≡◌, ℕ, ◌-◌, ◌<◌, arith, Bool, true, false, cond, T, Option, Some}
-use Rattle.std.proofs.Common.{None, is_some, refl, sym, ap, ◌∙◌, subst}
-use Rattle.std.specs.Cmp.{IsTotalOrder, tied_itself}
-use Rattle.std.specs.Ordering.{eq_by_cmp, is_eq}
 use Rattle.std.specs.FinMap as map
-use Rattle.std.specs.FinMap.{IsAntisymmetric, get-insert, get-remove, get-retain_keys, same_map}
-use Rattle.std.specs.FinMap.{empty_of_len, get-empty, len-remove}
-use Rattle.std.specs.declared.cmp.Ordering.{Ordering}
-use Rattle.std.specs.declared.cmp.Ordering.TheVariants.{Less, Equal, Greater}
+use Rattle.std.{specs.Prelude.{suc, zero}, proofs.Common.{◌≡◌, ℕ, ◌-◌, ◌<◌, arith, Bool, true}}
+use Rattle.std.proofs.Common.{false, cond, T, Option, Some, None, is_some, refl, sym, ap, ◌∙◌}
+use Rattle.std.{proofs.Common.subst, specs.Cmp.{IsTotalOrder, tied_itself}}
+use Rattle.std.specs.{Ordering.{eq_by_cmp, is_eq}, FinMap.{IsAntisymmetric, get-insert, get-remove}}
+use Rattle.std.specs.FinMap.{get-retain_keys, same_map, empty_of_len, get-empty, len-remove}
+use Rattle.std.specs.declared.cmp.Ordering.{Ordering, TheVariants.{Less, Equal, Greater}}
 
 -- what ties is that key
 pub tied : {K : Type 0} {R : K → K → Ordering} → IsAntisymmetric R → (k q : K)

@@ -1,7 +1,6 @@
 -- Elements of a list that another list is mapped to.
 use Rattle.std.proofs.Common.{◌≡◌, Bool, true, false, cond, ◌||◌, List, [], ◌∷◌, filter}
-use Rattle.std.proofs.Common.{map as each, refl, ap, inl, inr}
-use Rattle.std.specs.List.{list_any}
+use Rattle.std.{proofs.Common.{map as each, refl, ap, inl, inr}, specs.List.list_any}
 use Rattle.do_machine.specs.Lists.{IsIn}
 
 -- what passes of what is mapped

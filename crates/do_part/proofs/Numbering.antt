@@ -1,24 +1,16 @@
 -- The calls of a node stay numbered once where its invocations and late calls change.
 use Rattle.std.proofs.Common.{◌≡◌, ℕ, ◌+◌, ◌<◌, ◌≤◌, Bool, true, false, cond, eqb, suc, sum_by}
-use Rattle.std.proofs.Common.{List as Listed, [], ◌∷◌, map, refl, sym, ap, subst, arith}
-use Rattle.std.proofs.Common.{inl, inr, eqb-true, eq-eqb}
-use Rattle.std.specs.Prelude.{not, filter, ◌⊎◌}
-use Rattle.std.proofs.lemmas.Bool.{cases_eq}
-use Rattle.std.proofs.lemmas.List.Filters.{sum_by-filter_both}
-use Rattle.std.proofs.lemmas.List.Sums.{sum_by-cons}
-use Rattle.do_behave.specs.declared.invocation.Invocation.{Invocation}
-use Rattle.do_behave.specs.declared.invocation.InvState.{InvState}
+use Rattle.std.proofs.Common.{List as Listed, [], ◌∷◌, map, refl, sym, ap, subst, arith, inl, inr}
+use Rattle.std.{proofs.Common.{eqb-true, eq-eqb}, specs.Prelude.{not, filter, ◌⊎◌}}
+use Rattle.std.proofs.lemmas.{Bool.cases_eq, List.{Filters.sum_by-filter_both, Sums.sum_by-cons}}
+use Rattle.do_behave.specs.declared.invocation.{Invocation.Invocation, InvState.InvState}
 use Rattle.do_behave.specs.declared.invocation.InvState.TheVariants.{Running, Below, Waits}
-use Rattle.do_behave.specs.declared.invocation.InvState.TheVariants.{Answered}
-use Rattle.do_behave.specs.declared.invocation.Waited.{Waited}
-use Rattle.do_machine.specs.Lists.{change_first}
-use Rattle.do_machine.specs.declared.node.LateCall.{LateCall}
+use Rattle.do_behave.specs.declared.invocation.{InvState.TheVariants.Answered, Waited.Waited}
+use Rattle.do_machine.specs.{Lists.change_first, declared.node.LateCall.LateCall}
 use Rattle.do_machine.specs.take.Take.{is_waiting}
-use Rattle.do_stack.specs.Stacked.{Stacked}
-use Rattle.do_stack.specs.Waiting.{with_top}
+use Rattle.do_stack.specs.{Stacked.Stacked, Waiting.with_top}
 use Rattle.do_part.specs.Numbered.{IsNumbered, calls_at, late_at, waits_at, waits_away}
-use Rattle.do_part.specs.Sound.{IsSound}
-use Rattle.do_part.specs.declared.part.Part.TheInside.{Inside}
+use Rattle.do_part.specs.{Sound.IsSound, declared.part.Part.TheInside.Inside}
 
 -- a state is as it was, or waits for nothing
 abbrev pub Eases : InvState → InvState → Type 0

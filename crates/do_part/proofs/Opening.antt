@@ -1,33 +1,23 @@
 -- A part with nothing yet.
-use Rattle.std.proofs.Common.{◌≡◌, ℕ, ◌≤◌, List, [], None, T, true}
-use Rattle.std.proofs.Common.{map as each, refl, sym, ap, ◌∙◌, arith, subst, length, is_some}
-use Rattle.std.specs.Option.{unwrap_or}
-use Rattle.std.specs.Prelude.{◌==◌}
-use Rattle.std.specs.List.{IsDistinct}
 use Rattle.std.specs.FinMap as map
+use Rattle.std.proofs.Common.{◌≡◌, ℕ, ◌≤◌, List, [], None, T, true, map as each, refl, sym, ap, ◌∙◌}
+use Rattle.std.proofs.Common.{arith, subst, length, is_some, sum_by, cond, ◌∷◌}
+use Rattle.std.specs.{Option.unwrap_or, Prelude.◌==◌, List.IsDistinct}
 use Rattle.std.specs.FinMap.{get-empty, len-empty, len-entries}
 use Rattle.do_behave.specs.declared.invocation.Invocation.{Invocation}
 use Rattle.do_class.specs.declared.ids.ClassId.{ClassId}
 use Rattle.do_export.specs.Counts.{Exported, count_of, entry_cmp}
 use Rattle.do_base.specs.names.Names.{ObjectName}
-use Rattle.do_import.specs.Asked.{ask_cmp}
-use Rattle.do_import.specs.ByObject.{object_of}
-use Rattle.do_import.specs.Imported.{Imported}
-use Rattle.do_machine.specs.Lists.{all_inserted}
-use Rattle.do_machine.specs.declared.node.Lend.{Lend}
-use Rattle.do_machine.specs.declared.node.Wanted.{Wanted}
+use Rattle.do_import.specs.{Asked.ask_cmp, ByObject.object_of, Imported.Imported}
+use Rattle.do_machine.specs.{Lists.all_inserted, declared.node.{Lend.Lend, Wanted.Wanted}}
 use Rattle.do_machine.specs.lend.Asking.{wanted_lt}
 use Rattle.do_network.specs.Own.{Own}
 use Rattle.do_stack.specs.Stacked.{Stacked}
 use Rattle.do_store.specs.Names.{Objects}
-use Rattle.do_part.specs.Holding.{plain}
-use Rattle.do_part.specs.Seen.{own_of, lend_of, lend_lt, ask_of}
-use Rattle.do_part.specs.Names.{stack_of}
-use Rattle.do_part.specs.Numbered.{IsNumbered}
-use Rattle.do_part.specs.Sound.{IsSound, holders}
+use Rattle.do_part.specs.{Holding.plain, Seen.{own_of, lend_of, lend_lt, ask_of}, Names.stack_of}
+use Rattle.do_part.specs.{Numbered.IsNumbered, Sound.{IsSound, holders}}
 use Rattle.do_part.specs.declared.part.Part.TheInside.{Inside}
 use Rattle.std.proofs.lemmas.List.Sums.{sum_by-cons}
-use Rattle.std.proofs.Common.{sum_by, cond, ◌∷◌}
 
 -- a part with no invocation and this store
 abbrev begun : ℕ → Objects → Imported → Exported → Stacked → List ℕ → Inside

@@ -1,22 +1,15 @@
 -- What a part has once all that it had with a peer has ended, step by step.
-use Rattle.std.proofs.Common.{◌≡◌, ℕ, ◌==◌, ◌||◌, Bool, true, false, filter, map as each, not}
-use Rattle.std.proofs.Common.{refl, sym, ap, ◌∙◌}
-use Rattle.std.specs.List.{list_any}
 use Rattle.std.specs.FinMap as map
+use Rattle.std.proofs.Common.{◌≡◌, ℕ, ◌==◌, ◌||◌, Bool, true, false, filter, map as each, not, refl}
+use Rattle.std.{proofs.Common.{sym, ap, ◌∙◌}, specs.List.list_any}
 use Rattle.do_base.specs.names.Names.{ObjectName}
 use Rattle.do_packet.specs.Met.{has_object, same_object}
-use Rattle.do_export.specs.Counts.{others_of}
-use Rattle.do_export.proofs.Order.{entry_total, entry_same}
+use Rattle.do_export.{specs.Counts.others_of, proofs.Order.{entry_total, entry_same}}
 use Rattle.do_import.specs.ByObject.{ClassMap, object_of}
-use Rattle.do_machine.specs.Effect.{only}
-use Rattle.do_machine.specs.State.{is_known, is_open}
-use Rattle.do_machine.specs.declared.node.Node.{Node}
-use Rattle.do_machine.specs.ends.Closing.{parted, without_answer}
-use Rattle.do_machine.proofs.Having.{has_passing}
-use Rattle.do_network.specs.Counting.{counted, of_known}
-use Rattle.do_network.specs.Own.{Own}
-use Rattle.do_part.specs.Parting.{without_asks, without_links}
-use Rattle.do_part.specs.Rooting.{held_of}
+use Rattle.do_machine.specs.{Effect.only, State.{is_known, is_open}, declared.node.Node.Node}
+use Rattle.do_machine.{specs.ends.Closing.{parted, without_answer}, proofs.Having.has_passing}
+use Rattle.do_network.specs.{Counting.{counted, of_known}, Own.Own}
+use Rattle.do_part.specs.{Parting.{without_asks, without_links}, Rooting.held_of}
 use Rattle.do_part.proofs.MapKeys.{retain_twice}
 use Rattle.do_part.proofs.PartingRows.{entries_parted, held_apart, received_held}
 

@@ -1,13 +1,10 @@
 -- What the end of a peer leaves of a node's lists and maps.
-use Rattle.std.proofs.Common.{◌≡◌, ℕ, ◌<◌, ◌==◌, ◌&&◌, ◌||◌, Bool, true, false, cond, not}
-use Rattle.std.proofs.Common.{T, List, [], ◌∷◌, Option, Some, None, is_some, filter, map as each}
-use Rattle.std.proofs.Common.{inl, inr, eq-eqb, refl, sym, ap, ◌∙◌, subst, arith}
-use Rattle.std.specs.List.{list_any}
-use Rattle.std.specs.Ordering.{eq_by_cmp, ordering_reverse}
 use Rattle.std.specs.FinMap as map
-use Rattle.std.specs.FinMap.{get-remove, same_map}
-use Rattle.std.specs.declared.cmp.Ordering.{Ordering}
-use Rattle.std.specs.declared.cmp.Ordering.TheVariants.{Less, Equal, Greater}
+use Rattle.std.proofs.Common.{◌≡◌, ℕ, ◌<◌, ◌==◌, ◌&&◌, ◌||◌, Bool, true, false, cond, not, T, List}
+use Rattle.std.proofs.Common.{[], ◌∷◌, Option, Some, None, is_some, filter, map as each, inl, inr}
+use Rattle.std.{proofs.Common.{eq-eqb, refl, sym, ap, ◌∙◌, subst, arith}, specs.List.list_any}
+use Rattle.std.specs.{Ordering.{eq_by_cmp, ordering_reverse}, FinMap.{get-remove, same_map}}
+use Rattle.std.specs.declared.cmp.Ordering.{Ordering, TheVariants.{Less, Equal, Greater}}
 use Rattle.std.proofs.lemmas.Bool.Decides.{nat_tests}
 use Rattle.do_base.specs.names.Names.{ObjectName, TokenName}
 use Rattle.do_class.specs.declared.ids.ClassId.{ClassId}
@@ -15,25 +12,16 @@ use Rattle.do_packet.specs.Met.{has_object, same_object}
 use Rattle.do_export.specs.Counts.{Counts, HasNoneFrom, entry_cmp, others_of}
 use Rattle.do_export.proofs.Order.{entry_total, entry_same}
 use Rattle.do_import.specs.Asked.{AskKey, AskMap, HasNoAsk, IsLowestAsk, ask_cmp, ask_key}
-use Rattle.do_import.specs.ByObject.{ClassMap, object_of}
-use Rattle.do_import.proofs.AskRows.{ask_total, ask_same}
-use Rattle.do_machine.specs.Lists.{IsIn}
-use Rattle.do_machine.specs.State.{is_known}
-use Rattle.do_machine.specs.declared.node.Node.{Node}
-use Rattle.do_machine.specs.declared.node.Wanted.{Wanted}
+use Rattle.do_import.{specs.ByObject.{ClassMap, object_of}, proofs.AskRows.{ask_total, ask_same}}
+use Rattle.do_machine.specs.{Lists.IsIn, State.is_known, declared.node.{Node.Node, Wanted.Wanted}}
 use Rattle.do_machine.specs.lend.Asking.{same_wanted, wanted, wanted_lt}
 use Rattle.do_network.specs.Counting.{of_known}
-use Rattle.do_part.specs.Parting.{without_asks}
-use Rattle.do_part.specs.Seen.{ask_of}
-use Rattle.do_part.specs.Rooting.{held_of}
-use Rattle.do_part.proofs.HeldRows.{held_has, held_less}
-use Rattle.do_part.proofs.InsertedInOrder.{filter-one}
+use Rattle.do_part.specs.{Parting.without_asks, Seen.ask_of, Rooting.held_of}
+use Rattle.do_part.proofs.{HeldRows.{held_has, held_less}, InsertedInOrder.filter-one}
 use Rattle.do_part.proofs.LinkRows.{ask_order, asked_list, asked_more, in_entries}
 use Rattle.do_part.proofs.MapKeys.{out_has, out_in, out_none, retain_all, retain_as, retain_get}
-use Rattle.do_part.proofs.MapKeys.{retain_twice, tied}
-use Rattle.do_part.proofs.MappedElements.{of_map}
-use Rattle.do_part.proofs.PassingElements.{in_filter, in_passing}
-use Rattle.do_part.proofs.PutInOrder.{in_all, put_first}
+use Rattle.do_part.proofs.{MapKeys.{retain_twice, tied}, MappedElements.of_map}
+use Rattle.do_part.proofs.{PassingElements.{in_filter, in_passing}, PutInOrder.{in_all, put_first}}
 
 -- ---- entries
 

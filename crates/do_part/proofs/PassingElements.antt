@@ -1,6 +1,6 @@
 -- Elements that pass a test are among all, and pass it.
-use Rattle.std.proofs.Common.{◌≡◌, Bool, true, false, cond, List, [], ◌∷◌, filter, refl, subst}
-use Rattle.std.proofs.Common.{inl, inr}
+use Rattle.std.proofs.Common.{◌≡◌, Bool, true, false, cond, List, [], ◌∷◌, filter, refl, subst, inl}
+use Rattle.std.proofs.Common.{inr}
 use Rattle.do_machine.specs.Lists.{IsIn}
 
 -- what passes is among all

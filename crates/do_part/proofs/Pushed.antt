@@ -1,24 +1,18 @@
 -- What a push to a list in the top invocation adds to the names in a stack.
 use Rattle.std.proofs.Common.{◌≡◌, ℕ, ◌+◌, zero, suc, List as Listed, [], ◌∷◌, ◌++◌, Some, None}
 use Rattle.std.proofs.Common.{Option, refl, sym, ap, ◌∙◌, arith, subst, ◌-◌, ◌<◌, length, get_or}
-use Rattle.std.proofs.lemmas.Option.{get_or_from_slice_get}
-use Rattle.std.specs.Prelude.{slice_get, IsSomeAnd}
+use Rattle.std.{proofs.lemmas.Option.get_or_from_slice_get, specs.Prelude.{slice_get, IsSomeAnd}}
 use Rattle.std.proofs.lemmas.List.{length-append}
 use Rattle.do_base.specs.values.Kinds.{items}
 use Rattle.do_behave.specs.laws.ValueKinds.{items-List}
-use Rattle.do_base.specs.names.Names.{ObjectName}
-use Rattle.do_base.specs.declared.values.value.Value.{Value, List}
-use Rattle.do_behave.proofs.KnownWeights.{longer_list}
-use Rattle.do_behave.specs.Changes.{meaning}
-use Rattle.do_behave.specs.InPlace.{after_act}
-use Rattle.do_behave.specs.LongerList.{FitsIn, longer, longer_at}
-use Rattle.do_behave.specs.Steps.{local}
+use Rattle.do_base.specs.{names.Names.ObjectName, declared.values.value.Value.{Value, List}}
+use Rattle.do_behave.{proofs.KnownWeights.longer_list, specs.{Changes.meaning, InPlace.after_act}}
+use Rattle.do_behave.specs.{LongerList.{FitsIn, longer, longer_at}, Steps.local}
 use Rattle.do_behave.specs.declared.change.Change.TheVariants.{Push}
 use Rattle.do_behave.specs.declared.invocation.Invocation.{Invocation}
 use Rattle.do_stack.specs.Waiting.{with_top}
 use Rattle.do_part.specs.Names.{value_of, values_of, stack_of}
-use Rattle.do_part.proofs.Exchanging.{first_of, of-cons, of-append, top-moves}
-use Rattle.do_part.proofs.Naming.{of-List}
+use Rattle.do_part.proofs.{Exchanging.{first_of, of-cons, of-append, top-moves}, Naming.of-List}
 use Rattle.do_part.proofs.Sequences.{of-one}
 
 -- a list that stands at a place of locals

@@ -1,9 +1,7 @@
 -- Where a list has an element that is inserted, and what is among its elements then.
 use Rattle.std.proofs.Common.{◌≡◌, ℕ, suc, ◌+◌, ◌++◌, Bool, true, false, cond, not, ◌⊎◌, inl, inr}
 use Rattle.std.proofs.Common.{List, [], ◌∷◌, length, Some, None, refl, ap, ◌∙◌, subst, arith}
-use Rattle.std.specs.Prelude.{nat_lt}
-use Rattle.std.specs.List.{position_or_len}
-use Rattle.std.proofs.lemmas.Bool.Decides.{nat_tests}
+use Rattle.std.{specs.{Prelude.nat_lt, List.position_or_len}, proofs.lemmas.Bool.Decides.nat_tests}
 use Rattle.do_machine.specs.Lists.{IsIn, all_inserted, inserted, put_at}
 
 -- a number is before a higher one, and one higher than two numbers compares as they do

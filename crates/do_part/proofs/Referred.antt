@@ -1,43 +1,30 @@
 -- To what a part refers, by what it counts.
-use Rattle.std.proofs.Common.{◌≡◌, ◌↔◌, ℕ, ◌+◌, ◌<◌, ◌++◌, ◌==◌, ◌&&◌, ◌||◌, Bool, true, false}
-use Rattle.std.proofs.Common.{cond, List as Listed, [], ◌∷◌, count_by}
-use Rattle.std.proofs.Common.{map as each, refl, sym, ap, ◌∙◌, arith}
-use Rattle.std.specs.Prelude.{nat_lt}
-use Rattle.std.specs.List.{list_any}
 use Rattle.std.specs.FinMap as map
-use Rattle.std.proofs.lemmas.Bool.Decides.{nat_tests}
-use Rattle.std.proofs.lemmas.List.Sums.{sum_by-cons}
+use Rattle.std.proofs.Common.{◌≡◌, ◌↔◌, ℕ, ◌+◌, ◌<◌, ◌++◌, ◌==◌, ◌&&◌, ◌||◌, Bool, true, false}
+use Rattle.std.proofs.Common.{cond, List as Listed, [], ◌∷◌, count_by, map as each, refl, sym, ap}
+use Rattle.std.{proofs.Common.{◌∙◌, arith}, specs.{Prelude.nat_lt, List.list_any}}
+use Rattle.std.proofs.lemmas.{Bool.Decides.nat_tests, List.Sums.sum_by-cons}
 use Rattle.do_base.specs.names.Names.{ObjectName}
 use Rattle.do_behave.specs.declared.invocation.Invocation.{Invocation}
 use Rattle.do_export.specs.Counts.{IsPositive, count_of}
-use Rattle.do_import.specs.Imported.{IsTied, LendMap, lends_of}
-use Rattle.do_import.specs.Asked.{AskMap, asks_of}
+use Rattle.do_import.specs.{Imported.{IsTied, LendMap, lends_of}, Asked.{AskMap, asks_of}}
 use Rattle.do_import.proofs.RowCounts.{in_front}
 use Rattle.do_leaving.specs.Counted.{Counted, IsUsed, times}
-use Rattle.do_leaving.proofs.SlotNames.{times-append, values_times}
-use Rattle.do_leaving.proofs.StoreLookups.{in_find}
-use Rattle.do_machine.specs.Objects.{object_at}
-use Rattle.do_machine.specs.State.{is_open}
-use Rattle.do_machine.specs.declared.node.Lend.{Lend}
-use Rattle.do_machine.specs.declared.node.Node.{Node}
-use Rattle.do_machine.specs.declared.node.Stored.{Stored}
-use Rattle.do_machine.specs.declared.node.Wanted.{Wanted}
+use Rattle.do_leaving.proofs.{SlotNames.{times-append, values_times}, StoreLookups.in_find}
+use Rattle.do_machine.specs.{Objects.object_at, State.is_open, declared.node.{Lend.Lend, Node.Node}}
+use Rattle.do_machine.specs.declared.node.{Stored.Stored, Wanted.Wanted}
 use Rattle.do_machine.specs.held.Kept.{is_held_up, is_root}
-use Rattle.do_machine.specs.held.Refers.{heap_objects, invocation_objects, node_objects}
-use Rattle.do_machine.specs.held.Refers.{objects_in, stack_objects, state_values}
-use Rattle.do_machine.specs.lend.Asking.{wanted_lt}
+use Rattle.do_machine.specs.held.Refers.{heap_objects, invocation_objects, node_objects, objects_in}
+use Rattle.do_machine.specs.{held.Refers.{stack_objects, state_values}, lend.Asking.wanted_lt}
 use Rattle.do_network.specs.Own.{is_counted}
 use Rattle.do_packet.specs.Met.{same_object}
 use Rattle.do_stack.specs.Uses.{invocation_values}
-use Rattle.do_part.specs.Names.{heap_of, stack_of, values_of}
-use Rattle.do_part.specs.Seen.{ask_of, lend_lt, lend_of, own_of}
-use Rattle.do_part.specs.Sound.{IsSound, entries, holders, uses}
+use Rattle.do_part.specs.{Names.{heap_of, stack_of, values_of}, Seen.{ask_of, lend_lt, lend_of}}
+use Rattle.do_part.specs.{Seen.own_of, Sound.{IsSound, entries, holders, uses}}
 use Rattle.do_part.specs.declared.part.Part.TheInside.{Inside}
 use Rattle.do_export.proofs.Counting.{at}
-use Rattle.do_part.proofs.Naming.{of-Obj}
-use Rattle.do_part.proofs.Sequences.{of-invocation}
-use Rattle.do_part.proofs.HeldRows.{any_counted, has-count, held_has}
-use Rattle.do_part.proofs.InsertedCounts.{count-all}
+use Rattle.do_part.proofs.{Naming.of-Obj, Sequences.of-invocation}
+use Rattle.do_part.proofs.{HeldRows.{any_counted, has-count, held_has}, InsertedCounts.count-all}
 use Rattle.do_part.proofs.LinkRows.{asked_list, lent_list}
 
 -- ---- names in invocations and slots

@@ -1,21 +1,16 @@
 -- What a part has, where counts of names have changed.
+use Rattle.std.specs.FinMap as map
 use Rattle.std.proofs.Common.{◌≡◌, ℕ, ◌+◌, ◌-◌, ◌^◌, List, map as each, sym, ap, ◌∙◌, arith}
 use Rattle.std.specs.Prelude.{min}
-use Rattle.std.specs.FinMap as map
 use Rattle.do_base.specs.names.Names.{ObjectName}
 use Rattle.do_behave.specs.declared.invocation.Invocation.{Invocation}
 use Rattle.do_export.specs.Counts.{count_of}
-use Rattle.do_import.specs.ByObject.{object_of}
-use Rattle.do_import.specs.Imported.{Imported}
-use Rattle.do_machine.specs.Lists.{all_inserted}
-use Rattle.do_machine.specs.lend.Asking.{wanted_lt}
+use Rattle.do_import.specs.{ByObject.object_of, Imported.Imported}
+use Rattle.do_machine.specs.{Lists.all_inserted, lend.Asking.wanted_lt}
 use Rattle.do_stack.specs.Stacked.{Stacked}
-use Rattle.do_part.specs.Holding.{plain, HasCome, HasGone}
-use Rattle.do_part.specs.Names.{heap_of, stack_of}
-use Rattle.do_part.specs.Seen.{own_of, lend_of, lend_lt, ask_of}
-use Rattle.do_part.specs.Sound.{uses}
-use Rattle.do_part.specs.declared.holders.Holders.{Holders}
-use Rattle.do_part.specs.declared.part.Part.TheInside.{Inside}
+use Rattle.do_part.specs.{Holding.{plain, HasCome, HasGone}, Names.{heap_of, stack_of}}
+use Rattle.do_part.specs.{Seen.{own_of, lend_of, lend_lt, ask_of}, Sound.uses}
+use Rattle.do_part.specs.declared.{holders.Holders.Holders, part.Part.TheInside.Inside}
 
 -- the node and all numbers are the same, and what is held of other nodes but for the uses
 pub record SameNumbers (a b : Holders) : Type 0 where

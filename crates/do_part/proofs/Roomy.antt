@@ -2,11 +2,8 @@
 use Rattle.std.proofs.Common.{◌≡◌, ℕ, sym, subst}
 use Rattle.do_export.specs.Counts.{Exported}
 use Rattle.do_stack.specs.Stacked.{Stacked}
-use Rattle.do_part.specs.Holding.{SameHolders}
-use Rattle.do_part.specs.Seen.{own_of}
-use Rattle.do_part.specs.Sound.{IsSound}
-use Rattle.do_part.specs.declared.holders.Holders.{Holders}
-use Rattle.do_part.specs.declared.part.Part.TheInside.{Inside}
+use Rattle.do_part.specs.{Holding.SameHolders, Seen.own_of, Sound.IsSound}
+use Rattle.do_part.specs.declared.{holders.Holders.Holders, part.Part.TheInside.Inside}
 
 -- the holders with other room
 abbrev roomy : Holders → ℕ → ℕ → Holders

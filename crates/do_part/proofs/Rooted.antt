@@ -1,23 +1,15 @@
 -- A part stays sound where its root changes, or only what it holds of other nodes.
-use Rattle.std.proofs.Common.{◌≡◌, ◌≢◌, ℕ, ◌≤◌, Some, None, Option, cond, eqb, ◌&&◌, map}
-use Rattle.std.proofs.Common.{false, refl, sym, ap, ◌∙◌, arith, eq-eqb, ne_eqb, subst}
+use Rattle.std.proofs.Common.{◌≡◌, ◌≢◌, ℕ, ◌≤◌, Some, None, Option, cond, eqb, ◌&&◌, map, false}
+use Rattle.std.proofs.Common.{refl, sym, ap, ◌∙◌, arith, eq-eqb, ne_eqb, subst}
 use Rattle.do_base.specs.names.Names.{ObjectName}
-use Rattle.do_machine.specs.Objects.{object_at}
-use Rattle.do_machine.specs.held.Kept.{is_root}
+use Rattle.do_machine.specs.{Objects.object_at, held.Kept.is_root}
 use Rattle.do_network.specs.Own.{Own}
-use Rattle.do_part.specs.Holding.{plain, CanGo, HasCome, HasGone}
-use Rattle.do_part.specs.Names.{stack_of, AreStored}
-use Rattle.do_part.specs.Owned.{Owned}
-use Rattle.do_part.specs.Rooting.{root_of, root_size}
-use Rattle.do_part.specs.Seen.{own_of, owned_of}
-use Rattle.do_part.specs.Sound.{IsSound}
-use Rattle.do_part.specs.declared.holders.Holders.{Holders}
-use Rattle.do_part.specs.declared.part.Part.TheInside.{Inside}
-use Rattle.do_part.proofs.Bounds.{at-le}
-use Rattle.do_part.proofs.Linking.{links_kept}
-use Rattle.do_part.proofs.Naming.{of-Obj}
-use Rattle.do_part.proofs.Rest.{SameNumbers, numbers_turned, heap_kept, uses_kept}
-use Rattle.do_part.proofs.Turning.{turned_go, sound_turned}
+use Rattle.do_part.specs.{Holding.{plain, CanGo, HasCome, HasGone}, Names.{stack_of, AreStored}}
+use Rattle.do_part.specs.{Owned.Owned, Rooting.{root_of, root_size}, Seen.{own_of, owned_of}}
+use Rattle.do_part.specs.{Sound.IsSound, declared.holders.Holders.Holders}
+use Rattle.do_part.{specs.declared.part.Part.TheInside.Inside, proofs.Bounds.at-le}
+use Rattle.do_part.proofs.{Linking.links_kept, Naming.of-Obj, Rest.{SameNumbers, numbers_turned}}
+use Rattle.do_part.proofs.{Rest.{heap_kept, uses_kept}, Turning.{turned_go, sound_turned}}
 
 -- a root names no object more often than it has names
 pub root-le : (port : ℕ) (root : Option ℕ) (o : ObjectName) → root_of port root o ≤ root_size root

@@ -1,30 +1,20 @@
 -- The balance after a slot was written.
-use Rattle.std.proofs.Common.{◌≡◌, ℕ, ◌+◌, ◌<◌, ◌≤◌, zero, suc, Bool, true, false, cond, eqb}
-use Rattle.std.proofs.Common.{List, [], ◌∷◌, Some, None, Option, IsSome, map, refl, sym, ap, ◌∙◌}
-use Rattle.std.proofs.Common.{arith, subst, inl, inr, length}
+use Rattle.std.proofs.Common.{◌≡◌, ℕ, ◌+◌, ◌<◌, ◌≤◌, zero, suc, Bool, true, false, cond, eqb, List}
+use Rattle.std.proofs.Common.{[], ◌∷◌, Some, None, Option, IsSome, map, refl, sym, ap, ◌∙◌, arith}
+use Rattle.std.proofs.Common.{subst, inl, inr, length}
 use Rattle.std.specs.Prelude.{◌==◌, option_map, slice_get, slice_set}
-use Rattle.std.proofs.lemmas.Bool.{cases_eq}
-use Rattle.std.proofs.lemmas.Option.{get_or_from_slice_get}
-use Rattle.std.proofs.lemmas.List.Sums.{sum_by-cons}
-use Rattle.do_base.specs.names.Names.{ObjectName}
-use Rattle.do_base.specs.declared.values.value.Value.{Value}
+use Rattle.std.proofs.lemmas.{Bool.cases_eq, Option.get_or_from_slice_get, List.Sums.sum_by-cons}
+use Rattle.do_base.specs.{names.Names.ObjectName, declared.values.value.Value.Value}
 use Rattle.do_behave.specs.declared.act.Write.{Write}
-use Rattle.do_export.specs.Counts.{count_of}
+use Rattle.do_export.specs.Counts.{count_of, IsPositive}
 use Rattle.do_import.specs.Imported.{Imported}
-use Rattle.do_machine.specs.Lists.{change_first}
-use Rattle.do_machine.specs.Objects.{object_at}
-use Rattle.do_machine.specs.State.{stored}
-use Rattle.do_machine.specs.declared.node.Stored.{Stored}
-use Rattle.do_machine.specs.run.Changes.{with_writes}
+use Rattle.do_machine.specs.{Lists.change_first, Objects.object_at, State.stored}
+use Rattle.do_machine.specs.{declared.node.Stored.Stored, run.Changes.with_writes}
 use Rattle.do_store.specs.Listing.{Rising}
 use Rattle.do_store.specs.Names.{Stored as Kept, find_stored, named_in, replaced, Objects}
-use Rattle.do_export.specs.Counts.{IsPositive}
-use Rattle.do_part.specs.Holding.{plain, Came}
-use Rattle.do_part.specs.Names.{value_of, values_of, heap_of}
-use Rattle.do_part.specs.Sound.{IsBalanced}
-use Rattle.do_part.specs.declared.holders.Holders.{Holders}
-use Rattle.do_part.proofs.Balanced.{found_of, some_of, named-plain}
-use Rattle.do_part.proofs.Exchanging.{put-moves}
+use Rattle.do_part.specs.{Holding.{plain, Came}, Names.{value_of, values_of, heap_of}}
+use Rattle.do_part.specs.{Sound.IsBalanced, declared.holders.Holders.Holders}
+use Rattle.do_part.proofs.{Balanced.{found_of, some_of, named-plain}, Exchanging.put-moves}
 use Rattle.do_part.proofs.Stored.{stored-plain}
 use Rattle.do_part.proofs.Replaced.{find-become, become, replaced-change, rising-replaced}
 

@@ -4,24 +4,17 @@ use Rattle.std.proofs.Common.{IsSome, Some, map, refl, ap, arith, ◌<◌, lengt
 use Rattle.std.specs.Prelude.{slice_get}
 use Rattle.do_base.specs.names.Names.{ObjectName}
 use Rattle.do_base.specs.declared.events.exception.Exc.TheVariants.{ConnectionDied, TimedOut}
-use Rattle.do_behave.specs.declared.invocation.Answer.{Answer}
-use Rattle.do_behave.specs.declared.invocation.Answer.TheVariants.{Raised}
-use Rattle.do_behave.specs.declared.invocation.Waited.{Waited}
-use Rattle.do_behave.specs.declared.invocation.Invocation.{Invocation}
-use Rattle.do_behave.specs.declared.invocation.InvState.{InvState}
+use Rattle.do_behave.specs.declared.invocation.{Answer.{Answer, TheVariants.Raised}, Waited.Waited}
+use Rattle.do_behave.specs.declared.invocation.{Invocation.Invocation, InvState.InvState}
 use Rattle.do_behave.specs.declared.invocation.InvState.TheVariants.{Running, Below, Waits}
 use Rattle.do_behave.specs.declared.invocation.InvState.TheVariants.{Answered}
 use Rattle.do_machine.specs.ends.Closing.{died, without_answer}
 use Rattle.do_machine.specs.held.Refers.{answer_values, state_values}
-use Rattle.do_machine.specs.run.Changes.{answered, stands}
-use Rattle.do_machine.specs.take.Awaiting.{answered_state}
+use Rattle.do_machine.specs.{run.Changes.{answered, stands}, take.Awaiting.answered_state}
 use Rattle.do_stack.specs.Answered.{answer_of, answer_taken, state_taken, top_answer, values_taken}
-use Rattle.do_stack.specs.Late.{late_of, top_call}
-use Rattle.do_stack.specs.Waiting.{with_top}
+use Rattle.do_stack.specs.{Late.{late_of, top_call}, Waiting.with_top}
 use Rattle.do_part.specs.Names.{values_of, stack_of}
-use Rattle.do_part.proofs.Answering.{state-moves}
-use Rattle.do_part.proofs.Exchanging.{stack-cons}
-use Rattle.do_part.proofs.Numbering.{Eases}
+use Rattle.do_part.proofs.{Answering.state-moves, Exchanging.stack-cons, Numbering.Eases}
 
 -- an invocation that loses a peer names what it named
 died-values : (peer : ℕ) (s : InvState) → state_values (died peer s) ≡ state_values s

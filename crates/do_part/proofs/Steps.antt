@@ -5,8 +5,7 @@ use Rattle.do_export.specs.Counts.{count_of}
 use Rattle.do_import.specs.Imported.{Imported}
 use Rattle.do_machine.specs.Objects.{object_at}
 use Rattle.do_store.specs.Names.{Stored as Kept, find_stored, Objects}
-use Rattle.do_part.specs.Holding.{plain, CanCome, CanGo, Came}
-use Rattle.do_part.specs.declared.holders.Holders.{Holders}
+use Rattle.do_part.specs.{Holding.{plain, CanCome, CanGo, Came}, declared.holders.Holders.Holders}
 use Rattle.do_part.proofs.Replaced.{still}
 
 -- no name comes

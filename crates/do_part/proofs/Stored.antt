@@ -4,13 +4,10 @@ use Rattle.std.proofs.Common.{eqb, IsSome, map, refl, sym, ap, ◌∙◌, subst}
 use Rattle.std.specs.Prelude.{option_map, MatchOption}
 use Rattle.do_base.specs.declared.values.value.Value.{Value}
 use Rattle.do_class.specs.declared.ids.ClassId.{ClassId}
-use Rattle.do_machine.specs.Objects.{object_at}
-use Rattle.do_machine.specs.State.{stored}
-use Rattle.do_machine.specs.declared.node.Stored.{Stored}
+use Rattle.do_machine.specs.{Objects.object_at, State.stored, declared.node.Stored.Stored}
 use Rattle.do_store.specs.Names.{Stored as Kept, find_stored, stored_name}
 use Rattle.do_part.specs.Holding.{plain}
-use Rattle.do_part.proofs.Balanced.{found_of, some_of}
-use Rattle.do_part.proofs.Replaced.{found-serial}
+use Rattle.do_part.proofs.{Balanced.{found_of, some_of}, Replaced.found-serial}
 
 -- the node stores what the store has
 pub stored-plain : (xs : List Kept) (n : ℕ)

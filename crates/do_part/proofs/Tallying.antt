@@ -1,12 +1,10 @@
 -- Names counted or taken off: none, one lot after another, and the same names in other words.
 use Rattle.std.proofs.Common.{◌≡◌, ℕ, ◌+◌, ◌≤◌, arith, sym, ◌∙◌}
 use Rattle.do_base.specs.names.Names.{ObjectName}
-use Rattle.do_part.specs.Holding.{CanTally, Tallied}
-use Rattle.do_part.specs.declared.holders.Holders.{Holders}
-use Rattle.do_part.specs.declared.tally.Tally.{Tally}
-use Rattle.do_part.specs.declared.tally.Tally.TheVariants.{More, Less}
-use Rattle.do_part.proofs.Steps.{came-none, came-as, came-then, can-less, can-rest}
-use Rattle.do_part.proofs.Steps.{go-less, go-rest}
+use Rattle.do_part.specs.{Holding.{CanTally, Tallied}, declared.holders.Holders.Holders}
+use Rattle.do_part.specs.declared.tally.Tally.{Tally, TheVariants.{More, Less}}
+use Rattle.do_part.proofs.Steps.{came-none, came-as, came-then, can-less, can-rest, go-less}
+use Rattle.do_part.proofs.Steps.{go-rest}
 
 -- where there is no name, nothing changes
 pub tallied-none : (by : Tally) (a : Holders) (f : ObjectName → ℕ) (s : ℕ)

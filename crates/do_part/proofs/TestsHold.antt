@@ -1,8 +1,6 @@
 -- What holds where a test of two parts, or one of an order, holds.
-use Rattle.std.proofs.Common.{◌≡◌, ◌&&◌, Bool, true, false, T, refl}
-use Rattle.std.specs.Ordering.{is_lt}
-use Rattle.std.specs.declared.cmp.Ordering.{Ordering}
-use Rattle.std.specs.declared.cmp.Ordering.TheVariants.{Less, Equal, Greater}
+use Rattle.std.{proofs.Common.{◌≡◌, ◌&&◌, Bool, true, false, T, refl}, specs.Ordering.is_lt}
+use Rattle.std.specs.declared.cmp.Ordering.{Ordering, TheVariants.{Less, Equal, Greater}}
 
 -- of two parts the first
 pub first_holds : (a b : Bool) → T (a && b) → T a

@@ -1,28 +1,20 @@
 -- A part stays sound where names come and others go.
-use Rattle.std.proofs.Common.{◌≡◌, ◌≢◌, ℕ, ◌+◌, ◌≤◌, Some, None, false}
-use Rattle.std.proofs.Common.{IsSome, List, ◌<◌, map, sym, ap, ◌∙◌, arith, subst, length, refl}
-use Rattle.std.specs.Prelude.{◌==◌}
-use Rattle.std.specs.List.{IsDistinct}
+use Rattle.std.proofs.Common.{◌≡◌, ◌≢◌, ℕ, ◌+◌, ◌≤◌, Some, None, false, IsSome, List, ◌<◌, map, sym}
+use Rattle.std.proofs.Common.{ap, ◌∙◌, arith, subst, length, refl}
+use Rattle.std.specs.{Prelude.◌==◌, List.IsDistinct}
 use Rattle.do_base.specs.names.Names.{ObjectName}
 use Rattle.do_machine.specs.Objects.{object_at}
 use Rattle.do_stack.specs.Stacked.{Stacked}
 use Rattle.do_store.specs.Names.{find_stored}
 use Rattle.do_part.specs.Holding.{plain, most_names, CanCome, CanGo, HasCome, HasGone}
-use Rattle.do_part.specs.Linked.{AreLinked}
-use Rattle.do_part.specs.Names.{stack_of, AreStored}
-use Rattle.do_part.specs.Numbered.{IsNumbered}
-use Rattle.do_part.specs.Owned.{Owned}
-use Rattle.do_part.specs.Seen.{own_of, owned_of}
-use Rattle.do_part.specs.Sound.{IsBalanced, IsSound, holders, uses}
-use Rattle.do_part.specs.declared.holders.Holders.{Holders}
-use Rattle.do_part.specs.declared.part.Part.TheInside.{Inside}
-use Rattle.do_part.specs.declared.tally.Tally.TheVariants.{More, Less}
+use Rattle.do_part.specs.{Linked.AreLinked, Names.{stack_of, AreStored}, Numbered.IsNumbered}
+use Rattle.do_part.specs.{Owned.Owned, Seen.{own_of, owned_of}, Sound.{IsBalanced, IsSound}}
+use Rattle.do_part.specs.{Sound.{holders, uses}, declared.holders.Holders.Holders}
+use Rattle.do_part.specs.declared.{part.Part.TheInside.Inside, tally.Tally.TheVariants.{More, Less}}
 use Rattle.do_part.proofs.Balanced.{balanced-came, balanced-went, can_come, can_go}
-use Rattle.do_part.proofs.Bounds.{entries-le, choice-le}
-use Rattle.do_part.proofs.Linking.{links_kept}
+use Rattle.do_part.proofs.{Bounds.{entries-le, choice-le}, Linking.links_kept}
 use Rattle.do_part.proofs.Rest.{SameNumbers, numbers_turned, heap_kept, uses_kept}
-use Rattle.do_part.proofs.Stored.{found-stored}
-use Rattle.do_part.proofs.Tallying.{tallied-none}
+use Rattle.do_part.proofs.{Stored.found-stored, Tallying.tallied-none}
 
 module _ (i : Inside) (s : IsSound i) (v : Owned) (is : owned_of i ≡ v) where
   -- what the node stores is stored

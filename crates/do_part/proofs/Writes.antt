@@ -1,34 +1,23 @@
 -- A part stays sound where a slot is written or an object created.
-use Rattle.std.proofs.Common.{◌≡◌, ℕ, ◌+◌, ◌<◌, ◌≤◌, ◌^◌, false}
-use Rattle.std.proofs.Common.{IsSome, map, refl, sym, ap, ◌∙◌, arith, subst}
-use Rattle.std.specs.Prelude.{◌==◌}
-use Rattle.do_base.specs.names.Names.{ObjectName}
-use Rattle.do_base.specs.declared.values.value.Value.{Value}
+use Rattle.std.proofs.Common.{◌≡◌, ℕ, ◌+◌, ◌<◌, ◌≤◌, ◌^◌, false, IsSome, map, refl, sym, ap, ◌∙◌}
+use Rattle.std.{proofs.Common.{arith, subst}, specs.Prelude.◌==◌}
+use Rattle.do_base.specs.{names.Names.ObjectName, declared.values.value.Value.Value}
 use Rattle.do_export.specs.Counts.{count_of}
 use Rattle.do_import.specs.Imported.{Imported}
-use Rattle.do_machine.specs.Lists.{change_first}
-use Rattle.do_machine.specs.Objects.{object_at}
-use Rattle.do_machine.specs.run.Changes.{with_writes}
+use Rattle.do_machine.specs.{Lists.change_first, Objects.object_at, run.Changes.with_writes}
 use Rattle.do_store.specs.Names.{Stored as Kept, find_stored, named_in, AllStored}
 use Rattle.do_part.specs.Holding.{plain, CanCome, CanGo, HasCome, HasGone}
 use Rattle.do_part.specs.Names.{counted, value_of, values_of, size_of, sizes_of, stack_of, heap_of}
-use Rattle.do_part.specs.Names.{AreStored}
-use Rattle.do_part.specs.Owned.{Owned}
-use Rattle.do_part.specs.Seen.{own_of, owned_of}
-use Rattle.do_part.specs.Sound.{IsBalanced, IsSound, holders, uses}
-use Rattle.do_part.specs.declared.holders.Holders.{Holders}
-use Rattle.do_part.specs.declared.part.Part.TheInside.{Inside}
-use Rattle.do_part.specs.declared.tally.Tally.TheVariants.{Less}
-use Rattle.do_part.proofs.Balanced.{still_some, can_go, named-plain}
-use Rattle.do_part.proofs.Bounds.{value-le, values-le}
+use Rattle.do_part.specs.{Names.AreStored, Owned.Owned, Seen.{own_of, owned_of}, Sound.IsBalanced}
+use Rattle.do_part.specs.{Sound.{IsSound, holders, uses}, declared.holders.Holders.Holders}
+use Rattle.do_part.specs.declared.{part.Part.TheInside.Inside, tally.Tally.TheVariants.Less}
+use Rattle.do_part.proofs.{Balanced.{still_some, can_go, named-plain}, Bounds.{value-le, values-le}}
 use Rattle.do_part.proofs.Created.{Created, names-created, balanced-created}
 use Rattle.do_part.proofs.Naming.{counted-own, counted-foreign, counted-most}
 use Rattle.do_part.proofs.Linking.{SameImports, links_kept}
 use Rattle.do_part.proofs.Rest.{SameNumbers, numbers_then, numbers_came, numbers_gone, own_moved}
 use Rattle.do_part.proofs.Slots.{Wrote, one_write, heap-wrote, names-wrote, balanced-wrote}
-use Rattle.do_part.proofs.Steps.{can-less}
-use Rattle.do_part.proofs.Stored.{found-stored}
-use Rattle.do_part.proofs.Tallying.{tallied-none}
+use Rattle.do_part.proofs.{Steps.can-less, Stored.found-stored, Tallying.tallied-none}
 use Rattle.do_part.proofs.Turning.{sound_come, balanced_in, sound_after, room_below}
 
 module _ (i : Inside) (s : IsSound i) (v : Owned) (is : owned_of i ≡ v) (d : ObjectName → ℕ)

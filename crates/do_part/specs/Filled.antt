@@ -1,11 +1,8 @@
 -- Objects that may name each other: made blank at first, and then filled.
-use Rattle.std.specs.Prelude.{ℕ, List as Listed, [], ◌∷◌, suc, length, replicate}
-use Rattle.std.specs.List.{flat_map}
-use Rattle.do_base.specs.declared.values.value.Value.{Value}
-use Rattle.do_base.specs.declared.values.value.Value.TheVariants.{Nil}
+use Rattle.std.specs.{Prelude.{ℕ, List as Listed, [], ◌∷◌, suc, length, replicate}, List.flat_map}
+use Rattle.do_base.specs.declared.values.value.Value.{Value, TheVariants.Nil}
 use Rattle.do_behave.specs.declared.act.Write.{Write}
-use Rattle.do_machine.specs.declared.node.Node.{Node}
-use Rattle.do_machine.specs.run.Changes.{with_slots}
+use Rattle.do_machine.specs.{declared.node.Node.Node, run.Changes.with_slots}
 use Rattle.do_packet.specs.declared.receipt.Made.{Made}
 
 -- what the slots of objects hold, one object after another

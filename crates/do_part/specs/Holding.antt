@@ -2,11 +2,9 @@
 use Rattle.std.specs.Prelude.{◌≡◌, ◌≢◌, ℕ, ◌+◌, ◌<◌, ◌≤◌, ◌^◌, Some, map as each}
 use Rattle.do_base.specs.names.Names.{ObjectName}
 use Rattle.do_export.specs.Counts.{IsPositive, count_of}
-use Rattle.do_machine.specs.Objects.{object_at}
-use Rattle.do_machine.specs.declared.node.Stored.{Stored}
+use Rattle.do_machine.specs.{Objects.object_at, declared.node.Stored.Stored}
 use Rattle.do_store.specs.Names.{Stored as Kept, find_stored}
-use Rattle.do_part.specs.declared.holders.Holders.{Holders}
-use Rattle.do_part.specs.declared.tally.Tally.{Tally}
+use Rattle.do_part.specs.declared.{holders.Holders.Holders, tally.Tally.Tally}
 use Rattle.do_part.specs.declared.tally.Tally.TheVariants.{More, Less}
 
 -- a stored object, without the number of its holders

@@ -1,11 +1,10 @@
 -- What a part has with its peers stays within bounds.
-use Rattle.std.specs.Prelude.{◌≡◌, ◌≢◌, ℕ, ◌<◌, ◌≤◌, true}
 use Rattle.std.specs.FinMap as map
+use Rattle.std.specs.Prelude.{◌≡◌, ◌≢◌, ℕ, ◌<◌, ◌≤◌, true}
 use Rattle.do_export.specs.Counts.{count_of}
 use Rattle.do_import.specs.Asked.{AskKey}
 use Rattle.do_machine.specs.State.{is_open}
-use Rattle.do_part.specs.Seen.{own_of}
-use Rattle.do_part.specs.declared.part.Part.TheInside.{Inside}
+use Rattle.do_part.specs.{Seen.own_of, declared.part.Part.TheInside.Inside}
 
 -- the end of each entry is open, no object was named or received more often than names were ever
 -- counted, and what was received or asked for is not the node's own; it was lent by a node, whose

@@ -1,13 +1,10 @@
 -- How often slots and invocations name an object, and how many names there are in values.
 use Rattle.std.specs.Prelude.{ℕ, ◌<◌, IsSome, Bool, not, ◌||◌, cond, eqb, List as Listed, sum}
 use Rattle.std.specs.Prelude.{sum_by}
-use Rattle.do_base.specs.names.Names.{ObjectName}
-use Rattle.do_base.specs.declared.values.value.Value.{Value, fold-Value}
+use Rattle.do_base.specs.{names.Names.ObjectName, declared.values.value.Value.{Value, fold-Value}}
 use Rattle.do_base.specs.declared.values.value.Value.TheOpen.{Value-F}
 use Rattle.do_behave.specs.declared.invocation.Invocation.{Invocation}
-use Rattle.do_machine.specs.Objects.{object_at}
-use Rattle.do_machine.specs.State.{stored}
-use Rattle.do_machine.specs.declared.node.Node.{Node}
+use Rattle.do_machine.specs.{Objects.object_at, State.stored, declared.node.Node.Node}
 use Rattle.do_machine.specs.declared.node.Stored.{Stored}
 use Rattle.do_store.specs.Names.{value_names, values_name}
 use Rattle.do_stack.specs.Uses.{invocation_values}

@@ -1,10 +1,8 @@
 -- What contracts see of a part: what a node has of its own, and the room left.
-use Rattle.std.specs.Prelude.{ℕ, refl}
-use Rattle.std.specs.Coded.{Coded, code_by, coded×, coded_ℕ}
 use Rattle.std.specs.FinMap as map
+use Rattle.std.specs.{Prelude.{ℕ, refl}, Coded.{Coded, code_by, coded×, coded_ℕ}}
 use Rattle.do_export.specs.Counts.{Counts}
-use Rattle.do_import.specs.Asked.{class_code}
-use Rattle.do_import.specs.ByObject.{ClassMap}
+use Rattle.do_import.specs.{Asked.class_code, ByObject.ClassMap}
 use Rattle.do_machine.specs.declared.node.Node.{Node}
 use Rattle.do_network.specs.Own.{Own}
 

@@ -1,8 +1,7 @@
 -- The names that a root is, and the names of foreign objects that are held.
-use Rattle.std.specs.Prelude.{ℕ, List, Option, Some, None, map as each}
 use Rattle.std.specs.FinMap as map
-use Rattle.do_base.specs.names.Names.{ObjectName}
-use Rattle.do_base.specs.declared.values.value.Value.TheVariants.{Obj}
+use Rattle.std.specs.Prelude.{ℕ, List, Option, Some, None, map as each}
+use Rattle.do_base.specs.{names.Names.ObjectName, declared.values.value.Value.TheVariants.Obj}
 use Rattle.do_export.specs.Counts.{Counts}
 use Rattle.do_import.specs.ByObject.{object_of}
 use Rattle.do_machine.specs.Objects.{object_at}

@@ -1,18 +1,13 @@
 -- What contracts see of the fields of a part.
-use Rattle.std.specs.Prelude.{ℕ, map as each, min, nat_lt, ◌-◌, Bool, ◌^◌}
 use Rattle.std.specs.FinMap as map
+use Rattle.std.specs.Prelude.{ℕ, map as each, min, nat_lt, ◌-◌, Bool, ◌^◌}
 use Rattle.do_base.specs.names.Names.{ObjectName}
 use Rattle.do_class.specs.declared.ids.ClassId.{ClassId}
-use Rattle.do_import.specs.Asked.{AskKey}
-use Rattle.do_import.specs.ByObject.{object_of}
-use Rattle.do_machine.specs.Lists.{all_inserted}
-use Rattle.do_machine.specs.Objects.{object_at}
-use Rattle.do_machine.specs.declared.node.Lend.{Lend}
-use Rattle.do_machine.specs.declared.node.Wanted.{Wanted}
-use Rattle.do_machine.specs.lend.Asking.{wanted, wanted_lt}
+use Rattle.do_import.specs.{Asked.AskKey, ByObject.object_of}
+use Rattle.do_machine.specs.{Lists.all_inserted, Objects.object_at, declared.node.Lend.Lend}
+use Rattle.do_machine.specs.{declared.node.Wanted.Wanted, lend.Asking.{wanted, wanted_lt}}
 use Rattle.do_network.specs.Own.{Own}
-use Rattle.do_part.specs.Holding.{plain, most_names}
-use Rattle.do_part.specs.Owned.{Owned, Room}
+use Rattle.do_part.specs.{Holding.{plain, most_names}, Owned.{Owned, Room}}
 use Rattle.do_part.specs.declared.part.Part.TheInside.{Inside}
 
 -- a lend of the map of lends

@@ -1,21 +1,14 @@
 -- What the counts of a part are: how often each object is named or held.
+use Rattle.std.specs.FinMap as map
 use Rattle.std.specs.Prelude.{◌≡◌, ◌≢◌, ℕ, ◌+◌, ◌<◌, ◌≤◌, Some, IsSome, cond, sum_by, length, ◌==◌}
 use Rattle.std.specs.List.{IsDistinct}
-use Rattle.std.specs.FinMap as map
 use Rattle.do_base.specs.names.Names.{ObjectName}
 use Rattle.do_export.specs.Counts.{IsPositive, count_of}
-use Rattle.do_machine.specs.Objects.{object_at}
-use Rattle.do_machine.specs.declared.node.Node.{Node}
-use Rattle.do_machine.specs.held.Kept.{is_root}
-use Rattle.do_store.specs.Listing.{Rising}
-use Rattle.do_store.specs.Names.{Stored as Kept, find_stored, named_in}
-use Rattle.do_part.specs.Holding.{most_names}
-use Rattle.do_part.specs.Linked.{AreLinked}
-use Rattle.do_part.specs.Names.{stack_of, heap_of}
+use Rattle.do_machine.specs.{Objects.object_at, declared.node.Node.Node, held.Kept.is_root}
+use Rattle.do_store.specs.{Listing.Rising, Names.{Stored as Kept, find_stored, named_in}}
+use Rattle.do_part.specs.{Holding.most_names, Linked.AreLinked, Names.{stack_of, heap_of}}
 use Rattle.do_network.specs.Own.{Own}
-use Rattle.do_part.specs.Numbered.{IsNumbered}
-use Rattle.do_part.specs.Seen.{own_of}
-use Rattle.do_part.specs.declared.holders.Holders.{Holders}
+use Rattle.do_part.specs.{Numbered.IsNumbered, Seen.own_of, declared.holders.Holders.Holders}
 use Rattle.do_part.specs.declared.part.Part.TheInside.{Inside}
 
 -- how many peers have an entry of an own object

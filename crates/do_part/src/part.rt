@@ -5,10 +5,9 @@ mod reading;
 mod reserving;
 mod stack;
 
-ghost use Rattle.std.specs.Prelude.{◌≡◌, ◌≤◌, [], None, IfOk, OnOk, OnErr, length};
-ghost use Rattle.std.specs.Prelude.{ℕ, ◌==◌};
-ghost use Rattle.std.specs.List.{IsDistinct};
 ghost use Rattle.std.specs.FinMap as map;
+ghost use Rattle.std.specs.Prelude.{◌≡◌, ◌≤◌, [], None, IfOk, OnOk, OnErr, length, ℕ, ◌==◌};
+ghost use Rattle.std.specs.List.{IsDistinct};
 
 use crate::holders::Holders;
 use do_base::{Items, NodeId, Peers};
@@ -43,8 +42,7 @@ impl Model for Part {
 
     ghost coded = { owned_code node.the_row.coded };
 
-    ghost use Rattle.do_part.specs.Seen.{owned_of};
-    ghost use Rattle.do_part.specs.Sound.{IsSound};
+    ghost use Rattle.do_part.specs.{Seen.owned_of, Sound.IsSound};
 
     ghost view = { owned_of };
 

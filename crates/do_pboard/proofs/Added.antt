@@ -1,29 +1,17 @@
 -- What added types leave is what is told.
-use Rattle.std.proofs.Common.{◌≡◌, ℕ, pos, Bool, true, false, ◌&&◌, ◌||◌, nat_lt, nat_le}
-use Rattle.std.proofs.Common.{List, [], ◌∷◌, ◌++◌, length, Option, Some, None, refl, sym, ◌∙◌, ap}
-use Rattle.std.proofs.Common.{true≢false, subst}
-use Rattle.std.specs.Prelude.{if◌then◌else◌}
-use Rattle.std.specs.List.{list_any}
-use Rattle.std.specs.Option.{option_map}
-use Rattle.std.specs.Str.{bytes_eq}
-use Rattle.std.proofs.lemmas.List.Folds.{list_any-append}
-use Rattle.std.proofs.lemmas.Map.Entries.{length-keys_of}
+use Rattle.std.proofs.Common.{◌≡◌, ℕ, pos, Bool, true, false, ◌&&◌, ◌||◌, nat_lt, nat_le, List, []}
+use Rattle.std.proofs.Common.{◌∷◌, ◌++◌, length, Option, Some, None, refl, sym, ◌∙◌, ap, true≢false}
+use Rattle.std.proofs.Common.{subst}
+use Rattle.std.specs.{Prelude.if◌then◌else◌, List.list_any, Option.option_map, Str.bytes_eq}
+use Rattle.std.proofs.lemmas.{List.Folds.list_any-append, Map.Entries.length-keys_of}
 use Rattle.do_base.specs.names.Names.{ObjectName}
-use Rattle.do_table.specs.Entries.{value_of, given}
-use Rattle.do_table.specs.laws.TableLaws.{same_name}
-use Rattle.do_pboard.specs.Calls.{as_number}
-use Rattle.do_pboard.specs.Changes.{extended}
-use Rattle.do_pboard.specs.Changes.{is_owned, same_owner, with_all}
-use Rattle.do_pboard.specs.Changes.{with_types}
-use Rattle.do_pboard.specs.Core.{Pasteboard}
+use Rattle.do_table.specs.{Entries.{value_of, given}, laws.TableLaws.same_name}
+use Rattle.do_pboard.specs.{Calls.as_number, Changes.{extended, is_owned, same_owner, with_all}}
+use Rattle.do_pboard.specs.{Changes.with_types, Core.Pasteboard}
 use Rattle.do_native_acts.specs.History.{left}
-use Rattle.do_pboard.specs.Meaning.{joined, told_count, told_data}
-use Rattle.do_pboard.specs.Meaning.{told_owner, told_types}
-use Rattle.do_pboard.specs.declared.calls.Call.{Call}
-use Rattle.do_pboard.specs.declared.calls.Call.TheVariants.{AddTypes}
-use Rattle.do_pboard.proofs.TypesAdded.{keys_joined}
-use Rattle.do_pboard.proofs.TypesAdded.{value_joined}
-use Rattle.do_pboard.proofs.Declared.{Has, IsTold}
+use Rattle.do_pboard.specs.Meaning.{joined, told_count, told_data, told_owner, told_types}
+use Rattle.do_pboard.specs.declared.calls.Call.{Call, TheVariants.AddTypes}
+use Rattle.do_pboard.proofs.{TypesAdded.{keys_joined, value_joined}, Declared.{Has, IsTold}}
 
 -- or nothing
 or_none : (b : Bool) → b ≡ (b || false)

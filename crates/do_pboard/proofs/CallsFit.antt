@@ -1,17 +1,11 @@
 -- A call that a selector and the arguments make is one that a core takes.
 use Rattle.std.proofs.Common.{ℕ, List as Listed, Some}
-use Rattle.std.specs.Prelude.{codes}
-use Rattle.std.specs.Option.{IfSome}
-use Rattle.std.specs.Str.{bytes_eq}
+use Rattle.std.specs.{Prelude.codes, Option.IfSome, Str.bytes_eq}
 use Rattle.do_base.specs.values.Kinds.{text, number}
 use Rattle.do_grammar.specs.Words.{◌>>?◌}
-use Rattle.do_behave.specs.Steps.{local}
-use Rattle.do_behave.specs.declared.invocation.Invocation.{Invocation}
-use Rattle.do_native_acts.specs.Owners.{owner_in}
-use Rattle.do_native_acts.specs.Rows.{list_in}
-use Rattle.do_native_acts.specs.Types.{types_in}
-use Rattle.do_native_acts.specs.laws.FoundLaws.{if_chosen, if_found, if_room}
-use Rattle.do_native_acts.specs.laws.KindLaws.{found_of}
+use Rattle.do_behave.specs.{Steps.local, declared.invocation.Invocation.Invocation}
+use Rattle.do_native_acts.specs.{Owners.owner_in, Rows.list_in, Types.types_in}
+use Rattle.do_native_acts.specs.laws.{FoundLaws.{if_chosen, if_found, if_room}, KindLaws.found_of}
 use Rattle.do_native_acts.specs.laws.TypeLaws.{types_back}
 use Rattle.do_pboard.specs.Calls.{IsCall, adds_types, asks_available, call_in, sets_data}
 use Rattle.do_pboard.specs.declared.calls.Call.TheVariants.{AddTypes, SetData, Available, Types}

@@ -1,22 +1,17 @@
 -- What stays of what a pasteboard can be.
-use Rattle.std.proofs.Common.{◌≡◌, ℕ, ◌+◌, ◌<◌, ◌==◌, Bool, true, false, not, ◌&&◌, nat_lt, nat_le}
-use Rattle.std.proofs.Common.{List, [], ◌∷◌, ◌++◌, length, length-append, Option, None, refl}
-use Rattle.std.proofs.Common.{sym, ◌∙◌, ap, arith, is_some, IsTrue}
-use Rattle.std.specs.Prelude.{if◌then◌else◌}
-use Rattle.std.specs.List.{list_all}
-use Rattle.std.specs.Map.{keys_of}
-use Rattle.std.specs.Str.{bytes_eq}
-use Rattle.std.proofs.lemmas.Bool.{and_parts, and_from, le-leb, eqb-true, ltb-true}
-use Rattle.std.proofs.lemmas.Map.{length-set_value}
-use Rattle.std.proofs.lemmas.Map.Entries.{length-keys_of}
-use Rattle.do_base.specs.names.Names.{ObjectName}
 use Rattle.do_native_acts.specs.Types as texts
+use Rattle.std.proofs.Common.{◌≡◌, ℕ, ◌+◌, ◌<◌, ◌==◌, Bool, true, false, not, ◌&&◌, nat_lt, nat_le}
+use Rattle.std.proofs.Common.{List, [], ◌∷◌, ◌++◌, length, length-append, Option, None, refl, sym}
+use Rattle.std.proofs.Common.{◌∙◌, ap, arith, is_some, IsTrue}
+use Rattle.std.specs.{Prelude.if◌then◌else◌, List.list_all, Map.keys_of, Str.bytes_eq}
+use Rattle.std.proofs.lemmas.Bool.{and_parts, and_from, le-leb, eqb-true, ltb-true}
+use Rattle.std.proofs.lemmas.Map.{length-set_value, Entries.length-keys_of}
+use Rattle.do_base.specs.names.Names.{ObjectName}
 use Rattle.do_native_acts.specs.Types.{are_types, is_type}
 use Rattle.do_table.specs.Entries.{value_of, are_distinct, replaced}
 use Rattle.do_table.specs.laws.TableLaws.{distinct_pushed}
 use Rattle.do_pboard.specs.Changes.{can_grow, declared, with_types}
-use Rattle.do_pboard.specs.Core.{Pasteboard, Declared, NamedBoard, are_declared}
-use Rattle.do_pboard.specs.Core.{bare, is_board}
+use Rattle.do_pboard.specs.Core.{Pasteboard, Declared, NamedBoard, are_declared, bare, is_board}
 use Rattle.do_pboard.specs.laws.SlotsExact.{board_is, declared_parts, distinct_names, is_board_of}
 use Rattle.do_pboard.proofs.TypesAdded.{distinct_joined, keys_bare, keys_joined, types_joined}
 use Rattle.do_pboard.proofs.TypesReplaced.{keys_replaced}

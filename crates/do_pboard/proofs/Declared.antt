@@ -1,23 +1,14 @@
 -- What a declaration leaves is what is told.
-use Rattle.std.proofs.Common.{◌≡◌, ℕ, ◌+◌, Bool, true, false}
-use Rattle.std.proofs.Common.{List, ◌∷◌, Option, Some, None, sym, ◌∙◌, ap}
-use Rattle.std.specs.Prelude.{if◌then◌else◌}
-use Rattle.std.specs.List.{list_any}
-use Rattle.std.specs.Map.{keys_of}
-use Rattle.std.specs.Str.{bytes_eq}
+use Rattle.std.proofs.Common.{◌≡◌, ℕ, ◌+◌, Bool, true, false, List, ◌∷◌, Option, Some, None, sym}
+use Rattle.std.proofs.Common.{◌∙◌, ap}
+use Rattle.std.specs.{Prelude.if◌then◌else◌, List.list_any, Map.keys_of, Str.bytes_eq}
 use Rattle.do_base.specs.names.Names.{ObjectName}
 use Rattle.do_table.specs.Entries.{value_of}
-use Rattle.do_pboard.specs.Calls.{with_count}
-use Rattle.do_pboard.specs.Changes.{can_grow, declared}
-use Rattle.do_pboard.specs.Core.{Pasteboard}
+use Rattle.do_pboard.specs.{Calls.with_count, Changes.{can_grow, declared}, Core.Pasteboard}
 use Rattle.do_native_acts.specs.History.{left}
-use Rattle.do_pboard.specs.History.{after}
-use Rattle.do_pboard.specs.Meaning.{told_count, told_data}
-use Rattle.do_pboard.specs.Meaning.{told_owner, told_types}
-use Rattle.do_pboard.specs.declared.calls.Call.{Call}
-use Rattle.do_pboard.specs.declared.calls.Call.TheVariants.{Declare}
-use Rattle.do_pboard.proofs.TypesAdded.{keys_bare}
-use Rattle.do_pboard.proofs.TypesAdded.{value_bare}
+use Rattle.do_pboard.specs.{History.after, Meaning.{told_count, told_data, told_owner, told_types}}
+use Rattle.do_pboard.specs.declared.calls.Call.{Call, TheVariants.Declare}
+use Rattle.do_pboard.proofs.TypesAdded.{keys_bare, value_bare}
 
 -- What a pasteboard has is this: the change count, the owner, the types, and the data of each type
 -- that is there.

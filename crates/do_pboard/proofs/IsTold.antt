@@ -1,25 +1,18 @@
 -- What the calls leave is what they tell.
-use Rattle.std.proofs.Common.{◌≡◌, ℕ, Bool, true, false, nat_lt}
-use Rattle.std.proofs.Common.{List, [], ◌∷◌, ◌++◌, length, Option, Some, None, refl, sym, ◌∙◌, ap}
-use Rattle.std.specs.Prelude.{if◌then◌else◌}
-use Rattle.std.specs.Map.{keys_of}
-use Rattle.std.specs.Option.{option_map}
+use Rattle.std.proofs.Common.{◌≡◌, ℕ, Bool, true, false, nat_lt, List, [], ◌∷◌, ◌++◌, length}
+use Rattle.std.proofs.Common.{Option, Some, None, refl, sym, ◌∙◌, ap}
+use Rattle.std.specs.{Prelude.if◌then◌else◌, Map.keys_of, Option.option_map}
 use Rattle.do_base.specs.names.Names.{ObjectName}
 use Rattle.do_table.specs.Entries.{value_of}
-use Rattle.do_pboard.specs.Calls.{as_object}
-use Rattle.do_pboard.specs.Changes.{can_grow, data_for, found, held}
-use Rattle.do_pboard.specs.Changes.{keep_at}
+use Rattle.do_pboard.specs.{Calls.as_object, Changes.{can_grow, data_for, found, held, keep_at}}
 use Rattle.do_pboard.specs.Core.{Pasteboard}
 use Rattle.do_native_acts.specs.History.{left}
-use Rattle.do_pboard.specs.History.{after}
-use Rattle.do_pboard.specs.Meaning.{is_told, told_count, told_data, told_for}
+use Rattle.do_pboard.specs.{History.after, Meaning.{is_told, told_count, told_data, told_for}}
 use Rattle.do_pboard.specs.Meaning.{told_owner, told_types}
-use Rattle.do_pboard.specs.declared.board.BoardData.TheVariants.{Absent}
-use Rattle.do_pboard.specs.declared.calls.Call.{Call}
+use Rattle.do_pboard.specs.declared.{board.BoardData.TheVariants.Absent, calls.Call.Call}
 use Rattle.do_pboard.specs.declared.calls.Call.TheVariants.{Declare, AddTypes, SetData, Available}
 use Rattle.do_pboard.specs.declared.calls.Call.TheVariants.{Types, ChangeCount, Keep}
-use Rattle.do_pboard.proofs.Declared.{IsTold, declare_told}
-use Rattle.do_pboard.proofs.Added.{extended_told}
+use Rattle.do_pboard.proofs.{Declared.{IsTold, declare_told}, Added.extended_told}
 use Rattle.do_pboard.proofs.Supplied.{supplied_told}
 
 -- a pasteboard is kept under a name, or not

@@ -1,23 +1,14 @@
 -- What data of a type leaves is what is told.
-use Rattle.std.proofs.Common.{◌≡◌, ℕ, ℤ, pos, Bool, true, false, ◌&&◌}
-use Rattle.std.proofs.Common.{List, ◌∷◌, Option, Some, None, refl, sym, ◌∙◌, ap}
-use Rattle.std.proofs.Common.{is_some, true≢false, subst}
-use Rattle.std.specs.Prelude.{if◌then◌else◌}
-use Rattle.std.specs.List.{list_any}
-use Rattle.std.specs.Ordering.{int_eq}
-use Rattle.std.specs.Str.{bytes_eq}
+use Rattle.std.proofs.Common.{◌≡◌, ℕ, ℤ, pos, Bool, true, false, ◌&&◌, List, ◌∷◌, Option, Some}
+use Rattle.std.proofs.Common.{None, refl, sym, ◌∙◌, ap, is_some, true≢false, subst}
+use Rattle.std.specs.{Prelude.if◌then◌else◌, List.list_any, Ordering.int_eq, Str.bytes_eq}
 use Rattle.std.proofs.lemmas.Map.Made.{is_some-lookup}
 use Rattle.do_base.specs.names.Names.{ObjectName}
-use Rattle.do_table.specs.Entries.{value_of, replaced}
-use Rattle.do_table.specs.laws.TableLaws.{same_name}
-use Rattle.do_pboard.specs.Changes.{supplied}
-use Rattle.do_pboard.specs.Core.{Pasteboard}
-use Rattle.do_pboard.specs.Meaning.{is_told, told_count, told_data}
-use Rattle.do_pboard.specs.Meaning.{told_owner, told_types}
-use Rattle.do_pboard.specs.declared.calls.Call.{Call}
-use Rattle.do_pboard.specs.declared.calls.Call.TheVariants.{SetData}
-use Rattle.do_pboard.proofs.TypesReplaced.{keys_replaced, value_replaced}
-use Rattle.do_pboard.proofs.Declared.{Has, IsTold}
+use Rattle.do_table.specs.{Entries.{value_of, replaced}, laws.TableLaws.same_name}
+use Rattle.do_pboard.specs.{Changes.supplied, Core.Pasteboard}
+use Rattle.do_pboard.specs.Meaning.{is_told, told_count, told_data, told_owner, told_types}
+use Rattle.do_pboard.specs.declared.calls.Call.{Call, TheVariants.SetData}
+use Rattle.do_pboard.proofs.{TypesReplaced.{keys_replaced, value_replaced}, Declared.{Has, IsTold}}
 
 -- other data of the same types
 same_data : (b : Pasteboard) (count : ℕ) (owner : Option ObjectName) (types : List (List ℕ))

@@ -4,8 +4,7 @@ use Rattle.std.specs.Prelude.{if◌then◌else◌}
 use Rattle.do_native_acts.specs.Types.{are_types}
 use Rattle.do_table.specs.Entries.{once}
 use Rattle.do_pboard.specs.Core.{Content, Declared, are_declared, bare, merged}
-use Rattle.do_pboard.specs.laws.MergedExact.{merged_back}
-use Rattle.do_pboard.specs.laws.SlotsExact.{declared_parts}
+use Rattle.do_pboard.specs.laws.{MergedExact.merged_back, SlotsExact.declared_parts}
 use Rattle.do_pboard.proofs.TypesAdded.{keys_bare}
 
 -- declared types are a table

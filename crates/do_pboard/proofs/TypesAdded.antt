@@ -1,19 +1,13 @@
 -- Types that are added: which are there, what they have, and how many they are.
-use Rattle.std.proofs.Common.{◌≡◌, ℕ, Bool, true, false, ◌&&◌, ◌||◌, List, [], ◌∷◌}
-use Rattle.std.proofs.Common.{◌++◌, Option, Some, None, refl, sym, ◌∙◌, ap, is_some}
-use Rattle.std.specs.Prelude.{if◌then◌else◌, cond}
-use Rattle.std.specs.List.{list_all, list_any}
-use Rattle.std.specs.Map.{keys_of}
-use Rattle.std.specs.Str.{bytes_eq}
-use Rattle.std.proofs.lemmas.Bool.{and_parts, and_from}
-use Rattle.std.proofs.lemmas.List.Folds.{list_all-append}
-use Rattle.std.proofs.lemmas.Map.Made.{is_some-lookup}
+use Rattle.std.proofs.Common.{◌≡◌, ℕ, Bool, true, false, ◌&&◌, ◌||◌, List, [], ◌∷◌, ◌++◌, Option}
+use Rattle.std.proofs.Common.{Some, None, refl, sym, ◌∙◌, ap, is_some}
+use Rattle.std.specs.{Prelude.{if◌then◌else◌, cond}, List.{list_all, list_any}, Map.keys_of}
+use Rattle.std.{specs.Str.bytes_eq, proofs.lemmas.Bool.{and_parts, and_from}}
+use Rattle.std.proofs.lemmas.{List.Folds.list_all-append, Map.Made.is_some-lookup}
 use Rattle.do_native_acts.specs.Types.{is_type}
 use Rattle.do_table.specs.Entries.{value_of, added, given, are_distinct}
 use Rattle.do_table.specs.laws.Entered.{distinct_added, given_none, value_added}
-use Rattle.do_pboard.specs.Changes.{with_types}
-use Rattle.do_pboard.specs.Core.{Declared, bare}
-use Rattle.do_pboard.specs.Meaning.{joined}
+use Rattle.do_pboard.specs.{Changes.with_types, Core.{Declared, bare}, Meaning.joined}
 
 -- the names of types without data are these
 pub keys_bare : (types : List (List ℕ)) → keys_of (bare types) ≡ types

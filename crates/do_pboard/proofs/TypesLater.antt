@@ -1,15 +1,11 @@
 -- Types behind others, and how many they are.
-use Rattle.std.proofs.Common.{◌≡◌, ℕ, Bool, true, false, List, [], ◌∷◌}
-use Rattle.std.proofs.Common.{◌++◌, length, Some, None, refl, ◌∙◌, ap, is_some}
-use Rattle.std.proofs.Common.{take, arith, zero, suc, ◌+◌, length-append}
-use Rattle.std.specs.Prelude.{if◌then◌else◌, cond}
-use Rattle.std.specs.Str.{bytes_eq}
+use Rattle.std.proofs.Common.{◌≡◌, ℕ, Bool, true, false, List, [], ◌∷◌, ◌++◌, length, Some, None}
+use Rattle.std.proofs.Common.{refl, ◌∙◌, ap, is_some, take, arith, zero, suc, ◌+◌, length-append}
+use Rattle.std.specs.{Prelude.{if◌then◌else◌, cond}, Str.bytes_eq}
 use Rattle.do_table.specs.Entries.{value_of, added, given, are_distinct}
-use Rattle.do_table.specs.laws.Entered.{given_none, value_added}
-use Rattle.do_table.specs.laws.TableLaws.{first_alone}
+use Rattle.do_table.specs.laws.{Entered.{given_none, value_added}, TableLaws.first_alone}
 use Rattle.std.proofs.lemmas.Cmp.{nat_list_eq_equiv}
-use Rattle.do_pboard.specs.Changes.{count_new, with_types}
-use Rattle.do_pboard.specs.Core.{Declared, bare}
+use Rattle.do_pboard.specs.{Changes.{count_new, with_types}, Core.{Declared, bare}}
 
 -- the first types stay where more are behind them
 take_more : (n : ℕ) (ts us : List Declared) → length (take n ts) ≡ n

@@ -1,10 +1,7 @@
 -- A type that takes data: which types are there, and what they have.
 use Rattle.std.proofs.Common.{◌≡◌, ℕ, true, List, Option, Some, ◌∙◌, ap, is_some}
-use Rattle.std.specs.Prelude.{if◌then◌else◌, cond}
-use Rattle.std.specs.Map.{keys_of}
-use Rattle.std.specs.Str.{bytes_eq}
-use Rattle.std.proofs.lemmas.Cmp.{nat_list_eq_equiv}
-use Rattle.std.proofs.lemmas.Map.{keys-set_value, lookup-set_value}
+use Rattle.std.specs.{Prelude.{if◌then◌else◌, cond}, Map.keys_of, Str.bytes_eq}
+use Rattle.std.proofs.lemmas.{Cmp.nat_list_eq_equiv, Map.{keys-set_value, lookup-set_value}}
 use Rattle.do_table.specs.Entries.{value_of, replaced}
 use Rattle.do_pboard.specs.Core.{Declared}
 

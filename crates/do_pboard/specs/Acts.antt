@@ -1,31 +1,20 @@
 -- The acts of the methods.
 use Rattle.std.specs.Prelude.{ℕ, ℤ, pos, Option, Some, None, List as Listed, [], ◌∷◌, codes}
-use Rattle.std.specs.Prelude.{if◌then◌else◌}
-use Rattle.std.specs.Ordering.{int_eq}
-use Rattle.std.specs.Str.{bytes_eq}
-use Rattle.do_base.specs.names.Names.{ObjectName}
-use Rattle.do_base.specs.values.Kinds.{text, number, object}
-use Rattle.do_base.specs.declared.values.value.Value.{Value}
-use Rattle.do_base.specs.declared.values.value.Value.TheVariants.{Nil, Num, Text, Obj}
+use Rattle.std.specs.{Prelude.if◌then◌else◌, Ordering.int_eq, Str.bytes_eq}
+use Rattle.do_base.specs.{names.Names.ObjectName, values.Kinds.{text, number, object}}
+use Rattle.do_base.specs.declared.values.value.Value.{Value, TheVariants.{Nil, Num, Text, Obj}}
 use Rattle.do_base.specs.declared.events.exception.Exc.TheVariants.{Range}
 use Rattle.do_class.specs.Class.{Class}
 use Rattle.do_grammar.specs.Words.{◌>>?◌}
-use Rattle.do_behave.specs.Steps.{local}
-use Rattle.do_behave.specs.declared.invocation.Invocation.{Invocation}
-use Rattle.do_behave.specs.declared.act.Act.{Act}
-use Rattle.do_behave.specs.declared.act.Act.TheVariants.{New, Raise}
-use Rattle.do_behave.specs.declared.change.LocalSet.{LocalSet}
-use Rattle.do_native_acts.specs.Limited.{is_limited}
-use Rattle.do_native_acts.specs.Places.{at_place, by_selector, does_call, in_two, returns, sends}
-use Rattle.do_native_acts.specs.Steps.{caught_to, changes, fits, set, steps}
-use Rattle.do_native_acts.specs.Owners.{owner_in}
-use Rattle.do_native_acts.specs.Types.{types_in}
+use Rattle.do_behave.specs.{Steps.local, declared.{invocation.Invocation.Invocation, act.Act.Act}}
+use Rattle.do_behave.specs.declared.{act.Act.TheVariants.{New, Raise}, change.LocalSet.LocalSet}
+use Rattle.do_native_acts.specs.{Limited.is_limited, Places.{at_place, by_selector, does_call}}
+use Rattle.do_native_acts.specs.{Places.{in_two, returns, sends}, Steps.{caught_to, changes, fits}}
+use Rattle.do_native_acts.specs.{Steps.{set, steps}, Owners.owner_in, Types.types_in}
 use Rattle.do_table.specs.Entries.{value_of}
 use Rattle.do_pboard.specs.Core.{Pasteboard, boards_slot, from_slots, to_slots}
-use Rattle.do_pboard.specs.Calls.{call_in, does}
-use Rattle.do_pboard.specs.Changes.{data_for, keeps, same_owner}
-use Rattle.do_pboard.specs.declared.board.BoardData.{BoardData}
-use Rattle.do_pboard.specs.declared.board.BoardData.TheVariants.{Here, Ask, Absent}
+use Rattle.do_pboard.specs.{Calls.{call_in, does}, Changes.{data_for, keeps, same_owner}}
+use Rattle.do_pboard.specs.declared.board.BoardData.{BoardData, TheVariants.{Here, Ask, Absent}}
 use Rattle.do_pboard.specs.declared.calls.Call.TheVariants.{Declare}
 
 -- the former owner, where it is to be told of the new one

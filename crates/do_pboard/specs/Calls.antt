@@ -1,25 +1,17 @@
 -- The calls of a pasteboard, and what each does.
-use Rattle.std.specs.Prelude.{ℕ, ℤ, pos, Option, Some, None, List as Listed, map}
-use Rattle.std.specs.Prelude.{if◌then◌else◌, codes, IsTrue, slice_get}
-use Rattle.std.specs.Map.{keys_of}
-use Rattle.std.specs.Option.{option_map}
+use Rattle.std.specs.Prelude.{ℕ, ℤ, pos, Option, Some, None, List as Listed, map, if◌then◌else◌}
+use Rattle.std.specs.{Prelude.{codes, IsTrue, slice_get}, Map.keys_of, Option.option_map}
 use Rattle.std.specs.Str.{bytes_eq}
-use Rattle.do_base.specs.names.Names.{ObjectName}
-use Rattle.do_base.specs.values.Kinds.{text, number}
+use Rattle.do_base.specs.{names.Names.ObjectName, values.Kinds.{text, number}}
 use Rattle.do_base.specs.declared.values.value.Value.{Value, List}
 use Rattle.do_base.specs.declared.values.value.Value.TheVariants.{Nil, Num, Text, Obj}
 use Rattle.do_grammar.specs.Words.{◌>>?◌}
-use Rattle.do_behave.specs.Numbers.{truth}
-use Rattle.do_behave.specs.Steps.{local}
-use Rattle.do_behave.specs.declared.invocation.Invocation.{Invocation}
-use Rattle.do_native_acts.specs.Owners.{owner_in}
-use Rattle.do_native_acts.specs.Rows.{list_in}
-use Rattle.do_native_acts.specs.Types.{are_types, types_in}
+use Rattle.do_behave.specs.{Numbers.truth, Steps.local, declared.invocation.Invocation.Invocation}
+use Rattle.do_native_acts.specs.{Owners.owner_in, Rows.list_in, Types.{are_types, types_in}}
 use Rattle.do_pboard.specs.Core.{Pasteboard}
 use Rattle.do_pboard.specs.Changes.{can_grow, declared, extended, supplied, available, keeps}
-use Rattle.do_pboard.specs.declared.calls.Call.{Call}
-use Rattle.do_pboard.specs.declared.calls.Call.TheVariants.{Declare, AddTypes, SetData, Available}
-use Rattle.do_pboard.specs.declared.calls.Call.TheVariants.{Types, ChangeCount, Keep}
+use Rattle.do_pboard.specs.declared.calls.Call.{Call, TheVariants.{Declare, AddTypes, SetData}}
+use Rattle.do_pboard.specs.declared.calls.Call.TheVariants.{Available, Types, ChangeCount, Keep}
 
 -- types that are declared are at most 64 texts of 1 to 255 bytes, none of them twice
 abbrev pub IsCall : Call → Type 0

@@ -1,13 +1,10 @@
 -- What the calls of a pasteboard leave and answer.
 use Rattle.std.specs.Prelude.{ℕ, ℤ, pos, ◌+◌, ◌^◌, Bool, true, false, is_some, ◌&&◌, ◌==◌, nat_lt}
 use Rattle.std.specs.Prelude.{nat_le, Option, Some, None, List, [], ◌∷◌, ◌++◌, length}
-use Rattle.std.specs.Prelude.{if◌then◌else◌, position}
-use Rattle.std.specs.Option.{option_map}
-use Rattle.std.specs.Ordering.{int_eq}
+use Rattle.std.specs.{Prelude.{if◌then◌else◌, position}, Option.option_map, Ordering.int_eq}
 use Rattle.do_base.specs.names.Names.{ObjectName}
 use Rattle.do_table.specs.Entries.{value_of, added, replaced}
-use Rattle.do_pboard.specs.Core.{Pasteboard, Declared, bare}
-use Rattle.do_pboard.specs.declared.board.BoardData.{BoardData}
+use Rattle.do_pboard.specs.{Core.{Pasteboard, Declared, bare}, declared.board.BoardData.BoardData}
 use Rattle.do_pboard.specs.declared.board.BoardData.TheVariants.{Here, Ask, Absent}
 
 -- the change count can still grow

@@ -1,21 +1,14 @@
 -- A pasteboard: what it keeps, and its slots.
 use Rattle.std.specs.Prelude.{ℕ, pos, ◌^◌, Bool, true, not, is_some, ◌&&◌, ◌==◌, nat_lt, nat_le}
 use Rattle.std.specs.Prelude.{Option, Some, None, List as Listed, [], ◌∷◌, length, map}
-use Rattle.std.specs.Prelude.{if◌then◌else◌}
-use Rattle.std.specs.Prelude.{refl}
+use Rattle.std.specs.Prelude.{if◌then◌else◌, refl}
 use Rattle.std.specs.Coded.{Coded, code_by, coded×, coded_ℕ, coded_list, coded_option}
-use Rattle.std.specs.Map.{keys_of}
-use Rattle.std.specs.Option.{option_map}
-use Rattle.std.specs.Str.{bytes_eq}
-use Rattle.do_base.specs.names.Names.{ObjectName}
-use Rattle.do_base.specs.values.Kinds.{text, object}
-use Rattle.do_base.specs.declared.values.value.Value.{Value, List, out-Value}
-use Rattle.do_base.specs.declared.values.value.Value.TheVariants.{Nil, Num, Text, Obj}
-use Rattle.do_base.specs.declared.values.value.Value.TheOpen.{Value-F}
+use Rattle.std.specs.{Map.keys_of, Option.option_map, Str.bytes_eq}
+use Rattle.do_base.specs.{names.Names.ObjectName, values.Kinds.{text, object}}
+use Rattle.do_base.specs.declared.values.value.Value.{Value, List, out-Value, TheVariants.Nil}
+use Rattle.do_base.specs.declared.values.value.Value.{TheVariants.{Num, Text, Obj}, TheOpen.Value-F}
 use Rattle.do_grammar.specs.Words.{◌>>?◌}
-use Rattle.do_native_acts.specs.Owners.{owner_in}
-use Rattle.do_native_acts.specs.Rows.{rows_in, pair_in, listed}
-use Rattle.do_native_acts.specs.Types.{are_types}
+use Rattle.do_native_acts.specs.{Owners.owner_in, Rows.{rows_in, pair_in, listed}, Types.are_types}
 use Rattle.do_table.specs.Entries.{are_distinct}
 
 -- a type, with its data if there is any

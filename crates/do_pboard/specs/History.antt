@@ -2,8 +2,7 @@
 use Rattle.std.specs.Prelude.{List}
 use Rattle.do_pboard.specs.Core.{Pasteboard, empty}
 use Rattle.do_native_acts.specs.History.{after_calls}
-use Rattle.do_pboard.specs.Calls.{does}
-use Rattle.do_pboard.specs.declared.calls.Call.{Call}
+use Rattle.do_pboard.specs.{Calls.does, declared.calls.Call.Call}
 
 -- the pasteboard after these calls, of which the first made stands last
 abbrev pub after : List Call → Pasteboard

@@ -1,15 +1,11 @@
 -- What a pasteboard has after the calls made so far, told by the calls alone.
-use Rattle.std.specs.Prelude.{ℕ, pos, ◌+◌, Bool, ◌&&◌, nat_lt, nat_le, List, [], ◌∷◌, ◌++◌}
-use Rattle.std.specs.Prelude.{length, Option, Some, None, if◌then◌else◌}
-use Rattle.std.specs.List.{list_any}
-use Rattle.std.specs.Ordering.{int_eq}
+use Rattle.std.specs.Prelude.{ℕ, pos, ◌+◌, Bool, ◌&&◌, nat_lt, nat_le, List, [], ◌∷◌, ◌++◌, length}
+use Rattle.std.specs.{Prelude.{Option, Some, None, if◌then◌else◌}, List.list_any, Ordering.int_eq}
 use Rattle.std.specs.Str.{bytes_eq}
 use Rattle.do_base.specs.names.Names.{ObjectName}
 use Rattle.do_pboard.specs.Changes.{can_grow, same_owner, held}
-use Rattle.do_pboard.specs.declared.board.BoardData.{BoardData}
-use Rattle.do_pboard.specs.declared.board.BoardData.TheVariants.{Absent}
-use Rattle.do_pboard.specs.declared.calls.Call.{Call}
-use Rattle.do_pboard.specs.declared.calls.Call.TheVariants.{Declare, AddTypes, SetData}
+use Rattle.do_pboard.specs.declared.board.BoardData.{BoardData, TheVariants.Absent}
+use Rattle.do_pboard.specs.declared.calls.Call.{Call, TheVariants.{Declare, AddTypes, SetData}}
 
 -- how often types were declared, as far as 63 bits count
 abbrev pub told_count : List Call → ℕ

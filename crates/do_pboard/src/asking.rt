@@ -1,10 +1,8 @@
 //! The acts of `dataForType:`: it looks, asks the owner, looks again and answers.
 ghost use Rattle.std.specs.Prelude.{◌≡◌, ◌∷◌, [], IfOk};
 ghost use Rattle.do_base.specs.declared.values.value.Value.TheVariants.{Nil};
-ghost use Rattle.do_behave.specs.Changes.{Means};
-ghost use Rattle.do_behave.specs.Steps.{or_fault};
-ghost use Rattle.do_native_acts.specs.Places.{at_place};
-ghost use Rattle.do_native_acts.specs.Steps.{set};
+ghost use Rattle.do_behave.specs.{Changes.Means, Steps.or_fault};
+ghost use Rattle.do_native_acts.specs.{Places.at_place, Steps.set};
 ghost use Rattle.do_pboard.specs.Acts.{asks, data_places, found_now, look_next, look_sets, looks};
 ghost use Rattle.do_pboard.specs.Acts.{looks_again, looks_again_on, looks_on};
 

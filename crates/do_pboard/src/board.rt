@@ -1,15 +1,11 @@
 ghost use Rattle.std.specs.Prelude.{◌≡◌, ◌+◌, pos, IsTrue, IfOk, IfErr, IfSome, OnOk, OnErr, Some};
-ghost use Rattle.std.specs.Prelude.{List, is_some};
-ghost use Rattle.std.specs.Map.{keys_of};
-ghost use Rattle.do_native_acts.specs.Faults.{FaultOf};
-ghost use Rattle.do_native_acts.specs.Types.{are_types};
+ghost use Rattle.std.specs.{Prelude.{List, is_some}, Map.keys_of};
+ghost use Rattle.do_native_acts.specs.{Faults.FaultOf, Types.are_types};
 ghost use Rattle.do_table.specs.Entries.{value_of};
-ghost use Rattle.do_pboard.specs.Core.{empty};
-ghost use Rattle.do_pboard.specs.Changes.{available, can_grow, data_for, declared, extended};
-ghost use Rattle.do_pboard.specs.Changes.{is_owned, keeps, supplied, takes};
-ghost use Rattle.do_pboard.specs.History.{after};
-ghost use Rattle.do_pboard.specs.Meaning.{told_count, told_for, told_owner, told_types};
-ghost use Rattle.do_pboard.specs.declared.calls.Call.{Call};
+ghost use Rattle.do_pboard.specs.{Core.empty, Changes.{available, can_grow, data_for, declared}};
+ghost use Rattle.do_pboard.specs.Changes.{extended, is_owned, keeps, supplied, takes};
+ghost use Rattle.do_pboard.specs.{History.after, Meaning.{told_count, told_for, told_owner}};
+ghost use Rattle.do_pboard.specs.{Meaning.told_types, declared.calls.Call.Call};
 
 use crate::parts::same_owner;
 use crate::types::{TypeTable, add_types, bare_table};

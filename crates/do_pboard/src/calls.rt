@@ -2,16 +2,10 @@
 ghost use Rattle.std.specs.Prelude.{◌≡◌, ◌∷◌, List, IfOk, IfErr, OnOk, OnErr, Some, slice_get};
 ghost use Rattle.do_grammar.specs.Words.{◌>>?◌};
 ghost use Rattle.do_behave.specs.Steps.{local};
-ghost use Rattle.do_native_acts.specs.Faults.{FaultOf};
-ghost use Rattle.do_native_acts.specs.Rows.{list_in};
-ghost use Rattle.do_native_acts.specs.Types.{types_in};
+ghost use Rattle.do_native_acts.specs.{Faults.FaultOf, Rows.list_in, Types.types_in};
 ghost use Rattle.do_pboard.specs.Calls.{IsCall, adds_types, asks_available, call_in, does};
-ghost use Rattle.do_pboard.specs.Calls.{limit_of};
-ghost use Rattle.do_pboard.specs.Calls.{sets_data, text_or_nil};
-ghost use Rattle.do_pboard.specs.Changes.{available};
-ghost use Rattle.do_pboard.specs.History.{after};
-ghost use Rattle.do_pboard.specs.declared.calls.Call.{Call};
-ghost use Rattle.do_pboard.specs.declared.calls.Call.TheVariants.{Declare};
+ghost use Rattle.do_pboard.specs.{Calls.{limit_of, sets_data, text_or_nil}, Changes.available};
+ghost use Rattle.do_pboard.specs.{History.after, declared.calls.Call.{Call, TheVariants.Declare}};
 
 use crate::board::Board;
 use do_base::{Oid, Text, Texts, Value};

@@ -1,12 +1,10 @@
 //! The acts of `declareTypes:owner:`: it declares, tells the former owner, and answers.
 ghost use Rattle.std.specs.Prelude.{◌≡◌, ◌∷◌, [], IfOk};
 ghost use Rattle.do_base.specs.declared.values.value.Value.TheVariants.{Obj};
-ghost use Rattle.do_behave.specs.Changes.{Means};
-ghost use Rattle.do_behave.specs.Steps.{or_fault};
+ghost use Rattle.do_behave.specs.{Changes.Means, Steps.or_fault};
 ghost use Rattle.do_native_acts.specs.Places.{at_place, sends};
 ghost use Rattle.do_pboard.specs.Acts.{changed_owner, declare_next, declare_places, declares};
-ghost use Rattle.do_pboard.specs.Acts.{declares_on, to_tell};
-ghost use Rattle.do_pboard.specs.Core.{to_slots};
+ghost use Rattle.do_pboard.specs.{Acts.{declares_on, to_tell}, Core.to_slots};
 
 use crate::board::Board;
 use crate::calls::{Call, local_types};

@@ -1,15 +1,11 @@
 //! The acts of `pasteboardNamed:`: it looks, makes a pasteboard, keeps it and answers.
 ghost use Rattle.std.specs.Prelude.{◌≡◌, IfOk};
-ghost use Rattle.do_behave.specs.Changes.{Means};
-ghost use Rattle.do_behave.specs.Steps.{or_fault};
-ghost use Rattle.do_native_acts.specs.Places.{at_place};
-ghost use Rattle.do_native_acts.specs.Steps.{fits};
+ghost use Rattle.do_behave.specs.{Changes.Means, Steps.{or_fault, local}};
+ghost use Rattle.do_native_acts.specs.{Places.at_place, Steps.fits};
 ghost use Rattle.do_base.specs.values.Kinds.{object};
 ghost use Rattle.do_grammar.specs.Words.{◌>>?◌};
-ghost use Rattle.do_behave.specs.Steps.{local};
 ghost use Rattle.do_pboard.specs.Acts.{makes_next, name_next, name_places, names_keep, names_look};
-ghost use Rattle.do_pboard.specs.Acts.{names_keep_on};
-ghost use Rattle.do_pboard.specs.Changes.{keeps};
+ghost use Rattle.do_pboard.specs.{Acts.names_keep_on, Changes.keeps};
 
 use crate::board::Board;
 use crate::sets::{ANSWER, one_set, two_sets};

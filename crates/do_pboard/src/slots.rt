@@ -1,7 +1,6 @@
 //! The slots of a pasteboard.
 ghost use Rattle.std.specs.Prelude.{◌≡◌, ◌++◌, ◌^◌, ◌&&◌, [], nat_lt, IsTrue, IfOk, IfSome, OnOk};
-ghost use Rattle.std.specs.Prelude.{Some, None, map};
-ghost use Rattle.std.specs.Map.{keys_of};
+ghost use Rattle.std.specs.{Prelude.{Some, None, map}, Map.keys_of};
 ghost use Rattle.do_base.specs.declared.values.value.Value.TheVariants.{Text as TextValue};
 ghost use Rattle.do_grammar.specs.Words.{◌>>?◌};
 ghost use Rattle.do_native_acts.specs.Rows.{listed};

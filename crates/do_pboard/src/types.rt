@@ -1,10 +1,8 @@
 //! The types of a pasteboard, with their data.
-ghost use Rattle.std.specs.Prelude.{◌≡◌, IfOk, OnOk, OnErr, IfErr, Some, None, if◌then◌else◌};
-ghost use Rattle.std.specs.Prelude.{◌++◌, ◌∷◌, [], ◌≤◌, IsTrue, length, nat_le};
-ghost use Rattle.std.specs.Option.{option_copied};
+ghost use Rattle.std.specs.Prelude.{◌≡◌, IfOk, OnOk, OnErr, IfErr, Some, None, if◌then◌else◌, ◌++◌};
+ghost use Rattle.std.specs.{Prelude.{◌∷◌, [], ◌≤◌, IsTrue, length, nat_le}, Option.option_copied};
 ghost use Rattle.do_grammar.specs.Words.{◌>>?◌};
-ghost use Rattle.do_native_acts.specs.Faults.{FaultOf};
-ghost use Rattle.do_native_acts.specs.Types.{are_types};
+ghost use Rattle.do_native_acts.specs.{Faults.FaultOf, Types.are_types};
 ghost use Rattle.do_table.specs.Entries.{added, once};
 ghost use Rattle.do_pboard.specs.Core.{bare, contents, merged, with_content};
 ghost use Rattle.do_pboard.specs.Changes.{count_new, few_types, with_types};

@@ -1,55 +1,33 @@
 -- Where the end towards a peer closes, nothing else changes but what is freed and left.
-use Rattle.std.proofs.Common.{◌≡◌, ◌==◌, ◌&&◌, ◌||◌, ◌⊎◌, ℕ, Bool, true, false, cond}
-use Rattle.std.proofs.Common.{List, [], ◌∷◌}
-use Rattle.std.proofs.Common.{Option, None, Some, Result, Ok, Err, refl, subst, sym, ap, ◌∙◌}
-use Rattle.std.proofs.Common.{arith, fold, inl, inr}
-use Rattle.std.proofs.lemmas.Bool.Decides.{nat_tests}
-use Rattle.std.specs.Prelude.{filter, map, not, unwrap_or}
-use Rattle.std.specs.List.{AllByRecursion}
 use Rattle.std.specs.FinMap as map_of
-use Rattle.std.specs.FinMap.{get-retain_keys}
-use Rattle.std.proofs.lemmas.Map.Views.{any-filter_same}
-use Rattle.do_base.specs.names.Names.{ObjectName}
-use Rattle.do_class.specs.Class.{Class}
-use Rattle.do_export.specs.Counts.{Counts, entry_cmp}
-use Rattle.do_export.proofs.Order.{entry_same}
-use Rattle.do_frames.specs.declared.frame.Frame.{Frame}
-use Rattle.do_frames.specs.declared.frame.RawFrame.{RawFrame}
-use Rattle.do_frames.specs.Frames.{raw}
-use Rattle.do_import.specs.ByObject.{object_of}
-use Rattle.do_machine.specs.Effect.{each, only, queueing}
-use Rattle.do_machine.specs.Lists.{IsIn}
-use Rattle.do_machine.specs.State.{has_asked, holds, is_known, is_open}
 use Rattle.do_machine.specs.declared.item.Item.TheVariants as items
-use Rattle.do_machine.specs.declared.node.Node.{Node}
-use Rattle.do_machine.specs.declared.node.Stored.{Stored}
-use Rattle.do_machine.specs.declared.node.Wanted.{Wanted}
-use Rattle.do_machine.specs.declared.state.Effect.{Effect}
-use Rattle.do_machine.specs.declared.state.Parcel.{Parcel}
-use Rattle.do_machine.specs.ends.Closing.{asked_of, closing, parted}
-use Rattle.do_machine.specs.held.Kept.{kept}
-use Rattle.do_machine.specs.held.Leaving.{freeing, left, leaving}
-use Rattle.do_machine.specs.held.Refers.{node_objects}
-use Rattle.do_machine.specs.lend.Asking.{settling}
-use Rattle.do_machine.specs.run.Run.{Acting}
-use Rattle.do_machine.specs.take.Take.{can_take, take_effect}
-use Rattle.do_machine.proofs.Having.{same_is}
-use Rattle.do_machine.proofs.Keeping.{are_kept}
-use Rattle.do_packet.specs.Met.{has_object, same_object}
-use Rattle.do_network.specs.declared.fault.PeerFault.{PeerFault}
 use Rattle.do_network.specs.declared.input.Done.TheVariants as dones
 use Rattle.do_network.specs.declared.input.Input.TheVariants as inputs
-use Rattle.do_network.specs.Counting.{counted}
-use Rattle.do_network.specs.Faults.{peer_fault}
-use Rattle.do_network.specs.Frames.{Posted, all_posted, posted, read_frame}
+use Rattle.std.proofs.Common.{◌≡◌, ◌==◌, ◌&&◌, ◌||◌, ◌⊎◌, ℕ, Bool, true, false, cond, List, [], ◌∷◌}
+use Rattle.std.proofs.Common.{Option, None, Some, Result, Ok, Err, refl, subst, sym, ap, ◌∙◌, arith}
+use Rattle.std.proofs.{Common.{fold, inl, inr}, lemmas.Bool.Decides.nat_tests}
+use Rattle.std.specs.{Prelude.{filter, map, not, unwrap_or}, List.AllByRecursion}
+use Rattle.std.{specs.FinMap.get-retain_keys, proofs.lemmas.Map.Views.any-filter_same}
+use Rattle.do_base.specs.names.Names.{ObjectName}
+use Rattle.do_class.specs.Class.{Class}
+use Rattle.do_export.{specs.Counts.{Counts, entry_cmp}, proofs.Order.entry_same}
+use Rattle.do_frames.specs.{declared.frame.{Frame.Frame, RawFrame.RawFrame}, Frames.raw}
+use Rattle.do_import.specs.ByObject.{object_of}
+use Rattle.do_machine.specs.{Effect.{each, only, queueing}, Lists.IsIn}
+use Rattle.do_machine.specs.{State.{has_asked, holds, is_known, is_open}, declared.node.Node.Node}
+use Rattle.do_machine.specs.declared.{node.{Stored.Stored, Wanted.Wanted}, state.Effect.Effect}
+use Rattle.do_machine.specs.{declared.state.Parcel.Parcel, ends.Closing.{asked_of, closing, parted}}
+use Rattle.do_machine.specs.held.{Kept.kept, Leaving.{freeing, left, leaving}, Refers.node_objects}
+use Rattle.do_machine.specs.{lend.Asking.settling, run.Run.Acting, take.Take.can_take}
+use Rattle.do_machine.{specs.take.Take.take_effect, proofs.{Having.same_is, Keeping.are_kept}}
+use Rattle.do_packet.specs.Met.{has_object, same_object}
+use Rattle.do_network.specs.{declared.fault.PeerFault.PeerFault, Counting.counted}
+use Rattle.do_network.specs.{Faults.peer_fault, Frames.{Posted, all_posted, posted, read_frame}}
 use Rattle.do_network.specs.Links.{Link, Outbox, Part, Sending, all_sent, having_read, link_to}
-use Rattle.do_network.specs.Links.{Piece, names_read, sending, sendings}
-use Rattle.do_network.specs.Links.Piece.{Framed, Greeting}
+use Rattle.do_network.specs.Links.{Piece, names_read, sending, sendings, Piece.{Framed, Greeting}}
 use Rattle.do_network.specs.Own.{Own, is_counted, site_context}
-use Rattle.do_network.specs.Site.{Handled, passed, site_move, site_step}
-use Rattle.do_network.specs.Site.{takes, takes_frame}
-use Rattle.do_peers.specs.Peers.{ClosedAlone, IsNotice}
-use Rattle.do_peers.proofs.Keeping.{all_behind}
+use Rattle.do_network.specs.Site.{Handled, passed, site_move, site_step, takes, takes_frame}
+use Rattle.do_peers.{specs.Peers.{ClosedAlone, IsNotice}, proofs.Keeping.all_behind}
 
 -- ---- the node
 

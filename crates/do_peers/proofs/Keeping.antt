@@ -1,16 +1,10 @@
 -- What effects of a node leave of what it has for a peer.
-use Rattle.std.proofs.Common.{◌≡◌, ◌==◌, ◌++◌, ◌⊎◌, ℕ, Bool, true, false, cond, List, [], ◌∷◌}
-use Rattle.std.proofs.Common.{refl, ap, sym, ◌∙◌}
-use Rattle.std.specs.Prelude.{filter, map}
-use Rattle.std.specs.List.{AllByRecursion, list_any}
-use Rattle.do_machine.specs.Effect.{each, only, ◌>>=◌}
-use Rattle.do_machine.specs.Items.{exported, is_exported, named_as, naming}
-use Rattle.do_machine.specs.Items.Role.{Released}
-use Rattle.do_machine.specs.State.{is_open}
-use Rattle.do_machine.specs.declared.node.Lend.{Lend}
-use Rattle.do_machine.specs.declared.node.Node.{Node}
-use Rattle.do_machine.specs.declared.state.Effect.{Effect}
-use Rattle.do_machine.specs.declared.state.Parcel.{Parcel}
+use Rattle.std.proofs.Common.{◌≡◌, ◌==◌, ◌++◌, ◌⊎◌, ℕ, Bool, true, false, cond, List, [], ◌∷◌, refl}
+use Rattle.std.proofs.Common.{ap, sym, ◌∙◌}
+use Rattle.std.specs.{Prelude.{filter, map}, List.{AllByRecursion, list_any}}
+use Rattle.do_machine.specs.{Effect.{each, only, ◌>>=◌}, Items.{exported, is_exported, named_as}}
+use Rattle.do_machine.specs.{Items.{naming, Role.Released}, State.is_open, declared.node.Lend.Lend}
+use Rattle.do_machine.specs.declared.{node.Node.Node, state.{Effect.Effect, Parcel.Parcel}}
 use Rattle.do_peers.specs.Peers.{lends_to}
 
 -- ---- lists

@@ -1,19 +1,12 @@
 -- Of every state that a machine comes to, entries change by steps of their home alone.
 use Rattle.std.proofs.Common.{◌≡◌, ℕ, List}
-use Rattle.do_base.specs.names.Names.{ObjectName}
-use Rattle.do_base.specs.declared.events.event.Event.{Event}
+use Rattle.do_base.specs.{names.Names.ObjectName, declared.events.event.Event.Event}
 use Rattle.do_class.specs.Class.{Class}
-use Rattle.do_machine.specs.declared.state.Seat.{Seat}
-use Rattle.do_machine.specs.declared.state.State.{State}
-use Rattle.do_machine.specs.Entry.{has_entry}
-use Rattle.do_machine.specs.Step.{step}
+use Rattle.do_machine.specs.{declared.state.{Seat.Seat, State.State}, Entry.has_entry, Step.step}
 use Rattle.do_machine.specs.run.Run.{Acting}
-use Rattle.do_facts.specs.Reached.{reached}
-use Rattle.do_facts.specs.laws.Entries.{HasQueues, IsNoStepOf}
-use Rattle.do_facts.specs.laws.Follows.{AllHoldOpen}
-use Rattle.do_facts.proofs.ReachedStates.{holds_of_reached}
-use Rattle.do_facts.proofs.machine.Opening.{opening_holds}
-use Rattle.do_facts.proofs.machine.follows.Every.{all_hold, grow_steps}
+use Rattle.do_facts.specs.{Reached.reached, laws.Entries.{HasQueues, IsNoStepOf}}
+use Rattle.do_facts.{specs.laws.Follows.AllHoldOpen, proofs.ReachedStates.holds_of_reached}
+use Rattle.do_facts.proofs.machine.{Opening.opening_holds, follows.Every.{all_hold, grow_steps}}
 use Rattle.do_facts.proofs.machine.passing.EntriesStay.{entries_stay}
 use Rattle.do_facts.proofs.machine.passing.Linked.{opening_queues, queues_stay}
 

@@ -1,39 +1,28 @@
 -- A site keeps what it has for the peers that an input does not come from.
-use Rattle.std.proofs.Common.{◌≡◌, ◌==◌, ◌&&◌, ◌-◌, ℕ, Bool, true, false, cond, List, [], ◌∷◌}
-use Rattle.std.proofs.Common.{Option, None, Some, Result, Ok, Err, refl, subst, sym, ap, ◌∙◌}
-use Rattle.std.proofs.Common.{eqb, fold, inl, inr, arith}
-use Rattle.std.specs.Prelude.{nat_lt, not, unwrap_or}
-use Rattle.std.specs.List.{AllByRecursion}
 use Rattle.std.specs.FinMap as map_of
-use Rattle.std.specs.FinMap.{get-insert, get-remove, get-retain_keys}
-use Rattle.std.specs.Ordering.{eq_by_cmp}
+use Rattle.do_frames.specs.declared.frame.Frame.TheVariants as frames
+use Rattle.do_network.specs.declared.input.Input.TheVariants as inputs
+use Rattle.std.proofs.Common.{◌≡◌, ◌==◌, ◌&&◌, ◌-◌, ℕ, Bool, true, false, cond, List, [], ◌∷◌}
+use Rattle.std.proofs.Common.{Option, None, Some, Result, Ok, Err, refl, subst, sym, ap, ◌∙◌, eqb}
+use Rattle.std.proofs.Common.{fold, inl, inr, arith}
+use Rattle.std.specs.{Prelude.{nat_lt, not, unwrap_or}, List.AllByRecursion}
+use Rattle.std.specs.{FinMap.{get-insert, get-remove, get-retain_keys}, Ordering.eq_by_cmp}
 use Rattle.do_base.specs.names.Names.{ObjectName}
 use Rattle.do_class.specs.Class.{Class}
 use Rattle.do_export.specs.Counts.{Counts, count_of, entry_cmp, lowered, raised}
-use Rattle.do_export.proofs.Counting.{count-raised, tie}
-use Rattle.do_export.proofs.Order.{entry_same, entry_total}
+use Rattle.do_export.proofs.{Counting.{count-raised, tie}, Order.{entry_same, entry_total}}
 use Rattle.do_frames.specs.declared.frame.Frame.{Frame}
-use Rattle.do_frames.specs.declared.frame.Frame.TheVariants as frames
-use Rattle.do_machine.specs.Items.{exported}
-use Rattle.do_machine.specs.State.{is_open}
-use Rattle.do_machine.specs.declared.node.Node.{Node}
-use Rattle.do_machine.specs.declared.item.Item.TheVariants.{End}
-use Rattle.do_machine.specs.declared.state.Effect.{Effect}
-use Rattle.do_machine.specs.declared.state.Parcel.{Parcel}
-use Rattle.do_machine.specs.ends.Closing.{closing}
-use Rattle.do_machine.specs.held.Leaving.{leaving}
-use Rattle.do_machine.specs.run.Run.{Acting}
+use Rattle.do_machine.specs.{Items.exported, State.is_open, declared.node.Node.Node}
+use Rattle.do_machine.specs.declared.{item.Item.TheVariants.End, state.Effect.Effect}
+use Rattle.do_machine.specs.{declared.state.Parcel.Parcel, ends.Closing.closing}
+use Rattle.do_machine.specs.{held.Leaving.leaving, run.Run.Acting}
 use Rattle.do_machine.specs.take.Take.{can_take, take_effect}
-use Rattle.do_network.specs.declared.fault.PeerFault.{PeerFault}
-use Rattle.do_network.specs.declared.input.Input.{Input}
-use Rattle.do_network.specs.declared.input.Input.TheVariants as inputs
+use Rattle.do_network.specs.declared.{fault.PeerFault.PeerFault, input.Input.Input}
 use Rattle.do_network.specs.Counting.{counted, given_back, got, named_to, over_open_ends}
-use Rattle.do_network.specs.Faults.{peer_fault}
-use Rattle.do_network.specs.Frames.{item_of, read_frame}
+use Rattle.do_network.specs.{Faults.peer_fault, Frames.{item_of, read_frame}}
 use Rattle.do_network.specs.Links.{Part, having_read, names_read}
-use Rattle.do_network.specs.Own.{Own, is_counted, site_context}
-use Rattle.do_network.specs.Site.{frame_move, moves, passed, released_by, site_move, site_step}
-use Rattle.do_network.specs.Site.{takes, takes_frame}
+use Rattle.do_network.specs.{Own.{Own, is_counted, site_context}, Site.{frame_move, moves, passed}}
+use Rattle.do_network.specs.Site.{released_by, site_move, site_step, takes, takes_frame}
 use Rattle.do_peers.specs.Peers.{StaysFor, lends_to, peer_of}
 use Rattle.do_peers.proofs.Keeping.{Keeps, NamesNothing}
 use Rattle.do_peers.proofs.TakesKeep.{keeps_closing, keeps_leaving, keeps_take}

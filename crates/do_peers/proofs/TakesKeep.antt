@@ -1,49 +1,32 @@
 -- What a node takes from one peer leaves what it has for another.
-use Rattle.std.proofs.Common.{◌≡◌, ◌==◌, ℕ, Bool, true, false, cond, List, [], ◌∷◌}
-use Rattle.std.proofs.Common.{Result, Ok, Err}
-use Rattle.std.proofs.Common.{refl, inl, inr, arith}
-use Rattle.std.specs.Prelude.{filter, is_some, map, not, ◌&&◌}
-use Rattle.std.specs.List.{AllByRecursion, list_any}
-use Rattle.std.proofs.lemmas.Bool.Decides.{nat_tests}
-use Rattle.std.proofs.lemmas.Map.Views.{any-filter_same}
-use Rattle.do_base.specs.declared.events.exception.Exc.{Exc}
-use Rattle.do_base.specs.declared.values.value.Value.{Value}
-use Rattle.do_base.specs.names.Names.{ObjectName, TokenName}
-use Rattle.do_behave.specs.declared.invocation.Answer.{Answer}
 use Rattle.do_behave.specs.declared.invocation.Reason.TheVariants as reasons
-use Rattle.do_behave.specs.declared.invocation.Waited.{Waited}
-use Rattle.do_class.specs.declared.ids.MethodId.{MethodId}
-use Rattle.do_class.specs.declared.packet.Name.{Name}
-use Rattle.do_class.specs.declared.packet.Name.TheVariants.{Lent, Mine, Yours}
-use Rattle.do_class.specs.declared.packet.Packet.{Packet}
-use Rattle.do_machine.specs.Context.{Context}
-use Rattle.do_machine.specs.Effect.{each, only, queueing}
-use Rattle.do_machine.specs.Items.{exported}
+use Rattle.do_machine.specs.declared.item.Item.TheVariants as items
+use Rattle.std.proofs.Common.{◌≡◌, ◌==◌, ℕ, Bool, true, false, cond, List, [], ◌∷◌, Result, Ok, Err}
+use Rattle.std.proofs.Common.{refl, inl, inr, arith}
+use Rattle.std.specs.{Prelude.{filter, is_some, map, not, ◌&&◌}, List.{AllByRecursion, list_any}}
+use Rattle.std.proofs.lemmas.{Bool.Decides.nat_tests, Map.Views.any-filter_same}
+use Rattle.do_base.specs.declared.{events.exception.Exc.Exc, values.value.Value.Value}
+use Rattle.do_base.specs.names.Names.{ObjectName, TokenName}
+use Rattle.do_behave.specs.declared.invocation.{Answer.Answer, Waited.Waited}
+use Rattle.do_class.specs.declared.{ids.MethodId.MethodId, packet.Name.Name}
+use Rattle.do_class.specs.declared.packet.{Name.TheVariants.{Lent, Mine, Yours}, Packet.Packet}
+use Rattle.do_machine.specs.{Context.Context, Effect.{each, only, queueing}, Items.exported}
 use Rattle.do_machine.specs.Objects.{object_at}
 use Rattle.do_packet.specs.Met.{has_object}
-use Rattle.do_machine.specs.State.{is_open, own, stored}
-use Rattle.do_machine.specs.declared.item.Item.{Item}
-use Rattle.do_machine.specs.declared.item.Item.TheVariants as items
-use Rattle.do_machine.specs.declared.item.Message.{Message}
-use Rattle.do_machine.specs.declared.node.Lend.{Lend}
-use Rattle.do_machine.specs.declared.node.Node.{Node}
-use Rattle.do_machine.specs.declared.node.Wanted.{Wanted}
-use Rattle.do_machine.specs.declared.state.Effect.{Effect}
-use Rattle.do_machine.specs.ends.Closing.{asked_of, closing, parted, serials_of}
-use Rattle.do_machine.specs.held.Kept.{kept}
-use Rattle.do_machine.specs.held.Leaving.{freeing, left, leaving}
-use Rattle.do_machine.specs.held.Refers.{node_objects}
+use Rattle.do_machine.specs.{State.{is_open, own, stored}, declared.item.Item.Item}
+use Rattle.do_machine.specs.declared.{item.Message.Message, node.{Lend.Lend, Node.Node}}
+use Rattle.do_machine.specs.declared.{node.Wanted.Wanted, state.Effect.Effect}
+use Rattle.do_machine.specs.{ends.Closing.{asked_of, closing, parted, serials_of}, held.Kept.kept}
+use Rattle.do_machine.specs.held.{Leaving.{freeing, left, leaving}, Refers.node_objects}
 use Rattle.do_machine.specs.lend.Asking.{ask_over, asking, granting, same_wanted, settling, wanted}
-use Rattle.do_machine.specs.lend.Asking.{with_wanted, without_wanted}
-use Rattle.do_machine.specs.lend.Lending.{is_lend, with_settled}
-use Rattle.do_machine.specs.run.Fresh.{fresh, pushed, with_objects}
+use Rattle.do_machine.specs.lend.{Asking.{with_wanted, without_wanted}, Lending.is_lend}
+use Rattle.do_machine.specs.{lend.Lending.with_settled, run.Fresh.{fresh, pushed, with_objects}}
 use Rattle.do_machine.specs.take.Awaiting.{AnsweredCall, answering}
 use Rattle.do_machine.specs.take.Receipt.{arrived, received, receiving, receiving_name}
-use Rattle.do_machine.specs.take.Requests.{admission, refusing, request}
-use Rattle.do_machine.specs.take.Take.{arrival, holding, method_call, root_call, take_effect}
-use Rattle.do_machine.specs.take.Take.{values_arrival}
-use Rattle.do_peers.proofs.Keeping.{Keeps, NamesNothing, filter_in, keeps_each}
-use Rattle.do_peers.proofs.Keeping.{keeps_ends, keeps_then}
+use Rattle.do_machine.specs.take.{Requests.{admission, refusing, request}, Take.{arrival, holding}}
+use Rattle.do_machine.specs.take.Take.{method_call, root_call, take_effect, values_arrival}
+use Rattle.do_peers.proofs.Keeping.{Keeps, NamesNothing, filter_in, keeps_each, keeps_ends}
+use Rattle.do_peers.proofs.Keeping.{keeps_then}
 
 module _ (q : ℕ) where
   -- ---- asks and lends

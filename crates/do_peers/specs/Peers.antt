@@ -1,23 +1,16 @@
 -- What an input from one peer leaves of every other, and what may change at all where the end
 -- towards a peer closes.
-use Rattle.std.specs.Prelude.{List, None, Option, Some, filter, not, true, ℕ, ◌&&◌, ◌==◌, ◌≡◌}
-use Rattle.std.specs.Prelude.{◌⊎◌}
+use Rattle.do_network.specs.declared.input.Input.TheVariants as inputs
+use Rattle.std.specs.Prelude.{List, None, Option, Some, filter, not, true, ℕ, ◌&&◌, ◌==◌, ◌≡◌, ◌⊎◌}
 use Rattle.std.specs.List.{AllByRecursion}
 use Rattle.do_base.specs.names.Names.{ObjectName}
 use Rattle.do_export.specs.Counts.{count_of}
 use Rattle.do_frames.specs.declared.frame.Frame.TheVariants.{Release, Settle}
-use Rattle.do_machine.specs.State.{holds, is_known, is_open}
-use Rattle.do_machine.specs.declared.node.Lend.{Lend}
-use Rattle.do_machine.specs.declared.node.Node.{Node}
-use Rattle.do_machine.specs.ends.Closing.{parted}
-use Rattle.do_machine.specs.held.Kept.{AreAmong}
-use Rattle.do_machine.specs.held.Refers.{node_objects}
+use Rattle.do_machine.specs.{State.{holds, is_known, is_open}, declared.node.{Lend.Lend, Node.Node}}
+use Rattle.do_machine.specs.{ends.Closing.parted, held.{Kept.AreAmong, Refers.node_objects}}
 use Rattle.do_packet.specs.Met.{has_object}
-use Rattle.do_network.specs.declared.input.Input.{Input}
-use Rattle.do_network.specs.declared.input.Input.TheVariants as inputs
-use Rattle.do_network.specs.Links.{Piece, Sending}
-use Rattle.do_network.specs.Links.Piece.{Framed, Greeting}
-use Rattle.do_network.specs.Own.{Own, class_kept, is_counted}
+use Rattle.do_network.specs.{declared.input.Input.Input, Links.{Piece, Sending}}
+use Rattle.do_network.specs.{Links.Piece.{Framed, Greeting}, Own.{Own, class_kept, is_counted}}
 
 -- the peer whose frame, close or end an input is
 abbrev pub peer_of : Input → Option ℕ

@@ -1,23 +1,15 @@
 //! Laws of peers, each carried by a function that does nothing else.
+ghost use Rattle.do_network.specs.declared.input.Input.TheVariants as inputs;
 ghost use Rattle.std.specs.Prelude.{◌≡◌, ◌==◌, ℕ, List, Some, false, true};
-ghost use Rattle.do_base.specs.names.Names.{ObjectName};
-ghost use Rattle.do_base.specs.declared.events.event.Event.{Event};
+ghost use Rattle.do_base.specs.{names.Names.ObjectName, declared.events.event.Event.Event};
 ghost use Rattle.do_class.specs.Class.{Class};
 ghost use Rattle.do_frames.specs.declared.frame.RawFrame.{RawFrame};
-ghost use Rattle.do_machine.specs.declared.state.Seat.{Seat};
-ghost use Rattle.do_machine.specs.Entry.{has_entry};
-ghost use Rattle.do_machine.specs.State.{is_open};
-ghost use Rattle.do_machine.specs.Step.{step};
-ghost use Rattle.do_machine.specs.run.Run.{Acting};
-ghost use Rattle.do_machine.specs.take.Take.{can_take};
-ghost use Rattle.do_facts.specs.Reached.{reached};
-ghost use Rattle.do_facts.specs.laws.Entries.{IsNoStepOf};
+ghost use Rattle.do_machine.specs.{declared.state.Seat.Seat, Entry.has_entry, State.is_open};
+ghost use Rattle.do_machine.specs.{Step.step, run.Run.Acting, take.Take.can_take};
+ghost use Rattle.do_facts.specs.{Reached.reached, laws.Entries.IsNoStepOf};
 ghost use Rattle.do_network.specs.declared.fault.PeerFault.{PeerFault};
-ghost use Rattle.do_network.specs.declared.input.Done.TheVariants.{Closed};
-ghost use Rattle.do_network.specs.declared.input.Input.{Input};
-ghost use Rattle.do_network.specs.declared.input.Input.TheVariants as inputs;
-ghost use Rattle.do_network.specs.Links.{Part};
-ghost use Rattle.do_network.specs.Site.{site_step};
+ghost use Rattle.do_network.specs.declared.input.{Done.TheVariants.Closed, Input.Input};
+ghost use Rattle.do_network.specs.{Links.Part, Site.site_step};
 ghost use Rattle.do_peers.specs.Peers.{ClosedAlone, StaysFor, peer_of};
 
 /// Whatever one peer sends, and however its connection ends, a site keeps what it has for every

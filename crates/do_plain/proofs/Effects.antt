@@ -1,46 +1,33 @@
 -- What a run, a start and a time-out send and show tells of selectors of the table alone.
+use Rattle.do_base.specs.declared.events.shown.Shown.TheVariants as shown
+use Rattle.do_base.specs.declared.events.shown.Took.TheVariants as took
+use Rattle.do_behave.specs.declared.act.Act.TheVariants as acts
+use Rattle.do_machine.specs.declared.item.Item.TheVariants as items
+use Rattle.do_machine.specs.declared.verdict.Request.TheVariants as requests
 use Rattle.std.proofs.Common.{◌==◌, ℕ, Bool, not, List, [], ◌∷◌, filter, map}
 use Rattle.std.specs.Prelude.{IsTrue, None, Option, Some, option_map}
 use Rattle.std.specs.List.{AllByRecursion, list_any}
-use Rattle.do_base.specs.declared.events.shown.Shown.{Shown}
-use Rattle.do_base.specs.declared.events.shown.Shown.TheVariants as shown
-use Rattle.do_base.specs.declared.events.shown.Took.{Took}
-use Rattle.do_base.specs.declared.events.shown.Took.TheVariants as took
-use Rattle.do_base.specs.names.Names.{ObjectName}
-use Rattle.do_behave.specs.declared.act.Act.{Act}
-use Rattle.do_behave.specs.declared.act.Act.TheVariants as acts
-use Rattle.do_behave.specs.declared.invocation.Answer.{Answer}
+use Rattle.do_base.specs.{declared.events.shown.{Shown.Shown, Took.Took}, names.Names.ObjectName}
+use Rattle.do_behave.specs.declared.{act.Act.Act, invocation.Answer.Answer}
 use Rattle.do_behave.specs.declared.invocation.Answer.TheVariants.{Given, Raised}
-use Rattle.do_behave.specs.declared.invocation.InvState.{InvState}
-use Rattle.do_behave.specs.declared.invocation.InvState.TheVariants.{Answered, Running}
+use Rattle.do_behave.specs.declared.invocation.InvState.{InvState, TheVariants.{Answered, Running}}
 use Rattle.do_behave.specs.declared.invocation.Invocation.{Invocation}
 use Rattle.do_class.specs.Table.{IsTable}
 use Rattle.do_grammar.specs.Names.{is_selector}
 use Rattle.do_packet.specs.Met.{has_object}
-use Rattle.do_machine.specs.declared.item.Item.{Item}
-use Rattle.do_machine.specs.declared.item.Item.TheVariants as items
-use Rattle.do_machine.specs.declared.node.Node.{Node}
-use Rattle.do_machine.specs.declared.node.Stored.{Stored}
-use Rattle.do_machine.specs.declared.state.Effect.{Effect}
-use Rattle.do_machine.specs.declared.verdict.Request.{Request}
-use Rattle.do_machine.specs.declared.verdict.Request.TheVariants as requests
-use Rattle.do_machine.specs.declared.verdict.SendAct.{SendAct}
-use Rattle.do_machine.specs.declared.verdict.Verdict.{Verdict}
+use Rattle.do_machine.specs.declared.{item.Item.Item, node.{Node.Node, Stored.Stored}}
+use Rattle.do_machine.specs.declared.{state.Effect.Effect, verdict.Request.Request}
+use Rattle.do_machine.specs.declared.verdict.{SendAct.SendAct, Verdict.Verdict}
 use Rattle.do_machine.specs.declared.verdict.Verdict.TheVariants.{Asks, Begins, Fails, Goes, Makes}
 use Rattle.do_machine.specs.declared.verdict.Verdict.TheVariants.{Returns, Says, Steps, Tells, Uses}
 use Rattle.do_machine.specs.declared.verdict.Verdict.TheVariants.{Vends}
 use Rattle.do_machine.specs.Context.{Context, RunContext, class_seen}
-use Rattle.do_machine.specs.Effect.{each, only, queueing, showing, ◌>>=◌}
-use Rattle.do_machine.specs.State.{own}
-use Rattle.do_machine.specs.held.Kept.{kept}
-use Rattle.do_machine.specs.held.Leaving.{dropping, freeing, leaving, left}
-use Rattle.do_machine.specs.held.Refers.{node_objects}
-use Rattle.do_machine.specs.run.Acts.{act_rule}
-use Rattle.do_machine.specs.run.Answers.{answer_line}
+use Rattle.do_machine.specs.{Effect.{each, only, queueing, showing, ◌>>=◌}, State.own}
+use Rattle.do_machine.specs.held.{Kept.kept, Leaving.{dropping, freeing, leaving, left}}
+use Rattle.do_machine.specs.{held.Refers.node_objects, run.{Acts.act_rule, Answers.answer_line}}
 use Rattle.do_machine.specs.run.Run.{Acting, next_act, run_effect, run_on, state_rule}
 use Rattle.do_machine.specs.run.Verdicts.{effect_of, requesting}
-use Rattle.do_facts.proofs.Deliveries.{Delivers, by_delivery, by_failing}
-use Rattle.do_facts.proofs.EachOfLists.{each_joined}
+use Rattle.do_facts.proofs.{Deliveries.{Delivers, by_delivery, by_failing}, EachOfLists.each_joined}
 use Rattle.do_facts.proofs.RulesOfActs.{by_return, by_root, by_send, by_vend}
 use Rattle.do_plain.proofs.Selectors.{selected}
 

@@ -1,17 +1,12 @@
 -- No name, no value and nothing that is shown has a line feed in it, but for a selector that has one.
-use Rattle.std.proofs.Common.{◌≡◌, ◌≢◌, ◌==◌, ◌/◌, ◌%◌, ◌+◌, ℕ, ℤ, pos, negsuc, zero, suc, Bool, true}
-use Rattle.std.proofs.Common.{false, cond, List as Listed, [], ◌∷◌, ◌++◌, map, refl, sym, subst}
-use Rattle.std.proofs.Common.{arith, rules}
-use Rattle.std.specs.Prelude.{codes, nat_lt, not}
-use Rattle.std.specs.List.{AllByRecursion, flat_map, list_all}
-use Rattle.std.specs.Fmt.{decimal, digit_glyph, digits, digits_onto, signed_decimal}
-use Rattle.std.proofs.lemmas.Bool.Decides.{nat_tests}
-use Rattle.do_base.specs.declared.values.value.Value.{Value, List, the_lemmas}
-use Rattle.do_base.specs.declared.values.value.Value.TheVariants.{Obj}
-use Rattle.do_base.specs.names.Names.{ObjectName}
-use Rattle.do_base.specs.values.Induction.{value_induction}
-use Rattle.do_grammar.specs.Quoted.{hex_digit, is_plain, quoted, quoted_byte}
-use Rattle.do_grammar.specs.Words.{Without}
+use Rattle.std.proofs.Common.{◌≡◌, ◌≢◌, ◌==◌, ◌/◌, ◌%◌, ◌+◌, ℕ, ℤ, pos, negsuc, zero, suc, Bool}
+use Rattle.std.proofs.Common.{true, false, cond, List as Listed, [], ◌∷◌, ◌++◌, map, refl, sym}
+use Rattle.std.{proofs.Common.{subst, arith, rules}, specs.Prelude.{codes, nat_lt, not}}
+use Rattle.std.specs.{List.{AllByRecursion, flat_map, list_all}, Fmt.{decimal, digit_glyph, digits}}
+use Rattle.std.{specs.Fmt.{digits_onto, signed_decimal}, proofs.lemmas.Bool.Decides.nat_tests}
+use Rattle.do_base.specs.declared.values.value.Value.{Value, List, the_lemmas, TheVariants.Obj}
+use Rattle.do_base.specs.{names.Names.ObjectName, values.Induction.value_induction}
+use Rattle.do_grammar.specs.{Quoted.{hex_digit, is_plain, quoted, quoted_byte}, Words.Without}
 use Rattle.do_grammar.proofs.texts.WordBytes.{Without-append, Without-passes}
 use Rattle.do_sched.specs.Value.{between, object_name, spaced, value_text}
 use Rattle.do_sched.proofs.ValuesExact.{value_text-Nil, value_text-Num, value_text-Text}

@@ -1,11 +1,9 @@
 -- Texts of lines none of which says what was sent.
 use Rattle.std.proofs.Common.{◌≡◌, ℕ, true, false, List, [], ◌∷◌, ◌++◌, refl, sym, ap, ◌∙◌}
 use Rattle.std.proofs.Common.{append_assoc}
-use Rattle.std.specs.Prelude.{codes, filter, ◌==◌}
-use Rattle.std.specs.List.{AllByRecursion, flat_map, starts_with}
+use Rattle.std.specs.{Prelude.{codes, filter, ◌==◌}, List.{AllByRecursion, flat_map, starts_with}}
 use Rattle.std.proofs.lemmas.Grind.{flat_map-append}
-use Rattle.do_grammar.specs.Lines.{cut, line_bytes}
-use Rattle.do_grammar.specs.Words.{Without}
+use Rattle.do_grammar.specs.{Lines.{cut, line_bytes}, Words.Without}
 use Rattle.do_grammar.proofs.texts.LinesExact.{cut_line}
 use Rattle.do_lines.specs.Lines.{joined}
 use Rattle.do_agreement.specs.WithoutWires.{is_local, without_wires}

@@ -1,13 +1,9 @@
 -- The selector that finds a method of a table is one.
 use Rattle.std.proofs.Common.{◌≡◌, ℕ, List, [], ◌∷◌, zero, suc, refl, subst}
 use Rattle.std.specs.Prelude.{IsTrue, None, Option, Some, option_and_then, option_map, slice_get}
-use Rattle.std.specs.List.{AllByRecursion}
-use Rattle.std.proofs.lemmas.List.Elements.{recursion_from_All}
-use Rattle.do_class.specs.Class.{Class, IsClass}
-use Rattle.do_class.specs.Table.{IsTable, class_at, selector_of}
-use Rattle.do_class.specs.declared.ids.ClassId.{ClassId}
-use Rattle.do_class.specs.declared.ids.MethodId.{MethodId}
-use Rattle.do_class.specs.declared.method.Method.{Method}
+use Rattle.std.{specs.List.AllByRecursion, proofs.lemmas.List.Elements.recursion_from_All}
+use Rattle.do_class.specs.{Class.{Class, IsClass}, Table.{IsTable, class_at, selector_of}}
+use Rattle.do_class.specs.declared.{ids.{ClassId.ClassId, MethodId.MethodId}, method.Method.Method}
 use Rattle.do_grammar.specs.Names.{is_selector}
 use Rattle.do_machine.specs.Context.{Found, method_for}
 use Rattle.do_facts.proofs.methods.MethodsFound.{method_found}

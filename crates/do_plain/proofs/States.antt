@@ -1,40 +1,27 @@
 -- What waits between the nodes of a machine, and what each event shows, tells of selectors alone.
-use Rattle.std.proofs.Common.{◌≡◌, ℕ, List, [], ◌∷◌, map, refl, sym}
-use Rattle.std.proofs.Common.{subst}
+use Rattle.do_machine.specs.declared.item.Item.TheVariants as items
+use Rattle.std.proofs.Common.{◌≡◌, ℕ, List, [], ◌∷◌, map, refl, sym, subst}
 use Rattle.std.specs.Prelude.{None, Option, Some, find, option_and_then, option_map, ◌==◌}
 use Rattle.std.specs.List.{AllByRecursion, insert}
 use Rattle.do_base.specs.declared.events.event.Event.{Event}
 use Rattle.do_base.specs.declared.events.event.Event.TheVariants.{Close, Run, Start, Timeout}
-use Rattle.do_class.specs.Class.{Class}
-use Rattle.do_class.specs.Table.{IsTable}
-use Rattle.do_machine.specs.declared.item.Item.{Item}
-use Rattle.do_machine.specs.declared.item.Item.TheVariants as items
-use Rattle.do_machine.specs.declared.node.Node.{Node}
-use Rattle.do_machine.specs.declared.state.Effect.{Effect}
-use Rattle.do_machine.specs.declared.state.Queue.{Queue}
-use Rattle.do_machine.specs.declared.state.Seat.{Seat}
-use Rattle.do_machine.specs.declared.state.State.{State}
-use Rattle.do_machine.specs.declared.state.Station.{Station}
-use Rattle.do_machine.specs.declared.state.Parcel.{Parcel}
-use Rattle.do_machine.specs.declared.state.Stepped.{Stepped}
+use Rattle.do_class.specs.{Class.Class, Table.IsTable}
+use Rattle.do_machine.specs.declared.{item.Item.Item, node.Node.Node, state.Effect.Effect}
+use Rattle.do_machine.specs.declared.state.{Queue.Queue, Seat.Seat, State.State, Station.Station}
+use Rattle.do_machine.specs.declared.state.{Parcel.Parcel, Stepped.Stepped}
 use Rattle.do_machine.specs.Commit.{commit, committed, items_to, moved, with_sent}
-use Rattle.do_machine.specs.Context.{around, context}
-use Rattle.do_machine.specs.Start.{start_effect}
+use Rattle.do_machine.specs.{Context.{around, context}, Start.start_effect}
 use Rattle.do_machine.specs.State.{change, queue, queue_to, station, with_items, with_queue}
-use Rattle.do_machine.specs.Step.{step}
-use Rattle.do_machine.specs.World.{by_port, opening, opening_station, others}
-use Rattle.do_machine.specs.check.Blocks.{followed, steps}
-use Rattle.do_machine.specs.ends.TimeOut.{time_out}
-use Rattle.do_machine.specs.held.Leaving.{leaving}
-use Rattle.do_machine.specs.run.Run.{Acting, run_effect}
+use Rattle.do_machine.specs.{Step.step, World.{by_port, opening, opening_station, others}}
+use Rattle.do_machine.specs.{check.Blocks.{followed, steps}, ends.TimeOut.time_out}
+use Rattle.do_machine.specs.{held.Leaving.leaving, run.Run.{Acting, run_effect}}
 use Rattle.do_facts.proofs.EachOfLists.{each_changed, each_filtered, each_inserted, each_joined}
 use Rattle.do_facts.proofs.EachOfLists.{each_mapped, each_weaker, found_is}
 use Rattle.do_facts.proofs.steps.EachIsStep.{step_is}
 use Rattle.do_facts.proofs.walk.Possible.{by_begins, by_giving_up, there}
 use Rattle.do_facts.specs.steps.IsStep.{Acts, Checks, IsRuleOf, IsStep, Loses, Skips, Takes}
 use Rattle.do_plain.proofs.Effects.{ItemSelects, Selects, ShownSelects, alone, leaving_selects}
-use Rattle.do_plain.proofs.Effects.{run_selects}
-use Rattle.do_plain.proofs.Takes.{closes, take_selects}
+use Rattle.do_plain.proofs.{Effects.run_selects, Takes.{closes, take_selects}}
 
 -- what waits in a queue
 abbrev QueueSelects : Queue → Type 0

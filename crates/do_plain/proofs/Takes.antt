@@ -1,40 +1,27 @@
 -- What a node that takes an item sends and shows tells of selectors alone, where the item does.
-use Rattle.std.proofs.Common.{ℕ, not, List}
-use Rattle.std.specs.Prelude.{Err, Ok, Result, is_some}
-use Rattle.std.specs.List.{list_any}
-use Rattle.do_base.specs.declared.events.exception.Exc.{Exc}
 use Rattle.do_base.specs.declared.events.shown.Shown.TheVariants as shown
-use Rattle.do_base.specs.declared.values.value.Value.{Value}
+use Rattle.do_behave.specs.declared.invocation.Reason.TheVariants as reasons
+use Rattle.do_machine.specs.declared.item.Item.TheVariants as items
+use Rattle.std.proofs.Common.{ℕ, not, List}
+use Rattle.std.specs.{Prelude.{Err, Ok, Result, is_some}, List.list_any}
+use Rattle.do_base.specs.declared.{events.exception.Exc.Exc, values.value.Value.Value}
 use Rattle.do_base.specs.names.Names.{TokenName}
 use Rattle.do_behave.specs.declared.invocation.Reason.{Reason}
-use Rattle.do_behave.specs.declared.invocation.Reason.TheVariants as reasons
-use Rattle.do_class.specs.declared.ids.MethodId.{MethodId}
-use Rattle.do_class.specs.declared.packet.Name.{Name}
-use Rattle.do_class.specs.declared.packet.Name.TheVariants.{Lent}
+use Rattle.do_class.specs.declared.{ids.MethodId.MethodId, packet.Name.{Name, TheVariants.Lent}}
 use Rattle.do_class.specs.declared.packet.Packet.{Packet}
-use Rattle.do_machine.specs.declared.item.Item.{Item}
-use Rattle.do_machine.specs.declared.item.Item.TheVariants as items
-use Rattle.do_machine.specs.declared.item.Message.{Message}
-use Rattle.do_machine.specs.declared.node.Node.{Node}
-use Rattle.do_machine.specs.declared.node.Wanted.{Wanted}
-use Rattle.do_machine.specs.declared.state.Effect.{Effect}
-use Rattle.do_machine.specs.Context.{Context}
-use Rattle.do_machine.specs.Effect.{each, only, queueing, showing}
-use Rattle.do_machine.specs.Items.{exported}
-use Rattle.do_machine.specs.Objects.{object_at}
-use Rattle.do_machine.specs.State.{is_open, stored}
+use Rattle.do_machine.specs.declared.{item.{Item.Item, Message.Message}, node.Node.Node}
+use Rattle.do_machine.specs.{declared.{node.Wanted.Wanted, state.Effect.Effect}, Context.Context}
+use Rattle.do_machine.specs.{Effect.{each, only, queueing, showing}, Items.exported}
+use Rattle.do_machine.specs.{Objects.object_at, State.{is_open, stored}}
 use Rattle.do_machine.specs.ends.Closing.{asked_of, closing, parted, serials_of}
 use Rattle.do_machine.specs.lend.Asking.{asking, granting, same_wanted, settling, wanted}
-use Rattle.do_machine.specs.lend.Asking.{with_wanted, without_wanted}
-use Rattle.do_machine.specs.lend.Lending.{with_settled}
-use Rattle.do_machine.specs.run.Fresh.{with_objects}
-use Rattle.do_machine.specs.take.Lines.{item_line}
+use Rattle.do_machine.specs.lend.{Asking.{with_wanted, without_wanted}, Lending.with_settled}
+use Rattle.do_machine.specs.{run.Fresh.with_objects, take.Lines.item_line}
 use Rattle.do_machine.specs.take.Receipt.{arrived, received, receiving, receiving_name}
 use Rattle.do_machine.specs.take.Requests.{admission, refusing, request}
 use Rattle.do_machine.specs.take.Take.{arrival, holding, method_call, root_call, root_packet}
 use Rattle.do_machine.specs.take.Take.{take_effect, values_arrival}
-use Rattle.do_facts.proofs.Chains.{either}
-use Rattle.do_facts.proofs.walk.Takes.{admitted}
+use Rattle.do_facts.proofs.{Chains.either, walk.Takes.admitted}
 use Rattle.do_plain.proofs.Effects.{ItemSelects, Selects, TookSelects, alone, each_selects, queues}
 use Rattle.do_plain.proofs.Effects.{shows, then_selects}
 

@@ -1,60 +1,39 @@
 -- No line of a transcript says what was sent.
+use Rattle.do_base.specs.declared.events.shown.Shown.TheVariants as shown
+use Rattle.do_base.specs.declared.events.shown.Took.TheVariants as took
 use Rattle.std.proofs.Common.{◌≡◌, ◌++◌, ℕ, Bool, true, false, cond, List, [], ◌∷◌, map, refl}
-use Rattle.std.proofs.Common.{arith}
-use Rattle.std.specs.Prelude.{None, Option, Some, codes, decimal, option_map}
+use Rattle.std.{proofs.Common.arith, specs.Prelude.{None, Option, Some, codes, decimal, option_map}}
 use Rattle.std.specs.List.{AllByRecursion, flat_map}
-use Rattle.do_base.specs.declared.events.exception.Exc.{Exc}
-use Rattle.do_base.specs.declared.events.exception.Exc.TheVariants.{ConnectionDied, Deep}
+use Rattle.do_base.specs.declared.events.exception.Exc.{Exc, TheVariants.{ConnectionDied, Deep}}
 use Rattle.do_base.specs.declared.events.exception.Exc.TheVariants.{NotUnderstood, NotVended, Range}
 use Rattle.do_base.specs.declared.events.exception.Exc.TheVariants.{TimedOut, TooLarge, TypeFault}
-use Rattle.do_base.specs.declared.events.exception.Exc.TheVariants.{User}
-use Rattle.do_base.specs.declared.events.shown.Shown.{Shown}
-use Rattle.do_base.specs.declared.events.shown.Shown.TheVariants as shown
-use Rattle.do_base.specs.declared.events.shown.Took.{Took}
-use Rattle.do_base.specs.declared.events.shown.Took.TheVariants as took
-use Rattle.do_base.specs.declared.values.value.Value.{Value}
+use Rattle.do_base.specs.declared.events.{exception.Exc.TheVariants.User, shown.Shown.Shown}
+use Rattle.do_base.specs.declared.{events.shown.Took.Took, values.value.Value.Value}
 use Rattle.do_base.specs.names.Names.{ObjectName}
-use Rattle.do_class.specs.Class.{Class}
-use Rattle.do_class.specs.Table.{IsTable, class_at, name_of, slots_of}
-use Rattle.do_class.specs.declared.ids.ClassId.{ClassId}
-use Rattle.do_class.specs.declared.ids.Slot.{Slot}
-use Rattle.do_grammar.specs.Quoted.{quoted}
-use Rattle.do_grammar.specs.Words.{Without}
-use Rattle.do_grammar.proofs.texts.NameBytes.{Without-name, Without-selector}
-use Rattle.do_grammar.proofs.texts.WordBytes.{Without-append}
+use Rattle.do_class.specs.{Class.Class, Table.{IsTable, class_at, name_of, slots_of}}
+use Rattle.do_class.specs.declared.ids.{ClassId.ClassId, Slot.Slot}
+use Rattle.do_grammar.{specs.{Quoted.quoted, Words.Without}, proofs.texts.NameBytes.Without-name}
+use Rattle.do_grammar.proofs.texts.{NameBytes.Without-selector, WordBytes.Without-append}
 use Rattle.do_lines.specs.Block.{shown_by, shown_lines, stepped_node}
 use Rattle.do_lines.specs.Check.{class_words, closed_line, entry_line, node_text, object_text}
-use Rattle.do_lines.specs.Check.{root_line, root_word, slot_words}
-use Rattle.do_lines.specs.Lines.{joined}
+use Rattle.do_lines.specs.{Check.{root_line, root_word, slot_words}, Lines.joined}
 use Rattle.do_lines.specs.Shown.{exception_text, shown_text, took_text}
 use Rattle.do_lines.specs.Transcript.{block_lines, listed_lines, transcript}
-use Rattle.do_machine.specs.declared.state.Seat.{Seat}
-use Rattle.do_machine.specs.declared.state.State.{State}
-use Rattle.do_machine.specs.Commit.{skipped}
-use Rattle.do_machine.specs.World.{opening}
-use Rattle.do_machine.specs.check.Blocks.{block, blocks, events_of, line_step}
-use Rattle.do_machine.specs.run.Run.{Acting}
-use Rattle.do_sched.specs.Good.{IsLine}
-use Rattle.do_sched.specs.Spelling.{line_spelling}
-use Rattle.do_sched.specs.Value.{object_name, spaced, value_text}
-use Rattle.do_sched.specs.declared.line.Line.{Line}
+use Rattle.do_machine.specs.{declared.state.{Seat.Seat, State.State}, Commit.skipped, World.opening}
+use Rattle.do_machine.specs.{check.Blocks.{block, blocks, events_of, line_step}, run.Run.Acting}
+use Rattle.do_sched.specs.{Good.IsLine, Spelling.line_spelling}
+use Rattle.do_sched.specs.{Value.{object_name, spaced, value_text}, declared.line.Line.Line}
 use Rattle.do_sched.specs.declared.version.Version.TheVariants.{Second}
 use Rattle.do_sched.proofs.LineWithoutFeed.{no_feed}
-use Rattle.do_trace.specs.Block.{Block}
-use Rattle.do_trace.specs.declared.outcome.Entry.{Entry}
-use Rattle.do_trace.specs.declared.outcome.NodeLine.{NodeLine}
-use Rattle.do_trace.specs.declared.outcome.ObjLine.{ObjLine}
-use Rattle.do_trace.specs.declared.outcome.Outcome.{Outcome}
-use Rattle.do_trace.specs.declared.outcome.Snapshot.{Snapshot}
+use Rattle.do_trace.specs.{Block.Block, declared.outcome.{Entry.Entry, NodeLine.NodeLine}}
+use Rattle.do_trace.specs.declared.outcome.{ObjLine.ObjLine, Outcome.Outcome, Snapshot.Snapshot}
 use Rattle.do_facts.proofs.EachOfLists.{each_mapped, each_of, each_weaker}
 use Rattle.do_agreement.specs.WithoutWires.{without_wires}
 use Rattle.do_plain.specs.Named.{AreNamed, IsNamed, IsNamedSlot}
-use Rattle.do_plain.proofs.Effects.{ShownSelects, TookSelects}
-use Rattle.do_plain.proofs.Feeds.{decimal_free, literal, numbered, object_free, quoted_free}
-use Rattle.do_plain.proofs.Feeds.{value_free, worded}
+use Rattle.do_plain.proofs.{Effects.{ShownSelects, TookSelects}, Feeds.{decimal_free, literal}}
+use Rattle.do_plain.proofs.Feeds.{numbered, object_free, quoted_free, value_free, worded}
 use Rattle.do_plain.proofs.Lines.{IsPlain, IsPlainLine, behind, in_a_row, one_line, plain_stays}
-use Rattle.do_plain.proofs.Selectors.{one_at}
-use Rattle.do_plain.proofs.States.{StateSelects, opening_selects, steps_select}
+use Rattle.do_plain.proofs.{Selectors.one_at, States.{StateSelects, opening_selects, steps_select}}
 
 -- ---- what is shown
 

@@ -1,34 +1,24 @@
 -- The classes of a world that is read have names, and so have their slots.
-use Rattle.std.proofs.Common.{◌≡◌, ◌&&◌, ◌-◌, ℕ, Bool, true, false, cond, drop, length, List, [], ◌∷◌}
-use Rattle.std.proofs.Common.{refl, subst, take}
-use Rattle.std.specs.Prelude.{None, Option, Some, codes, is_some, not, option_and_then}
-use Rattle.std.specs.List.{AllByRecursion, cons_option, filter_map}
-use Rattle.std.specs.Option.{option_map, option_map_or, option_or}
-use Rattle.std.specs.Str.{bytes_eq}
-use Rattle.toml.specs.Data.{Data, Members, as_str, get_member}
-use Rattle.do_class.specs.Class.{Class}
-use Rattle.do_class.specs.Table.{class_named}
-use Rattle.do_class.specs.declared.ids.Slot.{Slot}
-use Rattle.do_class_kinds.specs.declared.kind.Kind.{Kind}
 use Rattle.do_class_kinds.specs.declared.kind.Kind.TheVariants as kinds
-use Rattle.do_document.specs.Checks.{first_behind, is_text_with, misfit, missing, required}
-use Rattle.do_document.specs.Checks.{unknown, wrong_unless}
+use Rattle.do_document.specs.declared.place.Place.TheVariants as at
+use Rattle.std.proofs.Common.{◌≡◌, ◌&&◌, ◌-◌, ℕ, Bool, true, false, cond, drop, length, List, []}
+use Rattle.std.{proofs.Common.{◌∷◌, refl, subst, take}, specs.Prelude.{None, Option, Some, codes}}
+use Rattle.std.specs.{Prelude.{is_some, not, option_and_then}, List.{AllByRecursion, cons_option}}
+use Rattle.std.specs.{List.filter_map, Option.{option_map, option_map_or, option_or}, Str.bytes_eq}
+use Rattle.toml.specs.Data.{Data, Members, as_str, get_member}
+use Rattle.do_class.specs.{Class.Class, Table.class_named, declared.ids.Slot.Slot}
+use Rattle.do_class_kinds.specs.declared.kind.Kind.{Kind}
+use Rattle.do_document.specs.Checks.{first_behind, is_text_with, misfit, missing, required, unknown}
+use Rattle.do_document.specs.Checks.{wrong_unless}
 use Rattle.do_document.specs.ClassFaults.{class_checks, class_fault, class_keys, is_new_name}
 use Rattle.do_document.specs.Classes.{class_by, class_of, classes_in, kind_of, slot_named, slot_of}
-use Rattle.do_document.specs.Classes.{methods_by, slots_by, slots_in}
-use Rattle.do_document.specs.Document.{tables_at, text_at, texts_at}
-use Rattle.do_document.specs.Paths.{path}
-use Rattle.do_document.specs.declared.place.Place.{Place}
-use Rattle.do_document.specs.declared.place.Place.TheVariants as at
-use Rattle.do_document.specs.declared.fault.WorldFault.{WorldFault}
-use Rattle.do_document.specs.declared.fault.WorldFault.TheVariants.{Toml}
+use Rattle.do_document.specs.{Classes.{methods_by, slots_by, slots_in}, Document.tables_at}
+use Rattle.do_document.specs.{Document.{text_at, texts_at}, Paths.path, declared.place.Place.Place}
+use Rattle.do_document.specs.declared.fault.WorldFault.{WorldFault, TheVariants.Toml}
 use Rattle.do_grammar.specs.Names.{is_name}
-use Rattle.do_world.specs.Builtin.{builtin_world}
-use Rattle.do_world.specs.Counter.{counter_classes, counter_world}
-use Rattle.do_world.specs.Faults.{fault_of}
-use Rattle.do_world.specs.Mesh.{mesh_classes, mesh_world}
-use Rattle.do_world.specs.Reading.{IsWorldText, document, first_fault, world_in}
-use Rattle.do_world.specs.Worlds.{world_of}
+use Rattle.do_world.specs.{Builtin.builtin_world, Counter.{counter_classes, counter_world}}
+use Rattle.do_world.specs.{Faults.fault_of, Mesh.{mesh_classes, mesh_world}}
+use Rattle.do_world.specs.{Reading.{IsWorldText, document, first_fault, world_in}, Worlds.world_of}
 use Rattle.do_world.specs.declared.world.World.{World}
 use Rattle.do_plain.specs.Named.{AreNamed, IsNamed, IsNamedSlot}
 

@@ -1,8 +1,6 @@
 -- Classes that have names, as those of a world that is read.
-use Rattle.std.specs.Prelude.{IsTrue, List}
-use Rattle.std.specs.List.{AllByRecursion}
-use Rattle.do_class.specs.Class.{Class}
-use Rattle.do_class.specs.declared.ids.Slot.{Slot}
+use Rattle.std.specs.{Prelude.{IsTrue, List}, List.AllByRecursion}
+use Rattle.do_class.specs.{Class.Class, declared.ids.Slot.Slot}
 use Rattle.do_grammar.specs.Names.{is_name}
 
 -- a slot has a name of the grammar

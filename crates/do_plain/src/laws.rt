@@ -1,18 +1,12 @@
 //! Laws of what a machine writes, each carried by a function that does nothing else.
-ghost use Rattle.std.specs.Prelude.{◌≡◌, List, Some, ℕ};
-ghost use Rattle.std.specs.List.{AllByRecursion};
-ghost use Rattle.do_class.specs.Class.{Class};
-ghost use Rattle.do_class.specs.Table.{IsTable};
+ghost use Rattle.std.specs.{Prelude.{◌≡◌, List, Some, ℕ}, List.AllByRecursion};
+ghost use Rattle.do_class.specs.{Class.Class, Table.IsTable};
 ghost use Rattle.do_lines.specs.Transcript.{transcript};
-ghost use Rattle.do_machine.specs.declared.state.Seat.{Seat};
-ghost use Rattle.do_machine.specs.World.{opening};
-ghost use Rattle.do_machine.specs.check.Blocks.{blocks};
+ghost use Rattle.do_machine.specs.{declared.state.Seat.Seat, World.opening, check.Blocks.blocks};
 ghost use Rattle.do_machine.specs.run.Run.{Acting};
-ghost use Rattle.do_sched.specs.Good.{IsLine};
-ghost use Rattle.do_sched.specs.declared.line.Line.{Line};
+ghost use Rattle.do_sched.specs.{Good.IsLine, declared.line.Line.Line};
 ghost use Rattle.do_agreement.specs.WithoutWires.{without_wires};
-ghost use Rattle.do_world.specs.Builtin.{builtin_world};
-ghost use Rattle.do_world.specs.Reading.{IsWorldText};
+ghost use Rattle.do_world.specs.{Builtin.builtin_world, Reading.IsWorldText};
 ghost use Rattle.do_world.specs.declared.world.World.{World};
 ghost use Rattle.do_plain.specs.Named.{AreNamed};
 

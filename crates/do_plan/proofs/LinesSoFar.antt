@@ -1,15 +1,11 @@
 -- What the lines of a text that were read so far say of its bytes.
+use Rattle.do_grammar.specs.Lines as text
 use Rattle.std.proofs.Common.{◌≡◌, ◌≢◌, ℕ, ◌+◌, ◌<◌, ◌≤◌, Bool, true, false, cond, List as Listed}
 use Rattle.std.proofs.Common.{[], ◌∷◌, ◌++◌, length, map, Option, Some, None, refl, sym, ap, subst}
-use Rattle.std.proofs.Common.{◌∙◌, append_assoc, arith}
-use Rattle.std.specs.List.{flat_map, AllByRecursion}
+use Rattle.std.{proofs.Common.{◌∙◌, append_assoc, arith}, specs.List.{flat_map, AllByRecursion}}
 use Rattle.std.proofs.lemmas.List.{map-append, length-append}
-use Rattle.do_grammar.specs.Lines.{cut, line_bytes}
-use Rattle.do_grammar.specs.Lines as text
-use Rattle.do_grammar.proofs.texts.LinesExact.{cut_whole}
-use Rattle.do_sched.specs.Spelling.{footer, fed}
-use Rattle.do_sched.specs.Schedule.{whole}
-use Rattle.do_sched.specs.Reading.{is_whole}
+use Rattle.do_grammar.{specs.Lines.{cut, line_bytes}, proofs.texts.LinesExact.cut_whole}
+use Rattle.do_sched.specs.{Spelling.{footer, fed}, Schedule.whole, Reading.is_whole}
 use Rattle.do_sched.proofs.LinesSoFar.{is_whole_true, is_whole_false}
 use Rattle.do_plan.specs.Form.{Form, IsText, Opens, IsBadLine, at_first, between, early, behind}
 use Rattle.do_plan.specs.Form.{IsTooMany, over, IsEndMissing, at_start, later}

@@ -1,25 +1,18 @@
 -- Bytes are the text of one list of lines, or have one fault.
+use Rattle.do_grammar.specs.Lines as text
 use Rattle.std.proofs.Common.{◌≡◌, ◌≢◌, ℕ, ◌+◌, ◌≤◌, Bool, true, false, cond, leb, List as Listed}
 use Rattle.std.proofs.Common.{[], ◌∷◌, ◌++◌, length, map, Option, Some, None, Result, Ok, Err, refl}
 use Rattle.std.proofs.Common.{sym, ap, ◌∙◌, append_assoc, arith}
-use Rattle.std.specs.List.{flat_map, AllByRecursion}
-use Rattle.std.proofs.lemmas.Bool.{le-leb, lt-leb}
-use Rattle.std.proofs.lemmas.Slice.Eq.{bytes_eq-Decides}
-use Rattle.std.proofs.lemmas.List.{append-nil, length-append}
-use Rattle.do_grammar.specs.Lines.{cut}
-use Rattle.do_grammar.specs.Lines as text
-use Rattle.do_grammar.proofs.texts.LinesExact.{cut_line}
+use Rattle.std.{specs.List.{flat_map, AllByRecursion}, proofs.lemmas.Bool.{le-leb, lt-leb}}
+use Rattle.std.proofs.lemmas.{Slice.Eq.bytes_eq-Decides, List.{append-nil, length-append}}
+use Rattle.do_grammar.{specs.Lines.cut, proofs.texts.LinesExact.cut_line}
 use Rattle.do_sched.specs.declared.fault.SchedFault.{SchedFault}
 use Rattle.do_sched.specs.declared.fault.SchedFault.TheVariants.{BadLine, TooMany, NoEnd, Memory}
-use Rattle.do_sched.specs.Answers.{AnswersWith}
-use Rattle.do_sched.specs.Reading.{is_whole}
-use Rattle.do_sched.specs.Schedule.{whole}
-use Rattle.do_sched.specs.Spelling.{footer, fed}
-use Rattle.do_sched.proofs.LinesSoFar.{is_whole_true}
+use Rattle.do_sched.specs.{Answers.AnswersWith, Reading.is_whole, Schedule.whole}
+use Rattle.do_sched.{specs.Spelling.{footer, fed}, proofs.LinesSoFar.is_whole_true}
 use Rattle.do_plan.specs.Form.{Form, IsText, Opens, IsNoLine, IsBadLine, at_first, between, early}
 use Rattle.do_plan.specs.Form.{behind, IsTooMany, over, IsEndMissing, at_start, later, IsFault}
-use Rattle.do_plan.specs.Reading.{Reads, Tells, line_in}
-use Rattle.do_plan.proofs.LinesSoFar.{line_in_takes}
+use Rattle.do_plan.{specs.Reading.{Reads, Tells, line_in}, proofs.LinesSoFar.line_in_takes}
 
 -- a line that is another text is not that text
 not_line : (wanted : Listed ℕ) (t : text.Line) → t ≢ whole wanted → is_whole wanted t ≡ false

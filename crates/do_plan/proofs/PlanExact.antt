@@ -1,23 +1,16 @@
 -- The lines of plans are read exactly.
 use Rattle.std.proofs.Common.{◌≡◌, ◌≢◌, ℕ, ◌≤◌, ◌^◌, Bool, true, false, List as Listed, [], ◌∷◌}
 use Rattle.std.proofs.Common.{◌++◌, Some, None, refl, sym, ap, subst, ◌∙◌, arith}
-use Rattle.std.specs.Prelude.{codes, not, ◌==◌, ◌&&◌, ◌||◌, nat_eq}
-use Rattle.std.specs.List.{list_all}
-use Rattle.std.specs.Fmt.{decimal}
+use Rattle.std.specs.{Prelude.{codes, not, ◌==◌, ◌&&◌, ◌||◌, nat_eq}, List.list_all, Fmt.decimal}
 use Rattle.std.specs.Str.{bytes_eq}
-use Rattle.std.proofs.lemmas.Bool.Decides.{nat_tests}
-use Rattle.std.proofs.lemmas.Slice.Eq.{bytes_eq-Decides}
+use Rattle.std.proofs.lemmas.{Bool.Decides.nat_tests, Slice.Eq.bytes_eq-Decides}
 use Rattle.do_cli.specs.Forms.{names_file, names_builtin}
-use Rattle.do_grammar.specs.Dec.{dec_in}
-use Rattle.do_grammar.specs.Words.{◌>>?◌, Without, word}
+use Rattle.do_grammar.specs.{Dec.dec_in, Words.{◌>>?◌, Without, word}}
 use Rattle.do_grammar.proofs.texts.WordBytes.{some_is, chain_some, Without-passes, Without-append}
 use Rattle.do_grammar.proofs.texts.DecExact.{dec_takes, dec_again, cond_some}
-use Rattle.do_grammar.proofs.texts.IntExact.{Without-decimal}
-use Rattle.do_grammar.proofs.texts.WordExact.{word_takes, word_again}
-use Rattle.do_sched.specs.Good.{IsPort}
-use Rattle.do_sched.specs.Reading.{port_at}
-use Rattle.do_plan.specs.declared.plan.PlanLine.{PlanLine}
-use Rattle.do_plan.specs.Reading.{Reads, on_word}
+use Rattle.do_grammar.proofs.texts.{IntExact.Without-decimal, WordExact.{word_takes, word_again}}
+use Rattle.do_sched.specs.{Good.IsPort, Reading.port_at}
+use Rattle.do_plan.specs.{declared.plan.PlanLine.PlanLine, Reading.{Reads, on_word}}
 use Rattle.do_plan.specs.Plan.{holds, is_one_word, is_file, is_world, plan_spelling, IsPlanLine}
 use Rattle.do_plan.specs.Plan.{plan_form, served_at, files_at, node_at, plan_at}
 use Rattle.do_plan.proofs.WordChoice.{by_word, feed_free}

@@ -1,30 +1,22 @@
 -- The lines of starts are read exactly.
+use Rattle.do_sched.specs.declared.line.Line.TheVariants as line
 use Rattle.std.proofs.Common.{◌≡◌, ℕ, ◌<◌, ◌^◌, Bool, true, false, cond, List as Listed, ◌∷◌, ◌++◌}
 use Rattle.std.proofs.Common.{Some, None, refl, ap, subst, ◌∙◌, arith}
-use Rattle.std.specs.Prelude.{codes}
-use Rattle.std.specs.List.{flat_map}
-use Rattle.std.specs.Fmt.{decimal}
-use Rattle.std.specs.Str.{bytes_eq}
+use Rattle.std.specs.{Prelude.codes, List.flat_map, Fmt.decimal, Str.bytes_eq}
 use Rattle.std.proofs.lemmas.Slice.Eq.{bytes_eq-Decides}
-use Rattle.do_base.specs.declared.values.value.Value.{Value}
-use Rattle.do_base.specs.values.Texts.{longest_text}
-use Rattle.do_grammar.specs.Names.{is_selector, colons}
-use Rattle.do_grammar.specs.Words.{◌>>?◌, Without, word, part}
+use Rattle.do_base.specs.{declared.values.value.Value.Value, values.Texts.longest_text}
+use Rattle.do_grammar.specs.{Names.{is_selector, colons}, Words.{◌>>?◌, Without, word, part}}
 use Rattle.do_grammar.proofs.texts.WordBytes.{some_is, chain_some, Without-append}
 use Rattle.do_grammar.proofs.texts.NameBytes.{Without-selector}
 use Rattle.do_grammar.proofs.texts.DecExact.{dec_takes, dec_again, cond_some}
 use Rattle.do_grammar.proofs.texts.WordExact.{word_takes, part_takes, part_again}
-use Rattle.do_sched.specs.declared.line.Line.TheVariants as line
-use Rattle.do_sched.specs.declared.version.Version.TheVariants.{Second}
-use Rattle.do_sched.specs.Reading.{values_at}
-use Rattle.do_sched.specs.Spelling.{footer, spaced_value}
-use Rattle.do_sched.proofs.LineWithoutFeed.{no_feed}
+use Rattle.do_sched.specs.{declared.version.Version.TheVariants.Second, Reading.values_at}
+use Rattle.do_sched.{specs.Spelling.{footer, spaced_value}, proofs.LineWithoutFeed.no_feed}
 use Rattle.do_sched.proofs.ValuesExact.{values_takes, values_again, spaced_value_first}
 use Rattle.do_plan.specs.declared.starts.StartLine.{StartLine}
 use Rattle.do_plan.specs.declared.starts.StartLine.TheVariants.{Start, Serve, Until, Leave}
-use Rattle.do_plan.specs.Reading.{Reads}
-use Rattle.do_plan.specs.Starts.{start_spelling, IsSent, IsStartLine, starts_form, count_at}
-use Rattle.do_plan.specs.Starts.{sent_at, start_form_at, start_at}
+use Rattle.do_plan.specs.{Reading.Reads, Starts.{start_spelling, IsSent, IsStartLine, starts_form}}
+use Rattle.do_plan.specs.Starts.{count_at, sent_at, start_form_at, start_at}
 use Rattle.do_plan.proofs.WordChoice.{by_word, feed_free, numbered_free, Without-behind}
 
 -- what a line's text tells

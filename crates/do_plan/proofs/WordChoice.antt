@@ -1,13 +1,9 @@
 -- Choices by a first word, and words without a byte.
 use Rattle.std.proofs.Common.{◌≡◌, ℕ, ◌<◌, ◌^◌, Bool, true, false, cond, List as Listed, [], ◌∷◌}
 use Rattle.std.proofs.Common.{◌++◌, Option, Some, refl, arith}
-use Rattle.std.specs.Prelude.{not, ◌==◌}
-use Rattle.std.specs.List.{list_all}
-use Rattle.std.specs.Fmt.{decimal}
-use Rattle.std.specs.Str.{bytes_eq}
+use Rattle.std.specs.{Prelude.{not, ◌==◌}, List.list_all, Fmt.decimal, Str.bytes_eq}
 use Rattle.std.proofs.lemmas.Slice.Eq.{bytes_eq-Decides}
-use Rattle.do_grammar.specs.Words.{Without}
-use Rattle.do_grammar.proofs.texts.WordBytes.{Without-passes, Without-append}
+use Rattle.do_grammar.{specs.Words.Without, proofs.texts.WordBytes.{Without-passes, Without-append}}
 use Rattle.do_grammar.proofs.texts.IntExact.{Without-decimal}
 use Rattle.do_plan.specs.Reading.{on_word}
 

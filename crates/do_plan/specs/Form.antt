@@ -1,12 +1,10 @@
 -- Texts of lines between a first line and `end`: which bytes are one, and which line of other bytes
 -- is at fault.
-use Rattle.std.specs.Prelude.{◌≡◌, ◌≢◌, ℕ, ◌+◌, ◌<◌, ◌≤◌, List as Listed, [], ◌∷◌, ◌++◌, length}
-use Rattle.std.specs.Prelude.{map}
-use Rattle.std.specs.List.{flat_map, AllByRecursion}
-use Rattle.do_grammar.specs.Lines.{cut}
 use Rattle.do_grammar.specs.Lines as text
-use Rattle.do_sched.specs.Spelling.{fed, footer}
-use Rattle.do_sched.specs.Schedule.{whole}
+use Rattle.std.specs.Prelude.{◌≡◌, ◌≢◌, ℕ, ◌+◌, ◌<◌, ◌≤◌, List as Listed, [], ◌∷◌, ◌++◌, length}
+use Rattle.std.specs.{Prelude.map, List.{flat_map, AllByRecursion}}
+use Rattle.do_grammar.specs.Lines.{cut}
+use Rattle.do_sched.specs.{Spelling.{fed, footer}, Schedule.whole}
 use Rattle.do_sched.specs.declared.fault.SchedFault.{SchedFault}
 use Rattle.do_sched.specs.declared.fault.SchedFault.TheVariants.{BadLine, TooMany, NoEnd, Memory}
 

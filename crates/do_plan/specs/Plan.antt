@@ -1,16 +1,11 @@
 -- The lines of plans: how they are spelled, which are good, and which one a text spells.
-use Rattle.std.specs.Prelude.{ℕ, ◌≤◌, ◌^◌, Bool, List as Listed, ◌∷◌, ◌++◌, IsTrue, codes}
-use Rattle.std.specs.Prelude.{Option, Some, None, if◌then◌else◌, not, ◌&&◌, ◌||◌, nat_eq}
-use Rattle.std.specs.List.{list_any}
+use Rattle.std.specs.Prelude.{ℕ, ◌≤◌, ◌^◌, Bool, List as Listed, ◌∷◌, ◌++◌, IsTrue, codes, Option}
+use Rattle.std.specs.{Prelude.{Some, None, if◌then◌else◌, not, ◌&&◌, ◌||◌, nat_eq}, List.list_any}
 use Rattle.std.specs.Fmt.{decimal}
 use Rattle.do_cli.specs.Forms.{names_file, names_builtin}
-use Rattle.do_grammar.specs.Dec.{dec_in}
-use Rattle.do_grammar.specs.Words.{◌>>?◌, word}
-use Rattle.do_sched.specs.Good.{IsPort}
-use Rattle.do_sched.specs.Reading.{port_at}
-use Rattle.do_plan.specs.declared.plan.PlanLine.{PlanLine}
-use Rattle.do_plan.specs.Form.{Form}
-use Rattle.do_plan.specs.Reading.{on_word}
+use Rattle.do_grammar.specs.{Dec.dec_in, Words.{◌>>?◌, word}}
+use Rattle.do_sched.specs.{Good.IsPort, Reading.port_at}
+use Rattle.do_plan.specs.{declared.plan.PlanLine.PlanLine, Form.Form, Reading.on_word}
 
 -- ---- what a plan is
 

@@ -1,11 +1,9 @@
 -- What it is to read the lines of a text, and what an answer says of the bytes.
-use Rattle.std.specs.Prelude.{◌≡◌, ℕ, false, List as Listed, Option, Some, None, Result, Ok, Err}
-use Rattle.std.specs.Prelude.{if◌then◌else◌}
-use Rattle.std.specs.Str.{bytes_eq}
 use Rattle.do_grammar.specs.Lines as text
+use Rattle.std.specs.Prelude.{◌≡◌, ℕ, false, List as Listed, Option, Some, None, Result, Ok, Err}
+use Rattle.std.specs.{Prelude.if◌then◌else◌, Str.bytes_eq}
 use Rattle.do_grammar.specs.Words.{Without}
-use Rattle.do_sched.specs.Spelling.{footer}
-use Rattle.do_sched.specs.declared.fault.SchedFault.{SchedFault}
+use Rattle.do_sched.specs.{Spelling.footer, declared.fault.SchedFault.SchedFault}
 use Rattle.do_sched.specs.declared.fault.SchedFault.TheVariants.{Memory}
 use Rattle.do_plan.specs.Form.{Form, IsText, IsFault}
 

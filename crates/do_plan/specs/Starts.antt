@@ -1,21 +1,12 @@
 -- The lines of starts: how they are spelled, which are good, and which one a text spells.
-use Rattle.std.specs.Prelude.{◌≡◌, ℕ, ◌<◌, ◌^◌, List as Listed, ◌++◌, length, IsTrue, codes}
-use Rattle.std.specs.Prelude.{Option, Some, None, if◌then◌else◌}
-use Rattle.std.specs.List.{flat_map, AllByRecursion}
-use Rattle.std.specs.Fmt.{decimal}
-use Rattle.std.specs.Str.{bytes_eq}
-use Rattle.do_base.specs.declared.values.value.Value.{Value}
-use Rattle.do_base.specs.values.Texts.{longest_text}
-use Rattle.do_grammar.specs.Dec.{dec_in}
-use Rattle.do_grammar.specs.Names.{is_selector, colons}
-use Rattle.do_grammar.specs.Words.{◌>>?◌, word, part}
-use Rattle.do_sched.specs.Good.{IsPlain}
-use Rattle.do_sched.specs.Reading.{values_at}
-use Rattle.do_sched.specs.Spelling.{spaced_value}
-use Rattle.do_plan.specs.declared.starts.StartLine.{StartLine}
-use Rattle.do_plan.specs.declared.starts.StartLine.TheVariants.{Start, Serve, Until, Leave}
-use Rattle.do_plan.specs.Form.{Form}
-use Rattle.do_plan.specs.Reading.{on_word}
+use Rattle.std.specs.Prelude.{◌≡◌, ℕ, ◌<◌, ◌^◌, List as Listed, ◌++◌, length, IsTrue, codes, Option}
+use Rattle.std.specs.{Prelude.{Some, None, if◌then◌else◌}, List.{flat_map, AllByRecursion}}
+use Rattle.std.specs.{Fmt.decimal, Str.bytes_eq}
+use Rattle.do_base.specs.{declared.values.value.Value.Value, values.Texts.longest_text}
+use Rattle.do_grammar.specs.{Dec.dec_in, Names.{is_selector, colons}, Words.{◌>>?◌, word, part}}
+use Rattle.do_sched.specs.{Good.IsPlain, Reading.values_at, Spelling.spaced_value}
+use Rattle.do_plan.specs.declared.starts.StartLine.{StartLine, TheVariants.{Start, Serve, Until}}
+use Rattle.do_plan.specs.{declared.starts.StartLine.TheVariants.Leave, Form.Form, Reading.on_word}
 
 -- ---- what starts are
 

@@ -1,5 +1,4 @@
-ghost use Rattle.std.specs.Prelude.{◌≡◌, ℕ, IfOk, List as Listed};
-ghost use Rattle.std.specs.declared.option.Option.{Option};
+ghost use Rattle.std.specs.{Prelude.{◌≡◌, ℕ, IfOk, List as Listed}, declared.option.Option.Option};
 ghost use Rattle.do_plan.specs.Form.{Form};
 
 use std::alloc::{AllocError, Global};

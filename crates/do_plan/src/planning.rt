@@ -1,12 +1,10 @@
+ghost use Rattle.do_sched.specs.declared.fault.SchedFault as fault;
+ghost use Rattle.do_plan.specs.declared.plan.PlanLine as line;
 ghost use Rattle.std.specs.Prelude.{◌≡◌, List as Listed, Ok, Err, IfOk};
 ghost use Rattle.do_cli.specs.Forms.{names_file, names_builtin};
-ghost use Rattle.do_sched.specs.declared.fault.SchedFault as fault;
 ghost use Rattle.do_sched.specs.Answers.{AnswersWith};
-ghost use Rattle.do_plan.specs.declared.plan.PlanLine as line;
-ghost use Rattle.do_plan.specs.Form.{IsText, IsFault};
-ghost use Rattle.do_plan.specs.Reading.{Tells};
-ghost use Rattle.do_plan.specs.Plan.{is_one_word, is_file, is_world, served_at, node_at, plan_at};
-ghost use Rattle.do_plan.specs.Plan.{plan_form};
+ghost use Rattle.do_plan.specs.{Form.{IsText, IsFault}, Reading.Tells, Plan.{is_one_word, is_file}};
+ghost use Rattle.do_plan.specs.Plan.{is_world, served_at, node_at, plan_at, plan_form};
 ghost use Rattle.do_grammar.specs.Words.{word, ◌>>?◌};
 
 use crate::form::LineForm;

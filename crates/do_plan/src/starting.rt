@@ -1,9 +1,8 @@
-ghost use Rattle.std.specs.Prelude.{◌≡◌, List as Listed, Ok, Err, IfOk};
 ghost use Rattle.do_sched.specs.declared.fault.SchedFault as fault;
-ghost use Rattle.do_sched.specs.Answers.{AnswersWith};
 ghost use Rattle.do_plan.specs.declared.starts.StartLine as line;
-ghost use Rattle.do_plan.specs.Form.{IsText, IsFault};
-ghost use Rattle.do_plan.specs.Reading.{Tells};
+ghost use Rattle.std.specs.Prelude.{◌≡◌, List as Listed, Ok, Err, IfOk};
+ghost use Rattle.do_sched.specs.Answers.{AnswersWith};
+ghost use Rattle.do_plan.specs.{Form.{IsText, IsFault}, Reading.Tells};
 ghost use Rattle.do_plan.specs.Starts.{count_at, sent_at, start_form_at, start_at, starts_form};
 
 use crate::form::LineForm;

@@ -1,9 +1,8 @@
 -- Chains of cells, and what a change elsewhere leaves of them.
-use Rattle.std.proofs.Common.{◌≡◌, ◌≢◌, ℕ, zero, suc, ◌+◌, ◌<◌, ◌≤◌}
-use Rattle.std.proofs.Common.{cond, eqb, eq-eqb, ne_eqb, List, [], ◌∷◌, ◌++◌, length, map, get_or}
-use Rattle.std.proofs.Common.{set, Option, Some, None, refl, sym, ap, ◌∙◌, subst, arith}
-use Rattle.do_pool.specs.Lines.{walk, Linked, Chain}
-use Rattle.do_pool.specs.declared.line.Cell.{Cell}
+use Rattle.std.proofs.Common.{◌≡◌, ◌≢◌, ℕ, zero, suc, ◌+◌, ◌<◌, ◌≤◌, cond, eqb, eq-eqb, ne_eqb}
+use Rattle.std.proofs.Common.{List, [], ◌∷◌, ◌++◌, length, map, get_or, set, Option, Some, None}
+use Rattle.std.proofs.Common.{refl, sym, ap, ◌∙◌, subst, arith}
+use Rattle.do_pool.specs.{Lines.{walk, Linked, Chain}, declared.line.Cell.Cell}
 
 -- a function changed at one number
 abbrev pub put : {A : Type 0} → ℕ → A → (ℕ → A) → ℕ → A

@@ -1,14 +1,9 @@
 -- Regions with no cell.
-use Rattle.std.proofs.Common.{◌≡◌, ℕ, zero, suc, ◌<◌}
-use Rattle.std.proofs.Common.{List, [], ◌∷◌, map, sum_by}
-use Rattle.std.proofs.Common.{Option, refl, sym, ap, ◌∙◌}
-use Rattle.std.proofs.Common.{arith, replicate}
-use Rattle.std.proofs.lemmas.List.{length-replicate, get_or-replicate}
-use Rattle.std.proofs.lemmas.List.Sums.{sum_by-cons}
+use Rattle.std.proofs.Common.{◌≡◌, ℕ, zero, suc, ◌<◌, List, [], ◌∷◌, map, sum_by, Option, refl, sym}
+use Rattle.std.proofs.Common.{ap, ◌∙◌, arith, replicate}
+use Rattle.std.proofs.lemmas.List.{length-replicate, get_or-replicate, Sums.sum_by-cons}
 use Rattle.slab.specs.Slab.{Slab, slab_len}
-use Rattle.do_pool.specs.Lines.{items_of, Sound}
-use Rattle.do_pool.specs.declared.line.Cell.{Cell}
-use Rattle.do_pool.specs.declared.line.Line.{Line}
+use Rattle.do_pool.specs.{Lines.{items_of, Sound}, declared.line.{Cell.Cell, Line.Line}}
 
 -- empty lines have no cell in all
 sum_by-none : (n : ℕ)

@@ -1,18 +1,13 @@
 -- Putting a cell behind the last one of a queue in a sound region.
-use Rattle.std.proofs.Common.{◌≡◌, ◌≢◌, ℕ, zero, suc, ◌+◌, ◌<◌, ◌≤◌}
-use Rattle.std.proofs.Common.{List, [], ◌∷◌, ◌++◌, length, map, get_or, set}
-use Rattle.std.proofs.Common.{Option, Some, None, IsSome, refl, sym, ap, ◌∙◌, subst}
-use Rattle.std.proofs.Common.{arith, slice_get}
+use Rattle.std.proofs.Common.{◌≡◌, ◌≢◌, ℕ, zero, suc, ◌+◌, ◌<◌, ◌≤◌, List, [], ◌∷◌, ◌++◌, length}
+use Rattle.std.proofs.Common.{map, get_or, set, Option, Some, None, IsSome, refl, sym, ap, ◌∙◌}
+use Rattle.std.proofs.Common.{subst, arith, slice_get}
 use Rattle.slab.specs.Slab.{Slab, get, slab_len, Updates, ContainsKey}
-use Rattle.do_pool.specs.Lines.{walk, items_of, Linked, Chain, Sound}
-use Rattle.do_pool.specs.declared.line.Cell.{Cell}
-use Rattle.do_pool.specs.declared.line.Line.{Line}
-use Rattle.do_pool.proofs.Chains.{put, put_same, put_other, Posted}
-use Rattle.do_pool.proofs.Chains.{chain-last, chain-posted, walk-posted}
-use Rattle.do_pool.proofs.Chains.{walk_here, not_fresh}
+use Rattle.do_pool.specs.{Lines.{walk, items_of, Linked, Chain, Sound}, declared.line.Cell.Cell}
+use Rattle.do_pool.{specs.declared.line.Line.Line, proofs.Chains.{put, put_same, put_other, Posted}}
+use Rattle.do_pool.proofs.Chains.{chain-last, chain-posted, walk-posted, walk_here, not_fresh}
 use Rattle.do_pool.proofs.Regions.{sum_by-member, Changes, sound-set, items-set, chain_of_line}
-use Rattle.do_pool.proofs.Regions.{found_key}
-use Rattle.do_pool.proofs.Regions.{slice_get-map}
+use Rattle.do_pool.proofs.Regions.{found_key, slice_get-map}
 
 -- a cell that was not there joins a queue
 abbrev pub placed_at : (ℕ → ℕ × ℕ) → ℕ → ℕ → ℕ → ℕ → ℕ × ℕ

@@ -1,17 +1,12 @@
 -- Regions whose queues are sound, and what one change of a queue makes of them.
-use Rattle.std.proofs.Common.{◌≡◌, ◌≢◌, ℕ, zero, suc, ◌+◌, ◌<◌, ◌≤◌}
-use Rattle.std.proofs.Common.{List, [], ◌∷◌, length, map, get_or, set, sum_by}
-use Rattle.std.proofs.Common.{Option, Some, IsSome, refl, sym, ap, subst, inl, inr}
-use Rattle.std.proofs.Common.{arith, slice_get}
-use Rattle.std.proofs.lemmas.Bool.{cases_eq}
+use Rattle.std.proofs.Common.{◌≡◌, ◌≢◌, ℕ, zero, suc, ◌+◌, ◌<◌, ◌≤◌, List, [], ◌∷◌, length, map}
+use Rattle.std.proofs.Common.{get_or, set, sum_by, Option, Some, IsSome, refl, sym, ap, subst, inl}
+use Rattle.std.proofs.{Common.{inr, arith, slice_get}, lemmas.Bool.cases_eq}
 use Rattle.std.proofs.lemmas.List.{get_or-set_same, get_or-set_other, length-set, length-map}
 use Rattle.std.proofs.lemmas.List.Sums.{sum_by-set, sum_by-cons}
 use Rattle.slab.specs.Slab.{Slab, get, slab_len, ContainsKey}
-use Rattle.do_pool.specs.Lines.{items_of, Chain, Sound}
-use Rattle.do_pool.specs.declared.line.Cell.{Cell}
-use Rattle.do_pool.specs.declared.line.Line.{Line}
-use Rattle.do_pool.proofs.Chains.{Keeps, chain-keeps, walk-keeps}
-use Rattle.do_pool.proofs.Chains.{map_retold}
+use Rattle.do_pool.specs.{Lines.{items_of, Chain, Sound}, declared.line.{Cell.Cell, Line.Line}}
+use Rattle.do_pool.proofs.Chains.{Keeps, chain-keeps, walk-keeps, map_retold}
 
 -- a member is at most the sum
 pub sum_by-member : {X : Type 0} (f : X → ℕ) (xs : List X) (i : ℕ) (d : X) → i < length xs

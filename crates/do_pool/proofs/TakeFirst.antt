@@ -1,15 +1,10 @@
 -- Taking the first cell of a queue out of a sound region.
-use Rattle.std.proofs.Common.{◌≡◌, ◌≢◌, ℕ, zero, suc, ◌+◌, ◌-◌, ◌<◌, ◌≤◌}
-use Rattle.std.proofs.Common.{List, ◌∷◌, length, map, get_or, set}
-use Rattle.std.proofs.Common.{Option, Some, None, refl, sym, ap, ◌∙◌, subst}
-use Rattle.std.proofs.Common.{arith}
+use Rattle.std.proofs.Common.{◌≡◌, ◌≢◌, ℕ, zero, suc, ◌+◌, ◌-◌, ◌<◌, ◌≤◌, List, ◌∷◌, length, map}
+use Rattle.std.proofs.Common.{get_or, set, Option, Some, None, refl, sym, ap, ◌∙◌, subst, arith}
 use Rattle.slab.specs.Slab.{Slab, get, slab_len, Updates}
-use Rattle.do_pool.specs.Lines.{walk, items_of, Linked, Chain, Sound}
-use Rattle.do_pool.specs.declared.line.Cell.{Cell}
-use Rattle.do_pool.specs.declared.line.Line.{Line}
-use Rattle.do_pool.proofs.Chains.{put, put_same, put_other, Keeps, chain-keeps, walk-keeps}
-use Rattle.do_pool.proofs.Chains.{chain-first, chain-rest}
-use Rattle.do_pool.proofs.Chains.{walk_here}
+use Rattle.do_pool.specs.{Lines.{walk, items_of, Linked, Chain, Sound}, declared.line.Cell.Cell}
+use Rattle.do_pool.{specs.declared.line.Line.Line, proofs.Chains.{put, put_same, put_other, Keeps}}
+use Rattle.do_pool.proofs.Chains.{chain-keeps, walk-keeps, chain-first, chain-rest, walk_here}
 use Rattle.do_pool.proofs.Regions.{Changes, sound-set, items-set, chain_of_line}
 
 -- one queue is named by both pairs

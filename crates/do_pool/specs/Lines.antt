@@ -1,10 +1,8 @@
 -- How queues lie in the region.
-use Rattle.std.specs.Prelude.{◌≡◌, ℕ, zero, suc, ◌+◌, ◌-◌, ◌<◌, List, [], ◌∷◌, Option, Some}
-use Rattle.std.specs.Prelude.{None, length, map, get_or, sum_by}
+use Rattle.std.specs.Prelude.{◌≡◌, ℕ, zero, suc, ◌+◌, ◌-◌, ◌<◌, List, [], ◌∷◌, Option, Some, None}
+use Rattle.std.specs.Prelude.{length, map, get_or, sum_by}
 use Rattle.slab.specs.Slab.{Slab, get, slab_len}
-use Rattle.do_pool.specs.Pool.{Pool}
-use Rattle.do_pool.specs.declared.line.Cell.{Cell}
-use Rattle.do_pool.specs.declared.line.Line.{Line}
+use Rattle.do_pool.specs.{Pool.Pool, declared.line.{Cell.Cell, Line.Line}}
 
 module _ {T : Type 0} where
   -- the items of so many cells, each led to by the one before

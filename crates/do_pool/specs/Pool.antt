@@ -1,6 +1,5 @@
 -- What a contract sees of `Cells`.
-use Rattle.std.specs.Prelude.{ℕ, List, refl}
-use Rattle.std.specs.Coded.{Coded, code_by, coded×, coded_ℕ, coded_list}
+use Rattle.std.specs.{Prelude.{ℕ, List, refl}, Coded.{Coded, code_by, coded×, coded_ℕ, coded_list}}
 
 -- the items of each queue, oldest first, and how many more fit with no memory taken
 pub record Pool (T : Type 0) : Type 0 where

@@ -1,12 +1,9 @@
 -- What a search by halves finds where numbers rise.
-use Rattle.std.proofs.Common.{◌≡◌, ◌==◌, ℕ, zero, suc, ◌≤◌, ◌<◌, true, false, List, [], ◌∷◌}
-use Rattle.std.proofs.Common.{Some, None, inl, inr, get_or, length, refl, ap}
-use Rattle.std.proofs.Common.{sym, subst, ◌∙◌, arith}
-use Rattle.std.specs.Prelude.{slice_get, slice_set}
-use Rattle.std.specs.List.{position, position_or_len}
+use Rattle.std.proofs.Common.{◌≡◌, ◌==◌, ℕ, zero, suc, ◌≤◌, ◌<◌, true, false, List, [], ◌∷◌, Some}
+use Rattle.std.proofs.Common.{None, inl, inr, get_or, length, refl, ap, sym, subst, ◌∙◌, arith}
+use Rattle.std.specs.{Prelude.{slice_get, slice_set}, List.{position, position_or_len}}
 use Rattle.std.specs.List.Sorted.{IsNonDecreasingBy}
-use Rattle.std.proofs.lemmas.Bool.{cases_lt, ltb-false, ltb-true}
-use Rattle.std.proofs.lemmas.List.Sums.{position_or_len_is}
+use Rattle.std.proofs.lemmas.{Bool.{cases_lt, ltb-false, ltb-true}, List.Sums.position_or_len_is}
 use Rattle.std.proofs.lemmas.Option.{get_or_from_slice_get, slice_get-get_or, slice_get_within}
 use Rattle.do_ported.specs.Rising.{IsHalved}
 

@@ -1,6 +1,5 @@
 -- Where numbers that rise are cut in two.
-use Rattle.std.specs.Prelude.{List, false, nat_lt, true, ℕ, ◌≡◌}
-use Rattle.std.specs.List.Sorted.{IsPartitionPoint}
+use Rattle.std.specs.{Prelude.{List, false, nat_lt, true, ℕ, ◌≡◌}, List.Sorted.IsPartitionPoint}
 
 -- a place behind all elements of numbers below one, and before all others
 abbrev pub IsHalved : {X : Type 0} → (X → ℕ) → ℕ → List X → ℕ → Type 0

@@ -1,7 +1,6 @@
 //! Ports in a list.
 ghost use Rattle.std.specs.Prelude.{◌≡◌, ◌==◌, ◌<◌, IfSome, IsTrue, length, position};
-ghost use Rattle.std.specs.List.{list_any, remove};
-ghost use Rattle.std.specs.List.Sorted.{IsNonDecreasing};
+ghost use Rattle.std.specs.List.{list_any, remove, Sorted.IsNonDecreasing};
 
 use crate::rising::place_of;
 use do_base::{NodeId, Peers};
@@ -18,8 +17,7 @@ pub struct Ports {
 }
 
 impl Model for Ports {
-    ghost use Rattle.std.specs.Prelude.{◌≡◌, List, true, ℕ};
-    ghost use Rattle.std.specs.List.Sorted.{IsNonDecreasing};
+    ghost use Rattle.std.specs.{Prelude.{◌≡◌, List, true, ℕ}, List.Sorted.IsNonDecreasing};
 
     ghost Value = { List ℕ };
 

@@ -1,35 +1,21 @@
 -- As long as all ends are open, what is asked for is stored, and no ask is refused.
+use Rattle.do_machine.specs.declared.item.Item.TheVariants as items
 use Rattle.std.proofs.Common.{◌≡◌, ◌∙◌, ℕ, true, false, List, [], ◌∷◌, refl, sym, ap, arith}
-use Rattle.std.specs.Prelude.{Some, nat_lt}
-use Rattle.std.specs.List.{flat_map, list_any}
+use Rattle.std.specs.{Prelude.{Some, nat_lt}, List.{flat_map, list_any}}
 use Rattle.std.proofs.lemmas.Bool.Decides.{nat_tests}
 use Rattle.do_base.specs.declared.events.event.Event.{Event}
-use Rattle.do_class.specs.Class.{Class}
-use Rattle.do_class.specs.declared.packet.Name.{Name}
+use Rattle.do_class.specs.{Class.Class, declared.packet.Name.Name}
 use Rattle.do_class.specs.declared.packet.Name.TheVariants.{Lent, Mine, Yours}
-use Rattle.do_machine.specs.declared.item.Item.{Item}
-use Rattle.do_machine.specs.declared.item.Item.TheVariants as items
-use Rattle.do_machine.specs.declared.node.Node.{Node}
-use Rattle.do_machine.specs.declared.node.Wanted.{Wanted}
-use Rattle.do_machine.specs.declared.state.Seat.{Seat}
-use Rattle.do_machine.specs.declared.state.State.{State}
-use Rattle.do_machine.specs.Lists.{some_passes}
-use Rattle.do_machine.specs.State.{node, queue}
-use Rattle.do_machine.specs.lend.Asking.{same_wanted}
-use Rattle.do_machine.specs.run.Run.{Acting}
-use Rattle.do_facts.specs.Made.{is_stored}
-use Rattle.do_facts.specs.Net.{total}
-use Rattle.do_facts.specs.Reached.{reached}
-use Rattle.do_facts.specs.View.{net_of, part_seen}
-use Rattle.do_facts.specs.links.Links.{atoms, links, name_atoms}
-use Rattle.do_facts.specs.links.Moves.{has_wanted}
-use Rattle.do_facts.proofs.links.EntriesAsNet.{queue_same}
-use Rattle.do_facts.proofs.links.EntriesStored.{stored_same}
+use Rattle.do_machine.specs.declared.{item.Item.Item, node.{Node.Node, Wanted.Wanted}}
+use Rattle.do_machine.specs.{declared.state.{Seat.Seat, State.State}, Lists.some_passes}
+use Rattle.do_machine.specs.{State.{node, queue}, lend.Asking.same_wanted, run.Run.Acting}
+use Rattle.do_facts.specs.{Made.is_stored, Net.total, Reached.reached, View.{net_of, part_seen}}
+use Rattle.do_facts.specs.links.{Links.{atoms, links, name_atoms}, Moves.has_wanted}
+use Rattle.do_facts.proofs.links.{EntriesAsNet.queue_same, EntriesStored.stored_same}
 use Rattle.do_facts.proofs.links.SameIsEqual.{wanted_itself}
 use Rattle.do_quiet.specs.Quiet.{AllEndsOpen, AsksAreGranted, is_gone}
 use Rattle.do_quiet.proofs.Backing.{all_in, asked_stored, gone_of}
-use Rattle.do_quiet.proofs.LendsKept.{StandsLent, first_ends, reached_stands}
-use Rattle.do_quiet.proofs.QuietStates.{reach}
+use Rattle.do_quiet.proofs.{LendsKept.{StandsLent, first_ends, reached_stands}, QuietStates.reach}
 
 -- the names of a message refuse nothing
 names_gone : (ns : List Name) → total gone_of (flat_map name_atoms ns) ≡ 0

@@ -1,31 +1,20 @@
 -- While no end closes, what is lent or asked for stays backed, whatever moves.
+use Rattle.do_facts.specs.links.Links as Atoms
 use Rattle.std.proofs.Common.{◌≡◌, ◌==◌, ◌⊎◌, ◌&&◌, ◌||◌, ℕ, Bool, true, false, cond, inl, inr}
-use Rattle.std.proofs.Common.{refl, sym, ap, ◌∙◌, subst, arith}
-use Rattle.std.specs.List.{list_any}
-use Rattle.std.proofs.lemmas.Bool.{eqb-true}
-use Rattle.std.proofs.lemmas.Bool.Decides.{nat_tests}
+use Rattle.std.{proofs.Common.{refl, sym, ap, ◌∙◌, subst, arith}, specs.List.list_any}
+use Rattle.std.proofs.lemmas.Bool.{eqb-true, Decides.nat_tests}
 use Rattle.do_base.specs.names.Names.{ObjectName}
 use Rattle.do_packet.specs.Met.{has_object, same_object}
-use Rattle.do_machine.specs.Objects.{object_at}
-use Rattle.do_machine.specs.lend.Asking.{wanted}
-use Rattle.do_machine.proofs.Bools.{or_right}
-use Rattle.do_facts.specs.Net.{Net, StandFirst}
-use Rattle.do_facts.specs.links.Facts.{asked_in}
-use Rattle.do_facts.specs.links.Links as Atoms
-use Rattle.do_facts.specs.links.Links.{Atom, Links}
+use Rattle.do_machine.{specs.{Objects.object_at, lend.Asking.wanted}, proofs.Bools.or_right}
+use Rattle.do_facts.specs.{Net.{Net, StandFirst}, links.{Facts.asked_in, Links.{Atom, Links}}}
 use Rattle.do_facts.specs.links.Moves.{Asks, Lends, Move, has_wanted, is_in_use, may, may_name}
 use Rattle.do_facts.specs.links.Moves.{moved, note, opens, takes}
-use Rattle.do_facts.proofs.FirstOnWire.{first_of}
-use Rattle.do_facts.proofs.Nets.{part_here}
-use Rattle.do_facts.proofs.links.Acts.{IsAct}
-use Rattle.do_facts.proofs.links.ListsChanged.{asked_more}
-use Rattle.do_facts.proofs.links.PlainMoves.{other}
-use Rattle.do_facts.proofs.links.SameIsEqual.{object_is}
+use Rattle.do_facts.proofs.{FirstOnWire.first_of, Nets.part_here, links.Acts.IsAct}
+use Rattle.do_facts.proofs.links.{ListsChanged.asked_more, PlainMoves.other, SameIsEqual.object_is}
 use Rattle.do_quiet.proofs.Backing.{AllReach, Backed, Borrows, EachBacked, Holds as Held, NoGone}
 use Rattle.do_quiet.proofs.Backing.{StandsBacked, asked_lent, backed_kept, held_in, out_used}
-use Rattle.do_quiet.proofs.Backing.{used_in}
-use Rattle.do_quiet.proofs.CalmLinks.{Begins, IsCalm, part_asked, part_held, part_used}
-use Rattle.do_quiet.proofs.NoneRefused.{after, calm, none_after, was_open}
+use Rattle.do_quiet.proofs.{Backing.used_in, CalmLinks.{Begins, IsCalm, part_asked, part_held}}
+use Rattle.do_quiet.proofs.{CalmLinks.part_used, NoneRefused.{after, calm, none_after, was_open}}
 
 module _ (ends : ℕ → ℕ → Bool) (net : Net Links Atom) (x : ℕ) (f : StandsBacked ends net) where
   -- the part of the node

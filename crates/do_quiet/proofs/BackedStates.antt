@@ -1,33 +1,19 @@
 -- Every step keeps what is lent or asked for backed, while no end closes.
-use Rattle.std.proofs.Common.{◌≡◌, ◌==◌, ℕ, Bool, true, false, cond, List, []}
-use Rattle.std.proofs.Common.{inr, refl, sym, ap, ◌∙◌, subst, arith}
-use Rattle.std.specs.Prelude.{Some}
-use Rattle.std.proofs.lemmas.Bool.{eqb-true}
+use Rattle.std.proofs.Common.{◌≡◌, ◌==◌, ℕ, Bool, true, false, cond, List, [], inr, refl, sym, ap}
+use Rattle.std.{proofs.Common.{◌∙◌, subst, arith}, specs.Prelude.Some, proofs.lemmas.Bool.eqb-true}
 use Rattle.std.proofs.lemmas.Bool.Decides.{nat_tests}
 use Rattle.do_packet.specs.Met.{has_object}
-use Rattle.do_machine.specs.Context.{around}
-use Rattle.do_machine.specs.Objects.{object_at}
-use Rattle.do_machine.specs.State.{node}
-use Rattle.do_machine.specs.declared.node.Node.{Node}
-use Rattle.do_machine.specs.declared.node.Stored.{Stored}
-use Rattle.do_machine.specs.declared.state.State.{State}
-use Rattle.do_machine.specs.held.Kept.{kept}
+use Rattle.do_machine.specs.{Context.around, Objects.object_at, State.node, declared.node.Node.Node}
+use Rattle.do_machine.specs.{declared.{node.Stored.Stored, state.State.State}, held.Kept.kept}
 use Rattle.do_machine.specs.lend.Asking.{wanted}
 use Rattle.do_facts.specs.Moves.{Happening, Happens, Keeps, Lost, Moved, net_then}
-use Rattle.do_facts.specs.Net.{Net, StandFirst, net_after}
-use Rattle.do_facts.specs.View.{net_of, part_seen}
-use Rattle.do_facts.specs.links.Links.{Atom, Links, links, links_of}
-use Rattle.do_facts.specs.links.Moves.{Move, Strikes, has_wanted, is_in_use, is_there, opens}
-use Rattle.do_facts.specs.links.Moves.{stores}
-use Rattle.do_facts.proofs.Notes.{total-append}
-use Rattle.do_facts.proofs.links.Acts.{act_rules}
-use Rattle.do_facts.proofs.links.EntriesKept.{entries_keep}
-use Rattle.do_facts.proofs.links.EntriesStored.{frees_entries}
-use Rattle.do_facts.proofs.links.HeapsGrow.{kept_before}
-use Rattle.do_facts.proofs.links.ReachedLinks.{AllSound, sound_keeps}
-use Rattle.do_facts.proofs.links.StepsByActs.{freed}
-use Rattle.do_quiet.proofs.BackedMoves.{backed_moved}
-use Rattle.do_quiet.proofs.Backing.{AllReach, EachBacked, NoGone}
+use Rattle.do_facts.specs.{Net.{Net, StandFirst, net_after}, View.{net_of, part_seen}}
+use Rattle.do_facts.specs.links.{Links.{Atom, Links, links, links_of}, Moves.{Move, Strikes}}
+use Rattle.do_facts.specs.links.Moves.{has_wanted, is_in_use, is_there, opens, stores}
+use Rattle.do_facts.proofs.{Notes.total-append, links.{Acts.act_rules, EntriesKept.entries_keep}}
+use Rattle.do_facts.proofs.links.{EntriesStored.frees_entries, HeapsGrow.kept_before}
+use Rattle.do_facts.proofs.links.{ReachedLinks.{AllSound, sound_keeps}, StepsByActs.freed}
+use Rattle.do_quiet.proofs.{BackedMoves.backed_moved, Backing.{AllReach, EachBacked, NoGone}}
 use Rattle.do_quiet.proofs.Backing.{StandsBacked, asked_lent, backed_kept}
 use Rattle.do_quiet.proofs.EndsWithin.{IsWithin, within_keeps}
 

@@ -2,23 +2,15 @@
 -- for under, and so on.
 use Rattle.std.proofs.Common.{◌≡◌, ◌≢◌, ◌⊎◌, ◌<◌, ◌||◌, ℕ, Bool, true, false, List, [], ◌∷◌, inl}
 use Rattle.std.proofs.Common.{inr, refl, sym, ap, ◌∙◌, subst, arith}
-use Rattle.std.specs.Prelude.{All}
-use Rattle.std.specs.List.{list_any}
-use Rattle.std.proofs.lemmas.Bool.Decides.{nat_tests}
+use Rattle.std.{specs.{Prelude.All, List.list_any}, proofs.lemmas.Bool.Decides.nat_tests}
 use Rattle.std.proofs.lemmas.List.Elements.{All-cons, All-head, All-nil, All-tail}
 use Rattle.do_packet.specs.Met.{has_object, same_object}
-use Rattle.do_machine.specs.Objects.{object_at}
-use Rattle.do_machine.specs.declared.node.Lend.{Lend}
-use Rattle.do_machine.specs.declared.node.Wanted.{Wanted}
-use Rattle.do_machine.specs.lend.Asking.{same_wanted, wanted}
-use Rattle.do_machine.proofs.Bools.{or_left, or_right}
-use Rattle.do_facts.specs.Net.{Net, total}
-use Rattle.do_facts.specs.links.Facts.{LinksHold, asked_in, is_lent_to, lend_out, lent_in, open_in}
-use Rattle.do_facts.specs.links.Links.{Atom, Gone, Links}
-use Rattle.do_facts.specs.links.Moves.{is_in_use, stores}
-use Rattle.do_facts.proofs.links.EntriesKept.{EntriesHold}
-use Rattle.do_facts.proofs.links.ReachedLinks.{AllSound}
-use Rattle.do_facts.proofs.links.SameIsEqual.{wanted_is}
+use Rattle.do_machine.specs.{Objects.object_at, declared.node.{Lend.Lend, Wanted.Wanted}}
+use Rattle.do_machine.{specs.lend.Asking.{same_wanted, wanted}, proofs.Bools.{or_left, or_right}}
+use Rattle.do_facts.specs.{Net.{Net, total}, links.Facts.{LinksHold, asked_in, is_lent_to}}
+use Rattle.do_facts.specs.links.{Facts.{lend_out, lent_in, open_in}, Links.{Atom, Gone, Links}}
+use Rattle.do_facts.{specs.links.Moves.{is_in_use, stores}, proofs.links.EntriesKept.EntriesHold}
+use Rattle.do_facts.proofs.links.{ReachedLinks.AllSound, SameIsEqual.wanted_is}
 use Rattle.do_quiet.proofs.EndsWithin.{IsWithin}
 
 -- a node holds a home's object

@@ -1,25 +1,18 @@
 -- While no end closes, a move takes no reason away for which an object is held along its lends.
 use Rattle.std.proofs.Common.{◌≡◌, ◌⊎◌, ◌||◌, ◌++◌, ℕ, Bool, true, false, cond, not, List, [], ◌∷◌}
-use Rattle.std.proofs.Common.{inl, inr, filter, refl, sym, ap, ◌∙◌, arith}
-use Rattle.std.specs.List.{list_any}
-use Rattle.std.proofs.lemmas.Bool.Decides.{nat_tests}
-use Rattle.std.proofs.lemmas.List.Folds.{list_any-append}
+use Rattle.std.{proofs.Common.{inl, inr, filter, refl, sym, ap, ◌∙◌, arith}, specs.List.list_any}
+use Rattle.std.proofs.lemmas.{Bool.Decides.nat_tests, List.Folds.list_any-append}
 use Rattle.std.proofs.lemmas.List.Sorted.{list_any-IsPermutation}
 use Rattle.do_base.specs.names.Names.{ObjectName, TokenName}
 use Rattle.do_packet.specs.Met.{has_object, same_object}
-use Rattle.do_machine.specs.Lists.{inserted}
-use Rattle.do_machine.specs.Objects.{object_at}
-use Rattle.do_machine.specs.declared.node.Lend.{Lend}
+use Rattle.do_machine.specs.{Lists.inserted, Objects.object_at, declared.node.Lend.Lend}
 use Rattle.do_machine.specs.declared.node.Wanted.{Wanted}
-use Rattle.do_machine.specs.lend.Asking.{same_wanted, wanted, wanted_lt}
-use Rattle.do_machine.specs.lend.Lending.{is_lend}
+use Rattle.do_machine.specs.lend.{Asking.{same_wanted, wanted, wanted_lt}, Lending.is_lend}
 use Rattle.do_machine.proofs.Inserting.{inserted_moves}
-use Rattle.do_facts.specs.links.Links.{Links}
-use Rattle.do_facts.specs.links.Moves.{Asks, Closes, Ends, GivesUp, Holds, Leaves, Lends, Misses}
-use Rattle.do_facts.specs.links.Moves.{Move, Receives, Refuses, Settles, Strikes, has_wanted}
-use Rattle.do_facts.specs.links.Moves.{is_in_use, may, moved, next_lend}
-use Rattle.do_facts.proofs.OnceInLists.{still_there}
-use Rattle.do_facts.proofs.links.HeldChanged.{held_more}
+use Rattle.do_facts.specs.links.{Links.Links, Moves.{Asks, Closes, Ends, GivesUp, Holds, Leaves}}
+use Rattle.do_facts.specs.links.Moves.{Lends, Misses, Move, Receives, Refuses, Settles, Strikes}
+use Rattle.do_facts.specs.links.Moves.{has_wanted, is_in_use, may, moved, next_lend}
+use Rattle.do_facts.proofs.{OnceInLists.still_there, links.HeldChanged.held_more}
 use Rattle.do_facts.proofs.links.ListsChanged.{asked_less, asked_more, is_ask}
 use Rattle.do_facts.proofs.links.SameIsEqual.{object_is}
 

@@ -1,28 +1,17 @@
 -- A move that changes no end and sends none leaves all ends open.
-use Rattle.std.proofs.Common.{◌≡◌, ◌==◌, ◌||◌, ◌++◌, ◌∙◌, ℕ, Bool, true, false, cond, not}
-use Rattle.std.proofs.Common.{List, [], ◌∷◌, refl, sym, ap, map, filter}
-use Rattle.std.specs.Prelude.{None, Option, Some, unwrap_or}
-use Rattle.std.specs.List.{list_any}
-use Rattle.std.proofs.lemmas.Bool.{eqb-true}
-use Rattle.std.proofs.lemmas.List.Folds.{list_any-append}
+use Rattle.do_machine.specs.declared.item.Item.TheVariants as items
+use Rattle.std.proofs.Common.{◌≡◌, ◌==◌, ◌||◌, ◌++◌, ◌∙◌, ℕ, Bool, true, false, cond, not, List, []}
+use Rattle.std.proofs.Common.{◌∷◌, refl, sym, ap, map, filter}
+use Rattle.std.specs.{Prelude.{None, Option, Some, unwrap_or}, List.list_any}
+use Rattle.std.proofs.lemmas.{Bool.eqb-true, List.Folds.list_any-append}
 use Rattle.do_base.specs.names.Names.{ObjectName}
 use Rattle.do_packet.specs.Met.{has_object}
-use Rattle.do_machine.specs.declared.item.Item.{Item}
-use Rattle.do_machine.specs.declared.item.Item.TheVariants as items
-use Rattle.do_machine.specs.declared.node.Node.{Node}
-use Rattle.do_machine.specs.declared.state.Effect.{Effect}
-use Rattle.do_machine.specs.declared.state.Parcel.{Parcel}
-use Rattle.do_machine.specs.declared.state.State.{State}
-use Rattle.do_machine.specs.Commit.{commit, items_to, moved}
-use Rattle.do_machine.specs.Context.{around}
-use Rattle.do_machine.specs.State.{node, queue}
-use Rattle.do_machine.specs.held.Kept.{kept}
-use Rattle.do_machine.specs.held.Leaving.{freeing, leaving, left}
-use Rattle.do_machine.specs.held.Refers.{node_objects}
-use Rattle.do_facts.proofs.machine.Queues.{grows_behind}
-use Rattle.do_facts.proofs.machine.passing.NoQueue.{stays_none}
-use Rattle.do_facts.proofs.machine.passing.Quiet.{NoneReleases}
-use Rattle.do_facts.proofs.machine.follows.Steady.{is_end, is_release}
+use Rattle.do_machine.specs.declared.{item.Item.Item, node.Node.Node, state.Effect.Effect}
+use Rattle.do_machine.specs.declared.state.{Parcel.Parcel, State.State}
+use Rattle.do_machine.specs.{Commit.{commit, items_to, moved}, Context.around, State.{node, queue}}
+use Rattle.do_machine.specs.held.{Kept.kept, Leaving.{freeing, leaving, left}, Refers.node_objects}
+use Rattle.do_facts.proofs.machine.{Queues.grows_behind, passing.NoQueue.stays_none}
+use Rattle.do_facts.proofs.machine.{passing.Quiet.NoneReleases, follows.Steady.{is_end, is_release}}
 use Rattle.do_facts.proofs.steps.OthersStay.{move_leaves_others, move_leaves_own}
 use Rattle.do_facts.proofs.steps.QueuesOfSteps.{move_leaves_queues}
 use Rattle.do_quiet.specs.Quiet.{AllEndsOpen}

@@ -1,33 +1,21 @@
 -- An event that closes nothing and loses nothing leaves all ends open.
-use Rattle.std.proofs.Common.{◌≡◌, ◌==◌, ◌&&◌, ◌||◌, ◌∙◌, ℕ, Bool, true, false, cond, not}
-use Rattle.std.proofs.Common.{List, [], ◌∷◌, refl, sym, ap, drop}
+use Rattle.std.proofs.Common.{◌≡◌, ◌==◌, ◌&&◌, ◌||◌, ◌∙◌, ℕ, Bool, true, false, cond, not, List, []}
+use Rattle.std.proofs.Common.{◌∷◌, refl, sym, ap, drop}
 use Rattle.std.specs.Prelude.{None, Option, Some, option_and_then, slice_get, unwrap_or}
-use Rattle.std.specs.List.{list_any}
-use Rattle.std.proofs.lemmas.Bool.{eqb-true}
+use Rattle.std.{specs.List.list_any, proofs.lemmas.Bool.eqb-true}
 use Rattle.do_base.specs.declared.events.event.Event.{Event}
 use Rattle.do_base.specs.declared.events.event.Event.TheVariants.{Check, Run, Start, Take, Timeout}
 use Rattle.do_class.specs.Class.{Class}
-use Rattle.do_machine.specs.declared.item.Item.{Item}
-use Rattle.do_machine.specs.declared.node.Node.{Node}
-use Rattle.do_machine.specs.declared.state.Effect.{Effect}
-use Rattle.do_machine.specs.declared.state.State.{State}
-use Rattle.do_machine.specs.declared.state.Stepped.{Stepped}
-use Rattle.do_machine.specs.Commit.{moved, skipped}
-use Rattle.do_machine.specs.Context.{context}
-use Rattle.do_machine.specs.Items.{exported}
-use Rattle.do_machine.specs.Start.{start_effect}
-use Rattle.do_machine.specs.State.{change, node, queue, with_queue}
-use Rattle.do_machine.specs.Step.{moved_by, step}
-use Rattle.do_machine.specs.ends.TimeOut.{time_out}
-use Rattle.do_machine.specs.run.Run.{Acting, run_effect}
+use Rattle.do_machine.specs.declared.{item.Item.Item, node.Node.Node, state.Effect.Effect}
+use Rattle.do_machine.specs.{declared.state.{State.State, Stepped.Stepped}, Commit.{moved, skipped}}
+use Rattle.do_machine.specs.{Context.context, Items.exported, Start.start_effect}
+use Rattle.do_machine.specs.{State.{change, node, queue, with_queue}, Step.{moved_by, step}}
+use Rattle.do_machine.specs.{ends.TimeOut.time_out, run.Run.{Acting, run_effect}}
 use Rattle.do_machine.specs.take.Take.{can_take, holding, take_effect}
-use Rattle.do_facts.proofs.machine.follows.States.{requeued}
-use Rattle.do_facts.proofs.machine.follows.Steady.{is_end}
-use Rattle.do_facts.proofs.machine.passing.Lookups.{that_changed}
-use Rattle.do_facts.proofs.machine.passing.Quiet.{Quiet, arrival_quiet, rule_quiet}
-use Rattle.do_facts.proofs.steps.QueuesOfSteps.{requeue_leaves}
-use Rattle.do_quiet.specs.Quiet.{IsNoBreak}
-use Rattle.do_quiet.proofs.CalmMoves.{Calm, Undisturbed, move_undisturbed}
+use Rattle.do_facts.proofs.machine.follows.{States.requeued, Steady.is_end}
+use Rattle.do_facts.proofs.machine.passing.{Lookups.that_changed, Quiet.{Quiet, arrival_quiet}}
+use Rattle.do_facts.proofs.{machine.passing.Quiet.rule_quiet, steps.QueuesOfSteps.requeue_leaves}
+use Rattle.do_quiet.{specs.Quiet.IsNoBreak, proofs.CalmMoves.{Calm, Undisturbed, move_undisturbed}}
 
 module _ (S : State) (before : Undisturbed S) where
   -- what comes of an event, if it is enabled, leaves all ends open

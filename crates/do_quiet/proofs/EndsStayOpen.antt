@@ -1,29 +1,18 @@
 -- A schedule in which nothing is closed and nothing lost leaves all ends open.
-use Rattle.std.proofs.Common.{◌≡◌, ◌==◌, ℕ, Bool, true, false, cond}
-use Rattle.std.proofs.Common.{List, [], ◌∷◌, refl, sym, ap, map, arith}
-use Rattle.std.specs.Prelude.{Option, Some, option_map, unwrap_or}
-use Rattle.std.specs.List.{AllByRecursion, find, list_any}
-use Rattle.std.proofs.lemmas.Bool.Decides.{nat_tests}
+use Rattle.std.proofs.Common.{◌≡◌, ◌==◌, ℕ, Bool, true, false, cond, List, [], ◌∷◌, refl, sym, ap}
+use Rattle.std.{proofs.Common.{map, arith}, specs.Prelude.{Option, Some, option_map, unwrap_or}}
+use Rattle.std.{specs.List.{AllByRecursion, find, list_any}, proofs.lemmas.Bool.Decides.nat_tests}
 use Rattle.do_base.specs.declared.events.event.Event.{Event}
 use Rattle.do_class.specs.Class.{Class}
-use Rattle.do_machine.specs.declared.item.Item.{Item}
-use Rattle.do_machine.specs.declared.node.Node.{Node}
-use Rattle.do_machine.specs.declared.state.Seat.{Seat}
-use Rattle.do_machine.specs.declared.state.Stepped.{Stepped}
-use Rattle.do_machine.specs.Commit.{skipped}
-use Rattle.do_machine.specs.State.{is_open, queue}
-use Rattle.do_machine.specs.Step.{step}
-use Rattle.do_machine.specs.World.{by_port, opening, opening_station, others}
-use Rattle.do_machine.specs.check.Blocks.{followed, steps}
-use Rattle.do_machine.specs.run.Run.{Acting}
+use Rattle.do_machine.specs.declared.{item.Item.Item, node.Node.Node, state.Seat.Seat}
+use Rattle.do_machine.specs.{declared.state.Stepped.Stepped, Commit.skipped, State.{is_open, queue}}
+use Rattle.do_machine.specs.{Step.step, World.{by_port, opening, opening_station, others}}
+use Rattle.do_machine.specs.{check.Blocks.{followed, steps}, run.Run.Acting}
 use Rattle.do_facts.proofs.machine.follows.Steady.{is_end}
-use Rattle.do_facts.specs.Reached.{reached}
-use Rattle.do_facts.specs.View.{View, wire_seen}
-use Rattle.do_facts.proofs.OpeningAsNet.{opened, opening_wires}
-use Rattle.do_facts.proofs.links.ListsChanged.{open_less}
+use Rattle.do_facts.specs.{Reached.reached, View.{View, wire_seen}}
+use Rattle.do_facts.proofs.{OpeningAsNet.{opened, opening_wires}, links.ListsChanged.open_less}
 use Rattle.do_quiet.specs.Quiet.{AllEndsOpen, IsNoBreak}
-use Rattle.do_quiet.proofs.CalmMoves.{Undisturbed}
-use Rattle.do_quiet.proofs.CalmSteps.{step_undisturbed}
+use Rattle.do_quiet.proofs.{CalmMoves.Undisturbed, CalmSteps.step_undisturbed}
 
 module _ (table : List Class) (seats : List Seat) where
   -- the ports of the nodes, in their order

@@ -1,25 +1,17 @@
 -- A node has ends, lends and asks towards the peers that it had ends towards as it opened.
 use Rattle.std.proofs.Common.{◌≡◌, ◌==◌, ℕ, Bool, true, false, cond, not, List, [], ◌∷◌, refl}
-use Rattle.std.proofs.Common.{subst, sym}
-use Rattle.std.specs.Prelude.{All}
-use Rattle.std.proofs.lemmas.Bool.{eqb-true}
+use Rattle.std.{proofs.Common.{subst, sym}, specs.Prelude.All, proofs.lemmas.Bool.eqb-true}
 use Rattle.std.proofs.lemmas.List.Elements.{All-append, All-cons, All-filter, All-nil}
 use Rattle.std.proofs.lemmas.List.Sorted.{All-permutation}
 use Rattle.do_base.specs.names.Names.{ObjectName}
-use Rattle.do_machine.specs.declared.node.Stored.{Stored}
-use Rattle.do_machine.specs.declared.node.Wanted.{Wanted}
-use Rattle.do_machine.specs.Lists.{inserted}
-use Rattle.do_machine.specs.Objects.{object_at}
-use Rattle.do_machine.specs.lend.Asking.{same_wanted, wanted, wanted_lt}
-use Rattle.do_machine.specs.lend.Lending.{is_lend}
-use Rattle.do_machine.proofs.Inserting.{inserted_moves}
-use Rattle.do_facts.specs.Net.{Net}
-use Rattle.do_facts.specs.Moves.{Happening, Happens, Keeps, Lost, Moved, net_then}
-use Rattle.do_facts.specs.links.Links.{Atom, Links}
-use Rattle.do_facts.specs.links.Moves.{Asks, Closes, Ends, GivesUp, Holds, Leaves, Lends, Misses}
-use Rattle.do_facts.specs.links.Moves.{Move, Receives, Settles, Stores, Strikes, closed, link_rules}
-use Rattle.do_facts.specs.links.Moves.{may, moved, next_lend, opens, without_ask}
-use Rattle.do_facts.proofs.links.ListsChanged.{was_open}
+use Rattle.do_machine.specs.{declared.node.{Stored.Stored, Wanted.Wanted}, Lists.inserted}
+use Rattle.do_machine.specs.{Objects.object_at, lend.Asking.{same_wanted, wanted, wanted_lt}}
+use Rattle.do_machine.{specs.lend.Lending.is_lend, proofs.Inserting.inserted_moves}
+use Rattle.do_facts.specs.{Net.Net, Moves.{Happening, Happens, Keeps, Lost, Moved, net_then}}
+use Rattle.do_facts.specs.links.{Links.{Atom, Links}, Moves.{Asks, Closes, Ends, GivesUp, Holds}}
+use Rattle.do_facts.specs.links.Moves.{Leaves, Lends, Misses, Move, Receives, Settles, Stores}
+use Rattle.do_facts.specs.links.Moves.{Strikes, closed, link_rules, may, moved, next_lend, opens}
+use Rattle.do_facts.{specs.links.Moves.without_ask, proofs.links.ListsChanged.was_open}
 
 -- each open end, borrower, home of what is asked for and lender of it passes a test of ports
 pub record IsWithin (ends : ℕ → Bool) (p : Links) : Type 0 where

@@ -1,33 +1,21 @@
 -- What a node keeps at the end of a step holds itself up in the state after it.
-use Rattle.std.proofs.Common.{◌≡◌, ◌==◌, ◌&&◌, ◌||◌, ℕ, Bool, true, false, List, [], ◌∷◌, refl}
-use Rattle.std.proofs.Common.{inl, inr, sym, ap, ◌∙◌}
-use Rattle.std.specs.Prelude.{None, Option, Some, option_and_then, option_map}
-use Rattle.std.specs.List.{list_any}
-use Rattle.std.proofs.lemmas.Bool.{eqb-true}
-use Rattle.std.proofs.lemmas.List.Folds.{list_any-append}
+use Rattle.std.proofs.Common.{◌≡◌, ◌==◌, ◌&&◌, ◌||◌, ℕ, Bool, true, false, List, [], ◌∷◌, refl, inl}
+use Rattle.std.proofs.Common.{inr, sym, ap, ◌∙◌}
+use Rattle.std.specs.{Prelude.{None, Option, Some, option_and_then, option_map}, List.list_any}
+use Rattle.std.proofs.lemmas.{Bool.eqb-true, List.Folds.list_any-append}
 use Rattle.do_base.specs.names.Names.{ObjectName}
 use Rattle.do_packet.specs.Met.{has_object}
-use Rattle.do_machine.specs.declared.item.Item.{Item}
-use Rattle.do_machine.specs.declared.node.Node.{Node}
-use Rattle.do_machine.specs.declared.node.Stored.{Stored}
-use Rattle.do_machine.specs.declared.state.Effect.{Effect}
-use Rattle.do_machine.specs.declared.state.State.{State}
-use Rattle.do_machine.specs.Commit.{commit, items_to}
-use Rattle.do_machine.specs.Context.{around}
-use Rattle.do_machine.specs.Entry.{has_entry, is_holder, is_on_its_way_back, is_reached}
-use Rattle.do_machine.specs.Entry.{is_under_way}
-use Rattle.do_machine.specs.Items.{exported, released}
-use Rattle.do_machine.specs.Lists.{IsIn, some_passes}
-use Rattle.do_machine.specs.Objects.{object_at}
-use Rattle.do_machine.specs.State.{is_open, node, own, queue, queue_to}
-use Rattle.do_machine.specs.held.Kept.{HoldsItself, is_root, kept, stays}
-use Rattle.do_machine.specs.held.Leaving.{leaving}
-use Rattle.do_machine.specs.held.Refers.{heap_objects, stack_objects}
+use Rattle.do_machine.specs.declared.{item.Item.Item, node.{Node.Node, Stored.Stored}}
+use Rattle.do_machine.specs.{declared.state.{Effect.Effect, State.State}, Commit.{commit, items_to}}
+use Rattle.do_machine.specs.{Context.around, Entry.{has_entry, is_holder, is_on_its_way_back}}
+use Rattle.do_machine.specs.{Entry.{is_reached, is_under_way}, Items.{exported, released}}
+use Rattle.do_machine.specs.{Lists.{IsIn, some_passes}, Objects.object_at, State.{is_open, node}}
+use Rattle.do_machine.specs.{State.{own, queue, queue_to}, held.Kept.{HoldsItself, is_root, kept}}
+use Rattle.do_machine.specs.held.{Kept.stays, Leaving.leaving, Refers.{heap_objects, stack_objects}}
 use Rattle.do_machine.proofs.Bools.{or_cases, or_left, or_right}
 use Rattle.do_facts.proofs.machine.Frame.{elsewhere}
 use Rattle.do_machine.proofs.Keeping.{are_kept}
-use Rattle.do_facts.proofs.machine.Queues.{grows_behind}
-use Rattle.do_facts.proofs.machine.follows.States.{changed}
+use Rattle.do_facts.proofs.machine.{Queues.grows_behind, follows.States.changed}
 
 -- both of two tests passed
 first_passed : (a b : Bool) → (a && b) ≡ true → a ≡ true

@@ -1,31 +1,17 @@
 -- In every state with all ends open that a machine comes to, what is lent is held or asked for.
 use Rattle.std.proofs.Common.{◌≡◌, ◌||◌, ℕ, Bool, true, List, [], ◌∷◌, sym, ap, ◌∙◌, arith}
-use Rattle.std.specs.Prelude.{Some}
-use Rattle.std.specs.List.{list_any}
-use Rattle.std.proofs.lemmas.Bool.Decides.{nat_tests}
-use Rattle.do_base.specs.declared.events.event.Event.{Event}
-use Rattle.do_base.specs.names.Names.{ObjectName}
+use Rattle.std.{specs.{Prelude.Some, List.list_any}, proofs.lemmas.Bool.Decides.nat_tests}
+use Rattle.do_base.specs.{declared.events.event.Event.Event, names.Names.ObjectName}
 use Rattle.do_class.specs.Class.{Class}
 use Rattle.do_packet.specs.Met.{has_object, same_object}
-use Rattle.do_machine.specs.Objects.{object_at}
-use Rattle.do_machine.specs.State.{is_known, node}
-use Rattle.do_machine.specs.Step.{step}
-use Rattle.do_machine.specs.World.{opening}
-use Rattle.do_machine.specs.declared.node.Node.{Node}
-use Rattle.do_machine.specs.declared.node.Wanted.{Wanted}
-use Rattle.do_machine.specs.declared.state.Seat.{Seat}
-use Rattle.do_machine.specs.declared.state.State.{State}
-use Rattle.do_machine.specs.lend.Asking.{same_wanted, wanted}
-use Rattle.do_machine.specs.run.Run.{Acting}
-use Rattle.do_machine.proofs.Bools.{or_left, or_right}
-use Rattle.do_facts.specs.Reached.{reached}
-use Rattle.do_facts.specs.View.{net_of, part_seen}
-use Rattle.do_facts.specs.links.Links.{Links, links, links_of}
-use Rattle.do_facts.specs.links.Moves.{is_in_use}
-use Rattle.do_facts.proofs.OpeningAsNet.{opening_wires}
-use Rattle.do_facts.proofs.ReachedStates.{holds_of_reached}
-use Rattle.do_facts.proofs.links.EntriesStored.{opening_entries}
-use Rattle.do_facts.proofs.links.SameIsEqual.{object_itself}
+use Rattle.do_machine.specs.{Objects.object_at, State.{is_known, node}, Step.step, World.opening}
+use Rattle.do_machine.specs.declared.{node.{Node.Node, Wanted.Wanted}, state.Seat.Seat}
+use Rattle.do_machine.specs.{declared.state.State.State, lend.Asking.{same_wanted, wanted}}
+use Rattle.do_machine.{specs.run.Run.Acting, proofs.Bools.{or_left, or_right}}
+use Rattle.do_facts.specs.{Reached.reached, View.{net_of, part_seen}}
+use Rattle.do_facts.specs.links.{Links.{Links, links, links_of}, Moves.is_in_use}
+use Rattle.do_facts.proofs.{OpeningAsNet.opening_wires, ReachedStates.holds_of_reached}
+use Rattle.do_facts.proofs.links.{EntriesStored.opening_entries, SameIsEqual.object_itself}
 use Rattle.do_facts.proofs.links.StepsByActs.{step_fact}
 use Rattle.do_facts.proofs.steps.NodesAtHome.{AllAtHome, opening_home, step_home}
 use Rattle.do_quiet.specs.Quiet.{AllEndsOpen, LentAreKept}

@@ -1,35 +1,19 @@
 -- While all ends are open a lend lasts until its notice is taken, and its object is kept so long.
 use Rattle.std.proofs.Common.{◌≡◌, ◌∙◌, ◌++◌, ℕ, true, false, List, [], ◌∷◌, ap, inl, inr, refl}
-use Rattle.std.proofs.Common.{subst, sym}
-use Rattle.std.specs.Prelude.{All, Some}
-use Rattle.std.specs.List.{AllByRecursion}
+use Rattle.std.{proofs.Common.{subst, sym}, specs.{Prelude.{All, Some}, List.AllByRecursion}}
 use Rattle.std.proofs.lemmas.List.Elements.{recursion_from_All}
 use Rattle.do_base.specs.declared.events.event.Event.{Event}
 use Rattle.do_class.specs.Class.{Class}
-use Rattle.do_machine.specs.declared.node.Lend.{Lend}
-use Rattle.do_machine.specs.declared.node.Node.{Node}
-use Rattle.do_machine.specs.declared.state.Seat.{Seat}
-use Rattle.do_machine.specs.declared.state.State.{State}
-use Rattle.do_machine.specs.declared.state.Stepped.{Stepped}
-use Rattle.do_machine.specs.Commit.{skipped}
-use Rattle.do_machine.specs.Lists.{IsIn}
-use Rattle.do_machine.specs.State.{is_known, is_open, node}
-use Rattle.do_machine.specs.Step.{step}
-use Rattle.do_machine.specs.World.{opening}
-use Rattle.do_machine.specs.check.Blocks.{followed, steps}
-use Rattle.do_machine.specs.run.Run.{Acting}
-use Rattle.do_facts.proofs.machine.follows.Every.{grow_steps}
-use Rattle.do_facts.specs.Reached.{reached}
-use Rattle.do_facts.specs.View.{part_seen}
-use Rattle.do_facts.specs.links.Lasting.{Ends, Lasts, Parts, Stays, TakesNotice}
-use Rattle.do_facts.specs.links.Links.{links}
-use Rattle.do_facts.specs.links.Moves.{opens}
-use Rattle.do_facts.proofs.links.ReachedLinks.{lends_last}
-use Rattle.do_quiet.specs.Lasting.{IsKeptWhileLent, IsLent, NoNotice}
-use Rattle.do_quiet.specs.Quiet.{AllEndsOpen}
+use Rattle.do_machine.specs.declared.{node.{Lend.Lend, Node.Node}, state.{Seat.Seat, State.State}}
+use Rattle.do_machine.specs.{declared.state.Stepped.Stepped, Commit.skipped, Lists.IsIn}
+use Rattle.do_machine.specs.{State.{is_known, is_open, node}, Step.step, World.opening}
+use Rattle.do_machine.specs.{check.Blocks.{followed, steps}, run.Run.Acting}
+use Rattle.do_facts.{proofs.machine.follows.Every.grow_steps, specs.Reached.reached}
+use Rattle.do_facts.specs.{View.part_seen, links.Lasting.{Ends, Lasts, Parts, Stays, TakesNotice}}
+use Rattle.do_facts.{specs.links.{Links.links, Moves.opens}, proofs.links.ReachedLinks.lends_last}
+use Rattle.do_quiet.specs.{Lasting.{IsKeptWhileLent, IsLent, NoNotice}, Quiet.AllEndsOpen}
 use Rattle.do_quiet.proofs.LendsKept.{first_ends, reached_lent, reached_stands}
-use Rattle.do_quiet.proofs.QuietStates.{is_there, reach}
-use Rattle.do_quiet.proofs.ReachedWithin.{Stands, step_stands}
+use Rattle.do_quiet.proofs.{QuietStates.{is_there, reach}, ReachedWithin.{Stands, step_stands}}
 
 -- what holds of each element holds of one that is there
 of_each : {X : Type 0} (P : X → Type 0) (xs : List X) (x : X) → AllByRecursion P xs → IsIn xs x →

@@ -2,46 +2,27 @@
 -- itself up.
 use Rattle.std.proofs.Common.{◌≡◌, ◌==◌, ℕ, Bool, true, false, List, [], ◌∷◌, refl, sym, ap, ◌∙◌}
 use Rattle.std.proofs.Common.{cond, inl, inr, map, not, subst, ◌||◌}
-use Rattle.std.specs.Prelude.{Some, unwrap_or}
-use Rattle.std.specs.List.{list_any}
-use Rattle.std.proofs.lemmas.Bool.{eqb-true}
-use Rattle.do_base.specs.declared.events.event.Event.{Event}
-use Rattle.do_base.specs.names.Names.{ObjectName}
+use Rattle.std.{specs.{Prelude.{Some, unwrap_or}, List.list_any}, proofs.lemmas.Bool.eqb-true}
+use Rattle.do_base.specs.{declared.events.event.Event.Event, names.Names.ObjectName}
 use Rattle.do_class.specs.Class.{Class}
-use Rattle.do_machine.specs.declared.node.Node.{Node}
-use Rattle.do_machine.specs.declared.node.Stored.{Stored}
-use Rattle.do_machine.specs.declared.state.Effect.{Effect}
-use Rattle.do_machine.specs.declared.state.Seat.{Seat}
-use Rattle.do_machine.specs.declared.state.State.{State}
-use Rattle.do_machine.specs.declared.state.Stepped.{Stepped}
-use Rattle.do_machine.specs.Commit.{commit, moved}
-use Rattle.do_machine.specs.Context.{around}
-use Rattle.do_machine.specs.Entry.{has_entry}
-use Rattle.do_machine.specs.Lists.{IsIn}
-use Rattle.do_machine.specs.State.{change, is_open, node, own, with_queue}
-use Rattle.do_machine.specs.Step.{step}
+use Rattle.do_machine.specs.declared.{node.{Node.Node, Stored.Stored}, state.Effect.Effect}
+use Rattle.do_machine.specs.declared.state.{Seat.Seat, State.State, Stepped.Stepped}
+use Rattle.do_machine.specs.{Commit.{commit, moved}, Context.around, Entry.has_entry, Lists.IsIn}
+use Rattle.do_machine.specs.{State.{change, is_open, node, own, with_queue}, Step.step}
 use Rattle.do_machine.specs.World.{by_port, opening, opening_node, others}
-use Rattle.do_machine.specs.held.Kept.{HoldsItself, stays}
-use Rattle.do_machine.specs.held.Leaving.{leaving}
-use Rattle.do_facts.specs.laws.Entries.{HasQueues, IsNoStepOf}
-use Rattle.do_facts.specs.laws.Follows.{AllHoldOpen}
-use Rattle.do_machine.specs.run.Run.{Acting}
-use Rattle.do_machine.proofs.Bools.{fails}
-use Rattle.do_facts.proofs.machine.Opening.{opening_holds}
-use Rattle.do_facts.proofs.machine.follows.Every.{all_hold, grow_steps}
+use Rattle.do_machine.specs.held.{Kept.{HoldsItself, stays}, Leaving.leaving}
+use Rattle.do_facts.specs.laws.{Entries.{HasQueues, IsNoStepOf}, Follows.AllHoldOpen}
+use Rattle.do_machine.{specs.run.Run.Acting, proofs.Bools.fails}
+use Rattle.do_facts.proofs.machine.{Opening.opening_holds, follows.Every.{all_hold, grow_steps}}
 use Rattle.do_facts.proofs.machine.follows.States.{changed, requeued}
 use Rattle.do_facts.proofs.machine.passing.Linked.{opening_queues, queues_stay}
-use Rattle.do_facts.proofs.machine.passing.EntriesStay.{entries_stay}
-use Rattle.do_facts.specs.Reached.{reached}
+use Rattle.do_facts.{proofs.machine.passing.EntriesStay.entries_stay, specs.Reached.reached}
 use Rattle.do_facts.specs.steps.IsStep.{Acts, Checks, IsStep, Loses, Skips, Takes}
-use Rattle.do_facts.proofs.OpeningAsNet.{opened}
-use Rattle.do_facts.proofs.ReachedStates.{holds_of_reached}
-use Rattle.do_facts.proofs.steps.EachIsStep.{step_is}
-use Rattle.do_facts.proofs.steps.HeldReferred.{reached_refers}
+use Rattle.do_facts.proofs.{OpeningAsNet.opened, ReachedStates.holds_of_reached}
+use Rattle.do_facts.proofs.steps.{EachIsStep.step_is, HeldReferred.reached_refers}
 use Rattle.do_facts.proofs.steps.NodesAtHome.{was_there}
 use Rattle.do_facts.proofs.steps.OthersStay.{move_leaves_own, node_stays, no_act}
-use Rattle.do_quiet.specs.Keeping.{NodesKeep}
-use Rattle.do_quiet.proofs.HeldUpStill.{left_holds_up}
+use Rattle.do_quiet.{specs.Keeping.NodesKeep, proofs.HeldUpStill.left_holds_up}
 use mathlib.Core.Path.{fun_ext}
 
 -- each node stands at its own port, has no end towards itself, and what it stores holds itself up

@@ -1,27 +1,18 @@
 -- While no end closes, no ask is refused, whatever moves.
+use Rattle.do_facts.specs.links.Links as Atoms
 use Rattle.std.proofs.Common.{◌≡◌, ◌==◌, ◌++◌, ℕ, Bool, true, false, cond, drop, length, refl, ap}
-use Rattle.std.proofs.Common.{◌∙◌, arith}
-use Rattle.std.proofs.lemmas.Bool.{eqb-true}
-use Rattle.std.proofs.lemmas.Bool.Decides.{nat_tests}
+use Rattle.std.proofs.{Common.{◌∙◌, arith}, lemmas.Bool.{eqb-true, Decides.nat_tests}}
 use Rattle.do_base.specs.names.Names.{TokenName}
 use Rattle.do_facts.specs.Net.{Net, StandFirst, atoms_of, net_after, total}
-use Rattle.do_facts.specs.links.Facts.{asked_in, open_in}
-use Rattle.do_facts.specs.links.Links as Atoms
-use Rattle.do_facts.specs.links.Links.{Atom, Links}
+use Rattle.do_facts.specs.links.{Facts.{asked_in, open_in}, Links.{Atom, Links}}
 use Rattle.do_facts.specs.links.Moves.{Asks, Closes, Ends, GivesUp, Grants, Leaves, Lends, Mentions}
 use Rattle.do_facts.specs.links.Moves.{Misses, Move, Names, Receives, Refuses, Returns, Strikes}
 use Rattle.do_facts.specs.links.Moves.{may, moved, note, opens, posts, stores, takes}
-use Rattle.do_facts.proofs.FirstOnWire.{first_of}
-use Rattle.do_facts.proofs.Notes.{total-append}
-use Rattle.do_facts.proofs.links.Acts.{IsAct}
-use Rattle.do_facts.proofs.links.Bridge.{link_bridge}
-use Rattle.do_facts.proofs.links.LinksStay.{weightless}
-use Rattle.do_facts.proofs.links.ListsChanged.{open_less}
-use Rattle.do_facts.proofs.links.NoEndTold.{total_dropped}
-use Rattle.do_facts.proofs.links.PlainMoves.{other}
+use Rattle.do_facts.proofs.{FirstOnWire.first_of, Notes.total-append, links.Acts.IsAct}
+use Rattle.do_facts.proofs.links.{Bridge.link_bridge, LinksStay.weightless, ListsChanged.open_less}
+use Rattle.do_facts.proofs.links.{NoEndTold.total_dropped, PlainMoves.other}
 use Rattle.do_quiet.proofs.Backing.{AllReach, NoGone, StandsBacked, asked_stored, gone_of}
-use Rattle.do_quiet.proofs.Backing.{passes_asked}
-use Rattle.do_quiet.proofs.CalmLinks.{IsCalm}
+use Rattle.do_quiet.proofs.{Backing.passes_asked, CalmLinks.IsCalm}
 
 -- a calm move refuses no ask
 posts_none : (p : Links) (v : Move) → IsCalm v → (z : ℕ) →

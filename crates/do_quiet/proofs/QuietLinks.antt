@@ -1,16 +1,10 @@
 -- Where nothing is on its way, nothing is lent and nothing is asked for over open ends.
 use Rattle.std.proofs.Common.{◌≡◌, ◌≢◌, ◌∙◌, ℕ, Bool, true, false, List, [], ◌∷◌, refl, ap, subst}
-use Rattle.std.proofs.Common.{arith}
-use Rattle.std.specs.Prelude.{All}
-use Rattle.std.specs.List.{list_any}
-use Rattle.std.proofs.lemmas.Bool.Decides.{nat_tests}
-use Rattle.std.proofs.lemmas.List.Elements.{All-head}
-use Rattle.do_machine.specs.Objects.{object_at}
-use Rattle.do_machine.specs.declared.node.Lend.{Lend}
-use Rattle.do_machine.specs.declared.node.Wanted.{Wanted}
+use Rattle.std.{proofs.Common.arith, specs.{Prelude.All, List.list_any}}
+use Rattle.std.proofs.lemmas.{Bool.Decides.nat_tests, List.Elements.All-head}
+use Rattle.do_machine.specs.{Objects.object_at, declared.node.{Lend.Lend, Wanted.Wanted}}
 use Rattle.do_machine.specs.lend.Asking.{same_wanted, wanted}
-use Rattle.do_facts.specs.Net.{Net}
-use Rattle.do_facts.specs.links.Facts.{LinksHold, asked_in, is_lent_to, lent_in, open_in}
+use Rattle.do_facts.specs.{Net.Net, links.Facts.{LinksHold, asked_in, is_lent_to, lent_in, open_in}}
 use Rattle.do_facts.specs.links.Links.{Atom, Links}
 use Rattle.do_quiet.proofs.EndsWithin.{IsWithin}
 

@@ -1,29 +1,17 @@
 -- Where all ends are open and nothing is on its way, nothing is lent and nothing asked for.
-use Rattle.std.proofs.Common.{◌≡◌, ◌==◌, ◌∙◌, ℕ, Bool, true, false, cond, List, [], ◌∷◌, map}
-use Rattle.std.proofs.Common.{refl, sym, ap, subst, arith}
-use Rattle.std.specs.Prelude.{All, None, Option, Some, is_some, option_map}
-use Rattle.std.specs.List.{find, flat_map, list_any}
-use Rattle.std.proofs.lemmas.Bool.Decides.{nat_tests}
-use Rattle.std.proofs.lemmas.Bool.{eqb-true}
-use Rattle.std.proofs.lemmas.List.Elements.{All-nil}
+use Rattle.std.proofs.Common.{◌≡◌, ◌==◌, ◌∙◌, ℕ, Bool, true, false, cond, List, [], ◌∷◌, map, refl}
+use Rattle.std.{proofs.Common.{sym, ap, subst, arith}, specs.Prelude.{All, None, Option, Some}}
+use Rattle.std.specs.{Prelude.{is_some, option_map}, List.{find, flat_map, list_any}}
+use Rattle.std.proofs.lemmas.{Bool.{Decides.nat_tests, eqb-true}, List.Elements.All-nil}
 use Rattle.do_base.specs.declared.events.event.Event.{Event}
 use Rattle.do_class.specs.Class.{Class}
-use Rattle.do_machine.specs.declared.item.Item.{Item}
-use Rattle.do_machine.specs.declared.node.Node.{Node}
-use Rattle.do_machine.specs.declared.state.Seat.{Seat}
-use Rattle.do_machine.specs.declared.state.State.{State}
-use Rattle.do_machine.specs.State.{node, queue}
-use Rattle.do_machine.specs.World.{by_port, opening, opening_station, others}
-use Rattle.do_machine.specs.run.Run.{Acting}
-use Rattle.do_facts.specs.Reached.{reached}
-use Rattle.do_facts.specs.View.{net_of, part_seen, wire_seen}
-use Rattle.do_facts.specs.links.Facts.{open_in}
-use Rattle.do_facts.specs.links.Links.{atoms, links}
-use Rattle.do_facts.specs.links.Moves.{opens}
-use Rattle.do_facts.proofs.ReachedStates.{holds_of_reached}
-use Rattle.do_facts.proofs.OpeningAsNet.{opening_parts}
-use Rattle.do_facts.proofs.links.ListsChanged.{open_less}
-use Rattle.do_facts.proofs.links.ReachedLinks.{opening_keeps}
+use Rattle.do_machine.specs.declared.{item.Item.Item, node.Node.Node, state.Seat.Seat}
+use Rattle.do_machine.specs.{declared.state.State.State, State.{node, queue}}
+use Rattle.do_machine.specs.{World.{by_port, opening, opening_station, others}, run.Run.Acting}
+use Rattle.do_facts.specs.{Reached.reached, View.{net_of, part_seen, wire_seen}}
+use Rattle.do_facts.specs.links.{Facts.open_in, Links.{atoms, links}, Moves.opens}
+use Rattle.do_facts.proofs.{ReachedStates.holds_of_reached, OpeningAsNet.opening_parts}
+use Rattle.do_facts.proofs.links.{ListsChanged.open_less, ReachedLinks.opening_keeps}
 use Rattle.do_quiet.specs.Quiet.{AllEndsOpen, NothingLent, NothingWaits}
 use Rattle.do_quiet.proofs.QuietLinks.{nothing_asked, nothing_lent}
 use Rattle.do_quiet.proofs.ReachedWithin.{Stands, step_stands}

@@ -3,19 +3,11 @@ use Rattle.std.proofs.Common.{◌≡◌, ℕ, Bool, true, List, refl, ap}
 use Rattle.std.specs.Prelude.{None, Option, Some, is_some}
 use Rattle.do_base.specs.declared.events.event.Event.{Event}
 use Rattle.do_class.specs.Class.{Class}
-use Rattle.do_machine.specs.declared.node.Node.{Node}
-use Rattle.do_machine.specs.declared.state.State.{State}
-use Rattle.do_machine.specs.State.{node}
-use Rattle.do_machine.specs.Step.{step}
+use Rattle.do_machine.specs.{declared.{node.Node.Node, state.State.State}, State.node, Step.step}
 use Rattle.do_machine.specs.run.Run.{Acting}
-use Rattle.do_facts.proofs.machine.follows.Every.{grow_steps}
-use Rattle.do_facts.specs.ByEvents.{IsBy}
-use Rattle.do_facts.specs.View.{net_of}
-use Rattle.do_facts.specs.links.LinksAreKept.{LinksAreKept}
-use Rattle.do_facts.specs.links.Links.{links}
-use Rattle.do_facts.specs.links.Moves.{link_rules}
-use Rattle.do_facts.proofs.Paths.{stays}
-use Rattle.do_facts.proofs.links.ReachedLinks.{step_keeps, step_moves}
+use Rattle.do_facts.{proofs.machine.follows.Every.grow_steps, specs.{ByEvents.IsBy, View.net_of}}
+use Rattle.do_facts.specs.links.{LinksAreKept.LinksAreKept, Links.links, Moves.link_rules}
+use Rattle.do_facts.proofs.{Paths.stays, links.ReachedLinks.{step_keeps, step_moves}}
 use Rattle.do_quiet.proofs.EndsWithin.{IsWithin, within_keeps}
 
 module _ (ends : ℕ → ℕ → Bool) (is_there : ℕ → Bool) where

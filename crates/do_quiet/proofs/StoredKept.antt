@@ -1,25 +1,17 @@
 -- Where nothing is on its way and nothing is lent, what is stored is what all nodes together keep.
 use Rattle.std.proofs.Common.{◌≡◌, ◌==◌, ◌∙◌, ◌++◌, ◌||◌, ◌&&◌, inl, inr, ℕ, Bool, true, false}
 use Rattle.std.proofs.Common.{cond, List, [], ◌∷◌, map, refl, sym, ap, subst, arith}
-use Rattle.std.specs.Prelude.{None, Option, Some, is_some}
-use Rattle.std.specs.List.{list_any}
-use Rattle.std.proofs.lemmas.Bool.Decides.{nat_tests}
-use Rattle.std.proofs.lemmas.List.Concat.{flat_map-cons}
+use Rattle.std.specs.{Prelude.{None, Option, Some, is_some}, List.list_any}
+use Rattle.std.proofs.lemmas.{Bool.Decides.nat_tests, List.Concat.flat_map-cons}
 use Rattle.std.proofs.lemmas.List.Folds.{list_any-append}
 use Rattle.do_base.specs.names.Names.{ObjectName}
 use Rattle.do_packet.specs.Met.{has_object, same_object}
-use Rattle.do_machine.specs.declared.item.Item.{Item}
-use Rattle.do_machine.specs.declared.node.Node.{Node}
-use Rattle.do_machine.specs.declared.node.Stored.{Stored}
-use Rattle.do_machine.specs.declared.state.State.{State}
-use Rattle.do_machine.specs.Entry.{has_entry, is_holder, is_on_its_way_back, is_reached}
-use Rattle.do_machine.specs.Entry.{is_under_way}
-use Rattle.do_machine.specs.Items.{exported, released}
-use Rattle.do_machine.specs.Lists.{IsIn, some_passes}
-use Rattle.do_machine.specs.Objects.{object_at}
-use Rattle.do_machine.specs.State.{holds, is_open, node, own, queue, stored}
-use Rattle.do_machine.specs.held.Kept.{is_root}
-use Rattle.do_machine.specs.held.Refers.{heap_objects, objects_in, stack_objects}
+use Rattle.do_machine.specs.declared.{item.Item.Item, node.{Node.Node, Stored.Stored}}
+use Rattle.do_machine.specs.{declared.state.State.State, Entry.{has_entry, is_holder}}
+use Rattle.do_machine.specs.Entry.{is_on_its_way_back, is_reached, is_under_way}
+use Rattle.do_machine.specs.{Items.{exported, released}, Lists.{IsIn, some_passes}}
+use Rattle.do_machine.specs.{Objects.object_at, State.{holds, is_open, node, own, queue, stored}}
+use Rattle.do_machine.specs.held.{Kept.is_root, Refers.{heap_objects, objects_in, stack_objects}}
 use Rattle.do_machine.proofs.Bools.{or_cases}
 use Rattle.do_quiet.specs.Keeping.{AreKeptByAll, ByInvocation, ByRoot, BySlot, IsHeldUp, NodesKeep}
 use Rattle.do_facts.specs.Made.{is_stored}

@@ -1,21 +1,12 @@
 -- Which objects all nodes together keep.
-use Rattle.std.specs.Prelude.{Bool, List, Some, map, true, ℕ, ◌≡◌}
-use Rattle.std.specs.List.{list_any}
+use Rattle.std.specs.{Prelude.{Bool, List, Some, map, true, ℕ, ◌≡◌}, List.list_any}
 use Rattle.do_base.specs.names.Names.{ObjectName}
 use Rattle.do_packet.specs.Met.{has_object}
-use Rattle.do_machine.specs.declared.item.Item.{Item}
-use Rattle.do_machine.specs.declared.node.Node.{Node}
-use Rattle.do_machine.specs.declared.node.Stored.{Stored}
-use Rattle.do_machine.specs.declared.state.State.{State}
-use Rattle.do_machine.specs.Context.{around}
-use Rattle.do_machine.specs.Items.{names}
-use Rattle.do_machine.specs.Lists.{IsIn}
-use Rattle.do_machine.specs.Objects.{object_at}
-use Rattle.do_machine.specs.State.{node, queue}
-use Rattle.do_machine.specs.held.Kept.{HoldsItself, is_root}
-use Rattle.do_machine.specs.held.Refers.{objects_in, stack_objects}
-use Rattle.do_facts.specs.Made.{is_stored}
-use Rattle.do_facts.specs.steps.Held.{RefersToHeld}
+use Rattle.do_machine.specs.declared.{item.Item.Item, node.{Node.Node, Stored.Stored}}
+use Rattle.do_machine.specs.{declared.state.State.State, Context.around, Items.names, Lists.IsIn}
+use Rattle.do_machine.specs.{Objects.object_at, State.{node, queue}}
+use Rattle.do_machine.specs.held.{Kept.{HoldsItself, is_root}, Refers.{objects_in, stack_objects}}
+use Rattle.do_facts.specs.{Made.is_stored, steps.Held.RefersToHeld}
 
 -- what holds an object up beside entries
 pub data IsHeldUp (S : State) (these : ObjectName → Bool) (o : ObjectName) : Type 0 where

@@ -2,13 +2,8 @@
 use Rattle.std.specs.Prelude.{List, Some, [], true, ℕ, ◌∷◌, ◌≡◌}
 use Rattle.do_base.specs.declared.events.event.Event.{Event}
 use Rattle.do_class.specs.Class.{Class}
-use Rattle.do_machine.specs.declared.node.Lend.{Lend}
-use Rattle.do_machine.specs.declared.node.Node.{Node}
-use Rattle.do_machine.specs.declared.state.State.{State}
-use Rattle.do_machine.specs.Lists.{IsIn}
-use Rattle.do_machine.specs.State.{is_known, node}
-use Rattle.do_machine.specs.Step.{step}
-use Rattle.do_machine.specs.run.Run.{Acting}
+use Rattle.do_machine.specs.{declared.{node.{Lend.Lend, Node.Node}, state.State.State}, Lists.IsIn}
+use Rattle.do_machine.specs.{State.{is_known, node}, Step.step, run.Run.Acting}
 use Rattle.do_facts.specs.links.Lasting.{TakesNotice}
 
 -- the node of a port lends this

@@ -1,12 +1,9 @@
 -- States in which all ends are open and nothing is on its way.
-use Rattle.std.specs.Prelude.{All, Bool, List, Some, [], false, true, ℕ, ◌==◌, ◌≡◌}
-use Rattle.std.specs.List.{list_any}
-use Rattle.do_base.specs.declared.events.event.Event.{Event}
 use Rattle.do_base.specs.declared.events.event.Event.TheVariants as events
-use Rattle.do_machine.specs.declared.item.Item.{Item}
 use Rattle.do_machine.specs.declared.item.Item.TheVariants as items
-use Rattle.do_machine.specs.declared.node.Node.{Node}
-use Rattle.do_machine.specs.declared.state.State.{State}
+use Rattle.std.specs.{Prelude.{All, Bool, List, Some, [], false, true, ℕ, ◌==◌, ◌≡◌}, List.list_any}
+use Rattle.do_base.specs.declared.events.event.Event.{Event}
+use Rattle.do_machine.specs.declared.{item.Item.Item, node.Node.Node, state.State.State}
 use Rattle.do_machine.specs.State.{is_known, is_open, node, queue}
 use Rattle.do_facts.specs.Made.{is_stored}
 

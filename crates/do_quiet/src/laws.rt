@@ -1,16 +1,11 @@
-ghost use Rattle.std.specs.Prelude.{List, ℕ, ◌++◌};
-ghost use Rattle.std.specs.List.{AllByRecursion};
+ghost use Rattle.std.specs.{Prelude.{List, ℕ, ◌++◌}, List.AllByRecursion};
 ghost use Rattle.do_base.specs.declared.events.event.Event.{Event};
 ghost use Rattle.do_class.specs.Class.{Class};
-ghost use Rattle.do_machine.specs.declared.node.Lend.{Lend};
-ghost use Rattle.do_machine.specs.declared.state.Seat.{Seat};
-ghost use Rattle.do_machine.specs.run.Run.{Acting};
-ghost use Rattle.do_facts.specs.Reached.{reached};
-ghost use Rattle.do_facts.specs.Made.{is_stored};
-ghost use Rattle.do_quiet.specs.Keeping.{AreKeptByAll, NodesKeep};
-ghost use Rattle.do_quiet.specs.Lasting.{IsKeptWhileLent, IsLent, NoNotice};
-ghost use Rattle.do_quiet.specs.Quiet.{AllEndsOpen, AsksAreGranted, IsNoBreak, LentAreKept};
-ghost use Rattle.do_quiet.specs.Quiet.{NothingLent, NothingWaits};
+ghost use Rattle.do_machine.specs.{declared.{node.Lend.Lend, state.Seat.Seat}, run.Run.Acting};
+ghost use Rattle.do_facts.specs.{Reached.reached, Made.is_stored};
+ghost use Rattle.do_quiet.specs.{Keeping.{AreKeptByAll, NodesKeep}, Lasting.IsKeptWhileLent};
+ghost use Rattle.do_quiet.specs.{Lasting.{IsLent, NoNotice}, Quiet.{AllEndsOpen, AsksAreGranted}};
+ghost use Rattle.do_quiet.specs.Quiet.{IsNoBreak, LentAreKept, NothingLent, NothingWaits};
 
 /// Where nothing is closed and nothing lost, all ends stay open.
 pub fn ends_stay_open_unless_broken()

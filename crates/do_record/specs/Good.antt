@@ -1,12 +1,8 @@
 -- The inputs that may stand in a record: their numbers and texts are within their bounds.
-use Rattle.std.specs.Prelude.{ℕ, List}
-use Rattle.std.specs.List.{AllByRecursion}
-use Rattle.do_record.specs.declared.parts.Block.{Block}
-use Rattle.do_record.specs.declared.parts.Record.{Record}
-use Rattle.do_record.specs.declared.parts.RecordLine.{RecordLine}
+use Rattle.std.specs.{Prelude.{ℕ, List}, List.AllByRecursion}
+use Rattle.do_record.specs.declared.parts.{Block.Block, Record.Record, RecordLine.RecordLine}
 use Rattle.do_record.specs.declared.parts.RecordLine.TheVariants.{Close, Ended, Run, Start, Take}
-use Rattle.do_sched.specs.Good.{IsPort, IsStart}
-use Rattle.do_sched.specs.declared.version.Version.TheVariants.{Second}
+use Rattle.do_sched.specs.{Good.{IsPort, IsStart}, declared.version.Version.TheVariants.Second}
 
 -- an input of a node of a port
 abbrev pub IsGoodInput : ℕ → RecordLine → Type 0

@@ -1,18 +1,14 @@
 -- What may be shown in a record: its numbers and texts are within their bounds.
-use Rattle.std.specs.Prelude.{◌≡◌, ℕ, zero, suc, ◌<◌, ◌≤◌, ◌^◌, ◌⊎◌, List as Listed, IsTrue, length}
-use Rattle.std.specs.List.{AllByRecursion}
-use Rattle.do_base.specs.declared.events.exception.Exc.{Exc}
-use Rattle.do_base.specs.declared.events.exception.Exc.TheVariants.{User}
 use Rattle.do_base.specs.declared.events.shown.Shown as events
 use Rattle.do_base.specs.declared.events.shown.Shown.TheVariants as shown
 use Rattle.do_base.specs.declared.events.shown.Took as items
 use Rattle.do_base.specs.declared.events.shown.Took.TheVariants as took
-use Rattle.do_base.specs.declared.values.value.Value.{Value, List}
-use Rattle.do_base.specs.declared.values.value.Value.TheVariants.{Obj}
-use Rattle.do_base.specs.names.Names.{ObjectName}
-use Rattle.do_base.specs.values.Texts.{longest_text}
-use Rattle.do_grammar.specs.Grammar.{IsBytes}
-use Rattle.do_grammar.specs.Names.{is_selector}
+use Rattle.std.specs.Prelude.{◌≡◌, ℕ, zero, suc, ◌<◌, ◌≤◌, ◌^◌, ◌⊎◌, List as Listed, IsTrue, length}
+use Rattle.std.specs.List.{AllByRecursion}
+use Rattle.do_base.specs.declared.events.exception.Exc.{Exc, TheVariants.User}
+use Rattle.do_base.specs.declared.values.value.Value.{Value, List, TheVariants.Obj}
+use Rattle.do_base.specs.{names.Names.ObjectName, values.Texts.longest_text}
+use Rattle.do_grammar.specs.{Grammar.IsBytes, Names.is_selector}
 use Rattle.do_sched.specs.Good.{IsPlain, IsPort}
 use Rattle.do_record.specs.Value.{deepest}
 

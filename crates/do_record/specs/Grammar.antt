@@ -1,20 +1,13 @@
 -- Which bytes are a record, and which line of other bytes is at fault.
 use Rattle.std.specs.Prelude.{◌≡◌, ◌≢◌, ℕ, ◌+◌, ◌==◌, List as Listed, [], ◌∷◌, ◌++◌, map, Result}
-use Rattle.std.specs.Prelude.{Ok, Err}
-use Rattle.std.specs.List.{AllByRecursion, count_by}
+use Rattle.std.specs.{Prelude.{Ok, Err}, List.{AllByRecursion, count_by}}
 use Rattle.do_base.specs.declared.events.shown.Shown.{Shown}
-use Rattle.do_lines.specs.Lines.{joined}
-use Rattle.do_lines.specs.Shown.{shown_text}
-use Rattle.do_sched.specs.Good.{IsPort}
-use Rattle.do_sched.specs.Spelling.{fed}
-use Rattle.do_sched.specs.declared.fault.SchedFault.{SchedFault}
+use Rattle.do_lines.specs.{Lines.joined, Shown.shown_text}
+use Rattle.do_sched.specs.{Good.IsPort, Spelling.fed, declared.fault.SchedFault.SchedFault}
 use Rattle.do_sched.specs.declared.fault.SchedFault.TheVariants.{BadLine, Memory}
-use Rattle.do_record.specs.Good.{IsGoodInput}
-use Rattle.do_record.specs.GoodShown.{IsShown}
+use Rattle.do_record.specs.{Good.IsGoodInput, GoodShown.IsShown}
 use Rattle.do_record.specs.Spelling.{begun, block_text, ending, first_line, input_line, last_line}
-use Rattle.do_record.specs.declared.parts.Block.{Block}
-use Rattle.do_record.specs.declared.parts.Record.{Record}
-use Rattle.do_record.specs.declared.parts.RecordLine.{RecordLine}
+use Rattle.do_record.specs.declared.parts.{Block.Block, Record.Record, RecordLine.RecordLine}
 
 -- how many lines a text has, each with its line feed
 abbrev pub lines_in : Listed ℕ → ℕ

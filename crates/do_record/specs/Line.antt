@@ -1,18 +1,15 @@
 -- What the lines of a record are.
-use Rattle.std.specs.Prelude.{ℕ, ◌==◌, List as Listed, Option, Some, None}
-use Rattle.std.specs.Prelude.{if◌then◌else◌, codes}
-use Rattle.std.specs.Str.{bytes_eq}
 use Rattle.do_grammar.specs.Lines as text
-use Rattle.do_grammar.specs.Words.{◌>>?◌, word}
-use Rattle.do_sched.specs.Reading.{line_at, pair_at, port_at}
-use Rattle.do_sched.specs.declared.line.Line.{Line}
 use Rattle.do_sched.specs.declared.line.Line.TheVariants as lines
+use Rattle.do_record.specs.declared.parts.RecordLine.TheVariants as inputs
+use Rattle.std.specs.Prelude.{ℕ, ◌==◌, List as Listed, Option, Some, None, if◌then◌else◌, codes}
+use Rattle.std.specs.Str.{bytes_eq}
+use Rattle.do_grammar.specs.Words.{◌>>?◌, word}
+use Rattle.do_sched.specs.{Reading.{line_at, pair_at, port_at}, declared.line.Line.Line}
 use Rattle.do_sched.specs.declared.version.Version.TheVariants.{Second}
-use Rattle.do_record.specs.Shown.{is_shown}
-use Rattle.do_record.specs.declared.line.RecordText.{RecordText}
+use Rattle.do_record.specs.{Shown.is_shown, declared.line.RecordText.RecordText}
 use Rattle.do_record.specs.declared.line.RecordText.TheVariants.{Bad, End, Input, Shown}
 use Rattle.do_record.specs.declared.parts.RecordLine.{RecordLine}
-use Rattle.do_record.specs.declared.parts.RecordLine.TheVariants as inputs
 
 -- the port behind a version
 abbrev pub versioned_port : Listed ℕ × Listed ℕ → Option ℕ

@@ -1,14 +1,12 @@
 -- The record that bytes are, as it is read line by line.
-use Rattle.std.specs.Prelude.{Bool, true, false, ◌≡◌, ℕ, ◌+◌, List as Listed, [], ◌∷◌, ◌++◌}
-use Rattle.std.specs.Prelude.{Option, Some, None, Result, Ok, Err, option_map}
 use Rattle.do_grammar.specs.Lines as text
+use Rattle.std.specs.Prelude.{Bool, true, false, ◌≡◌, ℕ, ◌+◌, List as Listed, [], ◌∷◌, ◌++◌, Option}
+use Rattle.std.specs.Prelude.{Some, None, Result, Ok, Err, option_map}
 use Rattle.do_grammar.specs.Lines.{cut}
-use Rattle.do_sched.specs.declared.fault.SchedFault.{SchedFault}
-use Rattle.do_sched.specs.declared.fault.SchedFault.TheVariants.{BadLine}
+use Rattle.do_sched.specs.declared.fault.SchedFault.{SchedFault, TheVariants.BadLine}
 use Rattle.do_record.specs.Line.{first_port, text_of}
 use Rattle.do_record.specs.declared.line.RecordText.TheVariants.{Bad, End, Input, Shown}
-use Rattle.do_record.specs.declared.parts.Block.{Block}
-use Rattle.do_record.specs.declared.parts.Record.{Record}
+use Rattle.do_record.specs.declared.parts.{Block.Block, Record.Record}
 
 -- blocks of which the last shows one line more; none where there is no block
 abbrev pub with_shown : Listed ℕ → Listed Block → Option (Listed Block)

@@ -1,9 +1,7 @@
 -- Which lines show something of a node.
 use Rattle.std.specs.Prelude.{Bool, false, ◌&&◌, ◌||◌, ℕ, ◌==◌, List as Listed, Option, Some, None}
-use Rattle.std.specs.Prelude.{if◌then◌else◌, codes}
-use Rattle.std.specs.Str.{bytes_eq}
-use Rattle.do_grammar.specs.Names.{is_selector}
-use Rattle.do_grammar.specs.Words.{◌>>?◌, word}
+use Rattle.std.specs.{Prelude.{if◌then◌else◌, codes}, Str.bytes_eq}
+use Rattle.do_grammar.specs.{Names.is_selector, Words.{◌>>?◌, word}}
 use Rattle.do_sched.specs.Reading.{port_at}
 use Rattle.do_record.specs.Value.{is_object, is_quoted, is_value}
 

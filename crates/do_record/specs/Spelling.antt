@@ -1,10 +1,9 @@
 -- How a record is written.
+use Rattle.do_sched.specs.declared.line.Line.TheVariants as lines
 use Rattle.std.specs.Prelude.{Bool, ℕ, List, [], ◌++◌, codes, decimal, if◌then◌else◌}
 use Rattle.std.specs.List.{flat_map}
 use Rattle.do_sched.specs.Spelling.{fed, line_spelling, number_pair}
-use Rattle.do_sched.specs.declared.line.Line.TheVariants as lines
-use Rattle.do_record.specs.declared.parts.Block.{Block}
-use Rattle.do_record.specs.declared.parts.RecordLine.{RecordLine}
+use Rattle.do_record.specs.declared.parts.{Block.Block, RecordLine.RecordLine}
 use Rattle.do_record.specs.declared.parts.RecordLine.TheVariants.{Close, Ended, Run, Start, Take}
 
 -- an input of a node: the line of a schedule that does it, or `ended` and the two ports

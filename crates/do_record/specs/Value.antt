@@ -1,13 +1,9 @@
 -- Which bytes are an object's name, a text in quotes, or a value.
 use Rattle.std.specs.Prelude.{Bool, false, true, ◌&&◌, ◌||◌, ℕ, zero, suc, ◌+◌, ◌==◌, nat_lt, drop}
 use Rattle.std.specs.Prelude.{List as Listed, [], ◌∷◌, Option, Some, None, if◌then◌else◌, codes}
-use Rattle.std.specs.Prelude.{is_some, length, not, option_map}
-use Rattle.std.specs.Borrow.{Bor}
-use Rattle.std.specs.Str.{bytes_eq}
+use Rattle.std.specs.{Prelude.{is_some, length, not, option_map}, Borrow.Bor, Str.bytes_eq}
 use Rattle.do_base.specs.values.Texts.{longest_text}
-use Rattle.do_grammar.specs.Dec.{dec_in, int_in}
-use Rattle.do_grammar.specs.Quoted.{quoted_at}
-use Rattle.do_grammar.specs.Words.{◌>>?◌, word, part}
+use Rattle.do_grammar.specs.{Dec.{dec_in, int_in}, Quoted.quoted_at, Words.{◌>>?◌, word, part}}
 use Rattle.do_sched.specs.Reading.{port_at}
 
 -- a home and a serial with a dot between

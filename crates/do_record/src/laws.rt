@@ -1,10 +1,8 @@
 //! What a record that is read has.
 ghost use Rattle.std.specs.Prelude.{◌≡◌, ◌↔◌, ℕ, Err, List, Ok};
 ghost use Rattle.do_sched.specs.declared.fault.SchedFault.TheVariants.{BadLine};
-ghost use Rattle.do_record.specs.Good.{IsGoodRecord};
-ghost use Rattle.do_record.specs.Grammar.{IsFaultAt, IsRecord};
-ghost use Rattle.do_record.specs.Recorded.{record_of};
-ghost use Rattle.do_record.specs.declared.parts.Record.{Record};
+ghost use Rattle.do_record.specs.{Good.IsGoodRecord, Grammar.{IsFaultAt, IsRecord}};
+ghost use Rattle.do_record.specs.{Recorded.record_of, declared.parts.Record.Record};
 
 /// A law alone: each input of a record that is read may stand in a schedule: ports are from 1 to
 /// 65,535, and a start has a selector with a plain value for each of its colons.

@@ -1,10 +1,10 @@
 //! Records, read line by line.
+ghost use Rattle.do_record.specs.declared.parts.Record as parts;
 ghost use Rattle.std.specs.Prelude.{◌≡◌, ◌++◌, ◌∷◌, [], ℕ, Err, IfOk, Ok, OnOk};
 ghost use Rattle.do_sched.specs.Answers.{AnswersWith};
 ghost use Rattle.do_sched.specs.declared.fault.SchedFault.TheVariants.{BadLine};
 ghost use Rattle.do_record.specs.Grammar.{IsFaultAt, IsRecord, TellsRecord};
 ghost use Rattle.do_record.specs.Recorded.{HasShown, record_of, with_shown};
-ghost use Rattle.do_record.specs.declared.parts.Record as parts;
 
 use crate::line::{RecordText, first_port, text_of};
 use crate::parts::{Block, Blocks, Record, RecordLine};

@@ -1,49 +1,31 @@
 -- The text of inputs is read as their record.
+use Rattle.do_network.specs.declared.input.Done.TheVariants as done
+use Rattle.do_network.specs.declared.input.Input.TheVariants as input
+use Rattle.do_record.specs.Spelling as spell
+use Rattle.do_record.specs.declared.parts.RecordLine.TheVariants as records
 use Rattle.std.proofs.Common.{◌≡◌, ◌∙◌, ◌+◌, ◌++◌, ℕ, List, [], ◌∷◌, append_assoc, map, refl, sym}
-use Rattle.std.proofs.Common.{ap}
-use Rattle.std.specs.Prelude.{Bool, Err, None, Ok, Option, Result, Some, codes, decimal, false}
-use Rattle.std.specs.Prelude.{if◌then◌else◌, not, option_map, true, unwrap_or}
-use Rattle.std.specs.List.{AllByRecursion, flat_map}
-use Rattle.std.proofs.lemmas.List.{append-nil}
+use Rattle.std.{proofs.Common.ap, specs.Prelude.{Bool, Err, None, Ok, Option, Result, Some, codes}}
+use Rattle.std.specs.Prelude.{decimal, false, if◌then◌else◌, not, option_map, true, unwrap_or}
+use Rattle.std.{specs.List.{AllByRecursion, flat_map}, proofs.lemmas.List.append-nil}
 use Rattle.do_base.specs.declared.events.shown.Shown.{Shown}
-use Rattle.do_lines.specs.Lines.{joined}
-use Rattle.do_lines.specs.Shown.{shown_text}
+use Rattle.do_lines.specs.{Lines.joined, Shown.shown_text}
 use Rattle.do_frames.specs.declared.frame.Frame.{Frame}
-use Rattle.do_machine.specs.Start.{start_effect}
-use Rattle.do_machine.specs.State.{is_open}
-use Rattle.do_machine.specs.declared.item.Item.TheVariants.{End}
-use Rattle.do_machine.specs.declared.state.Effect.{Effect}
-use Rattle.do_machine.specs.ends.Closing.{closing}
-use Rattle.do_machine.specs.run.Run.{run_effect}
+use Rattle.do_machine.specs.{Start.start_effect, State.is_open, declared.item.Item.TheVariants.End}
+use Rattle.do_machine.specs.{declared.state.Effect.Effect, ends.Closing.closing, run.Run.run_effect}
 use Rattle.do_machine.specs.take.Take.{can_take, take_effect}
 use Rattle.do_net.specs.Seen.{Seen, site_handled}
 use Rattle.do_network.proofs.EnabledIsDone.{enabled_done, skipped_stays}
-use Rattle.do_network.specs.Faults.{peer_fault}
-use Rattle.do_network.specs.Frames.{read_frame}
-use Rattle.do_network.specs.Links.{Part, having_read, names_read}
-use Rattle.do_network.specs.Own.{site_context}
+use Rattle.do_network.specs.{Faults.peer_fault, Frames.read_frame}
+use Rattle.do_network.specs.{Links.{Part, having_read, names_read}, Own.site_context}
 use Rattle.do_network.specs.Site.{Handled, enabled_input, moves, passed, takes, takes_frame}
-use Rattle.do_network.specs.declared.fault.PeerFault.{PeerFault}
-use Rattle.do_network.specs.declared.input.Done.{Done}
-use Rattle.do_network.specs.declared.input.Done.TheVariants as done
-use Rattle.do_network.specs.declared.input.Input.{Input}
-use Rattle.do_network.specs.declared.input.Input.TheVariants as input
-use Rattle.do_record.specs.Grammar.{AreBlocks, IsRecord, lines_in}
-use Rattle.do_record.specs.Recorded.{record_of, recorded}
-use Rattle.do_record.specs.Spelling as spell
-use Rattle.do_record.specs.Spelling.{begun, block_text, ending}
-use Rattle.do_record.specs.declared.parts.Block.{Block}
-use Rattle.do_record.specs.declared.parts.Record.{Record}
-use Rattle.do_record.specs.declared.parts.RecordLine.{RecordLine}
-use Rattle.do_record.specs.declared.parts.RecordLine.TheVariants as records
-use Rattle.do_sched.specs.Good.{IsPort}
-use Rattle.do_sched.specs.Spelling.{fed, number_pair}
-use Rattle.do_serve.specs.Answers.{record_text}
-use Rattle.do_serve.specs.Record.{head_by}
-use Rattle.do_serve.specs.Hosting.{site_rules}
+use Rattle.do_network.specs.declared.{fault.PeerFault.PeerFault, input.{Done.Done, Input.Input}}
+use Rattle.do_record.specs.{Grammar.{AreBlocks, IsRecord, lines_in}, Recorded.{record_of, recorded}}
+use Rattle.do_record.specs.{Spelling.{begun, block_text, ending}, declared.parts.Block.Block}
+use Rattle.do_record.specs.declared.parts.{Record.Record, RecordLine.RecordLine}
+use Rattle.do_sched.specs.{Good.IsPort, Spelling.{fed, number_pair}}
+use Rattle.do_serve.specs.{Answers.record_text, Record.head_by, Hosting.site_rules}
 use Rattle.do_serve.specs.Serving.{How, Report, Server, ended, spent, unfinished}
-use Rattle.do_record.specs.Good.{IsGoodInput}
-use Rattle.do_record.specs.GoodShown.{IsShown}
+use Rattle.do_record.specs.{Good.IsGoodInput, GoodShown.IsShown}
 use Rattle.do_recorded.specs.Chain.{AllMayStand, ReadsBack, chain_text, has_ended}
 use Rattle.do_recorded.specs.Inputs.{IsServed, block_at, blocks_of, line_by, with_block}
 use Rattle.do_recorded.proofs.Served.{Does, end_text}

@@ -1,28 +1,21 @@
 -- Serving does inputs one after another.
-use Rattle.std.proofs.Common.{◌≡◌, ◌∙◌, ◌++◌, ◌&&◌, ℕ, zero, suc, Bool, true, false, List, []}
-use Rattle.std.proofs.Common.{◌==◌, ◌∷◌, append_assoc, refl, sym, ap, subst}
-use Rattle.std.specs.Prelude.{None, Option, Some, nat_le, unwrap_or}
-use Rattle.std.specs.List.{AllByRecursion}
+use Rattle.do_link.specs.declared.script.ScriptEvent.TheVariants as event
+use Rattle.do_plan.specs.declared.starts.StartLine.TheVariants as line
+use Rattle.std.proofs.Common.{◌≡◌, ◌∙◌, ◌++◌, ◌&&◌, ℕ, zero, suc, Bool, true, false, List, [], ◌==◌}
+use Rattle.std.proofs.Common.{◌∷◌, append_assoc, refl, sym, ap, subst}
+use Rattle.std.specs.{Prelude.{None, Option, Some, nat_le, unwrap_or}, List.AllByRecursion}
 use Rattle.std.proofs.lemmas.List.{append-nil}
 use Rattle.do_link.specs.Told.{Told, Came, Handed, Listened}
 use Rattle.do_link.specs.declared.script.ScriptEvent.{ScriptEvent}
-use Rattle.do_link.specs.declared.script.ScriptEvent.TheVariants as event
-use Rattle.do_network.specs.declared.input.Input.{Input}
-use Rattle.do_network.specs.declared.input.Input.TheVariants.{Close, Ended, Run, Start}
-use Rattle.do_plan.specs.Starts.{IsStartLine}
-use Rattle.do_plan.specs.declared.starts.StartLine.{StartLine}
-use Rattle.do_plan.specs.declared.starts.StartLine.TheVariants as line
-use Rattle.do_facts.proofs.Chains.{either}
-use Rattle.do_facts.proofs.EachOfLists.{each_joined}
-use Rattle.do_serve.specs.Core.{Core, Entered, enter, leave_among}
-use Rattle.do_serve.specs.Peers.{Found, Peer, behind, change_at, closed_among, end_among, fed}
-use Rattle.do_serve.specs.Peers.{sent_to, take_among, taken_by, told_ended}
-use Rattle.do_serve.specs.Record.{last_line}
-use Rattle.do_serve.specs.Rules.{Outgoing, Rules}
-use Rattle.do_serve.specs.Serving.{How, Report, Server, Turn, after_hand, after_turn}
-use Rattle.do_serve.specs.Serving.{ended, ends, found_turn, goes, goes_on, hand, hears, idle_turn}
-use Rattle.do_serve.specs.Serving.{line_turn, polls, sent_all, serve_from, spent, turn, unfinished}
-use Rattle.do_serve.specs.Serving.{used_if}
+use Rattle.do_network.specs.declared.input.Input.{Input, TheVariants.{Close, Ended, Run, Start}}
+use Rattle.do_plan.specs.{Starts.IsStartLine, declared.starts.StartLine.StartLine}
+use Rattle.do_facts.proofs.{Chains.either, EachOfLists.each_joined}
+use Rattle.do_serve.specs.{Core.{Core, Entered, enter, leave_among}, Peers.{Found, Peer, behind}}
+use Rattle.do_serve.specs.Peers.{change_at, closed_among, end_among, fed, sent_to, take_among}
+use Rattle.do_serve.specs.{Peers.{taken_by, told_ended}, Record.last_line, Rules.{Outgoing, Rules}}
+use Rattle.do_serve.specs.Serving.{How, Report, Server, Turn, after_hand, after_turn, ended, ends}
+use Rattle.do_serve.specs.Serving.{found_turn, goes, goes_on, hand, hears, idle_turn, line_turn}
+use Rattle.do_serve.specs.Serving.{polls, sent_all, serve_from, spent, turn, unfinished, used_if}
 use Rattle.do_serve.specs.Streams.{Next, frame, faulty, next_in, none}
 use Rattle.do_sched.specs.Good.{IsPort}
 use Rattle.do_recorded.specs.Chain.{HavePorts, IsServer, chain_frames, chain_part, chain_text}

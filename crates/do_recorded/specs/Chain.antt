@@ -3,14 +3,10 @@ use Rattle.std.specs.Prelude.{Bool, List, Ok, [], false, true, ℕ, ◌++◌, �
 use Rattle.std.specs.List.{AllByRecursion}
 use Rattle.do_network.specs.declared.input.Input.{Input}
 use Rattle.do_plan.specs.Starts.{IsStartLine}
-use Rattle.do_record.specs.GoodShown.{IsShown}
-use Rattle.do_record.specs.Recorded.{record_of, recorded}
+use Rattle.do_record.specs.{GoodShown.IsShown, Recorded.{record_of, recorded}}
 use Rattle.do_net.specs.Seen.{Seen}
 use Rattle.do_sched.specs.Good.{IsPort}
-use Rattle.do_serve.specs.Answers.{record_text}
-use Rattle.do_serve.specs.Hosting.{site_rules}
-use Rattle.do_serve.specs.Peers.{Peer}
-use Rattle.do_serve.specs.Record.{block}
+use Rattle.do_serve.specs.{Answers.record_text, Hosting.site_rules, Peers.Peer, Record.block}
 use Rattle.do_serve.specs.Rules.{Outgoing, Rules}
 use Rattle.do_serve.specs.Serving.{How, Report, Server, ended, spent, unfinished}
 use Rattle.do_recorded.specs.Inputs.{IsServed, blocks_of}

@@ -1,19 +1,14 @@
 -- The inputs that serving does, and how a record has them.
+use Rattle.do_network.specs.declared.input.Done.TheVariants as done
+use Rattle.do_network.specs.declared.input.Input.TheVariants as input
 use Rattle.std.specs.Prelude.{List, None, Option, Some, [], map, ℕ, ◌+◌, ◌∷◌}
 use Rattle.do_base.specs.declared.events.shown.Shown.{Shown}
-use Rattle.do_lines.specs.Lines.{joined}
-use Rattle.do_lines.specs.Shown.{shown_text}
-use Rattle.do_network.specs.declared.input.Done.{Done}
-use Rattle.do_network.specs.declared.input.Done.TheVariants as done
-use Rattle.do_network.specs.declared.input.Input.{Input}
-use Rattle.do_network.specs.declared.input.Input.TheVariants as input
-use Rattle.do_record.specs.Grammar.{lines_in}
-use Rattle.do_record.specs.Spelling.{block_text}
-use Rattle.do_record.specs.declared.parts.Block.{Block}
+use Rattle.do_lines.specs.{Lines.joined, Shown.shown_text}
+use Rattle.do_network.specs.declared.input.{Done.Done, Input.Input}
+use Rattle.do_record.specs.{Grammar.lines_in, Spelling.block_text, declared.parts.Block.Block}
 use Rattle.do_record.specs.declared.parts.RecordLine.{RecordLine}
 use Rattle.do_record.specs.declared.parts.RecordLine.TheVariants.{Close, Ended, Run, Start, Take}
-use Rattle.do_sched.specs.Good.{IsPort, IsStart}
-use Rattle.do_sched.specs.declared.version.Version.TheVariants.{Second}
+use Rattle.do_sched.specs.{Good.{IsPort, IsStart}, declared.version.Version.TheVariants.Second}
 use Rattle.do_serve.specs.Rules.{Rules}
 
 -- an input that serving does at a port: a start that may stand in a schedule, what comes of a peer

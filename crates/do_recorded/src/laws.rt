@@ -2,8 +2,7 @@ ghost use Rattle.std.specs.Prelude.{List, ℕ};
 ghost use Rattle.do_link.specs.Told.{Told};
 ghost use Rattle.do_net.specs.Seen.{Seen};
 ghost use Rattle.do_sched.specs.Good.{IsPort};
-ghost use Rattle.do_serve.specs.Hosting.{site_rules};
-ghost use Rattle.do_serve.specs.Serving.{Server, serve_from};
+ghost use Rattle.do_serve.specs.{Hosting.site_rules, Serving.{Server, serve_from}};
 ghost use Rattle.do_recorded.specs.Chain.{IsServer, ReadsBack};
 
 /// Whatever the link tells, serving a site does some inputs one after another, none of them a

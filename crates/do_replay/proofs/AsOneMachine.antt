@@ -1,29 +1,21 @@
 -- What is written of a network is what is written of one machine, with what was sent put in.
 use Rattle.std.proofs.Common.{◌≡◌, ℕ, List, [], ◌∷◌, ◌++◌, map, Option, refl, sym, ap, ◌∙◌, subst}
-use Rattle.std.proofs.Common.{append_assoc, arith}
-use Rattle.std.specs.List.{flat_map}
-use Rattle.std.proofs.lemmas.Grind.{flat_map-append}
-use Rattle.std.proofs.lemmas.List.{append_cancel_right, map-append}
+use Rattle.std.{proofs.Common.{append_assoc, arith}, specs.List.flat_map}
+use Rattle.std.proofs.lemmas.{Grind.flat_map-append, List.{append_cancel_right, map-append}}
 use Rattle.do_base.specs.outside.Bytes.{HasWritten}
 use Rattle.do_class.specs.Class.{Class}
 use Rattle.do_lines.specs.Transcript.{first_line, last_line, transcript}
-use Rattle.do_machine.specs.declared.state.Seat.{Seat}
-use Rattle.do_machine.specs.declared.state.State.{State}
-use Rattle.do_machine.specs.World.{IsWorld, opening}
-use Rattle.do_machine.specs.check.Blocks.{block, blocks, line_step}
-use Rattle.do_machine.specs.run.Run.{Acting}
+use Rattle.do_machine.specs.{declared.state.{Seat.Seat, State.State}, World.{IsWorld, opening}}
+use Rattle.do_machine.specs.{check.Blocks.{block, blocks, line_step}, run.Run.Acting}
 use Rattle.do_output.proofs.SentIsPrefix.{IsAhead, ahead_part, ahead_prefix, with_none}
 use Rattle.do_sched.specs.declared.line.Line.{Line}
 use Rattle.do_trace.specs.Block.{Block}
 use Rattle.do_network.specs.Net.{Net, net_opening}
 use Rattle.do_network.specs.Wired.{WiredBlock, net_blocks, wired, wired_lines}
-use Rattle.do_agreement.specs.Along.{LinesSendSpelled}
-use Rattle.do_agreement.specs.HasWires.{HasWires}
-use Rattle.do_agreement.proofs.texts.TextsAgree.{opened_blocks}
-use Rattle.do_agreement.proofs.texts.WiresPutIn.{wires_put_in}
+use Rattle.do_agreement.specs.{Along.LinesSendSpelled, HasWires.HasWires}
+use Rattle.do_agreement.proofs.texts.{TextsAgree.opened_blocks, WiresPutIn.wires_put_in}
 use Rattle.do_replay.specs.Replayed.{WritesWithWires, wired_from}
-use Rattle.do_replay.proofs.BlocksToCome.{rest_from}
-use Rattle.do_replay.proofs.SpelledSoFar.{SpelledSoFar, spelled_done}
+use Rattle.do_replay.proofs.{BlocksToCome.rest_from, SpelledSoFar.{SpelledSoFar, spelled_done}}
 
 -- the block of a line without what was sent
 abbrev unsent : Block Line → WiredBlock

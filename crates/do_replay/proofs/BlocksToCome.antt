@@ -1,13 +1,11 @@
 -- What of a transcript is to come.
-use Rattle.std.proofs.Common.{◌≡◌, ℕ, List, [], ◌∷◌, ◌++◌, refl, sym}
-use Rattle.std.proofs.Common.{Option, append_assoc}
+use Rattle.std.proofs.Common.{◌≡◌, ℕ, List, [], ◌∷◌, ◌++◌, refl, sym, Option, append_assoc}
 use Rattle.std.specs.List.{flat_map}
 use Rattle.do_sched.specs.declared.line.Line.{Line}
 use Rattle.do_class.specs.Class.{Class}
 use Rattle.do_machine.specs.run.Run.{Acting}
 use Rattle.do_lines.specs.Transcript.{first_line, last_line}
-use Rattle.do_network.specs.Net.{Net}
-use Rattle.do_network.specs.Wired.{net_blocks, net_line_step, wired_block, wired_lines}
+use Rattle.do_network.specs.{Net.Net, Wired.{net_blocks, net_line_step, wired_block, wired_lines}}
 use Rattle.do_output.proofs.SentIsPrefix.{IsAhead, ahead_first, ahead_more}
 use Rattle.do_replay.specs.Replayed.{wired_from}
 

@@ -1,11 +1,9 @@
 -- One line more was done.
 use Rattle.std.proofs.Common.{◌≡◌, ℕ, List, ◌∷◌, ◌++◌, Option, sym, subst}
 use Rattle.do_class.specs.Class.{Class}
-use Rattle.do_machine.specs.check.Blocks.{events_of}
-use Rattle.do_machine.specs.run.Run.{Acting}
+use Rattle.do_machine.specs.{check.Blocks.events_of, run.Run.Acting}
 use Rattle.do_sched.specs.declared.line.Line.{Line}
-use Rattle.do_network.specs.Net.{Net}
-use Rattle.do_network.specs.Wired.{net_line_step, wired_block, wired_lines}
+use Rattle.do_network.specs.{Net.Net, Wired.{net_line_step, wired_block, wired_lines}}
 use Rattle.do_agreement.specs.Along.{EventsSendSpelled}
 use Rattle.do_output.proofs.SentIsPrefix.{IsAhead}
 use Rattle.do_replay.proofs.BlocksToCome.{ahead_block, rest_from}

@@ -1,14 +1,10 @@
 -- A network that stands for a state stands, after lines, for the state to which they lead.
 use Rattle.std.proofs.Common.{◌≡◌, List, [], ◌∷◌, subst, sym}
 use Rattle.do_class.specs.Class.{Class}
-use Rattle.do_machine.specs.declared.state.State.{State}
-use Rattle.do_machine.specs.check.Blocks.{line_step}
-use Rattle.do_machine.specs.run.Run.{Acting}
+use Rattle.do_machine.specs.{declared.state.State.State, check.Blocks.line_step, run.Run.Acting}
 use Rattle.do_sched.specs.declared.line.Line.{Line}
-use Rattle.do_net.specs.OneMachine.{StandsFor}
-use Rattle.do_net.proofs.StandsForStates.{line_as_one}
-use Rattle.do_network.specs.Net.{Net}
-use Rattle.do_network.specs.Wired.{net_line_step}
+use Rattle.do_net.{specs.OneMachine.StandsFor, proofs.StandsForStates.line_as_one}
+use Rattle.do_network.specs.{Net.Net, Wired.net_line_step}
 use Rattle.do_agreement.specs.Along.{LinesSendSpelled}
 use Rattle.do_replay.specs.Replayed.{net_after, state_after}
 

@@ -1,18 +1,15 @@
 -- One run of a node more.
+use Rattle.do_base.specs.declared.events.event.Event.TheVariants as events
 use Rattle.std.proofs.Common.{◌≡◌, ℕ, zero, suc, ◌+◌, ◌||◌, ◌++◌, List, [], false, ap, refl, ◌∙◌}
-use Rattle.std.proofs.Common.{sym, subst, arith, append_assoc}
-use Rattle.std.proofs.lemmas.List.{append-nil}
+use Rattle.std.proofs.{Common.{sym, subst, arith, append_assoc}, lemmas.List.append-nil}
 use Rattle.std.specs.Prelude.{replicate}
 use Rattle.do_base.specs.declared.events.event.Event.{Event}
-use Rattle.do_base.specs.declared.events.event.Event.TheVariants as events
 use Rattle.do_class.specs.Class.{Class}
 use Rattle.do_machine.specs.run.Run.{Acting}
-use Rattle.do_network.specs.declared.wire.Wire.{Wire}
-use Rattle.do_network.specs.Net.{Net}
+use Rattle.do_network.specs.{declared.wire.Wire.Wire, Net.Net}
 use Rattle.do_network.specs.Step.{NetStepped, net_skipped, net_step}
 use Rattle.do_trace.specs.declared.outcome.Outcome.{Outcome}
-use Rattle.do_network.specs.Spelled.{SendsSpelled}
-use Rattle.do_network.specs.Wired.{net_followed, net_steps}
+use Rattle.do_network.specs.{Spelled.SendsSpelled, Wired.{net_followed, net_steps}}
 use Rattle.do_agreement.specs.Along.{EventsSendSpelled}
 
 -- one run of a node, behind what was done before

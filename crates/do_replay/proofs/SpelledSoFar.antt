@@ -2,11 +2,9 @@
 use Rattle.std.proofs.Common.{◌≡◌, List, [], ◌∷◌, ◌++◌, refl, sym, ap, ◌∙◌, subst, append_assoc}
 use Rattle.std.proofs.lemmas.List.{append-nil}
 use Rattle.do_class.specs.Class.{Class}
-use Rattle.do_machine.specs.check.Blocks.{events_of}
-use Rattle.do_machine.specs.run.Run.{Acting}
+use Rattle.do_machine.specs.{check.Blocks.events_of, run.Run.Acting}
 use Rattle.do_sched.specs.declared.line.Line.{Line}
-use Rattle.do_network.specs.Net.{Net}
-use Rattle.do_network.specs.Wired.{net_blocks, net_line_step, wired_block}
+use Rattle.do_network.specs.{Net.Net, Wired.{net_blocks, net_line_step, wired_block}}
 use Rattle.do_agreement.specs.Along.{EventsSendSpelled, LinesSendSpelled}
 use Rattle.do_replay.specs.Replayed.{net_after}
 

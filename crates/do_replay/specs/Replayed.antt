@@ -2,12 +2,9 @@
 use Rattle.std.specs.Prelude.{List, Option, [], ℕ, ◌∷◌}
 use Rattle.do_base.specs.outside.Bytes.{HasWritten}
 use Rattle.do_class.specs.Class.{Class}
-use Rattle.do_machine.specs.declared.state.State.{State}
-use Rattle.do_machine.specs.check.Blocks.{line_step}
-use Rattle.do_machine.specs.run.Run.{Acting}
+use Rattle.do_machine.specs.{declared.state.State.State, check.Blocks.line_step, run.Run.Acting}
 use Rattle.do_sched.specs.declared.line.Line.{Line}
-use Rattle.do_network.specs.Net.{Net}
-use Rattle.do_network.specs.Wired.{net_blocks, net_line_step, wired}
+use Rattle.do_network.specs.{Net.Net, Wired.{net_blocks, net_line_step, wired}}
 use Rattle.do_agreement.specs.HasWires.{HasWires}
 
 -- the transcript of these lines with what was sent in each, from a network on, of classes whose

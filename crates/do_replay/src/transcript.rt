@@ -1,14 +1,10 @@
 //! The transcript of a schedule over a network.
 ghost use Rattle.std.specs.Prelude.{◌≡◌, ◌≤◌, [], List, OnOk, IsErrOf};
-ghost use Rattle.do_base.specs.outside.Bytes.{with_more, HasWritten};
-ghost use Rattle.do_base.specs.outside.Causes.{Rose};
+ghost use Rattle.do_base.specs.outside.{Bytes.{with_more, HasWritten}, Causes.Rose};
 ghost use Rattle.do_lines.specs.Transcript.{transcript};
-ghost use Rattle.do_machine.specs.declared.state.Seat.{Seat};
-ghost use Rattle.do_machine.specs.declared.state.State.{State};
-ghost use Rattle.do_machine.specs.World.{IsWorld, opening};
-ghost use Rattle.do_machine.specs.check.Blocks.{blocks};
-ghost use Rattle.do_net.specs.Net.{Stands, network};
-ghost use Rattle.do_net.specs.OneMachine.{StandsFor};
+ghost use Rattle.do_machine.specs.declared.state.{Seat.Seat, State.State};
+ghost use Rattle.do_machine.specs.{World.{IsWorld, opening}, check.Blocks.blocks};
+ghost use Rattle.do_net.specs.{Net.{Stands, network}, OneMachine.StandsFor};
 ghost use Rattle.do_network.specs.Net.{net_opening};
 ghost use Rattle.do_agreement.specs.HasWires.{HasWires};
 ghost use Rattle.do_replay.specs.Replayed.{WritesWithWires, net_after, state_after, wired_from};

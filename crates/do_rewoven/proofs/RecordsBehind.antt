@@ -2,21 +2,14 @@
 -- steps.
 use Rattle.std.proofs.Common.{◌≡◌, ◌∙◌, ◌++◌, ◌+◌, ◌<◌, ◌≤◌, ◌==◌, ◌||◌, ◌&&◌, ℕ, Bool, true, false}
 use Rattle.std.proofs.Common.{cond, List, [], ◌∷◌, map, not, Option, Some, None, Result, Ok, Err}
-use Rattle.std.proofs.Common.{refl, sym, ap, subst, arith, sum_by, ltb}
-use Rattle.std.specs.Prelude.{nat_eq}
-use Rattle.std.specs.Cmp.{IsEquivalence}
-use Rattle.std.specs.List.{AllByRecursion, IsDistinct, list_any}
-use Rattle.std.proofs.lemmas.Bool.{and_parts, ltb-false, not-true}
-use Rattle.std.proofs.lemmas.Bool.Decides.{nat_tests}
-use Rattle.std.proofs.lemmas.List.{map-append}
-use Rattle.std.proofs.lemmas.List.Sums.{sum_by-append, sum_by-cons}
+use Rattle.std.{proofs.Common.{refl, sym, ap, subst, arith, sum_by, ltb}, specs.Prelude.nat_eq}
+use Rattle.std.specs.{Cmp.IsEquivalence, List.{AllByRecursion, IsDistinct, list_any}}
+use Rattle.std.proofs.lemmas.Bool.{and_parts, ltb-false, not-true, Decides.nat_tests}
+use Rattle.std.proofs.lemmas.List.{map-append, Sums.{sum_by-append, sum_by-cons}}
 use Rattle.std.proofs.lemmas.Map.Keys.{IsDistinct-from_apart, IsDistinct-push}
 use Rattle.do_machine.specs.declared.state.Seat.{Seat}
-use Rattle.do_record.specs.Recorded.{record_of}
-use Rattle.do_record.specs.declared.parts.Block.{Block}
-use Rattle.do_record.specs.declared.parts.Record.{Record}
-use Rattle.do_sched.specs.Schedule.{most_steps}
-use Rattle.do_sched.specs.declared.fault.SchedFault.{SchedFault}
+use Rattle.do_record.specs.{Recorded.record_of, declared.parts.{Block.Block, Record.Record}}
+use Rattle.do_sched.specs.{Schedule.most_steps, declared.fault.SchedFault.SchedFault}
 use Rattle.do_sched.specs.declared.fault.SchedFault.TheVariants.{BadLine}
 use Rattle.do_weave.specs.Laws.{AreApart}
 use Rattle.do_woven.specs.Judging.{behind, has_record, has_seat, judged, unless_at}

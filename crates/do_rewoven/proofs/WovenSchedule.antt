@@ -1,18 +1,13 @@
 -- What sound records are woven to is a schedule.
+use Rattle.do_record.specs.declared.parts.RecordLine.TheVariants as inputs
+use Rattle.do_weave.specs.Laws as weaving
 use Rattle.std.proofs.Common.{◌≡◌, ◌∙◌, ◌+◌, ℕ, List, [], ◌∷◌, Ok, refl, sym, ap, arith, sum_by}
 use Rattle.std.proofs.lemmas.List.Sums.{sum_by-cons}
 use Rattle.do_machine.specs.declared.state.State.{State}
-use Rattle.do_record.specs.declared.parts.Record.{Record}
-use Rattle.do_record.specs.declared.parts.RecordLine.{RecordLine}
-use Rattle.do_record.specs.declared.parts.RecordLine.TheVariants as inputs
-use Rattle.do_sched.specs.Schedule.{IsSchedule}
-use Rattle.do_sched.specs.Spelling.{spelling, steps_of}
-use Rattle.do_sched.specs.declared.line.Line.{Line}
-use Rattle.do_sched.specs.declared.version.Version.TheVariants.{Second}
-use Rattle.do_weave.specs.Inputs.{lines_of}
-use Rattle.do_weave.specs.Laws as weaving
-use Rattle.do_weave.specs.Rules.{Rules}
-use Rattle.do_weave.specs.Weaving.{woven}
+use Rattle.do_record.specs.declared.parts.{Record.Record, RecordLine.RecordLine}
+use Rattle.do_sched.specs.{Schedule.IsSchedule, Spelling.{spelling, steps_of}}
+use Rattle.do_sched.specs.declared.{line.Line.Line, version.Version.TheVariants.Second}
+use Rattle.do_weave.specs.{Inputs.lines_of, Rules.Rules, Weaving.woven}
 use Rattle.do_weave.proofs.StepsWoven.{fine_woven}
 use Rattle.do_woven.specs.Steps.{block_steps, input_steps, record_steps, steps_in}
 use Rattle.do_rewoven.proofs.RecordsBehind.{AreSound}

@@ -1,15 +1,10 @@
 ghost use Rattle.std.specs.Prelude.{◌≡◌, ℕ, List, Ok, []};
 ghost use Rattle.do_rewoven.specs.Read.{AreRead};
-ghost use Rattle.do_machine.specs.declared.state.Seat.{Seat};
-ghost use Rattle.do_machine.specs.declared.state.State.{State};
+ghost use Rattle.do_machine.specs.declared.state.{Seat.Seat, State.State};
 ghost use Rattle.do_record.specs.declared.parts.Record.{Record};
-ghost use Rattle.do_sched.specs.Schedule.{IsSchedule};
-ghost use Rattle.do_sched.specs.Spelling.{spelling};
-ghost use Rattle.do_sched.specs.declared.line.Line.{Line};
+ghost use Rattle.do_sched.specs.{Schedule.IsSchedule, Spelling.spelling, declared.line.Line.Line};
 ghost use Rattle.do_sched.specs.declared.version.Version.TheVariants.{Second};
-ghost use Rattle.do_weave.specs.Laws.{GivesAgain};
-ghost use Rattle.do_weave.specs.Rules.{Rules};
-ghost use Rattle.do_weave.specs.Weaving.{woven};
+ghost use Rattle.do_weave.specs.{Laws.GivesAgain, Rules.Rules, Weaving.woven};
 
 /// Where records were read one behind another, the text of what is woven of them is a schedule of
 /// these very lines: each of its lines is good, and all have at most 1,000,000 steps.

@@ -1,16 +1,11 @@
 -- The members of lists that stand beside the arguments of a signature, from one argument on.
 use Rattle.std.proofs.Common.{◌≡◌, ℕ, zero, suc, ◌+◌, ◌-◌, ◌<◌, ◌≤◌, Bool, true, false, cond, List}
-use Rattle.std.proofs.Common.{[], ◌∷◌}
-use Rattle.std.proofs.Common.{◌++◌, length, map, take, drop, Some, refl, ap, ◌∙◌, subst, sym, arith}
-use Rattle.std.proofs.Common.{append_assoc}
-use Rattle.std.proofs.lemmas.List.{append-nil}
+use Rattle.std.proofs.Common.{[], ◌∷◌, ◌++◌, length, map, take, drop, Some, refl, ap, ◌∙◌, subst}
+use Rattle.std.proofs.{Common.{sym, arith, append_assoc}, lemmas.List.append-nil}
 use Rattle.std.specs.Prelude.{Err, Ok, OnOk, Result, get_or, not, slice_get}
-use Rattle.do_base.specs.declared.values.value.Value.{Value}
-use Rattle.do_base.specs.declared.values.value.Value.TheVariants.{Nil}
-use Rattle.do_sig.specs.MethodTypes.{MethodType, QualifiedType}
-use Rattle.do_sig.specs.Calls.{arg_fits, encoding_fits, is_oneway, qualifier_of, qualifiers_of}
-use Rattle.do_sig.specs.Calls.{some_fits}
-use Rattle.do_sig.specs.Fits.{each_takes}
+use Rattle.do_base.specs.declared.values.value.Value.{Value, TheVariants.Nil}
+use Rattle.do_sig.specs.{MethodTypes.{MethodType, QualifiedType}, Calls.{arg_fits, encoding_fits}}
+use Rattle.do_sig.specs.{Calls.{is_oneway, qualifier_of, qualifiers_of, some_fits}, Fits.each_takes}
 use Rattle.do_sig.specs.declared.qualifiers.Qualifier.{Qualifier}
 use Rattle.do_machine.specs.run.Send.{inputs_by, outs_by}
 

@@ -1,21 +1,16 @@
 -- What the delivery of an answer does is what becomes of the answer.
+use Rattle.do_machine.specs.declared.item.Item.TheVariants as items
+use Rattle.do_behave.specs.declared.invocation.Reason.TheVariants as reasons
 use Rattle.std.proofs.Common.{◌≡◌, ℕ, Bool, true, false, cond, Option, None, Some, refl}
 use Rattle.std.specs.Prelude.{not}
 use Rattle.do_class.specs.declared.packet.Packet.{Packet}
-use Rattle.do_behave.specs.declared.invocation.Answer.{Answer}
-use Rattle.do_behave.specs.declared.invocation.Answer.TheVariants.{Given, Raised}
+use Rattle.do_behave.specs.declared.invocation.Answer.{Answer, TheVariants.{Given, Raised}}
 use Rattle.do_behave.specs.declared.invocation.Reason.{Reason}
-use Rattle.do_machine.specs.declared.state.Effect.{Effect}
-use Rattle.do_machine.specs.Context.{RunContext}
-use Rattle.do_machine.specs.Effect.{only, queueing}
-use Rattle.do_machine.specs.Packing.{packed_for}
-use Rattle.do_machine.specs.State.{is_open}
-use Rattle.do_machine.specs.lend.Lending.{posting}
-use Rattle.do_machine.specs.run.Answers.{answer_placed, replying}
+use Rattle.do_machine.specs.{declared.state.Effect.Effect, Context.RunContext}
+use Rattle.do_machine.specs.{Effect.{only, queueing}, Packing.packed_for, State.is_open}
+use Rattle.do_machine.specs.{lend.Lending.posting, run.Answers.{answer_placed, replying}}
 use Rattle.do_machine.specs.run.Delivery.{delivery, popped}
 use Rattle.do_base.specs.declared.events.exception.Exc.TheVariants.{TooLarge}
-use Rattle.do_machine.specs.declared.item.Item.TheVariants as items
-use Rattle.do_behave.specs.declared.invocation.Reason.TheVariants as reasons
 use Rattle.do_rules.specs.Delivery.{delivered, delivery_of, reply_by, reply_of}
 use Rattle.do_rules.specs.declared.run.delivery.Delivery.TheVariants.{Drops}
 

@@ -1,14 +1,10 @@
 -- Which of the objects that an item names are exported, and which released.
-use Rattle.std.proofs.Common.{◌≡◌, ℕ, List, [], ◌∷◌, map, refl, ap, sym}
-use Rattle.std.specs.List.{filter_map}
-use Rattle.do_class.specs.declared.packet.Name.{Name}
-use Rattle.do_class.specs.declared.packet.Name.TheVariants.{Lent, Mine, Yours}
-use Rattle.do_machine.specs.declared.item.Item.{Item}
 use Rattle.do_machine.specs.declared.item.Item.TheVariants as items
-use Rattle.do_machine.specs.Objects.{object_at}
+use Rattle.std.{proofs.Common.{◌≡◌, ℕ, List, [], ◌∷◌, map, refl, ap, sym}, specs.List.filter_map}
+use Rattle.do_class.specs.declared.packet.Name.{Name, TheVariants.{Lent, Mine, Yours}}
+use Rattle.do_machine.specs.{declared.item.Item.Item, Objects.object_at}
 use Rattle.do_machine.specs.Items.{exported, is_exported, is_released, name_naming, named_as}
-use Rattle.do_machine.specs.Items.{naming, released}
-use Rattle.do_machine.specs.Items.Role.{Released}
+use Rattle.do_machine.specs.Items.{naming, released, Role.Released}
 use Rattle.do_rules.specs.Exporting.{exports_of, mine_of, releases_of}
 
 -- a message releases no object

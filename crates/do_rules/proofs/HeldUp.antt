@@ -2,28 +2,19 @@
 use mathlib.Core.Path.{fun_ext}
 use Rattle.std.proofs.Common.{◌≡◌, ℕ, Bool, true, false, cond, List, [], ◌∷◌, ◌++◌, filter, refl}
 use Rattle.std.proofs.Common.{ap, ◌∙◌, length, arith}
-use Rattle.std.specs.Prelude.{None, Option, Some, ◌&&◌, ◌||◌}
-use Rattle.std.specs.List.{flat_map, list_all, list_any}
-use Rattle.std.proofs.lemmas.List.Elements.{filter_agree}
-use Rattle.std.proofs.lemmas.List.Folds.{list_any-append}
+use Rattle.std.specs.{Prelude.{None, Option, Some, ◌&&◌, ◌||◌}, List.{flat_map, list_all, list_any}}
+use Rattle.std.proofs.lemmas.List.{Elements.filter_agree, Folds.list_any-append}
 use Rattle.do_base.specs.names.Names.{ObjectName}
 use Rattle.do_packet.specs.Met.{has_object, same_object}
-use Rattle.do_machine.specs.declared.item.Item.{Item}
-use Rattle.do_machine.specs.declared.node.Node.{Node}
-use Rattle.do_machine.specs.declared.node.Stored.{Stored}
-use Rattle.do_machine.specs.declared.state.State.{State}
-use Rattle.do_machine.specs.Entry.{has_entry, is_holder, is_on_its_way_back, is_under_way}
-use Rattle.do_machine.specs.Items.{exported, released}
-use Rattle.do_machine.specs.Lists.{some_passes}
-use Rattle.do_machine.specs.Objects.{object_at}
-use Rattle.do_machine.specs.State.{holds, is_open, node, own, queue}
-use Rattle.do_machine.specs.held.Kept.{is_held_up, is_root, kept, stays, struck, struck_by}
-use Rattle.do_machine.specs.held.Refers.{heap_objects, stack_objects}
-use Rattle.do_rules.proofs.Exports.{all_exports, all_releases}
-use Rattle.do_rules.proofs.Striking.{round_last}
+use Rattle.do_machine.specs.declared.{item.Item.Item, node.{Node.Node, Stored.Stored}}
+use Rattle.do_machine.specs.{declared.state.State.State, Entry.{has_entry, is_holder}}
+use Rattle.do_machine.specs.{Entry.{is_on_its_way_back, is_under_way}, Items.{exported, released}}
+use Rattle.do_machine.specs.{Lists.some_passes, Objects.object_at, State.{holds, is_open, node}}
+use Rattle.do_machine.specs.{State.{own, queue}, held.Kept.{is_held_up, is_root, kept, stays}}
+use Rattle.do_machine.specs.held.{Kept.{struck, struck_by}, Refers.{heap_objects, stack_objects}}
+use Rattle.do_rules.proofs.{Exports.{all_exports, all_releases}, Striking.round_last}
 use Rattle.do_rules.specs.Exporting.{exports_of, releases_of}
-use Rattle.do_rules.specs.HeldUp.{entered, held_of, held_up, named_by, stays_by}
-use Rattle.do_rules.specs.Judged.{entry_in}
+use Rattle.do_rules.specs.{HeldUp.{entered, held_of, held_up, named_by, stays_by}, Judged.entry_in}
 
 -- an object is among those of all elements where it is among those of one
 any_flat : {X : Type 0} (f : X → List ObjectName) (xs : List X) (o : ObjectName) →

@@ -1,31 +1,16 @@
 -- What a node frees and leaves, from its parts.
-use Rattle.std.proofs.Common.{[], ◌∷◌, refl, ◌∙◌, arith}
-use Rattle.std.proofs.lemmas.Bool.{eq-eqb}
-use Rattle.std.proofs.lemmas.Grind.{common_steps}
-use Rattle.std.proofs.lemmas.List.{append-nil}
-use Rattle.std.proofs.lemmas.List.Elements.{filter_agree}
-use Rattle.std.proofs.Common.{◌≡◌, ◌++◌, ℕ, Bool, true, false, List, filter, map, not, ◌==◌, ap}
-use Rattle.std.proofs.Common.{sym}
-use Rattle.std.specs.Prelude.{◌||◌}
-use Rattle.std.specs.List.{list_all, list_any}
-use Rattle.do_base.specs.names.Names.{ObjectName}
-use Rattle.do_base.specs.declared.events.shown.Shown.{Shown}
+use Rattle.std.proofs.Common.{[], ◌∷◌, refl, ◌∙◌, arith, ◌≡◌, ◌++◌, ℕ, Bool, true, false, List}
+use Rattle.std.proofs.{Common.{filter, map, not, ◌==◌, ap, sym}, lemmas.Bool.eq-eqb}
+use Rattle.std.proofs.lemmas.{Grind.common_steps, List.{append-nil, Elements.filter_agree}}
+use Rattle.std.specs.{Prelude.◌||◌, List.{list_all, list_any}}
+use Rattle.do_base.specs.{names.Names.ObjectName, declared.events.shown.Shown.Shown}
 use Rattle.do_base.specs.declared.events.shown.Shown.TheVariants.{Free}
 use Rattle.do_packet.specs.Met.{has_object}
-use Rattle.do_machine.specs.declared.node.Node.{Node}
-use Rattle.do_machine.specs.declared.node.Stored.{Stored}
-use Rattle.do_machine.specs.declared.state.State.{State}
-use Rattle.do_machine.specs.declared.state.Effect.{Effect}
-use Rattle.do_machine.specs.Effect.{only}
-use Rattle.do_machine.specs.Objects.{object_at}
-use Rattle.do_machine.specs.State.{own}
-use Rattle.do_machine.specs.held.Kept.{kept}
-use Rattle.do_machine.specs.held.Leaving.{freeing}
-use Rattle.do_machine.specs.held.Refers.{stack_objects}
+use Rattle.do_machine.specs.declared.{node.{Node.Node, Stored.Stored}, state.State.State}
+use Rattle.do_machine.specs.{declared.state.Effect.Effect, Effect.only, Objects.object_at}
+use Rattle.do_machine.specs.{State.own, held.{Kept.kept, Leaving.freeing, Refers.stack_objects}}
 use Rattle.do_rules.proofs.HeldUp.{all_kept}
-use Rattle.do_rules.specs.Doing.{and_then}
-use Rattle.do_rules.specs.HeldUp.{stays_by}
-use Rattle.do_rules.specs.Judged.{entry_in}
+use Rattle.do_rules.specs.{Doing.and_then, HeldUp.stays_by, Judged.entry_in}
 
 -- the objects that are not in a heap any more, as they are shown
 abbrev pub freed_lines : ℕ → List Stored → List Stored → List Shown

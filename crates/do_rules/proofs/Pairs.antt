@@ -1,6 +1,5 @@
 -- Pairs of as many members as the shorter of two lists has.
-use Rattle.std.proofs.Common.{◌≡◌, List, [], ◌∷◌, length, take, refl, ap}
-use Rattle.std.specs.List.{zip}
+use Rattle.std.{proofs.Common.{◌≡◌, List, [], ◌∷◌, length, take, refl, ap}, specs.List.zip}
 
 pub short_right : {K X : Type 0} (xs : List K) (ys : List X) →
     zip xs (take (length xs) ys) ≡ zip xs ys

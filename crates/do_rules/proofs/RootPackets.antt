@@ -1,29 +1,17 @@
 -- The root, as a message.
-use Rattle.std.proofs.Common.{◌≡◌, ℕ, true, false, List as Listed, [], ◌∷◌, ◌++◌, Some, None, refl}
-use Rattle.std.proofs.Common.{ap}
-use Rattle.std.proofs.Common.{arith, sym, ◌∙◌, subst, filter, rules}
-use Rattle.std.specs.Prelude.{◌==◌}
-use Rattle.std.proofs.lemmas.Bool.{eq-eqb}
-use Rattle.std.proofs.lemmas.Grind.{common_steps}
-use Rattle.do_base.specs.names.Names.{ObjectName}
-use Rattle.do_base.specs.values.Values.{objects_of}
-use Rattle.do_base.specs.declared.values.value.Value.{Value, the_lemmas}
-use Rattle.do_base.specs.declared.values.value.Value.TheVariants.{Nil, Obj}
-use Rattle.do_class.specs.declared.ids.ClassId.{ClassId}
-use Rattle.do_class.specs.declared.packet.Name.TheVariants.{Mine}
-use Rattle.do_class.specs.declared.packet.Packet.{Packet}
-use Rattle.do_class.specs.declared.packet.Part.{Part}
 use Rattle.do_class.specs.declared.packet.Part.TheVariants as parts
-use Rattle.do_packet.specs.Copies.{names_with}
-use Rattle.do_packet.specs.Met.{is_named, met, role_of, same_object}
-use Rattle.do_packet.specs.Packing.{names_to, packet_with}
-use Rattle.do_packet.specs.Parts.{object_part, part_of}
-use Rattle.do_packet.specs.declared.role.Role.{Role}
-use Rattle.do_packet.specs.declared.role.Role.TheVariants.{Absent, Named}
-use Rattle.do_machine.specs.Context.{Context, class_seen, own_class}
-use Rattle.do_machine.specs.Packing.{packer, seen_by}
-use Rattle.do_machine.specs.State.{own}
-use Rattle.do_machine.specs.take.Take.{root_packet}
+use Rattle.std.proofs.Common.{◌≡◌, ℕ, true, false, List as Listed, [], ◌∷◌, ◌++◌, Some, None, refl}
+use Rattle.std.{proofs.Common.{ap, arith, sym, ◌∙◌, subst, filter, rules}, specs.Prelude.◌==◌}
+use Rattle.std.proofs.lemmas.{Bool.eq-eqb, Grind.common_steps}
+use Rattle.do_base.specs.{names.Names.ObjectName, values.Values.objects_of}
+use Rattle.do_base.specs.declared.values.value.Value.{Value, the_lemmas, TheVariants.{Nil, Obj}}
+use Rattle.do_class.specs.declared.{ids.ClassId.ClassId, packet.Name.TheVariants.Mine}
+use Rattle.do_class.specs.declared.packet.{Packet.Packet, Part.Part}
+use Rattle.do_packet.specs.{Copies.names_with, Met.{is_named, met, role_of, same_object}}
+use Rattle.do_packet.specs.{Packing.{names_to, packet_with}, Parts.{object_part, part_of}}
+use Rattle.do_packet.specs.declared.role.Role.{Role, TheVariants.{Absent, Named}}
+use Rattle.do_machine.specs.{Context.{Context, class_seen, own_class}, Packing.{packer, seen_by}}
+use Rattle.do_machine.specs.{State.own, take.Take.root_packet}
 
 objects_nil : objects_of Nil ≡ []
 objects_nil = search (rules, the_lemmas)

@@ -1,10 +1,8 @@
 -- Objects under serials that follow one another.
-use Rattle.std.proofs.Common.{◌≡◌, ℕ, zero, suc, ◌+◌, ◌<◌, List, [], ◌∷◌, ◌++◌, length, take}
-use Rattle.std.proofs.Common.{ap, sym, ◌∙◌, arith}
-use Rattle.std.specs.Prelude.{get_or}
+use Rattle.std.proofs.Common.{◌≡◌, ℕ, zero, suc, ◌+◌, ◌<◌, List, [], ◌∷◌, ◌++◌, length, take, ap}
+use Rattle.std.{proofs.Common.{sym, ◌∙◌, arith}, specs.Prelude.get_or}
 use Rattle.do_packet.specs.declared.receipt.Made.{Made}
-use Rattle.do_machine.specs.declared.node.Stored.{Stored}
-use Rattle.do_machine.specs.run.Fresh.{with_serials}
+use Rattle.do_machine.specs.{declared.node.Stored.Stored, run.Fresh.with_serials}
 
 -- an object as it is stored under a serial
 abbrev under : ℕ → Made → Stored

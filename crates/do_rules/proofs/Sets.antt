@@ -1,8 +1,7 @@
 -- What is set in a list: past its end, and at the first place that passes.
 use Rattle.std.proofs.Common.{◌≡◌, ℕ, zero, suc, ◌≤◌, Bool, true, false, cond, List, [], ◌∷◌}
 use Rattle.std.proofs.Common.{length, Some, None, refl, ap, sym, ◌∙◌, subst, arith}
-use Rattle.std.specs.Prelude.{slice_get, slice_set}
-use Rattle.std.specs.List.{position, position_or_len}
+use Rattle.std.specs.{Prelude.{slice_get, slice_set}, List.{position, position_or_len}}
 use Rattle.std.proofs.lemmas.Grind.{common_steps}
 use Rattle.do_machine.specs.Lists.{change_first}
 

@@ -2,9 +2,7 @@
 use Rattle.std.proofs.Common.{◌≡◌, ℕ, Bool, true, false, cond, List, [], ◌∷◌, refl, ap, sym}
 use Rattle.std.specs.Prelude.{◌==◌}
 use Rattle.do_behave.specs.declared.act.Write.{Write}
-use Rattle.do_machine.specs.declared.node.Node.{Node}
-use Rattle.do_machine.specs.declared.node.Stored.{Stored}
-use Rattle.do_machine.specs.Lists.{change_first}
+use Rattle.do_machine.specs.{declared.node.{Node.Node, Stored.Stored}, Lists.change_first}
 use Rattle.do_machine.specs.run.Changes.{with_slots, with_writes}
 
 -- where no slot is written the heap is as it was

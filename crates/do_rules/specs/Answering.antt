@@ -1,9 +1,7 @@
 -- What an answer is to: the call, and what the invocation that waits for it asked for.
 use Rattle.std.specs.Prelude.{List, None, Option, Some, [], if◌then◌else◌, ◌∷◌}
-use Rattle.do_behave.specs.declared.invocation.Invocation.{Invocation}
-use Rattle.do_behave.specs.declared.invocation.InvState.{InvState}
-use Rattle.do_behave.specs.declared.invocation.InvState.TheVariants.{Waits}
-use Rattle.do_behave.specs.declared.invocation.Waited.{Waited}
+use Rattle.do_behave.specs.declared.invocation.{Invocation.Invocation, InvState.InvState}
+use Rattle.do_behave.specs.declared.invocation.{InvState.TheVariants.Waits, Waited.Waited}
 use Rattle.do_machine.specs.take.Awaiting.{AnsweredCall, awaits}
 use Rattle.do_rules.specs.declared.take.awaiting.Answered.{Answered}
 

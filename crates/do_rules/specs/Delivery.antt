@@ -1,25 +1,18 @@
 -- Where the answer of an invocation goes, as data, and what that then does.
-use Rattle.std.specs.Prelude.{None, Option, Some, if◌then◌else◌, ℕ, ◌≡◌}
-use Rattle.do_base.specs.declared.events.exception.Exc.TheVariants.{TooLarge}
-use Rattle.do_class.specs.declared.packet.Packet.{Packet}
-use Rattle.do_behave.specs.declared.invocation.Answer.{Answer}
-use Rattle.do_behave.specs.declared.invocation.Answer.TheVariants.{Given, Raised}
-use Rattle.do_behave.specs.declared.invocation.Reason.{Reason}
-use Rattle.do_machine.specs.declared.state.Effect.{Effect}
-use Rattle.do_machine.specs.Context.{RunContext}
-use Rattle.do_machine.specs.Effect.{only, queueing, showing}
-use Rattle.do_machine.specs.Packing.{packed_for}
-use Rattle.do_machine.specs.State.{is_open}
-use Rattle.do_machine.specs.lend.Lending.{posting}
-use Rattle.do_machine.specs.run.Answers.{answer_line, answer_placed}
-use Rattle.do_machine.specs.run.Delivery.{below_answered, delivery, popped}
-use Rattle.do_machine.specs.run.Fresh.{with_stack}
 use Rattle.do_machine.specs.declared.item.Item.TheVariants as items
 use Rattle.do_behave.specs.declared.invocation.Reason.TheVariants as reasons
 use Rattle.do_base.specs.declared.events.shown.Shown.TheVariants as shows
-use Rattle.do_rules.specs.declared.run.delivery.Delivery.{Delivery}
-use Rattle.do_rules.specs.declared.run.delivery.Delivery.TheVariants.{Answers, Drops, Raises}
-use Rattle.do_rules.specs.declared.run.delivery.Delivery.TheVariants.{Replies, Shows}
+use Rattle.std.specs.Prelude.{None, Option, Some, if◌then◌else◌, ℕ, ◌≡◌}
+use Rattle.do_base.specs.declared.events.exception.Exc.TheVariants.{TooLarge}
+use Rattle.do_class.specs.declared.packet.Packet.{Packet}
+use Rattle.do_behave.specs.declared.invocation.Answer.{Answer, TheVariants.{Given, Raised}}
+use Rattle.do_behave.specs.declared.invocation.Reason.{Reason}
+use Rattle.do_machine.specs.{declared.state.Effect.Effect, Context.RunContext}
+use Rattle.do_machine.specs.{Effect.{only, queueing, showing}, Packing.packed_for, State.is_open}
+use Rattle.do_machine.specs.{lend.Lending.posting, run.Answers.{answer_line, answer_placed}}
+use Rattle.do_machine.specs.run.{Delivery.{below_answered, delivery, popped}, Fresh.with_stack}
+use Rattle.do_rules.specs.declared.run.delivery.Delivery.{Delivery, TheVariants.{Answers, Drops}}
+use Rattle.do_rules.specs.declared.run.delivery.Delivery.TheVariants.{Raises, Replies, Shows}
 
 -- a reply to a peer, by its message: one that is too large is an exception
 abbrev pub reply_by : ℕ → ℕ → Option Packet → Delivery

@@ -1,12 +1,9 @@
 -- Which objects a name in a message and an item export or release, by their kinds.
-use Rattle.std.specs.Prelude.{List, None, Option, Some, [], map, ℕ, ◌∷◌}
-use Rattle.std.specs.List.{filter_map}
-use Rattle.do_base.specs.names.Names.{ObjectName}
-use Rattle.do_class.specs.declared.packet.Name.{Name}
-use Rattle.do_class.specs.declared.packet.Name.TheVariants.{Mine}
-use Rattle.do_machine.specs.declared.item.Item.{Item}
-use Rattle.do_machine.specs.Objects.{object_at}
 use Rattle.do_machine.specs.declared.item.Item.TheVariants as items
+use Rattle.std.specs.{Prelude.{List, None, Option, Some, [], map, ℕ, ◌∷◌}, List.filter_map}
+use Rattle.do_base.specs.names.Names.{ObjectName}
+use Rattle.do_class.specs.declared.packet.Name.{Name, TheVariants.Mine}
+use Rattle.do_machine.specs.{declared.item.Item.Item, Objects.object_at}
 
 -- the object of a name, as one of the sender's
 abbrev pub mine_of : ℕ → Name → Option ObjectName

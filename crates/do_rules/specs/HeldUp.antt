@@ -3,13 +3,9 @@ use Rattle.std.specs.Prelude.{Bool, List, None, Option, Some, [], if◌then◌el
 use Rattle.std.specs.List.{flat_map}
 use Rattle.do_base.specs.names.Names.{ObjectName}
 use Rattle.do_packet.specs.Met.{has_object}
-use Rattle.do_machine.specs.declared.item.Item.{Item}
-use Rattle.do_machine.specs.declared.node.Node.{Node}
-use Rattle.do_machine.specs.declared.node.Stored.{Stored}
-use Rattle.do_machine.specs.declared.state.State.{State}
-use Rattle.do_machine.specs.Lists.{some_passes}
-use Rattle.do_machine.specs.State.{is_open, node, own, queue}
-use Rattle.do_machine.specs.held.Kept.{is_root}
+use Rattle.do_machine.specs.declared.{item.Item.Item, node.{Node.Node, Stored.Stored}}
+use Rattle.do_machine.specs.{declared.state.State.State, Lists.some_passes}
+use Rattle.do_machine.specs.{State.{is_open, node, own, queue}, held.Kept.is_root}
 use Rattle.do_machine.specs.held.Refers.{heap_objects, stack_objects}
 use Rattle.do_rules.specs.Exporting.{exports_of, releases_of}
 

@@ -2,15 +2,10 @@
 use Rattle.std.specs.Prelude.{Bool, List, Option, [], option_map, ℕ, ◌∷◌, ◌≡◌}
 use Rattle.do_base.specs.declared.values.value.Value.{Value}
 use Rattle.do_behave.specs.declared.invocation.Invocation.{Invocation}
-use Rattle.do_machine.specs.declared.node.Node.{Node}
-use Rattle.do_machine.specs.declared.state.State.{State}
-use Rattle.do_machine.specs.declared.state.Effect.{Effect}
-use Rattle.do_machine.specs.Effect.{only}
-use Rattle.do_machine.specs.Entry.{has_entry}
-use Rattle.do_machine.specs.State.{own, stored}
+use Rattle.do_machine.specs.declared.{node.Node.Node, state.{State.State, Effect.Effect}}
+use Rattle.do_machine.specs.{Effect.only, Entry.has_entry, State.{own, stored}}
 use Rattle.do_machine.specs.Context.{Context, Found, RunContext, context}
-use Rattle.do_rules.specs.declared.judged.Context.{Context as Judged}
-use Rattle.do_rules.specs.declared.judged.Run.{Run}
+use Rattle.do_rules.specs.declared.judged.{Context.Context as Judged, Run.Run}
 use Rattle.do_rules.specs.declared.node.methods.Found.{Found as Seen}
 
 -- a step of a node

@@ -1,8 +1,6 @@
 -- The act that was done to an invocation, and steps with other writes of slots.
 use Rattle.std.specs.Prelude.{List, None, Option, Some}
-use Rattle.do_behave.specs.declared.act.Act.{Act}
-use Rattle.do_behave.specs.declared.act.Act.TheVariants.{Step}
-use Rattle.do_behave.specs.declared.act.Write.{Write}
+use Rattle.do_behave.specs.declared.act.{Act.{Act, TheVariants.Step}, Write.Write}
 use Rattle.do_behave.specs.declared.invocation.Invocation.{Invocation}
 
 -- an act, but that it writes these slots if it is a step

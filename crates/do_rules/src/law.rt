@@ -1,6 +1,5 @@
 //! What the judgements that are data are to what the definitions do.
-ghost use Rattle.do_rules.specs.Delivery.{DeliveriesAreMade};
-ghost use Rattle.do_rules.specs.Ruling.{RulingsAreArrivals};
+ghost use Rattle.do_rules.specs.{Delivery.DeliveriesAreMade, Ruling.RulingsAreArrivals};
 
 /// A law alone: on each node with the stack and the heap of the one that is judged by, what the
 /// ruling on an item does is what the item comes to.

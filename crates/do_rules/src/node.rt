@@ -1,11 +1,9 @@
 //! What is asked of a node.
-ghost use Rattle.std.specs.Prelude.{◌≡◌};
-ghost use Rattle.std.specs.Option.{option_copied};
+ghost use Rattle.std.specs.{Prelude.◌≡◌, Option.option_copied};
 ghost use Rattle.do_packet.specs.Met.{has_object};
 ghost use Rattle.do_machine.specs.Context.{own_class};
 ghost use Rattle.do_machine.specs.State.{has_asked, holds, is_known, is_open, own, stored};
-ghost use Rattle.do_machine.specs.run.Fresh.{is_full};
-ghost use Rattle.do_machine.specs.take.Take.{can_serve, can_take};
+ghost use Rattle.do_machine.specs.{run.Fresh.is_full, take.Take.{can_serve, can_take}};
 
 pub(crate) mod methods;
 pub(crate) mod named;

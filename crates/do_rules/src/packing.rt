@@ -1,6 +1,5 @@
 //! How a node packs its values, and reads the messages that it takes.
-ghost use Rattle.std.specs.Prelude.{◌≡◌, IfOk, length, map};
-ghost use Rattle.std.specs.List.{zip};
+ghost use Rattle.std.specs.{Prelude.{◌≡◌, IfOk, length, map}, List.zip};
 ghost use Rattle.do_machine.specs.Packing.{packed_for};
 ghost use Rattle.do_machine.specs.take.Receipt.{arrived, is_entered, is_reachable};
 

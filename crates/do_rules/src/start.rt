@@ -1,8 +1,6 @@
 //! How a node is started.
 ghost use Rattle.std.specs.Prelude.{◌≡◌, IfOk};
-ghost use Rattle.do_machine.specs.Effect.{only};
-ghost use Rattle.do_machine.specs.Start.{begun, start_effect};
-ghost use Rattle.do_machine.specs.run.Fresh.{pushed};
+ghost use Rattle.do_machine.specs.{Effect.only, Start.{begun, start_effect}, run.Fresh.pushed};
 
 use crate::basis::Basis;
 use crate::effect::{given, unchanged};

@@ -1,6 +1,5 @@
 //! What is asked of a state.
-ghost use Rattle.std.specs.Prelude.{◌≡◌, ◌==◌, find};
-ghost use Rattle.std.specs.Option.{option_copied};
+ghost use Rattle.std.specs.{Prelude.{◌≡◌, ◌==◌, find}, Option.option_copied};
 ghost use Rattle.do_machine.specs.State.{class_given, class_of, node, queue, queue_to, station};
 
 use do_base::{Items, NodeId, Oid};

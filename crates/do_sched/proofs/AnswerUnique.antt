@@ -1,30 +1,21 @@
 -- Bytes are a schedule of one list of lines, or have one fault.
+use Rattle.do_grammar.specs.Lines as text
 use Rattle.std.proofs.Common.{◌≡◌, ◌≢◌, ℕ, ◌+◌, ◌≤◌, Bool, true, false, cond, leb, List as Listed}
 use Rattle.std.proofs.Common.{[], ◌∷◌, ◌++◌, length, map, Option, Some, None, Result, Ok, Err, refl}
 use Rattle.std.proofs.Common.{sym, ap, ◌∙◌, append_assoc, arith}
 use Rattle.std.specs.List.{flat_map, AllByRecursion}
-use Rattle.std.proofs.lemmas.Bool.{le-leb, lt-leb}
-use Rattle.std.proofs.lemmas.List.{append-nil}
-use Rattle.std.proofs.lemmas.List.Sums.{sum_by-append}
-use Rattle.do_grammar.specs.Lines.{cut}
-use Rattle.do_grammar.specs.Lines as text
-use Rattle.do_grammar.proofs.texts.LinesExact.{cut_line}
-use Rattle.do_sched.specs.declared.line.Line.{Line}
-use Rattle.do_sched.specs.declared.line.Line.TheVariants.{Start, Run, Take, Close, Lose, Timeout}
-use Rattle.do_sched.specs.declared.line.Line.TheVariants.{Check}
+use Rattle.std.proofs.lemmas.{Bool.{le-leb, lt-leb}, List.{append-nil, Sums.sum_by-append}}
+use Rattle.do_grammar.{specs.Lines.cut, proofs.texts.LinesExact.cut_line}
+use Rattle.do_sched.specs.declared.line.Line.{Line, TheVariants.{Start, Run, Take, Close, Lose}}
+use Rattle.do_sched.specs.declared.line.Line.TheVariants.{Timeout, Check}
 use Rattle.do_sched.specs.declared.fault.SchedFault.{SchedFault}
 use Rattle.do_sched.specs.declared.fault.SchedFault.TheVariants.{BadLine, TooMany, NoEnd, Memory}
-use Rattle.do_sched.specs.declared.version.Version.{Version}
-use Rattle.do_sched.specs.declared.version.Version.TheVariants.{First, Second}
-use Rattle.do_sched.specs.Version.{header}
-use Rattle.do_sched.specs.Spelling.{line_spelling, footer, fed, steps, steps_of}
-use Rattle.do_sched.specs.Good.{IsLineOf}
-use Rattle.do_sched.specs.Schedule.{IsScheduleOf, Opens, IsNoLine, IsBadLine, at_first, between}
-use Rattle.do_sched.specs.Schedule.{behind, IsTooMany, over, IsEndMissing, at_start, later}
-use Rattle.do_sched.specs.Schedule.{IsFaultOf}
-use Rattle.do_sched.specs.Schedule.{most_steps, whole}
-use Rattle.do_sched.specs.Reading.{is_whole, line_in}
-use Rattle.do_sched.specs.Answers.{TellsSchedule, AnswersWith}
+use Rattle.do_sched.specs.declared.version.Version.{Version, TheVariants.{First, Second}}
+use Rattle.do_sched.specs.{Version.header, Spelling.{line_spelling, footer, fed, steps, steps_of}}
+use Rattle.do_sched.specs.{Good.IsLineOf, Schedule.{IsScheduleOf, Opens, IsNoLine, IsBadLine}}
+use Rattle.do_sched.specs.Schedule.{at_first, between, behind, IsTooMany, over, IsEndMissing}
+use Rattle.do_sched.specs.Schedule.{at_start, later, IsFaultOf, most_steps, whole}
+use Rattle.do_sched.specs.{Reading.{is_whole, line_in}, Answers.{TellsSchedule, AnswersWith}}
 use Rattle.do_sched.proofs.LineWithoutFeed.{header_free, no_feed}
 use Rattle.do_sched.proofs.LinesSoFar.{is_whole_true, line_in_takes, line_in_again}
 

@@ -1,31 +1,21 @@
 -- The lines of a schedule are read exactly.
 use Rattle.std.proofs.Common.{◌≡◌, ℕ, ◌<◌, ◌≤◌, ◌^◌, Bool, true, false, cond, List as Listed, ◌∷◌}
 use Rattle.std.proofs.Common.{◌++◌, Option, Some, None, refl, ap, subst, ◌∙◌, arith}
-use Rattle.std.specs.Prelude.{codes}
-use Rattle.std.specs.List.{flat_map}
-use Rattle.std.specs.Fmt.{decimal}
-use Rattle.std.specs.Str.{bytes_eq}
+use Rattle.std.specs.{Prelude.codes, List.flat_map, Fmt.decimal, Str.bytes_eq}
 use Rattle.std.proofs.lemmas.Slice.Eq.{bytes_eq-Decides}
 use Rattle.do_base.specs.declared.values.value.Value.{Value}
-use Rattle.do_grammar.specs.Dec.{dec_in}
-use Rattle.do_grammar.specs.Names.{is_selector, colons}
-use Rattle.do_grammar.specs.Words.{◌>>?◌, word, part}
-use Rattle.do_grammar.proofs.texts.WordBytes.{some_is, chain_some}
-use Rattle.do_grammar.proofs.texts.NameBytes.{Without-selector}
+use Rattle.do_grammar.specs.{Dec.dec_in, Names.{is_selector, colons}, Words.{◌>>?◌, word, part}}
+use Rattle.do_grammar.proofs.texts.{WordBytes.{some_is, chain_some}, NameBytes.Without-selector}
 use Rattle.do_grammar.proofs.texts.DecExact.{dec_takes, dec_again, cond_some}
 use Rattle.do_grammar.proofs.texts.IntExact.{Without-decimal}
 use Rattle.do_grammar.proofs.texts.WordExact.{word_takes, word_again, part_takes, part_again}
-use Rattle.do_sched.specs.declared.line.Line.{Line}
-use Rattle.do_sched.specs.declared.line.Line.TheVariants.{Start, Run, Take, Close, Lose, Timeout}
-use Rattle.do_sched.specs.declared.line.Line.TheVariants.{Check}
-use Rattle.do_sched.specs.declared.version.Version.{Version}
-use Rattle.do_sched.specs.Version.{longest, has_timeouts}
-use Rattle.do_sched.specs.Spelling.{spaced_value, number_pair, line_spelling}
-use Rattle.do_sched.specs.Good.{IsPort, IsLineOf}
+use Rattle.do_sched.specs.declared.line.Line.{Line, TheVariants.{Start, Run, Take, Close, Lose}}
+use Rattle.do_sched.specs.declared.{line.Line.TheVariants.{Timeout, Check}, version.Version.Version}
+use Rattle.do_sched.specs.{Version.{longest, has_timeouts}, Spelling.{spaced_value, number_pair}}
+use Rattle.do_sched.specs.{Spelling.line_spelling, Good.{IsPort, IsLineOf}}
 use Rattle.do_sched.specs.Reading.{port_at, pair_at, values_at, called_at, start_line_at}
-use Rattle.do_sched.specs.Reading.{run_line_at}
-use Rattle.do_sched.specs.Reading.{take_line_at, close_line_at, lose_line_at, timeout_line_at}
-use Rattle.do_sched.specs.Reading.{on_word, form_at, line_at}
+use Rattle.do_sched.specs.Reading.{run_line_at, take_line_at, close_line_at, lose_line_at}
+use Rattle.do_sched.specs.Reading.{timeout_line_at, on_word, form_at, line_at}
 use Rattle.do_sched.proofs.ValuesExact.{values_takes, values_again, spaced_value_first}
 
 -- ---- a node's number, and one more

@@ -1,25 +1,18 @@
 -- No line of a schedule has a line feed in it.
 use Rattle.std.proofs.Common.{◌≡◌, ◌≢◌, ℕ, ◌+◌, ◌≤◌, ◌<◌, ◌/◌, ◌%◌, ◌^◌, Bool, true, false, cond}
 use Rattle.std.proofs.Common.{List as Listed, [], ◌∷◌, ◌++◌, refl, sym, ap, subst, ◌∙◌, arith}
-use Rattle.std.specs.Prelude.{codes, not, nat_lt, ◌==◌}
-use Rattle.std.specs.List.{flat_map, AllByRecursion, list_all}
-use Rattle.std.specs.Fmt.{decimal}
-use Rattle.std.proofs.lemmas.Bool.Decides.{nat_tests}
+use Rattle.std.specs.{Prelude.{codes, not, nat_lt, ◌==◌}, List.{flat_map, AllByRecursion, list_all}}
+use Rattle.std.{specs.Fmt.decimal, proofs.lemmas.Bool.Decides.nat_tests}
 use Rattle.do_base.specs.declared.values.value.Value.{Value}
-use Rattle.do_grammar.specs.Words.{Without}
-use Rattle.do_grammar.specs.Quoted.{is_plain, hex_digit, quoted_byte, quoted}
+use Rattle.do_grammar.specs.{Words.Without, Quoted.{is_plain, hex_digit, quoted_byte, quoted}}
 use Rattle.do_grammar.proofs.texts.WordBytes.{Without-passes, Without-append}
 use Rattle.do_grammar.proofs.texts.NameBytes.{Without-selector}
 use Rattle.do_grammar.proofs.texts.IntExact.{Without-decimal, Without-signed}
-use Rattle.do_sched.specs.declared.line.Line.{Line}
-use Rattle.do_sched.specs.declared.line.Line.TheVariants.{Start, Run, Take, Close, Lose, Timeout}
-use Rattle.do_sched.specs.declared.line.Line.TheVariants.{Check}
-use Rattle.do_sched.specs.declared.version.Version.{Version}
-use Rattle.do_sched.specs.declared.version.Version.TheVariants.{First, Second}
-use Rattle.do_sched.specs.Value.{value_text}
-use Rattle.do_sched.specs.Version.{header, longest}
-use Rattle.do_sched.specs.Spelling.{spaced_value, number_pair, line_spelling}
-use Rattle.do_sched.specs.Good.{IsPlain, nil, number, text, IsLineOf}
+use Rattle.do_sched.specs.declared.line.Line.{Line, TheVariants.{Start, Run, Take, Close, Lose}}
+use Rattle.do_sched.specs.declared.{line.Line.TheVariants.{Timeout, Check}, version.Version.Version}
+use Rattle.do_sched.specs.{declared.version.Version.TheVariants.{First, Second}, Value.value_text}
+use Rattle.do_sched.specs.{Version.{header, longest}, Spelling.{spaced_value, number_pair}}
+use Rattle.do_sched.specs.{Spelling.line_spelling, Good.{IsPlain, nil, number, text, IsLineOf}}
 use Rattle.do_sched.proofs.ValuesExact.{value_text-Nil, value_text-Num, value_text-Text}
 
 -- a text that a test finds without a line feed has none

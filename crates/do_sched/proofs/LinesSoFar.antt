@@ -1,25 +1,16 @@
 -- What the lines of a text that were read so far say of its bytes.
+use Rattle.do_grammar.specs.Lines as text
 use Rattle.std.proofs.Common.{◌≡◌, ◌≢◌, ℕ, ◌+◌, ◌<◌, ◌≤◌, Bool, true, false, cond, List as Listed}
 use Rattle.std.proofs.Common.{[], ◌∷◌, ◌++◌, length, map, Some, None, refl, sym, ap, subst, ◌∙◌}
 use Rattle.std.proofs.Common.{append_assoc, arith}
-use Rattle.std.specs.Prelude.{◌&&◌}
-use Rattle.std.specs.List.{flat_map, AllByRecursion}
-use Rattle.std.specs.Str.{bytes_eq}
-use Rattle.std.proofs.lemmas.List.{map-append}
-use Rattle.std.proofs.lemmas.List.Sums.{sum_by-append}
-use Rattle.std.proofs.lemmas.Slice.Eq.{bytes_eq-Decides}
-use Rattle.do_grammar.specs.Lines.{cut, line_bytes, in_front}
-use Rattle.do_grammar.specs.Lines as text
-use Rattle.do_grammar.proofs.texts.LinesExact.{cut_whole}
-use Rattle.do_sched.specs.declared.line.Line.{Line}
-use Rattle.do_sched.specs.declared.version.Version.{Version}
-use Rattle.do_sched.specs.Version.{header}
-use Rattle.do_sched.specs.Spelling.{line_spelling, footer, fed, steps, steps_of}
-use Rattle.do_sched.specs.Good.{IsLineOf}
+use Rattle.std.specs.{Prelude.◌&&◌, List.{flat_map, AllByRecursion}, Str.bytes_eq}
+use Rattle.std.proofs.lemmas.{List.{map-append, Sums.sum_by-append}, Slice.Eq.bytes_eq-Decides}
+use Rattle.do_grammar.{specs.Lines.{cut, line_bytes, in_front}, proofs.texts.LinesExact.cut_whole}
+use Rattle.do_sched.specs.{declared.{line.Line.Line, version.Version.Version}, Version.header}
+use Rattle.do_sched.specs.{Spelling.{line_spelling, footer, fed, steps, steps_of}, Good.IsLineOf}
 use Rattle.do_sched.specs.Schedule.{IsScheduleOf, Opens, IsBadLine, at_first, between, behind}
 use Rattle.do_sched.specs.Schedule.{IsTooMany, over, IsEndMissing, at_start, later, most_steps}
-use Rattle.do_sched.specs.Schedule.{whole}
-use Rattle.do_sched.specs.Reading.{line_at, is_whole, line_in}
+use Rattle.do_sched.specs.{Schedule.whole, Reading.{line_at, is_whole, line_in}}
 use Rattle.do_sched.proofs.LineExact.{line_takes, line_again}
 
 -- ---- whole lines

@@ -1,21 +1,15 @@
 -- A schedule of the first version, written anew, is one of the second version.
-use Rattle.std.proofs.Common.{◌≡◌, ℕ, ◌≤◌, List as Listed, [], ◌∷◌, ◌++◌, length, drop, Result}
-use Rattle.std.proofs.Common.{Ok, Err}
-use Rattle.std.proofs.Common.{ap, ◌∙◌, arith}
-use Rattle.std.specs.List.{AllByRecursion}
+use Rattle.std.proofs.Common.{◌≡◌, ℕ, ◌≤◌, List as Listed, [], ◌∷◌, ◌++◌, length, drop, Result, Ok}
+use Rattle.std.{proofs.Common.{Err, ap, ◌∙◌, arith}, specs.List.AllByRecursion}
 use Rattle.do_base.specs.declared.values.value.Value.{Value}
-use Rattle.do_sched.specs.declared.line.Line.{Line}
-use Rattle.do_sched.specs.declared.line.Line.TheVariants.{Start, Run, Take, Close, Lose, Timeout}
-use Rattle.do_sched.specs.declared.line.Line.TheVariants.{Check}
+use Rattle.do_sched.specs.declared.line.Line.{Line, TheVariants.{Start, Run, Take, Close, Lose}}
+use Rattle.do_sched.specs.declared.line.Line.TheVariants.{Timeout, Check}
 use Rattle.do_sched.specs.declared.fault.SchedFault.{SchedFault}
 use Rattle.do_sched.specs.declared.fault.SchedFault.TheVariants.{BadLine, TooMany, NoEnd, Memory}
-use Rattle.do_sched.specs.declared.version.Version.TheVariants.{First, Second}
-use Rattle.do_sched.specs.Version.{header, longest}
-use Rattle.do_sched.specs.Spelling.{spelling}
-use Rattle.do_sched.specs.Good.{IsPlain, nil, number, text, IsLineOf}
-use Rattle.do_sched.specs.Schedule.{IsScheduleOf, IsFaultOf}
-use Rattle.do_sched.specs.Answers.{TellsSchedule, AnswersWith, Upgrades}
-use Rattle.do_sched.proofs.AnswerUnique.{accepted, refused}
+use Rattle.do_sched.specs.{declared.version.Version.TheVariants.{First, Second}, Version.header}
+use Rattle.do_sched.specs.{Version.longest, Spelling.spelling, Good.{IsPlain, nil, number, text}}
+use Rattle.do_sched.specs.{Good.IsLineOf, Schedule.{IsScheduleOf, IsFaultOf}, Answers.TellsSchedule}
+use Rattle.do_sched.{specs.Answers.{AnswersWith, Upgrades}, proofs.AnswerUnique.{accepted, refused}}
 
 -- a value that is plain by the shorter limit is plain by the longer
 plain_longer : (v : Value) → IsPlain (longest First) v → IsPlain (longest Second) v

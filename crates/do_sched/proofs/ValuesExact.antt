@@ -1,27 +1,19 @@
 -- The values of a line are read exactly.
-use Rattle.std.proofs.Common.{◌≡◌, ℕ, zero, suc, Bool, true, false, cond, eqb, List as Listed}
-use Rattle.std.proofs.Common.{[], ◌∷◌, ◌++◌, length, Option, Some, None, refl, sym, ap, subst, ◌∙◌}
-use Rattle.std.proofs.Common.{arith, rules}
-use Rattle.std.specs.Prelude.{ℤ, ◌<◌, ◌^◌, ◌==◌, not, codes}
-use Rattle.std.specs.Int.Signed.{mag}
-use Rattle.std.specs.List.{flat_map, AllByRecursion}
-use Rattle.std.specs.Fmt.{signed_decimal}
-use Rattle.std.specs.Str.{bytes_eq}
-use Rattle.std.proofs.lemmas.Bool.{eqb-true}
-use Rattle.std.proofs.lemmas.Slice.Eq.{bytes_eq-Decides}
+use Rattle.std.proofs.Common.{◌≡◌, ℕ, zero, suc, Bool, true, false, cond, eqb, List as Listed, []}
+use Rattle.std.proofs.Common.{◌∷◌, ◌++◌, length, Option, Some, None, refl, sym, ap, subst, ◌∙◌}
+use Rattle.std.{proofs.Common.{arith, rules}, specs.Prelude.{ℤ, ◌<◌, ◌^◌, ◌==◌, not, codes}}
+use Rattle.std.specs.{Int.Signed.mag, List.{flat_map, AllByRecursion}, Fmt.signed_decimal}
+use Rattle.std.{specs.Str.bytes_eq, proofs.lemmas.{Bool.eqb-true, Slice.Eq.bytes_eq-Decides}}
 use Rattle.do_base.specs.declared.values.value.Value.{Value, the_lemmas}
 use Rattle.do_base.specs.declared.values.value.Value.TheVariants.{Nil, Num, Text}
-use Rattle.do_grammar.specs.Dec.{dec_in, int_in}
-use Rattle.do_grammar.specs.Quoted.{quoted, quoted_at}
+use Rattle.do_grammar.specs.{Dec.{dec_in, int_in}, Quoted.{quoted, quoted_at}}
 use Rattle.do_grammar.specs.Words.{◌>>?◌, part, EndsBefore, Without}
 use Rattle.do_grammar.proofs.texts.WordBytes.{some_is, chain_some, Without-passes}
 use Rattle.do_grammar.proofs.texts.WordExact.{part_takes, part_again}
 use Rattle.do_grammar.proofs.texts.IntExact.{int_takes, int_again, Without-signed}
 use Rattle.do_grammar.proofs.texts.QuotedExact.{quoted_takes, quoted_again}
-use Rattle.do_sched.specs.Value.{value_text}
-use Rattle.do_sched.specs.Spelling.{spaced_value}
-use Rattle.do_sched.specs.Good.{IsPlain, nil, number, text}
-use Rattle.do_sched.specs.Reading.{word_value, is_quote_first, plain_at, values_at}
+use Rattle.do_sched.specs.{Value.value_text, Spelling.spaced_value, Good.{IsPlain, nil, number}}
+use Rattle.do_sched.specs.{Good.text, Reading.{word_value, is_quote_first, plain_at, values_at}}
 
 -- ---- how plain values are spelled
 

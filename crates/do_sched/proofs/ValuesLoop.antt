@@ -1,9 +1,7 @@
 -- The turns of the loop over the values of a line.
 use Rattle.std.proofs.Common.{◌≡◌, ◌≢◌, ℕ, suc, ◌+◌, ◌-◌, ◌<◌, ◌≤◌, List as Listed, [], ◌∷◌, ◌++◌}
 use Rattle.std.proofs.Common.{length, Option, Some, None, refl, sym, ap, ◌∙◌, append_assoc, arith}
-use Rattle.std.specs.Option.{option_map}
-use Rattle.std.proofs.lemmas.Bool.{ne_eqb}
-use Rattle.std.proofs.lemmas.List.{append-nil}
+use Rattle.std.{specs.Option.option_map, proofs.lemmas.{Bool.ne_eqb, List.append-nil}}
 use Rattle.do_base.specs.declared.values.value.Value.{Value}
 use Rattle.do_grammar.specs.Words.{◌>>?◌}
 use Rattle.do_sched.specs.Reading.{plain_at, values_at}

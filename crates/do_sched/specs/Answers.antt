@@ -1,9 +1,7 @@
 -- What the answers of the readers of schedules say of the bytes.
 use Rattle.std.specs.Prelude.{◌≡◌, ℕ, List as Listed, Result, Ok, Err}
-use Rattle.do_sched.specs.declared.line.Line.{Line}
-use Rattle.do_sched.specs.declared.fault.SchedFault.{SchedFault}
-use Rattle.do_sched.specs.declared.fault.SchedFault.TheVariants.{Memory}
-use Rattle.do_sched.specs.declared.version.Version.{Version}
+use Rattle.do_sched.specs.declared.{line.Line.Line, fault.SchedFault.SchedFault}
+use Rattle.do_sched.specs.declared.{fault.SchedFault.TheVariants.Memory, version.Version.Version}
 use Rattle.do_sched.specs.declared.version.Version.TheVariants.{First}
 use Rattle.do_sched.specs.Schedule.{IsScheduleOf, IsFaultOf, IsSchedule}
 

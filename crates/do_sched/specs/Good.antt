@@ -1,15 +1,10 @@
 -- The lines that may stand in a schedule.
 use Rattle.std.specs.Prelude.{ℤ, ◌≡◌, ℕ, ◌<◌, ◌≤◌, ◌^◌, List as Listed, length, IsTrue}
-use Rattle.std.specs.List.{AllByRecursion}
-use Rattle.std.specs.Int.Signed.{mag}
-use Rattle.do_base.specs.declared.values.value.Value.{Value}
-use Rattle.do_base.specs.declared.values.value.Value.TheVariants.{Nil, Num, Text}
-use Rattle.do_grammar.specs.Grammar.{IsBytes}
-use Rattle.do_grammar.specs.Names.{is_selector, colons}
-use Rattle.do_sched.specs.declared.line.Line.{Line}
-use Rattle.do_sched.specs.declared.line.Line.TheVariants.{Start, Run, Take, Close, Lose, Timeout}
-use Rattle.do_sched.specs.declared.line.Line.TheVariants.{Check}
-use Rattle.do_sched.specs.declared.version.Version.{Version}
+use Rattle.std.specs.{List.AllByRecursion, Int.Signed.mag}
+use Rattle.do_base.specs.declared.values.value.Value.{Value, TheVariants.{Nil, Num, Text}}
+use Rattle.do_grammar.specs.{Grammar.IsBytes, Names.{is_selector, colons}}
+use Rattle.do_sched.specs.declared.line.Line.{Line, TheVariants.{Start, Run, Take, Close, Lose}}
+use Rattle.do_sched.specs.declared.{line.Line.TheVariants.{Timeout, Check}, version.Version.Version}
 use Rattle.do_sched.specs.declared.version.Version.TheVariants.{Second}
 use Rattle.do_sched.specs.Version.{longest, has_timeouts}
 

@@ -1,19 +1,12 @@
 -- The line that a text spells, as it is read word by word.
-use Rattle.std.specs.Prelude.{Bool, false, ◌&&◌, ℕ, zero, suc, ◌==◌, List as Listed, [], ◌∷◌}
-use Rattle.std.specs.Prelude.{Option}
-use Rattle.std.specs.Prelude.{Some, None, if◌then◌else◌, codes}
-use Rattle.std.specs.Str.{bytes_eq}
-use Rattle.do_base.specs.declared.values.value.Value.{Value}
-use Rattle.do_base.specs.declared.values.value.Value.TheVariants.{Nil, Num, Text}
-use Rattle.do_grammar.specs.Dec.{dec_in, int_in}
-use Rattle.do_grammar.specs.Names.{is_selector, colons}
 use Rattle.do_grammar.specs.Lines as text
-use Rattle.do_grammar.specs.Quoted.{quoted_at}
+use Rattle.std.specs.Prelude.{Bool, false, ◌&&◌, ℕ, zero, suc, ◌==◌, List as Listed, [], ◌∷◌}
+use Rattle.std.specs.{Prelude.{Option, Some, None, if◌then◌else◌, codes}, Str.bytes_eq}
+use Rattle.do_base.specs.declared.values.value.Value.{Value, TheVariants.{Nil, Num, Text}}
+use Rattle.do_grammar.specs.{Dec.{dec_in, int_in}, Names.{is_selector, colons}, Quoted.quoted_at}
 use Rattle.do_grammar.specs.Words.{◌>>?◌, word, part}
-use Rattle.do_sched.specs.declared.line.Line.{Line}
-use Rattle.do_sched.specs.declared.line.Line.TheVariants.{Start, Run, Take, Close, Lose, Timeout}
-use Rattle.do_sched.specs.declared.line.Line.TheVariants.{Check}
-use Rattle.do_sched.specs.declared.version.Version.{Version}
+use Rattle.do_sched.specs.declared.line.Line.{Line, TheVariants.{Start, Run, Take, Close, Lose}}
+use Rattle.do_sched.specs.declared.{line.Line.TheVariants.{Timeout, Check}, version.Version.Version}
 use Rattle.do_sched.specs.Version.{longest, has_timeouts}
 
 -- a node's number

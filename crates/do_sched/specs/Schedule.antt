@@ -1,15 +1,11 @@
 -- Which bytes are a schedule, and which line of other bytes is at fault.
-use Rattle.std.specs.Prelude.{true, ◌≡◌, ◌≢◌, ℕ, ◌+◌, ◌<◌, ◌≤◌, List as Listed, [], ◌∷◌, ◌++◌}
-use Rattle.std.specs.Prelude.{length, map, ◌⊎◌}
-use Rattle.std.specs.List.{AllByRecursion}
-use Rattle.do_grammar.specs.Lines.{cut}
 use Rattle.do_grammar.specs.Lines as text
-use Rattle.do_sched.specs.declared.line.Line.{Line}
-use Rattle.do_sched.specs.declared.fault.SchedFault.{SchedFault}
+use Rattle.std.specs.Prelude.{true, ◌≡◌, ◌≢◌, ℕ, ◌+◌, ◌<◌, ◌≤◌, List as Listed, [], ◌∷◌, ◌++◌}
+use Rattle.std.specs.{Prelude.{length, map, ◌⊎◌}, List.AllByRecursion}
+use Rattle.do_grammar.specs.Lines.{cut}
+use Rattle.do_sched.specs.declared.{line.Line.Line, fault.SchedFault.SchedFault}
 use Rattle.do_sched.specs.declared.fault.SchedFault.TheVariants.{BadLine, TooMany, NoEnd, Memory}
-use Rattle.do_sched.specs.declared.version.Version.{Version}
-use Rattle.do_sched.specs.declared.version.Version.TheVariants.{Second}
-use Rattle.do_sched.specs.Version.{header}
+use Rattle.do_sched.specs.{declared.version.Version.{Version, TheVariants.Second}, Version.header}
 use Rattle.do_sched.specs.Spelling.{line_spelling, footer, spelling, steps, steps_of}
 use Rattle.do_sched.specs.Good.{IsLineOf}
 

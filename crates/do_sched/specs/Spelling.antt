@@ -1,14 +1,10 @@
 -- The lines of a schedule as bytes, and what they count.
-use Rattle.std.specs.Prelude.{ℕ, List as Listed, [], ◌∷◌, ◌++◌, sum_by, codes}
-use Rattle.std.specs.List.{flat_map}
+use Rattle.std.specs.{Prelude.{ℕ, List as Listed, [], ◌∷◌, ◌++◌, sum_by, codes}, List.flat_map}
 use Rattle.std.specs.Fmt.{decimal}
 use Rattle.do_base.specs.declared.values.value.Value.{Value}
-use Rattle.do_sched.specs.declared.line.Line.{Line}
-use Rattle.do_sched.specs.declared.line.Line.TheVariants.{Start, Run, Take, Close, Lose, Timeout}
-use Rattle.do_sched.specs.declared.line.Line.TheVariants.{Check}
-use Rattle.do_sched.specs.declared.version.Version.{Version}
-use Rattle.do_sched.specs.Value.{value_text}
-use Rattle.do_sched.specs.Version.{header}
+use Rattle.do_sched.specs.declared.line.Line.{Line, TheVariants.{Start, Run, Take, Close, Lose}}
+use Rattle.do_sched.specs.declared.{line.Line.TheVariants.{Timeout, Check}, version.Version.Version}
+use Rattle.do_sched.specs.{Value.value_text, Version.header}
 
 -- a space, and a value
 abbrev pub spaced_value : Value → Listed ℕ

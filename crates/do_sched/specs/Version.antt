@@ -1,8 +1,7 @@
 -- What the two versions of schedules differ in.
 use Rattle.std.specs.Prelude.{ℕ, Bool, true, false, List, codes}
 use Rattle.do_base.specs.values.Texts.{longest_text}
-use Rattle.do_sched.specs.declared.version.Version.{Version}
-use Rattle.do_sched.specs.declared.version.Version.TheVariants.{First, Second}
+use Rattle.do_sched.specs.declared.version.Version.{Version, TheVariants.{First, Second}}
 
 -- the first line of a schedule
 abbrev pub header : Version → List ℕ

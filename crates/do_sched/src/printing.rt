@@ -1,5 +1,4 @@
-ghost use Rattle.std.specs.Prelude.{◌≡◌, ◌++◌, ◌∷◌, OnOk, IfOk, map, take};
-ghost use Rattle.std.specs.List.{flat_map};
+ghost use Rattle.std.specs.{Prelude.{◌≡◌, ◌++◌, ◌∷◌, OnOk, IfOk, map, take}, List.flat_map};
 ghost use Rattle.do_sched.specs.Spelling.{line_spelling, number_pair, spaced_value};
 
 use crate::line::Line;

@@ -1,10 +1,8 @@
-ghost use Rattle.std.specs.Prelude.{◌≡◌, List, Ok, Err, IfOk};
 ghost use Rattle.do_sched.specs.declared.line.Line as line;
 ghost use Rattle.do_sched.specs.declared.fault.SchedFault as fault;
-ghost use Rattle.do_sched.specs.declared.version.Version.TheVariants.{Second};
-ghost use Rattle.do_sched.specs.Spelling.{steps};
-ghost use Rattle.do_sched.specs.Schedule.{IsSchedule, IsFault};
-ghost use Rattle.do_sched.specs.Reading.{is_whole, line_in};
+ghost use Rattle.std.specs.Prelude.{◌≡◌, List, Ok, Err, IfOk};
+ghost use Rattle.do_sched.specs.{declared.version.Version.TheVariants.Second, Spelling.steps};
+ghost use Rattle.do_sched.specs.{Schedule.{IsSchedule, IsFault}, Reading.{is_whole, line_in}};
 ghost use Rattle.do_sched.specs.Answers.{TellsSchedule, AnswersWith};
 
 use crate::fault::SchedFault;

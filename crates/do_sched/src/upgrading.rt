@@ -1,11 +1,9 @@
-ghost use Rattle.std.specs.Prelude.{◌≡◌, ◌≤◌, List, Ok, Err, OnOk, IfOk, length, drop, ◌++◌};
 ghost use Rattle.do_sched.specs.declared.line.Line as line;
 ghost use Rattle.do_sched.specs.declared.fault.SchedFault as fault;
+ghost use Rattle.std.specs.Prelude.{◌≡◌, ◌≤◌, List, Ok, Err, OnOk, IfOk, length, drop, ◌++◌};
 ghost use Rattle.do_sched.specs.declared.version.Version.TheVariants.{First, Second};
-ghost use Rattle.do_sched.specs.Version.{header};
-ghost use Rattle.do_sched.specs.Spelling.{spelling};
-ghost use Rattle.do_sched.specs.Schedule.{IsScheduleOf, IsFaultOf};
-ghost use Rattle.do_sched.specs.Answers.{TellsUpgraded, AnswersWith};
+ghost use Rattle.do_sched.specs.{Version.header, Spelling.spelling, Schedule.IsScheduleOf};
+ghost use Rattle.do_sched.specs.{Schedule.IsFaultOf, Answers.{TellsUpgraded, AnswersWith}};
 
 use crate::fault::SchedFault;
 use crate::reading::lines_of;

@@ -1,12 +1,9 @@
 ghost use Rattle.std.specs.Prelude.{◌≡◌, ◌≤◌, IfOk, IfSome, length};
-ghost use Rattle.do_grammar.specs.Dec.{dec_in};
-ghost use Rattle.do_grammar.specs.Quoted.{front_view};
-ghost use Rattle.do_grammar.specs.Words.{word, part, text_view};
-ghost use Rattle.do_sched.specs.Version.{longest};
-ghost use Rattle.do_sched.specs.Reading.{port_at, pair_at, word_value, is_quote_first, plain_at};
-ghost use Rattle.do_sched.specs.Reading.{values_at, start_line_at, run_line_at, take_line_at};
-ghost use Rattle.do_sched.specs.Reading.{close_line_at, lose_line_at, timeout_line_at, form_at};
-ghost use Rattle.do_sched.specs.Reading.{line_at};
+ghost use Rattle.do_grammar.specs.{Dec.dec_in, Quoted.front_view, Words.{word, part, text_view}};
+ghost use Rattle.do_sched.specs.{Version.longest, Reading.{port_at, pair_at, word_value}};
+ghost use Rattle.do_sched.specs.Reading.{is_quote_first, plain_at, values_at, start_line_at};
+ghost use Rattle.do_sched.specs.Reading.{run_line_at, take_line_at, close_line_at, lose_line_at};
+ghost use Rattle.do_sched.specs.Reading.{timeout_line_at, form_at, line_at};
 
 use crate::line::Line;
 use crate::version::Version;

@@ -1,15 +1,11 @@
 -- A text has one first fault at most, and then no code.
-use Rattle.std.proofs.Common.{◌≡◌, ℕ, ◌+◌, ◌-◌, ◌<◌, ◌≤◌, List, Some, None, sym, ◌∙◌, ap}
-use Rattle.std.proofs.Common.{inl, inr, refl, arith}
-use Rattle.std.specs.Prelude.{◌⊎◌, Result, Ok, Err, IfOk, IfErr, IsErrAnd}
-use Rattle.std.proofs.lemmas.Bool.{cases_lt}
-use Rattle.do_script.specs.declared.fault.Kind.{Kind}
-use Rattle.do_script.specs.declared.fault.Kind.TheVariants.{Op, Local, Jump, Long}
-use Rattle.do_script.specs.declared.fault.AsmFault.{AsmFault}
-use Rattle.do_script.specs.declared.fault.AsmFault.TheVariants.{BadOp, BadLocal, BadJump, TooLong}
-use Rattle.do_script.specs.declared.fault.AsmFault.TheVariants.{Memory}
-use Rattle.do_script.specs.Operands.{Scope}
-use Rattle.do_script.specs.Program.{Statement, fault_at, program}
+use Rattle.std.proofs.Common.{◌≡◌, ℕ, ◌+◌, ◌-◌, ◌<◌, ◌≤◌, List, Some, None, sym, ◌∙◌, ap, inl, inr}
+use Rattle.std.{proofs.Common.{refl, arith}, specs.Prelude.{◌⊎◌, Result, Ok, Err, IfOk, IfErr}}
+use Rattle.std.{specs.Prelude.IsErrAnd, proofs.lemmas.Bool.cases_lt}
+use Rattle.do_script.specs.declared.fault.Kind.{Kind, TheVariants.{Op, Local, Jump, Long}}
+use Rattle.do_script.specs.declared.fault.AsmFault.{AsmFault, TheVariants.{BadOp, BadLocal}}
+use Rattle.do_script.specs.declared.fault.AsmFault.TheVariants.{BadJump, TooLong, Memory}
+use Rattle.do_script.specs.{Operands.Scope, Program.{Statement, fault_at, program}}
 use Rattle.do_script.specs.Assembly.{HasNoFault, IsCodeOf, IsFault, IsFirstFault, refusal, scope}
 use Rattle.do_script.specs.Listing.{Listing}
 

@@ -1,11 +1,9 @@
 -- What the first word leaves of a line.
 use Rattle.std.proofs.Common.{◌≡◌, ℕ, zero, suc, ◌+◌, ◌-◌, ◌<◌, ◌≤◌, Bool, true, false, cond, eqb}
 use Rattle.std.proofs.Common.{List, [], ◌∷◌, length, drop, Option, Some, None, refl, sym, ap, subst}
-use Rattle.std.proofs.Common.{arith, length-drop, one-add}
-use Rattle.std.specs.Option.{option_map_or}
-use Rattle.do_script.specs.Quoted.{quoted_size}
-use Rattle.do_script.specs.Words.{gap_size, plain_size, word_size, cut_word, first_word}
-use Rattle.do_script.specs.Words.{words_within, words}
+use Rattle.std.{proofs.Common.{arith, length-drop, one-add}, specs.Option.option_map_or}
+use Rattle.do_script.specs.{Quoted.quoted_size, Words.{gap_size, plain_size, word_size, cut_word}}
+use Rattle.do_script.specs.Words.{first_word, words_within, words}
 
 -- no space is in front
 abbrev NoGap : List ℕ → Type 0

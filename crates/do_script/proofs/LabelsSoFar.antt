@@ -2,18 +2,13 @@
 use Rattle.std.proofs.Common.{◌≡◌, ℕ, ◌+◌, [], ◌∷◌, Bool, true, false, cond, List, Option, Some}
 use Rattle.std.proofs.Common.{None, refl, sym, ap, ◌∙◌, arith, ◌≤◌}
 use mathlib.Core.Path.{fun_ext}
-use Rattle.std.specs.Option.{option_or}
-use Rattle.std.specs.Str.{bytes_eq}
-use Rattle.std.proofs.lemmas.Slice.Eq.{bytes_eq-Decides}
+use Rattle.std.{specs.{Option.option_or, Str.bytes_eq}, proofs.lemmas.Slice.Eq.bytes_eq-Decides}
 use Rattle.do_script.specs.declared.labels.Label.{Label}
 use Rattle.do_grammar.specs.Lines.{cut}
 use Rattle.do_script.specs.Labels.{if_named, label_in, AreLabelsOf, PlacesWithin}
-use Rattle.do_script.specs.declared.labels.Labels.{Labels}
-use Rattle.do_script.specs.Operands.{Scope}
-use Rattle.do_script.specs.Assembly.{scope}
-use Rattle.do_script.specs.Words.{words}
-use Rattle.do_script.specs.Program.{Statement, nothing, label, no_label, instruction, statement_of}
-use Rattle.do_script.specs.Program.{program, size, label_from}
+use Rattle.do_script.specs.{declared.labels.Labels.Labels, Operands.Scope, Assembly.scope}
+use Rattle.do_script.specs.{Words.words, Program.{Statement, nothing, label, no_label, instruction}}
+use Rattle.do_script.specs.Program.{statement_of, program, size, label_from}
 
 same_bytes : (xs ys : List ℕ) → bytes_eq xs ys ≡ true → xs ≡ ys
 same_bytes xs ys e = (bytes_eq-Decides xs ys).0 e

@@ -3,19 +3,13 @@ use Rattle.std.proofs.Common.{◌≡◌, ℕ, zero, suc, ◌+◌, ◌-◌, ◌<�
 use Rattle.std.proofs.Common.{leb, [], ◌∷◌, ◌++◌, List, Option, Some, None, Result, Ok, Err, length}
 use Rattle.std.proofs.Common.{take, drop, slice_get, ok_or, All, IfSome, refl, sym, ap, ◌∙◌, inl}
 use Rattle.std.proofs.Common.{inr, arith, add-one, below_more, length-append, length-drop}
-use Rattle.std.proofs.Common.{append_assoc, append-nil}
-use Rattle.std.proofs.lemmas.Bool.{cases_lt, leb-false}
-use Rattle.std.proofs.lemmas.Option.{slice_get_past}
-use Rattle.std.proofs.lemmas.List.{take_all}
-use Rattle.do_script.specs.declared.instruction.Instruction.{Instruction}
-use Rattle.do_script.specs.declared.labels.Label.{Label}
-use Rattle.do_script.specs.declared.form.Form.{Form}
-use Rattle.do_script.specs.declared.fault.LineFault.{LineFault}
-use Rattle.do_script.specs.declared.fault.LineFault.TheVariants.{Bad, Memory}
-use Rattle.do_script.specs.Fault.{◌>>=◌, Reads}
+use Rattle.std.proofs.{Common.{append_assoc, append-nil}, lemmas.Bool.{cases_lt, leb-false}}
+use Rattle.std.proofs.lemmas.{Option.slice_get_past, List.take_all}
+use Rattle.do_script.specs.declared.{instruction.Instruction.Instruction, labels.Label.Label}
+use Rattle.do_script.specs.declared.{form.Form.Form, fault.LineFault.{LineFault, TheVariants.Bad}}
+use Rattle.do_script.specs.{declared.fault.LineFault.TheVariants.Memory, Fault.{◌>>=◌, Reads}}
 use Rattle.std.specs.Option.{option_to_list}
-use Rattle.do_script.specs.InstructionNames.{form_of}
-use Rattle.do_script.specs.declared.fault.Kind.{Kind}
+use Rattle.do_script.specs.{InstructionNames.form_of, declared.fault.Kind.Kind}
 use Rattle.do_script.specs.declared.fault.Kind.TheVariants.{Op, Local, Jump, Long}
 use Rattle.do_script.specs.Operands.{Scope, instruction as instruction_of}
 use Rattle.do_script.specs.Program.{Statement, nothing, label, no_label, instruction, size, made}

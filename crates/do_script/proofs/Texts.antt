@@ -1,8 +1,7 @@
 -- A text that was read in quotes is within its limit.
 use Rattle.std.proofs.Common.{◌≡◌, ℕ, zero, suc, ◌≤◌, List, [], ◌∷◌, length, Option, Some, None}
 use Rattle.std.proofs.Common.{Bool, true, false, cond, eqb, refl, arith}
-use Rattle.do_grammar.specs.Words.{◌>>?◌}
-use Rattle.do_grammar.specs.Quoted.{piece_at, closing, closed_or, denoted, quoted_at}
+use Rattle.do_grammar.specs.{Words.◌>>?◌, Quoted.{piece_at, closing, closed_or, denoted, quoted_at}}
 
 denoted_short : (n : ℕ) (bytes : List ℕ) (x : List ℕ × List ℕ) → denoted n bytes ≡ Some x
     → length x.0 ≤ n

@@ -1,15 +1,12 @@
 -- What the assembler's answers tell of a text.
 use Rattle.std.specs.Prelude.{◌≡◌, ℕ, ◌+◌, ◌-◌, ◌<◌, ◌≤◌, List, length, Some, None}
-use Rattle.do_script.specs.declared.instruction.Instruction.{Instruction}
-use Rattle.do_script.specs.declared.fault.Kind.{Kind}
+use Rattle.do_script.specs.declared.{instruction.Instruction.Instruction, fault.Kind.Kind}
 use Rattle.do_script.specs.declared.fault.Kind.TheVariants.{Op, Local, Jump, Long}
 use Rattle.do_script.specs.declared.fault.LineFault.{LineFault}
 use Rattle.do_script.specs.declared.fault.LineFault.TheVariants.{Bad, Memory as NoMemory}
-use Rattle.do_script.specs.declared.fault.AsmFault.{AsmFault}
-use Rattle.do_script.specs.declared.fault.AsmFault.TheVariants.{BadOp, BadLocal, BadJump, TooLong}
-use Rattle.do_script.specs.declared.fault.AsmFault.TheVariants.{Memory}
-use Rattle.do_script.specs.Listing.{Listing}
-use Rattle.do_script.specs.Operands.{Scope}
+use Rattle.do_script.specs.declared.fault.AsmFault.{AsmFault, TheVariants.{BadOp, BadLocal}}
+use Rattle.do_script.specs.declared.fault.AsmFault.TheVariants.{BadJump, TooLong, Memory}
+use Rattle.do_script.specs.{Listing.Listing, Operands.Scope}
 use Rattle.do_script.specs.Program.{Statement, program, label_from, fault_at, code_from}
 
 -- the names that a text can use: those given, and its own labels

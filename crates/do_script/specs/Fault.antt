@@ -1,7 +1,6 @@
 -- Readings that stop at a fault.
 use Rattle.std.specs.Prelude.{◌≡◌, Result, Ok, Err}
-use Rattle.do_script.specs.declared.fault.Kind.{Kind}
-use Rattle.do_script.specs.declared.fault.LineFault.{LineFault}
+use Rattle.do_script.specs.declared.fault.{Kind.Kind, LineFault.LineFault}
 use Rattle.do_script.specs.declared.fault.LineFault.TheVariants.{Bad, Memory}
 
 infixl 10 ◌>>=◌

@@ -1,6 +1,5 @@
 -- The instructions by name.
-use Rattle.std.specs.Prelude.{ℕ, List, [], ◌∷◌, Option, Some, None, cond, map}
-use Rattle.std.specs.Str.{bytes_eq}
+use Rattle.std.specs.{Prelude.{ℕ, List, [], ◌∷◌, Option, Some, None, cond, map}, Str.bytes_eq}
 use Rattle.do_script.specs.declared.form.Form.{Form}
 use Rattle.do_script.specs.declared.instruction_names.TheConstants.{INSTRUCTION_NAMES}
 

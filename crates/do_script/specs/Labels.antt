@@ -1,21 +1,13 @@
 -- The labels that the code has found.
 use Rattle.std.specs.Prelude.{◌≡◌, ℕ, ◌≤◌, List, length, Option, Some, None, Result, IfOk}
-use Rattle.std.specs.Prelude.{if◌then◌else◌}
-use Rattle.std.specs.Str.{bytes_eq}
-use Rattle.std.specs.BTreeMap.{get_by}
-use Rattle.std.specs.Cmp.Lexicographic.{slice_cmp}
-use Rattle.std.specs.Ordering.{nat_cmp}
-use Rattle.do_script.specs.declared.labels.Label.{Label}
-use Rattle.do_script.specs.declared.labels.Labels.{Labels}
+use Rattle.std.specs.{Prelude.if◌then◌else◌, Str.bytes_eq, BTreeMap.get_by}
+use Rattle.std.specs.{Cmp.Lexicographic.slice_cmp, Ordering.nat_cmp}
+use Rattle.do_script.specs.declared.labels.{Label.Label, Labels.Labels}
 use Rattle.do_script.specs.declared.vocabulary.Vocabulary.{Vocabulary}
 use Rattle.do_script.specs.declared.instruction.Instruction.{Instruction}
-use Rattle.do_script.specs.Program.{Statement, label_from, size}
-use Rattle.do_script.specs.Operands.{Scope, instruction}
-use Rattle.do_script.specs.declared.form.Form.{Form}
-use Rattle.do_script.specs.declared.fault.LineFault.{LineFault}
-use Rattle.do_script.specs.Fault.{Reads}
-use Rattle.do_script.specs.Words.{words}
-use Rattle.do_script.specs.Listing.{IsWithin}
+use Rattle.do_script.specs.{Program.{Statement, label_from, size}, Operands.{Scope, instruction}}
+use Rattle.do_script.specs.{declared.{form.Form.Form, fault.LineFault.LineFault}, Fault.Reads}
+use Rattle.do_script.specs.{Words.words, Listing.IsWithin}
 
 -- the label under a name
 abbrev pub label_in : Labels → List ℕ → Option Label

@@ -1,13 +1,11 @@
 -- Code: its instructions, and what makes it run without a test.
-use Rattle.std.specs.Prelude.{◌≡◌, true, ℕ, ◌<◌, ◌≤◌, List, length}
-use Rattle.std.specs.List.{All}
+use Rattle.std.specs.{Prelude.{◌≡◌, true, ℕ, ◌<◌, ◌≤◌, List, length}, List.All}
 use Rattle.do_base.specs.values.Texts.{longest_text}
 use Rattle.do_grammar.specs.Names.{is_selector, colons}
-use Rattle.do_script.specs.declared.instruction.Instruction.{Instruction}
-use Rattle.do_script.specs.declared.instruction.Instruction.TheVariants.{Nil, Number, Text, Own}
-use Rattle.do_script.specs.declared.instruction.Instruction.TheVariants.{Move, Get, Set, Add}
-use Rattle.do_script.specs.declared.instruction.Instruction.TheVariants.{Subtract, Multiply, Less}
-use Rattle.do_script.specs.declared.instruction.Instruction.TheVariants.{Same, Jump, IfNot}
+use Rattle.do_script.specs.declared.instruction.Instruction.{Instruction, TheVariants.{Nil, Number}}
+use Rattle.do_script.specs.declared.instruction.Instruction.TheVariants.{Text, Own, Move, Get, Set}
+use Rattle.do_script.specs.declared.instruction.Instruction.TheVariants.{Add, Subtract, Multiply}
+use Rattle.do_script.specs.declared.instruction.Instruction.TheVariants.{Less, Same, Jump, IfNot}
 use Rattle.do_script.specs.declared.instruction.Instruction.TheVariants.{List as NewList, Push}
 use Rattle.do_script.specs.declared.instruction.Instruction.TheVariants.{Item, Count, New, Send}
 use Rattle.do_script.specs.declared.instruction.Instruction.TheVariants.{Root, Vend, Say, Return}

@@ -1,26 +1,20 @@
 -- Which instruction a name's form and the words behind the name make.
-use Rattle.std.specs.Prelude.{◌==◌, ℕ, ◌+◌, List, [], ◌∷◌, length, Option, Some, None, Result, Ok}
-use Rattle.std.specs.Prelude.{Err, if◌then◌else◌}
-use Rattle.std.specs.Option.{ok_or, option_map}
-use Rattle.std.specs.Str.{bytes_eq}
-use Rattle.do_grammar.specs.Dec.{dec_in, int_in}
-use Rattle.do_grammar.specs.Names.{is_name, is_selector, colons}
-use Rattle.do_script.specs.declared.instruction.Instruction.{Instruction}
 use Rattle.do_script.specs.declared.instruction.Instruction.TheVariants as made
-use Rattle.do_script.specs.declared.form.Form.{Form}
-use Rattle.do_script.specs.declared.form.Form.TheVariants.{Nothing, One, Two, Three, Number, Text}
-use Rattle.do_script.specs.declared.form.Form.TheVariants.{Get, Set, New, Send, Jump, IfNot, Catch}
 use Rattle.do_script.specs.declared.form.OneLocal as one
 use Rattle.do_script.specs.declared.form.OneLocal.TheVariants as ones
 use Rattle.do_script.specs.declared.form.TwoLocals as two
 use Rattle.do_script.specs.declared.form.TwoLocals.TheVariants as twos
 use Rattle.do_script.specs.declared.form.ThreeLocals as three
 use Rattle.do_script.specs.declared.form.ThreeLocals.TheVariants as threes
-use Rattle.do_script.specs.declared.labels.Label.{Label}
-use Rattle.do_script.specs.declared.fault.Kind.{Kind}
+use Rattle.std.specs.Prelude.{◌==◌, ℕ, ◌+◌, List, [], ◌∷◌, length, Option, Some, None, Result, Ok}
+use Rattle.std.specs.{Prelude.{Err, if◌then◌else◌}, Option.{ok_or, option_map}, Str.bytes_eq}
+use Rattle.do_grammar.specs.{Dec.{dec_in, int_in}, Names.{is_name, is_selector, colons}}
+use Rattle.do_script.specs.declared.{instruction.Instruction.Instruction, form.Form.Form}
+use Rattle.do_script.specs.declared.form.Form.TheVariants.{Nothing, One, Two, Three, Number, Text}
+use Rattle.do_script.specs.declared.form.Form.TheVariants.{Get, Set, New, Send, Jump, IfNot, Catch}
+use Rattle.do_script.specs.declared.{labels.Label.Label, fault.Kind.Kind}
 use Rattle.do_script.specs.declared.fault.Kind.TheVariants.{Op, Local, Jump as NoPlace}
-use Rattle.do_script.specs.Fault.{◌>>=◌}
-use Rattle.do_script.specs.Quoted.{quoted_in}
+use Rattle.do_script.specs.{Fault.◌>>=◌, Quoted.quoted_in}
 
 -- the names that a method's code can use: its class's slots, the classes, and where its labels are
 -- first defined

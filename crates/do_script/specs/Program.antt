@@ -1,19 +1,13 @@
 -- A method's text as a program: what each line says, where its labels are, and what is wrong with
 -- it.
+use Rattle.do_script.specs.Operands as operands
 use Rattle.std.specs.Prelude.{ℕ, ◌+◌, ◌==◌, nat_le, Bool, true, false, List, [], ◌∷◌, ◌++◌, map}
 use Rattle.std.specs.Prelude.{take, Option, Some, None, Result, Ok, Err, if◌then◌else◌, slice_get}
-use Rattle.std.specs.Option.{ok_or, option_and_then, option_map}
-use Rattle.std.specs.Str.{bytes_eq}
+use Rattle.std.specs.{Option.{ok_or, option_and_then, option_map}, Str.bytes_eq}
 use Rattle.do_grammar.specs.Lines.{cut}
-use Rattle.do_script.specs.declared.instruction.Instruction.{Instruction}
-use Rattle.do_script.specs.declared.labels.Label.{Label}
-use Rattle.do_script.specs.declared.fault.Kind.{Kind}
-use Rattle.do_script.specs.declared.fault.Kind.TheVariants.{Op, Jump, Long}
-use Rattle.do_script.specs.Fault.{◌>>=◌}
-use Rattle.do_script.specs.Words.{words}
-use Rattle.do_script.specs.InstructionNames.{form_of}
-use Rattle.do_script.specs.Operands as operands
-use Rattle.do_script.specs.Operands.{Scope}
+use Rattle.do_script.specs.declared.{instruction.Instruction.Instruction, labels.Label.Label}
+use Rattle.do_script.specs.{declared.fault.Kind.{Kind, TheVariants.{Op, Jump, Long}}, Fault.◌>>=◌}
+use Rattle.do_script.specs.{Words.words, InstructionNames.form_of, Operands.Scope}
 
 -- what a line says: nothing, the definition of a label, a faulty one, or an instruction by its name
 -- and the words behind it

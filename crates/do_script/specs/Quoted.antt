@@ -2,8 +2,7 @@
 use Rattle.std.specs.Prelude.{ℕ, ◌-◌, List, [], ◌∷◌, length, Option, Some, None}
 use Rattle.std.specs.Option.{option_map_or}
 use Rattle.do_base.specs.values.Texts.{longest_text}
-use Rattle.do_grammar.specs.Words.{◌>>?◌}
-use Rattle.do_grammar.specs.Quoted.{quoted_at}
+use Rattle.do_grammar.specs.{Words.◌>>?◌, Quoted.quoted_at}
 
 -- how many bytes the text in quotes has that begins the bytes, or 0
 unfoldable pub quoted_size : List ℕ → ℕ

@@ -1,8 +1,6 @@
 -- What a line says, as the code has it.
-use Rattle.do_script.specs.declared.statement.Said.{Said}
-use Rattle.do_script.specs.declared.statement.Said.TheVariants.{Nothing, Label, NoLabel}
-use Rattle.do_script.specs.declared.statement.Said.TheVariants.{Instruction}
-use Rattle.do_script.specs.Words.{words}
+use Rattle.do_script.specs.declared.statement.Said.{Said, TheVariants.{Nothing, Label, NoLabel}}
+use Rattle.do_script.specs.{declared.statement.Said.TheVariants.Instruction, Words.words}
 use Rattle.do_script.specs.Program.{Statement, nothing, label, no_label, instruction}
 
 -- the statement, whose operands are the words of the bytes behind the name

@@ -1,8 +1,6 @@
 -- The words of a line.
 use Rattle.std.specs.Prelude.{ℕ, zero, suc, ◌+◌, ◌==◌, not, List, [], ◌∷◌, length, take, drop}
-use Rattle.std.specs.Prelude.{Option, Some, None}
-use Rattle.std.specs.List.{prefix_len}
-use Rattle.std.specs.Option.{option_map_or}
+use Rattle.std.specs.{Prelude.{Option, Some, None}, List.prefix_len, Option.option_map_or}
 use Rattle.do_script.specs.Quoted.{quoted_size}
 
 -- how many spaces stand in front

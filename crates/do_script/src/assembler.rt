@@ -1,13 +1,9 @@
 ghost use Rattle.std.specs.Prelude.{◌≡◌, ◌+◌, ◌++◌, ◌<◌, ◌≤◌, ◌^◌, All, length, IfOk, IfErr};
-ghost use Rattle.std.specs.Prelude.{IfSome, OnOk};
-ghost use Rattle.std.specs.Prelude.{ℕ, ◌⊎◌, IsErrAnd};
-ghost use Rattle.std.specs.Option.{option_to_list};
-ghost use Rattle.do_script.specs.Fault.{Reads};
-ghost use Rattle.do_script.specs.Words.{words};
-ghost use Rattle.do_script.specs.Labels.{scope_in, PlacesWithin, IsInScope};
-ghost use Rattle.do_script.specs.Program.{program, statement_of, made, size};
-ghost use Rattle.do_script.specs.Assembly.{IsCode, IsCodeOf, IsFault, scope};
-ghost use Rattle.do_script.specs.Assembly.{HasNoFault, IsFirstFault, refusal};
+ghost use Rattle.std.specs.{Prelude.{IfSome, OnOk, ℕ, ◌⊎◌, IsErrAnd}, Option.option_to_list};
+ghost use Rattle.do_script.specs.{Fault.Reads, Words.words, Labels.{scope_in, PlacesWithin}};
+ghost use Rattle.do_script.specs.{Labels.IsInScope, Program.{program, statement_of, made, size}};
+ghost use Rattle.do_script.specs.Assembly.{IsCode, IsCodeOf, IsFault, scope, HasNoFault};
+ghost use Rattle.do_script.specs.Assembly.{IsFirstFault, refusal};
 
 use crate::code::Code;
 use crate::fault::{AsmFault, Kind, LineFault, answer_to};

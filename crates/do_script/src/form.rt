@@ -1,6 +1,5 @@
 ghost use Rattle.std.specs.Prelude.{◌≡◌, ℕ, ◌<◌};
-ghost use Rattle.do_script.specs.Listing.{IsWithin};
-ghost use Rattle.do_script.specs.Operands.{with_one, with_two, with_three};
+ghost use Rattle.do_script.specs.{Listing.IsWithin, Operands.{with_one, with_two, with_three}};
 
 use crate::instruction::Instruction;
 

@@ -1,8 +1,7 @@
 ghost use Rattle.std.specs.Prelude.{◌≡◌, ◌+◌, ◌<◌, ◌^◌, ◌∷◌, [], ℕ, List, OnOk, IfOk};
 ghost use Rattle.std.specs.Option.{option_or};
 ghost use Rattle.do_script.specs.Labels.{label_in, if_named, AreLabelsOf};
-ghost use Rattle.do_script.specs.Program.{program, label_from, size};
-ghost use Rattle.do_script.specs.StatementOf.{statement_in};
+ghost use Rattle.do_script.specs.{Program.{program, label_from, size}, StatementOf.statement_in};
 
 use crate::statement::{Said, said_in};
 use do_grammar::line_of;

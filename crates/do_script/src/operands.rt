@@ -1,12 +1,9 @@
-ghost use Rattle.std.specs.Prelude.{◌≡◌, true, ◌<◌, ◌≤◌, length, All, IfOk};
-ghost use Rattle.std.specs.Option.{ok_or};
+ghost use Rattle.std.specs.{Prelude.{◌≡◌, true, ◌<◌, ◌≤◌, length, All, IfOk}, Option.ok_or};
 ghost use Rattle.do_base.specs.values.Texts.{longest_text};
 ghost use Rattle.do_grammar.specs.Dec.{int_in};
 ghost use Rattle.do_script.specs.declared.fault.Kind.TheVariants.{Op};
 ghost use Rattle.do_grammar.specs.Names.{is_selector, colons as colons_of};
-ghost use Rattle.do_script.specs.Fault.{Gives, Reads};
-ghost use Rattle.do_script.specs.Words.{words};
-ghost use Rattle.do_script.specs.Quoted.{quoted_in};
+ghost use Rattle.do_script.specs.{Fault.{Gives, Reads}, Words.words, Quoted.quoted_in};
 ghost use Rattle.do_script.specs.Operands.{local, locals, selector, named, label, no_word};
 ghost use Rattle.do_script.specs.Operands.{one_word, two_words, three_words};
 

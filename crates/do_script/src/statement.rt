@@ -1,6 +1,5 @@
 ghost use Rattle.std.specs.Prelude.{◌≡◌};
-ghost use Rattle.do_script.specs.Words.{words};
-ghost use Rattle.do_script.specs.Program.{statement_of, begins_with};
+ghost use Rattle.do_script.specs.{Words.words, Program.{statement_of, begins_with}};
 ghost use Rattle.do_script.specs.StatementOf.{statement_in};
 
 use crate::operands::label_of;

@@ -1,6 +1,5 @@
 ghost use Rattle.std.specs.Prelude.{◌≡◌, ◌<◌, ◌≤◌, length, IfOk};
-ghost use Rattle.do_script.specs.Fault.{Gives};
-ghost use Rattle.do_script.specs.Operands.{place, named};
+ghost use Rattle.do_script.specs.{Fault.Gives, Operands.{place, named}};
 ghost use Rattle.do_script.specs.Labels.{scope_in, PlacesWithin};
 
 use crate::fault::Kind;

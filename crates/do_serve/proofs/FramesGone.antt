@@ -1,13 +1,9 @@
 -- Frames that are handed over one by one.
 use Rattle.std.proofs.Common.{◌≡◌, ℕ, Bool, List, [], ◌∷◌, ◌++◌, Option, refl, sym, ap, ◌∙◌}
-use Rattle.std.proofs.Common.{append_assoc}
-use Rattle.std.proofs.lemmas.List.{append-nil}
-use Rattle.do_output.specs.Told.{TellsMore}
-use Rattle.do_output.proofs.ToldMore.{tells_none, tells_both}
+use Rattle.std.proofs.{Common.append_assoc, lemmas.List.append-nil}
+use Rattle.do_output.{specs.Told.TellsMore, proofs.ToldMore.{tells_none, tells_both}}
 use Rattle.do_link.specs.Told.{Told, handed}
-use Rattle.do_serve.specs.Rules.{Outgoing}
-use Rattle.do_serve.specs.Peers.{Peer, change_at, sent_to}
-use Rattle.do_serve.specs.Serving.{hand}
+use Rattle.do_serve.specs.{Rules.Outgoing, Peers.{Peer, change_at, sent_to}, Serving.hand}
 use Rattle.do_serve.specs.Handing.{HasHanded, HandsSome, frames_handed}
 use Rattle.do_serve.proofs.HandedFrames.{frames_both}
 

@@ -1,16 +1,11 @@
 -- Frames that are handed over, and the frames that a report has.
 use Rattle.std.proofs.Common.{◌≡◌, ℕ, suc, List, [], ◌∷◌, ◌++◌, Option, Some, None, refl, sym, ap}
-use Rattle.std.proofs.Common.{◌∙◌}
-use Rattle.std.proofs.Common.{append_assoc, Result, Ok, Err}
-use Rattle.std.specs.Prelude.{OnErr}
+use Rattle.std.{proofs.Common.{◌∙◌, append_assoc, Result, Ok, Err}, specs.Prelude.OnErr}
 use Rattle.std.proofs.lemmas.List.{append-nil}
 use Rattle.do_link.specs.Told.{Told, Listened, Came, Handed}
-use Rattle.do_serve.specs.Rules.{Rules, Outgoing}
-use Rattle.do_serve.specs.Peers.{Peer}
-use Rattle.do_serve.specs.Serving.{Server, Turn, goes, polls, ends, turn, sent_all, hand}
-use Rattle.do_serve.specs.Serving.{serve_from}
-use Rattle.do_serve.specs.Serving.{Goes, after_poll, after_turn, after_hand}
-use Rattle.do_serve.specs.Handing.{frames_handed, IsFront}
+use Rattle.do_serve.specs.{Rules.{Rules, Outgoing}, Peers.Peer, Serving.{Server, Turn, goes, polls}}
+use Rattle.do_serve.specs.Serving.{ends, turn, sent_all, hand, serve_from, Goes, after_poll}
+use Rattle.do_serve.specs.{Serving.{after_turn, after_hand}, Handing.{frames_handed, IsFront}}
 
 -- the frames of one list and then of another
 pub frames_both : (xs ys : List Told)

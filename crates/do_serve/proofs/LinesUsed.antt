@@ -1,14 +1,10 @@
 -- The next line of starts, used or not.
-use Rattle.std.proofs.Common.{◌≡◌, ℕ, suc, ◌+◌, ◌<◌, ◌≤◌, true, false, List, [], ◌∷◌, length}
-use Rattle.std.proofs.Common.{drop, get_or, refl, sym, ap, ◌∙◌, arith, add-one}
-use Rattle.std.proofs.Math.Seq.{drop-cons}
+use Rattle.std.proofs.Common.{◌≡◌, ℕ, suc, ◌+◌, ◌<◌, ◌≤◌, true, false, List, [], ◌∷◌, length, drop}
+use Rattle.std.proofs.{Common.{get_or, refl, sym, ap, ◌∙◌, arith, add-one}, Math.Seq.drop-cons}
 use Rattle.std.proofs.lemmas.Grind.{common_steps}
 use Rattle.do_plan.specs.declared.starts.StartLine.{StartLine}
-use Rattle.do_serve.specs.declared.log.Log.{Log}
-use Rattle.do_serve.specs.declared.turning.Turned.TheVariants.{Went, Polls, Ends}
-use Rattle.do_serve.specs.Rules.{Rules, Outgoing}
-use Rattle.do_serve.specs.Peers.{Peer}
-use Rattle.do_serve.specs.Serving.{idle_turn, line_turn}
+use Rattle.do_serve.specs.declared.{log.Log.Log, turning.Turned.TheVariants.{Went, Polls, Ends}}
+use Rattle.do_serve.specs.{Rules.{Rules, Outgoing}, Peers.Peer, Serving.{idle_turn, line_turn}}
 use Rattle.do_serve.specs.Turning.{server_of, server_with, TurnsTo, UsesLine}
 
 -- the line at a place and those behind it

@@ -1,13 +1,9 @@
 -- Of bytes a reader tells one thing: a value that begins them, that they end too early, or the
 -- first byte with which none goes on.
 use Rattle.std.proofs.Common.{◌≡◌, ℕ, zero, suc, ◌+◌, ◌-◌, ◌<◌, ◌≤◌, List, [], ◌∷◌, ◌++◌, length}
-use Rattle.std.proofs.Common.{take, drop}
-use Rattle.std.proofs.Common.{Result, Ok, Err, refl, sym, ap, subst, ◌∙◌, append_assoc, arith, inl}
-use Rattle.std.proofs.Common.{inr}
-use Rattle.std.specs.Prelude.{◌⊎◌}
-use Rattle.std.proofs.lemmas.Bool.{cases_lt}
-use Rattle.std.proofs.lemmas.Grind.{common_steps}
-use Rattle.std.proofs.lemmas.List.{append-nil, length-append}
+use Rattle.std.proofs.Common.{take, drop, Result, Ok, Err, refl, sym, ap, subst, ◌∙◌, append_assoc}
+use Rattle.std.{proofs.Common.{arith, inl, inr}, specs.Prelude.◌⊎◌, proofs.lemmas.Bool.cases_lt}
+use Rattle.std.proofs.lemmas.{Grind.common_steps, List.{append-nil, length-append}}
 use Rattle.do_grammar.specs.Reader.{Stop, short, bad, Reader, no_kind}
 use Rattle.do_grammar.specs.Grammar.{IsBytes, IsProperFront, IsFirstBad, Takes}
 use Rattle.do_grammar.proofs.faults.AnswerExact.{only, proper_front, first_bad}

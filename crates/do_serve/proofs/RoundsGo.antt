@@ -1,21 +1,13 @@
 -- A turn behind the frames that are handed over before it.
-use Rattle.std.proofs.Common.{◌≡◌, ℕ, suc, true, false, List, [], ◌∷◌, ◌++◌, Option, refl}
-use Rattle.std.proofs.Common.{sym, ap, ◌∙◌, append_assoc}
-use Rattle.std.proofs.lemmas.List.{append-nil}
-use Rattle.do_output.specs.Told.{TellsMore}
-use Rattle.do_output.proofs.ToldMore.{tells_both}
-use Rattle.do_link.specs.Told.{Told, Came}
-use Rattle.do_link.specs.declared.script.ScriptEvent.{ScriptEvent}
+use Rattle.std.proofs.Common.{◌≡◌, ℕ, suc, true, false, List, [], ◌∷◌, ◌++◌, Option, refl, sym, ap}
+use Rattle.std.proofs.{Common.{◌∙◌, append_assoc}, lemmas.List.append-nil}
+use Rattle.do_output.{specs.Told.TellsMore, proofs.ToldMore.tells_both}
+use Rattle.do_link.specs.{Told.{Told, Came}, declared.script.ScriptEvent.ScriptEvent}
 use Rattle.do_serve.specs.declared.turning.Turned.TheVariants.{Went, Polls, Ends}
-use Rattle.do_serve.specs.Rules.{Rules, Outgoing}
-use Rattle.do_serve.specs.Peers.{Peer}
-use Rattle.do_serve.specs.Serving.{Server, Turn, goes, polls, ends, turn, sent_all, serve_from}
-use Rattle.do_serve.specs.Serving.{hears}
-use Rattle.do_serve.specs.Serving.{after_turn}
-use Rattle.do_serve.specs.Handing.{HasHanded, HandsSome, frames_handed}
-use Rattle.do_serve.specs.Turning.{TurnsTo}
-use Rattle.do_serve.specs.Rounds.{GoesRound}
-use Rattle.do_serve.proofs.HandedFrames.{frames_both}
+use Rattle.do_serve.specs.{Rules.{Rules, Outgoing}, Peers.Peer, Serving.{Server, Turn, goes, polls}}
+use Rattle.do_serve.specs.Serving.{ends, turn, sent_all, serve_from, hears, after_turn}
+use Rattle.do_serve.specs.{Handing.{HasHanded, HandsSome, frames_handed}, Turning.TurnsTo}
+use Rattle.do_serve.{specs.Rounds.GoesRound, proofs.HandedFrames.frames_both}
 
 module _ {Part : Type 0} (rules : Rules Part) (port : ℕ) (s : Server Part) (peers : List Peer)
     (told told' : Option (List Told)) (h : HasHanded s.core.waiting s.peers peers told told') where

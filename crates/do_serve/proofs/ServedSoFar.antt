@@ -1,17 +1,13 @@
 -- What was told and written so far, and how serving goes on.
-use Rattle.std.proofs.Common.{◌≡◌, ℕ, suc, true, false, List, [], ◌++◌}
-use Rattle.std.proofs.Common.{Option, inl, inr, refl, sym, ap, subst, ◌∙◌, append_assoc}
-use Rattle.std.proofs.lemmas.List.{append-nil}
+use Rattle.std.proofs.Common.{◌≡◌, ℕ, suc, true, false, List, [], ◌++◌, Option, inl, inr, refl, sym}
+use Rattle.std.proofs.{Common.{ap, subst, ◌∙◌, append_assoc}, lemmas.List.append-nil}
 use Rattle.do_base.specs.outside.Bytes.{with_more, HasWritten}
-use Rattle.do_output.specs.Told.{TellsMore}
-use Rattle.do_output.proofs.ToldMore.{tells_none, tells_both}
+use Rattle.do_output.{specs.Told.TellsMore, proofs.ToldMore.{tells_none, tells_both}}
 use Rattle.do_output.proofs.SentIsPrefix.{IsAhead, ahead_prefix, ahead_part, ahead_whole}
 use Rattle.do_link.specs.Told.{Told}
-use Rattle.do_serve.specs.Rules.{Rules, Outgoing}
-use Rattle.do_serve.specs.Record.{first_line, last_line}
+use Rattle.do_serve.specs.{Rules.{Rules, Outgoing}, Record.{first_line, last_line}}
 use Rattle.do_serve.specs.Serving.{Server, Report, serve_from, in_front, stopped, ended, spent}
-use Rattle.do_serve.specs.Handing.{frames_handed, IsFront, HandsSome}
-use Rattle.do_serve.specs.Rounds.{GoesRound}
+use Rattle.do_serve.specs.{Handing.{frames_handed, IsFront, HandsSome}, Rounds.GoesRound}
 use Rattle.do_serve.specs.Answers.{IsWhole, IsBroken, Breaks}
 use Rattle.do_serve.proofs.HandedFrames.{frames_both, report_begins, front_behind, front_of}
 

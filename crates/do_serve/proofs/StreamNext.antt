@@ -1,15 +1,12 @@
 -- What the answer of a reader of a stream is, by the next frame in it.
-use Rattle.std.proofs.Common.{◌≡◌, ◌++◌, Option, Some, None, Ok}
-use Rattle.std.proofs.Common.{◌≢◌, Err, refl, sym, ap, ◌∙◌, subst}
+use Rattle.std.proofs.Common.{◌≡◌, ◌++◌, Option, Some, None, Ok, ◌≢◌, Err, refl, sym, ap, ◌∙◌}
+use Rattle.std.proofs.Common.{subst}
 use Rattle.do_grammar.specs.Grammar.{IsBytes, IsProperFront}
 use Rattle.do_grammar.proofs.reads.ExactReader.{IsBytes-rest}
-use Rattle.do_frames.specs.declared.fault.StreamFault.{StreamFault}
-use Rattle.do_frames.specs.declared.fault.StreamFault.TheVariants.{BadKind, BadLength, BadVersion}
-use Rattle.do_frames.specs.declared.fault.StreamFault.TheVariants.{Memory}
-use Rattle.do_frames.specs.declared.frame.RawFrame.{RawFrame}
-use Rattle.do_frames.specs.Frames.{raw_spelling}
-use Rattle.do_frames.specs.Streams.{Stream, Front, front_at, greeting, TakesFrame, FindsFault}
-use Rattle.do_frames.specs.Streams.{TellsNext}
+use Rattle.do_frames.specs.declared.fault.StreamFault.{StreamFault, TheVariants.BadKind}
+use Rattle.do_frames.specs.declared.fault.StreamFault.TheVariants.{BadLength, BadVersion, Memory}
+use Rattle.do_frames.specs.{declared.frame.RawFrame.RawFrame, Frames.raw_spelling, Streams.Stream}
+use Rattle.do_frames.specs.Streams.{Front, front_at, greeting, TakesFrame, FindsFault, TellsNext}
 use Rattle.do_frames.proofs.streams.FrontExact.{Reads-front}
 use Rattle.do_serve.specs.Streams.{frame, faulty, none, next_by, next_unless, next_in}
 use Rattle.do_serve.proofs.OneReading.{front_is_short, bad_is_there}

@@ -1,17 +1,14 @@
 -- What the answers of serving tell.
-use Rattle.std.specs.Prelude.{◌≡◌, ℕ, ◌⊎◌, Bool, true, false, List, [], ◌∷◌, ◌++◌, Option}
-use Rattle.std.specs.Prelude.{Result, Ok, Err}
-use Rattle.do_base.specs.outside.Bytes.{with_more, HasWritten}
-use Rattle.do_base.specs.outside.Causes.{Rose}
-use Rattle.do_base.specs.declared.outside.sink.PutFail.{PutFail}
 use Rattle.do_base.specs.declared.outside.sink.PutFail.TheVariants as put
+use Rattle.std.specs.Prelude.{◌≡◌, ℕ, ◌⊎◌, Bool, true, false, List, [], ◌∷◌, ◌++◌, Option, Result}
+use Rattle.std.specs.Prelude.{Ok, Err}
+use Rattle.do_base.specs.outside.{Bytes.{with_more, HasWritten}, Causes.Rose}
+use Rattle.do_base.specs.declared.outside.sink.PutFail.{PutFail}
 use Rattle.do_output.specs.Told.{TellsMore}
 use Rattle.do_link.specs.Told.{Told, Listened}
-use Rattle.do_serve.specs.declared.serving.ServeEnd.{ServeEnd}
-use Rattle.do_serve.specs.declared.serving.ServeEnd.TheVariants.{Done, TurnsSpent, LinkFault}
-use Rattle.do_serve.specs.declared.serving.ServeEnd.TheVariants.{WriteFault, Memory}
-use Rattle.do_serve.specs.Handing.{frames_handed, IsFront}
-use Rattle.do_serve.specs.Record.{first_line}
+use Rattle.do_serve.specs.declared.serving.ServeEnd.{ServeEnd, TheVariants.{Done, TurnsSpent}}
+use Rattle.do_serve.specs.declared.serving.ServeEnd.TheVariants.{LinkFault, WriteFault, Memory}
+use Rattle.do_serve.specs.{Handing.{frames_handed, IsFront}, Record.first_line}
 use Rattle.do_serve.specs.Serving.{Report, How, ended, spent}
 
 -- the whole record of what serving came to

@@ -1,10 +1,8 @@
 -- What a peer's stream gives next.
 use Rattle.std.specs.Prelude.{◌≡◌, true, List, ◌∷◌, Option, Some, None}
 use Rattle.do_network.specs.declared.input.Input.{Input}
-use Rattle.do_serve.specs.declared.far.Arrival.{Arrival}
-use Rattle.do_serve.specs.declared.far.Arrival.TheVariants.{Frame, Faulty, Nothing}
-use Rattle.do_serve.specs.Streams.{frame, faulty, none, next_in}
-use Rattle.do_serve.specs.Peers.{Peer, Found, taken_by}
+use Rattle.do_serve.specs.declared.far.Arrival.{Arrival, TheVariants.{Frame, Faulty, Nothing}}
+use Rattle.do_serve.specs.{Streams.{frame, faulty, none, next_in}, Peers.{Peer, Found, taken_by}}
 
 -- a frame was taken, a fault was found, or neither
 abbrev pub Arrives : Peer → Arrival → Peer → Type 0

@@ -1,15 +1,10 @@
 -- What the inputs of a node that is served change, and what they write.
-use Rattle.std.specs.Prelude.{ℕ, ◌&&◌, List, [], ◌∷◌, ◌++◌, if◌then◌else◌}
-use Rattle.do_base.specs.outside.Causes.{next_count}
-use Rattle.do_base.specs.declared.events.shown.Shown.{Shown}
 use Rattle.do_base.specs.declared.events.shown.Shown.TheVariants as shows
-use Rattle.do_base.specs.declared.events.shown.Took.{Took}
 use Rattle.do_base.specs.declared.events.shown.Took.TheVariants as took
-use Rattle.do_network.specs.declared.input.Input.{Input}
-use Rattle.do_network.specs.declared.input.Input.TheVariants.{Close}
-use Rattle.do_serve.specs.Rules.{Rules, Outgoing, Moved}
-use Rattle.do_serve.specs.Peers.{Peer}
-use Rattle.do_serve.specs.Record.{block}
+use Rattle.std.specs.Prelude.{ℕ, ◌&&◌, List, [], ◌∷◌, ◌++◌, if◌then◌else◌}
+use Rattle.do_base.specs.{outside.Causes.next_count, declared.events.shown.{Shown.Shown, Took.Took}}
+use Rattle.do_network.specs.declared.input.Input.{Input, TheVariants.Close}
+use Rattle.do_serve.specs.{Rules.{Rules, Outgoing, Moved}, Peers.Peer, Record.block}
 
 -- the node's own state, the frames that wait to be sent, and how many calls and oneway messages
 -- were taken

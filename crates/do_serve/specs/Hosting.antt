@@ -1,11 +1,8 @@
 -- A site of a network as the state of a node that is served.
 use Rattle.std.specs.Prelude.{length, map, ◌==◌}
-use Rattle.do_machine.specs.State.{is_open}
-use Rattle.do_machine.specs.take.Take.{can_take}
-use Rattle.do_net.specs.Seen.{Seen, at_rest, site_handled}
-use Rattle.do_net.specs.Turns.{can_act}
-use Rattle.do_network.specs.Links.{Sending, piece_bytes}
-use Rattle.do_network.specs.Site.{Handled}
+use Rattle.do_machine.specs.{State.is_open, take.Take.can_take}
+use Rattle.do_net.specs.{Seen.{Seen, at_rest, site_handled}, Turns.can_act}
+use Rattle.do_network.specs.{Links.{Sending, piece_bytes}, Site.Handled}
 use Rattle.do_serve.specs.Rules.{Moved, Outgoing, Rules}
 
 -- the classes and the acts of a site, and its part

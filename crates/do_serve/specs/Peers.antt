@@ -1,12 +1,9 @@
 -- The peers of a node that is served.
 use Rattle.std.specs.Prelude.{◌≡◌, ℕ, ◌+◌, ◌==◌, ◌&&◌, ◌++◌, Bool, true, false, List, [], ◌∷◌}
-use Rattle.std.specs.Prelude.{Option, Some, None, if◌then◌else◌}
-use Rattle.std.specs.Option.{option_map}
+use Rattle.std.specs.{Prelude.{Option, Some, None, if◌then◌else◌}, Option.option_map}
 use Rattle.do_frames.specs.Streams.{Stream}
-use Rattle.do_network.specs.declared.input.Input.{Input}
-use Rattle.do_network.specs.declared.input.Input.TheVariants.{Frame, Close, Ended}
-use Rattle.do_serve.specs.Rules.{Rules}
-use Rattle.do_serve.specs.Streams.{Next, frame, faulty, none, next_in}
+use Rattle.do_network.specs.declared.input.Input.{Input, TheVariants.{Frame, Close, Ended}}
+use Rattle.do_serve.specs.{Rules.Rules, Streams.{Next, frame, faulty, none, next_in}}
 
 -- a peer: its port, the stream that comes from it, whether its end was told, and whether a frame
 -- was sent to it or taken from it

@@ -1,16 +1,12 @@
 -- The record of a node that is served: its inputs as lines, and what each showed.
+use Rattle.do_sched.specs.declared.line.Line.TheVariants as line
+use Rattle.do_network.specs.declared.input.Done.TheVariants as done
 use Rattle.std.specs.Prelude.{ℕ, List, [], ◌∷◌, ◌++◌, map, codes, decimal}
 use Rattle.do_base.specs.declared.events.shown.Shown.{Shown}
-use Rattle.do_sched.specs.declared.line.Line.TheVariants as line
 use Rattle.do_sched.specs.Spelling.{number_pair}
-use Rattle.do_lines.specs.Lines.{joined}
-use Rattle.do_lines.specs.Block.{head_line}
-use Rattle.do_lines.specs.Shown.{shown_text}
-use Rattle.do_network.specs.declared.input.Input.{Input}
-use Rattle.do_network.specs.declared.input.Input.TheVariants.{Run, Start, Frame, Close, Ended}
-use Rattle.do_network.specs.declared.input.Input.TheVariants.{Timeout}
-use Rattle.do_network.specs.declared.input.Done.{Done}
-use Rattle.do_network.specs.declared.input.Done.TheVariants as done
+use Rattle.do_lines.specs.{Lines.joined, Block.head_line, Shown.shown_text}
+use Rattle.do_network.specs.declared.input.Input.{Input, TheVariants.{Run, Start, Frame, Close}}
+use Rattle.do_network.specs.declared.input.{Input.TheVariants.{Ended, Timeout}, Done.Done}
 
 -- the line of an input that was done
 abbrev pub input_line : ℕ → Input → List ℕ

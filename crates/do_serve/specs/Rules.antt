@@ -1,8 +1,7 @@
 -- A node's own state and its rules, as a server sees them.
 use Rattle.std.specs.Prelude.{◌≡◌, ℕ, Bool, List, [], ◌∷◌, ◌++◌, Option, Some, None}
 use Rattle.do_base.specs.declared.events.shown.Shown.{Shown}
-use Rattle.do_network.specs.declared.input.Input.{Input}
-use Rattle.do_network.specs.declared.input.Done.{Done}
+use Rattle.do_network.specs.declared.input.{Input.Input, Done.Done}
 
 -- the bytes of a frame, and the peer that they are for
 pub record Outgoing : Type 0 where

@@ -1,17 +1,14 @@
 -- Serving: turns, each the first that is possible.
-use Rattle.std.specs.Prelude.{ℕ, zero, suc, nat_le, Bool, List, [], ◌∷◌, ◌++◌, map}
-use Rattle.std.specs.Prelude.{Option, Some, None, if◌then◌else◌}
-use Rattle.do_link.specs.Told.{Told, Came, Handed}
-use Rattle.do_link.specs.declared.script.ScriptEvent.{ScriptEvent}
 use Rattle.do_link.specs.declared.script.ScriptEvent.TheVariants as event
-use Rattle.do_plan.specs.declared.starts.StartLine.{StartLine}
 use Rattle.do_plan.specs.declared.starts.StartLine.TheVariants as line
+use Rattle.std.specs.Prelude.{ℕ, zero, suc, nat_le, Bool, List, [], ◌∷◌, ◌++◌, map, Option, Some}
+use Rattle.std.specs.Prelude.{None, if◌then◌else◌}
+use Rattle.do_link.specs.{Told.{Told, Came, Handed}, declared.script.ScriptEvent.ScriptEvent}
+use Rattle.do_plan.specs.declared.starts.StartLine.{StartLine}
 use Rattle.do_network.specs.declared.input.Input.TheVariants.{Run, Start}
-use Rattle.do_serve.specs.Rules.{Rules, Outgoing}
-use Rattle.do_serve.specs.Core.{Core, Entered, enter, leave_among}
+use Rattle.do_serve.specs.{Rules.{Rules, Outgoing}, Core.{Core, Entered, enter, leave_among}}
 use Rattle.do_serve.specs.Peers.{Peer, new_peer, change_at, fed, told_ended, sent_to, Found}
-use Rattle.do_serve.specs.Peers.{take_among, end_among, closed_among}
-use Rattle.do_serve.specs.Record.{last_line}
+use Rattle.do_serve.specs.{Peers.{take_among, end_among, closed_among}, Record.last_line}
 
 -- a node that is served: what its inputs change, its peers, and the lines of starts that are left
 pub record Server (Part : Type 0) : Type 0 where

@@ -2,13 +2,9 @@
 use Rattle.std.specs.Prelude.{◌≡◌, ℕ, Bool, true, false, List, [], ◌++◌, drop}
 use Rattle.do_base.specs.declared.events.shown.Shown.{Shown}
 use Rattle.do_plan.specs.declared.starts.StartLine.{StartLine}
-use Rattle.do_serve.specs.declared.log.Log.{Log}
-use Rattle.do_serve.specs.declared.turning.Turned.{Turned}
-use Rattle.do_serve.specs.declared.turning.Turned.TheVariants.{Went, Polls, Ends}
-use Rattle.do_serve.specs.Rules.{Outgoing}
-use Rattle.do_serve.specs.Peers.{Peer}
-use Rattle.do_serve.specs.Entering.{core_of}
-use Rattle.do_serve.specs.Serving.{Server, Turn, goes, polls, ends}
+use Rattle.do_serve.specs.declared.{log.Log.Log, turning.Turned.Turned}
+use Rattle.do_serve.specs.{declared.turning.Turned.TheVariants.{Went, Polls, Ends}, Rules.Outgoing}
+use Rattle.do_serve.specs.{Peers.Peer, Entering.core_of, Serving.{Server, Turn, goes, polls, ends}}
 
 -- a server as it stands, with these lines of starts
 abbrev pub server_with : {Part : Type 0} → Part → List Outgoing → Log → List Peer

@@ -1,7 +1,6 @@
 //! The inputs of a node that is served.
 ghost use Rattle.std.specs.Prelude.{◌≡◌, [], OnOk};
-ghost use Rattle.do_serve.specs.Core.{enter, leave_among};
-ghost use Rattle.do_serve.specs.Entering.{core_of, IsEntered};
+ghost use Rattle.do_serve.specs.{Core.{enter, leave_among}, Entering.{core_of, IsEntered}};
 ghost use Rattle.do_serve.specs.Record.{act_line};
 
 use crate::far::Far;

@@ -1,8 +1,7 @@
 //! The peers of a node that is served, by rising port.
 ghost use Rattle.std.specs.Prelude.{◌≡◌, ◌≤◌, length, IfOk, OnOk};
 ghost use Rattle.do_serve.specs.Peers.{change_at, fed, told_ended, sent_to, take_among, end_among};
-ghost use Rattle.do_serve.specs.Peers.{closed_among, Finds, Takes};
-ghost use Rattle.do_serve.specs.Arrivals.{IsArrived};
+ghost use Rattle.do_serve.specs.{Peers.{closed_among, Finds, Takes}, Arrivals.IsArrived};
 
 use crate::far::{Arrival, Far};
 use crate::site::Serving;

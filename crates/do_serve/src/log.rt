@@ -1,8 +1,7 @@
 //! What the inputs of a node write.
 ghost use Rattle.std.specs.Prelude.{◌≡◌, ◌++◌, ◌∷◌, [], List, OnOk, IfOk, map};
 ghost use Rattle.do_sched.specs.Spelling.{number_pair};
-ghost use Rattle.do_lines.specs.Lines.{joined};
-ghost use Rattle.do_lines.specs.Shown.{shown_text};
+ghost use Rattle.do_lines.specs.{Lines.joined, Shown.shown_text};
 ghost use Rattle.do_serve.specs.Record.{input_line, act_line, head_by};
 ghost use Rattle.do_serve.specs.Core.{count_took, count_taken, taken_after};
 

@@ -1,8 +1,6 @@
 //! Turns of a node that is served, with what is handed over before each.
 ghost use Rattle.std.specs.Prelude.{◌≡◌, ◌≤◌, [], length, IfOk, OnOk, OnErr};
-ghost use Rattle.do_serve.specs.Record.{act_line};
-ghost use Rattle.do_serve.specs.Turning.{server_of, IsKept};
-ghost use Rattle.do_serve.specs.Rounds.{GoesRound};
+ghost use Rattle.do_serve.specs.{Record.act_line, Turning.{server_of, IsKept}, Rounds.GoesRound};
 ghost use Rattle.do_serve.specs.Handing.{HandsSome};
 
 use crate::far::Far;

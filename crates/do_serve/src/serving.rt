@@ -1,12 +1,9 @@
 //! Serving a node over a link.
 ghost use Rattle.std.specs.Prelude.{◌≡◌, ◌≤◌, ◌++◌, [], length, map, IfOk, OnOk, OnErr, IsErrOf};
 ghost use Rattle.std.specs.Prelude.{true};
-ghost use Rattle.do_base.specs.outside.Bytes.{with_more};
-ghost use Rattle.do_base.specs.outside.Causes.{Rose};
-ghost use Rattle.do_serve.specs.Record.{first_line, act_line, last_line};
-ghost use Rattle.do_serve.specs.Peers.{new_peer};
-ghost use Rattle.do_serve.specs.Serving.{serve_from, opening};
-ghost use Rattle.do_serve.specs.Turning.{server_of};
+ghost use Rattle.do_base.specs.outside.{Bytes.with_more, Causes.Rose};
+ghost use Rattle.do_serve.specs.{Record.{first_line, act_line, last_line}, Peers.new_peer};
+ghost use Rattle.do_serve.specs.{Serving.{serve_from, opening}, Turning.server_of};
 ghost use Rattle.do_serve.specs.Answers.{TellsServed, TellsTurns, Breaks};
 
 use crate::far::Far;

@@ -1,8 +1,7 @@
 //! One turn of a node that is served.
 ghost use Rattle.std.specs.Prelude.{◌≡◌, ◌∷◌, [], List, IfOk, OnOk};
 ghost use Rattle.do_plan.specs.declared.starts.StartLine.{StartLine as Line};
-ghost use Rattle.do_serve.specs.Record.{act_line};
-ghost use Rattle.do_serve.specs.Serving.{turn, idle_turn, line_turn};
+ghost use Rattle.do_serve.specs.{Record.act_line, Serving.{turn, idle_turn, line_turn}};
 ghost use Rattle.do_serve.specs.Turning.{server_of, server_with, TurnsTo, UsesLine, IsKept};
 
 use crate::entering::{act, enter, leave_among};

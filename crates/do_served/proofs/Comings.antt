@@ -1,11 +1,9 @@
 -- What a command comes to, by what was given and what came of it.
+use Rattle.do_given.specs.declared.status.Status.TheVariants as answer
 use Rattle.std.proofs.Common.{◌≡◌, ◌⊎◌, List, Option, Some, Ok, Err, inl, inr, subst, sym}
 use Rattle.do_base.specs.declared.outside.shelf.NamedFile.{NamedFile}
-use Rattle.do_given.specs.declared.status.Status.{Status}
-use Rattle.do_given.specs.declared.status.Status.TheVariants as answer
-use Rattle.do_given.specs.Reading.{OrUnread, Stops}
-use Rattle.do_given.proofs.FilesTold.{no_err, read_is}
-use Rattle.do_given.proofs.Stopping.{must_give}
+use Rattle.do_given.specs.{declared.status.Status.Status, Reading.{OrUnread, Stops}}
+use Rattle.do_given.proofs.{FilesTold.{no_err, read_is}, Stopping.must_give}
 use Rattle.do_served.specs.Coming.{Because, ComesTo, OrNone, Ran}
 
 -- a status that something that ran may end with

@@ -1,18 +1,14 @@
 -- What is refused, and what something that ran may end with.
-use Rattle.std.proofs.Common.{ℕ, List, Option, inl, inr, subst, sym}
-use Rattle.do_base.specs.declared.outside.shelf.NamedFile.{NamedFile}
-use Rattle.do_plan.specs.Form.{Form}
-use Rattle.do_plan.specs.Starts.{starts_form}
-use Rattle.do_plan.specs.declared.plan.PlanLine.{PlanLine}
-use Rattle.do_sched.specs.declared.fault.SchedFault.{SchedFault}
 use Rattle.do_sched.specs.declared.fault.SchedFault.TheVariants as sched
-use Rattle.do_given.specs.declared.served.Served.{Served}
-use Rattle.do_given.specs.declared.status.Status.{Status}
 use Rattle.do_given.specs.declared.status.Status.TheVariants as answer
-use Rattle.do_given.specs.Reading.{RefusesWorld, told_of}
-use Rattle.do_given.specs.Serving.{RefusesServed, SaysNoText}
 use Rattle.do_served.specs.Nodes as nodes
 use Rattle.do_served.specs.Plans as plans
+use Rattle.std.proofs.Common.{ℕ, List, Option, inl, inr, subst, sym}
+use Rattle.do_base.specs.declared.outside.shelf.NamedFile.{NamedFile}
+use Rattle.do_plan.specs.{Form.Form, Starts.starts_form, declared.plan.PlanLine.PlanLine}
+use Rattle.do_sched.specs.declared.fault.SchedFault.{SchedFault}
+use Rattle.do_given.specs.declared.{served.Served.Served, status.Status.Status}
+use Rattle.do_given.specs.{Reading.{RefusesWorld, told_of}, Serving.{RefusesServed, SaysNoText}}
 use Rattle.do_served.proofs.Comings.{IsEnd, IsRefusal}
 
 -- a fault of lines is told as a refusal

@@ -1,16 +1,13 @@
 -- How serving ended, as a status tells it.
+use Rattle.do_serve.specs.declared.serving.ServeEnd.TheVariants as end
 use Rattle.std.proofs.Common.{◌≡◌, ℕ, List, refl, subst}
 use Rattle.do_base.specs.outside.Causes.{Rose}
 use Rattle.do_link.specs.Told.{Told}
 use Rattle.do_net.specs.Seen.{Seen}
 use Rattle.do_plan.specs.declared.starts.StartLine.{StartLine}
-use Rattle.do_serve.specs.Serving.{Report}
-use Rattle.do_serve.specs.declared.serving.ServeEnd.{ServeEnd}
-use Rattle.do_serve.specs.declared.serving.ServeEnd.TheVariants as end
-use Rattle.do_given.specs.declared.seated.Seated.{Seated}
-use Rattle.do_given.specs.declared.status.Status.{Status}
-use Rattle.do_served.specs.Nodes.{Ends, HasEnded, Seens, Tells, heard, opened, report_of}
-use Rattle.do_served.specs.Nodes.{status_of}
+use Rattle.do_serve.specs.{Serving.Report, declared.serving.ServeEnd.ServeEnd}
+use Rattle.do_given.specs.declared.{seated.Seated.Seated, status.Status.Status}
+use Rattle.do_served.specs.Nodes.{Ends, HasEnded, Seens, Tells, heard, opened, report_of, status_of}
 
 -- an answer of serving is told by its status
 pub told_so : (node : ℕ) (peers : List ℕ) (turns : ℕ) (comes : List Told → Report)

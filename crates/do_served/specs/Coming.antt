@@ -1,8 +1,8 @@
 -- Why a command that runs came to a status.
+use Rattle.do_given.specs.declared.status.Status.TheVariants as answer
 use Rattle.std.specs.Prelude.{◌≡◌, ◌⊎◌, List, Option, Some}
 use Rattle.do_base.specs.declared.outside.shelf.NamedFile.{NamedFile}
 use Rattle.do_given.specs.declared.status.Status.{Status}
-use Rattle.do_given.specs.declared.status.Status.TheVariants as answer
 
 -- something was given, and what came of it is told by a status
 pub record Ran {A : Type 0} (gives : A → Type 0) (ends : A → Status → Type 0) (status : Status)

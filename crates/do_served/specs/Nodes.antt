@@ -1,27 +1,22 @@
 -- What serving a node of a world comes to.
+use Rattle.do_serve.specs.declared.serving.ServeEnd.TheVariants as ends
+use Rattle.do_given.specs.declared.status.Status.TheVariants as answer
 use Rattle.std.specs.Prelude.{◌≡◌, ℕ, ◌⊎◌, List, [], Option, map}
-use Rattle.do_base.specs.outside.Causes.{Rose}
-use Rattle.do_base.specs.declared.outside.shelf.NamedFile.{NamedFile}
+use Rattle.do_base.specs.{outside.Causes.Rose, declared.outside.shelf.NamedFile.NamedFile}
 use Rattle.do_link.specs.Told.{Told}
 use Rattle.do_machine.specs.World.{by_port, others}
 use Rattle.do_native.specs.Acts.{native_act}
 use Rattle.do_net.specs.Seen.{Seen, at_rest}
 use Rattle.do_network.specs.Net.{opening_part}
 use Rattle.do_output.specs.Told.{TellsMore}
-use Rattle.do_serve.specs.Answers.{TellsServed}
-use Rattle.do_serve.specs.Hosting.{outgoing, resting, site_rules}
+use Rattle.do_serve.specs.{Answers.TellsServed, Hosting.{outgoing, resting, site_rules}}
 use Rattle.do_serve.specs.Serving.{Report, opening, serve_from}
 use Rattle.do_serve.specs.declared.serving.ServeEnd.{ServeEnd}
-use Rattle.do_serve.specs.declared.serving.ServeEnd.TheVariants as ends
 use Rattle.do_plan.specs.declared.starts.StartLine.{StartLine}
 use Rattle.do_world.specs.declared.world.World.{World}
-use Rattle.do_given.specs.declared.seated.Seated.{Seated}
-use Rattle.do_given.specs.declared.served.Served.{Served}
-use Rattle.do_given.specs.declared.status.Status.{Status}
-use Rattle.do_given.specs.declared.status.Status.TheVariants as answer
-use Rattle.do_given.specs.Parts.{behaviour_of}
-use Rattle.do_given.specs.Reading.{HasUnreadScheduled}
-use Rattle.do_given.specs.Serving.{GivesServed, RefusesServed}
+use Rattle.do_given.specs.declared.{seated.Seated.Seated, served.Served.Served}
+use Rattle.do_given.specs.{declared.status.Status.Status, Parts.behaviour_of}
+use Rattle.do_given.specs.{Reading.HasUnreadScheduled, Serving.{GivesServed, RefusesServed}}
 use Rattle.do_served.specs.Coming.{ComesTo}
 
 -- the ports of a world's nodes, by rising port

@@ -1,16 +1,13 @@
 -- What running a plan comes to.
+use Rattle.do_lab.specs.declared.children.LabEnd.TheVariants as ends
+use Rattle.do_given.specs.declared.status.Status.TheVariants as answer
 use Rattle.std.specs.Prelude.{◌≡◌, ℕ, List, [], Option}
 use Rattle.do_base.specs.declared.outside.shelf.NamedFile.{NamedFile}
-use Rattle.do_lab.specs.Children.{HasChildCause, TellsLab}
-use Rattle.do_lab.specs.Told.{Spawned}
+use Rattle.do_lab.specs.{Children.{HasChildCause, TellsLab}, Told.Spawned}
 use Rattle.do_lab.specs.declared.children.LabEnd.{LabEnd}
-use Rattle.do_lab.specs.declared.children.LabEnd.TheVariants as ends
 use Rattle.do_output.specs.Told.{TellsMore}
-use Rattle.do_plan.specs.Plan.{plan_form}
-use Rattle.do_plan.specs.declared.plan.PlanLine.{PlanLine}
-use Rattle.do_given.specs.declared.status.Status.{Status}
-use Rattle.do_given.specs.declared.status.Status.TheVariants as answer
-use Rattle.do_given.specs.Files.{IsUnread}
+use Rattle.do_plan.specs.{Plan.plan_form, declared.plan.PlanLine.PlanLine}
+use Rattle.do_given.specs.{declared.status.Status.Status, Files.IsUnread}
 use Rattle.do_given.specs.Serving.{SaysNoText, SaysPlan}
 use Rattle.do_served.specs.Coming.{ComesTo}
 

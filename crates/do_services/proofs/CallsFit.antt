@@ -1,12 +1,8 @@
 -- A call that a selector and the arguments make is one that a core takes.
-use Rattle.std.proofs.Common.{ℕ, List as Listed}
-use Rattle.std.specs.Option.{IfSome}
-use Rattle.do_behave.specs.Steps.{local}
-use Rattle.do_behave.specs.declared.invocation.Invocation.{Invocation}
+use Rattle.std.{proofs.Common.{ℕ, List as Listed}, specs.Option.IfSome}
+use Rattle.do_behave.specs.{Steps.local, declared.invocation.Invocation.Invocation}
 use Rattle.do_native_acts.specs.laws.KindLaws.{found_of}
-use Rattle.do_services.specs.Calls.{IsCall, call_in}
-use Rattle.do_services.specs.Core.{service_in}
-use Rattle.do_services.specs.laws.CallLaws.{each_call}
+use Rattle.do_services.specs.{Calls.{IsCall, call_in}, Core.service_in, laws.CallLaws.each_call}
 use Rattle.do_services.specs.laws.SlotsExact.{service_good}
 
 -- a call that a selector makes is one that a core takes

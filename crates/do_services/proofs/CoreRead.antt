@@ -1,8 +1,7 @@
 -- Services that are read one by one, and tested, are a core's.
 use Rattle.std.proofs.Common.{◌≡◌, Bool, true, false, ◌&&◌, nat_le, List as Listed, length, map}
 use Rattle.std.proofs.Common.{Option, Some, None, refl, sym}
-use Rattle.std.specs.Prelude.{if◌then◌else◌}
-use Rattle.std.specs.List.{list_all}
+use Rattle.std.specs.{Prelude.if◌then◌else◌, List.list_all}
 use Rattle.do_grammar.specs.Words.{◌>>?◌}
 use Rattle.do_table.specs.Entries.{are_distinct, once}
 use Rattle.do_services.specs.Core.{Entry, few_services, is_entry, keyed, of_core}

@@ -1,18 +1,13 @@
 -- What the calls leave is what they tell.
 use Rattle.std.proofs.Common.{◌≡◌, ℕ, Bool, true, false, nat_lt, List as Listed, [], ◌∷◌, ◌++◌}
 use Rattle.std.proofs.Common.{length, Option, Some, None, refl, sym, ◌∙◌, ap, is_some}
-use Rattle.std.specs.Prelude.{if◌then◌else◌}
-use Rattle.std.specs.Option.{option_map}
-use Rattle.std.specs.Str.{bytes_eq}
+use Rattle.std.specs.{Prelude.if◌then◌else◌, Option.option_map, Str.bytes_eq}
 use Rattle.do_table.specs.Entries.{value_of, are_distinct, entered, given, unless}
 use Rattle.do_table.specs.laws.Entered.{distinct_entered, value_entered}
 use Rattle.do_table.specs.laws.TableLaws.{distinct_removed, value_removed}
-use Rattle.do_services.specs.Calls.{as_number}
-use Rattle.do_services.specs.Core.{Entry, add_at, keyed}
+use Rattle.do_services.specs.{Calls.as_number, Core.{Entry, add_at, keyed}}
 use Rattle.do_native_acts.specs.History.{left}
-use Rattle.do_services.specs.History.{after}
-use Rattle.do_services.specs.Meaning.{told}
-use Rattle.do_services.specs.declared.calls.Call.{Call}
+use Rattle.do_services.specs.{History.after, Meaning.told, declared.calls.Call.Call}
 use Rattle.do_services.specs.declared.calls.Call.TheVariants.{Add, Remove, Items, Named}
 use Rattle.do_services.specs.declared.service.Service.{Service}
 

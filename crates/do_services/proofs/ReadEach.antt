@@ -1,21 +1,17 @@
 -- Services that are read one by one, each put behind the others, are the table of all of them.
 use Rattle.std.proofs.Common.{◌≡◌, ◌∙◌, ℕ, Bool, true, false, not, is_some, ap, arith, length, refl}
-use Rattle.std.proofs.Common.{List as Listed, [], ◌∷◌, ◌++◌, Option, Some, None, map, sym}
-use Rattle.std.proofs.Common.{◌+◌, ◌<◌, ◌≤◌, drop, get_or}
-use Rattle.std.specs.Prelude.{if◌then◌else◌, slice_get}
-use Rattle.std.specs.Option.{option_map}
-use Rattle.std.proofs.Math.ListN.{drop_of_length-le}
-use Rattle.std.proofs.Math.Seq.{get_or-append_seam, take-append_seam}
+use Rattle.std.proofs.Common.{List as Listed, [], ◌∷◌, ◌++◌, Option, Some, None, map, sym, ◌+◌, ◌<◌}
+use Rattle.std.proofs.Common.{◌≤◌, drop, get_or}
+use Rattle.std.specs.{Prelude.{if◌then◌else◌, slice_get}, Option.option_map}
+use Rattle.std.proofs.Math.{ListN.drop_of_length-le, Seq.{get_or-append_seam, take-append_seam}}
 use Rattle.std.proofs.lemmas.List.{append-nil, append_assoc, at_drop_more, length-append}
 use Rattle.std.proofs.lemmas.Option.{slice_get-get_or}
 use Rattle.do_base.specs.declared.values.value.Value.{Value}
 use Rattle.do_grammar.specs.Words.{◌>>?◌}
-use Rattle.do_native_acts.specs.Rows.{read_all, with_first}
-use Rattle.do_native_acts.specs.laws.KindLaws.{then_is}
+use Rattle.do_native_acts.specs.{Rows.{read_all, with_first}, laws.KindLaws.then_is}
 use Rattle.do_table.specs.Entries.{added, are_distinct, once, value_of}
 use Rattle.do_table.specs.laws.TableLaws.{distinct_pushed, entry_refused}
-use Rattle.do_services.specs.Core.{Entry, keyed, service_in}
-use Rattle.do_services.specs.declared.service.Service.{Service}
+use Rattle.do_services.specs.{Core.{Entry, keyed, service_in}, declared.service.Service.Service}
 
 -- the table that the services of values make behind others
 abbrev pub read_into : Listed Entry → Listed Value → Option (Listed Entry)

@@ -1,25 +1,18 @@
 -- The acts of the methods.
 use Rattle.std.specs.Prelude.{ℕ, pos, Option, Some, None, List as Listed, [], ◌∷◌, ◌++◌, codes}
-use Rattle.std.specs.Prelude.{if◌then◌else◌}
-use Rattle.std.specs.Str.{bytes_eq}
-use Rattle.do_base.specs.values.Kinds.{is_nil, text}
-use Rattle.do_base.specs.declared.values.value.Value.{Value}
+use Rattle.std.specs.{Prelude.if◌then◌else◌, Str.bytes_eq}
+use Rattle.do_base.specs.{values.Kinds.{is_nil, text}, declared.values.value.Value.Value}
 use Rattle.do_base.specs.declared.values.value.Value.TheVariants.{Nil, Num, Text}
 use Rattle.do_class.specs.Class.{Class}
 use Rattle.do_grammar.specs.Words.{◌>>?◌}
-use Rattle.do_behave.specs.Numbers.{truth}
-use Rattle.do_behave.specs.Steps.{local}
-use Rattle.do_behave.specs.declared.invocation.Invocation.{Invocation}
-use Rattle.do_behave.specs.declared.act.Act.{Act}
-use Rattle.do_behave.specs.declared.act.Act.TheVariants.{Root, Send}
+use Rattle.do_behave.specs.{Numbers.truth, Steps.local, declared.invocation.Invocation.Invocation}
+use Rattle.do_behave.specs.declared.act.Act.{Act, TheVariants.{Root, Send}}
 use Rattle.do_behave.specs.declared.change.LocalSet.{LocalSet}
 use Rattle.do_native_acts.specs.Places.{at_place, by_selector, does_call, in_two, returns}
-use Rattle.do_native_acts.specs.Steps.{caught_to, set, steps}
-use Rattle.do_native_acts.specs.Owners.{owner_in}
+use Rattle.do_native_acts.specs.{Steps.{caught_to, set, steps}, Owners.owner_in}
 use Rattle.do_table.specs.Entries.{value_of}
-use Rattle.do_services.specs.Calls.{call_in, does}
-use Rattle.do_services.specs.Core.{from_slots, row, service_in, texts_value, to_slots}
-use Rattle.do_services.specs.declared.service.Service.{Service}
+use Rattle.do_services.specs.{Calls.{call_in, does}, Core.{from_slots, row, service_in}}
+use Rattle.do_services.specs.{Core.{texts_value, to_slots}, declared.service.Service.Service}
 
 -- goes on at a place with these locals set, and the handler as it is
 abbrev pub keeps_on : Invocation → ℕ → Listed LocalSet → Act

@@ -1,20 +1,13 @@
 -- The calls of a core, and what each does.
-use Rattle.std.specs.Prelude.{ℕ, Bool, Option, Some, None, List as Listed, if◌then◌else◌}
-use Rattle.std.specs.Prelude.{codes, IsTrue}
-use Rattle.std.specs.Map.{keys_of}
-use Rattle.std.specs.Option.{option_map}
-use Rattle.std.specs.Str.{bytes_eq}
-use Rattle.do_base.specs.values.Kinds.{text}
-use Rattle.do_base.specs.declared.values.value.Value.{Value}
+use Rattle.std.specs.Prelude.{ℕ, Bool, Option, Some, None, List as Listed, if◌then◌else◌, codes}
+use Rattle.std.specs.{Prelude.IsTrue, Map.keys_of, Option.option_map, Str.bytes_eq}
+use Rattle.do_base.specs.{values.Kinds.text, declared.values.value.Value.Value}
 use Rattle.do_base.specs.declared.values.value.Value.TheVariants.{Nil, Num}
 use Rattle.do_grammar.specs.Words.{◌>>?◌}
-use Rattle.do_behave.specs.Numbers.{truth}
-use Rattle.do_behave.specs.Steps.{local}
-use Rattle.do_behave.specs.declared.invocation.Invocation.{Invocation}
+use Rattle.do_behave.specs.{Numbers.truth, Steps.local, declared.invocation.Invocation.Invocation}
 use Rattle.do_table.specs.Entries.{value_of}
 use Rattle.do_services.specs.Core.{Entry, is_service, row, service_in, texts_value, with_service}
-use Rattle.do_services.specs.Core.{without}
-use Rattle.do_services.specs.declared.calls.Call.{Call}
+use Rattle.do_services.specs.{Core.without, declared.calls.Call.Call}
 use Rattle.do_services.specs.declared.calls.Call.TheVariants.{Add, Remove, Items, Named}
 use Rattle.do_services.specs.declared.service.Service.{Service}
 

@@ -2,14 +2,10 @@
 use Rattle.std.specs.Prelude.{ℕ, pos, Bool, true, false, is_some, ◌&&◌, nat_lt, nat_le, Option}
 use Rattle.std.specs.Prelude.{Some, None, List as Listed, [], ◌∷◌, ◌++◌, length, map, if◌then◌else◌}
 use Rattle.std.specs.Str.{bytes_eq}
-use Rattle.do_base.specs.values.Kinds.{text, items}
-use Rattle.do_base.specs.declared.values.value.Value.{Value, List}
+use Rattle.do_base.specs.{values.Kinds.{text, items}, declared.values.value.Value.{Value, List}}
 use Rattle.do_base.specs.declared.values.value.Value.TheVariants.{Num, Text}
-use Rattle.do_grammar.specs.Names.{is_name}
-use Rattle.do_grammar.specs.Words.{◌>>?◌}
-use Rattle.do_native_acts.specs.Ports.{port_in}
-use Rattle.do_native_acts.specs.Rows.{rows_in, listed}
-use Rattle.do_native_acts.specs.Types.{are_types, types_in}
+use Rattle.do_grammar.specs.{Names.is_name, Words.◌>>?◌}
+use Rattle.do_native_acts.specs.{Ports.port_in, Rows.{rows_in, listed}, Types.{are_types, types_in}}
 use Rattle.do_table.specs.Entries.{value_of, removed, is_table}
 use Rattle.do_services.specs.declared.service.Service.{Service}
 

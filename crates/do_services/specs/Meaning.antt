@@ -2,8 +2,7 @@
 use Rattle.std.specs.Prelude.{ℕ, nat_lt, List, [], ◌∷◌, length, Option, None, if◌then◌else◌}
 use Rattle.std.specs.Str.{bytes_eq}
 use Rattle.do_table.specs.Entries.{given}
-use Rattle.do_services.specs.History.{after}
-use Rattle.do_services.specs.declared.calls.Call.{Call}
+use Rattle.do_services.specs.{History.after, declared.calls.Call.Call}
 use Rattle.do_services.specs.declared.calls.Call.TheVariants.{Add, Remove, Items, Named}
 use Rattle.do_services.specs.declared.service.Service.{Service}
 

@@ -1,6 +1,5 @@
 ghost use Rattle.std.specs.Prelude.{◌≡◌, IfOk};
-ghost use Rattle.do_behave.specs.Changes.{Means};
-ghost use Rattle.do_behave.specs.Steps.{or_fault};
+ghost use Rattle.do_behave.specs.{Changes.Means, Steps.or_fault};
 ghost use Rattle.do_services.specs.Acts.{method_act};
 
 use crate::calls::{Call, call_in};
@@ -13,8 +12,7 @@ use do_native_acts::{Core, CoreFault, call_act, selector_in};
 use std::alloc::AllocError;
 
 impl Core for Services {
-    ghost use Rattle.do_services.specs.Calls.{IsCall, call_in, does};
-    ghost use Rattle.do_services.specs.Core.{from_slots, to_slots};
+    ghost use Rattle.do_services.specs.{Calls.{IsCall, call_in, does}, Core.{from_slots, to_slots}};
 
     type Call = Call;
 
@@ -64,8 +62,7 @@ fn method_act(selector: &Text, inv: &Invocation, slots: &Values) -> Result<Chang
 pub struct ServiceServer;
 
 impl Behaviour for ServiceServer {
-    ghost use Rattle.do_services.specs.Acts.{services_act};
-    ghost use Rattle.do_services.specs.laws.ServiceLaws.{services_answers_well};
+    ghost use Rattle.do_services.specs.{Acts.services_act, laws.ServiceLaws.services_answers_well};
     ghost use Rattle.do_services.specs.laws.ServiceLaws.{services_names_shown};
 
     ghost act = { λ _. services_act };

@@ -2,8 +2,7 @@
 //! the port for its root, and the provider for the service.
 ghost use Rattle.std.specs.Prelude.{◌≡◌, ◌∷◌, [], IfOk};
 ghost use Rattle.do_base.specs.declared.values.value.Value.TheVariants.{Nil};
-ghost use Rattle.do_behave.specs.Changes.{Means};
-ghost use Rattle.do_behave.specs.Steps.{or_fault};
+ghost use Rattle.do_behave.specs.{Changes.Means, Steps.or_fault};
 ghost use Rattle.do_services.specs.Acts.{asks_provider, asks_root, asks_type, provider_message};
 
 use crate::calls::local_service;

@@ -4,11 +4,8 @@ ghost use Rattle.std.specs.Option.{option_copied};
 ghost use Rattle.do_grammar.specs.Words.{◌>>?◌};
 ghost use Rattle.do_behave.specs.Steps.{local};
 ghost use Rattle.do_native_acts.specs.Faults.{FaultOf};
-ghost use Rattle.do_services.specs.Calls.{IsCall, call_in, does, row_or_nil};
-ghost use Rattle.do_services.specs.Core.{service_in};
-ghost use Rattle.do_services.specs.History.{after};
-ghost use Rattle.do_services.specs.declared.calls.Call.{Call};
-ghost use Rattle.do_services.specs.declared.calls.Call.TheVariants.{Add};
+ghost use Rattle.do_services.specs.{Calls.{IsCall, call_in, does, row_or_nil}, Core.service_in};
+ghost use Rattle.do_services.specs.{History.after, declared.calls.Call.{Call, TheVariants.Add}};
 
 use crate::service::Service;
 use crate::services::Services;

@@ -2,12 +2,9 @@
 //! for a type, asks for the root of the port, asks the provider, and answers.
 ghost use Rattle.std.specs.Prelude.{◌≡◌, ◌∷◌, ◌++◌, [], pos, IfOk, OnOk, Some, None};
 ghost use Rattle.std.specs.Option.{option_copied};
-ghost use Rattle.do_base.specs.declared.values.value.Value.TheVariants.{Num};
-ghost use Rattle.do_base.specs.declared.values.value.Value.TheVariants.{Text as TextValue};
-ghost use Rattle.do_behave.specs.Changes.{Means};
-ghost use Rattle.do_behave.specs.Steps.{or_fault};
-ghost use Rattle.do_native_acts.specs.Places.{at_place};
-ghost use Rattle.do_native_acts.specs.Steps.{set};
+ghost use Rattle.do_base.specs.declared.values.value.Value.TheVariants.{Num, Text as TextValue};
+ghost use Rattle.do_behave.specs.{Changes.Means, Steps.or_fault};
+ghost use Rattle.do_native_acts.specs.{Places.at_place, Steps.set};
 ghost use Rattle.do_services.specs.Acts.{has_type, keeps_on, perform_next, perform_places};
 ghost use Rattle.do_services.specs.Acts.{performs, was_performed, was_raised};
 

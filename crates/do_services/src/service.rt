@@ -1,6 +1,5 @@
 //! A service, as a slot keeps it.
-ghost use Rattle.std.specs.Prelude.{◌≡◌, ◌∷◌, [], IfOk};
-ghost use Rattle.std.specs.Option.{option_copied};
+ghost use Rattle.std.specs.{Prelude.{◌≡◌, ◌∷◌, [], IfOk}, Option.option_copied};
 ghost use Rattle.do_services.specs.Core.{is_message, is_service, message_in, service_of};
 
 use do_base::{Text, Texts, Value, Values, copy_value};

@@ -1,16 +1,11 @@
 ghost use Rattle.std.specs.Prelude.{◌≡◌, [], List, IsTrue, IfOk, IfErr, IfSome, OnErr, Some, None};
-ghost use Rattle.std.specs.Prelude.{map, is_some};
-ghost use Rattle.std.specs.Map.{keys_of};
-ghost use Rattle.std.specs.Option.{option_copied};
-ghost use Rattle.do_native_acts.specs.Faults.{FaultOf};
-ghost use Rattle.do_native_acts.specs.Rows.{listed, read_all, rows_in};
+ghost use Rattle.std.specs.{Prelude.{map, is_some}, Map.keys_of, Option.option_copied};
+ghost use Rattle.do_native_acts.specs.{Faults.FaultOf, Rows.{listed, read_all, rows_in}};
 ghost use Rattle.do_grammar.specs.Words.{◌>>?◌};
 ghost use Rattle.do_table.specs.Entries.{once, value_of};
 ghost use Rattle.do_services.specs.Core.{from_slots, is_service, keyed, row, service_in, to_slots};
 ghost use Rattle.do_services.specs.Core.{few_services, of_core, with_service, without};
-ghost use Rattle.do_services.specs.History.{after};
-ghost use Rattle.do_services.specs.Meaning.{told};
-ghost use Rattle.do_services.specs.declared.calls.Call.{Call};
+ghost use Rattle.do_services.specs.{History.after, Meaning.told, declared.calls.Call.Call};
 
 use crate::service::Service;
 use do_base::{Text, Texts, Value, Values};
@@ -32,9 +27,8 @@ pub struct Services {
 }
 
 impl Model for Services {
-    ghost use Rattle.std.specs.Prelude.{List, IsTrue};
-    ghost use Rattle.std.specs.Coded.{codes};
     ghost use Rattle.do_services.specs.contracts.service.Service as service;
+    ghost use Rattle.std.specs.{Prelude.{List, IsTrue}, Coded.codes};
     ghost use Rattle.do_services.specs.Core.{Entry, are_services};
 
     ghost Value = { List Entry };

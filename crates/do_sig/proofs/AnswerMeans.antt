@@ -1,21 +1,16 @@
 -- What an answer means, from what an exact reader gives.
-use Rattle.std.proofs.Common.{◌≡◌, ℕ, ◌-◌, List, length, Result, Ok, Err, refl, sym, ◌∙◌}
-use Rattle.std.specs.Prelude.{IfSome, slice_get}
-use Rattle.do_grammar.specs.Reader.{Stop, Whole}
-use Rattle.do_grammar.specs.Grammar.{IsBytes, IsFirstBadWhole}
-use Rattle.do_grammar.proofs.reads.WholeExact.{ReadsWhole, left_within_whole, proper_front_whole}
-use Rattle.do_grammar.proofs.reads.WholeExact.{first_bad_whole}
-use Rattle.do_sig.specs.declared.fault.Kind.{Kind}
 use Rattle.do_sig.specs.declared.fault.Kind.TheVariants as kinds
 use Rattle.do_sig.specs.declared.fault.Stop as code
-use Rattle.do_sig.specs.declared.fault.Stop.TheVariants.{Memory, Short, Bad}
 use Rattle.do_sig.specs.declared.fault.EncFault as fault
-use Rattle.do_sig.specs.reading.Gives.{Fails, IsEarlyStop}
-use Rattle.do_sig.specs.Answers.{fault_of_kind, fault_of, IsWithin, answer_of, IsAnswer, Answers}
-use Rattle.do_sig.specs.Answers.{IsOfEncoding, BlamesByte}
-use Rattle.do_sig.specs.Blame.{IsBlamed}
-use Rattle.do_sig.proofs.BlameForms.{Blames}
-use Rattle.do_sig.proofs.FaultBytes.{blamed_at}
+use Rattle.std.proofs.Common.{◌≡◌, ℕ, ◌-◌, List, length, Result, Ok, Err, refl, sym, ◌∙◌}
+use Rattle.std.specs.Prelude.{IfSome, slice_get}
+use Rattle.do_grammar.specs.{Reader.{Stop, Whole}, Grammar.{IsBytes, IsFirstBadWhole}}
+use Rattle.do_grammar.proofs.reads.WholeExact.{ReadsWhole, left_within_whole, proper_front_whole}
+use Rattle.do_grammar.proofs.reads.WholeExact.{first_bad_whole}
+use Rattle.do_sig.specs.declared.fault.{Kind.Kind, Stop.TheVariants.{Memory, Short, Bad}}
+use Rattle.do_sig.specs.{reading.Gives.{Fails, IsEarlyStop}, Answers.{fault_of_kind, fault_of}}
+use Rattle.do_sig.specs.Answers.{IsWithin, answer_of, IsAnswer, Answers, IsOfEncoding, BlamesByte}
+use Rattle.do_sig.{specs.Blame.IsBlamed, proofs.{BlameForms.Blames, FaultBytes.blamed_at}}
 
 -- a value under one kind of error or another
 ok_same : {A : Type 0} (x y : A) → ◌≡◌ {A = Result A (Stop Kind)} (Ok x) (Ok y)

@@ -1,16 +1,11 @@
 -- What a step of reading a signature gives.
+use Rattle.do_sig.specs.declared.fault.Stop as code
 use Rattle.std.proofs.Common.{◌≡◌, ◌≢◌, ℕ, zero, suc, ◌-◌, ◌<◌, List, [], ◌∷◌, ◌++◌, length, Ok}
 use Rattle.std.proofs.Common.{Err, refl, sym, ap, ◌∙◌, arith}
 use Rattle.do_grammar.specs.Reader.{Stop, short, bad}
-use Rattle.do_sig.specs.declared.fault.Kind.{Kind}
-use Rattle.do_sig.specs.declared.fault.Stop as code
-use Rattle.do_sig.specs.declared.fault.Stop.TheVariants.{Memory, Short, Bad}
-use Rattle.do_sig.specs.reading.Gives.{Fails}
-use Rattle.do_sig.specs.MethodTypes.{QualifiedType}
-use Rattle.do_sig.specs.Offsets.{fresh}
-use Rattle.do_sig.specs.reading.Offsets.{skip}
-use Rattle.do_sig.specs.reading.Outermost.{encoding_at}
-use Rattle.do_sig.specs.Blame.{why_no_more}
+use Rattle.do_sig.specs.declared.fault.{Kind.Kind, Stop.TheVariants.{Memory, Short, Bad}}
+use Rattle.do_sig.specs.{reading.Gives.Fails, MethodTypes.QualifiedType, Offsets.fresh}
+use Rattle.do_sig.specs.{reading.{Offsets.skip, Outermost.encoding_at}, Blame.why_no_more}
 use Rattle.do_sig.specs.reading.Signatures.{signature_of, args_at}
 use Rattle.do_sig.specs.declared.outermost.place.Place.TheVariants.{Argument}
 

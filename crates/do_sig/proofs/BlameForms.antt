@@ -4,11 +4,9 @@ use Rattle.std.proofs.Common.{length, Result, Ok, Err, refl, sym, ap, subst, ◌
 use Rattle.std.specs.Prelude.{◌==◌}
 use Rattle.do_grammar.specs.Reader.{Stop, bad, Reader, done, and_then, mapped, byte_of, scan_to}
 use Rattle.do_grammar.specs.Reader.{until, until_within, Step, goes, leaves, fails, by_step, ◌>>=◌}
-use Rattle.do_grammar.specs.Grammar.{IsBytes}
-use Rattle.do_grammar.proofs.reads.ExactReader.{Reads, IsBytes-rest}
+use Rattle.do_grammar.{specs.Grammar.IsBytes, proofs.reads.ExactReader.{Reads, IsBytes-rest}}
 use Rattle.do_grammar.proofs.reads.ChainAnswers.{Stopped, first, later, bind_err, bind_ok}
-use Rattle.do_sig.specs.declared.fault.Kind.{Kind}
-use Rattle.do_sig.specs.Blame.{IsBlamed}
+use Rattle.do_sig.specs.{declared.fault.Kind.Kind, Blame.IsBlamed}
 
 -- the byte at which reading stopped may be blamed so
 pub record Blamed (bytes : List ℕ) (k : Kind) (left : ℕ) : Type 0 where

@@ -3,14 +3,11 @@ use Rattle.std.proofs.Common.{◌≡◌, ℕ, ◌-◌, ◌+◌, ◌*◌, Bool, t
 use Rattle.std.proofs.Common.{◌++◌, Option, Some, None, refl, subst}
 use Rattle.std.specs.Prelude.{◌&&◌, ◌||◌, ◌==◌}
 use Rattle.do_grammar.specs.Reader.{Step, goes, leaves, fails}
-use Rattle.do_sig.specs.declared.fault.Kind.{Kind}
-use Rattle.do_sig.specs.declared.fault.Kind.TheVariants.{Unsupported, Deep, NoSelf, TooManyArgs}
-use Rattle.do_sig.specs.declared.fault.Kind.TheVariants.{BadChar}
-use Rattle.do_sig.specs.declared.outermost.place.Place.{Place}
-use Rattle.do_sig.specs.declared.qualifiers.Qualifiers.{Qualifiers}
-use Rattle.do_sig.specs.Letters.{is_digit, is_qualifier, is_unsupported}
-use Rattle.do_sig.specs.Blame.{is_bracket, begins_argument, why_no_type, why_no_self, why_no_more}
-use Rattle.do_sig.specs.Blame.{IsBlamed}
+use Rattle.do_sig.specs.declared.fault.Kind.{Kind, TheVariants.{Unsupported, Deep, NoSelf}}
+use Rattle.do_sig.specs.declared.fault.Kind.TheVariants.{TooManyArgs, BadChar}
+use Rattle.do_sig.specs.declared.{outermost.place.Place.Place, qualifiers.Qualifiers.Qualifiers}
+use Rattle.do_sig.specs.{Letters.{is_digit, is_qualifier, is_unsupported}, Blame.is_bracket}
+use Rattle.do_sig.specs.Blame.{begins_argument, why_no_type, why_no_self, why_no_more, IsBlamed}
 use Rattle.do_sig.specs.Marks.{marked, goes_or_fails, qualifier_step}
 use Rattle.do_sig.specs.Offsets.{Offset, fresh, signed, digits, offset_step}
 use Rattle.do_sig.specs.reading.Types.{count_step, goes_on_name, is_some_name, name_step}

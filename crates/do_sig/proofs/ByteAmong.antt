@@ -1,11 +1,7 @@
 -- What holds of each of some bytes holds of a byte that is among them.
-use Rattle.std.proofs.Common.{◌≡◌, ℕ, Bool, true, false, ltb, List, [], ◌∷◌, map, refl, sym}
-use Rattle.std.proofs.Common.{subst}
-use Rattle.std.specs.Prelude.{◌||◌, ◌&&◌, ◌==◌}
-use Rattle.std.specs.List.{list_all}
-use Rattle.std.proofs.lemmas.Bool.{eqb-true}
-use Rattle.do_sig.specs.Letters.{letter_of, scalars, is_one_of, is_letter}
-use Rattle.do_sig.specs.Blame.{begins_type}
+use Rattle.std.proofs.Common.{◌≡◌, ℕ, Bool, true, false, ltb, List, [], ◌∷◌, map, refl, sym, subst}
+use Rattle.std.{specs.{Prelude.{◌||◌, ◌&&◌, ◌==◌}, List.list_all}, proofs.lemmas.Bool.eqb-true}
+use Rattle.do_sig.specs.{Letters.{letter_of, scalars, is_one_of, is_letter}, Blame.begins_type}
 use Rattle.do_sig.proofs.TestsPass.{both_pass}
 
 -- what holds of each of some bytes holds of a byte among them

@@ -1,7 +1,6 @@
 -- What the next byte of a count gives.
 use Rattle.std.proofs.Common.{◌≡◌, ◌≢◌, ℕ, suc, ◌+◌, ◌-◌, ◌*◌, ◌<◌, ◌≤◌, List, ◌∷◌, length, Err}
-use Rattle.std.proofs.Common.{refl, arith}
-use Rattle.std.proofs.lemmas.Bool.Decides.{nat_tests}
+use Rattle.std.proofs.{Common.{refl, arith}, lemmas.Bool.Decides.nat_tests}
 use Rattle.do_grammar.specs.Reader.{bad, goes, leaves, fails, scan_to}
 use Rattle.do_sig.specs.declared.fault.Kind.TheVariants.{Unsupported, BadChar}
 use Rattle.do_sig.specs.reading.Types.{count_step, count_at}

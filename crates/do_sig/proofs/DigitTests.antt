@@ -1,6 +1,5 @@
 -- The test of a digit.
-use Rattle.std.proofs.Common.{◌≡◌, ℕ, ◌<◌, ◌≤◌, true, false, leb, arith}
-use Rattle.std.specs.Prelude.{◌&&◌}
+use Rattle.std.{proofs.Common.{◌≡◌, ℕ, ◌<◌, ◌≤◌, true, false, leb, arith}, specs.Prelude.◌&&◌}
 use Rattle.std.proofs.lemmas.Bool.Decides.{nat_tests}
 
 -- a byte below the digits is none

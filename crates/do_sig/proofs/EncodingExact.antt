@@ -1,38 +1,28 @@
 -- Encodings are read exactly.
+use Rattle.do_sig.specs.declared.qualifiers.Direction.TheVariants as ways
+use Rattle.do_sig.specs.declared.qualifiers.Passing.TheVariants as passings
 use Rattle.std.proofs.Common.{◌≡◌, ℕ, ◌<◌, Bool, true, false, cond, List, [], ◌∷◌, ◌++◌, Option}
 use Rattle.std.proofs.Common.{Some, None, refl, sym, ap, subst, arith}
-use Rattle.std.specs.Prelude.{◌==◌, ◌&&◌, not}
-use Rattle.std.proofs.lemmas.Bool.{false≢true}
-use Rattle.do_grammar.specs.Reader.{Step, goes, leaves, fails}
-use Rattle.do_grammar.specs.Grammar.{Begins}
+use Rattle.std.{specs.Prelude.{◌==◌, ◌&&◌, not}, proofs.lemmas.Bool.false≢true}
+use Rattle.do_grammar.specs.{Reader.{Step, goes, leaves, fails}, Grammar.Begins}
 use Rattle.do_grammar.specs.Forms.{Mapped, OnStep, Scans, Accepts}
-use Rattle.do_grammar.proofs.reads.ExactReader.{Reads, Reads-as}
-use Rattle.do_grammar.proofs.reads.FormsExact.{Reads-mapped}
+use Rattle.do_grammar.proofs.reads.{ExactReader.{Reads, Reads-as}, FormsExact.Reads-mapped}
 use Rattle.do_grammar.proofs.reads.ScanExact.{Reads-scan, Reads-scanned}
 use Rattle.do_grammar.proofs.reads.WholeExact.{ReadsWhole, Reads-then_whole}
-use Rattle.do_sig.specs.declared.fault.Kind.{Kind}
-use Rattle.do_sig.specs.declared.fault.Kind.TheVariants.{BadChar}
-use Rattle.do_sig.specs.declared.outermost.place.Place.{Place}
-use Rattle.do_sig.specs.declared.outermost.place.Place.TheVariants.{Alone}
-use Rattle.do_sig.specs.declared.qualifiers.Qualifiers.{Qualifiers}
-use Rattle.do_sig.specs.declared.qualifiers.Direction.{Direction}
-use Rattle.do_sig.specs.declared.qualifiers.Direction.TheVariants as ways
+use Rattle.do_sig.specs.declared.fault.Kind.{Kind, TheVariants.BadChar}
+use Rattle.do_sig.specs.declared.outermost.place.Place.{Place, TheVariants.Alone}
+use Rattle.do_sig.specs.declared.qualifiers.{Qualifiers.Qualifiers, Direction.Direction}
 use Rattle.do_sig.specs.declared.qualifiers.Passing.{Passing}
-use Rattle.do_sig.specs.declared.qualifiers.Passing.TheVariants as passings
 use Rattle.do_sig.specs.declared.value_type.Scalar.TheVariants.{SignedChar}
 use Rattle.do_sig.specs.declared.value_type.ValueType.TheVariants.{Simple}
-use Rattle.do_sig.specs.declared.value_type.OutermostType.{OutermostType}
-use Rattle.do_sig.specs.declared.value_type.OutermostType.TheVariants.{Void, Plain}
-use Rattle.do_sig.specs.Letters.{is_qualifier}
-use Rattle.do_sig.specs.Places.{may_return, MayStand}
-use Rattle.do_sig.specs.MethodTypes.{QualifiedType, IsEncodingOf}
-use Rattle.do_sig.specs.Bare.{bare}
-use Rattle.do_sig.specs.Offsets.{fresh, offset_ends, last_step}
-use Rattle.do_sig.specs.Marks.{free_way, free_passing, marked, goes_or_fails, qualifier_step}
-use Rattle.do_sig.specs.Encodings.{IsQualified, IsEncodingAt, IsEncoding}
-use Rattle.do_sig.specs.reading.Offsets.{after_offset, nothing_left}
-use Rattle.do_sig.specs.reading.Outermost.{outermost_at, qualified_at, encoding_at, alone_at}
-use Rattle.do_sig.proofs.OffsetExact.{Reads-last}
+use Rattle.do_sig.specs.declared.value_type.OutermostType.{OutermostType, TheVariants.{Void, Plain}}
+use Rattle.do_sig.specs.{Letters.is_qualifier, Places.{may_return, MayStand}}
+use Rattle.do_sig.specs.{MethodTypes.{QualifiedType, IsEncodingOf}, Bare.bare}
+use Rattle.do_sig.specs.{Offsets.{fresh, offset_ends, last_step}, Marks.{free_way, free_passing}}
+use Rattle.do_sig.specs.{Marks.{marked, goes_or_fails, qualifier_step}, Encodings.IsQualified}
+use Rattle.do_sig.specs.{Encodings.{IsEncodingAt, IsEncoding}, reading.Offsets.after_offset}
+use Rattle.do_sig.specs.reading.{Offsets.nothing_left, Outermost.{outermost_at, qualified_at}}
+use Rattle.do_sig.{specs.reading.Outermost.{encoding_at, alone_at}, proofs.OffsetExact.Reads-last}
 use Rattle.do_sig.proofs.OuterExact.{OuterByStep, Reads-outer, outer_is, outer_read}
 
 -- ---- qualifiers

@@ -1,35 +1,25 @@
 -- What is printed of an encoding that may stand at a place spells it.
+use Rattle.do_sig.specs.declared.qualifiers.Direction.TheVariants as ways
+use Rattle.do_sig.specs.declared.qualifiers.Passing.TheVariants as passings
 use Rattle.std.proofs.Common.{◌≡◌, ℕ, Bool, true, false, eqb, leb, List, [], ◌∷◌, ◌++◌, Ok, refl}
 use Rattle.std.proofs.Common.{sym, ap, subst, ◌∙◌, append_assoc, arith}
 use Rattle.std.specs.Prelude.{◌||◌, ◌&&◌, not}
-use Rattle.std.proofs.lemmas.Bool.{false≢true, eqb-true}
-use Rattle.std.proofs.lemmas.List.{append-nil}
-use Rattle.do_grammar.specs.Reader.{leaves, scan_to}
-use Rattle.do_grammar.specs.Grammar.{IsBytes}
-use Rattle.do_grammar.specs.Forms.{Scans}
-use Rattle.do_sig.specs.declared.outermost.place.Place.{Place}
-use Rattle.do_sig.specs.declared.outermost.place.Place.TheVariants.{Alone}
-use Rattle.do_sig.specs.declared.qualifiers.Qualifiers.{Qualifiers}
-use Rattle.do_sig.specs.declared.qualifiers.Direction.{Direction}
-use Rattle.do_sig.specs.declared.qualifiers.Direction.TheVariants as ways
+use Rattle.std.proofs.lemmas.{Bool.{false≢true, eqb-true}, List.append-nil}
+use Rattle.do_grammar.specs.{Reader.{leaves, scan_to}, Grammar.IsBytes, Forms.Scans}
+use Rattle.do_sig.specs.declared.outermost.place.Place.{Place, TheVariants.Alone}
+use Rattle.do_sig.specs.declared.qualifiers.{Qualifiers.Qualifiers, Direction.Direction}
 use Rattle.do_sig.specs.declared.qualifiers.Passing.{Passing}
-use Rattle.do_sig.specs.declared.qualifiers.Passing.TheVariants as passings
 use Rattle.do_sig.specs.declared.value_type.OutermostType.{OutermostType}
 use Rattle.do_sig.specs.declared.value_type.OutermostType.TheVariants.{Void, Pointer, Plain}
-use Rattle.do_sig.specs.Letters.{is_qualifier}
-use Rattle.do_sig.specs.Places.{may_return, may_point, MayStand}
-use Rattle.do_sig.specs.MethodTypes.{QualifiedType, IsEncodingOf}
-use Rattle.do_sig.specs.Bare.{bare}
-use Rattle.do_sig.specs.Blame.{begins_type}
+use Rattle.do_sig.specs.{Letters.is_qualifier, Places.{may_return, may_point, MayStand}}
+use Rattle.do_sig.specs.{MethodTypes.{QualifiedType, IsEncodingOf}, Bare.bare, Blame.begins_type}
 use Rattle.do_sig.specs.Marks.{qualifier_step}
 use Rattle.do_sig.specs.Spelling.{outermost_spelling, letter_if, way_letters, passing_letters}
 use Rattle.do_sig.specs.Spelling.{qualifier_letters, encoding_spelling}
 use Rattle.do_sig.specs.Encodings.{IsQualified, IsEncodingAt, IsEncoding}
 use Rattle.do_sig.specs.reading.Outermost.{begins_outermost, outermost_at, encoding_at}
-use Rattle.do_sig.proofs.OuterExact.{outer_begins}
-use Rattle.do_sig.proofs.EncodingExact.{Reads-encoding_at, encoding_stands}
-use Rattle.do_sig.proofs.TestsPass.{not_true}
-use Rattle.do_sig.proofs.ByteAmong.{types_all}
+use Rattle.do_sig.proofs.{OuterExact.outer_begins, EncodingExact.Reads-encoding_at}
+use Rattle.do_sig.proofs.{EncodingExact.encoding_stands, TestsPass.not_true, ByteAmong.types_all}
 
 -- ---- the first byte of an outermost type
 

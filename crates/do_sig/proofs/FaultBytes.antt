@@ -1,44 +1,33 @@
 -- What each fault says of its byte.
 use Rattle.std.proofs.Common.{◌≡◌, ℕ, zero, suc, ◌-◌, ◌+◌, Bool, cond, List, [], ◌∷◌, ◌++◌, length}
 use Rattle.std.proofs.Common.{Option, Some, None, Ok, Err, refl, sym, ap, subst, ◌∙◌, length-append}
-use Rattle.std.proofs.Common.{arith}
-use Rattle.std.specs.Prelude.{◌==◌, slice_get, IfSome}
+use Rattle.std.{proofs.Common.arith, specs.Prelude.{◌==◌, slice_get, IfSome}}
 use Rattle.do_grammar.specs.Reader.{bad, Reader, Whole, done, mapped, byte_of, scan_to, until, Step}
 use Rattle.do_grammar.specs.Reader.{goes, leaves, fails, by_step, then_whole, ◌>>=◌}
 use Rattle.do_grammar.specs.Grammar.{IsBytes}
-use Rattle.do_sig.specs.declared.fault.Kind.{Kind}
-use Rattle.do_sig.specs.declared.fault.Kind.TheVariants.{BadChar}
+use Rattle.do_sig.specs.declared.fault.Kind.{Kind, TheVariants.BadChar}
 use Rattle.do_sig.specs.declared.outermost.place.Place.{Place}
 use Rattle.do_sig.specs.declared.outermost.place.Place.TheVariants.{Alone, Returned, Argument}
-use Rattle.do_sig.specs.declared.value_type.Scalar.{Scalar}
-use Rattle.do_sig.specs.declared.value_type.ValueType.{ValueType, Array, Structure}
+use Rattle.do_sig.specs.declared.value_type.{Scalar.Scalar, ValueType.{ValueType, Array, Structure}}
 use Rattle.do_sig.specs.declared.value_type.ValueType.TheVariants.{Simple}
 use Rattle.do_sig.specs.declared.value_type.OutermostType.TheVariants.{Void, Pointer, Plain}
 use Rattle.do_sig.specs.Letters.{is_digit, scalar_of}
 use Rattle.do_sig.specs.Blame.{begins_type, why_no_type, why_no_self, why_no_more, IsBlamed}
-use Rattle.do_sig.specs.MethodTypes.{QualifiedType, MethodType}
-use Rattle.do_sig.specs.Bare.{bare}
-use Rattle.do_sig.specs.Marks.{qualifier_step}
+use Rattle.do_sig.specs.{MethodTypes.{QualifiedType, MethodType}, Bare.bare, Marks.qualifier_step}
 use Rattle.do_sig.specs.Offsets.{Offset, fresh, signed, digits, offset_step}
-use Rattle.do_sig.specs.reading.Offsets.{skip, after_offset, nothing_left}
-use Rattle.do_sig.specs.reading.Types.{count_step, count_at, name_step, exactly, array_at}
-use Rattle.do_sig.specs.reading.Types.{counted_at, structure_at, named_at, letter_at, body_at}
-use Rattle.do_sig.specs.reading.Types.{type_at}
+use Rattle.do_sig.specs.reading.{Offsets.{skip, after_offset, nothing_left}, Types.count_step}
+use Rattle.do_sig.specs.reading.Types.{count_at, name_step, exactly, array_at, counted_at}
+use Rattle.do_sig.specs.reading.Types.{structure_at, named_at, letter_at, body_at, type_at}
 use Rattle.do_sig.specs.reading.Outermost.{begins_outermost, outermost_body_at, outermost_at}
 use Rattle.do_sig.specs.reading.Outermost.{qualified_at, encoding_at, alone_at}
 use Rattle.do_sig.specs.reading.Signatures.{bare_at, signature_of, or_more, args_at, signature_at}
-use Rattle.do_sig.proofs.TypeBySteps.{ByStep}
-use Rattle.do_sig.proofs.TypeExact.{Reads-type}
-use Rattle.do_sig.proofs.EncodingExact.{Reads-encoding_at}
-use Rattle.do_sig.proofs.SignatureExact.{Reads-bare}
-use Rattle.do_sig.specs.Encodings.{IsEncodingAt}
-use Rattle.do_sig.specs.Signatures.{IsBare}
-use Rattle.do_sig.proofs.BlameForms.{Blamed, Blames, Cuts, exact_cuts, at_first, behind_text}
-use Rattle.do_sig.proofs.BlameForms.{err_same, done_blames, mapped_blames, chain_cuts}
-use Rattle.do_sig.proofs.BlameForms.{either_blames, byte_blames, byte_cuts, scan_cuts, until_blames}
-use Rattle.do_sig.proofs.BlameForms.{chained, scan_blames}
-use Rattle.do_sig.proofs.BlameSteps.{type_why, self_why, more_why, count_why, name_why, mark_why}
-use Rattle.do_sig.proofs.BlameSteps.{offset_why}
+use Rattle.do_sig.proofs.{TypeBySteps.ByStep, TypeExact.Reads-type, EncodingExact.Reads-encoding_at}
+use Rattle.do_sig.{proofs.SignatureExact.Reads-bare, specs.Encodings.IsEncodingAt}
+use Rattle.do_sig.{specs.Signatures.IsBare, proofs.BlameForms.{Blamed, Blames, Cuts, exact_cuts}}
+use Rattle.do_sig.proofs.BlameForms.{at_first, behind_text, err_same, done_blames, mapped_blames}
+use Rattle.do_sig.proofs.BlameForms.{chain_cuts, either_blames, byte_blames, byte_cuts, scan_cuts}
+use Rattle.do_sig.proofs.{BlameForms.{until_blames, chained, scan_blames}, BlameSteps.type_why}
+use Rattle.do_sig.proofs.BlameSteps.{self_why, more_why, count_why, name_why, mark_why, offset_why}
 
 -- ---- types
 

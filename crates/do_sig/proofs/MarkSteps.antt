@@ -2,10 +2,8 @@
 use Rattle.std.proofs.Common.{◌≡◌, ℕ, suc, true, false, List, ◌∷◌, length, Some, None, Ok, Err}
 use Rattle.std.proofs.Common.{refl}
 use Rattle.do_grammar.specs.Reader.{bad, scan_to}
-use Rattle.do_sig.specs.declared.fault.Kind.TheVariants.{BadChar}
-use Rattle.do_sig.specs.declared.outermost.place.Place.{Place}
-use Rattle.do_sig.specs.declared.qualifiers.Qualifiers.{Qualifiers}
-use Rattle.do_sig.specs.Letters.{is_qualifier}
+use Rattle.do_sig.specs.declared.{fault.Kind.TheVariants.BadChar, outermost.place.Place.Place}
+use Rattle.do_sig.specs.{declared.qualifiers.Qualifiers.Qualifiers, Letters.is_qualifier}
 use Rattle.do_sig.specs.Marks.{qualifier_step, marked}
 
 -- a letter that may stand there is added

@@ -1,14 +1,10 @@
 -- A loop over the members of a structure that stops with an error.
+use Rattle.do_sig.specs.declared.fault.Stop as code
 use Rattle.std.proofs.Common.{◌≡◌, ◌≢◌, ℕ, List, ◌∷◌, Result, arith}
 use Rattle.do_grammar.specs.Reader.{Stop, short, bad, until}
-use Rattle.do_grammar.proofs.loops.TimesLoop.{with_front}
-use Rattle.do_grammar.proofs.loops.UntilLoop.{fault_turn}
-use Rattle.do_sig.specs.declared.fault.Kind.{Kind}
-use Rattle.do_sig.specs.declared.fault.Stop as code
-use Rattle.do_sig.specs.declared.fault.Stop.TheVariants.{Memory, Short, Bad}
-use Rattle.do_sig.specs.reading.Gives.{Fails}
-use Rattle.do_sig.specs.reading.Types.{type_at}
-use Rattle.do_sig.proofs.TypeBySteps.{ByStep}
+use Rattle.do_grammar.proofs.loops.{TimesLoop.with_front, UntilLoop.fault_turn}
+use Rattle.do_sig.specs.declared.fault.{Kind.Kind, Stop.TheVariants.{Memory, Short, Bad}}
+use Rattle.do_sig.{specs.reading.{Gives.Fails, Types.type_at}, proofs.TypeBySteps.ByStep}
 use Rattle.do_sig.specs.declared.value_type.ValueType.{ValueType}
 use Rattle.do_sig.proofs.TypeExact.{Reads-type, type_apart}
 

@@ -1,13 +1,10 @@
 -- A name that goes on with a byte is a name, and each name goes on byte by byte.
 use Rattle.std.proofs.Common.{◌≡◌, ℕ, suc, ◌+◌, ◌<◌, Bool, true, false, ltb, List, [], ◌∷◌, ◌++◌}
 use Rattle.std.proofs.Common.{length, refl, length-append, arith}
-use Rattle.std.specs.Prelude.{◌||◌, ◌&&◌, ◌==◌, not}
-use Rattle.std.specs.List.{list_all}
-use Rattle.std.proofs.lemmas.Bool.{lt-ltb}
-use Rattle.std.proofs.lemmas.Bool.Decides.{nat_tests}
+use Rattle.std.specs.{Prelude.{◌||◌, ◌&&◌, ◌==◌, not}, List.list_all}
+use Rattle.std.proofs.lemmas.Bool.{lt-ltb, Decides.nat_tests}
 use Rattle.do_sig.specs.Letters.{is_name_letter, is_digit}
-use Rattle.do_sig.specs.Types.{goes_in_name, is_structure_name}
-use Rattle.do_sig.specs.reading.Types.{goes_on_name}
+use Rattle.do_sig.specs.{Types.{goes_in_name, is_structure_name}, reading.Types.goes_on_name}
 use Rattle.do_sig.proofs.TestsPass.{both, both_pass, not_true, second_side, less_test}
 
 -- nothing yet, or a name

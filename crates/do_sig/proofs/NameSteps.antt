@@ -1,7 +1,6 @@
 -- What the next byte of a structure's name gives.
 use Rattle.std.proofs.Common.{◌≡◌, ℕ, ◌<◌, true, false, List, [], ◌∷◌, ◌++◌, length, Ok, refl}
-use Rattle.std.proofs.Common.{arith}
-use Rattle.std.proofs.lemmas.Bool.{eq-eqb}
+use Rattle.std.proofs.{Common.arith, lemmas.Bool.eq-eqb}
 use Rattle.do_grammar.specs.Reader.{scan_to}
 use Rattle.do_sig.specs.reading.Types.{name_step, goes_on_name}
 

@@ -1,9 +1,7 @@
 -- A size or offset, and what may stand behind it, are read exactly.
 use Rattle.std.proofs.Common.{◌≡◌, ℕ, suc, List, [], ◌∷◌, length, Ok, Err, refl, arith}
 use Rattle.do_grammar.specs.Reader.{bad, Step, goes, leaves, fails, by_step, by_result, automaton}
-use Rattle.do_grammar.specs.Reader.{◌>>=◌}
-use Rattle.do_grammar.specs.Grammar.{Begins}
-use Rattle.do_grammar.specs.Forms.{Accepts}
+use Rattle.do_grammar.specs.{Reader.◌>>=◌, Grammar.Begins, Forms.Accepts}
 use Rattle.do_grammar.proofs.reads.WholeExact.{ReadsWhole, Whole-as, Reads-automaton}
 use Rattle.do_sig.specs.declared.fault.Kind.{Kind}
 use Rattle.do_sig.specs.Offsets.{Offset, fresh, signed, digits, offset_step, offset_ends, last_step}

@@ -2,8 +2,7 @@
 use Rattle.std.proofs.Common.{◌≡◌, ◌≢◌, ℕ, suc, ◌<◌, ◌≤◌, List, [], ◌∷◌, length, Ok, Err, refl}
 use Rattle.std.proofs.lemmas.Bool.{ne_eqb}
 use Rattle.do_grammar.specs.Reader.{short, bad}
-use Rattle.do_sig.specs.declared.fault.Kind.TheVariants.{BadChar}
-use Rattle.do_sig.specs.Offsets.{fresh, digits}
+use Rattle.do_sig.specs.{declared.fault.Kind.TheVariants.BadChar, Offsets.{fresh, digits}}
 use Rattle.do_sig.specs.reading.Offsets.{skip}
 use Rattle.do_sig.proofs.DigitTests.{no_digit_below, no_digit_above, is_one_digit}
 

@@ -1,7 +1,6 @@
 -- Outermost types are read exactly.
 use Rattle.std.proofs.Common.{◌≡◌, ℕ, ◌<◌, Bool, true, false, cond, eqb, List, [], ◌∷◌, ◌++◌, refl}
-use Rattle.std.proofs.Common.{sym, ap, subst, ◌∙◌, arith}
-use Rattle.std.specs.Prelude.{◌==◌, ◌||◌, ◌&&◌, not}
+use Rattle.std.{proofs.Common.{sym, ap, subst, ◌∙◌, arith}, specs.Prelude.{◌==◌, ◌||◌, ◌&&◌, not}}
 use Rattle.std.proofs.lemmas.Bool.{eqb-true, false≢true}
 use Rattle.do_grammar.specs.Reader.{done, mapped, byte_of}
 use Rattle.do_grammar.specs.Forms.{Then, Done, Byte, Passes, Mapped, Either}
@@ -10,18 +9,13 @@ use Rattle.do_grammar.proofs.reads.FormsExact.{Reads-mapped, Reads-either}
 use Rattle.do_sig.specs.declared.outermost.place.Place.{Place}
 use Rattle.do_sig.specs.declared.value_type.OutermostType.{OutermostType}
 use Rattle.do_sig.specs.declared.value_type.OutermostType.TheVariants.{Void, Pointer, Plain}
-use Rattle.do_sig.specs.Letters.{is_letter}
-use Rattle.do_sig.specs.Places.{may_return, may_point, MayStand}
-use Rattle.do_sig.specs.Blame.{begins_type, why_no_type}
-use Rattle.do_sig.specs.Spelling.{outermost_spelling}
+use Rattle.do_sig.specs.{Letters.is_letter, Places.{may_return, may_point, MayStand}}
+use Rattle.do_sig.specs.{Blame.{begins_type, why_no_type}, Spelling.outermost_spelling}
 use Rattle.do_sig.specs.reading.Types.{body_at, type_at}
 use Rattle.do_sig.specs.reading.Outermost.{begins_outermost, outermost_body_at, outermost_at}
-use Rattle.do_sig.proofs.TypeBySteps.{Body, ByStep}
-use Rattle.do_sig.proofs.TypeExact.{Reads-type, Reads-body, type_some, type_solid, type_apart}
-use Rattle.do_sig.proofs.TypeExact.{is_some_letter}
-use Rattle.do_sig.proofs.TypeIsSpelled.{type_is, body_is}
-use Rattle.do_sig.proofs.TypeIsRead.{is_read}
-use Rattle.do_sig.proofs.TestsPass.{not_true}
+use Rattle.do_sig.proofs.{TypeBySteps.{Body, ByStep}, TypeExact.{Reads-type, Reads-body, type_some}}
+use Rattle.do_sig.proofs.TypeExact.{type_solid, type_apart, is_some_letter}
+use Rattle.do_sig.proofs.{TypeIsSpelled.{type_is, body_is}, TypeIsRead.is_read, TestsPass.not_true}
 use Rattle.do_sig.proofs.ByteAmong.{types_all}
 
 -- what stands behind the first byte of an outermost type

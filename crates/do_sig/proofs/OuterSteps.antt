@@ -1,17 +1,12 @@
 -- What the first byte of an outermost type gives.
 use Rattle.std.proofs.Common.{◌≡◌, ◌≢◌, ℕ, suc, Bool, true, false, List, [], ◌∷◌, length, Ok, Err}
-use Rattle.std.proofs.Common.{refl, ◌∙◌}
-use Rattle.std.specs.Prelude.{◌||◌, ◌&&◌}
-use Rattle.std.proofs.lemmas.Bool.{ne_eqb}
+use Rattle.std.{proofs.Common.{refl, ◌∙◌}, specs.Prelude.{◌||◌, ◌&&◌}, proofs.lemmas.Bool.ne_eqb}
 use Rattle.do_grammar.specs.Reader.{short, bad, ◌>>=◌}
-use Rattle.do_sig.specs.declared.fault.Kind.TheVariants.{Unsupported}
-use Rattle.do_sig.specs.declared.outermost.place.Place.{Place}
+use Rattle.do_sig.specs.declared.{fault.Kind.TheVariants.Unsupported, outermost.place.Place.Place}
 use Rattle.do_sig.specs.declared.outermost.place.Place.TheVariants.{Alone, Returned, Argument}
 use Rattle.do_sig.specs.declared.value_type.OutermostType.TheVariants.{Void, Pointer, Plain}
-use Rattle.do_sig.specs.Blame.{begins_type, why_no_type}
-use Rattle.do_sig.specs.Places.{may_return, may_point}
-use Rattle.do_sig.specs.reading.Types.{type_at}
-use Rattle.do_sig.specs.reading.Outermost.{begins_outermost, outermost_at}
+use Rattle.do_sig.specs.{Blame.{begins_type, why_no_type}, Places.{may_return, may_point}}
+use Rattle.do_sig.specs.reading.{Types.type_at, Outermost.{begins_outermost, outermost_at}}
 
 -- nothing is no outermost type
 pub outer_end : (place : Place) (oneway : Bool) (bytes : List ℕ) → bytes ≡ []

@@ -1,8 +1,6 @@
 -- The letters of types: each is its type's.
-use Rattle.std.proofs.Common.{◌≡◌, ℕ, Bool, true, false, List, [], ◌∷◌, map}
-use Rattle.std.proofs.Common.{Some, refl, sym}
-use Rattle.std.specs.Prelude.{◌||◌, ◌==◌}
-use Rattle.std.proofs.lemmas.Bool.{eqb-true}
+use Rattle.std.proofs.Common.{◌≡◌, ℕ, Bool, true, false, List, [], ◌∷◌, map, Some, refl, sym}
+use Rattle.std.{specs.Prelude.{◌||◌, ◌==◌}, proofs.lemmas.Bool.eqb-true}
 use Rattle.do_sig.specs.declared.value_type.Scalar.{Scalar}
 use Rattle.do_sig.specs.Letters.{letter_of, scalars, with_letter, is_one_of, is_letter}
 

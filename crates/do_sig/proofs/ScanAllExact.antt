@@ -2,8 +2,7 @@
 use Rattle.std.proofs.Common.{◌≡◌, ℕ, suc, ◌<◌, List, [], ◌∷◌, ◌++◌, length, Option, Some, None, Ok}
 use Rattle.std.proofs.Common.{Err, refl, ap}
 use Rattle.do_grammar.specs.Reader.{short, bad, Whole, accepted, Step, goes, leaves, fails, by_step}
-use Rattle.do_grammar.specs.Grammar.{IsBytes, Begins}
-use Rattle.do_grammar.specs.Forms.{OnStep}
+use Rattle.do_grammar.specs.{Grammar.{IsBytes, Begins}, Forms.OnStep}
 use Rattle.do_grammar.proofs.reads.WholeExact.{StopsWhole, ReadsWhole}
 use Rattle.do_sig.specs.reading.Ending.{scan_all, ScansAll}
 

@@ -1,29 +1,21 @@
 -- Signatures are read exactly.
 use Rattle.std.proofs.Common.{◌≡◌, ℕ, zero, suc, ◌<◌, true, List, [], ◌∷◌, ◌++◌, length, Ok, Err}
-use Rattle.std.proofs.Common.{refl, arith}
-use Rattle.std.specs.Prelude.{◌==◌}
+use Rattle.std.{proofs.Common.{refl, arith}, specs.Prelude.◌==◌}
 use Rattle.std.proofs.lemmas.Bool.Decides.{nat_tests}
 use Rattle.do_grammar.specs.Reader.{bad, Reader, Whole, byte_of, scan, Step, goes, leaves, fails}
-use Rattle.do_grammar.specs.Reader.{by_step, then_whole, ◌>>=◌}
-use Rattle.do_grammar.specs.Grammar.{Begins}
+use Rattle.do_grammar.specs.{Reader.{by_step, then_whole, ◌>>=◌}, Grammar.Begins}
 use Rattle.do_grammar.specs.Forms.{Then, Byte, Scans}
-use Rattle.do_grammar.proofs.reads.ExactReader.{Reads, Reads-as, Reads-byte}
-use Rattle.do_grammar.proofs.reads.ScanExact.{Reads-scan}
+use Rattle.do_grammar.proofs.reads.{ExactReader.{Reads, Reads-as, Reads-byte}, ScanExact.Reads-scan}
 use Rattle.do_grammar.proofs.reads.WholeExact.{ReadsWhole, Whole-as, Reads-then_whole}
 use Rattle.do_sig.specs.declared.fault.Kind.{Kind}
 use Rattle.do_sig.specs.declared.outermost.place.Place.TheVariants.{Returned, Argument}
-use Rattle.do_sig.specs.MethodTypes.{QualifiedType, MethodType}
-use Rattle.do_sig.specs.Blame.{why_no_self, why_no_more}
+use Rattle.do_sig.specs.{MethodTypes.{QualifiedType, MethodType}, Blame.{why_no_self, why_no_more}}
 use Rattle.do_sig.specs.Offsets.{Offset, fresh, signed, digits, offset_step, offset_ends}
-use Rattle.do_sig.specs.Encodings.{IsEncodingAt}
-use Rattle.do_sig.specs.Signatures.{IsBare, IsArgs, IsSignature}
-use Rattle.do_sig.specs.reading.Ending.{scan_all, ScansAll}
-use Rattle.do_sig.specs.reading.Offsets.{skip, after_offset}
-use Rattle.do_sig.specs.reading.Outermost.{encoding_at}
-use Rattle.do_sig.specs.reading.Signatures.{bare_at, signature_of, or_more, args_at, signature_at}
-use Rattle.do_sig.proofs.OffsetExact.{Reads-last}
-use Rattle.do_sig.proofs.EncodingExact.{Reads-encoding_at}
-use Rattle.do_sig.proofs.ScanAllExact.{Reads-scan_all}
+use Rattle.do_sig.specs.{Encodings.IsEncodingAt, Signatures.{IsBare, IsArgs, IsSignature}}
+use Rattle.do_sig.specs.reading.{Ending.{scan_all, ScansAll}, Offsets.{skip, after_offset}}
+use Rattle.do_sig.specs.reading.{Outermost.encoding_at, Signatures.{bare_at, signature_of, or_more}}
+use Rattle.do_sig.{specs.reading.Signatures.{args_at, signature_at}, proofs.OffsetExact.Reads-last}
+use Rattle.do_sig.proofs.{EncodingExact.Reads-encoding_at, ScanAllExact.Reads-scan_all}
 
 -- ---- the receiver and the selector
 

@@ -2,33 +2,24 @@
 use Rattle.std.proofs.Common.{◌≡◌, ℕ, zero, suc, ◌≤◌, Bool, true, false, cond, eqb, leb, List, []}
 use Rattle.std.proofs.Common.{◌∷◌, ◌++◌, length, Option, Some, None, Result, Ok, Err, map, refl}
 use Rattle.std.proofs.Common.{sym, ap, subst, ◌∙◌, append_assoc, arith}
-use Rattle.std.specs.Prelude.{◌||◌, ◌&&◌, not}
-use Rattle.std.specs.List.{flat_map, AllByRecursion}
+use Rattle.std.specs.{Prelude.{◌||◌, ◌&&◌, not}, List.{flat_map, AllByRecursion}}
 use Rattle.std.proofs.lemmas.List.{append-nil, length-map}
-use Rattle.do_grammar.specs.Reader.{Step, goes, leaves, fails}
-use Rattle.do_grammar.specs.Grammar.{IsBytes}
+use Rattle.do_grammar.specs.{Reader.{Step, goes, leaves, fails}, Grammar.IsBytes}
 use Rattle.do_grammar.specs.Forms.{Then, OnStep, Scans, OnGo, Accepts}
-use Rattle.do_sig.specs.declared.fault.Kind.{Kind}
-use Rattle.do_sig.specs.declared.outermost.place.Place.{Place}
+use Rattle.do_sig.specs.declared.{fault.Kind.Kind, outermost.place.Place.Place}
 use Rattle.do_sig.specs.declared.outermost.place.Place.TheVariants.{Returned, Argument}
-use Rattle.do_sig.specs.declared.qualifiers.Qualifiers.{Qualifiers}
-use Rattle.do_sig.specs.Letters.{is_qualifier}
+use Rattle.do_sig.specs.{declared.qualifiers.Qualifiers.Qualifiers, Letters.is_qualifier}
 use Rattle.do_sig.specs.MethodTypes.{QualifiedType, MethodType, IsEncodingOf, IsMethodType}
-use Rattle.do_sig.specs.declared.value_type.Scalar.{Scalar}
-use Rattle.do_sig.specs.Bare.{bare, simple_encoding, simple_result, simple_method}
-use Rattle.do_sig.specs.Blame.{why_no_more}
+use Rattle.do_sig.specs.{declared.value_type.Scalar.Scalar, Bare.{bare, simple_encoding}}
+use Rattle.do_sig.specs.{Bare.{simple_result, simple_method}, Blame.why_no_more}
 use Rattle.do_sig.specs.Offsets.{Offset, fresh, signed, digits, offset_step, offset_ends, last_step}
-use Rattle.do_sig.specs.Marks.{marked, goes_or_fails, qualifier_step}
-use Rattle.do_sig.specs.Spelling.{encoding_spelling, signature_spelling}
-use Rattle.do_sig.specs.Encodings.{IsQualified, IsEncodingAt}
-use Rattle.do_sig.specs.Signatures.{IsBare, IsArgs, IsSignature}
-use Rattle.do_sig.specs.reading.Ending.{ScansAll}
+use Rattle.do_sig.specs.{Marks.{marked, goes_or_fails, qualifier_step}, Spelling.encoding_spelling}
+use Rattle.do_sig.specs.{Spelling.signature_spelling, Encodings.{IsQualified, IsEncodingAt}}
+use Rattle.do_sig.specs.{Signatures.{IsBare, IsArgs, IsSignature}, reading.Ending.ScansAll}
 use Rattle.do_sig.specs.reading.Signatures.{signature_of}
-use Rattle.do_sig.proofs.VariantSpelled.{within-Simple}
-use Rattle.do_sig.proofs.OuterExact.{outer_begins}
+use Rattle.do_sig.proofs.{VariantSpelled.within-Simple, OuterExact.outer_begins}
 use Rattle.do_sig.proofs.EncodingExact.{Reads-encoding_at, encoding_stands}
-use Rattle.do_sig.proofs.EncodingPrinted.{outer_free, encoding_printed}
-use Rattle.do_sig.proofs.TestsPass.{not_true}
+use Rattle.do_sig.proofs.{EncodingPrinted.{outer_free, encoding_printed}, TestsPass.not_true}
 use Rattle.do_sig.proofs.ByteAmong.{one_of_all}
 
 -- ---- an encoding does not begin as an offset does

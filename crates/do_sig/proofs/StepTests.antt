@@ -1,13 +1,9 @@
 -- The tests of a step that reads a count or a name, and the digits of a count.
 use Rattle.std.proofs.Common.{◌≡◌, ℕ, ◌+◌, ◌-◌, ◌≤◌, Bool, true, false, cond, eqb, leb, List, []}
-use Rattle.std.proofs.Common.{◌∷◌, refl, ap, ◌∙◌, arith}
-use Rattle.std.specs.Prelude.{◌&&◌}
-use Rattle.std.specs.Fmt.{decimal}
-use Rattle.std.proofs.lemmas.Bool.Decides.{nat_tests}
-use Rattle.std.proofs.lemmas.Fmt.{decimal_digit}
+use Rattle.std.{proofs.Common.{◌∷◌, refl, ap, ◌∙◌, arith}, specs.{Prelude.◌&&◌, Fmt.decimal}}
+use Rattle.std.proofs.lemmas.{Bool.Decides.nat_tests, Fmt.decimal_digit}
 use Rattle.do_grammar.specs.Reader.{Step, goes, leaves, fails}
-use Rattle.do_sig.specs.declared.value_type.ValueType.{ValueType}
-use Rattle.do_sig.specs.Types.{IsType}
+use Rattle.do_sig.specs.{declared.value_type.ValueType.ValueType, Types.IsType}
 use Rattle.do_sig.specs.reading.Types.{count_step}
 
 -- the same text, written otherwise

@@ -1,7 +1,6 @@
 -- What tests that pass say.
 use Rattle.std.proofs.Common.{◌≡◌, ℕ, ◌<◌, Bool, true, false, ltb, refl, arith}
-use Rattle.std.specs.Prelude.{◌||◌, ◌&&◌, not}
-use Rattle.std.proofs.lemmas.Bool.Decides.{nat_tests}
+use Rattle.std.{specs.Prelude.{◌||◌, ◌&&◌, not}, proofs.lemmas.Bool.Decides.nat_tests}
 
 -- two that hold
 pub both : (a b : Bool) → a ≡ true → b ≡ true → (a && b) ≡ true

@@ -1,11 +1,9 @@
 -- The grammar of a type as it is read: the steps of reading lead from its first byte to its end.
 use Rattle.std.specs.Prelude.{ℕ, zero, suc, ◌-◌, ◌==◌, List, [], Option, Some, None}
 use Rattle.do_grammar.specs.Forms.{Then, Done, Byte, Mapped, Either, Scans, Untils}
-use Rattle.do_sig.specs.declared.value_type.Scalar.{Scalar}
-use Rattle.do_sig.specs.declared.value_type.ValueType.{ValueType, Array, Structure}
+use Rattle.do_sig.specs.declared.value_type.{Scalar.Scalar, ValueType.{ValueType, Array, Structure}}
 use Rattle.do_sig.specs.declared.value_type.ValueType.TheVariants.{Simple}
-use Rattle.do_sig.specs.Letters.{is_digit, scalar_of}
-use Rattle.do_sig.specs.Blame.{begins_type}
+use Rattle.do_sig.specs.{Letters.{is_digit, scalar_of}, Blame.begins_type}
 use Rattle.do_sig.specs.reading.Types.{count_step, name_step}
 
 -- one byte

@@ -1,32 +1,22 @@
 -- Types are read exactly, by their grammar of steps.
-use Rattle.std.proofs.Common.{◌≡◌, ℕ, zero, suc, ◌-◌, ◌<◌, Bool, true, false, cond}
-use Rattle.std.proofs.Common.{eqb, List, [], ◌∷◌, ◌++◌, Option, Result, Ok, Err}
-use Rattle.std.proofs.Common.{refl, sym, ap, subst, ◌∙◌, arith}
+use Rattle.std.proofs.Common.{◌≡◌, ℕ, zero, suc, ◌-◌, ◌<◌, Bool, true, false, cond, eqb, List, []}
+use Rattle.std.proofs.Common.{◌∷◌, ◌++◌, Option, Result, Ok, Err, refl, sym, ap, subst, ◌∙◌, arith}
 use Rattle.std.specs.Prelude.{◌&&◌, ◌||◌, ◌==◌}
-use Rattle.std.proofs.lemmas.Bool.{false≢true}
-use Rattle.std.proofs.lemmas.Bool.Decides.{nat_tests}
-use Rattle.do_grammar.specs.Reader.{Reader, Stop, and_then, mapped, byte_of, until}
-use Rattle.do_grammar.specs.Reader.{scan_to, ◌>>=◌}
+use Rattle.std.proofs.lemmas.Bool.{false≢true, Decides.nat_tests}
+use Rattle.do_grammar.specs.Reader.{Reader, Stop, and_then, mapped, byte_of, until, scan_to, ◌>>=◌}
 use Rattle.do_grammar.specs.Grammar.{Begins}
 use Rattle.do_grammar.specs.Forms.{Byte, Passes, Mapped, Either, Scans, Untils, Apart}
 use Rattle.do_grammar.proofs.reads.ExactReader.{Reads, Reads-as, Reads-done, Reads-then, Reads-byte}
 use Rattle.do_grammar.proofs.reads.FormsExact.{Reads-mapped, Reads-either}
-use Rattle.do_grammar.proofs.reads.ScanExact.{Reads-scan, Reads-scanned}
-use Rattle.do_grammar.proofs.reads.UntilExact.{Reads-until}
-use Rattle.do_sig.specs.declared.fault.Kind.{Kind}
-use Rattle.do_sig.specs.declared.fault.Kind.TheVariants.{BadChar}
-use Rattle.do_sig.specs.declared.value_type.Scalar.{Scalar}
-use Rattle.do_sig.specs.declared.value_type.Scalar.TheVariants.{SignedChar}
-use Rattle.do_sig.specs.declared.value_type.ValueType.{ValueType, Array, Structure}
-use Rattle.do_sig.specs.declared.value_type.ValueType.TheVariants.{Simple}
-use Rattle.do_sig.specs.Letters.{is_digit, is_letter, scalar_of}
-use Rattle.do_sig.specs.Blame.{begins_type, why_no_type}
-use Rattle.do_sig.specs.reading.Types.{count_step, name_step, exactly, array_at}
-use Rattle.do_sig.specs.reading.Types.{counted_at, structure_at, named_at, letter_at, body_at}
-use Rattle.do_sig.specs.reading.Types.{type_at}
-use Rattle.do_sig.proofs.ScalarLetters.{letter_named}
-use Rattle.do_sig.proofs.TypeBySteps.{Exactly, ArrayRest, Counted, StructureRest, Named, LetterRest}
-use Rattle.do_sig.proofs.TypeBySteps.{Body, ByStep}
+use Rattle.do_grammar.proofs.reads.{ScanExact.{Reads-scan, Reads-scanned}, UntilExact.Reads-until}
+use Rattle.do_sig.specs.declared.{fault.Kind.{Kind, TheVariants.BadChar}, value_type.Scalar.Scalar}
+use Rattle.do_sig.specs.declared.value_type.{Scalar.TheVariants.SignedChar, ValueType.ValueType}
+use Rattle.do_sig.specs.declared.value_type.ValueType.{Array, Structure, TheVariants.Simple}
+use Rattle.do_sig.specs.{Letters.{is_digit, is_letter, scalar_of}, Blame.{begins_type, why_no_type}}
+use Rattle.do_sig.specs.reading.Types.{count_step, name_step, exactly, array_at, counted_at}
+use Rattle.do_sig.specs.reading.Types.{structure_at, named_at, letter_at, body_at, type_at}
+use Rattle.do_sig.proofs.{ScalarLetters.letter_named, TypeBySteps.{Exactly, ArrayRest, Counted}}
+use Rattle.do_sig.proofs.TypeBySteps.{StructureRest, Named, LetterRest, Body, ByStep}
 
 -- ---- what it needs
 

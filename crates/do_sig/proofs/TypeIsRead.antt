@@ -2,38 +2,27 @@
 use Rattle.std.proofs.Common.{◌≡◌, ℕ, zero, suc, ◌+◌, ◌-◌, ◌*◌, ◌/◌, ◌%◌, ◌<◌, ◌≤◌, Bool, true}
 use Rattle.std.proofs.Common.{false, leb, ltb, List, [], ◌∷◌, ◌++◌, map, Some, refl, sym, ap, subst}
 use Rattle.std.proofs.Common.{◌∙◌, append_assoc, arith}
-use Rattle.std.specs.Prelude.{◌&&◌, not}
-use Rattle.std.specs.List.{flat_map, list_all, AllByRecursion}
-use Rattle.std.specs.Fmt.{decimal}
-use Rattle.std.proofs.lemmas.Bool.{lt-ltb}
-use Rattle.std.proofs.lemmas.Fmt.{decimal_by_steps}
-use Rattle.do_grammar.specs.Reader.{goes}
-use Rattle.do_grammar.specs.Forms.{Scans, Untils}
-use Rattle.do_sig.specs.declared.value_type.Scalar.{Scalar}
-use Rattle.do_sig.specs.declared.value_type.Scalar.TheVariants.{SignedChar, Short, Int, Long}
-use Rattle.do_sig.specs.declared.value_type.Scalar.TheVariants.{LongLong, UnsignedChar}
+use Rattle.std.specs.{Prelude.{◌&&◌, not}, List.{flat_map, list_all, AllByRecursion}, Fmt.decimal}
+use Rattle.std.proofs.lemmas.{Bool.lt-ltb, Fmt.decimal_by_steps}
+use Rattle.do_grammar.specs.{Reader.goes, Forms.{Scans, Untils}}
+use Rattle.do_sig.specs.declared.value_type.Scalar.{Scalar, TheVariants.{SignedChar, Short, Int}}
+use Rattle.do_sig.specs.declared.value_type.Scalar.TheVariants.{Long, LongLong, UnsignedChar}
 use Rattle.do_sig.specs.declared.value_type.Scalar.TheVariants.{UnsignedShort, UnsignedInt}
 use Rattle.do_sig.specs.declared.value_type.Scalar.TheVariants.{UnsignedLong, UnsignedLongLong}
 use Rattle.do_sig.specs.declared.value_type.Scalar.TheVariants.{Boolean, CString, Object, Class}
 use Rattle.do_sig.specs.declared.value_type.Scalar.TheVariants.{Selector}
 use Rattle.do_sig.specs.declared.value_type.ValueType.{ValueType, Array, Structure, ind-ValueType}
 use Rattle.do_sig.specs.declared.value_type.ValueType.{map-ValueType, roll-ValueType}
-use Rattle.do_sig.specs.declared.value_type.ValueType.TheVariants.{Simple}
-use Rattle.do_sig.specs.declared.value_type.ValueType.TheOpen.{ValueType-F}
-use Rattle.do_sig.specs.Letters.{letter_of, is_letter, scalar_of}
-use Rattle.do_sig.specs.Types.{type_spelling, is_structure_name, within_step, is_within}
-use Rattle.do_sig.specs.Blame.{begins_type}
-use Rattle.do_sig.specs.reading.Types.{count_step, name_step}
-use Rattle.do_sig.proofs.CountSteps.{digit_goes}
-use Rattle.do_sig.proofs.TypeSteps.{letter_apart}
-use Rattle.do_sig.proofs.TypeBySteps.{ArrayRest, Counted, StructureRest, ByStep}
-use Rattle.do_sig.proofs.VariantSpelled.{spelling-Simple, spelling-Array, spelling-Structure}
-use Rattle.do_sig.proofs.VariantSpelled.{within-Array, within-Structure}
-use Rattle.do_sig.proofs.StepTests.{within_count, no_digit_leaves}
-use Rattle.do_sig.proofs.NameGrows.{name_goes_on, name_small}
-use Rattle.do_sig.proofs.TestsPass.{both_pass, not_true, less_test}
-use Rattle.do_sig.proofs.DigitTests.{is_one_digit}
-use Rattle.do_sig.proofs.ByteAmong.{letters_all, types_all}
+use Rattle.do_sig.specs.declared.value_type.ValueType.{TheVariants.Simple, TheOpen.ValueType-F}
+use Rattle.do_sig.specs.{Letters.{letter_of, is_letter, scalar_of}, Types.type_spelling}
+use Rattle.do_sig.specs.{Types.{is_structure_name, within_step, is_within}, Blame.begins_type}
+use Rattle.do_sig.{specs.reading.Types.{count_step, name_step}, proofs.CountSteps.digit_goes}
+use Rattle.do_sig.proofs.{TypeSteps.letter_apart, TypeBySteps.{ArrayRest, Counted, StructureRest}}
+use Rattle.do_sig.proofs.{TypeBySteps.ByStep, VariantSpelled.{spelling-Simple, spelling-Array}}
+use Rattle.do_sig.proofs.VariantSpelled.{spelling-Structure, within-Array, within-Structure}
+use Rattle.do_sig.proofs.{StepTests.{within_count, no_digit_leaves}, NameGrows.name_goes_on}
+use Rattle.do_sig.proofs.{NameGrows.name_small, TestsPass.{both_pass, not_true, less_test}}
+use Rattle.do_sig.proofs.{DigitTests.is_one_digit, ByteAmong.{letters_all, types_all}}
 
 module _ (P : ValueType → Type 0) (simple : (s : Scalar) → P (Simple s))
     (array : (n : ℕ) (t : ValueType) → P t → P (Array n t))

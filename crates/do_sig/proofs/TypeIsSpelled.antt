@@ -1,33 +1,23 @@
 -- The steps of reading a type lead over its spelling, and over no other text.
 use Rattle.std.proofs.Common.{◌≡◌, ℕ, zero, suc, ◌+◌, ◌-◌, ◌*◌, ◌≤◌, Bool, true, false, eqb, leb}
 use Rattle.std.proofs.Common.{List, [], ◌∷◌, ◌++◌, map, Option, refl, sym, ap, subst, ◌∙◌}
-use Rattle.std.proofs.Common.{append_assoc, arith}
-use Rattle.std.specs.Prelude.{◌&&◌, ◌==◌}
-use Rattle.std.specs.List.{flat_map, list_all}
-use Rattle.std.specs.Fmt.{decimal}
-use Rattle.std.proofs.lemmas.Bool.{eqb-true, le-leb}
-use Rattle.do_grammar.specs.Reader.{Step, goes, leaves, fails}
-use Rattle.do_grammar.specs.Forms.{Done, Either, OnStep, Scans, Untils}
-use Rattle.do_grammar.proofs.texts.DecExact.{decimal_more}
-use Rattle.do_sig.specs.declared.fault.Kind.{Kind}
-use Rattle.do_sig.specs.declared.fault.Kind.TheVariants.{Unsupported, BadChar}
-use Rattle.do_sig.specs.declared.value_type.Scalar.{Scalar}
-use Rattle.do_sig.specs.declared.value_type.ValueType.{ValueType, Array, Structure}
-use Rattle.do_sig.specs.declared.value_type.ValueType.TheVariants.{Simple}
-use Rattle.do_sig.specs.Letters.{is_letter, scalar_of}
-use Rattle.do_sig.specs.Types.{type_spelling, is_structure_name, is_within, IsType}
-use Rattle.do_sig.specs.reading.Types.{count_step, name_step, goes_on_name, is_some_name}
-use Rattle.do_sig.proofs.ScalarLetters.{letter_named}
-use Rattle.do_sig.proofs.TypeExact.{is_some_letter, is_only_letter}
-use Rattle.do_sig.proofs.TypeBySteps.{ArrayRest, Counted, StructureRest, Named, LetterRest, Body}
-use Rattle.do_sig.proofs.TypeBySteps.{ByStep}
+use Rattle.std.{proofs.Common.{append_assoc, arith}, specs.{Prelude.{◌&&◌, ◌==◌}, List.flat_map}}
+use Rattle.std.{specs.{List.list_all, Fmt.decimal}, proofs.lemmas.Bool.{eqb-true, le-leb}}
+use Rattle.do_grammar.specs.{Reader.{Step, goes, leaves, fails}, Forms.{Done, Either, OnStep}}
+use Rattle.do_grammar.{specs.Forms.{Scans, Untils}, proofs.texts.DecExact.decimal_more}
+use Rattle.do_sig.specs.declared.fault.Kind.{Kind, TheVariants.{Unsupported, BadChar}}
+use Rattle.do_sig.specs.declared.value_type.{Scalar.Scalar, ValueType.{ValueType, Array, Structure}}
+use Rattle.do_sig.specs.{declared.value_type.ValueType.TheVariants.Simple, Letters.is_letter}
+use Rattle.do_sig.specs.{Letters.scalar_of, Types.{type_spelling, is_structure_name, is_within}}
+use Rattle.do_sig.specs.{Types.IsType, reading.Types.{count_step, name_step, goes_on_name}}
+use Rattle.do_sig.{specs.reading.Types.is_some_name, proofs.ScalarLetters.letter_named}
+use Rattle.do_sig.proofs.{TypeExact.{is_some_letter, is_only_letter}, TypeBySteps.ArrayRest}
+use Rattle.do_sig.proofs.TypeBySteps.{Counted, StructureRest, Named, LetterRest, Body, ByStep}
 use Rattle.do_sig.proofs.VariantSpelled.{spelling-Simple, spelling-Array, spelling-Structure}
 use Rattle.do_sig.proofs.VariantSpelled.{within-Simple, within-Array, within-Structure}
 use Rattle.do_sig.proofs.StepTests.{retext, count_goes, name_goes, name_leaves, within_count}
-use Rattle.do_sig.proofs.StepTests.{above_zero, one_digit}
-use Rattle.do_sig.proofs.NameGrows.{IsNameSoFar, name_grows}
-use Rattle.do_sig.proofs.TestsPass.{both}
-use Rattle.do_sig.proofs.DigitTests.{digit_low, digit_high}
+use Rattle.do_sig.proofs.{StepTests.{above_zero, one_digit}, NameGrows.{IsNameSoFar, name_grows}}
+use Rattle.do_sig.proofs.{TestsPass.both, DigitTests.{digit_low, digit_high}}
 
 module _ (T : List ℕ → ValueType → Type 0) (d : ℕ)
     (one : (text : List ℕ) (x : ValueType) → T text x → IsType d text x) where

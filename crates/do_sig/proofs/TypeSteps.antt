@@ -1,16 +1,12 @@
 -- What the first byte of a type gives.
 use Rattle.std.proofs.Common.{◌≡◌, ℕ, zero, suc, ◌-◌, ◌<◌, true, false, eqb, List, [], ◌∷◌, length}
-use Rattle.std.proofs.Common.{Some, Ok, Err, refl, arith}
-use Rattle.std.proofs.lemmas.Bool.{lt-ltb}
+use Rattle.std.proofs.{Common.{Some, Ok, Err, refl, arith}, lemmas.Bool.lt-ltb}
 use Rattle.do_grammar.specs.Reader.{short, bad}
-use Rattle.do_sig.specs.declared.value_type.Scalar.{Scalar}
-use Rattle.do_sig.specs.declared.value_type.ValueType.TheVariants.{Simple}
-use Rattle.do_sig.specs.Letters.{is_letter, scalar_of}
-use Rattle.do_sig.specs.Blame.{begins_type, why_no_type}
+use Rattle.do_sig.specs.declared.value_type.{Scalar.Scalar, ValueType.TheVariants.Simple}
+use Rattle.do_sig.specs.{Letters.{is_letter, scalar_of}, Blame.{begins_type, why_no_type}}
 use Rattle.do_sig.specs.reading.Types.{counted_at, named_at, type_at}
 use Rattle.std.specs.Prelude.{not}
-use Rattle.do_sig.proofs.TestsPass.{not_true}
-use Rattle.do_sig.proofs.ByteAmong.{letters_all}
+use Rattle.do_sig.proofs.{TestsPass.not_true, ByteAmong.letters_all}
 
 -- no letter is a bracket
 pub letter_apart : (b : ℕ) → is_letter b ≡ true → (eqb b 91 ≡ false) × (eqb b 123 ≡ false)

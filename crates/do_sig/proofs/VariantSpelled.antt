@@ -1,13 +1,10 @@
 -- How each variant of a type is spelled, and where it may stand.
 use Rattle.std.proofs.Common.{◌≡◌, ℕ, List, [], ◌∷◌, ◌++◌, map, rules}
-use Rattle.std.specs.List.{flat_map}
-use Rattle.std.specs.Fmt.{decimal}
+use Rattle.std.specs.{List.flat_map, Fmt.decimal}
 use Rattle.do_sig.specs.declared.value_type.Scalar.{Scalar}
 use Rattle.do_sig.specs.declared.value_type.ValueType.{ValueType, Array, Structure, the_lemmas}
-use Rattle.do_sig.specs.declared.value_type.ValueType.TheVariants.{Simple}
-use Rattle.do_sig.specs.declared.value_type.ValueType.TheOpen.{ValueType-F}
-use Rattle.do_sig.specs.Letters.{letter_of}
-use Rattle.do_sig.specs.Types.{type_spelling, within_step, is_within}
+use Rattle.do_sig.specs.declared.value_type.ValueType.{TheVariants.Simple, TheOpen.ValueType-F}
+use Rattle.do_sig.specs.{Letters.letter_of, Types.{type_spelling, within_step, is_within}}
 
 -- a type of one letter is spelled by it
 pub spelling-Simple : (s : Scalar) → type_spelling (Simple s) ≡ letter_of s ∷ []

@@ -1,13 +1,10 @@
 -- What an answer of a reader means.
-use Rattle.std.specs.Prelude.{◌≡◌, ℕ, ◌-◌, ◌≤◌, List, length, Result, Ok, Err, IfSome, slice_get}
-use Rattle.do_grammar.specs.Reader.{Stop, short, bad}
-use Rattle.do_grammar.specs.Grammar.{IsProperFront, IsFirstBadWhole}
-use Rattle.do_sig.specs.declared.fault.Kind.{Kind}
 use Rattle.do_sig.specs.declared.fault.Kind.TheVariants as kinds
 use Rattle.do_sig.specs.declared.fault.Stop as code
 use Rattle.do_sig.specs.declared.fault.Stop.TheVariants as stops
-use Rattle.do_sig.specs.Blame.{IsBlamed}
-use Rattle.do_sig.specs.declared.fault.EncFault.{EncFault}
+use Rattle.std.specs.Prelude.{◌≡◌, ℕ, ◌-◌, ◌≤◌, List, length, Result, Ok, Err, IfSome, slice_get}
+use Rattle.do_grammar.specs.{Reader.{Stop, short, bad}, Grammar.{IsProperFront, IsFirstBadWhole}}
+use Rattle.do_sig.specs.{declared.fault.Kind.Kind, Blame.IsBlamed, declared.fault.EncFault.EncFault}
 use Rattle.do_sig.specs.declared.fault.EncFault.TheVariants.{BadChar, Ends, Unsupported, Deep}
 use Rattle.do_sig.specs.declared.fault.EncFault.TheVariants.{NoSelf, TooManyArgs, Memory}
 

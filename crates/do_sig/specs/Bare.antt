@@ -1,9 +1,8 @@
 -- Encodings without qualifiers.
-use Rattle.std.specs.Prelude.{false, Option, Some, None, List, map}
-use Rattle.do_sig.specs.declared.qualifiers.Qualifiers.{Qualifiers}
 use Rattle.do_sig.specs.declared.qualifiers.Direction.TheVariants as ways
 use Rattle.do_sig.specs.declared.qualifiers.Passing.TheVariants as passings
-use Rattle.do_sig.specs.declared.value_type.Scalar.{Scalar}
+use Rattle.std.specs.Prelude.{false, Option, Some, None, List, map}
+use Rattle.do_sig.specs.declared.{qualifiers.Qualifiers.Qualifiers, value_type.Scalar.Scalar}
 use Rattle.do_sig.specs.declared.value_type.ValueType.TheVariants.{Simple}
 use Rattle.do_sig.specs.declared.value_type.OutermostType.TheVariants.{Void, Plain}
 use Rattle.do_sig.specs.MethodTypes.{QualifiedType, MethodType}

@@ -1,9 +1,8 @@
 -- Which fault a byte is, where nothing goes on with it.
 use Rattle.std.specs.Prelude.{◌≡◌, ℕ, ◌==◌, ◌&&◌, ◌||◌, not, Bool, true, false, nat_lt}
 use Rattle.std.specs.Prelude.{if◌then◌else◌}
-use Rattle.do_sig.specs.declared.fault.Kind.{Kind}
-use Rattle.do_sig.specs.declared.fault.Kind.TheVariants.{Unsupported, Deep, NoSelf, TooManyArgs}
-use Rattle.do_sig.specs.declared.fault.Kind.TheVariants.{BadChar}
+use Rattle.do_sig.specs.declared.fault.Kind.{Kind, TheVariants.{Unsupported, Deep, NoSelf}}
+use Rattle.do_sig.specs.declared.fault.Kind.TheVariants.{TooManyArgs, BadChar}
 use Rattle.do_sig.specs.Letters.{is_letter, is_unsupported, is_qualifier, is_digit}
 
 -- [ or {

@@ -1,17 +1,14 @@
 -- What a signature says of the values of a call.
+use Rattle.do_sig.specs.declared.qualifiers.Direction.TheVariants as ways
+use Rattle.do_sig.specs.declared.qualifiers.Passing.TheVariants as passings
 use Rattle.std.specs.Prelude.{ℕ, Bool, true, false, not, ◌&&◌, ◌||◌, Option, Some, None, List}
 use Rattle.std.specs.Prelude.{length, map, slice_get}
 use Rattle.do_base.specs.declared.values.value.Value.{Value}
-use Rattle.do_sig.specs.declared.qualifiers.Qualifiers.{Qualifiers}
-use Rattle.do_sig.specs.declared.qualifiers.Qualifier.{Qualifier}
-use Rattle.do_sig.specs.declared.qualifiers.Direction.{Direction}
-use Rattle.do_sig.specs.declared.qualifiers.Direction.TheVariants as ways
-use Rattle.do_sig.specs.declared.qualifiers.Passing.{Passing}
-use Rattle.do_sig.specs.declared.qualifiers.Passing.TheVariants as passings
+use Rattle.do_sig.specs.declared.qualifiers.{Qualifiers.Qualifiers, Qualifier.Qualifier}
+use Rattle.do_sig.specs.declared.qualifiers.{Direction.Direction, Passing.Passing}
 use Rattle.do_sig.specs.declared.value_type.OutermostType.{OutermostType}
 use Rattle.do_sig.specs.declared.value_type.OutermostType.TheVariants.{Void, Pointer}
-use Rattle.do_sig.specs.MethodTypes.{QualifiedType, MethodType}
-use Rattle.do_sig.specs.Fits.{outermost_fits, each_takes}
+use Rattle.do_sig.specs.{MethodTypes.{QualifiedType, MethodType}, Fits.{outermost_fits, each_takes}}
 
 -- a pointer that is marked as out alone carries nothing to the receiver
 abbrev pub is_pointer_in : Direction → Bool

@@ -1,15 +1,11 @@
 -- Which text spells which encoding.
 use Rattle.std.specs.Prelude.{◌≡◌, ℕ, List}
 use Rattle.do_grammar.specs.Forms.{Then, Scans, Accepts}
-use Rattle.do_sig.specs.declared.fault.Kind.TheVariants.{BadChar}
-use Rattle.do_sig.specs.declared.outermost.place.Place.{Place}
+use Rattle.do_sig.specs.declared.{fault.Kind.TheVariants.BadChar, outermost.place.Place.Place}
 use Rattle.do_sig.specs.declared.outermost.place.Place.TheVariants.{Alone}
-use Rattle.do_sig.specs.declared.qualifiers.Qualifiers.{Qualifiers}
-use Rattle.do_sig.specs.Bare.{bare}
-use Rattle.do_sig.specs.Marks.{qualifier_step}
+use Rattle.do_sig.specs.{declared.qualifiers.Qualifiers.Qualifiers, Bare.bare, Marks.qualifier_step}
 use Rattle.do_sig.specs.MethodTypes.{QualifiedType, IsEncodingOf}
-use Rattle.do_sig.specs.Offsets.{fresh, offset_ends, last_step}
-use Rattle.do_sig.specs.Spelling.{outermost_spelling}
+use Rattle.do_sig.specs.{Offsets.{fresh, offset_ends, last_step}, Spelling.outermost_spelling}
 
 -- the text is a type that may stand at a place, behind these qualifiers
 pub record IsQualified (place : Place) (q : Qualifiers) (text : List ℕ) (e : QualifiedType) : Type 0

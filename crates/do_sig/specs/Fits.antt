@@ -1,19 +1,16 @@
 -- Which values fit which types.
 use Rattle.std.specs.Prelude.{ℕ, ◌==◌, ◌&&◌, ◌||◌, Bool, true, false, not, int_le, ℤ, pos, negsuc}
-use Rattle.std.specs.Prelude.{List as Listed, [], ◌∷◌, length}
-use Rattle.std.specs.List.{list_all}
+use Rattle.std.specs.{Prelude.{List as Listed, [], ◌∷◌, length}, List.list_all}
 use Rattle.do_base.specs.declared.values.value.Value.{Value, out-Value}
 use Rattle.do_base.specs.declared.values.value.Value.TheOpen.{Value-F, Nil, Num, Text, Obj, List}
-use Rattle.do_sig.specs.declared.value_type.Scalar.{Scalar}
-use Rattle.do_sig.specs.declared.value_type.Scalar.TheVariants.{SignedChar, Short, Int, Long}
-use Rattle.do_sig.specs.declared.value_type.Scalar.TheVariants.{LongLong, UnsignedChar}
+use Rattle.do_sig.specs.declared.value_type.Scalar.{Scalar, TheVariants.{SignedChar, Short, Int}}
+use Rattle.do_sig.specs.declared.value_type.Scalar.TheVariants.{Long, LongLong, UnsignedChar}
 use Rattle.do_sig.specs.declared.value_type.Scalar.TheVariants.{UnsignedShort, UnsignedInt}
 use Rattle.do_sig.specs.declared.value_type.Scalar.TheVariants.{UnsignedLong, UnsignedLongLong}
 use Rattle.do_sig.specs.declared.value_type.Scalar.TheVariants.{Boolean, CString, Object, Class}
-use Rattle.do_sig.specs.declared.value_type.Scalar.TheVariants.{Selector}
-use Rattle.do_sig.specs.declared.value_type.ValueType.{ValueType, fold-ValueType}
-use Rattle.do_sig.specs.declared.value_type.ValueType.TheOpen.{ValueType-F, Simple, Array}
-use Rattle.do_sig.specs.declared.value_type.ValueType.TheOpen.{Structure}
+use Rattle.do_sig.specs.declared.value_type.{Scalar.TheVariants.Selector, ValueType.ValueType}
+use Rattle.do_sig.specs.declared.value_type.ValueType.{fold-ValueType, TheOpen.ValueType-F}
+use Rattle.do_sig.specs.declared.value_type.ValueType.TheOpen.{Simple, Array, Structure}
 use Rattle.do_sig.specs.declared.value_type.OutermostType.{OutermostType}
 use Rattle.do_sig.specs.declared.value_type.OutermostType.TheVariants.{Void, Pointer, Plain}
 use Rattle.do_grammar.specs.Names.{is_name, is_selector}

@@ -1,16 +1,12 @@
 -- The qualifiers that stand before an outermost type, in any order.
+use Rattle.do_sig.specs.declared.qualifiers.Direction.TheVariants as ways
+use Rattle.do_sig.specs.declared.qualifiers.Passing.TheVariants as passings
 use Rattle.std.specs.Prelude.{ℕ, ◌==◌, ◌&&◌, not, true, Option, Some, None, if◌then◌else◌}
 use Rattle.do_grammar.specs.Reader.{Step, goes, leaves, fails}
-use Rattle.do_sig.specs.declared.fault.Kind.{Kind}
-use Rattle.do_sig.specs.declared.fault.Kind.TheVariants.{BadChar}
-use Rattle.do_sig.specs.declared.outermost.place.Place.{Place}
-use Rattle.do_sig.specs.declared.qualifiers.Qualifiers.{Qualifiers}
-use Rattle.do_sig.specs.declared.qualifiers.Direction.{Direction}
-use Rattle.do_sig.specs.declared.qualifiers.Direction.TheVariants as ways
-use Rattle.do_sig.specs.declared.qualifiers.Passing.{Passing}
-use Rattle.do_sig.specs.declared.qualifiers.Passing.TheVariants as passings
-use Rattle.do_sig.specs.Letters.{is_qualifier}
-use Rattle.do_sig.specs.Places.{may_return}
+use Rattle.do_sig.specs.declared.fault.Kind.{Kind, TheVariants.BadChar}
+use Rattle.do_sig.specs.declared.{outermost.place.Place.Place, qualifiers.Qualifiers.Qualifiers}
+use Rattle.do_sig.specs.declared.qualifiers.{Direction.Direction, Passing.Passing}
+use Rattle.do_sig.specs.{Letters.is_qualifier, Places.may_return}
 
 -- at most one of n, N and o
 abbrev pub free_way : Direction → Qualifiers → Option Qualifiers

@@ -1,11 +1,8 @@
 -- Encodings and signatures as what they are made of.
-use Rattle.std.specs.Prelude.{◌≤◌, List, length}
-use Rattle.std.specs.List.{AllByRecursion}
-use Rattle.do_sig.specs.declared.outermost.place.Place.{Place}
-use Rattle.do_sig.specs.declared.outermost.place.Place.TheVariants.{Returned, Argument}
+use Rattle.std.specs.{Prelude.{◌≤◌, List, length}, List.AllByRecursion}
+use Rattle.do_sig.specs.declared.outermost.place.Place.{Place, TheVariants.{Returned, Argument}}
 use Rattle.do_sig.specs.declared.qualifiers.Qualifiers.{Qualifiers}
-use Rattle.do_sig.specs.declared.value_type.OutermostType.{OutermostType}
-use Rattle.do_sig.specs.Places.{MayStand}
+use Rattle.do_sig.specs.{declared.value_type.OutermostType.OutermostType, Places.MayStand}
 
 -- a type with its qualifiers
 pub record QualifiedType : Type 0 where

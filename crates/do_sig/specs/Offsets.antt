@@ -2,9 +2,7 @@
 -- sign.
 use Rattle.std.specs.Prelude.{ℕ, ◌==◌, ◌||◌, Option, Some, None, Result, Ok, Err, if◌then◌else◌}
 use Rattle.do_grammar.specs.Reader.{by_step, Step, goes, leaves, fails}
-use Rattle.do_sig.specs.declared.fault.Kind.{Kind}
-use Rattle.do_sig.specs.declared.fault.Kind.TheVariants.{BadChar}
-use Rattle.do_sig.specs.Letters.{is_digit}
+use Rattle.do_sig.specs.{declared.fault.Kind.{Kind, TheVariants.BadChar}, Letters.is_digit}
 
 -- nothing yet, a sign, or digits
 pub data Offset : Type 0 where

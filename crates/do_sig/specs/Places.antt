@@ -1,7 +1,6 @@
 -- Where an encoding stands, and which types may stand there.
 use Rattle.std.specs.Prelude.{◌≡◌, Bool, true, false}
-use Rattle.do_sig.specs.declared.outermost.place.Place.{Place}
-use Rattle.do_sig.specs.declared.outermost.place.Place.TheVariants.{Returned, Argument}
+use Rattle.do_sig.specs.declared.outermost.place.Place.{Place, TheVariants.{Returned, Argument}}
 use Rattle.do_sig.specs.declared.value_type.OutermostType.{OutermostType}
 use Rattle.do_sig.specs.declared.value_type.OutermostType.TheVariants.{Void, Pointer, Plain}
 use Rattle.do_sig.specs.Types.{is_within}

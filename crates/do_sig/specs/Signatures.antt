@@ -2,12 +2,9 @@
 use Rattle.std.specs.Prelude.{ℕ, zero, suc, ◌==◌, List, [], ◌∷◌, ◌++◌}
 use Rattle.do_grammar.specs.Forms.{Then, Byte, Scans, Accepts}
 use Rattle.do_sig.specs.declared.outermost.place.Place.TheVariants.{Returned, Argument}
-use Rattle.do_sig.specs.reading.Ending.{ScansAll}
-use Rattle.do_sig.specs.Blame.{why_no_more}
-use Rattle.do_sig.specs.Offsets.{fresh, offset_step, offset_ends, last_step}
-use Rattle.do_sig.specs.Encodings.{IsEncodingAt}
-use Rattle.do_sig.specs.MethodTypes.{QualifiedType, MethodType}
-use Rattle.do_sig.specs.reading.Signatures.{signature_of}
+use Rattle.do_sig.specs.{reading.Ending.ScansAll, Blame.why_no_more, Offsets.{fresh, offset_step}}
+use Rattle.do_sig.specs.{Offsets.{offset_ends, last_step}, Encodings.IsEncodingAt}
+use Rattle.do_sig.specs.{MethodTypes.{QualifiedType, MethodType}, reading.Signatures.signature_of}
 
 -- an offset and the letter
 abbrev pub IsBare : ℕ → List ℕ → ℕ → Type 0

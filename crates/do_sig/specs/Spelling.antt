@@ -1,15 +1,12 @@
 -- The one spelling that is printed.
-use Rattle.std.specs.Prelude.{ℕ, Bool, true, false, List, [], ◌∷◌, ◌++◌}
-use Rattle.std.specs.List.{flat_map}
+use Rattle.do_sig.specs.declared.qualifiers.Direction.TheVariants as ways
+use Rattle.do_sig.specs.declared.qualifiers.Passing.TheVariants as passings
+use Rattle.std.specs.{Prelude.{ℕ, Bool, true, false, List, [], ◌∷◌, ◌++◌}, List.flat_map}
 use Rattle.do_sig.specs.declared.value_type.OutermostType.{OutermostType}
 use Rattle.do_sig.specs.declared.value_type.OutermostType.TheVariants.{Void, Pointer, Plain}
-use Rattle.do_sig.specs.declared.qualifiers.Qualifiers.{Qualifiers}
-use Rattle.do_sig.specs.declared.qualifiers.Direction.{Direction}
-use Rattle.do_sig.specs.declared.qualifiers.Direction.TheVariants as ways
+use Rattle.do_sig.specs.declared.qualifiers.{Qualifiers.Qualifiers, Direction.Direction}
 use Rattle.do_sig.specs.declared.qualifiers.Passing.{Passing}
-use Rattle.do_sig.specs.declared.qualifiers.Passing.TheVariants as passings
-use Rattle.do_sig.specs.MethodTypes.{QualifiedType, MethodType}
-use Rattle.do_sig.specs.Types.{type_spelling}
+use Rattle.do_sig.specs.{MethodTypes.{QualifiedType, MethodType}, Types.type_spelling}
 
 -- what an outermost type is printed as
 abbrev pub outermost_spelling : OutermostType → List ℕ

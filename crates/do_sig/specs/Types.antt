@@ -1,7 +1,6 @@
 -- Which types there are, and which text spells which of them.
 use Rattle.std.specs.Prelude.{◌≡◌, ℕ, zero, suc, ◌==◌, ◌&&◌, ◌||◌, Bool, true, false, nat_le}
-use Rattle.std.specs.Prelude.{nat_lt, List, [], ◌∷◌, ◌++◌, length}
-use Rattle.std.specs.List.{flat_map, list_all}
+use Rattle.std.specs.{Prelude.{nat_lt, List, [], ◌∷◌, ◌++◌, length}, List.{flat_map, list_all}}
 use Rattle.std.specs.Fmt.{decimal}
 use Rattle.do_sig.specs.declared.value_type.ValueType.{ValueType, fold-ValueType}
 use Rattle.do_sig.specs.declared.value_type.ValueType.TheOpen.{ValueType-F, Simple, Array}

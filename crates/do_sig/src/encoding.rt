@@ -3,10 +3,8 @@ ghost use Rattle.do_sig.specs.MethodTypes.{QualifiedType};
 ghost use Rattle.do_sig.specs.Answers.{answer_of, IsAnswer, Answers, BlamesByte, IsOfEncoding};
 ghost use Rattle.do_sig.specs.Bare.{simple_encoding, void_encoding};
 ghost use Rattle.do_sig.specs.Calls.{encoding_fits, input_fits, is_void_type, qualifier_of};
-ghost use Rattle.do_sig.specs.Encodings.{IsEncoding};
-ghost use Rattle.do_sig.specs.Spelling.{encoding_spelling};
-ghost use Rattle.do_sig.specs.reading.Gives.{Gives, IsEarly};
-ghost use Rattle.do_sig.specs.reading.Outermost.{encoding_at, alone_at};
+ghost use Rattle.do_sig.specs.{Encodings.IsEncoding, Spelling.encoding_spelling};
+ghost use Rattle.do_sig.specs.reading.{Gives.{Gives, IsEarly}, Outermost.{encoding_at, alone_at}};
 
 use crate::fault::{EncFault, Kind, Stop};
 use crate::outermost::fitting::fits_outermost;
@@ -35,10 +33,9 @@ pub struct Encoding {
 pub type Encodings = Items<Encoding>;
 
 impl Model for Encoding {
-    ghost use Rattle.std.specs.Coded.{codes};
     ghost use Rattle.do_sig.specs.contracts.value_type.ValueType as types;
-    ghost use Rattle.do_sig.specs.MethodTypes.{QualifiedType};
-    ghost use Rattle.do_sig.specs.Places.{MayStand};
+    ghost use Rattle.std.specs.Coded.{codes};
+    ghost use Rattle.do_sig.specs.{MethodTypes.QualifiedType, Places.MayStand};
     ghost use Rattle.do_sig.specs.declared.outermost.place.Place.TheVariants.{Alone};
 
     ghost Value = { QualifiedType };

@@ -1,7 +1,7 @@
 //! The letters of types and of qualifiers.
 
-ghost use Rattle.std.specs.Prelude.{◌≡◌, ◌||◌, MatchOption, false};
 ghost use Rattle.do_sig.specs.Letters as letters;
+ghost use Rattle.std.specs.Prelude.{◌≡◌, ◌||◌, MatchOption, false};
 
 use crate::value_type::Scalar;
 

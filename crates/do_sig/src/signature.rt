@@ -4,12 +4,9 @@ ghost use Rattle.do_sig.specs.Answers.{answer_of, IsAnswer, Answers, BlamesByte}
 ghost use Rattle.do_sig.specs.Bare.{simple_encoding, simple_method, simple_result};
 ghost use Rattle.do_sig.specs.Calls.{qualifier_of, qualifiers_of, is_oneway, arg_count, arg_fits};
 ghost use Rattle.do_sig.specs.Calls.{encoding_fits, input_fits, args_fit, inputs_fit};
-ghost use Rattle.do_sig.specs.Calls.{returned_fits, is_void, is_returned_copied};
-ghost use Rattle.do_sig.specs.Fits.{each_takes};
-ghost use Rattle.do_sig.specs.Signatures.{IsSignature};
-ghost use Rattle.do_sig.specs.Spelling.{signature_spelling};
-ghost use Rattle.do_sig.specs.reading.Gives.{Gives};
-ghost use Rattle.do_sig.specs.reading.Signatures.{signature_of, signature_at};
+ghost use Rattle.do_sig.specs.{Calls.{returned_fits, is_void, is_returned_copied}, Fits.each_takes};
+ghost use Rattle.do_sig.specs.{Signatures.IsSignature, Spelling.signature_spelling};
+ghost use Rattle.do_sig.specs.reading.{Gives.Gives, Signatures.{signature_of, signature_at}};
 
 use crate::encoding::{Encoding, Encodings, encoding_of, push_encoding};
 use crate::fault::{EncFault, Stop};
@@ -38,8 +35,8 @@ pub struct Signature {
 }
 
 impl Model for Signature {
-    ghost use Rattle.std.specs.Coded.{codes};
     ghost use Rattle.do_sig.specs.contracts.value_type.ValueType as types;
+    ghost use Rattle.std.specs.Coded.{codes};
     ghost use Rattle.do_sig.specs.MethodTypes.{MethodType, IsMethodType};
 
     ghost Value = { MethodType };

@@ -1,28 +1,19 @@
 -- What a change that means an act does.
-use Rattle.std.proofs.Common.{◌≡◌, ◌<◌, List, [], ◌∷◌, length, None, Some}
-use Rattle.std.proofs.Common.{ap, false, refl, sym, true, ◌∙◌, subst, arith}
+use Rattle.do_behave.specs.declared.act.Act.TheVariants as acts
+use Rattle.do_behave.specs.declared.change.Change.TheVariants as changes
+use Rattle.std.proofs.Common.{◌≡◌, ◌<◌, List, [], ◌∷◌, length, None, Some, ap, false, refl, sym}
+use Rattle.std.proofs.Common.{true, ◌∙◌, subst, arith}
 use Rattle.std.specs.Prelude.{Err, Ok, OnErr, Result, slice_get}
 use Rattle.do_class.specs.Class.{Class}
-use Rattle.do_behave.specs.Changes.{IsFitting, Means}
-use Rattle.do_behave.specs.InPlace.{after_act}
-use Rattle.do_behave.specs.declared.act.Act.{Act}
-use Rattle.do_behave.specs.declared.act.Act.TheVariants as acts
-use Rattle.do_behave.specs.declared.change.Change.{Change}
-use Rattle.do_behave.specs.declared.change.Change.TheVariants as changes
-use Rattle.do_behave.specs.declared.invocation.Invocation.{Invocation}
-use Rattle.do_machine.specs.declared.node.Node.{Node}
-use Rattle.do_machine.specs.Context.{Context, RunContext}
-use Rattle.do_network.specs.Counting.{of_held, of_known, over_open_ends}
-use Rattle.do_network.specs.Own.{Own}
+use Rattle.do_behave.specs.{Changes.{IsFitting, Means}, InPlace.after_act, declared.act.Act.Act}
+use Rattle.do_behave.specs.declared.{change.Change.Change, invocation.Invocation.Invocation}
+use Rattle.do_machine.specs.{declared.node.Node.Node, Context.{Context, RunContext}}
+use Rattle.do_network.specs.{Counting.{of_held, of_known, over_open_ends}, Own.Own}
 use Rattle.do_part.specs.Changed.{act_done, act_left_on, changed, changed_on}
-use Rattle.do_effects.specs.Plans.{IsRunning}
-use Rattle.do_effects.specs.Doing.{Doing, doing, moved}
-use Rattle.do_effects.specs.Tidy.{IsTidy}
-use Rattle.do_machine.specs.State.{is_open}
-use Rattle.do_machine.specs.declared.state.Effect.{Effect}
+use Rattle.do_effects.specs.{Plans.IsRunning, Doing.{Doing, doing, moved}, Tidy.IsTidy}
+use Rattle.do_machine.specs.{State.is_open, declared.state.Effect.Effect}
 use Rattle.do_network.specs.Site.{site_move}
-use Rattle.do_site.specs.declared.work.Work.{Work}
-use Rattle.do_site.specs.Kept.{IsKept, StaysBut}
+use Rattle.do_site.specs.{declared.work.Work.Work, Kept.{IsKept, StaysBut}}
 use Rattle.do_site.specs.Running.{IsRunOf, is_step}
 
 module _ (table : List Class) (p : Own) (r : RunContext) (run : IsRunOf table p r)

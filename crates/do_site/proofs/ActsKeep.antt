@@ -1,15 +1,10 @@
 -- What a step of the top invocation keeps of its node.
-use Rattle.std.proofs.Common.{◌≡◌, Bool, false, true, cond, List, [], ◌∷◌, length}
-use Rattle.std.proofs.Common.{refl, ap, suc}
-use Rattle.std.specs.Prelude.{◌==◌}
-use Rattle.do_behave.specs.Changes.{meaning}
-use Rattle.do_behave.specs.declared.act.Act.{Act}
 use Rattle.do_behave.specs.declared.act.Act.TheVariants as acts
-use Rattle.do_behave.specs.declared.change.Change.{Change}
+use Rattle.std.proofs.Common.{◌≡◌, Bool, false, true, cond, List, [], ◌∷◌, length, refl, ap, suc}
+use Rattle.std.specs.Prelude.{◌==◌}
+use Rattle.do_behave.specs.{Changes.meaning, declared.{act.Act.Act, change.Change.Change}}
 use Rattle.do_behave.specs.declared.invocation.Invocation.{Invocation}
-use Rattle.do_machine.specs.declared.node.Node.{Node}
-use Rattle.do_machine.specs.declared.node.Stored.{Stored}
-use Rattle.do_machine.specs.Lists.{change_first}
+use Rattle.do_machine.specs.{declared.node.{Node.Node, Stored.Stored}, Lists.change_first}
 use Rattle.do_machine.specs.run.Changes.{with_writes}
 use Rattle.do_part.specs.Changed.{act_done, changed, changed_on}
 

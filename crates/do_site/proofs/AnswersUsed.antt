@@ -1,44 +1,28 @@
 -- What a run does that uses an answer, once the answer was taken.
-use Rattle.std.proofs.Common.{◌≡◌, ℕ, List, [], ◌∷◌, None, Some, refl, ap}
-use Rattle.std.proofs.Common.{arith, length, sym, ◌∙◌, subst}
-use Rattle.do_base.specs.declared.events.exception.Exc.{Exc}
-use Rattle.do_base.specs.declared.values.value.Value.{Value}
+use Rattle.do_rules.specs.declared.run.delivery.Delivery.TheVariants as deliveries
+use Rattle.do_site.specs.declared.work.running.Next.TheVariants as nexts
+use Rattle.std.proofs.Common.{◌≡◌, ℕ, List, [], ◌∷◌, None, Some, refl, ap, arith, length, sym, ◌∙◌}
+use Rattle.std.proofs.Common.{subst}
+use Rattle.do_base.specs.declared.{events.exception.Exc.Exc, values.value.Value.Value}
 use Rattle.do_class.specs.Class.{Class}
-use Rattle.do_behave.specs.declared.invocation.Answer.{Answer}
-use Rattle.do_behave.specs.declared.invocation.Answer.TheVariants.{Given, Raised}
-use Rattle.do_behave.specs.declared.invocation.Invocation.{Invocation}
-use Rattle.do_behave.specs.declared.invocation.InvState.{InvState}
+use Rattle.do_behave.specs.declared.invocation.Answer.{Answer, TheVariants.{Given, Raised}}
+use Rattle.do_behave.specs.declared.invocation.{Invocation.Invocation, InvState.InvState}
 use Rattle.do_behave.specs.declared.invocation.InvState.TheVariants.{Answered, Below, Running}
 use Rattle.do_behave.specs.declared.invocation.InvState.TheVariants.{Waits}
-use Rattle.do_machine.specs.declared.node.Node.{Node}
-use Rattle.do_machine.specs.held.Refers.{answer_values}
-use Rattle.do_machine.specs.Context.{RunContext}
-use Rattle.do_network.specs.Own.{Own, site_context}
-use Rattle.do_network.specs.Site.{site_move}
-use Rattle.do_part.specs.Names.{AreStored, sizes_of, values_of}
-use Rattle.do_part.specs.Owned.{Owned}
-use Rattle.do_rules.specs.declared.run.delivery.Delivery.TheVariants as deliveries
+use Rattle.do_machine.specs.{declared.node.Node.Node, held.Refers.answer_values, Context.RunContext}
+use Rattle.do_network.specs.{Own.{Own, site_context}, Site.site_move}
+use Rattle.do_part.specs.{Names.{AreStored, sizes_of, values_of}, Owned.Owned}
 use Rattle.do_stack.specs.Answered.{answer_of, answer_taken, state_taken, top_answer}
 use Rattle.do_stack.specs.Waiting.{with_top}
-use Rattle.do_effects.specs.Doing.{Doing, doing, moved}
-use Rattle.do_effects.specs.Plans.{CanCarryOut, CanDo, IsRun, IsRunning, plan_effect, plan_needs}
-use Rattle.do_effects.specs.Plans.{plan_values}
-use Rattle.do_effects.specs.Tidy.{IsTidy}
-use Rattle.do_effects.specs.declared.changing.Core.{Core}
-use Rattle.do_effects.specs.declared.plan.Plan.{Plan}
+use Rattle.do_effects.specs.{Doing.{Doing, doing, moved}, Plans.{CanCarryOut, CanDo, IsRun}}
+use Rattle.do_effects.specs.{Plans.{IsRunning, plan_effect, plan_needs, plan_values}, Tidy.IsTidy}
+use Rattle.do_effects.specs.declared.{changing.Core.Core, plan.Plan.Plan}
 use Rattle.do_effects.specs.declared.plan.Plan.TheVariants.{Asks, Begins, Delivers, Goes, Makes}
 use Rattle.do_effects.specs.declared.plan.Plan.TheVariants.{Says, Tells, Uses, Vends}
-use Rattle.do_site.proofs.ActsDone.{same_moves, tidy_alone}
-use Rattle.do_site.proofs.PlansKeep.{enough_room}
-use Rattle.do_site.specs.Plans.{IsEnough}
-use Rattle.do_site.specs.Room.{HasPlace}
-use Rattle.do_site.specs.Running.{IsOver, IsRunOf, next_of, raised_in}
-use Rattle.do_site.specs.Steps.{Moves}
-use Rattle.do_site.specs.Stored.{top_answered}
-use Rattle.do_site.specs.Taken.{IsTaken, own_taken, taken}
-use Rattle.do_site.specs.declared.needs.Needs.{Needs}
-use Rattle.do_site.specs.declared.told.Told.{Told}
-use Rattle.do_site.specs.declared.work.running.Next.TheVariants as nexts
+use Rattle.do_site.proofs.{ActsDone.{same_moves, tidy_alone}, PlansKeep.enough_room}
+use Rattle.do_site.specs.{Plans.IsEnough, Room.HasPlace, Running.{IsOver, IsRunOf, next_of}}
+use Rattle.do_site.specs.{Running.raised_in, Steps.Moves, Stored.top_answered, Taken.IsTaken}
+use Rattle.do_site.specs.{Taken.{own_taken, taken}, declared.{needs.Needs.Needs, told.Told.Told}}
 
 -- the run of an invocation over others
 abbrev over : List Class → Own → Invocation → List Invocation → RunContext

@@ -1,14 +1,10 @@
 -- What is read off a stack whose invocations are counted from the bottom.
-use Rattle.std.proofs.Common.{◌≡◌, ℕ, zero, suc, Bool, true, false, cond, List, [], ◌∷◌}
-use Rattle.std.proofs.Common.{None, Some, Option, ap, refl, sym, ◌∙◌, arith, length}
-use Rattle.std.proofs.lemmas.List.{drop_all}
-use Rattle.std.specs.Prelude.{drop, is_some, slice_get, ◌-◌, ◌<◌, ◌≤◌, ◌||◌}
-use Rattle.std.specs.List.{list_any}
-use Rattle.do_behave.specs.declared.invocation.Invocation.{Invocation}
-use Rattle.do_behave.specs.declared.invocation.InvState.{InvState}
+use Rattle.std.proofs.Common.{◌≡◌, ℕ, zero, suc, Bool, true, false, cond, List, [], ◌∷◌, None, Some}
+use Rattle.std.proofs.{Common.{Option, ap, refl, sym, ◌∙◌, arith, length}, lemmas.List.drop_all}
+use Rattle.std.specs.{Prelude.{drop, is_some, slice_get, ◌-◌, ◌<◌, ◌≤◌, ◌||◌}, List.list_any}
+use Rattle.do_behave.specs.declared.invocation.{Invocation.Invocation, InvState.InvState}
 use Rattle.do_behave.specs.declared.invocation.InvState.TheVariants.{Answered, Below, Running}
-use Rattle.do_behave.specs.declared.invocation.InvState.TheVariants.{Waits}
-use Rattle.do_behave.specs.declared.invocation.Waited.{Waited}
+use Rattle.do_behave.specs.declared.invocation.{InvState.TheVariants.Waits, Waited.Waited}
 use Rattle.do_machine.specs.take.Awaiting.{AnsweredCall, awaits, is_answered}
 use Rattle.do_rules.specs.Answering.{asked_by, awaited_in}
 

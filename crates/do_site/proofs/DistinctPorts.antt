@@ -1,8 +1,7 @@
 -- Ports of which none stands twice.
 use Rattle.std.proofs.Common.{◌≡◌, ℕ, Bool, true, false, List, [], ◌∷◌, ◌||◌, length, arith, refl}
 use Rattle.std.proofs.Common.{subst, sym}
-use Rattle.std.specs.Prelude.{◌==◌}
-use Rattle.std.specs.List.{AllByRecursion, IsDistinct, list_any}
+use Rattle.std.specs.{Prelude.◌==◌, List.{AllByRecursion, IsDistinct, list_any}}
 
 -- neither of two tests passes where not one of them does
 neither : (a b : Bool) → (a || b) ≡ false → (a ≡ false) × (b ≡ false)

@@ -1,10 +1,8 @@
 -- What an input comes to, as its effect and its answer tell.
 use Rattle.std.proofs.Common.{Bool, List, Option}
-use Rattle.std.specs.Prelude.{Result, Ok, Err, IfOk, OnErr, option_map}
-use Rattle.std.specs.Result.{result_map_both}
+use Rattle.std.specs.{Prelude.{Result, Ok, Err, IfOk, OnErr, option_map}, Result.result_map_both}
 use Rattle.do_class.specs.Class.{Class}
-use Rattle.do_machine.specs.declared.state.Effect.{Effect}
-use Rattle.do_machine.specs.run.Run.{Acting}
+use Rattle.do_machine.specs.{declared.state.Effect.Effect, run.Run.Acting}
 use Rattle.do_network.specs.Site.{moves}
 use Rattle.do_effects.specs.declared.changing.Core.{Core}
 use Rattle.do_site.specs.Steps.{Does, Handles, IsSame, done_told, part_of, seen_of}

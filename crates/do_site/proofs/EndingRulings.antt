@@ -1,21 +1,14 @@
 -- Rulings by which a lend is over or an end closes: they take no memory.
-use Rattle.std.proofs.Common.{◌≡◌, ◌≤◌, ℕ, false, refl, arith}
-use Rattle.do_frames.specs.declared.frame.Frame.{Frame}
 use Rattle.do_frames.specs.declared.frame.Frame.TheVariants as frames
-use Rattle.do_frames.specs.Frames.{kind_of}
-use Rattle.do_frames.specs.Kinds.{kind_number}
-use Rattle.do_machine.specs.declared.item.Item.{Item}
-use Rattle.do_machine.specs.declared.node.Node.{Node}
-use Rattle.do_machine.specs.run.Fresh.{with_objects}
-use Rattle.do_part.specs.Filled.{made_values}
-use Rattle.do_part.specs.Names.{AreStored, values_of}
-use Rattle.do_rules.specs.declared.take.ruling.Ruling.{Ruling}
 use Rattle.do_rules.specs.declared.take.ruling.Ruling.TheVariants as rulings
+use Rattle.std.proofs.Common.{◌≡◌, ◌≤◌, ℕ, false, refl, arith}
+use Rattle.do_frames.specs.{declared.frame.Frame.Frame, Frames.kind_of, Kinds.kind_number}
+use Rattle.do_machine.specs.{declared.{item.Item.Item, node.Node.Node}, run.Fresh.with_objects}
+use Rattle.do_part.specs.{Filled.made_values, Names.{AreStored, values_of}}
+use Rattle.do_rules.specs.declared.take.ruling.Ruling.{Ruling}
 use Rattle.do_effects.specs.Taking.{CanFollow, on_message, ruling_copies, ruling_values}
-use Rattle.do_effects.specs.Taking.{taking_needs}
-use Rattle.do_effects.specs.declared.changing.Core.{Core}
-use Rattle.do_site.specs.Room.{HasPlaceFor, HasPlaceToClose, IsEnding}
-use Rattle.do_site.specs.declared.told.Told.{Told}
+use Rattle.do_effects.specs.{Taking.taking_needs, declared.changing.Core.Core}
+use Rattle.do_site.specs.{Room.{HasPlaceFor, HasPlaceToClose, IsEnding}, declared.told.Told.Told}
 
 -- nothing comes with such a ruling
 pub ending_quiet : (r : Ruling) → IsEnding r → on_message r ≡ false

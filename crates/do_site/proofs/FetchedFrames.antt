@@ -4,12 +4,9 @@ use Rattle.std.specs.Prelude.{IfOk, IfSome, Result}
 use Rattle.do_class.specs.Class.{Class}
 use Rattle.do_machine.specs.run.Run.{Acting}
 use Rattle.do_net.specs.Seen.{FetchesSpelled, Seen}
-use Rattle.do_network.specs.Links.{Sending}
-use Rattle.do_network.specs.Spelled.{IsSpelledSending}
+use Rattle.do_network.specs.{Links.Sending, Spelled.IsSpelledSending}
 use Rattle.do_streams.specs.Streamed.{Streamed}
-use Rattle.do_site.specs.Sited.{Sited}
-use Rattle.do_site.specs.Steps.{seen_of}
-use Rattle.do_site.proofs.PlansKeep.{if_ok}
+use Rattle.do_site.{specs.{Sited.Sited, Steps.seen_of}, proofs.PlansKeep.if_ok}
 
 -- what is taken out of streams has a spelling, sent from a port by a table of classes
 abbrev pub TakesSpelled : List Class → ℕ → Streamed → Streamed → Option ℕ → Type 0

@@ -1,30 +1,20 @@
 -- What a caller sees of a site that took a frame of a peer.
+use Rattle.do_frames.specs.declared.frame.Frame.TheVariants as frames
+use Rattle.do_network.specs.declared.input.Done.TheVariants as dones
 use Rattle.std.proofs.Common.{◌≡◌, ℕ, ◌≤◌, Bool, true, false, cond, List, Option, None, Some}
 use Rattle.std.proofs.Common.{Result, Ok, Err, refl, sym, subst}
-use Rattle.std.specs.Prelude.{nat_lt, not, ◌&&◌}
-use Rattle.std.proofs.lemmas.Bool.{ltb-false}
+use Rattle.std.{specs.Prelude.{nat_lt, not, ◌&&◌}, proofs.lemmas.Bool.ltb-false}
 use Rattle.do_class.specs.Class.{Class}
-use Rattle.do_frames.specs.declared.frame.Frame.{Frame}
-use Rattle.do_frames.specs.declared.frame.Frame.TheVariants as frames
-use Rattle.do_frames.specs.declared.frame.RawFrame.{RawFrame}
-use Rattle.do_machine.specs.ends.Closing.{closing}
-use Rattle.do_machine.specs.run.Run.{Acting}
-use Rattle.do_machine.specs.take.Take.{can_take}
-use Rattle.do_network.specs.Faults.{release_fault}
-use Rattle.do_network.specs.Frames.{item_of, read_frame}
-use Rattle.do_network.specs.Links.{change_link, having_read, names_read}
-use Rattle.do_network.specs.Own.{Own}
-use Rattle.do_network.specs.Site.{Handled, frame_input, frame_move, site_move, takes}
-use Rattle.do_network.specs.Site.{takes_frame}
-use Rattle.do_network.specs.declared.fault.PeerFault.{PeerFault}
-use Rattle.do_network.specs.declared.fault.PeerFault.TheVariants.{BadFrame, OverRelease}
-use Rattle.do_network.specs.declared.input.Done.{Done}
-use Rattle.do_network.specs.declared.input.Done.TheVariants as dones
-use Rattle.do_effects.specs.Doing.{doing}
-use Rattle.do_effects.specs.declared.changing.Core.{Core}
-use Rattle.do_site.proofs.StepsSeen.{linked_seen, move_seen, passed_seen}
-use Rattle.do_site.specs.Steps.{Handles, IsSame, Makes, item_move, link_read, part_of, seen_of}
-use Rattle.do_site.specs.Steps.{with_reading}
+use Rattle.do_frames.specs.declared.frame.{Frame.Frame, RawFrame.RawFrame}
+use Rattle.do_machine.specs.{ends.Closing.closing, run.Run.Acting, take.Take.can_take}
+use Rattle.do_network.specs.{Faults.release_fault, Frames.{item_of, read_frame}}
+use Rattle.do_network.specs.{Links.{change_link, having_read, names_read}, Own.Own}
+use Rattle.do_network.specs.Site.{Handled, frame_input, frame_move, site_move, takes, takes_frame}
+use Rattle.do_network.specs.declared.fault.PeerFault.{PeerFault, TheVariants.BadFrame}
+use Rattle.do_network.specs.declared.{fault.PeerFault.TheVariants.OverRelease, input.Done.Done}
+use Rattle.do_effects.specs.{Doing.doing, declared.changing.Core.Core}
+use Rattle.do_site.{proofs.StepsSeen.{linked_seen, move_seen, passed_seen}, specs.Steps.Handles}
+use Rattle.do_site.specs.Steps.{IsSame, Makes, item_move, link_read, part_of, seen_of, with_reading}
 
 -- what a frame that was read comes to at a site, by why the peer may not send it
 abbrev frame_taken : List Class → Core → ℕ → Frame → Option PeerFault → Handled

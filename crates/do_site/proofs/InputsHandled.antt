@@ -1,15 +1,11 @@
 -- An input of a site comes to what its effect is.
 use Rattle.std.proofs.Common.{◌≡◌, Bool, Option, subst, sym}
-use Rattle.std.specs.Prelude.{Result, IfOk, OnErr, option_map}
-use Rattle.std.specs.Result.{result_map_both}
-use Rattle.do_machine.specs.declared.state.Effect.{Effect}
-use Rattle.do_machine.specs.run.Run.{Acting}
-use Rattle.do_network.specs.Site.{Handled, enabled_input, moves}
-use Rattle.do_network.specs.declared.input.Done.{Done}
+use Rattle.std.specs.{Prelude.{Result, IfOk, OnErr, option_map}, Result.result_map_both}
+use Rattle.do_machine.specs.{declared.state.Effect.Effect, run.Run.Acting}
+use Rattle.do_network.specs.{Site.{Handled, enabled_input, moves}, declared.input.Done.Done}
 use Rattle.do_network.specs.declared.input.Input.{Input}
 use Rattle.do_effects.specs.declared.changing.Core.{Core}
-use Rattle.do_site.specs.Sited.{Sited}
-use Rattle.do_site.specs.Steps.{Does, Handles, IsSame, done_told, part_of, seen_of}
+use Rattle.do_site.specs.{Sited.Sited, Steps.{Does, Handles, IsSame, done_told, part_of, seen_of}}
 use Rattle.do_site.proofs.EffectsTold.{told_handled}
 
 -- what an input of this kind comes to, by what a site has inside and by what is seen of it

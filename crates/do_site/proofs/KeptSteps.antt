@@ -1,17 +1,11 @@
 -- What a site keeps true over a step.
 use Rattle.std.proofs.Common.{◌≡◌, ℕ, ◌+◌, ◌≤◌, Bool, true, false, cond, List, [], ◌∷◌, length}
 use Rattle.std.proofs.Common.{refl, ap, sym, subst, ◌∙◌, arith}
-use Rattle.std.specs.Prelude.{filter, not, ◌==◌, ◌||◌}
-use Rattle.std.specs.List.{list_any}
-use Rattle.do_machine.specs.declared.node.Node.{Node}
-use Rattle.do_machine.specs.declared.node.Wanted.{Wanted}
-use Rattle.do_machine.specs.declared.state.Effect.{Effect}
-use Rattle.do_machine.specs.Effect.{each, only}
-use Rattle.do_machine.specs.State.{is_open}
-use Rattle.do_machine.specs.ends.Closing.{asked_of, closing, parted}
-use Rattle.do_machine.specs.lend.Asking.{settling}
-use Rattle.do_network.specs.Own.{Own}
-use Rattle.do_network.specs.Site.{site_move}
+use Rattle.std.specs.{Prelude.{filter, not, ◌==◌, ◌||◌}, List.list_any}
+use Rattle.do_machine.specs.declared.{node.{Node.Node, Wanted.Wanted}, state.Effect.Effect}
+use Rattle.do_machine.specs.{Effect.{each, only}, State.is_open}
+use Rattle.do_machine.specs.{ends.Closing.{asked_of, closing, parted}, lend.Asking.settling}
+use Rattle.do_network.specs.{Own.Own, Site.site_move}
 use Rattle.do_effects.specs.Doing.{Doing, cleared, does, moved}
 use Rattle.do_site.proofs.StepsDone.{then_left}
 

@@ -1,30 +1,21 @@
 -- What is read of a raw frame has the kind of its number.
-use Rattle.std.proofs.Common.{◌≡◌, ◌∙◌, ℕ, List, [], ◌∷◌, Option, Some, None, Result, Ok, Err}
-use Rattle.std.proofs.Common.{ap, refl, subst}
-use Rattle.std.specs.Prelude.{IfOk}
+use Rattle.do_frames.specs.declared.frame.Frame.TheVariants as frames
+use Rattle.do_frames.specs.declared.kind.Kind.TheVariants as kinds
+use Rattle.std.proofs.Common.{◌≡◌, ◌∙◌, ℕ, List, [], ◌∷◌, Option, Some, None, Result, Ok, Err, ap}
+use Rattle.std.{proofs.Common.{refl, subst}, specs.Prelude.IfOk}
 use Rattle.do_class.specs.Class.{Class}
-use Rattle.do_grammar.specs.Reader.{Reader, Stop, done, ended, mapped, no_kind, whole_of}
-use Rattle.do_grammar.specs.Reader.{◌>>=◌}
+use Rattle.do_grammar.specs.Reader.{Reader, Stop, done, ended, mapped, no_kind, whole_of, ◌>>=◌}
 use Rattle.do_grammar.specs.OneSpelling.{both}
-use Rattle.do_coder.specs.Names.{serial_at}
-use Rattle.do_coder.specs.Packets.{Surroundings, surroundings}
+use Rattle.do_coder.specs.{Names.serial_at, Packets.{Surroundings, surroundings}}
 use Rattle.do_coder.specs.declared.recent.pair.Pair.{Pair}
-use Rattle.do_frames.specs.Exceptions.{exc_at}
-use Rattle.do_frames.specs.Frames.{kind_of}
-use Rattle.do_frames.specs.Kinds.{kind_at, kind_number}
+use Rattle.do_frames.specs.{Exceptions.exc_at, Frames.kind_of, Kinds.{kind_at, kind_number}}
 use Rattle.do_frames.specs.Payloads.{answer_at, call, gone_at, granted_at, message_at, oneway}
 use Rattle.do_frames.specs.Payloads.{payload_at, raised_at, release_at, retain_at, root_ask_at}
-use Rattle.do_frames.specs.Payloads.{settle_at, token_at}
-use Rattle.do_frames.specs.declared.fault.RawFault.{RawFault}
+use Rattle.do_frames.specs.{Payloads.{settle_at, token_at}, declared.fault.RawFault.RawFault}
 use Rattle.do_frames.specs.declared.fault.RawFault.TheVariants.{BadFrame, Memory}
-use Rattle.do_frames.specs.declared.frame.Frame.{Frame}
-use Rattle.do_frames.specs.declared.frame.Frame.TheVariants as frames
-use Rattle.do_frames.specs.declared.kind.Kind.{Kind}
-use Rattle.do_frames.specs.declared.kind.Kind.TheVariants as kinds
-use Rattle.do_frames.specs.declared.frame.RawFrame.{RawFrame}
+use Rattle.do_frames.specs.declared.{frame.Frame.Frame, kind.Kind.Kind, frame.RawFrame.RawFrame}
 use Rattle.do_network.specs.Frames.{payload_read, read_frame, read_or_place}
-use Rattle.do_streams.specs.Reading.{IsReading}
-use Rattle.do_streams.specs.declared.reading.Reading.{Reading}
+use Rattle.do_streams.specs.{Reading.IsReading, declared.reading.Reading.Reading}
 use Rattle.do_streams.proofs.FramesTold.{kind_is}
 
 -- a frame that is made of what was read has the kind of which it is made

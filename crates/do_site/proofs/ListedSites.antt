@@ -1,16 +1,11 @@
 -- What a check lists of a node by the names of its objects is what it lists by the objects.
-use Rattle.std.proofs.Common.{◌≡◌, ℕ, true, false, cond, List, [], ◌∷◌, refl, ap}
-use Rattle.std.proofs.Common.{◌∙◌, Some, inl, inr}
-use Rattle.std.specs.Prelude.{filter, map, option_map}
-use Rattle.std.specs.List.{cons_option, filter_map, flat_map}
+use Rattle.std.proofs.Common.{◌≡◌, ℕ, true, false, cond, List, [], ◌∷◌, refl, ap, ◌∙◌, Some, inl}
+use Rattle.std.proofs.Common.{inr}
+use Rattle.std.specs.{Prelude.{filter, map, option_map}, List.{cons_option, filter_map, flat_map}}
 use Rattle.do_base.specs.names.Names.{ObjectName}
-use Rattle.do_machine.specs.Lists.{IsIn}
-use Rattle.do_machine.specs.declared.node.Node.{Node}
-use Rattle.do_machine.specs.declared.node.Stored.{Stored}
-use Rattle.do_machine.specs.State.{own, stored}
-use Rattle.do_machine.specs.check.Snapshot.{entry_of, object_line}
-use Rattle.do_network.specs.Own.{Own, is_counted}
-use Rattle.do_network.specs.Snapshot.{entries_counted}
+use Rattle.do_machine.specs.{Lists.IsIn, declared.node.{Node.Node, Stored.Stored}}
+use Rattle.do_machine.specs.{State.{own, stored}, check.Snapshot.{entry_of, object_line}}
+use Rattle.do_network.specs.{Own.{Own, is_counted}, Snapshot.entries_counted}
 use Rattle.do_site.specs.Listed.{entries_among, line_at, line_by, names_stored}
 
 module _ (n : Node) where

@@ -1,28 +1,20 @@
 -- What a site that opens keeps true.
-use Rattle.std.proofs.Common.{◌≡◌, ℕ, Bool, true, false, cond, List, [], ◌∷◌, refl, sym, ap, ◌∙◌}
-use Rattle.std.proofs.Common.{None, ◌&&◌, ◌||◌, ◌+◌, not, arith}
-use Rattle.std.proofs.lemmas.Bool.Decides.{nat_tests}
-use Rattle.std.specs.Prelude.{is_some, nat_le, nat_lt, ◌==◌}
-use Rattle.std.specs.List.{list_any}
 use Rattle.std.specs.FinMap as map
+use Rattle.std.proofs.Common.{◌≡◌, ℕ, Bool, true, false, cond, List, [], ◌∷◌, refl, sym, ap, ◌∙◌}
+use Rattle.std.proofs.{Common.{None, ◌&&◌, ◌||◌, ◌+◌, not, arith}, lemmas.Bool.Decides.nat_tests}
+use Rattle.std.specs.{Prelude.{is_some, nat_le, nat_lt, ◌==◌}, List.list_any}
 use Rattle.std.specs.FinMap.{get-empty, same_map}
 use Rattle.do_base.specs.declared.values.value.Value.TheVariants.{Obj}
 use Rattle.do_class.specs.Class.{Class}
-use Rattle.do_export.specs.Counts.{entry_cmp}
-use Rattle.do_export.proofs.Order.{entry_same, entry_total}
-use Rattle.do_machine.specs.declared.node.Node.{Node}
-use Rattle.do_machine.specs.declared.state.Seat.{Seat}
-use Rattle.do_machine.specs.Objects.{object_at}
-use Rattle.do_machine.specs.State.{is_open, stored}
-use Rattle.do_machine.specs.World.{opening_node, others}
+use Rattle.do_export.{specs.Counts.entry_cmp, proofs.Order.{entry_same, entry_total}}
+use Rattle.do_machine.specs.{declared.{node.Node.Node, state.Seat.Seat}, Objects.object_at}
+use Rattle.do_machine.specs.{State.{is_open, stored}, World.{opening_node, others}}
 use Rattle.do_machine.specs.run.Fresh.{with_objects}
 use Rattle.do_network.specs.Net.{opening_own}
 use Rattle.do_packet.specs.declared.receipt.Made.{Made}
 use Rattle.do_part.specs.Names.{AreStored, value_of}
-use Rattle.do_effects.specs.Tidy.{IsTidy}
-use Rattle.do_effects.proofs.TidyCounts.{kept_get}
-use Rattle.do_site.specs.Stored.{is_there}
-use Rattle.do_site.proofs.Stored.{one_there, there_with}
+use Rattle.do_effects.{specs.Tidy.IsTidy, proofs.TidyCounts.kept_get}
+use Rattle.do_site.{specs.Stored.is_there, proofs.Stored.{one_there, there_with}}
 
 -- a port is not among those other than it
 pub not_among_others : (ports : List ℕ) (port : ℕ) →

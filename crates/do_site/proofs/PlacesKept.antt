@@ -1,17 +1,13 @@
 -- Places that a site keeps to settle what it has, over its steps.
 use Rattle.std.proofs.Common.{◌≡◌, ◌≤◌, ◌+◌, ℕ, ap, arith, length}
 use Rattle.std.specs.Prelude.{Err, Ok, OnErr, OnOk, Result, not, vec_capacity, ◌==◌}
-use Rattle.do_machine.specs.declared.node.Node.{Node}
-use Rattle.do_machine.specs.ends.Closing.{parted}
+use Rattle.do_machine.specs.{declared.node.Node.Node, ends.Closing.parted}
 use Rattle.do_network.specs.Own.{Own}
 use Rattle.do_streams.specs.Streamed.{Fixed, Streamed}
-use Rattle.do_effects.specs.Bounded.{HasNoMore}
-use Rattle.do_effects.specs.declared.changing.Core.{Core}
+use Rattle.do_effects.specs.{Bounded.HasNoMore, declared.changing.Core.Core}
 use Rattle.do_effects.proofs.ObjectsLeft.{few_pass}
-use Rattle.do_site.specs.Room.{HasPlace, HasPlaceFor, HasPlaces, HasPlaceToClose}
-use Rattle.do_site.specs.Room.{HasPlaceToLeave, to_keep}
-use Rattle.do_site.specs.declared.needs.Needs.{Needs}
-use Rattle.do_site.specs.declared.told.Told.{Told}
+use Rattle.do_site.specs.Room.{HasPlace, HasPlaceFor, HasPlaces, HasPlaceToClose, HasPlaceToLeave}
+use Rattle.do_site.specs.{Room.to_keep, declared.{needs.Needs.Needs, told.Told.Told}}
 
 -- what holds whether a call gave something or failed holds
 pub either_way : {A E : Type 0} {P : Type 0} (r : Result A E) → OnOk r P → OnErr r P → P

@@ -1,14 +1,9 @@
 -- What plans do is what their verdicts do.
 use Rattle.std.proofs.Common.{◌≡◌, List, ap, sym, ◌∙◌}
-use Rattle.do_behave.specs.declared.act.Act.{Act}
-use Rattle.do_behave.specs.declared.invocation.Answer.{Answer}
-use Rattle.do_behave.specs.declared.invocation.Invocation.{Invocation}
-use Rattle.do_machine.specs.Context.{Context, RunContext}
-use Rattle.do_machine.specs.run.Acts.{act_rule}
-use Rattle.do_machine.specs.run.Delivery.{delivery}
+use Rattle.do_behave.specs.declared.{act.Act.Act, invocation.{Answer.Answer, Invocation.Invocation}}
+use Rattle.do_machine.specs.{Context.{Context, RunContext}, run.{Acts.act_rule, Delivery.delivery}}
 use Rattle.do_machine.specs.run.Run.{Acting, next_act}
-use Rattle.do_rules.specs.Delivery.{DeliveriesAreMade, delivered, delivery_of}
-use Rattle.do_rules.specs.Judged.{turn_in}
+use Rattle.do_rules.specs.{Delivery.{DeliveriesAreMade, delivered, delivery_of}, Judged.turn_in}
 
 -- the run of an invocation in a context, over others
 abbrev pub over : Context → Invocation → List Invocation → RunContext

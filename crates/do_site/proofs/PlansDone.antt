@@ -1,20 +1,12 @@
 -- What a site keeps true where a plan was done.
 use Rattle.std.proofs.Common.{◌≡◌, List, false, ap, sym, subst, ◌∙◌}
 use Rattle.do_class.specs.Class.{Class}
-use Rattle.do_machine.specs.Context.{Context, RunContext}
-use Rattle.do_machine.specs.State.{is_open}
-use Rattle.do_network.specs.Own.{Own}
-use Rattle.do_network.specs.Site.{site_move}
-use Rattle.do_effects.specs.Doing.{Doing}
-use Rattle.do_effects.specs.Plans.{plan_effect}
-use Rattle.do_effects.specs.Tidy.{IsTidy}
-use Rattle.do_effects.specs.declared.changing.Core.{Core}
-use Rattle.do_effects.specs.declared.plan.Plan.{Plan}
-use Rattle.do_site.proofs.PlansKeep.{plan_apart}
-use Rattle.do_site.specs.Kept.{IsKept, StaysBut}
-use Rattle.do_site.specs.Running.{IsRunOf}
-use Rattle.do_site.specs.Steps.{Moves}
-use Rattle.do_site.specs.declared.work.Work.{Work}
+use Rattle.do_machine.specs.{Context.{Context, RunContext}, State.is_open}
+use Rattle.do_network.specs.{Own.Own, Site.site_move}
+use Rattle.do_effects.specs.{Doing.Doing, Plans.plan_effect, Tidy.IsTidy}
+use Rattle.do_effects.specs.declared.{changing.Core.Core, plan.Plan.Plan}
+use Rattle.do_site.{proofs.PlansKeep.plan_apart, specs.{Kept.{IsKept, StaysBut}, Running.IsRunOf}}
+use Rattle.do_site.specs.{Steps.Moves, declared.work.Work.Work}
 
 module _ (table : List Class) (old new : Core) (r : RunContext) (plan : Plan)
     (run : IsRunOf table old.part.own r) (moves : Moves old new (plan_effect r plan)) where

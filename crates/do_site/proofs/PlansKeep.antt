@@ -1,28 +1,20 @@
 -- What a plan keeps of its node.
-use Rattle.std.proofs.Common.{◌≡◌, false, List, [], ◌∷◌, refl, ap}
-use Rattle.std.proofs.Common.{arith, sym, ◌∙◌}
+use Rattle.do_machine.specs.declared.verdict.Request.TheVariants as requests
+use Rattle.do_rules.specs.declared.run.delivery.Delivery.TheVariants as deliveries
+use Rattle.std.proofs.Common.{◌≡◌, false, List, [], ◌∷◌, refl, ap, arith, sym, ◌∙◌}
 use Rattle.std.specs.Prelude.{Err, IfOk, Ok, OnOk, Result, Some, slice_get, vec_capacity}
 use Rattle.do_class.specs.Class.{Class}
 use Rattle.do_behave.specs.declared.invocation.Invocation.{Invocation}
-use Rattle.do_machine.specs.declared.node.Node.{Node}
-use Rattle.do_machine.specs.declared.verdict.Request.TheVariants as requests
-use Rattle.do_machine.specs.Context.{Context, RunContext}
-use Rattle.do_machine.specs.State.{is_open}
+use Rattle.do_machine.specs.{declared.node.Node.Node, Context.{Context, RunContext}, State.is_open}
 use Rattle.do_network.specs.Own.{Own, site_context}
-use Rattle.do_rules.specs.declared.run.delivery.Delivery.TheVariants as deliveries
 use Rattle.do_streams.specs.Streamed.{Fixed}
-use Rattle.do_effects.specs.Bounded.{IsBounded}
-use Rattle.do_effects.specs.Plans.{IsRun, IsRunning, plan_effect}
-use Rattle.do_effects.specs.Room.{HasRoom, Needs as Wants}
-use Rattle.do_effects.specs.declared.changing.Core.{Core}
-use Rattle.do_effects.specs.declared.plan.Plan.{Plan}
-use Rattle.do_effects.specs.declared.plan.Plan.TheVariants.{Asks, Begins, Delivers, Goes, Makes}
-use Rattle.do_effects.specs.declared.plan.Plan.TheVariants.{Says, Tells, Uses, Vends}
+use Rattle.do_effects.specs.{Bounded.IsBounded, Plans.{IsRun, IsRunning, plan_effect}}
+use Rattle.do_effects.specs.{Room.{HasRoom, Needs as Wants}, declared.changing.Core.Core}
+use Rattle.do_effects.specs.declared.plan.Plan.{Plan, TheVariants.{Asks, Begins, Delivers, Goes}}
+use Rattle.do_effects.specs.declared.plan.Plan.TheVariants.{Makes, Says, Tells, Uses, Vends}
 use Rattle.do_site.specs.Plans.{IsEnough, IsTurnOf}
-use Rattle.do_site.specs.Room.{HasPlaceFor, HasPlaceToLeave, HasPlace, needed}
-use Rattle.do_site.specs.Running.{IsRunOf}
-use Rattle.do_site.specs.declared.needs.Needs.{Needs}
-use Rattle.do_site.specs.declared.told.Told.{Told}
+use Rattle.do_site.specs.{Room.{HasPlaceFor, HasPlaceToLeave, HasPlace, needed}, Running.IsRunOf}
+use Rattle.do_site.specs.declared.{needs.Needs.Needs, told.Told.Told}
 
 -- a node keeps the ends and the port of another
 pub record KeepsEnds (n m : Node) : Type 0 where

@@ -1,20 +1,14 @@
 -- Names that a peer gives back leave a node tidy.
-use Rattle.std.proofs.Common.{◌≡◌, ℕ, Bool, true, false, cond, Option, None, refl, ap, sym}
-use Rattle.std.proofs.Common.{◌∙◌, ◌-◌, ◌<◌, Some, arith}
-use Rattle.std.specs.Prelude.{is_some, nat_lt, unwrap_or, ◌==◌}
-use Rattle.std.proofs.lemmas.Bool.{ltb-true}
-use Rattle.std.proofs.lemmas.Bool.Decides.{nat_tests}
-use Rattle.std.specs.Ordering.{eq_by_cmp}
 use Rattle.std.specs.FinMap as map
-use Rattle.std.specs.FinMap.{get-insert, get-remove, same_map}
+use Rattle.std.proofs.Common.{◌≡◌, ℕ, Bool, true, false, cond, Option, None, refl, ap, sym, ◌∙◌}
+use Rattle.std.{proofs.Common.{◌-◌, ◌<◌, Some, arith}, specs.Prelude.{is_some, nat_lt, unwrap_or}}
+use Rattle.std.{specs.Prelude.◌==◌, proofs.lemmas.Bool.{ltb-true, Decides.nat_tests}}
+use Rattle.std.specs.{Ordering.eq_by_cmp, FinMap.{get-insert, get-remove, same_map}}
 use Rattle.do_export.specs.Counts.{Counts, count_of, entry_cmp, lowered}
 use Rattle.do_export.proofs.Order.{entry_same, entry_total}
-use Rattle.do_machine.specs.declared.node.Node.{Node}
-use Rattle.do_machine.specs.State.{is_open}
-use Rattle.do_network.specs.Counting.{given_back, over_open_ends}
-use Rattle.do_network.specs.Own.{Own}
-use Rattle.do_effects.proofs.TidyCounts.{kept_get, tied}
-use Rattle.do_effects.specs.Tidy.{IsTidy}
+use Rattle.do_machine.specs.{declared.node.Node.Node, State.is_open}
+use Rattle.do_network.specs.{Counting.{given_back, over_open_ends}, Own.Own}
+use Rattle.do_effects.{proofs.TidyCounts.{kept_get, tied}, specs.Tidy.IsTidy}
 
 module _ (n : Node) (c m : Counts) (k : ℕ × ℕ) (w : Option ℕ) (tidy : over_open_ends n c ≡ c)
     (is : is_open n k.0 ≡ true)

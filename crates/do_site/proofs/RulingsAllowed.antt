@@ -1,26 +1,18 @@
 -- What a node can do that a ruling says, and the room that it takes.
-use Rattle.std.proofs.Common.{◌≡◌, ℕ, ◌+◌, true, List, [], ◌∷◌, length}
-use Rattle.std.proofs.Common.{Option, Some, None, refl, arith}
-use Rattle.std.specs.Prelude.{IfSome}
-use Rattle.std.specs.List.{filter_map, list_all}
+use Rattle.do_machine.specs.declared.item.Item.TheVariants as items
+use Rattle.std.proofs.Common.{◌≡◌, ℕ, ◌+◌, true, List, [], ◌∷◌, length, Option, Some, None, refl}
+use Rattle.std.{proofs.Common.arith, specs.{Prelude.IfSome, List.{filter_map, list_all}}}
 use Rattle.do_base.specs.declared.events.exception.Exc.{Exc}
-use Rattle.do_class.specs.declared.packet.Name.{Name}
-use Rattle.do_class.specs.declared.packet.Name.TheVariants.{Lent, Mine, Yours}
+use Rattle.do_class.specs.declared.packet.Name.{Name, TheVariants.{Lent, Mine, Yours}}
 use Rattle.do_packet.specs.declared.receipt.Made.{Made}
 use Rattle.do_behave.specs.declared.invocation.Reason.{Reason}
-use Rattle.do_machine.specs.declared.item.Item.{Item}
-use Rattle.do_machine.specs.declared.item.Item.TheVariants as items
-use Rattle.do_machine.specs.declared.node.Node.{Node}
-use Rattle.do_machine.specs.lend.Lending.{lend_of}
-use Rattle.do_rules.specs.Ruling.{names_in}
-use Rattle.do_rules.specs.declared.take.ruling.Ruling.{Ruling}
+use Rattle.do_machine.specs.{declared.{item.Item.Item, node.Node.Node}, lend.Lending.lend_of}
+use Rattle.do_rules.specs.{Ruling.names_in, declared.take.ruling.Ruling.Ruling}
 use Rattle.do_rules.specs.declared.take.ruling.Ruling.TheVariants.{Refuses}
 use Rattle.do_effects.specs.Taking.{LendsNothing, ruling_copies, ruling_values}
-use Rattle.do_part.specs.Filled.{made_values}
-use Rattle.do_part.specs.Names.{values_of}
-use Rattle.do_site.proofs.Stored.{there_with}
-use Rattle.do_site.specs.Plans.{AllowsItem, AllowsMessage, AllowsRuling, is_no_lend}
-use Rattle.do_site.specs.declared.needs.Needs.{Needs}
+use Rattle.do_part.specs.{Filled.made_values, Names.values_of}
+use Rattle.do_site.{proofs.Stored.there_with, specs.Plans.{AllowsItem, AllowsMessage, AllowsRuling}}
+use Rattle.do_site.specs.{Plans.is_no_lend, declared.needs.Needs.Needs}
 
 -- names of which none lends lend nothing
 none_lent : (to : ℕ) (names : List Name) → list_all is_no_lend names ≡ true →

@@ -1,34 +1,21 @@
 -- What doing what a ruling says keeps of a node: no end leads to the node itself, and what it
 -- stores can be counted.
-use Rattle.std.proofs.Common.{◌≡◌, ℕ, Bool, true, false, cond, List, [], ◌∷◌, Option, None}
-use Rattle.std.proofs.Common.{Some, refl, ap, sym, subst, ◌∙◌}
-use Rattle.std.specs.Prelude.{not}
-use Rattle.std.specs.List.{list_any}
-use Rattle.do_base.specs.declared.events.exception.Exc.{Exc}
-use Rattle.do_class.specs.declared.packet.Name.{Name}
-use Rattle.do_class.specs.declared.packet.Name.TheVariants.{Lent, Mine, Yours}
-use Rattle.do_packet.specs.declared.receipt.Made.{Made}
-use Rattle.do_behave.specs.declared.invocation.Answer.{Answer}
-use Rattle.do_behave.specs.declared.invocation.Reason.{Reason}
 use Rattle.do_behave.specs.declared.invocation.Reason.TheVariants as reasons
-use Rattle.do_machine.specs.declared.item.Item.{Item}
-use Rattle.do_machine.specs.declared.node.Node.{Node}
-use Rattle.do_machine.specs.declared.node.Wanted.{Wanted}
-use Rattle.do_machine.specs.declared.state.Effect.{Effect}
-use Rattle.do_machine.specs.Effect.{each, only}
-use Rattle.do_machine.specs.State.{is_open}
-use Rattle.do_machine.specs.lend.Asking.{same_wanted, settling}
-use Rattle.do_machine.specs.lend.Asking.{without_wanted}
-use Rattle.do_machine.specs.run.Fresh.{with_objects}
-use Rattle.do_machine.specs.take.Awaiting.{AnsweredCall}
-use Rattle.do_machine.specs.take.Receipt.{receiving_name}
-use Rattle.do_machine.specs.take.Requests.{refusing}
-use Rattle.do_rules.specs.Answering.{call_of}
-use Rattle.do_rules.specs.Ruling.{answering_with, gaining, names_in, ruled}
-use Rattle.do_rules.specs.declared.take.ruling.Ruling.{Ruling}
-use Rattle.do_rules.specs.declared.take.ruling.Ruling.TheVariants.{Answers, Begins, Closes, EndsAsk}
-use Rattle.do_rules.specs.declared.take.ruling.Ruling.TheVariants.{EndsLend, Raises, Refuses}
-use Rattle.do_rules.specs.declared.take.ruling.Ruling.TheVariants.{Replies, Stays}
+use Rattle.std.proofs.Common.{◌≡◌, ℕ, Bool, true, false, cond, List, [], ◌∷◌, Option, None, Some}
+use Rattle.std.{proofs.Common.{refl, ap, sym, subst, ◌∙◌}, specs.{Prelude.not, List.list_any}}
+use Rattle.do_base.specs.declared.events.exception.Exc.{Exc}
+use Rattle.do_class.specs.declared.packet.Name.{Name, TheVariants.{Lent, Mine, Yours}}
+use Rattle.do_packet.specs.declared.receipt.Made.{Made}
+use Rattle.do_behave.specs.declared.invocation.{Answer.Answer, Reason.Reason}
+use Rattle.do_machine.specs.declared.{item.Item.Item, node.{Node.Node, Wanted.Wanted}}
+use Rattle.do_machine.specs.{declared.state.Effect.Effect, Effect.{each, only}, State.is_open}
+use Rattle.do_machine.specs.lend.Asking.{same_wanted, settling, without_wanted}
+use Rattle.do_machine.specs.{run.Fresh.with_objects, take.Awaiting.AnsweredCall}
+use Rattle.do_machine.specs.take.{Receipt.receiving_name, Requests.refusing}
+use Rattle.do_rules.specs.{Answering.call_of, Ruling.{answering_with, gaining, names_in, ruled}}
+use Rattle.do_rules.specs.declared.take.ruling.Ruling.{Ruling, TheVariants.{Answers, Begins}}
+use Rattle.do_rules.specs.declared.take.ruling.Ruling.TheVariants.{Closes, EndsAsk, EndsLend}
+use Rattle.do_rules.specs.declared.take.ruling.Ruling.TheVariants.{Raises, Refuses, Replies, Stays}
 use Rattle.do_site.proofs.KeptSteps.{closing_apart, either_node}
 
 -- ---- ends

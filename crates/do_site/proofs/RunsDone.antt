@@ -1,21 +1,18 @@
 -- What a run does, by what its top invocation goes on with.
+use Rattle.do_site.specs.declared.work.running.Next.TheVariants as nexts
 use Rattle.std.proofs.Common.{◌≡◌, List, [], ◌∷◌, None, Some, refl, ap, sym, subst, ◌∙◌}
 use Rattle.std.specs.Prelude.{option_map}
 use Rattle.do_class.specs.Class.{Class}
-use Rattle.do_behave.specs.declared.invocation.Answer.{Answer}
-use Rattle.do_behave.specs.declared.invocation.Answer.TheVariants.{Given, Raised}
-use Rattle.do_behave.specs.declared.invocation.Invocation.{Invocation}
-use Rattle.do_behave.specs.declared.invocation.InvState.{InvState}
+use Rattle.do_behave.specs.declared.invocation.Answer.{Answer, TheVariants.{Given, Raised}}
+use Rattle.do_behave.specs.declared.invocation.{Invocation.Invocation, InvState.InvState}
 use Rattle.do_behave.specs.declared.invocation.InvState.TheVariants.{Answered, Below, Running}
 use Rattle.do_behave.specs.declared.invocation.InvState.TheVariants.{Waits}
-use Rattle.do_machine.specs.Context.{Context, RunContext}
-use Rattle.do_machine.specs.run.Acts.{act_rule}
+use Rattle.do_machine.specs.{Context.{Context, RunContext}, run.Acts.act_rule}
 use Rattle.do_machine.specs.run.Run.{Acting, answer_rule, next_act, run_effect, run_on, state_rule}
 use Rattle.do_machine.specs.run.Verdicts.{effect_of}
 use Rattle.do_network.specs.Own.{Own, site_context}
 use Rattle.do_effects.specs.Plans.{IsRunning}
 use Rattle.do_site.specs.Running.{IsRunOf, next_of}
-use Rattle.do_site.specs.declared.work.running.Next.TheVariants as nexts
 
 -- where nothing goes on no run is enabled
 pub nothing_runs : (act : Acting) (c : Context) (stack : List Invocation) →

@@ -1,14 +1,10 @@
 -- What is sent behind what waits, and over links by which a frame was read.
-use Rattle.std.proofs.Common.{◌≡◌, ℕ, Bool, true, false, List, [], ◌∷◌, ◌++◌, refl, ap, sym}
-use Rattle.std.proofs.Common.{◌∙◌, append_assoc}
-use Rattle.std.proofs.lemmas.List.{append-nil}
-use Rattle.std.specs.Prelude.{fold, ◌==◌}
-use Rattle.do_frames.specs.declared.frame.Frame.{Frame}
-use Rattle.do_frames.specs.Frames.{after_frame}
+use Rattle.std.proofs.Common.{◌≡◌, ℕ, Bool, true, false, List, [], ◌∷◌, ◌++◌, refl, ap, sym, ◌∙◌}
+use Rattle.std.{proofs.{Common.append_assoc, lemmas.List.append-nil}, specs.Prelude.{fold, ◌==◌}}
+use Rattle.do_frames.specs.{declared.frame.Frame.Frame, Frames.after_frame}
 use Rattle.do_machine.specs.Lists.{change_first}
-use Rattle.do_network.specs.Frames.{Posted}
-use Rattle.do_network.specs.Links.{Link, Outbox, Sending, all_sent, change_link, link_to, sending}
-use Rattle.do_network.specs.Links.{sendings}
+use Rattle.do_network.specs.{Frames.Posted, Links.{Link, Outbox, Sending, all_sent, change_link}}
+use Rattle.do_network.specs.Links.{link_to, sending, sendings}
 use Rattle.do_site.specs.Steps.{link_read}
 
 -- frames are sent over links as they are alone, behind what was sent before

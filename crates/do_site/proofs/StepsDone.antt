@@ -1,35 +1,23 @@
 -- What is done one thing after another is a move of the site.
-use Rattle.std.proofs.Common.{◌≡◌, ℕ, List, [], ◌∷◌, ◌++◌, None, Some, refl, ap, sym, ◌∙◌}
-use Rattle.std.proofs.Common.{append_assoc}
-use Rattle.std.proofs.lemmas.List.{append-nil}
-use Rattle.do_base.specs.declared.events.shown.Shown.{Shown}
 use Rattle.do_base.specs.declared.events.shown.Shown.TheVariants as shows
 use Rattle.do_base.specs.declared.events.shown.Took.TheVariants as tooks
-use Rattle.do_class.specs.Class.{Class}
-use Rattle.do_behave.specs.InPlace.{after_act}
-use Rattle.do_behave.specs.declared.act.Act.{Act}
 use Rattle.do_behave.specs.declared.act.Act.TheVariants as acts
-use Rattle.do_behave.specs.declared.invocation.Invocation.{Invocation}
-use Rattle.do_behave.specs.declared.invocation.InvState.{InvState}
+use Rattle.std.proofs.Common.{◌≡◌, ℕ, List, [], ◌∷◌, ◌++◌, None, Some, refl, ap, sym, ◌∙◌}
+use Rattle.std.proofs.{Common.append_assoc, lemmas.List.append-nil}
+use Rattle.do_base.specs.declared.events.shown.Shown.{Shown}
+use Rattle.do_class.specs.Class.{Class}
+use Rattle.do_behave.specs.{InPlace.after_act, declared.act.Act.Act}
+use Rattle.do_behave.specs.declared.invocation.{Invocation.Invocation, InvState.InvState}
 use Rattle.do_behave.specs.declared.invocation.InvState.TheVariants.{Answered, Below, Running}
 use Rattle.do_behave.specs.declared.invocation.InvState.TheVariants.{Waits}
-use Rattle.do_machine.specs.declared.item.Item.TheVariants.{End}
-use Rattle.do_machine.specs.declared.node.Node.{Node}
-use Rattle.do_machine.specs.declared.state.Effect.{Effect}
-use Rattle.do_machine.specs.Context.{RunContext}
-use Rattle.do_machine.specs.Effect.{only}
-use Rattle.do_machine.specs.ends.Closing.{closing}
-use Rattle.do_machine.specs.ends.TimeOut.{give_up, time_out, time_out_on}
-use Rattle.do_machine.specs.run.Acts.{act_rule}
-use Rattle.do_machine.specs.run.Verdicts.{effect_of}
-use Rattle.do_machine.specs.take.Take.{take_effect}
-use Rattle.do_network.specs.Own.{Own, site_context}
-use Rattle.do_network.specs.Site.{Move, site_move}
+use Rattle.do_machine.specs.declared.{item.Item.TheVariants.End, node.Node.Node}
+use Rattle.do_machine.specs.{declared.state.Effect.Effect, Context.RunContext, Effect.only}
+use Rattle.do_machine.specs.ends.{Closing.closing, TimeOut.{give_up, time_out, time_out_on}}
+use Rattle.do_machine.specs.{run.{Acts.act_rule, Verdicts.effect_of}, take.Take.take_effect}
+use Rattle.do_network.specs.{Own.{Own, site_context}, Site.{Move, site_move}}
 use Rattle.do_part.specs.Changed.{act_done}
-use Rattle.do_effects.proofs.MovesOfSteps.{step_moves}
-use Rattle.do_effects.proofs.TidyCounts.{node_alone}
-use Rattle.do_effects.specs.Doing.{Doing, cleared, does, moved}
-use Rattle.do_effects.specs.Tidy.{IsTidy}
+use Rattle.do_effects.proofs.{MovesOfSteps.step_moves, TidyCounts.node_alone}
+use Rattle.do_effects.specs.{Doing.{Doing, cleared, does, moved}, Tidy.IsTidy}
 
 -- an effect and then what is left are the site's move
 pub then_left : (d b c : Doing) (e : Effect) → b ≡ does d e → c ≡ moved b (cleared b.own) →

@@ -1,24 +1,17 @@
 -- What is seen of a site after what a step did.
-use Rattle.std.proofs.Common.{◌≡◌, ℕ, Bool, true, false, cond, List, [], Option, None}
-use Rattle.std.proofs.Common.{Some, refl, ap, sym, ◌∙◌}
-use Rattle.std.specs.Prelude.{not, option_map, unwrap_or}
+use Rattle.do_network.specs.declared.input.Done.TheVariants as dones
+use Rattle.std.proofs.Common.{◌≡◌, ℕ, Bool, true, false, cond, List, [], Option, None, Some, refl}
+use Rattle.std.{proofs.Common.{ap, sym, ◌∙◌}, specs.Prelude.{not, option_map, unwrap_or}}
 use Rattle.std.proofs.lemmas.List.{append-nil}
 use Rattle.do_class.specs.Class.{Class}
-use Rattle.do_machine.specs.declared.item.Item.TheVariants.{End}
-use Rattle.do_machine.specs.declared.state.Effect.{Effect}
-use Rattle.do_machine.specs.State.{is_open}
-use Rattle.do_machine.specs.ends.Closing.{closing}
-use Rattle.do_machine.specs.run.Run.{Acting}
+use Rattle.do_machine.specs.declared.{item.Item.TheVariants.End, state.Effect.Effect}
+use Rattle.do_machine.specs.{State.is_open, ends.Closing.closing, run.Run.Acting}
 use Rattle.do_machine.specs.take.Take.{can_take, take_effect}
-use Rattle.do_network.specs.Links.{Link, Outbox, Part, all_sent}
-use Rattle.do_network.specs.Own.{site_context}
-use Rattle.do_network.specs.Site.{Move, close_input, end_input, handled, moves, passed}
-use Rattle.do_network.specs.Site.{site_move}
+use Rattle.do_network.specs.{Links.{Link, Outbox, Part, all_sent}, Own.site_context}
+use Rattle.do_network.specs.Site.{Move, close_input, end_input, handled, moves, passed, site_move}
 use Rattle.do_network.specs.declared.input.Done.{Done}
-use Rattle.do_network.specs.declared.input.Done.TheVariants as dones
 use Rattle.do_net.specs.Seen.{with_handled}
-use Rattle.do_effects.specs.Doing.{Doing, doing, moved}
-use Rattle.do_effects.specs.declared.changing.Core.{Core}
+use Rattle.do_effects.specs.{Doing.{Doing, doing, moved}, declared.changing.Core.Core}
 use Rattle.do_site.proofs.SentBehind.{sent_behind}
 use Rattle.do_site.specs.Steps.{Does, IsSame, close_effect, end_effect, part_of, seen_of}
 

@@ -1,19 +1,14 @@
 -- Own objects that values name are there.
 use Rattle.std.proofs.Common.{◌≡◌, ℕ, ◌+◌, ◌<◌, ◌≤◌, Bool, true, false, cond, eqb, ◌&&◌, ◌||◌}
-use Rattle.std.proofs.Common.{List as Listed, [], ◌∷◌, ◌++◌, take, get_or, suc, zero, refl, sym}
-use Rattle.std.proofs.Common.{ap, subst, ◌∙◌, arith, length, Option, Some, None, inl, inr, ◌⊎◌}
+use Rattle.std.proofs.Common.{List as Listed, [], ◌∷◌, ◌++◌, take, get_or, suc, zero, refl, sym, ap}
+use Rattle.std.proofs.Common.{subst, ◌∙◌, arith, length, Option, Some, None, inl, inr, ◌⊎◌}
 use Rattle.std.specs.Prelude.{IfSome, IsSome, is_some, nat_le, nat_lt, ◌==◌}
-use Rattle.std.proofs.lemmas.Bool.Decides.{nat_tests}
-use Rattle.std.proofs.lemmas.List.Sums.{sum_by-cons, sum_by-append}
-use Rattle.do_base.specs.names.Names.{ObjectName}
-use Rattle.do_base.specs.declared.values.value.Value.{Value, List}
+use Rattle.std.proofs.lemmas.{Bool.Decides.nat_tests, List.Sums.{sum_by-cons, sum_by-append}}
+use Rattle.do_base.specs.{names.Names.ObjectName, declared.values.value.Value.{Value, List}}
 use Rattle.do_base.specs.declared.values.value.Value.TheVariants.{Obj}
 use Rattle.do_behave.specs.declared.invocation.Invocation.{Invocation}
-use Rattle.do_machine.specs.declared.node.Node.{Node}
-use Rattle.do_machine.specs.held.Refers.{state_values}
-use Rattle.do_machine.specs.declared.node.Stored.{Stored as Kept}
-use Rattle.do_machine.specs.Objects.{object_at}
-use Rattle.do_machine.specs.State.{stored}
+use Rattle.do_machine.specs.{declared.node.Node.Node, held.Refers.state_values}
+use Rattle.do_machine.specs.{declared.node.Stored.Stored as Kept, Objects.object_at, State.stored}
 use Rattle.do_machine.specs.run.Fresh.{with_objects, with_serials}
 use Rattle.do_packet.specs.declared.receipt.Made.{Made}
 use Rattle.do_part.proofs.Naming.{of-List, of-Obj, of-more, size-List, size-Obj, size-more}

@@ -1,37 +1,22 @@
 -- What taking an item comes to, with a frame read besides.
-use Rattle.std.proofs.Common.{◌≡◌, ℕ, List, refl, ap, sym, subst, ◌∙◌}
-use Rattle.std.specs.Prelude.{false}
-use Rattle.do_base.specs.declared.events.shown.Shown.{Shown}
 use Rattle.do_base.specs.declared.events.shown.Shown.TheVariants as shows
+use Rattle.std.{proofs.Common.{◌≡◌, ℕ, List, refl, ap, sym, subst, ◌∙◌}, specs.Prelude.false}
+use Rattle.do_base.specs.declared.events.shown.Shown.{Shown}
 use Rattle.do_class.specs.Class.{Class}
 use Rattle.do_frames.specs.declared.frame.Frame.{Frame}
-use Rattle.do_machine.specs.declared.item.Item.{Item}
-use Rattle.do_machine.specs.declared.state.Effect.{Effect}
-use Rattle.do_machine.specs.Context.{Context}
-use Rattle.do_machine.specs.Effect.{showing, ◌>>=◌}
-use Rattle.do_machine.specs.Items.{exported}
-use Rattle.do_machine.specs.State.{is_open}
-use Rattle.do_machine.specs.take.Lines.{item_line}
-use Rattle.do_machine.specs.take.Take.{holding, take_effect}
-use Rattle.do_network.specs.Counting.{got}
-use Rattle.do_network.specs.Frames.{all_posted}
-use Rattle.do_network.specs.Own.{Own, site_context}
+use Rattle.do_machine.specs.{declared.{item.Item.Item, state.Effect.Effect}, Context.Context}
+use Rattle.do_machine.specs.{Effect.{showing, ◌>>=◌}, Items.exported, State.is_open}
+use Rattle.do_machine.specs.take.{Lines.item_line, Take.{holding, take_effect}}
+use Rattle.do_network.specs.{Counting.got, Frames.all_posted, Own.{Own, site_context}}
 use Rattle.do_network.specs.Site.{site_move}
-use Rattle.do_rules.specs.Ruling.{RulingsAreArrivals, ruling}
-use Rattle.do_rules.specs.declared.take.ruling.Ruling.{Ruling}
-use Rattle.do_streams.specs.Reading.{names_of}
-use Rattle.do_streams.proofs.LinksRead.{names_stay}
+use Rattle.do_rules.specs.{Ruling.{RulingsAreArrivals, ruling}, declared.take.ruling.Ruling.Ruling}
+use Rattle.do_streams.{specs.Reading.names_of, proofs.LinksRead.names_stay}
 use Rattle.do_effects.specs.Doing.{Doing, cleared, does, doing, effected, moved}
-use Rattle.do_effects.specs.Taking.{taken, takes, taking_needs}
-use Rattle.do_effects.specs.declared.changing.Core.{Core}
-use Rattle.do_site.proofs.PlansKeep.{enough_place}
-use Rattle.do_site.proofs.RulingsKeep.{ruled_apart}
-use Rattle.do_site.proofs.SentBehind.{sent_after_reading}
-use Rattle.do_site.proofs.StepsDone.{then_left}
-use Rattle.do_site.specs.Plans.{AllowsRuling, IsEnough}
-use Rattle.do_site.specs.Room.{HasPlace, HasPlaceFor}
-use Rattle.do_site.specs.Steps.{item_move, with_reading}
-use Rattle.do_site.specs.declared.needs.Needs.{Needs}
+use Rattle.do_effects.specs.{Taking.{taken, takes, taking_needs}, declared.changing.Core.Core}
+use Rattle.do_site.proofs.{PlansKeep.enough_place, RulingsKeep.ruled_apart}
+use Rattle.do_site.proofs.{SentBehind.sent_after_reading, StepsDone.then_left}
+use Rattle.do_site.specs.{Plans.{AllowsRuling, IsEnough}, Room.{HasPlace, HasPlaceFor}}
+use Rattle.do_site.specs.{Steps.{item_move, with_reading}, declared.needs.Needs.Needs}
 use Rattle.do_site.specs.declared.told.Told.{Told}
 
 -- to read a frame behind an effect is to read it before

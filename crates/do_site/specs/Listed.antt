@@ -1,13 +1,10 @@
 -- What a check lists of a node, by the names of its objects.
 use Rattle.std.specs.Prelude.{List, Option, filter, map, option_map, ℕ}
 use Rattle.do_base.specs.names.Names.{ObjectName}
-use Rattle.do_machine.specs.declared.node.Node.{Node}
-use Rattle.do_machine.specs.declared.node.Stored.{Stored}
-use Rattle.do_machine.specs.State.{own, stored}
+use Rattle.do_machine.specs.{declared.node.{Node.Node, Stored.Stored}, State.{own, stored}}
 use Rattle.do_machine.specs.check.Snapshot.{entry_of}
 use Rattle.do_network.specs.Own.{Own, is_counted}
-use Rattle.do_trace.specs.declared.outcome.Entry.{Entry}
-use Rattle.do_trace.specs.declared.outcome.ObjLine.{ObjLine}
+use Rattle.do_trace.specs.declared.outcome.{Entry.Entry, ObjLine.ObjLine}
 
 -- a stored object of this name, as a check lists it
 abbrev pub line_by : ObjectName → Stored → ObjLine

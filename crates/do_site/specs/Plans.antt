@@ -1,27 +1,17 @@
 -- When a plan is one that a node can carry out, and what it then takes of room.
 use Rattle.std.specs.Prelude.{Bool, List, false, length, true, ℕ, ◌+◌, ◌≡◌, ◌≤◌, ◌^◌}
 use Rattle.do_packet.specs.declared.receipt.Made.{Made}
-use Rattle.do_class.specs.declared.packet.Name.{Name}
-use Rattle.do_class.specs.declared.packet.Name.TheVariants.{Lent}
+use Rattle.do_class.specs.declared.packet.Name.{Name, TheVariants.Lent}
 use Rattle.do_behave.specs.declared.invocation.Invocation.{Invocation}
-use Rattle.do_machine.specs.declared.item.Item.{Item}
-use Rattle.do_machine.specs.declared.node.Node.{Node}
-use Rattle.do_machine.specs.Context.{Context, RunContext}
-use Rattle.do_machine.specs.State.{is_open}
-use Rattle.do_machine.specs.run.Fresh.{with_objects}
-use Rattle.do_part.specs.Filled.{made_values}
-use Rattle.do_part.specs.Names.{AreStored, sizes_of, values_of}
-use Rattle.do_rules.specs.declared.run.delivery.Delivery.{Delivery}
-use Rattle.do_rules.specs.declared.take.ruling.Ruling.{Ruling}
+use Rattle.do_machine.specs.declared.{item.Item.Item, node.Node.Node}
+use Rattle.do_machine.specs.{Context.{Context, RunContext}, State.is_open, run.Fresh.with_objects}
+use Rattle.do_part.specs.{Filled.made_values, Names.{AreStored, sizes_of, values_of}}
+use Rattle.do_rules.specs.declared.{run.delivery.Delivery.Delivery, take.ruling.Ruling.Ruling}
 use Rattle.do_effects.specs.Plans.{CanDeliver, CanDo, delivery_needs, delivery_values, plan_needs}
-use Rattle.do_effects.specs.Plans.{plan_values}
-use Rattle.do_effects.specs.Room.{Needs as Wants}
-use Rattle.do_effects.specs.Sends.{CanNameAll}
-use Rattle.do_effects.specs.Taking.{CanFollow, ruling_copies, ruling_values}
-use Rattle.do_effects.specs.Taking.{ruling_needs, taking_needs}
-use Rattle.do_effects.specs.declared.plan.Plan.{Plan}
-use Rattle.do_site.specs.Stored.{AreThere}
-use Rattle.do_site.specs.declared.needs.Needs.{Needs}
+use Rattle.do_effects.specs.{Plans.plan_values, Room.Needs as Wants, Sends.CanNameAll}
+use Rattle.do_effects.specs.Taking.{CanFollow, ruling_copies, ruling_values, ruling_needs}
+use Rattle.do_effects.specs.{Taking.taking_needs, declared.plan.Plan.Plan}
+use Rattle.do_site.specs.{Stored.AreThere, declared.needs.Needs.Needs}
 
 -- it is the turn of an invocation, by what its node is judged by
 pub record IsTurnOf (r : RunContext) (c : Context) (top : Invocation) : Type 0 where

@@ -1,17 +1,11 @@
 -- The room that a step of a site is to find.
 use Rattle.std.specs.Prelude.{length, vec_capacity, ℕ, ◌+◌, ◌≤◌}
-use Rattle.do_machine.specs.declared.item.Item.{Item}
-use Rattle.do_machine.specs.run.Fresh.{with_objects}
-use Rattle.do_part.specs.Filled.{made_values}
-use Rattle.do_part.specs.Names.{AreStored, values_of}
-use Rattle.do_effects.specs.Room.{HasRoom, Needs as Wants}
-use Rattle.do_effects.specs.Taking.{CanFollow, ruling_copies, ruling_values, taking_needs}
-use Rattle.do_effects.specs.declared.changing.Core.{Core}
-use Rattle.do_rules.specs.declared.take.ruling.Ruling.{Ruling}
-use Rattle.do_rules.specs.declared.take.ruling.Ruling.TheVariants.{Closes, EndsLend}
-use Rattle.do_site.specs.declared.needs.Needs.{Needs}
-use Rattle.do_site.specs.declared.told.Told.{Told}
-use Rattle.do_site.specs.declared.work.Work.{Work}
+use Rattle.do_machine.specs.{declared.item.Item.Item, run.Fresh.with_objects}
+use Rattle.do_part.specs.{Filled.made_values, Names.{AreStored, values_of}}
+use Rattle.do_effects.specs.{Room.{HasRoom, Needs as Wants}, Taking.{CanFollow, ruling_copies}}
+use Rattle.do_effects.specs.{Taking.{ruling_values, taking_needs}, declared.changing.Core.Core}
+use Rattle.do_rules.specs.declared.take.ruling.Ruling.{Ruling, TheVariants.{Closes, EndsLend}}
+use Rattle.do_site.specs.declared.{needs.Needs.Needs, told.Told.Told, work.Work.Work}
 
 -- what a step takes of room, in the words of effects
 abbrev pub needed : Needs → Wants

@@ -1,25 +1,17 @@
 -- What a run of a site goes on with, and what an answer is that was not used yet.
+use Rattle.do_effects.specs.declared.plan.Plan.TheVariants as plans
+use Rattle.do_site.specs.declared.work.running.Next.TheVariants as nexts
 use Rattle.std.specs.Prelude.{Bool, List, None, Option, Some, [], false, true, ◌≡◌, ◌∷◌}
 use Rattle.do_base.specs.declared.events.exception.Exc.{Exc}
 use Rattle.do_class.specs.Class.{Class}
-use Rattle.do_behave.specs.declared.act.Act.{Act}
-use Rattle.do_behave.specs.declared.act.Act.TheVariants.{Step}
-use Rattle.do_behave.specs.declared.invocation.Answer.{Answer}
+use Rattle.do_behave.specs.declared.{act.Act.{Act, TheVariants.Step}, invocation.Answer.Answer}
 use Rattle.do_behave.specs.declared.invocation.Answer.TheVariants.{Given, Raised}
-use Rattle.do_behave.specs.declared.invocation.Invocation.{Invocation}
-use Rattle.do_behave.specs.declared.invocation.InvState.{InvState}
+use Rattle.do_behave.specs.declared.invocation.{Invocation.Invocation, InvState.InvState}
 use Rattle.do_behave.specs.declared.invocation.InvState.TheVariants.{Answered, Running}
-use Rattle.do_machine.specs.Context.{RunContext}
-use Rattle.do_machine.specs.run.Run.{answer_rule}
-use Rattle.do_machine.specs.run.Verdicts.{effect_of}
+use Rattle.do_machine.specs.{Context.RunContext, run.{Run.answer_rule, Verdicts.effect_of}}
 use Rattle.do_network.specs.Own.{Own, site_context}
-use Rattle.do_effects.specs.Plans.{plan_effect}
-use Rattle.do_effects.specs.declared.changing.Core.{Core}
-use Rattle.do_effects.specs.declared.plan.Plan.{Plan}
-use Rattle.do_effects.specs.declared.plan.Plan.TheVariants as plans
-use Rattle.do_site.specs.Steps.{Moves}
-use Rattle.do_site.specs.declared.work.running.Next.{Next}
-use Rattle.do_site.specs.declared.work.running.Next.TheVariants as nexts
+use Rattle.do_effects.specs.{Plans.plan_effect, declared.{changing.Core.Core, plan.Plan.Plan}}
+use Rattle.do_site.specs.{Steps.Moves, declared.work.running.Next.Next}
 
 -- what an invocation goes on with that got this answer
 abbrev pub next_by : Answer → Next

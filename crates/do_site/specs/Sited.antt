@@ -1,6 +1,5 @@
 -- What contracts see of a site.
-use Rattle.std.specs.Prelude.{List, refl}
-use Rattle.std.specs.Coded.{Coded, code_by, coded×}
+use Rattle.std.specs.{Prelude.{List, refl}, Coded.{Coded, code_by, coded×}}
 use Rattle.do_class.specs.Class.{Class}
 use Rattle.do_site.specs.declared.work.Work.{Work}
 

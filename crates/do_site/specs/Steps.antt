@@ -1,29 +1,18 @@
 -- What a step is to a caller of a site.
-use Rattle.std.specs.Prelude.{Bool, Err, List, None, Ok, Option, Result, Some, [], false}
-use Rattle.std.specs.Prelude.{if◌then◌else◌, true}
-use Rattle.std.specs.Prelude.{unwrap_or, ℕ, ◌≡◌, ◌≤◌}
-use Rattle.do_class.specs.Class.{Class}
-use Rattle.do_machine.specs.declared.state.Effect.{Effect}
-use Rattle.do_machine.specs.declared.item.Item.{Item}
-use Rattle.do_machine.specs.declared.item.Item.TheVariants.{End}
-use Rattle.do_machine.specs.declared.node.Node.{Node}
-use Rattle.do_machine.specs.State.{is_open}
-use Rattle.do_machine.specs.ends.Closing.{closing}
-use Rattle.do_machine.specs.run.Run.{Acting}
-use Rattle.do_machine.specs.take.Take.{can_take, take_effect}
-use Rattle.do_frames.specs.declared.frame.Frame.{Frame}
-use Rattle.do_frames.specs.Frames.{after_frame}
-use Rattle.do_network.specs.Links.{Link, Part, change_link}
-use Rattle.do_network.specs.Site.{Handled, Move, passed, site_move}
-use Rattle.do_network.specs.declared.input.Done.{Done}
 use Rattle.do_network.specs.declared.input.Done.TheVariants as dones
-use Rattle.do_network.specs.declared.input.Input.{Input}
 use Rattle.do_network.specs.declared.input.Input.TheVariants as inputs
-use Rattle.do_network.specs.Counting.{got}
-use Rattle.do_network.specs.Own.{Own, site_context}
+use Rattle.std.specs.Prelude.{Bool, Err, List, None, Ok, Option, Result, Some, [], false}
+use Rattle.std.specs.Prelude.{if◌then◌else◌, true, unwrap_or, ℕ, ◌≡◌, ◌≤◌}
+use Rattle.do_class.specs.Class.{Class}
+use Rattle.do_machine.specs.declared.{state.Effect.Effect, item.Item.{Item, TheVariants.End}}
+use Rattle.do_machine.specs.{declared.node.Node.Node, State.is_open, ends.Closing.closing}
+use Rattle.do_machine.specs.{run.Run.Acting, take.Take.{can_take, take_effect}}
+use Rattle.do_frames.specs.{declared.frame.Frame.Frame, Frames.after_frame}
+use Rattle.do_network.specs.Links.{Link, Part, change_link}
+use Rattle.do_network.specs.{Site.{Handled, Move, passed, site_move}, declared.input.Done.Done}
+use Rattle.do_network.specs.{declared.input.Input.Input, Counting.got, Own.{Own, site_context}}
 use Rattle.do_net.specs.Seen.{Seen, with_handled}
-use Rattle.do_effects.specs.Doing.{Doing, doing, moved}
-use Rattle.do_effects.specs.declared.changing.Core.{Core}
+use Rattle.do_effects.specs.{Doing.{Doing, doing, moved}, declared.changing.Core.Core}
 
 -- a node's own state, with its links
 abbrev pub part_of : Core → Part

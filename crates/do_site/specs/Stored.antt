@@ -1,12 +1,9 @@
 -- Which own objects values may name.
 use Rattle.std.specs.Prelude.{Bool, List, [], is_some, nat_le, nat_lt, true, ℕ, ◌&&◌, ◌+◌, ◌<◌}
 use Rattle.std.specs.Prelude.{◌||◌, ◌≡◌, ◌∷◌}
-use Rattle.do_base.specs.names.Names.{ObjectName}
-use Rattle.do_base.specs.declared.values.value.Value.{Value}
+use Rattle.do_base.specs.{names.Names.ObjectName, declared.values.value.Value.Value}
 use Rattle.do_behave.specs.declared.invocation.Invocation.{Invocation}
-use Rattle.do_machine.specs.declared.node.Node.{Node}
-use Rattle.do_machine.specs.Objects.{object_at}
-use Rattle.do_machine.specs.State.{stored}
+use Rattle.do_machine.specs.{declared.node.Node.Node, Objects.object_at, State.stored}
 use Rattle.do_machine.specs.held.Refers.{state_values}
 use Rattle.do_part.specs.Names.{sizes_of, values_of}
 

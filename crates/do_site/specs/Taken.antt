@@ -1,11 +1,9 @@
 -- A node's own state once the answer of its top invocation was taken, to be used.
 use Rattle.std.specs.Prelude.{◌≡◌, ◌≤◌}
-use Rattle.do_machine.specs.declared.node.Node.{Node}
-use Rattle.do_machine.specs.run.Fresh.{with_stack}
+use Rattle.do_machine.specs.{declared.node.Node.Node, run.Fresh.with_stack}
 use Rattle.do_network.specs.Own.{Own}
 use Rattle.do_part.specs.Owned.{Owned}
-use Rattle.do_stack.specs.Answered.{answer_taken}
-use Rattle.do_stack.specs.Waiting.{with_top}
+use Rattle.do_stack.specs.{Answered.answer_taken, Waiting.with_top}
 
 -- the node once its top invocation's answer was taken
 abbrev pub taken : Node → Node

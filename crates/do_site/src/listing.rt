@@ -1,11 +1,9 @@
 //! What a check lists of a site.
 ghost use Rattle.std.specs.Prelude.{◌≡◌, ◌++◌, IfOk, OnOk, filter, map, not, option_map};
 ghost use Rattle.std.specs.List.{filter_map, flat_map};
-ghost use Rattle.do_machine.specs.State.{is_open, own};
-ghost use Rattle.do_machine.specs.check.Snapshot.{object_line};
+ghost use Rattle.do_machine.specs.{State.{is_open, own}, check.Snapshot.object_line};
 ghost use Rattle.do_network.specs.Snapshot.{entries_counted, part_line};
-ghost use Rattle.do_site.specs.Listed.{entries_among, line_at, names_stored};
-ghost use Rattle.do_site.specs.Steps.{part_of};
+ghost use Rattle.do_site.specs.{Listed.{entries_among, line_at, names_stored}, Steps.part_of};
 
 use do_base::{NodeId, Oid, Oids, Peers};
 use do_effects::Core;

@@ -1,12 +1,9 @@
 //! A site as it opens.
 ghost use Rattle.std.specs.Prelude.{◌≡◌, ◌≤◌, ◌==◌, ◌∷◌, [], ℕ, IfOk, IsTrue, OnOk, Some, length};
 ghost use Rattle.std.specs.List.{IsDistinct, list_any};
-ghost use Rattle.do_machine.specs.World.{opening_node, others};
-ghost use Rattle.do_machine.specs.run.Fresh.{blank, with_objects};
+ghost use Rattle.do_machine.specs.{World.{opening_node, others}, run.Fresh.{blank, with_objects}};
 ghost use Rattle.do_network.specs.Net.{opening_own, opening_part};
-ghost use Rattle.do_site.specs.Kept.{IsKept};
-ghost use Rattle.do_site.specs.Room.{CanSettle};
-ghost use Rattle.do_site.specs.Steps.{part_of};
+ghost use Rattle.do_site.specs.{Kept.IsKept, Room.CanSettle, Steps.part_of};
 
 use crate::needs::Needs;
 use crate::tally::Reach;

@@ -1,12 +1,9 @@
 //! Verdicts as plans.
 ghost use Rattle.std.specs.Prelude.{◌≡◌, IfOk};
-ghost use Rattle.do_machine.specs.Context.{RunContext};
-ghost use Rattle.do_machine.specs.run.Delivery.{delivery};
-ghost use Rattle.do_machine.specs.run.Verdicts.{effect_of};
+ghost use Rattle.do_machine.specs.{Context.RunContext, run.{Delivery.delivery, Verdicts.effect_of}};
 ghost use Rattle.do_network.specs.Own.{site_context};
 ghost use Rattle.do_effects.specs.Plans.{plan_effect};
-ghost use Rattle.do_site.specs.Plans.{IsTurnOf};
-ghost use Rattle.do_site.specs.Running.{IsOver};
+ghost use Rattle.do_site.specs.{Plans.IsTurnOf, Running.IsOver};
 
 use crate::ground::Ground;
 use do_base::{Exc, Locals, Oid, Value, Values};

@@ -1,7 +1,6 @@
 //! Room that is made before a step changes anything.
 ghost use Rattle.std.specs.Prelude.{◌≡◌, ◌≤◌, ◌+◌, IfSome, OnOk, length, vec_capacity};
-ghost use Rattle.do_site.specs.Room.{HasPlace, HasPlaces};
-ghost use Rattle.do_site.specs.Steps.{IsSame};
+ghost use Rattle.do_site.specs.{Room.{HasPlace, HasPlaces}, Steps.IsSame};
 
 use crate::needs::Needs;
 use crate::told::Told;

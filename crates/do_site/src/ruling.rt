@@ -1,17 +1,13 @@
 //! Whether a node can do what the ruling on an item says, and how much room that takes.
-ghost use Rattle.std.specs.Prelude.{◌≡◌, IfSome, ℕ};
-ghost use Rattle.std.specs.List.{list_all};
-ghost use Rattle.do_effects.specs.Plans.{CanSendTo};
-ghost use Rattle.do_effects.specs.Room.{to_send};
-ghost use Rattle.do_effects.specs.Sends.{names_counted};
+ghost use Rattle.std.specs.{Prelude.{◌≡◌, IfSome, ℕ}, List.list_all};
+ghost use Rattle.do_effects.specs.{Plans.CanSendTo, Room.to_send, Sends.names_counted};
 ghost use Rattle.do_effects.specs.Taking.{LendsNothing, ruling_copies};
 ghost use Rattle.do_stack.specs.Answered.{values_taken};
 ghost use Rattle.do_part.specs.Names.{sizes_of, values_of};
 ghost use Rattle.do_rules.specs.Ruling.{names_in};
 ghost use Rattle.do_machine.specs.declared.item.Item.{Item as Taken};
-ghost use Rattle.do_site.specs.Plans.{AllowsItem, AllowsMessage, AllowsRuling};
-ghost use Rattle.do_site.specs.Plans.{IsEnough, is_no_lend};
-ghost use Rattle.do_site.specs.Stored.{Tallies};
+ghost use Rattle.do_site.specs.Plans.{AllowsItem, AllowsMessage, AllowsRuling, IsEnough};
+ghost use Rattle.do_site.specs.{Plans.is_no_lend, Stored.Tallies};
 
 use crate::allowing::names_sent;
 use crate::needs::Needs;

@@ -1,15 +1,11 @@
 //! A site: what a caller sees of it.
 mod naming;
 
-ghost use Rattle.std.specs.Prelude.{◌≡◌, ◌==◌, IfOk, IsOk, OnErr, length};
-ghost use Rattle.std.specs.Result.{result_map_both};
-ghost use Rattle.do_machine.specs.State.{is_open};
-ghost use Rattle.do_machine.specs.take.Take.{can_take};
+ghost use Rattle.std.specs.{Prelude.{◌≡◌, ◌==◌, IfOk, IsOk, OnErr, length}, Result.result_map_both};
+ghost use Rattle.do_machine.specs.{State.is_open, take.Take.can_take};
 ghost use Rattle.do_net.specs.Seen.{FetchesFrame, FetchesShown, FetchesSpelled, at_rest};
 ghost use Rattle.do_net.specs.Turns.{can_act};
-ghost use Rattle.do_network.specs.Net.{opening_part};
-ghost use Rattle.do_network.specs.Site.{enabled_input};
-ghost use Rattle.do_network.specs.Snapshot.{part_line};
+ghost use Rattle.do_network.specs.{Net.opening_part, Site.enabled_input, Snapshot.part_line};
 ghost use Rattle.do_site.specs.Steps.{GivesBack, Handles, IsFetched, done_told, part_of, seen_of};
 
 use crate::listing::line;
@@ -44,8 +40,7 @@ impl<B: Behaviour + Drop> Model for Site<B> {
 
     ghost coded = { sited_code classes.the_row.coded B.code works.the_row.coded };
 
-    ghost use Rattle.do_site.specs.Kept.{IsKept};
-    ghost use Rattle.do_site.specs.Room.{CanSettle};
+    ghost use Rattle.do_site.specs.{Kept.IsKept, Room.CanSettle};
 
     ghost view = { λ s. record { table = s.table; acts = s.acts; work = s.work } };
 

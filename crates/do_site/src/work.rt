@@ -9,10 +9,8 @@ mod starting;
 mod taking;
 
 ghost use Rattle.std.specs.Prelude.{◌≡◌, OnOk};
-ghost use Rattle.do_effects.specs.Doing.{cleared, doing, moved};
-ghost use Rattle.do_effects.specs.Tidy.{IsTidy};
-ghost use Rattle.do_site.specs.Kept.{StaysBut};
-ghost use Rattle.do_site.specs.Room.{CanSettle, HasPlace, HasPlaceToLeave};
+ghost use Rattle.do_effects.specs.{Doing.{cleared, doing, moved}, Tidy.IsTidy};
+ghost use Rattle.do_site.specs.{Kept.StaysBut, Room.{CanSettle, HasPlace, HasPlaceToLeave}};
 ghost use Rattle.do_site.specs.Steps.{IsSame};
 
 use crate::needs::Needs;

@@ -1,14 +1,11 @@
 -- Of two sorted lists of rows, where the second has each key of the first, the first is no longer.
-use Rattle.std.proofs.Common.{◌≡◌, ◌+◌, ◌<◌, ◌≤◌, Bool, true, false, cond, T, List}
-use Rattle.std.proofs.Common.{[], ◌∷◌, length, Some, None, Option, refl, sym, ap, ◌∙◌, subst, arith}
+use Rattle.std.proofs.Common.{◌≡◌, ◌+◌, ◌<◌, ◌≤◌, Bool, true, false, cond, T, List, [], ◌∷◌, length}
+use Rattle.std.proofs.Common.{Some, None, Option, refl, sym, ap, ◌∙◌, subst, arith}
 use mathlib.Core.Bool.{false≢true}
-use Rattle.std.specs.Option.{is_some}
-use Rattle.std.specs.Ordering.{eq_by_cmp, is_eq, is_lt, ordering_reverse}
-use Rattle.std.specs.Cmp.{IsTotalOrder, alike_right, tied_itself}
-use Rattle.std.specs.FinMap.{find, put, is_sorted}
+use Rattle.std.specs.{Option.is_some, Ordering.{eq_by_cmp, is_eq, is_lt, ordering_reverse}}
+use Rattle.std.specs.{Cmp.{IsTotalOrder, alike_right, tied_itself}, FinMap.{find, put, is_sorted}}
 use Rattle.std.specs.FinMap.Entries.{below_all, is_sorted-put, find-put, find_tied, length-put}
-use Rattle.std.specs.declared.cmp.Ordering.{Ordering}
-use Rattle.std.specs.declared.cmp.Ordering.TheVariants.{Less, Equal, Greater}
+use Rattle.std.specs.declared.cmp.Ordering.{Ordering, TheVariants.{Less, Equal, Greater}}
 use Rattle.do_sorted.proofs.RowOrGap.{first, second, less, both, find_below, below_first}
 
 -- what is tested to tie ties

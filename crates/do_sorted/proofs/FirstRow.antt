@@ -1,11 +1,8 @@
 -- The first row from a key on, by look-ups alone.
 use Rattle.std.proofs.Common.{◌≡◌, false, cond, T, List, [], ◌∷◌, Some, None, refl, sym, ap, ◌∙◌}
-use Rattle.std.proofs.Common.{subst}
-use Rattle.std.specs.Ordering.{eq_by_cmp, is_eq, is_lt, ordering_reverse}
-use Rattle.std.specs.Cmp.{IsTotalOrder, alike_right, tied_itself}
-use Rattle.std.specs.FinMap.{find, is_sorted}
-use Rattle.std.specs.declared.cmp.Ordering.{Ordering}
-use Rattle.std.specs.declared.cmp.Ordering.TheVariants.{Less, Equal, Greater}
+use Rattle.std.{proofs.Common.subst, specs.Ordering.{eq_by_cmp, is_eq, is_lt, ordering_reverse}}
+use Rattle.std.specs.{Cmp.{IsTotalOrder, alike_right, tied_itself}, FinMap.{find, is_sorted}}
+use Rattle.std.specs.declared.cmp.Ordering.{Ordering, TheVariants.{Less, Equal, Greater}}
 use Rattle.do_sorted.specs.Rows.{first_from}
 use Rattle.do_sorted.proofs.RowOrGap.{first, second, find_below, below_first}
 

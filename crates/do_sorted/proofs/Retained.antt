@@ -1,11 +1,8 @@
 -- A loop that shows each item of a list to a test in turn, and takes out those that do not pass.
-use Rattle.std.proofs.Common.{◌≡◌, ℕ, zero, suc, ◌+◌, Bool, true, false, List, [], ◌∷◌, ◌++◌}
-use Rattle.std.proofs.Common.{take, drop, Some, None, slice_get, refl, sym, ap, subst}
-use Rattle.std.proofs.Common.{arith}
+use Rattle.std.proofs.Common.{◌≡◌, ℕ, zero, suc, ◌+◌, Bool, true, false, List, [], ◌∷◌, ◌++◌, take}
+use Rattle.std.proofs.Common.{drop, Some, None, slice_get, refl, sym, ap, subst, arith}
 use mathlib.Core.Bool.{false≢true}
-use Rattle.std.specs.Option.{is_some, unwrap_or}
-use Rattle.std.specs.List.{remove}
-use Rattle.std.specs.List.Retain.{IsFiltered}
+use Rattle.std.specs.{Option.{is_some, unwrap_or}, List.{remove, Retain.IsFiltered}}
 
 module _ {X : Type 0} where
   -- no item is where a list has one

@@ -3,17 +3,11 @@ use Rattle.std.proofs.Common.{◌≡◌, ℕ, zero, suc, ◌<◌, ◌≤◌, ◌
 use Rattle.std.proofs.Common.{List, [], ◌∷◌, length, get_or, set, Some, None, slice_get, refl, sym}
 use Rattle.std.proofs.Common.{ap, ◌∙◌, subst, arith}
 use mathlib.Core.Bool.{false≢true}
-use Rattle.std.specs.Option.{is_some}
-use Rattle.std.proofs.lemmas.Option.{get_or_from_slice_get}
-use Rattle.std.specs.List.{insert, remove}
-use Rattle.std.specs.Ordering.{is_eq, is_lt}
-use Rattle.std.specs.Cmp.{IsTotalOrder}
-use Rattle.std.specs.FinMap.{find, put, is_sorted}
-use Rattle.std.specs.FinMap.Entries.{below_all}
-use Rattle.std.specs.declared.cmp.Ordering.{Ordering}
-use Rattle.std.specs.declared.cmp.Ordering.TheVariants.{Less, Equal, Greater}
-use Rattle.do_sorted.specs.Places.{IsRowOf, IsGapFor}
-use Rattle.do_sorted.specs.Rows.{without, first_from}
+use Rattle.std.{specs.Option.is_some, proofs.lemmas.Option.get_or_from_slice_get}
+use Rattle.std.specs.{List.{insert, remove}, Ordering.{is_eq, is_lt}, Cmp.IsTotalOrder}
+use Rattle.std.specs.FinMap.{find, put, is_sorted, Entries.below_all}
+use Rattle.std.specs.declared.cmp.Ordering.{Ordering, TheVariants.{Less, Equal, Greater}}
+use Rattle.do_sorted.specs.{Places.{IsRowOf, IsGapFor}, Rows.{without, first_from}}
 
 -- of two tests that hold together, the first holds
 pub first : (a b : Bool) → T (a && b) → T a

@@ -1,13 +1,11 @@
 -- The finite map that sorted rows are, and what a change of the rows is to it.
+use Rattle.std.specs.FinMap as map
 use Rattle.std.proofs.Common.{◌≡◌, Bool, true, false, not, cond, T, List, [], None, refl, sym, ap}
 use Rattle.std.proofs.Common.{◌∙◌}
-use Rattle.std.specs.Ordering.{eq_by_cmp, is_eq}
-use Rattle.std.specs.Cmp.{IsTotalOrder, alike_right, eq_by_cmp_equiv}
-use Rattle.std.specs.FinMap as map
+use Rattle.std.specs.{Ordering.{eq_by_cmp, is_eq}, Cmp.{IsTotalOrder, alike_right, eq_by_cmp_equiv}}
 use Rattle.std.specs.FinMap.{find, put, is_sorted, IsAntisymmetric, same_map, same_entries_map}
 use Rattle.std.specs.FinMap.{entries-from_sorted, entries-insert, get-from_sorted, get-remove}
-use Rattle.std.specs.FinMap.{get-empty}
-use Rattle.std.specs.FinMap.{get-retain_keys}
+use Rattle.std.specs.FinMap.{get-empty, get-retain_keys}
 use Rattle.std.specs.FinMap.Entries.{where_key, is_sorted-put, is_sorted-where_key, find-where_key}
 use Rattle.std.specs.declared.cmp.Ordering.{Ordering}
 use Rattle.do_sorted.specs.Rows.{without}

@@ -1,6 +1,6 @@
 -- Lists of two sides and an item between them: what an edit at or behind that item is.
-use Rattle.std.proofs.Common.{◌≡◌, ℕ, zero, suc, ◌+◌, ◌<◌, List, [], ◌∷◌, ◌++◌, length}
-use Rattle.std.proofs.Common.{set, Some, slice_get, refl, ap, sym, arith, length-append}
+use Rattle.std.proofs.Common.{◌≡◌, ℕ, zero, suc, ◌+◌, ◌<◌, List, [], ◌∷◌, ◌++◌, length, set, Some}
+use Rattle.std.proofs.Common.{slice_get, refl, ap, sym, arith, length-append}
 use mathlib.Core.Bool.{false≢true}
 use Rattle.std.specs.List.{insert, remove}
 

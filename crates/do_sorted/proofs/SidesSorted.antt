@@ -1,14 +1,10 @@
 -- Sorted rows of two sides and a row between them, and where a key stands among them.
-use Rattle.std.proofs.Common.{◌≡◌, ℕ, zero, suc, ◌+◌, T, List, [], ◌∷◌, ◌++◌, length}
-use Rattle.std.proofs.Common.{ap, ◌∙◌, subst, sym, refl, arith, Result, Ok, Err, IfOk, IfErr}
-use Rattle.std.specs.Ordering.{is_lt, ordering_reverse}
-use Rattle.std.specs.Cmp.{IsTotalOrder}
-use Rattle.std.specs.FinMap.{is_sorted}
-use Rattle.std.specs.FinMap.Entries.{below_all}
-use Rattle.std.specs.declared.cmp.Ordering.{Ordering}
+use Rattle.std.proofs.Common.{◌≡◌, ℕ, zero, suc, ◌+◌, T, List, [], ◌∷◌, ◌++◌, length, ap, ◌∙◌}
+use Rattle.std.proofs.Common.{subst, sym, refl, arith, Result, Ok, Err, IfOk, IfErr}
+use Rattle.std.specs.{Ordering.{is_lt, ordering_reverse}, Cmp.IsTotalOrder, FinMap.is_sorted}
+use Rattle.std.specs.{FinMap.Entries.below_all, declared.cmp.Ordering.Ordering}
 use Rattle.std.specs.declared.cmp.Ordering.TheVariants.{Less, Equal, Greater}
-use Rattle.do_sorted.specs.Places.{IsRowOf, IsGapFor}
-use Rattle.do_sorted.proofs.RowOrGap.{first, second, less, both}
+use Rattle.do_sorted.{specs.Places.{IsRowOf, IsGapFor}, proofs.RowOrGap.{first, second, less, both}}
 
 module _ {K V : Type 0} (R : K → K → Ordering) where
   -- a key below all rows is below those before one

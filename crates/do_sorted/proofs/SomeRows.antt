@@ -1,8 +1,6 @@
 -- Sorted rows from which some are taken out.
 use Rattle.std.proofs.Common.{Bool, ℕ, zero, suc, true, false, T, List, [], ◌∷◌}
-use Rattle.std.specs.List.{items_where_true, remove}
-use Rattle.std.specs.FinMap.{is_sorted}
-use Rattle.std.specs.FinMap.Entries.{below_all}
+use Rattle.std.specs.{List.{items_where_true, remove}, FinMap.{is_sorted, Entries.below_all}}
 use Rattle.std.specs.declared.cmp.Ordering.{Ordering}
 use Rattle.do_sorted.proofs.RowOrGap.{first, second, both}
 

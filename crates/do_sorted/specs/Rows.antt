@@ -1,11 +1,8 @@
 -- The rows of a map, by rising key.
 use Rattle.std.specs.Prelude.{ℕ, ◌+◌, ◌≤◌, not, Vec, vec_len, vec_capacity, cond, List, [], ◌∷◌}
-use Rattle.std.specs.Prelude.{Some}
-use Rattle.std.specs.Prelude.{None, Option, refl, length}
+use Rattle.std.specs.Prelude.{Some, None, Option, refl, length}
 use Rattle.std.specs.Coded.{Coded, code_by, coded×, coded_ℕ, coded_list}
-use Rattle.std.specs.Ordering.{eq_by_cmp, is_lt}
-use Rattle.std.specs.List.{filter}
-use Rattle.std.specs.declared.cmp.Ordering.{Ordering}
+use Rattle.std.specs.{Ordering.{eq_by_cmp, is_lt}, List.filter, declared.cmp.Ordering.Ordering}
 
 -- the keys and their values, and how many more keys fit with no memory taken
 pub record Rows (K V : Type 0) : Type 0 where

@@ -1,7 +1,6 @@
 -- The items of a tree, and what each node knows of its size.
 use Rattle.std.specs.Prelude.{◌≡◌, ◌+◌, List, [], ◌∷◌, ◌++◌, length}
-use Rattle.do_sorted.specs.declared.tree.Node.{Node}
-use Rattle.do_sorted.specs.declared.tree.Node.TheVariants.{Leaf, Fork}
+use Rattle.do_sorted.specs.declared.tree.Node.{Node, TheVariants.{Leaf, Fork}}
 
 -- the items in order
 abbrev pub items_of : {T : Type 0} → Node T → List T

@@ -9,14 +9,9 @@ mod tree;
 
 ghost use Rattle.std.specs.Prelude.{◌≡◌, ◌+◌, ◌-◌, ◌<◌, ◌≤◌, [], length, OnOk, OnErr, IfOk, IfErr};
 ghost use Rattle.std.specs.Prelude.{IsTrue, is_some, IsSome, Some, T, if◌then◌else◌, slice_get};
-ghost use Rattle.std.specs.Option.{option_copied};
-ghost use Rattle.std.specs.Prelude.{vec_len, vec_capacity};
-ghost use Rattle.std.specs.List.{remove};
-ghost use Rattle.std.specs.List.Retain.{IsFiltered};
-ghost use Rattle.std.specs.Fn.{CalledAt};
-ghost use Rattle.std.specs.FinMap.{find, put, is_sorted};
-ghost use Rattle.do_sorted.specs.Places.{IsRowOf, IsGapFor};
-ghost use Rattle.do_sorted.specs.Rows.{without, first_from};
+ghost use Rattle.std.specs.{Prelude.{vec_len, vec_capacity}, Option.option_copied, List.remove};
+ghost use Rattle.std.specs.{List.Retain.IsFiltered, Fn.CalledAt, FinMap.{find, put, is_sorted}};
+ghost use Rattle.do_sorted.specs.{Places.{IsRowOf, IsGapFor}, Rows.{without, first_from}};
 
 use std::alloc::{AllocError, Global};
 use std::marker::Model;

@@ -21,8 +21,7 @@ enum Node<T> {
 }
 
 impl<T> Model for Tree<T> {
-    ghost use Rattle.std.specs.Prelude.{List, length};
-    ghost use Rattle.std.specs.Coded.{coded_list};
+    ghost use Rattle.std.specs.{Prelude.{List, length}, Coded.coded_list};
 
     ghost Value = { List T };
 

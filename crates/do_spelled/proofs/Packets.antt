@@ -1,14 +1,9 @@
 -- The classes of a table, and the copied objects of a packet.
 use Rattle.std.proofs.Common.{◌≡◌, ◌↔◌, ℕ, ◌≤◌, List, [], ◌∷◌, length, arith}
-use Rattle.std.specs.List.{AllByRecursion}
-use Rattle.std.proofs.lemmas.List.{length-map}
-use Rattle.do_class.specs.Class.{Class}
-use Rattle.do_class.specs.declared.packet.Copied.{Copied}
-use Rattle.do_class.specs.declared.packet.Packet.{Packet}
-use Rattle.do_coder.specs.Names.{IsName}
-use Rattle.do_coder.specs.Parts.{IsPart}
-use Rattle.do_coder.specs.Packets.{surroundings, slot_counts, most_copies, sides_of, IsCopied}
-use Rattle.do_coder.specs.Packets.{IsPacket}
+use Rattle.std.{specs.List.AllByRecursion, proofs.lemmas.List.length-map}
+use Rattle.do_class.specs.{Class.Class, declared.packet.{Copied.Copied, Packet.Packet}}
+use Rattle.do_coder.specs.{Names.IsName, Parts.IsPart, Packets.{surroundings, slot_counts}}
+use Rattle.do_coder.specs.Packets.{most_copies, sides_of, IsCopied, IsPacket}
 
 -- there are as many classes as numbers of slots
 pub class_count : (table : List Class) → length (slot_counts table) ≡ length table

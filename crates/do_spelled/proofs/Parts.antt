@@ -1,12 +1,8 @@
 -- Texts and lists that have a spelling as values of a message.
-use Rattle.std.proofs.Common.{◌≡◌, ◌↔◌, ℕ, ◌-◌, ◌<◌, ◌≤◌, List as Listed, length}
-use Rattle.std.proofs.Common.{true, sym, ◌∙◌, refl}
-use Rattle.std.proofs.Common.{arith}
-use Rattle.std.specs.Prelude.{nat_le, ◌&&◌, Bool, false}
-use Rattle.std.specs.List.{AllByRecursion}
-use Rattle.std.proofs.lemmas.Bool.Decides.{nat_tests}
-use Rattle.do_class.specs.declared.packet.Part.{Part, List}
-use Rattle.do_class.specs.declared.packet.Part.TheVariants.{Text}
+use Rattle.std.proofs.Common.{◌≡◌, ◌↔◌, ℕ, ◌-◌, ◌<◌, ◌≤◌, List as Listed, length, true, sym, ◌∙◌}
+use Rattle.std.{proofs.Common.{refl, arith}, specs.Prelude.{nat_le, ◌&&◌, Bool, false}}
+use Rattle.std.{specs.List.AllByRecursion, proofs.lemmas.Bool.Decides.nat_tests}
+use Rattle.do_class.specs.declared.packet.Part.{Part, List, TheVariants.Text}
 use Rattle.do_grammar.specs.Grammar.{IsBytes}
 use Rattle.do_coder.specs.Parts.{IsPart, is_bytes}
 use Rattle.do_coder.proofs.values.PartFacts.{fits-Text, bytes_all, list_fits, fits_list}

@@ -1,9 +1,7 @@
 //! Frames that have a spelling.
 ghost use Rattle.std.specs.Prelude.{◌↔◌, IsTrue};
-ghost use Rattle.do_coder.specs.Packets.{surroundings, IsPacket};
-ghost use Rattle.do_coder.specs.Recent.{IsSerial};
-ghost use Rattle.do_frames.specs.Exceptions.{IsExc};
-ghost use Rattle.do_frames.specs.Frames.{IsFrame, IsToken};
+ghost use Rattle.do_coder.specs.{Packets.{surroundings, IsPacket}, Recent.IsSerial};
+ghost use Rattle.do_frames.specs.{Exceptions.IsExc, Frames.{IsFrame, IsToken}};
 
 use crate::name::has_number;
 use crate::packet::has_packet;

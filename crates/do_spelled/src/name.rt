@@ -1,9 +1,7 @@
 //! Names of objects that have a spelling.
-ghost use Rattle.std.specs.Prelude.{◌↔◌, ◌≡◌, ◌<◌, ◌∷◌, [], length, IsTrue};
-ghost use Rattle.std.specs.List.{AllByRecursion};
+ghost use Rattle.std.specs.{Prelude.{◌↔◌, ◌≡◌, ◌<◌, ◌∷◌, [], length, IsTrue}, List.AllByRecursion};
 ghost use Rattle.do_grammar.specs.BesideHoles.{IsBeside};
-ghost use Rattle.do_coder.specs.Recent.{IsSerial};
-ghost use Rattle.do_coder.specs.Names.{IsName};
+ghost use Rattle.do_coder.specs.{Recent.IsSerial, Names.IsName};
 ghost use Rattle.do_coder.specs.Packets.{surroundings, sides_of, slot_counts};
 
 use crate::ranges::port_fits;

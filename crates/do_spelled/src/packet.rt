@@ -1,8 +1,6 @@
 //! Packets that have a spelling.
-ghost use Rattle.std.specs.Prelude.{◌↔◌, ◌≤◌, length, IsTrue};
-ghost use Rattle.std.specs.List.{AllByRecursion};
-ghost use Rattle.do_coder.specs.Names.{IsName};
-ghost use Rattle.do_coder.specs.Parts.{IsPart};
+ghost use Rattle.std.specs.{Prelude.{◌↔◌, ◌≤◌, length, IsTrue}, List.AllByRecursion};
+ghost use Rattle.do_coder.specs.{Names.IsName, Parts.IsPart};
 ghost use Rattle.do_coder.specs.Packets.{surroundings, sides_of, slot_counts, IsCopied, IsPacket};
 
 use crate::name::{has_class, have_names};

@@ -1,6 +1,5 @@
 //! Values of messages that have a spelling.
-ghost use Rattle.std.specs.Prelude.{◌↔◌, ◌≤◌, ◌<◌, ◌-◌, length, IsTrue};
-ghost use Rattle.std.specs.List.{AllByRecursion};
+ghost use Rattle.std.specs.{Prelude.{◌↔◌, ◌≤◌, ◌<◌, ◌-◌, length, IsTrue}, List.AllByRecursion};
 ghost use Rattle.do_grammar.specs.Grammar.{IsBytes};
 ghost use Rattle.do_coder.specs.Parts.{IsPart};
 

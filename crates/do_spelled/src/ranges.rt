@@ -1,7 +1,6 @@
 //! What the types of numbers, ports and texts give: laws alone, for which nothing is tested.
 ghost use Rattle.std.specs.Prelude.{◌≤◌, ◌<◌, ◌^◌};
-ghost use Rattle.do_grammar.specs.Grammar.{IsBytes};
-ghost use Rattle.do_grammar.specs.Num.{zigzag};
+ghost use Rattle.do_grammar.specs.{Grammar.IsBytes, Num.zigzag};
 
 use do_base::NodeId;
 

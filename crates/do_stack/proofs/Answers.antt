@@ -4,12 +4,10 @@ use Rattle.std.proofs.Common.{get_or, set, None, refl, ap, ◌∙◌, arith}
 use Rattle.do_base.specs.names.Names.{CallName}
 use Rattle.do_behave.specs.declared.invocation.Answer.{Answer}
 use Rattle.std.specs.Option.{is_some}
-use Rattle.do_behave.specs.declared.invocation.Invocation.{Invocation}
-use Rattle.do_behave.specs.declared.invocation.InvState.{InvState}
+use Rattle.do_behave.specs.declared.invocation.{Invocation.Invocation, InvState.InvState}
 use Rattle.do_behave.specs.declared.invocation.InvState.TheVariants.{Running, Below, Waits}
 use Rattle.do_behave.specs.declared.invocation.InvState.TheVariants.{Answered}
-use Rattle.do_machine.specs.run.Changes.{answered}
-use Rattle.do_machine.specs.ends.Closing.{without_answer}
+use Rattle.do_machine.specs.{run.Changes.answered, ends.Closing.without_answer}
 use Rattle.do_stack.specs.Waiting.{waits_for, asked_by, with_answer, waiting}
 use Rattle.do_stack.specs.Places.{NoneWaits, IsPlaceOf}
 

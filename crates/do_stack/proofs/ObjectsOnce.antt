@@ -1,21 +1,15 @@
 -- The objects that a value names, each once.
 use Rattle.std.proofs.Common.{◌≡◌, ℕ, ◌+◌, ◌<◌, Bool, true, false, cond, List as Listed, [], ◌∷◌}
-use Rattle.std.proofs.Common.{◌++◌}
-use Rattle.std.proofs.Common.{refl, sym, ap, ◌∙◌, arith, rules, length, get_or, drop}
-use Rattle.std.proofs.Common.{ℤ, inl, inr, ne_eqb, ◌==◌, ◌&&◌, if◌then◌else◌}
-use Rattle.std.specs.Prelude.{◌||◌}
-use Rattle.std.specs.List.{flat_map}
-use Rattle.std.proofs.lemmas.Bool.{cases_eq}
-use Rattle.std.proofs.lemmas.List.{at_drop_more}
-use Rattle.std.proofs.lemmas.List.Folds.{list_any-append}
+use Rattle.std.proofs.Common.{◌++◌, refl, sym, ap, ◌∙◌, arith, rules, length, get_or, drop, ℤ, inl}
+use Rattle.std.proofs.Common.{inr, ne_eqb, ◌==◌, ◌&&◌, if◌then◌else◌}
+use Rattle.std.specs.{Prelude.◌||◌, List.flat_map}
+use Rattle.std.proofs.lemmas.{Bool.cases_eq, List.{at_drop_more, Folds.list_any-append}}
 use Rattle.std.proofs.lemmas.List.Sums.{sum_by-cons, sum_by-append, fold-append}
-use Rattle.do_base.specs.names.Names.{ObjectName}
-use Rattle.do_base.specs.values.Values.{objects_of}
+use Rattle.do_base.specs.{names.Names.ObjectName, values.Values.objects_of}
 use Rattle.do_base.specs.declared.values.value.Value.{Value, the_lemmas}
 use Rattle.do_base.specs.declared.values.value.Value.TheVariants.{Nil, Num, Text, Obj}
 use Rattle.do_packet.specs.Met.{has_object, same_object, met, met_one}
-use Rattle.do_stack.specs.Uses.{times, CountsOnce}
-use Rattle.do_stack.proofs.UsesMove.{uses-one, objects-list}
+use Rattle.do_stack.{specs.Uses.{times, CountsOnce}, proofs.UsesMove.{uses-one, objects-list}}
 
 -- one where an object is among others
 abbrev here : ObjectName → Listed ObjectName → ℕ

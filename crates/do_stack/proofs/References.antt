@@ -1,23 +1,14 @@
 -- An object is used above 0 times exactly where it is named.
 use Rattle.std.proofs.Common.{◌≡◌, ℕ, ◌+◌, ◌<◌, Bool, true, false, cond, List as Listed, [], ◌∷◌}
-use Rattle.std.proofs.Common.{◌++◌}
-use Rattle.std.proofs.Common.{◌↔◌, refl, ap, ◌∙◌, arith, rules, map, sum_by}
-use Rattle.std.specs.Prelude.{◌||◌}
-use Rattle.std.specs.List.{list_any}
-use Rattle.std.proofs.lemmas.List.Sums.{sum_by-cons}
-use Rattle.std.proofs.lemmas.List.Folds.{list_any-append}
-use Rattle.std.proofs.lemmas.List.Concat.{flat_map-append}
-use Rattle.do_base.specs.names.Names.{ObjectName}
-use Rattle.do_base.specs.values.Values.{objects_of}
-use Rattle.do_base.specs.declared.values.value.Value.{Value, the_lemmas}
-use Rattle.do_base.specs.declared.values.value.Value.TheVariants.{Obj}
+use Rattle.std.proofs.Common.{◌++◌, ◌↔◌, refl, ap, ◌∙◌, arith, rules, map, sum_by}
+use Rattle.std.specs.{Prelude.◌||◌, List.list_any}
+use Rattle.std.proofs.lemmas.List.{Sums.sum_by-cons, Folds.list_any-append, Concat.flat_map-append}
+use Rattle.do_base.specs.{names.Names.ObjectName, values.Values.objects_of}
+use Rattle.do_base.specs.declared.values.value.Value.{Value, the_lemmas, TheVariants.Obj}
 use Rattle.do_behave.specs.declared.invocation.Invocation.{Invocation}
-use Rattle.do_machine.specs.declared.node.Node.{Node}
-use Rattle.do_machine.specs.declared.node.Stored.{Stored}
-use Rattle.do_machine.specs.State.{own}
-use Rattle.do_machine.specs.held.Kept.{is_root, is_held_up}
-use Rattle.do_machine.specs.held.Refers.{objects_in, state_values, invocation_objects}
-use Rattle.do_machine.specs.held.Refers.{stack_objects, heap_objects}
+use Rattle.do_machine.specs.{declared.node.{Node.Node, Stored.Stored}, State.own}
+use Rattle.do_machine.specs.held.{Kept.{is_root, is_held_up}, Refers.{objects_in, state_values}}
+use Rattle.do_machine.specs.held.Refers.{invocation_objects, stack_objects, heap_objects}
 use Rattle.do_packet.specs.Met.{has_object, same_object}
 use Rattle.do_stack.specs.Uses.{names, uses, invocation_values, stack_uses, CountsReferences}
 use Rattle.do_stack.specs.Uses.{heap_uses, times, CountsNode, holders, CountsHolders}

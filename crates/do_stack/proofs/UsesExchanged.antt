@@ -1,19 +1,14 @@
 -- How often objects are used once an invocation was changed.
+use Rattle.do_behave.specs.declared.act.Act.TheVariants as acts
+use Rattle.do_behave.specs.declared.change.Change.TheVariants as changes
 use Rattle.std.proofs.Common.{◌≡◌, ℕ, zero, suc, ◌+◌, cond, List, [], ◌∷◌, refl, map, arith}
 use Rattle.std.specs.Prelude.{slice_set, get_or}
-use Rattle.do_base.specs.names.Names.{ObjectName}
-use Rattle.do_base.specs.declared.values.value.Value.{Value}
+use Rattle.do_base.specs.{names.Names.ObjectName, declared.values.value.Value.Value}
 use Rattle.do_behave.specs.Changes.{IsFitting, meaning, with_set}
-use Rattle.do_behave.specs.Exchange.{set_out, act_taken, taken_by}
-use Rattle.do_behave.specs.InPlace.{after_act}
-use Rattle.do_behave.specs.declared.act.Act.{Act}
-use Rattle.do_behave.specs.declared.act.Act.TheVariants as acts
-use Rattle.do_behave.specs.declared.change.Change.{Change}
-use Rattle.do_behave.specs.declared.change.Change.TheVariants as changes
-use Rattle.do_behave.specs.declared.change.LocalSet.{LocalSet}
+use Rattle.do_behave.specs.{Exchange.{set_out, act_taken, taken_by}, InPlace.after_act}
+use Rattle.do_behave.specs.declared.{act.Act.Act, change.{Change.Change, LocalSet.LocalSet}}
 use Rattle.do_behave.specs.declared.invocation.Invocation.{Invocation}
-use Rattle.do_stack.specs.Exchange.{act_values, given, named_again}
-use Rattle.do_stack.specs.Uses.{uses}
+use Rattle.do_stack.specs.{Exchange.{act_values, given, named_again}, Uses.uses}
 use Rattle.do_stack.proofs.UsesMove.{uses-cons, uses_push}
 
 -- a value takes the place of another; past the end it stays outside

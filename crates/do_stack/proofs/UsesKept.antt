@@ -1,28 +1,20 @@
 -- How often objects are used, where invocations come to wait or are answered.
 use Rattle.std.proofs.Common.{◌≡◌, ℕ, ◌+◌, Bool, true, false, cond, List as Listed, [], ◌∷◌, ◌++◌}
-use Rattle.std.proofs.Common.{Some, map, refl, ap, arith, IsSome}
-use Rattle.std.specs.Prelude.{slice_get, ◌==◌}
-use Rattle.std.specs.Option.{is_some}
-use Rattle.std.proofs.lemmas.List.Sums.{sum_by-cons}
+use Rattle.std.{proofs.Common.{Some, map, refl, ap, arith, IsSome}, specs.Prelude.{slice_get, ◌==◌}}
+use Rattle.std.{specs.Option.is_some, proofs.lemmas.List.Sums.sum_by-cons}
 use Rattle.do_base.specs.names.Names.{ObjectName, CallName}
 use Rattle.do_base.specs.declared.values.value.Value.TheVariants.{Obj}
 use Rattle.do_base.specs.declared.events.exception.Exc.TheVariants.{ConnectionDied, TimedOut}
-use Rattle.do_behave.specs.declared.invocation.Answer.{Answer}
-use Rattle.do_behave.specs.declared.invocation.Answer.TheVariants.{Raised}
-use Rattle.do_behave.specs.declared.invocation.Invocation.{Invocation}
-use Rattle.do_behave.specs.declared.invocation.InvState.{InvState}
+use Rattle.do_behave.specs.declared.invocation.Answer.{Answer, TheVariants.Raised}
+use Rattle.do_behave.specs.declared.invocation.{Invocation.Invocation, InvState.InvState}
 use Rattle.do_behave.specs.declared.invocation.InvState.TheVariants.{Running, Below, Waits}
-use Rattle.do_behave.specs.declared.invocation.InvState.TheVariants.{Answered}
-use Rattle.do_behave.specs.declared.invocation.Waited.{Waited}
+use Rattle.do_behave.specs.declared.invocation.{InvState.TheVariants.Answered, Waited.Waited}
 use Rattle.do_machine.specs.ends.Closing.{died, without_answer}
-use Rattle.do_machine.specs.held.Refers.{answer_values, state_values}
-use Rattle.do_machine.specs.run.Changes.{answered}
+use Rattle.do_machine.specs.{held.Refers.{answer_values, state_values}, run.Changes.answered}
 use Rattle.do_stack.specs.Answered.{answer_of, top_answer, state_taken, answer_taken, values_taken}
-use Rattle.do_stack.specs.Late.{late_of, top_call}
-use Rattle.do_stack.specs.Uses.{uses, invocation_values, stack_uses}
+use Rattle.do_stack.specs.{Late.{late_of, top_call}, Uses.{uses, invocation_values, stack_uses}}
 use Rattle.do_stack.specs.Waiting.{waits_for, asked_by, waiting, with_answer, with_top}
-use Rattle.do_stack.proofs.Answers.{waits_asked}
-use Rattle.do_stack.proofs.UsesMove.{uses-cons, uses-append}
+use Rattle.do_stack.proofs.{Answers.waits_asked, UsesMove.{uses-cons, uses-append}}
 
 -- an invocation of another state uses the values of that state in place of those before
 uses-state : (o : ObjectName) (i : Invocation) (s : InvState)

@@ -1,26 +1,19 @@
 -- How often objects are used, where a list grows and where the top of a stack changes.
-use Rattle.std.proofs.Common.{◌≡◌, ℕ, ◌+◌, Bool, true, false, cond, List as Listed, []}
-use Rattle.std.proofs.Common.{◌∷◌, ◌++◌, zero, suc, append-nil, set, Some, refl, sym, ap}
-use Rattle.std.proofs.Common.{◌∙◌, arith, rules}
-use Rattle.std.specs.Prelude.{slice_get, IsSomeAnd, ◌||◌, ◌&&◌, map}
-use Rattle.std.specs.List.{flat_map}
-use Rattle.std.proofs.lemmas.List.Sums.{sum_by-cons, sum_by-append}
-use Rattle.std.proofs.lemmas.List.Folds.{list_any-append}
-use Rattle.std.proofs.lemmas.List.Concat.{flat_map-append}
-use Rattle.do_base.specs.names.Names.{ObjectName}
-use Rattle.do_base.specs.values.Values.{objects_of}
-use Rattle.do_base.specs.declared.values.value.Value.{Value, List, the_lemmas}
-use Rattle.do_behave.specs.LongerList.{FitsIn, longer, longer_at}
-use Rattle.do_behave.proofs.KnownWeights.{longer_list}
-use Rattle.do_base.specs.declared.values.value.Value.TheVariants.{Obj}
-use Rattle.do_behave.specs.InPlace.{after_act}
-use Rattle.do_behave.specs.declared.act.Act.{Act}
 use Rattle.do_behave.specs.declared.act.Act.TheVariants as acts
+use Rattle.std.proofs.Common.{◌≡◌, ℕ, ◌+◌, Bool, true, false, cond, List as Listed, [], ◌∷◌, ◌++◌}
+use Rattle.std.proofs.Common.{zero, suc, append-nil, set, Some, refl, sym, ap, ◌∙◌, arith, rules}
+use Rattle.std.specs.{Prelude.{slice_get, IsSomeAnd, ◌||◌, ◌&&◌, map}, List.flat_map}
+use Rattle.std.proofs.lemmas.List.{Sums.{sum_by-cons, sum_by-append}, Folds.list_any-append}
+use Rattle.std.proofs.lemmas.List.Concat.{flat_map-append}
+use Rattle.do_base.specs.{names.Names.ObjectName, values.Values.objects_of}
+use Rattle.do_base.specs.declared.values.value.Value.{Value, List, the_lemmas}
+use Rattle.do_behave.{specs.LongerList.{FitsIn, longer, longer_at}, proofs.KnownWeights.longer_list}
+use Rattle.do_base.specs.declared.values.value.Value.TheVariants.{Obj}
+use Rattle.do_behave.specs.{InPlace.after_act, declared.act.Act.Act}
 use Rattle.do_behave.specs.declared.invocation.Invocation.{Invocation}
 use Rattle.do_machine.specs.held.Refers.{state_values}
 use Rattle.do_packet.specs.Met.{has_object, same_object}
-use Rattle.do_stack.specs.Exchange.{some_names}
-use Rattle.do_stack.specs.Uses.{names, uses, invocation_values, stack_uses}
+use Rattle.do_stack.specs.{Exchange.some_names, Uses.{names, uses, invocation_values, stack_uses}}
 
 -- one where a value names an object
 abbrev once : ObjectName → Value → ℕ

@@ -1,14 +1,11 @@
 -- What a change puts into an invocation, and what is then used no more often for it.
 use Rattle.std.specs.Prelude.{Bool, true, false, ◌&&◌, List, [], ◌∷◌, Option, Some, None, map}
 use Rattle.std.specs.Prelude.{slice_get}
-use Rattle.do_base.specs.names.Names.{ObjectName}
-use Rattle.do_base.specs.declared.values.value.Value.{Value}
+use Rattle.do_base.specs.{names.Names.ObjectName, declared.values.value.Value.Value}
 pub use Rattle.do_behave.specs.Exchange.{taken, set_out, act_taken, taken_by, takes_memory}
 pub use Rattle.do_behave.specs.Exchange.{slots_after, act_left}
-use Rattle.do_behave.specs.declared.act.Act.{Act}
-use Rattle.do_behave.specs.declared.act.Act.TheVariants.{Step}
-use Rattle.do_behave.specs.declared.change.Change.{Change}
 use Rattle.do_behave.specs.declared.change.Change.TheVariants as changes
+use Rattle.do_behave.specs.declared.{act.Act.{Act, TheVariants.Step}, change.Change.Change}
 use Rattle.do_behave.specs.declared.invocation.Invocation.{Invocation}
 use Rattle.do_stack.specs.Uses.{names}
 

@@ -2,9 +2,7 @@
 use Rattle.std.specs.Prelude.{◌==◌, ◌&&◌, Bool, false, not, ℕ, List, Option, Some, None, filter}
 use Rattle.std.specs.Bool.{beq}
 use Rattle.do_behave.specs.declared.invocation.Waited.{Waited}
-use Rattle.do_machine.specs.Lists.{inserted}
-use Rattle.do_machine.specs.declared.node.LateCall.{LateCall}
-use Rattle.do_machine.specs.ends.TimeOut.{late_lt}
+use Rattle.do_machine.specs.{Lists.inserted, declared.node.LateCall.LateCall, ends.TimeOut.late_lt}
 use Rattle.do_machine.specs.take.Awaiting.{AnsweredCall, is_for_root}
 
 -- the late calls by rising number, and how many more fit with no memory taken

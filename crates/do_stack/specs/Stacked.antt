@@ -1,8 +1,6 @@
 -- What contracts see of a stack.
-use Rattle.std.specs.Prelude.{ℕ, min, ◌-◌, List}
-use Rattle.std.specs.VecDeque.{deque_len, deque_capacity}
-use Rattle.std.specs.declared.collections.VecDeque.{VecDeque}
-use Rattle.std.specs.declared.alloc.Global.{Global}
+use Rattle.std.specs.{Prelude.{ℕ, min, ◌-◌, List}, VecDeque.{deque_len, deque_capacity}}
+use Rattle.std.specs.declared.{collections.VecDeque.VecDeque, alloc.Global.Global}
 use Rattle.do_behave.specs.declared.invocation.Invocation.{Invocation}
 use Rattle.do_machine.specs.declared.node.LateCall.{LateCall}
 use Rattle.do_stack.specs.LateCalls.{Kept}

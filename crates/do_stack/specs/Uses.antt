@@ -1,16 +1,11 @@
 -- How often objects are used: once for each value that names them.
 use Rattle.std.specs.Prelude.{◌≡◌, ◌<◌, ◌↔◌, ◌+◌, ℕ, Bool, true, cond, List, [], ◌∷◌, ◌++◌, map}
 use Rattle.std.specs.Prelude.{sum_by}
-use Rattle.do_base.specs.names.Names.{ObjectName}
-use Rattle.do_base.specs.values.Values.{objects_of}
-use Rattle.do_base.specs.declared.values.value.Value.{Value}
-use Rattle.do_base.specs.declared.values.value.Value.TheVariants.{Obj}
+use Rattle.do_base.specs.{names.Names.ObjectName, values.Values.objects_of}
+use Rattle.do_base.specs.declared.values.value.Value.{Value, TheVariants.Obj}
 use Rattle.do_behave.specs.declared.invocation.Invocation.{Invocation}
-use Rattle.do_machine.specs.declared.node.Node.{Node}
-use Rattle.do_machine.specs.declared.node.Stored.{Stored}
-use Rattle.do_machine.specs.State.{own}
-use Rattle.do_machine.specs.held.Kept.{is_root, stays}
-use Rattle.do_machine.specs.held.Refers.{state_values, stack_objects, node_objects}
+use Rattle.do_machine.specs.{declared.node.{Node.Node, Stored.Stored}, State.own, held.Kept.is_root}
+use Rattle.do_machine.specs.held.{Kept.stays, Refers.{state_values, stack_objects, node_objects}}
 use Rattle.do_packet.specs.Met.{has_object, same_object, met}
 
 -- a value names an object, however often

@@ -2,13 +2,10 @@
 use Rattle.std.specs.Prelude.{ℕ, Bool, false, ◌&&◌, ◌==◌, List, [], ◌∷◌, Option, Some, None}
 use Rattle.std.specs.Prelude.{if◌then◌else◌}
 use Rattle.do_base.specs.names.Names.{CallName}
-use Rattle.do_behave.specs.declared.invocation.Answer.{Answer}
-use Rattle.do_behave.specs.declared.invocation.Invocation.{Invocation}
-use Rattle.do_behave.specs.declared.invocation.InvState.{InvState}
-use Rattle.do_behave.specs.declared.invocation.InvState.TheVariants.{Waits}
+use Rattle.do_behave.specs.declared.invocation.{Answer.Answer, Invocation.Invocation}
+use Rattle.do_behave.specs.declared.invocation.InvState.{InvState, TheVariants.Waits}
 use Rattle.do_behave.specs.declared.invocation.Waited.{Waited}
-use Rattle.do_machine.specs.Lists.{change_first}
-use Rattle.do_machine.specs.run.Changes.{answered}
+use Rattle.do_machine.specs.{Lists.change_first, run.Changes.answered}
 
 -- two names are of one call
 abbrev pub same_call : CallName → CallName → Bool

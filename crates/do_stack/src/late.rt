@@ -21,11 +21,8 @@ pub struct LateCalls {
 }
 
 impl Model for LateCalls {
-    ghost use Rattle.std.specs.Prelude.{T, map};
-    ghost use Rattle.std.specs.Coded.{codes};
-    ghost use Rattle.std.specs.Ordering.{nat_cmp};
-    ghost use Rattle.std.specs.FinMap.{is_sorted};
     ghost use Rattle.do_machine.specs.contracts.node.LateCall as call;
+    ghost use Rattle.std.specs.{Prelude.{T, map}, Coded.codes, Ordering.nat_cmp, FinMap.is_sorted};
     ghost use Rattle.do_stack.specs.LateCalls.{Kept, call_of};
 
     ghost Value = { Kept };

@@ -1,7 +1,6 @@
 //! The objects that a value names, each once: a use for each is counted where the value comes to
 //! stand, and taken off where it is taken out.
-ghost use Rattle.std.specs.Prelude.{◌≡◌, [], OnOk, IfOk};
-ghost use Rattle.std.specs.List.{flat_map};
+ghost use Rattle.std.specs.{Prelude.{◌≡◌, [], OnOk, IfOk}, List.flat_map};
 ghost use Rattle.do_base.specs.values.Values.{objects_of};
 ghost use Rattle.do_packet.specs.Met.{has_object, met, met_one};
 ghost use Rattle.do_stack.specs.Uses.{named_once};

@@ -5,16 +5,12 @@ mod steps;
 
 ghost use Rattle.std.specs.Prelude.{◌≡◌, ◌+◌, ◌-◌, ◌<◌, ◌≤◌, ◌∷◌, [], length, OnOk, OnErr, IfOk};
 ghost use Rattle.std.specs.Prelude.{IfErr, IsOk, MatchOption, Some, None, slice_get, cond, List};
-ghost use Rattle.std.specs.Prelude.{IfSome, false};
-ghost use Rattle.std.specs.Option.{option_copied};
-ghost use Rattle.do_base.specs.names.Names.{ObjectName};
-ghost use Rattle.do_base.specs.declared.values.value.Value.{Value};
-ghost use Rattle.do_behave.specs.Changes.{IsFitting, meaning};
-ghost use Rattle.do_behave.specs.InPlace.{after_act};
+ghost use Rattle.std.specs.{Prelude.{IfSome, false}, Option.option_copied};
+ghost use Rattle.do_base.specs.{names.Names.ObjectName, declared.values.value.Value.Value};
+ghost use Rattle.do_behave.specs.{Changes.{IsFitting, meaning}, InPlace.after_act};
 ghost use Rattle.do_behave.specs.declared.invocation.Invocation.{Invocation};
-ghost use Rattle.do_stack.specs.Waiting.{with_top};
-ghost use Rattle.do_stack.specs.Exchange.{given, taken, named_again, slots_after, act_left};
-ghost use Rattle.do_stack.specs.Exchange.{taken_by, takes_memory};
+ghost use Rattle.do_stack.specs.{Waiting.with_top, Exchange.{given, taken, named_again}};
+ghost use Rattle.do_stack.specs.Exchange.{slots_after, act_left, taken_by, takes_memory};
 ghost use Rattle.do_stack.specs.Uses.{uses, stack_uses, invocation_values};
 
 use crate::late::LateCalls;
@@ -42,10 +38,9 @@ pub struct Stack {
 }
 
 impl Model for Stack {
-    ghost use Rattle.std.specs.Prelude.{◌≤◌, length};
-    ghost use Rattle.std.specs.Coded.{codes};
     ghost use Rattle.do_behave.specs.contracts.invocation.Invocation as one;
     ghost use Rattle.do_machine.specs.contracts.node.LateCall as call;
+    ghost use Rattle.std.specs.{Prelude.{◌≤◌, length}, Coded.codes};
     ghost use Rattle.do_stack.specs.Stacked.{Stacked, stacked_of};
 
     ghost Value = { Stacked };

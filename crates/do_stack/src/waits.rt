@@ -1,8 +1,7 @@
 //! What an invocation waits for.
 ghost use Rattle.std.specs.Prelude.{◌≡◌, map};
 ghost use Rattle.do_machine.specs.ends.Closing.{without_answer};
-ghost use Rattle.do_stack.specs.Waiting.{waits_for, asked_by};
-ghost use Rattle.do_stack.specs.Answered.{answer_of, answer_taken};
+ghost use Rattle.do_stack.specs.{Waiting.{waits_for, asked_by}, Answered.{answer_of, answer_taken}};
 ghost use Rattle.do_stack.specs.Late.{late_of};
 
 use do_base::{CallId, Exc, NodeId};

@@ -1,13 +1,11 @@
 -- What is left once dead pairs are dropped.
-use Rattle.std.proofs.Common.{◌≡◌, ℕ, ◌+◌, ◌≤◌, Bool, true, false, cond, List, [], ◌∷◌}
-use Rattle.std.proofs.Common.{◌++◌, filter, Option, Some, None, refl, ap, ◌∙◌, sym, arith}
-use Rattle.std.proofs.Common.{eqb-true, map, take, get_or, length, ◌<◌, append-nil}
+use Rattle.std.proofs.Common.{◌≡◌, ℕ, ◌+◌, ◌≤◌, Bool, true, false, cond, List, [], ◌∷◌, ◌++◌}
+use Rattle.std.proofs.Common.{filter, Option, Some, None, refl, ap, ◌∙◌, sym, arith, eqb-true, map}
+use Rattle.std.proofs.Common.{take, get_or, length, ◌<◌, append-nil}
 use Rattle.std.proofs.lemmas.List.{take_more, map-append}
 use Rattle.do_base.specs.names.Names.{ObjectName}
-use Rattle.do_store.specs.Objects.{name_of}
-use Rattle.do_store.specs.Listing.{Rising, live, live_in, listed, is_live, is_live_in}
-use Rattle.do_store.specs.declared.object.Object.{Object}
-use Rattle.do_store.specs.declared.object.Pair.{Pair}
+use Rattle.do_store.specs.{Objects.name_of, Listing.{Rising, live, live_in, listed, is_live}}
+use Rattle.do_store.specs.{Listing.is_live_in, declared.object.{Object.Object, Pair.Pair}}
 use Rattle.do_store.proofs.Listed.{rising-lower, flat_map-append}
 
 -- the items that pass a test rise with one item more

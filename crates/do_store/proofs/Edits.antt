@@ -1,16 +1,10 @@
 -- An edit of the one object with a serial.
-use Rattle.std.proofs.Common.{◌≡◌, ◌≢◌, ℕ, ◌+◌, ◌<◌, ◌≤◌}
-use Rattle.std.proofs.Common.{cond, eqb, eq-eqb, ne_eqb, List, [], ◌∷◌, ◌++◌, length, map}
-use Rattle.std.proofs.Common.{Some, None, refl, sym, ap, ◌∙◌, inl, inr}
-use Rattle.std.proofs.Common.{arith, sum_by, length-append}
-use Rattle.std.proofs.lemmas.Bool.{cases_eq}
-use Rattle.std.proofs.lemmas.List.{map-append}
+use Rattle.std.proofs.Common.{◌≡◌, ◌≢◌, ℕ, ◌+◌, ◌<◌, ◌≤◌, cond, eqb, eq-eqb, ne_eqb, List, [], ◌∷◌}
+use Rattle.std.proofs.Common.{◌++◌, length, map, Some, None, refl, sym, ap, ◌∙◌, inl, inr, arith}
+use Rattle.std.proofs.{Common.{sum_by, length-append}, lemmas.{Bool.cases_eq, List.map-append}}
 use Rattle.std.proofs.lemmas.List.Sums.{sum_by-cons, sum_by-append}
-use Rattle.do_store.specs.Objects.{stored_at, edit}
-use Rattle.do_store.specs.Names.{Stored, replaced}
-use Rattle.do_store.specs.Books.{seen}
-use Rattle.do_store.specs.Listing.{Rising, object_serial}
-use Rattle.do_store.specs.declared.object.Object.{Object}
+use Rattle.do_store.specs.{Objects.{stored_at, edit}, Names.{Stored, replaced}, Books.seen}
+use Rattle.do_store.specs.{Listing.{Rising, object_serial}, declared.object.Object.Object}
 use Rattle.do_store.proofs.Listed.{stored-here, stored-later, edit-absent}
 
 -- nothing below the least serial is stored

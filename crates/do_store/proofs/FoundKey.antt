@@ -1,11 +1,8 @@
 -- The key where an object was found, and the list once its slot is written or emptied.
-use Rattle.std.proofs.Common.{◌≡◌, ◌≢◌, ℕ}
-use Rattle.std.proofs.Common.{cond, eq-eqb, ne_eqb, List, [], ◌∷◌}
-use Rattle.std.proofs.Common.{Option, Some, None, Contains, sym, ap, ◌∙◌}
-use Rattle.do_store.specs.Objects.{stored_at}
-use Rattle.do_store.specs.Listing.{Rising, pair_serial, live_in, listed}
-use Rattle.do_store.specs.declared.object.Object.{Object}
-use Rattle.do_store.specs.declared.object.Pair.{Pair}
+use Rattle.std.proofs.Common.{◌≡◌, ◌≢◌, ℕ, cond, eq-eqb, ne_eqb, List, [], ◌∷◌, Option, Some, None}
+use Rattle.std.proofs.Common.{Contains, sym, ap, ◌∙◌}
+use Rattle.do_store.specs.{Objects.stored_at, Listing.{Rising, pair_serial, live_in, listed}}
+use Rattle.do_store.specs.declared.object.{Object.Object, Pair.Pair}
 use Rattle.do_store.proofs.Listed.{stored-found, Edited}
 
 -- the key where an object was found

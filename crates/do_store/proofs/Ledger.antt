@@ -1,20 +1,14 @@
 -- The books, after each kind of step.
-use Rattle.std.proofs.Common.{◌≡◌, ◌≢◌, ◌⊎◌, ℕ, ◌+◌, ◌<◌, ◌≤◌, Bool, true, false}
-use Rattle.std.proofs.Common.{cond, List, [], ◌∷◌, ◌++◌, length, map}
-use Rattle.std.proofs.Common.{Option, Some, IsSome, Contains, refl, sym, ap, ◌∙◌, subst, inl}
-use Rattle.std.proofs.Common.{inr, arith, sum_by, length-append, ◌↔◌}
-use Rattle.std.proofs.lemmas.Bool.{cases_eq}
-use Rattle.std.proofs.lemmas.List.{get_or_append_left, get_or_at}
+use Rattle.std.proofs.Common.{◌≡◌, ◌≢◌, ◌⊎◌, ℕ, ◌+◌, ◌<◌, ◌≤◌, Bool, true, false, cond, List, []}
+use Rattle.std.proofs.Common.{◌∷◌, ◌++◌, length, map, Option, Some, IsSome, Contains, refl, sym, ap}
+use Rattle.std.proofs.Common.{◌∙◌, subst, inl, inr, arith, sum_by, length-append, ◌↔◌}
+use Rattle.std.proofs.lemmas.{Bool.cases_eq, List.{get_or_append_left, get_or_at}}
 use Rattle.std.proofs.lemmas.List.Sums.{sum_by-cons, sum_by-append}
-use Rattle.do_store.specs.Objects.{stored_at, edit}
-use Rattle.do_store.specs.Names.{Stored, named_in}
-use Rattle.do_store.specs.Queue.{Queue}
-use Rattle.do_store.specs.Books.{Books, seen, waits}
-use Rattle.do_store.specs.Listing.{Rising, object_serial}
+use Rattle.do_store.specs.{Objects.{stored_at, edit}, Names.{Stored, named_in}, Queue.Queue}
+use Rattle.do_store.specs.{Books.{Books, seen, waits}, Listing.{Rising, object_serial}}
 use Rattle.do_store.specs.declared.object.Object.{Object}
 use Rattle.do_store.proofs.Edits.{Split, split_at, sum-edit, stored-edit_other, stored-edit_same}
-use Rattle.do_store.proofs.Edits.{stored-serial, length-edit}
-use Rattle.do_store.proofs.Listed.{stored-later}
+use Rattle.do_store.proofs.{Edits.{stored-serial, length-edit}, Listed.stored-later}
 
 -- the books hold for any pending names that are the same at stored objects
 pub books-same : (port : ℕ) (xs : List Object) (spare : ℕ) (q : Queue) (p p' : ℕ → ℕ)

@@ -1,16 +1,12 @@
 -- The listed objects, where one of the slots or one of the pairs changes.
-use Rattle.std.proofs.Common.{◌≡◌, ◌≢◌, ◌⊎◌, ℕ, zero, suc, ◌+◌, ◌<◌, ◌≤◌}
-use Rattle.std.proofs.Common.{cond, eqb, eq-eqb, ne_eqb, List, [], ◌∷◌, ◌++◌, length, get_or}
-use Rattle.std.proofs.Common.{Option, Some, None, Contains, refl, sym, ap, ◌∙◌, subst, inl, inr}
-use Rattle.std.proofs.Common.{arith, append-nil, append_assoc}
+use Rattle.std.proofs.Common.{◌≡◌, ◌≢◌, ◌⊎◌, ℕ, zero, suc, ◌+◌, ◌<◌, ◌≤◌, cond, eqb, eq-eqb, ne_eqb}
+use Rattle.std.proofs.Common.{List, [], ◌∷◌, ◌++◌, length, get_or, Option, Some, None, Contains}
+use Rattle.std.proofs.Common.{refl, sym, ap, ◌∙◌, subst, inl, inr, arith, append-nil, append_assoc}
 use Rattle.std.specs.List.{flat_map}
-use Rattle.std.proofs.lemmas.Bool.{cases_eq, cases_order}
-use Rattle.std.proofs.lemmas.List.{get_or_default}
+use Rattle.std.proofs.lemmas.{Bool.{cases_eq, cases_order}, List.get_or_default}
 use Rattle.slab.proofs.SlabLemmas.{Contains-cons_cases, Contains-cons}
-use Rattle.do_store.specs.Objects.{stored_at, edit}
-use Rattle.do_store.specs.Listing.{Rising, pair_serial, live, live_in, listed}
-use Rattle.do_store.specs.declared.object.Object.{Object}
-use Rattle.do_store.specs.declared.object.Pair.{Pair}
+use Rattle.do_store.specs.{Objects.{stored_at, edit}, Listing.{Rising, pair_serial, live, live_in}}
+use Rattle.do_store.specs.{Listing.listed, declared.object.{Object.Object, Pair.Pair}}
 
 module _ {X : Type 0} (key : X → ℕ) where
   -- a rising list rises from a lower bound too

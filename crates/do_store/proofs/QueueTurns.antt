@@ -1,20 +1,14 @@
 -- The books once the first of the queue was passed over, found busy or taken out.
-use Rattle.std.proofs.Common.{◌≡◌, ◌≢◌, ℕ, ◌+◌, ◌<◌, ◌≤◌, Bool, true, false}
-use Rattle.std.proofs.Common.{cond, List, [], ◌∷◌, length, map}
-use Rattle.std.proofs.Common.{Some, None, Contains, refl, sym, ap, ◌∙◌, subst}
-use Rattle.std.proofs.Common.{inl, inr, arith, sum_by}
-use Rattle.std.proofs.lemmas.Bool.{cases_eq}
+use Rattle.std.proofs.Common.{◌≡◌, ◌≢◌, ℕ, ◌+◌, ◌<◌, ◌≤◌, Bool, true, false, cond, List, [], ◌∷◌}
+use Rattle.std.proofs.Common.{length, map, Some, None, Contains, refl, sym, ap, ◌∙◌, subst, inl}
+use Rattle.std.proofs.{Common.{inr, arith, sum_by}, lemmas.Bool.cases_eq}
 use Rattle.slab.proofs.SlabLemmas.{Contains-cons_cases}
 use Rattle.do_store.specs.Objects.{stored_at, edit}
-use Rattle.do_store.specs.Names.{Stored, named_in, values_name, find_stored}
-use Rattle.do_store.specs.Queue.{Queue}
-use Rattle.do_store.specs.Books.{Books, seen, waits}
-use Rattle.do_store.specs.Listing.{Rising, object_serial}
-use Rattle.do_store.specs.declared.object.Object.{Object}
-use Rattle.do_store.proofs.Edits.{split_at, sum-edit, stored-edit_other, stored-edit_gone}
-use Rattle.do_store.proofs.Edits.{stored-serial, length-edit}
-use Rattle.do_store.proofs.Ledger.{named-seen, books-written, wrote}
-use Rattle.do_store.proofs.Turns.{behind, some_is}
+use Rattle.do_store.specs.{Names.{Stored, named_in, values_name, find_stored}, Queue.Queue}
+use Rattle.do_store.specs.{Books.{Books, seen, waits}, Listing.{Rising, object_serial}}
+use Rattle.do_store.{specs.declared.object.Object.Object, proofs.Edits.{split_at, sum-edit}}
+use Rattle.do_store.proofs.Edits.{stored-edit_other, stored-edit_gone, stored-serial, length-edit}
+use Rattle.do_store.proofs.{Ledger.{named-seen, books-written, wrote}, Turns.{behind, some_is}}
 
 -- the first of the queue is taken
 pub record Taken (q q' : Queue) (n : ℕ) : Type 0 where

@@ -1,14 +1,8 @@
 -- Steps that count names: none, one after the other, and the same names in other words.
-use Rattle.std.proofs.Common.{◌≡◌, ◌≢◌, ℕ, ◌+◌}
-use Rattle.std.proofs.Common.{cond, eqb, eq-eqb, ne_eqb, map}
-use Rattle.std.proofs.Common.{refl, sym, ap, ◌∙◌}
+use Rattle.std.proofs.Common.{◌≡◌, ◌≢◌, ℕ, ◌+◌, cond, eqb, eq-eqb, ne_eqb, map, refl, sym, ap, ◌∙◌}
 use Rattle.std.proofs.Common.{arith}
-use Rattle.do_store.specs.Objects.{Stock}
-use Rattle.do_store.specs.Names.{named_in}
-use Rattle.do_store.specs.Queue.{Queue}
-use Rattle.do_store.specs.Books.{seen}
-use Rattle.do_store.specs.Steps.{Raises, Lowers}
-use Rattle.do_store.proofs.Ledger.{books-same}
+use Rattle.do_store.specs.{Objects.Stock, Names.named_in, Queue.Queue, Books.seen}
+use Rattle.do_store.{specs.Steps.{Raises, Lowers}, proofs.Ledger.books-same}
 
 -- nothing is raised by no names
 pub raises-none : (port : ℕ) (a : Stock) (names : ℕ → ℕ) → ((n : ℕ) → names n ≡ 0)

@@ -1,16 +1,12 @@
 -- The books after an object was added or a slot written.
-use Rattle.std.proofs.Common.{◌≡◌, ◌≢◌, ◌⊎◌, ℕ, ◌+◌, ◌<◌, true}
-use Rattle.std.proofs.Common.{cond, eq-eqb, ne_eqb, List, [], ◌∷◌, ◌++◌, length, map, get_or}
-use Rattle.std.proofs.Common.{set, Option, Some, None, IsSome, Contains, refl, sym, ap, ◌∙◌, subst}
-use Rattle.std.proofs.Common.{inl, inr, arith, length-append}
-use Rattle.std.proofs.lemmas.Bool.{cases_eq}
-use Rattle.std.proofs.lemmas.List.Sums.{sum_by-cons, sum_by-append, sum_by-set}
+use Rattle.std.proofs.Common.{◌≡◌, ◌≢◌, ◌⊎◌, ℕ, ◌+◌, ◌<◌, true, cond, eq-eqb, ne_eqb, List, [], ◌∷◌}
+use Rattle.std.proofs.Common.{◌++◌, length, map, get_or, set, Option, Some, None, IsSome, Contains}
+use Rattle.std.proofs.Common.{refl, sym, ap, ◌∙◌, subst, inl, inr, arith, length-append}
+use Rattle.std.proofs.lemmas.{Bool.cases_eq, List.Sums.{sum_by-cons, sum_by-append, sum_by-set}}
 use Rattle.do_base.specs.declared.values.value.Value.{Value}
 use Rattle.do_store.specs.Objects.{stored_at, edit}
 use Rattle.do_store.specs.Names.{Stored, named_in, values_name, value_names, find_stored, replaced}
-use Rattle.do_store.specs.Queue.{Queue}
-use Rattle.do_store.specs.Books.{Books, seen, waits}
-use Rattle.do_store.specs.Listing.{Rising, object_serial}
+use Rattle.do_store.specs.{Queue.Queue, Books.{Books, seen, waits}, Listing.{Rising, object_serial}}
 use Rattle.do_store.specs.declared.object.Object.{Object}
 use Rattle.do_store.proofs.Edits.{split_at, seen-edit, sum-edit, stored-edit_other}
 use Rattle.do_store.proofs.Edits.{stored-edit_same, stored-serial, stored-above, length-edit}

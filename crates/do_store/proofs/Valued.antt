@@ -1,14 +1,10 @@
 -- What a value of each kind names.
-use Rattle.std.proofs.Common.{◌≡◌, ◌≢◌, ℕ, ◌+◌, cond, eqb, eq-eqb, ne_eqb, ◌&&◌}
-use Rattle.std.proofs.Common.{List as Listed, [], ◌∷◌, take, get_or, length, sum, map, rules}
-use Rattle.std.proofs.Common.{ap, ◌∙◌, refl, arith, ◌<◌, sum_by}
-use Rattle.std.proofs.lemmas.List.{take_more}
-use Rattle.std.proofs.lemmas.List.Sums.{sum_by-cons, sum_by-append}
+use Rattle.std.proofs.Common.{◌≡◌, ◌≢◌, ℕ, ◌+◌, cond, eqb, eq-eqb, ne_eqb, ◌&&◌, List as Listed, []}
+use Rattle.std.proofs.Common.{◌∷◌, take, get_or, length, sum, map, rules, ap, ◌∙◌, refl, arith, ◌<◌}
+use Rattle.std.proofs.{Common.sum_by, lemmas.List.{take_more, Sums.{sum_by-cons, sum_by-append}}}
 use Rattle.do_base.specs.names.Names.{ObjectName}
-use Rattle.do_base.specs.declared.values.value.Value.{Value, List, the_lemmas}
-use Rattle.do_base.specs.declared.values.value.Value.TheVariants.{Obj}
-use Rattle.do_store.specs.Names.{value_names, values_name}
-use Rattle.do_store.proofs.StepsInARow.{once}
+use Rattle.do_base.specs.declared.values.value.Value.{Value, List, the_lemmas, TheVariants.Obj}
+use Rattle.do_store.{specs.Names.{value_names, values_name}, proofs.StepsInARow.once}
 
 -- a name counts once for its object
 pub names-Obj : (port n : ℕ) (o : ObjectName)

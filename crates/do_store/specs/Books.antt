@@ -1,10 +1,8 @@
 -- What holds of the counts and of the queue, between the steps of the store.
-use Rattle.std.specs.Prelude.{◌≡◌, ℕ, ◌+◌, ◌<◌, ◌≤◌, true, cond, List, Some}
-use Rattle.std.specs.Prelude.{map, length, sum_by, Contains, IsSome}
-use Rattle.do_store.specs.Objects.{stored_at, Stock}
-use Rattle.do_store.specs.Queue.{Queue}
-use Rattle.do_store.specs.Names.{Stored, named_in, Objects}
-use Rattle.do_store.specs.declared.object.Object.{Object}
+use Rattle.std.specs.Prelude.{◌≡◌, ℕ, ◌+◌, ◌<◌, ◌≤◌, true, cond, List, Some, map, length, sum_by}
+use Rattle.std.specs.Prelude.{Contains, IsSome}
+use Rattle.do_store.specs.{Objects.{stored_at, Stock}, Queue.Queue}
+use Rattle.do_store.specs.{Names.{Stored, named_in, Objects}, declared.object.Object.Object}
 
 -- what a caller sees of an object
 abbrev pub seen : Object → Stored

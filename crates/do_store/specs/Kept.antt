@@ -1,6 +1,6 @@
 -- What is left once nothing more can be taken out.
-use Rattle.std.specs.Prelude.{◌≡◌, ◌≢◌, ◌⊎◌, ℕ, ◌<◌, List, [], Some, Contains, IsSome}
-use Rattle.std.specs.Prelude.{is_some, Bool, true}
+use Rattle.std.specs.Prelude.{◌≡◌, ◌≢◌, ◌⊎◌, ℕ, ◌<◌, List, [], Some, Contains, IsSome, is_some}
+use Rattle.std.specs.Prelude.{Bool, true}
 use Rattle.do_store.specs.Names.{Stored, named_in, values_name, find_stored, replaced}
 
 -- each of these serials is stored, and held from outside or named by a slot of one of these

@@ -1,12 +1,9 @@
 -- How the objects lie in a slab, and the pairs that lead to them.
 use Rattle.std.specs.Prelude.{ℕ, ◌+◌, ◌≤◌, Bool, false, cond, eqb, List, [], ◌∷◌, Option, Some}
-use Rattle.std.specs.Prelude.{None, Vec, vec_len, vec_capacity}
-use Rattle.std.specs.List.{flat_map}
+use Rattle.std.specs.{Prelude.{None, Vec, vec_len, vec_capacity}, List.flat_map}
 use Rattle.std.specs.declared.alloc.Global.{Global}
 use Rattle.slab.specs.Slab.{Slab, get, slab_len}
-use Rattle.do_store.specs.Objects.{Stock}
-use Rattle.do_store.specs.declared.object.Object.{Object}
-use Rattle.do_store.specs.declared.object.Pair.{Pair}
+use Rattle.do_store.specs.{Objects.Stock, declared.object.{Object.Object, Pair.Pair}}
 
 -- the keys rise, from the first bound on and below the last
 abbrev pub Rising : {X : Type 0} → (X → ℕ) → ℕ → List X → ℕ → Type 0

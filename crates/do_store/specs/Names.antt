@@ -1,9 +1,7 @@
 -- The stored objects as a caller sees them, and how often slots name one.
-use Rattle.std.specs.Prelude.{ℕ, ◌<◌, cond, eqb, ◌&&◌, List, [], ◌∷◌, Option, Some}
-use Rattle.std.specs.Prelude.{None, sum, sum_by, IsSome}
-use Rattle.std.specs.List.{flat_map}
-use Rattle.do_base.specs.declared.values.value.Value.{Value, fold-Value}
-use Rattle.do_base.specs.declared.values.value.Value.TheOpen.{Value-F}
+use Rattle.std.specs.Prelude.{ℕ, ◌<◌, cond, eqb, ◌&&◌, List, [], ◌∷◌, Option, Some, None, sum}
+use Rattle.std.specs.{Prelude.{sum_by, IsSome}, List.flat_map}
+use Rattle.do_base.specs.declared.values.value.Value.{Value, fold-Value, TheOpen.Value-F}
 use Rattle.do_base.specs.names.Names.{ObjectName}
 use Rattle.do_class.specs.declared.ids.ClassId.{ClassId}
 

@@ -1,7 +1,5 @@
 -- The stored objects as a list by rising serial.
-use Rattle.std.specs.Prelude.{ℕ, cond, eqb, List, [], ◌∷◌}
-use Rattle.std.specs.Prelude.{Option, Some, None}
-use Rattle.std.specs.List.{flat_map}
+use Rattle.std.specs.{Prelude.{ℕ, cond, eqb, List, [], ◌∷◌, Option, Some, None}, List.flat_map}
 use Rattle.do_base.specs.names.Names.{ObjectName}
 use Rattle.do_store.specs.declared.object.Object.{Object}
 

@@ -1,9 +1,6 @@
 -- What a step that counts names leaves.
 use Rattle.std.specs.Prelude.{◌≡◌, ℕ, ◌+◌, ◌<◌, ◌^◌, map}
-use Rattle.do_store.specs.Objects.{Stock}
-use Rattle.do_store.specs.Queue.{Queue}
-use Rattle.do_store.specs.Names.{named_in}
-use Rattle.do_store.specs.Books.{Books, seen}
+use Rattle.do_store.specs.{Objects.Stock, Queue.Queue, Names.named_in, Books.{Books, seen}}
 
 -- these names are counted besides, where each object that is named has room for them
 pub record Raises (port : ℕ) (old new : Stock) (names : ℕ → ℕ) : Type 0 where

@@ -1,12 +1,9 @@
 //! The counts of names, raised and lowered along a value.
 ghost use Rattle.std.specs.Prelude.{◌≡◌, ◌≢◌, ◌∷◌, [], ◌+◌, ◌<◌, ◌^◌, ◌↔◌, ◌-◌, ℕ, IsTrue, Some};
 ghost use Rattle.std.specs.Prelude.{map, false, cond, eqb, sum_by, min};
-ghost use Rattle.do_store.specs.Objects.{stored_at};
-ghost use Rattle.do_store.specs.Names.{value_names, values_name, named_in, replaced};
-ghost use Rattle.do_store.specs.Books.{Books, seen};
-ghost use Rattle.do_store.specs.Steps.{Raises, Lowers};
-ghost use Rattle.do_store.specs.Listing.{Rising, object_serial};
-ghost use Rattle.do_store.specs.declared.object.Object.{Object};
+ghost use Rattle.do_store.specs.{Objects.stored_at, Names.{value_names, values_name, named_in}};
+ghost use Rattle.do_store.specs.{Names.replaced, Books.{Books, seen}, Steps.{Raises, Lowers}};
+ghost use Rattle.do_store.specs.{Listing.{Rising, object_serial}, declared.object.Object.Object};
 
 use crate::table::Table;
 use crate::waiting::Waiting;

@@ -3,8 +3,7 @@ ghost use Rattle.std.specs.Prelude.{◌≡◌, ◌≢◌, [], ◌∷◌, ◌++�
 ghost use Rattle.std.specs.Prelude.{MatchOption, Some, None, Contains, vec_len, vec_capacity};
 ghost use Rattle.std.specs.Prelude.{filter};
 ghost use Rattle.slab.specs.Slab.{get};
-ghost use Rattle.do_store.specs.Listing.{Rising, pair_serial, listed, is_live};
-ghost use Rattle.do_store.specs.Objects.{stored_at};
+ghost use Rattle.do_store.specs.{Listing.{Rising, pair_serial, listed, is_live}, Objects.stored_at};
 
 use crate::object::{Object, Pair};
 use slab::Slab;

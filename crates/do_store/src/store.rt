@@ -6,8 +6,7 @@ mod writing;
 ghost use Rattle.std.specs.Prelude.{◌≡◌, ◌≢◌, [], ◌+◌, ◌<◌, ◌≤◌, ◌^◌, length, IfOk, OnOk, IsNone};
 ghost use Rattle.std.specs.Prelude.{MatchOption, Some, None, map};
 ghost use Rattle.do_store.specs.Names.{Stored, find_stored, named_in, stored_name};
-ghost use Rattle.do_store.specs.Books.{Books, seen};
-ghost use Rattle.do_store.specs.Listing.{Rising};
+ghost use Rattle.do_store.specs.{Books.{Books, seen}, Listing.Rising};
 
 use crate::object::Object;
 use crate::table::Table;
@@ -41,8 +40,8 @@ pub struct Freed {
 }
 
 impl Model for Store {
-    ghost use Rattle.std.specs.Coded.{codes};
     ghost use Rattle.do_base.specs.contracts.values.value.Value as value;
+    ghost use Rattle.std.specs.Coded.{codes};
     ghost use Rattle.do_store.specs.Names.{Objects};
 
     ghost Value = { Objects };

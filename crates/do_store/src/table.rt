@@ -1,7 +1,6 @@
 //! The stored objects by rising serial, in slots that are used again.
 ghost use Rattle.std.specs.Prelude.{◌≡◌, [], ◌∷◌, ◌++◌, ◌+◌, ◌<◌, ◌≤◌, ◌^◌, length, slice_get};
-ghost use Rattle.std.specs.Prelude.{slice_set, IfOk, OnOk, Some, max, map};
-ghost use Rattle.std.specs.Option.{option_copied};
+ghost use Rattle.std.specs.{Prelude.{slice_set, IfOk, OnOk, Some, max, map}, Option.option_copied};
 ghost use Rattle.do_store.specs.Listing.{Rising, object_serial};
 ghost use Rattle.do_store.specs.Objects.{stored_at, edit, name_of};
 
@@ -25,9 +24,9 @@ pub struct Table {
 }
 
 impl Model for Table {
+    ghost use Rattle.do_base.specs.contracts.values.value.Value as value;
     ghost use Rattle.do_store.specs.Objects.{Stock};
     ghost use Rattle.std.specs.Coded.{codes};
-    ghost use Rattle.do_base.specs.contracts.values.value.Value as value;
 
     ghost Value = { Stock };
 

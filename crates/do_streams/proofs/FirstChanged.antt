@@ -1,8 +1,7 @@
 -- The first element that passes: where it stands, and what comes of changing it.
-use Rattle.std.proofs.Common.{◌≡◌, ℕ, suc, Bool, true, false, cond, List, [], ◌∷◌}
-use Rattle.std.proofs.Common.{Option, Some, None, refl, ap, sym, ◌∙◌, subst, arith, map}
-use Rattle.std.specs.Prelude.{slice_get, slice_set}
-use Rattle.std.specs.List.{find, position, position_or_len}
+use Rattle.std.proofs.Common.{◌≡◌, ℕ, suc, Bool, true, false, cond, List, [], ◌∷◌, Option, Some}
+use Rattle.std.proofs.Common.{None, refl, ap, sym, ◌∙◌, subst, arith, map}
+use Rattle.std.specs.{Prelude.{slice_get, slice_set}, List.{find, position, position_or_len}}
 use Rattle.std.proofs.lemmas.Grind.{common_steps}
 use Rattle.do_machine.specs.Lists.{change_first}
 

@@ -1,25 +1,16 @@
 -- Frames that are sent in their order, and what the oldest of them is.
-use Rattle.std.proofs.Common.{◌≡◌, ℕ, Bool, true, false, cond, List, [], ◌∷◌, ◌++◌, map}
-use Rattle.std.proofs.Common.{Some, Option, refl, ap, sym, ◌∙◌, append_assoc}
-use Rattle.std.proofs.Common.{◌==◌}
-use Rattle.std.specs.Prelude.{slice_get, slice_set, fold}
-use Rattle.std.specs.List.{position}
-use Rattle.std.proofs.lemmas.Bool.{eqb-true}
-use Rattle.std.proofs.lemmas.List.{map-append}
-use Rattle.do_frames.specs.declared.frame.Frame.{Frame}
-use Rattle.do_frames.specs.Frames.{after_frame, raw}
-use Rattle.do_network.specs.Frames.{Posted}
-use Rattle.do_network.specs.Links.{Framed, Greeting, Link, Outbox, Piece, Sending, all_sent}
-use Rattle.do_network.specs.Links.{change_link, link_to, sending, sendings}
-use Rattle.do_streams.specs.declared.end.End.{End}
-use Rattle.do_streams.specs.declared.end.Outgoing.{Outgoing}
-use Rattle.do_streams.specs.declared.spelled.Spelled.{Spelled}
+use Rattle.std.proofs.Common.{◌≡◌, ℕ, Bool, true, false, cond, List, [], ◌∷◌, ◌++◌, map, Some}
+use Rattle.std.proofs.Common.{Option, refl, ap, sym, ◌∙◌, append_assoc, ◌==◌}
+use Rattle.std.specs.{Prelude.{slice_get, slice_set, fold}, List.position}
+use Rattle.std.proofs.lemmas.{Bool.eqb-true, List.map-append}
+use Rattle.do_frames.specs.{declared.frame.Frame.Frame, Frames.{after_frame, raw}}
+use Rattle.do_network.specs.{Frames.Posted, Links.{Framed, Greeting, Link, Outbox, Piece, Sending}}
+use Rattle.do_network.specs.Links.{all_sent, change_link, link_to, sending, sendings}
+use Rattle.do_streams.specs.declared.{end.{End.End, Outgoing.Outgoing}, spelled.Spelled.Spelled}
 use Rattle.do_streams.specs.Streamed.{link_of, outbox, outbox_of, posted_of, spelled_first}
-use Rattle.do_streams.specs.Streamed.{streamed_of}
-use Rattle.do_streams.specs.Waits.{Waits}
-use Rattle.do_streams.proofs.FirstChanged.{change_again, change_found, found_at}
-use Rattle.do_streams.proofs.FirstChanged.{found_changed, found_mapped, found_passes}
-use Rattle.do_streams.proofs.FirstChanged.{put_first, put_mapped}
+use Rattle.do_streams.specs.{Streamed.streamed_of, Waits.Waits}
+use Rattle.do_streams.proofs.FirstChanged.{change_again, change_found, found_at, found_changed}
+use Rattle.do_streams.proofs.FirstChanged.{found_mapped, found_passes, put_first, put_mapped}
 
 -- the same is sent behind what was sent before
 pub sent_behind : (links : List Link) (a b : List Sending) (xs : List Posted) →

@@ -1,32 +1,21 @@
 -- What a reader of a payload answers is what is read.
-use Rattle.std.proofs.Common.{◌≡◌, ℕ, true, false, cond, List, length, refl, ap, sym, ◌∙◌}
-use Rattle.std.proofs.Common.{subst}
-use Rattle.std.proofs.Common.{Some, None, Option, Ok, Err, Result, ◌==◌}
-use Rattle.std.proofs.lemmas.Bool.{eqb-true}
-use Rattle.std.specs.List.{AllByRecursion}
-use Rattle.do_class.specs.Class.{Class}
-use Rattle.do_class.specs.Table.{IsTable}
-use Rattle.do_coder.specs.declared.recent.pair.Pair.{Pair}
-use Rattle.do_coder.specs.Packets.{Surroundings, surroundings}
-use Rattle.do_coder.specs.Recent.{IsKnown, IsRecent}
-use Rattle.do_frames.specs.declared.fault.RawFault.{RawFault}
-use Rattle.do_frames.specs.declared.fault.RawFault.TheVariants.{BadFrame, Memory}
-use Rattle.do_frames.specs.declared.frame.Frame.{Frame}
-use Rattle.do_frames.specs.declared.frame.RawFrame.{RawFrame}
 use Rattle.do_frames.specs.declared.frame.Frame.TheVariants as frames
-use Rattle.do_frames.specs.declared.kind.Kind.{Kind}
 use Rattle.do_frames.specs.declared.kind.Kind.TheVariants as kinds
-use Rattle.do_frames.specs.Frames.{after_frame, kind_of}
-use Rattle.do_frames.specs.Kinds.{kind_at, kind_number}
+use Rattle.std.proofs.Common.{◌≡◌, ℕ, true, false, cond, List, length, refl, ap, sym, ◌∙◌, subst}
+use Rattle.std.proofs.{Common.{Some, None, Option, Ok, Err, Result, ◌==◌}, lemmas.Bool.eqb-true}
+use Rattle.std.specs.List.{AllByRecursion}
+use Rattle.do_class.specs.{Class.Class, Table.IsTable}
+use Rattle.do_coder.specs.{declared.recent.pair.Pair.Pair, Packets.{Surroundings, surroundings}}
+use Rattle.do_coder.specs.Recent.{IsKnown, IsRecent}
+use Rattle.do_frames.specs.declared.fault.RawFault.{RawFault, TheVariants.{BadFrame, Memory}}
+use Rattle.do_frames.specs.declared.{frame.{Frame.Frame, RawFrame.RawFrame}, kind.Kind.Kind}
+use Rattle.do_frames.specs.{Frames.{after_frame, kind_of}, Kinds.{kind_at, kind_number}}
 use Rattle.do_frames.specs.Payloads.{FindsFrame, IsBadPayload, SpellsPayload, TellsFrame}
-use Rattle.do_frames.specs.Payloads.{payload_at}
-use Rattle.do_frames.proofs.payloads.WholePayload.{no_frame, whole_bad, whole_never, whole_short}
-use Rattle.do_frames.proofs.payloads.WholePayload.{whole_spelled}
-use Rattle.do_grammar.specs.Grammar.{IsBytes}
-use Rattle.do_grammar.specs.Reader.{Stop, bad, no_kind, short, whole_of}
+use Rattle.do_frames.{specs.Payloads.payload_at, proofs.payloads.WholePayload.{no_frame, whole_bad}}
+use Rattle.do_frames.proofs.payloads.WholePayload.{whole_never, whole_short, whole_spelled}
+use Rattle.do_grammar.specs.{Grammar.IsBytes, Reader.{Stop, bad, no_kind, short, whole_of}}
 use Rattle.do_network.specs.Frames.{payload_read, read_frame, read_or_place}
-use Rattle.do_streams.specs.Plain.{names_objects}
-use Rattle.do_streams.specs.Reading.{IsRead, IsReading}
+use Rattle.do_streams.specs.{Plain.names_objects, Reading.{IsRead, IsReading}}
 use Rattle.do_streams.proofs.OneFault.{one_place}
 
 -- the kind of a number, or one of those behind it

@@ -1,23 +1,18 @@
 -- Links whose names that were read lately change, beside what is sent over them.
-use Rattle.std.proofs.Common.{◌≡◌, ℕ, List, [], ◌∷◌, ◌++◌, Option, Some}
-use Rattle.std.proofs.Common.{None, refl, ap, sym, ◌∙◌}
+use Rattle.std.proofs.Common.{◌≡◌, ℕ, List, [], ◌∷◌, ◌++◌, Option, Some, None, refl, ap, sym, ◌∙◌}
 use Rattle.std.proofs.Common.{map, subst, ◌==◌}
 use Rattle.std.specs.Prelude.{fold, find, option_map, slice_get, slice_set, unwrap_or, suc, zero}
-use Rattle.std.specs.List.{AllByRecursion, position}
-use Rattle.std.proofs.lemmas.Simd.{map-map}
+use Rattle.std.{specs.List.{AllByRecursion, position}, proofs.lemmas.Simd.map-map}
 use Rattle.do_coder.specs.declared.recent.pair.Pair.{Pair}
-use Rattle.do_frames.specs.declared.frame.Frame.{Frame}
-use Rattle.do_frames.specs.Frames.{after_frame}
+use Rattle.do_frames.specs.{declared.frame.Frame.Frame, Frames.after_frame}
 use Rattle.do_network.specs.Frames.{Posted}
 use Rattle.do_network.specs.Links.{Link, Outbox, all_sent, change_link, link_to, sending, sendings}
-use Rattle.do_streams.specs.Reading.{names_of}
+use Rattle.do_streams.specs.Reading.{names_of, AllKnown, AreKnown}
 use Rattle.do_streams.proofs.FirstChanged.{change_found, change_none, change_same, change_swaps}
-use Rattle.do_streams.proofs.FirstChanged.{found_past, mapped_past}
+use Rattle.do_streams.proofs.FirstChanged.{found_past, mapped_past, found_mapped, found_none}
+use Rattle.do_streams.proofs.FirstChanged.{none_mapped}
 use Rattle.do_network.specs.Net.{opening_link}
-use Rattle.do_streams.specs.declared.end.End.{End}
-use Rattle.do_streams.specs.Reading.{AllKnown, AreKnown}
-use Rattle.do_streams.specs.Streamed.{link_of}
-use Rattle.do_streams.proofs.FirstChanged.{found_mapped, found_none, none_mapped}
+use Rattle.do_streams.specs.{declared.end.End.End, Streamed.link_of}
 use Rattle.do_streams.proofs.FramesInOrder.{sent_over}
 
 -- the link with the names changed that were read lately

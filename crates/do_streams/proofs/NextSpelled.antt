@@ -1,13 +1,9 @@
 -- What is spelled next, and what then is left to be spelled.
-use Rattle.std.proofs.Common.{◌≡◌, ℕ, false, true, List, [], ◌∷◌, drop, ap, sym, ◌∙◌, ◌==◌}
-use Rattle.std.proofs.Common.{Some}
-use Rattle.std.specs.Prelude.{slice_get, slice_set}
-use Rattle.std.specs.List.{position}
+use Rattle.std.proofs.Common.{◌≡◌, ℕ, false, true, List, [], ◌∷◌, drop, ap, sym, ◌∙◌, ◌==◌, Some}
+use Rattle.std.specs.{Prelude.{slice_get, slice_set}, List.position}
 use Rattle.do_frames.specs.Frames.{after_frame, raw}
 use Rattle.do_network.specs.Links.{Framed, Greeting, Outbox, Sending}
-use Rattle.do_streams.specs.declared.end.End.{End}
-use Rattle.do_streams.specs.declared.end.Outgoing.{Outgoing}
-use Rattle.do_streams.specs.Streamed.{outbox_of}
+use Rattle.do_streams.specs.{declared.end.{End.End, Outgoing.Outgoing}, Streamed.outbox_of}
 use Rattle.do_streams.proofs.FramesInOrder.{next_greets, next_spells}
 
 -- a list with a first element begins with it

@@ -1,13 +1,8 @@
 -- The byte with which no payload goes on is one.
 use Rattle.std.proofs.Common.{◌≡◌, ℕ, ◌+◌, ◌<◌, List, ◌++◌, ◌∷◌, take, drop, sym, ap, ◌∙◌}
-use Rattle.std.proofs.Common.{append_assoc, arith, inl, inr, subst}
-use Rattle.std.specs.Prelude.{Some, ◌-◌}
-use Rattle.std.proofs.lemmas.Bool.{cases_order}
-use Rattle.std.proofs.lemmas.List.{take-append-drop}
-use Rattle.std.proofs.Math.Seq.{take-add}
-use Rattle.do_frames.specs.declared.frame.Frame.{Frame}
-use Rattle.do_frames.specs.declared.kind.Kind.{Kind}
-use Rattle.do_frames.specs.Payloads.{IsBadPayload}
+use Rattle.std.{proofs.Common.{append_assoc, arith, inl, inr, subst}, specs.Prelude.{Some, ◌-◌}}
+use Rattle.std.proofs.{lemmas.{Bool.cases_order, List.take-append-drop}, Math.Seq.take-add}
+use Rattle.do_frames.specs.{declared.{frame.Frame.Frame, kind.Kind.Kind}, Payloads.IsBadPayload}
 use Rattle.do_grammar.specs.Grammar.{IsFirstBadWhole, IsProperFront}
 
 module _ (G : List ℕ → Frame → Type 0) (bytes : List ℕ) where

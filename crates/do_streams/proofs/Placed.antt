@@ -1,7 +1,6 @@
 -- What stands at a place, and what a call gave.
-use Rattle.std.proofs.Common.{◌≡◌, ℕ, zero, suc, false, T, List, [], ◌∷◌, Some}
-use Rattle.std.proofs.Common.{None}
-use Rattle.std.proofs.Common.{Option, is_some, get_or, refl, ap, sym, ◌∙◌, subst}
+use Rattle.std.proofs.Common.{◌≡◌, ℕ, zero, suc, false, T, List, [], ◌∷◌, Some, None, Option}
+use Rattle.std.proofs.Common.{is_some, get_or, refl, ap, sym, ◌∙◌, subst}
 use Rattle.std.specs.Prelude.{IfOk, OnErr, Result, Ok, Err, slice_get, slice_set}
 
 -- what is not there is None

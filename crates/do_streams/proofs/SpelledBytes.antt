@@ -1,8 +1,6 @@
 -- Bytes that were spelled, read as what they are in a stream.
 use Rattle.std.proofs.Common.{◌≡◌, ℕ, List, Some, ap, sym, ◌∙◌}
-use Rattle.do_frames.specs.declared.frame.Frame.{Frame}
-use Rattle.do_frames.specs.declared.frame.RawFrame.{RawFrame}
-use Rattle.do_frames.specs.Frames.{raw_spelling}
+use Rattle.do_frames.specs.{declared.frame.{Frame.Frame, RawFrame.RawFrame}, Frames.raw_spelling}
 use Rattle.do_network.specs.Links.{piece_bytes}
 use Rattle.do_streams.specs.Pieces.{frame_in, piece_in}
 

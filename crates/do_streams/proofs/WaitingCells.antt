@@ -1,13 +1,10 @@
 -- Frames and lines in cells: put behind the others of their queue, and taken out before them.
-use Rattle.std.proofs.Common.{◌≡◌, ◌++◌, ◌+◌, ◌-◌, ◌<◌, ◌≤◌, ◌∷◌, ◌∙◌, List, None}
-use Rattle.std.proofs.Common.{Option, Some, [], ap}
-use Rattle.std.proofs.Common.{arith, get_or, length, map, refl, sym, ℕ}
-use Rattle.std.specs.Prelude.{MatchOption, slice_get, slice_set}
-use Rattle.std.proofs.lemmas.List.{map-append}
+use Rattle.std.proofs.Common.{◌≡◌, ◌++◌, ◌+◌, ◌-◌, ◌<◌, ◌≤◌, ◌∷◌, ◌∙◌, List, None, Option, Some, []}
+use Rattle.std.proofs.Common.{ap, arith, get_or, length, map, refl, sym, ℕ}
+use Rattle.std.{specs.Prelude.{MatchOption, slice_get, slice_set}, proofs.lemmas.List.map-append}
 use Rattle.do_base.specs.declared.events.shown.Shown.{Shown}
 use Rattle.do_pool.specs.Pool.{Pool}
-use Rattle.do_streams.specs.declared.end.Outgoing.{Outgoing}
-use Rattle.do_streams.specs.declared.waiting.Queued.{Queued}
+use Rattle.do_streams.specs.declared.{end.Outgoing.Outgoing, waiting.Queued.Queued}
 use Rattle.do_streams.specs.declared.waiting.Queued.TheVariants.{Frame, Line}
 use Rattle.do_streams.specs.Waits.{AreApart, AreQueued, framed, frames_in, lined, lines_in}
 use Rattle.do_streams.specs.Waits.{oldest_first, queues_of}

@@ -1,26 +1,17 @@
 -- Frames that wait, each to a peer with an end.
-use Rattle.std.proofs.Common.{◌≡◌, ◌==◌, ◌<◌, ◌++◌, ℕ, List, [], ◌∷◌, Bool, false, true}
-use Rattle.std.proofs.Common.{Option, Some, None, ap, arith, length, map, refl, subst, sym}
-use Rattle.std.proofs.Common.{◌∙◌}
-use Rattle.std.specs.Prelude.{MatchOption, is_some, slice_get, slice_set}
-use Rattle.std.specs.List.{list_any, position}
-use Rattle.std.proofs.lemmas.List.{append-nil, length-map}
-use Rattle.std.proofs.lemmas.Simd.{map-map}
+use Rattle.std.proofs.Common.{◌≡◌, ◌==◌, ◌<◌, ◌++◌, ℕ, List, [], ◌∷◌, Bool, false, true, Option}
+use Rattle.std.proofs.Common.{Some, None, ap, arith, length, map, refl, subst, sym, ◌∙◌}
+use Rattle.std.specs.{Prelude.{MatchOption, is_some, slice_get, slice_set}, List.list_any}
+use Rattle.std.{specs.List.position, proofs.lemmas.{List.{append-nil, length-map}, Simd.map-map}}
 use Rattle.do_network.specs.Frames.{Posted}
 use Rattle.do_frames.specs.Kinds.{numbers_alone}
-use Rattle.do_network.specs.Links.{Link, Outbox, link_to, sending, sendings}
-use Rattle.do_network.specs.Net.{opening_link}
-use Rattle.do_ported.proofs.FirstOfPorts.{none_of_port, place_is_among, place_of_port}
-use Rattle.do_ported.proofs.FirstOfPorts.{ports_stay, some_of_port}
-use Rattle.do_streams.specs.declared.end.End.{End}
-use Rattle.do_streams.specs.declared.end.Outgoing.{Outgoing}
-use Rattle.do_streams.specs.declared.spelled.Spelled.{Spelled}
-use Rattle.do_streams.specs.Ordered.{AllPlaced, ArePorts}
-use Rattle.do_streams.specs.Plain.{names_objects}
-use Rattle.do_streams.specs.Streamed.{link_of, outbox, outbox_of, posted_of}
-use Rattle.do_streams.specs.Streamed.{spelled_first, streamed_of}
-use Rattle.do_streams.specs.Waits.{Waits}
-use Rattle.do_streams.proofs.FirstChanged.{change_none}
+use Rattle.do_network.specs.{Links.{Link, Outbox, link_to, sending, sendings}, Net.opening_link}
+use Rattle.do_ported.proofs.FirstOfPorts.{none_of_port, place_is_among, place_of_port, ports_stay}
+use Rattle.do_ported.proofs.FirstOfPorts.{some_of_port}
+use Rattle.do_streams.specs.declared.{end.{End.End, Outgoing.Outgoing}, spelled.Spelled.Spelled}
+use Rattle.do_streams.specs.{Ordered.{AllPlaced, ArePorts}, Plain.names_objects, Streamed.link_of}
+use Rattle.do_streams.specs.Streamed.{outbox, outbox_of, posted_of, spelled_first, streamed_of}
+use Rattle.do_streams.{specs.Waits.Waits, proofs.FirstChanged.change_none}
 use Rattle.do_streams.proofs.FramesInOrder.{frame_first, greeting_first, sent_over}
 use Rattle.do_streams.proofs.LinksRead.{peers_of}
 

@@ -1,9 +1,6 @@
 -- What is always so of the ends of a site, and of the frames that wait.
-use Rattle.std.specs.Prelude.{List, map, true, ℕ, ◌==◌, ◌≡◌}
-use Rattle.std.specs.List.{AllByRecursion, list_any}
-use Rattle.do_streams.specs.Reading.{AllKnown}
-use Rattle.do_streams.specs.declared.end.End.{End}
-use Rattle.do_streams.specs.declared.end.Outgoing.{Outgoing}
+use Rattle.std.specs.{Prelude.{List, map, true, ℕ, ◌==◌, ◌≡◌}, List.{AllByRecursion, list_any}}
+use Rattle.do_streams.specs.{Reading.AllKnown, declared.end.{End.End, Outgoing.Outgoing}}
 
 -- ports are those of the ends, in their order
 abbrev pub ArePorts : List ℕ → List End → Type 0

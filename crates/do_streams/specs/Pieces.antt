@@ -1,7 +1,6 @@
 -- Bytes as what they are in a stream.
 use Rattle.std.specs.Prelude.{List, None, Option, Some, drop, get_or, ℕ}
-use Rattle.do_frames.specs.declared.frame.Frame.{Frame}
-use Rattle.do_frames.specs.declared.frame.RawFrame.{RawFrame}
+use Rattle.do_frames.specs.declared.frame.{Frame.Frame, RawFrame.RawFrame}
 use Rattle.do_network.specs.Links.{Framed, Greeting, Piece}
 
 -- the frame that begins bytes with its kind and the length of its payload

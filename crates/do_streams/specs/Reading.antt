@@ -1,15 +1,11 @@
 -- Frames of a peer, read by the names that its frames named lately.
 use Rattle.std.specs.Prelude.{Err, List, Ok, Option, Result, [], option_map, unwrap_or, ℕ, ◌≡◌}
 use Rattle.std.specs.List.{AllByRecursion}
-use Rattle.do_coder.specs.declared.recent.pair.Pair.{Pair}
-use Rattle.do_coder.specs.Recent.{IsKnown}
-use Rattle.do_frames.specs.declared.fault.RawFault.{RawFault}
-use Rattle.do_frames.specs.declared.fault.RawFault.TheVariants.{BadFrame, Memory}
-use Rattle.do_frames.specs.declared.frame.Frame.{Frame}
-use Rattle.do_frames.specs.Frames.{after_frame}
+use Rattle.do_coder.specs.{declared.recent.pair.Pair.Pair, Recent.IsKnown}
+use Rattle.do_frames.specs.declared.fault.RawFault.{RawFault, TheVariants.{BadFrame, Memory}}
+use Rattle.do_frames.specs.{declared.frame.Frame.Frame, Frames.after_frame}
 use Rattle.do_network.specs.Links.{Link, link_to}
-use Rattle.do_streams.specs.declared.end.End.{End}
-use Rattle.do_streams.specs.declared.reading.Reading.{Reading}
+use Rattle.do_streams.specs.declared.{end.End.End, reading.Reading.Reading}
 
 -- the names that a peer's frames named lately
 abbrev pub names_of : List Link → ℕ → List Pair

@@ -1,13 +1,9 @@
 -- What is seen of the streams between a site and its peers.
 use Rattle.std.specs.Prelude.{List, None, Option, Some, [], map, ℕ, ◌++◌, ◌∷◌}
 use Rattle.do_base.specs.declared.events.shown.Shown.{Shown}
-use Rattle.do_network.specs.Frames.{Posted}
-use Rattle.do_network.specs.Links.{Link, Outbox, Sending, all_sent}
-use Rattle.do_streams.specs.Pieces.{piece_in}
-use Rattle.do_streams.specs.declared.end.End.{End}
-use Rattle.do_streams.specs.declared.end.Outgoing.{Outgoing}
-use Rattle.do_streams.specs.declared.spelled.Spelled.{Spelled}
-use Rattle.do_streams.specs.Waits.{Waits}
+use Rattle.do_network.specs.{Frames.Posted, Links.{Link, Outbox, Sending, all_sent}}
+use Rattle.do_streams.specs.{Pieces.piece_in, declared.end.{End.End, Outgoing.Outgoing}}
+use Rattle.do_streams.specs.{declared.spelled.Spelled.Spelled, Waits.Waits}
 
 -- by how many classes frames are read, and how many frames and lines together fit with no memory
 -- taken, those that wait included

@@ -3,8 +3,7 @@ use Rattle.std.specs.Prelude.{List, None, Option, Some, [], get_or, length, map,
 use Rattle.std.specs.Prelude.{◌≤◌}
 use Rattle.do_base.specs.declared.events.shown.Shown.{Shown}
 use Rattle.do_pool.specs.Pool.{Pool}
-use Rattle.do_streams.specs.declared.end.Outgoing.{Outgoing}
-use Rattle.do_streams.specs.declared.waiting.Queued.{Queued}
+use Rattle.do_streams.specs.declared.{end.Outgoing.Outgoing, waiting.Queued.Queued}
 use Rattle.do_streams.specs.declared.waiting.Queued.TheVariants.{Frame, Line}
 
 -- the frames that wait, the oldest of them where it was taken out of its cell, the lines that wait,

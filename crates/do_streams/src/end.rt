@@ -1,6 +1,5 @@
 ghost use Rattle.std.specs.Prelude.{◌≡◌, [], IfOk, OnErr, OnOk, false, true};
-ghost use Rattle.do_frames.specs.Frames.{after_frame, frame_spelling};
-ghost use Rattle.do_frames.specs.Streams.{hello};
+ghost use Rattle.do_frames.specs.{Frames.{after_frame, frame_spelling}, Streams.hello};
 
 use crate::names::Names;
 use do_base::{NodeId, Text};

@@ -1,7 +1,6 @@
 //! What was spelled is fetched, where it has a spelling that its peer can read.
 ghost use Rattle.std.specs.Prelude.{◌≡◌, ◌↔◌, ◌++◌, IfOk, IsTrue, OnErr, OnOk};
-ghost use Rattle.do_network.specs.Links.{piece_bytes};
-ghost use Rattle.do_network.specs.Spelled.{IsSpelledSending};
+ghost use Rattle.do_network.specs.{Links.piece_bytes, Spelled.IsSpelledSending};
 ghost use Rattle.do_streams.specs.Streamed.{sending_of};
 
 use crate::spelled::Spelled;

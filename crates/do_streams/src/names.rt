@@ -33,8 +33,7 @@ pub struct Names {
 
 impl Model for Names {
     ghost use Rattle.std.specs.Prelude.{List};
-    ghost use Rattle.do_coder.specs.declared.recent.pair.Pair.{Pair};
-    ghost use Rattle.do_coder.specs.Recent.{IsRecent};
+    ghost use Rattle.do_coder.specs.{declared.recent.pair.Pair.Pair, Recent.IsRecent};
     ghost use Rattle.do_streams.specs.Names.{pairs_of};
 
     ghost Value = { List Pair };

@@ -6,8 +6,7 @@ ghost use Rattle.do_frames.specs.Frames.{after_frame, kind_of};
 ghost use Rattle.do_frames.specs.declared.fault.RawFault.TheVariants.{Memory};
 ghost use Rattle.do_frames.specs.Kinds.{kind_number, numbers_alone};
 ghost use Rattle.do_network.specs.Frames.{read_frame};
-ghost use Rattle.do_streams.specs.Reading.{AreKnown, IsRead, IsReading};
-ghost use Rattle.do_streams.specs.Plain.{names_objects};
+ghost use Rattle.do_streams.specs.{Reading.{AreKnown, IsRead, IsReading}, Plain.names_objects};
 
 use do_base::NodeId;
 use do_class::ClassTable;

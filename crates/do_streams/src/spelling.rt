@@ -1,16 +1,13 @@
 //! The oldest frame that waits, spelled.
-ghost use Rattle.std.specs.Prelude.{◌≡◌, ◌≤◌, ◌<◌, ◌+◌, ◌++◌, ◌∷◌, ◌==◌, []};
-ghost use Rattle.std.specs.Prelude.{IfOk, IfSome, IsNone, List};
-ghost use Rattle.std.specs.Prelude.{MatchOption, None, OnErr, length};
-ghost use Rattle.std.specs.Prelude.{OnOk, Some, position, slice_get, true, ℕ};
+ghost use Rattle.std.specs.Prelude.{◌≡◌, ◌≤◌, ◌<◌, ◌+◌, ◌++◌, ◌∷◌, ◌==◌, [], IfOk, IfSome, IsNone};
+ghost use Rattle.std.specs.Prelude.{List, MatchOption, None, OnErr, length, OnOk, Some, position};
+ghost use Rattle.std.specs.Prelude.{slice_get, true, ℕ};
 ghost use Rattle.do_coder.specs.declared.recent.pair.Pair.{Pair};
 ghost use Rattle.do_frames.specs.Frames.{frame_spelling, raw};
 ghost use Rattle.do_network.specs.Links.{Framed, Greeting};
-ghost use Rattle.do_streams.specs.Ordered.{AllPlaced, ArePorts};
-ghost use Rattle.do_streams.specs.Reading.{AllKnown};
+ghost use Rattle.do_streams.specs.{Ordered.{AllPlaced, ArePorts}, Reading.AllKnown};
 ghost use Rattle.do_streams.specs.Streamed.{outbox_of, sending_of, spelled_first};
-ghost use Rattle.do_streams.specs.declared.end.End.{End};
-ghost use Rattle.do_streams.specs.declared.end.Outgoing.{Outgoing};
+ghost use Rattle.do_streams.specs.declared.end.{End.End, Outgoing.Outgoing};
 
 use crate::end::{End, Outgoing, greeting};
 use crate::spelled::Spelled;

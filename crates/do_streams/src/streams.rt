@@ -3,8 +3,7 @@ mod reading;
 
 ghost use Rattle.std.specs.Prelude.{◌≡◌, ◌≤◌, ◌+◌, ◌<◌, ◌++◌, ◌∷◌, [], IfOk, IfSome, MatchOption};
 ghost use Rattle.std.specs.Prelude.{◌↔◌, IsTrue, None, OnErr, OnOk, map};
-ghost use Rattle.do_network.specs.Links.{Sending, piece_bytes, sending};
-ghost use Rattle.do_network.specs.Net.{opening_link};
+ghost use Rattle.do_network.specs.{Links.{Sending, piece_bytes, sending}, Net.opening_link};
 ghost use Rattle.do_network.specs.Spelled.{IsSpelledSending};
 ghost use Rattle.do_streams.specs.Streamed.{link_of, outbox};
 
@@ -36,11 +35,10 @@ pub struct Streams {
 }
 
 impl Model for Streams {
-    ghost use Rattle.std.specs.Coded.{codes};
     ghost use Rattle.do_base.specs.contracts.events.shown.Shown as line;
     ghost use Rattle.do_class.specs.contracts.packet.Part as part;
-    ghost use Rattle.do_streams.specs.Ordered.{AreOrdered};
-    ghost use Rattle.do_streams.specs.Streamed.{Streamed, streamed_of};
+    ghost use Rattle.std.specs.Coded.{codes};
+    ghost use Rattle.do_streams.specs.{Ordered.AreOrdered, Streamed.{Streamed, streamed_of}};
 
     ghost Value = { Streamed };
 

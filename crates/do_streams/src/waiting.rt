@@ -40,9 +40,9 @@ pub struct Waiting {
 }
 
 impl Model for Waiting {
-    ghost use Rattle.std.specs.Coded.{codes};
     ghost use Rattle.do_base.specs.contracts.events.shown.Shown as line;
     ghost use Rattle.do_class.specs.contracts.packet.Part as part;
+    ghost use Rattle.std.specs.Coded.{codes};
     ghost use Rattle.do_streams.specs.Waits.{AreQueued, Waits, waits_of};
 
     ghost Value = { Waits };

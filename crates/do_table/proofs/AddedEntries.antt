@@ -1,8 +1,7 @@
 -- What the map's insertion of a new name leaves.
-use Rattle.std.proofs.Common.{◌≡◌, ℕ, Bool, true, false, is_some, List, [], ◌∷◌, ◌++◌, Some}
-use Rattle.std.proofs.Common.{refl, sym, ◌∙◌, ap, true≢false}
-use Rattle.std.specs.Prelude.{cond, if◌then◌else◌}
-use Rattle.std.specs.Str.{bytes_eq}
+use Rattle.std.proofs.Common.{◌≡◌, ℕ, Bool, true, false, is_some, List, [], ◌∷◌, ◌++◌, Some, refl}
+use Rattle.std.proofs.Common.{sym, ◌∙◌, ap, true≢false}
+use Rattle.std.specs.{Prelude.{cond, if◌then◌else◌}, Str.bytes_eq}
 use Rattle.indexmap.specs.IndexMap.{insert_entry}
 use Rattle.do_table.specs.Entries.{value_of, added}
 

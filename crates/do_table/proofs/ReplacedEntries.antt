@@ -1,9 +1,7 @@
 -- What a write at the place of a name leaves.
-use Rattle.std.proofs.Common.{◌≡◌, ℕ, Bool, true, false, is_some, List, [], ◌∷◌, Some}
-use Rattle.std.proofs.Common.{refl, sym, ◌∙◌, ap, true≢false}
-use Rattle.std.specs.Prelude.{cond, if◌then◌else◌, position}
-use Rattle.std.specs.Map.{keys_of}
-use Rattle.std.specs.Str.{bytes_eq}
+use Rattle.std.proofs.Common.{◌≡◌, ℕ, Bool, true, false, is_some, List, [], ◌∷◌, Some, refl, sym}
+use Rattle.std.proofs.Common.{◌∙◌, ap, true≢false}
+use Rattle.std.specs.{Prelude.{cond, if◌then◌else◌, position}, Map.keys_of, Str.bytes_eq}
 use Rattle.indexmap.specs.IndexMap.{insert_entry, set_value_at}
 use Rattle.indexmap.proofs.MapLemmas.{Found-position, insert_entry-first}
 use Rattle.do_table.specs.Entries.{value_of, replaced}

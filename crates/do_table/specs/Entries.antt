@@ -1,10 +1,7 @@
 -- A table as the list of its entries, each a name with its value.
-use Rattle.std.specs.Prelude.{ℕ, Bool, true, not, ◌&&◌, is_some, List, [], ◌∷◌, ◌++◌, Option}
-use Rattle.std.specs.Prelude.{Some, None, if◌then◌else◌, nat_le, length}
-use Rattle.std.specs.List.{list_all}
-use Rattle.std.specs.Borrow.{Bor}
-use Rattle.std.specs.Map.{lookup, remove_entry, set_value}
-use Rattle.std.specs.Str.{bytes_eq}
+use Rattle.std.specs.Prelude.{ℕ, Bool, true, not, ◌&&◌, is_some, List, [], ◌∷◌, ◌++◌, Option, Some}
+use Rattle.std.specs.{Prelude.{None, if◌then◌else◌, nat_le, length}, List.list_all, Borrow.Bor}
+use Rattle.std.specs.{Map.{lookup, remove_entry, set_value}, Str.bytes_eq}
 
 -- the value of a name
 abbrev pub value_of : {V : Type 0} → List (List ℕ × V) → List ℕ → Option V

@@ -36,10 +36,8 @@ impl Key {
 }
 
 impl PartialEq for Key {
-    ghost use Rattle.std.specs.Cmp.Lexicographic.{pointwise};
-    ghost use Rattle.std.specs.Prelude.{◌==◌};
-    ghost use Rattle.std.specs.Cmp.{partial_equiv_from_equiv};
-    ghost use Rattle.std.proofs.lemmas.Cmp.{nat_list_eq_equiv};
+    ghost use Rattle.std.specs.{Cmp.Lexicographic.pointwise, Prelude.◌==◌};
+    ghost use Rattle.std.{specs.Cmp.partial_equiv_from_equiv, proofs.lemmas.Cmp.nat_list_eq_equiv};
 
     ghost eq = { pointwise ◌==◌ };
 
@@ -57,9 +55,8 @@ impl Eq for Key {
 }
 
 impl Hash for Key {
-    ghost use Rattle.std.proofs.Common.{ap};
     ghost use Rattle.std.specs.Hash as fed;
-    ghost use Rattle.std.specs.Cmp.Lexicographic.{bytes_decides};
+    ghost use Rattle.std.{proofs.Common.ap, specs.Cmp.Lexicographic.bytes_decides};
 
     ghost hash_input = { fed.slice fed.u8 };
 
@@ -72,9 +69,8 @@ impl Hash for Key {
 
 /// A key is found by its bytes, so that a look-up copies no name.
 impl Equivalent<Key> for &[u8] {
-    ghost use Rattle.std.specs.Prelude.{◌==◌};
-    ghost use Rattle.std.proofs.Common.{ap};
     ghost use Rattle.std.specs.Hash as fed;
+    ghost use Rattle.std.{specs.Prelude.◌==◌, proofs.Common.ap};
     ghost use Rattle.std.specs.Cmp.Lexicographic.{pointwise, bytes_decides, nat_list_eq_equiv};
 
     ghost equivalent = { λ q k. pointwise ◌==◌ q.now k };

@@ -1,7 +1,5 @@
-ghost use Rattle.std.specs.Prelude.{◌≡◌, ◌<◌, [], not, is_some, length, slice_get, Some};
-ghost use Rattle.std.specs.Prelude.{IfOk, OnOk, OnErr, map, take};
-ghost use Rattle.std.specs.Map.{keys_of};
-ghost use Rattle.std.specs.Option.{option_copied};
+ghost use Rattle.std.specs.Prelude.{◌≡◌, ◌<◌, [], not, is_some, length, slice_get, Some, IfOk};
+ghost use Rattle.std.specs.{Prelude.{OnOk, OnErr, map, take}, Map.keys_of, Option.option_copied};
 ghost use Rattle.do_table.specs.Entries.{added, entry_shown, once, removed, replaced, value_of};
 
 use crate::entry::Entry;
@@ -20,8 +18,7 @@ pub struct Table<V> {
 }
 
 impl<V> Model for Table<V> {
-    ghost use Rattle.std.specs.Prelude.{List, ℕ};
-    ghost use Rattle.std.specs.Coded.{coded×, coded_ℕ, coded_list};
+    ghost use Rattle.std.specs.{Prelude.{List, ℕ}, Coded.{coded×, coded_ℕ, coded_list}};
 
     ghost Value = { List (List ℕ × V) };
 

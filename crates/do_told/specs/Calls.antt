@@ -1,10 +1,10 @@
 -- The calls of a link as they are told, and how the logic stores them.
+use Rattle.do_told.specs.declared.calls.Call.TheVariants as call
 use Rattle.std.specs.Prelude.{◌≡◌, ℕ, List, [], Bool, true, false, cond, ◌==◌, refl}
 use Rattle.std.specs.Coded.{Coded, code_by, coded×, coded_list, coded_ℕ}
 use Rattle.do_link.specs.Told.{Told, Listened, Came, Handed, handed, came}
 use Rattle.do_link.specs.declared.script.ScriptEvent.TheVariants.{Bytes, Ended, Quiet}
 use Rattle.do_told.specs.declared.calls.Call.{Call}
-use Rattle.do_told.specs.declared.calls.Call.TheVariants as call
 
 -- a call as a link tells it
 abbrev pub told_of : Call → Told

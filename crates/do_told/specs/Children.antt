@@ -1,10 +1,9 @@
 -- The starts and waits of a spawner as they are told, and how the logic stores them.
+use Rattle.do_told.specs.declared.children.Child.TheVariants as child
 use Rattle.std.specs.Prelude.{◌≡◌, ℕ, ℤ, List, [], Option, Some, None, refl}
 use Rattle.std.specs.Coded.{Coded, code_by, coded×, coded_list, coded_ℕ, coded_ℤ, coded_option}
-use Rattle.do_lab.specs.Told.{Spawned, Started, Waited}
-use Rattle.do_lab.specs.declared.spawner.ChildId.{ChildId}
+use Rattle.do_lab.specs.{Told.{Spawned, Started, Waited}, declared.spawner.ChildId.ChildId}
 use Rattle.do_told.specs.declared.children.Child.{Child}
-use Rattle.do_told.specs.declared.children.Child.TheVariants as child
 
 -- a start or a wait as a spawner tells it
 abbrev pub spawned_of : Child → Spawned

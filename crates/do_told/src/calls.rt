@@ -1,7 +1,5 @@
 //! The calls of a link.
-ghost use Rattle.std.specs.Prelude.{◌≡◌, ◌++◌, ◌∷◌, [], List};
-ghost use Rattle.std.specs.Borrow.{ftrue};
-ghost use Rattle.std.specs.Coded.{coded_list};
+ghost use Rattle.std.specs.{Prelude.{◌≡◌, ◌++◌, ◌∷◌, [], List}, Borrow.ftrue, Coded.coded_list};
 ghost use Rattle.do_link.specs.Told.{Told};
 ghost use Rattle.do_told.specs.Calls.{told_code, told_of};
 

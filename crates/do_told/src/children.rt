@@ -1,7 +1,5 @@
 //! The children of a spawner.
-ghost use Rattle.std.specs.Prelude.{◌≡◌, ◌++◌, ◌∷◌, [], List};
-ghost use Rattle.std.specs.Borrow.{ftrue};
-ghost use Rattle.std.specs.Coded.{coded_list};
+ghost use Rattle.std.specs.{Prelude.{◌≡◌, ◌++◌, ◌∷◌, [], List}, Borrow.ftrue, Coded.coded_list};
 ghost use Rattle.do_lab.specs.Told.{Spawned};
 ghost use Rattle.do_told.specs.Children.{spawned_code, spawned_of};
 

@@ -1,6 +1,5 @@
 //! A site that tells what it names, and by which names its peers' frames are read.
-ghost use Rattle.std.specs.Prelude.{◌≡◌, IfOk, length};
-ghost use Rattle.std.specs.List.{AllByRecursion};
+ghost use Rattle.std.specs.{Prelude.{◌≡◌, IfOk, length}, List.AllByRecursion};
 ghost use Rattle.do_base.specs.names.Names.{ObjectName};
 ghost use Rattle.do_coder.specs.Recent.{IsKnown};
 ghost use Rattle.do_lost.specs.Named.{node_names};

@@ -1,11 +1,9 @@
 -- What of a transcript is to come.
-use Rattle.std.proofs.Common.{◌≡◌, ℕ, List, [], ◌∷◌, ◌++◌, refl, sym}
-use Rattle.std.proofs.Common.{Option, append_assoc}
+use Rattle.std.proofs.Common.{◌≡◌, ℕ, List, [], ◌∷◌, ◌++◌, refl, sym, Option, append_assoc}
 use Rattle.std.specs.List.{flat_map}
 use Rattle.do_sched.specs.declared.line.Line.{Line}
 use Rattle.do_class.specs.Class.{Class}
-use Rattle.do_machine.specs.check.Blocks.{block, blocks, line_step}
-use Rattle.do_machine.specs.declared.state.State.{State}
+use Rattle.do_machine.specs.{check.Blocks.{block, blocks, line_step}, declared.state.State.State}
 use Rattle.do_machine.specs.run.Run.{Acting}
 use Rattle.do_lines.specs.Transcript.{block_lines, first_line, last_line}
 use Rattle.do_transcript.specs.Transcript.{transcript_from}

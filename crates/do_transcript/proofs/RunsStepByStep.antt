@@ -1,15 +1,12 @@
 -- One run of a node more.
+use Rattle.do_base.specs.declared.events.event.Event.TheVariants as events
 use Rattle.std.proofs.Common.{◌≡◌, ℕ, zero, suc, ◌+◌, ◌||◌, ◌++◌, List, ap, refl, ◌∙◌, sym, arith}
 use Rattle.std.specs.Prelude.{replicate}
 use Rattle.do_base.specs.declared.events.event.Event.{Event}
-use Rattle.do_base.specs.declared.events.event.Event.TheVariants as events
 use Rattle.do_class.specs.Class.{Class}
 use Rattle.do_trace.specs.declared.outcome.Outcome.{Outcome}
-use Rattle.do_machine.specs.Step.{step}
-use Rattle.do_machine.specs.check.Blocks.{followed, steps}
-use Rattle.do_machine.specs.declared.state.State.{State}
-use Rattle.do_machine.specs.declared.state.Stepped.{Stepped}
-use Rattle.do_machine.specs.run.Run.{Acting}
+use Rattle.do_machine.specs.{Step.step, check.Blocks.{followed, steps}, declared.state.State.State}
+use Rattle.do_machine.specs.{declared.state.Stepped.Stepped, run.Run.Acting}
 
 -- a state with what led to it
 abbrev pub stepped_to : State → Outcome → Stepped

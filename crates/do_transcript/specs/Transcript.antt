@@ -2,9 +2,7 @@
 use Rattle.std.specs.Prelude.{List, ℕ}
 use Rattle.do_class.specs.Class.{Class}
 use Rattle.do_lines.specs.Transcript.{transcript}
-use Rattle.do_machine.specs.check.Blocks.{blocks}
-use Rattle.do_machine.specs.declared.state.State.{State}
-use Rattle.do_machine.specs.run.Run.{Acting}
+use Rattle.do_machine.specs.{check.Blocks.blocks, declared.state.State.State, run.Run.Acting}
 use Rattle.do_sched.specs.declared.line.Line.{Line}
 
 -- the transcript of these lines, from a state on, of classes whose objects act so

@@ -1,7 +1,6 @@
 //! The transcript of a schedule over a machine.
 ghost use Rattle.std.specs.Prelude.{◌≡◌, ◌≤◌, OnOk, IsErrOf};
-ghost use Rattle.do_base.specs.outside.Bytes.{with_more, HasWritten};
-ghost use Rattle.do_base.specs.outside.Causes.{Rose};
+ghost use Rattle.do_base.specs.outside.{Bytes.{with_more, HasWritten}, Causes.Rose};
 ghost use Rattle.do_transcript.specs.Transcript.{transcript_from};
 
 use crate::blocks::push_block;

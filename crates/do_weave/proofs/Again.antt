@@ -1,28 +1,20 @@
 -- Each record has one thread, so its blocks are given again.
-use Rattle.std.proofs.Common.{◌≡◌, Bool, true, false, ℕ, zero, suc, ◌+◌, ◌<◌, List, [], ◌∷◌}
-use Rattle.std.proofs.Common.{Some, None, Ok, refl, sym, ap, ◌∙◌, arith, subst, length, map, inl}
-use Rattle.std.proofs.Common.{inr}
+use Rattle.std.proofs.Common.{◌≡◌, Bool, true, false, ℕ, zero, suc, ◌+◌, ◌<◌, List, [], ◌∷◌, Some}
+use Rattle.std.proofs.Common.{None, Ok, refl, sym, ap, ◌∙◌, arith, subst, length, map, inl, inr}
 use Rattle.std.proofs.Common.{◌&&◌, eqb, get_or, eq-eqb}
-use Rattle.std.specs.Prelude.{nat_eq, option_map, slice_get}
-use Rattle.std.specs.List.{IsDistinct, list_any}
-use Rattle.std.proofs.lemmas.Bool.{and_from, and_parts, both_ways, cases_order, eqb-true}
-use Rattle.std.proofs.lemmas.Bool.{or_cases, or_left, or_right}
-use Rattle.std.proofs.lemmas.Bool.Decides.{nat_tests}
+use Rattle.std.specs.{Prelude.{nat_eq, option_map, slice_get}, List.{IsDistinct, list_any}}
+use Rattle.std.proofs.lemmas.Bool.{and_from, and_parts, both_ways, cases_order, eqb-true, or_cases}
+use Rattle.std.proofs.lemmas.Bool.{or_left, or_right, Decides.nat_tests}
 use Rattle.std.proofs.lemmas.List.Sorted.{IsPermutation-map, list_any-IsPermutation}
 use Rattle.std.proofs.lemmas.Map.Keys.{IsDistinct-IsPermutation, apart_from_distinct}
 use Rattle.std.proofs.lemmas.Option.{get_or_from_slice_get, slice_get-map, slice_get_within}
-use Rattle.do_machine.specs.check.Blocks.{blocks}
-use Rattle.do_machine.specs.declared.state.State.{State}
+use Rattle.do_machine.specs.{check.Blocks.blocks, declared.state.State.State}
 use Rattle.do_record.specs.declared.parts.Record.{Record}
 use Rattle.do_sched.specs.declared.line.Line.{Line}
-use Rattle.do_weave.specs.Laws.{AreApart, GivesAgain}
-use Rattle.do_weave.specs.Rules.{Rules}
-use Rattle.do_weave.specs.Said.{AreSaid, said_at}
-use Rattle.do_weave.specs.Threads.{blocks_in, is_before, threads_from, threads_of}
-use Rattle.do_weave.specs.Weaving.{woven}
+use Rattle.do_weave.specs.{Laws.{AreApart, GivesAgain}, Rules.Rules, Said.{AreSaid, said_at}}
+use Rattle.do_weave.specs.{Threads.{blocks_in, is_before, threads_from, threads_of}, Weaving.woven}
 use Rattle.do_weave.specs.declared.thread.Thread.{Thread}
-use Rattle.do_weave.proofs.Sorting.{all_inserted_moves}
-use Rattle.do_weave.proofs.Woven.{ThreadsApart, all_said}
+use Rattle.do_weave.proofs.{Sorting.all_inserted_moves, Woven.{ThreadsApart, all_said}}
 
 -- a thread is that of a record, before any block
 abbrev is_of : ℕ → ℕ → Thread → Bool

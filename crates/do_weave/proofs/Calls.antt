@@ -1,25 +1,19 @@
 -- What the calls of a turn say together.
-use Rattle.std.proofs.Common.{◌≡◌, Bool, true, false, ℕ, suc, ◌<◌, List, ◌++◌, Option}
-use Rattle.std.proofs.Common.{Some, None, Err, refl, sym, ap, ◌∙◌, drop, get_or, length}
+use Rattle.std.proofs.Common.{◌≡◌, Bool, true, false, ℕ, suc, ◌<◌, List, ◌++◌, Option, Some, None}
+use Rattle.std.proofs.Common.{Err, refl, sym, ap, ◌∙◌, drop, get_or, length}
 use Rattle.std.specs.Prelude.{option_and_then, option_map, slice_set}
-use Rattle.do_machine.specs.declared.state.State.{State}
-use Rattle.do_machine.specs.declared.state.Stepped.{Stepped}
-use Rattle.do_record.specs.declared.parts.Block.{Block}
-use Rattle.do_record.specs.declared.parts.Record.{Record}
+use Rattle.do_machine.specs.declared.state.{State.State, Stepped.Stepped}
+use Rattle.do_record.specs.declared.parts.{Block.Block, Record.Record}
 use Rattle.do_sched.specs.declared.line.Line.{Line}
 use Rattle.do_trace.specs.declared.outcome.Outcome.{Outcome}
-use Rattle.do_weave.specs.Inputs.{lines_of, shown_at, tried}
-use Rattle.do_weave.specs.Rules.{Rules}
-use Rattle.do_weave.specs.Telling.{DoesThread, DoesTurn, HasTried, Tells, ThreadCall, TurnCall}
-use Rattle.do_weave.specs.Telling.{woven_with}
-use Rattle.do_weave.specs.Threads.{advanced, is_cut, next_block}
-use Rattle.do_weave.specs.Weaving.{Turn, Woven, agreed, agrees, before, contradiction}
-use Rattle.do_weave.specs.Weaving.{threads_after, turn_in, turn_of, woven_in}
-use Rattle.do_weave.specs.declared.fault.WeaveFault.{WeaveFault}
+use Rattle.do_weave.specs.{Inputs.{lines_of, shown_at, tried}, Rules.Rules, Telling.DoesThread}
+use Rattle.do_weave.specs.Telling.{DoesTurn, HasTried, Tells, ThreadCall, TurnCall, woven_with}
+use Rattle.do_weave.specs.{Threads.{advanced, is_cut, next_block}, Weaving.{Turn, Woven, agreed}}
+use Rattle.do_weave.specs.Weaving.{agrees, before, contradiction, threads_after, turn_in, turn_of}
+use Rattle.do_weave.specs.{Weaving.woven_in, declared.fault.WeaveFault.WeaveFault}
 use Rattle.do_weave.specs.declared.fault.WeaveFault.TheVariants.{Contradiction, Memory}
-use Rattle.do_weave.specs.declared.thread.Thread.{Thread}
-use Rattle.do_weave.proofs.Turning.{before_before, chosen, turn_place, woven_agreed}
-use Rattle.do_weave.proofs.Turning.{woven_disagreed}
+use Rattle.do_weave.{specs.declared.thread.Thread.Thread, proofs.Turning.{before_before, chosen}}
+use Rattle.do_weave.proofs.Turning.{turn_place, woven_agreed, woven_disagreed}
 
 -- A thread had its turn, and whether its block agreed.
 pub record HadTurn (Stands : State → Type 0) (R : Rules) (S : State) (records : List Record)

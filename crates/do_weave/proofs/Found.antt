@@ -1,20 +1,13 @@
 -- The parts of a turn that is found.
 use Rattle.std.proofs.Common.{◌≡◌, ℕ, zero, suc, ◌+◌, List, [], ◌∷◌, ◌++◌, Option, Some, None, Ok}
-use Rattle.std.proofs.Common.{Err}
-use Rattle.std.proofs.Common.{refl, sym, ap, ◌∙◌, arith, subst}
+use Rattle.std.proofs.Common.{Err, refl, sym, ap, ◌∙◌, arith, subst}
 use Rattle.std.specs.Prelude.{option_and_then, option_map, slice_get}
-use Rattle.do_machine.specs.declared.state.State.{State}
-use Rattle.do_machine.specs.declared.state.Stepped.{Stepped}
-use Rattle.do_record.specs.declared.parts.Block.{Block}
-use Rattle.do_record.specs.declared.parts.Record.{Record}
+use Rattle.do_machine.specs.declared.state.{State.State, Stepped.Stepped}
+use Rattle.do_record.specs.declared.parts.{Block.Block, Record.Record}
 use Rattle.do_sched.specs.declared.line.Line.{Line}
-use Rattle.do_weave.specs.Inputs.{tried}
-use Rattle.do_weave.specs.Rules.{Rules}
-use Rattle.do_weave.specs.Threads.{next_block}
-use Rattle.do_weave.specs.Weaving.{Turn, Woven, before, ended, or_turn, turn_in, turn_of}
-use Rattle.do_weave.specs.Weaving.{unless_left}
-use Rattle.do_weave.specs.declared.fault.WeaveFault.{WeaveFault}
-use Rattle.do_weave.specs.declared.thread.Thread.{Thread}
+use Rattle.do_weave.specs.{Inputs.tried, Rules.Rules, Threads.next_block, Weaving.{Turn, Woven}}
+use Rattle.do_weave.specs.Weaving.{before, ended, or_turn, turn_in, turn_of, unless_left}
+use Rattle.do_weave.specs.declared.{fault.WeaveFault.WeaveFault, thread.Thread.Thread}
 use Rattle.do_weave.proofs.Places.{one_there}
 
 -- A turn of a thread: its block is the next one, and what it came to was tried.

@@ -2,21 +2,15 @@
 use Rattle.std.proofs.Common.{◌≡◌, ℕ, zero, suc, ◌+◌, ◌-◌, List, [], ◌∷◌, Option, Some, None, Ok}
 use Rattle.std.proofs.Common.{refl, sym, ap, ◌∙◌, arith, length, sum_by, get_or}
 use Rattle.std.specs.Prelude.{option_and_then, slice_get}
-use Rattle.std.proofs.lemmas.List.Sums.{sum_by-cons, sum_by-set}
-use Rattle.std.proofs.lemmas.List.Sorted.{sum_by-IsPermutation}
+use Rattle.std.proofs.lemmas.List.{Sums.{sum_by-cons, sum_by-set}, Sorted.sum_by-IsPermutation}
 use Rattle.std.proofs.lemmas.Option.{get_or_from_slice_get, slice_get_within}
 use Rattle.do_machine.specs.declared.state.State.{State}
-use Rattle.do_record.specs.declared.parts.Block.{Block}
-use Rattle.do_record.specs.declared.parts.Record.{Record}
-use Rattle.do_weave.specs.Orders.{HasOrder}
-use Rattle.do_weave.specs.Rules.{Rules}
-use Rattle.do_weave.specs.Threads.{advanced, blocks_in, is_before, next_block, threads_from}
-use Rattle.do_weave.specs.Threads.{threads_of}
+use Rattle.do_record.specs.declared.parts.{Block.Block, Record.Record}
+use Rattle.do_weave.specs.{Orders.HasOrder, Rules.Rules, Threads.{advanced, blocks_in, is_before}}
+use Rattle.do_weave.specs.Threads.{next_block, threads_from, threads_of}
 use Rattle.do_weave.specs.Weaving.{contradiction, ended, threads_after, unless_left}
 use Rattle.do_weave.specs.declared.thread.Thread.{Thread}
-use Rattle.do_weave.proofs.Found.{no_error, parts}
-use Rattle.do_weave.proofs.Places.{get_none}
-use Rattle.do_weave.proofs.Sorting.{all_inserted_moves}
+use Rattle.do_weave.proofs.{Found.{no_error, parts}, Places.get_none, Sorting.all_inserted_moves}
 
 -- how many blocks of a record stand from a place on
 abbrev left_in : ℕ → Option Record → ℕ

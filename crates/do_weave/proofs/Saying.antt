@@ -1,22 +1,16 @@
 -- What the lines of an input say of its node and of others.
+use Rattle.do_base.specs.declared.events.event.Event.TheVariants as events
 use Rattle.std.proofs.Common.{◌≡◌, ◌≢◌, Bool, true, false, ℕ, List, [], ◌∷◌, ◌++◌, Option, Some}
-use Rattle.std.proofs.Common.{None}
-use Rattle.std.proofs.Common.{refl, sym, ap, ◌∙◌, cond, eq-eqb, ne_eqb}
+use Rattle.std.proofs.Common.{None, refl, sym, ap, ◌∙◌, cond, eq-eqb, ne_eqb}
 use Rattle.std.specs.Prelude.{option_map, unwrap_or, ◌==◌}
 use Rattle.std.proofs.lemmas.Bool.{cond-false, cond-true}
-use Rattle.do_machine.specs.Commit.{showed, skipped}
-use Rattle.do_machine.specs.Step.{step}
-use Rattle.do_machine.specs.check.Blocks.{blocks}
-use Rattle.do_machine.specs.declared.state.State.{State}
-use Rattle.do_machine.specs.declared.state.Stepped.{Stepped}
-use Rattle.do_machine.specs.ends.Losing.{lost}
+use Rattle.do_machine.specs.{Commit.{showed, skipped}, Step.step, check.Blocks.blocks}
+use Rattle.do_machine.specs.{declared.state.{State.State, Stepped.Stepped}, ends.Losing.lost}
 use Rattle.do_record.specs.declared.parts.RecordLine.{RecordLine}
 use Rattle.do_record.specs.declared.parts.RecordLine.TheVariants.{Close, Ended, Run, Start, Take}
 use Rattle.do_sched.specs.declared.line.Line.{Line}
-use Rattle.do_weave.specs.Inputs.{ending, lines_of, shown_at, takes, tried}
-use Rattle.do_weave.specs.Rules.{Rules}
+use Rattle.do_weave.specs.{Inputs.{ending, lines_of, shown_at, takes, tried}, Rules.Rules}
 use Rattle.do_weave.specs.Said.{Said, said, said_at, said_if, taking}
-use Rattle.do_base.specs.declared.events.event.Event.TheVariants as events
 
 -- what is chosen where it is there is itself
 pub chosen_is : (b : Bool) (x s : Stepped) → cond b (Some x) None ≡ Some s → x ≡ s

@@ -1,31 +1,22 @@
 -- Where inputs of different nodes commute, a contradiction stands in every order.
-use Rattle.std.proofs.Common.{◌≡◌, ◌≢◌, true, ℕ, zero, suc, List, []}
-use Rattle.std.proofs.Common.{Option, Some, None, Err, refl, sym, ap, ◌∙◌, arith, subst, inl, inr}
-use Rattle.std.specs.Prelude.{slice_get}
+use Rattle.do_base.specs.declared.events.event.Event.TheVariants as events
+use Rattle.std.proofs.Common.{◌≡◌, ◌≢◌, true, ℕ, zero, suc, List, [], Option, Some, None, Err, refl}
+use Rattle.std.{proofs.Common.{sym, ap, ◌∙◌, arith, subst, inl, inr}, specs.Prelude.slice_get}
 use Rattle.std.proofs.lemmas.Bool.{cases_eq, cond-true}
 use Rattle.do_base.specs.declared.events.event.Event.{Event}
-use Rattle.do_machine.specs.Step.{step}
-use Rattle.do_machine.specs.declared.state.Seat.{Seat}
-use Rattle.do_machine.specs.declared.state.State.{State}
-use Rattle.do_machine.specs.declared.state.Stepped.{Stepped}
-use Rattle.do_record.specs.declared.parts.Record.{Record}
-use Rattle.do_record.specs.declared.parts.RecordLine.{RecordLine}
+use Rattle.do_machine.specs.{Step.step, declared.state.{Seat.Seat, State.State, Stepped.Stepped}}
+use Rattle.do_record.specs.declared.parts.{Record.Record, RecordLine.RecordLine}
 use Rattle.do_record.specs.declared.parts.RecordLine.TheVariants.{Close, Ended, Run, Start, Take}
 use Rattle.do_weave.specs.Inputs.{ending, lines_of, shown_at, takes, tried, tried_step}
-use Rattle.do_weave.specs.Orders.{HasOrder, InputsCommute, IsReached}
-use Rattle.do_weave.specs.Rules.{Rules}
+use Rattle.do_weave.specs.{Orders.{HasOrder, InputsCommute, IsReached}, Rules.Rules}
 use Rattle.do_weave.specs.Threads.{advanced, is_cut, next_block}
 use Rattle.do_weave.specs.Weaving.{Turn, Woven, agreed, agrees, before, contradiction, ended}
 use Rattle.do_weave.specs.Weaving.{threads_after, turn_in, turn_of, turned, woven_in}
-use Rattle.do_weave.specs.declared.fault.WeaveFault.{WeaveFault}
-use Rattle.do_weave.specs.declared.thread.Thread.{Thread}
+use Rattle.do_weave.specs.declared.{fault.WeaveFault.WeaveFault, thread.Thread.Thread}
 use Rattle.do_weave.proofs.Found.{IsTurnOf, before_err, ended_none, found, no_error, none_found}
-use Rattle.do_weave.proofs.Found.{parts}
-use Rattle.do_weave.proofs.Orders.{turn_again}
-use Rattle.do_weave.proofs.Places.{get_set_other, one_there, set_set_other}
-use Rattle.do_weave.proofs.Saying.{chosen_is}
+use Rattle.do_weave.proofs.{Found.parts, Orders.turn_again}
+use Rattle.do_weave.proofs.{Places.{get_set_other, one_there, set_set_other}, Saying.chosen_is}
 use Rattle.do_weave.proofs.Woven.{ThreadsApart, still_apart}
-use Rattle.do_base.specs.declared.events.event.Event.TheVariants as events
 
 -- a turn at a place is one turn
 one_turn : (R : Rules) (S : State) (records : List Record) (a b : Turn) → IsTurnOf R S records a →

@@ -1,34 +1,24 @@
 -- The lines that records are woven to are good, and take the steps of the inputs at most.
-use Rattle.std.proofs.Common.{◌≡◌, ◌∙◌, ◌++◌, ◌+◌, ◌≤◌, ℕ, zero, suc, List, []}
-use Rattle.std.proofs.Common.{◌∷◌, Option, Some, None, Ok, refl, sym, ap, subst, arith, All, inl}
-use Rattle.std.proofs.Common.{inr, drop, sum_by, get_or, drop-cons, add-one}
-use Rattle.std.specs.Prelude.{option_and_then, slice_get}
-use Rattle.std.specs.List.{AllByRecursion}
-use Rattle.std.proofs.lemmas.Bool.{cases_Bool}
-use Rattle.std.proofs.lemmas.List.Elements.{All-from_recursion, All-get_or, All-set}
-use Rattle.std.proofs.lemmas.List.Sorted.{All-permutation, sum_by-IsPermutation}
+use Rattle.do_record.specs.declared.parts.RecordLine.TheVariants as inputs
+use Rattle.std.proofs.Common.{◌≡◌, ◌∙◌, ◌++◌, ◌+◌, ◌≤◌, ℕ, zero, suc, List, [], ◌∷◌, Option, Some}
+use Rattle.std.proofs.Common.{None, Ok, refl, sym, ap, subst, arith, All, inl, inr, drop, sum_by}
+use Rattle.std.proofs.Common.{get_or, drop-cons, add-one}
+use Rattle.std.specs.{Prelude.{option_and_then, slice_get}, List.AllByRecursion}
+use Rattle.std.proofs.lemmas.{Bool.cases_Bool, List.Elements.{All-from_recursion, All-get_or}}
+use Rattle.std.proofs.lemmas.List.{Elements.All-set, Sorted.{All-permutation, sum_by-IsPermutation}}
 use Rattle.std.proofs.lemmas.List.Sums.{sum_by-append, sum_by-cons, sum_by-set}
 use Rattle.std.proofs.lemmas.Option.{get_or_from_slice_get, slice_get_within}
 use Rattle.do_machine.specs.declared.state.State.{State}
-use Rattle.do_record.specs.Good.{IsGoodInput, IsGoodRecord}
-use Rattle.do_record.specs.declared.parts.Block.{Block}
-use Rattle.do_record.specs.declared.parts.Record.{Record}
-use Rattle.do_record.specs.declared.parts.RecordLine.{RecordLine}
-use Rattle.do_record.specs.declared.parts.RecordLine.TheVariants as inputs
-use Rattle.do_sched.specs.Good.{IsLineOf}
-use Rattle.do_sched.specs.Spelling.{steps, steps_of}
-use Rattle.do_sched.specs.declared.line.Line.{Line}
+use Rattle.do_record.specs.{Good.{IsGoodInput, IsGoodRecord}, declared.parts.Block.Block}
+use Rattle.do_record.specs.declared.parts.{Record.Record, RecordLine.RecordLine}
+use Rattle.do_sched.specs.{Good.IsLineOf, Spelling.{steps, steps_of}, declared.line.Line.Line}
 use Rattle.do_sched.specs.declared.version.Version.TheVariants.{Second}
-use Rattle.do_weave.specs.Inputs.{lines_of}
-use Rattle.do_weave.specs.Laws.{AreGoodLines, block_steps, record_steps, steps_in}
-use Rattle.do_weave.specs.Rules.{Rules}
-use Rattle.do_weave.specs.Threads.{advanced, blocks_in, is_before, next_block, threads_from}
-use Rattle.do_weave.specs.Threads.{threads_of}
-use Rattle.do_weave.specs.Weaving.{Turn, agreed, contradiction, ended, threads_after, turn_in}
-use Rattle.do_weave.specs.Weaving.{woven, woven_in}
-use Rattle.do_weave.specs.declared.thread.Thread.{Thread}
-use Rattle.do_weave.proofs.Found.{before_ok, ended_none, found, no_error}
-use Rattle.do_weave.proofs.Sorting.{all_inserted_moves}
+use Rattle.do_weave.specs.{Inputs.lines_of, Laws.{AreGoodLines, block_steps, record_steps}}
+use Rattle.do_weave.specs.{Laws.steps_in, Rules.Rules, Threads.{advanced, blocks_in, is_before}}
+use Rattle.do_weave.specs.{Threads.{next_block, threads_from, threads_of}, Weaving.{Turn, agreed}}
+use Rattle.do_weave.specs.Weaving.{contradiction, ended, threads_after, turn_in, woven, woven_in}
+use Rattle.do_weave.{specs.declared.thread.Thread.Thread, proofs.Found.{before_ok, ended_none}}
+use Rattle.do_weave.proofs.{Found.{found, no_error}, Sorting.all_inserted_moves}
 use Rattle.do_weave.proofs.Turning.{woven_agreed, woven_disagreed, woven_none}
 
 -- what is somewhere in a list is as all are

@@ -1,17 +1,12 @@
 -- What one turn comes to.
-use Rattle.std.proofs.Common.{◌≡◌, true, false, ℕ, suc, ◌+◌, ◌<◌, List, [], ◌++◌, Option}
-use Rattle.std.proofs.Common.{Some, None, Ok, Err, refl, sym, ap, ◌∙◌, drop, get_or}
-use Rattle.std.proofs.Common.{append_assoc, length, drop-cons, add-one}
-use Rattle.std.specs.Prelude.{option_and_then, option_map}
+use Rattle.std.proofs.Common.{◌≡◌, true, false, ℕ, suc, ◌+◌, ◌<◌, List, [], ◌++◌, Option, Some}
+use Rattle.std.proofs.Common.{None, Ok, Err, refl, sym, ap, ◌∙◌, drop, get_or, append_assoc, length}
+use Rattle.std.{proofs.Common.{drop-cons, add-one}, specs.Prelude.{option_and_then, option_map}}
 use Rattle.std.proofs.lemmas.Bool.{cond-false, cond-true}
-use Rattle.do_machine.specs.declared.state.State.{State}
-use Rattle.do_machine.specs.declared.state.Stepped.{Stepped}
-use Rattle.do_record.specs.declared.parts.Block.{Block}
-use Rattle.do_record.specs.declared.parts.Record.{Record}
+use Rattle.do_machine.specs.declared.state.{State.State, Stepped.Stepped}
+use Rattle.do_record.specs.declared.parts.{Block.Block, Record.Record}
 use Rattle.do_sched.specs.declared.line.Line.{Line}
-use Rattle.do_weave.specs.Inputs.{lines_of, tried}
-use Rattle.do_weave.specs.Rules.{Rules}
-use Rattle.do_weave.specs.Threads.{next_block}
+use Rattle.do_weave.specs.{Inputs.{lines_of, tried}, Rules.Rules, Threads.next_block}
 use Rattle.do_weave.specs.Weaving.{Turn, Woven, agreed, before, contradiction, ended, or_turn}
 use Rattle.do_weave.specs.Weaving.{threads_after, turn_in, turn_of, turned, woven_in}
 use Rattle.do_weave.specs.declared.thread.Thread.{Thread}

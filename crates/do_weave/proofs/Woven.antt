@@ -1,20 +1,15 @@
 -- A schedule that was woven gives each record again.
-use Rattle.std.proofs.Common.{◌≡◌, ◌≢◌, true, ℕ, zero, suc, List, ◌++◌}
-use Rattle.std.proofs.Common.{Option, Some, None, Ok, Err, refl, sym, ap, ◌∙◌, arith, subst}
-use Rattle.std.proofs.Common.{inl, inr}
+use Rattle.std.proofs.Common.{◌≡◌, ◌≢◌, true, ℕ, zero, suc, List, ◌++◌, Option, Some, None, Ok, Err}
+use Rattle.std.proofs.Common.{refl, sym, ap, ◌∙◌, arith, subst, inl, inr}
 use Rattle.std.specs.Prelude.{option_and_then, slice_get, slice_set}
 use Rattle.std.proofs.lemmas.Bool.{cases_Bool, cases_eq, cond-false, cond-true}
-use Rattle.do_machine.specs.check.Blocks.{blocks}
-use Rattle.do_machine.specs.declared.state.State.{State}
+use Rattle.do_machine.specs.{check.Blocks.blocks, declared.state.State.State}
 use Rattle.do_record.specs.declared.parts.Record.{Record}
 use Rattle.do_sched.specs.declared.line.Line.{Line}
-use Rattle.do_weave.specs.Inputs.{lines_of, shown_at}
-use Rattle.do_weave.specs.Rules.{Rules}
-use Rattle.do_weave.specs.Said.{AreSaid, said_at}
-use Rattle.do_weave.specs.Threads.{advanced, is_cut_in, next_block}
-use Rattle.do_weave.specs.Weaving.{Turn, Woven, agreed, agrees, before, contradiction, ended}
-use Rattle.do_weave.specs.Weaving.{threads_after, turn_in, turned, woven_in}
-use Rattle.do_weave.specs.declared.thread.Thread.{Thread}
+use Rattle.do_weave.specs.{Inputs.{lines_of, shown_at}, Rules.Rules, Said.{AreSaid, said_at}}
+use Rattle.do_weave.specs.{Threads.{advanced, is_cut_in, next_block}, Weaving.{Turn, Woven, agreed}}
+use Rattle.do_weave.specs.Weaving.{agrees, before, contradiction, ended, threads_after, turn_in}
+use Rattle.do_weave.specs.{Weaving.{turned, woven_in}, declared.thread.Thread.Thread}
 use Rattle.do_weave.proofs.Found.{IsTurnOf, before_ok, ended_none, found, no_error}
 use Rattle.do_weave.proofs.Places.{get_none, get_set_other, get_set_same, one_there}
 use Rattle.do_weave.proofs.Saying.{other_lines, own_lines}

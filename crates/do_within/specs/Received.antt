@@ -4,11 +4,8 @@ use Rattle.do_base.specs.declared.events.event.Event.{Event}
 use Rattle.do_class.specs.Class.{Class}
 use Rattle.do_export.specs.Counts.{Counts, count_of}
 use Rattle.do_packet.specs.Limits.{most_names}
-use Rattle.do_machine.specs.declared.state.Seat.{Seat}
-use Rattle.do_machine.specs.run.Run.{Acting}
-use Rattle.do_network.specs.Links.{Part}
-use Rattle.do_network.specs.Net.{Net, net_opening, part_at}
-use Rattle.do_network.specs.Step.{net_skipped}
+use Rattle.do_machine.specs.{declared.state.Seat.Seat, run.Run.Acting}
+use Rattle.do_network.specs.{Links.Part, Net.{Net, net_opening, part_at}, Step.net_skipped}
 use Rattle.do_network.specs.Wired.{net_steps}
 
 -- no object is counted more often than a message has names, for each of so many events

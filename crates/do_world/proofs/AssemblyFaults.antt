@@ -1,15 +1,12 @@
 -- The first faulty line of a method's text, as a function of the text.
+use Rattle.do_script.specs.declared.fault.AsmFault.TheVariants as asm
 use Rattle.std.proofs.Common.{◌≡◌, ◌≢◌, ℕ, zero, suc, ◌+◌, ◌-◌, ◌<◌, List, length, Option, Some}
 use Rattle.std.proofs.Common.{None, [], ◌∷◌, take, refl, sym, ◌∙◌, ap, arith}
-use Rattle.std.specs.Prelude.{option_and_then, slice_get}
-use Rattle.std.specs.Option.{option_map}
-use Rattle.do_script.specs.Assembly.{IsCodeOf, IsFault, refusal, scope}
-use Rattle.do_script.specs.Listing.{Listing}
+use Rattle.std.specs.{Prelude.{option_and_then, slice_get}, Option.option_map}
+use Rattle.do_script.specs.{Assembly.{IsCodeOf, IsFault, refusal, scope}, Listing.Listing}
 use Rattle.do_script.specs.Program.{fault_at, fault_in, made, program, size}
 use Rattle.do_script.specs.declared.fault.AsmFault.{AsmFault}
-use Rattle.do_script.specs.declared.fault.AsmFault.TheVariants as asm
-use Rattle.do_world.specs.Faults.{assembly_fault, first_line}
-use Rattle.do_world.specs.Worlds.{listing}
+use Rattle.do_world.specs.{Faults.{assembly_fault, first_line}, Worlds.listing}
 
 -- where no line has a fault, none is first
 first_line_none : {K : Type 0} (tell : K → ℕ → AsmFault) (fault : ℕ → Option K)

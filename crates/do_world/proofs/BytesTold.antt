@@ -1,21 +1,13 @@
 -- What reading answers to bytes, by what their document is and says.
-use Rattle.std.proofs.Common.{◌≡◌, ℕ, Bool, true, false, List}
-use Rattle.std.proofs.Common.{Some, None, refl, sym, ◌∙◌, ap, cond, ◌⊎◌, inl, inr}
-use Rattle.std.proofs.Common.{Result, Ok, Err, IsUtf8}
-use Rattle.std.specs.Prelude.{IfErr, IfOk}
-use Rattle.std.specs.Str.{is_utf8}
-use Rattle.std.proofs.lemmas.Str.{IsUtf8-from_is_utf8, is_utf8-from_IsUtf8}
-use Rattle.toml.specs.Parse.{parse_document}
-use Rattle.toml.specs.Data.{Members}
-use Rattle.do_document.specs.Finding.{Finds, OrMemory}
-use Rattle.do_document.specs.declared.fault.WorldFault.{WorldFault}
+use Rattle.std.proofs.Common.{◌≡◌, ℕ, Bool, true, false, List, Some, None, refl, sym, ◌∙◌, ap, cond}
+use Rattle.std.{proofs.Common.{◌⊎◌, inl, inr, Result, Ok, Err, IsUtf8}, specs.Prelude.{IfErr, IfOk}}
+use Rattle.std.{specs.Str.is_utf8, proofs.lemmas.Str.{IsUtf8-from_is_utf8, is_utf8-from_IsUtf8}}
+use Rattle.toml.specs.{Parse.parse_document, Data.Members}
+use Rattle.do_document.specs.{Finding.{Finds, OrMemory}, declared.fault.WorldFault.WorldFault}
 use Rattle.do_document.specs.declared.fault.WorldFault.TheVariants.{Memory, Toml}
 use Rattle.do_document.proofs.InOrder.{Tells}
-use Rattle.do_world.specs.Faults.{fault_of}
-use Rattle.do_world.specs.Reading.{IsWorldText, document, first_fault, world_in}
-use Rattle.do_world.specs.Sound.{IsSound}
-use Rattle.do_world.specs.Worlds.{world_of}
-use Rattle.do_world.specs.declared.world.World.{World}
+use Rattle.do_world.specs.{Faults.fault_of, Reading.{IsWorldText, document, first_fault, world_in}}
+use Rattle.do_world.specs.{Sound.IsSound, Worlds.world_of, declared.world.World.World}
 
 -- ---- the bytes
 

@@ -1,30 +1,21 @@
 -- The codes of a class by its kind, and how they suit the class.
-use Rattle.std.proofs.Common.{◌≡◌, ◌≢◌, ◌∙◌, ◌≤◌, ◌+◌, ℕ, List, [], ◌∷◌, ◌++◌, length, map}
-use Rattle.std.proofs.Common.{take, Option, Some, None, refl, sym, ap, arith, subst, Result}
-use Rattle.std.proofs.Common.{Ok, Err}
-use Rattle.std.specs.Prelude.{IfSome, IsSome, codes, option_and_then, slice_get}
-use Rattle.std.specs.List.{All, AllZip}
-use Rattle.std.specs.Option.{option_map}
-use Rattle.std.proofs.lemmas.List.{length-map, map-append, take_all}
-use Rattle.std.proofs.lemmas.List.Elements.{All-from_recursion, recursion_from_All}
+use Rattle.do_class_kinds.specs.declared.kind.Kind.TheVariants as kinds
+use Rattle.std.proofs.Common.{◌≡◌, ◌≢◌, ◌∙◌, ◌≤◌, ◌+◌, ℕ, List, [], ◌∷◌, ◌++◌, length, map, take}
+use Rattle.std.proofs.Common.{Option, Some, None, refl, sym, ap, arith, subst, Result, Ok, Err}
+use Rattle.std.specs.{Prelude.{IfSome, IsSome, codes, option_and_then, slice_get}, List.All}
+use Rattle.std.{specs.{List.AllZip, Option.option_map}, proofs.lemmas.List.{length-map, map-append}}
+use Rattle.std.proofs.lemmas.List.{take_all, Elements.{All-from_recursion, recursion_from_All}}
 use Rattle.toml.specs.Data.{Members}
 use Rattle.do_behave.specs.Programs.{HasCodes, Suits}
-use Rattle.do_class.specs.Class.{Class}
-use Rattle.do_class.specs.declared.ids.Slot.{Slot}
-use Rattle.do_class.specs.declared.method.Method.{Method}
+use Rattle.do_class.specs.{Class.Class, declared.{ids.Slot.Slot, method.Method.Method}}
 use Rattle.do_script.specs.Listing.{IsWithin, Listing}
 use Rattle.do_class_kinds.specs.declared.kind.Kind.{Kind}
-use Rattle.do_class_kinds.specs.declared.kind.Kind.TheVariants as kinds
 use Rattle.do_document.specs.Classes.{class_by, class_of, kind_of, methods_by, slots_by, slots_in}
-use Rattle.do_document.specs.Document.{tables_at, text_at}
-use Rattle.do_document.specs.Finding.{Finds}
-use Rattle.do_document.specs.Sound.{IsClassOf}
-use Rattle.do_document.specs.declared.fault.WorldFault.{WorldFault}
-use Rattle.do_document.proofs.InOrder.{Tells}
+use Rattle.do_document.specs.{Document.{tables_at, text_at}, Finding.Finds, Sound.IsClassOf}
+use Rattle.do_document.{specs.declared.fault.WorldFault.WorldFault, proofs.InOrder.Tells}
 use Rattle.do_world.specs.Faults.{class_codes_fault, kind_codes_fault}
 use Rattle.do_world.specs.Worlds.{class_codes, codes_by, no_code, slot_names}
-use Rattle.do_world.proofs.CodeLoops.{past_end, take_one}
-use Rattle.do_world.proofs.CodeSteps.{zip_suits}
+use Rattle.do_world.proofs.{CodeLoops.{past_end, take_one}, CodeSteps.zip_suits}
 
 -- a class of a table has the slots and the methods of its kind
 parts_by : (t : Members) (kind : Kind) (c : Class) (name : Option (List ℕ))

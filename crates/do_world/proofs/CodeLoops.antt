@@ -1,24 +1,19 @@
 -- What one more method or class does to the codes that were read so far.
+use Rattle.do_document.specs.declared.place.Place.TheVariants as at
 use Rattle.std.proofs.Common.{◌≡◌, ℕ, ◌+◌, ◌<◌, ◌≤◌, List, [], ◌∷◌, ◌++◌, length, map, take, drop}
 use Rattle.std.proofs.Common.{get_or, Option, Some, None, refl, sym, ◌∙◌, ap, arith, subst, zero}
 use Rattle.std.proofs.Common.{suc, Result, Ok, Err, inl, inr}
-use Rattle.std.specs.List.{All, AllZip, filter_map}
-use Rattle.std.specs.Option.{option_map_or}
+use Rattle.std.specs.{List.{All, AllZip, filter_map}, Option.option_map_or}
 use Rattle.std.specs.Prelude.{IfSome, codes, option_and_then, slice_get}
 use Rattle.std.proofs.lemmas.List.{map-append, map_more, take_all}
 use Rattle.toml.specs.Data.{Members}
 use Rattle.do_script.specs.Listing.{Listing}
 use Rattle.do_class.specs.Class.{Class}
 use Rattle.do_class_kinds.specs.declared.kind.Kind.{Kind}
-use Rattle.do_document.specs.Checks.{first_among, first_behind}
-use Rattle.do_document.specs.Classes.{kind_of}
-use Rattle.do_document.specs.Document.{tables_at}
-use Rattle.do_document.specs.Finding.{Finds}
-use Rattle.do_document.specs.declared.place.Place.TheVariants as at
-use Rattle.do_document.specs.declared.fault.WorldFault.{WorldFault}
-use Rattle.do_document.proofs.Finding.{turn_bad, turn_good}
-use Rattle.do_document.proofs.Growing.{so_far, zip_push}
-use Rattle.do_document.proofs.InOrder.{Tells}
+use Rattle.do_document.specs.{Checks.{first_among, first_behind}, Classes.kind_of}
+use Rattle.do_document.specs.{Document.tables_at, Finding.Finds}
+use Rattle.do_document.{specs.declared.fault.WorldFault.WorldFault, proofs.Finding.turn_bad}
+use Rattle.do_document.proofs.{Finding.turn_good, Growing.{so_far, zip_push}, InOrder.Tells}
 use Rattle.do_world.specs.Faults.{class_codes_fault, code_fault, codes_fault, kind_codes_fault}
 use Rattle.do_world.specs.Faults.{method_code_fault}
 use Rattle.do_world.specs.Worlds.{class_codes, codes_by, codes_of, method_code}

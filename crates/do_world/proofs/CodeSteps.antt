@@ -1,30 +1,18 @@
 -- What the checks of a method's code come to.
-use Rattle.std.proofs.Common.{◌≡◌, ◌≢◌, ℕ, ◌+◌, List, [], ◌∷◌, ◌++◌, length, map, take}
-use Rattle.std.proofs.Common.{get_or, Some, None, sym, ◌∙◌, ap, arith}
-use Rattle.std.proofs.Common.{◌⊎◌, inl, inr, Result, Ok, Err, Bor}
-use Rattle.std.specs.Prelude.{MatchResult}
-use Rattle.std.specs.List.{AllByRecursion, AllZip}
-use Rattle.std.specs.Option.{option_map}
-use Rattle.std.specs.Prelude.{codes, slice_get}
-use Rattle.std.proofs.lemmas.List.{map_more}
-use Rattle.std.proofs.lemmas.Option.{slice_get_cases}
-use Rattle.toml.specs.Data.{Data, Members, as_str, get_member}
-use Rattle.do_script.specs.Assembly.{IsCodeOf, IsFault, scope}
-use Rattle.do_script.specs.Listing.{IsValid, Listing}
-use Rattle.do_script.specs.Program.{program}
-use Rattle.do_script.specs.declared.fault.AsmFault.{AsmFault}
 use Rattle.do_script.specs.declared.fault.AsmFault.TheVariants as asm
+use Rattle.std.proofs.Common.{◌≡◌, ◌≢◌, ℕ, ◌+◌, List, [], ◌∷◌, ◌++◌, length, map, take, get_or}
+use Rattle.std.proofs.Common.{Some, None, sym, ◌∙◌, ap, arith, ◌⊎◌, inl, inr, Result, Ok, Err, Bor}
+use Rattle.std.specs.{Prelude.{MatchResult, codes, slice_get}, List.{AllByRecursion, AllZip}}
+use Rattle.std.{specs.Option.option_map, proofs.lemmas.{List.map_more, Option.slice_get_cases}}
+use Rattle.toml.specs.Data.{Data, Members, as_str, get_member}
+use Rattle.do_script.specs.{Assembly.{IsCodeOf, IsFault, scope}, Listing.{IsValid, Listing}}
+use Rattle.do_script.specs.{Program.program, declared.fault.AsmFault.AsmFault}
 use Rattle.do_behave.specs.Programs.{Suits}
-use Rattle.do_document.specs.Checks.{is_text, misfit}
-use Rattle.do_document.specs.Finding.{Finds}
-use Rattle.do_document.specs.Paths.{path}
-use Rattle.do_document.specs.declared.place.Place.{Place}
-use Rattle.do_document.specs.declared.fault.WorldFault.{WorldFault}
+use Rattle.do_document.specs.{Checks.{is_text, misfit}, Finding.Finds, Paths.path}
+use Rattle.do_document.specs.declared.{place.Place.Place, fault.WorldFault.WorldFault}
 use Rattle.do_document.specs.declared.fault.WorldFault.TheVariants.{Asm, Memory, Wrong}
 use Rattle.do_document.proofs.InOrder.{Is, Tells, told, two_first, two_none, two_second}
-use Rattle.do_world.specs.Faults.{code_fault}
-use Rattle.do_world.specs.Faults.{text_fault}
-use Rattle.do_world.specs.Worlds.{code_text, method_code}
+use Rattle.do_world.specs.{Faults.{code_fault, text_fault}, Worlds.{code_text, method_code}}
 use Rattle.do_world.proofs.AssemblyFaults.{code_has_none, code_is, fault_is}
 
 -- no code stands there, which is the empty text

@@ -1,12 +1,10 @@
 -- What the counter world's classes keep to.
 use Rattle.std.proofs.Common.{◌≡◌, ℕ, ◌<◌, List, [], ◌∷◌, refl, arith, subst, sym}
-use Rattle.std.specs.Prelude.{IsNone, IsSome, IsTrue, codes}
-use Rattle.std.specs.List.{All, IsDistinct}
+use Rattle.std.specs.{Prelude.{IsNone, IsSome, IsTrue, codes}, List.{All, IsDistinct}}
 use Rattle.std.proofs.lemmas.List.Elements.{All-cons}
 use Rattle.do_sig.specs.Calls.{arg_count}
 use Rattle.do_grammar.specs.Names.{is_selector, colons}
-use Rattle.do_class.specs.Class.{AreMethods, Class}
-use Rattle.do_class.specs.Table.{class_named}
+use Rattle.do_class.specs.{Class.{AreMethods, Class}, Table.class_named}
 use Rattle.do_class.specs.declared.method.Method.{Method}
 use Rattle.do_world.specs.Counter.{number_to_number}
 

@@ -1,29 +1,21 @@
 -- A machine can open with the counter world, and its program is made for its classes.
 use Rattle.std.proofs.Common.{◌≡◌, ℕ, List, [], ◌∷◌, refl, arith}
-use Rattle.std.specs.Prelude.{Some, codes}
-use Rattle.std.specs.List.{AllByRecursion, IsDistinct}
+use Rattle.std.specs.{Prelude.{Some, codes}, List.{AllByRecursion, IsDistinct}}
 use Rattle.std.proofs.lemmas.List.Elements.{All-from_recursion, All-nil}
 use Rattle.do_behave.specs.Programs.{Suits}
-use Rattle.do_class.specs.Class.{Class, IsClass}
-use Rattle.do_class.specs.Table.{IsTable}
-use Rattle.do_check.specs.Rules.{AreRules, IsRule}
-use Rattle.do_check.specs.declared.rules.Rule.{Rule}
-use Rattle.do_class_kinds.specs.Kinds.{AreKindsOf}
-use Rattle.do_class_kinds.specs.Methods.{AreTyped}
-use Rattle.do_class_kinds.specs.declared.kind.Kind.{Kind}
+use Rattle.do_class.specs.{Class.{Class, IsClass}, Table.IsTable}
+use Rattle.do_check.specs.{Rules.{AreRules, IsRule}, declared.rules.Rule.Rule}
+use Rattle.do_class_kinds.specs.{Kinds.AreKindsOf, Methods.AreTyped, declared.kind.Kind.Kind}
 use Rattle.do_document.specs.Sound.{HasTypes}
 use Rattle.do_grammar.specs.Names.{is_selector}
-use Rattle.do_machine.specs.World.{IsSeat, IsWorld}
-use Rattle.do_machine.specs.declared.state.Seat.{Seat}
+use Rattle.do_machine.specs.{World.{IsSeat, IsWorld}, declared.state.Seat.Seat}
 use Rattle.do_script.specs.Listing.{IsLocal, IsMessage, IsWithin, Listing}
-use Rattle.do_sig.specs.Bare.{simple_encoding}
-use Rattle.do_sig.specs.MethodTypes.{IsMethodType}
+use Rattle.do_sig.specs.{Bare.simple_encoding, MethodTypes.IsMethodType}
 use Rattle.do_sig.specs.declared.value_type.Scalar.TheVariants.{LongLong}
 use Rattle.do_sig.proofs.SignaturePrinted.{simple_limited}
 use Rattle.do_world.specs.Counter.{add_code, counter_classes, counter_codes, counter_kinds}
 use Rattle.do_world.specs.Counter.{counter_nodes, counter_rules, counter_world, go_code}
-use Rattle.do_world.specs.Counter.{number_to_number}
-use Rattle.do_world.specs.Sound.{IsSound}
+use Rattle.do_world.specs.{Counter.number_to_number, Sound.IsSound}
 use Rattle.do_world.proofs.CounterClasses.{add_selects, go_selects, one_method}
 
 -- ---- the classes

@@ -1,16 +1,10 @@
 -- What the texts of the counter world's methods spell.
 use Rattle.std.proofs.Common.{◌≡◌, ℕ, zero, suc, List, [], ◌∷◌, refl}
 use Rattle.std.specs.Prelude.{codes, IfOk, Result, Ok, Err}
-use Rattle.do_grammar.specs.Dec.{dec_in, int_in}
-use Rattle.do_grammar.specs.Names.{is_selector}
-use Rattle.do_grammar.specs.Quoted.{quoted_at}
-use Rattle.do_script.specs.InstructionNames.{form_of}
-use Rattle.do_script.specs.Operands.{instruction}
-use Rattle.do_script.specs.Program.{program}
-use Rattle.do_script.specs.Quoted.{quoted_size}
-use Rattle.do_script.specs.Words.{first_word, words}
-use Rattle.do_script.specs.Assembly.{HasNoFault, IsCodeOf, scope}
-use Rattle.do_script.specs.Listing.{Listing}
+use Rattle.do_grammar.specs.{Dec.{dec_in, int_in}, Names.is_selector, Quoted.quoted_at}
+use Rattle.do_script.specs.{InstructionNames.form_of, Operands.instruction, Program.program}
+use Rattle.do_script.specs.{Quoted.quoted_size, Words.{first_word, words}}
+use Rattle.do_script.specs.{Assembly.{HasNoFault, IsCodeOf, scope}, Listing.Listing}
 use Rattle.do_world.specs.Counter.{add_code, class_names, go_code}
 
 -- the text of `add:`

@@ -1,33 +1,23 @@
 -- The document that the text of the mesh world is, and that it says that world without a fault.
 -- All of it is evaluation.
 use Rattle.std.proofs.Common.{◌≡◌, ℕ, List, refl}
-use Rattle.std.specs.Prelude.{Some, None, pos, codes, ◌++◌, ⊤, [], ◌∷◌}
-use Rattle.std.specs.Str.{is_utf8, chars}
+use Rattle.std.specs.{Prelude.{Some, None, pos, codes, ◌++◌, ⊤, [], ◌∷◌}, Str.{is_utf8, chars}}
 use Rattle.toml.specs.Data.{Items, Members, array, integer, item, member, no_items, no_members}
-use Rattle.toml.specs.Data.{string, table}
-use Rattle.toml.proofs.OnLiterals.{toml_on_literals}
-use Rattle.do_grammar.specs.Dec.{dec_in}
-use Rattle.do_grammar.specs.Names.{is_name, is_selector}
-use Rattle.do_grammar.specs.Quoted.{quoted_at}
+use Rattle.toml.{specs.Data.{string, table}, proofs.OnLiterals.toml_on_literals}
+use Rattle.do_grammar.specs.{Dec.dec_in, Names.{is_name, is_selector}, Quoted.quoted_at}
 use Rattle.do_sig.specs.reading.Outermost.{encoding_at, outermost_at}
-use Rattle.do_sig.specs.reading.Signatures.{args_at, bare_at, signature_at}
-use Rattle.do_sig.specs.reading.Types.{type_at}
-use Rattle.do_document.specs.Checks.{list_fault, misfit, missing, required, unknown}
+use Rattle.do_sig.specs.reading.{Signatures.{args_at, bare_at, signature_at}, Types.type_at}
+use Rattle.do_document.specs.Checks.{list_fault, misfit, missing, required, unknown, first_among}
 use Rattle.do_document.specs.ClassFaults.{class_checks, count_fault, entry_checks, method_checks}
 use Rattle.do_document.specs.ClassFaults.{methods_fault, neither, parts_fault, signature_fault}
-use Rattle.do_document.specs.ClassFaults.{slots_fault, types_fault}
+use Rattle.do_document.specs.ClassFaults.{slots_fault, types_fault, class_fault}
 use Rattle.do_document.specs.Classes.{classes_in, kind_of, methods_in, rules_in, slots_in}
 use Rattle.do_document.specs.Document.{members_at, tables_at, text_at, texts_at}
-use Rattle.do_script.specs.InstructionNames.{form_of}
-use Rattle.do_script.specs.Operands.{instruction}
-use Rattle.do_script.specs.Program.{program}
-use Rattle.do_script.specs.Quoted.{quoted_size}
-use Rattle.do_script.specs.Words.{first_word, words}
+use Rattle.do_script.specs.{InstructionNames.form_of, Operands.instruction, Program.program}
+use Rattle.do_script.specs.{Quoted.quoted_size, Words.{first_word, words}}
 use Rattle.do_world.specs.Faults.{class_codes_fault, code_fault, seat_checks, tables_fault}
 use Rattle.do_world.specs.Faults.{codes_fault, seat_fault, text_fault, top_fault}
 use Rattle.do_class.specs.Table.{names_of}
-use Rattle.do_document.specs.Checks.{first_among}
-use Rattle.do_document.specs.ClassFaults.{class_fault}
 use Rattle.do_world.specs.Mesh.{mesh_text, mesh_world}
 use Rattle.do_world.specs.Reading.{IsWorldText, document, first_fault, world_in}
 use Rattle.do_world.specs.Worlds.{class_codes, code_text, world_of}

@@ -1,8 +1,6 @@
 -- What the empty text spells.
-use Rattle.std.proofs.Common.{◌≡◌, ℕ, List, [], refl, Result, Ok, Err}
-use Rattle.std.specs.Prelude.{IfOk}
-use Rattle.do_script.specs.Assembly.{HasNoFault, IsCodeOf, scope}
-use Rattle.do_script.specs.Listing.{Listing}
+use Rattle.std.{proofs.Common.{◌≡◌, ℕ, List, [], refl, Result, Ok, Err}, specs.Prelude.IfOk}
+use Rattle.do_script.specs.{Assembly.{HasNoFault, IsCodeOf, scope}, Listing.Listing}
 use Rattle.do_script.specs.Program.{program}
 use Rattle.do_world.specs.Worlds.{no_code}
 

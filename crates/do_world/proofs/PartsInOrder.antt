@@ -1,28 +1,19 @@
 -- The parts of a document in their order, and the world that they say.
-use Rattle.std.proofs.Common.{◌≡◌, ◌≤◌, List, [], ◌∷◌, length, map, Option}
-use Rattle.std.proofs.Common.{None, refl, sym, ◌∙◌, ap, arith}
-use Rattle.std.proofs.Common.{subst}
-use Rattle.std.specs.Prelude.{codes}
-use Rattle.std.specs.List.{All, filter_map}
+use Rattle.std.proofs.Common.{◌≡◌, ◌≤◌, List, [], ◌∷◌, length, map, Option, None, refl, sym, ◌∙◌}
+use Rattle.std.{proofs.Common.{ap, arith, subst}, specs.{Prelude.codes, List.{All, filter_map}}}
 use Rattle.toml.specs.Data.{Members}
 use Rattle.do_behave.specs.Programs.{IsMadeFor}
-use Rattle.do_class.specs.Class.{Class}
-use Rattle.do_class.specs.Table.{IsTable, names_of}
-use Rattle.do_document.specs.Checks.{first_among}
-use Rattle.do_document.specs.ClassFaults.{class_fault}
+use Rattle.do_class.specs.{Class.Class, Table.{IsTable, names_of}}
+use Rattle.do_document.specs.{Checks.first_among, ClassFaults.class_fault}
 use Rattle.do_check.specs.declared.rules.Rule.{Rule}
-use Rattle.do_class_kinds.specs.Kinds.{AreKindsOf}
-use Rattle.do_class_kinds.specs.declared.kind.Kind.{Kind}
+use Rattle.do_class_kinds.specs.{Kinds.AreKindsOf, declared.kind.Kind.Kind}
 use Rattle.do_document.specs.Classes.{class_of, class_rules, classes_in, kind_of}
-use Rattle.do_document.specs.Document.{tables_at}
-use Rattle.do_document.specs.Sound.{HasTypes}
-use Rattle.do_document.specs.declared.fault.WorldFault.{WorldFault}
-use Rattle.do_document.proofs.InOrder.{Tells}
+use Rattle.do_document.specs.{Document.tables_at, Sound.HasTypes}
+use Rattle.do_document.{specs.declared.fault.WorldFault.WorldFault, proofs.InOrder.Tells}
 use Rattle.do_script.specs.Listing.{Listing}
 use Rattle.do_machine.specs.declared.state.Seat.{Seat}
 use Rattle.do_world.specs.Faults.{codes_fault, fault_of, seat_fault, top_fault}
-use Rattle.do_world.specs.Sound.{AreSeats, IsSound}
-use Rattle.do_world.specs.Worlds.{codes_of, seat_of, world_of}
+use Rattle.do_world.specs.{Sound.{AreSeats, IsSound}, Worlds.{codes_of, seat_of, world_of}}
 use Rattle.do_document.proofs.InRow.{row_first, row_next, row_none, told_by}
 
 module _ (d : Members) where

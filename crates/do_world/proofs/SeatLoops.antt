@@ -4,15 +4,10 @@ use Rattle.std.proofs.Common.{Some, None, sym, ◌∙◌, ap, arith, rules, inl,
 use Rattle.std.specs.List.{IsDistinct, filter_map}
 use Rattle.toml.specs.Data.{Members}
 use Rattle.do_class.specs.Class.{Class}
-use Rattle.do_document.specs.Checks.{first_behind}
-use Rattle.do_document.specs.declared.fault.WorldFault.{WorldFault}
-use Rattle.do_document.proofs.Finding.{turn_bad, turn_good}
-use Rattle.do_document.proofs.Growing.{so_far}
-use Rattle.do_document.proofs.InOrder.{Tells}
+use Rattle.do_document.specs.{Checks.first_behind, declared.fault.WorldFault.WorldFault}
+use Rattle.do_document.proofs.{Finding.{turn_bad, turn_good}, Growing.so_far, InOrder.Tells}
 use Rattle.do_machine.specs.declared.state.Seat.{Seat}
-use Rattle.do_world.specs.Faults.{seat_checks, seat_fault}
-use Rattle.do_world.specs.Sound.{AreSeats}
-use Rattle.do_world.specs.Worlds.{seat_of}
+use Rattle.do_world.specs.{Faults.{seat_checks, seat_fault}, Sound.AreSeats, Worlds.seat_of}
 
 -- no nodes are nodes of a world
 pub seats_none : (classes : List Class) (seats : List Seat) → seats ≡ [] → AreSeats classes seats

@@ -1,33 +1,21 @@
 -- What the checks of a node come to.
-use Rattle.std.proofs.Common.{◌≡◌, ℕ, ◌==◌, ◌&&◌, nat_le, ◌≤◌, List, [], ◌∷◌, ◌++◌, map, Bool}
-use Rattle.std.proofs.Common.{true, false, Option, Some, None, refl, sym, ◌∙◌, subst, arith}
-use Rattle.std.proofs.Common.{ℤ, pos, negsuc}
-use Rattle.std.specs.List.{IsDistinct, list_any}
-use Rattle.std.specs.Prelude.{codes, option_and_then, if◌then◌else◌}
-use Rattle.std.proofs.lemmas.Bool.{and_parts}
-use Rattle.std.proofs.lemmas.Bool.Decides.{nat_tests}
-use Rattle.std.proofs.lemmas.Cmp.{nat_eq_equiv}
-use Rattle.std.proofs.lemmas.List.{map-append}
-use Rattle.std.proofs.lemmas.List.Elements.{All-push}
-use Rattle.std.proofs.lemmas.Map.Keys.{IsDistinct-push}
-use Rattle.toml.specs.Data.{Data, Members, as_integer, get_member}
-use Rattle.do_class.specs.Class.{Class}
-use Rattle.do_class.specs.Table.{class_named}
-use Rattle.do_class.specs.declared.ids.ClassId.{ClassId}
-use Rattle.do_document.specs.Checks.{first_of, is_text_with, misfit, missing, required, unknown}
-use Rattle.do_document.specs.Document.{text_at}
-use Rattle.do_document.specs.Paths.{path}
-use Rattle.do_document.specs.declared.place.Place.{Place}
 use Rattle.do_document.specs.declared.place.Place.TheVariants as at
-use Rattle.do_document.specs.declared.fault.WorldFault.{WorldFault}
-use Rattle.do_document.specs.declared.fault.WorldFault.TheVariants.{Wrong}
+use Rattle.std.proofs.Common.{◌≡◌, ℕ, ◌==◌, ◌&&◌, nat_le, ◌≤◌, List, [], ◌∷◌, ◌++◌, map, Bool, true}
+use Rattle.std.proofs.Common.{false, Option, Some, None, refl, sym, ◌∙◌, subst, arith, ℤ, pos}
+use Rattle.std.proofs.Common.{negsuc}
+use Rattle.std.specs.{List.{IsDistinct, list_any}, Prelude.{codes, option_and_then, if◌then◌else◌}}
+use Rattle.std.proofs.lemmas.{Bool.{and_parts, Decides.nat_tests}, Cmp.nat_eq_equiv}
+use Rattle.std.proofs.lemmas.{List.{map-append, Elements.All-push}, Map.Keys.IsDistinct-push}
+use Rattle.toml.specs.Data.{Data, Members, as_integer, get_member}
+use Rattle.do_class.specs.{Class.Class, Table.class_named, declared.ids.ClassId.ClassId}
+use Rattle.do_document.specs.Checks.{first_of, is_text_with, misfit, missing, required, unknown}
+use Rattle.do_document.specs.{Document.text_at, Paths.path, declared.place.Place.Place}
+use Rattle.do_document.specs.declared.fault.WorldFault.{WorldFault, TheVariants.Wrong}
 use Rattle.do_document.proofs.Growing.{list_any_map, not_true}
 use Rattle.do_document.proofs.InOrder.{Is, Tells, in_first, told}
 use Rattle.do_sched.specs.Good.{IsPort}
-use Rattle.do_machine.specs.World.{IsSeat}
-use Rattle.do_machine.specs.declared.state.Seat.{Seat}
-use Rattle.do_world.specs.Faults.{is_class, is_free, is_new_port, seat_checks}
-use Rattle.do_world.specs.Sound.{AreSeats}
+use Rattle.do_machine.specs.{World.IsSeat, declared.state.Seat.Seat}
+use Rattle.do_world.specs.{Faults.{is_class, is_free, is_new_port, seat_checks}, Sound.AreSeats}
 use Rattle.do_world.specs.Worlds.{port_in, port_of, seat_of}
 
 -- a free port

@@ -1,24 +1,16 @@
 -- The version of a document, and its lists of tables.
-use Rattle.std.proofs.Common.{◌≡◌, ◌&&◌, ℕ, ◌≤◌, Bool, true, false, List, [], ◌∷◌, length, Option}
-use Rattle.std.proofs.Common.{Some, None, refl, sym, ◌∙◌, arith}
-use Rattle.std.proofs.Common.{Result, Ok, Err}
-use Rattle.std.specs.Prelude.{codes, nat_le, option_and_then}
-use Rattle.std.specs.List.{filter_map}
-use Rattle.std.specs.Option.{option_map_or, option_or}
-use Rattle.std.proofs.lemmas.Bool.Decides.{nat_tests}
-use Rattle.toml.specs.Data.{Data, Items, Members, as_array, as_table, get_member}
-use Rattle.do_document.specs.Checks.{first_among, is_list, is_of_kind}
-use Rattle.do_document.specs.Checks.{list_fault, member_fault, misfit, missing, required}
-use Rattle.do_document.specs.Checks.{wrong_unless}
-use Rattle.do_document.specs.Document.{members, members_at, tables_at}
-use Rattle.do_document.specs.Finding.{Finds}
-use Rattle.do_document.specs.Paths.{path}
-use Rattle.do_document.specs.declared.document.ItemKind.TheVariants.{Table}
-use Rattle.do_document.specs.declared.fault.WorldFault.{WorldFault}
-use Rattle.do_document.specs.declared.fault.WorldFault.TheVariants.{Wrong}
 use Rattle.do_document.specs.declared.place.Place.TheVariants as at
-use Rattle.do_document.proofs.Finding.{misfit_there, required_there}
-use Rattle.do_document.proofs.InOrder.{Is, Tells, told}
+use Rattle.std.proofs.Common.{◌≡◌, ◌&&◌, ℕ, ◌≤◌, Bool, true, false, List, [], ◌∷◌, length, Option}
+use Rattle.std.proofs.Common.{Some, None, refl, sym, ◌∙◌, arith, Result, Ok, Err}
+use Rattle.std.specs.{Prelude.{codes, nat_le, option_and_then}, List.filter_map}
+use Rattle.std.{specs.Option.{option_map_or, option_or}, proofs.lemmas.Bool.Decides.nat_tests}
+use Rattle.toml.specs.Data.{Data, Items, Members, as_array, as_table, get_member}
+use Rattle.do_document.specs.Checks.{first_among, is_list, is_of_kind, list_fault, member_fault}
+use Rattle.do_document.specs.Checks.{misfit, missing, required, wrong_unless}
+use Rattle.do_document.specs.{Document.{members, members_at, tables_at}, Finding.Finds, Paths.path}
+use Rattle.do_document.specs.declared.document.ItemKind.TheVariants.{Table}
+use Rattle.do_document.specs.declared.fault.WorldFault.{WorldFault, TheVariants.Wrong}
+use Rattle.do_document.proofs.{Finding.{misfit_there, required_there}, InOrder.{Is, Tells, told}}
 use Rattle.do_document.proofs.ListSteps.{few_tables}
 use Rattle.do_world.specs.Faults.{is_one, tables_fault}
 use Rattle.do_document.proofs.InRow.{row_first, row_next, row_none}

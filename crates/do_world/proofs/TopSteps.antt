@@ -1,15 +1,10 @@
 -- What stands at the top of a document.
-use Rattle.std.proofs.Common.{◌≡◌, ℕ, ◌≤◌, List, [], ◌∷◌, length, Option}
-use Rattle.std.proofs.Common.{None, refl}
-use Rattle.std.proofs.Common.{Result, Ok, Err}
-use Rattle.std.specs.Prelude.{codes}
-use Rattle.toml.specs.Data.{Members}
-use Rattle.do_document.specs.Checks.{required, unknown}
-use Rattle.do_document.specs.Document.{tables_at}
-use Rattle.do_document.specs.Finding.{Finds}
-use Rattle.do_document.specs.declared.fault.WorldFault.{WorldFault}
 use Rattle.do_document.specs.declared.place.Place.TheVariants as at
-use Rattle.do_document.proofs.InOrder.{Tells}
+use Rattle.std.proofs.Common.{◌≡◌, ℕ, ◌≤◌, List, [], ◌∷◌, length, Option, None, refl, Result, Ok}
+use Rattle.std.{proofs.Common.Err, specs.Prelude.codes}
+use Rattle.toml.specs.Data.{Members}
+use Rattle.do_document.specs.{Checks.{required, unknown}, Document.tables_at, Finding.Finds}
+use Rattle.do_document.{specs.declared.fault.WorldFault.WorldFault, proofs.InOrder.Tells}
 use Rattle.do_world.specs.Faults.{is_one, tables_fault, top_fault}
 use Rattle.do_document.proofs.InRow.{row_first, row_next, row_none}
 

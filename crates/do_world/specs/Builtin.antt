@@ -1,9 +1,6 @@
 -- The worlds that are built in.
-use Rattle.std.specs.Prelude.{ℕ, List, Option, Some, None, codes, if◌then◌else◌}
-use Rattle.std.specs.Str.{bytes_eq}
-use Rattle.do_world.specs.Counter.{counter_world}
-use Rattle.do_world.specs.Mesh.{mesh_world}
-use Rattle.do_world.specs.declared.world.World.{World}
+use Rattle.std.specs.{Prelude.{ℕ, List, Option, Some, None, codes, if◌then◌else◌}, Str.bytes_eq}
+use Rattle.do_world.specs.{Counter.counter_world, Mesh.mesh_world, declared.world.World.World}
 
 -- the built-in world of a name, of which there are two
 unfoldable pub builtin_world : List ℕ → Option World

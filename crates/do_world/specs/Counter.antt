@@ -1,14 +1,12 @@
 -- The counter world: a client that sends numbers to a counter, which adds them up.
+use Rattle.do_script.specs.declared.instruction.Instruction.TheVariants as does
 use Rattle.std.specs.Prelude.{ℕ, List, [], ◌∷◌, codes, false, pos}
-use Rattle.do_sig.specs.Bare.{simple_encoding}
-use Rattle.do_sig.specs.declared.signature.Signature.{Signature}
+use Rattle.do_sig.specs.{Bare.simple_encoding, declared.signature.Signature.Signature}
 use Rattle.do_sig.specs.declared.value_type.Scalar.TheVariants.{LongLong}
 use Rattle.do_class.specs.Class.{Class}
 use Rattle.do_check.specs.declared.rules.Rule.{Rule}
-use Rattle.do_class_kinds.specs.declared.kind.Kind.{Kind}
-use Rattle.do_class_kinds.specs.declared.kind.Kind.TheVariants.{Script}
+use Rattle.do_class_kinds.specs.declared.kind.Kind.{Kind, TheVariants.Script}
 use Rattle.do_script.specs.Listing.{Listing}
-use Rattle.do_script.specs.declared.instruction.Instruction.TheVariants as does
 use Rattle.do_machine.specs.declared.state.Seat.{Seat}
 use Rattle.do_world.specs.declared.world.World.{World}
 

@@ -1,28 +1,19 @@
 -- The first fault of a document: all that may be wrong, in the order in which it counts. What may
 -- be wrong with classes, but for the codes of their methods, stands in do_document.
-use Rattle.std.specs.Prelude.{ℕ, zero, suc, pos, ◌+◌, ◌==◌, Bool, false, not, is_some}
-use Rattle.std.specs.Prelude.{List, [], ◌∷◌, length, codes, Option, None, option_and_then}
-use Rattle.std.specs.List.{filter_map, list_any}
-use Rattle.std.specs.Option.{option_map, option_map_or, option_or}
-use Rattle.std.specs.Ordering.{int_eq}
+use Rattle.do_document.specs.declared.place.Place.TheVariants as at
+use Rattle.std.specs.Prelude.{ℕ, zero, suc, pos, ◌+◌, ◌==◌, Bool, false, not, is_some, List, []}
+use Rattle.std.specs.{Prelude.{◌∷◌, length, codes, Option, None, option_and_then}, List.filter_map}
+use Rattle.std.specs.{List.list_any, Option.{option_map, option_map_or, option_or}, Ordering.int_eq}
 use Rattle.toml.specs.Data.{Data, Members, as_integer}
-use Rattle.do_class.specs.Class.{Class}
-use Rattle.do_class.specs.Table.{class_named, names_of}
-use Rattle.do_script.specs.Assembly.{refusal, scope}
-use Rattle.do_script.specs.Program.{fault_at, program}
+use Rattle.do_class.specs.{Class.Class, Table.{class_named, names_of}}
+use Rattle.do_script.specs.{Assembly.{refusal, scope}, Program.{fault_at, program}}
 use Rattle.do_script.specs.declared.fault.AsmFault.{AsmFault}
 use Rattle.do_document.specs.Checks.{first_among, first_of, is_text, is_text_with, list_fault}
-use Rattle.do_document.specs.Checks.{misfit, missing, required, unknown}
-use Rattle.do_document.specs.ClassFaults.{class_fault}
-use Rattle.do_class_kinds.specs.declared.kind.Kind.{Kind}
-use Rattle.do_class_kinds.specs.declared.kind.Kind.TheVariants.{Script}
-use Rattle.do_document.specs.Classes.{classes_in, kind_of, slots_in}
-use Rattle.do_document.specs.Document.{tables_at}
-use Rattle.do_document.specs.Paths.{path}
-use Rattle.do_document.specs.declared.document.ItemKind.TheVariants.{Table}
-use Rattle.do_document.specs.declared.place.Place.{Place}
-use Rattle.do_document.specs.declared.place.Place.TheVariants as at
-use Rattle.do_document.specs.declared.fault.WorldFault.{WorldFault}
+use Rattle.do_document.specs.{Checks.{misfit, missing, required, unknown}, ClassFaults.class_fault}
+use Rattle.do_class_kinds.specs.declared.kind.Kind.{Kind, TheVariants.Script}
+use Rattle.do_document.specs.{Classes.{classes_in, kind_of, slots_in}, Document.tables_at}
+use Rattle.do_document.specs.{Paths.path, declared.document.ItemKind.TheVariants.Table}
+use Rattle.do_document.specs.declared.{place.Place.Place, fault.WorldFault.WorldFault}
 use Rattle.do_document.specs.declared.fault.WorldFault.TheVariants.{Asm}
 use Rattle.do_machine.specs.declared.state.Seat.{Seat}
 use Rattle.do_world.specs.Worlds.{code_text, port_of, seat_of, slot_names}

@@ -1,20 +1,18 @@
 -- The mesh world: four peers, each of which can make an item, and send it to another by its name
 -- and as a copy.
+use Rattle.do_sig.specs.declared.qualifiers.Direction.TheVariants as ways
+use Rattle.do_sig.specs.declared.qualifiers.Passing.TheVariants as passings
+use Rattle.do_script.specs.declared.instruction.Instruction.TheVariants as does
 use Rattle.std.specs.Prelude.{ℕ, List, [], ◌∷◌, ◌++◌, codes, false, true, Some, None}
 use Rattle.do_sig.specs.Bare.{bare, simple_method, void_encoding}
 use Rattle.do_sig.specs.declared.signature.Signature.{Signature}
-use Rattle.do_sig.specs.declared.qualifiers.Direction.TheVariants as ways
-use Rattle.do_sig.specs.declared.qualifiers.Passing.TheVariants as passings
 use Rattle.do_sig.specs.declared.value_type.Scalar.TheVariants.{Object, UnsignedShort}
 use Rattle.do_sig.specs.declared.value_type.ValueType.TheVariants.{Simple}
 use Rattle.do_sig.specs.declared.value_type.OutermostType.TheVariants.{Plain}
 use Rattle.do_class.specs.Class.{Class}
 use Rattle.do_check.specs.declared.rules.Rule.{Rule}
-use Rattle.do_class_kinds.specs.declared.kind.Kind.{Kind}
-use Rattle.do_class_kinds.specs.declared.kind.Kind.TheVariants.{Script}
-use Rattle.do_script.specs.Listing.{Listing}
-use Rattle.do_script.specs.declared.instruction.Instruction.{Instruction}
-use Rattle.do_script.specs.declared.instruction.Instruction.TheVariants as does
+use Rattle.do_class_kinds.specs.declared.kind.Kind.{Kind, TheVariants.Script}
+use Rattle.do_script.specs.{Listing.Listing, declared.instruction.Instruction.Instruction}
 use Rattle.do_machine.specs.declared.state.Seat.{Seat}
 use Rattle.do_world.specs.declared.world.World.{World}
 

@@ -1,15 +1,9 @@
 -- What reading a world's text answers.
-use Rattle.std.specs.Prelude.{◌≡◌, ℕ, List, Option, Some, None}
-use Rattle.std.specs.Prelude.{if◌then◌else◌}
-use Rattle.std.specs.Option.{option_map, option_map_or}
-use Rattle.std.specs.Str.{is_utf8}
-use Rattle.toml.specs.Data.{Members}
-use Rattle.toml.specs.Parse.{parse_document}
-use Rattle.do_world.specs.Faults.{fault_of}
-use Rattle.do_world.specs.Worlds.{world_of}
-use Rattle.do_world.specs.declared.world.World.{World}
-use Rattle.do_document.specs.declared.fault.WorldFault.{WorldFault}
-use Rattle.do_document.specs.declared.fault.WorldFault.TheVariants.{Toml}
+use Rattle.std.specs.Prelude.{◌≡◌, ℕ, List, Option, Some, None, if◌then◌else◌}
+use Rattle.std.specs.{Option.{option_map, option_map_or}, Str.is_utf8}
+use Rattle.toml.specs.{Data.Members, Parse.parse_document}
+use Rattle.do_world.specs.{Faults.fault_of, Worlds.world_of, declared.world.World.World}
+use Rattle.do_document.specs.declared.fault.WorldFault.{WorldFault, TheVariants.Toml}
 
 -- the document that bytes are, if they are UTF-8 and TOML 1.1
 unfoldable pub document : List ℕ → Option Members

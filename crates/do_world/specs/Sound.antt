@@ -1,15 +1,11 @@
 -- What holds of the parts of a world that are read.
-use Rattle.std.specs.Prelude.{◌≡◌, ℕ, ◌==◌, IsTrue, List, Some, map}
-use Rattle.std.specs.List.{All, IsDistinct}
+use Rattle.std.specs.{Prelude.{◌≡◌, ℕ, ◌==◌, IsTrue, List, Some, map}, List.{All, IsDistinct}}
 use Rattle.toml.specs.Data.{Members}
 use Rattle.do_behave.specs.Programs.{IsMadeFor}
 use Rattle.do_class.specs.Class.{Class}
 use Rattle.do_class_kinds.specs.Kinds.{AreKindsOf}
-use Rattle.do_machine.specs.World.{IsSeat, IsWorld}
-use Rattle.do_machine.specs.declared.state.Seat.{Seat}
-use Rattle.do_world.specs.Faults.{is_free}
-use Rattle.do_world.specs.Worlds.{seat_of}
-use Rattle.do_world.specs.declared.world.World.{World}
+use Rattle.do_machine.specs.{World.{IsSeat, IsWorld}, declared.state.Seat.Seat}
+use Rattle.do_world.specs.{Faults.is_free, Worlds.seat_of, declared.world.World.World}
 
 -- the node of a table, which can stand behind others
 pub record IsNextSeat (classes : List Class) (seats : List Seat) (t : Members)

@@ -1,21 +1,14 @@
 -- What world a document says. What is missing or has another form says nothing here; that it is
 -- refused, and where, stands in Faults.
-use Rattle.std.specs.Prelude.{ℕ, ℤ, pos, negsuc, nat_le, ◌&&◌, if◌then◌else◌, List, []}
-use Rattle.std.specs.Prelude.{length, map, codes, Option, Some, None, option_and_then}
-use Rattle.std.specs.List.{filter_map}
+use Rattle.std.specs.Prelude.{ℕ, ℤ, pos, negsuc, nat_le, ◌&&◌, if◌then◌else◌, List, [], length, map}
+use Rattle.std.specs.{Prelude.{codes, Option, Some, None, option_and_then}, List.filter_map}
 use Rattle.std.specs.Option.{option_map, option_map_or}
 use Rattle.toml.specs.Data.{Data, Members, get_member, as_integer, as_str}
-use Rattle.do_class.specs.Class.{Class}
-use Rattle.do_class.specs.Table.{class_named, names_of}
-use Rattle.do_class.specs.declared.ids.Slot.{Slot}
-use Rattle.do_class_kinds.specs.declared.kind.Kind.{Kind}
-use Rattle.do_class_kinds.specs.declared.kind.Kind.TheVariants.{Script}
+use Rattle.do_class.specs.{Class.Class, Table.{class_named, names_of}, declared.ids.Slot.Slot}
+use Rattle.do_class_kinds.specs.declared.kind.Kind.{Kind, TheVariants.Script}
 use Rattle.do_document.specs.Classes.{classes_in, kind_of, kinds_in, methods_by, rule_lists}
-use Rattle.do_document.specs.Classes.{slots_in}
-use Rattle.do_document.specs.Document.{tables_at, text_at}
-use Rattle.do_script.specs.Assembly.{scope}
-use Rattle.do_script.specs.Listing.{Listing}
-use Rattle.do_script.specs.Program.{code_from, program}
+use Rattle.do_document.specs.{Classes.slots_in, Document.{tables_at, text_at}}
+use Rattle.do_script.specs.{Assembly.scope, Listing.Listing, Program.{code_from, program}}
 use Rattle.do_machine.specs.declared.state.Seat.{Seat}
 use Rattle.do_world.specs.declared.world.World.{World}
 

@@ -1,9 +1,7 @@
 //! The worlds that are built in, by their names.
 ghost use Rattle.std.specs.Prelude.{◌≡◌, IfOk, IfSome};
-ghost use Rattle.do_world.specs.Builtin.{builtin_world};
-ghost use Rattle.do_world.specs.Mesh.{mesh_text, mesh_world};
-ghost use Rattle.do_world.specs.Reading.{IsWorldText};
-ghost use Rattle.do_world.specs.Sound.{IsSound};
+ghost use Rattle.do_world.specs.{Builtin.builtin_world, Mesh.{mesh_text, mesh_world}};
+ghost use Rattle.do_world.specs.{Reading.IsWorldText, Sound.IsSound};
 
 use crate::counter_world::counter;
 use crate::reader::read_world;

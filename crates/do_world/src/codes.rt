@@ -1,7 +1,6 @@
 //! The codes of texts that have no fault.
 ghost use Rattle.std.specs.Prelude.{◌≡◌, IfOk};
-ghost use Rattle.do_script.specs.Assembly.{HasNoFault, IsCodeOf, scope};
-ghost use Rattle.do_script.specs.Program.{program};
+ghost use Rattle.do_script.specs.{Assembly.{HasNoFault, IsCodeOf, scope}, Program.program};
 ghost use Rattle.do_world.specs.Worlds.{no_code};
 
 use do_script::{AsmFault, Code, Names, assemble};

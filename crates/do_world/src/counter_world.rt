@@ -2,13 +2,11 @@
 //! at node 7002 and sends it a number to add.
 ghost use Rattle.std.specs.Prelude.{◌≡◌, ◌<◌, ◌≤◌, ◌∷◌, [], ◌++◌, length, IfOk, OnOk, IsNone};
 ghost use Rattle.std.specs.Prelude.{IsTrue, codes, false};
-ghost use Rattle.do_class.specs.Class.{AreMethods};
-ghost use Rattle.do_class.specs.Table.{class_named};
+ghost use Rattle.do_class.specs.{Class.AreMethods, Table.class_named};
 ghost use Rattle.do_grammar.specs.Names.{is_selector, colons};
 ghost use Rattle.do_world.specs.Counter.{add_code, class_names, counter_classes, counter_codes};
 ghost use Rattle.do_world.specs.Counter.{counter_kinds, counter_nodes, counter_rules};
-ghost use Rattle.do_world.specs.Counter.{counter_world, go_code, number_to_number};
-ghost use Rattle.do_world.specs.Sound.{IsSound};
+ghost use Rattle.do_world.specs.{Counter.{counter_world, go_code, number_to_number}, Sound.IsSound};
 
 use crate::codes::code_of;
 use crate::world::World;

@@ -1,16 +1,12 @@
 //! The codes of the methods, which are read once all classes are.
 ghost use Rattle.std.specs.Prelude.{◌≡◌, ◌≢◌, ◌⊎◌, ◌<◌, IfOk, IfSome, OnOk, Some, codes, length};
-ghost use Rattle.std.specs.Prelude.{map, slice_get};
-ghost use Rattle.std.specs.List.{All, AllZip, filter_map};
+ghost use Rattle.std.specs.{Prelude.{map, slice_get}, List.{All, AllZip, filter_map}};
 ghost use Rattle.std.specs.Option.{option_map};
 ghost use Rattle.toml.specs.View.{table_view};
 ghost use Rattle.do_behave.specs.Programs.{HasCodes, IsMadeFor, Suits};
 ghost use Rattle.do_class.specs.Table.{IsTable, class_at, names_of};
-ghost use Rattle.do_document.specs.Checks.{first_among, is_text, misfit};
-ghost use Rattle.do_document.specs.Classes.{kind_of};
-ghost use Rattle.do_document.specs.Document.{tables_at};
-ghost use Rattle.do_document.specs.Finding.{Finds};
-ghost use Rattle.do_document.specs.Paths.{path};
+ghost use Rattle.do_document.specs.{Checks.{first_among, is_text, misfit}, Classes.kind_of};
+ghost use Rattle.do_document.specs.{Document.tables_at, Finding.Finds, Paths.path};
 ghost use Rattle.do_document.specs.Sound.{IsClassOf, IsKindOf};
 ghost use Rattle.do_world.specs.Faults.{class_codes_fault, code_fault, codes_fault};
 ghost use Rattle.do_world.specs.Faults.{kind_codes_fault, method_code_fault};

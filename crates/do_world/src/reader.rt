@@ -2,15 +2,11 @@
 ghost use Rattle.std.specs.Prelude.{◌≡◌, ◌⊎◌, ◌≤◌, Err, IfErr, IfOk, MatchResult, None, Ok, Some};
 ghost use Rattle.std.specs.Prelude.{codes, length};
 ghost use Rattle.toml.specs.View.{table_view, view};
-ghost use Rattle.do_document.specs.Checks.{required};
-ghost use Rattle.do_document.specs.Document.{tables_at};
-ghost use Rattle.do_document.specs.Finding.{Finds, OrMemory};
+ghost use Rattle.do_document.specs.{Checks.required, Document.tables_at, Finding.{Finds, OrMemory}};
 ghost use Rattle.do_document.specs.declared.fault.WorldFault.{WorldFault};
 ghost use Rattle.do_world.specs.Faults.{fault_of, is_one, tables_fault, top_fault};
-ghost use Rattle.do_world.specs.Reading.{IsWorldText, document, first_fault};
-ghost use Rattle.do_world.specs.Sound.{IsSound};
-ghost use Rattle.do_world.specs.Worlds.{world_of};
-ghost use Rattle.do_world.specs.declared.world.World.{World};
+ghost use Rattle.do_world.specs.{Reading.{IsWorldText, document, first_fault}, Sound.IsSound};
+ghost use Rattle.do_world.specs.{Worlds.world_of, declared.world.World.World};
 
 use crate::method_codes::codes_for;
 use crate::seats::seats_of;

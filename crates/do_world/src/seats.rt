@@ -1,16 +1,13 @@
 //! The nodes of a world.
 ghost use Rattle.std.specs.Prelude.{◌≡◌, ◌<◌, IsTrue, Some, codes, length, map, option_and_then};
 ghost use Rattle.std.specs.List.{filter_map};
-ghost use Rattle.toml.specs.Data.{get_member};
-ghost use Rattle.toml.specs.View.{table_view, view};
+ghost use Rattle.toml.specs.{Data.get_member, View.{table_view, view}};
 ghost use Rattle.do_sched.specs.Good.{IsPort};
 ghost use Rattle.do_class.specs.Table.{class_named};
-ghost use Rattle.do_document.specs.Checks.{first_among, is_text_with, required};
-ghost use Rattle.do_document.specs.Document.{text_at};
+ghost use Rattle.do_document.specs.{Checks.{first_among, is_text_with, required}, Document.text_at};
 ghost use Rattle.do_document.specs.Finding.{Finds};
 ghost use Rattle.do_world.specs.Faults.{is_class, is_free, is_new_port, seat_checks, seat_fault};
-ghost use Rattle.do_world.specs.Sound.{AreSeats, IsNextSeat};
-ghost use Rattle.do_world.specs.Worlds.{port_of, seat_of};
+ghost use Rattle.do_world.specs.{Sound.{AreSeats, IsNextSeat}, Worlds.{port_of, seat_of}};
 
 use do_base::{NodeId, Text};
 use do_class::{ClassId, ClassTable};

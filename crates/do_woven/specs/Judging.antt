@@ -1,12 +1,9 @@
 -- Records that are read one behind another.
 use Rattle.std.specs.Prelude.{Bool, Err, List, None, Ok, Option, Result, Some, if◌then◌else◌, not}
-use Rattle.std.specs.Prelude.{ℕ, ◌&&◌, ◌==◌}
-use Rattle.std.specs.List.{list_any}
+use Rattle.std.specs.{Prelude.{ℕ, ◌&&◌, ◌==◌}, List.list_any}
 use Rattle.do_machine.specs.declared.state.Seat.{Seat}
-use Rattle.do_record.specs.Recorded.{record_of}
-use Rattle.do_record.specs.declared.parts.Record.{Record}
-use Rattle.do_sched.specs.declared.fault.SchedFault.{SchedFault}
-use Rattle.do_sched.specs.declared.fault.SchedFault.TheVariants.{BadLine}
+use Rattle.do_record.specs.{Recorded.record_of, declared.parts.Record.Record}
+use Rattle.do_sched.specs.declared.fault.SchedFault.{SchedFault, TheVariants.BadLine}
 use Rattle.do_woven.specs.Steps.{passing_line, steps_in}
 
 -- a port is that of a node of a world

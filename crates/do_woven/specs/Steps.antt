@@ -1,9 +1,7 @@
 -- How many steps of a schedule records take.
 use Rattle.std.specs.Prelude.{List, None, Option, Some, [], if◌then◌else◌, nat_lt, sum_by, ℕ, ◌+◌}
 use Rattle.std.specs.Prelude.{◌∷◌}
-use Rattle.do_record.specs.declared.parts.Block.{Block}
-use Rattle.do_record.specs.declared.parts.Record.{Record}
-use Rattle.do_record.specs.declared.parts.RecordLine.{RecordLine}
+use Rattle.do_record.specs.declared.parts.{Block.Block, Record.Record, RecordLine.RecordLine}
 use Rattle.do_record.specs.declared.parts.RecordLine.TheVariants.{Ended}
 use Rattle.do_sched.specs.Schedule.{most_steps}
 

@@ -1,7 +1,6 @@
 //! Records that are read one behind another.
 ghost use Rattle.std.specs.Prelude.{◌≡◌, ◌+◌, ◌≤◌, IfOk, None};
-ghost use Rattle.do_sched.specs.Answers.{AnswersWith};
-ghost use Rattle.do_sched.specs.Schedule.{most_steps};
+ghost use Rattle.do_sched.specs.{Answers.AnswersWith, Schedule.most_steps};
 ghost use Rattle.do_woven.specs.Judging.{fault_line, has_record, has_seat, judged};
 ghost use Rattle.do_woven.specs.Steps.{record_steps, steps_in};
 

@@ -1,6 +1,5 @@
 //! The text of a schedule.
-ghost use Rattle.std.specs.Prelude.{◌≡◌, ◌++◌, IfOk, OnOk};
-ghost use Rattle.std.specs.List.{flat_map};
+ghost use Rattle.std.specs.{Prelude.{◌≡◌, ◌++◌, IfOk, OnOk}, List.flat_map};
 ghost use Rattle.do_sched.specs.Spelling.{fed, line_spelling, spelling};
 ghost use Rattle.do_sched.specs.declared.version.Version.TheVariants.{Second};
 

@@ -1,13 +1,11 @@
 -- What a loss does to what is under way, and what a reader takes.
 use Rattle.std.proofs.Common.{◌≡◌, ℕ, List, [], ◌∷◌, refl}
-use Rattle.std.specs.Prelude.{Option, option_map}
+use Rattle.std.specs.Prelude.{Option, option_map, Some}
 use Rattle.do_base.specs.declared.events.event.Event.TheVariants.{Lose, Take}
 use Rattle.do_class.specs.Class.{Class}
 use Rattle.do_machine.specs.run.Run.{Acting}
-use Rattle.do_network.specs.Net.{Carried, Lost, Net, Whole, channel}
-use Rattle.do_network.specs.Step.{net_skipped, net_step}
+use Rattle.do_network.specs.{Net.{Carried, Lost, Net, Whole, channel}, Step.{net_skipped, net_step}}
 use Rattle.examples_network.proofs.Samples.{node_of, site_of, two_sites}
-use Rattle.std.specs.Prelude.{Some}
 
 -- a frame of a kind, with nothing in it
 abbrev frame : ℕ → Carried

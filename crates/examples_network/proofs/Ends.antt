@@ -1,20 +1,17 @@
 -- How ends close: by a site's own will, by the peer's, by a loss and for a fault.
-use Rattle.std.proofs.Common.{◌≡◌, List, [], ◌∷◌, refl}
 use Rattle.do_base.specs.declared.events.shown.Shown.TheVariants as shows
 use Rattle.do_base.specs.declared.events.shown.Took.TheVariants as tooks
+use Rattle.do_network.specs.declared.input.Input.TheVariants as inputs
+use Rattle.std.proofs.Common.{◌≡◌, List, [], ◌∷◌, refl}
 use Rattle.do_base.specs.declared.events.exception.Exc.TheVariants.{ConnectionDied}
-use Rattle.do_behave.specs.declared.invocation.Invocation.{Invocation}
-use Rattle.do_behave.specs.declared.invocation.Answer.TheVariants.{Raised}
+use Rattle.do_behave.specs.declared.invocation.{Invocation.Invocation, Answer.TheVariants.Raised}
 use Rattle.do_behave.specs.declared.invocation.InvState.TheVariants.{Answered}
 use Rattle.do_class.specs.Class.{Class}
 use Rattle.do_frames.specs.declared.frame.Frame.TheVariants.{Shutdown}
 use Rattle.do_machine.specs.run.Run.{Acting}
 use Rattle.do_network.specs.declared.fault.PeerFault.TheVariants.{BadFrame}
-use Rattle.do_network.specs.declared.input.Done.TheVariants.{Closed, Moved}
-use Rattle.do_network.specs.declared.input.Input.TheVariants as inputs
-use Rattle.do_network.specs.Frames.{read_frame}
-use Rattle.do_network.specs.Links.{Framed, Greeting, Part, Sending}
-use Rattle.do_network.specs.Site.{passed, site_step}
+use Rattle.do_network.specs.{declared.input.Done.TheVariants.{Closed, Moved}, Frames.read_frame}
+use Rattle.do_network.specs.{Links.{Framed, Greeting, Part, Sending}, Site.{passed, site_step}}
 use Rattle.examples_network.proofs.Samples.{invocation, node_of, site_of, waiting}
 
 -- 7001 with an open end to 7002, and an invocation that waits for it

@@ -1,21 +1,15 @@
 -- Which frames a peer may not send.
-use Rattle.std.proofs.Common.{◌≡◌, ℕ, List, [], ◌∷◌, refl}
-use Rattle.std.specs.Prelude.{None, Option, Some}
+use Rattle.do_behave.specs.declared.invocation.Waited.TheVariants as waiteds
+use Rattle.std.{proofs.Common.{◌≡◌, ℕ, List, [], ◌∷◌, refl}, specs.Prelude.{None, Option, Some}}
 use Rattle.do_base.specs.declared.events.exception.Exc.TheVariants.{Range}
 use Rattle.do_behave.specs.declared.invocation.Invocation.{Invocation}
-use Rattle.do_behave.specs.declared.invocation.Waited.TheVariants as waiteds
-use Rattle.do_frames.specs.declared.frame.Frame.{Frame}
-use Rattle.do_frames.specs.declared.frame.Frame.TheVariants.{Gone, Granted, Raised, Reply}
+use Rattle.do_frames.specs.declared.frame.Frame.{Frame, TheVariants.{Gone, Granted, Raised, Reply}}
 use Rattle.do_frames.specs.declared.frame.Frame.TheVariants.{RootAnswer, Settle, Shutdown}
-use Rattle.do_machine.specs.declared.node.LateCall.{LateCall}
-use Rattle.do_machine.specs.declared.node.Lend.{Lend}
-use Rattle.do_machine.specs.declared.node.Wanted.{Wanted}
+use Rattle.do_machine.specs.declared.node.{LateCall.LateCall, Lend.Lend, Wanted.Wanted}
 use Rattle.do_machine.specs.lend.Asking.{wanted}
-use Rattle.do_network.specs.declared.fault.PeerFault.{PeerFault}
-use Rattle.do_network.specs.declared.fault.PeerFault.TheVariants.{OverRelease, UnknownCall}
-use Rattle.do_network.specs.declared.fault.PeerFault.TheVariants.{UnknownToken}
-use Rattle.do_network.specs.Faults.{peer_fault, release_fault}
-use Rattle.do_network.specs.Net.{opening_own}
+use Rattle.do_network.specs.declared.fault.PeerFault.{PeerFault, TheVariants.OverRelease}
+use Rattle.do_network.specs.declared.fault.PeerFault.TheVariants.{UnknownCall, UnknownToken}
+use Rattle.do_network.specs.{Faults.{peer_fault, release_fault}, Net.opening_own}
 use Rattle.examples_network.proofs.Samples.{call, method, node_of, nothing, object, token, waiting}
 
 -- the fault of a frame of a peer, at 7001 with these invocations and late calls

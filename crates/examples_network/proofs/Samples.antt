@@ -1,19 +1,15 @@
 -- Nodes, sites and networks of two, for examples.
-use Rattle.std.proofs.Common.{ℕ, List, [], ◌∷◌, map}
-use Rattle.std.specs.Prelude.{None, replicate}
-use Rattle.do_base.specs.names.Names.{CallName, ObjectName, TokenName}
-use Rattle.do_base.specs.declared.values.value.Value.TheVariants.{Nil}
-use Rattle.do_class.specs.declared.ids.MethodId.{MethodId}
-use Rattle.do_class.specs.declared.packet.Packet.{Packet}
-use Rattle.do_behave.specs.declared.invocation.Invocation.{Invocation}
-use Rattle.do_behave.specs.declared.invocation.InvState.{InvState}
-use Rattle.do_behave.specs.declared.invocation.InvState.TheVariants.{Waits}
 use Rattle.do_behave.specs.declared.invocation.Reason.TheVariants as reasons
 use Rattle.do_behave.specs.declared.invocation.Waited.TheVariants as waiteds
+use Rattle.std.{proofs.Common.{ℕ, List, [], ◌∷◌, map}, specs.Prelude.{None, replicate}}
+use Rattle.do_base.specs.names.Names.{CallName, ObjectName, TokenName}
+use Rattle.do_base.specs.declared.values.value.Value.TheVariants.{Nil}
+use Rattle.do_class.specs.declared.{ids.MethodId.MethodId, packet.Packet.Packet}
+use Rattle.do_behave.specs.declared.invocation.{Invocation.Invocation, InvState.InvState}
+use Rattle.do_behave.specs.declared.invocation.InvState.TheVariants.{Waits}
 use Rattle.do_machine.specs.declared.node.Node.{Node}
 use Rattle.do_network.specs.Links.{Part}
-use Rattle.do_network.specs.Net.{Carried, Channel, Net, opening_channel, opening_link}
-use Rattle.do_network.specs.Net.{opening_own}
+use Rattle.do_network.specs.Net.{Carried, Channel, Net, opening_channel, opening_link, opening_own}
 
 -- a node of a port with open ends to these peers
 abbrev pub node_of : ℕ → List ℕ → Node

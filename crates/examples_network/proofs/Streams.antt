@@ -1,18 +1,12 @@
 -- What stands in the streams between sites, as bytes.
-use Rattle.std.proofs.Common.{◌≡◌, ℕ, List, [], ◌∷◌, map, refl}
-use Rattle.std.specs.Prelude.{true}
-use Rattle.do_class.specs.declared.packet.Name.TheVariants.{Lent, Mine, Yours}
-use Rattle.do_class.specs.declared.packet.Packet.{Packet}
+use Rattle.std.{proofs.Common.{◌≡◌, ℕ, List, [], ◌∷◌, map, refl}, specs.Prelude.true}
+use Rattle.do_class.specs.declared.packet.{Name.TheVariants.{Lent, Mine, Yours}, Packet.Packet}
 use Rattle.do_coder.specs.Recent.{pair}
 use Rattle.do_frames.specs.declared.frame.Frame.{Frame}
-use Rattle.do_frames.specs.declared.frame.Frame.TheVariants.{Release, Reply, RootAsk}
-use Rattle.do_frames.specs.declared.frame.Frame.TheVariants.{Shutdown}
+use Rattle.do_frames.specs.declared.frame.Frame.TheVariants.{Release, Reply, RootAsk, Shutdown}
 use Rattle.do_grammar.specs.Num.{num, size}
-use Rattle.do_network.specs.declared.wire.Wire.{Wire}
-use Rattle.do_network.specs.Links.{Link, all_sent}
-use Rattle.do_network.specs.Frames.{Posted}
-use Rattle.do_network.specs.Net.{opening_link}
-use Rattle.do_network.specs.Step.{wire_of}
+use Rattle.do_network.specs.{declared.wire.Wire.Wire, Links.{Link, all_sent}, Frames.Posted}
+use Rattle.do_network.specs.{Net.opening_link, Step.wire_of}
 use Rattle.examples_network.proofs.Samples.{nothing, object}
 
 -- a frame to a peer

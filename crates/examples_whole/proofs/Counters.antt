@@ -1,19 +1,13 @@
 -- Nodes of the counter world, for examples.
-use Rattle.std.proofs.Common.{ℕ, [], ◌∷◌, pos}
-use Rattle.std.specs.Prelude.{None, codes}
-use Rattle.do_base.specs.names.Names.{ObjectName}
-use Rattle.do_base.specs.declared.values.value.Value.{Value}
+use Rattle.do_behave.specs.declared.invocation.Reason.TheVariants as reasons
+use Rattle.std.{proofs.Common.{ℕ, [], ◌∷◌, pos}, specs.Prelude.{None, codes}}
+use Rattle.do_base.specs.{names.Names.ObjectName, declared.values.value.Value.Value}
 use Rattle.do_base.specs.declared.values.value.Value.TheVariants.{Num, Text}
 use Rattle.do_class.specs.declared.ids.MethodId.{MethodId}
 use Rattle.do_behave.specs.declared.invocation.Invocation.{Invocation}
-use Rattle.do_behave.specs.declared.invocation.Reason.TheVariants as reasons
-use Rattle.do_machine.specs.declared.item.Item.{Item}
-use Rattle.do_machine.specs.declared.node.Node.{Node}
-use Rattle.do_machine.specs.declared.state.State.{State}
-use Rattle.do_machine.specs.Objects.{object_at}
-use Rattle.do_machine.specs.State.{change, with_queue}
-use Rattle.do_machine.specs.World.{opening, opening_node}
-use Rattle.do_machine.specs.run.Fresh.{fresh}
+use Rattle.do_machine.specs.declared.{item.Item.Item, node.Node.Node, state.State.State}
+use Rattle.do_machine.specs.{Objects.object_at, State.{change, with_queue}}
+use Rattle.do_machine.specs.{World.{opening, opening_node}, run.Fresh.fresh}
 use Rattle.do_world.specs.Counter.{counter_classes, counter_nodes}
 
 -- a number

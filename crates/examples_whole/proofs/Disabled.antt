@@ -1,22 +1,13 @@
 -- How a machine opens, and which events are not enabled.
-use Rattle.std.proofs.Common.{◌≡◌, List, [], ◌∷◌, refl}
-use Rattle.std.specs.Prelude.{codes}
-use Rattle.do_base.specs.declared.values.value.Value.{Value}
-use Rattle.do_base.specs.declared.events.event.Event.{Event}
 use Rattle.do_base.specs.declared.events.event.Event.TheVariants as events
-use Rattle.do_behave.specs.declared.invocation.Invocation.{Invocation}
-use Rattle.do_behave.specs.declared.invocation.InvState.TheVariants.{Waits}
 use Rattle.do_behave.specs.declared.invocation.Waited.TheVariants as waiteds
 use Rattle.do_sched.specs.declared.line.Line.TheVariants as lines
 use Rattle.do_machine.specs.declared.item.Item.TheVariants as items
-use Rattle.do_machine.specs.declared.state.State.{State}
-use Rattle.do_machine.specs.declared.state.Seat.{Seat}
-use Rattle.do_machine.specs.Commit.{skipped}
-use Rattle.do_machine.specs.Step.{step}
-use Rattle.do_machine.specs.World.{opening}
-use Rattle.do_machine.specs.check.Blocks.{line_step}
-use Rattle.do_machine.specs.run.Fresh.{pushed}
-use Rattle.do_machine.specs.run.Run.{Acting}
+use Rattle.std.{proofs.Common.{◌≡◌, List, [], ◌∷◌, refl}, specs.Prelude.codes}
+use Rattle.do_base.specs.declared.{values.value.Value.Value, events.event.Event.Event}
+use Rattle.do_behave.specs.declared.invocation.{Invocation.Invocation, InvState.TheVariants.Waits}
+use Rattle.do_machine.specs.{declared.state.{State.State, Seat.Seat}, Commit.skipped, Step.step}
+use Rattle.do_machine.specs.{World.opening, check.Blocks.line_step, run.{Fresh.pushed, Run.Acting}}
 use Rattle.do_world.specs.Counter.{counter_classes}
 use Rattle.examples_whole.proofs.Counters.{at_first, client, closed, counter, five, going, rootless}
 use Rattle.examples_whole.proofs.Counters.{under_way, with_node}

@@ -1,15 +1,10 @@
 -- Which objects have entries, what a node holds and leaves, and what it sees of the others.
-use Rattle.std.proofs.Common.{◌≡◌, true, false, [], ◌∷◌, map, Some, None, refl}
-use Rattle.do_class.specs.declared.packet.Name.{Name}
-use Rattle.do_class.specs.declared.packet.Name.TheVariants.{Mine, Yours}
-use Rattle.do_class.specs.declared.packet.Packet.{Packet}
-use Rattle.do_trace.specs.declared.outcome.NodeLine.{NodeLine}
 use Rattle.do_machine.specs.declared.item.Item.TheVariants as items
-use Rattle.do_machine.specs.declared.state.State.{State}
-use Rattle.do_machine.specs.Context.{around}
-use Rattle.do_machine.specs.Entry.{has_entry}
-use Rattle.do_machine.specs.Objects.{joined, object_at}
-use Rattle.do_machine.specs.check.Snapshot.{snapshot}
+use Rattle.std.proofs.Common.{◌≡◌, true, false, [], ◌∷◌, map, Some, None, refl}
+use Rattle.do_class.specs.declared.packet.{Name.{Name, TheVariants.{Mine, Yours}}, Packet.Packet}
+use Rattle.do_trace.specs.declared.outcome.NodeLine.{NodeLine}
+use Rattle.do_machine.specs.{declared.state.State.State, Context.around, Entry.has_entry}
+use Rattle.do_machine.specs.{Objects.{joined, object_at}, check.Snapshot.snapshot}
 use Rattle.do_machine.specs.held.Leaving.{leaving}
 use Rattle.examples_whole.proofs.Counters.{at_first, client, closed, counter, counter_object}
 use Rattle.examples_whole.proofs.Counters.{holder, under_way, with_node}

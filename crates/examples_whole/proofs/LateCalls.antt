@@ -1,16 +1,13 @@
 -- A call that is given up, and its answer.
-use Rattle.std.proofs.Common.{◌≡◌, [], ◌∷◌, refl}
-use Rattle.std.specs.Prelude.{Some, option_map}
-use Rattle.do_base.specs.declared.values.value.Value.TheVariants.{Nil}
-use Rattle.do_base.specs.declared.events.exception.Exc.TheVariants.{ConnectionDied, Range, TimedOut}
 use Rattle.do_base.specs.declared.events.shown.Shown.TheVariants as shows
 use Rattle.do_base.specs.declared.events.shown.Took.TheVariants as tooks
+use Rattle.do_machine.specs.declared.item.Item.TheVariants as items
+use Rattle.std.{proofs.Common.{◌≡◌, [], ◌∷◌, refl}, specs.Prelude.{Some, option_map}}
+use Rattle.do_base.specs.declared.values.value.Value.TheVariants.{Nil}
+use Rattle.do_base.specs.declared.events.exception.Exc.TheVariants.{ConnectionDied, Range, TimedOut}
 use Rattle.do_behave.specs.declared.invocation.Answer.TheVariants.{Given, Raised}
 use Rattle.do_behave.specs.declared.invocation.InvState.TheVariants.{Answered}
-use Rattle.do_machine.specs.declared.item.Item.TheVariants as items
-use Rattle.do_machine.specs.ends.Closing.{closing}
-use Rattle.do_machine.specs.ends.TimeOut.{time_out}
-use Rattle.do_machine.specs.take.Awaiting.{answering}
+use Rattle.do_machine.specs.{ends.{Closing.closing, TimeOut.time_out}, take.Awaiting.answering}
 use Rattle.do_machine.specs.take.Take.{method_call, root_call, take_effect}
 use Rattle.examples_whole.proofs.Samples.{invocation, judged, late_call, node_with, waiting}
 

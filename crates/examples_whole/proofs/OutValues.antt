@@ -1,6 +1,5 @@
 -- Where the values of an answer go.
-use Rattle.std.proofs.Common.{◌≡◌, [], ◌∷◌, refl}
-use Rattle.std.specs.Prelude.{Some, pos, slice_get}
+use Rattle.std.{proofs.Common.{◌≡◌, [], ◌∷◌, refl}, specs.Prelude.{Some, pos, slice_get}}
 use Rattle.do_base.specs.declared.values.value.Value.TheVariants.{Nil, Num}
 use Rattle.do_behave.specs.declared.invocation.InvState.TheVariants.{Below, Running}
 use Rattle.do_machine.specs.run.Changes.{uses}

@@ -1,16 +1,12 @@
 -- A node and its invocations, for examples.
-use Rattle.std.proofs.Common.{ℕ, List, [], ◌∷◌}
-use Rattle.std.specs.Prelude.{None, Some, false, replicate}
-use Rattle.do_base.specs.declared.values.value.Value.TheVariants.{Nil}
-use Rattle.do_class.specs.declared.ids.MethodId.{MethodId}
-use Rattle.do_behave.specs.declared.invocation.Invocation.{Invocation}
-use Rattle.do_behave.specs.declared.invocation.InvState.{InvState}
-use Rattle.do_behave.specs.declared.invocation.InvState.TheVariants.{Waits}
 use Rattle.do_behave.specs.declared.invocation.Reason.TheVariants as reasons
 use Rattle.do_behave.specs.declared.invocation.Waited.TheVariants as waiteds
-use Rattle.do_machine.specs.declared.node.LateCall.{LateCall}
-use Rattle.do_machine.specs.declared.node.Node.{Node}
-use Rattle.do_machine.specs.Context.{Context}
+use Rattle.std.{proofs.Common.{ℕ, List, [], ◌∷◌}, specs.Prelude.{None, Some, false, replicate}}
+use Rattle.do_base.specs.declared.values.value.Value.TheVariants.{Nil}
+use Rattle.do_class.specs.declared.ids.MethodId.{MethodId}
+use Rattle.do_behave.specs.declared.invocation.{Invocation.Invocation, InvState.InvState}
+use Rattle.do_behave.specs.declared.invocation.InvState.TheVariants.{Waits}
+use Rattle.do_machine.specs.{declared.node.{LateCall.LateCall, Node.Node}, Context.Context}
 
 -- the second method of the first class
 abbrev pub method : MethodId

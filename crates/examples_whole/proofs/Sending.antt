@@ -1,16 +1,12 @@
 -- What becomes of a message that is sent, and of a root that is asked for.
 use Rattle.std.proofs.Common.{◌≡◌, ℕ, List, [], ◌∷◌, pos, negsuc, Some, None, refl}
 use Rattle.std.specs.Prelude.{codes}
-use Rattle.do_base.specs.declared.values.value.Value.{Value}
-use Rattle.do_base.specs.declared.values.value.Value.TheVariants.{Nil, Num, Obj}
+use Rattle.do_base.specs.declared.values.value.Value.{Value, TheVariants.{Nil, Num, Obj}}
 use Rattle.do_base.specs.declared.events.exception.Exc.TheVariants.{ConnectionDied, NotUnderstood}
 use Rattle.do_base.specs.declared.events.exception.Exc.TheVariants.{NotVended, TypeFault}
-use Rattle.do_machine.specs.declared.node.Node.{Node}
-use Rattle.do_machine.specs.declared.verdict.SendAct.{SendAct}
-use Rattle.do_machine.specs.declared.verdict.Verdict.TheVariants.{Fails, Goes}
-use Rattle.do_machine.specs.Context.{RunContext, context}
-use Rattle.do_machine.specs.run.Acts.{port_of, root_rule}
-use Rattle.do_machine.specs.run.Send.{send_rule}
+use Rattle.do_machine.specs.declared.{node.Node.Node, verdict.SendAct.SendAct}
+use Rattle.do_machine.specs.{declared.verdict.Verdict.TheVariants.{Fails, Goes}, Context.RunContext}
+use Rattle.do_machine.specs.{Context.context, run.{Acts.{port_of, root_rule}, Send.send_rule}}
 use Rattle.do_world.specs.Counter.{counter_classes}
 use Rattle.examples_whole.proofs.Counters.{a_text, at_first, client, client_object, closed}
 use Rattle.examples_whole.proofs.Counters.{counter_object, five, going, holder, rootless}

@@ -1,30 +1,21 @@
 -- What becomes of items that a node takes, of answers, and of what a node sends.
-use Rattle.std.proofs.Common.{◌≡◌, ℕ, true, List, [], ◌∷◌, replicate, None, refl}
-use Rattle.std.specs.Prelude.{Err, codes}
-use Rattle.do_base.specs.declared.values.value.Value.{Value}
-use Rattle.do_base.specs.declared.events.exception.Exc.{Exc}
-use Rattle.do_base.specs.declared.events.exception.Exc.TheVariants.{NotUnderstood, NotVended}
-use Rattle.do_base.specs.declared.events.exception.Exc.TheVariants.{TypeFault}
 use Rattle.do_base.specs.declared.events.shown.Shown.TheVariants as shows
-use Rattle.do_behave.specs.declared.invocation.Answer.{Answer}
-use Rattle.do_behave.specs.declared.invocation.Answer.TheVariants.{Raised}
-use Rattle.do_behave.specs.declared.invocation.InvState.TheVariants.{Answered}
 use Rattle.do_behave.specs.declared.invocation.Reason.TheVariants as reasons
 use Rattle.do_behave.specs.declared.invocation.Waited.TheVariants as waiteds
-use Rattle.do_machine.specs.declared.item.Item.{Item}
-use Rattle.do_machine.specs.declared.item.Message.{Message}
-use Rattle.do_machine.specs.declared.node.Node.{Node}
-use Rattle.do_machine.specs.Commit.{commit, with_sent}
-use Rattle.do_machine.specs.Context.{Context, RunContext, context}
-use Rattle.do_machine.specs.Effect.{only, queueing, showing}
-use Rattle.do_machine.specs.run.Delivery.{delivery, failing}
-use Rattle.do_machine.specs.run.Fresh.{with_stack}
-use Rattle.do_machine.specs.take.Awaiting.{stack_answered, values_answer}
-use Rattle.do_machine.specs.take.Requests.{admission, refusing}
-use Rattle.do_machine.specs.take.Take.{method_call}
+use Rattle.std.proofs.Common.{◌≡◌, ℕ, true, List, [], ◌∷◌, replicate, None, refl}
+use Rattle.std.specs.Prelude.{Err, codes}
+use Rattle.do_base.specs.declared.{values.value.Value.Value, events.exception.Exc.Exc}
+use Rattle.do_base.specs.declared.events.exception.Exc.TheVariants.{NotUnderstood, NotVended}
+use Rattle.do_base.specs.declared.events.exception.Exc.TheVariants.{TypeFault}
+use Rattle.do_behave.specs.declared.invocation.Answer.{Answer, TheVariants.Raised}
+use Rattle.do_behave.specs.declared.invocation.InvState.TheVariants.{Answered}
+use Rattle.do_machine.specs.declared.{item.{Item.Item, Message.Message}, node.Node.Node}
+use Rattle.do_machine.specs.{Commit.{commit, with_sent}, Context.{Context, RunContext, context}}
+use Rattle.do_machine.specs.{Effect.{only, queueing, showing}, run.Delivery.{delivery, failing}}
+use Rattle.do_machine.specs.{run.Fresh.with_stack, take.Awaiting.{stack_answered, values_answer}}
+use Rattle.do_machine.specs.take.{Requests.{admission, refusing}, Take.method_call}
 use Rattle.do_world.specs.Counter.{counter_classes}
-use Rattle.examples_whole.proofs.Counters.{a_text, at_first, client, closed, counter}
-use Rattle.examples_whole.proofs.Counters.{five, going}
+use Rattle.examples_whole.proofs.Counters.{a_text, at_first, client, closed, counter, five, going}
 use Rattle.examples_whole.proofs.Samples.{waiting}
 
 -- a message to the counter, whose values do not count here

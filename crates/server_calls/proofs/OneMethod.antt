@@ -1,8 +1,6 @@
 -- One method alone is the methods of a class.
-use Rattle.std.proofs.Common.{◌≡◌, List, [], ◌∷◌, ◌++◌, arith, refl}
-use Rattle.std.specs.Prelude.{IsTrue}
-use Rattle.do_class.specs.Class.{AreMethods}
-use Rattle.do_class.specs.declared.method.Method.{Method}
+use Rattle.std.{proofs.Common.{◌≡◌, List, [], ◌∷◌, ◌++◌, arith, refl}, specs.Prelude.IsTrue}
+use Rattle.do_class.specs.{Class.AreMethods, declared.method.Method.Method}
 use Rattle.do_class.proofs.Methods.{AreMethods-none, AreMethods-push}
 use Rattle.do_sig.specs.Calls.{arg_count}
 use Rattle.do_grammar.specs.Names.{is_selector, colons}

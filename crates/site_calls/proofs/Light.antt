@@ -1,10 +1,8 @@
 -- Lists of objects that weigh little.
 use Rattle.std.proofs.Common.{◌≡◌, zero, suc, ◌<◌, Bool, true, false, cond, List, [], ◌∷◌, ◌++◌}
 use Rattle.std.proofs.Common.{sum_by, subst, sym, rules}
-use Rattle.do_base.specs.names.Names.{ObjectName}
-use Rattle.do_base.specs.values.Values.{weight_of}
-use Rattle.do_base.specs.declared.values.value.Value.{Value, the_lemmas}
-use Rattle.do_base.specs.declared.values.value.Value.TheVariants.{Obj}
+use Rattle.do_base.specs.{names.Names.ObjectName, values.Values.weight_of}
+use Rattle.do_base.specs.declared.values.value.Value.{Value, the_lemmas, TheVariants.Obj}
 use Rattle.site_calls.specs.Samples.{AllLight}
 
 -- an object weighs 48

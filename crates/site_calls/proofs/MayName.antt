@@ -1,11 +1,9 @@
 -- When a slot may name an object.
 use Rattle.std.proofs.Common.{◌≡◌, ◌≢◌, ℕ, ◌+◌, ◌<◌, ◌^◌, Bool, true, false, cond, eqb, eqb-true}
 use Rattle.std.proofs.Common.{IsSome, refl, arith, subst}
-use Rattle.do_base.specs.names.Names.{ObjectName}
-use Rattle.do_base.specs.declared.values.value.Value.TheVariants.{Obj}
+use Rattle.do_base.specs.{names.Names.ObjectName, declared.values.value.Value.TheVariants.Obj}
 use Rattle.do_store.specs.Names.{Objects, find_stored, named_in, value_names}
-use Rattle.do_store.proofs.StepsInARow.{once, once_same}
-use Rattle.do_store.proofs.Valued.{names-own, names-foreign}
+use Rattle.do_store.proofs.{StepsInARow.{once, once_same}, Valued.{names-own, names-foreign}}
 use Rattle.site_calls.specs.May.{MayHold}
 
 -- one name is that of one serial

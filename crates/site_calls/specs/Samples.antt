@@ -1,8 +1,7 @@
 -- A node as a packer sees it.
 use Rattle.std.specs.Prelude.{◌≡◌, ◌<◌, ◌^◌, ◌==◌, ℕ, List, None, Some, if◌then◌else◌, not}
 use Rattle.std.specs.Prelude.{slice_get, sum_by}
-use Rattle.do_base.specs.values.Values.{weight_of}
-use Rattle.do_base.specs.declared.values.value.Value.{Value}
+use Rattle.do_base.specs.{values.Values.weight_of, declared.values.value.Value.Value}
 use Rattle.do_class.specs.declared.ids.ClassId.{ClassId}
 use Rattle.do_packet.specs.Seen.{Seen}
 

@@ -1,12 +1,9 @@
 -- Two numbers in order are read exactly.
 use Rattle.std.proofs.Common.{◌≡◌, ℕ, List, ◌++◌, refl, ap, ◌∙◌, arith}
-use Rattle.do_grammar.specs.Reader.{mapped}
-use Rattle.do_grammar.specs.Forms.{Then, Mapped}
-use Rattle.do_grammar.specs.Num.{num, num_at, Num}
+use Rattle.do_grammar.specs.{Reader.mapped, Forms.{Then, Mapped}, Num.{num, num_at, Num}}
 use Rattle.text_calls.specs.Pair.{Pair, pair_at}
 use Rattle.do_grammar.proofs.reads.ExactReader.{Reads, Reads-then, Reads-as}
-use Rattle.do_grammar.proofs.reads.FormsExact.{Reads-mapped}
-use Rattle.do_grammar.proofs.texts.NumExact.{Reads-num}
+use Rattle.do_grammar.proofs.{reads.FormsExact.Reads-mapped, texts.NumExact.Reads-num}
 
 pub Reads-pair : {K : Type 0} (why : K) → Reads Pair (pair_at why)
 unfolding pair_at

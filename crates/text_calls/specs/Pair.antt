@@ -1,7 +1,6 @@
 -- Two numbers from 1 to 9 in order: the worked example of how a grammar is added.
 use Rattle.std.specs.Prelude.{◌≡◌, ℕ, ◌≤◌, List, ◌++◌}
-use Rattle.do_grammar.specs.Reader.{Reader, and_then, mapped}
-use Rattle.do_grammar.specs.Num.{num, num_at}
+use Rattle.do_grammar.specs.{Reader.{Reader, and_then, mapped}, Num.{num, num_at}}
 
 -- the spelling of two numbers from 1 to 9, of which the second isn't below the first
 pub record Pair (text : List ℕ) (x : ℕ × ℕ) : Type 0 where

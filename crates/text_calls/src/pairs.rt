@@ -2,9 +2,7 @@
 //! in order.
 
 ghost use Rattle.std.specs.Prelude.{◌≡◌, ℕ, List, ◌++◌, length};
-ghost use Rattle.do_grammar.specs.Reader.{no_kind};
-ghost use Rattle.do_grammar.specs.RestAnswers.{Gives};
-ghost use Rattle.do_grammar.specs.PlaceAnswers.{Tells, Finds};
+ghost use Rattle.do_grammar.specs.{Reader.no_kind, RestAnswers.Gives, PlaceAnswers.{Tells, Finds}};
 ghost use Rattle.text_calls.specs.Pair.{Pair, pair_at};
 
 use call_rows::{Part, count_value, no_call, printed, text_at};

@@ -1,11 +1,9 @@
 -- Behaviours of one program decide alike.
-use Rattle.std.proofs.Common.{◌≡◌, List, [], ◌∷◌, ◌++◌, ap, sym, ◌∙◌}
-use Rattle.std.specs.List.{AllByRecursion}
+use Rattle.std.{proofs.Common.{◌≡◌, List, [], ◌∷◌, ◌++◌, ap, sym, ◌∙◌}, specs.List.AllByRecursion}
 use Rattle.do_behave.specs.Script.{script}
 use Rattle.do_script.specs.Listing.{Listing}
 use Rattle.do_net.specs.Net.{AreAlike}
-use Rattle.whole_runs.specs.Counters.{AreOf}
-use Rattle.whole_runs.specs.declared.counting.Counting.{Counting}
+use Rattle.whole_runs.specs.{Counters.AreOf, declared.counting.Counting.Counting}
 
 -- one more is of the program
 pub counts_more : (program : List (List Listing)) (m : Counting) (makers : List Counting) →

@@ -1,6 +1,5 @@
 -- Behaviours that count.
-use Rattle.std.specs.Prelude.{List, ◌≡◌}
-use Rattle.std.specs.List.{AllByRecursion}
+use Rattle.std.specs.{Prelude.{List, ◌≡◌}, List.AllByRecursion}
 use Rattle.do_script.specs.Listing.{Listing}
 use Rattle.whole_runs.specs.declared.counting.Counting.{Counting}
 

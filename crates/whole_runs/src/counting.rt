@@ -33,8 +33,7 @@ impl Counting {
 }
 
 impl Behaviour for Counting {
-    ghost use Rattle.do_behave.specs.Programs.{IsMadeFor};
-    ghost use Rattle.do_behave.specs.Script.{script};
+    ghost use Rattle.do_behave.specs.{Programs.IsMadeFor, Script.script};
     ghost use Rattle.do_behave.specs.laws.ScriptLaws.{script_names_shown, script_answers_well};
 
     ghost act = { λ c. script c.program };

@@ -1,7 +1,6 @@
 //! Calls of a link in memory.
 
-ghost use Rattle.std.specs.List.{All};
-ghost use Rattle.std.specs.Prelude.{IfOk, ◌≤◌, length};
+ghost use Rattle.std.specs.{List.All, Prelude.{IfOk, ◌≤◌, length}};
 ghost use Rattle.do_link.specs.InMemory.{IsPiece};
 
 use crate::words::{calls_of, node_of, peers_of, port_value, push_word};

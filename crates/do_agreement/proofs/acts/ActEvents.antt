@@ -1,37 +1,23 @@
 -- Each event at which a node acts keeps a network in agreement with the state.
+use Rattle.do_network.specs.declared.input.Input.TheVariants as inputs
 use Rattle.std.proofs.Common.{◌≡◌, ℕ, false, cond, not, List, refl, sym, ap, ◌∙◌, subst}
 use Rattle.std.specs.Prelude.{None, Option, Some, option_and_then, option_map, unwrap_or}
 use Rattle.do_base.specs.declared.values.value.Value.{Value}
 use Rattle.do_base.specs.declared.events.event.Event.TheVariants.{Close, Run, Start, Timeout}
 use Rattle.do_class.specs.Class.{Class}
-use Rattle.do_machine.specs.declared.node.Node.{Node}
-use Rattle.do_machine.specs.declared.state.State.{State}
-use Rattle.do_machine.specs.declared.state.Stepped.{Stepped}
-use Rattle.do_machine.specs.Commit.{moved, skipped}
-use Rattle.do_machine.specs.Context.{context}
-use Rattle.do_machine.specs.Entry.{has_entry}
-use Rattle.do_machine.specs.Objects.{object_at}
-use Rattle.do_machine.specs.Start.{start_effect}
-use Rattle.do_machine.specs.State.{is_open, node}
-use Rattle.do_machine.specs.Step.{moved_by, step}
-use Rattle.do_machine.specs.ends.Closing.{closing}
-use Rattle.do_machine.specs.ends.TimeOut.{time_out}
+use Rattle.do_machine.specs.declared.{node.Node.Node, state.{State.State, Stepped.Stepped}}
+use Rattle.do_machine.specs.{Commit.{moved, skipped}, Context.context, Entry.has_entry}
+use Rattle.do_machine.specs.{Objects.object_at, Start.start_effect, State.{is_open, node}}
+use Rattle.do_machine.specs.{Step.{moved_by, step}, ends.{Closing.closing, TimeOut.time_out}}
 use Rattle.do_machine.specs.run.Run.{Acting, run_effect}
 use Rattle.do_facts.specs.links.LinksAreKept.{LinksAreKept}
-use Rattle.do_network.specs.declared.input.Input.{Input}
-use Rattle.do_network.specs.declared.input.Input.TheVariants as inputs
-use Rattle.do_network.specs.Links.{Part}
-use Rattle.do_network.specs.Net.{Net, Place, part_at, place_at}
-use Rattle.do_network.specs.Own.{site_context}
-use Rattle.do_network.specs.Site.{enabled_input, moves}
-use Rattle.do_network.specs.Spelled.{SendsSpelled}
-use Rattle.do_network.specs.Step.{net_moved, net_skipped, net_step}
+use Rattle.do_network.specs.{declared.input.Input.Input, Links.Part, Net.{Net, Place, part_at}}
+use Rattle.do_network.specs.{Net.place_at, Own.site_context, Site.{enabled_input, moves}}
+use Rattle.do_network.specs.{Spelled.SendsSpelled, Step.{net_moved, net_skipped, net_step}}
 use Rattle.do_network.proofs.JudgedAlike.{context_alike}
-use Rattle.do_agreement.specs.Agrees.{Agrees, StepAgrees}
-use Rattle.do_agreement.specs.Classed.{ClassesAreTold}
+use Rattle.do_agreement.specs.{Agrees.{Agrees, StepAgrees}, Classed.ClassesAreTold}
 use Rattle.do_agreement.proofs.acts.ActsAgree.{act_if, close_if, node_is, skip_agrees}
-use Rattle.do_agreement.proofs.commits.EntriesJudged.{counts_judge}
-use Rattle.do_agreement.proofs.commits.Moving.{shown_but}
+use Rattle.do_agreement.proofs.commits.{EntriesJudged.counts_judge, Moving.shown_but}
 
 -- a site of a network that agrees is judged as the machine's node
 pub judged_so : (table : List Class) (N : Net) (S : State) → Agrees table N S → (port : ℕ)

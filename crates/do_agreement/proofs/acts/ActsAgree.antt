@@ -1,42 +1,24 @@
 -- A network agrees with the state after a node acted.
+use Rattle.do_network.specs.declared.input.Done.TheVariants as dones
 use Rattle.std.proofs.Common.{◌≡◌, ℕ, Bool, true, false, cond, not, List, [], refl, sym, ap, ◌∙◌}
 use Rattle.std.specs.Prelude.{None, Option, Some, is_some, option_map, unwrap_or}
-use Rattle.do_base.specs.declared.events.event.Event.{Event}
-use Rattle.do_base.specs.names.Names.{ObjectName}
-use Rattle.do_class.specs.Class.{Class}
-use Rattle.do_class.specs.declared.ids.ClassId.{ClassId}
-use Rattle.do_machine.specs.declared.node.Node.{Node}
-use Rattle.do_machine.specs.declared.state.Effect.{Effect}
-use Rattle.do_machine.specs.declared.state.State.{State}
-use Rattle.do_machine.specs.Commit.{moved, skipped}
-use Rattle.do_machine.specs.Context.{around}
-use Rattle.do_machine.specs.State.{class_of, is_known, node}
-use Rattle.do_machine.specs.Step.{moved_by}
-use Rattle.do_machine.specs.held.Leaving.{leaving}
-use Rattle.do_machine.specs.run.Run.{Acting}
-use Rattle.do_facts.specs.links.Links.{links_of}
-use Rattle.do_facts.specs.links.LinksAreKept.{LinksAreKept}
-use Rattle.do_facts.specs.links.Sound.{IsSound}
+use Rattle.do_base.specs.{declared.events.event.Event.Event, names.Names.ObjectName}
+use Rattle.do_class.specs.{Class.Class, declared.ids.ClassId.ClassId}
+use Rattle.do_machine.specs.declared.{node.Node.Node, state.{Effect.Effect, State.State}}
+use Rattle.do_machine.specs.{Commit.{moved, skipped}, Context.around, State.{class_of, is_known}}
+use Rattle.do_machine.specs.{State.node, Step.moved_by, held.Leaving.leaving, run.Run.Acting}
+use Rattle.do_facts.specs.links.{Links.links_of, LinksAreKept.LinksAreKept, Sound.IsSound}
 use Rattle.do_facts.specs.steps.IsStep.{Acts, IsActOf, IsRuleOf, IsStep}
-use Rattle.do_facts.proofs.links.Bridge.{link_bridge}
-use Rattle.do_facts.proofs.steps.OthersStay.{class_stays}
-use Rattle.do_network.specs.declared.input.Done.TheVariants as dones
-use Rattle.do_network.specs.Counting.{counted}
-use Rattle.do_network.specs.Links.{Part}
-use Rattle.do_network.specs.Net.{Net, Place, part_at, place_at}
-use Rattle.do_network.specs.Own.{class_kept, is_counted}
-use Rattle.do_network.specs.Site.{moves}
-use Rattle.do_network.specs.Spelled.{SentSpelled}
+use Rattle.do_facts.proofs.{links.Bridge.link_bridge, steps.OthersStay.class_stays}
+use Rattle.do_network.specs.{Counting.counted, Links.Part, Net.{Net, Place, part_at, place_at}}
+use Rattle.do_network.specs.{Own.{class_kept, is_counted}, Site.moves, Spelled.SentSpelled}
 use Rattle.do_network.specs.Step.{net_moved, net_skipped, place_after}
-use Rattle.do_agreement.specs.Agrees.{Agrees, StepAgrees}
-use Rattle.do_agreement.specs.Classed.{ClassesAreTold}
+use Rattle.do_agreement.specs.{Agrees.{Agrees, StepAgrees}, Classed.ClassesAreTold}
 use Rattle.do_agreement.specs.Tallies.{left_after}
 use Rattle.do_agreement.proofs.classes.ClassesAfter.{IsClassed, classes_moved, classes_stay_so}
-use Rattle.do_agreement.proofs.classes.ClassesAfter.{known_classed}
-use Rattle.do_agreement.proofs.classes.KnownAfter.{known_after}
-use Rattle.do_agreement.proofs.places.PlacesChanged.{by_part}
-use Rattle.do_agreement.proofs.acts.StepTallies.{act_outcome, act_sound, act_tallies, rule_moves}
-use Rattle.do_agreement.proofs.acts.StepTallies.{sound_here}
+use Rattle.do_agreement.proofs.classes.{ClassesAfter.known_classed, KnownAfter.known_after}
+use Rattle.do_agreement.proofs.{places.PlacesChanged.by_part, acts.StepTallies.act_outcome}
+use Rattle.do_agreement.proofs.acts.StepTallies.{act_sound, act_tallies, rule_moves, sound_here}
 
 -- what a node knows once it left what it does without, it knew before
 pub left_known : (n : Node) (entry : ℕ → ℕ → Bool) →

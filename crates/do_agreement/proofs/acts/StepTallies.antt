@@ -1,36 +1,21 @@
 -- A network tallies with the state after a node acted.
+use Rattle.do_facts.specs.Net as nets
 use Rattle.std.proofs.Common.{◌≡◌, ℕ, true, false, List, [], refl, sym, ap, ◌∙◌, subst}
 use Rattle.std.specs.Prelude.{Some, option_map}
 use Rattle.do_base.specs.declared.events.event.Event.{Event}
 use Rattle.do_class.specs.Class.{Class}
-use Rattle.do_machine.specs.declared.node.Node.{Node}
-use Rattle.do_machine.specs.declared.state.Effect.{Effect}
-use Rattle.do_machine.specs.declared.state.State.{State}
-use Rattle.do_machine.specs.Commit.{moved}
-use Rattle.do_machine.specs.State.{node}
-use Rattle.do_machine.specs.run.Run.{Acting}
-use Rattle.do_facts.specs.Net as nets
-use Rattle.do_facts.specs.View.{AreMoves, part_seen}
-use Rattle.do_facts.specs.links.Links.{Atom, links, links_of}
-use Rattle.do_facts.specs.links.LinksAreKept.{LinksAreKept}
-use Rattle.do_facts.specs.links.Moves.{link_rules}
-use Rattle.do_facts.specs.links.Sound.{IsSound}
+use Rattle.do_machine.specs.declared.{node.Node.Node, state.{Effect.Effect, State.State}}
+use Rattle.do_machine.specs.{Commit.moved, State.node, run.Run.Acting}
+use Rattle.do_facts.specs.{View.{AreMoves, part_seen}, links.Links.{Atom, links, links_of}}
+use Rattle.do_facts.specs.links.{LinksAreKept.LinksAreKept, Moves.link_rules, Sound.IsSound}
 use Rattle.do_facts.specs.steps.IsStep.{IsRuleOf}
-use Rattle.do_facts.proofs.EffectReaches.{ok_by}
-use Rattle.do_facts.proofs.links.Bridge.{link_bridge}
-use Rattle.do_facts.proofs.NodeRuns.{by_rule}
-use Rattle.do_network.specs.declared.input.Done.{Done}
-use Rattle.do_network.specs.Links.{Part}
-use Rattle.do_network.specs.Net.{Net, Place, part_at, place_at}
-use Rattle.do_network.specs.Site.{handled, moves, site_move}
-use Rattle.do_network.specs.Spelled.{SentSpelled}
-use Rattle.do_network.specs.Step.{net_moved}
-use Rattle.do_network.specs.fits.Notes.{Note}
-use Rattle.do_agreement.specs.Tallies.{Tallies}
-use Rattle.do_agreement.specs.CountsFit.{none_closes}
+use Rattle.do_facts.proofs.{EffectReaches.ok_by, links.Bridge.link_bridge, NodeRuns.by_rule}
+use Rattle.do_network.specs.{declared.input.Done.Done, Links.Part}
+use Rattle.do_network.specs.{Net.{Net, Place, part_at, place_at}, Site.{handled, moves, site_move}}
+use Rattle.do_network.specs.{Spelled.SentSpelled, Step.net_moved, fits.Notes.Note}
+use Rattle.do_agreement.specs.{Tallies.Tallies, CountsFit.none_closes}
 use Rattle.do_agreement.proofs.commits.MoveTallies.{move_tallies, shown_alike}
-use Rattle.do_agreement.proofs.places.StepAsCommits.{two_commits}
-use Rattle.do_agreement.proofs.sites.RuleEffects.{rule_effect}
+use Rattle.do_agreement.proofs.{places.StepAsCommits.two_commits, sites.RuleEffects.rule_effect}
 use Rattle.do_agreement.proofs.commits.Moving.{Commits, shown_but}
 
 -- the effect of an event's rule is moves

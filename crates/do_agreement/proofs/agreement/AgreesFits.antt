@@ -1,20 +1,12 @@
 -- A network that agrees with a state stands for it, where the state keeps lends, asks and calls.
 use Rattle.std.proofs.Common.{◌≡◌, ◌≢◌, ◌==◌, ℕ, false, List, map, refl, sym, ap, ◌∙◌, arith}
-use Rattle.std.specs.Prelude.{Some, option_map}
-use Rattle.std.proofs.lemmas.Bool.Decides.{nat_tests}
+use Rattle.std.{specs.Prelude.{Some, option_map}, proofs.lemmas.Bool.Decides.nat_tests}
 use Rattle.do_class.specs.Class.{Class}
-use Rattle.do_machine.specs.declared.state.State.{State}
-use Rattle.do_machine.specs.State.{node, queue}
-use Rattle.do_network.specs.Links.{Part}
-use Rattle.do_network.specs.Net.{Net, part_at}
-use Rattle.do_network.specs.fits.Fits.{Fits}
-use Rattle.do_network.specs.fits.Notes.{Note}
-use Rattle.do_facts.specs.calls.Facts.{CallsAreKept}
-use Rattle.do_facts.specs.links.LinksAreKept.{LinksAreKept}
-use Rattle.do_agreement.specs.Agrees.{Agrees}
-use Rattle.do_agreement.specs.StandBetween.{StandBetween}
-use Rattle.do_agreement.proofs.pairs.CallsOfPairs.{one_call}
-use Rattle.do_agreement.proofs.pairs.LendsOfPairs.{one_ask, one_lend}
+use Rattle.do_machine.specs.{declared.state.State.State, State.{node, queue}}
+use Rattle.do_network.specs.{Links.Part, Net.{Net, part_at}, fits.{Fits.Fits, Notes.Note}}
+use Rattle.do_facts.specs.{calls.Facts.CallsAreKept, links.LinksAreKept.LinksAreKept}
+use Rattle.do_agreement.specs.{Agrees.Agrees, StandBetween.StandBetween}
+use Rattle.do_agreement.proofs.pairs.{CallsOfPairs.one_call, LendsOfPairs.{one_ask, one_lend}}
 use Rattle.do_agreement.proofs.places.Numbers.{flipped}
 
 -- numbers that a test tells apart are apart

@@ -1,26 +1,17 @@
 -- A network that agrees with a state goes on agreeing, event by event.
-use Rattle.std.proofs.Common.{◌≡◌, List}
-use Rattle.do_base.specs.declared.events.event.Event.{Event}
-use Rattle.do_class.specs.Class.{Class}
-use Rattle.do_class.specs.Table.{IsTable}
-use Rattle.do_machine.specs.declared.state.Seat.{Seat}
-use Rattle.do_machine.specs.declared.state.State.{State}
-use Rattle.do_machine.specs.Step.{step}
-use Rattle.do_machine.specs.World.{opening}
-use Rattle.do_machine.specs.run.Run.{Acting}
-use Rattle.do_network.specs.Net.{Net, net_opening}
-use Rattle.do_network.specs.Spelled.{SendsSpelled}
-use Rattle.do_network.specs.Step.{net_step}
-use Rattle.do_facts.specs.calls.Facts.{CallsAreKept}
-use Rattle.do_facts.specs.links.LinksAreKept.{LinksAreKept}
 use Rattle.do_facts.proofs.calls.ReachedCalls as calls_kept
 use Rattle.do_facts.proofs.links.ReachedLinks as links_kept
+use Rattle.std.proofs.Common.{◌≡◌, List}
+use Rattle.do_base.specs.declared.events.event.Event.{Event}
+use Rattle.do_class.specs.{Class.Class, Table.IsTable}
+use Rattle.do_machine.specs.{declared.state.{Seat.Seat, State.State}, Step.step, World.opening}
+use Rattle.do_machine.specs.run.Run.{Acting}
+use Rattle.do_network.specs.{Net.{Net, net_opening}, Spelled.SendsSpelled, Step.net_step}
+use Rattle.do_facts.specs.{calls.Facts.CallsAreKept, links.LinksAreKept.LinksAreKept}
 use Rattle.do_facts.proofs.steps.NodesAtHome.{AllAtHome, opening_home, step_home}
 use Rattle.do_agreement.specs.Agrees.{Agrees, StepAgrees}
-use Rattle.do_agreement.proofs.agreement.OpeningAgrees.{opening_agrees}
-use Rattle.do_agreement.proofs.agreement.StepsAgree.{step_agrees}
-use Rattle.do_agreement.proofs.told.ClassesKept.{ClassesKept}
-use Rattle.do_agreement.proofs.told.ClassesOfSteps.{step_keeps}
+use Rattle.do_agreement.proofs.agreement.{OpeningAgrees.opening_agrees, StepsAgree.step_agrees}
+use Rattle.do_agreement.proofs.told.{ClassesKept.ClassesKept, ClassesOfSteps.step_keeps}
 use Rattle.do_agreement.proofs.told.OpeningClasses.{opening_keeps}
 
 -- a network agrees with a state of which what every reached state keeps is so

@@ -4,24 +4,17 @@ use Rattle.std.proofs.Common.{refl, sym, ap, ◌∙◌, subst, arith}
 use Rattle.std.specs.Prelude.{None, Option, Some, find, is_some, option_and_then, option_map}
 use Rattle.std.proofs.lemmas.Bool.Decides.{nat_tests}
 use Rattle.do_class.specs.Class.{Class}
-use Rattle.do_machine.specs.declared.state.Seat.{Seat}
-use Rattle.do_machine.specs.declared.state.State.{State}
-use Rattle.do_machine.specs.State.{is_open, node}
+use Rattle.do_machine.specs.{declared.state.{Seat.Seat, State.State}, State.{is_open, node}}
 use Rattle.do_machine.specs.World.{by_port, opening, others}
 use Rattle.do_network.specs.Links.{Link, Part, link_to}
 use Rattle.do_network.specs.Net.{net_ports, opening_link, Channel, Net, Place, channel, channel_to}
 use Rattle.do_network.specs.Net.{net_opening, opening_channel, opening_place, part_at, place_at}
-use Rattle.do_network.specs.fits.Fits.{Fits}
-use Rattle.do_network.specs.fits.Notes.{Note, carried, names_behind, tells_of, total}
+use Rattle.do_network.specs.fits.{Fits.Fits, Notes.{Note, carried, names_behind, tells_of, total}}
 use Rattle.do_network.proofs.OpeningFits.{seat_found, opening_fits}
-use Rattle.do_facts.specs.links.LinksAreKept.{LinksAreKept}
-use Rattle.do_facts.proofs.links.ReachedLinks.{opening_keeps}
-use Rattle.do_agreement.specs.Agrees.{Agrees}
-use Rattle.do_agreement.specs.CountsFit.{MarksFit}
-use Rattle.do_agreement.proofs.counts.MovesAccount.{apart}
-use Rattle.do_agreement.proofs.losses.LossFits.{carried_length}
-use Rattle.do_agreement.proofs.places.PlacesChanged.{some_is}
-use Rattle.do_agreement.proofs.acts.StepTallies.{sound_here}
+use Rattle.do_facts.{specs.links.LinksAreKept.LinksAreKept, proofs.links.ReachedLinks.opening_keeps}
+use Rattle.do_agreement.specs.{Agrees.Agrees, CountsFit.MarksFit}
+use Rattle.do_agreement.proofs.{counts.MovesAccount.apart, losses.LossFits.carried_length}
+use Rattle.do_agreement.proofs.{places.PlacesChanged.some_is, acts.StepTallies.sound_here}
 
 -- nothing is under way that nothing carries
 nothing : (xs : List Note) → length xs ≡ 0 → xs ≡ []

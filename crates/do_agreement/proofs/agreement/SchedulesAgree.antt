@@ -1,15 +1,10 @@
 -- Over every schedule a network comes to what the machine comes to.
 use Rattle.std.proofs.Common.{List, [], ◌∷◌}
 use Rattle.do_base.specs.declared.events.event.Event.{Event}
-use Rattle.do_class.specs.Class.{Class}
-use Rattle.do_class.specs.Table.{IsTable}
-use Rattle.do_machine.specs.declared.state.Seat.{Seat}
-use Rattle.do_machine.specs.declared.state.State.{State}
-use Rattle.do_machine.specs.Step.{step}
-use Rattle.do_machine.specs.World.{opening}
+use Rattle.do_class.specs.{Class.Class, Table.IsTable}
+use Rattle.do_machine.specs.{declared.state.{Seat.Seat, State.State}, Step.step, World.opening}
 use Rattle.do_machine.specs.run.Run.{Acting}
-use Rattle.do_network.specs.Net.{Net, net_opening}
-use Rattle.do_network.specs.Step.{net_step}
+use Rattle.do_network.specs.{Net.{Net, net_opening}, Step.net_step}
 use Rattle.do_agreement.specs.Along.{ComesToTheSame, EventsSendSpelled}
 use Rattle.do_agreement.proofs.agreement.GoesOn.{Goes, goes_on, opening_goes}
 

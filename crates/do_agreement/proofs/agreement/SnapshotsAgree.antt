@@ -5,23 +5,15 @@ use Rattle.std.specs.Prelude.{Some, find, option_map, slice_get, unwrap_or}
 use Rattle.std.specs.List.{AllByRecursion, IsDistinct, flat_map}
 use mathlib.Core.Path.{fun_ext}
 use Rattle.do_class.specs.Class.{Class}
-use Rattle.do_machine.specs.declared.node.Node.{Node}
-use Rattle.do_machine.specs.declared.node.Stored.{Stored}
-use Rattle.do_machine.specs.declared.state.State.{State}
-use Rattle.do_machine.specs.declared.state.Station.{Station}
-use Rattle.do_machine.specs.Entry.{has_entry}
-use Rattle.do_machine.specs.Objects.{object_at}
+use Rattle.do_machine.specs.declared.{node.{Node.Node, Stored.Stored}, state.State.State}
+use Rattle.do_machine.specs.{declared.state.Station.Station, Entry.has_entry, Objects.object_at}
 use Rattle.do_machine.specs.State.{is_open, node, own, ports}
 use Rattle.do_machine.specs.check.Snapshot.{closed_ends, entry_of, node_line, object_line, snapshot}
-use Rattle.do_network.specs.Links.{Part}
-use Rattle.do_network.specs.Net.{Net, Place, net_ports, part_at, place_at}
-use Rattle.do_network.specs.Own.{is_counted}
-use Rattle.do_network.specs.Snapshot.{closed_links, net_snapshot, part_line}
+use Rattle.do_network.specs.{Links.Part, Net.{Net, Place, net_ports, part_at, place_at}}
+use Rattle.do_network.specs.{Own.is_counted, Snapshot.{closed_links, net_snapshot, part_line}}
 use Rattle.do_agreement.specs.Agrees.{Agrees}
-use Rattle.do_agreement.proofs.commits.EntriesJudged.{counts_judge}
-use Rattle.do_agreement.proofs.commits.Moving.{shown_but}
-use Rattle.do_agreement.proofs.places.PlacesChanged.{some_is}
-use Rattle.do_agreement.proofs.places.Numbers.{flipped, same_number}
+use Rattle.do_agreement.proofs.commits.{EntriesJudged.counts_judge, Moving.shown_but}
+use Rattle.do_agreement.proofs.places.{PlacesChanged.some_is, Numbers.{flipped, same_number}}
 
 -- those that pass twice
 filter_both : {X : Type 0} (f g : X → Bool) (xs : List X) →

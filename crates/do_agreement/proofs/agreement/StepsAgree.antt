@@ -1,23 +1,14 @@
 -- Every event keeps a network in agreement with the state.
 use Rattle.std.proofs.Common.{List, refl}
-use Rattle.do_base.specs.declared.events.event.Event.{Event}
-use Rattle.do_base.specs.declared.events.event.Event.TheVariants.{Check, Close, Lose, Run, Start}
-use Rattle.do_base.specs.declared.events.event.Event.TheVariants.{Take, Timeout}
-use Rattle.do_class.specs.Class.{Class}
-use Rattle.do_class.specs.Table.{IsTable}
-use Rattle.do_machine.specs.declared.state.State.{State}
-use Rattle.do_machine.specs.Step.{step}
-use Rattle.do_machine.specs.run.Run.{Acting}
-use Rattle.do_network.specs.Net.{Net}
-use Rattle.do_network.specs.Spelled.{SendsSpelled}
-use Rattle.do_network.specs.Step.{net_step}
-use Rattle.do_facts.specs.calls.Facts.{CallsAreKept}
-use Rattle.do_facts.specs.links.LinksAreKept.{LinksAreKept}
-use Rattle.do_agreement.specs.Agrees.{Agrees, StepAgrees}
-use Rattle.do_agreement.specs.Classed.{ClassesAreTold}
+use Rattle.do_base.specs.declared.events.event.Event.{Event, TheVariants.{Check, Close, Lose, Run}}
+use Rattle.do_base.specs.declared.events.event.Event.TheVariants.{Start, Take, Timeout}
+use Rattle.do_class.specs.{Class.Class, Table.IsTable}
+use Rattle.do_machine.specs.{declared.state.State.State, Step.step, run.Run.Acting}
+use Rattle.do_network.specs.{Net.Net, Spelled.SendsSpelled, Step.net_step}
+use Rattle.do_facts.specs.{calls.Facts.CallsAreKept, links.LinksAreKept.LinksAreKept}
+use Rattle.do_agreement.specs.{Agrees.{Agrees, StepAgrees}, Classed.ClassesAreTold}
 use Rattle.do_agreement.proofs.acts.ActEvents.{close_agrees, run_agrees, start_agrees}
-use Rattle.do_agreement.proofs.acts.ActEvents.{timeout_agrees}
-use Rattle.do_agreement.proofs.losses.LossEvents.{loss_event}
+use Rattle.do_agreement.proofs.{acts.ActEvents.timeout_agrees, losses.LossEvents.loss_event}
 use Rattle.do_agreement.proofs.takes.TakeSteps.{take_event}
 
 module _ (table : List Class) (t : IsTable table) (act : Acting) (N : Net) (S : State)

@@ -1,10 +1,7 @@
 -- A channel that stands in another network as it stood.
-use Rattle.std.proofs.Common.{◌≡◌, ℕ, List}
-use Rattle.std.specs.Prelude.{Some}
+use Rattle.std.{proofs.Common.{◌≡◌, ℕ, List}, specs.Prelude.Some}
 use Rattle.do_class.specs.Class.{Class}
-use Rattle.do_network.specs.Links.{Part}
-use Rattle.do_network.specs.Net.{Net, channel}
-use Rattle.do_network.specs.fits.Notes.{Note}
+use Rattle.do_network.specs.{Links.Part, Net.{Net, channel}, fits.Notes.Note}
 use Rattle.do_agreement.specs.CountsFit.{ChannelCarries}
 
 -- it carries what it carried

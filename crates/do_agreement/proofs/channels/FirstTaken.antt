@@ -1,27 +1,17 @@
 -- The oldest of what stands in a channel is taken.
-use Rattle.std.proofs.Common.{◌≡◌, ℕ, Bool, true, false, cond, List, ◌∷◌, length, drop, refl}
-use Rattle.std.proofs.Common.{sym, ap, ◌∙◌, subst}
-use Rattle.std.specs.Prelude.{not, ◌&&◌, ◌||◌}
-use Rattle.std.specs.List.{AllByRecursion}
-use Rattle.std.proofs.lemmas.List.{length-map}
-use Rattle.do_class.specs.Class.{Class}
-use Rattle.do_class.specs.Table.{IsTable}
-use Rattle.do_class.specs.declared.packet.Packet.{Packet}
+use Rattle.do_frames.specs.declared.frame.Frame.TheVariants as frames
+use Rattle.std.proofs.Common.{◌≡◌, ℕ, Bool, true, false, cond, List, ◌∷◌, length, drop, refl, sym}
+use Rattle.std.{proofs.Common.{ap, ◌∙◌, subst}, specs.Prelude.{not, ◌&&◌, ◌||◌}}
+use Rattle.std.{specs.List.AllByRecursion, proofs.lemmas.List.length-map}
+use Rattle.do_class.specs.{Class.Class, Table.IsTable, declared.packet.Packet.Packet}
 use Rattle.do_coder.specs.declared.recent.pair.Pair.{Pair}
 use Rattle.do_coder.specs.Packets.{IsPacket, after_packet, surroundings}
-use Rattle.do_coder.specs.Recent.{IsKnown, IsRecent}
-use Rattle.do_coder.proofs.packets.PacketsExact.{kept_names}
-use Rattle.do_frames.specs.declared.frame.Frame.{Frame}
-use Rattle.do_frames.specs.declared.frame.Frame.TheVariants as frames
-use Rattle.do_frames.specs.Frames.{IsFrame, after_frame, raw}
+use Rattle.do_coder.{specs.Recent.{IsKnown, IsRecent}, proofs.packets.PacketsExact.kept_names}
+use Rattle.do_frames.specs.{declared.frame.Frame.Frame, Frames.{IsFrame, after_frame, raw}}
 use Rattle.do_frames.proofs.payloads.WholePayload.{frame_known}
-use Rattle.do_network.specs.Links.{Link}
-use Rattle.do_network.specs.Net.{Channel, Lost, Whole}
-use Rattle.do_network.specs.Step.{advanced}
-use Rattle.do_network.specs.fits.Channels.{Carries}
-use Rattle.do_network.specs.fits.Notes.{Note, carried, names_behind, note_frame}
-use Rattle.do_agreement.specs.CountsFit.{MarksFit}
-use Rattle.do_agreement.specs.NetInHand.{carried_as, link_read}
+use Rattle.do_network.specs.{Links.Link, Net.{Channel, Lost, Whole}, Step.advanced}
+use Rattle.do_network.specs.fits.{Channels.Carries, Notes.{Note, carried, names_behind, note_frame}}
+use Rattle.do_agreement.specs.{CountsFit.MarksFit, NetInHand.{carried_as, link_read}}
 
 module _ (table : List Class) (from to : ℕ) (recent : List Pair) (r : IsRecent recent)
     (known : AllByRecursion (IsKnown (length table)) recent) where

@@ -1,9 +1,7 @@
 -- Where what a site sends has a spelling, so has what is under way of it.
 use Rattle.std.proofs.Common.{◌≡◌, ◌==◌, ◌++◌, ℕ, Bool, true, false, cond, List, [], ◌∷◌, map}
 use Rattle.std.proofs.Common.{filter, fold, refl, sym, ap, ◌∙◌, subst, append-nil}
-use Rattle.std.specs.Prelude.{Some}
-use Rattle.std.specs.List.{AllByRecursion}
-use Rattle.std.proofs.lemmas.Bool.{eqb-true}
+use Rattle.std.{specs.{Prelude.Some, List.AllByRecursion}, proofs.lemmas.Bool.eqb-true}
 use Rattle.do_class.specs.Class.{Class}
 use Rattle.do_coder.specs.Packets.{surroundings}
 use Rattle.do_export.specs.Counts.{Counts}
@@ -11,12 +9,10 @@ use Rattle.do_frames.specs.Frames.{IsFrame, raw}
 use Rattle.do_machine.specs.declared.state.Parcel.{Parcel}
 use Rattle.do_network.specs.Frames.{Posted, all_posted, posted}
 use Rattle.do_network.specs.Links.{Framed, Greeting, Link, Piece, Sending, all_sent, change_link}
-use Rattle.do_network.specs.Links.{link_to, sending, sendings}
-use Rattle.do_network.specs.Spelled.{IsSpelledSending}
+use Rattle.do_network.specs.{Links.{link_to, sending, sendings}, Spelled.IsSpelledSending}
 use Rattle.do_network.specs.fits.Notes.{Note, note_frame}
 use Rattle.do_agreement.specs.NotesSent.{note_sent, notes_to}
-use Rattle.do_agreement.proofs.channels.SendsCarried.{sent_over}
-use Rattle.do_agreement.proofs.places.StepAsCommits.{sent_before}
+use Rattle.do_agreement.proofs.{channels.SendsCarried.sent_over, places.StepAsCommits.sent_before}
 use Rattle.do_agreement.proofs.sites.ReaderStays.{sent_once}
 use Rattle.do_facts.proofs.EachOfLists.{each_former, each_latter}
 

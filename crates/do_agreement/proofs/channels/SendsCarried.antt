@@ -2,24 +2,18 @@
 use Rattle.std.proofs.Common.{◌≡◌, ◌==◌, ◌++◌, ℕ, Bool, true, false, cond, List, [], ◌∷◌, map}
 use Rattle.std.proofs.Common.{filter, fold, refl, sym, ap, ◌∙◌, subst, append_assoc, append-nil}
 use Rattle.std.specs.Prelude.{None, Option, Some, find, not, option_map, ◌&&◌}
-use Rattle.std.specs.List.{AllByRecursion}
-use Rattle.std.proofs.lemmas.Bool.{eqb-true}
+use Rattle.std.{specs.List.AllByRecursion, proofs.lemmas.Bool.eqb-true}
 use Rattle.do_class.specs.Class.{Class}
-use Rattle.do_coder.specs.declared.recent.pair.Pair.{Pair}
-use Rattle.do_coder.specs.Packets.{surroundings}
+use Rattle.do_coder.specs.{declared.recent.pair.Pair.Pair, Packets.surroundings}
 use Rattle.do_export.specs.Counts.{Counts}
-use Rattle.do_frames.specs.declared.frame.Frame.{Frame}
-use Rattle.do_frames.specs.Frames.{IsFrame, after_frame, raw}
+use Rattle.do_frames.specs.{declared.frame.Frame.Frame, Frames.{IsFrame, after_frame, raw}}
 use Rattle.do_machine.specs.declared.state.Parcel.{Parcel}
-use Rattle.do_network.specs.Frames.{Posted, all_posted, posted}
-use Rattle.do_network.specs.Links.{Framed, Greeting, Link, Outbox, Piece, change_link}
-use Rattle.do_network.specs.Links.{link_to, sending, sendings}
+use Rattle.do_network.specs.{Frames.{Posted, all_posted, posted}, Links.{Framed, Greeting, Link}}
+use Rattle.do_network.specs.Links.{Outbox, Piece, change_link, link_to, sending, sendings}
 use Rattle.do_network.specs.Net.{Channel, Lost, Whole, change_channel}
-use Rattle.do_network.specs.Step.{carrying, with_sending}
-use Rattle.do_network.specs.fits.Channels.{Carries}
+use Rattle.do_network.specs.{Step.{carrying, with_sending}, fits.Channels.Carries}
 use Rattle.do_network.specs.fits.Notes.{Note, carried, names_behind, note_frame}
-use Rattle.do_agreement.specs.CountsFit.{MarksFit}
-use Rattle.do_agreement.specs.NotesSent.{note_sent, notes_to}
+use Rattle.do_agreement.specs.{CountsFit.MarksFit, NotesSent.{note_sent, notes_to}}
 use Rattle.do_agreement.proofs.places.KeyedLists.{fold_behind, found_changed, found_elsewhere}
 
 -- the names behind what is under way and one more frame

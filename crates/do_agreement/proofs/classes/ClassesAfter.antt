@@ -1,24 +1,16 @@
 -- The classes that nodes keep are those of the state after a move.
-use Rattle.std.proofs.Common.{◌≡◌, ℕ, Bool, true, false, cond, List}
-use Rattle.std.proofs.Common.{[], ◌∷◌, fold, refl, sym, ap, ◌∙◌, subst}
-use Rattle.std.specs.Prelude.{None, Option, Some, if◌then◌else◌, is_some}
-use Rattle.std.specs.List.{AllByRecursion}
-use Rattle.std.specs.FinMap.{get-retain_keys}
+use Rattle.do_machine.specs.declared.item.Item.TheVariants as items
+use Rattle.std.proofs.Common.{◌≡◌, ℕ, Bool, true, false, cond, List, [], ◌∷◌, fold, refl, sym, ap}
+use Rattle.std.{proofs.Common.{◌∙◌, subst}, specs.Prelude.{None, Option, Some, if◌then◌else◌}}
+use Rattle.std.specs.{Prelude.is_some, List.AllByRecursion, FinMap.get-retain_keys}
 use Rattle.do_base.specs.names.Names.{ObjectName}
 use Rattle.do_class.specs.declared.ids.ClassId.{ClassId}
 use Rattle.do_export.proofs.Order.{entry_same}
 use Rattle.do_import.specs.ByObject.{ClassMap, object_of}
-use Rattle.do_machine.specs.declared.item.Item.{Item}
-use Rattle.do_machine.specs.declared.item.Item.TheVariants as items
-use Rattle.do_machine.specs.declared.node.Node.{Node}
-use Rattle.do_machine.specs.declared.state.Effect.{Effect}
-use Rattle.do_machine.specs.declared.state.State.{State}
-use Rattle.do_machine.specs.Context.{around}
-use Rattle.do_machine.specs.State.{class_of, is_known}
+use Rattle.do_machine.specs.declared.{item.Item.Item, node.Node.Node, state.Effect.Effect}
+use Rattle.do_machine.specs.{declared.state.State.State, Context.around, State.{class_of, is_known}}
 use Rattle.do_network.specs.Counting.{Classed, counted, item_classes, of_known, with_class}
-use Rattle.do_network.specs.Frames.{frame_of, item_of}
-use Rattle.do_network.specs.Own.{Own, class_kept}
-use Rattle.do_network.specs.Site.{released_by}
+use Rattle.do_network.specs.{Frames.{frame_of, item_of}, Own.{Own, class_kept}, Site.released_by}
 use Rattle.do_network.specs.fits.Notes.{Note}
 use Rattle.do_agreement.specs.InHand.{in_hand}
 use Rattle.do_agreement.proofs.classes.ClassesTold.{AreRight, class_in, class_still, told_kept}

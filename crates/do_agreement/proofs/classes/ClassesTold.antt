@@ -1,21 +1,15 @@
 -- The classes that a node keeps once an item told some.
+use Rattle.std.specs.FinMap as map_of
 use Rattle.std.proofs.Common.{◌≡◌, ◌==◌, ◌&&◌, ℕ, Bool, true, false, cond, List, [], ◌∷◌, fold}
 use Rattle.std.proofs.Common.{refl, sym, ap, ◌∙◌, arith}
-use Rattle.std.specs.Prelude.{None, Option, Some, is_some}
-use Rattle.std.specs.List.{AllByRecursion}
-use Rattle.std.specs.Ordering.{eq_by_cmp}
-use Rattle.std.specs.FinMap as map_of
-use Rattle.std.specs.FinMap.{get-insert}
-use Rattle.std.proofs.lemmas.Bool.Decides.{nat_tests}
+use Rattle.std.specs.{Prelude.{None, Option, Some, is_some}, List.AllByRecursion}
+use Rattle.std.{specs.{Ordering.eq_by_cmp, FinMap.get-insert}, proofs.lemmas.Bool.Decides.nat_tests}
 use Rattle.do_base.specs.names.Names.{ObjectName}
 use Rattle.do_class.specs.declared.ids.ClassId.{ClassId}
-use Rattle.do_export.specs.Counts.{entry_cmp}
-use Rattle.do_export.proofs.Counting.{tie}
-use Rattle.do_export.proofs.Order.{entry_total}
+use Rattle.do_export.{specs.Counts.entry_cmp, proofs.{Counting.tie, Order.entry_total}}
 use Rattle.do_import.specs.ByObject.{ClassMap}
 use Rattle.do_packet.specs.Met.{same_object}
-use Rattle.do_network.specs.Counting.{Classed, with_class}
-use Rattle.do_network.proofs.ClassesKept.{classes_stay}
+use Rattle.do_network.{specs.Counting.{Classed, with_class}, proofs.ClassesKept.classes_stay}
 use Rattle.do_facts.proofs.links.SameIsEqual.{object_is}
 
 -- the class of an object among those kept

@@ -1,34 +1,24 @@
 -- What a node knows after moves it knew before, or it was named to it.
+use Rattle.do_class.specs.declared.packet.Name.TheVariants as names
+use Rattle.do_machine.specs.declared.item.Item.TheVariants as items
+use Rattle.do_facts.specs.links.Links as Atoms
 use Rattle.std.proofs.Common.{◌≡◌, ◌==◌, ◌++◌, ◌||◌, ℕ, Bool, true, false, cond, List, [], ◌∷◌}
 use Rattle.std.proofs.Common.{filter, not, refl, sym, ap, ◌∙◌, subst, arith}
-use Rattle.std.specs.Prelude.{if◌then◌else◌}
-use Rattle.std.specs.List.{AllByRecursion, filter_map, flat_map, list_any}
-use Rattle.std.proofs.lemmas.Bool.Decides.{nat_tests}
-use Rattle.std.proofs.lemmas.List.Sorted.{list_any-IsPermutation}
+use Rattle.std.specs.{Prelude.if◌then◌else◌, List.{AllByRecursion, filter_map, flat_map, list_any}}
+use Rattle.std.proofs.lemmas.{Bool.Decides.nat_tests, List.Sorted.list_any-IsPermutation}
 use Rattle.do_base.specs.names.Names.{ObjectName}
 use Rattle.do_class.specs.declared.packet.Name.{Name}
-use Rattle.do_class.specs.declared.packet.Name.TheVariants as names
 use Rattle.do_packet.specs.Met.{has_object, same_object}
-use Rattle.do_machine.specs.declared.item.Item.{Item}
-use Rattle.do_machine.specs.declared.item.Item.TheVariants as items
-use Rattle.do_machine.specs.declared.node.Node.{Node}
-use Rattle.do_machine.specs.declared.node.Wanted.{Wanted}
-use Rattle.do_machine.specs.declared.state.Effect.{Effect}
-use Rattle.do_machine.specs.Lists.{inserted}
-use Rattle.do_machine.specs.Objects.{joined, object_at}
-use Rattle.do_machine.specs.State.{is_known}
-use Rattle.do_machine.specs.lend.Asking.{wanted, wanted_lt}
-use Rattle.do_machine.proofs.Inserting.{inserted_moves}
+use Rattle.do_machine.specs.declared.{item.Item.Item, node.{Node.Node, Wanted.Wanted}}
+use Rattle.do_machine.specs.{declared.state.Effect.Effect, Lists.inserted}
+use Rattle.do_machine.specs.{Objects.{joined, object_at}, State.is_known}
+use Rattle.do_machine.{specs.lend.Asking.{wanted, wanted_lt}, proofs.Inserting.inserted_moves}
 use Rattle.do_network.specs.Counting.{classed_name, item_classes}
-use Rattle.do_facts.specs.Net.{Note, noted}
-use Rattle.do_facts.specs.Moves.{afters, all_takes}
-use Rattle.do_facts.specs.View.{AreMoves}
-use Rattle.do_facts.specs.links.Links as Atoms
+use Rattle.do_facts.specs.{Net.{Note, noted}, Moves.{afters, all_takes}, View.AreMoves}
 use Rattle.do_facts.specs.links.Links.{Atom, Links, atoms, links, links_of, name_atoms}
 use Rattle.do_facts.specs.links.Moves.{Asks, Closes, Ends, GivesUp, Holds, Leaves, Misses, Move}
 use Rattle.do_facts.specs.links.Moves.{Receives, link_rules, moved, takes}
-use Rattle.do_facts.proofs.links.HeldChanged.{held_more, is_at}
-use Rattle.do_facts.proofs.links.SameIsEqual.{object_is}
+use Rattle.do_facts.proofs.links.{HeldChanged.{held_more, is_at}, SameIsEqual.object_is}
 
 -- an object is held, or asked for
 abbrev pub knows : Links → ObjectName → Bool

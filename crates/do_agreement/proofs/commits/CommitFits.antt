@@ -1,34 +1,23 @@
 -- The counts of a network fit after an effect of one of its sites.
 use Rattle.std.proofs.Common.{map, ◌≡◌, ◌==◌, ◌++◌, ◌+◌, ℕ, Bool, true, false, cond, List, refl}
 use Rattle.std.proofs.Common.{sym, ap, ◌∙◌, subst, fold, arith}
-use Rattle.std.specs.Prelude.{Some, [], is_some, option_and_then, option_map}
-use Rattle.std.specs.List.{AllByRecursion}
+use Rattle.std.specs.{Prelude.{Some, [], is_some, option_and_then, option_map}, List.AllByRecursion}
 use Rattle.do_class.specs.Class.{Class}
-use Rattle.do_machine.specs.World.{others as other_ports}
-use Rattle.do_machine.specs.declared.state.Effect.{Effect}
-use Rattle.do_machine.specs.Objects.{object_at}
-use Rattle.do_machine.specs.State.{holds, is_open}
-use Rattle.do_network.specs.Frames.{all_posted}
-use Rattle.do_network.specs.Links.{Link, Part}
+use Rattle.do_machine.specs.{World.others as other_ports, declared.state.Effect.Effect}
+use Rattle.do_machine.specs.{Objects.object_at, State.{holds, is_open}}
+use Rattle.do_network.specs.{Frames.all_posted, Links.{Link, Part}}
 use Rattle.do_network.specs.Net.{Net, Place, channel_to, net_ports, part_at, place_at}
-use Rattle.do_network.specs.Spelled.{IsSpelledSending}
-use Rattle.do_network.specs.Step.{place_after, with_sending}
-use Rattle.do_network.specs.fits.Counted.{Counted}
-use Rattle.do_network.specs.fits.Notes.{Note, tells_of, total}
+use Rattle.do_network.specs.{Spelled.IsSpelledSending, Step.{place_after, with_sending}}
+use Rattle.do_network.specs.fits.{Counted.Counted, Notes.{Note, tells_of, total}}
 use Rattle.do_agreement.specs.CountsFit.{ChannelCarries, CountsFit, HoldsReceived, none_closes}
-use Rattle.do_agreement.specs.IsEffectOf.{IsEffectOf}
-use Rattle.do_agreement.specs.NetCommit.{effected, net_commit, with_sent}
-use Rattle.do_agreement.specs.NotesSent.{notes_to}
-use Rattle.do_agreement.proofs.channels.SendingsSpelled.{notes_spelled}
+use Rattle.do_agreement.specs.{IsEffectOf.IsEffectOf, NetCommit.{effected, net_commit, with_sent}}
+use Rattle.do_agreement.{specs.NotesSent.notes_to, proofs.channels.SendingsSpelled.notes_spelled}
 use Rattle.do_agreement.proofs.channels.SendsCarried.{CarriesTo, all_carried}
-use Rattle.do_agreement.proofs.counts.MovesAccount.{apart}
-use Rattle.do_agreement.proofs.counts.NamesCounted.{names_counted}
-use Rattle.do_agreement.proofs.counts.ReturnsCounted.{returns_counted}
-use Rattle.do_agreement.proofs.counts.ReturnsSent.{told_sent}
+use Rattle.do_agreement.proofs.counts.{MovesAccount.apart, NamesCounted.names_counted}
+use Rattle.do_agreement.proofs.counts.{ReturnsCounted.returns_counted, ReturnsSent.told_sent}
 use Rattle.do_agreement.proofs.places.PlacesChanged.{by_part, channel_elsewhere, channel_here}
 use Rattle.do_agreement.proofs.places.PlacesChanged.{part_there, ports_same}
-use Rattle.do_agreement.proofs.pairs.NotesAsAtoms.{total_behind}
-use Rattle.do_agreement.proofs.sites.HeldKept.{holds_after}
+use Rattle.do_agreement.proofs.{pairs.NotesAsAtoms.total_behind, sites.HeldKept.holds_after}
 use Rattle.do_agreement.proofs.sites.ReaderStays.{ReadFrom, peers_stay, reader_stays}
 use Rattle.do_agreement.proofs.places.Numbers.{flipped, never_apart}
 use Rattle.do_agreement.proofs.channels.ChannelsStay.{carries_still}

@@ -2,28 +2,19 @@
 use Rattle.std.proofs.Common.{◌≡◌, ◌==◌, ◌++◌, ℕ, Bool, true, false, cond, List, [], ◌∷◌, map}
 use Rattle.std.proofs.Common.{filter, fold, refl, sym, ap, ◌∙◌, subst}
 use Rattle.std.specs.Prelude.{None, Option, Some, find, option_and_then, option_map}
-use Rattle.std.proofs.lemmas.Bool.{eqb-true}
-use Rattle.std.proofs.lemmas.List.{map-append}
+use Rattle.std.proofs.lemmas.{Bool.eqb-true, List.map-append}
 use Rattle.do_export.specs.Counts.{Counts}
-use Rattle.do_machine.specs.declared.node.Node.{Node}
-use Rattle.do_machine.specs.declared.state.Effect.{Effect}
-use Rattle.do_machine.specs.declared.state.Parcel.{Parcel}
-use Rattle.do_machine.specs.declared.state.State.{State}
-use Rattle.do_machine.specs.Commit.{commit, committed, items_to}
-use Rattle.do_machine.specs.Lists.{change_first}
-use Rattle.do_machine.specs.State.{node, queue, queue_to}
-use Rattle.do_facts.proofs.machine.Frame.{elsewhere}
-use Rattle.do_facts.proofs.machine.Queues.{grows_behind}
-use Rattle.do_facts.proofs.machine.follows.States.{changed}
+use Rattle.do_machine.specs.declared.{node.Node.Node, state.{Effect.Effect, Parcel.Parcel}}
+use Rattle.do_machine.specs.{declared.state.State.State, Commit.{commit, committed, items_to}}
+use Rattle.do_machine.specs.{Lists.change_first, State.{node, queue, queue_to}}
+use Rattle.do_facts.proofs.machine.{Frame.elsewhere, Queues.grows_behind, follows.States.changed}
 use Rattle.do_facts.proofs.machine.passing.NoQueue.{stays_none}
 use Rattle.do_network.specs.Links.{Part, Piece, Sending, Framed, Greeting}
 use Rattle.do_network.specs.Net.{Channel, Net, Place, channel, channel_to, part_at, place_at}
-use Rattle.do_network.specs.Step.{carrying, place_after, with_sending}
-use Rattle.do_network.specs.fits.Notes.{Note}
+use Rattle.do_network.specs.{Step.{carrying, place_after, with_sending}, fits.Notes.Note}
 use Rattle.do_facts.proofs.steps.OthersStay.{commit_leaves_others}
 use Rattle.do_agreement.specs.NetCommit.{effected, net_commit, with_sent}
-use Rattle.do_agreement.specs.NotesSent.{note_sent, notes_to}
-use Rattle.do_agreement.specs.Shows.{Shows, ShowsBut}
+use Rattle.do_agreement.specs.{NotesSent.{note_sent, notes_to}, Shows.{Shows, ShowsBut}}
 use Rattle.do_agreement.proofs.places.KeyedLists.{found_changed, found_elsewhere, same_keys}
 use Rattle.do_agreement.proofs.places.PlacesChanged.{channel_elsewhere, channel_here}
 use Rattle.do_agreement.proofs.places.PlacesChanged.{part_elsewhere, part_here, ports_same}

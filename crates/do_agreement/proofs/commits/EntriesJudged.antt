@@ -5,21 +5,12 @@ use Rattle.std.proofs.lemmas.Bool.{eqb-true}
 use Rattle.do_class.specs.Class.{Class}
 use Rattle.do_coder.specs.Packets.{surroundings}
 use Rattle.do_export.specs.Counts.{count_of}
-use Rattle.do_machine.specs.declared.node.Node.{Node}
-use Rattle.do_machine.specs.declared.state.State.{State}
-use Rattle.do_machine.specs.Entry.{has_entry}
-use Rattle.do_machine.specs.Lists.{some_passes}
-use Rattle.do_machine.specs.Objects.{object_at}
-use Rattle.do_machine.specs.State.{is_open, node, queue}
-use Rattle.do_network.specs.Links.{Part}
-use Rattle.do_network.specs.Net.{Net, part_at}
-use Rattle.do_network.specs.Own.{is_counted}
-use Rattle.do_network.specs.fits.Notes.{Note}
-use Rattle.do_agreement.specs.CountsFit.{CountsFit}
-use Rattle.do_agreement.specs.Shows.{ShowsBut}
-use Rattle.do_agreement.proofs.counts.MovesAccount.{apart}
-use Rattle.do_agreement.proofs.sites.EntriesCounted.{counts_tell, entry_of}
-use Rattle.do_agreement.proofs.places.Numbers.{flipped}
+use Rattle.do_machine.specs.{declared.{node.Node.Node, state.State.State}, Entry.has_entry}
+use Rattle.do_machine.specs.{Lists.some_passes, Objects.object_at, State.{is_open, node, queue}}
+use Rattle.do_network.specs.{Links.Part, Net.{Net, part_at}, Own.is_counted, fits.Notes.Note}
+use Rattle.do_agreement.specs.{CountsFit.CountsFit, Shows.ShowsBut}
+use Rattle.do_agreement.proofs.{counts.MovesAccount.apart, sites.EntriesCounted.counts_tell}
+use Rattle.do_agreement.proofs.{sites.EntriesCounted.entry_of, places.Numbers.flipped}
 
 module _ (table : List Class) (port : ℕ) (n : Node) (N : Net) (under_way : ℕ → ℕ → List Note)
     (T : State) (closes : ℕ → ℕ → Bool) (fit : CountsFit table N under_way closes)

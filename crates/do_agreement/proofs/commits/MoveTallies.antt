@@ -1,28 +1,17 @@
 -- A network tallies with the state after a node moved: by an effect and by what it leaves then.
-use Rattle.std.proofs.Common.{◌≡◌, ◌++◌, ℕ, Bool, List, ap, subst}
-use Rattle.std.specs.Prelude.{true}
-use Rattle.std.specs.List.{AllByRecursion}
-use Rattle.do_class.specs.Class.{Class}
-use Rattle.do_machine.specs.declared.node.Node.{Node}
-use Rattle.do_machine.specs.declared.state.Effect.{Effect}
-use Rattle.do_machine.specs.declared.state.State.{State}
-use Rattle.do_machine.specs.Commit.{commit, moved}
-use Rattle.do_machine.specs.Context.{around}
-use Rattle.do_machine.specs.held.Leaving.{leaving}
-use Rattle.do_facts.specs.links.Links.{links_of}
-use Rattle.do_facts.specs.links.Sound.{IsSound}
-use Rattle.do_facts.proofs.EachOfLists.{each_former, each_latter}
-use Rattle.do_network.specs.Links.{Part}
-use Rattle.do_network.specs.Net.{Net, Place}
-use Rattle.do_network.specs.Site.{moves}
-use Rattle.do_network.specs.Spelled.{IsSpelledSending, SentSpelled}
-use Rattle.do_network.specs.fits.Notes.{Note}
-use Rattle.do_agreement.specs.NetCommit.{effected, net_commit}
-use Rattle.do_agreement.specs.Shows.{Shows}
-use Rattle.do_agreement.specs.Tallies.{Tallies, left_after}
 use Rattle.do_agreement.proofs.commits.Moving as moving
-use Rattle.do_agreement.proofs.commits.Moving.{Commits, halves, leaves, left_alike, mid_fit}
-use Rattle.do_agreement.proofs.commits.Moving.{mid_shows}
+use Rattle.std.proofs.Common.{◌≡◌, ◌++◌, ℕ, Bool, List, ap, subst}
+use Rattle.std.specs.{Prelude.true, List.AllByRecursion}
+use Rattle.do_class.specs.Class.{Class}
+use Rattle.do_machine.specs.declared.{node.Node.Node, state.{Effect.Effect, State.State}}
+use Rattle.do_machine.specs.{Commit.{commit, moved}, Context.around, held.Leaving.leaving}
+use Rattle.do_facts.specs.links.{Links.links_of, Sound.IsSound}
+use Rattle.do_facts.proofs.EachOfLists.{each_former, each_latter}
+use Rattle.do_network.specs.{Links.Part, Net.{Net, Place}, Site.moves}
+use Rattle.do_network.specs.{Spelled.{IsSpelledSending, SentSpelled}, fits.Notes.Note}
+use Rattle.do_agreement.specs.{NetCommit.{effected, net_commit}, Shows.Shows}
+use Rattle.do_agreement.{specs.Tallies.{Tallies, left_after}, proofs.commits.Moving.Commits}
+use Rattle.do_agreement.proofs.commits.Moving.{halves, leaves, left_alike, mid_fit, mid_shows}
 
 module _ {table : List Class} {port : ℕ} {n : Node} {N : Net} {under_way : ℕ → ℕ → List Note}
     {T : State} {closes : ℕ → ℕ → Bool} {pl : Place} {e : Effect}

@@ -1,42 +1,23 @@
 -- A node of a network moves, by an effect and by what it leaves then, in a network that shows a
 -- state but for that node.
 use Rattle.std.proofs.Common.{◌≡◌, ◌==◌, ◌++◌, ℕ, Bool, true, false, List, refl, sym, ap, ◌∙◌}
-use Rattle.std.proofs.Common.{subst}
-use Rattle.std.specs.Prelude.{Some, option_map}
-use Rattle.std.specs.List.{AllByRecursion}
+use Rattle.std.{proofs.Common.subst, specs.{Prelude.{Some, option_map}, List.AllByRecursion}}
 use mathlib.Core.Path.{fun_ext}
 use Rattle.do_class.specs.Class.{Class}
-use Rattle.do_machine.specs.declared.node.Node.{Node}
-use Rattle.do_machine.specs.declared.state.Effect.{Effect}
-use Rattle.do_machine.specs.declared.state.State.{State}
-use Rattle.do_machine.specs.Commit.{commit}
-use Rattle.do_machine.specs.Context.{around}
-use Rattle.do_machine.specs.Entry.{has_entry}
-use Rattle.do_machine.specs.Objects.{object_at}
-use Rattle.do_machine.specs.State.{is_open}
-use Rattle.do_machine.specs.held.Leaving.{leaving}
-use Rattle.do_facts.specs.links.Links.{links_of}
-use Rattle.do_facts.specs.links.Sound.{IsSound}
+use Rattle.do_machine.specs.declared.{node.Node.Node, state.{Effect.Effect, State.State}}
+use Rattle.do_machine.specs.{Commit.commit, Context.around, Entry.has_entry, Objects.object_at}
+use Rattle.do_machine.specs.{State.is_open, held.Leaving.leaving}
+use Rattle.do_facts.specs.links.{Links.links_of, Sound.IsSound}
 use Rattle.do_facts.proofs.machine.follows.Follows.{by_leaving}
-use Rattle.do_network.specs.Frames.{all_posted}
-use Rattle.do_network.specs.Links.{Part}
-use Rattle.do_network.specs.Net.{Net, Place, part_at, place_at}
-use Rattle.do_network.specs.Own.{is_counted}
-use Rattle.do_network.specs.Site.{moves}
-use Rattle.do_network.specs.Spelled.{IsSpelledSending, SentSpelled}
-use Rattle.do_network.specs.Step.{place_after}
-use Rattle.do_network.specs.fits.Notes.{Note}
-use Rattle.do_agreement.specs.CountsFit.{CountsFit, none_closes}
-use Rattle.do_agreement.specs.IsEffectOf.{IsEffectOf}
-use Rattle.do_agreement.specs.NetCommit.{effected, net_commit, with_sent}
-use Rattle.do_agreement.specs.Shows.{Shows, ShowsBut}
+use Rattle.do_network.specs.{Frames.all_posted, Links.Part, Net.{Net, Place, part_at, place_at}}
+use Rattle.do_network.specs.{Own.is_counted, Site.moves, Spelled.{IsSpelledSending, SentSpelled}}
+use Rattle.do_network.specs.{Step.place_after, fits.Notes.Note}
+use Rattle.do_agreement.specs.{CountsFit.{CountsFit, none_closes}, IsEffectOf.IsEffectOf}
+use Rattle.do_agreement.specs.{NetCommit.{effected, net_commit, with_sent}, Shows.{Shows, ShowsBut}}
 use Rattle.do_agreement.specs.Tallies.{left_after}
-use Rattle.do_agreement.proofs.commits.CommitFits.{commit_fits}
-use Rattle.do_agreement.proofs.commits.CommitShows.{commit_shows}
-use Rattle.do_agreement.proofs.commits.EntriesJudged.{counts_judge}
-use Rattle.do_agreement.proofs.places.PlacesChanged.{place_here}
-use Rattle.do_agreement.proofs.places.StepAsCommits.{sent_twice}
-use Rattle.do_agreement.proofs.sites.RuleEffects.{leaving_effect}
+use Rattle.do_agreement.proofs.commits.{CommitFits.commit_fits, CommitShows.commit_shows}
+use Rattle.do_agreement.proofs.{commits.EntriesJudged.counts_judge, places.PlacesChanged.place_here}
+use Rattle.do_agreement.proofs.{places.StepAsCommits.sent_twice, sites.RuleEffects.leaving_effect}
 
 -- a state that is shown is shown but for a node
 pub shown_but : (port : ℕ) (N : Net) (under_way : ℕ → ℕ → List Note) (S : State) →

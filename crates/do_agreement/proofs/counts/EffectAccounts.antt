@@ -1,15 +1,11 @@
 -- An effect that takes nothing accounts for what its node held.
-use Rattle.std.proofs.Common.{◌≡◌, ◌++◌, ◌+◌, ℕ, Bool, true, false, List, [], ◌∷◌, refl}
-use Rattle.std.proofs.Common.{ap, ◌∙◌, subst, arith}
-use Rattle.do_machine.specs.declared.node.Node.{Node}
-use Rattle.do_machine.specs.declared.state.Effect.{Effect}
-use Rattle.do_facts.specs.Net.{Note, atoms_of, total}
-use Rattle.do_facts.specs.Moves.{Mays, afters, all_posts, all_takes}
-use Rattle.do_facts.specs.View.{AreMoves, posted}
-use Rattle.do_facts.specs.links.Facts.{told_of}
-use Rattle.do_facts.specs.links.Links.{Atom, Links, links, links_of}
-use Rattle.do_facts.specs.links.Moves.{Move, link_rules, moved, opens, posts, takes}
-use Rattle.do_facts.proofs.Notes.{atoms_behind, total-append}
+use Rattle.std.proofs.Common.{◌≡◌, ◌++◌, ◌+◌, ℕ, Bool, true, false, List, [], ◌∷◌, refl, ap, ◌∙◌}
+use Rattle.std.proofs.Common.{subst, arith}
+use Rattle.do_machine.specs.declared.{node.Node.Node, state.Effect.Effect}
+use Rattle.do_facts.specs.{Net.{Note, atoms_of, total}, Moves.{Mays, afters, all_posts, all_takes}}
+use Rattle.do_facts.specs.{View.{AreMoves, posted}, links.{Facts.told_of, Links.{Atom, Links}}}
+use Rattle.do_facts.specs.links.{Links.{links, links_of}, Moves.{Move, link_rules, moved, opens}}
+use Rattle.do_facts.{specs.links.Moves.{posts, takes}, proofs.Notes.{atoms_behind, total-append}}
 use Rattle.do_agreement.specs.Accounted.{Accounted, given, told, worth_of}
 use Rattle.do_agreement.proofs.counts.MovesAccount.{accounts_moved, apart}
 

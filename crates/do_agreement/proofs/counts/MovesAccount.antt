@@ -1,21 +1,16 @@
 -- A move that takes nothing accounts for what its node held.
-use Rattle.std.proofs.Common.{◌≡◌, ◌==◌, ◌+◌, ℕ, Bool, true, false, cond}
-use Rattle.std.proofs.Common.{List, [], ◌∷◌, refl, sym, ap, ◌∙◌, arith}
-use Rattle.std.specs.List.{list_any}
+use Rattle.std.proofs.Common.{◌≡◌, ◌==◌, ◌+◌, ℕ, Bool, true, false, cond, List, [], ◌∷◌, refl, sym}
+use Rattle.std.{proofs.Common.{ap, ◌∙◌, arith}, specs.List.list_any}
 use Rattle.std.proofs.lemmas.Bool.Decides.{nat_tests}
 use Rattle.do_base.specs.names.Names.{ObjectName, TokenName}
 use Rattle.do_packet.specs.Met.{has_object}
-use Rattle.do_machine.specs.Objects.{object_at}
-use Rattle.do_machine.specs.ends.Closing.{serials_of}
-use Rattle.do_facts.specs.Net.{total}
-use Rattle.do_facts.specs.links.Facts.{told_of}
-use Rattle.do_facts.specs.links.Links.{Atom, Left, Lent, Links, Mine, Yours}
-use Rattle.do_facts.specs.links.Moves.{Closes, GivesUp, Leaves, Lends, Mentions, Move, Names}
-use Rattle.do_facts.specs.links.Moves.{Stores, Strikes}
-use Rattle.do_facts.specs.links.Moves.{closed, may, moved, note, opens, posts, takes, telling}
-use Rattle.do_facts.proofs.links.Bridge.{link_bridge}
-use Rattle.do_facts.proofs.links.HeldChanged.{held_apart, held_less, serials_held}
-use Rattle.do_facts.proofs.links.ListsChanged.{open_less}
+use Rattle.do_machine.specs.{Objects.object_at, ends.Closing.serials_of}
+use Rattle.do_facts.specs.{Net.total, links.{Facts.told_of, Links.{Atom, Left, Lent, Links, Mine}}}
+use Rattle.do_facts.specs.links.{Links.Yours, Moves.{Closes, GivesUp, Leaves, Lends, Mentions}}
+use Rattle.do_facts.specs.links.Moves.{Move, Names, Stores, Strikes, closed, may, moved, note}
+use Rattle.do_facts.specs.links.Moves.{opens, posts, takes, telling}
+use Rattle.do_facts.proofs.links.{Bridge.link_bridge, HeldChanged.{held_apart, held_less}}
+use Rattle.do_facts.proofs.links.{HeldChanged.serials_held, ListsChanged.open_less}
 use Rattle.do_agreement.specs.Accounted.{Accounted, given, told, worth, worth_of}
 
 -- a test that passes does not fail

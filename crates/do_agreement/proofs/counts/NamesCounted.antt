@@ -1,23 +1,15 @@
 -- A node's own counts stay right by what it names.
-use Rattle.std.proofs.Common.{◌≡◌, ◌++◌, ◌+◌, ℕ, Bool, true, false, cond, List}
-use Rattle.std.proofs.Common.{refl, sym, ap, ◌∙◌, arith}
-use Rattle.std.specs.Prelude.{None, fold, unwrap_or}
 use Rattle.std.specs.FinMap as map_of
-use Rattle.std.specs.FinMap.{get-retain_keys}
-use Rattle.do_export.specs.Counts.{Counts, count_of}
-use Rattle.do_export.proofs.Order.{entry_same}
-use Rattle.do_machine.specs.declared.node.Node.{Node}
-use Rattle.do_machine.specs.declared.state.Effect.{Effect}
-use Rattle.do_machine.specs.Objects.{object_at}
+use Rattle.std.proofs.Common.{◌≡◌, ◌++◌, ◌+◌, ℕ, Bool, true, false, cond, List, refl, sym, ap, ◌∙◌}
+use Rattle.std.proofs.Common.{arith}
+use Rattle.std.specs.{Prelude.{None, fold, unwrap_or}, FinMap.get-retain_keys}
+use Rattle.do_export.{specs.Counts.{Counts, count_of}, proofs.Order.entry_same}
+use Rattle.do_machine.specs.{declared.{node.Node.Node, state.Effect.Effect}, Objects.object_at}
 use Rattle.do_machine.specs.State.{holds, is_open}
-use Rattle.do_network.specs.Counting.{counted, named_to, over_open_ends}
-use Rattle.do_network.specs.Own.{Own}
-use Rattle.do_network.specs.fits.Counted.{Counted}
-use Rattle.do_network.specs.fits.Notes.{Note, exports_of, tells_of, total}
-use Rattle.do_agreement.specs.NotesSent.{notes_to}
-use Rattle.do_agreement.proofs.counts.NamesSent.{named_count}
-use Rattle.do_agreement.proofs.counts.ReturnsSent.{held_count}
-use Rattle.do_agreement.proofs.pairs.NotesAsAtoms.{total_behind}
+use Rattle.do_network.specs.{Counting.{counted, named_to, over_open_ends}, Own.Own}
+use Rattle.do_network.specs.fits.{Counted.Counted, Notes.{Note, exports_of, tells_of, total}}
+use Rattle.do_agreement.{specs.NotesSent.notes_to, proofs.counts.NamesSent.named_count}
+use Rattle.do_agreement.proofs.{counts.ReturnsSent.held_count, pairs.NotesAsAtoms.total_behind}
 
 -- a count is kept over an open end
 open_count : (n : Node) (c : Counts) (peer s : ℕ) →

@@ -1,14 +1,10 @@
 -- How a node's counts rise by what it sends.
 use Rattle.std.proofs.Common.{◌≡◌, ◌==◌, ◌&&◌, ◌+◌, ℕ, Bool, true, false, cond, List, [], ◌∷◌, map}
-use Rattle.std.proofs.Common.{filter, refl, ap, ◌∙◌, fold, arith}
-use Rattle.std.proofs.lemmas.Bool.{eqb-true}
+use Rattle.std.proofs.{Common.{filter, refl, ap, ◌∙◌, fold, arith}, lemmas.Bool.eqb-true}
 use Rattle.do_base.specs.names.Names.{ObjectName}
-use Rattle.do_export.specs.Counts.{Counts, count_of, raised}
-use Rattle.do_export.proofs.Counting.{count-raised}
-use Rattle.do_machine.specs.declared.state.Parcel.{Parcel}
-use Rattle.do_machine.specs.Items.{exported}
-use Rattle.do_network.specs.Counting.{named_to}
-use Rattle.do_network.specs.fits.Notes.{exports_of, total}
+use Rattle.do_export.{specs.Counts.{Counts, count_of, raised}, proofs.Counting.count-raised}
+use Rattle.do_machine.specs.{declared.state.Parcel.Parcel, Items.exported}
+use Rattle.do_network.specs.{Counting.named_to, fits.Notes.{exports_of, total}}
 use Rattle.do_network.proofs.CountsFollow.{named_counts}
 use Rattle.do_agreement.specs.NotesSent.{note_sent, notes_to}
 

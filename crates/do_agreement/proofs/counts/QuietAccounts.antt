@@ -1,24 +1,15 @@
 -- An effect that changes nothing of what its node holds and releases nothing accounts for all.
-use Rattle.std.proofs.Common.{◌≡◌, ◌==◌, ◌+◌, ℕ, Bool, true, false, List, [], ◌∷◌, refl, sym, ap}
-use Rattle.std.proofs.Common.{◌∙◌, cond, arith}
-use Rattle.std.specs.List.{list_any}
-use Rattle.do_packet.specs.Met.{has_object}
-use Rattle.do_machine.specs.declared.item.Item.{Item}
 use Rattle.do_machine.specs.declared.item.Item.TheVariants as items
-use Rattle.do_machine.specs.declared.node.Node.{Node}
-use Rattle.do_machine.specs.declared.state.Effect.{Effect}
-use Rattle.do_machine.specs.declared.state.Parcel.{Parcel}
-use Rattle.do_machine.specs.Objects.{object_at}
-use Rattle.do_facts.proofs.machine.follows.Steady.{is_release}
-use Rattle.do_facts.proofs.machine.passing.Quiet.{NoneReleases, Quiet}
-use Rattle.do_facts.specs.Net.{atoms_of, total}
-use Rattle.do_facts.specs.View.{posted}
-use Rattle.do_facts.specs.links.Facts.{told_of}
 use Rattle.do_facts.specs.links.Links as Atoms
-use Rattle.do_facts.specs.links.Links.{Atom, atoms, links, links_of}
-use Rattle.do_facts.specs.links.Moves.{opens}
-use Rattle.do_agreement.specs.Accounted.{Accounted, worth_of}
-use Rattle.do_agreement.proofs.counts.MovesAccount.{apart}
+use Rattle.std.proofs.Common.{◌≡◌, ◌==◌, ◌+◌, ℕ, Bool, true, false, List, [], ◌∷◌, refl, sym, ap}
+use Rattle.std.{proofs.Common.{◌∙◌, cond, arith}, specs.List.list_any}
+use Rattle.do_packet.specs.Met.{has_object}
+use Rattle.do_machine.specs.declared.{item.Item.Item, node.Node.Node, state.Effect.Effect}
+use Rattle.do_machine.specs.{declared.state.Parcel.Parcel, Objects.object_at}
+use Rattle.do_facts.proofs.machine.{follows.Steady.is_release, passing.Quiet.{NoneReleases, Quiet}}
+use Rattle.do_facts.specs.{Net.{atoms_of, total}, View.posted, links.Facts.told_of}
+use Rattle.do_facts.specs.links.{Links.{Atom, atoms, links, links_of}, Moves.opens}
+use Rattle.do_agreement.{specs.Accounted.{Accounted, worth_of}, proofs.counts.MovesAccount.apart}
 use Rattle.do_agreement.proofs.pairs.NotesAsAtoms.{CountsNoName, own_alone, own_atoms, posted_total}
 
 -- an atom that may release objects

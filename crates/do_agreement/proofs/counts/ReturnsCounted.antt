@@ -2,19 +2,13 @@
 use Rattle.std.proofs.Common.{◌≡◌, ◌++◌, ◌+◌, ◌<◌, ℕ, Bool, true, cond, List, sym, ap, ◌∙◌, arith}
 use Rattle.std.specs.Prelude.{nat_lt}
 use Rattle.do_export.specs.Counts.{count_of}
-use Rattle.do_machine.specs.declared.state.Effect.{Effect}
-use Rattle.do_machine.specs.Objects.{object_at}
+use Rattle.do_machine.specs.{declared.state.Effect.Effect, Objects.object_at}
 use Rattle.do_machine.specs.State.{holds, is_open}
-use Rattle.do_network.specs.Counting.{counted}
-use Rattle.do_network.specs.Own.{Own}
-use Rattle.do_network.specs.fits.Counted.{Counted}
+use Rattle.do_network.specs.{Counting.counted, Own.Own, fits.Counted.Counted}
 use Rattle.do_network.specs.fits.Notes.{Note, exports_of, returns_of, tells_of, total}
-use Rattle.do_facts.specs.View.{posted}
-use Rattle.do_facts.specs.links.Links.{links, links_of}
-use Rattle.do_agreement.specs.Accounted.{AccountsFor, given, told, worth}
-use Rattle.do_agreement.specs.NotesSent.{notes_to}
-use Rattle.do_agreement.proofs.counts.MovesAccount.{apart}
-use Rattle.do_agreement.proofs.counts.EffectAccounts.{either_way}
+use Rattle.do_facts.specs.{View.posted, links.Links.{links, links_of}}
+use Rattle.do_agreement.specs.{Accounted.{AccountsFor, given, told, worth}, NotesSent.notes_to}
+use Rattle.do_agreement.proofs.counts.{MovesAccount.apart, EffectAccounts.either_way}
 use Rattle.do_agreement.proofs.counts.ReturnsSent.{held_count, returned, told_sent}
 use Rattle.do_agreement.proofs.pairs.NotesAsAtoms.{total_behind}
 

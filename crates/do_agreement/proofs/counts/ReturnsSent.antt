@@ -1,28 +1,18 @@
 -- What a site gives back by what it sends, and what it still counts as received.
-use Rattle.std.proofs.Common.{◌≡◌, ◌==◌, ◌+◌, ℕ, Bool, true, false, cond, List}
-use Rattle.std.proofs.Common.{refl, sym, ap, ◌∙◌, arith}
-use Rattle.std.specs.Prelude.{None, unwrap_or}
 use Rattle.std.specs.FinMap as map_of
-use Rattle.std.specs.FinMap.{get-retain_keys}
-use Rattle.std.proofs.lemmas.Bool.{eqb-true}
-use Rattle.do_export.specs.Counts.{Counts, count_of}
-use Rattle.do_export.proofs.Order.{entry_same}
-use Rattle.do_import.specs.ByObject.{object_of}
-use Rattle.do_machine.specs.declared.item.Item.{Item}
 use Rattle.do_machine.specs.declared.item.Item.TheVariants as items
-use Rattle.do_machine.specs.declared.node.Node.{Node}
-use Rattle.do_machine.specs.declared.state.Parcel.{Parcel}
-use Rattle.do_machine.specs.Objects.{object_at}
-use Rattle.do_machine.specs.State.{holds}
-use Rattle.do_network.specs.Counting.{of_held}
-use Rattle.do_network.specs.Frames.{amount_of}
-use Rattle.do_network.specs.fits.Notes.{given_up, returns_of, tells_of, total}
 use Rattle.do_facts.specs.Net as nets
-use Rattle.do_facts.specs.View.{posted}
-use Rattle.do_facts.specs.links.Facts.{told_of}
-use Rattle.do_facts.specs.links.Links.{atoms, links}
-use Rattle.do_agreement.specs.Accounted.{given, told, worth_of}
-use Rattle.do_agreement.specs.NotesSent.{note_sent, notes_to}
+use Rattle.std.proofs.Common.{◌≡◌, ◌==◌, ◌+◌, ℕ, Bool, true, false, cond, List, refl, sym, ap, ◌∙◌}
+use Rattle.std.{proofs.Common.arith, specs.{Prelude.{None, unwrap_or}, FinMap.get-retain_keys}}
+use Rattle.std.proofs.lemmas.Bool.{eqb-true}
+use Rattle.do_export.{specs.Counts.{Counts, count_of}, proofs.Order.entry_same}
+use Rattle.do_import.specs.ByObject.{object_of}
+use Rattle.do_machine.specs.declared.{item.Item.Item, node.Node.Node, state.Parcel.Parcel}
+use Rattle.do_machine.specs.{Objects.object_at, State.holds}
+use Rattle.do_network.specs.{Counting.of_held, Frames.amount_of}
+use Rattle.do_network.specs.fits.Notes.{given_up, returns_of, tells_of, total}
+use Rattle.do_facts.specs.{View.posted, links.{Facts.told_of, Links.{atoms, links}}}
+use Rattle.do_agreement.specs.{Accounted.{given, told, worth_of}, NotesSent.{note_sent, notes_to}}
 use Rattle.do_agreement.proofs.pairs.LinksOfNotes.{tells_alike}
 use Rattle.do_agreement.proofs.pairs.NotesAsAtoms.{own_alone, own_atoms, sent_total}
 

@@ -1,30 +1,19 @@
 -- Each effect accounts for what its node held.
+use Rattle.do_machine.specs.declared.item.Item.TheVariants as items
 use Rattle.std.proofs.Common.{◌≡◌, ℕ, Bool, true, false, List, refl, sym, subst}
 use Rattle.do_base.specs.declared.events.event.Event.{Event}
 use Rattle.do_base.specs.declared.events.event.Event.TheVariants.{Close, Run, Start, Timeout}
 use Rattle.do_class.specs.Class.{Class}
-use Rattle.do_machine.specs.declared.node.Node.{Node}
-use Rattle.do_machine.specs.declared.state.Effect.{Effect}
-use Rattle.do_machine.specs.declared.state.State.{State}
-use Rattle.do_machine.specs.declared.item.Item.{Item}
-use Rattle.do_machine.specs.declared.item.Item.TheVariants as items
-use Rattle.do_machine.specs.Context.{Context}
-use Rattle.do_machine.specs.Items.{exported}
-use Rattle.do_machine.specs.State.{is_open}
-use Rattle.do_machine.specs.ends.Closing.{closing}
-use Rattle.do_machine.specs.held.Leaving.{leaving}
-use Rattle.do_machine.specs.run.Run.{Acting}
-use Rattle.do_machine.specs.take.Take.{arrival, holding, take_effect}
+use Rattle.do_machine.specs.declared.{node.Node.Node, state.{Effect.Effect, State.State}}
+use Rattle.do_machine.specs.{declared.item.Item.Item, Context.Context, Items.exported}
+use Rattle.do_machine.specs.{State.is_open, ends.Closing.closing, held.Leaving.leaving}
+use Rattle.do_machine.specs.{run.Run.Acting, take.Take.{arrival, holding, take_effect}}
 use Rattle.do_facts.proofs.machine.follows.Steady.{is_end}
 use Rattle.do_facts.proofs.machine.passing.Quiet.{arrival_quiet, rule_quiet}
-use Rattle.do_facts.specs.links.Links.{links_of}
-use Rattle.do_facts.specs.links.Sound.{IsSound}
-use Rattle.do_facts.specs.steps.IsStep.{IsRuleOf}
+use Rattle.do_facts.specs.{links.{Links.links_of, Sound.IsSound}, steps.IsStep.IsRuleOf}
 use Rattle.do_facts.proofs.links.Bridge.{link_bridge}
-use Rattle.do_agreement.specs.Accounted.{AccountsFor}
-use Rattle.do_agreement.proofs.counts.EffectAccounts.{effect_accounts}
-use Rattle.do_agreement.proofs.hands.InHandCounts.{end_exports}
-use Rattle.do_agreement.proofs.counts.QuietAccounts.{quiet_accounts}
+use Rattle.do_agreement.{specs.Accounted.AccountsFor, proofs.counts.EffectAccounts.effect_accounts}
+use Rattle.do_agreement.proofs.{hands.InHandCounts.end_exports, counts.QuietAccounts.quiet_accounts}
 
 -- the effect of an event's rule
 pub rule_accounts : (table : List Class) (act : Acting) (S : State) (event : Event) (n : Node)

@@ -1,30 +1,23 @@
 -- The channels of a network while one of its sites has an item in hand.
+use Rattle.do_agreement.proofs.hands.HandSites as sites
 use Rattle.std.proofs.Common.{◌≡◌, ◌==◌, ◌&&◌, ℕ, Bool, true, false, List, ◌∷◌, refl, sym, ap, ◌∙◌}
-use Rattle.std.proofs.Common.{subst}
-use Rattle.std.specs.Prelude.{Some, not, option_and_then, option_map}
-use Rattle.std.specs.List.{AllByRecursion}
-use Rattle.std.proofs.lemmas.Bool.{eqb-true}
+use Rattle.std.{proofs.Common.subst, specs.Prelude.{Some, not, option_and_then, option_map}}
+use Rattle.std.{specs.List.AllByRecursion, proofs.lemmas.Bool.eqb-true}
 use Rattle.do_class.specs.Class.{Class}
-use Rattle.do_coder.specs.declared.recent.pair.Pair.{Pair}
-use Rattle.do_coder.specs.Packets.{surroundings}
+use Rattle.do_coder.specs.{declared.recent.pair.Pair.Pair, Packets.surroundings}
 use Rattle.do_frames.specs.Frames.{IsFrame}
-use Rattle.do_network.specs.Links.{Part}
-use Rattle.do_network.specs.Net.{Net, Place, channel_to, part_at}
-use Rattle.do_network.specs.Step.{advanced}
-use Rattle.do_network.specs.fits.Channels.{Carries}
-use Rattle.do_network.specs.fits.Notes.{Note, carried, names_behind, note_frame}
+use Rattle.do_network.specs.{Links.Part, Net.{Net, Place, channel_to, part_at}, Step.advanced}
+use Rattle.do_network.specs.fits.{Channels.Carries, Notes.{Note, carried, names_behind, note_frame}}
 use Rattle.do_agreement.specs.CountsFit.{ChannelCarries, MarksFit}
 use Rattle.do_agreement.specs.NetInHand.{carried_as, link_read, part_in_hand, with_part}
 use Rattle.do_agreement.proofs.channels.FirstTaken.{first_taken, marks_taken}
 use Rattle.do_agreement.proofs.places.KeyedLists.{found_changed, found_elsewhere}
 use Rattle.do_agreement.proofs.places.PlacesChanged.{channel_elsewhere, channel_here, some_is}
 use Rattle.do_agreement.proofs.places.Numbers.{flipped, never_apart, same_number}
-use Rattle.do_agreement.proofs.hands.HandSites as sites
 use Rattle.do_agreement.proofs.hands.HandSites.{Hand, at_from, at_port, by_hand, keeps_less}
 use Rattle.do_agreement.proofs.hands.HandSites.{keeps_part, now_from, now_rest, now_to, other}
-use Rattle.do_agreement.proofs.hands.HandSites.{there_still}
-use Rattle.do_agreement.proofs.hands.LinksRead.{found_read, read_if, read_keeps}
-use Rattle.do_agreement.proofs.channels.ChannelsStay.{carries_still}
+use Rattle.do_agreement.proofs.hands.{HandSites.there_still, LinksRead.{found_read, read_if}}
+use Rattle.do_agreement.proofs.{hands.LinksRead.read_keeps, channels.ChannelsStay.carries_still}
 
 module _ {table : List Class} {port from : ℕ} {N : Net} {under_way : ℕ → ℕ → List Note} {x : Note}
     {xs : List Note} (hand : Hand table port from N under_way x xs) where

@@ -1,25 +1,18 @@
 -- What the sites of a network count while one of them has an item in hand.
+use Rattle.do_agreement.proofs.hands.HandSites as sites
 use Rattle.std.proofs.Common.{◌≡◌, ◌==◌, ◌&&◌, ℕ, Bool, true, false, cond, List, ◌∷◌, refl, sym, ap}
-use Rattle.std.proofs.Common.{◌∙◌, subst, arith}
-use Rattle.std.specs.Prelude.{Some}
-use Rattle.std.proofs.lemmas.Bool.{eqb-true}
+use Rattle.std.{proofs.Common.{◌∙◌, subst, arith}, specs.Prelude.Some, proofs.lemmas.Bool.eqb-true}
 use Rattle.do_class.specs.Class.{Class}
 use Rattle.do_machine.specs.State.{is_open}
-use Rattle.do_network.specs.Links.{Part}
-use Rattle.do_network.specs.Net.{Net, part_at}
-use Rattle.do_network.specs.Own.{Own}
-use Rattle.do_network.specs.fits.Counted.{Counted}
+use Rattle.do_network.specs.{Links.Part, Net.{Net, part_at}, Own.Own, fits.Counted.Counted}
 use Rattle.do_network.specs.fits.Notes.{Note, tells_of, total}
 use Rattle.do_agreement.specs.NetInHand.{closes_for, ends, part_in_hand}
 use Rattle.do_agreement.proofs.hands.InHandCounted.{for_third_in_hand, sender_in_hand}
 use Rattle.do_agreement.proofs.hands.InHandCounted.{taker_in_hand, third_in_hand}
-use Rattle.do_agreement.proofs.counts.MovesAccount.{apart}
-use Rattle.do_agreement.proofs.places.PlacesChanged.{some_is}
+use Rattle.do_agreement.proofs.{counts.MovesAccount.apart, places.PlacesChanged.some_is}
 use Rattle.do_agreement.proofs.places.Numbers.{flipped, never_apart, same_number}
-use Rattle.do_agreement.proofs.hands.HandSites as sites
 use Rattle.do_agreement.proofs.hands.HandSites.{Hand, at_from, at_port, by_hand, now_from, now_rest}
-use Rattle.do_agreement.proofs.hands.HandSites.{now_to, other}
-use Rattle.do_agreement.proofs.hands.LinksRead.{tells_nothing}
+use Rattle.do_agreement.proofs.hands.{HandSites.{now_to, other}, LinksRead.tells_nothing}
 
 module _ {table : List Class} {port from : ℕ} {N : Net} {under_way : ℕ → ℕ → List Note} {x : Note}
     {xs : List Note} (hand : Hand table port from N under_way x xs) where

@@ -1,22 +1,17 @@
 -- The counts of a network fit while one of its sites has an item in hand.
-use Rattle.std.proofs.Common.{map, ◌≡◌, ℕ, true, List, sym, ap, ◌∙◌}
-use Rattle.std.specs.Prelude.{is_some}
+use Rattle.do_agreement.proofs.hands.HandSites as sites
+use Rattle.std.{proofs.Common.{map, ◌≡◌, ℕ, true, List, sym, ap, ◌∙◌}, specs.Prelude.is_some}
 use Rattle.do_class.specs.Class.{Class}
-use Rattle.do_machine.specs.World.{others}
-use Rattle.do_machine.specs.State.{is_open}
-use Rattle.do_network.specs.Links.{Link, Part}
-use Rattle.do_network.specs.Net.{Net, Place, net_ports, part_at}
+use Rattle.do_machine.specs.{World.others, State.is_open}
+use Rattle.do_network.specs.{Links.{Link, Part}, Net.{Net, Place, net_ports, part_at}}
 use Rattle.do_network.specs.fits.Notes.{Note}
 use Rattle.do_agreement.specs.CountsFit.{CountsFit, HoldsReceived}
 use Rattle.do_agreement.specs.NetInHand.{closes_for, part_in_hand, with_part}
-use Rattle.do_agreement.proofs.places.PlacesChanged.{ports_same}
-use Rattle.do_agreement.proofs.sites.HeldKept.{holds_in_hand}
+use Rattle.do_agreement.proofs.{places.PlacesChanged.ports_same, sites.HeldKept.holds_in_hand}
 use Rattle.do_agreement.proofs.hands.HandChannels.{channels_in_hand}
 use Rattle.do_agreement.proofs.hands.HandCounts.{counted_in_hand, silent_in_hand}
-use Rattle.do_agreement.proofs.hands.HandSites as sites
 use Rattle.do_agreement.proofs.hands.HandSites.{Hand, at_port, by_hand, keeps_less, keeps_part}
-use Rattle.do_agreement.proofs.hands.HandSites.{sites_there}
-use Rattle.do_agreement.proofs.hands.LinksRead.{read_peers}
+use Rattle.do_agreement.proofs.hands.{HandSites.sites_there, LinksRead.read_peers}
 
 module _ {table : List Class} {port from : ℕ} {N : Net} {under_way : ℕ → ℕ → List Note} {x : Note}
     {xs : List Note} (hand : Hand table port from N under_way x xs) where

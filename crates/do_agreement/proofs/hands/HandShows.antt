@@ -1,26 +1,20 @@
 -- A network with an item in hand shows the state without the item, but for the node that has it.
+use Rattle.do_agreement.proofs.hands.HandSites as hands
 use Rattle.std.proofs.Common.{◌≡◌, ◌==◌, ◌&&◌, ℕ, Bool, true, false, cond, List, ◌∷◌, map, refl}
-use Rattle.std.proofs.Common.{sym, ap, ◌∙◌, subst}
-use Rattle.std.specs.Prelude.{option_and_then, option_map}
+use Rattle.std.{proofs.Common.{sym, ap, ◌∙◌, subst}, specs.Prelude.{option_and_then, option_map}}
 use Rattle.std.proofs.lemmas.Bool.{eqb-true}
 use Rattle.do_class.specs.Class.{Class}
-use Rattle.do_machine.specs.declared.item.Item.{Item}
-use Rattle.do_machine.specs.declared.state.State.{State}
+use Rattle.do_machine.specs.declared.{item.Item.Item, state.State.State}
 use Rattle.do_machine.specs.State.{node, queue, with_queue}
-use Rattle.do_facts.specs.steps.IsStep.{without_oldest}
-use Rattle.do_facts.proofs.machine.follows.States.{requeued}
+use Rattle.do_facts.{specs.steps.IsStep.without_oldest, proofs.machine.follows.States.requeued}
 use Rattle.do_facts.proofs.machine.passing.Lookups.{elsewhere_stays, other_stays, that_changed}
-use Rattle.do_network.specs.Links.{Part}
-use Rattle.do_network.specs.Net.{Net, Place, channel, channel_to, part_at}
-use Rattle.do_network.specs.Step.{advanced}
-use Rattle.do_network.specs.fits.Notes.{Note}
+use Rattle.do_network.specs.{Links.Part, Net.{Net, Place, channel, channel_to, part_at}}
+use Rattle.do_network.specs.{Step.advanced, fits.Notes.Note}
 use Rattle.do_agreement.specs.NetInHand.{carried_as, part_in_hand, with_part}
-use Rattle.do_agreement.specs.Shows.{Shows, ShowsBut}
-use Rattle.do_agreement.proofs.places.KeyedLists.{same_keys}
+use Rattle.do_agreement.{specs.Shows.{Shows, ShowsBut}, proofs.places.KeyedLists.same_keys}
 use Rattle.do_agreement.proofs.commits.CommitShows.{channel_there, whatever}
 use Rattle.do_agreement.proofs.places.PlacesChanged.{channel_elsewhere, channel_here}
 use Rattle.do_agreement.proofs.places.PlacesChanged.{part_elsewhere, ports_same}
-use Rattle.do_agreement.proofs.hands.HandSites as hands
 use Rattle.do_agreement.proofs.hands.HandSites.{Hand, keeps_less, keeps_part, parts_still}
 use Rattle.do_agreement.proofs.hands.HandSites.{there_still, way}
 

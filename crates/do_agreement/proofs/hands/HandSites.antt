@@ -1,17 +1,13 @@
 -- The sites of a network while one of them has an item in hand.
 use Rattle.do_machine.specs.World.{others}
 use Rattle.std.proofs.Common.{◌≡◌, ◌==◌, ◌&&◌, ℕ, Bool, true, false, cond, List, ◌∷◌, refl, sym, ap}
-use Rattle.std.proofs.Common.{◌∙◌, subst}
-use Rattle.std.specs.Prelude.{Some, is_some, option_map}
+use Rattle.std.{proofs.Common.{◌∙◌, subst}, specs.Prelude.{Some, is_some, option_map}}
 use Rattle.std.proofs.lemmas.Bool.{eqb-true}
-use Rattle.do_class.specs.Class.{Class}
-use Rattle.do_class.specs.Table.{IsTable}
+use Rattle.do_class.specs.{Class.Class, Table.IsTable}
 use Rattle.do_coder.specs.declared.recent.pair.Pair.{Pair}
 use Rattle.do_machine.specs.State.{is_open}
-use Rattle.do_network.specs.Links.{Part}
-use Rattle.do_network.specs.Net.{Net, Place, part_at, place_at, with_channel}
-use Rattle.do_network.specs.Step.{advanced}
-use Rattle.do_network.specs.fits.Notes.{Note}
+use Rattle.do_network.specs.{Links.Part, Net.{Net, Place, part_at, place_at, with_channel}}
+use Rattle.do_network.specs.{Step.advanced, fits.Notes.Note}
 use Rattle.do_agreement.specs.CountsFit.{ChannelCarries, CountsFit, none_closes}
 use Rattle.do_agreement.specs.NetInHand.{carried_as, net_in_hand, net_without, part_in_hand}
 use Rattle.do_agreement.specs.NetInHand.{with_part, without_first}

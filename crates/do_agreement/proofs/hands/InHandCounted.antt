@@ -2,13 +2,11 @@
 use Rattle.std.proofs.Common.{◌≡◌, ◌==◌, ◌+◌, ◌-◌, ℕ, true, false, cond, List, ◌∷◌, ap, ◌∙◌, arith}
 use Rattle.do_export.specs.Counts.{count_of}
 use Rattle.do_machine.specs.State.{is_open}
-use Rattle.do_network.specs.Own.{Own}
-use Rattle.do_network.specs.fits.Counted.{Counted}
+use Rattle.do_network.specs.{Own.Own, fits.Counted.Counted}
 use Rattle.do_network.specs.fits.Notes.{Note, exports_of, returns_of, tells_of}
 use Rattle.do_agreement.specs.InHand.{in_hand}
 use Rattle.do_agreement.proofs.hands.InHandCounts.{counts_in_hand, received_in_hand}
-use Rattle.do_agreement.proofs.counts.MovesAccount.{apart}
-use Rattle.do_agreement.proofs.places.Numbers.{same_number}
+use Rattle.do_agreement.proofs.{counts.MovesAccount.apart, places.Numbers.same_number}
 
 module _ (p q : Own) (x : Note) (there back : List Note) (here : is_open p.node q.node.port ≡ true)
   where

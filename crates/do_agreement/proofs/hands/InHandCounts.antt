@@ -1,27 +1,19 @@
 -- What a node counts with an item in hand.
+use Rattle.std.specs.FinMap as map_of
+use Rattle.do_machine.specs.declared.item.Item.TheVariants as items
 use Rattle.std.proofs.Common.{◌≡◌, ◌==◌, ◌&&◌, ◌+◌, ◌-◌, ℕ, Bool, true, false, cond, List, [], ◌∷◌}
 use Rattle.std.proofs.Common.{filter, fold, map, refl, sym, ap, ◌∙◌, subst, arith}
-use Rattle.std.specs.Prelude.{None, Some, length, unwrap_or}
-use Rattle.std.specs.List.{AllByRecursion}
-use Rattle.std.specs.Ordering.{eq_by_cmp}
-use Rattle.std.specs.FinMap as map_of
-use Rattle.std.specs.FinMap.{get-insert, get-remove}
+use Rattle.std.specs.{Prelude.{None, Some, length, unwrap_or}, List.AllByRecursion}
+use Rattle.std.specs.{Ordering.eq_by_cmp, FinMap.{get-insert, get-remove}}
 use Rattle.std.proofs.lemmas.Bool.Decides.{nat_tests}
 use Rattle.do_base.specs.names.Names.{ObjectName}
-use Rattle.do_class.specs.declared.packet.Name.{Name}
-use Rattle.do_class.specs.declared.packet.Name.TheVariants.{Lent, Mine, Yours}
+use Rattle.do_class.specs.declared.packet.Name.{Name, TheVariants.{Lent, Mine, Yours}}
 use Rattle.do_export.specs.Counts.{Counts, count_of, entry_cmp, lowered}
-use Rattle.do_export.proofs.Counting.{count-raised, tie}
-use Rattle.do_export.proofs.Order.{entry_total}
+use Rattle.do_export.proofs.{Counting.{count-raised, tie}, Order.entry_total}
 use Rattle.do_import.specs.ByObject.{added}
-use Rattle.do_machine.specs.declared.item.Item.{Item}
-use Rattle.do_machine.specs.declared.item.Item.TheVariants as items
-use Rattle.do_machine.specs.declared.node.Node.{Node}
-use Rattle.do_machine.specs.Items.{exported, is_exported, name_naming, named_as, naming}
-use Rattle.do_machine.specs.Items.Role.{Released}
-use Rattle.do_network.specs.Frames.{frame_of, item_of}
-use Rattle.do_network.specs.Own.{Own}
-use Rattle.do_network.specs.Site.{released_by}
+use Rattle.do_machine.specs.{declared.{item.Item.Item, node.Node.Node}, Items.exported}
+use Rattle.do_machine.specs.Items.{is_exported, name_naming, named_as, naming, Role.Released}
+use Rattle.do_network.specs.{Frames.{frame_of, item_of}, Own.Own, Site.released_by}
 use Rattle.do_network.specs.fits.Notes.{Note, exports_of, given_up, returns_of}
 use Rattle.do_network.proofs.CountsFollow.{lowered_count}
 use Rattle.do_agreement.specs.InHand.{in_hand}

@@ -1,10 +1,9 @@
 -- The links of a site once it read an item.
+use Rattle.do_machine.specs.declared.item.Item.TheVariants as items
 use Rattle.std.proofs.Common.{map, ◌≡◌, ◌==◌, ℕ, Bool, true, false, cond, List, refl, sym, ap, ◌∙◌}
-use Rattle.std.specs.Prelude.{Some, find, option_map}
-use Rattle.std.proofs.lemmas.Bool.{eqb-true}
+use Rattle.std.{specs.Prelude.{Some, find, option_map}, proofs.lemmas.Bool.eqb-true}
 use Rattle.do_frames.specs.Frames.{after_frame}
 use Rattle.do_machine.specs.declared.item.Item.{Item}
-use Rattle.do_machine.specs.declared.item.Item.TheVariants as items
 use Rattle.do_network.specs.Links.{Link, change_link, link_to}
 use Rattle.do_network.specs.fits.Notes.{Note, note_frame, tells_of}
 use Rattle.do_agreement.specs.NetInHand.{ends, link_read, links_read}

@@ -1,36 +1,22 @@
 -- The event of a loss keeps a network in agreement with the state.
 use Rattle.std.proofs.Common.{◌≡◌, ◌==◌, ◌&&◌, ℕ, Bool, true, false, cond, not, List, [], map}
-use Rattle.std.proofs.Common.{length, refl, sym, ap, ◌∙◌, subst}
-use Rattle.std.specs.Prelude.{None, Option, Some, is_some, nat_lt, option_and_then, option_map}
-use Rattle.std.specs.Prelude.{unwrap_or}
-use Rattle.std.specs.List.{insert}
-use Rattle.std.proofs.lemmas.Bool.{eqb-true}
-use Rattle.std.proofs.lemmas.List.{length-map}
-use Rattle.do_base.specs.declared.events.event.Event.TheVariants.{Lose}
-use Rattle.do_base.specs.names.Names.{ObjectName}
-use Rattle.do_class.specs.Class.{Class}
-use Rattle.do_class.specs.declared.ids.ClassId.{ClassId}
-use Rattle.do_machine.specs.declared.item.Item.{Item}
-use Rattle.do_machine.specs.declared.item.Item.TheVariants.{End}
-use Rattle.do_machine.specs.declared.state.State.{State}
-use Rattle.do_machine.specs.declared.state.Stepped.{Stepped}
-use Rattle.do_machine.specs.Commit.{showed, skipped}
-use Rattle.do_machine.specs.State.{change, class_of, is_open, node, queue, with_queue}
-use Rattle.do_machine.specs.Step.{step}
+use Rattle.std.{proofs.Common.{length, refl, sym, ap, ◌∙◌, subst}, specs.Prelude.{None, Option}}
+use Rattle.std.specs.Prelude.{Some, is_some, nat_lt, option_and_then, option_map, unwrap_or}
+use Rattle.std.{specs.List.insert, proofs.lemmas.{Bool.eqb-true, List.length-map}}
+use Rattle.do_base.specs.{declared.events.event.Event.TheVariants.Lose, names.Names.ObjectName}
+use Rattle.do_class.specs.{Class.Class, declared.ids.ClassId.ClassId}
+use Rattle.do_machine.specs.declared.{item.Item.{Item, TheVariants.End}, state.State.State}
+use Rattle.do_machine.specs.{declared.state.Stepped.Stepped, Commit.{showed, skipped}}
+use Rattle.do_machine.specs.{State.{change, class_of, is_open, node, queue, with_queue}, Step.step}
 use Rattle.do_machine.specs.run.Run.{Acting}
 use Rattle.do_facts.proofs.machine.follows.States.{requeued}
 use Rattle.do_facts.proofs.machine.passing.Lookups.{elsewhere_stays, other_stays, that_changed}
-use Rattle.do_network.specs.Links.{Part}
-use Rattle.do_network.specs.Net.{Channel, Net, Place, change_place, channel, channel_to, part_at}
-use Rattle.do_network.specs.Net.{place_at, with_channel}
-use Rattle.do_network.specs.Step.{NetStepped, net_skipped, net_stays, net_step, with_loss}
-use Rattle.do_network.specs.fits.Notes.{Note}
+use Rattle.do_network.specs.{Links.Part, Net.{Channel, Net, Place, change_place, channel}}
+use Rattle.do_network.specs.{Net.{channel_to, part_at, place_at, with_channel}, Step.NetStepped}
+use Rattle.do_network.specs.{Step.{net_skipped, net_stays, net_step, with_loss}, fits.Notes.Note}
 use Rattle.do_facts.specs.links.LinksAreKept.{LinksAreKept}
-use Rattle.do_agreement.specs.Agrees.{Agrees, StepAgrees}
-use Rattle.do_agreement.specs.Classed.{ClassesAreTold}
-use Rattle.do_agreement.specs.Shows.{Shows}
-use Rattle.do_agreement.proofs.places.KeyedLists.{same_keys}
-use Rattle.do_agreement.proofs.classes.ClassesAfter.{classes_stay_so}
+use Rattle.do_agreement.specs.{Agrees.{Agrees, StepAgrees}, Classed.ClassesAreTold, Shows.Shows}
+use Rattle.do_agreement.proofs.{places.KeyedLists.same_keys, classes.ClassesAfter.classes_stay_so}
 use Rattle.do_agreement.proofs.counts.MovesAccount.{apart}
 use Rattle.do_agreement.proofs.acts.ActsAgree.{known_some, node_is, skip_agrees}
 use Rattle.do_agreement.proofs.commits.CommitShows.{channel_there, whatever}

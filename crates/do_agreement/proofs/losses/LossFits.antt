@@ -2,28 +2,21 @@
 use Rattle.std.proofs.Common.{◌≡◌, ◌==◌, ◌&&◌, ℕ, zero, suc, Bool, true, false, cond, List, [], ◌∷◌}
 use Rattle.std.proofs.Common.{map, length, refl, sym, ap, ◌∙◌, subst, arith}
 use Rattle.std.specs.Prelude.{Some, if◌then◌else◌, is_some, option_and_then, option_map}
-use Rattle.std.specs.List.{AllByRecursion, insert}
-use Rattle.std.proofs.lemmas.Bool.{eqb-true}
+use Rattle.std.{specs.List.{AllByRecursion, insert}, proofs.lemmas.Bool.eqb-true}
 use Rattle.do_class.specs.Class.{Class}
-use Rattle.do_machine.specs.World.{others}
-use Rattle.do_machine.specs.declared.item.Item.TheVariants.{End}
-use Rattle.do_coder.specs.declared.recent.pair.Pair.{Pair}
-use Rattle.do_coder.specs.Packets.{surroundings}
+use Rattle.do_machine.specs.{World.others, declared.item.Item.TheVariants.End}
+use Rattle.do_coder.specs.{declared.recent.pair.Pair.Pair, Packets.surroundings}
 use Rattle.do_frames.specs.Frames.{IsFrame, after_frame, raw}
-use Rattle.do_network.specs.Links.{Part}
-use Rattle.do_network.specs.Net.{Carried, Lost, Net, Place, Whole, change_place, channel}
-use Rattle.do_network.specs.Net.{channel_to, part_at, place_at, with_channel}
-use Rattle.do_network.specs.Own.{Own}
-use Rattle.do_network.specs.Step.{with_loss}
-use Rattle.do_network.specs.fits.Counted.{Counted}
+use Rattle.do_network.specs.{Links.Part, Net.{Carried, Lost, Net, Place, Whole, change_place}}
+use Rattle.do_network.specs.{Net.{channel, channel_to, part_at, place_at, with_channel}, Own.Own}
+use Rattle.do_network.specs.{Step.with_loss, fits.Counted.Counted}
 use Rattle.do_network.specs.fits.Notes.{Note, carried, exports_of, names_behind, note_frame}
 use Rattle.do_network.specs.fits.Notes.{returns_of, tells_of, total}
 use Rattle.do_agreement.specs.CountsFit.{ChannelCarries, CountsFit, none_closes}
 use Rattle.do_agreement.proofs.places.KeyedLists.{found_changed, found_elsewhere}
 use Rattle.do_agreement.proofs.places.PlacesChanged.{channel_elsewhere, channel_here}
 use Rattle.do_agreement.proofs.places.PlacesChanged.{part_elsewhere, part_here, ports_same}
-use Rattle.do_agreement.proofs.places.Numbers.{flipped}
-use Rattle.do_agreement.proofs.channels.ChannelsStay.{carries_still}
+use Rattle.do_agreement.proofs.{places.Numbers.flipped, channels.ChannelsStay.carries_still}
 
 -- the mark of a loss, under way
 abbrev pub mark : Note

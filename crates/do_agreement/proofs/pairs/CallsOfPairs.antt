@@ -1,29 +1,21 @@
 -- Where calls stand between two nodes, as the facts of a state say.
-use Rattle.std.proofs.Common.{◌≡◌, ◌==◌, ◌&&◌, ◌+◌, ◌≤◌, ℕ, Bool, true, false, List, []}
-use Rattle.std.proofs.Common.{◌∷◌, cond, map, refl, sym, ap, ◌∙◌, subst, arith}
-use Rattle.std.specs.Prelude.{length}
-use Rattle.std.specs.List.{filter}
-use Rattle.std.proofs.lemmas.Bool.Decides.{nat_tests}
-use Rattle.do_behave.specs.declared.invocation.InvState.{InvState}
 use Rattle.do_behave.specs.declared.invocation.InvState.TheVariants as states
-use Rattle.do_behave.specs.declared.invocation.Invocation.{Invocation}
-use Rattle.do_behave.specs.declared.invocation.Reason.{Reason}
 use Rattle.do_behave.specs.declared.invocation.Reason.TheVariants as reasons
-use Rattle.do_machine.specs.declared.node.LateCall.{LateCall}
-use Rattle.do_machine.specs.declared.node.Node.{Node}
-use Rattle.do_machine.specs.declared.state.State.{State}
-use Rattle.do_machine.specs.State.{is_open}
-use Rattle.do_machine.specs.take.Awaiting.{AnsweredCall, awaits, is_answered}
+use Rattle.do_facts.specs.Net as nets
+use Rattle.std.proofs.Common.{◌≡◌, ◌==◌, ◌&&◌, ◌+◌, ◌≤◌, ℕ, Bool, true, false, List, [], ◌∷◌, cond}
+use Rattle.std.proofs.Common.{map, refl, sym, ap, ◌∙◌, subst, arith}
+use Rattle.std.{specs.{Prelude.length, List.filter}, proofs.lemmas.Bool.Decides.nat_tests}
+use Rattle.do_behave.specs.declared.invocation.{InvState.InvState, Invocation.Invocation}
+use Rattle.do_behave.specs.declared.invocation.Reason.{Reason}
+use Rattle.do_machine.specs.declared.{node.{LateCall.LateCall, Node.Node}, state.State.State}
+use Rattle.do_machine.specs.{State.is_open, take.Awaiting.{AnsweredCall, awaits, is_answered}}
 use Rattle.do_machine.specs.take.Take.{method_call, root_call}
 use Rattle.do_network.specs.fits.Calls.{OneCall, awaiting, is_begun_for, serving}
 use Rattle.do_network.specs.fits.Notes.{Note, total}
-use Rattle.do_facts.specs.Net.{Net}
-use Rattle.do_facts.specs.Net as nets
-use Rattle.do_facts.specs.View.{net_of, part_seen}
+use Rattle.do_facts.specs.{Net.Net, View.{net_of, part_seen}}
 use Rattle.do_facts.specs.calls.Calls.{Atom, Calls, calls, calls_of, frame_of, wait_of}
 use Rattle.do_facts.specs.calls.Facts.{CallsAreKept, late_of, on_of, serves_of, waits}
-use Rattle.do_facts.specs.calls.Moves.{is_on, opens}
-use Rattle.do_facts.proofs.calls.CallCounts.{waits_at_most}
+use Rattle.do_facts.{specs.calls.Moves.{is_on, opens}, proofs.calls.CallCounts.waits_at_most}
 use Rattle.do_agreement.specs.StandBetween.{StandBetween}
 use Rattle.do_agreement.proofs.pairs.NotesAsAtoms.{back_sum, there_sum}
 use Rattle.do_agreement.proofs.pairs.CallsOfNotes.{calls_alike, replies_alike, root_answers_alike}

@@ -1,33 +1,22 @@
 -- Where lends and asks stand between two nodes, as the facts of a state say.
+use Rattle.do_facts.specs.Net as nets
+use Rattle.do_facts.specs.links.Facts as facts
 use Rattle.std.proofs.Common.{◌≡◌, ◌==◌, ◌&&◌, ◌||◌, ◌+◌, ◌≤◌, ℕ, Bool, true, false, List, [], ◌∷◌}
 use Rattle.std.proofs.Common.{refl, sym, ap, ◌∙◌, subst, arith}
-use Rattle.std.specs.Prelude.{Some}
-use Rattle.std.specs.List.{list_any}
-use Rattle.std.proofs.lemmas.Bool.Decides.{nat_tests}
+use Rattle.std.{specs.{Prelude.Some, List.list_any}, proofs.lemmas.Bool.Decides.nat_tests}
 use Rattle.do_base.specs.names.Names.{ObjectName, TokenName}
-use Rattle.do_machine.specs.declared.node.Lend.{Lend}
-use Rattle.do_machine.specs.declared.node.Node.{Node}
-use Rattle.do_machine.specs.declared.state.State.{State}
-use Rattle.do_machine.specs.Objects.{object_at}
-use Rattle.do_machine.specs.State.{is_open}
-use Rattle.do_machine.specs.lend.Asking.{wanted}
+use Rattle.do_machine.specs.declared.{node.{Lend.Lend, Node.Node}, state.State.State}
+use Rattle.do_machine.specs.{Objects.object_at, State.is_open, lend.Asking.wanted}
 use Rattle.do_machine.specs.lend.Lending.{is_lend}
 use Rattle.do_network.specs.fits.Lends.{OneAsk, OneLend, is_kept, is_lend_of, lend_out, answers_of}
-use Rattle.do_network.specs.fits.Lends.{settles_of}
-use Rattle.do_network.specs.fits.Notes.{Note, once, tells_of, total}
-use Rattle.do_facts.specs.Net.{Net}
-use Rattle.do_facts.specs.Net as nets
-use Rattle.do_facts.specs.View.{net_of, part_seen}
-use Rattle.do_facts.specs.links.Facts.{ask_of, is_lent_to, way_of}
-use Rattle.do_facts.specs.links.Facts as facts
-use Rattle.do_facts.specs.links.LinksAreKept.{LinksAreKept}
-use Rattle.do_facts.specs.links.Links.{Atom, Links, links}
-use Rattle.do_facts.specs.links.Moves.{has_wanted, opens}
-use Rattle.do_agreement.specs.StandBetween.{StandBetween}
-use Rattle.do_agreement.proofs.pairs.NotesAsAtoms.{back_sum, there_sum}
-use Rattle.do_agreement.proofs.pairs.LinksOfNotes.{answers_alike, asks_alike, lends_alike}
-use Rattle.do_agreement.proofs.pairs.LinksOfNotes.{settles_alike, tells_alike}
-use Rattle.do_agreement.proofs.places.Numbers.{same_number}
+use Rattle.do_network.specs.fits.{Lends.settles_of, Notes.{Note, once, tells_of, total}}
+use Rattle.do_facts.specs.{Net.Net, View.{net_of, part_seen}}
+use Rattle.do_facts.specs.links.{Facts.{ask_of, is_lent_to, way_of}, LinksAreKept.LinksAreKept}
+use Rattle.do_facts.specs.links.{Links.{Atom, Links, links}, Moves.{has_wanted, opens}}
+use Rattle.do_agreement.{specs.StandBetween.StandBetween, proofs.pairs.NotesAsAtoms.back_sum}
+use Rattle.do_agreement.proofs.pairs.{NotesAsAtoms.there_sum, LinksOfNotes.answers_alike}
+use Rattle.do_agreement.proofs.pairs.LinksOfNotes.{asks_alike, lends_alike, settles_alike}
+use Rattle.do_agreement.proofs.{pairs.LinksOfNotes.tells_alike, places.Numbers.same_number}
 
 -- tests that are alike pass alike
 any_alike : {X : Type 0} (f g : X → Bool) → ((x : X) → f x ≡ g x) → (xs : List X) →

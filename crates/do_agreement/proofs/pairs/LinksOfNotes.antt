@@ -1,18 +1,14 @@
 -- What is under way of lends and asks, note by note and atom by atom.
-use Rattle.std.proofs.Common.{◌≡◌, ◌==◌, ◌&&◌, ◌+◌, ℕ, Bool, true, false, cond, List, [], ◌∷◌}
-use Rattle.std.proofs.Common.{refl, ap, ◌∙◌, arith}
-use Rattle.std.specs.Prelude.{length, suc}
-use Rattle.std.specs.List.{filter, filter_map, flat_map, list_any}
-use Rattle.std.proofs.lemmas.Bool.Decides.{nat_tests}
-use Rattle.do_base.specs.names.Names.{ObjectName, TokenName}
-use Rattle.do_class.specs.declared.packet.Name.{Name}
-use Rattle.do_class.specs.declared.packet.Name.TheVariants.{Lent, Mine, Yours}
-use Rattle.do_machine.specs.declared.item.Item.{Item}
 use Rattle.do_machine.specs.declared.item.Item.TheVariants as items
-use Rattle.do_machine.specs.lend.Lending.{lend_of}
+use Rattle.do_facts.specs.Net as nets
+use Rattle.std.proofs.Common.{◌≡◌, ◌==◌, ◌&&◌, ◌+◌, ℕ, Bool, true, false, cond, List, [], ◌∷◌, refl}
+use Rattle.std.{proofs.Common.{ap, ◌∙◌, arith}, specs.{Prelude.{length, suc}, List.filter}}
+use Rattle.std.{specs.List.{filter_map, flat_map, list_any}, proofs.lemmas.Bool.Decides.nat_tests}
+use Rattle.do_base.specs.names.Names.{ObjectName, TokenName}
+use Rattle.do_class.specs.declared.packet.Name.{Name, TheVariants.{Lent, Mine, Yours}}
+use Rattle.do_machine.specs.{declared.item.Item.Item, lend.Lending.lend_of}
 use Rattle.do_network.specs.fits.Lends.{answers_of, asks_of, is_lend_of, lends_named, settles_of}
 use Rattle.do_network.specs.fits.Notes.{Note, once, tells_of}
-use Rattle.do_facts.specs.Net as nets
 use Rattle.do_facts.specs.links.Facts.{answer_of, ask_of, back_of, same3, told_of, way_of}
 use Rattle.do_facts.specs.links.Links.{atoms, name_atoms}
 use Rattle.do_agreement.proofs.pairs.NotesAsAtoms.{one_alike, own_alone, own_atoms}

@@ -1,27 +1,20 @@
 -- Sums of what is under way, as sums of the atoms of its items.
-use Rattle.std.proofs.Common.{◌≡◌, ◌==◌, ◌++◌, ◌+◌, ℕ, Bool, true, false, cond, List, [], ◌∷◌, map}
-use Rattle.std.proofs.Common.{filter, refl, sym, ap, ◌∙◌, arith}
-use Rattle.std.specs.List.{flat_map}
-use Rattle.std.proofs.lemmas.Bool.{eqb-true}
-use Rattle.std.proofs.lemmas.Bool.Decides.{nat_tests}
-use Rattle.do_base.specs.names.Names.{ObjectName}
-use Rattle.do_class.specs.declared.packet.Name.{Name}
-use Rattle.do_class.specs.declared.packet.Name.TheVariants.{Lent, Mine, Yours}
-use Rattle.do_export.specs.Counts.{Counts}
-use Rattle.do_machine.specs.declared.item.Item.{Item}
 use Rattle.do_machine.specs.declared.item.Item.TheVariants as items
-use Rattle.do_machine.specs.declared.node.Node.{Node}
-use Rattle.do_machine.specs.declared.state.Parcel.{Parcel}
+use Rattle.do_facts.specs.Net as nets
+use Rattle.do_facts.specs.links.Links as Atoms
+use Rattle.std.proofs.Common.{◌≡◌, ◌==◌, ◌++◌, ◌+◌, ℕ, Bool, true, false, cond, List, [], ◌∷◌, map}
+use Rattle.std.{proofs.Common.{filter, refl, sym, ap, ◌∙◌, arith}, specs.List.flat_map}
+use Rattle.std.proofs.lemmas.Bool.{eqb-true, Decides.nat_tests}
+use Rattle.do_base.specs.names.Names.{ObjectName}
+use Rattle.do_class.specs.declared.packet.Name.{Name, TheVariants.{Lent, Mine, Yours}}
+use Rattle.do_export.specs.Counts.{Counts}
+use Rattle.do_machine.specs.declared.{item.Item.Item, node.Node.Node, state.Parcel.Parcel}
 use Rattle.do_machine.specs.declared.state.State.{State}
 use Rattle.do_network.specs.fits.Notes.{Note, once, total}
-use Rattle.do_facts.specs.Net as nets
-use Rattle.do_facts.specs.Net.{atoms_of, noted}
-use Rattle.do_facts.specs.View.{View, net_of, posted, wire_seen}
-use Rattle.do_facts.specs.links.Links as Atoms
+use Rattle.do_facts.specs.{Net.{atoms_of, noted}, View.{View, net_of, posted, wire_seen}}
 use Rattle.do_facts.specs.links.Links.{Atom, atoms, links, name_atoms}
 use Rattle.do_facts.proofs.Notes.{atoms_behind, atoms_noted, none_noted, total-append}
-use Rattle.do_agreement.specs.NotesSent.{note_sent, notes_to}
-use Rattle.do_agreement.specs.StandBetween.{StandBetween}
+use Rattle.do_agreement.specs.{NotesSent.{note_sent, notes_to}, StandBetween.StandBetween}
 
 -- a number is another, the other way
 pub one_alike : (a x : ℕ) → once (x == a) ≡ cond (a == x) 1 0 + 0

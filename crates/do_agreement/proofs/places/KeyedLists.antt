@@ -1,7 +1,6 @@
 -- What is found in a list by a number, once the first of a number is changed.
 use Rattle.std.proofs.Common.{◌≡◌, ◌==◌, ℕ, Bool, true, false, cond, List, [], ◌∷◌, refl, sym, ap}
-use Rattle.std.proofs.Common.{◌∙◌, ◌++◌, fold, map, arith}
-use Rattle.std.specs.Prelude.{Some, find, option_map}
+use Rattle.std.{proofs.Common.{◌∙◌, ◌++◌, fold, map, arith}, specs.Prelude.{Some, find, option_map}}
 use Rattle.std.proofs.lemmas.Bool.Decides.{nat_tests}
 use Rattle.do_machine.specs.Lists.{change_first}
 

@@ -1,6 +1,5 @@
 -- Numbers that a test tells apart or not.
-use Rattle.std.proofs.Common.{◌≡◌, ◌==◌, ℕ, true, false, arith}
-use Rattle.std.proofs.lemmas.Bool.Decides.{nat_tests}
+use Rattle.std.proofs.{Common.{◌≡◌, ◌==◌, ℕ, true, false, arith}, lemmas.Bool.Decides.nat_tests}
 
 -- a number is itself
 pub same_number : (n : ℕ) → (n == n) ≡ true

@@ -2,9 +2,8 @@
 use Rattle.std.proofs.Common.{◌≡◌, ◌==◌, ℕ, Bool, true, false, refl, sym, ap, ◌∙◌, subst}
 use Rattle.std.specs.Prelude.{Some, is_some, option_and_then, option_map, unwrap_or}
 use Rattle.std.proofs.lemmas.Bool.{eqb-true}
-use Rattle.do_network.specs.Links.{Part}
-use Rattle.do_network.specs.Net.{Net, Place, change_place, channel, channel_to, net_ports, part_at}
-use Rattle.do_network.specs.Net.{place_at}
+use Rattle.do_network.specs.{Links.Part, Net.{Net, Place, change_place, channel, channel_to}}
+use Rattle.do_network.specs.Net.{net_ports, part_at, place_at}
 use Rattle.do_agreement.proofs.places.KeyedLists.{changed_twice, found_changed, found_elsewhere}
 use Rattle.do_agreement.proofs.places.KeyedLists.{same_keys}
 

@@ -2,19 +2,13 @@
 use Rattle.std.proofs.Common.{◌≡◌, ◌++◌, ℕ, List, [], ◌∷◌, fold, refl, sym, ap, ◌∙◌, append_assoc}
 use Rattle.std.proofs.Common.{append-nil}
 use mathlib.Core.Path.{fun_ext}
-use Rattle.do_machine.specs.declared.state.Effect.{Effect}
-use Rattle.do_machine.specs.held.Leaving.{leaving}
-use Rattle.do_network.specs.declared.input.Done.{Done}
-use Rattle.do_network.specs.Frames.{Posted, all_posted}
-use Rattle.do_network.specs.Links.{Link, Outbox, Part, Sending}
-use Rattle.do_network.specs.Links.{all_sent, link_to, sending, sendings}
-use Rattle.do_network.specs.Net.{Net, Place, change_place}
-use Rattle.do_network.specs.Own.{is_counted}
-use Rattle.do_network.specs.Site.{Handled, handled, site_move}
-use Rattle.do_network.specs.Step.{net_moved, place_after, with_sending}
+use Rattle.do_machine.specs.{declared.state.Effect.Effect, held.Leaving.leaving}
+use Rattle.do_network.specs.{declared.input.Done.Done, Frames.{Posted, all_posted}, Links.Link}
+use Rattle.do_network.specs.Links.{Outbox, Part, Sending, all_sent, link_to, sending, sendings}
+use Rattle.do_network.specs.{Net.{Net, Place, change_place}, Own.is_counted, Site.Handled}
+use Rattle.do_network.specs.{Site.{handled, site_move}, Step.{net_moved, place_after, with_sending}}
 use Rattle.do_agreement.specs.NetCommit.{effected, net_commit}
-use Rattle.do_agreement.proofs.places.KeyedLists.{fold_behind}
-use Rattle.do_agreement.proofs.places.PlacesChanged.{place_twice}
+use Rattle.do_agreement.proofs.places.{KeyedLists.fold_behind, PlacesChanged.place_twice}
 
 -- what was sent before stands before what is sent
 pub sent_before : (a b : List Sending) (links : List Link) (xs : List Posted) →

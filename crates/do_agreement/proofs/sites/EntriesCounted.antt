@@ -1,22 +1,16 @@
 -- What a node counts tells which entries its peers have, in a network whose counts fit.
 use Rattle.std.proofs.Common.{◌≡◌, ◌+◌, ◌<◌, ◌||◌, ◌&&◌, ℕ, Bool, true, false, List, map, refl, ap}
 use Rattle.std.proofs.Common.{sym, ◌∙◌, arith}
-use Rattle.std.specs.Prelude.{Option, Some, nat_lt}
-use Rattle.std.specs.List.{AllByRecursion, list_any}
+use Rattle.std.specs.{Prelude.{Option, Some, nat_lt}, List.{AllByRecursion, list_any}}
 use Rattle.do_base.specs.names.Names.{ObjectName}
 use Rattle.do_coder.specs.Packets.{Surroundings}
 use Rattle.do_export.specs.Counts.{count_of}
 use Rattle.do_frames.specs.Frames.{IsFrame}
 use Rattle.do_packet.specs.Met.{has_object}
-use Rattle.do_machine.specs.declared.item.Item.{Item}
-use Rattle.do_machine.specs.declared.node.Node.{Node}
-use Rattle.do_machine.specs.Entry.{is_holder}
-use Rattle.do_machine.specs.Items.{exported, released}
-use Rattle.do_machine.specs.Lists.{some_passes}
-use Rattle.do_machine.specs.Objects.{object_at}
+use Rattle.do_machine.specs.{declared.{item.Item.Item, node.Node.Node}, Entry.is_holder}
+use Rattle.do_machine.specs.{Items.{exported, released}, Lists.some_passes, Objects.object_at}
 use Rattle.do_machine.specs.State.{holds, is_open}
-use Rattle.do_network.specs.Own.{Own, is_counted}
-use Rattle.do_network.specs.fits.Counted.{Counted}
+use Rattle.do_network.specs.{Own.{Own, is_counted}, fits.Counted.Counted}
 use Rattle.do_network.specs.fits.Notes.{Note, exports_of, note_frame, returns_of, tells_of, total}
 use Rattle.do_network.proofs.NotesCounted.{some_export, some_release}
 

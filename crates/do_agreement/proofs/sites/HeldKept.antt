@@ -1,31 +1,19 @@
 -- A node holds what it received, with an item in hand and after an effect.
 use Rattle.std.proofs.Common.{◌≡◌, ◌==◌, ◌+◌, ◌&&◌, ◌||◌, ℕ, Bool, true, false, cond, List, [], ◌∷◌}
 use Rattle.std.proofs.Common.{filter, fold, refl, sym, ap, ◌∙◌, subst, arith, inl, inr}
-use Rattle.std.specs.Prelude.{if◌then◌else◌, nat_lt}
-use Rattle.std.proofs.lemmas.Bool.Decides.{nat_tests}
+use Rattle.std.{specs.Prelude.{if◌then◌else◌, nat_lt}, proofs.lemmas.Bool.Decides.nat_tests}
 use Rattle.do_base.specs.names.Names.{ObjectName}
 use Rattle.do_packet.specs.Met.{has_object, same_object}
-use Rattle.do_export.specs.Counts.{Counts, count_of}
-use Rattle.do_export.proofs.Counting.{count-raised}
+use Rattle.do_export.{specs.Counts.{Counts, count_of}, proofs.Counting.count-raised}
 use Rattle.do_import.specs.ByObject.{added, object_of}
-use Rattle.do_machine.specs.declared.node.Node.{Node}
-use Rattle.do_machine.specs.declared.state.Effect.{Effect}
-use Rattle.do_machine.specs.Items.{exported}
-use Rattle.do_machine.specs.Lists.{IsIn}
-use Rattle.do_machine.specs.Objects.{joined}
-use Rattle.do_machine.specs.State.{holds, is_open}
+use Rattle.do_machine.specs.{declared.{node.Node.Node, state.Effect.Effect}, Items.exported}
+use Rattle.do_machine.specs.{Lists.IsIn, Objects.joined, State.{holds, is_open}}
 use Rattle.do_facts.specs.laws.Follows.{HoldsOpen}
-use Rattle.do_network.specs.Counting.{counted}
-use Rattle.do_network.specs.Frames.{frame_of, item_of}
-use Rattle.do_network.specs.Own.{Own}
-use Rattle.do_network.specs.Site.{released_by}
-use Rattle.do_network.specs.fits.Notes.{Note}
-use Rattle.do_facts.proofs.OnceInLists.{filter_agrees}
-use Rattle.do_facts.proofs.links.HeldChanged.{held_more as object_more, is_at}
-use Rattle.do_facts.proofs.links.SameIsEqual.{object_is, object_itself}
-use Rattle.do_agreement.specs.CountsFit.{HoldsReceived}
-use Rattle.do_agreement.specs.InHand.{in_hand}
-use Rattle.do_agreement.specs.IsEffectOf.{Thins}
+use Rattle.do_network.specs.{Counting.counted, Frames.{frame_of, item_of}, Own.Own}
+use Rattle.do_network.specs.{Site.released_by, fits.Notes.Note}
+use Rattle.do_facts.proofs.{OnceInLists.filter_agrees, links.HeldChanged.held_more as object_more}
+use Rattle.do_facts.proofs.links.{HeldChanged.is_at, SameIsEqual.{object_is, object_itself}}
+use Rattle.do_agreement.specs.{CountsFit.HoldsReceived, InHand.in_hand, IsEffectOf.Thins}
 use Rattle.do_agreement.proofs.hands.InHandCounts.{AreOf, exports_alike, exports_are, gives_back}
 use Rattle.do_agreement.proofs.counts.ReturnsSent.{held_count}
 use Rattle.do_agreement.proofs.sites.HeldLists.{held_less, held_list, held_more}

@@ -1,23 +1,18 @@
 -- The objects that are counted as received, as a list in order.
-use Rattle.std.proofs.Common.{◌≡◌, ℕ, suc, ◌+◌, ◌&&◌, ◌||◌, Bool, true, false, cond, not, T}
-use Rattle.std.proofs.Common.{List, [], ◌∷◌, filter, length, map, refl, sym, ap, ◌∙◌, subst, arith}
-use Rattle.std.specs.Prelude.{None, Some, is_some, nat_lt, if◌then◌else◌}
-use Rattle.std.specs.List.{list_any, position_or_len}
-use Rattle.std.specs.Ordering.{eq_by_cmp, is_eq, is_lt}
 use Rattle.std.specs.FinMap as map_of
+use Rattle.std.proofs.Common.{◌≡◌, ℕ, suc, ◌+◌, ◌&&◌, ◌||◌, Bool, true, false, cond, not, T, List}
+use Rattle.std.proofs.Common.{[], ◌∷◌, filter, length, map, refl, sym, ap, ◌∙◌, subst, arith}
+use Rattle.std.specs.Prelude.{None, Some, is_some, nat_lt, if◌then◌else◌}
+use Rattle.std.specs.{List.{list_any, position_or_len}, Ordering.{eq_by_cmp, is_eq, is_lt}}
 use Rattle.std.specs.FinMap.{contains_key-keys, entries-insert, entries_sorted, get-entries}
 use Rattle.std.specs.FinMap.Entries.{below_all, by_order, find, is_sorted, put}
-use Rattle.std.specs.declared.cmp.Ordering.{Ordering}
-use Rattle.std.specs.declared.cmp.Ordering.TheVariants.{Less, Equal, Greater}
+use Rattle.std.specs.declared.cmp.Ordering.{Ordering, TheVariants.{Less, Equal, Greater}}
 use Rattle.std.proofs.lemmas.Bool.Decides.{nat_tests}
 use Rattle.do_base.specs.names.Names.{ObjectName}
 use Rattle.do_packet.specs.Met.{has_object, same_object}
-use Rattle.do_export.specs.Counts.{Counts, entry_cmp}
-use Rattle.do_export.proofs.Order.{entry_same, entry_total}
-use Rattle.do_import.specs.ByObject.{object_of}
-use Rattle.do_import.proofs.RowCounts.{entries-retain}
-use Rattle.do_machine.specs.Lists.{inserted, put_at}
-use Rattle.do_machine.specs.Objects.{joined, object_lt}
+use Rattle.do_export.{specs.Counts.{Counts, entry_cmp}, proofs.Order.{entry_same, entry_total}}
+use Rattle.do_import.{specs.ByObject.object_of, proofs.RowCounts.entries-retain}
+use Rattle.do_machine.specs.{Lists.{inserted, put_at}, Objects.{joined, object_lt}}
 
 -- the objects that are counted as received
 abbrev pub held_list : Counts → List ObjectName

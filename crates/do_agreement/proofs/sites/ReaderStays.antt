@@ -1,11 +1,9 @@
 -- What a site read from its peers stays when it sends.
 use Rattle.std.proofs.Common.{map, ◌≡◌, ◌==◌, ℕ, Bool, true, false, List, [], ◌∷◌, fold, refl, ap}
-use Rattle.std.proofs.Common.{◌∙◌}
-use Rattle.std.specs.Prelude.{Some, find, option_map}
+use Rattle.std.{proofs.Common.◌∙◌, specs.Prelude.{Some, find, option_map}}
 use Rattle.std.proofs.lemmas.Bool.{eqb-true}
 use Rattle.do_coder.specs.declared.recent.pair.Pair.{Pair}
-use Rattle.do_network.specs.Frames.{Posted}
-use Rattle.do_network.specs.Links.{Link, Outbox, change_link, link_to, sending}
+use Rattle.do_network.specs.{Frames.Posted, Links.{Link, Outbox, change_link, link_to, sending}}
 use Rattle.do_agreement.proofs.places.KeyedLists.{same_keys, found_changed, found_elsewhere}
 use Rattle.do_agreement.proofs.channels.SendsCarried.{sent_over}
 

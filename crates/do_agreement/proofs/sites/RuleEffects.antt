@@ -1,38 +1,23 @@
 -- What is known of the effects of a step.
-use Rattle.std.proofs.Common.{◌≡◌, ◌==◌, ℕ, Bool, true, false}
-use Rattle.std.proofs.Common.{List, [], ◌∷◌, filter, not, refl, sym, ap, ◌∙◌, subst}
-use Rattle.do_base.specs.declared.events.event.Event.{Event}
-use Rattle.do_base.specs.declared.events.event.Event.TheVariants.{Close, Run, Start, Timeout}
-use Rattle.do_base.specs.names.Names.{ObjectName}
+use Rattle.do_machine.specs.declared.item.Item.TheVariants as items
+use Rattle.std.proofs.Common.{◌≡◌, ◌==◌, ℕ, Bool, true, false, List, [], ◌∷◌, filter, not, refl}
+use Rattle.std.proofs.Common.{sym, ap, ◌∙◌, subst}
+use Rattle.do_base.specs.declared.events.event.Event.{Event, TheVariants.{Close, Run, Start}}
+use Rattle.do_base.specs.{declared.events.event.Event.TheVariants.Timeout, names.Names.ObjectName}
 use Rattle.do_class.specs.Class.{Class}
 use Rattle.do_packet.specs.Met.{has_object}
-use Rattle.do_machine.specs.declared.item.Item.{Item}
-use Rattle.do_machine.specs.declared.item.Item.TheVariants as items
-use Rattle.do_machine.specs.declared.node.Node.{Node}
-use Rattle.do_machine.specs.declared.state.Effect.{Effect}
-use Rattle.do_machine.specs.declared.state.State.{State}
-use Rattle.do_machine.specs.Context.{Context}
-use Rattle.do_machine.specs.Items.{exported}
-use Rattle.do_machine.specs.State.{is_open}
-use Rattle.do_machine.specs.ends.Closing.{asked_of, closing, parted}
-use Rattle.do_machine.specs.held.Kept.{kept}
-use Rattle.do_machine.specs.held.Leaving.{freeing, leaving}
-use Rattle.do_machine.specs.held.Refers.{node_objects}
+use Rattle.do_machine.specs.declared.{item.Item.Item, node.Node.Node, state.Effect.Effect}
+use Rattle.do_machine.specs.{declared.state.State.State, Context.Context, Items.exported}
+use Rattle.do_machine.specs.{State.is_open, ends.Closing.{asked_of, closing, parted}}
+use Rattle.do_machine.specs.held.{Kept.kept, Leaving.{freeing, leaving}, Refers.node_objects}
 use Rattle.do_facts.specs.laws.Follows.{Grows, HoldsOpen}
-use Rattle.do_machine.specs.run.Run.{Acting}
-use Rattle.do_machine.specs.take.Take.{arrival, holding, take_effect}
-use Rattle.do_facts.proofs.machine.follows.Follows.{by_leaving}
-use Rattle.do_facts.proofs.machine.follows.Steady.{is_end}
-use Rattle.do_facts.proofs.machine.follows.Steps.{rule_grows}
+use Rattle.do_machine.specs.{run.Run.Acting, take.Take.{arrival, holding, take_effect}}
+use Rattle.do_facts.proofs.machine.follows.{Follows.by_leaving, Steady.is_end, Steps.rule_grows}
 use Rattle.do_facts.proofs.machine.passing.Quiet.{Quiet, arrival_quiet, rule_quiet}
-use Rattle.do_facts.specs.links.Links.{links_of}
-use Rattle.do_facts.specs.links.Sound.{IsSound}
-use Rattle.do_facts.specs.steps.IsStep.{IsRuleOf}
-use Rattle.do_agreement.specs.Accounted.{AccountsFor}
-use Rattle.do_agreement.specs.IsEffectOf.{IsEffectOf, Thins}
+use Rattle.do_facts.specs.{links.{Links.links_of, Sound.IsSound}, steps.IsStep.IsRuleOf}
+use Rattle.do_agreement.specs.{Accounted.AccountsFor, IsEffectOf.{IsEffectOf, Thins}}
 use Rattle.do_agreement.proofs.counts.RulesAccount.{leaving_accounts, rule_accounts, take_accounts}
-use Rattle.do_facts.proofs.walk.SmallEffects.{settled_node}
-use Rattle.do_facts.proofs.machine.follows.SteadyTakes.{by_take}
+use Rattle.do_facts.proofs.{walk.SmallEffects.settled_node, machine.follows.SteadyTakes.by_take}
 
 -- all pass
 all_pass : (os : List ObjectName) → os ≡ filter (λ o. true) os

@@ -3,16 +3,10 @@ use Rattle.std.proofs.Common.{◌≡◌, ℕ, true, cond, not, List, ◌∷◌, 
 use Rattle.std.specs.Prelude.{None, Option, Some, slice_get, unwrap_or}
 use Rattle.do_base.specs.declared.events.event.Event.TheVariants.{Take}
 use Rattle.do_class.specs.Class.{Class}
-use Rattle.do_machine.specs.declared.item.Item.{Item}
-use Rattle.do_machine.specs.declared.node.Node.{Node}
-use Rattle.do_machine.specs.declared.state.State.{State}
-use Rattle.do_machine.specs.declared.state.Stepped.{Stepped}
-use Rattle.do_machine.specs.Commit.{moved, skipped}
-use Rattle.do_machine.specs.Context.{context}
-use Rattle.do_machine.specs.State.{change, node, queue, with_queue}
-use Rattle.do_machine.specs.Step.{step}
-use Rattle.do_machine.specs.run.Run.{Acting}
-use Rattle.do_machine.specs.take.Take.{can_take, take_effect}
+use Rattle.do_machine.specs.declared.{item.Item.Item, node.Node.Node, state.State.State}
+use Rattle.do_machine.specs.{declared.state.Stepped.Stepped, Commit.{moved, skipped}}
+use Rattle.do_machine.specs.{Context.context, State.{change, node, queue, with_queue}, Step.step}
+use Rattle.do_machine.specs.{run.Run.Acting, take.Take.{can_take, take_effect}}
 
 module _ (table : List Class) (S : State) (port from : ℕ) where
   -- the state with these items left in the queue

@@ -1,66 +1,42 @@
 -- A take keeps a network in agreement with the state.
-use Rattle.std.proofs.Common.{◌≡◌, ◌==◌, ◌&&◌, ◌||◌, ℕ, Bool, true, false, List, [], ◌∷◌, refl, sym}
-use Rattle.std.proofs.Common.{ap, ◌∙◌, arith}
-use Rattle.std.specs.Prelude.{None, Some, option_map}
-use Rattle.std.specs.List.{AllByRecursion, list_any}
-use Rattle.std.proofs.lemmas.Bool.Decides.{nat_tests}
-use Rattle.do_base.specs.declared.events.event.Event.TheVariants.{Take}
-use Rattle.do_base.specs.names.Names.{ObjectName}
-use Rattle.do_class.specs.Class.{Class}
-use Rattle.do_class.specs.declared.ids.ClassId.{ClassId}
-use Rattle.do_packet.specs.Met.{same_object}
-use Rattle.do_machine.specs.declared.node.Wanted.{Wanted}
-use Rattle.do_machine.specs.lend.Asking.{same_wanted, wanted}
-use Rattle.do_machine.specs.declared.item.Item.{Item}
 use Rattle.do_machine.specs.declared.item.Item.TheVariants as items
-use Rattle.do_machine.specs.declared.node.Node.{Node}
-use Rattle.do_machine.specs.declared.state.Effect.{Effect}
-use Rattle.do_machine.specs.declared.state.State.{State}
-use Rattle.do_machine.specs.Commit.{moved}
-use Rattle.do_machine.specs.Context.{Surroundings, around, context}
-use Rattle.do_machine.specs.Entry.{has_entry}
-use Rattle.do_machine.specs.Objects.{object_at}
-use Rattle.do_machine.specs.State.{class_of, holds, is_known, node}
-use Rattle.do_machine.specs.run.Run.{Acting}
-use Rattle.do_machine.specs.take.Take.{take_effect}
-use Rattle.do_facts.specs.Net.{noted}
-use Rattle.do_facts.specs.links.Links.{atoms}
-use Rattle.do_facts.specs.steps.IsStep.{IsStep, Takes}
+use Rattle.do_network.specs.declared.input.Done.TheVariants as dones
+use Rattle.do_agreement.proofs.takes.Taking as takes
+use Rattle.std.proofs.Common.{◌≡◌, ◌==◌, ◌&&◌, ◌||◌, ℕ, Bool, true, false, List, [], ◌∷◌, refl, sym}
+use Rattle.std.{proofs.Common.{ap, ◌∙◌, arith}, specs.Prelude.{None, Some, option_map}}
+use Rattle.std.{specs.List.{AllByRecursion, list_any}, proofs.lemmas.Bool.Decides.nat_tests}
+use Rattle.do_base.specs.{declared.events.event.Event.TheVariants.Take, names.Names.ObjectName}
+use Rattle.do_class.specs.{Class.Class, declared.ids.ClassId.ClassId}
+use Rattle.do_packet.specs.Met.{same_object}
+use Rattle.do_machine.specs.{declared.node.Wanted.Wanted, lend.Asking.{same_wanted, wanted}}
+use Rattle.do_machine.specs.declared.{item.Item.Item, node.Node.Node, state.Effect.Effect}
+use Rattle.do_machine.specs.{declared.state.State.State, Commit.moved}
+use Rattle.do_machine.specs.{Context.{Surroundings, around, context}, Entry.has_entry}
+use Rattle.do_machine.specs.{Objects.object_at, State.{class_of, holds, is_known, node}}
+use Rattle.do_machine.specs.{run.Run.Acting, take.Take.take_effect}
+use Rattle.do_facts.specs.{Net.noted, links.Links.atoms, steps.IsStep.{IsStep, Takes}}
 use Rattle.do_facts.proofs.steps.OthersStay.{class_requeued, class_stays}
 use Rattle.do_coder.specs.declared.recent.pair.Pair.{Pair}
-use Rattle.do_network.specs.declared.fault.PeerFault.{PeerFault}
-use Rattle.do_network.specs.declared.input.Done.TheVariants as dones
-use Rattle.do_network.specs.Counting.{counted, item_classes}
-use Rattle.do_network.specs.Faults.{is_asked, peer_fault, unless}
-use Rattle.do_network.specs.Frames.{frame_of, item_of}
-use Rattle.do_network.specs.Links.{Part}
-use Rattle.do_network.specs.Net.{Net}
-use Rattle.do_network.specs.Own.{class_kept, counted_around, is_counted}
-use Rattle.do_network.specs.Site.{handled, moves, released_by, site_move}
-use Rattle.do_network.specs.Spelled.{SentSpelled}
-use Rattle.do_network.specs.Step.{NetStepped, net_moved, place_after}
-use Rattle.do_network.specs.fits.Fits.{Fits}
-use Rattle.do_network.specs.fits.Notes.{Note, note_frame}
-use Rattle.do_network.proofs.NoFault.{fits_faultless}
-use Rattle.do_agreement.specs.Agrees.{Agrees, StepAgrees}
-use Rattle.do_agreement.specs.InHand.{in_hand, taken_by}
+use Rattle.do_network.specs.{declared.fault.PeerFault.PeerFault, Counting.{counted, item_classes}}
+use Rattle.do_network.specs.{Faults.{is_asked, peer_fault, unless}, Frames.{frame_of, item_of}}
+use Rattle.do_network.specs.{Links.Part, Net.Net, Own.{class_kept, counted_around, is_counted}}
+use Rattle.do_network.specs.{Site.{handled, moves, released_by, site_move}, Spelled.SentSpelled}
+use Rattle.do_network.specs.{Step.{NetStepped, net_moved, place_after}, fits.Fits.Fits}
+use Rattle.do_network.{specs.fits.Notes.{Note, note_frame}, proofs.NoFault.fits_faultless}
+use Rattle.do_agreement.specs.{Agrees.{Agrees, StepAgrees}, InHand.{in_hand, taken_by}}
 use Rattle.do_agreement.specs.NetInHand.{carried_as, closes_for, ends, net_in_hand, net_without}
-use Rattle.do_agreement.specs.NetInHand.{part_in_hand, without_first}
-use Rattle.do_agreement.specs.Tallies.{left_after}
+use Rattle.do_agreement.specs.{NetInHand.{part_in_hand, without_first}, Tallies.left_after}
 use Rattle.do_agreement.proofs.classes.ClassesAfter.{IsClassed, classes_moved, classes_stay_so}
 use Rattle.do_agreement.proofs.classes.ClassesAfter.{known_in_hand, told_in_hand}
 use Rattle.do_agreement.proofs.classes.KnownAfter.{GrantedIs, item_such, known_after}
 use Rattle.do_agreement.proofs.acts.ActsAgree.{known_some, left_known}
 use Rattle.do_agreement.proofs.agreement.AgreesFits.{fits_so, same_way}
-use Rattle.do_agreement.proofs.commits.EntriesJudged.{counts_judge}
-use Rattle.do_agreement.proofs.places.PlacesChanged.{by_part}
+use Rattle.do_agreement.proofs.{commits.EntriesJudged.counts_judge, places.PlacesChanged.by_part}
 use Rattle.do_agreement.proofs.takes.TakeTallies.{take_commits, take_moves, take_outcome}
 use Rattle.do_agreement.proofs.takes.TakeTallies.{take_sound, take_tallies}
 use Rattle.do_agreement.proofs.takes.TakesAlike.{around_alike, site_effect, take_alike}
-use Rattle.do_agreement.proofs.places.Numbers.{flipped}
-use Rattle.do_agreement.proofs.takes.Taking as takes
-use Rattle.do_agreement.proofs.takes.Taking.{Taking, apart_from, node_there, port_is, sender_there}
-use Rattle.do_agreement.proofs.takes.Taking.{site_there, waits}
+use Rattle.do_agreement.proofs.{places.Numbers.flipped, takes.Taking.{Taking, apart_from}}
+use Rattle.do_agreement.proofs.takes.Taking.{node_there, port_is, sender_there, site_there, waits}
 use Rattle.do_agreement.proofs.hands.HandSites.{parts_still, there_still}
 
 -- what an ask is of is known

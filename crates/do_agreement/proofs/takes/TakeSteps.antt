@@ -1,47 +1,32 @@
 -- The event of a take keeps a network in agreement with the state.
+use Rattle.do_network.specs.declared.input.Done.TheVariants as dones
+use Rattle.do_agreement.proofs.takes.Taking as takes
+use Rattle.do_agreement.proofs.takes.MachineTakes as machine
 use Rattle.std.proofs.Common.{◌≡◌, ◌==◌, ◌&&◌, ℕ, Bool, true, false, List, [], ◌∷◌, map, refl, sym}
 use Rattle.std.proofs.Common.{ap, ◌∙◌, cond, subst, not}
 use Rattle.std.specs.Prelude.{None, Option, Some, is_some, option_map, slice_get, unwrap_or}
 use Rattle.std.proofs.lemmas.Bool.{eqb-true}
 use Rattle.do_base.specs.declared.events.event.Event.TheVariants.{Take}
-use Rattle.do_class.specs.Class.{Class}
-use Rattle.do_class.specs.Table.{IsTable}
-use Rattle.do_machine.specs.declared.item.Item.{Item}
-use Rattle.do_machine.specs.declared.node.Node.{Node}
-use Rattle.do_machine.specs.declared.state.State.{State}
-use Rattle.do_machine.specs.Commit.{moved, skipped}
-use Rattle.do_machine.specs.Context.{around}
-use Rattle.do_machine.specs.State.{is_open, node, queue}
-use Rattle.do_machine.specs.run.Run.{Acting}
-use Rattle.do_machine.specs.take.Take.{can_serve, can_take, take_effect}
-use Rattle.do_machine.specs.declared.state.Stepped.{Stepped}
-use Rattle.do_machine.specs.Step.{step}
-use Rattle.do_facts.specs.calls.Facts.{CallsAreKept}
-use Rattle.do_facts.specs.links.LinksAreKept.{LinksAreKept}
+use Rattle.do_class.specs.{Class.Class, Table.IsTable}
+use Rattle.do_machine.specs.declared.{item.Item.Item, node.Node.Node, state.State.State}
+use Rattle.do_machine.specs.{Commit.{moved, skipped}, Context.around, State.{is_open, node, queue}}
+use Rattle.do_machine.specs.{run.Run.Acting, take.Take.{can_serve, can_take, take_effect}}
+use Rattle.do_machine.specs.{declared.state.Stepped.Stepped, Step.step}
+use Rattle.do_facts.specs.{calls.Facts.CallsAreKept, links.LinksAreKept.LinksAreKept}
 use Rattle.do_coder.specs.declared.recent.pair.Pair.{Pair}
-use Rattle.do_network.specs.declared.input.Done.TheVariants as dones
-use Rattle.do_network.specs.Frames.{item_of}
-use Rattle.do_network.specs.Links.{Part}
-use Rattle.do_network.specs.Net.{Carried, Channel, Net, Place, channel, part_at, place_at}
-use Rattle.do_network.specs.Own.{counted_around}
+use Rattle.do_network.specs.{Frames.item_of, Links.Part, Net.{Carried, Channel, Net, Place}}
+use Rattle.do_network.specs.{Net.{channel, part_at, place_at}, Own.counted_around}
 use Rattle.do_network.specs.Site.{enabled_input, handled, moves, released_by, site_move}
 use Rattle.do_network.specs.Spelled.{SendsSpelled, SentSpelled}
 use Rattle.do_network.specs.Step.{NetStepped, hands, input_of, net_moved, net_skipped, net_step}
 use Rattle.do_network.specs.fits.Notes.{Note, carried, note_frame}
-use Rattle.do_agreement.specs.Agrees.{Agrees, StepAgrees}
-use Rattle.do_agreement.specs.Classed.{ClassesAreTold}
-use Rattle.do_agreement.specs.InHand.{in_hand}
+use Rattle.do_agreement.specs.{Agrees.{Agrees, StepAgrees}, Classed.ClassesAreTold, InHand.in_hand}
 use Rattle.do_agreement.specs.NetInHand.{carried_as, net_without, part_in_hand}
 use Rattle.do_agreement.specs.CountsFit.{ChannelCarries}
-use Rattle.do_agreement.proofs.acts.ActsAgree.{node_is, skip_agrees}
-use Rattle.do_agreement.proofs.takes.TakesAlike.{hand_done}
-use Rattle.do_agreement.proofs.counts.MovesAccount.{apart}
-use Rattle.do_agreement.proofs.takes.Taking as takes
-use Rattle.do_agreement.proofs.takes.Taking.{Taking, waits}
-use Rattle.do_agreement.proofs.hands.HandSites.{there_still}
-use Rattle.do_agreement.proofs.takes.MachineTakes as machine
-use Rattle.do_agreement.proofs.takes.TakeEvents.{one_effect, site_is, take_agrees}
-use Rattle.do_agreement.proofs.takes.TakenFrame.{input_done, stands_first}
+use Rattle.do_agreement.proofs.{acts.ActsAgree.{node_is, skip_agrees}, takes.TakesAlike.hand_done}
+use Rattle.do_agreement.proofs.{counts.MovesAccount.apart, takes.Taking.{Taking, waits}}
+use Rattle.do_agreement.proofs.{hands.HandSites.there_still, takes.TakeEvents.{one_effect, site_is}}
+use Rattle.do_agreement.proofs.takes.{TakeEvents.take_agrees, TakenFrame.{input_done, stands_first}}
 
 module _ (table : List Class) (t : IsTable table) (act : Acting) (N : Net) (S : State)
     (agrees : Agrees table N S) (kept : LinksAreKept S) (calls : CallsAreKept S)

@@ -1,51 +1,31 @@
 -- A network tallies with the state after a node took an item.
-use Rattle.std.proofs.Common.{◌≡◌, ◌==◌, ◌&&◌, ℕ, Bool, true, false, List, [], ◌∷◌, refl, sym, ap}
-use Rattle.std.proofs.Common.{◌∙◌, filter, not, subst, arith}
-use Rattle.std.specs.List.{list_any}
-use Rattle.std.proofs.lemmas.Bool.{eqb-true}
-use Rattle.std.proofs.lemmas.Bool.Decides.{nat_tests}
-use Rattle.do_class.specs.Class.{Class}
-use Rattle.do_machine.specs.declared.item.Item.{Item}
 use Rattle.do_machine.specs.declared.item.Item.TheVariants as items
-use Rattle.do_machine.specs.declared.node.Node.{Node}
-use Rattle.do_machine.specs.declared.state.Effect.{Effect}
-use Rattle.do_machine.specs.declared.state.State.{State}
-use Rattle.do_machine.specs.Commit.{moved}
-use Rattle.do_machine.specs.Context.{Context, Surroundings}
-use Rattle.do_machine.specs.State.{is_open, node}
-use Rattle.do_machine.specs.ends.Closing.{asked_of, closing, parted}
-use Rattle.do_machine.specs.run.Run.{Acting}
-use Rattle.do_machine.specs.take.Take.{holding, take_effect}
-use Rattle.do_facts.specs.Net.{noted}
-use Rattle.do_facts.specs.View.{AreMoves}
-use Rattle.do_facts.specs.links.Links.{atoms, links, links_of}
-use Rattle.do_facts.specs.links.Moves.{link_rules}
-use Rattle.do_facts.specs.links.Sound.{IsSound}
-use Rattle.do_facts.proofs.links.Bridge.{link_bridge}
-use Rattle.do_facts.proofs.walk.SmallEffects.{settled_node}
-use Rattle.do_network.specs.Frames.{item_of}
-use Rattle.do_network.specs.Links.{Part}
-use Rattle.do_network.specs.Net.{Net}
-use Rattle.do_network.specs.Site.{Handled, handled, moves, site_move}
-use Rattle.do_network.specs.Spelled.{SentSpelled}
-use Rattle.do_network.specs.Step.{NetStepped, net_moved, place_after}
-use Rattle.do_network.specs.fits.Notes.{Note, note_frame}
 use Rattle.do_network.specs.declared.input.Done.TheVariants as dones
-use Rattle.do_agreement.specs.NetInHand.{closes_for, ends, part_in_hand, with_part}
-use Rattle.do_agreement.specs.Tallies.{Tallies}
-use Rattle.do_agreement.specs.Agrees.{Agrees}
 use Rattle.do_agreement.proofs.hands.HandSites as sites
-use Rattle.do_agreement.proofs.hands.HandSites.{Hand, keeps_part, there_still}
-use Rattle.do_agreement.proofs.hands.HandFits.{hand_fits}
-use Rattle.do_agreement.proofs.hands.HandShows.{hand_shows}
-use Rattle.do_agreement.proofs.commits.MoveTallies.{move_tallies, shown_alike}
-use Rattle.do_agreement.proofs.places.PlacesChanged.{place_here, place_twice}
-use Rattle.do_agreement.proofs.places.StepAsCommits.{two_commits}
-use Rattle.do_agreement.proofs.sites.RuleEffects.{take_is_effect}
-use Rattle.do_agreement.proofs.places.Numbers.{flipped}
-use Rattle.do_agreement.proofs.commits.Moving.{Commits}
-use Rattle.do_agreement.proofs.acts.StepTallies.{sound_after, sound_here}
 use Rattle.do_agreement.proofs.takes.Taking as takes
+use Rattle.std.proofs.Common.{◌≡◌, ◌==◌, ◌&&◌, ℕ, Bool, true, false, List, [], ◌∷◌, refl, sym, ap}
+use Rattle.std.{proofs.Common.{◌∙◌, filter, not, subst, arith}, specs.List.list_any}
+use Rattle.std.proofs.lemmas.Bool.{eqb-true, Decides.nat_tests}
+use Rattle.do_class.specs.Class.{Class}
+use Rattle.do_machine.specs.declared.{item.Item.Item, node.Node.Node, state.Effect.Effect}
+use Rattle.do_machine.specs.{declared.state.State.State, Commit.moved}
+use Rattle.do_machine.specs.{Context.{Context, Surroundings}, State.{is_open, node}}
+use Rattle.do_machine.specs.{ends.Closing.{asked_of, closing, parted}, run.Run.Acting}
+use Rattle.do_machine.specs.take.Take.{holding, take_effect}
+use Rattle.do_facts.specs.{Net.noted, View.AreMoves, links.Links.{atoms, links, links_of}}
+use Rattle.do_facts.specs.links.{Moves.link_rules, Sound.IsSound}
+use Rattle.do_facts.proofs.{links.Bridge.link_bridge, walk.SmallEffects.settled_node}
+use Rattle.do_network.specs.{Frames.item_of, Links.Part, Net.Net, Site.{Handled, handled, moves}}
+use Rattle.do_network.specs.{Site.site_move, Spelled.SentSpelled, Step.{NetStepped, net_moved}}
+use Rattle.do_network.specs.{Step.place_after, fits.Notes.{Note, note_frame}}
+use Rattle.do_agreement.specs.NetInHand.{closes_for, ends, part_in_hand, with_part}
+use Rattle.do_agreement.specs.{Tallies.Tallies, Agrees.Agrees}
+use Rattle.do_agreement.proofs.hands.{HandSites.{Hand, keeps_part, there_still}, HandFits.hand_fits}
+use Rattle.do_agreement.proofs.{hands.HandShows.hand_shows, commits.MoveTallies.move_tallies}
+use Rattle.do_agreement.proofs.{commits.MoveTallies.shown_alike, places.PlacesChanged.place_here}
+use Rattle.do_agreement.proofs.places.{PlacesChanged.place_twice, StepAsCommits.two_commits}
+use Rattle.do_agreement.proofs.{sites.RuleEffects.take_is_effect, places.Numbers.flipped}
+use Rattle.do_agreement.proofs.{commits.Moving.Commits, acts.StepTallies.{sound_after, sound_here}}
 use Rattle.do_agreement.proofs.takes.Taking.{Taking, node_there, site_there}
 
 -- an end that is closed is closed

@@ -1,30 +1,19 @@
 -- What stands first on the way to a node that can take it, and what its site does with it.
+use Rattle.do_agreement.proofs.takes.Taking as takes
 use Rattle.std.proofs.Common.{◌≡◌, ℕ, Bool, true, false, List, [], ◌∷◌, refl, sym, ap, ◌∙◌, cond}
 use Rattle.std.proofs.Common.{subst}
-use Rattle.std.specs.Prelude.{Ok, Some, option_map, unwrap_or}
-use Rattle.std.specs.List.{AllByRecursion}
+use Rattle.std.specs.{Prelude.{Ok, Some, option_map, unwrap_or}, List.AllByRecursion}
 use Rattle.do_class.specs.Class.{Class}
-use Rattle.do_machine.specs.declared.state.State.{State}
-use Rattle.do_machine.specs.State.{node}
-use Rattle.do_machine.specs.run.Run.{Acting}
+use Rattle.do_machine.specs.{declared.state.State.State, State.node, run.Run.Acting}
 use Rattle.do_machine.specs.declared.item.Item.TheVariants.{End}
-use Rattle.do_coder.specs.declared.recent.pair.Pair.{Pair}
-use Rattle.do_coder.specs.Packets.{surroundings}
+use Rattle.do_coder.specs.{declared.recent.pair.Pair.Pair, Packets.surroundings}
 use Rattle.do_frames.specs.Frames.{IsFrame, after_frame, raw}
-use Rattle.do_network.specs.Frames.{read_frame}
-use Rattle.do_network.specs.Links.{Link, Part, names_read}
-use Rattle.do_network.specs.Net.{Carried, Lost, Net, Whole}
-use Rattle.do_network.specs.Site.{enabled_input}
-use Rattle.do_network.specs.Step.{input_of}
-use Rattle.do_network.specs.fits.Notes.{Note, carried, note_frame}
-use Rattle.do_network.proofs.FramesRead.{read_back}
-use Rattle.do_agreement.specs.Agrees.{Agrees}
-use Rattle.do_agreement.specs.NetInHand.{carried_as}
-use Rattle.do_agreement.specs.CountsFit.{ChannelCarries}
+use Rattle.do_network.specs.{Frames.read_frame, Links.{Link, Part, names_read}}
+use Rattle.do_network.specs.{Net.{Carried, Lost, Net, Whole}, Site.enabled_input, Step.input_of}
+use Rattle.do_network.{specs.fits.Notes.{Note, carried, note_frame}, proofs.FramesRead.read_back}
+use Rattle.do_agreement.specs.{Agrees.Agrees, NetInHand.carried_as, CountsFit.ChannelCarries}
 use Rattle.do_agreement.proofs.takes.TakesAlike.{frame_done, hand_done, mark_done}
-use Rattle.do_agreement.proofs.takes.Taking as takes
-use Rattle.do_agreement.proofs.takes.Taking.{Taking, port_is}
-use Rattle.do_agreement.proofs.takes.TakeEvents.{faultless}
+use Rattle.do_agreement.proofs.takes.{Taking.{Taking, port_is}, TakeEvents.faultless}
 
 module _ {table : List Class} {act : Acting} {N : Net} {S : State} {agrees : Agrees table N S}
     {port from : ℕ} {x : Note} {xs : List Note}

@@ -1,44 +1,29 @@
 -- A site that takes an item is judged as the machine's node, and does what its input says.
-use Rattle.std.proofs.Common.{◌≡◌, ◌&&◌, ℕ, Bool, true, false, cond, not, List, []}
-use Rattle.std.proofs.Common.{refl, sym, ap, ◌∙◌}
-use Rattle.std.specs.Prelude.{None, Ok, Some, is_some, nat_lt}
 use Rattle.std.specs.FinMap as map_of
-use mathlib.Core.Path.{fun_ext}
 use Rattle.do_base.specs.declared.events.shown.Shown.TheVariants as shows
+use Rattle.do_machine.specs.declared.item.Item.TheVariants as items
+use Rattle.do_network.specs.declared.input.Done.TheVariants as dones
+use Rattle.std.proofs.Common.{◌≡◌, ◌&&◌, ℕ, Bool, true, false, cond, not, List, [], refl, sym, ap}
+use Rattle.std.{proofs.Common.◌∙◌, specs.Prelude.{None, Ok, Some, is_some, nat_lt}}
+use mathlib.Core.Path.{fun_ext}
 use Rattle.do_base.specs.names.Names.{ObjectName}
-use Rattle.do_class.specs.Class.{Class}
-use Rattle.do_class.specs.Table.{IsTable}
+use Rattle.do_class.specs.{Class.Class, Table.IsTable}
 use Rattle.do_coder.specs.declared.recent.pair.Pair.{Pair}
 use Rattle.do_export.specs.Counts.{count_of}
-use Rattle.do_frames.specs.declared.frame.Frame.{Frame}
-use Rattle.do_frames.specs.Frames.{after_frame, raw}
-use Rattle.do_machine.specs.declared.item.Item.{Item}
-use Rattle.do_machine.specs.declared.item.Item.TheVariants as items
-use Rattle.do_machine.specs.declared.node.Node.{Node}
-use Rattle.do_machine.specs.declared.state.State.{State}
-use Rattle.do_machine.specs.Context.{Surroundings, around}
-use Rattle.do_machine.specs.Effect.{showing, ◌>>=◌}
-use Rattle.do_machine.specs.Entry.{has_entry}
-use Rattle.do_machine.specs.Objects.{object_at}
-use Rattle.do_machine.specs.State.{class_of, is_known, is_open}
-use Rattle.do_machine.specs.ends.Closing.{closing}
-use Rattle.do_machine.specs.run.Run.{Acting}
-use Rattle.do_machine.specs.take.Lines.{item_line}
-use Rattle.do_machine.specs.take.Take.{can_take, holding, take_effect}
-use Rattle.do_network.specs.declared.input.Done.TheVariants as dones
-use Rattle.do_network.specs.Counting.{got}
-use Rattle.do_network.specs.Faults.{peer_fault}
-use Rattle.do_network.specs.Frames.{frame_of, item_of, read_frame}
-use Rattle.do_network.specs.Links.{Link, Part, change_link, having_read, names_read}
-use Rattle.do_network.specs.Net.{Lost, Whole}
+use Rattle.do_frames.specs.{declared.frame.Frame.Frame, Frames.{after_frame, raw}}
+use Rattle.do_machine.specs.declared.{item.Item.Item, node.Node.Node, state.State.State}
+use Rattle.do_machine.specs.{Context.{Surroundings, around}, Effect.{showing, ◌>>=◌}}
+use Rattle.do_machine.specs.{Entry.has_entry, Objects.object_at, State.{class_of, is_known}}
+use Rattle.do_machine.specs.{State.is_open, ends.Closing.closing, run.Run.Acting}
+use Rattle.do_machine.specs.take.{Lines.item_line, Take.{can_take, holding, take_effect}}
+use Rattle.do_network.specs.{Counting.got, Faults.peer_fault}
+use Rattle.do_network.specs.{Frames.{frame_of, item_of, read_frame}, Links.{Link, Part}}
+use Rattle.do_network.specs.{Links.{change_link, having_read, names_read}, Net.{Lost, Whole}}
 use Rattle.do_network.specs.Own.{Own, class_kept, counted_around, is_counted, site_context}
-use Rattle.do_network.specs.Site.{Handled, enabled_input, handled, released_by, site_move}
-use Rattle.do_network.specs.Site.{takes, takes_frame}
-use Rattle.do_network.specs.Step.{input_of}
-use Rattle.do_network.specs.fits.Notes.{Note, note_frame}
-use Rattle.do_agreement.specs.InHand.{in_hand, taken_by}
-use Rattle.do_agreement.specs.NetInHand.{carried_as, ends, links_read, part_in_hand}
-use Rattle.do_agreement.proofs.classes.ClassesAfter.{classes_stay_so}
+use Rattle.do_network.specs.Site.{Handled, enabled_input, handled, released_by, site_move, takes}
+use Rattle.do_network.specs.{Site.takes_frame, Step.input_of, fits.Notes.{Note, note_frame}}
+use Rattle.do_agreement.specs.{InHand.{in_hand, taken_by}, NetInHand.{carried_as, ends, links_read}}
+use Rattle.do_agreement.{specs.NetInHand.part_in_hand, proofs.classes.ClassesAfter.classes_stay_so}
 use Rattle.do_agreement.proofs.hands.InHandCounts.{end_exports, gives_back}
 
 -- ---- effects

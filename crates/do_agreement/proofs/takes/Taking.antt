@@ -1,26 +1,16 @@
 -- A take of the oldest item on its way to a node, in a network that agrees with a state.
+use Rattle.do_agreement.proofs.hands.HandSites as sites
 use Rattle.std.proofs.Common.{◌≡◌, ◌==◌, ℕ, true, false, List, ◌∷◌, map, sym, ap, ◌∙◌}
 use Rattle.std.specs.Prelude.{Some, option_map}
-use Rattle.do_class.specs.Class.{Class}
-use Rattle.do_class.specs.Table.{IsTable}
-use Rattle.do_machine.specs.declared.item.Item.{Item}
-use Rattle.do_machine.specs.declared.state.State.{State}
-use Rattle.do_machine.specs.State.{is_open, node, queue}
-use Rattle.do_machine.specs.run.Run.{Acting}
-use Rattle.do_machine.specs.take.Take.{can_take}
-use Rattle.do_facts.specs.calls.Facts.{CallsAreKept}
-use Rattle.do_facts.specs.links.LinksAreKept.{LinksAreKept}
+use Rattle.do_class.specs.{Class.Class, Table.IsTable}
+use Rattle.do_machine.specs.declared.{item.Item.Item, state.State.State}
+use Rattle.do_machine.specs.{State.{is_open, node, queue}, run.Run.Acting, take.Take.can_take}
+use Rattle.do_facts.specs.{calls.Facts.CallsAreKept, links.LinksAreKept.LinksAreKept}
 use Rattle.do_facts.specs.steps.IsStep.{without_oldest}
 use Rattle.do_coder.specs.declared.recent.pair.Pair.{Pair}
-use Rattle.do_network.specs.Links.{Part}
-use Rattle.do_network.specs.Net.{Net, Place, part_at, place_at}
-use Rattle.do_network.specs.fits.Notes.{Note}
-use Rattle.do_agreement.specs.Agrees.{Agrees}
-use Rattle.do_agreement.specs.Classed.{ClassesAreTold}
-use Rattle.do_agreement.specs.CountsFit.{ChannelCarries}
-use Rattle.do_agreement.proofs.acts.ActsAgree.{node_is}
-use Rattle.do_agreement.proofs.hands.HandSites as sites
-use Rattle.do_agreement.proofs.hands.HandSites.{Hand}
+use Rattle.do_network.specs.{Links.Part, Net.{Net, Place, part_at, place_at}, fits.Notes.Note}
+use Rattle.do_agreement.specs.{Agrees.Agrees, Classed.ClassesAreTold, CountsFit.ChannelCarries}
+use Rattle.do_agreement.proofs.{acts.ActsAgree.node_is, hands.HandSites.Hand}
 
 -- what holds where a node can take the oldest item of a peer, in a network that agrees with a
 -- state: where both are, and what is behind the item

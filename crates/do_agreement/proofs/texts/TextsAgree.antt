@@ -1,32 +1,21 @@
 -- What is written of a network, but for what was sent, is what is written of the machine.
+use Rattle.do_sched.specs.declared.line.Line.TheVariants as lines
 use Rattle.std.proofs.Common.{◌≡◌, ◌==◌, ◌||◌, ℕ, List, [], ◌∷◌, ◌++◌, map, Some, refl, ap, sym}
-use Rattle.std.proofs.Common.{subst, arith}
-use Rattle.std.specs.List.{IsDistinct}
-use Rattle.std.proofs.lemmas.Bool.Decides.{Decides-eqb}
-use Rattle.std.proofs.lemmas.List.Kept.{AllPairs-from_increasing}
+use Rattle.std.{proofs.Common.{subst, arith}, specs.List.IsDistinct}
+use Rattle.std.proofs.lemmas.{Bool.Decides.Decides-eqb, List.Kept.AllPairs-from_increasing}
 use Rattle.std.proofs.lemmas.Map.Made.{IsDistinct-from_AllPairs}
 use Rattle.do_base.specs.declared.events.event.Event.{Event}
-use Rattle.do_class.specs.Class.{Class}
-use Rattle.do_class.specs.Table.{IsTable}
+use Rattle.do_class.specs.{Class.Class, Table.IsTable}
 use Rattle.do_lines.specs.Transcript.{transcript}
-use Rattle.do_machine.specs.declared.state.Seat.{Seat}
-use Rattle.do_machine.specs.declared.state.State.{State}
-use Rattle.do_machine.specs.declared.state.Stepped.{Stepped}
-use Rattle.do_machine.specs.Commit.{skipped}
-use Rattle.do_machine.specs.State.{ports}
-use Rattle.do_machine.specs.Step.{step}
-use Rattle.do_machine.specs.World.{IsWorld, opening}
-use Rattle.do_machine.specs.check.Blocks.{blocks, events_of, listed_at, steps}
-use Rattle.do_machine.specs.run.Run.{Acting}
+use Rattle.do_machine.specs.declared.state.{Seat.Seat, State.State, Stepped.Stepped}
+use Rattle.do_machine.specs.{Commit.skipped, State.ports, Step.step, World.{IsWorld, opening}}
+use Rattle.do_machine.specs.{check.Blocks.{blocks, events_of, listed_at, steps}, run.Run.Acting}
 use Rattle.do_facts.proofs.machine.Ports.{opening_rises, step_ports}
 use Rattle.do_sched.specs.declared.line.Line.{Line}
-use Rattle.do_sched.specs.declared.line.Line.TheVariants as lines
-use Rattle.do_network.specs.Net.{Net, net_opening}
-use Rattle.do_network.specs.Spelled.{SendsSpelled}
+use Rattle.do_network.specs.{Net.{Net, net_opening}, Spelled.SendsSpelled}
 use Rattle.do_network.specs.Step.{NetStepped, net_skipped, net_step}
 use Rattle.do_network.specs.Wired.{WiredBlock, net_blocks, net_listed_at, net_steps, wired}
-use Rattle.do_agreement.specs.Along.{EventsSendSpelled, LinesSendSpelled}
-use Rattle.do_agreement.specs.HasWires.{HasWires}
+use Rattle.do_agreement.specs.{Along.{EventsSendSpelled, LinesSendSpelled}, HasWires.HasWires}
 use Rattle.do_agreement.proofs.agreement.GoesOn.{Goes, goes_on, opening_goes}
 use Rattle.do_agreement.proofs.agreement.SnapshotsAgree.{snapshots_same}
 use Rattle.do_agreement.proofs.texts.WiresPutIn.{wires_put_in}

@@ -1,20 +1,14 @@
 -- Dropping the lines that say what was sent gives the same, wherever they were put in.
 use Rattle.std.proofs.Common.{◌≡◌, ◌≢◌, ◌==◌, ◌/◌, ◌%◌, ◌+◌, ℕ, zero, suc, Bool, true, false, cond}
 use Rattle.std.proofs.Common.{List, [], ◌∷◌, ◌++◌, map, refl, sym, ap, ◌∙◌, append_assoc, arith}
-use Rattle.std.specs.Prelude.{codes, filter, nat_lt}
-use Rattle.std.specs.List.{flat_map}
+use Rattle.std.specs.{Prelude.{codes, filter, nat_lt}, List.flat_map}
 use Rattle.std.specs.Fmt.{decimal, digit_glyph, digits, digits_onto}
-use Rattle.std.proofs.lemmas.Grind.{flat_map-append}
-use Rattle.std.proofs.lemmas.List.{append-nil}
-use Rattle.std.proofs.lemmas.List.Elements.{filter-append}
-use Rattle.do_grammar.specs.Lines.{Line, cut, in_front, line_bytes}
-use Rattle.do_grammar.specs.Quoted.{hex_digit}
+use Rattle.std.proofs.lemmas.{Grind.flat_map-append, List.{append-nil, Elements.filter-append}}
+use Rattle.do_grammar.specs.{Lines.{Line, cut, in_front, line_bytes}, Quoted.hex_digit}
 use Rattle.do_grammar.specs.Words.{Without}
-use Rattle.do_grammar.proofs.texts.LinesExact.{cut_line}
-use Rattle.do_grammar.proofs.texts.WordBytes.{Without-append, Without-passes}
+use Rattle.do_grammar.proofs.texts.{LinesExact.cut_line, WordBytes.{Without-append, Without-passes}}
 use Rattle.do_lines.specs.Lines.{joined}
-use Rattle.do_network.specs.declared.wire.Wire.{Wire}
-use Rattle.do_network.specs.Wired.{hex_byte, wire_line}
+use Rattle.do_network.specs.{declared.wire.Wire.Wire, Wired.{hex_byte, wire_line}}
 use Rattle.do_agreement.specs.HasWires.{HasWires, Stretch, plain_stretch, wired_stretch}
 use Rattle.do_agreement.specs.WithoutWires.{is_local, without_wires}
 

@@ -1,21 +1,15 @@
 -- The transcript of a network is that of its blocks, with what was sent between the lines.
 use Rattle.std.proofs.Common.{◌≡◌, ℕ, Bool, true, false, cond, List, [], ◌∷◌, ◌++◌, map, refl, sym}
-use Rattle.std.proofs.Common.{ap, ◌∙◌, append_assoc}
-use Rattle.std.specs.Prelude.{None, Option, Some, codes}
-use Rattle.std.specs.List.{flat_map}
-use Rattle.std.proofs.lemmas.Grind.{flat_map-append}
-use Rattle.std.proofs.lemmas.List.{append-nil}
+use Rattle.std.{proofs.Common.{ap, ◌∙◌, append_assoc}, specs.Prelude.{None, Option, Some, codes}}
+use Rattle.std.{specs.List.flat_map, proofs.lemmas.{Grind.flat_map-append, List.append-nil}}
 use Rattle.do_class.specs.Class.{Class}
-use Rattle.do_lines.specs.Block.{shown_by, shown_lines, stepped_node}
-use Rattle.do_lines.specs.Shown.{shown_text}
+use Rattle.do_lines.specs.{Block.{shown_by, shown_lines, stepped_node}, Shown.shown_text}
 use Rattle.do_sched.specs.Spelling.{line_spelling}
 use Rattle.do_lines.specs.Check.{closed_line, entry_line, node_text, object_text, root_line}
 use Rattle.do_lines.specs.Lines.{joined}
 use Rattle.do_lines.specs.Transcript.{block_lines, first_line, last_line, listed_lines, transcript}
 use Rattle.do_sched.specs.declared.line.Line.{Line}
-use Rattle.do_trace.specs.Block.{Block}
-use Rattle.do_trace.specs.declared.outcome.NodeLine.{NodeLine}
-use Rattle.do_trace.specs.declared.outcome.Outcome.{Outcome}
+use Rattle.do_trace.specs.{Block.Block, declared.outcome.{NodeLine.NodeLine, Outcome.Outcome}}
 use Rattle.do_trace.specs.declared.outcome.Snapshot.{Snapshot}
 use Rattle.do_network.specs.Wired.{WiredBlock, wire_line, wired, wired_lines}
 use Rattle.do_agreement.specs.HasWires.{HasWires, Stretch, plain_stretch, wired_stretch}

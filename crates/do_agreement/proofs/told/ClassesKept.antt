@@ -1,39 +1,23 @@
 -- In every state that a machine comes to, classes are told of what is known and on its way.
-use Rattle.std.proofs.Common.{◌≡◌, ◌==◌, ◌++◌, ℕ, Bool, true, false, cond, List}
-use Rattle.std.proofs.Common.{[], ◌∷◌, filter, map, refl, sym, ap, ◌∙◌, subst}
+use Rattle.std.proofs.Common.{◌≡◌, ◌==◌, ◌++◌, ℕ, Bool, true, false, cond, List, [], ◌∷◌, filter}
+use Rattle.std.proofs.Common.{map, refl, sym, ap, ◌∙◌, subst}
 use Rattle.std.specs.Prelude.{None, Option, Some, if◌then◌else◌, is_some, option_and_then}
-use Rattle.std.specs.Prelude.{option_map}
-use Rattle.std.specs.List.{AllByRecursion}
-use Rattle.std.proofs.lemmas.Bool.{eqb-true}
+use Rattle.std.{specs.{Prelude.option_map, List.AllByRecursion}, proofs.lemmas.Bool.eqb-true}
 use Rattle.do_base.specs.names.Names.{ObjectName}
-use Rattle.do_class.specs.Class.{Class}
-use Rattle.do_class.specs.declared.ids.ClassId.{ClassId}
-use Rattle.do_machine.specs.declared.item.Item.{Item}
-use Rattle.do_machine.specs.declared.node.Node.{Node}
-use Rattle.do_machine.specs.declared.state.Effect.{Effect}
-use Rattle.do_machine.specs.declared.state.Parcel.{Parcel}
-use Rattle.do_machine.specs.declared.state.State.{State}
-use Rattle.do_machine.specs.declared.state.Station.{Station}
+use Rattle.do_class.specs.{Class.Class, declared.ids.ClassId.ClassId}
+use Rattle.do_machine.specs.declared.{item.Item.Item, node.Node.Node, state.Effect.Effect}
+use Rattle.do_machine.specs.declared.state.{Parcel.Parcel, State.State, Station.Station}
 use Rattle.do_machine.specs.Commit.{commit, items_to}
-use Rattle.do_machine.specs.Context.{Context, class_seen, context, own_class}
-use Rattle.do_machine.specs.State.{class_given, class_of, is_known, is_own, node, queue, queue_to}
-use Rattle.do_machine.specs.State.{station}
-use Rattle.do_facts.proofs.machine.ClassesStay.{stays}
-use Rattle.do_facts.proofs.machine.Frame.{elsewhere}
-use Rattle.do_facts.proofs.machine.Queues.{grows_behind}
-use Rattle.do_facts.proofs.machine.follows.States.{changed}
-use Rattle.do_facts.proofs.machine.passing.NoQueue.{stays_none}
+use Rattle.do_machine.specs.{Context.{Context, class_seen, context, own_class}, State.class_given}
+use Rattle.do_machine.specs.State.{class_of, is_known, is_own, node, queue, queue_to, station}
+use Rattle.do_facts.proofs.machine.{ClassesStay.stays, Frame.elsewhere, Queues.grows_behind}
+use Rattle.do_facts.proofs.machine.{follows.States.changed, passing.NoQueue.stays_none}
 use Rattle.do_network.specs.Counting.{Classed, item_classes}
-use Rattle.do_facts.specs.Net.{Note}
-use Rattle.do_facts.specs.View.{AreMoves}
-use Rattle.do_facts.specs.links.Links.{Atom, links}
-use Rattle.do_facts.specs.links.Moves.{link_rules}
+use Rattle.do_facts.specs.{Net.Note, View.AreMoves, links.{Links.{Atom, links}, Moves.link_rules}}
 use Rattle.do_facts.proofs.steps.OthersStay.{commit_leaves_others}
-use Rattle.do_agreement.specs.AreTold.{AreTold, TellsSeen}
-use Rattle.do_agreement.specs.Classed.{ClassesAreTold}
+use Rattle.do_agreement.specs.{AreTold.{AreTold, TellsSeen}, Classed.ClassesAreTold}
 use Rattle.do_agreement.proofs.classes.KnownAfter.{TakenAre, known_after}
-use Rattle.do_agreement.proofs.places.PlacesChanged.{some_is}
-use Rattle.do_agreement.proofs.told.HeapsGrow.{Grown}
+use Rattle.do_agreement.proofs.{places.PlacesChanged.some_is, told.HeapsGrow.Grown}
 use Rattle.do_agreement.proofs.told.StationsFit.{IsGiven, StationsFit, found_given, stations_after}
 use Rattle.do_facts.proofs.EachOfLists.{each_joined, each_weaker}
 

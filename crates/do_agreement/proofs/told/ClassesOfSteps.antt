@@ -1,68 +1,45 @@
 -- Classes are kept by every step, and in every state that a machine comes to.
-use Rattle.std.proofs.Common.{◌≡◌, ◌==◌, ◌+◌, ◌<◌, ◌≢◌, ℕ, Bool, true, false, List, []}
-use Rattle.std.proofs.Common.{◌∷◌, refl, sym, ap, ◌∙◌, subst, arith}
-use Rattle.std.specs.Prelude.{None, Option, Some, is_some, option_map}
-use Rattle.std.specs.List.{AllByRecursion, insert}
-use Rattle.std.proofs.lemmas.Bool.{eqb-true}
-use Rattle.std.proofs.lemmas.Bool.Decides.{nat_tests}
+use Rattle.do_machine.specs.declared.item.Item.TheVariants as items
+use Rattle.do_facts.specs.Net as nets
+use Rattle.std.proofs.Common.{◌≡◌, ◌==◌, ◌+◌, ◌<◌, ◌≢◌, ℕ, Bool, true, false, List, [], ◌∷◌, refl}
+use Rattle.std.{proofs.Common.{sym, ap, ◌∙◌, subst, arith}, specs.Prelude.{None, Option, Some}}
+use Rattle.std.specs.{Prelude.{is_some, option_map}, List.{AllByRecursion, insert}}
+use Rattle.std.proofs.lemmas.Bool.{eqb-true, Decides.nat_tests}
 use Rattle.do_base.specs.declared.events.event.Event.{Event}
 use Rattle.do_base.specs.declared.events.event.Event.TheVariants.{Close, Run, Start, Timeout}
 use Rattle.do_base.specs.names.Names.{ObjectName, TokenName}
-use Rattle.do_class.specs.Class.{Class}
-use Rattle.do_class.specs.declared.ids.ClassId.{ClassId}
-use Rattle.do_machine.specs.lend.Asking.{wanted}
-use Rattle.do_machine.specs.declared.item.Item.{Item}
-use Rattle.do_machine.specs.declared.item.Item.TheVariants as items
-use Rattle.do_machine.specs.declared.node.Node.{Node}
-use Rattle.do_machine.specs.declared.state.Effect.{Effect}
-use Rattle.do_machine.specs.declared.state.State.{State}
-use Rattle.do_machine.specs.declared.state.Station.{Station}
-use Rattle.do_machine.specs.declared.state.Stepped.{Stepped}
-use Rattle.do_machine.specs.Commit.{commit, moved}
-use Rattle.do_machine.specs.Context.{Context, around, class_seen, context}
-use Rattle.do_machine.specs.Start.{start_effect}
-use Rattle.do_machine.specs.Objects.{object_at}
-use Rattle.do_machine.specs.State.{change, class_of, is_known, is_open, node, queue, station}
-use Rattle.do_machine.specs.State.{with_queue}
-use Rattle.do_machine.specs.Step.{step}
-use Rattle.do_machine.specs.ends.TimeOut.{time_out}
-use Rattle.do_machine.specs.held.Leaving.{leaving}
-use Rattle.do_machine.specs.run.Run.{Acting, run_effect}
+use Rattle.do_class.specs.{Class.Class, declared.ids.ClassId.ClassId}
+use Rattle.do_machine.specs.{lend.Asking.wanted, declared.{item.Item.Item, node.Node.Node}}
+use Rattle.do_machine.specs.declared.state.{Effect.Effect, State.State, Station.Station}
+use Rattle.do_machine.specs.{declared.state.Stepped.Stepped, Commit.{commit, moved}}
+use Rattle.do_machine.specs.{Context.{Context, around, class_seen, context}, Start.start_effect}
+use Rattle.do_machine.specs.{Objects.object_at, State.{change, class_of, is_known, is_open, node}}
+use Rattle.do_machine.specs.{State.{queue, station, with_queue}, Step.step, ends.TimeOut.time_out}
+use Rattle.do_machine.specs.{held.Leaving.leaving, run.Run.{Acting, run_effect}}
 use Rattle.do_machine.specs.take.Take.{take_effect}
 use Rattle.do_facts.proofs.machine.follows.States.{changed, requeued}
 use Rattle.do_facts.proofs.machine.passing.Lookups.{elsewhere_stays, other_stays, that_changed}
 use Rattle.do_network.specs.Counting.{Classed, item_classes}
-use Rattle.do_facts.specs.Net.{Note, noted}
-use Rattle.do_facts.specs.Net as nets
-use Rattle.do_facts.specs.View.{AreMoves, net_of, part_seen, wire_seen}
-use Rattle.do_facts.specs.links.Facts.{answer_of, same3}
-use Rattle.do_facts.specs.links.Links.{Atom, atoms, links, links_of}
-use Rattle.do_facts.specs.links.LinksAreKept.{LinksAreKept}
-use Rattle.do_facts.specs.links.Moves.{has_wanted, link_rules, opens}
-use Rattle.do_facts.specs.links.Sound.{IsSound}
-use Rattle.do_facts.specs.steps.IsStep.{Acts, Checks, IsRuleOf, IsStep, Loses, Skips, Takes}
-use Rattle.do_facts.specs.steps.IsStep.{without_oldest}
-use Rattle.do_facts.proofs.links.Bridge.{link_bridge}
-use Rattle.do_facts.proofs.links.ReportsKnown.{reports_known}
-use Rattle.do_facts.proofs.steps.EachIsStep.{step_is}
-use Rattle.do_facts.proofs.steps.NodesAtHome.{AllAtHome}
+use Rattle.do_facts.specs.{Net.{Note, noted}, View.{AreMoves, net_of, part_seen, wire_seen}}
+use Rattle.do_facts.specs.links.{Facts.{answer_of, same3}, Links.{Atom, atoms, links, links_of}}
+use Rattle.do_facts.specs.links.{LinksAreKept.LinksAreKept, Moves.{has_wanted, link_rules, opens}}
+use Rattle.do_facts.specs.{links.Sound.IsSound, steps.IsStep.{Acts, Checks, IsRuleOf, IsStep}}
+use Rattle.do_facts.specs.steps.IsStep.{Loses, Skips, Takes, without_oldest}
+use Rattle.do_facts.proofs.links.{Bridge.link_bridge, ReportsKnown.reports_known}
+use Rattle.do_facts.proofs.steps.{EachIsStep.step_is, NodesAtHome.AllAtHome}
 use Rattle.do_agreement.specs.AreTold.{AreTold}
 use Rattle.do_agreement.proofs.acts.StepTallies.{rule_moves, sound_after, sound_here}
 use Rattle.do_agreement.proofs.classes.KnownAfter.{GrantedIs, TakenAre, item_such}
 use Rattle.do_agreement.proofs.places.KeyedLists.{found_changed, found_elsewhere}
-use Rattle.do_agreement.proofs.places.PlacesChanged.{some_is}
-use Rattle.do_agreement.proofs.sites.RuleEffects.{rule_effect}
-use Rattle.do_agreement.proofs.takes.TakeEvents.{asked_known}
-use Rattle.do_agreement.proofs.told.ClassesKept.{ClassesKept, HasClass, IsToldIn, commit_keeps}
-use Rattle.do_agreement.proofs.told.ClassesKept.{seen_right}
-use Rattle.do_agreement.proofs.told.HeapsGrow.{Grown, closing_grown, leaving_grown}
-use Rattle.do_agreement.proofs.told.HeapsGrow.{run_grown, start_grown, take_grown, time_out_grown}
-use Rattle.do_agreement.proofs.told.RulesTold.{rule_told}
-use Rattle.do_agreement.proofs.told.StationsFit.{IsGiven, StationFits, StationsFit}
-use Rattle.do_agreement.proofs.told.TakesTold.{leaving_told, take_told}
+use Rattle.do_agreement.proofs.{places.PlacesChanged.some_is, sites.RuleEffects.rule_effect}
+use Rattle.do_agreement.proofs.{takes.TakeEvents.asked_known, told.ClassesKept.ClassesKept}
+use Rattle.do_agreement.proofs.told.ClassesKept.{HasClass, IsToldIn, commit_keeps, seen_right}
+use Rattle.do_agreement.proofs.told.HeapsGrow.{Grown, closing_grown, leaving_grown, run_grown}
+use Rattle.do_agreement.proofs.told.HeapsGrow.{start_grown, take_grown, time_out_grown}
+use Rattle.do_agreement.proofs.told.{RulesTold.rule_told, StationsFit.{IsGiven, StationFits}}
+use Rattle.do_agreement.proofs.told.{StationsFit.StationsFit, TakesTold.{leaving_told, take_told}}
 use Rattle.do_facts.proofs.EachOfLists.{each_inserted, each_weaker}
-use Rattle.do_facts.proofs.steps.OthersStay.{class_requeued}
-use Rattle.do_facts.proofs.machine.follows.SteadyTakes.{by_take}
+use Rattle.do_facts.proofs.{steps.OthersStay.class_requeued, machine.follows.SteadyTakes.by_take}
 use Rattle.do_facts.proofs.walk.Possible.{there}
 
 -- ---- other items in a queue

@@ -1,20 +1,14 @@
 -- In every state that a machine comes to, classes are told.
+use Rattle.do_facts.proofs.links.ReachedLinks as links_kept
 use Rattle.std.proofs.Common.{List}
 use Rattle.do_base.specs.declared.events.event.Event.{Event}
 use Rattle.do_class.specs.Class.{Class}
-use Rattle.do_machine.specs.declared.state.Seat.{Seat}
-use Rattle.do_machine.specs.declared.state.State.{State}
-use Rattle.do_machine.specs.Step.{step}
-use Rattle.do_machine.specs.run.Run.{Acting}
-use Rattle.do_facts.specs.Reached.{reached}
-use Rattle.do_facts.specs.links.LinksAreKept.{LinksAreKept}
+use Rattle.do_machine.specs.{declared.state.{Seat.Seat, State.State}, Step.step, run.Run.Acting}
+use Rattle.do_facts.specs.{Reached.reached, links.LinksAreKept.LinksAreKept}
 use Rattle.do_facts.proofs.ReachedStates.{holds_of_reached}
-use Rattle.do_facts.proofs.links.ReachedLinks as links_kept
 use Rattle.do_facts.proofs.steps.NodesAtHome.{AllAtHome, opening_home, step_home}
-use Rattle.do_agreement.specs.Classed.{ClassesAreTold}
-use Rattle.do_agreement.proofs.told.ClassesKept.{ClassesKept}
-use Rattle.do_agreement.proofs.told.ClassesOfSteps.{step_keeps}
-use Rattle.do_agreement.proofs.told.OpeningClasses.{opening_keeps}
+use Rattle.do_agreement.{specs.Classed.ClassesAreTold, proofs.told.ClassesKept.ClassesKept}
+use Rattle.do_agreement.proofs.told.{ClassesOfSteps.step_keeps, OpeningClasses.opening_keeps}
 
 -- What a step keeps together: classes are told, and links and nodes stand as they should
 pub record AllKept (S : State) : Type 0 where

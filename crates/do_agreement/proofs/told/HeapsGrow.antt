@@ -1,45 +1,29 @@
 -- What a node stores after an effect it stored before, perhaps written to, or it made it then.
-use Rattle.std.proofs.Common.{◌≡◌, ◌==◌, ◌++◌, ◌+◌, ℕ, Bool, true, false, List, [], ◌∷◌}
-use Rattle.std.proofs.Common.{length, refl, sym, ap, ◌∙◌, append-nil, append_assoc, arith, suc}
-use Rattle.std.proofs.Common.{length-append, zero}
-use Rattle.std.specs.Prelude.{Option}
-use Rattle.std.specs.List.{AllByRecursion}
+use Rattle.do_machine.specs.declared.verdict.Request.TheVariants as requests
+use Rattle.std.proofs.Common.{◌≡◌, ◌==◌, ◌++◌, ◌+◌, ℕ, Bool, true, false, List, [], ◌∷◌, length}
+use Rattle.std.proofs.Common.{refl, sym, ap, ◌∙◌, append-nil, append_assoc, arith, suc}
+use Rattle.std.{proofs.Common.{length-append, zero}, specs.{Prelude.Option, List.AllByRecursion}}
 use Rattle.do_base.specs.declared.values.value.Value.{Value}
-use Rattle.do_class.specs.Class.{Class}
-use Rattle.do_class.specs.declared.ids.ClassId.{ClassId}
+use Rattle.do_class.specs.{Class.Class, declared.ids.ClassId.ClassId}
 use Rattle.do_packet.specs.declared.receipt.Made.{Made}
-use Rattle.do_behave.specs.declared.act.Write.{Write}
-use Rattle.do_behave.specs.declared.invocation.Answer.TheVariants.{Given}
+use Rattle.do_behave.specs.declared.{act.Write.Write, invocation.Answer.TheVariants.Given}
 use Rattle.do_behave.specs.declared.invocation.Reason.{Reason}
-use Rattle.do_machine.specs.declared.item.Item.{Item}
-use Rattle.do_machine.specs.declared.node.Node.{Node}
-use Rattle.do_machine.specs.declared.node.Stored.{Stored}
-use Rattle.do_machine.specs.declared.state.Effect.{Effect}
-use Rattle.do_machine.specs.declared.verdict.Verdict.{Verdict}
+use Rattle.do_machine.specs.declared.{item.Item.Item, node.{Node.Node, Stored.Stored}}
+use Rattle.do_machine.specs.declared.{state.Effect.Effect, verdict.Verdict.Verdict}
 use Rattle.do_machine.specs.declared.verdict.Verdict.TheVariants.{Asks, Fails, Makes, Returns}
 use Rattle.do_machine.specs.declared.verdict.Verdict.TheVariants.{Steps}
-use Rattle.do_machine.specs.Context.{Context, RunContext}
-use Rattle.do_machine.specs.Items.{exported}
-use Rattle.do_machine.specs.Lists.{change_first}
-use Rattle.do_machine.specs.Start.{start_effect}
-use Rattle.do_machine.specs.ends.Closing.{closing, parted}
-use Rattle.do_machine.specs.ends.TimeOut.{time_out}
-use Rattle.do_machine.specs.held.Kept.{kept, stays, struck, struck_by}
-use Rattle.do_machine.specs.held.Leaving.{leaving}
+use Rattle.do_machine.specs.{Context.{Context, RunContext}, Items.exported, Lists.change_first}
+use Rattle.do_machine.specs.{Start.start_effect, ends.{Closing.{closing, parted}, TimeOut.time_out}}
+use Rattle.do_machine.specs.held.{Kept.{kept, stays, struck, struck_by}, Leaving.leaving}
 use Rattle.do_machine.specs.lend.Asking.{wanted, with_wanted, without_wanted}
-use Rattle.do_machine.specs.lend.Lending.{with_settled}
-use Rattle.do_machine.specs.run.Changes.{with_writes}
+use Rattle.do_machine.specs.{lend.Lending.with_settled, run.Changes.with_writes}
 use Rattle.do_machine.specs.run.Fresh.{blank, pushed, with_objects, with_serials}
-use Rattle.do_machine.specs.run.Run.{Acting, run_effect}
-use Rattle.do_machine.specs.run.Verdicts.{effect_of}
-use Rattle.do_machine.specs.take.Receipt.{arrived}
-use Rattle.do_machine.specs.take.Take.{holding, take_effect}
+use Rattle.do_machine.specs.run.{Run.{Acting, run_effect}, Verdicts.effect_of}
+use Rattle.do_machine.specs.take.{Receipt.arrived, Take.{holding, take_effect}}
 use Rattle.do_facts.proofs.Deliveries.{Delivers, by_delivery, by_failing}
-use Rattle.do_facts.proofs.walk.SmallEffects.{Small, by_closing}
-use Rattle.do_facts.proofs.walk.Takes.{Takes, by_take}
+use Rattle.do_facts.proofs.walk.{SmallEffects.{Small, by_closing}, Takes.{Takes, by_take}}
 use Rattle.do_facts.proofs.EachOfLists.{each_changed, each_filtered}
 use Rattle.do_facts.proofs.walk.Possible.{IfAny, by_begins, by_giving_up, by_verdicts}
-use Rattle.do_machine.specs.declared.verdict.Request.TheVariants as requests
 
 -- ---- effects that leave what is stored
 

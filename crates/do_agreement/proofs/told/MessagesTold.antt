@@ -1,23 +1,16 @@
 -- The names of a packed message tell the classes that its node sees.
 use Rattle.std.proofs.Common.{◌≡◌, ◌==◌, ◌++◌, ℕ, suc, Bool, true, false, cond, List, [], ◌∷◌, fold}
-use Rattle.std.proofs.Common.{refl, sym, ap, ◌∙◌, subst, length}
-use Rattle.std.specs.Prelude.{Err, None, Ok, Option, Some, is_some, nat_lt, unwrap_or}
-use Rattle.std.specs.List.{AllByRecursion, filter_map}
-use Rattle.std.specs.Result.{result_ok}
-use Rattle.std.proofs.lemmas.Bool.{eqb-true}
+use Rattle.std.{proofs.Common.{refl, sym, ap, ◌∙◌, subst, length}, specs.Prelude.{Err, None, Ok}}
+use Rattle.std.specs.{Prelude.{Option, Some, is_some, nat_lt, unwrap_or}, List.AllByRecursion}
+use Rattle.std.{specs.{List.filter_map, Result.result_ok}, proofs.lemmas.Bool.eqb-true}
 use Rattle.do_base.specs.names.Names.{ObjectName}
-use Rattle.do_class.specs.Table.{class_id}
-use Rattle.do_class.specs.declared.ids.ClassId.{ClassId}
-use Rattle.do_class.specs.declared.packet.Name.{Name}
-use Rattle.do_class.specs.declared.packet.Name.TheVariants.{Lent, Mine, Yours}
-use Rattle.do_class.specs.declared.packet.Packet.{Packet}
+use Rattle.do_class.specs.{Table.class_id, declared.{ids.ClassId.ClassId, packet.Name.Name}}
+use Rattle.do_class.specs.declared.packet.{Name.TheVariants.{Lent, Mine, Yours}, Packet.Packet}
 use Rattle.do_packet.specs.Copies.{Placed, copies_of, most_copies, names_with}
 use Rattle.do_packet.specs.Packing.{Naming, capped, class_at, message_weight, most_weight}
 use Rattle.do_packet.specs.Packing.{name_next, names_to, packed, packed_with, packet_with}
-use Rattle.do_packet.specs.Seen.{Sender}
-use Rattle.do_packet.specs.declared.fault.PackFault.TheVariants.{TooLarge}
-use Rattle.do_machine.specs.Context.{Context, class_seen}
-use Rattle.do_machine.specs.Objects.{object_at}
+use Rattle.do_packet.specs.{Seen.Sender, declared.fault.PackFault.TheVariants.TooLarge}
+use Rattle.do_machine.specs.{Context.{Context, class_seen}, Objects.object_at}
 use Rattle.do_machine.specs.Packing.{packed_for, packer}
 use Rattle.do_network.specs.Counting.{classed_name}
 use Rattle.do_facts.proofs.links.NamedInMessages.{IsNameable, all_nameable}

@@ -4,17 +4,13 @@ use Rattle.std.specs.Prelude.{None, Option, Some, find, is_some, option_and_then
 use Rattle.std.specs.List.{AllByRecursion}
 use Rattle.do_base.specs.names.Names.{ObjectName}
 use Rattle.do_class.specs.Class.{Class}
-use Rattle.do_machine.specs.declared.item.Item.{Item}
-use Rattle.do_machine.specs.declared.state.Queue.{Queue}
-use Rattle.do_machine.specs.declared.state.Seat.{Seat}
+use Rattle.do_machine.specs.declared.{item.Item.Item, state.{Queue.Queue, Seat.Seat}}
 use Rattle.do_machine.specs.declared.state.Station.{Station}
 use Rattle.do_machine.specs.State.{class_of, is_known, queue, queue_to, station}
 use Rattle.do_machine.specs.World.{by_port, opening, opening_station, others}
 use Rattle.do_facts.proofs.OpeningAsNet.{opened}
-use Rattle.do_agreement.proofs.agreement.OpeningAgrees.{found_such}
-use Rattle.do_agreement.proofs.places.PlacesChanged.{some_is}
-use Rattle.do_agreement.proofs.told.ClassesKept.{ClassesKept, IsToldIn}
-use Rattle.do_agreement.proofs.told.StationsFit.{StationFits}
+use Rattle.do_agreement.proofs.{agreement.OpeningAgrees.found_such, places.PlacesChanged.some_is}
+use Rattle.do_agreement.proofs.told.{ClassesKept.{ClassesKept, IsToldIn}, StationsFit.StationFits}
 
 module _ (table : List Class) (seats : List Seat) where
   -- the ports of the nodes, in their order

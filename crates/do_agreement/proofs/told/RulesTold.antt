@@ -1,20 +1,14 @@
 -- What the effect of an event's rule sends tells the classes that its node sees.
-use Rattle.std.proofs.Common.{List, sym, subst, ◌≡◌}
-use Rattle.std.specs.Prelude.{Option, Some}
+use Rattle.std.{proofs.Common.{List, sym, subst, ◌≡◌}, specs.Prelude.{Option, Some}}
 use Rattle.do_base.specs.declared.events.event.Event.{Event}
 use Rattle.do_base.specs.declared.events.event.Event.TheVariants.{Close, Run, Start, Timeout}
 use Rattle.do_class.specs.Class.{Class}
-use Rattle.do_machine.specs.declared.node.Node.{Node}
-use Rattle.do_machine.specs.declared.state.Effect.{Effect}
-use Rattle.do_machine.specs.declared.state.State.{State}
-use Rattle.do_machine.specs.Context.{Context, context}
-use Rattle.do_machine.specs.Start.{start_effect}
-use Rattle.do_machine.specs.ends.TimeOut.{time_out}
+use Rattle.do_machine.specs.declared.{node.Node.Node, state.{Effect.Effect, State.State}}
+use Rattle.do_machine.specs.{Context.{Context, context}, Start.start_effect, ends.TimeOut.time_out}
 use Rattle.do_machine.specs.run.Run.{Acting, run_effect}
 use Rattle.do_facts.specs.steps.IsStep.{IsRuleOf}
 use Rattle.do_agreement.specs.AreTold.{AreTold}
-use Rattle.do_agreement.proofs.told.RunsTold.{ToldIf, run_told}
-use Rattle.do_agreement.proofs.told.TakesTold.{closing_told}
+use Rattle.do_agreement.proofs.told.{RunsTold.{ToldIf, run_told}, TakesTold.closing_told}
 use Rattle.do_facts.proofs.walk.Possible.{by_begins, by_giving_up, there}
 
 -- the effect that there is

@@ -1,29 +1,20 @@
 -- What a run, a start or a time-out sends tells the classes that its node sees.
-use Rattle.std.proofs.Common.{List, [], ◌∷◌}
-use Rattle.std.specs.Prelude.{Option, option_map}
-use Rattle.do_behave.specs.declared.act.Act.{Act}
 use Rattle.do_behave.specs.declared.act.Act.TheVariants as acts
-use Rattle.do_behave.specs.declared.invocation.Answer.{Answer}
-use Rattle.do_behave.specs.declared.invocation.Answer.TheVariants.{Given, Raised}
-use Rattle.do_behave.specs.declared.invocation.Invocation.{Invocation}
-use Rattle.do_behave.specs.declared.invocation.InvState.{InvState}
 use Rattle.do_behave.specs.declared.invocation.InvState.TheVariants as states
-use Rattle.do_behave.specs.declared.invocation.Reason.{Reason}
-use Rattle.do_machine.specs.declared.state.Effect.{Effect}
 use Rattle.do_machine.specs.declared.verdict.Request.TheVariants as requests
-use Rattle.do_machine.specs.declared.verdict.SendAct.{SendAct}
-use Rattle.do_machine.specs.declared.verdict.Verdict.{Verdict}
-use Rattle.do_machine.specs.declared.verdict.Verdict.TheVariants.{Asks, Fails, Returns, Tells}
-use Rattle.do_machine.specs.Context.{Context, RunContext}
-use Rattle.do_machine.specs.run.Acts.{act_rule}
-use Rattle.do_machine.specs.run.Answers.{answer_placed}
+use Rattle.std.{proofs.Common.{List, [], ◌∷◌}, specs.Prelude.{Option, option_map}}
+use Rattle.do_behave.specs.declared.{act.Act.Act, invocation.Answer.{Answer, TheVariants.Given}}
+use Rattle.do_behave.specs.declared.invocation.{Answer.TheVariants.Raised, Invocation.Invocation}
+use Rattle.do_behave.specs.declared.invocation.{InvState.InvState, Reason.Reason}
+use Rattle.do_machine.specs.declared.{state.Effect.Effect, verdict.SendAct.SendAct}
+use Rattle.do_machine.specs.declared.verdict.Verdict.{Verdict, TheVariants.{Asks, Fails, Returns}}
+use Rattle.do_machine.specs.{declared.verdict.Verdict.TheVariants.Tells, Context.Context}
+use Rattle.do_machine.specs.{Context.RunContext, run.{Acts.act_rule, Answers.answer_placed}}
 use Rattle.do_machine.specs.run.Run.{Acting, answer_rule, next_act, run_effect, run_on, state_rule}
-use Rattle.do_machine.specs.run.Send.{arguments}
-use Rattle.do_machine.specs.run.Verdicts.{effect_of}
+use Rattle.do_machine.specs.run.{Send.arguments, Verdicts.effect_of}
 use Rattle.do_facts.proofs.Deliveries.{Delivers, by_delivery, by_failing}
 use Rattle.do_facts.proofs.RulesOfActs.{Sends, by_return, by_root, by_send, by_vend}
-use Rattle.do_agreement.specs.AreTold.{AreTold}
-use Rattle.do_agreement.proofs.told.MessagesTold.{Told, packed_told}
+use Rattle.do_agreement.{specs.AreTold.AreTold, proofs.told.MessagesTold.{Told, packed_told}}
 use Rattle.do_facts.proofs.walk.Possible.{IfAny}
 
 -- what an effect of a node sends tells the classes that it sees, where there is one

@@ -3,25 +3,16 @@ use Rattle.std.proofs.Common.{◌≡◌, ◌==◌, ◌++◌, ◌+◌, ◌≤◌,
 use Rattle.std.proofs.Common.{◌∷◌, suc, zero, filter, length, map, refl, sym, ap, ◌∙◌, subst, arith}
 use Rattle.std.proofs.Common.{append_assoc, length-append}
 use Rattle.std.specs.Prelude.{None, Option, Some, nat_le, option_map, slice_get}
-use Rattle.std.specs.List.{AllByRecursion}
-use Rattle.std.proofs.lemmas.Bool.{eqb-true}
-use Rattle.std.proofs.lemmas.Bool.Decides.{nat_tests}
+use Rattle.std.{specs.List.AllByRecursion, proofs.lemmas.Bool.{eqb-true, Decides.nat_tests}}
 use Rattle.do_class.specs.declared.ids.ClassId.{ClassId}
 use Rattle.do_packet.specs.declared.receipt.Made.{Made}
-use Rattle.do_machine.specs.declared.node.Stored.{Stored}
-use Rattle.do_machine.specs.declared.state.Effect.{Effect}
-use Rattle.do_machine.specs.declared.state.State.{State}
-use Rattle.do_machine.specs.declared.state.Station.{Station}
-use Rattle.do_machine.specs.Commit.{born, commit, committed}
-use Rattle.do_machine.specs.State.{class_given, station, stored}
-use Rattle.do_machine.specs.run.Fresh.{with_serials}
+use Rattle.do_machine.specs.declared.{node.Stored.Stored, state.{Effect.Effect, State.State}}
+use Rattle.do_machine.specs.{declared.state.Station.Station, Commit.{born, commit, committed}}
+use Rattle.do_machine.specs.{State.{class_given, station, stored}, run.Fresh.with_serials}
 use Rattle.do_agreement.proofs.places.KeyedLists.{found_changed, found_elsewhere}
-use Rattle.do_agreement.proofs.places.PlacesChanged.{some_is}
-use Rattle.do_agreement.proofs.told.HeapsGrow.{Grown}
-use Rattle.std.proofs.lemmas.List.{length-map}
-use Rattle.std.proofs.lemmas.List.Elements.{filter-append}
-use Rattle.do_facts.proofs.EachOfLists.{each_joined, each_weaker}
-use Rattle.do_facts.proofs.machine.ClassesStay.{class_stays}
+use Rattle.do_agreement.proofs.{places.PlacesChanged.some_is, told.HeapsGrow.Grown}
+use Rattle.std.proofs.lemmas.List.{length-map, Elements.filter-append}
+use Rattle.do_facts.proofs.{EachOfLists.{each_joined, each_weaker}, machine.ClassesStay.class_stays}
 
 -- a class was given with a serial
 abbrev pub IsGiven : List ClassId → ℕ → ClassId → Type 0

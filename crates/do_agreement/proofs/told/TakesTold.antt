@@ -4,20 +4,13 @@ use Rattle.std.proofs.Common.{ℕ, Bool, false, not, List, [], ◌∷◌, filter
 use Rattle.do_packet.specs.Met.{has_object}
 use Rattle.std.specs.List.{AllByRecursion}
 use Rattle.do_base.specs.names.Names.{ObjectName}
-use Rattle.do_machine.specs.declared.item.Item.{Item}
-use Rattle.do_machine.specs.declared.node.Node.{Node}
-use Rattle.do_machine.specs.Context.{Context}
-use Rattle.do_machine.specs.ends.Closing.{closing}
-use Rattle.do_machine.specs.held.Kept.{kept}
-use Rattle.do_machine.specs.held.Leaving.{freeing, left, leaving}
-use Rattle.do_machine.specs.held.Refers.{node_objects}
-use Rattle.do_machine.specs.run.Acts.{root_value}
-use Rattle.do_machine.specs.take.Take.{take_effect}
+use Rattle.do_machine.specs.{declared.{item.Item.Item, node.Node.Node}, Context.Context}
+use Rattle.do_machine.specs.{ends.Closing.closing, held.Kept.kept}
+use Rattle.do_machine.specs.held.{Leaving.{freeing, left, leaving}, Refers.node_objects}
+use Rattle.do_machine.specs.{run.Acts.root_value, take.Take.take_effect}
 use Rattle.do_network.specs.Counting.{item_classes}
-use Rattle.do_facts.proofs.walk.SmallEffects.{Small, by_closing}
-use Rattle.do_facts.proofs.walk.Takes.{Takes, by_take}
-use Rattle.do_agreement.specs.AreTold.{AreTold, TellsSeen}
-use Rattle.do_agreement.proofs.told.MessagesTold.{names_told}
+use Rattle.do_facts.proofs.walk.{SmallEffects.{Small, by_closing}, Takes.{Takes, by_take}}
+use Rattle.do_agreement.{specs.AreTold.{AreTold, TellsSeen}, proofs.told.MessagesTold.names_told}
 
 -- nothing is asked of a node
 abbrev Any : Node → Type 0

@@ -1,19 +1,12 @@
 ghost use Rattle.std.specs.Prelude.{◌≡◌, Bool, List, ℕ};
 ghost use Rattle.do_base.specs.declared.events.event.Event.{Event};
 ghost use Rattle.do_class.specs.Class.{Class};
-ghost use Rattle.do_machine.specs.declared.item.Item.{Item};
-ghost use Rattle.do_machine.specs.declared.node.Node.{Node};
-ghost use Rattle.do_machine.specs.declared.state.Effect.{Effect};
-ghost use Rattle.do_machine.specs.declared.state.Seat.{Seat};
-ghost use Rattle.do_machine.specs.declared.state.State.{State};
-ghost use Rattle.do_machine.specs.Context.{Context, context};
-ghost use Rattle.do_machine.specs.held.Leaving.{leaving};
-ghost use Rattle.do_machine.specs.run.Run.{Acting};
-ghost use Rattle.do_machine.specs.take.Take.{take_effect};
-ghost use Rattle.do_facts.specs.Reached.{reached};
-ghost use Rattle.do_facts.specs.steps.IsStep.{IsRuleOf};
-ghost use Rattle.do_agreement.specs.AreTold.{AreTold};
-ghost use Rattle.do_agreement.specs.Classed.{ClassesAreTold};
+ghost use Rattle.do_machine.specs.declared.{item.Item.Item, node.Node.Node, state.Effect.Effect};
+ghost use Rattle.do_machine.specs.declared.state.{Seat.Seat, State.State};
+ghost use Rattle.do_machine.specs.{Context.{Context, context}, held.Leaving.leaving};
+ghost use Rattle.do_machine.specs.{run.Run.Acting, take.Take.take_effect};
+ghost use Rattle.do_facts.specs.{Reached.reached, steps.IsStep.IsRuleOf};
+ghost use Rattle.do_agreement.specs.{AreTold.AreTold, Classed.ClassesAreTold};
 
 /// Each name that a node sends tells the class that the node sees of the object, whatever it does.
 pub fn sent_names_tell_classes()

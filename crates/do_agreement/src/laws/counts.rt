@@ -2,27 +2,14 @@ ghost use Rattle.std.specs.Prelude.{◌≡◌, ◌==◌, ◌++◌, ◌∷◌, �
 ghost use Rattle.do_base.specs.declared.events.event.Event.{Event};
 ghost use Rattle.do_class.specs.Class.{Class};
 ghost use Rattle.do_export.specs.Counts.{count_of};
-ghost use Rattle.do_machine.specs.declared.item.Item.{Item};
-ghost use Rattle.do_machine.specs.declared.node.Node.{Node};
-ghost use Rattle.do_machine.specs.declared.state.Effect.{Effect};
-ghost use Rattle.do_machine.specs.declared.state.State.{State};
-ghost use Rattle.do_machine.specs.Context.{Context};
-ghost use Rattle.do_machine.specs.Items.{exported};
-ghost use Rattle.do_machine.specs.Objects.{object_at};
-ghost use Rattle.do_machine.specs.State.{holds, is_open};
-ghost use Rattle.do_machine.specs.held.Leaving.{leaving};
-ghost use Rattle.do_machine.specs.run.Run.{Acting};
-ghost use Rattle.do_machine.specs.take.Take.{holding, take_effect};
-ghost use Rattle.do_facts.specs.links.Links.{links_of};
-ghost use Rattle.do_facts.specs.links.Sound.{IsSound};
-ghost use Rattle.do_facts.specs.steps.IsStep.{IsRuleOf};
-ghost use Rattle.do_network.specs.Counting.{counted};
-ghost use Rattle.do_network.specs.Own.{Own};
-ghost use Rattle.do_network.specs.fits.Counted.{Counted};
+ghost use Rattle.do_machine.specs.declared.{item.Item.Item, node.Node.Node, state.Effect.Effect};
+ghost use Rattle.do_machine.specs.{declared.state.State.State, Context.Context, Items.exported};
+ghost use Rattle.do_machine.specs.{Objects.object_at, State.{holds, is_open}, held.Leaving.leaving};
+ghost use Rattle.do_machine.specs.{run.Run.Acting, take.Take.{holding, take_effect}};
+ghost use Rattle.do_facts.specs.{links.{Links.links_of, Sound.IsSound}, steps.IsStep.IsRuleOf};
+ghost use Rattle.do_network.specs.{Counting.counted, Own.Own, fits.Counted.Counted};
 ghost use Rattle.do_network.specs.fits.Notes.{Note, tells_of, total};
-ghost use Rattle.do_agreement.specs.Accounted.{AccountsFor};
-ghost use Rattle.do_agreement.specs.InHand.{in_hand};
-ghost use Rattle.do_agreement.specs.NotesSent.{notes_to};
+ghost use Rattle.do_agreement.specs.{Accounted.AccountsFor, InHand.in_hand, NotesSent.notes_to};
 
 /// By each of its effects a node accounts for what it held: each object is still held, or given
 /// back by one release, or told by the end that closes.

@@ -1,13 +1,9 @@
 ghost use Rattle.std.specs.Prelude.{◌≡◌, ◌≢◌, ℕ, List, Some, map, true};
 ghost use Rattle.do_base.specs.names.Names.{ObjectName, TokenName};
-ghost use Rattle.do_machine.specs.declared.node.Node.{Node};
-ghost use Rattle.do_machine.specs.declared.state.State.{State};
-ghost use Rattle.do_machine.specs.State.{is_open};
-ghost use Rattle.do_network.specs.fits.Calls.{OneCall};
-ghost use Rattle.do_network.specs.fits.Lends.{OneAsk, OneLend};
+ghost use Rattle.do_machine.specs.{declared.{node.Node.Node, state.State.State}, State.is_open};
+ghost use Rattle.do_network.specs.fits.{Calls.OneCall, Lends.{OneAsk, OneLend}};
 ghost use Rattle.do_network.specs.fits.Notes.{Note, tells_of, total};
-ghost use Rattle.do_facts.specs.calls.Facts.{CallsAreKept};
-ghost use Rattle.do_facts.specs.links.LinksAreKept.{LinksAreKept};
+ghost use Rattle.do_facts.specs.{calls.Facts.CallsAreKept, links.LinksAreKept.LinksAreKept};
 ghost use Rattle.do_agreement.specs.StandBetween.{StandBetween};
 
 /// Where notes stand for the queues between two nodes of a state, each lend, each ask and each call

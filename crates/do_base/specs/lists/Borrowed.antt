@@ -1,9 +1,7 @@
 -- What a list becomes once a borrow of one of its items is over.
-use Rattle.std.specs.Prelude.{ℕ, List, slice_set, Option}
-use Rattle.std.specs.Borrow.{Lends, LendsIf, MutBor, Fml}
+use Rattle.std.specs.{Prelude.{ℕ, List, slice_set, Option}, Borrow.{Lends, LendsIf, MutBor, Fml}}
 use denote.RattleType.{RattleType}
-use Rattle.do_base.specs.lists.Reserved.{Reserved}
-use Rattle.do_base.specs.contracts.lists.items.Items.{the_row}
+use Rattle.do_base.specs.{lists.Reserved.Reserved, contracts.lists.items.Items.the_row}
 use Rattle.do_base.specs.contracts.lists.reserved.Reserved.{the_row as reserved_row}
 
 -- the list ends with the last value behind the borrow at that place

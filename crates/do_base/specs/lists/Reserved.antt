@@ -1,6 +1,5 @@
 -- A list with room for more.
-use Rattle.std.specs.Prelude.{ℕ, List, refl}
-use Rattle.std.specs.Coded.{Coded, code_by, coded×, coded_ℕ, coded_list}
+use Rattle.std.specs.{Prelude.{ℕ, List, refl}, Coded.{Coded, code_by, coded×, coded_ℕ, coded_list}}
 
 -- the items, and how many more fit with no memory taken
 pub record Reserved (T : Type 0) : Type 0 where

@@ -1,10 +1,7 @@
 -- What a shelf tells, and the answers of a fetch.
 use Rattle.std.specs.Prelude.{◌≡◌, ℕ, ◌+◌, ◌<◌, ◌≤◌, ◌⊎◌, List, [], ◌∷◌, length, Option, Some, None}
-use Rattle.std.specs.Prelude.{Result, Ok, Err, cond}
-use Rattle.std.specs.Option.{ForSome, IsSomeAnd}
-use Rattle.std.specs.Str.{bytes_eq}
-use Rattle.do_base.specs.outside.Causes.{Rose}
-use Rattle.do_base.specs.declared.outside.shelf.NamedFile.{NamedFile}
+use Rattle.std.specs.{Prelude.{Result, Ok, Err, cond}, Option.{ForSome, IsSomeAnd}, Str.bytes_eq}
+use Rattle.do_base.specs.{outside.Causes.Rose, declared.outside.shelf.NamedFile.NamedFile}
 use Rattle.do_base.specs.declared.outside.shelf.FetchFail.{FetchFail}
 use Rattle.do_base.specs.declared.outside.shelf.FetchFail.TheVariants.{Failed, Long, Memory}
 

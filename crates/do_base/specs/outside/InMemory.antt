@@ -1,7 +1,6 @@
 -- The shelf and the sink in memory.
 use Rattle.std.specs.Prelude.{ℕ, List, Contains}
-use Rattle.do_base.specs.outside.Causes.{next_count}
-use Rattle.do_base.specs.declared.outside.shelf.NamedFile.{NamedFile}
+use Rattle.do_base.specs.{outside.Causes.next_count, declared.outside.shelf.NamedFile.NamedFile}
 
 -- a shelf's files, the numbers of the fetches that fail, and the counts of fetches and of faults
 pub record ShelfState : Type 0 where

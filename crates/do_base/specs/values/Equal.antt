@@ -1,14 +1,10 @@
 -- Whether two values are equal, as a test that computes.
 use Rattle.std.specs.Prelude.{◌≡◌, Bool, true, false, ◌&&◌, ◌==◌, List as Listed, [], ◌∷◌, map}
-use Rattle.std.specs.Ordering.{int_eq}
-use Rattle.std.specs.Bool.{Decides}
-use Rattle.std.specs.List.{AllByRecursion}
+use Rattle.std.specs.{Ordering.int_eq, Bool.Decides, List.AllByRecursion}
 use Rattle.std.specs.Cmp.{signed_Decides, unsigned_Decides}
-use Rattle.std.specs.Cmp.Lexicographic.{pointwise, bytes_decides}
-use Rattle.std.proofs.Common.{rules, arith}
-use Rattle.do_base.specs.values.Induction.{value_induction}
-use Rattle.do_base.specs.declared.values.value.Value.{Value, List, fold-Value}
-use Rattle.do_base.specs.declared.values.value.Value.{out-Value, the_lemmas}
+use Rattle.std.{specs.Cmp.Lexicographic.{pointwise, bytes_decides}, proofs.Common.{rules, arith}}
+use Rattle.do_base.specs.{values.Induction.value_induction, declared.values.value.Value.Value}
+use Rattle.do_base.specs.declared.values.value.Value.{List, fold-Value, out-Value, the_lemmas}
 use Rattle.do_base.specs.declared.values.value.Value.TheVariants.{Nil, Num, Text, Obj}
 use Rattle.do_base.specs.declared.values.value.Value.TheOpen.{Value-F}
 

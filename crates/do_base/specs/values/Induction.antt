@@ -1,6 +1,5 @@
 -- Induction over a value, by its five kinds.
-use Rattle.std.specs.Prelude.{ℕ, ℤ, List as Listed, [], ◌∷◌, map}
-use Rattle.std.proofs.Common.{subst}
+use Rattle.std.{specs.Prelude.{ℕ, ℤ, List as Listed, [], ◌∷◌, map}, proofs.Common.subst}
 use Rattle.std.specs.List.{AllByRecursion}
 use Rattle.do_base.specs.names.Names.{ObjectName}
 use Rattle.do_base.specs.declared.values.value.Value.{Value, List, ind-Value, map-Value, roll-Value}

@@ -1,7 +1,6 @@
 -- Questions on a value. Each is answered by its outermost level alone.
 use Rattle.std.specs.Prelude.{ℕ, ℤ, pos, Bool, true, false, Option, Some, None, List as Listed}
-use Rattle.do_base.specs.names.Names.{ObjectName}
-use Rattle.do_base.specs.declared.values.value.Value.{Value, out-Value}
+use Rattle.do_base.specs.{names.Names.ObjectName, declared.values.value.Value.{Value, out-Value}}
 use Rattle.do_base.specs.declared.values.value.Value.TheOpen.{Value-F}
 
 abbrev level_number : Value-F Value → Option ℤ

@@ -1,8 +1,6 @@
 -- Functions of a value, each by what one level gives.
-use Rattle.std.specs.Prelude.{ℕ, List, [], ◌∷◌, ◌+◌, length, sum}
-use Rattle.std.specs.List.{flat_map}
-use Rattle.do_base.specs.declared.names.node.Oid.{Oid}
-use Rattle.do_base.specs.declared.values.value.Value.{Value, fold-Value}
+use Rattle.std.specs.{Prelude.{ℕ, List, [], ◌∷◌, ◌+◌, length, sum}, List.flat_map}
+use Rattle.do_base.specs.declared.{names.node.Oid.Oid, values.value.Value.{Value, fold-Value}}
 use Rattle.do_base.specs.declared.values.value.Value.TheOpen.{Value-F}
 
 -- one level of a value, where the values inside are weighed already

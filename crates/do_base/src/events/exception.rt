@@ -36,8 +36,7 @@ impl ExactClone for Exc {
 }
 
 impl ExactEq for Exc {
-    ghost use Rattle.std.proofs.Common.{rules};
-    ghost use Rattle.std.specs.Cmp.Lexicographic.{bytes_decides};
+    ghost use Rattle.std.{proofs.Common.rules, specs.Cmp.Lexicographic.bytes_decides};
 
     ghost exact_eq = { λ x y. Prim.search (rules, bytes_decides) };
 }

@@ -66,15 +66,13 @@ impl ExactClone for Shown {
 }
 
 impl ExactEq for Took {
-    ghost use Rattle.std.proofs.Common.{rules};
-    ghost use Rattle.std.specs.Cmp.Lexicographic.{bytes_decides};
+    ghost use Rattle.std.{proofs.Common.rules, specs.Cmp.Lexicographic.bytes_decides};
 
     ghost exact_eq = { λ x y. Prim.search (rules, bytes_decides) };
 }
 
 impl ExactEq for Shown {
-    ghost use Rattle.std.proofs.Common.{rules};
-    ghost use Rattle.std.specs.Cmp.Lexicographic.{bytes_decides};
+    ghost use Rattle.std.{proofs.Common.rules, specs.Cmp.Lexicographic.bytes_decides};
     ghost use Rattle.do_base.specs.values.Equal.{value_eq-Decides};
 
     ghost exact_eq = { λ x y. Prim.search (rules, bytes_decides, value_eq-Decides) };

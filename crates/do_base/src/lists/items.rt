@@ -1,8 +1,7 @@
 //! The one list type of this project: made and read here, grown, edited and compared in the files
 //! below.
 ghost use Rattle.std.specs.Prelude.{◌≡◌, [], ◌<◌, ◌-◌, length, slice_get, ◌↔◌, IsTrue, IsNone};
-ghost use Rattle.std.specs.Prelude.{OnSome, IfOk};
-ghost use Rattle.std.specs.Option.{option_copied};
+ghost use Rattle.std.specs.{Prelude.{OnSome, IfOk}, Option.option_copied};
 
 mod comparing;
 mod editing;
@@ -33,8 +32,7 @@ pub type Flags = Items<bool>;
 pub type Locals = Items<u8>;
 
 impl<T> Model for Items<T> {
-    ghost use Rattle.std.specs.Prelude.{List};
-    ghost use Rattle.std.specs.Coded.{coded_list};
+    ghost use Rattle.std.specs.{Prelude.List, Coded.coded_list};
 
     ghost Value = { List T };
 

@@ -1,8 +1,7 @@
 //! A queue with room that is made beforehand.
 ghost use Rattle.std.specs.Prelude.{◌≡◌, [], ◌∷◌, ◌++◌, ◌+◌, ◌-◌, ◌<◌, ◌≤◌, ◌↔◌, length, slice_get};
-ghost use Rattle.std.specs.Prelude.{IsTrue, IsNone};
-ghost use Rattle.std.specs.Prelude.{OnOk, OnErr, MatchOption, Some, slice_set, take, remove};
-ghost use Rattle.std.specs.Option.{option_copied};
+ghost use Rattle.std.specs.Prelude.{IsTrue, IsNone, OnOk, OnErr, MatchOption, Some, slice_set};
+ghost use Rattle.std.specs.{Prelude.{take, remove}, Option.option_copied};
 
 use crate::lists::items::Items;
 use std::alloc::{AllocError, Global};
@@ -21,8 +20,7 @@ pub struct Reserved<T> {
 }
 
 impl<T> Model for Reserved<T> {
-    ghost use Rattle.std.specs.Prelude.{◌+◌, ◌≤◌};
-    ghost use Rattle.std.specs.VecDeque.{deque_len, deque_capacity};
+    ghost use Rattle.std.specs.{Prelude.{◌+◌, ◌≤◌}, VecDeque.{deque_len, deque_capacity}};
     ghost use Rattle.do_base.specs.lists.Reserved.{Reserved, reserved_code};
 
     ghost Value = { Reserved T };

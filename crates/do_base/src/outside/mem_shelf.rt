@@ -1,9 +1,7 @@
 //! A shelf whose files stand in memory, and whose faults are listed beforehand.
 ghost use Rattle.std.specs.Prelude.{◌≡◌, ◌<◌, ◌≤◌, [], ◌^◌, ◌↔◌, ◌⊎◌, ℕ, List, Some, None, Ok};
-ghost use Rattle.std.specs.Prelude.{IsErrOf};
-ghost use Rattle.std.specs.Option.{option_map};
-ghost use Rattle.do_base.specs.outside.Causes.{next_count};
-ghost use Rattle.do_base.specs.outside.Files.{file_named, FetchCause};
+ghost use Rattle.std.specs.{Prelude.IsErrOf, Option.option_map};
+ghost use Rattle.do_base.specs.outside.{Causes.next_count, Files.{file_named, FetchCause}};
 ghost use Rattle.do_base.specs.outside.InMemory.{FailsNext, after_fetch};
 
 use crate::outside::shelf::{FetchFail, FileList, Shelf};

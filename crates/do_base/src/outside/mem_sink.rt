@@ -1,8 +1,7 @@
 //! A sink that keeps its bytes in memory, and whose faults are listed beforehand.
 ghost use Rattle.std.specs.Prelude.{◌≡◌, ◌<◌, ◌≤◌, ◌↔◌, [], ℕ, List, length, take, Some, Ok, IfOk};
 ghost use Rattle.std.specs.Prelude.{OnErr, IsErrOf};
-ghost use Rattle.do_base.specs.outside.Bytes.{with_more};
-ghost use Rattle.do_base.specs.outside.Causes.{next_count, Rose};
+ghost use Rattle.do_base.specs.outside.{Bytes.with_more, Causes.{next_count, Rose}};
 ghost use Rattle.do_base.specs.outside.InMemory.{FailsNext, after_put};
 
 use crate::outside::sink::{CallList, PutFail, Sink};

@@ -1,6 +1,5 @@
 //! Where files are read from.
-ghost use Rattle.std.specs.Prelude.{◌≡◌, ◌<◌, ◌≤◌, ◌^◌, ℕ, List};
-ghost use Rattle.std.specs.declared.option.Option.{Option};
+ghost use Rattle.std.specs.{Prelude.{◌≡◌, ◌<◌, ◌≤◌, ◌^◌, ℕ, List}, declared.option.Option.Option};
 
 use crate::lists::items::Items;
 use crate::values::text::{Text, Word};

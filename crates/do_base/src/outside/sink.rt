@@ -1,9 +1,7 @@
 //! Where output is written to.
 ghost use Rattle.std.specs.Prelude.{◌≡◌, ◌<◌, ◌≤◌, ℕ, List, length, take, IfOk, OnOk, OnErr};
-ghost use Rattle.std.specs.Prelude.{IsErrOf};
-ghost use Rattle.std.specs.declared.option.Option.{Option};
-ghost use Rattle.do_base.specs.outside.Causes.{Rose};
-ghost use Rattle.do_base.specs.outside.Bytes.{with_more, HasWritten};
+ghost use Rattle.std.specs.{Prelude.IsErrOf, declared.option.Option.Option};
+ghost use Rattle.do_base.specs.outside.{Causes.Rose, Bytes.{with_more, HasWritten}};
 
 use crate::lists::items::Items;
 use std::alloc::AllocError;

@@ -1,6 +1,5 @@
 //! Questions on a value: which of the five kinds it is, and what it holds.
-ghost use Rattle.std.specs.Prelude.{◌≡◌};
-ghost use Rattle.std.specs.Option.{option_copied};
+ghost use Rattle.std.specs.{Prelude.◌≡◌, Option.option_copied};
 ghost use Rattle.do_base.specs.values.Kinds.{number, counted, text, object, items, is_nil};
 
 use crate::names::node::Oid;

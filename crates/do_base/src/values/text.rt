@@ -33,8 +33,7 @@ pub type Word = Text;
 pub type Texts = Items<Text>;
 
 impl Model for Text {
-    ghost use Rattle.std.specs.Prelude.{List, ℕ};
-    ghost use Rattle.std.specs.Option.{option_map};
+    ghost use Rattle.std.specs.{Prelude.{List, ℕ}, Option.option_map};
     ghost use Rattle.do_base.specs.values.Shared.{or_empty};
 
     ghost Value = { List ℕ };
@@ -217,10 +216,8 @@ impl ExactClone for Text {
 }
 
 impl PartialEq for Text {
-    ghost use Rattle.std.specs.Cmp.Lexicographic.{pointwise};
-    ghost use Rattle.std.specs.Prelude.{◌==◌};
-    ghost use Rattle.std.specs.Cmp.{partial_equiv_from_equiv};
-    ghost use Rattle.std.proofs.lemmas.Cmp.{nat_list_eq_equiv};
+    ghost use Rattle.std.specs.{Cmp.Lexicographic.pointwise, Prelude.◌==◌};
+    ghost use Rattle.std.{specs.Cmp.partial_equiv_from_equiv, proofs.lemmas.Cmp.nat_list_eq_equiv};
 
     ghost eq = { pointwise ◌==◌ };
 
@@ -238,8 +235,7 @@ impl Eq for Text {
 }
 
 impl Ord for Text {
-    ghost use Rattle.std.specs.Prelude.{refl};
-    ghost use Rattle.std.specs.Ordering.{nat_cmp};
+    ghost use Rattle.std.specs.{Prelude.refl, Ordering.nat_cmp};
     ghost use Rattle.std.specs.Cmp.Lexicographic.{slice_cmp, nat_list_cmp_total, texts_ties};
 
     ghost cmp = { slice_cmp nat_cmp };
@@ -269,8 +265,7 @@ impl PartialOrd for Text {
 }
 
 impl ExactEq for Text {
-    ghost use Rattle.std.proofs.Common.{rules};
-    ghost use Rattle.std.proofs.lemmas.Slice.Eq.{bytes_eq-Decides};
+    ghost use Rattle.std.proofs.{Common.rules, lemmas.Slice.Eq.bytes_eq-Decides};
 
     ghost exact_eq = { bytes_eq-Decides };
 }

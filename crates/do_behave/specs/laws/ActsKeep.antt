@@ -1,41 +1,29 @@
 -- What the acts of scripts keep: what holds of the values that they see and make holds of the
 -- values in their acts.
-use Rattle.std.proofs.Common.{◌≡◌, ℕ, zero, suc, ◌<◌, Bool, true, false, List as Listed, []}
-use Rattle.std.proofs.Common.{◌∷◌, ◌++◌, length}
-use Rattle.std.proofs.Common.{Option, Some, None, ℤ, pos, negsuc, refl, ap, ◌∙◌}
-use Rattle.std.specs.Prelude.{slice_set, slice_get, if◌then◌else◌, ◌+ℤ◌, ◌-ℤ◌, ◌*ℤ◌}
-use Rattle.std.specs.List.{All}
-use Rattle.std.specs.Option.{IfSome}
-use Rattle.std.proofs.lemmas.List.{length-set}
-use Rattle.std.proofs.lemmas.List.Elements.{All-nil, All-cons, All-head, All-tail, All-set}
-use Rattle.std.proofs.lemmas.List.Elements.{All-append}
-use Rattle.do_base.specs.values.Equal.{value_eq}
-use Rattle.do_base.specs.values.Kinds.{counted, number, items, text}
+use Rattle.do_script.specs.declared.instruction.Instruction.TheVariants as does
+use Rattle.std.proofs.Common.{◌≡◌, ℕ, zero, suc, ◌<◌, Bool, true, false, List as Listed, [], ◌∷◌}
+use Rattle.std.proofs.Common.{◌++◌, length, Option, Some, None, ℤ, pos, negsuc, refl, ap, ◌∙◌}
+use Rattle.std.specs.{Prelude.{slice_set, slice_get, if◌then◌else◌, ◌+ℤ◌, ◌-ℤ◌, ◌*ℤ◌}, List.All}
+use Rattle.std.{specs.Option.IfSome, proofs.lemmas.List.{length-set, Elements.{All-nil, All-cons}}}
+use Rattle.std.proofs.lemmas.List.Elements.{All-head, All-tail, All-set, All-append}
+use Rattle.do_base.specs.values.{Equal.value_eq, Kinds.{counted, number, items, text}}
 use Rattle.do_base.specs.declared.values.value.Value.{Value, List}
 use Rattle.do_base.specs.declared.values.value.Value.TheVariants.{Nil, Num, Text, Obj}
-use Rattle.do_base.specs.declared.events.exception.Exc.{Exc}
-use Rattle.do_base.specs.declared.events.exception.Exc.TheVariants.{User, Range, TypeFault}
+use Rattle.do_base.specs.declared.events.exception.Exc.{Exc, TheVariants.{User, Range, TypeFault}}
 use Rattle.do_class.specs.Class.{Class}
 use Rattle.do_grammar.specs.Words.{◌>>?◌}
 use Rattle.do_script.specs.Listing.{IsMessage, IsWithin}
 use Rattle.do_script.specs.declared.instruction.Instruction.{Instruction}
-use Rattle.do_script.specs.declared.instruction.Instruction.TheVariants as does
-use Rattle.do_behave.specs.Answers.{values_of, HasLocals, IsInRange}
-use Rattle.do_behave.specs.Lists.{can_be, gives_list, gives_found, item_at, count}
-use Rattle.do_behave.specs.Lists.{pushes, picks, counts}
+use Rattle.do_behave.specs.{Answers.{values_of, HasLocals, IsInRange}, Lists.{can_be, gives_list}}
+use Rattle.do_behave.specs.Lists.{gives_found, item_at, count, pushes, picks, counts}
 use Rattle.do_behave.specs.Numbers.{calculates, gives_number, checked, less, truth, is_zero}
-use Rattle.do_behave.specs.Ready.{IsHandler}
-use Rattle.do_behave.specs.Script.{performs, raises, asks_root, sends, compares}
+use Rattle.do_behave.specs.{Ready.IsHandler, Script.{performs, raises, asks_root, sends, compares}}
 use Rattle.do_behave.specs.Steps.{local, local_values, next, gives, goes_to, writes, handles}
-use Rattle.do_behave.specs.Steps.{or_fault}
-use Rattle.do_behave.specs.declared.invocation.Handler.{Handler}
-use Rattle.do_behave.specs.declared.invocation.Invocation.{Invocation}
-use Rattle.do_behave.specs.declared.act.Act.{Act}
-use Rattle.do_behave.specs.declared.act.Write.{Write}
+use Rattle.do_behave.specs.{Steps.or_fault, declared.invocation.Handler.Handler}
+use Rattle.do_behave.specs.declared.{invocation.Invocation.Invocation, act.{Act.Act, Write.Write}}
 use Rattle.do_behave.specs.declared.act.Act.TheVariants.{Raise, Root, Return, Say, Send, Vend}
-use Rattle.do_behave.specs.laws.Sound.{IsKept, IsSound, HasText, RaisesOnly}
-use Rattle.do_behave.specs.laws.Sound.{choice, fault_sound, get_kept}
-use Rattle.do_behave.specs.laws.ValueKinds.{by_items, by_text}
+use Rattle.do_behave.specs.laws.Sound.{IsKept, IsSound, HasText, RaisesOnly, choice, fault_sound}
+use Rattle.do_behave.specs.laws.{Sound.get_kept, ValueKinds.{by_items, by_text}}
 
 module _ (table : Listed Class) (inv : Invocation) (slots : Listed Value) (Q : Value → Type 0)
     (T L : Listed ℕ → Type 0) (R : Type 0)

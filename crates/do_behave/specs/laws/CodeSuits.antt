@@ -1,24 +1,17 @@
 -- The code that a program made for a table has for a method suits its class and the table.
 use Rattle.std.proofs.Common.{◌≡◌, ℕ, zero, suc, ◌<◌, ◌≤◌, ◌==◌, true, ◌&&◌, List, [], ◌∷◌, ◌++◌}
-use Rattle.std.proofs.Common.{length}
-use Rattle.std.proofs.Common.{Option, Some, None, refl, sym, ◌∙◌, ap, subst, arith}
-use Rattle.std.specs.Prelude.{nat_le, option_and_then, slice_get}
-use Rattle.std.specs.Option.{option_map}
-use Rattle.std.specs.List.{All, AllZip}
-use Rattle.std.proofs.Math.Seq.{take-append_seam, drop-append_seam}
+use Rattle.std.proofs.Common.{length, Option, Some, None, refl, sym, ◌∙◌, ap, subst, arith}
+use Rattle.std.specs.{Prelude.{nat_le, option_and_then, slice_get}, Option.option_map}
+use Rattle.std.{specs.List.{All, AllZip}, proofs.Math.Seq.{take-append_seam, drop-append_seam}}
 use Rattle.std.proofs.lemmas.List.Elements.{All-head, All-tail, All-take, All-drop}
 use Rattle.do_base.specs.declared.values.value.Value.{Value}
-use Rattle.do_class.specs.Class.{Class}
-use Rattle.do_class.specs.Table.{slots_of}
-use Rattle.do_class.specs.declared.ids.MethodId.{MethodId}
+use Rattle.do_class.specs.{Class.Class, Table.slots_of, declared.ids.MethodId.MethodId}
 use Rattle.do_script.specs.Listing.{Listing, IsWithin}
-use Rattle.do_script.specs.declared.instruction.Instruction.{Instruction}
-use Rattle.do_script.specs.declared.instruction.Instruction.TheVariants.{Get, Set, Jump, IfNot, New}
-use Rattle.do_script.specs.declared.instruction.Instruction.TheVariants.{Catch}
+use Rattle.do_script.specs.declared.instruction.Instruction.{Instruction, TheVariants.{Get, Set}}
+use Rattle.do_script.specs.declared.instruction.Instruction.TheVariants.{Jump, IfNot, New, Catch}
 use Rattle.do_behave.specs.Programs.{HasCodes, IsMadeFor, Suits}
 use Rattle.std.proofs.lemmas.Bool.{and_parts, eqb-true, leb-true}
-use Rattle.do_behave.specs.Script.{code_of, is_ready}
-use Rattle.do_behave.specs.declared.invocation.Invocation.{Invocation}
+use Rattle.do_behave.specs.{Script.{code_of, is_ready}, declared.invocation.Invocation.Invocation}
 
 -- where there is more, an instruction is within it
 pub within-weaker : (slots classes len slots' classes' len' : ℕ) → slots ≤ slots'

@@ -1,24 +1,16 @@
 -- Scripts keep the limits.
 use Rattle.std.proofs.Common.{◌≡◌, ℕ, zero, suc, ◌≤◌, ◌-◌, Bool, true, ◌&&◌, List as Listed, []}
 use Rattle.std.proofs.Common.{◌∷◌, ◌++◌, length, map, refl, sym, ◌∙◌, ap, subst, arith, rules}
-use Rattle.std.specs.Prelude.{nat_le, sum_by}
-use Rattle.std.specs.List.{All, AllByRecursion, list_all}
-use Rattle.std.proofs.lemmas.Bool.{and_parts, and_from, leb-true, le-leb}
-use Rattle.std.proofs.lemmas.List.{length-map}
+use Rattle.std.specs.{Prelude.{nat_le, sum_by}, List.{All, AllByRecursion, list_all}}
+use Rattle.std.proofs.lemmas.{Bool.{and_parts, and_from, leb-true, le-leb}, List.length-map}
 use Rattle.std.proofs.lemmas.List.Elements.{All-nil, All-cons}
-use Rattle.std.proofs.lemmas.List.Folds.{list_all-map, list_all-append}
-use Rattle.std.proofs.lemmas.List.Sums.{sum_by-cons}
+use Rattle.std.proofs.lemmas.List.{Folds.{list_all-map, list_all-append}, Sums.sum_by-cons}
 use Rattle.do_base.proofs.Weights.{weight_of-Nil, weight_of-Num, weight_of-Text, weight_of-Obj}
-use Rattle.do_base.specs.values.Texts.{longest_text}
-use Rattle.do_base.specs.values.Induction.{value_induction}
-use Rattle.do_base.specs.values.Values.{weight_of}
-use Rattle.do_base.specs.declared.values.value.Value.{Value, List, the_lemmas}
-use Rattle.do_base.specs.declared.values.value.Value.TheVariants.{Text}
-use Rattle.do_behave.specs.laws.Sound.{IsKept}
-use Rattle.do_behave.specs.Limits.{IsLimited, has_small_parts, nests_within}
-use Rattle.do_behave.specs.Lists.{can_be}
-use Rattle.do_behave.specs.laws.Nesting.{nests_within-deeper, nests_within-List_none}
-use Rattle.do_behave.specs.laws.Nesting.{weight_of-items}
+use Rattle.do_base.specs.values.{Texts.longest_text, Induction.value_induction, Values.weight_of}
+use Rattle.do_base.specs.declared.values.value.Value.{Value, List, the_lemmas, TheVariants.Text}
+use Rattle.do_behave.specs.{laws.Sound.IsKept, Limits.{IsLimited, has_small_parts, nests_within}}
+use Rattle.do_behave.specs.{Lists.can_be, laws.Nesting.nests_within-deeper}
+use Rattle.do_behave.specs.laws.Nesting.{nests_within-List_none, weight_of-items}
 use Rattle.do_behave.specs.declared.invocation.Invocation.{Invocation}
 
 small-Text : (s : Listed ℕ) → has_small_parts (Text s) ≡ nat_le (length s) longest_text

@@ -2,14 +2,11 @@
 use Rattle.std.proofs.Common.{◌≡◌, ℕ, List as Listed, [], ◌∷◌, ◌++◌, ◌<◌, ◌+◌, ◌-◌, Bool, true}
 use Rattle.std.proofs.Common.{false, ◌&&◌, nat_lt, nat_le, length, sum_by, map, suc, zero}
 use Rattle.std.proofs.Common.{length-append, refl, sym, ◌∙◌, ap, arith, rules}
-use Rattle.std.specs.List.{list_all}
-use Rattle.std.proofs.lemmas.List.Folds.{list_all-map, list_all-append}
+use Rattle.std.{specs.List.list_all, proofs.lemmas.List.Folds.{list_all-map, list_all-append}}
 use Rattle.std.proofs.lemmas.List.Sums.{sum_by-append, sum-map}
-use Rattle.do_base.specs.values.Values.{weight_of}
-use Rattle.do_base.specs.declared.values.value.Value.{Value, List, the_lemmas}
-use Rattle.do_base.proofs.Weights.{weight_of-List}
-use Rattle.do_behave.specs.Limits.{nests_within}
-use Rattle.do_behave.specs.Lists.{can_be}
+use Rattle.do_base.specs.{values.Values.weight_of, declared.values.value.Value.{Value, List}}
+use Rattle.do_base.{specs.declared.values.value.Value.the_lemmas, proofs.Weights.weight_of-List}
+use Rattle.do_behave.specs.{Limits.nests_within, Lists.can_be}
 
 and_true : (b : Bool) → (b && true) ≡ b
 and_true true = refl

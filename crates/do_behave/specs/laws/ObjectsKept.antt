@@ -1,17 +1,13 @@
 -- Scripts name no object that their arguments do not name.
 use Rattle.std.proofs.Common.{◌≡◌, ℕ, List as Listed, [], ◌∷◌, ◌++◌, map, ℤ, refl, sym, ◌∙◌, ap}
-use Rattle.std.proofs.Common.{subst, arith, rules, append_assoc}
-use Rattle.std.specs.List.{All, Contains, flat_map}
-use Rattle.std.proofs.lemmas.List.Concat.{flat_map-append}
-use Rattle.std.proofs.lemmas.List.Elements.{All-nil, All-cons, All-append, All-weaker}
-use Rattle.std.proofs.lemmas.List.Elements.{All-contains_itself, Contains-append_left}
-use Rattle.std.proofs.lemmas.List.Elements.{Contains-append_right}
-use Rattle.do_base.specs.names.Names.{ObjectName}
-use Rattle.do_base.specs.values.Values.{objects_of}
+use Rattle.std.{proofs.Common.{subst, arith, rules, append_assoc}, specs.List.{All, Contains}}
+use Rattle.std.{specs.List.flat_map, proofs.lemmas.List.{Concat.flat_map-append, Elements.All-nil}}
+use Rattle.std.proofs.lemmas.List.Elements.{All-cons, All-append, All-weaker, All-contains_itself}
+use Rattle.std.proofs.lemmas.List.Elements.{Contains-append_left, Contains-append_right}
+use Rattle.do_base.specs.{names.Names.ObjectName, values.Values.objects_of}
 use Rattle.do_base.specs.declared.values.value.Value.{Value, List, the_lemmas}
 use Rattle.do_base.specs.declared.values.value.Value.TheVariants.{Nil, Num, Text, Obj}
-use Rattle.do_behave.specs.Answers.{NamesOnly, objects_named}
-use Rattle.do_behave.specs.laws.Sound.{IsKept}
+use Rattle.do_behave.specs.{Answers.{NamesOnly, objects_named}, laws.Sound.IsKept}
 use Rattle.do_behave.specs.laws.CodeSuits.{All-first, All-second}
 use Rattle.do_behave.specs.declared.invocation.Invocation.{Invocation}
 

@@ -1,37 +1,26 @@
 -- The acts of scripts name only objects that were shown, and answer well where the code is made for
 -- the table.
-use Rattle.std.proofs.Common.{◌≡◌, ℕ, ◌≤◌, ◌++◌, List as Listed, [], length, Option, Some}
-use Rattle.std.proofs.Common.{None, refl}
-use Rattle.std.specs.Prelude.{slice_get}
-use Rattle.std.specs.List.{All}
+use Rattle.std.proofs.Common.{◌≡◌, ℕ, ◌≤◌, ◌++◌, List as Listed, [], length, Option, Some, None}
+use Rattle.std.{proofs.Common.refl, specs.{Prelude.slice_get, List.All}}
 use Rattle.std.proofs.lemmas.List.Elements.{All-nil, All-cons}
-use Rattle.do_base.specs.values.Texts.{longest_text}
-use Rattle.do_base.specs.declared.values.value.Value.{Value}
+use Rattle.do_base.specs.{values.Texts.longest_text, declared.values.value.Value.Value}
 use Rattle.do_base.specs.declared.values.value.Value.TheVariants.{Nil}
 use Rattle.do_base.specs.declared.events.exception.Exc.TheVariants.{User, TypeFault}
 use Rattle.do_class.specs.Class.{Class}
 use Rattle.do_grammar.specs.Words.{◌>>?◌}
 use Rattle.do_script.specs.Listing.{Listing, IsWithin}
-use Rattle.do_script.specs.declared.instruction.Instruction.{Instruction}
-use Rattle.do_script.specs.declared.instruction.Instruction.TheVariants.{Text}
+use Rattle.do_script.specs.declared.instruction.Instruction.{Instruction, TheVariants.Text}
 use Rattle.do_behave.specs.Answers.{AnswersWell, NamesShown, NamesOnly, objects_named}
-use Rattle.do_behave.specs.Answers.{RaisesLimited}
-use Rattle.do_behave.specs.Limits.{IsLimited}
-use Rattle.do_behave.specs.Parts.{WeighsWithin}
-use Rattle.do_behave.specs.Programs.{IsMadeFor}
-use Rattle.do_behave.specs.Ready.{IsHandler, IsReady}
-use Rattle.do_behave.specs.Script.{script, runs, is_ready, does_next, code_of}
-use Rattle.do_behave.specs.Steps.{or_fault}
-use Rattle.do_behave.specs.declared.invocation.Invocation.{Invocation}
-use Rattle.do_behave.specs.declared.act.Act.{Act}
+use Rattle.do_behave.specs.{Answers.RaisesLimited, Limits.IsLimited, Parts.WeighsWithin}
+use Rattle.do_behave.specs.{Programs.IsMadeFor, Ready.{IsHandler, IsReady}}
+use Rattle.do_behave.specs.{Script.{script, runs, is_ready, does_next, code_of}, Steps.or_fault}
+use Rattle.do_behave.specs.declared.{invocation.Invocation.Invocation, act.Act.Act}
 use Rattle.do_behave.specs.declared.act.Act.TheVariants.{Return, Raise}
 use Rattle.do_behave.specs.laws.CodeSuits.{ready-parts, code-suits, instruction-suits, All-first}
-use Rattle.do_behave.specs.laws.CodeSuits.{All-second}
-use Rattle.do_behave.specs.laws.Sound.{IsKept, IsSound, HasText, RaisesOnly, choice, fault_sound}
-use Rattle.do_behave.specs.laws.ActsKeep.{performs_sound}
-use Rattle.do_behave.specs.laws.LimitsKept.{limits_kept}
-use Rattle.do_behave.specs.laws.ObjectsKept.{arguments_among, objects_kept}
-use Rattle.do_behave.specs.laws.WeightsKept.{weights_kept, shown_weighs}
+use Rattle.do_behave.specs.laws.{CodeSuits.All-second, Sound.{IsKept, IsSound, HasText, RaisesOnly}}
+use Rattle.do_behave.specs.laws.{Sound.{choice, fault_sound}, ActsKeep.performs_sound}
+use Rattle.do_behave.specs.laws.{LimitsKept.limits_kept, ObjectsKept.arguments_among}
+use Rattle.do_behave.specs.laws.{ObjectsKept.objects_kept, WeightsKept.{weights_kept, shown_weighs}}
 
 -- any text is a text
 any_text : (i : Instruction) → HasText (λ _. Unit {0}) i

@@ -1,21 +1,15 @@
 -- What it is for an act to keep whatever the values that scripts see and make keep.
+use Rattle.do_script.specs.declared.instruction.Instruction.TheVariants as does
 use Rattle.std.proofs.Common.{◌≡◌, ℕ, zero, suc, Bool, true, false, List as Listed, [], ◌∷◌, ◌++◌}
-use Rattle.std.proofs.Common.{ℤ, refl}
-use Rattle.std.specs.Prelude.{slice_get, if◌then◌else◌}
-use Rattle.std.specs.List.{All}
-use Rattle.std.specs.Option.{IfSome}
-use Rattle.std.proofs.lemmas.List.Elements.{All-nil, All-head, All-tail}
+use Rattle.std.{proofs.Common.{ℤ, refl}, specs.{Prelude.{slice_get, if◌then◌else◌}, List.All}}
+use Rattle.std.{specs.Option.IfSome, proofs.lemmas.List.Elements.{All-nil, All-head, All-tail}}
 use Rattle.do_base.specs.declared.values.value.Value.{Value, List}
 use Rattle.do_base.specs.declared.values.value.Value.TheVariants.{Nil, Num, Text, Obj}
-use Rattle.do_base.specs.declared.events.exception.Exc.{Exc}
-use Rattle.do_base.specs.declared.events.exception.Exc.TheVariants.{User}
+use Rattle.do_base.specs.declared.events.exception.Exc.{Exc, TheVariants.User}
 use Rattle.do_class.specs.Class.{Class}
 use Rattle.do_script.specs.declared.instruction.Instruction.{Instruction}
-use Rattle.do_script.specs.declared.instruction.Instruction.TheVariants as does
-use Rattle.do_behave.specs.Answers.{values_of, HasLocals, IsInRange}
-use Rattle.do_behave.specs.Lists.{can_be}
-use Rattle.do_behave.specs.declared.invocation.Invocation.{Invocation}
-use Rattle.do_behave.specs.declared.act.Act.{Act}
+use Rattle.do_behave.specs.{Answers.{values_of, HasLocals, IsInRange}, Lists.can_be}
+use Rattle.do_behave.specs.declared.{invocation.Invocation.Invocation, act.Act.Act}
 use Rattle.do_behave.specs.declared.act.Act.TheVariants.{Raise}
 
 -- what holds of the values that scripts make, where T holds of the texts that code has; of the own

@@ -1,7 +1,6 @@
 -- A value by its kind, with the answer to a question on it.
 use Rattle.std.proofs.Common.{◌≡◌, ℕ, ℤ, List as Listed, Option, Some, None, subst, sym, rules}
-use Rattle.do_base.specs.values.Kinds.{items, text}
-use Rattle.do_base.specs.names.Names.{ObjectName}
+use Rattle.do_base.specs.{values.Kinds.{items, text}, names.Names.ObjectName}
 use Rattle.do_base.specs.values.Induction.{value_induction}
 use Rattle.do_base.specs.declared.values.value.Value.{Value, List, the_lemmas}
 use Rattle.do_base.specs.declared.values.value.Value.TheVariants.{Nil, Num, Text, Obj}

@@ -1,20 +1,13 @@
 -- Scripts make no heavy value.
 use Rattle.std.proofs.Common.{◌≡◌, ◌≤◌, ◌&&◌, true, inl, inr, List as Listed, [], ◌∷◌, ◌++◌, length}
-use Rattle.std.proofs.Common.{arith}
-use Rattle.std.specs.List.{All, Contains}
-use Rattle.std.specs.Prelude.{nat_le, sum_by}
-use Rattle.std.proofs.lemmas.Bool.{and_parts, leb-true}
-use Rattle.std.proofs.lemmas.List.Elements.{All-nil, All-cons, All-weaker, All-contains_itself}
-use Rattle.std.proofs.lemmas.List.Sums.{sum_by-cons}
+use Rattle.std.{proofs.Common.arith, specs.{List.{All, Contains}, Prelude.{nat_le, sum_by}}}
+use Rattle.std.proofs.lemmas.{Bool.{and_parts, leb-true}, List.Elements.{All-nil, All-cons}}
+use Rattle.std.proofs.lemmas.List.{Elements.{All-weaker, All-contains_itself}, Sums.sum_by-cons}
 use Rattle.do_base.proofs.Weights.{weight_of-Nil, weight_of-Num, weight_of-Text, weight_of-Obj}
-use Rattle.do_base.specs.values.Texts.{longest_text}
-use Rattle.do_base.specs.values.Values.{weight_of}
+use Rattle.do_base.specs.values.{Texts.longest_text, Values.weight_of}
 use Rattle.do_base.specs.declared.values.value.Value.{Value, List}
-use Rattle.do_behave.specs.laws.Sound.{IsKept}
-use Rattle.do_behave.specs.Limits.{nests_within}
-use Rattle.do_behave.specs.Lists.{can_be}
-use Rattle.do_behave.specs.laws.Nesting.{weight_of-items}
-use Rattle.do_behave.specs.Parts.{StandsIn, IsFoundIn, WeighsWithin}
+use Rattle.do_behave.specs.{laws.Sound.IsKept, Limits.nests_within, Lists.can_be}
+use Rattle.do_behave.specs.{laws.Nesting.weight_of-items, Parts.{StandsIn, IsFoundIn, WeighsWithin}}
 use Rattle.do_behave.specs.declared.invocation.Invocation.{Invocation}
 
 -- the items of a list stand where it stands

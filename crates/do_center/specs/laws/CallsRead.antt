@@ -1,29 +1,19 @@
 -- What is read from the arguments is within the limits.
-use Rattle.std.proofs.Common.{◌≡◌, ℕ, Bool, true, ◌&&◌, List as Listed, Option, Some, None, refl}
-use Rattle.std.proofs.Common.{sym}
-use Rattle.std.proofs.Common.{◌∙◌, ap, subst, rules, ℤ, false}
-use Rattle.std.specs.Prelude.{if◌then◌else◌}
-use Rattle.std.proofs.lemmas.Bool.{and_from}
-use Rattle.do_base.specs.values.Induction.{value_induction}
-use Rattle.do_base.specs.values.Kinds.{text, object}
-use Rattle.do_base.specs.names.Names.{ObjectName}
-use Rattle.do_base.specs.declared.values.value.Value.{Value, List, the_lemmas}
-use Rattle.do_base.specs.declared.values.value.Value.TheVariants.{Nil, Num, Text, Obj}
-use Rattle.do_grammar.specs.Words.{◌>>?◌}
-use Rattle.do_behave.specs.Steps.{local}
-use Rattle.do_behave.specs.declared.invocation.Invocation.{Invocation}
-use Rattle.do_native_acts.specs.laws.KindLaws.{found_of, passed, some_same}
-use Rattle.do_center.specs.Acts.{call_in, truth_in}
-use Rattle.do_center.specs.Calls.{IsCall}
-use Rattle.do_center.specs.Notes.{info_in, info_within, is_label, is_note, is_short, label_in}
-use Rattle.do_center.specs.Notes.{note_in}
-use Rattle.do_center.specs.Notes.{posted_name}
-use Rattle.do_center.specs.Registrations.{behaviour_in, is_registration, registration_from}
-use Rattle.do_center.specs.Registrations.{selector_in, takes_three}
-use Rattle.do_center.specs.declared.calls.Call.{Call}
-use Rattle.do_center.specs.declared.methods.Method.{Method}
 use Rattle.do_center.specs.declared.methods.Method.TheVariants as method
-use Rattle.do_center.specs.declared.notes.Note.{Note}
+use Rattle.std.proofs.Common.{◌≡◌, ℕ, Bool, true, ◌&&◌, List as Listed, Option, Some, None, refl}
+use Rattle.std.{proofs.Common.{sym, ◌∙◌, ap, subst, rules, ℤ, false}, specs.Prelude.if◌then◌else◌}
+use Rattle.std.proofs.lemmas.Bool.{and_from}
+use Rattle.do_base.specs.values.{Induction.value_induction, Kinds.{text, object}}
+use Rattle.do_base.specs.{names.Names.ObjectName, declared.values.value.Value.{Value, List}}
+use Rattle.do_base.specs.declared.values.value.Value.{the_lemmas, TheVariants.{Nil, Num, Text, Obj}}
+use Rattle.do_grammar.specs.Words.{◌>>?◌}
+use Rattle.do_behave.specs.{Steps.local, declared.invocation.Invocation.Invocation}
+use Rattle.do_native_acts.specs.laws.KindLaws.{found_of, passed, some_same}
+use Rattle.do_center.specs.{Acts.{call_in, truth_in}, Calls.IsCall, Notes.{info_in, info_within}}
+use Rattle.do_center.specs.Notes.{is_label, is_note, is_short, label_in, note_in, posted_name}
+use Rattle.do_center.specs.Registrations.{behaviour_in, is_registration, registration_from}
+use Rattle.do_center.specs.{Registrations.{selector_in, takes_three}, declared.calls.Call.Call}
+use Rattle.do_center.specs.declared.{methods.Method.Method, notes.Note.Note}
 use Rattle.do_center.specs.declared.registrations.Registration.{Registration}
 
 -- nil is no label

@@ -1,41 +1,26 @@
 -- A notification centre names only what was shown, and answers well.
-use Rattle.std.proofs.Common.{◌≡◌, ℕ, ◌+◌, ◌*◌, ◌==◌, true, List as Listed}
-use Rattle.std.proofs.Common.{[]}
-use Rattle.std.proofs.Common.{◌∷◌, Option, Some, refl, sym, subst, arith, length}
-use Rattle.std.specs.Prelude.{◌-◌, ◌/◌, ◌%◌, slice_get, nat_le}
-use Rattle.std.specs.List.{All}
-use Rattle.std.specs.Option.{IfSome}
+use Rattle.std.proofs.Common.{◌≡◌, ℕ, ◌+◌, ◌*◌, ◌==◌, true, List as Listed, [], ◌∷◌, Option, Some}
+use Rattle.std.proofs.Common.{refl, sym, subst, arith, length}
+use Rattle.std.specs.{Prelude.{◌-◌, ◌/◌, ◌%◌, slice_get, nat_le}, List.All, Option.IfSome}
 use Rattle.std.proofs.lemmas.Bool.{and_parts, eqb-true}
 use Rattle.std.proofs.lemmas.List.Elements.{All-nil, All-cons, All-head, All-tail}
-use Rattle.do_base.specs.values.Kinds.{items}
-use Rattle.do_base.specs.declared.values.value.Value.{Value}
+use Rattle.do_base.specs.{values.Kinds.items, declared.values.value.Value.Value}
 use Rattle.do_class.specs.Class.{Class}
-use Rattle.do_grammar.specs.Names.{is_selector, colons}
-use Rattle.do_grammar.specs.Words.{◌>>?◌}
+use Rattle.do_grammar.specs.{Names.{is_selector, colons}, Words.◌>>?◌}
 use Rattle.do_script.specs.Listing.{IsLocal}
-use Rattle.do_behave.specs.Answers.{AnswersWell, NamesShown}
-use Rattle.do_behave.specs.Ready.{IsReady}
-use Rattle.do_behave.specs.Steps.{local}
-use Rattle.do_behave.specs.declared.invocation.Invocation.{Invocation}
-use Rattle.do_behave.specs.declared.act.Act.{Act}
-use Rattle.do_behave.specs.declared.act.Act.TheVariants.{Send}
-use Rattle.do_behave.specs.laws.Sound.{IsKept, get_kept}
-use Rattle.do_native_acts.specs.Places.{returns}
-use Rattle.do_native_acts.specs.Steps.{steps}
-use Rattle.do_native_acts.specs.laws.FoundLaws.{of_found}
+use Rattle.do_behave.specs.{Answers.{AnswersWell, NamesShown}, Ready.IsReady, Steps.local}
+use Rattle.do_behave.specs.declared.{invocation.Invocation.Invocation, act.Act.Act}
+use Rattle.do_behave.specs.{declared.act.Act.TheVariants.Send, laws.Sound.{IsKept, get_kept}}
+use Rattle.do_native_acts.specs.{Places.returns, Steps.steps, laws.FoundLaws.of_found}
 use Rattle.do_native_acts.specs.laws.GoodActs.{IsGood, MayGood, choice_good, fits_kept, kept_good}
 use Rattle.do_native_acts.specs.laws.GoodActs.{returns_good, selector_good, then_good, type_good}
 use Rattle.do_native_acts.specs.laws.GoodSteps.{keeps_good, sets_good}
 use Rattle.do_native_acts.specs.laws.KindLaws.{found_of, items_read, passed}
 use Rattle.do_center.specs.Acts.{act_of, call_in, center_act, delivering, delivers, delivery_at}
-use Rattle.do_center.specs.Acts.{few}
-use Rattle.do_center.specs.Acts.{first, found, keeps, kept, kept_in, later, method_act, method_of}
-use Rattle.do_center.specs.Acts.{of_five, readies}
-use Rattle.do_center.specs.Calls.{does}
-use Rattle.do_center.specs.Registrations.{selector_in, takes_three}
-use Rattle.do_center.specs.Slots.{from_slots, to_slots}
-use Rattle.do_center.specs.declared.methods.Method.{Method}
-use Rattle.do_center.specs.laws.CallsRead.{selector_read}
+use Rattle.do_center.specs.Acts.{few, first, found, keeps, kept, kept_in, later, method_act}
+use Rattle.do_center.specs.{Acts.{method_of, of_five, readies}, Calls.does}
+use Rattle.do_center.specs.{Registrations.{selector_in, takes_three}, Slots.{from_slots, to_slots}}
+use Rattle.do_center.specs.{declared.methods.Method.Method, laws.CallsRead.selector_read}
 use Rattle.do_center.specs.laws.NamedParts.{core_from, core_to, kept_named}
 use Rattle.do_center.specs.laws.NamedCalls.{NamedCall, NamedDone, call_named, done_named}
 

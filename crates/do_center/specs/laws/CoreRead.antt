@@ -1,17 +1,12 @@
 -- A core that is read from slots has these slots.
-use Rattle.std.proofs.Common.{◌≡◌, ◌&&◌, List as Listed, [], ◌∷◌, Option, Some, None}
-use Rattle.std.proofs.Common.{refl, sym}
-use Rattle.std.specs.Option.{IfSome}
-use Rattle.std.specs.Cmp.Lexicographic.{pointwise, pointwise_decides}
+use Rattle.std.proofs.Common.{◌≡◌, ◌&&◌, List as Listed, [], ◌∷◌, Option, Some, None, refl, sym}
+use Rattle.std.specs.{Option.IfSome, Cmp.Lexicographic.{pointwise, pointwise_decides}}
 use Rattle.std.proofs.lemmas.Bool.{and_parts}
-use Rattle.do_base.specs.values.Equal.{value_eq, value_eq-Decides}
-use Rattle.do_base.specs.values.Kinds.{object}
+use Rattle.do_base.specs.values.{Equal.{value_eq, value_eq-Decides}, Kinds.object}
 use Rattle.do_base.specs.declared.values.value.Value.{Value}
 use Rattle.do_grammar.specs.Words.{◌>>?◌}
-use Rattle.do_native_acts.specs.Rows.{rows_in}
-use Rattle.do_native_acts.specs.laws.KindLaws.{found_of, passed}
-use Rattle.do_center.specs.Registrations.{registration_in}
-use Rattle.do_center.specs.Seats.{Core, is_core}
+use Rattle.do_native_acts.specs.{Rows.rows_in, laws.KindLaws.{found_of, passed}}
+use Rattle.do_center.specs.{Registrations.registration_in, Seats.{Core, is_core}}
 use Rattle.do_center.specs.Slots.{from_slots, of_core, seated, to_slots, waiting_in}
 
 -- a core that has slots has them

@@ -1,40 +1,26 @@
 -- What a call leaves and delivers may be named, where the core and the call may be.
-use Rattle.std.proofs.Common.{ℕ, Bool, true, false, List as Listed, [], ◌∷◌, ◌++◌}
-use Rattle.std.proofs.Common.{Option, Some, None, sym, subst, length}
-use Rattle.std.specs.Prelude.{nat_le, nat_lt, slice_get}
-use Rattle.std.specs.List.{All}
-use Rattle.std.specs.Option.{IfSome}
-use Rattle.std.proofs.lemmas.List.Elements.{All-nil, All-cons, All-push}
-use Rattle.std.proofs.lemmas.Map.Views.{All-remove_key}
-use Rattle.do_base.specs.names.Names.{ObjectName}
-use Rattle.do_base.specs.values.Kinds.{object}
+use Rattle.do_center.specs.declared.methods.Method.TheVariants as method
+use Rattle.std.proofs.Common.{ℕ, Bool, true, false, List as Listed, [], ◌∷◌, ◌++◌, Option, Some}
+use Rattle.std.proofs.Common.{None, sym, subst, length}
+use Rattle.std.specs.{Prelude.{nat_le, nat_lt, slice_get}, List.All, Option.IfSome}
+use Rattle.std.proofs.lemmas.{List.Elements.{All-nil, All-cons, All-push}, Map.Views.All-remove_key}
+use Rattle.do_base.specs.{names.Names.ObjectName, values.Kinds.object}
 use Rattle.do_base.specs.declared.values.value.Value.{Value}
 use Rattle.do_grammar.specs.Words.{◌>>?◌}
-use Rattle.do_behave.specs.Steps.{local}
-use Rattle.do_behave.specs.declared.invocation.Invocation.{Invocation}
+use Rattle.do_behave.specs.{Steps.local, declared.invocation.Invocation.Invocation}
 use Rattle.do_native_acts.specs.laws.FoundLaws.{if_chosen, if_found, if_mapped, if_room}
-use Rattle.do_native_acts.specs.laws.KeptLaws.{kept_at, kept_flat}
-use Rattle.do_native_acts.specs.laws.KindLaws.{object_read}
+use Rattle.do_native_acts.specs.laws.{KeptLaws.{kept_at, kept_flat}, KindLaws.object_read}
 use Rattle.do_native_acts.specs.laws.NamedValues.{Named, NamedObject, local_found, local_object}
-use Rattle.do_center.specs.Acts.{call_in, truth_in}
-use Rattle.do_center.specs.Calls.{added, does, with_suspended}
-use Rattle.do_center.specs.Notes.{label_in, note_in}
-use Rattle.do_center.specs.Observers.{has_object, same_object}
+use Rattle.do_center.specs.{Acts.{call_in, truth_in}, Calls.{added, does, with_suspended}}
+use Rattle.do_center.specs.{Notes.{label_in, note_in}, Observers.{has_object, same_object}}
 use Rattle.do_center.specs.Posting.{came_to_all, posted_of}
 use Rattle.do_center.specs.Queues.{deliveries, delivered_at, delivery_at, queue_of, with_queue}
 use Rattle.do_center.specs.Registrations.{delivered, registration_from}
-use Rattle.do_center.specs.Removing.{goes, left_of, moved, new_places, seats_left}
-use Rattle.do_center.specs.Seats.{Core}
-use Rattle.do_center.specs.declared.calls.Call.{Call}
-use Rattle.do_center.specs.declared.calls.Call.TheVariants.{Add, Remove, Suspend, Post}
-use Rattle.do_center.specs.declared.methods.Method.{Method}
-use Rattle.do_center.specs.declared.methods.Method.TheVariants as method
-use Rattle.do_center.specs.declared.notes.Delivery.{Delivery}
-use Rattle.do_center.specs.declared.notes.Note.{Note}
-use Rattle.do_center.specs.declared.posting.Posting.{Posting}
-use Rattle.do_center.specs.declared.queues.Queued.{Queued}
-use Rattle.do_center.specs.declared.registrations.Registration.{Registration}
-use Rattle.do_center.specs.declared.seats.Seat.{Seat}
+use Rattle.do_center.specs.{Removing.{goes, left_of, moved, new_places, seats_left}, Seats.Core}
+use Rattle.do_center.specs.declared.calls.Call.{Call, TheVariants.{Add, Remove, Suspend, Post}}
+use Rattle.do_center.specs.declared.{methods.Method.Method, notes.{Delivery.Delivery, Note.Note}}
+use Rattle.do_center.specs.declared.{posting.Posting.Posting, queues.Queued.Queued}
+use Rattle.do_center.specs.declared.{registrations.Registration.Registration, seats.Seat.Seat}
 use Rattle.do_center.specs.laws.CallsRead.{note_read, registration_read}
 use Rattle.do_center.specs.laws.NamedParts.{NamedCore, NamedDelivery, NamedEntry, NamedQueue}
 use Rattle.do_center.specs.laws.NamedParts.{NamedRegistration, NamedSeat, NamedSeats}

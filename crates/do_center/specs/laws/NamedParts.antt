@@ -1,31 +1,21 @@
 -- The objects and the information of a core, and those of the slots that it has.
 use Rattle.std.proofs.Common.{◌≡◌, ℕ, pos, List as Listed, [], ◌∷◌, Option, Some, None, map}
-use Rattle.std.specs.Prelude.{if◌then◌else◌}
-use Rattle.std.specs.List.{All}
-use Rattle.std.proofs.lemmas.List.Elements.{All-nil, All-cons, All-head, All-tail}
-use Rattle.std.proofs.lemmas.List.Elements.{All-weaker}
-use Rattle.do_base.specs.names.Names.{ObjectName}
-use Rattle.do_base.specs.declared.values.value.Value.{Value}
+use Rattle.std.specs.{Prelude.if◌then◌else◌, List.All}
+use Rattle.std.proofs.lemmas.List.Elements.{All-nil, All-cons, All-head, All-tail, All-weaker}
+use Rattle.do_base.specs.{names.Names.ObjectName, declared.values.value.Value.Value}
 use Rattle.do_base.specs.declared.values.value.Value.TheVariants.{Num, Text, Obj}
 use Rattle.do_behave.specs.declared.invocation.Invocation.{Invocation}
-use Rattle.do_native_acts.specs.Rows.{listed}
-use Rattle.do_native_acts.specs.laws.GoodSteps.{SetsNamed}
+use Rattle.do_native_acts.specs.{Rows.listed, laws.GoodSteps.SetsNamed}
 use Rattle.do_native_acts.specs.laws.NamedValues.{EachNamed, Named, NamedObject, core_read}
-use Rattle.do_native_acts.specs.laws.NamedValues.{list_named}
-use Rattle.do_native_acts.specs.laws.NamedValues.{list_of_parts, nil_named, number_named}
-use Rattle.do_native_acts.specs.laws.NamedValues.{parts_of_list}
-use Rattle.do_native_acts.specs.laws.NamedValues.{rows_to, slot_from, slot_to, text_named}
-use Rattle.do_center.specs.Acts.{kept}
-use Rattle.do_center.specs.Notes.{delivery_value, label_value}
-use Rattle.do_center.specs.Registrations.{number_of, registration_value}
-use Rattle.do_center.specs.Seats.{Core, is_none, registrations}
+use Rattle.do_native_acts.specs.laws.NamedValues.{list_named, list_of_parts, nil_named}
+use Rattle.do_native_acts.specs.laws.NamedValues.{number_named, parts_of_list, rows_to, slot_from}
+use Rattle.do_native_acts.specs.laws.NamedValues.{slot_to, text_named}
+use Rattle.do_center.specs.{Acts.kept, Notes.{delivery_value, label_value}, Registrations.number_of}
+use Rattle.do_center.specs.{Registrations.registration_value, Seats.{Core, is_none, registrations}}
 use Rattle.do_center.specs.Slots.{from_slots, queued_value, to_slots, waiting, waiting_value}
-use Rattle.do_center.specs.declared.methods.Method.{Method}
-use Rattle.do_center.specs.declared.notes.Delivery.{Delivery}
-use Rattle.do_center.specs.declared.queues.Queued.{Queued}
-use Rattle.do_center.specs.declared.registrations.Registration.{Registration}
-use Rattle.do_center.specs.declared.seats.Seat.{Seat}
-use Rattle.do_center.specs.declared.slots.Waiting.{Waiting}
+use Rattle.do_center.specs.declared.{methods.Method.Method, notes.Delivery.Delivery}
+use Rattle.do_center.specs.declared.{queues.Queued.Queued, registrations.Registration.Registration}
+use Rattle.do_center.specs.declared.{seats.Seat.Seat, slots.Waiting.Waiting}
 use Rattle.do_center.specs.laws.CoreRead.{read_back}
 use Rattle.do_center.specs.laws.QueueLaws.{Fits, registrations_fit, waiting_fit}
 

@@ -1,24 +1,17 @@
 -- What holds of registrations and their queues holds after a post, and so does what holds of
 -- notifications of those that are due.
 use Rattle.std.proofs.Common.{◌≡◌, ℕ, zero, suc, Bool, List, [], ◌∷◌, ◌++◌, Option, Some, None}
-use Rattle.std.proofs.Common.{refl}
-use Rattle.std.specs.Prelude.{if◌then◌else◌, slice_get}
-use Rattle.std.specs.List.{All}
+use Rattle.std.{proofs.Common.refl, specs.{Prelude.{if◌then◌else◌, slice_get}, List.All}}
 use Rattle.std.proofs.lemmas.List.Elements.{All-nil, All-append, All-push}
 use Rattle.do_base.specs.names.Names.{ObjectName}
 use Rattle.do_native_acts.specs.laws.FoundLaws.{of_chosen}
-use Rattle.do_center.specs.Observers.{has_object}
-use Rattle.do_center.specs.Posting.{arrives, came, comes_to, due, held}
+use Rattle.do_center.specs.{Observers.has_object, Posting.{arrives, came, comes_to, due, held}}
 use Rattle.do_center.specs.Queues.{coalesced, enqueued, queue_of, with_queue}
-use Rattle.do_center.specs.Registrations.{matches}
-use Rattle.do_center.specs.declared.notes.Note.{Note}
-use Rattle.do_center.specs.declared.posting.Posting.{Posting}
-use Rattle.do_center.specs.declared.queues.Queued.{Queued}
-use Rattle.do_center.specs.declared.registrations.Registration.{Registration}
-use Rattle.do_center.specs.declared.seats.Seat.{Seat}
-use Rattle.do_center.specs.declared.suspension.Suspension.{Suspension}
-use Rattle.do_center.specs.declared.suspension.Suspension.TheVariants.{Drop, Coalesce, Hold}
-use Rattle.do_center.specs.declared.suspension.Suspension.TheVariants.{DeliverImmediately}
+use Rattle.do_center.specs.{Registrations.matches, declared.notes.Note.Note}
+use Rattle.do_center.specs.declared.{posting.Posting.Posting, queues.Queued.Queued}
+use Rattle.do_center.specs.declared.{registrations.Registration.Registration, seats.Seat.Seat}
+use Rattle.do_center.specs.declared.suspension.Suspension.{Suspension, TheVariants.{Drop, Coalesce}}
+use Rattle.do_center.specs.declared.suspension.Suspension.TheVariants.{Hold, DeliverImmediately}
 
 -- What holds of registrations with queues, of the queue of an observer, of a notification that
 -- comes to it and of one that is due, is such that a post keeps it.

@@ -1,24 +1,17 @@
 -- What holds of registrations and of the queues of their observers holds where some change or go.
-use Rattle.std.proofs.Common.{◌≡◌, ℕ, Bool, List, [], ◌∷◌, Option, Some, None}
-use Rattle.std.proofs.Common.{length, refl, sym, subst}
-use Rattle.std.specs.Prelude.{not, nat_lt, remove, slice_index_or}
-use Rattle.std.specs.List.{All}
-use Rattle.std.proofs.lemmas.Bool.{cond_both}
-use Rattle.std.proofs.lemmas.List.Elements.{All-nil, All-cons, All-head, All-tail}
+use Rattle.std.proofs.Common.{◌≡◌, ℕ, Bool, List, [], ◌∷◌, Option, Some, None, length, refl, sym}
+use Rattle.std.proofs.Common.{subst}
+use Rattle.std.specs.{Prelude.{not, nat_lt, remove, slice_index_or}, List.All}
+use Rattle.std.proofs.lemmas.{Bool.cond_both, List.Elements.{All-nil, All-cons, All-head, All-tail}}
 use Rattle.std.proofs.lemmas.List.Elements.{All-filter, All-map, All-push, All-weaker}
 use Rattle.do_base.specs.names.Names.{ObjectName}
 use Rattle.do_native_acts.specs.laws.KeptLaws.{kept_flat}
-use Rattle.do_center.specs.Observers.{same_object}
-use Rattle.do_center.specs.Queues.{coalesced, enqueued, queue_of, same_kind, seat_with}
-use Rattle.do_center.specs.Queues.{with_queue, with_room}
-use Rattle.do_center.specs.Removing.{moved, moved_entry, seat_left, seats_left}
-use Rattle.do_center.specs.Seats.{is_none, registrations}
-use Rattle.do_center.specs.Slots.{waiting}
-use Rattle.do_center.specs.declared.queues.Queued.{Queued}
-use Rattle.do_center.specs.declared.registrations.Registration.{Registration}
-use Rattle.do_center.specs.declared.seats.Seat.{Seat}
-use Rattle.do_center.specs.declared.slots.Waiting.{Waiting}
-use Rattle.do_center.specs.laws.SameObject.{same_is}
+use Rattle.do_center.specs.{Observers.same_object, Queues.{coalesced, enqueued, queue_of}}
+use Rattle.do_center.specs.Queues.{same_kind, seat_with, with_queue, with_room}
+use Rattle.do_center.specs.{Removing.{moved, moved_entry, seat_left, seats_left}, Seats.is_none}
+use Rattle.do_center.specs.{Seats.registrations, Slots.waiting, declared.queues.Queued.Queued}
+use Rattle.do_center.specs.declared.{registrations.Registration.Registration, seats.Seat.Seat}
+use Rattle.do_center.specs.{declared.slots.Waiting.Waiting, laws.SameObject.same_is}
 
 module _ (E : Queued → Type 0) where
   -- a queue without its first

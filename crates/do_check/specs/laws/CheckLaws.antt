@@ -1,36 +1,24 @@
 -- A checker names only what was shown, and answers well where its rules are rules; it sends to its
 -- target alone, and only what a rule allows.
-use Rattle.std.proofs.Common.{◌≡◌, ℕ, suc, ◌≤◌, List as Listed, [], ◌∷◌, length, Option}
-use Rattle.std.proofs.Common.{Some, None, refl, ap, ◌∙◌, subst, arith, IsTrue}
-use Rattle.std.specs.Prelude.{codes}
-use Rattle.std.specs.List.{All}
-use Rattle.std.specs.Option.{IfSome}
-use Rattle.std.specs.Str.{bytes_eq}
-use Rattle.std.proofs.lemmas.List.Elements.{All-nil, All-cons, All-head}
-use Rattle.std.proofs.lemmas.List.FromFn.{length-range_with_len}
-use Rattle.do_base.specs.values.Texts.{longest_text}
-use Rattle.do_base.specs.declared.values.value.Value.{Value}
+use Rattle.std.proofs.Common.{◌≡◌, ℕ, suc, ◌≤◌, List as Listed, [], ◌∷◌, length, Option, Some, None}
+use Rattle.std.{proofs.Common.{refl, ap, ◌∙◌, subst, arith, IsTrue}, specs.Prelude.codes}
+use Rattle.std.{specs.{List.All, Option.IfSome, Str.bytes_eq}, proofs.lemmas.List.Elements.All-nil}
+use Rattle.std.proofs.lemmas.List.{Elements.{All-cons, All-head}, FromFn.length-range_with_len}
+use Rattle.do_base.specs.{values.Texts.longest_text, declared.values.value.Value.Value}
 use Rattle.do_class.specs.Class.{Class}
-use Rattle.do_grammar.specs.Names.{is_selector, colons}
-use Rattle.do_grammar.specs.Words.{◌>>?◌}
-use Rattle.do_behave.specs.Answers.{AnswersWell, NamesShown}
-use Rattle.do_behave.specs.Ready.{IsReady}
-use Rattle.do_behave.specs.Steps.{local, local_values}
-use Rattle.do_behave.specs.declared.invocation.Invocation.{Invocation}
-use Rattle.do_behave.specs.declared.act.Act.TheVariants.{Send}
-use Rattle.do_behave.specs.laws.Sound.{get_kept}
+use Rattle.do_grammar.specs.{Names.{is_selector, colons}, Words.◌>>?◌}
+use Rattle.do_behave.specs.{Answers.{AnswersWell, NamesShown}, Ready.IsReady}
+use Rattle.do_behave.specs.{Steps.{local, local_values}, declared.invocation.Invocation.Invocation}
+use Rattle.do_behave.specs.{declared.act.Act.TheVariants.Send, laws.Sound.get_kept}
 use Rattle.do_native_acts.specs.laws.GoodActs.{IsGood, MayGood, kept_good, then_good, choice_good}
 use Rattle.do_native_acts.specs.laws.GoodActs.{places_good, returns_good, selector_good}
 use Rattle.do_native_acts.specs.laws.KindLaws.{some_same}
 use Rattle.do_check.specs.Acts.{target_in, firsts, passes_on, forward_places, forwards, guards}
 use Rattle.do_check.specs.Acts.{follows, checks, check_act}
-use Rattle.do_check.specs.Rules.{IsVerdict, AreRules, verdict_of}
-use Rattle.do_check.specs.declared.rules.Rule.{Rule}
-use Rattle.do_check.specs.declared.rules.Verdict.{Verdict}
-use Rattle.do_check.specs.declared.rules.Verdict.TheVariants.{Forward, Deny}
+use Rattle.do_check.specs.{Rules.{IsVerdict, AreRules, verdict_of}, declared.rules.Rule.Rule}
+use Rattle.do_check.specs.declared.rules.Verdict.{Verdict, TheVariants.{Forward, Deny}}
 use Rattle.do_check.specs.laws.FirstLocals.{few_colons, firsts_are_locals}
-use Rattle.do_check.specs.laws.GuardGood.{raises_good, guards_good}
-use Rattle.do_check.specs.laws.RuleFound.{verdict_found}
+use Rattle.do_check.specs.laws.{GuardGood.{raises_good, guards_good}, RuleFound.verdict_found}
 
 -- what holds of every local holds of what several hold, and there is a value for each
 each_local : (inv : Invocation) (Q : Value → Type 0) → All Q inv.locals → (from : Listed ℕ)

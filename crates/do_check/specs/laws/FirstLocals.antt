@@ -1,9 +1,7 @@
 -- The first locals, one after the other.
 use Rattle.std.proofs.Common.{◌≡◌, ℕ, zero, suc, ◌+◌, ◌≤◌, List as Listed, [], ◌∷◌, ◌++◌, ◌∙◌, ap}
-use Rattle.std.proofs.Common.{arith, IsTrue, add-one}
-use Rattle.std.specs.List.{All, range_with_len}
-use Rattle.std.proofs.lemmas.Grind.{common_steps}
-use Rattle.std.proofs.lemmas.List.Elements.{All-nil, All-cons}
+use Rattle.std.{proofs.Common.{arith, IsTrue, add-one}, specs.List.{All, range_with_len}}
+use Rattle.std.proofs.lemmas.{Grind.common_steps, List.Elements.{All-nil, All-cons}}
 use Rattle.do_grammar.specs.Names.{is_selector, colons}
 use Rattle.do_script.specs.Listing.{IsLocal}
 use Rattle.do_check.specs.Acts.{firsts}

@@ -1,28 +1,19 @@
 -- The acts of `guard:` are good.
-use Rattle.std.proofs.Common.{◌≡◌, ℕ, ◌<◌, ◌≤◌, List as Listed, [], ◌∷◌, length}
-use Rattle.std.proofs.Common.{Option, Some, None, sym, subst, arith}
-use Rattle.std.specs.Prelude.{codes, if◌then◌else◌}
-use Rattle.std.specs.Option.{IfSome}
-use Rattle.std.proofs.lemmas.List.Elements.{All-nil, All-cons}
-use Rattle.do_base.specs.names.Names.{ObjectName}
-use Rattle.do_base.specs.values.Kinds.{is_nil, object}
-use Rattle.do_base.specs.values.Texts.{longest_text}
-use Rattle.do_base.specs.declared.values.value.Value.{Value}
+use Rattle.std.proofs.Common.{◌≡◌, ℕ, ◌<◌, ◌≤◌, List as Listed, [], ◌∷◌, length, Option, Some, None}
+use Rattle.std.{proofs.Common.{sym, subst, arith}, specs.Prelude.{codes, if◌then◌else◌}}
+use Rattle.std.{specs.Option.IfSome, proofs.lemmas.List.Elements.{All-nil, All-cons}}
+use Rattle.do_base.specs.{names.Names.ObjectName, values.Kinds.{is_nil, object}}
+use Rattle.do_base.specs.{values.Texts.longest_text, declared.values.value.Value.Value}
 use Rattle.do_base.specs.declared.values.value.Value.TheVariants.{Nil, Obj}
 use Rattle.do_base.specs.declared.events.exception.Exc.TheVariants.{User}
 use Rattle.do_class.specs.Class.{Class}
 use Rattle.do_grammar.specs.Words.{◌>>?◌}
-use Rattle.do_behave.specs.Steps.{local}
-use Rattle.do_behave.specs.declared.invocation.Invocation.{Invocation}
-use Rattle.do_behave.specs.declared.act.Act.TheVariants.{Return, Raise}
-use Rattle.do_behave.specs.declared.act.Write.{Write}
+use Rattle.do_behave.specs.{Steps.local, declared.invocation.Invocation.Invocation}
+use Rattle.do_behave.specs.declared.act.{Act.TheVariants.{Return, Raise}, Write.Write}
 use Rattle.do_behave.specs.declared.change.LocalSet.{LocalSet}
-use Rattle.do_native_acts.specs.Steps.{steps}
-use Rattle.do_native_acts.specs.laws.GoodActs.{IsGood, MayGood, kept_good, then_good, choice_good}
-use Rattle.do_native_acts.specs.laws.GoodActs.{places_good}
-use Rattle.do_native_acts.specs.laws.GoodSteps.{steps_good}
-use Rattle.do_native_acts.specs.laws.KindLaws.{object_read}
-use Rattle.do_native_acts.specs.laws.NamedValues.{Named, local_named}
+use Rattle.do_native_acts.specs.{Steps.steps, laws.GoodActs.{IsGood, MayGood, kept_good, then_good}}
+use Rattle.do_native_acts.specs.laws.{GoodActs.{choice_good, places_good}, GoodSteps.steps_good}
+use Rattle.do_native_acts.specs.laws.{KindLaws.object_read, NamedValues.{Named, local_named}}
 use Rattle.do_check.specs.Acts.{target_in, sets_target, keeps_target, guard_places, guards}
 
 module _ (made : Type 0) (table : Listed Class) (inv : Invocation) (slots : Listed Value) where

@@ -1,17 +1,12 @@
 -- What is known of a verdict: it is that of a rule for the selector.
 use Rattle.std.proofs.Common.{◌≡◌, ℕ, Bool, true, false, List as Listed, [], ◌∷◌, Option, Some}
 use Rattle.std.proofs.Common.{None, refl, sym, subst, IsTrue}
-use Rattle.std.specs.Prelude.{cond}
-use Rattle.std.specs.List.{find}
-use Rattle.std.specs.Option.{option_map, IfSome}
-use Rattle.std.specs.Str.{bytes_eq}
-use Rattle.std.proofs.lemmas.List.Elements.{All-head, All-tail}
-use Rattle.std.proofs.lemmas.Slice.Eq.{bytes_eq-Decides}
+use Rattle.std.specs.{Prelude.cond, List.find, Option.{option_map, IfSome}, Str.bytes_eq}
+use Rattle.std.proofs.lemmas.{List.Elements.{All-head, All-tail}, Slice.Eq.bytes_eq-Decides}
 use Rattle.do_grammar.specs.Names.{is_selector}
 use Rattle.do_native_acts.specs.laws.KindLaws.{some_same}
 use Rattle.do_check.specs.Rules.{IsRule, IsVerdict, AreRules, verdict_of}
-use Rattle.do_check.specs.declared.rules.Rule.{Rule}
-use Rattle.do_check.specs.declared.rules.Verdict.{Verdict}
+use Rattle.do_check.specs.declared.rules.{Rule.Rule, Verdict.Verdict}
 
 -- a rule that is for a selector
 abbrev IsFor : Listed ℕ → Rule → Type 0

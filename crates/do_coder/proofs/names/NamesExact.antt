@@ -2,24 +2,19 @@
 use Rattle.std.proofs.Common.{◌≡◌, ℕ, zero, suc, ◌-◌, ◌<◌, ◌≤◌, ◌^◌, true, List, [], ◌∷◌, ◌++◌}
 use Rattle.std.proofs.Common.{length, Option, Some, None, refl, ap, arith}
 use Rattle.std.proofs.lemmas.Bool.Decides.{nat_tests}
-use Rattle.do_class.specs.declared.packet.Name.{Name}
-use Rattle.do_class.specs.declared.packet.Name.TheVariants.{Mine, Yours, Lent}
-use Rattle.do_grammar.specs.Reader.{Reader, no_kind, mapped}
-use Rattle.do_grammar.specs.Num.{num, num_at}
+use Rattle.do_class.specs.declared.packet.Name.{Name, TheVariants.{Mine, Yours, Lent}}
+use Rattle.do_grammar.specs.{Reader.{Reader, no_kind, mapped}, Num.{num, num_at}}
 use Rattle.do_grammar.proofs.reads.ExactReader.{Reads}
 use Rattle.do_grammar.specs.OneSpelling.{Spelled, both, FitsList, times_by, spelling_by}
 use Rattle.do_grammar.specs.BesideHoles.{num_beside, IsBeside}
-use Rattle.do_coder.specs.declared.read.sides.Sides.{Sides}
-use Rattle.do_coder.specs.declared.recent.pair.Pair.{Pair}
-use Rattle.do_coder.specs.Recent.{pair, place_in, after_name, IsSerial, IsKnown}
-use Rattle.do_coder.specs.Names.{mine_tag, name_tag, name_body, name_spelling, IsName}
-use Rattle.do_coder.specs.Names.{names_spelling, taken_with, taken_whole, begins_name, serial_at}
-use Rattle.do_coder.specs.Names.{mine, lent, mine_of, mine_at, new_at, lent_at, name_body_at}
-use Rattle.do_coder.specs.Names.{name_at, names_at}
+use Rattle.do_coder.specs.declared.{read.sides.Sides.Sides, recent.pair.Pair.Pair}
+use Rattle.do_coder.specs.{Recent.{pair, place_in, after_name, IsSerial, IsKnown}, Names.mine_tag}
+use Rattle.do_coder.specs.Names.{name_tag, name_body, name_spelling, IsName, names_spelling}
+use Rattle.do_coder.specs.Names.{taken_with, taken_whole, begins_name, serial_at, mine, lent}
+use Rattle.do_coder.specs.Names.{mine_of, mine_at, new_at, lent_at, name_body_at, name_at, names_at}
 use Rattle.do_grammar.proofs.reads.OneSpellingExact.{Reads-both, Reads-onto, Reads-tagged}
 use Rattle.do_grammar.proofs.reads.OneSpellingExact.{Reads-number, Reads-list, Reads-times_by}
-use Rattle.do_grammar.proofs.reads.OneSpellingExact.{FitBy}
-use Rattle.do_grammar.proofs.texts.BesideExact.{Reads-beside}
+use Rattle.do_grammar.proofs.{reads.OneSpellingExact.FitBy, texts.BesideExact.Reads-beside}
 use Rattle.do_grammar.proofs.texts.NextBeside.{next_near}
 use Rattle.do_coder.proofs.tables.TableLaws.{place_got, got_place, known_at, IsKept, kept_pair}
 use Rattle.do_coder.proofs.tables.TakenPairs.{free_none, none_free, class_left, serial_left}

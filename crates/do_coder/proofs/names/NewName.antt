@@ -1,9 +1,7 @@
 -- The steps of reading names.
 use Rattle.std.proofs.Common.{◌≡◌, ℕ, ◌-◌, ◌<◌, ◌^◌, List, None, Ok, refl, arith}
-use Rattle.do_grammar.specs.Grammar.{Takes}
-use Rattle.do_grammar.specs.Num.{Num}
-use Rattle.do_coder.specs.declared.recent.pair.Pair.{Pair}
-use Rattle.do_coder.specs.Recent.{pair, place_in}
+use Rattle.do_grammar.specs.{Grammar.Takes, Num.Num}
+use Rattle.do_coder.specs.{declared.recent.pair.Pair.Pair, Recent.{pair, place_in}}
 use Rattle.do_coder.specs.Names.{taken_with, taken_whole, mine_of, new_at}
 use Rattle.do_grammar.proofs.loops.BesideLoop.{fast}
 use Rattle.do_coder.proofs.tables.TakenPairs.{none_free, serial_left}

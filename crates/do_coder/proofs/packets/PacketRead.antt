@@ -1,23 +1,15 @@
 -- A packet is read exactly by a class table and a table of recent names.
-use Rattle.std.proofs.Common.{◌≡◌, ℕ, zero, suc, ◌-◌, ◌≤◌, List, [], ◌∷◌, ◌++◌}
-use Rattle.std.proofs.Common.{length, take, Ok, Err}
-use Rattle.std.proofs.Common.{sym, subst, arith}
-use Rattle.std.specs.List.{AllByRecursion}
-use Rattle.std.proofs.lemmas.List.{length-map}
-use Rattle.std.proofs.lemmas.List.Elements.{recursion_from_All}
-use Rattle.do_class.specs.Class.{Class, IsClass}
-use Rattle.do_class.specs.Table.{IsTable}
-use Rattle.do_class.specs.declared.packet.Packet.{Packet}
+use Rattle.std.proofs.Common.{◌≡◌, ℕ, zero, suc, ◌-◌, ◌≤◌, List, [], ◌∷◌, ◌++◌, length, take, Ok}
+use Rattle.std.{proofs.Common.{Err, sym, subst, arith}, specs.List.AllByRecursion}
+use Rattle.std.proofs.lemmas.List.{length-map, Elements.recursion_from_All}
+use Rattle.do_class.specs.{Class.{Class, IsClass}, Table.IsTable, declared.packet.Packet.Packet}
 use Rattle.do_grammar.specs.Grammar.{IsBytes, IsProperFront, IsFirstBad}
 use Rattle.do_grammar.specs.Reader.{Stop, no_kind, short, bad}
-use Rattle.do_grammar.proofs.reads.ExactReader.{Reads}
-use Rattle.do_grammar.proofs.faults.AnswerExact.{found, found_only, not_stopped, left_within}
-use Rattle.do_grammar.proofs.faults.AnswerExact.{proper_front, first_bad}
-use Rattle.do_coder.specs.declared.recent.pair.Pair.{Pair}
-use Rattle.do_coder.specs.Recent.{IsKnown, IsRecent}
+use Rattle.do_grammar.proofs.{reads.ExactReader.Reads, faults.AnswerExact.{found, found_only}}
+use Rattle.do_grammar.proofs.faults.AnswerExact.{not_stopped, left_within, proper_front, first_bad}
+use Rattle.do_coder.specs.{declared.recent.pair.Pair.Pair, Recent.{IsKnown, IsRecent}}
 use Rattle.do_coder.specs.Packets.{surroundings, slot_counts, slots_of, SpellsPacket, IsPacket}
-use Rattle.do_coder.specs.Packets.{packet_at, after_packet}
-use Rattle.do_coder.proofs.tables.TableLaws.{IsKept}
+use Rattle.do_coder.{specs.Packets.{packet_at, after_packet}, proofs.tables.TableLaws.IsKept}
 use Rattle.do_coder.proofs.packets.PacketsExact.{Reads-packet, kept_names}
 
 -- a class has at most 16 slots

@@ -1,15 +1,11 @@
 -- Packets are read exactly, by a table of recent names.
 use Rattle.std.proofs.Common.{ℕ, ◌-◌, ◌<◌, ◌≤◌, ◌^◌, List, [], ◌∷◌, ◌++◌, length, refl, arith}
 use Rattle.std.specs.List.{flat_map, fold, AllByRecursion}
-use Rattle.do_class.specs.declared.packet.Name.{Name}
-use Rattle.do_class.specs.declared.packet.Part.{Part}
-use Rattle.do_class.specs.declared.packet.Copied.{Copied}
-use Rattle.do_grammar.specs.Reader.{Reader, no_kind, times}
-use Rattle.do_grammar.specs.Num.{num, num_at}
+use Rattle.do_class.specs.declared.packet.{Name.Name, Part.Part, Copied.Copied}
+use Rattle.do_grammar.specs.{Reader.{Reader, no_kind, times}, Num.{num, num_at}}
 use Rattle.do_grammar.proofs.reads.ExactReader.{Reads, Reads-as}
 use Rattle.do_grammar.specs.OneSpelling.{Spelled, both, list_at, list_spelling, FitsList}
-use Rattle.do_coder.specs.declared.recent.pair.Pair.{Pair}
-use Rattle.do_coder.specs.Recent.{after_name}
+use Rattle.do_coder.specs.{declared.recent.pair.Pair.Pair, Recent.after_name}
 use Rattle.do_coder.specs.Names.{IsName, name_spelling, names_spelling, names_at}
 use Rattle.do_coder.specs.Parts.{part_spelling, IsPart, part_at}
 use Rattle.do_coder.specs.Packets.{Surroundings, sides_of, copied_spelling, packet_spelling}
@@ -17,9 +13,8 @@ use Rattle.do_coder.specs.Packets.{slots_of, IsCopied, most_copies, IsPacket, Sp
 use Rattle.do_coder.specs.Packets.{copy_at, copies_at, values_at, packet, packet_at}
 use Rattle.do_grammar.proofs.reads.OneSpellingExact.{Reads-both, Reads-onto, Reads-number}
 use Rattle.do_grammar.proofs.reads.OneSpellingExact.{Reads-many, Reads-list, FitBy}
-use Rattle.do_coder.proofs.tables.TableLaws.{IsKept}
-use Rattle.do_coder.proofs.names.NamesExact.{AreNames, Reads-names, kept_name}
-use Rattle.do_coder.proofs.values.PartsExact.{Reads-part}
+use Rattle.do_coder.proofs.{tables.TableLaws.IsKept, names.NamesExact.{AreNames, Reads-names}}
+use Rattle.do_coder.proofs.{names.NamesExact.kept_name, values.PartsExact.Reads-part}
 
 -- names that fit, without the table
 abbrev pub HasNames : Surroundings → List Name → Type 0

@@ -1,14 +1,11 @@
 -- A search for a class that is not in the table with a serial, class by class.
-use Rattle.std.proofs.Common.{◌≡◌, ℕ, ◌-◌, ◌+◌, ◌<◌, ◌≤◌, Bool, true, false, List, Some, None}
-use Rattle.std.proofs.Common.{refl, ap, arith}
-use Rattle.std.specs.Prelude.{nat_le}
+use Rattle.std.proofs.Common.{◌≡◌, ℕ, ◌-◌, ◌+◌, ◌<◌, ◌≤◌, Bool, true, false, List, Some, None, refl}
+use Rattle.std.{proofs.Common.{ap, arith}, specs.Prelude.nat_le}
 use Rattle.std.proofs.lemmas.Bool.Decides.{nat_tests}
 use Rattle.do_grammar.specs.BesideHoles.{is_hole, next_beside, some_beside}
 use Rattle.do_grammar.proofs.texts.NextBeside.{next_up, free_stays, next_past}
-use Rattle.do_coder.specs.declared.recent.pair.Pair.{Pair}
-use Rattle.do_coder.specs.Recent.{pair, place_in}
-use Rattle.do_coder.specs.Names.{taken_with}
-use Rattle.do_coder.proofs.tables.TakenPairs.{free_none, none_free}
+use Rattle.do_coder.specs.{declared.recent.pair.Pair.Pair, Recent.{pair, place_in}}
+use Rattle.do_coder.{specs.Names.taken_with, proofs.tables.TakenPairs.{free_none, none_free}}
 
 -- the test of an order fails, and passes
 is_over : (m n : ℕ) → n < m → nat_le m n ≡ false

@@ -1,17 +1,12 @@
 -- Laws of the index of a log.
 use Rattle.std.proofs.Common.{◌≡◌, ℕ, zero, suc, ◌+◌, ◌-◌, ◌<◌, ◌≤◌, Bool, true, false, List, []}
 use Rattle.std.proofs.Common.{◌∷◌, ◌++◌, length, drop, take, get_or, Option, Some, None, refl, sym}
-use Rattle.std.proofs.Common.{ap, subst, ◌∙◌, arith, inl, inr, is_eq}
-use Rattle.std.specs.Prelude.{◌⊎◌}
-use Rattle.std.specs.BTreeMap.{BTreeMap, get, Updates, is_at}
-use Rattle.std.specs.declared.cmp.Ordering.{Ordering}
-use Rattle.std.specs.declared.cmp.Ordering.TheVariants.{Less, Equal, Greater}
-use Rattle.std.specs.Ordering.{nat_cmp}
-use Rattle.std.proofs.lemmas.Map.Lookups.{exact_pairs, exact_unsigned}
-use Rattle.std.proofs.lemmas.Bool.{cases_lt}
+use Rattle.std.{proofs.Common.{ap, subst, ◌∙◌, arith, inl, inr, is_eq}, specs.Prelude.◌⊎◌}
+use Rattle.std.specs.{BTreeMap.{BTreeMap, get, Updates, is_at}, declared.cmp.Ordering.Ordering}
+use Rattle.std.specs.{declared.cmp.Ordering.TheVariants.{Less, Equal, Greater}, Ordering.nat_cmp}
+use Rattle.std.proofs.lemmas.{Map.Lookups.{exact_pairs, exact_unsigned}, Bool.cases_lt}
 use Rattle.std.proofs.lemmas.List.{length-drop, get_or-drop, length-take-le}
-use Rattle.do_coder.specs.declared.recent.pair.Pair.{Pair}
-use Rattle.do_coder.specs.declared.recent.index.Places.{Places}
+use Rattle.do_coder.specs.declared.recent.{pair.Pair.Pair, index.Places.Places}
 use Rattle.do_coder.specs.Recent.{pair, same_pair, place_in, AllDiffer}
 use Rattle.do_coder.specs.NameLog.{pair_cmp, IsFound, AreFound, StandsAt}
 use Rattle.do_coder.proofs.tables.TableLaws.{same_is, same_self, place_got, got_place}

@@ -1,11 +1,9 @@
 -- What keeps the log of recent names: adding, undoing, keeping, copying.
 use Rattle.std.proofs.Common.{◌≡◌, ℕ, zero, suc, ◌+◌, ◌-◌, ◌<◌, ◌≤◌, Bool, true, false, List, []}
-use Rattle.std.proofs.Common.{◌∷◌, ◌++◌, length, drop, take, get_or, Some, None}
-use Rattle.std.proofs.Common.{refl, sym, ap, subst, ◌∙◌, arith}
-use Rattle.std.specs.BTreeMap.{BTreeMap, get}
+use Rattle.std.proofs.Common.{◌∷◌, ◌++◌, length, drop, take, get_or, Some, None, refl, sym, ap}
+use Rattle.std.{proofs.Common.{subst, ◌∙◌, arith}, specs.BTreeMap.{BTreeMap, get}}
 use Rattle.std.proofs.lemmas.List.{length-take-le, take_all}
-use Rattle.do_coder.specs.declared.recent.pair.Pair.{Pair}
-use Rattle.do_coder.specs.declared.recent.index.Places.{Places}
+use Rattle.do_coder.specs.declared.recent.{pair.Pair.Pair, index.Places.Places}
 use Rattle.do_coder.specs.Recent.{pair, same_pair, place_in, newest, AllDiffer, IsRecent}
 use Rattle.do_coder.specs.NameLog.{pair_cmp, IsFound, AreFound, HasTables, IsNameLog}
 use Rattle.do_coder.proofs.tables.TableLaws.{same_is, got_place, log_shift, log_stay, log_undo}

@@ -1,14 +1,11 @@
 -- Laws of the table of recent names.
 use Rattle.std.proofs.Common.{◌≡◌, ℕ, zero, suc, ◌+◌, ◌-◌, ◌<◌, ◌≤◌, Bool, true, false, List, []}
 use Rattle.std.proofs.Common.{◌∷◌, ◌++◌, length, drop, take, get_or, Option, Some, None, refl, sym}
-use Rattle.std.proofs.Common.{ap, subst, ◌∙◌, arith}
-use Rattle.std.specs.List.{AllByRecursion}
-use Rattle.std.proofs.lemmas.Bool.{eq-eqb}
-use Rattle.std.proofs.lemmas.Bool.Decides.{nat_tests}
+use Rattle.std.{proofs.Common.{ap, subst, ◌∙◌, arith}, specs.List.AllByRecursion}
+use Rattle.std.proofs.lemmas.Bool.{eq-eqb, Decides.nat_tests}
 use Rattle.std.proofs.lemmas.List.{length-append, length-drop, drop-drop, length-take-le, take_all}
-use Rattle.do_coder.specs.declared.recent.pair.Pair.{Pair}
-use Rattle.do_coder.specs.Recent.{pair, same_pair, place_in, newest, after_pair, AllDiffer, IsKnown}
-use Rattle.do_coder.specs.Recent.{IsRecent}
+use Rattle.do_coder.specs.{declared.recent.pair.Pair.Pair, Recent.{pair, same_pair, place_in}}
+use Rattle.do_coder.specs.Recent.{newest, after_pair, AllDiffer, IsKnown, IsRecent}
 use Rattle.do_coder.specs.NameLog.{HasTables}
 
 -- the test is exact

@@ -1,12 +1,9 @@
 -- Which classes and serials are left beside the table of recent names.
 use Rattle.std.proofs.Common.{◌≡◌, ℕ, suc, ◌-◌, ◌<◌, ◌≤◌, Bool, true, false, eqb, List, [], ◌∷◌}
 use Rattle.std.proofs.Common.{length, map, Option, Some, None, refl, sym, ap, ◌∙◌, arith}
-use Rattle.std.specs.Prelude.{not, nat_le}
-use Rattle.std.specs.List.{filter}
-use Rattle.std.proofs.lemmas.Bool.Decides.{nat_tests}
+use Rattle.std.{specs.{Prelude.{not, nat_le}, List.filter}, proofs.lemmas.Bool.Decides.nat_tests}
 use Rattle.do_grammar.specs.BesideHoles.{is_hole, next_beside, some_beside}
-use Rattle.do_coder.specs.declared.recent.pair.Pair.{Pair}
-use Rattle.do_coder.specs.Recent.{pair, place_in}
+use Rattle.do_coder.specs.{declared.recent.pair.Pair.Pair, Recent.{pair, place_in}}
 use Rattle.do_coder.specs.Names.{taken_with, taken_whole}
 use Rattle.do_grammar.proofs.texts.NextBeside.{next_least, next_near, free_stays}
 

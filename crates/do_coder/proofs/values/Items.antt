@@ -2,8 +2,7 @@
 use Rattle.std.proofs.Common.{◌≡◌, ℕ, zero, suc, ◌-◌, ◌<◌, List as Listed, ◌∷◌, refl, arith}
 use Rattle.std.proofs.lemmas.Bool.{lt-ltb}
 use Rattle.do_class.specs.declared.packet.Part.{List}
-use Rattle.do_grammar.specs.Reader.{mapped, times}
-use Rattle.do_grammar.specs.OneSpelling.{list_at}
+use Rattle.do_grammar.specs.{Reader.{mapped, times}, OneSpelling.list_at}
 use Rattle.do_coder.specs.Parts.{part_at}
 
 -- a list, where one may stand

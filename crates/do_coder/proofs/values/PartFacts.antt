@@ -1,17 +1,12 @@
 -- The values of packets, kind by kind.
 use Rattle.std.proofs.Common.{◌≡◌, ℕ, ℤ, ◌-◌, ◌<◌, ◌≤◌, ◌^◌, Bool, true, false, List as Listed, []}
 use Rattle.std.proofs.Common.{◌∷◌, ◌++◌, length, map, refl, sym, ap, subst, ◌∙◌, arith, rules}
-use Rattle.std.specs.Prelude.{◌&&◌, nat_lt, nat_le}
-use Rattle.std.specs.List.{flat_map, list_all, AllByRecursion}
-use Rattle.std.proofs.lemmas.List.{length-map}
-use Rattle.std.proofs.lemmas.Bool.Decides.{nat_tests}
+use Rattle.std.specs.{Prelude.{◌&&◌, nat_lt, nat_le}, List.{flat_map, list_all, AllByRecursion}}
+use Rattle.std.proofs.lemmas.{List.length-map, Bool.Decides.nat_tests}
 use Rattle.do_class.specs.declared.packet.Part.{Part, List, ind-Part, map-Part, roll-Part}
-use Rattle.do_class.specs.declared.packet.Part.{the_lemmas}
-use Rattle.do_class.specs.declared.packet.Part.TheVariants.{Nil, Num, Text, Copy, Named}
-use Rattle.do_class.specs.declared.packet.Part.TheOpen.{Part-F}
-use Rattle.do_grammar.specs.Num.{num, counted, zigzag}
-use Rattle.do_grammar.specs.Grammar.{IsBytes}
-use Rattle.do_grammar.specs.OneSpelling.{list_spelling}
+use Rattle.do_class.specs.declared.packet.Part.{the_lemmas, TheVariants.{Nil, Num, Text, Copy}}
+use Rattle.do_class.specs.declared.packet.Part.{TheVariants.Named, TheOpen.Part-F}
+use Rattle.do_grammar.specs.{Num.{num, counted, zigzag}, Grammar.IsBytes, OneSpelling.list_spelling}
 use Rattle.do_coder.specs.Parts.{part_spelling, is_bytes, part_fits, IsPart}
 
 -- ---- cases

@@ -1,17 +1,13 @@
 -- The values of packets are read exactly.
 use Rattle.std.proofs.Common.{◌≡◌, ℕ, ℤ, zero, suc, ◌-◌, ◌<◌, ◌≤◌, ◌^◌, Bool, true, false}
 use Rattle.std.proofs.Common.{List as Listed, [], ◌∷◌, length, drop, get_or, refl, sym, ap, subst}
-use Rattle.std.proofs.Common.{◌∙◌, arith}
-use Rattle.std.specs.Prelude.{◌&&◌, nat_lt, nat_le}
-use Rattle.std.specs.List.{flat_map, AllByRecursion}
-use Rattle.std.proofs.lemmas.Bool.Decides.{nat_tests}
+use Rattle.std.{proofs.Common.{◌∙◌, arith}, specs.Prelude.{◌&&◌, nat_lt, nat_le}}
+use Rattle.std.{specs.List.{flat_map, AllByRecursion}, proofs.lemmas.Bool.Decides.nat_tests}
 use Rattle.do_class.specs.declared.packet.Part.{Part, List}
 use Rattle.do_class.specs.declared.packet.Part.TheVariants.{Nil, Num, Text, Copy, Named}
-use Rattle.do_grammar.specs.Reader.{Reader, no_kind, done, times}
-use Rattle.do_grammar.specs.Grammar.{IsBytes}
+use Rattle.do_grammar.specs.{Reader.{Reader, no_kind, done, times}, Grammar.IsBytes}
 use Rattle.do_grammar.specs.Num.{num, num_at, counted, counted_at, signed_at, zigzag, Signed}
-use Rattle.do_grammar.specs.Num.{CountedText}
-use Rattle.do_grammar.proofs.reads.ExactReader.{Reads, Reads-as}
+use Rattle.do_grammar.{specs.Num.CountedText, proofs.reads.ExactReader.{Reads, Reads-as}}
 use Rattle.do_grammar.proofs.texts.NumExact.{Reads-signed, Reads-counted_text}
 use Rattle.do_grammar.specs.OneSpelling.{Spelled, list_at, list_spelling, FitsList}
 use Rattle.do_coder.specs.Parts.{part_spelling, is_bytes, IsPart, begins_part, part_body_at}

@@ -1,11 +1,7 @@
 -- How many slots a class has.
 use Rattle.std.proofs.Common.{◌≡◌, ℕ, zero, suc, List, [], ◌∷◌, length, map, get_or, slice_get}
-use Rattle.std.proofs.Common.{Some, ap}
-use Rattle.std.specs.Option.{option_map}
-use Rattle.do_class.specs.Class.{Class}
-use Rattle.do_class.specs.Table.{slots_of}
-use Rattle.do_class.specs.declared.ids.ClassId.{ClassId}
-use Rattle.do_class.specs.declared.ids.Slot.{Slot}
+use Rattle.std.{proofs.Common.{Some, ap}, specs.Option.option_map}
+use Rattle.do_class.specs.{Class.Class, Table.slots_of, declared.ids.{ClassId.ClassId, Slot.Slot}}
 
 -- the number of a class's slots
 pub len : (table : List Class) (class : ClassId) (slots : List Slot)

@@ -1,9 +1,7 @@
 //! Reading a packet.
 ghost use Rattle.std.specs.Prelude.{◌≡◌, ◌≤◌, ◌<◌, ◌-◌, ◌+◌, ◌++◌, ◌^◌, length, List, ℕ, IfOk};
-ghost use Rattle.std.specs.Prelude.{OnErr};
-ghost use Rattle.std.specs.List.{AllByRecursion};
-ghost use Rattle.do_grammar.specs.RestAnswers.{Gives};
-ghost use Rattle.do_grammar.specs.PlaceAnswers.{Tells, Finds};
+ghost use Rattle.std.specs.{Prelude.OnErr, List.AllByRecursion};
+ghost use Rattle.do_grammar.specs.{RestAnswers.Gives, PlaceAnswers.{Tells, Finds}};
 ghost use Rattle.do_class.specs.declared.packet.Packet.{Packet};
 ghost use Rattle.do_coder.specs.Recent.{IsKnown};
 ghost use Rattle.do_coder.specs.Packets.{surroundings, packet_at, after_packet, SpellsPacket};

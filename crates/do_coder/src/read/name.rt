@@ -1,15 +1,12 @@
 //! Reading the names of packets.
 ghost use Rattle.std.specs.Prelude.{◌≡◌, ◌≤◌, ◌<◌, ◌-◌, ◌++◌, ◌∷◌, [], length, map, not, List};
-ghost use Rattle.std.specs.Prelude.{None, IfOk, OnOk, OnErr};
-ghost use Rattle.std.specs.List.{filter, fold};
+ghost use Rattle.std.specs.{Prelude.{None, IfOk, OnOk, OnErr}, List.{filter, fold}};
 ghost use Rattle.do_grammar.specs.RestAnswers.{Gives};
 ghost use Rattle.do_coder.specs.Recent.{place_in, after_name};
 ghost use Rattle.do_grammar.specs.OneSpelling.{times_by};
-ghost use Rattle.do_coder.specs.declared.recent.pair.Pair.{Pair};
-ghost use Rattle.do_coder.specs.Names.{taken_with, taken_whole, new_at, mine_of, lent_at, mine_at};
-ghost use Rattle.do_coder.specs.Names.{name_at, names_at};
-ghost use Rattle.do_grammar.specs.Reader.{no_kind, mapped};
-ghost use Rattle.do_grammar.specs.Num.{num_at};
+ghost use Rattle.do_coder.specs.{declared.recent.pair.Pair.Pair, Names.{taken_with, taken_whole}};
+ghost use Rattle.do_coder.specs.Names.{new_at, mine_of, lent_at, mine_at, name_at, names_at};
+ghost use Rattle.do_grammar.specs.{Reader.{no_kind, mapped}, Num.num_at};
 
 use crate::read::sides::Sides;
 use crate::read::taken::{taken_of, whole_of};

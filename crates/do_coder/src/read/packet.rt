@@ -1,14 +1,11 @@
 //! Reading packets.
 ghost use Rattle.std.specs.Prelude.{◌≡◌, ◌≤◌, ◌<◌, ◌-◌, ◌+◌, ◌++◌, ◌^◌, length, map, get_or, List};
-ghost use Rattle.std.specs.Prelude.{ℕ, IfOk, OnErr, MatchResult};
-ghost use Rattle.std.specs.List.{fold, AllByRecursion};
-ghost use Rattle.do_grammar.specs.Reader.{no_kind, times};
-ghost use Rattle.do_grammar.specs.RestAnswers.{Gives};
+ghost use Rattle.std.specs.{Prelude.{ℕ, IfOk, OnErr, MatchResult}, List.{fold, AllByRecursion}};
+ghost use Rattle.do_grammar.specs.{Reader.{no_kind, times}, RestAnswers.Gives};
 ghost use Rattle.do_grammar.specs.PlaceAnswers.{Tells, Finds};
-ghost use Rattle.do_coder.specs.Recent.{after_name, IsKnown};
-ghost use Rattle.do_coder.specs.Packets.{surroundings, slot_counts, sides_of, copy_at, copies_at};
-ghost use Rattle.do_coder.specs.Packets.{values_at, packet_at, after_packet, SpellsPacket};
-ghost use Rattle.do_coder.specs.Packets.{most_copies};
+ghost use Rattle.do_coder.specs.{Recent.{after_name, IsKnown}, Packets.{surroundings, slot_counts}};
+ghost use Rattle.do_coder.specs.Packets.{sides_of, copy_at, copies_at, values_at, packet_at};
+ghost use Rattle.do_coder.specs.Packets.{after_packet, SpellsPacket, most_copies};
 
 use crate::read::name::names_of;
 use crate::read::part::parts_of;

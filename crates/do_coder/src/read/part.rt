@@ -1,8 +1,6 @@
 //! Reading the values of packets.
 ghost use Rattle.std.specs.Prelude.{◌≡◌, ◌≤◌, ◌<◌, ◌-◌, ◌+◌, ◌^◌, length};
-ghost use Rattle.do_grammar.specs.Reader.{no_kind, times};
-ghost use Rattle.do_grammar.specs.RestAnswers.{Gives};
-ghost use Rattle.do_grammar.specs.OneSpelling.{list_at};
+ghost use Rattle.do_grammar.specs.{Reader.{no_kind, times}, RestAnswers.Gives, OneSpelling.list_at};
 ghost use Rattle.do_coder.specs.Parts.{part_at};
 
 use crate::tags::{COPY, LIST, NAMED, NIL, NUMBER, TEXT};

@@ -1,7 +1,6 @@
 //! The classes and the serials that a new name can no longer have, since their pairs are in the
 //! table.
-ghost use Rattle.std.specs.Prelude.{◌≡◌, ◌<◌, ◌-◌, ◌++◌, map, not, IfOk, OnOk};
-ghost use Rattle.std.specs.List.{filter};
+ghost use Rattle.std.specs.{Prelude.{◌≡◌, ◌<◌, ◌-◌, ◌++◌, map, not, IfOk, OnOk}, List.filter};
 ghost use Rattle.do_grammar.specs.BesideHoles.{some_beside};
 ghost use Rattle.do_coder.specs.Names.{taken_with, taken_whole};
 

@@ -1,8 +1,7 @@
 //! The table of recent names while a message is read or written.
 ghost use Rattle.std.specs.Prelude.{◌≡◌, ◌∷◌, ◌++◌, [], ◌<◌, length, get_or, None, IfOk, OnOk};
 ghost use Rattle.std.specs.Prelude.{OnErr};
-ghost use Rattle.do_coder.specs.Recent.{pair, place_in, newest, IsRecent};
-ghost use Rattle.do_coder.specs.NameLog.{Tables};
+ghost use Rattle.do_coder.specs.{Recent.{pair, place_in, newest, IsRecent}, NameLog.Tables};
 
 use crate::recent::index::{Places, append, find};
 use crate::recent::pair::Pair;

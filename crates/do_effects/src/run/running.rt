@@ -2,17 +2,12 @@
 ghost use Rattle.std.specs.Prelude.{◌≡◌, ◌<◌, ◌∷◌, [], length, false};
 ghost use Rattle.do_base.specs.declared.values.value.Value.TheVariants.{Obj};
 ghost use Rattle.do_behave.specs.declared.invocation.InvState.TheVariants.{Below};
-ghost use Rattle.do_machine.specs.State.{own};
-ghost use Rattle.do_machine.specs.run.Changes.{goes_on, goes_to, stands, uses};
-ghost use Rattle.do_machine.specs.run.Fresh.{pushed, with_objects};
-ghost use Rattle.do_machine.specs.take.Take.{is_waiting};
-ghost use Rattle.do_part.specs.Names.{AreStored, sizes_of, values_of};
-ghost use Rattle.do_part.specs.Rooting.{root_of};
+ghost use Rattle.do_machine.specs.{State.own, run.Changes.{goes_on, goes_to, stands, uses}};
+ghost use Rattle.do_machine.specs.{run.Fresh.{pushed, with_objects}, take.Take.is_waiting};
+ghost use Rattle.do_part.specs.{Names.{AreStored, sizes_of, values_of}, Rooting.root_of};
 ghost use Rattle.do_stack.specs.Uses.{invocation_values};
-ghost use Rattle.do_effects.specs.Plans.{IsRunning, plan_needs, to_keep, top_changed};
-ghost use Rattle.do_effects.specs.Plans.{top_popped};
-ghost use Rattle.do_effects.specs.Outs.{out_at, uses_outs};
-ghost use Rattle.do_effects.specs.Room.{PartHasRoom, PartKeepsRoom};
+ghost use Rattle.do_effects.specs.Plans.{IsRunning, plan_needs, to_keep, top_changed, top_popped};
+ghost use Rattle.do_effects.specs.{Outs.{out_at, uses_outs}, Room.{PartHasRoom, PartKeepsRoom}};
 ghost use Rattle.do_effects.specs.declared.plan.Plan.TheVariants.{Begins, Makes};
 
 use do_base::{Locals, Value, Values};

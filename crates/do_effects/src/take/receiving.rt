@@ -1,17 +1,12 @@
 //! What comes in the message of a peer.
 ghost use Rattle.std.specs.Prelude.{◌≡◌, ◌≤◌, ◌+◌, ◌∷◌, [], false, true, length, IsSome, OnErr};
-ghost use Rattle.std.specs.Prelude.{OnOk, option_map};
-ghost use Rattle.std.specs.Option.{option_copied};
-ghost use Rattle.do_machine.specs.State.{is_open};
-ghost use Rattle.do_machine.specs.run.Fresh.{with_objects};
+ghost use Rattle.std.specs.{Prelude.{OnOk, option_map}, Option.option_copied};
+ghost use Rattle.do_machine.specs.{State.is_open, run.Fresh.with_objects};
 ghost use Rattle.do_network.specs.Counting.{packet_of};
-ghost use Rattle.do_part.specs.Filled.{made_values};
-ghost use Rattle.do_part.specs.Names.{AreStored, values_of};
-ghost use Rattle.do_effects.specs.Doing.{doing};
-ghost use Rattle.do_effects.specs.Room.{HasRoom, IsWithin};
+ghost use Rattle.do_part.specs.{Filled.made_values, Names.{AreStored, values_of}};
+ghost use Rattle.do_effects.specs.{Doing.doing, Room.{HasRoom, IsWithin}};
 ghost use Rattle.do_rules.specs.Ruling.{names_in};
-ghost use Rattle.do_effects.specs.Taking.{gained, gains, to_gain};
-ghost use Rattle.do_effects.specs.Tidy.{IsTidy};
+ghost use Rattle.do_effects.specs.{Taking.{gained, gains, to_gain}, Tidy.IsTidy};
 
 use crate::changing::Core;
 use do_base::{NodeId, Oid, Shown, Token};

@@ -1,19 +1,14 @@
 -- How often calls are waited for and served, once frames change.
-use Rattle.std.proofs.Common.{◌≡◌, ◌==◌, ◌&&◌, ◌+◌, ◌≤◌, ℕ, Bool, true, false, not, List, []}
-use Rattle.std.proofs.Common.{◌∷◌, filter, map, refl, sym, arith}
-use Rattle.std.specs.Prelude.{if◌then◌else◌}
-use Rattle.std.specs.Bool.{beq}
-use Rattle.std.proofs.lemmas.Bool.Decides.{nat_tests}
-use Rattle.do_behave.specs.declared.invocation.Reason.{Reason}
 use Rattle.do_behave.specs.declared.invocation.Reason.TheVariants as reasons
-use Rattle.do_machine.specs.declared.node.LateCall.{LateCall}
-use Rattle.do_machine.specs.Lists.{change_first}
+use Rattle.std.proofs.Common.{◌≡◌, ◌==◌, ◌&&◌, ◌+◌, ◌≤◌, ℕ, Bool, true, false, not, List, [], ◌∷◌}
+use Rattle.std.proofs.Common.{filter, map, refl, sym, arith}
+use Rattle.std.{specs.{Prelude.if◌then◌else◌, Bool.beq}, proofs.lemmas.Bool.Decides.nat_tests}
+use Rattle.do_behave.specs.declared.invocation.Reason.{Reason}
+use Rattle.do_machine.specs.{declared.node.LateCall.LateCall, Lists.change_first}
 use Rattle.do_machine.specs.take.Awaiting.{AnsweredCall, is_answered, is_for_root}
-use Rattle.do_facts.specs.Net.{total}
-use Rattle.do_facts.specs.calls.Calls.{Calls, Frame, Idle, Lower, On, Wait}
+use Rattle.do_facts.specs.{Net.total, calls.Calls.{Calls, Frame, Idle, Lower, On, Wait}}
 use Rattle.do_facts.specs.calls.Facts.{late_of, number_late, number_on, numbers, on_of, serves_of}
-use Rattle.do_facts.specs.calls.Facts.{waits}
-use Rattle.do_facts.specs.calls.Moves.{idle, is_call, is_first_lower, is_on}
+use Rattle.do_facts.specs.calls.{Facts.waits, Moves.{idle, is_call, is_first_lower, is_on}}
 use Rattle.do_facts.specs.calls.Moves.{first_rested, rested, without_peer}
 use Rattle.do_facts.proofs.SumsOfLists.{changed_le, changed_same, filtered_le, filtered_same}
 use Rattle.do_facts.proofs.SumsOfLists.{mapped_le, mapped_same, number_if, total_le}

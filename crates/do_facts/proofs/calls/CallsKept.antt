@@ -1,25 +1,20 @@
 -- Whatever happens, each call stays in one place.
+use Rattle.do_facts.proofs.calls.CallMoves as Call
+use Rattle.do_facts.proofs.calls.CallsEnd as Ended
+use Rattle.do_facts.proofs.calls.TopMoves
 use Rattle.std.proofs.Common.{◌≡◌, ◌==◌, ◌++◌, ◌≤◌, ℕ, Bool, true, false, List, [], refl, arith}
-use Rattle.std.specs.Prelude.{if◌then◌else◌}
-use Rattle.std.proofs.lemmas.Bool.Decides.{nat_tests}
+use Rattle.std.{specs.Prelude.if◌then◌else◌, proofs.lemmas.Bool.Decides.nat_tests}
 use Rattle.do_machine.specs.take.Awaiting.{AnsweredCall}
-use Rattle.do_facts.specs.Net.{Net, StandFirst}
-use Rattle.do_facts.specs.Moves.{Happening, Happens, Keeps, Lost, Moved, net_then, with_wire}
-use Rattle.do_facts.specs.calls.Calls.{Answer, Atom, Called, Calls, RootAnswer, RootAsk}
-use Rattle.do_facts.specs.calls.Facts.{CallsHold, OneCall, waits}
+use Rattle.do_facts.specs.{Net.{Net, StandFirst}, Moves.{Happening, Happens, Keeps, Lost, Moved}}
+use Rattle.do_facts.specs.{Moves.{net_then, with_wire}, calls.Calls.{Answer, Atom, Called, Calls}}
+use Rattle.do_facts.specs.calls.{Calls.{RootAnswer, RootAsk}, Facts.{CallsHold, OneCall, waits}}
 use Rattle.do_facts.specs.calls.Moves.{Asks, Begins, Closes, Drops, Finishes, Gives, GivesUp, Move}
 use Rattle.do_facts.specs.calls.Moves.{Receives, Refuses, Replies, Returns, Serves, Starts}
 use Rattle.do_facts.specs.calls.Moves.{answered_call, call_rules, may, moved, note, opens, takes}
-use Rattle.do_facts.proofs.FirstOnWire.{first_of}
-use Rattle.do_facts.proofs.Notes.{total-append}
-use Rattle.do_facts.proofs.calls.CallMoves as Call
-use Rattle.do_facts.proofs.calls.CallsEnd as Ended
-use Rattle.do_facts.proofs.calls.CallsEnd.{numbers_stay}
+use Rattle.do_facts.proofs.{FirstOnWire.first_of, Notes.total-append, calls.CallsEnd.numbers_stay}
 use Rattle.do_facts.proofs.calls.CallCounts.{changed_numbers, changed_serves, others_wait}
 use Rattle.do_facts.proofs.calls.CallCounts.{parted_numbers, parted_serves, parted_waits}
-use Rattle.do_facts.proofs.calls.CallCounts.{waits_at_most}
-use Rattle.do_facts.proofs.links.ListsChanged.{open_less}
-use Rattle.do_facts.proofs.calls.TopMoves
+use Rattle.do_facts.proofs.{calls.CallCounts.waits_at_most, links.ListsChanged.open_less}
 use Rattle.do_facts.proofs.calls.TopMoves.{After, now, other, shaped_now}
 
 module _ (net : Net Calls Atom) (a : ℕ) (hold : CallsHold net) where

@@ -1,36 +1,24 @@
 -- What leaves the calls of a node, and what answers and closing make of them.
+use Rattle.do_facts.specs.calls.Moves as Move
 use Rattle.std.proofs.Common.{◌≡◌, ◌++◌, ℕ, Bool, true, not, List, [], ◌∷◌, map, arith, filter}
-use Rattle.std.proofs.Common.{refl, sym, ap, ◌∙◌, subst}
-use Rattle.std.specs.List.{list_any}
+use Rattle.std.{proofs.Common.{refl, sym, ap, ◌∙◌, subst}, specs.List.list_any}
 use Rattle.do_base.specs.names.Names.{ObjectName}
 use Rattle.do_packet.specs.Met.{has_object}
-use Rattle.do_class.specs.declared.packet.Name.{Name}
-use Rattle.do_class.specs.declared.packet.Name.TheVariants.{Lent}
-use Rattle.do_behave.specs.declared.invocation.Invocation.{Invocation}
-use Rattle.do_behave.specs.declared.invocation.Waited.{Waited}
+use Rattle.do_class.specs.declared.packet.Name.{Name, TheVariants.Lent}
+use Rattle.do_behave.specs.declared.invocation.{Invocation.Invocation, Waited.Waited}
 use Rattle.do_behave.specs.declared.invocation.Answer.{Answer as Given}
-use Rattle.do_machine.specs.declared.node.LateCall.{LateCall}
-use Rattle.do_machine.specs.declared.node.Node.{Node}
-use Rattle.do_machine.specs.declared.node.Wanted.{Wanted}
-use Rattle.do_machine.specs.declared.state.Effect.{Effect}
-use Rattle.do_machine.specs.Effect.{each, only}
-use Rattle.do_machine.specs.Lists.{change_first}
+use Rattle.do_machine.specs.declared.node.{LateCall.LateCall, Node.Node, Wanted.Wanted}
+use Rattle.do_machine.specs.{declared.state.Effect.Effect, Effect.{each, only}, Lists.change_first}
 use Rattle.do_machine.specs.State.{is_open}
 use Rattle.do_machine.specs.ends.Closing.{asked_of, closing, parted, without_answer}
-use Rattle.do_machine.specs.held.Kept.{kept}
-use Rattle.do_machine.specs.held.Leaving.{freeing, leaving, left}
-use Rattle.do_machine.specs.held.Refers.{node_objects}
+use Rattle.do_machine.specs.held.{Kept.kept, Leaving.{freeing, leaving, left}, Refers.node_objects}
 use Rattle.do_machine.specs.lend.Asking.{asking, same_wanted, settling, wanted}
 use Rattle.do_machine.specs.take.Awaiting.{AnsweredCall, answering, late_answered, stack_answered}
 use Rattle.do_machine.specs.take.Receipt.{receiving_name}
-use Rattle.do_facts.specs.Moves.{Runs}
-use Rattle.do_facts.specs.View.{AreMoves, posted}
+use Rattle.do_facts.specs.{Moves.Runs, View.{AreMoves, posted}}
 use Rattle.do_facts.specs.calls.Calls.{Calls, Frame, calls, calls_of, frame_of}
-use Rattle.do_facts.specs.calls.Moves as Move
 use Rattle.do_facts.specs.calls.Moves.{answered_call, call_rules, is_on, note, rested, without_peer}
-use Rattle.do_facts.proofs.Chains.{either}
-use Rattle.do_facts.proofs.CommitAsNet.{posted_behind}
-use Rattle.do_facts.proofs.Runs.{moves_once, stands_by}
+use Rattle.do_facts.proofs.{Chains.either, CommitAsNet.posted_behind, Runs.{moves_once, stands_by}}
 
 -- An effect that leaves the calls, and says nothing of calls
 pub record IsQuiet (n : Node) (e : Effect) : Type 0 where

@@ -1,31 +1,19 @@
 -- Each call is in one place in every state that a machine comes to.
-use Rattle.std.proofs.Common.{◌≡◌, ◌==◌, ℕ, true, false, not, List, []}
-use Rattle.std.proofs.Common.{◌∷◌, filter, refl, sym, ap, ◌∙◌, subst, arith}
-use Rattle.std.specs.List.{list_any}
+use Rattle.std.proofs.Common.{◌≡◌, ◌==◌, ℕ, true, false, not, List, [], ◌∷◌, filter, refl, sym, ap}
+use Rattle.std.{proofs.Common.{◌∙◌, subst, arith}, specs.List.list_any}
 use Rattle.std.proofs.lemmas.Bool.Decides.{nat_tests}
 use Rattle.do_base.specs.declared.events.event.Event.{Event}
 use Rattle.do_class.specs.Class.{Class}
-use Rattle.do_machine.specs.declared.state.Seat.{Seat}
-use Rattle.do_machine.specs.declared.state.State.{State}
-use Rattle.do_machine.specs.Step.{step}
-use Rattle.do_machine.specs.World.{opening}
+use Rattle.do_machine.specs.{declared.state.{Seat.Seat, State.State}, Step.step, World.opening}
 use Rattle.do_machine.specs.run.Run.{Acting}
-use Rattle.do_facts.proofs.machine.passing.Linked.{opening_queues, queues_stay}
-use Rattle.do_facts.specs.Net.{Net}
-use Rattle.do_facts.specs.ByEvents.{IsBy}
-use Rattle.do_facts.specs.Moves.{Reaches}
-use Rattle.do_facts.specs.Reached.{reached}
-use Rattle.do_facts.specs.View.{net_of, part_seen}
-use Rattle.do_facts.specs.calls.Calls.{Atom, Calls, calls}
-use Rattle.do_facts.specs.calls.Facts.{AnswersAreKnown, CallsAreKept, CallsHold}
-use Rattle.do_facts.specs.calls.Moves.{AreShaped, answered_call, call_rules, opens}
-use Rattle.do_facts.proofs.ReachedStates.{holds_of_reached}
-use Rattle.do_facts.proofs.OpeningAsNet.{opening_parts, opening_wires}
-use Rattle.do_facts.proofs.Paths.{stays}
-use Rattle.do_facts.proofs.StepReaches.{by_step}
-use Rattle.do_facts.proofs.calls.Bridge.{IsShaped, call_bridge}
-use Rattle.do_facts.proofs.calls.CallsKept.{calls_keep}
-use Rattle.do_facts.proofs.calls.CallCounts.{waits_at_most}
+use Rattle.do_facts.{proofs.machine.passing.Linked.{opening_queues, queues_stay}, specs.Net.Net}
+use Rattle.do_facts.specs.{ByEvents.IsBy, Moves.Reaches, Reached.reached, View.{net_of, part_seen}}
+use Rattle.do_facts.specs.calls.{Calls.{Atom, Calls, calls}, Facts.{AnswersAreKnown, CallsAreKept}}
+use Rattle.do_facts.specs.calls.{Facts.CallsHold, Moves.{AreShaped, answered_call, call_rules}}
+use Rattle.do_facts.{specs.calls.Moves.opens, proofs.ReachedStates.holds_of_reached}
+use Rattle.do_facts.proofs.{OpeningAsNet.{opening_parts, opening_wires}, Paths.stays}
+use Rattle.do_facts.proofs.{StepReaches.by_step, calls.Bridge.{IsShaped, call_bridge}}
+use Rattle.do_facts.proofs.calls.{CallsKept.calls_keep, CallCounts.waits_at_most}
 
 -- a node that waits for nothing, and is apart from itself
 record IsNew (port : ℕ) (p : Calls) : Type 0 where

@@ -1,37 +1,25 @@
 -- A run is moves of a node's calls.
+use Rattle.do_behave.specs.declared.invocation.InvState.TheVariants as states
+use Rattle.do_behave.specs.declared.invocation.Reason.TheVariants as reasons
+use Rattle.do_machine.specs.declared.verdict.Request.TheVariants as requests
+use Rattle.do_facts.specs.calls.Moves as Move
 use Rattle.std.proofs.Common.{◌≡◌, ◌∙◌, ℕ, true, false, List, [], ◌∷◌, map, refl, sym, ap, subst}
 use Rattle.std.specs.Prelude.{Option, Some, None, option_map}
-use Rattle.do_behave.specs.declared.invocation.Answer.{Answer}
-use Rattle.do_behave.specs.declared.invocation.Answer.TheVariants.{Given}
-use Rattle.do_behave.specs.declared.invocation.Invocation.{Invocation}
-use Rattle.do_behave.specs.declared.invocation.InvState.{InvState}
-use Rattle.do_behave.specs.declared.invocation.InvState.TheVariants as states
+use Rattle.do_behave.specs.declared.invocation.Answer.{Answer, TheVariants.Given}
+use Rattle.do_behave.specs.declared.invocation.{Invocation.Invocation, InvState.InvState}
 use Rattle.do_behave.specs.declared.invocation.Reason.{Reason}
-use Rattle.do_behave.specs.declared.invocation.Reason.TheVariants as reasons
-use Rattle.do_machine.specs.declared.node.Node.{Node}
-use Rattle.do_machine.specs.declared.state.Effect.{Effect}
-use Rattle.do_machine.specs.declared.verdict.Request.{Request}
-use Rattle.do_machine.specs.declared.verdict.Request.TheVariants as requests
-use Rattle.do_machine.specs.declared.verdict.Verdict.{Verdict}
-use Rattle.do_machine.specs.declared.verdict.Verdict.TheVariants.{Asks, Begins, Fails}
+use Rattle.do_machine.specs.declared.{node.Node.Node, state.Effect.Effect, verdict.Request.Request}
+use Rattle.do_machine.specs.declared.verdict.Verdict.{Verdict, TheVariants.{Asks, Begins, Fails}}
 use Rattle.do_machine.specs.declared.verdict.Verdict.TheVariants.{Returns, Says, Steps, Vends}
-use Rattle.do_machine.specs.Context.{Context, RunContext}
-use Rattle.do_machine.specs.State.{is_open}
-use Rattle.do_machine.specs.run.Delivery.{below_answered}
-use Rattle.do_machine.specs.run.Acts.{act_rule}
-use Rattle.do_machine.specs.run.Run.{Acting, answer_rule, next_act, run_effect, run_on, state_rule}
-use Rattle.do_machine.specs.run.Verdicts.{effect_of}
-use Rattle.do_facts.proofs.IsSent.{IsSent}
-use Rattle.do_facts.specs.Net.{Note}
-use Rattle.do_facts.specs.Moves.{Runs}
-use Rattle.do_facts.specs.View.{AreMoves, posted}
-use Rattle.do_facts.specs.calls.Calls.{Answer as Answers, Atom, Calls, Frame, Idle, calls}
-use Rattle.do_facts.specs.calls.Calls.{calls_of, frame_of, wait_of}
-use Rattle.do_facts.specs.calls.Moves as Move
+use Rattle.do_machine.specs.{Context.{Context, RunContext}, State.is_open}
+use Rattle.do_machine.specs.run.{Delivery.below_answered, Acts.act_rule, Run.{Acting, answer_rule}}
+use Rattle.do_machine.specs.run.{Run.{next_act, run_effect, run_on, state_rule}, Verdicts.effect_of}
+use Rattle.do_facts.{proofs.IsSent.IsSent, specs.{Net.Note, Moves.Runs, View.{AreMoves, posted}}}
+use Rattle.do_facts.specs.calls.Calls.{Answer as Answers, Atom, Calls, Frame, Idle, calls, calls_of}
+use Rattle.do_facts.specs.calls.Calls.{frame_of, wait_of}
 use Rattle.do_facts.specs.calls.Moves.{call_rules, first_rested, idle, is_call}
 use Rattle.do_facts.proofs.Deliveries.{Delivers, by_delivery, by_failing}
-use Rattle.do_facts.proofs.Runs.{moves_once, stands_by}
-use Rattle.do_facts.proofs.AsksOverOpenEnds.{by_act, by_answer}
+use Rattle.do_facts.proofs.{Runs.{moves_once, stands_by}, AsksOverOpenEnds.{by_act, by_answer}}
 
 -- an effect is moves that take nothing, where there is one
 abbrev pub MovesIf : Node → Option Effect → Type 0

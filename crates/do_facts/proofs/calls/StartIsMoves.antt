@@ -1,30 +1,21 @@
 -- A start and a time-out are moves of a node's calls.
+use Rattle.do_behave.specs.declared.invocation.InvState.TheVariants as states
+use Rattle.do_behave.specs.declared.invocation.Reason.TheVariants as reasons
+use Rattle.do_facts.specs.calls.Moves as Move
 use Rattle.std.proofs.Common.{◌≡◌, ◌∙◌, ℕ, not, List, [], ◌∷◌, map, refl, sym, ap, subst}
 use Rattle.std.specs.Prelude.{Option, Some, None, option_map, unwrap_or}
 use Rattle.do_base.specs.declared.values.value.Value.{Value}
 use Rattle.do_class.specs.Class.{Class}
-use Rattle.do_behave.specs.declared.invocation.Invocation.{Invocation}
-use Rattle.do_behave.specs.declared.invocation.InvState.{InvState}
-use Rattle.do_behave.specs.declared.invocation.InvState.TheVariants as states
-use Rattle.do_behave.specs.declared.invocation.Reason.TheVariants as reasons
-use Rattle.do_machine.specs.declared.node.LateCall.{LateCall}
-use Rattle.do_machine.specs.declared.node.Node.{Node}
+use Rattle.do_behave.specs.declared.invocation.{Invocation.Invocation, InvState.InvState}
+use Rattle.do_machine.specs.declared.node.{LateCall.LateCall, Node.Node}
 use Rattle.do_sig.specs.Calls.{args_fit}
-use Rattle.do_machine.specs.Context.{Found, method_for, own_class}
-use Rattle.do_machine.specs.Effect.{only}
-use Rattle.do_machine.specs.Lists.{inserted}
-use Rattle.do_machine.specs.State.{own}
-use Rattle.do_machine.specs.Start.{begun, is_busy, start_effect}
+use Rattle.do_machine.specs.{Context.{Found, method_for, own_class}, Effect.only, Lists.inserted}
+use Rattle.do_machine.specs.{State.own, Start.{begun, is_busy, start_effect}}
 use Rattle.do_machine.specs.ends.TimeOut.{give_up, late_lt, time_out, time_out_on}
-use Rattle.do_machine.specs.run.Fresh.{fresh, pushed}
-use Rattle.do_machine.specs.take.Awaiting.{is_for_root}
-use Rattle.do_facts.specs.Moves.{Runs}
-use Rattle.do_facts.specs.calls.Calls.{Frame, Idle, On, calls_of, frame_of, wait_of}
-use Rattle.do_facts.specs.calls.Moves as Move
+use Rattle.do_machine.specs.{run.Fresh.{fresh, pushed}, take.Awaiting.is_for_root}
+use Rattle.do_facts.specs.{Moves.Runs, calls.Calls.{Frame, Idle, On, calls_of, frame_of, wait_of}}
 use Rattle.do_facts.specs.calls.Moves.{call_rules, first_rested}
-use Rattle.do_facts.proofs.Chains.{either, found_or}
-use Rattle.do_facts.proofs.Runs.{moves_once}
-use Rattle.do_facts.proofs.calls.RunIsMoves.{MovesIf}
+use Rattle.do_facts.proofs.{Chains.{either, found_or}, Runs.moves_once, calls.RunIsMoves.MovesIf}
 
 -- an invocation, if there is one, is one that a start begins
 abbrev IsStart : Option Invocation → Type 0

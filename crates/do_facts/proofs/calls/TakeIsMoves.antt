@@ -1,40 +1,25 @@
 -- Taking an item is moves of a node's calls.
+use Rattle.do_behave.specs.declared.invocation.Reason.TheVariants as reasons
+use Rattle.do_machine.specs.declared.item.Item.TheVariants as items
+use Rattle.do_facts.specs.calls.Calls as Atom
+use Rattle.do_facts.specs.calls.Moves as Move
 use Rattle.std.proofs.Common.{◌≡◌, ◌++◌, ℕ, true, false, List, [], ◌∷◌, refl, sym, ap, ◌∙◌, subst}
 use Rattle.std.specs.Prelude.{Err, Ok, Result, is_some}
-use Rattle.do_base.specs.names.Names.{ObjectName, TokenName}
-use Rattle.do_base.specs.declared.events.exception.Exc.{Exc}
+use Rattle.do_base.specs.{names.Names.{ObjectName, TokenName}, declared.events.exception.Exc.Exc}
 use Rattle.do_base.specs.declared.values.value.Value.{Value}
-use Rattle.do_class.specs.declared.ids.MethodId.{MethodId}
-use Rattle.do_class.specs.declared.packet.Packet.{Packet}
-use Rattle.do_behave.specs.declared.invocation.Reason.TheVariants as reasons
+use Rattle.do_class.specs.declared.{ids.MethodId.MethodId, packet.Packet.Packet}
 use Rattle.do_behave.specs.declared.invocation.Answer.TheVariants.{Raised}
-use Rattle.do_machine.specs.declared.item.Item.{Item}
-use Rattle.do_machine.specs.declared.item.Item.TheVariants as items
-use Rattle.do_machine.specs.declared.item.Message.{Message}
-use Rattle.do_machine.specs.declared.node.Node.{Node}
-use Rattle.do_machine.specs.declared.node.Wanted.{Wanted}
-use Rattle.do_machine.specs.declared.state.Effect.{Effect}
-use Rattle.do_machine.specs.Context.{Context}
-use Rattle.do_machine.specs.Effect.{each, only}
-use Rattle.do_machine.specs.Items.{exported}
-use Rattle.do_machine.specs.Objects.{object_at}
-use Rattle.do_machine.specs.State.{is_open, own, stored}
-use Rattle.do_machine.specs.lend.Asking.{ask_over, granting, wanted, without_wanted}
-use Rattle.do_machine.specs.run.Fresh.{fresh, pushed, with_objects}
-use Rattle.do_machine.specs.take.Awaiting.{values_answer}
-use Rattle.do_machine.specs.take.Receipt.{arrived, received, receiving_name}
-use Rattle.do_machine.specs.take.Requests.{admission, refusing, request}
+use Rattle.do_machine.specs.declared.{item.{Item.Item, Message.Message}, node.Node.Node}
+use Rattle.do_machine.specs.{declared.{node.Wanted.Wanted, state.Effect.Effect}, Context.Context}
+use Rattle.do_machine.specs.{Effect.{each, only}, Items.exported, Objects.object_at}
+use Rattle.do_machine.specs.{State.{is_open, own, stored}, lend.Asking.{ask_over, granting, wanted}}
+use Rattle.do_machine.specs.{lend.Asking.without_wanted, run.Fresh.{fresh, pushed, with_objects}}
+use Rattle.do_machine.specs.take.{Awaiting.values_answer, Receipt.{arrived, received}}
+use Rattle.do_machine.specs.take.{Receipt.receiving_name, Requests.{admission, refusing, request}}
 use Rattle.do_machine.specs.take.Take.{holding, method_call, root_call, take_effect, values_arrival}
-use Rattle.do_facts.specs.Net.{Note, noted}
-use Rattle.do_facts.specs.Moves.{Runs}
-use Rattle.do_facts.specs.View.{AreMoves, posted}
-use Rattle.do_facts.specs.calls.Calls as Atom
-use Rattle.do_facts.specs.calls.Calls.{atoms, calls, calls_of}
-use Rattle.do_facts.specs.calls.Moves as Move
-use Rattle.do_facts.specs.calls.Moves.{call_rules, idle, note}
-use Rattle.do_facts.proofs.Chains.{either}
-use Rattle.do_facts.proofs.CommitAsNet.{posted_behind}
-use Rattle.do_facts.proofs.Runs.{moves_once, stands_by}
+use Rattle.do_facts.specs.{Net.{Note, noted}, Moves.Runs, View.{AreMoves, posted}}
+use Rattle.do_facts.specs.calls.{Calls.{atoms, calls, calls_of}, Moves.{call_rules, idle, note}}
+use Rattle.do_facts.proofs.{Chains.either, CommitAsNet.posted_behind, Runs.{moves_once, stands_by}}
 use Rattle.do_facts.proofs.calls.CallsLeft.{IsQuiet, by_answering, by_closing, quiet_each}
 use Rattle.do_facts.proofs.calls.CallsLeft.{quiet_name, quiet_settling}
 

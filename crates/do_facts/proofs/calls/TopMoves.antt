@@ -1,13 +1,11 @@
 -- Moves of the top invocation keep each call in one place.
-use Rattle.std.proofs.Common.{◌≡◌, ◌≢◌, ◌==◌, ◌+◌, ℕ, Bool, true, false, cond, List, [], ◌∷◌}
-use Rattle.std.proofs.Common.{refl, sym, ap, ◌∙◌, subst, arith}
-use Rattle.std.specs.Prelude.{if◌then◌else◌}
-use Rattle.std.specs.Bool.{beq}
+use Rattle.do_behave.specs.declared.invocation.Reason.TheVariants as reasons
+use Rattle.do_facts.proofs.calls.CallMoves as Call
+use Rattle.std.proofs.Common.{◌≡◌, ◌≢◌, ◌==◌, ◌+◌, ℕ, Bool, true, false, cond, List, [], ◌∷◌, refl}
+use Rattle.std.{proofs.Common.{sym, ap, ◌∙◌, subst, arith}, specs.{Prelude.if◌then◌else◌, Bool.beq}}
 use Rattle.std.proofs.lemmas.Bool.Decides.{nat_tests}
 use Rattle.do_behave.specs.declared.invocation.Reason.{Reason}
-use Rattle.do_behave.specs.declared.invocation.Reason.TheVariants as reasons
-use Rattle.do_machine.specs.declared.node.LateCall.{LateCall}
-use Rattle.do_machine.specs.ends.TimeOut.{late_lt}
+use Rattle.do_machine.specs.{declared.node.LateCall.LateCall, ends.TimeOut.late_lt}
 use Rattle.do_machine.specs.take.Awaiting.{AnsweredCall}
 use Rattle.do_facts.specs.Net.{Net, Note, net_after, total, with_part}
 use Rattle.do_facts.specs.calls.Calls.{Answer, Atom, Called, Calls, Frame, On, RootAsk, Lower}
@@ -17,9 +15,7 @@ use Rattle.do_facts.specs.calls.Moves.{AreShaped, Asks, Begins, Drops, Finishes,
 use Rattle.do_facts.specs.calls.Moves.{Replies, Returns, Starts, behind, first_rested, first_waits}
 use Rattle.do_facts.specs.calls.Moves.{idle, lower, may, moved, note, opens, posts, takes}
 use Rattle.do_facts.proofs.SumsOfLists.{number_if, total_inserted}
-use Rattle.do_facts.proofs.calls.CallMoves as Call
-use Rattle.do_facts.proofs.calls.CallsEnd.{number_given, numbers_stay}
-use Rattle.do_facts.proofs.calls.StacksShaped.{shaped_moved}
+use Rattle.do_facts.proofs.calls.{CallsEnd.{number_given, numbers_stay}, StacksShaped.shaped_moved}
 use Rattle.do_facts.proofs.calls.CallCounts.{rested_numbers, rested_on, rested_serves, serves_none}
 
 -- which calls an invocation waits for that asked a peer

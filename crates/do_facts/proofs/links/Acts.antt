@@ -1,8 +1,6 @@
 -- The moves of an effect of a node free nothing: that follows it.
 use Rattle.std.proofs.Common.{List, [], ◌∷◌}
-use Rattle.do_facts.specs.Net.{Note}
-use Rattle.do_facts.specs.Moves.{Mays, Rules, Runs}
-use Rattle.do_facts.specs.links.Links.{Atom, Links}
+use Rattle.do_facts.specs.{Net.Note, Moves.{Mays, Rules, Runs}, links.Links.{Atom, Links}}
 use Rattle.do_facts.specs.links.Moves.{Move, Strikes, link_rules, may, moved, posts, takes}
 use Rattle.do_facts.proofs.Runs.{moves_once}
 

@@ -1,11 +1,8 @@
 -- How the names of a message are named.
 use Rattle.std.specs.Prelude.{Bool, List, [], suc, true, ℕ, ◌&&◌, ◌∷◌, ◌≡◌}
 use Rattle.do_base.specs.names.Names.{ObjectName}
-use Rattle.do_class.specs.declared.packet.Name.{Name}
-use Rattle.do_class.specs.declared.packet.Name.TheVariants.{Lent, Mine, Yours}
-use Rattle.do_machine.specs.declared.node.Node.{Node}
-use Rattle.do_machine.specs.Objects.{object_at}
-use Rattle.do_machine.specs.State.{is_known, is_open}
+use Rattle.do_class.specs.declared.packet.Name.{Name, TheVariants.{Lent, Mine, Yours}}
+use Rattle.do_machine.specs.{declared.node.Node.Node, Objects.object_at, State.{is_known, is_open}}
 use Rattle.do_facts.specs.links.Moves.{is_there}
 
 -- a node may name a foreign object that it knows, over an open end

@@ -1,18 +1,14 @@
 -- Each ask stays in one place, whatever moves.
-use Rattle.std.specs.Prelude.{if◌then◌else◌}
-use Rattle.std.specs.List.{list_any}
-use Rattle.std.proofs.Common.{◌≡◌, ◌≢◌, ℕ, true, false, List, [], ◌∷◌, arith}
-use Rattle.std.proofs.lemmas.Bool.Decides.{nat_tests}
+use Rattle.std.{specs.{Prelude.if◌then◌else◌, List.list_any}, proofs.Common.{◌≡◌, ◌≢◌, ℕ, true}}
+use Rattle.std.proofs.{Common.{false, List, [], ◌∷◌, arith}, lemmas.Bool.Decides.nat_tests}
 use Rattle.do_base.specs.names.Names.{ObjectName, TokenName}
-use Rattle.do_machine.specs.declared.node.Wanted.{Wanted}
-use Rattle.do_machine.specs.lend.Asking.{same_wanted, wanted}
+use Rattle.do_machine.specs.{declared.node.Wanted.Wanted, lend.Asking.{same_wanted, wanted}}
 use Rattle.do_machine.specs.Objects.{object_at}
 use Rattle.do_facts.specs.Net.{Net, Note, net_after}
 use Rattle.do_facts.specs.links.Links.{Ask, Atom, End, Gone, Granted, Lent, Links, Settled}
 use Rattle.do_facts.specs.links.Moves.{Lends, Settles, closed, moved, note, opens, without_ask}
 use Rattle.do_facts.specs.links.Facts.{EachAsk, answer_of, ask_of, asked_in, same3}
-use Rattle.do_facts.proofs.Notes.{total-append}
-use Rattle.do_facts.proofs.links.ListsChanged.{asked_less, is_ask, open_less}
+use Rattle.do_facts.proofs.{Notes.total-append, links.ListsChanged.{asked_less, is_ask, open_less}}
 
 ruleset steps = (nat_tests, total-append)
 

@@ -1,30 +1,20 @@
 -- What a node asks for and settles is moves of its links.
+use Rattle.do_machine.specs.declared.item.Item.TheVariants as items
+use Rattle.do_facts.specs.links.Links as Atom
 use Rattle.std.proofs.Common.{◌≡◌, ◌==◌, ℕ, Bool, true, false, cond, not, List, [], ◌∷◌, fold, map}
-use Rattle.std.proofs.Common.{refl, sym, ap, ◌∙◌, subst}
-use Rattle.std.specs.List.{flat_map, list_any}
+use Rattle.std.{proofs.Common.{refl, sym, ap, ◌∙◌, subst}, specs.List.{flat_map, list_any}}
 use Rattle.do_base.specs.names.Names.{ObjectName}
-use Rattle.do_class.specs.declared.packet.Name.{Name}
-use Rattle.do_class.specs.declared.packet.Name.TheVariants.{Lent, Mine, Yours}
-use Rattle.do_machine.specs.declared.node.Node.{Node}
-use Rattle.do_machine.specs.declared.node.Wanted.{Wanted}
-use Rattle.do_machine.specs.declared.state.Effect.{Effect}
-use Rattle.do_machine.specs.Effect.{each, only, queueing}
-use Rattle.do_machine.specs.Items.{is_exported, name_naming, named_as}
-use Rattle.do_machine.specs.Objects.{joined, object_at}
-use Rattle.do_machine.specs.State.{is_open}
+use Rattle.do_class.specs.declared.packet.Name.{Name, TheVariants.{Lent, Mine, Yours}}
+use Rattle.do_machine.specs.declared.{node.{Node.Node, Wanted.Wanted}, state.Effect.Effect}
+use Rattle.do_machine.specs.{Effect.{each, only, queueing}, Items.{is_exported, name_naming}}
+use Rattle.do_machine.specs.{Items.named_as, Objects.{joined, object_at}, State.is_open}
 use Rattle.do_machine.specs.lend.Asking.{asking, same_wanted, settling, wanted, with_wanted}
 use Rattle.do_machine.specs.take.Receipt.{receiving_name}
-use Rattle.do_machine.specs.declared.item.Item.TheVariants as items
-use Rattle.do_facts.specs.Net.{noted}
-use Rattle.do_facts.specs.Moves.{Runs}
-use Rattle.do_facts.specs.View.{posted}
-use Rattle.do_facts.specs.links.Links as Atom
+use Rattle.do_facts.specs.{Net.noted, Moves.Runs, View.posted}
 use Rattle.do_facts.specs.links.Links.{Links, links, links_of, name_atoms}
 use Rattle.do_facts.specs.links.Moves.{Asks, AsksOnce, Hears, Holds, Returns, note, telling}
-use Rattle.do_facts.proofs.Chains.{either, is_closed, not_closed}
-use Rattle.do_facts.proofs.CommitAsNet.{posted_behind}
-use Rattle.do_facts.proofs.Runs.{runs_on, stands}
-use Rattle.do_facts.proofs.links.Acts.{act_rules, acts_once}
+use Rattle.do_facts.proofs.{Chains.{either, is_closed, not_closed}, CommitAsNet.posted_behind}
+use Rattle.do_facts.proofs.{Runs.{runs_on, stands}, links.Acts.{act_rules, acts_once}}
 
 -- the links of a node that holds other objects
 abbrev pub holding_links : List ObjectName → Node → Links

@@ -1,30 +1,20 @@
 -- Every rule of a step is moves of its node's links.
 use Rattle.std.proofs.Common.{◌≡◌, ◌==◌, ℕ, Bool, true, false, cond, not, List, [], ◌∷◌, filter}
-use Rattle.std.proofs.Common.{refl, ap, ◌∙◌, sym, arith}
-use Rattle.std.specs.List.{list_any}
-use Rattle.std.proofs.lemmas.Bool.{eqb-true}
-use Rattle.std.proofs.lemmas.Bool.Decides.{nat_tests}
+use Rattle.std.{proofs.Common.{refl, ap, ◌∙◌, sym, arith}, specs.List.list_any}
+use Rattle.std.proofs.lemmas.Bool.{eqb-true, Decides.nat_tests}
 use Rattle.std.specs.Prelude.{None, Option, Some}
 use Rattle.do_base.specs.names.Names.{TokenName}
-use Rattle.do_machine.specs.declared.node.Node.{Node}
-use Rattle.do_machine.specs.declared.state.Effect.{Effect}
-use Rattle.do_machine.specs.Start.{start_effect}
-use Rattle.do_machine.specs.ends.TimeOut.{time_out}
-use Rattle.do_machine.specs.run.Run.{run_effect}
-use Rattle.do_facts.specs.Net.{atoms_of}
-use Rattle.do_facts.specs.links.Links.{Atom, Links, links}
+use Rattle.do_machine.specs.{declared.{node.Node.Node, state.Effect.Effect}, Start.start_effect}
+use Rattle.do_machine.specs.{ends.TimeOut.time_out, run.Run.run_effect}
+use Rattle.do_facts.specs.{Net.atoms_of, links.Links.{Atom, Links, links}}
 use Rattle.do_facts.specs.links.Moves.{Asks, Closes, Ends, GivesUp, Grants, Leaves, Lends, Mentions}
 use Rattle.do_facts.specs.links.Moves.{Misses, Move, Names, Receives, Refuses, Returns, link_rules}
-use Rattle.do_facts.specs.links.Moves.{may, moved, note, opens, posts, telling}
-use Rattle.do_facts.specs.links.Sound.{IsSound}
+use Rattle.do_facts.specs.links.{Moves.{may, moved, note, opens, posts, telling}, Sound.IsSound}
 use Rattle.do_facts.specs.View.{AreMovesIf}
-use Rattle.do_facts.proofs.Bridge.{Bridge}
-use Rattle.do_facts.proofs.links.Acts.{act_rules, runs_moves}
-use Rattle.do_facts.proofs.links.ClosingIsMoves.{by_closing}
-use Rattle.do_facts.proofs.links.LeavingIsMoves.{by_leaving}
+use Rattle.do_facts.proofs.{Bridge.Bridge, links.Acts.{act_rules, runs_moves}}
+use Rattle.do_facts.proofs.links.{ClosingIsMoves.by_closing, LeavingIsMoves.by_leaving}
 use Rattle.do_facts.proofs.links.RunIsMoves.{by_run, by_start, by_time_out}
-use Rattle.do_facts.proofs.links.PartsAreSound.{sound_moved}
-use Rattle.do_facts.proofs.links.TakeIsMoves.{by_take}
+use Rattle.do_facts.proofs.links.{PartsAreSound.sound_moved, TakeIsMoves.by_take}
 
 module _ (p : Links) (peer : ℕ) (h : opens p peer ≡ false) where
   -- nothing goes to another peer than one over an open end

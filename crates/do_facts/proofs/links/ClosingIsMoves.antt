@@ -1,29 +1,19 @@
 -- Closing an end is moves of a node's links.
 use Rattle.std.proofs.Common.{◌≡◌, ◌==◌, ◌++◌, ℕ, true, false, not, List, [], ◌∷◌, filter, refl}
-use Rattle.std.proofs.Common.{sym, ap, ◌∙◌, subst, arith, inl, inr}
-use Rattle.std.specs.List.{list_any}
+use Rattle.std.{proofs.Common.{sym, ap, ◌∙◌, subst, arith, inl, inr}, specs.List.list_any}
 use Rattle.std.proofs.lemmas.Bool.Decides.{nat_tests}
-use Rattle.do_machine.specs.declared.node.Node.{Node}
-use Rattle.do_machine.specs.declared.node.Wanted.{Wanted}
-use Rattle.do_machine.specs.Effect.{each}
-use Rattle.do_machine.specs.Lists.{IsIn}
-use Rattle.do_machine.specs.State.{is_open}
-use Rattle.do_machine.specs.ends.Closing.{asked_of, closing, parted}
+use Rattle.do_machine.specs.{declared.node.{Node.Node, Wanted.Wanted}, Effect.each, Lists.IsIn}
+use Rattle.do_machine.specs.{State.is_open, ends.Closing.{asked_of, closing, parted}}
 use Rattle.do_machine.specs.lend.Asking.{same_wanted, settling}
-use Rattle.do_facts.specs.StandOnce.{StandOnce}
-use Rattle.do_facts.specs.Moves.{Runs}
-use Rattle.do_facts.specs.View.{AreMoves, posted}
+use Rattle.do_facts.specs.{StandOnce.StandOnce, Moves.Runs, View.{AreMoves, posted}}
 use Rattle.do_facts.specs.links.Links.{Links, links, links_of}
 use Rattle.do_facts.specs.links.Moves.{Closes, GivesUp, closed, has_wanted, opens, without_ask}
-use Rattle.do_facts.specs.links.Sound.{IsSound}
-use Rattle.do_facts.proofs.CommitAsNet.{posted_behind}
+use Rattle.do_facts.{specs.links.Sound.IsSound, proofs.CommitAsNet.posted_behind}
 use Rattle.do_facts.proofs.OnceInLists.{apart_in, found_in, in_filtered, once_filtered}
 use Rattle.do_facts.proofs.OnceInLists.{passing_taken, still_there, taken_out}
-use Rattle.do_facts.proofs.Runs.{runs_on, stands}
-use Rattle.do_facts.proofs.links.AskingIsMoves.{settled_posts}
-use Rattle.do_facts.proofs.links.SameIsEqual.{wanted_is, wanted_itself}
-use Rattle.do_facts.proofs.links.Acts.{act_rules, acts_once}
-use Rattle.do_facts.proofs.walk.SmallEffects.{settled_node, settling_node}
+use Rattle.do_facts.proofs.{Runs.{runs_on, stands}, links.AskingIsMoves.settled_posts}
+use Rattle.do_facts.proofs.links.{SameIsEqual.{wanted_is, wanted_itself}, Acts.act_rules}
+use Rattle.do_facts.proofs.{links.Acts.acts_once, walk.SmallEffects.{settled_node, settling_node}}
 
 -- the links with other asks
 abbrev with_asks : List Wanted → Links → Links

@@ -1,29 +1,17 @@
 -- The entries of a state, as a net of links shows them.
-use Rattle.std.proofs.Common.{◌≡◌, ◌==◌, ◌+◌, ◌&&◌, ◌||◌, ℕ, Bool, true, false, List, []}
-use Rattle.std.proofs.Common.{◌∷◌, map, refl, ap, ◌∙◌, arith}
-use Rattle.std.specs.Prelude.{None, Option, Some, nat_lt}
-use Rattle.std.specs.List.{flat_map, list_any}
-use Rattle.std.proofs.lemmas.Bool.Decides.{nat_tests}
-use Rattle.do_class.specs.declared.packet.Name.{Name}
-use Rattle.do_class.specs.declared.packet.Name.TheVariants.{Lent, Mine, Yours}
-use Rattle.do_packet.specs.Met.{has_object}
-use Rattle.do_machine.specs.declared.item.Item.{Item}
 use Rattle.do_machine.specs.declared.item.Item.TheVariants as items
-use Rattle.do_machine.specs.declared.node.Node.{Node}
-use Rattle.do_machine.specs.declared.state.State.{State}
-use Rattle.do_machine.specs.Entry.{has_entry, is_holder}
-use Rattle.do_machine.specs.Items.{Released, exported, is_exported, is_released, name_naming}
-use Rattle.do_machine.specs.Items.{named_as, naming, released}
-use Rattle.do_machine.specs.Lists.{some_passes}
-use Rattle.do_machine.specs.Objects.{object_at}
-use Rattle.do_machine.specs.State.{is_open, node, queue}
-use Rattle.do_facts.specs.Net.{total}
-use Rattle.do_facts.specs.View.{net_of, part_seen, wire_seen}
-use Rattle.do_facts.specs.links.Facts.{open_in}
-use Rattle.do_facts.specs.links.Links.{Atom, Links, atoms, links, name_atoms}
-use Rattle.do_facts.specs.links.Moves.{opens}
-use Rattle.do_facts.proofs.Notes.{total-append}
-use Rattle.do_facts.proofs.SumsOfLists.{number_if}
+use Rattle.std.proofs.Common.{◌≡◌, ◌==◌, ◌+◌, ◌&&◌, ◌||◌, ℕ, Bool, true, false, List, [], ◌∷◌, map}
+use Rattle.std.{proofs.Common.{refl, ap, ◌∙◌, arith}, specs.Prelude.{None, Option, Some, nat_lt}}
+use Rattle.std.{specs.List.{flat_map, list_any}, proofs.lemmas.Bool.Decides.nat_tests}
+use Rattle.do_class.specs.declared.packet.Name.{Name, TheVariants.{Lent, Mine, Yours}}
+use Rattle.do_packet.specs.Met.{has_object}
+use Rattle.do_machine.specs.declared.{item.Item.Item, node.Node.Node, state.State.State}
+use Rattle.do_machine.specs.{Entry.{has_entry, is_holder}, Items.{Released, exported, is_exported}}
+use Rattle.do_machine.specs.Items.{is_released, name_naming, named_as, naming, released}
+use Rattle.do_machine.specs.{Lists.some_passes, Objects.object_at, State.{is_open, node, queue}}
+use Rattle.do_facts.specs.{Net.total, View.{net_of, part_seen, wire_seen}, links.Facts.open_in}
+use Rattle.do_facts.specs.links.{Links.{Atom, Links, atoms, links, name_atoms}, Moves.opens}
+use Rattle.do_facts.proofs.{Notes.total-append, SumsOfLists.number_if}
 use Rattle.do_facts.proofs.links.EntriesKept.{export_of, holds_in, in_use, release_of}
 
 module _ (test : Item → Bool) (f : Atom → ℕ)

@@ -1,27 +1,19 @@
 -- Of what is in use at a peer a node frees nothing, whatever moves.
+use Rattle.do_facts.specs.links.Links as Atoms
 use Rattle.std.proofs.Common.{◌≡◌, ◌==◌, ◌++◌, ◌+◌, ◌<◌, ◌&&◌, ℕ, Bool, true, false, List, [], ◌∷◌}
-use Rattle.std.proofs.Common.{arith}
-use Rattle.std.specs.Prelude.{if◌then◌else◌}
-use Rattle.std.specs.List.{list_any}
+use Rattle.std.{proofs.Common.arith, specs.{Prelude.if◌then◌else◌, List.list_any}}
 use Rattle.std.proofs.lemmas.Bool.Decides.{nat_tests}
 use Rattle.do_packet.specs.Met.{has_object}
-use Rattle.do_machine.specs.declared.node.Stored.{Stored}
-use Rattle.do_machine.specs.Objects.{object_at}
+use Rattle.do_machine.specs.{declared.node.Stored.Stored, Objects.object_at}
 use Rattle.do_facts.specs.Net.{Net, StandFirst, net_after, total}
 use Rattle.do_facts.specs.Moves.{Happening, Happens, Keeps, Lost, Moved, net_then, with_wire}
-use Rattle.do_facts.specs.links.Facts.{LinksHold, open_in}
-use Rattle.do_facts.specs.links.Links as Atoms
-use Rattle.do_facts.specs.links.Links.{Atom, End, Granted, Left, Links, Mine}
-use Rattle.do_facts.specs.links.Moves.{Asks, AsksOnce, Closes, Ends, Frees, GivesUp, Grants, Hears}
-use Rattle.do_facts.specs.links.Moves.{Holds, Leaves, Misses, Move, Names}
+use Rattle.do_facts.specs.links.{Facts.{LinksHold, open_in}, Links.{Atom, End, Granted, Left}}
+use Rattle.do_facts.specs.links.{Links.{Links, Mine}, Moves.{Asks, AsksOnce, Closes, Ends, Frees}}
+use Rattle.do_facts.specs.links.Moves.{GivesUp, Grants, Hears, Holds, Leaves, Misses, Move, Names}
 use Rattle.do_facts.specs.links.Moves.{Receives, Refuses, Returns, Settles, Stores, Strikes}
 use Rattle.do_facts.specs.links.Moves.{is_there, may, moved, note, opens, posts, stores, takes}
-use Rattle.do_facts.proofs.FirstOnWire.{first_of}
-use Rattle.do_facts.proofs.Notes.{total-append}
-use Rattle.do_facts.proofs.links.Acts.{IsAct, act_rules}
-use Rattle.do_facts.proofs.links.LinksKept.{links_keep}
-use Rattle.do_facts.proofs.links.ListsChanged.{open_less}
-use Rattle.do_facts.proofs.links.PlainMoves.{other}
+use Rattle.do_facts.proofs.{FirstOnWire.first_of, Notes.total-append, links.Acts.{IsAct, act_rules}}
+use Rattle.do_facts.proofs.links.{LinksKept.links_keep, ListsChanged.open_less, PlainMoves.other}
 use Rattle.do_facts.proofs.links.HeldChanged.{held_apart, held_less, held_more, serials_held}
 
 ruleset steps = (nat_tests, total-append)

@@ -1,38 +1,21 @@
 -- In every state that a machine comes to, an object of which a peer has an entry is stored.
 use Rattle.std.proofs.Common.{◌≡◌, ◌<◌, ◌&&◌, ℕ, Bool, true, List, [], refl, sym, ap, ◌∙◌, subst}
-use Rattle.std.proofs.Common.{arith}
-use Rattle.std.specs.Prelude.{None, Option, Some, is_some, nat_lt}
+use Rattle.std.{proofs.Common.arith, specs.Prelude.{None, Option, Some, is_some, nat_lt}}
 use Rattle.std.proofs.lemmas.Bool.Decides.{nat_tests}
-use Rattle.do_base.specs.declared.events.event.Event.{Event}
-use Rattle.do_base.specs.names.Names.{ObjectName}
+use Rattle.do_base.specs.{declared.events.event.Event.Event, names.Names.ObjectName}
 use Rattle.do_class.specs.Class.{Class}
-use Rattle.do_machine.specs.declared.node.Node.{Node}
-use Rattle.do_machine.specs.declared.state.Seat.{Seat}
-use Rattle.do_machine.specs.declared.state.State.{State}
-use Rattle.do_machine.specs.Context.{around}
-use Rattle.do_machine.specs.Entry.{has_entry}
-use Rattle.do_machine.specs.Lists.{some_passes}
-use Rattle.do_machine.specs.Objects.{object_at}
-use Rattle.do_machine.specs.State.{node, stored}
-use Rattle.do_machine.specs.Step.{step}
-use Rattle.do_machine.specs.World.{opening}
-use Rattle.do_machine.specs.held.Kept.{kept}
+use Rattle.do_machine.specs.declared.{node.Node.Node, state.{Seat.Seat, State.State}}
+use Rattle.do_machine.specs.{Context.around, Entry.has_entry, Lists.some_passes, Objects.object_at}
+use Rattle.do_machine.specs.{State.{node, stored}, Step.step, World.opening, held.Kept.kept}
 use Rattle.do_machine.specs.run.Run.{Acting}
-use Rattle.do_facts.specs.Net.{Net, net_after}
-use Rattle.do_facts.specs.Moves.{Moved}
-use Rattle.do_facts.specs.Made.{EnteredAreStored, is_stored}
-use Rattle.do_facts.specs.Reached.{reached}
-use Rattle.do_facts.specs.View.{net_of, part_seen}
-use Rattle.do_facts.specs.links.Facts.{open_in}
-use Rattle.do_facts.specs.links.Links.{Atom, Links, links, links_of}
-use Rattle.do_facts.specs.links.LinksAreKept.{LinksAreKept}
+use Rattle.do_facts.specs.{Net.{Net, net_after}, Moves.Moved, Made.{EnteredAreStored, is_stored}}
+use Rattle.do_facts.specs.{Reached.reached, View.{net_of, part_seen}, links.Facts.open_in}
+use Rattle.do_facts.specs.links.{Links.{Atom, Links, links, links_of}, LinksAreKept.LinksAreKept}
 use Rattle.do_facts.specs.links.Moves.{Strikes, is_there, opens, stores}
 use Rattle.do_facts.proofs.OpeningAsNet.{opening_parts, opening_wires}
-use Rattle.do_facts.proofs.ReachedStates.{holds_of_reached}
-use Rattle.do_facts.proofs.links.EntriesAsNet.{entry_same}
+use Rattle.do_facts.proofs.{ReachedStates.holds_of_reached, links.EntriesAsNet.entry_same}
 use Rattle.do_facts.proofs.links.EntriesKept.{EntriesHold, entries_keep, in_use, strikes}
-use Rattle.do_facts.proofs.links.HeapsGrow.{kept_before}
-use Rattle.do_facts.proofs.links.LinksKept.{links_keep}
+use Rattle.do_facts.proofs.links.{HeapsGrow.kept_before, LinksKept.links_keep}
 use Rattle.do_facts.proofs.links.ReachedLinks.{opening_keeps, step_keeps}
 use Rattle.do_facts.proofs.links.StepsByActs.{freed, step_fact}
 use Rattle.do_facts.proofs.steps.NodesAtHome.{AllAtHome, opening_home, step_home}

@@ -1,17 +1,13 @@
 -- A token that was not given stays nowhere, whatever moves.
-use Rattle.std.specs.Prelude.{if◌then◌else◌}
-use Rattle.std.specs.List.{list_any}
-use Rattle.std.proofs.Common.{◌≡◌, ℕ, true, List, [], ◌∷◌, arith}
-use Rattle.std.proofs.lemmas.Bool.Decides.{nat_tests}
+use Rattle.std.specs.{Prelude.if◌then◌else◌, List.list_any}
+use Rattle.std.proofs.{Common.{◌≡◌, ℕ, true, List, [], ◌∷◌, arith}, lemmas.Bool.Decides.nat_tests}
 use Rattle.do_base.specs.names.Names.{ObjectName}
-use Rattle.do_machine.specs.declared.node.Wanted.{Wanted}
-use Rattle.do_machine.specs.lend.Asking.{same_wanted, wanted}
+use Rattle.do_machine.specs.{declared.node.Wanted.Wanted, lend.Asking.{same_wanted, wanted}}
 use Rattle.do_machine.specs.Objects.{object_at}
 use Rattle.do_facts.specs.Net.{Net, Note, net_after}
 use Rattle.do_facts.specs.links.Links.{Ask, Atom, End, Lent, Links, Settled}
 use Rattle.do_facts.specs.links.Moves.{Lends, Settles, closed, moved, next_lend, note, without_ask}
-use Rattle.do_facts.specs.links.Facts.{EachFresh, asked_in}
-use Rattle.do_facts.proofs.Notes.{total-append}
+use Rattle.do_facts.{specs.links.Facts.{EachFresh, asked_in}, proofs.Notes.total-append}
 use Rattle.do_facts.proofs.links.ListsChanged.{asked_less, is_ask, lends_apart, lends_less}
 use Rattle.do_facts.proofs.links.ListsChanged.{lends_more, lent_apart, lent_less, lent_more}
 

@@ -1,21 +1,14 @@
 -- What is stored once slots are written, objects are made, or some are freed.
-use Rattle.std.proofs.Common.{◌≡◌, ◌==◌, ◌++◌, ◌+◌, ◌<◌, ℕ, Bool, zero, suc, true, false}
-use Rattle.std.proofs.Common.{List, [], ◌∷◌, filter, length, refl, ap, ◌∙◌, sym, arith}
-use Rattle.std.specs.Prelude.{None, Option, Some, is_some}
-use Rattle.std.specs.Option.{option_or}
-use Rattle.std.proofs.lemmas.Bool.Decides.{nat_tests}
-use Rattle.std.proofs.lemmas.List.Folds.{find-append}
+use Rattle.std.proofs.Common.{◌≡◌, ◌==◌, ◌++◌, ◌+◌, ◌<◌, ℕ, Bool, zero, suc, true, false, List, []}
+use Rattle.std.proofs.Common.{◌∷◌, filter, length, refl, ap, ◌∙◌, sym, arith}
+use Rattle.std.specs.{Prelude.{None, Option, Some, is_some}, Option.option_or}
+use Rattle.std.proofs.lemmas.{Bool.Decides.nat_tests, List.Folds.find-append}
 use Rattle.do_behave.specs.declared.act.Write.{Write}
 use Rattle.do_packet.specs.declared.receipt.Made.{Made}
-use Rattle.do_machine.specs.declared.node.Node.{Node}
-use Rattle.do_machine.specs.declared.node.Stored.{Stored}
-use Rattle.do_machine.specs.Lists.{change_first}
-use Rattle.do_machine.specs.State.{stored}
-use Rattle.do_machine.specs.held.Kept.{kept, stays, struck, struck_by}
-use Rattle.do_machine.specs.run.Changes.{with_writes}
-use Rattle.do_machine.specs.run.Fresh.{with_serials}
-use Rattle.do_facts.specs.links.Links.{Links}
-use Rattle.do_facts.specs.links.Moves.{IsGrown, is_there, stores}
+use Rattle.do_machine.specs.{declared.node.{Node.Node, Stored.Stored}, Lists.change_first}
+use Rattle.do_machine.specs.{State.stored, held.Kept.{kept, stays, struck, struck_by}}
+use Rattle.do_machine.specs.run.{Changes.with_writes, Fresh.with_serials}
+use Rattle.do_facts.specs.links.{Links.Links, Moves.{IsGrown, is_there, stores}}
 
 -- the same serials are there, once slots of one object are written
 written_there : (k serial : ℕ) (ws : List Write) (heap : List Stored) →

@@ -1,16 +1,12 @@
 -- What is found among the objects that a node holds, once one more is held or some are left.
 use Rattle.std.proofs.Common.{◌≡◌, ◌==◌, ◌||◌, ℕ, Bool, true, false, cond, not, List, [], ◌∷◌}
 use Rattle.std.proofs.Common.{filter, refl, sym, ◌∙◌, arith}
-use Rattle.std.specs.Prelude.{if◌then◌else◌}
-use Rattle.std.specs.List.{list_any}
-use Rattle.std.proofs.lemmas.Bool.Decides.{nat_tests}
-use Rattle.std.proofs.lemmas.List.Sorted.{list_any-IsPermutation}
+use Rattle.std.specs.{Prelude.if◌then◌else◌, List.list_any}
+use Rattle.std.proofs.lemmas.{Bool.Decides.nat_tests, List.Sorted.list_any-IsPermutation}
 use Rattle.do_base.specs.names.Names.{ObjectName}
 use Rattle.do_packet.specs.Met.{has_object, same_object}
-use Rattle.do_machine.specs.Lists.{inserted}
-use Rattle.do_machine.specs.Objects.{joined, object_at, object_lt}
-use Rattle.do_machine.specs.ends.Closing.{serials_of}
-use Rattle.do_machine.proofs.Inserting.{inserted_moves}
+use Rattle.do_machine.specs.{Lists.inserted, Objects.{joined, object_at, object_lt}}
+use Rattle.do_machine.{specs.ends.Closing.serials_of, proofs.Inserting.inserted_moves}
 
 -- an object is that of a home with a serial
 abbrev pub is_at : ObjectName → ℕ → ℕ → Bool

@@ -1,12 +1,9 @@
 -- What an entry holds up is kept.
 use Rattle.std.proofs.Common.{◌≡◌, ◌==◌, ◌||◌, ℕ, Bool, zero, suc, true, false, List, [], ◌∷◌}
-use Rattle.std.proofs.Common.{filter, length, refl, ap, ◌∙◌, arith}
-use Rattle.std.specs.List.{list_any}
+use Rattle.std.{proofs.Common.{filter, length, refl, ap, ◌∙◌, arith}, specs.List.list_any}
 use Rattle.std.proofs.lemmas.Bool.{eqb-true}
 use Rattle.do_packet.specs.Met.{has_object}
-use Rattle.do_machine.specs.declared.node.Node.{Node}
-use Rattle.do_machine.specs.declared.node.Stored.{Stored}
-use Rattle.do_machine.specs.State.{own}
+use Rattle.do_machine.specs.{declared.node.{Node.Node, Stored.Stored}, State.own}
 use Rattle.do_machine.specs.held.Kept.{is_held_up, is_root, kept, stays, struck, struck_by}
 use Rattle.do_machine.specs.held.Refers.{heap_objects, stack_objects}
 use Rattle.do_facts.specs.links.Moves.{is_there}

@@ -1,25 +1,18 @@
 -- What follows a step is moves of a node's links.
 use Rattle.std.proofs.Common.{◌≡◌, ℕ, Bool, true, false, not, List, [], ◌∷◌, filter, map, refl, sym}
-use Rattle.std.proofs.Common.{ap, ◌∙◌, ◌++◌, ◌||◌, subst, inl, inr}
-use Rattle.std.specs.List.{list_any}
+use Rattle.std.{proofs.Common.{ap, ◌∙◌, ◌++◌, ◌||◌, subst, inl, inr}, specs.List.list_any}
 use Rattle.std.proofs.lemmas.List.Folds.{list_any-append}
 use Rattle.do_base.specs.names.Names.{ObjectName}
 use Rattle.do_packet.specs.Met.{has_object, same_object}
-use Rattle.do_machine.specs.declared.node.Node.{Node}
-use Rattle.do_machine.specs.Lists.{IsIn}
-use Rattle.do_machine.specs.held.Kept.{kept}
+use Rattle.do_machine.specs.{declared.node.Node.Node, Lists.IsIn, held.Kept.kept}
 use Rattle.do_machine.specs.held.Leaving.{freeing, leaving, left}
 use Rattle.do_machine.specs.held.Refers.{heap_objects, node_objects, stack_objects}
-use Rattle.do_facts.specs.StandOnce.{StandOnce}
-use Rattle.do_facts.specs.Moves.{Runs}
-use Rattle.do_facts.specs.View.{AreMoves, posted}
-use Rattle.do_facts.specs.links.Links.{Links, links, links_of}
-use Rattle.do_facts.specs.links.Moves.{Leaves, Strikes, is_in_use, link_rules, moved, opens}
-use Rattle.do_facts.specs.links.Sound.{IsSound}
+use Rattle.do_facts.specs.{StandOnce.StandOnce, Moves.Runs, View.{AreMoves, posted}}
+use Rattle.do_facts.specs.links.{Links.{Links, links, links_of}, Moves.{Leaves, Strikes, is_in_use}}
+use Rattle.do_facts.specs.links.{Moves.{link_rules, moved, opens}, Sound.IsSound}
 use Rattle.do_facts.proofs.OnceInLists.{apart_in, filter_agrees, found_in, in_filtered}
 use Rattle.do_facts.proofs.OnceInLists.{once_filtered, passing_taken, still_there, taken_out}
-use Rattle.do_facts.proofs.Runs.{moves_once, runs_on, stands}
-use Rattle.do_facts.proofs.links.HeapsGrow.{kept_before}
+use Rattle.do_facts.proofs.{Runs.{moves_once, runs_on, stands}, links.HeapsGrow.kept_before}
 use Rattle.do_facts.proofs.links.SameIsEqual.{object_is, object_itself}
 use Rattle.do_facts.proofs.links.Acts.{act_rules, acts_once, runs_moves}
 

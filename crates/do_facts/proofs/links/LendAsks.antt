@@ -1,17 +1,12 @@
 -- Each lend stays in one place, as objects are lent and asked for, and ends closed.
 use Rattle.std.proofs.Common.{◌≡◌, ◌≢◌, ℕ, true, false, List, [], ◌∷◌, arith}
-use Rattle.std.specs.Prelude.{if◌then◌else◌}
-use Rattle.std.specs.List.{list_any}
-use Rattle.std.proofs.lemmas.Bool.Decides.{nat_tests}
+use Rattle.std.{specs.{Prelude.if◌then◌else◌, List.list_any}, proofs.lemmas.Bool.Decides.nat_tests}
 use Rattle.do_base.specs.names.Names.{ObjectName}
-use Rattle.do_machine.specs.declared.node.Wanted.{Wanted}
-use Rattle.do_machine.specs.lend.Asking.{same_wanted, wanted}
+use Rattle.do_machine.specs.{declared.node.Wanted.Wanted, lend.Asking.{same_wanted, wanted}}
 use Rattle.do_machine.specs.Objects.{object_at}
-use Rattle.do_facts.specs.Net.{Net, Note, net_after}
-use Rattle.do_facts.proofs.Notes.{total-append}
-use Rattle.do_facts.specs.links.Links.{Ask, Atom, End, Lent, Links, Settled}
-use Rattle.do_facts.specs.links.Moves.{Lends, Settles, closed, moved, next_lend, note, opens}
-use Rattle.do_facts.specs.links.Moves.{without_ask}
+use Rattle.do_facts.{specs.Net.{Net, Note, net_after}, proofs.Notes.total-append}
+use Rattle.do_facts.specs.links.{Links.{Ask, Atom, End, Lent, Links, Settled}, Moves.Lends}
+use Rattle.do_facts.specs.links.Moves.{Settles, closed, moved, next_lend, note, opens, without_ask}
 use Rattle.do_facts.specs.links.Facts.{EachFresh, EachLend, EachToken, asked_in, lent_in}
 use Rattle.do_facts.proofs.links.ListsChanged.{asked_less, lends_apart, lends_less, lends_more}
 use Rattle.do_facts.proofs.links.ListsChanged.{is_ask, lent_lends, lent_apart, lent_less, lent_more}

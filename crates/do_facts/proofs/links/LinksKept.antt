@@ -1,34 +1,28 @@
 -- Whatever happens, each lend and each ask stays in one place.
+use Rattle.do_facts.specs.links.Links as Atoms
+use Rattle.do_facts.proofs.links.AskMoves as Ask
+use Rattle.do_facts.proofs.links.FreshMoves as Fresh
+use Rattle.do_facts.proofs.links.LendAsks as LendAsk
+use Rattle.do_facts.proofs.links.PlainMoves
 use Rattle.std.proofs.Common.{◌≡◌, ℕ, Bool, true, false, List, [], ◌∷◌, refl, sym, arith, ◌∙◌}
 use Rattle.std.proofs.lemmas.Bool.Decides.{nat_tests}
 use Rattle.do_base.specs.names.Names.{ObjectName, TokenName}
-use Rattle.do_machine.specs.Objects.{object_at}
-use Rattle.do_machine.specs.declared.node.Wanted.{Wanted}
-use Rattle.do_machine.specs.ends.Closing.{serials_of}
-use Rattle.do_machine.specs.lend.Asking.{wanted}
-use Rattle.do_facts.specs.Net.{Net, Note, StandFirst, net_after}
-use Rattle.do_facts.specs.Moves.{Happening, Happens, Keeps, Lost, Moved, net_then}
-use Rattle.do_facts.specs.links.Links as Atoms
-use Rattle.do_facts.specs.links.Links.{Atom, Links}
+use Rattle.do_machine.specs.{Objects.object_at, declared.node.Wanted.Wanted}
+use Rattle.do_machine.specs.{ends.Closing.serials_of, lend.Asking.wanted}
+use Rattle.do_facts.specs.{Net.{Net, Note, StandFirst, net_after}, Moves.{Happening, Happens}}
+use Rattle.do_facts.specs.{Moves.{Keeps, Lost, Moved, net_then}, links.Links.{Atom, Links}}
 use Rattle.do_facts.specs.links.Moves.{Asks, AsksOnce, Closes, Ends, Frees, GivesUp, Grants, Holds}
 use Rattle.do_facts.specs.links.Moves.{Hears, Leaves, Lends, Mentions, Misses, Move, Names}
 use Rattle.do_facts.specs.links.Moves.{Receives, Refuses, Returns, Settles, Stores, Strikes}
 use Rattle.do_facts.specs.links.Moves.{link_rules, may, moved, note, has_wanted, opens, posts}
-use Rattle.do_facts.specs.links.Moves.{takes, telling, without_ask}
-use Rattle.do_facts.specs.links.Facts.{EachAsk, EachFresh, EachLend, EachToken, LinksHold}
-use Rattle.do_facts.specs.links.Facts.{answer_of, ask_of, asked_in, lends_to, same3}
-use Rattle.do_facts.proofs.links.AskMoves as Ask
-use Rattle.do_facts.proofs.links.FreshMoves as Fresh
-use Rattle.do_facts.proofs.links.LendAsks as LendAsk
-use Rattle.do_facts.proofs.links.LinksStay.{NoLends, as_was, at_once, fresh_stay, lends_stay}
-use Rattle.do_facts.proofs.links.LinksStay.{no_lend, nothing_lent, now}
-use Rattle.do_facts.proofs.links.ListsChanged.{asked_more, lend_there}
-use Rattle.do_facts.proofs.links.StoredMoves.{stored_hold}
-use Rattle.do_facts.proofs.links.TokenMoves.{apart_same, asks_lost, fresh_lost, lends_lost}
-use Rattle.do_facts.proofs.links.TokenMoves.{tokens_same, tokens_settled}
-use Rattle.do_facts.proofs.FirstOnWire.{first_of}
-use Rattle.do_facts.proofs.links.PlainMoves
-use Rattle.do_facts.proofs.links.PlainMoves.{Now, closes, other}
+use Rattle.do_facts.specs.links.{Moves.{takes, telling, without_ask}, Facts.{EachAsk, EachFresh}}
+use Rattle.do_facts.specs.links.Facts.{EachLend, EachToken, LinksHold, answer_of, ask_of, asked_in}
+use Rattle.do_facts.{specs.links.Facts.{lends_to, same3}, proofs.links.LinksStay.{NoLends, as_was}}
+use Rattle.do_facts.proofs.links.LinksStay.{at_once, fresh_stay, lends_stay, no_lend, nothing_lent}
+use Rattle.do_facts.proofs.links.{LinksStay.now, ListsChanged.{asked_more, lend_there}}
+use Rattle.do_facts.proofs.links.{StoredMoves.stored_hold, TokenMoves.{apart_same, asks_lost}}
+use Rattle.do_facts.proofs.links.TokenMoves.{fresh_lost, lends_lost, tokens_same, tokens_settled}
+use Rattle.do_facts.proofs.{FirstOnWire.first_of, links.PlainMoves.{Now, closes, other}}
 
 module _ (net : Net Links Atom) (a : ℕ) (hold : LinksHold net) where
   -- the links of the node

@@ -2,16 +2,12 @@
 use Rattle.std.proofs.Common.{◌≡◌, ◌+◌, ◌∙◌, ℕ, Bool, List, [], refl, ap, subst, arith}
 use Rattle.std.specs.List.{list_any}
 use Rattle.do_base.specs.names.Names.{ObjectName}
-use Rattle.do_machine.specs.Objects.{object_at}
-use Rattle.do_machine.specs.lend.Asking.{wanted}
-use Rattle.do_machine.specs.lend.Lending.{is_lend}
+use Rattle.do_machine.specs.{Objects.object_at, lend.{Asking.wanted, Lending.is_lend}}
 use Rattle.do_facts.specs.Net.{Net, Note, StandFirst, atoms_of, net_after, total}
 use Rattle.do_facts.specs.links.Facts.{EachAsk, EachFresh, EachLend, answer_of, ask_of, asked_in}
-use Rattle.do_facts.specs.links.Facts.{back_of, is_lent_to, lend_out, way_of}
-use Rattle.do_facts.specs.links.Links.{Atom, Links}
+use Rattle.do_facts.specs.links.{Facts.{back_of, is_lent_to, lend_out, way_of}, Links.{Atom, Links}}
 use Rattle.do_facts.specs.links.Moves.{has_wanted, note, opens}
-use Rattle.do_facts.proofs.SumsOfLists.{number_if}
-use Rattle.do_facts.proofs.Nets.{net_twice, part_here, total_stays}
+use Rattle.do_facts.proofs.{SumsOfLists.number_if, Nets.{net_twice, part_here, total_stays}}
 use Rattle.std.proofs.lemmas.Bool.Decides.{nat_tests}
 
 -- notes that count for no lend: none is on its way, and none over

@@ -1,21 +1,12 @@
 -- What is found among lends, asks and ends, once one more is there or some are gone.
 use Rattle.std.proofs.Common.{◌≡◌, ◌==◌, ◌++◌, ◌||◌, ℕ, Bool, true, false, not, List, [], ◌∷◌}
 use Rattle.std.proofs.Common.{filter, refl, sym, ◌∙◌, arith}
-use Rattle.std.specs.Prelude.{if◌then◌else◌}
-use Rattle.std.specs.List.{list_any}
-use Rattle.std.proofs.lemmas.Bool.Decides.{nat_tests}
-use Rattle.std.proofs.lemmas.List.Folds.{list_any-append}
-use Rattle.std.proofs.lemmas.List.Sorted.{list_any-IsPermutation}
-use Rattle.do_machine.specs.declared.node.Lend.{Lend}
-use Rattle.do_machine.specs.declared.node.Wanted.{Wanted}
-use Rattle.do_machine.specs.Lists.{inserted}
-use Rattle.do_machine.specs.Objects.{object_at}
-use Rattle.do_machine.specs.lend.Asking.{same_wanted, wanted, wanted_lt}
-use Rattle.do_machine.specs.lend.Lending.{is_lend}
-use Rattle.do_machine.proofs.Inserting.{inserted_moves}
-use Rattle.do_facts.specs.links.Links.{Links}
-use Rattle.do_facts.specs.links.Moves.{closed, opens}
-use Rattle.do_facts.specs.links.Facts.{is_lent_to}
+use Rattle.std.{specs.{Prelude.if◌then◌else◌, List.list_any}, proofs.lemmas.Bool.Decides.nat_tests}
+use Rattle.std.proofs.lemmas.List.{Folds.list_any-append, Sorted.list_any-IsPermutation}
+use Rattle.do_machine.specs.{declared.node.{Lend.Lend, Wanted.Wanted}, Lists.inserted}
+use Rattle.do_machine.specs.{Objects.object_at, lend.Asking.{same_wanted, wanted, wanted_lt}}
+use Rattle.do_machine.{specs.lend.Lending.is_lend, proofs.Inserting.inserted_moves}
+use Rattle.do_facts.specs.links.{Links.Links, Moves.{closed, opens}, Facts.is_lent_to}
 
 -- an ask is one of these numbers
 abbrev pub is_ask : Wanted → ℕ → ℕ → ℕ → ℕ → Bool

@@ -1,13 +1,9 @@
 -- Each object that a message names has a class, and is the sender's own or may be named now.
-use Rattle.std.proofs.Common.{◌≡◌, ◌==◌, ◌++◌, ◌||◌, Bool, true, false, cond, List, [], ◌∷◌}
-use Rattle.std.proofs.Common.{filter, refl}
-use Rattle.std.specs.Prelude.{is_some}
-use Rattle.std.specs.List.{AllByRecursion, flat_map}
-use Rattle.do_base.specs.names.Names.{ObjectName}
-use Rattle.do_base.specs.values.Values.{objects_of}
+use Rattle.std.proofs.Common.{◌≡◌, ◌==◌, ◌++◌, ◌||◌, Bool, true, false, cond, List, [], ◌∷◌, filter}
+use Rattle.std.{proofs.Common.refl, specs.{Prelude.is_some, List.{AllByRecursion, flat_map}}}
+use Rattle.do_base.specs.{names.Names.ObjectName, values.Values.objects_of}
 use Rattle.do_packet.specs.Copies.{Placed, contents, named_at, names_with}
-use Rattle.do_packet.specs.Met.{has_object, is_named, met, met_one, role_of}
-use Rattle.do_packet.specs.Seen.{Sender}
+use Rattle.do_packet.specs.{Met.{has_object, is_named, met, met_one, role_of}, Seen.Sender}
 use Rattle.do_packet.specs.declared.role.Role.TheVariants.{Absent, Copied, Named}
 
 -- an object has a class, and is the sender's own, or one that it may name

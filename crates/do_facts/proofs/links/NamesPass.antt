@@ -1,29 +1,21 @@
 -- What a node names once it moved, it named before, was named to it, or stores.
 use Rattle.std.proofs.Common.{◌≡◌, ◌==◌, ◌&&◌, ◌||◌, ℕ, Bool, true, false, cond, not, List, [], ◌∷◌}
 use Rattle.std.proofs.Common.{filter, map, refl, sym, ap, subst}
-use Rattle.std.specs.Prelude.{All}
-use Rattle.std.specs.List.{AllByRecursion, list_any}
-use Rattle.std.proofs.lemmas.Bool.{eqb-true}
+use Rattle.std.{specs.{Prelude.All, List.{AllByRecursion, list_any}}, proofs.lemmas.Bool.eqb-true}
 use Rattle.std.proofs.lemmas.List.Elements.{All-cons, All-filter, All-head, All-nil, All-push}
-use Rattle.std.proofs.lemmas.List.Elements.{All-tail, All-weaker}
-use Rattle.std.proofs.lemmas.List.Sorted.{All-permutation}
+use Rattle.std.proofs.lemmas.List.{Elements.{All-tail, All-weaker}, Sorted.All-permutation}
 use Rattle.do_base.specs.names.Names.{ObjectName, TokenName}
 use Rattle.do_packet.specs.Met.{has_object, same_object}
-use Rattle.do_machine.specs.declared.node.Wanted.{Wanted}
-use Rattle.do_machine.specs.Lists.{inserted}
-use Rattle.do_machine.specs.Objects.{joined, object_at, object_lt}
-use Rattle.do_machine.specs.ends.Closing.{serials_of}
-use Rattle.do_machine.specs.lend.Asking.{same_wanted, wanted, wanted_lt}
-use Rattle.do_machine.specs.lend.Lending.{is_lend}
+use Rattle.do_machine.specs.{declared.node.Wanted.Wanted, Lists.inserted}
+use Rattle.do_machine.specs.{Objects.{joined, object_at, object_lt}, ends.Closing.serials_of}
+use Rattle.do_machine.specs.lend.{Asking.{same_wanted, wanted, wanted_lt}, Lending.is_lend}
 use Rattle.do_machine.proofs.Inserting.{inserted_moves}
-use Rattle.do_facts.specs.Net.{Note}
-use Rattle.do_facts.specs.links.Links.{Ask, Atom, End, Gone, Granted, Left, Lent, Links, Mine}
-use Rattle.do_facts.specs.links.Links.{Settled, Yours}
-use Rattle.do_facts.specs.links.Moves.{Asks, Closes, Ends, GivesUp, Grants, Holds, Leaves, Lends}
-use Rattle.do_facts.specs.links.Moves.{Mentions, Misses, Move, Names, Receives, Refuses, Returns}
-use Rattle.do_facts.specs.links.Moves.{Settles, Stores, Strikes, closed, may, may_name, moved}
-use Rattle.do_facts.specs.links.Moves.{next_lend, opens, posts, stores, takes, telling, without_ask}
-use Rattle.do_facts.proofs.links.SameIsEqual.{object_is}
+use Rattle.do_facts.specs.{Net.Note, links.Links.{Ask, Atom, End, Gone, Granted, Left, Lent, Links}}
+use Rattle.do_facts.specs.links.{Links.{Mine, Settled, Yours}, Moves.{Asks, Closes, Ends, GivesUp}}
+use Rattle.do_facts.specs.links.Moves.{Grants, Holds, Leaves, Lends, Mentions, Misses, Move, Names}
+use Rattle.do_facts.specs.links.Moves.{Receives, Refuses, Returns, Settles, Stores, Strikes, closed}
+use Rattle.do_facts.specs.links.Moves.{may, may_name, moved, next_lend, opens, posts, stores, takes}
+use Rattle.do_facts.{specs.links.Moves.{telling, without_ask}, proofs.links.SameIsEqual.object_is}
 
 -- each object that a part holds, lends or asks for is such
 pub record NamesOnly (P : ObjectName → Type 0) (p : Links) : Type 0 where

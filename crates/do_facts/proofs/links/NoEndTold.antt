@@ -1,19 +1,16 @@
 -- Over an end that is open no end was told that names an object, whatever happens.
 use Rattle.std.proofs.Common.{◌≡◌, ◌≤◌, ℕ, zero, suc, Bool, true, false, List, [], ◌∷◌, drop}
-use Rattle.std.proofs.Common.{length, refl, arith}
-use Rattle.std.proofs.lemmas.Bool.Decides.{nat_tests}
+use Rattle.std.proofs.{Common.{length, refl, arith}, lemmas.Bool.Decides.nat_tests}
 use Rattle.do_base.specs.names.Names.{TokenName}
 use Rattle.do_machine.specs.ends.Closing.{serials_of}
 use Rattle.do_facts.specs.Net.{Net, Note, atoms_of, net_after, total}
 use Rattle.do_facts.specs.Moves.{Happening, Happens, Keeps, Lost, Moved, net_then}
-use Rattle.do_facts.specs.links.Facts.{EachSilent, told_of}
-use Rattle.do_facts.specs.links.Links.{Ask, Atom, End, Gone, Granted, Left, Lent, Links, Mine}
-use Rattle.do_facts.specs.links.Links.{Settled, Yours}
+use Rattle.do_facts.specs.links.{Facts.{EachSilent, told_of}, Links.{Ask, Atom, End, Gone, Granted}}
+use Rattle.do_facts.specs.links.Links.{Left, Lent, Links, Mine, Settled, Yours}
 use Rattle.do_facts.specs.links.Moves.{Asks, Closes, Ends, GivesUp, Grants, Leaves, Lends, Mentions}
 use Rattle.do_facts.specs.links.Moves.{Misses, Move, Names, Receives, Refuses, Returns, closed}
 use Rattle.do_facts.specs.links.Moves.{link_rules, moved, note, opens, posts, takes, telling}
-use Rattle.do_facts.proofs.Notes.{total-append}
-use Rattle.do_facts.proofs.links.ListsChanged.{open_less, was_open}
+use Rattle.do_facts.proofs.{Notes.total-append, links.ListsChanged.{open_less, was_open}}
 
 -- what is left of a wire counts for no more
 pub total_dropped : (f : Atom → ℕ) (n : ℕ) (xs : List Atom) → total f (drop n xs) ≤ total f xs

@@ -1,19 +1,11 @@
 -- As a machine opens, nothing is lent and nothing is asked for.
 use Rattle.std.proofs.Common.{◌≡◌, ◌==◌, ℕ, false, not, List, [], ◌∷◌, filter, refl, arith}
-use Rattle.std.specs.List.{list_any}
-use Rattle.std.proofs.lemmas.Bool.Decides.{nat_tests}
+use Rattle.std.{specs.List.list_any, proofs.lemmas.Bool.Decides.nat_tests}
 use Rattle.do_class.specs.Class.{Class}
-use Rattle.do_machine.specs.declared.state.Seat.{Seat}
-use Rattle.do_machine.specs.World.{opening}
-use Rattle.do_machine.specs.run.Fresh.{blank}
-use Rattle.do_facts.specs.Net.{Net}
-use Rattle.do_facts.specs.View.{net_of}
-use Rattle.do_facts.specs.links.Facts.{EachSilent, LinksHold}
-use Rattle.do_facts.specs.links.Links.{Atom, Links, links}
-use Rattle.do_facts.specs.links.Moves.{opens}
-use Rattle.do_facts.specs.links.Sound.{IsSound}
-use Rattle.do_facts.proofs.OpeningAsNet.{opening_parts, opening_wires}
-use Rattle.do_facts.proofs.links.HeapsGrow.{new_below}
+use Rattle.do_machine.specs.{declared.state.Seat.Seat, World.opening, run.Fresh.blank}
+use Rattle.do_facts.specs.{Net.Net, View.net_of, links.Facts.{EachSilent, LinksHold}}
+use Rattle.do_facts.specs.links.{Links.{Atom, Links, links}, Moves.opens, Sound.IsSound}
+use Rattle.do_facts.proofs.{OpeningAsNet.{opening_parts, opening_wires}, links.HeapsGrow.new_below}
 
 -- a node that lends nothing and asks for nothing, and is apart from itself
 record IsNew (port : ℕ) (p : Links) : Type 0 where

@@ -4,22 +4,15 @@ use Rattle.std.proofs.Common.{[], ◌∷◌, filter, refl, ap, ◌∙◌, arith,
 use Rattle.std.proofs.lemmas.Bool.Decides.{nat_tests}
 use Rattle.do_base.specs.names.Names.{ObjectName}
 use Rattle.do_packet.specs.Met.{has_object, same_object}
-use Rattle.do_machine.specs.declared.node.Lend.{Lend}
-use Rattle.do_machine.specs.declared.node.Stored.{Stored}
-use Rattle.do_machine.specs.declared.node.Wanted.{Wanted}
-use Rattle.do_machine.specs.Lists.{inserted}
-use Rattle.do_machine.specs.Objects.{joined, object_at, object_lt}
-use Rattle.do_machine.specs.lend.Asking.{same_wanted, wanted, wanted_lt}
-use Rattle.do_machine.specs.lend.Lending.{is_lend}
-use Rattle.do_machine.proofs.Bools.{or_cases}
-use Rattle.do_machine.proofs.Having.{has_all_joined, has_passing, passes_among}
-use Rattle.do_facts.specs.StandOnce.{StandOnce}
-use Rattle.do_facts.specs.links.Links.{Links}
+use Rattle.do_machine.specs.declared.node.{Lend.Lend, Stored.Stored, Wanted.Wanted}
+use Rattle.do_machine.specs.{Lists.inserted, Objects.{joined, object_at, object_lt}}
+use Rattle.do_machine.specs.lend.{Asking.{same_wanted, wanted, wanted_lt}, Lending.is_lend}
+use Rattle.do_machine.proofs.{Bools.or_cases, Having.{has_all_joined, has_passing, passes_among}}
+use Rattle.do_facts.specs.{StandOnce.StandOnce, links.Links.Links}
 use Rattle.do_facts.specs.links.Moves.{Asks, Closes, Ends, GivesUp, Holds, Leaves, Lends, Misses}
 use Rattle.do_facts.specs.links.Moves.{Move, Receives, Settles, Stores, Strikes, closed, is_there}
 use Rattle.do_facts.specs.links.Moves.{may, moved, next_lend, opens, with_held, without_ask}
-use Rattle.do_facts.specs.links.Sound.{IsSound}
-use Rattle.do_facts.proofs.OnceInLists.{once_filtered, once_inserted}
+use Rattle.do_facts.{specs.links.Sound.IsSound, proofs.OnceInLists.{once_filtered, once_inserted}}
 use Rattle.do_facts.proofs.links.SameIsEqual.{object_flips, object_is, wanted_flips}
 use Rattle.do_facts.proofs.links.ListsChanged.{open_less}
 

@@ -1,22 +1,19 @@
 -- Moves that touch no ask keep each lend and each ask in one place.
-use Rattle.std.proofs.Common.{◌≡◌, ◌≢◌, ℕ, true, false, List, [], refl, sym, ap, ◌∙◌}
-use Rattle.do_base.specs.names.Names.{ObjectName, TokenName}
-use Rattle.do_machine.specs.ends.Closing.{serials_of}
-use Rattle.do_facts.specs.Net.{Net, Note, StandFirst, net_after}
 use Rattle.do_facts.specs.links.Links as Atoms
-use Rattle.do_facts.specs.links.Links.{Atom, Links}
-use Rattle.do_facts.specs.links.Moves.{Ends, Frees, Grants, Hears, Holds, Leaves, Lends, Mentions}
-use Rattle.do_facts.specs.links.Moves.{Move, Names, Refuses, closed, moved, note, opens, posts}
-use Rattle.do_facts.specs.links.Moves.{takes}
-use Rattle.do_facts.specs.links.Facts.{EachAsk, LinksHold}
 use Rattle.do_facts.proofs.links.AskMoves as Ask
 use Rattle.do_facts.proofs.links.FreshMoves as Fresh
 use Rattle.do_facts.proofs.links.LendAsks as LendAsk
+use Rattle.std.proofs.Common.{◌≡◌, ◌≢◌, ℕ, true, false, List, [], refl, sym, ap, ◌∙◌}
+use Rattle.do_base.specs.names.Names.{ObjectName, TokenName}
+use Rattle.do_machine.specs.ends.Closing.{serials_of}
+use Rattle.do_facts.specs.{Net.{Net, Note, StandFirst, net_after}, links.Links.{Atom, Links}}
+use Rattle.do_facts.specs.links.Moves.{Ends, Frees, Grants, Hears, Holds, Leaves, Lends, Mentions}
+use Rattle.do_facts.specs.links.Moves.{Move, Names, Refuses, closed, moved, note, opens, posts}
+use Rattle.do_facts.specs.links.{Moves.takes, Facts.{EachAsk, LinksHold}}
 use Rattle.do_facts.proofs.links.LinksStay.{NoAsks, NoLends, asks_stay, at_once, fresh_stay}
 use Rattle.do_facts.proofs.links.LinksStay.{lends_stay, no_ask, no_lend, nothing_asked}
-use Rattle.do_facts.proofs.links.LinksStay.{nothing_lent, now}
-use Rattle.do_facts.proofs.links.TokenMoves.{apart_closed, apart_same, tokens_closed, tokens_lent}
-use Rattle.do_facts.proofs.links.TokenMoves.{tokens_same}
+use Rattle.do_facts.proofs.links.{LinksStay.{nothing_lent, now}, TokenMoves.apart_closed}
+use Rattle.do_facts.proofs.links.TokenMoves.{apart_same, tokens_closed, tokens_lent, tokens_same}
 use Rattle.do_facts.proofs.FirstOnWire.{first_of}
 
 -- an end is closed, and these objects are named by it

@@ -3,39 +3,20 @@ use Rattle.std.proofs.Common.{◌==◌, ◌≡◌, ℕ, Bool, true, false, cond,
 use Rattle.std.specs.Prelude.{Some}
 use Rattle.do_base.specs.declared.events.event.Event.{Event}
 use Rattle.do_class.specs.Class.{Class}
-use Rattle.do_machine.specs.declared.node.Lend.{Lend}
-use Rattle.do_machine.specs.declared.node.Node.{Node}
-use Rattle.do_machine.specs.declared.state.Seat.{Seat}
-use Rattle.do_machine.specs.declared.state.State.{State}
-use Rattle.do_machine.specs.Lists.{IsIn}
-use Rattle.do_machine.specs.State.{node}
-use Rattle.do_machine.specs.Step.{step}
-use Rattle.do_machine.specs.World.{opening}
-use Rattle.do_machine.specs.run.Run.{Acting}
+use Rattle.do_machine.specs.declared.{node.{Lend.Lend, Node.Node}, state.{Seat.Seat, State.State}}
+use Rattle.do_machine.specs.{Lists.IsIn, State.node, Step.step, World.opening, run.Run.Acting}
 use Rattle.do_facts.proofs.machine.passing.Linked.{opening_queues, queues_stay}
-use Rattle.do_facts.specs.Net.{Net}
-use Rattle.do_facts.specs.ByEvents.{IsBy}
-use Rattle.do_facts.specs.Moves.{Happening, Happens, Keeps, Lost, Moved, Reaches, net_then}
-use Rattle.do_facts.specs.Reached.{reached}
-use Rattle.do_facts.specs.View.{net_of, part_seen}
+use Rattle.do_facts.specs.{Net.Net, ByEvents.IsBy, Moves.{Happening, Happens, Keeps, Lost, Moved}}
+use Rattle.do_facts.specs.{Moves.{Reaches, net_then}, Reached.reached, View.{net_of, part_seen}}
 use Rattle.do_facts.specs.links.Facts.{EachSilent, LinksHold, ReportsAreKnown}
-use Rattle.do_facts.specs.links.LinksAreKept.{LinksAreKept}
-use Rattle.do_facts.specs.links.Lasting.{Lasts}
-use Rattle.do_facts.specs.links.Links.{Atom, Links, links, links_of}
-use Rattle.do_facts.specs.links.Moves.{Move, link_rules, opens}
-use Rattle.do_facts.specs.links.Sound.{IsSound}
-use Rattle.do_facts.proofs.NodeRuns.{NodeRuns, by_node}
-use Rattle.do_facts.proofs.Paths.{stays}
-use Rattle.do_facts.proofs.StepReaches.{by_step}
-use Rattle.do_facts.proofs.links.Bridge.{link_bridge}
-use Rattle.do_facts.proofs.links.LendsLast.{lasts}
-use Rattle.do_facts.proofs.links.LinksKept.{links_keep}
-use Rattle.do_facts.proofs.links.OpeningLinks.{opening_hold, opening_silent, opening_sound}
-use Rattle.do_facts.proofs.ReachedStates.{holds_of_reached}
-use Rattle.do_facts.proofs.links.ReportsKnown.{reports_known}
-use Rattle.do_facts.proofs.links.NoEndTold.{silent_keeps}
-use Rattle.do_facts.proofs.links.PartsAreSound.{sound_moved}
-use Rattle.do_facts.proofs.steps.NodeSteps.{node_step}
+use Rattle.do_facts.specs.links.{LinksAreKept.LinksAreKept, Lasting.Lasts, Links.{Atom, Links}}
+use Rattle.do_facts.specs.links.{Links.{links, links_of}, Moves.{Move, link_rules, opens}}
+use Rattle.do_facts.{specs.links.Sound.IsSound, proofs.{NodeRuns.{NodeRuns, by_node}, Paths.stays}}
+use Rattle.do_facts.proofs.{StepReaches.by_step, links.{Bridge.link_bridge, LendsLast.lasts}}
+use Rattle.do_facts.proofs.links.{LinksKept.links_keep, OpeningLinks.{opening_hold, opening_silent}}
+use Rattle.do_facts.proofs.{links.OpeningLinks.opening_sound, ReachedStates.holds_of_reached}
+use Rattle.do_facts.proofs.links.{ReportsKnown.reports_known, NoEndTold.silent_keeps}
+use Rattle.do_facts.proofs.{links.PartsAreSound.sound_moved, steps.NodeSteps.node_step}
 
 -- each part of a net is sound
 abbrev pub AllSound : Net Links Atom → Type 0

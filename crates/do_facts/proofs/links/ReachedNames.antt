@@ -1,41 +1,25 @@
 -- In every state that a machine comes to, each object that is named was made.
-use Rattle.std.proofs.Common.{◌≡◌, ◌++◌, ◌<◌, ℕ, true, List, [], ◌∷◌, map, sym, ap, subst, arith}
-use Rattle.std.specs.Prelude.{All, None, Option, Some, nat_lt}
-use Rattle.std.specs.List.{flat_map}
-use Rattle.std.proofs.lemmas.Bool.Decides.{nat_tests}
-use Rattle.std.proofs.lemmas.List.Elements.{All-cons, All-head, All-map, All-nil, All-same}
-use Rattle.std.proofs.lemmas.List.Elements.{All-tail, All-weaker}
-use Rattle.do_base.specs.declared.events.event.Event.{Event}
-use Rattle.do_base.specs.names.Names.{ObjectName}
-use Rattle.do_class.specs.Class.{Class}
-use Rattle.do_class.specs.declared.packet.Name.{Name}
-use Rattle.do_class.specs.declared.packet.Name.TheVariants.{Lent, Mine, Yours}
-use Rattle.do_machine.specs.declared.item.Item.{Item}
 use Rattle.do_machine.specs.declared.item.Item.TheVariants as items
-use Rattle.do_machine.specs.declared.item.Message.{Message}
-use Rattle.do_machine.specs.declared.node.Node.{Node}
-use Rattle.do_machine.specs.declared.state.Seat.{Seat}
-use Rattle.do_machine.specs.declared.state.State.{State}
-use Rattle.do_machine.specs.Items.{Exported, Mentioned, Naming, Released, name_naming, names}
-use Rattle.do_machine.specs.Items.{naming}
-use Rattle.do_machine.specs.Lists.{some_passes}
-use Rattle.do_machine.specs.State.{node}
-use Rattle.do_machine.specs.Step.{step}
-use Rattle.do_machine.specs.World.{opening}
-use Rattle.do_machine.specs.run.Run.{Acting}
-use Rattle.do_facts.specs.ByEvents.{IsBy}
-use Rattle.do_facts.specs.Made.{NamedAreMade, was_made}
-use Rattle.do_facts.specs.Reached.{reached}
-use Rattle.do_facts.specs.View.{net_of, part_seen, wire_seen}
 use Rattle.do_facts.specs.links.Links as Atoms
+use Rattle.std.proofs.Common.{◌≡◌, ◌++◌, ◌<◌, ℕ, true, List, [], ◌∷◌, map, sym, ap, subst, arith}
+use Rattle.std.specs.{Prelude.{All, None, Option, Some, nat_lt}, List.flat_map}
+use Rattle.std.proofs.lemmas.{Bool.Decides.nat_tests, List.Elements.{All-cons, All-head, All-map}}
+use Rattle.std.proofs.lemmas.List.Elements.{All-nil, All-same, All-tail, All-weaker}
+use Rattle.do_base.specs.{declared.events.event.Event.Event, names.Names.ObjectName}
+use Rattle.do_class.specs.{Class.Class, declared.packet.Name.Name}
+use Rattle.do_class.specs.declared.packet.Name.TheVariants.{Lent, Mine, Yours}
+use Rattle.do_machine.specs.declared.{item.{Item.Item, Message.Message}, node.Node.Node}
+use Rattle.do_machine.specs.{declared.state.{Seat.Seat, State.State}, Items.{Exported, Mentioned}}
+use Rattle.do_machine.specs.Items.{Naming, Released, name_naming, names, naming}
+use Rattle.do_machine.specs.{Lists.some_passes, State.node, Step.step, World.opening}
+use Rattle.do_machine.specs.run.Run.{Acting}
+use Rattle.do_facts.specs.{ByEvents.IsBy, Made.{NamedAreMade, was_made}, Reached.reached}
+use Rattle.do_facts.specs.View.{net_of, part_seen, wire_seen}
 use Rattle.do_facts.specs.links.Links.{Atom, atoms, links, links_of, name_atoms}
-use Rattle.do_facts.specs.links.LinksAreKept.{LinksAreKept}
-use Rattle.do_facts.specs.links.Moves.{link_rules}
-use Rattle.do_facts.proofs.OpeningAsNet.{opening_parts, opening_wires}
-use Rattle.do_facts.proofs.Paths.{stays}
-use Rattle.do_facts.proofs.ReachedStates.{holds_of_reached}
-use Rattle.do_facts.proofs.links.NamesMade.{AllMade, Made, made_keeps}
-use Rattle.do_facts.proofs.links.NamesPass.{NamesOnly, Passes}
+use Rattle.do_facts.specs.links.{LinksAreKept.LinksAreKept, Moves.link_rules}
+use Rattle.do_facts.proofs.{OpeningAsNet.{opening_parts, opening_wires}, Paths.stays}
+use Rattle.do_facts.proofs.{ReachedStates.holds_of_reached, links.NamesMade.{AllMade, Made}}
+use Rattle.do_facts.proofs.links.{NamesMade.made_keeps, NamesPass.{NamesOnly, Passes}}
 use Rattle.do_facts.proofs.links.ReachedLinks.{opening_keeps, step_keeps, step_moves}
 
 -- ---- items as atoms

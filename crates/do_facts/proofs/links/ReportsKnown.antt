@@ -3,8 +3,7 @@ use Rattle.std.proofs.Common.{◌≡◌, ◌≢◌, ◌<◌, ℕ, Bool, true, fa
 use Rattle.std.proofs.lemmas.Bool.Decides.{nat_tests}
 use Rattle.do_facts.specs.Net.{Net}
 use Rattle.do_facts.specs.links.Facts.{LinksHold, ReportsAreKnown, lends_to, open_in, settled}
-use Rattle.do_facts.specs.links.Links.{Atom, Links}
-use Rattle.do_facts.proofs.links.ListsChanged.{lend_there}
+use Rattle.do_facts.{specs.links.Links.{Atom, Links}, proofs.links.ListsChanged.lend_there}
 
 -- each report is known
 pub reports_known : (net : Net Links Atom) → LinksHold net → ReportsAreKnown net

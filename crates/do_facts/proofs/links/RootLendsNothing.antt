@@ -1,36 +1,22 @@
 -- The root of a node is named, and lends nothing.
+use Rattle.do_machine.specs.declared.item.Item.TheVariants as items
 use Rattle.std.proofs.Common.{◌≡◌, ◌==◌, ◌++◌, ℕ, Bool, true, false, cond, List, [], ◌∷◌, refl, ap}
 use Rattle.std.proofs.Common.{filter, ◌∙◌, ◌+◌, subst, append-nil, arith, rules}
-use Rattle.std.specs.Prelude.{None, Option, Some, suc}
-use Rattle.std.specs.List.{filter_map}
+use Rattle.std.specs.{Prelude.{None, Option, Some, suc}, List.filter_map}
 use Rattle.std.proofs.lemmas.Bool.Decides.{nat_tests}
-use Rattle.do_base.specs.names.Names.{ObjectName}
-use Rattle.do_base.specs.values.Values.{objects_of}
-use Rattle.do_base.specs.declared.values.value.Value.{Value}
-use Rattle.do_base.specs.declared.values.value.Value.TheFolds.{the_lemmas}
+use Rattle.do_base.specs.{names.Names.ObjectName, values.Values.objects_of}
+use Rattle.do_base.specs.declared.values.value.Value.{Value, TheFolds.the_lemmas}
 use Rattle.do_base.specs.declared.values.value.Value.TheVariants.{Nil, Obj}
 use Rattle.do_class.specs.declared.packet.Name.TheVariants.{Lent, Mine, Yours}
-use Rattle.do_packet.specs.Copies.{Placed, names_with}
-use Rattle.do_packet.specs.Met.{is_named, met, role_of}
-use Rattle.do_packet.specs.Packing.{Naming, class_at, names_to}
-use Rattle.do_packet.specs.Seen.{Sender}
-use Rattle.do_machine.specs.declared.item.Item.TheVariants as items
-use Rattle.do_machine.specs.declared.node.Lend.{Lend}
-use Rattle.do_machine.specs.Context.{Context}
-use Rattle.do_machine.specs.Effect.{queueing}
-use Rattle.do_machine.specs.Objects.{object_at}
-use Rattle.do_machine.specs.Packing.{packer}
-use Rattle.do_machine.specs.State.{is_open, own}
-use Rattle.do_machine.specs.lend.Lending.{lend_of, lending, lends_of}
-use Rattle.do_machine.specs.run.Acts.{root_value}
+use Rattle.do_packet.specs.{Copies.{Placed, names_with}, Met.{is_named, met, role_of}}
+use Rattle.do_packet.specs.{Packing.{Naming, class_at, names_to}, Seen.Sender}
+use Rattle.do_machine.specs.{declared.node.Lend.Lend, Context.Context, Effect.queueing}
+use Rattle.do_machine.specs.{Objects.object_at, Packing.packer, State.{is_open, own}}
+use Rattle.do_machine.specs.{lend.Lending.{lend_of, lending, lends_of}, run.Acts.root_value}
 use Rattle.do_machine.specs.take.Take.{root_packet}
-use Rattle.do_facts.specs.Moves.{Runs}
-use Rattle.do_facts.specs.View.{AreMoves, posted}
-use Rattle.do_facts.specs.links.Links.{links, links_of}
-use Rattle.do_facts.specs.links.Moves.{is_there}
-use Rattle.do_facts.proofs.links.TokensOfMessages.{owned, to_named}
-use Rattle.do_facts.proofs.links.SendingIsMoves.{sends}
-use Rattle.do_facts.proofs.links.Acts.{act_rules}
+use Rattle.do_facts.specs.{Moves.Runs, View.{AreMoves, posted}, links.Links.{links, links_of}}
+use Rattle.do_facts.{specs.links.Moves.is_there, proofs.links.TokensOfMessages.{owned, to_named}}
+use Rattle.do_facts.proofs.links.{SendingIsMoves.sends, Acts.act_rules}
 
 -- no object is in nil
 objects_of-Nil : objects_of Nil ≡ []

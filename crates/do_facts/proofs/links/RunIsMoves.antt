@@ -1,47 +1,29 @@
 -- A run, a start and a time-out are moves of what a node has of foreign objects.
-use Rattle.std.proofs.Common.{◌≡◌, ◌==◌, ◌++◌, ◌+◌, ℕ, true, List, [], ◌∷◌, refl, sym}
-use Rattle.std.specs.Prelude.{Option, Some, None, option_map}
-use Rattle.do_base.specs.declared.values.value.Value.{Value}
-use Rattle.do_base.specs.declared.values.value.Value.TheVariants.{Nil}
-use Rattle.do_class.specs.Class.{Class}
-use Rattle.do_behave.specs.declared.invocation.Answer.TheVariants.{Given}
-use Rattle.do_behave.specs.declared.invocation.Invocation.{Invocation}
-use Rattle.do_behave.specs.declared.invocation.InvState.{InvState}
 use Rattle.do_behave.specs.declared.invocation.InvState.TheVariants as states
 use Rattle.do_machine.specs.declared.item.Item.TheVariants as items
-use Rattle.do_machine.specs.declared.node.Node.{Node}
-use Rattle.do_machine.specs.declared.state.Effect.{Effect}
-use Rattle.do_machine.specs.declared.verdict.Request.{Request}
 use Rattle.do_machine.specs.declared.verdict.Request.TheVariants as requests
-use Rattle.do_machine.specs.declared.verdict.Verdict.{Verdict}
-use Rattle.do_machine.specs.declared.verdict.Verdict.TheVariants.{Asks, Fails, Makes}
+use Rattle.std.proofs.Common.{◌≡◌, ◌==◌, ◌++◌, ◌+◌, ℕ, true, List, [], ◌∷◌, refl, sym}
+use Rattle.std.specs.Prelude.{Option, Some, None, option_map}
+use Rattle.do_base.specs.declared.values.value.Value.{Value, TheVariants.Nil}
+use Rattle.do_class.specs.Class.{Class}
+use Rattle.do_behave.specs.declared.invocation.{Answer.TheVariants.Given, Invocation.Invocation}
+use Rattle.do_behave.specs.declared.invocation.InvState.{InvState}
+use Rattle.do_machine.specs.declared.{node.Node.Node, state.Effect.Effect, verdict.Request.Request}
+use Rattle.do_machine.specs.declared.verdict.Verdict.{Verdict, TheVariants.{Asks, Fails, Makes}}
 use Rattle.do_machine.specs.declared.verdict.Verdict.TheVariants.{Returns, Steps, Tells}
-use Rattle.do_machine.specs.Context.{Context, RunContext}
-use Rattle.do_machine.specs.Effect.{only}
-use Rattle.do_machine.specs.State.{is_open}
-use Rattle.do_machine.specs.Start.{begun, start_effect}
-use Rattle.do_machine.specs.ends.TimeOut.{give_up, time_out, time_out_on}
-use Rattle.do_machine.specs.run.Answers.{answer_placed}
-use Rattle.do_machine.specs.Lists.{change_first}
+use Rattle.do_machine.specs.{Context.{Context, RunContext}, Effect.only, State.is_open, Start.begun}
+use Rattle.do_machine.specs.{Start.start_effect, ends.TimeOut.{give_up, time_out, time_out_on}}
+use Rattle.do_machine.specs.{run.Answers.answer_placed, Lists.change_first}
 use Rattle.do_machine.specs.run.Changes.{goes_on, stands as waits, uses_number, with_writes}
-use Rattle.do_machine.specs.run.Delivery.{popped, with_top}
-use Rattle.do_machine.specs.run.Fresh.{blank, pushed, with_serials}
+use Rattle.do_machine.specs.run.{Delivery.{popped, with_top}, Fresh.{blank, pushed, with_serials}}
 use Rattle.do_machine.specs.run.Run.{Acting, next_act, run_effect, run_on, state_rule}
 use Rattle.do_machine.specs.run.Verdicts.{effect_of, requesting, waits_for}
-use Rattle.do_facts.proofs.IsSent.{IsRequest, IsSent}
-use Rattle.do_facts.specs.Net.{Note}
-use Rattle.do_facts.specs.Moves.{Runs}
-use Rattle.do_facts.specs.View.{AreMoves}
-use Rattle.do_facts.specs.links.Links.{Atom, Links, links, links_of}
-use Rattle.do_facts.specs.links.Moves.{Stores}
-use Rattle.do_facts.specs.links.Sound.{IsSound}
-use Rattle.do_facts.proofs.Deliveries.{Delivers, by_delivery, by_failing}
-use Rattle.do_facts.proofs.Runs.{stands_by}
-use Rattle.do_facts.proofs.AsksOverOpenEnds.{by_act, by_answer}
-use Rattle.do_facts.proofs.links.TokensOfMessages.{names_lent}
-use Rattle.do_facts.proofs.links.SendingIsMoves.{sends, sends_message}
-use Rattle.do_facts.proofs.links.HeapsGrow.{grown_made, grown_written}
-use Rattle.do_facts.proofs.links.Acts.{act_rules, acts_once}
+use Rattle.do_facts.{proofs.IsSent.{IsRequest, IsSent}, specs.{Net.Note, Moves.Runs, View.AreMoves}}
+use Rattle.do_facts.specs.links.{Links.{Atom, Links, links, links_of}, Moves.Stores, Sound.IsSound}
+use Rattle.do_facts.proofs.{Deliveries.{Delivers, by_delivery, by_failing}, Runs.stands_by}
+use Rattle.do_facts.proofs.{AsksOverOpenEnds.{by_act, by_answer}, links.TokensOfMessages.names_lent}
+use Rattle.do_facts.proofs.links.{SendingIsMoves.{sends, sends_message}, HeapsGrow.grown_made}
+use Rattle.do_facts.proofs.links.{HeapsGrow.grown_written, Acts.{act_rules, acts_once}}
 
 -- the effect of a node is moves that take nothing
 abbrev pub Moves : Node → Effect → Type 0

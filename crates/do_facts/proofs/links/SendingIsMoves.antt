@@ -3,25 +3,16 @@ use Rattle.std.proofs.Common.{◌≡◌, ◌++◌, ◌+◌, ℕ, suc, Bool, true
 use Rattle.std.proofs.Common.{append_assoc, append-nil, arith, length, subst}
 use Rattle.do_base.specs.names.Names.{ObjectName}
 use Rattle.std.specs.List.{filter_map, flat_map}
-use Rattle.do_class.specs.declared.packet.Name.{Name}
-use Rattle.do_class.specs.declared.packet.Name.TheVariants.{Lent, Mine, Yours}
+use Rattle.do_class.specs.declared.packet.Name.{Name, TheVariants.{Lent, Mine, Yours}}
 use Rattle.do_class.specs.declared.packet.Packet.{Packet}
-use Rattle.do_machine.specs.declared.item.Item.{Item}
-use Rattle.do_machine.specs.declared.item.Message.{Message}
-use Rattle.do_machine.specs.declared.node.Lend.{Lend}
-use Rattle.do_machine.specs.declared.node.Node.{Node}
-use Rattle.do_machine.specs.Objects.{object_at}
+use Rattle.do_machine.specs.declared.{item.{Item.Item, Message.Message}, node.Lend.Lend}
+use Rattle.do_machine.specs.{declared.node.Node.Node, Objects.object_at}
 use Rattle.do_machine.specs.lend.Lending.{lend_of, posting}
-use Rattle.do_facts.specs.Net.{noted}
-use Rattle.do_facts.specs.Moves.{Runs}
-use Rattle.do_facts.specs.View.{AreMoves}
-use Rattle.do_facts.specs.links.Links.{Atom, Links, atoms, links, links_of, name_atoms}
-use Rattle.do_facts.specs.links.Links.{packet_atoms}
+use Rattle.do_facts.specs.{Net.noted, Moves.Runs, View.AreMoves, links.Links.{Atom, Links, atoms}}
+use Rattle.do_facts.specs.links.Links.{links, links_of, name_atoms, packet_atoms}
 use Rattle.do_facts.specs.links.Moves.{Lends, Mentions, Names, may_name, moved, opens, stores}
-use Rattle.do_facts.proofs.IsSent.{IsMessage}
-use Rattle.do_facts.proofs.links.AreNamed.{AreNamed, NamedBy, is_usable}
-use Rattle.do_facts.proofs.Runs.{runs_on, stands}
-use Rattle.do_facts.proofs.links.Acts.{act_rules, acts_once}
+use Rattle.do_facts.proofs.{IsSent.IsMessage, links.AreNamed.{AreNamed, NamedBy, is_usable}}
+use Rattle.do_facts.proofs.{Runs.{runs_on, stands}, links.Acts.{act_rules, acts_once}}
 
 module _ (to : ℕ) where
   -- the links once these names are sent

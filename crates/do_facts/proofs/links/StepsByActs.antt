@@ -1,53 +1,31 @@
 -- What moves keep while nothing is freed, and what a node keeps when it frees, every step keeps.
 use Rattle.std.proofs.Common.{◌≡◌, ℕ, true, List, [], ◌∷◌, refl, sym, ap, ◌∙◌, subst}
-use Rattle.std.specs.Prelude.{Some, unwrap_or}
-use Rattle.std.specs.List.{AllByRecursion, flat_map}
-use Rattle.do_base.specs.declared.events.event.Event.{Event}
-use Rattle.do_base.specs.declared.events.event.Event.TheVariants.{Close, Lose, Run, Start, Timeout}
-use Rattle.do_base.specs.declared.events.shown.Shown.{Shown}
+use Rattle.std.specs.{Prelude.{Some, unwrap_or}, List.{AllByRecursion, flat_map}}
+use Rattle.do_base.specs.declared.events.event.Event.{Event, TheVariants.{Close, Lose, Run, Start}}
+use Rattle.do_base.specs.declared.events.{event.Event.TheVariants.Timeout, shown.Shown.Shown}
 use Rattle.do_class.specs.Class.{Class}
-use Rattle.do_machine.specs.declared.item.Item.{Item}
-use Rattle.do_machine.specs.declared.node.Node.{Node}
-use Rattle.do_machine.specs.declared.state.Effect.{Effect}
-use Rattle.do_machine.specs.declared.state.State.{State}
-use Rattle.do_machine.specs.declared.state.Stepped.{Stepped}
-use Rattle.do_machine.specs.Commit.{commit, moved, then_leaves}
-use Rattle.do_machine.specs.Context.{around, context}
-use Rattle.do_machine.specs.Start.{start_effect}
-use Rattle.do_machine.specs.State.{is_open, node, queue}
-use Rattle.do_machine.specs.Step.{step}
-use Rattle.do_machine.specs.ends.TimeOut.{time_out}
-use Rattle.do_machine.specs.held.Kept.{kept}
-use Rattle.do_machine.specs.held.Leaving.{freeing, leaving}
-use Rattle.do_machine.specs.run.Run.{Acting, run_effect}
-use Rattle.do_machine.specs.take.Take.{take_effect}
-use Rattle.do_facts.proofs.machine.follows.Every.{grow_steps}
-use Rattle.do_facts.proofs.machine.follows.States.{changed, requeued}
-use Rattle.do_facts.specs.ByEvents.{IsLossOn, IsMoveOf}
-use Rattle.do_facts.specs.Net.{Net, Note, net_after, noted}
+use Rattle.do_machine.specs.declared.{item.Item.Item, node.Node.Node, state.Effect.Effect}
+use Rattle.do_machine.specs.declared.state.{State.State, Stepped.Stepped}
+use Rattle.do_machine.specs.{Commit.{commit, moved, then_leaves}, Context.{around, context}}
+use Rattle.do_machine.specs.{Start.start_effect, State.{is_open, node, queue}, Step.step}
+use Rattle.do_machine.specs.{ends.TimeOut.time_out, held.{Kept.kept, Leaving.{freeing, leaving}}}
+use Rattle.do_machine.specs.{run.Run.{Acting, run_effect}, take.Take.take_effect}
+use Rattle.do_facts.proofs.machine.follows.{Every.grow_steps, States.{changed, requeued}}
+use Rattle.do_facts.specs.{ByEvents.{IsLossOn, IsMoveOf}, Net.{Net, Note, net_after, noted}}
 use Rattle.do_facts.specs.Moves.{Happening, Keeps, Lost, Moved, Path, Runs, net_then as after}
 use Rattle.do_facts.specs.View.{AreApart, AreMoves, net_of, part_seen, posted}
 use Rattle.do_facts.specs.links.Links.{Atom, Links, atoms, links, links_of}
-use Rattle.do_facts.specs.links.LinksAreKept.{LinksAreKept}
-use Rattle.do_facts.specs.links.Moves.{Move, link_rules, opens}
-use Rattle.do_facts.specs.links.Sound.{IsSound}
-use Rattle.do_facts.specs.steps.IsStep.{Acts, Checks, IsRuleOf, IsStep, Loses, Skips, Takes}
-use Rattle.do_facts.specs.steps.IsStep.{without_oldest}
-use Rattle.do_facts.proofs.EffectReaches.{IsLinked, linked_by, net_by, ok_by}
-use Rattle.do_facts.proofs.Nets.{net_twice, part_here}
-use Rattle.do_facts.proofs.NodeRuns.{moves_there}
-use Rattle.do_facts.proofs.Paths.{reaches_by, stays}
+use Rattle.do_facts.specs.links.{LinksAreKept.LinksAreKept, Moves.{Move, link_rules, opens}}
+use Rattle.do_facts.specs.{links.Sound.IsSound, steps.IsStep.{Acts, Checks, IsRuleOf, IsStep}}
+use Rattle.do_facts.specs.steps.IsStep.{Loses, Skips, Takes, without_oldest}
+use Rattle.do_facts.proofs.{EffectReaches.{IsLinked, linked_by, net_by, ok_by}, Nets.net_twice}
+use Rattle.do_facts.proofs.{Nets.part_here, NodeRuns.moves_there, Paths.{reaches_by, stays}}
 use Rattle.do_facts.proofs.TakeReaches.{here_still, linked_here, linked_still, net_then}
-use Rattle.do_facts.proofs.TakeReaches.{noted_first, wire_here}
-use Rattle.do_facts.proofs.links.Acts.{act_rules, runs_moves}
-use Rattle.do_facts.proofs.links.Bridge.{link_bridge}
-use Rattle.do_facts.proofs.links.ClosingIsMoves.{by_closing}
-use Rattle.do_facts.proofs.links.LeavingIsMoves.{by_dropping}
-use Rattle.do_facts.proofs.links.ReachedLinks.{step_moves}
-use Rattle.do_facts.proofs.links.RunIsMoves.{by_run, by_start, by_time_out}
-use Rattle.do_facts.proofs.links.TakeIsMoves.{by_take}
-use Rattle.do_facts.proofs.steps.EachIsStep.{step_is}
-use Rattle.do_facts.proofs.steps.NodesAtHome.{AllAtHome}
+use Rattle.do_facts.proofs.{TakeReaches.{noted_first, wire_here}, links.Acts.act_rules}
+use Rattle.do_facts.proofs.links.{Acts.runs_moves, Bridge.link_bridge, ClosingIsMoves.by_closing}
+use Rattle.do_facts.proofs.links.{LeavingIsMoves.by_dropping, ReachedLinks.step_moves}
+use Rattle.do_facts.proofs.links.{RunIsMoves.{by_run, by_start, by_time_out}, TakeIsMoves.by_take}
+use Rattle.do_facts.proofs.steps.{EachIsStep.step_is, NodesAtHome.AllAtHome}
 use Rattle.do_facts.proofs.steps.OthersStay.{move_leaves_own}
 
 -- the effect of an event's rule is moves that free nothing

@@ -1,12 +1,9 @@
 -- Whatever a node stores, each lend and each ask is where it was.
-use Rattle.std.proofs.Common.{ℕ, List, [], refl, arith}
-use Rattle.std.proofs.lemmas.Bool.Decides.{nat_tests}
+use Rattle.std.proofs.{Common.{ℕ, List, [], refl, arith}, lemmas.Bool.Decides.nat_tests}
 use Rattle.do_machine.specs.declared.node.Stored.{Stored}
-use Rattle.do_facts.specs.Net.{Net, net_after}
-use Rattle.do_facts.specs.links.Facts.{EachAsk, EachFresh, EachLend, LinksHold}
-use Rattle.do_facts.specs.links.Links.{Atom, Links}
-use Rattle.do_facts.proofs.Notes.{total-append}
-use Rattle.do_facts.proofs.links.TokenMoves.{apart_same, tokens_same}
+use Rattle.do_facts.specs.{Net.{Net, net_after}, links.Facts.{EachAsk, EachFresh, EachLend}}
+use Rattle.do_facts.specs.links.{Facts.LinksHold, Links.{Atom, Links}}
+use Rattle.do_facts.proofs.{Notes.total-append, links.TokenMoves.{apart_same, tokens_same}}
 
 ruleset steps = (nat_tests, total-append)
 

@@ -1,48 +1,31 @@
 -- Taking an item is moves of a node's links.
-use Rattle.std.proofs.Common.{◌≡◌, ◌++◌, ℕ, true, List, [], ◌∷◌, map, fold, refl, sym, ap, ◌∙◌}
-use Rattle.std.proofs.Common.{append-nil, subst}
-use Rattle.std.specs.Prelude.{Err, Ok, Result, is_some}
-use Rattle.do_base.specs.names.Names.{ObjectName, TokenName}
-use Rattle.do_base.specs.declared.events.exception.Exc.{Exc}
-use Rattle.do_base.specs.declared.values.value.Value.{Value}
-use Rattle.do_class.specs.declared.ids.MethodId.{MethodId}
-use Rattle.do_class.specs.declared.packet.Packet.{Packet}
-use Rattle.do_behave.specs.declared.invocation.Reason.{Reason}
 use Rattle.do_behave.specs.declared.invocation.Reason.TheVariants as reasons
-use Rattle.do_machine.specs.declared.item.Item.{Item}
 use Rattle.do_machine.specs.declared.item.Item.TheVariants as items
-use Rattle.do_machine.specs.declared.item.Message.{Message}
-use Rattle.do_machine.specs.declared.node.Node.{Node}
-use Rattle.do_machine.specs.declared.state.Effect.{Effect}
-use Rattle.do_machine.specs.Context.{Context}
-use Rattle.do_machine.specs.Effect.{each, only, queueing}
-use Rattle.do_machine.specs.Items.{is_exported, name_naming, named_as, naming, Released}
-use Rattle.do_machine.specs.Objects.{joined, object_at}
-use Rattle.do_machine.specs.State.{is_open, own, stored}
-use Rattle.do_machine.specs.ends.Closing.{closing}
-use Rattle.do_machine.specs.lend.Asking.{ask_over, granting, settling, wanted, without_wanted}
-use Rattle.do_machine.specs.run.Fresh.{fresh, pushed, with_objects}
-use Rattle.do_machine.specs.take.Receipt.{arrived, received, receiving_name}
-use Rattle.do_machine.specs.take.Requests.{admission, refusing, request}
-use Rattle.do_machine.specs.take.Take.{holding, method_call, root_call, take_effect, values_arrival}
-use Rattle.do_facts.specs.Net.{noted}
-use Rattle.do_facts.specs.Moves.{Runs}
-use Rattle.do_facts.specs.View.{AreMoves, posted}
 use Rattle.do_facts.specs.links.Links as Atom
+use Rattle.std.proofs.Common.{◌≡◌, ◌++◌, ℕ, true, List, [], ◌∷◌, map, fold, refl, sym, ap, ◌∙◌}
+use Rattle.std.{proofs.Common.{append-nil, subst}, specs.Prelude.{Err, Ok, Result, is_some}}
+use Rattle.do_base.specs.{names.Names.{ObjectName, TokenName}, declared.events.exception.Exc.Exc}
+use Rattle.do_base.specs.declared.values.value.Value.{Value}
+use Rattle.do_class.specs.declared.{ids.MethodId.MethodId, packet.Packet.Packet}
+use Rattle.do_behave.specs.declared.invocation.Reason.{Reason}
+use Rattle.do_machine.specs.declared.{item.{Item.Item, Message.Message}, node.Node.Node}
+use Rattle.do_machine.specs.{declared.state.Effect.Effect, Context.Context, Effect.{each, only}}
+use Rattle.do_machine.specs.{Effect.queueing, Items.{is_exported, name_naming, named_as, naming}}
+use Rattle.do_machine.specs.{Items.Released, Objects.{joined, object_at}, State.{is_open, own}}
+use Rattle.do_machine.specs.{State.stored, ends.Closing.closing, lend.Asking.{ask_over, granting}}
+use Rattle.do_machine.specs.{lend.Asking.{settling, wanted, without_wanted}, run.Fresh.fresh}
+use Rattle.do_machine.specs.{run.Fresh.{pushed, with_objects}, take.Receipt.{arrived, received}}
+use Rattle.do_machine.specs.take.{Receipt.receiving_name, Requests.{admission, refusing, request}}
+use Rattle.do_machine.specs.take.Take.{holding, method_call, root_call, take_effect, values_arrival}
+use Rattle.do_facts.specs.{Net.noted, Moves.Runs, View.{AreMoves, posted}}
 use Rattle.do_facts.specs.links.Links.{atoms, links, links_of, packet_atoms}
 use Rattle.do_facts.specs.links.Moves.{Ends, Frees, Grants, Hears, Misses, Receives, Refuses}
-use Rattle.do_facts.specs.links.Moves.{Settles, Stores, note}
-use Rattle.do_facts.specs.links.Sound.{IsSound}
-use Rattle.do_facts.proofs.Chains.{either}
-use Rattle.do_facts.proofs.CommitAsNet.{posted_behind}
-use Rattle.do_facts.proofs.Runs.{runs_on, stands_by}
+use Rattle.do_facts.specs.links.{Moves.{Settles, Stores, note}, Sound.IsSound}
+use Rattle.do_facts.proofs.{Chains.either, CommitAsNet.posted_behind, Runs.{runs_on, stands_by}}
 use Rattle.do_facts.proofs.links.AskingIsMoves.{holding_links, names_received, names_stay}
-use Rattle.do_facts.proofs.links.AskingIsMoves.{settled_posts}
-use Rattle.do_facts.proofs.links.ClosingIsMoves.{closing_ends}
-use Rattle.do_facts.proofs.links.HeapsGrow.{grown_made}
-use Rattle.do_facts.proofs.links.RootLendsNothing.{by_root_ask}
-use Rattle.do_facts.proofs.links.Acts.{act_rules, acts_once}
-use Rattle.do_facts.proofs.walk.SmallEffects.{settling_node}
+use Rattle.do_facts.proofs.links.{AskingIsMoves.settled_posts, ClosingIsMoves.closing_ends}
+use Rattle.do_facts.proofs.links.{HeapsGrow.grown_made, RootLendsNothing.by_root_ask}
+use Rattle.do_facts.proofs.{links.Acts.{act_rules, acts_once}, walk.SmallEffects.settling_node}
 
 -- what comes after a message leaves the links and posts no atom
 record IsQuiet (n : Node) (e : Effect) : Type 0 where

@@ -1,19 +1,14 @@
 -- A token stays that of one object, and a node apart from itself, whatever moves.
 use Rattle.std.proofs.Common.{◌≡◌, ◌==◌, ◌++◌, ℕ, Bool, true, false, cond, List, [], ◌∷◌, ◌⊎◌, inl}
 use Rattle.std.proofs.Common.{inr, refl, sym, ◌∙◌, arith}
-use Rattle.std.specs.Prelude.{if◌then◌else◌}
-use Rattle.std.specs.List.{list_any}
-use Rattle.std.proofs.lemmas.Bool.Decides.{nat_tests}
+use Rattle.std.{specs.{Prelude.if◌then◌else◌, List.list_any}, proofs.lemmas.Bool.Decides.nat_tests}
 use Rattle.do_base.specs.names.Names.{ObjectName}
 use Rattle.do_machine.specs.declared.node.Lend.{Lend}
-use Rattle.do_facts.specs.Net.{Net, Note, net_after}
-use Rattle.do_facts.specs.Moves.{with_wire}
-use Rattle.do_facts.specs.links.Links.{Atom, End, Links}
-use Rattle.do_facts.specs.links.Moves.{Lends, Settles, closed, moved, next_lend}
+use Rattle.do_facts.specs.{Net.{Net, Note, net_after}, Moves.with_wire, links.Links.{Atom, End}}
+use Rattle.do_facts.specs.links.{Links.Links, Moves.{Lends, Settles, closed, moved, next_lend}}
 use Rattle.do_facts.specs.links.Facts.{EachAsk, EachFresh, EachLend, EachToken, is_lent_to, open_in}
-use Rattle.do_facts.proofs.Notes.{total-append}
-use Rattle.do_facts.proofs.links.ListsChanged.{is_lend_of, lent_apart, lent_less, lent_more}
-use Rattle.do_facts.proofs.links.ListsChanged.{open_less}
+use Rattle.do_facts.proofs.{Notes.total-append, links.ListsChanged.{is_lend_of, lent_apart}}
+use Rattle.do_facts.proofs.links.ListsChanged.{lent_less, lent_more, open_less}
 
 ruleset steps = (nat_tests, total-append)
 

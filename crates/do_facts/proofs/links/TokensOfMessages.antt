@@ -3,24 +3,18 @@ use Rattle.std.proofs.Common.{◌≡◌, ◌==◌, ◌++◌, ◌∷◌, ℕ, suc
 use Rattle.std.proofs.Common.{refl, sym, ap, ◌∙◌, ◌||◌, subst, append_assoc, length}
 use Rattle.std.specs.List.{AllByRecursion}
 use Rattle.std.specs.Prelude.{Err, None, Ok, Option, Some, is_some, nat_lt, option_map, unwrap_or}
-use Rattle.std.specs.Result.{result_ok}
-use Rattle.std.proofs.lemmas.Bool.{eqb-true}
+use Rattle.std.{specs.Result.result_ok, proofs.lemmas.Bool.eqb-true}
 use Rattle.do_base.specs.names.Names.{ObjectName}
-use Rattle.do_class.specs.declared.packet.Name.{Name}
-use Rattle.do_class.specs.declared.packet.Name.TheVariants.{Lent, Mine, Yours}
+use Rattle.do_class.specs.declared.packet.Name.{Name, TheVariants.{Lent, Mine, Yours}}
 use Rattle.do_class.specs.declared.packet.Packet.{Packet}
 use Rattle.do_packet.specs.Copies.{Placed, copies_of, most_copies, names_with}
 use Rattle.do_packet.specs.Packing.{Naming, capped, class_at, message_weight, most_weight}
 use Rattle.do_packet.specs.Packing.{name_next, names_to, packed, packed_with, packet_with}
-use Rattle.do_packet.specs.Seen.{Sender}
-use Rattle.do_packet.specs.declared.fault.PackFault.TheVariants.{TooLarge}
-use Rattle.do_machine.specs.declared.node.Stored.{Stored}
-use Rattle.do_machine.specs.Context.{Context, class_seen, own_class}
-use Rattle.do_machine.specs.Objects.{object_at}
-use Rattle.do_machine.specs.State.{is_own, stored}
+use Rattle.do_packet.specs.{Seen.Sender, declared.fault.PackFault.TheVariants.TooLarge}
+use Rattle.do_machine.specs.{declared.node.Stored.Stored, Context.{Context, class_seen, own_class}}
+use Rattle.do_machine.specs.{Objects.object_at, State.{is_own, stored}}
 use Rattle.do_machine.specs.Packing.{packed_for, packer}
-use Rattle.do_facts.specs.links.Moves.{is_there}
-use Rattle.do_facts.proofs.links.AreNamed.{AreNamed, NamedBy}
+use Rattle.do_facts.{specs.links.Moves.is_there, proofs.links.AreNamed.{AreNamed, NamedBy}}
 use Rattle.do_facts.proofs.links.NamedInMessages.{IsNameable, all_nameable}
 
 module _ (s : Sender) (to : ℕ) where

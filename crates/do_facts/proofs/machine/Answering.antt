@@ -1,19 +1,12 @@
 -- Which invocation an answer goes to.
-use Rattle.std.proofs.Common.{◌≡◌, ◌||◌, ℕ, Bool, true, false, List, [], ◌∷◌, ◌++◌, refl, sym}
-use Rattle.std.proofs.Common.{sym, ap, ◌∙◌, arith, subst}
-use Rattle.std.specs.Prelude.{All, IfSome, Option}
-use Rattle.std.specs.List.{list_any}
-use Rattle.std.proofs.lemmas.Grind.{common_steps}
-use Rattle.std.proofs.lemmas.List.Elements.{All-head, All-tail}
-use Rattle.std.proofs.lemmas.List.Sorted.{list_any-IsPermutation}
+use Rattle.std.proofs.Common.{◌≡◌, ◌||◌, ℕ, Bool, true, false, List, [], ◌∷◌, ◌++◌, refl, sym, ap}
+use Rattle.std.{proofs.Common.{◌∙◌, arith, subst}, specs.Prelude.{All, IfSome, Option}}
+use Rattle.std.{specs.List.list_any, proofs.lemmas.Grind.common_steps}
+use Rattle.std.proofs.lemmas.List.{Elements.{All-head, All-tail}, Sorted.list_any-IsPermutation}
 use Rattle.do_base.specs.names.Names.{CallName}
-use Rattle.do_behave.specs.declared.invocation.Answer.{Answer}
-use Rattle.do_behave.specs.declared.invocation.Invocation.{Invocation}
-use Rattle.do_behave.specs.declared.invocation.InvState.TheVariants.{Waits}
-use Rattle.do_behave.specs.declared.invocation.Waited.{Waited}
-use Rattle.do_machine.specs.declared.node.LateCall.{LateCall}
-use Rattle.do_machine.specs.declared.node.Node.{Node}
-use Rattle.do_machine.specs.Lists.{inserted}
+use Rattle.do_behave.specs.declared.invocation.{Answer.Answer, Invocation.Invocation}
+use Rattle.do_behave.specs.declared.invocation.{InvState.TheVariants.Waits, Waited.Waited}
+use Rattle.do_machine.specs.{declared.node.{LateCall.LateCall, Node.Node}, Lists.inserted}
 use Rattle.do_machine.specs.ends.TimeOut.{give_up, late_lt, time_out, time_out_on}
 use Rattle.do_facts.specs.laws.Calls.{IsGivenUp, answered_call}
 use Rattle.do_machine.specs.take.Awaiting.{AnsweredCall, answering, awaits, is_answered}

@@ -1,14 +1,10 @@
 -- The class of an object stays.
 use Rattle.std.proofs.Common.{◌≡◌, ℕ, zero, suc, List, [], ◌∷◌, ◌++◌, Option, Some, ◌==◌, arith}
-use Rattle.std.specs.Prelude.{option_and_then, slice_get}
-use Rattle.std.specs.List.{find}
+use Rattle.std.specs.{Prelude.{option_and_then, slice_get}, List.find}
 use Rattle.do_base.specs.names.Names.{ObjectName}
 use Rattle.do_class.specs.declared.ids.ClassId.{ClassId}
-use Rattle.do_machine.specs.declared.state.Effect.{Effect}
-use Rattle.do_machine.specs.declared.state.Station.{Station}
-use Rattle.do_machine.specs.Commit.{committed, born}
-use Rattle.do_machine.specs.Lists.{change_first}
-use Rattle.do_machine.specs.State.{class_given}
+use Rattle.do_machine.specs.declared.state.{Effect.Effect, Station.Station}
+use Rattle.do_machine.specs.{Commit.{committed, born}, Lists.change_first, State.class_given}
 
 -- what stands at a place of a list stands there in a longer one
 more_given : (cs ds : List ClassId) (k : ℕ) (class : ClassId) → slice_get cs k ≡ Some class →

@@ -1,13 +1,8 @@
 -- Which entries there are.
-use Rattle.std.proofs.Common.{◌≡◌, ◌==◌, ℕ, false, arith}
-use Rattle.std.specs.Prelude.{Some}
+use Rattle.std.{proofs.Common.{◌≡◌, ◌==◌, ℕ, false, arith}, specs.Prelude.Some}
 use Rattle.do_base.specs.names.Names.{ObjectName}
-use Rattle.do_machine.specs.declared.node.Node.{Node}
-use Rattle.do_machine.specs.declared.state.Effect.{Effect}
-use Rattle.do_machine.specs.declared.state.State.{State}
-use Rattle.do_machine.specs.Commit.{commit}
-use Rattle.do_machine.specs.Entry.{has_entry}
-use Rattle.do_machine.specs.State.{is_open, node}
+use Rattle.do_machine.specs.declared.{node.Node.Node, state.{Effect.Effect, State.State}}
+use Rattle.do_machine.specs.{Commit.commit, Entry.has_entry, State.{is_open, node}}
 use Rattle.do_facts.proofs.machine.Frame.{elsewhere}
 
 -- over a closed end there is no entry

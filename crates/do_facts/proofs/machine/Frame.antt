@@ -1,9 +1,6 @@
 -- What a node does changes no other.
-use Rattle.std.proofs.Common.{◌≡◌, ℕ, false, List, [], ◌∷◌, refl, ◌==◌, arith}
-use Rattle.std.specs.List.{find}
-use Rattle.do_machine.specs.declared.state.Station.{Station}
-use Rattle.do_machine.specs.Lists.{change_first}
-use Rattle.do_machine.specs.Commit.{committed}
+use Rattle.std.{proofs.Common.{◌≡◌, ℕ, false, List, [], ◌∷◌, refl, ◌==◌, arith}, specs.List.find}
+use Rattle.do_machine.specs.{declared.state.Station.Station, Lists.change_first, Commit.committed}
 use Rattle.do_machine.specs.declared.state.Effect.{Effect}
 
 -- an effect leaves the stations of other ports as they are

@@ -1,10 +1,8 @@
 -- How nodes are as a machine opens.
 use Rattle.std.proofs.Common.{◌≡◌, List, [], map, refl}
 use Rattle.do_class.specs.Class.{Class}
-use Rattle.do_machine.specs.declared.state.Seat.{Seat}
-use Rattle.do_machine.specs.World.{by_port, opening}
-use Rattle.do_facts.specs.laws.Follows.{AllHoldOpen}
-use Rattle.do_facts.specs.laws.first.Step.{AllOnTime, IsOnTime}
+use Rattle.do_machine.specs.{declared.state.Seat.Seat, World.{by_port, opening}}
+use Rattle.do_facts.specs.laws.{Follows.AllHoldOpen, first.Step.{AllOnTime, IsOnTime}}
 use Rattle.do_facts.proofs.OpeningAsNet.{opened}
 
 -- each node that opens holds nothing, and so nothing over a closed end

@@ -1,32 +1,21 @@
 -- What is left once an end is closed or an ask is over.
 use Rattle.std.proofs.Common.{◌≡◌, ℕ, Bool, true, false, not, List, [], ◌∷◌, map, filter, inl, refl}
-use Rattle.std.proofs.Common.{ap, arith, inr}
-use Rattle.std.specs.Prelude.{All, ◌==◌}
-use Rattle.std.specs.List.{list_any}
-use Rattle.std.proofs.lemmas.Grind.{common_steps}
-use Rattle.std.proofs.lemmas.List.Elements.{All-cons, All-nil, All-weaker, filter_passes, All-map}
-use Rattle.std.proofs.lemmas.List.Elements.{All-from_recursion}
+use Rattle.std.{proofs.Common.{ap, arith, inr}, specs.{Prelude.{All, ◌==◌}, List.list_any}}
+use Rattle.std.proofs.lemmas.{Grind.common_steps, List.Elements.{All-cons, All-nil, All-weaker}}
+use Rattle.std.proofs.lemmas.List.Elements.{filter_passes, All-map, All-from_recursion}
 use Rattle.do_base.specs.names.Names.{CallName}
 use Rattle.do_base.specs.declared.events.exception.Exc.TheVariants.{ConnectionDied}
-use Rattle.do_behave.specs.declared.invocation.Answer.TheVariants.{Raised}
-use Rattle.do_behave.specs.declared.invocation.Invocation.{Invocation}
-use Rattle.do_behave.specs.declared.invocation.InvState.{InvState}
-use Rattle.do_behave.specs.declared.invocation.InvState.TheVariants.{Waits}
+use Rattle.do_behave.specs.declared.invocation.{Answer.TheVariants.Raised, Invocation.Invocation}
+use Rattle.do_behave.specs.declared.invocation.InvState.{InvState, TheVariants.Waits}
 use Rattle.do_behave.specs.declared.invocation.Waited.{Waited}
-use Rattle.do_machine.specs.declared.node.Node.{Node}
-use Rattle.do_machine.specs.declared.node.Wanted.{Wanted}
-use Rattle.do_machine.specs.declared.state.Effect.{Effect}
-use Rattle.do_machine.specs.declared.state.Parcel.{Parcel}
-use Rattle.do_machine.specs.Effect.{only}
-use Rattle.do_machine.specs.Lists.{IsIn}
-use Rattle.do_machine.specs.State.{is_open}
+use Rattle.do_machine.specs.declared.{node.{Node.Node, Wanted.Wanted}, state.Effect.Effect}
+use Rattle.do_machine.specs.{declared.state.Parcel.Parcel, Effect.only, Lists.IsIn, State.is_open}
 use Rattle.do_machine.specs.ends.Closing.{asked_of, closing, died, parted, without_answer}
 use Rattle.do_facts.specs.laws.Calls.{IsParted, is_settled, waits_on}
 use Rattle.do_machine.specs.lend.Asking.{ask_over, asking, same_wanted, without_wanted}
 use Rattle.do_machine.specs.run.Changes.{answered}
 use Rattle.do_facts.proofs.walk.SmallEffects.{settled_node, settling_node}
-use Rattle.do_facts.proofs.Chains.{is_closed, either}
-use Rattle.do_facts.proofs.EachOfLists.{each_of}
+use Rattle.do_facts.proofs.{Chains.{is_closed, either}, EachOfLists.each_of}
 use Rattle.std.proofs.lemmas.Bool.Decides.{nat_tests}
 use Rattle.do_facts.proofs.links.ListsChanged.{open_less}
 

@@ -1,22 +1,13 @@
 -- The nodes of a state stand by rising port.
 use Rattle.std.proofs.Common.{◌≡◌, ℕ, List, [], ◌∷◌, map, refl, ap, ◌∙◌, subst, sym, arith}
-use Rattle.std.specs.Prelude.{◌==◌}
-use Rattle.std.specs.List.Sorted.{IsStrictlyIncreasing}
+use Rattle.std.specs.{Prelude.◌==◌, List.Sorted.IsStrictlyIncreasing}
 use Rattle.do_base.specs.declared.events.event.Event.{Event}
 use Rattle.do_class.specs.Class.{Class}
-use Rattle.do_machine.specs.declared.state.Seat.{Seat}
-use Rattle.do_machine.specs.declared.state.State.{State}
-use Rattle.do_machine.specs.declared.state.Station.{Station}
-use Rattle.do_machine.specs.Commit.{committed}
-use Rattle.do_machine.specs.Lists.{change_first}
-use Rattle.do_machine.specs.State.{ports, with_queue}
-use Rattle.do_machine.specs.Step.{step}
-use Rattle.do_machine.specs.World.{IsWorld, by_port, opening, opening_station}
-use Rattle.do_machine.specs.run.Run.{Acting}
-use Rattle.do_machine.proofs.Inserting.{by_port_rises}
-use Rattle.do_facts.proofs.machine.follows.Moves.{Moves}
-use Rattle.do_facts.proofs.machine.follows.Steps.{by_any_step}
-use Rattle.do_facts.proofs.machine.passing.Linked.{Any}
+use Rattle.do_machine.specs.declared.state.{Seat.Seat, State.State, Station.Station}
+use Rattle.do_machine.specs.{Commit.committed, Lists.change_first, State.{ports, with_queue}}
+use Rattle.do_machine.specs.{Step.step, World.{IsWorld, by_port, opening, opening_station}}
+use Rattle.do_machine.{specs.run.Run.Acting, proofs.Inserting.by_port_rises}
+use Rattle.do_facts.proofs.machine.{follows.{Moves.Moves, Steps.by_any_step}, passing.Linked.Any}
 
 -- a station that changes but for its port leaves the ports as they are
 kept_ports : (port : ℕ) (f : Station → Station) → ((s : Station) → (f s).port ≡ s.port) →

@@ -1,15 +1,10 @@
 -- What is in the queues of stations once one queue has other items, or an effect sent some.
 use Rattle.std.proofs.Common.{◌≡◌, ◌==◌, ◌&&◌, ◌++◌, ℕ, cond, List, [], ◌∷◌, map, refl, arith}
-use Rattle.std.specs.Prelude.{Option, Some, option_and_then, option_map}
-use Rattle.std.specs.List.{find}
+use Rattle.std.specs.{Prelude.{Option, Some, option_and_then, option_map}, List.find}
 use Rattle.std.proofs.lemmas.Grind.{common_steps}
-use Rattle.do_machine.specs.declared.item.Item.{Item}
-use Rattle.do_machine.specs.declared.state.Effect.{Effect}
-use Rattle.do_machine.specs.declared.state.Parcel.{Parcel}
-use Rattle.do_machine.specs.declared.state.Queue.{Queue}
-use Rattle.do_machine.specs.declared.state.Station.{Station}
-use Rattle.do_machine.specs.Commit.{committed, items_to, with_sent}
-use Rattle.do_machine.specs.Lists.{change_first}
+use Rattle.do_machine.specs.declared.{item.Item.Item, state.{Effect.Effect, Parcel.Parcel}}
+use Rattle.do_machine.specs.declared.state.{Queue.Queue, Station.Station}
+use Rattle.do_machine.specs.{Commit.{committed, items_to, with_sent}, Lists.change_first}
 use Rattle.do_machine.specs.State.{queue_to, with_items, with_queue}
 
 -- the items that wait in the queue to a peer

@@ -1,9 +1,7 @@
 -- Where nothing is late, the rules are those of version 1.
 use Rattle.std.proofs.Common.{◌≡◌, ℕ, []}
-use Rattle.do_behave.specs.declared.invocation.Answer.{Answer}
-use Rattle.do_behave.specs.declared.invocation.Waited.{Waited}
-use Rattle.do_machine.specs.declared.node.Node.{Node}
-use Rattle.do_machine.specs.ends.Closing.{closing}
+use Rattle.do_behave.specs.declared.invocation.{Answer.Answer, Waited.Waited}
+use Rattle.do_machine.specs.{declared.node.Node.Node, ends.Closing.closing}
 use Rattle.do_facts.specs.laws.Version1.{answering_1, closing_1}
 use Rattle.do_machine.specs.take.Awaiting.{AnsweredCall, answering}
 

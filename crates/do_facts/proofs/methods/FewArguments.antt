@@ -2,25 +2,15 @@
 use Rattle.std.proofs.Common.{◌≡◌, ◌∙◌, ◌≤◌, ◌&&◌, ℕ, Bool, true, false, List, [], ◌∷◌, length, map}
 use Rattle.std.proofs.Common.{refl, ap, arith, subst, suc}
 use Rattle.std.specs.Prelude.{None, Option, Some, option_and_then, option_map, slice_get, slice_set}
-use Rattle.std.specs.List.{All}
-use Rattle.std.proofs.lemmas.List.Elements.{All-get_or}
-use Rattle.std.proofs.lemmas.List.{length-map, length-set}
+use Rattle.std.{specs.List.All, proofs.lemmas.List.{Elements.All-get_or, length-map, length-set}}
 use Rattle.std.proofs.lemmas.Option.{get_or_from_slice_get, slice_get_within}
 use Rattle.do_base.specs.declared.values.value.Value.{Value}
-use Rattle.do_class.specs.Class.{Class}
-use Rattle.do_class.specs.Table.{class_at, signature_of}
-use Rattle.do_class.specs.declared.ids.ClassId.{ClassId}
-use Rattle.do_class.specs.declared.ids.MethodId.{MethodId}
-use Rattle.do_class.specs.declared.method.Method.{Method}
-use Rattle.do_sig.specs.Calls.{args_fit, encoding_fits}
-use Rattle.do_sig.specs.Fits.{each_takes}
-use Rattle.do_sig.specs.MethodTypes.{IsMethodType}
-use Rattle.do_sig.specs.declared.encoding.Encoding.{Encoding}
-use Rattle.do_sig.specs.declared.signature.Signature.{Signature}
-use Rattle.do_machine.specs.Context.{Found, method_for}
-use Rattle.do_machine.specs.World.{HasSignatures}
-use Rattle.do_machine.specs.run.Changes.{with_outs}
-use Rattle.do_machine.specs.run.Send.{inputs_by}
+use Rattle.do_class.specs.{Class.Class, Table.{class_at, signature_of}}
+use Rattle.do_class.specs.declared.{ids.{ClassId.ClassId, MethodId.MethodId}, method.Method.Method}
+use Rattle.do_sig.specs.{Calls.{args_fit, encoding_fits}, Fits.each_takes, MethodTypes.IsMethodType}
+use Rattle.do_sig.specs.declared.{encoding.Encoding.Encoding, signature.Signature.Signature}
+use Rattle.do_machine.specs.{Context.{Found, method_for}, World.HasSignatures}
+use Rattle.do_machine.specs.run.{Changes.with_outs, Send.inputs_by}
 use Rattle.do_facts.proofs.methods.MethodsFound.{signature_found}
 
 -- each method of the table takes at most 8 arguments

@@ -1,15 +1,11 @@
 -- The method that is found for a selector is of the class, and has the selector.
 use Rattle.std.proofs.Common.{◌≡◌, ◌∙◌, ℕ, List, [], ◌∷◌, zero, suc, get_or, refl, sym, ap, subst}
 use Rattle.std.specs.Prelude.{None, Option, Some, option_and_then, option_map, slice_get}
-use Rattle.std.specs.Str.{bytes_eq}
-use Rattle.std.proofs.lemmas.List.Quantifiers.{position-Some}
-use Rattle.std.proofs.lemmas.Option.{slice_get-get_or}
-use Rattle.std.proofs.lemmas.Slice.Eq.{bytes_eq-Decides}
+use Rattle.std.{specs.Str.bytes_eq, proofs.lemmas.List.Quantifiers.position-Some}
+use Rattle.std.proofs.lemmas.{Option.slice_get-get_or, Slice.Eq.bytes_eq-Decides}
 use Rattle.do_class.specs.Class.{Class, place_of, selectors_of}
 use Rattle.do_class.specs.Table.{class_at, find_method, method_id, selector_of, signature_of}
-use Rattle.do_class.specs.declared.ids.ClassId.{ClassId}
-use Rattle.do_class.specs.declared.ids.MethodId.{MethodId}
-use Rattle.do_class.specs.declared.method.Method.{Method}
+use Rattle.do_class.specs.declared.{ids.{ClassId.ClassId, MethodId.MethodId}, method.Method.Method}
 use Rattle.do_sig.specs.declared.signature.Signature.{Signature}
 use Rattle.do_machine.specs.Context.{Found, method_for}
 

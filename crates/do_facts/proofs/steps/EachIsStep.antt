@@ -1,32 +1,20 @@
 -- Each event comes to one of the forms of a step.
-use Rattle.std.proofs.Common.{◌≡◌, ℕ, Bool, true, false, cond, not, List, [], ◌∷◌, refl, arith}
-use Rattle.std.proofs.Common.{drop}
-use Rattle.std.specs.Prelude.{None, Option, Some, length, nat_lt, option_and_then, option_map}
-use Rattle.std.specs.Prelude.{slice_get, unwrap_or}
-use Rattle.std.specs.List.{insert}
-use Rattle.std.proofs.lemmas.Bool.Decides.{nat_tests}
-use Rattle.do_base.specs.declared.events.event.Event.{Event}
-use Rattle.do_base.specs.declared.events.event.Event.TheVariants.{Check, Close, Lose, Run, Start}
-use Rattle.do_base.specs.declared.events.event.Event.TheVariants.{Take, Timeout}
-use Rattle.do_class.specs.Class.{Class}
-use Rattle.do_machine.specs.declared.item.Item.{Item}
 use Rattle.do_machine.specs.declared.item.Item.TheVariants as items
-use Rattle.do_machine.specs.declared.node.Node.{Node}
-use Rattle.do_machine.specs.declared.state.Effect.{Effect}
-use Rattle.do_machine.specs.declared.state.State.{State}
-use Rattle.do_machine.specs.declared.state.Stepped.{Stepped}
-use Rattle.do_machine.specs.Commit.{moved, showed, skipped}
-use Rattle.do_machine.specs.Context.{context}
-use Rattle.do_machine.specs.Start.{start_effect}
-use Rattle.do_machine.specs.State.{change, is_open, node, queue, with_queue}
-use Rattle.do_machine.specs.Step.{moved_by, step}
-use Rattle.do_machine.specs.ends.Closing.{closing}
-use Rattle.do_machine.specs.ends.TimeOut.{time_out}
-use Rattle.do_machine.specs.run.Run.{Acting, run_effect}
+use Rattle.std.proofs.Common.{◌≡◌, ℕ, Bool, true, false, cond, not, List, [], ◌∷◌, refl, arith}
+use Rattle.std.{proofs.Common.drop, specs.Prelude.{None, Option, Some, length, nat_lt}}
+use Rattle.std.specs.{Prelude.{option_and_then, option_map, slice_get, unwrap_or}, List.insert}
+use Rattle.std.proofs.lemmas.Bool.Decides.{nat_tests}
+use Rattle.do_base.specs.declared.events.event.Event.{Event, TheVariants.{Check, Close, Lose, Run}}
+use Rattle.do_base.specs.declared.events.event.Event.TheVariants.{Start, Take, Timeout}
+use Rattle.do_class.specs.Class.{Class}
+use Rattle.do_machine.specs.declared.{item.Item.Item, node.Node.Node, state.Effect.Effect}
+use Rattle.do_machine.specs.{declared.state.{State.State, Stepped.Stepped}, Commit.{moved, showed}}
+use Rattle.do_machine.specs.{Commit.skipped, Context.context, Start.start_effect, State.change}
+use Rattle.do_machine.specs.{State.{is_open, node, queue, with_queue}, Step.{moved_by, step}}
+use Rattle.do_machine.specs.{ends.{Closing.closing, TimeOut.time_out}, run.Run.{Acting, run_effect}}
 use Rattle.do_machine.specs.take.Take.{can_serve, can_take, take_effect}
 use Rattle.do_facts.specs.steps.IsStep.{Acts, Checks, IsActOf, IsRuleOf, IsStep, Loses, Skips}
-use Rattle.do_facts.specs.steps.IsStep.{Takes}
-use Rattle.do_facts.proofs.Chains.{first_of, not_closed}
+use Rattle.do_facts.{specs.steps.IsStep.Takes, proofs.Chains.{first_of, not_closed}}
 
 module _ (table : List Class) (act : Acting) (S : State) where
   -- what comes of an event, if it is enabled, is a step

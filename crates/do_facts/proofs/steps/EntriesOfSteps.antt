@@ -1,31 +1,20 @@
 -- Whether a peer has an entry of a node's object is changed by the steps of these two alone.
-use Rattle.std.proofs.Common.{◌≡◌, ◌==◌, ◌&&◌, ℕ, Bool, true, false, List, [], ◌∷◌, refl}
-use Rattle.std.proofs.Common.{sym, ap, ◌∙◌, subst, drop, take}
-use Rattle.std.specs.Prelude.{Option, Some, ◌||◌}
-use Rattle.std.specs.List.{insert, list_any}
-use Rattle.std.proofs.lemmas.Bool.{eqb-true}
-use Rattle.std.proofs.lemmas.List.{take-append-drop}
-use Rattle.std.proofs.lemmas.List.Folds.{list_any-append}
-use Rattle.do_base.specs.declared.events.event.Event.{Event}
-use Rattle.do_base.specs.declared.events.event.Event.TheVariants.{Check, Lose, Take}
+use Rattle.do_machine.specs.declared.item.Item.TheVariants as items
+use Rattle.std.proofs.Common.{◌≡◌, ◌==◌, ◌&&◌, ℕ, Bool, true, false, List, [], ◌∷◌, refl, sym, ap}
+use Rattle.std.proofs.Common.{◌∙◌, subst, drop, take}
+use Rattle.std.specs.{Prelude.{Option, Some, ◌||◌}, List.{insert, list_any}}
+use Rattle.std.proofs.lemmas.{Bool.eqb-true, List.{take-append-drop, Folds.list_any-append}}
+use Rattle.do_base.specs.declared.events.event.Event.{Event, TheVariants.{Check, Lose, Take}}
 use Rattle.do_base.specs.names.Names.{ObjectName}
 use Rattle.do_packet.specs.Met.{has_object}
 use Rattle.do_class.specs.Class.{Class}
-use Rattle.do_machine.specs.run.Run.{Acting}
-use Rattle.do_machine.specs.declared.item.Item.{Item}
-use Rattle.do_machine.specs.declared.item.Item.TheVariants as items
-use Rattle.do_machine.specs.declared.node.Node.{Node}
-use Rattle.do_machine.specs.declared.state.State.{State}
-use Rattle.do_machine.specs.declared.state.Stepped.{Stepped}
-use Rattle.do_machine.specs.Entry.{has_entry, is_holder}
-use Rattle.do_machine.specs.Items.{exported, released}
-use Rattle.do_machine.specs.Lists.{some_passes}
-use Rattle.do_machine.specs.State.{change, is_open, node, queue, with_queue}
-use Rattle.do_facts.specs.laws.Entries.{IsNoStepOf}
-use Rattle.do_facts.proofs.machine.passing.Lookups.{that_changed}
+use Rattle.do_machine.specs.{run.Run.Acting, declared.{item.Item.Item, node.Node.Node}}
+use Rattle.do_machine.specs.declared.state.{State.State, Stepped.Stepped}
+use Rattle.do_machine.specs.{Entry.{has_entry, is_holder}, Items.{exported, released}}
+use Rattle.do_machine.specs.{Lists.some_passes, State.{change, is_open, node, queue, with_queue}}
+use Rattle.do_facts.{specs.laws.Entries.IsNoStepOf, proofs.machine.passing.Lookups.that_changed}
 use Rattle.do_facts.specs.steps.IsStep.{Acts, Checks, IsActOf, IsStep, Loses, Skips, Takes}
-use Rattle.do_facts.specs.steps.Queues.{touches}
-use Rattle.do_facts.proofs.steps.OthersStay.{node_stays}
+use Rattle.do_facts.{specs.steps.Queues.touches, proofs.steps.OthersStay.node_stays}
 use Rattle.do_facts.proofs.steps.QueuesOfSteps.{queue_stays, requeue_leaves}
 
 -- one more item that does not pass

@@ -2,32 +2,20 @@
 use Rattle.std.proofs.Common.{◌≡◌, ℕ, true, List, [], ◌∷◌, refl, ap, ◌∙◌, subst}
 use Rattle.std.specs.Prelude.{IfSome, None, Option, Some, option_and_then, unwrap_or}
 use Rattle.do_base.specs.declared.events.event.Event.TheVariants.{Timeout}
-use Rattle.do_base.specs.declared.events.exception.Exc.TheVariants.{TimedOut}
-use Rattle.do_base.specs.names.Names.{CallName}
-use Rattle.do_behave.specs.declared.invocation.Answer.TheVariants.{Raised}
-use Rattle.do_behave.specs.declared.invocation.Invocation.{Invocation}
-use Rattle.do_behave.specs.declared.invocation.InvState.{InvState}
-use Rattle.do_behave.specs.declared.invocation.InvState.TheVariants.{Waits}
+use Rattle.do_base.specs.{declared.events.exception.Exc.TheVariants.TimedOut, names.Names.CallName}
+use Rattle.do_behave.specs.declared.invocation.{Answer.TheVariants.Raised, Invocation.Invocation}
+use Rattle.do_behave.specs.declared.invocation.InvState.{InvState, TheVariants.Waits}
 use Rattle.do_behave.specs.declared.invocation.Waited.{Waited}
 use Rattle.do_class.specs.Class.{Class}
-use Rattle.do_machine.specs.declared.node.Node.{Node}
-use Rattle.do_machine.specs.declared.state.Effect.{Effect}
-use Rattle.do_machine.specs.declared.state.State.{State}
-use Rattle.do_machine.specs.Commit.{commit, moved, skipped}
-use Rattle.do_machine.specs.Context.{around}
-use Rattle.do_machine.specs.Effect.{only}
-use Rattle.do_machine.specs.State.{node}
-use Rattle.do_machine.specs.Step.{moved_by, step}
-use Rattle.do_machine.specs.ends.TimeOut.{give_up, time_out, time_out_on, with_late}
-use Rattle.do_machine.specs.held.Leaving.{leaving}
+use Rattle.do_machine.specs.declared.{node.Node.Node, state.{Effect.Effect, State.State}}
+use Rattle.do_machine.specs.{Commit.{commit, moved, skipped}, Context.around, Effect.only}
+use Rattle.do_machine.specs.{State.node, Step.{moved_by, step}, ends.TimeOut.{give_up, time_out}}
+use Rattle.do_machine.specs.{ends.TimeOut.{time_out_on, with_late}, held.Leaving.leaving}
 use Rattle.do_facts.specs.laws.Calls.{IsGivenUp}
-use Rattle.do_machine.specs.run.Changes.{answered}
-use Rattle.do_machine.specs.run.Fresh.{with_stack}
-use Rattle.do_machine.specs.run.Run.{Acting}
+use Rattle.do_machine.specs.run.{Changes.answered, Fresh.with_stack, Run.Acting}
 use Rattle.do_facts.proofs.machine.Answering.{given_up}
 use Rattle.do_facts.specs.steps.GivenUp.{CanGiveUp, HasGivenUp, WaitsOnTop}
-use Rattle.do_facts.proofs.steps.OthersStay.{move_leaves_own}
-use Rattle.do_facts.proofs.steps.RuleMoves.{rule_moves}
+use Rattle.do_facts.proofs.steps.{OthersStay.move_leaves_own, RuleMoves.rule_moves}
 
 module _ (table : List Class) (act : Acting) (S : State) (port : ℕ) where
   module _ (n : Node) (i : Invocation) (below : List Invocation) (call : CallName) (peer : ℕ)

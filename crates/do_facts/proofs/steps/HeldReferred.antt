@@ -4,21 +4,12 @@ use Rattle.std.specs.Prelude.{Option, Some, map, unwrap_or}
 use Rattle.do_base.specs.declared.events.event.Event.{Event}
 use Rattle.do_class.specs.Class.{Class}
 use Rattle.do_packet.specs.Met.{has_object}
-use Rattle.do_machine.specs.declared.node.Node.{Node}
-use Rattle.do_machine.specs.declared.state.Seat.{Seat}
-use Rattle.do_machine.specs.declared.state.State.{State}
-use Rattle.do_machine.specs.State.{node}
-use Rattle.do_machine.specs.Step.{step}
-use Rattle.do_machine.specs.World.{by_port, opening}
-use Rattle.do_machine.specs.held.Kept.{kept}
-use Rattle.do_machine.specs.held.Leaving.{freeing, leaving}
-use Rattle.do_machine.specs.held.Refers.{node_objects}
-use Rattle.do_machine.specs.run.Run.{Acting}
+use Rattle.do_machine.specs.{declared.{node.Node.Node, state.{Seat.Seat, State.State}}, State.node}
+use Rattle.do_machine.specs.{Step.step, World.{by_port, opening}, held.Kept.kept}
+use Rattle.do_machine.specs.{held.{Leaving.{freeing, leaving}, Refers.node_objects}, run.Run.Acting}
 use Rattle.do_machine.proofs.Having.{passes_among}
-use Rattle.do_facts.specs.Reached.{reached}
-use Rattle.do_facts.specs.steps.Held.{AllReferToHeld, RefersToHeld}
-use Rattle.do_facts.proofs.OpeningAsNet.{opened}
-use Rattle.do_facts.proofs.ReachedStates.{holds_of_reached}
+use Rattle.do_facts.specs.{Reached.reached, steps.Held.{AllReferToHeld, RefersToHeld}}
+use Rattle.do_facts.proofs.{OpeningAsNet.opened, ReachedStates.holds_of_reached}
 use Rattle.do_facts.proofs.steps.NodeSteps.{Acted, NodeStep, Stands, Took, node_step}
 
 -- ---- nodes after a step

@@ -1,28 +1,18 @@
 -- What a step makes of the node of each port.
+use Rattle.do_base.specs.declared.events.event.Event.TheVariants as events
+use Rattle.do_machine.specs.declared.item.Item.TheVariants as items
 use Rattle.std.proofs.Common.{◌≡◌, ◌∙◌, ◌==◌, ℕ, Bool, true, false, List, [], ◌∷◌, ap, refl, subst}
-use Rattle.std.proofs.Common.{sym}
-use Rattle.std.specs.Prelude.{Option, Some}
-use Rattle.std.specs.List.{insert}
+use Rattle.std.{proofs.Common.sym, specs.{Prelude.{Option, Some}, List.insert}}
 use Rattle.std.proofs.lemmas.Bool.{eqb-true}
 use Rattle.do_base.specs.declared.events.event.Event.{Event}
-use Rattle.do_base.specs.declared.events.event.Event.TheVariants as events
 use Rattle.do_class.specs.Class.{Class}
-use Rattle.do_machine.specs.declared.item.Item.{Item}
-use Rattle.do_machine.specs.declared.item.Item.TheVariants as items
-use Rattle.do_machine.specs.declared.node.Node.{Node}
-use Rattle.do_machine.specs.declared.state.Effect.{Effect}
-use Rattle.do_machine.specs.declared.state.State.{State}
-use Rattle.do_machine.specs.declared.state.Stepped.{Stepped}
-use Rattle.do_machine.specs.Commit.{commit, moved}
-use Rattle.do_machine.specs.Context.{around}
-use Rattle.do_machine.specs.State.{node, queue}
-use Rattle.do_machine.specs.Step.{step}
-use Rattle.do_machine.specs.held.Leaving.{leaving}
+use Rattle.do_machine.specs.declared.{item.Item.Item, node.Node.Node, state.Effect.Effect}
+use Rattle.do_machine.specs.{declared.state.{State.State, Stepped.Stepped}, Commit.{commit, moved}}
+use Rattle.do_machine.specs.{Context.around, State.{node, queue}, Step.step, held.Leaving.leaving}
 use Rattle.do_machine.specs.run.Run.{Acting}
-use Rattle.do_facts.proofs.machine.follows.States.{requeued}
-use Rattle.do_facts.specs.steps.IsStep.{Acts, Checks, IsActOf, IsRuleOf, IsStep, IsTakeOf, Loses}
-use Rattle.do_facts.specs.steps.IsStep.{Skips, Takes, without_oldest}
-use Rattle.do_facts.proofs.steps.EachIsStep.{step_is}
+use Rattle.do_facts.{proofs.machine.follows.States.requeued, specs.steps.IsStep.{Acts, Checks}}
+use Rattle.do_facts.specs.steps.IsStep.{IsActOf, IsRuleOf, IsStep, IsTakeOf, Loses, Skips, Takes}
+use Rattle.do_facts.{specs.steps.IsStep.without_oldest, proofs.steps.EachIsStep.step_is}
 use Rattle.do_facts.proofs.steps.OthersStay.{move_leaves_others, move_leaves_own}
 
 -- The node of a port after an event: it is as it was; or it had the effect of the event's rule, or

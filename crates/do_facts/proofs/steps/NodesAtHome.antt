@@ -1,18 +1,12 @@
 -- In every state that a machine comes to, each node stands at its own port.
-use Rattle.std.proofs.Common.{◌≡◌, ℕ, List, refl, ◌∙◌, map}
-use Rattle.std.specs.Prelude.{Option, Some}
+use Rattle.std.{proofs.Common.{◌≡◌, ℕ, List, refl, ◌∙◌, map}, specs.Prelude.{Option, Some}}
 use Rattle.do_base.specs.declared.events.event.Event.{Event}
 use Rattle.do_class.specs.Class.{Class}
-use Rattle.do_machine.specs.declared.node.Node.{Node}
-use Rattle.do_machine.specs.declared.state.Seat.{Seat}
-use Rattle.do_machine.specs.declared.state.State.{State}
-use Rattle.do_machine.specs.State.{node}
-use Rattle.do_machine.specs.Step.{step}
-use Rattle.do_machine.specs.World.{by_port, opening}
+use Rattle.do_machine.specs.{declared.{node.Node.Node, state.{Seat.Seat, State.State}}, State.node}
+use Rattle.do_machine.specs.{Step.step, World.{by_port, opening}}
 use Rattle.do_facts.specs.laws.Follows.{Grows}
 use Rattle.do_machine.specs.run.Run.{Acting}
-use Rattle.do_facts.proofs.machine.follows.Every.{grow_steps, was}
-use Rattle.do_facts.proofs.OpeningAsNet.{opened}
+use Rattle.do_facts.proofs.{machine.follows.Every.{grow_steps, was}, OpeningAsNet.opened}
 
 -- each node stands at its own port
 pub record AllAtHome (S : State) : Type 0 where

@@ -1,33 +1,20 @@
 -- A step changes no node but its own, and no class that was given.
-use Rattle.std.proofs.Common.{◌≡◌, ◌==◌, ℕ, false, List, [], ◌∷◌, refl, sym, ap, ◌∙◌, arith, subst}
-use Rattle.std.specs.Prelude.{Some, option_and_then, option_map}
-use Rattle.std.specs.List.{find, insert}
-use Rattle.do_base.specs.declared.events.event.Event.{Event}
-use Rattle.do_base.specs.declared.events.event.Event.TheVariants.{Close, Run, Start, Timeout}
-use Rattle.do_base.specs.names.Names.{ObjectName}
-use Rattle.do_class.specs.declared.ids.ClassId.{ClassId}
-use Rattle.do_class.specs.Class.{Class}
-use Rattle.do_machine.specs.run.Run.{Acting}
-use Rattle.do_machine.specs.declared.item.Item.{Item}
 use Rattle.do_machine.specs.declared.item.Item.TheVariants as items
-use Rattle.do_machine.specs.declared.node.Node.{Node}
-use Rattle.do_machine.specs.declared.state.Effect.{Effect}
-use Rattle.do_machine.specs.declared.state.State.{State}
-use Rattle.do_machine.specs.declared.state.Station.{Station}
-use Rattle.do_machine.specs.declared.state.Stepped.{Stepped}
-use Rattle.do_machine.specs.Commit.{commit, moved}
-use Rattle.do_machine.specs.Context.{around}
-use Rattle.do_machine.specs.Lists.{change_first}
-use Rattle.do_machine.specs.State.{change, class_given, class_of, node, with_queue}
-use Rattle.do_machine.specs.held.Leaving.{leaving}
-use Rattle.do_facts.specs.laws.Entries.{IsNoStepOf}
-use Rattle.do_facts.proofs.machine.ClassesStay.{stays}
-use Rattle.do_facts.proofs.machine.Frame.{elsewhere}
-use Rattle.do_facts.proofs.machine.follows.States.{changed, requeued}
+use Rattle.std.proofs.Common.{◌≡◌, ◌==◌, ℕ, false, List, [], ◌∷◌, refl, sym, ap, ◌∙◌, arith, subst}
+use Rattle.std.specs.{Prelude.{Some, option_and_then, option_map}, List.{find, insert}}
+use Rattle.do_base.specs.declared.events.event.Event.{Event, TheVariants.{Close, Run, Start}}
+use Rattle.do_base.specs.declared.events.event.Event.TheVariants.{Timeout, Check, Lose, Take}
+use Rattle.do_base.specs.names.Names.{ObjectName}
+use Rattle.do_class.specs.{declared.ids.ClassId.ClassId, Class.Class}
+use Rattle.do_machine.specs.{run.Run.Acting, declared.{item.Item.Item, node.Node.Node}}
+use Rattle.do_machine.specs.declared.state.{Effect.Effect, State.State, Station.Station}
+use Rattle.do_machine.specs.{declared.state.Stepped.Stepped, Commit.{commit, moved}, Context.around}
+use Rattle.do_machine.specs.{Lists.change_first, State.{change, class_given, class_of, node}}
+use Rattle.do_machine.specs.{State.with_queue, held.Leaving.leaving}
+use Rattle.do_facts.{specs.laws.Entries.IsNoStepOf, proofs.machine.ClassesStay.stays}
+use Rattle.do_facts.proofs.machine.{Frame.elsewhere, follows.States.{changed, requeued}}
 use Rattle.do_facts.specs.steps.IsStep.{Acts, Checks, IsActOf, IsStep, Loses, Skips, Takes}
-use Rattle.do_base.specs.declared.events.event.Event.TheVariants.{Check, Lose, Take}
-use Rattle.do_facts.proofs.machine.follows.Moves.{Moves}
-use Rattle.do_facts.proofs.machine.follows.Steps.{by_form}
+use Rattle.do_facts.proofs.machine.follows.{Moves.Moves, Steps.by_form}
 
 -- numbers that are equal to one number and not to the other
 differ : (other actor port : ℕ) → actor ≡ port → (other == actor) ≡ false →

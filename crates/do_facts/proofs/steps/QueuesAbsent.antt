@@ -1,18 +1,12 @@
 -- Where there is no queue, no step makes one.
-use Rattle.std.proofs.Common.{◌≡◌, ℕ, List, arith}
-use Rattle.std.specs.Prelude.{None}
+use Rattle.std.{proofs.Common.{◌≡◌, ℕ, List, arith}, specs.Prelude.None}
 use Rattle.do_base.specs.declared.events.event.Event.{Event}
 use Rattle.do_class.specs.Class.{Class}
-use Rattle.do_machine.specs.declared.state.State.{State}
-use Rattle.do_machine.specs.declared.state.Stepped.{Stepped}
-use Rattle.do_machine.specs.State.{queue}
+use Rattle.do_machine.specs.{declared.state.{State.State, Stepped.Stepped}, State.queue}
 use Rattle.do_machine.specs.run.Run.{Acting}
-use Rattle.do_facts.proofs.machine.Queues.{queue_behind, queue_with}
-use Rattle.do_facts.specs.steps.IsStep.{IsStep}
+use Rattle.do_facts.{proofs.machine.Queues.{queue_behind, queue_with}, specs.steps.IsStep.IsStep}
 use Rattle.std.proofs.lemmas.Grind.{common_steps}
-use Rattle.do_facts.proofs.machine.follows.Moves.{Moves}
-use Rattle.do_facts.proofs.machine.follows.Steps.{by_form}
-use Rattle.do_facts.proofs.machine.passing.Linked.{Any}
+use Rattle.do_facts.proofs.machine.{follows.{Moves.Moves, Steps.by_form}, passing.Linked.Any}
 
 module _ (from to : ℕ) where
   -- there is no queue

@@ -1,27 +1,18 @@
 -- A step takes one item out of one queue at most, or puts one end in, and changes else the ends of
 -- its node's queues.
+use Rattle.do_machine.specs.declared.item.Item.TheVariants as items
 use Rattle.std.proofs.Common.{◌≡◌, ◌==◌, ◌&&◌, ◌++◌, ℕ, Bool, true, false, List, [], ◌∷◌, refl, sym}
 use Rattle.std.proofs.Common.{ap, ◌∙◌, subst, append-nil, append_assoc}
-use Rattle.std.specs.Prelude.{Some, cond, option_and_then, option_map}
-use Rattle.std.specs.List.{insert}
+use Rattle.std.specs.{Prelude.{Some, cond, option_and_then, option_map}, List.insert}
 use Rattle.std.proofs.lemmas.Bool.{eqb-true}
-use Rattle.do_base.specs.declared.events.event.Event.{Event}
-use Rattle.do_base.specs.declared.events.event.Event.TheVariants.{Lose, Take}
+use Rattle.do_base.specs.declared.events.event.Event.{Event, TheVariants.{Lose, Take}}
 use Rattle.do_class.specs.Class.{Class}
-use Rattle.do_machine.specs.run.Run.{Acting}
-use Rattle.do_machine.specs.declared.item.Item.{Item}
-use Rattle.do_machine.specs.declared.item.Item.TheVariants as items
-use Rattle.do_machine.specs.declared.state.Effect.{Effect}
-use Rattle.do_machine.specs.declared.state.State.{State}
-use Rattle.do_machine.specs.declared.state.Stepped.{Stepped}
-use Rattle.do_machine.specs.Commit.{commit, items_to, moved, skipped}
-use Rattle.do_machine.specs.Context.{around}
-use Rattle.do_machine.specs.State.{change, queue, queue_to, with_queue}
-use Rattle.do_machine.specs.held.Leaving.{leaving}
-use Rattle.do_facts.specs.laws.Entries.{IsNoStepOf}
-use Rattle.do_facts.proofs.machine.Frame.{elsewhere}
-use Rattle.do_facts.proofs.machine.Queues.{grows_behind, queue_with}
-use Rattle.do_facts.proofs.machine.passing.Lookups.{that_changed}
+use Rattle.do_machine.specs.{run.Run.Acting, declared.{item.Item.Item, state.Effect.Effect}}
+use Rattle.do_machine.specs.declared.state.{State.State, Stepped.Stepped}
+use Rattle.do_machine.specs.{Commit.{commit, items_to, moved, skipped}, Context.around}
+use Rattle.do_machine.specs.{State.{change, queue, queue_to, with_queue}, held.Leaving.leaving}
+use Rattle.do_facts.{specs.laws.Entries.IsNoStepOf, proofs.machine.Frame.elsewhere}
+use Rattle.do_facts.proofs.machine.{Queues.{grows_behind, queue_with}, passing.Lookups.that_changed}
 use Rattle.do_facts.specs.steps.IsStep.{Acts, Checks, IsStep, Loses, Skips, Takes}
 use Rattle.do_facts.specs.steps.Queues.{IsLost, IsTaken, StandBehind, touches}
 use Rattle.do_facts.proofs.steps.OthersStay.{apart_act}

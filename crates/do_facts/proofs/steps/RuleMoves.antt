@@ -1,20 +1,13 @@
 -- Where a node has an effect by an event's rule, the step is the move by this effect.
+use Rattle.do_base.specs.declared.events.event.Event.TheVariants as events
 use Rattle.std.proofs.Common.{◌≡◌, ◌∙◌, ℕ, true, cond, not, List, ap, sym}
 use Rattle.std.specs.Prelude.{None, Option, Some, option_and_then, unwrap_or}
 use Rattle.do_base.specs.declared.events.event.Event.{Event}
-use Rattle.do_base.specs.declared.events.event.Event.TheVariants as events
 use Rattle.do_class.specs.Class.{Class}
-use Rattle.do_machine.specs.declared.node.Node.{Node}
-use Rattle.do_machine.specs.declared.state.Effect.{Effect}
-use Rattle.do_machine.specs.declared.state.State.{State}
-use Rattle.do_machine.specs.declared.state.Stepped.{Stepped}
-use Rattle.do_machine.specs.Commit.{moved, skipped}
-use Rattle.do_machine.specs.Context.{context}
-use Rattle.do_machine.specs.Start.{start_effect}
-use Rattle.do_machine.specs.State.{is_open, node}
-use Rattle.do_machine.specs.Step.{close, moved_by, step}
-use Rattle.do_machine.specs.ends.Closing.{closing}
-use Rattle.do_machine.specs.ends.TimeOut.{time_out}
+use Rattle.do_machine.specs.declared.{node.Node.Node, state.{Effect.Effect, State.State}}
+use Rattle.do_machine.specs.{declared.state.Stepped.Stepped, Commit.{moved, skipped}}
+use Rattle.do_machine.specs.{Context.context, Start.start_effect, State.{is_open, node}}
+use Rattle.do_machine.specs.{Step.{close, moved_by, step}, ends.{Closing.closing, TimeOut.time_out}}
 use Rattle.do_machine.specs.run.Run.{Acting, run_effect}
 use Rattle.do_facts.specs.steps.IsStep.{IsActOf, IsRuleOf}
 

@@ -1,15 +1,10 @@
 -- Effects of which something holds: of their node, and of each item that they send.
 use Rattle.std.proofs.Common.{◌≡◌, ℕ, List, [], ◌∷◌, inl, inr, refl}
-use Rattle.std.specs.Prelude.{Option, Some}
-use Rattle.std.specs.List.{AllByRecursion}
+use Rattle.std.specs.{Prelude.{Option, Some}, List.AllByRecursion}
 use Rattle.do_base.specs.declared.events.shown.Shown.{Shown}
-use Rattle.do_machine.specs.declared.item.Item.{Item}
-use Rattle.do_machine.specs.declared.node.Node.{Node}
-use Rattle.do_machine.specs.declared.state.Effect.{Effect}
-use Rattle.do_machine.specs.Lists.{IsIn}
-use Rattle.do_machine.specs.Effect.{each, only, queueing, showing, ◌>>=◌}
-use Rattle.do_facts.proofs.EachOfLists.{each_joined}
-use Rattle.do_facts.proofs.walk.Possible.{IfAny, there}
+use Rattle.do_machine.specs.declared.{item.Item.Item, node.Node.Node, state.Effect.Effect}
+use Rattle.do_machine.specs.{Lists.IsIn, Effect.{each, only, queueing, showing, ◌>>=◌}}
+use Rattle.do_facts.proofs.{EachOfLists.each_joined, walk.Possible.{IfAny, there}}
 
 -- this holds of the node of an effect, and that of each item that it sends, with the peer
 pub record Done (G : Node → Type 0) (E : ℕ → Item → Type 0) (e : Effect) : Type 0 where

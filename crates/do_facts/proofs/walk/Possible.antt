@@ -1,23 +1,15 @@
 -- What holds of each effect that a run, a start or a time-out may have, where it has one.
 use Rattle.std.proofs.Common.{◌≡◌, ℕ, List, [], ◌∷◌, ap, subst}
 use Rattle.std.specs.Prelude.{None, Option, Some, option_map, unwrap_or}
-use Rattle.do_base.specs.declared.values.value.Value.{Value}
-use Rattle.do_base.specs.names.Names.{CallName}
+use Rattle.do_base.specs.{declared.values.value.Value.Value, names.Names.CallName}
 use Rattle.do_class.specs.Class.{Class}
-use Rattle.do_behave.specs.declared.invocation.Invocation.{Invocation}
-use Rattle.do_behave.specs.declared.invocation.InvState.{InvState}
-use Rattle.do_behave.specs.declared.invocation.InvState.TheVariants.{Waits}
-use Rattle.do_behave.specs.declared.invocation.Waited.{Waited}
-use Rattle.do_machine.specs.declared.node.Node.{Node}
-use Rattle.do_machine.specs.declared.state.Effect.{Effect}
-use Rattle.do_machine.specs.declared.verdict.Verdict.{Verdict}
-use Rattle.do_machine.specs.Context.{Context, RunContext}
-use Rattle.do_machine.specs.Effect.{only}
+use Rattle.do_behave.specs.declared.invocation.{Invocation.Invocation, InvState.InvState}
+use Rattle.do_behave.specs.declared.invocation.{InvState.TheVariants.Waits, Waited.Waited}
+use Rattle.do_machine.specs.declared.{node.Node.Node, state.Effect.Effect, verdict.Verdict.Verdict}
+use Rattle.do_machine.specs.{Context.{Context, RunContext}, Effect.only}
 use Rattle.do_machine.specs.Start.{begun, start_effect}
-use Rattle.do_machine.specs.ends.TimeOut.{give_up, time_out, time_out_on}
-use Rattle.do_machine.specs.run.Fresh.{pushed}
-use Rattle.do_machine.specs.run.Run.{Acting, run_effect, run_on, state_rule}
-use Rattle.do_machine.specs.run.Verdicts.{effect_of}
+use Rattle.do_machine.specs.{ends.TimeOut.{give_up, time_out, time_out_on}, run.Fresh.pushed}
+use Rattle.do_machine.specs.run.{Run.{Acting, run_effect, run_on, state_rule}, Verdicts.effect_of}
 
 module _ (P : Effect → Type 0) where
   -- it holds of the effect, where there is one

@@ -1,14 +1,10 @@
 -- What small effects keep and send: asks, grants, settled lends and ends.
-use Rattle.std.proofs.Common.{◌≡◌, ℕ, true, false, not, List, [], ◌∷◌, refl, ◌∙◌}
-use Rattle.std.specs.Prelude.{is_some}
-use Rattle.std.specs.List.{list_any}
-use Rattle.do_base.specs.names.Names.{TokenName}
-use Rattle.do_machine.specs.declared.item.Item.{Item}
 use Rattle.do_machine.specs.declared.item.Item.TheVariants as items
-use Rattle.do_machine.specs.declared.node.Node.{Node}
-use Rattle.do_machine.specs.declared.node.Wanted.{Wanted}
-use Rattle.do_machine.specs.Effect.{each, only, queueing}
-use Rattle.do_machine.specs.State.{is_open, stored}
+use Rattle.std.proofs.Common.{◌≡◌, ℕ, true, false, not, List, [], ◌∷◌, refl, ◌∙◌}
+use Rattle.std.specs.{Prelude.is_some, List.list_any}
+use Rattle.do_base.specs.names.Names.{TokenName}
+use Rattle.do_machine.specs.declared.{item.Item.Item, node.{Node.Node, Wanted.Wanted}}
+use Rattle.do_machine.specs.{Effect.{each, only, queueing}, State.{is_open, stored}}
 use Rattle.do_machine.specs.ends.Closing.{asked_of, closing, parted, serials_of}
 use Rattle.do_machine.specs.lend.Asking.{ask_over, asking, granting, same_wanted, settling}
 use Rattle.do_machine.specs.lend.Asking.{with_wanted, without_wanted}

@@ -1,43 +1,28 @@
 -- What a take keeps and sends, whatever the item.
+use Rattle.do_base.specs.declared.events.shown.Shown.TheVariants as shown
+use Rattle.do_behave.specs.declared.invocation.Reason.TheVariants as reasons
+use Rattle.do_machine.specs.declared.item.Item.TheVariants as items
 use Rattle.std.proofs.Common.{◌≡◌, ℕ, true, not, List, refl}
 use Rattle.std.specs.Prelude.{Err, None, Ok, Option, Result, Some, false, is_some}
-use Rattle.do_base.specs.declared.events.exception.Exc.{Exc}
-use Rattle.do_base.specs.declared.events.exception.Exc.TheVariants.{Deep, NotUnderstood, NotVended}
-use Rattle.do_base.specs.declared.events.exception.Exc.TheVariants.{TypeFault}
-use Rattle.do_base.specs.declared.events.shown.Shown.TheVariants as shown
-use Rattle.do_base.specs.declared.values.value.Value.{Value}
-use Rattle.do_base.specs.names.Names.{ObjectName, TokenName}
-use Rattle.do_class.specs.declared.ids.ClassId.{ClassId}
-use Rattle.do_class.specs.declared.ids.MethodId.{MethodId}
-use Rattle.do_class.specs.declared.packet.Name.{Name}
-use Rattle.do_class.specs.declared.packet.Name.TheVariants.{Lent}
-use Rattle.do_class.specs.declared.packet.Packet.{Packet}
+use Rattle.do_base.specs.declared.events.exception.Exc.{Exc, TheVariants.{Deep, NotUnderstood}}
+use Rattle.do_base.specs.declared.events.exception.Exc.TheVariants.{NotVended, TypeFault}
+use Rattle.do_base.specs.{declared.values.value.Value.Value, names.Names.{ObjectName, TokenName}}
+use Rattle.do_class.specs.declared.{ids.{ClassId.ClassId, MethodId.MethodId}, packet.Name.Name}
+use Rattle.do_class.specs.declared.packet.{Name.TheVariants.Lent, Packet.Packet}
 use Rattle.do_sig.specs.Calls.{args_fit}
-use Rattle.do_behave.specs.declared.invocation.Answer.TheVariants.{Raised}
-use Rattle.do_behave.specs.declared.invocation.Reason.{Reason}
-use Rattle.do_behave.specs.declared.invocation.Reason.TheVariants as reasons
-use Rattle.do_machine.specs.declared.item.Item.{Item}
-use Rattle.do_machine.specs.declared.item.Item.TheVariants as items
-use Rattle.do_machine.specs.declared.item.Message.{Message}
-use Rattle.do_machine.specs.declared.node.Node.{Node}
-use Rattle.do_machine.specs.declared.state.Effect.{Effect}
-use Rattle.do_machine.specs.Context.{Context, Found, method_for, own_class}
-use Rattle.do_machine.specs.Effect.{only}
-use Rattle.do_machine.specs.Items.{exported}
-use Rattle.do_machine.specs.Objects.{object_at}
-use Rattle.do_machine.specs.Lists.{IsIn}
-use Rattle.do_machine.specs.State.{is_open, own, stored}
-use Rattle.do_machine.specs.ends.Closing.{parted, serials_of}
-use Rattle.do_machine.specs.lend.Asking.{wanted, with_wanted}
-use Rattle.do_machine.specs.lend.Lending.{with_settled}
-use Rattle.do_machine.specs.run.Fresh.{fresh, is_full, pushed, with_objects}
-use Rattle.do_machine.specs.take.Awaiting.{AnsweredCall, answering, values_answer}
-use Rattle.do_machine.specs.take.Receipt.{arrived, received, receiving, receiving_name}
-use Rattle.do_machine.specs.take.Requests.{refusing, request}
+use Rattle.do_behave.specs.declared.invocation.{Answer.TheVariants.Raised, Reason.Reason}
+use Rattle.do_machine.specs.declared.{item.{Item.Item, Message.Message}, node.Node.Node}
+use Rattle.do_machine.specs.{declared.state.Effect.Effect, Context.{Context, Found, method_for}}
+use Rattle.do_machine.specs.{Context.own_class, Effect.only, Items.exported, Objects.object_at}
+use Rattle.do_machine.specs.{Lists.IsIn, State.{is_open, own, stored}}
+use Rattle.do_machine.specs.{ends.Closing.{parted, serials_of}, lend.Asking.{wanted, with_wanted}}
+use Rattle.do_machine.specs.{lend.Lending.with_settled, run.Fresh.{fresh, is_full, pushed}}
+use Rattle.do_machine.specs.{run.Fresh.with_objects, take.Awaiting.{AnsweredCall, answering}}
+use Rattle.do_machine.specs.take.{Awaiting.values_answer, Receipt.{arrived, received, receiving}}
+use Rattle.do_machine.specs.take.{Receipt.receiving_name, Requests.{refusing, request}}
 use Rattle.do_machine.specs.take.Take.{arrival, holding, method_call, root_call, root_packet}
 use Rattle.do_machine.specs.take.Take.{take_effect, values_arrival}
-use Rattle.do_facts.proofs.Chains.{either, found_or, not_closed}
-use Rattle.do_facts.proofs.RulesOfActs.{is_raised}
+use Rattle.do_facts.proofs.{Chains.{either, found_or, not_closed}, RulesOfActs.is_raised}
 use Rattle.do_facts.proofs.walk.Done.{Done, alone, each_within, queues, shows, then_done}
 use Rattle.do_facts.proofs.walk.SmallEffects.{Small, by_ask_over, by_asking, by_closing}
 use Rattle.do_facts.proofs.walk.SmallEffects.{by_granting}

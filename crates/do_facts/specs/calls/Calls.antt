@@ -1,13 +1,10 @@
 -- Which calls a node waits for and serves, and what items say of calls.
-use Rattle.std.specs.Prelude.{Bool, List, [], map, ℕ, ◌∷◌}
-use Rattle.do_behave.specs.declared.invocation.Invocation.{Invocation}
-use Rattle.do_behave.specs.declared.invocation.InvState.{InvState}
 use Rattle.do_behave.specs.declared.invocation.InvState.TheVariants as states
-use Rattle.do_behave.specs.declared.invocation.Reason.{Reason}
-use Rattle.do_machine.specs.declared.item.Item.{Item}
 use Rattle.do_machine.specs.declared.item.Item.TheVariants as items
-use Rattle.do_machine.specs.declared.node.LateCall.{LateCall}
-use Rattle.do_machine.specs.declared.node.Node.{Node}
+use Rattle.std.specs.Prelude.{Bool, List, [], map, ℕ, ◌∷◌}
+use Rattle.do_behave.specs.declared.invocation.{Invocation.Invocation, InvState.InvState}
+use Rattle.do_behave.specs.declared.invocation.Reason.{Reason}
+use Rattle.do_machine.specs.declared.{item.Item.Item, node.{LateCall.LateCall, Node.Node}}
 use Rattle.do_machine.specs.take.Awaiting.{is_for_root}
 use Rattle.do_facts.specs.View.{View}
 

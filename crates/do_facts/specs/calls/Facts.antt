@@ -1,14 +1,11 @@
 -- Each call is in one place, and each answer is waited for.
-use Rattle.std.specs.Prelude.{Bool, false, if◌then◌else◌, true, ℕ, ◌+◌, ◌<◌, ◌==◌, ◌≡◌, ◌≤◌, ◌≢◌}
 use Rattle.do_behave.specs.declared.invocation.Reason.TheVariants as reasons
-use Rattle.do_machine.specs.declared.node.LateCall.{LateCall}
-use Rattle.do_machine.specs.declared.state.State.{State}
+use Rattle.std.specs.Prelude.{Bool, false, if◌then◌else◌, true, ℕ, ◌+◌, ◌<◌, ◌==◌, ◌≡◌, ◌≤◌, ◌≢◌}
+use Rattle.do_machine.specs.declared.{node.LateCall.LateCall, state.State.State}
 use Rattle.do_facts.specs.laws.Entries.{HasQueues}
 use Rattle.do_machine.specs.take.Awaiting.{AnsweredCall, is_answered}
-use Rattle.do_facts.specs.Net.{Net, total}
-use Rattle.do_facts.specs.View.{net_of}
-use Rattle.do_facts.specs.calls.Calls.{Answer, Atom, Called, Calls, Frame, On, RootAnswer, RootAsk}
-use Rattle.do_facts.specs.calls.Calls.{calls}
+use Rattle.do_facts.specs.{Net.{Net, total}, View.net_of, calls.Calls.{Answer, Atom, Called, Calls}}
+use Rattle.do_facts.specs.calls.Calls.{Frame, On, RootAnswer, RootAsk, calls}
 use Rattle.do_facts.specs.calls.Moves.{AreShaped, answered_call, is_on, opens}
 
 -- 1 for a call of a number, on its way

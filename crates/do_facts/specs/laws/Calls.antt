@@ -1,20 +1,13 @@
 -- What is left of calls and lends that are over.
-use Rattle.std.specs.Prelude.{All, Bool, List, false, true, ℕ, ◌==◌, ◌≡◌, ◌∷◌}
-use Rattle.std.specs.List.{list_any}
-use Rattle.do_base.specs.names.Names.{CallName}
-use Rattle.do_base.specs.declared.events.exception.Exc.TheVariants.{TimedOut}
-use Rattle.do_behave.specs.declared.invocation.Answer.TheVariants.{Raised}
-use Rattle.do_behave.specs.declared.invocation.Invocation.{Invocation}
-use Rattle.do_behave.specs.declared.invocation.InvState.{InvState}
-use Rattle.do_behave.specs.declared.invocation.InvState.TheVariants.{Waits}
-use Rattle.do_behave.specs.declared.invocation.Waited.{Waited}
-use Rattle.do_machine.specs.declared.item.Item.{Item}
-use Rattle.do_machine.specs.declared.node.Node.{Node}
-use Rattle.do_machine.specs.declared.state.Effect.{Effect}
-use Rattle.do_machine.specs.State.{is_open}
-use Rattle.do_machine.specs.run.Changes.{answered}
-use Rattle.do_machine.specs.take.Awaiting.{AnsweredCall, is_answered, is_for_root}
 use Rattle.do_machine.specs.declared.item.Item.TheVariants as items
+use Rattle.std.specs.{Prelude.{All, Bool, List, false, true, ℕ, ◌==◌, ◌≡◌, ◌∷◌}, List.list_any}
+use Rattle.do_base.specs.{names.Names.CallName, declared.events.exception.Exc.TheVariants.TimedOut}
+use Rattle.do_behave.specs.declared.invocation.{Answer.TheVariants.Raised, Invocation.Invocation}
+use Rattle.do_behave.specs.declared.invocation.InvState.{InvState, TheVariants.Waits}
+use Rattle.do_behave.specs.declared.invocation.Waited.{Waited}
+use Rattle.do_machine.specs.declared.{item.Item.Item, node.Node.Node, state.Effect.Effect}
+use Rattle.do_machine.specs.{State.is_open, run.Changes.answered}
+use Rattle.do_machine.specs.take.Awaiting.{AnsweredCall, is_answered, is_for_root}
 
 -- an item that ends a lend
 abbrev pub is_settled : Item → Bool

@@ -1,10 +1,9 @@
 -- By which steps the entries of a node may change.
+use Rattle.do_base.specs.declared.events.event.Event.TheVariants as events
 use Rattle.std.specs.Prelude.{None, Some, false, ℕ, ◌==◌, ◌≡◌}
 use Rattle.do_base.specs.declared.events.event.Event.{Event}
-use Rattle.do_machine.specs.declared.node.Node.{Node}
-use Rattle.do_machine.specs.declared.state.State.{State}
+use Rattle.do_machine.specs.declared.{node.Node.Node, state.State.State}
 use Rattle.do_machine.specs.State.{is_open, node, queue}
-use Rattle.do_base.specs.declared.events.event.Event.TheVariants as events
 
 -- a node's end is closed towards each port to which it has no queue
 pub record HasQueues (S : State) : Type 0 where

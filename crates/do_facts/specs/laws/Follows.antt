@@ -1,11 +1,9 @@
 -- What a node keeps through its steps.
-use Rattle.std.specs.Prelude.{None, Some, [], true, ℕ, ◌≡◌, ◌≤◌}
-use Rattle.do_base.specs.names.Names.{ObjectName}
-use Rattle.do_base.specs.declared.events.event.Event.{Event}
-use Rattle.do_machine.specs.declared.node.Node.{Node}
-use Rattle.do_machine.specs.declared.state.State.{State}
-use Rattle.do_machine.specs.State.{holds, is_open, node}
 use Rattle.do_base.specs.declared.events.event.Event.TheVariants as events
+use Rattle.std.specs.Prelude.{None, Some, [], true, ℕ, ◌≡◌, ◌≤◌}
+use Rattle.do_base.specs.{names.Names.ObjectName, declared.events.event.Event.Event}
+use Rattle.do_machine.specs.declared.{node.Node.Node, state.State.State}
+use Rattle.do_machine.specs.State.{holds, is_open, node}
 
 -- the node's end is open towards the home of each object that it holds
 pub record HoldsOpen (n : Node) : Type 0 where

@@ -1,14 +1,10 @@
 -- How long a lend lasts.
+use Rattle.do_base.specs.declared.events.event.Event.TheVariants as events
+use Rattle.do_machine.specs.declared.item.Item.TheVariants as items
 use Rattle.std.specs.Prelude.{List, Some, false, true, ℕ, ◌∷◌, ◌≡◌}
 use Rattle.do_base.specs.declared.events.event.Event.{Event}
-use Rattle.do_base.specs.declared.events.event.Event.TheVariants as events
-use Rattle.do_machine.specs.declared.item.Item.{Item}
-use Rattle.do_machine.specs.declared.item.Item.TheVariants as items
-use Rattle.do_machine.specs.declared.node.Lend.{Lend}
-use Rattle.do_machine.specs.declared.node.Node.{Node}
-use Rattle.do_machine.specs.declared.state.State.{State}
-use Rattle.do_machine.specs.Lists.{IsIn}
-use Rattle.do_machine.specs.State.{is_open, queue}
+use Rattle.do_machine.specs.declared.{item.Item.Item, node.{Lend.Lend, Node.Node}}
+use Rattle.do_machine.specs.{declared.state.State.State, Lists.IsIn, State.{is_open, queue}}
 
 -- by the event the node of a port takes the borrower's notice that a lend is over
 pub record TakesNotice (S : State) (event : Event) (port : ℕ) (l : Lend) : Type 0 where

@@ -1,15 +1,10 @@
 -- What a node has of foreign objects, and what items say of them.
-use Rattle.std.specs.Prelude.{List, [], ℕ, ◌∷◌}
-use Rattle.std.specs.List.{flat_map}
-use Rattle.do_base.specs.names.Names.{ObjectName, TokenName}
-use Rattle.do_class.specs.declared.packet.Name.{Name}
 use Rattle.do_class.specs.declared.packet.Name.TheVariants as names
-use Rattle.do_class.specs.declared.packet.Packet.{Packet}
-use Rattle.do_machine.specs.declared.item.Item.{Item}
 use Rattle.do_machine.specs.declared.item.Item.TheVariants as items
-use Rattle.do_machine.specs.declared.node.Lend.{Lend}
-use Rattle.do_machine.specs.declared.node.Node.{Node}
-use Rattle.do_machine.specs.declared.node.Stored.{Stored}
+use Rattle.std.specs.{Prelude.{List, [], ℕ, ◌∷◌}, List.flat_map}
+use Rattle.do_base.specs.names.Names.{ObjectName, TokenName}
+use Rattle.do_class.specs.declared.packet.{Name.Name, Packet.Packet}
+use Rattle.do_machine.specs.declared.{item.Item.Item, node.{Lend.Lend, Node.Node, Stored.Stored}}
 use Rattle.do_machine.specs.declared.node.Wanted.{Wanted}
 use Rattle.do_facts.specs.View.{View}
 

@@ -1,11 +1,8 @@
 -- What holds of foreign objects in every state that a machine comes to.
 use Rattle.std.specs.Prelude.{ℕ}
 use Rattle.do_machine.specs.declared.state.State.{State}
-use Rattle.do_facts.specs.laws.Entries.{HasQueues}
-use Rattle.do_facts.specs.View.{net_of}
-use Rattle.do_facts.specs.links.Facts.{EachSilent, LinksHold}
-use Rattle.do_facts.specs.links.Links.{links}
-use Rattle.do_facts.specs.links.Sound.{IsSound}
+use Rattle.do_facts.specs.{laws.Entries.HasQueues, View.net_of, links.Facts.{EachSilent, LinksHold}}
+use Rattle.do_facts.specs.links.{Links.links, Sound.IsSound}
 
 -- nodes have their queues and are sound, each lend and each ask is in one place, and over an open
 -- end no end was told that names an object

@@ -1,22 +1,14 @@
 -- How what a node has of foreign objects moves.
 use Rattle.std.specs.Prelude.{Bool, List, [], false, filter, if◌then◌else◌, is_some, not, suc, true}
-use Rattle.std.specs.Prelude.{ℕ, ◌&&◌, ◌++◌, ◌<◌, ◌==◌, ◌||◌, ◌∷◌, ◌≡◌, ◌≤◌}
-use Rattle.std.specs.List.{list_any}
+use Rattle.std.specs.{Prelude.{ℕ, ◌&&◌, ◌++◌, ◌<◌, ◌==◌, ◌||◌, ◌∷◌, ◌≡◌, ◌≤◌}, List.list_any}
 use Rattle.do_base.specs.names.Names.{ObjectName, TokenName}
 use Rattle.do_packet.specs.Met.{has_object, same_object}
-use Rattle.do_machine.specs.declared.node.Lend.{Lend}
-use Rattle.do_machine.specs.declared.node.Stored.{Stored}
-use Rattle.do_machine.specs.declared.node.Wanted.{Wanted}
-use Rattle.do_machine.specs.Lists.{inserted}
-use Rattle.do_machine.specs.Objects.{joined, object_at}
-use Rattle.do_machine.specs.State.{stored}
-use Rattle.do_machine.specs.ends.Closing.{serials_of}
-use Rattle.do_machine.specs.lend.Asking.{same_wanted, wanted, wanted_lt}
+use Rattle.do_machine.specs.declared.node.{Lend.Lend, Stored.Stored, Wanted.Wanted}
+use Rattle.do_machine.specs.{Lists.inserted, Objects.{joined, object_at}, State.stored}
+use Rattle.do_machine.specs.{ends.Closing.serials_of, lend.Asking.{same_wanted, wanted, wanted_lt}}
 use Rattle.do_machine.specs.lend.Lending.{is_lend}
-use Rattle.do_facts.specs.Net.{Note}
-use Rattle.do_facts.specs.Moves.{Rules}
-use Rattle.do_facts.specs.links.Links.{Atom, Ask, End, Gone, Granted, Left, Lent, Links, Mine}
-use Rattle.do_facts.specs.links.Links.{Settled, Yours}
+use Rattle.do_facts.specs.{Net.Note, Moves.Rules, links.Links.{Atom, Ask, End, Gone, Granted, Left}}
+use Rattle.do_facts.specs.links.Links.{Lent, Links, Mine, Settled, Yours}
 
 -- a move of a node; where a lend is over, the last argument says whether the lender is told
 pub data Move : Type 0 where

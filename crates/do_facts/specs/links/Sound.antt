@@ -3,9 +3,7 @@ use Rattle.std.specs.Prelude.{true, ℕ, ◌<◌, ◌≡◌}
 use Rattle.do_base.specs.names.Names.{ObjectName}
 use Rattle.do_packet.specs.Met.{has_object, same_object}
 use Rattle.do_machine.specs.lend.Asking.{same_wanted}
-use Rattle.do_facts.specs.StandOnce.{StandOnce}
-use Rattle.do_facts.specs.links.Links.{Links}
-use Rattle.do_facts.specs.links.Moves.{opens, stores}
+use Rattle.do_facts.specs.{StandOnce.StandOnce, links.{Links.Links, Moves.{opens, stores}}}
 
 -- what is held is held once and over an open end, what is asked for is asked for once, and what is
 -- stored was made

@@ -1,18 +1,11 @@
 -- What a time-out leaves of a call.
-use Rattle.std.specs.Prelude.{List, Some, true, ℕ, ◌∷◌, ◌≡◌}
-use Rattle.std.specs.List.{list_any}
-use Rattle.do_base.specs.declared.events.exception.Exc.TheVariants.{TimedOut}
-use Rattle.do_base.specs.names.Names.{CallName}
-use Rattle.do_behave.specs.declared.invocation.Answer.TheVariants.{Raised}
-use Rattle.do_behave.specs.declared.invocation.Invocation.{Invocation}
-use Rattle.do_behave.specs.declared.invocation.InvState.TheVariants.{Waits}
-use Rattle.do_behave.specs.declared.invocation.Waited.{Waited}
-use Rattle.do_machine.specs.declared.node.Node.{Node}
-use Rattle.do_machine.specs.declared.state.State.{State}
-use Rattle.do_machine.specs.State.{node}
+use Rattle.std.specs.{Prelude.{List, Some, true, ℕ, ◌∷◌, ◌≡◌}, List.list_any}
+use Rattle.do_base.specs.{declared.events.exception.Exc.TheVariants.TimedOut, names.Names.CallName}
+use Rattle.do_behave.specs.declared.invocation.{Answer.TheVariants.Raised, Invocation.Invocation}
+use Rattle.do_behave.specs.declared.invocation.{InvState.TheVariants.Waits, Waited.Waited}
+use Rattle.do_machine.specs.{declared.{node.Node.Node, state.State.State}, State.node}
 use Rattle.do_facts.specs.laws.Calls.{answered_call}
-use Rattle.do_machine.specs.run.Changes.{answered}
-use Rattle.do_machine.specs.take.Awaiting.{is_answered}
+use Rattle.do_machine.specs.{run.Changes.answered, take.Awaiting.is_answered}
 
 -- the top invocation of a node waits for a call
 pub record WaitsOnTop (n : Node) (i : Invocation) (below : List Invocation) (call : CallName)

@@ -2,9 +2,7 @@
 use Rattle.std.specs.Prelude.{Some, true, ℕ, ◌≡◌}
 use Rattle.do_base.specs.names.Names.{ObjectName}
 use Rattle.do_packet.specs.Met.{has_object}
-use Rattle.do_machine.specs.declared.node.Node.{Node}
-use Rattle.do_machine.specs.declared.state.State.{State}
-use Rattle.do_machine.specs.State.{holds, node}
+use Rattle.do_machine.specs.{declared.{node.Node.Node, state.State.State}, State.{holds, node}}
 use Rattle.do_machine.specs.held.Refers.{node_objects}
 
 -- each foreign object that a node holds is named in a slot, an invocation, a lend or an ask

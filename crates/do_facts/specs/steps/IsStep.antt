@@ -1,22 +1,14 @@
 -- What one event comes to.
-use Rattle.std.specs.Prelude.{List, Some, [], length, true, ℕ, ◌∷◌, ◌≡◌, ◌≤◌}
-use Rattle.std.specs.List.{insert}
-use Rattle.do_base.specs.declared.events.event.Event.{Event}
 use Rattle.do_base.specs.declared.events.event.Event.TheVariants as events
-use Rattle.do_class.specs.Class.{Class}
-use Rattle.do_machine.specs.declared.item.Item.{Item}
 use Rattle.do_machine.specs.declared.item.Item.TheVariants as items
-use Rattle.do_machine.specs.declared.node.Node.{Node}
-use Rattle.do_machine.specs.declared.state.Effect.{Effect}
-use Rattle.do_machine.specs.declared.state.State.{State}
-use Rattle.do_machine.specs.declared.state.Stepped.{Stepped}
-use Rattle.do_machine.specs.Commit.{moved, showed, skipped}
-use Rattle.do_machine.specs.Context.{context}
-use Rattle.do_machine.specs.Start.{start_effect}
-use Rattle.do_machine.specs.State.{change, is_open, node, queue, with_queue}
-use Rattle.do_machine.specs.ends.Closing.{closing}
-use Rattle.do_machine.specs.ends.TimeOut.{time_out}
-use Rattle.do_machine.specs.run.Run.{Acting, run_effect}
+use Rattle.std.specs.{Prelude.{List, Some, [], length, true, ℕ, ◌∷◌, ◌≡◌, ◌≤◌}, List.insert}
+use Rattle.do_base.specs.declared.events.event.Event.{Event}
+use Rattle.do_class.specs.Class.{Class}
+use Rattle.do_machine.specs.declared.{item.Item.Item, node.Node.Node, state.Effect.Effect}
+use Rattle.do_machine.specs.declared.state.{State.State, Stepped.Stepped}
+use Rattle.do_machine.specs.{Commit.{moved, showed, skipped}, Context.context, Start.start_effect}
+use Rattle.do_machine.specs.{State.{change, is_open, node, queue, with_queue}, ends.Closing.closing}
+use Rattle.do_machine.specs.{ends.TimeOut.time_out, run.Run.{Acting, run_effect}}
 use Rattle.do_machine.specs.take.Take.{take_effect}
 
 -- by the event the node of a port acts, and takes nothing

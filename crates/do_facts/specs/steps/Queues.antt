@@ -1,13 +1,10 @@
 -- What an event does to the queues between nodes.
-use Rattle.std.specs.Prelude.{Bool, List, Some, [], false, length, ℕ, ◌&&◌, ◌++◌, ◌==◌, ◌∷◌}
-use Rattle.std.specs.Prelude.{◌≡◌, ◌≤◌}
-use Rattle.std.specs.List.{insert}
-use Rattle.do_base.specs.declared.events.event.Event.{Event}
 use Rattle.do_base.specs.declared.events.event.Event.TheVariants as events
-use Rattle.do_machine.specs.declared.item.Item.{Item}
 use Rattle.do_machine.specs.declared.item.Item.TheVariants as items
-use Rattle.do_machine.specs.declared.state.State.{State}
-use Rattle.do_machine.specs.State.{queue}
+use Rattle.std.specs.Prelude.{Bool, List, Some, [], false, length, ℕ, ◌&&◌, ◌++◌, ◌==◌, ◌∷◌, ◌≡◌}
+use Rattle.std.specs.{Prelude.◌≤◌, List.insert}
+use Rattle.do_base.specs.declared.events.event.Event.{Event}
+use Rattle.do_machine.specs.{declared.{item.Item.Item, state.State.State}, State.queue}
 
 -- the event takes from the queue between two ports, or loses something in it
 abbrev pub touches : Event → ℕ → ℕ → Bool

@@ -1,17 +1,10 @@
 ghost use Rattle.std.specs.Prelude.{List};
 ghost use Rattle.do_base.specs.declared.events.event.Event.{Event};
 ghost use Rattle.do_class.specs.Class.{Class};
-ghost use Rattle.do_machine.specs.declared.state.Seat.{Seat};
-ghost use Rattle.do_machine.specs.declared.state.State.{State};
-ghost use Rattle.do_machine.specs.Step.{step};
-ghost use Rattle.do_machine.specs.World.{opening};
-ghost use Rattle.do_machine.specs.run.Run.{Acting};
-ghost use Rattle.do_facts.specs.ByEvents.{IsBy};
-ghost use Rattle.do_facts.specs.Moves.{Reaches};
-ghost use Rattle.do_facts.specs.Reached.{reached};
-ghost use Rattle.do_facts.specs.View.{net_of};
-ghost use Rattle.do_facts.specs.calls.Calls.{calls};
-ghost use Rattle.do_facts.specs.calls.Facts.{AnswersAreKnown, CallsAreKept};
+ghost use Rattle.do_machine.specs.{declared.state.{Seat.Seat, State.State}, Step.step};
+ghost use Rattle.do_machine.specs.{World.opening, run.Run.Acting};
+ghost use Rattle.do_facts.specs.{ByEvents.IsBy, Moves.Reaches, Reached.reached, View.net_of};
+ghost use Rattle.do_facts.specs.calls.{Calls.calls, Facts.{AnswersAreKnown, CallsAreKept}};
 ghost use Rattle.do_facts.specs.calls.Moves.{call_rules};
 
 /// Every step is a list of moves of the calls of the event's node; a loss is one loss, in the queue

@@ -1,24 +1,12 @@
 ghost use Rattle.std.specs.Prelude.{List, Some, ℕ, ◌≡◌};
 ghost use Rattle.do_base.specs.declared.events.event.Event.{Event};
 ghost use Rattle.do_class.specs.Class.{Class};
-ghost use Rattle.do_machine.specs.declared.node.Lend.{Lend};
-ghost use Rattle.do_machine.specs.declared.node.Node.{Node};
-ghost use Rattle.do_machine.specs.declared.state.Seat.{Seat};
-ghost use Rattle.do_machine.specs.declared.state.State.{State};
-ghost use Rattle.do_machine.specs.Lists.{IsIn};
-ghost use Rattle.do_machine.specs.State.{node};
-ghost use Rattle.do_machine.specs.Step.{step};
-ghost use Rattle.do_machine.specs.World.{opening};
-ghost use Rattle.do_machine.specs.run.Run.{Acting};
-ghost use Rattle.do_facts.specs.ByEvents.{IsBy};
-ghost use Rattle.do_facts.specs.Moves.{Reaches};
-ghost use Rattle.do_facts.specs.Reached.{reached};
-ghost use Rattle.do_facts.specs.View.{net_of};
-ghost use Rattle.do_facts.specs.links.Facts.{ReportsAreKnown};
-ghost use Rattle.do_facts.specs.links.Lasting.{Lasts};
-ghost use Rattle.do_facts.specs.links.Links.{links};
-ghost use Rattle.do_facts.specs.links.LinksAreKept.{LinksAreKept};
-ghost use Rattle.do_facts.specs.links.Moves.{link_rules};
+ghost use Rattle.do_machine.specs.declared.{node.{Lend.Lend, Node.Node}, state.Seat.Seat};
+ghost use Rattle.do_machine.specs.{declared.state.State.State, Lists.IsIn, State.node, Step.step};
+ghost use Rattle.do_machine.specs.{World.opening, run.Run.Acting};
+ghost use Rattle.do_facts.specs.{ByEvents.IsBy, Moves.Reaches, Reached.reached, View.net_of};
+ghost use Rattle.do_facts.specs.links.{Facts.ReportsAreKnown, Lasting.Lasts, Links.links};
+ghost use Rattle.do_facts.specs.links.{LinksAreKept.LinksAreKept, Moves.link_rules};
 
 /// Every step is a list of moves of what the event's node has of foreign objects. A loss is one
 /// loss, in the queue that it names, and a check is nothing.

@@ -1,10 +1,8 @@
 ghost use Rattle.std.specs.Prelude.{List};
 ghost use Rattle.do_base.specs.declared.events.event.Event.{Event};
 ghost use Rattle.do_class.specs.Class.{Class};
-ghost use Rattle.do_machine.specs.declared.state.Seat.{Seat};
-ghost use Rattle.do_machine.specs.run.Run.{Acting};
-ghost use Rattle.do_facts.specs.Made.{EnteredAreStored, NamedAreMade};
-ghost use Rattle.do_facts.specs.Reached.{reached};
+ghost use Rattle.do_machine.specs.{declared.state.Seat.Seat, run.Run.Acting};
+ghost use Rattle.do_facts.specs.{Made.{EnteredAreStored, NamedAreMade}, Reached.reached};
 
 /// In every state that a machine comes to, each object that a node holds, lends or asks for was
 /// made. So was each that an item on its way names.

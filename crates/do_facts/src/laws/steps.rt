@@ -2,26 +2,17 @@ ghost use Rattle.std.specs.Prelude.{false, true, List, None, Some, ℕ, ◌==◌
 ghost use Rattle.do_base.specs.declared.events.event.Event.{Event};
 ghost use Rattle.do_base.specs.declared.events.event.Event.TheVariants.{Lose, Take, Timeout};
 ghost use Rattle.do_base.specs.names.Names.{CallName, ObjectName};
-ghost use Rattle.do_behave.specs.declared.invocation.Invocation.{Invocation};
-ghost use Rattle.do_behave.specs.declared.invocation.Waited.{Waited};
-ghost use Rattle.do_class.specs.Class.{Class};
-ghost use Rattle.do_class.specs.declared.ids.ClassId.{ClassId};
-ghost use Rattle.do_machine.specs.declared.item.Item.{Item};
-ghost use Rattle.do_machine.specs.declared.node.Node.{Node};
-ghost use Rattle.do_machine.specs.declared.state.Effect.{Effect};
-ghost use Rattle.do_machine.specs.declared.state.Seat.{Seat};
-ghost use Rattle.do_machine.specs.declared.state.State.{State};
-ghost use Rattle.do_machine.specs.Commit.{moved};
-ghost use Rattle.do_machine.specs.Entry.{has_entry};
-ghost use Rattle.do_machine.specs.State.{class_of, node, queue};
-ghost use Rattle.do_machine.specs.Step.{step};
+ghost use Rattle.do_behave.specs.declared.invocation.{Invocation.Invocation, Waited.Waited};
+ghost use Rattle.do_class.specs.{Class.Class, declared.ids.ClassId.ClassId};
+ghost use Rattle.do_machine.specs.declared.{item.Item.Item, node.Node.Node, state.Effect.Effect};
+ghost use Rattle.do_machine.specs.{declared.state.{Seat.Seat, State.State}, Commit.moved};
+ghost use Rattle.do_machine.specs.{Entry.has_entry, State.{class_of, node, queue}, Step.step};
 ghost use Rattle.do_machine.specs.World.{opening};
 ghost use Rattle.do_facts.specs.laws.Entries.{IsNoStepOf};
 ghost use Rattle.do_machine.specs.run.Run.{Acting};
 ghost use Rattle.do_facts.specs.Reached.{reached};
 ghost use Rattle.do_facts.specs.steps.GivenUp.{CanGiveUp, HasGivenUp, WaitsOnTop};
-ghost use Rattle.do_facts.specs.steps.Held.{AllReferToHeld};
-ghost use Rattle.do_facts.specs.steps.IsStep.{IsActOf, IsRuleOf, IsStep};
+ghost use Rattle.do_facts.specs.steps.{Held.AllReferToHeld, IsStep.{IsActOf, IsRuleOf, IsStep}};
 ghost use Rattle.do_facts.specs.steps.Queues.{IsLost, IsTaken, StandBehind, touches};
 
 /// A step is two effects of one node, that of the event's rule and what the node frees and leaves

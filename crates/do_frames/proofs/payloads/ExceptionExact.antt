@@ -1,20 +1,14 @@
 -- Exceptions are read exactly.
-use Rattle.std.proofs.Common.{zero, suc}
-use Rattle.std.proofs.Common.{◌≡◌, ℕ, ◌≤◌, Bool, true, false, List, [], ◌++◌, length, cond, refl}
-use Rattle.std.proofs.Common.{sym, ap, ◌∙◌, arith}
-use Rattle.std.specs.Prelude.{◌==◌}
-use Rattle.do_base.specs.declared.events.exception.Exc.{Exc}
-use Rattle.do_base.specs.declared.events.exception.Exc.TheVariants.{TypeFault, Range, Deep}
+use Rattle.std.proofs.Common.{zero, suc, ◌≡◌, ℕ, ◌≤◌, Bool, true, false, List, [], ◌++◌, length}
+use Rattle.std.{proofs.Common.{cond, refl, sym, ap, ◌∙◌, arith}, specs.Prelude.◌==◌}
+use Rattle.do_base.specs.declared.events.exception.Exc.{Exc, TheVariants.{TypeFault, Range, Deep}}
 use Rattle.do_base.specs.declared.events.exception.Exc.TheVariants.{NotUnderstood, ConnectionDied}
 use Rattle.do_base.specs.declared.events.exception.Exc.TheVariants.{NotVended, TooLarge, User}
 use Rattle.do_base.specs.declared.events.exception.Exc.TheVariants.{TimedOut}
-use Rattle.do_grammar.specs.Grammar.{IsBytes}
-use Rattle.do_grammar.specs.Num.{num, num_at, counted, counted_at, CountedText}
-use Rattle.do_grammar.specs.OneSpelling.{Spelled, both}
-use Rattle.do_grammar.specs.Reader.{no_kind, done}
-use Rattle.do_grammar.proofs.reads.ExactReader.{Reads, Reads-as}
-use Rattle.do_grammar.proofs.reads.OneSpellingExact.{Reads-both, Reads-onto, Reads-nothing}
-use Rattle.do_grammar.proofs.reads.OneSpellingExact.{Reads-number}
+use Rattle.do_grammar.specs.{Grammar.IsBytes, Num.{num, num_at, counted, counted_at, CountedText}}
+use Rattle.do_grammar.specs.{OneSpelling.{Spelled, both}, Reader.{no_kind, done}}
+use Rattle.do_grammar.proofs.reads.{ExactReader.{Reads, Reads-as}, OneSpellingExact.Reads-both}
+use Rattle.do_grammar.proofs.reads.OneSpellingExact.{Reads-onto, Reads-nothing, Reads-number}
 use Rattle.do_grammar.proofs.texts.NumExact.{Reads-counted_text}
 use Rattle.do_frames.specs.Exceptions.{exc_number, exc_text, text_spelling, exc_spelling, IsExc}
 use Rattle.do_frames.specs.Exceptions.{exc_of, text_at, exc_at}

@@ -1,30 +1,23 @@
 -- Payloads of each kind are read exactly.
+use Rattle.do_frames.specs.declared.kind.Kind.TheVariants as kinds
 use Rattle.std.proofs.Common.{◌≡◌, ℕ, ◌≤◌, List, ◌++◌, Some, refl, sym, ap, subst, ◌∙◌, arith}
-use Rattle.do_grammar.specs.Num.{num, counted}
-use Rattle.do_grammar.specs.OneSpelling.{Spelled, both}
+use Rattle.do_grammar.specs.{Num.{num, counted}, OneSpelling.{Spelled, both}}
 use Rattle.do_grammar.specs.Reader.{Reader, mapped}
-use Rattle.do_grammar.proofs.reads.ExactReader.{Reads, Reads-as}
-use Rattle.do_grammar.proofs.reads.OneSpellingExact.{Reads-both, Reads-onto, Reads-nothing}
-use Rattle.do_grammar.proofs.reads.OneSpellingExact.{Reads-number}
-use Rattle.do_coder.specs.declared.recent.pair.Pair.{Pair}
-use Rattle.do_coder.specs.Names.{serial_at}
+use Rattle.do_grammar.proofs.reads.{ExactReader.{Reads, Reads-as}, OneSpellingExact.Reads-both}
+use Rattle.do_grammar.proofs.reads.OneSpellingExact.{Reads-onto, Reads-nothing, Reads-number}
+use Rattle.do_coder.specs.{declared.recent.pair.Pair.Pair, Names.serial_at}
 use Rattle.do_coder.specs.Packets.{Surroundings, packet_spelling, SpellsPacket, IsPacket, packet_at}
 use Rattle.do_coder.specs.Recent.{IsSerial}
-use Rattle.do_frames.specs.declared.frame.Frame.{Frame}
-use Rattle.do_frames.specs.declared.frame.Frame.TheVariants.{Shutdown}
-use Rattle.do_frames.specs.declared.kind.Kind.{Kind}
-use Rattle.do_frames.specs.declared.kind.Kind.TheVariants as kinds
+use Rattle.do_frames.specs.declared.{frame.Frame.{Frame, TheVariants.Shutdown}, kind.Kind.Kind}
 use Rattle.do_frames.specs.Exceptions.{exc_spelling, IsExc, exc_at}
 use Rattle.do_frames.specs.Frames.{kind_of, payload_spelling, token_spelling, IsToken, IsFrame}
-use Rattle.do_frames.specs.Kinds.{kind_number, kind_at}
-use Rattle.do_frames.specs.Payloads.{SpellsPayload, port_at, token, message_at, answer_at}
-use Rattle.do_frames.specs.Payloads.{token_at, call_at, oneway_at, reply_at, raised_at, root_ask_at}
-use Rattle.do_frames.specs.Payloads.{root_answer_at, retain_at, granted_at, gone_at, release_at}
-use Rattle.do_frames.specs.Payloads.{settle_at, payload_at}
+use Rattle.do_frames.specs.{Kinds.{kind_number, kind_at}, Payloads.{SpellsPayload, port_at, token}}
+use Rattle.do_frames.specs.Payloads.{message_at, answer_at, token_at, call_at, oneway_at, reply_at}
+use Rattle.do_frames.specs.Payloads.{raised_at, root_ask_at, root_answer_at, retain_at, granted_at}
+use Rattle.do_frames.specs.Payloads.{gone_at, release_at, settle_at, payload_at}
 use Rattle.do_frames.specs.Selectors.{IsSelector, selector_at}
-use Rattle.do_frames.proofs.payloads.ExceptionExact.{Reads-exc}
-use Rattle.do_frames.proofs.payloads.PayloadParts.{Parts, made_of, parts_of, made_again, made_kind}
-use Rattle.do_frames.proofs.payloads.PayloadParts.{number_at}
+use Rattle.do_frames.proofs.payloads.{ExceptionExact.Reads-exc, PayloadParts.{Parts, made_of}}
+use Rattle.do_frames.proofs.payloads.PayloadParts.{parts_of, made_again, made_kind, number_at}
 use Rattle.do_frames.proofs.selectors.SelectorExact.{Reads-selector}
 
 -- ---- what payloads hold

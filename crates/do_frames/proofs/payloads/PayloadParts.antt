@@ -1,16 +1,12 @@
 -- What payloads hold: the parts of each kind, of which a frame is made.
-use Rattle.std.proofs.Common.{◌≡◌, ℕ, List, Some, refl}
-use Rattle.do_base.specs.declared.events.exception.Exc.{Exc}
-use Rattle.do_base.specs.names.Names.{TokenName}
-use Rattle.do_class.specs.declared.packet.Packet.{Packet}
-use Rattle.do_frames.specs.declared.frame.Frame.{Frame}
-use Rattle.do_frames.specs.declared.frame.Frame.TheVariants.{Call, Oneway, Reply, Raised, RootAsk}
-use Rattle.do_frames.specs.declared.frame.Frame.TheVariants.{RootAnswer, Retain, Granted, Gone}
-use Rattle.do_frames.specs.declared.frame.Frame.TheVariants.{Release, Settle, Shutdown}
-use Rattle.do_frames.specs.declared.kind.Kind.{Kind}
 use Rattle.do_frames.specs.declared.kind.Kind.TheVariants as kinds
-use Rattle.do_frames.specs.Frames.{kind_of}
-use Rattle.do_frames.specs.Kinds.{kind_number, kind_at}
+use Rattle.std.proofs.Common.{◌≡◌, ℕ, List, Some, refl}
+use Rattle.do_base.specs.{declared.events.exception.Exc.Exc, names.Names.TokenName}
+use Rattle.do_class.specs.declared.packet.Packet.{Packet}
+use Rattle.do_frames.specs.declared.frame.Frame.{Frame, TheVariants.{Call, Oneway, Reply, Raised}}
+use Rattle.do_frames.specs.declared.frame.Frame.TheVariants.{RootAsk, RootAnswer, Retain, Granted}
+use Rattle.do_frames.specs.declared.frame.Frame.TheVariants.{Gone, Release, Settle, Shutdown}
+use Rattle.do_frames.specs.{declared.kind.Kind.Kind, Frames.kind_of, Kinds.{kind_number, kind_at}}
 use Rattle.do_frames.specs.Payloads.{call, oneway}
 
 -- what a frame of a kind is made of

@@ -1,12 +1,10 @@
 -- Frames without a packet leave the table of recent names.
+use Rattle.do_frames.specs.declared.frame.Frame.TheVariants as frames
 use Rattle.std.proofs.Common.{◌≡◌, ℕ, true, List, Result, Ok, Err, IfOk, refl, sym, ap, ◌∙◌}
 use Rattle.std.specs.Borrow.{Bor}
 use Rattle.do_grammar.specs.declared.fault.ReadFault.{ReadFault}
-use Rattle.do_coder.specs.declared.recent.pair.Pair.{Pair}
-use Rattle.do_coder.specs.NameLog.{Tables}
-use Rattle.do_frames.specs.declared.frame.Frame.{Frame}
-use Rattle.do_frames.specs.declared.frame.Frame.TheVariants as frames
-use Rattle.do_frames.specs.Frames.{after_frame, kind_of}
+use Rattle.do_coder.specs.{declared.recent.pair.Pair.Pair, NameLog.Tables}
+use Rattle.do_frames.specs.{declared.frame.Frame.Frame, Frames.{after_frame, kind_of}}
 use Rattle.do_frames.specs.Kinds.{kind_number, numbers_alone}
 
 -- the table after a frame that leaves each table is the one before

@@ -1,27 +1,20 @@
 -- What the reader of a whole payload tells, by the number of its kind.
 use Rattle.std.proofs.Common.{◌≡◌, ℕ, ◌-◌, ◌≤◌, List, length, Option, Some, None, Result, Ok, Err}
-use Rattle.std.proofs.Common.{refl, sym, ap, subst, ◌∙◌, inl, inr}
-use Rattle.std.specs.List.{AllByRecursion}
-use Rattle.do_class.specs.Class.{Class}
-use Rattle.do_class.specs.Table.{IsTable}
-use Rattle.do_grammar.specs.Grammar.{IsBytes}
-use Rattle.do_grammar.specs.Reader.{Stop, no_kind, short, bad, Whole, whole_of}
+use Rattle.std.{proofs.Common.{refl, sym, ap, subst, ◌∙◌, inl, inr}, specs.List.AllByRecursion}
+use Rattle.do_class.specs.{Class.Class, Table.IsTable}
+use Rattle.do_grammar.specs.{Grammar.IsBytes, Reader.{Stop, no_kind, short, bad, Whole, whole_of}}
 use Rattle.do_grammar.proofs.reads.WholeExact.{ReadsWhole, Reads-whole, left_within_whole}
 use Rattle.do_grammar.proofs.reads.WholeExact.{proper_front_whole, first_bad_whole}
-use Rattle.do_coder.specs.declared.recent.pair.Pair.{Pair}
-use Rattle.do_coder.specs.Packets.{Surroundings, surroundings}
+use Rattle.do_coder.specs.{declared.recent.pair.Pair.Pair, Packets.{Surroundings, surroundings}}
 use Rattle.do_coder.specs.Recent.{IsKnown, IsRecent}
 use Rattle.do_coder.proofs.packets.PacketRead.{reads_here, stay_known}
-use Rattle.do_frames.specs.declared.frame.Frame.{Frame}
-use Rattle.do_frames.specs.declared.frame.Frame.TheVariants.{Call, Oneway, Reply, Raised, RootAsk}
-use Rattle.do_frames.specs.declared.frame.Frame.TheVariants.{RootAnswer, Retain, Granted, Gone}
-use Rattle.do_frames.specs.declared.frame.Frame.TheVariants.{Release, Settle, Shutdown}
-use Rattle.do_frames.specs.declared.kind.Kind.{Kind}
-use Rattle.do_frames.specs.Frames.{kind_of, IsFrame, after_frame}
+use Rattle.do_frames.specs.declared.frame.Frame.{Frame, TheVariants.{Call, Oneway, Reply, Raised}}
+use Rattle.do_frames.specs.declared.frame.Frame.TheVariants.{RootAsk, RootAnswer, Retain, Granted}
+use Rattle.do_frames.specs.declared.frame.Frame.TheVariants.{Gone, Release, Settle, Shutdown}
+use Rattle.do_frames.specs.{declared.kind.Kind.Kind, Frames.{kind_of, IsFrame, after_frame}}
 use Rattle.do_frames.specs.Kinds.{kind_number, kind_at}
 use Rattle.do_frames.specs.Payloads.{SpellsPayload, IsBadPayload, payload_at}
-use Rattle.do_frames.proofs.payloads.PayloadExact.{Reads-number_of}
-use Rattle.do_frames.proofs.payloads.PayloadParts.{number_at}
+use Rattle.do_frames.proofs.payloads.{PayloadExact.Reads-number_of, PayloadParts.number_at}
 
 -- equal answers have equal values
 same_value : (f g : Frame) (a b : Result Frame (Stop (Unit {0}))) → a ≡ Ok f → b ≡ Ok g → a ≡ b

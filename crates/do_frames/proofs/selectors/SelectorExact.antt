@@ -1,23 +1,19 @@
 -- Selectors are read exactly.
 use Rattle.std.proofs.Common.{◌≡◌, ℕ, zero, suc, ◌+◌, ◌-◌, ◌<◌, ◌≤◌, Bool, true, false, List, []}
 use Rattle.std.proofs.Common.{◌∷◌, ◌++◌, length, cond, refl, sym, ap, subst, ◌∙◌, arith, inl, inr}
-use Rattle.std.specs.Prelude.{◌==◌, ◌&&◌, ◌||◌, ◌⊎◌, nat_le}
-use Rattle.std.specs.Io.BufRead.{ends_with_byte}
+use Rattle.std.specs.{Prelude.{◌==◌, ◌&&◌, ◌||◌, ◌⊎◌, nat_le}, Io.BufRead.ends_with_byte}
 use Rattle.std.proofs.lemmas.Bool.Decides.{nat_tests}
-use Rattle.do_grammar.specs.Forms.{Byte, Passes}
-use Rattle.do_grammar.specs.Names.{goes_in_selector, colons, is_selector}
-use Rattle.do_grammar.specs.Num.{counted}
-use Rattle.do_grammar.specs.OneSpelling.{Spelled, both, FitsList, list_spelling, list_at}
-use Rattle.do_grammar.specs.Reader.{no_kind, byte_of}
+use Rattle.do_grammar.specs.{Forms.{Byte, Passes}, Names.{goes_in_selector, colons, is_selector}}
+use Rattle.do_grammar.specs.{Num.counted, OneSpelling.{Spelled, both, FitsList, list_spelling}}
+use Rattle.do_grammar.specs.{OneSpelling.list_at, Reader.{no_kind, byte_of}}
 use Rattle.do_grammar.proofs.reads.ExactReader.{Reads, Reads-byte, Reads-as}
 use Rattle.do_grammar.proofs.reads.OneSpellingExact.{Reads-both, Reads-onto, Reads-nothing}
 use Rattle.do_grammar.proofs.reads.OneSpellingExact.{Reads-list}
 use Rattle.do_frames.specs.Selectors.{IsSelector, joined, begins_selector, colons_after}
 use Rattle.do_frames.specs.Selectors.{follows_selector, later_at, letters_at, selector_at}
 use Rattle.do_frames.proofs.selectors.SelectorBytes.{both_parts, first_small, later_small}
-use Rattle.do_frames.proofs.selectors.SelectorBytes.{first_goes, Follow}
-use Rattle.do_frames.proofs.selectors.SelectorBytes.{together, apart, ends_same, AreLetters}
-use Rattle.do_frames.proofs.selectors.SelectorBytes.{count, count_is, more_than_none}
+use Rattle.do_frames.proofs.selectors.SelectorBytes.{first_goes, Follow, together, apart, ends_same}
+use Rattle.do_frames.proofs.selectors.SelectorBytes.{AreLetters, count, count_is, more_than_none}
 
 -- ---- bytes that pass a test
 

@@ -1,10 +1,8 @@
 -- The steps of reading selectors.
 use Rattle.std.proofs.Common.{◌≡◌, ℕ, zero, suc, ◌-◌, ◌<◌, true, false, List, [], ◌∷◌, length, take}
 use Rattle.std.proofs.Common.{Ok, Err, refl, subst, arith}
-use Rattle.do_grammar.specs.declared.fault.ReadFault.{ReadFault}
-use Rattle.do_grammar.specs.declared.fault.ReadFault.TheVariants.{Memory, Short, Bad}
-use Rattle.do_grammar.specs.Reader.{no_kind, short, bad}
-use Rattle.do_grammar.specs.RestAnswers.{Fails}
+use Rattle.do_grammar.specs.declared.fault.ReadFault.{ReadFault, TheVariants.{Memory, Short, Bad}}
+use Rattle.do_grammar.specs.{Reader.{no_kind, short, bad}, RestAnswers.Fails}
 use Rattle.do_frames.specs.Selectors.{begins_selector, colons_after, follows_selector, later_at}
 use Rattle.do_frames.specs.Selectors.{letters_at}
 

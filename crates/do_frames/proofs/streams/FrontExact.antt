@@ -1,21 +1,16 @@
 -- Frames on a stream are read exactly.
 use Rattle.std.proofs.Common.{◌≡◌, ℕ, ◌≤◌, Bool, true, false, List, [], ◌∷◌, ◌++◌, length, refl, ap}
-use Rattle.std.proofs.Common.{◌∙◌, arith}
-use Rattle.std.specs.Prelude.{◌==◌}
-use Rattle.std.proofs.lemmas.Bool.{eq-eqb}
+use Rattle.std.{proofs.Common.{◌∙◌, arith}, specs.Prelude.◌==◌, proofs.lemmas.Bool.eq-eqb}
 use Rattle.std.proofs.lemmas.Bool.Decides.{nat_tests}
-use Rattle.do_grammar.specs.Forms.{Done, Then, Byte, Bytes}
-use Rattle.do_grammar.specs.Grammar.{IsBytes}
-use Rattle.do_grammar.specs.Num.{digits, digits_at}
-use Rattle.do_grammar.specs.OneSpelling.{Spelled, both}
+use Rattle.do_grammar.specs.{Forms.{Done, Then, Byte, Bytes}, Grammar.IsBytes}
+use Rattle.do_grammar.specs.{Num.{digits, digits_at}, OneSpelling.{Spelled, both}}
 use Rattle.do_grammar.specs.Reader.{Reader, no_kind, done, and_then, byte_of, bytes_of}
 use Rattle.do_grammar.proofs.reads.ExactReader.{Reads, Reads-done, Reads-then, Reads-byte, Reads-as}
 use Rattle.do_grammar.proofs.reads.FormsExact.{Reads-bytes}
 use Rattle.do_grammar.proofs.reads.OneSpellingExact.{Reads-both, Reads-onto}
 use Rattle.do_grammar.proofs.texts.NumExact.{Digits, Reads-digits}
-use Rattle.do_frames.specs.Frames.{raw_spelling}
-use Rattle.do_frames.specs.Streams.{IsRaw, greeting, Front, is_kind, just, raw_of, frame_at}
-use Rattle.do_frames.specs.Streams.{front_at}
+use Rattle.do_frames.specs.{Frames.raw_spelling, Streams.{IsRaw, greeting, Front, is_kind, just}}
+use Rattle.do_frames.specs.Streams.{raw_of, frame_at, front_at}
 
 -- ---- just some bytes
 

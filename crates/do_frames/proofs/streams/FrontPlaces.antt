@@ -1,19 +1,13 @@
 -- Where the next frame of a stream stands in the bytes that are kept.
 use Rattle.std.proofs.Common.{◌≡◌, ℕ, ◌+◌, ◌-◌, ◌≤◌, Bool, List, ◌++◌, length, drop, take, Ok, Err}
-use Rattle.std.proofs.Common.{sym, ap, ◌∙◌, arith}
-use Rattle.do_grammar.specs.Grammar.{IsBytes}
-use Rattle.do_grammar.specs.Reader.{no_kind}
-use Rattle.do_grammar.specs.RestAnswers.{Fails}
-use Rattle.do_grammar.specs.declared.fault.ReadFault.{ReadFault}
-use Rattle.do_grammar.specs.declared.fault.ReadFault.TheVariants.{Memory, Short, Bad}
+use Rattle.std.proofs.Common.{sym, ap, ◌∙◌, arith, ◌∷◌, append_assoc}
+use Rattle.do_grammar.specs.{Grammar.IsBytes, Reader.no_kind, RestAnswers.Fails}
+use Rattle.do_grammar.specs.declared.fault.ReadFault.{ReadFault, TheVariants.{Memory, Short, Bad}}
 use Rattle.do_grammar.proofs.faults.AnswerExact.{proper_front, left_within, first_bad}
-use Rattle.std.proofs.Common.{◌∷◌, append_assoc}
 use Rattle.std.proofs.lemmas.List.{length-append, take_at, drop_at}
 use Rattle.do_grammar.specs.Num.{digits}
-use Rattle.do_frames.specs.declared.frame.RawFrame.{RawFrame}
-use Rattle.do_frames.specs.Frames.{raw_spelling}
-use Rattle.do_frames.specs.Streams.{greeting, Front, front_at}
-use Rattle.do_frames.specs.Places.{IsPlaced, TellsPlace}
+use Rattle.do_frames.specs.{declared.frame.RawFrame.RawFrame, Frames.raw_spelling}
+use Rattle.do_frames.specs.{Streams.{greeting, Front, front_at}, Places.{IsPlaced, TellsPlace}}
 use Rattle.do_frames.proofs.streams.FrontExact.{Reads-front}
 
 -- where no frame is read, the fault tells of the bytes

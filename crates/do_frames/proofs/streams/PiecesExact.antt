@@ -1,23 +1,15 @@
 -- The frames of a stream are those of the whole of it, in whatever pieces it comes.
 use Rattle.std.proofs.Common.{◌≡◌, ℕ, ◌+◌, ◌-◌, ◌≤◌, ◌<◌, ◌^◌, Bool, true, false, List, [], ◌∷◌}
-use Rattle.std.proofs.Common.{◌%◌, ◌++◌, length, drop, take, get_or}
-use Rattle.std.proofs.Common.{None, refl, sym, ap, subst, ◌∙◌, append_assoc}
-use Rattle.std.proofs.Common.{suc, arith}
-use Rattle.std.proofs.Math.Seq.{take-suc}
-use Rattle.std.specs.List.{flat_map, AllByRecursion}
-use Rattle.std.proofs.lemmas.Grind.{flat_map-append}
-use Rattle.std.proofs.lemmas.List.{append-nil, length-append}
-use Rattle.std.proofs.Math.Nat.{mod-add-mod}
-use Rattle.do_grammar.specs.Grammar.{IsProperFront, IsFirstBad}
-use Rattle.do_grammar.proofs.faults.AnswerExact.{only}
-use Rattle.do_frames.specs.declared.fault.StreamFault.{StreamFault}
-use Rattle.do_frames.specs.declared.frame.RawFrame.{RawFrame}
-use Rattle.do_frames.specs.Frames.{raw_spelling}
-use Rattle.do_frames.specs.Pieces.{some_frame, stream_of, Splits, IsMalformed, HasRead}
-use Rattle.do_frames.specs.Pieces.{joined_pieces}
-use Rattle.do_frames.specs.Streams.{hello, greeting, IsRaw, Front, front_at, Stream, fault_of}
-use Rattle.do_frames.specs.Streams.{place_after, TakesFrame}
-use Rattle.do_frames.proofs.streams.FrontExact.{Reads-front}
+use Rattle.std.proofs.Common.{◌%◌, ◌++◌, length, drop, take, get_or, None, refl, sym, ap, subst}
+use Rattle.std.proofs.{Common.{◌∙◌, append_assoc, suc, arith}, Math.Seq.take-suc}
+use Rattle.std.{specs.List.{flat_map, AllByRecursion}, proofs.lemmas.Grind.flat_map-append}
+use Rattle.std.proofs.{lemmas.List.{append-nil, length-append}, Math.Nat.mod-add-mod}
+use Rattle.do_grammar.{specs.Grammar.{IsProperFront, IsFirstBad}, proofs.faults.AnswerExact.only}
+use Rattle.do_frames.specs.declared.{fault.StreamFault.StreamFault, frame.RawFrame.RawFrame}
+use Rattle.do_frames.specs.{Frames.raw_spelling, Pieces.{some_frame, stream_of, Splits}}
+use Rattle.do_frames.specs.{Pieces.{IsMalformed, HasRead, joined_pieces}, Streams.{hello, greeting}}
+use Rattle.do_frames.specs.Streams.{IsRaw, Front, front_at, Stream, fault_of, place_after}
+use Rattle.do_frames.{specs.Streams.TakesFrame, proofs.streams.FrontExact.Reads-front}
 
 -- ---- what is fed, and what is taken
 

@@ -1,13 +1,9 @@
 //! Reading whole payloads.
 ghost use Rattle.std.specs.Prelude.{◌≡◌, ◌≤◌, ◌<◌, ◌^◌, ◌≢◌, length, true, List, ℕ, IfOk, IfErr};
-ghost use Rattle.std.specs.Prelude.{OnErr};
-ghost use Rattle.std.specs.List.{AllByRecursion};
-ghost use Rattle.do_coder.specs.Recent.{IsKnown};
-ghost use Rattle.do_coder.specs.Packets.{surroundings};
-ghost use Rattle.do_frames.specs.declared.fault.RawFault.TheVariants.{Memory};
-ghost use Rattle.do_frames.specs.declared.frame.Frame.{Frame};
-ghost use Rattle.do_frames.specs.Frames.{after_frame};
-ghost use Rattle.do_frames.specs.Kinds.{numbers_alone};
+ghost use Rattle.std.specs.{Prelude.OnErr, List.AllByRecursion};
+ghost use Rattle.do_coder.specs.{Recent.IsKnown, Packets.surroundings};
+ghost use Rattle.do_frames.specs.declared.{fault.RawFault.TheVariants.Memory, frame.Frame.Frame};
+ghost use Rattle.do_frames.specs.{Frames.after_frame, Kinds.numbers_alone};
 ghost use Rattle.do_frames.specs.Payloads.{SpellsPayload, TellsFrame, FindsFrame};
 
 use crate::fault::RawFault;

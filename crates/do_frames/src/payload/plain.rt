@@ -1,11 +1,9 @@
 //! Reading the payloads that hold no packet.
 ghost use Rattle.std.specs.Prelude.{◌≡◌, ◌≤◌, ◌≢◌, List, IfOk, IfErr};
-ghost use Rattle.do_grammar.specs.RestAnswers.{Gives};
-ghost use Rattle.do_grammar.specs.declared.fault.ReadFault.TheVariants.{Memory};
+ghost use Rattle.do_grammar.specs.{RestAnswers.Gives, declared.fault.ReadFault.TheVariants.Memory};
 ghost use Rattle.do_coder.specs.declared.recent.pair.Pair.{Pair};
-ghost use Rattle.do_frames.specs.Frames.{after_frame};
-ghost use Rattle.do_frames.specs.Payloads.{token_at, raised_at, root_ask_at, retain_at};
-ghost use Rattle.do_frames.specs.Payloads.{granted_at, gone_at, release_at, settle_at};
+ghost use Rattle.do_frames.specs.{Frames.after_frame, Payloads.{token_at, raised_at, root_ask_at}};
+ghost use Rattle.do_frames.specs.Payloads.{retain_at, granted_at, gone_at, release_at, settle_at};
 
 use crate::frame::Frame;
 use crate::payload::exception::exception_of;

@@ -1,11 +1,9 @@
 //! The payload of each kind, and the frame that a whole payload of it spells.
 ghost use Rattle.std.specs.Prelude.{◌≡◌, ◌≤◌, ◌<◌, ◌^◌, ◌≢◌, true, IfOk, IfErr, OnErr};
-ghost use Rattle.do_grammar.specs.Reader.{no_kind, whole_of as whole_reader};
-ghost use Rattle.do_grammar.specs.RestAnswers.{Gives};
+ghost use Rattle.do_grammar.specs.{Reader.{no_kind, whole_of as whole_reader}, RestAnswers.Gives};
 ghost use Rattle.do_grammar.specs.declared.fault.ReadFault.TheVariants.{Memory};
 ghost use Rattle.do_coder.specs.Packets.{surroundings};
-ghost use Rattle.do_frames.specs.Frames.{after_frame};
-ghost use Rattle.do_frames.specs.Kinds.{kind_number, numbers_alone};
+ghost use Rattle.do_frames.specs.{Frames.after_frame, Kinds.{kind_number, numbers_alone}};
 ghost use Rattle.do_frames.specs.Payloads.{payload_at};
 
 use crate::frame::Frame;

@@ -1,8 +1,7 @@
 //! The next frame in bytes.
 ghost use Rattle.std.specs.Prelude.{◌≡◌, ◌≤◌, ◌<◌, ◌^◌, length, drop, take, List, ℕ};
 ghost use Rattle.do_grammar.specs.RestAnswers.{Gives};
-ghost use Rattle.do_frames.specs.Streams.{just, frame_at, front_at};
-ghost use Rattle.do_frames.specs.Places.{TellsPlace};
+ghost use Rattle.do_frames.specs.{Streams.{just, frame_at, front_at}, Places.TellsPlace};
 
 use do_grammar::{ReadFault, digits_of, split_byte};
 

@@ -1,9 +1,8 @@
 //! All frames of a stream that comes in pieces.
 ghost use Rattle.std.specs.Prelude.{◌≡◌, List, ℕ, take, OnOk, IfOk, IfErr};
 ghost use Rattle.do_grammar.specs.Grammar.{IsProperFront};
-ghost use Rattle.do_frames.specs.declared.frame.RawFrame.{RawFrame};
-ghost use Rattle.do_frames.specs.Pieces.{joined_pieces, Splits, HasRead, FindsNoMore};
-ghost use Rattle.do_frames.specs.Streams.{Front};
+ghost use Rattle.do_frames.specs.{declared.frame.RawFrame.RawFrame, Pieces.{joined_pieces, Splits}};
+ghost use Rattle.do_frames.specs.{Pieces.{HasRead, FindsNoMore}, Streams.Front};
 
 use crate::fault::StreamFault;
 use crate::frame::{RawFrame, RawFrames};

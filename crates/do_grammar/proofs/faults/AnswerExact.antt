@@ -1,13 +1,11 @@
 -- What the answer of an exact reader tells of the bytes.
 use Rattle.std.proofs.Common.{◌≡◌, ℕ, suc, ◌+◌, ◌<◌, ◌≤◌, List, [], ◌∷◌, ◌++◌, length, get_or, take}
-use Rattle.std.proofs.Common.{Ok, Err, sym, ap, subst, ◌∙◌, arith}
-use Rattle.std.specs.Prelude.{◌-◌}
+use Rattle.std.{proofs.Common.{Ok, Err, sym, ap, subst, ◌∙◌, arith}, specs.Prelude.◌-◌}
 use Rattle.std.proofs.lemmas.List.{append-nil, length-append, take_at}
 use Rattle.do_grammar.specs.Reader.{Stop, short, bad, Reader}
 use Rattle.do_grammar.specs.Grammar.{IsBytes, Begins, IsProperFront, IsFirstBad}
-use Rattle.do_grammar.proofs.faults.FaultPlace.{is_placed}
-use Rattle.do_grammar.proofs.reads.ExactReader.{StopsAt, Reads, IsBytes-rest}
-use Rattle.do_grammar.proofs.reads.ChainAnswers.{ok_value, ok_rest}
+use Rattle.do_grammar.proofs.{faults.FaultPlace.is_placed, reads.ExactReader.{StopsAt, Reads}}
+use Rattle.do_grammar.proofs.reads.{ExactReader.IsBytes-rest, ChainAnswers.{ok_value, ok_rest}}
 
 -- ---- what an exact reader tells of all its input
 

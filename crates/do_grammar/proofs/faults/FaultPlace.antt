@@ -1,7 +1,6 @@
 -- The place of the byte at which a reader stopped.
 use Rattle.std.proofs.Common.{◌≡◌, ℕ, suc, ◌+◌, ◌<◌, ◌≤◌, List, [], ◌∷◌, ◌++◌, length, take, sym}
-use Rattle.std.proofs.Common.{ap, ◌∙◌, append_assoc, arith}
-use Rattle.std.specs.Prelude.{◌-◌}
+use Rattle.std.{proofs.Common.{ap, ◌∙◌, append_assoc, arith}, specs.Prelude.◌-◌}
 use Rattle.std.proofs.lemmas.List.{length-append, take_at}
 
 -- the byte behind the front is the one from which on so many are left

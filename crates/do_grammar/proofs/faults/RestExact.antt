@@ -1,10 +1,7 @@
 -- What is told by an answer that is what an exact reader gives.
-use Rattle.std.proofs.Common.{ℕ, List, Result, Ok, Err, sym, ap, ◌∙◌}
-use Rattle.std.specs.Borrow.{Bor}
-use Rattle.do_grammar.specs.declared.fault.ReadFault.{ReadFault}
-use Rattle.do_grammar.specs.declared.fault.ReadFault.TheVariants.{Memory, Short, Bad}
-use Rattle.do_grammar.specs.Reader.{Reader, no_kind, short, bad}
-use Rattle.do_grammar.specs.Grammar.{IsBytes, Takes}
+use Rattle.std.{proofs.Common.{ℕ, List, Result, Ok, Err, sym, ap, ◌∙◌}, specs.Borrow.Bor}
+use Rattle.do_grammar.specs.declared.fault.ReadFault.{ReadFault, TheVariants.{Memory, Short, Bad}}
+use Rattle.do_grammar.specs.{Reader.{Reader, no_kind, short, bad}, Grammar.{IsBytes, Takes}}
 use Rattle.do_grammar.specs.RestAnswers.{Gives, TellsRest, FindsRest}
 use Rattle.do_grammar.proofs.reads.ExactReader.{Reads}
 use Rattle.do_grammar.proofs.faults.AnswerExact.{proper_front, left_within, first_bad, not_stopped}

@@ -1,20 +1,15 @@
 -- The steps of reading numbers beside some that are left out.
 use Rattle.std.proofs.Common.{◌≡◌, ℕ, zero, suc, ◌+◌, ◌-◌, ◌*◌, ◌<◌, ◌≤◌, ◌^◌, Bool, true, false}
 use Rattle.std.proofs.Common.{cond, List, [], ◌∷◌, length, Result, Ok, Err, refl, ap, ◌∙◌, arith}
-use Rattle.std.proofs.Common.{max}
-use Rattle.std.specs.Prelude.{◌&&◌, nat_le, nat_lt}
+use Rattle.std.{proofs.Common.max, specs.Prelude.{◌&&◌, nat_le, nat_lt, IfOk}}
 use Rattle.std.proofs.lemmas.Bool.Decides.{nat_tests}
 use Rattle.do_grammar.specs.Reader.{no_kind, short, bad}
-use Rattle.std.specs.Prelude.{IfOk}
 use Rattle.std.specs.Borrow.{Bor}
-use Rattle.do_grammar.specs.declared.fault.ReadFault.{ReadFault}
-use Rattle.do_grammar.specs.RestAnswers.{Gives}
-use Rattle.do_grammar.specs.Grammar.{Takes, IsBytes}
-use Rattle.do_grammar.specs.Num.{span, least_of, Num}
-use Rattle.do_grammar.specs.BesideHoles.{is_hole, next_beside, reaches_beside, digits_beside}
-use Rattle.do_grammar.specs.BesideHoles.{sized_beside, num_beside, IsBeside}
-use Rattle.do_grammar.proofs.texts.NextBeside.{next_up, next_least, free_stays}
-use Rattle.do_grammar.proofs.texts.BesideExact.{Reads-beside}
+use Rattle.do_grammar.specs.{declared.fault.ReadFault.ReadFault, RestAnswers.Gives, Grammar.Takes}
+use Rattle.do_grammar.specs.{Grammar.IsBytes, Num.{span, least_of, Num}, BesideHoles.is_hole}
+use Rattle.do_grammar.specs.BesideHoles.{next_beside, reaches_beside, digits_beside, sized_beside}
+use Rattle.do_grammar.{specs.BesideHoles.{num_beside, IsBeside}, proofs.texts.NextBeside.next_up}
+use Rattle.do_grammar.proofs.texts.{NextBeside.{next_least, free_stays}, BesideExact.Reads-beside}
 
 module _ (holes : List ℕ) (low high least : ℕ) where
   -- no byte of the number is left

@@ -1,13 +1,10 @@
 -- The steps of the loops over the bytes of a number.
 use Rattle.std.proofs.Common.{◌≡◌, ℕ, zero, suc, ◌+◌, ◌-◌, ◌*◌, ◌/◌, ◌%◌, ◌<◌, ◌≤◌, true, false}
-use Rattle.std.proofs.Common.{cond, ltb, leb, List, [], ◌∷◌, length, Result, Ok, Err}
-use Rattle.std.proofs.Common.{refl, arith}
+use Rattle.std.proofs.Common.{cond, ltb, leb, List, [], ◌∷◌, length, Result, Ok, Err, refl, arith}
 use Rattle.std.specs.Prelude.{◌&&◌}
-use Rattle.std.proofs.lemmas.Bool.{lt-ltb, le-ltb, le-leb, lt-leb}
-use Rattle.std.proofs.lemmas.Nat.{div_below}
+use Rattle.std.proofs.lemmas.{Bool.{lt-ltb, le-ltb, le-leb, lt-leb}, Nat.div_below}
 use Rattle.do_grammar.specs.Reader.{Stop, no_kind, short, bad, ◌>>=◌}
-use Rattle.do_grammar.specs.Num.{span, digits, digits_at}
-use Rattle.do_grammar.proofs.texts.SizeExact.{span_pos}
+use Rattle.do_grammar.{specs.Num.{span, digits, digits_at}, proofs.texts.SizeExact.span_pos}
 
 -- no byte of the number is left
 pub at_last : (low high least k : ℕ) (bytes : List ℕ) → k ≡ 0

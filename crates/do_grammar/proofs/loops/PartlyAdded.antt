@@ -1,9 +1,7 @@
 -- The steps of a writer up to where memory ran out.
 use Rattle.std.proofs.Common.{◌≡◌, ℕ, zero, suc, ◌<◌, List, [], ◌∷◌, ◌++◌, length, take, get_or}
 use Rattle.std.proofs.Common.{Result, Ok, Err, refl, sym, ap, ◌∙◌, append_assoc, arith}
-use Rattle.std.specs.Prelude.{OnErr}
-use Rattle.std.specs.List.{flat_map}
-use Rattle.std.proofs.lemmas.List.{append-nil}
+use Rattle.std.{specs.{Prelude.OnErr, List.flat_map}, proofs.lemmas.List.append-nil}
 use Rattle.do_grammar.specs.PartlyAdded.{AddedPartly}
 
 -- nothing was added

@@ -3,8 +3,7 @@
 use Rattle.std.proofs.Common.{◌≡◌, ℕ, zero, suc, ◌+◌, ◌-◌, ◌<◌, ◌≤◌, List, [], ◌∷◌, ◌++◌, Option}
 use Rattle.std.proofs.Common.{Some, None, refl, sym, ap, ◌∙◌, append_assoc, arith}
 use Rattle.std.proofs.lemmas.List.{append-nil}
-use Rattle.do_grammar.specs.Words.{◌>>?◌}
-use Rattle.do_grammar.specs.Quoted.{piece_at, closing, closed_or, denoted}
+use Rattle.do_grammar.specs.{Words.◌>>?◌, Quoted.{piece_at, closing, closed_or, denoted}}
 
 -- what the loop keeps of the text, seen by view, where it stands before rest
 module _ {C : Type 0} (view : Option (List ℕ × List ℕ)

@@ -1,9 +1,7 @@
 -- The turns of the loop that passes over a text in quotes.
 use Rattle.std.proofs.Common.{◌≡◌, ℕ, ◌+◌, ◌-◌, ◌<◌, ◌≤◌, List, ◌∷◌, Option, Some, None, refl, sym}
-use Rattle.std.proofs.Common.{◌∙◌}
-use Rattle.std.specs.Option.{option_map}
-use Rattle.do_grammar.specs.Words.{◌>>?◌}
-use Rattle.do_grammar.specs.Quoted.{piece_at, closing, closed_or, denoted}
+use Rattle.std.{proofs.Common.◌∙◌, specs.Option.option_map}
+use Rattle.do_grammar.specs.{Words.◌>>?◌, Quoted.{piece_at, closing, closed_or, denoted}}
 use Rattle.do_grammar.proofs.loops.QuotedLoop.{goes_by, closed_by, none_by, limit_by}
 
 abbrev behind : Option (List ℕ × List ℕ) → Option (List ℕ)

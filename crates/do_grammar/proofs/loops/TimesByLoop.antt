@@ -1,14 +1,10 @@
 -- Reading values one after the other by a state, as a loop does.
 use Rattle.std.proofs.Common.{◌≡◌, ℕ, suc, ◌-◌, ◌+◌, ◌≤◌, ◌<◌, List, [], ◌∷◌, ◌++◌, Result, Ok, Err}
-use Rattle.std.proofs.Common.{refl, sym, ap, ◌∙◌, arith}
-use Rattle.std.specs.List.{fold}
+use Rattle.std.{proofs.Common.{refl, sym, ap, ◌∙◌, arith}, specs.List.fold}
 use Rattle.std.proofs.lemmas.List.{append-nil}
-use Rattle.do_grammar.specs.declared.fault.ReadFault.{ReadFault}
-use Rattle.do_grammar.specs.declared.fault.ReadFault.TheVariants.{Memory, Short, Bad}
-use Rattle.do_grammar.specs.Reader.{Stop, no_kind, short, bad, Reader}
-use Rattle.do_grammar.specs.RestAnswers.{Fails}
-use Rattle.do_grammar.proofs.loops.TimesLoop.{with_front, regroup}
-use Rattle.do_grammar.specs.OneSpelling.{times_by}
+use Rattle.do_grammar.specs.declared.fault.ReadFault.{ReadFault, TheVariants.{Memory, Short, Bad}}
+use Rattle.do_grammar.specs.{Reader.{Stop, no_kind, short, bad, Reader}, RestAnswers.Fails}
+use Rattle.do_grammar.{proofs.loops.TimesLoop.{with_front, regroup}, specs.OneSpelling.times_by}
 
 module _ {A S : Type 0} (r : S → Reader (Unit {0}) A) (after : S → A
     → S) (front : List A) (count i : ℕ) (s : S) (bytes : List ℕ)

@@ -1,9 +1,7 @@
 -- Reading values one after the other, as a loop does.
 use Rattle.std.proofs.Common.{◌≡◌, ℕ, suc, ◌-◌, ◌+◌, ◌≤◌, ◌<◌, List, [], ◌∷◌, ◌++◌, Result, Ok, Err}
-use Rattle.std.proofs.Common.{refl, sym, ap, ◌∙◌, append_assoc, arith}
-use Rattle.std.proofs.lemmas.List.{append-nil}
-use Rattle.do_grammar.specs.declared.fault.ReadFault.{ReadFault}
-use Rattle.do_grammar.specs.declared.fault.ReadFault.TheVariants.{Memory, Short, Bad}
+use Rattle.std.proofs.{Common.{refl, sym, ap, ◌∙◌, append_assoc, arith}, lemmas.List.append-nil}
+use Rattle.do_grammar.specs.declared.fault.ReadFault.{ReadFault, TheVariants.{Memory, Short, Bad}}
 use Rattle.do_grammar.specs.Reader.{Stop, no_kind, short, bad, Reader, ◌>>=◌, times}
 use Rattle.do_grammar.specs.RestAnswers.{Fails}
 

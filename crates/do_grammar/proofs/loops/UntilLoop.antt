@@ -1,15 +1,12 @@
 -- The turns of a loop that reads values up to a byte that ends them.
 use Rattle.std.proofs.Common.{◌≡◌, ◌≢◌, ℕ, zero, suc, ◌<◌, List, [], ◌∷◌, ◌++◌, length, Result, Ok}
-use Rattle.std.proofs.Common.{Err, refl, sym, ap, subst, ◌∙◌, arith, inl, inr}
-use Rattle.std.specs.Prelude.{◌⊎◌}
+use Rattle.std.{proofs.Common.{Err, refl, sym, ap, subst, ◌∙◌, arith, inl, inr}, specs.Prelude.◌⊎◌}
 use Rattle.do_grammar.specs.Reader.{Stop, short, Reader, ◌>>=◌, until_within, until}
-use Rattle.do_grammar.specs.Grammar.{IsBytes}
-use Rattle.do_grammar.specs.Forms.{Apart}
+use Rattle.do_grammar.specs.{Grammar.IsBytes, Forms.Apart}
 use Rattle.do_grammar.proofs.loops.TimesLoop.{with_front, regroup}
 use Rattle.std.proofs.lemmas.List.{append-nil}
-use Rattle.do_grammar.proofs.reads.ExactReader.{Reads, IsBytes-rest}
-use Rattle.do_grammar.proofs.reads.UntilSteps.{cases_eq, tail_of, rest_of, step_end, step_on}
-use Rattle.do_grammar.proofs.reads.UntilSteps.{shorter}
+use Rattle.do_grammar.proofs.reads.{ExactReader.{Reads, IsBytes-rest}, UntilSteps.cases_eq}
+use Rattle.do_grammar.proofs.reads.UntilSteps.{tail_of, rest_of, step_end, step_on, shorter}
 
 module _ {K A : Type 0} (end : ℕ) (end_small : end < 256) (G : List ℕ → A
     → Type 0) (r : Reader K A) (R : Reads G r) (apart : (text : List ℕ) (x : A) → G text x

@@ -1,7 +1,6 @@
 -- The turns of the loops that look for the first of a byte.
 use Rattle.std.proofs.Common.{◌≡◌, ◌≢◌, ℕ, zero, suc, ◌+◌, ◌<◌, ◌≤◌, List, [], ◌∷◌, ◌++◌, length}
-use Rattle.std.proofs.Common.{get_or, take, drop, sym, ap, subst, arith}
-use Rattle.std.specs.Prelude.{◌-◌}
+use Rattle.std.{proofs.Common.{get_or, take, drop, sym, ap, subst, arith}, specs.Prelude.◌-◌}
 use Rattle.std.proofs.lemmas.List.{take_all, length-drop, take-append-drop, append-nil}
 use Rattle.do_grammar.specs.Words.{Without, EndsBefore}
 

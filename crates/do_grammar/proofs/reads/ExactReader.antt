@@ -2,8 +2,7 @@
 use Rattle.std.proofs.Common.{◌≡◌, ℕ, suc, Bool, List, [], ◌∷◌, ◌++◌, length, Result, Ok, Err, refl}
 use Rattle.std.proofs.Common.{sym, ap, subst, ◌∙◌, append_assoc}
 use Rattle.do_grammar.specs.Reader.{Stop, short, bad, Reader, ◌>>=◌, done, and_then, byte_of}
-use Rattle.do_grammar.specs.Grammar.{IsBytes, Begins, Takes}
-use Rattle.do_grammar.specs.Forms.{Done, Then, Byte, Passes}
+use Rattle.do_grammar.specs.{Grammar.{IsBytes, Begins, Takes}, Forms.{Done, Then, Byte, Passes}}
 use Rattle.do_grammar.proofs.reads.ChainAnswers.{bind_ok, ok_value, ok_rest, Stopped, first, later}
 use Rattle.do_grammar.proofs.reads.ChainAnswers.{bind_err, guard_ok, guard_err}
 

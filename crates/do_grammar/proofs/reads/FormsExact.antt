@@ -1,16 +1,13 @@
 -- Exact readers of repetitions, of other values, of so many bytes, and of one of two grammars.
 use Rattle.std.proofs.Common.{◌≡◌, ℕ, zero, suc, ◌+◌, ◌<◌, Bool, true, false, cond, ltb, List, []}
 use Rattle.std.proofs.Common.{◌∷◌, ◌++◌, length, take, drop, Ok, Err, refl, sym, ap, subst, ◌∙◌}
-use Rattle.std.proofs.Common.{arith}
-use Rattle.std.specs.Prelude.{◌-◌}
-use Rattle.std.proofs.lemmas.Bool.{ltb-true, ltb-false, le-ltb}
-use Rattle.std.proofs.lemmas.List.{append-nil, length-append, take_at, drop_at, take-append-drop}
-use Rattle.std.proofs.lemmas.List.{length-take-le}
+use Rattle.std.{proofs.Common.arith, specs.Prelude.◌-◌}
+use Rattle.std.proofs.lemmas.{Bool.{ltb-true, ltb-false, le-ltb}, List.{append-nil, length-append}}
+use Rattle.std.proofs.lemmas.List.{take_at, drop_at, take-append-drop, length-take-le}
 use Rattle.do_grammar.specs.Reader.{short, bad, Reader, done, and_then, mapped, bytes_of, times}
-use Rattle.do_grammar.specs.Grammar.{IsBytes, Begins, Takes}
-use Rattle.do_grammar.specs.Forms.{Done, Then, Times, Mapped, Bytes, Either}
-use Rattle.do_grammar.proofs.reads.ExactReader.{StopsAt, Reads, IsBytes-append}
-use Rattle.do_grammar.proofs.reads.ExactReader.{Reads-done, Reads-then, Reads-as}
+use Rattle.do_grammar.specs.{Grammar.{IsBytes, Begins, Takes}, Forms.{Done, Then, Times, Mapped}}
+use Rattle.do_grammar.{specs.Forms.{Bytes, Either}, proofs.reads.ExactReader.{StopsAt, Reads}}
+use Rattle.do_grammar.proofs.reads.ExactReader.{IsBytes-append, Reads-done, Reads-then, Reads-as}
 use Rattle.do_grammar.proofs.reads.ChainAnswers.{past_ok, past_err}
 
 -- ---- one reader so many times

@@ -4,11 +4,9 @@ use Rattle.std.proofs.Common.{◌≡◌, ℕ, zero, suc, ◌<◌, ◌≤◌, ◌
 use Rattle.std.proofs.Common.{length, Result, Ok, Err, refl, sym, ap, subst, ◌∙◌, arith}
 use Rattle.std.specs.List.{flat_map, AllByRecursion}
 use Rattle.do_grammar.specs.Reader.{Reader, Stop, no_kind, ◌>>=◌, done, mapped, byte_of, times}
-use Rattle.do_grammar.specs.Forms.{Done, Then, Byte, Passes, Mapped}
-use Rattle.do_grammar.specs.Num.{num, num_at, Num}
+use Rattle.do_grammar.specs.{Forms.{Done, Then, Byte, Passes, Mapped}, Num.{num, num_at, Num}}
 use Rattle.do_grammar.proofs.reads.ExactReader.{Reads, Reads-done, Reads-then, Reads-byte, Reads-as}
-use Rattle.do_grammar.proofs.reads.FormsExact.{Reads-mapped}
-use Rattle.do_grammar.proofs.texts.NumExact.{Reads-num}
+use Rattle.do_grammar.proofs.{reads.FormsExact.Reads-mapped, texts.NumExact.Reads-num}
 use Rattle.do_grammar.specs.OneSpelling.{Spelled, both, tagged, list_at, list_spelling, FitsList}
 use Rattle.do_grammar.specs.OneSpelling.{times_by, spelling_by}
 

@@ -1,8 +1,7 @@
 -- Bytes that lead from state to state as long as they do, and what comes behind.
 use Rattle.std.proofs.Common.{◌≡◌, ℕ, suc, ◌<◌, List, [], ◌∷◌, ◌++◌, length, Ok, Err, refl, ap}
 use Rattle.do_grammar.specs.Reader.{short, bad, Reader, ◌>>=◌, and_then, Step, goes, leaves, fails}
-use Rattle.do_grammar.specs.Reader.{by_step, scan, scan_to}
-use Rattle.do_grammar.specs.Grammar.{IsBytes, Begins, Takes}
+use Rattle.do_grammar.specs.{Reader.{by_step, scan, scan_to}, Grammar.{IsBytes, Begins, Takes}}
 use Rattle.do_grammar.specs.Forms.{OnStep, Scans}
 use Rattle.do_grammar.proofs.reads.ExactReader.{Reads, StopsAt, Reads-as}
 

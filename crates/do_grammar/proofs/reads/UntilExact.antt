@@ -1,16 +1,13 @@
 -- Values up to a byte that ends them.
 use Rattle.std.proofs.Common.{◌≡◌, ◌≢◌, ℕ, zero, suc, ◌<◌, List, [], ◌∷◌, ◌++◌, length, Ok, Err}
 use Rattle.std.proofs.Common.{refl, sym, ap, subst, ◌∙◌, append_assoc, arith, inl, inr}
-use Rattle.std.specs.Prelude.{◌⊎◌}
-use Rattle.std.proofs.lemmas.List.{length-append}
+use Rattle.std.{specs.Prelude.◌⊎◌, proofs.lemmas.List.length-append}
 use Rattle.do_grammar.specs.Reader.{short, bad, Reader, until_within, until}
-use Rattle.do_grammar.specs.Grammar.{IsBytes, Begins, Takes}
-use Rattle.do_grammar.specs.Forms.{Untils, Apart}
+use Rattle.do_grammar.specs.{Grammar.{IsBytes, Begins, Takes}, Forms.{Untils, Apart}}
 use Rattle.do_grammar.proofs.reads.ExactReader.{Reads, IsBytes-append, IsBytes-rest}
 use Rattle.do_grammar.proofs.reads.ChainAnswers.{Stopped, first, later, bind_ok, bind_err, ok_value}
-use Rattle.do_grammar.proofs.reads.ChainAnswers.{ok_rest}
-use Rattle.do_grammar.proofs.reads.UntilSteps.{cases_eq, tail_of, rest_of, step_end, step_on}
-use Rattle.do_grammar.proofs.reads.UntilSteps.{shorter}
+use Rattle.do_grammar.proofs.reads.{ChainAnswers.ok_rest, UntilSteps.{cases_eq, tail_of, rest_of}}
+use Rattle.do_grammar.proofs.reads.UntilSteps.{step_end, step_on, shorter}
 
 -- bytes whose rest is parted again, in three parts
 joined_parts : (bytes one rest two last end : List ℕ) → bytes ≡ one ++ rest → rest ≡ two ++ last

@@ -2,11 +2,8 @@
 use Rattle.std.proofs.Common.{◌≡◌, ◌≢◌, ℕ, suc, ◌<◌, Bool, true, false, eqb, List, [], ◌∷◌, ◌++◌}
 use Rattle.std.proofs.Common.{length, Result, Ok, refl, ap, ◌∙◌, arith, inl, inr}
 use Rattle.std.specs.Prelude.{◌⊎◌}
-use Rattle.std.proofs.lemmas.Bool.{eqb-true, eqb-false, eq-eqb, ne_eqb}
-use Rattle.std.proofs.lemmas.List.{length-append}
-use Rattle.do_grammar.specs.Reader.{Stop, Reader, ◌>>=◌, until_within}
-use Rattle.do_grammar.specs.Grammar.{Takes}
-use Rattle.do_grammar.specs.Forms.{Apart}
+use Rattle.std.proofs.lemmas.{Bool.{eqb-true, eqb-false, eq-eqb, ne_eqb}, List.length-append}
+use Rattle.do_grammar.specs.{Reader.{Stop, Reader, ◌>>=◌, until_within}, Grammar.Takes, Forms.Apart}
 
 -- two numbers are equal or not
 pub cases_eq : (a b : ℕ) → (a ≡ b) ⊎ (a ≢ b)

@@ -1,13 +1,11 @@
 -- Readers of all the bytes, and of bytes that lead from state to state.
 use Rattle.std.proofs.Common.{◌≡◌, ℕ, suc, ◌<◌, ◌≤◌, List, [], ◌∷◌, ◌++◌, length, Option, Some}
-use Rattle.std.proofs.Common.{None, Result, Ok, Err, refl, sym, ap, subst, ◌∙◌}
-use Rattle.std.specs.Prelude.{◌-◌}
+use Rattle.std.{proofs.Common.{None, Result, Ok, Err, refl, sym, ap, subst, ◌∙◌}, specs.Prelude.◌-◌}
 use Rattle.std.proofs.lemmas.List.{append-nil}
 use Rattle.do_grammar.specs.Reader.{Stop, short, bad, Reader, Whole, ended, whole_of, then_whole}
 use Rattle.do_grammar.specs.Reader.{accepted, by_result, automaton}
 use Rattle.do_grammar.specs.Grammar.{IsBytes, Begins, IsProperFront, IsFirstBadWhole}
-use Rattle.do_grammar.specs.Forms.{Then, OnGo, Accepts}
-use Rattle.do_grammar.proofs.faults.FaultPlace.{is_placed}
+use Rattle.do_grammar.{specs.Forms.{Then, OnGo, Accepts}, proofs.faults.FaultPlace.is_placed}
 use Rattle.do_grammar.proofs.reads.ExactReader.{StopsAt, StopsBy, StopsBy-chain, Reads}
 use Rattle.do_grammar.proofs.reads.ExactReader.{IsBytes-append, IsBytes-rest, Begins-as, StopsAt-as}
 use Rattle.do_grammar.proofs.reads.ChainAnswers.{Stopped, first, later, bind_ok, bind_err}

@@ -1,17 +1,13 @@
 -- Numbers beside some that are left out are read exactly.
 use Rattle.std.proofs.Common.{◌≡◌, ℕ, ◌+◌, ◌-◌, ◌<◌, ◌≤◌, ◌^◌, true, List, refl, subst, arith, max}
 use Rattle.std.proofs.lemmas.Bool.Decides.{nat_tests}
-use Rattle.do_grammar.specs.Reader.{no_kind}
-use Rattle.do_grammar.specs.Num.{span, size, least_of, num}
-use Rattle.do_grammar.proofs.reads.ExactReader.{Reads}
-use Rattle.do_grammar.proofs.texts.SizeExact.{size_le, size_sized}
+use Rattle.do_grammar.specs.{Reader.no_kind, Num.{span, size, least_of, num}}
+use Rattle.do_grammar.proofs.{reads.ExactReader.Reads, texts.SizeExact.{size_le, size_sized}}
 use Rattle.do_grammar.proofs.texts.DigitsExact.{Reached, Reaches, InSize, Reads-fitting_digits}
-use Rattle.do_grammar.proofs.texts.DigitsExact.{Reads-sized}
-use Rattle.do_grammar.specs.OneSpelling.{Spelled}
+use Rattle.do_grammar.{proofs.texts.DigitsExact.Reads-sized, specs.OneSpelling.Spelled}
 use Rattle.do_grammar.specs.BesideHoles.{next_beside, reaches_beside, digits_beside, sized_beside}
-use Rattle.do_grammar.specs.BesideHoles.{num_beside, IsBeside}
-use Rattle.do_grammar.proofs.texts.NextBeside.{next_up, next_stays, next_least, stays_free}
-use Rattle.do_grammar.proofs.texts.NextBeside.{free_stays}
+use Rattle.do_grammar.{specs.BesideHoles.{num_beside, IsBeside}, proofs.texts.NextBeside.next_up}
+use Rattle.do_grammar.proofs.texts.NextBeside.{next_stays, next_least, stays_free, free_stays}
 
 module _ (holes : List ℕ) where
   abbrev next : ℕ → ℕ

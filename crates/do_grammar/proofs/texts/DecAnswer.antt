@@ -1,12 +1,8 @@
 -- What an answer tells that is the decimal number that bytes spell.
 use Rattle.std.proofs.Common.{◌≡◌, ℕ, ◌<◌, ◌≤◌, ◌^◌, List, Option, Some, None, sym, ap, ◌∙◌, arith}
-use Rattle.std.proofs.Common.{rules}
-use Rattle.std.specs.Prelude.{ℤ, pos, negsuc, FitsSigned, IfSome}
-use Rattle.std.specs.Int.{w64}
-use Rattle.std.specs.Fmt.{decimal, signed_decimal}
-use Rattle.std.specs.Int.Signed.{mag}
-use Rattle.do_grammar.specs.Dec.{dec_in, int_in}
-use Rattle.do_grammar.proofs.texts.DecExact.{dec_takes, dec_again}
+use Rattle.std.{proofs.Common.rules, specs.{Prelude.{ℤ, pos, negsuc, FitsSigned, IfSome}, Int.w64}}
+use Rattle.std.specs.{Fmt.{decimal, signed_decimal}, Int.Signed.mag}
+use Rattle.do_grammar.{specs.Dec.{dec_in, int_in}, proofs.texts.DecExact.{dec_takes, dec_again}}
 use Rattle.do_grammar.proofs.texts.IntExact.{int_takes, int_again}
 
 -- a number that is answered has all the bytes for its digits

@@ -5,8 +5,7 @@ use Rattle.std.proofs.lemmas.Nat.{mul-add-lt, div-mul-add, mod-mul-add, div_belo
 use Rattle.std.proofs.lemmas.Nat.{mod_below}
 use Rattle.do_grammar.specs.Reader.{Reader, done, and_then, byte_of}
 use Rattle.do_grammar.specs.Forms.{Then, Done, Byte, Passes}
-use Rattle.do_grammar.specs.Num.{span, digits, size, least_of, num}
-use Rattle.do_grammar.specs.OneSpelling.{Spelled}
+use Rattle.do_grammar.specs.{Num.{span, digits, size, least_of, num}, OneSpelling.Spelled}
 use Rattle.do_grammar.proofs.reads.ExactReader.{Reads, Reads-done, Reads-then, Reads-byte, Reads-as}
 use Rattle.do_grammar.proofs.texts.SizeExact.{span_pos, size_le, size_sized, size_only}
 

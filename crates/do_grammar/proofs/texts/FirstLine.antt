@@ -1,10 +1,7 @@
 -- The first line of a text.
 use Rattle.std.proofs.Common.{◌≡◌, ℕ, ◌<◌, false, List, [], ◌∷◌, ◌++◌, length, refl, ap, ◌∙◌, arith}
-use Rattle.std.specs.Prelude.{true}
-use Rattle.std.proofs.lemmas.Bool.{ne_eqb}
-use Rattle.std.proofs.lemmas.List.{length-append}
-use Rattle.do_grammar.specs.Words.{Without}
-use Rattle.do_grammar.specs.Lines.{in_front, cut}
+use Rattle.std.{specs.Prelude.true, proofs.lemmas.{Bool.ne_eqb, List.length-append}}
+use Rattle.do_grammar.specs.{Words.Without, Lines.{in_front, cut}}
 use Rattle.do_grammar.proofs.texts.LinesExact.{cut_line}
 
 -- the bytes before the first line feed are the first line

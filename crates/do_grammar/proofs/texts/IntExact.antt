@@ -1,18 +1,11 @@
 -- Signed decimal numbers are read exactly.
 use Rattle.std.proofs.Common.{◌≡◌, ◌≢◌, ℕ, suc, ◌-◌, ◌<◌, ◌≤◌, ◌^◌, Bool, true, false, eqb, List}
 use Rattle.std.proofs.Common.{[], ◌∷◌, length, Option, Some, None, refl, sym, ap, subst, ◌∙◌, arith}
-use Rattle.std.proofs.Common.{rules}
-use Rattle.std.specs.Prelude.{ℤ, pos, negsuc, FitsSigned}
-use Rattle.std.specs.Int.{w64}
-use Rattle.std.specs.Option.{option_map}
-use Rattle.std.specs.Fmt.{decimal, signed_decimal}
-use Rattle.std.specs.Int.Signed.{mag}
-use Rattle.std.proofs.lemmas.Bool.{eqb-true, ne_eqb}
-use Rattle.std.proofs.lemmas.Fmt.{decimal_nonempty}
-use Rattle.do_grammar.specs.Dec.{dec_in, minus, int_in, AllDecimal}
-use Rattle.do_grammar.specs.Words.{Without}
-use Rattle.do_grammar.proofs.texts.WordBytes.{some_is}
-use Rattle.do_grammar.proofs.texts.DecExact.{dec_takes, dec_again, all_decimal}
+use Rattle.std.{proofs.Common.rules, specs.{Prelude.{ℤ, pos, negsuc, FitsSigned}, Int.w64}}
+use Rattle.std.specs.{Option.option_map, Fmt.{decimal, signed_decimal}, Int.Signed.mag}
+use Rattle.std.proofs.lemmas.{Bool.{eqb-true, ne_eqb}, Fmt.decimal_nonempty}
+use Rattle.do_grammar.specs.{Dec.{dec_in, minus, int_in, AllDecimal}, Words.Without}
+use Rattle.do_grammar.proofs.texts.{WordBytes.some_is, DecExact.{dec_takes, dec_again, all_decimal}}
 
 -- a mapped value stands for one
 map_some : {A B : Type 0} (f : A → B) (o : Option A) (y : B) → option_map f o ≡ Some y

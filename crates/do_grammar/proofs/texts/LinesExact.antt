@@ -2,15 +2,11 @@
 -- exactly.
 use Rattle.std.proofs.Common.{◌≡◌, ℕ, suc, ◌+◌, ◌-◌, Bool, true, false, eqb, List, [], ◌∷◌, ◌++◌}
 use Rattle.std.proofs.Common.{length, take, Option, Some, None, Result, Ok, Err, refl, sym, ap}
-use Rattle.std.proofs.Common.{subst, ◌∙◌, append_assoc, arith}
-use Rattle.std.specs.List.{flat_map}
-use Rattle.std.proofs.lemmas.Bool.{eqb-true, ne_eqb}
-use Rattle.std.proofs.lemmas.List.{length-append, take_at}
-use Rattle.do_grammar.specs.Reader.{short, bad, accepted, by_result}
-use Rattle.do_grammar.specs.Words.{Without}
+use Rattle.std.{proofs.Common.{subst, ◌∙◌, append_assoc, arith}, specs.List.flat_map}
+use Rattle.std.proofs.lemmas.{Bool.{eqb-true, ne_eqb}, List.{length-append, take_at}}
+use Rattle.do_grammar.specs.{Reader.{short, bad, accepted, by_result}, Words.Without}
 use Rattle.do_grammar.specs.Lines.{Line, in_front, cut, line_bytes, automaton_over, AcceptsOver}
-use Rattle.do_grammar.specs.Lines.{BeginsList, IsFirstBadMember}
-use Rattle.do_grammar.specs.Forms.{OnGo}
+use Rattle.do_grammar.specs.{Lines.{BeginsList, IsFirstBadMember}, Forms.OnGo}
 
 module _ {T S K A : Type 0} (step : S → T → Result S K) (accept : S → Option A) (Good : S
     → Type 0) (stays_good : (s : S) (b : T) (t : S) → Good s → step s b ≡ Ok t

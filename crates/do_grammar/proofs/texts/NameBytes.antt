@@ -1,10 +1,8 @@
 -- What a name and a selector have in them.
 use Rattle.std.proofs.Common.{◌≡◌, ℕ, Bool, true, false, List, refl}
-use Rattle.std.specs.Prelude.{◌&&◌}
-use Rattle.std.specs.List.{list_all}
-use Rattle.do_grammar.specs.Words.{Without}
-use Rattle.do_grammar.specs.Names.{goes_in_name, goes_in_selector, is_name, is_selector}
-use Rattle.do_grammar.proofs.texts.WordBytes.{Without-passes}
+use Rattle.std.specs.{Prelude.◌&&◌, List.list_all}
+use Rattle.do_grammar.specs.{Words.Without, Names.{goes_in_name, goes_in_selector, is_name}}
+use Rattle.do_grammar.{specs.Names.is_selector, proofs.texts.WordBytes.Without-passes}
 
 -- both hold, so the first does
 left_of : (a b : Bool) → (a && b) ≡ true → a ≡ true

@@ -2,16 +2,12 @@
 use Rattle.std.proofs.Common.{◌≡◌, ℕ, ◌+◌, ◌-◌, ◌*◌, ◌/◌, ◌%◌, ◌<◌, ◌≤◌, ◌^◌, true, List, ◌++◌}
 use Rattle.std.proofs.Common.{length, refl, sym, ap, ◌∙◌, arith, max, inl, inr}
 use Rattle.std.specs.Prelude.{ℤ, pos, negsuc, ◌⊎◌}
-use Rattle.std.proofs.lemmas.Bool.{eq-eqb, ne_eqb, cases_lt}
-use Rattle.std.proofs.lemmas.Bool.Decides.{nat_tests}
-use Rattle.do_grammar.specs.Reader.{bytes_of}
-use Rattle.do_grammar.specs.Forms.{Then, Bytes, Mapped}
-use Rattle.do_grammar.specs.Num.{span, digits, size, least_of, num, reaches, digits_at, sized}
-use Rattle.do_grammar.specs.Num.{num_at, counted_at, zigzag, unzigzag, signed_at, Num, CountedText}
-use Rattle.do_grammar.specs.Num.{Signed}
-use Rattle.do_grammar.specs.OneSpelling.{Spelled}
-use Rattle.do_grammar.proofs.reads.ExactReader.{Reads, Reads-then, Reads-as}
-use Rattle.do_grammar.proofs.reads.FormsExact.{Reads-mapped, Reads-bytes}
+use Rattle.std.proofs.lemmas.Bool.{eq-eqb, ne_eqb, cases_lt, Decides.nat_tests}
+use Rattle.do_grammar.specs.{Reader.bytes_of, Forms.{Then, Bytes, Mapped}, Num.{span, digits, size}}
+use Rattle.do_grammar.specs.Num.{least_of, num, reaches, digits_at, sized, num_at, counted_at}
+use Rattle.do_grammar.specs.Num.{zigzag, unzigzag, signed_at, Num, CountedText, Signed}
+use Rattle.do_grammar.{specs.OneSpelling.Spelled, proofs.reads.ExactReader.{Reads, Reads-then}}
+use Rattle.do_grammar.proofs.reads.{ExactReader.Reads-as, FormsExact.{Reads-mapped, Reads-bytes}}
 use Rattle.do_grammar.proofs.texts.SizeExact.{span_pos, size_le, size_sized, least-span}
 use Rattle.do_grammar.proofs.texts.DigitsExact.{Reached, Reaches, InSize, Reads-fitting_digits}
 use Rattle.do_grammar.proofs.texts.DigitsExact.{FittingDigits, Reads-sized}

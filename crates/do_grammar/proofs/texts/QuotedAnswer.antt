@@ -1,13 +1,10 @@
 -- What an answer tells that is the text that stands in quotes at the front.
 use Rattle.std.proofs.Common.{◌≡◌, ℕ, List, ◌++◌, Option, Some, None, Result, Ok, Err, refl, sym}
 use Rattle.std.proofs.Common.{ap, subst, ◌∙◌}
-use Rattle.std.specs.Prelude.{IfSome, IfOk}
-use Rattle.std.specs.Option.{option_map}
-use Rattle.std.specs.Borrow.{Bor}
+use Rattle.std.specs.{Prelude.{IfSome, IfOk}, Option.option_map, Borrow.Bor}
 use Rattle.do_grammar.specs.Grammar.{Takes}
 use Rattle.do_grammar.specs.Quoted.{quoted, quoted_at, front_view, slice_view, Quoted}
-use Rattle.do_grammar.proofs.texts.WordBytes.{some_is}
-use Rattle.do_grammar.proofs.texts.QuotedExact.{quoted_takes, quoted_again}
+use Rattle.do_grammar.proofs.texts.{WordBytes.some_is, QuotedExact.{quoted_takes, quoted_again}}
 
 -- a text that is read in quotes begins the bytes
 takes : (limit : ℕ) (bytes text rest : List ℕ) → quoted_at limit bytes ≡ Some (text, rest)

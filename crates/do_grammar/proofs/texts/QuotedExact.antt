@@ -2,13 +2,10 @@
 use Rattle.std.proofs.Common.{◌≡◌, ◌≢◌, ℕ, zero, suc, ◌+◌, ◌-◌, ◌*◌, ◌/◌, ◌%◌, ◌<◌, ◌≤◌, Bool, true}
 use Rattle.std.proofs.Common.{false, cond, eqb, leb, List, [], ◌∷◌, ◌++◌, length, Option, Some}
 use Rattle.std.proofs.Common.{None, refl, sym, ap, subst, ◌∙◌, append_assoc, arith, inl, inr}
-use Rattle.std.specs.Prelude.{◌&&◌}
-use Rattle.std.specs.List.{flat_map}
-use Rattle.std.proofs.lemmas.Bool.{eqb-true, ne_eqb, lt-ltb, le-ltb, cases_lt}
-use Rattle.std.proofs.lemmas.Bool.Decides.{nat_tests}
+use Rattle.std.specs.{Prelude.◌&&◌, List.flat_map}
+use Rattle.std.proofs.lemmas.Bool.{eqb-true, ne_eqb, lt-ltb, le-ltb, cases_lt, Decides.nat_tests}
 use Rattle.std.proofs.lemmas.Nat.{div-mul-add, mod-mul-add, div-add-mod'}
-use Rattle.do_grammar.specs.Grammar.{IsBytes}
-use Rattle.do_grammar.specs.Words.{◌>>?◌}
+use Rattle.do_grammar.specs.{Grammar.IsBytes, Words.◌>>?◌}
 use Rattle.do_grammar.specs.Quoted.{is_plain, hex_digit, quoted_byte, quoted, hex_value, escaped}
 use Rattle.do_grammar.specs.Quoted.{escape_at, piece_at, closing, closed_or, denoted, quoted_at}
 use Rattle.do_grammar.proofs.texts.WordBytes.{some_is, chain_some}

@@ -1,8 +1,6 @@
 -- Chains of values that may be missing, and bytes that stand nowhere in a text.
 use Rattle.std.proofs.Common.{◌≡◌, ◌≢◌, ℕ, Bool, true, false, List, [], ◌∷◌, ◌++◌, Option, Some}
-use Rattle.std.proofs.Common.{None, refl, ap}
-use Rattle.std.specs.Prelude.{◌&&◌}
-use Rattle.std.specs.List.{list_all}
+use Rattle.std.{proofs.Common.{None, refl, ap}, specs.{Prelude.◌&&◌, List.list_all}}
 use Rattle.do_grammar.specs.Words.{◌>>?◌, Without}
 
 -- a chain that has a value has one at each step

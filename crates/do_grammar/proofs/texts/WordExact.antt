@@ -1,9 +1,7 @@
 -- Words and parts are cut off a text exactly.
 use Rattle.std.proofs.Common.{◌≡◌, ℕ, Bool, true, false, eqb, List, [], ◌∷◌, ◌++◌, Option, Some}
-use Rattle.std.proofs.Common.{None, refl, sym, ap, subst, ◌∙◌}
-use Rattle.std.specs.Prelude.{MatchOption, IfSome}
-use Rattle.std.specs.Borrow.{Bor}
-use Rattle.std.proofs.lemmas.Bool.{eqb-true, eq-eqb, ne_eqb}
+use Rattle.std.{proofs.Common.{None, refl, sym, ap, subst, ◌∙◌}, specs.Prelude.MatchOption}
+use Rattle.std.{specs.{Prelude.IfSome, Borrow.Bor}, proofs.lemmas.Bool.{eqb-true, eq-eqb, ne_eqb}}
 use Rattle.do_grammar.specs.Words.{word, part, text_view, Without, EndsBefore}
 use Rattle.do_grammar.proofs.texts.WordBytes.{some_is, chain_some}
 

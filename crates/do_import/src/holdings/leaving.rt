@@ -1,6 +1,6 @@
 //! Foreign objects that leave, one by one or with their home.
-ghost use Rattle.std.specs.Prelude.{◌≡◌, ◌≤◌, MatchOption};
 ghost use Rattle.std.specs.FinMap as map;
+ghost use Rattle.std.specs.Prelude.{◌≡◌, ◌≤◌, MatchOption};
 ghost use Rattle.do_export.specs.Counts.{count_of, others_of, IsPositive};
 ghost use Rattle.do_import.specs.Held.{NoneLeaves, IsLowestLeaving};
 

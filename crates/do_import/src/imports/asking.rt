@@ -1,7 +1,7 @@
 //! Asks: kept, granted, and ended.
+ghost use Rattle.std.specs.FinMap as map;
 ghost use Rattle.std.specs.Prelude.{◌≡◌, ◌+◌, ◌<◌, ◌≤◌, ◌^◌, ◌-◌, ◌||◌, Some, MatchOption, not};
 ghost use Rattle.std.specs.Prelude.{false, IsTrue, if◌then◌else◌};
-ghost use Rattle.std.specs.FinMap as map;
 ghost use Rattle.do_export.specs.Counts.{count_of};
 ghost use Rattle.do_import.specs.Asked.{ask_key, HasNoAsk, IsLowestAsk};
 ghost use Rattle.do_import.specs.ByObject.{added, taken_off, first_kept, left_of};

@@ -1,9 +1,8 @@
 //! A peer whose end closes.
-ghost use Rattle.std.specs.Prelude.{◌≡◌, ◌≤◌};
 ghost use Rattle.std.specs.FinMap as map;
+ghost use Rattle.std.specs.Prelude.{◌≡◌, ◌≤◌};
 ghost use Rattle.do_export.specs.Counts.{others_of};
-ghost use Rattle.do_import.specs.ByObject.{home_ended};
-ghost use Rattle.do_import.specs.Imported.{all_off, lent_to};
+ghost use Rattle.do_import.specs.{ByObject.home_ended, Imported.{all_off, lent_to}};
 
 use super::Imports;
 use crate::by_object::ByObject;

@@ -1,7 +1,7 @@
 //! Lends: kept and settled.
+ghost use Rattle.std.specs.FinMap as map;
 ghost use Rattle.std.specs.Prelude.{◌≡◌, ◌+◌, ◌<◌, ◌≤◌, ◌^◌, ◌-◌, ◌==◌, None, MatchOption};
 ghost use Rattle.std.specs.Prelude.{if◌then◌else◌};
-ghost use Rattle.std.specs.FinMap as map;
 ghost use Rattle.do_export.specs.Counts.{count_of};
 ghost use Rattle.do_import.specs.ByObject.{added, taken_off};
 

@@ -1,6 +1,6 @@
 //! What is received and used, and what leaves.
-ghost use Rattle.std.specs.Prelude.{◌≡◌, ◌+◌, ◌<◌, ◌≤◌, ◌^◌, ◌-◌, MatchOption};
 ghost use Rattle.std.specs.FinMap as map;
+ghost use Rattle.std.specs.Prelude.{◌≡◌, ◌+◌, ◌<◌, ◌≤◌, ◌^◌, ◌-◌, MatchOption};
 ghost use Rattle.do_export.specs.Counts.{count_of, lowered, IsPositive};
 ghost use Rattle.do_import.specs.ByObject.{added, first_kept, left_of, taken_off};
 ghost use Rattle.do_import.specs.Held.{NoneLeaves, IsLowestLeaving};

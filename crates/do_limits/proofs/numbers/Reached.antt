@@ -1,34 +1,21 @@
 -- After so many events the numbers of nodes are within their bounds.
+use Rattle.do_machine.specs.declared.item.Item.TheVariants as items
 use Rattle.do_limits.proofs.Signatures.{HasMethods}
 use Rattle.std.proofs.Common.{◌≡◌, ◌==◌, ◌+◌, ℕ, Bool, true, false, List, [], ◌∷◌, length, map}
-use Rattle.std.proofs.Common.{refl, sym, ap, subst, ◌∙◌, arith}
-use Rattle.std.specs.Prelude.{All, Some, suc, unwrap_or}
-use Rattle.std.specs.List.{insert}
-use Rattle.std.proofs.lemmas.Bool.{eqb-true}
+use Rattle.std.{proofs.Common.{refl, sym, ap, subst, ◌∙◌, arith}, specs.Prelude.{All, Some, suc}}
+use Rattle.std.{specs.{Prelude.unwrap_or, List.insert}, proofs.lemmas.Bool.eqb-true}
 use Rattle.do_base.specs.declared.events.event.Event.{Event}
 use Rattle.do_base.specs.declared.events.event.Event.TheVariants.{Close, Run, Start, Timeout}
 use Rattle.do_class.specs.Class.{Class}
-use Rattle.do_machine.specs.declared.item.Item.TheVariants as items
-use Rattle.do_machine.specs.declared.node.Node.{Node}
-use Rattle.do_machine.specs.declared.state.Effect.{Effect}
-use Rattle.do_machine.specs.declared.state.Seat.{Seat}
-use Rattle.do_machine.specs.declared.state.State.{State}
-use Rattle.do_machine.specs.declared.state.Stepped.{Stepped}
-use Rattle.do_machine.specs.Commit.{commit, moved, skipped}
-use Rattle.do_machine.specs.Context.{around, context}
-use Rattle.do_machine.specs.Start.{start_effect}
-use Rattle.do_machine.specs.State.{change, node, with_queue}
-use Rattle.do_machine.specs.Step.{step}
-use Rattle.do_machine.specs.World.{IsSeat, by_port, opening}
-use Rattle.do_machine.specs.check.Blocks.{followed, steps}
-use Rattle.do_machine.specs.ends.TimeOut.{time_out}
-use Rattle.do_machine.specs.held.Leaving.{leaving}
-use Rattle.do_machine.specs.run.Run.{Acting, run_effect}
-use Rattle.do_facts.proofs.machine.follows.States.{requeued}
-use Rattle.do_facts.specs.Reached.{reached}
+use Rattle.do_machine.specs.declared.{node.Node.Node, state.{Effect.Effect, Seat.Seat, State.State}}
+use Rattle.do_machine.specs.{declared.state.Stepped.Stepped, Commit.{commit, moved, skipped}}
+use Rattle.do_machine.specs.{Context.{around, context}, Start.start_effect, State.{change, node}}
+use Rattle.do_machine.specs.{State.with_queue, Step.step, World.{IsSeat, by_port, opening}}
+use Rattle.do_machine.specs.{check.Blocks.{followed, steps}, ends.TimeOut.time_out}
+use Rattle.do_machine.specs.{held.Leaving.leaving, run.Run.{Acting, run_effect}}
+use Rattle.do_facts.{proofs.machine.follows.States.requeued, specs.Reached.reached}
 use Rattle.do_facts.specs.steps.IsStep.{Acts, Checks, IsRuleOf, IsStep, Loses, Skips, Takes}
-use Rattle.do_facts.proofs.OpeningAsNet.{opened}
-use Rattle.do_facts.proofs.steps.EachIsStep.{step_is}
+use Rattle.do_facts.proofs.{OpeningAsNet.opened, steps.EachIsStep.step_is}
 use Rattle.do_facts.proofs.steps.OthersStay.{move_leaves_others, move_leaves_own}
 use Rattle.do_limits.specs.Numbers.{AllNumbersWithin, NumbersWithin}
 use Rattle.do_limits.specs.SendableActs.{AllStartSendable, KeepsSendable}

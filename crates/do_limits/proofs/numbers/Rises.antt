@@ -1,52 +1,36 @@
 -- How far an effect raises the numbers of its node.
+use Rattle.do_behave.specs.declared.invocation.Reason.TheVariants as reasons
+use Rattle.do_machine.specs.declared.item.Item.TheVariants as items
+use Rattle.do_machine.specs.declared.verdict.Request.TheVariants as requests
 use Rattle.do_limits.proofs.Signatures.{HasMethods}
 use Rattle.std.specs.List.{AllByRecursion, filter_map}
 use Rattle.std.proofs.Common.{◌≡◌, ◌+◌, ◌≤◌, ℕ, List, [], ◌∷◌, length, refl, ap, ◌∙◌, arith}
-use Rattle.std.proofs.lemmas.List.{length-map}
-use Rattle.std.specs.Prelude.{None, Option, Some, option_map}
+use Rattle.std.{proofs.lemmas.List.length-map, specs.Prelude.{None, Option, Some, option_map}}
 use Rattle.do_base.specs.declared.values.value.Value.{Value}
 use Rattle.do_class.specs.declared.packet.Packet.{Packet}
-use Rattle.do_behave.specs.declared.invocation.Answer.TheVariants.{Given}
-use Rattle.do_behave.specs.declared.invocation.Invocation.{Invocation}
-use Rattle.do_behave.specs.declared.invocation.Reason.TheVariants as reasons
+use Rattle.do_behave.specs.declared.invocation.{Answer.TheVariants.Given, Invocation.Invocation}
 use Rattle.do_base.specs.declared.values.value.Value.TheVariants.{Nil}
-use Rattle.do_class.specs.declared.packet.Name.{Name}
-use Rattle.do_class.specs.declared.packet.Name.TheVariants.{Lent, Mine, Yours}
-use Rattle.do_packet.specs.Copies.{most_copies}
-use Rattle.do_packet.specs.Limits.{KeepsLimits, most_names}
+use Rattle.do_class.specs.declared.packet.Name.{Name, TheVariants.{Lent, Mine, Yours}}
+use Rattle.do_packet.specs.{Copies.most_copies, Limits.{KeepsLimits, most_names}}
 use Rattle.do_limits.proofs.Senders.{ContextIsSendable}
-use Rattle.do_machine.specs.lend.Lending.{lend_of, posting}
-use Rattle.do_machine.specs.run.Answers.{answer_placed}
-use Rattle.do_facts.proofs.Deliveries.{Delivers, by_delivery, by_failing}
-use Rattle.do_facts.proofs.walk.Done.{each_done}
+use Rattle.do_machine.specs.{lend.Lending.{lend_of, posting}, run.Answers.answer_placed}
+use Rattle.do_facts.proofs.{Deliveries.{Delivers, by_delivery, by_failing}, walk.Done.each_done}
 use Rattle.do_facts.proofs.walk.SmallEffects.{by_ask_over, by_granting}
 use Rattle.do_limits.specs.SendableActs.{KeepsSendable}
 use Rattle.do_limits.specs.SendableStates.{InvocationIsSendable, ItemIsSendable}
-use Rattle.do_limits.proofs.runs.Runs.{judged}
-use Rattle.do_limits.proofs.runs.Verdicts.{RequestIsSendable, VerdictIfSendable, VerdictIsSendable}
-use Rattle.do_limits.proofs.runs.Verdicts.{message_keeps}
-use Rattle.do_machine.specs.declared.item.Item.{Item}
-use Rattle.do_machine.specs.declared.item.Item.TheVariants as items
-use Rattle.do_machine.specs.declared.node.Node.{Node}
-use Rattle.do_machine.specs.declared.state.Effect.{Effect}
-use Rattle.do_machine.specs.declared.verdict.Request.{Request}
-use Rattle.do_machine.specs.declared.verdict.Request.TheVariants as requests
-use Rattle.do_machine.specs.declared.verdict.Verdict.{Verdict}
-use Rattle.do_machine.specs.declared.verdict.Verdict.TheVariants.{Asks, Fails, Makes}
-use Rattle.do_machine.specs.declared.verdict.Verdict.TheVariants.{Returns, Tells}
-use Rattle.do_machine.specs.Context.{Context, RunContext}
-use Rattle.do_machine.specs.Items.{exported}
-use Rattle.do_machine.specs.Objects.{object_at}
-use Rattle.do_machine.specs.lend.Asking.{wanted}
-use Rattle.do_machine.specs.run.Fresh.{with_objects}
+use Rattle.do_limits.proofs.runs.{Runs.judged, Verdicts.{RequestIsSendable, VerdictIfSendable}}
+use Rattle.do_limits.proofs.runs.Verdicts.{VerdictIsSendable, message_keeps}
+use Rattle.do_machine.specs.declared.{item.Item.Item, node.Node.Node, state.Effect.Effect}
+use Rattle.do_machine.specs.declared.verdict.{Request.Request, Verdict.{Verdict, TheVariants.Asks}}
+use Rattle.do_machine.specs.declared.verdict.Verdict.TheVariants.{Fails, Makes, Returns, Tells}
+use Rattle.do_machine.specs.{Context.{Context, RunContext}, Items.exported, Objects.object_at}
+use Rattle.do_machine.specs.{lend.Asking.wanted, run.Fresh.with_objects}
 use Rattle.do_machine.specs.run.Run.{Acting, run_effect, run_on, state_rule}
-use Rattle.do_machine.specs.run.Verdicts.{effect_of, requesting, waits_for}
-use Rattle.do_machine.specs.run.Changes.{goes_on, stands, uses_number}
-use Rattle.do_machine.specs.run.Delivery.{popped, with_top}
+use Rattle.do_machine.specs.run.{Verdicts.{effect_of, requesting, waits_for}, Changes.goes_on}
+use Rattle.do_machine.specs.run.{Changes.{stands, uses_number}, Delivery.{popped, with_top}}
 use Rattle.do_machine.specs.take.Receipt.{arrived, received, receiving, receiving_name}
-use Rattle.do_machine.specs.take.Requests.{request}
-use Rattle.do_machine.specs.take.Take.{arrival, holding, method_call, root_call, take_effect}
-use Rattle.do_machine.specs.take.Take.{values_arrival}
+use Rattle.do_machine.specs.take.{Requests.request, Take.{arrival, holding, method_call, root_call}}
+use Rattle.do_machine.specs.take.Take.{take_effect, values_arrival}
 use Rattle.do_limits.proofs.numbers.Same.{Same, SameIf, closing_same, numbers, name_same}
 use Rattle.do_limits.proofs.numbers.Same.{request_same, small}
 use Rattle.do_facts.proofs.walk.Possible.{IfAny}

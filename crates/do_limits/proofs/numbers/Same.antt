@@ -1,28 +1,16 @@
 -- Effects that leave the numbers of calls, objects and tokens as they were.
-use Rattle.std.proofs.Common.{◌≡◌, ℕ, List, refl}
-use Rattle.std.specs.Prelude.{Err, Ok, Option, Result}
-use Rattle.do_base.specs.declared.events.exception.Exc.{Exc}
-use Rattle.do_base.specs.declared.values.value.Value.{Value}
-use Rattle.do_class.specs.Class.{Class}
-use Rattle.do_class.specs.declared.ids.MethodId.{MethodId}
-use Rattle.do_class.specs.declared.packet.Name.{Name}
+use Rattle.do_behave.specs.declared.invocation.Reason.TheVariants as reasons
+use Rattle.std.{proofs.Common.{◌≡◌, ℕ, List, refl}, specs.Prelude.{Err, Ok, Option, Result}}
+use Rattle.do_base.specs.declared.{events.exception.Exc.Exc, values.value.Value.Value}
+use Rattle.do_class.specs.{Class.Class, declared.{ids.MethodId.MethodId, packet.Name.Name}}
 use Rattle.do_class.specs.declared.packet.Name.TheVariants.{Lent}
 use Rattle.do_behave.specs.declared.invocation.Reason.{Reason}
-use Rattle.do_behave.specs.declared.invocation.Reason.TheVariants as reasons
-use Rattle.do_machine.specs.declared.item.Message.{Message}
-use Rattle.do_machine.specs.declared.node.Node.{Node}
-use Rattle.do_machine.specs.declared.state.Effect.{Effect}
-use Rattle.do_machine.specs.Context.{Context}
-use Rattle.do_machine.specs.Start.{start_effect}
-use Rattle.do_machine.specs.ends.Closing.{closing}
-use Rattle.do_machine.specs.ends.TimeOut.{time_out}
-use Rattle.do_machine.specs.lend.Asking.{wanted}
-use Rattle.do_machine.specs.take.Receipt.{receiving_name}
+use Rattle.do_machine.specs.declared.{item.Message.Message, node.Node.Node, state.Effect.Effect}
+use Rattle.do_machine.specs.{Context.Context, Start.start_effect, ends.Closing.closing}
+use Rattle.do_machine.specs.{ends.TimeOut.time_out, lend.Asking.wanted, take.Receipt.receiving_name}
 use Rattle.do_machine.specs.take.Requests.{admission, refusing, request}
-use Rattle.do_facts.proofs.walk.Done.{Done, alone}
-use Rattle.do_facts.proofs.walk.SmallEffects.{Small, by_asking, by_closing}
-use Rattle.do_facts.proofs.walk.Takes.{admitted}
-use Rattle.do_facts.proofs.walk.Possible.{IfAny, by_begins, by_giving_up}
+use Rattle.do_facts.proofs.walk.{Done.{Done, alone}, SmallEffects.{Small, by_asking, by_closing}}
+use Rattle.do_facts.proofs.walk.{Takes.admitted, Possible.{IfAny, by_begins, by_giving_up}}
 
 -- the numbers of a node's next call, next object and next token
 abbrev pub numbers : Node → ℕ × (ℕ × ℕ)

@@ -1,32 +1,24 @@
 -- What becomes of acts whose values can be carried.
-use Rattle.std.proofs.Common.{arith, length, map, refl, ◌≤◌}
-use Rattle.std.specs.Prelude.{true, ◌≡◌}
-use Rattle.do_base.specs.names.Names.{ObjectName}
-use Rattle.do_base.specs.declared.events.exception.Exc.{Exc}
 use Rattle.do_base.specs.declared.events.exception.Exc.TheVariants as excs
-use Rattle.do_class.specs.declared.packet.Packet.{Packet}
-use Rattle.do_sig.specs.Calls.{is_oneway, qualifiers_of}
-use Rattle.do_sig.specs.declared.signature.Signature.{Signature}
-use Rattle.do_behave.specs.declared.act.Act.{Act}
 use Rattle.do_behave.specs.declared.act.Act.TheVariants as acts
-use Rattle.do_machine.specs.declared.verdict.SendAct.{SendAct}
-use Rattle.do_machine.specs.declared.verdict.Verdict.{Verdict}
-use Rattle.do_machine.specs.Context.{Found, RunContext, class_seen}
-use Rattle.do_machine.specs.run.Acts.{act_rule}
+use Rattle.std.{proofs.Common.{arith, length, map, refl, ◌≤◌}, specs.Prelude.{true, ◌≡◌}}
+use Rattle.do_base.specs.{names.Names.ObjectName, declared.events.exception.Exc.Exc}
+use Rattle.do_class.specs.declared.packet.Packet.{Packet}
+use Rattle.do_sig.specs.{Calls.{is_oneway, qualifiers_of}, declared.signature.Signature.Signature}
+use Rattle.do_behave.specs.declared.act.Act.{Act}
+use Rattle.do_machine.specs.declared.verdict.{SendAct.SendAct, Verdict.Verdict}
+use Rattle.do_machine.specs.{Context.{Found, RunContext, class_seen}, run.Acts.act_rule}
 use Rattle.do_machine.specs.run.Send.{arguments, inputs, message, outs_of}
-use Rattle.do_facts.proofs.EachOfLists.{each_former, each_latter, each_zipped}
-use Rattle.do_facts.proofs.RulesOfActs.{IsFor, IsToPeer, Sends, by_return, by_root, by_send}
-use Rattle.do_facts.proofs.RulesOfActs.{by_vend, is_raised}
-use Rattle.do_facts.proofs.methods.FewArguments.{found_few, inputs_length}
+use Rattle.do_facts.proofs.{EachOfLists.{each_former, each_latter, each_zipped}, RulesOfActs.IsFor}
+use Rattle.do_facts.proofs.RulesOfActs.{IsToPeer, Sends, by_return, by_root, by_send, by_vend}
+use Rattle.do_facts.proofs.{RulesOfActs.is_raised, methods.FewArguments.{found_few, inputs_length}}
 use Rattle.do_limits.specs.Sendable.{AreSendable, IsSendable, IsSendableExc}
-use Rattle.do_limits.specs.SendableActs.{ActIsSendable}
-use Rattle.do_limits.specs.SendableStates.{MessageIsSendable}
+use Rattle.do_limits.specs.{SendableActs.ActIsSendable, SendableStates.MessageIsSendable}
 use Rattle.do_limits.proofs.Senders.{ContextIsSendable, class_known}
 use Rattle.do_limits.proofs.Signatures.{HasMethods, few_marks, found_class}
-use Rattle.do_limits.proofs.values.Carried.{carry-Nil}
-use Rattle.do_limits.proofs.runs.Verdicts.{VerdictIsSendable, few_places, inputs_sendable}
-use Rattle.do_limits.proofs.runs.Verdicts.{message_sendable, outs_sendable, root_sendable, textless}
-use Rattle.do_limits.proofs.runs.Verdicts.{written_values}
+use Rattle.do_limits.proofs.{values.Carried.carry-Nil, runs.Verdicts.VerdictIsSendable}
+use Rattle.do_limits.proofs.runs.Verdicts.{few_places, inputs_sendable, message_sendable}
+use Rattle.do_limits.proofs.runs.Verdicts.{outs_sendable, root_sendable, textless, written_values}
 
 -- an exception that a rule raises has no text
 pub raised : (e : Exc) → is_raised e ≡ true → IsSendableExc e

@@ -1,47 +1,30 @@
 -- A run leaves and sends only what a message can carry.
-use Rattle.std.proofs.Common.{length, ◌∙◌, arith, subst, sym, ◌≡◌, ◌==◌, ℕ, not, List, [], ◌∷◌}
-use Rattle.std.proofs.Common.{refl}
-use Rattle.std.proofs.lemmas.List.{length-set}
-use Rattle.do_limits.proofs.Signatures.{HasMethods, few_answer_marks}
-use Rattle.do_limits.proofs.Senders.{ContextIsSendable}
-use Rattle.do_class.specs.Class.{Class}
-use Rattle.do_machine.specs.declared.item.Item.{Item}
-use Rattle.do_machine.specs.declared.state.Effect.{Effect}
-use Rattle.std.specs.Prelude.{None, Option, Some, option_map, slice_set}
-use Rattle.std.specs.List.{AllByRecursion}
-use Rattle.do_base.specs.values.Kinds.{number}
-use Rattle.do_base.specs.declared.events.exception.Exc.{Exc}
-use Rattle.do_base.specs.declared.events.exception.Exc.TheVariants.{TooLarge}
 use Rattle.do_base.specs.declared.events.shown.Shown.TheVariants as shown
-use Rattle.do_base.specs.declared.values.value.Value.{Value}
-use Rattle.do_base.specs.declared.values.value.Value.TheVariants.{Nil, Obj, Text}
-use Rattle.do_class.specs.Table.{signature_of}
-use Rattle.do_class.specs.declared.packet.Packet.{Packet}
-use Rattle.do_behave.specs.InPlace.{written}
-use Rattle.do_behave.specs.declared.act.Write.{Write}
-use Rattle.do_behave.specs.declared.invocation.Answer.{Answer}
-use Rattle.do_behave.specs.declared.invocation.Answer.TheVariants.{Given, Raised}
-use Rattle.do_behave.specs.declared.invocation.Handler.{Handler}
-use Rattle.do_behave.specs.declared.invocation.Invocation.{Invocation}
-use Rattle.do_behave.specs.declared.invocation.InvState.{InvState}
-use Rattle.do_behave.specs.declared.invocation.InvState.TheVariants.{Answered, Below, Running}
-use Rattle.do_behave.specs.declared.invocation.Reason.{Reason}
 use Rattle.do_behave.specs.declared.invocation.Reason.TheVariants as reasons
 use Rattle.do_machine.specs.declared.item.Item.TheVariants as items
-use Rattle.do_machine.specs.declared.node.Node.{Node}
-use Rattle.do_machine.specs.declared.node.Stored.{Stored}
-use Rattle.do_machine.specs.declared.verdict.Request.{Request}
 use Rattle.do_machine.specs.declared.verdict.Request.TheVariants as requests
-use Rattle.do_machine.specs.declared.verdict.Verdict.{Verdict}
-use Rattle.do_machine.specs.declared.verdict.Verdict.TheVariants.{Asks, Begins, Fails, Goes, Makes}
-use Rattle.do_machine.specs.declared.verdict.Verdict.TheVariants.{Returns, Says, Steps, Tells, Uses}
-use Rattle.do_machine.specs.declared.verdict.Verdict.TheVariants.{Vends}
-use Rattle.do_machine.specs.Context.{Context, RunContext}
-use Rattle.do_machine.specs.Effect.{only}
-use Rattle.do_machine.specs.Packing.{packed_for}
-use Rattle.do_machine.specs.State.{is_open, own, stored}
-use Rattle.do_machine.specs.run.Answers.{answer_line, answer_marks, answer_placed, exc_name}
-use Rattle.do_machine.specs.run.Answers.{oneway_answer, replying}
+use Rattle.std.proofs.Common.{length, ◌∙◌, arith, subst, sym, ◌≡◌, ◌==◌, ℕ, not, List, [], ◌∷◌}
+use Rattle.std.proofs.{Common.refl, lemmas.List.length-set}
+use Rattle.do_limits.proofs.{Signatures.{HasMethods, few_answer_marks}, Senders.ContextIsSendable}
+use Rattle.do_class.specs.Class.{Class}
+use Rattle.do_machine.specs.declared.{item.Item.Item, state.Effect.Effect}
+use Rattle.std.specs.{Prelude.{None, Option, Some, option_map, slice_set}, List.AllByRecursion}
+use Rattle.do_base.specs.{values.Kinds.number, declared.events.exception.Exc.Exc}
+use Rattle.do_base.specs.declared.events.exception.Exc.TheVariants.{TooLarge}
+use Rattle.do_base.specs.declared.values.value.Value.{Value, TheVariants.{Nil, Obj, Text}}
+use Rattle.do_class.specs.{Table.signature_of, declared.packet.Packet.Packet}
+use Rattle.do_behave.specs.{InPlace.written, declared.{act.Write.Write, invocation.Answer.Answer}}
+use Rattle.do_behave.specs.declared.invocation.{Answer.TheVariants.{Given, Raised}, Handler.Handler}
+use Rattle.do_behave.specs.declared.invocation.{Invocation.Invocation, InvState.InvState}
+use Rattle.do_behave.specs.declared.invocation.InvState.TheVariants.{Answered, Below, Running}
+use Rattle.do_behave.specs.declared.invocation.Reason.{Reason}
+use Rattle.do_machine.specs.declared.{node.{Node.Node, Stored.Stored}, verdict.Request.Request}
+use Rattle.do_machine.specs.declared.verdict.Verdict.{Verdict, TheVariants.{Asks, Begins, Fails}}
+use Rattle.do_machine.specs.declared.verdict.Verdict.TheVariants.{Goes, Makes, Returns, Says, Steps}
+use Rattle.do_machine.specs.declared.verdict.Verdict.TheVariants.{Tells, Uses, Vends}
+use Rattle.do_machine.specs.{Context.{Context, RunContext}, Effect.only, Packing.packed_for}
+use Rattle.do_machine.specs.{State.{is_open, own, stored}, run.Answers.{answer_line, answer_marks}}
+use Rattle.do_machine.specs.run.Answers.{answer_placed, exc_name, oneway_answer, replying}
 use Rattle.do_machine.specs.run.Changes.{goes_on, goes_to, stands, uses_number, with_outs}
 use Rattle.do_machine.specs.run.Changes.{with_slots, with_writes}
 use Rattle.do_machine.specs.run.Delivery.{below_answered, delivery, failing, popped, with_top}
@@ -51,19 +34,16 @@ use Rattle.do_machine.specs.run.Verdicts.{effect_of, requesting, waits_for}
 use Rattle.do_machine.specs.lend.Lending.{lending, lends_of, posting}
 use Rattle.do_facts.proofs.Deliveries.{packed_answer}
 use Rattle.do_limits.specs.Sendable.{AreSendable, HasSlots, IsSendable, IsSendableExc}
-use Rattle.do_limits.specs.Sendable.{IsSendablePacket}
-use Rattle.do_limits.specs.SendableActs.{KeepsSendable}
+use Rattle.do_limits.specs.{Sendable.IsSendablePacket, SendableActs.KeepsSendable}
 use Rattle.do_limits.specs.SendableStates.{AnswerIsSendable, HasSendableAnswer}
 use Rattle.do_limits.specs.SendableStates.{InvocationIsSendable, ItemIsSendable, NodeIsSendable}
 use Rattle.do_limits.specs.SendableStates.{ObjectIsSendable}
-use Rattle.do_facts.proofs.Chains.{either}
-use Rattle.do_facts.proofs.walk.Done.{alone, queues, shows}
+use Rattle.do_facts.proofs.{Chains.either, walk.Done.{alone, queues, shows}}
 use Rattle.do_limits.proofs.Effects.{EffectIsSendable, IfSendable, begins, blank_sendable, makes}
 use Rattle.do_limits.proofs.Effects.{pushes}
 use Rattle.do_facts.proofs.EachOfLists.{each_set, each_zipped, found_is}
-use Rattle.do_limits.proofs.Lists.{each_changed}
-use Rattle.do_limits.proofs.values.Carried.{carry-Nil, carry-Obj, name_sendable}
-use Rattle.do_limits.proofs.runs.ActRules.{act_sendable}
+use Rattle.do_limits.proofs.{Lists.each_changed, values.Carried.{carry-Nil, carry-Obj}}
+use Rattle.do_limits.proofs.{values.Carried.name_sendable, runs.ActRules.act_sendable}
 use Rattle.do_limits.proofs.runs.Verdicts.{RequestIsSendable, VerdictIfSendable, VerdictIsSendable}
 use Rattle.do_limits.proofs.runs.Verdicts.{few_places, message_sendable, textless}
 

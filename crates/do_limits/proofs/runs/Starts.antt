@@ -1,30 +1,23 @@
 -- A start and a time-out leave and send only what a message can carry.
+use Rattle.do_behave.specs.declared.invocation.Reason.TheVariants as reasons
 use Rattle.std.proofs.Common.{arith, refl, ℕ, not, List, [], ◌∷◌}
 use Rattle.do_facts.proofs.methods.FewArguments.{found_few, fitting_length}
 use Rattle.do_limits.proofs.Signatures.{HasMethods}
-use Rattle.std.specs.Prelude.{None, Option, Some, option_map}
-use Rattle.std.specs.List.{AllByRecursion}
+use Rattle.std.specs.{Prelude.{None, Option, Some, option_map}, List.AllByRecursion}
 use Rattle.do_base.specs.declared.events.exception.Exc.TheVariants.{TimedOut}
 use Rattle.do_base.specs.declared.values.value.Value.{Value}
 use Rattle.do_class.specs.Class.{Class}
-use Rattle.do_behave.specs.declared.invocation.Invocation.{Invocation}
-use Rattle.do_behave.specs.declared.invocation.InvState.{InvState}
+use Rattle.do_behave.specs.declared.invocation.{Invocation.Invocation, InvState.InvState}
 use Rattle.do_behave.specs.declared.invocation.InvState.TheVariants.{Waits}
-use Rattle.do_behave.specs.declared.invocation.Reason.TheVariants as reasons
 use Rattle.do_machine.specs.declared.node.Node.{Node}
 use Rattle.do_sig.specs.Calls.{args_fit}
-use Rattle.do_machine.specs.Context.{method_for, own_class}
-use Rattle.do_machine.specs.Effect.{only}
-use Rattle.do_machine.specs.Start.{is_busy, start_effect}
-use Rattle.do_machine.specs.State.{own}
-use Rattle.do_machine.specs.ends.TimeOut.{give_up, time_out, time_out_on}
-use Rattle.do_machine.specs.run.Fresh.{fresh, pushed}
+use Rattle.do_machine.specs.{Context.{method_for, own_class}, Effect.only}
+use Rattle.do_machine.specs.{Start.{is_busy, start_effect}, State.own, ends.TimeOut.give_up}
+use Rattle.do_machine.specs.{ends.TimeOut.{time_out, time_out_on}, run.Fresh.{fresh, pushed}}
 use Rattle.do_limits.specs.Sendable.{AreSendable}
 use Rattle.do_limits.specs.SendableStates.{InvocationIsSendable, NodeIsSendable}
-use Rattle.do_facts.proofs.Chains.{either, found_or, not_closed}
-use Rattle.do_facts.proofs.walk.Done.{alone}
-use Rattle.do_limits.proofs.Effects.{IfSendable, begins, pushes}
-use Rattle.do_limits.proofs.runs.Verdicts.{textless}
+use Rattle.do_facts.proofs.{Chains.{either, found_or, not_closed}, walk.Done.alone}
+use Rattle.do_limits.proofs.{Effects.{IfSendable, begins, pushes}, runs.Verdicts.textless}
 
 -- ---- starts
 

@@ -1,42 +1,27 @@
 -- What becomes of an act, and the values and the message in it.
-use Rattle.std.specs.Prelude.{length, ◌≤◌, None, Option, Some}
-use Rattle.std.proofs.Common.{◌≡◌, ℕ, Bool, true, false, cond, List, [], ◌∷◌, Err, Ok, Result, map}
-use Rattle.std.proofs.Common.{ap, arith}
-use Rattle.std.specs.List.{AllByRecursion, zip}
-use Rattle.std.proofs.lemmas.Slice.Zip.{length-zip}
+use Rattle.do_machine.specs.declared.verdict.Request.TheVariants as requests
+use Rattle.std.{specs.Prelude.{length, ◌≤◌, None, Option, Some}, proofs.Common.{◌≡◌, ℕ, Bool, true}}
+use Rattle.std.proofs.Common.{false, cond, List, [], ◌∷◌, Err, Ok, Result, map, ap, arith}
+use Rattle.std.{specs.List.{AllByRecursion, zip}, proofs.lemmas.Slice.Zip.length-zip}
 use Rattle.std.specs.Result.{result_ok}
-use Rattle.do_base.specs.declared.events.exception.Exc.{Exc}
-use Rattle.do_base.specs.declared.values.value.Value.{Value}
+use Rattle.do_base.specs.declared.{events.exception.Exc.Exc, values.value.Value.Value}
 use Rattle.do_base.specs.declared.values.value.Value.TheVariants.{Nil, Obj}
-use Rattle.do_class.specs.Class.{Class}
-use Rattle.do_class.specs.declared.packet.Packet.{Packet}
-use Rattle.do_sig.specs.Calls.{is_in, qualifier_of}
-use Rattle.do_sig.specs.declared.encoding.Encoding.{Encoding}
-use Rattle.do_packet.specs.Copies.{Placed}
-use Rattle.do_packet.specs.Limits.{KeepsLimits}
-use Rattle.do_packet.specs.Packing.{packed}
-use Rattle.do_packet.proofs.Keeping.{packed_keeps}
-use Rattle.do_packet.specs.declared.fault.PackFault.{PackFault}
+use Rattle.do_class.specs.{Class.Class, declared.packet.Packet.Packet}
+use Rattle.do_sig.specs.{Calls.{is_in, qualifier_of}, declared.encoding.Encoding.Encoding}
+use Rattle.do_packet.specs.{Copies.Placed, Limits.KeepsLimits, Packing.packed}
+use Rattle.do_packet.{proofs.Keeping.packed_keeps, specs.declared.fault.PackFault.PackFault}
 use Rattle.do_frames.specs.Exceptions.{exc_text}
 use Rattle.do_behave.specs.declared.act.Write.{Write}
-use Rattle.do_machine.specs.declared.node.Node.{Node}
-use Rattle.do_machine.specs.declared.verdict.Request.{Request}
-use Rattle.do_machine.specs.declared.verdict.Request.TheVariants as requests
-use Rattle.do_machine.specs.declared.verdict.Verdict.{Verdict}
+use Rattle.do_machine.specs.declared.{node.Node.Node, verdict.{Request.Request, Verdict.Verdict}}
 use Rattle.do_machine.specs.declared.verdict.Verdict.TheVariants.{Asks, Begins, Fails, Goes, Makes}
 use Rattle.do_machine.specs.declared.verdict.Verdict.TheVariants.{Returns, Says, Steps, Tells, Uses}
-use Rattle.do_machine.specs.declared.verdict.Verdict.TheVariants.{Vends}
-use Rattle.do_machine.specs.Context.{Context}
-use Rattle.do_machine.specs.Packing.{packed_for, packer}
-use Rattle.do_machine.specs.State.{own}
-use Rattle.do_machine.specs.run.Acts.{root_value}
+use Rattle.do_machine.specs.{declared.verdict.Verdict.TheVariants.Vends, Context.Context}
+use Rattle.do_machine.specs.{Packing.{packed_for, packer}, State.own, run.Acts.root_value}
 use Rattle.do_machine.specs.run.Send.{input, inputs_by, outs_by}
 use Rattle.do_limits.specs.Sendable.{AreSendable, IsOfTable, IsSendable, IsSendableExc}
-use Rattle.do_limits.specs.Sendable.{IsSendablePacket}
-use Rattle.do_limits.specs.SendableStates.{MessageIsSendable}
+use Rattle.do_limits.specs.{Sendable.IsSendablePacket, SendableStates.MessageIsSendable}
 use Rattle.do_limits.proofs.Senders.{ContextIsSendable, sender_sendable}
-use Rattle.do_limits.proofs.values.Packing.{packed_sendable}
-use Rattle.do_limits.proofs.values.Carried.{carry-Nil, carry-Obj}
+use Rattle.do_limits.proofs.values.{Packing.packed_sendable, Carried.{carry-Nil, carry-Obj}}
 
 -- the message of a request to a peer
 abbrev pub RequestIsSendable : List Class → ℕ → ℕ → Request → Type 0

@@ -1,39 +1,31 @@
 -- Each instruction keeps that values can be carried.
+use Rattle.do_script.specs.declared.instruction.Instruction.TheVariants as does
 use Rattle.std.proofs.Common.{◌≡◌, ◌++◌, ◌+ℤ◌, ◌-ℤ◌, ◌*ℤ◌, ◌≤◌, ◌∙◌, ℕ, ℤ, Bool, true, false, cond}
 use Rattle.std.proofs.Common.{List as Listed, [], ◌∷◌, length, refl, arith}
 use Rattle.std.specs.Prelude.{None, Option, Some, negsuc, pos, slice_get, slice_set}
-use Rattle.std.specs.Option.{IfSome}
-use Rattle.std.proofs.lemmas.List.{length-set}
-use Rattle.std.proofs.lemmas.List.Elements.{All-from_recursion}
-use Rattle.do_base.specs.values.Equal.{value_eq}
-use Rattle.do_base.specs.values.Kinds.{counted, items, number, text}
-use Rattle.do_base.specs.declared.events.exception.Exc.{Exc}
-use Rattle.do_base.specs.declared.events.exception.Exc.TheVariants.{Range, TypeFault, User}
+use Rattle.std.{specs.Option.IfSome, proofs.lemmas.List.{length-set, Elements.All-from_recursion}}
+use Rattle.do_base.specs.values.{Equal.value_eq, Kinds.{counted, items, number, text}}
+use Rattle.do_base.specs.declared.events.exception.Exc.{Exc, TheVariants.{Range, TypeFault, User}}
 use Rattle.do_base.specs.declared.values.value.Value.{List, Value}
 use Rattle.do_base.specs.declared.values.value.Value.TheVariants.{Nil, Num, Obj, Text}
 use Rattle.do_class.specs.Class.{Class}
 use Rattle.do_grammar.specs.Words.{◌>>?◌}
 use Rattle.do_script.specs.Listing.{IsWithin, Listing}
 use Rattle.do_script.specs.declared.instruction.Instruction.{Instruction}
-use Rattle.do_script.specs.declared.instruction.Instruction.TheVariants as does
 use Rattle.do_behave.specs.Lists.{can_be, count, gives_found, gives_list, item_at, picks, pushes}
 use Rattle.do_behave.specs.Numbers.{calculates, checked, gives_number, is_i64, is_zero, less, truth}
 use Rattle.do_behave.specs.Script.{code_of, does_next, is_ready, performs, runs, script, sends}
 use Rattle.do_behave.specs.Steps.{gives, goes_to, local, local_values, next, or_fault, writes}
-use Rattle.do_behave.specs.declared.act.Act.{Act}
-use Rattle.do_behave.specs.declared.act.Act.TheVariants.{Raise, Return, Root, Say, Send, Vend}
-use Rattle.do_behave.specs.declared.invocation.Invocation.{Invocation}
-use Rattle.do_behave.specs.laws.CodeSuits.{at-place, ready-parts}
-use Rattle.do_behave.specs.laws.ValueKinds.{by_items}
+use Rattle.do_behave.specs.declared.act.Act.{Act, TheVariants.{Raise, Return, Root, Say, Send}}
+use Rattle.do_behave.specs.declared.{act.Act.TheVariants.Vend, invocation.Invocation.Invocation}
+use Rattle.do_behave.specs.laws.{CodeSuits.{at-place, ready-parts}, ValueKinds.by_items}
 use Rattle.do_limits.specs.Sendable.{AreSendable, IsSendable, IsSendableExc}
 use Rattle.do_limits.specs.SendableActs.{ActIsSendable, KeepsSendable}
 use Rattle.do_limits.specs.SendableCodes.{CodeIsSendable, CodesAreSendable, GivesSendable}
 use Rattle.do_facts.proofs.EachOfLists.{each_joined, each_set}
-use Rattle.do_limits.proofs.runs.Verdicts.{textless}
-use Rattle.do_limits.proofs.values.Carried.{carry-Nil, carry-Obj}
-use Rattle.do_limits.proofs.scripts.Locals.{each_local, value_at}
-use Rattle.do_limits.proofs.scripts.MadeLists.{count_kept, empty_sendable, items_sendable}
-use Rattle.do_limits.proofs.scripts.MadeLists.{pushed_sendable}
+use Rattle.do_limits.proofs.{runs.Verdicts.textless, values.Carried.{carry-Nil, carry-Obj}}
+use Rattle.do_limits.proofs.scripts.{Locals.{each_local, value_at}, MadeLists.count_kept}
+use Rattle.do_limits.proofs.scripts.MadeLists.{empty_sendable, items_sendable, pushed_sendable}
 use Rattle.do_limits.proofs.scripts.MadeNumbers.{i64_sendable, number_kept, text_kept}
 use Rattle.do_limits.proofs.scripts.MadeNumbers.{truth_sendable}
 

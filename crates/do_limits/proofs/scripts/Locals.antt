@@ -1,11 +1,9 @@
 -- What locals hold can be carried, where the value of each local can.
 use Rattle.std.proofs.Common.{ℕ, List as Listed, [], ◌∷◌}
-use Rattle.std.specs.Prelude.{None, Option, Some, slice_get, suc, zero}
-use Rattle.std.specs.Option.{IfSome}
+use Rattle.std.specs.{Prelude.{None, Option, Some, slice_get, suc, zero}, Option.IfSome}
 use Rattle.do_base.specs.declared.values.value.Value.{Value}
 use Rattle.do_grammar.specs.Words.{◌>>?◌}
-use Rattle.do_behave.specs.Steps.{local, local_values}
-use Rattle.do_behave.specs.declared.invocation.Invocation.{Invocation}
+use Rattle.do_behave.specs.{Steps.{local, local_values}, declared.invocation.Invocation.Invocation}
 use Rattle.do_limits.specs.Sendable.{AreSendable, IsSendable}
 
 -- a value at a place can be carried

@@ -3,19 +3,13 @@ use Rattle.std.proofs.Common.{◌≡◌, ◌++◌, ◌-◌, ◌<◌, ◌≤◌, 
 use Rattle.std.proofs.Common.{length, map, refl, sym, subst, arith, rules, ◌∙◌}
 use Rattle.do_facts.proofs.EachOfLists.{each_joined, each_of}
 use Rattle.std.specs.Prelude.{None, Some, nat_le, nat_lt, pos, suc, zero}
-use Rattle.std.specs.List.{AllByRecursion, list_all}
-use Rattle.std.specs.Option.{IfSome}
-use Rattle.std.proofs.lemmas.Bool.{and_from, and_parts}
-use Rattle.std.proofs.lemmas.Bool.Decides.{nat_tests}
-use Rattle.std.proofs.lemmas.List.{length-map}
-use Rattle.do_base.specs.names.Names.{ObjectName}
-use Rattle.do_base.specs.values.Induction.{value_induction}
-use Rattle.do_base.specs.values.Texts.{longest_text}
-use Rattle.do_base.specs.declared.values.value.Value.{List, Value, the_lemmas}
-use Rattle.do_base.specs.declared.values.value.Value.TheVariants.{Nil, Num, Obj, Text}
+use Rattle.std.specs.{List.{AllByRecursion, list_all}, Option.IfSome}
+use Rattle.std.proofs.lemmas.{Bool.{and_from, and_parts, Decides.nat_tests}, List.length-map}
+use Rattle.do_base.specs.{names.Names.ObjectName, values.Induction.value_induction}
+use Rattle.do_base.specs.{values.Texts.longest_text, declared.values.value.Value.{List, Value}}
+use Rattle.do_base.specs.declared.values.value.Value.{the_lemmas, TheVariants.{Nil, Num, Obj, Text}}
 use Rattle.do_coder.specs.Parts.{is_bytes}
-use Rattle.do_behave.specs.Limits.{nests_within}
-use Rattle.do_behave.specs.Lists.{can_be, count}
+use Rattle.do_behave.specs.{Limits.nests_within, Lists.{can_be, count}}
 use Rattle.do_behave.specs.laws.Nesting.{nests_within-List_none, nests_within-deeper}
 use Rattle.do_limits.specs.Sendable.{AreSendable, IsSendable, can_carry}
 use Rattle.do_limits.proofs.values.Carried.{carry-List, carry-Nil, carry-Num, carry-Obj, carry-Text}

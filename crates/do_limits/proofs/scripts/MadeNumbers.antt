@@ -1,21 +1,15 @@
 -- The numbers and the texts that scripts make or raise can be carried.
 use Rattle.std.proofs.Common.{◌≡◌, ◌*◌, ◌+◌, ◌<◌, ◌≤◌, ◌^◌, ℕ, ℤ, Bool, true, false, List as Listed}
 use Rattle.std.proofs.Common.{length, refl, sym, subst, arith, rules, ◌∙◌}
-use Rattle.std.specs.Prelude.{None, Some, nat_le, nat_lt, negsuc, pos}
-use Rattle.std.specs.Option.{IfSome}
-use Rattle.std.proofs.lemmas.Bool.{and_parts}
-use Rattle.std.proofs.lemmas.Bool.Decides.{nat_tests}
-use Rattle.do_base.specs.names.Names.{ObjectName}
-use Rattle.do_base.specs.values.Induction.{value_induction}
-use Rattle.do_base.specs.values.Kinds.{number, text}
-use Rattle.do_base.specs.values.Texts.{longest_text}
+use Rattle.std.specs.{Prelude.{None, Some, nat_le, nat_lt, negsuc, pos}, Option.IfSome}
+use Rattle.std.proofs.lemmas.Bool.{and_parts, Decides.nat_tests}
+use Rattle.do_base.specs.{names.Names.ObjectName, values.Induction.value_induction}
+use Rattle.do_base.specs.values.{Kinds.{number, text}, Texts.longest_text}
 use Rattle.do_base.specs.declared.events.exception.Exc.TheVariants.{User}
 use Rattle.do_base.specs.declared.values.value.Value.{List, Value, the_lemmas}
 use Rattle.do_base.specs.declared.values.value.Value.TheVariants.{Nil, Num, Obj, Text}
-use Rattle.do_coder.specs.Parts.{is_bytes}
-use Rattle.do_coder.proofs.values.PartFacts.{all_bytes}
-use Rattle.do_behave.specs.Numbers.{is_i64, truth}
-use Rattle.do_behave.specs.laws.ValueKinds.{by_text}
+use Rattle.do_coder.{specs.Parts.is_bytes, proofs.values.PartFacts.all_bytes}
+use Rattle.do_behave.specs.{Numbers.{is_i64, truth}, laws.ValueKinds.by_text}
 use Rattle.do_grammar.specs.Num.{zigzag}
 use Rattle.do_limits.specs.Sendable.{IsSendable, IsSendableExc}
 use Rattle.do_limits.proofs.values.Carried.{carry-Num, carry-Text}

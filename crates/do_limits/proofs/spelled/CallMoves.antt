@@ -1,22 +1,19 @@
 -- Moves of calls give numbers one after another, and tell those alone that were given.
+use Rattle.do_behave.specs.declared.invocation.Reason.TheVariants as reasons
 use Rattle.std.proofs.Common.{◌≡◌, ◌<◌, ◌≤◌, ℕ, true, false, arith, subst}
 use Rattle.std.specs.List.{AllByRecursion}
 use Rattle.do_behave.specs.declared.invocation.Reason.{Reason}
-use Rattle.do_behave.specs.declared.invocation.Reason.TheVariants as reasons
 use Rattle.do_facts.specs.Net.{Net, Note, StandFirst}
 use Rattle.do_facts.specs.calls.Calls.{Answer, Atom, Called, Calls, Frame, RootAnswer, RootAsk}
-use Rattle.do_facts.specs.calls.Facts.{CallsHold}
-use Rattle.do_facts.specs.calls.Moves.{Asks, Begins, Closes, Gives, GivesUp, Move, Receives}
-use Rattle.do_facts.specs.calls.Moves.{Refuses, Replies, Returns, Serves, Starts, behind, may}
-use Rattle.do_facts.specs.calls.Moves.{moved, note, opens, posts, takes, call_rules}
-use Rattle.do_facts.proofs.calls.TopMoves.{other}
-use Rattle.do_facts.proofs.EachOfLists.{each_weaker}
+use Rattle.do_facts.specs.calls.{Facts.CallsHold, Moves.{Asks, Begins, Closes, Gives, GivesUp}}
+use Rattle.do_facts.specs.calls.Moves.{Move, Receives, Refuses, Replies, Returns, Serves, Starts}
+use Rattle.do_facts.specs.calls.Moves.{behind, may, moved, note, opens, posts, takes, call_rules}
+use Rattle.do_facts.proofs.{calls.TopMoves.other, EachOfLists.each_weaker}
 use Rattle.do_limits.proofs.spelled.ServedCalls.{AtomGiven, FrameGiven, ReasonGiven, Serve}
 use Rattle.do_limits.proofs.spelled.ServedCalls.{open_still, serve_behind, serve_changed}
 use Rattle.do_limits.proofs.spelled.ServedCalls.{serve_none, serve_parted, serve_rested}
 use Rattle.do_limits.proofs.spelled.ServedCalls.{serve_waits}
-use Rattle.do_facts.specs.Moves.{Keeps}
-use Rattle.do_facts.proofs.calls.CallsKept.{calls_keep}
+use Rattle.do_facts.{specs.Moves.Keeps, proofs.calls.CallsKept.calls_keep}
 use Rattle.do_limits.proofs.spelled.Given.{AllGiven, GiveNumbers, IsGiven, given_keeps, one_taken}
 use Rattle.do_limits.proofs.spelled.Wires.{OfNotes}
 

@@ -2,18 +2,12 @@
 use Rattle.std.proofs.Common.{ℕ, List, arith}
 use Rattle.do_base.specs.declared.events.event.Event.{Event}
 use Rattle.do_class.specs.Class.{Class}
-use Rattle.do_machine.specs.declared.state.Seat.{Seat}
-use Rattle.do_machine.specs.run.Run.{Acting}
-use Rattle.do_facts.specs.Net.{Net}
-use Rattle.do_facts.specs.Reached.{reached}
-use Rattle.do_facts.specs.View.{net_of}
-use Rattle.do_facts.specs.calls.Calls.{Atom, Calls, calls}
-use Rattle.do_facts.specs.calls.Facts.{CallsAreKept, CallsHold}
-use Rattle.do_facts.specs.calls.Moves.{call_rules}
+use Rattle.do_machine.specs.{declared.state.Seat.Seat, run.Run.Acting}
+use Rattle.do_facts.specs.{Net.Net, Reached.reached, View.net_of, calls.Calls.{Atom, Calls, calls}}
+use Rattle.do_facts.specs.calls.{Facts.{CallsAreKept, CallsHold}, Moves.call_rules}
 use Rattle.do_facts.proofs.calls.ReachedCalls.{opening_keeps, step_keeps, step_moves}
 use Rattle.do_limits.proofs.spelled.CallMoves.{CallsGiven, ServedGiven, calls_given_keep}
-use Rattle.do_limits.proofs.spelled.Given.{IsGiven}
-use Rattle.do_limits.proofs.spelled.ReachedGiven.{reached_given}
+use Rattle.do_limits.proofs.spelled.{Given.IsGiven, ReachedGiven.reached_given}
 use Rattle.do_limits.proofs.spelled.ServedCalls.{AtomGiven}
 
 -- a node gave a call this number

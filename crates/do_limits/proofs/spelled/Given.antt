@@ -1,13 +1,10 @@
 -- Numbers that nodes give: those that are kept and those on their way were given.
 use Rattle.std.proofs.Common.{◌≡◌, ◌≢◌, ◌==◌, ◌<◌, ◌≤◌, ℕ, Bool, true, false, cond, List, [], ◌∷◌}
-use Rattle.std.proofs.Common.{arith, refl, subst}
-use Rattle.std.specs.List.{AllByRecursion}
-use Rattle.std.proofs.lemmas.Bool.{eqb-true}
-use Rattle.std.proofs.lemmas.Bool.Decides.{nat_tests}
+use Rattle.std.{proofs.Common.{arith, refl, subst}, specs.List.AllByRecursion}
+use Rattle.std.proofs.lemmas.Bool.{eqb-true, Decides.nat_tests}
 use Rattle.do_facts.specs.Moves.{Happening, Happens, Keeps, Lost, Moved, Rules, net_then}
 use Rattle.do_facts.specs.Net.{Net, Note, StandFirst, net_after}
-use Rattle.do_facts.proofs.FirstOnWire.{first_of}
-use Rattle.do_facts.proofs.EachOfLists.{each_weaker}
+use Rattle.do_facts.proofs.{FirstOnWire.first_of, EachOfLists.each_weaker}
 use Rattle.do_limits.proofs.spelled.Wires.{OfNotes, OnWires, lost_kept, wires_kept}
 
 -- By a rule that takes the next number of a part, by what a part keeps and by what an atom tells of

@@ -1,51 +1,35 @@
 -- The frame of each item on its way has a spelling, while the numbers are small.
+use Rattle.do_machine.specs.declared.item.Item.TheVariants as items
+use Rattle.do_limits.proofs.spelled.Calls
+use Rattle.do_limits.proofs.spelled.Tokens
 use Rattle.std.proofs.Common.{◌≡◌, ◌<◌, ◌≤◌, ℕ, List, [], ◌∷◌, length, map, arith, refl}
 use Rattle.do_facts.proofs.EachOfLists.{each_weaker}
-use Rattle.std.specs.Prelude.{None, Option, Some, nat_lt, true}
-use Rattle.std.specs.List.{All, AllByRecursion}
-use Rattle.std.proofs.lemmas.Bool.Decides.{nat_tests}
-use Rattle.std.proofs.lemmas.List.{length-map}
+use Rattle.std.specs.{Prelude.{None, Option, Some, nat_lt, true}, List.{All, AllByRecursion}}
+use Rattle.std.proofs.lemmas.{Bool.Decides.nat_tests, List.length-map}
 use Rattle.std.proofs.lemmas.List.Elements.{recursion_from_All}
 use Rattle.do_base.specs.names.Names.{ObjectName, TokenName}
 use Rattle.do_sched.specs.Good.{IsPort}
 use Rattle.do_frames.specs.Frames.{IsToken}
-use Rattle.do_class.specs.Class.{Class}
-use Rattle.do_class.specs.declared.packet.Name.{Name}
-use Rattle.do_class.specs.declared.packet.Name.TheVariants.{Lent, Mine, Yours}
-use Rattle.do_class.specs.declared.packet.Packet.{Packet}
-use Rattle.do_coder.specs.Names.{IsName}
-use Rattle.do_coder.specs.Recent.{IsSerial}
+use Rattle.do_class.specs.{Class.Class, declared.packet.Name.Name}
+use Rattle.do_class.specs.declared.packet.{Name.TheVariants.{Lent, Mine, Yours}, Packet.Packet}
+use Rattle.do_coder.specs.{Names.IsName, Recent.IsSerial}
 use Rattle.do_frames.specs.Selectors.{IsSelector}
-use Rattle.do_machine.specs.declared.item.Message.{Message}
-use Rattle.do_machine.specs.Objects.{object_at}
+use Rattle.do_machine.specs.{declared.item.Message.Message, Objects.object_at}
 use Rattle.do_coder.specs.Packets.{IsPacket, sides_of, surroundings}
-use Rattle.do_machine.specs.declared.item.Item.{Item}
-use Rattle.do_machine.specs.declared.item.Item.TheVariants as items
-use Rattle.do_machine.specs.declared.node.Node.{Node}
-use Rattle.do_machine.specs.declared.state.State.{State}
+use Rattle.do_machine.specs.declared.{item.Item.Item, node.Node.Node, state.State.State}
 use Rattle.do_machine.specs.Items.{Mentioned, Naming, name_naming, names, naming, packet_names}
-use Rattle.do_machine.specs.Lists.{some_passes}
-use Rattle.do_machine.specs.State.{node, queue}
-use Rattle.do_facts.specs.View.{net_of, part_seen}
-use Rattle.do_facts.specs.calls.Calls.{calls, atoms as call_atoms}
-use Rattle.do_facts.specs.Made.{NamedAreMade, was_made}
-use Rattle.do_facts.specs.links.Links.{atoms, links, packet_atoms}
-use Rattle.do_limits.specs.Numbers.{AllNumbersWithin}
-use Rattle.do_limits.specs.Sendable.{IsSendablePacket, NameIsSendable}
+use Rattle.do_machine.specs.{Lists.some_passes, State.{node, queue}}
+use Rattle.do_facts.specs.{View.{net_of, part_seen}, calls.Calls.{calls, atoms as call_atoms}}
+use Rattle.do_facts.specs.{Made.{NamedAreMade, was_made}, links.Links.{atoms, links, packet_atoms}}
+use Rattle.do_limits.specs.{Numbers.AllNumbersWithin, Sendable.{IsSendablePacket, NameIsSendable}}
 use Rattle.do_limits.specs.SendableStates.{HasSerial, ItemIsSendable, MessageIsSendable}
-use Rattle.do_limits.specs.SendableStates.{StateIsSendable}
-use Rattle.do_limits.specs.Spelled.{ItemIsSpelled}
+use Rattle.do_limits.specs.{SendableStates.StateIsSendable, Spelled.ItemIsSpelled}
 use Rattle.do_limits.proofs.spelled.CallMoves.{CallsGiven, ServedGiven}
-use Rattle.do_limits.proofs.spelled.Calls
 use Rattle.do_limits.proofs.spelled.LentTokens.{NameGiven, TokenGiven, names_given}
-use Rattle.do_limits.proofs.spelled.ServedCalls.{AtomGiven}
-use Rattle.do_limits.proofs.spelled.TokenMoves.{TokensGiven, AsksGiven}
-use Rattle.do_limits.proofs.spelled.Tokens
+use Rattle.do_limits.proofs.spelled.{ServedCalls.AtomGiven, TokenMoves.{TokensGiven, AsksGiven}}
 use Rattle.do_limits.proofs.states.States.{node_sendable, queue_sendable}
-use Rattle.do_limits.proofs.values.Spelling.{message_spelled}
-use Rattle.do_limits.proofs.spelled.ReachedGiven.{items_given}
-use Rattle.do_facts.specs.links.Moves.{link_rules}
-use Rattle.do_facts.specs.calls.Moves.{call_rules}
+use Rattle.do_limits.proofs.{values.Spelling.message_spelled, spelled.ReachedGiven.items_given}
+use Rattle.do_facts.specs.{links.Moves.link_rules, calls.Moves.call_rules}
 
 -- What is known of a state's numbers: objects that are named were made, and tokens and numbers of
 -- calls were given

@@ -1,15 +1,13 @@
 -- Tokens that were given to lends, in asks and on their way.
+use Rattle.do_class.specs.declared.packet.Name.TheVariants as named
 use Rattle.std.proofs.Common.{◌≡◌, ◌||◌, ℕ, Bool, true, false, List, [], ◌∷◌, refl, subst, sym}
 use Rattle.std.specs.List.{AllByRecursion, flat_map, list_any}
 use Rattle.do_base.specs.names.Names.{TokenName}
 use Rattle.do_class.specs.declared.packet.Name.{Name}
-use Rattle.do_class.specs.declared.packet.Name.TheVariants as named
-use Rattle.do_machine.specs.declared.node.Wanted.{Wanted}
-use Rattle.do_machine.specs.lend.Asking.{same_wanted}
+use Rattle.do_machine.specs.{declared.node.Wanted.Wanted, lend.Asking.same_wanted}
 use Rattle.do_facts.specs.Net.{Note}
 use Rattle.do_facts.specs.links.Links.{Ask, Atom, Gone, Granted, Lent, Settled, name_atoms}
-use Rattle.do_facts.specs.links.Moves.{telling}
-use Rattle.do_facts.proofs.links.SameIsEqual.{wanted_is}
+use Rattle.do_facts.{specs.links.Moves.telling, proofs.links.SameIsEqual.wanted_is}
 
 -- the token of an atom on its way from one node to another
 abbrev pub TokenGiven : (ℕ → ℕ → Type 0) → ℕ → ℕ → Atom → Type 0

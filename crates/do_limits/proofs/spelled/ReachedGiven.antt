@@ -1,26 +1,14 @@
 -- Numbers that nodes give, in every state that a machine comes to, by one view of its states.
 use Rattle.std.proofs.Common.{◌≡◌, ◌≤◌, ℕ, true, List, subst, sym}
-use Rattle.std.specs.Prelude.{Some}
-use Rattle.std.specs.List.{AllByRecursion}
+use Rattle.std.specs.{Prelude.Some, List.AllByRecursion}
 use Rattle.do_base.specs.declared.events.event.Event.{Event}
 use Rattle.do_class.specs.Class.{Class}
-use Rattle.do_machine.specs.declared.item.Item.{Item}
-use Rattle.do_machine.specs.declared.state.Seat.{Seat}
-use Rattle.do_machine.specs.declared.state.State.{State}
-use Rattle.do_machine.specs.State.{queue}
-use Rattle.do_machine.specs.Step.{step}
-use Rattle.do_machine.specs.World.{opening, opening_node}
-use Rattle.do_machine.specs.run.Run.{Acting}
-use Rattle.do_facts.specs.ByEvents.{IsBy}
-use Rattle.do_facts.specs.Moves.{Keeps, Reaches, Rules}
-use Rattle.do_facts.specs.Net.{Net}
-use Rattle.do_facts.specs.Reached.{reached}
-use Rattle.do_facts.specs.View.{View, net_of, wire_seen}
-use Rattle.do_facts.proofs.OpeningAsNet.{opening_parts, opening_wires}
-use Rattle.do_facts.proofs.Paths.{stays}
-use Rattle.do_facts.proofs.ReachedStates.{holds_of_reached}
-use Rattle.do_limits.proofs.spelled.Given.{AllGiven, IsGiven}
-use Rattle.do_limits.proofs.spelled.Wires.{of_items}
+use Rattle.do_machine.specs.{declared.{item.Item.Item, state.{Seat.Seat, State.State}}, State.queue}
+use Rattle.do_machine.specs.{Step.step, World.{opening, opening_node}, run.Run.Acting}
+use Rattle.do_facts.specs.{ByEvents.IsBy, Moves.{Keeps, Reaches, Rules}, Net.Net, Reached.reached}
+use Rattle.do_facts.{specs.View.{View, net_of, wire_seen}, proofs.OpeningAsNet.opening_parts}
+use Rattle.do_facts.proofs.{OpeningAsNet.opening_wires, Paths.stays, ReachedStates.holds_of_reached}
+use Rattle.do_limits.proofs.spelled.{Given.{AllGiven, IsGiven}, Wires.of_items}
 
 module _ {P A V : Type 0} (view : View P A) (rules : Rules P A V) (next : P → ℕ)
     (kept : (ℕ → ℕ → Type 0) → P → Type 0) (told : (ℕ → ℕ → Type 0) → ℕ → ℕ → A → Type 0) where

@@ -1,15 +1,13 @@
 -- Frames that serve calls whose numbers were given, and how they change.
+use Rattle.do_behave.specs.declared.invocation.Reason.TheVariants as reasons
 use Rattle.std.proofs.Common.{◌≡◌, ◌==◌, ℕ, Bool, true, false, cond, List, [], ◌∷◌, arith, map}
-use Rattle.std.proofs.Common.{filter, not}
-use Rattle.std.specs.List.{AllByRecursion, list_any}
+use Rattle.std.{proofs.Common.{filter, not}, specs.List.{AllByRecursion, list_any}}
 use Rattle.std.proofs.lemmas.Bool.Decides.{nat_tests}
 use Rattle.do_behave.specs.declared.invocation.Reason.{Reason}
-use Rattle.do_behave.specs.declared.invocation.Reason.TheVariants as reasons
 use Rattle.do_machine.specs.Lists.{change_first}
 use Rattle.do_facts.specs.calls.Calls.{Answer, Atom, Called, Frame, RootAnswer, RootAsk, Wait}
 use Rattle.do_facts.specs.calls.Moves.{behind, first_rested, first_waits, is_call, is_on_peer}
-use Rattle.do_facts.specs.calls.Moves.{rested, without_peer}
-use Rattle.do_facts.proofs.links.ListsChanged.{open_less}
+use Rattle.do_facts.{specs.calls.Moves.{rested, without_peer}, proofs.links.ListsChanged.open_less}
 
 -- the number of an atom on its way from one node to another
 abbrev pub AtomGiven : (ℕ → ℕ → Type 0) → ℕ → ℕ → Atom → Type 0

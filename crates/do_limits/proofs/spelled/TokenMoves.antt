@@ -1,24 +1,19 @@
 -- Moves of lends give tokens one after another, and tell those alone that were given.
+use Rattle.do_facts.specs.links.Links as Atoms
 use Rattle.std.proofs.Common.{◌≡◌, ◌<◌, ◌≤◌, ℕ, true, not, arith, filter}
 use Rattle.std.specs.List.{AllByRecursion}
 use Rattle.do_machine.specs.declared.node.Wanted.{Wanted}
-use Rattle.do_machine.specs.lend.Asking.{same_wanted, wanted, wanted_lt}
-use Rattle.do_machine.specs.Objects.{object_at}
-use Rattle.do_facts.specs.Net.{Net, Note, StandFirst}
-use Rattle.do_facts.specs.links.Facts.{LinksHold}
-use Rattle.do_facts.specs.links.Links as Atoms
-use Rattle.do_facts.specs.links.Links.{Atom, Links}
-use Rattle.do_facts.specs.links.Moves.{Asks, AsksOnce, Closes, Ends, Frees, GivesUp, Grants, Hears}
-use Rattle.do_facts.specs.links.Moves.{Holds, Leaves, Lends, Mentions, Misses, Move, Names}
-use Rattle.do_facts.specs.links.Moves.{Receives, Refuses, Returns, Settles, may, moved, note, opens}
-use Rattle.do_facts.specs.links.Moves.{posts, takes, link_rules}
-use Rattle.do_facts.proofs.links.ListsChanged.{was_open}
-use Rattle.do_facts.proofs.links.PlainMoves.{other}
+use Rattle.do_machine.specs.{lend.Asking.{same_wanted, wanted, wanted_lt}, Objects.object_at}
+use Rattle.do_facts.specs.{Net.{Net, Note, StandFirst}, links.Facts.LinksHold}
+use Rattle.do_facts.specs.links.{Links.{Atom, Links}, Moves.{Asks, AsksOnce, Closes, Ends, Frees}}
+use Rattle.do_facts.specs.links.Moves.{GivesUp, Grants, Hears, Holds, Leaves, Lends, Mentions}
+use Rattle.do_facts.specs.links.Moves.{Misses, Move, Names, Receives, Refuses, Returns, Settles}
+use Rattle.do_facts.specs.links.Moves.{may, moved, note, opens, posts, takes, link_rules}
+use Rattle.do_facts.proofs.links.{ListsChanged.was_open, PlainMoves.other}
 use Rattle.do_facts.proofs.EachOfLists.{each_filtered, each_weaker}
 use Rattle.do_limits.proofs.Lists.{each_placed}
 use Rattle.do_limits.proofs.spelled.LentTokens.{AskGiven, TokenGiven, ask_among, told_given}
-use Rattle.do_facts.specs.Moves.{Keeps}
-use Rattle.do_facts.proofs.links.LinksKept.{links_keep}
+use Rattle.do_facts.{specs.Moves.Keeps, proofs.links.LinksKept.links_keep}
 use Rattle.do_limits.proofs.spelled.Given.{AllGiven, GiveNumbers, IsGiven, given_keeps, one_taken}
 use Rattle.do_limits.proofs.spelled.Wires.{OfNotes}
 

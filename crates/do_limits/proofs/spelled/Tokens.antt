@@ -2,18 +2,12 @@
 use Rattle.std.proofs.Common.{ℕ, List, arith}
 use Rattle.do_base.specs.declared.events.event.Event.{Event}
 use Rattle.do_class.specs.Class.{Class}
-use Rattle.do_machine.specs.declared.state.Seat.{Seat}
-use Rattle.do_machine.specs.run.Run.{Acting}
-use Rattle.do_facts.specs.Net.{Net}
-use Rattle.do_facts.specs.Reached.{reached}
-use Rattle.do_facts.specs.View.{net_of}
-use Rattle.do_facts.specs.links.Facts.{LinksHold}
-use Rattle.do_facts.specs.links.Links.{Atom, Links, links}
-use Rattle.do_facts.specs.links.LinksAreKept.{LinksAreKept}
+use Rattle.do_machine.specs.{declared.state.Seat.Seat, run.Run.Acting}
+use Rattle.do_facts.specs.{Net.Net, Reached.reached, View.net_of, links.Facts.LinksHold}
+use Rattle.do_facts.specs.links.{Links.{Atom, Links, links}, LinksAreKept.LinksAreKept}
 use Rattle.do_facts.specs.links.Moves.{link_rules}
 use Rattle.do_facts.proofs.links.ReachedLinks.{opening_keeps, step_keeps, step_moves}
-use Rattle.do_limits.proofs.spelled.Given.{IsGiven}
-use Rattle.do_limits.proofs.spelled.LentTokens.{TokenGiven}
+use Rattle.do_limits.proofs.spelled.{Given.IsGiven, LentTokens.TokenGiven}
 use Rattle.do_limits.proofs.spelled.ReachedGiven.{reached_given}
 use Rattle.do_limits.proofs.spelled.TokenMoves.{AsksGiven, TokensGiven, tokens_given_keep}
 

@@ -1,11 +1,9 @@
 -- What holds of each atom on its way, once a node moved or a loss came.
-use Rattle.std.proofs.Common.{◌≡◌, ◌==◌, ◌++◌, ℕ, Bool, true, false, cond, List, [], ◌∷◌}
-use Rattle.std.proofs.Common.{drop, length, refl, subst, sym}
-use Rattle.std.specs.List.{AllByRecursion, flat_map}
+use Rattle.std.proofs.Common.{◌≡◌, ◌==◌, ◌++◌, ℕ, Bool, true, false, cond, List, [], ◌∷◌, drop}
+use Rattle.std.{proofs.Common.{length, refl, subst, sym}, specs.List.{AllByRecursion, flat_map}}
 use Rattle.std.proofs.lemmas.Bool.{eqb-true}
 use Rattle.do_machine.specs.declared.item.Item.{Item}
-use Rattle.do_facts.specs.Moves.{with_wire}
-use Rattle.do_facts.specs.Net.{Note, atoms_of, wires_after}
+use Rattle.do_facts.specs.{Moves.with_wire, Net.{Note, atoms_of, wires_after}}
 use Rattle.do_facts.proofs.EachOfLists.{each_former, each_joined, each_latter}
 use Rattle.do_limits.proofs.Lists.{each_dropped}
 

@@ -1,38 +1,26 @@
 -- States whose nodes and queues have only what a message can carry.
 use Rattle.std.proofs.Common.{◌≡◌, ◌==◌, ◌≤◌, ℕ, Bool, true, false, cond, List, [], ◌∷◌, filter}
-use Rattle.std.proofs.Common.{map, arith, refl, subst, sym}
-use Rattle.std.proofs.lemmas.Bool.{eqb-true}
+use Rattle.std.proofs.{Common.{map, arith, refl, subst, sym}, lemmas.Bool.eqb-true}
 use Rattle.std.specs.Prelude.{None, Option, Some, length, option_and_then, option_map, nat_le, suc}
-use Rattle.std.specs.Prelude.{zero, not}
-use Rattle.std.specs.List.{AllByRecursion, find}
+use Rattle.std.specs.{Prelude.{zero, not}, List.{AllByRecursion, find}}
 use Rattle.do_sched.specs.Good.{IsPort}
-use Rattle.do_class.specs.Class.{Class}
-use Rattle.do_class.specs.declared.ids.ClassId.{ClassId}
-use Rattle.do_machine.specs.declared.item.Item.{Item}
-use Rattle.do_machine.specs.declared.node.Node.{Node}
-use Rattle.do_machine.specs.declared.node.Stored.{Stored}
-use Rattle.do_machine.specs.declared.state.Effect.{Effect}
-use Rattle.do_machine.specs.declared.state.Parcel.{Parcel}
-use Rattle.do_machine.specs.declared.state.Queue.{Queue}
-use Rattle.do_machine.specs.declared.state.State.{State}
+use Rattle.do_class.specs.{Class.Class, declared.ids.ClassId.ClassId}
+use Rattle.do_machine.specs.declared.{item.Item.Item, node.{Node.Node, Stored.Stored}}
+use Rattle.do_machine.specs.declared.state.{Effect.Effect, Parcel.Parcel, Queue.Queue, State.State}
 use Rattle.do_machine.specs.declared.state.Station.{Station}
 use Rattle.do_machine.specs.Commit.{born, commit, committed, items_to, moved, with_sent}
-use Rattle.do_machine.specs.Context.{around, context}
-use Rattle.do_machine.specs.State.{change, class_given, class_of, is_known, node, queue, queue_to}
-use Rattle.do_machine.specs.State.{station, with_items, with_queue}
+use Rattle.do_machine.specs.{Context.{around, context}, State.{change, class_given, class_of}}
+use Rattle.do_machine.specs.State.{is_known, node, queue, queue_to, station, with_items, with_queue}
 use Rattle.do_machine.specs.held.Kept.{kept, struck, struck_by, stays}
-use Rattle.do_machine.specs.held.Leaving.{dropping, freeing, leaving, left}
-use Rattle.do_machine.specs.held.Refers.{node_objects}
+use Rattle.do_machine.specs.held.{Leaving.{dropping, freeing, leaving, left}, Refers.node_objects}
 use Rattle.do_packet.specs.Met.{has_object}
 use Rattle.do_base.specs.names.Names.{ObjectName}
-use Rattle.do_limits.specs.Sendable.{IsOfTable}
-use Rattle.do_limits.specs.SendableStates.{ItemIsSendable, NodeIsSendable, StateIsSendable}
-use Rattle.do_limits.specs.SendableStates.{HasSerial, ObjectIsSendable, QueueIsSendable}
-use Rattle.do_limits.specs.SendableStates.{StationIsSendable}
+use Rattle.do_limits.specs.{Sendable.IsOfTable, SendableStates.{ItemIsSendable, NodeIsSendable}}
+use Rattle.do_limits.specs.SendableStates.{StateIsSendable, HasSerial, ObjectIsSendable}
+use Rattle.do_limits.specs.SendableStates.{QueueIsSendable, StationIsSendable}
 use Rattle.do_limits.proofs.Effects.{EffectIsSendable, ParcelIsSendable, holding_more}
 use Rattle.do_facts.proofs.walk.Done.{then_done}
-use Rattle.do_limits.proofs.Senders.{ContextIsSendable, slots_known}
-use Rattle.do_limits.proofs.Signatures.{one_at}
+use Rattle.do_limits.proofs.{Senders.{ContextIsSendable, slots_known}, Signatures.one_at}
 use Rattle.do_facts.proofs.EachOfLists.{each_filtered, each_joined, each_mapped, each_weaker}
 use Rattle.do_limits.proofs.Lists.{each_changed, found_by}
 

@@ -1,30 +1,19 @@
 -- Every state that a machine comes to has only what a message can carry.
+use Rattle.do_machine.specs.declared.item.Item.TheVariants as items
 use Rattle.do_limits.proofs.Signatures.{HasMethods}
 use Rattle.std.proofs.Common.{◌≡◌, ℕ, Bool, List, [], ◌∷◌, arith, map, refl, sym, subst, ◌∙◌}
-use Rattle.std.specs.Prelude.{All, Some}
-use Rattle.std.proofs.lemmas.List.Elements.{recursion_from_All}
+use Rattle.std.{specs.Prelude.{All, Some}, proofs.lemmas.List.Elements.recursion_from_All}
 use Rattle.std.specs.List.{AllByRecursion, insert}
 use Rattle.do_base.specs.declared.events.event.Event.{Event}
 use Rattle.do_base.specs.declared.events.event.Event.TheVariants.{Close, Run, Start, Timeout}
 use Rattle.do_class.specs.Class.{Class}
-use Rattle.do_machine.specs.declared.item.Item.TheVariants as items
-use Rattle.do_machine.specs.declared.node.Node.{Node}
-use Rattle.do_machine.specs.declared.state.Effect.{Effect}
-use Rattle.do_machine.specs.declared.state.Seat.{Seat}
-use Rattle.do_machine.specs.declared.state.State.{State}
-use Rattle.do_machine.specs.declared.state.Stepped.{Stepped}
-use Rattle.do_machine.specs.Commit.{skipped}
-use Rattle.do_machine.specs.Context.{context}
-use Rattle.do_machine.specs.Start.{start_effect}
-use Rattle.do_machine.specs.Lists.{all_inserted}
-use Rattle.do_machine.specs.State.{change, node, with_queue}
-use Rattle.do_machine.specs.Step.{step}
-use Rattle.do_machine.specs.World.{IsSeat, by_port, is_before, opening, opening_station, others}
-use Rattle.do_machine.specs.take.Take.{take_effect}
-use Rattle.do_machine.specs.ends.TimeOut.{time_out}
-use Rattle.do_machine.specs.run.Run.{Acting, run_effect}
-use Rattle.do_facts.proofs.machine.follows.States.{requeued}
-use Rattle.do_facts.specs.Reached.{reached}
+use Rattle.do_machine.specs.declared.{node.Node.Node, state.{Effect.Effect, Seat.Seat, State.State}}
+use Rattle.do_machine.specs.{declared.state.Stepped.Stepped, Commit.skipped, Context.context}
+use Rattle.do_machine.specs.{Start.start_effect, Lists.all_inserted, State.{change, node}}
+use Rattle.do_machine.specs.{State.with_queue, Step.step, World.{IsSeat, by_port, is_before}}
+use Rattle.do_machine.specs.{World.{opening, opening_station, others}, take.Take.take_effect}
+use Rattle.do_machine.specs.{ends.TimeOut.time_out, run.Run.{Acting, run_effect}}
+use Rattle.do_facts.{proofs.machine.follows.States.requeued, specs.Reached.reached}
 use Rattle.do_facts.specs.steps.IsStep.{Acts, Checks, IsRuleOf, IsStep, Loses, Skips, Takes}
 use Rattle.do_facts.proofs.steps.EachIsStep.{step_is}
 use Rattle.do_machine.specs.check.Blocks.{followed, steps}
@@ -32,15 +21,11 @@ use Rattle.do_limits.specs.SendableActs.{AllStartSendable, KeepsSendable, Starts
 use Rattle.do_limits.specs.SendableStates.{ItemIsSendable, QueueIsSendable, StateIsSendable}
 use Rattle.do_limits.specs.SendableStates.{StationIsSendable}
 use Rattle.do_limits.proofs.Effects.{EffectIsSendable, blank_sendable}
-use Rattle.do_facts.proofs.walk.Done.{done_there}
-use Rattle.do_facts.proofs.EachOfLists.{each_inserted}
-use Rattle.do_limits.proofs.Lists.{each_placed}
-use Rattle.do_limits.proofs.runs.Runs.{run_sendable}
-use Rattle.do_limits.proofs.runs.Starts.{start_sendable, time_out_sendable}
-use Rattle.do_limits.proofs.takes.Ends.{closes}
-use Rattle.do_limits.proofs.takes.Takes.{take_sendable}
-use Rattle.do_limits.proofs.states.States.{context_sendable, moves, node_sendable, queue_sendable}
-use Rattle.do_limits.proofs.states.States.{requeues}
+use Rattle.do_facts.proofs.{walk.Done.done_there, EachOfLists.each_inserted}
+use Rattle.do_limits.proofs.{Lists.each_placed, runs.Runs.run_sendable}
+use Rattle.do_limits.proofs.{runs.Starts.{start_sendable, time_out_sendable}, takes.Ends.closes}
+use Rattle.do_limits.proofs.{takes.Takes.take_sendable, states.States.{context_sendable, moves}}
+use Rattle.do_limits.proofs.states.States.{node_sendable, queue_sendable, requeues}
 
 -- ---- steps
 

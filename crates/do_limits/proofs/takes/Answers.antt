@@ -1,28 +1,21 @@
 -- An answer that a node takes has only what a message can carry.
+use Rattle.do_behave.specs.declared.invocation.Waited.TheVariants as waiteds
 use Rattle.std.proofs.Common.{◌&&◌, Bool, true, false, cond, List, [], ◌∷◌, map, refl}
 use Rattle.std.specs.Prelude.{None, Option, Some, ℕ}
 use Rattle.do_base.specs.declared.events.exception.Exc.TheVariants.{TypeFault}
 use Rattle.do_base.specs.declared.values.value.Value.{Value}
-use Rattle.do_class.specs.Class.{Class}
-use Rattle.do_class.specs.Table.{signature_of}
-use Rattle.do_sig.specs.Calls.{encoding_fits, returned_fits}
-use Rattle.do_sig.specs.Fits.{each_takes}
+use Rattle.do_class.specs.{Class.Class, Table.signature_of}
+use Rattle.do_sig.specs.{Calls.{encoding_fits, returned_fits}, Fits.each_takes}
 use Rattle.do_sig.specs.declared.signature.Signature.{Signature}
-use Rattle.do_behave.specs.declared.invocation.Answer.{Answer}
-use Rattle.do_behave.specs.declared.invocation.Answer.TheVariants.{Given, Raised}
-use Rattle.do_behave.specs.declared.invocation.InvState.{InvState}
-use Rattle.do_behave.specs.declared.invocation.InvState.TheVariants.{Answered, Waits}
+use Rattle.do_behave.specs.declared.invocation.Answer.{Answer, TheVariants.{Given, Raised}}
+use Rattle.do_behave.specs.declared.invocation.InvState.{InvState, TheVariants.{Answered, Waits}}
 use Rattle.do_behave.specs.declared.invocation.Waited.{Waited}
-use Rattle.do_behave.specs.declared.invocation.Waited.TheVariants as waiteds
-use Rattle.do_machine.specs.declared.node.Node.{Node}
-use Rattle.do_machine.specs.run.Send.{outs_of}
+use Rattle.do_machine.specs.{declared.node.Node.Node, run.Send.outs_of}
 use Rattle.do_machine.specs.take.Awaiting.{AnsweredCall, answered_state, answering, awaits}
 use Rattle.do_machine.specs.take.Awaiting.{method_answer, values_answer, with_answer}
-use Rattle.do_limits.specs.Sendable.{AreSendable, IsSendable}
-use Rattle.do_limits.specs.SendableStates.{AnswerIsSendable, HasSendableAnswer}
-use Rattle.do_limits.specs.SendableStates.{InvocationIsSendable, NodeIsSendable}
-use Rattle.do_limits.proofs.Lists.{each_changed}
-use Rattle.do_limits.proofs.runs.Verdicts.{textless}
+use Rattle.do_limits.specs.{Sendable.{AreSendable, IsSendable}, SendableStates.AnswerIsSendable}
+use Rattle.do_limits.specs.SendableStates.{HasSendableAnswer, InvocationIsSendable, NodeIsSendable}
+use Rattle.do_limits.proofs.{Lists.each_changed, runs.Verdicts.textless}
 
 -- an answer of values that fit, or the fault of type
 answer_by : (b : Bool) (v : Value) (vs : List Value) → IsSendable v → AreSendable vs →

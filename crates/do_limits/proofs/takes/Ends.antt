@@ -2,8 +2,7 @@
 use Rattle.std.proofs.Common.{not, List, ◌==◌, ℕ, Bool, true, false, cond, refl}
 use Rattle.do_base.specs.declared.events.exception.Exc.TheVariants.{ConnectionDied}
 use Rattle.do_class.specs.Class.{Class}
-use Rattle.do_behave.specs.declared.invocation.Answer.TheVariants.{Raised}
-use Rattle.do_behave.specs.declared.invocation.InvState.{InvState}
+use Rattle.do_behave.specs.declared.invocation.{Answer.TheVariants.Raised, InvState.InvState}
 use Rattle.do_behave.specs.declared.invocation.InvState.TheVariants.{Answered, Waits}
 use Rattle.do_machine.specs.declared.node.Node.{Node}
 use Rattle.do_machine.specs.ends.Closing.{closing, died, parted, without_answer}

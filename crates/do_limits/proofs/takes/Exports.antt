@@ -1,20 +1,14 @@
 -- What a node holds once it took an item has serials from 1 on.
-use Rattle.std.proofs.Common.{◌≡◌, ℕ, Bool, true, false, cond, List, [], ◌∷◌, filter, fold, map}
-use Rattle.std.proofs.Common.{refl}
-use Rattle.std.specs.List.{AllByRecursion}
-use Rattle.do_base.specs.names.Names.{ObjectName}
-use Rattle.do_class.specs.Class.{Class}
-use Rattle.do_class.specs.declared.packet.Name.{Name}
-use Rattle.do_class.specs.declared.packet.Name.TheVariants.{Mine}
-use Rattle.do_packet.specs.Met.{has_object}
-use Rattle.do_machine.specs.declared.item.Item.{Item}
 use Rattle.do_machine.specs.declared.item.Item.TheVariants as items
-use Rattle.do_machine.specs.Items.{Naming, Released, exported, is_exported, name_naming, named_as}
-use Rattle.do_machine.specs.Items.{names, naming}
-use Rattle.do_machine.specs.Lists.{inserted}
-use Rattle.do_machine.specs.Objects.{joined, object_lt}
-use Rattle.do_limits.specs.Sendable.{NameIsSendable}
-use Rattle.do_limits.specs.SendableStates.{HasSerial, ItemIsSendable}
+use Rattle.std.proofs.Common.{◌≡◌, ℕ, Bool, true, false, cond, List, [], ◌∷◌, filter, fold, map}
+use Rattle.std.{proofs.Common.refl, specs.List.AllByRecursion}
+use Rattle.do_base.specs.names.Names.{ObjectName}
+use Rattle.do_class.specs.{Class.Class, declared.packet.Name.{Name, TheVariants.Mine}}
+use Rattle.do_packet.specs.Met.{has_object}
+use Rattle.do_machine.specs.{declared.item.Item.Item, Items.{Naming, Released, exported}}
+use Rattle.do_machine.specs.Items.{is_exported, name_naming, named_as, names, naming}
+use Rattle.do_machine.specs.{Lists.inserted, Objects.{joined, object_lt}}
+use Rattle.do_limits.specs.{Sendable.NameIsSendable, SendableStates.{HasSerial, ItemIsSendable}}
 use Rattle.do_limits.proofs.Lists.{each_placed}
 
 -- objects that join those that are held

@@ -1,44 +1,30 @@
 -- What a node takes leaves and sends only what a message can carry.
+use Rattle.do_machine.specs.declared.item.Item.TheVariants as items
 use Rattle.std.specs.Prelude.{None, Option, Some, ◌≤◌}
 use Rattle.do_facts.proofs.methods.FewArguments.{found_few, fitting_length}
 use Rattle.do_limits.proofs.Signatures.{HasMethods}
 use Rattle.std.proofs.Common.{subst, ◌≡◌, ℕ, false, List, [], ◌∷◌, map, arith, fold}
-use Rattle.do_base.proofs.Weights.{weight_of-Nil, weight_of-Obj}
-use Rattle.do_base.specs.values.Values.{weight_of}
+use Rattle.do_base.{proofs.Weights.{weight_of-Nil, weight_of-Obj}, specs.values.Values.weight_of}
 use Rattle.do_base.specs.declared.values.value.Value.TheVariants.{Nil, Obj}
 use Rattle.do_packet.specs.Copies.{Placed}
-use Rattle.do_class.specs.declared.packet.Name.TheVariants.{Lent}
-use Rattle.do_class.specs.declared.packet.Packet.{Packet}
+use Rattle.do_class.specs.declared.packet.{Name.TheVariants.Lent, Packet.Packet}
 use Rattle.do_behave.specs.declared.invocation.Answer.TheVariants.{Raised}
-use Rattle.do_machine.specs.declared.item.Item.{Item}
-use Rattle.do_machine.specs.declared.item.Item.TheVariants as items
-use Rattle.do_machine.specs.Context.{Context, own_class}
-use Rattle.do_machine.specs.Items.{exported}
-use Rattle.do_machine.specs.Objects.{joined}
-use Rattle.do_machine.specs.Packing.{packer}
-use Rattle.do_machine.specs.State.{own}
-use Rattle.do_machine.specs.lend.Asking.{wanted}
-use Rattle.do_machine.specs.run.Acts.{root_value}
-use Rattle.do_machine.specs.run.Fresh.{fresh}
-use Rattle.do_machine.specs.take.Awaiting.{values_answer}
+use Rattle.do_machine.specs.{declared.item.Item.Item, Context.{Context, own_class}, Items.exported}
+use Rattle.do_machine.specs.{Objects.joined, Packing.packer, State.own, lend.Asking.wanted}
+use Rattle.do_machine.specs.{run.{Acts.root_value, Fresh.fresh}, take.Awaiting.values_answer}
 use Rattle.do_machine.specs.take.Receipt.{arrived, is_entered, is_reachable, reading}
 use Rattle.do_machine.specs.take.Take.{root_packet, take_effect}
 use Rattle.do_facts.proofs.walk.Takes.{Takes, by_take as taken, packet_in}
 use Rattle.do_limits.specs.Sendable.{AreSendable, IsSendablePacket, NameIsSendable}
 use Rattle.do_limits.specs.SendableStates.{ItemIsSendable, NodeIsSendable}
 use Rattle.do_limits.proofs.Effects.{EffectIsSendable, asks_for, begins, holding_more, makes}
-use Rattle.do_limits.proofs.Effects.{pushes, small}
-use Rattle.do_limits.proofs.Lists.{each_is_in}
-use Rattle.do_limits.proofs.runs.ActRules.{raised}
+use Rattle.do_limits.proofs.{Effects.{pushes, small}, Lists.each_is_in, runs.ActRules.raised}
 use Rattle.do_limits.proofs.Senders.{ContextIsSendable, sender_sendable}
 use Rattle.do_class.specs.Class.{Class}
-use Rattle.do_limits.proofs.values.Packing.{packed_sendable}
-use Rattle.do_limits.proofs.values.RootMessages.{light_packed}
+use Rattle.do_limits.proofs.values.{Packing.packed_sendable, RootMessages.light_packed}
 use Rattle.do_limits.proofs.values.Unpacking.{copies_come, values_come}
-use Rattle.do_limits.proofs.runs.Verdicts.{root_sendable}
-use Rattle.do_limits.proofs.takes.Answers.{answered, answers}
-use Rattle.do_limits.proofs.takes.Ends.{parts}
-use Rattle.do_limits.proofs.takes.Exports.{exports_made, holds}
+use Rattle.do_limits.proofs.{runs.Verdicts.root_sendable, takes.Answers.{answered, answers}}
+use Rattle.do_limits.proofs.takes.{Ends.parts, Exports.{exports_made, holds}}
 
 -- the message of an item that can be carried can be
 carried : (table : List Class) (from to : ℕ) (item : Item) → ItemIsSendable table from to item →

@@ -1,21 +1,16 @@
 -- Which values can be carried, kind by kind.
 use Rattle.std.proofs.Common.{◌≡◌, ℕ, ℤ, ◌-◌, ◌^◌, ◌&&◌, Bool, true, List as Listed, length, map}
-use Rattle.std.proofs.Common.{rules, ◌∙◌}
-use Rattle.std.specs.Prelude.{nat_le, nat_lt}
-use Rattle.std.specs.List.{list_all}
+use Rattle.std.{proofs.Common.{rules, ◌∙◌}, specs.{Prelude.{nat_le, nat_lt}, List.list_all}}
 use Rattle.std.proofs.lemmas.Bool.{and_from, le-leb}
-use Rattle.do_base.specs.names.Names.{ObjectName}
-use Rattle.do_base.specs.values.Texts.{longest_text}
-use Rattle.do_base.specs.declared.events.exception.Exc.{Exc}
-use Rattle.do_base.specs.declared.events.exception.Exc.TheVariants.{ConnectionDied, Deep}
+use Rattle.do_base.specs.{names.Names.ObjectName, values.Texts.longest_text}
+use Rattle.do_base.specs.declared.events.exception.Exc.{Exc, TheVariants.{ConnectionDied, Deep}}
 use Rattle.do_base.specs.declared.events.exception.Exc.TheVariants.{NotUnderstood, NotVended, Range}
 use Rattle.do_base.specs.declared.events.exception.Exc.TheVariants.{TimedOut, TooLarge, TypeFault}
 use Rattle.do_base.specs.declared.events.exception.Exc.TheVariants.{User}
 use Rattle.do_base.specs.declared.values.value.Value.{List, Value, the_lemmas}
 use Rattle.do_base.specs.declared.values.value.Value.TheVariants.{Nil, Num, Obj, Text}
 use Rattle.do_grammar.specs.Num.{zigzag}
-use Rattle.do_coder.specs.Parts.{is_bytes}
-use Rattle.do_coder.proofs.values.PartFacts.{bytes_all}
+use Rattle.do_coder.{specs.Parts.is_bytes, proofs.values.PartFacts.bytes_all}
 use Rattle.do_machine.specs.run.Answers.{exc_name}
 use Rattle.do_limits.specs.Sendable.{IsSendable, IsSendableExc, can_carry}
 

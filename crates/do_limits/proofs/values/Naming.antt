@@ -3,22 +3,16 @@ use Rattle.std.proofs.Common.{◌≡◌, ◌==◌, ◌++◌, ◌≤◌, ℕ, Boo
 use Rattle.std.proofs.Common.{◌∷◌, arith, filter, fold, length, map, refl, subst, sym, ◌∙◌}
 use Rattle.std.specs.Prelude.{None, Option, Some, is_some, option_map, suc, unwrap_or, zero}
 use Rattle.std.specs.List.{AllByRecursion, flat_map, zip}
-use Rattle.std.proofs.lemmas.Bool.Decides.{nat_tests}
-use Rattle.std.proofs.lemmas.List.{length-map}
-use Rattle.std.proofs.lemmas.Slice.Zip.{length-zip}
-use Rattle.do_base.specs.names.Names.{ObjectName}
-use Rattle.do_base.specs.values.Values.{objects_of}
+use Rattle.std.proofs.lemmas.{Bool.Decides.nat_tests, List.length-map, Slice.Zip.length-zip}
+use Rattle.do_base.specs.{names.Names.ObjectName, values.Values.objects_of}
 use Rattle.do_base.specs.declared.values.value.Value.{Value}
 use Rattle.do_sched.specs.Good.{IsPort}
-use Rattle.do_class.specs.Table.{class_id, slots_of}
-use Rattle.do_class.specs.declared.ids.ClassId.{ClassId}
-use Rattle.do_class.specs.declared.ids.Slot.{Slot}
+use Rattle.do_class.specs.{Table.{class_id, slots_of}, declared.ids.{ClassId.ClassId, Slot.Slot}}
 use Rattle.do_class.specs.declared.packet.Name.TheVariants.{Lent, Mine, Yours}
 use Rattle.do_packet.specs.Copies.{Placed, contents, copied_at, copies_of, grown, marks}
 use Rattle.do_packet.specs.Copies.{most_copies, rounds, slot_values}
 use Rattle.do_packet.specs.Met.{has_object, is_copied, met, met_one, role_of}
-use Rattle.do_packet.specs.Packing.{Naming, class_at, copied_of, name_next, part_at}
-use Rattle.do_packet.specs.Seen.{Sender}
+use Rattle.do_packet.specs.{Packing.{Naming, class_at, copied_of, name_next, part_at}, Seen.Sender}
 use Rattle.do_packet.specs.declared.role.Role.TheVariants.{Absent, Copied, Named}
 use Rattle.do_facts.proofs.links.NamedInMessages.{IsNameable}
 use Rattle.do_limits.specs.Sendable.{AreSendable, HasSlots, IsOfTable, NameIsSendable}

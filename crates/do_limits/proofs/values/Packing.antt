@@ -1,31 +1,22 @@
 -- A message of values that can be carried is one of parts that can be spelled.
+use Rattle.do_class.specs.declared.packet.Part.TheVariants as part
 use Rattle.std.proofs.Common.{◌≡◌, ◌-◌, ℕ, ℤ, Bool, true, false, cond, List as Listed, [], ◌∷◌}
 use Rattle.std.proofs.Common.{◌&&◌, Err, Ok, Result, length, map, refl, sym, ap, ◌∙◌, subst, rules}
 use Rattle.std.proofs.Common.{◌^◌, arith}
-use Rattle.std.specs.Prelude.{nat_le, nat_lt, ◌≤◌}
-use Rattle.std.specs.List.{AllByRecursion, list_all}
-use Rattle.std.proofs.lemmas.Bool.{and_from, and_parts}
-use Rattle.std.proofs.lemmas.List.{length-map}
-use Rattle.do_base.specs.names.Names.{ObjectName}
-use Rattle.do_base.specs.values.Induction.{value_induction}
-use Rattle.do_base.specs.values.Texts.{longest_text}
-use Rattle.do_base.specs.declared.values.value.Value.{List, Value, the_lemmas}
-use Rattle.do_base.specs.declared.values.value.Value.TheVariants.{Nil, Num, Obj, Text}
+use Rattle.std.specs.{Prelude.{nat_le, nat_lt, ◌≤◌}, List.{AllByRecursion, list_all}}
+use Rattle.std.proofs.lemmas.{Bool.{and_from, and_parts}, List.length-map}
+use Rattle.do_base.specs.{names.Names.ObjectName, values.Induction.value_induction}
+use Rattle.do_base.specs.{values.Texts.longest_text, declared.values.value.Value.{List, Value}}
+use Rattle.do_base.specs.declared.values.value.Value.{the_lemmas, TheVariants.{Nil, Num, Obj, Text}}
 use Rattle.do_class.specs.declared.packet.Packet.{Packet}
 use Rattle.do_class.specs.declared.packet.Part.{List as Parts, Part, the_lemmas as part_lemmas}
-use Rattle.do_class.specs.declared.packet.Part.TheVariants as part
 use Rattle.do_coder.specs.Parts.{is_bytes}
 use Rattle.do_grammar.specs.Num.{zigzag}
 use Rattle.do_packet.specs.Copies.{Placed, copies_of, marks, most_copies, names_with, slot_values}
-use Rattle.do_packet.specs.Copies.{slots_at}
-use Rattle.do_packet.specs.Met.{role_of}
-use Rattle.do_packet.specs.Packing.{copied_of, message_weight, most_weight, packed, packet_with}
-use Rattle.do_packet.specs.Packing.{part_at}
-use Rattle.do_packet.specs.Parts.{object_part, part_of}
-use Rattle.do_packet.specs.Seen.{Sender}
-use Rattle.do_packet.specs.declared.fault.PackFault.{PackFault}
-use Rattle.do_packet.specs.declared.role.Role.{Role}
-use Rattle.do_packet.specs.declared.role.Role.TheVariants.{Absent, Copied, Named}
+use Rattle.do_packet.specs.{Copies.slots_at, Met.role_of, Packing.{copied_of, message_weight}}
+use Rattle.do_packet.specs.{Packing.{most_weight, packed, packet_with, part_at}, Parts.object_part}
+use Rattle.do_packet.specs.{Parts.part_of, Seen.Sender, declared.fault.PackFault.PackFault}
+use Rattle.do_packet.specs.declared.role.Role.{Role, TheVariants.{Absent, Copied, Named}}
 use Rattle.do_limits.specs.Sendable.{AreSendableParts, CopyIsSendable, IsSendable, IsSendablePacket}
 use Rattle.do_limits.specs.Sendable.{NameIsSendable, can_carry, can_spell}
 use Rattle.do_packet.proofs.Keeping.{packed_keeps}

@@ -2,16 +2,13 @@
 use Rattle.std.proofs.Common.{◌≡◌, ◌==◌, ◌++◌, ◌≤◌, ℕ, Bool, true, false, cond, List, [], ◌∷◌, Ok}
 use Rattle.std.proofs.Common.{ap, arith, filter, length, refl, subst, sym, ◌∙◌}
 use Rattle.std.specs.Prelude.{is_some, nat_lt}
-use Rattle.std.proofs.lemmas.Bool.Decides.{nat_tests}
-use Rattle.std.proofs.lemmas.List.Sums.{sum_by-cons}
-use Rattle.do_base.specs.names.Names.{ObjectName}
-use Rattle.do_base.specs.values.Values.{objects_of, weight_of}
+use Rattle.std.proofs.lemmas.{Bool.Decides.nat_tests, List.Sums.sum_by-cons}
+use Rattle.do_base.specs.{names.Names.ObjectName, values.Values.{objects_of, weight_of}}
 use Rattle.do_base.specs.declared.values.value.Value.{Value}
 use Rattle.do_packet.specs.Copies.{Placed, copies_of, grown, most_copies, names_with, rounds}
 use Rattle.do_packet.specs.Met.{copied_in, is_copied, met, role_of}
 use Rattle.do_packet.specs.Packing.{message_weight, most_weight, packed, packed_with, packet_with}
-use Rattle.do_packet.specs.Seen.{Sender}
-use Rattle.do_packet.specs.declared.role.Role.TheVariants.{Absent, Named}
+use Rattle.do_packet.specs.{Seen.Sender, declared.role.Role.TheVariants.{Absent, Named}}
 
 -- none passes a test that each fails
 none_pass : (test : ObjectName → Bool) → ((o : ObjectName) → test o ≡ false) →

@@ -1,20 +1,13 @@
 -- A part of a message has a spelling where its places are there.
 use Rattle.std.proofs.Common.{◌≡◌, ◌-◌, ℕ, Bool, true, List as Listed, [], ◌∷◌, ◌&&◌, length, map}
-use Rattle.std.proofs.Common.{refl, sym, ap, ◌∙◌, rules, arith}
-use Rattle.std.specs.Prelude.{Some, get_or, nat_le, nat_lt, option_map, slice_get, suc, zero, ◌<◌}
-use Rattle.std.specs.Prelude.{◌≤◌}
-use Rattle.std.specs.List.{All, AllByRecursion, list_all}
-use Rattle.std.proofs.lemmas.Bool.{and_from, and_parts}
-use Rattle.std.proofs.lemmas.List.{length-map}
-use Rattle.std.proofs.lemmas.List.Elements.{recursion_from_All}
-use Rattle.do_class.specs.Class.{Class}
-use Rattle.do_class.specs.declared.packet.Copied.{Copied}
-use Rattle.do_class.specs.declared.packet.Packet.{Packet}
-use Rattle.do_class.specs.declared.packet.Part.{List, Part, the_lemmas}
-use Rattle.do_class.specs.declared.packet.Part.TheVariants.{Copy, Named}
+use Rattle.std.{proofs.Common.{refl, sym, ap, ◌∙◌, rules, arith}, specs.Prelude.{Some, get_or}}
+use Rattle.std.specs.Prelude.{nat_le, nat_lt, option_map, slice_get, suc, zero, ◌<◌, ◌≤◌}
+use Rattle.std.{specs.List.{All, AllByRecursion, list_all}, proofs.lemmas.Bool.and_from}
+use Rattle.std.proofs.lemmas.{Bool.and_parts, List.{length-map, Elements.recursion_from_All}}
+use Rattle.do_class.specs.{Class.Class, declared.packet.{Copied.Copied, Packet.Packet}}
+use Rattle.do_class.specs.declared.packet.Part.{List, Part, the_lemmas, TheVariants.{Copy, Named}}
 use Rattle.do_grammar.specs.OneSpelling.{FitsList}
-use Rattle.do_coder.specs.Packets.{IsCopied, most_copies, slot_counts}
-use Rattle.do_coder.specs.Parts.{IsPart, part_fits}
+use Rattle.do_coder.specs.{Packets.{IsCopied, most_copies, slot_counts}, Parts.{IsPart, part_fits}}
 use Rattle.do_coder.proofs.values.PartFacts.{fits-Copy, fits-Named, fits-Nil, fits-Num, fits-Text}
 use Rattle.do_packet.specs.Limits.{HasPlaces, places_within}
 use Rattle.do_limits.specs.Sendable.{AreSendableParts, CopyIsSendable, IsSendablePacket, can_spell}

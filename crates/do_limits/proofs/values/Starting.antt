@@ -1,24 +1,18 @@
 -- The values of starts that may stand in a schedule can be carried.
-use Rattle.std.proofs.Common.{◌≡◌, ◌<◌, ◌^◌, ℕ, ℤ, zero, suc, List as Listed, [], ◌∷◌, length}
-use Rattle.std.proofs.Common.{subst, sym, ◌∙◌, arith}
-use Rattle.std.specs.Prelude.{nat_le, negsuc, pos, replicate, true}
-use Rattle.std.specs.Int.Signed.{mag}
-use Rattle.std.specs.List.{AllByRecursion, flat_map}
-use Rattle.std.proofs.lemmas.Bool.{and_from, le-leb, lt-ltb}
 use Rattle.do_base.specs.declared.events.event.Event.TheVariants as events
-use Rattle.do_base.specs.declared.values.value.Value.{Value}
-use Rattle.do_base.specs.values.Texts.{longest_text}
+use Rattle.std.proofs.Common.{◌≡◌, ◌<◌, ◌^◌, ℕ, ℤ, zero, suc, List as Listed, [], ◌∷◌, length}
+use Rattle.std.{proofs.Common.{subst, sym, ◌∙◌, arith}, specs.Prelude.{nat_le, negsuc, pos}}
+use Rattle.std.specs.{Prelude.{replicate, true}, Int.Signed.mag, List.{AllByRecursion, flat_map}}
+use Rattle.std.proofs.lemmas.Bool.{and_from, le-leb, lt-ltb}
+use Rattle.do_base.specs.{declared.values.value.Value.Value, values.Texts.longest_text}
 use Rattle.do_behave.specs.Numbers.{is_i64}
-use Rattle.do_coder.specs.Parts.{is_bytes}
-use Rattle.do_coder.proofs.values.PartFacts.{bytes_all}
+use Rattle.do_coder.{specs.Parts.is_bytes, proofs.values.PartFacts.bytes_all}
 use Rattle.do_machine.specs.check.Blocks.{events_of}
-use Rattle.do_sched.specs.Good.{IsLine, IsPlain, nil, number, text}
-use Rattle.do_sched.specs.declared.line.Line.{Line}
+use Rattle.do_sched.specs.{Good.{IsLine, IsPlain, nil, number, text}, declared.line.Line.Line}
 use Rattle.do_sched.specs.declared.line.Line.TheVariants.{Run, Start}
 use Rattle.do_facts.proofs.EachOfLists.{each_joined}
-use Rattle.do_limits.specs.Sendable.{AreSendable, IsSendable}
-use Rattle.do_limits.specs.SendableActs.{AllStartSendable, StartsSendable}
-use Rattle.do_limits.proofs.scripts.MadeNumbers.{i64_sendable}
+use Rattle.do_limits.specs.{Sendable.{AreSendable, IsSendable}, SendableActs.AllStartSendable}
+use Rattle.do_limits.{specs.SendableActs.StartsSendable, proofs.scripts.MadeNumbers.i64_sendable}
 use Rattle.do_limits.proofs.values.Carried.{carry-Nil, carry-Text}
 
 -- a number of 64 bits by its size

@@ -1,21 +1,14 @@
 -- What comes in a message of values that can be carried are such values.
-use Rattle.std.proofs.Common.{◌≡◌, ◌-◌, ℕ, ℤ, Bool, true, false, cond, List as Listed, [], ◌∷◌}
-use Rattle.std.proofs.Common.{length, map, refl, sym, ap, ◌∙◌, subst, rules}
-use Rattle.std.specs.Prelude.{nat_le, nat_lt, slice_get, unwrap_or, suc, zero}
-use Rattle.std.specs.List.{AllByRecursion, list_all}
-use Rattle.std.proofs.lemmas.Bool.{and_from, and_parts}
-use Rattle.std.proofs.lemmas.List.{length-map}
-use Rattle.do_base.specs.declared.values.value.Value.{List, Value}
-use Rattle.do_base.specs.declared.values.value.Value.TheVariants.{Nil, Num, Text}
-use Rattle.do_class.specs.Class.{Class}
-use Rattle.do_class.specs.declared.packet.Copied.{Copied}
-use Rattle.do_class.specs.declared.packet.Name.{Name}
-use Rattle.do_class.specs.declared.packet.Name.TheVariants.{Lent, Mine, Yours}
-use Rattle.do_class.specs.declared.packet.Packet.{Packet}
-use Rattle.do_class.specs.declared.packet.Part.{List as Parts, Part, ind-Part, map-Part, roll-Part}
-use Rattle.do_class.specs.declared.packet.Part.{the_lemmas}
-use Rattle.do_class.specs.declared.packet.Part.TheOpen.{Part-F}
 use Rattle.do_class.specs.declared.packet.Part.TheVariants as part
+use Rattle.std.proofs.Common.{◌≡◌, ◌-◌, ℕ, ℤ, Bool, true, false, cond, List as Listed, [], ◌∷◌}
+use Rattle.std.{proofs.Common.{length, map, refl, sym, ap, ◌∙◌, subst, rules}, specs.Prelude.nat_le}
+use Rattle.std.specs.{Prelude.{nat_lt, slice_get, unwrap_or, suc, zero}, List.AllByRecursion}
+use Rattle.std.{specs.List.list_all, proofs.lemmas.{Bool.{and_from, and_parts}, List.length-map}}
+use Rattle.do_base.specs.declared.values.value.Value.{List, Value, TheVariants.{Nil, Num, Text}}
+use Rattle.do_class.specs.{Class.Class, declared.packet.{Copied.Copied, Name.Name}}
+use Rattle.do_class.specs.declared.packet.{Name.TheVariants.{Lent, Mine, Yours}, Packet.Packet}
+use Rattle.do_class.specs.declared.packet.Part.{List as Parts, Part, ind-Part, map-Part, roll-Part}
+use Rattle.do_class.specs.declared.packet.Part.{the_lemmas, TheOpen.Part-F}
 use Rattle.do_packet.specs.Unpacking.{copy_at, made_of, name_value, name_values, unpacked, value_of}
 use Rattle.do_packet.specs.declared.receipt.Receipt.{Receipt}
 use Rattle.do_limits.specs.Sendable.{AreSendable, AreSendableParts, CopyIsSendable, HasSlots}

@@ -1,18 +1,15 @@
 -- A schedule's lines, each with what it came to.
+use Rattle.do_base.specs.declared.events.event.Event.TheVariants as events
+use Rattle.do_sched.specs.declared.line.Line.TheVariants as lines
 use Rattle.std.specs.Prelude.{List, None, Option, Some, [], replicate, ◌++◌, ◌||◌, ◌∷◌}
 use Rattle.do_machine.specs.Step.{step}
 use Rattle.do_base.specs.declared.events.event.Event.{Event}
 use Rattle.do_class.specs.Class.{Class}
-use Rattle.do_machine.specs.declared.state.State.{State}
-use Rattle.do_machine.specs.declared.state.Stepped.{Stepped}
+use Rattle.do_machine.specs.declared.state.{State.State, Stepped.Stepped}
 use Rattle.do_trace.specs.declared.outcome.Snapshot.{Snapshot}
 use Rattle.do_sched.specs.declared.line.Line.{Line}
 use Rattle.do_trace.specs.Block.{Block}
-use Rattle.do_machine.specs.Commit.{skipped}
-use Rattle.do_machine.specs.run.Run.{Acting}
-use Rattle.do_machine.specs.check.Snapshot.{snapshot}
-use Rattle.do_base.specs.declared.events.event.Event.TheVariants as events
-use Rattle.do_sched.specs.declared.line.Line.TheVariants as lines
+use Rattle.do_machine.specs.{Commit.skipped, run.Run.Acting, check.Snapshot.snapshot}
 
 -- one event after another: enabled where one of the two was, and what both showed
 abbrev pub followed : Stepped → Stepped → Stepped

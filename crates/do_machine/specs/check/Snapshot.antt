@@ -1,16 +1,10 @@
 -- What a check lists of a state.
-use Rattle.std.specs.Prelude.{List, filter, map, not, option_map, ℕ, ◌&&◌, ◌==◌}
-use Rattle.std.specs.List.{flat_map}
+use Rattle.std.specs.{Prelude.{List, filter, map, not, option_map, ℕ, ◌&&◌, ◌==◌}, List.flat_map}
 use Rattle.do_base.specs.names.Names.{ObjectName}
-use Rattle.do_machine.specs.declared.node.Node.{Node}
-use Rattle.do_machine.specs.declared.node.Stored.{Stored}
-use Rattle.do_machine.specs.declared.state.State.{State}
-use Rattle.do_trace.specs.declared.outcome.Snapshot.{Snapshot}
-use Rattle.do_trace.specs.declared.outcome.NodeLine.{NodeLine}
-use Rattle.do_trace.specs.declared.outcome.ObjLine.{ObjLine}
+use Rattle.do_machine.specs.declared.{node.{Node.Node, Stored.Stored}, state.State.State}
+use Rattle.do_trace.specs.declared.outcome.{Snapshot.Snapshot, NodeLine.NodeLine, ObjLine.ObjLine}
 use Rattle.do_trace.specs.declared.outcome.Entry.{Entry}
-use Rattle.do_machine.specs.Entry.{has_entry}
-use Rattle.do_machine.specs.State.{is_open, own, ports}
+use Rattle.do_machine.specs.{Entry.has_entry, State.{is_open, own, ports}}
 
 -- a stored object, as a check lists it
 abbrev pub object_line : Node → Stored → ObjLine

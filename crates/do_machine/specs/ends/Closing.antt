@@ -1,17 +1,13 @@
 -- How a node closes its end of the connection to a peer.
+use Rattle.do_machine.specs.declared.item.Item.TheVariants as items
 use Rattle.std.specs.Prelude.{List, filter, if◌then◌else◌, map, not, ℕ, ◌==◌}
 use Rattle.do_base.specs.names.Names.{ObjectName}
 use Rattle.do_base.specs.declared.events.exception.Exc.TheVariants.{ConnectionDied}
-use Rattle.do_behave.specs.declared.invocation.Invocation.{Invocation}
-use Rattle.do_behave.specs.declared.invocation.InvState.{InvState}
+use Rattle.do_behave.specs.declared.invocation.{Invocation.Invocation, InvState.InvState}
 use Rattle.do_behave.specs.declared.invocation.Answer.TheVariants.{Raised}
 use Rattle.do_behave.specs.declared.invocation.InvState.TheVariants.{Answered, Waits}
-use Rattle.do_machine.specs.declared.node.Node.{Node}
-use Rattle.do_machine.specs.declared.node.Wanted.{Wanted}
-use Rattle.do_machine.specs.declared.state.Effect.{Effect}
-use Rattle.do_machine.specs.Effect.{each, queueing, ◌>>=◌}
-use Rattle.do_machine.specs.lend.Asking.{settling}
-use Rattle.do_machine.specs.declared.item.Item.TheVariants as items
+use Rattle.do_machine.specs.declared.{node.{Node.Node, Wanted.Wanted}, state.Effect.Effect}
+use Rattle.do_machine.specs.{Effect.{each, queueing, ◌>>=◌}, lend.Asking.settling}
 
 -- the serials of a peer's objects
 abbrev pub serials_of : ℕ → List ObjectName → List ℕ

@@ -1,10 +1,8 @@
 -- How what was sent is lost.
-use Rattle.std.specs.Prelude.{None, Option, Some, [], length, nat_lt, not, ℕ}
-use Rattle.std.specs.List.{insert}
-use Rattle.do_machine.specs.declared.state.State.{State}
-use Rattle.do_machine.specs.Chain.{when◌then◌, ◌>>=◌, ◌>>◌, ◌otherwise◌}
-use Rattle.do_machine.specs.State.{change, is_open, node, queue, with_queue}
 use Rattle.do_machine.specs.declared.item.Item.TheVariants as items
+use Rattle.std.specs.{Prelude.{None, Option, Some, [], length, nat_lt, not, ℕ}, List.insert}
+use Rattle.do_machine.specs.{declared.state.State.State, Chain.{when◌then◌, ◌>>=◌, ◌>>◌}}
+use Rattle.do_machine.specs.{Chain.◌otherwise◌, State.{change, is_open, node, queue, with_queue}}
 
 -- an end that names nothing stands behind so many items, where the reader's end is open
 abbrev pub lost : State → ℕ → ℕ → ℕ → Option State

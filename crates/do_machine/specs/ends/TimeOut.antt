@@ -1,17 +1,11 @@
 -- How a call is given up.
 use Rattle.std.specs.Prelude.{Bool, List, None, Option, Some, [], nat_lt, ◌∷◌}
 use Rattle.do_base.specs.declared.events.exception.Exc.TheVariants.{TimedOut}
-use Rattle.do_behave.specs.declared.invocation.Invocation.{Invocation}
-use Rattle.do_behave.specs.declared.invocation.InvState.{InvState}
+use Rattle.do_behave.specs.declared.invocation.{Invocation.Invocation, InvState.InvState}
 use Rattle.do_behave.specs.declared.invocation.Answer.TheVariants.{Raised}
 use Rattle.do_behave.specs.declared.invocation.InvState.TheVariants.{Waits}
-use Rattle.do_machine.specs.declared.node.Node.{Node}
-use Rattle.do_machine.specs.declared.node.LateCall.{LateCall}
-use Rattle.do_machine.specs.declared.state.Effect.{Effect}
-use Rattle.do_machine.specs.Effect.{only}
-use Rattle.do_machine.specs.Lists.{inserted}
-use Rattle.do_machine.specs.run.Changes.{answered}
-use Rattle.do_machine.specs.run.Fresh.{with_stack}
+use Rattle.do_machine.specs.declared.{node.{Node.Node, LateCall.LateCall}, state.Effect.Effect}
+use Rattle.do_machine.specs.{Effect.only, Lists.inserted, run.{Changes.answered, Fresh.with_stack}}
 
 -- late calls stand by rising number
 abbrev pub late_lt : LateCall → LateCall → Bool

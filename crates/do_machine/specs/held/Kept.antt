@@ -1,13 +1,9 @@
 -- Which own objects a node keeps.
 use Rattle.std.specs.Prelude.{Bool, List, false, filter, length, suc, true, zero, ℕ, ◌==◌, ◌||◌}
-use Rattle.std.specs.Prelude.{◌≡◌}
-use Rattle.std.specs.List.{list_any}
+use Rattle.std.specs.{Prelude.◌≡◌, List.list_any}
 use Rattle.do_packet.specs.Met.{has_object}
-use Rattle.do_machine.specs.declared.node.Node.{Node}
-use Rattle.do_machine.specs.declared.node.Stored.{Stored}
-use Rattle.do_machine.specs.Lists.{IsIn, some_passes}
-use Rattle.do_machine.specs.State.{own}
-use Rattle.do_machine.specs.held.Refers.{heap_objects, stack_objects}
+use Rattle.do_machine.specs.{declared.node.{Node.Node, Stored.Stored}, Lists.{IsIn, some_passes}}
+use Rattle.do_machine.specs.{State.own, held.Refers.{heap_objects, stack_objects}}
 
 -- an own object is the root
 abbrev pub is_root : Node → ℕ → Bool

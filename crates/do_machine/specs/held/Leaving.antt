@@ -1,19 +1,13 @@
 -- What follows each step of a node: it frees objects and leaves others.
-use Rattle.std.specs.Prelude.{Bool, List, [], filter, map, not, ℕ, ◌==◌}
-use Rattle.std.specs.List.{list_any}
+use Rattle.do_machine.specs.declared.item.Item.TheVariants as items
+use Rattle.do_base.specs.declared.events.shown.Shown.TheVariants as shows
+use Rattle.std.specs.{Prelude.{Bool, List, [], filter, map, not, ℕ, ◌==◌}, List.list_any}
 use Rattle.do_base.specs.names.Names.{ObjectName}
 use Rattle.do_packet.specs.Met.{has_object}
 use Rattle.do_base.specs.declared.events.shown.Shown.{Shown}
-use Rattle.do_machine.specs.declared.node.Node.{Node}
-use Rattle.do_machine.specs.declared.node.Stored.{Stored}
-use Rattle.do_machine.specs.declared.state.Parcel.{Parcel}
-use Rattle.do_machine.specs.declared.state.Effect.{Effect}
-use Rattle.do_machine.specs.Effect.{◌>>=◌}
-use Rattle.do_machine.specs.State.{own}
-use Rattle.do_machine.specs.held.Kept.{kept}
+use Rattle.do_machine.specs.declared.{node.{Node.Node, Stored.Stored}, state.Parcel.Parcel}
+use Rattle.do_machine.specs.{declared.state.Effect.Effect, Effect.◌>>=◌, State.own, held.Kept.kept}
 use Rattle.do_machine.specs.held.Refers.{node_objects}
-use Rattle.do_machine.specs.declared.item.Item.TheVariants as items
-use Rattle.do_base.specs.declared.events.shown.Shown.TheVariants as shows
 
 -- an object of a serial is stored
 abbrev is_there : List Stored → ℕ → Bool

@@ -1,16 +1,11 @@
 -- Which objects values, invocations and nodes name.
-use Rattle.std.specs.Prelude.{List, [], map, ◌++◌, ◌∷◌}
-use Rattle.std.specs.List.{flat_map}
-use Rattle.do_base.specs.names.Names.{ObjectName}
-use Rattle.do_base.specs.values.Values.{objects_of}
+use Rattle.std.specs.{Prelude.{List, [], map, ◌++◌, ◌∷◌}, List.flat_map}
+use Rattle.do_base.specs.{names.Names.ObjectName, values.Values.objects_of}
 use Rattle.do_base.specs.declared.values.value.Value.{Value}
-use Rattle.do_behave.specs.declared.invocation.Answer.{Answer}
-use Rattle.do_behave.specs.declared.invocation.Invocation.{Invocation}
-use Rattle.do_behave.specs.declared.invocation.InvState.{InvState}
-use Rattle.do_behave.specs.declared.invocation.Answer.TheVariants.{Given}
+use Rattle.do_behave.specs.declared.invocation.{Answer.Answer, Invocation.Invocation}
+use Rattle.do_behave.specs.declared.invocation.{InvState.InvState, Answer.TheVariants.Given}
 use Rattle.do_behave.specs.declared.invocation.InvState.TheVariants.{Answered}
-use Rattle.do_machine.specs.declared.node.Node.{Node}
-use Rattle.do_machine.specs.declared.node.Stored.{Stored}
+use Rattle.do_machine.specs.declared.node.{Node.Node, Stored.Stored}
 
 -- the objects in values
 abbrev pub objects_in : List Value → List ObjectName

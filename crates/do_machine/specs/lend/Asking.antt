@@ -1,17 +1,12 @@
 -- Asks: what a node that was lent an object does until it holds it.
+use Rattle.do_machine.specs.declared.item.Item.TheVariants as items
 use Rattle.std.specs.Prelude.{Bool, List, [], filter, is_some, not, ℕ, ◌&&◌, ◌==◌, ◌∷◌}
 use Rattle.std.specs.List.{list_any}
-use Rattle.do_base.specs.names.Names.{ObjectName, TokenName}
-use Rattle.do_base.specs.values.Kinds.{number}
+use Rattle.do_base.specs.{names.Names.{ObjectName, TokenName}, values.Kinds.number}
 use Rattle.do_packet.specs.Met.{same_object}
-use Rattle.do_machine.specs.declared.node.Node.{Node}
-use Rattle.do_machine.specs.declared.node.Wanted.{Wanted}
-use Rattle.do_machine.specs.declared.state.Effect.{Effect}
-use Rattle.do_machine.specs.Chain.{when◌then◌, ◌>>◌}
-use Rattle.do_machine.specs.Effect.{only, queueing}
-use Rattle.do_machine.specs.Lists.{inserted, numbers_lt}
-use Rattle.do_machine.specs.State.{is_open, stored}
-use Rattle.do_machine.specs.declared.item.Item.TheVariants as items
+use Rattle.do_machine.specs.declared.{node.{Node.Node, Wanted.Wanted}, state.Effect.Effect}
+use Rattle.do_machine.specs.{Chain.{when◌then◌, ◌>>◌}, Effect.{only, queueing}}
+use Rattle.do_machine.specs.{Lists.{inserted, numbers_lt}, State.{is_open, stored}}
 
 -- an object that a lender named under a number
 abbrev pub wanted : ObjectName → ℕ → ℕ → Wanted

@@ -1,16 +1,10 @@
 -- Lends: foreign objects that a node names to third nodes.
 use Rattle.std.specs.Prelude.{Bool, List, None, Option, Some, filter, length, not, ℕ, ◌&&◌, ◌++◌}
-use Rattle.std.specs.Prelude.{◌+◌, ◌==◌}
-use Rattle.std.specs.List.{filter_map}
+use Rattle.std.specs.{Prelude.{◌+◌, ◌==◌}, List.filter_map}
 use Rattle.do_base.specs.values.Kinds.{number}
-use Rattle.do_class.specs.declared.packet.Packet.{Packet}
-use Rattle.do_class.specs.declared.packet.Name.{Name}
-use Rattle.do_class.specs.declared.packet.Name.TheVariants.{Lent}
-use Rattle.do_machine.specs.declared.item.Item.{Item}
-use Rattle.do_machine.specs.declared.node.Lend.{Lend}
-use Rattle.do_machine.specs.declared.node.Node.{Node}
-use Rattle.do_machine.specs.declared.state.Effect.{Effect}
-use Rattle.do_machine.specs.Effect.{queueing}
+use Rattle.do_class.specs.declared.packet.{Packet.Packet, Name.{Name, TheVariants.Lent}}
+use Rattle.do_machine.specs.declared.{item.Item.Item, node.{Lend.Lend, Node.Node}}
+use Rattle.do_machine.specs.{declared.state.Effect.Effect, Effect.queueing}
 
 -- what a name lends to a borrower
 abbrev pub lend_of : ℕ → Name → Option Lend

@@ -1,25 +1,20 @@
 -- What becomes of each act of an invocation.
+use Rattle.do_behave.specs.declared.act.Act.TheVariants as acts
+use Rattle.do_machine.specs.declared.verdict.Request.TheVariants as requests
 use Rattle.std.specs.Prelude.{Bool, List, None, Option, Some, [], if◌then◌else◌, map, nat_lt}
 use Rattle.std.specs.Prelude.{negsuc, not, pos, ℕ, ℤ, ◌&&◌, ◌==◌, ◌||◌}
-use Rattle.do_base.specs.values.Kinds.{is_nil, number, object}
-use Rattle.do_base.specs.declared.values.value.Value.{Value}
+use Rattle.do_base.specs.{values.Kinds.{is_nil, number, object}, declared.values.value.Value.Value}
 use Rattle.do_base.specs.declared.values.value.Value.TheVariants.{Nil, Obj}
 use Rattle.do_base.specs.declared.events.exception.Exc.TheVariants.{ConnectionDied, TypeFault}
 use Rattle.do_class.specs.Table.{signature_of}
-use Rattle.do_sig.specs.Calls.{encoding_fits, is_void, returned_fits}
-use Rattle.do_sig.specs.Fits.{each_takes}
+use Rattle.do_sig.specs.{Calls.{encoding_fits, is_void, returned_fits}, Fits.each_takes}
 use Rattle.do_sig.specs.declared.signature.Signature.{Signature}
 use Rattle.do_behave.specs.declared.act.Act.{Act}
-use Rattle.do_machine.specs.declared.node.Node.{Node}
-use Rattle.do_machine.specs.declared.verdict.Verdict.{Verdict}
+use Rattle.do_machine.specs.declared.{node.Node.Node, verdict.Verdict.Verdict}
 use Rattle.do_machine.specs.declared.verdict.Verdict.TheVariants.{Asks, Fails, Goes, Makes, Returns}
 use Rattle.do_machine.specs.declared.verdict.Verdict.TheVariants.{Says, Steps, Vends}
-use Rattle.do_machine.specs.Chain.{when◌then◌, ◌>>=◌, ◌>>◌, ◌otherwise◌}
-use Rattle.do_machine.specs.Context.{RunContext}
-use Rattle.do_machine.specs.State.{is_open, is_own, own}
-use Rattle.do_machine.specs.run.Send.{outs_of, send_rule}
-use Rattle.do_behave.specs.declared.act.Act.TheVariants as acts
-use Rattle.do_machine.specs.declared.verdict.Request.TheVariants as requests
+use Rattle.do_machine.specs.{Chain.{when◌then◌, ◌>>=◌, ◌>>◌, ◌otherwise◌}, Context.RunContext}
+use Rattle.do_machine.specs.{State.{is_open, is_own, own}, run.Send.{outs_of, send_rule}}
 
 -- a node's root, or nil
 abbrev pub root_value : Node → Value

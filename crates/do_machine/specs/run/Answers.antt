@@ -1,31 +1,22 @@
 -- How an answer leaves its node.
-use Rattle.std.specs.Prelude.{Bool, List, None, Option, Some, [], codes, map, ℕ, ◌∷◌}
-use Rattle.std.specs.List.{zip}
+use Rattle.do_machine.specs.declared.item.Item.TheVariants as items
+use Rattle.do_base.specs.declared.events.shown.Shown.TheVariants as shows
+use Rattle.std.specs.{Prelude.{Bool, List, None, Option, Some, [], codes, map, ℕ, ◌∷◌}, List.zip}
 use Rattle.do_base.specs.values.Kinds.{number}
 use Rattle.do_packet.specs.Copies.{Placed}
-use Rattle.do_base.specs.declared.values.value.Value.{Value}
-use Rattle.do_base.specs.declared.events.exception.Exc.{Exc}
+use Rattle.do_base.specs.declared.{values.value.Value.Value, events.exception.Exc.Exc}
 use Rattle.do_base.specs.declared.events.exception.Exc.TheVariants.{ConnectionDied, Deep}
-use Rattle.do_base.specs.declared.events.exception.Exc.TheVariants.{NotUnderstood}
-use Rattle.do_base.specs.declared.events.exception.Exc.TheVariants.{NotVended, Range, TimedOut}
-use Rattle.do_base.specs.declared.events.exception.Exc.TheVariants.{TooLarge}
-use Rattle.do_base.specs.declared.events.exception.Exc.TheVariants.{TypeFault, User}
-use Rattle.do_base.specs.declared.events.shown.Shown.{Shown}
+use Rattle.do_base.specs.declared.events.exception.Exc.TheVariants.{NotUnderstood, NotVended, Range}
+use Rattle.do_base.specs.declared.events.exception.Exc.TheVariants.{TimedOut, TooLarge, TypeFault}
+use Rattle.do_base.specs.declared.events.{exception.Exc.TheVariants.User, shown.Shown.Shown}
 use Rattle.do_class.specs.Table.{signature_of}
 use Rattle.do_sig.specs.Calls.{is_returned_copied, qualifiers_of}
 use Rattle.do_sig.specs.declared.signature.Signature.{Signature}
-use Rattle.do_behave.specs.declared.invocation.Answer.{Answer}
-use Rattle.do_behave.specs.declared.invocation.Answer.TheVariants.{Given, Raised}
-use Rattle.do_machine.specs.declared.node.Node.{Node}
-use Rattle.do_machine.specs.declared.state.Effect.{Effect}
-use Rattle.do_machine.specs.Chain.{◌>>=◌, ◌otherwise◌}
-use Rattle.do_machine.specs.Effect.{only, queueing, showing}
-use Rattle.do_machine.specs.Context.{RunContext}
-use Rattle.do_machine.specs.Packing.{packed_for}
-use Rattle.do_machine.specs.run.Send.{outs_of}
+use Rattle.do_behave.specs.declared.invocation.Answer.{Answer, TheVariants.{Given, Raised}}
+use Rattle.do_machine.specs.declared.{node.Node.Node, state.Effect.Effect}
+use Rattle.do_machine.specs.{Chain.{◌>>=◌, ◌otherwise◌}, Effect.{only, queueing, showing}}
+use Rattle.do_machine.specs.{Context.RunContext, Packing.packed_for, run.Send.outs_of}
 use Rattle.do_machine.specs.lend.Lending.{posting}
-use Rattle.do_machine.specs.declared.item.Item.TheVariants as items
-use Rattle.do_base.specs.declared.events.shown.Shown.TheVariants as shows
 
 -- the name of an exception
 abbrev pub exc_name : Exc → List ℕ

@@ -2,15 +2,10 @@
 use Rattle.std.specs.Prelude.{List, Option, slice_set, suc, ℕ, ◌==◌, ◌∷◌}
 use Rattle.do_behave.specs.InPlace.{written}
 use Rattle.do_base.specs.declared.values.value.Value.{Value}
-use Rattle.do_behave.specs.declared.act.Write.{Write}
-use Rattle.do_behave.specs.declared.invocation.Answer.{Answer}
-use Rattle.do_behave.specs.declared.invocation.Handler.{Handler}
-use Rattle.do_behave.specs.declared.invocation.Invocation.{Invocation}
-use Rattle.do_behave.specs.declared.invocation.InvState.{InvState}
+use Rattle.do_behave.specs.declared.{act.Write.Write, invocation.{Answer.Answer, Handler.Handler}}
+use Rattle.do_behave.specs.declared.invocation.{Invocation.Invocation, InvState.InvState}
 use Rattle.do_behave.specs.declared.invocation.InvState.TheVariants.{Answered, Running}
-use Rattle.do_machine.specs.declared.node.Node.{Node}
-use Rattle.do_machine.specs.declared.node.Stored.{Stored}
-use Rattle.do_machine.specs.Lists.{change_first}
+use Rattle.do_machine.specs.{declared.node.{Node.Node, Stored.Stored}, Lists.change_first}
 
 -- the invocation goes on at a place of its method
 abbrev pub goes_to : ℕ → Invocation → Invocation

@@ -1,23 +1,15 @@
 -- Where the answer of an invocation goes.
-use Rattle.std.specs.Prelude.{List, None, Option, Some, [], not, ◌∷◌}
-use Rattle.do_base.specs.values.Kinds.{number}
-use Rattle.do_base.specs.declared.values.value.Value.TheVariants.{Text}
-use Rattle.do_base.specs.declared.events.exception.Exc.{Exc}
-use Rattle.do_behave.specs.declared.invocation.Answer.{Answer}
-use Rattle.do_behave.specs.declared.invocation.Handler.{Handler}
-use Rattle.do_behave.specs.declared.invocation.Invocation.{Invocation}
-use Rattle.do_behave.specs.declared.invocation.Reason.{Reason}
-use Rattle.do_behave.specs.declared.invocation.Answer.TheVariants.{Raised}
-use Rattle.do_machine.specs.declared.node.Node.{Node}
-use Rattle.do_machine.specs.declared.state.Effect.{Effect}
-use Rattle.do_machine.specs.Chain.{when◌then◌, ◌>>◌}
-use Rattle.do_machine.specs.Effect.{only, showing}
-use Rattle.do_machine.specs.Context.{RunContext}
-use Rattle.do_machine.specs.State.{is_open}
-use Rattle.do_machine.specs.run.Answers.{answer_line, exc_name, oneway_answer, replying}
-use Rattle.do_machine.specs.run.Changes.{answered, goes_on}
-use Rattle.do_machine.specs.run.Fresh.{with_stack}
 use Rattle.do_behave.specs.declared.invocation.Reason.TheVariants as reasons
+use Rattle.std.specs.Prelude.{List, None, Option, Some, [], not, ◌∷◌}
+use Rattle.do_base.specs.{values.Kinds.number, declared.values.value.Value.TheVariants.Text}
+use Rattle.do_base.specs.declared.events.exception.Exc.{Exc}
+use Rattle.do_behave.specs.declared.invocation.{Answer.Answer, Handler.Handler}
+use Rattle.do_behave.specs.declared.invocation.{Invocation.Invocation, Reason.Reason}
+use Rattle.do_behave.specs.declared.invocation.Answer.TheVariants.{Raised}
+use Rattle.do_machine.specs.{declared.{node.Node.Node, state.Effect.Effect}, Chain.when◌then◌}
+use Rattle.do_machine.specs.{Chain.◌>>◌, Effect.{only, showing}, Context.RunContext, State.is_open}
+use Rattle.do_machine.specs.run.Answers.{answer_line, exc_name, oneway_answer, replying}
+use Rattle.do_machine.specs.run.{Changes.{answered, goes_on}, Fresh.with_stack}
 
 -- the node with the top invocation replaced
 abbrev pub with_top : RunContext → Invocation → Node

@@ -1,21 +1,14 @@
 -- An invocation as it begins, and objects as they are made.
 use Rattle.std.specs.Prelude.{Bool, List, None, Option, Some, [], length, map, nat_le, replicate}
 use Rattle.std.specs.Prelude.{suc, ℕ, ◌++◌, ◌+◌, ◌-◌, ◌∷◌}
-use Rattle.do_base.specs.names.Names.{ObjectName}
-use Rattle.do_base.specs.values.Kinds.{object}
+use Rattle.do_base.specs.{names.Names.ObjectName, values.Kinds.object}
 use Rattle.do_packet.specs.declared.receipt.Made.{Made}
-use Rattle.do_base.specs.declared.values.value.Value.{Value}
-use Rattle.do_base.specs.declared.values.value.Value.TheVariants.{Nil}
-use Rattle.do_class.specs.Class.{Class}
-use Rattle.do_class.specs.Table.{slots_of}
-use Rattle.do_class.specs.declared.ids.ClassId.{ClassId}
-use Rattle.do_class.specs.declared.ids.MethodId.{MethodId}
-use Rattle.do_class.specs.declared.ids.Slot.{Slot}
-use Rattle.do_behave.specs.declared.invocation.Invocation.{Invocation}
-use Rattle.do_behave.specs.declared.invocation.Reason.{Reason}
+use Rattle.do_base.specs.declared.values.value.Value.{Value, TheVariants.Nil}
+use Rattle.do_class.specs.{Class.Class, Table.slots_of, declared.ids.ClassId.ClassId}
+use Rattle.do_class.specs.declared.ids.{MethodId.MethodId, Slot.Slot}
+use Rattle.do_behave.specs.declared.invocation.{Invocation.Invocation, Reason.Reason}
 use Rattle.do_behave.specs.declared.invocation.InvState.TheVariants.{Running}
-use Rattle.do_machine.specs.declared.node.Node.{Node}
-use Rattle.do_machine.specs.declared.node.Stored.{Stored}
+use Rattle.do_machine.specs.declared.node.{Node.Node, Stored.Stored}
 
 -- an invocation of an own object, with these values in its first locals and nil in the others
 abbrev pub fresh : ObjectName → MethodId → Reason → List Value → Invocation

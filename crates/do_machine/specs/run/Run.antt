@@ -2,19 +2,13 @@
 use Rattle.std.specs.Prelude.{List, None, Option, Some, [], option_map, ◌∷◌}
 use Rattle.do_base.specs.declared.values.value.Value.{Value}
 use Rattle.do_class.specs.Class.{Class}
-use Rattle.do_behave.specs.declared.act.Act.{Act}
-use Rattle.do_behave.specs.declared.invocation.Answer.{Answer}
-use Rattle.do_behave.specs.declared.invocation.Invocation.{Invocation}
+use Rattle.do_behave.specs.declared.{act.Act.Act, invocation.{Answer.Answer, Invocation.Invocation}}
 use Rattle.do_behave.specs.declared.invocation.InvState.{InvState}
 use Rattle.do_behave.specs.declared.invocation.Answer.TheVariants.{Given, Raised}
 use Rattle.do_behave.specs.declared.invocation.InvState.TheVariants.{Answered, Running}
-use Rattle.do_machine.specs.declared.node.Stored.{Stored}
-use Rattle.do_machine.specs.declared.state.Effect.{Effect}
-use Rattle.do_machine.specs.declared.verdict.Verdict.{Verdict}
-use Rattle.do_machine.specs.declared.verdict.Verdict.TheVariants.{Fails, Uses}
-use Rattle.do_machine.specs.Context.{Context, RunContext}
-use Rattle.do_machine.specs.State.{stored}
-use Rattle.do_machine.specs.run.Acts.{act_rule}
+use Rattle.do_machine.specs.declared.{node.Stored.Stored, state.Effect.Effect}
+use Rattle.do_machine.specs.declared.verdict.Verdict.{Verdict, TheVariants.{Fails, Uses}}
+use Rattle.do_machine.specs.{Context.{Context, RunContext}, State.stored, run.Acts.act_rule}
 use Rattle.do_machine.specs.run.Verdicts.{effect_of}
 
 -- what a behaviour answers, given the table

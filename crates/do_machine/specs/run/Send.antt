@@ -1,29 +1,21 @@
 -- What becomes of a message that an invocation sends.
-use Rattle.std.specs.Prelude.{Bool, List, [], if◌then◌else◌, map, not, ◌&&◌, ◌∷◌}
-use Rattle.std.specs.List.{zip}
-use Rattle.do_base.specs.names.Names.{ObjectName}
-use Rattle.do_base.specs.values.Kinds.{is_nil, object}
+use Rattle.do_machine.specs.declared.verdict.Request.TheVariants as requests
+use Rattle.std.specs.{Prelude.{Bool, List, [], if◌then◌else◌, map, not, ◌&&◌, ◌∷◌}, List.zip}
+use Rattle.do_base.specs.{names.Names.ObjectName, values.Kinds.{is_nil, object}}
 use Rattle.do_packet.specs.Copies.{Placed}
-use Rattle.do_base.specs.declared.values.value.Value.{Value}
-use Rattle.do_base.specs.declared.values.value.Value.TheVariants.{Nil}
+use Rattle.do_base.specs.declared.values.value.Value.{Value, TheVariants.Nil}
 use Rattle.do_base.specs.declared.events.exception.Exc.TheVariants.{ConnectionDied, Deep}
-use Rattle.do_base.specs.declared.events.exception.Exc.TheVariants.{NotUnderstood}
-use Rattle.do_base.specs.declared.events.exception.Exc.TheVariants.{NotVended, TooLarge, TypeFault}
+use Rattle.do_base.specs.declared.events.exception.Exc.TheVariants.{NotUnderstood, NotVended}
+use Rattle.do_base.specs.declared.events.exception.Exc.TheVariants.{TooLarge, TypeFault}
 use Rattle.do_class.specs.declared.packet.Packet.{Packet}
 use Rattle.do_sig.specs.Calls.{inputs_fit, is_in, is_oneway, qualifier_of, qualifiers_of}
-use Rattle.do_sig.specs.declared.encoding.Encoding.{Encoding}
-use Rattle.do_sig.specs.declared.signature.Signature.{Signature}
-use Rattle.do_machine.specs.declared.item.Message.{Message}
-use Rattle.do_machine.specs.declared.node.Node.{Node}
-use Rattle.do_machine.specs.declared.verdict.SendAct.{SendAct}
+use Rattle.do_sig.specs.declared.{encoding.Encoding.Encoding, signature.Signature.Signature}
+use Rattle.do_machine.specs.declared.{item.Message.Message, node.Node.Node, verdict.SendAct.SendAct}
 use Rattle.do_machine.specs.declared.verdict.Verdict.{Verdict}
 use Rattle.do_machine.specs.declared.verdict.Verdict.TheVariants.{Asks, Begins, Fails, Goes, Tells}
-use Rattle.do_machine.specs.Chain.{when◌then◌, ◌>>=◌, ◌>>◌, ◌otherwise◌}
-use Rattle.do_machine.specs.Context.{Context, Found, RunContext, class_seen, method_for}
-use Rattle.do_machine.specs.Packing.{packed_for}
-use Rattle.do_machine.specs.State.{is_known, is_open, is_own}
-use Rattle.do_machine.specs.run.Fresh.{is_full}
-use Rattle.do_machine.specs.declared.verdict.Request.TheVariants as requests
+use Rattle.do_machine.specs.{Chain.{when◌then◌, ◌>>=◌, ◌>>◌, ◌otherwise◌}, Context.{Context, Found}}
+use Rattle.do_machine.specs.{Context.{RunContext, class_seen, method_for}, Packing.packed_for}
+use Rattle.do_machine.specs.{State.{is_known, is_open, is_own}, run.Fresh.is_full}
 
 -- a value at an argument that does not go in is passed as nil
 abbrev pub input : Encoding → Value → Value

@@ -1,32 +1,23 @@
 -- The effect of each verdict on the top invocation.
-use Rattle.std.specs.Prelude.{[], ℕ, ◌∷◌}
-use Rattle.do_base.specs.values.Kinds.{number}
-use Rattle.do_base.specs.declared.values.value.Value.TheVariants.{Nil, Obj}
-use Rattle.do_behave.specs.declared.invocation.InvState.{InvState}
-use Rattle.do_behave.specs.declared.invocation.Waited.{Waited}
-use Rattle.do_behave.specs.declared.invocation.Answer.TheVariants.{Given}
-use Rattle.do_behave.specs.declared.invocation.InvState.TheVariants.{Below, Waits}
-use Rattle.do_machine.specs.declared.node.Node.{Node}
-use Rattle.do_machine.specs.declared.state.Effect.{Effect}
-use Rattle.do_machine.specs.declared.verdict.Request.{Request}
-use Rattle.do_machine.specs.declared.verdict.Verdict.{Verdict}
-use Rattle.do_machine.specs.declared.verdict.Verdict.TheVariants.{Asks, Begins, Fails, Goes, Makes}
-use Rattle.do_machine.specs.declared.verdict.Verdict.TheVariants.{Returns, Says, Steps, Tells, Uses}
-use Rattle.do_machine.specs.declared.verdict.Verdict.TheVariants.{Vends}
-use Rattle.do_machine.specs.Effect.{only, queueing, showing}
-use Rattle.do_machine.specs.Context.{RunContext}
-use Rattle.do_machine.specs.State.{own}
-use Rattle.do_machine.specs.take.Requests.{request}
-use Rattle.do_machine.specs.run.Changes.{goes_on, goes_to, stands, steps_to, uses, uses_number}
-use Rattle.do_machine.specs.run.Changes.{with_slots}
-use Rattle.do_machine.specs.run.Delivery.{delivery, failing, with_top}
-use Rattle.do_machine.specs.run.Fresh.{blank, fresh, pushed, with_objects}
-use Rattle.do_machine.specs.lend.Lending.{posting}
 use Rattle.do_machine.specs.declared.item.Item.TheVariants as items
 use Rattle.do_behave.specs.declared.invocation.Reason.TheVariants as reasons
 use Rattle.do_machine.specs.declared.verdict.Request.TheVariants as requests
 use Rattle.do_base.specs.declared.events.shown.Shown.TheVariants as shows
 use Rattle.do_behave.specs.declared.invocation.Waited.TheVariants as waiteds
+use Rattle.std.specs.Prelude.{[], ℕ, ◌∷◌}
+use Rattle.do_base.specs.{values.Kinds.number, declared.values.value.Value.TheVariants.{Nil, Obj}}
+use Rattle.do_behave.specs.declared.invocation.{InvState.InvState, Waited.Waited}
+use Rattle.do_behave.specs.declared.invocation.Answer.TheVariants.{Given}
+use Rattle.do_behave.specs.declared.invocation.InvState.TheVariants.{Below, Waits}
+use Rattle.do_machine.specs.declared.{node.Node.Node, state.Effect.Effect, verdict.Request.Request}
+use Rattle.do_machine.specs.declared.verdict.Verdict.{Verdict, TheVariants.{Asks, Begins, Fails}}
+use Rattle.do_machine.specs.declared.verdict.Verdict.TheVariants.{Goes, Makes, Returns, Says, Steps}
+use Rattle.do_machine.specs.declared.verdict.Verdict.TheVariants.{Tells, Uses, Vends}
+use Rattle.do_machine.specs.{Effect.{only, queueing, showing}, Context.RunContext, State.own}
+use Rattle.do_machine.specs.{take.Requests.request, run.Changes.{goes_on, goes_to, stands}}
+use Rattle.do_machine.specs.run.Changes.{steps_to, uses, uses_number, with_slots}
+use Rattle.do_machine.specs.run.Delivery.{delivery, failing, with_top}
+use Rattle.do_machine.specs.{run.Fresh.{blank, fresh, pushed, with_objects}, lend.Lending.posting}
 
 -- what an invocation waits for, having asked so
 abbrev pub awaited_after : Request → Waited

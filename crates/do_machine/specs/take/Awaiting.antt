@@ -1,28 +1,18 @@
 -- What an answer is to the invocation that waits for it.
+use Rattle.do_behave.specs.declared.invocation.Waited.TheVariants as waiteds
 use Rattle.std.specs.Prelude.{Bool, List, None, Some, [], false, filter, if◌then◌else◌, map, not}
-use Rattle.std.specs.Prelude.{true, ℕ, ◌&&◌, ◌==◌, ◌∷◌}
-use Rattle.std.specs.Bool.{beq}
-use Rattle.do_base.specs.values.Kinds.{number}
-use Rattle.do_base.specs.declared.values.value.Value.{Value}
+use Rattle.std.specs.{Prelude.{true, ℕ, ◌&&◌, ◌==◌, ◌∷◌}, Bool.beq}
+use Rattle.do_base.specs.{values.Kinds.number, declared.values.value.Value.Value}
 use Rattle.do_base.specs.declared.events.exception.Exc.TheVariants.{TypeFault}
-use Rattle.do_class.specs.Class.{Class}
-use Rattle.do_class.specs.Table.{signature_of}
-use Rattle.do_sig.specs.Calls.{encoding_fits, returned_fits}
-use Rattle.do_sig.specs.Fits.{each_takes}
+use Rattle.do_class.specs.{Class.Class, Table.signature_of}
+use Rattle.do_sig.specs.{Calls.{encoding_fits, returned_fits}, Fits.each_takes}
 use Rattle.do_sig.specs.declared.signature.Signature.{Signature}
-use Rattle.do_behave.specs.declared.invocation.Answer.{Answer}
-use Rattle.do_behave.specs.declared.invocation.Invocation.{Invocation}
-use Rattle.do_behave.specs.declared.invocation.InvState.{InvState}
-use Rattle.do_behave.specs.declared.invocation.Waited.{Waited}
+use Rattle.do_behave.specs.declared.invocation.{Answer.Answer, Invocation.Invocation}
+use Rattle.do_behave.specs.declared.invocation.{InvState.InvState, Waited.Waited}
 use Rattle.do_behave.specs.declared.invocation.Answer.TheVariants.{Given, Raised}
 use Rattle.do_behave.specs.declared.invocation.InvState.TheVariants.{Answered, Waits}
-use Rattle.do_machine.specs.declared.node.Node.{Node}
-use Rattle.do_machine.specs.declared.node.LateCall.{LateCall}
-use Rattle.do_machine.specs.declared.state.Effect.{Effect}
-use Rattle.do_machine.specs.Effect.{only}
-use Rattle.do_machine.specs.Lists.{change_first}
-use Rattle.do_machine.specs.run.Send.{outs_of}
-use Rattle.do_behave.specs.declared.invocation.Waited.TheVariants as waiteds
+use Rattle.do_machine.specs.declared.{node.{Node.Node, LateCall.LateCall}, state.Effect.Effect}
+use Rattle.do_machine.specs.{Effect.only, Lists.change_first, run.Send.outs_of}
 
 -- a root was asked for, and no method
 abbrev pub is_for_root : Waited → Bool

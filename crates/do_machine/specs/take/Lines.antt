@@ -1,11 +1,9 @@
 -- What is shown of an item that is taken.
-use Rattle.std.specs.Prelude.{ℕ}
-use Rattle.do_base.specs.values.Kinds.{number}
-use Rattle.do_base.specs.declared.events.shown.Took.{Took}
-use Rattle.do_machine.specs.declared.item.Item.{Item}
-use Rattle.do_machine.specs.Objects.{object_at}
 use Rattle.do_machine.specs.declared.item.Item.TheVariants as items
 use Rattle.do_base.specs.declared.events.shown.Took.TheVariants as tooks
+use Rattle.std.specs.Prelude.{ℕ}
+use Rattle.do_base.specs.{values.Kinds.number, declared.events.shown.Took.Took}
+use Rattle.do_machine.specs.{declared.item.Item.Item, Objects.object_at}
 
 -- an item on its way between two nodes, as it is shown
 abbrev pub item_line : ℕ → ℕ → Item → Took

@@ -1,19 +1,12 @@
 -- What a node does with the message of an item that it takes.
 use Rattle.std.specs.Prelude.{Bool, List, false, length, map, ℕ}
-use Rattle.do_packet.specs.Unpacking.{unpacked}
-use Rattle.do_packet.specs.declared.receipt.Receipt.{Receipt}
+use Rattle.do_packet.specs.{Unpacking.unpacked, declared.receipt.Receipt.Receipt}
 use Rattle.do_packet.specs.declared.receipt.Unpacked.{Unpacked}
 use Rattle.do_base.specs.declared.values.value.Value.{Value}
-use Rattle.do_class.specs.declared.packet.Packet.{Packet}
-use Rattle.do_class.specs.declared.packet.Name.{Name}
-use Rattle.do_class.specs.declared.packet.Name.TheVariants.{Lent, Yours}
-use Rattle.do_machine.specs.declared.node.Node.{Node}
-use Rattle.do_machine.specs.declared.state.Effect.{Effect}
-use Rattle.do_machine.specs.Effect.{each, only, ◌>>=◌}
-use Rattle.do_machine.specs.Context.{Context}
-use Rattle.do_machine.specs.State.{is_open}
-use Rattle.do_machine.specs.run.Fresh.{with_objects}
-use Rattle.do_machine.specs.lend.Asking.{asking, wanted}
+use Rattle.do_class.specs.declared.packet.{Packet.Packet, Name.{Name, TheVariants.{Lent, Yours}}}
+use Rattle.do_machine.specs.declared.{node.Node.Node, state.Effect.Effect}
+use Rattle.do_machine.specs.{Effect.{each, only, ◌>>=◌}, Context.Context, State.is_open}
+use Rattle.do_machine.specs.{run.Fresh.with_objects, lend.Asking.{asking, wanted}}
 
 -- how the node reads a message
 abbrev pub reading : Context → ℕ → Packet → Receipt

@@ -1,24 +1,18 @@
 -- A message of a peer: the method that it invokes, or why it is refused.
-use Rattle.std.specs.Prelude.{Err, List, Ok, Result, not, ℕ}
-use Rattle.do_base.specs.values.Kinds.{number}
-use Rattle.do_base.specs.declared.values.value.Value.{Value}
-use Rattle.do_base.specs.declared.events.exception.Exc.{Exc}
-use Rattle.do_base.specs.declared.events.exception.Exc.TheVariants.{Deep, NotUnderstood, NotVended}
-use Rattle.do_base.specs.declared.events.exception.Exc.TheVariants.{TypeFault}
-use Rattle.do_class.specs.declared.ids.MethodId.{MethodId}
-use Rattle.do_sig.specs.Calls.{args_fit}
-use Rattle.do_behave.specs.declared.invocation.Reason.{Reason}
-use Rattle.do_machine.specs.declared.item.Message.{Message}
-use Rattle.do_machine.specs.declared.node.Node.{Node}
-use Rattle.do_machine.specs.declared.state.Effect.{Effect}
-use Rattle.do_machine.specs.Chain.{when◌then◌, ◌>>=◌, ◌>>◌, ◌otherwise◌}
-use Rattle.do_machine.specs.Effect.{only, queueing, showing}
-use Rattle.do_machine.specs.Context.{Context, method_for, own_class}
-use Rattle.do_machine.specs.State.{own}
-use Rattle.do_machine.specs.run.Fresh.{fresh, is_full, pushed}
 use Rattle.do_machine.specs.declared.item.Item.TheVariants as items
 use Rattle.do_behave.specs.declared.invocation.Reason.TheVariants as reasons
 use Rattle.do_base.specs.declared.events.shown.Shown.TheVariants as shows
+use Rattle.std.specs.Prelude.{Err, List, Ok, Result, not, ℕ}
+use Rattle.do_base.specs.{values.Kinds.number, declared.values.value.Value.Value}
+use Rattle.do_base.specs.declared.events.exception.Exc.{Exc, TheVariants.{Deep, NotUnderstood}}
+use Rattle.do_base.specs.declared.events.exception.Exc.TheVariants.{NotVended, TypeFault}
+use Rattle.do_class.specs.declared.ids.MethodId.{MethodId}
+use Rattle.do_sig.specs.Calls.{args_fit}
+use Rattle.do_behave.specs.declared.invocation.Reason.{Reason}
+use Rattle.do_machine.specs.declared.{item.Message.Message, node.Node.Node, state.Effect.Effect}
+use Rattle.do_machine.specs.{Chain.{when◌then◌, ◌>>=◌, ◌>>◌, ◌otherwise◌}, Effect.{only, queueing}}
+use Rattle.do_machine.specs.{Effect.showing, Context.{Context, method_for, own_class}, State.own}
+use Rattle.do_machine.specs.run.Fresh.{fresh, is_full, pushed}
 
 -- the method that a message invokes, or why it is refused: the first rule that applies decides
 abbrev pub admission : Context → ℕ → Message → List Value → Result MethodId Exc

@@ -1,35 +1,22 @@
 -- What an item that is taken does to the node that takes it.
-use Rattle.std.specs.Prelude.{Bool, List, [], false, fold, true, ℕ, ◌&&◌, ◌∷◌}
-use Rattle.do_base.specs.names.Names.{ObjectName}
-use Rattle.do_base.specs.values.Kinds.{number}
-use Rattle.do_packet.specs.Copies.{Placed, names_with}
-use Rattle.do_packet.specs.Packing.{packet_with}
-use Rattle.do_base.specs.declared.values.value.Value.{Value}
-use Rattle.do_class.specs.declared.packet.Packet.{Packet}
-use Rattle.do_behave.specs.declared.invocation.Invocation.{Invocation}
-use Rattle.do_behave.specs.declared.invocation.InvState.{InvState}
-use Rattle.do_behave.specs.declared.invocation.Answer.TheVariants.{Raised}
-use Rattle.do_behave.specs.declared.invocation.InvState.TheVariants.{Waits}
-use Rattle.do_machine.specs.declared.item.Item.{Item}
-use Rattle.do_machine.specs.declared.node.Node.{Node}
-use Rattle.do_machine.specs.declared.state.Effect.{Effect}
-use Rattle.do_machine.specs.Effect.{only, queueing, showing, ◌>>=◌}
-use Rattle.do_machine.specs.Context.{Context}
-use Rattle.do_machine.specs.Items.{exported}
-use Rattle.do_machine.specs.Objects.{joined, object_at}
-use Rattle.do_machine.specs.Packing.{packer}
-use Rattle.do_machine.specs.State.{is_open}
-use Rattle.do_machine.specs.take.Awaiting.{AnsweredCall, answering, values_answer}
-use Rattle.do_machine.specs.take.Lines.{item_line}
-use Rattle.do_machine.specs.take.Receipt.{received}
-use Rattle.do_machine.specs.take.Requests.{request}
-use Rattle.do_machine.specs.ends.Closing.{closing}
-use Rattle.do_machine.specs.run.Acts.{root_value}
-use Rattle.do_machine.specs.lend.Asking.{ask_over, granting, wanted}
-use Rattle.do_machine.specs.lend.Lending.{with_settled}
 use Rattle.do_machine.specs.declared.item.Item.TheVariants as items
 use Rattle.do_behave.specs.declared.invocation.Reason.TheVariants as reasons
 use Rattle.do_base.specs.declared.events.shown.Shown.TheVariants as shows
+use Rattle.std.specs.Prelude.{Bool, List, [], false, fold, true, ℕ, ◌&&◌, ◌∷◌}
+use Rattle.do_base.specs.{names.Names.ObjectName, values.Kinds.number}
+use Rattle.do_packet.specs.{Copies.{Placed, names_with}, Packing.packet_with}
+use Rattle.do_base.specs.declared.values.value.Value.{Value}
+use Rattle.do_class.specs.declared.packet.Packet.{Packet}
+use Rattle.do_behave.specs.declared.invocation.{Invocation.Invocation, InvState.InvState}
+use Rattle.do_behave.specs.declared.invocation.Answer.TheVariants.{Raised}
+use Rattle.do_behave.specs.declared.invocation.InvState.TheVariants.{Waits}
+use Rattle.do_machine.specs.declared.{item.Item.Item, node.Node.Node, state.Effect.Effect}
+use Rattle.do_machine.specs.{Effect.{only, queueing, showing, ◌>>=◌}, Context.Context}
+use Rattle.do_machine.specs.{Items.exported, Objects.{joined, object_at}, Packing.packer}
+use Rattle.do_machine.specs.{State.is_open, take.Awaiting.{AnsweredCall, answering, values_answer}}
+use Rattle.do_machine.specs.take.{Lines.item_line, Receipt.received, Requests.request}
+use Rattle.do_machine.specs.{ends.Closing.closing, run.Acts.root_value}
+use Rattle.do_machine.specs.lend.{Asking.{ask_over, granting, wanted}, Lending.with_settled}
 
 -- an invocation of this state waits for an answer
 abbrev pub is_waiting : InvState → Bool

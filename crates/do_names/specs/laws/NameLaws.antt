@@ -1,24 +1,18 @@
 -- A server of names names only what was shown, and answers well.
 use Rattle.std.proofs.Common.{pos, Bool, List as Listed, [], ◌∷◌, Option, Some, None}
 use Rattle.std.specs.Option.{IfSome, option_map}
-use Rattle.do_base.specs.declared.values.value.Value.{Value}
-use Rattle.do_base.specs.declared.values.value.Value.TheVariants.{Num, Text}
+use Rattle.do_base.specs.declared.values.value.Value.{Value, TheVariants.{Num, Text}}
 use Rattle.do_class.specs.Class.{Class}
-use Rattle.do_behave.specs.Answers.{AnswersWell, NamesShown}
-use Rattle.do_behave.specs.Numbers.{truth}
-use Rattle.do_behave.specs.Ready.{IsReady}
+use Rattle.do_behave.specs.{Answers.{AnswersWell, NamesShown}, Numbers.truth, Ready.IsReady}
 use Rattle.do_behave.specs.declared.invocation.Invocation.{Invocation}
-use Rattle.do_native_acts.specs.Places.{in_two}
-use Rattle.do_native_acts.specs.laws.GoodActs.{IsGood, selector_good}
+use Rattle.do_native_acts.specs.{Places.in_two, laws.GoodActs.{IsGood, selector_good}}
 use Rattle.do_native_acts.specs.laws.GoodSteps.{answers_good}
 use Rattle.do_native_acts.specs.laws.NamedValues.{EachNamed, Named, list_of_parts, number_named}
 use Rattle.do_native_acts.specs.laws.NamedValues.{rows_named, text_named}
 use Rattle.do_table.specs.Entries.{value_of}
-use Rattle.do_names.specs.Acts.{first, names_act}
-use Rattle.do_names.specs.Calls.{as_number, call_in, does, port_or_none}
+use Rattle.do_names.specs.{Acts.{first, names_act}, Calls.{as_number, call_in, does, port_or_none}}
 use Rattle.do_names.specs.Core.{Entry, from_slots, to_slots, row, registered, unregistered}
-use Rattle.do_names.specs.declared.calls.Call.{Call}
-use Rattle.do_names.specs.declared.calls.Call.TheVariants.{Register, Lookup, Unregister}
+use Rattle.do_names.specs.declared.calls.Call.{Call, TheVariants.{Register, Lookup, Unregister}}
 
 module _ (inv : Invocation) (slots : Listed Value) where
   -- an entry names no object

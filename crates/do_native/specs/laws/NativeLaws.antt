@@ -1,24 +1,17 @@
 -- An act of any kind names only what was shown, and is answered well.
-use Rattle.std.proofs.Common.{◌≡◌, ℕ, zero, suc, List as Listed, [], ◌∷◌, Some}
-use Rattle.std.proofs.Common.{subst}
-use Rattle.std.specs.Prelude.{slice_get}
-use Rattle.std.specs.List.{All}
+use Rattle.std.proofs.Common.{◌≡◌, ℕ, zero, suc, List as Listed, [], ◌∷◌, Some, subst}
+use Rattle.std.specs.{Prelude.slice_get, List.All}
 use Rattle.std.proofs.lemmas.List.Elements.{All-head, All-tail}
 use Rattle.do_base.specs.declared.values.value.Value.{Value}
 use Rattle.do_class.specs.Class.{Class}
-use Rattle.do_behave.specs.Answers.{AnswersWell, NamesShown}
-use Rattle.do_behave.specs.Ready.{IsReady}
+use Rattle.do_behave.specs.{Answers.{AnswersWell, NamesShown}, Ready.IsReady}
 use Rattle.do_behave.specs.declared.invocation.Invocation.{Invocation}
 use Rattle.do_behave.specs.laws.ScriptLaws.{script_answers_well, script_names_shown}
-use Rattle.do_native_acts.specs.laws.GoodActs.{IsGood, MayGood, then_good}
-use Rattle.do_native_acts.specs.laws.KindLaws.{some_same}
-use Rattle.do_check.specs.Acts.{check_act}
-use Rattle.do_check.specs.Rules.{AreRules}
-use Rattle.do_check.specs.declared.rules.Rule.{Rule}
+use Rattle.do_native_acts.specs.laws.{GoodActs.{IsGood, MayGood, then_good}, KindLaws.some_same}
+use Rattle.do_check.specs.{Acts.check_act, Rules.AreRules, declared.rules.Rule.Rule}
 use Rattle.do_check.specs.laws.CheckLaws.{check_answers_well, check_names_shown}
-use Rattle.do_class_kinds.specs.declared.kind.Kind.{Kind}
-use Rattle.do_class_kinds.specs.declared.kind.Kind.TheVariants.{Script, Names, Pasteboard, Services}
-use Rattle.do_class_kinds.specs.declared.kind.Kind.TheVariants.{Center, Checker}
+use Rattle.do_class_kinds.specs.declared.kind.Kind.{Kind, TheVariants.{Script, Names, Pasteboard}}
+use Rattle.do_class_kinds.specs.declared.kind.Kind.TheVariants.{Services, Center, Checker}
 use Rattle.do_names.specs.laws.NameLaws.{names_answers_well, names_names_shown}
 use Rattle.do_pboard.specs.laws.BoardLaws.{board_answers_well, board_names_shown}
 use Rattle.do_services.specs.laws.ServiceLaws.{services_answers_well, services_names_shown}

@@ -1,7 +1,6 @@
 -- What holds of what is found or chosen, where it holds on each way there.
 use Rattle.std.proofs.Common.{◌≡◌, Bool, Option, Some, None, refl, subst}
-use Rattle.std.specs.Prelude.{if◌then◌else◌}
-use Rattle.std.specs.Option.{IfSome, option_map}
+use Rattle.std.specs.{Prelude.if◌then◌else◌, Option.{IfSome, option_map}}
 use Rattle.std.proofs.lemmas.Bool.{cond_both}
 use Rattle.do_grammar.specs.Words.{◌>>?◌}
 

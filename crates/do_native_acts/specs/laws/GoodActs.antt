@@ -1,26 +1,16 @@
 -- Acts of native methods that are good: they name only what was shown, and answer well.
 use Rattle.std.proofs.Common.{◌≡◌, ℕ, zero, suc, ◌==◌, Bool, true, false, List as Listed, [], ◌∷◌}
 use Rattle.std.proofs.Common.{length, ◌≤◌, Option, Some, None, refl, ◌∙◌, arith, IsTrue}
-use Rattle.std.specs.Prelude.{if◌then◌else◌, slice_index_or}
-use Rattle.std.specs.List.{All}
-use Rattle.std.specs.Option.{IfSome}
-use Rattle.std.proofs.lemmas.Bool.{eqb-true}
-use Rattle.std.proofs.lemmas.List.{length-map}
-use Rattle.std.proofs.lemmas.List.Elements.{All-nil, All-cons}
-use Rattle.do_base.specs.values.Texts.{longest_text}
-use Rattle.do_base.specs.declared.values.value.Value.{Value}
+use Rattle.std.specs.{Prelude.{if◌then◌else◌, slice_index_or}, List.All, Option.IfSome}
+use Rattle.std.proofs.lemmas.{Bool.eqb-true, List.{length-map, Elements.{All-nil, All-cons}}}
+use Rattle.do_base.specs.{values.Texts.longest_text, declared.values.value.Value.Value}
 use Rattle.do_base.specs.declared.events.exception.Exc.TheVariants.{Range, TypeFault}
-use Rattle.do_class.specs.Class.{Class}
-use Rattle.do_class.specs.Table.{selector_of}
-use Rattle.do_grammar.specs.Names.{is_selector, colons}
-use Rattle.do_grammar.specs.Words.{◌>>?◌}
+use Rattle.do_class.specs.{Class.Class, Table.selector_of}
+use Rattle.do_grammar.specs.{Names.{is_selector, colons}, Words.◌>>?◌}
 use Rattle.do_script.specs.Listing.{IsLocal}
-use Rattle.do_behave.specs.Answers.{AnswersWell, NamesShown}
-use Rattle.do_behave.specs.Ready.{IsReady}
-use Rattle.do_behave.specs.Steps.{local, or_fault}
-use Rattle.do_behave.specs.declared.invocation.Invocation.{Invocation}
-use Rattle.do_behave.specs.declared.act.Act.{Act}
-use Rattle.do_behave.specs.declared.act.Act.TheVariants.{Send, Return, Raise}
+use Rattle.do_behave.specs.{Answers.{AnswersWell, NamesShown}, Ready.IsReady}
+use Rattle.do_behave.specs.{Steps.{local, or_fault}, declared.invocation.Invocation.Invocation}
+use Rattle.do_behave.specs.declared.act.Act.{Act, TheVariants.{Send, Return, Raise}}
 use Rattle.do_behave.specs.laws.ScriptLaws.{shown, well}
 use Rattle.do_behave.specs.laws.Sound.{IsKept, IsSound, fault_sound, get_kept}
 use Rattle.do_native_acts.specs.Places.{by_selector, returns, aside, sends, at_place, in_two}

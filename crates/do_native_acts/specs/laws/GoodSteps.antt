@@ -1,36 +1,23 @@
 -- Steps of native methods are good: their values are tested, and what is owed is the objects alone.
 use Rattle.std.proofs.Common.{◌≡◌, ℕ, ◌+◌, ◌<◌, ◌≤◌, inl, Bool, true, false, ◌&&◌, List as Listed}
 use Rattle.std.proofs.Common.{[], ◌∷◌, ◌++◌, length, Option, Some, map, refl, ◌∙◌, arith}
-use Rattle.std.specs.Prelude.{slice_set, nat_le, if◌then◌else◌}
-use Rattle.std.specs.List.{All, AllByRecursion, list_all}
-use Rattle.std.specs.Option.{IfSome}
-use Rattle.std.proofs.lemmas.Bool.{and_parts, leb-true}
-use Rattle.std.proofs.lemmas.List.{length-set}
-use Rattle.std.proofs.lemmas.List.Elements.{All-nil, All-cons, All-head, All-tail, All-set}
-use Rattle.std.proofs.lemmas.List.Elements.{All-append, All-from_recursion, All-map}
-use Rattle.do_base.specs.values.Equal.{value_eq}
-use Rattle.do_base.specs.values.Values.{weight_of}
-use Rattle.do_base.specs.declared.values.value.Value.{Value}
-use Rattle.do_base.specs.declared.events.exception.Exc.TheVariants.{Range}
+use Rattle.std.specs.{Prelude.{slice_set, nat_le, if◌then◌else◌}, List.{All, AllByRecursion}}
+use Rattle.std.{specs.{List.list_all, Option.IfSome}, proofs.lemmas.Bool.{and_parts, leb-true}}
+use Rattle.std.proofs.lemmas.List.{length-set, Elements.{All-nil, All-cons, All-head, All-tail}}
+use Rattle.std.proofs.lemmas.List.Elements.{All-set, All-append, All-from_recursion, All-map}
+use Rattle.do_base.specs.values.{Equal.value_eq, Values.weight_of}
+use Rattle.do_base.specs.declared.{values.value.Value.Value, events.exception.Exc.TheVariants.Range}
 use Rattle.do_class.specs.Class.{Class}
-use Rattle.do_behave.specs.Answers.{AnswersWell, NamesShown}
-use Rattle.do_behave.specs.Changes.{with_set}
-use Rattle.do_behave.specs.Limits.{IsLimited, has_small_parts, nests_within}
-use Rattle.do_behave.specs.Parts.{WeighsWithin}
-use Rattle.do_behave.specs.Ready.{IsReady, IsHandler}
-use Rattle.do_behave.specs.declared.invocation.Handler.{Handler}
+use Rattle.do_behave.specs.{Answers.{AnswersWell, NamesShown}, Changes.with_set}
+use Rattle.do_behave.specs.{Limits.{IsLimited, has_small_parts, nests_within}, Parts.WeighsWithin}
+use Rattle.do_behave.specs.{Ready.{IsReady, IsHandler}, declared.invocation.Handler.Handler}
 use Rattle.do_behave.specs.declared.invocation.Invocation.{Invocation}
-use Rattle.do_behave.specs.declared.act.Act.TheVariants.{Step, Raise}
-use Rattle.do_behave.specs.declared.act.Write.{Write}
-use Rattle.do_behave.specs.declared.change.LocalSet.{LocalSet}
-use Rattle.do_behave.specs.laws.CodeSuits.{All-first}
+use Rattle.do_behave.specs.declared.act.{Act.TheVariants.{Step, Raise}, Write.Write}
+use Rattle.do_behave.specs.{declared.change.LocalSet.LocalSet, laws.CodeSuits.All-first}
 use Rattle.do_behave.specs.laws.WeightsKept.{shown_weighs}
-use Rattle.do_native_acts.specs.Limited.{is_limited}
-use Rattle.do_native_acts.specs.Places.{does_call, in_two}
-use Rattle.do_native_acts.specs.Steps.{changes, set, steps}
-use Rattle.do_native_acts.specs.laws.FoundLaws.{of_found}
-use Rattle.do_native_acts.specs.laws.GoodActs.{IsGood, MayGood, fits_kept, range_good, then_good}
-use Rattle.do_native_acts.specs.laws.GoodActs.{two_good}
+use Rattle.do_native_acts.specs.{Limited.is_limited, Places.{does_call, in_two}, Steps.changes}
+use Rattle.do_native_acts.specs.{Steps.{set, steps}, laws.{FoundLaws.of_found, GoodActs.IsGood}}
+use Rattle.do_native_acts.specs.laws.GoodActs.{MayGood, fits_kept, range_good, then_good, two_good}
 use Rattle.do_native_acts.specs.laws.NamedValues.{EachNamed, Named, locals_named}
 
 -- what holds of the locals and of each new value holds of the locals once these are set

@@ -1,11 +1,9 @@
 -- A value is what was read from it, and what it is made of is read from it.
 use Rattle.std.proofs.Common.{◌≡◌, ◌∙◌, ℕ, ℤ, List as Listed, Option, Some, None, refl, sym, ap}
 use Rattle.std.proofs.Common.{rules, Bool, true, false, subst}
-use Rattle.std.specs.Prelude.{if◌then◌else◌}
-use Rattle.std.specs.Option.{option_map}
+use Rattle.std.specs.{Prelude.if◌then◌else◌, Option.option_map}
 use Rattle.do_grammar.specs.Words.{◌>>?◌}
-use Rattle.do_base.specs.names.Names.{ObjectName}
-use Rattle.do_base.specs.values.Induction.{value_induction}
+use Rattle.do_base.specs.{names.Names.ObjectName, values.Induction.value_induction}
 use Rattle.do_base.specs.values.Kinds.{text, number, object, items}
 use Rattle.do_base.specs.declared.values.value.Value.{Value, List, the_lemmas}
 use Rattle.do_base.specs.declared.values.value.Value.TheVariants.{Nil, Num, Text, Obj}

@@ -1,25 +1,18 @@
 -- Values that name no objects but those which an invocation and the slots name.
 use Rattle.std.proofs.Common.{◌≡◌, ℕ, ℤ, List as Listed, [], ◌∷◌, Option, Some, map, sym, subst}
 use Rattle.std.proofs.Common.{rules}
-use Rattle.std.specs.List.{All, AllByRecursion, Contains, flat_map}
-use Rattle.std.specs.Option.{IfSome}
-use Rattle.std.proofs.lemmas.List.Elements.{All-nil, All-cons, All-head, All-tail}
-use Rattle.std.proofs.lemmas.List.Elements.{All-map, All-weaker}
-use Rattle.std.proofs.lemmas.List.Elements.{All-from_recursion, recursion_from_All}
-use Rattle.do_base.specs.names.Names.{ObjectName}
-use Rattle.do_base.specs.values.Kinds.{object}
-use Rattle.do_base.specs.values.Values.{objects_of}
+use Rattle.std.specs.{List.{All, AllByRecursion, Contains, flat_map}, Option.IfSome}
+use Rattle.std.proofs.lemmas.List.Elements.{All-nil, All-cons, All-head, All-tail, All-map}
+use Rattle.std.proofs.lemmas.List.Elements.{All-weaker, All-from_recursion, recursion_from_All}
+use Rattle.do_base.specs.{names.Names.ObjectName, values.{Kinds.object, Values.objects_of}}
 use Rattle.do_base.specs.declared.values.value.Value.{Value, List, the_lemmas}
 use Rattle.do_base.specs.declared.values.value.Value.TheVariants.{Nil, Num, Text, Obj}
-use Rattle.do_behave.specs.Answers.{NamesOnly, objects_named}
-use Rattle.do_behave.specs.Steps.{local}
+use Rattle.do_behave.specs.{Answers.{NamesOnly, objects_named}, Steps.local}
 use Rattle.do_behave.specs.declared.invocation.Invocation.{Invocation}
 use Rattle.do_behave.specs.laws.CodeSuits.{All-first, All-second}
-use Rattle.do_behave.specs.laws.ObjectsKept.{arguments_among, objects_kept}
-use Rattle.do_behave.specs.laws.Sound.{get_kept}
+use Rattle.do_behave.specs.laws.{ObjectsKept.{arguments_among, objects_kept}, Sound.get_kept}
 use Rattle.do_grammar.specs.Words.{◌>>?◌}
-use Rattle.do_native_acts.specs.Rows.{listed}
-use Rattle.do_native_acts.specs.laws.KeptLaws.{each_holds, kept_flat}
+use Rattle.do_native_acts.specs.{Rows.listed, laws.KeptLaws.{each_holds, kept_flat}}
 use Rattle.do_native_acts.specs.laws.KindLaws.{found_of, object_read}
 
 -- the objects of a list are those of its items

@@ -1,13 +1,9 @@
 -- A port is read as it was shown, and shown as it was read.
 use Rattle.std.proofs.Common.{◌≡◌, ◌∙◌, ℕ, ℤ, pos, negsuc, Bool, true, false, ◌&&◌, nat_lt, Option}
-use Rattle.std.proofs.Common.{Some, None, refl, sym, ap}
-use Rattle.std.specs.Prelude.{if◌then◌else◌}
-use Rattle.do_base.specs.values.Kinds.{number}
-use Rattle.do_base.specs.declared.values.value.Value.{Value}
-use Rattle.do_base.specs.declared.values.value.Value.TheVariants.{Num}
-use Rattle.do_native_acts.specs.Ports.{port_in, port_number}
-use Rattle.do_native_acts.specs.laws.KindLaws.{some_same, found_of, then_is, number_of_Num}
-use Rattle.do_native_acts.specs.laws.KindLaws.{number_read}
+use Rattle.std.{proofs.Common.{Some, None, refl, sym, ap}, specs.Prelude.if◌then◌else◌}
+use Rattle.do_base.specs.{values.Kinds.number, declared.values.value.Value.{Value, TheVariants.Num}}
+use Rattle.do_native_acts.specs.{Ports.{port_in, port_number}, laws.KindLaws.{some_same, found_of}}
+use Rattle.do_native_acts.specs.laws.KindLaws.{then_is, number_of_Num, number_read}
 
 -- a number from 1 to 65,535 is read as a port
 pub port_of_Num : (p : ℕ) → (nat_lt 0 p && nat_lt p 65536) ≡ true

@@ -1,20 +1,16 @@
 -- What a list in a slot is read as, and shown as again.
 use Rattle.std.proofs.Common.{◌≡◌, ℕ, ℤ, List as Listed, [], ◌∷◌, Option, Some, None, map, refl}
 use Rattle.std.proofs.Common.{sym, ◌∙◌, ap, rules, Bool, true}
-use Rattle.std.specs.List.{All, list_all}
-use Rattle.std.proofs.lemmas.Bool.{and_from}
-use Rattle.std.specs.Option.{option_map}
+use Rattle.std.{specs.List.{All, list_all}, proofs.lemmas.Bool.and_from, specs.Option.option_map}
 use Rattle.std.proofs.lemmas.List.Elements.{All-head, All-tail}
-use Rattle.do_base.specs.names.Names.{ObjectName}
-use Rattle.do_base.specs.values.Induction.{value_induction}
+use Rattle.do_base.specs.{names.Names.ObjectName, values.Induction.value_induction}
 use Rattle.do_base.specs.declared.values.value.Value.{Value, List, the_lemmas}
 use Rattle.do_base.specs.declared.values.value.Value.TheVariants.{Nil, Num, Text, Obj}
 use Rattle.do_base.specs.values.Kinds.{items}
 use Rattle.do_grammar.specs.Words.{◌>>?◌}
 use Rattle.do_native_acts.specs.Rows.{with_first, read_all, rows_in, list_in, pair_of, pair_in}
-use Rattle.do_native_acts.specs.Rows.{listed}
-use Rattle.do_native_acts.specs.laws.KindLaws.{some_same, found_of, mapped_of, items_of_List}
-use Rattle.do_native_acts.specs.laws.KindLaws.{items_read}
+use Rattle.do_native_acts.specs.{Rows.listed, laws.KindLaws.{some_same, found_of, mapped_of}}
+use Rattle.do_native_acts.specs.laws.KindLaws.{items_of_List, items_read}
 
 -- nil holds no row
 rows_of_Nil : {A : Type 0} (read : Value → Option A) → rows_in read Nil ≡ Some []

@@ -1,13 +1,9 @@
 -- A list of types is read as it was shown, and shown as it was read.
-use Rattle.std.proofs.Common.{◌≡◌, ℕ, true, List as Listed, Some, None, map, refl, sym, ◌∙◌}
-use Rattle.std.proofs.Common.{ap}
-use Rattle.std.specs.Prelude.{if◌then◌else◌}
-use Rattle.std.specs.List.{All}
-use Rattle.do_base.specs.values.Kinds.{text}
-use Rattle.do_base.specs.declared.values.value.Value.{Value, List}
+use Rattle.std.proofs.Common.{◌≡◌, ℕ, true, List as Listed, Some, None, map, refl, sym, ◌∙◌, ap}
+use Rattle.std.specs.{Prelude.if◌then◌else◌, List.All}
+use Rattle.do_base.specs.{values.Kinds.text, declared.values.value.Value.{Value, List}}
 use Rattle.do_base.specs.declared.values.value.Value.TheVariants.{Text}
-use Rattle.do_native_acts.specs.Rows.{list_in}
-use Rattle.do_native_acts.specs.Types.{are_types, types_in}
+use Rattle.do_native_acts.specs.{Rows.list_in, Types.{are_types, types_in}}
 use Rattle.do_native_acts.specs.laws.KeptLaws.{each_holds}
 use Rattle.do_native_acts.specs.laws.KindLaws.{found_of, passed, text_of_Text, text_read, then_is}
 use Rattle.do_native_acts.specs.laws.RowLaws.{list_back, list_shown}

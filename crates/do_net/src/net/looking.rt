@@ -3,8 +3,7 @@ ghost use Rattle.std.specs.Prelude.{◌≡◌, IfOk, IfSome, false, map, option_
 ghost use Rattle.std.specs.Option.{option_copied};
 ghost use Rattle.do_machine.specs.run.Run.{Acting};
 ghost use Rattle.do_network.specs.Net.{channel, net_ports, part_at};
-ghost use Rattle.do_net.specs.Hosts.{net_is_open};
-ghost use Rattle.do_net.specs.Net.{Stands, network};
+ghost use Rattle.do_net.specs.{Hosts.net_is_open, Net.{Stands, network}};
 
 use super::Net;
 use crate::hosted::Hosted;

@@ -1,22 +1,17 @@
 -- When a network of sites stands for a state of the machine.
+use Rattle.std.specs.FinMap as map_of
 use Rattle.std.specs.Prelude.{List, Some, false, is_some, map, nat_lt, option_map, true, ℕ, ◌==◌}
 use Rattle.std.specs.Prelude.{◌≡◌}
-use Rattle.std.specs.FinMap as map_of
 use Rattle.do_base.specs.names.Names.{ObjectName, TokenName}
 use Rattle.do_class.specs.Class.{Class}
 use Rattle.do_export.specs.Counts.{count_of}
 use Rattle.do_import.specs.ByObject.{object_of}
-use Rattle.do_machine.specs.declared.state.State.{State}
-use Rattle.do_machine.specs.Context.{around}
+use Rattle.do_machine.specs.{declared.state.State.State, Context.around}
 use Rattle.do_machine.specs.State.{holds, is_open, node, ports, queue}
 use Rattle.do_network.specs.Links.{Link, Part, link_to}
-use Rattle.do_network.specs.Net.{Channel, Net, channel, net_ports, part_at}
-use Rattle.do_network.specs.Own.{Own, class_kept}
-use Rattle.do_network.specs.fits.Calls.{OneCall}
-use Rattle.do_network.specs.fits.Channels.{Carries}
-use Rattle.do_network.specs.fits.Counted.{Counted}
-use Rattle.do_network.specs.fits.Lends.{OneAsk, OneLend}
-use Rattle.do_network.specs.fits.Notes.{Note}
+use Rattle.do_network.specs.{Net.{Channel, Net, channel, net_ports, part_at}, Own.{Own, class_kept}}
+use Rattle.do_network.specs.fits.{Calls.OneCall, Channels.Carries, Counted.Counted}
+use Rattle.do_network.specs.fits.{Lends.{OneAsk, OneLend}, Notes.Note}
 
 -- A site's own state is that of the machine's node: it holds what it received, and its classes are
 -- those of the machine for what it holds or asked for

@@ -1,8 +1,7 @@
 -- What the laws of streams speak of.
 use Rattle.std.specs.Prelude.{ℕ}
 use Rattle.do_frames.specs.Frames.{raw}
-use Rattle.do_network.specs.Frames.{Posted}
-use Rattle.do_network.specs.Links.{Framed, Greeting, Link, Sending}
+use Rattle.do_network.specs.{Frames.Posted, Links.{Framed, Greeting, Link, Sending}}
 
 -- the greeting, sent to a peer
 abbrev pub greeting_to : ℕ → Sending

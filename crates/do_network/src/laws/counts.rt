@@ -3,13 +3,9 @@ ghost use Rattle.do_base.specs.names.Names.{ObjectName};
 ghost use Rattle.do_class.specs.declared.ids.ClassId.{ClassId};
 ghost use Rattle.do_export.specs.Counts.{Counts, count_of};
 ghost use Rattle.do_frames.specs.declared.frame.Frame.TheVariants.{Release};
-ghost use Rattle.do_machine.specs.declared.item.Item.{Item};
-ghost use Rattle.do_machine.specs.declared.state.Effect.{Effect};
-ghost use Rattle.do_machine.specs.declared.state.Parcel.{Parcel};
-ghost use Rattle.do_machine.specs.Items.{exported};
-ghost use Rattle.do_machine.specs.State.{is_known, is_open};
-ghost use Rattle.do_network.specs.Counting.{got, named_to};
-ghost use Rattle.do_network.specs.Own.{Own, class_kept};
+ghost use Rattle.do_machine.specs.declared.{item.Item.Item, state.{Effect.Effect, Parcel.Parcel}};
+ghost use Rattle.do_machine.specs.{Items.exported, State.{is_known, is_open}};
+ghost use Rattle.do_network.specs.{Counting.{got, named_to}, Own.{Own, class_kept}};
 ghost use Rattle.do_network.specs.Site.{released_by, site_move};
 
 /// Each name of an own object counts for the peer as soon as it is sent.

@@ -1,23 +1,14 @@
-ghost use Rattle.std.specs.Prelude.{◌≡◌, ◌==◌, ◌∷◌, ℕ, List, None, Some, false, true};
-ghost use Rattle.do_class.specs.Class.{Class};
-ghost use Rattle.do_class.specs.Table.{IsTable};
-ghost use Rattle.do_frames.specs.declared.frame.RawFrame.{RawFrame};
-ghost use Rattle.do_machine.specs.declared.state.State.{State};
-ghost use Rattle.do_machine.specs.declared.state.Seat.{Seat};
-ghost use Rattle.do_machine.specs.Context.{context};
-ghost use Rattle.do_machine.specs.State.{is_open};
-ghost use Rattle.do_machine.specs.World.{opening};
-ghost use Rattle.do_machine.specs.run.Run.{Acting};
-ghost use Rattle.do_machine.specs.take.Take.{can_take};
-ghost use Rattle.do_network.specs.declared.input.Done.TheVariants.{Moved};
 ghost use Rattle.do_network.specs.declared.input.Input.TheVariants as inputs;
-ghost use Rattle.do_network.specs.Faults.{peer_fault};
-ghost use Rattle.do_network.specs.Links.{Part};
-ghost use Rattle.do_network.specs.Net.{Carried, Channel, Net, Whole, channel, net_opening, part_at};
-ghost use Rattle.do_network.specs.Own.{site_context};
-ghost use Rattle.do_network.specs.Site.{site_step};
-ghost use Rattle.do_network.specs.fits.Fits.{Fits};
-ghost use Rattle.do_network.specs.fits.Notes.{Note, note_frame};
+ghost use Rattle.std.specs.Prelude.{◌≡◌, ◌==◌, ◌∷◌, ℕ, List, None, Some, false, true};
+ghost use Rattle.do_class.specs.{Class.Class, Table.IsTable};
+ghost use Rattle.do_frames.specs.declared.frame.RawFrame.{RawFrame};
+ghost use Rattle.do_machine.specs.{declared.state.{State.State, Seat.Seat}, Context.context};
+ghost use Rattle.do_machine.specs.{State.is_open, World.opening, run.Run.Acting};
+ghost use Rattle.do_machine.specs.take.Take.{can_take};
+ghost use Rattle.do_network.specs.{declared.input.Done.TheVariants.Moved, Faults.peer_fault};
+ghost use Rattle.do_network.specs.{Links.Part, Net.{Carried, Channel, Net, Whole, channel}};
+ghost use Rattle.do_network.specs.{Net.{net_opening, part_at}, Own.site_context, Site.site_step};
+ghost use Rattle.do_network.specs.fits.{Fits.Fits, Notes.{Note, note_frame}};
 
 /// A network of sites opens as the machine does, over every list of nodes.
 pub fn opening_fits()

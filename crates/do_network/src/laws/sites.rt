@@ -1,16 +1,10 @@
 ghost use Rattle.std.specs.Prelude.{◌≡◌, ◌==◌, ℕ, List, Some, false};
 ghost use Rattle.do_class.specs.Class.{Class};
-ghost use Rattle.do_machine.specs.declared.state.State.{State};
-ghost use Rattle.do_machine.specs.Context.{context};
-ghost use Rattle.do_machine.specs.run.Run.{Acting};
-ghost use Rattle.do_network.specs.declared.input.Done.TheVariants.{Skipped};
-ghost use Rattle.do_network.specs.declared.input.Input.{Input};
-ghost use Rattle.do_network.specs.Links.{Part};
-ghost use Rattle.do_network.specs.Net.{Net, part_at};
-ghost use Rattle.do_network.specs.Own.{Own, site_context};
+ghost use Rattle.do_machine.specs.{declared.state.State.State, Context.context, run.Run.Acting};
+ghost use Rattle.do_network.specs.declared.input.{Done.TheVariants.Skipped, Input.Input};
+ghost use Rattle.do_network.specs.{Links.Part, Net.{Net, part_at}, Own.{Own, site_context}};
 ghost use Rattle.do_network.specs.Site.{Handled, enabled_input, passed, site_step};
-ghost use Rattle.do_network.specs.Step.{net_moved};
-ghost use Rattle.do_network.specs.laws.Sites.{IsDone, SeesAs};
+ghost use Rattle.do_network.specs.{Step.net_moved, laws.Sites.{IsDone, SeesAs}};
 
 /// An input that is skipped changes nothing, and nothing is sent or shown.
 pub fn skipped_changes_nothing()

@@ -1,9 +1,6 @@
 ghost use Rattle.std.specs.Prelude.{◌≡◌, ◌∷◌, [], ℕ, Some, false, length, nat_lt, take, true};
-ghost use Rattle.do_network.specs.Frames.{Posted};
-ghost use Rattle.do_network.specs.Links.{Link, sendings};
-ghost use Rattle.do_network.specs.Net.{Channel};
-ghost use Rattle.do_network.specs.Step.{with_loss};
-ghost use Rattle.do_network.specs.laws.Streams.{framed_to, greeting_to};
+ghost use Rattle.do_network.specs.{Frames.Posted, Links.{Link, sendings}, Net.Channel};
+ghost use Rattle.do_network.specs.{Step.with_loss, laws.Streams.{framed_to, greeting_to}};
 
 /// A greeting goes before the first frame that is sent to a peer, and before no other.
 pub fn streams_begin_with_the_greeting()

@@ -1,13 +1,10 @@
 -- What packing has done once it has gone through some of the copies.
 use Rattle.std.specs.Prelude.{◌≡◌, ◌≤◌, ℕ, List, [], ◌+◌, fold, length, map, take}
 use Rattle.do_base.specs.names.Names.{ObjectName}
-use Rattle.do_class.specs.declared.packet.Copied.{Copied}
-use Rattle.do_class.specs.declared.packet.Part.{Part}
+use Rattle.do_class.specs.declared.packet.{Copied.Copied, Part.Part}
 use Rattle.do_packet.specs.Copies.{Placed, grown, most_copies, names_with}
 use Rattle.do_packet.specs.Packing.{Naming, capped, copied_of, message_weight, name_next, part_at}
-use Rattle.do_packet.specs.Seen.{Sender}
-use Rattle.do_packet.specs.walk.Walking.{IsPrefix}
-use Rattle.do_packet.specs.declared.packing.walk.Walk.{Walk}
+use Rattle.do_packet.specs.{Seen.Sender, walk.Walking.IsPrefix, declared.packing.walk.Walk.Walk}
 
 -- the values and the slots of the first k copies are gone through
 pub record Reached (s : Sender) (values : List Placed) (k : ℕ) (copies names : List ObjectName)

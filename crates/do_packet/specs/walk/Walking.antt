@@ -1,8 +1,7 @@
 -- What a walk over values has met, and what it has made of them.
 use Rattle.std.specs.Prelude.{◌≡◌, List, ◌++◌}
 use Rattle.do_base.specs.names.Names.{ObjectName}
-use Rattle.do_packet.specs.Met.{met}
-use Rattle.do_packet.specs.declared.packing.walk.Walk.{Walk}
+use Rattle.do_packet.specs.{Met.met, declared.packing.walk.Walk.Walk}
 
 -- ys begins as xs
 abbrev pub IsPrefix : List ObjectName → List ObjectName → Type 0

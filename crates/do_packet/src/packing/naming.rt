@@ -1,8 +1,5 @@
-ghost use Rattle.std.specs.Prelude.{◌≡◌, ◌<◌, ◌≤◌, ◌^◌, length, IfOk};
-ghost use Rattle.std.specs.List.{All};
-ghost use Rattle.std.specs.Option.{IsSome};
-ghost use Rattle.do_packet.specs.Packing.{names_to};
-ghost use Rattle.do_packet.specs.Seen.{sender};
+ghost use Rattle.std.specs.{Prelude.{◌≡◌, ◌<◌, ◌≤◌, ◌^◌, length, IfOk}, List.All, Option.IsSome};
+ghost use Rattle.do_packet.specs.{Packing.names_to, Seen.sender};
 
 use crate::view::View;
 use do_base::{Items, NodeId, Oid};

@@ -1,10 +1,7 @@
-ghost use Rattle.std.specs.Prelude.{◌≡◌, [], length, IfOk, map};
-ghost use Rattle.std.specs.Option.{IsSome};
+ghost use Rattle.std.specs.{Prelude.{◌≡◌, [], length, IfOk, map}, Option.IsSome};
 ghost use Rattle.std.specs.List.{flat_map, zip};
 ghost use Rattle.do_packet.specs.Copies.{copied_at, named_at, slots_at};
-ghost use Rattle.do_packet.specs.Packing.{copied_of, part_at};
-ghost use Rattle.do_packet.specs.Seen.{sender};
-ghost use Rattle.do_packet.specs.walk.Walking.{Walked};
+ghost use Rattle.do_packet.specs.{Packing.{copied_of, part_at}, Seen.sender, walk.Walking.Walked};
 
 use super::walk::Walk;
 use crate::view::View;

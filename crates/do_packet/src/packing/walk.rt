@@ -1,9 +1,6 @@
-ghost use Rattle.std.specs.Prelude.{◌≡◌, [], IfOk, map};
-ghost use Rattle.std.specs.List.{flat_map};
+ghost use Rattle.std.specs.{Prelude.{◌≡◌, [], IfOk, map}, List.flat_map};
 ghost use Rattle.do_base.specs.declared.values.value.Value.TheVariants.{Obj};
-ghost use Rattle.do_packet.specs.Met.{copied_in, named_in};
-ghost use Rattle.do_packet.specs.Parts.{part_of};
-ghost use Rattle.do_packet.specs.walk.Walking.{Walked};
+ghost use Rattle.do_packet.specs.{Met.{copied_in, named_in}, Parts.part_of, walk.Walking.Walked};
 
 use super::met_objects::MetObjects;
 use crate::role::{Role, role_at};

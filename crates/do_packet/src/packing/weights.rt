@@ -1,8 +1,6 @@
 ghost use Rattle.std.specs.Prelude.{◌≡◌, ◌+◌, sum_by};
 ghost use Rattle.do_base.specs.values.Values.{weight_of};
-ghost use Rattle.do_packet.specs.Copies.{slot_values};
-ghost use Rattle.do_packet.specs.Packing.{capped};
-ghost use Rattle.do_packet.specs.Seen.{sender};
+ghost use Rattle.do_packet.specs.{Copies.slot_values, Packing.capped, Seen.sender};
 
 use crate::view::View;
 use do_base::{NodeId, Oid, Value, Values};

@@ -1,7 +1,6 @@
 //! Names that stand in no value: those that peers were sent, and those that lends and asks are.
 ghost use Rattle.std.specs.Prelude.{◌≡◌, ◌+◌, ◌<◌};
-ghost use Rattle.do_part.specs.Holding.{CanCome, HasCome, most_names};
-ghost use Rattle.do_part.specs.Rooting.{root_of};
+ghost use Rattle.do_part.specs.{Holding.{CanCome, HasCome, most_names}, Rooting.root_of};
 
 use crate::holders::Holders;
 use crate::tally::Tally;

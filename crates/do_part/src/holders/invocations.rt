@@ -1,8 +1,7 @@
 //! The names in invocations, counted or taken off.
 ghost use Rattle.do_machine.specs.held.Refers.{answer_values, state_values};
 ghost use Rattle.do_stack.specs.Uses.{invocation_values};
-ghost use Rattle.do_part.specs.Names.{values_of, sizes_of};
-ghost use Rattle.do_part.specs.Holding.{CanTally, Tallied};
+ghost use Rattle.do_part.specs.{Names.{values_of, sizes_of}, Holding.{CanTally, Tallied}};
 
 use crate::holders::Holders;
 use crate::tally::Tally;

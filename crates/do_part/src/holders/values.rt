@@ -1,7 +1,6 @@
 //! The names in values, counted or taken off.
 ghost use Rattle.do_part.specs.Names.{counted, value_of, values_of, size_of, sizes_of};
-ghost use Rattle.do_part.specs.Holding.{CanTally, Tallied};
-ghost use Rattle.do_part.specs.Rooting.{root_of, root_size};
+ghost use Rattle.do_part.specs.{Holding.{CanTally, Tallied}, Rooting.{root_of, root_size}};
 
 use crate::holders::Holders;
 use crate::tally::Tally;

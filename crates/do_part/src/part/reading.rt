@@ -1,16 +1,12 @@
 //! What a part tells.
-ghost use Rattle.std.specs.Prelude.{◌≡◌, ◌-◌, ◌^◌, ◌<◌, ◌≤◌, ℕ, nat_lt, true, None, Some};
-ghost use Rattle.std.specs.Prelude.{MatchOption, length};
-ghost use Rattle.std.specs.Prelude.{slice_get, IsSome, IfOk, map as each};
-ghost use Rattle.std.specs.Option.{option_copied};
 ghost use Rattle.std.specs.FinMap as map;
+ghost use Rattle.std.specs.Prelude.{◌≡◌, ◌-◌, ◌^◌, ◌<◌, ◌≤◌, ℕ, nat_lt, true, None, Some};
+ghost use Rattle.std.specs.Prelude.{MatchOption, length, slice_get, IsSome, IfOk, map as each};
+ghost use Rattle.std.specs.Option.{option_copied};
 ghost use Rattle.do_export.specs.Counts.{count_of};
-ghost use Rattle.do_machine.specs.Lists.{IsIn};
-ghost use Rattle.do_machine.specs.declared.node.Stored.{Stored};
-ghost use Rattle.do_machine.specs.State.{is_known, is_open, own, stored};
-ghost use Rattle.do_machine.specs.take.Take.{can_serve, can_take};
-ghost use Rattle.do_part.specs.Names.{heap_of, stack_of};
-ghost use Rattle.do_part.specs.Names.{AreStored};
+ghost use Rattle.do_machine.specs.{Lists.IsIn, declared.node.Stored.Stored, State.is_known};
+ghost use Rattle.do_machine.specs.{State.{is_open, own, stored}, take.Take.{can_serve, can_take}};
+ghost use Rattle.do_part.specs.Names.{heap_of, stack_of, AreStored};
 
 use super::Part;
 use do_base::{NodeId, Oid, Oids, Peers, Values};

@@ -1,54 +1,34 @@
 -- A pasteboard names only what was shown, and answers well.
-use Rattle.std.proofs.Common.{◌≡◌, ℕ, ◌<◌, pos, true, List as Listed, [], ◌∷◌}
-use Rattle.std.proofs.Common.{Option, Some, None, refl, subst, arith, length}
-use Rattle.std.specs.Prelude.{◌++◌, codes}
-use Rattle.std.specs.Option.{IfSome, IsSome}
-use Rattle.std.specs.Prelude.{slice_get, option_and_then}
-use Rattle.std.specs.Str.{bytes_eq}
-use Rattle.std.proofs.lemmas.List.Elements.{All-nil, All-cons}
-use Rattle.std.proofs.lemmas.Option.{slice_get_within}
-use Rattle.do_base.specs.names.Names.{ObjectName}
-use Rattle.do_base.specs.values.Kinds.{text, number, object}
-use Rattle.do_base.specs.declared.values.value.Value.{Value}
-use Rattle.do_base.specs.declared.values.value.Value.TheVariants.{Nil, Text, Obj}
-use Rattle.do_class.specs.Class.{Class}
-use Rattle.do_class.specs.Table.{class_at}
-use Rattle.do_grammar.specs.Names.{is_selector}
-use Rattle.do_grammar.specs.Words.{◌>>?◌}
-use Rattle.do_behave.specs.Answers.{AnswersWell, NamesShown}
-use Rattle.do_behave.specs.Limits.{IsLimited}
-use Rattle.do_behave.specs.Parts.{WeighsWithin}
-use Rattle.do_behave.specs.Ready.{IsReady}
-use Rattle.do_behave.specs.Steps.{local}
-use Rattle.do_behave.specs.declared.invocation.Invocation.{Invocation}
-use Rattle.do_behave.specs.declared.act.Act.{Act}
-use Rattle.do_behave.specs.declared.act.Act.TheVariants.{New, Raise}
+use Rattle.std.proofs.Common.{◌≡◌, ℕ, ◌<◌, pos, true, List as Listed, [], ◌∷◌, Option, Some, None}
+use Rattle.std.{proofs.Common.{refl, subst, arith, length}, specs.Prelude.{◌++◌, codes, slice_get}}
+use Rattle.std.specs.{Prelude.option_and_then, Option.{IfSome, IsSome}, Str.bytes_eq}
+use Rattle.std.proofs.lemmas.{List.Elements.{All-nil, All-cons}, Option.slice_get_within}
+use Rattle.do_base.specs.{names.Names.ObjectName, values.Kinds.{text, number, object}}
+use Rattle.do_base.specs.declared.values.value.Value.{Value, TheVariants.{Nil, Text, Obj}}
+use Rattle.do_class.specs.{Class.Class, Table.class_at}
+use Rattle.do_grammar.specs.{Names.is_selector, Words.◌>>?◌}
+use Rattle.do_behave.specs.{Answers.{AnswersWell, NamesShown}, Limits.IsLimited, Parts.WeighsWithin}
+use Rattle.do_behave.specs.{Ready.IsReady, Steps.local, declared.invocation.Invocation.Invocation}
+use Rattle.do_behave.specs.declared.act.Act.{Act, TheVariants.{New, Raise}}
 use Rattle.do_base.specs.declared.events.exception.Exc.TheVariants.{Range}
-use Rattle.do_behave.specs.declared.change.LocalSet.{LocalSet}
-use Rattle.do_behave.specs.laws.Sound.{get_kept}
-use Rattle.do_native_acts.specs.Limited.{is_limited}
-use Rattle.do_native_acts.specs.Places.{at_place, sends}
-use Rattle.do_native_acts.specs.Steps.{caught_to, set, steps}
-use Rattle.do_native_acts.specs.laws.FoundLaws.{of_chosen}
+use Rattle.do_behave.specs.{declared.change.LocalSet.LocalSet, laws.Sound.get_kept}
+use Rattle.do_native_acts.specs.{Limited.is_limited, Places.{at_place, sends}}
+use Rattle.do_native_acts.specs.{Steps.{caught_to, set, steps}, laws.FoundLaws.of_chosen}
 use Rattle.do_native_acts.specs.laws.GoodActs.{IsGood, MayGood, choice_good, fits_good, fits_kept}
 use Rattle.do_native_acts.specs.laws.GoodActs.{places_good, range_good, returns_good, selector_good}
 use Rattle.do_native_acts.specs.laws.GoodActs.{sends_good, then_good}
 use Rattle.do_native_acts.specs.laws.GoodSteps.{SetsNamed, answers_good, keeps_good, sets_good}
 use Rattle.do_native_acts.specs.laws.NamedValues.{EachNamed, Named, NamedObject, local_object}
-use Rattle.do_native_acts.specs.laws.NamedValues.{nil_named}
-use Rattle.do_native_acts.specs.laws.NamedValues.{number_named, text_named}
-use Rattle.do_native_acts.specs.Types.{types_in}
-use Rattle.do_native_acts.specs.Owners.{owner_in}
+use Rattle.do_native_acts.specs.laws.NamedValues.{nil_named, number_named, text_named}
+use Rattle.do_native_acts.specs.{Types.types_in, Owners.owner_in}
 use Rattle.do_table.specs.Entries.{value_of}
 use Rattle.do_pboard.specs.Acts.{answers, asks, changed_owner, data_places, declare_next}
-use Rattle.do_pboard.specs.Acts.{declare_places, declares, found_now, look_next, look_sets}
-use Rattle.do_pboard.specs.Acts.{looks, looks_again, makes_next, method_act, name_next, name_places}
+use Rattle.do_pboard.specs.Acts.{declare_places, declares, found_now, look_next, look_sets, looks}
+use Rattle.do_pboard.specs.Acts.{looks_again, makes_next, method_act, name_next, name_places}
 use Rattle.do_pboard.specs.Acts.{names_keep, names_look, pasteboard_act, provide, to_tell}
-use Rattle.do_pboard.specs.Calls.{call_in, does}
-use Rattle.do_pboard.specs.Changes.{data_for, keeps}
+use Rattle.do_pboard.specs.{Calls.{call_in, does}, Changes.{data_for, keeps}}
 use Rattle.do_pboard.specs.Core.{Pasteboard, boards_slot, from_slots, to_slots}
-use Rattle.do_pboard.specs.declared.board.BoardData.{BoardData}
-use Rattle.do_pboard.specs.declared.board.BoardData.TheVariants.{Here, Ask, Absent}
+use Rattle.do_pboard.specs.declared.board.BoardData.{BoardData, TheVariants.{Here, Ask, Absent}}
 use Rattle.do_pboard.specs.declared.calls.Call.TheVariants.{Declare}
 use Rattle.do_pboard.specs.laws.NamedParts.{NamedCall, NamedCore, NamedData, NamedDone, NamedKept}
 use Rattle.do_pboard.specs.laws.NamedParts.{NamedOwner, board_found, call_named, core_from, core_to}

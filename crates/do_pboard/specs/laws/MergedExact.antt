@@ -1,17 +1,11 @@
 -- Types with their data are read as they were shown, and only so.
-use Rattle.std.proofs.Common.{◌≡◌, ℕ, Bool, true, false}
-use Rattle.std.proofs.Common.{List as Listed, [], ◌∷◌, Option, Some, None, refl, sym, ◌∙◌, ap}
-use Rattle.std.specs.Prelude.{if◌then◌else◌, cond}
-use Rattle.std.specs.Map.{keys_of}
-use Rattle.std.specs.Str.{bytes_eq}
-use Rattle.std.proofs.lemmas.Slice.Eq.{bytes_eq-Decides}
+use Rattle.std.proofs.Common.{◌≡◌, ℕ, Bool, true, false, List as Listed, [], ◌∷◌, Option, Some}
+use Rattle.std.{proofs.Common.{None, refl, sym, ◌∙◌, ap}, specs.Prelude.{if◌then◌else◌, cond}}
+use Rattle.std.{specs.{Map.keys_of, Str.bytes_eq}, proofs.lemmas.Slice.Eq.bytes_eq-Decides}
 use Rattle.do_native_acts.specs.laws.KindLaws.{some_same, mapped_of}
 use Rattle.do_table.specs.Entries.{value_of, are_distinct}
 use Rattle.do_table.specs.laws.TableLaws.{first_alone, same_name}
-use Rattle.do_pboard.specs.Core.{Declared, Content}
-use Rattle.do_pboard.specs.Core.{contents, in_front}
-use Rattle.do_pboard.specs.Core.{merged}
-use Rattle.do_pboard.specs.Core.{with_content}
+use Rattle.do_pboard.specs.Core.{Declared, Content, contents, in_front, merged, with_content}
 
 -- a text has its own bytes
 own_bytes : (s : Listed ℕ) → bytes_eq s s ≡ true

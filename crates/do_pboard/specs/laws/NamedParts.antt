@@ -1,49 +1,32 @@
 -- The objects of a pasteboard, of its calls and of what they answer may be named.
 use Rattle.std.proofs.Common.{◌≡◌, ℕ, ℤ, pos, Bool, true, false, List as Listed, [], ◌∷◌, Option}
 use Rattle.std.proofs.Common.{Some, None, map, sym, subst, length}
-use Rattle.std.specs.Prelude.{◌++◌, codes, nat_le, nat_lt, slice_get}
-use Rattle.std.specs.Ordering.{int_eq}
-use Rattle.std.specs.List.{All}
-use Rattle.std.specs.Map.{keys_of}
-use Rattle.std.specs.Option.{IfSome}
-use Rattle.std.specs.Str.{bytes_eq}
-use Rattle.std.proofs.lemmas.List.Elements.{All-push}
-use Rattle.std.proofs.lemmas.Map.Entries.{All-lookup}
-use Rattle.do_base.specs.names.Names.{ObjectName}
-use Rattle.do_base.specs.values.Kinds.{text, number}
-use Rattle.do_base.specs.declared.values.value.Value.{Value}
-use Rattle.do_base.specs.declared.values.value.Value.TheVariants.{Nil, Num, Text, Obj}
+use Rattle.std.specs.{Prelude.{◌++◌, codes, nat_le, nat_lt, slice_get}, Ordering.int_eq, List.All}
+use Rattle.std.specs.{Map.keys_of, Option.IfSome, Str.bytes_eq}
+use Rattle.std.proofs.lemmas.{List.Elements.All-push, Map.Entries.All-lookup}
+use Rattle.do_base.specs.{names.Names.ObjectName, values.Kinds.{text, number}}
+use Rattle.do_base.specs.declared.values.value.Value.{Value, TheVariants.{Nil, Num, Text, Obj}}
 use Rattle.do_grammar.specs.Words.{◌>>?◌}
-use Rattle.do_behave.specs.Numbers.{truth}
-use Rattle.do_behave.specs.Steps.{local}
-use Rattle.do_behave.specs.declared.invocation.Invocation.{Invocation}
-use Rattle.do_native_acts.specs.Rows.{list_in}
-use Rattle.do_native_acts.specs.laws.FoundLaws.{if_chosen, if_found, if_mapped, if_room, of_chosen}
-use Rattle.do_native_acts.specs.laws.KindLaws.{found_of}
+use Rattle.do_behave.specs.{Numbers.truth, Steps.local, declared.invocation.Invocation.Invocation}
+use Rattle.do_native_acts.specs.{Rows.list_in, laws.FoundLaws.{if_chosen, if_found, if_mapped}}
+use Rattle.do_native_acts.specs.laws.{FoundLaws.{if_room, of_chosen}, KindLaws.found_of}
 use Rattle.do_native_acts.specs.laws.NamedValues.{EachNamed, Named, NamedObject, core_read}
-use Rattle.do_native_acts.specs.laws.NamedValues.{each_named}
-use Rattle.do_native_acts.specs.laws.NamedValues.{list_named, list_of_parts, local_found, nil_named}
-use Rattle.do_native_acts.specs.laws.NamedValues.{number_named, parts_of_list, rows_named}
-use Rattle.do_native_acts.specs.laws.NamedValues.{slot_from}
-use Rattle.do_native_acts.specs.laws.NamedValues.{slot_to, text_named}
-use Rattle.do_native_acts.specs.Types.{types_in}
-use Rattle.do_native_acts.specs.Owners.{owner_in}
+use Rattle.do_native_acts.specs.laws.NamedValues.{each_named, list_named, list_of_parts}
+use Rattle.do_native_acts.specs.laws.NamedValues.{local_found, nil_named, number_named}
+use Rattle.do_native_acts.specs.laws.NamedValues.{parts_of_list, rows_named, slot_from, slot_to}
+use Rattle.do_native_acts.specs.{laws.NamedValues.text_named, Types.types_in, Owners.owner_in}
 use Rattle.do_table.specs.Entries.{value_of, replaced}
-use Rattle.do_pboard.specs.Acts.{found_now, if_here, to_tell}
-use Rattle.do_pboard.specs.Calls.{adds_types, as_number, as_object, asks_available, call_in, does}
-use Rattle.do_pboard.specs.Calls.{sets_data, text_or_nil, with_count}
-use Rattle.do_pboard.specs.Changes.{available, can_grow, data_for, declared, extended, few_types}
-use Rattle.do_pboard.specs.Changes.{found, held, is_owned, keep_at, keeps, same_owner, supplied}
-use Rattle.do_pboard.specs.Changes.{takes, with_all, with_types}
+use Rattle.do_pboard.specs.{Acts.{found_now, if_here, to_tell}, Calls.{adds_types, as_number}}
+use Rattle.do_pboard.specs.Calls.{as_object, asks_available, call_in, does, sets_data, text_or_nil}
+use Rattle.do_pboard.specs.{Calls.with_count, Changes.{available, can_grow, data_for, declared}}
+use Rattle.do_pboard.specs.Changes.{extended, few_types, found, held, is_owned, keep_at, keeps}
+use Rattle.do_pboard.specs.Changes.{same_owner, supplied, takes, with_all, with_types}
 use Rattle.do_pboard.specs.Core.{Pasteboard, Content, Declared, NamedBoard, board_row, content_row}
 use Rattle.do_pboard.specs.Core.{contents, count_value, from_slots, owner_value, to_slots}
-use Rattle.do_pboard.specs.declared.board.BoardData.{BoardData}
-use Rattle.do_pboard.specs.declared.board.BoardData.TheVariants.{Here, Ask, Absent}
-use Rattle.do_pboard.specs.declared.calls.Call.{Call}
-use Rattle.do_pboard.specs.declared.calls.Call.TheVariants.{Declare, AddTypes, SetData, Available}
-use Rattle.do_pboard.specs.declared.calls.Call.TheVariants.{Types, ChangeCount, Keep}
-use Rattle.do_pboard.specs.laws.PartsExact.{owner_back}
-use Rattle.do_pboard.specs.laws.SlotsExact.{read_back}
+use Rattle.do_pboard.specs.declared.board.BoardData.{BoardData, TheVariants.{Here, Ask, Absent}}
+use Rattle.do_pboard.specs.declared.calls.Call.{Call, TheVariants.{Declare, AddTypes, SetData}}
+use Rattle.do_pboard.specs.declared.calls.Call.TheVariants.{Available, Types, ChangeCount, Keep}
+use Rattle.do_pboard.specs.laws.{PartsExact.owner_back, SlotsExact.read_back}
 
 module _ (inv : Invocation) (slots : Listed Value) where
   -- an object that may be named, here

@@ -2,24 +2,16 @@
 -- only so.
 use Rattle.std.proofs.Common.{◌≡◌, ℕ, zero, suc, ℤ, pos, negsuc, Bool, true, false, nat_lt}
 use Rattle.std.proofs.Common.{List as Listed, [], ◌∷◌, Option, Some, None, refl, sym, ◌∙◌, ap}
-use Rattle.std.proofs.Common.{rules, true≢false, arith}
-use Rattle.std.specs.Prelude.{if◌then◌else◌}
-use Rattle.std.specs.List.{All}
+use Rattle.std.{proofs.Common.{rules, true≢false, arith}, specs.{Prelude.if◌then◌else◌, List.All}}
 use Rattle.std.proofs.lemmas.Bool.{lt-ltb}
-use Rattle.do_base.specs.names.Names.{ObjectName}
-use Rattle.do_base.specs.values.Induction.{value_induction}
-use Rattle.do_base.specs.values.Kinds.{text, object}
-use Rattle.do_base.specs.declared.values.value.Value.{Value, List, the_lemmas}
-use Rattle.do_base.specs.declared.values.value.Value.TheVariants.{Nil, Num, Text, Obj}
-use Rattle.do_native_acts.specs.laws.KeptLaws.{each_holds}
-use Rattle.do_native_acts.specs.laws.KindLaws.{some_same, text_of_Text, object_of_Obj}
-use Rattle.do_native_acts.specs.laws.KindLaws.{text_read, object_read}
-use Rattle.do_native_acts.specs.laws.RowLaws.{pair_shown, pair_back}
-use Rattle.do_native_acts.specs.Owners.{owner_in}
-use Rattle.do_pboard.specs.Core.{Content, NamedBoard}
-use Rattle.do_pboard.specs.Core.{board_in, board_row, content_in}
-use Rattle.do_pboard.specs.Core.{content_row, count_in, count_value}
-use Rattle.do_pboard.specs.Core.{owner_value}
+use Rattle.do_base.specs.{names.Names.ObjectName, values.Induction.value_induction}
+use Rattle.do_base.specs.{values.Kinds.{text, object}, declared.values.value.Value.{Value, List}}
+use Rattle.do_base.specs.declared.values.value.Value.{the_lemmas, TheVariants.{Nil, Num, Text, Obj}}
+use Rattle.do_native_acts.specs.laws.{KeptLaws.each_holds, KindLaws.{some_same, text_of_Text}}
+use Rattle.do_native_acts.specs.laws.KindLaws.{object_of_Obj, text_read, object_read}
+use Rattle.do_native_acts.specs.{laws.RowLaws.{pair_shown, pair_back}, Owners.owner_in}
+use Rattle.do_pboard.specs.Core.{Content, NamedBoard, board_in, board_row, content_in, content_row}
+use Rattle.do_pboard.specs.Core.{count_in, count_value, owner_value}
 
 -- nil is the change count 0
 count_of_Nil : count_in Nil ≡ Some 0

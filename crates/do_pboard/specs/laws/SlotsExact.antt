@@ -1,33 +1,22 @@
 -- The slots of a pasteboard are read as it, and only slots of a pasteboard are read.
-use Rattle.std.proofs.Common.{◌≡◌, ℕ, Bool, true, ◌&&◌, nat_lt}
-use Rattle.std.proofs.Common.{List as Listed, [], ◌∷◌, Option, Some, None, map, refl, sym, ◌∙◌, ap}
-use Rattle.std.proofs.Common.{subst, IsTrue, not}
-use Rattle.std.specs.Prelude.{if◌then◌else◌, length, nat_le, ◌^◌}
-use Rattle.std.specs.List.{list_all, list_any}
-use Rattle.std.specs.Map.{keys_of}
-use Rattle.std.specs.Option.{IfSome}
-use Rattle.std.specs.Str.{bytes_eq}
-use Rattle.std.proofs.lemmas.Bool.{and_parts, and_from}
-use Rattle.std.proofs.lemmas.Map.Made.{is_some-lookup}
-use Rattle.do_base.specs.values.Kinds.{text}
-use Rattle.do_base.specs.declared.values.value.Value.{Value}
-use Rattle.do_base.specs.declared.values.value.Value.TheVariants.{Text}
+use Rattle.do_native_acts.specs.Types as texts
+use Rattle.std.proofs.Common.{◌≡◌, ℕ, Bool, true, ◌&&◌, nat_lt, List as Listed, [], ◌∷◌, Option}
+use Rattle.std.proofs.Common.{Some, None, map, refl, sym, ◌∙◌, ap, subst, IsTrue, not}
+use Rattle.std.specs.{Prelude.{if◌then◌else◌, length, nat_le, ◌^◌}, List.{list_all, list_any}}
+use Rattle.std.specs.{Map.keys_of, Option.IfSome, Str.bytes_eq}
+use Rattle.std.proofs.lemmas.{Bool.{and_parts, and_from}, Map.Made.is_some-lookup}
+use Rattle.do_base.specs.{values.Kinds.text, declared.values.value.Value.{Value, TheVariants.Text}}
 use Rattle.do_native_acts.specs.Rows.{rows_in, listed}
 use Rattle.do_native_acts.specs.laws.KindLaws.{found_of, passed, text_read, then_is}
-use Rattle.do_native_acts.specs.laws.RowLaws.{read_shown, shown_read}
-use Rattle.do_native_acts.specs.Types as texts
-use Rattle.do_native_acts.specs.Types.{are_types, is_type}
-use Rattle.do_native_acts.specs.Owners.{owner_in}
-use Rattle.do_native_acts.specs.laws.TypeLaws.{texts_read}
+use Rattle.do_native_acts.specs.{laws.RowLaws.{read_shown, shown_read}, Types.{are_types, is_type}}
+use Rattle.do_native_acts.specs.{Owners.owner_in, laws.TypeLaws.texts_read}
 use Rattle.do_table.specs.Entries.{are_distinct}
-use Rattle.do_pboard.specs.Core.{Pasteboard, Declared, NamedBoard, are_boards}
-use Rattle.do_pboard.specs.Core.{are_declared, begins_empty, board_in, board_row, content_in}
-use Rattle.do_pboard.specs.Core.{content_row, contents, count_in, from_slots}
-use Rattle.do_pboard.specs.Core.{is_board, merged, of_parts, to_slots}
-use Rattle.do_pboard.specs.Core.{boards_read, types_read}
-use Rattle.do_pboard.specs.laws.PartsExact.{count_shown, count_back, owner_shown}
-use Rattle.do_pboard.specs.laws.PartsExact.{owner_back, contents_read, rows_read, content_back}
-use Rattle.do_pboard.specs.laws.PartsExact.{board_back}
+use Rattle.do_pboard.specs.Core.{Pasteboard, Declared, NamedBoard, are_boards, are_declared}
+use Rattle.do_pboard.specs.Core.{begins_empty, board_in, board_row, content_in, content_row}
+use Rattle.do_pboard.specs.Core.{contents, count_in, from_slots, is_board, merged, of_parts}
+use Rattle.do_pboard.specs.Core.{to_slots, boards_read, types_read}
+use Rattle.do_pboard.specs.laws.PartsExact.{count_shown, count_back, owner_shown, owner_back}
+use Rattle.do_pboard.specs.laws.PartsExact.{contents_read, rows_read, content_back, board_back}
 use Rattle.do_pboard.specs.laws.MergedExact.{merged_shown, merged_back}
 
 -- what can be a pasteboard, in parts

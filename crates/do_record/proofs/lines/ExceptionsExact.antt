@@ -1,23 +1,16 @@
 -- Exceptions are read exactly.
 use Rattle.std.proofs.Common.{◌≡◌, ℕ, true, List as Listed, [], ◌++◌, Option, Some, None, refl, sym}
-use Rattle.std.proofs.Common.{ap, subst, ◌∙◌}
-use Rattle.std.specs.Prelude.{codes}
-use Rattle.std.specs.Str.{bytes_eq}
-use Rattle.std.proofs.lemmas.List.{append-nil}
-use Rattle.std.proofs.lemmas.Bool.{and_parts}
-use Rattle.do_base.specs.declared.events.exception.Exc.{Exc}
-use Rattle.do_base.specs.declared.events.exception.Exc.TheVariants.{ConnectionDied, Deep}
+use Rattle.std.{proofs.Common.{ap, subst, ◌∙◌}, specs.{Prelude.codes, Str.bytes_eq}}
+use Rattle.std.proofs.lemmas.{List.append-nil, Bool.and_parts}
+use Rattle.do_base.specs.declared.events.exception.Exc.{Exc, TheVariants.{ConnectionDied, Deep}}
 use Rattle.do_base.specs.declared.events.exception.Exc.TheVariants.{NotUnderstood, NotVended, Range}
 use Rattle.do_base.specs.declared.events.exception.Exc.TheVariants.{TimedOut, TooLarge, TypeFault}
-use Rattle.do_base.specs.declared.events.exception.Exc.TheVariants.{User}
-use Rattle.do_base.specs.values.Texts.{longest_text}
-use Rattle.do_grammar.specs.Quoted.{quoted, quoted_at}
-use Rattle.do_grammar.specs.Words.{word}
+use Rattle.do_base.specs.{declared.events.exception.Exc.TheVariants.User, values.Texts.longest_text}
+use Rattle.do_grammar.specs.{Quoted.{quoted, quoted_at}, Words.word}
 use Rattle.do_grammar.proofs.texts.QuotedExact.{quoted_again, quoted_takes}
 use Rattle.do_lines.specs.Shown.{exception_text}
-use Rattle.do_record.specs.GoodShown.{IsException}
-use Rattle.do_record.specs.Shown.{is_exception, is_plain_exception, is_user_exception}
-use Rattle.do_record.specs.Value.{ends_text, is_quoted}
+use Rattle.do_record.specs.{GoodShown.IsException, Shown.{is_exception, is_plain_exception}}
+use Rattle.do_record.specs.{Shown.is_user_exception, Value.{ends_text, is_quoted}}
 use Rattle.do_record.proofs.lines.WordChoice.{either, first_word, same_text}
 
 -- the exception that a text names

@@ -1,26 +1,18 @@
 -- The inputs of a record are read exactly.
+use Rattle.do_record.specs.declared.parts.RecordLine.TheVariants as inputs
+use Rattle.do_sched.specs.declared.line.Line.TheVariants as lines
 use Rattle.std.proofs.Common.{◌≡◌, ◌==◌, ℕ, Bool, true, false, cond, List, ◌∷◌, ◌++◌, Some, refl}
 use Rattle.std.proofs.Common.{sym, ap, subst, ◌∙◌, arith}
-use Rattle.std.specs.Prelude.{codes}
-use Rattle.std.specs.Fmt.{decimal}
-use Rattle.std.specs.Str.{bytes_eq}
-use Rattle.std.proofs.lemmas.Bool.{eqb-true, eq-eqb}
-use Rattle.std.proofs.lemmas.Slice.Eq.{bytes_eq-Decides}
-use Rattle.do_grammar.specs.Dec.{dec_in}
-use Rattle.do_grammar.specs.Words.{◌>>?◌, word}
+use Rattle.std.specs.{Prelude.codes, Fmt.decimal, Str.bytes_eq}
+use Rattle.std.proofs.lemmas.{Bool.{eqb-true, eq-eqb}, Slice.Eq.bytes_eq-Decides}
+use Rattle.do_grammar.specs.{Dec.dec_in, Words.{◌>>?◌, word}}
 use Rattle.do_grammar.proofs.texts.DecExact.{cond_some, dec_again, dec_takes}
-use Rattle.do_grammar.proofs.texts.WordBytes.{chain_some, some_is}
-use Rattle.do_grammar.proofs.texts.WordExact.{word_takes}
+use Rattle.do_grammar.proofs.texts.{WordBytes.{chain_some, some_is}, WordExact.word_takes}
 use Rattle.do_record.specs.Good.{IsGoodInput}
 use Rattle.do_record.specs.Line.{as_input, ended_at, input_at, input_by, own_input}
-use Rattle.do_record.specs.Spelling.{input_text}
-use Rattle.do_record.specs.declared.parts.RecordLine.{RecordLine}
-use Rattle.do_record.specs.declared.parts.RecordLine.TheVariants as inputs
-use Rattle.do_sched.specs.Good.{IsLineOf, IsPort}
-use Rattle.do_sched.specs.Reading.{line_at, pair_at, port_at}
-use Rattle.do_sched.specs.Spelling.{line_spelling, number_pair}
-use Rattle.do_sched.specs.declared.line.Line.{Line}
-use Rattle.do_sched.specs.declared.line.Line.TheVariants as lines
+use Rattle.do_record.specs.{Spelling.input_text, declared.parts.RecordLine.RecordLine}
+use Rattle.do_sched.specs.{Good.{IsLineOf, IsPort}, Reading.{line_at, pair_at, port_at}}
+use Rattle.do_sched.specs.{Spelling.{line_spelling, number_pair}, declared.line.Line.Line}
 use Rattle.do_sched.specs.declared.version.Version.TheVariants.{Second}
 use Rattle.do_sched.proofs.LineExact.{line_again, line_takes}
 use Rattle.do_record.proofs.values.ObjectsExact.{port_again, port_takes, port_word}

@@ -1,18 +1,14 @@
 -- What is taken is read exactly.
+use Rattle.do_base.specs.declared.events.shown.Took.TheVariants as took
 use Rattle.std.proofs.Common.{◌≡◌, ℕ, Bool, true, false, cond, List as Listed, ◌∷◌, ◌++◌, Option}
 use Rattle.std.proofs.Common.{Some, None, refl, sym, ap, ◌∙◌}
-use Rattle.std.specs.Prelude.{◌||◌, codes}
-use Rattle.std.specs.Str.{bytes_eq}
-use Rattle.do_base.specs.declared.events.shown.Took.{Took}
-use Rattle.do_base.specs.declared.events.shown.Took.TheVariants as took
-use Rattle.do_base.specs.names.Names.{ObjectName}
-use Rattle.do_grammar.specs.Names.{is_selector}
-use Rattle.do_grammar.specs.Words.{word}
+use Rattle.std.specs.{Prelude.{◌||◌, codes}, Str.bytes_eq}
+use Rattle.do_base.specs.{declared.events.shown.Took.Took, names.Names.ObjectName}
+use Rattle.do_grammar.specs.{Names.is_selector, Words.word}
 use Rattle.do_lines.specs.Shown.{took_text}
 use Rattle.do_sched.specs.Value.{object_name}
-use Rattle.do_record.specs.GoodShown.{IsObject, IsTook}
-use Rattle.do_record.specs.Shown.{is_exception, is_long_took, is_plain_took, is_took, is_took_by}
-use Rattle.do_record.specs.Value.{is_object}
+use Rattle.do_record.specs.{GoodShown.{IsObject, IsTook}, Shown.{is_exception, is_long_took}}
+use Rattle.do_record.specs.{Shown.{is_plain_took, is_took, is_took_by}, Value.is_object}
 use Rattle.do_record.proofs.lines.ExceptionsExact.{exception_again, exception_takes}
 use Rattle.do_record.proofs.lines.WordChoice.{either, first_word, same_text}
 use Rattle.do_record.proofs.values.ObjectsExact.{object_again, object_takes}

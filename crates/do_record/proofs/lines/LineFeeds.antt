@@ -1,34 +1,22 @@
 -- The lines of a record have their line feed alone.
+use Rattle.do_base.specs.declared.events.shown.Shown.TheVariants as shown
+use Rattle.do_base.specs.declared.events.shown.Took.TheVariants as took
+use Rattle.do_sched.specs.declared.line.Line.TheVariants as lines
 use Rattle.std.proofs.Common.{◌≡◌, ℕ, List as Listed, ◌∷◌, ◌++◌, refl, subst, arith}
-use Rattle.std.specs.Prelude.{codes}
-use Rattle.std.specs.Fmt.{decimal}
-use Rattle.do_base.specs.declared.events.exception.Exc.{Exc}
-use Rattle.do_base.specs.declared.events.exception.Exc.TheVariants.{ConnectionDied, Deep}
+use Rattle.std.specs.{Prelude.codes, Fmt.decimal}
+use Rattle.do_base.specs.declared.events.exception.Exc.{Exc, TheVariants.{ConnectionDied, Deep}}
 use Rattle.do_base.specs.declared.events.exception.Exc.TheVariants.{NotUnderstood, NotVended, Range}
 use Rattle.do_base.specs.declared.events.exception.Exc.TheVariants.{TimedOut, TooLarge, TypeFault}
-use Rattle.do_base.specs.declared.events.exception.Exc.TheVariants.{User}
-use Rattle.do_base.specs.declared.events.shown.Shown.{Shown}
-use Rattle.do_base.specs.declared.events.shown.Shown.TheVariants as shown
-use Rattle.do_base.specs.declared.events.shown.Took.{Took}
-use Rattle.do_base.specs.declared.events.shown.Took.TheVariants as took
-use Rattle.do_base.specs.declared.values.value.Value.TheVariants.{Text}
-use Rattle.do_grammar.specs.Quoted.{quoted}
-use Rattle.do_grammar.specs.Words.{Without}
-use Rattle.do_grammar.proofs.texts.IntExact.{Without-decimal}
-use Rattle.do_grammar.proofs.texts.NameBytes.{Without-selector}
-use Rattle.do_grammar.proofs.texts.WordBytes.{Without-append}
+use Rattle.do_base.specs.declared.events.{exception.Exc.TheVariants.User, shown.Shown.Shown}
+use Rattle.do_base.specs.declared.{events.shown.Took.Took, values.value.Value.TheVariants.Text}
+use Rattle.do_grammar.{specs.{Quoted.quoted, Words.Without}, proofs.texts.IntExact.Without-decimal}
+use Rattle.do_grammar.proofs.texts.{NameBytes.Without-selector, WordBytes.Without-append}
 use Rattle.do_lines.specs.Shown.{exception_text, shown_text, took_text}
-use Rattle.do_sched.specs.Good.{IsPort, text}
-use Rattle.do_sched.specs.Spelling.{number_pair}
-use Rattle.do_sched.specs.Value.{object_name, value_text}
-use Rattle.do_sched.specs.declared.line.Line.TheVariants as lines
-use Rattle.do_sched.specs.declared.version.Version.TheVariants.{Second}
-use Rattle.do_sched.proofs.LineWithoutFeed.{no_feed}
-use Rattle.do_sched.proofs.ValuesExact.{value_text-Text}
-use Rattle.do_record.specs.Good.{IsGoodInput}
-use Rattle.do_record.specs.GoodShown.{IsException, IsShown, IsTook}
-use Rattle.do_record.specs.Spelling.{input_text}
-use Rattle.do_record.specs.declared.parts.RecordLine.{RecordLine}
+use Rattle.do_sched.specs.{Good.{IsPort, text}, Spelling.number_pair, Value.object_name}
+use Rattle.do_sched.specs.{Value.value_text, declared.version.Version.TheVariants.Second}
+use Rattle.do_sched.proofs.{LineWithoutFeed.no_feed, ValuesExact.value_text-Text}
+use Rattle.do_record.specs.{Good.IsGoodInput, GoodShown.{IsException, IsShown, IsTook}}
+use Rattle.do_record.specs.{Spelling.input_text, declared.parts.RecordLine.RecordLine}
 use Rattle.do_record.specs.declared.parts.RecordLine.TheVariants.{Close, Ended, Run, Start, Take}
 use Rattle.do_record.proofs.lines.ValueFeeds.{free_behind, free_worded, literal, object_free}
 use Rattle.do_record.proofs.lines.ValueFeeds.{plain_free, value_free}

@@ -1,32 +1,22 @@
 -- Lines that show something are read exactly.
+use Rattle.do_base.specs.declared.events.shown.Shown.TheVariants as shown
 use Rattle.std.proofs.Common.{◌≡◌, ℕ, Bool, true, false, cond, eqb, List as Listed, ◌∷◌, ◌++◌}
 use Rattle.std.proofs.Common.{Option, Some, None, refl, sym, ap, ◌∙◌, arith}
-use Rattle.std.specs.Prelude.{◌||◌, codes}
-use Rattle.std.specs.Fmt.{decimal}
-use Rattle.std.specs.Str.{bytes_eq}
+use Rattle.std.specs.{Prelude.{◌||◌, codes}, Fmt.decimal, Str.bytes_eq}
 use Rattle.std.proofs.lemmas.Bool.{eq-eqb, eqb-true}
-use Rattle.do_base.specs.declared.events.shown.Shown.{Shown}
-use Rattle.do_base.specs.declared.events.shown.Shown.TheVariants as shown
-use Rattle.do_base.specs.declared.values.value.Value.{Value}
-use Rattle.do_grammar.specs.Words.{word}
-use Rattle.do_grammar.proofs.texts.DecExact.{cond_some}
-use Rattle.do_grammar.proofs.texts.WordBytes.{chain_some, some_is}
-use Rattle.do_grammar.proofs.texts.WordExact.{word_takes}
+use Rattle.do_base.specs.declared.{events.shown.Shown.Shown, values.value.Value.Value}
+use Rattle.do_grammar.{specs.Words.word, proofs.texts.DecExact.cond_some}
+use Rattle.do_grammar.proofs.texts.{WordBytes.{chain_some, some_is}, WordExact.word_takes}
 use Rattle.do_lines.specs.Shown.{exception_text, shown_text}
-use Rattle.do_sched.specs.Good.{IsPort}
-use Rattle.do_sched.specs.Reading.{port_at}
-use Rattle.do_sched.specs.Value.{value_text}
-use Rattle.do_record.specs.GoodShown.{IsNested, IsShown}
-use Rattle.do_record.specs.Shown.{behind_own, behind_port, is_exception, is_of_port, is_shown}
-use Rattle.do_record.specs.Shown.{is_shown_by, is_took, passes_there}
-use Rattle.do_record.specs.Value.{deepest, is_object, is_value}
+use Rattle.do_sched.specs.{Good.IsPort, Reading.port_at, Value.value_text}
+use Rattle.do_record.specs.{GoodShown.{IsNested, IsShown}, Shown.{behind_own, behind_port}}
+use Rattle.do_record.specs.Shown.{is_exception, is_of_port, is_shown, is_shown_by, is_took}
+use Rattle.do_record.specs.{Shown.passes_there, Value.{deepest, is_object, is_value}}
 use Rattle.do_record.proofs.lines.ExceptionsExact.{exception_again, exception_takes}
-use Rattle.do_record.proofs.lines.ItemsExact.{item_again, item_takes}
-use Rattle.do_record.proofs.lines.WordChoice.{either, first_word}
-use Rattle.do_record.proofs.values.ObjectsExact.{object_again, object_takes, port_again, port_takes}
-use Rattle.do_record.proofs.values.ObjectsExact.{port_word}
-use Rattle.do_record.proofs.values.ValueGiven.{value_again}
-use Rattle.do_record.proofs.values.ValueTaken.{value_takes}
+use Rattle.do_record.proofs.lines.{ItemsExact.{item_again, item_takes}, WordChoice.either}
+use Rattle.do_record.proofs.{lines.WordChoice.first_word, values.ObjectsExact.object_again}
+use Rattle.do_record.proofs.values.ObjectsExact.{object_takes, port_again, port_takes, port_word}
+use Rattle.do_record.proofs.values.{ValueGiven.value_again, ValueTaken.value_takes}
 
 -- what a node of the port shows by a line
 pub record IsShownLine (port : ℕ) (t : Listed ℕ) : Type 0 where

@@ -1,28 +1,18 @@
 -- What the lines of a record are is read exactly.
-use Rattle.std.proofs.Common.{◌≡◌, ◌≢◌, ℕ, Bool, true, false, cond, List, ◌∷◌, ◌++◌, Option, Some}
-use Rattle.std.proofs.Common.{None, refl, sym, ap, subst, ◌∙◌}
-use Rattle.std.specs.Prelude.{codes}
-use Rattle.std.specs.Fmt.{decimal}
-use Rattle.std.specs.Str.{bytes_eq}
-use Rattle.std.proofs.lemmas.Slice.Eq.{bytes_eq-Decides}
-use Rattle.do_base.specs.declared.events.shown.Shown.{Shown}
 use Rattle.do_base.specs.declared.events.shown.Shown.TheVariants as shown
 use Rattle.do_grammar.specs.Lines as text
+use Rattle.std.proofs.Common.{◌≡◌, ◌≢◌, ℕ, Bool, true, false, cond, List, ◌∷◌, ◌++◌, Option, Some}
+use Rattle.std.{proofs.Common.{None, refl, sym, ap, subst, ◌∙◌}, specs.{Prelude.codes, Fmt.decimal}}
+use Rattle.std.{specs.Str.bytes_eq, proofs.lemmas.Slice.Eq.bytes_eq-Decides}
+use Rattle.do_base.specs.declared.events.shown.Shown.{Shown}
 use Rattle.do_grammar.specs.Words.{◌>>?◌, word}
-use Rattle.do_grammar.proofs.texts.DecExact.{cond_some}
-use Rattle.do_grammar.proofs.texts.WordBytes.{chain_some}
-use Rattle.do_grammar.proofs.texts.WordExact.{word_takes}
+use Rattle.do_grammar.proofs.texts.{DecExact.cond_some, WordBytes.chain_some, WordExact.word_takes}
 use Rattle.do_lines.specs.Shown.{shown_text}
-use Rattle.do_sched.specs.Good.{IsPort}
-use Rattle.do_sched.specs.Reading.{port_at}
-use Rattle.do_sched.specs.Schedule.{whole}
-use Rattle.do_record.specs.Good.{IsGoodInput}
-use Rattle.do_record.specs.GoodShown.{IsShown}
+use Rattle.do_sched.specs.{Good.IsPort, Reading.port_at, Schedule.whole}
+use Rattle.do_record.specs.{Good.IsGoodInput, GoodShown.IsShown}
 use Rattle.do_record.specs.Line.{first_port, header_port, input_at, input_or_bad, marked_text}
-use Rattle.do_record.specs.Line.{shown_or_bad, text_by, text_of, versioned_port}
-use Rattle.do_record.specs.Shown.{is_shown}
-use Rattle.do_record.specs.Spelling.{input_text}
-use Rattle.do_record.specs.declared.line.RecordText.{RecordText}
+use Rattle.do_record.specs.{Line.{shown_or_bad, text_by, text_of, versioned_port}, Shown.is_shown}
+use Rattle.do_record.specs.{Spelling.input_text, declared.line.RecordText.RecordText}
 use Rattle.do_record.specs.declared.line.RecordText.TheVariants.{Bad, End, Input, Shown as Shows}
 use Rattle.do_record.specs.declared.parts.RecordLine.{RecordLine}
 use Rattle.do_record.proofs.lines.InputsExact.{input_again, input_takes, no_end}

@@ -1,29 +1,21 @@
 -- How many lines a text has, and that no value has a line feed in it.
+use Rattle.do_sched.specs.declared.line.Line.TheVariants as lines
 use Rattle.std.proofs.Common.{◌≡◌, ℕ, zero, suc, ◌+◌, true, cond, eqb, List as Listed, [], ◌∷◌}
 use Rattle.std.proofs.Common.{◌++◌, map, refl, sym, ap, subst, ◌∙◌, arith, inl, inr}
-use Rattle.std.specs.Prelude.{codes, not, ◌==◌}
-use Rattle.std.specs.Fmt.{decimal}
+use Rattle.std.specs.{Prelude.{codes, not, ◌==◌}, Fmt.decimal}
 use Rattle.std.specs.List.{AllByRecursion, flat_map, list_all}
-use Rattle.std.proofs.lemmas.Bool.{ne_eqb}
-use Rattle.std.proofs.lemmas.List.{append-nil}
-use Rattle.std.proofs.lemmas.List.Sums.{sum_by-append}
-use Rattle.do_base.specs.declared.values.value.Value.{Value, List}
-use Rattle.do_base.specs.names.Names.{ObjectName}
+use Rattle.std.proofs.lemmas.{Bool.ne_eqb, List.{append-nil, Sums.sum_by-append}}
+use Rattle.do_base.specs.{declared.values.value.Value.{Value, List}, names.Names.ObjectName}
 use Rattle.do_base.specs.values.Texts.{longest_text}
-use Rattle.do_grammar.specs.Names.{is_selector}
-use Rattle.do_grammar.specs.Words.{Without}
+use Rattle.do_grammar.specs.{Names.is_selector, Words.Without}
 use Rattle.do_grammar.proofs.texts.IntExact.{Without-decimal}
 use Rattle.do_grammar.proofs.texts.WordBytes.{Without-append, Without-passes}
-use Rattle.do_sched.specs.Good.{IsPlain}
-use Rattle.do_sched.specs.Spelling.{fed, spaced_value}
-use Rattle.do_sched.specs.Value.{between, object_name, spaced, value_text}
-use Rattle.do_sched.specs.declared.line.Line.TheVariants as lines
-use Rattle.do_sched.specs.declared.version.Version.TheVariants.{Second}
+use Rattle.do_sched.specs.{Good.IsPlain, Spelling.{fed, spaced_value}, Value.{between, object_name}}
+use Rattle.do_sched.specs.{Value.{spaced, value_text}, declared.version.Version.TheVariants.Second}
 use Rattle.do_sched.proofs.LineWithoutFeed.{no_feed}
 use Rattle.do_record.specs.GoodShown.{IsNested, IsObject, IsSingle, object, plain}
 use Rattle.do_record.specs.Grammar.{lines_in}
-use Rattle.do_record.proofs.values.SinglesTaken.{value_text-Obj}
-use Rattle.do_record.proofs.values.ValueStep.{value_text-List}
+use Rattle.do_record.proofs.values.{SinglesTaken.value_text-Obj, ValueStep.value_text-List}
 
 -- ---- how many lines
 

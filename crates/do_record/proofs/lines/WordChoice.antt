@@ -1,11 +1,8 @@
 -- Choices by a first word.
 use Rattle.std.proofs.Common.{◌≡◌, ℕ, Bool, true, false, List as Listed, ◌∷◌, ◌++◌, Some, refl, ap}
-use Rattle.std.proofs.Common.{◌∙◌}
-use Rattle.std.specs.Prelude.{◌||◌}
-use Rattle.std.specs.Str.{bytes_eq}
+use Rattle.std.{proofs.Common.◌∙◌, specs.{Prelude.◌||◌, Str.bytes_eq}}
 use Rattle.std.proofs.lemmas.Slice.Eq.{bytes_eq-Decides}
-use Rattle.do_grammar.specs.Words.{word}
-use Rattle.do_grammar.proofs.texts.WordExact.{word_takes}
+use Rattle.do_grammar.{specs.Words.word, proofs.texts.WordExact.word_takes}
 
 -- a test that one of two passes leads on from either
 pub either : {P : Type 0} (x y : Bool) → (x || y) ≡ true → (x ≡ true → P) → (y ≡ true → P) → P

@@ -1,22 +1,15 @@
 -- How a record goes on by a line.
 use Rattle.std.proofs.Common.{◌≡◌, ℕ, ◌+◌, List as Listed, [], ◌∷◌, ◌++◌, map, Option, Some, None}
 use Rattle.std.proofs.Common.{refl, sym, ap, subst, ◌∙◌, arith, append_assoc}
-use Rattle.std.specs.Prelude.{codes, option_map}
-use Rattle.std.specs.Fmt.{decimal}
-use Rattle.std.specs.List.{AllByRecursion, flat_map}
+use Rattle.std.specs.{Prelude.{codes, option_map}, Fmt.decimal, List.{AllByRecursion, flat_map}}
 use Rattle.std.proofs.lemmas.List.{append-nil}
 use Rattle.do_base.specs.declared.events.shown.Shown.{Shown}
-use Rattle.do_lines.specs.Lines.{joined}
-use Rattle.do_lines.specs.Shown.{shown_text}
-use Rattle.do_sched.specs.Good.{IsPort}
-use Rattle.do_sched.specs.Spelling.{fed}
-use Rattle.do_record.specs.Good.{IsGoodInput}
-use Rattle.do_record.specs.GoodShown.{IsShown}
-use Rattle.do_record.specs.Grammar.{AreBlocks, Begins, IsBlock, lines_in}
-use Rattle.do_record.specs.Recorded.{with_shown}
+use Rattle.do_lines.specs.{Lines.joined, Shown.shown_text}
+use Rattle.do_sched.specs.{Good.IsPort, Spelling.fed}
+use Rattle.do_record.specs.{Good.IsGoodInput, GoodShown.IsShown}
+use Rattle.do_record.specs.{Grammar.{AreBlocks, Begins, IsBlock, lines_in}, Recorded.with_shown}
 use Rattle.do_record.specs.Spelling.{begun, block_text, first_line, input_line, input_text}
-use Rattle.do_record.specs.declared.parts.Block.{Block}
-use Rattle.do_record.specs.declared.parts.RecordLine.{RecordLine}
+use Rattle.do_record.specs.declared.parts.{Block.Block, RecordLine.RecordLine}
 use Rattle.do_record.proofs.lines.LineFeeds.{header_free, marked_free, shown_free}
 use Rattle.do_record.proofs.lines.ValueFeeds.{lines_append, one_line}
 

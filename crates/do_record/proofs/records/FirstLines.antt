@@ -1,14 +1,11 @@
 -- A text is its first line and what is left.
-use Rattle.std.proofs.Common.{◌≡◌, ℕ, Bool, true, false, cond, eqb, List, [], ◌∷◌, ◌++◌, refl, sym}
-use Rattle.std.proofs.Common.{ap, subst, ◌∙◌, append_assoc}
-use Rattle.std.specs.List.{flat_map}
-use Rattle.std.proofs.lemmas.Bool.{eqb-true}
 use Rattle.do_grammar.specs.Lines as text
-use Rattle.do_grammar.specs.Lines.{cut, in_front, line_bytes}
-use Rattle.do_grammar.specs.Words.{Without}
+use Rattle.std.proofs.Common.{◌≡◌, ℕ, Bool, true, false, cond, eqb, List, [], ◌∷◌, ◌++◌, refl, sym}
+use Rattle.std.{proofs.Common.{ap, subst, ◌∙◌, append_assoc}, specs.List.flat_map}
+use Rattle.std.proofs.lemmas.Bool.{eqb-true}
+use Rattle.do_grammar.specs.{Lines.{cut, in_front, line_bytes}, Words.Without}
 use Rattle.do_grammar.proofs.texts.LinesExact.{cut_line, cut_whole}
-use Rattle.do_sched.specs.Schedule.{whole}
-use Rattle.do_sched.specs.Spelling.{fed}
+use Rattle.do_sched.specs.{Schedule.whole, Spelling.fed}
 
 -- the first line of a text, where it has its line feed, and what is left
 pub record IsFirst (rest : List ℕ) (t : text.Line) (ts : List text.Line) : Type 0 where

@@ -2,11 +2,8 @@
 use Rattle.std.proofs.Common.{◌≡◌, ◌+◌, ℕ, List, [], ◌∷◌, Err, Ok, Result, subst}
 use Rattle.do_sched.specs.declared.fault.SchedFault.{SchedFault}
 use Rattle.do_record.specs.Good.{AreGoodBlocks, IsGoodRecord}
-use Rattle.do_record.specs.Grammar.{AreBlocks, TellsRecord, lines_in}
-use Rattle.do_record.specs.Recorded.{record_of}
-use Rattle.do_record.specs.Spelling.{block_text}
-use Rattle.do_record.specs.declared.parts.Block.{Block}
-use Rattle.do_record.specs.declared.parts.Record.{Record}
+use Rattle.do_record.specs.{Grammar.{AreBlocks, TellsRecord, lines_in}, Recorded.record_of}
+use Rattle.do_record.specs.{Spelling.block_text, declared.parts.{Block.Block, Record.Record}}
 use Rattle.do_record.proofs.records.RecordsTold.{record_tells}
 
 -- an answer is one

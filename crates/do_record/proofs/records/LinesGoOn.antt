@@ -1,35 +1,24 @@
 -- Lines that go on with a record are read as its blocks.
+use Rattle.do_grammar.specs.Lines as text
 use Rattle.std.proofs.Common.{◌≡◌, ℕ, ◌+◌, List as Listed, [], ◌∷◌, ◌++◌, Option, Some, None}
 use Rattle.std.proofs.Common.{Result, Err, map, sym, ap, ◌∙◌, arith, append_assoc}
-use Rattle.std.specs.Prelude.{codes}
-use Rattle.std.specs.Fmt.{decimal}
-use Rattle.std.specs.List.{AllByRecursion, flat_map}
+use Rattle.std.specs.{Prelude.codes, Fmt.decimal, List.{AllByRecursion, flat_map}}
 use Rattle.std.proofs.lemmas.List.{append-nil}
 use Rattle.do_base.specs.declared.events.shown.Shown.{Shown}
-use Rattle.do_grammar.specs.Lines as text
 use Rattle.do_grammar.specs.Lines.{cut}
-use Rattle.do_lines.specs.Lines.{joined}
-use Rattle.do_lines.specs.Shown.{shown_text}
-use Rattle.do_sched.specs.Good.{IsPort}
-use Rattle.do_sched.specs.Schedule.{whole}
-use Rattle.do_sched.specs.Spelling.{fed}
-use Rattle.do_sched.specs.declared.fault.SchedFault.{SchedFault}
-use Rattle.do_sched.specs.declared.fault.SchedFault.TheVariants.{BadLine}
-use Rattle.do_record.specs.GoodShown.{IsShown}
-use Rattle.do_record.specs.Grammar.{AreBlocks, Begins, IsBlock, lines_in}
-use Rattle.do_record.specs.Line.{text_of}
-use Rattle.do_record.specs.Recorded.{ended_by, read_lines, record_from, record_of, with_shown}
-use Rattle.do_record.specs.Spelling.{begun, block_text, first_line, input_line, input_text}
-use Rattle.do_record.specs.declared.line.RecordText.{RecordText}
+use Rattle.do_lines.specs.{Lines.joined, Shown.shown_text}
+use Rattle.do_sched.specs.{Good.IsPort, Schedule.whole, Spelling.fed}
+use Rattle.do_sched.specs.declared.fault.SchedFault.{SchedFault, TheVariants.BadLine}
+use Rattle.do_record.specs.{GoodShown.IsShown, Grammar.{AreBlocks, Begins, IsBlock, lines_in}}
+use Rattle.do_record.specs.{Line.text_of, Recorded.{ended_by, read_lines, record_from, record_of}}
+use Rattle.do_record.specs.{Recorded.with_shown, Spelling.{begun, block_text, first_line}}
+use Rattle.do_record.specs.{Spelling.{input_line, input_text}, declared.line.RecordText.RecordText}
 use Rattle.do_record.specs.declared.line.RecordText.TheVariants.{Bad, End, Input, Shown as Shows}
-use Rattle.do_record.specs.declared.parts.Block.{Block}
-use Rattle.do_record.specs.declared.parts.Record.{Record}
+use Rattle.do_record.specs.declared.parts.{Block.Block, Record.Record}
 use Rattle.do_record.proofs.lines.LineFeeds.{header_free, marked_free, shown_free}
 use Rattle.do_record.proofs.lines.TextsExact.{first_read, input_read, shown_read}
-use Rattle.do_record.proofs.lines.ValueFeeds.{lines_append, one_line}
-use Rattle.do_record.proofs.records.Blocks.{begun_lines, more_shown}
-use Rattle.do_record.proofs.records.FirstLines.{cut_fed}
-use Rattle.do_record.proofs.records.Showing.{shown_last}
+use Rattle.do_record.proofs.{lines.ValueFeeds.{lines_append, one_line}, records.Blocks.begun_lines}
+use Rattle.do_record.proofs.records.{Blocks.more_shown, FirstLines.cut_fed, Showing.shown_last}
 
 -- ---- what a line leads to
 

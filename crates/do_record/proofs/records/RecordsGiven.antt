@@ -1,28 +1,21 @@
 -- What bytes are is read of them.
+use Rattle.do_grammar.specs.Lines as text
 use Rattle.std.proofs.Common.{◌≡◌, ◌≢◌, ℕ, ◌+◌, Bool, true, false, List as Listed, [], ◌∷◌, ◌++◌}
 use Rattle.std.proofs.Common.{Option, Some, None, Result, Ok, Err, refl, sym, ap, subst, ◌∙◌, arith}
 use Rattle.std.specs.Prelude.{codes}
-use Rattle.do_grammar.specs.Lines as text
 use Rattle.do_grammar.specs.Lines.{cut}
 use Rattle.do_lines.specs.Shown.{shown_text}
-use Rattle.do_sched.specs.Answers.{AnswersWith}
-use Rattle.do_sched.specs.Good.{IsPort}
-use Rattle.do_sched.specs.Schedule.{whole}
-use Rattle.do_sched.specs.Spelling.{fed}
+use Rattle.do_sched.specs.{Answers.AnswersWith, Good.IsPort, Schedule.whole, Spelling.fed}
 use Rattle.do_sched.specs.declared.fault.SchedFault.{SchedFault}
 use Rattle.do_sched.specs.declared.fault.SchedFault.TheVariants.{BadLine, Memory, NoEnd, TooMany}
 use Rattle.do_record.specs.Grammar.{Begins, IsFaultAt, IsNoLine, IsRecord, TellsRecord, at_first}
-use Rattle.do_record.specs.Grammar.{behind, between, lines_in}
-use Rattle.do_record.specs.Line.{first_port, text_of}
+use Rattle.do_record.specs.{Grammar.{behind, between, lines_in}, Line.{first_port, text_of}}
 use Rattle.do_record.specs.Recorded.{read_lines, record_from, record_of, recorded, with_shown}
 use Rattle.do_record.specs.Spelling.{begun, ending, first_line, input_text, last_line}
-use Rattle.do_record.specs.declared.line.RecordText.{RecordText}
-use Rattle.do_record.specs.declared.line.RecordText.TheVariants.{Bad, End, Input, Shown as Shows}
-use Rattle.do_record.specs.declared.parts.Block.{Block}
-use Rattle.do_record.specs.declared.parts.Record.{Record}
-use Rattle.do_record.proofs.lines.LineFeeds.{end_free}
-use Rattle.do_record.proofs.lines.TextsExact.{first_told, line_told}
-use Rattle.do_record.proofs.records.Blocks.{shown_by_last}
+use Rattle.do_record.specs.declared.line.RecordText.{RecordText, TheVariants.{Bad, End, Input}}
+use Rattle.do_record.specs.declared.{line.RecordText.TheVariants.Shown as Shows, parts.Block.Block}
+use Rattle.do_record.{specs.declared.parts.Record.Record, proofs.lines.LineFeeds.end_free}
+use Rattle.do_record.proofs.{lines.TextsExact.{first_told, line_told}, records.Blocks.shown_by_last}
 use Rattle.do_record.proofs.records.FirstLines.{cut_fed, cut_nothing, first_line_is}
 use Rattle.do_record.proofs.records.LinesGoOn.{begins_read, by_blocks, by_kind, by_port}
 use Rattle.do_record.proofs.records.RecordsTold.{record_tells}

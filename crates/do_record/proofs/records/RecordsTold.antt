@@ -1,31 +1,23 @@
 -- What is read of bytes is the record that they are, or their faulty line.
+use Rattle.do_grammar.specs.Lines as text
 use Rattle.std.proofs.Common.{◌≡◌, ◌≢◌, ℕ, ◌+◌, List as Listed, [], ◌∷◌, ◌++◌, Option, Some, None}
 use Rattle.std.proofs.Common.{Err, refl, sym, ap, subst, ◌∙◌, arith}
-use Rattle.std.specs.Prelude.{codes}
-use Rattle.std.specs.Fmt.{decimal}
-use Rattle.std.proofs.lemmas.List.{append-nil}
-use Rattle.do_grammar.specs.Lines as text
-use Rattle.do_grammar.specs.Lines.{cut}
-use Rattle.do_grammar.specs.Words.{Without}
+use Rattle.std.{specs.{Prelude.codes, Fmt.decimal}, proofs.lemmas.List.append-nil}
+use Rattle.do_grammar.specs.{Lines.cut, Words.Without}
 use Rattle.do_lines.specs.Shown.{shown_text}
-use Rattle.do_sched.specs.Good.{IsPort}
-use Rattle.do_sched.specs.Schedule.{whole}
-use Rattle.do_sched.specs.Spelling.{fed}
+use Rattle.do_sched.specs.{Good.IsPort, Schedule.whole, Spelling.fed}
 use Rattle.do_sched.specs.declared.fault.SchedFault.TheVariants.{BadLine}
 use Rattle.do_record.specs.Grammar.{Begins, IsFaultAt, IsNoLine, TellsRecord, at_first, behind}
-use Rattle.do_record.specs.Grammar.{between}
-use Rattle.do_record.specs.Line.{first_port, text_of}
+use Rattle.do_record.specs.{Grammar.between, Line.{first_port, text_of}}
 use Rattle.do_record.specs.Recorded.{ended_by, read_lines, record_from, record_of, with_shown}
 use Rattle.do_record.specs.Spelling.{first_line, input_line, input_text, last_line}
 use Rattle.do_record.specs.declared.line.RecordText.{RecordText}
 use Rattle.do_record.specs.declared.line.RecordText.TheVariants.{Bad, End, Input, Shown as Shows}
-use Rattle.do_record.specs.declared.parts.Block.{Block}
-use Rattle.do_record.specs.declared.parts.RecordLine.{RecordLine}
+use Rattle.do_record.specs.declared.parts.{Block.Block, RecordLine.RecordLine}
 use Rattle.do_record.proofs.lines.LineFeeds.{end_free, header_free, marked_free, shown_free}
 use Rattle.do_record.proofs.lines.TextsExact.{first_read, first_told, input_read, line_told}
-use Rattle.do_record.proofs.lines.TextsExact.{shown_read}
-use Rattle.do_record.proofs.records.Blocks.{SoFar, begun_lines, input_goes, shown_by_last}
-use Rattle.do_record.proofs.records.Blocks.{shown_by_none, shown_goes}
+use Rattle.do_record.proofs.{lines.TextsExact.shown_read, records.Blocks.{SoFar, begun_lines}}
+use Rattle.do_record.proofs.records.Blocks.{input_goes, shown_by_last, shown_by_none, shown_goes}
 use Rattle.do_record.proofs.records.FirstLines.{cut_fed, cut_nothing, first_line_is}
 
 -- the first line of a text that begins with a line is that line

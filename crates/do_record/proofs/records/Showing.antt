@@ -1,17 +1,14 @@
 -- The last of some blocks shows one line more.
+use Rattle.do_grammar.specs.Lines as text
 use Rattle.std.proofs.Common.{◌≡◌, true, false, eqb, ℕ, ◌+◌, List, [], ◌∷◌, ◌++◌, Some, None, inl}
 use Rattle.std.proofs.Common.{inr, Err, Result, refl, sym, ap, ◌∙◌, length, append_assoc, subst}
 use Rattle.std.specs.Prelude.{option_map}
 use Rattle.std.proofs.lemmas.Bool.{cases_Bool, both_ways, cond-false, cond-true}
-use Rattle.do_grammar.specs.Lines as text
 use Rattle.do_grammar.specs.Lines.{cut, in_front}
-use Rattle.do_record.specs.Line.{text_of}
-use Rattle.do_record.specs.Recorded.{HasShown, ended_by, read_lines, with_shown}
-use Rattle.do_sched.specs.declared.fault.SchedFault.{SchedFault}
-use Rattle.do_sched.specs.declared.fault.SchedFault.TheVariants.{BadLine}
-use Rattle.do_record.specs.declared.parts.Record.{Record}
-use Rattle.do_record.specs.declared.line.RecordText.TheVariants.{Bad, End, Input, Shown}
-use Rattle.do_record.specs.declared.parts.Block.{Block}
+use Rattle.do_record.specs.{Line.text_of, Recorded.{HasShown, ended_by, read_lines, with_shown}}
+use Rattle.do_sched.specs.declared.fault.SchedFault.{SchedFault, TheVariants.BadLine}
+use Rattle.do_record.specs.declared.{parts.Record.Record, line.RecordText.TheVariants.{Bad, End}}
+use Rattle.do_record.specs.declared.{line.RecordText.TheVariants.{Input, Shown}, parts.Block.Block}
 
 -- a block behind others is the last
 pub shown_last : (line : List ℕ) (bs : List Block) (b : Block) →

@@ -1,21 +1,13 @@
 -- Names of objects are read exactly.
 use Rattle.std.proofs.Common.{◌≡◌, ℕ, ◌<◌, Bool, true, false, cond, eqb, List, [], ◌∷◌, ◌++◌}
 use Rattle.std.proofs.Common.{Option, Some, None, refl, ap, ◌∙◌, arith}
-use Rattle.std.specs.Prelude.{is_some}
-use Rattle.std.specs.Fmt.{decimal}
-use Rattle.std.proofs.lemmas.Bool.{eqb-true}
+use Rattle.std.{specs.{Prelude.is_some, Fmt.decimal}, proofs.lemmas.Bool.eqb-true}
 use Rattle.do_base.specs.names.Names.{ObjectName}
-use Rattle.do_grammar.specs.Dec.{dec_in}
-use Rattle.do_grammar.specs.Words.{◌>>?◌, word}
-use Rattle.do_grammar.proofs.texts.DecExact.{dec_takes, dec_again}
-use Rattle.do_grammar.proofs.texts.IntExact.{Without-decimal}
-use Rattle.do_grammar.proofs.texts.WordBytes.{chain_some}
-use Rattle.do_grammar.proofs.texts.WordExact.{word_takes, word_again}
-use Rattle.do_sched.specs.Good.{IsPort}
-use Rattle.do_sched.specs.Reading.{port_at}
-use Rattle.do_sched.specs.Value.{object_name}
-use Rattle.do_record.specs.GoodShown.{IsObject}
-use Rattle.do_record.specs.Value.{is_home_and_serial, is_object}
+use Rattle.do_grammar.specs.{Dec.dec_in, Words.{◌>>?◌, word}}
+use Rattle.do_grammar.proofs.texts.{DecExact.{dec_takes, dec_again}, IntExact.Without-decimal}
+use Rattle.do_grammar.proofs.texts.{WordBytes.chain_some, WordExact.{word_takes, word_again}}
+use Rattle.do_sched.specs.{Good.IsPort, Reading.port_at, Value.object_name}
+use Rattle.do_record.specs.{GoodShown.IsObject, Value.{is_home_and_serial, is_object}}
 
 -- ---- ports
 

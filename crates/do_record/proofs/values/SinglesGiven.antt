@@ -1,23 +1,16 @@
 -- A value without a list is walked from its spelling.
 use Rattle.std.proofs.Common.{◌≡◌, ℕ, true, false, List as Listed, [], ◌∷◌, ◌++◌, length, drop}
 use Rattle.std.proofs.Common.{Some, refl, sym, ap, subst, ◌∙◌, inl, inr}
-use Rattle.std.proofs.Math.Seq.{drop-append_seam}
-use Rattle.std.specs.Prelude.{◌⊎◌, codes, option_map}
-use Rattle.std.specs.Fmt.{signed_decimal}
-use Rattle.std.specs.List.{list_all}
-use Rattle.std.proofs.lemmas.Bool.{eq-eqb, ne_eqb}
-use Rattle.do_base.specs.declared.values.value.Value.{Value}
-use Rattle.do_base.specs.values.Texts.{longest_text}
+use Rattle.std.{proofs.Math.Seq.drop-append_seam, specs.Prelude.{◌⊎◌, codes, option_map}}
+use Rattle.std.{specs.{Fmt.signed_decimal, List.list_all}, proofs.lemmas.Bool.{eq-eqb, ne_eqb}}
+use Rattle.do_base.specs.{declared.values.value.Value.Value, values.Texts.longest_text}
 use Rattle.do_grammar.specs.Words.{EndsBefore, Without, part}
-use Rattle.do_grammar.proofs.texts.QuotedExact.{quoted_again}
-use Rattle.do_grammar.proofs.texts.WordBytes.{Without-passes}
+use Rattle.do_grammar.proofs.texts.{QuotedExact.quoted_again, WordBytes.Without-passes}
 use Rattle.do_grammar.proofs.texts.WordExact.{part_again}
-use Rattle.do_sched.specs.Good.{nil, number, text}
-use Rattle.do_sched.specs.Value.{object_name, value_text}
+use Rattle.do_sched.specs.{Good.{nil, number, text}, Value.{object_name, value_text}}
 use Rattle.do_sched.proofs.ValuesExact.{value_text-Nil, value_text-Num, value_text-Text}
-use Rattle.do_record.specs.GoodShown.{IsSingle, plain, object}
-use Rattle.do_record.specs.Value.{at_value, behind_quote, leaf_at}
-use Rattle.do_record.proofs.values.SinglesTaken.{value_text-Obj}
+use Rattle.do_record.specs.{GoodShown.{IsSingle, plain, object}, Value.{at_value, behind_quote}}
+use Rattle.do_record.{specs.Value.leaf_at, proofs.values.SinglesTaken.value_text-Obj}
 use Rattle.do_record.proofs.values.SolidWords.{IsWord, nil_word, number_word, object_word, solid}
 
 -- nothing is behind a value, or a space or a bracket that ends a list

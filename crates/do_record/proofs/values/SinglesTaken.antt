@@ -1,24 +1,16 @@
 -- What is read as a value without a list is spelled as one.
-use Rattle.std.proofs.Common.{◌≡◌, ℕ, Bool, true, false, cond, List as Listed, ◌++◌, length}
-use Rattle.std.proofs.Common.{drop, Option, Some, None, refl, sym, ap, subst, ◌∙◌, rules, inl, inr}
-use Rattle.std.proofs.Common.{append_assoc}
-use Rattle.std.proofs.Math.Seq.{drop-append_seam}
-use Rattle.std.specs.Prelude.{ℤ, ◌||◌, is_some, codes, option_map}
-use Rattle.std.specs.Str.{bytes_eq}
-use Rattle.std.proofs.lemmas.Bool.{or_cases}
-use Rattle.std.proofs.lemmas.Slice.Eq.{bytes_eq-Decides}
+use Rattle.std.proofs.Common.{◌≡◌, ℕ, Bool, true, false, cond, List as Listed, ◌++◌, length, drop}
+use Rattle.std.proofs.Common.{Option, Some, None, refl, sym, ap, subst, ◌∙◌, rules, inl, inr}
+use Rattle.std.proofs.{Common.append_assoc, Math.Seq.drop-append_seam}
+use Rattle.std.specs.{Prelude.{ℤ, ◌||◌, is_some, codes, option_map}, Str.bytes_eq}
+use Rattle.std.proofs.lemmas.{Bool.or_cases, Slice.Eq.bytes_eq-Decides}
 use Rattle.do_base.specs.declared.values.value.Value.{Value, the_lemmas}
 use Rattle.do_base.specs.declared.values.value.Value.TheVariants.{Nil, Num, Obj, Text}
-use Rattle.do_base.specs.names.Names.{ObjectName}
-use Rattle.do_base.specs.values.Texts.{longest_text}
-use Rattle.do_grammar.specs.Dec.{int_in}
-use Rattle.do_grammar.specs.Quoted.{quoted_at}
-use Rattle.do_grammar.specs.Words.{part}
-use Rattle.do_grammar.proofs.texts.IntExact.{int_takes}
-use Rattle.do_grammar.proofs.texts.QuotedExact.{quoted_takes}
+use Rattle.do_base.specs.{names.Names.ObjectName, values.Texts.longest_text}
+use Rattle.do_grammar.specs.{Dec.int_in, Quoted.quoted_at, Words.part}
+use Rattle.do_grammar.proofs.texts.{IntExact.int_takes, QuotedExact.quoted_takes}
 use Rattle.do_grammar.proofs.texts.WordExact.{part_takes}
-use Rattle.do_sched.specs.Good.{nil, number, text}
-use Rattle.do_sched.specs.Value.{object_name, value_text}
+use Rattle.do_sched.specs.{Good.{nil, number, text}, Value.{object_name, value_text}}
 use Rattle.do_sched.proofs.ValuesExact.{value_text-Nil, value_text-Num, value_text-Text}
 use Rattle.do_record.specs.GoodShown.{IsSingle, plain, object}
 use Rattle.do_record.specs.Value.{Walked, behind_leaf, behind_quote, is_leaf, is_object, leaf_at}

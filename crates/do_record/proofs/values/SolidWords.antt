@@ -1,20 +1,14 @@
 -- Words of bytes that end no value, and begin neither a text nor a list.
-use Rattle.std.proofs.Common.{◌≡◌, ℕ, suc, ◌<◌, ◌≤◌, ◌^◌, Bool, true, false, List as Listed}
-use Rattle.std.proofs.Common.{[], ◌∷◌, ◌++◌, length, refl, arith}
+use Rattle.std.proofs.Common.{◌≡◌, ℕ, suc, ◌<◌, ◌≤◌, ◌^◌, Bool, true, false, List as Listed, []}
+use Rattle.std.proofs.Common.{◌∷◌, ◌++◌, length, refl, arith}
 use Rattle.std.specs.Prelude.{ℤ, pos, negsuc, ◌==◌, ◌&&◌, ◌||◌, not, is_some, codes}
-use Rattle.std.specs.Int.Signed.{mag}
-use Rattle.std.specs.Fmt.{decimal, signed_decimal}
-use Rattle.std.specs.List.{list_all}
-use Rattle.std.specs.Str.{bytes_eq}
-use Rattle.std.proofs.lemmas.Bool.{ne_eqb}
-use Rattle.std.proofs.lemmas.Fmt.{decimal_nonempty}
+use Rattle.std.specs.{Int.Signed.mag, Fmt.{decimal, signed_decimal}, List.list_all, Str.bytes_eq}
+use Rattle.std.proofs.lemmas.{Bool.ne_eqb, Fmt.decimal_nonempty}
 use Rattle.do_base.specs.names.Names.{ObjectName}
 use Rattle.do_grammar.specs.Dec.{AllDecimal, int_in}
-use Rattle.do_grammar.proofs.texts.DecExact.{all_decimal}
-use Rattle.do_grammar.proofs.texts.IntExact.{int_again}
+use Rattle.do_grammar.proofs.texts.{DecExact.all_decimal, IntExact.int_again}
 use Rattle.do_sched.specs.Value.{object_name}
-use Rattle.do_record.specs.GoodShown.{IsObject}
-use Rattle.do_record.specs.Value.{is_leaf, is_object}
+use Rattle.do_record.specs.{GoodShown.IsObject, Value.{is_leaf, is_object}}
 use Rattle.do_record.proofs.values.ObjectsExact.{object_again}
 
 -- a byte that ends no word, and begins neither a text nor a list

@@ -2,19 +2,15 @@
 use Rattle.std.proofs.Common.{◌≡◌, ℕ, zero, suc, ◌+◌, ◌<◌, ◌≤◌, Bool, true, false, cond, eqb}
 use Rattle.std.proofs.Common.{List as Listed, [], ◌∷◌, ◌++◌, length, map, Option, Some, None, refl}
 use Rattle.std.proofs.Common.{sym, ap, subst, ◌∙◌, arith, inl, inr, append_assoc}
-use Rattle.std.specs.Prelude.{nat_lt}
-use Rattle.std.specs.List.{AllByRecursion}
-use Rattle.std.proofs.lemmas.Bool.{eqb-true, lt-ltb}
-use Rattle.std.proofs.lemmas.List.{append-nil, length-append}
+use Rattle.std.specs.{Prelude.nat_lt, List.AllByRecursion}
+use Rattle.std.proofs.lemmas.{Bool.{eqb-true, lt-ltb}, List.{append-nil, length-append}}
 use Rattle.do_base.specs.declared.values.value.Value.{Value}
 use Rattle.do_grammar.specs.Dec.{int_in}
 use Rattle.do_sched.specs.Value.{between, spaced, value_text}
-use Rattle.do_record.specs.GoodShown.{IsListOf, IsNested, IsSingle}
-use Rattle.do_record.specs.Value.{Walked, at_value, deepest, in_list, is_value, is_walked, walk_one}
-use Rattle.do_record.specs.Value.{walks}
+use Rattle.do_record.specs.{GoodShown.{IsListOf, IsNested, IsSingle}, Value.{Walked, at_value}}
+use Rattle.do_record.specs.Value.{deepest, in_list, is_value, is_walked, walk_one, walks}
 use Rattle.do_record.proofs.values.SinglesGiven.{EndsValue, single_again}
-use Rattle.do_record.proofs.values.ValueStep.{value_text-List}
-use Rattle.do_record.proofs.values.Walking.{open_walks, walks_done}
+use Rattle.do_record.proofs.values.{ValueStep.value_text-List, Walking.{open_walks, walks_done}}
 
 -- ---- how many tokens there may be
 

@@ -1,13 +1,10 @@
 -- What is walked as a value is spelled as one.
-use Rattle.std.proofs.Common.{◌≡◌, ℕ, zero, suc, ◌<◌, Bool, true, false, cond, eqb}
-use Rattle.std.proofs.Common.{List as Listed, [], ◌∷◌, ◌++◌, length, map, Option, Some, None, refl}
-use Rattle.std.proofs.Common.{sym, ap, ◌∙◌, arith, append_assoc}
-use Rattle.std.proofs.lemmas.Bool.{eqb-true}
-use Rattle.std.proofs.lemmas.List.{append-nil}
+use Rattle.std.proofs.Common.{◌≡◌, ℕ, zero, suc, ◌<◌, Bool, true, false, cond, eqb, List as Listed}
+use Rattle.std.proofs.Common.{[], ◌∷◌, ◌++◌, length, map, Option, Some, None, refl, sym, ap, ◌∙◌}
+use Rattle.std.proofs.{Common.{arith, append_assoc}, lemmas.{Bool.eqb-true, List.append-nil}}
 use Rattle.do_base.specs.declared.values.value.Value.{Value}
 use Rattle.do_sched.specs.Value.{spaced, value_text}
-use Rattle.do_record.specs.GoodShown.{IsNested}
-use Rattle.do_record.specs.Value.{Walked, deepest, is_value, walks}
+use Rattle.do_record.specs.{GoodShown.IsNested, Value.{Walked, deepest, is_value, walks}}
 use Rattle.do_record.proofs.values.ValueStep.{Items, TakesItems, TakesValue, Values, value_step}
 use Rattle.do_record.proofs.values.Walking.{not_over, open_walks}
 

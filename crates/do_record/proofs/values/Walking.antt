@@ -1,7 +1,6 @@
 -- One token more of a value.
 use Rattle.std.proofs.Common.{◌≡◌, Bool, true, false, cond, ℕ, zero, suc, List, Option, Some, None}
-use Rattle.std.proofs.Common.{ap, ◌∙◌, refl, arith}
-use Rattle.std.proofs.lemmas.Bool.{ne_eqb}
+use Rattle.std.proofs.{Common.{ap, ◌∙◌, refl, arith}, lemmas.Bool.ne_eqb}
 use Rattle.do_record.specs.Value.{Walked, behind_value, is_walked, walk_one, walks}
 
 -- all that is walked is a value

@@ -1,8 +1,7 @@
 //! How a node closes its end of the connection to a peer.
 ghost use Rattle.std.specs.Prelude.{◌≡◌, IfOk, OnOk, map};
 ghost use Rattle.do_machine.specs.ends.Closing.{asked_of, closing, parted, serials_of};
-ghost use Rattle.do_machine.specs.ends.Closing.{without_answer};
-ghost use Rattle.do_machine.specs.Effect.{queueing};
+ghost use Rattle.do_machine.specs.{ends.Closing.without_answer, Effect.queueing};
 ghost use Rattle.do_machine.specs.declared.item.Item.TheVariants.{End};
 ghost use Rattle.do_rules.specs.Doing.{and_then};
 

@@ -2,10 +2,8 @@
 ghost use Rattle.std.specs.Prelude.{◌≡◌, ◌∷◌, IfOk, OnOk};
 ghost use Rattle.do_behave.specs.declared.invocation.Answer.TheVariants.{Raised};
 ghost use Rattle.do_base.specs.declared.events.exception.Exc.TheVariants.{TimedOut};
-ghost use Rattle.do_machine.specs.Effect.{only};
-ghost use Rattle.do_machine.specs.ends.TimeOut.{time_out, with_late};
-ghost use Rattle.do_machine.specs.run.Changes.{answered};
-ghost use Rattle.do_machine.specs.run.Fresh.{with_stack};
+ghost use Rattle.do_machine.specs.{Effect.only, ends.TimeOut.{time_out, with_late}};
+ghost use Rattle.do_machine.specs.run.{Changes.answered, Fresh.with_stack};
 
 use crate::effect::{Done, given, unchanged};
 use crate::lists::{Ordered, insert};

@@ -1,11 +1,7 @@
 //! The own objects of a node that are held up beside the root and slots, as lists; which of them
 //! are in use at a peer.
-ghost use Rattle.std.specs.Prelude.{◌≡◌, ◌++◌, IfOk, OnOk};
-ghost use Rattle.std.specs.List.{flat_map};
-ghost use Rattle.std.specs.Option.{option_copied};
-ghost use Rattle.do_machine.specs.Entry.{has_entry};
-ghost use Rattle.do_machine.specs.Lists.{some_passes};
-ghost use Rattle.do_machine.specs.State.{is_open, node};
+ghost use Rattle.std.specs.{Prelude.{◌≡◌, ◌++◌, IfOk, OnOk}, List.flat_map, Option.option_copied};
+ghost use Rattle.do_machine.specs.{Entry.has_entry, Lists.some_passes, State.{is_open, node}};
 ghost use Rattle.do_rules.specs.Exporting.{exports_of, releases_of};
 ghost use Rattle.do_rules.specs.HeldUp.{entered, held_of, held_up, named_by};
 

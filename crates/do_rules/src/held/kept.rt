@@ -1,12 +1,9 @@
 //! Which own objects a node keeps.
-ghost use Rattle.std.specs.Prelude.{◌≡◌, ◌||◌, IfOk, filter};
-ghost use Rattle.std.specs.List.{list_all};
+ghost use Rattle.std.specs.{Prelude.{◌≡◌, ◌||◌, IfOk, filter}, List.list_all};
 ghost use Rattle.do_packet.specs.Met.{has_object};
-ghost use Rattle.do_machine.specs.State.{own};
-ghost use Rattle.do_machine.specs.held.Kept.{is_root, kept};
+ghost use Rattle.do_machine.specs.{State.own, held.Kept.{is_root, kept}};
 ghost use Rattle.do_machine.specs.held.Refers.{heap_objects, stack_objects};
-ghost use Rattle.do_rules.specs.HeldUp.{stays_by};
-ghost use Rattle.do_rules.specs.Judged.{entry_in};
+ghost use Rattle.do_rules.specs.{HeldUp.stays_by, Judged.entry_in};
 
 use crate::effect::given;
 use crate::held::entered::held_up;
@@ -50,8 +47,7 @@ struct Staying<'a> {
 impl<'a> Test<Shared<Stored>> for Staying<'a> {
     ghost use Rattle.std.specs.Prelude.{◌||◌};
     ghost use Rattle.do_packet.specs.Met.{has_object};
-    ghost use Rattle.do_machine.specs.State.{own};
-    ghost use Rattle.do_machine.specs.held.Kept.{is_root};
+    ghost use Rattle.do_machine.specs.{State.own, held.Kept.is_root};
 
     ghost passes = { λ staying stored. (is_root staying.node.now stored.serial
         || has_object staying.held_up.now (own staying.node.now stored.serial))

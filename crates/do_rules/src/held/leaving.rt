@@ -3,12 +3,9 @@ ghost use Rattle.std.specs.Prelude.{◌≡◌, ◌==◌, ◌++◌, ◌∷◌, []
 ghost use Rattle.std.specs.List.{list_any};
 ghost use Rattle.do_packet.specs.Met.{has_object};
 ghost use Rattle.do_base.specs.declared.events.shown.Shown.TheVariants.{Free};
-ghost use Rattle.do_machine.specs.Objects.{object_at};
-ghost use Rattle.do_machine.specs.held.Kept.{kept};
-ghost use Rattle.do_machine.specs.held.Leaving.{dropping, freeing, leaving, left};
-ghost use Rattle.do_machine.specs.held.Refers.{node_objects};
-ghost use Rattle.do_rules.specs.Doing.{and_then};
-ghost use Rattle.do_rules.specs.Judged.{entry_in};
+ghost use Rattle.do_machine.specs.{Objects.object_at, held.{Kept.kept, Leaving.dropping}};
+ghost use Rattle.do_machine.specs.held.{Leaving.{freeing, leaving, left}, Refers.node_objects};
+ghost use Rattle.do_rules.specs.{Doing.and_then, Judged.entry_in};
 
 use crate::effect::{Done, given, unchanged};
 use crate::held::kept::{all_stay, kept};

@@ -1,8 +1,6 @@
 //! Foreign objects that a node names to third nodes.
-ghost use Rattle.std.specs.Prelude.{◌≡◌, ◌++◌, OnOk};
-ghost use Rattle.std.specs.List.{filter_map};
-ghost use Rattle.do_machine.specs.lend.Lending.{is_lend, lend_of, lending, lends_of};
-ghost use Rattle.do_machine.specs.lend.Lending.{with_settled};
+ghost use Rattle.std.specs.{Prelude.{◌≡◌, ◌++◌, OnOk}, List.filter_map};
+ghost use Rattle.do_machine.specs.lend.Lending.{is_lend, lend_of, lending, lends_of, with_settled};
 
 use crate::effect::Done;
 use crate::lists::{Test, keep};
@@ -61,8 +59,7 @@ struct BesideLend {
 }
 
 impl Test<Lend> for BesideLend {
-    ghost use Rattle.std.specs.Prelude.{not};
-    ghost use Rattle.std.specs.List.{filter_map};
+    ghost use Rattle.std.specs.{Prelude.not, List.filter_map};
     ghost use Rattle.do_machine.specs.lend.Lending.{is_lend};
 
     ghost passes = { λ besides lend. not (is_lend besides.borrower besides.number lend) };

@@ -1,6 +1,5 @@
 //! The methods that objects have.
-ghost use Rattle.std.specs.Prelude.{◌≡◌, option_map};
-ghost use Rattle.std.specs.Option.{option_copied};
+ghost use Rattle.std.specs.{Prelude.{◌≡◌, option_map}, Option.option_copied};
 ghost use Rattle.do_class.specs.Table.{signature_of};
 ghost use Rattle.do_machine.specs.Context.{method_for};
 ghost use Rattle.do_rules.specs.Judged.{found_of};

@@ -1,6 +1,5 @@
 //! Which objects items name, and how.
-ghost use Rattle.std.specs.Prelude.{◌≡◌, ◌++◌, OnOk, map};
-ghost use Rattle.std.specs.List.{filter_map};
+ghost use Rattle.std.specs.{Prelude.{◌≡◌, ◌++◌, OnOk, map}, List.filter_map};
 ghost use Rattle.do_machine.specs.Objects.{object_at};
 ghost use Rattle.do_rules.specs.Exporting.{exports_of, mine_of, releases_of};
 

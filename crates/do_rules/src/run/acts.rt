@@ -1,8 +1,7 @@
 //! What becomes of each act of an invocation.
 ghost use Rattle.std.specs.Prelude.{◌≡◌, IfOk};
-ghost use Rattle.do_machine.specs.run.Acts.{act_rule, port_of, return_rule, root_rule};
-ghost use Rattle.do_machine.specs.run.Acts.{root_value, vend_rule};
-ghost use Rattle.do_machine.specs.run.Send.{outs_of};
+ghost use Rattle.do_machine.specs.run.Acts.{act_rule, port_of, return_rule, root_rule, root_value};
+ghost use Rattle.do_machine.specs.run.{Acts.vend_rule, Send.outs_of};
 ghost use Rattle.do_rules.specs.Judged.{turn_in};
 
 use crate::basis::Basis;

@@ -1,6 +1,5 @@
 //! Where the answer of an invocation goes, and as what.
-ghost use Rattle.std.specs.Prelude.{◌≡◌, IfOk};
-ghost use Rattle.std.specs.Option.{option_copied};
+ghost use Rattle.std.specs.{Prelude.{◌≡◌, IfOk}, Option.option_copied};
 ghost use Rattle.do_machine.specs.run.Answers.{answer_line, answer_marks, answer_placed, exc_name};
 ghost use Rattle.do_machine.specs.Packing.{packed_for};
 ghost use Rattle.do_rules.specs.Delivery.{delivery_of, oneway_of, reply_by, reply_of};

@@ -1,7 +1,6 @@
 //! The values of a send and of an answer, as the signature has them.
 ghost use Rattle.std.specs.Prelude.{◌≡◌, ◌∷◌, ◌++◌, [], IfOk, OnOk, drop, if◌then◌else◌, map};
-ghost use Rattle.do_sig.specs.Calls.{encoding_fits, is_oneway, qualifiers_of};
-ghost use Rattle.do_sig.specs.Fits.{each_takes};
+ghost use Rattle.do_sig.specs.{Calls.{encoding_fits, is_oneway, qualifiers_of}, Fits.each_takes};
 ghost use Rattle.do_machine.specs.run.Send.{inputs, inputs_by, outs_by, outs_of};
 
 use crate::effect::Done;

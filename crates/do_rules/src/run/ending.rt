@@ -2,8 +2,7 @@
 ghost use Rattle.std.specs.Prelude.{◌≡◌, OnOk};
 ghost use Rattle.do_machine.specs.run.Delivery.{below_answered, delivery, failing, popped};
 ghost use Rattle.do_machine.specs.run.Fresh.{with_stack};
-ghost use Rattle.do_rules.specs.Delivery.{delivered};
-ghost use Rattle.do_rules.specs.Judged.{IsBegun, IsRunAt, run_of};
+ghost use Rattle.do_rules.specs.{Delivery.delivered, Judged.{IsBegun, IsRunAt, run_of}};
 
 use crate::effect::{Done, given, queue, show};
 use crate::judged::{Run, Turn};

@@ -1,8 +1,7 @@
 //! An invocation as it begins, and objects as they are made.
 ghost use Rattle.std.specs.Prelude.{◌≡◌, ◌≤◌, ◌+◌, ◌++◌, ◌-◌, ◌∷◌, [], IfOk, OnOk, length};
 ghost use Rattle.std.specs.Prelude.{replicate, vec_capacity, vec_len};
-ghost use Rattle.do_machine.specs.run.Fresh.{blank, fresh, pushed, with_objects};
-ghost use Rattle.do_machine.specs.run.Fresh.{with_serials};
+ghost use Rattle.do_machine.specs.run.Fresh.{blank, fresh, pushed, with_objects, with_serials};
 
 use crate::effect::Done;
 use crate::lists::one;

@@ -1,7 +1,6 @@
 //! What becomes of a message that an invocation sends.
 ghost use Rattle.std.specs.Prelude.{◌≡◌, IfOk};
-ghost use Rattle.do_machine.specs.run.Send.{arguments, local_rule, message, remote_rule};
-ghost use Rattle.do_machine.specs.run.Send.{send_rule};
+ghost use Rattle.do_machine.specs.run.Send.{arguments, local_rule, message, remote_rule, send_rule};
 ghost use Rattle.do_machine.specs.Packing.{packed_for};
 ghost use Rattle.do_rules.specs.Judged.{found_of, turn_in};
 

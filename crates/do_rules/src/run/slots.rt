@@ -1,8 +1,7 @@
 //! How the slots of an object change.
 ghost use Rattle.std.specs.Prelude.{◌≡◌, ◌==◌, ◌<◌, IfOk, IfSome, OnOk, length, position};
 ghost use Rattle.do_behave.specs.InPlace.{written};
-ghost use Rattle.do_machine.specs.Lists.{change_first};
-ghost use Rattle.do_machine.specs.run.Changes.{with_slots, with_writes};
+ghost use Rattle.do_machine.specs.{Lists.change_first, run.Changes.{with_slots, with_writes}};
 
 use crate::effect::{Done, given};
 use crate::lists::{item_at, set_item};

@@ -1,13 +1,10 @@
 //! The effect of each verdict on the top invocation.
 ghost use Rattle.std.specs.Prelude.{◌≡◌, IfOk, OnOk};
-ghost use Rattle.do_machine.specs.Effect.{only};
-ghost use Rattle.do_machine.specs.lend.Lending.{posting};
-ghost use Rattle.do_machine.specs.run.Changes.{goes_to, stands, uses_number};
-ghost use Rattle.do_machine.specs.run.Delivery.{with_top};
+ghost use Rattle.do_machine.specs.{Effect.only, lend.Lending.posting};
+ghost use Rattle.do_machine.specs.run.{Changes.{goes_to, stands, uses_number}, Delivery.with_top};
 ghost use Rattle.do_machine.specs.run.Verdicts.{effect_of, waits_for};
 ghost use Rattle.do_machine.specs.declared.item.Item.TheVariants.{Oneway};
-ghost use Rattle.do_rules.specs.Doing.{and_then};
-ghost use Rattle.do_rules.specs.Judged.{IsBegun, IsOfNode, run_of};
+ghost use Rattle.do_rules.specs.{Doing.and_then, Judged.{IsBegun, IsOfNode, run_of}};
 
 use crate::effect::{Done, given, queue, show, unchanged};
 use crate::judged::Run;

@@ -1,10 +1,7 @@
 //! What the ruling on an item does to the node that takes it.
 ghost use Rattle.std.specs.Prelude.{◌≡◌, IfOk, OnOk};
-ghost use Rattle.do_machine.specs.Effect.{only};
-ghost use Rattle.do_machine.specs.take.Take.{take_effect};
-ghost use Rattle.do_rules.specs.Doing.{and_then};
-ghost use Rattle.do_rules.specs.Judged.{step_of};
-ghost use Rattle.do_rules.specs.Ruling.{ruled};
+ghost use Rattle.do_machine.specs.{Effect.only, take.Take.take_effect};
+ghost use Rattle.do_rules.specs.{Doing.and_then, Judged.step_of, Ruling.ruled};
 
 use crate::effect::{Done, given, queue, show, unchanged};
 use crate::ends::closing::close;

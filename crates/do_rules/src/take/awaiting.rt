@@ -1,11 +1,8 @@
 //! What an answer is to the invocation that waits for it.
 ghost use Rattle.std.specs.Prelude.{◌≡◌, ◌<◌, IfSome, length, position};
-ghost use Rattle.do_machine.specs.Effect.{only};
-ghost use Rattle.do_machine.specs.take.Awaiting.{awaits, is_answered};
-ghost use Rattle.do_machine.specs.take.Awaiting.{is_for_root, stack_answered};
-ghost use Rattle.do_machine.specs.take.Awaiting.{with_answer};
-ghost use Rattle.do_rules.specs.Answering.{asked_by, awaited_in, call_of};
-ghost use Rattle.do_rules.specs.Ruling.{answering_with};
+ghost use Rattle.do_machine.specs.{Effect.only, take.Awaiting.{awaits, is_answered, is_for_root}};
+ghost use Rattle.do_machine.specs.take.Awaiting.{stack_answered, with_answer};
+ghost use Rattle.do_rules.specs.{Answering.{asked_by, awaited_in, call_of}, Ruling.answering_with};
 
 use crate::lists::{Test, keep};
 use crate::run::changes::be_answered;

@@ -1,7 +1,6 @@
 //! The objects that a node holds.
 ghost use Rattle.std.specs.Prelude.{◌≡◌, OnOk, fold};
-ghost use Rattle.do_machine.specs.Objects.{joined};
-ghost use Rattle.do_machine.specs.take.Take.{holding};
+ghost use Rattle.do_machine.specs.{Objects.joined, take.Take.holding};
 ghost use Rattle.do_rules.specs.Exporting.{exports_of};
 
 use crate::effect::Done;

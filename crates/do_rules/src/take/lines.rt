@@ -1,7 +1,6 @@
 //! What is shown of an item that is taken.
 ghost use Rattle.std.specs.Prelude.{◌≡◌, IfOk};
-ghost use Rattle.do_machine.specs.Objects.{object_at};
-ghost use Rattle.do_machine.specs.take.Lines.{item_line};
+ghost use Rattle.do_machine.specs.{Objects.object_at, take.Lines.item_line};
 
 use do_base::{NodeId, Oid, Took};
 use do_machine::Item;

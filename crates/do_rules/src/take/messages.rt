@@ -1,10 +1,7 @@
 //! What a node does with the message of an item that it takes.
 ghost use Rattle.std.specs.Prelude.{◌≡◌, OnOk};
-ghost use Rattle.do_machine.specs.Effect.{each};
-ghost use Rattle.do_machine.specs.take.Receipt.{receiving_name};
-ghost use Rattle.do_machine.specs.take.Requests.{refusing};
-ghost use Rattle.do_rules.specs.Doing.{and_then};
-ghost use Rattle.do_rules.specs.Ruling.{gaining, names_in};
+ghost use Rattle.do_machine.specs.{Effect.each, take.{Receipt.receiving_name, Requests.refusing}};
+ghost use Rattle.do_rules.specs.{Doing.and_then, Ruling.{gaining, names_in}};
 
 use crate::effect::{Done, queue, show};
 use crate::lend::asking::ask;

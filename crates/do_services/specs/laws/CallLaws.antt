@@ -1,16 +1,11 @@
 -- The call that a selector and the arguments make is one of four.
 use Rattle.std.proofs.Common.{◌≡◌, ℕ, List, Some, None}
-use Rattle.std.specs.Prelude.{codes}
-use Rattle.std.specs.Option.{IfSome}
-use Rattle.std.specs.Str.{bytes_eq}
+use Rattle.std.specs.{Prelude.codes, Option.IfSome, Str.bytes_eq}
 use Rattle.do_base.specs.values.Kinds.{text}
 use Rattle.do_grammar.specs.Words.{◌>>?◌}
-use Rattle.do_behave.specs.Steps.{local}
-use Rattle.do_behave.specs.declared.invocation.Invocation.{Invocation}
+use Rattle.do_behave.specs.{Steps.local, declared.invocation.Invocation.Invocation}
 use Rattle.do_native_acts.specs.laws.FoundLaws.{if_chosen, if_found}
-use Rattle.do_services.specs.Calls.{call_in}
-use Rattle.do_services.specs.Core.{service_in}
-use Rattle.do_services.specs.declared.calls.Call.{Call}
+use Rattle.do_services.specs.{Calls.call_in, Core.service_in, declared.calls.Call.Call}
 use Rattle.do_services.specs.declared.calls.Call.TheVariants.{Add, Remove, Items, Named}
 use Rattle.do_services.specs.declared.service.Service.{Service}
 

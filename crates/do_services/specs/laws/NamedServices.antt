@@ -1,35 +1,21 @@
 -- What a server of services keeps, finds and answers may be named.
-use Rattle.std.proofs.Common.{◌≡◌, ℕ, true, false, Bool, List as Listed, [], ◌∷◌, ◌++◌}
-use Rattle.std.proofs.Common.{Option, Some, None, length, map, sym, subst}
-use Rattle.std.specs.Prelude.{nat_lt}
-use Rattle.std.specs.List.{All}
-use Rattle.std.specs.Map.{keys_of}
-use Rattle.std.specs.Option.{IfSome}
-use Rattle.std.specs.Str.{bytes_eq}
-use Rattle.std.proofs.lemmas.List.Elements.{All-push}
-use Rattle.std.proofs.lemmas.Map.Entries.{All-lookup}
-use Rattle.do_base.specs.declared.values.value.Value.{Value}
-use Rattle.do_base.specs.declared.values.value.Value.TheVariants.{Text}
+use Rattle.std.proofs.Common.{◌≡◌, ℕ, true, false, Bool, List as Listed, [], ◌∷◌, ◌++◌, Option}
+use Rattle.std.proofs.Common.{Some, None, length, map, sym, subst}
+use Rattle.std.specs.{Prelude.nat_lt, List.All, Map.keys_of, Option.IfSome, Str.bytes_eq}
+use Rattle.std.proofs.lemmas.{List.Elements.All-push, Map.Entries.All-lookup}
+use Rattle.do_base.specs.declared.values.value.Value.{Value, TheVariants.Text}
 use Rattle.do_grammar.specs.Words.{◌>>?◌}
-use Rattle.do_behave.specs.Numbers.{truth}
-use Rattle.do_behave.specs.Steps.{local}
-use Rattle.do_behave.specs.declared.invocation.Invocation.{Invocation}
-use Rattle.do_native_acts.specs.laws.FoundLaws.{if_mapped, if_room}
-use Rattle.do_native_acts.specs.laws.KeptLaws.{kept_entries}
-use Rattle.do_native_acts.specs.laws.KindLaws.{found_of}
-use Rattle.do_native_acts.specs.laws.NamedValues.{EachNamed, Named, core_read, each_named}
-use Rattle.do_native_acts.specs.laws.NamedValues.{list_named}
-use Rattle.do_native_acts.specs.laws.NamedValues.{local_found, nil_named, number_named, slot_from}
-use Rattle.do_native_acts.specs.laws.NamedValues.{slot_to}
-use Rattle.do_native_acts.specs.laws.NamedValues.{text_named}
+use Rattle.do_behave.specs.{Numbers.truth, Steps.local, declared.invocation.Invocation.Invocation}
+use Rattle.do_native_acts.specs.laws.{FoundLaws.{if_mapped, if_room}, KeptLaws.kept_entries}
+use Rattle.do_native_acts.specs.laws.{KindLaws.found_of, NamedValues.{EachNamed, Named, core_read}}
+use Rattle.do_native_acts.specs.laws.NamedValues.{each_named, list_named, local_found, nil_named}
+use Rattle.do_native_acts.specs.laws.NamedValues.{number_named, slot_from, slot_to, text_named}
 use Rattle.do_table.specs.Entries.{value_of, removed}
 use Rattle.do_services.specs.Calls.{as_number, call_in, does, row_or_nil}
 use Rattle.do_services.specs.Core.{Entry, add_at, from_slots, keyed, row, service_in, texts_value}
-use Rattle.do_services.specs.Core.{to_slots, with_service, without}
-use Rattle.do_services.specs.declared.calls.Call.{Call}
+use Rattle.do_services.specs.{Core.{to_slots, with_service, without}, declared.calls.Call.Call}
 use Rattle.do_services.specs.declared.calls.Call.TheVariants.{Add, Remove, Items, Named as Find}
-use Rattle.do_services.specs.declared.service.Service.{Service}
-use Rattle.do_services.specs.laws.CallLaws.{each_call}
+use Rattle.do_services.specs.{declared.service.Service.Service, laws.CallLaws.each_call}
 use Rattle.do_services.specs.laws.SlotsExact.{read_back, service_back}
 
 module _ (inv : Invocation) (slots : Listed Value) where

@@ -1,20 +1,15 @@
 -- The message to a provider is a selector of three colons.
-use Rattle.std.proofs.Common.{◌≡◌, ℕ, ◌+◌, ◌-◌, ◌==◌, Bool, true, false, ◌&&◌, ◌||◌}
-use Rattle.std.proofs.Common.{nat_le, nat_lt, List as Listed, [], ◌∷◌, ◌++◌, length}
-use Rattle.std.proofs.Common.{length-append, refl, sym, get_or-append-add}
-use Rattle.std.proofs.Common.{◌∙◌, ap, subst, arith, true≢false}
-use Rattle.std.specs.Prelude.{codes, cond, slice_index, IsTrue}
-use Rattle.std.specs.List.{list_all}
+use Rattle.std.proofs.Common.{◌≡◌, ℕ, ◌+◌, ◌-◌, ◌==◌, Bool, true, false, ◌&&◌, ◌||◌, nat_le, nat_lt}
+use Rattle.std.proofs.Common.{List as Listed, [], ◌∷◌, ◌++◌, length, length-append, refl, sym}
+use Rattle.std.proofs.Common.{get_or-append-add, ◌∙◌, ap, subst, arith, true≢false}
+use Rattle.std.specs.{Prelude.{codes, cond, slice_index, IsTrue}, List.list_all}
 use Rattle.std.specs.Io.BufRead.{ends_with_byte}
 use Rattle.std.proofs.lemmas.Bool.{and_parts, and_from, eqb-true, leb-true, le-leb, lt-ltb}
-use Rattle.std.proofs.lemmas.List.Folds.{list_all-append}
-use Rattle.std.proofs.lemmas.List.Sums.{sum_by-cons}
+use Rattle.std.proofs.lemmas.List.{Folds.list_all-append, Sums.sum_by-cons}
 use Rattle.do_grammar.specs.Names.{begins_name, colons, goes_in_name, goes_in_selector, is_name}
 use Rattle.do_grammar.specs.Names.{is_selector}
-use Rattle.do_services.specs.Acts.{provider_message}
-use Rattle.do_services.specs.Core.{is_message, is_service}
-use Rattle.do_services.specs.declared.service.Service.{Service}
-use Rattle.do_services.specs.laws.SlotsExact.{service_is}
+use Rattle.do_services.specs.{Acts.provider_message, Core.{is_message, is_service}}
+use Rattle.do_services.specs.{declared.service.Service.Service, laws.SlotsExact.service_is}
 
 -- what is behind a name in the message to a provider
 abbrev behind : Listed ℕ

@@ -1,42 +1,30 @@
 -- A server of services names only what was shown, and answers well.
 use Rattle.std.proofs.Common.{◌≡◌, ℕ, pos, Bool, true, false, List as Listed, [], ◌∷◌, length}
 use Rattle.std.proofs.Common.{Option, Some, None, refl, sym, subst, arith}
-use Rattle.std.specs.Prelude.{if◌then◌else◌, codes}
-use Rattle.std.specs.List.{All}
-use Rattle.std.specs.Option.{IfSome}
-use Rattle.std.specs.Str.{bytes_eq}
+use Rattle.std.specs.{Prelude.{if◌then◌else◌, codes}, List.All, Option.IfSome, Str.bytes_eq}
 use Rattle.std.proofs.lemmas.List.Elements.{All-nil, All-cons, recursion_from_All}
-use Rattle.do_base.specs.values.Kinds.{is_nil, text}
-use Rattle.do_base.specs.declared.values.value.Value.{Value}
+use Rattle.do_base.specs.{values.Kinds.{is_nil, text}, declared.values.value.Value.Value}
 use Rattle.do_base.specs.declared.values.value.Value.TheVariants.{Nil, Num, Text}
 use Rattle.do_class.specs.Class.{Class}
 use Rattle.do_grammar.specs.Names.{is_selector}
 use Rattle.do_script.specs.Listing.{IsLocal}
 use Rattle.do_grammar.specs.Words.{◌>>?◌}
-use Rattle.do_behave.specs.Answers.{AnswersWell, NamesShown}
-use Rattle.do_behave.specs.Numbers.{truth}
-use Rattle.do_behave.specs.Ready.{IsReady}
-use Rattle.do_behave.specs.Steps.{local}
-use Rattle.do_behave.specs.declared.invocation.Invocation.{Invocation}
-use Rattle.do_behave.specs.declared.act.Act.{Act}
-use Rattle.do_behave.specs.declared.act.Act.TheVariants.{Root, Send}
-use Rattle.do_behave.specs.declared.change.LocalSet.{LocalSet}
+use Rattle.do_behave.specs.{Answers.{AnswersWell, NamesShown}, Numbers.truth, Ready.IsReady}
+use Rattle.do_behave.specs.{Steps.local, declared.{invocation.Invocation.Invocation, act.Act.Act}}
+use Rattle.do_behave.specs.declared.{act.Act.TheVariants.{Root, Send}, change.LocalSet.LocalSet}
 use Rattle.do_behave.specs.laws.Sound.{IsKept, get_kept}
-use Rattle.do_native_acts.specs.Places.{at_place}
-use Rattle.do_native_acts.specs.Steps.{caught_to, set}
+use Rattle.do_native_acts.specs.{Places.at_place, Steps.{caught_to, set}}
 use Rattle.do_native_acts.specs.laws.GoodActs.{IsGood, MayGood, choice_good, kept_good, places_good}
 use Rattle.do_native_acts.specs.laws.GoodActs.{returns_good, selector_good, then_good}
 use Rattle.do_native_acts.specs.laws.GoodSteps.{SetsNamed, answers_good, sets_good}
-use Rattle.do_native_acts.specs.laws.KindLaws.{found_of}
-use Rattle.do_native_acts.specs.laws.NamedValues.{Named, nil_named, number_named, text_named}
-use Rattle.do_native_acts.specs.Owners.{owner_in}
+use Rattle.do_native_acts.specs.laws.{KindLaws.found_of, NamedValues.{Named, nil_named}}
+use Rattle.do_native_acts.specs.{laws.NamedValues.{number_named, text_named}, Owners.owner_in}
 use Rattle.do_table.specs.Entries.{value_of}
 use Rattle.do_services.specs.Acts.{answers, asks_provider, asks_root, asks_type, has_type, keeps_on}
 use Rattle.do_services.specs.Acts.{kept_service, method_act, perform_next, perform_places, performs}
 use Rattle.do_services.specs.Acts.{provider_message, services_act, was_performed, was_raised}
-use Rattle.do_services.specs.Calls.{call_in, does}
-use Rattle.do_services.specs.Core.{from_slots, row, service_in, texts_value, to_slots}
-use Rattle.do_services.specs.declared.service.Service.{Service}
+use Rattle.do_services.specs.{Calls.{call_in, does}, Core.{from_slots, row, service_in}}
+use Rattle.do_services.specs.{Core.{texts_value, to_slots}, declared.service.Service.Service}
 use Rattle.do_services.specs.laws.Provider.{provider_colons, provider_selects}
 use Rattle.do_services.specs.laws.SlotsExact.{service_back, service_good}
 use Rattle.do_services.specs.laws.NamedServices.{NamedCall, NamedCore, NamedService, call_named}

@@ -1,26 +1,17 @@
 -- The slots of a core are read as that core, and only slots of a core are read.
-use Rattle.std.proofs.Common.{◌≡◌, ℕ, pos, true, ◌&&◌, nat_lt, List as Listed, [], ◌∷◌}
-use Rattle.std.proofs.Common.{Option, Some, None, map, refl, sym, ◌∙◌, ap, IsTrue}
-use Rattle.std.specs.Prelude.{if◌then◌else◌}
-use Rattle.std.specs.List.{All, list_all}
-use Rattle.std.specs.Option.{IfSome}
-use Rattle.std.specs.Str.{bytes_eq}
-use Rattle.std.proofs.lemmas.Bool.{and_parts, and_from}
-use Rattle.std.proofs.lemmas.List.Elements.{All-map, All-weaker}
-use Rattle.std.proofs.lemmas.List.Sums.{AllPass-from_list_all}
-use Rattle.std.proofs.lemmas.Slice.Eq.{bytes_eq-Decides}
-use Rattle.do_base.specs.values.Kinds.{text, items}
-use Rattle.do_base.specs.declared.values.value.Value.{Value, List}
+use Rattle.std.proofs.Common.{◌≡◌, ℕ, pos, true, ◌&&◌, nat_lt, List as Listed, [], ◌∷◌, Option}
+use Rattle.std.proofs.Common.{Some, None, map, refl, sym, ◌∙◌, ap, IsTrue}
+use Rattle.std.specs.{Prelude.if◌then◌else◌, List.{All, list_all}, Option.IfSome, Str.bytes_eq}
+use Rattle.std.proofs.lemmas.{Bool.{and_parts, and_from}, List.Elements.{All-map, All-weaker}}
+use Rattle.std.proofs.lemmas.{List.Sums.AllPass-from_list_all, Slice.Eq.bytes_eq-Decides}
+use Rattle.do_base.specs.{values.Kinds.{text, items}, declared.values.value.Value.{Value, List}}
 use Rattle.do_base.specs.declared.values.value.Value.TheVariants.{Num, Text}
 use Rattle.do_grammar.specs.Words.{◌>>?◌}
-use Rattle.do_native_acts.specs.Ports.{port_in}
-use Rattle.do_native_acts.specs.Rows.{rows_in, listed}
+use Rattle.do_native_acts.specs.{Ports.port_in, Rows.{rows_in, listed}}
 use Rattle.do_native_acts.specs.laws.KindLaws.{some_same, found_of, text_of_Text, text_read}
-use Rattle.do_native_acts.specs.laws.KindLaws.{items_of_List}
-use Rattle.do_native_acts.specs.laws.KindLaws.{items_read, passed, then_is}
-use Rattle.do_native_acts.specs.laws.PortLaws.{port_of_Num, port_read}
-use Rattle.do_native_acts.specs.laws.RowLaws.{read_shown, rows_hold, shown_read}
-use Rattle.do_native_acts.specs.Types.{are_types, types_in}
+use Rattle.do_native_acts.specs.laws.KindLaws.{items_of_List, items_read, passed, then_is}
+use Rattle.do_native_acts.specs.laws.{PortLaws.{port_of_Num, port_read}, RowLaws.read_shown}
+use Rattle.do_native_acts.specs.{laws.RowLaws.{rows_hold, shown_read}, Types.{are_types, types_in}}
 use Rattle.do_native_acts.specs.laws.TypeLaws.{types_back, types_shown}
 use Rattle.do_table.specs.laws.TableLaws.{same_name, table_parts}
 use Rattle.do_services.specs.Core.{Entry, are_services, from_slots, is_entry, is_message}

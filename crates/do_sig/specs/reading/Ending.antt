@@ -1,7 +1,6 @@
 -- Bytes that lead from state to state, and what comes behind them, where they may also end.
 use Rattle.std.specs.Prelude.{◌≡◌, ℕ, suc, ◌<◌, List, [], ◌∷◌, length, Option, Some, Err}
-use Rattle.do_grammar.specs.Reader.{Whole, Step, by_step, bad, accepted}
-use Rattle.do_grammar.specs.Forms.{OnStep}
+use Rattle.do_grammar.specs.{Reader.{Whole, Step, by_step, bad, accepted}, Forms.OnStep}
 
 -- the reader of the grammar below
 abbrev pub scan_all : {S K A : Type 0} → (S → ℕ → Step S K) → (S → Option A) → (S → Whole K A) → S

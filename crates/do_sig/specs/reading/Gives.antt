@@ -1,9 +1,8 @@
 -- What a function returned is what reading gives.
-use Rattle.std.specs.Prelude.{◌≡◌, Result, Ok, Err}
-use Rattle.do_sig.specs.declared.fault.Kind.{Kind}
-use Rattle.do_sig.specs.declared.fault.Kind.TheVariants.{NoSelf, TooManyArgs}
-use Rattle.do_sig.specs.declared.fault.Stop.TheVariants.{Memory, Short, Bad}
 use Rattle.do_sig.specs.declared.fault.Stop as code
+use Rattle.std.specs.Prelude.{◌≡◌, Result, Ok, Err}
+use Rattle.do_sig.specs.declared.fault.Kind.{Kind, TheVariants.{NoSelf, TooManyArgs}}
+use Rattle.do_sig.specs.declared.fault.Stop.TheVariants.{Memory, Short, Bad}
 use Rattle.do_grammar.specs.Reader.{Stop, short, bad}
 
 -- reading stopped so, unless memory ran out

@@ -2,20 +2,14 @@
 use Rattle.std.specs.Prelude.{ℕ, ◌==◌, ◌&&◌, ◌||◌, Bool, if◌then◌else◌}
 use Rattle.do_grammar.specs.Reader.{Reader, Whole, done, and_then, mapped, byte_of, scan_to}
 use Rattle.do_grammar.specs.Reader.{then_whole}
-use Rattle.do_sig.specs.declared.fault.Kind.{Kind}
-use Rattle.do_sig.specs.declared.fault.Kind.TheVariants.{BadChar}
-use Rattle.do_sig.specs.declared.outermost.place.Place.{Place}
-use Rattle.do_sig.specs.declared.outermost.place.Place.TheVariants.{Alone}
+use Rattle.do_sig.specs.declared.fault.Kind.{Kind, TheVariants.BadChar}
+use Rattle.do_sig.specs.declared.outermost.place.Place.{Place, TheVariants.Alone}
 use Rattle.do_sig.specs.declared.qualifiers.Qualifiers.{Qualifiers}
 use Rattle.do_sig.specs.declared.value_type.OutermostType.{OutermostType}
 use Rattle.do_sig.specs.declared.value_type.OutermostType.TheVariants.{Void, Pointer, Plain}
-use Rattle.do_sig.specs.Bare.{bare}
-use Rattle.do_sig.specs.Blame.{begins_type, why_no_type}
-use Rattle.do_sig.specs.Marks.{qualifier_step}
-use Rattle.do_sig.specs.MethodTypes.{QualifiedType}
-use Rattle.do_sig.specs.Places.{may_return, may_point}
-use Rattle.do_sig.specs.reading.Offsets.{after_offset, nothing_left}
-use Rattle.do_sig.specs.reading.Types.{body_at, type_at}
+use Rattle.do_sig.specs.{Bare.bare, Blame.{begins_type, why_no_type}, Marks.qualifier_step}
+use Rattle.do_sig.specs.{MethodTypes.QualifiedType, Places.{may_return, may_point}}
+use Rattle.do_sig.specs.reading.{Offsets.{after_offset, nothing_left}, Types.{body_at, type_at}}
 
 -- a byte begins an outermost type: behind V it must be v
 abbrev pub begins_outermost : Place → Bool → ℕ → Bool

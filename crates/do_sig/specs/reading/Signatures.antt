@@ -3,10 +3,8 @@ use Rattle.std.specs.Prelude.{ℕ, zero, suc, ◌==◌, List, [], ◌∷◌, ◌
 use Rattle.do_grammar.specs.Reader.{Reader, Whole, byte_of, then_whole}
 use Rattle.do_sig.specs.declared.fault.Kind.{Kind}
 use Rattle.do_sig.specs.declared.outermost.place.Place.TheVariants.{Returned, Argument}
-use Rattle.do_sig.specs.Blame.{why_no_self, why_no_more}
-use Rattle.do_sig.specs.MethodTypes.{QualifiedType, MethodType}
-use Rattle.do_sig.specs.reading.Offsets.{after_offset, nothing_left}
-use Rattle.do_sig.specs.reading.Outermost.{encoding_at}
+use Rattle.do_sig.specs.{Blame.{why_no_self, why_no_more}, MethodTypes.{QualifiedType, MethodType}}
+use Rattle.do_sig.specs.reading.{Offsets.{after_offset, nothing_left}, Outermost.encoding_at}
 
 -- the receiver's or the selector's letter, behind the offset of what stands before it
 unfoldable pub bare_at : ℕ → Reader Kind ℕ

@@ -4,13 +4,10 @@ use Rattle.std.specs.Prelude.{nat_lt, nat_le, List, [], ◌∷◌, ◌++◌, len
 use Rattle.std.specs.Prelude.{if◌then◌else◌}
 use Rattle.do_grammar.specs.Reader.{Reader, short, done, and_then, mapped, byte_of, until, Step}
 use Rattle.do_grammar.specs.Reader.{goes, leaves, fails, scan_to}
-use Rattle.do_sig.specs.declared.fault.Kind.{Kind}
-use Rattle.do_sig.specs.declared.fault.Kind.TheVariants.{Unsupported, BadChar}
-use Rattle.do_sig.specs.declared.value_type.Scalar.{Scalar}
-use Rattle.do_sig.specs.declared.value_type.ValueType.{ValueType, Array, Structure}
-use Rattle.do_sig.specs.declared.value_type.ValueType.TheVariants.{Simple}
-use Rattle.do_sig.specs.Letters.{is_digit, is_name_letter, scalar_of}
-use Rattle.do_sig.specs.Blame.{begins_type, why_no_type}
+use Rattle.do_sig.specs.declared.fault.Kind.{Kind, TheVariants.{Unsupported, BadChar}}
+use Rattle.do_sig.specs.declared.value_type.{Scalar.Scalar, ValueType.{ValueType, Array, Structure}}
+use Rattle.do_sig.specs.{declared.value_type.ValueType.TheVariants.Simple, Letters.is_digit}
+use Rattle.do_sig.specs.{Letters.{is_name_letter, scalar_of}, Blame.{begins_type, why_no_type}}
 
 -- one digit more of a count up to 1,024 with no zero in front
 abbrev pub count_step : ℕ → ℕ → Step ℕ Kind

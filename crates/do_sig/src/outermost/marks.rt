@@ -1,9 +1,7 @@
-ghost use Rattle.std.specs.Prelude.{◌≡◌, ◌==◌, ◌&&◌, ◌||◌, true, false};
-ghost use Rattle.do_sig.specs.Bare.{bare};
 ghost use Rattle.do_sig.specs.Letters as letters;
 ghost use Rattle.do_sig.specs.Marks as marks;
-ghost use Rattle.do_sig.specs.reading.Gives.{Gives, IsEarly};
-ghost use Rattle.do_sig.specs.reading.Outermost.{marks_at};
+ghost use Rattle.std.specs.Prelude.{◌≡◌, ◌==◌, ◌&&◌, ◌||◌, true, false};
+ghost use Rattle.do_sig.specs.{Bare.bare, reading.{Gives.{Gives, IsEarly}, Outermost.marks_at}};
 
 use crate::fault::{Kind, Stop};
 use crate::letters::is_qualifier;

@@ -1,6 +1,5 @@
 ghost use Rattle.std.specs.Prelude.{◌≡◌};
-ghost use Rattle.do_sig.specs.reading.Gives.{Gives, IsEarly};
-ghost use Rattle.do_sig.specs.Offsets.{fresh, digits};
+ghost use Rattle.do_sig.specs.{reading.Gives.{Gives, IsEarly}, Offsets.{fresh, digits}};
 ghost use Rattle.do_sig.specs.reading.Offsets.{skip};
 
 use crate::fault::{Kind, Stop};

@@ -1,5 +1,5 @@
-ghost use Rattle.std.specs.Prelude.{◌≡◌};
 ghost use Rattle.do_sig.specs.Places as places;
+ghost use Rattle.std.specs.Prelude.{◌≡◌};
 
 /// Where an encoding stands.
 #[derive(Clone, Copy)]

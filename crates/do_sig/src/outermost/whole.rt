@@ -1,6 +1,5 @@
 ghost use Rattle.std.specs.Prelude.{◌≡◌, true, false};
-ghost use Rattle.do_sig.specs.reading.Gives.{Gives, IsEarly};
-ghost use Rattle.do_sig.specs.reading.Outermost.{outermost_at};
+ghost use Rattle.do_sig.specs.reading.{Gives.{Gives, IsEarly}, Outermost.outermost_at};
 
 use crate::fault::{Kind, Stop};
 use crate::outermost::place::{Place, may_point, may_return};

@@ -1,8 +1,6 @@
-ghost use Rattle.std.specs.Prelude.{◌≡◌, ◌++◌, OnOk};
-ghost use Rattle.std.specs.List.{flat_map};
 ghost use Rattle.do_sig.specs.Blame as blame;
-ghost use Rattle.do_sig.specs.Spelling.{encoding_spelling};
-ghost use Rattle.do_sig.specs.reading.Gives.{Gives};
+ghost use Rattle.std.specs.{Prelude.{◌≡◌, ◌++◌, OnOk}, List.flat_map};
+ghost use Rattle.do_sig.specs.{Spelling.encoding_spelling, reading.Gives.Gives};
 ghost use Rattle.do_sig.specs.reading.Signatures.{args_at, signature_of};
 
 use crate::encoding::{Encoding, Encodings, encoding_of, push_encoding};

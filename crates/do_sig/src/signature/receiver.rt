@@ -1,7 +1,6 @@
-ghost use Rattle.std.specs.Prelude.{◌≡◌};
 ghost use Rattle.do_sig.specs.Blame as blame;
-ghost use Rattle.do_sig.specs.reading.Gives.{Gives};
-ghost use Rattle.do_sig.specs.reading.Signatures.{bare_at};
+ghost use Rattle.std.specs.Prelude.{◌≡◌};
+ghost use Rattle.do_sig.specs.reading.{Gives.Gives, Signatures.bare_at};
 
 use crate::fault::{Kind, Stop};
 use crate::letters::{is_qualifier, is_unsupported, scalar_of};

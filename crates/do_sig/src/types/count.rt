@@ -1,7 +1,6 @@
 ghost use Rattle.std.specs.Prelude.{◌≡◌, ◌≤◌};
 ghost use Rattle.do_grammar.specs.Reader.{scan_to};
-ghost use Rattle.do_sig.specs.reading.Gives.{Gives, IsEarly};
-ghost use Rattle.do_sig.specs.reading.Types.{count_step, count_at};
+ghost use Rattle.do_sig.specs.reading.{Gives.{Gives, IsEarly}, Types.{count_step, count_at}};
 
 use crate::fault::{Kind, Stop};
 use do_grammar::split_byte;

@@ -1,5 +1,4 @@
-ghost use Rattle.std.specs.Prelude.{◌≡◌, map};
-ghost use Rattle.std.specs.List.{list_all};
+ghost use Rattle.std.specs.{Prelude.{◌≡◌, map}, List.list_all};
 ghost use Rattle.do_sig.specs.Fits.{within, takes_number, is_not_zero, takes_text, simple_fits};
 ghost use Rattle.do_sig.specs.Fits.{fits, each_takes};
 

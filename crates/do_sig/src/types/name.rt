@@ -1,7 +1,6 @@
 ghost use Rattle.std.specs.Prelude.{◌≡◌, ◌&&◌, ◌||◌, nat_le, nat_lt, []};
 ghost use Rattle.do_grammar.specs.Reader.{scan_to};
-ghost use Rattle.do_sig.specs.Letters.{is_digit, is_name_letter};
-ghost use Rattle.do_sig.specs.reading.Gives.{Gives, IsEarly};
+ghost use Rattle.do_sig.specs.{Letters.{is_digit, is_name_letter}, reading.Gives.{Gives, IsEarly}};
 ghost use Rattle.do_sig.specs.reading.Types.{name_step, goes_on_name};
 
 use crate::fault::{Kind, Stop};

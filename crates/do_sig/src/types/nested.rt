@@ -1,7 +1,6 @@
 ghost use Rattle.std.specs.Prelude.{◌≡◌, List, []};
 ghost use Rattle.do_grammar.specs.Reader.{until};
-ghost use Rattle.do_sig.specs.Blame.{why_no_type};
-ghost use Rattle.do_sig.specs.reading.Gives.{Gives, IsEarly, IsEarlyKind};
+ghost use Rattle.do_sig.specs.{Blame.why_no_type, reading.Gives.{Gives, IsEarly, IsEarlyKind}};
 ghost use Rattle.do_sig.specs.reading.Types.{type_at, counted_at, named_at, exactly};
 
 use crate::fault::{Kind, Stop};

@@ -1,21 +1,16 @@
 //! Acts: the top invocation does its next act.
-ghost use Rattle.std.specs.Prelude.{◌≡◌, ◌&&◌, IfOk, None, OnErr, OnOk, Some};
-ghost use Rattle.std.specs.Prelude.{◌<◌, length, slice_get};
+ghost use Rattle.std.specs.Prelude.{◌≡◌, ◌&&◌, IfOk, None, OnErr, OnOk, Some, ◌<◌, length};
+ghost use Rattle.std.specs.Prelude.{slice_get};
 ghost use Rattle.do_behave.specs.Changes.{IsFitting, Means};
 ghost use Rattle.do_behave.specs.declared.invocation.Invocation.{Invocation};
-ghost use Rattle.do_machine.specs.Context.{RunContext};
-ghost use Rattle.do_machine.specs.run.Acts.{act_rule};
-ghost use Rattle.do_machine.specs.run.Run.{next_act};
+ghost use Rattle.do_machine.specs.{Context.RunContext, run.{Acts.act_rule, Run.next_act}};
 ghost use Rattle.do_machine.specs.run.Verdicts.{effect_of};
 ghost use Rattle.do_part.specs.Changed.{act_left_on, changed};
-ghost use Rattle.do_effects.specs.Doing.{doing};
-ghost use Rattle.do_effects.specs.Plans.{CanCarryOut, IsRun, IsRunning, plan_effect, plan_needs};
-ghost use Rattle.do_effects.specs.Tidy.{IsTidy};
-ghost use Rattle.do_site.specs.Kept.{IsKept, StaysBut};
-ghost use Rattle.do_site.specs.Plans.{Allows, IsEnough};
+ghost use Rattle.do_effects.specs.{Doing.doing, Plans.{CanCarryOut, IsRun, IsRunning, plan_effect}};
+ghost use Rattle.do_effects.specs.{Plans.plan_needs, Tidy.IsTidy};
+ghost use Rattle.do_site.specs.{Kept.{IsKept, StaysBut}, Plans.{Allows, IsEnough}};
 ghost use Rattle.do_site.specs.Room.{CanSettle, HasPlace, HasPlaceFor, HasPlaceToLeave, to_keep};
-ghost use Rattle.do_site.specs.Running.{IsRunOf, is_step};
-ghost use Rattle.do_site.specs.Steps.{IsSame, Moves};
+ghost use Rattle.do_site.specs.{Running.{IsRunOf, is_step}, Steps.{IsSame, Moves}};
 
 use crate::allowing::allowed;
 use crate::ground::judged_by;

@@ -3,11 +3,9 @@ ghost use Rattle.std.specs.Prelude.{◌≡◌, IfOk, List, OnErr, OnOk};
 ghost use Rattle.do_class.specs.Class.{Class};
 ghost use Rattle.do_stack.specs.Answered.{top_answer};
 ghost use Rattle.do_effects.specs.Tidy.{IsTidy};
-ghost use Rattle.do_site.specs.Kept.{IsKept, StaysKept};
-ghost use Rattle.do_site.specs.Room.{CanSettle};
+ghost use Rattle.do_site.specs.{Kept.{IsKept, StaysKept}, Room.CanSettle};
 ghost use Rattle.do_site.specs.Running.{AnswerUsed, IsOver, PlansAnswer, next_of, raised_in};
-ghost use Rattle.do_site.specs.Steps.{IsSame};
-ghost use Rattle.do_site.specs.Taken.{IsTaken};
+ghost use Rattle.do_site.specs.{Steps.IsSame, Taken.IsTaken};
 
 use crate::ground::judged_by;
 use crate::needs::Needs;

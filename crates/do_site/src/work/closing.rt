@@ -1,16 +1,12 @@
 //! Ends that close, and calls that are given up.
-ghost use Rattle.std.specs.Prelude.{◌≡◌, ◌+◌, ◌≤◌, [], IfOk, IfSome, List, OnErr, OnOk};
-ghost use Rattle.std.specs.Prelude.{IsOk, is_some, length, true};
+ghost use Rattle.std.specs.Prelude.{◌≡◌, ◌+◌, ◌≤◌, [], IfOk, IfSome, List, OnErr, OnOk, IsOk};
+ghost use Rattle.std.specs.Prelude.{is_some, length, true};
 ghost use Rattle.do_class.specs.Class.{Class};
-ghost use Rattle.do_machine.specs.State.{is_open};
-ghost use Rattle.do_machine.specs.ends.Closing.{closing};
-ghost use Rattle.do_machine.specs.ends.TimeOut.{time_out};
-ghost use Rattle.do_machine.specs.take.Take.{take_effect};
-ghost use Rattle.do_machine.specs.declared.item.Item.TheVariants.{End};
+ghost use Rattle.do_machine.specs.{State.is_open, ends.{Closing.closing, TimeOut.time_out}};
+ghost use Rattle.do_machine.specs.{take.Take.take_effect, declared.item.Item.TheVariants.End};
 ghost use Rattle.do_network.specs.Own.{site_context};
 ghost use Rattle.do_effects.specs.Tidy.{IsTidy};
-ghost use Rattle.do_site.specs.Kept.{StaysBut, StaysKept};
-ghost use Rattle.do_site.specs.Room.{CanSettle, HasPlaceToClose};
+ghost use Rattle.do_site.specs.{Kept.{StaysBut, StaysKept}, Room.{CanSettle, HasPlaceToClose}};
 ghost use Rattle.do_site.specs.Steps.{Does, IsFetched, IsSame, Moves, close_effect, end_effect};
 
 use crate::needs::Needs;

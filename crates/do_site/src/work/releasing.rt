@@ -3,15 +3,11 @@ ghost use Rattle.std.specs.Prelude.{◌≡◌, ◌≤◌, IfSome, IsOk, List, On
 ghost use Rattle.do_class.specs.Class.{Class};
 ghost use Rattle.do_export.specs.Counts.{count_of};
 ghost use Rattle.do_frames.specs.declared.frame.Frame.{Frame as Framed};
-ghost use Rattle.do_machine.specs.State.{is_open};
-ghost use Rattle.do_machine.specs.ends.Closing.{closing};
-ghost use Rattle.do_network.specs.Counting.{given_back};
-ghost use Rattle.do_network.specs.Site.{frame_move, site_move};
+ghost use Rattle.do_machine.specs.{State.is_open, ends.Closing.closing};
+ghost use Rattle.do_network.specs.{Counting.given_back, Site.{frame_move, site_move}};
 ghost use Rattle.do_streams.specs.Reading.{AreKnown, IsReadBy, names_of};
-ghost use Rattle.do_effects.specs.Doing.{doing};
-ghost use Rattle.do_effects.specs.Tidy.{IsTidy};
-ghost use Rattle.do_site.specs.Kept.{StaysKept};
-ghost use Rattle.do_site.specs.Room.{CanSettle};
+ghost use Rattle.do_effects.specs.{Doing.doing, Tidy.IsTidy};
+ghost use Rattle.do_site.specs.{Kept.StaysKept, Room.CanSettle};
 ghost use Rattle.do_site.specs.Steps.{IsFetched, IsSame, Makes, with_reading};
 
 use crate::work::Work;

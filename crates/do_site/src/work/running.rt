@@ -2,10 +2,7 @@
 ghost use Rattle.std.specs.Prelude.{◌≡◌, IfOk, OnErr};
 ghost use Rattle.do_machine.specs.run.Run.{run_effect};
 ghost use Rattle.do_network.specs.Own.{site_context};
-ghost use Rattle.do_site.specs.Kept.{IsKept};
-ghost use Rattle.do_site.specs.Room.{CanSettle};
-ghost use Rattle.do_site.specs.Running.{next_of};
-ghost use Rattle.do_site.specs.Steps.{Does, IsSame};
+ghost use Rattle.do_site.specs.{Kept.IsKept, Room.CanSettle, Running.next_of, Steps.{Does, IsSame}};
 
 use crate::work::Work;
 use do_behave::{Answer, Behaviour, InvState};

@@ -1,15 +1,13 @@
 //! Items that say that something is over, for which no memory is taken.
 ghost use Rattle.std.specs.Prelude.{◌≡◌, [], IfSome, IsOk, OnErr, OnOk, false, true};
 ghost use Rattle.do_frames.specs.declared.frame.Frame.{Frame as Framed};
-ghost use Rattle.do_machine.specs.State.{is_open};
-ghost use Rattle.do_machine.specs.declared.item.Item.TheVariants.{End, Settled};
+ghost use Rattle.do_machine.specs.{State.is_open, declared.item.Item.TheVariants.{End, Settled}};
 ghost use Rattle.do_machine.specs.take.Lines.{item_line};
 ghost use Rattle.do_network.specs.Own.{site_context};
 ghost use Rattle.do_rules.specs.Ruling.{ruling as ruling_on};
 ghost use Rattle.do_streams.specs.Reading.{AreKnown, IsReadBy, names_of};
 ghost use Rattle.do_effects.specs.Doing.{doing};
-ghost use Rattle.do_site.specs.Kept.{IsKept};
-ghost use Rattle.do_site.specs.Room.{CanSettle, IsEnding};
+ghost use Rattle.do_site.specs.{Kept.IsKept, Room.{CanSettle, IsEnding}};
 ghost use Rattle.do_site.specs.Steps.{IsFetched, IsSame, Makes, item_move, with_reading};
 
 use crate::work::Work;

@@ -1,12 +1,8 @@
 //! Starts.
 ghost use Rattle.std.specs.Prelude.{IfOk, OnErr, OnOk};
-ghost use Rattle.do_machine.specs.Start.{start_effect};
-ghost use Rattle.do_machine.specs.Effect.{only};
-ghost use Rattle.do_machine.specs.run.Fresh.{pushed};
+ghost use Rattle.do_machine.specs.{Start.start_effect, Effect.only, run.Fresh.pushed};
 ghost use Rattle.do_effects.specs.Tidy.{IsTidy};
-ghost use Rattle.do_site.specs.Kept.{StaysKept};
-ghost use Rattle.do_site.specs.Room.{CanSettle};
-ghost use Rattle.do_site.specs.Steps.{Does, IsSame, Moves};
+ghost use Rattle.do_site.specs.{Kept.StaysKept, Room.CanSettle, Steps.{Does, IsSame, Moves}};
 
 use crate::ground::judged_by;
 use crate::needs::Needs;

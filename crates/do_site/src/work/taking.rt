@@ -1,27 +1,19 @@
 //! Frames that are taken.
-ghost use Rattle.std.specs.Prelude.{◌≡◌, ◌≢◌, ◌≤◌, IfErr, IfOk, IfSome, IsOk, OnErr, OnOk};
-ghost use Rattle.std.specs.Prelude.{None, Some, false, true};
+ghost use Rattle.std.specs.Prelude.{◌≡◌, ◌≢◌, ◌≤◌, IfErr, IfOk, IfSome, IsOk, OnErr, OnOk, None};
+ghost use Rattle.std.specs.Prelude.{Some, false, true};
 ghost use Rattle.do_frames.specs.declared.fault.RawFault.TheVariants.{Memory};
-ghost use Rattle.do_frames.specs.declared.frame.Frame.{Frame as Framed};
-ghost use Rattle.do_frames.specs.Frames.{kind_of};
+ghost use Rattle.do_frames.specs.{declared.frame.Frame.Frame as Framed, Frames.kind_of};
 ghost use Rattle.do_frames.specs.Kinds.{kind_number, numbers_alone};
-ghost use Rattle.do_machine.specs.run.Run.{Acting};
-ghost use Rattle.do_machine.specs.State.{is_open};
-ghost use Rattle.do_network.specs.Faults.{peer_fault};
-ghost use Rattle.do_network.specs.Frames.{read_frame};
-ghost use Rattle.do_network.specs.Links.{having_read};
-ghost use Rattle.do_network.specs.Own.{site_context};
-ghost use Rattle.do_network.specs.Site.{frame_input, frame_move, takes_frame};
+ghost use Rattle.do_machine.specs.{run.Run.Acting, State.is_open};
+ghost use Rattle.do_network.specs.{Faults.peer_fault, Frames.read_frame, Links.having_read};
+ghost use Rattle.do_network.specs.{Own.site_context, Site.{frame_input, frame_move, takes_frame}};
 ghost use Rattle.do_machine.specs.take.Lines.{item_line};
 ghost use Rattle.do_rules.specs.Ruling.{ruling as ruling_on};
 ghost use Rattle.do_streams.specs.Reading.{AreKnown, IsReadBy, IsReading, names_of};
-ghost use Rattle.do_effects.specs.Doing.{doing};
-ghost use Rattle.do_effects.specs.Taking.{CanTake, on_message, taking_needs};
-ghost use Rattle.do_site.specs.Kept.{IsKept, StaysBut};
-ghost use Rattle.do_site.specs.Room.{CanSettle, HasPlaceFor, IsReadyToTake};
-ghost use Rattle.do_site.specs.Steps.{Handles, IsFetched, IsSame, Makes, item_move, part_of};
-ghost use Rattle.do_site.specs.Steps.{seen_of};
-ghost use Rattle.do_site.specs.Steps.{with_reading};
+ghost use Rattle.do_effects.specs.{Doing.doing, Taking.{CanTake, on_message, taking_needs}};
+ghost use Rattle.do_site.specs.{Kept.{IsKept, StaysBut}, Room.{CanSettle, HasPlaceFor}};
+ghost use Rattle.do_site.specs.{Room.IsReadyToTake, Steps.{Handles, IsFetched, IsSame, Makes}};
+ghost use Rattle.do_site.specs.Steps.{item_move, part_of, seen_of, with_reading};
 
 use crate::faults::peer_fault;
 use crate::ground::judged_by;

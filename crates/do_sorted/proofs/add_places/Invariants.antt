@@ -1,5 +1,5 @@
-use Rattle.std.proofs.Common.{◌-◌, ◌≤◌, vec_len, vec_capacity}
 use Rattle.do_sorted.proofs.add_places.Given as goal
+use Rattle.std.proofs.Common.{◌-◌, ◌≤◌, vec_len, vec_capacity}
 
 -- there are no fewer places than at first, no more than are wanted, and room for all of these
 abbrev pub invariant-loop-alloc : goal.invariant-loop-alloc

@@ -1,7 +1,6 @@
 //! Nodes made of two sides, turned where one side has outgrown the other.
 ghost use Rattle.std.specs.Prelude.{◌≡◌, ◌+◌, ◌<◌, ◌^◌, ◌∷◌, ◌++◌, length, IsTrue};
-ghost use Rattle.do_sorted.specs.Tree.{items_of, IsCounted};
-ghost use Rattle.do_sorted.specs.declared.tree.Node.TheVariants.{Fork};
+ghost use Rattle.do_sorted.specs.{Tree.{items_of, IsCounted}, declared.tree.Node.TheVariants.Fork};
 
 use super::{Node, Tree};
 use std::mem;

@@ -1,8 +1,6 @@
 //! What a tree's items are, and where a key stands among rows.
 ghost use Rattle.std.specs.Prelude.{◌≡◌, ◌+◌, ◌<◌, ◌^◌, [], length, Some, T, IfOk, IfErr};
-ghost use Rattle.std.specs.Prelude.{slice_get, set};
-ghost use Rattle.std.specs.Option.{option_copied};
-ghost use Rattle.std.specs.FinMap.{is_sorted};
+ghost use Rattle.std.specs.{Prelude.{slice_get, set}, Option.option_copied, FinMap.is_sorted};
 ghost use Rattle.do_sorted.specs.Places.{IsRowOf, IsGapFor};
 
 use super::{Node, Tree};

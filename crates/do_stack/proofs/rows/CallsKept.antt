@@ -1,13 +1,9 @@
 -- To put the row of a late call is to keep the call.
 use Rattle.std.proofs.Common.{◌≡◌, ℕ, ◌<◌, cond, not, T, [], ◌∷◌, map, refl, sym, ap, ◌∙◌, subst}
-use Rattle.std.specs.Ordering.{nat_cmp}
-use Rattle.std.specs.FinMap.{put, is_sorted}
-use Rattle.std.specs.FinMap.Entries.{below_all, by_order}
-use Rattle.std.specs.declared.cmp.Ordering.{Ordering}
-use Rattle.std.specs.declared.cmp.Ordering.TheVariants.{Less, Equal, Greater}
+use Rattle.std.specs.{Ordering.nat_cmp, FinMap.{put, is_sorted, Entries.{below_all, by_order}}}
+use Rattle.std.specs.declared.cmp.Ordering.{Ordering, TheVariants.{Less, Equal, Greater}}
 use Rattle.do_behave.specs.declared.invocation.Waited.{Waited}
-use Rattle.do_machine.specs.Lists.{inserted}
-use Rattle.do_machine.specs.ends.TimeOut.{late_lt}
+use Rattle.do_machine.specs.{Lists.inserted, ends.TimeOut.late_lt}
 use Rattle.do_stack.specs.LateCalls.{call_of, others, kept}
 use Rattle.do_stack.proofs.rows.NumbersCompared.{are_equal, below_is, both, equal_is, first}
 use Rattle.do_stack.proofs.rows.NumbersCompared.{greater_is, is_before, is_below, less_is}

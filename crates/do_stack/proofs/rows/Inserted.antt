@@ -1,8 +1,7 @@
 -- Where an element goes in a list in order.
 use Rattle.std.proofs.Common.{◌≡◌, ℕ, suc, ◌+◌, Bool, true, false, cond, not, List, ◌∷◌, length}
 use Rattle.std.proofs.Common.{Some, None, refl, ap, ◌∙◌, arith}
-use Rattle.std.specs.Prelude.{nat_lt}
-use Rattle.std.specs.List.{position_or_len}
+use Rattle.std.specs.{Prelude.nat_lt, List.position_or_len}
 use Rattle.do_machine.specs.Lists.{put_at, inserted}
 use Rattle.do_stack.proofs.rows.NumbersCompared.{is_before, one_higher}
 

@@ -1,7 +1,6 @@
 -- Rows of late calls by rising number.
 use Rattle.std.proofs.Common.{◌≡◌, ℕ, ◌<◌, cond, not, T, List, [], ◌∷◌, refl, ap, ◌∙◌, arith}
-use Rattle.std.specs.Ordering.{nat_cmp}
-use Rattle.std.specs.FinMap.Entries.{below_all}
+use Rattle.std.specs.{Ordering.nat_cmp, FinMap.Entries.below_all}
 use Rattle.do_sorted.specs.Rows.{without}
 use Rattle.do_behave.specs.declared.invocation.Waited.{Waited}
 use Rattle.do_stack.proofs.rows.NumbersCompared.{apart, below_is, both, first, is_below, second}

@@ -1,13 +1,10 @@
 -- Of rows by rising number those that are kept rise, and are the calls that are kept.
 use Rattle.std.proofs.Common.{◌≡◌, ℕ, Bool, true, false, cond, not, ◌==◌, T, [], ◌∷◌, map, filter}
 use Rattle.std.proofs.Common.{refl, ap}
-use Rattle.std.specs.Ordering.{nat_cmp}
-use Rattle.std.specs.FinMap.{is_sorted}
-use Rattle.std.specs.FinMap.Entries.{below_all}
+use Rattle.std.specs.{Ordering.nat_cmp, FinMap.{is_sorted, Entries.below_all}}
 use Rattle.do_behave.specs.declared.invocation.Waited.{Waited}
 use Rattle.do_stack.specs.LateCalls.{call_of}
-use Rattle.do_stack.proofs.rows.NumbersCompared.{both, first, second}
-use Rattle.do_stack.proofs.rows.RisingRows.{LateRows}
+use Rattle.do_stack.proofs.rows.{NumbersCompared.{both, first, second}, RisingRows.LateRows}
 
 -- to keep the rows of other peers is to keep the calls to them
 pub others_stay : (peer : ℕ) (rows : LateRows)

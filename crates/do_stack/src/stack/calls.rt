@@ -4,11 +4,9 @@ ghost use Rattle.std.specs.Prelude.{if◌then◌else◌};
 ghost use Rattle.do_base.specs.names.Names.{ObjectName};
 ghost use Rattle.do_behave.specs.declared.invocation.Invocation.{Invocation};
 ghost use Rattle.do_behave.specs.declared.invocation.InvState.TheVariants.{Waits};
-ghost use Rattle.do_stack.specs.Waiting.{waiting, with_answer, with_top};
-ghost use Rattle.do_stack.specs.Uses.{uses, stack_uses};
+ghost use Rattle.do_stack.specs.{Waiting.{waiting, with_answer, with_top}, Uses.{uses, stack_uses}};
 ghost use Rattle.do_stack.specs.Places.{NoneWaits, IsPlaceOf};
-ghost use Rattle.do_machine.specs.held.Refers.{answer_values, state_values};
-ghost use Rattle.do_machine.specs.run.Changes.{stands};
+ghost use Rattle.do_machine.specs.{held.Refers.{answer_values, state_values}, run.Changes.stands};
 ghost use Rattle.do_stack.specs.Answered.{answer_taken, top_answer, values_taken};
 
 use super::Stack;

@@ -1,18 +1,13 @@
 //! The calls that are given up, with a peer or alone.
 ghost use Rattle.std.specs.Prelude.{◌≡◌, ◌+◌, ◌<◌, ◌≤◌, ◌==◌, OnOk, OnErr, IsOk, Some, IsSome, map};
-ghost use Rattle.std.specs.Prelude.{filter, not};
-ghost use Rattle.std.specs.List.{list_any};
+ghost use Rattle.std.specs.{Prelude.{filter, not}, List.list_any};
 ghost use Rattle.do_base.specs.names.Names.{ObjectName};
 ghost use Rattle.do_base.specs.declared.events.exception.Exc.TheVariants.{TimedOut};
 ghost use Rattle.do_behave.specs.declared.invocation.Answer.TheVariants.{Raised};
-ghost use Rattle.do_machine.specs.ends.Closing.{without_answer};
-ghost use Rattle.do_machine.specs.run.Changes.{answered};
+ghost use Rattle.do_machine.specs.{ends.Closing.without_answer, run.Changes.answered};
 ghost use Rattle.do_machine.specs.take.Awaiting.{is_answered, late_answered};
 ghost use Rattle.do_machine.specs.declared.node.LateCall.{LateCall};
-ghost use Rattle.do_stack.specs.Waiting.{with_top};
-ghost use Rattle.do_stack.specs.Late.{top_call};
-ghost use Rattle.do_stack.specs.LateCalls.{kept};
-ghost use Rattle.do_stack.specs.Uses.{stack_uses};
+ghost use Rattle.do_stack.specs.{Waiting.with_top, Late.top_call, LateCalls.kept, Uses.stack_uses};
 
 use super::Stack;
 use crate::waits::{fail_all, late_call};

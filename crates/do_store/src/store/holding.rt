@@ -1,7 +1,7 @@
 //! Holders of objects outside the slots.
-ghost use Rattle.std.specs.Prelude.{◌≡◌, ◌≢◌, [], ◌∷◌, ◌+◌, ◌-◌, ◌<◌, ◌^◌, Some};
+ghost use Rattle.std.specs.Prelude.{◌≡◌, ◌≢◌, [], ◌∷◌, ◌+◌, ◌-◌, ◌<◌, ◌^◌, Some, true, false};
+ghost use Rattle.std.specs.Prelude.{if◌then◌else◌};
 ghost use Rattle.do_store.specs.Names.{Stored, find_stored, held_of, replaced};
-ghost use Rattle.std.specs.Prelude.{true, false, if◌then◌else◌};
 
 use super::Store;
 use crate::counting::settle;

@@ -1,16 +1,11 @@
 //! Frames of peers that are read, and the peers.
-ghost use Rattle.std.specs.Prelude.{◌≡◌, ◌≢◌, ◌<◌, IfErr, IfOk, IfSome, Some};
-ghost use Rattle.std.specs.Prelude.{length, map, slice_get};
-ghost use Rattle.std.specs.Prelude.{true};
-ghost use Rattle.do_frames.specs.declared.fault.RawFault.TheVariants.{Memory};
-ghost use Rattle.do_frames.specs.declared.frame.Frame.{Frame};
-ghost use Rattle.do_frames.specs.Frames.{after_frame};
-ghost use Rattle.do_frames.specs.Kinds.{numbers_alone};
-ghost use Rattle.do_network.specs.Frames.{read_frame};
-ghost use Rattle.do_network.specs.Links.{change_link};
-ghost use Rattle.do_streams.specs.Ordered.{ArePorts};
-ghost use Rattle.do_streams.specs.Reading.{AllKnown, AreKnown, IsReadBy, IsReading, names_of};
-ghost use Rattle.do_streams.specs.Streamed.{link_of};
+ghost use Rattle.std.specs.Prelude.{◌≡◌, ◌≢◌, ◌<◌, IfErr, IfOk, IfSome, Some, length, map};
+ghost use Rattle.std.specs.Prelude.{slice_get, true};
+ghost use Rattle.do_frames.specs.declared.{fault.RawFault.TheVariants.Memory, frame.Frame.Frame};
+ghost use Rattle.do_frames.specs.{Frames.after_frame, Kinds.numbers_alone};
+ghost use Rattle.do_network.specs.{Frames.read_frame, Links.change_link};
+ghost use Rattle.do_streams.specs.{Ordered.ArePorts, Reading.{AllKnown, AreKnown, IsReadBy}};
+ghost use Rattle.do_streams.specs.{Reading.{IsReading, names_of}, Streamed.link_of};
 
 use super::Streams;
 use crate::end::End;

@@ -1,8 +1,7 @@
 -- What adding a name leaves, where there is room for it or not.
 use Rattle.std.proofs.Common.{◌≡◌, ℕ, Bool, true, false, List, [], ◌∷◌, ◌++◌, Option, Some, None}
 use Rattle.std.proofs.Common.{refl, sym, ◌∙◌, ap, is_some, true≢false}
-use Rattle.std.specs.Prelude.{if◌then◌else◌}
-use Rattle.std.specs.Str.{bytes_eq}
+use Rattle.std.specs.{Prelude.if◌then◌else◌, Str.bytes_eq}
 use Rattle.do_table.specs.Entries.{value_of, added, are_distinct, entered, given}
 use Rattle.do_table.specs.laws.TableLaws.{distinct_pushed, same_name, value_pushed}
 

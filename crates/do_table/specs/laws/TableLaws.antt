@@ -2,15 +2,10 @@
 use Rattle.std.proofs.Common.{◌≡◌, ℕ, ◌≤◌, zero, suc, Bool, true, false, not, ◌&&◌, List, [], ◌∷◌}
 use Rattle.std.proofs.Common.{◌++◌, length, Option, Some, None, refl, sym, ◌∙◌, ap, subst, arith}
 use Rattle.std.proofs.Common.{true≢false, is_some, take, map, ◌+◌, ◌<◌, nat_le, length-append}
-use Rattle.std.proofs.Common.{add-one}
-use Rattle.std.specs.Prelude.{if◌then◌else◌, slice_get, cond}
-use Rattle.std.specs.List.{list_all}
-use Rattle.std.specs.Str.{bytes_eq}
-use Rattle.std.proofs.lemmas.Bool.{and_parts, and_from, leb-true, le-leb}
-use Rattle.std.proofs.lemmas.List.Folds.{list_all-append}
-use Rattle.std.proofs.lemmas.Cmp.{nat_list_eq_equiv}
-use Rattle.std.proofs.lemmas.List.{map-append}
-use Rattle.std.proofs.lemmas.Slice.Eq.{bytes_eq-Decides}
+use Rattle.std.{proofs.Common.add-one, specs.Prelude.{if◌then◌else◌, slice_get, cond}}
+use Rattle.std.{specs.{List.list_all, Str.bytes_eq}, proofs.lemmas.Bool.{and_parts, and_from}}
+use Rattle.std.proofs.lemmas.{Bool.{leb-true, le-leb}, List.Folds.list_all-append}
+use Rattle.std.proofs.lemmas.{Cmp.nat_list_eq_equiv, List.map-append, Slice.Eq.bytes_eq-Decides}
 use Rattle.do_table.specs.Entries.{value_of, added, removed, are_distinct, is_table, given, unless}
 
 -- names with the same bytes are the same

@@ -1,39 +1,24 @@
 -- An event at which a node acts sends what has a spelling.
+use Rattle.do_network.specs.declared.input.Input.TheVariants as inputs
 use Rattle.std.proofs.Common.{◌≡◌, ◌≤◌, ℕ, Bool, true, false, cond, List, not, refl, sym, ap, ◌∙◌}
 use Rattle.std.proofs.Common.{subst, arith}
 use Rattle.std.specs.Prelude.{None, Option, Some, option_and_then, option_map, suc, unwrap_or}
-use Rattle.do_base.specs.declared.events.event.Event.{Event}
-use Rattle.do_base.specs.declared.events.event.Event.TheVariants.{Close, Run, Start, Timeout}
-use Rattle.do_base.specs.declared.values.value.Value.{Value}
-use Rattle.do_class.specs.Class.{Class}
-use Rattle.do_class.specs.Table.{IsTable}
-use Rattle.do_machine.specs.declared.node.Node.{Node}
-use Rattle.do_machine.specs.declared.state.Effect.{Effect}
-use Rattle.do_machine.specs.declared.state.State.{State}
-use Rattle.do_machine.specs.Commit.{moved, skipped}
-use Rattle.do_machine.specs.Context.{context}
-use Rattle.do_machine.specs.Start.{start_effect}
-use Rattle.do_machine.specs.State.{is_open, node}
-use Rattle.do_machine.specs.Step.{moved_by, step}
-use Rattle.do_machine.specs.ends.Closing.{closing}
-use Rattle.do_machine.specs.ends.TimeOut.{time_out}
-use Rattle.do_machine.specs.run.Run.{Acting, run_effect}
+use Rattle.do_base.specs.declared.events.event.Event.{Event, TheVariants.{Close, Run, Start}}
+use Rattle.do_base.specs.declared.{events.event.Event.TheVariants.Timeout, values.value.Value.Value}
+use Rattle.do_class.specs.{Class.Class, Table.IsTable}
+use Rattle.do_machine.specs.declared.{node.Node.Node, state.{Effect.Effect, State.State}}
+use Rattle.do_machine.specs.{Commit.{moved, skipped}, Context.context, Start.start_effect}
+use Rattle.do_machine.specs.{State.{is_open, node}, Step.{moved_by, step}, ends.Closing.closing}
+use Rattle.do_machine.specs.{ends.TimeOut.time_out, run.Run.{Acting, run_effect}}
 use Rattle.do_facts.specs.steps.IsStep.{IsRuleOf}
-use Rattle.do_network.specs.declared.input.Input.{Input}
-use Rattle.do_network.specs.declared.input.Input.TheVariants as inputs
-use Rattle.do_network.specs.Links.{Part}
-use Rattle.do_network.specs.Net.{Net, Place, part_at, place_at}
-use Rattle.do_network.specs.Site.{Handled, enabled_input, moves}
+use Rattle.do_network.specs.{declared.input.Input.Input, Links.Part, Net.{Net, Place, part_at}}
+use Rattle.do_network.specs.{Net.place_at, Site.{Handled, enabled_input, moves}}
 use Rattle.do_limits.specs.SendableStates.{StateIsSendable}
-use Rattle.do_agreement.proofs.acts.ActEvents.{judged_so}
-use Rattle.do_agreement.proofs.acts.ActsAgree.{node_is}
-use Rattle.do_agreement.proofs.agreement.GoesOn.{Goes}
-use Rattle.do_agreement.proofs.places.PlacesChanged.{some_is}
-use Rattle.do_within.specs.Received.{ReceivedWithin}
-use Rattle.do_within.proofs.sites.Acts.{DoesWithin, act_does}
-use Rattle.do_within.proofs.sent.Effects.{WaitsSpelled}
-use Rattle.do_within.proofs.sites.Hands.{HandsWithin, hands_received, place_of}
-use Rattle.do_within.proofs.events.Within.{AfterSpelled, EventWithin}
+use Rattle.do_agreement.proofs.acts.{ActEvents.judged_so, ActsAgree.node_is}
+use Rattle.do_agreement.proofs.{agreement.GoesOn.Goes, places.PlacesChanged.some_is}
+use Rattle.do_within.{specs.Received.ReceivedWithin, proofs.sites.Acts.{DoesWithin, act_does}}
+use Rattle.do_within.proofs.{sent.Effects.WaitsSpelled, sites.Hands.{HandsWithin, hands_received}}
+use Rattle.do_within.proofs.{sites.Hands.place_of, events.Within.{AfterSpelled, EventWithin}}
 
 module _ (table : List Class) (t : IsTable table) (act : Acting) (N : Net) (S : State)
     (goes : Goes table N S) (ok : StateIsSendable table S) (events : ℕ)

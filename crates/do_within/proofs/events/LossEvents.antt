@@ -1,24 +1,17 @@
 -- A loss sends nothing, and nothing is received by it; and so it is of each event.
 use Rattle.std.proofs.Common.{◌≤◌, ℕ, Bool, true, false, cond, List, not, refl}
 use Rattle.std.specs.Prelude.{None, Option, Some, length, nat_lt, unwrap_or, suc}
-use Rattle.do_base.specs.declared.events.event.Event.{Event}
-use Rattle.do_base.specs.declared.events.event.Event.TheVariants.{Check, Close, Lose, Run, Start}
-use Rattle.do_base.specs.declared.events.event.Event.TheVariants.{Take, Timeout}
-use Rattle.do_class.specs.Class.{Class}
-use Rattle.do_class.specs.Table.{IsTable}
-use Rattle.do_machine.specs.declared.state.State.{State}
-use Rattle.do_machine.specs.State.{is_open}
-use Rattle.do_machine.specs.run.Run.{Acting}
-use Rattle.do_network.specs.Links.{Part}
-use Rattle.do_network.specs.Net.{Channel, Net, change_place, channel, part_at, with_channel}
-use Rattle.do_network.specs.Step.{net_skipped, net_stays, with_loss}
+use Rattle.do_base.specs.declared.events.event.Event.{Event, TheVariants.{Check, Close, Lose, Run}}
+use Rattle.do_base.specs.declared.events.event.Event.TheVariants.{Start, Take, Timeout}
+use Rattle.do_class.specs.{Class.Class, Table.IsTable}
+use Rattle.do_machine.specs.{declared.state.State.State, State.is_open, run.Run.Acting}
+use Rattle.do_network.specs.{Links.Part, Net.{Channel, Net, change_place, channel, part_at}}
+use Rattle.do_network.specs.{Net.with_channel, Step.{net_skipped, net_stays, with_loss}}
 use Rattle.do_limits.specs.SendableStates.{StateIsSendable}
 use Rattle.do_agreement.proofs.agreement.GoesOn.{Goes}
-use Rattle.do_within.specs.Received.{ReceivedWithin}
-use Rattle.do_within.proofs.events.ActEvents.{close_within, run_within, start_within}
-use Rattle.do_within.proofs.events.ActEvents.{timeout_within}
-use Rattle.do_within.proofs.events.TakeEvents.{take_within}
-use Rattle.do_within.proofs.events.Within.{AfterSpelled, EventWithin}
+use Rattle.do_within.{specs.Received.ReceivedWithin, proofs.events.ActEvents.close_within}
+use Rattle.do_within.proofs.events.ActEvents.{run_within, start_within, timeout_within}
+use Rattle.do_within.proofs.events.{TakeEvents.take_within, Within.{AfterSpelled, EventWithin}}
 use Rattle.do_within.proofs.sites.Hands.{parts_kept, received_alike, received_still}
 
 module _ (table : List Class) (act : Acting) (N : Net) (events : ℕ)

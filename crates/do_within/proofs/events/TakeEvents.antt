@@ -1,36 +1,25 @@
 -- The event of a take sends what has a spelling.
+use Rattle.do_agreement.proofs.takes.Taking as takes
 use Rattle.std.proofs.Common.{◌≡◌, ◌==◌, ◌&&◌, ◌≤◌, ℕ, Bool, true, false, cond, List, [], ◌∷◌, not}
-use Rattle.std.proofs.Common.{refl, sym, ap, ◌∙◌}
-use Rattle.std.specs.Prelude.{None, Option, Some, option_and_then, option_map, slice_get, suc}
-use Rattle.std.specs.Prelude.{unwrap_or}
+use Rattle.std.{proofs.Common.{refl, sym, ap, ◌∙◌}, specs.Prelude.{None, Option, Some}}
+use Rattle.std.specs.Prelude.{option_and_then, option_map, slice_get, suc, unwrap_or}
 use Rattle.std.proofs.lemmas.Bool.{eqb-true}
 use Rattle.do_base.specs.declared.events.event.Event.TheVariants.{Take}
-use Rattle.do_class.specs.Class.{Class}
-use Rattle.do_class.specs.Table.{IsTable}
-use Rattle.do_machine.specs.declared.state.State.{State}
-use Rattle.do_machine.specs.State.{is_open}
-use Rattle.do_machine.specs.run.Run.{Acting}
+use Rattle.do_class.specs.{Class.Class, Table.IsTable}
+use Rattle.do_machine.specs.{declared.state.State.State, State.is_open, run.Run.Acting}
 use Rattle.do_machine.specs.take.Take.{can_serve, can_take}
-use Rattle.do_network.specs.Links.{Part}
-use Rattle.do_network.specs.Net.{Carried, Channel, Lost, Net, Place, Whole, channel, channel_to}
-use Rattle.do_network.specs.Net.{part_at, place_at, with_channel}
-use Rattle.do_network.specs.Site.{Handled, enabled_input}
-use Rattle.do_network.specs.Step.{advanced, hands, input_of, net_skipped}
+use Rattle.do_network.specs.{Links.Part, Net.{Carried, Channel, Lost, Net, Place, Whole, channel}}
+use Rattle.do_network.specs.{Net.{channel_to, part_at, place_at, with_channel}, Site.Handled}
+use Rattle.do_network.specs.{Site.enabled_input, Step.{advanced, hands, input_of, net_skipped}}
 use Rattle.do_network.specs.fits.Notes.{Note, carried}
 use Rattle.do_limits.specs.SendableStates.{StateIsSendable}
-use Rattle.do_agreement.specs.CountsFit.{ChannelCarries}
-use Rattle.do_agreement.specs.NetInHand.{net_without}
-use Rattle.do_agreement.proofs.agreement.GoesOn.{Goes}
-use Rattle.do_agreement.proofs.counts.MovesAccount.{apart}
-use Rattle.do_agreement.proofs.places.PlacesChanged.{some_is}
-use Rattle.do_agreement.proofs.takes.Taking as takes
-use Rattle.do_agreement.proofs.takes.Taking.{Taking}
+use Rattle.do_agreement.specs.{CountsFit.ChannelCarries, NetInHand.net_without}
+use Rattle.do_agreement.proofs.{agreement.GoesOn.Goes, counts.MovesAccount.apart}
+use Rattle.do_agreement.proofs.{places.PlacesChanged.some_is, takes.Taking.Taking}
 use Rattle.do_within.specs.Received.{ReceivedWithin}
-use Rattle.do_within.proofs.events.Within.{AfterSpelled, EventWithin}
-use Rattle.do_within.proofs.sites.Acts.{DoesWithin}
+use Rattle.do_within.proofs.{events.Within.{AfterSpelled, EventWithin}, sites.Acts.DoesWithin}
 use Rattle.do_within.proofs.sites.Hands.{HandsWithin, hands_received, parts_kept, place_of}
-use Rattle.do_within.proofs.sites.Hands.{received_alike, received_still}
-use Rattle.do_within.proofs.sites.Takes.{take_does}
+use Rattle.do_within.proofs.sites.{Hands.{received_alike, received_still}, Takes.take_does}
 
 -- what is done only where a test passes
 passed : (b : Bool) (done h : Handled) → cond (not b) None (Some done) ≡ Some h → b ≡ true

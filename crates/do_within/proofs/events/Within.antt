@@ -1,16 +1,10 @@
 -- What is promised of each event.
-use Rattle.std.proofs.Common.{ℕ, List}
-use Rattle.std.specs.Prelude.{suc}
+use Rattle.std.{proofs.Common.{ℕ, List}, specs.Prelude.suc}
 use Rattle.do_base.specs.declared.events.event.Event.{Event}
 use Rattle.do_class.specs.Class.{Class}
-use Rattle.do_machine.specs.declared.state.State.{State}
-use Rattle.do_machine.specs.Step.{step}
-use Rattle.do_machine.specs.run.Run.{Acting}
-use Rattle.do_network.specs.Net.{Net}
-use Rattle.do_network.specs.Spelled.{SendsSpelled}
-use Rattle.do_network.specs.Step.{net_step}
-use Rattle.do_within.specs.Received.{ReceivedWithin}
-use Rattle.do_within.proofs.sent.Effects.{WaitsSpelled}
+use Rattle.do_machine.specs.{declared.state.State.State, Step.step, run.Run.Acting}
+use Rattle.do_network.specs.{Net.Net, Spelled.SendsSpelled, Step.net_step}
+use Rattle.do_within.{specs.Received.ReceivedWithin, proofs.sent.Effects.WaitsSpelled}
 
 -- An event sends what has a spelling, and leaves few objects received
 pub record EventWithin (table : List Class) (act : Acting) (events : ℕ) (N : Net) (event : Event) :

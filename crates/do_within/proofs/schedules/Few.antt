@@ -1,22 +1,14 @@
 -- A schedule that may stand in a file has few events.
-use Rattle.std.proofs.Common.{◌≡◌, ◌+◌, ◌≤◌, ◌<◌, ℕ, List, [], ◌∷◌, length, length-append, arith, refl}
-use Rattle.std.proofs.Common.{◌∙◌, sym}
-use Rattle.std.specs.Prelude.{◌^◌}
-use Rattle.std.specs.List.{AllByRecursion, flat_map}
-use Rattle.std.proofs.lemmas.List.{length-replicate}
-use Rattle.std.proofs.lemmas.List.Sums.{sum_by-cons}
 use Rattle.do_base.specs.declared.events.event.Event.TheVariants as events
+use Rattle.std.proofs.Common.{◌≡◌, ◌+◌, ◌≤◌, ◌<◌, ℕ, List, [], ◌∷◌, length, length-append, arith}
+use Rattle.std.{proofs.Common.{refl, ◌∙◌, sym}, specs.{Prelude.◌^◌, List.AllByRecursion}}
+use Rattle.std.{specs.List.flat_map, proofs.lemmas.List.{length-replicate, Sums.sum_by-cons}}
 use Rattle.do_class.specs.Class.{Class}
-use Rattle.do_machine.specs.declared.state.Seat.{Seat}
-use Rattle.do_machine.specs.World.{IsWorld}
-use Rattle.do_machine.specs.check.Blocks.{events_of}
+use Rattle.do_machine.specs.{declared.state.Seat.Seat, World.IsWorld, check.Blocks.events_of}
 use Rattle.do_machine.specs.run.Run.{Acting}
-use Rattle.do_sched.specs.Good.{IsLine}
-use Rattle.do_sched.specs.Schedule.{most_steps}
-use Rattle.do_sched.specs.Spelling.{steps, steps_of}
-use Rattle.do_sched.specs.declared.line.Line.{Line}
-use Rattle.do_sched.specs.declared.line.Line.TheVariants.{Check, Close, Lose, Run, Start, Take}
-use Rattle.do_sched.specs.declared.line.Line.TheVariants.{Timeout}
+use Rattle.do_sched.specs.{Good.IsLine, Schedule.most_steps, Spelling.{steps, steps_of}}
+use Rattle.do_sched.specs.declared.line.Line.{Line, TheVariants.{Check, Close, Lose, Run, Start}}
+use Rattle.do_sched.specs.declared.line.Line.TheVariants.{Take, Timeout}
 use Rattle.do_network.specs.Net.{net_opening}
 use Rattle.do_limits.specs.SendableActs.{KeepsSendable}
 use Rattle.do_agreement.specs.Along.{LinesSendSpelled}

@@ -1,20 +1,14 @@
 -- What holds along the events of a schedule holds along its lines.
 use Rattle.std.proofs.Common.{◌<◌, ◌++◌, List, [], ◌∷◌, length, arith}
-use Rattle.std.specs.Prelude.{◌^◌}
-use Rattle.std.specs.List.{AllByRecursion, flat_map}
+use Rattle.std.specs.{Prelude.◌^◌, List.{AllByRecursion, flat_map}}
 use Rattle.do_base.specs.declared.events.event.Event.{Event}
 use Rattle.do_class.specs.Class.{Class}
-use Rattle.do_machine.specs.declared.state.Seat.{Seat}
-use Rattle.do_machine.specs.World.{IsWorld}
-use Rattle.do_machine.specs.check.Blocks.{events_of}
+use Rattle.do_machine.specs.{declared.state.Seat.Seat, World.IsWorld, check.Blocks.events_of}
 use Rattle.do_machine.specs.run.Run.{Acting}
-use Rattle.do_sched.specs.Good.{IsLine}
-use Rattle.do_sched.specs.declared.line.Line.{Line}
-use Rattle.do_network.specs.Net.{Net, net_opening}
-use Rattle.do_network.specs.Step.{NetStepped, net_skipped, net_step}
+use Rattle.do_sched.specs.{Good.IsLine, declared.line.Line.Line}
+use Rattle.do_network.specs.{Net.{Net, net_opening}, Step.{NetStepped, net_skipped, net_step}}
 use Rattle.do_network.specs.Wired.{net_followed, net_line_step, net_steps}
-use Rattle.do_limits.specs.SendableActs.{KeepsSendable}
-use Rattle.do_limits.proofs.values.Starting.{lines_start}
+use Rattle.do_limits.{specs.SendableActs.KeepsSendable, proofs.values.Starting.lines_start}
 use Rattle.do_agreement.specs.Along.{EventsSendSpelled, LinesSendSpelled}
 use Rattle.do_within.proofs.schedules.Walk.{from_opening}
 

@@ -1,14 +1,11 @@
 -- Nothing was received as a network opens.
-use Rattle.std.proofs.Common.{◌≡◌, ◌==◌, ℕ, Bool, true, false, cond, List, [], ◌∷◌, map}
-use Rattle.std.proofs.Common.{ap, arith, subst}
-use Rattle.std.specs.Prelude.{Some, find, option_map, unwrap_or}
-use Rattle.std.specs.FinMap.{get-empty}
+use Rattle.std.proofs.Common.{◌≡◌, ◌==◌, ℕ, Bool, true, false, cond, List, [], ◌∷◌, map, ap, arith}
+use Rattle.std.proofs.Common.{subst}
+use Rattle.std.specs.{Prelude.{Some, find, option_map, unwrap_or}, FinMap.get-empty}
 use Rattle.do_class.specs.Class.{Class}
 use Rattle.do_export.specs.Counts.{count_of, entry_cmp}
-use Rattle.do_machine.specs.declared.state.Seat.{Seat}
-use Rattle.do_machine.specs.World.{by_port}
-use Rattle.do_network.specs.Links.{Part}
-use Rattle.do_network.specs.Net.{Place, net_opening, opening_part, opening_place}
+use Rattle.do_machine.specs.{declared.state.Seat.Seat, World.by_port}
+use Rattle.do_network.specs.{Links.Part, Net.{Place, net_opening, opening_part, opening_place}}
 use Rattle.do_agreement.proofs.places.PlacesChanged.{some_is}
 use Rattle.do_within.specs.Received.{CountsWithin, ReceivedWithin}
 

@@ -1,38 +1,24 @@
 -- Over each bounded schedule each frame that is sent has a spelling.
-use Rattle.std.proofs.Common.{◌≡◌, ◌<◌, ◌++◌, ℕ, List, [], ◌∷◌, length}
-use Rattle.std.proofs.Common.{append-nil, append_assoc, refl, sym, ap, ◌∙◌, subst, arith}
-use Rattle.std.specs.Prelude.{suc}
-use Rattle.std.specs.List.{AllByRecursion}
-use Rattle.std.proofs.lemmas.List.{length-append}
+use Rattle.std.proofs.Common.{◌≡◌, ◌<◌, ◌++◌, ℕ, List, [], ◌∷◌, length, append-nil, append_assoc}
+use Rattle.std.proofs.Common.{refl, sym, ap, ◌∙◌, subst, arith}
+use Rattle.std.{specs.{Prelude.suc, List.AllByRecursion}, proofs.lemmas.List.length-append}
 use Rattle.do_base.specs.declared.events.event.Event.{Event}
 use Rattle.do_class.specs.Class.{Class}
-use Rattle.do_machine.specs.declared.state.Seat.{Seat}
-use Rattle.do_machine.specs.declared.state.State.{State}
-use Rattle.do_machine.specs.declared.state.Stepped.{Stepped}
-use Rattle.do_machine.specs.Commit.{skipped}
-use Rattle.do_machine.specs.Step.{step}
-use Rattle.do_machine.specs.World.{IsWorld, opening}
-use Rattle.do_machine.specs.check.Blocks.{followed, steps}
-use Rattle.do_machine.specs.run.Run.{Acting}
-use Rattle.do_network.specs.Net.{Net, net_opening}
-use Rattle.do_network.specs.Step.{NetStepped, net_skipped, net_step}
+use Rattle.do_machine.specs.declared.state.{Seat.Seat, State.State, Stepped.Stepped}
+use Rattle.do_machine.specs.{Commit.skipped, Step.step, World.{IsWorld, opening}}
+use Rattle.do_machine.specs.{check.Blocks.{followed, steps}, run.Run.Acting}
+use Rattle.do_network.specs.{Net.{Net, net_opening}, Step.{NetStepped, net_skipped, net_step}}
 use Rattle.do_network.specs.Wired.{net_followed, net_steps}
-use Rattle.do_facts.specs.Reached.{reached}
-use Rattle.do_facts.proofs.links.ReachedNames.{reached_made}
+use Rattle.do_facts.{specs.Reached.reached, proofs.links.ReachedNames.reached_made}
 use Rattle.do_limits.specs.SendableActs.{AllStartSendable, KeepsSendable, StartsSendable}
-use Rattle.do_limits.proofs.Selectors.{has_methods}
-use Rattle.do_limits.proofs.numbers.Reached.{reached_numbers}
-use Rattle.do_limits.proofs.spelled.Calls.{calls_given}
-use Rattle.do_limits.proofs.spelled.ItemFrames.{waiting_spelled}
-use Rattle.do_limits.proofs.spelled.Tokens.{tokens_given}
-use Rattle.do_limits.proofs.states.Steps.{reached_sendable}
+use Rattle.do_limits.proofs.{Selectors.has_methods, numbers.Reached.reached_numbers}
+use Rattle.do_limits.proofs.spelled.{Calls.calls_given, ItemFrames.waiting_spelled}
+use Rattle.do_limits.proofs.{spelled.Tokens.tokens_given, states.Steps.reached_sendable}
 use Rattle.do_agreement.specs.Along.{EventsSendSpelled}
 use Rattle.do_agreement.proofs.agreement.GoesOn.{Goes, goes_on, opening_goes}
 use Rattle.do_within.specs.Received.{ReceivedWithin, net_reached}
-use Rattle.do_within.proofs.events.LossEvents.{event_within}
-use Rattle.do_within.proofs.events.Within.{EventWithin}
-use Rattle.do_within.proofs.schedules.Opening.{opening_within}
-use Rattle.do_within.proofs.sent.Effects.{WaitsSpelled}
+use Rattle.do_within.proofs.events.{LossEvents.event_within, Within.EventWithin}
+use Rattle.do_within.proofs.{schedules.Opening.opening_within, sent.Effects.WaitsSpelled}
 use Rattle.do_facts.proofs.EachOfLists.{each_former}
 
 -- steps along two lists

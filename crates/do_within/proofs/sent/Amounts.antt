@@ -1,30 +1,21 @@
 -- A release gives back an object that was received: its amount is above 0.
+use Rattle.do_machine.specs.declared.item.Item.TheVariants as items
+use Rattle.do_facts.specs.Net as nets
 use Rattle.std.proofs.Common.{◌≡◌, ◌==◌, ◌+◌, ◌≤◌, ℕ, Bool, true, false, cond, List, [], ◌∷◌, map}
 use Rattle.std.proofs.Common.{filter, refl, sym, ap, subst, arith}
-use Rattle.std.specs.Prelude.{suc, zero}
-use Rattle.std.specs.List.{AllByRecursion}
-use Rattle.std.proofs.lemmas.Bool.{eqb-true}
-use Rattle.do_coder.specs.Packets.{Surroundings}
-use Rattle.do_coder.specs.Recent.{IsSerial}
+use Rattle.std.{specs.{Prelude.{suc, zero}, List.AllByRecursion}, proofs.lemmas.Bool.eqb-true}
+use Rattle.do_coder.specs.{Packets.Surroundings, Recent.IsSerial}
 use Rattle.do_export.specs.Counts.{Counts, count_of}
 use Rattle.do_frames.specs.Frames.{IsFrame}
 use Rattle.do_packet.specs.Met.{has_object}
-use Rattle.do_machine.specs.declared.item.Item.{Item}
-use Rattle.do_machine.specs.declared.item.Item.TheVariants as items
-use Rattle.do_machine.specs.declared.state.Parcel.{Parcel}
-use Rattle.do_machine.specs.Objects.{object_at}
-use Rattle.do_network.specs.Frames.{amount_of, frame_of}
-use Rattle.do_network.specs.fits.Notes.{Note, note_frame}
-use Rattle.do_facts.specs.Net as nets
-use Rattle.do_facts.specs.View.{posted}
-use Rattle.do_facts.specs.links.Links.{Atom, Links, atoms, links}
-use Rattle.do_facts.specs.links.Moves.{opens}
+use Rattle.do_machine.specs.{declared.{item.Item.Item, state.Parcel.Parcel}, Objects.object_at}
+use Rattle.do_network.specs.{Frames.{amount_of, frame_of}, fits.Notes.{Note, note_frame}}
+use Rattle.do_facts.specs.{View.posted, links.{Links.{Atom, Links, atoms, links}, Moves.opens}}
 use Rattle.do_limits.specs.Spelled.{ItemIsSpelled}
 use Rattle.do_agreement.specs.Accounted.{Accounted, given, told, worth, worth_of}
 use Rattle.do_agreement.specs.NotesSent.{note_sent, notes_to}
-use Rattle.do_agreement.proofs.counts.EffectAccounts.{either_way}
-use Rattle.do_agreement.proofs.pairs.NotesAsAtoms.{items_of, posted_total}
-use Rattle.do_agreement.proofs.places.Numbers.{same_number}
+use Rattle.do_agreement.proofs.{counts.EffectAccounts.either_way, pairs.NotesAsAtoms.items_of}
+use Rattle.do_agreement.proofs.{pairs.NotesAsAtoms.posted_total, places.Numbers.same_number}
 
 -- the amount of a release has a spelling
 abbrev pub HasAmount : Item → ℕ → Type 0

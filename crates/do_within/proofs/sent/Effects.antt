@@ -2,31 +2,20 @@
 use Rattle.std.proofs.Common.{◌≡◌, ◌==◌, ◌++◌, ◌≤◌, ℕ, Bool, true, false, List, map, refl, sym, ap}
 use Rattle.std.proofs.Common.{◌∙◌, subst, arith}
 use Rattle.std.specs.Prelude.{None, Option, Some, is_some, nat_lt, option_map}
-use Rattle.std.specs.List.{AllByRecursion}
-use Rattle.std.proofs.lemmas.Bool.Decides.{nat_tests}
+use Rattle.std.{specs.List.AllByRecursion, proofs.lemmas.Bool.Decides.nat_tests}
 use Rattle.do_class.specs.Class.{Class}
-use Rattle.do_machine.specs.declared.item.Item.{Item}
-use Rattle.do_machine.specs.declared.node.Node.{Node}
-use Rattle.do_machine.specs.declared.state.Effect.{Effect}
-use Rattle.do_machine.specs.declared.state.State.{State}
-use Rattle.do_machine.specs.Commit.{commit, items_to}
-use Rattle.do_machine.specs.Objects.{object_at}
-use Rattle.do_machine.specs.State.{holds, queue}
-use Rattle.do_facts.specs.View.{posted}
-use Rattle.do_facts.specs.links.Links.{links, links_of}
-use Rattle.do_facts.proofs.machine.Queues.{grows_behind}
-use Rattle.do_facts.proofs.EachOfLists.{each_latter}
+use Rattle.do_machine.specs.declared.{item.Item.Item, node.Node.Node, state.Effect.Effect}
+use Rattle.do_machine.specs.{declared.state.State.State, Commit.{commit, items_to}}
+use Rattle.do_machine.specs.{Objects.object_at, State.{holds, queue}}
+use Rattle.do_facts.specs.{View.posted, links.Links.{links, links_of}}
+use Rattle.do_facts.proofs.{machine.Queues.grows_behind, EachOfLists.each_latter}
 use Rattle.do_export.specs.Counts.{Counts, count_of}
 use Rattle.do_coder.specs.Packets.{surroundings}
-use Rattle.do_network.specs.Links.{Part}
-use Rattle.do_network.specs.Net.{Net, Place, part_at}
-use Rattle.do_network.specs.Spelled.{IsSpelledSending}
+use Rattle.do_network.specs.{Links.Part, Net.{Net, Place, part_at}, Spelled.IsSpelledSending}
 use Rattle.do_network.specs.fits.Notes.{Note}
 use Rattle.do_limits.specs.Spelled.{ItemIsSpelled}
-use Rattle.do_agreement.specs.NetCommit.{effected}
-use Rattle.do_agreement.specs.NotesSent.{notes_to}
-use Rattle.do_agreement.proofs.commits.CommitShows.{items_sent}
-use Rattle.do_agreement.proofs.commits.Moving.{Commits, site_there}
+use Rattle.do_agreement.specs.{NetCommit.effected, NotesSent.notes_to}
+use Rattle.do_agreement.proofs.commits.{CommitShows.items_sent, Moving.{Commits, site_there}}
 use Rattle.do_within.proofs.sent.Amounts.{GivesBack, amounts_sent, notes_spelled, returned_held}
 use Rattle.do_within.proofs.sent.Peers.{linked_there}
 use Rattle.do_within.proofs.sent.Sendings.{GoesSpelled, NotesSpelled, all_spelled}

@@ -1,34 +1,21 @@
 -- What a site sends when its node moves has a spelling, where the items in the queues of the
 -- machine after the move have one.
+use Rattle.do_agreement.proofs.commits.Moving as moving
 use Rattle.std.proofs.Common.{◌≡◌, ◌++◌, ◌≤◌, ℕ, Bool, true, false, cond, List, sym, subst, arith}
 use Rattle.std.specs.List.{AllByRecursion}
 use Rattle.do_class.specs.Class.{Class}
-use Rattle.do_machine.specs.declared.node.Node.{Node}
-use Rattle.do_machine.specs.declared.state.Effect.{Effect}
-use Rattle.do_machine.specs.declared.state.State.{State}
-use Rattle.do_machine.specs.Commit.{commit, items_to, moved}
-use Rattle.do_machine.specs.Context.{around}
-use Rattle.do_machine.specs.Objects.{object_at}
-use Rattle.do_machine.specs.State.{holds}
-use Rattle.do_machine.specs.held.Leaving.{leaving}
-use Rattle.do_facts.specs.links.Links.{links_of}
-use Rattle.do_facts.specs.links.Sound.{IsSound}
-use Rattle.do_facts.proofs.machine.Queues.{grows_behind}
-use Rattle.do_facts.proofs.EachOfLists.{each_former}
+use Rattle.do_machine.specs.declared.{node.Node.Node, state.{Effect.Effect, State.State}}
+use Rattle.do_machine.specs.{Commit.{commit, items_to, moved}, Context.around, Objects.object_at}
+use Rattle.do_machine.specs.{State.holds, held.Leaving.leaving}
+use Rattle.do_facts.specs.links.{Links.links_of, Sound.IsSound}
+use Rattle.do_facts.proofs.{machine.Queues.grows_behind, EachOfLists.each_former}
 use Rattle.do_export.specs.Counts.{count_of}
 use Rattle.do_coder.specs.Packets.{surroundings}
-use Rattle.do_network.specs.Links.{Part}
-use Rattle.do_network.specs.Net.{Net, Place}
-use Rattle.do_network.specs.Own.{Own}
-use Rattle.do_network.specs.Counting.{counted}
-use Rattle.do_network.specs.Site.{moves}
-use Rattle.do_network.specs.Spelled.{IsSpelledSending, SentSpelled}
-use Rattle.do_network.specs.fits.Notes.{Note}
+use Rattle.do_network.specs.{Links.Part, Net.{Net, Place}, Own.Own, Counting.counted, Site.moves}
+use Rattle.do_network.specs.{Spelled.{IsSpelledSending, SentSpelled}, fits.Notes.Note}
 use Rattle.do_limits.specs.Spelled.{ItemIsSpelled}
-use Rattle.do_agreement.specs.NetCommit.{effected}
-use Rattle.do_agreement.specs.Tallies.{left_after}
+use Rattle.do_agreement.specs.{NetCommit.effected, Tallies.left_after}
 use Rattle.do_agreement.proofs.counts.ReturnsSent.{held_count}
-use Rattle.do_agreement.proofs.commits.Moving as moving
 use Rattle.do_agreement.proofs.commits.Moving.{Commits, leaves, left_alike, whole}
 use Rattle.do_within.proofs.sent.Effects.{FewReceived, WaitsSpelled, effect_spelled}
 use Rattle.do_within.proofs.sent.Sendings.{all_both}

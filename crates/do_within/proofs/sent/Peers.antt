@@ -1,12 +1,10 @@
 -- A site to which there is a link is there.
-use Rattle.std.proofs.Common.{◌≡◌, ◌==◌, ◌||◌, ℕ, Bool, true, false, cond, List, [], ◌∷◌, map}
-use Rattle.std.proofs.Common.{not, refl, sym, ap, ◌∙◌, arith}
-use Rattle.std.specs.Prelude.{None, Option, Some, find, is_some, option_map}
-use Rattle.std.specs.List.{list_any}
+use Rattle.std.proofs.Common.{◌≡◌, ◌==◌, ◌||◌, ℕ, Bool, true, false, cond, List, [], ◌∷◌, map, not}
+use Rattle.std.proofs.Common.{refl, sym, ap, ◌∙◌, arith}
+use Rattle.std.specs.{Prelude.{None, Option, Some, find, is_some, option_map}, List.list_any}
 use Rattle.std.proofs.lemmas.Bool.Decides.{nat_tests}
 use Rattle.do_machine.specs.World.{others}
-use Rattle.do_network.specs.Links.{Link, link_to}
-use Rattle.do_network.specs.Net.{Net, Place, net_ports, part_at, place_at}
+use Rattle.do_network.specs.{Links.{Link, link_to}, Net.{Net, Place, net_ports, part_at, place_at}}
 
 -- what is found by a number is there where the number is
 found_key : {X : Type 0} (key : X → ℕ) (n : ℕ) (xs : List X) →

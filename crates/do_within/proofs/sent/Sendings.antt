@@ -1,23 +1,18 @@
 -- Where what goes to each peer has a spelling, so has all that a site sends.
 use Rattle.std.proofs.Common.{◌≡◌, ◌==◌, ℕ, Bool, true, false, cond, List, [], ◌∷◌, ◌++◌, map}
 use Rattle.std.proofs.Common.{filter, refl, sym, ap, ◌∙◌, subst}
-use Rattle.std.specs.Prelude.{None, Option, Some, find, is_some, option_map}
-use Rattle.std.specs.List.{AllByRecursion}
+use Rattle.std.specs.{Prelude.{None, Option, Some, find, is_some, option_map}, List.AllByRecursion}
 use Rattle.std.proofs.lemmas.Bool.{eqb-true}
 use Rattle.do_class.specs.Class.{Class}
 use Rattle.do_coder.specs.Packets.{surroundings}
 use Rattle.do_export.specs.Counts.{Counts}
 use Rattle.do_frames.specs.Frames.{IsFrame, raw}
-use Rattle.do_machine.specs.Lists.{change_first}
-use Rattle.do_machine.specs.declared.state.Parcel.{Parcel}
-use Rattle.do_network.specs.Frames.{Posted, all_posted, posted}
-use Rattle.do_network.specs.Links.{Framed, Greeting, Link, Piece, Sending, all_sent, change_link}
-use Rattle.do_network.specs.Links.{link_to, sendings}
-use Rattle.do_network.specs.Spelled.{IsSpelledSending}
-use Rattle.do_network.specs.fits.Notes.{Note, note_frame}
+use Rattle.do_machine.specs.{Lists.change_first, declared.state.Parcel.Parcel}
+use Rattle.do_network.specs.{Frames.{Posted, all_posted, posted}, Links.{Framed, Greeting, Link}}
+use Rattle.do_network.specs.Links.{Piece, Sending, all_sent, change_link, link_to, sendings}
+use Rattle.do_network.specs.{Spelled.IsSpelledSending, fits.Notes.{Note, note_frame}}
 use Rattle.do_agreement.specs.NotesSent.{note_sent, notes_to}
-use Rattle.do_agreement.proofs.channels.SendingsSpelled.{first_sent}
-use Rattle.do_agreement.proofs.channels.SendsCarried.{sent_over}
+use Rattle.do_agreement.proofs.channels.{SendingsSpelled.first_sent, SendsCarried.sent_over}
 use Rattle.do_agreement.proofs.places.KeyedLists.{found_changed, found_elsewhere}
 use Rattle.do_agreement.proofs.places.Numbers.{same_number}
 

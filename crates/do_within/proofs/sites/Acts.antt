@@ -1,24 +1,15 @@
 -- What a site sends when its node acts has a spelling.
-use Rattle.std.proofs.Common.{◌≡◌, ◌≤◌, ℕ, List, arith}
-use Rattle.std.specs.Prelude.{Some, suc}
+use Rattle.std.{proofs.Common.{◌≡◌, ◌≤◌, ℕ, List, arith}, specs.Prelude.{Some, suc}}
 use Rattle.do_base.specs.declared.events.event.Event.{Event}
 use Rattle.do_class.specs.Class.{Class}
-use Rattle.do_machine.specs.declared.state.Effect.{Effect}
-use Rattle.do_machine.specs.declared.state.State.{State}
-use Rattle.do_machine.specs.Commit.{moved}
+use Rattle.do_machine.specs.{declared.state.{Effect.Effect, State.State}, Commit.moved}
 use Rattle.do_machine.specs.run.Run.{Acting}
-use Rattle.do_facts.specs.links.LinksAreKept.{LinksAreKept}
-use Rattle.do_facts.specs.steps.IsStep.{IsRuleOf}
+use Rattle.do_facts.specs.{links.LinksAreKept.LinksAreKept, steps.IsStep.IsRuleOf}
 use Rattle.do_export.specs.Counts.{Counts}
-use Rattle.do_network.specs.Net.{Net, Place, place_at}
-use Rattle.do_network.specs.Site.{Handled, moves}
-use Rattle.do_network.specs.Spelled.{SentSpelled}
-use Rattle.do_agreement.specs.Agrees.{Agrees}
-use Rattle.do_agreement.proofs.acts.StepTallies.{act_commits, act_sound}
-use Rattle.do_within.specs.Received.{CountsWithin}
-use Rattle.do_within.proofs.sent.Effects.{FewReceived, WaitsSpelled}
-use Rattle.do_within.proofs.sites.Exports.{later_within, moved_within}
-use Rattle.do_within.proofs.sent.Moves.{move_spelled}
+use Rattle.do_network.specs.{Net.{Net, Place, place_at}, Site.{Handled, moves}, Spelled.SentSpelled}
+use Rattle.do_agreement.{specs.Agrees.Agrees, proofs.acts.StepTallies.{act_commits, act_sound}}
+use Rattle.do_within.{specs.Received.CountsWithin, proofs.sent.Effects.{FewReceived, WaitsSpelled}}
+use Rattle.do_within.proofs.{sites.Exports.{later_within, moved_within}, sent.Moves.move_spelled}
 
 -- what a site does sends what has a spelling, and it has received few objects then
 pub record DoesWithin (table : List Class) (events : ℕ) (h : Handled) : Type 0 where

@@ -1,27 +1,20 @@
 -- How often a node has received objects, once it took an item and once it moved.
+use Rattle.do_machine.specs.declared.item.Item.TheVariants as items
 use Rattle.std.proofs.Common.{◌≡◌, ◌==◌, ◌+◌, ◌≤◌, ℕ, Bool, true, false, cond, List, [], ◌∷◌}
-use Rattle.std.proofs.Common.{filter, length, map, arith}
-use Rattle.std.specs.Prelude.{suc, ◌*◌}
+use Rattle.std.{proofs.Common.{filter, length, map, arith}, specs.Prelude.{suc, ◌*◌}}
 use Rattle.std.proofs.lemmas.List.{length-map}
 use Rattle.do_base.specs.names.Names.{ObjectName}
-use Rattle.do_class.specs.Class.{Class}
-use Rattle.do_class.specs.declared.packet.Packet.{Packet}
+use Rattle.do_class.specs.{Class.Class, declared.packet.Packet.Packet}
 use Rattle.do_export.specs.Counts.{count_of}
-use Rattle.do_machine.specs.declared.item.Item.{Item}
-use Rattle.do_machine.specs.declared.item.Item.TheVariants as items
-use Rattle.do_machine.specs.declared.state.Effect.{Effect}
+use Rattle.do_machine.specs.declared.{item.Item.Item, state.Effect.Effect}
 use Rattle.do_machine.specs.Items.{Naming, exported, is_exported, name_naming, packet_names}
 use Rattle.do_packet.specs.Limits.{most_names}
-use Rattle.do_network.specs.Counting.{counted}
-use Rattle.do_network.specs.Own.{Own}
-use Rattle.do_network.specs.Site.{site_move}
+use Rattle.do_network.specs.{Counting.counted, Own.Own, Site.site_move}
 use Rattle.do_network.specs.fits.Notes.{Note, exports_of}
 use Rattle.do_limits.specs.SendableStates.{ItemIsSendable}
-use Rattle.do_agreement.specs.InHand.{in_hand}
-use Rattle.do_agreement.specs.Tallies.{left_after}
+use Rattle.do_agreement.specs.{InHand.in_hand, Tallies.left_after}
 use Rattle.do_agreement.proofs.hands.InHandCounts.{received_in_hand}
-use Rattle.do_within.specs.Received.{CountsWithin}
-use Rattle.do_within.proofs.sent.Moves.{received_less}
+use Rattle.do_within.{specs.Received.CountsWithin, proofs.sent.Moves.received_less}
 
 -- those that pass are no more than all
 filter_few : {X : Type 0} (test : X → Bool) (xs : List X) → length (filter test xs) ≤ length xs

@@ -4,16 +4,13 @@ use Rattle.std.specs.Prelude.{None, Option, Some, find, option_map, unwrap_or, s
 use Rattle.std.proofs.lemmas.Bool.{eqb-true}
 use Rattle.do_class.specs.Class.{Class}
 use Rattle.do_machine.specs.run.Run.{Acting}
-use Rattle.do_network.specs.declared.input.Input.{Input}
-use Rattle.do_network.specs.Links.{Part}
-use Rattle.do_network.specs.Net.{Net, Place, change_place, part_at, place_at}
-use Rattle.do_network.specs.Site.{Handled, enabled_input}
+use Rattle.do_network.specs.{declared.input.Input.Input, Links.Part, Net.{Net, Place, change_place}}
+use Rattle.do_network.specs.{Net.{part_at, place_at}, Site.{Handled, enabled_input}}
 use Rattle.do_network.specs.Step.{hands, net_moved, net_skipped, place_after}
 use Rattle.do_agreement.proofs.places.KeyedLists.{found_changed, found_elsewhere}
 use Rattle.do_agreement.proofs.places.PlacesChanged.{by_part, some_is}
 use Rattle.do_within.specs.Received.{CountsWithin, ReceivedWithin}
-use Rattle.do_within.proofs.sites.Acts.{DoesWithin}
-use Rattle.do_within.proofs.sites.Exports.{later_within}
+use Rattle.do_within.proofs.sites.{Acts.DoesWithin, Exports.later_within}
 
 -- a change of a place that keeps its site keeps all sites
 pub parts_kept : (n : ℕ) (f : Place → Place) → ((x : Place) → (f x).port ≡ x.port) →

@@ -1,40 +1,25 @@
 -- What a site sends when it takes an item has a spelling.
+use Rattle.do_agreement.proofs.takes.Taking as takes
 use Rattle.std.proofs.Common.{◌≡◌, ◌≤◌, ℕ, List, ◌∷◌, sym, ap, ◌∙◌, subst}
 use Rattle.std.specs.Prelude.{Some, slice_get, suc, unwrap_or}
 use Rattle.do_base.specs.declared.events.event.Event.TheVariants.{Take}
 use Rattle.do_class.specs.Class.{Class}
-use Rattle.do_machine.specs.declared.item.Item.{Item}
-use Rattle.do_machine.specs.declared.state.Effect.{Effect}
-use Rattle.do_machine.specs.declared.state.State.{State}
-use Rattle.do_machine.specs.Commit.{moved}
-use Rattle.do_machine.specs.Context.{Context, context}
-use Rattle.do_machine.specs.Step.{step}
-use Rattle.do_machine.specs.run.Run.{Acting}
+use Rattle.do_machine.specs.declared.{item.Item.Item, state.{Effect.Effect, State.State}}
+use Rattle.do_machine.specs.{Commit.moved, Context.{Context, context}, Step.step, run.Run.Acting}
 use Rattle.do_machine.specs.take.Take.{take_effect}
 use Rattle.do_coder.specs.declared.recent.pair.Pair.{Pair}
-use Rattle.do_network.specs.Frames.{item_of}
-use Rattle.do_network.specs.Links.{Part}
-use Rattle.do_network.specs.Net.{Carried, Net}
-use Rattle.do_network.specs.Own.{counted_around}
-use Rattle.do_network.specs.Site.{Handled, enabled_input, moves, released_by}
-use Rattle.do_network.specs.Step.{input_of}
+use Rattle.do_network.specs.{Frames.item_of, Links.Part, Net.{Carried, Net}, Own.counted_around}
+use Rattle.do_network.specs.{Site.{Handled, enabled_input, moves, released_by}, Step.input_of}
 use Rattle.do_network.specs.fits.Notes.{Note, note_frame}
-use Rattle.do_limits.specs.SendableStates.{StateIsSendable}
-use Rattle.do_limits.proofs.states.States.{queue_sendable}
-use Rattle.do_agreement.specs.Agrees.{Agrees}
-use Rattle.do_agreement.specs.CountsFit.{ChannelCarries}
-use Rattle.do_agreement.specs.NetInHand.{carried_as, part_in_hand}
-use Rattle.do_agreement.proofs.takes.TakenFrame.{input_done, stands_first}
-use Rattle.do_agreement.proofs.takes.Taking as takes
-use Rattle.do_agreement.proofs.takes.Taking.{Taking, node_there, waits}
-use Rattle.do_agreement.proofs.takes.MachineTakes.{take_moves}
-use Rattle.do_agreement.proofs.takes.TakeEvents.{one_effect, site_is}
+use Rattle.do_limits.{specs.SendableStates.StateIsSendable, proofs.states.States.queue_sendable}
+use Rattle.do_agreement.specs.{Agrees.Agrees, CountsFit.ChannelCarries, NetInHand.carried_as}
+use Rattle.do_agreement.{specs.NetInHand.part_in_hand, proofs.takes.TakenFrame.input_done}
+use Rattle.do_agreement.proofs.takes.{TakenFrame.stands_first, Taking.{Taking, node_there, waits}}
+use Rattle.do_agreement.proofs.takes.{MachineTakes.take_moves, TakeEvents.{one_effect, site_is}}
 use Rattle.do_agreement.proofs.takes.TakeTallies.{take_commits, take_sound}
 use Rattle.do_within.specs.Received.{CountsWithin}
-use Rattle.do_within.proofs.sites.Acts.{DoesWithin, few_received}
-use Rattle.do_within.proofs.sent.Effects.{WaitsSpelled}
-use Rattle.do_within.proofs.sites.Exports.{hand_within, moved_within}
-use Rattle.do_within.proofs.sent.Moves.{move_spelled}
+use Rattle.do_within.proofs.{sites.Acts.{DoesWithin, few_received}, sent.Effects.WaitsSpelled}
+use Rattle.do_within.proofs.{sites.Exports.{hand_within, moved_within}, sent.Moves.move_spelled}
 
 module _ {table : List Class} {act : Acting} {N : Net} {S : State} {agrees : Agrees table N S}
     {port from : ℕ} {x : Note} {xs : List Note}

@@ -1,7 +1,6 @@
 //! Registrations, notifications and deliveries as rows write them.
 ghost use Rattle.std.specs.Prelude.{IfOk, IsTrue};
-ghost use Rattle.do_center.specs.Notes.{is_note};
-ghost use Rattle.do_center.specs.Registrations.{is_registration};
+ghost use Rattle.do_center.specs.{Notes.is_note, Registrations.is_registration};
 
 use call_rows::{copy_at, number_at, text_at, value_at};
 use do_base::{Oid, Text, Value, Values, copy_value};

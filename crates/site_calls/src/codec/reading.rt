@@ -1,7 +1,5 @@
 //! What reads messages, and what it knows.
-ghost use Rattle.std.specs.Prelude.{length};
-ghost use Rattle.std.specs.List.{AllByRecursion};
-ghost use Rattle.std.proofs.Props.{props};
+ghost use Rattle.std.{specs.{Prelude.length, List.AllByRecursion}, proofs.Props.props};
 ghost use Rattle.do_coder.specs.Recent.{IsKnown};
 
 use bytes::Bytes;

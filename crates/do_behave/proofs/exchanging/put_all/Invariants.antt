@@ -1,8 +1,6 @@
-use Rattle.std.proofs.Common.{◌≡◌, ◌+◌, ◌≤◌, ◌++◌, length}
-use Rattle.std.specs.Prelude.{vec_len, vec_capacity}
-use Rattle.do_behave.specs.Changes.{with_set}
-use Rattle.do_behave.specs.Exchange.{set_out}
 use Rattle.do_behave.proofs.exchanging.put_all.Given as goal
+use Rattle.std.{proofs.Common.{◌≡◌, ◌+◌, ◌≤◌, ◌++◌, length}, specs.Prelude.{vec_len, vec_capacity}}
+use Rattle.do_behave.specs.{Changes.with_set, Exchange.set_out}
 
 -- the locals that are still to be set come after those that are, the values that were taken before
 -- those still to be taken, and the list has room for these

@@ -1,7 +1,6 @@
-use Rattle.std.proofs.Common.{ap, sym, ◌∙◌}
-use Rattle.do_behave.specs.Limits.{nests_within}
-use Rattle.do_behave.specs.laws.Nesting.{nests_within-deeper}
 use Rattle.do_behave.proofs.limits.+nests.Goals as goal
+use Rattle.std.proofs.Common.{ap, sym, ◌∙◌}
+use Rattle.do_behave.specs.{Limits.nests_within, laws.Nesting.nests_within-deeper}
 
 pub nests_within-returns-then-depth-gt0 : goal.nests_within-returns-then-depth-gt0
 nests_within-returns-then-depth-gt0 t c =

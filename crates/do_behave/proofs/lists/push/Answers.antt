@@ -1,9 +1,7 @@
+use Rattle.do_behave.proofs.lists.push.Goals as goal
 use Rattle.std.proofs.Common.{◌≡◌, Some, sym, ◌∙◌, subst, ap}
 use Rattle.do_base.specs.declared.values.value.Value.{List}
-use Rattle.do_behave.specs.LongerList.{FitsIn}
-use Rattle.do_behave.specs.Steps.{local}
-use Rattle.do_behave.proofs.Pushes.{push_means}
-use Rattle.do_behave.proofs.lists.push.Goals as goal
+use Rattle.do_behave.{specs.{LongerList.FitsIn, Steps.local}, proofs.Pushes.push_means}
 
 pub returns : goal.returns
 returns c =

@@ -1,6 +1,6 @@
+use Rattle.do_behave.proofs.lists.weight_with.Goals as goal
 use Rattle.std.proofs.Common.{sym, ◌∙◌}
 use Rattle.do_behave.proofs.KnownWeights.{fitting, too_heavy, without_room}
-use Rattle.do_behave.proofs.lists.weight_with.Goals as goal
 
 pub returns-then-not-has_room-clause-none : goal.returns-then-not-has_room-clause-none
 returns-then-not-has_room-clause-none c =

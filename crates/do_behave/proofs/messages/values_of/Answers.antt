@@ -1,9 +1,7 @@
-use Rattle.std.proofs.Common.{Some, sym, ◌∙◌, ap, add-one}
-use Rattle.std.proofs.lemmas.Option.{slice_get-get_or}
-use Rattle.std.specs.Option.{option_copied}
-use Rattle.do_behave.specs.Steps.{local_values}
-use Rattle.do_behave.proofs.LocalValues.{values_more, values_none}
 use Rattle.do_behave.proofs.messages.values_of.Goals as goal
+use Rattle.std.proofs.{Common.{Some, sym, ◌∙◌, ap, add-one}, lemmas.Option.slice_get-get_or}
+use Rattle.std.specs.Option.{option_copied}
+use Rattle.do_behave.{specs.Steps.local_values, proofs.LocalValues.{values_more, values_none}}
 
 pub returns-in_default : goal.returns-in_default
 returns-in_default c =

@@ -1,8 +1,6 @@
-use Rattle.std.specs.Prelude.{◌-ℤ◌}
-use Rattle.std.specs.Int.{w64}
-use Rattle.std.proofs.lemmas.Int.{to_z-of_z}
-use Rattle.do_behave.proofs.Checked.{checked_is}
 use Rattle.do_behave.proofs.numbers.difference.Goals as goal
+use Rattle.std.{specs.{Prelude.◌-ℤ◌, Int.w64}, proofs.lemmas.Int.to_z-of_z}
+use Rattle.do_behave.proofs.Checked.{checked_is}
 
 pub returns : goal.returns
 returns c =

@@ -1,6 +1,6 @@
+use Rattle.do_carried.proofs.ranges.bytes_fit.Goals as goal
 use Rattle.std.proofs.Common.{arith}
 use Rattle.do_grammar.proofs.faults.AnswerExact.{bytes_from_each}
-use Rattle.do_carried.proofs.ranges.bytes_fit.Goals as goal
 
 -- each element of a slice of bytes is below 256
 pub returns : goal.returns

@@ -1,6 +1,6 @@
+use Rattle.do_center.proofs.acts.deliveries_value.Given as goal
 use Rattle.std.proofs.Common.{◌≡◌, map, take}
 use Rattle.do_center.specs.Notes.{delivery_value}
-use Rattle.do_center.proofs.acts.deliveries_value.Given as goal
 
 abbrev pub invariant-loop-delivery : goal.invariant-loop-delivery
 invariant-loop-delivery l =

@@ -1,11 +1,9 @@
-use Rattle.std.proofs.Common.{◌≡◌, Some, true, false, sym, arith}
-use Rattle.std.proofs.lemmas.Grind.{common_steps}
+use Rattle.do_center.proofs.center.of_core.Goals as goal
+use Rattle.std.proofs.{Common.{◌≡◌, Some, true, false, sym, arith}, lemmas.Grind.common_steps}
 use Rattle.std.specs.Cmp.Lexicographic.{pointwise}
 use Rattle.do_base.specs.values.Equal.{value_eq}
-use Rattle.do_center.specs.Seats.{are_seats, read_suspended}
-use Rattle.do_center.specs.Slots.{to_slots}
+use Rattle.do_center.specs.{Seats.{are_seats, read_suspended}, Slots.to_slots}
 use Rattle.do_center.proofs.SuspendedSet.{core_shown}
-use Rattle.do_center.proofs.center.of_core.Goals as goal
 
 pub returns-then-eq : goal.returns-then-eq
 returns-then-eq c =

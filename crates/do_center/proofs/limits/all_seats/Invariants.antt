@@ -1,7 +1,6 @@
-use Rattle.std.proofs.Common.{◌≡◌, true, take}
-use Rattle.std.specs.List.{list_all}
-use Rattle.do_center.specs.Seats.{is_seat, registrations}
 use Rattle.do_center.proofs.limits.all_seats.Given as goal
+use Rattle.std.{proofs.Common.{◌≡◌, true, take}, specs.List.list_all}
+use Rattle.do_center.specs.Seats.{is_seat, registrations}
 
 abbrev pub invariant-loop-seat : goal.invariant-loop-seat
 invariant-loop-seat l =

@@ -1,7 +1,6 @@
-use Rattle.std.proofs.Common.{◌≡◌, true, take}
-use Rattle.std.specs.List.{list_all}
-use Rattle.do_center.specs.Seats.{has_none}
 use Rattle.do_center.proofs.limits.have_none.Given as goal
+use Rattle.std.{proofs.Common.{◌≡◌, true, take}, specs.List.list_all}
+use Rattle.do_center.specs.Seats.{has_none}
 
 abbrev pub invariant-loop-seat : goal.invariant-loop-seat
 invariant-loop-seat l =

@@ -1,7 +1,6 @@
-use Rattle.std.proofs.Common.{◌≡◌, true, take}
-use Rattle.std.specs.List.{list_all}
-use Rattle.do_center.specs.Seats.{is_queued, registrations}
 use Rattle.do_center.proofs.limits.is_queue.Given as goal
+use Rattle.std.{proofs.Common.{◌≡◌, true, take}, specs.List.list_all}
+use Rattle.do_center.specs.Seats.{is_queued, registrations}
 
 abbrev pub invariant-loop-entry : goal.invariant-loop-entry
 invariant-loop-entry l =

@@ -1,7 +1,6 @@
-use Rattle.std.proofs.Common.{ap, sym, ◌∙◌}
-use Rattle.do_center.specs.Notes.{info_within}
-use Rattle.do_center.proofs.InfoDeeper.{info_deeper}
 use Rattle.do_center.proofs.notes.+info.Goals as goal
+use Rattle.std.proofs.Common.{ap, sym, ◌∙◌}
+use Rattle.do_center.{specs.Notes.info_within, proofs.InfoDeeper.info_deeper}
 
 pub info_within-returns-then-depth-gt0 : goal.info_within-returns-then-depth-gt0
 info_within-returns-then-depth-gt0 t c =

@@ -1,7 +1,6 @@
-use Rattle.std.proofs.Common.{◌≡◌, true, take}
-use Rattle.std.specs.List.{list_all}
-use Rattle.do_center.specs.Notes.{info_within}
 use Rattle.do_center.proofs.notes.+info.Given as goal
+use Rattle.std.{proofs.Common.{◌≡◌, true, take}, specs.List.list_all}
+use Rattle.do_center.specs.Notes.{info_within}
 
 abbrev pub invariant-all_info_within-loop-item : goal.invariant-all_info_within-loop-item
 invariant-all_info_within-loop-item l =

@@ -1,7 +1,6 @@
-use Rattle.std.proofs.Common.{◌≡◌, ◌+◌, drop}
-use Rattle.std.specs.Option.{option_map}
-use Rattle.do_center.specs.Observers.{first_of}
 use Rattle.do_center.proofs.observers.first_of.Given as goal
+use Rattle.std.{proofs.Common.{◌≡◌, ◌+◌, drop}, specs.Option.option_map}
+use Rattle.do_center.specs.Observers.{first_of}
 
 abbrev pub invariant-loop-at : goal.invariant-loop-at
 invariant-loop-at g l =

@@ -1,7 +1,6 @@
-use Rattle.std.proofs.Common.{not, rules, ◌∙◌, ap}
-use Rattle.std.proofs.lemmas.Fn.{filter_same}
-use Rattle.do_center.specs.Queues.{coalesced, same_kind}
 use Rattle.do_center.proofs.queues.coalesced.Goals as goal
+use Rattle.std.proofs.{Common.{not, rules, ◌∙◌, ap}, lemmas.Fn.filter_same}
+use Rattle.do_center.specs.Queues.{coalesced, same_kind}
 
 pub returns : goal.returns
 returns c =

@@ -1,6 +1,6 @@
+use Rattle.do_center.proofs.removing.new_places.Given as goal
 use Rattle.std.proofs.Common.{◌≡◌, ◌≤◌, ◌++◌, drop}
 use Rattle.do_center.specs.Removing.{goes, new_places}
-use Rattle.do_center.proofs.removing.new_places.Given as goal
 
 abbrev pub invariant-loop-seat : goal.invariant-loop-seat
 invariant-loop-seat l = record {

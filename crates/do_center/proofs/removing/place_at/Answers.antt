@@ -1,7 +1,6 @@
-use Rattle.std.proofs.Common.{◌≡◌, ℕ, zero, suc, List, [], ◌∷◌, None, refl, sym, arith}
-use Rattle.std.specs.Prelude.{slice_get, slice_index_or}
-use Rattle.std.proofs.lemmas.Grind.{common_steps}
 use Rattle.do_center.proofs.removing.place_at.Goals as goal
+use Rattle.std.proofs.Common.{◌≡◌, ℕ, zero, suc, List, [], ◌∷◌, None, refl, sym, arith}
+use Rattle.std.{specs.Prelude.{slice_get, slice_index_or}, proofs.lemmas.Grind.common_steps}
 
 -- where nothing stands, the other is taken
 nothing_there : {A : Type 0} (xs : List A) (k : ℕ) (d : A) → slice_get xs k ≡ None

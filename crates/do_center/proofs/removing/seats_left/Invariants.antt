@@ -1,6 +1,6 @@
+use Rattle.do_center.proofs.removing.seats_left.Given as goal
 use Rattle.std.proofs.Common.{◌≡◌, take}
 use Rattle.do_center.specs.Removing.{goes, seats_left}
-use Rattle.do_center.proofs.removing.seats_left.Given as goal
 
 abbrev pub invariant-loop-seat : goal.invariant-loop-seat
 invariant-loop-seat l =

@@ -1,12 +1,8 @@
-use Rattle.std.proofs.Common.{◌≡◌, Some, None, sym, ◌∙◌, ap, refl, arith}
-use Rattle.std.specs.Prelude.{slice_get}
-use Rattle.std.proofs.lemmas.Grind.{common_steps}
-use Rattle.std.proofs.lemmas.Option.{slice_get_read}
-use Rattle.do_center.specs.Observers.{first_of}
-use Rattle.do_center.specs.Queues.{queue_of}
-use Rattle.do_center.specs.declared.seats.Seat.{Seat}
-use Rattle.do_center.proofs.FirstOf.{queue_given, seat_observer}
 use Rattle.do_center.proofs.seats.queue_of.Goals as goal
+use Rattle.std.{proofs.Common.{◌≡◌, Some, None, sym, ◌∙◌, ap, refl, arith}, specs.Prelude.slice_get}
+use Rattle.std.proofs.lemmas.{Grind.common_steps, Option.slice_get_read}
+use Rattle.do_center.specs.{Observers.first_of, Queues.queue_of, declared.seats.Seat.Seat}
+use Rattle.do_center.proofs.FirstOf.{queue_given, seat_observer}
 
 pub returns-in_ok-queue-in-Some : goal.returns-in_ok-queue-in-Some
 returns-in_ok-queue-in-Some c =

@@ -1,9 +1,8 @@
-use Rattle.std.proofs.Common.{◌≡◌, Some, None, sym, ◌∙◌, arith}
-use Rattle.std.specs.Prelude.{slice_get}
+use Rattle.do_center.proofs.seats.replace_queue.Goals as goal
+use Rattle.std.{proofs.Common.{◌≡◌, Some, None, sym, ◌∙◌, arith}, specs.Prelude.slice_get}
 use Rattle.std.proofs.lemmas.Grind.{common_steps}
 use Rattle.do_center.specs.Observers.{first_of}
 use Rattle.do_center.proofs.FirstOf.{queue_given, queue_put, seat_observer}
-use Rattle.do_center.proofs.seats.replace_queue.Goals as goal
 
 pub returns-in-Some-clause-was : goal.returns-in-Some-clause-was
 returns-in-Some-clause-was c =

@@ -1,7 +1,6 @@
-use Rattle.std.proofs.Common.{refl}
-use Rattle.std.proofs.lemmas.Option.{slice_get_read}
-use Rattle.do_center.proofs.WaitingMore.{next_row}
 use Rattle.do_center.proofs.slots.queues_slot.Goals as goal
+use Rattle.std.proofs.{Common.refl, lemmas.Option.slice_get_read}
+use Rattle.do_center.proofs.WaitingMore.{next_row}
 
 pub loop-seat-preserved : goal.loop-seat-preserved
 loop-seat-preserved c =

@@ -1,6 +1,6 @@
+use Rattle.do_center.proofs.slots.queues_slot.Given as goal
 use Rattle.std.proofs.Common.{◌≡◌, map, take}
 use Rattle.do_center.specs.Slots.{waiting, waiting_value}
-use Rattle.do_center.proofs.slots.queues_slot.Given as goal
 
 abbrev pub invariant-loop-seat : goal.invariant-loop-seat
 invariant-loop-seat l =

@@ -1,8 +1,6 @@
-use Rattle.std.proofs.Common.{refl, ◌∙◌, ap}
-use Rattle.std.proofs.lemmas.Option.{slice_get_read}
-use Rattle.do_center.specs.Slots.{seated}
-use Rattle.do_center.proofs.SeatedMore.{seated_more}
 use Rattle.do_center.proofs.slots.seated.Goals as goal
+use Rattle.std.proofs.{Common.{refl, ◌∙◌, ap}, lemmas.Option.slice_get_read}
+use Rattle.do_center.{specs.Slots.seated, proofs.SeatedMore.seated_more}
 
 pub loop-registration-preserved : goal.loop-registration-preserved
 loop-registration-preserved c =

@@ -1,6 +1,6 @@
+use Rattle.do_center.proofs.slots.seated.Given as goal
 use Rattle.std.proofs.Common.{◌≡◌, ◌++◌, drop}
 use Rattle.do_center.specs.Slots.{seated}
-use Rattle.do_center.proofs.slots.seated.Given as goal
 
 abbrev pub invariant-loop-registration : goal.invariant-loop-registration
 invariant-loop-registration l =

@@ -1,8 +1,7 @@
-use Rattle.std.proofs.Common.{◌≡◌, Some, None, sym, ◌∙◌, arith}
-use Rattle.std.proofs.lemmas.Grind.{common_steps}
+use Rattle.do_center.proofs.slots.take_queue.Goals as goal
+use Rattle.std.proofs.{Common.{◌≡◌, Some, None, sym, ◌∙◌, arith}, lemmas.Grind.common_steps}
 use Rattle.do_center.specs.Observers.{first_of}
 use Rattle.do_center.proofs.FirstOf.{among_given, left_given, waiting_observer}
-use Rattle.do_center.proofs.slots.take_queue.Goals as goal
 
 pub returns-in-Some-clause-was : goal.returns-in-Some-clause-was
 returns-in-Some-clause-was c =

@@ -1,6 +1,6 @@
+use Rattle.do_check.proofs.forward.pass_on.Goals as goal
 use Rattle.std.proofs.Common.{arith}
 use Rattle.do_check.specs.laws.FirstLocals.{few_colons}
-use Rattle.do_check.proofs.forward.pass_on.Goals as goal
 
 pub first_locals-requires : goal.first_locals-requires
 first_locals-requires c =

@@ -1,7 +1,5 @@
-use Rattle.std.proofs.Common.{◌≡◌, drop}
-use Rattle.std.specs.List.{find}
-use Rattle.std.specs.Str.{bytes_eq}
 use Rattle.do_check.proofs.lookup.rule_of.Given as goal
+use Rattle.std.{proofs.Common.{◌≡◌, drop}, specs.{List.find, Str.bytes_eq}}
 
 abbrev pub invariant-loop-rule : goal.invariant-loop-rule
 invariant-loop-rule l =

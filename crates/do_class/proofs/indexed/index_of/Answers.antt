@@ -1,10 +1,8 @@
+use Rattle.do_class.proofs.indexed.index_of.Goals as goal
 use Rattle.std.proofs.Common.{◌≡◌, ◌<◌, Some, arith, length, get_or, subst}
-use Rattle.std.specs.BTreeMap.{Updates}
-use Rattle.std.specs.Cmp.Lexicographic.{slice_cmp}
-use Rattle.std.specs.Ordering.{nat_cmp}
+use Rattle.std.specs.{BTreeMap.Updates, Cmp.Lexicographic.slice_cmp, Ordering.nat_cmp}
 use Rattle.std.proofs.lemmas.Grind.{common_steps}
 use Rattle.do_class.proofs.Places.{IsIndexOf-next}
-use Rattle.do_class.proofs.indexed.index_of.Goals as goal
 
 pub loop-place-preserved : goal.loop-place-preserved
 loop-place-preserved c =

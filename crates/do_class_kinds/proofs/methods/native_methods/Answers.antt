@@ -1,12 +1,9 @@
-use Rattle.std.proofs.Common.{◌∙◌, ap, length, subst, sym}
-use Rattle.std.proofs.lemmas.List.Elements.{All-nil}
-use Rattle.do_class.specs.Class.{AreMethods}
-use Rattle.do_class.specs.declared.method.Method.{Method}
-use Rattle.do_sig.specs.MethodTypes.{IsMethodType}
-use Rattle.do_class_kinds.specs.Methods.{AreTyped}
-use Rattle.do_class_kinds.proofs.NativeSound.{native_are_methods, native_found, native_none_lost}
-use Rattle.do_class_kinds.proofs.NativeSound.{spelled_more}
 use Rattle.do_class_kinds.proofs.methods.native_methods.Goals as goal
+use Rattle.std.proofs.{Common.{◌∙◌, ap, length, subst, sym}, lemmas.List.Elements.All-nil}
+use Rattle.do_class.specs.{Class.AreMethods, declared.method.Method.Method}
+use Rattle.do_sig.specs.MethodTypes.{IsMethodType}
+use Rattle.do_class_kinds.{specs.Methods.AreTyped, proofs.NativeSound.native_are_methods}
+use Rattle.do_class_kinds.proofs.NativeSound.{native_found, native_none_lost, spelled_more}
 
 -- before the first selector there are no methods
 pub loop-selector-init : goal.loop-selector-init

@@ -1,7 +1,6 @@
-use Rattle.std.proofs.Common.{◌≡◌, Bor, List, map, take, ℕ}
-use Rattle.do_class_kinds.specs.Methods.{AreTyped}
-use Rattle.do_class_kinds.proofs.Said.{all_said}
 use Rattle.do_class_kinds.proofs.methods.native_methods.Given as goal
+use Rattle.std.proofs.Common.{◌≡◌, Bor, List, map, take, ℕ}
+use Rattle.do_class_kinds.{specs.Methods.AreTyped, proofs.Said.all_said}
 
 abbrev pub invariant-loop-selector : goal.invariant-loop-selector
 invariant-loop-selector l = record {

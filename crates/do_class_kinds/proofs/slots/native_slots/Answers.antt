@@ -1,11 +1,8 @@
-use Rattle.std.proofs.Common.{◌≡◌, ◌≤◌, ◌∙◌, Bor, List, ℕ, ap, false, length, map, subst, sym}
-use Rattle.std.specs.List.{IsDistinct}
-use Rattle.std.specs.Str.{bytes_eq}
-use Rattle.std.proofs.lemmas.List.{take_all}
-use Rattle.do_class.specs.declared.ids.Slot.{Slot}
-use Rattle.do_class_kinds.specs.Native.{native_slots}
-use Rattle.do_class_kinds.proofs.NativeSound.{native_distinct}
 use Rattle.do_class_kinds.proofs.slots.native_slots.Goals as goal
+use Rattle.std.proofs.Common.{◌≡◌, ◌≤◌, ◌∙◌, Bor, List, ℕ, ap, false, length, map, subst, sym}
+use Rattle.std.{specs.{List.IsDistinct, Str.bytes_eq}, proofs.lemmas.List.take_all}
+use Rattle.do_class.specs.declared.ids.Slot.{Slot}
+use Rattle.do_class_kinds.{specs.Native.native_slots, proofs.NativeSound.native_distinct}
 
 pub returns-clause-distinct : goal.returns-clause-distinct
 returns-clause-distinct c =

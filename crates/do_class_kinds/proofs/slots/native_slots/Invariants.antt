@@ -1,5 +1,5 @@
-use Rattle.std.proofs.Common.{◌≡◌, false, map, take}
 use Rattle.do_class_kinds.proofs.slots.native_slots.Given as goal
+use Rattle.std.proofs.Common.{◌≡◌, false, map, take}
 
 abbrev pub invariant-loop-name : goal.invariant-loop-name
 invariant-loop-name l =

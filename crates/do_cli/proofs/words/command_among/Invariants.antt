@@ -1,6 +1,6 @@
+use Rattle.do_cli.proofs.words.command_among.Given as goal
 use Rattle.std.proofs.Common.{◌≡◌, drop}
 use Rattle.do_cli.specs.Forms.{command_among}
-use Rattle.do_cli.proofs.words.command_among.Given as goal
 
 abbrev pub invariant-loop-form : goal.invariant-loop-form
 invariant-loop-form l =

@@ -1,8 +1,7 @@
-use Rattle.std.proofs.Common.{◌≡◌, ◌<◌, ◌∙◌, ap, arith, drop, length, sym}
-use Rattle.std.proofs.lemmas.List.{take_rest}
+use Rattle.do_cli.proofs.words.fitting_of.Goals as goal
+use Rattle.std.proofs.{Common.{◌≡◌, ◌<◌, ◌∙◌, ap, arith, drop, length, sym}, lemmas.List.take_rest}
 use Rattle.do_cli.specs.Forms.{fitting, kinds_of, more_of}
 use Rattle.do_cli.proofs.FittingOn.{fitting_short, fitting_whole}
-use Rattle.do_cli.proofs.words.fitting_of.Goals as goal
 
 pub returns-then-needed-kinds-clause-value : goal.returns-then-needed-kinds-clause-value
 returns-then-needed-kinds-clause-value c =

@@ -1,6 +1,6 @@
+use Rattle.do_cli.proofs.words.furthest.Given as goal
 use Rattle.std.proofs.Common.{◌≡◌, ◌≤◌, drop, length, max}
 use Rattle.do_cli.specs.Forms.{furthest}
-use Rattle.do_cli.proofs.words.furthest.Given as goal
 
 abbrev pub invariant-loop-form : goal.invariant-loop-form
 invariant-loop-form l =

@@ -1,11 +1,9 @@
+use Rattle.do_coder.proofs.write.+pushing.Goals as goal
 use Rattle.std.proofs.Common.{◌++◌, ◌∷◌, [], List, ℕ, ap, sym, ◌∙◌, append_assoc}
-use Rattle.std.specs.List.{flat_map}
-use Rattle.std.proofs.lemmas.Result.{on_ok_weaker}
+use Rattle.std.{specs.List.flat_map, proofs.lemmas.Result.on_ok_weaker}
 use Rattle.do_class.specs.declared.packet.Part.{Part}
 use Rattle.do_grammar.specs.OneSpelling.{list_spelling}
-use Rattle.do_coder.specs.Parts.{part_spelling}
-use Rattle.do_coder.proofs.values.PartFacts.{spelling-List}
-use Rattle.do_coder.proofs.write.+pushing.Goals as goal
+use Rattle.do_coder.{specs.Parts.part_spelling, proofs.values.PartFacts.spelling-List}
 
 pub push_part-returns-in_ok-push-in-List : goal.push_part-returns-in_ok-push-in-List
 push_part-returns-in_ok-push-in-List t c =

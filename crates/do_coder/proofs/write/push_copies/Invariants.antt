@@ -1,7 +1,6 @@
-use Rattle.std.proofs.Common.{◌≡◌, ◌++◌, take}
-use Rattle.std.specs.List.{flat_map}
-use Rattle.do_coder.specs.Packets.{copied_spelling}
 use Rattle.do_coder.proofs.write.push_copies.Given as goal
+use Rattle.std.{proofs.Common.{◌≡◌, ◌++◌, take}, specs.List.flat_map}
+use Rattle.do_coder.specs.Packets.{copied_spelling}
 
 abbrev pub invariant-loop-copied : goal.invariant-loop-copied
 invariant-loop-copied l =

@@ -1,9 +1,8 @@
-use Rattle.std.proofs.Common.{◌≡◌, ◌++◌, drop}
-use Rattle.std.specs.List.{fold}
+use Rattle.do_coder.proofs.write.push_names.Given as goal
+use Rattle.std.{proofs.Common.{◌≡◌, ◌++◌, drop}, specs.List.fold}
 use Rattle.do_coder.specs.Recent.{after_name}
 use Rattle.do_grammar.specs.OneSpelling.{spelling_by}
 use Rattle.do_coder.specs.Names.{name_spelling}
-use Rattle.do_coder.proofs.write.push_names.Given as goal
 
 abbrev pub invariant-loop-name : goal.invariant-loop-name
 invariant-loop-name l =

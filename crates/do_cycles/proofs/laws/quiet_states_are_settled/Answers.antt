@@ -1,6 +1,6 @@
+use Rattle.do_cycles.proofs.laws.quiet_states_are_settled.Goals as goal
 use Rattle.do_quiet.proofs.EndsStayOpen.{stay_open}
 use Rattle.do_cycles.proofs.QuietSettled.{reached_settled}
-use Rattle.do_cycles.proofs.laws.quiet_states_are_settled.Goals as goal
 
 pub returns-clause-open : goal.returns-clause-open
 returns-clause-open c = reached_settled

@@ -1,5 +1,5 @@
-use Rattle.std.proofs.Common.{ap, arith, Err}
 use Rattle.do_document.proofs.classes.add.Goals as goal
+use Rattle.std.proofs.Common.{ap, arith, Err}
 
 pub unreachable-requires-in-Err-TooManySlots : goal.unreachable-requires-in-Err-TooManySlots
 unreachable-requires-in-Err-TooManySlots c =

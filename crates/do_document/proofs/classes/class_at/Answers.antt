@@ -1,15 +1,11 @@
-use Rattle.std.proofs.Common.{◌≡◌, Some}
-use Rattle.std.proofs.lemmas.Bool.{and_parts}
-use Rattle.std.proofs.lemmas.Result.{err_from_is_err_and}
+use Rattle.do_document.proofs.classes.class_at.Goals as goal
+use Rattle.std.proofs.{Common.{◌≡◌, Some}, lemmas.{Bool.and_parts, Result.err_from_is_err_and}}
 use Rattle.std.specs.Prelude.{is_some, not}
 use Rattle.toml.specs.View.{table_view}
 use Rattle.do_grammar.specs.Names.{is_name}
 use Rattle.do_class.specs.Table.{class_named}
-use Rattle.do_document.specs.Classes.{class_of}
-use Rattle.do_document.proofs.Answering.{class_good, class_kind, class_name, class_parts}
-use Rattle.do_document.proofs.Answering.{class_unknown}
-use Rattle.do_document.proofs.Growing.{not_true}
-use Rattle.do_document.proofs.classes.class_at.Goals as goal
+use Rattle.do_document.{specs.Classes.class_of, proofs.Answering.{class_good, class_kind}}
+use Rattle.do_document.proofs.{Answering.{class_name, class_parts, class_unknown}, Growing.not_true}
 
 pub returns-in_err-known_keys : goal.returns-in_err-known_keys
 returns-in_err-known_keys c =

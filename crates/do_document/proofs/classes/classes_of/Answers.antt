@@ -1,19 +1,15 @@
+use Rattle.do_document.proofs.classes.classes_of.Goals as goal
 use Rattle.std.proofs.Common.{◌≡◌, ◌∙◌, ◌++◌, ◌∷◌, [], None, Some, Bor, BTreeMap, Global, String}
 use Rattle.std.proofs.Common.{ap, arith, get_or, length, length-append, map, subst, sym, take, ◌+◌}
-use Rattle.std.specs.List.{All, AllZip}
-use Rattle.std.proofs.lemmas.List.Elements.{All-push}
-use Rattle.toml.specs.View.{table_view}
-use Rattle.toml.specs.declared.value.Value.{Value}
+use Rattle.std.{specs.List.{All, AllZip}, proofs.lemmas.List.Elements.All-push}
+use Rattle.toml.specs.{View.table_view, declared.value.Value.Value}
 use Rattle.do_check.specs.Rules.{AreRules}
 use Rattle.do_class.specs.Class.{Class}
 use Rattle.do_class_kinds.proofs.Growing.{surely_more}
-use Rattle.do_document.specs.ClassFaults.{class_checks}
-use Rattle.do_document.specs.Classes.{class_of, class_rules, kind_of}
+use Rattle.do_document.specs.{ClassFaults.class_checks, Classes.{class_of, class_rules, kind_of}}
 use Rattle.do_document.specs.Sound.{HasTypes, IsClassOf, IsKindOf}
-use Rattle.do_document.proofs.ClassSteps.{class_said, rules_said}
-use Rattle.do_document.proofs.Growing.{made_more, zip_more}
+use Rattle.do_document.proofs.{ClassSteps.{class_said, rules_said}, Growing.{made_more, zip_more}}
 use Rattle.do_document.proofs.Loops.{class_turn}
-use Rattle.do_document.proofs.classes.classes_of.Goals as goal
 
 pub loop-k-preserved : goal.loop-k-preserved
 loop-k-preserved c =

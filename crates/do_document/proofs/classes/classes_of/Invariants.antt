@@ -1,12 +1,10 @@
-use Rattle.std.proofs.Common.{◌≡◌, drop, length, map, take}
-use Rattle.std.specs.List.{All, AllZip, filter_map}
+use Rattle.do_document.proofs.classes.classes_of.Given as goal
+use Rattle.std.{proofs.Common.{◌≡◌, drop, length, map, take}, specs.List.{All, AllZip, filter_map}}
 use Rattle.toml.specs.View.{table_view}
 use Rattle.do_check.specs.Rules.{AreRules}
-use Rattle.do_document.specs.Checks.{first_among, first_behind}
-use Rattle.do_document.specs.ClassFaults.{class_fault}
+use Rattle.do_document.specs.{Checks.{first_among, first_behind}, ClassFaults.class_fault}
 use Rattle.do_document.specs.Classes.{class_of, class_rules, kind_of}
 use Rattle.do_document.specs.Sound.{HasTypes, IsClassOf, IsKindOf}
-use Rattle.do_document.proofs.classes.classes_of.Given as goal
 
 abbrev pub invariant-loop-k : goal.invariant-loop-k
 invariant-loop-k l = record {

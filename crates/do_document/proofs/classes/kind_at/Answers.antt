@@ -1,12 +1,9 @@
-use Rattle.std.proofs.Common.{◌≡◌, Some, None, arith}
-use Rattle.std.proofs.lemmas.Grind.{common_steps}
-use Rattle.std.proofs.lemmas.Result.{err_from_is_err_and}
-use Rattle.std.specs.Prelude.{codes}
-use Rattle.toml.specs.Data.{get_member}
-use Rattle.toml.specs.View.{table_view, view}
+use Rattle.do_document.proofs.classes.kind_at.Goals as goal
+use Rattle.std.proofs.{Common.{◌≡◌, Some, None, arith}, lemmas.Grind.common_steps}
+use Rattle.std.{proofs.lemmas.Result.err_from_is_err_and, specs.Prelude.codes}
+use Rattle.toml.specs.{Data.get_member, View.{table_view, view}}
 use Rattle.do_class_kinds.specs.Kinds.{kind_named}
 use Rattle.do_document.proofs.KindSteps.{kind_absent, kind_no_text, kind_there, kind_unknown}
-use Rattle.do_document.proofs.classes.kind_at.Goals as goal
 
 -- a class that names no kind is one of scripts
 pub returns-in_default : goal.returns-in_default

@@ -1,9 +1,8 @@
-use Rattle.std.proofs.Common.{arith, ◌≡◌, false, true}
-use Rattle.std.proofs.lemmas.Grind.{common_steps}
+use Rattle.do_document.proofs.classes.name_at.Goals as goal
+use Rattle.std.proofs.{Common.{arith, ◌≡◌, false, true}, lemmas.Grind.common_steps}
 use Rattle.std.proofs.lemmas.Result.{err_from_is_err_and}
 use Rattle.do_document.specs.ClassFaults.{is_new_name}
 use Rattle.do_document.proofs.Texts.{text_failed, text_missing, text_passed}
-use Rattle.do_document.proofs.classes.name_at.Goals as goal
 
 pub returns-in_err-name : goal.returns-in_err-name
 returns-in_err-name c =

@@ -1,18 +1,11 @@
-use Rattle.std.proofs.Common.{◌≡◌, ◌<◌, ◌≤◌, ◌∙◌, Some, None, arith, ap, length, get_or, false}
-use Rattle.std.proofs.Common.{map}
-use Rattle.std.proofs.lemmas.Grind.{common_steps}
-use Rattle.std.proofs.lemmas.List.{length-map}
-use Rattle.std.proofs.lemmas.Result.{err_from_is_err_and}
-use Rattle.toml.specs.Data.{get_member}
-use Rattle.toml.specs.View.{table_view, view}
-use Rattle.do_document.specs.Checks.{first_among, is_of_kind, member_fault}
-use Rattle.do_document.specs.Document.{members_at}
-use Rattle.do_document.specs.Paths.{path}
-use Rattle.do_document.proofs.Finding.{turn_end}
-use Rattle.do_document.proofs.InOrder.{told}
+use Rattle.do_document.proofs.document.check_list.Goals as goal
+use Rattle.std.proofs.Common.{◌≡◌, ◌<◌, ◌≤◌, ◌∙◌, Some, None, arith, ap, length, get_or, false, map}
+use Rattle.std.proofs.lemmas.{Grind.common_steps, List.length-map, Result.err_from_is_err_and}
+use Rattle.toml.specs.{Data.get_member, View.{table_view, view}}
+use Rattle.do_document.specs.{Checks.{first_among, is_of_kind, member_fault}, Document.members_at}
+use Rattle.do_document.{specs.Paths.path, proofs.{Finding.turn_end, InOrder.told}}
 use Rattle.do_document.proofs.ListSteps.{list_absent, list_members, list_wrong, member_wrong}
 use Rattle.do_document.proofs.ListSteps.{members_absent, members_there}
-use Rattle.do_document.proofs.document.check_list.Goals as goal
 
 pub returns-in_default : goal.returns-in_default
 returns-in_default c =

@@ -1,8 +1,7 @@
+use Rattle.do_document.proofs.document.check_list.Given as goal
 use Rattle.std.proofs.Common.{◌≡◌, drop, map, take}
 use Rattle.toml.specs.View.{view}
-use Rattle.do_document.specs.Checks.{first_among, first_behind, member_fault}
-use Rattle.do_document.specs.Paths.{path}
-use Rattle.do_document.proofs.document.check_list.Given as goal
+use Rattle.do_document.specs.{Checks.{first_among, first_behind, member_fault}, Paths.path}
 
 abbrev pub invariant-loop-k : goal.invariant-loop-k
 invariant-loop-k l =

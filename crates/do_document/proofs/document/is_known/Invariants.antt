@@ -1,7 +1,5 @@
-use Rattle.std.proofs.Common.{◌≡◌, drop, map}
-use Rattle.std.specs.List.{list_any}
-use Rattle.std.specs.Str.{bytes_eq}
 use Rattle.do_document.proofs.document.is_known.Given as goal
+use Rattle.std.{proofs.Common.{◌≡◌, drop, map}, specs.{List.list_any, Str.bytes_eq}}
 
 abbrev pub invariant-loop-word : goal.invariant-loop-word
 invariant-loop-word l =

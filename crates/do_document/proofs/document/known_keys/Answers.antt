@@ -1,7 +1,6 @@
-use Rattle.std.proofs.Common.{arith}
-use Rattle.std.proofs.lemmas.Grind.{common_steps}
-use Rattle.do_document.proofs.InOrder.{unknown_found, unknown_none}
 use Rattle.do_document.proofs.document.known_keys.Goals as goal
+use Rattle.std.proofs.{Common.arith, lemmas.Grind.common_steps}
+use Rattle.do_document.proofs.InOrder.{unknown_found, unknown_none}
 
 pub returns-in-Some : goal.returns-in-Some
 returns-in-Some c =

@@ -1,8 +1,7 @@
-use Rattle.std.proofs.Common.{arith}
-use Rattle.std.proofs.lemmas.Grind.{common_steps}
+use Rattle.do_document.proofs.document.members_at.Goals as goal
+use Rattle.std.proofs.{Common.arith, lemmas.Grind.common_steps}
 use Rattle.toml.specs.View.{view}
 use Rattle.do_document.proofs.ListSteps.{members_absent, members_no_list, members_there}
-use Rattle.do_document.proofs.document.members_at.Goals as goal
 
 pub returns-in-Some-as_array : goal.returns-in-Some-as_array
 returns-in-Some-as_array c =

@@ -1,6 +1,6 @@
+use Rattle.do_document.proofs.document.tables_at.Goals as goal
 use Rattle.toml.specs.Data.{as_table}
 use Rattle.do_document.proofs.ListSteps.{all_made, step_made, tables_made}
-use Rattle.do_document.proofs.document.tables_at.Goals as goal
 
 pub loop-member-preserved : goal.loop-member-preserved
 loop-member-preserved c =

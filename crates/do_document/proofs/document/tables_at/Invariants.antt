@@ -1,8 +1,6 @@
-use Rattle.std.proofs.Common.{◌≡◌, map, take}
-use Rattle.std.specs.List.{filter_map}
-use Rattle.toml.specs.Data.{as_table}
-use Rattle.toml.specs.View.{table_view, view}
 use Rattle.do_document.proofs.document.tables_at.Given as goal
+use Rattle.std.{proofs.Common.{◌≡◌, map, take}, specs.List.filter_map}
+use Rattle.toml.specs.{Data.as_table, View.{table_view, view}}
 
 abbrev pub invariant-loop-member : goal.invariant-loop-member
 invariant-loop-member l =

@@ -1,10 +1,8 @@
-use Rattle.std.proofs.Common.{◌≡◌, arith}
-use Rattle.std.proofs.lemmas.Grind.{common_steps}
-use Rattle.std.proofs.lemmas.Result.{err_from_is_err_and}
+use Rattle.do_document.proofs.document.text_required.Goals as goal
+use Rattle.std.proofs.{Common.{◌≡◌, arith}, lemmas.{Grind.common_steps, Result.err_from_is_err_and}}
 use Rattle.toml.specs.View.{view}
 use Rattle.do_document.proofs.Finding.{text_there}
 use Rattle.do_document.proofs.InOrder.{required_absent, required_not_text, required_text}
-use Rattle.do_document.proofs.document.text_required.Goals as goal
 
 pub returns-in_err-value : goal.returns-in_err-value
 returns-in_err-value c =

@@ -1,8 +1,6 @@
-use Rattle.std.proofs.Common.{◌≡◌, map, take}
-use Rattle.std.specs.List.{filter_map}
-use Rattle.toml.specs.Data.{as_str}
-use Rattle.toml.specs.View.{view}
 use Rattle.do_document.proofs.document.texts_at.Given as goal
+use Rattle.std.{proofs.Common.{◌≡◌, map, take}, specs.List.filter_map}
+use Rattle.toml.specs.{Data.as_str, View.view}
 
 abbrev pub invariant-loop-member : goal.invariant-loop-member
 invariant-loop-member l =

@@ -1,9 +1,8 @@
+use Rattle.do_document.proofs.document.unknown_key.Given as goal
 use Rattle.std.proofs.Common.{◌≡◌, map, not, string_bytes}
-use Rattle.std.specs.List.{find, list_any}
-use Rattle.std.specs.Str.{bytes_eq}
+use Rattle.std.specs.{List.{find, list_any}, Str.bytes_eq}
 use Rattle.toml.specs.View.{table_view}
 use Rattle.do_document.specs.Document.{keys}
-use Rattle.do_document.proofs.document.unknown_key.Given as goal
 
 abbrev pub invariant-loop-key : goal.invariant-loop-key
 invariant-loop-key l =

@@ -1,6 +1,6 @@
 -- What the map has at a key is the member of that key.
-use Rattle.toml.proofs.Views.{table_get}
 use Rattle.do_document.proofs.document.value_at.Goals as goal
+use Rattle.toml.proofs.Views.{table_get}
 
 pub returns : goal.returns
 returns c =

@@ -1,17 +1,11 @@
-use Rattle.std.proofs.lemmas.Result.{err_from_is_err_and}
-use Rattle.std.proofs.Common.{◌≡◌, ◌∙◌, ◌≤◌, ◌-◌, Bor, BTreeMap, Global, String, length, arith}
-use Rattle.std.proofs.Common.{ap, map, subst}
-use Rattle.toml.specs.View.{table_view}
-use Rattle.toml.specs.declared.value.Value.{Value}
-use Rattle.do_document.specs.Checks.{first_among}
-use Rattle.do_document.specs.ClassFaults.{entry_fault}
-use Rattle.do_document.specs.Document.{tables_at}
-use Rattle.do_document.specs.Finding.{Finds}
-use Rattle.do_document.specs.Lists.{key_of}
-use Rattle.do_document.specs.Sound.{AreMore}
+use Rattle.do_document.proofs.entries.entries_at.Goals as goal
+use Rattle.std.proofs.{lemmas.Result.err_from_is_err_and, Common.{◌≡◌, ◌∙◌, ◌≤◌, ◌-◌, Bor}}
+use Rattle.std.proofs.Common.{BTreeMap, Global, String, length, arith, ap, map, subst}
+use Rattle.toml.specs.{View.table_view, declared.value.Value.Value}
+use Rattle.do_document.specs.{Checks.first_among, ClassFaults.entry_fault, Document.tables_at}
+use Rattle.do_document.specs.{Finding.Finds, Lists.key_of, Sound.AreMore}
 use Rattle.do_document.specs.declared.entries.Listed.{Listed}
 use Rattle.do_document.proofs.Loops.{entries_listed, entries_read, tables_few}
-use Rattle.do_document.proofs.entries.entries_at.Goals as goal
 
 pub returns-in_err-check_list : goal.returns-in_err-check_list
 returns-in_err-check_list c =

@@ -1,21 +1,15 @@
-use Rattle.std.proofs.Common.{◌≡◌, ◌∙◌, ◌<◌, ◌++◌, ◌∷◌, [], None, Bor, BTreeMap, Global, String}
-use Rattle.std.proofs.Common.{ap, arith, get_or, length, length-append, subst, sym}
-use Rattle.std.specs.Option.{option_to_list}
-use Rattle.std.proofs.lemmas.List.Elements.{All-push}
-use Rattle.toml.specs.View.{table_view}
-use Rattle.toml.specs.declared.value.Value.{Value}
+use Rattle.do_document.proofs.entries.entries_of.Goals as goal
+use Rattle.std.proofs.Common.{◌≡◌, ◌∙◌, ◌<◌, ◌++◌, ◌∷◌, [], None, Bor, BTreeMap, Global, String, ap}
+use Rattle.std.proofs.Common.{arith, get_or, length, length-append, subst, sym}
+use Rattle.std.{specs.Option.option_to_list, proofs.lemmas.List.Elements.All-push}
+use Rattle.toml.specs.{View.table_view, declared.value.Value.Value}
 use Rattle.do_sig.specs.MethodTypes.{IsMethodType}
-use Rattle.do_class.specs.Class.{AreMethods}
-use Rattle.do_class.specs.declared.method.Method.{Method}
+use Rattle.do_class.specs.{Class.AreMethods, declared.method.Method.Method}
 use Rattle.do_check.specs.Rules.{AreRules}
 use Rattle.do_class_kinds.specs.Methods.{AreTyped}
-use Rattle.do_document.specs.ClassFaults.{entry_checks}
-use Rattle.do_document.specs.Classes.{method_of, rule_of}
-use Rattle.do_document.specs.Lists.{place_of}
-use Rattle.do_document.proofs.EntrySteps.{rules_more}
-use Rattle.do_document.proofs.Growing.{behind_more, methods_more}
-use Rattle.do_document.proofs.Loops.{entry_turn}
-use Rattle.do_document.proofs.entries.entries_of.Goals as goal
+use Rattle.do_document.specs.{ClassFaults.entry_checks, Classes.{method_of, rule_of}}
+use Rattle.do_document.{specs.Lists.place_of, proofs.EntrySteps.rules_more}
+use Rattle.do_document.proofs.{Growing.{behind_more, methods_more}, Loops.entry_turn}
 
 pub loop-k-preserved : goal.loop-k-preserved
 loop-k-preserved c =

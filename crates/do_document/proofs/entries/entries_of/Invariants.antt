@@ -1,11 +1,8 @@
-use Rattle.std.proofs.Common.{◌≡◌, ◌+◌, ◌++◌, drop, length, map, take}
-use Rattle.std.specs.List.{filter_map}
-use Rattle.toml.specs.View.{table_view}
-use Rattle.do_document.specs.Checks.{first_among, first_behind}
-use Rattle.do_document.specs.ClassFaults.{entry_fault}
-use Rattle.do_document.specs.Classes.{method_of, rule_of}
-use Rattle.do_document.specs.Sound.{AreGood}
 use Rattle.do_document.proofs.entries.entries_of.Given as goal
+use Rattle.std.{proofs.Common.{◌≡◌, ◌+◌, ◌++◌, drop, length, map, take}, specs.List.filter_map}
+use Rattle.toml.specs.View.{table_view}
+use Rattle.do_document.specs.{Checks.{first_among, first_behind}, ClassFaults.entry_fault}
+use Rattle.do_document.specs.{Classes.{method_of, rule_of}, Sound.AreGood}
 
 abbrev pub invariant-loop-k : goal.invariant-loop-k
 invariant-loop-k l = record {

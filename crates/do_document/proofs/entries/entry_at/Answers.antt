@@ -1,8 +1,7 @@
-use Rattle.std.proofs.lemmas.Result.{err_from_is_err_and}
-use Rattle.std.proofs.Common.{◌∙◌}
+use Rattle.do_document.proofs.entries.entry_at.Goals as goal
+use Rattle.std.proofs.{lemmas.Result.err_from_is_err_and, Common.◌∙◌}
 use Rattle.toml.specs.View.{table_view}
 use Rattle.do_document.proofs.EntrySteps.{entry_first, entry_good, entry_second, rule_said}
-use Rattle.do_document.proofs.entries.entry_at.Goals as goal
 
 pub returns-in_err-method : goal.returns-in_err-method
 returns-in_err-method c =

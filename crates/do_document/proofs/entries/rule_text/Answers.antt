@@ -1,10 +1,8 @@
-use Rattle.std.proofs.Common.{arith, ◌≡◌, false, true}
-use Rattle.std.proofs.lemmas.Grind.{common_steps}
-use Rattle.std.proofs.lemmas.Result.{err_from_is_err_and}
-use Rattle.do_document.specs.ClassFaults.{is_rule}
-use Rattle.do_document.proofs.EntrySteps.{within_rule}
-use Rattle.do_document.proofs.Texts.{text_failed, text_missing, text_passed}
 use Rattle.do_document.proofs.entries.rule_text.Goals as goal
+use Rattle.std.proofs.{Common.{arith, ◌≡◌, false, true}, lemmas.Grind.common_steps}
+use Rattle.std.proofs.lemmas.Result.{err_from_is_err_and}
+use Rattle.do_document.{specs.ClassFaults.is_rule, proofs.EntrySteps.within_rule}
+use Rattle.do_document.proofs.Texts.{text_failed, text_missing, text_passed}
 
 pub returns-in_err-text : goal.returns-in_err-text
 returns-in_err-text c =

@@ -1,8 +1,6 @@
-use Rattle.std.proofs.Common.{◌≡◌, drop}
-use Rattle.std.specs.List.{list_any}
-use Rattle.std.specs.Str.{bytes_eq}
-use Rattle.do_class.specs.declared.method.Method.{Method}
 use Rattle.do_document.proofs.methods.is_new.Given as goal
+use Rattle.std.{proofs.Common.{◌≡◌, drop}, specs.{List.list_any, Str.bytes_eq}}
+use Rattle.do_class.specs.declared.method.Method.{Method}
 
 abbrev pub invariant-loop-method : goal.invariant-loop-method
 invariant-loop-method l =

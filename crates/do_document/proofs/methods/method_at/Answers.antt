@@ -1,12 +1,10 @@
-use Rattle.std.proofs.Common.{◌≡◌, ◌==◌, arith, false, true}
-use Rattle.std.proofs.lemmas.Bool.Decides.{nat_tests}
-use Rattle.std.proofs.lemmas.Grind.{common_steps}
-use Rattle.std.proofs.lemmas.Result.{err_from_is_err_and}
+use Rattle.do_document.proofs.methods.method_at.Goals as goal
+use Rattle.std.proofs.{Common.{◌≡◌, ◌==◌, arith, false, true}, lemmas.Bool.Decides.nat_tests}
+use Rattle.std.proofs.lemmas.{Grind.common_steps, Result.err_from_is_err_and}
 use Rattle.do_grammar.specs.Names.{colons}
 use Rattle.do_sig.specs.Calls.{arg_count}
 use Rattle.do_document.proofs.InOrder.{method_count, method_good, method_selector, method_types}
 use Rattle.do_document.proofs.InOrder.{method_unknown}
-use Rattle.do_document.proofs.methods.method_at.Goals as goal
 
 pub returns-in_err-known_keys : goal.returns-in_err-known_keys
 returns-in_err-known_keys c =

@@ -1,16 +1,10 @@
-use Rattle.std.proofs.Common.{◌≡◌, Ok, arith, rules}
-use Rattle.std.proofs.lemmas.Grind.{common_steps}
-use Rattle.std.proofs.lemmas.Result.{err_from_is_err_and}
-use Rattle.std.specs.Prelude.{codes}
-use Rattle.toml.specs.View.{table_view, view}
-use Rattle.do_sig.specs.Answers.{answer_of}
-use Rattle.do_sig.specs.reading.Signatures.{signature_at}
-use Rattle.do_document.proofs.Answering.{types_told}
-use Rattle.do_document.proofs.Finding.{text_there}
-use Rattle.do_document.proofs.InOrder.{required_absent, required_not_text, required_text}
-use Rattle.do_document.proofs.InOrder.{types_first}
-use Rattle.do_document.proofs.InOrder.{types_read}
 use Rattle.do_document.proofs.methods.signature_at.Goals as goal
+use Rattle.std.proofs.{Common.{◌≡◌, Ok, arith, rules}, lemmas.Grind.common_steps}
+use Rattle.std.{proofs.lemmas.Result.err_from_is_err_and, specs.Prelude.codes}
+use Rattle.toml.specs.View.{table_view, view}
+use Rattle.do_sig.specs.{Answers.answer_of, reading.Signatures.signature_at}
+use Rattle.do_document.proofs.{Answering.types_told, Finding.text_there, InOrder.required_absent}
+use Rattle.do_document.proofs.InOrder.{required_not_text, required_text, types_first, types_read}
 
 pub returns-in_err-value : goal.returns-in_err-value
 returns-in_err-value c =

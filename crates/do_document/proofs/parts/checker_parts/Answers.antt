@@ -1,8 +1,8 @@
+use Rattle.do_document.proofs.parts.checker_parts.Goals as goal
 use Rattle.std.proofs.lemmas.Result.{err_from_is_err_and}
 use Rattle.toml.specs.View.{table_view}
 use Rattle.do_document.proofs.PartSteps.{allowed_said, checker_allowed, checker_denied}
 use Rattle.do_document.proofs.PartSteps.{checker_good, checker_own, checker_parts}
-use Rattle.do_document.proofs.parts.checker_parts.Goals as goal
 
 -- slots or methods of its own stand in the class
 pub returns-in_err-neither_key : goal.returns-in_err-neither_key

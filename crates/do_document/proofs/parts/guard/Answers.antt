@@ -1,5 +1,5 @@
-use Rattle.do_document.proofs.PartSteps.{ruleless_good}
 use Rattle.do_document.proofs.parts.guard.Goals as goal
+use Rattle.do_document.proofs.PartSteps.{ruleless_good}
 
 pub returns-clause-good : goal.returns-clause-good
 returns-clause-good c =

@@ -1,8 +1,8 @@
+use Rattle.do_document.proofs.parts.native_parts.Goals as goal
 use Rattle.std.proofs.lemmas.Result.{err_from_is_err_and}
 use Rattle.toml.specs.View.{table_view}
 use Rattle.do_document.proofs.PartSteps.{native_good, native_own, native_parts, native_rules}
 use Rattle.do_document.proofs.PartSteps.{ruleless_good}
-use Rattle.do_document.proofs.parts.native_parts.Goals as goal
 
 pub returns-in_err-neither_key : goal.returns-in_err-neither_key
 returns-in_err-neither_key c =

@@ -1,7 +1,7 @@
+use Rattle.do_document.proofs.parts.neither_key.Goals as goal
 use Rattle.std.proofs.lemmas.Result.{err_from_is_err_and}
 use Rattle.toml.specs.View.{table_view}
 use Rattle.do_document.proofs.PartSteps.{neither_first, neither_found}
-use Rattle.do_document.proofs.parts.neither_key.Goals as goal
 
 pub returns-in_err-no_key : goal.returns-in_err-no_key
 returns-in_err-no_key c =

@@ -1,8 +1,7 @@
-use Rattle.std.proofs.Common.{arith}
-use Rattle.std.proofs.lemmas.Grind.{common_steps}
+use Rattle.do_document.proofs.parts.no_key.Goals as goal
+use Rattle.std.proofs.{Common.arith, lemmas.Grind.common_steps}
 use Rattle.toml.specs.View.{view}
 use Rattle.do_document.proofs.InOrder.{never}
-use Rattle.do_document.proofs.parts.no_key.Goals as goal
 
 pub returns-in-Some : goal.returns-in-Some
 returns-in-Some c =

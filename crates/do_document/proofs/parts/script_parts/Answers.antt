@@ -1,8 +1,8 @@
+use Rattle.do_document.proofs.parts.script_parts.Goals as goal
 use Rattle.std.proofs.lemmas.Result.{err_from_is_err_and}
 use Rattle.toml.specs.View.{table_view}
 use Rattle.do_document.proofs.PartSteps.{nothing_good, script_good, script_methods, script_parts}
 use Rattle.do_document.proofs.PartSteps.{script_rules, script_slots}
-use Rattle.do_document.proofs.parts.script_parts.Goals as goal
 
 -- the slots have a fault
 pub returns-in_err-slots : goal.returns-in_err-slots

@@ -1,8 +1,6 @@
-use Rattle.std.proofs.Common.{◌≡◌, drop}
-use Rattle.std.specs.List.{list_any}
-use Rattle.std.specs.Str.{bytes_eq}
-use Rattle.do_class.specs.declared.ids.Slot.{Slot}
 use Rattle.do_document.proofs.slots.is_new.Given as goal
+use Rattle.std.{proofs.Common.{◌≡◌, drop}, specs.{List.list_any, Str.bytes_eq}}
+use Rattle.do_class.specs.declared.ids.Slot.{Slot}
 
 abbrev pub invariant-loop-other : goal.invariant-loop-other
 invariant-loop-other l =

@@ -1,6 +1,6 @@
+use Rattle.do_document.proofs.slots.slots_at.Goals as goal
 use Rattle.std.proofs.lemmas.Result.{err_from_is_err_and}
 use Rattle.do_document.proofs.Loops.{slots_listed, slots_read}
-use Rattle.do_document.proofs.slots.slots_at.Goals as goal
 
 pub returns-in_err-check_list : goal.returns-in_err-check_list
 returns-in_err-check_list c =

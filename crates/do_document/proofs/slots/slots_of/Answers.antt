@@ -1,10 +1,8 @@
-use Rattle.std.proofs.Common.{◌≡◌, ◌∙◌, ◌++◌, ◌∷◌, [], arith, ap, length, length-append, sym}
-use Rattle.std.proofs.Common.{true, Bor, List, ℕ}
-use Rattle.do_document.specs.ClassFaults.{is_new_slot}
-use Rattle.do_document.specs.Classes.{slot_of}
-use Rattle.do_document.proofs.Growing.{made_more}
-use Rattle.do_document.proofs.Loops.{slot_good}
 use Rattle.do_document.proofs.slots.slots_of.Goals as goal
+use Rattle.std.proofs.Common.{◌≡◌, ◌∙◌, ◌++◌, ◌∷◌, [], arith, ap, length, length-append, sym, true}
+use Rattle.std.proofs.Common.{Bor, List, ℕ}
+use Rattle.do_document.specs.{ClassFaults.is_new_slot, Classes.slot_of}
+use Rattle.do_document.proofs.{Growing.made_more, Loops.slot_good}
 
 pub loop-k-preserved : goal.loop-k-preserved
 loop-k-preserved c =

@@ -1,9 +1,7 @@
-use Rattle.std.proofs.Common.{◌≡◌, ◌≤◌, drop, length, map, take}
-use Rattle.std.specs.List.{filter_map}
-use Rattle.do_document.specs.Checks.{first_among, first_behind}
-use Rattle.do_document.specs.ClassFaults.{slot_fault}
-use Rattle.do_document.specs.Classes.{slot_of}
 use Rattle.do_document.proofs.slots.slots_of.Given as goal
+use Rattle.std.{proofs.Common.{◌≡◌, ◌≤◌, drop, length, map, take}, specs.List.filter_map}
+use Rattle.do_document.specs.{Checks.{first_among, first_behind}, ClassFaults.slot_fault}
+use Rattle.do_document.specs.Classes.{slot_of}
 
 abbrev pub invariant-loop-k : goal.invariant-loop-k
 invariant-loop-k l = record {

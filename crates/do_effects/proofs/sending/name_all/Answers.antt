@@ -1,8 +1,7 @@
-use Rattle.std.proofs.Common.{◌+◌, drop}
-use Rattle.do_effects.proofs.NamingLoop.{names_at, names_begin, names_end, names_next}
-use Rattle.do_effects.proofs.NamingLoop.{IsNext, next_at}
-use Rattle.do_effects.proofs.sending.name_all.Goals.{After-name-item}
 use Rattle.do_effects.proofs.sending.name_all.Goals as goal
+use Rattle.std.proofs.Common.{◌+◌, drop}
+use Rattle.do_effects.proofs.NamingLoop.{names_at, names_begin, names_end, names_next, IsNext}
+use Rattle.do_effects.proofs.{NamingLoop.next_at, sending.name_all.Goals.After-name-item}
 
 -- no name was sent yet
 pub loop-name-init : goal.loop-name-init

@@ -1,7 +1,7 @@
 -- The names that were sent so far.
+use Rattle.do_effects.proofs.sending.name_all.Given as goal
 use Rattle.std.proofs.Common.{drop}
 use Rattle.do_effects.proofs.NamingLoop.{IsNaming}
-use Rattle.do_effects.proofs.sending.name_all.Given as goal
 
 -- naming the rest as well names all
 abbrev pub invariant-loop-name : goal.invariant-loop-name

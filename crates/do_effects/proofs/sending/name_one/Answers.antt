@@ -1,6 +1,6 @@
+use Rattle.do_effects.proofs.sending.name_one.Goals as goal
 use Rattle.std.proofs.Common.{◌≤◌, arith, subst}
 use Rattle.do_effects.specs.Sends.{CanName}
-use Rattle.do_effects.proofs.sending.name_one.Goals as goal
 
 -- an own object that is named is stored
 pub name-requires-clause-stored : goal.name-requires-clause-stored

@@ -1,8 +1,7 @@
-use Rattle.std.proofs.Common.{sym, ap, ◌∙◌}
-use Rattle.std.specs.Option.{unwrap_or}
-use Rattle.std.specs.FinMap.{find, get-from_sorted}
-use Rattle.do_export.specs.Counts.{entry_cmp}
 use Rattle.do_export.proofs.Exports.count.Goals as goal
+use Rattle.std.proofs.Common.{sym, ap, ◌∙◌}
+use Rattle.std.specs.{Option.unwrap_or, FinMap.{find, get-from_sorted}}
+use Rattle.do_export.specs.Counts.{entry_cmp}
 
 -- the row that is found has the count
 pub returns-in-Some : goal.returns-in-Some

@@ -1,7 +1,6 @@
-use Rattle.std.proofs.Common.{arith, refl}
-use Rattle.do_export.proofs.Order.{without_is, lowest_is}
-use Rattle.do_export.proofs.Positive.{entries_out}
 use Rattle.do_export.proofs.Exports.drop_next.Goals as goal
+use Rattle.std.proofs.Common.{arith, refl}
+use Rattle.do_export.proofs.{Order.{without_is, lowest_is}, Positive.entries_out}
 
 -- where none is lowest the peer has no entry
 pub returns-in_default-clause-which : goal.returns-in_default-clause-which

@@ -1,8 +1,6 @@
-use Rattle.std.proofs.Common.{◌==◌, not, rules}
-use Rattle.std.proofs.lemmas.Fn.{filter_same}
-use Rattle.do_export.proofs.Order.{others_are}
-use Rattle.do_export.proofs.Positive.{entries_others}
 use Rattle.do_export.proofs.Exports.end_peer.Goals as goal
+use Rattle.std.proofs.{Common.{◌==◌, not, rules}, lemmas.Fn.filter_same}
+use Rattle.do_export.proofs.{Order.others_are, Positive.entries_others}
 
 -- the rows of other peers are still in their order, and count something
 pub invariant_of-self : goal.invariant_of-self

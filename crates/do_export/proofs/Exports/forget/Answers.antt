@@ -1,6 +1,5 @@
-use Rattle.do_export.proofs.Order.{without_is}
-use Rattle.do_export.proofs.Positive.{entries_out}
 use Rattle.do_export.proofs.Exports.forget.Goals as goal
+use Rattle.do_export.proofs.{Order.without_is, Positive.entries_out}
 
 -- the rows without one are still in their order, and count something
 pub invariant_of-self : goal.invariant_of-self

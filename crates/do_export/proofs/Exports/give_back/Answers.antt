@@ -1,10 +1,9 @@
+use Rattle.std.specs.FinMap as map
+use Rattle.do_export.proofs.Exports.give_back.Goals as goal
 use Rattle.std.proofs.Common.{◌≡◌, ◌<◌, ◌-◌, ap, ◌∙◌, arith, subst, IsSome}
 use Rattle.std.proofs.lemmas.Bool.{eq-eqb, ne_eqb}
-use Rattle.std.specs.FinMap as map
-use Rattle.do_export.specs.Counts.{count_of}
-use Rattle.do_export.proofs.Order.{put_is, without_is, found_is, some_above}
-use Rattle.do_export.proofs.Positive.{entries_put, entries_out}
-use Rattle.do_export.proofs.Exports.give_back.Goals as goal
+use Rattle.do_export.{specs.Counts.count_of, proofs.Order.{put_is, without_is, found_is}}
+use Rattle.do_export.proofs.{Order.some_above, Positive.{entries_put, entries_out}}
 
 -- where nothing is left, the rows without the entry are in their order
 pub invariant_of-self : goal.invariant_of-self

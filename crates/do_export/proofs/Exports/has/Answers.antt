@@ -1,8 +1,7 @@
-use Rattle.std.proofs.Common.{sym, ap, ◌∙◌}
-use Rattle.std.specs.Option.{is_some}
-use Rattle.std.specs.FinMap.{find, get-from_sorted}
-use Rattle.do_export.specs.Counts.{entry_cmp}
 use Rattle.do_export.proofs.Exports.has.Goals as goal
+use Rattle.std.proofs.Common.{sym, ap, ◌∙◌}
+use Rattle.std.specs.{Option.is_some, FinMap.{find, get-from_sorted}}
+use Rattle.do_export.specs.Counts.{entry_cmp}
 
 -- there is an entry where a row is found
 pub returns : goal.returns

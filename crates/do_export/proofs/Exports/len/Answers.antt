@@ -1,7 +1,7 @@
+use Rattle.do_export.proofs.Exports.len.Goals as goal
 use Rattle.std.proofs.Common.{length, sym, ap, ◌∙◌}
 use Rattle.std.specs.FinMap.{len-entries, entries-from_sorted}
 use Rattle.do_export.specs.Counts.{entry_cmp}
-use Rattle.do_export.proofs.Exports.len.Goals as goal
 
 -- there are as many entries as rows
 pub returns-clause-many : goal.returns-clause-many

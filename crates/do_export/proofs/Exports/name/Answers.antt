@@ -1,9 +1,7 @@
-use Rattle.std.proofs.Common.{arith, sym, ap, ◌∙◌, ◌+◌, if◌then◌else◌}
-use Rattle.std.specs.Option.{is_some}
 use Rattle.std.specs.FinMap as map
-use Rattle.do_export.proofs.Order.{put_is, found_is}
-use Rattle.do_export.proofs.Positive.{entries_put}
 use Rattle.do_export.proofs.Exports.name.Goals as goal
+use Rattle.std.{proofs.Common.{arith, sym, ap, ◌∙◌, ◌+◌, if◌then◌else◌}, specs.Option.is_some}
+use Rattle.do_export.proofs.{Order.{put_is, found_is}, Positive.entries_put}
 
 -- a row that counts one more keeps the rows in their order
 pub invariant_of-self : goal.invariant_of-self

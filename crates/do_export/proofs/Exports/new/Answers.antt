@@ -1,9 +1,8 @@
+use Rattle.do_export.proofs.Exports.new.Goals as goal
 use Rattle.std.proofs.Common.{refl, sym, subst}
 use Rattle.do_sorted.proofs.RowsAsMap.{from_nothing}
-use Rattle.do_export.proofs.Order.{entry_total, entry_same}
-use Rattle.do_export.specs.Counts.{IsPositive}
+use Rattle.do_export.{proofs.Order.{entry_total, entry_same}, specs.Counts.IsPositive}
 use Rattle.do_export.proofs.Positive.{none_positive}
-use Rattle.do_export.proofs.Exports.new.Goals as goal
 
 -- no rows are in their order
 pub invariant_of-result : goal.invariant_of-result

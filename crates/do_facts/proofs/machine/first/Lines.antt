@@ -1,26 +1,18 @@
 -- Over the lines of version 1 the machine does what the rules of version 1 give.
-use Rattle.std.proofs.Common.{◌≡◌, List, [], ◌∷◌, refl, ap, ◌∙◌}
-use Rattle.std.specs.List.{AllByRecursion}
-use Rattle.do_base.specs.declared.events.event.Event.{Event}
 use Rattle.do_base.specs.declared.events.event.Event.TheVariants as events
-use Rattle.do_class.specs.Class.{Class}
-use Rattle.do_sched.specs.Good.{IsLineOf}
-use Rattle.do_sched.specs.declared.line.Line.{Line}
 use Rattle.do_sched.specs.declared.line.Line.TheVariants as lines
+use Rattle.std.{proofs.Common.{◌≡◌, List, [], ◌∷◌, refl, ap, ◌∙◌}, specs.List.AllByRecursion}
+use Rattle.do_base.specs.declared.events.event.Event.{Event}
+use Rattle.do_class.specs.Class.{Class}
+use Rattle.do_sched.specs.{Good.IsLineOf, declared.line.Line.Line}
 use Rattle.do_sched.specs.declared.version.Version.TheVariants.{First}
-use Rattle.do_machine.specs.declared.state.Seat.{Seat}
-use Rattle.do_machine.specs.declared.state.State.{State}
-use Rattle.do_machine.specs.declared.state.Stepped.{Stepped}
-use Rattle.do_machine.specs.Commit.{skipped}
-use Rattle.do_machine.specs.Step.{step}
-use Rattle.do_machine.specs.World.{opening}
+use Rattle.do_machine.specs.declared.state.{Seat.Seat, State.State, Stepped.Stepped}
+use Rattle.do_machine.specs.{Commit.skipped, Step.step, World.opening}
 use Rattle.do_machine.specs.check.Blocks.{block, blocks, events_of, followed, line_step, steps}
-use Rattle.do_facts.specs.laws.Follows.{IsNoTimeOut}
-use Rattle.do_facts.specs.laws.first.Blocks.{blocks_1, steps_1}
+use Rattle.do_facts.specs.laws.{Follows.IsNoTimeOut, first.Blocks.{blocks_1, steps_1}}
 use Rattle.do_facts.specs.laws.first.Step.{AllOnTime}
 use Rattle.do_machine.specs.run.Run.{Acting}
-use Rattle.do_facts.proofs.machine.Opening.{opening_on_time}
-use Rattle.do_facts.proofs.machine.first.Steps.{same_step, stays_on_time}
+use Rattle.do_facts.proofs.machine.{Opening.opening_on_time, first.Steps.{same_step, stays_on_time}}
 use Rattle.do_facts.proofs.EachOfLists.{each_replicated}
 
 -- no event is a time-out

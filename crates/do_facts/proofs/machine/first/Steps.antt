@@ -1,22 +1,16 @@
 -- Where no call was given up, each event but a time-out does what the rules of version 1 say.
 use Rattle.std.proofs.Common.{◌≡◌, ℕ, not, List, refl, ap, cond}
 use Rattle.std.specs.Prelude.{None, Some, drop, slice_get, unwrap_or}
-use Rattle.do_base.specs.declared.events.event.Event.{Event}
-use Rattle.do_base.specs.declared.events.event.Event.TheVariants.{Close, Take, Timeout}
+use Rattle.do_base.specs.declared.events.event.Event.{Event, TheVariants.{Close, Take, Timeout}}
 use Rattle.do_class.specs.Class.{Class}
-use Rattle.do_machine.specs.declared.state.State.{State}
-use Rattle.do_machine.specs.Commit.{moved, skipped}
-use Rattle.do_machine.specs.Context.{context}
+use Rattle.do_machine.specs.{declared.state.State.State, Commit.{moved, skipped}, Context.context}
 use Rattle.do_machine.specs.State.{change, is_open, node, queue, with_queue}
 use Rattle.do_machine.specs.Step.{close, step, take}
 use Rattle.do_facts.specs.laws.Follows.{Follows, IsNoTimeOut}
 use Rattle.do_facts.specs.laws.first.Step.{AllOnTime, IsOnTime, close_1, step_1, take_1}
-use Rattle.do_machine.specs.run.Run.{Acting}
-use Rattle.do_machine.specs.take.Take.{can_take}
-use Rattle.do_facts.proofs.machine.Version1.{same_closing}
-use Rattle.do_facts.proofs.machine.first.Takes.{same_take_effect}
-use Rattle.do_facts.proofs.machine.follows.Every.{all_passed, follow_steps}
-use Rattle.do_facts.proofs.Chains.{found_same}
+use Rattle.do_machine.specs.{run.Run.Acting, take.Take.can_take}
+use Rattle.do_facts.proofs.machine.{Version1.same_closing, first.Takes.same_take_effect}
+use Rattle.do_facts.proofs.{machine.follows.Every.{all_passed, follow_steps}, Chains.found_same}
 
 module _ (table : List Class) (S : State) (on_time : AllOnTime S) (port from : ℕ) where
   -- a take

@@ -1,20 +1,15 @@
 -- Where no call was given up, an item that is taken does what it does by the rules of version 1.
-use Rattle.std.proofs.Common.{◌≡◌, ℕ, refl, ap}
 use Rattle.do_base.specs.declared.events.shown.Shown.TheVariants as shows
-use Rattle.do_class.specs.declared.packet.Packet.{Packet}
-use Rattle.do_machine.specs.declared.item.Item.{Item}
 use Rattle.do_machine.specs.declared.item.Item.TheVariants as items
-use Rattle.do_machine.specs.declared.node.Node.{Node}
-use Rattle.do_machine.specs.Context.{Context}
-use Rattle.do_machine.specs.Effect.{showing, ◌>>=◌}
-use Rattle.do_machine.specs.Items.{exported}
+use Rattle.std.proofs.Common.{◌≡◌, ℕ, refl, ap}
+use Rattle.do_class.specs.declared.packet.Packet.{Packet}
+use Rattle.do_machine.specs.{declared.{item.Item.Item, node.Node.Node}, Context.Context}
+use Rattle.do_machine.specs.{Effect.{showing, ◌>>=◌}, Items.exported}
 use Rattle.do_facts.specs.laws.first.Step.{IsOnTime}
 use Rattle.do_facts.specs.laws.first.Take.{arrival_1, take_effect_1, values_arrival_1}
-use Rattle.do_machine.specs.take.Awaiting.{AnsweredCall, values_answer}
-use Rattle.do_machine.specs.take.Lines.{item_line}
-use Rattle.do_machine.specs.take.Receipt.{arrived, received, receiving}
-use Rattle.do_machine.specs.take.Take.{arrival, holding, method_call, root_call, take_effect}
-use Rattle.do_machine.specs.take.Take.{values_arrival}
+use Rattle.do_machine.specs.take.{Awaiting.{AnsweredCall, values_answer}, Lines.item_line}
+use Rattle.do_machine.specs.take.{Receipt.{arrived, received, receiving}, Take.{arrival, holding}}
+use Rattle.do_machine.specs.take.Take.{method_call, root_call, take_effect, values_arrival}
 use Rattle.do_facts.proofs.machine.Version1.{same_answering, same_closing}
 use Rattle.do_facts.proofs.machine.follows.SteadyTakes.{by_receiving}
 

@@ -3,22 +3,15 @@ use Rattle.std.proofs.Common.{◌≡◌, ◌∙◌, ℕ, Bool, List, ap, refl, s
 use Rattle.std.specs.Prelude.{None, Option, Some, unwrap_or}
 use Rattle.do_base.specs.declared.events.event.Event.{Event}
 use Rattle.do_class.specs.Class.{Class}
-use Rattle.do_machine.specs.declared.node.Node.{Node}
-use Rattle.do_machine.specs.declared.state.Effect.{Effect}
-use Rattle.do_machine.specs.declared.state.State.{State}
-use Rattle.do_machine.specs.Context.{context}
-use Rattle.do_machine.specs.State.{node}
-use Rattle.do_machine.specs.Step.{step}
-use Rattle.do_machine.specs.held.Leaving.{leaving}
+use Rattle.do_machine.specs.declared.{node.Node.Node, state.{Effect.Effect, State.State}}
+use Rattle.do_machine.specs.{Context.context, State.node, Step.step, held.Leaving.leaving}
 use Rattle.do_machine.specs.run.Run.{Acting}
 use Rattle.do_facts.specs.laws.Follows.{AllHoldOpen, EachNode, Follows, Grows, HoldsOpen}
-use Rattle.do_facts.specs.laws.Follows.{IsNoTimeOut}
-use Rattle.do_facts.specs.steps.IsStep.{without_oldest}
+use Rattle.do_facts.specs.{laws.Follows.IsNoTimeOut, steps.IsStep.without_oldest}
 use Rattle.do_facts.proofs.machine.follows.Follows.{by_leaving, grow_after}
 use Rattle.do_facts.proofs.machine.follows.Steps.{is_time_out, no_time_out, rule_steady}
 use Rattle.do_facts.proofs.steps.NodeSteps.{Acted, NodeStep, Stands, Took, node_step}
-use Rattle.do_facts.proofs.machine.follows.SteadyTakes.{by_take}
-use Rattle.do_facts.proofs.machine.follows.Steady.{steady}
+use Rattle.do_facts.proofs.machine.follows.{SteadyTakes.by_take, Steady.steady}
 
 module _ (table : List Class) (act : Acting) (S : State) (event : Event) where
   -- how a node stands to what it was: it grew, and but by a time-out no call became late

@@ -1,26 +1,17 @@
 -- How a node stands to what it was: what parting, holding and leaving keep.
+use Rattle.do_machine.specs.declared.item.Item.TheVariants as items
 use Rattle.std.proofs.Common.{◌≡◌, ◌==◌, ◌&&◌, ℕ, true, not, List, [], ◌∷◌, filter, map, refl, ap}
-use Rattle.std.proofs.Common.{arith, subst, Bool}
-use Rattle.std.proofs.lemmas.Bool.{eqb-true}
-use Rattle.std.proofs.lemmas.Bool.Decides.{nat_tests}
+use Rattle.std.proofs.{Common.{arith, subst, Bool}, lemmas.Bool.{eqb-true, Decides.nat_tests}}
 use Rattle.do_base.specs.names.Names.{ObjectName}
 use Rattle.do_class.specs.declared.packet.Name.{Name}
 use Rattle.do_packet.specs.Met.{has_object}
-use Rattle.do_machine.specs.declared.item.Item.{Item}
-use Rattle.do_machine.specs.declared.item.Item.TheVariants as items
-use Rattle.do_machine.specs.declared.node.Node.{Node}
+use Rattle.do_machine.specs.declared.{item.Item.Item, node.Node.Node}
 use Rattle.do_machine.specs.Items.{Released, exported, is_exported, name_naming, named_as, naming}
-use Rattle.do_machine.specs.State.{is_open}
-use Rattle.do_machine.specs.ends.Closing.{parted}
-use Rattle.do_machine.specs.held.Kept.{kept}
-use Rattle.do_machine.specs.held.Leaving.{freeing, leaving}
-use Rattle.do_machine.specs.held.Refers.{node_objects}
-use Rattle.do_machine.specs.take.Take.{holding}
-use Rattle.do_machine.proofs.Having.{has_passing, has_joined_all}
-use Rattle.do_facts.specs.laws.Follows.{Follows, Grows, HoldsOpen}
-use Rattle.do_facts.specs.links.Links.{links_of}
-use Rattle.do_facts.proofs.links.ListsChanged.{open_less, was_open}
-use Rattle.do_facts.proofs.links.HeldChanged.{held_apart}
+use Rattle.do_machine.specs.{State.is_open, ends.Closing.parted, held.Kept.kept}
+use Rattle.do_machine.specs.held.{Leaving.{freeing, leaving}, Refers.node_objects}
+use Rattle.do_machine.{specs.take.Take.holding, proofs.Having.{has_passing, has_joined_all}}
+use Rattle.do_facts.specs.{laws.Follows.{Follows, Grows, HoldsOpen}, links.Links.links_of}
+use Rattle.do_facts.proofs.links.{ListsChanged.{open_less, was_open}, HeldChanged.held_apart}
 
 -- one step after another grows
 pub grow_after : (n m k : Node) → Grows n m → Grows m k → Grows n k

@@ -1,11 +1,7 @@
 -- What holds of each move of a state.
-use Rattle.std.proofs.Common.{◌≡◌, ℕ, List}
-use Rattle.std.specs.Prelude.{Some}
-use Rattle.do_machine.specs.declared.item.Item.{Item}
-use Rattle.do_machine.specs.declared.node.Node.{Node}
-use Rattle.do_machine.specs.declared.state.Effect.{Effect}
-use Rattle.do_machine.specs.declared.state.State.{State}
-use Rattle.do_machine.specs.Commit.{commit}
+use Rattle.std.{proofs.Common.{◌≡◌, ℕ, List}, specs.Prelude.Some}
+use Rattle.do_machine.specs.declared.{item.Item.Item, node.Node.Node, state.Effect.Effect}
+use Rattle.do_machine.specs.{declared.state.State.State, Commit.commit}
 use Rattle.do_machine.specs.State.{change, node, with_queue}
 
 -- A relation of states that each move of a node keeps, where the node stands so to what it was

@@ -1,13 +1,8 @@
 -- Which node stands where, once an effect is put into the state or items of one queue are others.
 use Rattle.std.proofs.Common.{◌≡◌, ℕ, List, [], ◌∷◌, refl, arith, ◌==◌}
-use Rattle.std.specs.Prelude.{Option, Some, option_map}
-use Rattle.std.specs.List.{find}
-use Rattle.do_machine.specs.declared.item.Item.{Item}
-use Rattle.do_machine.specs.declared.node.Node.{Node}
-use Rattle.do_machine.specs.declared.state.Effect.{Effect}
-use Rattle.do_machine.specs.declared.state.Station.{Station}
-use Rattle.do_machine.specs.Commit.{committed}
-use Rattle.do_machine.specs.Lists.{change_first}
+use Rattle.std.specs.{Prelude.{Option, Some, option_map}, List.find}
+use Rattle.do_machine.specs.declared.{item.Item.Item, node.Node.Node, state.Effect.Effect}
+use Rattle.do_machine.specs.{declared.state.Station.Station, Commit.committed, Lists.change_first}
 use Rattle.do_machine.specs.State.{with_queue}
 
 -- the node of a port among stations

@@ -1,26 +1,16 @@
 -- What the rules of a step keep of a node, walked once: its numbers are no lower, no end opens, and
 -- unless it parts from a peer it holds the same over the same ends and gives nothing back.
+use Rattle.do_machine.specs.declared.item.Item.TheVariants as items
 use Rattle.std.proofs.Common.{◌≡◌, ◌≤◌, ℕ, Bool, true, false, List, [], refl, arith}
 use Rattle.std.specs.Prelude.{Option, None}
 use Rattle.do_packet.specs.declared.receipt.Made.{Made}
-use Rattle.do_behave.specs.declared.invocation.Answer.{Answer}
-use Rattle.do_behave.specs.declared.invocation.Waited.{Waited}
-use Rattle.do_machine.specs.declared.item.Item.{Item}
-use Rattle.do_machine.specs.declared.item.Item.TheVariants as items
-use Rattle.do_machine.specs.declared.node.Lend.{Lend}
-use Rattle.do_machine.specs.declared.node.Node.{Node}
-use Rattle.do_machine.specs.declared.node.Wanted.{Wanted}
-use Rattle.do_machine.specs.declared.state.Effect.{Effect}
-use Rattle.do_machine.specs.Effect.{each}
-use Rattle.do_machine.specs.lend.Asking.{settling, without_wanted}
-use Rattle.do_machine.specs.lend.Lending.{lending}
-use Rattle.do_machine.specs.run.Changes.{uses_number}
-use Rattle.do_machine.specs.run.Fresh.{with_objects}
-use Rattle.do_machine.specs.take.Awaiting.{AnsweredCall, answering}
-use Rattle.do_facts.specs.laws.Follows.{Grows, Follows}
-use Rattle.do_facts.proofs.machine.follows.Follows.{grow_after}
-use Rattle.do_facts.proofs.walk.Done.{Done, DoneIf, each_done}
-use Rattle.do_facts.proofs.walk.SmallEffects.{Small, by_settling}
+use Rattle.do_behave.specs.declared.invocation.{Answer.Answer, Waited.Waited}
+use Rattle.do_machine.specs.declared.{item.Item.Item, node.{Lend.Lend, Node.Node, Wanted.Wanted}}
+use Rattle.do_machine.specs.{declared.state.Effect.Effect, Effect.each, lend.Asking.settling}
+use Rattle.do_machine.specs.{lend.{Asking.without_wanted, Lending.lending}, run.Changes.uses_number}
+use Rattle.do_machine.specs.{run.Fresh.with_objects, take.Awaiting.{AnsweredCall, answering}}
+use Rattle.do_facts.{specs.laws.Follows.{Grows, Follows}, proofs.machine.follows.Follows.grow_after}
+use Rattle.do_facts.proofs.walk.{Done.{Done, DoneIf, each_done}, SmallEffects.{Small, by_settling}}
 
 -- an item that may release objects
 abbrev pub is_release : Item → Bool

@@ -1,34 +1,25 @@
 -- Runs, starts and time-outs are steady, but that a call becomes late by a time-out.
-use Rattle.std.proofs.Common.{◌≡◌, ℕ, true, false, List, [], ◌∷◌, refl, arith}
-use Rattle.do_base.specs.declared.values.value.Value.{Value}
-use Rattle.do_base.specs.declared.values.value.Value.TheVariants.{Nil, Obj, Text}
-use Rattle.do_class.specs.Class.{Class}
-use Rattle.do_class.specs.declared.packet.Packet.{Packet}
-use Rattle.do_behave.specs.declared.invocation.Answer.TheVariants.{Given}
 use Rattle.do_machine.specs.declared.item.Item.TheVariants as items
-use Rattle.do_machine.specs.declared.node.Node.{Node}
-use Rattle.do_machine.specs.declared.state.Effect.{Effect}
-use Rattle.do_machine.specs.declared.verdict.Request.{Request}
 use Rattle.do_machine.specs.declared.verdict.Request.TheVariants as requests
-use Rattle.do_machine.specs.declared.verdict.Verdict.{Verdict}
-use Rattle.do_machine.specs.declared.verdict.Verdict.TheVariants.{Asks, Fails, Makes}
+use Rattle.std.proofs.Common.{◌≡◌, ℕ, true, false, List, [], ◌∷◌, refl, arith}
+use Rattle.do_base.specs.declared.values.value.Value.{Value, TheVariants.{Nil, Obj, Text}}
+use Rattle.do_class.specs.{Class.Class, declared.packet.Packet.Packet}
+use Rattle.do_behave.specs.declared.invocation.Answer.TheVariants.{Given}
+use Rattle.do_machine.specs.declared.{node.Node.Node, state.Effect.Effect, verdict.Request.Request}
+use Rattle.do_machine.specs.declared.verdict.Verdict.{Verdict, TheVariants.{Asks, Fails, Makes}}
 use Rattle.do_machine.specs.declared.verdict.Verdict.TheVariants.{Returns, Says, Tells}
-use Rattle.do_machine.specs.Context.{Context, RunContext}
-use Rattle.do_machine.specs.Start.{start_effect}
-use Rattle.do_machine.specs.State.{own}
-use Rattle.do_machine.specs.ends.TimeOut.{time_out}
-use Rattle.do_machine.specs.lend.Lending.{lending, lends_of, posting}
+use Rattle.do_machine.specs.{Context.{Context, RunContext}, Start.start_effect, State.own}
+use Rattle.do_machine.specs.{ends.TimeOut.time_out, lend.Lending.{lending, lends_of, posting}}
 use Rattle.do_machine.specs.run.Answers.{answer_line, exc_name}
 use Rattle.do_machine.specs.run.Changes.{goes_on, goes_to, stands, uses_number}
-use Rattle.do_machine.specs.run.Delivery.{below_answered, popped, with_top}
-use Rattle.do_machine.specs.run.Fresh.{blank, pushed, with_objects, with_stack}
-use Rattle.do_machine.specs.run.Run.{Acting, run_effect}
+use Rattle.do_machine.specs.run.{Delivery.{below_answered, popped, with_top}, Fresh.{blank, pushed}}
+use Rattle.do_machine.specs.run.{Fresh.{with_objects, with_stack}, Run.{Acting, run_effect}}
 use Rattle.do_machine.specs.run.Verdicts.{effect_of, requesting, waits_for}
 use Rattle.do_facts.proofs.Deliveries.{Delivers, by_delivery, by_failing}
 use Rattle.do_facts.proofs.walk.Done.{Done, alone, queues, shows}
 use Rattle.do_facts.proofs.walk.Possible.{by_begins, by_giving_up, by_verdicts}
-use Rattle.do_facts.proofs.machine.follows.Steady.{IsSteady, IsSteadyIf, NoRelease, Steady}
-use Rattle.do_facts.proofs.machine.follows.Steady.{calls, facts, lends, makes, steady, is_release}
+use Rattle.do_facts.proofs.machine.follows.Steady.{IsSteady, IsSteadyIf, NoRelease, Steady, calls}
+use Rattle.do_facts.proofs.machine.follows.Steady.{facts, lends, makes, steady, is_release}
 use Rattle.do_machine.specs.declared.item.Item.{Item}
 
 module _ (r : RunContext) where

@@ -1,13 +1,9 @@
 -- Closes and takes are steady, but that a node parts from a peer by an end.
+use Rattle.do_machine.specs.declared.item.Item.TheVariants as items
 use Rattle.std.proofs.Common.{◌≡◌, ℕ, Bool, true, false, refl, ap}
 use Rattle.do_class.specs.declared.packet.Packet.{Packet}
-use Rattle.do_machine.specs.declared.item.Item.{Item}
-use Rattle.do_machine.specs.declared.item.Item.TheVariants as items
-use Rattle.do_machine.specs.declared.node.Node.{Node}
-use Rattle.do_machine.specs.Context.{Context}
-use Rattle.do_machine.specs.Items.{exported}
-use Rattle.do_machine.specs.State.{is_open}
-use Rattle.do_machine.specs.ends.Closing.{closing, parted}
+use Rattle.do_machine.specs.{declared.{item.Item.Item, node.Node.Node}, Context.Context}
+use Rattle.do_machine.specs.{Items.exported, State.is_open, ends.Closing.{closing, parted}}
 use Rattle.do_machine.specs.take.Receipt.{arrived, receiving}
 use Rattle.do_machine.specs.take.Take.{arrival, holding, take_effect}
 use Rattle.do_facts.specs.laws.Follows.{Follows}

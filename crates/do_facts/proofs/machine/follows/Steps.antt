@@ -1,32 +1,20 @@
 -- Every event keeps what the moves of a state keep.
+use Rattle.do_machine.specs.declared.item.Item.TheVariants as items
 use Rattle.std.proofs.Common.{◌≡◌, ◌∙◌, ℕ, Bool, true, false, List, [], refl, sym, subst}
-use Rattle.std.specs.Prelude.{Some}
-use Rattle.std.specs.List.{insert}
+use Rattle.std.specs.{Prelude.Some, List.insert}
 use Rattle.do_base.specs.declared.events.event.Event.{Event}
 use Rattle.do_base.specs.declared.events.event.Event.TheVariants.{Close, Run, Start, Timeout}
 use Rattle.do_class.specs.Class.{Class}
-use Rattle.do_machine.specs.declared.item.Item.TheVariants as items
-use Rattle.do_machine.specs.declared.node.Node.{Node}
-use Rattle.do_machine.specs.declared.state.Effect.{Effect}
-use Rattle.do_machine.specs.declared.state.State.{State}
-use Rattle.do_machine.specs.declared.state.Stepped.{Stepped}
-use Rattle.do_machine.specs.Commit.{commit, moved}
-use Rattle.do_machine.specs.Context.{around, context}
-use Rattle.do_machine.specs.Start.{start_effect}
-use Rattle.do_machine.specs.State.{node}
-use Rattle.do_machine.specs.Step.{step}
-use Rattle.do_machine.specs.ends.TimeOut.{time_out}
-use Rattle.do_machine.specs.held.Leaving.{leaving}
+use Rattle.do_machine.specs.declared.{node.Node.Node, state.{Effect.Effect, State.State}}
+use Rattle.do_machine.specs.{declared.state.Stepped.Stepped, Commit.{commit, moved}}
+use Rattle.do_machine.specs.{Context.{around, context}, Start.start_effect, State.node, Step.step}
+use Rattle.do_machine.specs.{ends.TimeOut.time_out, held.Leaving.leaving}
 use Rattle.do_machine.specs.run.Run.{Acting, run_effect}
-use Rattle.do_facts.specs.laws.Follows.{Follows, Grows, IsNoTimeOut}
-use Rattle.do_facts.specs.steps.IsStep.{Acts, Checks, IsRuleOf, IsStep, Loses, Skips, Takes}
-use Rattle.do_facts.specs.steps.IsStep.{without_oldest}
-use Rattle.do_facts.proofs.machine.follows.Follows.{by_leaving}
-use Rattle.do_facts.proofs.machine.follows.Moves.{Moves}
-use Rattle.do_facts.proofs.machine.follows.States.{changed, requeued}
-use Rattle.do_facts.proofs.machine.follows.Steady.{IsSteady}
-use Rattle.do_facts.proofs.steps.EachIsStep.{step_is}
-use Rattle.do_facts.proofs.walk.Done.{done_there}
+use Rattle.do_facts.specs.{laws.Follows.{Follows, Grows, IsNoTimeOut}, steps.IsStep.{Acts, Checks}}
+use Rattle.do_facts.specs.steps.IsStep.{IsRuleOf, IsStep, Loses, Skips, Takes, without_oldest}
+use Rattle.do_facts.proofs.machine.follows.{Follows.by_leaving, Moves.Moves}
+use Rattle.do_facts.proofs.machine.follows.{States.{changed, requeued}, Steady.IsSteady}
+use Rattle.do_facts.proofs.{steps.EachIsStep.step_is, walk.Done.done_there}
 use Rattle.do_facts.proofs.machine.follows.SteadyTakes.{by_closing, by_take}
 use Rattle.do_facts.proofs.machine.follows.SteadyRuns.{by_run, by_start, by_time_out}
 

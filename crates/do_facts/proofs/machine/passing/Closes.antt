@@ -1,25 +1,17 @@
 -- What a node held of a peer it gives back as it closes its end.
-use Rattle.std.proofs.Common.{◌≡◌, ◌==◌, ◌||◌, ℕ, Bool, true, false, List, [], ◌∷◌, map}
-use Rattle.std.proofs.Common.{refl, ap, ◌∙◌, subst, arith}
-use Rattle.std.proofs.lemmas.Bool.{eqb-true}
-use Rattle.std.proofs.lemmas.Grind.{common_steps}
+use Rattle.std.proofs.Common.{◌≡◌, ◌==◌, ◌||◌, ℕ, Bool, true, false, List, [], ◌∷◌, map, refl, ap}
+use Rattle.std.proofs.{Common.{◌∙◌, subst, arith}, lemmas.{Bool.eqb-true, Grind.common_steps}}
 use Rattle.do_base.specs.names.Names.{ObjectName}
 use Rattle.do_packet.specs.Met.{has_object}
-use Rattle.do_machine.specs.declared.node.Node.{Node}
-use Rattle.do_machine.specs.Effect.{each}
-use Rattle.do_machine.specs.Entry.{is_holder}
-use Rattle.do_machine.specs.Items.{Released, is_released, named_as, naming}
-use Rattle.do_machine.specs.State.{is_open}
+use Rattle.do_machine.specs.{declared.node.Node.Node, Effect.each, Entry.is_holder}
+use Rattle.do_machine.specs.{Items.{Released, is_released, named_as, naming}, State.is_open}
 use Rattle.do_machine.specs.ends.Closing.{asked_of, closing, parted, serials_of}
 use Rattle.do_machine.specs.lend.Asking.{settling}
-use Rattle.do_facts.proofs.machine.Parting.{parted_parts}
-use Rattle.do_facts.proofs.machine.passing.Passes.{Passes, gives_back, gives_none}
-use Rattle.do_facts.proofs.machine.passing.Quiet.{settlings_quiet}
-use Rattle.do_facts.proofs.walk.SmallEffects.{settled_node}
-use Rattle.do_facts.proofs.machine.follows.Follows.{open_at}
+use Rattle.do_facts.proofs.machine.{Parting.parted_parts, passing.Passes.{Passes, gives_back}}
+use Rattle.do_facts.proofs.machine.passing.{Passes.gives_none, Quiet.settlings_quiet}
+use Rattle.do_facts.proofs.{walk.SmallEffects.settled_node, machine.follows.Follows.open_at}
 use Rattle.std.proofs.lemmas.Bool.Decides.{nat_tests}
-use Rattle.do_facts.proofs.links.HeldChanged.{held_apart}
-use Rattle.do_facts.proofs.links.ListsChanged.{open_less}
+use Rattle.do_facts.proofs.links.{HeldChanged.held_apart, ListsChanged.open_less}
 
 -- an end that names the objects held of a peer releases each of them
 end_releases : (o : ObjectName) (held : List ObjectName) →

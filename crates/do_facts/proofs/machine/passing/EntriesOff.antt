@@ -1,25 +1,17 @@
 -- The entries of a node's objects once another node took an item off, and before it held what came.
 use Rattle.std.proofs.Common.{◌≡◌, ◌==◌, ◌&&◌, ◌||◌, ℕ, Bool, true, false, List, ◌∷◌, refl, sym, ap}
-use Rattle.std.proofs.Common.{◌∙◌, arith}
-use Rattle.std.specs.Prelude.{Some}
-use Rattle.std.specs.List.{list_any}
-use Rattle.std.proofs.lemmas.Bool.{eqb-true}
-use Rattle.std.proofs.lemmas.Grind.{common_steps}
+use Rattle.std.{proofs.Common.{◌∙◌, arith}, specs.{Prelude.Some, List.list_any}}
+use Rattle.std.proofs.lemmas.{Bool.eqb-true, Grind.common_steps}
 use Rattle.do_base.specs.names.Names.{ObjectName}
 use Rattle.do_packet.specs.Met.{has_object}
 use Rattle.do_machine.specs.Entry.{has_entry, is_holder, is_on_its_way_back, is_reached}
-use Rattle.do_machine.specs.Entry.{is_under_way}
-use Rattle.do_machine.specs.Items.{exported}
-use Rattle.do_machine.specs.Lists.{some_passes}
+use Rattle.do_machine.specs.{Entry.is_under_way, Items.exported, Lists.some_passes}
 use Rattle.do_machine.specs.State.{change, is_open, node, queue, with_queue}
-use Rattle.do_machine.specs.declared.item.Item.{Item}
-use Rattle.do_machine.specs.declared.node.Node.{Node}
-use Rattle.do_machine.specs.declared.state.State.{State}
+use Rattle.do_machine.specs.declared.{item.Item.Item, node.Node.Node, state.State.State}
 use Rattle.do_facts.proofs.machine.follows.States.{requeued}
 use Rattle.do_facts.proofs.machine.passing.Commits.{Entered, entered_none}
 use Rattle.do_facts.proofs.machine.passing.Lookups.{elsewhere_stays, other_stays, that_changed}
-use Rattle.do_facts.proofs.machine.passing.Takes.{comes}
-use Rattle.do_facts.proofs.machine.follows.Follows.{open_at}
+use Rattle.do_facts.proofs.machine.{passing.Takes.comes, follows.Follows.open_at}
 
 module _ (o : ObjectName) (port : ℕ) (apart : (o.node == port) ≡ false) (S : State) (n : Node)
     (here : node S port ≡ Some n) (from : ℕ) (item : Item) (w : List Item)

@@ -1,43 +1,25 @@
 -- A node's entries change by its own steps alone.
 use Rattle.std.proofs.Common.{◌≡◌, ◌==◌, ℕ, Bool, true, false, List, ◌∷◌, ap, refl, sym, subst, ◌∙◌}
-use Rattle.std.proofs.Common.{arith}
-use Rattle.std.specs.Prelude.{None, Some}
-use Rattle.std.proofs.lemmas.Bool.{eqb-true}
-use Rattle.do_base.specs.names.Names.{ObjectName}
-use Rattle.do_base.specs.declared.events.event.Event.{Event}
+use Rattle.std.{proofs.Common.arith, specs.Prelude.{None, Some}, proofs.lemmas.Bool.eqb-true}
+use Rattle.do_base.specs.{names.Names.ObjectName, declared.events.event.Event.Event}
 use Rattle.do_base.specs.declared.events.event.Event.TheVariants.{Close}
 use Rattle.do_class.specs.Class.{Class}
-use Rattle.do_machine.specs.declared.item.Item.{Item}
-use Rattle.do_machine.specs.declared.node.Node.{Node}
-use Rattle.do_machine.specs.declared.state.Effect.{Effect}
-use Rattle.do_machine.specs.declared.state.State.{State}
-use Rattle.do_machine.specs.declared.state.Stepped.{Stepped}
-use Rattle.do_machine.specs.Commit.{commit, moved}
-use Rattle.do_machine.specs.Context.{around, context}
-use Rattle.do_machine.specs.Entry.{has_entry}
-use Rattle.do_machine.specs.State.{is_open, node, queue}
-use Rattle.do_machine.specs.Step.{step}
-use Rattle.do_machine.specs.held.Leaving.{leaving}
-use Rattle.do_machine.specs.run.Run.{Acting}
-use Rattle.do_machine.specs.take.Take.{take_effect}
-use Rattle.do_facts.specs.laws.Entries.{HasQueues, IsNoStepOf}
-use Rattle.do_facts.specs.laws.Follows.{AllHoldOpen, Grows, HoldsOpen}
-use Rattle.do_facts.specs.steps.IsStep.{Acts, Checks, IsRuleOf, IsStep, Loses, Skips}
-use Rattle.do_facts.specs.steps.IsStep.{Takes, without_oldest}
-use Rattle.do_facts.proofs.machine.follows.States.{changed, requeued}
-use Rattle.do_facts.proofs.machine.follows.Steps.{rule_grows}
+use Rattle.do_machine.specs.declared.{item.Item.Item, node.Node.Node, state.Effect.Effect}
+use Rattle.do_machine.specs.{declared.state.{State.State, Stepped.Stepped}, Commit.{commit, moved}}
+use Rattle.do_machine.specs.{Context.{around, context}, Entry.has_entry}
+use Rattle.do_machine.specs.{State.{is_open, node, queue}, Step.step, held.Leaving.leaving}
+use Rattle.do_machine.specs.{run.Run.Acting, take.Take.take_effect}
+use Rattle.do_facts.specs.laws.{Entries.{HasQueues, IsNoStepOf}, Follows.{AllHoldOpen, Grows}}
+use Rattle.do_facts.specs.{laws.Follows.HoldsOpen, steps.IsStep.{Acts, Checks, IsRuleOf, IsStep}}
+use Rattle.do_facts.specs.steps.IsStep.{Loses, Skips, Takes, without_oldest}
+use Rattle.do_facts.proofs.machine.follows.{States.{changed, requeued}, Steps.rule_grows}
 use Rattle.do_facts.proofs.machine.passing.Closes.{passes_closing}
 use Rattle.do_facts.proofs.machine.passing.Commits.{Entered, entered_none, entry_after}
-use Rattle.do_facts.proofs.machine.passing.EntriesOff.{own_off, reaches}
-use Rattle.do_facts.proofs.machine.passing.Leaves.{passes_leaving}
-use Rattle.do_facts.proofs.machine.passing.Linked.{commit_leaves}
-use Rattle.do_facts.proofs.machine.passing.Lookups.{other_stays}
-use Rattle.do_facts.proofs.machine.passing.Passes.{Passes, passes_quiet}
-use Rattle.do_facts.proofs.machine.passing.Quiet.{rule_quiet}
-use Rattle.do_facts.proofs.machine.passing.Takes.{comes, passes_take}
-use Rattle.do_facts.proofs.steps.EachIsStep.{step_is}
-use Rattle.do_facts.proofs.steps.EntriesOfSteps.{entry_stays}
-use Rattle.do_facts.proofs.steps.OthersStay.{apart_act, no_act}
+use Rattle.do_facts.proofs.machine.passing.{EntriesOff.{own_off, reaches}, Leaves.passes_leaving}
+use Rattle.do_facts.proofs.machine.passing.{Linked.commit_leaves, Lookups.other_stays}
+use Rattle.do_facts.proofs.machine.passing.{Passes.{Passes, passes_quiet}, Quiet.rule_quiet}
+use Rattle.do_facts.proofs.{machine.passing.Takes.{comes, passes_take}, steps.EachIsStep.step_is}
+use Rattle.do_facts.proofs.steps.{EntriesOfSteps.entry_stays, OthersStay.{apart_act, no_act}}
 use Rattle.do_facts.proofs.machine.follows.SteadyTakes.{by_take}
 
 module _ (o : ObjectName) (port : ℕ) (apart : (o.node == port) ≡ false) where

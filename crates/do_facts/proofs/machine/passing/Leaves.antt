@@ -1,13 +1,10 @@
 -- What a node leaves it gives back.
-use Rattle.std.proofs.Common.{◌≡◌, ◌||◌, ℕ, Bool, false, not, List, [], ◌∷◌, map}
-use Rattle.std.proofs.Common.{filter, refl, arith}
-use Rattle.std.proofs.lemmas.Grind.{common_steps}
+use Rattle.std.proofs.Common.{◌≡◌, ◌||◌, ℕ, Bool, false, not, List, [], ◌∷◌, map, filter, refl}
+use Rattle.std.proofs.{Common.arith, lemmas.Grind.common_steps}
 use Rattle.do_base.specs.names.Names.{ObjectName}
 use Rattle.do_packet.specs.Met.{has_object}
-use Rattle.do_machine.specs.declared.node.Node.{Node}
-use Rattle.do_machine.specs.held.Kept.{kept}
-use Rattle.do_machine.specs.held.Leaving.{freeing, leaving, left}
-use Rattle.do_machine.specs.held.Refers.{node_objects}
+use Rattle.do_machine.specs.{declared.node.Node.Node, held.Kept.kept}
+use Rattle.do_machine.specs.held.{Leaving.{freeing, leaving, left}, Refers.node_objects}
 use Rattle.do_facts.specs.laws.Follows.{HoldsOpen}
 use Rattle.do_facts.proofs.machine.passing.Passes.{Passes, gives_back}
 

@@ -1,26 +1,17 @@
 -- A node's end is closed where it has no queue.
 use Rattle.std.proofs.Common.{◌≡◌, ◌==◌, ℕ, false, List, [], ◌∷◌, map, refl, arith}
-use Rattle.std.specs.Prelude.{None, Some, option_and_then, option_map}
-use Rattle.std.specs.List.{find, list_any}
+use Rattle.std.specs.{Prelude.{None, Some, option_and_then, option_map}, List.{find, list_any}}
 use Rattle.std.proofs.lemmas.Grind.{common_steps}
 use Rattle.do_base.specs.declared.events.event.Event.{Event}
 use Rattle.do_class.specs.Class.{Class}
-use Rattle.do_machine.specs.declared.node.Node.{Node}
-use Rattle.do_machine.specs.declared.state.Effect.{Effect}
-use Rattle.do_machine.specs.declared.state.Queue.{Queue}
-use Rattle.do_machine.specs.declared.state.Seat.{Seat}
-use Rattle.do_machine.specs.declared.state.State.{State}
-use Rattle.do_machine.specs.Commit.{commit}
-use Rattle.do_machine.specs.State.{is_open, node, queue, queue_to}
-use Rattle.do_machine.specs.Step.{step}
+use Rattle.do_machine.specs.declared.{node.Node.Node, state.{Effect.Effect, Queue.Queue, Seat.Seat}}
+use Rattle.do_machine.specs.{declared.state.State.State, Commit.commit}
+use Rattle.do_machine.specs.{State.{is_open, node, queue, queue_to}, Step.step}
 use Rattle.do_machine.specs.World.{by_port, opening, opening_station, others}
 use Rattle.do_facts.specs.laws.Entries.{HasQueues}
 use Rattle.do_machine.specs.run.Run.{Acting}
-use Rattle.do_facts.proofs.machine.Queues.{queue_behind}
-use Rattle.do_facts.proofs.machine.follows.Moves.{Moves}
-use Rattle.do_facts.proofs.machine.follows.Steps.{by_any_step}
-use Rattle.do_facts.proofs.machine.passing.Lookups.{none_goes}
-use Rattle.do_facts.proofs.steps.NodesAtHome.{was_there}
+use Rattle.do_facts.proofs.machine.{Queues.queue_behind, follows.{Moves.Moves, Steps.by_any_step}}
+use Rattle.do_facts.proofs.{machine.passing.Lookups.none_goes, steps.NodesAtHome.was_there}
 
 -- no queue goes
 abbrev pub QueuesStay : State → State → Type 0

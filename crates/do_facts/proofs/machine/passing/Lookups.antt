@@ -1,12 +1,8 @@
 -- Which items wait where, once those of one queue are others.
-use Rattle.std.proofs.Common.{◌≡◌, ◌==◌, ℕ, false, List, arith}
-use Rattle.std.specs.Prelude.{None, Some}
+use Rattle.std.{proofs.Common.{◌≡◌, ◌==◌, ℕ, false, List, arith}, specs.Prelude.{None, Some}}
 use Rattle.std.proofs.lemmas.Grind.{common_steps}
-use Rattle.do_machine.specs.declared.item.Item.{Item}
-use Rattle.do_machine.specs.declared.state.State.{State}
-use Rattle.do_machine.specs.declared.state.Station.{Station}
-use Rattle.do_machine.specs.Lists.{change_first}
-use Rattle.do_machine.specs.State.{change, queue, with_queue}
+use Rattle.do_machine.specs.declared.{item.Item.Item, state.{State.State, Station.Station}}
+use Rattle.do_machine.specs.{Lists.change_first, State.{change, queue, with_queue}}
 use Rattle.do_facts.proofs.machine.Queues.{queue_among, queue_with}
 
 -- the stations with other items in one queue

@@ -1,9 +1,6 @@
 -- Where there is no queue, an effect makes none.
-use Rattle.std.proofs.Common.{◌≡◌, ◌==◌, ℕ, List, arith}
-use Rattle.std.specs.Prelude.{None}
-use Rattle.do_machine.specs.declared.state.Effect.{Effect}
-use Rattle.do_machine.specs.declared.state.Station.{Station}
-use Rattle.do_machine.specs.Commit.{committed}
+use Rattle.std.{proofs.Common.{◌≡◌, ◌==◌, ℕ, List, arith}, specs.Prelude.None}
+use Rattle.do_machine.specs.{declared.state.{Effect.Effect, Station.Station}, Commit.committed}
 use Rattle.do_machine.specs.Lists.{change_first}
 use Rattle.do_facts.proofs.machine.Queues.{queue_among, queue_behind}
 

@@ -1,19 +1,14 @@
 -- What a node holds, and what it gives back once it does not.
+use Rattle.do_machine.specs.declared.item.Item.TheVariants as items
 use Rattle.std.proofs.Common.{◌≡◌, ◌||◌, ℕ, Bool, false, List, [], ◌∷◌, map, refl, arith}
 use Rattle.std.specs.List.{list_any}
 use Rattle.do_base.specs.names.Names.{ObjectName}
 use Rattle.do_class.specs.declared.packet.Name.{Name}
 use Rattle.do_packet.specs.Met.{has_object}
-use Rattle.do_machine.specs.declared.item.Item.{Item}
-use Rattle.do_machine.specs.declared.item.Item.TheVariants as items
-use Rattle.do_machine.specs.declared.node.Node.{Node}
-use Rattle.do_machine.specs.declared.state.Effect.{Effect}
-use Rattle.do_machine.specs.declared.state.Parcel.{Parcel}
-use Rattle.do_machine.specs.Commit.{items_to}
-use Rattle.do_machine.specs.Entry.{is_holder}
+use Rattle.do_machine.specs.declared.{item.Item.Item, node.Node.Node, state.Effect.Effect}
+use Rattle.do_machine.specs.{declared.state.Parcel.Parcel, Commit.items_to, Entry.is_holder}
 use Rattle.do_machine.specs.Items.{is_released, name_naming, named_as, released}
-use Rattle.do_facts.proofs.machine.follows.Steady.{is_release}
-use Rattle.do_facts.proofs.machine.passing.Quiet.{NoneReleases, Quiet}
+use Rattle.do_facts.proofs.machine.{follows.Steady.is_release, passing.Quiet.{NoneReleases, Quiet}}
 
 -- the items that are sent to the home of an object release it
 abbrev pub gives_back : ℕ → ObjectName → List Parcel → Bool

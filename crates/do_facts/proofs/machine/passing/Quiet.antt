@@ -1,25 +1,15 @@
 -- Effects that leave what a node holds, and over which ends, as it was, and release nothing.
-use Rattle.std.proofs.Common.{◌≡◌, ℕ, Bool, false, List, refl}
-use Rattle.std.specs.List.{AllByRecursion}
+use Rattle.std.{proofs.Common.{◌≡◌, ℕ, Bool, false, List, refl}, specs.List.AllByRecursion}
 use Rattle.do_base.specs.declared.events.event.Event.{Event}
 use Rattle.do_class.specs.Class.{Class}
-use Rattle.do_machine.specs.declared.item.Item.{Item}
-use Rattle.do_machine.specs.declared.node.Node.{Node}
-use Rattle.do_machine.specs.declared.node.Wanted.{Wanted}
-use Rattle.do_machine.specs.declared.state.Effect.{Effect}
-use Rattle.do_machine.specs.declared.state.Parcel.{Parcel}
-use Rattle.do_machine.specs.declared.state.State.{State}
-use Rattle.do_machine.specs.Context.{Context}
-use Rattle.do_machine.specs.Effect.{each}
-use Rattle.do_machine.specs.lend.Asking.{settling}
-use Rattle.do_machine.specs.run.Run.{Acting}
+use Rattle.do_machine.specs.declared.{item.Item.Item, node.{Node.Node, Wanted.Wanted}}
+use Rattle.do_machine.specs.declared.state.{Effect.Effect, Parcel.Parcel, State.State}
+use Rattle.do_machine.specs.{Context.Context, Effect.each, lend.Asking.settling, run.Run.Acting}
 use Rattle.do_machine.specs.take.Take.{arrival}
-use Rattle.do_facts.specs.steps.IsStep.{IsRuleOf}
-use Rattle.do_facts.proofs.EachOfLists.{each_weaker}
-use Rattle.do_facts.proofs.machine.follows.Steady.{IsSteady, NoRelease, by_settlings}
-use Rattle.do_facts.proofs.machine.follows.Steady.{is_end, is_release}
-use Rattle.do_facts.proofs.machine.follows.Steps.{is_close, is_time_out, rule_steady}
-use Rattle.do_facts.proofs.machine.follows.SteadyTakes.{by_arrival}
+use Rattle.do_facts.{specs.steps.IsStep.IsRuleOf, proofs.EachOfLists.each_weaker}
+use Rattle.do_facts.proofs.machine.follows.Steady.{IsSteady, NoRelease, by_settlings, is_end}
+use Rattle.do_facts.proofs.machine.follows.{Steady.is_release, Steps.{is_close, is_time_out}}
+use Rattle.do_facts.proofs.machine.follows.{Steps.rule_steady, SteadyTakes.by_arrival}
 
 -- none of these parcels releases anything
 abbrev pub NoneReleases : List Parcel → Type 0

@@ -1,19 +1,13 @@
 -- What a node takes it holds, or gives back.
+use Rattle.do_machine.specs.declared.item.Item.TheVariants as items
 use Rattle.std.proofs.Common.{◌≡◌, ◌==◌, ◌&&◌, ◌||◌, ℕ, Bool, true, false, refl, arith}
 use Rattle.do_base.specs.names.Names.{ObjectName}
 use Rattle.do_packet.specs.Met.{has_object}
-use Rattle.do_machine.specs.declared.item.Item.{Item}
-use Rattle.do_machine.specs.declared.item.Item.TheVariants as items
-use Rattle.do_machine.specs.declared.node.Node.{Node}
-use Rattle.do_machine.specs.Context.{Context}
-use Rattle.do_machine.specs.Entry.{is_holder}
-use Rattle.do_machine.specs.Items.{exported}
-use Rattle.do_machine.specs.State.{is_open}
-use Rattle.do_machine.specs.take.Take.{arrival, holding, take_effect}
-use Rattle.do_machine.proofs.Having.{has_joined_all}
+use Rattle.do_machine.specs.{declared.{item.Item.Item, node.Node.Node}, Context.Context}
+use Rattle.do_machine.specs.{Entry.is_holder, Items.exported, State.is_open, take.Take.arrival}
+use Rattle.do_machine.{specs.take.Take.{holding, take_effect}, proofs.Having.has_joined_all}
 use Rattle.do_facts.proofs.machine.follows.Follows.{exported_at, open_at}
-use Rattle.do_facts.proofs.machine.passing.Closes.{passes_closing}
-use Rattle.do_facts.proofs.machine.passing.Passes.{Passes, passes_quiet}
+use Rattle.do_facts.proofs.machine.passing.{Closes.passes_closing, Passes.{Passes, passes_quiet}}
 use Rattle.do_facts.proofs.machine.passing.Quiet.{arrival_quiet}
 
 -- the object came with the item, from its home

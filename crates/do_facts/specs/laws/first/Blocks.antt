@@ -4,9 +4,7 @@ use Rattle.do_base.specs.declared.events.event.Event.{Event}
 use Rattle.do_class.specs.Class.{Class}
 use Rattle.do_sched.specs.declared.line.Line.{Line}
 use Rattle.do_trace.specs.Block.{Block}
-use Rattle.do_machine.specs.declared.state.State.{State}
-use Rattle.do_machine.specs.declared.state.Stepped.{Stepped}
-use Rattle.do_machine.specs.Commit.{skipped}
+use Rattle.do_machine.specs.{declared.state.{State.State, Stepped.Stepped}, Commit.skipped}
 use Rattle.do_machine.specs.check.Blocks.{block, events_of, followed}
 use Rattle.do_facts.specs.laws.first.Step.{step_1}
 use Rattle.do_machine.specs.run.Run.{Acting}

@@ -1,20 +1,14 @@
 -- The machine of version 1: it takes and closes by the rules of that version, and has no time-outs.
+use Rattle.do_base.specs.declared.events.event.Event.TheVariants as events
 use Rattle.std.specs.Prelude.{List, None, Option, Some, [], drop, not, slice_get, unwrap_or, ℕ, ◌≡◌}
 use Rattle.do_base.specs.declared.events.event.Event.{Event}
-use Rattle.do_base.specs.declared.events.event.Event.TheVariants as events
 use Rattle.do_class.specs.Class.{Class}
-use Rattle.do_machine.specs.declared.node.Node.{Node}
-use Rattle.do_machine.specs.declared.state.State.{State}
-use Rattle.do_machine.specs.declared.state.Stepped.{Stepped}
-use Rattle.do_machine.specs.Chain.{when◌then◌, ◌>>=◌, ◌>>◌, ◌otherwise◌}
-use Rattle.do_machine.specs.Commit.{moved, skipped}
-use Rattle.do_machine.specs.Context.{context}
-use Rattle.do_machine.specs.State.{change, is_open, node, queue, with_queue}
+use Rattle.do_machine.specs.declared.{node.Node.Node, state.{State.State, Stepped.Stepped}}
+use Rattle.do_machine.specs.{Chain.{when◌then◌, ◌>>=◌, ◌>>◌, ◌otherwise◌}, Commit.{moved, skipped}}
+use Rattle.do_machine.specs.{Context.context, State.{change, is_open, node, queue, with_queue}}
 use Rattle.do_machine.specs.Step.{enabled_step}
-use Rattle.do_facts.specs.laws.Version1.{closing_1}
-use Rattle.do_facts.specs.laws.first.Take.{take_effect_1}
-use Rattle.do_machine.specs.run.Run.{Acting}
-use Rattle.do_machine.specs.take.Take.{can_take}
+use Rattle.do_facts.specs.laws.{Version1.closing_1, first.Take.take_effect_1}
+use Rattle.do_machine.specs.{run.Run.Acting, take.Take.can_take}
 
 -- a node takes the oldest item that waits from another
 abbrev pub take_1 : List Class → State → ℕ → ℕ → Option Stepped

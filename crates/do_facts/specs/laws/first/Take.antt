@@ -1,20 +1,14 @@
 -- What an item that is taken does, as it was before a call could be given up.
+use Rattle.do_base.specs.declared.events.shown.Shown.TheVariants as shows
+use Rattle.do_machine.specs.declared.item.Item.TheVariants as items
 use Rattle.std.specs.Prelude.{List, ℕ}
 use Rattle.do_base.specs.declared.values.value.Value.{Value}
-use Rattle.do_base.specs.declared.events.shown.Shown.TheVariants as shows
 use Rattle.do_behave.specs.declared.invocation.Answer.TheVariants.{Raised}
-use Rattle.do_machine.specs.declared.item.Item.{Item}
-use Rattle.do_machine.specs.declared.item.Item.TheVariants as items
-use Rattle.do_machine.specs.declared.node.Node.{Node}
-use Rattle.do_machine.specs.declared.state.Effect.{Effect}
-use Rattle.do_machine.specs.Context.{Context}
-use Rattle.do_machine.specs.Effect.{showing, ◌>>=◌}
-use Rattle.do_machine.specs.Items.{exported}
+use Rattle.do_machine.specs.declared.{item.Item.Item, node.Node.Node, state.Effect.Effect}
+use Rattle.do_machine.specs.{Context.Context, Effect.{showing, ◌>>=◌}, Items.exported}
 use Rattle.do_facts.specs.laws.Version1.{answering_1, closing_1}
-use Rattle.do_machine.specs.take.Awaiting.{AnsweredCall, values_answer}
-use Rattle.do_machine.specs.take.Lines.{item_line}
-use Rattle.do_machine.specs.take.Receipt.{received}
-use Rattle.do_machine.specs.take.Take.{arrival, holding, method_call, root_call}
+use Rattle.do_machine.specs.take.{Awaiting.{AnsweredCall, values_answer}, Lines.item_line}
+use Rattle.do_machine.specs.take.{Receipt.received, Take.{arrival, holding, method_call, root_call}}
 
 -- values come as the answer to a call
 abbrev pub values_arrival_1 : Context → AnsweredCall → List Value → Node → Effect

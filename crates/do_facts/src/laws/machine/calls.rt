@@ -2,22 +2,16 @@ ghost use Rattle.std.specs.Prelude.{[], ◌≡◌, ◌==◌, ◌++◌, ◌∷◌
 ghost use Rattle.std.specs.Prelude.{IfSome};
 ghost use Rattle.do_base.specs.names.Names.{CallName, ObjectName};
 ghost use Rattle.do_base.specs.declared.events.exception.Exc.TheVariants.{ConnectionDied, TimedOut};
-ghost use Rattle.do_behave.specs.declared.invocation.Answer.{Answer};
-ghost use Rattle.do_behave.specs.declared.invocation.Answer.TheVariants.{Raised};
+ghost use Rattle.do_behave.specs.declared.invocation.Answer.{Answer, TheVariants.Raised};
 ghost use Rattle.do_behave.specs.declared.invocation.Invocation.{Invocation};
 ghost use Rattle.do_behave.specs.declared.invocation.InvState.TheVariants.{Answered, Waits};
 ghost use Rattle.do_behave.specs.declared.invocation.Waited.{Waited};
-ghost use Rattle.do_machine.specs.declared.node.Node.{Node};
-ghost use Rattle.do_machine.specs.declared.node.Wanted.{Wanted};
-ghost use Rattle.do_machine.specs.Lists.{IsIn};
-ghost use Rattle.do_machine.specs.State.{is_open};
-ghost use Rattle.do_machine.specs.ends.Closing.{closing};
-ghost use Rattle.do_machine.specs.ends.TimeOut.{time_out};
+ghost use Rattle.do_machine.specs.{declared.node.{Node.Node, Wanted.Wanted}, Lists.IsIn};
+ghost use Rattle.do_machine.specs.{State.is_open, ends.{Closing.closing, TimeOut.time_out}};
 ghost use Rattle.do_facts.specs.laws.Calls.{IsGivenUp, IsParted, is_settled};
 ghost use Rattle.do_machine.specs.lend.Asking.{ask_over, asking, same_wanted};
-ghost use Rattle.do_machine.specs.run.Changes.{answered};
-ghost use Rattle.do_machine.specs.take.Awaiting.{AnsweredCall, answering, awaits, is_answered};
-ghost use Rattle.do_machine.specs.take.Awaiting.{with_answer};
+ghost use Rattle.do_machine.specs.{run.Changes.answered, take.Awaiting.{AnsweredCall, answering}};
+ghost use Rattle.do_machine.specs.take.Awaiting.{awaits, is_answered, with_answer};
 
 /// An answer goes to the first invocation from the top that waits for it, wherever it stands, and
 /// to no other. A late call that it answers is over.

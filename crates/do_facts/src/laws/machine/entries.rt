@@ -1,18 +1,10 @@
 ghost use Rattle.std.specs.Prelude.{◌≡◌, ◌==◌, ℕ, List, Some, false};
-ghost use Rattle.do_base.specs.names.Names.{ObjectName};
-ghost use Rattle.do_base.specs.declared.events.event.Event.{Event};
+ghost use Rattle.do_base.specs.{names.Names.ObjectName, declared.events.event.Event.Event};
 ghost use Rattle.do_class.specs.Class.{Class};
-ghost use Rattle.do_machine.specs.declared.node.Node.{Node};
-ghost use Rattle.do_machine.specs.declared.state.Effect.{Effect};
-ghost use Rattle.do_machine.specs.declared.state.Seat.{Seat};
-ghost use Rattle.do_machine.specs.declared.state.State.{State};
-ghost use Rattle.do_machine.specs.Commit.{commit};
-ghost use Rattle.do_machine.specs.Entry.{has_entry};
-ghost use Rattle.do_machine.specs.State.{is_open, node};
-ghost use Rattle.do_machine.specs.Step.{step};
-ghost use Rattle.do_machine.specs.World.{opening};
-ghost use Rattle.do_facts.specs.laws.Entries.{HasQueues, IsNoStepOf};
-ghost use Rattle.do_facts.specs.laws.Follows.{AllHoldOpen};
+ghost use Rattle.do_machine.specs.declared.{node.Node.Node, state.{Effect.Effect, Seat.Seat}};
+ghost use Rattle.do_machine.specs.{declared.state.State.State, Commit.commit, Entry.has_entry};
+ghost use Rattle.do_machine.specs.{State.{is_open, node}, Step.step, World.opening};
+ghost use Rattle.do_facts.specs.laws.{Entries.{HasQueues, IsNoStepOf}, Follows.AllHoldOpen};
 ghost use Rattle.do_machine.specs.run.Run.{Acting};
 
 /// A peer towards which a node's end is closed has no entry of its objects.

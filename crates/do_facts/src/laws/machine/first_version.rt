@@ -1,17 +1,11 @@
-ghost use Rattle.std.specs.Prelude.{◌≡◌, List};
-ghost use Rattle.std.specs.List.{AllByRecursion};
+ghost use Rattle.std.specs.{Prelude.{◌≡◌, List}, List.AllByRecursion};
 ghost use Rattle.do_base.specs.declared.events.event.Event.{Event};
 ghost use Rattle.do_class.specs.Class.{Class};
-ghost use Rattle.do_sched.specs.Good.{IsLineOf};
-ghost use Rattle.do_sched.specs.declared.line.Line.{Line};
+ghost use Rattle.do_sched.specs.{Good.IsLineOf, declared.line.Line.Line};
 ghost use Rattle.do_sched.specs.declared.version.Version.TheVariants.{First};
-ghost use Rattle.do_machine.specs.declared.state.Seat.{Seat};
-ghost use Rattle.do_machine.specs.declared.state.State.{State};
-ghost use Rattle.do_machine.specs.Step.{step};
-ghost use Rattle.do_machine.specs.World.{opening};
-ghost use Rattle.do_machine.specs.check.Blocks.{blocks};
-ghost use Rattle.do_facts.specs.laws.Follows.{IsNoTimeOut};
-ghost use Rattle.do_facts.specs.laws.first.Blocks.{blocks_1};
+ghost use Rattle.do_machine.specs.{declared.state.{Seat.Seat, State.State}, Step.step};
+ghost use Rattle.do_machine.specs.{World.opening, check.Blocks.blocks};
+ghost use Rattle.do_facts.specs.laws.{Follows.IsNoTimeOut, first.Blocks.blocks_1};
 ghost use Rattle.do_facts.specs.laws.first.Step.{AllOnTime, step_1};
 ghost use Rattle.do_machine.specs.run.Run.{Acting};
 

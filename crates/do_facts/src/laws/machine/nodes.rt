@@ -1,12 +1,9 @@
 ghost use Rattle.std.specs.Prelude.{List};
 ghost use Rattle.do_base.specs.declared.events.event.Event.{Event};
 ghost use Rattle.do_class.specs.Class.{Class};
-ghost use Rattle.do_machine.specs.declared.state.Seat.{Seat};
-ghost use Rattle.do_machine.specs.declared.state.State.{State};
-ghost use Rattle.do_machine.specs.Step.{step};
+ghost use Rattle.do_machine.specs.{declared.state.{Seat.Seat, State.State}, Step.step};
 ghost use Rattle.do_machine.specs.World.{opening};
-ghost use Rattle.do_facts.specs.laws.Follows.{AllHoldOpen, EachNode, Follows, Grows};
-ghost use Rattle.do_facts.specs.laws.Follows.{IsNoTimeOut};
+ghost use Rattle.do_facts.specs.laws.Follows.{AllHoldOpen, EachNode, Follows, Grows, IsNoTimeOut};
 ghost use Rattle.do_machine.specs.run.Run.{Acting};
 
 /// No event makes a node's next serial, call or token number lower, opens an end that was closed or

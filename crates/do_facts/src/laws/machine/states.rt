@@ -1,18 +1,11 @@
 ghost use Rattle.std.specs.Prelude.{◌≡◌, ◌==◌, ◌++◌, ℕ, List, Some, false};
 ghost use Rattle.std.specs.List.Sorted.{IsStrictlyIncreasing};
-ghost use Rattle.do_base.specs.names.Names.{ObjectName};
-ghost use Rattle.do_base.specs.declared.events.event.Event.{Event};
-ghost use Rattle.do_class.specs.Class.{Class};
-ghost use Rattle.do_class.specs.declared.ids.ClassId.{ClassId};
-ghost use Rattle.do_machine.specs.declared.item.Item.{Item};
-ghost use Rattle.do_machine.specs.declared.state.Effect.{Effect};
-ghost use Rattle.do_machine.specs.declared.state.Seat.{Seat};
+ghost use Rattle.do_base.specs.{names.Names.ObjectName, declared.events.event.Event.Event};
+ghost use Rattle.do_class.specs.{Class.Class, declared.ids.ClassId.ClassId};
+ghost use Rattle.do_machine.specs.declared.{item.Item.Item, state.{Effect.Effect, Seat.Seat}};
 ghost use Rattle.do_machine.specs.declared.state.State.{State};
-ghost use Rattle.do_machine.specs.State.{class_of, node, ports, queue};
-ghost use Rattle.do_machine.specs.Commit.{commit, items_to};
-ghost use Rattle.do_machine.specs.Step.{step};
-ghost use Rattle.do_machine.specs.World.{IsWorld, opening};
-ghost use Rattle.do_machine.specs.run.Run.{Acting};
+ghost use Rattle.do_machine.specs.{State.{class_of, node, ports, queue}, Commit.{commit, items_to}};
+ghost use Rattle.do_machine.specs.{Step.step, World.{IsWorld, opening}, run.Run.Acting};
 
 /// The class of an object stays known and the same, whatever a node does.
 pub fn classes_stay()

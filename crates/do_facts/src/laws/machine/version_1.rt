@@ -1,8 +1,6 @@
 ghost use Rattle.std.specs.Prelude.{[], ◌≡◌, ℕ};
-ghost use Rattle.do_behave.specs.declared.invocation.Answer.{Answer};
-ghost use Rattle.do_behave.specs.declared.invocation.Waited.{Waited};
-ghost use Rattle.do_machine.specs.declared.node.Node.{Node};
-ghost use Rattle.do_machine.specs.ends.Closing.{closing};
+ghost use Rattle.do_behave.specs.declared.invocation.{Answer.Answer, Waited.Waited};
+ghost use Rattle.do_machine.specs.{declared.node.Node.Node, ends.Closing.closing};
 ghost use Rattle.do_facts.specs.laws.Version1.{answering_1, closing_1};
 ghost use Rattle.do_machine.specs.take.Awaiting.{AnsweredCall, answering};
 

@@ -1,5 +1,5 @@
-use Rattle.do_given.proofs.FilesTold.{fits_as_read, fits_not_long, long_not_read}
 use Rattle.do_given.proofs.fetching.fetch_within.Goals as goal
+use Rattle.do_given.proofs.FilesTold.{fits_as_read, fits_not_long, long_not_read}
 
 pub returns-in-Ok-clause-fits : goal.returns-in-Ok-clause-fits
 returns-in-Ok-clause-fits g c = λ files bytes is file.

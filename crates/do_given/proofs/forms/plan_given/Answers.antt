@@ -1,9 +1,8 @@
+use Rattle.do_given.proofs.forms.plan_given.Goals as goal
 use Rattle.std.proofs.Common.{Ok}
-use Rattle.do_plan.specs.Form.{IsText}
-use Rattle.do_plan.specs.Plan.{plan_form}
+use Rattle.do_plan.specs.{Form.IsText, Plan.plan_form}
 use Rattle.do_given.specs.Serving.{IsNoText}
 use Rattle.do_given.proofs.FilesTold.{none_answered, or_unread, text_answered}
-use Rattle.do_given.proofs.forms.plan_given.Goals as goal
 
 pub returns-clause-refuses : goal.returns-clause-refuses
 returns-clause-refuses g c = λ files status is none.

@@ -1,11 +1,9 @@
+use Rattle.do_given.proofs.scheduled.scheduled_given.Goals as goal
 use Rattle.std.proofs.Common.{◌∙◌, Err, Ok, Some}
 use Rattle.do_sched.specs.declared.version.Version.TheVariants.{Second}
 use Rattle.do_given.specs.Reading.{GivesWorld, RefusesWorld, SaysNoLines}
 use Rattle.do_given.proofs.BothGiven.{first_stops, given_is_read, refuses_behind, refuses_first}
-use Rattle.do_given.proofs.BothGiven.{second_stops}
-use Rattle.do_given.proofs.FilesTold.{no_err}
-use Rattle.do_given.proofs.Stopping.{give_any, must_be}
-use Rattle.do_given.proofs.scheduled.scheduled_given.Goals as goal
+use Rattle.do_given.proofs.{BothGiven.second_stops, FilesTold.no_err, Stopping.{give_any, must_be}}
 
 -- where no world was read, the world stops it
 pub returns-in-Err-clause-stopped : goal.returns-in-Err-clause-stopped

@@ -1,9 +1,8 @@
+use Rattle.do_given.proofs.schedules.lines_given.Goals as goal
 use Rattle.std.proofs.Common.{Ok}
-use Rattle.do_sched.specs.Schedule.{IsScheduleOf}
-use Rattle.do_sched.specs.declared.version.Version.TheVariants.{Second}
+use Rattle.do_sched.specs.{Schedule.IsScheduleOf, declared.version.Version.TheVariants.Second}
 use Rattle.do_given.specs.Reading.{IsNoSchedule}
 use Rattle.do_given.proofs.FilesTold.{none_answered, or_unread, text_answered}
-use Rattle.do_given.proofs.schedules.lines_given.Goals as goal
 
 pub returns-clause-refuses : goal.returns-clause-refuses
 returns-clause-refuses g c = λ files status is none.

@@ -1,10 +1,8 @@
-use Rattle.std.proofs.Common.{◌≡◌, ◌∙◌, None, Ok, Some, ap, sym}
-use Rattle.std.specs.Option.{option_copied}
+use Rattle.do_given.proofs.seated.seated_given.Goals as goal
+use Rattle.std.{proofs.Common.{◌≡◌, ◌∙◌, None, Ok, Some, ap, sym}, specs.Option.option_copied}
 use Rattle.do_given.specs.Serving.{seat_at}
 use Rattle.do_given.proofs.SeatGiven.{lacking_gives, lacking_refused, seat_refused, seated_gives}
-use Rattle.do_given.proofs.SeatGiven.{seated_not_refused}
-use Rattle.do_given.proofs.Stopping.{give_any}
-use Rattle.do_given.proofs.seated.seated_given.Goals as goal
+use Rattle.do_given.proofs.{SeatGiven.seated_not_refused, Stopping.give_any}
 
 -- where no world was read though files give one, a file was not read
 pub returns-in-Err-clause-accepts : goal.returns-in-Err-clause-accepts

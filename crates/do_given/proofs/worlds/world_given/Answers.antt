@@ -1,5 +1,5 @@
-use Rattle.do_given.proofs.GivenWorld.{given_by_file}
 use Rattle.do_given.proofs.worlds.world_given.Goals as goal
+use Rattle.do_given.proofs.GivenWorld.{given_by_file}
 
 pub returns-in-None-clause-accepts : goal.returns-in-None-clause-accepts
 returns-in-None-clause-accepts g c = λ files given is gives.

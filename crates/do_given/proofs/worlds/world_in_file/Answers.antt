@@ -1,8 +1,8 @@
+use Rattle.do_given.proofs.worlds.world_in_file.Goals as goal
 use Rattle.std.proofs.Common.{Ok}
 use Rattle.do_world.specs.Reading.{IsWorldText}
 use Rattle.do_given.specs.Reading.{IsNoWorld}
 use Rattle.do_given.proofs.FilesTold.{none_answered, or_unread, text_answered}
-use Rattle.do_given.proofs.worlds.world_in_file.Goals as goal
 
 pub returns-clause-refuses : goal.returns-clause-refuses
 returns-clause-refuses g c = λ files status is none.

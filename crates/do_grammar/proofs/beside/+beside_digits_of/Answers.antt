@@ -1,6 +1,6 @@
+use Rattle.do_grammar.proofs.beside.+beside_digits_of.Goals as goal
 use Rattle.std.proofs.Common.{rules}
 use Rattle.do_grammar.proofs.loops.BesideLoop.{too_high}
-use Rattle.do_grammar.proofs.beside.+beside_digits_of.Goals as goal
 
 pub returns-then-next-from-clause-gives : goal.returns-then-next-from-clause-gives
 returns-then-next-from-clause-gives t c =

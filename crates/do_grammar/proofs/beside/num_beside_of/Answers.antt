@@ -1,12 +1,9 @@
+use Rattle.do_grammar.proofs.beside.num_beside_of.Goals as goal
 use Rattle.std.proofs.Common.{arith}
-use Rattle.do_grammar.specs.Num.{num}
-use Rattle.do_grammar.specs.OneSpelling.{Spelled}
-use Rattle.do_grammar.specs.BesideHoles.{num_beside, IsBeside}
+use Rattle.do_grammar.specs.{Num.num, OneSpelling.Spelled, BesideHoles.{num_beside, IsBeside}}
 use Rattle.do_grammar.proofs.faults.AnswerExact.{bytes_from_each}
 use Rattle.do_grammar.proofs.faults.RestExact.{tells_rest, finds_rest}
-use Rattle.do_grammar.proofs.texts.BesideExact.{Reads-beside}
-use Rattle.do_grammar.proofs.texts.NextBeside.{next_up}
-use Rattle.do_grammar.proofs.beside.num_beside_of.Goals as goal
+use Rattle.do_grammar.proofs.texts.{BesideExact.Reads-beside, NextBeside.next_up}
 
 pub front_num-requires : goal.front_num-requires
 front_num-requires c = omega (arith, next_up c.args.holes.now c.args.low, c.requires)

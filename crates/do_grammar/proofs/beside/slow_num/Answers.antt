@@ -1,6 +1,6 @@
+use Rattle.do_grammar.proofs.beside.slow_num.Goals as goal
 use Rattle.std.proofs.Common.{rules}
 use Rattle.do_grammar.proofs.loops.BesideLoop.{size_long, size_none, size_beyond}
-use Rattle.do_grammar.proofs.beside.slow_num.Goals as goal
 
 pub returns-then-n-gt8-clause-gives : goal.returns-then-n-gt8-clause-gives
 returns-then-n-gt8-clause-gives c =

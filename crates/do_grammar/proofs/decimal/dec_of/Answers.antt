@@ -1,5 +1,5 @@
-use Rattle.do_grammar.proofs.texts.DecAnswer.{dec_told, dec_found}
 use Rattle.do_grammar.proofs.decimal.dec_of.Goals as goal
+use Rattle.do_grammar.proofs.texts.DecAnswer.{dec_told, dec_found}
 
 pub returns-clause-exact : goal.returns-clause-exact
 returns-clause-exact c =

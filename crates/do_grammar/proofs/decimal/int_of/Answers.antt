@@ -1,5 +1,5 @@
-use Rattle.do_grammar.proofs.texts.DecAnswer.{int_told, int_found}
 use Rattle.do_grammar.proofs.decimal.int_of.Goals as goal
+use Rattle.do_grammar.proofs.texts.DecAnswer.{int_told, int_found}
 
 pub returns-clause-exact : goal.returns-clause-exact
 returns-clause-exact c = int_told c.args.bytes.now c.whole_int.result c.whole_int.ensures

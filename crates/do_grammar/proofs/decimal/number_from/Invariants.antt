@@ -1,6 +1,6 @@
+use Rattle.do_grammar.proofs.decimal.number_from.Given as goal
 use Rattle.std.proofs.Common.{◌≡◌, ◌≤◌, length}
 use Rattle.do_grammar.specs.Dec.{dec_from}
-use Rattle.do_grammar.proofs.decimal.number_from.Given as goal
 
 abbrev pub invariant-loop-rest : goal.invariant-loop-rest
 invariant-loop-rest l = record {

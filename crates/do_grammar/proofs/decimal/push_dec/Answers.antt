@@ -1,6 +1,6 @@
+use Rattle.do_grammar.proofs.decimal.push_dec.Goals as goal
 use Rattle.do_grammar.proofs.loops.PartlyAdded.{added_nothing}
 use Rattle.std.specs.Fmt.{decimal}
-use Rattle.do_grammar.proofs.decimal.push_dec.Goals as goal
 
 pub returns-clause-partly : goal.returns-clause-partly
 returns-clause-partly c =

@@ -1,5 +1,5 @@
-use Rattle.do_grammar.proofs.loops.WordLoop.{still_clear}
 use Rattle.do_grammar.proofs.line.part_of.Goals as goal
+use Rattle.do_grammar.proofs.loops.WordLoop.{still_clear}
 
 pub loop-n-preserved : goal.loop-n-preserved
 loop-n-preserved c =

@@ -1,8 +1,7 @@
+use Rattle.do_grammar.proofs.number.+push_digits.Goals as goal
 use Rattle.std.proofs.Common.{◌<◌, ◌/◌, ◌%◌, ◌-◌, [], ◌∷◌, append_assoc, arith}
 use Rattle.do_grammar.specs.Num.{digits}
-use Rattle.do_grammar.proofs.loops.DigitsLoop.{push_step}
-use Rattle.do_grammar.proofs.loops.PartlyAdded.{added_later}
-use Rattle.do_grammar.proofs.number.+push_digits.Goals as goal
+use Rattle.do_grammar.proofs.loops.{DigitsLoop.push_step, PartlyAdded.added_later}
 
 pub returns-clause-ok : goal.returns-clause-ok
 returns-clause-ok t c =

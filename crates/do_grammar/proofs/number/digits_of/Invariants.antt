@@ -1,7 +1,6 @@
-use Rattle.std.proofs.Common.{◌≡◌, ◌≤◌}
-use Rattle.do_grammar.specs.Reader.{no_kind}
-use Rattle.do_grammar.specs.Num.{digits_at}
 use Rattle.do_grammar.proofs.number.digits_of.Given as goal
+use Rattle.std.proofs.Common.{◌≡◌, ◌≤◌}
+use Rattle.do_grammar.specs.{Reader.no_kind, Num.digits_at}
 
 abbrev pub invariant-loop-left : goal.invariant-loop-left
 invariant-loop-left l =

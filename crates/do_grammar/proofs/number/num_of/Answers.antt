@@ -1,10 +1,8 @@
-use Rattle.std.proofs.Common.{arith}
-use Rattle.do_grammar.specs.Reader.{no_kind}
-use Rattle.do_grammar.specs.Num.{num_at, Num}
-use Rattle.do_grammar.proofs.faults.AnswerExact.{bytes_from_each}
-use Rattle.do_grammar.proofs.faults.RestExact.{tells_rest, finds_rest}
-use Rattle.do_grammar.proofs.texts.NumExact.{Reads-num}
 use Rattle.do_grammar.proofs.number.num_of.Goals as goal
+use Rattle.std.proofs.Common.{arith}
+use Rattle.do_grammar.specs.{Reader.no_kind, Num.{num_at, Num}}
+use Rattle.do_grammar.proofs.faults.AnswerExact.{bytes_from_each}
+use Rattle.do_grammar.proofs.{faults.RestExact.{tells_rest, finds_rest}, texts.NumExact.Reads-num}
 
 pub returns-clause-exact : goal.returns-clause-exact
 returns-clause-exact c =

@@ -1,5 +1,5 @@
-use Rattle.do_grammar.proofs.texts.SizeExact.{size_sized}
 use Rattle.do_grammar.proofs.number.push_num.Goals as goal
+use Rattle.do_grammar.proofs.texts.SizeExact.{size_sized}
 
 pub push_digits-requires-clause-fits : goal.push_digits-requires-clause-fits
 push_digits-requires-clause-fits c =

@@ -1,6 +1,5 @@
-use Rattle.do_grammar.specs.Quoted.{quoted_byte}
-use Rattle.do_grammar.proofs.loops.PartlyAdded.{added_piece}
 use Rattle.do_grammar.proofs.quoted.push_inside.Goals as goal
+use Rattle.do_grammar.{specs.Quoted.quoted_byte, proofs.loops.PartlyAdded.added_piece}
 
 pub returns-in_err-push_byte-clause-partly : goal.returns-in_err-push_byte-clause-partly
 returns-in_err-push_byte-clause-partly c =

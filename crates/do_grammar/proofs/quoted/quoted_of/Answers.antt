@@ -1,5 +1,5 @@
-use Rattle.do_grammar.proofs.texts.QuotedAnswer.{quoted_told, quoted_found}
 use Rattle.do_grammar.proofs.quoted.quoted_of.Goals as goal
+use Rattle.do_grammar.proofs.texts.QuotedAnswer.{quoted_told, quoted_found}
 
 pub returns-clause-exact : goal.returns-clause-exact
 returns-clause-exact c =

@@ -1,7 +1,6 @@
-use Rattle.std.proofs.Common.{◌≡◌, ◌-◌}
-use Rattle.std.specs.Option.{option_map}
-use Rattle.do_grammar.specs.Quoted.{denoted}
 use Rattle.do_grammar.proofs.skipped.skip_denoted.Given as goal
+use Rattle.std.{proofs.Common.{◌≡◌, ◌-◌}, specs.Option.option_map}
+use Rattle.do_grammar.specs.Quoted.{denoted}
 
 abbrev pub invariant-loop-i : goal.invariant-loop-i
 invariant-loop-i l =

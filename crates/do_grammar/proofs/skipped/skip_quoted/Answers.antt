@@ -1,5 +1,5 @@
-use Rattle.do_grammar.proofs.texts.QuotedAnswer.{skipped_told, skipped_found}
 use Rattle.do_grammar.proofs.skipped.skip_quoted.Goals as goal
+use Rattle.do_grammar.proofs.texts.QuotedAnswer.{skipped_told, skipped_found}
 
 pub returns-clause-exact : goal.returns-clause-exact
 returns-clause-exact c =

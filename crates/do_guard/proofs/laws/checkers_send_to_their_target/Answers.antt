@@ -1,5 +1,5 @@
-use Rattle.do_guard.proofs.Passed.{sends_only}
 use Rattle.do_guard.proofs.laws.checkers_send_to_their_target.Goals as goal
+use Rattle.do_guard.proofs.Passed.{sends_only}
 
 pub returns : goal.returns
 returns c b rules table S port n i below runs =

@@ -1,6 +1,5 @@
-use Rattle.do_guard.proofs.Denied.{raises_reached}
-use Rattle.do_guard.proofs.Passed.{raises}
 use Rattle.do_guard.proofs.laws.denials_raise_their_rule.Goals as goal
+use Rattle.do_guard.proofs.{Denied.raises_reached, Passed.raises}
 
 pub returns-clause-schedules : goal.returns-clause-schedules
 returns-clause-schedules c = raises_reached

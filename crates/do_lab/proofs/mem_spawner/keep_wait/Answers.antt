@@ -1,6 +1,6 @@
+use Rattle.do_lab.proofs.mem_spawner.keep_wait.Goals as goal
 use Rattle.std.proofs.Common.{arith}
 use Rattle.do_lab.proofs.ChildFlags.{running_waited}
-use Rattle.do_lab.proofs.mem_spawner.keep_wait.Goals as goal
 
 pub post-requires : goal.post-requires
 post-requires c =

@@ -1,5 +1,5 @@
-use Rattle.do_leaks.proofs.Holding.{holder_in_more}
 use Rattle.do_leaks.proofs.holders.note_line.Goals as goal
+use Rattle.do_leaks.proofs.Holding.{holder_in_more}
 
 pub loop-at-preserved : goal.loop-at-preserved
 loop-at-preserved c = λ o.

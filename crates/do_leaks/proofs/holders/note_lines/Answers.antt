@@ -1,8 +1,7 @@
+use Rattle.do_leaks.proofs.holders.note_lines.Goals as goal
 use Rattle.std.specs.Option.{option_or}
 use Rattle.do_leaks.specs.Leaks.{holder, holder_in}
-use Rattle.do_leaks.proofs.Growing.{grown}
-use Rattle.do_leaks.proofs.Holding.{holder-append, option_or_assoc, option_or_none}
-use Rattle.do_leaks.proofs.holders.note_lines.Goals as goal
+use Rattle.do_leaks.proofs.{Growing.grown, Holding.{holder-append, option_or_assoc, option_or_none}}
 
 pub loop-line-preserved : goal.loop-line-preserved
 loop-line-preserved c = λ o.

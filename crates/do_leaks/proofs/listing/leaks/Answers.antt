@@ -1,11 +1,7 @@
-use Rattle.std.proofs.Common.{◌≡◌, ◌∙◌}
-use Rattle.std.specs.List.{flat_map}
-use Rattle.do_leaks.specs.Heap.{heap_of}
-use Rattle.do_leaks.specs.Leaks.{leaks}
-use Rattle.do_leaks.specs.Listed.{leak_left}
-use Rattle.do_leaks.proofs.IfOks.{if_ok_weaker}
-use Rattle.do_leaks.proofs.Struck.{listed_leaks}
 use Rattle.do_leaks.proofs.listing.leaks.Goals as goal
+use Rattle.std.{proofs.Common.{◌≡◌, ◌∙◌}, specs.List.flat_map}
+use Rattle.do_leaks.specs.{Heap.heap_of, Leaks.leaks, Listed.leak_left}
+use Rattle.do_leaks.proofs.{IfOks.if_ok_weaker, Struck.listed_leaks}
 
 pub returns : goal.returns
 returns c =

@@ -1,7 +1,6 @@
-use Rattle.std.proofs.Common.{◌≡◌, ◌++◌, take}
-use Rattle.std.specs.List.{flat_map}
-use Rattle.do_base.specs.values.Values.{objects_of}
 use Rattle.do_leaks.proofs.objects.+objects.Given as goal
+use Rattle.std.{proofs.Common.{◌≡◌, ◌++◌, take}, specs.List.flat_map}
+use Rattle.do_base.specs.values.Values.{objects_of}
 
 abbrev pub invariant-push_all_objects-loop-value : goal.invariant-push_all_objects-loop-value
 invariant-push_all_objects-loop-value l =

@@ -1,7 +1,6 @@
-use Rattle.do_leaks.specs.Rest.{joined, named_at, named_from}
-use Rattle.do_leaks.proofs.Growing.{grown}
-use Rattle.do_leaks.proofs.Naming.{joined_assoc, joined_none, named_from-append}
 use Rattle.do_leaks.proofs.rest.add_all.Goals as goal
+use Rattle.do_leaks.specs.Rest.{joined, named_at, named_from}
+use Rattle.do_leaks.proofs.{Growing.grown, Naming.{joined_assoc, joined_none, named_from-append}}
 
 pub loop-line-preserved : goal.loop-line-preserved
 loop-line-preserved c = λ o.

@@ -1,12 +1,10 @@
-use Rattle.std.proofs.Common.{ap, ◌∙◌, refl, sym, subst, arith}
 use Rattle.std.specs.FinMap as map
+use Rattle.do_leaving.proofs.dropping.leave_all.Goals as goal
+use Rattle.std.proofs.Common.{ap, ◌∙◌, refl, sym, subst, arith}
 use Rattle.do_export.specs.Counts.{IsPositive}
 use Rattle.do_import.specs.Imported.{Imported}
-use Rattle.do_leaving.specs.Leavers.{AllLeave}
-use Rattle.do_leaving.proofs.OneLeaves.{lowest_is}
-use Rattle.do_leaving.proofs.LeftSoFar.{after_none, fewer_received, key, left_all, left_none}
-use Rattle.do_leaving.proofs.LeftSoFar.{left_step}
-use Rattle.do_leaving.proofs.dropping.leave_all.Goals as goal
+use Rattle.do_leaving.{specs.Leavers.AllLeave, proofs.{OneLeaves.lowest_is, LeftSoFar.after_none}}
+use Rattle.do_leaving.proofs.LeftSoFar.{fewer_received, key, left_all, left_none, left_step}
 
 -- nothing has left yet
 pub loop-one-init : goal.loop-one-init

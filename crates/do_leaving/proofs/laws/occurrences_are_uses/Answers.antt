@@ -1,8 +1,8 @@
+use Rattle.do_leaving.proofs.laws.occurrences_are_uses.Goals as goal
 use Rattle.std.proofs.Common.{◌++◌, map, arith}
 use Rattle.do_machine.specs.held.Refers.{heap_objects, stack_objects}
 use Rattle.do_leaving.specs.Counted.{objects_besides, times}
 use Rattle.do_leaving.proofs.SlotNames.{times-append, times_has}
-use Rattle.do_leaving.proofs.laws.occurrences_are_uses.Goals as goal
 
 -- who counts each occurrence counts those in slots, and besides those elsewhere
 pub returns : goal.returns

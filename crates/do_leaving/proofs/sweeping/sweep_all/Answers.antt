@@ -1,5 +1,5 @@
-use Rattle.do_leaving.proofs.SweepFrees.{frees}
 use Rattle.do_leaving.proofs.sweeping.sweep_all.Goals as goal
+use Rattle.do_leaving.proofs.SweepFrees.{frees}
 
 -- what was taken out, in order, is what nothing holds
 pub returns-clause-frees : goal.returns-clause-frees

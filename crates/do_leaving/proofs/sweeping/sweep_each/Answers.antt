@@ -1,12 +1,11 @@
+use Rattle.do_leaving.proofs.sweeping.sweep_each.Goals as goal
 use Rattle.std.proofs.Common.{ℕ, List, [], length, refl, sym, ap, ◌∙◌, subst, arith}
 use Rattle.do_machine.specs.held.Refers.{objects_in}
 use Rattle.do_import.specs.Imported.{Imported, all_off}
 use Rattle.do_store.specs.Names.{Stored}
-use Rattle.do_leaving.specs.Sweeping.{foreign}
-use Rattle.do_leaving.proofs.StoreLookups.{fewer_without}
+use Rattle.do_leaving.{specs.Sweeping.foreign, proofs.StoreLookups.fewer_without}
 use Rattle.do_leaving.proofs.SweptSoFar.{SweptSoFar, swept_none, swept_more, swept_all}
 use Rattle.do_leaving.proofs.UsesOff.{unused_more}
-use Rattle.do_leaving.proofs.sweeping.sweep_each.Goals as goal
 
 -- nothing is taken out yet
 pub loop-gone-init : goal.loop-gone-init

@@ -1,14 +1,11 @@
+use Rattle.do_leaving.proofs.unreferring.+unrefer.Goals as goal
 use Rattle.std.proofs.Common.{◌≡◌, ℕ, ◌+◌, ◌<◌, ◌++◌, List as Listed, length, get_or, drop, sym, ap}
-use Rattle.std.proofs.Common.{◌∙◌, arith}
-use Rattle.std.proofs.lemmas.List.{at_drop_more}
-use Rattle.do_base.specs.declared.values.value.Value.{Value}
-use Rattle.do_base.specs.values.Values.{objects_of}
+use Rattle.std.proofs.{Common.{◌∙◌, arith}, lemmas.List.at_drop_more}
+use Rattle.do_base.specs.{declared.values.value.Value.Value, values.Values.objects_of}
 use Rattle.do_machine.specs.held.Refers.{objects_in}
 use Rattle.do_import.specs.Imported.{Imported, all_off}
 use Rattle.do_leaving.specs.Sweeping.{foreign, unused}
-use Rattle.do_leaving.proofs.SlotNames.{objects-List}
-use Rattle.do_leaving.proofs.UsesOff.{off_rest, unused_more}
-use Rattle.do_leaving.proofs.unreferring.+unrefer.Goals as goal
+use Rattle.do_leaving.proofs.{SlotNames.objects-List, UsesOff.{off_rest, unused_more}}
 
 -- a list names what its values name
 pub unrefer_value-returns-in-List-clause-same : goal.unrefer_value-returns-in-List-clause-same

@@ -1,10 +1,9 @@
-use Rattle.std.proofs.Common.{ℕ, List, ap, subst, sym, ◌∙◌}
 use Rattle.std.specs.FinMap as map
+use Rattle.do_leaving.proofs.whole.leave.Goals as goal
+use Rattle.std.proofs.Common.{ℕ, List, ap, subst, sym, ◌∙◌}
 use Rattle.do_base.specs.names.Names.{ObjectName}
 use Rattle.do_import.specs.Imported.{Imported}
-use Rattle.do_leaving.specs.Leavers.{AllLeave}
-use Rattle.do_leaving.proofs.FreedThenLeft.{leaves}
-use Rattle.do_leaving.proofs.whole.leave.Goals as goal
+use Rattle.do_leaving.{specs.Leavers.AllLeave, proofs.FreedThenLeft.leaves}
 
 -- what sweeping frees and what is left then is what leaves
 pub returns-clause-leaves : goal.returns-clause-leaves

@@ -1,5 +1,5 @@
-use Rattle.do_lengths.proofs.Names.{packed_fits}
 use Rattle.do_lengths.proofs.laws.packets_are_no_longer_than_they_weigh.Goals as goal
+use Rattle.do_lengths.proofs.Names.{packed_fits}
 
 -- a packed message is short
 pub returns : goal.returns

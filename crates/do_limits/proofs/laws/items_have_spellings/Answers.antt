@@ -1,16 +1,11 @@
-use Rattle.std.proofs.Common.{arith, length}
-use Rattle.std.proofs.lemmas.List.Elements.{All-from_recursion}
-use Rattle.do_coder.specs.Packets.{surroundings}
-use Rattle.do_facts.specs.Reached.{reached}
-use Rattle.do_facts.proofs.links.ReachedNames.{reached_made}
-use Rattle.do_limits.specs.Spelled.{ItemIsSpelled}
-use Rattle.do_limits.proofs.Selectors.{has_methods}
-use Rattle.do_limits.proofs.numbers.Reached.{reached_numbers}
-use Rattle.do_limits.proofs.spelled.Calls.{calls_given}
-use Rattle.do_limits.proofs.spelled.Tokens.{tokens_given}
-use Rattle.do_limits.proofs.spelled.ItemFrames.{waiting_spelled}
-use Rattle.do_limits.proofs.states.Steps.{reached_sendable}
 use Rattle.do_limits.proofs.laws.items_have_spellings.Goals as goal
+use Rattle.std.proofs.{Common.{arith, length}, lemmas.List.Elements.All-from_recursion}
+use Rattle.do_coder.specs.Packets.{surroundings}
+use Rattle.do_facts.{specs.Reached.reached, proofs.links.ReachedNames.reached_made}
+use Rattle.do_limits.specs.Spelled.{ItemIsSpelled}
+use Rattle.do_limits.proofs.{Selectors.has_methods, numbers.Reached.reached_numbers}
+use Rattle.do_limits.proofs.spelled.{Calls.calls_given, Tokens.tokens_given}
+use Rattle.do_limits.proofs.{spelled.ItemFrames.waiting_spelled, states.Steps.reached_sendable}
 
 pub returns : goal.returns
 returns c table act seats events world acts starts few from to waiting e =

@@ -1,6 +1,5 @@
-use Rattle.do_limits.proofs.Selectors.{has_methods}
-use Rattle.do_limits.proofs.numbers.Reached.{reached_numbers}
 use Rattle.do_limits.proofs.laws.numbers_of_states_are_bounded.Goals as goal
+use Rattle.do_limits.proofs.{Selectors.has_methods, numbers.Reached.reached_numbers}
 
 pub returns : goal.returns
 returns c table act seats events world acts starts =

@@ -1,6 +1,6 @@
+use Rattle.do_limits.proofs.laws.values_of_states_can_be_sent.Goals as goal
 use Rattle.do_limits.proofs.Selectors.{has_methods}
 use Rattle.do_limits.proofs.states.Steps.{opening_sendable, reached_sendable, step_sendable}
-use Rattle.do_limits.proofs.laws.values_of_states_can_be_sent.Goals as goal
 
 pub returns-clause-opening : goal.returns-clause-opening
 returns-clause-opening c table seats world = opening_sendable table seats world.seated

@@ -1,8 +1,7 @@
 -- The nodes up to here were added.
-use Rattle.std.proofs.Common.{◌≡◌, ◌++◌, take}
-use Rattle.std.specs.List.{flat_map}
-use Rattle.do_lines.specs.Check.{node_text}
 use Rattle.do_lines.proofs.check.push_check.Given as goal
+use Rattle.std.{proofs.Common.{◌≡◌, ◌++◌, take}, specs.List.flat_map}
+use Rattle.do_lines.specs.Check.{node_text}
 
 abbrev pub invariant-loop-node : goal.invariant-loop-node
 invariant-loop-node l =

@@ -1,8 +1,7 @@
 -- The lines up to here were added.
-use Rattle.std.proofs.Common.{◌≡◌, ◌++◌, take, map}
-use Rattle.do_lines.specs.Lines.{joined}
-use Rattle.do_lines.specs.Check.{closed_line}
 use Rattle.do_lines.proofs.check.push_closed.Given as goal
+use Rattle.std.proofs.Common.{◌≡◌, ◌++◌, take, map}
+use Rattle.do_lines.specs.{Lines.joined, Check.closed_line}
 
 abbrev pub invariant-loop-peer : goal.invariant-loop-peer
 invariant-loop-peer l =

@@ -1,8 +1,7 @@
 -- The lines up to here were added.
-use Rattle.std.proofs.Common.{◌≡◌, ◌++◌, take, map}
-use Rattle.do_lines.specs.Lines.{joined}
-use Rattle.do_lines.specs.Check.{entry_line}
 use Rattle.do_lines.proofs.check.push_entries.Given as goal
+use Rattle.std.proofs.Common.{◌≡◌, ◌++◌, take, map}
+use Rattle.do_lines.specs.{Lines.joined, Check.entry_line}
 
 abbrev pub invariant-loop-entry : goal.invariant-loop-entry
 invariant-loop-entry l =

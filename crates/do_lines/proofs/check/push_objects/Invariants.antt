@@ -1,8 +1,7 @@
 -- The lines up to here were added.
-use Rattle.std.proofs.Common.{◌≡◌, ◌++◌, take, map}
-use Rattle.do_lines.specs.Lines.{joined}
-use Rattle.do_lines.specs.Check.{object_text}
 use Rattle.do_lines.proofs.check.push_objects.Given as goal
+use Rattle.std.proofs.Common.{◌≡◌, ◌++◌, take, map}
+use Rattle.do_lines.specs.{Lines.joined, Check.object_text}
 
 abbrev pub invariant-loop-object : goal.invariant-loop-object
 invariant-loop-object l =

@@ -1,8 +1,7 @@
 -- The lines up to here were added.
-use Rattle.std.proofs.Common.{◌≡◌, ◌++◌, take, map}
-use Rattle.do_lines.specs.Shown.{shown_text}
-use Rattle.do_lines.specs.Lines.{joined}
 use Rattle.do_lines.proofs.shown.push_all_shown.Given as goal
+use Rattle.std.proofs.Common.{◌≡◌, ◌++◌, take, map}
+use Rattle.do_lines.specs.{Shown.shown_text, Lines.joined}
 
 abbrev pub invariant-loop-one : goal.invariant-loop-one
 invariant-loop-one l =

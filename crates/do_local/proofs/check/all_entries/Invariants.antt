@@ -1,8 +1,7 @@
 -- The entries of the peers so far.
-use Rattle.std.proofs.Common.{◌≡◌, take}
-use Rattle.std.specs.List.{flat_map}
-use Rattle.do_machine.specs.check.Snapshot.{entries_for}
 use Rattle.do_local.proofs.check.all_entries.Given as goal
+use Rattle.std.{proofs.Common.{◌≡◌, take}, specs.List.flat_map}
+use Rattle.do_machine.specs.check.Snapshot.{entries_for}
 
 abbrev pub invariant-loop-peer : goal.invariant-loop-peer
 invariant-loop-peer l =

@@ -1,9 +1,7 @@
 -- The entries of the objects so far.
-use Rattle.std.proofs.Common.{◌≡◌, filter, map, take}
-use Rattle.do_machine.specs.Entry.{has_entry}
-use Rattle.do_machine.specs.State.{own}
-use Rattle.do_machine.specs.check.Snapshot.{entry_of}
 use Rattle.do_local.proofs.check.entries_for.Given as goal
+use Rattle.std.proofs.Common.{◌≡◌, filter, map, take}
+use Rattle.do_machine.specs.{Entry.has_entry, State.own, check.Snapshot.entry_of}
 
 abbrev pub invariant-loop-stored : goal.invariant-loop-stored
 invariant-loop-stored l =

@@ -1,6 +1,6 @@
 -- The ports of the stations so far.
-use Rattle.std.proofs.Common.{◌≡◌, map, take}
 use Rattle.do_local.proofs.check.ports.Given as goal
+use Rattle.std.proofs.Common.{◌≡◌, map, take}
 
 abbrev pub invariant-loop-station : goal.invariant-loop-station
 invariant-loop-station l =

@@ -1,7 +1,6 @@
 -- The classes of the objects so far that are new.
-use Rattle.std.proofs.Common.{◌≡◌, filter, map, take}
-use Rattle.std.specs.Prelude.{nat_le}
 use Rattle.do_local.proofs.commit.born.Given as goal
+use Rattle.std.{proofs.Common.{◌≡◌, filter, map, take}, specs.Prelude.nat_le}
 
 abbrev pub invariant-loop-stored : goal.invariant-loop-stored
 invariant-loop-stored l =

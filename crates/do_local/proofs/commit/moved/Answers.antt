@@ -1,6 +1,6 @@
+use Rattle.do_local.proofs.commit.moved.Goals as goal
 use Rattle.std.proofs.Common.{◌∙◌}
 use Rattle.do_local.proofs.Moves.{moved_is}
-use Rattle.do_local.proofs.commit.moved.Goals as goal
 
 pub returns : goal.returns
 returns c =

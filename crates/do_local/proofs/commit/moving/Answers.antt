@@ -1,7 +1,7 @@
+use Rattle.do_local.proofs.commit.moving.Goals as goal
 use Rattle.std.proofs.Common.{ap, ◌∙◌}
 use Rattle.do_machine.specs.Commit.{commit}
 use Rattle.do_local.specs.Sending.{sending}
-use Rattle.do_local.proofs.commit.moving.Goals as goal
 
 pub returns-clause-state : goal.returns-clause-state
 returns-clause-state c =

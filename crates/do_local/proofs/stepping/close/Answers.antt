@@ -1,7 +1,7 @@
+use Rattle.do_local.proofs.stepping.close.Goals as goal
 use Rattle.std.proofs.Common.{◌≡◌, true, Some, rules}
 use Rattle.do_machine.specs.State.{is_open, node}
 use Rattle.do_local.proofs.Moves.{close_moves}
-use Rattle.do_local.proofs.stepping.close.Goals as goal
 
 pub returns : goal.returns
 returns c =

@@ -1,11 +1,8 @@
-use Rattle.std.proofs.Common.{◌≡◌, true, Some, rules, ap, ◌∙◌}
-use Rattle.std.specs.Prelude.{slice_get}
-use Rattle.do_machine.specs.State.{change, node, queue, with_queue}
-use Rattle.do_machine.specs.declared.item.Item.{Item}
+use Rattle.do_local.proofs.stepping.take.Goals as goal
+use Rattle.std.{proofs.Common.{◌≡◌, true, Some, rules, ap, ◌∙◌, List}, specs.Prelude.slice_get}
+use Rattle.do_machine.specs.{State.{change, node, queue, with_queue}, declared.item.Item.Item}
 use Rattle.do_machine.specs.take.Take.{can_take}
 use Rattle.do_local.proofs.Moves.{take_moves}
-use Rattle.do_local.proofs.stepping.take.Goals as goal
-use Rattle.std.proofs.Common.{List}
 
 pub returns : goal.returns
 returns c =

@@ -1,8 +1,7 @@
 -- What the items up to here name was added.
-use Rattle.std.proofs.Common.{◌≡◌, ◌++◌, take}
-use Rattle.std.specs.List.{flat_map}
-use Rattle.do_lost.specs.Named.{item_names}
 use Rattle.do_lost.proofs.items.push_items.Given as goal
+use Rattle.std.{proofs.Common.{◌≡◌, ◌++◌, take}, specs.List.flat_map}
+use Rattle.do_lost.specs.Named.{item_names}
 
 abbrev pub invariant-loop-item : goal.invariant-loop-item
 invariant-loop-item l =

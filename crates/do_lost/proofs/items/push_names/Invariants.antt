@@ -1,7 +1,7 @@
 -- The names up to here were added.
+use Rattle.do_lost.proofs.items.push_names.Given as goal
 use Rattle.std.proofs.Common.{◌≡◌, ◌++◌, map, take}
 use Rattle.do_lost.specs.Named.{name_object}
-use Rattle.do_lost.proofs.items.push_names.Given as goal
 
 abbrev pub invariant-loop-name : goal.invariant-loop-name
 invariant-loop-name l =

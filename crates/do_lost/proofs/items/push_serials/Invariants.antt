@@ -1,7 +1,7 @@
 -- The serials up to here were added.
+use Rattle.do_lost.proofs.items.push_serials.Given as goal
 use Rattle.std.proofs.Common.{◌≡◌, ◌++◌, map, take}
 use Rattle.do_machine.specs.Objects.{object_at}
-use Rattle.do_lost.proofs.items.push_serials.Given as goal
 
 abbrev pub invariant-loop-serial : goal.invariant-loop-serial
 invariant-loop-serial l =

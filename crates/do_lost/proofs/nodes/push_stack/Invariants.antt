@@ -1,7 +1,7 @@
 -- What the invocations up to here name was added.
+use Rattle.do_lost.proofs.nodes.push_stack.Given as goal
 use Rattle.std.proofs.Common.{◌≡◌, ◌++◌, take}
 use Rattle.do_machine.specs.held.Refers.{stack_objects}
-use Rattle.do_lost.proofs.nodes.push_stack.Given as goal
 
 abbrev pub invariant-loop-invocation : goal.invariant-loop-invocation
 invariant-loop-invocation l =

@@ -1,8 +1,7 @@
 -- What the nodes up to here name was added.
-use Rattle.std.proofs.Common.{◌≡◌, take}
-use Rattle.std.specs.List.{flat_map}
-use Rattle.do_lost.specs.Named.{station_names}
 use Rattle.do_lost.proofs.state.named.Given as goal
+use Rattle.std.{proofs.Common.{◌≡◌, take}, specs.List.flat_map}
+use Rattle.do_lost.specs.Named.{station_names}
 
 abbrev pub invariant-loop-station : goal.invariant-loop-station
 invariant-loop-station l =

@@ -1,8 +1,7 @@
 -- What the queues up to here name was added.
-use Rattle.std.proofs.Common.{◌≡◌, ◌++◌, take}
-use Rattle.std.specs.List.{flat_map}
-use Rattle.do_lost.specs.Named.{queue_names}
 use Rattle.do_lost.proofs.state.push_queues.Given as goal
+use Rattle.std.{proofs.Common.{◌≡◌, ◌++◌, take}, specs.List.flat_map}
+use Rattle.do_lost.specs.Named.{queue_names}
 
 abbrev pub invariant-loop-queue : goal.invariant-loop-queue
 invariant-loop-queue l =

@@ -1,8 +1,7 @@
 -- The lines up to here were counted.
-use Rattle.std.proofs.Common.{◌≡◌, ◌+◌, take}
-use Rattle.std.specs.List.{count_by}
-use Rattle.do_make.specs.Summary.{is_free, is_say}
 use Rattle.do_make.proofs.adding.add_shown.Given as goal
+use Rattle.std.{proofs.Common.{◌≡◌, ◌+◌, take}, specs.List.count_by}
+use Rattle.do_make.specs.Summary.{is_free, is_say}
 
 abbrev pub invariant-loop-line : goal.invariant-loop-line
 invariant-loop-line l =

@@ -1,7 +1,7 @@
 -- What was taken out so far was counted.
+use Rattle.do_make.proofs.adding.add_wires.Given as goal
 use Rattle.std.proofs.Common.{◌≡◌, ◌+◌, length, sum_by}
 use Rattle.do_network.specs.declared.wire.Wire.{Wire}
-use Rattle.do_make.proofs.adding.add_wires.Given as goal
 
 abbrev pub invariant-loop-wire : goal.invariant-loop-wire
 invariant-loop-wire g l = record {

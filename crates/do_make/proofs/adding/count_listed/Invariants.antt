@@ -1,7 +1,7 @@
 -- The nodes up to here were counted.
+use Rattle.do_make.proofs.adding.count_listed.Given as goal
 use Rattle.std.proofs.Common.{◌≡◌, length, sum_by, take}
 use Rattle.do_trace.specs.declared.outcome.NodeLine.{NodeLine}
-use Rattle.do_make.proofs.adding.count_listed.Given as goal
 
 abbrev pub invariant-loop-node : goal.invariant-loop-node
 invariant-loop-node l =

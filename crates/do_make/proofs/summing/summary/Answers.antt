@@ -1,5 +1,5 @@
-use Rattle.std.proofs.Common.{◌≡◌, [], ap, rules, sym, ◌∙◌}
-use Rattle.std.specs.Vec.Iter.{into_iter_items}
+use Rattle.do_make.proofs.summing.summary.Goals as goal
+use Rattle.std.{proofs.Common.{◌≡◌, [], ap, rules, sym, ◌∙◌}, specs.Vec.Iter.into_iter_items}
 use Rattle.std.proofs.lemmas.List.{nil_from_length}
 use Rattle.do_machine.specs.run.Run.{Acting}
 use Rattle.do_net.specs.Net.{network}
@@ -8,7 +8,6 @@ use Rattle.do_make.proofs.LinesSummed.{counts_line, summed, summed_first, summed
 use Rattle.do_agreement.proofs.texts.TextsAgree.{opened_blocks}
 use Rattle.do_replay.proofs.LinesAsOne.{led_as_one}
 use Rattle.do_replay.proofs.SpelledSoFar.{led_by_all, spelled_all, spelled_first, spelled_next}
-use Rattle.do_make.proofs.summing.summary.Goals as goal
 
 -- at first nothing is counted
 pub loop-line-init : goal.loop-line-init

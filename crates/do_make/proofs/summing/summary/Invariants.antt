@@ -1,14 +1,12 @@
 -- What was counted so far, with the lines that are left, is the summary of all; in the lines that
 -- were done all that was sent has a spelling; the network stands, and of what was sent nothing is
 -- left.
-use Rattle.std.proofs.Common.{◌≡◌, []}
-use Rattle.std.specs.Vec.Iter.{into_iter_items}
+use Rattle.do_make.proofs.summing.summary.Given as goal
+use Rattle.std.{proofs.Common.{◌≡◌, []}, specs.Vec.Iter.into_iter_items}
 use Rattle.do_net.specs.Net.{Stands, network}
 use Rattle.do_network.specs.Wired.{net_blocks}
 use Rattle.do_replay.proofs.SpelledSoFar.{SpelledSoFar}
-use Rattle.do_make.specs.Summary.{summary_of}
-use Rattle.do_make.proofs.LinesSummed.{summed}
-use Rattle.do_make.proofs.summing.summary.Given as goal
+use Rattle.do_make.{specs.Summary.summary_of, proofs.LinesSummed.summed}
 
 abbrev pub invariant-loop-line : goal.invariant-loop-line
 invariant-loop-line g l =

@@ -1,5 +1,5 @@
-use Rattle.do_make.proofs.TextsBehind.{done_behind}
 use Rattle.do_make.proofs.text.push_done.Goals as goal
+use Rattle.do_make.proofs.TextsBehind.{done_behind}
 
 -- four lines stand one behind another
 pub returns : goal.returns

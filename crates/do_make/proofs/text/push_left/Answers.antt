@@ -1,5 +1,5 @@
-use Rattle.do_make.proofs.TextsBehind.{left_behind}
 use Rattle.do_make.proofs.text.push_left.Goals as goal
+use Rattle.do_make.proofs.TextsBehind.{left_behind}
 
 -- four lines stand one behind another
 pub returns : goal.returns

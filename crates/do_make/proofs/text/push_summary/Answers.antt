@@ -1,7 +1,6 @@
-use Rattle.std.specs.Prelude.{codes}
-use Rattle.do_make.specs.Text.{done_text, left_text}
-use Rattle.do_make.proofs.TextsBehind.{four_behind}
 use Rattle.do_make.proofs.text.push_summary.Goals as goal
+use Rattle.std.specs.Prelude.{codes}
+use Rattle.do_make.{specs.Text.{done_text, left_text}, proofs.TextsBehind.four_behind}
 
 -- its parts stand one behind another
 pub returns : goal.returns

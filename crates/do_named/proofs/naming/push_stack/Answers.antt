@@ -1,8 +1,7 @@
-use Rattle.std.proofs.Common.{◌∙◌, ap}
-use Rattle.std.specs.Option.{option_copied}
+use Rattle.do_named.proofs.naming.push_stack.Goals as goal
+use Rattle.std.{proofs.Common.{◌∙◌, ap}, specs.Option.option_copied}
 use Rattle.do_named.proofs.StackTurn.{stack_has, stack_turn}
 use Rattle.do_named.proofs.naming.push_stack.Goals.{in-Some+in_ok-push_invocation, in_default}
-use Rattle.do_named.proofs.naming.push_stack.Goals as goal
 
 pub loop-below-preserved : goal.loop-below-preserved
 loop-below-preserved c =

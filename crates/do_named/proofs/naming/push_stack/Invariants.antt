@@ -1,7 +1,7 @@
 -- The objects of the invocations from the top on were added.
+use Rattle.do_named.proofs.naming.push_stack.Given as goal
 use Rattle.std.proofs.Common.{◌≡◌, ◌++◌, take}
 use Rattle.do_machine.specs.held.Refers.{stack_objects}
-use Rattle.do_named.proofs.naming.push_stack.Given as goal
 
 abbrev pub invariant-loop-below : goal.invariant-loop-below
 invariant-loop-below l =

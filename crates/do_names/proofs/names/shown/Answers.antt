@@ -1,7 +1,6 @@
-use Rattle.do_table.specs.Entries.{entry_shown}
-use Rattle.do_table.specs.laws.TableLaws.{shown_more}
-use Rattle.do_names.specs.Core.{row}
 use Rattle.do_names.proofs.names.shown.Goals as goal
+use Rattle.do_table.specs.{Entries.entry_shown, laws.TableLaws.shown_more}
+use Rattle.do_names.specs.Core.{row}
 
 pub loop-at-preserved : goal.loop-at-preserved
 loop-at-preserved c =

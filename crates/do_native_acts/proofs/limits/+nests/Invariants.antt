@@ -1,7 +1,6 @@
-use Rattle.std.proofs.Common.{◌≡◌, true, take}
-use Rattle.std.specs.List.{list_all}
-use Rattle.do_behave.specs.Limits.{nests_within}
 use Rattle.do_native_acts.proofs.limits.+nests.Given as goal
+use Rattle.std.{proofs.Common.{◌≡◌, true, take}, specs.List.list_all}
+use Rattle.do_behave.specs.Limits.{nests_within}
 
 abbrev pub invariant-all_nest_within-loop-item : goal.invariant-all_nest_within-loop-item
 invariant-all_nest_within-loop-item l =

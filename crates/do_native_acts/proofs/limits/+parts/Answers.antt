@@ -1,5 +1,5 @@
-use Rattle.do_native_acts.proofs.SmallParts.{small_few, small_many}
 use Rattle.do_native_acts.proofs.limits.+parts.Goals as goal
+use Rattle.do_native_acts.proofs.SmallParts.{small_few, small_many}
 
 pub has_small_parts-returns-then-len-le-MAX_ITEMS :
     goal.has_small_parts-returns-then-len-le-MAX_ITEMS

@@ -1,6 +1,6 @@
+use Rattle.do_native_acts.proofs.limits.+weighs.Given as goal
 use Rattle.std.proofs.Common.{◌≡◌, take, sum_by, min}
 use Rattle.do_base.specs.values.Values.{weight_of}
-use Rattle.do_native_acts.proofs.limits.+weighs.Given as goal
 
 abbrev pub invariant-capped_sum-loop-value : goal.invariant-capped_sum-loop-value
 invariant-capped_sum-loop-value l =

@@ -1,7 +1,6 @@
-use Rattle.std.proofs.Common.{◌≡◌, ◌++◌, drop}
-use Rattle.std.specs.Option.{option_map}
-use Rattle.do_native_acts.specs.Rows.{read_all}
 use Rattle.do_native_acts.proofs.rows.read_each.Given as goal
+use Rattle.std.{proofs.Common.{◌≡◌, ◌++◌, drop}, specs.Option.option_map}
+use Rattle.do_native_acts.specs.Rows.{read_all}
 
 abbrev pub invariant-loop-value : goal.invariant-loop-value
 invariant-loop-value g l =

@@ -1,6 +1,6 @@
+use Rattle.do_native_acts.proofs.steps.changes.Given as goal
 use Rattle.std.proofs.Common.{◌≡◌, ◌++◌, drop}
 use Rattle.do_native_acts.specs.Steps.{changes}
-use Rattle.do_native_acts.proofs.steps.changes.Given as goal
 
 abbrev pub invariant-loop-slot : goal.invariant-loop-slot
 invariant-loop-slot l =

@@ -1,7 +1,5 @@
-use Rattle.std.proofs.Common.{◌≡◌, false, take}
-use Rattle.std.specs.List.{list_any}
-use Rattle.std.specs.Str.{bytes_eq}
 use Rattle.do_native_acts.proofs.types.is_among.Given as goal
+use Rattle.std.{proofs.Common.{◌≡◌, false, take}, specs.{List.list_any, Str.bytes_eq}}
 
 abbrev pub invariant-loop-other : goal.invariant-loop-other
 invariant-loop-other l =

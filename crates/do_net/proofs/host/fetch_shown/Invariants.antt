@@ -1,7 +1,7 @@
 -- What was fetched so far was shown.
+use Rattle.do_net.proofs.host.fetch_shown.Given as goal
 use Rattle.std.proofs.Common.{length}
 use Rattle.do_net.proofs.ShowLoop.{Shows}
-use Rattle.do_net.proofs.host.fetch_shown.Given as goal
 
 abbrev pub invariant-loop-line : goal.invariant-loop-line
 invariant-loop-line g l =

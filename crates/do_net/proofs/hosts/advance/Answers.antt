@@ -1,9 +1,9 @@
+use Rattle.do_net.proofs.hosts.advance.Goals as goal
 use Rattle.std.proofs.Common.{sym, refl}
 use Rattle.do_net.specs.Hosts.{hosting, hostings}
 use Rattle.do_net.proofs.HandIsStep.{advance_fetched, net_advances, net_missing}
 use Rattle.do_ported.proofs.ByHalves.{rising_set}
 use Rattle.do_net.proofs.HostPlaces.{place_found, place_none, place_set}
-use Rattle.do_net.proofs.hosts.advance.Goals as goal
 
 pub returns-in-Some-clause-fetched : goal.returns-in-Some-clause-fetched
 returns-in-Some-clause-fetched g c fetched =

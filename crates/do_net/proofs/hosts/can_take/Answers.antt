@@ -1,8 +1,7 @@
-use Rattle.std.proofs.Common.{sym, ◌∙◌}
-use Rattle.do_net.specs.Hosts.{hosting, hostings}
-use Rattle.do_net.proofs.HandIsStep.{can_take_found, can_take_none}
-use Rattle.do_net.proofs.HostPlaces.{place_found, place_none}
 use Rattle.do_net.proofs.hosts.can_take.Goals as goal
+use Rattle.std.proofs.Common.{sym, ◌∙◌}
+use Rattle.do_net.{specs.Hosts.{hosting, hostings}, proofs.HandIsStep.can_take_found}
+use Rattle.do_net.proofs.{HandIsStep.can_take_none, HostPlaces.{place_found, place_none}}
 
 pub returns-in-Some : goal.returns-in-Some
 returns-in-Some g c =

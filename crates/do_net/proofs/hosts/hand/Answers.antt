@@ -1,11 +1,10 @@
+use Rattle.do_net.proofs.hosts.hand.Goals as goal
 use Rattle.std.proofs.Common.{sym, refl}
 use Rattle.do_net.specs.Hosts.{hosting, hostings, HasFetched}
-use Rattle.do_net.proofs.EventSpelled.{hand_spelled, none_spelled}
-use Rattle.do_net.proofs.FirstFound.{each_found}
+use Rattle.do_net.proofs.{EventSpelled.{hand_spelled, none_spelled}, FirstFound.each_found}
 use Rattle.do_net.proofs.HandIsStep.{hand_result, none_goes, of_port}
 use Rattle.do_ported.proofs.ByHalves.{rising_set}
 use Rattle.do_net.proofs.HostPlaces.{place_found, place_none, place_set}
-use Rattle.do_net.proofs.hosts.hand.Goals as goal
 
 pub hand-requires : goal.hand-requires
 hand-requires g c =

@@ -1,8 +1,7 @@
-use Rattle.std.proofs.Common.{sym, ◌∙◌}
-use Rattle.do_net.specs.Hosts.{hosting, hostings}
-use Rattle.do_net.proofs.HandIsStep.{is_open_found, is_open_none}
-use Rattle.do_net.proofs.HostPlaces.{place_found, place_none}
 use Rattle.do_net.proofs.hosts.is_open.Goals as goal
+use Rattle.std.proofs.Common.{sym, ◌∙◌}
+use Rattle.do_net.{specs.Hosts.{hosting, hostings}, proofs.HandIsStep.{is_open_found, is_open_none}}
+use Rattle.do_net.proofs.HostPlaces.{place_found, place_none}
 
 pub returns-in-Some : goal.returns-in-Some
 returns-in-Some g c =

@@ -1,9 +1,9 @@
+use Rattle.do_net.proofs.hosts.lose.Goals as goal
 use Rattle.std.proofs.Common.{◌≡◌, true, rules, sym, refl}
 use Rattle.do_net.specs.Hosts.{hosting, hostings, net_is_open, net_of}
 use Rattle.do_net.proofs.LoseIsStep.{lost_goes, none_lost}
 use Rattle.do_ported.proofs.ByHalves.{rising_set}
 use Rattle.do_net.proofs.HostPlaces.{place_found, place_none, place_set}
-use Rattle.do_net.proofs.hosts.lose.Goals as goal
 
 pub returns-in_default : goal.returns-in_default
 returns-in_default g c table act wires rest =

@@ -1,9 +1,7 @@
-use Rattle.std.proofs.Common.{◌≡◌, ap, map, take, ◌∙◌}
-use Rattle.std.proofs.lemmas.List.{take_all}
-use Rattle.do_network.specs.Snapshot.{part_line}
-use Rattle.do_net.specs.Hosts.{hosting}
-use Rattle.do_net.proofs.ListedPlaces.{listed}
 use Rattle.do_net.proofs.hosts.snapshot.Goals as goal
+use Rattle.std.proofs.{Common.{◌≡◌, ap, map, take, ◌∙◌}, lemmas.List.take_all}
+use Rattle.do_network.specs.Snapshot.{part_line}
+use Rattle.do_net.{specs.Hosts.hosting, proofs.ListedPlaces.listed}
 
 pub returns : goal.returns
 returns g c =

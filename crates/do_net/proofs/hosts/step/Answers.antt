@@ -1,5 +1,5 @@
-use Rattle.std.proofs.Common.{rules, ◌≡◌}
 use Rattle.do_net.proofs.hosts.step.Goals as goal
+use Rattle.std.proofs.Common.{rules, ◌≡◌}
 
 pub returns-in_ok-values-in-Start : goal.returns-in_ok-values-in-Start
 returns-in_ok-values-in-Start g c table act rest =

@@ -1,7 +1,6 @@
-use Rattle.std.proofs.Common.{sym, ◌∙◌}
-use Rattle.do_net.specs.Hosts.{hostings}
-use Rattle.do_net.proofs.TakeGoes.{cannot_goes}
 use Rattle.do_net.proofs.hosts.take.Goals as goal
+use Rattle.std.proofs.Common.{sym, ◌∙◌}
+use Rattle.do_net.{specs.Hosts.hostings, proofs.TakeGoes.cannot_goes}
 
 pub returns-else-can_take : goal.returns-else-can_take
 returns-else-can_take g c table act rest =

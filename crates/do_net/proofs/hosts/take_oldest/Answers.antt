@@ -1,7 +1,6 @@
-use Rattle.do_net.specs.Hosts.{hostings}
-use Rattle.do_net.specs.Lanes.{carried_of}
-use Rattle.do_net.proofs.TakeGoes.{empty_goes, oldest_goes}
 use Rattle.do_net.proofs.hosts.take_oldest.Goals as goal
+use Rattle.do_net.specs.{Hosts.hostings, Lanes.carried_of}
+use Rattle.do_net.proofs.TakeGoes.{empty_goes, oldest_goes}
 
 pub hand_kept-requires : goal.hand_kept-requires
 hand_kept-requires g c = c.advance.ensures.fetched c.requires.fetched

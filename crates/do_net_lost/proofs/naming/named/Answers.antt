@@ -1,15 +1,13 @@
-use Rattle.std.proofs.Common.{◌≡◌, ◌∙◌, ◌++◌, ℕ, List, ap, refl}
-use Rattle.std.specs.List.{flat_map}
+use Rattle.do_net_lost.proofs.naming.named.Goals as goal
+use Rattle.std.{proofs.Common.{◌≡◌, ◌∙◌, ◌++◌, ℕ, List, ap, refl}, specs.List.flat_map}
 use Rattle.do_base.specs.names.Names.{ObjectName}
 use Rattle.do_machine.specs.World.{others}
 use Rattle.do_net.specs.Net.{network}
-use Rattle.do_net_named.specs.Named.{net_named, part_names, told_in}
-use Rattle.do_net_named.specs.Waiting.{way_names}
+use Rattle.do_net_named.specs.{Named.{net_named, part_names, told_in}, Waiting.way_names}
 use Rattle.do_net_named.proofs.StandsNamed.{named_as_one}
 use Rattle.do_network.specs.Net.{part_at}
 use Rattle.do_packet.specs.Met.{has_object}
 use Rattle.do_net_lost.proofs.OneMore.{named_whole}
-use Rattle.do_net_lost.proofs.naming.named.Goals as goal
 
 -- what sites, ways and closed ends name is what the network names
 pub returns-clause-names : goal.returns-clause-names

@@ -1,10 +1,9 @@
 -- Nothing is under way from the nodes up to here.
-use Rattle.std.proofs.Common.{◌≡◌, take, true}
-use Rattle.std.specs.List.{list_all}
+use Rattle.do_net_lost.proofs.still.is_still_among.Given as goal
+use Rattle.std.{proofs.Common.{◌≡◌, take, true}, specs.List.list_all}
 use Rattle.do_machine.specs.World.{others}
 use Rattle.do_net.specs.Net.{network}
 use Rattle.do_net_named.specs.Lost.{is_still_from}
-use Rattle.do_net_lost.proofs.still.is_still_among.Given as goal
 
 abbrev pub invariant-loop-from : goal.invariant-loop-from
 invariant-loop-from g l =

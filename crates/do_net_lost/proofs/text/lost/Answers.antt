@@ -1,11 +1,10 @@
+use Rattle.do_net_lost.proofs.text.lost.Goals as goal
 use Rattle.std.proofs.Common.{◌∙◌, ap}
 use Rattle.do_leaks.specs.Leaks.{leaks}
 use Rattle.do_net.specs.Net.{network}
-use Rattle.do_net_named.specs.Named.{net_named}
-use Rattle.do_net_named.proofs.LeaksAlike.{leaks_alike}
+use Rattle.do_net_named.{specs.Named.net_named, proofs.LeaksAlike.leaks_alike}
 use Rattle.do_network.specs.Snapshot.{net_snapshot}
 use Rattle.do_streams.proofs.Placed.{if_ok}
-use Rattle.do_net_lost.proofs.text.lost.Goals as goal
 
 -- the names are among those that the network names, and these among them
 pub returns : goal.returns

@@ -1,7 +1,7 @@
+use Rattle.do_net_lost.proofs.text.lost_text.Goals as goal
 use Rattle.std.proofs.Common.{◌∙◌, rules}
 use Rattle.do_net.specs.Net.{network}
 use Rattle.do_net_lost.proofs.TextAlike.{text_as_one}
-use Rattle.do_net_lost.proofs.text.lost_text.Goals as goal
 
 -- the text is that of the network
 pub returns-clause-text : goal.returns-clause-text

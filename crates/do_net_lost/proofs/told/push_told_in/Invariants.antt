@@ -1,8 +1,7 @@
 -- The objects of the entries up to here were added, where the peer's end is closed.
-use Rattle.std.proofs.Common.{◌≡◌, ◌++◌, filter, map, not, take}
-use Rattle.do_net.specs.Hosts.{net_is_open}
-use Rattle.do_net.specs.Net.{network}
 use Rattle.do_net_lost.proofs.told.push_told_in.Given as goal
+use Rattle.std.proofs.Common.{◌≡◌, ◌++◌, filter, map, not, take}
+use Rattle.do_net.specs.{Hosts.net_is_open, Net.network}
 
 abbrev pub invariant-loop-entry : goal.invariant-loop-entry
 invariant-loop-entry g l =

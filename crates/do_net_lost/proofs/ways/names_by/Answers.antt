@@ -1,8 +1,7 @@
-use Rattle.std.proofs.Common.{List, length, subst}
-use Rattle.std.specs.Prelude.{IfOk}
+use Rattle.do_net_lost.proofs.ways.names_by.Goals as goal
+use Rattle.std.{proofs.Common.{List, length, subst}, specs.Prelude.IfOk}
 use Rattle.do_class.specs.Class.{Class}
 use Rattle.do_streams.specs.Reading.{AreKnown}
-use Rattle.do_net_lost.proofs.ways.names_by.Goals as goal
 
 -- the site has the classes that all have
 pub returns-in-Some-clause-known : goal.returns-in-Some-clause-known

@@ -1,9 +1,9 @@
+use Rattle.do_net_lost.proofs.ways.push_kept.Goals as goal
 use Rattle.std.proofs.Common.{◌≡◌, Ok}
 use Rattle.do_frames.specs.Frames.{after_frame}
 use Rattle.do_net.specs.Lanes.{frame_in}
 use Rattle.do_network.specs.Frames.{read_frame}
 use Rattle.do_net_lost.proofs.LaneTurn.{read_turn}
-use Rattle.do_net_lost.proofs.ways.push_kept.Goals as goal
 
 -- a frame that was read names what its item names
 pub returns-in_ok-push_frame-in-Some-clause-added :

@@ -1,8 +1,7 @@
-use Rattle.std.proofs.Common.{◌∙◌, ◌++◌, ◌+◌, ap, drop, sym}
-use Rattle.std.proofs.lemmas.List.{append-nil}
+use Rattle.do_net_lost.proofs.ways.push_lane.Goals as goal
+use Rattle.std.proofs.{Common.{◌∙◌, ◌++◌, ◌+◌, ap, drop, sym}, lemmas.List.append-nil}
 use Rattle.do_net_named.specs.Waiting.{lane_names}
 use Rattle.do_net_lost.proofs.LaneTurn.{drop_at}
-use Rattle.do_net_lost.proofs.ways.push_lane.Goals as goal
 
 -- where a frame cannot be read, nothing behind it is
 pub returns-then-not-branch : goal.returns-then-not-branch

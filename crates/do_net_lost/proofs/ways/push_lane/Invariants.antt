@@ -1,8 +1,8 @@
 -- What is left of the lane, read by the names read so far, names what is still to be added.
+use Rattle.do_net_lost.proofs.ways.push_lane.Given as goal
 use Rattle.std.proofs.Common.{◌≡◌, ◌++◌, drop, length}
 use Rattle.do_net_named.specs.Waiting.{lane_names}
 use Rattle.do_streams.specs.Reading.{AreKnown}
-use Rattle.do_net_lost.proofs.ways.push_lane.Given as goal
 
 abbrev pub invariant-loop-place : goal.invariant-loop-place
 invariant-loop-place l =

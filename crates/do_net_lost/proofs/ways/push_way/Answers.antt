@@ -1,7 +1,7 @@
+use Rattle.do_net_lost.proofs.ways.push_way.Goals as goal
 use Rattle.std.proofs.Common.{List, length, subst, sym}
 use Rattle.do_class.specs.Class.{Class}
 use Rattle.do_streams.specs.Reading.{AreKnown}
-use Rattle.do_net_lost.proofs.ways.push_way.Goals as goal
 
 -- the names are of the network's classes
 pub push_lane-requires : goal.push_lane-requires

@@ -1,10 +1,9 @@
 -- What is under way from the nodes up to here was added.
-use Rattle.std.proofs.Common.{◌≡◌, ◌++◌, take}
-use Rattle.std.specs.List.{flat_map}
+use Rattle.do_net_lost.proofs.ways.push_ways.Given as goal
+use Rattle.std.{proofs.Common.{◌≡◌, ◌++◌, take}, specs.List.flat_map}
 use Rattle.do_machine.specs.World.{others}
 use Rattle.do_net.specs.Net.{network}
 use Rattle.do_net_named.specs.Waiting.{way_names}
-use Rattle.do_net_lost.proofs.ways.push_ways.Given as goal
 
 abbrev pub invariant-loop-from : goal.invariant-loop-from
 invariant-loop-from g l =

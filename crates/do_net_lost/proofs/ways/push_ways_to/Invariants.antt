@@ -1,9 +1,8 @@
 -- What is under way to the peers up to here was added.
-use Rattle.std.proofs.Common.{◌≡◌, ◌++◌, take}
-use Rattle.std.specs.List.{flat_map}
+use Rattle.do_net_lost.proofs.ways.push_ways_to.Given as goal
+use Rattle.std.{proofs.Common.{◌≡◌, ◌++◌, take}, specs.List.flat_map}
 use Rattle.do_net.specs.Net.{network}
 use Rattle.do_net_named.specs.Waiting.{way_names}
-use Rattle.do_net_lost.proofs.ways.push_ways_to.Given as goal
 
 abbrev pub invariant-loop-peer : goal.invariant-loop-peer
 invariant-loop-peer g l =

@@ -1,13 +1,10 @@
+use Rattle.do_node.proofs.answering.obey.Goals as goal
 use Rattle.std.proofs.Common.{refl}
 use Rattle.do_cli.specs.Help.{help_text, version_text}
 use Rattle.do_cli.specs.declared.command.Command.TheVariants.{Help, Make, Version}
-use Rattle.do_node.specs.Replaying.{made_text}
-use Rattle.do_node.specs.Running.{link_seen, spawner_seen}
-use Rattle.do_node.proofs.AsOneMachine.{answered_so, summary_adds}
-use Rattle.do_node.proofs.NodesCome.{node_comes, plan_comes}
-use Rattle.do_node.proofs.Obeying.{obeys_writing}
-use Rattle.do_node.proofs.TextsCome.{text_comes}
-use Rattle.do_node.proofs.answering.obey.Goals as goal
+use Rattle.do_node.specs.{Replaying.made_text, Running.{link_seen, spawner_seen}}
+use Rattle.do_node.proofs.{AsOneMachine.{answered_so, summary_adds}, NodesCome.node_comes}
+use Rattle.do_node.proofs.{NodesCome.plan_comes, Obeying.obeys_writing, TextsCome.text_comes}
 
 -- a replay comes to what its call says
 pub returns-in-Replay-clause-comes : goal.returns-in-Replay-clause-comes

@@ -1,12 +1,8 @@
-use Rattle.do_cli.specs.Forms.{command_in}
-use Rattle.do_node.proofs.AsOneMachine.{memory_adds}
-use Rattle.do_node.proofs.LeaksTold.{leaks_told}
-use Rattle.do_node.proofs.OrdersKept.{no_order, some_order}
-use Rattle.do_node.proofs.RecordsGiven.{gives_back}
-use Rattle.do_node.proofs.Upgraded.{replayed_alike}
-use Rattle.do_node.proofs.WordsRead.{memory_told, no_command, none_asked}
-use Rattle.do_node.proofs.WordsRead.{usage_told}
 use Rattle.do_node.proofs.call.run.Goals as goal
+use Rattle.do_cli.specs.Forms.{command_in}
+use Rattle.do_node.proofs.{AsOneMachine.memory_adds, LeaksTold.leaks_told, OrdersKept.no_order}
+use Rattle.do_node.proofs.{OrdersKept.some_order, RecordsGiven.gives_back, Upgraded.replayed_alike}
+use Rattle.do_node.proofs.WordsRead.{memory_told, no_command, none_asked, usage_told}
 
 pub returns-in-Err-Usage-clause-usage : goal.returns-in-Err-Usage-clause-usage
 returns-in-Err-Usage-clause-usage g c = rw c.in-Err-Usage.word-is

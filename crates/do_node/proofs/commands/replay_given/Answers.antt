@@ -1,10 +1,9 @@
+use Rattle.do_node.proofs.commands.replay_given.Goals as goal
 use Rattle.std.proofs.Common.{refl}
 use Rattle.do_cli.specs.declared.command.Command.TheVariants.{Replay}
-use Rattle.do_given.proofs.FilesTold.{no_err}
-use Rattle.do_given.proofs.Stopping.{must_be, must_give}
+use Rattle.do_given.proofs.{FilesTold.no_err, Stopping.{must_be, must_give}}
 use Rattle.do_node.proofs.AsOneMachine.{adds_nothing, replay_adds}
 use Rattle.do_node.proofs.Obeying.{obeys_stopping, obeys_writing}
-use Rattle.do_node.proofs.commands.replay_given.Goals as goal
 
 -- what was read is written
 pub returns-in-Ok-clause-obeys : goal.returns-in-Ok-clause-obeys

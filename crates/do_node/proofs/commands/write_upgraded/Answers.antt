@@ -1,8 +1,7 @@
-use Rattle.do_cli.specs.declared.command.Command.TheVariants.{Upgrade}
-use Rattle.do_given.proofs.FilesTold.{no_err}
-use Rattle.do_given.proofs.Stopping.{must_be, must_give}
-use Rattle.do_node.proofs.Obeying.{obeys_stopping, obeys_writing}
 use Rattle.do_node.proofs.commands.write_upgraded.Goals as goal
+use Rattle.do_cli.specs.declared.command.Command.TheVariants.{Upgrade}
+use Rattle.do_given.proofs.{FilesTold.no_err, Stopping.{must_be, must_give}}
+use Rattle.do_node.proofs.Obeying.{obeys_stopping, obeys_writing}
 
 pub returns-in-Ok-clause-obeys : goal.returns-in-Ok-clause-obeys
 returns-in-Ok-clause-obeys g c =

@@ -1,9 +1,8 @@
-use Rattle.std.proofs.Common.{◌≡◌, [], ◌∙◌, rules, sym}
-use Rattle.std.proofs.lemmas.List.{nil_from_length}
+use Rattle.do_node.proofs.leaking.pass.Goals as goal
+use Rattle.std.proofs.{Common.{◌≡◌, [], ◌∙◌, rules, sym}, lemmas.List.nil_from_length}
 use Rattle.std.specs.Vec.Iter.{into_iter_items}
 use Rattle.do_net.specs.Net.{network}
 use Rattle.do_node.proofs.LeaksLast.{leads_first, leads_last, leads_next}
-use Rattle.do_node.proofs.leaking.pass.Goals as goal
 
 -- before the first line all are left
 pub loop-line-init : goal.loop-line-init

@@ -1,12 +1,10 @@
 -- The lines that are left lead from where the network is to where all lead.
-use Rattle.std.proofs.Common.{◌≡◌}
-use Rattle.std.specs.Vec.Iter.{into_iter_items}
+use Rattle.do_node.proofs.leaking.pass.Given as goal
+use Rattle.std.{proofs.Common.◌≡◌, specs.Vec.Iter.into_iter_items}
 use Rattle.do_machine.specs.declared.state.State.{State}
-use Rattle.do_net.specs.Net.{Stands, network}
-use Rattle.do_net.specs.OneMachine.{StandsFor}
+use Rattle.do_net.specs.{Net.{Stands, network}, OneMachine.StandsFor}
 use Rattle.do_replay.specs.Replayed.{state_after}
 use Rattle.do_node.proofs.LeaksLast.{LeadsOn}
-use Rattle.do_node.proofs.leaking.pass.Given as goal
 
 abbrev pub invariant-loop-line : goal.invariant-loop-line
 invariant-loop-line g l =

@@ -1,6 +1,5 @@
-use Rattle.do_net.specs.Net.{network}
-use Rattle.do_net.proofs.StandsForStates.{line_as_one}
 use Rattle.do_node.proofs.leaking.pass_line.Goals as goal
+use Rattle.do_net.{specs.Net.network, proofs.StandsForStates.line_as_one}
 
 -- a line leads to a state for which the network stands
 pub returns-clause-one_machine : goal.returns-clause-one_machine

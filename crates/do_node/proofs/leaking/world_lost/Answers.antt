@@ -1,8 +1,8 @@
+use Rattle.do_node.proofs.leaking.world_lost.Goals as goal
 use Rattle.std.proofs.Common.{◌∙◌, ap}
 use Rattle.do_native.specs.Acts.{native_act}
 use Rattle.do_net.specs.Net.{network}
 use Rattle.do_node.proofs.LeaksLast.{lost_last}
-use Rattle.do_node.proofs.leaking.world_lost.Goals as goal
 
 -- the text is that of the state that the lines lead to
 pub returns : goal.returns

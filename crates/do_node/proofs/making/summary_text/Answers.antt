@@ -1,7 +1,7 @@
-use Rattle.std.proofs.Common.{◌++◌, ◌∙◌, ap}
 use Rattle.do_make.specs.Text as made
-use Rattle.do_node.proofs.OpenedNetwork.{blocks_as_one, has_node, summed_world}
 use Rattle.do_node.proofs.making.summary_text.Goals as goal
+use Rattle.std.proofs.Common.{◌++◌, ◌∙◌, ap}
+use Rattle.do_node.proofs.OpenedNetwork.{blocks_as_one, has_node, summed_world}
 
 -- a world has a node
 pub net_of-requires : goal.net_of-requires

@@ -1,5 +1,5 @@
-use Rattle.do_node.proofs.OpenedNetwork.{if_first, share_alike}
 use Rattle.do_node.proofs.networks.net_of.Goals as goal
+use Rattle.do_node.proofs.OpenedNetwork.{if_first, share_alike}
 
 -- all share one
 pub new-requires-clause-alike : goal.new-requires-clause-alike

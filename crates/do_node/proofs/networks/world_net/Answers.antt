@@ -1,8 +1,8 @@
+use Rattle.do_node.proofs.networks.world_net.Goals as goal
 use Rattle.do_native.specs.Acts.{native_act}
 use Rattle.do_given.specs.Parts.{behaviour_of}
 use Rattle.do_net.specs.Net.{network}
 use Rattle.do_node.proofs.OpenedNetwork.{has_node, stands_opened}
-use Rattle.do_node.proofs.networks.world_net.Goals as goal
 
 -- a world has a node
 pub net_of-requires : goal.net_of-requires

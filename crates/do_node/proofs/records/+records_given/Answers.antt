@@ -1,8 +1,8 @@
+use Rattle.do_node.proofs.records.+records_given.Goals as goal
 use Rattle.std.proofs.Common.{◌∙◌, Ok, Some, subst}
 use Rattle.do_node.specs.Records.{SayNoRecords, SayRecords}
 use Rattle.do_given.proofs.Stopping.{give_any}
 use Rattle.do_node.proofs.RecordsTold.{later_records_refuse, later_records_say, names_split}
-use Rattle.do_node.proofs.records.+records_given.Goals as goal
 
 pub returns-in-Err-clause-accepts : goal.returns-in-Err-clause-accepts
 returns-in-Err-clause-accepts g t c = λ files records is say.

@@ -1,7 +1,7 @@
+use Rattle.do_node.proofs.records.record_given.Goals as goal
 use Rattle.std.proofs.Common.{Ok}
 use Rattle.do_node.specs.Records.{IsNoRecord, IsRecord}
 use Rattle.do_given.proofs.FilesTold.{none_answered, or_unread, text_answered}
-use Rattle.do_node.proofs.records.record_given.Goals as goal
 
 pub returns-clause-refuses : goal.returns-clause-refuses
 returns-clause-refuses g c = λ files status is none.

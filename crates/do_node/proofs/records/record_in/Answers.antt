@@ -1,5 +1,5 @@
-use Rattle.do_node.proofs.RecordsTold.{no_record_stops, record_must_be, refusal_must_be}
 use Rattle.do_node.proofs.records.record_in.Goals as goal
+use Rattle.do_node.proofs.RecordsTold.{no_record_stops, record_must_be, refusal_must_be}
 
 pub returns-in-Err-clause-stopped : goal.returns-in-Err-clause-stopped
 returns-in-Err-clause-stopped c = rw (c.told_of_record.ensures, c.len.ensures)

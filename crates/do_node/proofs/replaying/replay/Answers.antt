@@ -1,9 +1,8 @@
-use Rattle.std.proofs.Common.{◌≡◌, ◌∙◌, subst}
-use Rattle.std.specs.Prelude.{OnOk}
+use Rattle.do_node.proofs.replaying.replay.Goals as goal
+use Rattle.std.{proofs.Common.{◌≡◌, ◌∙◌, subst}, specs.Prelude.OnOk}
 use Rattle.do_base.specs.outside.Bytes.{HasWritten, with_more}
 use Rattle.do_node.proofs.OpenedNetwork.{first_as_one, has_node, nothing_as_one, whole_as_one}
 use Rattle.do_node.proofs.OpenedNetwork.{wired_world}
-use Rattle.do_node.proofs.replaying.replay.Goals as goal
 
 -- a world has a node
 pub net_of-requires : goal.net_of-requires

@@ -1,9 +1,9 @@
+use Rattle.do_node.proofs.weaving.woven_given.Goals as goal
 use Rattle.std.proofs.Common.{◌∙◌, Ok}
 use Rattle.do_node.proofs.WovenTold.{contradiction_stops, records_refuse, records_stop}
 use Rattle.do_node.proofs.WovenTold.{records_stop_text, woven_here, woven_refuses, world_refuses}
 use Rattle.do_node.proofs.WovenTold.{world_stops}
 use Rattle.do_given.proofs.Stopping.{give_any}
-use Rattle.do_node.proofs.weaving.woven_given.Goals as goal
 
 -- where no world was read, the world stops it
 pub returns-in-Err-clause-stopped : goal.returns-in-Err-clause-stopped

@@ -1,11 +1,10 @@
+use Rattle.do_node.proofs.weaving.woven_text.Goals as goal
 use Rattle.std.proofs.Common.{Err, Ok, arith}
 use Rattle.do_machine.specs.World.{opening}
 use Rattle.do_weave.specs.Telling.{Tells}
-use Rattle.do_node.specs.Weaving.{rules_of, world_woven}
-use Rattle.do_node.proofs.WovenTold.{lines_agree, lines_must_weave, lines_weave, opened_machine}
-use Rattle.do_node.proofs.WovenTold.{records_within, told_woven, weaving_must_stop}
-use Rattle.do_node.proofs.WovenTold.{weaving_refuses, weaving_stops}
-use Rattle.do_node.proofs.weaving.woven_text.Goals as goal
+use Rattle.do_node.{specs.Weaving.{rules_of, world_woven}, proofs.WovenTold.lines_agree}
+use Rattle.do_node.proofs.WovenTold.{lines_must_weave, lines_weave, opened_machine, records_within}
+use Rattle.do_node.proofs.WovenTold.{told_woven, weaving_must_stop, weaving_refuses, weaving_stops}
 
 -- the network stands for the opening of the one machine
 pub weave-requires-clause-stands : goal.weave-requires-clause-stands

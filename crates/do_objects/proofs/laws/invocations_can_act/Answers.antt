@@ -1,5 +1,5 @@
-use Rattle.do_objects.proofs.Able.{opens_able, reached_able, still_can}
 use Rattle.do_objects.proofs.laws.invocations_can_act.Goals as goal
+use Rattle.do_objects.proofs.Able.{opens_able, reached_able, still_can}
 
 pub returns-clause-opening : goal.returns-clause-opening
 returns-clause-opening c = opens_able

@@ -1,5 +1,5 @@
-use Rattle.do_objects.proofs.Sound.{opens_sound, reached_sound, stays_sound}
 use Rattle.do_objects.proofs.laws.invocations_run_own_methods.Goals as goal
+use Rattle.do_objects.proofs.Sound.{opens_sound, reached_sound, stays_sound}
 
 pub returns-clause-opening : goal.returns-clause-opening
 returns-clause-opening c = opens_sound

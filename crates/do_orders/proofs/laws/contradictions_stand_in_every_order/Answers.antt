@@ -1,10 +1,8 @@
-use Rattle.do_machine.specs.World.{opening}
-use Rattle.do_weave.proofs.Again.{threads_apart}
-use Rattle.do_weave.proofs.Standing.{fault_stands}
-use Rattle.do_weave.specs.Orders.{IsReached}
-use Rattle.do_weave.specs.Threads.{blocks_in, threads_of}
-use Rattle.do_orders.proofs.InputsCommute.{inputs_commute}
 use Rattle.do_orders.proofs.laws.contradictions_stand_in_every_order.Goals as goal
+use Rattle.do_machine.specs.World.{opening}
+use Rattle.do_weave.proofs.{Again.threads_apart, Standing.fault_stands}
+use Rattle.do_weave.specs.{Orders.IsReached, Threads.{blocks_in, threads_of}}
+use Rattle.do_orders.proofs.InputsCommute.{inputs_commute}
 
 pub returns-clause-opening : goal.returns-clause-opening
 returns-clause-opening c = λ R seats records fault apart e order.

@@ -1,6 +1,5 @@
-use Rattle.do_orders.proofs.InputsMove.{input_moves, move_is_tried}
-use Rattle.do_orders.proofs.Reached.{reached_stands}
 use Rattle.do_orders.proofs.laws.enabled_inputs_are_moves.Goals as goal
+use Rattle.do_orders.proofs.{InputsMove.{input_moves, move_is_tried}, Reached.reached_stands}
 
 pub returns-clause-moves : goal.returns-clause-moves
 returns-clause-moves c = λ R seats S port input a there e.

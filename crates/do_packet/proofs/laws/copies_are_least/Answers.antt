@@ -1,5 +1,5 @@
-use Rattle.do_packet.proofs.Copying.{copies_are, copies_many}
 use Rattle.do_packet.proofs.laws.copies_are_least.Goals as goal
+use Rattle.do_packet.proofs.Copying.{copies_are, copies_many}
 
 pub returns-clause-least : goal.returns-clause-least
 returns-clause-least c = copies_are

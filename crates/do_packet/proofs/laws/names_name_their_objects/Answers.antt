@@ -1,5 +1,5 @@
-use Rattle.do_packet.proofs.Named.{names_are}
 use Rattle.do_packet.proofs.laws.names_name_their_objects.Goals as goal
+use Rattle.do_packet.proofs.Named.{names_are}
 
 pub returns : goal.returns
 returns c = names_are

@@ -1,8 +1,7 @@
-use Rattle.std.specs.Prelude.{[]}
-use Rattle.std.specs.List.{flat_map}
+use Rattle.do_packet.proofs.laws.objects_stand_once.Goals as goal
+use Rattle.std.specs.{Prelude.[], List.flat_map}
 use Rattle.do_packet.specs.Copies.{contents, copied_at, named_at}
 use Rattle.do_packet.proofs.Once.{met_once, none_once}
-use Rattle.do_packet.proofs.laws.objects_stand_once.Goals as goal
 
 pub returns-clause-copied : goal.returns-clause-copied
 returns-clause-copied c s values copies =

@@ -1,7 +1,6 @@
-use Rattle.do_packet.specs.Copies.{copies_of}
-use Rattle.do_packet.proofs.Covers.{are_placed}
-use Rattle.do_packet.proofs.RoundTrip.{closed_returns, open_returns}
 use Rattle.do_packet.proofs.laws.values_return.Goals as goal
+use Rattle.do_packet.specs.Copies.{copies_of}
+use Rattle.do_packet.proofs.{Covers.are_placed, RoundTrip.{closed_returns, open_returns}}
 
 pub returns-clause-same : goal.returns-clause-same
 returns-clause-same c = λ s token values p r es hs e home many le lh te th.

@@ -1,16 +1,12 @@
-use Rattle.std.proofs.Common.{◌≡◌, ◌+◌, ◌<◌, ◌≤◌, ◌∙◌, inr, List, subst, sym, ap}
-use Rattle.std.proofs.Common.{take, length, arith, ◌++◌, [], ◌∷◌, get_or}
-use Rattle.std.specs.List.{All, zip}
+use Rattle.do_packet.proofs.packing.pack.Goals as goal
+use Rattle.std.proofs.Common.{◌≡◌, ◌+◌, ◌<◌, ◌≤◌, ◌∙◌, inr, List, subst, sym, ap, take, length}
+use Rattle.std.{proofs.Common.{arith, ◌++◌, [], ◌∷◌, get_or}, specs.List.{All, zip}}
 use Rattle.std.proofs.lemmas.Grind.{common_steps}
 use Rattle.do_base.specs.names.Names.{ObjectName}
-use Rattle.do_packet.specs.Copies.{most_copies}
-use Rattle.do_packet.specs.Packing.{capped}
-use Rattle.do_packet.specs.Seen.{sender}
+use Rattle.do_packet.specs.{Copies.most_copies, Packing.capped, Seen.sender}
 use Rattle.do_packet.proofs.Classes.{HasClass, copies_have, names_have}
 use Rattle.do_packet.proofs.Following.{followed_next, followed_start, packed_fits, packed_heavy}
-use Rattle.do_packet.proofs.Following.{packed_many, weights_zip}
-use Rattle.do_packet.proofs.Keeping.{packed_keeps}
-use Rattle.do_packet.proofs.packing.pack.Goals as goal
+use Rattle.do_packet.proofs.{Following.{packed_many, weights_zip}, Keeping.packed_keeps}
 
 pub loop-k-init : goal.loop-k-init
 loop-k-init g c =

@@ -1,8 +1,6 @@
-use Rattle.std.proofs.Common.{◌-◌}
-use Rattle.std.specs.List.{zip}
-use Rattle.do_packet.specs.Seen.{sender}
-use Rattle.do_packet.specs.walk.Following.{Followed}
 use Rattle.do_packet.proofs.packing.pack.Given as goal
+use Rattle.std.{proofs.Common.◌-◌, specs.List.zip}
+use Rattle.do_packet.specs.{Seen.sender, walk.Following.Followed}
 
 abbrev pub invariant-loop-k : goal.invariant-loop-k
 invariant-loop-k g l =

@@ -1,6 +1,5 @@
-use Rattle.std.proofs.Common.{◌≡◌, ◌+◌, ◌++◌, [], ◌∷◌, take, arith}
-use Rattle.std.proofs.lemmas.Grind.{common_steps}
 use Rattle.do_packet.proofs.unpacking.+part_value.Goals as goal
+use Rattle.std.proofs.{Common.{◌≡◌, ◌+◌, ◌++◌, [], ◌∷◌, take, arith}, lemmas.Grind.common_steps}
 
 pub part_values-loop-part-preserved : goal.part_values-loop-part-preserved
 part_values-loop-part-preserved t c =

@@ -1,6 +1,6 @@
+use Rattle.do_packet.proofs.unpacking.+part_value.Given as goal
 use Rattle.std.proofs.Common.{◌≡◌, map, take}
 use Rattle.do_packet.specs.Unpacking.{value_of}
-use Rattle.do_packet.proofs.unpacking.+part_value.Given as goal
 
 abbrev pub invariant-part_values-loop-part : goal.invariant-part_values-loop-part
 invariant-part_values-loop-part l =

@@ -1,6 +1,6 @@
+use Rattle.do_packet.proofs.unpacking.made.Given as goal
 use Rattle.std.proofs.Common.{◌≡◌, map, take}
 use Rattle.do_packet.specs.Unpacking.{made_of}
-use Rattle.do_packet.proofs.unpacking.made.Given as goal
 
 abbrev pub invariant-loop-copied : goal.invariant-loop-copied
 invariant-loop-copied l =

@@ -1,11 +1,8 @@
-use Rattle.std.proofs.Common.{◌≡◌, Bool, ◌∙◌, take, map, arith, ap, sym, length, false}
-use Rattle.std.proofs.Common.{slice_index_or, ◌<◌, get_or}
-use Rattle.std.specs.List.{zip}
-use Rattle.std.proofs.lemmas.Grind.{common_steps}
-use Rattle.std.proofs.lemmas.Slice.Zip.{length-zip, get_or-zip}
-use Rattle.do_packet.specs.Unpacking.{looked_value}
-use Rattle.do_packet.proofs.Following.{zip_next, zip_whole}
 use Rattle.do_packet.proofs.unpacking.name_meanings.Goals as goal
+use Rattle.std.proofs.Common.{◌≡◌, Bool, ◌∙◌, take, map, arith, ap, sym, length, false}
+use Rattle.std.{proofs.Common.{slice_index_or, ◌<◌, get_or}, specs.List.zip}
+use Rattle.std.proofs.lemmas.{Grind.common_steps, Slice.Zip.{length-zip, get_or-zip}}
+use Rattle.do_packet.{specs.Unpacking.looked_value, proofs.Following.{zip_next, zip_whole}}
 
 -- equal parts make equal pairs
 pair : {a b c d : Bool} → a ≡ b → c ≡ d → ◌≡◌ {A = Bool × Bool} (a, c) (b, d)

@@ -1,8 +1,7 @@
 //! Objects created, and the root.
 ghost use Rattle.std.specs.Prelude.{◌≡◌, ◌<◌, ◌≤◌, ◌+◌, ◌∷◌, []};
 ghost use Rattle.do_machine.specs.run.Fresh.{with_objects};
-ghost use Rattle.do_part.specs.Names.{values_of, sizes_of};
-ghost use Rattle.do_part.specs.Names.{AreStored};
+ghost use Rattle.do_part.specs.Names.{values_of, sizes_of, AreStored};
 
 use crate::part::Part;
 use crate::tally::Tally;

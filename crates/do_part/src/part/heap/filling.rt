@@ -2,8 +2,7 @@
 ghost use Rattle.std.specs.Prelude.{◌≡◌, ◌<◌, ◌≤◌, ◌+◌, ◌^◌, IfOk, OnOk, OnErr, length, map};
 ghost use Rattle.std.specs.Prelude.{replicate};
 ghost use Rattle.do_base.specs.declared.values.value.Value.TheVariants.{Nil};
-ghost use Rattle.do_machine.specs.run.Changes.{with_slots};
-ghost use Rattle.do_machine.specs.run.Fresh.{with_objects};
+ghost use Rattle.do_machine.specs.run.{Changes.with_slots, Fresh.with_objects};
 ghost use Rattle.do_part.specs.Filled.{blank_of, filled, made_values, writes_from};
 ghost use Rattle.do_part.specs.Names.{values_of, sizes_of, AreStored};
 

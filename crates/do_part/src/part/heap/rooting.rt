@@ -1,7 +1,6 @@
 //! The root of a part.
 ghost use Rattle.std.specs.Prelude.{◌≡◌, ◌+◌, ◌<◌, ◌≤◌};
-ghost use Rattle.do_part.specs.Rooting.{root_of};
-ghost use Rattle.do_part.specs.Names.{AreStored};
+ghost use Rattle.do_part.specs.{Rooting.root_of, Names.AreStored};
 
 use crate::part::Part;
 use crate::tally::Tally;

@@ -1,9 +1,8 @@
 //! Slots of own objects, written.
 ghost use Rattle.std.specs.Prelude.{◌≡◌, ◌≤◌, ◌+◌, ◌∷◌, []};
 ghost use Rattle.do_machine.specs.run.Changes.{with_slots};
-ghost use Rattle.do_part.specs.Names.{value_of, values_of, size_of, sizes_of};
+ghost use Rattle.do_part.specs.Names.{value_of, values_of, size_of, sizes_of, AreStored};
 ghost use Rattle.do_part.specs.Changed.{written_values};
-ghost use Rattle.do_part.specs.Names.{AreStored};
 
 use crate::part::Part;
 use crate::tally::Tally;

@@ -1,17 +1,12 @@
 //! The end of a peer: all that a part has with it.
-ghost use Rattle.std.specs.Prelude.{◌≡◌, ◌≤◌, ◌+◌, ◌++◌, ◌∷◌, [], ◌==◌, not, true, filter, length};
-ghost use Rattle.std.specs.Prelude.{ℕ, vec_len};
-ghost use Rattle.std.specs.Prelude.{map as each, MatchOption, vec_capacity};
 ghost use Rattle.std.specs.FinMap as map;
+ghost use Rattle.std.specs.Prelude.{◌≡◌, ◌≤◌, ◌+◌, ◌++◌, ◌∷◌, [], ◌==◌, not, true, filter, length};
+ghost use Rattle.std.specs.Prelude.{ℕ, vec_len, map as each, MatchOption, vec_capacity};
 ghost use Rattle.do_export.specs.Counts.{others_of, HasNoneFrom, IsLowestFrom};
-ghost use Rattle.do_machine.specs.Effect.{only};
-ghost use Rattle.do_machine.specs.State.{is_open};
-ghost use Rattle.do_machine.specs.declared.node.Wanted.{Wanted};
-ghost use Rattle.do_machine.specs.ends.Closing.{asked_of, parted};
-ghost use Rattle.do_machine.specs.lend.Asking.{without_wanted};
+ghost use Rattle.do_machine.specs.{Effect.only, State.is_open, declared.node.Wanted.Wanted};
+ghost use Rattle.do_machine.specs.{ends.Closing.{asked_of, parted}, lend.Asking.without_wanted};
 ghost use Rattle.do_network.specs.Counting.{counted, of_known};
-ghost use Rattle.do_part.specs.Rooting.{held_of};
-ghost use Rattle.do_part.specs.Parting.{without_asks, without_links};
+ghost use Rattle.do_part.specs.{Rooting.held_of, Parting.{without_asks, without_links}};
 
 use crate::part::Part;
 use do_base::{NodeId, Token};

@@ -1,7 +1,7 @@
 //! Entries: the own objects that peers may use.
-ghost use Rattle.std.specs.Prelude.{◌≡◌, ◌+◌, ◌<◌, ◌≤◌, true, IsSome, Some, None};
-ghost use Rattle.std.specs.Prelude.{MatchResult, if◌then◌else◌};
 ghost use Rattle.std.specs.FinMap as map;
+ghost use Rattle.std.specs.Prelude.{◌≡◌, ◌+◌, ◌<◌, ◌≤◌, true, IsSome, Some, None, MatchResult};
+ghost use Rattle.std.specs.Prelude.{if◌then◌else◌};
 ghost use Rattle.do_export.specs.Counts.{count_of, raised, lowered};
 ghost use Rattle.do_machine.specs.State.{is_open, stored};
 

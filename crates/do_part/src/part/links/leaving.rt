@@ -2,9 +2,7 @@
 ghost use Rattle.std.specs.Prelude.{◌≡◌, ◌+◌, ◌≤◌, [], length, OnOk, map as each, vec_capacity};
 ghost use Rattle.do_leaving.specs.Left.{free_shown};
 ghost use Rattle.do_machine.specs.held.Leaving.{leaving};
-ghost use Rattle.do_network.specs.Counting.{counted};
-ghost use Rattle.do_network.specs.Own.{is_counted};
-ghost use Rattle.do_network.specs.Frames.{all_posted};
+ghost use Rattle.do_network.specs.{Counting.counted, Own.is_counted, Frames.all_posted};
 ghost use Rattle.do_part.specs.Left.{given_up};
 
 use crate::part::Part;

@@ -1,11 +1,9 @@
 //! What a part tells of its lends and asks.
-ghost use Rattle.std.specs.Prelude.{◌≡◌, ◌++◌, length, map as each, IfOk};
-ghost use Rattle.std.specs.List.{list_any};
 ghost use Rattle.std.specs.FinMap as map;
+ghost use Rattle.std.specs.{Prelude.{◌≡◌, ◌++◌, length, map as each, IfOk}, List.list_any};
 ghost use Rattle.do_base.specs.names.Names.{ObjectName};
 ghost use Rattle.do_packet.specs.Met.{has_object};
-ghost use Rattle.do_machine.specs.State.{is_known};
-ghost use Rattle.do_machine.specs.lend.Asking.{same_wanted, wanted};
+ghost use Rattle.do_machine.specs.{State.is_known, lend.Asking.{same_wanted, wanted}};
 ghost use Rattle.do_machine.specs.lend.Lending.{is_lend};
 
 use crate::part::Part;

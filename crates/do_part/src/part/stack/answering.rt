@@ -1,15 +1,11 @@
 //! Answers: to calls that invocations wait for, and to the top invocation.
-ghost use Rattle.std.specs.Prelude.{◌≡◌, ◌<◌, ◌≤◌, ◌+◌};
-ghost use Rattle.std.specs.Bool.{beq};
-ghost use Rattle.do_machine.specs.Lists.{some_passes};
-ghost use Rattle.do_machine.specs.held.Refers.{answer_values};
-ghost use Rattle.do_machine.specs.run.Changes.{answered};
-ghost use Rattle.do_machine.specs.run.Fresh.{with_stack};
+ghost use Rattle.std.specs.{Prelude.{◌≡◌, ◌<◌, ◌≤◌, ◌+◌}, Bool.beq};
+ghost use Rattle.do_machine.specs.{Lists.some_passes, held.Refers.answer_values};
+ghost use Rattle.do_machine.specs.run.{Changes.answered, Fresh.with_stack};
 ghost use Rattle.do_machine.specs.take.Awaiting.{is_for_root, stack_answered};
 ghost use Rattle.do_stack.specs.Answered.{answer_taken, top_answer, values_taken};
 ghost use Rattle.do_stack.specs.Waiting.{waiting, with_top};
-ghost use Rattle.do_part.specs.Answers.{answered_with};
-ghost use Rattle.do_part.specs.Names.{values_of, sizes_of, AreStored};
+ghost use Rattle.do_part.specs.{Answers.answered_with, Names.{values_of, sizes_of, AreStored}};
 
 use super::standing::set_answer;
 use crate::part::Part;

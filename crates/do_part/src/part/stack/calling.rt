@@ -2,8 +2,7 @@
 ghost use Rattle.std.specs.Prelude.{◌≡◌, ◌-◌, ◌+◌, ◌<◌, ◌≤◌, ◌^◌, [], length, Some, slice_get};
 ghost use Rattle.do_behave.specs.declared.invocation.Invocation.{Invocation};
 ghost use Rattle.do_behave.specs.declared.invocation.InvState.TheVariants.{Below, Waits};
-ghost use Rattle.do_machine.specs.held.Refers.{state_values};
-ghost use Rattle.do_machine.specs.run.Changes.{stands, uses_number};
+ghost use Rattle.do_machine.specs.{held.Refers.state_values, run.Changes.{stands, uses_number}};
 ghost use Rattle.do_machine.specs.run.Fresh.{with_stack};
 ghost use Rattle.do_stack.specs.Waiting.{with_top};
 

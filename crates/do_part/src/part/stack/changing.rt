@@ -3,10 +3,8 @@ ghost use Rattle.std.specs.Prelude.{◌≡◌, ◌<◌, ◌≤◌, ◌+◌, ◌�
 ghost use Rattle.do_behave.specs.Changes.{IsFitting, with_set};
 ghost use Rattle.do_behave.specs.declared.change.Change.TheVariants.{Goto, Local};
 ghost use Rattle.do_behave.specs.declared.invocation.Invocation.{Invocation};
-ghost use Rattle.do_machine.specs.run.Changes.{steps_to};
-ghost use Rattle.do_machine.specs.run.Fresh.{with_stack};
-ghost use Rattle.do_stack.specs.Exchange.{given, takes_memory};
-ghost use Rattle.do_stack.specs.Waiting.{with_top};
+ghost use Rattle.do_machine.specs.run.{Changes.steps_to, Fresh.with_stack};
+ghost use Rattle.do_stack.specs.{Exchange.{given, takes_memory}, Waiting.with_top};
 ghost use Rattle.do_part.specs.Changed.{set_values, top_turned};
 ghost use Rattle.do_part.specs.Names.{values_of, sizes_of, AreStored};
 

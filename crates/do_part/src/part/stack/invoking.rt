@@ -1,10 +1,8 @@
 //! Invocations that begin and end.
 ghost use Rattle.std.specs.Prelude.{◌≡◌, ◌<◌, ◌≤◌, ◌+◌, ◌∷◌, [], length, MatchOption, false};
-ghost use Rattle.do_machine.specs.run.Fresh.{pushed, with_stack};
-ghost use Rattle.do_machine.specs.take.Take.{is_waiting};
+ghost use Rattle.do_machine.specs.{run.Fresh.{pushed, with_stack}, take.Take.is_waiting};
 ghost use Rattle.do_stack.specs.Uses.{invocation_values};
-ghost use Rattle.do_part.specs.Names.{values_of, sizes_of};
-ghost use Rattle.do_part.specs.Names.{AreStored};
+ghost use Rattle.do_part.specs.Names.{values_of, sizes_of, AreStored};
 
 use crate::part::Part;
 use crate::tally::Tally;

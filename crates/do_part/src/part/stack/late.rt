@@ -1,9 +1,7 @@
 //! Calls that are given up, with a peer or alone, and their late answers.
 ghost use Rattle.std.specs.Prelude.{◌≡◌, ◌<◌, ◌≤◌, ◌+◌, ◌==◌, Some, IsSome, map, filter, not};
 ghost use Rattle.std.specs.List.{list_any};
-ghost use Rattle.do_machine.specs.Effect.{only};
-ghost use Rattle.do_machine.specs.ends.Closing.{without_answer};
-ghost use Rattle.do_machine.specs.ends.TimeOut.{time_out};
+ghost use Rattle.do_machine.specs.{Effect.only, ends.{Closing.without_answer, TimeOut.time_out}};
 ghost use Rattle.do_machine.specs.take.Awaiting.{is_answered, late_answered};
 
 use crate::part::Part;

@@ -1,14 +1,11 @@
 //! An item appended to a list of the top invocation.
 ghost use Rattle.std.specs.Prelude.{◌≡◌, ◌<◌, ◌≤◌, ◌+◌, [], ◌∷◌, ◌++◌, Some, length, slice_get};
-ghost use Rattle.std.specs.Prelude.{IsSomeAnd, OnOk, OnErr, List as Listed};
-ghost use Rattle.std.specs.Option.{option_copied};
+ghost use Rattle.std.specs.{Prelude.{IsSomeAnd, OnOk, OnErr, List as Listed}, Option.option_copied};
 ghost use Rattle.do_base.specs.declared.values.value.Value.{Value, List};
-ghost use Rattle.do_behave.specs.LongerList.{FitsIn};
-ghost use Rattle.do_behave.specs.Steps.{local};
+ghost use Rattle.do_behave.specs.{LongerList.FitsIn, Steps.local};
 ghost use Rattle.do_behave.specs.declared.change.Change.TheVariants.{Push};
 ghost use Rattle.do_behave.specs.declared.invocation.Invocation.{Invocation};
-ghost use Rattle.do_part.specs.Changed.{changed};
-ghost use Rattle.do_part.specs.Names.{value_of, size_of, AreStored};
+ghost use Rattle.do_part.specs.{Changed.changed, Names.{value_of, size_of, AreStored}};
 
 use crate::part::Part;
 use crate::tally::Tally;

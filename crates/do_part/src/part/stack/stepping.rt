@@ -1,15 +1,13 @@
 //! Changes of the top invocation that are steps, with their writes of slots.
 ghost use Rattle.std.specs.Prelude.{◌≡◌, ◌<◌, ◌≤◌, ◌+◌, [], ◌∷◌, length, false, Some, slice_get};
 ghost use Rattle.std.specs.Prelude.{None, OnOk, OnErr, IsOk};
-ghost use Rattle.do_behave.specs.Changes.{IsFitting};
-ghost use Rattle.do_behave.specs.declared.invocation.Invocation.{Invocation};
+ghost use Rattle.do_behave.specs.{Changes.IsFitting, declared.invocation.Invocation.Invocation};
 ghost use Rattle.do_behave.specs.declared.act.Act.TheVariants.{Step};
 ghost use Rattle.do_behave.specs.declared.change.Change.TheVariants.{Other, Slot, Slots};
 ghost use Rattle.do_stack.specs.Exchange.{given};
 ghost use Rattle.do_part.specs.Changed.{written_values, change_writes, changed, act_left_on};
 ghost use Rattle.do_part.specs.Changed.{set_values, is_push};
-ghost use Rattle.do_part.specs.Names.{value_of, values_of, size_of, sizes_of};
-ghost use Rattle.do_part.specs.Names.{AreStored};
+ghost use Rattle.do_part.specs.Names.{value_of, values_of, size_of, sizes_of, AreStored};
 
 use crate::part::Part;
 use do_base::{Items, Value};

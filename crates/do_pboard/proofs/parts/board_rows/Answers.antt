@@ -1,8 +1,7 @@
-use Rattle.std.proofs.Common.{◌++◌, [], ◌∷◌, ap, sym, ◌∙◌, add-one, take}
-use Rattle.do_table.specs.Entries.{entry_shown}
-use Rattle.do_table.specs.laws.TableLaws.{take_one}
-use Rattle.do_pboard.specs.Core.{NamedBoard}
 use Rattle.do_pboard.proofs.parts.board_rows.Goals as goal
+use Rattle.std.proofs.Common.{◌++◌, [], ◌∷◌, ap, sym, ◌∙◌, add-one, take}
+use Rattle.do_table.specs.{Entries.entry_shown, laws.TableLaws.take_one}
+use Rattle.do_pboard.specs.Core.{NamedBoard}
 
 pub loop-at-preserved : goal.loop-at-preserved
 loop-at-preserved c =

@@ -1,6 +1,6 @@
+use Rattle.do_pboard.proofs.types.add_all.Given as goal
 use Rattle.std.proofs.Common.{◌≡◌, drop, take, length}
 use Rattle.do_pboard.specs.Changes.{with_types}
-use Rattle.do_pboard.proofs.types.add_all.Given as goal
 
 abbrev pub invariant-loop-kind : goal.invariant-loop-kind
 invariant-loop-kind l =

@@ -1,8 +1,7 @@
+use Rattle.do_pboard.proofs.types.contents_of.Goals as goal
 use Rattle.std.proofs.Common.{◌++◌, [], ap, ◌∙◌}
 use Rattle.do_table.specs.Entries.{entry_shown}
-use Rattle.do_pboard.specs.Core.{with_content}
-use Rattle.do_pboard.proofs.MergedRows.{contents_more}
-use Rattle.do_pboard.proofs.types.contents_of.Goals as goal
+use Rattle.do_pboard.{specs.Core.with_content, proofs.MergedRows.contents_more}
 
 pub loop-at-preserved : goal.loop-at-preserved
 loop-at-preserved c =

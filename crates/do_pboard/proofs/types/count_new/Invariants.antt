@@ -1,6 +1,6 @@
+use Rattle.do_pboard.proofs.types.count_new.Given as goal
 use Rattle.std.proofs.Common.{◌≡◌, ◌+◌, ◌≤◌, drop}
 use Rattle.do_pboard.specs.Changes.{count_new}
-use Rattle.do_pboard.proofs.types.count_new.Given as goal
 
 abbrev pub invariant-loop-kind : goal.invariant-loop-kind
 invariant-loop-kind l =

@@ -1,12 +1,9 @@
-use Rattle.std.proofs.Common.{◌≡◌, ◌+◌, ◌∙◌, ap, length, arith}
-use Rattle.std.proofs.lemmas.Grind.{common_steps}
-use Rattle.do_native_acts.specs.Types.{are_types}
-use Rattle.do_pboard.specs.Changes.{count_new, with_types}
-use Rattle.do_pboard.specs.Core.{bare}
-use Rattle.do_pboard.specs.laws.SlotsExact.{declared_parts}
-use Rattle.do_pboard.proofs.TypesAdded.{keys_bare}
-use Rattle.do_pboard.proofs.TypesLater.{length_joined}
 use Rattle.do_pboard.proofs.types.has_room.Goals as goal
+use Rattle.std.proofs.{Common.{◌≡◌, ◌+◌, ◌∙◌, ap, length, arith}, lemmas.Grind.common_steps}
+use Rattle.do_native_acts.specs.Types.{are_types}
+use Rattle.do_pboard.specs.{Changes.{count_new, with_types}, Core.bare}
+use Rattle.do_pboard.specs.laws.SlotsExact.{declared_parts}
+use Rattle.do_pboard.proofs.{TypesAdded.keys_bare, TypesLater.length_joined}
 
 pub returns : goal.returns
 returns c =

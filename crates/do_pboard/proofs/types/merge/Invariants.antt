@@ -1,7 +1,6 @@
-use Rattle.std.proofs.Common.{◌≡◌, ◌++◌, ◌≤◌, drop, length}
-use Rattle.std.specs.Option.{option_map}
-use Rattle.do_pboard.specs.Core.{merged}
 use Rattle.do_pboard.proofs.types.merge.Given as goal
+use Rattle.std.{proofs.Common.{◌≡◌, ◌++◌, ◌≤◌, drop, length}, specs.Option.option_map}
+use Rattle.do_pboard.specs.Core.{merged}
 
 abbrev pub invariant-loop-of : goal.invariant-loop-of
 invariant-loop-of l =

@@ -1,5 +1,5 @@
-use Rattle.do_plain.proofs.Texts.{transcript_stays}
 use Rattle.do_plain.proofs.laws.machines_write_plain_lines.Goals as goal
+use Rattle.do_plain.proofs.Texts.{transcript_stays}
 
 -- a whole transcript is left
 pub returns : goal.returns

@@ -1,5 +1,5 @@
-use Rattle.do_plain.proofs.Worlds.{builtin_has, text_has}
 use Rattle.do_plain.proofs.laws.worlds_have_names.Goals as goal
+use Rattle.do_plain.proofs.Worlds.{builtin_has, text_has}
 
 -- by the text of a world
 pub returns-clause-text : goal.returns-clause-text

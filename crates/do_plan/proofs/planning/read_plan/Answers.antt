@@ -1,7 +1,6 @@
-use Rattle.do_plan.specs.Plan.{plan_form, plan_at}
-use Rattle.do_plan.proofs.OneAnswer.{accepted, refused}
-use Rattle.do_plan.proofs.PlanExact.{plans_read}
 use Rattle.do_plan.proofs.planning.read_plan.Goals as goal
+use Rattle.do_plan.specs.Plan.{plan_form, plan_at}
+use Rattle.do_plan.proofs.{OneAnswer.{accepted, refused}, PlanExact.plans_read}
 
 pub returns-clause-exact : goal.returns-clause-exact
 returns-clause-exact c = c.lines_of.ensures plans_read

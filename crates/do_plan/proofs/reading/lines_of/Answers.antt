@@ -1,10 +1,10 @@
+use Rattle.do_plan.proofs.reading.lines_of.Goals as goal
 use Rattle.std.proofs.Common.{◌+◌, ◌≤◌, length, List, sym, subst, ◌∙◌, arith, rules}
 use Rattle.std.proofs.lemmas.List.{length-append}
 use Rattle.do_grammar.specs.Lines.{cut}
 use Rattle.do_plan.specs.Form.{Opens}
 use Rattle.do_plan.proofs.LinesSoFar.{starts_missing, bad_first, end_missing, ends_well, bad_early}
 use Rattle.do_plan.proofs.LinesSoFar.{bad_behind, bad_between, too_many, goes_on}
-use Rattle.do_plan.proofs.reading.lines_of.Goals as goal
 
 pub returns-in_default : goal.returns-in_default
 returns-in_default g c =

@@ -1,9 +1,8 @@
 -- The text begins with the lines so far, if the form's lines are read.
+use Rattle.do_plan.proofs.reading.lines_of.Given as goal
 use Rattle.std.proofs.Common.{◌≡◌, ◌+◌, ◌≤◌, length}
 use Rattle.do_grammar.specs.Lines.{cut}
-use Rattle.do_plan.specs.Form.{Opens}
-use Rattle.do_plan.specs.Reading.{Reads}
-use Rattle.do_plan.proofs.reading.lines_of.Given as goal
+use Rattle.do_plan.specs.{Form.Opens, Reading.Reads}
 
 abbrev pub invariant-lines : goal.invariant-lines
 invariant-lines g l = record {

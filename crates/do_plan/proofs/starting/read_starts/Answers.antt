@@ -1,7 +1,6 @@
-use Rattle.do_plan.specs.Starts.{starts_form, start_at}
-use Rattle.do_plan.proofs.OneAnswer.{accepted, refused}
-use Rattle.do_plan.proofs.StartsExact.{starts_read}
 use Rattle.do_plan.proofs.starting.read_starts.Goals as goal
+use Rattle.do_plan.specs.Starts.{starts_form, start_at}
+use Rattle.do_plan.proofs.{OneAnswer.{accepted, refused}, StartsExact.starts_read}
 
 pub returns-clause-exact : goal.returns-clause-exact
 returns-clause-exact c = c.lines_of.ensures starts_read

@@ -1,7 +1,7 @@
+use Rattle.do_pool.proofs.Cells.new.Goals as goal
 use Rattle.std.proofs.Common.{◌≡◌, ◌-◌, refl, ap, arith, count_by, is_some}
 use Rattle.slab.specs.Slab.{get, slab_len}
 use Rattle.do_pool.proofs.EmptyQueues.{sound-new, queues-new}
-use Rattle.do_pool.proofs.Cells.new.Goals as goal
 
 pub invariant_of-result : goal.invariant_of-result
 invariant_of-result g c =

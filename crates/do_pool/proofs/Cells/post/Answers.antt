@@ -1,10 +1,9 @@
+use Rattle.do_pool.proofs.Cells.post.Goals as goal
 use Rattle.std.proofs.Common.{ap, arith}
 use Rattle.slab.specs.Slab.{get, slab_len}
 use Rattle.do_pool.specs.Lines.{items_of}
-use Rattle.do_pool.proofs.PostLast.{Posting, Linking, sound-first, items-first}
-use Rattle.do_pool.proofs.Regions.{length-queues}
-use Rattle.do_pool.proofs.PostLast.{last_key, len_below, sound-more, items-more}
-use Rattle.do_pool.proofs.Cells.post.Goals as goal
+use Rattle.do_pool.proofs.PostLast.{Posting, Linking, sound-first, items-first, last_key, len_below}
+use Rattle.do_pool.proofs.{PostLast.{sound-more, items-more}, Regions.length-queues}
 
 pub invariant_of-self : goal.invariant_of-self
 invariant_of-self g c =

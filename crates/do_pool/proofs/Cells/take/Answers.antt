@@ -1,12 +1,9 @@
-use Rattle.std.proofs.Common.{Some}
-use Rattle.std.proofs.Common.{ap, ◌∙◌, arith}
+use Rattle.do_pool.proofs.Cells.take.Goals as goal
+use Rattle.std.proofs.Common.{Some, ap, ◌∙◌, arith}
 use Rattle.slab.specs.Slab.{get}
 use Rattle.do_pool.specs.Lines.{items_of}
-use Rattle.do_pool.proofs.Regions.{found_key}
-use Rattle.do_pool.proofs.TakeFirst.{first_found, Taking, line_behind, sound-taken}
-use Rattle.do_pool.proofs.Regions.{slice_get-map, length-queues}
-use Rattle.do_pool.proofs.TakeFirst.{items-taken, front-taken}
-use Rattle.do_pool.proofs.Cells.take.Goals as goal
+use Rattle.do_pool.proofs.{Regions.{found_key, slice_get-map, length-queues}, TakeFirst.first_found}
+use Rattle.do_pool.proofs.TakeFirst.{Taking, line_behind, sound-taken, items-taken, front-taken}
 
 pub remove-item-requires : goal.remove-item-requires
 remove-item-requires g c =

@@ -1,6 +1,5 @@
-use Rattle.std.proofs.lemmas.Bool.{MatchBool-at_true}
-use Rattle.std.proofs.lemmas.List.Sorted.{non_decreasing_from_is_sorted}
 use Rattle.do_ported.proofs.ports.do_rise.Goals as goal
+use Rattle.std.proofs.lemmas.{Bool.MatchBool-at_true, List.Sorted.non_decreasing_from_is_sorted}
 
 pub returns : goal.returns
 returns c = λ yes.

@@ -1,8 +1,7 @@
-use Rattle.std.proofs.Common.{rules, ltb, subst, sym}
-use Rattle.std.specs.List.Sorted.{IsNonDecreasingBy}
+use Rattle.do_ported.proofs.rising.end_of_lower.Goals as goal
+use Rattle.std.{proofs.Common.{rules, ltb, subst, sym}, specs.List.Sorted.IsNonDecreasingBy}
 use Rattle.std.proofs.lemmas.List.Sorted.{IsPartitionPoint-from_clause, IsPartitionedBy-ltb}
 use Rattle.do_ported.specs.Rising.{IsHalved}
-use Rattle.do_ported.proofs.rising.end_of_lower.Goals as goal
 
 pub returns : goal.returns
 returns g c =

@@ -1,7 +1,7 @@
+use Rattle.do_ported.proofs.rising.place_of.Goals as goal
 use Rattle.std.proofs.Common.{rules, ◌≡◌, ◌==◌, ◌∙◌, Some, None, true, false, subst}
 use Rattle.std.specs.Prelude.{slice_get}
 use Rattle.do_ported.proofs.ByHalves.{first_there, none_there}
-use Rattle.do_ported.proofs.rising.place_of.Goals as goal
 
 -- no element stands there
 pub returns-in_err-item-clause-index : goal.returns-in_err-item-clause-index

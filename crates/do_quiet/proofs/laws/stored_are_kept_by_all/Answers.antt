@@ -1,8 +1,7 @@
-use Rattle.do_facts.specs.Reached.{reached}
-use Rattle.do_quiet.proofs.NodesKeep.{reached_nodes_keep}
-use Rattle.do_quiet.proofs.QuietStates.{quiet_lends_nothing}
-use Rattle.do_quiet.proofs.StoredKept.{stored_kept_by_all}
 use Rattle.do_quiet.proofs.laws.stored_are_kept_by_all.Goals as goal
+use Rattle.do_facts.specs.Reached.{reached}
+use Rattle.do_quiet.proofs.{NodesKeep.reached_nodes_keep, QuietStates.quiet_lends_nothing}
+use Rattle.do_quiet.proofs.StoredKept.{stored_kept_by_all}
 
 pub returns : goal.returns
 returns c table act seats events ends waits =

@@ -1,10 +1,8 @@
-use Rattle.std.proofs.Common.{◌≡◌, Ok, sym, subst, ◌∙◌}
-use Rattle.do_record.specs.Grammar.{TellsRecord}
-use Rattle.do_record.specs.Recorded.{record_of}
-use Rattle.do_record.proofs.records.GoodRecords.{one_answer}
-use Rattle.do_record.proofs.records.RecordsGiven.{fault_given, record_given}
-use Rattle.do_record.proofs.records.RecordsTold.{record_tells}
 use Rattle.do_record.proofs.laws.readings_are_exact.Goals as goal
+use Rattle.std.proofs.Common.{◌≡◌, Ok, sym, subst, ◌∙◌}
+use Rattle.do_record.specs.{Grammar.TellsRecord, Recorded.record_of}
+use Rattle.do_record.proofs.records.{GoodRecords.one_answer, RecordsGiven.fault_given}
+use Rattle.do_record.proofs.records.{RecordsGiven.record_given, RecordsTold.record_tells}
 
 pub returns-clause-records : goal.returns-clause-records
 returns-clause-records c = λ bytes r. (

@@ -1,5 +1,5 @@
-use Rattle.do_record.proofs.records.Showing.{shown_added}
 use Rattle.do_record.proofs.reading.add_shown.Goals as goal
+use Rattle.do_record.proofs.records.Showing.{shown_added}
 
 pub returns : goal.returns
 returns c = shown_added c.args.line.now c.args.blocks.now c.pop.new.self c.push-2.new.self

@@ -1,7 +1,6 @@
-use Rattle.std.proofs.Common.{◌∙◌, ◌+◌, sym}
-use Rattle.do_record.specs.Recorded.{record_of}
-use Rattle.do_record.proofs.records.Showing.{behind_end}
 use Rattle.do_record.proofs.reading.record_in.Goals as goal
+use Rattle.std.proofs.Common.{◌∙◌, ◌+◌, sym}
+use Rattle.do_record.{specs.Recorded.record_of, proofs.records.Showing.behind_end}
 
 pub returns-in-End : goal.returns-in-End
 returns-in-End c =

@@ -1,7 +1,7 @@
+use Rattle.do_record.proofs.reading.record_in.Given as goal
 use Rattle.std.proofs.Common.{◌≡◌, ◌+◌, ◌≤◌, length}
 use Rattle.do_grammar.specs.Lines.{cut}
 use Rattle.do_record.specs.Recorded.{read_lines, record_of}
-use Rattle.do_record.proofs.reading.record_in.Given as goal
 
 abbrev pub invariant-loop-text : goal.invariant-loop-text
 invariant-loop-text l = record {

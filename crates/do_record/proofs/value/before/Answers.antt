@@ -1,5 +1,5 @@
-use Rattle.std.proofs.Common.{arith, ap, length, length-append}
 use Rattle.do_record.proofs.value.before.Goals as goal
+use Rattle.std.proofs.Common.{arith, ap, length, length-append}
 
 pub returns-clause-within : goal.returns-clause-within
 returns-clause-within c = omega (

@@ -1,6 +1,6 @@
+use Rattle.do_record.proofs.value.is_value.Goals as goal
 use Rattle.std.proofs.Common.{◌≡◌, ◌∙◌, ◌+◌, ◌-◌, ◌<◌, ℕ, suc, sym, arith, length}
 use Rattle.do_record.proofs.values.Walking.{walks_none, walks_some}
-use Rattle.do_record.proofs.value.is_value.Goals as goal
 
 -- what is left before a token is one more than behind it
 one_less : (all done : ℕ) → done < all → all - done ≡ suc (all - (done + 1))

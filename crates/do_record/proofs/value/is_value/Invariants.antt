@@ -1,6 +1,6 @@
+use Rattle.do_record.proofs.value.is_value.Given as goal
 use Rattle.std.proofs.Common.{◌≡◌, ◌-◌, length, true}
 use Rattle.do_record.specs.Value.{walks}
-use Rattle.do_record.proofs.value.is_value.Given as goal
 
 abbrev pub invariant-loop-token : goal.invariant-loop-token
 invariant-loop-token l =

@@ -1,9 +1,7 @@
-use Rattle.do_record.proofs.records.RecordsGiven.{record_given}
-use Rattle.do_recorded.proofs.Read.{reads_back}
-use Rattle.do_recorded.proofs.Served.{serves}
-use Rattle.do_serve.specs.Hosting.{site_rules}
-use Rattle.do_serve.specs.Serving.{serve_from}
 use Rattle.do_recorded.proofs.laws.served_records_are_read.Goals as goal
+use Rattle.do_record.proofs.records.RecordsGiven.{record_given}
+use Rattle.do_recorded.proofs.{Read.reads_back, Served.serves}
+use Rattle.do_serve.specs.{Hosting.site_rules, Serving.serve_from}
 
 pub returns : goal.returns
 returns c port turns s told at_port server =

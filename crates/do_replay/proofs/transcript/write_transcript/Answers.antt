@@ -1,14 +1,12 @@
-use Rattle.std.proofs.Common.{◌≡◌, [], ap, sym, ◌∙◌, rules}
-use Rattle.std.specs.Vec.Iter.{into_iter_items}
+use Rattle.do_replay.proofs.transcript.write_transcript.Goals as goal
+use Rattle.std.{proofs.Common.{◌≡◌, [], ap, sym, ◌∙◌, rules}, specs.Vec.Iter.into_iter_items}
 use Rattle.std.proofs.lemmas.List.{nil_from_length}
 use Rattle.do_net.specs.Net.{network}
 use Rattle.do_replay.proofs.AsOneMachine.{begun_as_one, more_as_one, whole_as_one, written_as_one}
-use Rattle.do_replay.proofs.BlocksToCome.{ahead_start, ahead_end}
-use Rattle.do_replay.proofs.LineDone.{line_done}
+use Rattle.do_replay.proofs.{BlocksToCome.{ahead_start, ahead_end}, LineDone.line_done}
 use Rattle.do_replay.proofs.LinesAsOne.{led_as_one}
 use Rattle.do_replay.proofs.SpelledSoFar.{led_by_all, spelled_all, spelled_first}
 use Rattle.do_output.proofs.SentIsPrefix.{ahead_sent, ahead_prefix, ahead_part, ahead_whole}
-use Rattle.do_replay.proofs.transcript.write_transcript.Goals as goal
 
 pub loop-line-init : goal.loop-line-init
 loop-line-init g c =

@@ -1,14 +1,12 @@
 -- What was sent, what waits and what the lines that are left come to make up the transcript; in the
 -- lines that were done all that was sent has a spelling; the network stands, and nothing that was
 -- sent is left.
-use Rattle.std.proofs.Common.{◌≡◌, ◌≤◌, []}
-use Rattle.std.specs.Vec.Iter.{into_iter_items}
+use Rattle.do_replay.proofs.transcript.write_transcript.Given as goal
+use Rattle.std.{proofs.Common.{◌≡◌, ◌≤◌, []}, specs.Vec.Iter.into_iter_items}
 use Rattle.do_net.specs.Net.{Stands, network}
 use Rattle.do_output.proofs.SentIsPrefix.{IsAhead}
 use Rattle.do_replay.specs.Replayed.{wired_from}
-use Rattle.do_replay.proofs.BlocksToCome.{rest_from}
-use Rattle.do_replay.proofs.SpelledSoFar.{SpelledSoFar}
-use Rattle.do_replay.proofs.transcript.write_transcript.Given as goal
+use Rattle.do_replay.proofs.{BlocksToCome.rest_from, SpelledSoFar.SpelledSoFar}
 
 abbrev pub invariant-loop-line : goal.invariant-loop-line
 invariant-loop-line g l =

@@ -1,8 +1,7 @@
 -- The digits of the bytes that are left come behind those that were added.
-use Rattle.std.proofs.Common.{◌≡◌, ◌++◌, length}
-use Rattle.std.specs.List.{flat_map}
-use Rattle.do_network.specs.Wired.{hex_byte}
 use Rattle.do_replay.proofs.wires.push_fours.Given as goal
+use Rattle.std.{proofs.Common.{◌≡◌, ◌++◌, length}, specs.List.flat_map}
+use Rattle.do_network.specs.Wired.{hex_byte}
 
 abbrev pub invariant-loop-rest : goal.invariant-loop-rest
 invariant-loop-rest l = record {

@@ -1,6 +1,5 @@
-use Rattle.std.proofs.Common.{◌≡◌, take, true}
-use Rattle.std.specs.List.{list_all}
 use Rattle.do_rules.proofs.lists.all.Given as goal
+use Rattle.std.{proofs.Common.{◌≡◌, take, true}, specs.List.list_all}
 
 abbrev pub invariant-loop-item : goal.invariant-loop-item
 invariant-loop-item g l =

@@ -1,6 +1,5 @@
-use Rattle.std.proofs.Common.{◌≡◌, take, false}
-use Rattle.std.specs.List.{list_any}
 use Rattle.do_rules.proofs.lists.has.Given as goal
+use Rattle.std.{proofs.Common.{◌≡◌, take, false}, specs.List.list_any}
 
 abbrev pub invariant-loop-item : goal.invariant-loop-item
 invariant-loop-item g l =

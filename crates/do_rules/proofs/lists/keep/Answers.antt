@@ -1,7 +1,6 @@
 -- What is kept are the items that pass.
-use Rattle.std.proofs.Common.{◌∙◌, ap, filter, rules}
-use Rattle.std.proofs.lemmas.Fn.{filter_same}
 use Rattle.do_rules.proofs.lists.keep.Goals as goal
+use Rattle.std.proofs.{Common.{◌∙◌, ap, filter, rules}, lemmas.Fn.filter_same}
 
 pub returns : goal.returns
 returns g c =

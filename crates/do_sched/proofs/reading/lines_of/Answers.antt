@@ -1,13 +1,10 @@
+use Rattle.do_sched.proofs.reading.lines_of.Goals as goal
 use Rattle.std.proofs.Common.{◌+◌, ◌≤◌, List, sym, subst, ◌∙◌, arith, rules}
-use Rattle.std.proofs.lemmas.List.{length-append}
-use Rattle.std.proofs.lemmas.List.Sums.{sum_by-append}
+use Rattle.std.proofs.lemmas.List.{length-append, Sums.sum_by-append}
 use Rattle.do_grammar.specs.Lines.{cut}
-use Rattle.do_sched.specs.declared.line.Line.{Line}
-use Rattle.do_sched.specs.Spelling.{steps, steps_of}
-use Rattle.do_sched.specs.Schedule.{Opens}
+use Rattle.do_sched.specs.{declared.line.Line.Line, Spelling.{steps, steps_of}, Schedule.Opens}
 use Rattle.do_sched.proofs.LinesSoFar.{starts_missing, bad_first, opened, end_missing, ends_well}
 use Rattle.do_sched.proofs.LinesSoFar.{bad_behind, bad_between, too_many, goes_on}
-use Rattle.do_sched.proofs.reading.lines_of.Goals as goal
 
 pub returns-in_default : goal.returns-in_default
 returns-in_default c = starts_missing c.args.version c.args.bytes.now c.in_default.ensures.line

@@ -1,8 +1,7 @@
+use Rattle.do_sched.proofs.reading.lines_of.Given as goal
 use Rattle.std.proofs.Common.{◌≡◌, ◌+◌, ◌≤◌, length}
 use Rattle.do_grammar.specs.Lines.{cut}
-use Rattle.do_sched.specs.Spelling.{steps_of}
-use Rattle.do_sched.specs.Schedule.{Opens}
-use Rattle.do_sched.proofs.reading.lines_of.Given as goal
+use Rattle.do_sched.specs.{Spelling.steps_of, Schedule.Opens}
 
 abbrev pub invariant-lines : goal.invariant-lines
 invariant-lines l = record {

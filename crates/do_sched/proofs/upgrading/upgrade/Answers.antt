@@ -1,6 +1,6 @@
+use Rattle.do_sched.proofs.upgrading.upgrade.Goals as goal
 use Rattle.do_sched.proofs.Upgraded.{fault_not_accepted, upgrade_refused, upgrades}
 use Rattle.do_sched.proofs.Upgraded.{fault_not_upgraded}
-use Rattle.do_sched.proofs.upgrading.upgrade.Goals as goal
 
 pub returns-in-Err-clause-accepts : goal.returns-in-Err-clause-accepts
 returns-in-Err-clause-accepts c =

@@ -1,8 +1,7 @@
+use Rattle.do_sched.proofs.words.values_of.Goals as goal
 use Rattle.std.proofs.Common.{sym, ap, ◌∙◌}
 use Rattle.do_grammar.specs.Quoted.{front_view}
-use Rattle.do_sched.specs.Reading.{values_at}
-use Rattle.do_sched.proofs.ValuesLoop.{value_turn}
-use Rattle.do_sched.proofs.words.values_of.Goals as goal
+use Rattle.do_sched.{specs.Reading.values_at, proofs.ValuesLoop.value_turn}
 
 pub loop-i-preserved : goal.loop-i-preserved
 loop-i-preserved c =

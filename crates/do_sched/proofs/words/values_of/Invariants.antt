@@ -1,7 +1,6 @@
-use Rattle.std.proofs.Common.{◌≡◌, ◌-◌}
-use Rattle.do_sched.specs.Reading.{values_at}
-use Rattle.do_sched.proofs.ValuesLoop.{with_front}
 use Rattle.do_sched.proofs.words.values_of.Given as goal
+use Rattle.std.proofs.Common.{◌≡◌, ◌-◌}
+use Rattle.do_sched.{specs.Reading.values_at, proofs.ValuesLoop.with_front}
 
 abbrev pub invariant-loop-i : goal.invariant-loop-i
 invariant-loop-i l =

@@ -1,7 +1,6 @@
-use Rattle.do_script.specs.Assembly.{scope}
-use Rattle.do_script.specs.Program.{program}
-use Rattle.do_script.proofs.FirstFault.{accepted_result, refused_result}
 use Rattle.do_script.proofs.assembler.assemble.Goals as goal
+use Rattle.do_script.specs.{Assembly.scope, Program.program}
+use Rattle.do_script.proofs.FirstFault.{accepted_result, refused_result}
 
 pub returns-clause-accepted : goal.returns-clause-accepted
 returns-clause-accepted c =

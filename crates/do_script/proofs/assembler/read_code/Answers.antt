@@ -1,9 +1,7 @@
-use Rattle.std.proofs.Common.{rules, subst}
-use Rattle.do_script.specs.Operands.{Scope}
-use Rattle.do_script.specs.Program.{program}
-use Rattle.do_script.specs.Assembly.{IsCode}
-use Rattle.do_script.proofs.LabelsSoFar.{places_within, scope_same}
 use Rattle.do_script.proofs.assembler.read_code.Goals as goal
+use Rattle.std.proofs.Common.{rules, subst}
+use Rattle.do_script.specs.{Operands.Scope, Program.program, Assembly.IsCode}
+use Rattle.do_script.proofs.LabelsSoFar.{places_within, scope_same}
 
 pub read_lines-requires : goal.read_lines-requires
 read_lines-requires c =

@@ -1,15 +1,12 @@
+use Rattle.do_script.proofs.assembler.read_lines.Goals as goal
 use Rattle.std.proofs.Common.{◌≡◌, ◌+◌, List, Ok, Err, length, sym, subst, arith, rules}
 use Rattle.std.specs.Option.{option_to_list}
-use Rattle.do_script.specs.declared.instruction.Instruction.{Instruction}
-use Rattle.do_script.specs.Labels.{scope_in, IsInScope}
-use Rattle.do_script.specs.Words.{words}
-use Rattle.do_script.specs.Program.{program, statement_of, made}
-use Rattle.do_script.proofs.LabelsSoFar.{program_cut, program_none}
-use Rattle.do_script.proofs.LinesRead.{Reached, reached_more, reached_fault, reached_end}
-use Rattle.do_script.proofs.LinesRead.{All-option_to_list}
+use Rattle.do_script.specs.{declared.instruction.Instruction.Instruction, Labels.scope_in}
+use Rattle.do_script.specs.{Labels.IsInScope, Words.words, Program.{program, statement_of, made}}
+use Rattle.do_script.proofs.{LabelsSoFar.{program_cut, program_none}, LinesRead.Reached}
+use Rattle.do_script.proofs.LinesRead.{reached_more, reached_fault, reached_end, All-option_to_list}
 use Rattle.do_script.specs.Fault.{Reads}
 use Rattle.std.proofs.lemmas.List.Elements.{All-append}
-use Rattle.do_script.proofs.assembler.read_lines.Goals as goal
 
 pub returns-in-Err-clause-fault : goal.returns-in-Err-clause-fault
 returns-in-Err-clause-fault c =

@@ -1,8 +1,7 @@
-use Rattle.std.proofs.Common.{◌+◌, ◌≤◌, length, All}
-use Rattle.do_script.specs.Labels.{scope_in, IsInScope}
-use Rattle.do_script.specs.Program.{program}
-use Rattle.do_script.proofs.LinesRead.{Reached}
 use Rattle.do_script.proofs.assembler.read_lines.Given as goal
+use Rattle.std.proofs.Common.{◌+◌, ◌≤◌, length, All}
+use Rattle.do_script.specs.{Labels.{scope_in, IsInScope}, Program.program}
+use Rattle.do_script.proofs.LinesRead.{Reached}
 
 abbrev pub invariant-loop-line : goal.invariant-loop-line
 invariant-loop-line l = record {

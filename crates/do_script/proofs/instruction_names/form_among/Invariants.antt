@@ -1,7 +1,6 @@
-use Rattle.std.proofs.Common.{◌≡◌, drop}
-use Rattle.std.specs.Prelude.{map}
-use Rattle.do_script.specs.InstructionNames.{form_in}
 use Rattle.do_script.proofs.instruction_names.form_among.Given as goal
+use Rattle.std.{proofs.Common.{◌≡◌, drop}, specs.Prelude.map}
+use Rattle.do_script.specs.InstructionNames.{form_in}
 
 abbrev pub invariant-loop-word : goal.invariant-loop-word
 invariant-loop-word l =

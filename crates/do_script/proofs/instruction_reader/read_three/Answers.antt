@@ -1,6 +1,6 @@
+use Rattle.do_script.proofs.instruction_reader.read_three.Goals as goal
 use Rattle.std.proofs.Common.{rules}
 use Rattle.do_script.specs.Operands.{instruction}
-use Rattle.do_script.proofs.instruction_reader.read_three.Goals as goal
 
 pub returns : goal.returns
 unfolding instruction

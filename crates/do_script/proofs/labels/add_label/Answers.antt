@@ -1,9 +1,7 @@
-use Rattle.std.proofs.Common.{◌≡◌, None, arith}
-use Rattle.std.proofs.lemmas.Grind.{common_steps}
-use Rattle.std.proofs.lemmas.Map.Text.{btree_map_updates_str}
-use Rattle.do_script.specs.Labels.{label_in}
-use Rattle.do_script.proofs.LabelsSoFar.{added}
 use Rattle.do_script.proofs.labels.add_label.Goals as goal
+use Rattle.std.proofs.{Common.{◌≡◌, None, arith}, lemmas.Grind.common_steps}
+use Rattle.std.proofs.lemmas.Map.Text.{btree_map_updates_str}
+use Rattle.do_script.{specs.Labels.label_in, proofs.LabelsSoFar.added}
 
 pub returns-in_ok-insert-clause-labels : goal.returns-in_ok-insert-clause-labels
 returns-in_ok-insert-clause-labels c =

@@ -1,8 +1,6 @@
-use Rattle.std.proofs.Common.{◌≡◌, ◌+◌, ◌≤◌, ℕ, List, length}
-use Rattle.std.specs.Option.{option_or}
-use Rattle.do_script.specs.Labels.{label_in}
-use Rattle.do_script.specs.Program.{program, label_from, size}
 use Rattle.do_script.proofs.labels.labels_of.Given as goal
+use Rattle.std.{proofs.Common.{◌≡◌, ◌+◌, ◌≤◌, ℕ, List, length}, specs.Option.option_or}
+use Rattle.do_script.specs.{Labels.label_in, Program.{program, label_from, size}}
 
 abbrev pub invariant-loop-line : goal.invariant-loop-line
 invariant-loop-line l = record {

@@ -1,8 +1,6 @@
-use Rattle.std.proofs.Common.{◌≡◌, ◌<◌, ◌+◌, ◌++◌, length, All, Ok}
-use Rattle.do_script.specs.Fault.{◌>>=◌}
-use Rattle.do_script.specs.Words.{words}
-use Rattle.do_script.specs.Operands.{locals}
 use Rattle.do_script.proofs.operands.locals_of.Given as goal
+use Rattle.std.proofs.Common.{◌≡◌, ◌<◌, ◌+◌, ◌++◌, length, All, Ok}
+use Rattle.do_script.specs.{Fault.◌>>=◌, Words.words, Operands.locals}
 
 abbrev pub invariant-loop-word : goal.invariant-loop-word
 invariant-loop-word l =

@@ -1,6 +1,6 @@
+use Rattle.do_script.proofs.operands.place_among.Given as goal
 use Rattle.std.proofs.Common.{◌≡◌, drop}
 use Rattle.do_script.specs.Operands.{place_from}
-use Rattle.do_script.proofs.operands.place_among.Given as goal
 
 abbrev pub invariant-loop-place : goal.invariant-loop-place
 invariant-loop-place l =

@@ -1,7 +1,7 @@
+use Rattle.do_script.proofs.operands.text_of.Goals as goal
 use Rattle.std.proofs.Common.{◌∙◌, ap, sym}
 use Rattle.do_grammar.specs.Quoted.{front_view}
 use Rattle.do_script.proofs.Texts.{quoted_short}
-use Rattle.do_script.proofs.operands.text_of.Goals as goal
 
 pub returns-in-Some-clause-short : goal.returns-in-Some-clause-short
 returns-in-Some-clause-short c =

@@ -1,6 +1,6 @@
+use Rattle.do_script.proofs.words.count_words.Given as goal
 use Rattle.std.proofs.Common.{◌≡◌, ◌+◌, ◌≤◌, length}
 use Rattle.do_script.specs.Words.{words}
-use Rattle.do_script.proofs.words.count_words.Given as goal
 
 abbrev pub invariant-loop-more : goal.invariant-loop-more
 invariant-loop-more l = (l.count + length (words l.rest) ≡ length (words l.line))

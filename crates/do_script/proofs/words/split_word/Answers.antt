@@ -1,8 +1,6 @@
-use Rattle.std.proofs.Common.{arith, ◌≡◌, None}
-use Rattle.std.proofs.lemmas.Grind.{common_steps}
-use Rattle.do_script.specs.Words.{first_word}
-use Rattle.do_script.proofs.FirstWord.{words_none, words_some}
 use Rattle.do_script.proofs.words.split_word.Goals as goal
+use Rattle.std.proofs.{Common.{arith, ◌≡◌, None}, lemmas.Grind.common_steps}
+use Rattle.do_script.{specs.Words.first_word, proofs.FirstWord.{words_none, words_some}}
 
 pub returns-then-is_empty-clause-words : goal.returns-then-is_empty-clause-words
 unfolding first_word

@@ -1,6 +1,6 @@
+use Rattle.do_serve.proofs.serving.serve.Goals as goal
 use Rattle.std.proofs.Common.{refl, inr}
 use Rattle.do_output.proofs.ToldMore.{tells_both}
-use Rattle.do_serve.proofs.serving.serve.Goals as goal
 
 -- the line `end` was used
 pub returns-in-Ok-true-clause-tells : goal.returns-in-Ok-true-clause-tells

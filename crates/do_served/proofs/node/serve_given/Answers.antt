@@ -1,10 +1,9 @@
+use Rattle.do_served.proofs.node.serve_given.Goals as goal
 use Rattle.std.proofs.Common.{refl}
 use Rattle.do_given.specs.Serving.{GivesServed, RefusesServed}
 use Rattle.do_output.proofs.ToldMore.{tells_none}
-use Rattle.do_served.specs.Nodes.{Seens}
-use Rattle.do_served.proofs.Comings.{comes_ended, comes_stopped}
+use Rattle.do_served.{specs.Nodes.Seens, proofs.Comings.{comes_ended, comes_stopped}}
 use Rattle.do_served.proofs.Refused.{served_ended, served_refused}
-use Rattle.do_served.proofs.node.serve_given.Goals as goal
 
 pub returns-in-Err-clause-serves : goal.returns-in-Err-clause-serves
 returns-in-Err-clause-serves g c =

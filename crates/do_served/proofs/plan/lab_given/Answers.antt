@@ -1,10 +1,10 @@
+use Rattle.do_served.proofs.plan.lab_given.Goals as goal
 use Rattle.std.proofs.Common.{inr, refl}
 use Rattle.do_plan.specs.Plan.{plan_form}
 use Rattle.do_given.specs.Serving.{SaysNoText, SaysPlan}
 use Rattle.do_output.proofs.ToldMore.{tells_none}
 use Rattle.do_served.proofs.Comings.{comes_ended, comes_stopped}
 use Rattle.do_served.proofs.Refused.{plan_ended, text_refused}
-use Rattle.do_served.proofs.plan.lab_given.Goals as goal
 
 pub returns-in-Err-clause-runs : goal.returns-in-Err-clause-runs
 returns-in-Err-clause-runs g c =

@@ -1,12 +1,10 @@
+use Rattle.do_services.proofs.performing.unknown_item.Goals as goal
 use Rattle.std.proofs.Common.{◌≡◌, ◌∙◌, ◌∷◌, ◌++◌, [], List as Listed, ap, pos, subst}
 use Rattle.std.specs.Prelude.{codes}
-use Rattle.do_base.specs.declared.values.value.Value.{Value}
-use Rattle.do_base.specs.declared.values.value.Value.TheVariants.{Nil, Num, Text}
-use Rattle.do_behave.specs.Changes.{Means}
-use Rattle.do_behave.specs.declared.change.LocalSet.{LocalSet}
+use Rattle.do_base.specs.declared.values.value.Value.{Value, TheVariants.{Nil, Num, Text}}
+use Rattle.do_behave.specs.{Changes.Means, declared.change.LocalSet.LocalSet}
 use Rattle.do_native_acts.specs.Steps.{set}
 use Rattle.do_services.specs.Acts.{keeps_on}
-use Rattle.do_services.proofs.performing.unknown_item.Goals as goal
 
 -- the three locals are set one behind the other
 pub returns : goal.returns

@@ -1,10 +1,8 @@
-use Rattle.std.proofs.Common.{sym, ◌∙◌}
-use Rattle.std.proofs.lemmas.Result.{IfOk-weaker}
-use Rattle.do_native_acts.specs.Rows.{rows_in}
-use Rattle.do_services.specs.Core.{service_in}
-use Rattle.do_services.specs.laws.SlotsExact.{rows_good}
-use Rattle.do_services.proofs.CoreRead.{core_read}
 use Rattle.do_services.proofs.services.read_core.Goals as goal
+use Rattle.std.proofs.{Common.{sym, ◌∙◌}, lemmas.Result.IfOk-weaker}
+use Rattle.do_native_acts.specs.Rows.{rows_in}
+use Rattle.do_services.specs.{Core.service_in, laws.SlotsExact.rows_good}
+use Rattle.do_services.proofs.CoreRead.{core_read}
 
 -- services that are read and tested in turn are those that can be a core's
 pub returns : goal.returns

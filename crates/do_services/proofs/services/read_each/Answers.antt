@@ -1,9 +1,9 @@
+use Rattle.do_services.proofs.services.read_each.Goals as goal
 use Rattle.std.proofs.Common.{◌≡◌, Some, None, true, false, is_some, arith}
 use Rattle.std.proofs.lemmas.Grind.{common_steps}
 use Rattle.do_table.specs.Entries.{added, value_of}
 use Rattle.do_services.specs.Core.{service_in}
 use Rattle.do_services.proofs.ReadEach.{known_item, no_service, none_left, one_more}
-use Rattle.do_services.proofs.services.read_each.Goals as goal
 
 pub returns-in_default : goal.returns-in_default
 returns-in_default c =

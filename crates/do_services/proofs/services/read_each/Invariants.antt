@@ -1,6 +1,6 @@
+use Rattle.do_services.proofs.services.read_each.Given as goal
 use Rattle.std.proofs.Common.{◌≡◌, [], drop}
 use Rattle.do_services.proofs.ReadEach.{read_into}
-use Rattle.do_services.proofs.services.read_each.Given as goal
 
 abbrev pub invariant-loop-value : goal.invariant-loop-value
 invariant-loop-value l =

@@ -1,7 +1,7 @@
+use Rattle.do_sig.proofs.encoding.encoding_of.Goals as goal
 use Rattle.std.proofs.Common.{arith}
 use Rattle.do_grammar.proofs.faults.AnswerExact.{bytes_from_each}
 use Rattle.do_sig.proofs.EncodingPrinted.{encoding_lawful}
-use Rattle.do_sig.proofs.encoding.encoding_of.Goals as goal
 
 pub invariant_of-encoding : goal.invariant_of-encoding
 invariant_of-encoding c =

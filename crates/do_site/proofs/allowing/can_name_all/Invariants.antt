@@ -1,6 +1,6 @@
+use Rattle.do_site.proofs.allowing.can_name_all.Given as goal
 use Rattle.std.proofs.Common.{drop}
 use Rattle.do_effects.specs.Sends.{CanNameAll}
-use Rattle.do_site.proofs.allowing.can_name_all.Given as goal
 
 -- if the names that are left can be sent, all can
 abbrev pub invariant-loop-name : goal.invariant-loop-name

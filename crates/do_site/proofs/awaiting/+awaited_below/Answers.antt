@@ -1,7 +1,7 @@
+use Rattle.do_site.proofs.awaiting.+awaited_below.Goals as goal
 use Rattle.std.proofs.Common.{arith, ◌∙◌}
 use Rattle.do_rules.specs.Answering.{call_of}
 use Rattle.do_site.proofs.AwaitedBelow.{rest_awaits, top_awaits}
-use Rattle.do_site.proofs.awaiting.+awaited_below.Goals as goal
 
 pub returns-then-awaits : goal.returns-then-awaits
 returns-then-awaits t c =

@@ -1,10 +1,7 @@
-use Rattle.std.proofs.Common.{◌≡◌, ◌∙◌}
-use Rattle.std.specs.Prelude.{Err, IfOk, Ok}
-use Rattle.std.specs.List.{flat_map}
-use Rattle.do_network.specs.Snapshot.{entries_counted}
-use Rattle.do_site.specs.Listed.{entries_among}
-use Rattle.do_site.proofs.ListedSites.{all_listed}
 use Rattle.do_site.proofs.listing.entries.Goals as goal
+use Rattle.std.{proofs.Common.{◌≡◌, ◌∙◌}, specs.{Prelude.{Err, IfOk, Ok}, List.flat_map}}
+use Rattle.do_network.specs.Snapshot.{entries_counted}
+use Rattle.do_site.{specs.Listed.entries_among, proofs.ListedSites.all_listed}
 
 pub returns : goal.returns
 returns c =

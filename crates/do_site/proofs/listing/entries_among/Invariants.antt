@@ -1,8 +1,7 @@
 -- The entries of the peers so far.
-use Rattle.std.proofs.Common.{◌≡◌, take}
-use Rattle.std.specs.List.{flat_map}
-use Rattle.do_site.specs.Listed.{entries_among}
 use Rattle.do_site.proofs.listing.entries_among.Given as goal
+use Rattle.std.{proofs.Common.{◌≡◌, take}, specs.List.flat_map}
+use Rattle.do_site.specs.Listed.{entries_among}
 
 abbrev pub invariant-loop-peer : goal.invariant-loop-peer
 invariant-loop-peer l =

@@ -1,7 +1,5 @@
-use Rattle.std.proofs.Common.{arith}
-use Rattle.std.proofs.lemmas.Grind.{common_steps}
-use Rattle.std.proofs.lemmas.List.Elements.{filter_map-append}
 use Rattle.do_site.proofs.listing.lines_at.Goals as goal
+use Rattle.std.proofs.{Common.arith, lemmas.{Grind.common_steps, List.Elements.filter_map-append}}
 use Rattle.do_site.proofs.listing.lines_at.Goals.{in-Some+in_ok-push, in_default}
 
 pub loop-oid-preserved : goal.loop-oid-preserved

@@ -1,8 +1,7 @@
 -- The objects of the names so far.
-use Rattle.std.proofs.Common.{◌≡◌, take}
-use Rattle.std.specs.List.{filter_map}
-use Rattle.do_site.specs.Listed.{line_at}
 use Rattle.do_site.proofs.listing.lines_at.Given as goal
+use Rattle.std.{proofs.Common.{◌≡◌, take}, specs.List.filter_map}
+use Rattle.do_site.specs.Listed.{line_at}
 
 abbrev pub invariant-loop-oid : goal.invariant-loop-oid
 invariant-loop-oid l =

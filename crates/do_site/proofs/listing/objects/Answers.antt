@@ -1,10 +1,7 @@
-use Rattle.std.proofs.Common.{◌≡◌, ◌∙◌, ap, map}
-use Rattle.std.specs.Prelude.{Err, IfOk, Ok}
-use Rattle.std.specs.List.{filter_map}
-use Rattle.do_machine.specs.check.Snapshot.{object_line}
-use Rattle.do_site.specs.Listed.{line_at}
-use Rattle.do_site.proofs.ListedSites.{objects_listed}
 use Rattle.do_site.proofs.listing.objects.Goals as goal
+use Rattle.std.{proofs.Common.{◌≡◌, ◌∙◌, ap, map}, specs.{Prelude.{Err, IfOk, Ok}, List.filter_map}}
+use Rattle.do_machine.specs.check.Snapshot.{object_line}
+use Rattle.do_site.{specs.Listed.line_at, proofs.ListedSites.objects_listed}
 
 pub returns : goal.returns
 returns c =

@@ -1,7 +1,7 @@
 -- The entries of the names so far.
+use Rattle.do_site.proofs.listing.push_entries.Given as goal
 use Rattle.std.proofs.Common.{◌≡◌, ◌++◌, take}
 use Rattle.do_site.specs.Listed.{entries_among}
-use Rattle.do_site.proofs.listing.push_entries.Given as goal
 
 abbrev pub invariant-loop-oid : goal.invariant-loop-oid
 invariant-loop-oid l =

@@ -1,6 +1,6 @@
+use Rattle.do_site.proofs.opening.+are_distinct.Goals as goal
 use Rattle.std.proofs.Common.{sym}
 use Rattle.do_site.proofs.DistinctPorts.{more_distinct}
-use Rattle.do_site.proofs.opening.+are_distinct.Goals as goal
 
 pub returns-then-not-is_among : goal.returns-then-not-is_among
 returns-then-not-is_among t c = λ h.

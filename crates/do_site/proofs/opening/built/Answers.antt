@@ -1,11 +1,10 @@
+use Rattle.do_site.proofs.opening.built.Goals as goal
 use Rattle.std.proofs.Common.{◌≡◌, ◌∙◌, ap, false, subst, sym}
-use Rattle.do_machine.specs.State.{is_open}
-use Rattle.do_machine.specs.World.{opening_node}
+use Rattle.do_machine.specs.{State.is_open, World.opening_node}
 use Rattle.do_network.specs.Own.{Own}
 use Rattle.do_streams.specs.Streamed.{Streamed}
 use Rattle.do_effects.specs.Tidy.{IsTidy}
 use Rattle.do_site.proofs.OpenedSites.{opened_apart, opened_tidy}
-use Rattle.do_site.proofs.opening.built.Goals as goal
 
 pub returns-clause-kept : goal.returns-clause-kept
 returns-clause-kept c =

@@ -1,8 +1,7 @@
+use Rattle.do_site.proofs.opening.opening.Goals as goal
 use Rattle.std.proofs.Common.{◌∙◌, ap}
 use Rattle.do_effects.specs.Doing.{Doing}
-use Rattle.do_site.proofs.ActsDone.{same_kept}
-use Rattle.do_site.proofs.PlacesKept.{made_places}
-use Rattle.do_site.proofs.opening.opening.Goals as goal
+use Rattle.do_site.proofs.{ActsDone.same_kept, PlacesKept.made_places}
 
 -- making room leaves what the node has
 pub returns-clause-part : goal.returns-clause-part

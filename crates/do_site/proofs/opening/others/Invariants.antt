@@ -1,6 +1,6 @@
 -- The ports so far but the one.
-use Rattle.std.proofs.Common.{◌≡◌, filter, not, take, ◌==◌}
 use Rattle.do_site.proofs.opening.others.Given as goal
+use Rattle.std.proofs.Common.{◌≡◌, filter, not, take, ◌==◌}
 
 abbrev pub invariant-loop-peer : goal.invariant-loop-peer
 invariant-loop-peer l =

@@ -1,14 +1,11 @@
+use Rattle.do_site.proofs.opening.set_root.Goals as goal
 use Rattle.std.proofs.Common.{[], ◌∷◌, ◌∙◌, ap, subst, sym, ℕ}
-use Rattle.do_base.specs.names.Names.{ObjectName}
-use Rattle.do_base.specs.declared.values.value.Value.TheVariants.{Obj}
-use Rattle.do_machine.specs.Objects.{object_at}
-use Rattle.do_machine.specs.run.Fresh.{with_objects}
+use Rattle.do_base.specs.{names.Names.ObjectName, declared.values.value.Value.TheVariants.Obj}
+use Rattle.do_machine.specs.{Objects.object_at, run.Fresh.with_objects}
 use Rattle.do_network.specs.Own.{Own}
 use Rattle.do_packet.specs.declared.receipt.Made.{Made}
 use Rattle.do_part.specs.Names.{AreStored, value_of, values_of}
-use Rattle.do_site.proofs.OpenedSites.{root_stored}
-use Rattle.do_site.proofs.Stored.{there_stored}
-use Rattle.do_site.proofs.opening.set_root.Goals as goal
+use Rattle.do_site.proofs.{OpenedSites.root_stored, Stored.there_stored}
 
 pub create-oid-requires-clause-stored : goal.create-oid-requires-clause-stored
 create-oid-requires-clause-stored c =

@@ -1,8 +1,7 @@
+use Rattle.do_site.proofs.planning.beginning.Goals as goal
 use Rattle.std.proofs.Common.{ap}
 use Rattle.do_behave.specs.declared.invocation.Invocation.{Invocation}
-use Rattle.do_effects.specs.Plans.{plan_effect}
-use Rattle.do_effects.specs.declared.plan.Plan.TheVariants.{Begins}
-use Rattle.do_site.proofs.planning.beginning.Goals as goal
+use Rattle.do_effects.specs.{Plans.plan_effect, declared.plan.Plan.TheVariants.Begins}
 
 -- the invocation is that of the rules
 pub returns-in-Ok : goal.returns-in-Ok

@@ -1,8 +1,8 @@
+use Rattle.do_site.proofs.planning.delivering.Goals as goal
 use Rattle.std.proofs.Common.{ap, ◌∙◌}
 use Rattle.do_network.specs.Own.{site_context}
 use Rattle.do_rules.specs.Delivery.{delivered}
 use Rattle.do_site.proofs.PlansAlike.{delivered_is}
-use Rattle.do_site.proofs.planning.delivering.Goals as goal
 
 -- the delivery is that of the answer
 pub returns-clause-effect : goal.returns-clause-effect

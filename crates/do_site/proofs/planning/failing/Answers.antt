@@ -1,11 +1,10 @@
+use Rattle.do_site.proofs.planning.failing.Goals as goal
 use Rattle.std.proofs.Common.{ap, sym, ◌∙◌}
 use Rattle.do_base.specs.declared.values.value.Value.TheVariants.{Text}
 use Rattle.do_behave.specs.declared.invocation.Invocation.{Invocation}
-use Rattle.do_machine.specs.run.Delivery.{failing}
-use Rattle.do_machine.specs.run.Verdicts.{effect_of}
+use Rattle.do_machine.specs.run.{Delivery.failing, Verdicts.effect_of}
 use Rattle.do_machine.specs.declared.verdict.Verdict.TheVariants.{Goes}
 use Rattle.do_site.proofs.PlansKeep.{if_ok}
-use Rattle.do_site.proofs.planning.failing.Goals as goal
 
 -- with no handler the exception is an answer
 pub returns-in-None-clause-effect : goal.returns-in-None-clause-effect

@@ -1,10 +1,9 @@
+use Rattle.do_site.proofs.planning.making.Goals as goal
 use Rattle.std.proofs.Common.{List, ap, sym, ◌∙◌}
 use Rattle.do_class.specs.Class.{Class}
 use Rattle.do_packet.specs.declared.receipt.Made.{Made}
 use Rattle.do_machine.specs.run.Fresh.{blank}
-use Rattle.do_effects.specs.Plans.{plan_effect}
-use Rattle.do_effects.specs.declared.plan.Plan.TheVariants.{Makes}
-use Rattle.do_site.proofs.planning.making.Goals as goal
+use Rattle.do_effects.specs.{Plans.plan_effect, declared.plan.Plan.TheVariants.Makes}
 
 -- the slots are those that the rules give the object
 pub returns : goal.returns

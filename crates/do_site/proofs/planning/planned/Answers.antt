@@ -1,8 +1,7 @@
-use Rattle.std.proofs.Common.{ap, sym, ◌∙◌}
-use Rattle.do_machine.specs.Context.{Context}
-use Rattle.do_machine.specs.run.Verdicts.{effect_of}
-use Rattle.do_site.proofs.PlansKeep.{if_ok}
 use Rattle.do_site.proofs.planning.planned.Goals as goal
+use Rattle.std.proofs.Common.{ap, sym, ◌∙◌}
+use Rattle.do_machine.specs.{Context.Context, run.Verdicts.effect_of}
+use Rattle.do_site.proofs.PlansKeep.{if_ok}
 
 -- a plan of a value for a local is the verdict itself, and does what that does
 pub returns-in-Goes : goal.returns-in-Goes

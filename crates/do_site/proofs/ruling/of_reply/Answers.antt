@@ -1,10 +1,8 @@
-use Rattle.std.proofs.Common.{◌≡◌, ◌∙◌, true, ap, sym, arith}
-use Rattle.std.specs.List.{list_all}
-use Rattle.do_rules.specs.Ruling.{names_in}
-use Rattle.do_site.specs.Plans.{is_no_lend}
-use Rattle.do_site.specs.declared.needs.Needs.{Needs}
-use Rattle.do_site.proofs.RulingsAllowed.{lends_nothing}
 use Rattle.do_site.proofs.ruling.of_reply.Goals as goal
+use Rattle.std.{proofs.Common.{◌≡◌, ◌∙◌, true, ap, sym, arith}, specs.List.list_all}
+use Rattle.do_rules.specs.Ruling.{names_in}
+use Rattle.do_site.specs.{Plans.is_no_lend, declared.needs.Needs.Needs}
+use Rattle.do_site.proofs.RulingsAllowed.{lends_nothing}
 
 pub returns : goal.returns
 returns c =

@@ -1,11 +1,9 @@
-use Rattle.std.proofs.Common.{◌∙◌, ap, sym, subst}
-use Rattle.std.specs.Prelude.{IfSome}
+use Rattle.do_site.proofs.ruling.of_ruling.Goals as goal
+use Rattle.std.{proofs.Common.{◌∙◌, ap, sym, subst}, specs.Prelude.IfSome}
 use Rattle.do_rules.specs.declared.take.ruling.Ruling.{Ruling}
 use Rattle.do_rules.specs.declared.take.ruling.Ruling.TheVariants.{Answers, Begins, Refuses}
-use Rattle.do_site.specs.Plans.{AllowsItem}
-use Rattle.do_site.specs.declared.needs.Needs.{Needs}
+use Rattle.do_site.specs.{Plans.AllowsItem, declared.needs.Needs.Needs}
 use Rattle.do_site.proofs.RulingsAllowed.{refused_allowed, some_map}
-use Rattle.do_site.proofs.ruling.of_ruling.Goals as goal
 
 pub returns-in-Begins : goal.returns-in-Begins
 returns-in-Begins c =

@@ -1,7 +1,6 @@
-use Rattle.std.proofs.Common.{ap, subst, length}
-use Rattle.do_site.specs.Plans.{AllowsItem}
-use Rattle.do_site.proofs.RulingsAllowed.{with_line}
 use Rattle.do_site.proofs.ruling.ruling_allowed.Goals as goal
+use Rattle.std.proofs.Common.{ap, subst, length}
+use Rattle.do_site.{specs.Plans.AllowsItem, proofs.RulingsAllowed.with_line}
 
 pub returns : goal.returns
 returns c =

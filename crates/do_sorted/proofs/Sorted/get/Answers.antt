@@ -1,7 +1,6 @@
-use Rattle.std.proofs.Common.{sym, arith, ◌∙◌, ap}
-use Rattle.std.specs.Option.{option_copied}
-use Rattle.do_sorted.proofs.RowOrGap.{find_here, find_gap, row_there}
 use Rattle.do_sorted.proofs.Sorted.get.Goals as goal
+use Rattle.std.{proofs.Common.{sym, arith, ◌∙◌, ap}, specs.Option.option_copied}
+use Rattle.do_sorted.proofs.RowOrGap.{find_here, find_gap, row_there}
 
 -- a key that stands nowhere has no value
 pub returns-in_default : goal.returns-in_default

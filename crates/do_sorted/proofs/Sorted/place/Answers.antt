@@ -1,6 +1,6 @@
+use Rattle.do_sorted.proofs.Sorted.place.Goals as goal
 use Rattle.std.proofs.Common.{sym}
 use Rattle.do_sorted.proofs.RowOrGap.{first_from_row, first_from_gap}
-use Rattle.do_sorted.proofs.Sorted.place.Goals as goal
 
 -- the first row from a key on is the one at which it stands
 pub returns-in-Ok : goal.returns-in-Ok

@@ -1,11 +1,9 @@
+use Rattle.do_sorted.proofs.Sorted.put.Goals as goal
 use Rattle.std.proofs.Common.{arith, sym, ap, ◌∙◌, length, subst, T}
-use Rattle.std.specs.FinMap.{is_sorted}
-use Rattle.std.specs.FinMap.Entries.{is_sorted-put}
-use Rattle.std.proofs.lemmas.List.{length-set}
-use Rattle.std.proofs.lemmas.List.Edits.{length-insert}
+use Rattle.std.specs.FinMap.{is_sorted, Entries.is_sorted-put}
+use Rattle.std.proofs.lemmas.List.{length-set, Edits.length-insert}
 use Rattle.do_sorted.proofs.RowOrGap.{row_within, gap_within, find_here, find_gap, put_here}
 use Rattle.do_sorted.proofs.RowOrGap.{put_gap}
-use Rattle.do_sorted.proofs.Sorted.put.Goals as goal
 
 -- a row of a key that is there is within the rows
 pub set_value-requires : goal.set_value-requires

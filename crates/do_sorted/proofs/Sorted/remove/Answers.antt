@@ -1,7 +1,6 @@
-use Rattle.std.proofs.Common.{sym, ap, length, arith, ◌∙◌}
-use Rattle.std.proofs.lemmas.List.Edits.{length-remove}
-use Rattle.do_sorted.proofs.RowOrGap.{row_within, find_here, find_gap, without_row, without_gap}
 use Rattle.do_sorted.proofs.Sorted.remove.Goals as goal
+use Rattle.std.proofs.{Common.{sym, ap, length, arith, ◌∙◌}, lemmas.List.Edits.length-remove}
+use Rattle.do_sorted.proofs.RowOrGap.{row_within, find_here, find_gap, without_row, without_gap}
 
 -- a key that stands nowhere has no value
 pub returns-in_default-clause-before : goal.returns-in_default-clause-before

@@ -1,8 +1,7 @@
-use Rattle.std.proofs.Common.{sym, subst, T, ap, length, arith}
-use Rattle.std.specs.FinMap.{is_sorted}
+use Rattle.do_sorted.proofs.Sorted.remove_at.Goals as goal
+use Rattle.std.{proofs.Common.{sym, subst, T, ap, length, arith}, specs.FinMap.is_sorted}
 use Rattle.std.proofs.lemmas.List.Edits.{length-remove}
 use Rattle.do_sorted.proofs.SomeRows.{is_sorted-remove}
-use Rattle.do_sorted.proofs.Sorted.remove_at.Goals as goal
 
 -- without a row the keys rise as before, and its places are free
 pub invariant_of-self : goal.invariant_of-self

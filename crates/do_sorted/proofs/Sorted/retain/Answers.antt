@@ -1,11 +1,9 @@
+use Rattle.do_sorted.proofs.Sorted.retain.Goals as goal
 use Rattle.std.proofs.Common.{arith, sym, ap, ◌∙◌, length, refl, subst}
 use denote.Param.Always.{mut_next}
-use Rattle.std.specs.Option.{option_copied}
-use Rattle.std.specs.Fn.{CalledAt}
-use Rattle.std.proofs.lemmas.Option.{slice_get_within, slice_get_past}
-use Rattle.std.proofs.lemmas.List.Edits.{length-remove}
+use Rattle.std.specs.{Option.option_copied, Fn.CalledAt}
+use Rattle.std.proofs.lemmas.{Option.{slice_get_within, slice_get_past}, List.Edits.length-remove}
 use Rattle.do_sorted.proofs.Retained.{Retaining, passes, fails, ends}
-use Rattle.do_sorted.proofs.Sorted.retain.Goals as goal
 
 -- a row that passes the test stays, and is passed over
 pub loop-at-preserved-then-keep : goal.loop-at-preserved-then-keep

@@ -1,8 +1,8 @@
+use Rattle.do_sorted.proofs.Sorted.retain.Given as goal
 use Rattle.std.proofs.Common.{◌≡◌, ◌+◌, ◌-◌, ◌≤◌, length}
 use denote.Param.Always.{always_mut}
 use Rattle.std.specs.Fn.{CalledAt}
 use Rattle.do_sorted.proofs.Retained.{Retaining}
-use Rattle.do_sorted.proofs.Sorted.retain.Given as goal
 
 -- the rows up to the place were tested, those behind it stand as at first, and none of the room
 -- is lost

@@ -1,10 +1,8 @@
+use Rattle.do_sorted.proofs.Sorted.set.Goals as goal
 use Rattle.std.proofs.Common.{arith, sym, ap, ◌∙◌, length, subst, T, IsSome}
 use mathlib.Core.Bool.{false≢true}
-use Rattle.std.specs.FinMap.{is_sorted}
-use Rattle.std.specs.FinMap.Entries.{is_sorted-put}
-use Rattle.std.proofs.lemmas.List.{length-set}
+use Rattle.std.{specs.FinMap.{is_sorted, Entries.is_sorted-put}, proofs.lemmas.List.length-set}
 use Rattle.do_sorted.proofs.RowOrGap.{row_within, find_here, find_gap, put_here}
-use Rattle.do_sorted.proofs.Sorted.set.Goals as goal
 
 -- a key that is there stands in a row
 pub unreachable-requires : goal.unreachable-requires

@@ -1,8 +1,6 @@
-use Rattle.std.proofs.Common.{take}
-use Rattle.std.specs.List.{AllByRecursion}
-use Rattle.do_coder.specs.Names.{IsName}
-use Rattle.do_coder.specs.Packets.{surroundings, sides_of}
 use Rattle.do_spelled.proofs.name.have_names.Given as goal
+use Rattle.std.{proofs.Common.take, specs.List.AllByRecursion}
+use Rattle.do_coder.specs.{Names.IsName, Packets.{surroundings, sides_of}}
 
 abbrev pub invariant-loop-name : goal.invariant-loop-name
 invariant-loop-name l =

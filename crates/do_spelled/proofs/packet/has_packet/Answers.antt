@@ -1,6 +1,6 @@
+use Rattle.do_spelled.proofs.packet.has_packet.Goals as goal
 use Rattle.std.proofs.Common.{refl}
 use Rattle.do_spelled.proofs.Packets.{packet_fits}
-use Rattle.do_spelled.proofs.packet.has_packet.Goals as goal
 
 -- the lengths were tested, and then the items
 pub returns-then-is_small : goal.returns-then-is_small

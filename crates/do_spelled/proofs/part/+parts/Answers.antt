@@ -1,7 +1,7 @@
+use Rattle.do_spelled.proofs.part.+parts.Goals as goal
 use Rattle.std.proofs.Common.{subst, sym}
 use Rattle.do_coder.specs.Parts.{IsPart}
 use Rattle.do_spelled.proofs.Parts.{text_fits}
-use Rattle.do_spelled.proofs.part.+parts.Goals as goal
 
 -- a text was tested for its length
 pub has_part-returns-in-Text : goal.has_part-returns-in-Text

@@ -1,5 +1,5 @@
-use Rattle.do_stack.proofs.References.{counts_references}
 use Rattle.do_stack.proofs.law.uses_are_references.Goals as goal
+use Rattle.do_stack.proofs.References.{counts_references}
 
 -- uses are above 0 just where an invocation names the object
 pub returns : goal.returns

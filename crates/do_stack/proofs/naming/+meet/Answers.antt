@@ -1,11 +1,9 @@
-use Rattle.std.proofs.Common.{◌+◌, drop, sym, ap, ◌∙◌}
-use Rattle.std.specs.List.{flat_map}
+use Rattle.do_stack.proofs.naming.+meet.Goals as goal
+use Rattle.std.{proofs.Common.{◌+◌, drop, sym, ap, ◌∙◌}, specs.List.flat_map}
 use Rattle.std.proofs.lemmas.List.{drop_all}
 use Rattle.do_base.specs.values.Values.{objects_of}
 use Rattle.do_packet.specs.Met.{met}
-use Rattle.do_stack.proofs.UsesMove.{objects-list}
-use Rattle.do_stack.proofs.ObjectsOnce.{met_next}
-use Rattle.do_stack.proofs.naming.+meet.Goals as goal
+use Rattle.do_stack.proofs.{UsesMove.objects-list, ObjectsOnce.met_next}
 
 -- a list names what its values name
 pub meet_value-returns-in-List : goal.meet_value-returns-in-List

@@ -1,7 +1,7 @@
+use Rattle.do_stack.proofs.waits.fail_all.Goals as goal
 use Rattle.std.proofs.Common.{ap, arith, map, ◌∙◌}
 use Rattle.do_machine.specs.ends.Closing.{without_answer}
 use Rattle.do_stack.proofs.Answers.{all_failed}
-use Rattle.do_stack.proofs.waits.fail_all.Goals as goal
 
 -- all were passed, and those that waited for the peer have no answer any more
 pub returns : goal.returns

@@ -1,7 +1,7 @@
+use Rattle.do_stack.proofs.waits.fail_all.Given as goal
 use Rattle.std.proofs.Common.{◌≡◌, ℕ, ◌<◌, ◌≤◌, get_or, length}
 use Rattle.do_behave.specs.declared.invocation.Invocation.{Invocation}
 use Rattle.do_machine.specs.ends.Closing.{without_answer}
-use Rattle.do_stack.proofs.waits.fail_all.Given as goal
 
 -- the invocations so far have failed, and the others stand as before
 abbrev pub invariant-loop-inv : goal.invariant-loop-inv

@@ -1,10 +1,9 @@
-use Rattle.std.proofs.Common.{◌≡◌, ℕ, ap, sym, ◌∙◌}
-use Rattle.std.proofs.lemmas.List.{take_all}
+use Rattle.do_store.proofs.counting.+lower.Goals as goal
+use Rattle.std.proofs.{Common.{◌≡◌, ℕ, ap, sym, ◌∙◌}, lemmas.List.take_all}
 use Rattle.do_base.specs.names.Names.{ObjectName}
 use Rattle.do_store.specs.Names.{value_names, values_name}
 use Rattle.do_store.proofs.StepsInARow.{lowers-as, lowers-then, once}
 use Rattle.do_store.proofs.Valued.{names-own, names-List, names-more}
-use Rattle.do_store.proofs.counting.+lower.Goals as goal
 
 pub lower_value-returns-then-home-port : goal.lower_value-returns-then-home-port
 lower_value-returns-then-home-port t c =

@@ -1,7 +1,6 @@
-use Rattle.std.proofs.Common.{take}
-use Rattle.do_store.specs.Names.{values_name}
-use Rattle.do_store.specs.Steps.{Lowers}
 use Rattle.do_store.proofs.counting.+lower.Given as goal
+use Rattle.std.proofs.Common.{take}
+use Rattle.do_store.specs.{Names.values_name, Steps.Lowers}
 
 abbrev pub invariant-lower_values-loop-value : goal.invariant-lower_values-loop-value
 invariant-lower_values-loop-value l =

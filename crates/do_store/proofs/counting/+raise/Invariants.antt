@@ -1,7 +1,6 @@
-use Rattle.std.proofs.Common.{take}
-use Rattle.do_store.specs.Names.{values_name}
-use Rattle.do_store.specs.Steps.{Raises}
 use Rattle.do_store.proofs.counting.+raise.Given as goal
+use Rattle.std.proofs.Common.{take}
+use Rattle.do_store.specs.{Names.values_name, Steps.Raises}
 
 abbrev pub invariant-raise_values-loop-value : goal.invariant-raise_values-loop-value
 invariant-raise_values-loop-value l =

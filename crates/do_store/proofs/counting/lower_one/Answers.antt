@@ -1,12 +1,7 @@
-use Rattle.std.proofs.Common.{◌≡◌, true}
-use Rattle.std.proofs.Common.{[], ◌∷◌, Some}
-use Rattle.std.proofs.Common.{refl, arith, sym, ◌∙◌}
-use Rattle.do_store.specs.Objects.{stored_at}
-use Rattle.do_store.specs.Names.{Stored}
-use Rattle.do_store.proofs.Edits.{seen-edit, seen-same, split_at}
-use Rattle.do_store.proofs.Ledger.{wrote}
-use Rattle.do_store.proofs.StepsInARow.{once_same, once_other}
 use Rattle.do_store.proofs.counting.lower_one.Goals as goal
+use Rattle.std.proofs.Common.{◌≡◌, true, [], ◌∷◌, Some, refl, arith, sym, ◌∙◌}
+use Rattle.do_store.{specs.{Objects.stored_at, Names.Stored}, proofs.Edits.{seen-edit, seen-same}}
+use Rattle.do_store.proofs.{Edits.split_at, Ledger.wrote, StepsInARow.{once_same, once_other}}
 
 pub returns : goal.returns
 returns c =

@@ -1,11 +1,7 @@
-use Rattle.std.proofs.Common.{◌≡◌, ◌+◌}
-use Rattle.std.proofs.Common.{Some}
-use Rattle.std.proofs.Common.{refl, arith, sym}
-use Rattle.do_store.specs.Objects.{stored_at}
-use Rattle.do_store.proofs.Edits.{seen-same, split_at}
-use Rattle.do_store.proofs.Ledger.{books-kept, wrote}
-use Rattle.do_store.proofs.StepsInARow.{once_same, once_other}
 use Rattle.do_store.proofs.counting.raise_one.Goals as goal
+use Rattle.std.proofs.Common.{◌≡◌, ◌+◌, Some, refl, arith, sym}
+use Rattle.do_store.{specs.Objects.stored_at, proofs.Edits.{seen-same, split_at}}
+use Rattle.do_store.proofs.{Ledger.{books-kept, wrote}, StepsInARow.{once_same, once_other}}
 
 pub returns : goal.returns
 returns c =

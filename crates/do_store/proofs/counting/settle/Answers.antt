@@ -1,10 +1,7 @@
-use Rattle.std.proofs.Common.{◌≡◌, true, false}
-use Rattle.std.proofs.Common.{[], ◌∷◌}
-use Rattle.std.proofs.Common.{refl, arith, ◌∙◌, rules}
-use Rattle.do_store.specs.Names.{Stored}
-use Rattle.do_store.proofs.Edits.{seen-edit}
-use Rattle.do_store.proofs.Ledger.{books-kept, books-posted, room_to_wait, rests_when, wrote}
 use Rattle.do_store.proofs.counting.settle.Goals as goal
+use Rattle.std.proofs.Common.{◌≡◌, true, false, [], ◌∷◌, refl, arith, ◌∙◌, rules}
+use Rattle.do_store.{specs.Names.Stored, proofs.Edits.seen-edit}
+use Rattle.do_store.proofs.Ledger.{books-kept, books-posted, room_to_wait, rests_when, wrote}
 
 pub returns-then-not-idle-clause-books : goal.returns-then-not-idle-clause-books
 returns-then-not-idle-clause-books c = λ port top p p' o b rising stored same count others.

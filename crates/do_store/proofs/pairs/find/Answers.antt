@@ -1,10 +1,8 @@
-use Rattle.std.proofs.Common.{◌≡◌, Some}
-use Rattle.std.proofs.Common.{None, ap, sym}
-use Rattle.slab.specs.Slab.{get}
-use Rattle.do_store.specs.Listing.{live_in}
-use Rattle.do_store.specs.declared.object.Pair.{Pair}
-use Rattle.do_store.proofs.Listed.{absent-unpaired, absent-dead, live-other}
 use Rattle.do_store.proofs.pairs.find.Goals as goal
+use Rattle.std.proofs.Common.{◌≡◌, Some, None, ap, sym}
+use Rattle.slab.specs.Slab.{get}
+use Rattle.do_store.specs.{Listing.live_in, declared.object.Pair.Pair}
+use Rattle.do_store.proofs.Listed.{absent-unpaired, absent-dead, live-other}
 
 pub returns-in_err-key : goal.returns-in_err-key
 returns-in_err-key c = λ top rising.

@@ -1,12 +1,8 @@
-use Rattle.std.proofs.Common.{◌≡◌, ℕ, ◌+◌, ◌-◌, ◌/◌, ◌<◌, ◌≤◌, List}
-use Rattle.std.proofs.Common.{get_or, length, arith, ap, ◌∙◌, inl}
-use Rattle.std.proofs.Common.{inr}
-use Rattle.std.proofs.lemmas.Bool.{cases_eq}
-use Rattle.std.proofs.lemmas.List.{get_or_default}
-use Rattle.do_store.specs.Listing.{Rising, pair_serial}
-use Rattle.do_store.specs.declared.object.Pair.{Pair}
-use Rattle.do_store.proofs.Listed.{rising-lt}
 use Rattle.do_store.proofs.pairs.key_of.Goals as goal
+use Rattle.std.proofs.Common.{◌≡◌, ℕ, ◌+◌, ◌-◌, ◌/◌, ◌<◌, ◌≤◌, List, get_or, length, arith, ap, ◌∙◌}
+use Rattle.std.proofs.{Common.{inl, inr}, lemmas.{Bool.cases_eq, List.get_or_default}}
+use Rattle.do_store.specs.{Listing.{Rising, pair_serial}, declared.object.Pair.Pair}
+use Rattle.do_store.proofs.Listed.{rising-lt}
 
 -- those up to a place below are below, and those from a place above are above
 up_to : (pairs : List Pair) (top m n : ℕ) (d : Pair) → Rising pair_serial 0 pairs top

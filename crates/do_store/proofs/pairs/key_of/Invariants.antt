@@ -1,7 +1,6 @@
-use Rattle.std.proofs.Common.{ℕ, ◌-◌, ◌<◌, ◌≤◌, get_or, length}
-use Rattle.do_store.specs.Listing.{Rising, pair_serial}
-use Rattle.do_store.specs.declared.object.Pair.{Pair}
 use Rattle.do_store.proofs.pairs.key_of.Given as goal
+use Rattle.std.proofs.Common.{ℕ, ◌-◌, ◌<◌, ◌≤◌, get_or, length}
+use Rattle.do_store.specs.{Listing.{Rising, pair_serial}, declared.object.Pair.Pair}
 
 abbrev pub invariant-loop-low : goal.invariant-loop-low
 invariant-loop-low l = record {

@@ -1,6 +1,6 @@
+use Rattle.do_streams.proofs.reading.are_bytes.Goals as goal
 use Rattle.std.proofs.Common.{arith}
 use Rattle.do_grammar.proofs.faults.AnswerExact.{bytes_from_each}
-use Rattle.do_streams.proofs.reading.are_bytes.Goals as goal
 
 -- each element of a slice of bytes is below 256
 pub returns : goal.returns

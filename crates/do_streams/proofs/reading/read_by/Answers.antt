@@ -1,7 +1,7 @@
+use Rattle.do_streams.proofs.reading.read_by.Goals as goal
 use Rattle.std.proofs.Common.{subst}
 use Rattle.do_grammar.specs.Grammar.{IsBytes}
 use Rattle.do_streams.proofs.FramesTold.{told_is_read}
-use Rattle.do_streams.proofs.reading.read_by.Goals as goal
 
 -- an answer that tells what is spelled is what is read
 pub returns-clause-read : goal.returns-clause-read

@@ -1,8 +1,7 @@
-use Rattle.std.proofs.Common.{◌∙◌, ap, subst, sym, Err}
-use Rattle.do_streams.specs.Plain.{names_objects}
-use Rattle.do_streams.specs.Reading.{IsRead}
-use Rattle.do_streams.proofs.FramesTold.{as_reading, plain_alike, plain_stays}
 use Rattle.do_streams.proofs.reading.read_plain.Goals as goal
+use Rattle.std.proofs.Common.{◌∙◌, ap, subst, sym, Err}
+use Rattle.do_streams.specs.{Plain.names_objects, Reading.IsRead}
+use Rattle.do_streams.proofs.FramesTold.{as_reading, plain_alike, plain_stays}
 
 -- a frame that carries no packet is read alike whatever was named
 pub returns-in-Ok-clause-read : goal.returns-in-Ok-clause-read

@@ -1,7 +1,6 @@
-use Rattle.std.proofs.Common.{ap}
-use Rattle.do_streams.specs.declared.end.End.{End}
-use Rattle.do_streams.proofs.Placed.{is_at}
 use Rattle.do_streams.proofs.spelling.is_greeted.Goals as goal
+use Rattle.std.proofs.Common.{ap}
+use Rattle.do_streams.{specs.declared.end.End.End, proofs.Placed.is_at}
 
 -- what stands at the place is the end
 pub returns : goal.returns

@@ -1,7 +1,6 @@
-use Rattle.std.proofs.Common.{◌∙◌, ap, sym}
-use Rattle.std.specs.Option.{option_copied}
-use Rattle.do_streams.proofs.WaitingFrames.{front_place, none_oldest}
 use Rattle.do_streams.proofs.spelling.next_end.Goals as goal
+use Rattle.std.{proofs.Common.{◌∙◌, ap, sym}, specs.Option.option_copied}
+use Rattle.do_streams.proofs.WaitingFrames.{front_place, none_oldest}
 
 -- the oldest frame goes to one of the ports
 pub returns-clause-which : goal.returns-clause-which

@@ -1,20 +1,14 @@
-use Rattle.std.proofs.Common.{◌≡◌, ◌==◌, ℕ, Some, List, drop, refl, ap, sym, ◌∙◌}
-use Rattle.std.proofs.Common.{subst}
-use Rattle.std.specs.Prelude.{slice_get, slice_set}
-use Rattle.std.specs.List.{position}
+use Rattle.do_streams.proofs.spelling.spell_next.Goals as goal
+use Rattle.std.proofs.Common.{◌≡◌, ◌==◌, ℕ, Some, List, drop, refl, ap, sym, ◌∙◌, subst}
+use Rattle.std.specs.{Prelude.{slice_get, slice_set}, List.position}
 use Rattle.do_frames.specs.Frames.{frame_spelling, raw}
 use Rattle.do_network.specs.Links.{Framed, Outbox}
-use Rattle.do_streams.specs.declared.end.End.{End}
-use Rattle.do_streams.specs.declared.end.Outgoing.{Outgoing}
-use Rattle.do_streams.specs.Ordered.{AllPlaced}
-use Rattle.do_streams.specs.Reading.{AllKnown, AreKnown}
-use Rattle.do_streams.specs.Streamed.{outbox_of, sending_of}
+use Rattle.do_streams.specs.{declared.end.{End.End, Outgoing.Outgoing}, Ordered.AllPlaced}
+use Rattle.do_streams.specs.{Reading.{AllKnown, AreKnown}, Streamed.{outbox_of, sending_of}}
 use Rattle.do_streams.proofs.NextSpelled.{SendsFirst, begins_with, frame_next, greeting_next}
-use Rattle.do_streams.proofs.LinksRead.{all_at, all_set}
-use Rattle.do_streams.proofs.Placed.{on_err, one_front, set_same}
+use Rattle.do_streams.proofs.{LinksRead.{all_at, all_set}, Placed.{on_err, one_front, set_same}}
 use Rattle.do_streams.proofs.WaitingFrames.{as_many, end_at, ports_of_set}
 use Rattle.do_streams.proofs.spelling.spell_next.Goals.{After-spelled_frame, In_ok-spell_greeting}
-use Rattle.do_streams.proofs.spelling.spell_next.Goals as goal
 
 -- an end that was put back as it was
 stays : (ends : List End) (was mid : List Outgoing) (at : ℕ) (e f : End) →

@@ -1,8 +1,7 @@
-use Rattle.std.proofs.Common.{◌≡◌, ◌∙◌, Some, sym}
-use Rattle.do_streams.specs.Waits.{framed}
-use Rattle.do_streams.specs.declared.waiting.Queued.TheVariants.{Frame, Line}
-use Rattle.do_streams.proofs.WaitingCells.{frames_here, takes_front}
 use Rattle.do_streams.proofs.waiting.take_frame.Goals as goal
+use Rattle.std.proofs.Common.{◌≡◌, ◌∙◌, Some, sym}
+use Rattle.do_streams.specs.{Waits.framed, declared.waiting.Queued.TheVariants.{Frame, Line}}
+use Rattle.do_streams.proofs.WaitingCells.{frames_here, takes_front}
 
 -- no line stands among the frames
 pub unreachable-requires : goal.unreachable-requires

@@ -1,8 +1,7 @@
-use Rattle.std.proofs.Common.{◌≡◌, ◌∙◌, Some, sym}
-use Rattle.do_streams.specs.Waits.{lined}
-use Rattle.do_streams.specs.declared.waiting.Queued.TheVariants.{Frame, Line}
-use Rattle.do_streams.proofs.WaitingCells.{lines_here, takes_front}
 use Rattle.do_streams.proofs.waiting.take_line.Goals as goal
+use Rattle.std.proofs.Common.{◌≡◌, ◌∙◌, Some, sym}
+use Rattle.do_streams.specs.{Waits.lined, declared.waiting.Queued.TheVariants.{Frame, Line}}
+use Rattle.do_streams.proofs.WaitingCells.{lines_here, takes_front}
 
 -- no frame stands among the lines
 pub unreachable-requires : goal.unreachable-requires

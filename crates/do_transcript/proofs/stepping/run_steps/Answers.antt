@@ -1,6 +1,6 @@
+use Rattle.do_transcript.proofs.stepping.run_steps.Goals as goal
 use Rattle.std.proofs.Common.{ap, rules}
 use Rattle.do_transcript.proofs.RunsStepByStep.{run_more}
-use Rattle.do_transcript.proofs.stepping.run_steps.Goals as goal
 
 pub loop-step-preserved : goal.loop-step-preserved
 loop-step-preserved g c =

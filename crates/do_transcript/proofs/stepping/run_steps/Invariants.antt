@@ -1,9 +1,9 @@
 -- What was stepped so far is what `_step` runs come to.
-use Rattle.std.proofs.Common.{◌≡◌}
 use Rattle.do_base.specs.declared.events.event.Event.TheVariants as events
+use Rattle.do_transcript.proofs.stepping.run_steps.Given as goal
+use Rattle.std.proofs.Common.{◌≡◌}
 use Rattle.do_machine.specs.Commit.{skipped}
 use Rattle.do_transcript.proofs.RunsStepByStep.{runs, stepped_to}
-use Rattle.do_transcript.proofs.stepping.run_steps.Given as goal
 
 abbrev pub invariant-loop-step : goal.invariant-loop-step
 invariant-loop-step g l = record {

@@ -1,9 +1,8 @@
-use Rattle.std.proofs.Common.{◌≡◌, [], sym, ◌∙◌, rules}
-use Rattle.std.specs.Vec.Iter.{into_iter_items}
+use Rattle.do_transcript.proofs.transcript.write_transcript.Goals as goal
+use Rattle.std.{proofs.Common.{◌≡◌, [], sym, ◌∙◌, rules}, specs.Vec.Iter.into_iter_items}
 use Rattle.std.proofs.lemmas.List.{nil_from_length}
 use Rattle.do_transcript.proofs.BlocksToCome.{ahead_start, ahead_block, ahead_end}
 use Rattle.do_output.proofs.SentIsPrefix.{ahead_sent, ahead_prefix, ahead_part, ahead_whole}
-use Rattle.do_transcript.proofs.transcript.write_transcript.Goals as goal
 
 pub loop-line-init : goal.loop-line-init
 loop-line-init g c =

@@ -1,10 +1,8 @@
 -- What was sent, what waits and what the lines that are left come to make up the transcript.
-use Rattle.std.proofs.Common.{◌≤◌}
-use Rattle.std.specs.Vec.Iter.{into_iter_items}
-use Rattle.do_transcript.specs.Transcript.{transcript_from}
-use Rattle.do_transcript.proofs.BlocksToCome.{rest_from}
-use Rattle.do_output.proofs.SentIsPrefix.{IsAhead}
 use Rattle.do_transcript.proofs.transcript.write_transcript.Given as goal
+use Rattle.std.{proofs.Common.◌≤◌, specs.Vec.Iter.into_iter_items}
+use Rattle.do_transcript.{specs.Transcript.transcript_from, proofs.BlocksToCome.rest_from}
+use Rattle.do_output.proofs.SentIsPrefix.{IsAhead}
 
 abbrev pub invariant-loop-line : goal.invariant-loop-line
 invariant-loop-line g l = record {

@@ -1,8 +1,6 @@
-use Rattle.std.proofs.Common.{◌∙◌, ◌++◌, ap}
-use Rattle.do_weave.specs.Inputs.{lines_of}
-use Rattle.do_weave.proofs.Calls.{fails_turn, goes_on}
-use Rattle.do_weave.proofs.Turning.{passed}
 use Rattle.do_weave.proofs.turns.turn.Goals as goal
+use Rattle.std.proofs.Common.{◌∙◌, ◌++◌, ap}
+use Rattle.do_weave.{specs.Inputs.lines_of, proofs.{Calls.{fails_turn, goes_on}, Turning.passed}}
 
 -- the machine stands for what the threads so far left
 pub weave_thread-requires : goal.weave_thread-requires

@@ -1,9 +1,7 @@
-use Rattle.std.proofs.Common.{◌∙◌, ◌++◌, sym, ap}
-use Rattle.do_weave.specs.Inputs.{lines_of}
-use Rattle.do_weave.specs.Threads.{advanced}
-use Rattle.do_weave.specs.Weaving.{contradiction}
-use Rattle.do_weave.proofs.Calls.{had_turn}
 use Rattle.do_weave.proofs.turns.weave_thread.Goals as goal
+use Rattle.std.proofs.Common.{◌∙◌, ◌++◌, sym, ap}
+use Rattle.do_weave.specs.{Inputs.lines_of, Threads.advanced, Weaving.contradiction}
+use Rattle.do_weave.proofs.Calls.{had_turn}
 
 pub returns-then-not-branch : goal.returns-then-not-branch
 returns-then-not-branch g c = λ R S place stands.

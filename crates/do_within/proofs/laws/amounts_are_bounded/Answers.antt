@@ -1,6 +1,6 @@
+use Rattle.do_within.proofs.laws.amounts_are_bounded.Goals as goal
 use Rattle.std.proofs.Common.{arith}
 use Rattle.do_within.proofs.schedules.Walk.{from_opening}
-use Rattle.do_within.proofs.laws.amounts_are_bounded.Goals as goal
 
 -- what was received over a bounded schedule
 pub returns : goal.returns

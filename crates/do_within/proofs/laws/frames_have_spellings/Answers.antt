@@ -1,7 +1,6 @@
-use Rattle.std.proofs.Common.{arith}
-use Rattle.do_within.proofs.schedules.Lines.{bounded_lines}
-use Rattle.do_within.proofs.schedules.Walk.{from_opening}
 use Rattle.do_within.proofs.laws.frames_have_spellings.Goals as goal
+use Rattle.std.proofs.Common.{arith}
+use Rattle.do_within.proofs.schedules.{Lines.bounded_lines, Walk.from_opening}
 
 -- event by event
 pub returns-clause-events : goal.returns-clause-events

@@ -1,5 +1,5 @@
-use Rattle.do_within.proofs.schedules.Few.{few_events, schedules_spelled}
 use Rattle.do_within.proofs.laws.frames_of_schedules_have_spellings.Goals as goal
+use Rattle.do_within.proofs.schedules.Few.{few_events, schedules_spelled}
 
 -- few events
 pub returns-clause-few : goal.returns-clause-few

@@ -1,9 +1,8 @@
+use Rattle.do_within.proofs.laws.networks_are_one_machine.Goals as goal
 use Rattle.std.proofs.Common.{arith}
 use Rattle.do_agreement.proofs.agreement.SchedulesAgree.{schedule_agrees}
 use Rattle.do_agreement.proofs.texts.TextsAgree.{world_text}
-use Rattle.do_within.proofs.schedules.Lines.{bounded_lines}
-use Rattle.do_within.proofs.schedules.Walk.{from_opening}
-use Rattle.do_within.proofs.laws.networks_are_one_machine.Goals as goal
+use Rattle.do_within.proofs.schedules.{Lines.bounded_lines, Walk.from_opening}
 
 -- each event comes to the same
 pub returns-clause-events : goal.returns-clause-events

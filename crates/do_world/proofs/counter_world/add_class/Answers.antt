@@ -1,6 +1,6 @@
+use Rattle.do_world.proofs.counter_world.add_class.Goals as goal
 use Rattle.std.proofs.Common.{ap, arith, Err}
 use Rattle.do_world.proofs.CounterClasses.{not_taken}
-use Rattle.do_world.proofs.counter_world.add_class.Goals as goal
 
 pub unreachable-requires : goal.unreachable-requires
 unreachable-requires c = not_taken c.args.table.now c.in_ok-name.name c.args.name.now

@@ -1,6 +1,6 @@
+use Rattle.do_world.proofs.counter_world.add_code.Goals as goal
 use Rattle.std.proofs.Common.{◌≡◌, rules}
 use Rattle.do_world.proofs.CounterTexts.{add_has_no_fault, add_is_code, slot_names}
-use Rattle.do_world.proofs.counter_world.add_code.Goals as goal
 
 pub code_of-requires : goal.code_of-requires
 code_of-requires c =

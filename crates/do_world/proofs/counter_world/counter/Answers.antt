@@ -1,6 +1,6 @@
+use Rattle.do_world.proofs.counter_world.counter.Goals as goal
 use Rattle.std.proofs.Common.{◌∙◌}
 use Rattle.do_world.proofs.CounterSound.{sound_by_parts}
-use Rattle.do_world.proofs.counter_world.counter.Goals as goal
 
 pub returns-clause-sound : goal.returns-clause-sound
 returns-clause-sound c =

@@ -1,8 +1,8 @@
+use Rattle.do_world.proofs.method_codes.class_codes.Goals as goal
 use Rattle.std.proofs.Common.{length}
 use Rattle.toml.specs.View.{table_view}
 use Rattle.do_behave.specs.Programs.{Suits}
 use Rattle.do_world.proofs.CodeLoops.{codes_read}
-use Rattle.do_world.proofs.method_codes.class_codes.Goals as goal
 
 pub returns : goal.returns
 returns c =

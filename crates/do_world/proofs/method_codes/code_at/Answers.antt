@@ -1,8 +1,7 @@
-use Rattle.std.proofs.Common.{rules}
-use Rattle.std.proofs.lemmas.Result.{err_from_is_err_and}
+use Rattle.do_world.proofs.method_codes.code_at.Goals as goal
+use Rattle.std.proofs.{Common.rules, lemmas.Result.err_from_is_err_and}
 use Rattle.toml.specs.View.{table_view}
 use Rattle.do_world.proofs.CodeSteps.{code_first, code_read, code_refused, suits}
-use Rattle.do_world.proofs.method_codes.code_at.Goals as goal
 
 pub returns-in_err-text : goal.returns-in_err-text
 returns-in_err-text c =

@@ -1,9 +1,8 @@
-use Rattle.std.proofs.Common.{◌∙◌, ap, length}
-use Rattle.std.proofs.lemmas.List.{length-map}
+use Rattle.do_world.proofs.method_codes.codes_at.Goals as goal
+use Rattle.std.proofs.{Common.{◌∙◌, ap, length}, lemmas.List.length-map}
 use Rattle.toml.specs.View.{table_view}
 use Rattle.do_class.specs.Class.{Class}
 use Rattle.do_world.proofs.CodeKinds.{native_codes, script_codes}
-use Rattle.do_world.proofs.method_codes.codes_at.Goals as goal
 
 pub returns-in_ok-slots-in-Script : goal.returns-in_ok-slots-in-Script
 returns-in_ok-slots-in-Script c =

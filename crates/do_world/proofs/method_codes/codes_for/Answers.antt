@@ -1,16 +1,15 @@
+use Rattle.do_world.proofs.method_codes.codes_for.Goals as goal
 use Rattle.std.proofs.Common.{◌≡◌, ◌≤◌, ◌∙◌, Some, arith, length, slice_index_or}
 use Rattle.std.proofs.lemmas.Result.{err_from_is_err_and}
 use Rattle.toml.specs.View.{table_view}
 use Rattle.do_behave.specs.Programs.{HasCodes}
 use Rattle.do_class.specs.Table.{names_of}
 use Rattle.do_class_kinds.specs.declared.kind.Kind.TheVariants.{Script}
-use Rattle.do_document.specs.Classes.{kind_of}
-use Rattle.do_document.specs.Sound.{IsClassOf, IsKindOf}
+use Rattle.do_document.specs.{Classes.kind_of, Sound.{IsClassOf, IsKindOf}}
 use Rattle.do_document.proofs.Finding.{turn_end}
 use Rattle.do_world.specs.Faults.{codes_fault}
 use Rattle.do_world.proofs.CodeLoops.{as_many, codes_all, codes_bad, codes_more, codes_said}
 use Rattle.do_world.proofs.CodeLoops.{codes_turn, found_at, found_beside, suit_more}
-use Rattle.do_world.proofs.method_codes.codes_for.Goals as goal
 
 pub bounds-as_slice-k : goal.bounds-as_slice-k
 bounds-as_slice-k c =

@@ -1,12 +1,10 @@
-use Rattle.std.proofs.Common.{◌≡◌, drop, length, map, take}
-use Rattle.std.specs.List.{AllZip}
+use Rattle.do_world.proofs.method_codes.codes_for.Given as goal
+use Rattle.std.{proofs.Common.{◌≡◌, drop, length, map, take}, specs.List.AllZip}
 use Rattle.toml.specs.View.{table_view}
 use Rattle.do_behave.specs.Programs.{HasCodes}
 use Rattle.do_class.specs.Table.{names_of}
 use Rattle.do_document.specs.Checks.{first_among, first_behind}
-use Rattle.do_world.specs.Faults.{codes_fault}
-use Rattle.do_world.specs.Worlds.{codes_of}
-use Rattle.do_world.proofs.method_codes.codes_for.Given as goal
+use Rattle.do_world.specs.{Faults.codes_fault, Worlds.codes_of}
 
 abbrev pub invariant-loop-k : goal.invariant-loop-k
 invariant-loop-k l = record {

@@ -1,11 +1,10 @@
+use Rattle.do_world.proofs.method_codes.codes_of_methods.Goals as goal
 use Rattle.std.proofs.Common.{◌≡◌, ◌∙◌, ◌++◌, ◌∷◌, [], ap, arith, length, length-append}
 use Rattle.std.proofs.lemmas.List.Elements.{All-push}
 use Rattle.toml.specs.View.{table_view}
 use Rattle.do_behave.specs.Programs.{Suits}
 use Rattle.do_document.proofs.Growing.{made_more}
-use Rattle.do_world.specs.Worlds.{method_code}
-use Rattle.do_world.proofs.CodeLoops.{code_said, code_turn}
-use Rattle.do_world.proofs.method_codes.codes_of_methods.Goals as goal
+use Rattle.do_world.{specs.Worlds.method_code, proofs.CodeLoops.{code_said, code_turn}}
 
 pub loop-j-preserved : goal.loop-j-preserved
 loop-j-preserved c =

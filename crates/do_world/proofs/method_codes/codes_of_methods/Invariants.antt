@@ -1,11 +1,9 @@
-use Rattle.std.proofs.Common.{◌≡◌, drop, length, map, take}
-use Rattle.std.specs.List.{All, filter_map}
+use Rattle.do_world.proofs.method_codes.codes_of_methods.Given as goal
+use Rattle.std.{proofs.Common.{◌≡◌, drop, length, map, take}, specs.List.{All, filter_map}}
 use Rattle.toml.specs.View.{table_view}
 use Rattle.do_behave.specs.Programs.{Suits}
 use Rattle.do_document.specs.Checks.{first_among, first_behind}
-use Rattle.do_world.specs.Faults.{method_code_fault}
-use Rattle.do_world.specs.Worlds.{method_code}
-use Rattle.do_world.proofs.method_codes.codes_of_methods.Given as goal
+use Rattle.do_world.specs.{Faults.method_code_fault, Worlds.method_code}
 
 abbrev pub invariant-loop-j : goal.invariant-loop-j
 invariant-loop-j l = record {

@@ -1,7 +1,7 @@
+use Rattle.do_world.proofs.method_codes.names_of_classes.Goals as goal
 use Rattle.std.proofs.Common.{◌∙◌, ap, ◌++◌, ◌∷◌, []}
 use Rattle.do_class.specs.Class.{Class}
 use Rattle.do_world.proofs.CodeSteps.{made_at}
-use Rattle.do_world.proofs.method_codes.names_of_classes.Goals as goal
 
 pub loop-class-preserved : goal.loop-class-preserved
 loop-class-preserved c =

@@ -1,7 +1,7 @@
+use Rattle.do_world.proofs.method_codes.no_codes.Goals as goal
 use Rattle.std.proofs.Common.{◌∙◌, ◌++◌, ◌∷◌, [], ap}
 use Rattle.do_class.specs.Table.{class_at}
 use Rattle.do_world.proofs.CodeKinds.{no_code_more, no_code_same}
-use Rattle.do_world.proofs.method_codes.no_codes.Goals as goal
 use Rattle.do_world.proofs.method_codes.no_codes.Goals.{else-has_method}
 use Rattle.do_world.proofs.method_codes.no_codes.Goals.{then-has_method+in_ok-no_code+in_ok-push}
 

@@ -1,10 +1,8 @@
-use Rattle.std.proofs.Common.{◌≡◌, Some, None, arith}
-use Rattle.std.proofs.lemmas.Grind.{common_steps}
-use Rattle.std.specs.Prelude.{codes}
-use Rattle.toml.specs.Data.{get_member}
-use Rattle.toml.specs.View.{table_view, view}
-use Rattle.do_world.proofs.CodeSteps.{code_absent, code_text_told}
 use Rattle.do_world.proofs.method_codes.text_at.Goals as goal
+use Rattle.std.proofs.{Common.{◌≡◌, Some, None, arith}, lemmas.Grind.common_steps}
+use Rattle.std.specs.Prelude.{codes}
+use Rattle.toml.specs.{Data.get_member, View.{table_view, view}}
+use Rattle.do_world.proofs.CodeSteps.{code_absent, code_text_told}
 
 pub returns-in-Some : goal.returns-in-Some
 returns-in-Some c =

@@ -1,7 +1,7 @@
+use Rattle.do_world.proofs.reader.check_tables.Goals as goal
 use Rattle.std.proofs.lemmas.Result.{err_from_is_err_and}
 use Rattle.toml.specs.View.{view}
 use Rattle.do_world.proofs.TopLists.{tables_checked, tables_missing}
-use Rattle.do_world.proofs.reader.check_tables.Goals as goal
 
 pub returns-in_err-required : goal.returns-in_err-required
 returns-in_err-required c =

@@ -1,6 +1,6 @@
+use Rattle.do_world.proofs.reader.check_top.Goals as goal
 use Rattle.std.proofs.lemmas.Result.{err_from_is_err_and}
 use Rattle.do_world.proofs.TopSteps.{top_checked, top_classes, top_unknown, top_version}
-use Rattle.do_world.proofs.reader.check_top.Goals as goal
 
 pub returns-in_err-known_keys : goal.returns-in_err-known_keys
 returns-in_err-known_keys c =

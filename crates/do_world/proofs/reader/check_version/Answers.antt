@@ -1,10 +1,8 @@
-use Rattle.std.proofs.Common.{arith}
-use Rattle.std.proofs.lemmas.Grind.{common_steps}
-use Rattle.std.proofs.lemmas.Result.{err_from_is_err_and}
+use Rattle.do_world.proofs.reader.check_version.Goals as goal
+use Rattle.std.proofs.{Common.arith, lemmas.{Grind.common_steps, Result.err_from_is_err_and}}
 use Rattle.toml.specs.View.{view}
 use Rattle.do_document.proofs.InOrder.{required_absent}
 use Rattle.do_world.proofs.TopLists.{version_right, version_wrong}
-use Rattle.do_world.proofs.reader.check_version.Goals as goal
 
 pub returns-in_err-version : goal.returns-in_err-version
 returns-in_err-version c =

@@ -1,6 +1,6 @@
+use Rattle.do_world.proofs.reader.document_of.Goals as goal
 use Rattle.std.proofs.Common.{inr, refl}
 use Rattle.do_world.proofs.BytesTold.{bytes_read, bytes_refused}
-use Rattle.do_world.proofs.reader.document_of.Goals as goal
 
 pub returns-in-Ok : goal.returns-in-Ok
 returns-in-Ok c = bytes_read _ _ c.in-Ok.ensures.ok.0 c.in-Ok.ensures.ok.1

@@ -1,8 +1,8 @@
+use Rattle.do_world.proofs.reader.read_world.Goals as goal
 use Rattle.std.proofs.lemmas.Result.{err_from_is_err_and}
 use Rattle.toml.specs.View.{table_view}
 use Rattle.do_world.proofs.BytesTold.{bytes_told, fault_refused, fault_told, no_document}
 use Rattle.do_world.proofs.BytesTold.{world_accepted, world_told}
-use Rattle.do_world.proofs.reader.read_world.Goals as goal
 
 pub returns-clause-world : goal.returns-clause-world
 returns-clause-world c =

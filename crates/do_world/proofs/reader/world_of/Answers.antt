@@ -1,8 +1,7 @@
-use Rattle.std.proofs.Common.{map, ap, ◌∙◌}
-use Rattle.std.proofs.lemmas.Result.{err_from_is_err_and}
+use Rattle.do_world.proofs.reader.world_of.Goals as goal
+use Rattle.std.proofs.{Common.{map, ap, ◌∙◌}, lemmas.Result.err_from_is_err_and}
 use Rattle.toml.specs.View.{table_view}
 use Rattle.do_world.proofs.PartsInOrder.{fault_codes, fault_seats, world_found}
-use Rattle.do_world.proofs.reader.world_of.Goals as goal
 
 pub returns-in_err-codes : goal.returns-in_err-codes
 returns-in_err-codes c =

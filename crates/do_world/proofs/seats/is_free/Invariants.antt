@@ -1,7 +1,6 @@
-use Rattle.std.proofs.Common.{◌≡◌, ◌==◌, drop}
-use Rattle.std.specs.List.{list_any}
-use Rattle.do_machine.specs.declared.state.Seat.{Seat}
 use Rattle.do_world.proofs.seats.is_free.Given as goal
+use Rattle.std.{proofs.Common.{◌≡◌, ◌==◌, drop}, specs.List.list_any}
+use Rattle.do_machine.specs.declared.state.Seat.{Seat}
 
 abbrev pub invariant-loop-seat : goal.invariant-loop-seat
 invariant-loop-seat l =

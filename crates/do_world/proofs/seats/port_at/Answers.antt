@@ -1,12 +1,10 @@
-use Rattle.std.proofs.Common.{◌≡◌, None, Some, arith, false, true}
-use Rattle.std.proofs.lemmas.Grind.{common_steps}
+use Rattle.do_world.proofs.seats.port_at.Goals as goal
+use Rattle.std.proofs.{Common.{◌≡◌, None, Some, arith, false, true}, lemmas.Grind.common_steps}
 use Rattle.std.proofs.lemmas.Result.{err_from_is_err_and}
 use Rattle.toml.specs.View.{view}
 use Rattle.do_document.proofs.InOrder.{required_absent}
-use Rattle.do_world.specs.Faults.{is_free, is_new_port}
-use Rattle.do_world.specs.Worlds.{port_of}
+use Rattle.do_world.specs.{Faults.{is_free, is_new_port}, Worlds.port_of}
 use Rattle.do_world.proofs.SeatSteps.{port_good, port_wrong, port_within}
-use Rattle.do_world.proofs.seats.port_at.Goals as goal
 
 pub returns-in_err-value : goal.returns-in_err-value
 returns-in_err-value c =

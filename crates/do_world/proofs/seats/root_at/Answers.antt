@@ -1,14 +1,11 @@
-use Rattle.std.proofs.Common.{◌≡◌, Some, None, arith, false, true}
-use Rattle.std.proofs.lemmas.Grind.{common_steps}
-use Rattle.std.proofs.lemmas.Result.{err_from_is_err_and}
-use Rattle.std.specs.Prelude.{codes}
+use Rattle.do_world.proofs.seats.root_at.Goals as goal
+use Rattle.std.proofs.{Common.{◌≡◌, Some, None, arith, false, true}, lemmas.Grind.common_steps}
+use Rattle.std.{proofs.lemmas.Result.err_from_is_err_and, specs.Prelude.codes}
 use Rattle.toml.specs.View.{table_view, view}
 use Rattle.do_class.specs.Table.{class_named}
-use Rattle.do_document.proofs.Finding.{text_there}
-use Rattle.do_document.proofs.InOrder.{required_absent, required_failed, required_no_text}
-use Rattle.do_document.proofs.InOrder.{required_passed}
+use Rattle.do_document.proofs.{Finding.text_there, InOrder.{required_absent, required_failed}}
+use Rattle.do_document.proofs.InOrder.{required_no_text, required_passed}
 use Rattle.do_world.specs.Faults.{is_class}
-use Rattle.do_world.proofs.seats.root_at.Goals as goal
 
 pub returns-in_err-value : goal.returns-in_err-value
 returns-in_err-value c =

@@ -1,6 +1,6 @@
+use Rattle.do_world.proofs.seats.seat_at.Goals as goal
 use Rattle.std.proofs.lemmas.Result.{err_from_is_err_and}
 use Rattle.do_world.proofs.SeatSteps.{seat_good, seat_port, seat_root, seat_unknown}
-use Rattle.do_world.proofs.seats.seat_at.Goals as goal
 
 pub returns-in_err-known_keys : goal.returns-in_err-known_keys
 returns-in_err-known_keys c =

@@ -1,10 +1,9 @@
+use Rattle.do_world.proofs.seats.seats_of.Goals as goal
 use Rattle.std.proofs.Common.{◌≡◌, ◌∙◌, ◌++◌, ◌∷◌, [], ap, arith, length, length-append, refl}
 use Rattle.toml.specs.View.{table_view}
 use Rattle.do_document.proofs.Growing.{made_more}
 use Rattle.do_world.specs.Worlds.{seat_of}
-use Rattle.do_world.proofs.SeatLoops.{seat_said, seat_turn, seats_none}
-use Rattle.do_world.proofs.SeatSteps.{seats_more}
-use Rattle.do_world.proofs.seats.seats_of.Goals as goal
+use Rattle.do_world.proofs.{SeatLoops.{seat_said, seat_turn, seats_none}, SeatSteps.seats_more}
 
 pub loop-k-init : goal.loop-k-init
 loop-k-init c =

@@ -1,11 +1,8 @@
-use Rattle.std.proofs.Common.{◌≡◌, drop, length, map, take}
-use Rattle.std.specs.List.{filter_map}
+use Rattle.do_world.proofs.seats.seats_of.Given as goal
+use Rattle.std.{proofs.Common.{◌≡◌, drop, length, map, take}, specs.List.filter_map}
 use Rattle.toml.specs.View.{table_view}
 use Rattle.do_document.specs.Checks.{first_among, first_behind}
-use Rattle.do_world.specs.Faults.{seat_fault}
-use Rattle.do_world.specs.Sound.{AreSeats}
-use Rattle.do_world.specs.Worlds.{seat_of}
-use Rattle.do_world.proofs.seats.seats_of.Given as goal
+use Rattle.do_world.specs.{Faults.seat_fault, Sound.AreSeats, Worlds.seat_of}
 
 abbrev pub invariant-loop-k : goal.invariant-loop-k
 invariant-loop-k l = record {

@@ -1,8 +1,8 @@
 -- The steps of the blocks up to here were added, and they are few enough.
+use Rattle.do_woven.proofs.steps.passing_line.Given as goal
 use Rattle.std.proofs.Common.{◌≡◌, ◌+◌, ◌≤◌, drop, sum_by, take}
 use Rattle.do_sched.specs.Schedule.{most_steps}
 use Rattle.do_woven.specs.Steps.{block_steps, passing_line}
-use Rattle.do_woven.proofs.steps.passing_line.Given as goal
 
 abbrev pub invariant-loop-block : goal.invariant-loop-block
 invariant-loop-block l = record {

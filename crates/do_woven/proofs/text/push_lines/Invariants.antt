@@ -1,8 +1,7 @@
 -- The lines up to here were added.
-use Rattle.std.proofs.Common.{◌≡◌, ◌++◌, take}
-use Rattle.std.specs.List.{flat_map}
-use Rattle.do_sched.specs.Spelling.{fed, line_spelling}
 use Rattle.do_woven.proofs.text.push_lines.Given as goal
+use Rattle.std.{proofs.Common.{◌≡◌, ◌++◌, take}, specs.List.flat_map}
+use Rattle.do_sched.specs.Spelling.{fed, line_spelling}
 
 abbrev pub invariant-loop-line : goal.invariant-loop-line
 invariant-loop-line l =

@@ -1,9 +1,8 @@
-use Rattle.std.proofs.Common.{◌≡◌, rules}
-use Rattle.std.specs.Prelude.{IsTrue}
+use Rattle.server_calls.proofs.classes.one_method.Goals as goal
+use Rattle.std.{proofs.Common.{◌≡◌, rules}, specs.Prelude.IsTrue}
 use Rattle.do_grammar.specs.Names.{is_selector, colons}
 use Rattle.do_sig.specs.Calls.{arg_count}
 use Rattle.server_calls.proofs.OneMethod.{one_alone}
-use Rattle.server_calls.proofs.classes.one_method.Goals as goal
 
 -- the selector of the method is one with a colon for each argument
 pub returns : goal.returns

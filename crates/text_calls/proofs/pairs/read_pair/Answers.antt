@@ -1,10 +1,10 @@
+use Rattle.text_calls.proofs.pairs.read_pair.Goals as goal
 use Rattle.std.proofs.Common.{arith}
 use Rattle.do_grammar.specs.Reader.{no_kind, short, bad}
 use Rattle.text_calls.specs.Pair.{Pair, pair_at}
 use Rattle.do_grammar.proofs.faults.AnswerExact.{bytes_from_each, found, found_only, not_stopped}
 use Rattle.do_grammar.proofs.faults.AnswerExact.{proper_front, first_bad, left_within}
 use Rattle.text_calls.proofs.PairExact.{Reads-pair}
-use Rattle.text_calls.proofs.pairs.read_pair.Goals as goal
 
 pub overflow_sub-result : goal.overflow_sub-result
 overflow_sub-result c =

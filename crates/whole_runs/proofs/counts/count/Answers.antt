@@ -1,5 +1,5 @@
-use Rattle.whole_runs.proofs.Alike.{count_alike}
 use Rattle.whole_runs.proofs.counts.count.Goals as goal
+use Rattle.whole_runs.proofs.Alike.{count_alike}
 
 -- all count for one program
 pub replay-requires-clause-alike : goal.replay-requires-clause-alike

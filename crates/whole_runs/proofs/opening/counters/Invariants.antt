@@ -1,7 +1,7 @@
 -- A behaviour for each node so far, all of the program.
+use Rattle.whole_runs.proofs.opening.counters.Given as goal
 use Rattle.std.proofs.Common.{◌≡◌, length}
 use Rattle.whole_runs.specs.Counters.{AreOf}
-use Rattle.whole_runs.proofs.opening.counters.Given as goal
 
 abbrev pub invariant-loop-node : goal.invariant-loop-node
 invariant-loop-node l = record {

@@ -1,5 +1,5 @@
-use Rattle.do_agreement.proofs.agreement.OpeningAgrees.{opening_agrees}
 use Rattle.do_agreement.proofs.laws.agreement.networks_open_in_agreement.Goals as goal
+use Rattle.do_agreement.proofs.agreement.OpeningAgrees.{opening_agrees}
 
 -- a network opens in agreement
 pub returns : goal.returns

@@ -1,5 +1,5 @@
-use Rattle.do_agreement.proofs.texts.TextsAgree.{world_blocks, world_text}
 use Rattle.do_agreement.proofs.laws.agreement.networks_write_what_one_machine_writes.Goals as goal
+use Rattle.do_agreement.proofs.texts.TextsAgree.{world_blocks, world_text}
 
 -- lines come to the same blocks
 pub returns-clause-blocks : goal.returns-clause-blocks

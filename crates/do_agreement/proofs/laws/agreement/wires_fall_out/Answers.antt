@@ -1,5 +1,5 @@
-use Rattle.do_agreement.proofs.texts.WiresDropped.{wires_fall_out}
 use Rattle.do_agreement.proofs.laws.agreement.wires_fall_out.Goals as goal
+use Rattle.do_agreement.proofs.texts.WiresDropped.{wires_fall_out}
 
 -- what was put in falls out again
 pub returns : goal.returns

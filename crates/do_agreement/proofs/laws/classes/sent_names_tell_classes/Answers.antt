@@ -1,6 +1,5 @@
-use Rattle.do_agreement.proofs.told.RulesTold.{rule_told}
-use Rattle.do_agreement.proofs.told.TakesTold.{leaving_told, take_told}
 use Rattle.do_agreement.proofs.laws.classes.sent_names_tell_classes.Goals as goal
+use Rattle.do_agreement.proofs.told.{RulesTold.rule_told, TakesTold.{leaving_told, take_told}}
 
 pub returns-clause-rules : goal.returns-clause-rules
 returns-clause-rules c = rule_told

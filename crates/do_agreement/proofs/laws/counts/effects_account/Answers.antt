@@ -1,5 +1,5 @@
-use Rattle.do_agreement.proofs.counts.RulesAccount.{leaving_accounts, rule_accounts, take_accounts}
 use Rattle.do_agreement.proofs.laws.counts.effects_account.Goals as goal
+use Rattle.do_agreement.proofs.counts.RulesAccount.{leaving_accounts, rule_accounts, take_accounts}
 
 -- by an event's rule
 pub returns-clause-rules : goal.returns-clause-rules

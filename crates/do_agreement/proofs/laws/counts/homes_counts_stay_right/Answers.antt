@@ -1,5 +1,5 @@
-use Rattle.do_agreement.proofs.counts.ReturnsCounted.{returns_counted}
 use Rattle.do_agreement.proofs.laws.counts.homes_counts_stay_right.Goals as goal
+use Rattle.do_agreement.proofs.counts.ReturnsCounted.{returns_counted}
 
 -- whatever a peer gives back and tells is taken off
 pub returns : goal.returns

@@ -1,6 +1,6 @@
+use Rattle.do_agreement.proofs.laws.counts.items_in_hand_are_counted.Goals as goal
 use Rattle.do_agreement.proofs.hands.InHandCounted.{for_third_in_hand, sender_in_hand}
 use Rattle.do_agreement.proofs.hands.InHandCounted.{taker_in_hand, third_in_hand}
-use Rattle.do_agreement.proofs.laws.counts.items_in_hand_are_counted.Goals as goal
 
 -- what the sender of the item counts
 pub returns-clause-sender : goal.returns-clause-sender

@@ -1,6 +1,6 @@
+use Rattle.do_agreement.proofs.laws.pairs.pairs_stand_as_in_the_state.Goals as goal
 use Rattle.do_agreement.proofs.pairs.CallsOfPairs.{one_call}
 use Rattle.do_agreement.proofs.pairs.LendsOfPairs.{one_ask, one_lend, silent}
-use Rattle.do_agreement.proofs.laws.pairs.pairs_stand_as_in_the_state.Goals as goal
 
 -- each lend
 pub returns-clause-lends : goal.returns-clause-lends

@@ -1,6 +1,6 @@
+use Rattle.do_base.proofs.outside.mem_shelf.find.Goals as goal
 use Rattle.std.proofs.Common.{◌≡◌, sym, ◌∙◌, arith, true≢false}
 use Rattle.do_base.proofs.FileSearch.{file_named_here, file_named_later}
-use Rattle.do_base.proofs.outside.mem_shelf.find.Goals as goal
 
 pub returns-then-is : goal.returns-then-is
 returns-then-is c =

@@ -1,6 +1,6 @@
+use Rattle.do_base.proofs.outside.mem_shelf.find.Given as goal
 use Rattle.std.proofs.Common.{◌≡◌, drop}
 use Rattle.do_base.specs.outside.Files.{file_named}
-use Rattle.do_base.proofs.outside.mem_shelf.find.Given as goal
 
 abbrev pub invariant-loop-file : goal.invariant-loop-file
 invariant-loop-file l =

@@ -1,6 +1,6 @@
+use Rattle.do_base.proofs.outside.sink.write_all.Goals as goal
 use Rattle.std.proofs.Common.{arith, rules}
 use Rattle.do_base.proofs.WrittenSoFar.{with_more-take}
-use Rattle.do_base.proofs.outside.sink.write_all.Goals as goal
 
 pub loop-done-preserved : goal.loop-done-preserved
 loop-done-preserved g c = record {

@@ -1,6 +1,6 @@
+use Rattle.do_base.proofs.outside.sink.write_all.Given as goal
 use Rattle.std.proofs.Common.{length, ◌-◌, ◌≡◌, ◌≤◌, take}
 use Rattle.do_base.specs.outside.Bytes.{with_more}
-use Rattle.do_base.proofs.outside.sink.write_all.Given as goal
 
 abbrev pub invariant-loop-done : goal.invariant-loop-done
 invariant-loop-done g l = record {

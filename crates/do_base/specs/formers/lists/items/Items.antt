@@ -1,28 +1,22 @@
 -- Where an `Items` keeps the values that it holds: in its view, which is the list of them.
 -- With this file a type may reach itself through an `Items`, in this crate and in those above.
-use mathlib.Core.Path.{◌≡◌, refl, sym}
-use mathlib.Core.List.{List, []}
+use Rattle.std.specs.formers.vec.Vec as vec
+use Rattle.std.specs.declared.cmp.PartialEq as eq
+use Rattle.std.specs.contracts.alloc.Global as heap
+use Rattle.do_base.specs.contracts.lists.items.Items as outer
+use Rattle.do_base.specs.contracts.lists.items.Items.TheInside as inner
+use mathlib.Core.{Path.{◌≡◌, refl, sym}, List.{List, []}}
 use mathlib.Core.Former.{Former, this, list, via, children}
 use base.Stored.{code_map}
 use denote.RattleType.{RattleType}
 use denote.HoleLaws.{Alike}
 use denote.HolePlaces.{Recodes, struct_places, laid}
-use denote.Hole.Carrier.{listed, list-listed}
-use denote.Hole.Fix.{over}
+use denote.Hole.{Carrier.{listed, list-listed}, Fix.over}
 use denote.Param.Weighed.{Weighed, w_list}
 use denote.Model.Placed.{view_places}
-use Rattle.std.specs.Prelude.{map}
-use Rattle.std.specs.Cmp.Derive.Mapped.{pointwise-map}
-use Rattle.std.specs.Cmp.Lexicographic.{pointwise}
-use Rattle.std.specs.formers.vec.Vec as vec
-use Rattle.std.specs.declared.alloc.Global.{Global}
-use Rattle.std.specs.declared.cmp.PartialEq as eq
-use Rattle.std.specs.contracts.alloc.Global as heap
-use Rattle.std.specs.contracts.impls.GlobalAllocator.TheImpl.{ghosts}
-use Rattle.do_base.specs.declared.lists.items.Items.TheInside.{Inside}
-use Rattle.do_base.specs.declared.lists.items.Items.TheView.{view, invariant}
-use Rattle.do_base.specs.contracts.lists.items.Items as outer
-use Rattle.do_base.specs.contracts.lists.items.Items.TheInside as inner
+use Rattle.std.specs.{Prelude.map, Cmp.{Derive.Mapped.pointwise-map, Lexicographic.pointwise}}
+use Rattle.std.specs.{declared.alloc.Global.Global, contracts.impls.GlobalAllocator.TheImpl.ghosts}
+use Rattle.do_base.specs.declared.lists.items.Items.{TheInside.Inside, TheView.{view, invariant}}
 
 -- its values over another former's
 abbrev pub the_former : Former {0} → Former {0}

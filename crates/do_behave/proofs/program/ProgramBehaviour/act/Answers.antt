@@ -1,7 +1,7 @@
+use Rattle.do_behave.proofs.program.ProgramBehaviour.act.Goals as goal
 use Rattle.std.proofs.Common.{◌≡◌, ℕ, zero, suc, ◌<◌, List, [], ◌∷◌, Some, length, arith, sym, ◌∙◌}
 use Rattle.std.specs.Prelude.{slice_get}
 use Rattle.do_behave.specs.laws.CodeSuits.{ready-parts, within-weaker}
-use Rattle.do_behave.proofs.program.ProgramBehaviour.act.Goals as goal
 
 -- where an item is found, the list does not end before
 found_below : {A : Type 0} (xs : List A) (k : ℕ) (x : A) → slice_get xs k ≡ Some x → k < length xs

@@ -1,8 +1,7 @@
+use Rattle.do_center.proofs.center.Center.add.Goals as goal
 use Rattle.std.proofs.Common.{◌≡◌, ◌<◌, true, ◌++◌, ◌∷◌, [], length, sym, ◌∙◌, ap, subst, arith}
 use Rattle.std.proofs.lemmas.Grind.{common_steps}
-use Rattle.do_center.specs.Seats.{are_seats}
-use Rattle.do_center.proofs.CoreKept.{core_parts, core_from, added_kept}
-use Rattle.do_center.proofs.center.Center.add.Goals as goal
+use Rattle.do_center.{specs.Seats.are_seats, proofs.CoreKept.{core_parts, core_from, added_kept}}
 
 pub invariant_of-self-2 : goal.invariant_of-self-2
 invariant_of-self-2 c =

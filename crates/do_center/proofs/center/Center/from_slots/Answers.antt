@@ -1,6 +1,6 @@
+use Rattle.do_center.proofs.center.Center.from_slots.Goals as goal
 use Rattle.std.proofs.lemmas.Result.{IfOk-weaker}
 use Rattle.do_center.specs.laws.CoreRead.{exact_read}
-use Rattle.do_center.proofs.center.Center.from_slots.Goals as goal
 
 pub returns-clause-exact : goal.returns-clause-exact
 returns-clause-exact c =

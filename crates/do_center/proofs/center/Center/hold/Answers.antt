@@ -1,9 +1,8 @@
+use Rattle.do_center.proofs.center.Center.hold.Goals as goal
 use Rattle.std.proofs.Common.{◌≡◌, ◌<◌, true, false, length, sym, subst, arith}
 use Rattle.std.proofs.lemmas.Grind.{common_steps}
-use Rattle.do_center.specs.Observers.{has_object}
-use Rattle.do_center.specs.Seats.{are_suspended}
+use Rattle.do_center.specs.{Observers.has_object, Seats.are_suspended}
 use Rattle.do_center.proofs.CoreKept.{core_parts, core_from, suspended_kept}
-use Rattle.do_center.proofs.center.Center.hold.Goals as goal
 
 pub invariant_of-self-2 : goal.invariant_of-self-2
 invariant_of-self-2 c =

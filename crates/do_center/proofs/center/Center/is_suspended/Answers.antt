@@ -1,6 +1,6 @@
+use Rattle.do_center.proofs.center.Center.is_suspended.Goals as goal
 use Rattle.std.proofs.Common.{◌∙◌}
 use Rattle.do_center.proofs.SuspendedTold.{core_suspended}
-use Rattle.do_center.proofs.center.Center.is_suspended.Goals as goal
 
 pub returns-clause-meaning : goal.returns-clause-meaning
 returns-clause-meaning c h is =

@@ -1,8 +1,7 @@
-use Rattle.std.proofs.Common.{[]}
-use Rattle.std.proofs.lemmas.Result.{IfOk-weaker}
+use Rattle.do_center.proofs.center.Center.perform.Goals as goal
+use Rattle.std.proofs.{Common.[], lemmas.Result.IfOk-weaker}
 use Rattle.do_native_acts.specs.laws.HistoryLaws.{after_call}
 use Rattle.do_center.specs.Calls.{does}
-use Rattle.do_center.proofs.center.Center.perform.Goals as goal
 
 pub returns-clause-history : goal.returns-clause-history
 returns-clause-history c =

@@ -1,8 +1,7 @@
-use Rattle.std.proofs.Common.{◌≡◌, true, sym, subst}
-use Rattle.do_center.specs.Seats.{are_seats}
-use Rattle.do_center.specs.declared.posting.Posting.{Posting}
-use Rattle.do_center.proofs.CoreKept.{core_parts, core_from, posted_kept}
 use Rattle.do_center.proofs.center.Center.post.Goals as goal
+use Rattle.std.proofs.Common.{◌≡◌, true, sym, subst}
+use Rattle.do_center.specs.{Seats.are_seats, declared.posting.Posting.Posting}
+use Rattle.do_center.proofs.CoreKept.{core_parts, core_from, posted_kept}
 
 pub invariant_of-self : goal.invariant_of-self
 invariant_of-self c =

@@ -1,7 +1,6 @@
-use Rattle.std.proofs.Common.{◌∙◌}
-use Rattle.std.proofs.lemmas.Result.{IfOk-weaker}
-use Rattle.do_center.proofs.RegistrationsTold.{core_registered}
 use Rattle.do_center.proofs.center.Center.registrations.Goals as goal
+use Rattle.std.proofs.{Common.◌∙◌, lemmas.Result.IfOk-weaker}
+use Rattle.do_center.proofs.RegistrationsTold.{core_registered}
 
 pub returns-clause-meaning : goal.returns-clause-meaning
 returns-clause-meaning c h is =

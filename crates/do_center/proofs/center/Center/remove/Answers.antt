@@ -1,9 +1,7 @@
-use Rattle.std.proofs.Common.{◌≡◌, true, sym, subst}
-use Rattle.do_center.specs.Removing.{goes}
-use Rattle.do_center.specs.Seats.{are_seats}
-use Rattle.do_center.proofs.CoreKept.{core_parts, core_from}
-use Rattle.do_center.proofs.RemovedKept.{left_kept}
 use Rattle.do_center.proofs.center.Center.remove.Goals as goal
+use Rattle.std.proofs.Common.{◌≡◌, true, sym, subst}
+use Rattle.do_center.specs.{Removing.goes, Seats.are_seats}
+use Rattle.do_center.proofs.{CoreKept.{core_parts, core_from}, RemovedKept.left_kept}
 
 pub invariant_of-self : goal.invariant_of-self
 invariant_of-self c =

@@ -1,8 +1,7 @@
-use Rattle.std.proofs.Common.{◌≡◌, true, sym, ◌∙◌, ap, subst}
-use Rattle.do_center.specs.Queues.{with_queue}
-use Rattle.do_center.specs.Seats.{are_seats, are_suspended}
-use Rattle.do_center.proofs.CoreKept.{core_parts, core_from, cleared_kept, resumed_kept}
 use Rattle.do_center.proofs.center.Center.suspend.Goals as goal
+use Rattle.std.proofs.Common.{◌≡◌, true, sym, ◌∙◌, ap, subst}
+use Rattle.do_center.specs.{Queues.with_queue, Seats.{are_seats, are_suspended}}
+use Rattle.do_center.proofs.CoreKept.{core_parts, core_from, cleared_kept, resumed_kept}
 
 pub invariant_of-self : goal.invariant_of-self
 invariant_of-self c =

@@ -1,9 +1,6 @@
-use Rattle.std.proofs.Common.{◌≡◌, Some, ◌∙◌, ap, arith}
-use Rattle.std.proofs.lemmas.Grind.{common_steps}
-use Rattle.do_center.specs.Seats.{Core}
-use Rattle.do_center.specs.Slots.{from_slots, to_slots}
-use Rattle.do_center.proofs.SlotsExact.{from_to}
 use Rattle.do_center.proofs.center.Center.to_slots.Goals as goal
+use Rattle.std.proofs.{Common.{◌≡◌, Some, ◌∙◌, ap, arith}, lemmas.Grind.common_steps}
+use Rattle.do_center.{specs.{Seats.Core, Slots.{from_slots, to_slots}}, proofs.SlotsExact.from_to}
 
 pub returns-clause-exact : goal.returns-clause-exact
 returns-clause-exact c =

@@ -1,12 +1,8 @@
-use Rattle.std.proofs.Common.{◌≡◌, Some, true, false, sym, subst, arith}
-use Rattle.std.proofs.Common.{take, ◌+◌, ◌++◌, ◌∷◌, []}
-use Rattle.std.proofs.lemmas.Grind.{common_steps}
-use Rattle.std.proofs.lemmas.Option.{slice_get_read}
-use Rattle.std.specs.Prelude.{slice_get}
-use Rattle.do_center.specs.Observers.{are_distinct, has_object}
-use Rattle.do_center.proofs.CoreKept.{distinct_pushed}
-use Rattle.do_center.proofs.SuspendedSet.{there_twice}
 use Rattle.do_center.proofs.suspended.Suspended.of.Goals as goal
+use Rattle.std.proofs.Common.{◌≡◌, Some, true, false, sym, subst, arith, take, ◌+◌, ◌++◌, ◌∷◌, []}
+use Rattle.std.{proofs.lemmas.{Grind.common_steps, Option.slice_get_read}, specs.Prelude.slice_get}
+use Rattle.do_center.specs.Observers.{are_distinct, has_object}
+use Rattle.do_center.proofs.{CoreKept.distinct_pushed, SuspendedSet.there_twice}
 
 pub returns-then-contains : goal.returns-then-contains
 returns-then-contains c =

@@ -1,6 +1,6 @@
+use Rattle.do_center.proofs.suspended.Suspended.of.Given as goal
 use Rattle.std.proofs.Common.{◌≡◌, true, take}
 use Rattle.do_center.specs.Observers.{are_distinct}
-use Rattle.do_center.proofs.suspended.Suspended.of.Given as goal
 
 abbrev pub invariant-loop-observer : goal.invariant-loop-observer
 invariant-loop-observer l =

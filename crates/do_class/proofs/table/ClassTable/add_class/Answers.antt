@@ -1,6 +1,6 @@
+use Rattle.do_class.proofs.table.ClassTable.add_class.Goals as goal
 use Rattle.std.proofs.Common.{◌<◌, ◌≤◌, length, arith, sym, subst, ◌∙◌}
 use Rattle.do_class.proofs.Tables.{IsIndexedTable-added}
-use Rattle.do_class.proofs.table.ClassTable.add_class.Goals as goal
 
 pub invariant_of-self-2 : goal.invariant_of-self-2
 invariant_of-self-2 c =

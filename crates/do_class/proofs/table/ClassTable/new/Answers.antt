@@ -1,7 +1,6 @@
-use Rattle.std.proofs.Common.{subst, sym}
-use Rattle.do_class.specs.Index.{IsIndexedTable}
-use Rattle.do_class.proofs.Tables.{IsIndexedTable-empty}
 use Rattle.do_class.proofs.table.ClassTable.new.Goals as goal
+use Rattle.std.proofs.Common.{subst, sym}
+use Rattle.do_class.{specs.Index.IsIndexedTable, proofs.Tables.IsIndexedTable-empty}
 
 pub invariant_of-result : goal.invariant_of-result
 invariant_of-result c =

@@ -1,12 +1,10 @@
-use Rattle.std.proofs.Common.{length, arith, subst, sym}
-use Rattle.std.specs.List.{AllByRecursion}
+use Rattle.do_coder.proofs.read.front.decode.Goals as goal
+use Rattle.std.{proofs.Common.{length, arith, subst, sym}, specs.List.AllByRecursion}
 use Rattle.do_grammar.specs.Reader.{no_kind, short, bad}
 use Rattle.do_grammar.proofs.faults.AnswerExact.{bytes_from_each}
 use Rattle.do_coder.specs.Recent.{IsKnown}
-use Rattle.do_coder.proofs.packets.PacketRead.{packet_found, packet_only}
-use Rattle.do_coder.proofs.packets.PacketRead.{packet_known, packet_short}
-use Rattle.do_coder.proofs.packets.PacketRead.{packet_left, packet_bad, packet_never}
-use Rattle.do_coder.proofs.read.front.decode.Goals as goal
+use Rattle.do_coder.proofs.packets.PacketRead.{packet_found, packet_only, packet_known}
+use Rattle.do_coder.proofs.packets.PacketRead.{packet_short, packet_left, packet_bad, packet_never}
 
 -- the rest is no longer than the bytes
 pub overflow_sub-result : goal.overflow_sub-result

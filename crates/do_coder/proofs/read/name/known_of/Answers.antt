@@ -1,8 +1,7 @@
-use Rattle.std.proofs.Common.{◌≡◌, Some, refl, ap, ◌∙◌, arith}
-use Rattle.do_coder.specs.declared.recent.pair.Pair.{Pair}
-use Rattle.do_coder.specs.Recent.{place_in}
-use Rattle.do_coder.proofs.tables.TableLaws.{got_place}
 use Rattle.do_coder.proofs.read.name.known_of.Goals as goal
+use Rattle.std.proofs.Common.{◌≡◌, Some, refl, ap, ◌∙◌, arith}
+use Rattle.do_coder.specs.{declared.recent.pair.Pair.Pair, Recent.place_in}
+use Rattle.do_coder.proofs.tables.TableLaws.{got_place}
 
 pub returns-clause-stays : goal.returns-clause-stays
 returns-clause-stays c =

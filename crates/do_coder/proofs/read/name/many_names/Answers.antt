@@ -1,10 +1,9 @@
+use Rattle.do_coder.proofs.read.name.many_names.Goals as goal
 use Rattle.std.proofs.Common.{ap, refl}
-use Rattle.do_coder.specs.Recent.{after_name}
-use Rattle.do_coder.specs.NameLog.{Tables}
+use Rattle.do_coder.specs.{Recent.after_name, NameLog.Tables}
 use Rattle.do_grammar.specs.OneSpelling.{times_by}
 use Rattle.do_coder.specs.Names.{name_at}
 use Rattle.do_grammar.proofs.loops.TimesByLoop.{value_turn_by, fold_push}
-use Rattle.do_coder.proofs.read.name.many_names.Goals as goal
 
 pub loop-preserved : goal.loop-preserved
 loop-preserved c =

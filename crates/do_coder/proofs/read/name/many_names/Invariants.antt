@@ -1,10 +1,9 @@
-use Rattle.std.proofs.Common.{◌≡◌, ◌-◌}
-use Rattle.std.specs.List.{fold}
+use Rattle.do_coder.proofs.read.name.many_names.Given as goal
+use Rattle.std.{proofs.Common.{◌≡◌, ◌-◌}, specs.List.fold}
 use Rattle.do_grammar.proofs.loops.TimesLoop.{with_front}
 use Rattle.do_coder.specs.Recent.{after_name}
 use Rattle.do_grammar.specs.OneSpelling.{times_by}
 use Rattle.do_coder.specs.Names.{name_at}
-use Rattle.do_coder.proofs.read.name.many_names.Given as goal
 
 abbrev pub invariant-loop : goal.invariant-loop
 invariant-loop l =

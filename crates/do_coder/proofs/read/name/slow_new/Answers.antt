@@ -1,8 +1,8 @@
+use Rattle.do_coder.proofs.read.name.slow_new.Goals as goal
 use Rattle.std.proofs.Common.{◌≡◌, ◌≤◌, List, ℕ, false, ap, sym, subst, ◌∙◌, arith}
 use Rattle.do_grammar.specs.BesideHoles.{next_beside, is_hole}
 use Rattle.do_coder.specs.Names.{taken_with, taken_whole}
 use Rattle.do_coder.proofs.tables.TakenPairs.{some_serial, class_left, free_none}
-use Rattle.do_coder.proofs.read.name.slow_new.Goals as goal
 
 pub num_beside_of-requires : goal.num_beside_of-requires
 num_beside_of-requires c =

@@ -1,7 +1,6 @@
-use Rattle.do_grammar.specs.Reader.{times}
-use Rattle.do_grammar.proofs.loops.TimesLoop.{value_turn}
-use Rattle.do_coder.specs.Packets.{slot_counts, copy_at}
 use Rattle.do_coder.proofs.read.packet.many_copies.Goals as goal
+use Rattle.do_grammar.{specs.Reader.times, proofs.loops.TimesLoop.value_turn}
+use Rattle.do_coder.specs.Packets.{slot_counts, copy_at}
 
 pub loop-preserved : goal.loop-preserved
 loop-preserved c =

@@ -1,7 +1,6 @@
-use Rattle.do_grammar.specs.Reader.{times}
-use Rattle.do_grammar.proofs.loops.TimesLoop.{value_turn}
-use Rattle.do_coder.specs.Parts.{part_at}
 use Rattle.do_coder.proofs.read.part.+parts.Goals as goal
+use Rattle.do_grammar.{specs.Reader.times, proofs.loops.TimesLoop.value_turn}
+use Rattle.do_coder.specs.Parts.{part_at}
 
 pub parts_of-loop-preserved : goal.parts_of-loop-preserved
 parts_of-loop-preserved t c =

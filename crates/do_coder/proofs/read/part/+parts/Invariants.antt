@@ -1,8 +1,7 @@
-use Rattle.std.proofs.Common.{◌≡◌, ◌+◌, ◌*◌, ◌-◌}
-use Rattle.do_grammar.specs.Reader.{times}
-use Rattle.do_grammar.proofs.loops.TimesLoop.{with_front}
-use Rattle.do_coder.specs.Parts.{part_at}
 use Rattle.do_coder.proofs.read.part.+parts.Given as goal
+use Rattle.std.proofs.Common.{◌≡◌, ◌+◌, ◌*◌, ◌-◌}
+use Rattle.do_grammar.{specs.Reader.times, proofs.loops.TimesLoop.with_front}
+use Rattle.do_coder.specs.Parts.{part_at}
 
 abbrev pub decreases-part_of : goal.decreases-part_of
 decreases-part_of l = 3 * l.depth

@@ -1,6 +1,6 @@
+use Rattle.do_coder.proofs.recent.index.append.Goals as goal
 use Rattle.std.proofs.Common.{◌≡◌, length, sym, ap, ◌∙◌, arith}
 use Rattle.do_coder.proofs.tables.IndexLaws.{found_front, found_end, found_same, found_same_end}
-use Rattle.do_coder.proofs.recent.index.append.Goals as goal
 
 pub returns-in-Err-clause-found : goal.returns-in-Err-clause-found
 returns-in-Err-clause-found c =

@@ -1,6 +1,6 @@
+use Rattle.do_coder.proofs.recent.index.find.Goals as goal
 use Rattle.std.proofs.Common.{sym, rules}
 use Rattle.do_coder.proofs.tables.IndexLaws.{not_stood, not_stored}
-use Rattle.do_coder.proofs.recent.index.find.Goals as goal
 
 pub returns-in-None : goal.returns-in-None
 returns-in-None c =

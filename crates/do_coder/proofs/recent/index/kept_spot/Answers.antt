@@ -1,6 +1,6 @@
+use Rattle.do_coder.proofs.recent.index.kept_spot.Goals as goal
 use Rattle.std.proofs.Common.{rules}
 use Rattle.do_coder.proofs.tables.IndexLaws.{one_place, kept_place, no_place}
-use Rattle.do_coder.proofs.recent.index.kept_spot.Goals as goal
 
 pub returns-in-None : goal.returns-in-None
 returns-in-None c =

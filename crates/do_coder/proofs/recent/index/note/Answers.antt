@@ -1,6 +1,6 @@
+use Rattle.do_coder.proofs.recent.index.note.Goals as goal
 use Rattle.std.proofs.Common.{rules}
 use Rattle.do_coder.proofs.tables.IndexLaws.{noted_now, noted_kept}
-use Rattle.do_coder.proofs.recent.index.note.Goals as goal
 
 -- each pair of the table is found
 pub returns-in-Ok-clause-ok : goal.returns-in-Ok-clause-ok

@@ -1,18 +1,13 @@
+use Rattle.do_effects.proofs.changing.Core.answers.Goals as goal
 use Rattle.std.proofs.Common.{refl, sym, ◌∙◌, ap, arith, length, subst}
 use Rattle.do_network.specs.Own.{Own}
-use Rattle.do_part.specs.Answers.{answered_with}
-use Rattle.do_part.specs.Names.{values_of}
+use Rattle.do_part.specs.{Answers.answered_with, Names.values_of}
 use Rattle.do_rules.specs.Answering.{call_of}
 use Rattle.do_stack.specs.Answered.{values_taken}
-use Rattle.do_effects.specs.Doing.{doing}
-use Rattle.do_effects.specs.Taking.{on_message}
-use Rattle.do_effects.specs.Tidy.{IsTidy}
+use Rattle.do_effects.specs.{Doing.doing, Taking.on_message, Tidy.IsTidy}
 use Rattle.do_effects.specs.declared.changing.Core.{Core}
-use Rattle.do_effects.proofs.Alone.{tidy_node}
-use Rattle.do_effects.proofs.Gained.{gained_stored}
-use Rattle.do_effects.proofs.Judged.{has_message}
+use Rattle.do_effects.proofs.{Alone.tidy_node, Gained.gained_stored, Judged.has_message}
 use Rattle.do_effects.proofs.Taken.{answered_keeps, answers_done, same_heap}
-use Rattle.do_effects.proofs.changing.Core.answers.Goals as goal
 
 -- what answers a call has a message
 pub gain-requires-clause-message : goal.gain-requires-clause-message

@@ -1,23 +1,15 @@
+use Rattle.do_effects.proofs.changing.Core.asks.Goals as goal
 use Rattle.std.proofs.Common.{◌≡◌, ℕ, true, refl, sym, ◌∙◌, ap, arith, subst}
 use Rattle.do_behave.specs.declared.invocation.InvState.TheVariants.{Waits}
-use Rattle.do_machine.specs.declared.item.Item.{Item}
-use Rattle.do_machine.specs.declared.node.Node.{Node}
-use Rattle.do_machine.specs.State.{is_open}
-use Rattle.do_machine.specs.run.Changes.{stands, uses_number}
-use Rattle.do_machine.specs.run.Fresh.{with_stack}
-use Rattle.do_machine.specs.run.Delivery.{with_top}
+use Rattle.do_machine.specs.{declared.{item.Item.Item, node.Node.Node}, State.is_open}
+use Rattle.do_machine.specs.run.{Changes.{stands, uses_number}, Fresh.with_stack, Delivery.with_top}
 use Rattle.do_machine.specs.run.Verdicts.{requesting, waits_for}
 use Rattle.do_network.specs.Own.{Own}
 use Rattle.do_stack.specs.Waiting.{with_top as first_changed}
-use Rattle.do_effects.specs.Doing.{Doing, does, doing}
-use Rattle.do_effects.specs.Plans.{requested, top_changed}
-use Rattle.do_effects.specs.Sends.{CanSend, GivesNothingUp, names_counted, sends}
-use Rattle.do_effects.specs.Tidy.{IsTidy}
-use Rattle.do_effects.proofs.Alone.{tidy_node}
-use Rattle.do_effects.proofs.Did.{does_from, requested_can, requested_keeps, requested_names}
-use Rattle.do_effects.proofs.Did.{requested_sends}
-use Rattle.do_effects.proofs.Outs.{some_runs, used_up}
-use Rattle.do_effects.proofs.changing.Core.asks.Goals as goal
+use Rattle.do_effects.specs.{Doing.{Doing, does, doing}, Plans.{requested, top_changed}}
+use Rattle.do_effects.specs.{Sends.{CanSend, GivesNothingUp, names_counted, sends}, Tidy.IsTidy}
+use Rattle.do_effects.proofs.{Alone.tidy_node, Did.{does_from, requested_can, requested_keeps}}
+use Rattle.do_effects.proofs.{Did.{requested_names, requested_sends}, Outs.{some_runs, used_up}}
 
 -- there is a top invocation, since one runs
 pub call_peer-number-requires-clause-top : goal.call_peer-number-requires-clause-top

@@ -1,18 +1,13 @@
+use Rattle.do_effects.proofs.changing.Core.begins.Goals as goal
 use Rattle.std.proofs.Common.{refl, sym, ◌∙◌, ap, arith, length, subst}
-use Rattle.do_machine.specs.declared.node.Node.{Node}
-use Rattle.do_machine.specs.run.Fresh.{pushed}
+use Rattle.do_machine.specs.{declared.node.Node.Node, run.Fresh.pushed}
 use Rattle.do_network.specs.Own.{Own}
 use Rattle.do_part.specs.Names.{values_of}
 use Rattle.do_stack.specs.Uses.{invocation_values}
-use Rattle.do_effects.specs.Doing.{doing}
-use Rattle.do_effects.specs.Taking.{on_message}
-use Rattle.do_effects.specs.Tidy.{IsTidy}
+use Rattle.do_effects.specs.{Doing.doing, Taking.on_message, Tidy.IsTidy}
 use Rattle.do_effects.specs.declared.changing.Core.{Core}
-use Rattle.do_effects.proofs.Alone.{tidy_node}
-use Rattle.do_effects.proofs.Gained.{gained_node, gained_stored}
-use Rattle.do_effects.proofs.Judged.{begins_back, begins_waiting, has_message}
-use Rattle.do_effects.proofs.Taken.{begins_done}
-use Rattle.do_effects.proofs.changing.Core.begins.Goals as goal
+use Rattle.do_effects.proofs.{Alone.tidy_node, Gained.{gained_node, gained_stored}}
+use Rattle.do_effects.proofs.{Judged.{begins_back, begins_waiting, has_message}, Taken.begins_done}
 
 -- what begins a method is a message
 pub gain-requires-clause-message : goal.gain-requires-clause-message

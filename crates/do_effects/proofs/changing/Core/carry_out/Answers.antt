@@ -1,17 +1,13 @@
+use Rattle.do_effects.proofs.changing.Core.carry_out.Goals as goal
 use Rattle.std.proofs.Common.{[], ◌∷◌, refl, ap, sym, ◌∙◌, arith}
 use Rattle.do_base.specs.declared.values.value.Value.TheVariants.{Obj}
 use Rattle.do_behave.specs.declared.invocation.InvState.TheVariants.{Below}
-use Rattle.do_machine.specs.declared.node.Node.{Node}
-use Rattle.do_machine.specs.Effect.{only}
-use Rattle.do_machine.specs.State.{own}
+use Rattle.do_machine.specs.{declared.node.Node.Node, Effect.only, State.own}
 use Rattle.do_machine.specs.run.Changes.{goes_on, goes_to, stands, uses}
 use Rattle.do_machine.specs.run.Fresh.{pushed, with_objects, with_stack}
 use Rattle.do_stack.specs.Waiting.{with_top as first_changed}
 use Rattle.do_effects.specs.Plans.{plan_effect, plan_needs, top_changed}
-use Rattle.do_effects.proofs.Did.{node_did}
-use Rattle.do_effects.proofs.Gained.{heap_made}
-use Rattle.do_effects.proofs.Turned.{turned}
-use Rattle.do_effects.proofs.changing.Core.carry_out.Goals as goal
+use Rattle.do_effects.proofs.{Did.node_did, Gained.heap_made, Turned.turned}
 
 -- the top invocation goes on with a value
 pub returns-in-Goes : goal.returns-in-Goes

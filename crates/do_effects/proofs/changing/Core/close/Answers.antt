@@ -1,19 +1,15 @@
-use Rattle.std.proofs.Common.{◌≡◌, ◌∙◌, ap, arith, length, subst, sym}
+use Rattle.do_effects.proofs.changing.Core.close.Goals as goal
+use Rattle.std.proofs.Common.{◌≡◌, ◌∙◌, ap, arith, length, subst, sym, List}
 use Rattle.do_base.specs.names.Names.{TokenName}
-use Rattle.std.proofs.Common.{List}
 use Rattle.std.specs.Prelude.{fold}
 use Rattle.do_network.specs.Links.{sending}
 use Rattle.do_effects.specs.Settled.{settle_posts}
-use Rattle.do_machine.specs.Effect.{only}
-use Rattle.do_machine.specs.ends.Closing.{parted}
+use Rattle.do_machine.specs.{Effect.only, ends.Closing.parted}
 use Rattle.do_network.specs.Own.{Own}
 use Rattle.do_part.specs.Owned.{Owned}
 use Rattle.do_streams.specs.Streamed.{outbox}
-use Rattle.do_effects.specs.Tidy.{IsTidy}
-use Rattle.do_effects.proofs.LendsSettled.{close_told}
-use Rattle.do_effects.proofs.ObjectsLeft.{few_settled}
+use Rattle.do_effects.{specs.Tidy.IsTidy, proofs.{LendsSettled.close_told, ObjectsLeft.few_settled}}
 use Rattle.do_effects.proofs.TidyCounts.{counted_is_tidy}
-use Rattle.do_effects.proofs.changing.Core.close.Goals as goal
 
 -- a node that is parted counts nothing that it does not keep
 pub settle_all-requires-clause-tidy : goal.settle_all-requires-clause-tidy

@@ -1,10 +1,8 @@
+use Rattle.do_effects.proofs.changing.Core.closes.Goals as goal
 use Rattle.std.proofs.Common.{sym, ◌∙◌, ap, arith, length}
 use Rattle.do_machine.specs.declared.node.Node.{Node}
-use Rattle.do_effects.specs.Doing.{doing}
-use Rattle.do_effects.specs.declared.changing.Core.{Core}
-use Rattle.do_effects.proofs.Judged.{is_quiet, on_quiet}
-use Rattle.do_effects.proofs.Taken.{closes_done, parted_asked, parted_held}
-use Rattle.do_effects.proofs.changing.Core.closes.Goals as goal
+use Rattle.do_effects.{specs.{Doing.doing, declared.changing.Core.Core}, proofs.Judged.is_quiet}
+use Rattle.do_effects.proofs.{Judged.on_quiet, Taken.{closes_done, parted_asked, parted_held}}
 
 -- the line is shown, and the end is closed
 pub returns-clause-done : goal.returns-clause-done

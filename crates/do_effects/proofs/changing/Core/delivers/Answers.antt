@@ -1,26 +1,17 @@
+use Rattle.do_effects.proofs.changing.Core.delivers.Goals as goal
 use Rattle.std.proofs.Common.{◌≡◌, true, [], ◌∷◌, refl, sym, ◌∙◌, ap, arith, subst}
-use Rattle.do_machine.specs.declared.item.Item.TheVariants.{Raised, Reply}
-use Rattle.do_machine.specs.declared.node.Node.{Node}
-use Rattle.do_machine.specs.Effect.{only}
-use Rattle.do_machine.specs.State.{is_open}
-use Rattle.do_machine.specs.run.Changes.{answered}
-use Rattle.do_machine.specs.run.Fresh.{with_stack}
+use Rattle.do_machine.specs.declared.{item.Item.TheVariants.{Raised, Reply}, node.Node.Node}
+use Rattle.do_machine.specs.{Effect.only, State.is_open, run.{Changes.answered, Fresh.with_stack}}
 use Rattle.do_network.specs.Own.{Own}
-use Rattle.do_rules.specs.Delivery.{delivered}
-use Rattle.do_rules.specs.declared.run.delivery.Delivery.{Delivery}
+use Rattle.do_rules.specs.{Delivery.delivered, declared.run.delivery.Delivery.Delivery}
 use Rattle.do_stack.specs.Waiting.{with_top as first_changed}
 use Rattle.do_machine.specs.held.Refers.{answer_values}
 use Rattle.do_part.specs.Names.{AreStored, values_of}
 use Rattle.do_effects.specs.Doing.{Doing, does, doing}
-use Rattle.do_effects.specs.Plans.{CanDeliver, below, delivery_needs, delivery_values}
-use Rattle.do_effects.specs.Plans.{top_popped}
-use Rattle.do_effects.specs.Sends.{CanSend, sends}
-use Rattle.do_effects.specs.Tidy.{IsTidy}
-use Rattle.do_effects.specs.declared.changing.Core.{Core}
-use Rattle.do_effects.proofs.Alone.{tidy_node}
-use Rattle.do_effects.proofs.Did.{below_is, bounded_node, does_from, does_shown, node_did}
-use Rattle.do_effects.proofs.Did.{popped_is}
-use Rattle.do_effects.proofs.changing.Core.delivers.Goals as goal
+use Rattle.do_effects.specs.Plans.{CanDeliver, below, delivery_needs, delivery_values, top_popped}
+use Rattle.do_effects.specs.{Sends.{CanSend, sends}, Tidy.IsTidy, declared.changing.Core.Core}
+use Rattle.do_effects.proofs.{Alone.tidy_node, Did.{below_is, bounded_node, does_from, does_shown}}
+use Rattle.do_effects.proofs.Did.{node_did, popped_is}
 
 -- the top invocation is popped, and the line is shown
 pub returns-in-Shows : goal.returns-in-Shows

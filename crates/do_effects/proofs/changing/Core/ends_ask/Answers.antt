@@ -1,13 +1,11 @@
+use Rattle.do_effects.proofs.changing.Core.ends_ask.Goals as goal
 use Rattle.std.proofs.Common.{sym, ◌∙◌, ap, arith, length, subst}
 use Rattle.do_machine.specs.lend.Asking.{settling}
 use Rattle.do_network.specs.Own.{Own}
 use Rattle.do_part.specs.Owned.{Owned}
-use Rattle.do_effects.specs.Doing.{Doing, does, doing}
-use Rattle.do_effects.specs.Tidy.{IsTidy}
-use Rattle.do_effects.proofs.AsksEnded.{ended_asked, ended_heap, ended_held}
-use Rattle.do_effects.proofs.AsksEnded.{ended_takes, ended_tidy}
-use Rattle.do_effects.proofs.AsksEnded.{follow_asked}
-use Rattle.do_effects.proofs.changing.Core.ends_ask.Goals as goal
+use Rattle.do_effects.specs.{Doing.{Doing, does, doing}, Tidy.IsTidy}
+use Rattle.do_effects.proofs.AsksEnded.{ended_asked, ended_heap, ended_held, ended_takes}
+use Rattle.do_effects.proofs.AsksEnded.{ended_tidy, follow_asked}
 
 -- what is granted was asked for
 pub end_ask-requires-clause-asked : goal.end_ask-requires-clause-asked

@@ -1,15 +1,10 @@
+use Rattle.do_rules.specs.declared.take.ruling.Ruling.TheVariants as rulings
+use Rattle.do_effects.proofs.changing.Core.ends_lend.Goals as goal
 use Rattle.std.proofs.Common.{refl, sym, ap, arith, subst}
 use Rattle.do_machine.specs.lend.Lending.{with_settled}
-use Rattle.do_rules.specs.declared.take.ruling.Ruling.TheVariants as rulings
-use Rattle.do_effects.specs.Doing.{doing}
-use Rattle.do_effects.specs.Taking.{taking_needs}
-use Rattle.do_effects.specs.Tidy.{IsTidy}
-use Rattle.do_effects.specs.declared.changing.Core.{Core}
-use Rattle.do_effects.proofs.Alone.{tidy_node}
-use Rattle.do_effects.proofs.Did.{bounded_node}
-use Rattle.do_effects.proofs.Judged.{is_quiet, on_quiet}
-use Rattle.do_effects.proofs.Taken.{node_done}
-use Rattle.do_effects.proofs.changing.Core.ends_lend.Goals as goal
+use Rattle.do_effects.specs.{Doing.doing, Taking.taking_needs, Tidy.IsTidy}
+use Rattle.do_effects.{specs.declared.changing.Core.Core, proofs.Alone.tidy_node}
+use Rattle.do_effects.proofs.{Did.bounded_node, Judged.{is_quiet, on_quiet}, Taken.node_done}
 
 -- the line is shown, and the node forgets the lend
 pub returns-clause-done : goal.returns-clause-done

@@ -1,13 +1,9 @@
-use Rattle.std.proofs.Common.{◌≡◌, true, false, refl, sym, ◌∙◌, ap, arith, length, subst}
-use Rattle.do_machine.specs.State.{is_open}
-use Rattle.do_machine.specs.run.Fresh.{with_objects}
-use Rattle.do_network.specs.Own.{Own}
-use Rattle.do_effects.specs.Doing.{doing}
-use Rattle.do_effects.specs.Taking.{gains}
-use Rattle.do_effects.specs.Tidy.{IsTidy}
-use Rattle.do_effects.proofs.Alone.{tidy_node}
-use Rattle.do_effects.proofs.Gained.{gained_is, had_in, heap_made, none_had}
 use Rattle.do_effects.proofs.changing.Core.gain.Goals as goal
+use Rattle.std.proofs.Common.{◌≡◌, true, false, refl, sym, ◌∙◌, ap, arith, length, subst}
+use Rattle.do_machine.specs.{State.is_open, run.Fresh.with_objects}
+use Rattle.do_network.specs.Own.{Own}
+use Rattle.do_effects.specs.{Doing.doing, Taking.gains, Tidy.IsTidy}
+use Rattle.do_effects.proofs.{Alone.tidy_node, Gained.{gained_is, had_in, heap_made, none_had}}
 
 -- an item with a message has names
 pub returns-in_default : goal.returns-in_default

@@ -1,3 +1,4 @@
+use Rattle.do_effects.proofs.changing.Core.give_back_all.Goals as goal
 use Rattle.std.proofs.Common.{◌∙◌, ◌∷◌, [], ap, length, map, refl}
 use Rattle.do_base.specs.names.Names.{ObjectName}
 use Rattle.do_network.specs.Links.{sending}
@@ -5,7 +6,6 @@ use Rattle.do_part.specs.Left.{given_up}
 use Rattle.do_streams.specs.Streamed.{outbox}
 use Rattle.do_effects.proofs.Telling.{posts_end, posts_next, telling_begins, telling_next}
 use Rattle.do_effects.proofs.Telling.{telling_room}
-use Rattle.do_effects.proofs.changing.Core.give_back_all.Goals as goal
 
 -- nothing was given back yet
 pub loop-one-init : goal.loop-one-init

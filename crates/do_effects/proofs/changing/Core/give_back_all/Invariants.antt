@@ -1,11 +1,10 @@
 -- The objects that were given back so far.
-use Rattle.std.proofs.Common.{◌≡◌, drop, length, map}
-use Rattle.std.specs.Prelude.{fold}
+use Rattle.do_effects.proofs.changing.Core.give_back_all.Given as goal
+use Rattle.std.{proofs.Common.{◌≡◌, drop, length, map}, specs.Prelude.fold}
 use Rattle.do_network.specs.Links.{sending}
 use Rattle.do_part.specs.Left.{given_up}
 use Rattle.do_streams.specs.Streamed.{outbox}
 use Rattle.do_effects.proofs.Telling.{IsTelling}
-use Rattle.do_effects.proofs.changing.Core.give_back_all.Given as goal
 
 -- giving the rest back as well gives all back, and no line was shown
 abbrev pub invariant-loop-one : goal.invariant-loop-one

@@ -1,20 +1,13 @@
-use Rattle.std.proofs.Common.{◌≡◌, ◌∙◌, ap, arith, length, map, subst, sym}
-use Rattle.std.specs.Prelude.{fold}
 use Rattle.do_base.specs.declared.events.shown.Shown.TheVariants as shows
-use Rattle.do_machine.specs.State.{own}
-use Rattle.do_machine.specs.held.Leaving.{leaving}
-use Rattle.do_network.specs.Links.{Outbox, sending}
-use Rattle.do_network.specs.Own.{Own, is_counted}
-use Rattle.do_part.specs.Left.{given_up}
-use Rattle.do_part.specs.Owned.{Owned}
-use Rattle.do_streams.specs.Streamed.{outbox}
-use Rattle.do_effects.specs.Bounded.{HasNoMore}
-use Rattle.do_effects.specs.Tidy.{IsTidy}
-use Rattle.do_effects.proofs.ObjectsLeft.{few_frames, few_freed, few_left, few_lines}
-use Rattle.do_effects.proofs.ObjectsLeft.{left_done, left_fewer}
-use Rattle.do_effects.proofs.ObjectsLeft.{shown_by_port}
-use Rattle.do_effects.proofs.TidyCounts.{counted_is_tidy}
 use Rattle.do_effects.proofs.changing.Core.leave.Goals as goal
+use Rattle.std.{proofs.Common.{◌≡◌, ◌∙◌, ap, arith, length, map, subst, sym}, specs.Prelude.fold}
+use Rattle.do_machine.specs.{State.own, held.Leaving.leaving}
+use Rattle.do_network.specs.{Links.{Outbox, sending}, Own.{Own, is_counted}}
+use Rattle.do_part.specs.{Left.given_up, Owned.Owned}
+use Rattle.do_streams.specs.Streamed.{outbox}
+use Rattle.do_effects.specs.{Bounded.HasNoMore, Tidy.IsTidy}
+use Rattle.do_effects.proofs.ObjectsLeft.{few_frames, few_freed, few_left, few_lines, left_done}
+use Rattle.do_effects.proofs.{ObjectsLeft.{left_fewer, shown_by_port}, TidyCounts.counted_is_tidy}
 
 -- no more objects are freed than are stored
 pub show_freed-requires : goal.show_freed-requires

@@ -1,17 +1,12 @@
+use Rattle.do_rules.specs.declared.take.ruling.Ruling.TheVariants as rulings
+use Rattle.do_effects.proofs.changing.Core.raises.Goals as goal
 use Rattle.std.proofs.Common.{Some, refl, sym, ap, arith, subst}
 use Rattle.do_behave.specs.declared.invocation.Answer.TheVariants.{Raised}
 use Rattle.do_part.specs.Answers.{answered_with}
 use Rattle.do_rules.specs.Answering.{call_of}
-use Rattle.do_rules.specs.declared.take.ruling.Ruling.TheVariants as rulings
-use Rattle.do_effects.specs.Doing.{doing}
-use Rattle.do_effects.specs.Taking.{taking_needs}
-use Rattle.do_effects.specs.Tidy.{IsTidy}
-use Rattle.do_effects.specs.declared.changing.Core.{Core}
-use Rattle.do_effects.proofs.Alone.{tidy_node}
-use Rattle.do_effects.proofs.Did.{bounded_node}
-use Rattle.do_effects.proofs.Judged.{is_quiet, on_quiet}
-use Rattle.do_effects.proofs.Taken.{node_done}
-use Rattle.do_effects.proofs.changing.Core.raises.Goals as goal
+use Rattle.do_effects.specs.{Doing.doing, Taking.taking_needs, Tidy.IsTidy}
+use Rattle.do_effects.{specs.declared.changing.Core.Core, proofs.Alone.tidy_node}
+use Rattle.do_effects.proofs.{Did.bounded_node, Judged.{is_quiet, on_quiet}, Taken.node_done}
 
 -- the line is shown, and the call has its exception
 pub returns-clause-done : goal.returns-clause-done

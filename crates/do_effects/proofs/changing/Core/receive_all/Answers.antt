@@ -1,14 +1,10 @@
+use Rattle.do_effects.proofs.changing.Core.receive_all.Goals as goal
 use Rattle.std.proofs.Common.{◌≡◌, ◌+◌, [], ◌∷◌, drop, sym, ◌∙◌, ap, arith, length, subst}
 use Rattle.do_class.specs.declared.packet.Name.{Name}
-use Rattle.do_machine.specs.State.{is_open}
-use Rattle.do_machine.specs.declared.node.Node.{Node}
-use Rattle.do_effects.specs.Doing.{doing}
-use Rattle.do_effects.specs.Room.{IsWithin}
-use Rattle.do_effects.specs.Taking.{gains, to_gain}
+use Rattle.do_machine.specs.{State.is_open, declared.node.Node.Node}
+use Rattle.do_effects.specs.{Doing.doing, Room.IsWithin, Taking.{gains, to_gain}}
 use Rattle.do_effects.proofs.Gained.{drop_next, drop_rest, gains_none}
-use Rattle.do_effects.proofs.NamesInTurn.{gains_first, gains_node}
-use Rattle.do_effects.proofs.Within.{names_within}
-use Rattle.do_effects.proofs.changing.Core.receive_all.Goals as goal
+use Rattle.do_effects.proofs.{NamesInTurn.{gains_first, gains_node}, Within.names_within}
 
 -- one more name is received
 pub loop-name-preserved : goal.loop-name-preserved

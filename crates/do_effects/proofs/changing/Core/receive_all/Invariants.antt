@@ -1,10 +1,7 @@
+use Rattle.do_effects.proofs.changing.Core.receive_all.Given as goal
 use Rattle.std.proofs.Common.{◌≡◌, true, false, [], drop}
 use Rattle.do_machine.specs.State.{is_open}
-use Rattle.do_effects.specs.Doing.{doing}
-use Rattle.do_effects.specs.Room.{IsWithin}
-use Rattle.do_effects.specs.Taking.{gains, to_gain}
-use Rattle.do_effects.specs.Tidy.{IsTidy}
-use Rattle.do_effects.proofs.changing.Core.receive_all.Given as goal
+use Rattle.do_effects.specs.{Doing.doing, Room.IsWithin, Taking.{gains, to_gain}, Tidy.IsTidy}
 
 -- what is received so far and then is the whole, in room for that
 abbrev pub invariant-loop-name : goal.invariant-loop-name

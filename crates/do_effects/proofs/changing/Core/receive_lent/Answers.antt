@@ -1,15 +1,13 @@
+use Rattle.do_effects.proofs.changing.Core.receive_lent.Goals as goal
 use Rattle.std.proofs.Common.{◌≡◌, ap, sym, true, ◌∙◌, subst}
 use Rattle.do_base.specs.names.Names.{ObjectName}
 use Rattle.do_frames.specs.declared.frame.Frame.TheVariants.{Retain}
 use Rattle.do_machine.specs.State.{is_open}
 use Rattle.do_network.specs.Links.{sending}
-use Rattle.do_effects.specs.Doing.{Doing, doing}
-use Rattle.do_effects.specs.Tidy.{IsTidy}
+use Rattle.do_effects.specs.{Doing.{Doing, doing}, Tidy.IsTidy}
 use Rattle.do_effects.proofs.Lent.{chosen_own, closed_settled, either_own, was_asked, was_new}
-use Rattle.do_effects.proofs.NamesAlone.{asked_alone, new_alone}
-use Rattle.do_effects.proofs.NamesInTurn.{new_tidy}
+use Rattle.do_effects.proofs.{NamesAlone.{asked_alone, new_alone}, NamesInTurn.new_tidy}
 use Rattle.do_effects.proofs.changing.Core.receive_lent.Goals.{After-ask_home-asks}
-use Rattle.do_effects.proofs.changing.Core.receive_lent.Goals as goal
 
 -- where the home cannot be reached the lend is over at once
 pub returns-then-not-reachable-clause-done : goal.returns-then-not-reachable-clause-done

@@ -1,9 +1,7 @@
-use Rattle.std.proofs.Common.{[], ◌∷◌, ap, sym, ◌∙◌}
-use Rattle.do_effects.specs.Doing.{Doing, doing}
-use Rattle.do_effects.specs.Taking.{gains}
-use Rattle.do_effects.proofs.NamesAlone.{mine_alone}
-use Rattle.do_effects.proofs.NamesInTurn.{tidy_gains}
 use Rattle.do_effects.proofs.changing.Core.receive_name.Goals as goal
+use Rattle.std.proofs.Common.{[], ◌∷◌, ap, sym, ◌∙◌}
+use Rattle.do_effects.specs.{Doing.{Doing, doing}, Taking.gains}
+use Rattle.do_effects.proofs.{NamesAlone.mine_alone, NamesInTurn.tidy_gains}
 
 -- an object of the peer is held, and received once more
 pub returns-in-Mine-clause-done : goal.returns-in-Mine-clause-done

@@ -1,11 +1,8 @@
+use Rattle.do_effects.proofs.changing.Core.refuses.Goals as goal
 use Rattle.std.proofs.Common.{refl, sym, ◌∙◌, ap}
 use Rattle.do_rules.specs.declared.take.ruling.Ruling.TheVariants.{Refuses}
-use Rattle.do_effects.specs.Doing.{doing}
-use Rattle.do_effects.specs.Taking.{on_message, takes}
-use Rattle.do_effects.specs.declared.changing.Core.{Core}
-use Rattle.do_effects.proofs.Judged.{has_message}
-use Rattle.do_effects.proofs.Taken.{back_done, shown_done}
-use Rattle.do_effects.proofs.changing.Core.refuses.Goals as goal
+use Rattle.do_effects.specs.{Doing.doing, Taking.{on_message, takes}, declared.changing.Core.Core}
+use Rattle.do_effects.proofs.{Judged.has_message, Taken.{back_done, shown_done}}
 
 -- what is refused is a message
 pub gain-requires-clause-message : goal.gain-requires-clause-message

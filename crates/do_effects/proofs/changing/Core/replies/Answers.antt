@@ -1,9 +1,7 @@
-use Rattle.std.proofs.Common.{sym, ◌∙◌, ap, arith}
-use Rattle.do_effects.specs.Doing.{doing}
-use Rattle.do_effects.specs.declared.changing.Core.{Core}
-use Rattle.do_effects.proofs.Judged.{back_keeps, is_quiet, on_quiet}
-use Rattle.do_effects.proofs.Taken.{replies_done}
 use Rattle.do_effects.proofs.changing.Core.replies.Goals as goal
+use Rattle.std.proofs.Common.{sym, ◌∙◌, ap, arith}
+use Rattle.do_effects.specs.{Doing.doing, declared.changing.Core.Core}
+use Rattle.do_effects.proofs.{Judged.{back_keeps, is_quiet, on_quiet}, Taken.replies_done}
 
 -- an item that goes back gives nothing up
 pub send-requires-clause-keeps : goal.send-requires-clause-keeps

@@ -1,16 +1,11 @@
+use Rattle.do_effects.proofs.changing.Core.says.Goals as goal
 use Rattle.std.proofs.Common.{[], ◌∷◌, refl, sym, arith, subst}
 use Rattle.do_base.specs.declared.events.shown.Shown.TheVariants.{Say}
 use Rattle.do_machine.specs.run.Changes.{goes_to}
 use Rattle.do_streams.specs.Streamed.{outbox}
-use Rattle.do_effects.specs.Doing.{Doing, doing}
-use Rattle.do_effects.specs.Plans.{plan_needs, top_changed}
-use Rattle.do_effects.specs.Tidy.{IsTidy}
-use Rattle.do_effects.specs.declared.changing.Core.{Core}
-use Rattle.do_effects.specs.declared.plan.Plan.TheVariants.{Says}
-use Rattle.do_effects.proofs.Alone.{tidy_node}
-use Rattle.do_effects.proofs.Did.{bounded_node, does_shown}
-use Rattle.do_effects.proofs.Turned.{turned}
-use Rattle.do_effects.proofs.changing.Core.says.Goals as goal
+use Rattle.do_effects.specs.{Doing.{Doing, doing}, Plans.{plan_needs, top_changed}, Tidy.IsTidy}
+use Rattle.do_effects.specs.declared.{changing.Core.Core, plan.Plan.TheVariants.Says}
+use Rattle.do_effects.proofs.{Alone.tidy_node, Did.{bounded_node, does_shown}, Turned.turned}
 
 -- the top invocation goes on, and the value is shown
 pub returns-clause-done : goal.returns-clause-done

@@ -1,13 +1,11 @@
+use Rattle.do_effects.proofs.changing.Core.send.Goals as goal
 use Rattle.std.proofs.Common.{◌∙◌, ◌≤◌, ap, arith, subst, sym}
 use Rattle.do_frames.specs.declared.frame.Frame.{Frame}
 use Rattle.do_network.specs.Links.{sending}
 use Rattle.do_streams.specs.Streamed.{outbox}
-use Rattle.do_effects.specs.Sends.{sends}
-use Rattle.do_effects.specs.Tidy.{IsTidy}
+use Rattle.do_effects.specs.{Sends.sends, Tidy.IsTidy}
 use Rattle.do_effects.proofs.ItemsSent.{room_to_name, sent_doing, sent_within}
-use Rattle.do_effects.proofs.NamesSent.{sends_counted}
-use Rattle.do_effects.proofs.TidyCounts.{counted_is_tidy}
-use Rattle.do_effects.proofs.changing.Core.send.Goals as goal
+use Rattle.do_effects.proofs.{NamesSent.sends_counted, TidyCounts.counted_is_tidy}
 
 -- the room to send an item is room to name what it names
 pub name_item-requires-clause-room : goal.name_item-requires-clause-room

@@ -1,11 +1,10 @@
+use Rattle.do_effects.proofs.changing.Core.settle.Goals as goal
 use Rattle.std.proofs.Common.{◌≡◌, ◌∙◌, arith, refl, subst, sym}
 use Rattle.do_base.specs.names.Names.{TokenName}
 use Rattle.do_machine.specs.lend.Asking.{settling, wanted}
 use Rattle.do_streams.specs.Streamed.{outbox}
 use Rattle.do_effects.specs.Doing.{does, doing}
-use Rattle.do_effects.proofs.LendsSettled.{told_closed, told_open}
-use Rattle.do_effects.proofs.Within.{told_within}
-use Rattle.do_effects.proofs.changing.Core.settle.Goals as goal
+use Rattle.do_effects.proofs.{LendsSettled.{told_closed, told_open}, Within.told_within}
 
 -- over a closed end nothing is told
 pub returns-then-not-is_open-clause-settled : goal.returns-then-not-is_open-clause-settled

@@ -1,16 +1,13 @@
+use Rattle.do_effects.proofs.changing.Core.settle_all.Goals as goal
 use Rattle.std.proofs.Common.{◌∙◌, ap, length, refl, subst, sym}
 use Rattle.do_machine.specs.Objects.{object_at}
 use Rattle.std.specs.Prelude.{fold}
 use Rattle.do_network.specs.Links.{sending}
 use Rattle.do_part.specs.Owned.{Owned}
 use Rattle.do_streams.specs.Streamed.{outbox}
-use Rattle.do_effects.specs.Doing.{Doing}
-use Rattle.do_effects.specs.Settled.{settle_post, settle_posts}
-use Rattle.do_effects.specs.Tidy.{IsTidy}
-use Rattle.do_effects.proofs.LendsSettled.{settle_sent}
-use Rattle.do_effects.proofs.Telling.{posts_end, posts_next, telling_begins, telling_ends}
-use Rattle.do_effects.proofs.Telling.{telling_next, telling_room}
-use Rattle.do_effects.proofs.changing.Core.settle_all.Goals as goal
+use Rattle.do_effects.specs.{Doing.Doing, Settled.{settle_post, settle_posts}, Tidy.IsTidy}
+use Rattle.do_effects.proofs.{LendsSettled.settle_sent, Telling.{posts_end, posts_next}}
+use Rattle.do_effects.proofs.Telling.{telling_begins, telling_ends, telling_next, telling_room}
 
 -- no lender was told yet
 pub loop-token-init : goal.loop-token-init

@@ -1,11 +1,9 @@
 -- The lenders that were told so far.
-use Rattle.std.proofs.Common.{◌≡◌, drop, length}
-use Rattle.std.specs.Prelude.{fold}
+use Rattle.do_effects.proofs.changing.Core.settle_all.Given as goal
+use Rattle.std.{proofs.Common.{◌≡◌, drop, length}, specs.Prelude.fold}
 use Rattle.do_network.specs.Links.{sending}
 use Rattle.do_streams.specs.Streamed.{outbox}
-use Rattle.do_effects.specs.Settled.{settle_posts}
-use Rattle.do_effects.proofs.Telling.{IsTelling}
-use Rattle.do_effects.proofs.changing.Core.settle_all.Given as goal
+use Rattle.do_effects.{specs.Settled.settle_posts, proofs.Telling.IsTelling}
 
 -- telling the rest as well tells all, and no line was shown
 abbrev pub invariant-loop-token : goal.invariant-loop-token

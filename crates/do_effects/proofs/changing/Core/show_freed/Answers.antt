@@ -1,10 +1,9 @@
-use Rattle.std.proofs.Common.{◌∙◌, ◌++◌, ◌∷◌, [], ap, get_or, length, refl}
 use Rattle.do_base.specs.declared.events.shown.Shown.TheVariants as shows
-use Rattle.do_machine.specs.Objects.{object_at}
-use Rattle.do_machine.specs.State.{own}
+use Rattle.do_effects.proofs.changing.Core.show_freed.Goals as goal
+use Rattle.std.proofs.Common.{◌∙◌, ◌++◌, ◌∷◌, [], ap, get_or, length, refl}
+use Rattle.do_machine.specs.{Objects.object_at, State.own}
 use Rattle.do_effects.proofs.Telling.{lines_end, lines_next, telling_begins, telling_ends}
 use Rattle.do_effects.proofs.Telling.{telling_next, telling_room}
-use Rattle.do_effects.proofs.changing.Core.show_freed.Goals as goal
 
 -- none was shown yet
 pub loop-freed_serial-init : goal.loop-freed_serial-init

@@ -1,9 +1,9 @@
 -- The objects that were shown so far.
+use Rattle.do_effects.proofs.changing.Core.show_freed.Given as goal
 use Rattle.std.proofs.Common.{◌≡◌, ◌++◌, drop, length}
 use Rattle.do_leaving.specs.Left.{free_shown}
 use Rattle.do_streams.specs.Streamed.{outbox}
 use Rattle.do_effects.proofs.Telling.{IsTelling}
-use Rattle.do_effects.proofs.changing.Core.show_freed.Given as goal
 
 -- showing the rest as well shows all, and nothing was sent
 abbrev pub invariant-loop-freed_serial : goal.invariant-loop-freed_serial

@@ -1,10 +1,8 @@
-use Rattle.std.proofs.Common.{refl, sym, ap}
 use Rattle.do_rules.specs.declared.take.ruling.Ruling.TheVariants as rulings
-use Rattle.do_effects.specs.Doing.{doing}
-use Rattle.do_effects.specs.declared.changing.Core.{Core}
-use Rattle.do_effects.proofs.Judged.{is_quiet, on_quiet}
-use Rattle.do_effects.proofs.Taken.{node_done}
 use Rattle.do_effects.proofs.changing.Core.stays.Goals as goal
+use Rattle.std.proofs.Common.{refl, sym, ap}
+use Rattle.do_effects.specs.{Doing.doing, declared.changing.Core.Core}
+use Rattle.do_effects.proofs.{Judged.{is_quiet, on_quiet}, Taken.node_done}
 
 -- the line is shown, and no more
 pub returns-clause-done : goal.returns-clause-done

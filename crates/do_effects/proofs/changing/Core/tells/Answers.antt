@@ -1,18 +1,11 @@
+use Rattle.do_effects.proofs.changing.Core.tells.Goals as goal
 use Rattle.std.proofs.Common.{◌≡◌, true, refl, sym, ◌∙◌, subst}
 use Rattle.do_base.specs.declared.values.value.Value.TheVariants.{Nil}
-use Rattle.do_machine.specs.declared.item.Item.TheVariants.{Oneway}
-use Rattle.do_machine.specs.declared.node.Node.{Node}
-use Rattle.do_machine.specs.State.{is_open}
+use Rattle.do_machine.specs.{declared.{item.Item.TheVariants.Oneway, node.Node.Node}, State.is_open}
 use Rattle.do_machine.specs.run.Changes.{goes_on}
 use Rattle.do_network.specs.Own.{Own}
-use Rattle.do_effects.specs.Doing.{Doing, doing}
-use Rattle.do_effects.specs.Plans.{top_changed}
-use Rattle.do_effects.specs.Sends.{CanSend, sends}
-use Rattle.do_effects.specs.Tidy.{IsTidy}
-use Rattle.do_effects.proofs.Alone.{tidy_node}
-use Rattle.do_effects.proofs.Did.{does_from}
-use Rattle.do_effects.proofs.Turned.{turned}
-use Rattle.do_effects.proofs.changing.Core.tells.Goals as goal
+use Rattle.do_effects.specs.{Doing.{Doing, doing}, Plans.top_changed, Sends.{CanSend, sends}}
+use Rattle.do_effects.{specs.Tidy.IsTidy, proofs.{Alone.tidy_node, Did.does_from, Turned.turned}}
 
 -- a node whose top invocation goes on counts nothing that it does not keep
 pub send-requires-clause-tidy : goal.send-requires-clause-tidy

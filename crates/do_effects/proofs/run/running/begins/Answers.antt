@@ -1,9 +1,9 @@
+use Rattle.do_effects.proofs.run.running.begins.Goals as goal
 use Rattle.std.proofs.Common.{◌∙◌, ap, subst, sym}
 use Rattle.do_part.specs.Names.{AreStored, values_of}
 use Rattle.do_stack.specs.Uses.{invocation_values}
 use Rattle.do_machine.specs.run.Fresh.{pushed}
 use Rattle.do_network.specs.Own.{Own}
-use Rattle.do_effects.proofs.run.running.begins.Goals as goal
 
 -- the top invocation waits, which leaves stored what the new one names
 pub push-requires-clause-stored : goal.push-requires-clause-stored

@@ -1,5 +1,5 @@
-use Rattle.do_effects.proofs.Did.{ended_is}
 use Rattle.do_effects.proofs.run.running.ends.Goals as goal
+use Rattle.do_effects.proofs.Did.{ended_is}
 
 -- what is popped is the top invocation
 pub returns-clause-own : goal.returns-clause-own

@@ -1,7 +1,7 @@
+use Rattle.do_effects.proofs.run.running.goes.Goals as goal
 use Rattle.std.proofs.Common.{◌∙◌, ap}
 use Rattle.do_machine.specs.run.Fresh.{with_stack}
 use Rattle.do_effects.proofs.Turned.{local_changed}
-use Rattle.do_effects.proofs.run.running.goes.Goals as goal
 
 -- a running invocation goes on with a value
 pub returns-clause-own : goal.returns-clause-own

@@ -1,11 +1,10 @@
+use Rattle.do_effects.proofs.run.running.makes.Goals as goal
 use Rattle.std.proofs.Common.{[], ◌∷◌, sym, subst}
-use Rattle.do_base.specs.names.Names.{ObjectName}
-use Rattle.do_base.specs.declared.values.value.Value.TheVariants.{Obj}
+use Rattle.do_base.specs.{names.Names.ObjectName, declared.values.value.Value.TheVariants.Obj}
 use Rattle.do_machine.specs.run.Fresh.{with_objects}
 use Rattle.do_network.specs.Own.{Own}
 use Rattle.do_part.specs.Names.{AreStored, values_of}
 use Rattle.do_effects.proofs.Made.{made_stored}
-use Rattle.do_effects.proofs.run.running.makes.Goals as goal
 
 -- an object that was made is stored
 pub goes-requires-clause-stored : goal.goes-requires-clause-stored

@@ -1,14 +1,12 @@
+use Rattle.do_effects.proofs.run.running.use_outs.Goals as goal
 use Rattle.std.proofs.Common.{◌≡◌, ◌+◌, [], length, ap, sym, ◌∙◌, arith, subst}
-use Rattle.std.proofs.lemmas.List.{nil_from_length}
-use Rattle.std.proofs.lemmas.List.Sums.{sum_by-cons}
+use Rattle.std.proofs.lemmas.List.{nil_from_length, Sums.sum_by-cons}
 use Rattle.do_machine.specs.declared.node.Node.{Node}
 use Rattle.do_network.specs.Own.{Own}
 use Rattle.do_part.specs.Names.{AreStored, size_of, sizes_of, values_of}
-use Rattle.do_effects.specs.Outs.{uses_outs}
-use Rattle.do_effects.specs.Plans.{IsRunning, top_changed}
+use Rattle.do_effects.specs.{Outs.uses_outs, Plans.{IsRunning, top_changed}}
 use Rattle.do_effects.proofs.Outs.{first_out, first_stored, no_outs, outs_more, outs_past}
 use Rattle.do_effects.proofs.Outs.{rest_stored, still_runs}
-use Rattle.do_effects.proofs.run.running.use_outs.Goals as goal
 
 -- what the next out value names is stored
 pub goes-requires-clause-stored : goal.goes-requires-clause-stored

@@ -1,8 +1,7 @@
+use Rattle.do_effects.proofs.run.running.use_outs.Given as goal
 use Rattle.std.proofs.Common.{◌≡◌, ◌+◌, ◌≤◌, length}
 use Rattle.do_part.specs.Names.{AreStored, sizes_of, values_of}
-use Rattle.do_effects.specs.Outs.{uses_outs}
-use Rattle.do_effects.specs.Plans.{IsRunning, top_changed}
-use Rattle.do_effects.proofs.run.running.use_outs.Given as goal
+use Rattle.do_effects.specs.{Outs.uses_outs, Plans.{IsRunning, top_changed}}
 
 -- using the out values that are left as well uses all, in the room for these
 abbrev pub invariant-loop-at : goal.invariant-loop-at

@@ -1,11 +1,10 @@
+use Rattle.do_effects.proofs.run.running.uses.Goals as goal
 use Rattle.std.proofs.Common.{◌∙◌, ap, subst, sym}
 use Rattle.do_part.specs.Names.{AreStored, values_of}
 use Rattle.do_machine.specs.declared.node.Node.{Node}
 use Rattle.do_network.specs.Own.{Own}
-use Rattle.do_effects.specs.Outs.{uses_outs}
-use Rattle.do_effects.specs.Plans.{top_changed}
+use Rattle.do_effects.specs.{Outs.uses_outs, Plans.top_changed}
 use Rattle.do_effects.proofs.Outs.{outs_all, rest_stored}
-use Rattle.do_effects.proofs.run.running.uses.Goals as goal
 
 -- the result leaves stored what the out values name
 pub use_outs-requires-clause-stored : goal.use_outs-requires-clause-stored

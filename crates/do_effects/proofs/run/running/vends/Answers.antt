@@ -1,6 +1,6 @@
+use Rattle.do_effects.proofs.run.running.vends.Goals as goal
 use Rattle.std.proofs.Common.{◌∙◌, ap}
 use Rattle.do_network.specs.Own.{Own}
-use Rattle.do_effects.proofs.run.running.vends.Goals as goal
 
 -- the root is set once the top invocation goes on
 pub returns : goal.returns

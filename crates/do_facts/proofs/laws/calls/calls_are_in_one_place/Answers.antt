@@ -1,6 +1,6 @@
+use Rattle.do_facts.proofs.laws.calls.calls_are_in_one_place.Goals as goal
 use Rattle.do_facts.proofs.calls.ReachedCalls.{opening_keeps, reached_keeps, reached_known}
 use Rattle.do_facts.proofs.calls.ReachedCalls.{step_keeps}
-use Rattle.do_facts.proofs.laws.calls.calls_are_in_one_place.Goals as goal
 
 pub returns : goal.returns
 returns c = record {

@@ -1,6 +1,6 @@
+use Rattle.do_facts.proofs.laws.names.entered_objects_are_stored.Goals as goal
 use Rattle.do_facts.proofs.links.EntriesStored.{entered_stored, reached_entries}
 use Rattle.do_facts.specs.Reached.{reached}
-use Rattle.do_facts.proofs.laws.names.entered_objects_are_stored.Goals as goal
 
 pub returns : goal.returns
 returns c table act seats events =

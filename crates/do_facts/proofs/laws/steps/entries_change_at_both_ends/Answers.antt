@@ -1,7 +1,6 @@
-use Rattle.do_machine.specs.Step.{step}
-use Rattle.do_facts.proofs.steps.EachIsStep.{step_is}
-use Rattle.do_facts.proofs.steps.EntriesOfSteps.{entry_stays}
 use Rattle.do_facts.proofs.laws.steps.entries_change_at_both_ends.Goals as goal
+use Rattle.do_machine.specs.Step.{step}
+use Rattle.do_facts.proofs.steps.{EachIsStep.step_is, EntriesOfSteps.entry_stays}
 
 pub returns : goal.returns
 returns c table act S event peer o =

@@ -1,9 +1,8 @@
+use Rattle.do_facts.proofs.laws.steps.queues_change_at_their_ends.Goals as goal
 use Rattle.do_base.specs.declared.events.event.Event.TheVariants.{Lose, Take}
 use Rattle.do_machine.specs.Step.{step}
-use Rattle.do_facts.proofs.steps.EachIsStep.{step_is}
-use Rattle.do_facts.proofs.steps.QueuesAbsent.{absent_stays}
+use Rattle.do_facts.proofs.steps.{EachIsStep.step_is, QueuesAbsent.absent_stays}
 use Rattle.do_facts.proofs.steps.QueuesOfSteps.{loses_one, queue_grows, queue_stays, takes_oldest}
-use Rattle.do_facts.proofs.laws.steps.queues_change_at_their_ends.Goals as goal
 
 pub returns-clause-others : goal.returns-clause-others
 returns-clause-others c table act S event from to =

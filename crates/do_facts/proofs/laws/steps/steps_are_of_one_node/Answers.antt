@@ -1,8 +1,7 @@
-use Rattle.do_machine.specs.Step.{step}
-use Rattle.do_facts.proofs.steps.EachIsStep.{step_is}
-use Rattle.do_facts.proofs.steps.OthersStay.{class_stays, node_stays}
-use Rattle.do_facts.proofs.steps.RuleMoves.{rule_moves}
 use Rattle.do_facts.proofs.laws.steps.steps_are_of_one_node.Goals as goal
+use Rattle.do_machine.specs.Step.{step}
+use Rattle.do_facts.proofs.steps.{EachIsStep.step_is, OthersStay.{class_stays, node_stays}}
+use Rattle.do_facts.proofs.steps.RuleMoves.{rule_moves}
 
 pub returns-clause-form : goal.returns-clause-form
 returns-clause-form c table act S event = step_is S table act event

@@ -1,5 +1,5 @@
-use Rattle.do_facts.proofs.steps.GivenUp.{enabled_waits, waiting_gives_up}
 use Rattle.do_facts.proofs.laws.steps.time_outs_give_calls_up.Goals as goal
+use Rattle.do_facts.proofs.steps.GivenUp.{enabled_waits, waiting_gives_up}
 
 pub returns-clause-waiting : goal.returns-clause-waiting
 returns-clause-waiting c table act S port n i below call peer what here waits =

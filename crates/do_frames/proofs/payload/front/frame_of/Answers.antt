@@ -1,10 +1,10 @@
+use Rattle.do_frames.proofs.payload.front.frame_of.Goals as goal
 use Rattle.std.proofs.Common.{◌∙◌, arith}
 use Rattle.do_grammar.proofs.faults.AnswerExact.{bytes_from_each}
 use Rattle.do_grammar.specs.Reader.{no_kind, short, bad}
 use Rattle.do_frames.proofs.payloads.TableStays.{numbers_stay}
 use Rattle.do_frames.proofs.payloads.WholePayload.{frame_known, whole_spelled, whole_only}
 use Rattle.do_frames.proofs.payloads.WholePayload.{whole_never, whole_short, whole_left, whole_bad}
-use Rattle.do_frames.proofs.payload.front.frame_of.Goals as goal
 
 pub overflow_sub-result : goal.overflow_sub-result
 overflow_sub-result c =

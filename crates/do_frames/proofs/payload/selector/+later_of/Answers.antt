@@ -1,7 +1,7 @@
+use Rattle.do_frames.proofs.payload.selector.+later_of.Goals as goal
 use Rattle.std.proofs.Common.{◌≡◌, ℕ, ◌-◌, List, Ok, take, sym, subst, arith, rules}
 use Rattle.do_frames.specs.Selectors.{colons_after, later_at}
 use Rattle.do_frames.proofs.selectors.SelectorSteps.{later_ok}
-use Rattle.do_frames.proofs.payload.selector.+later_of.Goals as goal
 
 pub returns-in-Ok-clause-gives : goal.returns-in-Ok-clause-gives
 returns-in-Ok-clause-gives t c =

@@ -1,7 +1,7 @@
+use Rattle.do_frames.proofs.stream.front.place_of.Goals as goal
 use Rattle.std.proofs.Common.{arith}
 use Rattle.do_grammar.proofs.faults.AnswerExact.{bytes_from_each}
 use Rattle.do_frames.proofs.streams.FrontPlaces.{front_whole, front_fails}
-use Rattle.do_frames.proofs.stream.front.place_of.Goals as goal
 
 pub overflow_sub-ends : goal.overflow_sub-ends
 overflow_sub-ends c =

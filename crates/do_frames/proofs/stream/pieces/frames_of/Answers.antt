@@ -1,11 +1,9 @@
-use Rattle.std.proofs.Common.{◌≡◌, ℕ, ◌+◌, List, ◌++◌, take, get_or, subst, arith}
-use Rattle.std.proofs.lemmas.Grind.{common_steps}
-use Rattle.std.proofs.lemmas.List.{take_all}
-use Rattle.std.proofs.lemmas.Result.{err_from_is_err_and}
-use Rattle.do_frames.specs.Pieces.{joined_pieces, HasRead, FindsNoMore}
-use Rattle.do_frames.proofs.streams.PiecesExact.{nothing_read, nothing_front, piece_read}
-use Rattle.do_frames.proofs.streams.PiecesExact.{has_split, has_only, next_piece}
 use Rattle.do_frames.proofs.stream.pieces.frames_of.Goals as goal
+use Rattle.std.proofs.Common.{◌≡◌, ℕ, ◌+◌, List, ◌++◌, take, get_or, subst, arith}
+use Rattle.std.proofs.lemmas.{Grind.common_steps, List.take_all, Result.err_from_is_err_and}
+use Rattle.do_frames.specs.Pieces.{joined_pieces, HasRead, FindsNoMore}
+use Rattle.do_frames.proofs.streams.PiecesExact.{nothing_read, nothing_front, piece_read, has_split}
+use Rattle.do_frames.proofs.streams.PiecesExact.{has_only, next_piece}
 
 pub loop-piece-init : goal.loop-piece-init
 loop-piece-init c =

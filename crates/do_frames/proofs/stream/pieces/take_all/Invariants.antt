@@ -1,6 +1,6 @@
+use Rattle.do_frames.proofs.stream.pieces.take_all.Given as goal
 use Rattle.std.proofs.Common.{ℕ, List, length}
 use Rattle.do_frames.specs.Pieces.{HasRead}
-use Rattle.do_frames.proofs.stream.pieces.take_all.Given as goal
 
 -- what was read of any stream before was read of it still
 abbrev pub invariant-loop-frame : goal.invariant-loop-frame

@@ -1,7 +1,6 @@
-use Rattle.std.proofs.Common.{sym, ◌∙◌}
-use Rattle.std.specs.FinMap.{get-from_sorted}
-use Rattle.do_import.specs.Asked.{ask_cmp}
 use Rattle.do_import.proofs.asks.Asks.class_at.Goals as goal
+use Rattle.std.{proofs.Common.{sym, ◌∙◌}, specs.FinMap.get-from_sorted}
+use Rattle.do_import.specs.Asked.{ask_cmp}
 
 -- the row that is found has the class
 pub returns : goal.returns

@@ -1,5 +1,5 @@
-use Rattle.do_import.proofs.AskRows.{kept_is}
 use Rattle.do_import.proofs.asks.Asks.has_key.Goals as goal
+use Rattle.do_import.proofs.AskRows.{kept_is}
 
 -- there is an ask where a row is found
 pub returns : goal.returns

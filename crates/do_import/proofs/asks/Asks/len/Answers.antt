@@ -1,7 +1,7 @@
+use Rattle.do_import.proofs.asks.Asks.len.Goals as goal
 use Rattle.std.proofs.Common.{length, sym, ap, ◌∙◌}
 use Rattle.std.specs.FinMap.{len-entries, entries-from_sorted}
 use Rattle.do_import.specs.Asked.{ask_cmp}
-use Rattle.do_import.proofs.asks.Asks.len.Goals as goal
 
 -- there are as many asks as rows
 pub returns : goal.returns

@@ -1,8 +1,8 @@
+use Rattle.do_import.proofs.asks.Asks.next_ask.Goals as goal
 use Rattle.std.proofs.Common.{◌≡◌, sym, ap, ◌∙◌}
 use Rattle.do_sorted.specs.Rows.{first_from}
 use Rattle.do_import.specs.Asked.{ask_cmp}
 use Rattle.do_import.proofs.AskRows.{none_asked, other_asked, lowest_asked, are_same, are_other}
-use Rattle.do_import.proofs.asks.Asks.next_ask.Goals as goal
 
 -- where no row is found there is none behind
 pub returns-in_default-first_from : goal.returns-in_default-first_from

@@ -1,5 +1,5 @@
-use Rattle.do_import.proofs.AskRows.{put_is}
 use Rattle.do_import.proofs.asks.Asks.put.Goals as goal
+use Rattle.do_import.proofs.AskRows.{put_is}
 
 -- the rows with one more are still in their order
 pub invariant_of-self : goal.invariant_of-self

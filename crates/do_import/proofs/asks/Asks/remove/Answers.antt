@@ -1,5 +1,5 @@
-use Rattle.do_import.proofs.AskRows.{without_is}
 use Rattle.do_import.proofs.asks.Asks.remove.Goals as goal
+use Rattle.do_import.proofs.AskRows.{without_is}
 
 -- the rows without one are still in their order
 pub invariant_of-self : goal.invariant_of-self

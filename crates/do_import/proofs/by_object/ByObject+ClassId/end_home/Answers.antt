@@ -1,12 +1,9 @@
-use Rattle.std.proofs.Common.{◌==◌, not, ◌||◌, rules, ap, sym, ◌∙◌, subst, T}
-use Rattle.std.proofs.lemmas.Fn.{filter_same}
 use Rattle.std.specs.FinMap as map
-use Rattle.std.specs.FinMap.{is_sorted}
-use Rattle.std.specs.FinMap.Entries.{is_sorted-where_key}
-use Rattle.do_sorted.proofs.RowsAsMap.{from_where_key}
-use Rattle.do_export.specs.Counts.{entry_cmp}
-use Rattle.do_export.proofs.Order.{entry_total, entry_same}
 use Rattle.do_import.proofs.by_object.ByObject+ClassId.end_home.Goals as goal
+use Rattle.std.proofs.Common.{◌==◌, not, ◌||◌, rules, ap, sym, ◌∙◌, subst, T}
+use Rattle.std.{proofs.lemmas.Fn.filter_same, specs.FinMap.{is_sorted, Entries.is_sorted-where_key}}
+use Rattle.do_sorted.proofs.RowsAsMap.{from_where_key}
+use Rattle.do_export.{specs.Counts.entry_cmp, proofs.Order.{entry_total, entry_same}}
 
 -- the rows that are left are still in their order
 pub invariant_of-self : goal.invariant_of-self

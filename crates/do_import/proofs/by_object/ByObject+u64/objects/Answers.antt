@@ -1,10 +1,8 @@
-use Rattle.std.proofs.Common.{arith, ◌++◌, ◌∷◌, [], sym, ap, ◌∙◌, map as each}
-use Rattle.std.specs.Option.{option_copied}
 use Rattle.std.specs.FinMap as map
-use Rattle.std.proofs.lemmas.List.{take_all}
-use Rattle.do_import.specs.ByObject.{object_of}
-use Rattle.do_import.proofs.NextRow.{read_row, no_row}
 use Rattle.do_import.proofs.by_object.ByObject+u64.objects.Goals as goal
+use Rattle.std.proofs.Common.{arith, ◌++◌, ◌∷◌, [], sym, ap, ◌∙◌, map as each}
+use Rattle.std.{specs.Option.option_copied, proofs.lemmas.List.take_all}
+use Rattle.do_import.{specs.ByObject.object_of, proofs.NextRow.{read_row, no_row}}
 
 -- there is a row at each place
 pub unreachable-requires : goal.unreachable-requires

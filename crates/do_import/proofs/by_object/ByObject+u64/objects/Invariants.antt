@@ -1,7 +1,7 @@
-use Rattle.std.proofs.Common.{◌≡◌, take, map as each}
 use Rattle.std.specs.FinMap as map
-use Rattle.do_import.specs.ByObject.{object_of}
 use Rattle.do_import.proofs.by_object.ByObject+u64.objects.Given as goal
+use Rattle.std.proofs.Common.{◌≡◌, take, map as each}
+use Rattle.do_import.specs.ByObject.{object_of}
 
 -- the objects so far are those of the rows so far
 abbrev pub invariant-loop-at : goal.invariant-loop-at

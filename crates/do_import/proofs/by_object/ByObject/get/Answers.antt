@@ -1,6 +1,6 @@
+use Rattle.do_import.proofs.by_object.ByObject.get.Goals as goal
 use Rattle.std.proofs.Common.{sym, refl, ◌∙◌}
 use Rattle.do_export.proofs.Order.{found_is}
-use Rattle.do_import.proofs.by_object.ByObject.get.Goals as goal
 
 -- what is found is the value of the object
 pub returns : goal.returns

@@ -1,7 +1,7 @@
+use Rattle.do_import.proofs.by_object.ByObject.new.Goals as goal
 use Rattle.std.proofs.Common.{refl}
 use Rattle.do_sorted.proofs.RowsAsMap.{from_nothing}
 use Rattle.do_export.proofs.Order.{entry_total, entry_same}
-use Rattle.do_import.proofs.by_object.ByObject.new.Goals as goal
 
 -- no rows are no objects
 pub returns : goal.returns

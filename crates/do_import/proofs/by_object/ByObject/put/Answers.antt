@@ -1,6 +1,6 @@
+use Rattle.do_import.proofs.by_object.ByObject.put.Goals as goal
 use Rattle.std.proofs.Common.{refl}
 use Rattle.do_export.proofs.Order.{put_is}
-use Rattle.do_import.proofs.by_object.ByObject.put.Goals as goal
 
 -- the rows with one more are still in their order
 pub invariant_of-self : goal.invariant_of-self

@@ -1,6 +1,6 @@
+use Rattle.do_import.proofs.by_object.ByObject.remove.Goals as goal
 use Rattle.std.proofs.Common.{refl}
 use Rattle.do_export.proofs.Order.{without_is}
-use Rattle.do_import.proofs.by_object.ByObject.remove.Goals as goal
 
 -- the rows without one are still in their order
 pub invariant_of-self : goal.invariant_of-self

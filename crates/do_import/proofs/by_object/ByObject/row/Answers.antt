@@ -1,7 +1,6 @@
-use Rattle.std.proofs.Common.{sym, ap, ◌∙◌, slice_get}
-use Rattle.std.specs.FinMap.{entries-from_sorted}
-use Rattle.do_export.specs.Counts.{entry_cmp}
 use Rattle.do_import.proofs.by_object.ByObject.row.Goals as goal
+use Rattle.std.{proofs.Common.{sym, ap, ◌∙◌, slice_get}, specs.FinMap.entries-from_sorted}
+use Rattle.do_export.specs.Counts.{entry_cmp}
 
 -- the rows are the objects in their order
 pub returns : goal.returns

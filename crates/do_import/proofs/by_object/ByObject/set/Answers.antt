@@ -1,6 +1,6 @@
+use Rattle.do_import.proofs.by_object.ByObject.set.Goals as goal
 use Rattle.std.proofs.Common.{refl, subst, IsSome}
 use Rattle.do_export.proofs.Order.{put_is, found_is}
-use Rattle.do_import.proofs.by_object.ByObject.set.Goals as goal
 
 -- there is a row of the object
 pub set-requires : goal.set-requires

@@ -1,10 +1,8 @@
-use Rattle.std.proofs.Common.{◌==◌, not, rules, arith, sym, subst, ap}
-use Rattle.std.proofs.lemmas.Fn.{filter_same}
 use Rattle.std.specs.FinMap as map
-use Rattle.do_import.specs.Held.{IsThread}
-use Rattle.do_import.proofs.Threads.{ended_threaded}
-use Rattle.do_import.proofs.Rooms.{len_others, min_keeps}
 use Rattle.do_import.proofs.holdings.Holdings.end_peer.Goals as goal
+use Rattle.std.proofs.{Common.{◌==◌, not, rules, arith, sym, subst, ap}, lemmas.Fn.filter_same}
+use Rattle.do_import.specs.Held.{IsThread}
+use Rattle.do_import.proofs.{Threads.ended_threaded, Rooms.{len_others, min_keeps}}
 
 -- the thread is right, and has its room, without the objects of the home
 pub invariant_of-self : goal.invariant_of-self

@@ -1,9 +1,8 @@
-use Rattle.std.proofs.Common.{sym, ap, subst, arith, inr}
 use Rattle.std.specs.FinMap as map
-use Rattle.do_import.specs.Held.{IsThread}
-use Rattle.do_import.proofs.Threads.{got_kept}
-use Rattle.do_import.proofs.Rooms.{not_longer, len_named, room_of, one_off, min_falls}
 use Rattle.do_import.proofs.holdings.Holdings.got.Goals as goal
+use Rattle.std.proofs.Common.{sym, ap, subst, arith, inr}
+use Rattle.do_import.{specs.Held.IsThread, proofs.Threads.got_kept}
+use Rattle.do_import.proofs.Rooms.{not_longer, len_named, room_of, one_off, min_falls}
 
 -- the thread has room for one more
 pub thread_unless-requires : goal.thread_unless-requires

@@ -1,9 +1,8 @@
-use Rattle.std.proofs.Common.{sym, ap, subst, arith}
 use Rattle.std.specs.FinMap as map
-use Rattle.do_import.specs.Held.{IsThread}
-use Rattle.do_import.proofs.Threads.{leave_threaded}
-use Rattle.do_import.proofs.Rooms.{len_removed, min_keeps}
 use Rattle.do_import.proofs.holdings.Holdings.leave_next.Goals as goal
+use Rattle.std.proofs.Common.{sym, ap, subst, arith}
+use Rattle.do_import.specs.Held.{IsThread}
+use Rattle.do_import.proofs.{Threads.leave_threaded, Rooms.{len_removed, min_keeps}}
 
 -- the thread is right, and has its room, without the one that leaves
 pub invariant_of-self : goal.invariant_of-self

@@ -1,6 +1,6 @@
+use Rattle.do_import.proofs.holdings.Holdings.lowest.Goals as goal
 use Rattle.std.proofs.Common.{sym}
 use Rattle.do_import.proofs.Threads.{none_leaves, lowest_leaves}
-use Rattle.do_import.proofs.holdings.Holdings.lowest.Goals as goal
 
 -- where the thread is empty none may leave
 pub returns-in_default : goal.returns-in_default

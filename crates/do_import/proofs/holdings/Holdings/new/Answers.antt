@@ -1,8 +1,8 @@
+use Rattle.do_import.proofs.holdings.Holdings.new.Goals as goal
 use Rattle.std.proofs.Common.{ap}
 use Rattle.do_sorted.specs.Rows.{Rows}
 use Rattle.do_export.specs.Counts.{Exported}
 use Rattle.do_import.proofs.Rooms.{empty_roomy}
-use Rattle.do_import.proofs.holdings.Holdings.new.Goals as goal
 
 -- an empty thread is right where nothing was received
 pub invariant_of-result : goal.invariant_of-result

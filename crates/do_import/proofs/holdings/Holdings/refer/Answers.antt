@@ -1,10 +1,8 @@
-use Rattle.std.proofs.Common.{sym, subst, arith}
-use Rattle.do_export.specs.Counts.{IsPositive}
-use Rattle.do_export.proofs.Counting.{positive-raised}
-use Rattle.do_import.specs.Held.{IsThread}
-use Rattle.do_import.proofs.Threads.{refer_threaded}
-use Rattle.do_import.proofs.Rooms.{one_off, min_falls}
 use Rattle.do_import.proofs.holdings.Holdings.refer.Goals as goal
+use Rattle.std.proofs.Common.{sym, subst, arith}
+use Rattle.do_export.{specs.Counts.IsPositive, proofs.Counting.positive-raised}
+use Rattle.do_import.specs.Held.{IsThread}
+use Rattle.do_import.proofs.{Threads.refer_threaded, Rooms.{one_off, min_falls}}
 
 -- the thread is right without an object that is used
 pub invariant_of-self : goal.invariant_of-self

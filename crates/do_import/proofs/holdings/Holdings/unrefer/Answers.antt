@@ -1,12 +1,10 @@
-use Rattle.std.proofs.Common.{◌≡◌, false, not, sym, ap, subst, ◌∙◌, ◌&&◌, arith}
 use Rattle.std.specs.FinMap as map
-use Rattle.do_export.specs.Counts.{IsPositive}
-use Rattle.do_export.proofs.Counting.{positive-lowered}
+use Rattle.do_import.proofs.holdings.Holdings.unrefer.Goals as goal
+use Rattle.std.proofs.Common.{◌≡◌, false, not, sym, ap, subst, ◌∙◌, ◌&&◌, arith}
+use Rattle.do_export.{specs.Counts.IsPositive, proofs.Counting.positive-lowered}
 use Rattle.do_import.specs.Held.{IsThread, may_leave}
 use Rattle.do_import.proofs.Threads.{unrefer_threaded, still_threaded, lowered_some, lowered_last}
-use Rattle.do_import.proofs.Threads.{used_some, and_false}
-use Rattle.do_import.proofs.Rooms.{is_shorter, room_or, min_keeps}
-use Rattle.do_import.proofs.holdings.Holdings.unrefer.Goals as goal
+use Rattle.do_import.proofs.{Threads.{used_some, and_false}, Rooms.{is_shorter, room_or, min_keeps}}
 
 -- where an object is still used, the thread stays as it is
 pub invariant_of-self : goal.invariant_of-self

@@ -1,6 +1,5 @@
-use Rattle.do_import.proofs.KeptClasses.{asked_classes}
-use Rattle.do_import.proofs.AskCounts.{ask_counted}
 use Rattle.do_import.proofs.imports.Imports.ask.Goals as goal
+use Rattle.do_import.proofs.{KeptClasses.asked_classes, AskCounts.ask_counted}
 
 -- a new ask is counted by its object, whose class is kept
 pub invariant_of-self-2 : goal.invariant_of-self-2

@@ -1,6 +1,5 @@
-use Rattle.do_import.proofs.KeptClasses.{ended_classes}
-use Rattle.do_import.proofs.AskCounts.{end_counted}
 use Rattle.do_import.proofs.imports.Imports.end_ask.Goals as goal
+use Rattle.do_import.proofs.{KeptClasses.ended_classes, AskCounts.end_counted}
 
 -- an ask that is over is counted no more, and the class stays of what is known
 pub invariant_of-self : goal.invariant_of-self

@@ -1,6 +1,5 @@
-use Rattle.do_import.proofs.AskCounts.{ended_numbered, lends_ended}
-use Rattle.do_import.proofs.KeptClasses.{home_classes}
 use Rattle.do_import.proofs.imports.Imports.end_peer.Goals as goal
+use Rattle.do_import.proofs.{AskCounts.{ended_numbered, lends_ended}, KeptClasses.home_classes}
 
 -- the objects of the peer and the lends to it are counted no more
 pub invariant_of-self : goal.invariant_of-self

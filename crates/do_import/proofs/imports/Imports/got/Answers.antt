@@ -1,5 +1,5 @@
-use Rattle.do_import.proofs.KeptClasses.{got_classes}
 use Rattle.do_import.proofs.imports.Imports.got.Goals as goal
+use Rattle.do_import.proofs.KeptClasses.{got_classes}
 
 -- the class is kept of an object that was received
 pub invariant_of-self : goal.invariant_of-self

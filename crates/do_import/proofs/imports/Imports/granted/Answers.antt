@@ -1,7 +1,6 @@
-use Rattle.std.proofs.Common.{is_some, sym, ap}
-use Rattle.do_import.proofs.KeptClasses.{granted_classes}
-use Rattle.do_import.proofs.AskCounts.{end_counted}
 use Rattle.do_import.proofs.imports.Imports.granted.Goals as goal
+use Rattle.std.proofs.Common.{is_some, sym, ap}
+use Rattle.do_import.proofs.{KeptClasses.granted_classes, AskCounts.end_counted}
 
 -- an ask that was granted is counted no more, and the class of its object stays
 pub invariant_of-self : goal.invariant_of-self

@@ -1,5 +1,5 @@
-use Rattle.do_import.proofs.KeptClasses.{left_classes}
 use Rattle.do_import.proofs.imports.Imports.leave_next.Goals as goal
+use Rattle.do_import.proofs.KeptClasses.{left_classes}
 
 -- the class of an object that leaves stays where it was asked for
 pub invariant_of-self-2 : goal.invariant_of-self-2

@@ -1,5 +1,5 @@
-use Rattle.do_import.proofs.AskCounts.{lend_counted, lend_numbered}
 use Rattle.do_import.proofs.imports.Imports.lend.Goals as goal
+use Rattle.do_import.proofs.AskCounts.{lend_counted, lend_numbered}
 
 -- a new lend is counted by its object, under a number below the next
 pub invariant_of-self : goal.invariant_of-self

@@ -1,6 +1,6 @@
+use Rattle.do_import.proofs.imports.Imports.new.Goals as goal
 use Rattle.do_import.proofs.KeptClasses.{no_classes}
 use Rattle.do_import.proofs.AskCounts.{none_asked, none_named, none_numbered}
-use Rattle.do_import.proofs.imports.Imports.new.Goals as goal
 
 -- where there is nothing all counts are right
 pub invariant_of-result : goal.invariant_of-result

@@ -1,6 +1,6 @@
+use Rattle.do_import.proofs.imports.Imports.settle.Goals as goal
 use Rattle.std.proofs.Common.{sym}
 use Rattle.do_import.proofs.AskCounts.{settled_counted, settled_numbered}
-use Rattle.do_import.proofs.imports.Imports.settle.Goals as goal
 
 -- a lend that is over is counted no more
 pub invariant_of-self : goal.invariant_of-self

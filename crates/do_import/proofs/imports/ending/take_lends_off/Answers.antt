@@ -1,12 +1,9 @@
-use Rattle.std.proofs.Common.{arith, ◌+◌, drop, sym, ap, ◌∙◌}
-use Rattle.std.specs.Option.{option_copied}
-use Rattle.std.proofs.lemmas.List.{drop_all}
 use Rattle.std.specs.FinMap as map
-use Rattle.std.proofs.lemmas.Bool.{eq-eqb, ne_eqb}
-use Rattle.do_import.specs.Imported.{all_off, lent_to}
-use Rattle.do_import.proofs.NextRow.{no_row}
-use Rattle.do_import.proofs.LendsOff.{next_lent, next_other}
 use Rattle.do_import.proofs.imports.ending.take_lends_off.Goals as goal
+use Rattle.std.{proofs.Common.{arith, ◌+◌, drop, sym, ap, ◌∙◌}, specs.Option.option_copied}
+use Rattle.std.proofs.lemmas.{List.drop_all, Bool.{eq-eqb, ne_eqb}}
+use Rattle.do_import.specs.Imported.{all_off, lent_to}
+use Rattle.do_import.proofs.{NextRow.no_row, LendsOff.{next_lent, next_other}}
 use Rattle.do_import.proofs.imports.ending.take_lends_off.Goals.{then-row-borrower}
 use Rattle.do_import.proofs.imports.ending.take_lends_off.Goals.{else-row-borrower}
 

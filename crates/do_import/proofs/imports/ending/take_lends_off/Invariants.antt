@@ -1,7 +1,7 @@
-use Rattle.std.proofs.Common.{◌≡◌, ◌≤◌, drop}
 use Rattle.std.specs.FinMap as map
-use Rattle.do_import.specs.Imported.{all_off, lent_to}
 use Rattle.do_import.proofs.imports.ending.take_lends_off.Given as goal
+use Rattle.std.proofs.Common.{◌≡◌, ◌≤◌, drop}
+use Rattle.do_import.specs.Imported.{all_off, lent_to}
 
 -- what the lends still to come take off is all that is to be taken off yet
 abbrev pub invariant-loop-at : goal.invariant-loop-at

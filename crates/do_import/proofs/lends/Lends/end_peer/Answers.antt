@@ -1,7 +1,6 @@
-use Rattle.std.proofs.Common.{◌==◌, not, rules}
-use Rattle.std.proofs.lemmas.Fn.{filter_same}
-use Rattle.do_export.proofs.Order.{others_are}
 use Rattle.do_import.proofs.lends.Lends.end_peer.Goals as goal
+use Rattle.std.proofs.{Common.{◌==◌, not, rules}, lemmas.Fn.filter_same}
+use Rattle.do_export.proofs.Order.{others_are}
 
 -- the rows of other peers are still in their order
 pub invariant_of-self : goal.invariant_of-self

@@ -1,7 +1,6 @@
-use Rattle.std.proofs.Common.{sym, ap, ◌∙◌, length}
-use Rattle.std.specs.FinMap.{entries-from_sorted}
-use Rattle.do_export.specs.Counts.{entry_cmp}
 use Rattle.do_import.proofs.lends.Lends.len.Goals as goal
+use Rattle.std.{proofs.Common.{sym, ap, ◌∙◌, length}, specs.FinMap.entries-from_sorted}
+use Rattle.do_export.specs.Counts.{entry_cmp}
 
 -- there are as many lends as rows
 pub returns : goal.returns

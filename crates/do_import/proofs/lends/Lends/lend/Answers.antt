@@ -1,5 +1,5 @@
-use Rattle.do_export.proofs.Order.{put_is}
 use Rattle.do_import.proofs.lends.Lends.lend.Goals as goal
+use Rattle.do_export.proofs.Order.{put_is}
 
 -- the rows with one more are still in their order
 pub invariant_of-self : goal.invariant_of-self

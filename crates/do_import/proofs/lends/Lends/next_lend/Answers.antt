@@ -1,8 +1,7 @@
+use Rattle.do_import.proofs.lends.Lends.next_lend.Goals as goal
 use Rattle.std.proofs.Common.{sym, ap, ◌∙◌}
 use Rattle.do_sorted.specs.Rows.{first_from}
-use Rattle.do_export.specs.Counts.{entry_cmp}
-use Rattle.do_export.proofs.Order.{none_of, other_of, lowest_of}
-use Rattle.do_import.proofs.lends.Lends.next_lend.Goals as goal
+use Rattle.do_export.{specs.Counts.entry_cmp, proofs.Order.{none_of, other_of, lowest_of}}
 
 -- where no row is found there is none behind
 pub returns-in_default : goal.returns-in_default

@@ -1,6 +1,6 @@
+use Rattle.do_import.proofs.lends.Lends.object.Goals as goal
 use Rattle.std.proofs.Common.{sym, ◌∙◌}
 use Rattle.do_export.proofs.Order.{found_is}
-use Rattle.do_import.proofs.lends.Lends.object.Goals as goal
 
 -- the row that is found has the object
 pub returns : goal.returns

@@ -1,8 +1,6 @@
-use Rattle.std.proofs.Common.{◌≡◌, Some, arith}
-use Rattle.std.proofs.lemmas.Grind.{common_steps}
-use Rattle.do_names.specs.Core.{from_slots}
-use Rattle.do_names.proofs.SlotsExact.{read_back, to_from}
 use Rattle.do_names.proofs.names.Names.from_slots.Goals as goal
+use Rattle.std.proofs.{Common.{◌≡◌, Some, arith}, lemmas.Grind.common_steps}
+use Rattle.do_names.{specs.Core.from_slots, proofs.SlotsExact.{read_back, to_from}}
 
 pub invariant_of-result : goal.invariant_of-result
 invariant_of-result c =

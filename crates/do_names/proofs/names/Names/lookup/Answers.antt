@@ -1,6 +1,6 @@
+use Rattle.do_names.proofs.names.Names.lookup.Goals as goal
 use Rattle.std.proofs.Common.{◌∙◌}
 use Rattle.do_names.proofs.IsTold.{port_told}
-use Rattle.do_names.proofs.names.Names.lookup.Goals as goal
 
 pub returns-clause-meaning : goal.returns-clause-meaning
 returns-clause-meaning c =

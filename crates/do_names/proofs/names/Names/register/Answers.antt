@@ -1,9 +1,7 @@
-use Rattle.std.proofs.Common.{◌≡◌, None, arith}
-use Rattle.std.proofs.lemmas.Grind.{common_steps}
-use Rattle.do_table.specs.Entries.{value_of}
-use Rattle.do_table.specs.laws.TableLaws.{added_absent, table_pushed}
-use Rattle.do_names.specs.Core.{Entry, is_entry}
 use Rattle.do_names.proofs.names.Names.register.Goals as goal
+use Rattle.std.proofs.{Common.{◌≡◌, None, arith}, lemmas.Grind.common_steps}
+use Rattle.do_table.specs.{Entries.value_of, laws.TableLaws.{added_absent, table_pushed}}
+use Rattle.do_names.specs.Core.{Entry, is_entry}
 
 pub invariant_of-self-in-None : goal.invariant_of-self-in-None
 invariant_of-self-in-None c =

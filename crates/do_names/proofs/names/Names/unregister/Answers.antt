@@ -1,7 +1,7 @@
+use Rattle.do_names.proofs.names.Names.unregister.Goals as goal
 use Rattle.std.proofs.Common.{subst, sym, IsTrue}
 use Rattle.do_table.specs.laws.TableLaws.{table_removed}
 use Rattle.do_names.specs.Core.{are_names, is_entry}
-use Rattle.do_names.proofs.names.Names.unregister.Goals as goal
 
 pub invariant_of-self : goal.invariant_of-self
 invariant_of-self c =

@@ -1,6 +1,5 @@
-use Rattle.do_net.specs.Hosts.{hosting}
-use Rattle.do_net.proofs.HostPlaces.{host_advances}
 use Rattle.do_net.proofs.host.Host.advance.Goals as goal
+use Rattle.do_net.{specs.Hosts.hosting, proofs.HostPlaces.host_advances}
 
 pub returns-clause-kept : goal.returns-clause-kept
 returns-clause-kept g c =

@@ -1,7 +1,6 @@
-use Rattle.std.proofs.Common.{rules}
-use Rattle.do_net.specs.Hosts.{hosting}
-use Rattle.do_net.proofs.ForwardLoop.{forwards_more}
 use Rattle.do_net.proofs.host.Host.forward.Goals as goal
+use Rattle.std.proofs.Common.{rules}
+use Rattle.do_net.{specs.Hosts.hosting, proofs.ForwardLoop.forwards_more}
 
 -- a frame more was fetched, went into its channel and was sent
 pub loop-wire-preserved : goal.loop-wire-preserved

@@ -1,8 +1,7 @@
 -- What was fetched so far went into the channels and was sent.
-use Rattle.std.proofs.Common.{length}
-use Rattle.do_net.specs.Hosts.{hosting}
-use Rattle.do_net.proofs.ForwardLoop.{Forwards}
 use Rattle.do_net.proofs.host.Host.forward.Given as goal
+use Rattle.std.proofs.Common.{length}
+use Rattle.do_net.{specs.Hosts.hosting, proofs.ForwardLoop.Forwards}
 
 abbrev pub invariant-loop-wire : goal.invariant-loop-wire
 invariant-loop-wire g l =

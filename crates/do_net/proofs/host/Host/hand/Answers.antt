@@ -1,5 +1,5 @@
-use Rattle.do_net.proofs.ShowLoop.{sent_ready, sent_spelled}
 use Rattle.do_net.proofs.host.Host.hand.Goals as goal
+use Rattle.do_net.proofs.ShowLoop.{sent_ready, sent_spelled}
 
 pub forward-requires : goal.forward-requires
 forward-requires g c =

@@ -1,6 +1,5 @@
-use Rattle.do_net.specs.Hosts.{hosting}
-use Rattle.do_net.proofs.HostPlaces.{host_loses}
 use Rattle.do_net.proofs.host.Host.lose.Goals as goal
+use Rattle.do_net.{specs.Hosts.hosting, proofs.HostPlaces.host_loses}
 
 pub returns-clause-told : goal.returns-clause-told
 returns-clause-told g c =

@@ -1,8 +1,7 @@
-use Rattle.std.proofs.Common.{rules}
-use Rattle.do_net.specs.Lanes.{carried_of}
-use Rattle.do_net.proofs.FirstFound.{map_put}
-use Rattle.do_net.specs.declared.lane.Kept.TheVariants.{Loss}
 use Rattle.do_net.proofs.lane.Lane.lose.Goals as goal
+use Rattle.std.proofs.Common.{rules}
+use Rattle.do_net.{specs.Lanes.carried_of, proofs.FirstFound.map_put}
+use Rattle.do_net.specs.declared.lane.Kept.TheVariants.{Loss}
 
 pub returns-clause-ok : goal.returns-clause-ok
 returns-clause-ok c =

@@ -1,7 +1,7 @@
+use Rattle.do_net.proofs.lanes.Lanes.lose.Goals as goal
 use Rattle.std.proofs.Common.{sym}
 use Rattle.do_ported.proofs.ByHalves.{rising_set}
 use Rattle.do_net.proofs.ChannelPlaces.{channels_lose, none_loses}
-use Rattle.do_net.proofs.lanes.Lanes.lose.Goals as goal
 
 pub returns-in-Some : goal.returns-in-Some
 returns-in-Some c =

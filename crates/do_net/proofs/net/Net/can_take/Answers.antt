@@ -1,7 +1,6 @@
-use Rattle.std.proofs.Common.{◌∙◌}
-use Rattle.do_net.specs.Net.{network}
-use Rattle.do_net.proofs.StandsForStates.{takes_as_one}
 use Rattle.do_net.proofs.net.Net.can_take.Goals as goal
+use Rattle.std.proofs.Common.{◌∙◌}
+use Rattle.do_net.{specs.Net.network, proofs.StandsForStates.takes_as_one}
 
 pub returns-clause-one_machine : goal.returns-clause-one_machine
 returns-clause-one_machine g c state stands =

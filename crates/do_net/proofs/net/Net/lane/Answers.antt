@@ -1,7 +1,6 @@
-use Rattle.std.proofs.Common.{◌∙◌, sym}
-use Rattle.do_net.specs.Hosts.{hosting}
-use Rattle.do_net.proofs.Looked.{lane_found, lane_none}
 use Rattle.do_net.proofs.net.Net.lane.Goals as goal
+use Rattle.std.proofs.Common.{◌∙◌, sym}
+use Rattle.do_net.{specs.Hosts.hosting, proofs.Looked.{lane_found, lane_none}}
 
 -- the lane is that of the site that is found
 pub returns-in-Some : goal.returns-in-Some

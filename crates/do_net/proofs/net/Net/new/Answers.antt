@@ -1,9 +1,8 @@
+use Rattle.do_net.proofs.net.Net.new.Goals as goal
 use Rattle.std.proofs.Common.{subst, sym}
 use Rattle.do_machine.specs.World.{opening}
-use Rattle.do_net.specs.OneMachine.{StandsFor}
-use Rattle.do_net.proofs.OpeningNetwork.{alike_first, opens, opens_rest}
-use Rattle.do_net.proofs.StandsForStates.{opening_stands}
-use Rattle.do_net.proofs.net.Net.new.Goals as goal
+use Rattle.do_net.{specs.OneMachine.StandsFor, proofs.OpeningNetwork.{alike_first, opens}}
+use Rattle.do_net.proofs.{OpeningNetwork.opens_rest, StandsForStates.opening_stands}
 
 -- the sites that open are those of what decides the acts of the first
 pub returns-clause-stands : goal.returns-clause-stands

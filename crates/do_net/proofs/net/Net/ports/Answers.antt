@@ -1,8 +1,6 @@
-use Rattle.std.proofs.Common.{◌≡◌, ◌∙◌, ap, map, take}
-use Rattle.std.proofs.lemmas.List.{take_all}
-use Rattle.do_net.specs.Hosts.{hosting}
-use Rattle.do_net.proofs.Looked.{ports_listed}
 use Rattle.do_net.proofs.net.Net.ports.Goals as goal
+use Rattle.std.proofs.{Common.{◌≡◌, ◌∙◌, ap, map, take}, lemmas.List.take_all}
+use Rattle.do_net.{specs.Hosts.hosting, proofs.Looked.ports_listed}
 
 pub returns : goal.returns
 returns g c =

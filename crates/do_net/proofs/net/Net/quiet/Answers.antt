@@ -1,8 +1,6 @@
-use Rattle.std.proofs.Common.{◌==◌, ◌∙◌, length}
-use Rattle.std.specs.List.{list_all}
-use Rattle.do_net.specs.Hosts.{hosting}
-use Rattle.do_net.proofs.ListedPlaces.{all_listed}
 use Rattle.do_net.proofs.net.Net.quiet.Goals as goal
+use Rattle.std.{proofs.Common.{◌==◌, ◌∙◌, length}, specs.List.list_all}
+use Rattle.do_net.{specs.Hosts.hosting, proofs.ListedPlaces.all_listed}
 
 pub returns : goal.returns
 returns g c =

@@ -1,7 +1,6 @@
-use Rattle.std.proofs.Common.{◌∙◌, Some, ap, sym}
-use Rattle.do_net.specs.Hosts.{hosting}
-use Rattle.do_net.proofs.Looked.{site_found, site_none, site_rests}
 use Rattle.do_net.proofs.net.Net.site.Goals as goal
+use Rattle.std.proofs.Common.{◌∙◌, Some, ap, sym}
+use Rattle.do_net.{specs.Hosts.hosting, proofs.Looked.{site_found, site_none, site_rests}}
 
 -- the site that is found is that of the port
 pub returns-in-Some-clause-part : goal.returns-in-Some-clause-part

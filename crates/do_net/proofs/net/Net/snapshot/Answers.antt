@@ -1,8 +1,6 @@
-use Rattle.std.proofs.Common.{◌≡◌, ◌∙◌, Result, Ok, Err}
-use Rattle.std.specs.Prelude.{IfOk}
-use Rattle.do_net.specs.Net.{network}
-use Rattle.do_net.proofs.StandsForStates.{lists_as_one}
 use Rattle.do_net.proofs.net.Net.snapshot.Goals as goal
+use Rattle.std.{proofs.Common.{◌≡◌, ◌∙◌, Result, Ok, Err}, specs.Prelude.IfOk}
+use Rattle.do_net.{specs.Net.network, proofs.StandsForStates.lists_as_one}
 
 -- what is listed is equal to what else is told of it
 if_listed : {T E : Type 0} (listed : Result T E) (a b : T) → IfOk listed (λ x. x ≡ a) → a ≡ b →

@@ -1,6 +1,5 @@
-use Rattle.do_network.specs.Counting.{item_classes}
-use Rattle.do_network.proofs.ClassesKept.{classes_stay}
 use Rattle.do_network.proofs.laws.counts.first_classes_stay.Goals as goal
+use Rattle.do_network.{specs.Counting.item_classes, proofs.ClassesKept.classes_stay}
 
 pub returns : goal.returns
 returns c p from item o class kept =

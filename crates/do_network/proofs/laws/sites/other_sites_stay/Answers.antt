@@ -1,7 +1,6 @@
-use Rattle.std.proofs.Common.{ap}
-use Rattle.std.specs.Prelude.{option_map}
-use Rattle.do_network.proofs.OtherPlaces.{elsewhere}
 use Rattle.do_network.proofs.laws.sites.other_sites_stay.Goals as goal
+use Rattle.std.{proofs.Common.ap, specs.Prelude.option_map}
+use Rattle.do_network.proofs.OtherPlaces.{elsewhere}
 
 pub returns : goal.returns
 returns c port other N h apart =

@@ -1,5 +1,5 @@
-use Rattle.do_network.proofs.FirstGreets.{first_greets, later_goes}
 use Rattle.do_network.proofs.laws.streams.streams_begin_with_the_greeting.Goals as goal
+use Rattle.do_network.proofs.FirstGreets.{first_greets, later_goes}
 
 pub returns-clause-first : goal.returns-clause-first
 returns-clause-first c = first_greets

@@ -1,5 +1,5 @@
-use Rattle.do_node.proofs.StepsOfNets.{takes_alike}
 use Rattle.do_node.proofs.woven_net.WovenNetMachine.can_take.Goals as goal
+use Rattle.do_node.proofs.StepsOfNets.{takes_alike}
 
 -- a node can take the same in the machine
 pub returns : goal.returns

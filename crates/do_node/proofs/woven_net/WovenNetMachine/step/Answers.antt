@@ -1,5 +1,5 @@
-use Rattle.do_node.proofs.StepsOfNets.{steps_alike}
 use Rattle.do_node.proofs.woven_net.WovenNetMachine.step.Goals as goal
+use Rattle.do_node.proofs.StepsOfNets.{steps_alike}
 
 -- the network stands for some state
 pub step-requires : goal.step-requires

@@ -1,7 +1,6 @@
-use Rattle.std.proofs.Common.{take}
-use Rattle.do_packet.specs.Seen.{sender}
-use Rattle.do_packet.specs.walk.Following.{IsNaming}
 use Rattle.do_packet.proofs.packing.naming.names_of.Given as goal
+use Rattle.std.proofs.Common.{take}
+use Rattle.do_packet.specs.{Seen.sender, walk.Following.IsNaming}
 
 abbrev pub invariant-loop-oid : goal.invariant-loop-oid
 invariant-loop-oid g l =

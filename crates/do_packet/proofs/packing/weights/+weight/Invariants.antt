@@ -1,7 +1,7 @@
+use Rattle.do_packet.proofs.packing.weights.+weight.Given as goal
 use Rattle.std.proofs.Common.{◌≡◌, take, sum_by}
 use Rattle.do_base.specs.values.Values.{weight_of}
 use Rattle.do_packet.specs.Packing.{capped}
-use Rattle.do_packet.proofs.packing.weights.+weight.Given as goal
 
 abbrev pub invariant-sum_of_weights-loop-value : goal.invariant-sum_of_weights-loop-value
 invariant-sum_of_weights-loop-value l =

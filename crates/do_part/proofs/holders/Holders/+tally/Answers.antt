@@ -1,13 +1,11 @@
+use Rattle.do_part.proofs.holders.Holders.+tally.Goals as goal
 use Rattle.std.proofs.Common.{◌+◌, ◌<◌, sum_by, ap, sym, ◌∙◌, arith, rules, take}
-use Rattle.std.proofs.lemmas.List.{take_all}
-use Rattle.std.proofs.lemmas.List.Sums.{get_or-le-sum_by}
+use Rattle.std.proofs.lemmas.List.{take_all, Sums.get_or-le-sum_by}
 use Rattle.do_base.specs.values.Values.{weight_of}
-use Rattle.do_part.specs.Holding.{CanTally}
-use Rattle.do_part.specs.Names.{counted, value_of, values_of, size_of, sizes_of}
+use Rattle.do_part.specs.{Holding.CanTally, Names.{counted, value_of, values_of, size_of, sizes_of}}
 use Rattle.do_part.proofs.Naming.{weight-List, of-List, size-List, of-more, of-part, size-more}
 use Rattle.do_part.proofs.Naming.{size-part, counted-sum, counted-sum-le, counted-le, counted-same}
 use Rattle.do_part.proofs.Tallying.{tallied-as, tallied-then, tallied-node, tally-less, tally-rest}
-use Rattle.do_part.proofs.holders.Holders.+tally.Goals as goal
 
 -- the items of a list can be counted where the list can, and weigh less
 pub tally_value-tally_values-requires : goal.tally_value-tally_values-requires

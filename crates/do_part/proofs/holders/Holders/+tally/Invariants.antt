@@ -1,8 +1,7 @@
+use Rattle.do_part.proofs.holders.Holders.+tally.Given as goal
 use Rattle.std.proofs.Common.{◌+◌, take, sum_by}
 use Rattle.do_base.specs.values.Values.{weight_of}
-use Rattle.do_part.specs.Names.{counted, values_of, sizes_of}
-use Rattle.do_part.specs.Holding.{Tallied}
-use Rattle.do_part.proofs.holders.Holders.+tally.Given as goal
+use Rattle.do_part.specs.{Names.{counted, values_of, sizes_of}, Holding.Tallied}
 
 -- what the items so far name is counted
 abbrev pub invariant-tally_values-loop-value : goal.invariant-tally_values-loop-value

@@ -1,12 +1,11 @@
+use Rattle.do_part.proofs.holders.Holders.come.Goals as goal
 use Rattle.std.proofs.Common.{◌+◌, arith, refl, sym, ap, ◌∙◌, subst}
 use Rattle.do_import.specs.Imported.{Imported}
 use Rattle.do_export.specs.Counts.{IsPositive}
 use Rattle.do_part.specs.Holding.{Came, CanCome}
 use Rattle.do_export.proofs.Counting.{positive-raised}
-use Rattle.do_part.proofs.Ones.{one_of, is_away, is_home, one-foreign, own_room, one-slot}
-use Rattle.do_part.proofs.Ones.{came-own, came-foreign}
-use Rattle.do_part.proofs.Steps.{came-kept}
-use Rattle.do_part.proofs.holders.Holders.come.Goals as goal
+use Rattle.do_part.proofs.Ones.{one_of, is_away, is_home, one-foreign, own_room, one-slot, came-own}
+use Rattle.do_part.proofs.{Ones.came-foreign, Steps.came-kept}
 
 -- a foreign object is not used too often for one use more
 pub refer-requires-clause-small : goal.refer-requires-clause-small

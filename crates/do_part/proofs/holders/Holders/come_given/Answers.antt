@@ -1,10 +1,8 @@
+use Rattle.do_part.proofs.holders.Holders.come_given.Goals as goal
 use Rattle.std.proofs.Common.{ap, ◌∙◌, arith}
 use Rattle.do_stack.specs.Exchange.{given}
-use Rattle.do_part.specs.Names.{values_of, sizes_of}
-use Rattle.do_part.specs.declared.tally.Tally.TheVariants.{More}
-use Rattle.do_part.proofs.Sequences.{of-one, size-one}
-use Rattle.do_part.proofs.Tallying.{tallied-as, tally-less}
-use Rattle.do_part.proofs.holders.Holders.come_given.Goals as goal
+use Rattle.do_part.specs.{Names.{values_of, sizes_of}, declared.tally.Tally.TheVariants.More}
+use Rattle.do_part.proofs.{Sequences.{of-one, size-one}, Tallying.{tallied-as, tally-less}}
 
 -- the value for a local can be counted
 pub tally_value-requires : goal.tally_value-requires

@@ -1,8 +1,7 @@
+use Rattle.do_part.proofs.holders.Holders.come_local.Goals as goal
 use Rattle.std.proofs.Common.{arith}
 use Rattle.do_part.specs.declared.tally.Tally.TheVariants.{More}
-use Rattle.do_part.proofs.Sequences.{of-one, size-one}
-use Rattle.do_part.proofs.Tallying.{tallied-as, tally-less}
-use Rattle.do_part.proofs.holders.Holders.come_local.Goals as goal
+use Rattle.do_part.proofs.{Sequences.{of-one, size-one}, Tallying.{tallied-as, tally-less}}
 
 -- the value can be counted
 pub tally_value-requires : goal.tally_value-requires

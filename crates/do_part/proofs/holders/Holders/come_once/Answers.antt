@@ -1,8 +1,6 @@
-use Rattle.std.proofs.Common.{◌+◌, ℕ, Option, arith, refl, subst, sym}
-use Rattle.do_part.specs.Holding.{CanCome, HasCome}
-use Rattle.do_part.specs.Rooting.{root_of}
-use Rattle.do_part.proofs.Steps.{came-kept}
 use Rattle.do_part.proofs.holders.Holders.come_once.Goals as goal
+use Rattle.std.proofs.Common.{◌+◌, ℕ, Option, arith, refl, subst, sym}
+use Rattle.do_part.{specs.{Holding.{CanCome, HasCome}, Rooting.root_of}, proofs.Steps.came-kept}
 
 -- the own object can be counted once more
 pub tally-requires : goal.tally-requires

@@ -1,12 +1,11 @@
+use Rattle.do_part.proofs.holders.Holders.go.Goals as goal
 use Rattle.std.proofs.Common.{arith, refl, sym, ap, ◌∙◌, subst}
 use Rattle.do_import.specs.Imported.{Imported}
 use Rattle.do_export.specs.Counts.{IsPositive}
 use Rattle.do_part.specs.Holding.{Came, CanGo}
 use Rattle.do_export.proofs.Counting.{positive-lowered}
-use Rattle.do_part.proofs.Ones.{one_of, is_away, is_home, own_held, one-slot}
-use Rattle.do_part.proofs.Ones.{went-own, went-foreign, foreign_used}
-use Rattle.do_part.proofs.Steps.{came-kept}
-use Rattle.do_part.proofs.holders.Holders.go.Goals as goal
+use Rattle.do_part.proofs.Ones.{one_of, is_away, is_home, own_held, one-slot, went-own}
+use Rattle.do_part.proofs.{Ones.{went-foreign, foreign_used}, Steps.came-kept}
 
 -- a foreign object is used
 pub unrefer-requires : goal.unrefer-requires

@@ -1,9 +1,7 @@
+use Rattle.do_part.proofs.holders.Holders.go_local.Goals as goal
 use Rattle.std.proofs.Common.{arith, refl}
 use Rattle.do_part.specs.declared.tally.Tally.TheVariants.{Less}
-use Rattle.do_part.proofs.Sequences.{of-one}
-use Rattle.do_part.proofs.Steps.{go-less}
-use Rattle.do_part.proofs.Tallying.{tallied-as}
-use Rattle.do_part.proofs.holders.Holders.go_local.Goals as goal
+use Rattle.do_part.proofs.{Sequences.of-one, Steps.go-less, Tallying.tallied-as}
 
 -- the value is counted
 pub tally_value-requires : goal.tally_value-requires

@@ -1,11 +1,8 @@
+use Rattle.do_part.proofs.holders.Holders.go_taken.Goals as goal
 use Rattle.std.proofs.Common.{ap, ◌∙◌, arith, refl}
 use Rattle.do_stack.specs.Exchange.{taken}
-use Rattle.do_part.specs.Names.{values_of}
-use Rattle.do_part.specs.declared.tally.Tally.TheVariants.{Less}
-use Rattle.do_part.proofs.Sequences.{of-one}
-use Rattle.do_part.proofs.Steps.{go-less}
-use Rattle.do_part.proofs.Tallying.{tallied-as}
-use Rattle.do_part.proofs.holders.Holders.go_taken.Goals as goal
+use Rattle.do_part.specs.{Names.values_of, declared.tally.Tally.TheVariants.Less}
+use Rattle.do_part.proofs.{Sequences.of-one, Steps.go-less, Tallying.tallied-as}
 
 -- the value that was taken out is counted
 pub tally_value-requires : goal.tally_value-requires

@@ -1,7 +1,6 @@
-use Rattle.std.proofs.Common.{sym, subst}
-use Rattle.do_part.specs.Holding.{CanTally, Tallied}
-use Rattle.do_part.proofs.Ones.{one_of}
 use Rattle.do_part.proofs.holders.Holders.tally.Goals as goal
+use Rattle.std.proofs.Common.{sym, subst}
+use Rattle.do_part.{specs.Holding.{CanTally, Tallied}, proofs.Ones.one_of}
 
 -- names that can be tallied can come
 pub come-requires : goal.come-requires

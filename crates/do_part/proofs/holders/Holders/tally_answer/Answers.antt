@@ -1,10 +1,8 @@
+use Rattle.do_part.proofs.holders.Holders.tally_answer.Goals as goal
 use Rattle.std.proofs.Common.{ap, ◌∙◌, arith}
 use Rattle.do_machine.specs.held.Refers.{answer_values}
-use Rattle.do_part.specs.Names.{value_of, values_of, size_of, sizes_of}
-use Rattle.do_part.proofs.Exchanging.{of-cons}
-use Rattle.do_part.proofs.Sequences.{size-cons}
-use Rattle.do_part.proofs.Tallying.{tallied-then, tally-less, tally-rest}
-use Rattle.do_part.proofs.holders.Holders.tally_answer.Goals as goal
+use Rattle.do_part.{specs.Names.{value_of, values_of, size_of, sizes_of}, proofs.Exchanging.of-cons}
+use Rattle.do_part.proofs.{Sequences.size-cons, Tallying.{tallied-then, tally-less, tally-rest}}
 
 -- the result can be counted where the whole answer can
 pub tally_value-requires : goal.tally_value-requires

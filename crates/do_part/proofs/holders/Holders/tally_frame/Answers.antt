@@ -1,9 +1,8 @@
-use Rattle.std.proofs.Common.{◌+◌, ap, sym, ◌∙◌, arith, take}
-use Rattle.std.proofs.lemmas.List.{take_all}
+use Rattle.do_part.proofs.holders.Holders.tally_frame.Goals as goal
+use Rattle.std.proofs.{Common.{◌+◌, ap, sym, ◌∙◌, arith, take}, lemmas.List.take_all}
 use Rattle.do_part.specs.Names.{value_of, values_of, size_of, sizes_of}
 use Rattle.do_part.proofs.Naming.{of-more, of-part, size-more, size-part}
 use Rattle.do_part.proofs.Tallying.{tallied-as, tallied-then, tally-rest}
-use Rattle.do_part.proofs.holders.Holders.tally_frame.Goals as goal
 
 -- the next local can be counted where all can
 pub tally_value-requires : goal.tally_value-requires

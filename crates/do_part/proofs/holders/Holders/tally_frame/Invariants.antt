@@ -1,7 +1,6 @@
-use Rattle.std.proofs.Common.{take}
-use Rattle.do_part.specs.Names.{values_of, sizes_of}
-use Rattle.do_part.specs.Holding.{Tallied}
 use Rattle.do_part.proofs.holders.Holders.tally_frame.Given as goal
+use Rattle.std.proofs.Common.{take}
+use Rattle.do_part.specs.{Names.{values_of, sizes_of}, Holding.Tallied}
 
 -- what the locals so far name is counted
 abbrev pub invariant-loop-held : goal.invariant-loop-held

@@ -1,3 +1,4 @@
+use Rattle.do_part.proofs.holders.Holders.tally_invocation.Goals as goal
 use Rattle.std.proofs.Common.{◌+◌, arith, refl}
 use Rattle.do_base.specs.declared.values.value.Value.TheVariants.{Obj}
 use Rattle.do_machine.specs.held.Refers.{state_values}
@@ -5,7 +6,6 @@ use Rattle.do_stack.specs.Uses.{invocation_values}
 use Rattle.do_part.specs.Names.{value_of, values_of, sizes_of}
 use Rattle.do_part.proofs.Sequences.{of-invocation, size-invocation}
 use Rattle.do_part.proofs.Tallying.{tallied-then, tally-less, tally-rest}
-use Rattle.do_part.proofs.holders.Holders.tally_invocation.Goals as goal
 
 -- the object can be counted where the whole invocation can
 pub tally-requires : goal.tally-requires

@@ -1,20 +1,12 @@
+use Rattle.do_part.proofs.part.Part.abandon.Goals as goal
 use Rattle.std.proofs.Common.{IsSome, Some, ap, ◌∙◌, sym, subst}
 use Rattle.do_base.specs.declared.events.exception.Exc.TheVariants.{TimedOut}
 use Rattle.do_behave.specs.declared.invocation.Answer.TheVariants.{Raised}
-use Rattle.do_machine.specs.Effect.{only}
-use Rattle.do_machine.specs.ends.TimeOut.{time_out}
-use Rattle.do_machine.specs.run.Changes.{answered}
-use Rattle.do_stack.specs.Late.{top_call}
-use Rattle.do_stack.specs.Waiting.{with_top}
-use Rattle.do_part.specs.Names.{stack_of}
-use Rattle.do_part.specs.Numbered.{IsNumbered}
-use Rattle.do_part.specs.Owned.{Owned}
-use Rattle.do_part.specs.Seen.{own_of}
-use Rattle.do_part.proofs.Balanced.{found_of}
-use Rattle.do_part.proofs.GivenUp.{enabled_call, kept-inserted, numbered_late, time_out-is}
-use Rattle.do_part.proofs.Stacking.{abandon-moves}
-use Rattle.do_part.proofs.Turning.{sound_stacked}
-use Rattle.do_part.proofs.part.Part.abandon.Goals as goal
+use Rattle.do_machine.specs.{Effect.only, ends.TimeOut.time_out, run.Changes.answered}
+use Rattle.do_stack.specs.{Late.top_call, Waiting.with_top}
+use Rattle.do_part.specs.{Names.stack_of, Numbered.IsNumbered, Owned.Owned, Seen.own_of}
+use Rattle.do_part.proofs.{Balanced.found_of, GivenUp.{enabled_call, kept-inserted, numbered_late}}
+use Rattle.do_part.proofs.{GivenUp.time_out-is, Stacking.abandon-moves, Turning.sound_stacked}
 
 -- the top waits, as the stack sees it
 pub abandon-requires : goal.abandon-requires

@@ -1,13 +1,10 @@
+use Rattle.do_part.proofs.part.Part.ask_home.Goals as goal
 use Rattle.std.proofs.Common.{◌∙◌, ◌<◌, ◌+◌, ◌-◌, ◌^◌, ap, arith, refl, subst, sym}
 use Rattle.std.specs.Prelude.{min, not}
 use Rattle.do_base.specs.names.Names.{TokenName}
-use Rattle.do_part.specs.Seen.{own_of}
-use Rattle.do_part.specs.Sound.{IsSound}
-use Rattle.do_part.specs.declared.holders.Holders.{Holders}
-use Rattle.do_part.proofs.LinkAsks.{own_asked, sound_asked}
-use Rattle.do_part.proofs.LinkRows.{asked_has}
+use Rattle.do_part.specs.{Seen.own_of, Sound.IsSound, declared.holders.Holders.Holders}
+use Rattle.do_part.proofs.{LinkAsks.{own_asked, sound_asked}, LinkRows.asked_has}
 use Rattle.do_part.proofs.Turning.{room_below}
-use Rattle.do_part.proofs.part.Part.ask_home.Goals as goal
 
 -- the part is sound with the ask and one name more
 pub invariant_of-self : goal.invariant_of-self

@@ -1,6 +1,6 @@
+use Rattle.do_part.proofs.part.Part.asks.Goals as goal
 use Rattle.std.proofs.Common.{◌∙◌, sym}
 use Rattle.do_part.proofs.LinkRows.{asked_len}
-use Rattle.do_part.proofs.part.Part.asks.Goals as goal
 
 -- the asks that are kept are the ones that the node sees
 pub returns : goal.returns

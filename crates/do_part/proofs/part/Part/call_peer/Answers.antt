@@ -1,16 +1,10 @@
+use Rattle.do_part.proofs.part.Part.call_peer.Goals as goal
 use Rattle.std.proofs.Common.{[], Some, ◌+◌, suc, ap, sym, ◌∙◌, arith, refl, subst}
 use Rattle.std.specs.Prelude.{◌≡◌, slice_get}
-use Rattle.do_behave.specs.declared.invocation.Invocation.{Invocation}
-use Rattle.do_behave.specs.declared.invocation.InvState.TheVariants.{Waits}
-use Rattle.do_machine.specs.held.Refers.{state_values}
-use Rattle.do_machine.specs.run.Changes.{stands}
-use Rattle.do_part.specs.Names.{stack_of}
-use Rattle.do_part.specs.Owned.{Owned}
-use Rattle.do_part.specs.Sound.{IsSound}
-use Rattle.do_part.proofs.Numbering.{numbered_called}
-use Rattle.do_part.proofs.Stacking.{stands-moves}
-use Rattle.do_part.proofs.Turning.{sound_stacked}
-use Rattle.do_part.proofs.part.Part.call_peer.Goals as goal
+use Rattle.do_behave.specs.declared.invocation.{Invocation.Invocation, InvState.TheVariants.Waits}
+use Rattle.do_machine.specs.{held.Refers.state_values, run.Changes.stands}
+use Rattle.do_part.specs.{Names.stack_of, Owned.Owned, Sound.IsSound}
+use Rattle.do_part.proofs.{Numbering.numbered_called, Stacking.stands-moves, Turning.sound_stacked}
 
 -- the part is sound with the call under the next number
 pub invariant_of-self : goal.invariant_of-self

@@ -1,7 +1,6 @@
-use Rattle.std.proofs.Common.{refl}
-use Rattle.do_part.specs.Seen.{own_of}
-use Rattle.do_part.proofs.HeldRows.{known_is}
 use Rattle.do_part.proofs.part.Part.classes_are_known.Goals as goal
+use Rattle.std.proofs.Common.{refl}
+use Rattle.do_part.{specs.Seen.own_of, proofs.HeldRows.known_is}
 
 -- a class is kept just of what is held or asked for
 pub returns : goal.returns

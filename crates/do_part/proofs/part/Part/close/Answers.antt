@@ -1,13 +1,11 @@
-use Rattle.std.proofs.Common.{◌++◌, ◌==◌, ap, sym, ◌∙◌, arith, filter, length, map as each}
-use Rattle.std.proofs.Common.{not, subst}
-use Rattle.std.proofs.lemmas.List.Sums.{count_by-le-length, length-filter}
+use Rattle.do_part.proofs.part.Part.close.Goals as goal
+use Rattle.std.proofs.Common.{◌++◌, ◌==◌, ap, sym, ◌∙◌, arith, filter, length, map as each, not}
+use Rattle.std.proofs.{Common.subst, lemmas.List.Sums.{count_by-le-length, length-filter}}
 use Rattle.do_export.specs.Counts.{HasNoneFrom}
-use Rattle.do_machine.specs.declared.node.Wanted.{Wanted}
-use Rattle.do_machine.specs.ends.Closing.{asked_of}
+use Rattle.do_machine.specs.{declared.node.Wanted.Wanted, ends.Closing.asked_of}
 use Rattle.do_network.specs.Own.{Own}
 use Rattle.do_part.proofs.Parted.{own_parted, failed, asks_gone, links_gone}
 use Rattle.do_part.proofs.PartingRows.{none_left}
-use Rattle.do_part.proofs.part.Part.close.Goals as goal
 
 -- there is room for a token of each ask
 pub end_asks-requires : goal.end_asks-requires

@@ -1,10 +1,9 @@
+use Rattle.do_part.proofs.part.Part.close_end.Goals as goal
 use Rattle.std.proofs.Common.{◌≡◌, ◌∙◌, ℕ, Option, subst, sym}
 use Rattle.std.specs.Prelude.{MatchOption, remove}
 use Rattle.do_export.specs.Counts.{HasNoneFrom}
-use Rattle.do_part.specs.Owned.{Owned}
-use Rattle.do_part.specs.Seen.{own_of}
+use Rattle.do_part.specs.{Owned.Owned, Seen.own_of}
 use Rattle.do_part.proofs.Closed.{closed_is, other_ends, port_place, sound_closed}
-use Rattle.do_part.proofs.part.Part.close_end.Goals as goal
 
 -- the part is sound without an end to whose peer no entry is left
 pub invariant_of-self : goal.invariant_of-self

@@ -1,8 +1,7 @@
-use Rattle.std.proofs.Common.{refl}
-use Rattle.do_part.specs.Names.{values_of, sizes_of}
-use Rattle.do_part.proofs.Bounds.{values-le}
-use Rattle.do_part.proofs.Writes.{slots_come, slots_stored, slots_bound, sound_created}
 use Rattle.do_part.proofs.part.Part.create.Goals as goal
+use Rattle.std.proofs.Common.{refl}
+use Rattle.do_part.{specs.Names.{values_of, sizes_of}, proofs.Bounds.values-le}
+use Rattle.do_part.proofs.Writes.{slots_come, slots_stored, slots_bound, sound_created}
 
 -- the names in the slots can be counted
 pub tally_values-requires : goal.tally_values-requires

@@ -1,13 +1,10 @@
+use Rattle.do_part.proofs.part.Part.create_all.Goals as goal
 use Rattle.std.proofs.Common.{◌∙◌, List as Listed, IsSome, ap, sym, arith, subst, map}
-use Rattle.do_machine.specs.State.{stored}
-use Rattle.do_machine.specs.declared.node.Node.{Node}
-use Rattle.do_machine.specs.run.Fresh.{with_objects}
+use Rattle.do_machine.specs.{State.stored, declared.node.Node.Node, run.Fresh.with_objects}
 use Rattle.do_network.specs.Own.{Own}
 use Rattle.do_packet.specs.declared.receipt.Made.{Made}
-use Rattle.do_part.specs.Filled.{blank_of, filled, made_values}
-use Rattle.do_part.specs.Names.{values_of, sizes_of, AreStored}
-use Rattle.do_part.proofs.Filled.{blank-size, blank-stored, filled-objects}
-use Rattle.do_part.proofs.part.Part.create_all.Goals as goal
+use Rattle.do_part.specs.{Filled.{blank_of, filled, made_values}, Names.{values_of, sizes_of}}
+use Rattle.do_part.{specs.Names.AreStored, proofs.Filled.{blank-size, blank-stored, filled-objects}}
 
 -- blank objects name nothing
 pub create_blanks-requires-clause-blank : goal.create_blanks-requires-clause-blank

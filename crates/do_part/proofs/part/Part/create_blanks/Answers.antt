@@ -1,11 +1,8 @@
-use Rattle.std.proofs.Common.{ap, arith}
-use Rattle.std.specs.Vec.Iter.{into_iter_items}
-use Rattle.do_machine.specs.Objects.{object_at}
-use Rattle.do_part.specs.Filled.{made_values}
-use Rattle.do_part.specs.Names.{sizes_of}
-use Rattle.do_part.proofs.Bounds.{values-le}
-use Rattle.do_part.proofs.Filled.{made-cons}
 use Rattle.do_part.proofs.part.Part.create_blanks.Goals as goal
+use Rattle.std.{proofs.Common.{ap, arith}, specs.Vec.Iter.into_iter_items}
+use Rattle.do_machine.specs.Objects.{object_at}
+use Rattle.do_part.specs.{Filled.made_values, Names.sizes_of}
+use Rattle.do_part.proofs.{Bounds.values-le, Filled.made-cons}
 
 -- a blank object names nothing
 pub create-requires-clause-stored : goal.create-requires-clause-stored

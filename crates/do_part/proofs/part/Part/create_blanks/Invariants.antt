@@ -1,9 +1,7 @@
-use Rattle.std.proofs.Common.{◌≡◌, ◌+◌, ◌≤◌, length}
-use Rattle.std.specs.Vec.Iter.{into_iter_items}
-use Rattle.do_machine.specs.run.Fresh.{with_objects}
-use Rattle.do_part.specs.Filled.{made_values}
-use Rattle.do_part.specs.Names.{sizes_of}
 use Rattle.do_part.proofs.part.Part.create_blanks.Given as goal
+use Rattle.std.{proofs.Common.{◌≡◌, ◌+◌, ◌≤◌, length}, specs.Vec.Iter.into_iter_items}
+use Rattle.do_machine.specs.run.Fresh.{with_objects}
+use Rattle.do_part.specs.{Filled.made_values, Names.sizes_of}
 
 -- the objects that are left come after those that are created
 abbrev pub invariant-loop-blank : goal.invariant-loop-blank

@@ -1,13 +1,11 @@
+use Rattle.do_part.proofs.part.Part.end_ask.Goals as goal
 use Rattle.std.proofs.Common.{◌∙◌, ap, arith, refl, sym}
 use Rattle.do_import.specs.Imported.{Imported}
 use Rattle.do_machine.specs.lend.Asking.{wanted, without_wanted}
-use Rattle.do_part.specs.Seen.{own_of}
-use Rattle.do_part.specs.Rooting.{held_of}
-use Rattle.do_part.proofs.LinkEnds.{ask_over, sound_over}
+use Rattle.do_part.{specs.{Seen.own_of, Rooting.held_of}, proofs.LinkEnds.{ask_over, sound_over}}
 use Rattle.do_part.proofs.Linking.{classes_linked, links_fewer_asks, own_linked}
 use Rattle.do_part.proofs.LinkRows.{asked_less, asked_list, lent_list}
 use Rattle.do_part.proofs.PartingRows.{first_is, none_of_home}
-use Rattle.do_part.proofs.part.Part.end_ask.Goals as goal
 
 -- where no ask of the peer is left, nothing changes
 pub returns-in_default : goal.returns-in_default

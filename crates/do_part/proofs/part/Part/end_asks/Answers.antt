@@ -1,18 +1,13 @@
+use Rattle.std.specs.FinMap as map
+use Rattle.do_part.proofs.part.Part.end_asks.Goals as goal
 use Rattle.std.proofs.Common.{◌≡◌, ◌++◌, ◌∷◌, [], ◌==◌, ap, sym, ◌∙◌, arith, filter, inl, length}
 use Rattle.std.proofs.Common.{map as each, not, refl, subst, append_assoc, append-nil}
-use Rattle.std.specs.FinMap as map
 use Rattle.do_base.specs.names.Names.{ObjectName}
-use Rattle.do_machine.specs.Lists.{IsIn}
-use Rattle.do_machine.specs.State.{is_known}
-use Rattle.do_machine.specs.declared.node.Wanted.{Wanted}
-use Rattle.do_machine.specs.ends.Closing.{asked_of}
-use Rattle.do_machine.specs.lend.Asking.{without_wanted}
-use Rattle.do_network.specs.Counting.{of_known}
-use Rattle.do_network.specs.Own.{Own}
-use Rattle.do_part.specs.Parting.{without_asks}
-use Rattle.do_part.proofs.PassingElements.{in_passing}
+use Rattle.do_machine.specs.{Lists.IsIn, State.is_known, declared.node.Wanted.Wanted}
+use Rattle.do_machine.specs.{ends.Closing.asked_of, lend.Asking.without_wanted}
+use Rattle.do_network.specs.{Counting.of_known, Own.Own}
+use Rattle.do_part.{specs.Parting.without_asks, proofs.PassingElements.in_passing}
 use Rattle.do_part.proofs.PartingRows.{all_others, known_all, known_step, others_stay}
-use Rattle.do_part.proofs.part.Part.end_asks.Goals as goal
 
 -- at the start all asks are left, and nothing was told
 pub loop-token-init : goal.loop-token-init

@@ -1,9 +1,9 @@
-use Rattle.std.proofs.Common.{◌≡◌, ◌+◌, ◌≤◌, ◌++◌, ◌==◌, filter, length, map as each, not}
-use Rattle.std.proofs.Common.{vec_len, vec_capacity}
+use Rattle.do_part.proofs.part.Part.end_asks.Given as goal
+use Rattle.std.proofs.Common.{◌≡◌, ◌+◌, ◌≤◌, ◌++◌, ◌==◌, filter, length, map as each, not, vec_len}
+use Rattle.std.proofs.Common.{vec_capacity}
 use Rattle.do_machine.specs.ends.Closing.{asked_of}
 use Rattle.do_network.specs.Counting.{of_known}
 use Rattle.do_part.specs.Parting.{without_asks}
-use Rattle.do_part.proofs.part.Part.end_asks.Given as goal
 
 -- the asks of other homes are as they were, and what is told goes before what is to be told
 abbrev pub invariant-loop-token : goal.invariant-loop-token

@@ -1,12 +1,10 @@
-use Rattle.std.proofs.Common.{ℕ, ap, sym, ◌∙◌, arith, refl}
 use Rattle.std.specs.FinMap as map
-use Rattle.do_export.specs.Counts.{others_of}
-use Rattle.do_export.proofs.Order.{entry_total, entry_same}
+use Rattle.do_part.proofs.part.Part.end_entries.Goals as goal
+use Rattle.std.proofs.Common.{ℕ, ap, sym, ◌∙◌, arith, refl}
+use Rattle.do_export.{specs.Counts.others_of, proofs.Order.{entry_total, entry_same}}
 use Rattle.do_machine.specs.State.{is_open}
 use Rattle.do_network.specs.Own.{Own}
-use Rattle.do_part.proofs.MapKeys.{fewer}
-use Rattle.do_part.proofs.PartingRows.{none_apart, one_apart}
-use Rattle.do_part.proofs.part.Part.end_entries.Goals as goal
+use Rattle.do_part.proofs.{MapKeys.fewer, PartingRows.{none_apart, one_apart}}
 
 -- at the start all entries are as they were
 pub loop-serial-init : goal.loop-serial-init

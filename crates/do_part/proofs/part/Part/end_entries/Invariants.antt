@@ -1,8 +1,8 @@
-use Rattle.std.proofs.Common.{◌≡◌, ◌≤◌, true}
 use Rattle.std.specs.FinMap as map
+use Rattle.do_part.proofs.part.Part.end_entries.Given as goal
+use Rattle.std.proofs.Common.{◌≡◌, ◌≤◌, true}
 use Rattle.do_export.specs.Counts.{others_of}
 use Rattle.do_machine.specs.State.{is_open}
-use Rattle.do_part.proofs.part.Part.end_entries.Given as goal
 
 -- the other peers have what they had, and all but entries is as it was
 abbrev pub invariant-loop-serial : goal.invariant-loop-serial

@@ -1,11 +1,9 @@
-use Rattle.std.proofs.Common.{ap}
-use Rattle.std.specs.Prelude.{not}
+use Rattle.do_part.proofs.part.Part.end_late.Goals as goal
+use Rattle.std.{proofs.Common.ap, specs.Prelude.not}
 use Rattle.do_machine.specs.declared.node.LateCall.{LateCall}
 use Rattle.do_machine.specs.take.Awaiting.{AnsweredCall, is_answered, late_answered}
-use Rattle.do_part.specs.Names.{stack_of}
-use Rattle.do_part.proofs.Numbering.{eased-same, late-filter, numbered_ended}
-use Rattle.do_part.proofs.Turning.{sound_stacked}
-use Rattle.do_part.proofs.part.Part.end_late.Goals as goal
+use Rattle.do_part.{specs.Names.stack_of, proofs.Numbering.{eased-same, late-filter}}
+use Rattle.do_part.proofs.{Numbering.numbered_ended, Turning.sound_stacked}
 
 -- the part is sound without the late call
 pub invariant_of-self : goal.invariant_of-self

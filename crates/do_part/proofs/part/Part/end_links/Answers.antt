@@ -1,13 +1,10 @@
+use Rattle.do_part.proofs.part.Part.end_links.Goals as goal
 use Rattle.std.proofs.Common.{◌∙◌, ◌==◌, ap, arith, not, refl, sym}
 use Rattle.do_import.specs.Imported.{Imported}
-use Rattle.do_part.specs.Parting.{without_links}
-use Rattle.do_part.specs.Seen.{own_of}
-use Rattle.do_part.specs.Rooting.{held_of}
+use Rattle.do_part.specs.{Parting.without_links, Seen.own_of, Rooting.held_of}
 use Rattle.do_part.proofs.LinkEnds.{links_retained, peer_over, sound_over}
 use Rattle.do_part.proofs.Linking.{classes_linked, own_linked}
-use Rattle.do_part.proofs.LinkRows.{asked_list, lent_apart, lent_list}
-use Rattle.do_part.proofs.PartingRows.{held_apart}
-use Rattle.do_part.proofs.part.Part.end_links.Goals as goal
+use Rattle.do_part.proofs.{LinkRows.{asked_list, lent_apart, lent_list}, PartingRows.held_apart}
 
 -- the part is sound without what it held of the peer and lent to it
 pub invariant_of-self : goal.invariant_of-self

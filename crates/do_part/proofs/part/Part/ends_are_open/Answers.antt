@@ -1,9 +1,8 @@
-use Rattle.std.proofs.Common.{◌≡◌, ℕ, refl, subst, true}
 use Rattle.std.specs.FinMap as map
-use Rattle.do_machine.specs.State.{is_open}
-use Rattle.do_part.specs.Owned.{Owned}
-use Rattle.do_part.specs.Rooting.{held_of}
 use Rattle.do_part.proofs.part.Part.ends_are_open.Goals as goal
+use Rattle.std.proofs.Common.{◌≡◌, ℕ, refl, subst, true}
+use Rattle.do_machine.specs.State.{is_open}
+use Rattle.do_part.specs.{Owned.Owned, Rooting.held_of}
 
 -- an entry is of a peer to which the end is open
 pub returns-clause-ends : goal.returns-clause-ends

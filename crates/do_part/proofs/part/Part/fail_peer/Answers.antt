@@ -1,13 +1,9 @@
-use Rattle.std.proofs.Common.{ap, ◌∙◌, map, eqb}
-use Rattle.std.specs.Prelude.{filter, not}
-use Rattle.do_machine.specs.declared.node.LateCall.{LateCall}
-use Rattle.do_machine.specs.ends.Closing.{without_answer}
-use Rattle.do_part.specs.Names.{stack_of}
-use Rattle.do_part.specs.Seen.{own_of}
-use Rattle.do_part.proofs.Numbering.{eased-each, late-filter, numbered_ended}
-use Rattle.do_part.proofs.Stacking.{died-eases, died-moves}
-use Rattle.do_part.proofs.Turning.{sound_stacked}
 use Rattle.do_part.proofs.part.Part.fail_peer.Goals as goal
+use Rattle.std.{proofs.Common.{ap, ◌∙◌, map, eqb}, specs.Prelude.{filter, not}}
+use Rattle.do_machine.specs.{declared.node.LateCall.LateCall, ends.Closing.without_answer}
+use Rattle.do_part.specs.{Names.stack_of, Seen.own_of}
+use Rattle.do_part.proofs.Numbering.{eased-each, late-filter, numbered_ended}
+use Rattle.do_part.proofs.{Stacking.{died-eases, died-moves}, Turning.sound_stacked}
 
 -- the part is sound with the calls to the peer answered
 pub invariant_of-self : goal.invariant_of-self

@@ -1,18 +1,14 @@
+use Rattle.do_part.proofs.part.Part.fill.Goals as goal
 use Rattle.std.proofs.Common.{◌≡◌, ◌+◌, ◌∷◌, [], suc, List as Listed, ap, sym, ◌∙◌, arith, subst}
-use Rattle.std.proofs.Common.{length}
-use Rattle.std.specs.Vec.Iter.{into_iter_items}
+use Rattle.std.{proofs.Common.length, specs.Vec.Iter.into_iter_items}
 use Rattle.std.proofs.lemmas.List.{nil_from_length}
 use Rattle.do_base.specs.declared.values.value.Value.{Value}
 use Rattle.do_behave.specs.declared.act.Write.{Write}
-use Rattle.do_machine.specs.Objects.{object_at}
-use Rattle.do_machine.specs.run.Changes.{with_slots}
+use Rattle.do_machine.specs.{Objects.object_at, run.Changes.with_slots}
 use Rattle.do_network.specs.Own.{Own}
-use Rattle.do_part.specs.Filled.{writes_from}
-use Rattle.do_part.specs.Names.{values_of, sizes_of, AreStored}
-use Rattle.do_part.proofs.Exchanging.{of-cons}
-use Rattle.do_part.proofs.InARow.{slots-more, slots-none, still_stored}
+use Rattle.do_part.specs.{Filled.writes_from, Names.{values_of, sizes_of, AreStored}}
+use Rattle.do_part.proofs.{Exchanging.of-cons, InARow.{slots-more, slots-none, still_stored}}
 use Rattle.do_part.proofs.Sequences.{size-cons}
-use Rattle.do_part.proofs.part.Part.fill.Goals as goal
 
 -- one slot more is written
 pub loop-value-preserved : goal.loop-value-preserved

@@ -1,9 +1,7 @@
-use Rattle.std.proofs.Common.{◌≡◌, ◌+◌, ◌≤◌, length}
-use Rattle.std.specs.Vec.Iter.{into_iter_items}
-use Rattle.do_machine.specs.run.Changes.{with_slots}
-use Rattle.do_part.specs.Filled.{writes_from}
-use Rattle.do_part.specs.Names.{values_of, sizes_of, AreStored}
 use Rattle.do_part.proofs.part.Part.fill.Given as goal
+use Rattle.std.{proofs.Common.{◌≡◌, ◌+◌, ◌≤◌, length}, specs.Vec.Iter.into_iter_items}
+use Rattle.do_machine.specs.run.Changes.{with_slots}
+use Rattle.do_part.specs.{Filled.writes_from, Names.{values_of, sizes_of, AreStored}}
 
 -- the slots that are left come after those that are written
 abbrev pub invariant-loop-value : goal.invariant-loop-value

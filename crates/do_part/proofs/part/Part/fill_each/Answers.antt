@@ -1,14 +1,12 @@
+use Rattle.do_part.proofs.part.Part.fill_each.Goals as goal
 use Rattle.std.proofs.Common.{◌≡◌, ◌+◌, suc, List as Listed, ap, sym, ◌∙◌, arith, subst, length}
 use Rattle.std.specs.Vec.Iter.{into_iter_items}
-use Rattle.do_machine.specs.Objects.{object_at}
-use Rattle.do_machine.specs.run.Changes.{with_slots}
+use Rattle.do_machine.specs.{Objects.object_at, run.Changes.with_slots}
 use Rattle.do_network.specs.Own.{Own}
 use Rattle.do_packet.specs.declared.receipt.Made.{Made}
 use Rattle.do_part.specs.Filled.{filled, made_values, writes_from}
 use Rattle.do_part.specs.Names.{values_of, sizes_of, AreStored}
-use Rattle.do_part.proofs.Filled.{made-cons, made-of-cons}
-use Rattle.do_part.proofs.InARow.{still_stored}
-use Rattle.do_part.proofs.part.Part.fill_each.Goals as goal
+use Rattle.do_part.proofs.{Filled.{made-cons, made-of-cons}, InARow.still_stored}
 
 -- one object more is filled
 pub loop-copy-preserved : goal.loop-copy-preserved

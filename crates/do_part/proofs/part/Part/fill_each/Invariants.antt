@@ -1,8 +1,6 @@
-use Rattle.std.proofs.Common.{◌≡◌, ◌+◌, ◌≤◌, length}
-use Rattle.std.specs.Vec.Iter.{into_iter_items}
-use Rattle.do_part.specs.Filled.{filled, made_values}
-use Rattle.do_part.specs.Names.{values_of, sizes_of, AreStored}
 use Rattle.do_part.proofs.part.Part.fill_each.Given as goal
+use Rattle.std.{proofs.Common.{◌≡◌, ◌+◌, ◌≤◌, length}, specs.Vec.Iter.into_iter_items}
+use Rattle.do_part.specs.{Filled.{filled, made_values}, Names.{values_of, sizes_of, AreStored}}
 
 -- the objects that are left come after those that are filled
 abbrev pub invariant-loop-copy : goal.invariant-loop-copy

@@ -1,14 +1,11 @@
-use Rattle.std.proofs.Common.{Some, None, if◌then◌else◌}
-use Rattle.std.proofs.Common.{◌≡◌, ◌∙◌, true, refl, sym, ap, arith, subst}
 use Rattle.std.specs.FinMap as map
-use Rattle.do_machine.specs.State.{is_open}
-use Rattle.do_part.specs.Owned.{Owned}
-use Rattle.do_part.specs.Rooting.{root_of}
-use Rattle.do_part.proofs.Entered.{entry_go, sound_left}
-use Rattle.do_part.proofs.Entries.{entries_to, removed-entries, names-entry}
-use Rattle.do_part.proofs.EntryBounds.{AreFewer, links_fewer, removed_fewer}
-use Rattle.do_part.proofs.Rest.{numbers_gone}
 use Rattle.do_part.proofs.part.Part.forget.Goals as goal
+use Rattle.std.proofs.Common.{Some, None, if◌then◌else◌, ◌≡◌, ◌∙◌, true, refl, sym, ap, arith}
+use Rattle.std.proofs.Common.{subst}
+use Rattle.do_machine.specs.State.{is_open}
+use Rattle.do_part.{specs.{Owned.Owned, Rooting.root_of}, proofs.Entered.{entry_go, sound_left}}
+use Rattle.do_part.proofs.Entries.{entries_to, removed-entries, names-entry}
+use Rattle.do_part.proofs.{EntryBounds.{AreFewer, links_fewer, removed_fewer}, Rest.numbers_gone}
 
 -- the object of the entry is held by it
 pub tally_root-requires : goal.tally_root-requires

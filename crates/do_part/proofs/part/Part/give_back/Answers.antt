@@ -1,12 +1,9 @@
+use Rattle.do_part.proofs.part.Part.give_back.Goals as goal
 use Rattle.std.proofs.Common.{◌≡◌, true, ◌==◌, refl, sym, ap, arith, subst}
 use Rattle.do_machine.specs.State.{is_open}
-use Rattle.do_part.specs.Owned.{Owned}
-use Rattle.do_part.specs.Rooting.{root_of}
-use Rattle.do_part.proofs.Entered.{entry_go, sound_left}
+use Rattle.do_part.{specs.{Owned.Owned, Rooting.root_of}, proofs.Entered.{entry_go, sound_left}}
 use Rattle.do_part.proofs.Entries.{entries_to, lowered-entries, names-entry}
-use Rattle.do_part.proofs.EntryBounds.{AreFewer, links_fewer, lowered_fewer}
-use Rattle.do_part.proofs.Rest.{numbers_gone}
-use Rattle.do_part.proofs.part.Part.give_back.Goals as goal
+use Rattle.do_part.proofs.{EntryBounds.{AreFewer, links_fewer, lowered_fewer}, Rest.numbers_gone}
 
 -- the object is held by the entry that is over
 pub tally_root-requires : goal.tally_root-requires

@@ -1,13 +1,10 @@
+use Rattle.do_part.proofs.part.Part.go_to.Goals as goal
 use Rattle.std.proofs.Common.{[], inl, ap, ◌∙◌}
-use Rattle.do_behave.specs.Changes.{meaning}
-use Rattle.do_behave.specs.InPlace.{after_act}
+use Rattle.do_behave.specs.{Changes.meaning, InPlace.after_act}
 use Rattle.do_behave.specs.declared.change.Change.TheVariants.{Goto}
 use Rattle.do_stack.specs.Waiting.{with_top}
-use Rattle.do_part.specs.Names.{stack_of}
-use Rattle.do_part.proofs.Exchanging.{goto-moves, keeps_rest}
-use Rattle.do_part.proofs.Numbering.{eased-top, numbered_eased}
-use Rattle.do_part.proofs.Turning.{sound_stacked}
-use Rattle.do_part.proofs.part.Part.go_to.Goals as goal
+use Rattle.do_part.{specs.Names.stack_of, proofs.Exchanging.{goto-moves, keeps_rest}}
+use Rattle.do_part.proofs.{Numbering.{eased-top, numbered_eased}, Turning.sound_stacked}
 
 -- the part is sound with the top at another place
 pub invariant_of-self : goal.invariant_of-self

@@ -1,11 +1,9 @@
+use Rattle.do_part.proofs.part.Part.gone.Goals as goal
 use Rattle.std.proofs.Common.{◌∙◌, ap, arith, refl, sym}
 use Rattle.do_machine.specs.lend.Asking.{wanted, without_wanted}
-use Rattle.do_part.specs.Seen.{own_of}
-use Rattle.do_part.specs.Rooting.{held_of}
-use Rattle.do_part.proofs.LinkEnds.{gone_over, gone_rows, sound_over}
-use Rattle.do_part.proofs.Linking.{classes_linked, links_fewer_asks, own_linked}
-use Rattle.do_part.proofs.LinkRows.{asked_less, asked_list, lent_list}
-use Rattle.do_part.proofs.part.Part.gone.Goals as goal
+use Rattle.do_part.{specs.{Seen.own_of, Rooting.held_of}, proofs.LinkEnds.{gone_over, gone_rows}}
+use Rattle.do_part.proofs.{LinkEnds.sound_over, Linking.{classes_linked, links_fewer_asks}}
+use Rattle.do_part.proofs.{Linking.own_linked, LinkRows.{asked_less, asked_list, lent_list}}
 
 -- the part is sound without the ask
 pub invariant_of-self : goal.invariant_of-self

@@ -1,19 +1,12 @@
-use Rattle.std.proofs.Common.{◌∙◌, ◌+◌, ◌-◌, ◌^◌, ap, arith, refl, subst, sym}
-use Rattle.std.specs.Prelude.{min}
 use Rattle.std.specs.FinMap as map
-use Rattle.do_export.specs.Counts.{count_of}
-use Rattle.do_import.specs.Imported.{Imported}
-use Rattle.do_export.specs.Counts.{IsPositive}
-use Rattle.do_part.specs.Seen.{own_of}
-use Rattle.do_part.specs.Sound.{IsSound}
-use Rattle.do_part.specs.declared.holders.Holders.{Holders}
-use Rattle.do_part.specs.Rooting.{held_of}
-use Rattle.do_part.proofs.HeldRows.{held_more}
-use Rattle.do_part.proofs.Linking.{own_linked}
-use Rattle.do_part.proofs.LinkRows.{asked_list, lent_list}
-use Rattle.do_part.proofs.LinkSteps.{got_linked, sound_got}
-use Rattle.do_part.proofs.Turning.{room_below}
 use Rattle.do_part.proofs.part.Part.got.Goals as goal
+use Rattle.std.{proofs.Common.{◌∙◌, ◌+◌, ◌-◌, ◌^◌, ap, arith, refl, subst, sym}, specs.Prelude.min}
+use Rattle.do_export.specs.Counts.{count_of, IsPositive}
+use Rattle.do_import.specs.Imported.{Imported}
+use Rattle.do_part.specs.{Seen.own_of, Sound.IsSound, declared.holders.Holders.Holders}
+use Rattle.do_part.specs.Rooting.{held_of}
+use Rattle.do_part.proofs.{HeldRows.held_more, Linking.own_linked, LinkRows.{asked_list, lent_list}}
+use Rattle.do_part.proofs.{LinkSteps.{got_linked, sound_got}, Turning.room_below}
 
 -- the part is sound with the object received once more
 pub invariant_of-self : goal.invariant_of-self

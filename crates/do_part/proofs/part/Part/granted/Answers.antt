@@ -1,19 +1,12 @@
+use Rattle.do_part.proofs.part.Part.granted.Goals as goal
 use Rattle.std.proofs.Common.{◌≡◌, ◌∙◌, ◌+◌, ◌-◌, ◌^◌, ap, arith, refl, subst, sym, true}
-use Rattle.std.specs.Prelude.{min}
-use Rattle.std.specs.List.{list_any}
+use Rattle.std.specs.{Prelude.min, List.list_any}
 use Rattle.do_export.specs.Counts.{count_of}
 use Rattle.do_machine.specs.lend.Asking.{same_wanted, wanted}
-use Rattle.do_part.specs.Owned.{Owned}
-use Rattle.do_part.specs.Seen.{own_of}
-use Rattle.do_part.specs.Sound.{IsSound}
-use Rattle.do_part.specs.declared.holders.Holders.{Holders}
-use Rattle.do_part.specs.Rooting.{held_of}
-use Rattle.do_part.proofs.HeldRows.{held_more}
-use Rattle.do_part.proofs.LinkAsks.{ask_there, granted_is, sound_granted}
-use Rattle.do_part.proofs.Linking.{own_linked}
-use Rattle.do_part.proofs.LinkRows.{asked_less, asked_list, lent_list}
-use Rattle.do_part.proofs.Turning.{room_below}
-use Rattle.do_part.proofs.part.Part.granted.Goals as goal
+use Rattle.do_part.specs.{Owned.Owned, Seen.own_of, Sound.IsSound, declared.holders.Holders.Holders}
+use Rattle.do_part.{specs.Rooting.held_of, proofs.HeldRows.held_more}
+use Rattle.do_part.proofs.{LinkAsks.{ask_there, granted_is, sound_granted}, Linking.own_linked}
+use Rattle.do_part.proofs.{LinkRows.{asked_less, asked_list, lent_list}, Turning.room_below}
 
 -- the part is sound without the ask, and with the object received
 pub invariant_of-self : goal.invariant_of-self

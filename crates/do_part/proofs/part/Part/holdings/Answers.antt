@@ -1,6 +1,6 @@
+use Rattle.do_part.proofs.part.Part.holdings.Goals as goal
 use Rattle.std.proofs.Common.{sym, ◌∙◌}
 use Rattle.do_part.proofs.HeldRows.{held_len}
-use Rattle.do_part.proofs.part.Part.holdings.Goals as goal
 
 -- as many objects are held as were received
 pub returns : goal.returns

@@ -1,6 +1,6 @@
+use Rattle.do_part.proofs.part.Part.is_asked.Goals as goal
 use Rattle.std.proofs.Common.{◌∙◌, sym}
 use Rattle.do_part.proofs.LinkRows.{asked_has}
-use Rattle.do_part.proofs.part.Part.is_asked.Goals as goal
 
 -- the ask is among those that the node sees
 pub returns : goal.returns

@@ -1,6 +1,6 @@
+use Rattle.do_part.proofs.part.Part.is_known.Goals as goal
 use Rattle.std.proofs.Common.{◌||◌, sym, ◌∙◌, ap, is_some}
 use Rattle.do_part.proofs.HeldRows.{asked_known, held_has}
-use Rattle.do_part.proofs.part.Part.is_known.Goals as goal
 
 -- an object is known that is held or asked for
 pub returns-clause-known : goal.returns-clause-known

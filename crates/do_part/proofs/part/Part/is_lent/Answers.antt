@@ -1,6 +1,6 @@
+use Rattle.do_part.proofs.part.Part.is_lent.Goals as goal
 use Rattle.std.proofs.Common.{◌∙◌, sym}
 use Rattle.do_part.proofs.LinkRows.{lent_has}
-use Rattle.do_part.proofs.part.Part.is_lent.Goals as goal
 
 -- the lend is among those that the node sees
 pub returns : goal.returns

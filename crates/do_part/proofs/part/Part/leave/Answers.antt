@@ -1,15 +1,12 @@
-use Rattle.std.proofs.Common.{◌≤◌, ap, arith, length, subst, sym, vec_capacity}
 use Rattle.std.specs.FinMap as map
+use Rattle.do_part.proofs.part.Part.leave.Goals as goal
+use Rattle.std.proofs.Common.{◌≤◌, ap, arith, length, subst, sym, vec_capacity}
 use Rattle.do_import.specs.Imported.{Imported}
 use Rattle.do_machine.specs.held.Leaving.{leaving}
 use Rattle.do_network.specs.Own.{is_counted}
-use Rattle.do_part.specs.Owned.{Owned}
-use Rattle.do_part.specs.Seen.{own_of}
-use Rattle.do_part.proofs.HeldRows.{held_len}
-use Rattle.do_part.proofs.LeftBehind.{links_left, sound_left_behind}
-use Rattle.do_part.proofs.Leaves.{own_left, sent_left}
-use Rattle.do_part.proofs.Referred.{counted}
-use Rattle.do_part.proofs.part.Part.leave.Goals as goal
+use Rattle.do_part.specs.{Owned.Owned, Seen.own_of}
+use Rattle.do_part.proofs.{HeldRows.held_len, LeftBehind.{links_left, sound_left_behind}}
+use Rattle.do_part.proofs.{Leaves.{own_left, sent_left}, Referred.counted}
 
 -- the part is sound without what nothing holds
 pub invariant_of-self : goal.invariant_of-self

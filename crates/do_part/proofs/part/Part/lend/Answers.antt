@@ -1,16 +1,11 @@
-use Rattle.std.proofs.Common.{◌∙◌, ◌+◌, ◌-◌, ◌^◌, ap, arith, refl, subst, sym}
-use Rattle.std.specs.Prelude.{min}
+use Rattle.do_part.proofs.part.Part.lend.Goals as goal
+use Rattle.std.{proofs.Common.{◌∙◌, ◌+◌, ◌-◌, ◌^◌, ap, arith, refl, subst, sym}, specs.Prelude.min}
 use Rattle.do_base.specs.names.Names.{TokenName}
 use Rattle.do_import.specs.Imported.{Imported}
-use Rattle.do_part.specs.Seen.{own_of}
-use Rattle.do_part.specs.Sound.{IsSound}
-use Rattle.do_part.specs.declared.holders.Holders.{Holders}
-use Rattle.do_part.specs.Rooting.{held_of}
-use Rattle.do_part.proofs.Linking.{links_unmoved, own_linked}
-use Rattle.do_part.proofs.LinkRows.{asked_list, lent_list, lent_more}
-use Rattle.do_part.proofs.LinkSteps.{sound_more}
+use Rattle.do_part.specs.{Seen.own_of, Sound.IsSound, declared.holders.Holders.Holders}
+use Rattle.do_part.{specs.Rooting.held_of, proofs.Linking.{links_unmoved, own_linked}}
+use Rattle.do_part.proofs.{LinkRows.{asked_list, lent_list, lent_more}, LinkSteps.sound_more}
 use Rattle.do_part.proofs.Turning.{room_below}
-use Rattle.do_part.proofs.part.Part.lend.Goals as goal
 
 -- the part is sound with the lend and one name more
 pub invariant_of-self : goal.invariant_of-self

@@ -1,7 +1,6 @@
-use Rattle.std.proofs.Common.{◌+◌, ◌≤◌, ℕ, subst, sym, vec_capacity}
-use Rattle.std.specs.Prelude.{OnOk}
-use Rattle.do_part.proofs.HeldRows.{held_len}
 use Rattle.do_part.proofs.part.Part.make_room_to_leave.Goals as goal
+use Rattle.std.{proofs.Common.{◌+◌, ◌≤◌, ℕ, subst, sym, vec_capacity}, specs.Prelude.OnOk}
+use Rattle.do_part.proofs.HeldRows.{held_len}
 
 -- there is room for each object that is held, and for so many more
 pub returns-clause-left : goal.returns-clause-left

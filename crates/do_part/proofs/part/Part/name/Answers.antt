@@ -1,15 +1,11 @@
-use Rattle.std.proofs.Common.{Some, None, if◌then◌else◌}
-use Rattle.std.proofs.Common.{◌≡◌, true, not, refl, sym, ap, ◌∙◌, arith, subst}
 use Rattle.std.specs.FinMap as map
-use Rattle.do_machine.specs.State.{is_open}
-use Rattle.do_part.specs.Owned.{Owned}
-use Rattle.do_part.specs.Rooting.{root_of}
-use Rattle.do_part.proofs.Entered.{entry-stored, sound_named}
-use Rattle.do_part.proofs.Entries.{entries_to, raised-entries, names-entry}
-use Rattle.do_part.proofs.EntryBounds.{links_named}
-use Rattle.do_part.proofs.Rooted.{root-le, size-le}
-use Rattle.do_part.proofs.Turning.{sound_come}
 use Rattle.do_part.proofs.part.Part.name.Goals as goal
+use Rattle.std.proofs.Common.{Some, None, if◌then◌else◌, ◌≡◌, true, not, refl, sym, ap, ◌∙◌, arith}
+use Rattle.std.proofs.Common.{subst}
+use Rattle.do_machine.specs.State.{is_open}
+use Rattle.do_part.{specs.{Owned.Owned, Rooting.root_of}, proofs.Entered.entry-stored}
+use Rattle.do_part.proofs.{Entered.sound_named, Entries.{entries_to, raised-entries, names-entry}}
+use Rattle.do_part.proofs.{EntryBounds.links_named, Rooted.{root-le, size-le}, Turning.sound_come}
 
 -- a first name of the entry can be counted
 pub come_once-requires : goal.come_once-requires

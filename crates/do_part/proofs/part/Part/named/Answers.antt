@@ -1,9 +1,9 @@
-use Rattle.std.proofs.Common.{◌≡◌, ◌∙◌, ap, map as each}
 use Rattle.std.specs.FinMap as map
+use Rattle.do_part.proofs.part.Part.named.Goals as goal
+use Rattle.std.proofs.Common.{◌≡◌, ◌∙◌, ap, map as each}
 use Rattle.do_packet.specs.Met.{has_object}
 use Rattle.do_import.specs.ByObject.{object_of}
 use Rattle.do_part.proofs.Leaves.{if_ok, named_has}
-use Rattle.do_part.proofs.part.Part.named.Goals as goal
 
 -- what the exports count is what contracts see
 pub returns : goal.returns

@@ -1,10 +1,9 @@
+use Rattle.do_part.proofs.part.Part.names_are_stored.Goals as goal
 use Rattle.std.proofs.Common.{◌≡◌, ◌<◌, ℕ, true, Some, IsSome, subst}
 use Rattle.do_export.specs.Counts.{count_of}
 use Rattle.do_machine.specs.State.{is_open, stored}
-use Rattle.do_part.specs.Names.{heap_of, stack_of, AreStored}
-use Rattle.do_part.specs.Owned.{Owned}
+use Rattle.do_part.specs.{Names.{heap_of, stack_of, AreStored}, Owned.Owned}
 use Rattle.do_part.proofs.Lookups.{slots-stored, stack-stored, root-stored, entry-there}
-use Rattle.do_part.proofs.part.Part.names_are_stored.Goals as goal
 
 -- what slots name is stored
 pub returns-clause-slots : goal.returns-clause-slots

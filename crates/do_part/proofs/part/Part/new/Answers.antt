@@ -1,8 +1,8 @@
+use Rattle.do_part.proofs.part.Part.new.Goals as goal
 use Rattle.std.proofs.Common.{◌==◌, ◌≤◌, ◌∙◌, List, [], ap, length, subst, sym, ℕ}
 use Rattle.std.specs.List.{IsDistinct}
 use Rattle.do_export.specs.Counts.{Exported}
 use Rattle.do_part.proofs.Opening.{nothing_but, own_new, sound_new}
-use Rattle.do_part.proofs.part.Part.new.Goals as goal
 
 -- a part with nothing is sound
 pub invariant_of-result : goal.invariant_of-result

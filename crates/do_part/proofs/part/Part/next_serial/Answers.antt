@@ -1,8 +1,7 @@
+use Rattle.do_part.proofs.part.Part.next_serial.Goals as goal
 use Rattle.std.proofs.Common.{◌≡◌, ◌≤◌, ℕ, None, subst, arith}
 use Rattle.do_machine.specs.State.{stored}
-use Rattle.do_part.specs.Owned.{Owned}
-use Rattle.do_part.proofs.Lookups.{none-later}
-use Rattle.do_part.proofs.part.Part.next_serial.Goals as goal
+use Rattle.do_part.{specs.Owned.Owned, proofs.Lookups.none-later}
 
 -- no object is stored under the next serial or a later one
 pub returns-clause-free : goal.returns-clause-free

@@ -1,6 +1,6 @@
+use Rattle.do_part.proofs.part.Part.object.Goals as goal
 use Rattle.std.proofs.Common.{sym}
 use Rattle.do_part.proofs.Stored.{look}
-use Rattle.do_part.proofs.part.Part.object.Goals as goal
 
 -- what the store has is what the node stores
 pub returns : goal.returns

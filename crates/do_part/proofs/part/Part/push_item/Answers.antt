@@ -1,23 +1,16 @@
+use Rattle.do_part.proofs.part.Part.push_item.Goals as goal
 use Rattle.std.proofs.Common.{◌≡◌, Some, None, ap, sym, ◌∙◌, arith, refl, subst, inl}
 use Rattle.std.specs.Prelude.{slice_get}
 use Rattle.do_base.specs.declared.values.value.Value.{Value}
-use Rattle.do_behave.specs.Changes.{meaning}
-use Rattle.do_behave.specs.declared.change.Change.TheVariants.{Push}
+use Rattle.do_behave.specs.{Changes.meaning, declared.change.Change.TheVariants.Push}
 use Rattle.do_stack.specs.Waiting.{with_top}
-use Rattle.do_part.specs.Holding.{CanCome, HasCome}
-use Rattle.do_part.specs.Names.{value_of, size_of, stack_of}
-use Rattle.do_part.specs.Owned.{Owned}
-use Rattle.do_part.specs.Seen.{own_of}
-use Rattle.do_part.specs.declared.tally.Tally.TheVariants.{Less}
-use Rattle.do_part.proofs.Bounds.{value-le}
-use Rattle.do_part.proofs.Exchanging.{keeps_rest}
+use Rattle.do_part.specs.{Holding.{CanCome, HasCome}, Names.{value_of, size_of, stack_of}}
+use Rattle.do_part.specs.{Owned.Owned, Seen.own_of, declared.tally.Tally.TheVariants.Less}
+use Rattle.do_part.proofs.{Bounds.value-le, Exchanging.keeps_rest}
 use Rattle.do_part.proofs.Numbering.{eased-top, numbered_eased}
 use Rattle.do_part.proofs.Pushed.{push-last, push-moves, pushing, read-back, with_item}
-use Rattle.do_part.proofs.Rest.{numbers_came, own_stack}
-use Rattle.do_part.proofs.Stepped.{push-stepped}
-use Rattle.do_part.proofs.Tallying.{tallied-none}
-use Rattle.do_part.proofs.Turning.{sound_come, sound_moved}
-use Rattle.do_part.proofs.part.Part.push_item.Goals as goal
+use Rattle.do_part.proofs.{Rest.{numbers_came, own_stack}, Stepped.push-stepped}
+use Rattle.do_part.proofs.{Tallying.tallied-none, Turning.{sound_come, sound_moved}}
 
 -- there is an item to be read back
 pub unreachable-requires-in_default-last_item : goal.unreachable-requires-in_default-last_item

@@ -1,10 +1,7 @@
-use Rattle.std.proofs.Common.{◌≡◌, Some, subst}
-use Rattle.do_machine.specs.Lists.{IsIn}
-use Rattle.do_machine.specs.State.{stored}
-use Rattle.do_machine.specs.declared.node.Stored.{Stored}
-use Rattle.do_part.specs.Owned.{Owned}
-use Rattle.do_part.proofs.Lookups.{serials-apart}
 use Rattle.do_part.proofs.part.Part.serials_are_apart.Goals as goal
+use Rattle.std.proofs.Common.{◌≡◌, Some, subst}
+use Rattle.do_machine.specs.{Lists.IsIn, State.stored, declared.node.Stored.Stored}
+use Rattle.do_part.{specs.Owned.Owned, proofs.Lookups.serials-apart}
 
 -- serials rise, so an object is found under its own
 pub returns : goal.returns

@@ -1,21 +1,14 @@
+use Rattle.do_part.proofs.part.Part.set_locals.Goals as goal
 use Rattle.std.proofs.Common.{◌∷◌, [], ap, sym, ◌∙◌, arith, refl, subst, List, rules, length, ◌<◌}
 use Rattle.std.specs.Prelude.{remove}
-use Rattle.do_behave.specs.Changes.{meaning, with_set}
-use Rattle.do_behave.specs.InPlace.{after_act}
-use Rattle.do_behave.specs.declared.change.Change.TheVariants.{Local}
-use Rattle.do_behave.specs.declared.change.LocalSet.{LocalSet}
-use Rattle.do_machine.specs.Objects.{object_at}
-use Rattle.do_machine.specs.run.Changes.{steps_to}
-use Rattle.do_machine.specs.run.Fresh.{with_stack}
+use Rattle.do_behave.specs.{Changes.{meaning, with_set}, InPlace.after_act}
+use Rattle.do_behave.specs.declared.change.{Change.TheVariants.Local, LocalSet.LocalSet}
+use Rattle.do_machine.specs.{Objects.object_at, run.{Changes.steps_to, Fresh.with_stack}}
 use Rattle.do_network.specs.Own.{Own}
 use Rattle.do_stack.specs.Waiting.{with_top}
-use Rattle.do_part.specs.Changed.{set_values}
-use Rattle.do_part.specs.Names.{values_of, sizes_of, AreStored}
-use Rattle.do_part.proofs.Exchanging.{of-cons}
-use Rattle.do_part.proofs.InARow.{parted}
-use Rattle.do_part.proofs.Sequences.{of-one, size-cons, size-one}
-use Rattle.do_part.proofs.Stacking.{top-twice, top-there}
-use Rattle.do_part.proofs.part.Part.set_locals.Goals as goal
+use Rattle.do_part.specs.{Changed.set_values, Names.{values_of, sizes_of, AreStored}}
+use Rattle.do_part.proofs.{Exchanging.of-cons, InARow.parted}
+use Rattle.do_part.proofs.{Sequences.{of-one, size-cons, size-one}, Stacking.{top-twice, top-there}}
 
 -- the first set can be made
 pub exchange-requires : goal.exchange-requires

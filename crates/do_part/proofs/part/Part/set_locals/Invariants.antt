@@ -1,11 +1,9 @@
+use Rattle.do_part.proofs.part.Part.set_locals.Given as goal
 use Rattle.std.proofs.Common.{◌≡◌, ◌+◌, ◌<◌, ◌≤◌, length}
 use Rattle.do_behave.specs.Changes.{with_set}
-use Rattle.do_machine.specs.run.Changes.{steps_to}
-use Rattle.do_machine.specs.run.Fresh.{with_stack}
+use Rattle.do_machine.specs.run.{Changes.steps_to, Fresh.with_stack}
 use Rattle.do_stack.specs.Waiting.{with_top}
-use Rattle.do_part.specs.Changed.{set_values}
-use Rattle.do_part.specs.Names.{values_of, sizes_of, AreStored}
-use Rattle.do_part.proofs.part.Part.set_locals.Given as goal
+use Rattle.do_part.specs.{Changed.set_values, Names.{values_of, sizes_of, AreStored}}
 
 -- the sets that are left come after those that are done
 abbrev pub invariant-loop-sets : goal.invariant-loop-sets

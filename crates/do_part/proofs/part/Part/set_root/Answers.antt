@@ -1,10 +1,7 @@
-use Rattle.std.proofs.Common.{ℕ, sym, ap, arith, subst}
-use Rattle.do_part.specs.Names.{AreStored}
-use Rattle.do_part.specs.Owned.{Owned}
-use Rattle.do_part.specs.Rooting.{root_of, root_size}
-use Rattle.do_part.proofs.Rooted.{root-le, size-le, root_go, sound_rooted}
-use Rattle.do_part.proofs.Turning.{sound_come}
 use Rattle.do_part.proofs.part.Part.set_root.Goals as goal
+use Rattle.std.proofs.Common.{ℕ, sym, ap, arith, subst}
+use Rattle.do_part.specs.{Names.AreStored, Owned.Owned, Rooting.{root_of, root_size}}
+use Rattle.do_part.proofs.{Rooted.{root-le, size-le, root_go, sound_rooted}, Turning.sound_come}
 
 -- the new root can be counted
 pub tally_root-requires : goal.tally_root-requires

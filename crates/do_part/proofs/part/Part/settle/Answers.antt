@@ -1,9 +1,8 @@
+use Rattle.do_part.proofs.part.Part.settle.Goals as goal
 use Rattle.std.proofs.Common.{◌∙◌, ap, arith, refl, sym}
-use Rattle.do_part.specs.Rooting.{held_of}
-use Rattle.do_part.proofs.LinkEnds.{settled_over, settled_rows, sound_over}
+use Rattle.do_part.{specs.Rooting.held_of, proofs.LinkEnds.{settled_over, settled_rows, sound_over}}
 use Rattle.do_part.proofs.Linking.{links_unmoved, own_linked}
 use Rattle.do_part.proofs.LinkRows.{asked_list, lent_less, lent_list}
-use Rattle.do_part.proofs.part.Part.settle.Goals as goal
 
 -- the part is sound without the lend
 pub invariant_of-self : goal.invariant_of-self

@@ -1,16 +1,11 @@
+use Rattle.do_part.proofs.part.Part.stand.Goals as goal
 use Rattle.std.proofs.Common.{[], Some, ap, sym, ◌∙◌, refl, subst, inr}
 use Rattle.std.specs.Prelude.{◌≡◌, slice_get}
-use Rattle.do_behave.specs.declared.invocation.Invocation.{Invocation}
-use Rattle.do_behave.specs.declared.invocation.InvState.TheVariants.{Below}
-use Rattle.do_machine.specs.held.Refers.{state_values}
-use Rattle.do_machine.specs.run.Changes.{stands}
+use Rattle.do_behave.specs.declared.invocation.{Invocation.Invocation, InvState.TheVariants.Below}
+use Rattle.do_machine.specs.{held.Refers.state_values, run.Changes.stands}
 use Rattle.do_stack.specs.Waiting.{with_top}
-use Rattle.do_part.specs.Names.{stack_of}
-use Rattle.do_part.specs.Owned.{Owned}
-use Rattle.do_part.proofs.Numbering.{eased-top, numbered_eased}
-use Rattle.do_part.proofs.Stacking.{stands-moves}
-use Rattle.do_part.proofs.Turning.{sound_stacked}
-use Rattle.do_part.proofs.part.Part.stand.Goals as goal
+use Rattle.do_part.{specs.{Names.stack_of, Owned.Owned}, proofs.Numbering.eased-top}
+use Rattle.do_part.proofs.{Numbering.numbered_eased, Stacking.stands-moves, Turning.sound_stacked}
 
 -- the part is sound with the top in the new state
 pub invariant_of-self : goal.invariant_of-self

@@ -1,9 +1,7 @@
-use Rattle.std.proofs.Common.{sym, arith, subst}
-use Rattle.std.specs.Prelude.{◌∷◌, []}
-use Rattle.do_network.specs.Own.{Own}
-use Rattle.do_part.specs.Names.{AreStored, value_of}
-use Rattle.do_part.proofs.Stepped.{slot-stepped, then-written}
 use Rattle.do_part.proofs.part.Part.step_slot.Goals as goal
+use Rattle.std.{proofs.Common.{sym, arith, subst}, specs.Prelude.{◌∷◌, []}}
+use Rattle.do_network.specs.Own.{Own}
+use Rattle.do_part.{specs.Names.{AreStored, value_of}, proofs.Stepped.{slot-stepped, then-written}}
 
 -- there is room for the value, and what it names is stored
 pub write-requires : goal.write-requires

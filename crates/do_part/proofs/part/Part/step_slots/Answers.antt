@@ -1,9 +1,8 @@
+use Rattle.do_part.proofs.part.Part.step_slots.Goals as goal
 use Rattle.std.proofs.Common.{sym, arith, subst}
 use Rattle.do_network.specs.Own.{Own}
-use Rattle.do_part.specs.Changed.{written_values}
-use Rattle.do_part.specs.Names.{AreStored, values_of}
+use Rattle.do_part.specs.{Changed.written_values, Names.{AreStored, values_of}}
 use Rattle.do_part.proofs.Stepped.{slots-stepped, then-written}
-use Rattle.do_part.proofs.part.Part.step_slots.Goals as goal
 
 -- there is room for what is written, and what it names is stored
 pub write_all-requires : goal.write_all-requires

@@ -1,6 +1,6 @@
+use Rattle.do_part.proofs.part.Part.stored.Goals as goal
 use Rattle.std.proofs.Common.{◌≡◌, IfOk, subst}
 use Rattle.do_part.proofs.Stored.{stored-named}
-use Rattle.do_part.proofs.part.Part.stored.Goals as goal
 
 -- the names are those of the objects that the node stores
 pub returns : goal.returns

@@ -1,11 +1,8 @@
-use Rattle.std.proofs.Common.{false, sym, refl}
-use Rattle.do_part.specs.Names.{counted, value_of, size_of}
-use Rattle.do_part.specs.Seen.{own_of}
-use Rattle.do_part.proofs.Bounds.{value-le}
-use Rattle.do_part.proofs.Slots.{no_slot, wrote_of}
-use Rattle.do_part.proofs.Writes.{slots_come, slots_stored, slots_bound, wrote_go, own_wrote}
-use Rattle.do_part.proofs.Writes.{sound_wrote}
 use Rattle.do_part.proofs.part.Part.write.Goals as goal
+use Rattle.std.proofs.Common.{false, sym, refl}
+use Rattle.do_part.specs.{Names.{counted, value_of, size_of}, Seen.own_of}
+use Rattle.do_part.proofs.{Bounds.value-le, Slots.{no_slot, wrote_of}, Writes.slots_come}
+use Rattle.do_part.proofs.Writes.{slots_stored, slots_bound, wrote_go, own_wrote, sound_wrote}
 
 -- where there is no such slot, nothing changes
 pub returns-then-not-has_slot-clause-own : goal.returns-then-not-has_slot-clause-own

@@ -1,16 +1,12 @@
+use Rattle.do_part.proofs.part.Part.write_all.Goals as goal
 use Rattle.std.proofs.Common.{◌∷◌, [], ap, sym, ◌∙◌, arith, subst, List, rules}
 use Rattle.std.specs.Prelude.{remove}
 use Rattle.do_behave.specs.declared.act.Write.{Write}
-use Rattle.do_machine.specs.Objects.{object_at}
-use Rattle.do_machine.specs.run.Changes.{with_slots}
-use Rattle.do_part.specs.Changed.{written_values}
-use Rattle.do_part.specs.Names.{values_of, sizes_of}
+use Rattle.do_machine.specs.{Objects.object_at, run.Changes.with_slots}
+use Rattle.do_part.specs.{Changed.written_values, Names.{values_of, sizes_of, AreStored}}
 use Rattle.do_network.specs.Own.{Own}
-use Rattle.do_part.specs.Names.{AreStored}
-use Rattle.do_part.proofs.Exchanging.{of-cons}
-use Rattle.do_part.proofs.InARow.{slots-more, slots-none, still_stored, parted}
-use Rattle.do_part.proofs.Sequences.{size-cons}
-use Rattle.do_part.proofs.part.Part.write_all.Goals as goal
+use Rattle.do_part.proofs.{Exchanging.of-cons, InARow.{slots-more, slots-none, still_stored}}
+use Rattle.do_part.proofs.{InARow.parted, Sequences.size-cons}
 
 -- the first write can be done
 pub write-requires : goal.write-requires

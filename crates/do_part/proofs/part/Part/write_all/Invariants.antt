@@ -1,8 +1,7 @@
+use Rattle.do_part.proofs.part.Part.write_all.Given as goal
 use Rattle.std.proofs.Common.{◌≡◌, ◌+◌, ◌≤◌, length}
 use Rattle.do_machine.specs.run.Changes.{with_slots}
-use Rattle.do_part.specs.Changed.{written_values}
-use Rattle.do_part.specs.Names.{values_of, sizes_of, AreStored}
-use Rattle.do_part.proofs.part.Part.write_all.Given as goal
+use Rattle.do_part.specs.{Changed.written_values, Names.{values_of, sizes_of, AreStored}}
 
 -- the writes that are left come after those that are done
 abbrev pub invariant-loop-writes : goal.invariant-loop-writes

@@ -1,9 +1,6 @@
-use Rattle.std.proofs.Common.{◌≡◌, true, nat_lt, nat_le, length, arith}
-use Rattle.std.proofs.lemmas.Grind.{common_steps}
-use Rattle.do_pboard.specs.Changes.{with_types}
-use Rattle.do_pboard.specs.Core.{Pasteboard}
-use Rattle.do_pboard.proofs.CoreLaws.{added_board}
 use Rattle.do_pboard.proofs.board.Board.add_types.Goals as goal
+use Rattle.std.proofs.{Common.{◌≡◌, true, nat_lt, nat_le, length, arith}, lemmas.Grind.common_steps}
+use Rattle.do_pboard.{specs.{Changes.with_types, Core.Pasteboard}, proofs.CoreLaws.added_board}
 
 pub invariant_of-self : goal.invariant_of-self
 invariant_of-self c =

@@ -1,9 +1,8 @@
+use Rattle.do_pboard.proofs.board.Board.declare.Goals as goal
 use Rattle.std.proofs.Common.{◌≡◌, ◌+◌, List, IsTrue, true, sym, subst, arith}
 use Rattle.std.proofs.lemmas.Grind.{common_steps}
-use Rattle.do_pboard.specs.Changes.{can_grow}
-use Rattle.do_pboard.specs.Core.{Declared, Pasteboard, bare, is_board}
+use Rattle.do_pboard.specs.{Changes.can_grow, Core.{Declared, Pasteboard, bare, is_board}}
 use Rattle.do_pboard.proofs.CoreLaws.{declared_board}
-use Rattle.do_pboard.proofs.board.Board.declare.Goals as goal
 
 pub invariant_of-self : goal.invariant_of-self
 invariant_of-self c =

@@ -1,8 +1,6 @@
-use Rattle.std.proofs.Common.{◌≡◌, Some, arith}
-use Rattle.std.proofs.lemmas.Grind.{common_steps}
-use Rattle.do_pboard.specs.Core.{types_read}
-use Rattle.do_pboard.specs.laws.SlotsExact.{declared_back}
 use Rattle.do_pboard.proofs.board.Board.from_others.Goals as goal
+use Rattle.std.proofs.{Common.{◌≡◌, Some, arith}, lemmas.Grind.common_steps}
+use Rattle.do_pboard.specs.{Core.types_read, laws.SlotsExact.declared_back}
 
 pub of_parts-requires-clause-types : goal.of_parts-requires-clause-types
 of_parts-requires-clause-types c =

@@ -1,10 +1,7 @@
-use Rattle.std.proofs.Common.{◌≡◌, None, arith}
-use Rattle.std.proofs.lemmas.Grind.{common_steps}
-use Rattle.do_table.specs.Entries.{value_of}
-use Rattle.do_table.specs.laws.TableLaws.{added_absent}
-use Rattle.do_pboard.specs.Core.{Pasteboard}
-use Rattle.do_pboard.proofs.CoreLaws.{kept_board}
 use Rattle.do_pboard.proofs.board.Board.keep.Goals as goal
+use Rattle.std.proofs.{Common.{◌≡◌, None, arith}, lemmas.Grind.common_steps}
+use Rattle.do_table.specs.{Entries.value_of, laws.TableLaws.added_absent}
+use Rattle.do_pboard.{specs.Core.Pasteboard, proofs.CoreLaws.kept_board}
 
 pub invariant_of-self-in-None : goal.invariant_of-self-in-None
 invariant_of-self-in-None c =

@@ -1,7 +1,6 @@
-use Rattle.std.proofs.Common.{arith}
-use Rattle.std.proofs.lemmas.Grind.{common_steps}
-use Rattle.do_pboard.proofs.IsTold.{owner_told}
 use Rattle.do_pboard.proofs.board.Board.owner.Goals as goal
+use Rattle.std.proofs.{Common.arith, lemmas.Grind.common_steps}
+use Rattle.do_pboard.proofs.IsTold.{owner_told}
 
 pub returns-clause-meaning : goal.returns-clause-meaning
 returns-clause-meaning c =

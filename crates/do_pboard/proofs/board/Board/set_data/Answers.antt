@@ -1,8 +1,6 @@
-use Rattle.std.proofs.Common.{Some, arith}
-use Rattle.std.proofs.lemmas.Grind.{common_steps}
-use Rattle.do_pboard.specs.Core.{Pasteboard}
-use Rattle.do_pboard.proofs.CoreLaws.{supplied_board}
 use Rattle.do_pboard.proofs.board.Board.set_data.Goals as goal
+use Rattle.std.proofs.{Common.{Some, arith}, lemmas.Grind.common_steps}
+use Rattle.do_pboard.{specs.Core.Pasteboard, proofs.CoreLaws.supplied_board}
 
 pub invariant_of-self : goal.invariant_of-self
 invariant_of-self c =

@@ -1,8 +1,6 @@
-use Rattle.std.proofs.Common.{subst, ap, ◌∙◌, IsTrue}
-use Rattle.std.proofs.lemmas.Result.{IfOk-weaker}
-use Rattle.do_pboard.specs.Core.{from_slots, is_board}
-use Rattle.do_pboard.specs.laws.SlotsExact.{from_to}
 use Rattle.do_pboard.proofs.board.Board.to_slots.Goals as goal
+use Rattle.std.proofs.{Common.{subst, ap, ◌∙◌, IsTrue}, lemmas.Result.IfOk-weaker}
+use Rattle.do_pboard.specs.{Core.{from_slots, is_board}, laws.SlotsExact.from_to}
 
 pub returns-clause-exact : goal.returns-clause-exact
 returns-clause-exact c =

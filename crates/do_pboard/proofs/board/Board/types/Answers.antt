@@ -1,7 +1,6 @@
-use Rattle.std.proofs.Common.{◌∙◌}
-use Rattle.std.proofs.lemmas.Result.{IfOk-weaker}
-use Rattle.do_pboard.proofs.IsTold.{types_told}
 use Rattle.do_pboard.proofs.board.Board.types.Goals as goal
+use Rattle.std.proofs.{Common.◌∙◌, lemmas.Result.IfOk-weaker}
+use Rattle.do_pboard.proofs.IsTold.{types_told}
 
 pub returns-clause-meaning : goal.returns-clause-meaning
 returns-clause-meaning c =

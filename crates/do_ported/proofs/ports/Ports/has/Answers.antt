@@ -1,6 +1,6 @@
+use Rattle.do_ported.proofs.ports.Ports.has.Goals as goal
 use Rattle.std.proofs.Common.{◌∙◌, ap, is_some}
 use Rattle.do_ported.proofs.FirstOfPorts.{place_is_among}
-use Rattle.do_ported.proofs.ports.Ports.has.Goals as goal
 
 -- a port is one of them just where it has a place
 pub returns : goal.returns

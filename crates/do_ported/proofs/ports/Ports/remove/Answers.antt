@@ -1,7 +1,6 @@
-use Rattle.std.proofs.Common.{length, subst, sym, ◌<◌, List, ℕ}
-use Rattle.std.specs.List.Sorted.{IsNonDecreasing}
-use Rattle.do_ported.proofs.FirstOfPorts.{rises_without}
 use Rattle.do_ported.proofs.ports.Ports.remove.Goals as goal
+use Rattle.std.{proofs.Common.{length, subst, sym, ◌<◌, List, ℕ}, specs.List.Sorted.IsNonDecreasing}
+use Rattle.do_ported.proofs.FirstOfPorts.{rises_without}
 
 -- ports that rise do so without one
 pub invariant_of-self : goal.invariant_of-self

@@ -1,5 +1,5 @@
-use Rattle.std.proofs.Common.{◌≡◌, take, filter, ◌==◌}
 use Rattle.do_rules.proofs.ends.closing.asked_of.Given as goal
+use Rattle.std.proofs.Common.{◌≡◌, take, filter, ◌==◌}
 
 abbrev pub invariant-loop-wanted : goal.invariant-loop-wanted
 invariant-loop-wanted l =

@@ -1,6 +1,6 @@
+use Rattle.do_rules.proofs.ends.closing.serials_of.Given as goal
 use Rattle.std.proofs.Common.{◌≡◌, take}
 use Rattle.do_machine.specs.ends.Closing.{serials_of}
-use Rattle.do_rules.proofs.ends.closing.serials_of.Given as goal
 
 abbrev pub invariant-loop-object : goal.invariant-loop-object
 invariant-loop-object l =

@@ -1,6 +1,6 @@
+use Rattle.do_rules.proofs.ends.closing.stack_without.Given as goal
 use Rattle.std.proofs.Common.{◌≡◌, take, map}
 use Rattle.do_machine.specs.ends.Closing.{without_answer}
-use Rattle.do_rules.proofs.ends.closing.stack_without.Given as goal
 
 abbrev pub invariant-loop-invocation : goal.invariant-loop-invocation
 invariant-loop-invocation l =

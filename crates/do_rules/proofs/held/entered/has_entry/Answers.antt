@@ -1,8 +1,7 @@
 -- An object has an entry where it is among those that are collected.
-use Rattle.std.proofs.Common.{◌≡◌, ◌++◌, ◌∙◌, ap, rules}
-use Rattle.do_rules.proofs.HeldUp.{entry_is}
-use Rattle.do_rules.specs.HeldUp.{entered}
 use Rattle.do_rules.proofs.held.entered.has_entry.Goals as goal
+use Rattle.std.proofs.Common.{◌≡◌, ◌++◌, ◌∙◌, ap, rules}
+use Rattle.do_rules.{proofs.HeldUp.entry_is, specs.HeldUp.entered}
 
 pub returns : goal.returns
 returns c =

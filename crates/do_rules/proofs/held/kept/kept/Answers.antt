@@ -1,7 +1,6 @@
-use Rattle.std.proofs.Common.{◌∙◌, sym}
-use Rattle.do_rules.proofs.HeldUp.{struck_is}
-use Rattle.do_rules.proofs.Striking.{round_last, round_more}
 use Rattle.do_rules.proofs.held.kept.kept.Goals as goal
+use Rattle.std.proofs.Common.{◌∙◌, sym}
+use Rattle.do_rules.proofs.{HeldUp.struck_is, Striking.{round_last, round_more}}
 
 pub loop-rounds-preserved : goal.loop-rounds-preserved
 loop-rounds-preserved c =

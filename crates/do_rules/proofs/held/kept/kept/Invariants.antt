@@ -1,7 +1,7 @@
+use Rattle.do_rules.proofs.held.kept.kept.Given as goal
 use Rattle.std.proofs.Common.{◌≡◌}
 use Rattle.do_machine.specs.held.Kept.{kept, struck_by}
 use Rattle.do_rules.specs.Judged.{entry_in}
-use Rattle.do_rules.proofs.held.kept.kept.Given as goal
 
 abbrev pub invariant-loop-rounds : goal.invariant-loop-rounds
 invariant-loop-rounds l =

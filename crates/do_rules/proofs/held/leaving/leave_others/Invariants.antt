@@ -1,7 +1,7 @@
+use Rattle.do_rules.proofs.held.leaving.leave_others.Given as goal
 use Rattle.std.proofs.Common.{◌≡◌, ◌++◌, filter, map, not, take}
 use Rattle.do_packet.specs.Met.{has_object}
 use Rattle.do_machine.specs.held.Leaving.{left}
-use Rattle.do_rules.proofs.held.leaving.leave_others.Given as goal
 
 abbrev pub invariant-loop-object : goal.invariant-loop-object
 invariant-loop-object l =

@@ -1,6 +1,6 @@
+use Rattle.do_rules.proofs.held.leaving.names_of.Given as goal
 use Rattle.std.proofs.Common.{◌≡◌, map, take}
 use Rattle.do_machine.specs.Objects.{object_at}
-use Rattle.do_rules.proofs.held.leaving.names_of.Given as goal
 
 abbrev pub invariant-loop-stored : goal.invariant-loop-stored
 invariant-loop-stored l =

@@ -1,6 +1,6 @@
+use Rattle.do_rules.proofs.held.leaving.show_freed.Goals as goal
 use Rattle.std.proofs.Common.{◌∙◌}
 use Rattle.do_rules.proofs.Left.{freed_is}
-use Rattle.do_rules.proofs.held.leaving.show_freed.Goals as goal
 
 pub returns : goal.returns
 returns c =

@@ -1,8 +1,8 @@
+use Rattle.do_rules.proofs.held.leaving.show_gone.Given as goal
 use Rattle.std.proofs.Common.{◌≡◌, ◌++◌, filter, map, not, take}
 use Rattle.do_base.specs.declared.events.shown.Shown.TheVariants.{Free}
 use Rattle.do_packet.specs.Met.{has_object}
 use Rattle.do_machine.specs.Objects.{object_at}
-use Rattle.do_rules.proofs.held.leaving.show_gone.Given as goal
 
 abbrev pub invariant-loop-stored : goal.invariant-loop-stored
 invariant-loop-stored l =

@@ -1,9 +1,7 @@
+use Rattle.do_rules.proofs.judged.Run.deliver.Goals as goal
 use Rattle.std.proofs.Common.{◌≡◌, OnOk, ap, subst, ◌∙◌}
 use Rattle.do_machine.specs.declared.state.Effect.{Effect}
-use Rattle.do_rules.specs.Delivery.{delivered}
-use Rattle.do_rules.specs.Judged.{run_of}
-use Rattle.do_rules.proofs.Deliveries.{delivery_is}
-use Rattle.do_rules.proofs.judged.Run.deliver.Goals as goal
+use Rattle.do_rules.{specs.{Delivery.delivered, Judged.run_of}, proofs.Deliveries.delivery_is}
 
 pub returns : goal.returns
 returns c =

@@ -1,6 +1,6 @@
+use Rattle.do_rules.proofs.node.naming.push_all_at.Given as goal
 use Rattle.std.proofs.Common.{◌≡◌, ◌++◌, map, take}
 use Rattle.do_machine.specs.Objects.{object_at}
-use Rattle.do_rules.proofs.node.naming.push_all_at.Given as goal
 
 abbrev pub invariant-loop-serial : goal.invariant-loop-serial
 invariant-loop-serial l =

@@ -1,5 +1,5 @@
-use Rattle.std.proofs.Common.{◌≡◌, ◌++◌, map, take}
 use Rattle.do_rules.proofs.node.objects.push_asked.Given as goal
+use Rattle.std.proofs.Common.{◌≡◌, ◌++◌, map, take}
 
 abbrev pub invariant-loop-wanted : goal.invariant-loop-wanted
 invariant-loop-wanted l =

@@ -1,5 +1,5 @@
-use Rattle.std.proofs.Common.{◌≡◌, ◌++◌, map, take}
 use Rattle.do_rules.proofs.node.objects.push_lent.Given as goal
+use Rattle.std.proofs.Common.{◌≡◌, ◌++◌, map, take}
 
 abbrev pub invariant-loop-lend : goal.invariant-loop-lend
 invariant-loop-lend l =

@@ -1,6 +1,6 @@
+use Rattle.do_rules.proofs.node.objects.push_stack.Given as goal
 use Rattle.std.proofs.Common.{◌≡◌, ◌++◌, take}
 use Rattle.do_machine.specs.held.Refers.{stack_objects}
-use Rattle.do_rules.proofs.node.objects.push_stack.Given as goal
 
 abbrev pub invariant-loop-invocation : goal.invariant-loop-invocation
 invariant-loop-invocation l =

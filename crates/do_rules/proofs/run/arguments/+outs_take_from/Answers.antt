@@ -1,6 +1,6 @@
+use Rattle.do_rules.proofs.run.arguments.+outs_take_from.Goals as goal
 use Rattle.std.proofs.Common.{◌∙◌, arith, sym}
 use Rattle.do_rules.proofs.Arguments.{not_false, takes_at}
-use Rattle.do_rules.proofs.run.arguments.+outs_take_from.Goals as goal
 
 pub returns : goal.returns
 returns t c =

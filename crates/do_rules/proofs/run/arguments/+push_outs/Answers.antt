@@ -1,7 +1,7 @@
+use Rattle.do_rules.proofs.run.arguments.+push_outs.Goals as goal
 use Rattle.std.proofs.Common.{◌≤◌, arith, drop, subst}
 use Rattle.do_sig.specs.Calls.{is_oneway}
 use Rattle.do_rules.proofs.Arguments.{on_ok, outs_at, outs_none, outs_past}
-use Rattle.do_rules.proofs.run.arguments.+push_outs.Goals as goal
 
 pub returns-then-k-args : goal.returns-then-k-args
 returns-then-k-args g t c =

@@ -1,6 +1,6 @@
+use Rattle.do_rules.proofs.run.arguments.+push_passed.Goals as goal
 use Rattle.std.proofs.Common.{◌≤◌, arith, drop, subst}
 use Rattle.do_rules.proofs.Arguments.{on_ok, passed_at, passed_none, passed_past}
-use Rattle.do_rules.proofs.run.arguments.+push_passed.Goals as goal
 
 pub returns-then-k-args : goal.returns-then-k-args
 returns-then-k-args t c =

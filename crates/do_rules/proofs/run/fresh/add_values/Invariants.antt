@@ -1,6 +1,5 @@
-use Rattle.std.proofs.Common.{◌≡◌, ◌+◌, ◌++◌, take}
-use Rattle.std.specs.Prelude.{vec_capacity, vec_len}
 use Rattle.do_rules.proofs.run.fresh.add_values.Given as goal
+use Rattle.std.{proofs.Common.{◌≡◌, ◌+◌, ◌++◌, take}, specs.Prelude.{vec_capacity, vec_len}}
 
 abbrev pub invariant-loop-value : goal.invariant-loop-value
 invariant-loop-value l = record {

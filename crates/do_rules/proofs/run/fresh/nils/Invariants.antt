@@ -1,7 +1,6 @@
-use Rattle.std.proofs.Common.{◌≡◌}
-use Rattle.std.proofs.Common.{replicate}
-use Rattle.do_base.specs.declared.values.value.Value.TheVariants.{Nil}
 use Rattle.do_rules.proofs.run.fresh.nils.Given as goal
+use Rattle.std.proofs.Common.{◌≡◌, replicate}
+use Rattle.do_base.specs.declared.values.value.Value.TheVariants.{Nil}
 
 abbrev pub invariant-loop-at : goal.invariant-loop-at
 invariant-loop-at l =

@@ -1,6 +1,6 @@
+use Rattle.do_rules.proofs.run.fresh.with_serials.Given as goal
 use Rattle.std.proofs.Common.{◌≡◌, ◌+◌, take}
 use Rattle.do_machine.specs.run.Fresh.{with_serials}
-use Rattle.do_rules.proofs.run.fresh.with_serials.Given as goal
 
 abbrev pub invariant-loop-made : goal.invariant-loop-made
 invariant-loop-made l = record {

@@ -1,8 +1,8 @@
+use Rattle.do_serve.proofs.far.Far.arrive.Goals as goal
 use Rattle.std.proofs.Common.{refl, ◌≡◌}
 use Rattle.do_frames.specs.declared.fault.StreamFault.TheVariants.{BadKind, BadLength, BadVersion}
 use Rattle.do_frames.specs.declared.fault.StreamFault.TheVariants.{Memory}
 use Rattle.do_serve.proofs.StreamNext.{next_taken, next_none, next_faulty}
-use Rattle.do_serve.proofs.far.Far.arrive.Goals as goal
 
 pub invariant_of-self : goal.invariant_of-self
 invariant_of-self c =

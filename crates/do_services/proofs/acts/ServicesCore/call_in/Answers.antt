@@ -1,9 +1,6 @@
-use Rattle.std.proofs.Common.{subst, sym}
-use Rattle.std.specs.Option.{IfSome}
-use Rattle.std.proofs.lemmas.Result.{IfOk-weaker}
-use Rattle.do_services.specs.Calls.{IsCall}
-use Rattle.do_services.proofs.CallsFit.{calls_fit}
 use Rattle.do_services.proofs.acts.ServicesCore.call_in.Goals as goal
+use Rattle.std.{proofs.Common.{subst, sym}, specs.Option.IfSome, proofs.lemmas.Result.IfOk-weaker}
+use Rattle.do_services.{specs.Calls.IsCall, proofs.CallsFit.calls_fit}
 
 pub returns-clause-taken : goal.returns-clause-taken
 returns-clause-taken c =

@@ -1,10 +1,7 @@
-use Rattle.std.proofs.Common.{◌≡◌, None, arith}
-use Rattle.std.proofs.lemmas.Grind.{common_steps}
-use Rattle.do_table.specs.Entries.{value_of}
-use Rattle.do_table.specs.laws.TableLaws.{added_absent, table_pushed}
-use Rattle.do_services.specs.Core.{is_entry, keyed}
-use Rattle.do_services.specs.laws.SlotsExact.{own_entry}
 use Rattle.do_services.proofs.services.Services.add.Goals as goal
+use Rattle.std.proofs.{Common.{◌≡◌, None, arith}, lemmas.Grind.common_steps}
+use Rattle.do_table.specs.{Entries.value_of, laws.TableLaws.{added_absent, table_pushed}}
+use Rattle.do_services.specs.{Core.{is_entry, keyed}, laws.SlotsExact.own_entry}
 
 pub invariant_of-self-2 : goal.invariant_of-self-2
 invariant_of-self-2 c =

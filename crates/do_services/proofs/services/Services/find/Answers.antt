@@ -1,6 +1,6 @@
+use Rattle.do_services.proofs.services.Services.find.Goals as goal
 use Rattle.std.proofs.Common.{◌∙◌}
 use Rattle.do_services.proofs.IsTold.{service_told}
-use Rattle.do_services.proofs.services.Services.find.Goals as goal
 
 pub returns-clause-meaning : goal.returns-clause-meaning
 returns-clause-meaning c =

@@ -1,6 +1,6 @@
+use Rattle.do_services.proofs.services.Services.from_slots.Goals as goal
 use Rattle.std.proofs.lemmas.Result.{IfOk-weaker}
 use Rattle.do_services.specs.laws.SlotsExact.{exact_read}
-use Rattle.do_services.proofs.services.Services.from_slots.Goals as goal
 
 pub returns-clause-exact : goal.returns-clause-exact
 returns-clause-exact c =

@@ -1,8 +1,6 @@
-use Rattle.std.proofs.Common.{◌≡◌, Some, arith}
-use Rattle.std.proofs.lemmas.Grind.{common_steps}
-use Rattle.do_services.specs.Core.{from_slots}
-use Rattle.do_services.specs.laws.SlotsExact.{to_from}
 use Rattle.do_services.proofs.services.Services.read.Goals as goal
+use Rattle.std.proofs.{Common.{◌≡◌, Some, arith}, lemmas.Grind.common_steps}
+use Rattle.do_services.specs.{Core.from_slots, laws.SlotsExact.to_from}
 
 pub invariant_of-result : goal.invariant_of-result
 invariant_of-result c =

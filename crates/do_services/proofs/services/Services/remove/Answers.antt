@@ -1,7 +1,7 @@
+use Rattle.do_services.proofs.services.Services.remove.Goals as goal
 use Rattle.std.proofs.Common.{subst, sym, IsTrue}
 use Rattle.do_table.specs.laws.TableLaws.{table_removed}
 use Rattle.do_services.specs.Core.{are_services, is_entry}
-use Rattle.do_services.proofs.services.Services.remove.Goals as goal
 
 pub invariant_of-self : goal.invariant_of-self
 invariant_of-self c =

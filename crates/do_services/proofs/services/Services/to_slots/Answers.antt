@@ -1,8 +1,6 @@
-use Rattle.std.proofs.Common.{subst, ap, ◌∙◌, IsTrue}
-use Rattle.std.proofs.lemmas.Result.{IfOk-weaker}
-use Rattle.do_services.specs.Core.{are_services, from_slots}
-use Rattle.do_services.specs.laws.SlotsExact.{from_to}
 use Rattle.do_services.proofs.services.Services.to_slots.Goals as goal
+use Rattle.std.proofs.{Common.{subst, ap, ◌∙◌, IsTrue}, lemmas.Result.IfOk-weaker}
+use Rattle.do_services.specs.{Core.{are_services, from_slots}, laws.SlotsExact.from_to}
 
 pub returns-clause-exact : goal.returns-clause-exact
 returns-clause-exact c =

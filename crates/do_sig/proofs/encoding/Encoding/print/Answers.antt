@@ -1,9 +1,8 @@
+use Rattle.do_sig.proofs.encoding.Encoding.print.Goals as goal
 use Rattle.std.proofs.Common.{◌≡◌, List, ℕ, ◌++◌, ap, ◌∙◌, subst}
-use Rattle.do_sig.specs.Encodings.{IsEncoding}
-use Rattle.do_sig.specs.MethodTypes.{QualifiedType}
+use Rattle.do_sig.specs.{Encodings.IsEncoding, MethodTypes.QualifiedType}
 use Rattle.do_sig.specs.Spelling.{outermost_spelling, qualifier_letters, encoding_spelling}
 use Rattle.do_sig.proofs.EncodingPrinted.{alone_printed}
-use Rattle.do_sig.proofs.encoding.Encoding.print.Goals as goal
 
 pub returns-clause-again : goal.returns-clause-again
 returns-clause-again c =

@@ -1,11 +1,9 @@
+use Rattle.do_sig.proofs.encoding.Encoding.read.Goals as goal
 use Rattle.std.proofs.Common.{arith}
 use Rattle.do_grammar.proofs.faults.AnswerExact.{bytes_from_each}
-use Rattle.do_sig.specs.Encodings.{IsEncoding}
-use Rattle.do_sig.specs.reading.Outermost.{alone_at}
-use Rattle.do_sig.proofs.EncodingExact.{Reads-alone}
-use Rattle.do_sig.proofs.AnswerMeans.{within, fault_means, fault_only, value_only, fault_blames}
-use Rattle.do_sig.proofs.FaultBytes.{alone_blames}
-use Rattle.do_sig.proofs.encoding.Encoding.read.Goals as goal
+use Rattle.do_sig.specs.{Encodings.IsEncoding, reading.Outermost.alone_at}
+use Rattle.do_sig.proofs.{EncodingExact.Reads-alone, AnswerMeans.{within, fault_means, fault_only}}
+use Rattle.do_sig.proofs.{AnswerMeans.{value_only, fault_blames}, FaultBytes.alone_blames}
 
 pub fault-requires : goal.fault-requires
 fault-requires c =

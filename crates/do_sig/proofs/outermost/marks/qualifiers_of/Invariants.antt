@@ -1,8 +1,7 @@
+use Rattle.do_sig.proofs.outermost.marks.qualifiers_of.Given as goal
 use Rattle.std.proofs.Common.{◌≡◌, length}
 use Rattle.do_grammar.specs.Reader.{scan_to}
-use Rattle.do_sig.specs.Bare.{bare}
-use Rattle.do_sig.specs.Marks.{qualifier_step}
-use Rattle.do_sig.proofs.outermost.marks.qualifiers_of.Given as goal
+use Rattle.do_sig.specs.{Bare.bare, Marks.qualifier_step}
 
 abbrev pub invariant-loop-b : goal.invariant-loop-b
 invariant-loop-b l =

@@ -1,9 +1,8 @@
+use Rattle.do_sig.proofs.signature.Signature.print.Goals as goal
 use Rattle.std.proofs.Common.{◌≡◌, subst}
-use Rattle.do_sig.specs.MethodTypes.{MethodType}
-use Rattle.do_sig.specs.Signatures.{IsSignature}
+use Rattle.do_sig.specs.{MethodTypes.MethodType, Signatures.IsSignature}
 use Rattle.do_sig.specs.Spelling.{signature_spelling}
 use Rattle.do_sig.proofs.SignaturePrinted.{signature_printed, pieces_spelled}
-use Rattle.do_sig.proofs.signature.Signature.print.Goals as goal
 
 pub returns-clause-again : goal.returns-clause-again
 returns-clause-again c =

@@ -1,12 +1,10 @@
+use Rattle.do_sig.proofs.signature.Signature.read.Goals as goal
 use Rattle.std.proofs.Common.{arith}
 use Rattle.do_grammar.proofs.faults.AnswerExact.{bytes_from_each}
-use Rattle.do_sig.specs.Signatures.{IsSignature}
-use Rattle.do_sig.specs.reading.Signatures.{signature_of, signature_at}
-use Rattle.do_sig.proofs.SignatureExact.{Reads-signature}
-use Rattle.do_sig.proofs.SignaturePrinted.{signature_limited}
+use Rattle.do_sig.specs.{Signatures.IsSignature, reading.Signatures.{signature_of, signature_at}}
+use Rattle.do_sig.proofs.{SignatureExact.Reads-signature, SignaturePrinted.signature_limited}
 use Rattle.do_sig.proofs.AnswerMeans.{within, fault_means, fault_only, value_only, fault_blames}
 use Rattle.do_sig.proofs.FaultBytes.{signature_blames}
-use Rattle.do_sig.proofs.signature.Signature.read.Goals as goal
 
 pub fault-requires : goal.fault-requires
 fault-requires c =

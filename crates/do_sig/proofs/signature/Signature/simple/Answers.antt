@@ -1,5 +1,5 @@
-use Rattle.do_sig.proofs.SignaturePrinted.{simple_limited}
 use Rattle.do_sig.proofs.signature.Signature.simple.Goals as goal
+use Rattle.do_sig.proofs.SignaturePrinted.{simple_limited}
 
 pub invariant_of-result : goal.invariant_of-result
 invariant_of-result c =

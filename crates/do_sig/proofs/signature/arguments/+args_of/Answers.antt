@@ -1,6 +1,6 @@
+use Rattle.do_sig.proofs.signature.arguments.+args_of.Goals as goal
 use Rattle.std.proofs.lemmas.Result.{err_from_is_err_and}
 use Rattle.do_sig.proofs.ArgumentSteps.{args_fail, args_full}
-use Rattle.do_sig.proofs.signature.arguments.+args_of.Goals as goal
 
 pub returns-in_err-arg : goal.returns-in_err-arg
 returns-in_err-arg t c =

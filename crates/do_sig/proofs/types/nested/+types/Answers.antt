@@ -1,14 +1,10 @@
-use Rattle.std.proofs.Common.{arith}
-use Rattle.std.proofs.lemmas.Result.{err_from_is_err_and}
-use Rattle.do_grammar.specs.Reader.{until}
-use Rattle.do_grammar.proofs.faults.AnswerExact.{bytes_from_each, rest_small}
-use Rattle.do_grammar.proofs.loops.UntilLoop.{short_turn, end_turn, value_turn, reads_less}
-use Rattle.do_sig.specs.reading.Types.{type_at}
-use Rattle.do_sig.proofs.TypeBySteps.{ByStep}
-use Rattle.do_grammar.proofs.loops.TimesLoop.{front_none}
-use Rattle.do_sig.proofs.MemberLoop.{members_fail}
-use Rattle.do_sig.proofs.TypeExact.{Reads-type, type_apart}
 use Rattle.do_sig.proofs.types.nested.+types.Goals as goal
+use Rattle.std.proofs.{Common.arith, lemmas.Result.err_from_is_err_and}
+use Rattle.do_grammar.{specs.Reader.until, proofs.faults.AnswerExact.{bytes_from_each, rest_small}}
+use Rattle.do_grammar.proofs.loops.UntilLoop.{short_turn, end_turn, value_turn, reads_less}
+use Rattle.do_sig.{specs.reading.Types.type_at, proofs.TypeBySteps.ByStep}
+use Rattle.do_grammar.proofs.loops.TimesLoop.{front_none}
+use Rattle.do_sig.proofs.{MemberLoop.members_fail, TypeExact.{Reads-type, type_apart}}
 
 pub members_of-members-init : goal.members_of-members-init
 members_of-members-init t c = (

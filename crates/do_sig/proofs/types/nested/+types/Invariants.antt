@@ -1,9 +1,7 @@
-use Rattle.std.proofs.Common.{◌≡◌, ◌+◌, ◌*◌, length}
-use Rattle.do_grammar.specs.Reader.{until}
-use Rattle.do_grammar.specs.Grammar.{IsBytes}
-use Rattle.do_grammar.proofs.loops.TimesLoop.{with_front}
-use Rattle.do_sig.specs.reading.Types.{type_at}
 use Rattle.do_sig.proofs.types.nested.+types.Given as goal
+use Rattle.std.proofs.Common.{◌≡◌, ◌+◌, ◌*◌, length}
+use Rattle.do_grammar.{specs.{Reader.until, Grammar.IsBytes}, proofs.loops.TimesLoop.with_front}
+use Rattle.do_sig.specs.reading.Types.{type_at}
 
 abbrev pub decreases-type_of : goal.decreases-type_of
 decreases-type_of l = 3 * l.depth

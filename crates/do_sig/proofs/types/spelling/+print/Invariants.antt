@@ -1,7 +1,6 @@
-use Rattle.std.proofs.Common.{◌≡◌, ◌++◌, take, map}
-use Rattle.std.specs.List.{flat_map}
-use Rattle.do_sig.specs.Types.{type_spelling}
 use Rattle.do_sig.proofs.types.spelling.+print.Given as goal
+use Rattle.std.{proofs.Common.{◌≡◌, ◌++◌, take, map}, specs.List.flat_map}
+use Rattle.do_sig.specs.Types.{type_spelling}
 
 abbrev pub invariant-push_members-loop-member : goal.invariant-push_members-loop-member
 invariant-push_members-loop-member l =

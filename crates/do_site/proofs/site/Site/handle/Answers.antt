@@ -1,16 +1,13 @@
-use Rattle.std.proofs.Common.{List, ap, refl, subst}
-use Rattle.std.specs.Prelude.{IfOk}
+use Rattle.do_network.specs.declared.input.Input.TheVariants as inputs
+use Rattle.do_site.proofs.site.Site.handle.Goals as goal
+use Rattle.std.{proofs.Common.{List, ap, refl, subst}, specs.Prelude.IfOk}
 use Rattle.do_class.specs.Class.{Class}
-use Rattle.do_machine.specs.Start.{start_effect}
-use Rattle.do_machine.specs.ends.TimeOut.{time_out}
+use Rattle.do_machine.specs.{Start.start_effect, ends.TimeOut.time_out}
 use Rattle.do_machine.specs.run.Run.{Acting, run_effect}
 use Rattle.do_network.specs.Own.{site_context}
-use Rattle.do_network.specs.declared.input.Input.TheVariants as inputs
 use Rattle.do_site.specs.Steps.{Does, close_effect, end_effect, part_of}
-use Rattle.do_site.proofs.EffectsTold.{by_classes}
-use Rattle.do_site.proofs.InputsHandled.{input_handled}
+use Rattle.do_site.proofs.{EffectsTold.by_classes, InputsHandled.input_handled}
 use Rattle.do_site.proofs.StepsSeen.{close_is, end_is}
-use Rattle.do_site.proofs.site.Site.handle.Goals as goal
 
 pub returns-in-Run-clause-handles : goal.returns-in-Run-clause-handles
 returns-in-Run-clause-handles g c =

@@ -1,5 +1,5 @@
-use Rattle.do_site.proofs.FetchedFrames.{fetched_spelled}
 use Rattle.do_site.proofs.site.Site.next_frame.Goals as goal
+use Rattle.do_site.proofs.FetchedFrames.{fetched_spelled}
 
 -- what is fetched has a spelling, by the classes of the site and sent from its port
 pub returns-clause-spelled : goal.returns-clause-spelled

@@ -1,8 +1,8 @@
+use Rattle.do_site.proofs.tally.Reach.+tally.Given as goal
 use Rattle.std.proofs.Common.{◌+◌, take, sum_by}
 use Rattle.do_base.specs.values.Values.{weight_of}
 use Rattle.do_part.specs.Names.{sizes_of, values_of}
 use Rattle.do_site.specs.Stored.{Tallies}
-use Rattle.do_site.proofs.tally.Reach.+tally.Given as goal
 
 -- what the values so far name is counted
 abbrev pub invariant-of_values-loop-value : goal.invariant-of_values-loop-value

@@ -1,6 +1,6 @@
+use Rattle.do_site.proofs.tally.Reach.of_invocation.Goals as goal
 use Rattle.std.proofs.Common.{arith}
 use Rattle.do_site.proofs.Stored.{tally_invocation}
-use Rattle.do_site.proofs.tally.Reach.of_invocation.Goals as goal
 
 -- an invocation counts its object, its locals and its answer
 pub returns : goal.returns

@@ -1,7 +1,7 @@
+use Rattle.do_site.proofs.tally.Reach.of_locals.Given as goal
 use Rattle.std.proofs.Common.{take}
 use Rattle.do_part.specs.Names.{sizes_of, values_of}
 use Rattle.do_site.specs.Stored.{Tallies}
-use Rattle.do_site.proofs.tally.Reach.of_locals.Given as goal
 
 -- what these so far name is counted
 abbrev pub invariant-loop-local : goal.invariant-loop-local

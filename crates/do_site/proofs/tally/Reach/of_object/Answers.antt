@@ -1,7 +1,6 @@
-use Rattle.std.proofs.Common.{arith, refl}
-use Rattle.std.proofs.lemmas.Bool.Decides.{nat_tests}
-use Rattle.do_site.proofs.Stored.{one_there}
 use Rattle.do_site.proofs.tally.Reach.of_object.Goals as goal
+use Rattle.std.proofs.{Common.{arith, refl}, lemmas.Bool.Decides.nat_tests}
+use Rattle.do_site.proofs.Stored.{one_there}
 use Rattle.do_site.proofs.tally.Reach.of_object.Goals.{else-eq-via-then-eq+else-not-has}
 use Rattle.do_site.proofs.tally.Reach.of_object.Goals.{else-eq-via-else-eq}
 

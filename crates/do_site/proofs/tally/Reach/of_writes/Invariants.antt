@@ -1,8 +1,7 @@
-use Rattle.std.proofs.Common.{take}
-use Rattle.do_part.specs.Changed.{written_values}
-use Rattle.do_part.specs.Names.{sizes_of, values_of}
-use Rattle.do_site.specs.Stored.{Tallies}
 use Rattle.do_site.proofs.tally.Reach.of_writes.Given as goal
+use Rattle.std.proofs.Common.{take}
+use Rattle.do_part.specs.{Changed.written_values, Names.{sizes_of, values_of}}
+use Rattle.do_site.specs.Stored.{Tallies}
 
 -- what these so far name is counted
 abbrev pub invariant-loop-write : goal.invariant-loop-write

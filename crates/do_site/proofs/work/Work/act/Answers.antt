@@ -1,14 +1,9 @@
-use Rattle.std.proofs.Common.{◌≡◌, ◌∙◌, ap, subst, sym}
-use Rattle.do_behave.specs.Changes.{meaning}
-use Rattle.do_behave.specs.declared.act.Act.{Act}
-use Rattle.do_behave.specs.declared.change.Change.{Change}
-use Rattle.do_machine.specs.run.Acts.{act_rule}
-use Rattle.do_machine.specs.run.Run.{next_act}
-use Rattle.do_machine.specs.run.Verdicts.{effect_of}
-use Rattle.do_site.specs.Steps.{Moves}
-use Rattle.do_site.proofs.ActsDone.{change_fits, change_leaves_none, some_runs}
-use Rattle.do_site.proofs.PlansKeep.{on_ok, run_of}
 use Rattle.do_site.proofs.work.Work.act.Goals as goal
+use Rattle.std.proofs.Common.{◌≡◌, ◌∙◌, ap, subst, sym}
+use Rattle.do_behave.specs.{Changes.meaning, declared.{act.Act.Act, change.Change.Change}}
+use Rattle.do_machine.specs.run.{Acts.act_rule, Run.next_act, Verdicts.effect_of}
+use Rattle.do_site.{specs.Steps.Moves, proofs.ActsDone.{change_fits, change_leaves_none, some_runs}}
+use Rattle.do_site.proofs.PlansKeep.{on_ok, run_of}
 
 -- one that runs is there
 pub go_on-requires-clause-top : goal.go_on-requires-clause-top

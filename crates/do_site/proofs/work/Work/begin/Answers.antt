@@ -1,19 +1,12 @@
+use Rattle.do_site.proofs.work.Work.begin.Goals as goal
 use Rattle.std.proofs.Common.{◌≡◌, arith, false, length, refl, ap, sym, subst, ◌∙◌}
-use Rattle.do_machine.specs.Effect.{only}
-use Rattle.do_machine.specs.State.{is_open}
-use Rattle.do_machine.specs.run.Fresh.{pushed}
+use Rattle.do_machine.specs.{Effect.only, State.is_open, run.Fresh.pushed}
 use Rattle.do_network.specs.Own.{Own}
 use Rattle.do_part.specs.Names.{AreStored, values_of}
 use Rattle.do_stack.specs.Uses.{invocation_values}
-use Rattle.do_effects.specs.Doing.{Doing, does, doing}
-use Rattle.do_effects.specs.Tidy.{IsTidy}
-use Rattle.do_effects.specs.declared.changing.Core.{Core}
-use Rattle.do_site.specs.Room.{needed}
-use Rattle.do_site.proofs.KeptSteps.{apart_then}
-use Rattle.do_site.proofs.PlansKeep.{place_left}
-use Rattle.do_site.proofs.StepsDone.{alone_does}
-use Rattle.do_site.proofs.Stored.{there_stored}
-use Rattle.do_site.proofs.work.Work.begin.Goals as goal
+use Rattle.do_effects.specs.{Doing.{Doing, does, doing}, Tidy.IsTidy, declared.changing.Core.Core}
+use Rattle.do_site.{specs.Room.needed, proofs.{KeptSteps.apart_then, PlansKeep.place_left}}
+use Rattle.do_site.proofs.{StepsDone.alone_does, Stored.there_stored}
 
 -- what the invocation names is stored
 pub push-requires-clause-stored : goal.push-requires-clause-stored

@@ -1,13 +1,11 @@
+use Rattle.do_site.proofs.work.Work.carry_out.Goals as goal
 use Rattle.std.proofs.Common.{◌≡◌, ap, sym, subst, ◌∙◌}
 use Rattle.do_network.specs.Own.{Own}
 use Rattle.do_part.specs.Names.{AreStored, values_of}
-use Rattle.do_effects.specs.Doing.{Doing, doing}
-use Rattle.do_effects.specs.Plans.{CanDo, IsRunning, plan_effect, plan_needs, plan_values}
-use Rattle.do_effects.specs.Tidy.{IsTidy}
-use Rattle.do_site.proofs.ActsDone.{same_kept, same_moves}
-use Rattle.do_site.proofs.PlansDone.{apart_after}
+use Rattle.do_effects.specs.{Doing.{Doing, doing}, Plans.{CanDo, IsRunning, plan_effect}}
+use Rattle.do_effects.specs.{Plans.{plan_needs, plan_values}, Tidy.IsTidy}
+use Rattle.do_site.proofs.{ActsDone.{same_kept, same_moves}, PlansDone.apart_after}
 use Rattle.do_site.proofs.PlansKeep.{enough_room, is_run, run_of}
-use Rattle.do_site.proofs.work.Work.carry_out.Goals as goal
 
 -- the plan can still be carried out once room was made
 pub finish-requires-clause-can : goal.finish-requires-clause-can

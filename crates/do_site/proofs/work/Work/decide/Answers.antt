@@ -1,8 +1,7 @@
+use Rattle.do_site.proofs.work.Work.decide.Goals as goal
 use Rattle.std.proofs.Common.{subst}
 use Rattle.do_machine.specs.declared.state.Effect.{Effect}
-use Rattle.do_site.specs.Steps.{Moves}
-use Rattle.do_site.proofs.PlansKeep.{on_ok}
-use Rattle.do_site.proofs.work.Work.decide.Goals as goal
+use Rattle.do_site.{specs.Steps.Moves, proofs.PlansKeep.on_ok}
 
 -- the plan that is carried out does what the rules decide
 pub returns-clause-ok : goal.returns-clause-ok

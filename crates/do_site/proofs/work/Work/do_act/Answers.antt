@@ -1,7 +1,6 @@
-use Rattle.std.proofs.Common.{◌∙◌, refl, sym}
-use Rattle.do_site.proofs.ActsDone.{act_leaves_none, some_runs}
-use Rattle.do_site.proofs.PlansKeep.{on_ok}
 use Rattle.do_site.proofs.work.Work.do_act.Goals as goal
+use Rattle.std.proofs.Common.{◌∙◌, refl, sym}
+use Rattle.do_site.proofs.{ActsDone.{act_leaves_none, some_runs}, PlansKeep.on_ok}
 
 -- one that runs is there
 pub go_on-requires-clause-top : goal.go_on-requires-clause-top

@@ -1,12 +1,11 @@
+use Rattle.do_site.proofs.work.Work.end.Goals as goal
 use Rattle.std.proofs.Common.{◌≡◌, arith, false, ap, refl, sym, subst, ◌∙◌}
-use Rattle.do_machine.specs.State.{is_open}
-use Rattle.do_machine.specs.ends.Closing.{closing}
+use Rattle.do_machine.specs.{State.is_open, ends.Closing.closing}
 use Rattle.do_network.specs.Own.{Own}
 use Rattle.do_streams.specs.Streamed.{Fixed}
 use Rattle.do_effects.specs.Doing.{Doing, doing}
 use Rattle.do_site.proofs.KeptSteps.{apart_then, closing_apart}
 use Rattle.do_site.proofs.PlacesKept.{closed_place, parted_fewer}
-use Rattle.do_site.proofs.work.Work.end.Goals as goal
 
 -- there is a place to leave what nothing holds then
 pub leave-requires-clause-place : goal.leave-requires-clause-place

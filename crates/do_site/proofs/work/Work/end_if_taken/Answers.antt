@@ -1,9 +1,8 @@
+use Rattle.do_site.proofs.work.Work.end_if_taken.Goals as goal
 use Rattle.std.proofs.Common.{◌≡◌, true, cond, Some, None, [], refl, sym, subst, ◌∙◌}
-use Rattle.do_machine.specs.declared.item.Item.TheVariants.{End}
-use Rattle.do_machine.specs.take.Take.{can_take, take_effect}
+use Rattle.do_machine.specs.{declared.item.Item.TheVariants.End, take.Take.{can_take, take_effect}}
 use Rattle.do_network.specs.Own.{site_context}
 use Rattle.do_site.specs.Steps.{Does}
-use Rattle.do_site.proofs.work.Work.end_if_taken.Goals as goal
 
 -- an end that can be taken is taken
 pub returns-clause-done : goal.returns-clause-done

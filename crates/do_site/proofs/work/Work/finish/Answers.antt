@@ -1,10 +1,8 @@
+use Rattle.do_site.proofs.work.Work.finish.Goals as goal
 use Rattle.std.proofs.Common.{ap, refl, ◌∙◌}
 use Rattle.do_streams.specs.Streamed.{Fixed}
-use Rattle.do_effects.specs.Doing.{doing}
-use Rattle.do_effects.specs.Plans.{plan_effect, plan_needs}
-use Rattle.do_site.proofs.PlansKeep.{enough_place, place_left}
-use Rattle.do_site.proofs.StepsDone.{then_left}
-use Rattle.do_site.proofs.work.Work.finish.Goals as goal
+use Rattle.do_effects.specs.{Doing.doing, Plans.{plan_effect, plan_needs}}
+use Rattle.do_site.proofs.{PlansKeep.{enough_place, place_left}, StepsDone.then_left}
 
 -- there is a place to leave what nothing holds then
 pub leave-requires-clause-place : goal.leave-requires-clause-place

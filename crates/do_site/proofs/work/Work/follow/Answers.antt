@@ -1,16 +1,10 @@
-use Rattle.std.proofs.Common.{◌≡◌, ap, refl, sym, subst, ◌∙◌}
-use Rattle.std.specs.Prelude.{IfSome}
-use Rattle.do_streams.specs.Reading.{AreKnown, IsReadBy}
-use Rattle.do_streams.specs.Streamed.{Fixed, Streamed}
-use Rattle.do_effects.specs.Doing.{Doing, doing}
-use Rattle.do_effects.specs.Taking.{taking_needs}
-use Rattle.do_site.specs.Steps.{with_reading}
-use Rattle.do_site.specs.declared.told.Told.{Told}
-use Rattle.do_site.proofs.PlacesKept.{read_place}
-use Rattle.do_site.proofs.PlansKeep.{place_left}
-use Rattle.do_site.proofs.TakenSteps.{follows, names_taken, taken_apart}
-use Rattle.do_site.proofs.TakenSteps.{taken_then_left}
 use Rattle.do_site.proofs.work.Work.follow.Goals as goal
+use Rattle.std.{proofs.Common.{◌≡◌, ap, refl, sym, subst, ◌∙◌}, specs.Prelude.IfSome}
+use Rattle.do_streams.specs.{Reading.{AreKnown, IsReadBy}, Streamed.{Fixed, Streamed}}
+use Rattle.do_effects.specs.{Doing.{Doing, doing}, Taking.taking_needs}
+use Rattle.do_site.specs.{Steps.with_reading, declared.told.Told.Told}
+use Rattle.do_site.proofs.{PlacesKept.read_place, PlansKeep.place_left}
+use Rattle.do_site.proofs.TakenSteps.{follows, names_taken, taken_apart, taken_then_left}
 
 pub keep_read-requires : goal.keep_read-requires
 keep_read-requires c =

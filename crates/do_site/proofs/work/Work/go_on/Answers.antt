@@ -1,19 +1,12 @@
+use Rattle.do_site.proofs.work.Work.go_on.Goals as goal
 use Rattle.std.proofs.Common.{◌≡◌, ◌∙◌, None, [], ap, refl, subst, sym}
 use Rattle.do_behave.specs.InPlace.{after_act}
-use Rattle.do_machine.specs.declared.node.Node.{Node}
-use Rattle.do_machine.specs.declared.state.Effect.{Effect}
-use Rattle.do_machine.specs.Effect.{only}
-use Rattle.do_machine.specs.State.{is_open}
-use Rattle.do_machine.specs.run.Acts.{act_rule}
-use Rattle.do_machine.specs.run.Verdicts.{effect_of}
+use Rattle.do_machine.specs.{declared.{node.Node.Node, state.Effect.Effect}, Effect.only}
+use Rattle.do_machine.specs.{State.is_open, run.{Acts.act_rule, Verdicts.effect_of}}
 use Rattle.do_part.specs.Changed.{changed}
-use Rattle.do_effects.specs.Doing.{Doing, does, doing}
-use Rattle.do_effects.specs.Tidy.{IsTidy}
-use Rattle.do_site.proofs.ActsDone.{change_meant, left_meant, tidy_alone}
-use Rattle.do_site.proofs.ActsKeep.{change_keeps}
-use Rattle.do_site.proofs.KeptSteps.{apart_then}
-use Rattle.do_site.proofs.StepsDone.{alone_does, step_done, then_left}
-use Rattle.do_site.proofs.work.Work.go_on.Goals as goal
+use Rattle.do_effects.specs.{Doing.{Doing, does, doing}, Tidy.IsTidy}
+use Rattle.do_site.proofs.{ActsDone.{change_meant, left_meant, tidy_alone}, ActsKeep.change_keeps}
+use Rattle.do_site.proofs.{KeptSteps.apart_then, StepsDone.{alone_does, step_done, then_left}}
 
 -- a tidy node is tidy once the step is done
 pub leave-requires-clause-tidy : goal.leave-requires-clause-tidy

@@ -1,8 +1,8 @@
+use Rattle.do_site.proofs.work.Work.judged.Goals as goal
 use Rattle.std.proofs.Common.{◌∙◌}
 use Rattle.do_network.specs.Own.{site_context}
 use Rattle.do_rules.specs.Ruling.{ruling}
 use Rattle.do_site.proofs.PlansKeep.{if_ok}
-use Rattle.do_site.proofs.work.Work.judged.Goals as goal
 
 -- the ruling is that of the rules on what the site is judged by
 pub returns : goal.returns

@@ -1,8 +1,7 @@
+use Rattle.do_site.proofs.work.Work.leave.Goals as goal
 use Rattle.std.proofs.Common.{ap, arith}
 use Rattle.do_streams.specs.Streamed.{Fixed}
-use Rattle.do_site.specs.declared.told.Told.{Told}
-use Rattle.do_site.proofs.PlacesKept.{places_fewer}
-use Rattle.do_site.proofs.work.Work.leave.Goals as goal
+use Rattle.do_site.{specs.declared.told.Told.Told, proofs.PlacesKept.places_fewer}
 
 -- there are as many places for no more
 pub returns-clause-places : goal.returns-clause-places

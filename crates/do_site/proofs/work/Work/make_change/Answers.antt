@@ -1,19 +1,15 @@
+use Rattle.do_site.proofs.work.Work.make_change.Goals as goal
 use Rattle.std.proofs.Common.{◌≡◌, ◌∙◌, ◌<◌, ap, arith, length, subst, sym}
 use Rattle.std.specs.Prelude.{slice_get, Some}
-use Rattle.do_behave.specs.Changes.{IsFitting}
-use Rattle.do_behave.specs.declared.invocation.Invocation.{Invocation}
+use Rattle.do_behave.specs.{Changes.IsFitting, declared.invocation.Invocation.Invocation}
 use Rattle.do_network.specs.Own.{Own}
 use Rattle.do_part.specs.Changed.{act_left_on, change_writes, changed, written_values}
 use Rattle.do_part.specs.Names.{AreStored, values_of}
 use Rattle.do_stack.specs.Exchange.{given}
-use Rattle.do_effects.specs.Doing.{Doing, doing}
-use Rattle.do_effects.specs.declared.changing.Core.{Core}
-use Rattle.do_site.proofs.ActsDone.{on_err}
-use Rattle.do_site.proofs.ActsKeep.{change_keeps}
-use Rattle.do_site.proofs.PlacesKept.{either_way, places_fewer, places_same}
-use Rattle.do_site.proofs.PlansKeep.{on_ok}
+use Rattle.do_effects.specs.{Doing.{Doing, doing}, declared.changing.Core.Core}
+use Rattle.do_site.proofs.{ActsDone.on_err, ActsKeep.change_keeps}
+use Rattle.do_site.proofs.{PlacesKept.{either_way, places_fewer, places_same}, PlansKeep.on_ok}
 use Rattle.do_site.proofs.Stored.{there_stored}
-use Rattle.do_site.proofs.work.Work.make_change.Goals as goal
 
 -- there is a top invocation
 pub step-requires-clause-top : goal.step-requires-clause-top

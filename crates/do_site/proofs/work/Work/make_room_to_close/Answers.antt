@@ -1,10 +1,8 @@
-use Rattle.std.proofs.Common.{ap, arith, length, sym, ◌∙◌}
-use Rattle.std.proofs.lemmas.Bool.{false≢true}
+use Rattle.do_site.proofs.work.Work.make_room_to_close.Goals as goal
+use Rattle.std.proofs.{Common.{ap, arith, length, sym, ◌∙◌}, lemmas.Bool.false≢true}
 use Rattle.do_effects.specs.Doing.{Doing}
 use Rattle.do_site.specs.declared.needs.Needs.{Needs}
-use Rattle.do_site.proofs.PlacesKept.{fetched_place, made_place}
-use Rattle.do_site.proofs.PlansKeep.{on_ok}
-use Rattle.do_site.proofs.work.Work.make_room_to_close.Goals as goal
+use Rattle.do_site.proofs.{PlacesKept.{fetched_place, made_place}, PlansKeep.on_ok}
 
 -- where all was fetched there is room
 pub returns-then-is_fetched-clause-room : goal.returns-then-is_fetched-clause-room

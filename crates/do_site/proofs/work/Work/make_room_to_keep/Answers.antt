@@ -1,9 +1,7 @@
-use Rattle.std.proofs.Common.{subst, sym}
-use Rattle.do_site.specs.Room.{HasPlaceFor, needed, to_keep}
-use Rattle.do_site.specs.declared.needs.Needs.{Needs}
-use Rattle.do_site.proofs.PlacesKept.{kept_place}
-use Rattle.do_site.proofs.PlansKeep.{on_ok}
 use Rattle.do_site.proofs.work.Work.make_room_to_keep.Goals as goal
+use Rattle.std.proofs.Common.{subst, sym}
+use Rattle.do_site.specs.{Room.{HasPlaceFor, needed, to_keep}, declared.needs.Needs.Needs}
+use Rattle.do_site.proofs.{PlacesKept.kept_place, PlansKeep.on_ok}
 
 -- where all was fetched there is room for none
 pub returns-then-is_fetched-clause-room : goal.returns-then-is_fetched-clause-room

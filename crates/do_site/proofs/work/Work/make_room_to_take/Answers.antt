@@ -1,14 +1,11 @@
+use Rattle.do_site.proofs.work.Work.make_room_to_take.Goals as goal
 use Rattle.std.proofs.Common.{ap, subst, sym, ◌∙◌}
 use Rattle.do_base.specs.declared.events.shown.Shown.TheVariants.{Took}
-use Rattle.do_machine.specs.run.Fresh.{with_objects}
-use Rattle.do_machine.specs.take.Lines.{item_line}
+use Rattle.do_machine.specs.{run.Fresh.with_objects, take.Lines.item_line}
 use Rattle.do_network.specs.Own.{Own}
-use Rattle.do_part.specs.Filled.{made_values}
-use Rattle.do_part.specs.Names.{AreStored, values_of}
-use Rattle.do_effects.specs.Doing.{Doing}
-use Rattle.do_effects.specs.Taking.{CanFollow, ruling_copies, ruling_values}
+use Rattle.do_part.specs.{Filled.made_values, Names.{AreStored, values_of}}
+use Rattle.do_effects.specs.{Doing.Doing, Taking.{CanFollow, ruling_copies, ruling_values}}
 use Rattle.do_site.proofs.TakenSteps.{ruling_place}
-use Rattle.do_site.proofs.work.Work.make_room_to_take.Goals as goal
 
 -- the line is that of the item before room was made
 pub returns-clause-line : goal.returns-clause-line

@@ -1,13 +1,9 @@
-use Rattle.std.proofs.Common.{◌∙◌, ap, sym, subst}
-use Rattle.std.specs.Option.{option_copied}
-use Rattle.do_behave.specs.Changes.{Means}
-use Rattle.do_behave.specs.declared.act.Act.{Act}
-use Rattle.do_behave.specs.declared.invocation.Invocation.{Invocation}
+use Rattle.do_site.proofs.work.Work.next_change.Goals as goal
+use Rattle.std.{proofs.Common.{◌∙◌, ap, sym, subst}, specs.Option.option_copied}
+use Rattle.do_behave.specs.{Changes.Means, declared.{act.Act.Act, invocation.Invocation.Invocation}}
 use Rattle.do_machine.specs.run.Run.{next_act}
 use Rattle.do_network.specs.Own.{site_context}
-use Rattle.do_site.proofs.PlansAlike.{same_act}
-use Rattle.do_site.proofs.PlansKeep.{if_ok, turn_of}
-use Rattle.do_site.proofs.work.Work.next_change.Goals as goal
+use Rattle.do_site.proofs.{PlansAlike.same_act, PlansKeep.{if_ok, turn_of}}
 
 -- the change means the next act
 pub returns : goal.returns

@@ -1,10 +1,8 @@
-use Rattle.std.proofs.Common.{◌∙◌, ap, sym}
-use Rattle.std.specs.Option.{option_copied}
+use Rattle.do_site.proofs.work.Work.plan_of.Goals as goal
+use Rattle.std.{proofs.Common.{◌∙◌, ap, sym}, specs.Option.option_copied}
 use Rattle.do_machine.specs.run.Verdicts.{effect_of}
 use Rattle.do_network.specs.Own.{site_context}
-use Rattle.do_site.proofs.PlansAlike.{same_rule}
-use Rattle.do_site.proofs.PlansKeep.{if_ok, turn_of}
-use Rattle.do_site.proofs.work.Work.plan_of.Goals as goal
+use Rattle.do_site.proofs.{PlansAlike.same_rule, PlansKeep.{if_ok, turn_of}}
 
 -- the plan does what the rules decide of the act
 pub returns : goal.returns

@@ -1,13 +1,9 @@
-use Rattle.std.proofs.Common.{◌≡◌, ◌∙◌, ap, subst, sym}
-use Rattle.std.specs.Option.{option_copied}
-use Rattle.do_behave.specs.declared.invocation.Answer.{Answer}
-use Rattle.do_behave.specs.declared.invocation.Invocation.{Invocation}
-use Rattle.do_effects.specs.Plans.{plan_effect}
-use Rattle.do_machine.specs.run.Run.{answer_rule}
-use Rattle.do_machine.specs.run.Verdicts.{effect_of}
-use Rattle.do_site.proofs.AnswersUsed.{raised_answer}
-use Rattle.do_site.proofs.PlansKeep.{if_ok, turn_of}
 use Rattle.do_site.proofs.work.Work.plan_of_raised.Goals as goal
+use Rattle.std.{proofs.Common.{◌≡◌, ◌∙◌, ap, subst, sym}, specs.Option.option_copied}
+use Rattle.do_behave.specs.declared.invocation.{Answer.Answer, Invocation.Invocation}
+use Rattle.do_effects.specs.Plans.{plan_effect}
+use Rattle.do_machine.specs.run.{Run.answer_rule, Verdicts.effect_of}
+use Rattle.do_site.proofs.{AnswersUsed.raised_answer, PlansKeep.{if_ok, turn_of}}
 
 -- the plan does what the rules say of the exception
 pub returns-clause-effect : goal.returns-clause-effect

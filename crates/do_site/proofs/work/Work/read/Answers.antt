@@ -1,6 +1,6 @@
+use Rattle.do_site.proofs.work.Work.read.Goals as goal
 use Rattle.do_streams.specs.Reading.{names_of}
 use Rattle.do_site.proofs.KindsRead.{reading_has_kind}
-use Rattle.do_site.proofs.work.Work.read.Goals as goal
 
 -- what is read has the kind of the frame's number
 pub returns-clause-kind : goal.returns-clause-kind

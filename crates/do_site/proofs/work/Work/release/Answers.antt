@@ -1,25 +1,17 @@
+use Rattle.do_base.specs.declared.events.shown.Shown.TheVariants as shows
+use Rattle.do_base.specs.declared.events.shown.Took.TheVariants as tooks
+use Rattle.do_site.proofs.work.Work.release.Goals as goal
 use Rattle.std.proofs.Common.{◌≡◌, ◌≤◌, false, true, [], ◌∷◌, ◌++◌, ap, arith, length, refl, sym}
 use Rattle.std.proofs.Common.{subst, ◌∙◌}
 use Rattle.do_base.specs.declared.events.shown.Shown.{Shown}
 use Rattle.do_export.specs.Counts.{count_of}
-use Rattle.do_base.specs.declared.events.shown.Shown.TheVariants as shows
-use Rattle.do_base.specs.declared.events.shown.Took.TheVariants as tooks
 use Rattle.do_frames.specs.declared.frame.Frame.TheVariants.{Release}
-use Rattle.do_machine.specs.declared.state.Effect.{Effect}
-use Rattle.do_machine.specs.Objects.{object_at}
-use Rattle.do_machine.specs.State.{is_open}
-use Rattle.do_network.specs.Counting.{given_back}
-use Rattle.do_network.specs.Own.{Own}
-use Rattle.do_network.specs.Site.{frame_move}
-use Rattle.do_streams.specs.Reading.{IsReadBy, names_of}
-use Rattle.do_streams.specs.Streamed.{Fixed, Streamed}
-use Rattle.do_effects.specs.Doing.{Doing, cleared, does, doing, moved}
-use Rattle.do_effects.specs.Tidy.{IsTidy}
-use Rattle.do_site.specs.Steps.{with_reading}
-use Rattle.do_site.proofs.PlacesKept.{closed_place}
-use Rattle.do_site.proofs.ReleasedCounts.{released_tidy}
-use Rattle.do_site.proofs.StepsDone.{shown_does, then_left}
-use Rattle.do_site.proofs.work.Work.release.Goals as goal
+use Rattle.do_machine.specs.{declared.state.Effect.Effect, Objects.object_at, State.is_open}
+use Rattle.do_network.specs.{Counting.given_back, Own.Own, Site.frame_move}
+use Rattle.do_streams.specs.{Reading.{IsReadBy, names_of}, Streamed.{Fixed, Streamed}}
+use Rattle.do_effects.specs.{Doing.{Doing, cleared, does, doing, moved}, Tidy.IsTidy}
+use Rattle.do_site.{specs.Steps.with_reading, proofs.PlacesKept.closed_place}
+use Rattle.do_site.proofs.{ReleasedCounts.released_tidy, StepsDone.{shown_does, then_left}}
 
 pub give_back-requires-clause-open : goal.give_back-requires-clause-open
 give_back-requires-clause-open c =

@@ -1,12 +1,11 @@
+use Rattle.do_site.proofs.work.Work.run.Goals as goal
 use Rattle.std.proofs.Common.{Option, false, refl, subst, sym, true, ◌∙◌}
 use Rattle.do_behave.specs.declared.invocation.Answer.TheVariants.{Given, Raised}
 use Rattle.do_machine.specs.declared.state.Effect.{Effect}
 use Rattle.do_network.specs.Own.{site_context}
-use Rattle.do_site.specs.Steps.{Does}
-use Rattle.do_site.proofs.AnswersUsed.{answer_state, answered_run, given_is, raised_is}
-use Rattle.do_site.proofs.PlansKeep.{run_of}
+use Rattle.do_site.{specs.Steps.Does, proofs.AnswersUsed.{answer_state, answered_run, given_is}}
+use Rattle.do_site.proofs.{AnswersUsed.raised_is, PlansKeep.run_of}
 use Rattle.do_site.proofs.RunsDone.{act_runs, nothing_runs, run_acts, run_answers}
-use Rattle.do_site.proofs.work.Work.run.Goals as goal
 
 -- where nothing goes on nothing is done
 pub returns-in-Nothing-clause-done : goal.returns-in-Nothing-clause-done

@@ -1,9 +1,8 @@
+use Rattle.do_site.proofs.work.Work.shut.Goals as goal
 use Rattle.std.proofs.Common.{◌∙◌, List, ap, ℕ}
 use Rattle.do_machine.specs.declared.item.Item.TheVariants.{End}
 use Rattle.do_effects.specs.Doing.{doing, moved}
-use Rattle.do_site.specs.Steps.{item_move, with_reading}
-use Rattle.do_site.proofs.PlansKeep.{on_ok}
-use Rattle.do_site.proofs.work.Work.shut.Goals as goal
+use Rattle.do_site.{specs.Steps.{item_move, with_reading}, proofs.PlansKeep.on_ok}
 
 -- an end that names nothing is taken
 pub returns-clause-ok : goal.returns-clause-ok

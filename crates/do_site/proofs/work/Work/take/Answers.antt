@@ -1,19 +1,14 @@
+use Rattle.do_site.proofs.work.Work.take.Goals as goal
 use Rattle.std.proofs.Common.{◌≡◌, ◌∙◌, true, Ok, Err, Some, refl, subst, sym}
 use Rattle.do_frames.specs.declared.fault.RawFault.{RawFault}
-use Rattle.do_machine.specs.ends.Closing.{closing}
-use Rattle.do_machine.specs.take.Take.{can_take}
-use Rattle.do_network.specs.Faults.{peer_fault}
-use Rattle.do_network.specs.Frames.{read_frame}
-use Rattle.do_network.specs.Links.{having_read}
-use Rattle.do_network.specs.Site.{takes_frame}
-use Rattle.do_network.specs.declared.fault.PeerFault.TheVariants.{BadFrame}
+use Rattle.do_machine.specs.{ends.Closing.closing, take.Take.can_take}
+use Rattle.do_network.specs.{Faults.peer_fault, Frames.read_frame, Links.having_read}
+use Rattle.do_network.specs.{Site.takes_frame, declared.fault.PeerFault.TheVariants.BadFrame}
 use Rattle.do_network.specs.declared.input.Done.TheVariants.{Closed}
 use Rattle.do_streams.specs.Reading.{IsReading, names_of}
 use Rattle.std.specs.declared.alloc.AllocError.{AllocError}
-use Rattle.do_site.specs.Steps.{Handles, Moves, part_of, seen_of}
-use Rattle.do_site.specs.declared.work.Work.{Work}
+use Rattle.do_site.specs.{Steps.{Handles, Moves, part_of, seen_of}, declared.work.Work.Work}
 use Rattle.do_site.proofs.FramesTaken.{bad_came, read_came, skipped_came}
-use Rattle.do_site.proofs.work.Work.take.Goals as goal
 
 -- an input that the site cannot take is passed
 pub returns-then-not-can_take-clause-done : goal.returns-then-not-can_take-clause-done

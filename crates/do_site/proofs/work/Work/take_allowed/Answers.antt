@@ -1,15 +1,12 @@
+use Rattle.do_site.proofs.work.Work.take_allowed.Goals as goal
 use Rattle.std.proofs.Common.{◌∙◌, ap, subst, sym}
 use Rattle.do_export.specs.Counts.{count_of}
 use Rattle.do_frames.specs.declared.frame.Frame.{Frame as Framed}
 use Rattle.do_machine.specs.declared.item.Item.{Item}
-use Rattle.do_network.specs.Faults.{peer_fault}
-use Rattle.do_network.specs.Site.{Move, frame_move}
+use Rattle.do_network.specs.{Faults.peer_fault, Site.{Move, frame_move}}
 use Rattle.do_effects.specs.Doing.{doing}
-use Rattle.do_site.specs.Steps.{Makes, item_move, with_reading}
-use Rattle.do_site.proofs.EndingRulings.{late_kinds}
-use Rattle.do_site.proofs.FramesTaken.{item_moves, none_over}
-use Rattle.do_site.proofs.PlansKeep.{on_ok}
-use Rattle.do_site.proofs.work.Work.take_allowed.Goals as goal
+use Rattle.do_site.{specs.Steps.{Makes, item_move, with_reading}, proofs.EndingRulings.late_kinds}
+use Rattle.do_site.proofs.{FramesTaken.{item_moves, none_over}, PlansKeep.on_ok}
 
 -- no more names come back than were sent
 pub release-requires-clause-few : goal.release-requires-clause-few

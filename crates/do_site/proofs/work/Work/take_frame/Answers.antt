@@ -1,6 +1,6 @@
+use Rattle.do_site.proofs.work.Work.take_frame.Goals as goal
 use Rattle.std.proofs.Common.{◌∙◌, sym}
 use Rattle.do_site.proofs.FramesTaken.{refused_came, taken_came}
-use Rattle.do_site.proofs.work.Work.take_frame.Goals as goal
 
 -- the end towards the peer is closed
 pub returns-in-Some-clause-done : goal.returns-in-Some-clause-done

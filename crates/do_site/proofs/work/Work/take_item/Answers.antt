@@ -1,17 +1,13 @@
-use Rattle.std.proofs.Common.{◌≡◌, ◌∙◌, ap, false, subst, sym, true}
-use Rattle.std.specs.Prelude.{IfSome}
+use Rattle.do_site.proofs.work.Work.take_item.Goals as goal
+use Rattle.std.{proofs.Common.{◌≡◌, ◌∙◌, ap, false, subst, sym, true}, specs.Prelude.IfSome}
 use Rattle.do_base.specs.declared.events.shown.Shown.TheVariants.{Took}
-use Rattle.do_machine.specs.State.{is_open}
-use Rattle.do_machine.specs.take.Lines.{item_line}
+use Rattle.do_machine.specs.{State.is_open, take.Lines.item_line}
 use Rattle.do_network.specs.Own.{Own, site_context}
 use Rattle.do_rules.specs.Ruling.{ruling}
 use Rattle.do_streams.specs.Reading.{AreKnown, IsReadBy, names_of}
-use Rattle.do_effects.specs.Doing.{Doing, moved}
-use Rattle.do_effects.specs.Tidy.{IsTidy}
+use Rattle.do_effects.specs.{Doing.{Doing, moved}, Tidy.IsTidy}
 use Rattle.do_site.specs.Steps.{item_move, with_reading}
-use Rattle.do_site.proofs.ActsDone.{on_err, same_kept}
-use Rattle.do_site.proofs.PlansKeep.{on_ok}
-use Rattle.do_site.proofs.work.Work.take_item.Goals as goal
+use Rattle.do_site.proofs.{ActsDone.{on_err, same_kept}, PlansKeep.on_ok}
 
 -- the ruling is that of the rules
 pub follow-requires-clause-judged : goal.follow-requires-clause-judged

@@ -1,19 +1,11 @@
-use Rattle.std.proofs.Common.{◌≡◌, arith, false, length, true, Some, refl, ap, sym, subst, ◌∙◌}
-use Rattle.std.specs.Prelude.{◌==◌}
-use Rattle.std.specs.List.{list_any}
-use Rattle.do_machine.specs.Effect.{only}
-use Rattle.do_machine.specs.State.{is_open}
-use Rattle.do_machine.specs.ends.TimeOut.{time_out}
-use Rattle.do_network.specs.Own.{Own}
-use Rattle.do_effects.specs.Doing.{Doing, does, doing}
-use Rattle.do_effects.specs.Tidy.{IsTidy}
-use Rattle.do_effects.specs.declared.changing.Core.{Core}
-use Rattle.do_site.specs.Room.{needed}
-use Rattle.do_site.specs.Steps.{Does}
-use Rattle.do_site.proofs.KeptSteps.{apart_then, made_then_left}
-use Rattle.do_site.proofs.PlansKeep.{place_left}
-use Rattle.do_site.proofs.StepsDone.{Keeps, alone_does, time_out_keeps}
 use Rattle.do_site.proofs.work.Work.time_out.Goals as goal
+use Rattle.std.proofs.Common.{◌≡◌, arith, false, length, true, Some, refl, ap, sym, subst, ◌∙◌}
+use Rattle.std.specs.{Prelude.◌==◌, List.list_any}
+use Rattle.do_machine.specs.{Effect.only, State.is_open, ends.TimeOut.time_out}
+use Rattle.do_network.specs.Own.{Own}
+use Rattle.do_effects.specs.{Doing.{Doing, does, doing}, Tidy.IsTidy, declared.changing.Core.Core}
+use Rattle.do_site.{specs.{Room.needed, Steps.Does}, proofs.KeptSteps.{apart_then, made_then_left}}
+use Rattle.do_site.proofs.{PlansKeep.place_left, StepsDone.{Keeps, alone_does, time_out_keeps}}
 
 -- the call is given up, and then what nothing holds is left
 pub returns-clause-done : goal.returns-clause-done

@@ -1,21 +1,15 @@
+use Rattle.do_site.proofs.work.Work.use_given.Goals as goal
 use Rattle.std.proofs.Common.{◌≡◌, ◌∷◌, Some, ap, subst, sym, ◌∙◌}
-use Rattle.do_behave.specs.declared.invocation.Answer.{Answer}
-use Rattle.do_behave.specs.declared.invocation.Answer.TheVariants.{Given}
-use Rattle.do_machine.specs.run.Run.{answer_rule}
-use Rattle.do_machine.specs.run.Verdicts.{effect_of}
+use Rattle.do_behave.specs.declared.invocation.Answer.{Answer, TheVariants.Given}
+use Rattle.do_machine.specs.run.{Run.answer_rule, Verdicts.effect_of}
 use Rattle.do_network.specs.Own.{Own}
 use Rattle.do_part.specs.Names.{AreStored, values_of}
 use Rattle.do_stack.specs.Answered.{top_answer}
-use Rattle.do_effects.specs.Doing.{Doing, doing}
-use Rattle.do_effects.specs.Tidy.{IsTidy}
-use Rattle.do_effects.specs.declared.plan.Plan.TheVariants.{Uses}
-use Rattle.do_site.specs.Steps.{Moves}
-use Rattle.do_site.specs.Stored.{top_answered}
+use Rattle.do_effects.specs.{Doing.{Doing, doing}, Tidy.IsTidy, declared.plan.Plan.TheVariants.Uses}
+use Rattle.do_site.specs.{Steps.Moves, Stored.top_answered}
 use Rattle.do_site.proofs.AnswersUsed.{answered_run, answered_values, can_use, enough_used}
-use Rattle.do_site.proofs.AnswersUsed.{place_taken, same_answer, used_moves}
-use Rattle.do_site.proofs.PlansDone.{plan_kept}
+use Rattle.do_site.proofs.{AnswersUsed.{place_taken, same_answer, used_moves}, PlansDone.plan_kept}
 use Rattle.do_site.proofs.Stored.{there_stored}
-use Rattle.do_site.proofs.work.Work.use_given.Goals as goal
 
 -- what was given can be used, once it was taken
 pub finish-requires-clause-can : goal.finish-requires-clause-can

@@ -1,18 +1,14 @@
+use Rattle.do_site.proofs.work.Work.use_raised.Goals as goal
 use Rattle.std.proofs.Common.{◌≡◌, ap, subst, sym, ◌∙◌}
 use Rattle.do_behave.specs.declared.invocation.Answer.TheVariants.{Raised}
 use Rattle.do_machine.specs.declared.state.Effect.{Effect}
 use Rattle.do_network.specs.Own.{Own}
 use Rattle.do_part.specs.Names.{AreStored, values_of}
 use Rattle.do_stack.specs.Answered.{top_answer}
-use Rattle.do_effects.specs.Doing.{Doing}
-use Rattle.do_effects.specs.Plans.{CanDo, plan_values}
-use Rattle.do_effects.specs.Tidy.{IsTidy}
-use Rattle.do_site.specs.Steps.{Moves}
-use Rattle.do_site.proofs.ActsDone.{same_kept}
-use Rattle.do_site.proofs.AnswersUsed.{answered_run, can_use, place_taken, raised_is}
-use Rattle.do_site.proofs.AnswersUsed.{used_moves}
+use Rattle.do_effects.specs.{Doing.Doing, Plans.{CanDo, plan_values}, Tidy.IsTidy}
+use Rattle.do_site.{specs.Steps.Moves, proofs.ActsDone.same_kept}
+use Rattle.do_site.proofs.AnswersUsed.{answered_run, can_use, place_taken, raised_is, used_moves}
 use Rattle.do_site.proofs.PlansDone.{plan_kept}
-use Rattle.do_site.proofs.work.Work.use_raised.Goals as goal
 
 -- the plan can be carried out, once the exception was taken
 pub finish-requires-clause-can : goal.finish-requires-clause-can

@@ -1,8 +1,8 @@
+use Rattle.do_site.proofs.work.releasing.give_back.Goals as goal
 use Rattle.std.proofs.Common.{ap, sym, ◌∙◌}
 use Rattle.do_export.specs.Counts.{Counts}
 use Rattle.do_network.specs.Counting.{given_back}
 use Rattle.do_site.proofs.ReleasedCounts.{none_lowered}
-use Rattle.do_site.proofs.work.releasing.give_back.Goals as goal
 
 -- nothing is given back
 pub returns-then-amount-eq0 : goal.returns-then-amount-eq0

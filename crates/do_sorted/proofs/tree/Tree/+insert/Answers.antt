@@ -1,6 +1,6 @@
+use Rattle.do_sorted.proofs.tree.Tree.+insert.Goals as goal
 use Rattle.std.proofs.Common.{rules, ◌-◌}
 use Rattle.do_sorted.proofs.Sides.{insert_behind}
-use Rattle.do_sorted.proofs.tree.Tree.+insert.Goals as goal
 
 -- put in behind the item of a node, an item is put in so far behind the first one
 pub returns : goal.returns

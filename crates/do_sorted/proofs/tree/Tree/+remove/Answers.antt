@@ -1,6 +1,6 @@
+use Rattle.do_sorted.proofs.tree.Tree.+remove.Goals as goal
 use Rattle.std.proofs.Common.{rules, ◌-◌}
 use Rattle.do_sorted.proofs.Sides.{remove_behind, remove_here, slice_get_here, first_off}
-use Rattle.do_sorted.proofs.tree.Tree.+remove.Goals as goal
 
 -- taken out behind the item of a node, an item is taken out so far behind the first one
 pub returns-then-at-here-2-clause-rest : goal.returns-then-at-here-2-clause-rest

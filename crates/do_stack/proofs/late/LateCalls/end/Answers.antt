@@ -1,11 +1,8 @@
-use Rattle.std.proofs.Common.{T, map, sym, ap, subst, ◌∙◌}
-use Rattle.std.specs.Ordering.{nat_cmp}
-use Rattle.std.specs.FinMap.{is_sorted}
-use Rattle.std.specs.FinMap.Entries.{is_sorted-where_key}
-use Rattle.do_machine.specs.take.Awaiting.{AnsweredCall}
-use Rattle.do_stack.specs.LateCalls.{call_of}
-use Rattle.do_stack.proofs.rows.CallsAnswered.{removed_is, none_answered}
 use Rattle.do_stack.proofs.late.LateCalls.end.Goals as goal
+use Rattle.std.proofs.Common.{T, map, sym, ap, subst, ◌∙◌}
+use Rattle.std.specs.{Ordering.nat_cmp, FinMap.{is_sorted, Entries.is_sorted-where_key}}
+use Rattle.do_machine.specs.take.Awaiting.{AnsweredCall}
+use Rattle.do_stack.{specs.LateCalls.call_of, proofs.rows.CallsAnswered.{removed_is, none_answered}}
 
 -- the rows stay sorted where one is taken out
 pub invariant_of-self : goal.invariant_of-self

@@ -1,10 +1,7 @@
-use Rattle.std.proofs.Common.{◌==◌, T, map, not, rules, sym, ap, subst, ◌∙◌}
-use Rattle.std.proofs.lemmas.Fn.{filter_same}
-use Rattle.std.specs.Ordering.{nat_cmp}
-use Rattle.std.specs.FinMap.{is_sorted}
-use Rattle.do_stack.specs.LateCalls.{call_of}
-use Rattle.do_stack.proofs.rows.RowsFiltered.{others_stay, sorted_rows}
 use Rattle.do_stack.proofs.late.LateCalls.forget.Goals as goal
+use Rattle.std.proofs.Common.{◌==◌, T, map, not, rules, sym, ap, subst, ◌∙◌}
+use Rattle.std.{proofs.lemmas.Fn.filter_same, specs.{Ordering.nat_cmp, FinMap.is_sorted}}
+use Rattle.do_stack.{specs.LateCalls.call_of, proofs.rows.RowsFiltered.{others_stay, sorted_rows}}
 
 -- the rows stay sorted where some are taken out
 pub invariant_of-self : goal.invariant_of-self

@@ -1,7 +1,7 @@
+use Rattle.do_stack.proofs.late.LateCalls.has.Goals as goal
 use Rattle.std.proofs.Common.{arith}
 use Rattle.do_machine.specs.take.Awaiting.{AnsweredCall}
 use Rattle.do_stack.proofs.rows.CallsAnswered.{found_is}
-use Rattle.do_stack.proofs.late.LateCalls.has.Goals as goal
 
 -- no row has the number
 pub returns-in_default : goal.returns-in_default

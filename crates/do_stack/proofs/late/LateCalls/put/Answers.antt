@@ -1,11 +1,7 @@
-use Rattle.std.proofs.Common.{T, map, sym, ap, subst, ◌∙◌}
-use Rattle.std.specs.Ordering.{nat_cmp}
-use Rattle.std.specs.Cmp.{nat_cmp_total}
-use Rattle.std.specs.FinMap.{is_sorted}
-use Rattle.std.specs.FinMap.Entries.{is_sorted-put}
-use Rattle.do_stack.specs.LateCalls.{call_of}
-use Rattle.do_stack.proofs.rows.CallsKept.{kept_is}
 use Rattle.do_stack.proofs.late.LateCalls.put.Goals as goal
+use Rattle.std.{proofs.Common.{T, map, sym, ap, subst, ◌∙◌}, specs.Ordering.nat_cmp}
+use Rattle.std.specs.{Cmp.nat_cmp_total, FinMap.{is_sorted, Entries.is_sorted-put}}
+use Rattle.do_stack.{specs.LateCalls.call_of, proofs.rows.CallsKept.kept_is}
 
 -- a row that is put in its place leaves the rows sorted
 pub invariant_of-self : goal.invariant_of-self

@@ -1,8 +1,7 @@
-use Rattle.std.proofs.Common.{sym, ap, arith, ◌∙◌}
-use Rattle.std.specs.Option.{is_some}
+use Rattle.do_stack.proofs.stack.Stack.answer.Goals as goal
+use Rattle.std.{proofs.Common.{sym, ap, arith, ◌∙◌}, specs.Option.is_some}
 use Rattle.do_stack.proofs.Answers.{none_waiting, none_answered, place_waiting, place_answered}
 use Rattle.do_stack.proofs.Answers.{waits_asked}
-use Rattle.do_stack.proofs.stack.Stack.answer.Goals as goal
 
 -- where no place is found none waits
 pub returns-in_default-clause-which : goal.returns-in_default-clause-which

@@ -1,15 +1,11 @@
-use Rattle.std.proofs.Common.{◌≡◌, ◌+◌, cond, Some, List, [], sym, ap, ◌∙◌, subst}
-use Rattle.std.specs.Prelude.{slice_set}
-use Rattle.std.proofs.lemmas.Option.{get_or_from_slice_get}
-use Rattle.do_base.specs.declared.values.value.Value.{Value}
-use Rattle.do_behave.specs.Changes.{IsFitting, meaning}
-use Rattle.do_behave.specs.InPlace.{AfterAct, after_act}
-use Rattle.do_behave.specs.declared.invocation.Invocation.{Invocation}
-use Rattle.do_stack.specs.Exchange.{given, taken, named_again}
-use Rattle.do_stack.specs.Uses.{uses, stack_uses}
-use Rattle.do_stack.proofs.UsesExchanged.{uses_exchanged}
-use Rattle.do_stack.proofs.UsesMove.{change_uses, keeps_rest}
 use Rattle.do_stack.proofs.stack.Stack.change.Goals as goal
+use Rattle.std.proofs.Common.{◌≡◌, ◌+◌, cond, Some, List, [], sym, ap, ◌∙◌, subst}
+use Rattle.std.{specs.Prelude.slice_set, proofs.lemmas.Option.get_or_from_slice_get}
+use Rattle.do_base.specs.declared.values.value.Value.{Value}
+use Rattle.do_behave.specs.{Changes.{IsFitting, meaning}, InPlace.{AfterAct, after_act}}
+use Rattle.do_behave.specs.declared.invocation.Invocation.{Invocation}
+use Rattle.do_stack.specs.{Exchange.{given, taken, named_again}, Uses.{uses, stack_uses}}
+use Rattle.do_stack.proofs.{UsesExchanged.uses_exchanged, UsesMove.{change_uses, keeps_rest}}
 
 -- what the top invocation takes and gives is what is named more and less
 pub returns-clause-uses : goal.returns-clause-uses

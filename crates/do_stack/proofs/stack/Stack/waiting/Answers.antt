@@ -1,6 +1,6 @@
+use Rattle.do_stack.proofs.stack.Stack.waiting.Goals as goal
 use Rattle.std.proofs.Common.{sym, arith}
 use Rattle.do_stack.proofs.Answers.{none_waiting, place_waiting}
-use Rattle.do_stack.proofs.stack.Stack.waiting.Goals as goal
 
 -- where no place is found none waits
 pub returns-in_default : goal.returns-in_default

@@ -1,12 +1,9 @@
-use Rattle.std.proofs.Common.{◌≡◌, ℕ, ◌+◌, ◌-◌, ◌<◌, ◌^◌, Bool, true, false, cond, List}
-use Rattle.std.proofs.Common.{Some, None, map}
-use Rattle.std.proofs.Common.{refl, arith, ap, sym, ◌∙◌}
-use Rattle.do_store.specs.Objects.{stored_at}
-use Rattle.do_store.specs.Names.{Stored, find_stored}
-use Rattle.do_store.specs.Books.{seen}
+use Rattle.do_store.proofs.store.Store.count_holder.Goals as goal
+use Rattle.std.proofs.Common.{◌≡◌, ℕ, ◌+◌, ◌-◌, ◌<◌, ◌^◌, Bool, true, false, cond, List, Some, None}
+use Rattle.std.proofs.Common.{map, refl, arith, ap, sym, ◌∙◌}
+use Rattle.do_store.specs.{Objects.stored_at, Names.{Stored, find_stored}, Books.seen}
 use Rattle.do_store.specs.declared.object.Object.{Object}
 use Rattle.do_store.proofs.Turns.{find-seen, behind, reheld, clash}
-use Rattle.do_store.proofs.store.Store.count_holder.Goals as goal
 
 -- the object that the caller means
 agrees : (xs : List Object) (n : ℕ) (x : Object) (s : Stored) → stored_at xs n ≡ Some x

@@ -1,11 +1,8 @@
-use Rattle.std.proofs.Common.{◌≡◌, ℕ, ◌<◌, List, [], ◌∷◌}
-use Rattle.std.proofs.Common.{◌++◌, IsSome}
-use Rattle.std.proofs.Common.{refl, arith, ap, sym, ◌∙◌, subst}
-use Rattle.do_store.specs.Names.{values_name, Stored, find_stored}
-use Rattle.do_store.specs.Steps.{Raises}
-use Rattle.do_store.proofs.Ledger.{waits-below}
-use Rattle.do_store.proofs.Turns.{stored_some, books-added}
 use Rattle.do_store.proofs.store.Store.create_reserved.Goals as goal
+use Rattle.std.proofs.Common.{◌≡◌, ℕ, ◌<◌, List, [], ◌∷◌, ◌++◌, IsSome, refl, arith, ap, sym, ◌∙◌}
+use Rattle.std.proofs.Common.{subst}
+use Rattle.do_store.specs.{Names.{values_name, Stored, find_stored}, Steps.Raises}
+use Rattle.do_store.proofs.{Ledger.waits-below, Turns.{stored_some, books-added}}
 
 pub post-requires : goal.post-requires
 post-requires c =

@@ -1,6 +1,6 @@
+use Rattle.do_store.proofs.store.Store.get.Goals as goal
 use Rattle.std.proofs.Common.{refl}
 use Rattle.do_store.specs.Books.{seen}
-use Rattle.do_store.proofs.store.Store.get.Goals as goal
 
 pub returns-in_err-object-clause-own : goal.returns-in_err-object-clause-own
 returns-in_err-object-clause-own c =

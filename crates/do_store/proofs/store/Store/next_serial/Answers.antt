@@ -1,9 +1,6 @@
-use Rattle.std.proofs.Common.{arith}
-use Rattle.std.proofs.lemmas.List.{length-map}
-use Rattle.do_store.specs.Listing.{object_serial}
-use Rattle.do_store.specs.Books.{seen}
-use Rattle.do_store.proofs.Listed.{rising-many}
 use Rattle.do_store.proofs.store.Store.next_serial.Goals as goal
+use Rattle.std.proofs.{Common.arith, lemmas.List.length-map}
+use Rattle.do_store.{specs.{Listing.object_serial, Books.seen}, proofs.Listed.rising-many}
 
 pub returns-clause-many : goal.returns-clause-many
 returns-clause-many c =

@@ -1,8 +1,7 @@
-use Rattle.std.proofs.Common.{◌≡◌, ℕ, zero, suc, ◌<◌, Option, None, IsSome, refl, sym, subst, arith}
-use Rattle.do_store.specs.Objects.{stored_at}
-use Rattle.do_store.specs.declared.object.Object.{Object}
-use Rattle.do_store.proofs.Turns.{find-seen, find-none}
 use Rattle.do_store.proofs.store.Store.object.Goals as goal
+use Rattle.std.proofs.Common.{◌≡◌, ℕ, zero, suc, ◌<◌, Option, None, IsSome, refl, sym, subst, arith}
+use Rattle.do_store.specs.{Objects.stored_at, declared.object.Object.Object}
+use Rattle.do_store.proofs.Turns.{find-seen, find-none}
 
 -- what names only stored objects does not name one that is not
 unnamed : (o : Option Object) (names : ℕ) → (0 < names → IsSome o) → o ≡ None → names ≡ 0

@@ -1,16 +1,12 @@
-use Rattle.std.proofs.Common.{◌≡◌, ℕ, ◌<◌, List, [], ◌∷◌}
-use Rattle.std.proofs.Common.{Some, IsSome, map, length, set, slice_get}
+use Rattle.do_store.proofs.store.Store.set_slot.Goals as goal
+use Rattle.std.proofs.Common.{◌≡◌, ℕ, ◌<◌, List, [], ◌∷◌, Some, IsSome, map, length, set, slice_get}
 use Rattle.std.proofs.Common.{refl, arith, ap, sym, ◌∙◌, subst}
-use Rattle.do_store.specs.Names.{value_names, Stored, replaced, find_stored}
-use Rattle.do_store.specs.Books.{seen}
+use Rattle.do_store.specs.{Names.{value_names, Stored, replaced, find_stored}, Books.seen}
 use Rattle.do_store.specs.declared.object.Object.{Object}
 use Rattle.std.proofs.lemmas.Option.{get_or_from_slice_get}
 use Rattle.do_base.specs.declared.values.value.Value.{Value}
-use Rattle.do_store.specs.Steps.{Raises, Lowers}
-use Rattle.do_store.proofs.Edits.{seen-edit}
-use Rattle.do_store.proofs.Turns.{find-seen, behind, stored_some, Slotted, slot_written}
-use Rattle.do_store.proofs.Turns.{books-slotted, Behind}
-use Rattle.do_store.proofs.store.Store.set_slot.Goals as goal
+use Rattle.do_store.{specs.Steps.{Raises, Lowers}, proofs.{Edits.seen-edit, Turns.find-seen}}
+use Rattle.do_store.proofs.Turns.{behind, stored_some, Slotted, slot_written, books-slotted, Behind}
 
 one : (a c : Object) → Some a ≡ Some c → a ≡ c
 one a c e = cc

@@ -1,10 +1,8 @@
+use Rattle.do_store.proofs.store.Store.stored.Goals as goal
 use Rattle.std.proofs.Common.{◌≡◌, ℕ, List, [], ◌∷◌, map, IfOk, refl, ap, subst}
 use Rattle.do_base.specs.names.Names.{ObjectName}
-use Rattle.do_store.specs.Objects.{name_of}
-use Rattle.do_store.specs.Names.{stored_name}
-use Rattle.do_store.specs.Books.{seen}
+use Rattle.do_store.specs.{Objects.name_of, Names.stored_name, Books.seen}
 use Rattle.do_store.specs.declared.object.Object.{Object}
-use Rattle.do_store.proofs.store.Store.stored.Goals as goal
 
 same_names : (node : ℕ) (xs : List Object)
     → map (name_of node) xs ≡ map (stored_name node) (map seen xs)

@@ -1,9 +1,6 @@
-use Rattle.std.proofs.Common.{ℕ}
-use Rattle.std.proofs.Common.{Some}
-use Rattle.std.proofs.Common.{refl, arith, ap, ◌∙◌, subst}
-use Rattle.do_store.specs.Names.{values_name}
-use Rattle.do_store.specs.Steps.{Lowers}
 use Rattle.do_store.proofs.store.Store.sweep.Goals as goal
+use Rattle.std.proofs.Common.{ℕ, Some, refl, arith, ap, ◌∙◌, subst}
+use Rattle.do_store.specs.{Names.values_name, Steps.Lowers}
 
 pub invariant_of-self : goal.invariant_of-self
 invariant_of-self c = let facts =

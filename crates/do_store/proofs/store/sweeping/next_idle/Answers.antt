@@ -1,15 +1,11 @@
-use Rattle.std.proofs.Common.{◌≡◌, ◌≢◌, ℕ, false, List, []}
-use Rattle.std.proofs.Common.{Some, map}
-use Rattle.std.proofs.Common.{refl, arith, ap, sym, ◌∙◌, subst}
-use Rattle.do_store.specs.Objects.{stored_at}
-use Rattle.do_store.specs.Names.{named_in, Stored, replaced, find_stored}
-use Rattle.do_store.specs.Queue.{Queue}
-use Rattle.do_store.specs.Books.{Books, seen}
-use Rattle.do_store.proofs.Edits.{seen-edit, seen-same, split_at, stored-serial}
-use Rattle.do_store.proofs.Ledger.{wrote}
+use Rattle.do_store.proofs.store.sweeping.next_idle.Goals as goal
+use Rattle.std.proofs.Common.{◌≡◌, ◌≢◌, ℕ, false, List, [], Some, map, refl, arith, ap, sym, ◌∙◌}
+use Rattle.std.proofs.Common.{subst}
+use Rattle.do_store.specs.{Objects.stored_at, Names.{named_in, Stored, replaced, find_stored}}
+use Rattle.do_store.specs.{Queue.Queue, Books.{Books, seen}}
+use Rattle.do_store.proofs.{Edits.{seen-edit, seen-same, split_at, stored-serial}, Ledger.wrote}
 use Rattle.do_store.proofs.QueueTurns.{Taken, books-passed, books-busy, books-removed, none_idle}
 use Rattle.do_store.proofs.Turns.{find-seen}
-use Rattle.do_store.proofs.store.sweeping.next_idle.Goals as goal
 
 pub loop-serial-preserved-in_default-get : goal.loop-serial-preserved-in_default-get
 loop-serial-preserved-in_default-get c =

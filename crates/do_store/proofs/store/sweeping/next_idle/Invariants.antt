@@ -1,6 +1,6 @@
+use Rattle.do_store.proofs.store.sweeping.next_idle.Given as goal
 use Rattle.std.proofs.Common.{◌≡◌, ℕ, map, length}
 use Rattle.do_store.specs.Books.{Books, seen}
-use Rattle.do_store.proofs.store.sweeping.next_idle.Given as goal
 
 abbrev pub invariant-loop-serial : goal.invariant-loop-serial
 invariant-loop-serial l = record {

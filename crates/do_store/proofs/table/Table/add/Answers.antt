@@ -1,9 +1,7 @@
-use Rattle.std.proofs.Common.{◌+◌, ◌<◌}
-use Rattle.std.proofs.Common.{refl, arith, ap}
-use Rattle.slab.specs.Slab.{get}
-use Rattle.do_store.specs.Listing.{pair_serial}
-use Rattle.do_store.proofs.Listed.{rising-snoc, listed-added}
 use Rattle.do_store.proofs.table.Table.add.Goals as goal
+use Rattle.std.proofs.Common.{◌+◌, ◌<◌, refl, arith, ap}
+use Rattle.slab.specs.Slab.{get}
+use Rattle.do_store.{specs.Listing.pair_serial, proofs.Listed.{rising-snoc, listed-added}}
 
 pub invariant_of-self : goal.invariant_of-self
 invariant_of-self c =

@@ -1,7 +1,7 @@
+use Rattle.do_store.proofs.table.Table.bound.Goals as goal
 use Rattle.std.proofs.Common.{arith}
 use Rattle.slab.specs.Slab.{get}
 use Rattle.do_store.proofs.Listed.{length-listed, rising-listed}
-use Rattle.do_store.proofs.table.Table.bound.Goals as goal
 
 pub returns-clause-bound : goal.returns-clause-bound
 returns-clause-bound c =

@@ -1,8 +1,7 @@
+use Rattle.do_store.proofs.table.Table.get.Goals as goal
 use Rattle.std.proofs.Common.{sym, ◌∙◌}
 use Rattle.slab.specs.Slab.{get}
-use Rattle.do_store.proofs.FoundKey.{FoundAt, stored-at_key}
-use Rattle.do_store.proofs.Listed.{rising-listed}
-use Rattle.do_store.proofs.table.Table.get.Goals as goal
+use Rattle.do_store.proofs.{FoundKey.{FoundAt, stored-at_key}, Listed.rising-listed}
 
 pub returns-clause-value : goal.returns-clause-value
 returns-clause-value c =

@@ -1,10 +1,9 @@
-use Rattle.std.proofs.Common.{◌≡◌, true, false, sym, ap, ◌∙◌, rules, ◌++◌, ◌∷◌, [], List}
-use Rattle.std.proofs.Common.{get_or}
+use Rattle.do_store.proofs.table.Table.list.Goals as goal
+use Rattle.std.proofs.Common.{◌≡◌, true, false, sym, ap, ◌∙◌, rules, ◌++◌, ◌∷◌, [], List, get_or}
 use Rattle.std.proofs.lemmas.List.{get_or_default}
 use Rattle.slab.specs.Slab.{get}
 use Rattle.do_base.specs.names.Names.{ObjectName}
 use Rattle.do_store.proofs.Closed.{more-live, more-dead}
-use Rattle.do_store.proofs.table.Table.list.Goals as goal
 
 pub loop-pair-preserved-then-not-leads : goal.loop-pair-preserved-then-not-leads
 loop-pair-preserved-then-not-leads c =

@@ -1,6 +1,6 @@
+use Rattle.do_store.proofs.table.Table.next.Goals as goal
 use Rattle.slab.specs.Slab.{get}
 use Rattle.do_store.proofs.Listed.{rising-listed}
-use Rattle.do_store.proofs.table.Table.next.Goals as goal
 
 pub returns-clause-rising : goal.returns-clause-rising
 returns-clause-rising c =

@@ -1,13 +1,11 @@
-use Rattle.std.proofs.Common.{◌≡◌, ◌+◌, ◌≤◌, [], Option, Some}
-use Rattle.std.proofs.Common.{None, arith, ap, sym, ◌∙◌}
+use Rattle.do_store.proofs.table.Table.remove.Goals as goal
+use Rattle.std.proofs.Common.{◌≡◌, ◌+◌, ◌≤◌, [], Option, Some, None, arith, ap, sym, ◌∙◌, OnSome}
+use Rattle.std.proofs.Common.{IfNone}
 use Rattle.slab.specs.Slab.{get, Slab, slab_len}
-use Rattle.std.proofs.Common.{OnSome, IfNone}
-use Rattle.do_store.specs.Listing.{pair_serial, listed, is_live}
-use Rattle.do_store.specs.declared.object.Object.{Object}
+use Rattle.do_store.specs.{Listing.{pair_serial, listed, is_live}, declared.object.Object.Object}
 use Rattle.do_store.proofs.Closed.{listed-filter, rising-filter}
 use Rattle.do_store.proofs.FoundKey.{FoundAt, stored-at_key, edited-none}
 use Rattle.do_store.proofs.Listed.{listed-edited, edit-absent}
-use Rattle.do_store.proofs.table.Table.remove.Goals as goal
 
 pub returns-in_err-key-clause-objects : goal.returns-in_err-key-clause-objects
 returns-in_err-key-clause-objects c =

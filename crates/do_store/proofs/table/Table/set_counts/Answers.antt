@@ -1,11 +1,8 @@
-use Rattle.std.proofs.Common.{List, [], ◌∷◌}
-use Rattle.std.proofs.Common.{refl, sym}
-use Rattle.slab.specs.Slab.{get}
-use Rattle.do_store.specs.Listing.{listed}
-use Rattle.do_store.specs.declared.object.Object.{Object}
-use Rattle.do_store.proofs.FoundKey.{FoundAt, edited-some}
-use Rattle.do_store.proofs.Listed.{listed-edited, edit-absent}
 use Rattle.do_store.proofs.table.Table.set_counts.Goals as goal
+use Rattle.std.proofs.Common.{List, [], ◌∷◌, refl, sym}
+use Rattle.slab.specs.Slab.{get}
+use Rattle.do_store.specs.{Listing.listed, declared.object.Object.Object}
+use Rattle.do_store.proofs.{FoundKey.{FoundAt, edited-some}, Listed.{listed-edited, edit-absent}}
 
 pub returns-in_default-clause-objects : goal.returns-in_default-clause-objects
 returns-in_default-clause-objects c =

@@ -1,12 +1,9 @@
-use Rattle.std.proofs.Common.{List, [], ◌∷◌}
-use Rattle.std.proofs.Common.{refl, sym, ◌∙◌}
+use Rattle.do_store.proofs.table.Table.set_slot.Goals as goal
+use Rattle.std.proofs.Common.{List, [], ◌∷◌, refl, sym, ◌∙◌, set}
 use Rattle.slab.specs.Slab.{get}
-use Rattle.do_store.specs.Listing.{listed}
-use Rattle.do_store.specs.declared.object.Object.{Object}
-use Rattle.std.proofs.Common.{set}
+use Rattle.do_store.specs.{Listing.listed, declared.object.Object.Object}
 use Rattle.do_store.proofs.FoundKey.{FoundAt, stored-at_key, edited-some}
 use Rattle.do_store.proofs.Listed.{listed-edited, edit-absent}
-use Rattle.do_store.proofs.table.Table.set_slot.Goals as goal
 
 pub returns-in_default-clause-objects : goal.returns-in_default-clause-objects
 returns-in_default-clause-objects c =

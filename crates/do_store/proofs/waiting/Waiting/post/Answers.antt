@@ -1,7 +1,6 @@
-use Rattle.std.proofs.Common.{◌≡◌, [], ◌∷◌, ◌++◌, arith, get_or, length, ap, ◌∙◌}
-use Rattle.std.proofs.lemmas.List.{length-set}
-use Rattle.std.proofs.lemmas.Option.{slice_get-get_or}
 use Rattle.do_store.proofs.waiting.Waiting.post.Goals as goal
+use Rattle.std.proofs.Common.{◌≡◌, [], ◌∷◌, ◌++◌, arith, get_or, length, ap, ◌∙◌}
+use Rattle.std.proofs.lemmas.{List.length-set, Option.slice_get-get_or}
 
 pub invariant_of-self : goal.invariant_of-self
 invariant_of-self c =

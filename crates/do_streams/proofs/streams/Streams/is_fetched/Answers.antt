@@ -1,11 +1,9 @@
+use Rattle.do_streams.proofs.streams.Streams.is_fetched.Goals as goal
 use Rattle.std.proofs.Common.{◌≡◌, ◌∙◌, ◌++◌, [], None, ap, is_some, refl, subst, sym}
-use Rattle.std.specs.Prelude.{IsTrue}
-use Rattle.std.proofs.lemmas.Bool.{false≢true}
+use Rattle.std.{specs.Prelude.IsTrue, proofs.lemmas.Bool.false≢true}
 use Rattle.do_streams.specs.declared.spelled.Spelled.{Spelled}
 use Rattle.do_streams.specs.Streamed.{Streamed, outbox_of, spelled_first}
-use Rattle.do_streams.proofs.Placed.{none_of}
-use Rattle.do_streams.proofs.WaitingFrames.{none_waits}
-use Rattle.do_streams.proofs.streams.Streams.is_fetched.Goals as goal
+use Rattle.do_streams.proofs.{Placed.none_of, WaitingFrames.none_waits}
 
 -- what is spelled waits
 pub returns-then-is_some-clause-value : goal.returns-then-is_some-clause-value

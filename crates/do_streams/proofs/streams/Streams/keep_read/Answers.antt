@@ -1,11 +1,10 @@
-use Rattle.std.proofs.Common.{◌∙◌, ◌++◌, List, Option, ap, map, sym}
-use Rattle.std.specs.Prelude.{unwrap_or}
+use Rattle.do_streams.proofs.streams.Streams.keep_read.Goals as goal
+use Rattle.std.{proofs.Common.{◌∙◌, ◌++◌, List, Option, ap, map, sym}, specs.Prelude.unwrap_or}
 use Rattle.do_coder.specs.declared.recent.pair.Pair.{Pair}
 use Rattle.do_network.specs.Links.{Outbox, change_link}
 use Rattle.do_streams.specs.Reading.{names_of}
 use Rattle.do_streams.specs.Streamed.{Streamed, outbox_of, posted_of, spelled_first}
 use Rattle.do_streams.proofs.LinksRead.{kept_outbox, keeps_names, keeps_none, reads}
-use Rattle.do_streams.proofs.streams.Streams.keep_read.Goals as goal
 
 -- the link reads by the names after the frame, also behind what waits
 pub returns-clause-links : goal.returns-clause-links

@@ -1,9 +1,7 @@
-use Rattle.std.proofs.Common.{◌∙◌, [], ap, map, sym}
-use Rattle.do_streams.specs.Reading.{names_of}
-use Rattle.do_streams.specs.Streamed.{Streamed, link_of, posted_of}
-use Rattle.do_streams.proofs.LinksRead.{names_stay}
-use Rattle.do_streams.proofs.Placed.{if_ok}
 use Rattle.do_streams.proofs.streams.Streams.names_read.Goals as goal
+use Rattle.std.proofs.Common.{◌∙◌, [], ap, map, sym}
+use Rattle.do_streams.specs.{Reading.names_of, Streamed.{Streamed, link_of, posted_of}}
+use Rattle.do_streams.proofs.{LinksRead.names_stay, Placed.if_ok}
 
 -- the names of the link are those of the end, since what waits leaves them
 pub returns-clause-names : goal.returns-clause-names

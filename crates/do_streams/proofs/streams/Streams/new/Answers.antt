@@ -1,9 +1,7 @@
-use Rattle.std.proofs.Common.{ap, sym, subst, ◌∙◌}
-use Rattle.do_streams.specs.Ordered.{AllPlaced}
-use Rattle.do_streams.specs.Waits.{Waits}
-use Rattle.do_streams.proofs.LinksRead.{none_read}
-use Rattle.do_streams.proofs.WaitingFrames.{opened_ports}
 use Rattle.do_streams.proofs.streams.Streams.new.Goals as goal
+use Rattle.std.proofs.Common.{ap, sym, subst, ◌∙◌}
+use Rattle.do_streams.specs.{Ordered.AllPlaced, Waits.Waits}
+use Rattle.do_streams.proofs.{LinksRead.none_read, WaitingFrames.opened_ports}
 
 -- no end has read a name yet, and the ports are those of the ends
 pub invariant_of-result : goal.invariant_of-result

@@ -1,9 +1,9 @@
+use Rattle.do_streams.proofs.streams.Streams.next_frame.Goals as goal
 use Rattle.std.proofs.Common.{◌≡◌, ◌∷◌, ◌++◌, ap, subst, sym, ◌∙◌, List, Option}
 use Rattle.do_network.specs.Spelled.{IsSpelledSending}
 use Rattle.do_streams.specs.declared.spelled.Spelled.{Spelled}
 use Rattle.do_streams.specs.Streamed.{Streamed, outbox_of, sending_of, spelled_first}
 use Rattle.do_streams.proofs.streams.Streams.next_frame.Goals.{After-forget}
-use Rattle.do_streams.proofs.streams.Streams.next_frame.Goals as goal
 
 -- what was spelled is the oldest that waits
 is_oldest : (c : After-forget) → c.args.self.now.frames ≡ sending_of c.in-Some.next

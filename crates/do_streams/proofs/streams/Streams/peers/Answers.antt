@@ -1,9 +1,8 @@
+use Rattle.do_streams.proofs.streams.Streams.peers.Goals as goal
 use Rattle.std.proofs.Common.{◌∙◌, ap, map, sym}
 use Rattle.do_network.specs.Links.{Link}
 use Rattle.do_streams.specs.Streamed.{Streamed, posted_of}
-use Rattle.do_streams.proofs.LinksRead.{peers_of}
-use Rattle.do_streams.proofs.Placed.{if_ok}
-use Rattle.do_streams.proofs.streams.Streams.peers.Goals as goal
+use Rattle.do_streams.proofs.{LinksRead.peers_of, Placed.if_ok}
 
 -- the links have the peers of the ends, also behind what waits
 pub returns : goal.returns

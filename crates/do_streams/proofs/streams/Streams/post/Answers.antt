@@ -1,13 +1,9 @@
-use Rattle.std.proofs.Common.{◌≡◌, ◌==◌, ◌∙◌, ap, subst, sym, true}
-use Rattle.std.specs.List.{list_any}
-use Rattle.do_streams.specs.declared.end.Outgoing.{Outgoing}
-use Rattle.do_streams.specs.Ordered.{AllPlaced}
+use Rattle.do_streams.proofs.streams.Streams.post.Goals as goal
+use Rattle.std.{proofs.Common.{◌≡◌, ◌==◌, ◌∙◌, ap, subst, sym, true}, specs.List.list_any}
+use Rattle.do_streams.specs.{declared.end.Outgoing.Outgoing, Ordered.AllPlaced}
 use Rattle.do_streams.specs.Streamed.{Streamed, outbox, streamed_of}
 use Rattle.do_network.specs.Links.{sending}
-use Rattle.do_streams.proofs.FramesInOrder.{posts}
-use Rattle.do_streams.proofs.LinksRead.{all_behind}
-use Rattle.do_streams.proofs.WaitingFrames.{sent_nowhere}
-use Rattle.do_streams.proofs.streams.Streams.post.Goals as goal
+use Rattle.do_streams.proofs.{FramesInOrder.posts, LinksRead.all_behind, WaitingFrames.sent_nowhere}
 
 -- a frame is sent behind all that wait
 pub returns-clause-sent : goal.returns-clause-sent

@@ -1,11 +1,8 @@
-use Rattle.std.proofs.Common.{◌≡◌, ◌∙◌, [], ap, map, subst, sym}
-use Rattle.std.proofs.lemmas.Bool.{false≢true}
-use Rattle.do_network.specs.Frames.{read_frame}
-use Rattle.do_streams.specs.Reading.{IsReading, names_of}
-use Rattle.do_streams.specs.Streamed.{Streamed, link_of, posted_of}
-use Rattle.do_streams.proofs.LinksRead.{names_stay}
-use Rattle.do_streams.proofs.WaitingFrames.{alone_names_none}
 use Rattle.do_streams.proofs.streams.Streams.read.Goals as goal
+use Rattle.std.proofs.{Common.{◌≡◌, ◌∙◌, [], ap, map, subst, sym}, lemmas.Bool.false≢true}
+use Rattle.do_network.specs.Frames.{read_frame}
+use Rattle.do_streams.specs.{Reading.{IsReading, names_of}, Streamed.{Streamed, link_of, posted_of}}
+use Rattle.do_streams.proofs.{LinksRead.names_stay, WaitingFrames.alone_names_none}
 
 -- whatever was named, a frame that carries no packet is read so
 pub returns-then-not-names_objects-clause-read : goal.returns-then-not-names_objects-clause-read

@@ -1,8 +1,8 @@
+use Rattle.do_streams.proofs.streams.Streams.show.Goals as goal
 use Rattle.std.proofs.Common.{◌∙◌, ◌++◌, ap, subst, sym}
 use Rattle.do_network.specs.Links.{Outbox}
 use Rattle.do_streams.specs.Ordered.{AllPlaced}
 use Rattle.do_streams.specs.Streamed.{Streamed, outbox, outbox_of, spelled_first}
-use Rattle.do_streams.proofs.streams.Streams.show.Goals as goal
 
 -- the line leaves the frames
 pub returns-clause-sent : goal.returns-clause-sent

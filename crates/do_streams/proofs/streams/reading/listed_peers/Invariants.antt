@@ -1,7 +1,7 @@
 -- The peers that were listed so far.
+use Rattle.do_streams.proofs.streams.reading.listed_peers.Given as goal
 use Rattle.std.proofs.Common.{◌≡◌, map, take}
 use Rattle.do_streams.specs.declared.end.End.{End}
-use Rattle.do_streams.proofs.streams.reading.listed_peers.Given as goal
 
 -- they are the peers of the ends that were passed
 abbrev pub invariant-loop-end : goal.invariant-loop-end

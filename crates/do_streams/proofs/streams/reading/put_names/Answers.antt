@@ -1,10 +1,8 @@
-use Rattle.std.proofs.Common.{◌∙◌, ap, sym}
-use Rattle.do_streams.specs.declared.end.End.{End}
-use Rattle.do_streams.specs.Streamed.{link_of}
-use Rattle.do_streams.proofs.FramesInOrder.{changed}
-use Rattle.do_streams.proofs.LinksRead.{reads, unlinked}
-use Rattle.do_streams.proofs.WaitingFrames.{as_many, end_at, ports_of_set}
 use Rattle.do_streams.proofs.streams.reading.put_names.Goals as goal
+use Rattle.std.proofs.Common.{◌∙◌, ap, sym}
+use Rattle.do_streams.specs.{declared.end.End.End, Streamed.link_of}
+use Rattle.do_streams.proofs.{FramesInOrder.changed, LinksRead.{reads, unlinked}}
+use Rattle.do_streams.proofs.WaitingFrames.{as_many, end_at, ports_of_set}
 
 -- there is an end for each port
 pub at_mut-requires : goal.at_mut-requires

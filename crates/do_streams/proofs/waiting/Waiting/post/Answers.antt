@@ -1,8 +1,8 @@
+use Rattle.do_streams.proofs.waiting.Waiting.post.Goals as goal
 use Rattle.std.proofs.Common.{◌++◌, ◌+◌, ◌-◌, ◌<◌, ◌∷◌, ◌∙◌, [], ap, length, subst, sym}
 use Rattle.std.proofs.lemmas.List.{length_push}
 use Rattle.do_streams.specs.Waits.{Waits, framed, lined, oldest_first}
 use Rattle.do_streams.proofs.WaitingCells.{behind_oldest, frame_behind, one_place, still_queued}
-use Rattle.do_streams.proofs.waiting.Waiting.post.Goals as goal
 
 -- the frame takes one place
 pub invariant_of-self : goal.invariant_of-self

@@ -1,8 +1,8 @@
+use Rattle.do_streams.proofs.waiting.Waiting.show.Goals as goal
 use Rattle.std.proofs.Common.{◌++◌, ◌+◌, ◌-◌, ◌<◌, ◌∷◌, ◌∙◌, [], ap, arith, length, subst, sym}
 use Rattle.std.proofs.lemmas.List.{length_push}
 use Rattle.do_streams.specs.Waits.{Waits, framed, lined, oldest_first}
 use Rattle.do_streams.proofs.WaitingCells.{line_behind, one_place, still_queued}
-use Rattle.do_streams.proofs.waiting.Waiting.show.Goals as goal
 
 -- the line takes one place
 pub invariant_of-self : goal.invariant_of-self

@@ -1,8 +1,6 @@
-use Rattle.std.proofs.Common.{◌≡◌, false, is_some, arith}
-use Rattle.std.proofs.lemmas.Grind.{common_steps}
-use Rattle.do_table.specs.Entries.{value_of}
-use Rattle.do_table.proofs.AddedEntries.{inserted_is_added}
 use Rattle.do_table.proofs.table.Table.add.Goals as goal
+use Rattle.std.proofs.{Common.{◌≡◌, false, is_some, arith}, lemmas.Grind.common_steps}
+use Rattle.do_table.{specs.Entries.value_of, proofs.AddedEntries.inserted_is_added}
 
 pub returns-in-Ok-clause-ok : goal.returns-in-Ok-clause-ok
 returns-in-Ok-clause-ok g c =

@@ -1,6 +1,5 @@
-use Rattle.do_table.specs.Entries.{entry_shown}
-use Rattle.do_table.specs.laws.TableLaws.{shown_more}
 use Rattle.do_table.proofs.table.Table.names.Goals as goal
+use Rattle.do_table.specs.{Entries.entry_shown, laws.TableLaws.shown_more}
 
 pub loop-at-preserved : goal.loop-at-preserved
 loop-at-preserved g c =

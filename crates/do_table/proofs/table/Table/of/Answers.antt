@@ -1,12 +1,9 @@
+use Rattle.do_table.proofs.table.Table.of.Goals as goal
 use Rattle.std.proofs.Common.{◌≡◌, Some, true, false, not, is_some, length, map, ap, add-one, refl}
-use Rattle.std.proofs.Common.{◌∙◌, arith}
-use Rattle.std.specs.Prelude.{slice_get}
-use Rattle.std.specs.Option.{option_map}
-use Rattle.std.proofs.lemmas.Grind.{common_steps}
-use Rattle.std.proofs.lemmas.Option.{slice_get_read, slice_get-map}
+use Rattle.std.{proofs.Common.{◌∙◌, arith}, specs.{Prelude.slice_get, Option.option_map}}
+use Rattle.std.proofs.lemmas.{Grind.common_steps, Option.{slice_get_read, slice_get-map}}
 use Rattle.do_table.specs.Entries.{value_of, added, are_distinct}
 use Rattle.do_table.specs.laws.TableLaws.{entry_added, entry_refused}
-use Rattle.do_table.proofs.table.Table.of.Goals as goal
 
 pub returns-then-not-branch : goal.returns-then-not-branch
 returns-then-not-branch g c =

@@ -1,6 +1,6 @@
+use Rattle.do_table.proofs.table.Table.of.Given as goal
 use Rattle.std.proofs.Common.{◌≡◌, true, take, map}
 use Rattle.do_table.specs.Entries.{are_distinct}
-use Rattle.do_table.proofs.table.Table.of.Given as goal
 
 abbrev pub invariant-loop-row : goal.invariant-loop-row
 invariant-loop-row g l =

@@ -1,10 +1,8 @@
+use Rattle.do_table.proofs.table.Table.set.Goals as goal
 use Rattle.std.proofs.Common.{◌≡◌, Some, true, false, is_some, position, sym, ap, ◌∙◌, arith}
-use Rattle.std.proofs.lemmas.Grind.{common_steps}
-use Rattle.std.specs.Map.{keys_of}
-use Rattle.std.specs.Str.{bytes_eq}
+use Rattle.std.{proofs.lemmas.Grind.common_steps, specs.{Map.keys_of, Str.bytes_eq}}
 use Rattle.do_table.specs.Entries.{value_of, replaced}
 use Rattle.do_table.proofs.ReplacedEntries.{written_is_replaced, replaced_absent}
-use Rattle.do_table.proofs.table.Table.set.Goals as goal
 
 pub returns-in-Some-clause-new : goal.returns-in-Some-clause-new
 returns-in-Some-clause-new g c =

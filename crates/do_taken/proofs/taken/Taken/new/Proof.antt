@@ -1,4 +1,8 @@
 -- `new` makes the empty struct, with no bytes. Assumes `Logic`.
+use Rattle.do_taken.specs.contracts.taken.Taken as Taken
+use Rattle.do_taken.specs.contracts.taken.Taken.new as F
+use Rattle.do_taken.proofs.taken.Taken.new.Statement as stated
+use Rattle.do_taken.proofs.taken.Taken.new.Code as code
 use Rattle.std.proofs.Common.{[], ◌∷◌, refl}
 use seplogic.Ra.Ura.{Ura}
 use mir.Syntax.{Fn}
@@ -18,17 +22,10 @@ use types.ByLocal.{alloc_all, pass_all, free_all, look_at, sets}
 use denote.RattleType.{owns}
 use denote.Signature.{types_at}
 use denote.Steps.{nothing}
-use denote.Triple.Clauses.{Clauses, Ended, closing}
-use denote.Triple.Entry.{alive}
-use denote.Triple.Spec.{Meets, triple_of}
-use denote.Triple.Table.{entered}
-use denote.Triple.Walked.{says, Stays, walk_of, ends_at, walk_Meets}
+use denote.Triple.{Clauses.{Clauses, Ended, closing}, Entry.alive, Spec.{Meets, triple_of}}
+use denote.Triple.{Table.entered, Walked.{says, Stays, walk_of, ends_at, walk_Meets}}
 use Rattle.bytes.proofs.Walks.{none, none_made}
-use Rattle.do_taken.specs.contracts.taken.Taken as Taken
-use Rattle.do_taken.specs.contracts.taken.Taken.new as F
 use Rattle.do_taken.specs.contracts.taken.Taken.new.Key.{name as #self}
-use Rattle.do_taken.proofs.taken.Taken.new.Statement as stated
-use Rattle.do_taken.proofs.taken.Taken.new.Code as code
 
 abbrev function : Fn
 function = code.function

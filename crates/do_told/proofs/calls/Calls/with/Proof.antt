@@ -1,4 +1,9 @@
 -- `with` makes the empty struct, with the call that its clause names. Assumes `Logic`.
+use Rattle.do_told.specs.contracts.calls.Calls as CallList
+use Rattle.do_told.specs.contracts.calls.Call as Call
+use Rattle.do_told.specs.contracts.calls.Calls.with as F
+use Rattle.do_told.proofs.calls.Calls.with.Statement as stated
+use Rattle.do_told.proofs.calls.Calls.with.Code as code
 use Rattle.std.proofs.Common.{List, [], ◌∷◌, ◌++◌, refl}
 use seplogic.Ra.Ura.{Ura}
 use mir.Syntax.{Fn}
@@ -11,7 +16,8 @@ use contract.Monad.{Fun}
 use contract.Running.{tables, tables_of}
 use sound.WpLaws.{WpFn-mono}
 use types.Logic.{Logic}
-use types.Kit.{‵, raw, ◌⊛◌, prop, ◌$◌, ◌∵◌, !, qed, move, keep, drop, split, fsplit, fjoin, feq_l, regoal, suffices, done}
+use types.Kit.{‵, raw, ◌⊛◌, prop, ◌$◌, ◌∵◌, !, qed, move, keep, drop, split, fsplit, fjoin, feq_l}
+use types.Kit.{regoal, suffices, done}
 use types.Part.{agg}
 use types.Run.{enter, returns, no_more}
 use types.ByLocal.{alloc_all, pass_all, free_all, look_at, sets}
@@ -20,19 +26,11 @@ use denote.RattleType.{owns}
 use denote.Builtin.{RefOf}
 use denote.Signature.{plain, types_at, named_lft}
 use denote.Steps.{nothing}
-use denote.Triple.Clauses.{Clauses, Ended, closing}
-use denote.Triple.Entry.{alive}
-use denote.Triple.Spec.{Meets, triple_of}
+use denote.Triple.{Clauses.{Clauses, Ended, closing}, Entry.alive, Spec.{Meets, triple_of}}
 use denote.Triple.Table.{entered}
 use denote.Triple.Walked.{says, Stays, stay_dropped, walk_of, ends_at, walk_Meets, Goes-dropped}
 use Rattle.bytes.proofs.Walks.{none, none_made}
-use Rattle.do_told.specs.contracts.calls.Calls as CallList
-use Rattle.do_told.specs.contracts.calls.Call as Call
-use Rattle.do_told.specs.Calls.{told_of}
-use Rattle.do_told.specs.contracts.calls.Calls.with as F
-use Rattle.do_told.specs.contracts.calls.Calls.with.Key.{name as #self}
-use Rattle.do_told.proofs.calls.Calls.with.Statement as stated
-use Rattle.do_told.proofs.calls.Calls.with.Code as code
+use Rattle.do_told.specs.{Calls.told_of, contracts.calls.Calls.with.Key.name as #self}
 
 abbrev function : Fn
 function = code.function

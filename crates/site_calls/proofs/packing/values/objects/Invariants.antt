@@ -1,6 +1,6 @@
+use Rattle.site_calls.proofs.packing.values.objects.Given as goal
 use Rattle.std.proofs.Common.{◌≡◌, ◌*◌, length, sum_by}
 use Rattle.do_base.specs.values.Values.{weight_of}
-use Rattle.site_calls.proofs.packing.values.objects.Given as goal
 
 abbrev pub invariant-loop-oid : goal.invariant-loop-oid
 invariant-loop-oid l =

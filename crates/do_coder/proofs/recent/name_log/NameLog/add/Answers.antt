@@ -1,8 +1,7 @@
-use Rattle.std.proofs.Common.{◌≡◌, ℕ, ◌<◌, ◌≤◌, ◌-◌, None, drop, ap, subst, ◌∙◌}
-use Rattle.do_coder.specs.Recent.{place_in}
-use Rattle.do_coder.specs.NameLog.{Tables}
-use Rattle.do_coder.proofs.tables.NameLogLaws.{log_shifted, log_grown}
 use Rattle.do_coder.proofs.recent.name_log.NameLog.add.Goals as goal
+use Rattle.std.proofs.Common.{◌≡◌, ℕ, ◌<◌, ◌≤◌, ◌-◌, None, drop, ap, subst, ◌∙◌}
+use Rattle.do_coder.specs.{Recent.place_in, NameLog.Tables}
+use Rattle.do_coder.proofs.tables.NameLogLaws.{log_shifted, log_grown}
 
 pub invariant_of-self-then-len-self-gt-MOST_PAIRS
     : goal.invariant_of-self-then-len-self-gt-MOST_PAIRS

@@ -1,8 +1,7 @@
-use Rattle.std.proofs.Common.{subst, sym, List}
-use Rattle.do_coder.specs.declared.recent.pair.Pair.{Pair}
-use Rattle.do_coder.specs.NameLog.{IsNameLog}
-use Rattle.do_coder.proofs.tables.NameLogLaws.{log_undone}
 use Rattle.do_coder.proofs.recent.name_log.NameLog.undo.Goals as goal
+use Rattle.std.proofs.Common.{subst, sym, List}
+use Rattle.do_coder.specs.{declared.recent.pair.Pair.Pair, NameLog.IsNameLog}
+use Rattle.do_coder.proofs.tables.NameLogLaws.{log_undone}
 
 pub invariant_of-self : goal.invariant_of-self
 invariant_of-self c =

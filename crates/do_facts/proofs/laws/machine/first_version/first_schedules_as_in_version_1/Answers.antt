@@ -1,7 +1,6 @@
-use Rattle.do_facts.proofs.machine.Opening.{opening_on_time}
-use Rattle.do_facts.proofs.machine.first.Lines.{same_blocks}
-use Rattle.do_facts.proofs.machine.first.Steps.{same_step, stays_on_time}
 use Rattle.do_facts.proofs.laws.machine.first_version.first_schedules_as_in_version_1.Goals as goal
+use Rattle.do_facts.proofs.machine.{Opening.opening_on_time, first.Lines.same_blocks}
+use Rattle.do_facts.proofs.machine.first.Steps.{same_step, stays_on_time}
 
 pub returns : goal.returns
 returns c = record {

@@ -1,7 +1,6 @@
-use Rattle.do_machine.specs.Step.{step}
-use Rattle.do_facts.proofs.machine.Opening.{opening_holds}
-use Rattle.do_facts.proofs.machine.follows.Every.{all_hold, grow_steps}
 use Rattle.do_facts.proofs.laws.machine.nodes.held_over_open_ends.Goals as goal
+use Rattle.do_machine.specs.Step.{step}
+use Rattle.do_facts.proofs.machine.{Opening.opening_holds, follows.Every.{all_hold, grow_steps}}
 
 pub returns : goal.returns
 returns c = record {

@@ -1,9 +1,7 @@
-use Rattle.do_packet.specs.Met.{has_object}
-use Rattle.do_machine.specs.held.Kept.{kept}
-use Rattle.do_machine.specs.held.Leaving.{freeing}
-use Rattle.do_machine.specs.held.Refers.{node_objects}
-use Rattle.do_machine.proofs.Having.{passes_among}
 use Rattle.do_facts.proofs.laws.machine.objects.held_is_referred_to.Goals as goal
+use Rattle.do_packet.specs.Met.{has_object}
+use Rattle.do_machine.specs.held.{Kept.kept, Leaving.freeing, Refers.node_objects}
+use Rattle.do_machine.proofs.Having.{passes_among}
 
 pub returns : goal.returns
 returns c entry n o h =

@@ -1,5 +1,5 @@
-use Rattle.do_facts.proofs.machine.Frame.{elsewhere}
 use Rattle.do_facts.proofs.laws.machine.states.others_stay.Goals as goal
+use Rattle.do_facts.proofs.machine.Frame.{elsewhere}
 
 pub returns : goal.returns
 returns c = record {

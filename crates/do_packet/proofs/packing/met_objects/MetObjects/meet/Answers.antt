@@ -1,8 +1,7 @@
-use Rattle.std.proofs.Common.{◌≡◌, None, Some, ◌∙◌, ap, refl, sym}
-use Rattle.std.specs.List.{position}
+use Rattle.do_packet.proofs.packing.met_objects.MetObjects.meet.Goals as goal
+use Rattle.std.{proofs.Common.{◌≡◌, None, Some, ◌∙◌, ap, refl, sym}, specs.List.position}
 use Rattle.do_packet.specs.Met.{met_one, place, same_object}
 use Rattle.do_packet.proofs.Places.{met_known, met_new, places_push}
-use Rattle.do_packet.proofs.packing.met_objects.MetObjects.meet.Goals as goal
 
 pub returns-in-Some-clause-met : goal.returns-in-Some-clause-met
 returns-in-Some-clause-met c =

@@ -1,9 +1,7 @@
-use Rattle.std.proofs.Common.{◌≡◌, ◌+◌, ◌++◌, [], ◌∷◌, take, arith}
-use Rattle.std.proofs.lemmas.Grind.{common_steps}
-use Rattle.do_packet.specs.Met.{copied_in, named_in}
-use Rattle.do_packet.specs.Parts.{part_of}
-use Rattle.do_packet.proofs.Walks.{walked_list, walked_step}
 use Rattle.do_packet.proofs.packing.walk.Walk.+part.Goals as goal
+use Rattle.std.proofs.{Common.{◌≡◌, ◌+◌, ◌++◌, [], ◌∷◌, take, arith}, lemmas.Grind.common_steps}
+use Rattle.do_packet.specs.{Met.{copied_in, named_in}, Parts.part_of}
+use Rattle.do_packet.proofs.Walks.{walked_list, walked_step}
 
 pub parts-loop-value-preserved : goal.parts-loop-value-preserved
 parts-loop-value-preserved g t c =

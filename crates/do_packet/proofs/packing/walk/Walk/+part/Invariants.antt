@@ -1,9 +1,6 @@
-use Rattle.std.proofs.Common.{map, take}
-use Rattle.std.specs.List.{flat_map}
-use Rattle.do_packet.specs.Met.{copied_in, named_in}
-use Rattle.do_packet.specs.Parts.{part_of}
-use Rattle.do_packet.specs.walk.Walking.{Walked}
 use Rattle.do_packet.proofs.packing.walk.Walk.+part.Given as goal
+use Rattle.std.{proofs.Common.{map, take}, specs.List.flat_map}
+use Rattle.do_packet.specs.{Met.{copied_in, named_in}, Parts.part_of, walk.Walking.Walked}
 
 abbrev pub invariant-parts-loop-value : goal.invariant-parts-loop-value
 invariant-parts-loop-value g l =

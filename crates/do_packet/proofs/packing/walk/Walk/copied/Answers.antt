@@ -1,7 +1,6 @@
-use Rattle.std.proofs.Common.{refl}
-use Rattle.do_packet.specs.Seen.{sender}
-use Rattle.do_packet.proofs.Following.{walked_bare, zip_none}
 use Rattle.do_packet.proofs.packing.walk.Walk.copied.Goals as goal
+use Rattle.std.proofs.Common.{refl}
+use Rattle.do_packet.{specs.Seen.sender, proofs.Following.{walked_bare, zip_none}}
 
 pub returns-in_default-slots : goal.returns-in_default-slots
 returns-in_default-slots g c =

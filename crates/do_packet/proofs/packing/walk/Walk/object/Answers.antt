@@ -1,6 +1,6 @@
+use Rattle.do_packet.proofs.packing.walk.Walk.object.Goals as goal
 use Rattle.std.proofs.Common.{refl, sym, ◌∙◌}
 use Rattle.do_packet.proofs.Walks.{walked_copy, walked_name, walked_nil}
-use Rattle.do_packet.proofs.packing.walk.Walk.object.Goals as goal
 
 pub returns-in_ok-meet-in-Copied : goal.returns-in_ok-meet-in-Copied
 returns-in_ok-meet-in-Copied g c =

@@ -1,12 +1,8 @@
-use Rattle.std.proofs.Common.{◌≡◌, ◌+◌, take, arith, length, false, slice_index_or, ◌<◌, get_or}
-use Rattle.std.specs.List.{zip}
-use Rattle.std.proofs.lemmas.Grind.{common_steps}
-use Rattle.do_packet.specs.Copies.{copied_at, named_at}
-use Rattle.do_packet.specs.Packing.{part_at}
-use Rattle.do_packet.specs.Seen.{sender}
-use Rattle.do_packet.proofs.Following.{zip_next, zip_whole}
-use Rattle.do_packet.proofs.Walks.{walked_step}
 use Rattle.do_packet.proofs.packing.walk.Walk.values.Goals as goal
+use Rattle.std.proofs.Common.{◌≡◌, ◌+◌, take, arith, length, false, slice_index_or, ◌<◌, get_or}
+use Rattle.std.{specs.List.zip, proofs.lemmas.Grind.common_steps}
+use Rattle.do_packet.specs.{Copies.{copied_at, named_at}, Packing.part_at, Seen.sender}
+use Rattle.do_packet.proofs.{Following.{zip_next, zip_whole}, Walks.walked_step}
 
 pub loop-i-preserved : goal.loop-i-preserved
 loop-i-preserved g c =

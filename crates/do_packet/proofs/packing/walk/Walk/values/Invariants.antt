@@ -1,10 +1,7 @@
-use Rattle.std.proofs.Common.{map, take}
-use Rattle.std.specs.List.{flat_map, zip}
-use Rattle.do_packet.specs.Copies.{copied_at, named_at}
-use Rattle.do_packet.specs.Packing.{part_at}
-use Rattle.do_packet.specs.Seen.{sender}
-use Rattle.do_packet.specs.walk.Walking.{Walked}
 use Rattle.do_packet.proofs.packing.walk.Walk.values.Given as goal
+use Rattle.std.{proofs.Common.{map, take}, specs.List.{flat_map, zip}}
+use Rattle.do_packet.specs.{Copies.{copied_at, named_at}, Packing.part_at, Seen.sender}
+use Rattle.do_packet.specs.walk.Walking.{Walked}
 
 abbrev pub invariant-loop-i : goal.invariant-loop-i
 invariant-loop-i g l =

@@ -1,7 +1,7 @@
+use Rattle.do_part.proofs.part.stack.pushing.last_item.Goals as goal
 use Rattle.std.proofs.Common.{ap, sym, ◌∙◌, get_or}
 use Rattle.do_base.specs.declared.values.value.Value.{List}
 use Rattle.do_part.proofs.Pushed.{last-there}
-use Rattle.do_part.proofs.part.stack.pushing.last_item.Goals as goal
 
 -- what is read is the last item of the list
 pub returns : goal.returns

@@ -1,12 +1,10 @@
+use Rattle.do_sorted.proofs.tree.reading.Tree+tuple2+K+V.+search.Goals as goal
 use Rattle.std.proofs.Common.{rules, arith, ◌+◌, ◌-◌, length, T, IfOk, IfErr, sym, ap, ◌∙◌, subst}
 use Rattle.std.specs.FinMap.{is_sorted}
-use Rattle.do_sorted.specs.Places.{IsRowOf, IsGapFor}
-use Rattle.do_sorted.specs.Tree.{items_of, IsCounted}
-use Rattle.do_sorted.proofs.Sides.{sides_shorter}
-use Rattle.do_sorted.proofs.RowOrGap.{row_within, gap_within}
+use Rattle.do_sorted.specs.{Places.{IsRowOf, IsGapFor}, Tree.{items_of, IsCounted}}
+use Rattle.do_sorted.proofs.{Sides.sides_shorter, RowOrGap.{row_within, gap_within}}
 use Rattle.do_sorted.proofs.SidesSorted.{sorted_before, sorted_behind, found_before, absent_before}
 use Rattle.do_sorted.proofs.SidesSorted.{row_here, row_behind, gap_behind}
-use Rattle.do_sorted.proofs.tree.reading.Tree+tuple2+K+V.+search.Goals as goal
 
 -- the keys before that of a node rise, and there are fewer of them
 pub search-requires : goal.search-requires

@@ -1,9 +1,8 @@
+use Rattle.do_sorted.proofs.tree.reading.Tree+tuple2+K+V.+set_value.Goals as goal
 use Rattle.std.proofs.Common.{arith, ◌≡◌, ◌+◌, ◌-◌, ◌<◌, ◌∷◌, ◌++◌, length, set, Some, slice_get}
-use Rattle.std.proofs.Common.{sym, ap, ◌∙◌}
-use Rattle.std.proofs.lemmas.List.{set-append_left}
+use Rattle.std.proofs.{Common.{sym, ap, ◌∙◌}, lemmas.List.set-append_left}
 use Rattle.do_sorted.specs.Tree.{items_of}
 use Rattle.do_sorted.proofs.Sides.{slice_get_here, slice_get_behind, set_here, set_behind}
-use Rattle.do_sorted.proofs.tree.reading.Tree+tuple2+K+V.+set_value.Goals as goal
 
 -- a value set before a node is set there in all rows
 pub returns-then-at-here-clause-after : goal.returns-then-at-here-clause-after

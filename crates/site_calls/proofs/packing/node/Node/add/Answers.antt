@@ -1,5 +1,5 @@
-use Rattle.site_calls.proofs.Light.{light_either}
 use Rattle.site_calls.proofs.packing.node.Node.add.Goals as goal
+use Rattle.site_calls.proofs.Light.{light_either}
 
 pub invariant_of-self : goal.invariant_of-self
 invariant_of-self c = record {

@@ -1,7 +1,7 @@
+use Rattle.site_calls.proofs.parts.store.may.may_be_named.Goals as goal
 use Rattle.std.proofs.Common.{◌∙◌, ap, sym, arith, refl}
 use Rattle.do_base.specs.names.Names.{ObjectName}
 use Rattle.site_calls.proofs.MayName.{foreign_may, stored_may}
-use Rattle.site_calls.proofs.parts.store.may.may_be_named.Goals as goal
 
 pub returns-then-home-port : goal.returns-then-home-port
 returns-then-home-port c = λ yes.
