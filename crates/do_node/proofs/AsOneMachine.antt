@@ -67,7 +67,6 @@ local_replay told word name given sound gives text so = record {
   gives = gives;
   dropped = wires_fall_out (world_transcript given.world given.lines) text so
       ∙ transcript_plain told word name given sound gives;
-  wires = so;
 }
 
 -- a replay added such a text, or the beginning of one

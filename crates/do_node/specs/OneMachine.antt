@@ -12,16 +12,15 @@ use Rattle.do_sched.specs.declared.line.Line.{Line}
 use Rattle.do_trace.specs.Block.{Block}
 use Rattle.do_world.specs.{Mesh.mesh_world, declared.world.World.World}
 use Rattle.do_network.specs.{Net.net_opening, Wired.{WiredBlock, net_blocks}}
-use Rattle.do_agreement.specs.{HasWires.HasWires, WithoutWires.without_wires}
+use Rattle.do_agreement.specs.WithoutWires.{without_wires}
 use Rattle.do_node.specs.{Added.{AddsAll, AddsFirst}, Replaying.world_transcript}
 
--- The text is the transcript of a schedule over one local machine, once the lines that begin with
--- `wire ` are dropped. These are whole lines, put between those of the transcript.
+-- The text is the transcript of a schedule over one local machine, once the whole lines that begin
+-- with `wire ` are dropped.
 pub record IsLocalReplay (told : Option (List NamedFile)) (word name text : List ℕ) : Type 0 where
   pub given : Scheduled
   pub gives : GivesScheduled told word name given
   pub dropped : without_wires text ≡ world_transcript given.world given.lines
-  pub wires : HasWires (world_transcript given.world given.lines) text
 
 -- what each of these lines comes to in the one machine of a world
 abbrev pub local_blocks : World → List Line → List (Block Line)
