@@ -23,3 +23,4 @@ pub mod AsksEnded
 pub mod Made
 pub mod Lent
 pub mod Within
+pub mod Paid

@@ -4,7 +4,7 @@ use Rattle.do_machine.specs.declared.node.Node.{Node}
 use Rattle.do_effects.specs.{Room.Needs, declared.changing.Core.Core}
 
 -- a core came of another: no more objects are stored, held and asked for, and no more is told, and
--- the links read by the same classes, with as many places
+-- the links read by the same classes
 pub record IsBounded (needs : Needs) (before after : Core) : Type 0 where
   pub waiting : before.streams.room ≤ after.streams.room + needs.waiting
   pub stored :

@@ -5,6 +5,7 @@ pub mod Named
 pub mod Room
 pub mod Settled
 pub mod Bounded
+pub mod Paying
 pub mod Plans
 pub mod Outs
 pub mod Taking

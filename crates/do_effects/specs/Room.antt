@@ -55,7 +55,7 @@ pub record HasRoom (needs : Needs) (c : Core) : Type 0 where
   pub waiting : needs.waiting ≤ c.streams.room
 
 -- A core came of another and took no more: all other room is left, no more objects are stored, held
--- and asked for, and the links read by the same classes, with as many places.
+-- and asked for, and the links read by the same classes.
 pub record IsWithin (needs : Needs) (before after : Core) : Type 0 where
   pub part : PartKeepsRoom needs before.part.room after.part.room
   pub waiting : before.streams.room ≤ after.streams.room + needs.waiting

@@ -6,7 +6,7 @@ ghost use Rattle.do_network.specs.Links.{sending};
 ghost use Rattle.do_part.specs.Left.{given_up};
 ghost use Rattle.do_streams.specs.Streamed.{outbox};
 ghost use Rattle.do_effects.specs.{Bounded.HasNoMore, Settled.settle_posts};
-ghost use Rattle.do_effects.specs.{Doing.{cleared, doing, does, moved}, Tidy.IsTidy};
+ghost use Rattle.do_effects.specs.{Doing.{cleared, doing, does, moved}, Paying.Pays, Tidy.IsTidy};
 
 use crate::changing::Core;
 use do_base::{NodeId, Oid, Shown, Token};
@@ -23,6 +23,7 @@ impl Core {
         ensures part { self.new.part ≡ self.old.part }
         ensures shown { self.new.streams.shown ≡ self.old.streams.shown }
         ensures room { self.old.streams.room ≤ self.new.streams.room + length settled.now }
+        ensures bare { self.old.streams.bare ≤ self.new.streams.bare + length settled.now }
         ensures fixed { self.new.streams.fixed ≡ self.old.streams.fixed }
     {
         for token in settled {
@@ -43,6 +44,7 @@ impl Core {
         ensures tidy { IsTidy self.new.part.own }
         ensures room { self.old.streams.room
             ≤ self.new.streams.room + (length self.old.part.own.node.asked + 1) }
+        ensures pays { Pays self.old self.new }
         ensures fixed { self.new.streams.fixed ≡ self.old.streams.fixed }
         ensures settled_room { vec_capacity settled.new ≡ vec_capacity settled.old }
     {
@@ -60,6 +62,7 @@ impl Core {
             ≡ self.old.streams.shown ++ free_shown self.old.part.own.node freed.now }
         ensures out { outbox self.new.streams ≡ outbox self.old.streams }
         ensures room { self.old.streams.room ≤ self.new.streams.room + length freed.now }
+        ensures bare { self.new.streams.bare ≡ self.old.streams.bare }
         ensures fixed { self.new.streams.fixed ≡ self.old.streams.fixed }
     {
         let node = self.part.port();
@@ -76,6 +79,7 @@ impl Core {
         ensures out { outbox self.new.streams
             ≡ fold sending (outbox self.old.streams) (map given_up left.now) }
         ensures shown { self.new.streams.shown ≡ self.old.streams.shown }
+        ensures bare { self.old.streams.bare ≤ self.new.streams.bare + length left.now }
         ensures fixed { self.new.streams.fixed ≡ self.old.streams.fixed }
     {
         for one in left {
@@ -97,6 +101,7 @@ impl Core {
         ensures tidy { IsTidy self.new.part.own }
         ensures fixed { self.new.streams.fixed ≡ self.old.streams.fixed }
         ensures fewer { HasNoMore self.old.part.own.node self.new.part.own.node }
+        ensures pays { Pays self.old self.new }
         ensures freed_room { vec_capacity freed.new ≡ vec_capacity freed.old }
         ensures left_room { vec_capacity left.new ≡ vec_capacity left.old }
     {

@@ -104,6 +104,7 @@ impl Core {
             (settling (wanted o token.lender token.number) self.old.part.own.node) }
         ensures part { self.new.part ≡ self.old.part }
         ensures shown { self.new.streams.shown ≡ self.old.streams.shown }
+        ensures bare { self.old.streams.bare ≤ self.new.streams.bare + 1 }
         ensures within { IsWithin (to_tell 1) self.old self.new }
     {
         if !self.part.is_open(token.lender) {

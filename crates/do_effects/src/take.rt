@@ -6,7 +6,7 @@ ghost use Rattle.std.specs.{Prelude.vec_capacity, List.list_any};
 ghost use Rattle.do_effects.specs.{Doing.doing, Taking.{CanTake, ended_own, is_granted}};
 ghost use Rattle.do_effects.specs.Taking.{on_message, takes, taking_needs};
 ghost use Rattle.do_machine.specs.lend.Asking.{same_wanted};
-ghost use Rattle.do_effects.specs.{Bounded.IsBounded, Tidy.IsTidy};
+ghost use Rattle.do_effects.specs.{Bounded.IsBounded, Paying.{IsEnding, Pays}, Tidy.IsTidy};
 
 use crate::changing::Core;
 use do_base::{Exc, NodeId, Shown, Token};
@@ -166,6 +166,7 @@ impl Core {
         ensures tidy { IsTidy self.new.part.own }
         ensures within { IsBounded (taking_needs self.old.part.own.node item.now
             (Ruling.EndsLend number)) self.old self.new }
+        ensures pays { Pays self.old self.new }
     {
         self.streams.show(line);
         self.part.settle(from, number);
@@ -192,6 +193,7 @@ impl Core {
         ensures tidy { IsTidy self.new.part.own }
         ensures within { IsBounded (taking_needs self.old.part.own.node item.now Ruling.Closes)
             self.old self.new }
+        ensures pays { Pays self.old self.new }
         ensures settled_room { vec_capacity settled.new ≡ vec_capacity settled.old }
     {
         self.streams.show(line);
@@ -221,6 +223,7 @@ impl Core {
         ensures within { IsBounded (taking_needs self.old.part.own.node item.now ruling)
             self.old self.new }
         ensures settled_room { vec_capacity settled.new ≡ vec_capacity settled.old }
+        ensures pays { IsEnding ruling → Pays self.old self.new }
         ensures sure { on_message ruling ≡ false → IsOk result }
     {
         match ruling {

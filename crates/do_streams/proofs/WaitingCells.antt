@@ -1,6 +1,6 @@
 -- Frames and lines in cells: put behind the others of their queue, and taken out before them.
-use Rattle.std.proofs.Common.{◌≡◌, ◌++◌, ◌+◌, ◌-◌, ◌<◌, ◌≤◌, ◌∷◌, ◌∙◌, List, None, Option, Some, []}
-use Rattle.std.proofs.Common.{ap, arith, get_or, length, map, refl, sym, ℕ}
+use Rattle.std.proofs.Common.{◌≡◌, ◌++◌, ◌+◌, ◌≤◌, ◌∷◌, ◌∙◌, List, None, Option, Some, [], ap}
+use Rattle.std.proofs.Common.{get_or, length, map, refl, sym, ℕ}
 use Rattle.std.{specs.Prelude.{MatchOption, slice_get, slice_set}, proofs.lemmas.List.map-append}
 use Rattle.do_base.specs.declared.events.shown.Shown.{Shown}
 use Rattle.do_pool.specs.Pool.{Pool}
@@ -40,13 +40,14 @@ holds pool fs ls e =
     }
 
 -- each place is still room or has one in it
-pub still_queued : (pool : Pool Queued) (fs : List Outgoing) (ls : List Shown) (room places : ℕ) →
-    Holds pool fs ls → room ≤ pool.spare → room + (length fs + length ls) ≡ places →
-    AreQueued pool room places
-still_queued pool fs ls room places h free all = record {
+pub still_queued : (pool : Pool Queued) (fs : List Outgoing) (ls : List Shown)
+    (room bare places : ℕ) → Holds pool fs ls → room ≤ pool.spare → room + length ls ≡ bare →
+    bare + length fs ≡ places → AreQueued pool room bare places
+still_queued pool fs ls room bare places h free lines all = record {
   apart = h.apart;
   free = free;
-  all = (λ j. room + (length (h.frames j) + length (h.lines j))) ∙ all;
+  lines = (λ j. room + length (h.lines j)) ∙ lines;
+  all = (λ j. bare + length (h.frames j)) ∙ all;
 }
 
 -- ---- one queue
@@ -134,14 +135,6 @@ module _ (was now : Pool Queued) (apart : AreApart was) where
       Holds now (framed was) (lined was ++ x ∷ [])
   line_behind x put = holds_lines (lined was ++ x ∷ [])
       (put_behind (λ y. Line y) 1 was now (lined was) lines_here x put)
-
--- ---- places
-
--- what is put into a cell takes one place from what is room
-pub one_place : (room free left n m places : ℕ) → 0 < room → room ≤ free → left + 1 ≡ free →
-    room + (n + m) ≡ places → (room - 1 ≤ left) × (room - 1 + (n + 1 + m) ≡ places)
-one_place room free left n m places some within less all =
-    (omega (arith, some, within, less), omega (arith, some, all))
 
 -- ---- beside a frame that was taken out
 

@@ -7,13 +7,13 @@ use Rattle.do_streams.specs.declared.{end.Outgoing.Outgoing, waiting.Queued.Queu
 use Rattle.do_streams.specs.declared.waiting.Queued.TheVariants.{Frame, Line}
 
 -- the frames that wait, the oldest of them where it was taken out of its cell, the lines that wait,
--- how many more of either fit with no memory taken, and how many places there are
+-- how many more of either fit with no memory taken, and in how many places there is no frame
 pub record Waits : Type 0 where
   pub frames : List Outgoing
   pub oldest : Option Outgoing
   pub shown : List Shown
   pub room : ℕ
-  pub places : ℕ
+  pub bare : ℕ
 
 -- the frames of a queue
 abbrev pub frames_in : List Queued → List Outgoing
@@ -46,20 +46,21 @@ lined pool = lines_in (get_or pool.queues 1 [])
 
 -- what is seen of a region, beside a frame that was taken out
 abbrev pub waits_of : Pool Queued → Option Outgoing → ℕ → ℕ → Waits
-waits_of pool oldest room places = record {
+waits_of pool oldest room bare = record {
   frames = oldest_first oldest (framed pool);
   oldest = oldest;
   shown = lined pool;
   room = room;
-  places = places;
+  bare = bare;
 }
 
 -- frames wait in one queue and lines in the other
 abbrev pub AreApart : Pool Queued → Type 0
 AreApart pool = pool.queues ≡ queues_of (framed pool) (lined pool)
 
--- so, and each place is room or has one of them in it
-pub record AreQueued (pool : Pool Queued) (room places : ℕ) : Type 0 where
+-- so, and each place with no frame in it is room or has a line in it, and each other one a frame
+pub record AreQueued (pool : Pool Queued) (room bare places : ℕ) : Type 0 where
   pub apart : AreApart pool
   pub free : room ≤ pool.spare
-  pub all : room + (length (framed pool) + length (lined pool)) ≡ places
+  pub lines : room + length (lined pool) ≡ bare
+  pub all : bare + length (framed pool) ≡ places

@@ -89,7 +89,7 @@ fn spell_next(
     ensures err { OnErr result ((outbox_of ends.new waiting.new.frames).sent
         ≡ (outbox_of ends.old waiting.old.frames).sent) }
     ensures spare { waiting.old.room ≤ waiting.new.room }
-    ensures places { waiting.new.places ≡ waiting.old.places }
+    ensures bare { waiting.old.bare ≤ waiting.new.bare }
     ensures shown { waiting.new.shown ≡ waiting.old.shown }
     ensures known { (classes : ℕ) → AllKnown classes ends.old → AllKnown classes ends.new }
     ensures ordered { ArePorts ports.now ends.new }
@@ -131,7 +131,7 @@ pub fn spell_if_none(
         ≡ spelled_first spelled.old ++ (outbox_of ends.old waiting.old.frames).sent }
     ensures none { OnOk result (spelled.new ≡ None → waiting.new.frames ≡ []) }
     ensures spare { waiting.old.room ≤ waiting.new.room }
-    ensures places { waiting.new.places ≡ waiting.old.places }
+    ensures bare { waiting.old.bare ≤ waiting.new.bare }
     ensures shown { waiting.new.shown ≡ waiting.old.shown }
     ensures known { (classes : ℕ) → AllKnown classes ends.old → AllKnown classes ends.new }
     ensures ordered { ArePorts ports.now ends.new }

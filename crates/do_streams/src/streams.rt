@@ -22,9 +22,10 @@ use std::marker::Model;
 /// The streams between a site and its peers, and the lines that it shows.
 ///
 /// Contracts see the links as they are behind all frames that wait, what is sent of these frames,
-/// the lines that wait, the room left, and what only `reserve` changes: all the places that there
-/// are, and by how many classes frames are read. A frame is spelled when it is fetched, and not
-/// before: so posting it takes no memory but its place, which is room again once it is fetched.
+/// the lines that wait, the room left, the places with no frame in them, which are room or hold a
+/// line, and by how many classes frames are read, which no step changes. A frame is spelled when it
+/// is fetched, and not before: so posting it takes no memory but its place, which is room again
+/// once it is fetched.
 #[derive(Drop)]
 pub struct Streams {
     ports: Ports,
@@ -77,7 +78,8 @@ impl Streams {
           frames = [];
           shown = [];
           room = 0;
-          fixed = record { classes = classes; places = 0 };
+          bare = 0;
+          fixed = record { classes = classes };
         }) }
     {
         let ends = opening_ends(alloc, peers)?;
@@ -97,13 +99,12 @@ impl Streams {
     /// If memory runs out, nothing changes.
     pub fn reserve(&mut self, more: usize) -> Result<(), AllocError>
         ensures same { self.new
-            ≡ record self.old { room = self.new.room; fixed = self.new.fixed } }
+            ≡ record self.old { room = self.new.room; bare = self.new.bare } }
         ensures ok { OnOk result (more ≤ self.new.room) }
         ensures err { OnErr result (self.new ≡ self.old) }
         ensures kept { self.old.room ≤ self.new.room }
-        ensures classes { self.new.fixed.classes ≡ self.old.fixed.classes }
-        ensures places { self.old.fixed.places ≤ self.new.fixed.places }
-        ensures most { self.new.room ≤ self.new.fixed.places }
+        ensures bare { self.old.bare ≤ self.new.bare }
+        ensures most { self.new.room ≤ self.new.bare }
     {
         self.waiting.reserve(more)
     }
@@ -116,6 +117,7 @@ impl Streams {
             ≡ sending (outbox self.old) (record { to = to; frame = frame }) }
         ensures shown { self.new.shown ≡ self.old.shown }
         ensures room { self.old.room ≤ self.new.room + 1 }
+        ensures bare { self.old.bare ≤ self.new.bare + 1 }
         ensures fixed { self.new.fixed ≡ self.old.fixed }
     {
         if !self.ports.has(to) {
@@ -130,6 +132,7 @@ impl Streams {
         ensures shown { self.new.shown ≡ self.old.shown ++ line ∷ [] }
         ensures sent { outbox self.new ≡ outbox self.old }
         ensures room { self.old.room ≤ self.new.room + 1 }
+        ensures bare { self.new.bare ≡ self.old.bare }
         ensures fixed { self.new.fixed ≡ self.old.fixed }
     {
         self.waiting.show(line);
@@ -155,12 +158,13 @@ impl Streams {
         ensures links { self.new.links ≡ self.old.links }
         ensures shown { self.new.shown ≡ self.old.shown }
         ensures room { self.old.room ≤ self.new.room }
+        ensures bare { self.old.bare ≤ self.new.bare }
         ensures fixed { self.new.fixed ≡ self.old.fixed }
         ensures err { OnErr result
             ((self.new.frames ≡ self.old.frames) × (bytes.new ≡ bytes.old)) }
     {
-        // Most steps send nothing, and their lines are taken out first.
-        if self.is_fetched() {
+        // Most steps send nothing.
+        if self.is_sent() {
             return Ok(None);
         }
         let alloc = bytes.allocator();
@@ -186,19 +190,28 @@ impl Streams {
             (λ line. self.old.shown ≡ line ∷ self.new.shown) }
         ensures sent { outbox self.new ≡ outbox self.old }
         ensures room { self.old.room ≤ self.new.room }
+        ensures bare { self.new.bare ≡ self.old.bare }
         ensures fixed { self.new.fixed ≡ self.old.fixed }
     {
         self.waiting.take_line()
     }
 
-    /// Whether all was fetched: no frame waits, and no line. All places are room then.
-    pub fn is_fetched(&self) -> bool
-        ensures value { IsTrue result ↔ ((self.now.frames ≡ []) × (self.now.shown ≡ [])) }
-        ensures room { IsTrue result → self.now.room ≡ self.now.fixed.places }
+    /// Whether all frames were fetched.
+    fn is_sent(&self) -> bool
+        ensures { IsTrue result ↔ self.now.frames ≡ [] }
     {
         if self.spelled.is_some() {
             return false;
         }
-        self.waiting.is_empty()
+        self.waiting.has_no_frame()
+    }
+
+    /// Whether all lines were taken out. All places that no frame is in are room then.
+    pub fn is_told(&self) -> bool
+        ensures value { IsTrue result ↔ self.now.shown ≡ [] }
+        ensures room { IsTrue result → self.now.room ≡ self.now.bare }
+        ensures most { self.now.room ≤ self.now.bare }
+    {
+        self.waiting.has_no_line()
     }
 }

@@ -28,14 +28,15 @@ pub enum Queued {
 /// The frames to all peers and the lines that wait, for which room is one number.
 ///
 /// Contracts see both lists, the oldest first, how many more of either can be put behind them with
-/// no memory, and how many places there are, which only `reserve` changes. The oldest frame is
-/// taken out of its cell before it is spelled, so its place is room again; it waits before the
-/// others until it is handed out.
+/// no memory, and in how many places there is no frame: these are room or hold a line, so only
+/// frames take of them. The oldest frame is taken out of its cell before it is spelled, so its
+/// place is room again; it waits before the others until it is handed out.
 #[derive(Drop)]
 pub struct Waiting {
     cells: Cells<Queued>,
     oldest: Option<Outgoing>,
     room: usize,
+    bare: usize,
     places: usize,
 }
 
@@ -49,9 +50,9 @@ impl Model for Waiting {
 
     ghost coded = { Prim.hlevel (codes, line.the_row.coded, part.the_row.coded) };
 
-    ghost view = { λ w. waits_of w.cells w.oldest w.room w.places };
+    ghost view = { λ w. waits_of w.cells w.oldest w.room w.bare };
 
-    ghost invariant = { λ w. AreQueued w.cells w.room w.places };
+    ghost invariant = { λ w. AreQueued w.cells w.room w.bare w.places };
 }
 
 /// Takes the oldest frame out of its cell. None exactly where no cell holds one.
@@ -90,12 +91,13 @@ impl Waiting {
     /// Nothing that waits, and no room.
     pub fn new(alloc: Global) -> Result<Waiting, AllocError>
         ensures { IfOk result (λ w. w
-            ≡ record { frames = []; oldest = None; shown = []; room = 0; places = 0 }) }
+            ≡ record { frames = []; oldest = None; shown = []; room = 0; bare = 0 }) }
     {
         Ok(Waiting {
             cells: Cells::new(alloc, 2)?,
             oldest: None,
             room: 0,
+            bare: 0,
             places: 0,
         })
     }
@@ -105,21 +107,23 @@ impl Waiting {
     /// If memory runs out, all is as it was.
     pub fn reserve(&mut self, more: usize) -> Result<(), AllocError>
         ensures same { self.new
-            ≡ record self.old { room = self.new.room; places = self.new.places } }
+            ≡ record self.old { room = self.new.room; bare = self.new.bare } }
         ensures ok { OnOk result (more ≤ self.new.room) }
         ensures err { OnErr result (self.new ≡ self.old) }
         ensures kept { self.old.room ≤ self.new.room }
-        ensures places { self.old.places ≤ self.new.places }
-        ensures most { self.new.room ≤ self.new.places }
+        ensures bare { self.old.bare ≤ self.new.bare }
+        ensures most { self.new.room ≤ self.new.bare }
     {
         if more <= self.room {
             return Ok(());
         }
-        let Some(places) = self.places.checked_add(more - self.room) else {
+        let lacking = more - self.room;
+        let Some(places) = self.places.checked_add(lacking) else {
             return Err(AllocError);
         };
         self.cells.reserve(more as u64)?;
         self.room = more;
+        self.bare += lacking;
         self.places = places;
         Ok(())
     }
@@ -130,10 +134,11 @@ impl Waiting {
         ensures frames { self.new.frames ≡ self.old.frames ++ frame ∷ [] }
         ensures shown { self.new.shown ≡ self.old.shown }
         ensures room { self.new.room + 1 ≡ self.old.room }
-        ensures places { self.new.places ≡ self.old.places }
+        ensures bare { self.new.bare + 1 ≡ self.old.bare }
     {
         self.cells.post(FRAMES, Queued::Frame(frame));
         self.room -= 1;
+        self.bare -= 1;
     }
 
     /// Puts a line behind all that wait, in room that was made before.
@@ -142,7 +147,7 @@ impl Waiting {
         ensures frames { self.new.frames ≡ self.old.frames }
         ensures shown { self.new.shown ≡ self.old.shown ++ line ∷ [] }
         ensures room { self.new.room + 1 ≡ self.old.room }
-        ensures places { self.new.places ≡ self.old.places }
+        ensures bare { self.new.bare ≡ self.old.bare }
     {
         self.cells.post(LINES, Queued::Line(line));
         self.room -= 1;
@@ -154,7 +159,7 @@ impl Waiting {
         ensures frames { self.new.frames ≡ self.old.frames }
         ensures shown { self.new.shown ≡ self.old.shown }
         ensures room { self.old.room ≤ self.new.room }
-        ensures places { self.new.places ≡ self.old.places }
+        ensures bare { self.old.bare ≤ self.new.bare }
     {
         if self.oldest.is_some() {
             return;
@@ -164,6 +169,7 @@ impl Waiting {
         };
         self.oldest = Some(frame);
         self.room += 1;
+        self.bare += 1;
     }
 
     /// The oldest frame. None where it still is in its cell, or none waits.
@@ -180,7 +186,7 @@ impl Waiting {
             → self.old.frames ≡ x ∷ self.new.frames }
         ensures shown { self.new.shown ≡ self.old.shown }
         ensures room { self.new.room ≡ self.old.room }
-        ensures places { self.new.places ≡ self.old.places }
+        ensures bare { self.new.bare ≡ self.old.bare }
     {
         self.oldest.take()
     }
@@ -192,9 +198,9 @@ impl Waiting {
             (λ line. self.old.shown ≡ line ∷ self.new.shown) }
         ensures frames { self.new.frames ≡ self.old.frames }
         ensures room { self.old.room ≤ self.new.room }
-        ensures places { self.new.places ≡ self.old.places }
+        ensures bare { self.new.bare ≡ self.old.bare }
     {
-        if self.is_empty() {
+        if self.has_no_line() {
             return None;
         }
         let line = take_line(&mut self.cells)?;
@@ -202,11 +208,19 @@ impl Waiting {
         Some(line)
     }
 
-    /// Whether nothing waits. All places are room then.
-    pub fn is_empty(&self) -> bool
-        ensures value { IsTrue result ↔ ((self.now.frames ≡ []) × (self.now.shown ≡ [])) }
-        ensures room { IsTrue result → self.now.room ≡ self.now.places }
+    /// Whether no frame waits.
+    pub fn has_no_frame(&self) -> bool
+        ensures { IsTrue result ↔ self.now.frames ≡ [] }
     {
-        self.oldest.is_none() && self.room == self.places
+        self.oldest.is_none() && self.bare == self.places
+    }
+
+    /// Whether no line waits. All places that no frame is in are room then.
+    pub fn has_no_line(&self) -> bool
+        ensures value { IsTrue result ↔ self.now.shown ≡ [] }
+        ensures room { IsTrue result → self.now.room ≡ self.now.bare }
+        ensures most { self.now.room ≤ self.now.bare }
+    {
+        self.room == self.bare
     }
 }

@@ -34,6 +34,13 @@ impl Part {
         self.ends.list()
     }
 
+    /// No more than 64 ends are open.
+    pub fn ends_are_few(&self)
+        ensures { length self.now.own.node.open_to ≤ 64 }
+    {
+        let _node = self.holders.node;
+    }
+
     /// Whether the end towards a peer is open.
     pub fn is_open(&self, peer: NodeId) -> bool
         ensures { result ≡ is_open self.now.own.node peer }

@@ -9,7 +9,7 @@ use Rattle.do_network.specs.Own.{Own}
 use Rattle.do_part.specs.Owned.{Owned}
 use Rattle.do_streams.specs.Streamed.{outbox}
 use Rattle.do_effects.{specs.Tidy.IsTidy, proofs.{LendsSettled.close_told, ObjectsLeft.few_settled}}
-use Rattle.do_effects.proofs.TidyCounts.{counted_is_tidy}
+use Rattle.do_effects.proofs.{Paid.parted_owes, TidyCounts.counted_is_tidy}
 
 -- a node that is parted counts nothing that it does not keep
 pub settle_all-requires-clause-tidy : goal.settle_all-requires-clause-tidy
@@ -65,3 +65,16 @@ returns-clause-room c =
     let post = c.post.ensures.room in
     let tell = c.settle_all.ensures.room in
     omega (arith, few, many, post, tell)
+
+-- which it owed: the end that is closed, and each ask that is over
+pub returns-clause-pays : goal.returns-clause-pays
+returns-clause-pays c =
+    let node = ap (λ (p : Owned). p.own.node) c.settle_all.ensures.part
+    ∙ ap (λ (p : Own). p.node) c.close.ensures.own in
+    let owes = parted_owes c.args.peer c.args.self.now.part.own.node
+    c.settle_all.new.self.part.own.node node c.requires.open in
+    let many = ap (λ (tokens : List TokenName). length tokens)
+    (c.as_slice.ensures.value ∙ c.close.ensures.settled) in
+    let post = c.post.ensures.bare in
+    let tell = c.settle_all.ensures.bare in
+    omega (arith, owes, many, post, tell)

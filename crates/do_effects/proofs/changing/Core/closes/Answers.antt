@@ -31,3 +31,10 @@ returns-clause-within c =
       asked = omega arith;
       fixed = c.close.ensures.fixed ∙ c.show.ensures.fixed;
     }
+
+-- the line takes no place from frames
+pub returns-clause-pays : goal.returns-clause-pays
+returns-clause-pays c =
+    let pays = c.close.ensures.pays in
+    let shown = c.show.ensures.bare in
+    omega (arith, pays, shown)

@@ -2,7 +2,8 @@ use Rattle.do_rules.specs.declared.take.ruling.Ruling.TheVariants as rulings
 use Rattle.do_effects.proofs.changing.Core.ends_lend.Goals as goal
 use Rattle.std.proofs.Common.{refl, sym, ap, arith, subst}
 use Rattle.do_machine.specs.lend.Lending.{with_settled}
-use Rattle.do_effects.specs.{Doing.doing, Taking.taking_needs, Tidy.IsTidy}
+use Rattle.do_network.specs.Own.{Own}
+use Rattle.do_effects.specs.{Doing.doing, Paying.owed, Taking.taking_needs, Tidy.IsTidy}
 use Rattle.do_effects.{specs.declared.changing.Core.Core, proofs.Alone.tidy_node}
 use Rattle.do_effects.proofs.{Did.bounded_node, Judged.{is_quiet, on_quiet}, Taken.node_done}
 
@@ -34,3 +35,10 @@ returns-clause-within c =
     bounded_node (taking_needs p.node c.args.item.now (rulings.EndsLend c.args.number))
     c.args.self.now b (with_settled c.args.from c.args.number p.node) c.settle.ensures.own
     (omega arith) (omega arith) (omega arith) (omega arith) c.show.ensures.fixed
+
+-- and no frame is sent
+pub returns-clause-pays : goal.returns-clause-pays
+returns-clause-pays c =
+    let owes = ap (λ (q : Own). owed q.node) c.settle.ensures.own in
+    let shown = c.show.ensures.bare in
+    omega (arith, owes, shown)

@@ -1,13 +1,15 @@
 use Rattle.do_base.specs.declared.events.shown.Shown.TheVariants as shows
 use Rattle.do_effects.proofs.changing.Core.leave.Goals as goal
-use Rattle.std.{proofs.Common.{◌≡◌, ◌∙◌, ap, arith, length, map, subst, sym}, specs.Prelude.fold}
+use Rattle.std.proofs.Common.{◌≡◌, ◌≤◌, ◌+◌, ◌∙◌, ap, arith, length, map, subst, sym}
+use Rattle.std.specs.Prelude.{fold}
 use Rattle.do_machine.specs.{State.own, held.Leaving.leaving}
 use Rattle.do_network.specs.{Links.{Outbox, sending}, Own.{Own, is_counted}}
 use Rattle.do_part.specs.{Left.given_up, Owned.Owned}
 use Rattle.do_streams.specs.Streamed.{outbox}
-use Rattle.do_effects.specs.{Bounded.HasNoMore, Tidy.IsTidy}
+use Rattle.do_effects.specs.{Bounded.HasNoMore, Paying.owed, Tidy.IsTidy}
 use Rattle.do_effects.proofs.ObjectsLeft.{few_frames, few_freed, few_left, few_lines, left_done}
-use Rattle.do_effects.proofs.{ObjectsLeft.{left_fewer, shown_by_port}, TidyCounts.counted_is_tidy}
+use Rattle.do_effects.proofs.ObjectsLeft.{left_fewer, shown_by_port}
+use Rattle.do_effects.proofs.{Paid.{left_owes, same_frames}, TidyCounts.counted_is_tidy}
 
 -- no more objects are freed than are stored
 pub show_freed-requires : goal.show_freed-requires
@@ -73,3 +75,18 @@ returns-clause-fewer c =
     (sym (ap (λ (q : Owned). q.own) (c.give_back_all.ensures.part ∙ c.show_freed.ensures.part)
     ∙ c.leave.ensures.own))
     (left_fewer p)
+
+-- and it owed a frame for each object that it left
+pub returns-clause-pays : goal.returns-clause-pays
+returns-clause-pays c =
+    let p = c.args.self.now.part.own in
+    let d = leaving (is_counted p) p.node in
+    let owes = subst (λ (q : Own). owed q.node + length d.sent ≤ owed p.node)
+    (sym (ap (λ (q : Owned). q.own) (c.give_back_all.ensures.part ∙ c.show_freed.ensures.part)
+    ∙ c.leave.ensures.own))
+    (left_owes p) in
+    let many = same_frames p.received d.sent c.leave.new.left.items c.leave.ensures.sent in
+    let same = ap (λ xs. length xs) c.as_slice-2.ensures.value in
+    let shown = c.show_freed.ensures.bare in
+    let gives = c.give_back_all.ensures.bare in
+    omega (arith, owes, many, same, shown, gives)

@@ -1,5 +1,5 @@
 use Rattle.do_effects.proofs.changing.Core.settle_all.Goals as goal
-use Rattle.std.proofs.Common.{◌∙◌, ap, length, refl, subst, sym}
+use Rattle.std.proofs.Common.{◌∙◌, ap, arith, length, refl, subst, sym}
 use Rattle.do_machine.specs.Objects.{object_at}
 use Rattle.std.specs.Prelude.{fold}
 use Rattle.do_network.specs.Links.{sending}
@@ -11,8 +11,12 @@ use Rattle.do_effects.proofs.Telling.{telling_begins, telling_ends, telling_next
 
 -- no lender was told yet
 pub loop-token-init : goal.loop-token-init
-loop-token-init c =
-    (telling_begins (length c.args.settled.now) c.args.self.now c.requires.room, refl, refl)
+loop-token-init c = (
+  telling_begins (length c.args.settled.now) c.args.self.now c.requires.room,
+  refl,
+  refl,
+  omega arith,
+)
 
 -- telling leaves the node, which counts nothing that it does not keep
 pub settle-requires-clause-tidy : goal.settle-requires-clause-tidy
@@ -29,6 +33,8 @@ settle-requires-clause-room c =
 pub loop-token-preserved : goal.loop-token-preserved
 loop-token-preserved c =
     let told = c.settle.ensures.settled (object_at 0 0) in
+    let before = c.loop-token.invariant.3 in
+    let one = c.settle.ensures.bare in
     let n = c.args.self.now.part.own.node in (
       telling_next c.loop-token.token-index (length c.args.settled.now) c.args.self.now
           c.loop-token.self c.settle.new.self c.loop-token.invariant.0 c.loop-token-test.true
@@ -44,6 +50,7 @@ loop-token-preserved c =
           ∙ ap (λ (p : Owned). fold sending (outbox c.loop-token.self.streams)
           (settle_post p.own.node c.token-item.result)) c.loop-token.invariant.0.part),
       c.settle.ensures.shown ∙ c.loop-token.invariant.2,
+      omega (arith, before, one),
     )
 
 -- all lenders were told
@@ -53,7 +60,14 @@ returns-clause-out c =
     c.loop-token.token-index (outbox c.args.self.now.streams) (outbox c.loop-token.self.streams)
     c.loop-token-test.false refl c.loop-token.invariant.1
 
--- each in the room of one
+-- each in one place
+pub returns-clause-bare : goal.returns-clause-bare
+returns-clause-bare c =
+    let taken = c.loop-token.invariant.3 in
+    let few = c.loop-token.invariant.0.few in
+    omega (arith, taken, few)
+
+-- and in the room of one
 pub returns-clause-room : goal.returns-clause-room
 returns-clause-room c =
     telling_ends c.loop-token.token-index (length c.args.settled.now) c.args.self.now

@@ -8,7 +8,7 @@ use Rattle.do_effects.proofs.Telling.{telling_next, telling_room}
 -- none was shown yet
 pub loop-freed_serial-init : goal.loop-freed_serial-init
 loop-freed_serial-init c =
-    (telling_begins (length c.args.freed.now) c.args.self.now c.requires, refl, refl)
+    (telling_begins (length c.args.freed.now) c.args.self.now c.requires, refl, refl, refl)
 
 -- there is room for one more
 pub show-requires : goal.show-requires
@@ -36,6 +36,7 @@ loop-freed_serial-preserved c = (
       (get_or c.args.freed.now c.loop-freed_serial.freed_serial-index 0)) ∷ [])
       c.port-node.ensures),
   c.show.ensures.sent ∙ c.loop-freed_serial.invariant.2,
+  c.show.ensures.bare ∙ c.loop-freed_serial.invariant.3,
 )
 
 -- all were shown

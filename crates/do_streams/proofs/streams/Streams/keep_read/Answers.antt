@@ -28,6 +28,7 @@ returns-clause-same c = λ j. record {
       ∙ ap (λ (v : Streamed). v.frames) c.self.view_is) j;
   shown = ap (λ (v : Streamed). v.shown) c.self.view_is j;
   room = ap (λ (v : Streamed). v.room) c.self.view_is j;
+  bare = ap (λ (v : Streamed). v.bare) c.self.view_is j;
   fixed = ap (λ (v : Streamed). v.fixed) c.self.view_is j;
 }
 

@@ -69,28 +69,3 @@ invariant_of-self-2 c = record {
   order = c.spell_if_none.ensures.ordered;
   placed = c.spell_if_none.ensures.placed;
 }
-
--- there are as many places where what was spelled is fetched
-pub returns-clause-fixed : goal.returns-clause-fixed
-returns-clause-fixed c =
-    (λ j. record { classes = c.self.inside.classes; places = c.spell_if_none.ensures.places j })
-    ∙ ap (λ (v : Streamed). v.fixed) c.self.view_is
-
--- where nothing waits
-pub returns-in_default-clause-fixed : goal.returns-in_default-clause-fixed
-returns-in_default-clause-fixed c =
-    (λ j. record { classes = c.self.inside.classes; places = c.spell_if_none.ensures.places j })
-    ∙ ap (λ (v : Streamed). v.fixed) c.self.view_is
-
--- where there is no memory for its bytes
-pub returns-in_err-to-clause-fixed : goal.returns-in_err-to-clause-fixed
-returns-in_err-to-clause-fixed c =
-    (λ j. record { classes = c.self.inside.classes; places = c.spell_if_none.ensures.places j })
-    ∙ ap (λ (v : Streamed). v.fixed) c.self.view_is
-
--- and where there is none to spell it
-pub returns-in_err-spell_if_none-clause-fixed :
-    goal.returns-in_err-spell_if_none-clause-fixed
-returns-in_err-spell_if_none-clause-fixed c =
-    (λ j. record { classes = c.self.inside.classes; places = c.spell_if_none.ensures.places j })
-    ∙ ap (λ (v : Streamed). v.fixed) c.self.view_is

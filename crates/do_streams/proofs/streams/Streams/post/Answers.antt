@@ -1,5 +1,5 @@
 use Rattle.do_streams.proofs.streams.Streams.post.Goals as goal
-use Rattle.std.{proofs.Common.{◌≡◌, ◌==◌, ◌∙◌, ap, subst, sym, true}, specs.List.list_any}
+use Rattle.std.{proofs.Common.{◌≡◌, ◌==◌, ◌∙◌, subst, sym, true}, specs.List.list_any}
 use Rattle.do_streams.specs.{declared.end.Outgoing.Outgoing, Ordered.AllPlaced}
 use Rattle.do_streams.specs.Streamed.{Streamed, outbox, streamed_of}
 use Rattle.do_network.specs.Links.{sending}
@@ -24,12 +24,6 @@ returns-then-not-has-clause-sent c = subst (λ (v : Streamed).
     (sent_nowhere c.self.inside.ports c.self.inside.ends c.self.invariant.order
     c.self.inside.spelled c.self.inside.waiting c.self.inside.classes
     (record { to = c.args.to; frame = c.args.frame }) (sym c.has.ensures ∙ c.if-not-has.true))
-
--- the frame takes one of the places
-pub returns-clause-fixed : goal.returns-clause-fixed
-returns-clause-fixed c =
-    (λ j. record { classes = c.self.inside.classes; places = c.post.ensures.places j })
-    ∙ ap (λ (v : Streamed). v.fixed) c.self.view_is
 
 -- it goes to one of the ports
 pub invariant_of-self : goal.invariant_of-self

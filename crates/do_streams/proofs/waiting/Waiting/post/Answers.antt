@@ -1,8 +1,8 @@
 use Rattle.do_streams.proofs.waiting.Waiting.post.Goals as goal
-use Rattle.std.proofs.Common.{◌++◌, ◌+◌, ◌-◌, ◌<◌, ◌∷◌, ◌∙◌, [], ap, length, subst, sym}
+use Rattle.std.proofs.Common.{◌++◌, ◌-◌, ◌<◌, ◌∷◌, ◌∙◌, [], ap, arith, subst, sym}
 use Rattle.std.proofs.lemmas.List.{length_push}
 use Rattle.do_streams.specs.Waits.{Waits, framed, lined, oldest_first}
-use Rattle.do_streams.proofs.WaitingCells.{behind_oldest, frame_behind, one_place, still_queued}
+use Rattle.do_streams.proofs.WaitingCells.{behind_oldest, frame_behind, still_queued}
 
 -- the frame takes one place
 pub invariant_of-self : goal.invariant_of-self
@@ -10,15 +10,16 @@ invariant_of-self c =
     let was = c.self.inside.cells in
     let some : 0 < c.self.inside.room = subst (λ (v : Waits). 0 < v.room) (sym c.self.view_is)
     c.requires in
-    let place = one_place c.self.inside.room was.spare c.post.new.self.spare (length (framed was))
-    (length (lined was)) c.self.inside.places some c.self.invariant.free c.post.ensures.spare
-    c.self.invariant.all in
+    let free = c.self.invariant.free in
+    let lines = c.self.invariant.lines in
+    let all = c.self.invariant.all in
+    let spare = c.post.ensures.spare in
+    let longer = length_push (framed was) c.args.frame in
     still_queued c.post.new.self (framed was ++ c.args.frame ∷ []) (lined was)
-    (c.self.inside.room - 1) c.self.inside.places
+    (c.self.inside.room - 1) (c.self.inside.bare - 1) c.self.inside.places
     (frame_behind was c.post.new.self c.self.invariant.apart c.args.frame c.post.ensures.queues)
-    place.0
-    ((λ j. c.self.inside.room - 1
-    + (length_push (framed was) c.args.frame j + length (lined was))) ∙ place.1)
+    (omega (arith, some, free, spare)) (omega (arith, some, lines))
+    (omega (arith, some, lines, all, longer))
 
 -- it is behind all that wait
 pub returns-clause-frames : goal.returns-clause-frames

@@ -1,8 +1,8 @@
 use Rattle.do_streams.proofs.waiting.Waiting.show.Goals as goal
-use Rattle.std.proofs.Common.{◌++◌, ◌+◌, ◌-◌, ◌<◌, ◌∷◌, ◌∙◌, [], ap, arith, length, subst, sym}
+use Rattle.std.proofs.Common.{◌++◌, ◌-◌, ◌<◌, ◌∷◌, ◌∙◌, [], ap, arith, subst, sym}
 use Rattle.std.proofs.lemmas.List.{length_push}
 use Rattle.do_streams.specs.Waits.{Waits, framed, lined, oldest_first}
-use Rattle.do_streams.proofs.WaitingCells.{line_behind, one_place, still_queued}
+use Rattle.do_streams.proofs.WaitingCells.{line_behind, still_queued}
 
 -- the line takes one place
 pub invariant_of-self : goal.invariant_of-self
@@ -10,16 +10,15 @@ invariant_of-self c =
     let was = c.self.inside.cells in
     let some : 0 < c.self.inside.room = subst (λ (v : Waits). 0 < v.room) (sym c.self.view_is)
     c.requires in
-    let place = one_place c.self.inside.room was.spare c.post.new.self.spare (length (framed was))
-    (length (lined was)) c.self.inside.places some c.self.invariant.free c.post.ensures.spare
-    c.self.invariant.all in
+    let free = c.self.invariant.free in
+    let lines = c.self.invariant.lines in
+    let spare = c.post.ensures.spare in
+    let longer = length_push (lined was) c.args.line in
     still_queued c.post.new.self (framed was) (lined was ++ c.args.line ∷ [])
-    (c.self.inside.room - 1) c.self.inside.places
+    (c.self.inside.room - 1) c.self.inside.bare c.self.inside.places
     (line_behind was c.post.new.self c.self.invariant.apart c.args.line c.post.ensures.queues)
-    place.0
-    ((λ j. c.self.inside.room - 1
-    + (length (framed was) + length_push (lined was) c.args.line j))
-    ∙ omega (arith, place.1))
+    (omega (arith, some, free, spare)) (omega (arith, some, lines, longer))
+    c.self.invariant.all
 
 -- the frames are as before
 pub returns-clause-frames : goal.returns-clause-frames
