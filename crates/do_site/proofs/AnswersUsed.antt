@@ -201,7 +201,6 @@ module _ (core : Core) (part : Owned) (is : IsTaken core.part part) where
       let pl = place.left in
       let ps = place.settled in
       let pw = place.waiting in
-      let pp = place.places in
       record {
         room = record {
           part = record {
@@ -215,8 +214,7 @@ module _ (core : Core) (part : Owned) (is : IsTaken core.part part) where
         freed = omega (arith, pf, heap);
         left = omega (arith, pl, held);
         settled = omega (arith, ps, asked);
-        waiting = omega (arith, pw, heap, held);
-        places = omega (arith, pp, heap, held, asked);
+        waiting = omega (arith, pw, heap, held, asked);
       }
 
   -- a plan that uses the answer can be carried out

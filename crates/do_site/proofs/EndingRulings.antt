@@ -1,14 +1,16 @@
 -- Rulings by which a lend is over or an end closes: they take no memory.
 use Rattle.do_frames.specs.declared.frame.Frame.TheVariants as frames
 use Rattle.do_rules.specs.declared.take.ruling.Ruling.TheVariants as rulings
-use Rattle.std.proofs.Common.{◌≡◌, ◌≤◌, ℕ, false, refl, arith}
+use Rattle.std.{proofs.Common.{◌≡◌, ◌≤◌, ℕ, false, refl, arith}, specs.Prelude.vec_capacity}
 use Rattle.do_frames.specs.{declared.frame.Frame.Frame, Frames.kind_of, Kinds.kind_number}
 use Rattle.do_machine.specs.{declared.{item.Item.Item, node.Node.Node}, run.Fresh.with_objects}
 use Rattle.do_part.specs.{Filled.made_values, Names.{AreStored, values_of}}
 use Rattle.do_rules.specs.declared.take.ruling.Ruling.{Ruling}
+use Rattle.do_effects.specs.{Bounded.IsBounded, Paying.{IsEnding, Pays}, Room.HasRoom}
 use Rattle.do_effects.specs.Taking.{CanFollow, on_message, ruling_copies, ruling_values}
 use Rattle.do_effects.specs.{Taking.taking_needs, declared.changing.Core.Core}
-use Rattle.do_site.specs.{Room.{HasPlaceFor, HasPlaceToClose, IsEnding}, declared.told.Told.Told}
+use Rattle.do_site.specs.{Room.{HasPlaceToClose, HasPlaceToLeave}, declared.told.Told.Told}
+use Rattle.do_site.proofs.PlacesKept.{closed_place}
 
 -- nothing comes with such a ruling
 pub ending_quiet : (r : Ruling) → IsEnding r → on_message r ≡ false
@@ -61,60 +63,76 @@ ending_can n from item (rulings.Replies answer) e = absurd e
 ending_can n from item (rulings.EndsAsk w) e = absurd e
 ending_can n from item rulings.Stays e = absurd e
 
--- where there is a place for a close there is one for it
-pub ending_place : (item : Item) (r : Ruling) → IsEnding r → (c : Core) (t : Told) →
-    HasPlaceToClose c t → HasPlaceFor (taking_needs c.part.own.node item r) c t
-ending_place item (rulings.EndsLend number) e c t h =
-    let hf = h.places.freed in
-    let hl = h.places.left in
-    let hs = h.places.settled in
-    let hp = h.places.places in
+-- where there is a place for a close there is room for it
+pub ending_room : (item : Item) (r : Ruling) → IsEnding r → (c : Core) (t : Told) →
+    HasPlaceToClose c t → HasRoom (taking_needs c.part.own.node item r) c
+ending_room item (rulings.EndsLend number) e c t h =
     let hw = h.waiting in
     record {
-      room = record {
-        part = record {
-          objects = omega arith;
-          invocations = omega arith;
-          names = omega arith;
-          entries = omega arith;
-        };
-        waiting = omega (arith, hw);
+      part = record {
+        objects = omega arith;
+        invocations = omega arith;
+        names = omega arith;
+        entries = omega arith;
       };
-      freed = omega (arith, hf);
-      left = omega (arith, hl);
-      settled = omega (arith, hs);
       waiting = omega (arith, hw);
-      places = omega (arith, hp);
     }
-ending_place item rulings.Closes e c t h =
-    let hf = h.places.freed in
-    let hl = h.places.left in
-    let hs = h.places.settled in
-    let hp = h.places.places in
+ending_room item rulings.Closes e c t h =
     let hw = h.waiting in
     record {
-      room = record {
-        part = record {
-          objects = omega arith;
-          invocations = omega arith;
-          names = omega arith;
-          entries = omega arith;
-        };
-        waiting = omega (arith, hw);
+      part = record {
+        objects = omega arith;
+        invocations = omega arith;
+        names = omega arith;
+        entries = omega arith;
       };
-      freed = omega (arith, hf);
-      left = omega (arith, hl);
-      settled = omega (arith, hs);
       waiting = omega (arith, hw);
-      places = omega (arith, hp);
     }
-ending_place item (rulings.Begins copies i) e c t h = absurd e
-ending_place item (rulings.Refuses copies reason exc) e c t h = absurd e
-ending_place item (rulings.Answers copies k a) e c t h = absurd e
-ending_place item (rulings.Raises k exc) e c t h = absurd e
-ending_place item (rulings.Replies answer) e c t h = absurd e
-ending_place item (rulings.EndsAsk w) e c t h = absurd e
-ending_place item rulings.Stays e c t h = absurd e
+ending_room item (rulings.Begins copies i) e c t h = absurd e
+ending_room item (rulings.Refuses copies reason exc) e c t h = absurd e
+ending_room item (rulings.Answers copies k a) e c t h = absurd e
+ending_room item (rulings.Raises k exc) e c t h = absurd e
+ending_room item (rulings.Replies answer) e c t h = absurd e
+ending_room item (rulings.EndsAsk w) e c t h = absurd e
+ending_room item rulings.Stays e c t h = absurd e
+
+-- and once it is followed there is a place to leave what nothing holds
+pub ending_left : (item : Item) (r : Ruling) → IsEnding r → (c d : Core) (t u : Told) →
+    HasPlaceToClose c t → IsBounded (taking_needs c.part.own.node item r) c d → Pays c d →
+    vec_capacity u.freed ≡ vec_capacity t.freed → vec_capacity u.left ≡ vec_capacity t.left →
+    vec_capacity u.settled ≡ vec_capacity t.settled → HasPlaceToLeave d u
+ending_left item (rulings.EndsLend number) e c d t u h b pays freed left settled =
+    let hw = h.waiting in
+    let bs = b.stored in
+    let bh = b.held in
+    let ba = b.asked in
+    let bw = b.waiting in
+    closed_place c d t u h
+    (record {
+      stored = omega (arith, bs);
+      held = omega (arith, bh);
+      asked = omega (arith, ba);
+    }) freed left settled pays (omega (arith, bw))
+ending_left item rulings.Closes e c d t u h b pays freed left settled =
+    let hw = h.waiting in
+    let bs = b.stored in
+    let bh = b.held in
+    let ba = b.asked in
+    let bw = b.waiting in
+    closed_place c d t u h
+    (record {
+      stored = omega (arith, bs);
+      held = omega (arith, bh);
+      asked = omega (arith, ba);
+    }) freed left settled pays (omega (arith, bw))
+ending_left item (rulings.Begins copies i) e c d t u h b pays freed left settled = absurd e
+ending_left item (rulings.Refuses copies reason exc) e c d t u h b pays freed left settled =
+    absurd e
+ending_left item (rulings.Answers copies k a) e c d t u h b pays freed left settled = absurd e
+ending_left item (rulings.Raises k exc) e c d t u h b pays freed left settled = absurd e
+ending_left item (rulings.Replies answer) e c d t u h b pays freed left settled = absurd e
+ending_left item (rulings.EndsAsk w) e c d t u h b pays freed left settled = absurd e
+ending_left item rulings.Stays e c d t u h b pays freed left settled = absurd e
 
 -- frames of kind 10 and more are releases, ends of lends and shutdowns
 pub late_kinds : (f : Frame) → 10 ≤ kind_number (kind_of f) →

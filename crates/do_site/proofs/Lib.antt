@@ -25,3 +25,4 @@ pub mod Stored
 pub mod TakenSteps
 pub mod PlacesKept
 pub mod EndingRulings
+pub mod Followed

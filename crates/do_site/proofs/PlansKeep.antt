@@ -1,7 +1,7 @@
 -- What a plan keeps of its node.
 use Rattle.do_machine.specs.declared.verdict.Request.TheVariants as requests
 use Rattle.do_rules.specs.declared.run.delivery.Delivery.TheVariants as deliveries
-use Rattle.std.proofs.Common.{◌≡◌, false, List, [], ◌∷◌, refl, ap, arith, sym, ◌∙◌}
+use Rattle.std.proofs.Common.{◌≡◌, ◌≤◌, false, List, [], ◌∷◌, refl, ap, length, arith, sym, ◌∙◌}
 use Rattle.std.specs.Prelude.{Err, IfOk, Ok, OnOk, Result, Some, slice_get, vec_capacity}
 use Rattle.do_class.specs.Class.{Class}
 use Rattle.do_behave.specs.declared.invocation.Invocation.{Invocation}
@@ -93,38 +93,36 @@ enough_place wants needs c t e p =
     let pl = p.left in
     let ps = p.settled in
     let pw = p.waiting in
-    let pp = p.places in
     record {
       room = enough_room wants needs c e p.room;
       freed = omega (arith, eo, pf);
       left = omega (arith, en, pl);
       settled = omega (arith, en, ps);
       waiting = omega (arith, eo, en, ew, pw);
-      places = omega (arith, eo, en, pp);
     }
 
 -- where a place was made, there is one to leave what is then stored and held
 pub place_left : (wants : Wants) (before after : Core) (t u : Told) →
     HasPlaceFor wants before t → IsBounded wants before after →
     vec_capacity u.freed ≡ vec_capacity t.freed → vec_capacity u.left ≡ vec_capacity t.left →
-    vec_capacity u.settled ≡ vec_capacity t.settled → HasPlaceToLeave after u
-place_left wants before after t u p b freed left settled =
+    vec_capacity u.settled ≡ vec_capacity t.settled →
+    length after.part.own.node.open_to ≤ 64 → after.streams.room ≤ after.streams.bare →
+    HasPlaceToLeave after u
+place_left wants before after t u p b freed left settled few most =
     let bs = b.stored in
     let bh = b.held in
     let ba = b.asked in
     let bw = b.waiting in
-    let bf = ap (λ (f : Fixed). f.places) b.fixed in
     let pf = p.freed in
     let pl = p.left in
     let ps = p.settled in
     let pw = p.waiting in
-    let pp = p.places in
     record {
       places = record {
         freed = omega (arith, bs, pf, freed);
         left = omega (arith, bh, pl, left);
         settled = omega (arith, ba, ps, settled);
-        places = omega (arith, bs, bh, ba, bf, pp);
+        places = omega (arith, bs, bh, ba, bw, pw, few, most);
       };
       waiting = omega (arith, bs, bh, bw, pw);
     }

@@ -28,9 +28,9 @@ seen_of table act c = record {
   shown = c.streams.shown;
 }
 
--- all was fetched: no frame waits, and no line
-abbrev pub IsFetched : Core → Type 0
-IsFetched c = (c.streams.frames ≡ []) × (c.streams.shown ≡ [])
+-- all lines were taken out; frames may wait
+abbrev pub IsTold : Core → Type 0
+IsTold c = c.streams.shown ≡ []
 
 -- an input by which something is given back, or an end closes: a frame of kind 10 or more, which is
 -- a release, the end of a lend, a shutdown or none, a close, or the end of a connection

@@ -132,5 +132,6 @@ pub fn opening(table: &ClassTable, seat: Seat, ports: &Peers) -> Result<Work, Al
 {
     let mut work = built(table, seat, ports)?;
     work.make_room(&Needs::to_tell(0))?;
+    work.has_few();
     Ok(work)
 }

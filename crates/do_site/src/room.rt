@@ -23,17 +23,17 @@ fn reserve_settled(part: &Part, more: u64, settled: &mut Vec<Token>) -> Result<(
 }
 
 /// How many frames and lines a step may add, with those that tell what is then freed, left and
-/// settled, and two for a close.
+/// settled, one for each of 64 ends that may close, and two lines.
 fn waiting_with(told: &Told, needs: &Needs) -> Option<usize>
     ensures { IfSome result (λ n. n ≡ vec_capacity told.now.freed + vec_capacity told.now.left
-        + vec_capacity told.now.settled + 2 + needs.now.waiting) }
+        + vec_capacity told.now.settled + 66 + needs.now.waiting) }
 {
     let told = told
         .freed
         .capacity()
         .checked_add(told.left.capacity())?
         .checked_add(told.settled.capacity())?;
-    told.checked_add(2)?.checked_add(needs.waiting as usize)
+    told.checked_add(66)?.checked_add(needs.waiting as usize)
 }
 
 /// Makes room for a step, and for what is then freed, left and settled.

@@ -1,12 +1,13 @@
 //! A site: what a caller sees of it.
 mod naming;
 
-ghost use Rattle.std.specs.{Prelude.{◌≡◌, ◌==◌, IfOk, IsOk, OnErr, length}, Result.result_map_both};
+ghost use Rattle.std.specs.Prelude.{[], ◌≡◌, ◌==◌, IfOk, IsOk, OnErr, length};
+ghost use Rattle.std.specs.Result.{result_map_both};
 ghost use Rattle.do_machine.specs.{State.is_open, take.Take.can_take};
 ghost use Rattle.do_net.specs.Seen.{FetchesFrame, FetchesShown, FetchesSpelled, at_rest};
 ghost use Rattle.do_net.specs.Turns.{can_act};
 ghost use Rattle.do_network.specs.{Net.opening_part, Site.enabled_input, Snapshot.part_line};
-ghost use Rattle.do_site.specs.Steps.{GivesBack, Handles, IsFetched, done_told, part_of, seen_of};
+ghost use Rattle.do_site.specs.Steps.{GivesBack, Handles, done_told, part_of, seen_of};
 
 use crate::listing::line;
 use crate::opening::opening;
@@ -87,11 +88,12 @@ impl<B: Behaviour + Drop> Site<B> {
     /// what the site has, and what waits, is then as before.
     ///
     /// A frame of kind 10, 11 or 12, a close and the end of a connection take no memory, so that
-    /// what is held and lent can always be given back: no error comes of them where no frame waits
-    /// to be fetched, and no line.
+    /// what is held and lent can always be given back: no error comes of them where no line waits,
+    /// however many frames do.
     #[inline(always)]
     pub fn handle(&mut self, input: &Input) -> Result<Done, AllocError>
-        ensures settles { GivesBack input.now → IsFetched self.old.work.core → IsOk result }
+        ensures settles { GivesBack input.now → self.old.work.core.streams.shown ≡ []
+            → IsOk result }
         ensures handles { Handles (seen_of self.old.table (B.act self.old.acts) self.old.work.core)
             (seen_of self.new.table (B.act self.new.acts) self.new.work.core) result
             (enabled_input self.old.table (B.act self.old.acts) (part_of self.old.work.core)

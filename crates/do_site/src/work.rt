@@ -8,7 +8,7 @@ mod settling;
 mod starting;
 mod taking;
 
-ghost use Rattle.std.specs.Prelude.{◌≡◌, OnOk};
+ghost use Rattle.std.specs.Prelude.{◌≡◌, ◌≤◌, OnOk, length};
 ghost use Rattle.do_effects.specs.{Doing.{cleared, doing, moved}, Tidy.IsTidy};
 ghost use Rattle.do_site.specs.{Kept.StaysBut, Room.{CanSettle, HasPlace, HasPlaceToLeave}};
 ghost use Rattle.do_site.specs.Steps.{IsSame};
@@ -38,6 +38,15 @@ impl Work {
         ensures room { OnOk result (HasPlace needs.now self.new.core self.new.told) }
     {
         make_room(&mut self.core, &mut self.told, needs)
+    }
+
+    /// No more than 64 ends are open, and room is places with no frame in them.
+    pub(crate) fn has_few(&self)
+        ensures ends { length self.now.core.part.own.node.open_to ≤ 64 }
+        ensures most { self.now.core.streams.room ≤ self.now.core.streams.bare }
+    {
+        self.core.part.ends_are_few();
+        let _told = self.core.streams.is_told();
     }
 
     /// Frees what nothing holds any more, and leaves what the node no longer refers to.

@@ -7,9 +7,9 @@ ghost use Rattle.do_machine.specs.{Context.RunContext, run.{Acts.act_rule, Run.n
 ghost use Rattle.do_machine.specs.run.Verdicts.{effect_of};
 ghost use Rattle.do_part.specs.Changed.{act_left_on, changed};
 ghost use Rattle.do_effects.specs.{Doing.doing, Plans.{CanCarryOut, IsRun, IsRunning, plan_effect}};
-ghost use Rattle.do_effects.specs.{Plans.plan_needs, Tidy.IsTidy};
+ghost use Rattle.do_effects.specs.{Plans.plan_needs, Room.HasRoom, Tidy.IsTidy};
 ghost use Rattle.do_site.specs.{Kept.{IsKept, StaysBut}, Plans.{Allows, IsEnough}};
-ghost use Rattle.do_site.specs.Room.{CanSettle, HasPlace, HasPlaceFor, HasPlaceToLeave, to_keep};
+ghost use Rattle.do_site.specs.Room.{CanSettle, HasPlace, HasPlaceToLeave, to_keep};
 ghost use Rattle.do_site.specs.{Running.{IsRunOf, is_step}, Steps.{IsSame, Moves}};
 
 use crate::allowing::allowed;
@@ -44,6 +44,7 @@ impl Work {
         ensures places { CanSettle self.new }
     {
         self.core.carry_out(plan);
+        self.has_few();
         self.leave();
     }
 
@@ -148,7 +149,7 @@ impl Work {
     }
 
     /// Makes room for so many more names to keep. Most steps keep none, and find their room where
-    /// all was fetched that waited.
+    /// no line waits.
     ///
     /// An error means that memory ran out; nothing but room changed then.
     fn make_room_to_keep(&mut self, names: u64) -> Result<(), AllocError>
@@ -156,9 +157,10 @@ impl Work {
         ensures same { IsSame self.old.core self.new.core }
         ensures stays { StaysBut self.old self.new }
         ensures places { CanSettle self.new }
-        ensures room { OnOk result (HasPlaceFor (to_keep names) self.new.core self.new.told) }
+        ensures room { OnOk result (HasRoom (to_keep names) self.new.core) }
+        ensures place { OnOk result (HasPlaceToLeave self.new.core self.new.told) }
     {
-        if names == 0 && self.core.streams.is_fetched() {
+        if names == 0 && self.core.streams.is_told() {
             return Ok(());
         }
         self.make_room(&Needs::to_keep(names))

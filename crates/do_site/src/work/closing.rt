@@ -7,7 +7,7 @@ ghost use Rattle.do_machine.specs.{take.Take.take_effect, declared.item.Item.The
 ghost use Rattle.do_network.specs.Own.{site_context};
 ghost use Rattle.do_effects.specs.Tidy.{IsTidy};
 ghost use Rattle.do_site.specs.{Kept.{StaysBut, StaysKept}, Room.{CanSettle, HasPlaceToClose}};
-ghost use Rattle.do_site.specs.Steps.{Does, IsFetched, IsSame, Moves, close_effect, end_effect};
+ghost use Rattle.do_site.specs.Steps.{Does, IsSame, IsTold, Moves, close_effect, end_effect};
 
 use crate::needs::Needs;
 use crate::work::Work;
@@ -25,17 +25,17 @@ fn closing_frames(part: &Part) -> Option<u64>
 }
 
 impl Work {
-    /// Makes room for a close, and for one line more. Where all was fetched that waited, there is
-    /// room, and no memory is taken.
+    /// Makes room for a close, and for one line more. Where no line waits there is room, and no
+    /// memory is taken.
     pub(super) fn make_room_to_close(&mut self) -> Result<(), AllocError>
         requires { CanSettle self.old }
         ensures same { IsSame self.old.core self.new.core }
         ensures stays { StaysBut self.old self.new }
         ensures places { CanSettle self.new }
         ensures room { OnOk result (HasPlaceToClose self.new.core self.new.told) }
-        ensures sure { IsFetched self.old.core → IsOk result }
+        ensures sure { IsTold self.old.core → IsOk result }
     {
-        if self.core.streams.is_fetched() {
+        if self.core.streams.is_told() {
             return Ok(());
         }
         let Some(frames) = closing_frames(&self.core.part) else {
@@ -49,7 +49,7 @@ impl Work {
 
     /// Closes the end towards a peer, which is open, and leaves what then nothing holds.
     ///
-    /// An error means that memory ran out, which it cannot where all was fetched that waited;
+    /// An error means that memory ran out, which it cannot where no line waits;
     /// nothing but room changed then.
     pub fn close(&mut self, peer: NodeId) -> Result<(), AllocError>
         requires tidy { IsTidy self.old.core.part.own }
@@ -60,7 +60,7 @@ impl Work {
         ensures err { OnErr result (IsSame self.old.core self.new.core) }
         ensures kept { StaysKept self.old self.new }
         ensures places { CanSettle self.new }
-        ensures sure { IsFetched self.old.core → IsOk result }
+        ensures sure { IsTold self.old.core → IsOk result }
     {
         self.make_room_to_close()?;
         self.core.close(peer, &mut self.told.settled);
@@ -81,7 +81,7 @@ impl Work {
         ensures err { OnErr result (IsSame self.old.core self.new.core) }
         ensures kept { StaysKept self.old self.new }
         ensures places { CanSettle self.new }
-        ensures sure { IsFetched self.old.core → IsOk result }
+        ensures sure { IsTold self.old.core → IsOk result }
     {
         self.make_room_to_close()?;
         self.core.streams.show(Shown::Took(Took::End));
@@ -118,6 +118,7 @@ impl Work {
         }
         self.make_room(&Needs::to_push(0))?;
         self.core.part.abandon();
+        self.has_few();
         self.leave();
         Ok(true)
     }
@@ -134,7 +135,7 @@ impl Work {
         ensures err { OnErr result (IsSame self.old.core self.new.core) }
         ensures kept { StaysKept self.old self.new }
         ensures places { CanSettle self.new }
-        ensures sure { IsFetched self.old.core → IsOk result }
+        ensures sure { IsTold self.old.core → IsOk result }
     {
         if !self.core.part.is_open(peer) {
             return Ok(false);
@@ -156,7 +157,7 @@ impl Work {
         ensures err { OnErr result (IsSame self.old.core self.new.core) }
         ensures kept { StaysKept self.old self.new }
         ensures places { CanSettle self.new }
-        ensures sure { IsFetched self.old.core → IsOk result }
+        ensures sure { IsTold self.old.core → IsOk result }
     {
         if !self.core.part.can_take(peer) {
             return Ok(false);

@@ -8,7 +8,7 @@ ghost use Rattle.do_network.specs.{Counting.given_back, Site.{frame_move, site_m
 ghost use Rattle.do_streams.specs.Reading.{AreKnown, IsReadBy, names_of};
 ghost use Rattle.do_effects.specs.{Doing.doing, Tidy.IsTidy};
 ghost use Rattle.do_site.specs.{Kept.StaysKept, Room.CanSettle};
-ghost use Rattle.do_site.specs.Steps.{IsFetched, IsSame, Makes, with_reading};
+ghost use Rattle.do_site.specs.Steps.{IsSame, IsTold, Makes, with_reading};
 
 use crate::work::Work;
 use do_base::{NodeId, Oid, Shown, Took};
@@ -46,7 +46,7 @@ impl Work {
         ensures err { OnErr result (IsSame self.old.core self.new.core) }
         ensures kept { StaysKept self.old self.new }
         ensures places { CanSettle self.new }
-        ensures sure { IsFetched self.old.core → IsOk result }
+        ensures sure { IsTold self.old.core → IsOk result }
     {
         self.make_room_to_close()?;
         self.core.streams.keep_read(from, names);
@@ -76,7 +76,7 @@ impl Work {
         ensures err { OnErr result (IsSame self.old.core self.new.core) }
         ensures kept { StaysKept self.old self.new }
         ensures places { CanSettle self.new }
-        ensures sure { IsFetched self.old.core → IsOk result }
+        ensures sure { IsTold self.old.core → IsOk result }
     {
         self.make_room_to_close()?;
         let node = self.core.part.port();

@@ -6,9 +6,9 @@ ghost use Rattle.do_machine.specs.take.Lines.{item_line};
 ghost use Rattle.do_network.specs.Own.{site_context};
 ghost use Rattle.do_rules.specs.Ruling.{ruling as ruling_on};
 ghost use Rattle.do_streams.specs.Reading.{AreKnown, IsReadBy, names_of};
-ghost use Rattle.do_effects.specs.Doing.{doing};
-ghost use Rattle.do_site.specs.{Kept.IsKept, Room.{CanSettle, IsEnding}};
-ghost use Rattle.do_site.specs.Steps.{IsFetched, IsSame, Makes, item_move, with_reading};
+ghost use Rattle.do_effects.specs.{Doing.doing, Paying.IsEnding};
+ghost use Rattle.do_site.specs.{Kept.IsKept, Room.CanSettle};
+ghost use Rattle.do_site.specs.Steps.{IsSame, IsTold, Makes, item_move, with_reading};
 
 use crate::work::Work;
 use do_base::{Items, NodeId, Shown, Took};
@@ -21,7 +21,7 @@ use std::alloc::AllocError;
 impl Work {
     /// What the ruling says on an item by which something is over is done.
     ///
-    /// An error means that memory ran out, which it cannot where all was fetched that waited;
+    /// An error means that memory ran out, which it cannot where no line waits;
     /// nothing but room changed then.
     fn end_by(
         &mut self,
@@ -47,7 +47,7 @@ impl Work {
         ensures err { OnErr result (IsSame self.old.core self.new.core) }
         ensures kept { IsKept table.now self.new }
         ensures places { CanSettle self.new }
-        ensures sure { IsFetched self.old.core → IsOk result }
+        ensures sure { IsTold self.old.core → IsOk result }
     {
         self.make_room_to_close()?;
         self.follow(table, from, item, Shown::Took(line), ruling, names)
@@ -72,7 +72,7 @@ impl Work {
         ensures err { OnErr result (IsSame self.old.core self.new.core) }
         ensures kept { IsKept table.now self.new }
         ensures places { CanSettle self.new }
-        ensures sure { IsFetched self.old.core → IsOk result }
+        ensures sure { IsTold self.old.core → IsOk result }
     {
         let item = Item::Settled { number };
         let ruling = Ruling::EndsLend { number };
@@ -97,7 +97,7 @@ impl Work {
         ensures err { OnErr result (IsSame self.old.core self.new.core) }
         ensures kept { IsKept table.now self.new }
         ensures places { CanSettle self.new }
-        ensures sure { IsFetched self.old.core → IsOk result }
+        ensures sure { IsTold self.old.core → IsOk result }
     {
         let item = Item::End {
             serials: Items::new(self.core.part.allocator()),

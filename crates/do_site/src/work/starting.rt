@@ -37,6 +37,7 @@ impl Work {
         }
         self.make_room(&Needs::to_push(names))?;
         self.core.part.push(invocation);
+        self.has_few();
         self.leave();
         Ok(())
     }

@@ -11,8 +11,8 @@ ghost use Rattle.do_machine.specs.take.Lines.{item_line};
 ghost use Rattle.do_rules.specs.Ruling.{ruling as ruling_on};
 ghost use Rattle.do_streams.specs.Reading.{AreKnown, IsReadBy, IsReading, names_of};
 ghost use Rattle.do_effects.specs.{Doing.doing, Taking.{CanTake, on_message, taking_needs}};
-ghost use Rattle.do_site.specs.{Kept.{IsKept, StaysBut}, Room.{CanSettle, HasPlaceFor}};
-ghost use Rattle.do_site.specs.{Room.IsReadyToTake, Steps.{Handles, IsFetched, IsSame, Makes}};
+ghost use Rattle.do_site.specs.{Kept.{IsKept, StaysBut}, Room.{CanSettle, HasPlaceToFollow}};
+ghost use Rattle.do_site.specs.{Room.IsReadyToTake, Steps.{Handles, IsSame, IsTold, Makes}};
 ghost use Rattle.do_site.specs.Steps.{item_move, part_of, seen_of, with_reading};
 
 use crate::faults::peer_fault;
@@ -47,7 +47,8 @@ impl Work {
         requires kept { IsKept table.now self.old }
         requires places { CanSettle self.old }
         requires can { CanTake from item.now ruling self.old.core }
-        requires place { HasPlaceFor (taking_needs self.old.core.part.own.node item.now ruling)
+        requires place { HasPlaceToFollow ruling
+            (taking_needs self.old.core.part.own.node item.now ruling)
             self.old.core self.old.told }
         requires judged { ruling
             ≡ ruling_on (site_context table.now self.old.core.part.own) from item.now }
@@ -64,8 +65,11 @@ impl Work {
         ensures sure { on_message ruling ≡ false → IsOk result }
     {
         rulings_are_arrivals();
-        self.core
-            .rule(from, item, line, ruling, &mut self.told.settled)?;
+        let ruled = self
+            .core
+            .rule(from, item, line, ruling, &mut self.told.settled);
+        self.has_few();
+        ruled?;
         self.core.streams.keep_read(from, names);
         self.leave();
         Ok(())
@@ -139,8 +143,8 @@ impl Work {
 
     /// A frame that its peer may send is taken.
     ///
-    /// An error means that memory ran out, which it cannot for a frame of kind 10 or more where all
-    /// was fetched that waited; nothing but room changed then.
+    /// An error means that memory ran out, which it cannot for a frame of kind 10 or more where no
+    /// line waits; nothing but room changed then.
     fn take_allowed(
         &mut self,
         table: &ClassTable,
@@ -159,7 +163,7 @@ impl Work {
         ensures err { OnErr result (IsSame self.old.core self.new.core) }
         ensures kept { IsKept table.now self.new }
         ensures places { CanSettle self.new }
-        ensures sure { 10 ≤ kind_number (kind_of frame) → IsFetched self.old.core → IsOk result }
+        ensures sure { 10 ≤ kind_number (kind_of frame) → IsTold self.old.core → IsOk result }
     {
         match frame {
             Frame::Release { serial, amount } => self.release(from, serial, amount, names),
@@ -193,7 +197,7 @@ impl Work {
             (peer_fault self.old.core.part.own from reading.frame))) }
         ensures kept { IsKept table.now self.new }
         ensures places { CanSettle self.new }
-        ensures sure { 10 ≤ kind_number (kind_of reading.frame) → IsFetched self.old.core
+        ensures sure { 10 ≤ kind_number (kind_of reading.frame) → IsTold self.old.core
             → IsOk result }
     {
         let Reading { frame, names } = reading;
@@ -229,8 +233,8 @@ impl Work {
 
     /// The next frame of a peer is taken, where the node can take one.
     ///
-    /// An error means that memory ran out, which it cannot for a frame of kind 10 or more where all
-    /// was fetched that waited; nothing but room changed then.
+    /// An error means that memory ran out, which it cannot for a frame of kind 10 or more where no
+    /// line waits; nothing but room changed then.
     pub fn take(
         &mut self,
         table: &ClassTable,
@@ -244,7 +248,7 @@ impl Work {
             (frame_input table.now (part_of self.old.core) from raw.now) }
         ensures kept { IsKept table.now self.new }
         ensures places { CanSettle self.new }
-        ensures sure { 10 ≤ raw.now.kind → IsFetched self.old.core → IsOk result }
+        ensures sure { 10 ≤ raw.now.kind → IsTold self.old.core → IsOk result }
     {
         if !self.core.part.can_take(from) {
             return Ok(Done::Skipped);

@@ -28,4 +28,4 @@ returns-clause-kept c =
 pub returns-clause-places : goal.returns-clause-places
 returns-clause-places c =
     made_places c.to_tell.result c.make_room.new.self.core c.make_room.new.self.told
-    c.in_ok-make_room.ensures.room
+    c.in_ok-make_room.ensures.room c.has_few.ensures.ends c.has_few.ensures.most

@@ -17,7 +17,7 @@ leave-requires-clause-place c =
     c.in_ok-make_room_to_close.ensures.room
     (parted_fewer c.args.peer mid.core.part.own.node c.close.new.self.part.own.node
     c.close.ensures.node)
-    refl refl c.close.ensures.settled_room c.close.ensures.fixed (omega (arith, room))
+    refl refl c.close.ensures.settled_room c.close.ensures.pays (omega (arith, room))
 
 -- what a site keeps true is true then
 pub returns-clause-kept : goal.returns-clause-kept

@@ -12,14 +12,15 @@ pub leave-requires-clause-place : goal.leave-requires-clause-place
 leave-requires-clause-place c =
     let mid = c.make_room_to_close.new.self in
     let line = c.show.ensures.room in
+    let bare = c.show.ensures.bare in
+    let pays = c.close.ensures.pays in
     let room = c.close.ensures.room in
     closed_place mid.core c.close.new.self mid.told
     (record mid.told { settled = c.close.new.settled })
     c.in_ok-make_room_to_close.ensures.room
     (parted_fewer c.args.peer mid.core.part.own.node c.close.new.self.part.own.node
     c.close.ensures.node)
-    refl refl c.close.ensures.settled_room (c.close.ensures.fixed ∙ c.show.ensures.fixed)
-    (omega (arith, line, room))
+    refl refl c.close.ensures.settled_room (omega (arith, pays, bare)) (omega (arith, line, room))
 
 -- what a site keeps true is true then
 pub returns-clause-kept : goal.returns-clause-kept

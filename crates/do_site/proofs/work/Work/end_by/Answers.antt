@@ -1,5 +1,5 @@
 use Rattle.do_site.proofs.work.Work.end_by.Goals as goal
-use Rattle.std.{proofs.Common.{◌≡◌, ◌∙◌, ap, false, subst, sym, true}, specs.Prelude.IfSome}
+use Rattle.std.{proofs.Common.{◌≡◌, ◌∙◌, ap, false, subst, sym, true, inr}, specs.Prelude.IfSome}
 use Rattle.do_base.specs.declared.events.shown.Shown.TheVariants.{Took}
 use Rattle.do_machine.specs.{State.is_open, take.Lines.item_line}
 use Rattle.do_network.specs.Own.{Own, site_context}
@@ -7,7 +7,7 @@ use Rattle.do_rules.specs.Ruling.{ruling}
 use Rattle.do_streams.specs.Reading.{AreKnown, IsReadBy, names_of}
 use Rattle.do_effects.specs.{Doing.{Doing, moved}, Tidy.IsTidy}
 use Rattle.do_site.{specs.Steps.{item_move, with_reading}, proofs.ActsDone.{on_err, same_kept}}
-use Rattle.do_site.proofs.EndingRulings.{ending_can, ending_copies, ending_place, ending_quiet}
+use Rattle.do_site.proofs.EndingRulings.{ending_can, ending_copies, ending_room, ending_quiet}
 use Rattle.do_site.proofs.{EndingRulings.ending_values, PlansKeep.on_ok}
 
 pub follow-requires-clause-judged : goal.follow-requires-clause-judged
@@ -39,16 +39,14 @@ follow-requires-clause-can c =
       copies = ending_copies r c.requires.over mid.core.part.own.node;
       values = ending_values r c.requires.over mid.core.part.own.node;
       can = ending_can mid.core.part.own.node c.args.from c.args.item.now r c.requires.over;
-      room = (ending_place c.args.item.now r c.requires.over mid.core mid.told
-          c.in_ok-make_room_to_close.ensures.room).room;
+      room = ending_room c.args.item.now r c.requires.over mid.core mid.told
+          c.in_ok-make_room_to_close.ensures.room;
     }
 
 -- in the place that there is for a close
 pub follow-requires-clause-place : goal.follow-requires-clause-place
 follow-requires-clause-place c =
-    let mid = c.make_room_to_close.new.self in
-    ending_place c.args.item.now c.args.ruling c.requires.over mid.core mid.told
-    c.in_ok-make_room_to_close.ensures.room
+    inr (c.requires.over, c.in_ok-make_room_to_close.ensures.room)
 
 -- making room leaves what a site keeps true
 pub follow-requires-clause-kept : goal.follow-requires-clause-kept

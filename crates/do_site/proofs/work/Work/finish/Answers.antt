@@ -11,6 +11,7 @@ leave-requires-clause-place c =
     place_left (plan_needs c.args.plan) c.args.self.now.core c.carry_out.new.self told told
     (enough_place (plan_needs c.args.plan) c.args.needs.now c.args.self.now.core told
     c.requires.enough c.requires.place) c.carry_out.ensures.within refl refl refl
+    c.has_few.ensures.ends c.has_few.ensures.most
 
 -- the plan is carried out, and then what nothing holds is left
 pub returns-clause-done : goal.returns-clause-done

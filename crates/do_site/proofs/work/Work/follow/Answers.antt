@@ -1,10 +1,16 @@
 use Rattle.do_site.proofs.work.Work.follow.Goals as goal
-use Rattle.std.{proofs.Common.{◌≡◌, ap, refl, sym, subst, ◌∙◌}, specs.Prelude.IfSome}
+use Rattle.std.{proofs.Common.{◌≡◌, ◌≤◌, ap, refl, sym, subst, ◌∙◌}, specs.Prelude.IfSome}
 use Rattle.do_streams.specs.{Reading.{AreKnown, IsReadBy}, Streamed.{Fixed, Streamed}}
 use Rattle.do_effects.specs.{Doing.{Doing, doing}, Taking.taking_needs}
 use Rattle.do_site.specs.{Steps.with_reading, declared.told.Told.Told}
-use Rattle.do_site.proofs.{PlacesKept.read_place, PlansKeep.place_left}
+use Rattle.do_site.proofs.{PlacesKept.read_place, Followed.{left_by, settled_by}}
 use Rattle.do_site.proofs.TakenSteps.{follows, names_taken, taken_apart, taken_then_left}
+
+-- there is room to tell of what is settled
+pub rule-requires-clause-settled : goal.rule-requires-clause-settled
+rule-requires-clause-settled c =
+    settled_by (taking_needs c.args.self.now.core.part.own.node c.args.item.now c.args.ruling)
+    c.args.ruling c.args.self.now.core c.args.self.now.told c.requires.place
 
 pub keep_read-requires : goal.keep_read-requires
 keep_read-requires c =
@@ -17,9 +23,12 @@ leave-requires-clause-place c =
     let old = c.args.self.now in
     let told : Told = record old.told { settled = c.rule.new.settled } in
     read_place c.rule.new.self c.keep_read.new.self told c.keep_read.ensures.same
-    (place_left (taking_needs old.core.part.own.node c.args.item.now c.args.ruling) old.core
-    c.rule.new.self old.told told c.requires.place c.rule.ensures.within refl refl
-    c.rule.ensures.settled_room)
+    (left_by c.args.item.now c.args.ruling old.core c.rule.new.self old.told told c.requires.place
+    c.rule.ensures.within c.rule.ensures.pays refl refl c.rule.ensures.settled_room
+    c.has_few.ensures.ends
+    (subst (λ (s : Streamed). s.room ≤ s.bare → c.rule.new.self.streams.room
+    ≤ c.rule.new.self.streams.bare) (sym c.keep_read.ensures.same) (λ most. most)
+    c.has_few.ensures.most))
 
 -- the ruling is done, the frame is read, and then what nothing holds is left
 pub returns-clause-ok : goal.returns-clause-ok

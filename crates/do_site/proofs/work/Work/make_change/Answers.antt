@@ -33,7 +33,7 @@ step-requires-clause-step c =
 -- there is room for the names that are given and written
 pub step-requires-clause-names : goal.step-requires-clause-names
 step-requires-clause-names c =
-    let room = c.in_ok-make_room_to_keep.ensures.room.room.part.names in
+    let room = c.in_ok-make_room_to_keep.ensures.room.part.names in
     let count = c.in-Some.ensures.counted in
     omega (arith, room, count)
 
@@ -82,22 +82,23 @@ returns-clause-stays c = record {
 pub returns-clause-room : goal.returns-clause-room
 returns-clause-room c =
     let keeps = change_keeps c.args.change c.make_room_to_keep.new.self.core.part.own.node in
-    let place = c.in_ok-make_room_to_keep.ensures.room in
+    let place = c.in_ok-make_room_to_keep.ensures.place in
     on_ok c.step.result (λ own.
     let count = ap (λ (p : Own). length p.node.heap) own ∙ keeps.count in
     let held = ap (λ (p : Own). length p.node.held) own ∙ ap (λ os. length os) keeps.held in
     let asked = ap (λ (p : Own). length p.node.asked) own ∙ ap (λ ws. length ws) keeps.asked in
-    let pf = place.freed in
-    let pl = place.left in
-    let ps = place.settled in
+    let ends = ap (λ (p : Own). length p.node.open_to) own ∙ ap (λ ps. length ps) keeps.ends in
+    let pf = place.places.freed in
+    let pl = place.places.left in
+    let ps = place.places.settled in
+    let pp = place.places.places in
     let pw = place.waiting in
-    let pp = place.places in
     record {
       places = record {
         freed = omega (arith, count, pf);
         left = omega (arith, held, pl);
         settled = omega (arith, asked, ps);
-        places = omega (arith, count, held, asked, pp);
+        places = omega (arith, count, held, asked, ends, pp);
       };
       waiting = omega (arith, count, held, pw);
     }) c.step.ensures.own
@@ -114,11 +115,13 @@ returns-clause-places c =
     let count = ap (λ (p : Own). length p.node.heap) own ∙ keeps.count in
     let held = ap (λ (p : Own). length p.node.held) own ∙ ap (λ os. length os) keeps.held in
     let asked = ap (λ (p : Own). length p.node.asked) own ∙ ap (λ ws. length ws) keeps.asked in
+    let ends = ap (λ (p : Own). length p.node.open_to) own ∙ ap (λ ps. length ps) keeps.ends in
     places_fewer mid.core new mid.told mid.told
     (record {
       stored = omega (arith, count);
       held = omega (arith, held);
       asked = omega (arith, asked);
-    }) (omega arith) (omega arith) (omega arith) (omega arith) places) c.step.ensures.own)
+    }) (omega (arith, held, asked, ends)) (omega arith) (omega arith) (omega arith) places)
+    c.step.ensures.own)
     (on_err c.step.result (λ own. places_same mid.core new mid.told mid.told own (omega arith)
     (omega arith) (omega arith) (omega arith) places) c.step.ensures.err)

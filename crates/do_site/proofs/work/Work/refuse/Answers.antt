@@ -12,15 +12,15 @@ pub leave-requires-clause-place : goal.leave-requires-clause-place
 leave-requires-clause-place c =
     let mid = c.make_room_to_close.new.self in
     let line = ap (λ (s : Streamed). s.room) c.keep_read.ensures.same in
+    let bare = ap (λ (s : Streamed). s.bare) c.keep_read.ensures.same in
+    let pays = c.close.ensures.pays in
     let room = c.close.ensures.room in
     closed_place mid.core c.close.new.self mid.told
     (record mid.told { settled = c.close.new.settled })
     c.in_ok-make_room_to_close.ensures.room
     (parted_fewer c.args.from mid.core.part.own.node c.close.new.self.part.own.node
     c.close.ensures.node)
-    refl refl c.close.ensures.settled_room
-    (c.close.ensures.fixed ∙ ap (λ (s : Streamed). s.fixed) c.keep_read.ensures.same)
-    (omega (arith, line, room))
+    refl refl c.close.ensures.settled_room (omega (arith, pays, bare)) (omega (arith, line, room))
 
 pub returns-clause-kept : goal.returns-clause-kept
 returns-clause-kept c table k =

@@ -41,6 +41,9 @@ leave-requires-clause-place c =
     let asked = ap (λ (p : Own). length p.node.asked) c.give_back.ensures in
     let read = ap (λ (s : Streamed). s.room) c.keep_read.ensures.same in
     let line = c.show.ensures.room in
+    let ends = ap (λ (p : Own). length p.node.open_to) c.give_back.ensures in
+    let bare = ap (λ (s : Streamed). s.bare) c.keep_read.ensures.same in
+    let shown = c.show.ensures.bare in
     closed_place mid.core
     (record mid.core { part = c.give_back.new.part; streams = c.show.new.self })
     mid.told mid.told c.in_ok-make_room_to_close.ensures.room
@@ -49,8 +52,7 @@ leave-requires-clause-place c =
       held = omega (arith, held);
       asked = omega (arith, asked);
     }) refl refl refl
-    (c.show.ensures.fixed ∙ ap (λ (s : Streamed). s.fixed) c.keep_read.ensures.same)
-    (omega (arith, read, line))
+    (omega (arith, held, asked, ends, bare, shown)) (omega (arith, read, line))
 
 pub returns-clause-ok : goal.returns-clause-ok
 returns-clause-ok c table f read is =

@@ -1,5 +1,5 @@
 use Rattle.do_site.proofs.work.Work.take_item.Goals as goal
-use Rattle.std.{proofs.Common.{◌≡◌, ◌∙◌, ap, false, subst, sym, true}, specs.Prelude.IfSome}
+use Rattle.std.{proofs.Common.{◌≡◌, ◌∙◌, ap, false, inl, subst, sym, true}, specs.Prelude.IfSome}
 use Rattle.do_base.specs.declared.events.shown.Shown.TheVariants.{Took}
 use Rattle.do_machine.specs.{State.is_open, take.Lines.item_line}
 use Rattle.do_network.specs.Own.{Own, site_context}
@@ -43,7 +43,7 @@ follow-requires-clause-can c =
 
 -- in the place that was made
 pub follow-requires-clause-place : goal.follow-requires-clause-place
-follow-requires-clause-place c = c.in-Ok-make_room_to_take.ensures.ready.place
+follow-requires-clause-place c = inl c.in-Ok-make_room_to_take.ensures.ready.place
 
 -- making room leaves what a site keeps true
 pub follow-requires-clause-kept : goal.follow-requires-clause-kept

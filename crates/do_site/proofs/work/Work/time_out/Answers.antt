@@ -51,7 +51,7 @@ leave-requires-clause-place c =
       held = omega (arith, held);
       asked = omega (arith, asked);
       fixed = refl;
-    }) refl refl refl
+    }) refl refl refl c.has_few.ensures.ends c.has_few.ensures.most
 
 -- what a site keeps true is true then
 pub returns-clause-kept : goal.returns-clause-kept
