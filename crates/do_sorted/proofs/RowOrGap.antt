@@ -1,11 +1,10 @@
 -- What a key's row, or the gap for it, says of a look-up and of a change.
 use Rattle.std.proofs.Common.{◌≡◌, ℕ, zero, suc, ◌<◌, ◌≤◌, ◌&&◌, Bool, true, false, not, cond, T}
-use Rattle.std.proofs.Common.{List, [], ◌∷◌, length, get_or, set, Some, None, slice_get, refl, sym}
-use Rattle.std.proofs.Common.{ap, ◌∙◌, subst, arith}
-use mathlib.Core.Bool.{false≢true}
-use Rattle.std.{specs.Option.is_some, proofs.lemmas.Option.get_or_from_slice_get}
+use Rattle.std.proofs.Common.{List, [], ◌∷◌, length, get_or, Some, None, slice_get, refl, sym, ap}
+use Rattle.std.{proofs.Common.{◌+◌, ◌∙◌, subst, arith, IsSome}, specs.Option.is_some}
+use Rattle.std.proofs.lemmas.Option.{get_or_from_slice_get}
 use Rattle.std.specs.{List.{insert, remove}, Ordering.{is_eq, is_lt}, Cmp.IsTotalOrder}
-use Rattle.std.specs.FinMap.{find, put, is_sorted, Entries.below_all}
+use Rattle.std.specs.FinMap.{find, put, is_sorted, Entries.{below_all, length-put}}
 use Rattle.std.specs.declared.cmp.Ordering.{Ordering, TheVariants.{Less, Equal, Greater}}
 use Rattle.do_sorted.specs.{Places.{IsRowOf, IsGapFor}, Rows.{without, first_from}}
 
@@ -58,12 +57,12 @@ module _ {K V : Type 0} {R : K → K → Ordering} (o : IsTotalOrder R) where
   find_here k es i e h is =
       find_row k es i e h ∙ ap (λ x. Some x.1) (get_or_from_slice_get es i e e is)
 
-  -- there is a row to read
-  pub row_there : (k : K) (es : List (K × V)) (i : ℕ) → IsRowOf R k es i
-      → slice_get es i ≡ None → ⊥
-  row_there k [] i h n = h
-  row_there k (e ∷ es) zero h n = false≢true (sym (ap is_some n))
-  row_there k (e ∷ es) (suc i) h n = row_there k es i h.1 n
+  -- a key that has a row is found
+  pub row_there : (k : K) (es : List (K × V)) (i : ℕ) → IsRowOf R k es i → IsSome (find R k es)
+  row_there k [] i h = absurd h
+  row_there k (e ∷ es) zero h = ap (λ r. is_some (cond (is_eq r) (Some e.1) (find R k es))) h
+  row_there k (e ∷ es) (suc i) h =
+      ap (λ r. is_some (cond (is_eq r) (Some e.1) (find R k es))) h.0 ∙ row_there k es i h.1
 
   -- a key below all rows is not found, and no row of it can be taken out
   pub find_below : (k : K) (es : List (K × V)) → T (below_all R k es) → find R k es ≡ None
@@ -114,18 +113,11 @@ module _ {K V : Type 0} {R : K → K → Ordering} (o : IsTotalOrder R) where
       ap (λ r. cond (not (is_eq r)) (e ∷ without R k es) (without R k es)) h.0
       ∙ ap (λ rest. e ∷ rest) (without_gap k es i (second _ _ s) h.1)
 
-  -- to write over the row's value is to put it
-  pub put_row : (k : K) (v : V) (es : List (K × V)) (i : ℕ) (d : K × V) → IsRowOf R k es i
-      → put R k v es ≡ set es i ((get_or es i d).0, v)
-  put_row k v [] i d h = absurd h
-  put_row k v (e ∷ es) zero d h = rw h refl
-  put_row k v (e ∷ es) (suc i) d h = rw h.0 (ap (λ rest. e ∷ rest) (put_row k v es i d h.1))
-
-  -- the same of the row that is read there
-  pub put_here : (k : K) (v : V) (es : List (K × V)) (i : ℕ) (e : K × V) → IsRowOf R k es i
-      → slice_get es i ≡ Some e → put R k v es ≡ set es i (e.0, v)
-  put_here k v es i e h is =
-      put_row k v es i e h ∙ ap (λ x. set es i (x.0, v)) (get_or_from_slice_get es i e e is)
+  -- a value put at a key that is there leaves as many rows
+  pub length-put_there : (k : K) (v : V) (es : List (K × V)) → T (is_sorted R es)
+      → IsSome (find R k es) → length (put R k v es) ≡ length es
+  length-put_there k v es s there =
+      length-put R o k v es s ∙ ap (λ b. cond b (length es) (length es + 1)) there
 
   -- to insert a row in the gap is to put it
   pub put_gap : (k : K) (v : V) (es : List (K × V)) (i : ℕ) → IsGapFor R k es i

@@ -1,5 +1,5 @@
 -- Lists of two sides and an item between them: what an edit at or behind that item is.
-use Rattle.std.proofs.Common.{◌≡◌, ℕ, zero, suc, ◌+◌, ◌<◌, List, [], ◌∷◌, ◌++◌, length, set, Some}
+use Rattle.std.proofs.Common.{◌≡◌, ℕ, zero, suc, ◌+◌, ◌<◌, List, [], ◌∷◌, ◌++◌, length, Some}
 use Rattle.std.proofs.Common.{slice_get, refl, ap, sym, arith, length-append}
 use mathlib.Core.Bool.{false≢true}
 use Rattle.std.specs.List.{insert, remove}
@@ -12,16 +12,6 @@ module _ {X : Type 0} where
   slice_get_here [] ys x (suc i) e = absurd (omega arith)
   slice_get_here (z ∷ xs) ys x zero e = absurd (omega arith)
   slice_get_here (z ∷ xs) ys x (suc i) e = slice_get_here xs ys x i (omega arith)
-
-  -- an item behind it
-  pub slice_get_behind : (xs ys : List X) (x : X) (i j : ℕ) → i ≡ length xs + 1 + j
-      → slice_get (xs ++ x ∷ ys) i ≡ slice_get ys j
-  slice_get_behind [] ys x zero j e = absurd (omega arith)
-  slice_get_behind [] ys x (suc i) j e =
-      let same : i ≡ j = omega arith in
-      ap (λ k. slice_get ys k) same
-  slice_get_behind (z ∷ xs) ys x zero j e = absurd (omega arith)
-  slice_get_behind (z ∷ xs) ys x (suc i) j e = slice_get_behind xs ys x i j (omega arith)
 
   -- an item put in behind it
   pub insert_behind : (xs ys : List X) (x y : X) (i j : ℕ) → i ≡ length xs + 1 + j
@@ -57,25 +47,6 @@ module _ {X : Type 0} where
   pub first_off : (ys : List X) (y : X) → slice_get ys 0 ≡ Some y → y ∷ remove ys 0 ≡ ys
   first_off [] y e = absurd (false≢true (ap Rattle.std.specs.Option.is_some e))
   first_off (z ∷ ys) y e = ap (λ o. Rattle.std.specs.Option.unwrap_or o z ∷ ys) (sym e)
-
-  -- the item itself replaced
-  pub set_here : (xs ys : List X) (x y : X) (i : ℕ) → i ≡ length xs
-      → set (xs ++ x ∷ ys) i y ≡ xs ++ y ∷ ys
-  set_here [] ys x y zero e = refl
-  set_here [] ys x y (suc i) e = absurd (omega arith)
-  set_here (z ∷ xs) ys x y zero e = absurd (omega arith)
-  set_here (z ∷ xs) ys x y (suc i) e = ap (λ l. z ∷ l) (set_here xs ys x y i (omega arith))
-
-  -- an item replaced behind it
-  pub set_behind : (xs ys : List X) (x y : X) (i j : ℕ) → i ≡ length xs + 1 + j
-      → set (xs ++ x ∷ ys) i y ≡ xs ++ x ∷ set ys j y
-  set_behind [] ys x y zero j e = absurd (omega arith)
-  set_behind [] ys x y (suc i) j e =
-      let same : i ≡ j = omega arith in
-      ap (λ k. x ∷ set ys k y) same
-  set_behind (z ∷ xs) ys x y zero j e = absurd (omega arith)
-  set_behind (z ∷ xs) ys x y (suc i) j e =
-      ap (λ l. z ∷ l) (set_behind xs ys x y i j (omega arith))
 
   -- each side is shorter than the whole
   pub sides_shorter : (xs : List X) (x : X) (ys : List X)

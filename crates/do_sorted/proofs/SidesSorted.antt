@@ -1,10 +1,13 @@
 -- Sorted rows of two sides and a row between them, and where a key stands among them.
 use Rattle.std.proofs.Common.{◌≡◌, ℕ, zero, suc, ◌+◌, T, List, [], ◌∷◌, ◌++◌, length, ap, ◌∙◌}
-use Rattle.std.proofs.Common.{subst, sym, refl, arith, Result, Ok, Err, IfOk, IfErr}
-use Rattle.std.specs.{Ordering.{is_lt, ordering_reverse}, Cmp.IsTotalOrder, FinMap.is_sorted}
-use Rattle.std.specs.{FinMap.Entries.below_all, declared.cmp.Ordering.Ordering}
-use Rattle.std.specs.declared.cmp.Ordering.TheVariants.{Less, Equal, Greater}
-use Rattle.do_sorted.{specs.Places.{IsRowOf, IsGapFor}, proofs.RowOrGap.{first, second, less, both}}
+use Rattle.std.proofs.Common.{subst, sym, refl, arith, Result, Ok, Err, IfOk, IfErr, false, cond}
+use Rattle.std.proofs.Common.{Some}
+use mathlib.Core.Bool.{false≢true}
+use Rattle.std.specs.{Ordering.{is_eq, is_lt, eq_by_cmp, ordering_reverse}, Cmp.IsTotalOrder}
+use Rattle.std.specs.FinMap.{find, put, is_sorted, Entries.{by_order, below_all}}
+use Rattle.std.specs.declared.cmp.Ordering.{Ordering, TheVariants.{Less, Equal, Greater}}
+use Rattle.do_sorted.specs.Places.{IsRowOf, IsGapFor}
+use Rattle.do_sorted.proofs.RowOrGap.{first, second, less, both, find_below, below_first}
 
 module _ {K V : Type 0} (R : K → K → Ordering) where
   -- a key below all rows is below those before one
@@ -59,63 +62,119 @@ module _ {K V : Type 0} (R : K → K → Ordering) where
   absent_before k xs x ys (Ok i) below h = tt
   absent_before k xs x ys (Err i) below h = gap_before k xs x ys i below h
 
+  -- each row's key is below a key
+  abbrev pub AreBelow : K → List (K × V) → Type 0
+  AreBelow k [] = Unit {0}
+  AreBelow k (e ∷ es) = (R k e.0 ≡ Greater) × AreBelow k es
+
+  -- rows below a key come before its row among those behind them
+  pub row_past : (k : K) (xs ys : List (K × V)) (i j : ℕ) → AreBelow k xs → IsRowOf R k ys j
+      → i ≡ length xs + j → IsRowOf R k (xs ++ ys) i
+  row_past k [] ys i j below h e =
+      let same : j ≡ i = omega arith in
+      subst (λ n. IsRowOf R k ys n) same h
+  row_past k (f ∷ xs) ys zero j below h e = absurd (omega arith)
+  row_past k (f ∷ xs) ys (suc i) j below h e =
+      (below.0, row_past k xs ys i j below.1 h (omega arith))
+
+  -- and before the gap for it
+  pub gap_past : (k : K) (xs ys : List (K × V)) (i j : ℕ) → AreBelow k xs → IsGapFor R k ys j
+      → i ≡ length xs + j → IsGapFor R k (xs ++ ys) i
+  gap_past k [] ys i j below h e =
+      let same : j ≡ i = omega arith in
+      subst (λ n. IsGapFor R k ys n) same h
+  gap_past k (f ∷ xs) ys zero j below h e = absurd (omega arith)
+  gap_past k (f ∷ xs) ys (suc i) j below h e =
+      (below.0, gap_past k xs ys i j below.1 h (omega arith))
+
+  -- it is looked up behind them
+  find_past : (k : K) (xs ys : List (K × V)) → AreBelow k xs → find R k (xs ++ ys) ≡ find R k ys
+  find_past k [] ys below = refl
+  find_past k (e ∷ xs) ys below =
+      ap (λ r. cond (is_eq r) (Some e.1) (find R k (xs ++ ys))) below.0
+      ∙ find_past k xs ys below.1
+
+  -- and put behind them
+  put_past : (k : K) (v : V) (xs ys : List (K × V)) → AreBelow k xs
+      → put R k v (xs ++ ys) ≡ xs ++ put R k v ys
+  put_past k v [] ys below = refl
+  put_past k v (e ∷ xs) ys below =
+      ap (λ r. by_order r ((k, v) ∷ e ∷ xs ++ ys) ((e.0, v) ∷ xs ++ ys) (e ∷ put R k v (xs ++ ys)))
+      below.0
+      ∙ ap (λ rest. e ∷ rest) (put_past k v xs ys below.1)
+
+  -- a value at a key below the row between the sides is put before that row
+  pub put_before : (k : K) (v : V) (xs : List (K × V)) (x : K × V) (ys : List (K × V))
+      → R k x.0 ≡ Less → put R k v (xs ++ x ∷ ys) ≡ put R k v xs ++ x ∷ ys
+  put_before k v [] x ys q =
+      ap (λ r. by_order r ((k, v) ∷ x ∷ ys) ((x.0, v) ∷ ys) (x ∷ put R k v ys)) q
+  put_before k v (e ∷ xs) x ys q = go (R k e.0) (put_before k v xs x ys q)
+    where
+      go : (r : Ordering) → put R k v (xs ++ x ∷ ys) ≡ put R k v xs ++ x ∷ ys
+          → by_order r ((k, v) ∷ e ∷ xs ++ x ∷ ys) ((e.0, v) ∷ xs ++ x ∷ ys)
+          (e ∷ put R k v (xs ++ x ∷ ys))
+          ≡ by_order r ((k, v) ∷ e ∷ xs) ((e.0, v) ∷ xs) (e ∷ put R k v xs) ++ x ∷ ys
+      go Less rest = refl
+      go Equal rest = refl
+      go Greater rest = ap (λ l. e ∷ l) rest
+
 module _ {K V : Type 0} {R : K → K → Ordering} (o : IsTotalOrder R) where
   -- a key that is not below the row between the sides is above each row before it
-  above_front : (k : K) (e x : K × V) → R e.0 x.0 ≡ Less → (r : Ordering) → R k x.0 ≡ r
-      → (r ≡ Less → ⊥) → R k e.0 ≡ Greater
-  above_front k e x p Less q n = absurd (n refl)
-  above_front k e x p Equal q n =
-      o.congr k x.0 e.0 q ∙ o.antisymm x.0 e.0 ∙ ap ordering_reverse p
-  above_front k e x p Greater q n =
-      o.antisymm k e.0
-      ∙ ap ordering_reverse
-      (o.trans e.0 x.0 k p (o.antisymm x.0 k ∙ ap ordering_reverse q))
-
-  -- what ties with the row between the sides has its place
-  pub row_here : (k : K) (xs : List (K × V)) (x : K × V) (ys : List (K × V)) (i : ℕ)
-      → T (is_sorted R (xs ++ x ∷ ys)) → R k x.0 ≡ Equal → i ≡ length xs
-      → IsRowOf R k (xs ++ x ∷ ys) i
-  row_here k [] x ys zero s q e = q
-  row_here k [] x ys (suc i) s q e = absurd (omega arith)
-  row_here k (f ∷ xs) x ys zero s q e = absurd (omega arith)
-  row_here k (f ∷ xs) x ys (suc i) s q e = (
-    above_front k f x (below_middle R f.0 xs x ys (first _ _ s)) Equal q (λ c. equal_less c),
-    row_here k xs x ys i (second _ _ s) q (omega arith),
-  )
+  above_front : (k : K) (e x : K × V) → R e.0 x.0 ≡ Less → is_lt (R k x.0) ≡ false
+      → R k e.0 ≡ Greater
+  above_front k e x p n = go (R k x.0) refl n
     where
-      equal_less : Equal ≡ Less → ⊥
-      equal_less c = subst T (ap is_lt (sym c)) tt
+      go : (r : Ordering) → R k x.0 ≡ r → is_lt r ≡ false → R k e.0 ≡ Greater
+      go Less q n = absurd (false≢true (sym n))
+      go Equal q n = o.congr k x.0 e.0 q ∙ o.antisymm x.0 e.0 ∙ ap ordering_reverse p
+      go Greater q n =
+          o.antisymm k e.0
+          ∙ ap ordering_reverse
+          (o.trans e.0 x.0 k p (o.antisymm x.0 k ∙ ap ordering_reverse q))
 
-  -- a key's row behind the row between the sides
-  pub row_behind : (k : K) (xs : List (K × V)) (x : K × V) (ys : List (K × V)) (i j : ℕ)
-      → T (is_sorted R (xs ++ x ∷ ys)) → R k x.0 ≡ Greater → IsRowOf R k ys j
-      → i ≡ length xs + 1 + j → IsRowOf R k (xs ++ x ∷ ys) i
-  row_behind k [] x ys zero j s q h e = absurd (omega arith)
-  row_behind k [] x ys (suc i) j s q h e =
-      let same : j ≡ i = omega arith in
-      (q, subst (λ n. IsRowOf R k ys n) same h)
-  row_behind k (f ∷ xs) x ys zero j s q h e = absurd (omega arith)
-  row_behind k (f ∷ xs) x ys (suc i) j s q h e = (
-    above_front k f x (below_middle R f.0 xs x ys (first _ _ s)) Greater q (λ c. greater_less c),
-    row_behind k xs x ys i j (second _ _ s) q h (omega arith),
+  -- so all rows before that one have lower keys
+  pub rows_below : (k : K) (xs : List (K × V)) (x : K × V) (ys : List (K × V))
+      → T (is_sorted R (xs ++ x ∷ ys)) → is_lt (R k x.0) ≡ false → AreBelow R k xs
+  rows_below k [] x ys s n = tt
+  rows_below k (e ∷ xs) x ys s n = (
+    above_front k e x (below_middle R e.0 xs x ys (first _ _ s)) n,
+    rows_below k xs x ys (second _ _ s) n,
   )
-    where
-      greater_less : Greater ≡ Less → ⊥
-      greater_less c = subst T (ap is_lt (sym c)) tt
 
-  -- the gap for a key behind it
-  pub gap_behind : (k : K) (xs : List (K × V)) (x : K × V) (ys : List (K × V)) (i j : ℕ)
-      → T (is_sorted R (xs ++ x ∷ ys)) → R k x.0 ≡ Greater → IsGapFor R k ys j
-      → i ≡ length xs + 1 + j → IsGapFor R k (xs ++ x ∷ ys) i
-  gap_behind k [] x ys zero j s q h e = absurd (omega arith)
-  gap_behind k [] x ys (suc i) j s q h e =
-      let same : j ≡ i = omega arith in
-      (q, subst (λ n. IsGapFor R k ys n) same h)
-  gap_behind k (f ∷ xs) x ys zero j s q h e = absurd (omega arith)
-  gap_behind k (f ∷ xs) x ys (suc i) j s q h e = (
-    above_front k f x (below_middle R f.0 xs x ys (first _ _ s)) Greater q (λ c. greater_less c),
-    gap_behind k xs x ys i j (second _ _ s) q h (omega arith),
-  )
-    where
-      greater_less : Greater ≡ Less → ⊥
-      greater_less c = subst T (ap is_lt (sym c)) tt
+  -- a key below the row between the sides is looked up before it
+  pub find_before : (k : K) (xs : List (K × V)) (x : K × V) (ys : List (K × V))
+      → T (is_sorted R (xs ++ x ∷ ys)) → R k x.0 ≡ Less → find R k (xs ++ x ∷ ys) ≡ find R k xs
+  find_before k [] x ys s q = ap (λ r. cond (is_eq r) (Some x.1) (find R k ys)) q
+      ∙ find_below o k ys (below_first o k x ys q (first _ _ s))
+  find_before k (e ∷ xs) x ys s q =
+      ap (cond (eq_by_cmp R k e.0) (Some e.1)) (find_before k xs x ys (second _ _ s) q)
+
+  -- a key that ties with it has its value
+  pub find_between : (k : K) (xs : List (K × V)) (x : K × V) (ys : List (K × V))
+      → T (is_sorted R (xs ++ x ∷ ys)) → R k x.0 ≡ Equal → find R k (xs ++ x ∷ ys) ≡ Some x.1
+  find_between k xs x ys s q =
+      find_past R k xs (x ∷ ys) (rows_below k xs x ys s (ap is_lt q))
+      ∙ ap (λ r. cond (is_eq r) (Some x.1) (find R k ys)) q
+
+  -- and one above it is looked up behind it
+  pub find_behind : (k : K) (xs : List (K × V)) (x : K × V) (ys : List (K × V))
+      → T (is_sorted R (xs ++ x ∷ ys)) → R k x.0 ≡ Greater → find R k (xs ++ x ∷ ys) ≡ find R k ys
+  find_behind k xs x ys s q =
+      find_past R k xs (x ∷ ys) (rows_below k xs x ys s (ap is_lt q))
+      ∙ ap (λ r. cond (is_eq r) (Some x.1) (find R k ys)) q
+
+  -- a value at a key that ties with the row between the sides is put into that row
+  pub put_between : (k : K) (v : V) (xs : List (K × V)) (x : K × V) (ys : List (K × V))
+      → T (is_sorted R (xs ++ x ∷ ys)) → R k x.0 ≡ Equal
+      → put R k v (xs ++ x ∷ ys) ≡ xs ++ (x.0, v) ∷ ys
+  put_between k v xs x ys s q =
+      put_past R k v xs (x ∷ ys) (rows_below k xs x ys s (ap is_lt q))
+      ∙ ap (λ r. xs ++ by_order r ((k, v) ∷ x ∷ ys) ((x.0, v) ∷ ys) (x ∷ put R k v ys)) q
+
+  -- and one at a key above it behind it
+  pub put_behind : (k : K) (v : V) (xs : List (K × V)) (x : K × V) (ys : List (K × V))
+      → T (is_sorted R (xs ++ x ∷ ys)) → R k x.0 ≡ Greater
+      → put R k v (xs ++ x ∷ ys) ≡ xs ++ x ∷ put R k v ys
+  put_behind k v xs x ys s q =
+      put_past R k v xs (x ∷ ys) (rows_below k xs x ys s (ap is_lt q))
+      ∙ ap (λ r. xs ++ by_order r ((k, v) ∷ x ∷ ys) ((x.0, v) ∷ ys) (x ∷ put R k v ys)) q

@@ -116,13 +116,7 @@ impl<K: Ord + Copy, V: Drop> Sorted<K, V> {
     pub fn get(&self, key: &K) -> Option<&V>
         ensures { option_copied result ≡ find K.cmp key.now self.now.rows }
     {
-        let Ok(at) = self.search(key) else {
-            return None;
-        };
-        let Some(row) = self.rows.get(at) else {
-            unreachable!();
-        };
-        Some(&row.1)
+        self.rows.find(key)
     }
 
     /// Whether the map has the key.
@@ -170,7 +164,7 @@ impl<K: Ord + Copy, V: Drop> Sorted<K, V> {
             ≡ length self.old.rows + self.old.spare }
     {
         match self.search(&key) {
-            Ok(at) => Some(self.rows.set_value(at, value).1),
+            Ok(_) => Some(self.rows.replace(&key, value)),
             Err(at) => {
                 let Some(places) = self.free.pop() else {
                     unreachable!();
@@ -188,10 +182,7 @@ impl<K: Ord + Copy, V: Drop> Sorted<K, V> {
         ensures after { self.new.rows ≡ put K.cmp key.now value self.old.rows }
         ensures spare { self.new.spare ≡ self.old.spare }
     {
-        let Ok(at) = self.search(key) else {
-            unreachable!();
-        };
-        self.rows.set_value(at, value).1
+        self.rows.replace(key, value)
     }
 
     /// Takes out a key, whose place is room again, and gives its value. None exactly where the map

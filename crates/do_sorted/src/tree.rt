@@ -1,6 +1,7 @@
 //! A list in a balanced tree: an item is found, put in or taken out in steps as the logarithm.
 mod balance;
 mod edits;
+mod keys;
 mod reading;
 
 use std::marker::Model;

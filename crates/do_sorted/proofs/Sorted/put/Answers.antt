@@ -1,28 +1,36 @@
 use Rattle.do_sorted.proofs.Sorted.put.Goals as goal
-use Rattle.std.proofs.Common.{arith, sym, ap, ◌∙◌, length, subst, T}
-use Rattle.std.specs.FinMap.{is_sorted, Entries.is_sorted-put}
-use Rattle.std.proofs.lemmas.List.{length-set, Edits.length-insert}
-use Rattle.do_sorted.proofs.RowOrGap.{row_within, gap_within, find_here, find_gap, put_here}
-use Rattle.do_sorted.proofs.RowOrGap.{put_gap}
+use Rattle.std.{proofs.Common.{arith, sym, ap, ◌∙◌, length, subst, T}, specs.FinMap.is_sorted}
+use Rattle.std.{specs.FinMap.Entries.is_sorted-put, proofs.lemmas.List.Edits.length-insert}
+use Rattle.do_sorted.proofs.RowOrGap.{row_there, gap_within, find_gap, put_gap, length-put_there}
 
--- a row of a key that is there is within the rows
-pub set_value-requires : goal.set_value-requires
-set_value-requires g c =
-    row_within g.met.K.Ord.total _ _ _ (rw (← c.self.view_is) at c.in-Ok.ensures.found)
+-- a key that has a row is there
+pub replace-requires-clause-there : goal.replace-requires-clause-there
+replace-requires-clause-there g c =
+    row_there g.met.K.Ord.total _ _ _ (rw (← c.self.view_is) at c.in-Ok.ensures.found)
 
 -- with another value the keys rise as before, and there are as many rows
 pub invariant_of-self : goal.invariant_of-self
 invariant_of-self g c =
-    let found = rw (← c.self.view_is) at c.in-Ok.ensures.found in
-    let is = put_here g.met.K.Ord.total c.args.key c.args.value c.self.inside.rows c.in-Ok.at _
-    found c.set_value.ensures.before in
-    let same = ap length c.set_value.ensures.after
-    ∙ length-set c.self.inside.rows c.in-Ok.at (c.set_value.result.0, c.args.value) in
+    let there = row_there g.met.K.Ord.total _ _ _
+    (rw (← c.self.view_is) at c.in-Ok.ensures.found) in
+    let same = ap length c.replace.ensures.after
+    ∙ length-put_there g.met.K.Ord.total c.args.key c.args.value c.self.inside.rows
+    c.self.invariant.0 there in
     let places = c.self.invariant.1 in (
-      subst (λ es. T (is_sorted g.K.Ord.cmp es)) (is ∙ sym c.set_value.ensures.after)
+      subst (λ es. T (is_sorted g.K.Ord.cmp es)) (sym c.replace.ensures.after)
           (is_sorted-put g.K.Ord.cmp g.met.K.Ord.total _ _ _ c.self.invariant.0),
       omega (arith, same, places),
     )
+
+-- nor is there less room
+pub returns-in-Ok-clause-capacity : goal.returns-in-Ok-clause-capacity
+returns-in-Ok-clause-capacity g c =
+    let there = row_there g.met.K.Ord.total _ _ _
+    (rw (← c.self.view_is) at c.in-Ok.ensures.found) in
+    let same = ap length c.replace.ensures.after
+    ∙ length-put_there g.met.K.Ord.total c.args.key c.args.value c.self.inside.rows
+    c.self.invariant.0 there in
+    rw (← c.self.view_is) (omega (arith, same))
 
 -- the gap for a key is within the rows or at their end
 pub insert-requires-clause-in_range : goal.insert-requires-clause-in_range
@@ -45,22 +53,6 @@ invariant_of-self-in-Err g c =
           (is_sorted-put g.K.Ord.cmp g.met.K.Ord.total _ _ _ c.self.invariant.0),
       omega (arith, more, places, popped, room),
     )
-
--- the value that stood in the row of the key was that of the key
-pub returns-in-Ok-clause-before : goal.returns-in-Ok-clause-before
-returns-in-Ok-clause-before g c =
-    let found = rw (← c.self.view_is) at c.in-Ok.ensures.found in
-    rw (← c.self.view_is)
-    (sym (find_here g.met.K.Ord.total _ _ _ _ found c.set_value.ensures.before))
-
--- a value set in the row of a key is put at the key
-pub returns-in-Ok-clause-after : goal.returns-in-Ok-clause-after
-returns-in-Ok-clause-after g c =
-    let found = rw (← c.self.view_is) at c.in-Ok.ensures.found in
-    rw (← c.self.view_is)
-    (c.set_value.ensures.after
-    ∙ sym (put_here g.met.K.Ord.total c.args.key c.args.value c.self.inside.rows c.in-Ok.at _ found
-    c.set_value.ensures.before))
 
 -- a key that stood nowhere had no value
 pub returns-in-Some-clause-before : goal.returns-in-Some-clause-before

@@ -1,10 +1,10 @@
-use Rattle.do_sorted.proofs.tree.reading.Tree+tuple2+K+V.+search.Goals as goal
-use Rattle.std.proofs.Common.{rules, arith, ◌+◌, ◌-◌, length, T, IfOk, IfErr, sym, ap, ◌∙◌, subst}
-use Rattle.std.specs.FinMap.{is_sorted}
+use Rattle.do_sorted.proofs.tree.keys.Tree+tuple2+K+V.+search.Goals as goal
+use Rattle.std.proofs.Common.{rules, arith, suc, ◌+◌, ◌-◌, ◌∷◌, length, T, IfOk, IfErr, sym, ap}
+use Rattle.std.{proofs.Common.{◌∙◌, subst}, specs.{Ordering.is_lt, FinMap.is_sorted}}
 use Rattle.do_sorted.specs.{Places.{IsRowOf, IsGapFor}, Tree.{items_of, IsCounted}}
 use Rattle.do_sorted.proofs.{Sides.sides_shorter, RowOrGap.{row_within, gap_within}}
 use Rattle.do_sorted.proofs.SidesSorted.{sorted_before, sorted_behind, found_before, absent_before}
-use Rattle.do_sorted.proofs.SidesSorted.{row_here, row_behind, gap_behind}
+use Rattle.do_sorted.proofs.SidesSorted.{rows_below, row_past, gap_past}
 
 -- the keys before that of a node rise, and there are fewer of them
 pub search-requires : goal.search-requires
@@ -62,38 +62,41 @@ returns-in-Less-clause-absent g t c =
 pub returns-in-Equal-clause-found : goal.returns-in-Equal-clause-found
 returns-in-Equal-clause-found g t c =
     let whole = sym c.self.view_is ∙ ap items_of c.in-Fork.is in
+    let sorted = subst (λ es. T (is_sorted g.K.Ord.cmp es)) whole c.requires in
     let counted = subst IsCounted c.in-Fork.is c.self.invariant in
     let behind = ap length c.deref.ensures in
     let i = c.in-Fork.len - c.len.result - 1 in
     subst (λ es. IsRowOf g.K.Ord.cmp c.args.key.now es i) (sym whole)
-    (row_here g.met.K.Ord.total c.args.key.now c.in-Fork.before.value c.in-Fork.row
-    c.in-Fork.behind.value i (subst (λ es. T (is_sorted g.K.Ord.cmp es)) whole c.requires)
+    (row_past g.K.Ord.cmp _ _ (c.in-Fork.row ∷ c.in-Fork.behind.value) i 0
+    (rows_below g.met.K.Ord.total _ _ _ _ sorted (ap is_lt (sym c.in-Equal.ensures)))
     (sym c.in-Equal.ensures) (omega (arith, counted, behind, c.len.ensures)))
 
 -- a key found behind a node is found so far on in all rows
 pub returns-in-Ok-clause-found : goal.returns-in-Ok-clause-found
 returns-in-Ok-clause-found g t c =
     let whole = sym c.self.view_is ∙ ap items_of c.in-Fork.is in
+    let sorted = subst (λ es. T (is_sorted g.K.Ord.cmp es)) whole c.requires in
     let counted = subst IsCounted c.in-Fork.is c.self.invariant in
     let behind = ap length c.deref.ensures in
     let i = c.in-Fork.len - c.len.result + c.in-Ok.at in
+    let found = subst (λ es. IsRowOf g.K.Ord.cmp c.args.key.now es c.in-Ok.at)
+    c.deref-in-Greater.ensures c.in-Ok.ensures.found in
     subst (λ es. IsRowOf g.K.Ord.cmp c.args.key.now es i) (sym whole)
-    (row_behind g.met.K.Ord.total c.args.key.now c.in-Fork.before.value c.in-Fork.row
-    c.in-Fork.behind.value i c.in-Ok.at
-    (subst (λ es. T (is_sorted g.K.Ord.cmp es)) whole c.requires) (sym c.in-Greater.ensures)
-    (subst (λ es. IsRowOf g.K.Ord.cmp c.args.key.now es c.in-Ok.at) c.deref-in-Greater.ensures
-    c.in-Ok.ensures.found) (omega (arith, counted, behind, c.len.ensures)))
+    (row_past g.K.Ord.cmp _ _ (c.in-Fork.row ∷ c.in-Fork.behind.value) i (suc c.in-Ok.at)
+    (rows_below g.met.K.Ord.total _ _ _ _ sorted (ap is_lt (sym c.in-Greater.ensures)))
+    (sym c.in-Greater.ensures, found) (omega (arith, counted, behind, c.len.ensures)))
 
 -- the gap for a key behind a node is its gap so far on in all rows
 pub returns-in-Err-clause-absent : goal.returns-in-Err-clause-absent
 returns-in-Err-clause-absent g t c =
     let whole = sym c.self.view_is ∙ ap items_of c.in-Fork.is in
+    let sorted = subst (λ es. T (is_sorted g.K.Ord.cmp es)) whole c.requires in
     let counted = subst IsCounted c.in-Fork.is c.self.invariant in
     let behind = ap length c.deref.ensures in
     let i = c.in-Fork.len - c.len.result + c.in-Err.at in
+    let absent = subst (λ es. IsGapFor g.K.Ord.cmp c.args.key.now es c.in-Err.at)
+    c.deref-in-Greater.ensures c.in-Err.ensures.absent in
     subst (λ es. IsGapFor g.K.Ord.cmp c.args.key.now es i) (sym whole)
-    (gap_behind g.met.K.Ord.total c.args.key.now c.in-Fork.before.value c.in-Fork.row
-    c.in-Fork.behind.value i c.in-Err.at
-    (subst (λ es. T (is_sorted g.K.Ord.cmp es)) whole c.requires) (sym c.in-Greater.ensures)
-    (subst (λ es. IsGapFor g.K.Ord.cmp c.args.key.now es c.in-Err.at) c.deref-in-Greater.ensures
-    c.in-Err.ensures.absent) (omega (arith, counted, behind, c.len.ensures)))
+    (gap_past g.K.Ord.cmp _ _ (c.in-Fork.row ∷ c.in-Fork.behind.value) i (suc c.in-Err.at)
+    (rows_below g.met.K.Ord.total _ _ _ _ sorted (ap is_lt (sym c.in-Greater.ensures)))
+    (sym c.in-Greater.ensures, absent) (omega (arith, counted, behind, c.len.ensures)))
