@@ -3,7 +3,7 @@ use Rattle.std.specs.FinMap as map
 use Rattle.std.proofs.Common.{◌≡◌, ℕ, ◌+◌, ◌-◌, ◌<◌, arith, Bool, true, false, not, cond, ◌&&◌}
 use Rattle.std.proofs.Common.{◌==◌, ◌||◌, T, List, [], ◌∷◌, Some, None, is_some, slice_get}
 use Rattle.std.proofs.Common.{if◌then◌else◌, refl, sym, ap, ◌∙◌, subst, Option}
-use Rattle.std.{proofs.lemmas.Bool.{eq-eqb, ne_eqb}, specs.Ordering.{eq_by_cmp, is_eq, is_lt}}
+use Rattle.std.{proofs.lemmas.Bool.{eq-eqb, ne_eqb}, specs.Ordering.{eq_by_cmp, is_eq}}
 use Rattle.std.specs.{Cmp.{alike_right, eq_by_cmp_equiv, tied_itself}, FinMap.{find, put}}
 use Rattle.std.specs.FinMap.{is_sorted, get-insert, get-remove, get-retain_keys, Entries.where_key}
 use Rattle.std.specs.FinMap.Entries.{is_sorted-put, is_sorted-where_key, find-put, find-where_key}

@@ -1,8 +1,8 @@
 -- The foreign objects that leave are those that the machine drops.
 use Rattle.std.specs.FinMap as map
 use Rattle.std.proofs.Common.{◌≡◌, ℕ, ◌<◌, Bool, true, false, cond, not, ◌||◌, List, [], ◌∷◌, ◌++◌}
-use Rattle.std.proofs.Common.{Some, None, Option, map as each, filter, refl, sym, ap, ◌∙◌, subst}
-use Rattle.std.{proofs.Common.{arith, inl, inr}, specs.{Prelude.is_some, Option.unwrap_or}}
+use Rattle.std.proofs.Common.{Some, None, Option, map as each, filter, refl, sym, ap, ◌∙◌, arith}
+use Rattle.std.{proofs.Common.{inl, inr}, specs.{Prelude.is_some, Option.unwrap_or}}
 use Rattle.std.specs.FinMap.{entries_sorted, get-entries, get-retain_keys}
 use Rattle.std.specs.FinMap.Entries.{find-where_key, is_sorted-where_key, same_entries, where_key}
 use Rattle.std.proofs.{Math.Bool.or_assoc, lemmas.Bool.{cases_eq, or_cases, or_left, or_right}}

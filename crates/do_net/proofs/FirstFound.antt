@@ -182,9 +182,3 @@ change_same p (y ∷ ys) x e =
       | true ↦ λ k. let same : y ≡ x = cc in ap (λ v. v ∷ ys) (sym same)
       | false ↦ λ k. ap (λ vs. y ∷ vs) (change_same p ys x k)
     ] e
-
--- what follows of each
-pub each_then : {X : Type 0} (P Q : X → Type 0) → ((x : X) → P x → Q x) → (xs : List X) →
-    AllByRecursion P xs → AllByRecursion Q xs
-each_then P Q f [] a = tt
-each_then P Q f (x ∷ xs) a = (f x a.0, each_then P Q f xs a.1)

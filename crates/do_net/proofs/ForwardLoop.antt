@@ -1,15 +1,13 @@
 -- What is sent over the channels of a site.
 use Rattle.std.proofs.Common.{◌≡◌, ◌==◌, Bool, true, false, cond, List, [], ◌∷◌, ◌++◌, fold, map}
-use Rattle.std.proofs.Common.{refl, ap, sym, subst, ◌∙◌, Some, None, append_assoc}
-use Rattle.std.proofs.lemmas.List.{append-nil}
-use Rattle.do_frames.specs.{declared.frame.RawFrame.RawFrame, Frames.raw_spelling}
+use Rattle.std.proofs.Common.{refl, ap, sym, subst, ◌∙◌, Some, append_assoc}
 use Rattle.do_machine.specs.Lists.{change_first}
 use Rattle.do_network.specs.{declared.wire.Wire.Wire, Links.{Framed, Greeting, Piece, Sending}}
 use Rattle.do_network.specs.{Links.piece_bytes, Net.{Channel, Whole, change_channel}}
 use Rattle.do_network.specs.Step.{carrying, wire_of, with_sending}
 use Rattle.std.specs.List.{AllByRecursion}
 use Rattle.do_net.specs.{Hosts.{FetchesWire, Hosting, forwarded}, Lanes.{IsSent, IsToldApart}}
-use Rattle.do_net.specs.{Lanes.{frame_in, laden}, Seen.{FetchesSpelled, IsSpelledBy, Seen}}
+use Rattle.do_net.specs.{Lanes.laden, Seen.{FetchesSpelled, IsSpelledBy, Seen}}
 
 -- changes that are alike change a list alike
 change_alike : {X : Type 0} (p : X → Bool) (f g : X → X) → ((x : X) → f x ≡ g x) →
@@ -21,10 +19,6 @@ change_alike p f g h (x ∷ xs) =
       | true ↦ ap (λ y. y ∷ xs) (h x)
       | false ↦ ap (λ ys. x ∷ ys) (change_alike p f g h xs)
     ]
-
--- a frame is in its bytes
-frame_back : (f : RawFrame) → frame_in (raw_spelling f) ≡ f
-frame_back f = refl
 
 -- what is sent stands behind the rest as what it is
 piece_stands : (x : Piece) → IsToldApart x → (c : Channel) →
@@ -108,16 +102,6 @@ pub record Forwards (x : Hosting) (before : List Wire) (z : Hosting) (now : List
       ≡ before ++ map (wire_of x.port) x.site.frames
   pub spelled : AllSpelled z.site → AllSpelled x.site
 
--- at first it stands where it begins
-pub forwards_first : (x : Hosting) (before : List Wire) → AllByRecursion IsSent x.site.frames →
-    Forwards x before x before
-forwards_first x before told = record {
-  told = told;
-  host = refl;
-  wires = refl;
-  spelled = λ left. left;
-}
-
 -- a frame more
 pub forwards_more : (u x y z : Hosting) (first before between : List Wire) (w : Wire) →
     Forwards u first x before → FetchesWire x y (Some w) → z ≡ with_sent y w →
@@ -129,31 +113,3 @@ forwards_more u x y z first before between w so_far f e more spelled = record {
   wires = forward_wires x y z w before between f e more ∙ so_far.wires;
   spelled = λ left. so_far.spelled (forward_spelled x y z w f e spelled left);
 }
-
--- a site of which nothing is left is as it is when all was fetched
-none_left : (x : Hosting) → x.site.frames ≡ [] → forwarded x ≡ x
-none_left x e =
-    ap (λ fs. record x {
-      site = record x.site { frames = [] };
-      channels = fold with_sending x.channels fs;
-    }) e
-    ∙ sym (ap (λ fs. record x { site = record x.site { frames = fs } }) e)
-
--- where no frame is left all went into the channels
-pub forwards_host : (u x y : Hosting) (first before : List Wire) →
-    Forwards u first x before → FetchesWire x y None → y ≡ forwarded u
-forwards_host u x y first before so_far f = f.1 ∙ sym (none_left x f.0) ∙ so_far.host
-
--- and was sent
-pub forwards_wires : (u x y : Hosting) (first before : List Wire) →
-    Forwards u first x before → FetchesWire x y None →
-    before ≡ first ++ map (wire_of u.port) u.site.frames
-forwards_wires u x y first before so_far f =
-    sym (append-nil before) ∙ sym (ap (λ fs. before ++ map (wire_of x.port) fs) f.0)
-    ∙ so_far.wires
-
--- and has a spelling
-pub forwards_spelled : (u x y : Hosting) (first before : List Wire) →
-    Forwards u first x before → FetchesWire x y None → AllSpelled u.site
-forwards_spelled u x y first before so_far f =
-    so_far.spelled (subst (AllByRecursion (IsSpelledBy x.site)) (sym f.0) tt)

@@ -17,7 +17,7 @@ use Rattle.do_net.specs.Hosts.{HasFetched, HostAdvances, NetAdvances, net_can_ta
 use Rattle.do_net.specs.{Hosts.{oldest_to, place_of, was_enabled}, declared.lane.Kept.Kept}
 use Rattle.do_net.specs.{Lanes.carried_of, Seen.{Seen, at_rest, site_handled}}
 use Rattle.do_net.proofs.FirstFound.{change_map, each_changed, each_found, found_map, found_passes}
-use Rattle.do_net.proofs.FirstFound.{change_same, each_then, none_map}
+use Rattle.do_net.proofs.FirstFound.{change_same, none_map}
 
 -- a site is of a port
 abbrev pub of_port : ℕ → Hosting → Bool
@@ -235,13 +235,6 @@ is_open_none xs port peer e =
       | None ↦ false
       | Some p ↦ is_open p.own.node peer
     ]) (part_missing port xs e))
-
--- a site of which all was fetched has nothing to fetch
-pub rests_fetched : (table : List Class) (act : Acting) (xs : List Hosting) →
-    AllByRecursion (Rests table act) xs → AllByRecursion HasFetched xs
-rests_fetched table act xs rest =
-    each_then (Rests table act) HasFetched
-    (λ x r. (ap (λ (s : Seen). s.frames) r, ap (λ (s : Seen). s.shown) r)) xs rest
 
 -- the sites go on as one of them does of which the oldest is taken out of a lane
 pub net_advances : (table : List Class) (act : Acting) (xs ys : List Hosting) (x z : Hosting)

@@ -1,6 +1,6 @@
 -- One place more of a lane that is read.
 use Rattle.std.proofs.Common.{◌≡◌, ◌∙◌, ◌++◌, ◌+◌, ℕ, zero, suc, true, false, List, [], ◌∷◌, drop}
-use Rattle.std.proofs.Common.{Result, Ok, Err, Some, None, refl, sym, ap, append_assoc, arith}
+use Rattle.std.proofs.Common.{Result, Ok, Err, Some, refl, sym, ap, append_assoc, arith}
 use Rattle.std.specs.{Prelude.{is_err, slice_get}, List.flat_map}
 use Rattle.do_base.specs.names.Names.{ObjectName}
 use Rattle.do_class.specs.Class.{Class}
@@ -19,13 +19,6 @@ drop_at (y ∷ ys) zero x e = let same : y ≡ x = cc in ap (λ v. v ∷ ys) sam
 drop_at (y ∷ ys) (suc i) x e =
     let later : suc (i + 1) ≡ suc i + 1 = omega arith in
     drop_at ys i x e ∙ ap (λ k. x ∷ drop k (y ∷ ys)) later
-
--- and is empty where nothing stands there
-pub drop_past : {X : Type 0} (xs : List X) (i : ℕ) → slice_get xs i ≡ None → drop i xs ≡ []
-drop_past [] zero e = refl
-drop_past [] (suc i) e = refl
-drop_past (y ∷ ys) zero e = absurd (cc)
-drop_past (y ∷ ys) (suc i) e = drop_past ys i e
 
 module _ (table : List Class) (from to : ℕ) (names after : List Pair) (f : RawFrame)
     (before : List ObjectName) (behind : List Carried) where

@@ -1,6 +1,5 @@
 -- What a change puts into an invocation, and what is then used no more often for it.
-use Rattle.std.specs.Prelude.{Bool, true, false, ◌&&◌, List, [], ◌∷◌, Option, Some, None, map}
-use Rattle.std.specs.Prelude.{slice_get}
+use Rattle.std.specs.Prelude.{Bool, false, ◌&&◌, List, [], ◌∷◌, Option, Some, None, map, slice_get}
 use Rattle.do_base.specs.{names.Names.ObjectName, declared.values.value.Value.Value}
 pub use Rattle.do_behave.specs.Exchange.{taken, set_out, act_taken, taken_by, takes_memory}
 pub use Rattle.do_behave.specs.Exchange.{slots_after, act_left}

@@ -105,18 +105,6 @@ sum-edit g xs n o s by =
     let f = sum_by-cons g o s.back in
     omega arith
 
--- where the object's serial stays, look-ups of others find what they found
-stored-front : (xs ys : List Object) (k : ℕ) (o : Object) → stored_at xs k ≡ Some o
-    → stored_at (xs ++ ys) k ≡ Some o
-stored-front [] ys k o is = absurd (cc)
-stored-front (x ∷ xs) ys k o is =
-    elim (cases_eq x.serial k) [
-      | inl same ↦ let here = stored-here x xs k same in stored-here x (xs ++ ys) k same ∙ sym here
-          ∙ is
-      | inr other ↦ stored-later x (xs ++ ys) k other
-          ∙ stored-front xs ys k o (sym (stored-later x xs k other) ∙ is)
-    ]
-
 -- a look-up in a list whose middle does not matter
 stored-middle : (xs ms ms' ys : List Object) (k : ℕ)
     → ((zs : List Object) → stored_at (ms ++ zs) k ≡ stored_at zs k)

@@ -10,19 +10,6 @@ use Rattle.do_store.specs.declared.object.Object.{Object}
 use Rattle.do_store.proofs.Edits.{Split, split_at, sum-edit, stored-edit_other, stored-edit_same}
 use Rattle.do_store.proofs.{Edits.{stored-serial, length-edit}, Listed.stored-later}
 
--- the books hold for any pending names that are the same at stored objects
-pub books-same : (port : ℕ) (xs : List Object) (spare : ℕ) (q : Queue) (p p' : ℕ → ℕ)
-    → ((n : ℕ) (o : Object) → stored_at xs n ≡ Some o → p' n ≡ p n) → Books port xs spare q p
-    → Books port xs spare q p'
-books-same port xs spare q p p' same b = record {
-  counted = λ n o is. let c = b.counted n o is in let s = same n o is in omega arith;
-  closed = b.closed;
-  idle = b.idle;
-  queued = b.queued;
-  credit = b.credit;
-  room = b.room;
-}
-
 -- the counts of one object are written
 pub record Written (port : ℕ) (xs : List Object) (q q' : Queue) (p p' : ℕ → ℕ) (n held named : ℕ)
     (waiting : Bool) (o : Object) : Type 0 where

@@ -2,18 +2,7 @@
 use Rattle.std.proofs.Common.{◌≡◌, ◌≢◌, ℕ, ◌+◌, cond, eqb, eq-eqb, ne_eqb, map, refl, sym, ap, ◌∙◌}
 use Rattle.std.proofs.Common.{arith}
 use Rattle.do_store.specs.{Objects.Stock, Names.named_in, Queue.Queue, Books.seen}
-use Rattle.do_store.{specs.Steps.{Raises, Lowers}, proofs.Ledger.books-same}
-
--- nothing is raised by no names
-pub raises-none : (port : ℕ) (a : Stock) (names : ℕ → ℕ) → ((n : ℕ) → names n ≡ 0)
-    → Raises port a a names
-raises-none port a names none = record {
-  books = λ queue p p' b bound is. books-same port a.objects a.spare queue p p'
-      (λ n o stored. let e = is n in let f = none n in omega arith) b;
-  seen = refl;
-  next = refl;
-  spare = refl;
-}
+use Rattle.do_store.specs.Steps.{Raises, Lowers}
 
 -- two steps that raise counts, one after the other, raise them by the sum
 pub raises-then : (port : ℕ) (a b c : Stock) (d e f : ℕ → ℕ) → Raises port a b d → Raises port b c e
@@ -30,18 +19,6 @@ raises-then port a b c d e f first second sum = record {
   seen = second.seen ∙ first.seen;
   next = second.next ∙ first.next;
   spare = second.spare ∙ first.spare;
-}
-
--- nothing is lowered by no names
-pub lowers-none : (port : ℕ) (a : Stock) (q : Queue) (names : ℕ → ℕ) → ((n : ℕ) → names n ≡ 0)
-    → Lowers port a a q q names
-lowers-none port a q names none = record {
-  books = λ p p' b is.
-      books-same port a.objects a.spare q p p' (λ n o stored. let e = is n in let f = none n in
-      omega arith) b;
-  seen = refl;
-  next = refl;
-  spare = refl;
 }
 
 -- two steps that lower counts, one after the other, lower them by the sum

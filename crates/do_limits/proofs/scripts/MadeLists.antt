@@ -15,13 +15,6 @@ use Rattle.do_limits.specs.Sendable.{AreSendable, IsSendable, can_carry}
 use Rattle.do_limits.proofs.values.Carried.{carry-List, carry-Nil, carry-Num, carry-Obj, carry-Text}
 use Rattle.do_limits.proofs.scripts.MadeNumbers.{count_sendable}
 
--- what holds of each by a test
-each_tested : (test : Value → Bool) (vs : Listed Value) →
-    list_all test vs ≡ true → AllByRecursion (λ v. test v ≡ true) vs
-each_tested test [] e = tt
-each_tested test (v ∷ vs) e =
-    let es = and_parts (test v) (list_all test vs) e in (es.0, each_tested test vs es.1)
-
 -- the parts of a list that can be carried
 list_parts : (depth : ℕ) (vs : Listed Value) → can_carry (List vs) depth ≡ true →
     (0 < depth) × ((length vs ≤ 1024)
