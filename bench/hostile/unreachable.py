@@ -4,9 +4,9 @@ import subprocess
 import sys
 import time
 
-from formats import GREETING, root_ask
+from formats import GREETING, root_ask, take_frame
 from node import Broken, Node
-from peer import Honest, Peer
+from peer import Honest, PATIENCE, Peer, Stream, silent_stream
 from places import SERVER, nodes
 from strangers import served
 
@@ -31,6 +31,65 @@ def full_queue(program):
         if good.slowest > 20:
             raise Broken(f"another peer answered after {good.slowest:.1f} s")
         return f"another peer answered after {good.slowest:.1f} s"
+
+
+def asks_for_the_root(node, port):
+    """A stream of a peer that asks for the root, and listens nowhere for the answer."""
+    stream = silent_stream(node.port)
+    stream.socket.sendall(port.to_bytes(2, "big") + GREETING + root_ask(1))
+    stream.socket.settimeout(PATIENCE)
+    return stream
+
+
+def ends(stream):
+    """Whether a stream has nothing more."""
+    try:
+        return not stream.socket.recv(1)
+    except ConnectionResetError:
+        return True
+
+
+def deaf(program):
+    """A peer that asks for the root, and never listens for the answer."""
+    node, (never, honest) = served(program, 2)
+    with node:
+        good = Honest(node, honest).begin()
+        began = time.monotonic()
+        stream = asks_for_the_root(node, never)
+        slowest = 0.0
+        while time.monotonic() - began < 0.5:
+            slowest = max(slowest, good.ask())
+        if not ends(stream):
+            raise Broken("a peer that never listened was answered")
+        given_up = time.monotonic() - began
+        slowest = max(slowest, good.ask())
+        return (
+            f"another peer answered after {slowest * 1000:.1f} ms at most, "
+            f"the peer given up after {given_up:.1f} s"
+        )
+
+
+def late(program):
+    """A peer that asks for the root, and listens half a second later."""
+    node, (port, honest) = served(program, 2)
+    with node:
+        good = Honest(node, honest).begin()
+        stream = asks_for_the_root(node, port)
+        time.sleep(0.5)
+        good.ask()
+        began = time.monotonic()
+        with socket.create_server(("127.0.0.1", port)) as listener:
+            listener.settimeout(PATIENCE)
+            incoming = Stream(listener.accept()[0])
+            incoming.socket.settimeout(PATIENCE)
+            if incoming.read(8) != node.port.to_bytes(2, "big") + GREETING:
+                raise Broken("the node's stream begins wrongly")
+            if take_frame(incoming)[0] != 6:
+                raise Broken("the answer that waited is another one")
+            waited = time.monotonic() - began
+            incoming.socket.close()
+        stream.socket.close()
+        return f"answered {waited * 1000:.1f} ms after it listened"
 
 
 CLIENT = '''
@@ -80,7 +139,12 @@ def speaks_to_itself(program, tries=5):
     return f"{tries} calls answered by an exception, the slowest after {slowest:.1f} s"
 
 
-CASES = {"a full queue of streams": full_queue, "a stream to itself": itself}
+CASES = {
+    "a full queue of streams": full_queue,
+    "a peer that never listens": deaf,
+    "a peer that listens late": late,
+    "a stream to itself": itself,
+}
 
 
 if __name__ == "__main__":

@@ -18,7 +18,7 @@ impl<R: Net + Clock> Streams<R> {
         ensures room { length buf.new ≡ length buf.old }
         ensures within { IsWithin (length buf.old) result }
     {
-        self.flush_all();
+        self.flush_all(rt);
         let event = self.poll(buf);
         match &event {
             LinkEvent::Quiet => {}

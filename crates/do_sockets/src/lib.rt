@@ -5,6 +5,7 @@
 //! gives. The form of the streams is this project's own.
 #![tactic(auto)]
 
+mod asking;
 mod connecting;
 mod hearing;
 mod outbox;

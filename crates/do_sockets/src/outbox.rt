@@ -2,10 +2,15 @@
 ghost use Rattle.std.specs.Prelude.{◌≡◌, ◌<◌, ◌≤◌, ℕ, length};
 ghost use Rattle.do_sockets.specs.declared.outbox.Took.TheVariants.{Bytes};
 
+use crate::asking::{Asked, Asking};
 use crate::timing::Deadline;
+use crate::waiter::Waiter;
+use do_base::NodeId;
+use mio::net::TcpStream;
 use std::alloc::{AllocError, Global};
 use std::collections::VecDeque;
 use std::io::{ErrorKind, Write};
+use std::net::Net;
 use std::time::Clock;
 
 /// How many bytes wait for a peer before a send waits too: eight of the largest frames.
@@ -44,11 +49,20 @@ fn write_some<S: Write>(stream: &mut S, bytes: &[u8]) -> Took
     Took::Nothing
 }
 
-/// A stream to a peer, and the bytes that it has not taken yet.
+/// The way to a peer.
 #[derive(Drop)]
-pub struct Outbox<S> {
+enum Way {
+    /// A stream that is asked for.
+    Asked(Asking),
+    /// One that is open.
+    Open(TcpStream),
+}
+
+/// The way to a peer, and the bytes that it has not taken yet.
+#[derive(Drop)]
+pub struct Outbox {
     alloc: Global,
-    stream: S,
+    way: Way,
     waiting: VecDeque<u8>,
     /// How many of the bytes that stood here when the queue was last full stand here still.
     due: usize,
@@ -56,16 +70,23 @@ pub struct Outbox<S> {
     deadline: Option<Deadline>,
 }
 
-impl<S: Write> Outbox<S> {
-    /// An open stream for which nothing waits.
-    pub fn new(alloc: Global, stream: S) -> Self {
-        Outbox {
+impl Outbox {
+    /// A way that is asked for, over which the own port goes first.
+    pub fn new(
+        alloc: Global,
+        clock: &impl Clock,
+        to: NodeId,
+        port: NodeId,
+    ) -> Result<Self, AllocError> {
+        let mut outbox = Outbox {
             alloc,
-            stream,
+            way: Way::Asked(Asking::new(clock, to)),
             waiting: VecDeque::new(alloc),
             due: 0,
             deadline: None,
-        }
+        };
+        outbox.add(&port.port().to_be_bytes())?;
+        Ok(outbox)
     }
 
     /// Whether bytes wait.
@@ -78,14 +99,30 @@ impl<S: Write> Outbox<S> {
         self.waiting.len() >= MOST_WAITING
     }
 
-    /// Writes what the stream takes now of the bytes that wait. It says if the stream is good.
-    pub fn flush(&mut self) -> bool {
+    /// Gives the peer what it takes now of the bytes that wait. It says if the way is good: the
+    /// stream has not failed, and the peer was not given up.
+    pub fn flush<R: Net + Clock>(&mut self, rt: &R, waiter: &Waiter) -> bool {
+        if let Way::Asked(asking) = &mut self.way {
+            match asking.go_on(rt, waiter) {
+                Asked::Open(stream) => self.way = Way::Open(stream),
+                Asked::NotYet => return true,
+                Asked::GivenUp => return false,
+            }
+        }
+        self.write_waiting()
+    }
+
+    /// Writes what an open stream takes now of the bytes that wait. It says if the stream is good.
+    fn write_waiting(&mut self) -> bool {
         for _ in 0..u64::MAX {
+            let Way::Open(stream) = &mut self.way else {
+                return true;
+            };
             let (front, _) = self.waiting.as_slices();
             if front.is_empty() {
                 return true;
             }
-            match write_some(&mut self.stream, front) {
+            match write_some(stream, front) {
                 Took::Bytes(count) => self.took(count),
                 Took::Nothing => return true,
                 Took::Failed => return false,
@@ -110,10 +147,13 @@ impl<S: Write> Outbox<S> {
     pub fn put(&mut self, bytes: &[u8]) -> Result<bool, AllocError> {
         let mut rest = bytes;
         for _ in 0..u64::MAX {
-            if rest.is_empty() || self.is_waiting() {
+            let Way::Open(stream) = &mut self.way else {
+                break;
+            };
+            if rest.is_empty() || !self.waiting.is_empty() {
                 break;
             }
-            match write_some(&mut self.stream, rest) {
+            match write_some(stream, rest) {
                 Took::Bytes(count) => rest = &rest[count..],
                 Took::Nothing => break,
                 Took::Failed => return Ok(false),

@@ -1,26 +1,29 @@
 //! The streams of one peer.
 ghost use Rattle.std.specs.Prelude.{◌≡◌, ◌<◌, ◌≤◌, ℕ, length};
-ghost use Rattle.do_sockets.specs.declared.reading.Got.TheVariants.{Bytes};
+ghost use Rattle.do_sockets.specs.declared.reading.Got.TheVariants.{Bytes, Ended};
 
 use crate::outbox::Outbox;
 use crate::reading::{Got, read_some};
+use crate::waiter::Waiter;
 use do_base::NodeId;
 use mio::Token;
 use std::alloc::{AllocError, Global};
 use std::collections::VecDeque;
-use std::io::{Read, Write};
+use std::io::Read;
+use std::net::Net;
+use std::time::Clock;
 
 /// How many bytes of a peer are kept while a send waits, before it is read no more: 16 MiB less
 /// what one read gives, which are seven of the largest frames.
 const MOST_KEPT: usize = 16_711_680;
 
-/// The stream to a peer.
+/// The way to a peer.
 #[derive(Drop)]
-pub enum Outgoing<S> {
+pub enum Outgoing {
     /// Nothing was sent so far.
     NotYet,
     /// It takes bytes.
-    Open(Outbox<S>),
+    Open(Outbox),
     /// It failed, or a send has it.
     Closed,
 }
@@ -39,8 +42,12 @@ pub struct Peer<S> {
     is_ready: bool,
     /// Whether it counts as ready until a read finds nothing, though one left room in its buffer.
     is_to_drain: bool,
-    /// The stream to it.
-    pub outgoing: Outgoing<S>,
+    /// Whether bytes that waited for it were lost, and its end was not told since.
+    is_lost: bool,
+    /// Whether its end was told.
+    has_ended: bool,
+    /// The way to it.
+    pub outgoing: Outgoing,
     /// What came while a send waited.
     kept: VecDeque<u8>,
 }
@@ -55,9 +62,16 @@ impl<S: Read + Drop> Peer<S> {
             token: None,
             is_ready: false,
             is_to_drain: false,
+            is_lost: false,
+            has_ended: false,
             outgoing: Outgoing::NotYet,
             kept: VecDeque::new(alloc),
         }
+    }
+
+    /// Whether no stream came from this peer so far, and its end was not told.
+    pub fn is_awaited(&self) -> bool {
+        self.token.is_none() && !self.has_ended
     }
 
     /// The first stream from this peer. Nothing is known of what it has.
@@ -103,7 +117,18 @@ impl<S: Read + Drop> Peer<S> {
         got
     }
 
-    /// What comes next from this peer: first what was kept.
+    /// Its end is told, and nothing more is heard of it.
+    fn end(&mut self) -> Got
+        ensures { result ≡ Ended }
+    {
+        self.incoming = None;
+        self.is_lost = false;
+        self.has_ended = true;
+        Got::Ended
+    }
+
+    /// What comes next from this peer: first what was kept. Where bytes that waited for it were
+    /// lost, its end comes once nothing else does.
     pub fn poll(&mut self, buf: &mut [u8]) -> Got
         ensures room { length buf.new ≡ length buf.old }
         ensures bytes { (n : ℕ) → result ≡ Bytes n → (0 < n) × (n ≤ length buf.new) }
@@ -116,11 +141,12 @@ impl<S: Read + Drop> Peer<S> {
             }
             return Got::Bytes(count);
         }
-        let got = self.read(buf);
-        if matches!(&got, Got::Ended) {
-            self.incoming = None;
+        self.is_ready = self.is_ready || self.is_lost;
+        match self.read(buf) {
+            Got::Ended => self.end(),
+            Got::Nothing if self.is_lost => self.end(),
+            got => got,
         }
-        got
     }
 
     /// What comes next from this peer, whether or not it was found ready.
@@ -151,17 +177,18 @@ impl<S: Read + Drop> Peer<S> {
     }
 }
 
-impl<S: Write + Drop> Peer<S> {
+impl<S: Drop> Peer<S> {
     /// Gives the peer what it takes now of the bytes that wait for it, and says whether some still
-    /// do. A stream that failed is dropped.
-    pub fn flush(&mut self) -> bool {
+    /// do. Where the way failed they are lost.
+    pub fn flush<R: Net + Clock>(&mut self, rt: &R, waiter: &Waiter) -> bool {
         let Outgoing::Open(outbox) = &mut self.outgoing else {
             return false;
         };
-        if outbox.flush() {
+        if outbox.flush(rt, waiter) {
             return outbox.is_waiting();
         }
         self.outgoing = Outgoing::Closed;
+        self.is_lost = !self.has_ended;
         false
     }
 }

@@ -108,7 +108,8 @@ impl<S: Read + Drop> Strangers<S> {
         });
     }
 
-    /// Gives each stream that has said its port to that peer, unless the peer had one.
+    /// Gives each stream that has said its port to that peer, unless the peer had one or its end was
+    /// told.
     pub fn name_all(&mut self, peers: &mut Vec<Peer<S>>) {
         let count = self.streams.len();
         for _ in 0..count {
@@ -126,11 +127,11 @@ impl<S: Read + Drop> Strangers<S> {
     }
 }
 
-/// Gives a stream to the peer of this port, unless it had one already.
+/// Gives a stream to the peer of this port, unless it had one already or its end was told.
 fn give<S: Read + Drop>(peers: &mut Vec<Peer<S>>, id: NodeId, stream: S, token: Token) {
     for peer in peers.iter_mut() {
         if peer.id == id {
-            if peer.token.is_none() {
+            if peer.is_awaited() {
                 peer.begin(stream, token);
             }
             return;

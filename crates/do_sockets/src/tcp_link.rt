@@ -12,11 +12,12 @@ use std::time::Clock;
 /// A link over sockets of this machine: a stream for each direction between two nodes, which begins
 /// with the sender's port as two bytes, the high byte first.
 ///
-/// It opens a stream to a peer at the first send; a peer that does not listen yet, or whose queue
-/// is full, is asked again for a second. A stream that goes to itself is dropped. So is an incoming
-/// stream that ends before it said its port, that says one of no peer, or one for the second time;
-/// and so is the oldest of 512 streams that have said nothing, once it is 50 milliseconds old and
-/// another comes.
+/// The first send to a peer begins a stream to it, and does not wait until it opens. A peer that
+/// does not listen yet, or whose queue of streams is full, is asked again for a second by later
+/// polls and sends, and then given up. A stream that goes to itself is dropped. So is an incoming
+/// stream that ends before it said its port, that says one of no peer, one for the second time, or
+/// one whose end was told; and so is the oldest of 512 streams that have said nothing, once it is
+/// 50 milliseconds old and another comes.
 ///
 /// A poll that finds nothing waits for a socket, at most as long as it was made to. Where an answer
 /// came soon before, it first reads the peer that was heard or sent to last, 50 microseconds at
@@ -26,7 +27,8 @@ use std::time::Clock;
 /// and by the drop of the link. A send is done once its bytes were taken or wait. Where 16 MiB wait
 /// for its peer, the send waits for room first. It is `Failed` where a minute later some of the
 /// bytes that stood there are not taken; the peer is then given up, and so is one whose stream
-/// breaks.
+/// breaks. Where bytes were lost that waited for a peer that is given up, a poll tells its end, once
+/// what came from it was given. Sends to a peer that is given up are `Failed`.
 ///
 /// Meanwhile it keeps what comes in, so that of two nodes that both send neither waits for the
 /// other. Of each peer 16 MiB are kept so at most; it is read no more then, until a poll gave them.

@@ -16,7 +16,9 @@ mod words;
 use crate::files::{fetches_a_large_file, fetches_within_the_limit};
 use crate::outputs::{puts_again_after_a_signal, puts_what_a_file_takes};
 use crate::reading::reads_again_after_a_signal;
-use crate::sockets::links_hear_each_other;
+use crate::sockets::{
+    a_peer_that_never_listens_ends, a_send_waits_for_a_listener, links_hear_each_other,
+};
 use crate::strangers::strangers_keep_no_peer_out;
 use crate::words::reads_words_as_bytes;
 use std::io::Write;
@@ -49,10 +51,23 @@ fn play_files(rt: HostRuntime) -> Result<(), Fail> {
     tell(&rt, holds, "the words of a command line are bytes")
 }
 
-fn main(rt: HostRuntime) -> Result<(), Fail> {
-    play_files(rt)?;
+/// Plays the cases of links over sockets.
+fn play_sockets(rt: HostRuntime) -> Result<(), Fail> {
     let holds = links_hear_each_other(rt)?;
     tell(&rt, holds, "links over sockets hear each other")?;
     let holds = strangers_keep_no_peer_out(rt)?;
-    tell(&rt, holds, "strangers keep no peer out")
+    tell(&rt, holds, "strangers keep no peer out")?;
+    let holds = a_send_waits_for_a_listener(rt)?;
+    tell(
+        &rt,
+        holds,
+        "what is sent to a peer that listens later is heard by it",
+    )?;
+    let holds = a_peer_that_never_listens_ends(rt)?;
+    tell(&rt, holds, "a peer that never listens is told as ended")
+}
+
+fn main(rt: HostRuntime) -> Result<(), Fail> {
+    play_files(rt)?;
+    play_sockets(rt)
 }

@@ -123,3 +123,38 @@ pub(crate) fn links_hear_each_other(rt: HostRuntime) -> Result<bool, Fail> {
     drop(there);
     Ok(listening && both && sent && hears_until_the_end(alloc, &mut here, far, much.as_slice())?)
 }
+
+/// Whether what was sent to a peer before it listened is heard by it, once it listens.
+pub(crate) fn a_send_waits_for_a_listener(rt: HostRuntime) -> Result<bool, Fail> {
+    let alloc = rt.alloc();
+    let (near, far) = (free_port(&rt)?, free_port(&rt)?);
+    let mut here = TcpLink::new(alloc, rt, WAIT);
+    let mut there = TcpLink::new(alloc, rt, WAIT);
+    let listening = here.listen(near, &[far]).is_ok();
+    let sent = sends(&mut here, far, b"one") && sends(&mut here, far, b"two");
+    let listening = listening && there.listen(far, &[near]).is_ok();
+    let mut buf = vec![in alloc; 0u8; 4_096]?;
+    let mut quiet = true;
+    for _poll in 0..20u32 {
+        quiet = quiet && here.next(buf.as_mut_slice()) == LinkEvent::Quiet;
+    }
+    drop(here);
+    let heard = heard_all(alloc, &mut there, near)?;
+    Ok(listening && sent && quiet && heard.is(b"onetwo"))
+}
+
+/// Whether a peer that never listens is told as ended, once, and sends to it fail then.
+pub(crate) fn a_peer_that_never_listens_ends(rt: HostRuntime) -> Result<bool, Fail> {
+    let alloc = rt.alloc();
+    let (near, far) = (free_port(&rt)?, free_port(&rt)?);
+    let mut here = TcpLink::new(alloc, rt, WAIT);
+    let listening = here.listen(near, &[far]).is_ok();
+    let sent = sends(&mut here, far, b"one") && sends(&mut here, far, b"two");
+    let heard = heard_all(alloc, &mut here, far)?;
+    let mut buf = vec![in alloc; 0u8; 4_096]?;
+    let mut quiet = true;
+    for _poll in 0..3u32 {
+        quiet = quiet && here.next(buf.as_mut_slice()) == LinkEvent::Quiet;
+    }
+    Ok(listening && sent && heard.is_empty() && quiet && !sends(&mut here, far, b"three"))
+}
