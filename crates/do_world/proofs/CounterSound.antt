@@ -3,6 +3,7 @@ use Rattle.std.proofs.Common.{◌≡◌, ℕ, List, [], ◌∷◌, refl, arith}
 use Rattle.std.specs.{Prelude.{Some, codes}, List.{AllByRecursion, IsDistinct}}
 use Rattle.std.proofs.lemmas.List.Elements.{All-from_recursion, All-nil}
 use Rattle.do_behave.specs.Programs.{Suits}
+use Rattle.do_carried.specs.Ranged.{CodesAreRanged}
 use Rattle.do_class.specs.{Class.{Class, IsClass}, Table.IsTable}
 use Rattle.do_check.specs.{Rules.{AreRules, IsRule}, declared.rules.Rule.Rule}
 use Rattle.do_class_kinds.specs.{Kinds.AreKindsOf, Methods.AreTyped, declared.kind.Kind.Kind}
@@ -126,12 +127,21 @@ kinded = record {
   rules_good = All-from_recursion AreRules counter_rules (All-nil IsRule, (All-nil IsRule, tt));
 }
 
+-- ---- numbers and texts
+
+-- the one number of the codes has 64 bits
+codes_ranged : CodesAreRanged counter_codes
+codes_ranged =
+    (((tt, (tt, (tt, (tt, tt)))), tt), (((omega arith, (tt, (tt, (tt, (tt, tt))))), tt), tt))
+
 -- the world is sound
 counter_sound : IsSound counter_world
 counter_sound = record {
   opens = opens;
   made = ((add_suits, tt), ((go_suits, tt), tt));
   kinds = kinded;
+  codes = codes_ranged;
+  denials = (tt, (tt, tt));
 }
 
 -- and so is one of the same parts

@@ -3,6 +3,7 @@ use Rattle.std.proofs.Common.{◌≡◌, ◌≤◌, List, [], ◌∷◌, length,
 use Rattle.std.{proofs.Common.{ap, arith, subst}, specs.{Prelude.codes, List.{All, filter_map}}}
 use Rattle.toml.specs.Data.{Members}
 use Rattle.do_behave.specs.Programs.{IsMadeFor}
+use Rattle.do_carried.specs.Ranged.{CodesAreRanged, RulesAreRanged}
 use Rattle.do_class.specs.{Class.Class, Table.{IsTable, names_of}}
 use Rattle.do_document.specs.{Checks.first_among, ClassFaults.class_fault}
 use Rattle.do_check.specs.declared.rules.Rule.{Rule}
@@ -104,7 +105,7 @@ world_said d table kinds rules program nodes t k r p n = rw (n, p, r, k, t) refl
 pub world_sound : (table : List Class) (kinds : List Kind) (rules : List (List Rule))
     (program : List (List Listing)) (nodes : List Seat) → IsTable table → All HasTypes table
     → 1 ≤ length nodes → length nodes ≤ 64 → AreSeats table nodes → IsMadeFor program table
-    → AreKindsOf table kinds rules
+    → AreKindsOf table kinds rules → CodesAreRanged program → RulesAreRanged rules
     → IsSound (record {
       table = table;
       kinds = kinds;
@@ -112,7 +113,7 @@ pub world_sound : (table : List Class) (kinds : List Kind) (rules : List (List R
       program = program;
       nodes = nodes;
     })
-world_sound table kinds rules program nodes is typed some few seats made kinded = record {
+world_sound table kinds rules program nodes is typed some few seats made kinded codes denials = record {
   opens = record {
     classes = is;
     signatures = typed;
@@ -123,6 +124,8 @@ world_sound table kinds rules program nodes is typed some few seats made kinded 
   };
   made = made;
   kinds = kinded;
+  codes = codes;
+  denials = denials;
 }
 
 -- what reading the classes of a document gave
@@ -133,6 +136,7 @@ pub record AreClasses (cs : List Members) (table : List Class) (kinds : List Kin
   pub rules_said : rules ≡ map class_rules cs
   pub typed : All HasTypes table
   pub kinded : AreKindsOf table kinds rules
+  pub denials : RulesAreRanged rules
 
 -- the world of parts that were found is that of the document, and sound
 pub world_found : (d : Members) (cs ns : List Members) (table : List Class) (kinds : List Kind)
@@ -146,7 +150,7 @@ pub world_found : (d : Members) (cs ns : List Members) (table : List Class) (kin
     → (first_among (seat_fault table) ns ≡ None)
     × ((nodes ≡ filter_map (seat_of table) ns) × (length nodes ≡ length ns)
     × AreSeats table nodes)
-    → program ≡ coded
+    → program ≡ coded → CodesAreRanged coded
     → (fault_of d ≡ None)
     × ((record { table = table; kinds = kinds; rules = rules; program = program; nodes = nodes }
     ≡ world_of d)
@@ -158,7 +162,7 @@ pub world_found : (d : Members) (cs ns : List Members) (table : List Class) (kin
       nodes = nodes;
     }))
 world_found d cs ns table kinds rules coded program nodes listed seated top bounds good cf pf nf
-    same =
+    same ranged =
     let some = bounds.1 in
     let few = bounds.2 in
     let listed_nodes = tables_at (codes "node") d in
@@ -173,6 +177,6 @@ world_found d cs ns table kinds rules coded program nodes listed seated top boun
             (nf.1.0 ∙ ap (filter_map (seat_of table)) seated),
         world_sound table kinds rules program nodes pf.1.2 cf.typed (omega arith) (omega arith)
             nf.1.2 (subst (λ (x : List (List Listing)). IsMadeFor x table) (sym same) pf.1.1)
-            cf.kinded,
+            cf.kinded (subst CodesAreRanged (sym same) ranged) cf.denials,
       ),
     )

@@ -12,6 +12,7 @@ use crate::method_codes::codes_for;
 use crate::seats::seats_of;
 use crate::world::World;
 use do_behave::Program;
+use do_carried::{codes_are_ranged, rules_are_ranged};
 use do_document::{
     Classes, ItemKind, Place, WorldFault, check_list, classes_of, known_keys, required, tables_at,
 };
@@ -100,6 +101,8 @@ fn world_of(alloc: Global, document: &Table) -> Result<World, WorldFault>
     let codes = codes_for(alloc, listed, &made.table, &made.kinds)?;
     let seats = tables_at(alloc, document, "node")?;
     let nodes = seats_of(alloc, seats.as_slice(), &made.table)?;
+    codes_are_ranged(&codes);
+    rules_are_ranged(&made.rules);
     let program = Program::new(&made.table, codes);
     let Classes {
         table,

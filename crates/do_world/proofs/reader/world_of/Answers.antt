@@ -47,4 +47,6 @@ returns c =
       rules_said = made.0.2;
       typed = made.3;
       kinded = made.4;
+      denials = c.rules_are_ranged.ensures;
     }) c.in_ok-codes.ensures c.in_ok-nodes.ensures c.new-program.ensures
+    c.codes_are_ranged.ensures
