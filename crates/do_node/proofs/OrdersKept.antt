@@ -1,10 +1,15 @@
--- What is woven is an order of the records' inputs, and where they contradict there is none.
+-- What is woven is an order of the records' inputs. Where they contradict there is none, and they
+-- are not those of nodes that exchanged their bytes.
 use Rattle.do_sched.specs.declared.fault.SchedFault.TheVariants as sched
-use Rattle.std.proofs.Common.{◌≡◌, ◌++◌, ℕ, List, [], ◌∷◌, Option, Ok, Err, inl, inr, subst}
+use Rattle.std.proofs.Common.{◌≡◌, ◌++◌, ℕ, List, [], ◌∷◌, None, Option, Some, Result, Ok, Err, inl}
+use Rattle.std.{proofs.Common.{inr, subst}, specs.Prelude.{IfErr, IfSome}}
 use Rattle.do_base.specs.declared.outside.shelf.NamedFile.{NamedFile}
+use Rattle.do_cli.specs.declared.command.Command.{Command, TheVariants.Weave}
 use Rattle.do_exchanged.proofs.Exchange.{exchanged_done}
-use Rattle.do_given.specs.{Parts.behaviour_of, Reading.RefusesWorld, declared.status.Status.Status}
-use Rattle.do_given.specs.declared.status.Status.TheVariants.{Contradiction}
+use Rattle.do_given.specs.{Parts.behaviour_of, Reading.{RefusesWorld, Stops}}
+use Rattle.do_given.specs.declared.status.Status.{Status, TheVariants.{Contradiction, Memory}}
+use Rattle.do_kept.proofs.Ranged.{worlds_keep}
+use Rattle.do_limits.specs.SendableActs.{KeepsSendable}
 use Rattle.do_machine.specs.{World.opening, declared.state.Seat.Seat}
 use Rattle.do_native.specs.Acts.{native_act}
 use Rattle.do_orders.proofs.InputsCommute.{inputs_commute}
@@ -15,9 +20,10 @@ use Rattle.do_weave.proofs.{Again.threads_apart, Standing.fault_stands, Left.ord
 use Rattle.do_weave.proofs.Orders.{woven_order}
 use Rattle.do_weave.specs.{Orders.{CanBeDone, HasOrder, IsReached}, Threads.{blocks_in, threads_of}}
 use Rattle.do_weave.specs.{Weaving.woven, declared.fault.WeaveFault.WeaveFault}
-use Rattle.do_world.specs.declared.world.World.{World}
-use Rattle.do_node.specs.{Orders.{HaveNoOrder, HaveOrder}, Records.{SayNoRecords, told_of_record}}
-use Rattle.do_node.specs.Weaving.{IsWoven, RefusesRecords, RefusesWeaving, RefusesWoven, rules_of}
+use Rattle.do_world.specs.{Sound.IsSound, declared.world.World.World}
+use Rattle.do_node.specs.{Answering.answer_of, Orders.{AnswersAltered, HaveNoOrder, HaveOrder}}
+use Rattle.do_node.specs.{Orders.TellsAltered, Records.{SayNoRecords, told_of_record}}
+use Rattle.do_node.specs.Weaving.{Contradicts, GivesRecords, IsWoven, RefusesWeaving, rules_of}
 use Rattle.do_node.{specs.Weaving.world_woven, proofs.RecordsGiven.{files_read, over_world}}
 
 -- what a world's records contradict, from its opening on
@@ -52,6 +58,18 @@ no_records told seats earlier (name ∷ names) index line (inl (inr bad)) =
 no_records told seats earlier (name ∷ names) index line (inr (r, say, more)) =
     no_records told seats (earlier ++ r ∷ []) names index line more
 
+-- no order does what records say that contradict
+none_done : (told : Option (List NamedFile)) (word : List ℕ) (names : List (List ℕ)) (w : World)
+    (records : List Record) (status : Status) → GivesRecords told word names w records →
+    Contradicts w records status → CanBeDone (rules_of w) (opening w.table w.nodes) records → ⊥
+none_done told word names w records status given bad order =
+    let R = rules_of w in
+    let read = files_read told w.nodes names [] records given.say in
+    let sound = read_sound w.nodes read.0 records read.1 in
+    fault_stands R records w.nodes (inputs_commute R w.nodes) (blocks_in records)
+    (opening w.table w.nodes) (threads_of records) bad.fault IsReached.at_opening
+    (threads_apart records sound.apart) (fault_over w records bad.fault bad.is_fault) order
+
 -- where the answer is a contradiction, no order does what the records say
 pub no_order : (told : Option (List NamedFile)) (word : List ℕ) (names : List (List ℕ))
     (index line : ℕ) → RefusesWeaving told word names (Contradiction index line) →
@@ -59,26 +77,89 @@ pub no_order : (told : Option (List NamedFile)) (word : List ℕ) (names : List 
 no_order told word names index line (inl h) = absurd (no_world told word index line h)
 no_order told word names index line (inr (inl h)) =
     absurd (no_records told h.world.nodes [] names index line h.refuses)
-no_order told word names index line (inr (inr h)) =
-    let w : World = h.world in
-    let R = rules_of w in
-    let read = files_read told w.nodes names [] h.records h.given.say in
-    let sound = read_sound w.nodes read.0 h.records read.1 in
-    let fault = h.contradicts.fault in
-    let none : CanBeDone R (opening w.table w.nodes) h.records → ⊥ = λ order.
-    fault_stands R h.records w.nodes (inputs_commute R w.nodes) (blocks_in h.records)
-    (opening w.table w.nodes) (threads_of h.records) fault IsReached.at_opening
-    (threads_apart h.records sound.apart)
-    (fault_over w h.records fault h.contradicts.is_fault) order in
-    record {
+no_order told word names index line (inr (inr h)) = record {
+  world = h.world;
+  records = h.records;
+  given = h.given;
+  none =
+      none_done told word names h.world h.records (Contradiction index line) h.given h.contradicts;
+}
+
+-- ---- records that are altered
+
+-- the acts of a world that was read keep values that a message can carry
+sound_keeps : (w : World) → IsSound w → KeepsSendable w.table (native_act (behaviour_of w))
+sound_keeps w sound =
+    worlds_keep (behaviour_of w) w.table (record { program = sound.made; kinds = sound.kinds })
+    sound.codes sound.denials
+
+module _ (told : Option (List NamedFile)) (word : List ℕ) (names : List (List ℕ)) where
+  -- a world is refused otherwise
+  pub world_altered : (unread : Type 0) (status : Status) →
+      Stops unread ⊥ (RefusesWorld told word) status → TellsAltered told word names status
+  world_altered unread (Contradiction index line) stopped =
+      absurd (no_world told word index line stopped)
+  world_altered unread _ stopped = tt
+
+  -- and so are records
+  pub records_altered : (unread : Type 0) (same : Option (List NamedFile)) (seats : List Seat)
+      (earlier : List Record) (given : List (List ℕ)) (status : Status) →
+      Stops unread ⊥ (SayNoRecords same seats earlier given) status →
+      TellsAltered told word names status
+  records_altered unread same seats earlier given (Contradiction index line) stopped =
+      absurd (no_records same seats earlier given index line stopped)
+  records_altered unread same seats earlier given _ stopped = tt
+
+  module _ (w : World) (sound : IsSound w) (records : List Record)
+      (given : GivesRecords told word names w records) where
+    -- those that contradict over a world that was read are altered
+    told_altered : (status : Status) → Stops ⊥ ⊥ (Contradicts w records) status →
+        TellsAltered told word names status
+    told_altered (Contradiction index line) bad = record {
       world = w;
-      records = h.records;
-      given = h.given;
-      none = none;
-      altered = λ x. none (subst (CanBeDone R (opening w.table w.nodes)) x.are
-          (exchanged_done w.table (native_act (behaviour_of w)) w.nodes x.opens x.keeps x.runs
-          x.exchanged));
+      records = records;
+      given = given;
+      altered = λ x.
+          none_done told word names w records (Contradiction index line) given bad
+          (subst (CanBeDone (rules_of w) (opening w.table w.nodes)) x.are
+          (exchanged_done w.table (native_act (behaviour_of w)) w.nodes sound.opens
+          (sound_keeps w sound) x.runs x.exchanged));
     }
+    told_altered _ bad = tt
+
+    -- so it is of what is answered
+    pub woven_altered : (result : Result (List ℕ) Status) →
+        IfErr result (Stops ⊥ ⊥ (Contradicts w records)) →
+        IfErr result (TellsAltered told word names)
+    woven_altered (Ok text) stopped = tt
+    woven_altered (Err status) stopped = told_altered status stopped
+
+  -- what stops a sink is no contradiction
+  sink_told : (failed : Type 0) (status : Status) → Stops ⊥ failed (λ st. ⊥) status →
+      TellsAltered told word names status
+  sink_told failed (Contradiction index line) stopped = absurd stopped
+  sink_told failed _ stopped = tt
+
+  -- so it is of what is answered
+  pub sink_altered : (failed : Type 0) (result : Result Unit Status) →
+      IfErr result (Stops ⊥ failed (λ st. ⊥)) → IfErr result (TellsAltered told word names)
+  sink_altered failed (Ok done) stopped = tt
+  sink_altered failed (Err status) stopped = sink_told failed status stopped
+
+  -- and of the status of the command
+  pub answer_altered : (result : Result Unit Status) →
+      IfErr result (TellsAltered told word names) → TellsAltered told word names (answer_of result)
+  answer_altered (Ok done) told_so = tt
+  answer_altered (Err status) told_so = told_so
+
+-- memory that ran out is no contradiction, whatever the command is
+pub memory_altered : (told : Option (List NamedFile)) (command : Option Command) →
+    IfSome command (AnswersAltered told Memory)
+memory_altered told None = tt
+memory_altered told (Some (Weave world names)) = tt
+memory_altered told (Some _) = tt
+
+-- ---- orders
 
 -- what is woven is an order of all inputs
 order_is : (w : World) (records : List Record) (lines : List Line) →

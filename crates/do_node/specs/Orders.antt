@@ -1,10 +1,11 @@
 -- Whether what records say can be done in some order.
 use Rattle.std.specs.Prelude.{List, Option, map, ℕ, ◌≡◌}
 use Rattle.do_base.specs.declared.outside.shelf.NamedFile.{NamedFile}
+use Rattle.do_cli.specs.declared.command.Command.{Command, TheVariants.Weave}
 use Rattle.do_exchanged.specs.Runs.{Exchanged, Ran, record_of_run}
-use Rattle.do_given.specs.Parts.{behaviour_of}
-use Rattle.do_limits.specs.SendableActs.{KeepsSendable}
-use Rattle.do_machine.specs.World.{IsWorld, opening}
+use Rattle.do_given.specs.{Parts.behaviour_of, declared.status.Status.Status}
+use Rattle.do_given.specs.declared.status.Status.TheVariants.{Contradiction}
+use Rattle.do_machine.specs.World.{opening}
 use Rattle.do_native.specs.Acts.{native_act}
 use Rattle.do_record.specs.declared.parts.Record.{Record}
 use Rattle.do_weave.specs.Orders.{CanBeDone}
@@ -22,18 +23,32 @@ pub record HaveOrder (told : Option (List NamedFile)) (word : List ℕ) (names :
 
 -- the nodes of a world exchanged their bytes unchanged, and recorded this
 pub record Recorded (w : World) (records : List Record) : Type 0 where
-  pub opens : IsWorld w.table w.nodes
-  pub keeps : KeepsSendable w.table (native_act (behaviour_of w))
   pub runs : List Ran
   pub exchanged : Exchanged w.table (native_act (behaviour_of w)) w.nodes runs
   pub are : map (record_of_run w.table (native_act (behaviour_of w)) w.nodes) runs ≡ records
 
--- They give a world and records, and no such order does. Nor are the records those of nodes that
--- exchanged their bytes unchanged
+-- they give a world and records, and no such order does
 pub record HaveNoOrder (told : Option (List NamedFile)) (word : List ℕ) (names : List (List ℕ)) :
     Type 0 where
   pub world : World
   pub records : List Record
   pub given : GivesRecords told word names world records
   pub none : CanBeDone (rules_of world) (opening world.table world.nodes) records → ⊥
+
+-- they give a world and records that are not those of nodes that exchanged their bytes unchanged
+pub record AreAltered (told : Option (List NamedFile)) (word : List ℕ) (names : List (List ℕ)) :
+    Type 0 where
+  pub world : World
+  pub records : List Record
+  pub given : GivesRecords told word names world records
   pub altered : Recorded world records → ⊥
+
+-- an answer of `weave` is no contradiction, or the records are such
+abbrev pub TellsAltered : Option (List NamedFile) → List ℕ → List (List ℕ) → Status → Type 0
+TellsAltered told word names (Contradiction index line) = AreAltered told word names
+TellsAltered told word names status = Unit {0}
+
+-- so it is of the answer to a command
+abbrev pub AnswersAltered : Option (List NamedFile) → Status → Command → Type 0
+AnswersAltered told status (Weave world names) = TellsAltered told world names status
+AnswersAltered told status command = Unit {0}

@@ -9,7 +9,7 @@ ghost use Rattle.do_cli.specs.Forms.{command_in, stuck_at};
 ghost use Rattle.do_cli.specs.declared.command.Command.TheVariants.{Leaks, Upgrade, Weave};
 ghost use Rattle.do_node.specs.Call.{CanWrite, HasUnread, IsRefusal, Refuses, Writes, WritesAll};
 ghost use Rattle.do_node.specs.{Call.{WritesNothing, WritesSome}, OneMachine.AddsAsOne};
-ghost use Rattle.do_node.specs.{Leaking.TellsLost, Orders.{HaveNoOrder, HaveOrder}};
+ghost use Rattle.do_node.specs.{Leaking.TellsLost, Orders.{AnswersAltered, HaveNoOrder, HaveOrder}};
 ghost use Rattle.do_node.specs.{Rewoven.GivesBack, Running.{EndsWith, IsRunEnd, Links, Spawns}};
 ghost use Rattle.do_node.specs.{Running.{link_seen, spawner_seen}, Upgrading.IsReplayedAlike};
 
@@ -121,13 +121,15 @@ pub fn run<H: Shelf, K: Sink, L: Link, P: Spawner>(
         → GivesBack (H.files shelf.old) world records text }
 
     // That `weave` finds an order of the records' inputs, and a contradiction exactly where none
-    // does what the records say. What nodes recorded that exchanged their bytes has an order.
+    // does what the records say. Where it answers so, they are not those of nodes that exchanged
+    // their bytes unchanged.
     ensures ordered { (world : List ℕ) (records : List (List ℕ)) (text : List ℕ)
         → Writes (H.files shelf.old) (Weave world records) text
         → HaveOrder (H.files shelf.old) world records }
     ensures unordered { (world : List ℕ) (records : List (List ℕ)) (index line : ℕ)
         → Refuses (H.files shelf.old) (Weave world records) (statuses.Contradiction index line)
         → HaveNoOrder (H.files shelf.old) world records }
+    ensures altered { IfSome (command_in words.now) (AnswersAltered (H.files shelf.old) result) }
 
     ensures same { H.files shelf.new ≡ H.files shelf.old }
     ensures shelf_faults { H.faults shelf.old ≤ H.faults shelf.new }

@@ -9,8 +9,9 @@ ghost use Rattle.do_generate.specs.Generated.{generated};
 ghost use Rattle.do_world.specs.{Mesh.mesh_world, Sound.IsSound};
 ghost use Rattle.do_agreement.specs.HasWires.{HasWires};
 ghost use Rattle.do_replay.specs.Replayed.{WritesWithWires};
-ghost use Rattle.do_node.specs.{OneMachine.{AddsAsOne, ComesAsOne}, Replaying.made_text};
-ghost use Rattle.do_node.specs.Replaying.{world_lost, world_summary, world_transcript, world_wired};
+ghost use Rattle.do_node.specs.{OneMachine.{AddsAsOne, ComesAsOne}, Orders.TellsAltered};
+ghost use Rattle.do_node.specs.Replaying.{made_text, world_lost, world_summary, world_transcript};
+ghost use Rattle.do_node.specs.Replaying.{world_wired};
 
 use crate::leaking::world_lost;
 use crate::making::summary_text;
@@ -144,6 +145,7 @@ pub fn write_woven<S: Hosted<Acts = Native>, H: Shelf, K: Sink>(
         (record { before = H.faults shelf.old; now = H.faults shelf.new })
         (K.written out.old) (K.written out.new)
         (record { before = K.faults out.old; now = K.faults out.new }) result }
+    ensures altered { IfErr result (TellsAltered (H.files shelf.old) world.now files.now) }
     ensures same { H.files shelf.new ≡ H.files shelf.old }
     ensures shelf_faults { H.faults shelf.old ≤ H.faults shelf.new }
     ensures sink_faults { K.faults out.old ≤ K.faults out.new }

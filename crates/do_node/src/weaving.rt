@@ -5,8 +5,8 @@ ghost use Rattle.do_sched.specs.Schedule.{most_steps};
 ghost use Rattle.do_woven.specs.Steps.{steps_in};
 ghost use Rattle.do_world.specs.Sound.{IsSound};
 ghost use Rattle.do_given.specs.Reading.{OrMemory, OrUnread, Stops};
-ghost use Rattle.do_node.specs.Weaving.{Contradicts, HasUnreadPart, IsWoven, RefusesWeaving};
-ghost use Rattle.do_node.specs.Weaving.{WeavesTo, told_of_weaving};
+ghost use Rattle.do_node.specs.{Orders.TellsAltered, Weaving.{Contradicts, HasUnreadPart, IsWoven}};
+ghost use Rattle.do_node.specs.Weaving.{RefusesWeaving, WeavesTo, told_of_weaving};
 
 use crate::networks::world_net;
 use crate::records::records_given;
@@ -74,6 +74,7 @@ pub fn woven_given<S: Hosted<Acts = Native>, H: Shelf>(
         → H.files shelf.old ≡ Some files
         → RefusesWeaving (Some files) word.now names.now status
         → OrUnread (Err status) result }
+    ensures altered { IfErr result (TellsAltered (H.files shelf.old) word.now names.now) }
     ensures same { H.files shelf.new ≡ H.files shelf.old }
     ensures later { H.faults shelf.old ≤ H.faults shelf.new }
 {

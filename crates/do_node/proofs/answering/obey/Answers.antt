@@ -3,8 +3,9 @@ use Rattle.std.proofs.Common.{refl}
 use Rattle.do_cli.specs.Help.{help_text, version_text}
 use Rattle.do_cli.specs.declared.command.Command.TheVariants.{Help, Make, Version}
 use Rattle.do_node.specs.{Replaying.made_text, Running.{link_seen, spawner_seen}}
-use Rattle.do_node.proofs.{AsOneMachine.{answered_so, summary_adds}, NodesCome.node_comes}
-use Rattle.do_node.proofs.{NodesCome.plan_comes, Obeying.obeys_writing, TextsCome.text_comes}
+use Rattle.do_node.proofs.AsOneMachine.{answered_so, summary_adds}
+use Rattle.do_node.proofs.{NodesCome.{node_comes, plan_comes}, Obeying.obeys_writing}
+use Rattle.do_node.proofs.{OrdersKept.answer_altered, TextsCome.text_comes}
 
 -- a replay comes to what its call says
 pub returns-in-Replay-clause-comes : goal.returns-in-Replay-clause-comes
@@ -108,3 +109,40 @@ returns-in-Help-clause-one_machine g c = rw c.in-Help.is tt
 -- nor of the version
 pub returns-in-Version-clause-one_machine : goal.returns-in-Version-clause-one_machine
 returns-in-Version-clause-one_machine g c = rw c.in-Version.is tt
+
+-- records that are woven to a contradiction are altered
+pub returns-in-Weave-clause-altered : goal.returns-in-Weave-clause-altered
+returns-in-Weave-clause-altered g c = rw c.in-Weave.is (rw c.answer_of-in-Weave.ensures
+    (answer_altered _ _ _ _ c.write_woven.ensures.altered))
+
+-- of no other command is this said: of a replay
+pub returns-in-Replay-clause-altered : goal.returns-in-Replay-clause-altered
+returns-in-Replay-clause-altered g c = rw c.in-Replay.is tt
+
+-- of what nothing can reach
+pub returns-in-Leaks-clause-altered : goal.returns-in-Leaks-clause-altered
+returns-in-Leaks-clause-altered g c = rw c.in-Leaks.is tt
+
+-- of an upgraded schedule
+pub returns-in-Upgrade-clause-altered : goal.returns-in-Upgrade-clause-altered
+returns-in-Upgrade-clause-altered g c = rw c.in-Upgrade.is tt
+
+-- of a summary
+pub returns-in-Make-clause-altered : goal.returns-in-Make-clause-altered
+returns-in-Make-clause-altered g c = rw c.in-Make.is tt
+
+-- of a node that is served
+pub returns-in-Node-clause-altered : goal.returns-in-Node-clause-altered
+returns-in-Node-clause-altered g c = rw c.in-Node.is tt
+
+-- of a plan
+pub returns-in-Lab-clause-altered : goal.returns-in-Lab-clause-altered
+returns-in-Lab-clause-altered g c = rw c.in-Lab.is tt
+
+-- of the help
+pub returns-in-Help-clause-altered : goal.returns-in-Help-clause-altered
+returns-in-Help-clause-altered g c = rw c.in-Help.is tt
+
+-- of the version
+pub returns-in-Version-clause-altered : goal.returns-in-Version-clause-altered
+returns-in-Version-clause-altered g c = rw c.in-Version.is tt

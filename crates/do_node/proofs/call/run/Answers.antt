@@ -1,7 +1,8 @@
 use Rattle.do_node.proofs.call.run.Goals as goal
 use Rattle.do_cli.specs.Forms.{command_in}
-use Rattle.do_node.proofs.{AsOneMachine.memory_adds, LeaksTold.leaks_told, OrdersKept.no_order}
-use Rattle.do_node.proofs.{OrdersKept.some_order, RecordsGiven.gives_back, Upgraded.replayed_alike}
+use Rattle.do_node.proofs.{AsOneMachine.memory_adds, LeaksTold.leaks_told}
+use Rattle.do_node.proofs.OrdersKept.{memory_altered, no_order, some_order}
+use Rattle.do_node.proofs.{RecordsGiven.gives_back, Upgraded.replayed_alike}
 use Rattle.do_node.proofs.WordsRead.{memory_told, no_command, none_asked, usage_told}
 
 pub returns-in-Err-Usage-clause-usage : goal.returns-in-Err-Usage-clause-usage
@@ -86,3 +87,11 @@ pub returns-in-Err-Memory-clause-one_machine : goal.returns-in-Err-Memory-clause
 returns-in-Err-Memory-clause-one_machine g c =
     memory_adds (g.H.Shelf.files c.args.shelf.now) (g.K.Sink.written c.args.out.now)
     (command_in c.args.words.now)
+
+pub returns-in-Err-Usage-clause-altered : goal.returns-in-Err-Usage-clause-altered
+returns-in-Err-Usage-clause-altered g c = none_asked c.args.words.now c.in-Err-Usage.word _
+    (rw c.in-Err-Usage.field-0-is at c.in-Err-Usage.ensures.usage)
+
+pub returns-in-Err-Memory-clause-altered : goal.returns-in-Err-Memory-clause-altered
+returns-in-Err-Memory-clause-altered g c =
+    memory_altered (g.H.Shelf.files c.args.shelf.now) (command_in c.args.words.now)

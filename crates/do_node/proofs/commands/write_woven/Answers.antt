@@ -1,7 +1,7 @@
 use Rattle.do_node.proofs.commands.write_woven.Goals as goal
 use Rattle.do_cli.specs.declared.command.Command.TheVariants.{Weave}
 use Rattle.do_given.proofs.{FilesTold.no_err, Stopping.{must_be, must_give}}
-use Rattle.do_node.proofs.Obeying.{obeys_stopping, obeys_writing}
+use Rattle.do_node.proofs.{Obeying.{obeys_stopping, obeys_writing}, OrdersKept.sink_altered}
 
 pub returns-in-Ok-clause-obeys : goal.returns-in-Ok-clause-obeys
 returns-in-Ok-clause-obeys g c =
@@ -17,3 +17,10 @@ returns-in-Err-clause-obeys g c =
     (λ files st is none. must_be st c.in-Err.status (c.in-Err.ensures.refuses files st is none))
     (λ files text is writes. must_give text c.in-Err.status
     (c.in-Err.ensures.accepts files text is writes))
+
+pub returns-in-Ok-clause-altered : goal.returns-in-Ok-clause-altered
+returns-in-Ok-clause-altered g c =
+    sink_altered _ c.args.world.now c.args.files.now _ _ c.write_text.ensures.stopped
+
+pub returns-in-Err-clause-altered : goal.returns-in-Err-clause-altered
+returns-in-Err-clause-altered g c = c.in-Err.ensures.altered

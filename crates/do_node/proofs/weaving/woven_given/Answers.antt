@@ -1,5 +1,6 @@
 use Rattle.do_node.proofs.weaving.woven_given.Goals as goal
 use Rattle.std.proofs.Common.{◌∙◌, Ok}
+use Rattle.do_node.proofs.OrdersKept.{records_altered, world_altered, woven_altered}
 use Rattle.do_node.proofs.WovenTold.{contradiction_stops, records_refuse, records_stop}
 use Rattle.do_node.proofs.WovenTold.{records_stop_text, woven_here, woven_refuses, world_refuses}
 use Rattle.do_node.proofs.WovenTold.{world_stops}
@@ -82,3 +83,24 @@ returns-clause-refuses g c = λ files status is none.
     (λ st no. c.in-Ok.ensures.refuses files st is no)
     (λ st no. read.ensures.refuses files st (c.in-Ok.ensures.same ∙ is)
     (rw (c.as_slice.ensures, c.new-none.ensures) no)) c.woven_text.ensures.refuses status none
+
+-- a world is not refused as a contradiction
+pub returns-in-Err-clause-altered : goal.returns-in-Err-clause-altered
+returns-in-Err-clause-altered g c =
+    world_altered _ c.args.word.now c.args.names.now _ c.in-Err.status c.in-Err.ensures.stopped
+
+-- nor is a record
+pub returns-in-Err-records_given-clause-altered : goal.returns-in-Err-records_given-clause-altered
+returns-in-Err-records_given-clause-altered g c =
+    let ended = c.in-Err-records_given in
+    records_altered _ c.args.word.now c.args.names.now _ _ _ _ _ ended.status ended.ensures.stopped
+
+-- records that contradict are altered
+pub returns-clause-altered : goal.returns-clause-altered
+returns-clause-altered g c =
+    let read = c.in-Ok-records_given in
+    woven_altered _ c.args.word.now c.args.names.now c.in-Ok.world c.in-Ok.ensures.sound
+    read.records (record {
+      gives = c.in-Ok.ensures.gives;
+      say = rw (c.in-Ok.ensures.same, c.as_slice.ensures, c.new-none.ensures) at read.ensures.says;
+    }) _ c.woven_text.ensures.stopped
