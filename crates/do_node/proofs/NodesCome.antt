@@ -11,10 +11,9 @@ use Rattle.do_given.specs.Serving.{GivesServed, RefusesServed, SaysNoText, SaysP
 use Rattle.do_given.specs.declared.{served.Served.Served, status.Status.Status}
 use Rattle.do_lab.specs.{Children.lab_text, declared.children.ChildEnd.ChildEnd}
 use Rattle.do_link.specs.Told.{Told}
-use Rattle.do_output.proofs.ToldMore.{tells_none}
 use Rattle.do_plan.specs.{Plan.plan_form, declared.plan.PlanLine.PlanLine}
 use Rattle.do_serve.specs.Answers.{record_text}
-use Rattle.do_node.specs.{Call.{Comes, Writes}, Running.{Counts, Links, Spawns}}
+use Rattle.do_node.specs.{Call.{Comes, Writes}, Running.Counts}
 use Rattle.do_node.proofs.{FrontsWritten.front_written, RunsCome.{EndSays, run_comes}}
 
 module _ (told : Option (List NamedFile)) (port : ℕ) (word name : List ℕ) (turns : ℕ)
@@ -135,37 +134,3 @@ module _ (told : Option (List NamedFile)) (name : List ℕ) (old new : plans.See
         given = λ t text writes. (writes.plan, writes.says);
       })
       status comes
-
--- where memory ran out before, a command asked nothing of a link
-pub links_nothing : (told : Option (List NamedFile)) (reads : Counts) (s : nodes.Seens)
-    (command : Command) → Links told reads s s answer.Memory command
-links_nothing told reads s (asked.Node port world starts turns) = record {
-  why = inl (tells_none s.told, refl);
-  refused = λ files st is no. inr (inr refl);
-  complete = λ files x is given. inr (inr refl);
-}
-links_nothing told reads s (asked.Lab plan) = refl
-links_nothing told reads s (asked.Replay world schedule) = refl
-links_nothing told reads s (asked.Leaks world schedule) = refl
-links_nothing told reads s (asked.Weave world files) = refl
-links_nothing told reads s (asked.Upgrade schedule) = refl
-links_nothing told reads s (asked.Make number count) = refl
-links_nothing told reads s asked.Help = refl
-links_nothing told reads s asked.Version = refl
-
--- nor of a spawner
-pub spawns_nothing : (told : Option (List NamedFile)) (reads : Counts) (s : plans.Seens)
-    (command : Command) → Spawns told reads s s answer.Memory command
-spawns_nothing told reads s (asked.Lab plan) = record {
-  why = inl (tells_none s.told, refl);
-  refused = λ files st is no. inr (inr refl);
-  complete = λ files x is given. inr (inr refl);
-}
-spawns_nothing told reads s (asked.Node port world starts turns) = refl
-spawns_nothing told reads s (asked.Replay world schedule) = refl
-spawns_nothing told reads s (asked.Leaks world schedule) = refl
-spawns_nothing told reads s (asked.Weave world files) = refl
-spawns_nothing told reads s (asked.Upgrade schedule) = refl
-spawns_nothing told reads s (asked.Make number count) = refl
-spawns_nothing told reads s asked.Help = refl
-spawns_nothing told reads s asked.Version = refl

@@ -8,12 +8,10 @@ use Rattle.do_machine.specs.declared.state.Seat.{Seat}
 use Rattle.do_record.specs.declared.parts.Record.{Record}
 use Rattle.do_sched.specs.{Answers.AnswersWith, declared.fault.SchedFault.SchedFault}
 use Rattle.do_woven.specs.Judging.{judged}
-use Rattle.do_given.specs.{declared.status.Status.Status, Files.IsUnread}
-use Rattle.do_given.specs.Reading.{OrMemory, OrUnread, Stops}
+use Rattle.do_given.specs.{declared.status.Status.Status, Reading.{OrMemory, OrUnread, Stops}}
 use Rattle.do_node.specs.Records.{AnyUnread, IsNoRecord, SayNoRecords, SayRecords, SaysNoRecord}
 use Rattle.do_node.specs.Records.{SaysRecord, told_of_record}
-use Rattle.do_given.proofs.{FilesTold.{no_err, read_is}, Stopping.{give_any, must_be, stops_as}}
-use Rattle.do_given.proofs.BothGiven.{unread_earlier}
+use Rattle.do_given.proofs.{FilesTold.{no_err, read_is}, BothGiven.unread_earlier}
 
 module _ (seats : List Seat) (earlier : List Record) (bytes : List ℕ) where
   -- where bytes are no record, the answer says so
@@ -70,43 +68,6 @@ any_unread_earlier told before mid now (name ∷ names) le (inr unread) =
     inr (any_unread_earlier told before mid now names le unread)
 
 module _ (seats : List Seat) (earlier : List Record) (name : List ℕ) (names : List (List ℕ)) where
-  -- what stops the reading of the first record stops the reading of all
-  pub first_record_stops : (told : Option (List NamedFile)) (before now : ℕ) (status : Status)
-      → Stops (IsUnread told before now name) ⊥ (SaysNoRecord told seats earlier name) status
-      → Stops (AnyUnread told before now (name ∷ names)) ⊥
-      (SayNoRecords told seats earlier (name ∷ names)) status
-  first_record_stops told before now status stopped = stops_as
-      {u = IsUnread told before now name} {v = AnyUnread told before now (name ∷ names)}
-      {f = ⊥} {g = ⊥} {r = SaysNoRecord told seats earlier name}
-      {s = SayNoRecords told seats earlier (name ∷ names)}
-      (λ unread. inl unread) (λ none. none) (λ st none. inl none) status stopped
-
-  -- so does what stops the reading of the others
-  pub later_records_stop : (told same : Option (List NamedFile)) (before mid now : ℕ) (r : Record)
-      (more : List Record) (status : Status) → same ≡ told → before ≤ mid
-      → more ≡ earlier ++ r ∷ [] → SaysRecord told seats earlier name r
-      → Stops (AnyUnread same mid now names) ⊥ (SayNoRecords same seats more names) status
-      → Stops (AnyUnread told before now (name ∷ names)) ⊥
-      (SayNoRecords told seats earlier (name ∷ names)) status
-  later_records_stop told same before mid now r more status is le with_it says stopped = stops_as
-      {u = AnyUnread told mid now names} {v = AnyUnread told before now (name ∷ names)}
-      {f = ⊥} {g = ⊥} {r = SayNoRecords told seats (earlier ++ r ∷ []) names}
-      {s = SayNoRecords told seats earlier (name ∷ names)}
-      (λ unread. inr (any_unread_earlier told before mid now names le unread)) (λ none. none)
-      (λ st none. inr (r, says, none)) status (rw (is, with_it) at stopped)
-
-  -- where the first record is none, a refusal is answered that must be
-  pub first_record_refuses : (files : List NamedFile) (status : Status)
-      → ((st : Status) → SaysNoRecord (Some files) seats earlier name st
-      → OrUnread {A = Record} (Err st) (Err status))
-      → ((r : Record) → SaysRecord (Some files) seats earlier name r → OrUnread (Ok r) (Err status))
-      → (st : Status) → SayNoRecords (Some files) seats earlier (name ∷ names) st
-      → OrUnread {A = List Record} (Err st) (Err status)
-  first_record_refuses files status refuses accepts st (inl none) =
-      must_be st status (refuses st none)
-  first_record_refuses files status refuses accepts st (inr later) =
-      give_any later.0 (Err st) status (accepts later.0 later.1)
-
   -- where the first record was read, a refusal is that of the others
   pub later_records_refuse : (files : List NamedFile) (r : Record) (more : List Record)
       (wanted : Type 0) (st : Status) → more ≡ earlier ++ r ∷ []

@@ -46,12 +46,3 @@ no_command ws n command reads asks =
 pub none_asked : (ws : List (List ℕ)) (n : ℕ) (P : Command → Type 0) → Reads ws (words.Usage n)
     → IfSome (command_in ws) P
 none_asked ws n P reads = subst (λ c. IfSome c P) (sym ((reads n).0 refl).0) tt
-
--- words that ask for a command are not stuck, whatever is told
-pub asked_no_word : (ws : List (List ℕ)) (command : Command) (word : ℕ) (told : Type 0)
-    → command_in ws ≡ Some command → (told → ⊥) → told ↔ IsStuck ws word
-asked_no_word ws command word told asks never =
-    (λ is. absurd (never is), λ stuck. absurd (none stuck.0))
-  where
-    none : command_in ws ≡ None → ⊥
-    none is = cc

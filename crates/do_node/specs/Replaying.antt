@@ -6,7 +6,7 @@ use Rattle.do_machine.specs.{World.opening, declared.state.State.State, run.Run.
 use Rattle.do_native.specs.Acts.{native_act}
 use Rattle.do_given.specs.Parts.{behaviour_of}
 use Rattle.do_generate.specs.Generated.{generated}
-use Rattle.do_world.specs.{Counter.counter_world, Mesh.mesh_world, declared.world.World.World}
+use Rattle.do_world.specs.{Mesh.mesh_world, declared.world.World.World}
 use Rattle.do_transcript.specs.Transcript.{transcript_from}
 use Rattle.do_lost.specs.Text.{lost_text}
 use Rattle.do_make.specs.{Summary.summary_of, Text.summary_text}
@@ -40,7 +40,3 @@ lost_after table act S lines = lost_text table (state_after table act S lines)
 unfoldable pub world_lost : World → List Line → List ℕ
 world_lost w lines =
     lost_after w.table (native_act (behaviour_of w)) (opening w.table w.nodes) lines
-
--- the transcript of these lines over the counter world
-abbrev pub counter_transcript : List Line → List ℕ
-counter_transcript lines = world_transcript counter_world lines

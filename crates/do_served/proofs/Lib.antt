@@ -1,3 +1,2 @@
 pub mod Comings
 pub mod Refused
-pub mod ServedEnds
