@@ -1,4 +1,5 @@
 pub mod Opening
 pub mod Walk
 pub mod Lines
+pub mod Numbers
 pub mod Few

@@ -15,6 +15,7 @@ ghost use Rattle.do_limits.specs.SendableCodes.{CodesAreSendable};
 ghost use Rattle.do_network.specs.{Net.net_opening, Wired.{net_blocks, wired}};
 ghost use Rattle.do_agreement.specs.Along.{ComesToTheSame, EventsSendSpelled, LinesSendSpelled};
 ghost use Rattle.do_agreement.specs.HasWires.{HasWires};
+ghost use Rattle.do_within.specs.Numbers.{AllNumbersSmall, NetNumbersWithin};
 ghost use Rattle.do_within.specs.Received.{ReceivedWithin, net_reached};
 
 /// After so many events no node has received an object more often than 65,536 times for each event.
@@ -27,6 +28,22 @@ pub fn amounts_are_bounded()
         IsWorld table seats → KeepsSendable table act → AllStartSendable events →
         length events < 2 ^ 46 →
         ReceivedWithin (length events) (net_reached table act seats events) }
+{}
+
+/// After so many events each node of a network has made as many calls at most, 4,096 objects for
+/// each event beside its root, and 65,536 lends for each event. So over fewer than 2^46 events the
+/// numbers of its calls, objects and lends are below 2^62.
+///
+/// Premises are those of `amounts_are_bounded`.
+pub fn numbers_of_networks_are_bounded()
+    ensures bounded { (table : List Class) (act : Acting) (seats : List Seat)
+        (events : List Event) → IsWorld table seats → KeepsSendable table act →
+        AllStartSendable events → length events < 2 ^ 46 →
+        NetNumbersWithin (length events) (net_reached table act seats events) }
+    ensures small { (table : List Class) (act : Acting) (seats : List Seat)
+        (events : List Event) → IsWorld table seats → KeepsSendable table act →
+        AllStartSendable events → length events < 2 ^ 46 →
+        AllNumbersSmall (net_reached table act seats events) }
 {}
 
 /// Over each schedule of fewer than 2^46 events, each frame that a network of sites sends has a

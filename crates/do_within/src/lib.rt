@@ -11,5 +11,5 @@ mod laws;
 
 pub use laws::{
     amounts_are_bounded, frames_have_spellings, frames_of_schedules_have_spellings,
-    networks_are_one_machine, scripted_networks_are_one_machine,
+    networks_are_one_machine, numbers_of_networks_are_bounded, scripted_networks_are_one_machine,
 };

@@ -29,10 +29,10 @@ steps_behind table act (x ∷ xs) ys s =
     steps_behind table act xs ys (followed s (step table act s.state x))
 
 -- What is known of the events so far, and of the network then
-record SoFar (table : List Class) (act : Acting) (seats : List Seat) (before : List Event)
+pub record SoFar (table : List Class) (act : Acting) (seats : List Seat) (before : List Event)
     (N : Net) : Type 0 where
-  goes : Goes table N (reached table act seats before)
-  received : ReceivedWithin (length before) N
+  pub goes : Goes table N (reached table act seats before)
+  pub received : ReceivedWithin (length before) N
 
 module _ (table : List Class) (act : Acting) (seats : List Seat) (world : IsWorld table seats)
     (acts : KeepsSendable table act) where
@@ -115,11 +115,10 @@ module _ (table : List Class) (act : Acting) (seats : List Seat) (world : IsWorl
     along : (events before : List Event) → before ++ events ≡ whole → (s : NetStepped) →
         SoFar table act seats before s.net →
         EventsSendSpelled table act s.net events
-        × ReceivedWithin (length whole) (net_steps table act events s).net
+        × SoFar table act seats whole (net_steps table act events s).net
     along [] before parts s known = (
       tt,
-      subst (λ es. ReceivedWithin (length es) s.net) (sym (append-nil before) ∙ parts)
-          known.received,
+      subst (λ es. SoFar table act seats es s.net) (sym (append-nil before) ∙ parts) known,
     )
     along (event ∷ events) before parts s known =
         let rest = along events (before ++ event ∷ []) (split before event events parts)
@@ -127,9 +126,9 @@ module _ (table : List Class) (act : Acting) (seats : List Seat) (world : IsWorl
         (known_then before event events parts s.net known) in
         (((within before event events parts s.net known).sends, rest.0), rest.1)
 
-    -- from the opening
+    -- from the opening, and what is known of the network at the end
     pub from_opening : EventsSendSpelled table act (net_opening table seats) whole
-        × ReceivedWithin (length whole) (net_reached table act seats whole)
+        × SoFar table act seats whole (net_reached table act seats whole)
     from_opening =
         along whole [] refl (net_skipped (net_opening table seats))
         (record { goes = opening_goes table seats; received = opening_within table seats })
