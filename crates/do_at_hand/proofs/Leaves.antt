@@ -24,7 +24,7 @@ of_heap P (y ∷ xs) x h (inl e) = subst P e h.0
 of_heap P (y ∷ xs) x h (inr i) = of_heap P xs x h.1 i
 
 -- and of each of a heap that is part of it
-of_part : (P : Stored → Type 0) (few many : List Stored) → AreAmong few many →
+pub of_part : (P : Stored → Type 0) (few many : List Stored) → AreAmong few many →
     AllByRecursion P many → AllByRecursion P few
 of_part P [] many among h = tt
 of_part P (x ∷ few) many among h = (

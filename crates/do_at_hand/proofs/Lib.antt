@@ -1,9 +1,14 @@
 pub mod Shown
 pub mod Within
 pub mod Leaves
+pub mod Changes
+pub mod Acts
 pub mod Runs
+pub mod Starts
 pub mod Arrivals
 pub mod Grown
+pub mod Answers
 pub mod Takes
 pub mod Reached
+pub mod NamesStored
 pub mod Plain

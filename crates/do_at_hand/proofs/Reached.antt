@@ -1,41 +1,37 @@
--- In every state with all ends open that a machine comes to, nodes name only what is at hand, and
--- each object that they name is stored at its home.
+-- In every state with all ends open that a machine comes to, nodes name only what is at hand.
 use Rattle.do_base.specs.declared.events.event.Event.TheVariants as events
 use Rattle.do_machine.specs.declared.item.Item.TheVariants as items
-use Rattle.std.proofs.Common.{◌≡◌, ◌∙◌, ◌==◌, ◌&&◌, ◌||◌, ℕ, Bool, true, false, cond, not, List, []}
-use Rattle.std.proofs.Common.{◌∷◌, filter, map, refl, sym, ap, subst, arith, inl, inr}
+use Rattle.std.proofs.Common.{◌≡◌, ◌∙◌, ◌==◌, ◌&&◌, ◌||◌, ℕ, Bool, true, false, not, List, [], ◌∷◌}
+use Rattle.std.proofs.Common.{filter, map, refl, sym, ap, subst, arith}
 use Rattle.std.specs.{Prelude.{Option, Some, is_some, unwrap_or}, List.{AllByRecursion, list_any}}
-use Rattle.std.proofs.lemmas.{Bool.{eqb-true, Decides.nat_tests}, List.Elements.recursion_from_All}
-use Rattle.do_base.specs.{names.Names.ObjectName, declared.events.event.Event.Event}
+use Rattle.std.proofs.lemmas.Bool.{eqb-true, Decides.nat_tests}
+use Rattle.do_base.specs.declared.events.event.Event.{Event}
 use Rattle.do_class.specs.Class.{Class}
-use Rattle.do_packet.specs.Met.{has_object, same_object}
-use Rattle.do_machine.specs.declared.{item.Item.Item, node.{Node.Node, Wanted.Wanted}}
-use Rattle.do_machine.specs.declared.state.{Effect.Effect, Seat.Seat, State.State, Stepped.Stepped}
+use Rattle.do_packet.specs.Met.{has_object}
+use Rattle.do_machine.specs.declared.{item.Item.Item, node.Node.Node, state.Effect.Effect}
+use Rattle.do_machine.specs.declared.state.{Seat.Seat, State.State, Stepped.Stepped}
 use Rattle.do_machine.specs.{Commit.skipped, Context.{Context, context}, Entry.has_entry}
 use Rattle.do_machine.specs.Entry.{is_holder, is_on_its_way_back, is_reached, is_under_way}
 use Rattle.do_machine.specs.{Items.{exported, released}, Lists.some_passes, Objects.object_at}
-use Rattle.do_machine.specs.State.{has_asked, holds, is_known, is_open, is_own, node, own, queue}
-use Rattle.do_machine.specs.{State.stored, Step.step, World.{by_port, opening, opening_node}}
-use Rattle.do_machine.specs.{check.Blocks.{followed, steps}, ends.Closing.{asked_of, closing}}
-use Rattle.do_machine.specs.{ends.Closing.parted, held.Leaving.leaving, lend.Asking.same_wanted}
+use Rattle.do_machine.specs.{State.{is_open, node, own, queue, stored}, Step.step}
+use Rattle.do_machine.specs.{World.{by_port, opening, opening_node}, check.Blocks.{followed, steps}}
+use Rattle.do_machine.specs.{ends.Closing.{asked_of, closing, parted}, held.Leaving.leaving}
 use Rattle.do_machine.specs.{run.{Fresh.blank, Run.Acting}, take.Take.{holding, take_effect}}
-use Rattle.do_machine.proofs.Bools.{fails, or_cases, or_right}
-use Rattle.do_facts.specs.{Made.is_stored, Reached.reached, Net.total, View.{net_of, part_seen}}
-use Rattle.do_facts.specs.{View.wire_seen, links.{Links.links, Moves.{has_wanted, opens}}}
+use Rattle.do_machine.proofs.Bools.{fails, or_right}
+use Rattle.do_facts.specs.{Reached.reached, Net.total, View.{part_seen, wire_seen}}
+use Rattle.do_facts.specs.links.{Links.links, Moves.opens}
 use Rattle.do_facts.specs.steps.IsStep.{IsActOf, IsRuleOf, without_oldest}
-use Rattle.do_facts.proofs.{OpeningAsNet.opened, links.EntriesStored.{entered_stored, stored_same}}
-use Rattle.do_facts.proofs.links.SameIsEqual.{object_is, wanted_itself}
+use Rattle.do_facts.proofs.{OpeningAsNet.opened, links.EntriesStored.entered_stored}
 use Rattle.do_facts.proofs.machine.follows.{Every.grow_steps, States.requeued}
 use Rattle.do_facts.proofs.machine.passing.Lookups.{elsewhere_stays, that_changed}
 use Rattle.do_facts.proofs.steps.NodeSteps.{Acted, NodeStep, Stands, Took, node_step}
 use Rattle.do_facts.proofs.walk.SmallEffects.{settled_node}
-use Rattle.do_quiet.specs.Quiet.{AllEndsOpen, is_gone}
-use Rattle.do_quiet.proofs.{Backing.{all_in, asked_stored, gone_of}, LendsKept.StandsLent}
-use Rattle.do_quiet.proofs.{LendsKept.{first_ends, opening_lent, step_lent}, QuietStates.reach}
-use Rattle.do_at_hand.specs.AtHand.{AllAtHand, NamedAreStored, ShowsNames, StartsPlain, is_at_hand}
+use Rattle.do_quiet.{specs.Quiet.{AllEndsOpen, is_gone}, proofs.Backing.gone_of}
+use Rattle.do_quiet.proofs.{LendsKept.{StandsLent, opening_lent, step_lent}, QuietStates.reach}
+use Rattle.do_at_hand.specs.AtHand.{ShowsNames, StartsPlain, is_at_hand}
 use Rattle.do_at_hand.proofs.{Leaves.leaves_at_hand, Runs.{Good, GoodIf, run_good, start_good}}
 use Rattle.do_at_hand.proofs.{Runs.time_out_good, Takes.{IsNoEnd, take_good}}
-use Rattle.do_at_hand.proofs.Within.{AtHand, blank_within, own_hand, own_is, passes_of, stored_one}
+use Rattle.do_at_hand.proofs.Within.{AtHand, blank_within, own_hand, own_is, stored_one}
 
 -- an end that is closed is not open
 end_closed : (peer : ℕ) (ps : List ℕ) →
@@ -74,7 +70,7 @@ good_there found e h is = subst GoodIf is h
 module _ (table : List Class) (act : Acting) (seats : List Seat)
     (shows : ShowsNames table act) where
   -- each node names only what is at hand, as long as all ends are open
-  record StandsHand (S : State) : Type 0 where
+  pub record StandsHand (S : State) : Type 0 where
     pub lent : StandsLent table seats S
     pub hand : AllEndsOpen S → (port : ℕ) (n : Node) → node S port ≡ Some n → AtHand n
 
@@ -277,85 +273,8 @@ module _ (table : List Class) (act : Acting) (seats : List Seat)
             root = own_hand m (own m 1) (own_is m 1) (stored_one 1 (blank table s.root) []);
           }
 
-  module _ (events : List Event) (plain : AllByRecursion StartsPlain events)
-      (open_all : AllEndsOpen (reached table act seats events)) where
-    -- the state that is reached
-    abbrev V : State
-    V = reached table act seats events
-
-    -- how it stands
-    stands : StandsHand V
-    stands = after_events events plain (skipped (opening table seats)) opening_hand
-
-    -- what is named is at hand
-    pub reached_at_hand : AllAtHand V
-    reached_at_hand = record {
-      each = λ port n here. passes_of (is_at_hand n) n (stands.hand open_all port n here);
-    }
-
-    -- an object that is held is stored
-    held_stored : (port : ℕ) (n : Node) → node V port ≡ Some n → (o : ObjectName) →
-        holds n o ≡ true → is_stored V o ≡ true
-    held_stored port n here o held =
-        let f = stands.lent.backed in
-        let there = ap (λ found. has_object (part_seen links found).held o) here ∙ held in
-        let ends = (f.sound port).reached o there in
-        let back = (reach table seats V stands.lent.stands open_all port o.node
-        ((f.within port).reached o.node ends)).1 in
-        stored_same o (node V o.node)
-        ∙ (f.entries.entered o.node port o.serial).stored back
-        (grind (arith, nat_tests, there, ends))
-
-    -- so is the object of each ask
-    ask_stored : (port : ℕ) (n : Node) → node V port ≡ Some n → (w : Wanted) →
-        list_any (same_wanted w) n.asked ≡ true → is_stored V w.object ≡ true
-    ask_stored port n here w e =
-        stored_same w.object (node V w.object.node)
-        ∙ asked_stored (first_ends table seats) (net_of links V) stands.lent.backed
-        (reach table seats V stands.lent.stands open_all) port w.object.node w.object.serial
-        w.token.lender w.token.number
-        (ap (λ found. has_wanted (part_seen links found) w) here ∙ e)
-
-    -- and so is one that is asked for
-    among_asked : (ws : List Wanted) → AllByRecursion (λ w. is_stored V w.object ≡ true) ws →
-        (o : ObjectName) → list_any (λ w. same_object o w.object) ws ≡ true →
-        is_stored V o ≡ true
-    among_asked [] all o h = absurd (cc)
-    among_asked (w ∷ ws) all o h = go (same_object o w.object) refl (among_asked ws all.1 o) h
-      where
-        go : (b : Bool) → same_object o w.object ≡ b →
-            (list_any (λ w. same_object o w.object) ws ≡ true → is_stored V o ≡ true) →
-            (b || list_any (λ w. same_object o w.object) ws) ≡ true → is_stored V o ≡ true
-        go true e rest k =
-            subst (λ z. is_stored V z ≡ true) (sym (object_is o w.object e)) all.0
-        go false e rest k = rest k
-
-    -- and each that is at hand
-    hand_stored : (port : ℕ) (n : Node) → node V port ≡ Some n → (o : ObjectName) →
-        is_at_hand n o ≡ true → is_stored V o ≡ true
-    hand_stored port n here o h = go (is_own n o) refl h
-      where
-        known : is_known n o ≡ true → is_stored V o ≡ true
-        known k = elim (or_cases (holds n o) (has_asked n o) k) [
-          | inl a ↦ held_stored port n here o a
-          | inr b ↦ among_asked n.asked
-              (recursion_from_All (λ w. is_stored V w.object ≡ true) n.asked
-              (all_in same_wanted wanted_itself (λ w. is_stored V w.object ≡ true) n.asked
-              (ask_stored port n here))) o b
-        ]
-
-        go : (b : Bool) → is_own n o ≡ b →
-            cond b (is_some (stored o.serial n.heap)) (is_known n o) ≡ true →
-            is_stored V o ≡ true
-        go true e k =
-            let at : o.node ≡ port = eqb-true o.node n.port e ∙ stands.lent.home.each port n here in
-            ap (λ p. some_passes (λ (m : Node). is_some (stored o.serial m.heap)) (node V p)) at
-            ∙ ap (some_passes (λ (m : Node). is_some (stored o.serial m.heap))) here ∙ k
-        go false e k = known k
-
-    -- what is named is stored
-    pub reached_stored : NamedAreStored V
-    reached_stored = record {
-      each = λ port n here o named.
-          hand_stored port n here o (reached_at_hand.each port n here o named);
-    }
+  -- so it is in every state that a machine comes to
+  pub reached_hand : (events : List Event) → AllByRecursion StartsPlain events →
+      StandsHand (reached table act seats events)
+  reached_hand events plain =
+      after_events events plain (skipped (opening table seats)) opening_hand

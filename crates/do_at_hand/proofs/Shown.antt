@@ -94,6 +94,10 @@ module _ (H : ObjectName → Bool) where
   pub items : (vs : Listed Value) → AllName vs → Names (List vs)
   items vs h = subst AllPass (sym (items_in vs ∙ joined vs)) (flat vs h)
 
+  -- and back
+  pub of_items : (vs : Listed Value) → Names (List vs) → AllName vs
+  of_items vs h = unflat vs (subst AllPass (items_in vs ∙ joined vs) h)
+
   -- a value that names only objects that pass
   pub from_named : (named : Listed ObjectName) → AllPass named → (v : Value) →
       NamesOnly named v → Names v

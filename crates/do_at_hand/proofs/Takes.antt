@@ -1,125 +1,39 @@
 -- A take leaves a node that names only what is at hand.
 use Rattle.do_behave.specs.declared.invocation.Reason.TheVariants as reasons
-use Rattle.do_behave.specs.declared.invocation.Waited.TheVariants as waiteds
 use Rattle.do_machine.specs.declared.item.Item.TheVariants as items
-use Rattle.std.proofs.Common.{◌≡◌, ◌∙◌, ◌==◌, ◌+◌, ◌<◌, ◌&&◌, ◌++◌, ℕ, Bool, true, false, cond}
-use Rattle.std.proofs.Common.{List, [], ◌∷◌, inl, inr, length, map, refl, sym, ap, subst, arith}
-use Rattle.std.specs.{Prelude.{None, Option, Some, is_some}, List.AllByRecursion}
-use Rattle.std.proofs.lemmas.List.{length-map}
-use Rattle.do_base.specs.names.Names.{ObjectName, TokenName}
-use Rattle.do_base.specs.declared.events.exception.Exc.TheVariants.{ConnectionDied, TypeFault}
-use Rattle.do_base.specs.declared.values.value.Value.{Value, TheVariants.{Nil, Obj}}
-use Rattle.do_class.specs.{Class.Class, Table.signature_of, declared.ids.ClassId.ClassId}
-use Rattle.do_class.specs.declared.packet.Name.{Name, TheVariants.{Lent, Mine, Yours}}
-use Rattle.do_class.specs.declared.packet.Packet.{Packet}
-use Rattle.do_sig.specs.{Calls.{encoding_fits, returned_fits}, Fits.each_takes}
-use Rattle.do_sig.specs.declared.signature.Signature.{Signature}
-use Rattle.do_behave.specs.declared.invocation.Answer.{Answer, TheVariants.{Given, Raised}}
-use Rattle.do_behave.specs.declared.invocation.InvState.{InvState, TheVariants.{Answered, Waits}}
-use Rattle.do_behave.specs.declared.invocation.Waited.{Waited}
+use Rattle.std.proofs.Common.{◌≡◌, ◌∙◌, ◌==◌, ◌+◌, ◌<◌, ◌++◌, ℕ, Bool, true, false, cond, List, []}
+use Rattle.std.proofs.Common.{◌∷◌, inl, inr, length, map, refl, sym, ap, subst, arith}
+use Rattle.std.{specs.{Prelude.{Some, is_some}, List.AllByRecursion}, proofs.lemmas.List.length-map}
+use Rattle.do_base.specs.{names.Names.{ObjectName, TokenName}, declared.values.value.Value.Value}
+use Rattle.do_base.specs.declared.values.value.Value.TheVariants.{Nil, Obj}
+use Rattle.do_class.specs.declared.{ids.ClassId.ClassId, packet.Name.Name}
+use Rattle.do_class.specs.declared.packet.{Name.TheVariants.{Lent, Mine, Yours}, Packet.Packet}
+use Rattle.do_behave.specs.declared.invocation.Answer.TheVariants.{Raised}
 use Rattle.do_packet.specs.{Met.{has_object, same_object}, Unpacking.{made_of, name_value}}
 use Rattle.do_packet.specs.{Unpacking.name_values, declared.receipt.Receipt.Receipt}
 use Rattle.do_machine.specs.declared.{item.Item.Item, node.{Node.Node, Wanted.Wanted}}
 use Rattle.do_machine.specs.{Context.Context, Effect.queueing, Items.exported, Lists.IsIn}
 use Rattle.do_machine.specs.{Objects.object_at, State.{has_asked, holds, is_known, is_open, own}}
-use Rattle.do_machine.specs.{State.stored, ends.Closing.{died, parted, without_answer}}
-use Rattle.do_machine.specs.{held.Refers.{answer_values, state_values}, lend.Asking.wanted}
-use Rattle.do_machine.specs.{lend.Asking.without_wanted, run.Fresh.{with_objects, with_serials}}
-use Rattle.do_machine.specs.{run.Send.outs_of, take.Awaiting.{AnsweredCall, answered_state}}
-use Rattle.do_machine.specs.take.Awaiting.{answering, awaits, method_answer, values_answer}
-use Rattle.do_machine.specs.take.{Awaiting.with_answer, Receipt.{arrived, is_entered, is_reachable}}
-use Rattle.do_machine.specs.take.{Receipt.{reading, receiving}, Take.{holding, take_effect}}
+use Rattle.do_machine.specs.{State.stored, lend.Asking.{wanted, without_wanted}}
+use Rattle.do_machine.specs.{run.Fresh.{with_objects, with_serials}, take.Awaiting.values_answer}
+use Rattle.do_machine.specs.take.Receipt.{arrived, is_entered, is_reachable, reading, receiving}
+use Rattle.do_machine.specs.take.Take.{holding, take_effect}
 use Rattle.do_machine.proofs.Bools.{or_cases, or_left, or_right}
-use Rattle.do_facts.proofs.{Chains.either, EachOfLists.{each_changed, each_joined, each_mapped}}
-use Rattle.do_facts.proofs.{EachOfLists.each_weaker, walk.SmallEffects.settling_node}
+use Rattle.do_facts.proofs.{Chains.either, EachOfLists.each_joined, walk.SmallEffects.settling_node}
 use Rattle.do_facts.proofs.walk.Takes.{Takes, by_take as taken, packet_in}
 use Rattle.do_quiet.specs.Quiet.{is_gone}
 use Rattle.do_at_hand.{specs.AtHand.is_at_hand, proofs.Arrivals.{copies_fine, parts_fine}}
 use Rattle.do_at_hand.proofs.Grown.{Grown, asked_or, by_names, by_request, held_now, held_still}
 use Rattle.do_at_hand.proofs.{Grown.{lent_asked, named_exported, then_grown}, Runs.stored_own}
-use Rattle.do_at_hand.proofs.Shown.{AllName, Names, nil, one}
-use Rattle.do_at_hand.proofs.Within.{AtHand, InvocationWithin, NodeWithin, begins, foreign_hand}
-use Rattle.do_at_hand.proofs.Within.{node_weaker, numbered, own_hand, own_is, still_at_hand}
-use Rattle.do_at_hand.proofs.Within.{stored_behind, stored_first, stored_new}
+use Rattle.do_at_hand.proofs.{Shown.{AllName, Names, nil, one}, Within.{AtHand, NodeWithin, begins}}
+use Rattle.do_at_hand.proofs.Within.{foreign_hand, node_weaker, numbered, own_hand, own_is}
+use Rattle.do_at_hand.proofs.Within.{still_at_hand, stored_behind, stored_first, stored_new}
+use Rattle.do_at_hand.proofs.Answers.{answered, answers, parts}
 
 -- the item closes no end
 abbrev pub IsNoEnd : Item → Type 0
 IsNoEnd (items.End serials) = ⊥
 IsNoEnd _ = Unit {0}
-
--- ---- what a message comes to
-
-module _ (K : ObjectName → Bool) where
-  -- an answer of values that fit, or the fault of type
-  answer_by : (b : Bool) (v : Value) (vs : List Value) → Names K v → AllName K vs →
-      AllName K (answer_values (cond b (Given v vs) (Raised TypeFault)))
-  answer_by true v vs h k = (h, k)
-  answer_by false v vs h k = tt
-
-  -- values as an answer
-  answers : (table : List Class) (values : List Value) → AllName K values → (what : Waited) →
-      AllName K (answer_values (values_answer table values what))
-  answers table [] h waiteds.Root = tt
-  answers table [] h (waiteds.Method method) = tt
-  answers table (v ∷ vs) h (waiteds.Method method) = go (signature_of table method)
-    where
-      go : (found : Option Signature) → AllName K (answer_values
-          (elim found [ None ↦ Raised TypeFault | Some s ↦ method_answer s v vs ]))
-      go None = tt
-      go (Some s) =
-          answer_by (returned_fits s v && each_takes (map encoding_fits (outs_of s s.args)) vs) v
-          vs h.0 h.1
-  answers table (v ∷ []) h waiteds.Root = (h.0, tt)
-  answers table (v ∷ w ∷ vs) h waiteds.Root = tt
-
-  -- an invocation that has its answer
-  state_answered : (answer : Waited → Answer) →
-      ((what : Waited) → AllName K (answer_values (answer what))) → (state : InvState) →
-      AllName K (state_values state) → AllName K (state_values (answered_state answer state))
-  state_answered answer h (Waits call peer what) k = h what
-  state_answered answer h (Answered a) k = k
-  state_answered answer h _ k = tt
-
-  -- a node that has an answer
-  answered : (k : AnsweredCall) (answer : Waited → Answer) →
-      ((what : Waited) → AllName K (answer_values (answer what))) → (n : Node) →
-      NodeWithin K n → NodeWithin K (answering k answer n).node
-  answered k answer h n ok = record {
-    heap = ok.heap;
-    stack = each_changed (InvocationWithin K) (λ i. awaits k i.state) (with_answer answer)
-        (λ i g. record {
-          object = g.object;
-          locals = g.locals;
-          answer = state_answered answer h i.state g.answer;
-        }) n.stack ok.stack;
-    root = ok.root;
-  }
-
-  -- a state once an end closed
-  state_died : (peer : ℕ) (state : InvState) → AllName K (state_values state) →
-      AllName K (state_values (died peer state))
-  state_died peer (Waits call p what) k = go (p == peer)
-    where
-      go : (b : Bool) → AllName K (state_values
-          (cond b (Answered (Raised ConnectionDied)) (Waits call p what)))
-      go true = tt
-      go false = tt
-  state_died peer (Answered a) k = k
-  state_died peer _ k = tt
-
-  -- a node that parts from a peer
-  parts : (peer : ℕ) (n : Node) → NodeWithin K n → NodeWithin K (parted peer n)
-  parts peer n ok = record {
-    heap = ok.heap;
-    stack = each_mapped (InvocationWithin K) (without_answer peer) n.stack
-        (each_weaker (InvocationWithin K) (λ i. InvocationWithin K (without_answer peer i))
-        (λ i g. record {
-          object = g.object;
-          locals = g.locals;
-          answer = state_died peer i.state g.answer;
-        }) n.stack ok.stack);
-    root = ok.root;
-  }
 
 module _ (c : Context) (from : ℕ) (ok : AtHand c.node)
     (apart : (peer : ℕ) → is_open c.node peer ≡ true → (peer == c.node.port) ≡ false)

@@ -1,2 +1,4 @@
+pub mod Heard
+pub mod Turns
 pub mod Served
 pub mod Read

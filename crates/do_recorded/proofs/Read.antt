@@ -3,32 +3,34 @@ use Rattle.do_network.specs.declared.input.Done.TheVariants as done
 use Rattle.do_network.specs.declared.input.Input.TheVariants as input
 use Rattle.do_record.specs.Spelling as spell
 use Rattle.do_record.specs.declared.parts.RecordLine.TheVariants as records
-use Rattle.std.proofs.Common.{◌≡◌, ◌∙◌, ◌+◌, ◌++◌, ℕ, List, [], ◌∷◌, append_assoc, map, refl, sym}
-use Rattle.std.{proofs.Common.ap, specs.Prelude.{Bool, Err, None, Ok, Option, Result, Some, codes}}
-use Rattle.std.specs.Prelude.{decimal, false, if◌then◌else◌, not, option_map, true, unwrap_or}
-use Rattle.std.{specs.List.{AllByRecursion, flat_map}, proofs.lemmas.List.append-nil}
+use Rattle.std.proofs.Common.{List, [], ap, append_assoc, map, refl, sym, ℕ, ◌++◌, ◌+◌, ◌∙◌, ◌∷◌}
+use Rattle.std.{proofs.{Common.◌≡◌, lemmas.List.append-nil}, specs.List.{AllByRecursion, flat_map}}
+use Rattle.std.specs.Prelude.{Bool, Err, None, Ok, Option, Result, Some, codes, decimal, false}
+use Rattle.std.specs.Prelude.{if◌then◌else◌, not, option_map, true, unwrap_or}
 use Rattle.do_base.specs.declared.events.shown.Shown.{Shown}
+use Rattle.do_sched.specs.{Good.IsPort, Spelling.{fed, number_pair}}
 use Rattle.do_lines.specs.{Lines.joined, Shown.shown_text}
+use Rattle.do_record.{proofs.records.RecordsGiven.record_given, specs.Good.IsGoodInput}
+use Rattle.do_record.specs.{GoodShown.IsShown, Grammar.{AreBlocks, IsRecord, lines_in}}
+use Rattle.do_record.specs.{Recorded.recorded, Spelling.{begun, block_text, ending}}
+use Rattle.do_record.specs.declared.parts.{Block.Block, RecordLine.RecordLine}
 use Rattle.do_frames.specs.declared.frame.Frame.{Frame}
 use Rattle.do_machine.specs.{Start.start_effect, State.is_open, declared.item.Item.TheVariants.End}
 use Rattle.do_machine.specs.{declared.state.Effect.Effect, ends.Closing.closing, run.Run.run_effect}
 use Rattle.do_machine.specs.take.Take.{can_take, take_effect}
-use Rattle.do_net.specs.Seen.{Seen, site_handled}
+use Rattle.do_facts.proofs.EachOfLists.{each_weaker}
 use Rattle.do_network.proofs.EnabledIsDone.{enabled_done, skipped_stays}
 use Rattle.do_network.specs.{Faults.peer_fault, Frames.read_frame}
 use Rattle.do_network.specs.{Links.{Part, having_read, names_read}, Own.site_context}
 use Rattle.do_network.specs.Site.{Handled, enabled_input, moves, passed, takes, takes_frame}
 use Rattle.do_network.specs.declared.{fault.PeerFault.PeerFault, input.{Done.Done, Input.Input}}
-use Rattle.do_record.specs.{Grammar.{AreBlocks, IsRecord, lines_in}, Recorded.{record_of, recorded}}
-use Rattle.do_record.specs.{Spelling.{begun, block_text, ending}, declared.parts.Block.Block}
-use Rattle.do_record.specs.declared.parts.{Record.Record, RecordLine.RecordLine}
-use Rattle.do_sched.specs.{Good.IsPort, Spelling.{fed, number_pair}}
-use Rattle.do_serve.specs.{Answers.record_text, Record.head_by, Hosting.site_rules}
-use Rattle.do_serve.specs.Serving.{How, Report, Server, ended, spent, unfinished}
-use Rattle.do_record.specs.{Good.IsGoodInput, GoodShown.IsShown}
-use Rattle.do_recorded.specs.Chain.{AllMayStand, ReadsBack, chain_text, has_ended}
+use Rattle.do_net.specs.Seen.{Seen, site_handled}
+use Rattle.do_recorded.proofs.{Heard.Serves, Served.{Does, end_text}}
+use Rattle.do_recorded.specs.Chain.{ReadsBack, chain_text, has_ended}
 use Rattle.do_recorded.specs.Inputs.{IsServed, block_at, blocks_of, line_by, with_block}
-use Rattle.do_recorded.proofs.Served.{Does, end_text}
+use Rattle.do_serve.specs.{Answers.record_text, Hosting.site_rules, Record.head_by}
+use Rattle.do_serve.specs.Serving.{How, Report, Server, ended, spent, unfinished}
+use Rattle.do_showable.specs.Shows.{AllMayStand, MayCome}
 
 -- one line joined is the line with its line feed
 one_line : (text : List ℕ) → joined (text ∷ []) ≡ fed text
@@ -153,7 +155,7 @@ module _ (port : ℕ) where
 
   -- so it is with inputs that are served
   are_good : IsPort port → (is : List Input) (s : Seen) → AllByRecursion (IsServed port) is →
-      AllMayStand site_rules s is → AreGood s is
+      AllMayStand s.table s.act s.part is → AreGood s is
   are_good at [] s served good = tt
   are_good at (i ∷ is) s served good =
       let m = site_rules.step s i in (
@@ -204,19 +206,31 @@ module _ (port : ℕ) where
   ending_is spent = refl
   ending_is unfinished = refl
 
-  module _ (at_port : IsPort port) (s : Server Seen) (r : Report) (d : Does site_rules port s r)
-    where
-      -- the blocks
-      abbrev blocks : List Block
-      blocks = blocks_of site_rules port 2 s.core.part d.inputs
+  module _ (at_port : IsPort port) (turns : ℕ) (s : Server Seen) (r : Report)
+      (d : Does site_rules port turns s r) where
+    -- serving does each of the inputs
+    served : AllByRecursion (IsServed port) d.inputs
+    served = each_weaker (Serves port) (IsServed port) (λ i h. h.0) d.inputs d.served
+
+    -- each of them may come to a node
+    pub may_come : AllByRecursion (MayCome port) d.inputs
+    may_come = each_weaker (Serves port) (MayCome port) (λ i h. h.1) d.inputs d.served
+
+    -- the blocks
+    abbrev blocks : List Block
+    blocks = blocks_of site_rules port 2 s.core.part d.inputs
+
+    module _ (stand : AllMayStand s.core.part.table s.core.part.act s.core.part.part d.inputs) where
+      -- the line of each input, and what it shows, may stand in a record
+      good : AreGood s.core.part d.inputs
+      good = are_good at_port d.inputs s.core.part served stand
 
       -- what was written is the record of the inputs
-      is_record : AreGood s.core.part d.inputs →
-          IsRecord (record_text port r) (recorded port blocks (has_ended r.how))
-      is_record good = record {
+      is_record : IsRecord (record_text port r) (recorded port blocks (has_ended r.how))
+      is_record = record {
         spelled = ap (λ x. x ++ r.text) (one_line (codes "record 1 " ++ decimal port))
             ∙ ap (λ x. spell.first_line port ++ x) (d.text
-            ∙ ap (λ x. x ++ end_text r.how) (text_is d.inputs 2 s.core.part d.served good)
+            ∙ ap (λ x. x ++ end_text r.how) (text_is d.inputs 2 s.core.part served good)
             ∙ ap (λ x. flat_map (block_text port) blocks ++ x) (ending_is r.how))
             ∙ sym (append_assoc (spell.first_line port) (flat_map (block_text port) blocks)
             (ending (has_ended r.how)));
@@ -225,13 +239,11 @@ module _ (port : ℕ) where
       }
 
       -- and is read so
-      pub reads_back : ((bytes : List ℕ) (x : Record) → IsRecord bytes x →
-          record_of bytes ≡ Ok x) → ReadsBack port s r
-      reads_back exact = record {
+      pub reads_back : ReadsBack port s r
+      reads_back = record {
         inputs = d.inputs;
-        served = d.served;
+        served = served;
         later = d.later;
         frames = d.frames;
-        reads = λ good. exact (record_text port r) (recorded port blocks (has_ended r.how))
-            (is_record (are_good at_port d.inputs s.core.part d.served good));
+        reads = record_given (record_text port r) (recorded port blocks (has_ended r.how)) is_record;
       }

@@ -1,5 +1,5 @@
 use Rattle.do_at_hand.proofs.laws.named_objects_are_stored.Goals as goal
-use Rattle.do_at_hand.proofs.Reached.{reached_at_hand, reached_stored}
+use Rattle.do_at_hand.proofs.NamesStored.{reached_at_hand, reached_stored}
 
 pub returns-clause-hand : goal.returns-clause-hand
 returns-clause-hand c table act seats events shows =

@@ -1,0 +1,11 @@
+pub mod Naming
+pub mod Packets
+pub mod Frames
+pub mod Nodes
+pub mod Showing
+pub mod Takes
+pub mod Runs
+pub mod Classes
+pub mod Links
+pub mod Sites
+pub mod Inputs
