@@ -2,7 +2,7 @@
 use Rattle.std.proofs.Common.{◌≡◌, ℕ, List, Option, true, refl, ap, ◌∙◌, subst}
 use Rattle.std.specs.List.{AllByRecursion, flat_map}
 use Rattle.do_at_hand.specs.AtHand.{NamedAreStored}
-use Rattle.do_at_hand.proofs.{Plain.lines_plain, Reached.reached_stored}
+use Rattle.do_at_hand.proofs.{NamesStored.reached_stored, Plain.lines_plain}
 use Rattle.do_base.specs.declared.outside.shelf.NamedFile.{NamedFile}
 use Rattle.do_cycles.specs.{Settled.IsSettled, Told.TellsEachLost}
 use Rattle.do_cycles.proofs.{EachTold.reached_told, QuietSettled.reached_settled}
