@@ -12,7 +12,7 @@ use Rattle.do_sched.specs.{Good.IsPort, Spelling.{fed, number_pair}}
 use Rattle.do_lines.specs.{Lines.joined, Shown.shown_text}
 use Rattle.do_record.{proofs.records.RecordsGiven.record_given, specs.Good.IsGoodInput}
 use Rattle.do_record.specs.{GoodShown.IsShown, Grammar.{AreBlocks, IsRecord, lines_in}}
-use Rattle.do_record.specs.{Recorded.recorded, Spelling.{begun, block_text, ending}}
+use Rattle.do_record.specs.{Recorded.recorded, Spelling.{block_text, ending}}
 use Rattle.do_record.specs.declared.parts.{Block.Block, RecordLine.RecordLine}
 use Rattle.do_frames.specs.declared.frame.Frame.{Frame}
 use Rattle.do_machine.specs.{Start.start_effect, State.is_open, declared.item.Item.TheVariants.End}

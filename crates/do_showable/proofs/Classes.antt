@@ -28,8 +28,8 @@ ClassesStand table classes = (o : ObjectName) (class : ClassId) →
 -- no class is kept at first
 pub none_kept : (table : List Class) → ClassesStand table map_of.empty
 none_kept table o class e =
-    let none = get-empty {V = ClassId} entry_cmp (o.node, o.serial) in
-    absurd (cc (none, e))
+    let none : None ≡ Some class = sym (get-empty entry_cmp (o.node, o.serial)) ∙ e in
+    absurd (cc (none))
 
 -- those of objects that are known
 pub known_kept : (table : List Class) (n : Node) (classes : ClassMap) → ClassesStand table classes →

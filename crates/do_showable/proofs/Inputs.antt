@@ -314,8 +314,8 @@ module _ (table : List Class) (t : IsTable table) (few : HasMethods table) (act 
       let here = subst (λ x. PartStands table x p) (sym home) h in
       let it = input_comes i may.0 p home here (omega (arith, room)) in
       let q = (site_step table act p i).part in
-      let then : PartStands table port q = subst (λ x. PartStands table x q) home it.part in
-      (it.shows, all_stand is may.1 q then then.own.sendable.numbers.0 (omega (arith, room, it.rises)))
+      let after : PartStands table port q = subst (λ x. PartStands table x q) home it.part in
+      (it.shows, all_stand is may.1 q after after.own.sendable.numbers.0 (omega (arith, room, it.rises)))
 
 -- a site as it opens
 pub part_opens : (table : List Class) (ports : List ℕ) (seat : Seat) → IsSeat table seat →

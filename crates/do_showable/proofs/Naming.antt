@@ -1,13 +1,14 @@
 -- Names of objects that a record may have, and values of such names.
-use Rattle.std.proofs.Common.{Bool, List as Listed, [], arith, inl, inr, length, map, refl, rules}
-use Rattle.std.proofs.Common.{suc, sym, true, zero, ℕ, ℤ, ◌&&◌, ◌*◌, ◌+◌, ◌<◌, ◌^◌, ◌∙◌, ◌∷◌, ◌≡◌}
-use Rattle.std.{proofs.lemmas.Bool.{and_parts, Decides.nat_tests}, specs.Int.Signed.mag}
-use Rattle.std.specs.{List.{AllByRecursion, list_all}, Prelude.{Some, nat_le, nat_lt, ◌≤◌}}
+use Rattle.std.proofs.Common.{Bool, List as Listed, [], arith, false, inl, inr, length, map, refl}
+use Rattle.std.proofs.Common.{rules, suc, sym, true, zero, ℕ, ℤ, ◌&&◌, ◌*◌, ◌+◌, ◌<◌, ◌^◌, ◌∙◌, ◌∷◌}
+use Rattle.std.proofs.{Common.◌≡◌, lemmas.Bool.{and_parts, Decides.nat_tests}}
+use Rattle.std.specs.{Int.Signed.mag, List.{AllByRecursion, list_all}}
+use Rattle.std.specs.Prelude.{Some, nat_le, nat_lt, ◌≤◌}
 use Rattle.do_base.specs.declared.events.exception.Exc.{Exc, TheVariants.{ConnectionDied, Deep}}
 use Rattle.do_base.specs.declared.events.exception.Exc.TheVariants.{NotUnderstood, NotVended, Range}
 use Rattle.do_base.specs.declared.events.exception.Exc.TheVariants.{TimedOut, TooLarge, TypeFault}
 use Rattle.do_base.specs.declared.events.exception.Exc.TheVariants.{User}
-use Rattle.do_base.specs.declared.values.value.Value.{Value, List, the_lemmas}
+use Rattle.do_base.specs.declared.values.value.Value.{List, Value, the_lemmas}
 use Rattle.do_base.specs.declared.values.value.Value.TheVariants.{Nil, Num, Obj, Text}
 use Rattle.do_base.specs.{names.Names.ObjectName, values.Induction.value_induction}
 use Rattle.do_base.specs.values.{Kinds.object as object_of, Texts.longest_text}
@@ -84,23 +85,19 @@ each_stands (v ∷ vs) depth h c k =
     let cs = and_parts (can_carry v depth) _ c in
     (h.0 depth cs.0 k.0, each_stands vs depth h.1 cs.1 k.1)
 
--- the tests of a list: one may stand so deep, and its items may one less deep
-deep : (depth : ℕ) (few fit : Bool) → (nat_lt 0 depth && (few && fit)) ≡ true →
-    (fit ≡ true) × (1 ≤ depth)
-deep depth few fit e =
-    let h = and_parts (nat_lt 0 depth) (few && fit) e in
-    let k = and_parts few fit h.1 in
-    (k.1, grind (arith, nat_tests, h.0))
-
 -- a list
 list_stands : (vs : Listed Value) → AllByRecursion Stands vs → Stands (List vs)
 list_stands vs h zero c k =
-    absurd (omega (arith, (deep zero _ _ (sym (carry-List zero vs) ∙ c)).1))
+    let shut : can_carry (List vs) zero ≡ false = carry-List zero vs in
+    absurd (cc (shut, c))
 list_stands vs h (suc depth) c k =
+    let fit : Bool = list_all (λ (f : ℕ → Bool). f depth) (map can_carry vs) in
+    let both : (nat_le (length (map can_carry vs)) 1024 && fit) ≡ true =
+    sym (carry-List (suc depth) vs) ∙ c in
     inr (record {
       items = vs;
       is_list = refl;
-      each = each_stands vs depth h (deep (suc depth) _ _ (sym (carry-List (suc depth) vs) ∙ c)).0
+      each = each_stands vs depth h (and_parts (nat_le (length (map can_carry vs)) 1024) fit both).1
           (of_items is_nameable vs k);
     })
 

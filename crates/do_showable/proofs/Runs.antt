@@ -7,7 +7,6 @@ use Rattle.std.proofs.Common.{List, [], arith, not, refl, subst, true, ℕ, ◌+
 use Rattle.std.specs.{List.AllByRecursion, Prelude.{None, Option, Some, option_map, slice_set, ◌≤◌}}
 use Rattle.do_base.specs.declared.events.exception.Exc.{Exc, TheVariants.TooLarge}
 use Rattle.do_base.specs.declared.values.value.Value.{Value, TheVariants.{Nil, Obj, Text}}
-use Rattle.do_base.specs.names.Names.{ObjectName}
 use Rattle.do_sig.specs.Calls.{args_fit}
 use Rattle.do_class.specs.{Class.Class, declared.ids.ClassId.ClassId}
 use Rattle.do_record.specs.{GoodShown.{IsException, IsNested, IsShown}, Value.deepest}
@@ -343,17 +342,18 @@ start_named table selector values n plain ok =
     Starts : Option Invocation → Type 0
     Starts i = IfAny (λ e. IsNamed e.node) (option_map (λ i. only (pushed i n)) i)
 
+-- a time-out, by the stack
+time_out_by : (stack : List Invocation) (n : Node) → IsNamed n →
+    AllByRecursion (InvocationWithin is_nameable) stack →
+    IfAny (λ e. IsNamed e.node) (time_out_on stack n)
+time_out_by [] n ok h = tt
+time_out_by (i ∷ below) n ok h = by i.state
+  where
+    by : (state : InvState) → IfAny (λ e. IsNamed e.node) (give_up state i below n)
+    by (Waits call peer what) =
+        restacked n _ ok (record { object = h.0.object; locals = h.0.locals; answer = tt }, h.1)
+    by _ = tt
+
 -- a time-out
 pub time_out_named : (n : Node) → IsNamed n → IfAny (λ e. IsNamed e.node) (time_out n)
-time_out_named n ok = on n.stack ok.calls
-  where
-    on : (stack : List Invocation) → AllByRecursion (InvocationWithin is_nameable) stack →
-        IfAny (λ e. IsNamed e.node) (time_out_on stack n)
-    on [] h = tt
-    on (i ∷ below) h = by i.state
-      where
-        by : (state : InvState) → IfAny (λ e. IsNamed e.node) (give_up state i below n)
-        by (Waits call peer what) =
-            restacked n _ ok
-            (record { object = h.0.object; locals = h.0.locals; answer = tt }, h.1)
-        by _ = tt
+time_out_named n ok = time_out_by n.stack n ok ok.calls

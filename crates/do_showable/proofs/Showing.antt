@@ -4,7 +4,7 @@ use Rattle.do_base.specs.declared.events.shown.Shown.TheVariants as shown
 use Rattle.do_behave.specs.declared.invocation.Reason.TheVariants as reasons
 use Rattle.do_machine.specs.declared.item.Item.TheVariants as items
 use Rattle.std.proofs.Common.{Err, List, Ok, [], not, refl, true, ℕ, ◌∷◌, ◌≡◌}
-use Rattle.std.specs.{List.{AllByRecursion, list_any}, Prelude.{Option, Result, is_some}}
+use Rattle.std.specs.{List.{AllByRecursion, list_any}, Prelude.{Result, is_some}}
 use Rattle.do_base.specs.declared.events.exception.Exc.{Exc, TheVariants.{Deep, NotUnderstood}}
 use Rattle.do_base.specs.declared.events.exception.Exc.TheVariants.{NotVended, TypeFault}
 use Rattle.do_base.specs.declared.{events.shown.Shown.Shown, values.value.Value.Value}

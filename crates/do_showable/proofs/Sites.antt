@@ -15,6 +15,7 @@ use Rattle.do_network.specs.{Own.site_context, Site.{Handled, handled, moves, pa
 use Rattle.do_network.specs.declared.input.Done.{Done, TheVariants.Moved}
 use Rattle.do_limits.proofs.{Effects.holding_more, Senders.ContextIsSendable}
 use Rattle.do_limits.specs.SendableStates.{HasSerial, NodeIsSendable, ObjectIsSendable}
+use Rattle.do_at_hand.proofs.Leaves.{of_part}
 use Rattle.do_showable.proofs.{Classes.{ClassesStand, known_kept}, Links.{LinksStand, links_sent}}
 use Rattle.do_showable.proofs.Nodes.{IsNamed, left, left_shows}
 

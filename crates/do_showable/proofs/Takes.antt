@@ -12,10 +12,9 @@ use Rattle.do_behave.specs.declared.invocation.{Answer.{Answer, TheVariants.Rais
 use Rattle.do_machine.specs.{Context.{Context, Found, method_for, own_class}, Objects.object_at}
 use Rattle.do_machine.specs.{State.{own, stored}, declared.{item.Item.Item, node.Node.Node}}
 use Rattle.do_machine.specs.{declared.node.Stored.Stored, ends.Closing.closing}
-use Rattle.do_machine.specs.{held.Refers.answer_values, run.Fresh.with_objects}
-use Rattle.do_machine.specs.take.Awaiting.{AnsweredCall, answering, values_answer}
-use Rattle.do_machine.specs.take.Receipt.{arrived, is_entered, is_reachable, reading}
-use Rattle.do_machine.specs.take.Take.{take_effect}
+use Rattle.do_machine.specs.{held.Refers.answer_values, take.Awaiting.{AnsweredCall, answering}}
+use Rattle.do_machine.specs.take.{Awaiting.values_answer, Receipt.{arrived, is_entered}}
+use Rattle.do_machine.specs.take.{Receipt.{is_reachable, reading}, Take.take_effect}
 use Rattle.do_facts.proofs.walk.SmallEffects.{by_closing}
 use Rattle.do_facts.proofs.walk.Takes.{Takes, by_take as taken, packet_in}
 use Rattle.do_limits.proofs.Lists.{found_by}
