@@ -1,8 +1,8 @@
 -- Invocations, slots and verdicts that name only objects that pass a test.
-use Rattle.std.proofs.Common.{◌≡◌, ℕ, Bool, true, false, cond, List, [], ◌∷◌, map}
-use Rattle.std.specs.{Prelude.{Option, Some, slice_set}, List.AllByRecursion}
-use Rattle.do_base.specs.{names.Names.ObjectName, declared.values.value.Value.Value}
-use Rattle.do_base.specs.declared.values.value.Value.TheVariants.{Nil}
+use Rattle.std.proofs.Common.{Bool, List, [], cond, false, map, true, ℕ, ◌∷◌, ◌≡◌}
+use Rattle.std.specs.{List.AllByRecursion, Prelude.{None, Option, Some, slice_set}}
+use Rattle.do_base.specs.declared.values.value.Value.{Value, TheVariants.Nil}
+use Rattle.do_base.specs.names.Names.{ObjectName}
 use Rattle.do_sig.specs.{Calls.{is_in, qualifier_of}, declared.encoding.Encoding.Encoding}
 use Rattle.do_behave.specs.{InPlace.written, declared.{act.Write.Write, invocation.Answer.Answer}}
 use Rattle.do_behave.specs.declared.invocation.Invocation.{Invocation}

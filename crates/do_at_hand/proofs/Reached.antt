@@ -1,37 +1,36 @@
 -- In every state with all ends open that a machine comes to, nodes name only what is at hand.
 use Rattle.do_base.specs.declared.events.event.Event.TheVariants as events
 use Rattle.do_machine.specs.declared.item.Item.TheVariants as items
-use Rattle.std.proofs.Common.{◌≡◌, ◌∙◌, ◌==◌, ◌&&◌, ◌||◌, ℕ, Bool, true, false, not, List, [], ◌∷◌}
-use Rattle.std.proofs.Common.{filter, map, refl, sym, ap, subst, arith}
-use Rattle.std.specs.{Prelude.{Option, Some, is_some, unwrap_or}, List.{AllByRecursion, list_any}}
-use Rattle.std.proofs.lemmas.Bool.{eqb-true, Decides.nat_tests}
+use Rattle.std.proofs.Common.{Bool, List, [], ap, arith, false, filter, map, not, refl, subst, sym}
+use Rattle.std.proofs.{Common.{true, ℕ, ◌&&◌, ◌==◌, ◌||◌, ◌∙◌, ◌∷◌, ◌≡◌}, lemmas.Bool.eqb-true}
+use Rattle.std.proofs.lemmas.Bool.Decides.{nat_tests}
+use Rattle.std.specs.{List.{AllByRecursion, list_any}, Prelude.{Option, Some, is_some, unwrap_or}}
 use Rattle.do_base.specs.declared.events.event.Event.{Event}
 use Rattle.do_class.specs.Class.{Class}
 use Rattle.do_packet.specs.Met.{has_object}
-use Rattle.do_machine.specs.declared.{item.Item.Item, node.Node.Node, state.Effect.Effect}
-use Rattle.do_machine.specs.declared.state.{Seat.Seat, State.State, Stepped.Stepped}
+use Rattle.do_machine.proofs.Bools.{fails, or_right}
 use Rattle.do_machine.specs.{Commit.skipped, Context.{Context, context}, Entry.has_entry}
 use Rattle.do_machine.specs.Entry.{is_holder, is_on_its_way_back, is_reached, is_under_way}
 use Rattle.do_machine.specs.{Items.{exported, released}, Lists.some_passes, Objects.object_at}
 use Rattle.do_machine.specs.{State.{is_open, node, own, queue, stored}, Step.step}
 use Rattle.do_machine.specs.{World.{by_port, opening, opening_node}, check.Blocks.{followed, steps}}
+use Rattle.do_machine.specs.declared.{item.Item.Item, node.Node.Node, state.Effect.Effect}
+use Rattle.do_machine.specs.declared.state.{Seat.Seat, State.State, Stepped.Stepped}
 use Rattle.do_machine.specs.{ends.Closing.{asked_of, closing, parted}, held.Leaving.leaving}
 use Rattle.do_machine.specs.{run.{Fresh.blank, Run.Acting}, take.Take.{holding, take_effect}}
-use Rattle.do_machine.proofs.Bools.{fails, or_right}
-use Rattle.do_facts.specs.{Reached.reached, Net.total, View.{part_seen, wire_seen}}
-use Rattle.do_facts.specs.links.{Links.links, Moves.opens}
-use Rattle.do_facts.specs.steps.IsStep.{IsActOf, IsRuleOf, without_oldest}
 use Rattle.do_facts.proofs.{OpeningAsNet.opened, links.EntriesStored.entered_stored}
 use Rattle.do_facts.proofs.machine.follows.{Every.grow_steps, States.requeued}
 use Rattle.do_facts.proofs.machine.passing.Lookups.{elsewhere_stays, that_changed}
 use Rattle.do_facts.proofs.steps.NodeSteps.{Acted, NodeStep, Stands, Took, node_step}
-use Rattle.do_facts.proofs.walk.SmallEffects.{settled_node}
-use Rattle.do_quiet.{specs.Quiet.{AllEndsOpen, is_gone}, proofs.Backing.gone_of}
-use Rattle.do_quiet.proofs.{LendsKept.{StandsLent, opening_lent, step_lent}, QuietStates.reach}
-use Rattle.do_at_hand.specs.AtHand.{ShowsNames, StartsPlain, is_at_hand}
-use Rattle.do_at_hand.proofs.{Leaves.leaves_at_hand, Runs.{Good, GoodIf, run_good, start_good}}
-use Rattle.do_at_hand.proofs.{Runs.time_out_good, Takes.{IsNoEnd, take_good}}
+use Rattle.do_facts.{proofs.walk.SmallEffects.settled_node, specs.{Net.total, Reached.reached}}
+use Rattle.do_facts.specs.{View.{part_seen, wire_seen}, links.{Links.links, Moves.opens}}
+use Rattle.do_facts.specs.steps.IsStep.{IsActOf, IsRuleOf, without_oldest}
+use Rattle.do_quiet.proofs.{Backing.gone_of, LendsKept.{StandsLent, opening_lent, step_lent}}
+use Rattle.do_quiet.{proofs.QuietStates.reach, specs.Quiet.{AllEndsOpen, is_gone}}
+use Rattle.do_at_hand.proofs.{Leaves.leaves_at_hand, Runs.{Good, GoodIf, run_good}}
+use Rattle.do_at_hand.proofs.{Starts.{start_good, time_out_good}, Takes.{IsNoEnd, take_good}}
 use Rattle.do_at_hand.proofs.Within.{AtHand, blank_within, own_hand, own_is, stored_one}
+use Rattle.do_at_hand.specs.AtHand.{ShowsNames, StartsPlain, is_at_hand}
 
 -- an end that is closed is not open
 end_closed : (peer : ℕ) (ps : List ℕ) →

@@ -3,7 +3,7 @@ use Rattle.std.proofs.Common.{Bool, List as Listed, [], arith, false, inl, inr, 
 use Rattle.std.proofs.Common.{rules, suc, sym, true, zero, ℕ, ℤ, ◌&&◌, ◌*◌, ◌+◌, ◌<◌, ◌^◌, ◌∙◌, ◌∷◌}
 use Rattle.std.proofs.{Common.◌≡◌, lemmas.Bool.{and_parts, Decides.nat_tests}}
 use Rattle.std.specs.{Int.Signed.mag, List.{AllByRecursion, list_all}}
-use Rattle.std.specs.Prelude.{Some, nat_le, nat_lt, ◌≤◌}
+use Rattle.std.specs.Prelude.{Some, nat_le, nat_lt, negsuc, pos, ◌≤◌}
 use Rattle.do_base.specs.declared.events.exception.Exc.{Exc, TheVariants.{ConnectionDied, Deep}}
 use Rattle.do_base.specs.declared.events.exception.Exc.TheVariants.{NotUnderstood, NotVended, Range}
 use Rattle.do_base.specs.declared.events.exception.Exc.TheVariants.{TimedOut, TooLarge, TypeFault}
