@@ -217,8 +217,8 @@ module _ (table : List Class) (t : IsTable table) (few : HasMethods table) (act 
     item = item_of f
 
     -- what it is judged by
-    abbrev c : Context
-    c = site_context table q
+    abbrev context : Context
+    context = site_context table q
 
     -- a message can carry the item
     carried : ItemIsSendable table from q.node.port item
@@ -233,25 +233,25 @@ module _ (table : List Class) (t : IsTable table) (few : HasMethods table) (act 
         (frame_passes table from to at_from h.own.named.home f is)
 
     -- how far serials rise
-    rises : (take_effect c from item).node.next_serial ≤ p.own.node.next_serial + 4096 * 1
+    rises : (take_effect context from item).node.next_serial ≤ p.own.node.next_serial + 4096 * 1
     rises =
         omega (
           arith,
-          (take_rises c from item carried).serial,
+          (take_rises context from item carried).serial,
           ap (λ (m : Node). m.next_serial) (released_node from f p.own),
         )
 
     -- a take
-    takes_item : EffectStands table to (take_effect c from item)
+    takes_item : EffectStands table to (take_effect context from item)
     takes_item =
         let same : q.node.next_serial ≡ p.own.node.next_serial =
         ap (λ (m : Node). m.next_serial) (released_node from f p.own) in
         record {
-          sendable = subst (λ x. NodeIsSendable table x (take_effect c from item).node) home
-              (take_sendable c from few (judges table to q kept) item carried).node;
-          named = take_named c from kept.named (omega (arith, room, same)) item passes
+          sendable = subst (λ x. NodeIsSendable table x (take_effect context from item).node) home
+              (take_sendable context from few (judges table to q kept) item carried).node;
+          named = take_named context from kept.named (omega (arith, room, same)) item passes
               (omega (arith, room, rises));
-          shows = take_shows IsShown raised_stands c from item
+          shows = take_shows IsShown raised_stands context from item
               (took_stands table from q.node.port at_from kept.named.home item carried passes);
         }
 
@@ -259,7 +259,7 @@ module _ (table : List Class) (t : IsTable table) (few : HasMethods table) (act 
     frame_comes : LinksStand table (having_read from f p).links → (fault : Option PeerFault) →
         Takes (takes_frame table (having_read from f p) from f fault)
     frame_comes links None =
-        moved table to (having_read from f p) Moved (got from item q) (take_effect c from item)
+        moved table to (having_read from f p) Moved (got from item q) (take_effect context from item)
         p.own.node.next_serial 1 links
         (more_kept table (item_classes from item) q.classes
         (item_tells table from q.node.port at_from item carried) kept.classes) takes_item rises

@@ -1,9 +1,9 @@
 -- Names of objects that a record may have, and values of such names.
-use Rattle.std.proofs.Common.{Bool, List as Listed, [], arith, false, inl, inr, length, map, refl}
-use Rattle.std.proofs.Common.{rules, suc, sym, true, zero, ℕ, ℤ, ◌&&◌, ◌*◌, ◌+◌, ◌<◌, ◌^◌, ◌∙◌, ◌∷◌}
+use Rattle.std.proofs.Common.{Bool, List as Listed, [], arith, inl, inr, length, map, refl, rules}
+use Rattle.std.proofs.Common.{subst, suc, sym, true, zero, ℕ, ℤ, ◌&&◌, ◌*◌, ◌+◌, ◌<◌, ◌^◌, ◌∙◌, ◌∷◌}
 use Rattle.std.proofs.{Common.◌≡◌, lemmas.Bool.{and_parts, Decides.nat_tests}}
 use Rattle.std.specs.{Int.Signed.mag, List.{AllByRecursion, list_all}}
-use Rattle.std.specs.Prelude.{Some, nat_le, nat_lt, negsuc, pos, ◌≤◌}
+use Rattle.std.specs.Prelude.{Some, nat_le, nat_lt, negsuc, pos, ◌-◌, ◌≤◌}
 use Rattle.do_base.specs.declared.events.exception.Exc.{Exc, TheVariants.{ConnectionDied, Deep}}
 use Rattle.do_base.specs.declared.events.exception.Exc.TheVariants.{NotUnderstood, NotVended, Range}
 use Rattle.do_base.specs.declared.events.exception.Exc.TheVariants.{TimedOut, TooLarge, TypeFault}
@@ -85,20 +85,26 @@ each_stands (v ∷ vs) depth h c k =
     let cs = and_parts (can_carry v depth) _ c in
     (h.0 depth cs.0 k.0, each_stands vs depth h.1 cs.1 k.1)
 
+-- the tests of a list: its items can stand one less deep, and it so deep
+list_tests : (vs : Listed Value) (depth : ℕ) → can_carry (List vs) depth ≡ true →
+    (list_all (λ (f : ℕ → Bool). f (depth - 1)) (map can_carry vs) ≡ true) × (1 ≤ depth)
+list_tests vs depth c =
+    let few = nat_le (length (map can_carry vs)) 1024 in
+    let fit = list_all (λ (f : ℕ → Bool). f (depth - 1)) (map can_carry vs) in
+    let e = and_parts (nat_lt 0 depth) (few && fit) (sym (carry-List depth vs) ∙ c) in
+    ((and_parts few fit e.1).1, grind (arith, nat_tests, e.0))
+
 -- a list
 list_stands : (vs : Listed Value) → AllByRecursion Stands vs → Stands (List vs)
-list_stands vs h zero c k =
-    let shut : can_carry (List vs) zero ≡ false = carry-List zero vs in
-    absurd (cc (shut, c))
+list_stands vs h zero c k = absurd (omega (arith, (list_tests vs zero c).1))
 list_stands vs h (suc depth) c k =
-    let fit : Bool = list_all (λ (f : ℕ → Bool). f depth) (map can_carry vs) in
-    let both : (nat_le (length (map can_carry vs)) 1024 && fit) ≡ true =
-    sym (carry-List (suc depth) vs) ∙ c in
+    let less : suc depth - 1 ≡ depth = omega arith in
     inr (record {
       items = vs;
       is_list = refl;
-      each = each_stands vs depth h (and_parts (nat_le (length (map can_carry vs)) 1024) fit both).1
-          (of_items is_nameable vs k);
+      each = subst (λ d. AllByRecursion (IsNested d) vs) less
+          (each_stands vs (suc depth - 1) h (list_tests vs (suc depth) c).0
+          (of_items is_nameable vs k));
     })
 
 -- each value
@@ -132,9 +138,9 @@ exception_stands ConnectionDied h = tt
 exception_stands NotVended h = tt
 exception_stands TooLarge h = tt
 exception_stands TimedOut h = tt
-exception_stands (User text) h = h
+exception_stands (User t) h = h
 
 -- the exceptions of rules
 pub raised_stands : (e : Exc) → is_raised e ≡ true → IsException e
-raised_stands (User text) h = absurd (cc (h))
+raised_stands (User t) h = absurd (cc (h))
 raised_stands _ h = tt

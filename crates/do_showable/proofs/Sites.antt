@@ -22,10 +22,10 @@ use Rattle.do_showable.proofs.Nodes.{IsNamed, left, left_shows}
 module _ (table : List Class) (port : ℕ) where
   -- A message can carry what a node of this port has, a record may have its names, and the classes
   -- that it keeps are of the table
-  pub record NodeStands (n : Node) (classes : ClassMap) : Type 0 where
+  pub record NodeStands (n : Node) (kept : ClassMap) : Type 0 where
     pub sendable : NodeIsSendable table port n
     pub named : IsNamed n
-    pub classes : ClassesStand table classes
+    pub classes : ClassesStand table kept
 
   -- so it is with a node and its counts
   abbrev pub OwnStands : Own → Type 0
