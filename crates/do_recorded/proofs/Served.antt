@@ -58,7 +58,7 @@ module _ {Part : Type 0} (rules : Rules Part) (port : ℕ) where
 
   -- as often objects are made
   makers_both : (is js : List Input) → makers (is ++ js) ≡ makers is + makers js
-  makers_both [] js = refl
+  makers_both [] js = omega arith
   makers_both (i ∷ is) js = omega (arith, makers_both is js)
 
   -- serving that stopped

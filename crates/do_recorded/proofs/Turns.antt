@@ -69,7 +69,7 @@ module _ {Part : Type 0} (rules : Rules Part) (port : ℕ) where
       record {
         inputs = i ∷ m.inputs;
         served = ((at, tt), m.served);
-        few = m.few;
+        few = omega (arith, m.few);
         led = m.led;
         written = ap (λ t. (enter rules port i s).1 ++ t) m.written;
         sent = m.sent ∙ append_assoc s.waiting (rules.step s.part i).frames
