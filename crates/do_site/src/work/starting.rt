@@ -2,7 +2,8 @@
 ghost use Rattle.std.specs.Prelude.{IfOk, OnErr, OnOk};
 ghost use Rattle.do_machine.specs.{Start.start_effect, Effect.only, run.Fresh.pushed};
 ghost use Rattle.do_effects.specs.Tidy.{IsTidy};
-ghost use Rattle.do_site.specs.{Kept.StaysKept, Room.CanSettle, Steps.{Does, IsSame, Moves}};
+ghost use Rattle.do_site.specs.{Kept.{IsKept, StaysKept}, Room.CanSettle};
+ghost use Rattle.do_site.specs.Steps.{Does, IsSame, Moves};
 
 use crate::ground::judged_by;
 use crate::needs::Needs;
@@ -53,6 +54,7 @@ impl Work {
         selector: &Text,
         values: &Values,
     ) -> Result<bool, AllocError>
+        requires kept { IsKept table.now self.old }
         requires places { CanSettle self.old }
         ensures done { IfOk result (λ told. Does self.old.core self.new.core told
             (start_effect table.now selector.now values.now self.old.core.part.own.node)) }
