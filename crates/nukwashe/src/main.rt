@@ -11,7 +11,8 @@
 
 mod advice;
 
-use do_base::Texts;
+use do_advice::Watched;
+use do_base::{Sink, Texts, Word};
 use do_host::{FileShelf, ProcSpawner, StdSink, TcpLink, program_path, read_words};
 use do_node::{Status, run};
 use std::process::ExitCode;
@@ -24,18 +25,25 @@ fn main(rt: HostRuntime) -> ExitCode {
         advice::tell(&rt, &Status::Memory, &[]);
         return ExitCode::from(Status::Memory.number());
     };
-    let status = answer(rt, &words);
+    let sink = StdSink::new(rt.stdout());
+    let mut out = Watched::new(sink, writes_record(words.as_slice()));
+    let status = answer(rt, &words, &mut out);
     if !matches!(&status, Status::Ok) {
         advice::tell(&rt, &status, words.as_slice());
     }
+    advice::tell_raised(&rt, out.raised());
     ExitCode::from(status.number())
 }
 
-/// What the words of the command line come to, over the files, the output, the sockets and the
+/// Whether these words ask for the record of a node.
+fn writes_record(words: &[Word]) -> bool {
+    matches!(words, [name, ..] if name.is(b"node"))
+}
+
+/// What the words of the command line come to, over the files, an output, the sockets and the
 /// processes of the system.
-fn answer(rt: HostRuntime, words: &Texts) -> Status {
+fn answer<K: Sink>(rt: HostRuntime, words: &Texts, out: &mut K) -> Status {
     let alloc = rt.alloc();
-    let mut out = StdSink::new(rt.stdout());
     let mut shelf = FileShelf::new(alloc, rt);
     let mut link = TcpLink::new(alloc, rt, WAIT);
     let mut spawn = ProcSpawner::new(alloc, rt, program_path(&rt));
@@ -43,7 +51,7 @@ fn answer(rt: HostRuntime, words: &Texts) -> Status {
         alloc,
         words.as_slice(),
         &mut shelf,
-        &mut out,
+        out,
         &mut link,
         &mut spawn,
     )

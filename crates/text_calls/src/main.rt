@@ -2,13 +2,14 @@
 //! stands beside the call.
 //!
 //! The texts are words and types, methods with the acts that they come to, schedules, starts and
-//! plans, blocks of a transcript, a grammar of our own, and worlds. It stands on the crates of
-//! texts, do_behave, do_lines and do_world, and calls public functions alone. The rows are files;
-//! what they expect was worked out by hand. The texts of types with sizes are what clang gives, and generated lines
-//! are by another program. A row whose answer is another one is printed with it; at the end of each
-//! file stands how many rows it has.
+//! plans, blocks of a transcript, a grammar of our own, worlds, and what a person is told. It
+//! stands on the crates of texts, do_behave, do_lines, do_world and do_advice, and calls public
+//! functions alone. The rows are files; what they expect was worked out by hand. The texts of types
+//! with sizes are what clang gives, and generated lines are by another program. A row whose answer
+//! is another one is printed with it; at the end of each file stands how many rows it has.
 #![tactic(auto)]
 
+mod advice;
 mod base;
 mod blocks;
 mod pairs;
@@ -18,6 +19,7 @@ mod scripts;
 mod words;
 mod worlds;
 
+use crate::advice::AdviceCalls;
 use crate::base::BaseCalls;
 use crate::blocks::BlockCalls;
 use crate::pairs::PairCalls;
@@ -40,6 +42,7 @@ fn main(rt: HostRuntime) -> Result<(), Fail> {
     play_file(&rt, "blocks.rows", BlockCalls::new(alloc)?, &mut report)?;
     play_file(&rt, "pairs.rows", PairCalls::new(alloc), &mut report)?;
     play_worlds(&rt, &mut report)?;
+    play_file(&rt, "advice.rows", AdviceCalls::new(alloc), &mut report)?;
     rt.stdout().write_all(report.as_slice())?;
     Ok(())
 }
