@@ -8,3 +8,4 @@ pub mod Known
 pub mod Threads
 pub mod Opening
 pub mod Exchange
+pub mod Files
