@@ -22,34 +22,56 @@ CASES = [
     ("a port of no node of a world that is built in",
      "node 9 :counter end.starts " + TURNS, 5, "",
      "bad world\nnode is wrong\nthe world has no node of port 9; its nodes are of 7001 7002\n"),
-    ("starts of which an exception ended two",
-     "node {free} world.toml wrong.starts " + TURNS, 0,
-     "record 1 {free}\n"
-     "> start {free} go: \"x\"\n> run {free} 1\nraise {free} Type\n"
-     "> start {free} go: nil\n> run {free} 1\nraise {free} Type\n> end\n",
-     "starts that an exception ended: 2; each is a line `raise` of the record\n"),
-    ("starts of which none was ended so",
+    ("starts of which none was ended by an exception",
      "node {free} world.toml end.starts " + TURNS, 0, "record 1 {free}\n> end\n", ""),
 ]
 
 FILES = {
     "end.starts": "starts 1\nend\n",
-    "wrong.starts": "starts 1\nstart go: \"x\"\nstart go: nil\nend\n",
+    "asking.toml": """
+version = 1
+
+[[class]]
+name = "Client"
+
+[[class.method]]
+selector = "ask:"
+types = "v@:q"
+code = "root l1 l0"
+
+[[node]]
+port = {free}
+root = "Client"
+""",
+    "asking.starts": "starts 1\nstart ask: 9\nstart ask: 9\nend\n",
     "taken.plan": "plan 1\nnode {taken} world.toml end.starts " + TURNS + "\n"
                   "node {free} world.toml end.starts " + TURNS + "\nend\n",
 }
 
 
 class Told(Live):
-    def test_each_case(self):
-        ports = dict(zip(("free", "taken"), self.ports))
+    def setUp(self):
+        super().setUp()
+        self.names = dict(zip(("free", "taken"), self.ports))
         for name, text in FILES.items():
-            (self.folder / name).write_text(text.format(**ports))
-        with socket.create_server(("127.0.0.1", ports["taken"])):
+            (self.folder / name).write_text(text.format(**self.names))
+
+    def ends_with(self, words):
+        """The status, and what was written to both outputs."""
+        done = subprocess.run([PROGRAM, *words.format(**self.names).split()], cwd=self.folder,
+                              text=True, capture_output=True, timeout=PATIENCE, check=False)
+        return done.returncode, done.stdout, done.stderr
+
+    def test_each_case(self):
+        with socket.create_server(("127.0.0.1", self.names["taken"])):
             for what, words, status, written, told in CASES:
                 with self.subTest(what):
-                    done = subprocess.run(
-                        [PROGRAM, *words.format(**ports).split()], cwd=self.folder, text=True,
-                        capture_output=True, timeout=PATIENCE, check=False)
-                    self.assertEqual((done.returncode, done.stdout, done.stderr),
-                                     (status, written.format(**ports), told.format(**ports)))
+                    self.assertEqual(self.ends_with(words), (
+                        status, written.format(**self.names), told.format(**self.names)))
+
+    def test_starts_that_an_exception_ended(self):
+        status, written, told = self.ends_with("node {free} asking.toml asking.starts " + TURNS)
+        raised = [line for line in written.splitlines() if line.startswith("raise ")]
+        self.assertEqual(raised, [f"raise {self.names['free']} ConnectionDied"] * 2)
+        self.assertEqual((status, told), (
+            0, "starts that an exception ended: 2; each is a line `raise` of the record\n"))
