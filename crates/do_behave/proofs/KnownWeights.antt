@@ -1,7 +1,7 @@
 -- What is known of a list's weight, with one item more too.
 use Rattle.std.proofs.Common.{◌≡◌, ℕ, zero, suc, List as Listed, [], ◌∷◌, ◌++◌, ◌<◌, ◌+◌, ◌-◌, Some}
 use Rattle.std.proofs.Common.{None, Bool, refl, true, false, ◌&&◌, nat_lt, nat_le, length, sym, ◌∙◌}
-use Rattle.std.{proofs.Common.{ap, subst, arith}, specs.List.list_all, proofs.lemmas.Bool.and_parts}
+use Rattle.std.{proofs.Common.{ap, subst, arith}, specs.List.list_all}
 use Rattle.std.proofs.lemmas.Grind.{common_steps}
 use Rattle.do_base.specs.values.{Values.weight_of, Kinds.items}
 use Rattle.do_base.specs.declared.values.value.Value.{Value, List}
@@ -13,17 +13,6 @@ use Rattle.do_behave.specs.laws.Nesting.{nests_within-deeper, can_be_push, weigh
 known : (v : Value) (w : ℕ) → w ≡ weight_of v → nests_within v 8 ≡ true → IsKnown v w
 known v zero same nests = tt
 known v (suc n) same nests = (sym same, nests)
-
--- a list that keeps the limits is known by its weight
-pub known_list : (vs : Listed Value) (w : ℕ) → can_be vs ≡ true → w ≡ weight_of (List vs)
-    → IsKnown (List vs) w
-known_list vs w fits same =
-    let limits =
-    and_parts (nat_le (length vs) 1024)
-    (nests_within (List vs) 8 && nat_le (weight_of (List vs)) 2097152) fits in
-    let others =
-    and_parts (nests_within (List vs) 8) (nat_le (weight_of (List vs)) 2097152) limits.1 in
-    known (List vs) w same others.0
 
 -- what is known is the weight
 pub known_weight : (v : Value) (w : ℕ) → IsKnown v w → 0 < w → weight_of v ≡ w
@@ -57,13 +46,6 @@ fits_list vs v w fits =
     same_items vs fits.0 (sym (items-List vs) ∙ ap items fits.1 ∙ items-List fits.0) in
     subst (λ ws. (can_be (ws ++ v ∷ []) ≡ true) × (w ≡ weight_of (List (ws ++ v ∷ [])))) (sym same)
     (fits.2, fits.3)
-
--- what is known of a longer list is its weight
-pub known_longer : (value item : Value) (w : ℕ) → FitsIn value item w
-    → IsKnown (longer value item) w
-known_longer value item w fits =
-    subst (λ v. IsKnown v w) (sym (ap (λ v. longer v item) fits.1 ∙ longer_list fits.0 item))
-    (known_list (fits.0 ++ item ∷ []) w fits.2 fits.3)
 
 -- what is left of a limit says that the weight keeps it, and what it is
 left_keeps : (most weight rest : ℕ) → Some rest ≡ left_of most weight → nat_le weight most ≡ true

@@ -15,15 +15,6 @@ use Rattle.do_class_kinds.proofs.Said.{IsSaid, all_said, are_methods, none_lost}
 
 -- ---- the slots
 
--- there are at most 16
-pub slots_few : (kind : Kind) → length (slot_names kind) ≤ 16
-slots_few kinds.Script = omega arith
-slots_few kinds.Names = omega arith
-slots_few kinds.Pasteboard = omega arith
-slots_few kinds.Services = omega arith
-slots_few kinds.Center = omega arith
-slots_few kinds.Checker = omega arith
-
 -- no two have one name
 pub slots_distinct : (kind : Kind) → IsDistinct bytes_eq (slot_names kind)
 slots_distinct kinds.Script = IsDistinct-from_count nat_list_eq_equiv _ refl

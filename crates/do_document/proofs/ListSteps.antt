@@ -1,8 +1,8 @@
 -- How lists of a document are read, member by member.
 use Rattle.std.proofs.Common.{◌≡◌, ℕ, suc, ◌+◌, ◌<◌, ◌≤◌, List, [], ◌∷◌, ◌++◌, length, map, take}
-use Rattle.std.proofs.Common.{drop, get_or, Option, Some, None, true, false, refl, sym, ◌∙◌, ap}
-use Rattle.std.{proofs.Common.arith, specs.List.{cons_option, filter_map}}
-use Rattle.std.{specs.Option.{option_or, option_to_list}, proofs.lemmas.List.take_all}
+use Rattle.std.proofs.Common.{drop, get_or, Option, Some, None, false, refl, sym, ◌∙◌, ap, arith}
+use Rattle.std.specs.{List.{cons_option, filter_map}, Option.{option_or, option_to_list}}
+use Rattle.std.proofs.lemmas.List.{take_all}
 use Rattle.toml.specs.Data.{Data, Members, as_array, as_str, as_table, get_member}
 use Rattle.toml.specs.{View.{items_view, view}, declared.value.Value.Value}
 use Rattle.do_class_kinds.proofs.Growing.{maybe_more}
@@ -11,8 +11,8 @@ use Rattle.do_document.specs.Checks.{member_fault, misfit, wrong_unless}
 use Rattle.do_document.specs.{Document.{members_at, tables_at, texts_at}, Paths.{numbered, path}}
 use Rattle.do_document.specs.declared.{document.ItemKind.ItemKind, place.Place.Place}
 use Rattle.do_document.specs.declared.fault.WorldFault.{WorldFault, TheVariants.Wrong}
-use Rattle.do_document.proofs.{Finding.{turn_bad, turn_good}, Growing.so_far}
-use Rattle.do_document.proofs.{InOrder.{Tells, in_first}, Seen.members_seen}
+use Rattle.do_document.proofs.{Finding.turn_bad, Growing.so_far, InOrder.{Tells, in_first}}
+use Rattle.do_document.proofs.Seen.{members_seen}
 
 -- the members of a list that stands at a key
 pub members_there : (key : List ℕ) (t : Members) (d : Data) (vs : List Value)
@@ -125,17 +125,3 @@ member_wrong at kind vs k v all within is so other =
     let bad : member_fault at kind (map view (take k vs)) (view (get_or vs k v))
     ≡ Some (Wrong (numbered at k)) = rw (fails, count) in
     turn_bad (member_fault at kind) view vs k v all (Wrong (numbered at k)) within so bad
-
--- a member of the kind has no fault
-pub member_good : (at : List ℕ) (kind : ItemKind) (vs : List Value) (k : ℕ) (v : Value)
-    (all : Option WorldFault) → k < length vs → v ≡ get_or vs k v
-    → first_behind (member_fault at kind) (map view (take k vs)) (map view (drop k vs)) ≡ all
-    → is_of_kind kind (view v) ≡ true
-    → first_behind (member_fault at kind) (map view (take (k + 1) vs)) (map view (drop (k + 1) vs))
-    ≡ all
-member_good at kind vs k v all within is so same =
-    let fits : is_of_kind kind (view (get_or vs k v)) ≡ true =
-    ap (λ (y : Value). is_of_kind kind (view y)) (sym is) ∙ same in
-    let good : member_fault at kind (map view (take k vs)) (view (get_or vs k v))
-    ≡ None = rw fits in
-    turn_good (member_fault at kind) view vs k v all within so good

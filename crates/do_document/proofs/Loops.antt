@@ -90,17 +90,6 @@ module _ {A : Type 0} where
   class_turn v xs k d classes all within so made none =
       turn_good class_fault v xs k d all within so (class_here v xs k d classes within made ∙ none)
 
-  -- the first class with a fault has the first fault of all
-  pub class_bad : (v : A → Members) (xs : List A) (k : ℕ) (d : A) (classes : List Class)
-      (all : Option WorldFault) (e : WorldFault) → k < length xs
-      → first_behind class_fault (map v (take k xs)) (map v (drop k xs)) ≡ all
-      → classes ≡ filter_map class_of (map v (take k xs))
-      → Tells (class_checks k classes (v (get_or xs k d))) e → Tells all e
-  class_bad v xs k d classes all e within so made (inl m) = inl m
-  class_bad v xs k d classes all e within so made (inr h) =
-      inr (turn_bad class_fault v xs k d all e within so
-      (class_here v xs k d classes within made ∙ h))
-
 -- the list of slots has a fault
 pub slots_listed : (place : Place) (t : Members) (e : WorldFault)
     → Tells (list_fault place (codes "slots") 0 16 Text t) e → Tells (slots_fault place t) e

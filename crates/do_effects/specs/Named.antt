@@ -43,7 +43,3 @@ got_name from (Lent o class token) p =
     })
     else p
 got_name from (Yours serial) p = p
-
--- all names of a message are received
-abbrev pub all_got : ℕ → List Name → Own → Own
-all_got from names p = fold (λ q name. got_name from name q) p names

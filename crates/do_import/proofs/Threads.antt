@@ -104,20 +104,6 @@ module _ (received uses : Counts) (es : List Row) (t : IsThread received uses es
       go q true = e
       go q false = t.each q
 
-  -- an object that is received and not used is threaded
-  pub got_threaded : (v : ℕ) (used : Bool) (es' : List Row) → used ≡ map.contains_key uses k
-      → es' ≡ (if used then es else put entry_cmp k tt es)
-      → IsThread (map.insert received k v) uses es'
-  got_threaded v true es' is e = subst (IsThread (map.insert received k v) uses) (sym e)
-      (rethread _ _ es true (map.contains_key uses k) (is_some (find entry_cmp k es)) t.sorted
-      (t.each k ∙ ap (λ b. map.contains_key received k && not b) (sym is) ∙ and_false _ ∙ ap not is)
-      (inserted received k v) (unchanged (map.contains_key uses) k)
-      (unchanged (λ q. is_some (find entry_cmp q es)) k))
-  got_threaded v false es' is e = subst (IsThread (map.insert received k v) uses) (sym e)
-      (rethread _ _ _ true (map.contains_key uses k) true
-      (is_sorted-put entry_cmp entry_total k tt es t.sorted) (ap not is)
-      (inserted received k v) (unchanged (map.contains_key uses) k) (threaded k es))
-
   -- an object that is used or was received stays as it is in the thread
   pub got_kept : (v : ℕ) (kept : Bool) (es' : List Row)
       → kept ≡ (map.contains_key uses k || map.contains_key received k)

@@ -70,11 +70,6 @@ pub listed_atoms : (vs : Listed Value) → AllHaveAtoms vs → HasAtoms (listed 
 listed_atoms [] h = atoms-Nil
 listed_atoms (v ∷ vs) h = list_atoms (v ∷ vs) h
 
--- and the items of such a list
-pub rows_atoms : (vs : Listed Value) → HasAtoms (listed vs) → AllHaveAtoms vs
-rows_atoms [] h = tt
-rows_atoms (v ∷ vs) h = parts_atoms (v ∷ vs) h
-
 -- a number from 0 on of 63 bits has atoms
 pub count_atoms : (n : ℕ) → n < 9223372036854775808 → HasAtoms (Num (pos n))
 count_atoms n h = atoms-Num (pos n) ∙ less n h

@@ -5,10 +5,6 @@ use Rattle.std.proofs.Common.{◌≡◌, ◌||◌, ◌⊎◌, Bool, true, false,
 pub or_false : (a : Bool) → (a || false) ≡ a
 or_false a = grind (arith)
 
--- two tests in the other order
-pub or_comm : (a b : Bool) → (a || b) ≡ (b || a)
-or_comm a b = grind (arith)
-
 -- a test that can't pass fails
 pub fails : (b : Bool) → (b ≡ true → ⊥) → b ≡ false
 fails b h = grind (arith, h)

@@ -1,13 +1,13 @@
 -- What the walk over the copies keeps, and what it ends with.
 use Rattle.std.proofs.Common.{◌≡◌, ℕ, zero, suc, ◌+◌, ◌≤◌, ◌<◌, nat_lt, Bool, true, false, List, []}
-use Rattle.std.proofs.Common.{◌∷◌, ◌++◌, map, length, take, sum_by, Some, Ok, Err, refl, sym, ap}
-use Rattle.std.proofs.Common.{◌∙◌, subst, arith, get_or, add-one, add-zero, min}
+use Rattle.std.proofs.Common.{◌∷◌, ◌++◌, map, length, take, sum_by, Ok, Err, refl, sym, ap, ◌∙◌}
+use Rattle.std.proofs.Common.{subst, arith, get_or, add-one, add-zero, min}
 use Rattle.std.{specs.List.{flat_map, zip}, proofs.lemmas.{Grind.common_steps, List.Folds.fold-map}}
 use Rattle.std.proofs.lemmas.Slice.Zip.{length-zip, seconds-zip}
 use Rattle.do_base.specs.{names.Names.ObjectName, values.Values.weight_of}
 use Rattle.do_base.specs.declared.values.value.Value.{Value}
-use Rattle.do_class.specs.{Table.slots_of, declared.ids.{ClassId.ClassId, Slot.Slot}}
-use Rattle.do_class.specs.declared.packet.{Part.Part, Copied.Copied, Packet.Packet, Name.Name}
+use Rattle.do_class.specs.declared.{ids.ClassId.ClassId, packet.{Part.Part, Copied.Copied}}
+use Rattle.do_class.specs.declared.packet.{Packet.Packet, Name.Name}
 use Rattle.do_packet.specs.Copies.{Placed, copied_at, copies_of, most_copies, named_at, names_with}
 use Rattle.do_packet.specs.{Copies.{slot_values, slots_at}, Met.met}
 use Rattle.do_packet.specs.Packing.{capped, class_at, copied_of, message_weight, most_weight}
@@ -184,21 +184,3 @@ walked_bare s o walk class e d = record {
   names = ap (λ l. met walk.names (flat_map (named_at s) l)) (sym d);
   stands = λ C N p q. rw (d, ← e) refl;
 }
-
--- a copy, from the parts of its slots
-pub walked_copied : (s : Sender) (o : ObjectName) (a b : Walk) (class : ClassId)
-    (slots : List Slot) (vs : List Value) (ps : List Part) → s.seen.class_of o ≡ Some class →
-    slots_of s.table class ≡ Some slots → s.seen.slots o ≡ Some vs →
-    Walked (flat_map (copied_at s) (zip (map (λ slot. slot.copy) slots) vs))
-    (flat_map (named_at s) (zip (map (λ slot. slot.copy) slots) vs))
-    (λ C N. map (part_at s C N) (zip (map (λ slot. slot.copy) slots) vs)) a b ps →
-    Walked (flat_map (copied_at s) (slots_at s o)) (flat_map (named_at s) (slots_at s o))
-    (λ C N. copied_of s C N o) a b (record { class = class; slots = ps })
-walked_copied s o a b class slots vs ps e f h w =
-    let d : slots_at s o ≡ zip (map (λ slot. slot.copy) slots) vs = rw (e, h) (rw f refl) in
-    let k : class_at s o ≡ class = rw e refl in
-    record {
-      copies = w.copies ∙ ap (λ l. met a.copies (flat_map (copied_at s) l)) (sym d);
-      names = w.names ∙ ap (λ l. met a.names (flat_map (named_at s) l)) (sym d);
-      stands = λ C N p q. let r = w.stands C N p q in rw (d, k, r) refl;
-    }

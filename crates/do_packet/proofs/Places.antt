@@ -1,10 +1,9 @@
 -- A map that has each object at its place.
 use Rattle.std.proofs.Common.{◌≡◌, ℕ, Bool, true, false, cond, List, [], ◌∷◌, ◌++◌, length, Option}
 use Rattle.std.proofs.Common.{Some, None, refl, sym, ap, ◌∙◌, arith, ⊎_elim}
-use Rattle.std.specs.BTreeMap.{BTreeMap, IsEmpty, Updates, get, is_at}
-use Rattle.std.specs.{List.{list_any, position, position_or_len}, Map.lookup}
-use Rattle.std.proofs.lemmas.{Bool.cases_Bool, Grind.common_steps, List.Folds.position_or_len_push}
-use Rattle.std.proofs.lemmas.List.Sums.{prefix_len-le-length}
+use Rattle.std.specs.{BTreeMap.{BTreeMap, Updates, get, is_at}, List.{list_any, position}}
+use Rattle.std.{specs.List.position_or_len, proofs.lemmas.{Bool.cases_Bool, Grind.common_steps}}
+use Rattle.std.proofs.lemmas.List.{Folds.position_or_len_push, Sums.prefix_len-le-length}
 use Rattle.do_base.specs.names.Names.{ObjectName}
 use Rattle.do_packet.specs.{Met.{met_one, place, same_object}, walk.Places.{ArePlaces, object_cmp}}
 use Rattle.do_packet.proofs.{Once.same_is, Walks.same_object-refl}
@@ -55,11 +54,6 @@ some_any p xs k some = go (list_any p xs) refl
 some_place : (p : ObjectName → Bool) (xs : List ObjectName) (k : ℕ) → position p xs ≡ Some k →
     position_or_len p xs ≡ k
 some_place p xs k some = grind (arith, common_steps, prefix_len-le-length)
-
--- an empty map is that of no objects
-pub places_none : (places : BTreeMap ObjectName ℕ) → IsEmpty places → ArePlaces [] places
-places_none places empty o =
-    ap (λ entries. lookup (is_at (object_cmp o)) entries) empty
 
 -- names are equal in the order exactly where they are of one object
 pub cmp_same : (a b : ObjectName) → is_at (object_cmp a) b ≡ same_object a b

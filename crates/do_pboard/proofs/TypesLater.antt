@@ -15,15 +15,6 @@ take_more (suc n) [] us full = cc
 take_more (suc n) (t ∷ ts) us full =
     ap (λ xs. t ∷ xs) (take_more n ts us (omega (arith, full)))
 
--- and where one is added
-pub take_added : (old ts : List Declared) (new : List ℕ) → take (length old) ts ≡ old
-    → take (length old) (added ts new None) ≡ old
-take_added old ts new is = by (is_some (value_of ts new))
-  where
-    by : (b : Bool) → take (length old) (if b then ts else ts ++ (new, None) ∷ []) ≡ old
-    by true = is
-    by false = take_more (length old) ts ((new, None) ∷ []) (ap length is) ∙ is
-
 -- a type that is added counts no more where it is not among these
 count_added : (ts : List Declared) (new : List ℕ) (more : List (List ℕ))
     → value_of (bare more) new ≡ None → count_new (added ts new None) more ≡ count_new ts more

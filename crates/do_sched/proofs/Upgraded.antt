@@ -1,6 +1,6 @@
 -- A schedule of the first version, written anew, is one of the second version.
-use Rattle.std.proofs.Common.{◌≡◌, ℕ, ◌≤◌, List as Listed, [], ◌∷◌, ◌++◌, length, drop, Result, Ok}
-use Rattle.std.{proofs.Common.{Err, ap, ◌∙◌, arith}, specs.List.AllByRecursion}
+use Rattle.std.proofs.Common.{◌≡◌, ℕ, List as Listed, [], ◌∷◌, ◌++◌, drop, Result, Ok, Err, ap, ◌∙◌}
+use Rattle.std.{proofs.Common.arith, specs.List.AllByRecursion}
 use Rattle.do_base.specs.declared.values.value.Value.{Value}
 use Rattle.do_sched.specs.declared.line.Line.{Line, TheVariants.{Start, Run, Take, Close, Lose}}
 use Rattle.do_sched.specs.declared.line.Line.TheVariants.{Timeout, Check}
@@ -44,11 +44,6 @@ lines_upgraded : (ls : Listed Line) → AllByRecursion (IsLineOf First) ls
 lines_upgraded [] h = tt
 lines_upgraded (l ∷ ls) h = (line_upgraded l h.0, lines_upgraded ls h.1)
 
--- a schedule has at least its first line
-pub long_enough : (bytes : Listed ℕ) (lines : Listed Line) → IsScheduleOf First bytes lines
-    → 10 ≤ length bytes
-long_enough bytes lines s = rw s.spelled (omega arith)
-
 -- with the other first line the bytes spell the same lines in the other version
 other_header : (bytes : Listed ℕ) (lines : Listed Line) → IsScheduleOf First bytes lines
     → header Second ++ drop 10 bytes ≡ spelling Second lines
@@ -66,14 +61,6 @@ upgrades bytes new lines s e = record {
     few = s.few;
   };
 }
-
--- the bytes of these lines are answered with their other text
-pub upgrade_accepted : (bytes new : Listed ℕ) → new ≡ header Second ++ drop 10 bytes
-    → (lines : Listed Line) → IsScheduleOf First bytes lines
-    → AnswersWith {A = Listed ℕ} (Ok (spelling Second lines)) (Ok new)
-upgrade_accepted bytes new e lines s =
-    let answer : Listed ℕ → Result (Listed ℕ) SchedFault = λ w. Ok w in
-    ap answer (e ∙ other_header bytes lines s)
 
 -- what is no answer to the lines is none to their text
 pub fault_not_accepted : (bytes : Listed ℕ) (fault : SchedFault)

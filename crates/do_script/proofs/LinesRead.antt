@@ -103,17 +103,6 @@ pub record Reached (s : Scope) (xs : List Statement) (n : ℕ) (rest : List Stat
   pub made : code_from s 0 0 xs ≡ code ++ code_from s n (length code) rest
   pub short : length code ≤ 4096
 
-pub reached_none : (s : Scope) (xs : List Statement) → Reached s xs 0 xs []
-reached_none s xs =
-    record {
-      behind = refl;
-      place = omega arith;
-      good = λ line h. absurd (let z : ⊥ = omega arith in z);
-      count = refl;
-      made = refl;
-      short = omega arith;
-    }
-
 pub reached_more : (s : Scope) (xs : List Statement) (n : ℕ) (x : Statement)
     (rest more : List Statement)
     (code is : List Instruction) → Reached s xs n rest code → rest ≡ x ∷ more → made s n

@@ -3,7 +3,7 @@ use Rattle.std.proofs.Common.{◌≡◌, ℕ, suc, ◌+◌, ◌<◌, ◌≤◌, 
 use Rattle.std.proofs.{Common.{get_or, refl, sym, ap, ◌∙◌, arith, add-one}, Math.Seq.drop-cons}
 use Rattle.std.proofs.lemmas.Grind.{common_steps}
 use Rattle.do_plan.specs.declared.starts.StartLine.{StartLine}
-use Rattle.do_serve.specs.declared.{log.Log.Log, turning.Turned.TheVariants.{Went, Polls, Ends}}
+use Rattle.do_serve.specs.declared.{log.Log.Log, turning.Turned.TheVariants.{Went, Polls}}
 use Rattle.do_serve.specs.{Rules.{Rules, Outgoing}, Peers.Peer, Serving.{idle_turn, line_turn}}
 use Rattle.do_serve.specs.Turning.{server_of, server_with, TurnsTo, UsesLine}
 
@@ -21,13 +21,6 @@ no_line starts at le = grind (arith, common_steps, le)
 module _ {Part : Type 0} (rules : Rules Part) (part : Part) (waiting : List Outgoing)
     (before : Log) (peers : List Peer) (starts : List StartLine) (at : ℕ)
     (idle : rules.is_idle part ≡ true) where
-  -- the line `end` is used
-  pub uses_end : drop at starts ≡ []
-      → TurnsTo (idle_turn rules before.node (server_of part waiting before peers starts at))
-      (server_of part waiting before peers starts at)
-      (server_of part waiting before peers starts at) before.text before.text Ends
-  uses_end none = rw (idle, none) (refl, refl)
-
   -- a line is used
   pub uses_line : (line : StartLine) (part' : Part) (waiting' : List Outgoing) (after : Log)
       → drop at starts ≡ line ∷ drop (at + 1) starts

@@ -72,16 +72,6 @@ module _ {Part : Type 0} (rules : Rules Part) (port : ℕ) (s : Server Part) (pe
         ∙ turned polls e turns (Came event ∷ more));
   }
 
--- where a turn was broken off, all frames had been handed over
-pub hands_all : (frames : List Outgoing) (peers peers' : List Peer)
-    (told told' : Option (List Told)) → HasHanded frames peers peers' told told'
-    → HandsSome frames told told'
-hands_all frames peers peers' told told' h = record {
-  list = h.list;
-  calls = h.calls;
-  front = record { rest = []; joins = append-nil (frames_handed h.list) ∙ h.handed };
-}
-
 -- and so where a poll was
 pub hands_heard : (frames : List Outgoing) (peers peers' : List Peer)
     (told told' told'' : Option (List Told)) (event : ScriptEvent)

@@ -2,7 +2,7 @@
 use Rattle.std.proofs.Common.{◌≡◌, ℕ, suc, true, false, List, [], ◌++◌, Option, inl, inr, refl, sym}
 use Rattle.std.proofs.{Common.{ap, subst, ◌∙◌, append_assoc}, lemmas.List.append-nil}
 use Rattle.do_base.specs.outside.Bytes.{with_more, HasWritten}
-use Rattle.do_output.{specs.Told.TellsMore, proofs.ToldMore.{tells_none, tells_both}}
+use Rattle.do_output.{specs.Told.TellsMore, proofs.ToldMore.tells_both}
 use Rattle.do_output.proofs.SentIsPrefix.{IsAhead, ahead_prefix, ahead_part, ahead_whole}
 use Rattle.do_link.specs.Told.{Told}
 use Rattle.do_serve.specs.{Rules.{Rules, Outgoing}, Record.{first_line, last_line}}
@@ -26,15 +26,6 @@ in_both : (a b : List ℕ) (xs ys : List Outgoing) (r : Report)
 in_both a b xs ys r = rw (append_assoc a b r.text, append_assoc xs ys r.frames) refl
 
 module _ {Part : Type 0} (rules : Rules Part) (port : ℕ) where
-  -- at first nothing was told
-  pub so_far_none : (turns : ℕ) (s : Server Part) (told : Option (List Told))
-      → SoFar rules port turns turns s s told told []
-  so_far_none turns s told = record {
-    list = [];
-    calls = tells_none told;
-    goes = λ more. refl;
-  }
-
   -- one round more
   pub so_far_more : (turns left : ℕ) (s t u : Server Part) (a b c : Option (List Told))
       (text before after : List ℕ) → SoFar rules port turns (suc left) s t a b text

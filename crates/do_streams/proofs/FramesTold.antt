@@ -121,11 +121,6 @@ module _ (table : List Class) (t : IsTable table) (from to : ℕ) (recent : List
           by_whole kind (kind_is raw.kind kind e) e answer (whole kind (kind_is raw.kind kind e) e)
           refl told only
 
-  -- what is spelled has the kind of the number
-  pub told_kind : (f : Frame) → TellsFrame here recent raw.kind raw.payload (Ok f) →
-      kind_number (kind_of f) ≡ raw.kind
-  told_kind f told = told.fits.0
-
 -- a frame with no packet leaves the names as they are
 pub plain_stays : (names : List Pair) (f : Frame) →
     names_objects (kind_number (kind_of f)) ≡ false → after_frame names f ≡ names

@@ -5,6 +5,5 @@ pub mod LinksRead
 pub mod NextSpelled
 pub mod OneFault
 pub mod Placed
-pub mod SpelledBytes
 pub mod WaitingCells
 pub mod WaitingFrames

@@ -106,9 +106,3 @@ fault_refused bytes (Err e) (inl m) fault f =
 fault_refused bytes (Err e) (inr h) fault f =
     let same : e ≡ fault = cc in
     let answer : WorldFault → Result World WorldFault = λ x. Err x in inl (ap answer same)
-
--- a world that is told is sound
-pub sound_told : (bytes : List ℕ) (r : Result World WorldFault)
-    → Finds (first_fault bytes) (λ w. IsWorldText bytes w × IsSound w) r → IfOk r IsSound
-sound_told bytes (Ok w) h = h.1.1
-sound_told bytes (Err e) h = tt

@@ -1,7 +1,7 @@
 -- The codes of a class by its kind, and how they suit the class.
 use Rattle.do_class_kinds.specs.declared.kind.Kind.TheVariants as kinds
-use Rattle.std.proofs.Common.{◌≡◌, ◌≢◌, ◌∙◌, ◌≤◌, ◌+◌, ℕ, List, [], ◌∷◌, ◌++◌, length, map, take}
-use Rattle.std.proofs.Common.{Option, Some, None, refl, sym, ap, arith, subst, Result, Ok, Err}
+use Rattle.std.proofs.Common.{◌≡◌, ◌≢◌, ◌∙◌, ◌+◌, ℕ, List, [], ◌∷◌, ◌++◌, length, map, take, Option}
+use Rattle.std.proofs.Common.{Some, None, refl, sym, ap, arith, subst, Result, Ok, Err}
 use Rattle.std.specs.{Prelude.{IfSome, IsSome, codes, option_and_then, slice_get}, List.All}
 use Rattle.std.{specs.{List.AllZip, Option.option_map}, proofs.lemmas.List.{length-map, map-append}}
 use Rattle.std.proofs.lemmas.List.{take_all, Elements.{All-from_recursion, recursion_from_All}}
@@ -177,13 +177,3 @@ no_code_same (Some c) index made so none = by (slice_get c.methods index) refl n
         let now = take_all index c.methods past in
         let then = take_all (index + 1) c.methods (omega (arith, past)) in
         ap (λ (ms : List Method). Some (map (λ (m : Method). no_code) ms)) (then ∙ sym now) ∙ so
-
--- behind the last method
-pub no_code_all : (o : Option Class) (index : ℕ) (made : List Listing)
-    → IfSome o (λ (c : Class). length c.methods ≤ index)
-    → option_map (λ (c : Class). map (λ (m : Method). no_code) (take index c.methods)) o ≡ Some made
-    → option_map (λ (c : Class). map (λ (m : Method). no_code) c.methods) o ≡ Some made
-no_code_all None index made few so = so
-no_code_all (Some c) index made few so =
-    ap (λ (ms : List Method). Some (map (λ (m : Method). no_code) ms))
-    (sym (take_all index c.methods few)) ∙ so

@@ -1,11 +1,11 @@
 -- What one more node does to what was read so far.
 use Rattle.std.proofs.Common.{◌≡◌, ℕ, ◌+◌, ◌<◌, List, [], length, map, take, drop, get_or, Option}
-use Rattle.std.proofs.Common.{Some, None, sym, ◌∙◌, ap, arith, rules, inl, inr, subst}
+use Rattle.std.proofs.Common.{Some, None, sym, ◌∙◌, ap, arith, rules, subst}
 use Rattle.std.specs.List.{IsDistinct, filter_map}
 use Rattle.toml.specs.Data.{Members}
 use Rattle.do_class.specs.Class.{Class}
 use Rattle.do_document.specs.{Checks.first_behind, declared.fault.WorldFault.WorldFault}
-use Rattle.do_document.proofs.{Finding.{turn_bad, turn_good}, Growing.so_far, InOrder.Tells}
+use Rattle.do_document.proofs.{Finding.turn_good, Growing.so_far}
 use Rattle.do_machine.specs.declared.state.Seat.{Seat}
 use Rattle.do_world.specs.{Faults.{seat_checks, seat_fault}, Sound.AreSeats, Worlds.seat_of}
 
@@ -39,11 +39,3 @@ module _ {A : Type 0} (classes : List Class) (v : A → Members) (xs : List A) (
       → first_behind (seat_fault classes) (map v (take (k + 1) xs)) (map v (drop (k + 1) xs)) ≡ all
   seat_turn all so none =
       turn_good (seat_fault classes) v xs k x all within so (seat_here ∙ none)
-
-  -- the first node with a fault has the first fault of all
-  pub seat_bad : (all : Option WorldFault) (e : WorldFault)
-      → first_behind (seat_fault classes) (map v (take k xs)) (map v (drop k xs)) ≡ all
-      → Tells (seat_checks classes k seats (v x)) e → Tells all e
-  seat_bad all e so (inl m) = inl m
-  seat_bad all e so (inr h) =
-      inr (turn_bad (seat_fault classes) v xs k x all e within so (seat_here ∙ h))

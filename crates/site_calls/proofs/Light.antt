@@ -1,13 +1,8 @@
 -- Lists of objects that weigh little.
 use Rattle.std.proofs.Common.{◌≡◌, zero, suc, ◌<◌, Bool, true, false, cond, List, [], ◌∷◌, ◌++◌}
-use Rattle.std.proofs.Common.{sum_by, subst, sym, rules}
-use Rattle.do_base.specs.{names.Names.ObjectName, values.Values.weight_of}
-use Rattle.do_base.specs.declared.values.value.Value.{Value, the_lemmas, TheVariants.Obj}
+use Rattle.std.proofs.Common.{sum_by, subst, sym}
+use Rattle.do_base.specs.{values.Values.weight_of, declared.values.value.Value.Value}
 use Rattle.site_calls.specs.Samples.{AllLight}
-
--- an object weighs 48
-pub object_weighs : (o : ObjectName) → weight_of (Obj o) ≡ 48
-object_weighs o = search (rules, the_lemmas)
 
 -- one more light list
 light_more : (xs : List (List Value)) (v : List Value) → AllLight xs →

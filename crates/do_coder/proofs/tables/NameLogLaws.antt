@@ -4,25 +4,10 @@ use Rattle.std.proofs.Common.{◌∷◌, ◌++◌, length, drop, take, get_or, S
 use Rattle.std.{proofs.Common.{subst, ◌∙◌, arith}, specs.BTreeMap.{BTreeMap, get}}
 use Rattle.std.proofs.lemmas.List.{length-take-le, take_all}
 use Rattle.do_coder.specs.declared.recent.{pair.Pair.Pair, index.Places.Places}
-use Rattle.do_coder.specs.Recent.{pair, same_pair, place_in, newest, AllDiffer, IsRecent}
+use Rattle.do_coder.specs.Recent.{pair, same_pair, place_in, newest, AllDiffer}
 use Rattle.do_coder.specs.NameLog.{pair_cmp, IsFound, AreFound, HasTables, IsNameLog}
 use Rattle.do_coder.proofs.tables.TableLaws.{same_is, got_place, log_shift, log_stay, log_undo}
 use Rattle.do_coder.proofs.tables.IndexLaws.{take_at_place}
-
--- the empty log
-pub log_empty : (index : BTreeMap Pair Places) → IsNameLog [] 0 0 0 index
-log_empty index =
-    record {
-      tables = record {
-        begins = omega arith;
-        now = record { few = omega arith; differ = tt };
-        ends = omega arith;
-        order = omega arith;
-        kept = record { few = omega arith; differ = tt };
-      };
-      now_found = λ k low high. absurd (omega arith);
-      kept_found = λ k low high. absurd (omega arith);
-    }
 
 -- ---- adding
 
@@ -30,15 +15,6 @@ module _ (log : List Pair) (start kept_start kept_end : ℕ) (index : BTreeMap P
     (h : IsNameLog log start kept_start kept_end index) (longer : List Pair)
     (after : BTreeMap Pair Places) (now : AreFound longer after start (length longer))
     (kept : AreFound longer after kept_start kept_end) where
-  -- a pair that could not be added leaves a log of recent names
-  pub log_same : longer ≡ log → IsNameLog longer start kept_start kept_end after
-  log_same e =
-      record {
-        tables = subst (λ (w : List Pair). HasTables w start kept_start kept_end) (sym e) h.tables;
-        now_found = now;
-        kept_found = kept;
-      }
-
   module _ (p : Pair) (new : place_in p (drop start log) ≡ None) (e : longer ≡ log ++ p ∷ []) where
     -- so does a pair more, in place of the oldest
     pub log_shifted : 256 < length longer - start
@@ -86,22 +62,6 @@ module _ (log : List Pair) (start kept_start kept_end : ℕ) (index : BTreeMap P
         now_found = λ k low high. take_front k (omega (arith, len))
             (h.kept_found k low (omega (arith, len)));
         kept_found = λ k low high. take_front k high (h.kept_found k low high);
-      }
-
-  -- the table is what is kept
-  pub log_settled : IsNameLog log start start (length log) index
-  log_settled =
-      let whole : take (length log) log ≡ log = take_all (length log) log (omega arith) in
-      record {
-        tables = record {
-          begins = h.tables.begins;
-          now = h.tables.now;
-          ends = omega arith;
-          order = h.tables.begins;
-          kept = subst (λ (w : List Pair). IsRecent (drop start w)) (sym whole) h.tables.now;
-        };
-        now_found = h.now_found;
-        kept_found = h.now_found;
       }
 
 -- the whole log

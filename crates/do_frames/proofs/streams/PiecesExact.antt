@@ -1,15 +1,14 @@
 -- The frames of a stream are those of the whole of it, in whatever pieces it comes.
-use Rattle.std.proofs.Common.{◌≡◌, ℕ, ◌+◌, ◌-◌, ◌≤◌, ◌<◌, ◌^◌, Bool, true, false, List, [], ◌∷◌}
-use Rattle.std.proofs.Common.{◌%◌, ◌++◌, length, drop, take, get_or, None, refl, sym, ap, subst}
-use Rattle.std.proofs.{Common.{◌∙◌, append_assoc, suc, arith}, Math.Seq.take-suc}
-use Rattle.std.{specs.List.{flat_map, AllByRecursion}, proofs.lemmas.Grind.flat_map-append}
-use Rattle.std.proofs.{lemmas.List.{append-nil, length-append}, Math.Nat.mod-add-mod}
-use Rattle.do_grammar.{specs.Grammar.{IsProperFront, IsFirstBad}, proofs.faults.AnswerExact.only}
-use Rattle.do_frames.specs.declared.{fault.StreamFault.StreamFault, frame.RawFrame.RawFrame}
-use Rattle.do_frames.specs.{Frames.raw_spelling, Pieces.{some_frame, stream_of, Splits}}
-use Rattle.do_frames.specs.{Pieces.{IsMalformed, HasRead, joined_pieces}, Streams.{hello, greeting}}
-use Rattle.do_frames.specs.Streams.{IsRaw, Front, front_at, Stream, fault_of, place_after}
-use Rattle.do_frames.{specs.Streams.TakesFrame, proofs.streams.FrontExact.Reads-front}
+use Rattle.std.proofs.Common.{◌≡◌, ℕ, ◌+◌, ◌-◌, ◌<◌, Bool, true, false, List, [], ◌∷◌, ◌++◌, length}
+use Rattle.std.proofs.Common.{drop, take, get_or, None, refl, sym, ap, subst, ◌∙◌, append_assoc}
+use Rattle.std.proofs.{Common.{suc, arith}, Math.Seq.take-suc}
+use Rattle.std.specs.List.{flat_map, AllByRecursion}
+use Rattle.std.proofs.lemmas.{Grind.flat_map-append, List.{append-nil, length-append}}
+use Rattle.do_grammar.{specs.Grammar.IsProperFront, proofs.faults.AnswerExact.only}
+use Rattle.do_frames.specs.{declared.frame.RawFrame.RawFrame, Frames.raw_spelling}
+use Rattle.do_frames.specs.Pieces.{stream_of, Splits, HasRead, joined_pieces}
+use Rattle.do_frames.specs.Streams.{hello, greeting, IsRaw, Front, front_at, Stream, place_after}
+use Rattle.do_frames.proofs.streams.FrontExact.{Reads-front}
 
 -- ---- what is fed, and what is taken
 
@@ -44,95 +43,6 @@ piece_read fed piece frames s h =
       place = h.place ∙ ap (place_after 0) (sym taken);
       fault = h.fault;
     }
-
--- a frame more stands behind the others, with the greeting in front of the first
-stream_takes : (frames : List RawFrame) (f : RawFrame) (rest : List ℕ)
-    → stream_of frames ((greeting (some_frame frames) ++ raw_spelling f) ++ rest)
-    ≡ stream_of (frames ++ f ∷ []) rest
-stream_takes [] f rest =
-    append_assoc hello (raw_spelling f) rest
-    ∙ ap (λ (w : List ℕ). hello ++ (w ++ rest)) (sym (append-nil (raw_spelling f)))
-stream_takes (g ∷ frames) f rest =
-    ap (λ (w : List ℕ). hello ++ w)
-    (sym (append_assoc (flat_map raw_spelling (g ∷ frames)) (raw_spelling f) rest)
-    ∙ ap (λ (w : List ℕ). w ++ rest)
-    (ap (λ (w : List ℕ). flat_map raw_spelling (g ∷ frames) ++ w)
-    (sym (append-nil (raw_spelling f)))
-    ∙ sym (flat_map-append raw_spelling (g ∷ frames) (f ∷ []))))
-
-each_more : (frames : List RawFrame) (f : RawFrame) → AllByRecursion IsRaw frames → IsRaw f
-    → AllByRecursion IsRaw (frames ++ f ∷ [])
-each_more [] f each one = (one, tt)
-each_more (g ∷ frames) f each one = (each.0, each_more frames f each.1 one)
-
-some_more : (frames : List RawFrame) (f : RawFrame) → some_frame (frames ++ f ∷ []) ≡ true
-some_more [] f = refl
-some_more (g ∷ frames) f = refl
-
--- the rest is no longer than the stream
-rest_within : (frames : List RawFrame) (rest : List ℕ)
-    → length rest ≤ length (stream_of frames rest)
-rest_within [] rest = omega arith
-rest_within (f ∷ frames) rest =
-    let one = length-append hello (flat_map raw_spelling (f ∷ frames) ++ rest) in
-    let two = length-append (flat_map raw_spelling (f ∷ frames)) rest in
-    omega (arith, one, two)
-
--- a frame is taken
-pub frame_read : (fed : List ℕ) (frames : List RawFrame) (s : Stream) (f : RawFrame) (t : Stream)
-    → HasRead fed frames s → TakesFrame s f t → HasRead fed (frames ++ f ∷ []) t
-frame_read fed frames s f t h took =
-    let parts : s.rest ≡ (greeting (some_frame frames) ++ raw_spelling f) ++ t.rest = took.parts
-    ∙ ap (λ (b : Bool). (greeting b ++ raw_spelling f) ++ t.rest) h.greeted in
-    let whole : fed ≡ stream_of (frames ++ f ∷ []) t.rest = h.whole
-    ∙ ap (stream_of frames) parts ∙ stream_takes frames f t.rest in
-    let inside : length s.rest ≤ length fed =
-    subst (λ (w : List ℕ). length s.rest ≤ length w) (sym h.whole) (rest_within frames s.rest) in
-    let shorter : length t.rest ≤ length s.rest =
-    omega (
-      arith,
-      ap length parts,
-      length-append (greeting (some_frame frames) ++ raw_spelling f) t.rest,
-    ) in
-    let sum : 0 + (length fed - length s.rest) + (length s.rest - length t.rest)
-    ≡ 0 + (length fed - length t.rest) = omega arith in
-    record {
-      whole = whole;
-      each = each_more frames f h.each took.frame;
-      greeted = took.greeted ∙ sym (some_more frames f);
-      place = took.place
-          ∙ ap (λ (n : ℕ). place_after n (length s.rest - length t.rest)) h.place
-          ∙ mod-add-mod (0 + (length fed - length s.rest)) (2 ^ 64)
-          (length s.rest - length t.rest)
-          ∙ ap (λ (n : ℕ). n % 2 ^ 64) sum;
-      fault = took.fault;
-    }
-
--- a fault is found
-pub fault_read : (fed : List ℕ) (frames : List RawFrame) (s : Stream) (fault : StreamFault) (at : ℕ)
-    → HasRead fed frames s → IsFirstBad (Front s.greeted) s.rest at → fault ≡ fault_of s at
-    → IsMalformed fed fault
-fault_read fed frames s fault at h first told = record {
-  frames = frames;
-  rest = s.rest;
-  at = at;
-  whole = h.whole;
-  each = h.each;
-  first = subst (λ (b : Bool). IsFirstBad (Front b) s.rest at) h.greeted first;
-  told = told
-      ∙ ap (λ (b : Bool). fault_of (record {
-        greeted = b;
-        place = s.place;
-        rest = s.rest;
-        fault = None;
-      }) at) h.greeted
-      ∙ ap (λ (n : ℕ). fault_of (record {
-        greeted = some_frame frames;
-        place = n;
-        rest = s.rest;
-        fault = None;
-      }) at) h.place;
-}
 
 -- what was read splits the stream
 pub has_split : (fed : List ℕ) (frames : List RawFrame) (s : Stream) → HasRead fed frames s

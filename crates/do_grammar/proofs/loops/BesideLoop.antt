@@ -1,15 +1,12 @@
 -- The steps of reading numbers beside some that are left out.
 use Rattle.std.proofs.Common.{◌≡◌, ℕ, zero, suc, ◌+◌, ◌-◌, ◌*◌, ◌<◌, ◌≤◌, ◌^◌, Bool, true, false}
-use Rattle.std.proofs.Common.{cond, List, [], ◌∷◌, length, Result, Ok, Err, refl, ap, ◌∙◌, arith}
-use Rattle.std.{proofs.Common.max, specs.Prelude.{◌&&◌, nat_le, nat_lt, IfOk}}
-use Rattle.std.proofs.lemmas.Bool.Decides.{nat_tests}
-use Rattle.do_grammar.specs.Reader.{no_kind, short, bad}
-use Rattle.std.specs.Borrow.{Bor}
-use Rattle.do_grammar.specs.{declared.fault.ReadFault.ReadFault, RestAnswers.Gives, Grammar.Takes}
-use Rattle.do_grammar.specs.{Grammar.IsBytes, Num.{span, least_of, Num}, BesideHoles.is_hole}
-use Rattle.do_grammar.specs.BesideHoles.{next_beside, reaches_beside, digits_beside, sized_beside}
-use Rattle.do_grammar.{specs.BesideHoles.{num_beside, IsBeside}, proofs.texts.NextBeside.next_up}
-use Rattle.do_grammar.proofs.texts.{NextBeside.{next_least, free_stays}, BesideExact.Reads-beside}
+use Rattle.std.proofs.Common.{cond, List, [], ◌∷◌, length, Ok, Err, refl, ap, ◌∙◌, arith, max}
+use Rattle.std.{specs.Prelude.{◌&&◌, nat_le, nat_lt}, proofs.lemmas.Bool.Decides.nat_tests}
+use Rattle.do_grammar.specs.{Reader.{no_kind, short, bad}, Grammar.Takes, Num.{span, least_of, Num}}
+use Rattle.do_grammar.specs.BesideHoles.{is_hole, next_beside, reaches_beside, digits_beside}
+use Rattle.do_grammar.specs.BesideHoles.{sized_beside, num_beside}
+use Rattle.do_grammar.proofs.texts.NextBeside.{next_up, next_least, free_stays}
+use Rattle.do_grammar.proofs.texts.BesideExact.{Reads-beside}
 
 module _ (holes : List ℕ) (low high least : ℕ) where
   -- no byte of the number is left
@@ -155,14 +152,5 @@ module _ (holes : List ℕ) (low high : ℕ) where
         let t : (nat_le n 8 && (nat_le (next_beside holes from) high && nat_lt
         (next_beside holes from) (0 + span n))) ≡ false = grind (arith, nat_tests) in
         sized_opened ∙ rw (size_test ∙ t) refl
-
--- what was read fits
-pub fits_of : (holes : List ℕ) (low high : ℕ) (bytes : List ℕ) → next_beside holes low ≤ high
-    → high < 2 ^ 64 → IsBytes bytes → (answer : Result (ℕ × Bor (List ℕ)) ReadFault)
-    → Gives (λ x. (x.0, x.1.now)) answer (num_beside holes low high bytes)
-    → IfOk answer (λ x. IsBeside holes low high x.0)
-fits_of holes low high bytes some small are (Ok x) e =
-    ((Reads-beside holes low high some small).sound bytes x.0 x.1.now are e).spelled.fits
-fits_of holes low high bytes some small are (Err d) e = tt
 
 pub ruleset sizes = (fast, no_size, size_goes, size_long, size_none, size_beyond)

@@ -1,9 +1,8 @@
 -- Signed decimal numbers are read exactly.
 use Rattle.std.proofs.Common.{◌≡◌, ◌≢◌, ℕ, suc, ◌-◌, ◌<◌, ◌≤◌, ◌^◌, Bool, true, false, eqb, List}
 use Rattle.std.proofs.Common.{[], ◌∷◌, length, Option, Some, None, refl, sym, ap, subst, ◌∙◌, arith}
-use Rattle.std.{proofs.Common.rules, specs.{Prelude.{ℤ, pos, negsuc, FitsSigned}, Int.w64}}
-use Rattle.std.specs.{Option.option_map, Fmt.{decimal, signed_decimal}, Int.Signed.mag}
-use Rattle.std.proofs.lemmas.{Bool.{eqb-true, ne_eqb}, Fmt.decimal_nonempty}
+use Rattle.std.specs.{Prelude.{ℤ, pos, negsuc}, Option.option_map, Fmt.{decimal, signed_decimal}}
+use Rattle.std.{specs.Int.Signed.mag, proofs.lemmas.{Bool.{eqb-true, ne_eqb}, Fmt.decimal_nonempty}}
 use Rattle.do_grammar.specs.{Dec.{dec_in, minus, int_in, AllDecimal}, Words.Without}
 use Rattle.do_grammar.proofs.texts.{WordBytes.some_is, DecExact.{dec_takes, dec_again, all_decimal}}
 
@@ -89,8 +88,3 @@ pub Without-signed : (end : ℕ) (z : ℤ) → end < 45 → mag z < 2 ^ 63 → W
 Without-signed end (pos n) p h = Without-decimal end n (omega arith) (omega arith)
 Without-signed end (negsuc n) p h =
     (λ (e : 45 ≡ end). omega arith, Without-decimal end (suc n) (omega arith) (omega arith))
-
--- such a number fits 64 bits
-pub fits_64 : (z : ℤ) → mag z < 2 ^ 63 → FitsSigned w64 z
-fits_64 (pos n) h = search (rules, arith)
-fits_64 (negsuc n) h = search (rules, arith)
