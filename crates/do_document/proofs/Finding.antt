@@ -69,6 +69,18 @@ turn check v xs i d h =
     let first = drop_more xs i d h in
     let more = map_more v xs i d h in rw (first, more)
 
+-- a member with no fault leaves the fault of the others
+pub turn_good : {A B : Type 0} (check : List B → B → Option WorldFault) (v : A → B) (xs : List A)
+    (i : ℕ) (d : A) (all : Option WorldFault) → i < length xs
+    → first_behind check (map v (take i xs)) (map v (drop i xs)) ≡ all
+    → check (map v (take i xs)) (v (get_or xs i d)) ≡ None
+    → first_behind check (map v (take (i + 1) xs)) (map v (drop (i + 1) xs)) ≡ all
+turn_good check v xs i d all h so_far good =
+    let next = turn check v xs i d h in
+    let rest = or_none (check (map v (take i xs)) (v (get_or xs i d)))
+    (first_behind check (map v (take (i + 1) xs)) (map v (drop (i + 1) xs))) good in
+    sym rest ∙ sym next ∙ so_far
+
 -- a member's fault is the first where none stands before
 pub turn_bad : {A B : Type 0} (check : List B → B → Option WorldFault) (v : A → B) (xs : List A)
     (i : ℕ) (d : A) (all : Option WorldFault) (f : WorldFault) → i < length xs

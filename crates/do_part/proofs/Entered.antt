@@ -1,16 +1,15 @@
 -- A part where a peer's entry changed.
 use Rattle.std.proofs.Common.{◌≡◌, ℕ, ◌+◌, ◌<◌, ◌≤◌, Some, None, Option, Bool, true, false, IsSome}
-use Rattle.std.proofs.Common.{cond, eqb, ◌&&◌, map, refl, sym, ap, ◌∙◌, arith, subst, List}
-use Rattle.std.proofs.Common.{eqb-true, if◌then◌else◌}
-use Rattle.do_export.specs.Counts.{Counts, Exported}
+use Rattle.std.proofs.Common.{cond, eqb, ◌&&◌, refl, sym, ap, arith, subst, List, eqb-true}
+use Rattle.std.proofs.Common.{if◌then◌else◌}
+use Rattle.do_export.specs.Counts.{Exported}
 use Rattle.do_machine.specs.{Objects.object_at, State.stored, declared.node.Stored.Stored}
-use Rattle.do_part.specs.{Holding.{plain, CanGo, HasCome, HasGone}, Linked.AreLinked}
-use Rattle.do_part.specs.{Names.{stack_of, AreStored}, Owned.Owned, Rooting.root_of}
-use Rattle.do_part.specs.{Seen.{own_of, owned_of}, Sound.{IsSound, holders, uses}}
-use Rattle.do_part.specs.declared.{holders.Holders.Holders, part.Part.TheInside.Inside}
-use Rattle.do_part.specs.declared.tally.Tally.TheVariants.{More, Less}
+use Rattle.do_part.specs.{Holding.{CanGo, HasCome, HasGone}, Linked.AreLinked, Names.stack_of}
+use Rattle.do_part.specs.{Names.AreStored, Owned.Owned, Rooting.root_of, Seen.{own_of, owned_of}}
+use Rattle.do_part.specs.{Sound.{IsSound, holders, uses}, declared.holders.Holders.Holders}
+use Rattle.do_part.specs.declared.{part.Part.TheInside.Inside, tally.Tally.TheVariants.{More, Less}}
 use Rattle.do_part.proofs.{Balanced.can_go, Entries.{entries_to, names-entry}}
-use Rattle.do_part.proofs.Rest.{SameNumbers, numbers_came, numbers_gone, uses_kept, own_moved}
+use Rattle.do_part.proofs.Rest.{SameNumbers, numbers_came, numbers_gone, uses_kept}
 use Rattle.do_part.proofs.{Rooted.root-away, Tallying.tallied-none, Turning.sound_turned}
 
 -- the object of an entry is stored
@@ -90,15 +89,3 @@ module _ (i : Inside) (s : IsSound i) (v : Owned) (is : owned_of i ≡ v) (after
       -- the rest is the same
       same : SameNumbers i.holders b
       same = numbers_gone i.holders b (root_of i.holders.node r) gone
-
--- a part is the same but for its entries
-pub own_entered : (i : Inside) (b : Holders) (after : Exported) (counts : Counts)
-    → SameNumbers i.holders b
-    → map plain b.store.objects ≡ map plain i.holders.store.objects → after.counts ≡ counts
-    → own_of (record i { holders = b; exports = after }) ≡ record (own_of i) { counts = counts }
-own_entered i b after counts same heap e =
-    own_moved i (record i { holders = b; exports = after }) same
-    ∙ λ k. record (own_of i) {
-      node = record (own_of i).node { heap = heap k };
-      counts = e k;
-    }

@@ -25,7 +25,6 @@ pub mod Rooted
 pub mod Entries
 pub mod Entered
 pub mod Opening
-pub mod Roomy
 pub mod TestsHold
 pub mod MapKeys
 pub mod MappedElements

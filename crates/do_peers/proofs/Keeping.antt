@@ -1,10 +1,10 @@
 -- What effects of a node leave of what it has for a peer.
 use Rattle.std.proofs.Common.{◌≡◌, ◌==◌, ◌++◌, ◌⊎◌, ℕ, Bool, true, false, cond, List, [], ◌∷◌, refl}
 use Rattle.std.proofs.Common.{ap, sym, ◌∙◌}
-use Rattle.std.specs.{Prelude.{filter, map}, List.{AllByRecursion, list_any}}
-use Rattle.do_machine.specs.{Effect.{each, only, ◌>>=◌}, Items.{exported, is_exported, named_as}}
-use Rattle.do_machine.specs.{Items.{naming, Role.Released}, State.is_open, declared.node.Lend.Lend}
-use Rattle.do_machine.specs.declared.{node.Node.Node, state.{Effect.Effect, Parcel.Parcel}}
+use Rattle.std.specs.{Prelude.filter, List.{AllByRecursion, list_any}}
+use Rattle.do_machine.specs.{Effect.{each, only, ◌>>=◌}, Items.exported, State.is_open}
+use Rattle.do_machine.specs.declared.{node.{Lend.Lend, Node.Node}, state.Effect.Effect}
+use Rattle.do_machine.specs.declared.state.Parcel.{Parcel}
 use Rattle.do_peers.specs.Peers.{lends_to}
 
 -- ---- lists
@@ -66,9 +66,3 @@ module _ (q : ℕ) where
   keeps_each f one [] n = keeps_ends n (only n) refl refl tt
   keeps_each f one (x ∷ xs) n =
       keeps_then n (f x n) (each f xs) (one x n) (keeps_each f one xs (f x n).node)
-
--- what is told of the end of a connection names nothing
-pub end_names_nothing : (port to : ℕ) (serials : List ℕ) →
-    named_as is_exported (map (naming Released to) serials) ≡ []
-end_names_nothing port to [] = refl
-end_names_nothing port to (s ∷ serials) = end_names_nothing port to serials

@@ -2,8 +2,8 @@
 use Rattle.do_frames.specs.declared.frame.Frame.TheVariants as frames
 use Rattle.do_network.specs.declared.input.Done.TheVariants as dones
 use Rattle.std.proofs.Common.{◌≡◌, ℕ, ◌≤◌, Bool, true, false, cond, List, Option, None, Some}
-use Rattle.std.proofs.Common.{Result, Ok, Err, refl, sym, subst}
-use Rattle.std.{specs.Prelude.{nat_lt, not, ◌&&◌}, proofs.lemmas.Bool.ltb-false}
+use Rattle.std.{proofs.Common.{Result, Ok, Err, refl, sym, subst}, specs.Prelude.{nat_lt, not}}
+use Rattle.std.proofs.lemmas.Bool.{ltb-false}
 use Rattle.do_class.specs.Class.{Class}
 use Rattle.do_frames.specs.declared.frame.{Frame.Frame, RawFrame.RawFrame}
 use Rattle.do_machine.specs.{ends.Closing.closing, run.Run.Acting, take.Take.can_take}
@@ -80,11 +80,6 @@ module _ (table : List Class) (act : Acting) (a b : Core) (from : ℕ) where
       subst (λ c. Came dones.Skipped (cond (not c) None (Some (takes table (part_of a) from
       (read_frame table from a.part.own.node.port (names_read (part_of a) from) raw))))) (sym can)
       (refl, passed_seen table act a b same)
-
--- the end is open towards a peer whose frame can be taken
-pub open_taken : (b c : Bool) → (b && c) ≡ true → b ≡ true
-open_taken true c h = refl
-open_taken false c h = h
 
 -- a peer that may give names back was sent as many
 pub none_over : (had asked : ℕ) → release_fault had asked ≡ None → asked ≤ had

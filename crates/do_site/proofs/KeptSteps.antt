@@ -1,6 +1,6 @@
 -- What a site keeps true over a step.
-use Rattle.std.proofs.Common.{◌≡◌, ℕ, ◌+◌, ◌≤◌, Bool, true, false, cond, List, [], ◌∷◌, length}
-use Rattle.std.proofs.Common.{refl, ap, sym, subst, ◌∙◌, arith}
+use Rattle.std.proofs.Common.{◌≡◌, ℕ, ◌≤◌, Bool, true, false, cond, List, [], ◌∷◌, length, refl, ap}
+use Rattle.std.proofs.Common.{sym, subst, ◌∙◌, arith}
 use Rattle.std.specs.{Prelude.{filter, not, ◌==◌, ◌||◌}, List.list_any}
 use Rattle.do_machine.specs.declared.{node.{Node.Node, Wanted.Wanted}, state.Effect.Effect}
 use Rattle.do_machine.specs.{Effect.{each, only}, State.is_open}
@@ -43,14 +43,6 @@ parted_held peer n m most e few =
     let less = fewer (λ o. not (o.node == peer)) n.held in
     let same = ap (λ (x : Node). length x.held) e in omega (arith, few, less, same)
 
--- where it keeps so much room for that, it does so once it is parted
-pub parted_room : (peer : ℕ) (n m : Node) (asked room after : ℕ) → m ≡ parted peer n →
-    length n.heap + length n.held + (asked + 2) ≤ room → room ≤ after + (asked + 1) →
-    length m.heap + length m.held ≤ after
-parted_room peer n m asked room after e had took =
-    let less = parted_held peer n m (length n.held) e (omega arith) in
-    let same = ap (λ (x : Node). length x.heap) e in omega (arith, had, took, less, same)
-
 -- none of what none passes passes among fewer
 none_fewer : {X : Type 0} (p q : X → Bool) (xs : List X) → list_any p xs ≡ false →
     list_any p (filter q xs) ≡ false
@@ -85,11 +77,3 @@ module _ (d mid b c : Doing) (e : Effect) (same : mid ≡ d) (did : b ≡ does m
   -- no end leads to itself
   pub apart_then : is_open e.node e.node.port ≡ false → is_open c.own.node c.own.node.port ≡ false
   apart_then h = subst (λ (p : Own). is_open p.node p.node.port ≡ false) (sym own_then) h
-
--- so much room it keeps though a line was shown before
-pub parted_room_shown : (peer : ℕ) (n m : Node) (asked room shown after : ℕ) → m ≡ parted peer n →
-    length n.heap + length n.held + (asked + 2) ≤ room → room ≤ shown + 1 →
-    shown ≤ after + (asked + 1) → length m.heap + length m.held ≤ after
-parted_room_shown peer n m asked room shown after e had line took =
-    let less = parted_held peer n m (length n.held) e (omega arith) in
-    let same = ap (λ (x : Node). length x.heap) e in omega (arith, had, line, took, less, same)

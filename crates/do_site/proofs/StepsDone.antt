@@ -1,20 +1,16 @@
 -- What is done one thing after another is a move of the site.
-use Rattle.do_base.specs.declared.events.shown.Shown.TheVariants as shows
-use Rattle.do_base.specs.declared.events.shown.Took.TheVariants as tooks
 use Rattle.do_behave.specs.declared.act.Act.TheVariants as acts
-use Rattle.std.proofs.Common.{◌≡◌, ℕ, List, [], ◌∷◌, ◌++◌, None, Some, refl, ap, sym, ◌∙◌}
+use Rattle.std.proofs.Common.{◌≡◌, List, [], ◌∷◌, ◌++◌, None, Some, refl, ap, sym, ◌∙◌}
 use Rattle.std.proofs.{Common.append_assoc, lemmas.List.append-nil}
 use Rattle.do_base.specs.declared.events.shown.Shown.{Shown}
-use Rattle.do_class.specs.Class.{Class}
 use Rattle.do_behave.specs.{InPlace.after_act, declared.act.Act.Act}
 use Rattle.do_behave.specs.declared.invocation.{Invocation.Invocation, InvState.InvState}
 use Rattle.do_behave.specs.declared.invocation.InvState.TheVariants.{Answered, Below, Running}
 use Rattle.do_behave.specs.declared.invocation.InvState.TheVariants.{Waits}
-use Rattle.do_machine.specs.declared.{item.Item.TheVariants.End, node.Node.Node}
-use Rattle.do_machine.specs.{declared.state.Effect.Effect, Context.RunContext, Effect.only}
-use Rattle.do_machine.specs.ends.{Closing.closing, TimeOut.{give_up, time_out, time_out_on}}
-use Rattle.do_machine.specs.{run.{Acts.act_rule, Verdicts.effect_of}, take.Take.take_effect}
-use Rattle.do_network.specs.{Own.{Own, site_context}, Site.{Move, site_move}}
+use Rattle.do_machine.specs.{declared.{node.Node.Node, state.Effect.Effect}, Context.RunContext}
+use Rattle.do_machine.specs.{Effect.only, ends.TimeOut.{give_up, time_out, time_out_on}}
+use Rattle.do_machine.specs.run.{Acts.act_rule, Verdicts.effect_of}
+use Rattle.do_network.specs.Site.{Move, site_move}
 use Rattle.do_part.specs.Changed.{act_done}
 use Rattle.do_effects.proofs.{MovesOfSteps.step_moves, TidyCounts.node_alone}
 use Rattle.do_effects.specs.{Doing.{Doing, cleared, does, moved}, Tidy.IsTidy}
@@ -54,14 +50,6 @@ shown_first d s m = λ j. record {
   out = (moved d m).out;
   shown = (append_assoc d.shown (s ∷ []) m.shown) j;
 }
-
--- the end of a connection that is taken shows that and closes the end
-pub end_moves : (table : List Class) (p : Own) (peer : ℕ) →
-    record (site_move p (closing peer p.node)) {
-      shown = shows.Took tooks.End ∷ (site_move p (closing peer p.node)).shown;
-    }
-    ≡ site_move p (take_effect (site_context table p) peer (End []))
-end_moves table p peer = refl
 
 -- ---- a call that is given up
 

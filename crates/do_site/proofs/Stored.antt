@@ -1,17 +1,16 @@
 -- Own objects that values name are there.
 use Rattle.std.proofs.Common.{◌≡◌, ℕ, ◌+◌, ◌<◌, ◌≤◌, Bool, true, false, cond, eqb, ◌&&◌, ◌||◌}
-use Rattle.std.proofs.Common.{List as Listed, [], ◌∷◌, ◌++◌, take, get_or, suc, zero, refl, sym, ap}
-use Rattle.std.proofs.Common.{subst, ◌∙◌, arith, length, Option, Some, None, inl, inr, ◌⊎◌}
-use Rattle.std.specs.Prelude.{IfSome, IsSome, is_some, nat_le, nat_lt, ◌==◌}
+use Rattle.std.proofs.Common.{List as Listed, [], ◌∷◌, ◌++◌, suc, zero, refl, ap, subst, ◌∙◌, arith}
+use Rattle.std.proofs.Common.{length, Some, inl, inr, ◌⊎◌}
+use Rattle.std.specs.Prelude.{IsSome, is_some, nat_le, nat_lt, ◌==◌}
 use Rattle.std.proofs.lemmas.{Bool.Decides.nat_tests, List.Sums.{sum_by-cons, sum_by-append}}
-use Rattle.do_base.specs.{names.Names.ObjectName, declared.values.value.Value.{Value, List}}
-use Rattle.do_base.specs.declared.values.value.Value.TheVariants.{Obj}
+use Rattle.do_base.specs.{names.Names.ObjectName, declared.values.value.Value.TheVariants.Obj}
 use Rattle.do_behave.specs.declared.invocation.Invocation.{Invocation}
 use Rattle.do_machine.specs.{declared.node.Node.Node, held.Refers.state_values}
 use Rattle.do_machine.specs.{declared.node.Stored.Stored as Kept, Objects.object_at, State.stored}
 use Rattle.do_machine.specs.run.Fresh.{with_objects, with_serials}
 use Rattle.do_packet.specs.declared.receipt.Made.{Made}
-use Rattle.do_part.proofs.Naming.{of-List, of-Obj, of-more, size-List, size-Obj, size-more}
+use Rattle.do_part.proofs.Naming.{of-Obj, size-Obj}
 use Rattle.do_part.specs.Names.{AreStored, size_of, sizes_of, value_of, values_of}
 use Rattle.do_stack.specs.Uses.{invocation_values}
 use Rattle.do_site.specs.Stored.{AreThere, Tallies, is_there}
@@ -38,19 +37,6 @@ module _ (n : Node) (more : ℕ) where
           let none = named ∙ (ap (λ b. cond (b && eqb o.serial serial) 1 0) e) in
           absurd (omega (arith, none, some))
 
-  -- an object that is an own one or not counts once
-  pub tally_one : (o : ObjectName) → (o.node ≡ n.port → is_there n more o.serial ≡ true) →
-      Tallies n more (value_of (Obj o)) (size_of (Obj o)) 1
-  tally_one o there = record { counted = sym (size-Obj o); there = one_there o there }
-
-  -- what names nothing counts nothing
-  pub tally_none : (names : ObjectName → ℕ) → ((o : ObjectName) → names o ≡ 0) → (size : ℕ) →
-      size ≡ 0 → Tallies n more names size 0
-  tally_none names none size e = record {
-    counted = sym e;
-    there = λ serial some. absurd (omega (arith, none (object_at n.port serial), some));
-  }
-
   -- names of two kinds count together
   pub tally_both : (f g h : ObjectName → ℕ) → ((o : ObjectName) → h o ≡ f o + g o) →
       (a b k l m : ℕ) → Tallies n more f a k → Tallies n more g b l → m ≡ a + b →
@@ -66,34 +52,6 @@ module _ (n : Node) (more : ℕ) where
           0 < h (object_at n.port serial) → is_there n more serial ≡ true
       either serial zero e q d s some = y.there serial (omega (arith, d, s, some))
       either serial (suc p) e q d s some = x.there serial (omega (arith, e))
-
-  -- what names the same counts the same
-  pub tally_as : (f g : ObjectName → ℕ) (a b k : ℕ) → ((o : ObjectName) → g o ≡ f o) → b ≡ a →
-      Tallies n more f a k → Tallies n more g b k
-  tally_as f g a b k same e t = record {
-    counted = t.counted ∙ sym e;
-    there = λ serial some.
-        t.there serial (subst (λ (m : ℕ). 0 < m) (same (object_at n.port serial)) some);
-  }
-
-  -- one item more counts what it names besides
-  pub tally_more : (vs : Listed Value) (i : ℕ) (v : Value) (k l : ℕ) → i < length vs →
-      v ≡ get_or vs i v → Tallies n more (values_of (take i vs)) (sizes_of (take i vs)) k →
-      Tallies n more (value_of v) (size_of v) l →
-      Tallies n more (values_of (take (i + 1) vs)) (sizes_of (take (i + 1) vs)) (k + l)
-  tally_more vs i v k l within is x y =
-      tally_both (values_of (take i vs)) (value_of v) (values_of (take (i + 1) vs))
-      (λ o. of-more vs i v o within is) (sizes_of (take i vs)) (size_of v) k l
-      (sizes_of (take (i + 1) vs)) x y (size-more vs i v within is)
-
-  -- a list counts what its items name
-  pub tally_list : (v : Value) (vs : Listed Value) (r : Option ℕ) → v ≡ List vs →
-      IfSome r (λ k. Tallies n more (values_of vs) (sizes_of vs) k) →
-      IfSome r (λ k. Tallies n more (value_of v) (size_of v) k)
-  tally_list v vs None e h = tt
-  tally_list v vs (Some k) e h =
-      tally_as (values_of vs) (value_of v) (sizes_of vs) (size_of v) k
-      (λ o. ap (λ w. value_of w o) e ∙ of-List vs o) (ap size_of e ∙ size-List vs) h
 
   -- an invocation counts its object, its locals and its answer
   pub tally_invocation : (i : Invocation) (a b c : ℕ) →
