@@ -32,9 +32,10 @@ use Rattle.do_center.{specs.laws.QueueLaws.{queue_fits, with_fits}, proofs.CoreK
 use Rattle.do_center.proofs.{CoreKept.{cleared_kept, posted_kept}, RemovedKept.left_kept}
 use Rattle.do_limits.specs.{Sendable.{AreSendable, IsSendable}, SendableActs.KeepsSendable}
 use Rattle.do_limits.proofs.scripts.{Locals.value_at, MadeLists.items_sendable}
-use Rattle.do_kept.proofs.{Limited.atoms-Nil, Notifications.{AreEntries, IsCoreOf, IsDelivery}}
-use Rattle.do_kept.proofs.Notifications.{IsEntry, IsPosted, IsRegistered, IsSeat, core_is}
-use Rattle.do_kept.proofs.Notifications.{deliveries_atoms, note_is, registration_is, slots_atoms}
+use Rattle.do_kept.proofs.{Limited.atoms-Nil, notifications.OfBytes.{AreEntries, IsCoreOf}}
+use Rattle.do_kept.proofs.notifications.OfBytes.{IsDelivery, IsEntry, IsPosted, IsRegistered}
+use Rattle.do_kept.proofs.notifications.{OfBytes.IsSeat, Read.{core_is, note_is, registration_is}}
+use Rattle.do_kept.proofs.notifications.Written.{deliveries_atoms, slots_atoms}
 use Rattle.do_kept.proofs.ReadValues.{Taken, if_any, if_passed, if_then}
 
 -- ---- calls

@@ -5,8 +5,9 @@ pub mod Acts
 pub mod Checkers
 pub mod Names
 pub mod Services
+pub mod boards
 pub mod Boards
-pub mod Notifications
+pub mod notifications
 pub mod Centers
 pub mod Natives
 pub mod Ranged

@@ -1,0 +1,3 @@
+pub mod OfBytes
+pub mod Read
+pub mod Written
