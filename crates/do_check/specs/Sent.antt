@@ -1,6 +1,6 @@
 -- What a checker sends and what it never does: it sends only what a rule allows, and only to its
 -- target; a target that is set stays; a denial raises its text.
-use Rattle.std.specs.{Prelude.{◌≡◌, ℕ, Bool, true, false, List, Option, Some, codes}, Str.bytes_eq}
+use Rattle.std.specs.{Prelude.{◌≡◌, ℕ, false, List, Some, codes}, Str.bytes_eq}
 use Rattle.do_base.specs.{values.Kinds.is_nil, declared.values.value.Value.Value}
 use Rattle.do_base.specs.declared.events.exception.Exc.TheVariants.{User}
 use Rattle.do_class.specs.Class.{Class}

@@ -1,5 +1,5 @@
 -- What the next class of a document says of its table.
-use Rattle.std.{proofs.Common.{◌≡◌, ◌∙◌, ap, sym, List, [], Some}, specs.Option.option_map_or}
+use Rattle.std.{proofs.Common.{◌≡◌, ◌∙◌, ap, sym, List, []}, specs.Option.option_map_or}
 use Rattle.toml.specs.Data.{Members}
 use Rattle.do_native_acts.specs.laws.KindLaws.{some_same}
 use Rattle.do_check.specs.declared.rules.Rule.{Rule}

@@ -1,6 +1,6 @@
 -- The slots of a core are read as that core, and only slots of a core are read.
 use Rattle.std.proofs.Common.{◌≡◌, ℕ, pos, Bool, true, false, ◌&&◌, nat_lt, List as Listed, [], ◌∷◌}
-use Rattle.std.proofs.Common.{length, Option, Some, None, map, refl, sym, ◌∙◌, ap, IsTrue}
+use Rattle.std.proofs.Common.{length, Some, None, map, refl, sym, ◌∙◌, ap, IsTrue}
 use Rattle.std.specs.{Prelude.{option_and_then, if◌then◌else◌}, List.{All, list_all}}
 use Rattle.std.proofs.lemmas.{Bool.and_parts, List.Elements.All-weaker}
 use Rattle.std.proofs.lemmas.{List.Sums.AllPass-from_list_all, Option.option_and_then_some}

@@ -3,8 +3,8 @@ use Rattle.std.specs.FinMap as map_of
 use Rattle.std.proofs.Common.{◌≡◌, ◌==◌, ◌+◌, ◌-◌, ℕ, Bool, true, false, cond, List, [], ◌∷◌, refl}
 use Rattle.std.proofs.Common.{ap, sym, ◌∙◌, fold, arith}
 use Rattle.std.specs.declared.cmp.Ordering.TheVariants.{Equal}
-use Rattle.std.specs.{Prelude.{None, Option, Some, length, unwrap_or}, List.filter}
-use Rattle.std.specs.{Ordering.eq_by_cmp, FinMap.{get-insert, get-remove, get-retain_keys}}
+use Rattle.std.specs.{Prelude.{None, Some, length, unwrap_or}, List.filter, Ordering.eq_by_cmp}
+use Rattle.std.specs.FinMap.{get-insert, get-remove, get-retain_keys}
 use Rattle.std.proofs.lemmas.Bool.{eqb-true, Decides.nat_tests}
 use Rattle.do_base.specs.names.Names.{ObjectName}
 use Rattle.do_export.specs.Counts.{Counts, count_of, entry_cmp, lowered, raised}

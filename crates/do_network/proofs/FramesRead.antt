@@ -9,7 +9,7 @@ use Rattle.do_coder.specs.{declared.recent.pair.Pair.Pair, Packets.{Surroundings
 use Rattle.do_coder.specs.Recent.{IsKnown, IsRecent}
 use Rattle.do_frames.specs.declared.frame.{Frame.Frame, RawFrame.RawFrame}
 use Rattle.do_frames.specs.Frames.{IsFrame, after_frame, kind_of, payload_spelling, raw}
-use Rattle.do_frames.specs.{Kinds.{kind_at, kind_number}, Payloads.{SpellsPayload, payload_at}}
+use Rattle.do_frames.specs.{Kinds.kind_number, Payloads.{SpellsPayload, payload_at}}
 use Rattle.do_frames.proofs.payloads.PayloadParts.{number_at}
 use Rattle.do_frames.proofs.payloads.WholePayload.{whole_never, whole_only}
 use Rattle.do_grammar.specs.Reader.{Stop, no_kind, whole_of}

@@ -1,5 +1,5 @@
 -- A loss leaves what stands before it.
-use Rattle.std.proofs.Common.{◌≡◌, ℕ, zero, suc, Bool, true, false, List, [], ◌∷◌, refl, ap, arith}
+use Rattle.std.proofs.Common.{◌≡◌, ℕ, zero, suc, false, List, [], ◌∷◌, refl, ap, arith}
 use Rattle.std.specs.{Prelude.{length, nat_lt, take}, List.insert}
 
 -- the front before an element that was put in stays

@@ -1,7 +1,7 @@
 -- What sites send within what frames can spell.
 use Rattle.do_base.specs.declared.events.event.Event.TheVariants as events
 use Rattle.do_network.specs.declared.input.Input.TheVariants as inputs
-use Rattle.std.specs.{Prelude.{List, Option, Some, slice_get, ℕ, ◌≡◌}, List.AllByRecursion}
+use Rattle.std.specs.{Prelude.{List, Some, slice_get, ℕ, ◌≡◌}, List.AllByRecursion}
 use Rattle.do_base.specs.declared.events.event.Event.{Event}
 use Rattle.do_class.specs.Class.{Class}
 use Rattle.do_coder.specs.Packets.{surroundings}

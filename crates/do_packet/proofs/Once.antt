@@ -1,6 +1,6 @@
 -- Each object that is met stands once.
-use Rattle.std.proofs.Common.{◌≡◌, ◌==◌, ◌&&◌, Bool, true, false, cond, List, [], ◌∷◌, ◌++◌, refl}
-use Rattle.std.{proofs.Common.{sym, ap, ◌∙◌, arith}, specs.{Cmp.IsEquivalence, List.IsDistinct}}
+use Rattle.std.proofs.Common.{◌≡◌, Bool, true, false, cond, List, [], ◌∷◌, ◌++◌, refl, ap, arith}
+use Rattle.std.specs.{Cmp.IsEquivalence, List.IsDistinct}
 use Rattle.std.proofs.lemmas.{Grind.common_steps, Map.Keys.IsDistinct-push}
 use Rattle.do_base.specs.names.Names.{ObjectName}
 use Rattle.do_packet.specs.Met.{has_object, met, met_one, same_object}

@@ -1,9 +1,9 @@
 -- Ports in a list, by where they stand, and what has them.
-use Rattle.std.proofs.Common.{◌≡◌, ◌==◌, ◌||◌, ℕ, zero, suc, ◌≤◌, ◌<◌, ◌+◌, ◌-◌, true, false, cond}
-use Rattle.std.proofs.Common.{List, [], ◌∷◌, inl, inr, Bool, Some, None, get_or, is_some, length}
-use Rattle.std.proofs.Common.{map, refl, ap, sym, ◌∙◌, subst, arith}
-use Rattle.std.specs.{Prelude.{nat_lt, slice_get, slice_set}, List.{find, list_any, position}}
-use Rattle.std.specs.List.{position_or_len, remove, Sorted.IsNonDecreasing}
+use Rattle.std.proofs.Common.{◌≡◌, ◌==◌, ◌||◌, ℕ, zero, suc, ◌<◌, ◌+◌, ◌-◌, true, false, cond, List}
+use Rattle.std.proofs.Common.{[], ◌∷◌, inl, inr, Some, None, is_some, length, map, refl, ap, sym}
+use Rattle.std.{proofs.Common.{◌∙◌, arith}, specs.Prelude.{nat_lt, slice_get, slice_set}}
+use Rattle.std.specs.List.{find, list_any, position, position_or_len, remove}
+use Rattle.std.specs.List.Sorted.{IsNonDecreasing}
 use Rattle.std.proofs.lemmas.{Bool.cases_lt, Grind.common_steps, List.length-map}
 use Rattle.std.proofs.lemmas.List.Edits.{get_or-remove_above, get_or-remove_below, length-remove}
 use Rattle.std.proofs.lemmas.List.Recursion.{is_position_or_len}

@@ -5,7 +5,7 @@ use Rattle.std.proofs.Common.{[], ◌∷◌, ◌++◌, length, map, Some, None, 
 use Rattle.std.proofs.Common.{append_assoc, arith}
 use Rattle.std.specs.{Prelude.◌&&◌, List.{flat_map, AllByRecursion}, Str.bytes_eq}
 use Rattle.std.proofs.lemmas.{List.{map-append, Sums.sum_by-append}, Slice.Eq.bytes_eq-Decides}
-use Rattle.do_grammar.{specs.Lines.{cut, line_bytes, in_front}, proofs.texts.LinesExact.cut_whole}
+use Rattle.do_grammar.{specs.Lines.{cut, line_bytes}, proofs.texts.LinesExact.cut_whole}
 use Rattle.do_sched.specs.{declared.{line.Line.Line, version.Version.Version}, Version.header}
 use Rattle.do_sched.specs.{Spelling.{line_spelling, footer, fed, steps, steps_of}, Good.IsLineOf}
 use Rattle.do_sched.specs.Schedule.{IsScheduleOf, Opens, IsBadLine, at_first, between, behind}

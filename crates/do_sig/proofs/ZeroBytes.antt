@@ -1,7 +1,7 @@
 -- What a search for a zero byte tells.
-use Rattle.std.proofs.Common.{◌≡◌, ◌<◌, ◌≤◌, ◌+◌, ◌==◌, ℕ, suc, true, false, not, List, [], ◌∷◌}
-use Rattle.std.proofs.Common.{None, Some, length, get_or, refl, ap, ⊎_elim, arith}
-use Rattle.std.{specs.List.list_all, proofs.lemmas.{Bool.cases_Bool, List.Folds.list_all_at}}
+use Rattle.std.proofs.Common.{◌≡◌, ◌==◌, ℕ, suc, true, false, not, List, [], ◌∷◌, None, Some, refl}
+use Rattle.std.{proofs.Common.{ap, ⊎_elim, arith}, specs.List.list_all}
+use Rattle.std.proofs.lemmas.{Bool.cases_Bool, List.Folds.list_all_at}
 use Rattle.memchr.specs.Find.{IsFirstByte, is_byte}
 use Rattle.do_sig.specs.Fits.{is_not_zero}
 

@@ -2,7 +2,7 @@
 use Rattle.do_told.specs.declared.children.Child.TheVariants as child
 use Rattle.std.specs.Prelude.{◌≡◌, ℕ, ℤ, List, [], Option, Some, None, refl}
 use Rattle.std.specs.Coded.{Coded, code_by, coded×, coded_list, coded_ℕ, coded_ℤ, coded_option}
-use Rattle.do_lab.specs.{Told.{Spawned, Started, Waited}, declared.spawner.ChildId.ChildId}
+use Rattle.do_lab.specs.Told.{Spawned, Started, Waited}
 use Rattle.do_told.specs.declared.children.Child.{Child}
 
 -- a start or a wait as a spawner tells it

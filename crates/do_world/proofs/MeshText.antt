@@ -1,7 +1,7 @@
 -- The document that the text of the mesh world is, and that it says that world without a fault.
 -- All of it is evaluation.
 use Rattle.std.proofs.Common.{◌≡◌, ℕ, List, refl}
-use Rattle.std.specs.{Prelude.{Some, None, pos, codes, ◌++◌, ⊤, [], ◌∷◌}, Str.{is_utf8, chars}}
+use Rattle.std.specs.{Prelude.{Some, None, pos, codes, ◌++◌, ⊤}, Str.{is_utf8, chars}}
 use Rattle.toml.specs.Data.{Items, Members, array, integer, item, member, no_items, no_members}
 use Rattle.toml.{specs.Data.{string, table}, proofs.OnLiterals.toml_on_literals}
 use Rattle.do_grammar.specs.{Dec.dec_in, Names.{is_name, is_selector}, Quoted.quoted_at}

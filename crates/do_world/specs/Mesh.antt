@@ -3,8 +3,8 @@
 use Rattle.do_sig.specs.declared.qualifiers.Direction.TheVariants as ways
 use Rattle.do_sig.specs.declared.qualifiers.Passing.TheVariants as passings
 use Rattle.do_script.specs.declared.instruction.Instruction.TheVariants as does
-use Rattle.std.specs.Prelude.{ℕ, List, [], ◌∷◌, ◌++◌, codes, false, true, Some, None}
-use Rattle.do_sig.specs.Bare.{bare, simple_method, void_encoding}
+use Rattle.std.specs.Prelude.{ℕ, List, [], ◌∷◌, ◌++◌, codes, false, true, None}
+use Rattle.do_sig.specs.Bare.{simple_method, void_encoding}
 use Rattle.do_sig.specs.declared.signature.Signature.{Signature}
 use Rattle.do_sig.specs.declared.value_type.Scalar.TheVariants.{Object, UnsignedShort}
 use Rattle.do_sig.specs.declared.value_type.ValueType.TheVariants.{Simple}

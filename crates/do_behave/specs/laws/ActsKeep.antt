@@ -1,11 +1,10 @@
 -- What the acts of scripts keep: what holds of the values that they see and make holds of the
 -- values in their acts.
 use Rattle.do_script.specs.declared.instruction.Instruction.TheVariants as does
-use Rattle.std.proofs.Common.{◌≡◌, ℕ, zero, suc, ◌<◌, Bool, true, false, List as Listed, [], ◌∷◌}
-use Rattle.std.proofs.Common.{◌++◌, length, Option, Some, None, ℤ, pos, negsuc, refl, ap, ◌∙◌}
-use Rattle.std.specs.{Prelude.{slice_set, slice_get, if◌then◌else◌, ◌+ℤ◌, ◌-ℤ◌, ◌*ℤ◌}, List.All}
-use Rattle.std.{specs.Option.IfSome, proofs.lemmas.List.{length-set, Elements.{All-nil, All-cons}}}
-use Rattle.std.proofs.lemmas.List.Elements.{All-head, All-tail, All-set, All-append}
+use Rattle.std.proofs.Common.{◌≡◌, ℕ, suc, ◌<◌, true, List as Listed, [], ◌∷◌, ◌++◌, length, Option}
+use Rattle.std.{proofs.Common.{Some, None, ℤ, pos, negsuc, refl, ap, ◌∙◌}, specs.Prelude.slice_set}
+use Rattle.std.specs.{Prelude.{slice_get, if◌then◌else◌, ◌+ℤ◌, ◌-ℤ◌, ◌*ℤ◌}, List.All, Option.IfSome}
+use Rattle.std.proofs.lemmas.List.{length-set, Elements.{All-nil, All-cons, All-set, All-append}}
 use Rattle.do_base.specs.values.{Equal.value_eq, Kinds.{counted, number, items, text}}
 use Rattle.do_base.specs.declared.values.value.Value.{Value, List}
 use Rattle.do_base.specs.declared.values.value.Value.TheVariants.{Nil, Num, Text, Obj}
@@ -14,8 +13,8 @@ use Rattle.do_class.specs.Class.{Class}
 use Rattle.do_grammar.specs.Words.{◌>>?◌}
 use Rattle.do_script.specs.Listing.{IsMessage, IsWithin}
 use Rattle.do_script.specs.declared.instruction.Instruction.{Instruction}
-use Rattle.do_behave.specs.{Answers.{values_of, HasLocals, IsInRange}, Lists.{can_be, gives_list}}
-use Rattle.do_behave.specs.Lists.{gives_found, item_at, count, pushes, picks, counts}
+use Rattle.do_behave.specs.Lists.{can_be, gives_list, gives_found, item_at, count, pushes, picks}
+use Rattle.do_behave.specs.Lists.{counts}
 use Rattle.do_behave.specs.Numbers.{calculates, gives_number, checked, less, truth, is_zero}
 use Rattle.do_behave.specs.{Ready.IsHandler, Script.{performs, raises, asks_root, sends, compares}}
 use Rattle.do_behave.specs.Steps.{local, local_values, next, gives, goes_to, writes, handles}

@@ -1,6 +1,6 @@
 -- What holds of each item of a list holds of what is found in it, led to or left.
-use Rattle.std.proofs.Common.{ℕ, zero, suc, ◌≤◌, List as Listed, [], ◌∷◌, ◌++◌, length, arith}
-use Rattle.std.{proofs.Common.length-append, specs.Prelude.{Bool, if◌then◌else◌, slice_get}}
+use Rattle.std.proofs.Common.{ℕ, zero, suc, ◌≤◌, List as Listed, [], ◌∷◌, length, arith}
+use Rattle.std.{proofs.Common.length-append, specs.Prelude.{Bool, slice_get}}
 use Rattle.std.specs.{List.{All, flat_map}, Map.remove_entry, Option.IfSome}
 use Rattle.std.proofs.lemmas.Bool.{cond_both}
 use Rattle.std.proofs.lemmas.List.Elements.{All-nil, All-cons, All-head, All-tail, All-append}

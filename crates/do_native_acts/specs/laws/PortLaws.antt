@@ -1,6 +1,6 @@
 -- A port is read as it was shown, and shown as it was read.
-use Rattle.std.proofs.Common.{◌≡◌, ◌∙◌, ℕ, ℤ, pos, negsuc, Bool, true, false, ◌&&◌, nat_lt, Option}
-use Rattle.std.{proofs.Common.{Some, None, refl, sym, ap}, specs.Prelude.if◌then◌else◌}
+use Rattle.std.proofs.Common.{◌≡◌, ◌∙◌, ℕ, ℤ, pos, negsuc, Bool, true, false, ◌&&◌, nat_lt, Some}
+use Rattle.std.{proofs.Common.{None, refl, sym, ap}, specs.Prelude.if◌then◌else◌}
 use Rattle.do_base.specs.{values.Kinds.number, declared.values.value.Value.{Value, TheVariants.Num}}
 use Rattle.do_native_acts.specs.{Ports.{port_in, port_number}, laws.KindLaws.{some_same, found_of}}
 use Rattle.do_native_acts.specs.laws.KindLaws.{then_is, number_of_Num, number_read}

@@ -1,8 +1,8 @@
 -- The change count, the owner and the rows of a pasteboard are read as they were shown, and
 -- only so.
 use Rattle.std.proofs.Common.{◌≡◌, ℕ, zero, suc, ℤ, pos, negsuc, Bool, true, false, nat_lt}
-use Rattle.std.proofs.Common.{List as Listed, [], ◌∷◌, Option, Some, None, refl, sym, ◌∙◌, ap}
-use Rattle.std.{proofs.Common.{rules, true≢false, arith}, specs.{Prelude.if◌then◌else◌, List.All}}
+use Rattle.std.proofs.Common.{List as Listed, Option, Some, None, refl, sym, ◌∙◌, ap, rules}
+use Rattle.std.{proofs.Common.{true≢false, arith}, specs.{Prelude.if◌then◌else◌, List.All}}
 use Rattle.std.proofs.lemmas.Bool.{lt-ltb}
 use Rattle.do_base.specs.{names.Names.ObjectName, values.Induction.value_induction}
 use Rattle.do_base.specs.{values.Kinds.{text, object}, declared.values.value.Value.{Value, List}}
