@@ -8,7 +8,7 @@ use Rattle.std.proofs.lemmas.{List.Kept.AllPairs-from_increasing, Map.Made.IsDis
 use Rattle.do_base.specs.declared.events.event.Event.{Event}
 use Rattle.do_class.specs.Class.{Class}
 use Rattle.do_machine.specs.declared.state.{Seat.Seat, State.State, Stepped.Stepped}
-use Rattle.do_machine.specs.{Commit.skipped, Lists.some_passes, State.{node, ports}, Step.step}
+use Rattle.do_machine.specs.{Commit.skipped, Lists.some_passes, State.ports, Step.step}
 use Rattle.do_machine.specs.World.{IsWorld, opening}
 use Rattle.do_machine.specs.check.Blocks.{events_of, followed, line_step, steps}
 use Rattle.do_machine.specs.{check.Snapshot.snapshot, run.Run.Acting, take.Take.can_take}

@@ -12,7 +12,7 @@ use Rattle.do_facts.specs.steps.IsStep.{IsRuleOf}
 use Rattle.do_facts.proofs.{EffectReaches.ok_by, links.Bridge.link_bridge, NodeRuns.by_rule}
 use Rattle.do_network.specs.{declared.input.Done.Done, Links.Part}
 use Rattle.do_network.specs.{Net.{Net, Place, part_at, place_at}, Site.{handled, moves, site_move}}
-use Rattle.do_network.specs.{Spelled.SentSpelled, Step.net_moved, fits.Notes.Note}
+use Rattle.do_network.specs.{Spelled.SentSpelled, Step.net_moved}
 use Rattle.do_agreement.specs.{Tallies.Tallies, CountsFit.none_closes}
 use Rattle.do_agreement.proofs.commits.MoveTallies.{move_tallies, shown_alike}
 use Rattle.do_agreement.proofs.{places.StepAsCommits.two_commits, sites.RuleEffects.rule_effect}

@@ -10,8 +10,7 @@ use Rattle.do_behave.specs.declared.invocation.Reason.{Reason}
 use Rattle.do_machine.specs.declared.{node.{LateCall.LateCall, Node.Node}, state.State.State}
 use Rattle.do_machine.specs.{State.is_open, take.Awaiting.{AnsweredCall, awaits, is_answered}}
 use Rattle.do_machine.specs.take.Take.{method_call, root_call}
-use Rattle.do_network.specs.fits.Calls.{OneCall, awaiting, is_begun_for, serving}
-use Rattle.do_network.specs.fits.Notes.{Note, total}
+use Rattle.do_network.specs.fits.{Calls.{OneCall, awaiting, is_begun_for, serving}, Notes.Note}
 use Rattle.do_facts.specs.{Net.Net, View.{net_of, part_seen}}
 use Rattle.do_facts.specs.calls.Calls.{Atom, Calls, calls, calls_of, frame_of, wait_of}
 use Rattle.do_facts.specs.calls.Facts.{CallsAreKept, late_of, on_of, serves_of, waits}

@@ -12,8 +12,8 @@ use Rattle.do_machine.specs.{declared.node.Wanted.Wanted, lend.Asking.{same_want
 use Rattle.do_machine.specs.declared.{item.Item.Item, node.Node.Node, state.Effect.Effect}
 use Rattle.do_machine.specs.{declared.state.State.State, Commit.moved}
 use Rattle.do_machine.specs.{Context.{Surroundings, around, context}, Entry.has_entry}
-use Rattle.do_machine.specs.{Objects.object_at, State.{class_of, holds, is_known, node}}
-use Rattle.do_machine.specs.{run.Run.Acting, take.Take.take_effect}
+use Rattle.do_machine.specs.{Objects.object_at, State.{class_of, holds, is_known}, run.Run.Acting}
+use Rattle.do_machine.specs.take.Take.{take_effect}
 use Rattle.do_facts.specs.{Net.noted, links.Links.atoms, steps.IsStep.{IsStep, Takes}}
 use Rattle.do_facts.proofs.steps.OthersStay.{class_requeued, class_stays}
 use Rattle.do_coder.specs.declared.recent.pair.Pair.{Pair}

@@ -8,10 +8,9 @@ use Rattle.std.{proofs.Common.{◌∙◌, filter, not, subst, arith}, specs.List
 use Rattle.std.proofs.lemmas.Bool.{eqb-true, Decides.nat_tests}
 use Rattle.do_class.specs.Class.{Class}
 use Rattle.do_machine.specs.declared.{item.Item.Item, node.Node.Node, state.Effect.Effect}
-use Rattle.do_machine.specs.{declared.state.State.State, Commit.moved}
-use Rattle.do_machine.specs.{Context.{Context, Surroundings}, State.{is_open, node}}
-use Rattle.do_machine.specs.{ends.Closing.{asked_of, closing, parted}, run.Run.Acting}
-use Rattle.do_machine.specs.take.Take.{holding, take_effect}
+use Rattle.do_machine.specs.{declared.state.State.State, Commit.moved, Context.Context}
+use Rattle.do_machine.specs.{Context.Surroundings, State.is_open, ends.Closing.{asked_of, closing}}
+use Rattle.do_machine.specs.{ends.Closing.parted, run.Run.Acting, take.Take.{holding, take_effect}}
 use Rattle.do_facts.specs.{Net.noted, View.AreMoves, links.Links.{atoms, links, links_of}}
 use Rattle.do_facts.specs.links.{Moves.link_rules, Sound.IsSound}
 use Rattle.do_facts.proofs.{links.Bridge.link_bridge, walk.SmallEffects.settled_node}

@@ -4,7 +4,7 @@ use Rattle.std.proofs.Common.{◌≡◌, ℕ, Bool, true, false, List, [], ◌�
 use Rattle.std.proofs.Common.{subst}
 use Rattle.std.specs.{Prelude.{Ok, Some, option_map, unwrap_or}, List.AllByRecursion}
 use Rattle.do_class.specs.Class.{Class}
-use Rattle.do_machine.specs.{declared.state.State.State, State.node, run.Run.Acting}
+use Rattle.do_machine.specs.{declared.state.State.State, run.Run.Acting}
 use Rattle.do_machine.specs.declared.item.Item.TheVariants.{End}
 use Rattle.do_coder.specs.{declared.recent.pair.Pair.Pair, Packets.surroundings}
 use Rattle.do_frames.specs.Frames.{IsFrame, after_frame, raw}
