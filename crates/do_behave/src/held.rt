@@ -49,7 +49,7 @@ impl Held {
     }
 
     /// The value, to be kept.
-    pub fn into_value(self) -> Value
+    pub(crate) fn into_value(self) -> Value
         ensures { result ≡ self }
     {
         let Held { value, weight: _ } = self;

@@ -48,7 +48,11 @@ fn plan_of(alloc: Global, bytes: &[u8]) -> Result<Plan, Status>
 }
 
 /// The starts that are in the file of this name.
-pub fn starts_given<H: Shelf>(alloc: Global, name: &Word, shelf: &mut H) -> Result<Starts, Status>
+pub(crate) fn starts_given<H: Shelf>(
+    alloc: Global,
+    name: &Word,
+    shelf: &mut H,
+) -> Result<Starts, Status>
     ensures says { IfOk result (SaysStarts (H.files shelf.old) name.now) }
     ensures stopped { IfErr result (Stops
         (IsUnread (H.files shelf.old) (H.faults shelf.old) (H.faults shelf.new) name.now) ⊥

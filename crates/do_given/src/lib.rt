@@ -16,11 +16,11 @@ mod status;
 mod worlds;
 
 pub use fetching::fetch_within;
-pub use forms::{plan_given, starts_given};
+pub use forms::plan_given;
 pub use parts::{Parts, parts_of};
 pub use scheduled::{Scheduled, scheduled_given};
-pub use schedules::{lines_given, upgrade_given};
-pub use seated::{Seated, seated_given};
+pub use schedules::upgrade_given;
+pub use seated::Seated;
 pub use served::{Served, served_given};
 pub use status::Status;
 pub use worlds::world_given;

@@ -58,7 +58,11 @@ fn upgraded(alloc: Global, bytes: &[u8]) -> Result<Text, Status>
 }
 
 /// The lines of the schedule that is in the file of this name.
-pub fn lines_given<H: Shelf>(alloc: Global, name: &Word, shelf: &mut H) -> Result<Lines, Status>
+pub(crate) fn lines_given<H: Shelf>(
+    alloc: Global,
+    name: &Word,
+    shelf: &mut H,
+) -> Result<Lines, Status>
     ensures says { IfOk result (SaysLines Second (H.files shelf.old) name.now) }
     ensures stopped { IfErr result (Stops
         (IsUnread (H.files shelf.old) (H.faults shelf.old) (H.faults shelf.new) name.now) ⊥

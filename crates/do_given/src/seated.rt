@@ -46,7 +46,7 @@ fn lacking(alloc: Global) -> Status
 /// The world that a word gives, and its node of a port.
 ///
 /// A world without one is refused as wrong at `node`.
-pub fn seated_given<H: Shelf>(
+pub(crate) fn seated_given<H: Shelf>(
     alloc: Global,
     port: NodeId,
     word: &Word,

@@ -118,7 +118,7 @@ impl Asks {
     /// The lowest ask whose home is a peer: its object and token.
     ///
     /// None exactly where no ask has that home. The order is by lender, token number and serial.
-    pub fn next_ask(&self, peer: NodeId) -> Option<(Oid, Token)>
+    pub(crate) fn next_ask(&self, peer: NodeId) -> Option<(Oid, Token)>
         ensures { MatchOption result (HasNoAsk self.now.asks peer)
             (λ ask. (ask.0.node ≡ peer) × IsLowestAsk self.now.asks ask.0 ask.1) }
     {

@@ -194,7 +194,7 @@ impl ByObject<ClassId> {
     }
 
     /// Forgets the classes of a node's objects but of those that are counted, in one go.
-    pub fn end_home(&mut self, home: NodeId, counted: &ByObject<u64>)
+    pub(crate) fn end_home(&mut self, home: NodeId, counted: &ByObject<u64>)
         ensures rows { self.new.rows ≡ home_ended self.old.rows home counted.now.rows }
         ensures spare { self.old.spare ≤ self.new.spare }
     {

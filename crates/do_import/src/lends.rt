@@ -123,7 +123,7 @@ impl Lends {
     /// The number of the borrower's first lend from `from` on. None exactly where there is none.
     ///
     /// With `end_peer` it ends all lends to a peer: read each, and then take all out at once.
-    pub fn next_lend(&self, borrower: NodeId, from: u64) -> Option<u64>
+    pub(crate) fn next_lend(&self, borrower: NodeId, from: u64) -> Option<u64>
         ensures { MatchOption result (HasNoneFrom self.now.lends borrower from)
             (IsLowestFrom self.now.lends borrower from) }
     {

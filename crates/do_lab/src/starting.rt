@@ -59,7 +59,7 @@ fn start_one<P: Spawner>(
 }
 
 /// Starts the child of each line, in order.
-pub fn start_all<P: Spawner>(
+pub(crate) fn start_all<P: Spawner>(
     alloc: Global,
     lines: &[PlanLine],
     spawn: &mut P,
@@ -99,7 +99,7 @@ fn wait_one<P: Spawner>(child: &Option<ChildId>, spawn: &mut P) -> ChildEnd
 }
 
 /// Waits for each child that started, in order.
-pub fn wait_all<P: Spawner>(
+pub(crate) fn wait_all<P: Spawner>(
     alloc: Global,
     children: &[Option<ChildId>],
     spawn: &mut P,

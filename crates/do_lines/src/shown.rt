@@ -104,7 +104,7 @@ pub fn push_shown(out: &mut Text, port: u16, shown: &Shown) -> Result<(), AllocE
 }
 
 /// Adds the lines for all that a node with this port showed, in order.
-pub fn push_all_shown(out: &mut Text, port: u16, shown: &ShownList) -> Result<(), AllocError>
+pub(crate) fn push_all_shown(out: &mut Text, port: u16, shown: &ShownList) -> Result<(), AllocError>
     ensures { OnOk result (out.new ≡ out.old ++ joined (map (shown_text port) shown.now)) }
 {
     for one in shown.as_slice() {

@@ -37,7 +37,7 @@ fn add_shown(sum: &mut Summary, shown: &ShownList) -> Result<(), AllocError>
 }
 
 /// Adds what a line came to: itself, whether it was enabled, and what it showed.
-pub fn add_outcome(sum: &mut Summary, outcome: &Outcome) -> Result<(), AllocError>
+pub(crate) fn add_outcome(sum: &mut Summary, outcome: &Outcome) -> Result<(), AllocError>
     ensures { OnOk result (sum.new ≡ record sum.old {
       lines = sum.old.lines + 1;
       skips = sum.old.skips + (if outcome.now.enabled then 0 else 1);
@@ -67,7 +67,7 @@ fn count_listed(sum: &mut Summary, listed: &Snapshot) -> Result<(), AllocError>
 }
 
 /// Puts what a line listed in the place of what was listed before.
-pub fn add_listed(sum: &mut Summary, listed: &Option<Snapshot>) -> Result<(), AllocError>
+pub(crate) fn add_listed(sum: &mut Summary, listed: &Option<Snapshot>) -> Result<(), AllocError>
     ensures { OnOk result (sum.new ≡ record sum.old {
       objects = objects_listed sum.old.objects listed.now;
       entries = entries_listed sum.old.entries listed.now;
@@ -80,7 +80,7 @@ pub fn add_listed(sum: &mut Summary, listed: &Option<Snapshot>) -> Result<(), Al
 }
 
 /// Takes all that was sent out of a network, and adds it.
-pub fn add_wires<S: Hosted>(sum: &mut Summary, net: &mut Net<S>) -> Result<(), AllocError>
+pub(crate) fn add_wires<S: Hosted>(sum: &mut Summary, net: &mut Net<S>) -> Result<(), AllocError>
     ensures sum { OnOk result (sum.new ≡ record sum.old {
       frames = sum.old.frames + length net.old.wires.items;
       bytes = sum.old.bytes + sum_by (λ w. length w.bytes) net.old.wires.items;

@@ -25,4 +25,4 @@ pub use ports::port_in;
 pub use rows::{Row, read_list, read_rows, show_list, show_rows};
 pub use selectors::selector_in;
 pub use steps::{answered, changes, step};
-pub use types::{MAX_TYPES, are_types, is_type, types_in};
+pub use types::{MAX_TYPES, are_types, types_in};

@@ -13,7 +13,7 @@ pub const MAX_TYPES: usize = 64;
 const LONGEST_TYPE: usize = 255;
 
 /// Whether a text can be a type: it has 1 to 255 bytes.
-pub fn is_type(text: &Text) -> bool
+pub(crate) fn is_type(text: &Text) -> bool
     ensures { result ≡ is_type text.now }
 {
     !text.is_empty() && text.len() <= LONGEST_TYPE

@@ -87,7 +87,7 @@ impl Lanes {
     }
 
     /// Whether nothing stands in them.
-    pub fn are_empty(&self) -> bool
+    pub(crate) fn are_empty(&self) -> bool
         ensures { result ≡ list_all (λ c. length c.waiting == 0) self.now }
     {
         self.lanes.as_slice().iter().all(|lane| lane.is_empty())

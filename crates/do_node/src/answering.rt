@@ -30,7 +30,13 @@ fn answer_of(told: Result<(), Status>) -> Status
 }
 
 /// Does what a command asks, and writes what it asks for.
-pub fn obey<S: Runnable + Traced + Hosted<Acts = Native>, H: Shelf, K: Sink, L: Link, P: Spawner>(
+pub(crate) fn obey<
+    S: Runnable + Traced + Hosted<Acts = Native>,
+    H: Shelf,
+    K: Sink,
+    L: Link,
+    P: Spawner,
+>(
     alloc: Global,
     command: Command,
     shelf: &mut H,

@@ -65,7 +65,7 @@ fn write_text<K: Sink>(text: &Text, out: &mut K) -> Result<(), Status>
 }
 
 /// Replays the schedule that the second word gives over the world that the first gives.
-pub fn replay_given<S: Hosted<Acts = Native>, H: Shelf, K: Sink>(
+pub(crate) fn replay_given<S: Hosted<Acts = Native>, H: Shelf, K: Sink>(
     alloc: Global,
     world: &Word,
     schedule: &Word,
@@ -110,7 +110,7 @@ fn write_leaks<S: Traced + Hosted<Acts = Native>, K: Sink>(
 
 /// Replays the schedule that the second word gives over the world that the first gives, and writes
 /// what nothing can reach then.
-pub fn leaks_given<S: Traced + Hosted<Acts = Native>, H: Shelf, K: Sink>(
+pub(crate) fn leaks_given<S: Traced + Hosted<Acts = Native>, H: Shelf, K: Sink>(
     alloc: Global,
     world: &Word,
     schedule: &Word,
@@ -133,7 +133,7 @@ pub fn leaks_given<S: Traced + Hosted<Acts = Native>, H: Shelf, K: Sink>(
 
 /// Writes the schedule that the records in files are woven to over the network of the world that a
 /// word gives.
-pub fn write_woven<S: Hosted<Acts = Native>, H: Shelf, K: Sink>(
+pub(crate) fn write_woven<S: Hosted<Acts = Native>, H: Shelf, K: Sink>(
     alloc: Global,
     world: &Word,
     files: &Words,
@@ -157,7 +157,7 @@ pub fn write_woven<S: Hosted<Acts = Native>, H: Shelf, K: Sink>(
 }
 
 /// Writes the schedule of the first version that a word gives anew in the second.
-pub fn write_upgraded<H: Shelf, K: Sink>(
+pub(crate) fn write_upgraded<H: Shelf, K: Sink>(
     alloc: Global,
     schedule: &Word,
     shelf: &mut H,
@@ -200,7 +200,7 @@ fn write_summary<S: Hosted<Acts = Native>, K: Sink>(
 }
 
 /// Replays the schedule that a number generates over the network of `:mesh`, and writes its summary.
-pub fn write_made<S: Hosted<Acts = Native>, K: Sink>(
+pub(crate) fn write_made<S: Hosted<Acts = Native>, K: Sink>(
     alloc: Global,
     number: u64,
     count: u64,
@@ -222,7 +222,7 @@ pub fn write_made<S: Hosted<Acts = Native>, K: Sink>(
 }
 
 /// Writes the text of `--help`.
-pub fn write_help<K: Sink>(alloc: Global, out: &mut K) -> Result<(), Status>
+pub(crate) fn write_help<K: Sink>(alloc: Global, out: &mut K) -> Result<(), Status>
     ensures ok { OnOk result (K.written out.new ≡ with_more (K.written out.old) help_text) }
     ensures prefix { HasWritten (K.written out.old) (K.written out.new) help_text }
     ensures stopped { IfErr result (Stops ⊥ (Rose (K.faults out.old) (K.faults out.new)) (λ _. ⊥)) }
@@ -234,7 +234,7 @@ pub fn write_help<K: Sink>(alloc: Global, out: &mut K) -> Result<(), Status>
 }
 
 /// Writes the text of `--version`.
-pub fn write_version<K: Sink>(alloc: Global, out: &mut K) -> Result<(), Status>
+pub(crate) fn write_version<K: Sink>(alloc: Global, out: &mut K) -> Result<(), Status>
     ensures ok { OnOk result (K.written out.new ≡ with_more (K.written out.old) version_text) }
     ensures prefix { HasWritten (K.written out.old) (K.written out.new) version_text }
     ensures stopped { IfErr result (Stops ⊥ (Rose (K.faults out.old) (K.faults out.new)) (λ _. ⊥)) }

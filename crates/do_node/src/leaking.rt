@@ -55,7 +55,7 @@ fn pass<S: Hosted>(alloc: Global, net: &mut Net<S>, lines: Lines) -> Result<(), 
 /// that of the state of the one machine after the lines.
 ///
 /// The one error is that memory ran out, or that a number would pass what a site can count.
-pub fn world_lost<S: Traced + Hosted<Acts = Native>>(
+pub(crate) fn world_lost<S: Traced + Hosted<Acts = Native>>(
     alloc: Global,
     world: World,
     lines: Lines,

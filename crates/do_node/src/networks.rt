@@ -43,7 +43,7 @@ pub fn net_of<S: Hosted<Acts = Native>>(parts: Parts) -> Result<Net<S>, AllocErr
 }
 
 /// The network of a world before its first event. It stands for the opening of the one machine.
-pub fn world_net<S: Hosted<Acts = Native>>(
+pub(crate) fn world_net<S: Hosted<Acts = Native>>(
     alloc: Global,
     world: World,
 ) -> Result<Net<S>, AllocError>

@@ -85,7 +85,7 @@ fn record_given<H: Shelf>(
 
 /// The records that are in the files of these names, one behind another, and behind earlier ones
 /// of a world's nodes; all of them in one list.
-pub fn records_given<H: Shelf>(
+pub(crate) fn records_given<H: Shelf>(
     alloc: Global,
     seats: &Seats,
     earlier: Records,

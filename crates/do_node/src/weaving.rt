@@ -56,7 +56,7 @@ fn woven_text<S: Hosted<Acts = Native>>(
 }
 
 /// The schedule that the records in files are woven to over the world that a word gives, as a text.
-pub fn woven_given<S: Hosted<Acts = Native>, H: Shelf>(
+pub(crate) fn woven_given<S: Hosted<Acts = Native>, H: Shelf>(
     alloc: Global,
     word: &Word,
     names: &Words,

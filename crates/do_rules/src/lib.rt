@@ -31,7 +31,7 @@ pub use held::leaving::leaving;
 pub use judged::{Context, Run, Turn};
 pub use law::{deliveries_are_made, rulings_are_arrivals};
 pub use lists::{item_at, put_at};
-pub use node::methods::{Found, method_for};
+pub use node::methods::Found;
 pub use node::{can_take, has_object, is_open, own};
 pub use run::answers::exc_name;
 pub use run::delivery::Delivery;

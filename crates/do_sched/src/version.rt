@@ -36,7 +36,7 @@ impl Version {
     }
 
     /// Whether a line may be a time-out.
-    pub fn has_timeouts(self) -> bool
+    pub(crate) fn has_timeouts(self) -> bool
         ensures { result ≡ has_timeouts self }
     {
         match self {

@@ -11,7 +11,7 @@ use do_network::Input;
 use std::alloc::AllocError;
 
 /// Does an input, and writes its block.
-pub fn enter<S: Serving>(site: &mut S, log: &mut Log, input: Input) -> Result<(), AllocError>
+pub(crate) fn enter<S: Serving>(site: &mut S, log: &mut Log, input: Input) -> Result<(), AllocError>
     requires { S.shown site.old ≡ [] }
     ensures { OnOk result (IsEntered
         (enter S.rules log.old.node input (core_of (S.part site.old) (S.frames site.old) log.old))
@@ -37,7 +37,11 @@ pub fn act<S: Serving>(site: &mut S, log: &mut Log, line: &Text) -> Result<(), A
 }
 
 /// Closes each open end of these over which a frame was sent or taken.
-pub fn leave_among<S: Serving>(site: &mut S, log: &mut Log, fars: &[Far]) -> Result<(), AllocError>
+pub(crate) fn leave_among<S: Serving>(
+    site: &mut S,
+    log: &mut Log,
+    fars: &[Far],
+) -> Result<(), AllocError>
     requires { S.shown site.old ≡ [] }
     ensures { OnOk result (IsEntered (leave_among S.rules log.old.node fars.now
         (core_of (S.part site.old) (S.frames site.old) log.old))

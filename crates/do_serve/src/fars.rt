@@ -33,7 +33,10 @@ fn take_one<S: Serving>(site: &S, far: &mut Far) -> Result<Option<Input>, AllocE
 
 /// The first whole frame of the first peer from which the node takes, or a close where a fault
 /// stands in its place.
-pub fn take_among<S: Serving>(site: &S, fars: &mut [Far]) -> Result<Option<Input>, AllocError>
+pub(crate) fn take_among<S: Serving>(
+    site: &S,
+    fars: &mut [Far],
+) -> Result<Option<Input>, AllocError>
     ensures { IfOk result (λ input. Finds (take_among S.rules (S.part site.now) fars.old)
         fars.old fars.new input) }
 {
@@ -47,7 +50,7 @@ pub fn take_among<S: Serving>(site: &S, fars: &mut [Far]) -> Result<Option<Input
 }
 
 /// The end of the first peer whose end was told and from which the node takes.
-pub fn end_among<S: Serving>(site: &S, fars: &mut [Far]) -> Option<Input>
+pub(crate) fn end_among<S: Serving>(site: &S, fars: &mut [Far]) -> Option<Input>
     ensures { Finds (end_among S.rules (S.part site.now) fars.old) fars.old fars.new result }
 {
     let Some((first, others)) = fars.split_first_mut() else {
@@ -62,7 +65,7 @@ pub fn end_among<S: Serving>(site: &S, fars: &mut [Far]) -> Option<Input>
 }
 
 /// How many ends are closed.
-pub fn closed_among<S: Serving>(site: &S, fars: &[Far]) -> usize
+pub(crate) fn closed_among<S: Serving>(site: &S, fars: &[Far]) -> usize
     ensures value { result ≡ closed_among S.rules (S.part site.now) fars.now }
     ensures within { result ≤ length fars.now }
 {
@@ -78,7 +81,7 @@ pub fn closed_among<S: Serving>(site: &S, fars: &[Far]) -> usize
 }
 
 /// More bytes came from a peer.
-pub fn feed_at(fars: &mut [Far], port: NodeId, piece: &[u8]) -> Result<(), AllocError>
+pub(crate) fn feed_at(fars: &mut [Far], port: NodeId, piece: &[u8]) -> Result<(), AllocError>
     ensures { OnOk result (fars.new ≡ change_at port (fed piece.now) fars.old) }
 {
     let Some((first, others)) = fars.split_first_mut() else {
@@ -91,7 +94,7 @@ pub fn feed_at(fars: &mut [Far], port: NodeId, piece: &[u8]) -> Result<(), Alloc
 }
 
 /// A peer's end was told.
-pub fn end_at(fars: &mut [Far], port: NodeId)
+pub(crate) fn end_at(fars: &mut [Far], port: NodeId)
     ensures { fars.new ≡ change_at port told_ended fars.old }
 {
     let Some((first, others)) = fars.split_first_mut() else {

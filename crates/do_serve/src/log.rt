@@ -57,7 +57,12 @@ fn push_input(out: &mut Text, node: NodeId, input: Input) -> Result<(), AllocErr
 }
 
 /// Adds the line of an input, by what came of it.
-pub fn push_by(out: &mut Text, node: NodeId, input: Input, done: Done) -> Result<(), AllocError>
+pub(crate) fn push_by(
+    out: &mut Text,
+    node: NodeId,
+    input: Input,
+    done: Done,
+) -> Result<(), AllocError>
     ensures { OnOk result (out.new ≡ out.old ++ head_by node input done) }
 {
     match done {
@@ -68,7 +73,7 @@ pub fn push_by(out: &mut Text, node: NodeId, input: Input, done: Done) -> Result
 }
 
 /// The line of an act.
-pub fn act_line(alloc: Global, node: NodeId) -> Result<Text, AllocError>
+pub(crate) fn act_line(alloc: Global, node: NodeId) -> Result<Text, AllocError>
     ensures { IfOk result (λ line. line ≡ act_line node) }
 {
     let mut line = Text::new(alloc);
@@ -77,7 +82,12 @@ pub fn act_line(alloc: Global, node: NodeId) -> Result<Text, AllocError>
 }
 
 /// Adds the line of an act, by what came of it. The line of one that was done is given.
-pub fn push_act_by(out: &mut Text, node: NodeId, line: &Text, done: Done) -> Result<(), AllocError>
+pub(crate) fn push_act_by(
+    out: &mut Text,
+    node: NodeId,
+    line: &Text,
+    done: Done,
+) -> Result<(), AllocError>
     requires { line.now ≡ act_line node }
     ensures { OnOk result (out.new ≡ out.old ++ head_by node Input.Run done) }
 {

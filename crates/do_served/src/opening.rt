@@ -28,7 +28,7 @@ fn node_of(seat: &Seat) -> NodeId
 }
 
 /// Opens a node of a world.
-pub fn open_node<S: Hosted<Acts = Native>>(
+pub(crate) fn open_node<S: Hosted<Acts = Native>>(
     alloc: Global,
     place: Seated,
 ) -> Result<Opened<S>, AllocError>

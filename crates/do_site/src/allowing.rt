@@ -53,7 +53,7 @@ fn can_name_all(part: &Part, names: &[Name]) -> bool
 }
 
 /// How many names are sent to a peer, if they can be.
-pub fn names_sent(part: &Part, peer: NodeId, names: &[Name]) -> Option<u64>
+pub(crate) fn names_sent(part: &Part, peer: NodeId, names: &[Name]) -> Option<u64>
     ensures { IfSome result (λ k. CanSendNames part.now.own.node peer names.now k) }
 {
     let many = names.len() as u64;

@@ -14,7 +14,7 @@ pub struct Ground<'a> {
 }
 
 /// What a node is judged by.
-pub fn judged_by<'a>(table: &'a ClassTable, part: &'a Part) -> Ground<'a>
+pub(crate) fn judged_by<'a>(table: &'a ClassTable, part: &'a Part) -> Ground<'a>
     ensures table { result.table.now ≡ table.now }
     ensures part { result.part.now ≡ part.now }
 {

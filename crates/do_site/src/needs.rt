@@ -59,7 +59,7 @@ impl Needs {
     }
 
     /// One invocation with so many names, and nothing else.
-    pub fn to_push(names: u64) -> Needs
+    pub(crate) fn to_push(names: u64) -> Needs
         ensures { result ≡ record {
           objects = 0;
           invocations = 1;

@@ -40,7 +40,7 @@ pub fn names_in(item: &Item) -> &[Name]
 }
 
 /// The objects that come with a ruling. None where nothing comes.
-pub fn copies_in(ruling: &Ruling) -> &[Made]
+pub(crate) fn copies_in(ruling: &Ruling) -> &[Made]
     ensures { result.now ≡ ruling_copies ruling.now }
 {
     match ruling {
@@ -183,7 +183,12 @@ fn of_ruling(part: &Part, from: NodeId, item: &Item, many: u64, ruling: &Ruling)
 
 /// How much room it takes to do what the ruling on an item says, and to show the item. None where
 /// the node cannot do it, which is so of no ruling of the rules on a frame that its peer may send.
-pub fn ruling_allowed(part: &Part, from: NodeId, item: &Item, ruling: &Ruling) -> Option<Needs>
+pub(crate) fn ruling_allowed(
+    part: &Part,
+    from: NodeId,
+    item: &Item,
+    ruling: &Ruling,
+) -> Option<Needs>
     ensures { IfSome result (λ needs.
         AllowsRuling part.now.own.node from item.now ruling.now needs) }
 {

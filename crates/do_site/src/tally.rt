@@ -48,7 +48,7 @@ impl<'a> Reach<'a> {
 
     /// Counts the objects that a value names. None where it names an own one that is not there.
     #[cycle(tally)]
-    pub fn of_value(self, value: &Value) -> Option<u64>
+    pub(crate) fn of_value(self, value: &Value) -> Option<u64>
         ensures { IfSome result (λ k. Tallies self.entry.part.now.own.node self.entry.more
             (value_of value.now) (size_of value.now) k) }
     {
@@ -61,7 +61,7 @@ impl<'a> Reach<'a> {
 
     /// Counts the objects that values name. None where they name an own one that is not there.
     #[cycle(tally)]
-    pub fn of_values(self, values: &[Value]) -> Option<u64>
+    pub(crate) fn of_values(self, values: &[Value]) -> Option<u64>
         ensures { IfSome result (λ k. Tallies self.entry.part.now.own.node self.entry.more
             (values_of values.now) (sizes_of values.now) k) }
     {
@@ -85,7 +85,7 @@ impl<'a> Reach<'a> {
     }
 
     /// The same of the objects that come in a message, in their slots.
-    pub fn of_copies(self, copies: &[Made]) -> Option<u64>
+    pub(crate) fn of_copies(self, copies: &[Made]) -> Option<u64>
         ensures { IfSome result (λ k. Tallies self.entry.part.now.own.node self.entry.more
             (values_of (made_values copies.now)) (sizes_of (made_values copies.now)) k) }
     {
@@ -97,7 +97,7 @@ impl<'a> Reach<'a> {
     }
 
     /// The same of an answer.
-    pub fn of_answer(self, answer: &Answer) -> Option<u64>
+    pub(crate) fn of_answer(self, answer: &Answer) -> Option<u64>
         ensures { IfSome result (λ k. Tallies self.entry.part.now.own.node self.entry.more
             (values_of (answer_values answer.now)) (sizes_of (answer_values answer.now)) k) }
     {
@@ -122,7 +122,7 @@ impl<'a> Reach<'a> {
     }
 
     /// The same of an invocation, with its own object.
-    pub fn of_invocation(self, invocation: &Invocation) -> Option<u64>
+    pub(crate) fn of_invocation(self, invocation: &Invocation) -> Option<u64>
         ensures { IfSome result (λ k. Tallies self.entry.part.now.own.node self.entry.more
             (values_of (invocation_values invocation.now))
             (sizes_of (invocation_values invocation.now)) k) }
@@ -158,7 +158,7 @@ impl<'a> Reach<'a> {
     }
 
     /// The same of what a change puts into locals and into slots.
-    pub fn of_change(self, change: &Change) -> Option<u64>
+    pub(crate) fn of_change(self, change: &Change) -> Option<u64>
         ensures { IfSome result (λ k. TalliesBoth self.entry.part.now.own.node self.entry.more
             (given change.now) (written_values (change_writes change.now)) k) }
     {
@@ -181,7 +181,7 @@ impl<'a> Reach<'a> {
     }
 
     /// The same of the answer that the top invocation got.
-    pub fn of_top(self) -> Option<u64>
+    pub(crate) fn of_top(self) -> Option<u64>
         ensures { IfSome result (λ k. Tallies self.entry.part.now.own.node self.entry.more
             (values_of (top_answered self.entry.part.now.own.node.stack))
             (sizes_of (top_answered self.entry.part.now.own.node.stack)) k) }

@@ -49,7 +49,7 @@ pub fn take_answer(inv: &mut Invocation) -> Option<Answer>
 }
 
 /// The call that an invocation waits for, as it is kept once it is given up.
-pub fn late_call(inv: &Invocation) -> Option<LateCall>
+pub(crate) fn late_call(inv: &Invocation) -> Option<LateCall>
     ensures { result ≡ late_of inv.now.state }
 {
     match inv.state {
@@ -63,7 +63,7 @@ pub fn late_call(inv: &Invocation) -> Option<LateCall>
 }
 
 /// Answers an invocation that waits for the peer with the connection's death.
-pub fn fail_one(inv: &mut Invocation, peer: NodeId)
+pub(crate) fn fail_one(inv: &mut Invocation, peer: NodeId)
     ensures { inv.new ≡ without_answer peer inv.old }
 {
     if let InvState::Waits {
@@ -79,7 +79,7 @@ pub fn fail_one(inv: &mut Invocation, peer: NodeId)
 }
 
 /// Answers all invocations that wait for the peer with the connection's death.
-pub fn fail_all(invs: &mut VecDeque<Invocation>, peer: NodeId)
+pub(crate) fn fail_all(invs: &mut VecDeque<Invocation>, peer: NodeId)
     ensures { invs.new.items ≡ map (without_answer peer) invs.old.items }
 {
     let all = invs.make_contiguous();

@@ -81,7 +81,7 @@ fn lower_one(table: &mut Table, queue: &mut Waiting, port: u16, serial: u64)
 
 /// Counts the names of own objects in a value.
 #[cycle(raise)]
-pub fn raise_value(table: &mut Table, port: u16, value: &Value)
+pub(crate) fn raise_value(table: &mut Table, port: u16, value: &Value)
     ensures { Raises port table.old table.new (λ n. value_names port n value.now) }
 {
     match value {
@@ -98,7 +98,7 @@ pub fn raise_value(table: &mut Table, port: u16, value: &Value)
 
 /// Counts the names of own objects in values.
 #[cycle(raise)]
-pub fn raise_values(table: &mut Table, port: u16, values: &Values)
+pub(crate) fn raise_values(table: &mut Table, port: u16, values: &Values)
     ensures { Raises port table.old table.new (λ n. values_name port n values.now) }
 {
     for value in values.as_slice() {
@@ -108,7 +108,7 @@ pub fn raise_values(table: &mut Table, port: u16, values: &Values)
 
 /// Counts the names of own objects in a value no more.
 #[cycle(lower)]
-pub fn lower_value(table: &mut Table, queue: &mut Waiting, port: u16, value: &Value)
+pub(crate) fn lower_value(table: &mut Table, queue: &mut Waiting, port: u16, value: &Value)
     ensures { Lowers port table.old table.new queue.old queue.new
         (λ n. value_names port n value.now) }
 {
@@ -126,7 +126,7 @@ pub fn lower_value(table: &mut Table, queue: &mut Waiting, port: u16, value: &Va
 
 /// Counts the names of own objects in values no more.
 #[cycle(lower)]
-pub fn lower_values(table: &mut Table, queue: &mut Waiting, port: u16, values: &Values)
+pub(crate) fn lower_values(table: &mut Table, queue: &mut Waiting, port: u16, values: &Values)
     ensures { Lowers port table.old table.new queue.old queue.new
         (λ n. values_name port n values.now) }
 {

@@ -29,7 +29,13 @@ pub struct Pair {
 }
 
 /// Writes an object's counts.
-pub fn write_counts(slots: &mut Slab<Object>, key: usize, held: u64, named: u64, waiting: bool)
+pub(crate) fn write_counts(
+    slots: &mut Slab<Object>,
+    key: usize,
+    held: u64,
+    named: u64,
+    waiting: bool,
+)
     requires { ContainsKey slots.old key }
     ensures counts { (o : Object) → get slots.old key ≡ Some o
         → Updates slots.old slots.new key

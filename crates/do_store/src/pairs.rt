@@ -57,7 +57,7 @@ pub fn leads(slots: &Slab<Object>, pair: &Pair) -> bool
 }
 
 /// Drops the pairs that lead to no object of theirs.
-pub fn close_up(pairs: &mut Vec<Pair>, slots: &Slab<Object>)
+pub(crate) fn close_up(pairs: &mut Vec<Pair>, slots: &Slab<Object>)
     ensures items { pairs.new.items ≡ filter (is_live (get slots.now)) pairs.old.items }
     ensures len { vec_len pairs.new ≤ vec_len pairs.old }
     ensures capacity { vec_capacity pairs.new ≡ vec_capacity pairs.old }

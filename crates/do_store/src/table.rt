@@ -131,7 +131,7 @@ impl Table {
     }
 
     /// Writes the counts of an object, where it is stored.
-    pub fn set_counts(&mut self, serial: u64, held: u64, named: u64, waiting: bool)
+    pub(crate) fn set_counts(&mut self, serial: u64, held: u64, named: u64, waiting: bool)
         ensures objects { self.new.objects
             ≡ edit serial (λ o. record o { held = held; named = named; waiting = waiting } ∷ [])
             self.old.objects }

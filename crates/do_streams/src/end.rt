@@ -53,14 +53,14 @@ impl End {
     }
 
     /// The greeting was fetched.
-    pub fn greet(&mut self)
+    pub(crate) fn greet(&mut self)
         ensures { self.new ≡ record self.old { greeted = true } }
     {
         self.greeted = true;
     }
 
     /// Hands out the table of the names that the peer's frames named lately. The end is unchanged.
-    pub fn hand_out_names(&mut self) -> Result<Recent, AllocError>
+    pub(crate) fn hand_out_names(&mut self) -> Result<Recent, AllocError>
         ensures names { IfOk result (λ names. names ≡ self.old.read) }
         ensures same { self.new ≡ self.old }
     {
@@ -68,7 +68,7 @@ impl End {
     }
 
     /// The names that the peer's frames named lately are these.
-    pub fn put_names(&mut self, names: Recent)
+    pub(crate) fn put_names(&mut self, names: Recent)
         ensures { self.new ≡ record self.old { read = names } }
     {
         self.read.put(names);

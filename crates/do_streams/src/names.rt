@@ -92,7 +92,7 @@ impl Names {
     }
 
     /// Hands out the table of the names, which stay as they are.
-    pub fn hand_out(&mut self) -> Result<Recent, AllocError>
+    pub(crate) fn hand_out(&mut self) -> Result<Recent, AllocError>
         ensures table { IfOk result (λ table. table ≡ self.old) }
         ensures same { self.new ≡ self.old }
     {

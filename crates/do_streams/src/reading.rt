@@ -31,7 +31,7 @@ fn are_bytes(bytes: &[u8])
 }
 
 /// Whether frames of a kind carry a packet, which names objects.
-pub fn names_objects(kind: u8) -> bool
+pub(crate) fn names_objects(kind: u8) -> bool
     ensures { result ≡ names_objects kind }
 {
     matches!(kind, 1 | 2 | 3 | 6)
@@ -65,7 +65,7 @@ pub fn read_by(
 
 /// The frame that a raw frame spells whose kind carries a packet, by the table of the names that
 /// were named lately, which is given back with the names of the frame.
-pub fn read_with_names(
+pub(crate) fn read_with_names(
     alloc: Global,
     table: &ClassTable,
     from: NodeId,
@@ -87,7 +87,7 @@ pub fn read_with_names(
 
 /// The frame that a raw frame spells whose kind carries no packet: whatever names were named
 /// lately, and they stay.
-pub fn read_plain(
+pub(crate) fn read_plain(
     alloc: Global,
     table: &ClassTable,
     from: NodeId,

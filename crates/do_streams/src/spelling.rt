@@ -116,7 +116,7 @@ fn spell_next(
 ///
 /// It is a call of its own, since most steps spell nothing.
 #[inline(never)]
-pub fn spell_if_none(
+pub(crate) fn spell_if_none(
     alloc: Global,
     spelled: &mut Option<Spelled>,
     ports: &Ports,

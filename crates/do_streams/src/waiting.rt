@@ -154,7 +154,7 @@ impl Waiting {
     }
 
     /// Takes the oldest frame out of its cell, if that is not done.
-    pub fn bring_oldest(&mut self)
+    pub(crate) fn bring_oldest(&mut self)
         ensures oldest { self.new.oldest ≡ slice_get self.new.frames 0 }
         ensures frames { self.new.frames ≡ self.old.frames }
         ensures shown { self.new.shown ≡ self.old.shown }
@@ -192,7 +192,7 @@ impl Waiting {
     }
 
     /// Takes out the oldest line. None exactly where there is none.
-    pub fn take_line(&mut self) -> Option<Shown>
+    pub(crate) fn take_line(&mut self) -> Option<Shown>
         ensures which { MatchOption result
             ((self.old.shown ≡ []) × (self.new.shown ≡ []))
             (λ line. self.old.shown ≡ line ∷ self.new.shown) }
@@ -209,14 +209,14 @@ impl Waiting {
     }
 
     /// Whether no frame waits.
-    pub fn has_no_frame(&self) -> bool
+    pub(crate) fn has_no_frame(&self) -> bool
         ensures { IsTrue result ↔ self.now.frames ≡ [] }
     {
         self.oldest.is_none() && self.bare == self.places
     }
 
     /// Whether no line waits. All places that no frame is in are room then.
-    pub fn has_no_line(&self) -> bool
+    pub(crate) fn has_no_line(&self) -> bool
         ensures value { IsTrue result ↔ self.now.shown ≡ [] }
         ensures room { IsTrue result → self.now.room ≡ self.now.bare }
         ensures most { self.now.room ≤ self.now.bare }

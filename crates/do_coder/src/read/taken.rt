@@ -25,7 +25,7 @@ fn push_taken(out: &mut Items<u64>, pairs: &[Pair], serial: u64) -> Result<(), A
 }
 
 /// The classes that are in the table with a serial.
-pub fn taken_of(alloc: Global, pairs: &[Pair], serial: u64) -> Result<Items<u64>, AllocError>
+pub(crate) fn taken_of(alloc: Global, pairs: &[Pair], serial: u64) -> Result<Items<u64>, AllocError>
     ensures { IfOk result (λ holes. holes ≡ taken_with serial pairs.now) }
 {
     let mut out = Items::new(alloc);

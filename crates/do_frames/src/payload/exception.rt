@@ -26,7 +26,7 @@ fn plain_of(number: u64) -> Exc
 
 /// The exception that begins the bytes, and the bytes behind it.
 #[tactic(auto, unfolding(crate::specs::Exceptions::exc_at))]
-pub fn exception_of(alloc: Global, bytes: &[u8]) -> Result<(Exc, &[u8]), ReadFault>
+pub(crate) fn exception_of(alloc: Global, bytes: &[u8]) -> Result<(Exc, &[u8]), ReadFault>
     ensures { Gives (λ x. (x.0, x.1.now)) result (exc_at bytes.now) }
 {
     let (number, rest) = num_of(bytes, 1, 9)?;

@@ -24,7 +24,7 @@ pub struct Message {
 
 /// A serial, a selector and a packet, and the bytes behind them.
 #[tactic(auto, unfolding(crate::specs::Payloads::message_at))]
-pub fn message_of<'a>(
+pub(crate) fn message_of<'a>(
     alloc: Global,
     bytes: &'a [u8],
     table: &ClassTable,

@@ -31,7 +31,7 @@ fn token_of(bytes: &[u8]) -> Result<((u64, Token), &[u8]), ReadFault>
 
 /// The payload of a `Raised`, and the bytes behind it.
 #[tactic(auto, unfolding(crate::specs::Payloads::raised_at))]
-pub fn raised_of(alloc: Global, bytes: &[u8]) -> Result<(Frame, &[u8]), ReadFault>
+pub(crate) fn raised_of(alloc: Global, bytes: &[u8]) -> Result<(Frame, &[u8]), ReadFault>
     ensures gives { Gives (λ x. (x.0, x.1.now)) result (raised_at bytes.now) }
     ensures stays { IfOk result (λ x. (table : List Pair) → after_frame table x.0 ≡ table) }
 {
@@ -44,7 +44,7 @@ pub fn raised_of(alloc: Global, bytes: &[u8]) -> Result<(Frame, &[u8]), ReadFaul
 
 /// The payload of a `RootAsk`, and the bytes behind it.
 #[tactic(auto, unfolding(crate::specs::Payloads::root_ask_at))]
-pub fn root_ask_of(bytes: &[u8]) -> Result<(Frame, &[u8]), ReadFault>
+pub(crate) fn root_ask_of(bytes: &[u8]) -> Result<(Frame, &[u8]), ReadFault>
     ensures gives { Gives (λ x. (x.0, x.1.now)) result (root_ask_at bytes.now) }
     ensures stays { IfOk result (λ x. (table : List Pair) → after_frame table x.0 ≡ table) }
     ensures no_memory { IfErr result (λ fault. fault ≢ Memory) }
@@ -55,7 +55,7 @@ pub fn root_ask_of(bytes: &[u8]) -> Result<(Frame, &[u8]), ReadFault>
 
 /// The payload of a `Retain`, and the bytes behind it.
 #[tactic(auto, unfolding(crate::specs::Payloads::retain_at))]
-pub fn retain_of(bytes: &[u8]) -> Result<(Frame, &[u8]), ReadFault>
+pub(crate) fn retain_of(bytes: &[u8]) -> Result<(Frame, &[u8]), ReadFault>
     ensures gives { Gives (λ x. (x.0, x.1.now)) result (retain_at bytes.now) }
     ensures stays { IfOk result (λ x. (table : List Pair) → after_frame table x.0 ≡ table) }
     ensures no_memory { IfErr result (λ fault. fault ≢ Memory) }
@@ -68,7 +68,7 @@ pub fn retain_of(bytes: &[u8]) -> Result<(Frame, &[u8]), ReadFault>
 
 /// The payload of a `Granted`, and the bytes behind it.
 #[tactic(auto, unfolding(crate::specs::Payloads::granted_at))]
-pub fn granted_of(bytes: &[u8]) -> Result<(Frame, &[u8]), ReadFault>
+pub(crate) fn granted_of(bytes: &[u8]) -> Result<(Frame, &[u8]), ReadFault>
     ensures gives { Gives (λ x. (x.0, x.1.now)) result (granted_at bytes.now) }
     ensures stays { IfOk result (λ x. (table : List Pair) → after_frame table x.0 ≡ table) }
     ensures no_memory { IfErr result (λ fault. fault ≢ Memory) }
@@ -81,7 +81,7 @@ pub fn granted_of(bytes: &[u8]) -> Result<(Frame, &[u8]), ReadFault>
 
 /// The payload of a `Gone`, and the bytes behind it.
 #[tactic(auto, unfolding(crate::specs::Payloads::gone_at))]
-pub fn gone_of(bytes: &[u8]) -> Result<(Frame, &[u8]), ReadFault>
+pub(crate) fn gone_of(bytes: &[u8]) -> Result<(Frame, &[u8]), ReadFault>
     ensures gives { Gives (λ x. (x.0, x.1.now)) result (gone_at bytes.now) }
     ensures stays { IfOk result (λ x. (table : List Pair) → after_frame table x.0 ≡ table) }
     ensures no_memory { IfErr result (λ fault. fault ≢ Memory) }
@@ -94,7 +94,7 @@ pub fn gone_of(bytes: &[u8]) -> Result<(Frame, &[u8]), ReadFault>
 
 /// The payload of a `Release`, and the bytes behind it.
 #[tactic(auto, unfolding(crate::specs::Payloads::release_at))]
-pub fn release_of(bytes: &[u8]) -> Result<(Frame, &[u8]), ReadFault>
+pub(crate) fn release_of(bytes: &[u8]) -> Result<(Frame, &[u8]), ReadFault>
     ensures gives { Gives (λ x. (x.0, x.1.now)) result (release_at bytes.now) }
     ensures stays { IfOk result (λ x. (table : List Pair) → after_frame table x.0 ≡ table) }
     ensures no_memory { IfErr result (λ fault. fault ≢ Memory) }
@@ -106,7 +106,7 @@ pub fn release_of(bytes: &[u8]) -> Result<(Frame, &[u8]), ReadFault>
 
 /// The payload of a `Settle`, and the bytes behind it.
 #[tactic(auto, unfolding(crate::specs::Payloads::settle_at))]
-pub fn settle_of(bytes: &[u8]) -> Result<(Frame, &[u8]), ReadFault>
+pub(crate) fn settle_of(bytes: &[u8]) -> Result<(Frame, &[u8]), ReadFault>
     ensures gives { Gives (λ x. (x.0, x.1.now)) result (settle_at bytes.now) }
     ensures stays { IfOk result (λ x. (table : List Pair) → after_frame table x.0 ≡ table) }
     ensures no_memory { IfErr result (λ fault. fault ≢ Memory) }

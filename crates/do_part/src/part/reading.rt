@@ -182,7 +182,7 @@ impl Part {
 
     /// Each own object that slots or invocations name is stored, and so are the root and the
     /// objects of the entries of peers to which the end is open.
-    pub fn names_are_stored(&self)
+    pub(crate) fn names_are_stored(&self)
         ensures slots { AreStored self.now.own.node (heap_of self.now.own.node.heap) }
         ensures stack { AreStored self.now.own.node (stack_of self.now.own.node.stack) }
         ensures root { (serial : ℕ) → self.now.own.node.root ≡ Some serial

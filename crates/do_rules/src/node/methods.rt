@@ -21,7 +21,7 @@ pub struct Found<'t> {
 ///
 /// None where the class is not known or the table has no such class, and where the class has no
 /// method for the selector, in which case the object does not understand the message.
-pub fn method_for<'t>(
+pub(crate) fn method_for<'t>(
     table: &'t ClassTable,
     class: Option<ClassId>,
     selector: &Text,

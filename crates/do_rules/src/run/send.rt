@@ -103,7 +103,7 @@ fn remote_rule<N: Basis>(
 
 impl<'a, N: Basis> Turn<'a, N> {
     /// What becomes of a send: the first of its rules that applies decides.
-    pub fn send_rule(&self, send: &SendAct) -> Result<Verdict, AllocError>
+    pub(crate) fn send_rule(&self, send: &SendAct) -> Result<Verdict, AllocError>
         ensures { IfOk result (λ v.
             v ≡ send_rule (turn_in (N.context self.now.basis.now) self.now.top.now) send.now) }
     {

@@ -127,7 +127,7 @@ impl Work {
     /// nothing changes.
     ///
     /// An error means that memory ran out; nothing but room changed then.
-    pub fn close_if_open(&mut self, peer: NodeId) -> Result<bool, AllocError>
+    pub(crate) fn close_if_open(&mut self, peer: NodeId) -> Result<bool, AllocError>
         requires tidy { IsTidy self.old.core.part.own }
         requires places { CanSettle self.old }
         ensures done { IfOk result (λ told. Does self.old.core self.new.core told
@@ -148,7 +148,7 @@ impl Work {
     /// then nothing changes.
     ///
     /// An error means that memory ran out; nothing but room changed then.
-    pub fn end_if_taken(&mut self, peer: NodeId) -> Result<bool, AllocError>
+    pub(crate) fn end_if_taken(&mut self, peer: NodeId) -> Result<bool, AllocError>
         requires tidy { IsTidy self.old.core.part.own }
         requires places { CanSettle self.old }
         ensures done { IfOk result (λ told. (table : List Class)
