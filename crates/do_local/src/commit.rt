@@ -110,7 +110,7 @@ fn committed(
 }
 
 /// The stations once one node is another and sent these parcels.
-#[tactic(auto, using(do_rules::proofs::Sets::first_steps))]
+#[tactic(auto, using(do_machine::proofs::FirstPlace::first_steps))]
 fn committed_in(
     port: NodeId,
     node: &Shared<Node>,

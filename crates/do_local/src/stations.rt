@@ -42,7 +42,7 @@ pub(crate) fn with_items(
 }
 
 /// The queues, of which the one to a peer has other items.
-#[tactic(auto, using(do_rules::proofs::Sets::first_steps))]
+#[tactic(auto, using(do_machine::proofs::FirstPlace::first_steps))]
 fn with_items_to(
     to: NodeId,
     items: Items<Shared<Item>>,
@@ -82,7 +82,7 @@ fn with_queue(
 }
 
 /// The stations, of which the one of a port has other items in its queue to a peer.
-#[tactic(auto, using(do_rules::proofs::Sets::first_steps))]
+#[tactic(auto, using(do_machine::proofs::FirstPlace::first_steps))]
 fn with_queue_in(
     from: NodeId,
     to: NodeId,

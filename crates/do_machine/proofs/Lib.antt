@@ -3,3 +3,4 @@ pub mod Inserting
 pub mod Bools
 pub mod Having
 pub mod Keeping
+pub mod FirstPlace

@@ -4,9 +4,9 @@ use Rattle.std.proofs.Common.{Ok, Err, true, false, refl}
 use Rattle.std.specs.Prelude.{IfOk, if◌then◌else◌, length, nat_lt, not, option_and_then, position}
 use Rattle.std.specs.{Prelude.{slice_get, slice_set}, List.find}
 use Rattle.do_network.specs.{Net.{Channel, change_channel}, Step.{advanced, with_loss}}
-use Rattle.do_net.specs.declared.lane.Kept.{Kept}
-use Rattle.do_net.specs.Lanes.{Advances, ChannelsAdvance, ChannelsLose, carried_of, has_behind}
-use Rattle.do_net.proofs.FirstFound.{first_set, found_at, found_none, set_same}
+use Rattle.do_machine.proofs.FirstPlace.{first_set, found_at, found_none}
+use Rattle.do_net.specs.{declared.lane.Kept.Kept, Lanes.{Advances, ChannelsAdvance, ChannelsLose}}
+use Rattle.do_net.{specs.Lanes.{carried_of, has_behind}, proofs.FirstFound.set_same}
 
 -- a channel to a peer
 abbrev is_to : ℕ → Channel → Bool

@@ -12,12 +12,12 @@ use Rattle.do_network.specs.Net.{Net, Place, change_place, part_at, with_channel
 use Rattle.do_network.specs.{Site.{Handled, enabled_input, passed, site_step}, Spelled.HandsSpelled}
 use Rattle.do_network.specs.Step.{NetStepped, advanced, net_moved, net_skipped, place_after}
 use Rattle.do_network.{specs.{Step.wire_of, laws.Sites.IsDone}, proofs.EnabledIsDone.enabled_done}
+use Rattle.do_machine.proofs.FirstPlace.{found_map, found_passes, none_map}
 use Rattle.do_net.specs.Hosts.{Goes, Hosting, Rests, hosting_after, net_handed, net_of, outcome_of}
 use Rattle.do_net.specs.Hosts.{HasFetched, HostAdvances, NetAdvances, net_can_take, net_is_open}
 use Rattle.do_net.specs.{Hosts.{oldest_to, place_of, was_enabled}, declared.lane.Kept.Kept}
 use Rattle.do_net.specs.{Lanes.carried_of, Seen.{Seen, at_rest, site_handled}}
-use Rattle.do_net.proofs.FirstFound.{change_map, each_changed, each_found, found_map, found_passes}
-use Rattle.do_net.proofs.FirstFound.{change_same, none_map}
+use Rattle.do_net.proofs.FirstFound.{change_map, each_changed, each_found, change_same}
 
 -- a site is of a port
 abbrev pub of_port : ℕ → Hosting → Bool

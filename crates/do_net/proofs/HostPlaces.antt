@@ -4,10 +4,10 @@ use Rattle.std.proofs.Common.{Result, Ok, Err, true, false}
 use Rattle.std.specs.{Prelude.{IfOk, if◌then◌else◌, position, slice_get, slice_set}, List.find}
 use Rattle.do_machine.specs.Lists.{change_first}
 use Rattle.do_network.specs.{Net.{Channel, change_channel}, Step.with_loss}
+use Rattle.do_machine.proofs.FirstPlace.{found_at, found_map, found_none, none_map, put_first}
 use Rattle.do_net.specs.{declared.lane.Kept.Kept, Hosts.{HostAdvances, HostLoses, Hosting}}
 use Rattle.do_net.specs.Lanes.{ChannelsAdvance, ChannelsLose}
-use Rattle.do_net.proofs.FirstFound.{change_map, found_at, found_map, found_none, none_map}
-use Rattle.do_net.proofs.{FirstFound.set_first, HandIsStep.of_port}
+use Rattle.do_net.proofs.{FirstFound.change_map, HandIsStep.of_port}
 
 module _ {X : Type 0} (g : X → Hosting) (port : ℕ) where
   -- a site of that port
@@ -31,7 +31,7 @@ module _ {X : Type 0} (g : X → Hosting) (port : ℕ) where
       slice_get xs i ≡ Some x → ys ≡ slice_set xs i z →
       map g ys ≡ change_first (of_port port) (λ v. g z) (map g xs)
   place_set xs ys i x z e at is_ys =
-      ap (map g) (is_ys ∙ set_first is_there xs i x z e at)
+      ap (map g) (is_ys ∙ put_first is_there xs i z e)
       ∙ change_map is_there g (of_port port) (λ v. refl) (λ v. g z) z xs x
       (found_at is_there xs i x e at) refl
 

@@ -4,9 +4,9 @@ use Rattle.std.specs.{Prelude.{option_and_then, position, slice_get}, List.{find
 use Rattle.do_class.specs.Class.{Class}
 use Rattle.do_machine.specs.run.Run.{Acting}
 use Rattle.do_network.specs.Net.{Channel, Place, channel, channel_to, part_at}
+use Rattle.do_machine.proofs.FirstPlace.{found_map, none_map}
 use Rattle.do_net.specs.{Hosts.{Hosting, Rests, net_of, place_of}, Seen.Seen}
-use Rattle.do_net.proofs.FirstFound.{each_found, found_map, none_map}
-use Rattle.do_net.proofs.HandIsStep.{of_port, part_found, part_missing}
+use Rattle.do_net.proofs.{FirstFound.each_found, HandIsStep.{of_port, part_found, part_missing}}
 use Rattle.do_net.proofs.HostPlaces.{place_found, place_none}
 
 -- the ports of sites are those of their places

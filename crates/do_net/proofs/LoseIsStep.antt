@@ -10,9 +10,10 @@ use Rattle.do_trace.specs.declared.outcome.Outcome.{Outcome}
 use Rattle.do_network.specs.{declared.wire.Wire.Wire, Links.Part, Net.{Channel, Net, change_place}}
 use Rattle.do_network.specs.Net.{channel, channel_to, part_at, change_channel, with_channel}
 use Rattle.do_network.specs.Step.{NetStepped, net_lose, net_skipped, net_step, with_loss}
+use Rattle.do_machine.proofs.FirstPlace.{found_map, none_map}
 use Rattle.do_net.specs.Hosts.{Goes, HostLoses, Hosting, Rests, net_is_open, net_of, place_of}
 use Rattle.do_net.specs.{Lanes.has_behind, Seen.{Seen, at_rest}}
-use Rattle.do_net.proofs.FirstFound.{change_same, each_changed, each_found, found_map, none_map}
+use Rattle.do_net.proofs.FirstFound.{change_same, each_changed, each_found}
 use Rattle.do_net.proofs.HandIsStep.{net_changed, of_port, skip_goes}
 
 -- the network after an event that steps no node

@@ -43,7 +43,7 @@ impl Lanes {
     }
 
     /// Puts what was sent into the lane to its peer; where there is none it is dropped.
-    #[tactic(auto, using(crate::proofs::FirstFound::first_set))]
+    #[tactic(auto, using(do_machine::proofs::FirstPlace::first_set))]
     pub fn carry(&mut self, wire: &Wire) -> Result<(), AllocError>
         ensures { OnOk result
             (self.new ≡ change_channel wire.now.to (laden wire.now.bytes) self.old) }

@@ -1,61 +1,9 @@
 -- The first element that passes: where it stands, and what comes of changing it.
-use Rattle.std.proofs.Common.{◌≡◌, ℕ, suc, Bool, true, false, cond, List, [], ◌∷◌, Option, Some}
-use Rattle.std.proofs.Common.{None, refl, ap, sym, ◌∙◌, subst, arith, map}
-use Rattle.std.specs.{Prelude.{slice_get, slice_set}, List.{find, position, position_or_len}}
-use Rattle.std.proofs.lemmas.Grind.{common_steps}
+use Rattle.std.proofs.Common.{◌≡◌, Bool, true, false, cond, List, [], ◌∷◌, Option, Some, None, refl}
+use Rattle.std.{proofs.Common.{ap, sym, ◌∙◌, map}, specs.List.find}
 use Rattle.do_machine.specs.Lists.{change_first}
 
 module _ {X : Type 0} (p : X → Bool) where
-  -- a first place that passes is the head
-  here : (x : X) (xs : List X) (i : ℕ) → p x ≡ true → position p (x ∷ xs) ≡ Some i → i ≡ 0
-  here x xs i h e = grind (arith, common_steps)
-
-  -- or it stands behind a head that does not pass
-  later : (x : X) (xs : List X) (i : ℕ) → p x ≡ false → position p (x ∷ xs) ≡ Some i →
-      (position p xs ≡ Some (position_or_len p xs)) × (i ≡ suc (position_or_len p xs))
-  later x xs i h e = (grind (arith, common_steps), grind (arith, common_steps))
-
-  -- where none passes, the head does not, nor any behind it
-  none_later : (x : X) (xs : List X) → position p (x ∷ xs) ≡ None →
-      (p x ≡ false) × (position p xs ≡ None)
-  none_later x xs e = (grind (arith, common_steps), grind (arith, common_steps))
-
-  -- where there is no first place none is found
-  pub found_none : (xs : List X) → position p xs ≡ None → find p xs ≡ None
-  found_none [] e = refl
-  found_none (y ∷ ys) e =
-      let s = none_later y ys e in
-      ap (λ b. cond b (Some y) (find p ys)) s.0 ∙ found_none ys s.1
-
-  -- what stands at the first place is found
-  pub found_at : (xs : List X) (i : ℕ) (x : X) → position p xs ≡ Some i →
-      slice_get xs i ≡ Some x → find p xs ≡ Some x
-  found_at [] i x e g = cc
-  found_at (y ∷ ys) i x e g =
-      elim (p y) as (λ b. p y ≡ b → cond b (Some y) (find p ys) ≡ Some x) [
-        | true ↦ λ h.
-            subst (λ n. slice_get (y ∷ ys) n ≡ Some x → Some y ≡ Some x) (sym (here y ys i h e))
-            (λ k. k) g
-        | false ↦ λ h.
-            let s = later y ys i h e in
-            subst (λ n. slice_get (y ∷ ys) n ≡ Some x → find p ys ≡ Some x) (sym s.1)
-            (λ k. found_at ys (position_or_len p ys) x s.0 k) g
-      ] refl
-
-  -- what is put at the first place is put for the first that passes
-  pub put_first : (xs : List X) (i : ℕ) (z : X) → position p xs ≡ Some i →
-      slice_set xs i z ≡ change_first p (λ x. z) xs
-  put_first [] i z e = refl
-  put_first (y ∷ ys) i z e =
-      elim (p y) as (λ b. p y ≡ b →
-      slice_set (y ∷ ys) i z ≡ cond b (z ∷ ys) (y ∷ change_first p (λ x. z) ys)) [
-        | true ↦ λ h. ap (λ n. slice_set (y ∷ ys) n z) (here y ys i h e)
-        | false ↦ λ h.
-            let s = later y ys i h e in
-            ap (λ n. slice_set (y ∷ ys) n z) s.1
-            ∙ ap (λ t. y ∷ t) (put_first ys (position_or_len p ys) z s.0)
-      ] refl
-
   -- where none is found nothing changes
   pub change_none : (f : X → X) (xs : List X) → find p xs ≡ None → change_first p f xs ≡ xs
   change_none f [] e = refl
@@ -65,15 +13,6 @@ module _ {X : Type 0} (p : X → Bool) where
         | true ↦ λ k. absurd (cc)
         | false ↦ λ k. ap (λ t. y ∷ t) (change_none f ys k)
       ] e
-
-  -- what is found passes
-  pub found_passes : (xs : List X) (x : X) → find p xs ≡ Some x → p x ≡ true
-  found_passes [] x e = absurd (cc)
-  found_passes (y ∷ ys) x e =
-      elim (p y) as (λ b. p y ≡ b → cond b (Some y) (find p ys) ≡ Some x → p x ≡ true) [
-        | true ↦ λ h k. let same : y ≡ x = cc in subst (λ v. p v ≡ true) same h
-        | false ↦ λ h k. found_passes ys x k
-      ] refl e
 
   -- a change of the first puts what it makes of the one that is found
   pub change_found : (f g : X → X) (xs : List X) (x : X) → find p xs ≡ Some x → f x ≡ g x →
@@ -122,28 +61,6 @@ module _ {X : Type 0} (p : X → Bool) where
 
 module _ {X Y : Type 0} (p : X → Bool) (g : X → Y) (q : Y → Bool) (alike : (x : X) → q (g x) ≡ p x)
   where
-    -- what is found of what comes of elements comes of what is found
-    pub found_mapped : (xs : List X) (x : X) → find p xs ≡ Some x → find q (map g xs) ≡ Some (g x)
-    found_mapped [] x e = absurd (cc)
-    found_mapped (y ∷ ys) x e =
-        ap (λ b. cond b (Some (g y)) (find q (map g ys))) (alike y)
-        ∙ elim (p y) as (λ b. cond b (Some y) (find p ys) ≡ Some x →
-        cond b (Some (g y)) (find q (map g ys)) ≡ Some (g x)) [
-          | true ↦ λ k. let same : y ≡ x = cc in ap (λ v. Some (g v)) same
-          | false ↦ λ k. found_mapped ys x k
-        ] e
-
-    -- and where none is found, none is found of what comes of them
-    pub none_mapped : (xs : List X) → find p xs ≡ None → find q (map g xs) ≡ None
-    none_mapped [] e = refl
-    none_mapped (y ∷ ys) e =
-        ap (λ b. cond b (Some (g y)) (find q (map g ys))) (alike y)
-        ∙ elim (p y) as (λ b. cond b (Some y) (find p ys) ≡ None →
-        cond b (Some (g y)) (find q (map g ys)) ≡ None) [
-          | true ↦ λ k. absurd (cc)
-          | false ↦ λ k. none_mapped ys k
-        ] e
-
     -- what comes of a list in which one is put for the first that passes
     pub put_mapped : (z : X) (xs : List X) →
         map g (change_first p (λ x. z) xs) ≡ change_first q (λ y. g z) (map g xs)

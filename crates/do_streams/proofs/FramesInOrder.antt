@@ -6,11 +6,11 @@ use Rattle.std.proofs.lemmas.{Bool.eqb-true, List.map-append}
 use Rattle.do_frames.specs.{declared.frame.Frame.Frame, Frames.{after_frame, raw}}
 use Rattle.do_network.specs.{Frames.Posted, Links.{Framed, Greeting, Link, Outbox, Piece, Sending}}
 use Rattle.do_network.specs.Links.{all_sent, change_link, link_to, sending, sendings}
+use Rattle.do_machine.proofs.FirstPlace.{found_at, found_map, found_passes, put_first}
 use Rattle.do_streams.specs.declared.{end.{End.End, Outgoing.Outgoing}, spelled.Spelled.Spelled}
 use Rattle.do_streams.specs.Streamed.{link_of, outbox, outbox_of, posted_of, spelled_first}
 use Rattle.do_streams.specs.{Streamed.streamed_of, Waits.Waits}
-use Rattle.do_streams.proofs.FirstChanged.{change_again, change_found, found_at, found_changed}
-use Rattle.do_streams.proofs.FirstChanged.{found_mapped, found_passes, put_first, put_mapped}
+use Rattle.do_streams.proofs.FirstChanged.{change_again, change_found, found_changed, put_mapped}
 
 -- the same is sent behind what was sent before
 pub sent_behind : (links : List Link) (a b : List Sending) (xs : List Posted) →
@@ -150,7 +150,7 @@ module _ (ends : List End) (peer at : ℕ) (e f : End)
     (there : slice_get ends at ≡ Some e) where
   -- the link with a peer
   pub found : link_to (map link_of ends) peer ≡ Some (link_of e)
-  found = found_mapped (λ (d : End). peer == d.peer) link_of (λ l. peer == l.peer) (λ d. refl)
+  found = found_map (λ (d : End). peer == d.peer) link_of (λ l. peer == l.peer) (λ d. refl)
       ends e (found_at (λ (d : End). peer == d.peer) ends at e place there)
 
   -- its end is that with the peer

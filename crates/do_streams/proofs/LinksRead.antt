@@ -7,10 +7,10 @@ use Rattle.do_coder.specs.declared.recent.pair.Pair.{Pair}
 use Rattle.do_frames.specs.{declared.frame.Frame.Frame, Frames.after_frame}
 use Rattle.do_network.specs.Frames.{Posted}
 use Rattle.do_network.specs.Links.{Link, Outbox, all_sent, change_link, link_to, sending, sendings}
+use Rattle.do_machine.proofs.FirstPlace.{found_map, found_none, none_map}
 use Rattle.do_streams.specs.Reading.{names_of, AllKnown, AreKnown}
 use Rattle.do_streams.proofs.FirstChanged.{change_found, change_none, change_same, change_swaps}
-use Rattle.do_streams.proofs.FirstChanged.{found_past, mapped_past, found_mapped, found_none}
-use Rattle.do_streams.proofs.FirstChanged.{none_mapped}
+use Rattle.do_streams.proofs.FirstChanged.{found_past, mapped_past}
 use Rattle.do_network.specs.Net.{opening_link}
 use Rattle.do_streams.specs.{declared.end.End.End, Streamed.link_of}
 use Rattle.do_streams.proofs.FramesInOrder.{sent_over}
@@ -135,7 +135,7 @@ pub names_found : (ends : List End) (from : ℕ) (e : End) →
     e.read ≡ names_of (map link_of ends) from
 names_found ends from e is =
     ap (λ (found : Option Link). unwrap_or (option_map (λ l. l.read) found) [])
-    (sym (found_mapped (λ (d : End). from == d.peer) link_of (λ l. from == l.peer) (λ d. refl) ends
+    (sym (found_map (λ (d : End). from == d.peer) link_of (λ l. from == l.peer) (λ d. refl) ends
     e is))
 
 -- where there is no end there are no names
@@ -143,7 +143,7 @@ pub names_none : (ends : List End) (from : ℕ) → find (λ (d : End). from == 
     [] ≡ names_of (map link_of ends) from
 names_none ends from is =
     ap (λ (found : Option Link). unwrap_or (option_map (λ l. l.read) found) [])
-    (sym (none_mapped (λ (d : End). from == d.peer) link_of (λ l. from == l.peer) (λ d. refl) ends
+    (sym (none_map (λ (d : End). from == d.peer) link_of (λ l. from == l.peer) (λ d. refl) ends
     is))
 
 -- and none of its links changes
@@ -152,7 +152,7 @@ pub unlinked : (ends : List End) (from : ℕ) (change : List Pair → List Pair)
     map link_of ends ≡ change_link from (reads change) (map link_of ends)
 unlinked ends from change is =
     sym (change_none (λ (l : Link). from == l.peer) (reads change) (map link_of ends)
-    (none_mapped (λ (d : End). from == d.peer) link_of (λ l. from == l.peer) (λ d. refl) ends
+    (none_map (λ (d : End). from == d.peer) link_of (λ l. from == l.peer) (λ d. refl) ends
     (found_none (λ (d : End). from == d.peer) ends is)))
 
 -- the ends of an opening have no names yet

@@ -46,7 +46,7 @@ fn with_writes(writes: &Writes, stored: &Stored) -> Result<Shared<Stored>, Alloc
 }
 
 /// The heap with slots of an object written; of one that is not stored none is.
-#[tactic(auto, using(crate::proofs::Sets::first_steps))]
+#[tactic(auto, using(do_machine::proofs::FirstPlace::first_steps))]
 fn heap_with_slots(serial: u64, writes: &Writes, heap: Heap) -> Result<Heap, AllocError>
     ensures { IfOk result (λ xs.
         xs ≡ change_first (λ x. x.serial == serial) (with_writes writes.now) heap) }

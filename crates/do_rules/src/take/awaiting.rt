@@ -101,7 +101,7 @@ fn waiting_at(stack: &Items<Invocation>, call: &Answered) -> Option<usize>
 }
 
 /// The invocation that waits for the answer has it, wherever it stands.
-#[tactic(auto, using(crate::proofs::Sets::first_steps))]
+#[tactic(auto, using(do_machine::proofs::FirstPlace::first_steps))]
 fn answer_waiting(stack: &mut Items<Invocation>, call: &Answered, answer: Answer)
     ensures { stack.new
         ≡ stack_answered (call_of call.now) (λ what. answer) stack.old }

@@ -1,8 +1,8 @@
 use Rattle.do_net.proofs.lanes.Lanes.carry.Goals as goal
+use Rattle.do_machine.proofs.FirstPlace.{change_first_none}
 use Rattle.std.proofs.Common.{rules, sym, ◌==◌}
 use Rattle.do_net.specs.Lanes.{laden}
 use Rattle.do_ported.proofs.ByHalves.{rising_set}
-use Rattle.do_net.proofs.FirstFound.{change_first_none}
 
 -- where there is no lane nothing changes
 pub returns-in_default : goal.returns-in_default

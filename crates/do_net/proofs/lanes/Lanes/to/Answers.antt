@@ -1,6 +1,6 @@
 use Rattle.do_net.proofs.lanes.Lanes.to.Goals as goal
+use Rattle.do_machine.proofs.FirstPlace.{found_none, get_first}
 use Rattle.std.proofs.Common.{◌==◌, ◌∙◌, sym}
-use Rattle.do_net.proofs.FirstFound.{found_none, get_first}
 
 pub returns-in-Some : goal.returns-in-Some
 returns-in-Some c =

@@ -1,8 +1,9 @@
 use Rattle.do_streams.proofs.streams.reading.hand_out_names.Goals as goal
+use Rattle.do_machine.proofs.FirstPlace.{found_at, found_none}
 use Rattle.std.{proofs.Common.{◌==◌, ◌∙◌, ap, subst, sym}, specs.Prelude.slice_set}
-use Rattle.do_streams.{specs.{declared.end.End.End, Reading.AreKnown}, proofs.FirstChanged.found_at}
-use Rattle.do_streams.proofs.{FirstChanged.found_none, LinksRead.{all_at, names_found, names_none}}
-use Rattle.do_streams.proofs.{Placed.{if_ok, set_same}, WaitingFrames.{as_many, end_at}}
+use Rattle.do_streams.specs.{declared.end.End.End, Reading.AreKnown}
+use Rattle.do_streams.proofs.{LinksRead.{all_at, names_found, names_none}, Placed.{if_ok, set_same}}
+use Rattle.do_streams.proofs.WaitingFrames.{as_many, end_at}
 
 -- there is an end for each port
 pub at_mut-requires : goal.at_mut-requires

@@ -1,8 +1,9 @@
 use Rattle.do_streams.proofs.streams.reading.names_in.Goals as goal
+use Rattle.do_machine.proofs.FirstPlace.{found_at, found_none}
 use Rattle.std.proofs.Common.{◌==◌, ◌∙◌, subst, sym}
 use Rattle.do_streams.specs.{declared.end.End.End, Reading.AreKnown}
-use Rattle.do_streams.proofs.{FirstChanged.{found_at, found_none}, LinksRead.{all_at, names_found}}
-use Rattle.do_streams.proofs.{LinksRead.names_none, Placed.if_ok, WaitingFrames.{as_many, end_at}}
+use Rattle.do_streams.proofs.{LinksRead.{all_at, names_found, names_none}, Placed.if_ok}
+use Rattle.do_streams.proofs.WaitingFrames.{as_many, end_at}
 
 -- there is an end for each port
 pub end_in-requires : goal.end_in-requires
