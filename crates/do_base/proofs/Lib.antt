@@ -1,3 +1,4 @@
 pub mod Weights
+pub mod ObjectsOfLists
 pub mod WrittenSoFar
 pub mod FileSearch

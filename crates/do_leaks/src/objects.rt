@@ -11,7 +11,7 @@ use std::alloc::AllocError;
 ///
 /// If memory runs out, some of them may have been appended.
 #[cycle(objects)]
-#[tactic(auto, using(crate::proofs::Nested::object_steps))]
+#[tactic(auto, using(do_base::proofs::ObjectsOfLists::object_steps))]
 pub fn push_objects(objects: &mut Oids, value: &Value) -> Result<(), AllocError>
     ensures { OnOk result (objects.new ≡ objects.old ++ objects_of value.now) }
 {
@@ -26,7 +26,7 @@ pub fn push_objects(objects: &mut Oids, value: &Value) -> Result<(), AllocError>
 ///
 /// If memory runs out, some of them may have been appended.
 #[cycle(objects)]
-#[tactic(auto, using(crate::proofs::Nested::object_steps))]
+#[tactic(auto, using(do_base::proofs::ObjectsOfLists::object_steps))]
 pub fn push_all_objects(objects: &mut Oids, values: &Values) -> Result<(), AllocError>
     ensures { OnOk result (objects.new ≡ objects.old ++ flat_map objects_of values.now) }
 {

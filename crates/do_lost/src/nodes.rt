@@ -11,7 +11,7 @@ use do_machine::{Lends, Node, Wanted};
 use std::alloc::AllocError;
 
 /// Appends the objects in locals.
-#[tactic(auto, using(do_leaks::proofs::Nested::object_steps))]
+#[tactic(auto, using(do_base::proofs::ObjectsOfLists::object_steps))]
 fn push_locals(objects: &mut Oids, locals: &Frame) -> Result<(), AllocError>
     ensures { OnOk result (objects.new ≡ objects.old ++ objects_in locals.now) }
 {
@@ -22,7 +22,7 @@ fn push_locals(objects: &mut Oids, locals: &Frame) -> Result<(), AllocError>
 }
 
 /// Appends the objects in an answer that was not used yet.
-#[tactic(auto, using(do_leaks::proofs::Nested::object_steps))]
+#[tactic(auto, using(do_base::proofs::ObjectsOfLists::object_steps))]
 fn push_state(objects: &mut Oids, state: &InvState) -> Result<(), AllocError>
     ensures { OnOk result (objects.new ≡ objects.old ++ objects_in (state_values state.now)) }
 {
@@ -37,7 +37,7 @@ fn push_state(objects: &mut Oids, state: &InvState) -> Result<(), AllocError>
 /// answer that it did not use yet.
 ///
 /// If memory runs out, some of them may have been appended.
-#[tactic(auto, using(do_leaks::proofs::Nested::object_steps))]
+#[tactic(auto, using(do_base::proofs::ObjectsOfLists::object_steps))]
 pub fn push_invocation(objects: &mut Oids, invocation: &Invocation) -> Result<(), AllocError>
     ensures { OnOk result (objects.new ≡ objects.old ++ invocation_objects invocation.now) }
 {

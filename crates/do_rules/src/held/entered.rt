@@ -28,7 +28,7 @@ fn push_held(objects: &mut Oids, state: &State, home: NodeId, peer: NodeId) -> D
 }
 
 /// Appends the objects of their sender that the items of a queue, if there is one, export.
-#[tactic(auto, using(crate::proofs::Nested::object_steps))]
+#[tactic(auto, using(do_base::proofs::ObjectsOfLists::object_steps))]
 fn push_all_exports(objects: &mut Oids, from: NodeId, items: Option<&Items<Shared<Item>>>) -> Done
     ensures { OnOk result (objects.new
         ≡ objects.old ++ named_by (exports_of from) (option_copied items.entry)) }
@@ -43,7 +43,7 @@ fn push_all_exports(objects: &mut Oids, from: NodeId, items: Option<&Items<Share
 }
 
 /// Appends the objects of their receiver that the items of a queue, if there is one, release.
-#[tactic(auto, using(crate::proofs::Nested::object_steps))]
+#[tactic(auto, using(do_base::proofs::ObjectsOfLists::object_steps))]
 fn push_all_releases(objects: &mut Oids, to: NodeId, items: Option<&Items<Shared<Item>>>) -> Done
     ensures { OnOk result (objects.new
         ≡ objects.old ++ named_by (releases_of to) (option_copied items.entry)) }
@@ -68,7 +68,7 @@ fn is_reached(state: &State, peer: NodeId, home: NodeId) -> bool
 }
 
 /// Appends the objects of a home that have an entry for a peer.
-#[tactic(auto, using(crate::proofs::Nested::object_steps))]
+#[tactic(auto, using(do_base::proofs::ObjectsOfLists::object_steps))]
 fn push_entered(objects: &mut Oids, state: &State, home: NodeId, peer: NodeId) -> Done
     ensures { OnOk result (objects.new ≡ objects.old ++ entered state.now home peer) }
 {
@@ -94,7 +94,7 @@ pub fn has_entry(state: &State, peer: NodeId, object: &Oid) -> Result<bool, Allo
 }
 
 /// Appends the objects of a node that have an entry for a peer.
-#[tactic(auto, using(crate::proofs::Nested::object_steps))]
+#[tactic(auto, using(do_base::proofs::ObjectsOfLists::object_steps))]
 fn push_all_entered(objects: &mut Oids, state: &State, node: &Node) -> Done
     ensures { OnOk result (objects.new
         ≡ objects.old ++ flat_map (entered state.now node.now.port) node.now.open_to) }

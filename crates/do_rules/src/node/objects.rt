@@ -12,7 +12,7 @@ use std::alloc::AllocError;
 
 /// Appends the objects in a value. The calls go as deep as its lists nest.
 #[cycle(objects)]
-#[tactic(auto, using(crate::proofs::Nested::object_steps))]
+#[tactic(auto, using(do_base::proofs::ObjectsOfLists::object_steps))]
 fn push_objects(objects: &mut Oids, value: &Value) -> Done
     ensures { OnOk result (objects.new ≡ objects.old ++ objects_of value.now) }
 {
@@ -25,7 +25,7 @@ fn push_objects(objects: &mut Oids, value: &Value) -> Done
 
 /// Appends the objects in values.
 #[cycle(objects)]
-#[tactic(auto, using(crate::proofs::Nested::object_steps))]
+#[tactic(auto, using(do_base::proofs::ObjectsOfLists::object_steps))]
 fn push_all(objects: &mut Oids, values: &Values) -> Done
     ensures { OnOk result (objects.new ≡ objects.old ++ objects_in values.now) }
 {
@@ -36,7 +36,7 @@ fn push_all(objects: &mut Oids, values: &Values) -> Done
 }
 
 /// Appends the objects in locals.
-#[tactic(auto, using(crate::proofs::Nested::object_steps))]
+#[tactic(auto, using(do_base::proofs::ObjectsOfLists::object_steps))]
 fn push_locals(objects: &mut Oids, locals: &Frame) -> Done
     ensures { OnOk result (objects.new ≡ objects.old ++ objects_in locals.now) }
 {
@@ -47,7 +47,7 @@ fn push_locals(objects: &mut Oids, locals: &Frame) -> Done
 }
 
 /// Appends the objects in an answer that was not used yet.
-#[tactic(auto, using(crate::proofs::Nested::object_steps))]
+#[tactic(auto, using(do_base::proofs::ObjectsOfLists::object_steps))]
 fn push_state(objects: &mut Oids, state: &InvState) -> Done
     ensures { OnOk result (objects.new ≡ objects.old ++ objects_in (state_values state.now)) }
 {
@@ -59,7 +59,7 @@ fn push_state(objects: &mut Oids, state: &InvState) -> Done
 }
 
 /// Appends the objects that an invocation names.
-#[tactic(auto, using(crate::proofs::Nested::object_steps))]
+#[tactic(auto, using(do_base::proofs::ObjectsOfLists::object_steps))]
 fn push_invocation(objects: &mut Oids, invocation: &Invocation) -> Done
     ensures { OnOk result (objects.new ≡ objects.old ++ invocation_objects invocation.now) }
 {
