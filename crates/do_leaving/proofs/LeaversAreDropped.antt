@@ -12,7 +12,7 @@ use Rattle.do_packet.specs.Met.{has_object, same_object}
 use Rattle.do_machine.specs.{declared.node.Node.Node, Lists.IsIn, held.Leaving.{dropping, left}}
 use Rattle.do_machine.specs.held.Refers.{heap_objects, node_objects, stack_objects}
 use Rattle.do_import.specs.ByObject.{object_of}
-use Rattle.do_machine.proofs.Having.{has_passing}
+use Rattle.do_machine.proofs.{Having.has_passing, MappedElements.{filter-map, in_map}}
 use Rattle.do_leaving.specs.Counted.{Counted, IsUsed, objects_besides}
 use Rattle.do_export.specs.Counts.{Counts, IsPositive, entry_cmp, count_of}
 use Rattle.do_import.specs.Imported.{Imported}
@@ -20,7 +20,6 @@ use Rattle.do_leaving.specs.{Leavers.{AllLeave, leavers, told}, Left.{IsEffect, 
 use Rattle.do_store.specs.Names.{Objects}
 use Rattle.do_leaving.proofs.SlotNames.{times_has}
 use Rattle.do_export.proofs.Order.{entry_total, entry_same}
-use Rattle.do_leaving.proofs.RisingLists.{filter-map, in_map}
 
 -- tests that pass together are equal
 same_test : (a b : Bool) → (a ≡ true → b ≡ true) → (b ≡ true → a ≡ true) → a ≡ b

@@ -5,11 +5,11 @@ use Rattle.std.{proofs.Common.{sum_by, eq-eqb, ne_eqb, ◌↔◌}, specs.Prelude
 use Rattle.std.specs.{List.Sorted.{IsNonDecreasing, IsPermutation, IsSorted}, Ordering.nat_cmp}
 use Rattle.std.proofs.lemmas.{Bool.{cases_eq, cases_lt}, List.Sorted.IsNonDecreasingBy-from_sort}
 use Rattle.std.proofs.lemmas.{List.{Sorted.sum_by-IsPermutation, Sums.sum_by-cons}, Simd.map-map}
+use Rattle.do_machine.proofs.MappedElements.{filter-map}
 use Rattle.do_leaving.specs.Counted.{heap_of, plain, serial_of}
 use Rattle.do_store.specs.{Listing.Rising, Names.Stored}
 use Rattle.do_leaving.{specs.Sweeping.TakenOut, proofs.MachineKeeps.{has_serial, object_serial}}
-use Rattle.do_leaving.proofs.RisingLists.{filter-map, rising-filter, rising-map}
-use Rattle.do_leaving.proofs.TakenInTurn.{taken_sum}
+use Rattle.do_leaving.proofs.{RisingLists.{rising-filter, rising-map}, TakenInTurn.taken_sum}
 
 -- one where two numbers are the same
 abbrev same : ℕ → ℕ → ℕ

@@ -5,14 +5,14 @@ use Rattle.std.{specs.Prelude.is_some, proofs.lemmas.Bool.{or_cases, or_left, or
 use Rattle.do_machine.specs.{declared.node.{Node.Node, Stored.Stored as Object}, Lists.IsIn}
 use Rattle.do_machine.specs.{State.own, held.Kept.{AreAmong, AreKept, HoldsItself, is_held_up}}
 use Rattle.do_machine.specs.held.{Kept.{kept, stays}, Refers.{heap_objects, objects_in}}
+use Rattle.do_machine.proofs.MappedElements.{in_map, of_map}
 use Rattle.do_leaving.specs.Counted.{plain, heap_of, serial_of, times}
 use Rattle.do_store.specs.{Kept.{HoldsUp, LeavesKept}, Listing.Rising, Names.{Stored, find_stored}}
 use Rattle.do_leaving.proofs.SlotNames.{heap_times, values_times, times_has}
 use Rattle.do_leaving.proofs.MachineKeeps.{contains_in, in_contains, named_by, one_names}
 use Rattle.do_leaving.proofs.MachineKeeps.{object_serial, has_serial, its_serial, kept-rises}
-use Rattle.do_leaving.proofs.MachineKeeps.{with_serial}
-use Rattle.do_leaving.proofs.RisingLists.{in_map, of_map, rising-map, rising-one, rising-same}
-use Rattle.do_leaving.proofs.StoreLookups.{find_in, in_find}
+use Rattle.do_leaving.proofs.{MachineKeeps.with_serial, RisingLists.{rising-map, rising-one}}
+use Rattle.do_leaving.proofs.{RisingLists.rising-same, StoreLookups.{find_in, in_find}}
 
 -- what is found is one object
 found_one : (o p : Stored) → Some o ≡ Some p → o ≡ p

@@ -4,3 +4,5 @@ pub mod Bools
 pub mod Having
 pub mod Keeping
 pub mod FirstPlace
+pub mod PutInOrder
+pub mod MappedElements

@@ -19,8 +19,9 @@ use Rattle.do_import.specs.{Asked.{AskMap, CountsAsks}, ByObject.{ClassMap, obje
 use Rattle.do_import.{specs.Imported.KeepsClasses, proofs.RowCounts.{entries-retain, in_front}}
 use Rattle.do_machine.specs.{Lists.inserted, Objects.{joined, object_lt}, State.is_known}
 use Rattle.do_machine.specs.{declared.node.Node.Node, lend.Asking.wanted_lt}
+use Rattle.do_machine.proofs.PutInOrder.{inserted_is, put_in}
+use Rattle.do_machine.proofs.MappedElements.{any-map, filter-map}
 use Rattle.do_part.{specs.{Rooting.held_of, Seen.ask_of}, proofs.InsertedCounts.any-all}
-use Rattle.do_part.proofs.{MappedElements.{any-map, filter-map}, PutInOrder.{inserted_is, put_in}}
 use Rattle.do_part.proofs.{LinkRows.asked_list, TestsHold.{first_holds, is_less, second_holds}}
 
 -- ---- objects held

@@ -1,9 +1,8 @@
 -- As many elements pass of inserted ones as of these.
 use Rattle.std.proofs.Common.{◌≡◌, suc, ◌+◌, Bool, true, false, cond, ◌||◌, List, [], ◌∷◌, length}
 use Rattle.std.{proofs.Common.{count_by, refl, ap, ◌∙◌, arith}, specs.List.list_any}
-use Rattle.do_machine.specs.Lists.{all_inserted}
+use Rattle.do_machine.{specs.Lists.all_inserted, proofs.PutInOrder.{inserted_is, put_in}}
 use Rattle.do_import.proofs.RowCounts.{in_front}
-use Rattle.do_part.proofs.PutInOrder.{inserted_is, put_in}
 
 module _ {X : Type 0} (before : X → X → Bool) where
   -- as many pass of the elements with one more as of both

@@ -2,8 +2,8 @@
 use Rattle.std.proofs.Common.{◌≡◌, ℕ, Bool, true, false, cond, List, [], ◌∷◌, filter, refl, sym, ap}
 use Rattle.std.proofs.Common.{◌∙◌, subst, inl, inr}
 use Rattle.do_machine.specs.Lists.{IsIn, all_inserted, inserted}
+use Rattle.do_machine.proofs.PutInOrder.{in_put, inserted_is, put_first, put_in}
 use Rattle.do_part.proofs.PassingElements.{in_filter}
-use Rattle.do_part.proofs.PutInOrder.{in_put, inserted_is, put_first, put_in}
 
 module _ {X : Type 0} (before : X → X → Bool) where
   -- what comes before an element comes before all that do not come before that, and of two

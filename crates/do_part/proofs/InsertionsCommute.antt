@@ -4,7 +4,8 @@ use Rattle.std.proofs.Common.{map as each, Some, None, is_some, refl, sym, ap, �
 use Rattle.std.specs.{FinMap.{find, put, Entries.by_order}, Ordering.is_eq}
 use Rattle.std.specs.declared.cmp.Ordering.{Ordering, TheVariants.{Less, Equal, Greater}}
 use Rattle.do_machine.specs.Lists.{IsIn, all_inserted, inserted}
-use Rattle.do_part.proofs.{InsertedInOrder.IsOrder, PutInOrder.{inserted_is, put_in}}
+use Rattle.do_machine.proofs.PutInOrder.{inserted_is, put_in}
+use Rattle.do_part.proofs.InsertedInOrder.{IsOrder}
 
 module _ {X : Type 0} (before : X → X → Bool) (order : IsOrder before) where
   -- two elements of which one comes before the other may be put in either way round

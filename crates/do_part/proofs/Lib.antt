@@ -27,9 +27,7 @@ pub mod Entered
 pub mod Opening
 pub mod TestsHold
 pub mod MapKeys
-pub mod MappedElements
 pub mod PassingElements
-pub mod PutInOrder
 pub mod InsertedCounts
 pub mod InsertedInOrder
 pub mod InsertionsCommute

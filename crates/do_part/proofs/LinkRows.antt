@@ -18,10 +18,11 @@ use Rattle.do_import.proofs.RowCounts.{entries-remove, entries-retain}
 use Rattle.do_machine.specs.{Lists.{IsIn, all_inserted, inserted}, declared.node.Lend.Lend}
 use Rattle.do_machine.specs.declared.node.Wanted.{Wanted}
 use Rattle.do_machine.specs.lend.{Asking.{same_wanted, wanted, wanted_lt}, Lending.is_lend}
-use Rattle.do_part.{specs.Seen.{ask_of, lend_lt, lend_of}, proofs.InsertedCounts.any-all}
-use Rattle.do_part.proofs.{InsertedCounts.length-all, InsertedInOrder.{IsOrder, filter-all}}
-use Rattle.do_part.proofs.{InsertionsCommute.all-put, MappedElements.{any-map, filter-map, of_map}}
-use Rattle.do_part.proofs.PutInOrder.{in_all, inserted_is, put_last}
+use Rattle.do_machine.proofs.PutInOrder.{in_all, inserted_is, put_last}
+use Rattle.do_machine.proofs.MappedElements.{any-map, filter-map, of_map}
+use Rattle.do_part.specs.Seen.{ask_of, lend_lt, lend_of}
+use Rattle.do_part.proofs.InsertedCounts.{any-all, length-all}
+use Rattle.do_part.proofs.{InsertedInOrder.{IsOrder, filter-all}, InsertionsCommute.all-put}
 use Rattle.std.proofs.lemmas.List.{length-map}
 
 -- ---- orders

@@ -15,13 +15,13 @@ use Rattle.do_import.specs.Asked.{AskKey, AskMap, HasNoAsk, IsLowestAsk, ask_cmp
 use Rattle.do_import.{specs.ByObject.{ClassMap, object_of}, proofs.AskRows.{ask_total, ask_same}}
 use Rattle.do_machine.specs.{Lists.IsIn, State.is_known, declared.node.{Node.Node, Wanted.Wanted}}
 use Rattle.do_machine.specs.lend.Asking.{same_wanted, wanted, wanted_lt}
+use Rattle.do_machine.proofs.{PutInOrder.{in_all, put_first}, MappedElements.of_map}
 use Rattle.do_network.specs.Counting.{of_known}
 use Rattle.do_part.specs.{Parting.without_asks, Seen.ask_of, Rooting.held_of}
 use Rattle.do_part.proofs.{HeldRows.{held_has, held_less}, InsertedInOrder.filter-one}
 use Rattle.do_part.proofs.LinkRows.{ask_order, asked_list, asked_more, in_entries}
 use Rattle.do_part.proofs.MapKeys.{out_has, out_in, out_none, retain_all, retain_as, retain_get}
-use Rattle.do_part.proofs.{MapKeys.{retain_twice, tied}, MappedElements.of_map}
-use Rattle.do_part.proofs.{PassingElements.{in_filter, in_passing}, PutInOrder.{in_all, put_first}}
+use Rattle.do_part.proofs.{MapKeys.{retain_twice, tied}, PassingElements.{in_filter, in_passing}}
 
 -- ---- entries
 

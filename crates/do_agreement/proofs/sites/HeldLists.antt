@@ -1,87 +1,23 @@
 -- The objects that are counted as received, as a list in order.
 use Rattle.std.specs.FinMap as map_of
-use Rattle.std.proofs.Common.{◌≡◌, ℕ, suc, ◌+◌, ◌&&◌, ◌||◌, Bool, true, false, cond, not, T, List}
-use Rattle.std.proofs.Common.{[], ◌∷◌, filter, length, map, refl, sym, ap, ◌∙◌, subst, arith}
-use Rattle.std.specs.Prelude.{None, Some, is_some, nat_lt, if◌then◌else◌}
-use Rattle.std.specs.{List.{list_any, position_or_len}, Ordering.{eq_by_cmp, is_eq, is_lt}}
-use Rattle.std.specs.FinMap.{contains_key-keys, entries-insert, entries_sorted, get-entries}
-use Rattle.std.specs.FinMap.Entries.{below_all, by_order, find, is_sorted, put}
+use Rattle.std.proofs.Common.{◌≡◌, ℕ, ◌&&◌, Bool, true, false, cond, T, List, [], ◌∷◌, filter, map}
+use Rattle.std.{proofs.Common.{refl, sym, ap, ◌∙◌, subst, arith}, specs.Prelude.{None, Some}}
+use Rattle.std.specs.{Prelude.{is_some, if◌then◌else◌}, List.list_any, Ordering.{eq_by_cmp, is_eq}}
+use Rattle.std.specs.{Ordering.is_lt, FinMap.{contains_key-keys, entries-insert, entries_sorted}}
+use Rattle.std.specs.FinMap.{get-entries, Entries.{below_all, by_order, find, is_sorted, put}}
 use Rattle.std.specs.declared.cmp.Ordering.{Ordering, TheVariants.{Less, Equal, Greater}}
 use Rattle.std.proofs.lemmas.Bool.Decides.{nat_tests}
 use Rattle.do_base.specs.names.Names.{ObjectName}
 use Rattle.do_packet.specs.Met.{has_object, same_object}
 use Rattle.do_export.{specs.Counts.{Counts, entry_cmp}, proofs.Order.{entry_same, entry_total}}
 use Rattle.do_import.{specs.ByObject.object_of, proofs.RowCounts.entries-retain}
-use Rattle.do_machine.specs.{Lists.{inserted, put_at}, Objects.{joined, object_lt}}
+use Rattle.do_machine.specs.{Lists.inserted, Objects.{joined, object_lt}}
+use Rattle.do_machine.proofs.MappedElements.{any-map, filter-map}
+use Rattle.do_machine.proofs.PutInOrder.{inserted_is, put_in}
 
 -- the objects that are counted as received
 abbrev pub held_list : Counts → List ObjectName
 held_list received = map object_of (map_of.keys received)
-
--- ---- lists
-
--- what passes of what is mapped
-filter-map : {X Y : Type 0} (f : X → Y) (p : Y → Bool) (xs : List X) →
-    filter p (map f xs) ≡ map f (filter (λ x. p (f x)) xs)
-filter-map f p [] = refl
-filter-map f p (x ∷ xs) = go (p (f x)) (filter-map f p xs)
-  where
-    go : (b : Bool) → filter p (map f xs) ≡ map f (filter (λ y. p (f y)) xs) →
-        cond b (f x ∷ filter p (map f xs)) (filter p (map f xs))
-        ≡ map f (cond b (x ∷ filter (λ y. p (f y)) xs) (filter (λ y. p (f y)) xs))
-    go true e = ap (λ l. f x ∷ l) e
-    go false e = e
-
--- whether one passes of what is mapped
-any-map : {X Y : Type 0} (f : X → Y) (p : Y → Bool) (xs : List X) →
-    list_any p (map f xs) ≡ list_any (λ x. p (f x)) xs
-any-map f p [] = refl
-any-map f p (x ∷ xs) = ap (λ b. p (f x) || b) (any-map f p xs)
-
--- a number is before a higher one
-first_place : (n : ℕ) → nat_lt 0 (suc n) ≡ true
-first_place n = grind (arith, nat_tests)
-
--- two numbers compare as those one higher do
-one_higher : (n m : ℕ) → nat_lt (suc n) (suc m) ≡ nat_lt n m
-one_higher n m = grind (arith, nat_tests)
-
-module _ {X : Type 0} (before : X → X → Bool) where
-  -- an element before the first that comes after it
-  abbrev put_in : X → List X → List X
-  put_in x [] = x ∷ []
-  put_in x (y ∷ ys) = cond (before x y) (x ∷ y ∷ ys) (y ∷ put_in x ys)
-
-  -- so it is inserted
-  inserted_is : (x : X) (xs : List X) → inserted before x xs ≡ put_in x xs
-  inserted_is x [] = refl
-  inserted_is x (y ∷ ys) = go (before x y) (inserted_is x ys)
-    where
-      -- it stands one place later then, or behind all
-      behind : (at : ℕ) (b : Bool) → put_at x (y ∷ ys) (cond b (Some (suc at)) None)
-          ≡ y ∷ put_at x ys (cond b (Some at) None)
-      behind at true = refl
-      behind at false = refl
-
-      -- one more is the next number
-      next : (n : ℕ) → 1 + n ≡ suc n
-      next n = omega arith
-
-      go : (b : Bool) → inserted before x ys ≡ put_in x ys →
-          put_at x (y ∷ ys) (cond (nat_lt (cond (not b) (1 + position_or_len (before x) ys) 0)
-          (suc (length ys))) (Some (cond (not b) (1 + position_or_len (before x) ys) 0)) None)
-          ≡ cond b (x ∷ y ∷ ys) (y ∷ put_in x ys)
-      go true later =
-          ap (λ c. put_at x (y ∷ ys) (cond c (Some 0) None)) (first_place (length ys))
-      go false later =
-          let rest = position_or_len (before x) ys in
-          ap (λ n. put_at x (y ∷ ys) (cond (nat_lt n (suc (length ys))) (Some n) None)) (next rest)
-          ∙ ap (λ c. put_at x (y ∷ ys) (cond c (Some (suc rest)) None))
-          (one_higher rest (length ys))
-          ∙ behind rest (nat_lt rest (length ys))
-          ∙ ap (λ l. y ∷ l) later
-
--- ---- objects held
 
 -- two objects are one where their keys tie
 object_tie : (q k : ℕ × ℕ) → same_object (object_of q) (object_of k) ≡ eq_by_cmp entry_cmp q k

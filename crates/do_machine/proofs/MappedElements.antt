@@ -21,6 +21,12 @@ pub any-map : {X Y : Type 0} (f : X → Y) (p : Y → Bool) (xs : List X)
 any-map f p [] = refl
 any-map f p (x ∷ xs) = ap (λ b. p (f x) || b) (any-map f p xs)
 
+-- what is mapped is among what its list is mapped to
+pub in_map : {X Y : Type 0} (f : X → Y) (xs : List X) (x : X) → IsIn xs x → IsIn (each f xs) (f x)
+in_map f [] x a = absurd a
+in_map f (y ∷ ys) x (inl e) = inl (ap f e)
+in_map f (y ∷ ys) x (inr a) = inr (in_map f ys x a)
+
 -- what is among mapped elements is one of them, mapped
 pub of_map : {X Y : Type 0} (f : X → Y) (xs : List X) (y : Y) → IsIn (each f xs) y
     → (x : X) × IsIn xs x × (f x ≡ y)
