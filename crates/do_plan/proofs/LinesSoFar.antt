@@ -2,46 +2,15 @@
 use Rattle.do_grammar.specs.Lines as text
 use Rattle.std.proofs.Common.{◌≡◌, ◌≢◌, ℕ, ◌+◌, ◌<◌, ◌≤◌, Bool, true, false, cond, List as Listed}
 use Rattle.std.proofs.Common.{[], ◌∷◌, ◌++◌, length, map, Option, Some, None, refl, sym, ap, subst}
-use Rattle.std.{proofs.Common.{◌∙◌, append_assoc, arith}, specs.List.{flat_map, AllByRecursion}}
+use Rattle.std.{proofs.Common.{◌∙◌, append_assoc, arith}, specs.List.flat_map}
 use Rattle.std.proofs.lemmas.List.{map-append, length-append}
 use Rattle.do_grammar.{specs.Lines.{cut, line_bytes}, proofs.texts.LinesExact.cut_whole}
 use Rattle.do_sched.specs.{Spelling.{footer, fed}, Schedule.whole, Reading.is_whole}
-use Rattle.do_sched.proofs.LinesSoFar.{is_whole_true, is_whole_false}
+use Rattle.do_sched.proofs.WholeLines.{is_whole_true, is_whole_false, whole_lines, cut_none}
+use Rattle.do_sched.proofs.WholeLines.{cut_some, all_more}
 use Rattle.do_plan.specs.Form.{Form, IsText, Opens, IsBadLine, at_first, between, early, behind}
 use Rattle.do_plan.specs.Form.{IsTooMany, over, IsEndMissing, at_start, later}
 use Rattle.do_plan.specs.Reading.{Reads, line_in}
-
--- ---- the bytes of whole lines
-
--- the bytes of whole lines stand one behind the other
-whole_lines : {A : Type 0} (spelling : A → Listed ℕ) (lines : Listed A) (rest : Listed text.Line)
-    → flat_map line_bytes (map (λ l. whole (spelling l)) lines ++ rest)
-    ≡ flat_map (λ l. fed (spelling l)) lines ++ flat_map line_bytes rest
-whole_lines spelling [] rest = refl
-whole_lines spelling (l ∷ lines) rest =
-    ap (λ (w : Listed ℕ). fed (spelling l) ++ w) (whole_lines spelling lines rest)
-    ∙ sym (append_assoc (fed (spelling l)) (flat_map (λ m. fed (spelling m)) lines)
-    (flat_map line_bytes rest))
-
--- bytes without a line are none
-cut_none : (bytes : Listed ℕ) → cut bytes ≡ [] → bytes ≡ []
-cut_none bytes e = sym (cut_whole bytes) ∙ ap (flat_map line_bytes) e
-
--- bytes have a first line
-cut_some : (bytes : Listed ℕ) → 0 < length bytes → (t : text.Line) × (rest : Listed text.Line)
-    × (cut bytes ≡ t ∷ rest)
-cut_some bytes lt = go (cut bytes) refl
-  where
-    go : (ls : Listed text.Line) → cut bytes ≡ ls → (t : text.Line) × (rest : Listed text.Line)
-        × (cut bytes ≡ t ∷ rest)
-    go [] e = absurd (omega (arith, ap length (cut_none bytes e)))
-    go (t ∷ rest) e = (t, rest, e)
-
--- good lines and one more good line are good lines
-all_more : {A : Type 0} (P : A → Type 0) (ls : Listed A) (l : A) → AllByRecursion P ls → P l
-    → AllByRecursion P (ls ++ l ∷ [])
-all_more P [] l p q = (q, tt)
-all_more P (m ∷ ls) l p q = (p.0, all_more P ls l p.1 q)
 
 module _ {A : Type 0} (form : Form A) (line_at : Listed ℕ → Option A)
     (reads : Reads form line_at) where

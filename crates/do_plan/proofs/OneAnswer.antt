@@ -9,7 +9,7 @@ use Rattle.do_grammar.{specs.Lines.cut, proofs.texts.LinesExact.cut_line}
 use Rattle.do_sched.specs.declared.fault.SchedFault.{SchedFault}
 use Rattle.do_sched.specs.declared.fault.SchedFault.TheVariants.{BadLine, TooMany, NoEnd, Memory}
 use Rattle.do_sched.specs.{Answers.AnswersWith, Reading.is_whole, Schedule.whole}
-use Rattle.do_sched.{specs.Spelling.{footer, fed}, proofs.LinesSoFar.is_whole_true}
+use Rattle.do_sched.{specs.Spelling.{footer, fed}, proofs.WholeLines.is_whole_true}
 use Rattle.do_plan.specs.Form.{Form, IsText, Opens, IsNoLine, IsBadLine, at_first, between, early}
 use Rattle.do_plan.specs.Form.{behind, IsTooMany, over, IsEndMissing, at_start, later, IsFault}
 use Rattle.do_plan.{specs.Reading.{Reads, Tells, line_in}, proofs.LinesSoFar.line_in_takes}

@@ -17,7 +17,7 @@ use Rattle.do_sched.specs.Schedule.{at_first, between, behind, IsTooMany, over, 
 use Rattle.do_sched.specs.Schedule.{at_start, later, IsFaultOf, most_steps, whole}
 use Rattle.do_sched.specs.{Reading.{is_whole, line_in}, Answers.{TellsSchedule, AnswersWith}}
 use Rattle.do_sched.proofs.LineWithoutFeed.{header_free, no_feed}
-use Rattle.do_sched.proofs.LinesSoFar.{is_whole_true, line_in_takes, line_in_again}
+use Rattle.do_sched.proofs.{LinesSoFar.{line_in_takes, line_in_again}, WholeLines.is_whole_true}
 
 -- ---- the one answer to the lines of a text
 

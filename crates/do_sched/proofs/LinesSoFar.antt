@@ -2,36 +2,18 @@
 use Rattle.do_grammar.specs.Lines as text
 use Rattle.std.proofs.Common.{◌≡◌, ◌≢◌, ℕ, ◌+◌, ◌<◌, ◌≤◌, Bool, true, false, cond, List as Listed}
 use Rattle.std.proofs.Common.{[], ◌∷◌, ◌++◌, length, map, Some, None, refl, sym, ap, subst, ◌∙◌}
-use Rattle.std.proofs.Common.{append_assoc, arith}
-use Rattle.std.specs.{Prelude.◌&&◌, List.{flat_map, AllByRecursion}, Str.bytes_eq}
-use Rattle.std.proofs.lemmas.{List.{map-append, Sums.sum_by-append}, Slice.Eq.bytes_eq-Decides}
+use Rattle.std.{proofs.Common.{append_assoc, arith}, specs.List.flat_map}
+use Rattle.std.proofs.lemmas.List.{map-append, Sums.sum_by-append}
 use Rattle.do_grammar.{specs.Lines.{cut, line_bytes}, proofs.texts.LinesExact.cut_whole}
 use Rattle.do_sched.specs.{declared.{line.Line.Line, version.Version.Version}, Version.header}
 use Rattle.do_sched.specs.{Spelling.{line_spelling, footer, fed, steps, steps_of}, Good.IsLineOf}
 use Rattle.do_sched.specs.Schedule.{IsScheduleOf, Opens, IsBadLine, at_first, between, behind}
 use Rattle.do_sched.specs.Schedule.{IsTooMany, over, IsEndMissing, at_start, later, most_steps}
 use Rattle.do_sched.specs.{Schedule.whole, Reading.{line_at, is_whole, line_in}}
-use Rattle.do_sched.proofs.LineExact.{line_takes, line_again}
+use Rattle.do_sched.proofs.{LineExact.{line_takes, line_again}, WholeLines.is_whole_true}
+use Rattle.do_sched.proofs.WholeLines.{is_whole_false, whole_lines, cut_none, cut_some, all_more}
 
--- ---- whole lines
-
--- a line that passes the test is this text with its line feed
-pub is_whole_true : (wanted : Listed ℕ) (t : text.Line) → is_whole wanted t ≡ true
-    → t ≡ whole wanted
-is_whole_true wanted t e = go t.fed refl e
-  where
-    go : (u : Bool) → t.fed ≡ u → (u && bytes_eq t.text wanted) ≡ true → t ≡ whole wanted
-    go true p q =
-        ap (λ (w : Listed ℕ). record { text = w; fed = t.fed })
-        ((bytes_eq-Decides t.text wanted).0 q)
-        ∙ ap (λ (w : Bool). record { text = wanted; fed = w }) p
-    go false p q = absurd cc
-
--- one that fails it is not
-pub is_whole_false : (wanted : Listed ℕ) (t : text.Line) → is_whole wanted t ≡ false
-    → t ≢ whole wanted
-is_whole_false wanted t e = λ (same_line : t ≡ whole wanted). let f =
-    ap (is_whole wanted) same_line in let g = (bytes_eq-Decides wanted wanted).1 refl in absurd cc
+-- ---- one line
 
 -- a line of text that is a line of a schedule
 pub line_in_takes : (version : Version) (t : text.Line) (l : Line) → line_in version t ≡ Some l
@@ -59,18 +41,6 @@ no_line : (version : Version) (t : text.Line) → line_in version t ≡ None →
 no_line version t e l h = λ (p : t ≡ whole (line_spelling l)). let f = ap (line_in version) p in
     let g = line_in_again version l h in absurd cc
 
--- ---- the bytes of whole lines
-
--- the bytes of whole lines stand one behind the other
-whole_lines : (lines : Listed Line) (rest : Listed text.Line)
-    → flat_map line_bytes (map (λ l. whole (line_spelling l)) lines ++ rest)
-    ≡ flat_map (λ l. fed (line_spelling l)) lines ++ flat_map line_bytes rest
-whole_lines [] rest = refl
-whole_lines (l ∷ lines) rest =
-    ap (λ (w : Listed ℕ). fed (line_spelling l) ++ w) (whole_lines lines rest)
-    ∙ sym (append_assoc (fed (line_spelling l)) (flat_map (λ m. fed (line_spelling m)) lines)
-    (flat_map line_bytes rest))
-
 -- the bytes of a schedule that begins with some lines
 opened_bytes : (version : Version) (bytes : Listed ℕ) (lines : Listed Line)
     (rest : Listed text.Line) → Opens version bytes lines rest
@@ -78,21 +48,7 @@ opened_bytes : (version : Version) (bytes : Listed ℕ) (lines : Listed Line)
     ++ (flat_map (λ l. fed (line_spelling l)) lines ++ flat_map line_bytes rest)
 opened_bytes version bytes lines rest o = sym (cut_whole bytes)
     ∙ ap (flat_map line_bytes) o.spelled
-    ∙ ap (λ (w : Listed ℕ). fed (header version) ++ w) (whole_lines lines rest)
-
--- bytes without a line are none
-cut_none : (bytes : Listed ℕ) → cut bytes ≡ [] → bytes ≡ []
-cut_none bytes e = sym (cut_whole bytes) ∙ ap (flat_map line_bytes) e
-
--- bytes have a first line
-cut_some : (bytes : Listed ℕ) → 0 < length bytes → (t : text.Line) × (rest : Listed text.Line)
-    × (cut bytes ≡ t ∷ rest)
-cut_some bytes lt = go (cut bytes) refl
-  where
-    go : (ls : Listed text.Line) → cut bytes ≡ ls → (t : text.Line) × (rest : Listed text.Line)
-        × (cut bytes ≡ t ∷ rest)
-    go [] e = absurd (omega (arith, ap length (cut_none bytes e)))
-    go (t ∷ rest) e = (t, rest, e)
+    ∙ ap (λ (w : Listed ℕ). fed (header version) ++ w) (whole_lines line_spelling lines rest)
 
 -- ---- the first line
 
@@ -192,7 +148,7 @@ module _ (version : Version) (bytes rest : Listed ℕ) (lines : Listed Line)
         → Opens version bytes (lines ++ l ∷ []) (cut after)
     goes_on l h few = record {
       spelled = s;
-      good = all_more lines (at_line l h).good;
+      good = all_more (IsLineOf version) lines l (at_line l h).good (line_in_takes version t l h).1;
       few = simp sum_by-append (omega arith);
     }
       where
@@ -205,8 +161,3 @@ module _ (version : Version) (bytes rest : Listed ℕ) (lines : Listed Line)
             (whole (line_spelling l) ∷ []) (cut after))
             ∙ ap (λ (w : Listed text.Line). w ++ cut after)
             (sym (map-append (λ m. whole (line_spelling m)) lines (l ∷ []))))
-
-        all_more : (ls : Listed Line) → AllByRecursion (IsLineOf version) ls
-            → AllByRecursion (IsLineOf version) (ls ++ l ∷ [])
-        all_more [] p = ((line_in_takes version t l h).1, tt)
-        all_more (m ∷ ls) p = (p.0, all_more ls p.1)
