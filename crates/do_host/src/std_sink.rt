@@ -11,10 +11,10 @@ use std::marker::Model;
 
 /// An output of the system, as standard output, with no buffer between.
 ///
-/// Contracts see it as the output, a count of faults, which are puts that answered `Failed`, and the
-/// bytes that the output took: those that its writes counted, in order. It tells these bytes. No
-/// contract can see what an output of the system makes of them; one in memory may tell. The form is
-/// this project's own.
+/// Contracts see it as the output, a count of faults, which are puts that answered `Failed`, and
+/// the bytes that the output took: those that its writes counted, in order. It tells these bytes.
+/// No contract can see what an output of the system makes of them; one in memory may tell. The form
+/// is this project's own.
 #[derive(Drop)]
 pub struct StdSink<W: Write> {
     out: W,

@@ -101,7 +101,8 @@ done_is es (Register name port) h k = go (value_of es name)
     go : (o : Option ℕ) → IfSome (option_map as_number (register_at es name port o)) IsDone
     go (Some has) = numbered (register_at es name port (Some has)) h
     go None = numbered (register_at es name port None) (room (nat_lt (length es) 512))
-done_is es (Lookup name) h k = (h, go (value_of es name) (value_is IsPortNumber es name (each es h)))
+done_is es (Lookup name) h k =
+    (h, go (value_of es name) (value_is IsPortNumber es name (each es h)))
   where
     each : (es : Listed Entry) → AreEntries es →
         AllByRecursion (λ (e : Entry). IsPortNumber e.1) es

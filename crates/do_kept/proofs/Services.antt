@@ -127,7 +127,8 @@ done_is es (Add s) h k = numbered (with_service es s) (go (value_of es s.item))
         if_passed Left (nat_lt (length es) 256) (es ++ keyed s ∷ [], true)
         (λ e. each_joined IsEntry es (keyed s ∷ []) h (keyed_is s k, tt))
 done_is es (Remove item) h k = (removed_are IsEntry es item h, truth_atoms (without es item).1)
-done_is es Items h k = (h, list_atoms (map Text (keys_of es)) (texts_atoms (keys_of es) (keys es h)))
+done_is es Items h k =
+    (h, list_atoms (map Text (keys_of es)) (texts_atoms (keys_of es) (keys es h)))
   where
     keys : (es : Listed Entry) → AreEntries es → AreOfBytes (keys_of es)
     keys [] h = tt

@@ -24,8 +24,8 @@ pub(crate) enum Kept {
 
 /// A spawner in memory, whose listed starts and waits fail.
 ///
-/// A child without a listed status ends with 0. It tells each start and each wait: a wait is kept in
-/// room that its start took.
+/// A child without a listed status ends with 0. It tells each start and each wait: a wait is kept
+/// in room that its start took.
 #[derive(Debug, Drop)]
 pub struct MemSpawner {
     alloc: Global,

@@ -199,7 +199,8 @@ fn write_summary<S: Hosted<Acts = Native>, K: Sink>(
     write_text(&text, out)
 }
 
-/// Replays the schedule that a number generates over the network of `:mesh`, and writes its summary.
+/// Replays the schedule that a number generates over the network of `:mesh`, and writes its
+/// summary.
 pub(crate) fn write_made<S: Hosted<Acts = Native>, K: Sink>(
     alloc: Global,
     number: u64,

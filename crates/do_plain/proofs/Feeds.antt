@@ -1,4 +1,4 @@
--- No name, no value and nothing that is shown has a line feed in it, but for a selector that has one.
+-- No name, value or shown line has a line feed in it, but for a selector that has one.
 use Rattle.std.proofs.Common.{◌≡◌, ◌≢◌, ◌==◌, ◌/◌, ◌%◌, ◌+◌, ℕ, ℤ, pos, negsuc, zero, suc, Bool}
 use Rattle.std.proofs.Common.{true, false, cond, List as Listed, [], ◌∷◌, ◌++◌, map, refl, sym}
 use Rattle.std.{proofs.Common.{subst, arith, rules}, specs.Prelude.{codes, nat_lt, not}}

@@ -1,8 +1,9 @@
 //! That no line of a transcript of the one machine says what was sent.
 //!
 //! It stands on the definitions of the machine, of worlds and of transcripts. It has no code of its
-//! own: each of its functions is a law, of every behaviour. It promises that dropping the lines that
-//! begin with `wire ` leaves a transcript of the one machine as it is, over each world that is read.
+//! own: each of its functions is a law, of every behaviour. It promises that dropping the lines
+//! that begin with `wire ` leaves a transcript of the one machine as it is, over each world that is
+//! read.
 #![tactic(auto)]
 
 mod laws;

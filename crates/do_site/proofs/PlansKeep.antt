@@ -34,7 +34,8 @@ plan_keeps r (Begins i into outs pc) = record { ends = refl; port = refl }
 plan_keeps r (Tells peer m into pc) = record { ends = refl; port = refl }
 plan_keeps r (Delivers (deliveries.Shows line)) = record { ends = refl; port = refl }
 plan_keeps r (Delivers (deliveries.Answers a)) = record { ends = refl; port = refl }
-plan_keeps r (Delivers (deliveries.Replies peer number packet)) = record { ends = refl; port = refl }
+plan_keeps r (Delivers (deliveries.Replies peer number packet)) =
+    record { ends = refl; port = refl }
 plan_keeps r (Delivers (deliveries.Raises peer number e)) = record { ends = refl; port = refl }
 plan_keeps r (Delivers deliveries.Drops) = record { ends = refl; port = refl }
 

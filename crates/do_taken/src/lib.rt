@@ -1,8 +1,8 @@
 //! The bytes that an output took, of which only proofs know.
 //!
-//! It stands on nothing. It promises that what was taken grows by the bytes that are told, and by no
-//! others. A history takes no memory, and its functions do nothing where they run. The form is this
-//! project's own.
+//! It stands on nothing. It promises that what was taken grows by the bytes that are told, and by
+//! no others. A history takes no memory, and its functions do nothing where they run. The form is
+//! this project's own.
 #![tactic(auto)]
 
 mod taken;

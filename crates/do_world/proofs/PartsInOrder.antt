@@ -113,20 +113,21 @@ pub world_sound : (table : List Class) (kinds : List Kind) (rules : List (List R
       program = program;
       nodes = nodes;
     })
-world_sound table kinds rules program nodes is typed some few seats made kinded codes denials = record {
-  opens = record {
-    classes = is;
-    signatures = typed;
-    some = some;
-    few = few;
-    distinct = seats.distinct;
-    seated = seats.seated;
-  };
-  made = made;
-  kinds = kinded;
-  codes = codes;
-  denials = denials;
-}
+world_sound table kinds rules program nodes is typed some few seats made kinded codes denials =
+    record {
+      opens = record {
+        classes = is;
+        signatures = typed;
+        some = some;
+        few = few;
+        distinct = seats.distinct;
+        seated = seats.seated;
+      };
+      made = made;
+      kinds = kinded;
+      codes = codes;
+      denials = denials;
+    }
 
 -- what reading the classes of a document gave
 pub record AreClasses (cs : List Members) (table : List Class) (kinds : List Kind)

@@ -57,7 +57,8 @@ impl<T: ExactClone> ExactClone for Option<T> {
 impl<A: ExactClone, B: ExactClone> ExactClone for (A, B) {
     ghost use Rattle.std.proofs.Common.{rules};
 
-    ghost exact_clone = { λ x y h. Prim.search (rules, A.ExactClone.exact_clone, B.ExactClone.exact_clone) };
+    ghost exact_clone = { λ x y h.
+        Prim.search (rules, A.ExactClone.exact_clone, B.ExactClone.exact_clone) };
 }
 
 impl ExactEq for bool {

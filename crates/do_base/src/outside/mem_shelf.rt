@@ -28,7 +28,8 @@ impl Model for MemShelf {
 
     ghost Value = { ShelfState };
 
-    ghost view = { λ s. record { files = s.files; fail = s.fail; calls = s.calls; faults = s.faults } };
+    ghost view = { λ s.
+        record { files = s.files; fail = s.fail; calls = s.calls; faults = s.faults } };
 }
 
 fn find<'a>(files: &'a FileList, name: &Text) -> Option<&'a Text>

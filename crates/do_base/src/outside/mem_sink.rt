@@ -26,7 +26,8 @@ impl Model for MemSink {
 
     ghost Value = { SinkState };
 
-    ghost view = { λ s. record { bytes = s.bytes; fail = s.fail; calls = s.calls; faults = s.faults } };
+    ghost view = { λ s.
+        record { bytes = s.bytes; fail = s.fail; calls = s.calls; faults = s.faults } };
 }
 
 impl MemSink {

@@ -82,8 +82,8 @@ done_is b (Declare types owner) h k =
         less,
         (
           each_mapped IsDeclared (λ (t : Listed ℕ). (t, None)) types
-              (each_weaker IsOfBytes (λ (t : Listed ℕ). IsOfBytes t × Unit {0}) (λ t q. (q, tt)) types
-              k),
+              (each_weaker IsOfBytes (λ (t : Listed ℕ). IsOfBytes t × Unit {0})
+              (λ t q. (q, tt)) types k),
           h.1.1,
         ),
       ),
