@@ -18,17 +18,17 @@ use Rattle.do_network.specs.{fits.Notes.{tells_of, total}, laws.Sites.SeesAs}
 use Rattle.do_network.proofs.{ListSearch.turned, NotesCounted.{some_export, some_release}}
 
 -- both ends are open: what is counted is held, or under way there, or back
-counted_open : (c r x y t : ℕ) → c ≡ r + (x + y) → t ≡ 0 →
+pub counted_open : (c r x y t : ℕ) → c ≡ r + (x + y) → t ≡ 0 →
     nat_lt 0 c ≡ (nat_lt 0 r || (nat_lt 0 x || (nat_lt 0 y || nat_lt 0 t)))
 counted_open c r x y t e f = grind (arith, e, f)
 
 -- the peer's end is closed: what is counted is under way there, or back, or told
-counted_closed : (c x y t : ℕ) → (t ≡ 0 → c ≡ x + y) → (0 < t → x + y < c) →
+pub counted_closed : (c x y t : ℕ) → (t ≡ 0 → c ≡ x + y) → (0 < t → x + y < c) →
     nat_lt 0 c ≡ (nat_lt 0 x || (nat_lt 0 y || nat_lt 0 t))
 counted_closed c x y t e f = grind (arith, e, f)
 
 -- three tests, the first two together
-grouped : (a b c : Bool) → (a || (b || c)) ≡ ((a || b) || c)
+pub grouped : (a b c : Bool) → (a || (b || c)) ≡ ((a || b) || c)
 grouped true b c = refl
 grouped false b c = refl
 

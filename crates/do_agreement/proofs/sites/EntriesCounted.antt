@@ -1,6 +1,5 @@
 -- What a node counts tells which entries its peers have, in a network whose counts fit.
-use Rattle.std.proofs.Common.{◌≡◌, ◌+◌, ◌<◌, ◌||◌, ◌&&◌, ℕ, Bool, true, false, List, map, refl, ap}
-use Rattle.std.proofs.Common.{sym, ◌∙◌, arith}
+use Rattle.std.proofs.Common.{◌≡◌, ◌||◌, ◌&&◌, ℕ, Bool, true, false, List, map, refl, ap, sym, ◌∙◌}
 use Rattle.std.specs.{Prelude.{Option, Some, nat_lt}, List.{AllByRecursion, list_any}}
 use Rattle.do_base.specs.names.Names.{ObjectName}
 use Rattle.do_coder.specs.Packets.{Surroundings}
@@ -12,22 +11,8 @@ use Rattle.do_machine.specs.{Items.{exported, released}, Lists.some_passes, Obje
 use Rattle.do_machine.specs.State.{holds, is_open}
 use Rattle.do_network.specs.{Own.{Own, is_counted}, fits.Counted.Counted}
 use Rattle.do_network.specs.fits.Notes.{Note, exports_of, note_frame, returns_of, tells_of, total}
+use Rattle.do_network.proofs.CountsAreEntries.{counted_closed, counted_open, grouped}
 use Rattle.do_network.proofs.NotesCounted.{some_export, some_release}
-
--- both ends are open: what is counted is held, or under way there, or back
-counted_open : (c r x y t : ℕ) → c ≡ r + (x + y) → t ≡ 0 →
-    nat_lt 0 c ≡ (nat_lt 0 r || (nat_lt 0 x || (nat_lt 0 y || nat_lt 0 t)))
-counted_open c r x y t e f = grind (arith, e, f)
-
--- the peer's end is closed: what is counted is under way there, or back, or told
-counted_closed : (c x y t : ℕ) → (t ≡ 0 → c ≡ x + y) → (0 < t → x + y < c) →
-    nat_lt 0 c ≡ (nat_lt 0 x || (nat_lt 0 y || nat_lt 0 t))
-counted_closed c x y t e f = grind (arith, e, f)
-
--- three tests, the first two together
-grouped : (a b c : Bool) → (a || (b || c)) ≡ ((a || b) || c)
-grouped true b c = refl
-grouped false b c = refl
 
 -- the entry of a peer, by the home's end, the peer, and what is under way between them
 abbrev pub entry_of : ℕ → ObjectName → Bool → Option Node → Option (List Item) →

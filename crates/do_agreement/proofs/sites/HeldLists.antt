@@ -1,14 +1,15 @@
 -- The objects that are counted as received, as a list in order.
 use Rattle.std.specs.FinMap as map_of
-use Rattle.std.proofs.Common.{◌≡◌, ℕ, ◌&&◌, Bool, true, false, cond, T, List, [], ◌∷◌, filter, map}
-use Rattle.std.{proofs.Common.{refl, sym, ap, ◌∙◌, subst, arith}, specs.Prelude.{None, Some}}
-use Rattle.std.specs.{Prelude.{is_some, if◌then◌else◌}, List.list_any, Ordering.{eq_by_cmp, is_eq}}
-use Rattle.std.specs.{Ordering.is_lt, FinMap.{contains_key-keys, entries-insert, entries_sorted}}
-use Rattle.std.specs.FinMap.{get-entries, Entries.{below_all, by_order, find, is_sorted, put}}
+use Rattle.std.proofs.Common.{◌≡◌, ℕ, Bool, true, false, cond, T, List, [], ◌∷◌, filter, map, refl}
+use Rattle.std.{proofs.Common.{sym, ap, ◌∙◌, subst, arith}, specs.Prelude.{None, Some, is_some}}
+use Rattle.std.specs.{Prelude.if◌then◌else◌, List.list_any, Ordering.{eq_by_cmp, is_eq}}
+use Rattle.std.specs.FinMap.{contains_key-keys, entries-insert, entries_sorted, get-entries}
+use Rattle.std.specs.FinMap.Entries.{below_all, by_order, find, is_sorted, put}
 use Rattle.std.specs.declared.cmp.Ordering.{Ordering, TheVariants.{Less, Equal, Greater}}
 use Rattle.std.proofs.lemmas.Bool.Decides.{nat_tests}
 use Rattle.do_base.specs.names.Names.{ObjectName}
 use Rattle.do_packet.specs.Met.{has_object, same_object}
+use Rattle.do_sorted.proofs.RowOrGap.{first, second, less}
 use Rattle.do_export.{specs.Counts.{Counts, entry_cmp}, proofs.Order.{entry_same, entry_total}}
 use Rattle.do_import.{specs.ByObject.object_of, proofs.RowCounts.entries-retain}
 use Rattle.do_machine.specs.{Lists.inserted, Objects.{joined, object_lt}}
@@ -36,21 +37,6 @@ held_where : (m : Counts) (q : ℕ × ℕ) → has_object (held_list m) (object_
     ≡ map_of.contains_key m q
 held_where m q = any-map object_of (same_object (object_of q)) (map_of.keys m)
     ∙ (λ i. list_any (λ k. object_tie q k i) (map_of.keys m)) ∙ sym (contains_key-keys m q)
-
--- of two facts that hold together the first
-first : (a b : Bool) → T (a && b) → T a
-first true b p = tt
-first false b p = p
-
--- and the second
-second : (a b : Bool) → T (a && b) → T b
-second true b p = p
-second false b p = absurd p
-
--- what comes before
-less : (r : Ordering) → T (is_lt r) → r ≡ Less
-less Less p = refl
-less _ p = absurd p
 
 module _ {V : Type 0} (k : ℕ × ℕ) (v : V) where
   -- a key below all keys is not found

@@ -3,13 +3,13 @@ use Rattle.std.proofs.Common.{◌≡◌, ℕ, Bool, true, false, cond, not, ◌&
 use Rattle.std.proofs.Common.{◌∷◌, map, Some, refl, sym, ap, ◌∙◌, subst}
 use Rattle.std.specs.{Bool.beq, List.list_any, Ordering.{nat_cmp, eq_by_cmp}}
 use Rattle.std.specs.FinMap.{find, is_sorted, Entries.below_all}
-use Rattle.do_sorted.specs.Rows.{without}
+use Rattle.do_sorted.{specs.Rows.without, proofs.RowOrGap.{first, second}}
 use Rattle.do_behave.specs.declared.invocation.Waited.{Waited}
 use Rattle.do_machine.specs.declared.node.LateCall.{LateCall}
 use Rattle.do_machine.specs.take.Awaiting.{AnsweredCall, is_answered, is_for_root, late_answered}
 use Rattle.do_stack.specs.LateCalls.{call_of, answers}
-use Rattle.do_stack.proofs.rows.NumbersCompared.{are_equal, first, first_false, is_below, no_tie}
-use Rattle.do_stack.proofs.rows.NumbersCompared.{second, second_false, tie_is, unequal}
+use Rattle.do_stack.proofs.rows.NumbersCompared.{are_equal, first_false, is_below, no_tie}
+use Rattle.do_stack.proofs.rows.NumbersCompared.{second_false, tie_is, unequal}
 use Rattle.do_stack.proofs.rows.RisingRows.{LateRows, without_above}
 
 module _ (k : AnsweredCall) where

@@ -4,12 +4,12 @@ use Rattle.std.specs.{Ordering.nat_cmp, FinMap.{put, is_sorted, Entries.{below_a
 use Rattle.std.specs.declared.cmp.Ordering.{Ordering, TheVariants.{Less, Equal, Greater}}
 use Rattle.do_behave.specs.declared.invocation.Waited.{Waited}
 use Rattle.do_machine.specs.{Lists.inserted, ends.TimeOut.late_lt}
+use Rattle.do_sorted.proofs.RowOrGap.{both, first, second}
 use Rattle.do_stack.specs.LateCalls.{call_of, others, kept}
-use Rattle.do_stack.proofs.rows.NumbersCompared.{are_equal, below_is, both, equal_is, first}
-use Rattle.do_stack.proofs.rows.NumbersCompared.{greater_is, is_before, is_below, less_is}
-use Rattle.do_stack.proofs.rows.NumbersCompared.{lower_unequal, not_before, second, unequal}
-use Rattle.do_stack.proofs.rows.Inserted.{inserted_first, inserted_later}
-use Rattle.do_stack.proofs.rows.RisingRows.{LateRows, below_lower}
+use Rattle.do_stack.proofs.rows.NumbersCompared.{are_equal, below_is, equal_is, greater_is}
+use Rattle.do_stack.proofs.rows.NumbersCompared.{is_before, is_below, less_is, lower_unequal}
+use Rattle.do_stack.proofs.rows.{NumbersCompared.{not_before, unequal}, Inserted.inserted_first}
+use Rattle.do_stack.proofs.rows.{Inserted.inserted_later, RisingRows.{LateRows, below_lower}}
 
 module _ (n : ℕ) where
   -- none of the calls of higher numbers has this one

@@ -1,24 +1,8 @@
--- How numbers compare, and what two facts say together.
-use Rattle.std.proofs.Common.{◌≡◌, ℕ, suc, ◌<◌, ◌≤◌, Bool, true, false, ◌&&◌, ◌||◌, ◌==◌, T, refl}
-use Rattle.std.proofs.Common.{subst, arith}
-use Rattle.std.specs.{Prelude.nat_lt, Ordering.{nat_cmp, is_lt, eq_by_cmp}}
+-- How numbers compare, and what it says that neither of two facts holds.
+use Rattle.std.proofs.Common.{◌≡◌, ℕ, suc, ◌<◌, ◌≤◌, Bool, true, false, ◌||◌, ◌==◌, T, refl, subst}
+use Rattle.std.{proofs.Common.arith, specs.{Prelude.nat_lt, Ordering.{nat_cmp, is_lt, eq_by_cmp}}}
 use Rattle.std.proofs.lemmas.Bool.{ltb-false, ltb-true, Decides.nat_tests}
 use Rattle.std.specs.declared.cmp.Ordering.TheVariants.{Less, Equal, Greater}
-
--- of two facts that hold together the first
-pub first : (a b : Bool) → T (a && b) → T a
-first true b p = tt
-first false b p = p
-
--- and the second
-pub second : (a b : Bool) → T (a && b) → T b
-second true b p = p
-second false b p = absurd p
-
--- two facts hold together
-pub both : (a b : Bool) → T a → T b → T (a && b)
-both true b p q = q
-both false b p q = p
 
 -- of two facts of which neither holds the first does not
 pub first_false : (a b : Bool) → (a || b) ≡ false → a ≡ false

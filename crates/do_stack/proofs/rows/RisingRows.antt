@@ -1,9 +1,9 @@
 -- Rows of late calls by rising number.
 use Rattle.std.proofs.Common.{◌≡◌, ℕ, ◌<◌, cond, not, T, List, [], ◌∷◌, refl, ap, ◌∙◌, arith}
 use Rattle.std.specs.{Ordering.nat_cmp, FinMap.Entries.below_all}
-use Rattle.do_sorted.specs.Rows.{without}
+use Rattle.do_sorted.{specs.Rows.without, proofs.RowOrGap.{both, first, second}}
 use Rattle.do_behave.specs.declared.invocation.Waited.{Waited}
-use Rattle.do_stack.proofs.rows.NumbersCompared.{apart, below_is, both, first, is_below, second}
+use Rattle.do_stack.proofs.rows.NumbersCompared.{apart, below_is, is_below}
 
 -- what is kept under each number
 abbrev pub LateRows : Type 0

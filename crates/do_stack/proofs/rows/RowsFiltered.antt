@@ -3,8 +3,8 @@ use Rattle.std.proofs.Common.{◌≡◌, ℕ, Bool, true, false, cond, not, ◌=
 use Rattle.std.proofs.Common.{refl, ap}
 use Rattle.std.specs.{Ordering.nat_cmp, FinMap.{is_sorted, Entries.below_all}}
 use Rattle.do_behave.specs.declared.invocation.Waited.{Waited}
-use Rattle.do_stack.specs.LateCalls.{call_of}
-use Rattle.do_stack.proofs.rows.{NumbersCompared.{both, first, second}, RisingRows.LateRows}
+use Rattle.do_sorted.proofs.RowOrGap.{both, first, second}
+use Rattle.do_stack.{specs.LateCalls.call_of, proofs.rows.RisingRows.LateRows}
 
 -- to keep the rows of other peers is to keep the calls to them
 pub others_stay : (peer : ℕ) (rows : LateRows)
