@@ -5,4 +5,5 @@ pub mod Exceptions
 pub mod Frames
 pub mod Payloads
 pub mod Streams
+pub mod Unread
 pub mod Pieces

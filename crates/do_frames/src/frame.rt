@@ -1,5 +1,5 @@
 //! What nodes send one another.
-use bytes::Bytes;
+use crate::unread::Payload;
 use do_base::{Exc, Items, Text, Token};
 use do_class::Packet;
 
@@ -70,14 +70,13 @@ pub enum Frame {
 
 /// A frame whose payload is not read yet: the number of its kind, and the payload's bytes.
 ///
-/// The type itself keeps no limit on either. A payload that a `Reader` gave shares the reader's
-/// bytes.
+/// The type itself keeps no limit on either. The payload shares the bytes that it came in.
 #[derive(Debug, Drop)]
 pub struct RawFrame {
     /// The number of the kind, 1 to 12 for a frame that has one.
     pub kind: u8,
     /// The bytes of the payload.
-    pub payload: Bytes,
+    pub payload: Payload,
 }
 
 /// Frames whose payloads are not read yet, in order.

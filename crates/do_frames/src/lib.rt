@@ -31,6 +31,7 @@ mod frame;
 mod kind;
 mod payload;
 mod stream;
+mod unread;
 mod writer;
 
 pub use fault::{RawFault, StreamFault};
@@ -38,4 +39,5 @@ pub use frame::{Frame, RawFrame, RawFrames};
 pub use payload::front::read_raw;
 pub use stream::pieces::frames_of;
 pub use stream::reader::Reader;
+pub use unread::Payload;
 pub use writer::{write, write_within};

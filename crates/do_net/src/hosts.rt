@@ -13,7 +13,7 @@ ghost use Rattle.do_net.specs.{Hosts.{net_handed, net_is_open, net_of}, Lanes.ca
 use crate::by_port::Hosts;
 use crate::host::Host;
 use crate::hosted::Hosted;
-use crate::lane::{Kept, taken_frame};
+use crate::lane::{Kept, frame_in};
 use do_base::{Event, NodeId, Reserved, ShownList};
 use do_machine::{NodeLines, Outcome, Snapshot};
 use do_network::{Input, Wire};
@@ -90,12 +90,12 @@ pub(crate) fn is_open<S: Hosted>(hosts: &Hosts<S>, port: NodeId, peer: NodeId) -
 }
 
 /// What a node is handed of what stands in a lane from another.
-fn input_of(from: NodeId, kept: Kept) -> Result<Input, AllocError>
-    ensures { IfOk result (λ input. input ≡ input_of from (carried_of kept)) }
+fn input_of(from: NodeId, kept: Kept) -> Input
+    ensures { result ≡ input_of from (carried_of kept) }
 {
     match kept {
-        Kept::Frame(bytes) => Ok(Input::Frame(from, taken_frame(bytes)?)),
-        Kept::Loss => Ok(Input::Ended(from)),
+        Kept::Frame(bytes) => Input::Frame(from, frame_in(bytes)),
+        Kept::Loss => Input::Ended(from),
     }
 }
 
@@ -130,7 +130,7 @@ fn hand_kept<S: Hosted>(
         (input_of from (carried_of kept))) (HandsSpelled table act
         (net_of (hostings S.seen hosts.old)) port (input_of from (carried_of kept)))) }
 {
-    let input = input_of(from, kept)?;
+    let input = input_of(from, kept);
     hand(hosts, port, &input, wires)
 }
 

@@ -4,9 +4,8 @@ ghost use Rattle.std.specs.{Prelude.{nat_lt, not, option_map, slice_get}, Option
 ghost use Rattle.do_net.specs.Lanes.{Advances, carried_of, frame_in, greets, laden};
 ghost use Rattle.do_network.specs.Step.{with_loss};
 
-use bytes::Bytes;
 use do_base::{NodeId, Text};
-use do_frames::RawFrame;
+use do_frames::{Payload, RawFrame};
 use do_ported::Ported;
 use std::alloc::{AllocError, Global};
 use std::collections::VecDeque;
@@ -45,24 +44,18 @@ impl Model for Lane {
     } };
 }
 
-/// The frame that bytes are: a kind, four bytes of a length, and a payload, which is copied.
-pub fn frame_in(alloc: Global, bytes: &Text) -> Result<RawFrame, AllocError>
-    ensures { IfOk result (λ frame. frame ≡ frame_in bytes.now) }
+/// The frame that bytes are: a kind, four bytes of a length, and a payload, which shares them.
+pub fn frame_in(bytes: Text) -> RawFrame
+    ensures { result ≡ frame_in bytes }
 {
-    taken_frame(Text::from_slice(alloc, bytes.as_slice())?)
-}
-
-/// The same of bytes that are given away. They are copied only where they are shared.
-pub(crate) fn taken_frame(bytes: Text) -> Result<RawFrame, AllocError>
-    ensures { IfOk result (λ frame. frame ≡ frame_in bytes) }
-{
-    let mut payload = Bytes::from_vec(bytes.into_vec()?)?;
-    let kind = match payload.as_slice().first() {
+    let kind = match bytes.as_slice().first() {
         Some(kind) => *kind,
         None => 0,
     };
-    payload.advance(payload.len().min(5));
-    Ok(RawFrame { kind, payload })
+    RawFrame {
+        kind,
+        payload: Payload::behind(bytes, 5),
+    }
 }
 
 /// Whether bytes begin as a greeting does.

@@ -30,7 +30,7 @@ pub(crate) fn read(
     ensures known { AreKnown (length table.now) names.new }
 {
     let alloc = bytes.allocator();
-    let raw = frame_in(alloc, bytes)?;
+    let raw = frame_in(bytes.clone()?);
     match read_by(alloc, table, way.from, way.to, names, &raw) {
         Ok(frame) => Ok(Some(frame)),
         Err(RawFault::BadFrame(_)) => Ok(None),

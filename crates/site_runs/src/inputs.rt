@@ -5,7 +5,7 @@
 
 use bytes::Bytes;
 use do_base::NodeId;
-use do_frames::RawFrame;
+use do_frames::{Payload, RawFrame};
 use do_grammar::{dec_of, is_text};
 use do_network::Input;
 use do_sched::{Line, Version, line_from, node_of, nodes_of, word_in};
@@ -32,7 +32,7 @@ fn frame_of(alloc: Global, words: &[u8]) -> Result<Input, Fail> {
     let Some((peer, kind, digits)) = header_of(words) else {
         return Err("no frame".into());
     };
-    let payload = bytes_of(alloc, digits)?;
+    let payload = Payload::cut(bytes_of(alloc, digits)?);
     Ok(Input::Frame(peer, RawFrame { kind, payload }))
 }
 

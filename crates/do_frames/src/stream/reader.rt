@@ -7,6 +7,7 @@ ghost use Rattle.do_frames.specs.Places.{IsPlaced};
 use crate::fault::StreamFault;
 use crate::frame::RawFrame;
 use crate::stream::front::{FramePlace, place_of};
+use crate::unread::Payload;
 use bytes::BytesMut;
 use do_grammar::ReadFault;
 use std::alloc::{AllocError, Global};
@@ -94,13 +95,13 @@ impl Reader {
         ensures ok { IfOk result (λ f. TakesFrame self.old f self.new) }
         ensures err { OnErr result (self.new ≡ self.old) }
     {
-        let mut payload = self.bytes.freeze_to(place.ends)?;
-        payload.advance(place.begins);
+        let mut cut = self.bytes.freeze_to(place.ends)?;
+        cut.advance(place.begins);
         self.greeted = true;
         self.place = self.place.wrapping_add(place.ends as u64);
         Ok(RawFrame {
             kind: place.kind,
-            payload,
+            payload: Payload::cut(cut),
         })
     }
 

@@ -44,7 +44,7 @@ fn code_of(answer: Result<Option<RawFrame>, StreamFault>) -> u64 {
         Ok(None) => 0,
         Ok(Some(frame)) => 1_000u64
             .wrapping_mul(u64::from(frame.kind))
-            .wrapping_add(frame.payload.len() as u64),
+            .wrapping_add(frame.payload.as_slice().len() as u64),
         Err(StreamFault::BadKind(place)) => place.wrapping_add(100_000),
         Err(StreamFault::BadLength(place)) => place.wrapping_add(200_000),
         Err(StreamFault::BadVersion(version)) => version.wrapping_add(300_000),

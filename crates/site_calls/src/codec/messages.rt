@@ -3,7 +3,6 @@
 use crate::codec::changed::{Payload, Stream, sum_of_changes};
 use crate::codec::loads::{empty, put_object, put_texts};
 use crate::codec::reading::Reading;
-use bytes::Bytes;
 use call_rows::{
     Part, count_at, count_value, digits, no_call, number_at, text_at, text_value, value_at,
     word_with,
@@ -11,7 +10,7 @@ use call_rows::{
 use do_base::{Text, Value, Values};
 use do_class::{self as class, Packet};
 use do_coder::{Recent, encode};
-use do_frames::{Frame, RawFault, RawFrame, write, write_within};
+use do_frames::{Frame, Payload, RawFault, RawFrame, write, write_within};
 use do_grammar::{CodeFault, is_text};
 use do_native_acts::as_number;
 use std::alloc::{AllocError, Global};
@@ -58,7 +57,7 @@ impl MessageCalls {
 
     /// Reads a payload. Nil where it is one, and else the first byte with which none goes on.
     fn read(&mut self, kind: u8, payload: &Text) -> Result<Value, Fail> {
-        let payload = Bytes::copy_from_slice(self.alloc, payload.as_slice())?;
+        let payload = Payload::behind(payload.clone()?, 0);
         match self.reading.frame(&RawFrame { kind, payload }) {
             Ok(frame) => {
                 self.frame = frame;

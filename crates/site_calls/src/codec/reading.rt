@@ -6,7 +6,7 @@ use bytes::Bytes;
 use do_base::{NodeId, Text};
 use do_class::{ClassTable, Methods, Packet, Slot, Slots};
 use do_coder::{Recent, decode};
-use do_frames::{Frame, RawFault, RawFrame, read_raw};
+use do_frames::{Frame, Payload, RawFault, RawFrame, read_raw};
 use do_grammar::CodeFault;
 use std::alloc::{AllocError, Global};
 use std::test::Fail;
@@ -88,7 +88,7 @@ impl Reading {
     /// The answer to a payload of a kind, of which nothing is kept: the place of a fault, or a
     /// million and how many objects would be known.
     pub(crate) fn answer(&self, kind: u8, payload: &[u8]) -> Result<u64, Fail> {
-        let payload = Bytes::copy_from_slice(self.alloc, payload)?;
+        let payload = Payload::cut(Bytes::copy_from_slice(self.alloc, payload)?);
         let raw = RawFrame { kind, payload };
         let mut known = self.known.copy()?;
         match read_raw(

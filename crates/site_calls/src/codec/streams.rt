@@ -18,7 +18,7 @@ pub(crate) struct StreamCalls {
 fn frame_value(alloc: Global, frame: &RawFrame) -> Result<Value, Fail> {
     let mut values = Values::new(alloc);
     values.push(Value::Num(i64::from(frame.kind)))?;
-    values.push(count_value(frame.payload.len())?)?;
+    values.push(count_value(frame.payload.as_slice().len())?)?;
     Ok(Value::List(values))
 }
 
