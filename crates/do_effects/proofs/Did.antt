@@ -114,8 +114,8 @@ pub bounded_node : (needs : Needs) (before after : Core) (m : Node) →
     length m.held ≤ length before.part.own.node.held →
     length m.asked ≤ length before.part.own.node.asked →
     before.streams.room ≤ after.streams.room + needs.waiting →
-    after.streams.fixed ≡ before.streams.fixed → IsBounded needs before after
-bounded_node needs before after m own heap held asked waiting fixed =
+    after.streams.classes ≡ before.streams.classes → IsBounded needs before after
+bounded_node needs before after m own heap held asked waiting classes =
     let h : length after.part.own.node.heap ≡ length m.heap =
     ap (λ (p : Own). length p.node.heap) own in
     let k : length after.part.own.node.held ≡ length m.held =
@@ -127,7 +127,7 @@ bounded_node needs before after m own heap held asked waiting fixed =
       stored = omega arith;
       held = omega arith;
       asked = omega arith;
-      fixed = fixed;
+      classes = classes;
     }
 
 -- a core did what an effect is of each run of its top invocation, and is tidy and within bounds
@@ -153,5 +153,5 @@ node_did e needs before after m tidy kept same own streams heap = record {
       let asked = ap (λ ws. length ws) kept.asked in
       let room = ap (λ (s : Streamed). s.room) streams in
       bounded_node needs before after m own heap (omega arith) (omega arith) (omega arith)
-      (ap (λ (s : Streamed). s.fixed) streams);
+      (ap (λ (s : Streamed). s.classes) streams);
 }

@@ -89,9 +89,9 @@ room_to_name item c r = record {
 pub sent_within : (to : ℕ) (item : Item) (was now : Core) →
     counted was.part.own (sends to item was.part.own.node) ≡ now.part.own →
     PartKeepsRoom (to_name (names_counted item)) was.part.room now.part.room →
-    was.streams.room ≤ now.streams.room + 1 → now.streams.fixed ≡ was.streams.fixed →
+    was.streams.room ≤ now.streams.room + 1 → now.streams.classes ≡ was.streams.classes →
     IsWithin (to_send item) was now
-sent_within to item was now counts keeps room fixed =
+sent_within to item was now counts keeps room classes =
     let one = sends_one to item was.part.own.node in
     let heap = ap (λ (p : Own). length p.node.heap) (sym counts) ∙ ap (λ xs. length xs) one.heap in
     let held = ap (λ (p : Own). length p.node.held) (sym counts) ∙ ap (λ xs. length xs) one.held in
@@ -108,5 +108,5 @@ sent_within to item was now counts keeps room fixed =
       stored = omega (arith, heap);
       held = omega (arith, held);
       asked = omega (arith, asked);
-      fixed = fixed;
+      classes = classes;
     }

@@ -12,7 +12,7 @@ pub record IsTelling (done whole : ℕ) (was now : Core) : Type 0 where
   pub few : done ≤ whole
   pub room : was.streams.room ≤ now.streams.room + done
   pub more : whole ≤ now.streams.room + done
-  pub fixed : now.streams.fixed ≡ was.streams.fixed
+  pub classes : now.streams.classes ≡ was.streams.classes
 
 -- none was told yet
 pub telling_begins : (whole : ℕ) (c : Core) → whole ≤ c.streams.room → IsTelling 0 whole c c
@@ -21,7 +21,7 @@ telling_begins whole c room = record {
   few = omega arith;
   room = omega arith;
   more = omega (arith, room);
-  fixed = refl;
+  classes = refl;
 }
 
 -- there is room to tell of the next
@@ -32,8 +32,8 @@ telling_room done whole was now t less = let m = t.more in omega (arith, m, less
 -- one more was told
 pub telling_next : (done whole : ℕ) (was now later : Core) → IsTelling done whole was now →
     done < whole → later.part ≡ now.part → now.streams.room ≤ later.streams.room + 1 →
-    later.streams.fixed ≡ now.streams.fixed → IsTelling (done + 1) whole was later
-telling_next done whole was now later t less part room fixed =
+    later.streams.classes ≡ now.streams.classes → IsTelling (done + 1) whole was later
+telling_next done whole was now later t less part room classes =
     let r = t.room in
     let m = t.more in
     record {
@@ -41,7 +41,7 @@ telling_next done whole was now later t less part room fixed =
       few = omega (arith, less);
       room = omega (arith, r, room);
       more = omega (arith, m, room);
-      fixed = fixed ∙ t.fixed;
+      classes = classes ∙ t.classes;
     }
 
 -- all were told

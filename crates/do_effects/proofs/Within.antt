@@ -6,9 +6,9 @@ use Rattle.do_effects.specs.{Room.{IsWithin, to_tell}, Taking.to_gain, declared.
 
 -- a core whose streams alone changed took no more than what was told
 pub told_within : (many : ℕ) (c : Core) (later : Streamed) →
-    c.streams.room ≤ later.room + many → later.fixed ≡ c.streams.fixed →
+    c.streams.room ≤ later.room + many → later.classes ≡ c.streams.classes →
     IsWithin (to_tell many) c (record { part = c.part; streams = later })
-told_within many c later room fixed = record {
+told_within many c later room classes = record {
   part = record {
     objects = omega arith;
     invocations = omega arith;
@@ -19,7 +19,7 @@ told_within many c later room fixed = record {
   stored = omega arith;
   held = omega arith;
   asked = omega arith;
-  fixed = fixed;
+  classes = classes;
 }
 
 -- names that were received behind copies and names took no more than both did
@@ -40,5 +40,5 @@ names_within done more told many waiting copies a b c all lines first second = r
   stored = (let f = first.stored in let s = second.stored in omega (arith, f, s));
   held = (let f = first.held in let s = second.held in omega (arith, f, s, all));
   asked = (let f = first.asked in let s = second.asked in omega (arith, f, s, all));
-  fixed = second.fixed ∙ first.fixed;
+  classes = second.classes ∙ first.classes;
 }

@@ -63,4 +63,4 @@ pub record IsWithin (needs : Needs) (before after : Core) : Type 0 where
       length after.part.own.node.heap ≤ length before.part.own.node.heap + needs.objects
   pub held : length after.part.own.node.held ≤ length before.part.own.node.held + needs.names
   pub asked : length after.part.own.node.asked ≤ length before.part.own.node.asked + needs.names
-  pub fixed : after.streams.fixed ≡ before.streams.fixed
+  pub classes : after.streams.classes ≡ before.streams.classes

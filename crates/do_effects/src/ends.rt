@@ -24,7 +24,7 @@ impl Core {
         ensures shown { self.new.streams.shown ≡ self.old.streams.shown }
         ensures room { self.old.streams.room ≤ self.new.streams.room + length settled.now }
         ensures bare { self.old.streams.bare ≤ self.new.streams.bare + length settled.now }
-        ensures fixed { self.new.streams.fixed ≡ self.old.streams.fixed }
+        ensures classes { self.new.streams.classes ≡ self.old.streams.classes }
     {
         for token in settled {
             self.settle(*token);
@@ -45,7 +45,7 @@ impl Core {
         ensures room { self.old.streams.room
             ≤ self.new.streams.room + (length self.old.part.own.node.asked + 1) }
         ensures pays { Pays self.old self.new }
-        ensures fixed { self.new.streams.fixed ≡ self.old.streams.fixed }
+        ensures classes { self.new.streams.classes ≡ self.old.streams.classes }
         ensures settled_room { vec_capacity settled.new ≡ vec_capacity settled.old }
     {
         settled.clear();
@@ -63,7 +63,7 @@ impl Core {
         ensures out { outbox self.new.streams ≡ outbox self.old.streams }
         ensures room { self.old.streams.room ≤ self.new.streams.room + length freed.now }
         ensures bare { self.new.streams.bare ≡ self.old.streams.bare }
-        ensures fixed { self.new.streams.fixed ≡ self.old.streams.fixed }
+        ensures classes { self.new.streams.classes ≡ self.old.streams.classes }
     {
         let node = self.part.port();
         for freed_serial in freed {
@@ -80,7 +80,7 @@ impl Core {
             ≡ fold sending (outbox self.old.streams) (map given_up left.now) }
         ensures shown { self.new.streams.shown ≡ self.old.streams.shown }
         ensures bare { self.old.streams.bare ≤ self.new.streams.bare + length left.now }
-        ensures fixed { self.new.streams.fixed ≡ self.old.streams.fixed }
+        ensures classes { self.new.streams.classes ≡ self.old.streams.classes }
     {
         for one in left {
             let (oid, amount) = *one;
@@ -99,7 +99,7 @@ impl Core {
             ≤ self.old.streams.room }
         ensures moved { doing self.new ≡ moved (doing self.old) (cleared self.old.part.own) }
         ensures tidy { IsTidy self.new.part.own }
-        ensures fixed { self.new.streams.fixed ≡ self.old.streams.fixed }
+        ensures classes { self.new.streams.classes ≡ self.old.streams.classes }
         ensures fewer { HasNoMore self.old.part.own.node self.new.part.own.node }
         ensures pays { Pays self.old self.new }
         ensures freed_room { vec_capacity freed.new ≡ vec_capacity freed.old }

@@ -10,7 +10,7 @@ use Rattle.do_site.specs.declared.work.Work.{Work}
 pub record IsKept (table : List Class) (w : Work) : Type 0 where
   pub tidy : IsTidy w.core.part.own
   pub apart : is_open w.core.part.own.node w.core.part.own.node.port ≡ false
-  pub classes : w.core.streams.fixed.classes ≡ length table
+  pub classes : w.core.streams.classes ≡ length table
 
 -- a step keeps it, by any classes
 abbrev pub StaysKept : Work → Work → Type 0
@@ -18,4 +18,4 @@ StaysKept before after = (table : List Class) → IsKept table before → IsKept
 
 -- the classes by which links read are the same
 pub record StaysBut (before after : Work) : Type 0 where
-  pub classes : after.core.streams.fixed.classes ≡ before.core.streams.fixed.classes
+  pub classes : after.core.streams.classes ≡ before.core.streams.classes

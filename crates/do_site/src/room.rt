@@ -42,7 +42,7 @@ fn waiting_with(told: &Told, needs: &Needs) -> Option<usize>
 /// then. Room that was there stays, and so a close can still be done.
 pub fn make_room(core: &mut Core, told: &mut Told, needs: &Needs) -> Result<(), AllocError>
     ensures same { IsSame core.old core.new }
-    ensures classes { core.new.streams.fixed.classes ≡ core.old.streams.fixed.classes }
+    ensures classes { core.new.streams.classes ≡ core.old.streams.classes }
     ensures places { HasPlaces core.old told.old → HasPlaces core.new told.new }
     ensures room { OnOk result (HasPlace needs.now core.new told.new) }
 {

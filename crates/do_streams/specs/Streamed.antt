@@ -5,20 +5,16 @@ use Rattle.do_network.specs.{Frames.Posted, Links.{Link, Outbox, Sending, all_se
 use Rattle.do_streams.specs.{Pieces.piece_in, declared.end.{End.End, Outgoing.Outgoing}}
 use Rattle.do_streams.specs.{declared.spelled.Spelled.Spelled, Waits.Waits}
 
--- by how many classes frames are read
-pub record Fixed : Type 0 where
-  pub classes : ℕ
-
 -- the links of a site as they are behind all frames that wait, what is sent of these frames, the
 -- lines that wait, how many more of either fit with no memory taken, in how many places there is no
--- frame, and what no step changes
+-- frame, and by how many classes frames are read, which no step changes
 pub record Streamed : Type 0 where
   pub links : List Link
   pub frames : List Sending
   pub shown : List Shown
   pub room : ℕ
   pub bare : ℕ
-  pub fixed : Fixed
+  pub classes : ℕ
 
 -- the link of an end, behind the frames that were fetched
 abbrev pub link_of : End → Link
@@ -51,7 +47,7 @@ streamed_of ends spelled waits classes =
       shown = waits.shown;
       room = waits.room;
       bare = waits.bare;
-      fixed = record { classes = classes };
+      classes = classes;
     }
 
 -- the links of a site, and what waits for its peers

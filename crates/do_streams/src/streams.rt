@@ -79,7 +79,7 @@ impl Streams {
           shown = [];
           room = 0;
           bare = 0;
-          fixed = record { classes = classes };
+          classes = classes;
         }) }
     {
         let ends = opening_ends(alloc, peers)?;
@@ -118,7 +118,7 @@ impl Streams {
         ensures shown { self.new.shown ≡ self.old.shown }
         ensures room { self.old.room ≤ self.new.room + 1 }
         ensures bare { self.old.bare ≤ self.new.bare + 1 }
-        ensures fixed { self.new.fixed ≡ self.old.fixed }
+        ensures classes { self.new.classes ≡ self.old.classes }
     {
         if !self.ports.has(to) {
             return;
@@ -133,7 +133,7 @@ impl Streams {
         ensures sent { outbox self.new ≡ outbox self.old }
         ensures room { self.old.room ≤ self.new.room + 1 }
         ensures bare { self.new.bare ≡ self.old.bare }
-        ensures fixed { self.new.fixed ≡ self.old.fixed }
+        ensures classes { self.new.classes ≡ self.old.classes }
     {
         self.waiting.show(line);
     }
@@ -159,7 +159,7 @@ impl Streams {
         ensures shown { self.new.shown ≡ self.old.shown }
         ensures room { self.old.room ≤ self.new.room }
         ensures bare { self.old.bare ≤ self.new.bare }
-        ensures fixed { self.new.fixed ≡ self.old.fixed }
+        ensures classes { self.new.classes ≡ self.old.classes }
         ensures err { OnErr result
             ((self.new.frames ≡ self.old.frames) × (bytes.new ≡ bytes.old)) }
     {
@@ -191,7 +191,7 @@ impl Streams {
         ensures sent { outbox self.new ≡ outbox self.old }
         ensures room { self.old.room ≤ self.new.room }
         ensures bare { self.new.bare ≡ self.old.bare }
-        ensures fixed { self.new.fixed ≡ self.old.fixed }
+        ensures classes { self.new.classes ≡ self.old.classes }
     {
         self.waiting.take_line()
     }

@@ -38,7 +38,7 @@ impl Work {
         requires tidy { IsTidy self.old.core.part.own }
         requires places { CanSettle self.old }
         requires open { is_open self.old.core.part.own.node from ≡ true }
-        requires known { IfSome names (λ ns. AreKnown self.old.core.streams.fixed.classes ns) }
+        requires known { IfSome names (λ ns. AreKnown self.old.core.streams.classes ns) }
         ensures ok { OnOk result ((f : Framed)
             → IsReadBy (names_of self.old.core.streams.links from) f names
             → Makes (with_reading from f (doing self.old.core)) self.new.core
@@ -66,7 +66,7 @@ impl Work {
         requires tidy { IsTidy self.old.core.part.own }
         requires places { CanSettle self.old }
         requires open { is_open self.old.core.part.own.node from ≡ true }
-        requires known { IfSome names (λ ns. AreKnown self.old.core.streams.fixed.classes ns) }
+        requires known { IfSome names (λ ns. AreKnown self.old.core.streams.classes ns) }
         requires few { amount ≤ count_of self.old.core.part.own.counts from serial }
         ensures ok { OnOk result ((table : List Class) (f : Framed)
             → IsReadBy (names_of self.old.core.streams.links from) f names

@@ -39,7 +39,7 @@ impl Work {
         requires judged { ruling
             ≡ ruling_on (site_context table.now self.old.core.part.own) from item.now }
         requires line { line ≡ item_line from self.old.core.part.own.node.port item.now }
-        requires known { IfSome names (λ ns. AreKnown self.old.core.streams.fixed.classes ns) }
+        requires known { IfSome names (λ ns. AreKnown self.old.core.streams.classes ns) }
         ensures ok { OnOk result ((f : Framed)
             → IsReadBy (names_of self.old.core.streams.links from) f names
             → Makes (with_reading from f (doing self.old.core)) self.new.core
@@ -64,7 +64,7 @@ impl Work {
         requires kept { IsKept table.now self.old }
         requires places { CanSettle self.old }
         requires open { is_open self.old.core.part.own.node from ≡ true }
-        requires known { IfSome names (λ ns. AreKnown self.old.core.streams.fixed.classes ns) }
+        requires known { IfSome names (λ ns. AreKnown self.old.core.streams.classes ns) }
         ensures ok { OnOk result ((f : Framed)
             → IsReadBy (names_of self.old.core.streams.links from) f names
             → Makes (with_reading from f (doing self.old.core)) self.new.core
@@ -89,7 +89,7 @@ impl Work {
         requires kept { IsKept table.now self.old }
         requires places { CanSettle self.old }
         requires open { is_open self.old.core.part.own.node from ≡ true }
-        requires known { IfSome names (λ ns. AreKnown self.old.core.streams.fixed.classes ns) }
+        requires known { IfSome names (λ ns. AreKnown self.old.core.streams.classes ns) }
         ensures ok { OnOk result ((f : Framed)
             → IsReadBy (names_of self.old.core.streams.links from) f names
             → Makes (with_reading from f (doing self.old.core)) self.new.core

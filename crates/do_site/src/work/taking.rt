@@ -54,7 +54,7 @@ impl Work {
             ≡ ruling_on (site_context table.now self.old.core.part.own) from item.now }
         requires line { line
             ≡ Shown.Took (item_line from self.old.core.part.own.node.port item.now) }
-        requires known { IfSome names (λ ns. AreKnown self.old.core.streams.fixed.classes ns) }
+        requires known { IfSome names (λ ns. AreKnown self.old.core.streams.classes ns) }
         ensures ok { OnOk result ((f : Framed)
             → IsReadBy (names_of self.old.core.streams.links from) f names
             → Makes (with_reading from f (doing self.old.core)) self.new.core
@@ -122,7 +122,7 @@ impl Work {
         requires kept { IsKept table.now self.old }
         requires places { CanSettle self.old }
         requires open { is_open self.old.core.part.own.node from ≡ true }
-        requires known { IfSome names (λ ns. AreKnown self.old.core.streams.fixed.classes ns) }
+        requires known { IfSome names (λ ns. AreKnown self.old.core.streams.classes ns) }
         ensures ok { OnOk result ((f : Framed)
             → IsReadBy (names_of self.old.core.streams.links from) f names
             → Makes (with_reading from f (doing self.old.core)) self.new.core
@@ -156,7 +156,7 @@ impl Work {
         requires places { CanSettle self.old }
         requires open { is_open self.old.core.part.own.node from ≡ true }
         requires read { IsReadBy (names_of self.old.core.streams.links from) frame names }
-        requires known { IfSome names (λ ns. AreKnown self.old.core.streams.fixed.classes ns) }
+        requires known { IfSome names (λ ns. AreKnown self.old.core.streams.classes ns) }
         requires may { peer_fault self.old.core.part.own from frame ≡ None }
         ensures ok { OnOk result (Makes (with_reading from frame (doing self.old.core))
             self.new.core (frame_move table.now from frame self.old.core.part.own)) }
@@ -189,7 +189,7 @@ impl Work {
         requires read { IsReadBy (names_of self.old.core.streams.links from) reading.frame
             reading.names }
         requires known { IfSome reading.names (λ ns.
-            AreKnown self.old.core.streams.fixed.classes ns) }
+            AreKnown self.old.core.streams.classes ns) }
         ensures done { (act : Acting) → Handles (seen_of table.now act self.old.core)
             (seen_of table.now act self.new.core) result
             (Some (takes_frame table.now
@@ -221,7 +221,7 @@ impl Work {
             (read_frame table.now from self.old.core.part.own.node.port
             (names_of self.old.core.streams.links from) raw.now) result }
         ensures known { IfOk result (λ r. IfSome r.names (λ ns.
-            AreKnown self.old.core.streams.fixed.classes ns)) }
+            AreKnown self.old.core.streams.classes ns)) }
         ensures kind { IfOk result (λ r. kind_number (kind_of r.frame) ≡ raw.now.kind) }
         ensures no_memory { numbers_alone raw.now.kind ≡ true
             → IfErr result (λ fault. fault ≢ Memory) }

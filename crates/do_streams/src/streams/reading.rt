@@ -106,11 +106,11 @@ impl Streams {
         to: NodeId,
         raw: &RawFrame,
     ) -> Result<Reading, RawFault>
-        requires { self.old.fixed.classes ≡ length table.now }
+        requires { self.old.classes ≡ length table.now }
         ensures read { IsReading (names_of self.old.links from)
             (read_frame table.now from to (names_of self.old.links from) raw.now) result }
         ensures known { IfOk result (λ r. IfSome r.names (λ names.
-            AreKnown self.old.fixed.classes names)) }
+            AreKnown self.old.classes names)) }
         ensures no_memory { numbers_alone raw.now.kind ≡ true
             → IfErr result (λ fault. fault ≢ Memory) }
         ensures same { self.new ≡ self.old }
@@ -127,7 +127,7 @@ impl Streams {
 
     /// Keeps the names of a frame of a peer that was read, for which no memory is taken.
     pub fn keep_read(&mut self, from: NodeId, names: Option<Recent>)
-        requires { IfSome names (λ later. AreKnown self.old.fixed.classes later) }
+        requires { IfSome names (λ later. AreKnown self.old.classes later) }
         ensures links { (frame : Frame) → IsReadBy (names_of self.old.links from) frame names
             → self.new.links ≡ change_link from (λ l. record l { read = after_frame l.read frame })
             self.old.links }
@@ -143,7 +143,7 @@ impl Streams {
     /// there is no link with it.
     pub fn names_read(&self, from: NodeId) -> Result<Recent, AllocError>
         ensures names { IfOk result (λ names. names ≡ names_of self.now.links from) }
-        ensures known { IfOk result (λ names. AreKnown self.now.fixed.classes names) }
+        ensures known { IfOk result (λ names. AreKnown self.now.classes names) }
     {
         names_in(&self.ports, &self.ends, from, self.classes)
     }

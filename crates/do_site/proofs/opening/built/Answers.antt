@@ -16,6 +16,6 @@ returns-clause-kept c =
       tidy = subst IsTidy (sym own) (opened_tidy (opening_node table ports seat));
       apart = subst (λ (p : Own). is_open p.node p.node.port ≡ false) (sym own)
           (opened_apart table ports seat);
-      classes = ap (λ (s : Streamed). s.fixed.classes) c.in_ok-streams.ensures
+      classes = ap (λ (s : Streamed). s.classes) c.in_ok-streams.ensures
           ∙ c.count.ensures.value;
     }

@@ -69,5 +69,5 @@ returns-clause-within c =
       stored = omega arith;
       held = omega arith;
       asked = omega arith;
-      fixed = within.fixed;
+      classes = within.classes;
     }

@@ -29,7 +29,7 @@ returns-clause-within c =
       stored = omega arith;
       held = omega arith;
       asked = omega arith;
-      fixed = c.close.ensures.fixed ∙ c.show.ensures.fixed;
+      classes = c.close.ensures.classes ∙ c.show.ensures.classes;
     }
 
 -- the line takes no place from frames

@@ -31,7 +31,7 @@ returns-in-Shows c =
           c.requires.tidy);
       within = bounded_node (delivery_needs c.args.delivery) old a (top_popped n)
           c.ends.ensures.own (omega arith) (omega arith) (omega arith) (omega arith)
-          c.show.ensures.fixed;
+          c.show.ensures.classes;
     }
 
 -- the top invocation is popped, and the one below it has the answer

@@ -34,7 +34,7 @@ returns-clause-within c =
     let b : Core = record { part = c.settle.new.self; streams = c.show.new.self } in
     bounded_node (taking_needs p.node c.args.item.now (rulings.EndsLend c.args.number))
     c.args.self.now b (with_settled c.args.from c.args.number p.node) c.settle.ensures.own
-    (omega arith) (omega arith) (omega arith) (omega arith) c.show.ensures.fixed
+    (omega arith) (omega arith) (omega arith) (omega arith) c.show.ensures.classes
 
 -- and no frame is sent
 pub returns-clause-pays : goal.returns-clause-pays

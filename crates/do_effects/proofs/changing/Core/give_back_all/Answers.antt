@@ -26,7 +26,7 @@ loop-one-preserved c =
       telling_next c.loop-one.one-index (length c.args.left.now) c.args.self.now c.loop-one.self
           (record { part = c.loop-one.self.part; streams = c.post.new.self })
           c.loop-one.invariant.0 c.loop-one-test.true refl c.post.ensures.room
-          c.post.ensures.fixed,
+          c.post.ensures.classes,
       posts_next (map given_up) c.args.left.now c.loop-one.one-index c.one-item.result
           (given_up c.one-item.result ∷ []) (outbox c.args.self.now.streams)
           (outbox c.loop-one.self.streams) (outbox c.post.new.self) c.loop-one-test.true

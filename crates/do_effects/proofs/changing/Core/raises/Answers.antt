@@ -37,4 +37,4 @@ returns-clause-within c =
     bounded_node (taking_needs p.node c.args.item.now (rulings.Raises c.args.call c.args.exc))
     c.args.self.now b (answered_with (call_of c.args.call) (Some (Raised c.args.exc)) p.node)
     c.answer.ensures.own (omega arith) (omega arith) (omega arith) (omega arith)
-    c.show.ensures.fixed
+    c.show.ensures.classes

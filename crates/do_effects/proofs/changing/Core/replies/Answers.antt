@@ -29,5 +29,5 @@ returns-clause-within c =
       stored = omega arith;
       held = omega arith;
       asked = omega arith;
-      fixed = within.fixed ∙ c.show.ensures.fixed;
+      classes = within.classes ∙ c.show.ensures.classes;
     }

@@ -36,4 +36,4 @@ returns-clause-within c =
     let a : Core = record { part = c.goes_to.new.part; streams = c.show.new.self } in
     bounded_node (plan_needs (Says c.args.value c.args.pc)) c.args.self.now a
     (top_changed (goes_to c.args.pc) n) c.goes_to.ensures.own (omega arith) (omega arith)
-    (omega arith) (omega arith) c.show.ensures.fixed
+    (omega arith) (omega arith) c.show.ensures.classes

@@ -47,4 +47,4 @@ returns-clause-within c =
     (record { part = c.name_item.new.part; streams = c.post.new.self })
     (sends_counted p c.args.to c.requires.tidy c.requires.open c.args.item c.requires.can
     ∙ sym c.name_item.ensures.own)
-    c.name_item.ensures.within c.post.ensures.room c.post.ensures.fixed
+    c.name_item.ensures.within c.post.ensures.room c.post.ensures.classes

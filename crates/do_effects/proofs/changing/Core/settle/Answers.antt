@@ -34,7 +34,7 @@ returns-clause-settled c = λ x.
 -- over an open end one thing is told
 pub returns-clause-within : goal.returns-clause-within
 returns-clause-within c =
-    told_within 1 c.args.self.now c.post.new.self c.post.ensures.room c.post.ensures.fixed
+    told_within 1 c.args.self.now c.post.new.self c.post.ensures.room c.post.ensures.classes
 
 -- over a closed one nothing changes
 pub returns-then-not-is_open-clause-within : goal.returns-then-not-is_open-clause-within

@@ -38,7 +38,7 @@ loop-token-preserved c =
     let n = c.args.self.now.part.own.node in (
       telling_next c.loop-token.token-index (length c.args.settled.now) c.args.self.now
           c.loop-token.self c.settle.new.self c.loop-token.invariant.0 c.loop-token-test.true
-          c.settle.ensures.part c.settle.ensures.within.waiting c.settle.ensures.within.fixed,
+          c.settle.ensures.part c.settle.ensures.within.waiting c.settle.ensures.within.classes,
       posts_next (settle_posts n) c.args.settled.now c.loop-token.token-index
           c.token-item.result (settle_post n c.token-item.result)
           (outbox c.args.self.now.streams) (outbox c.loop-token.self.streams)

@@ -24,7 +24,7 @@ loop-freed_serial-preserved c = (
       c.args.self.now c.loop-freed_serial.self
       (record { part = c.loop-freed_serial.self.part; streams = c.show.new.self })
       c.loop-freed_serial.invariant.0 c.loop-freed_serial-test.true refl c.show.ensures.room
-      c.show.ensures.fixed,
+      c.show.ensures.classes,
   lines_next (λ serial. shows.Free (own c.args.self.now.part.own.node serial))
       c.args.freed.now c.loop-freed_serial.freed_serial-index 0
       c.args.self.now.streams.shown c.loop-freed_serial.self.streams.shown

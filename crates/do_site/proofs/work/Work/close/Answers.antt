@@ -2,7 +2,6 @@ use Rattle.do_site.proofs.work.Work.close.Goals as goal
 use Rattle.std.proofs.Common.{◌≡◌, arith, false, ap, refl, sym, subst, ◌∙◌}
 use Rattle.do_machine.specs.{State.is_open, ends.Closing.closing}
 use Rattle.do_network.specs.Own.{Own}
-use Rattle.do_streams.specs.Streamed.{Fixed}
 use Rattle.do_effects.specs.Doing.{Doing, doing}
 use Rattle.do_site.proofs.KeptSteps.{apart_then, closing_apart}
 use Rattle.do_site.proofs.PlacesKept.{closed_place, parted_fewer}
@@ -36,6 +35,6 @@ returns-clause-kept c table k =
           (closing_apart c.args.peer mid.core.part.own.node
           (subst (λ (p : Own). is_open p.node p.node.port ≡ false) (sym own) k.apart));
       classes = c.leave.ensures.stays.classes
-          ∙ ap (λ (f : Fixed). f.classes) c.close.ensures.fixed
+          ∙ c.close.ensures.classes
           ∙ c.in_ok-make_room_to_close.ensures.stays.classes ∙ k.classes;
     }

@@ -1,6 +1,5 @@
 use Rattle.do_site.proofs.work.Work.finish.Goals as goal
 use Rattle.std.proofs.Common.{ap, refl, ◌∙◌}
-use Rattle.do_streams.specs.Streamed.{Fixed}
 use Rattle.do_effects.specs.{Doing.doing, Plans.{plan_effect, plan_needs}}
 use Rattle.do_site.proofs.{PlansKeep.{enough_place, place_left}, StepsDone.then_left}
 
@@ -24,5 +23,5 @@ returns-clause-done c = λ r run.
 pub returns-clause-stays : goal.returns-clause-stays
 returns-clause-stays c = record {
   classes = c.leave.ensures.stays.classes
-      ∙ ap (λ (f : Fixed). f.classes) c.carry_out.ensures.within.fixed;
+      ∙ c.carry_out.ensures.within.classes;
 }

@@ -1,6 +1,6 @@
 use Rattle.do_site.proofs.work.Work.follow.Goals as goal
 use Rattle.std.{proofs.Common.{◌≡◌, ap, refl, sym, subst, ◌∙◌}, specs.Prelude.IfSome}
-use Rattle.do_streams.specs.{Reading.{AreKnown, IsReadBy}, Streamed.{Fixed, Streamed}}
+use Rattle.do_streams.specs.{Reading.{AreKnown, IsReadBy}, Streamed.Streamed}
 use Rattle.do_effects.specs.{Doing.{Doing, doing}, Taking.taking_needs}
 use Rattle.do_site.specs.{Steps.with_reading, declared.told.Told.Told}
 use Rattle.do_site.proofs.{PlacesKept.read_place, Followed.{left_by, settled_by}}
@@ -15,7 +15,7 @@ rule-ruled-requires-clause-settled c =
 pub keep_read-requires : goal.keep_read-requires
 keep_read-requires c =
     subst (λ k. IfSome c.args.names (λ ns. AreKnown k ns))
-    (sym (ap (λ (f : Fixed). f.classes) c.rule-ruled.ensures.within.fixed)) c.requires.known
+    (sym c.rule-ruled.ensures.within.classes) c.requires.known
 
 -- there is a place to leave what nothing holds then
 pub leave-requires-clause-place : goal.leave-requires-clause-place
@@ -75,7 +75,7 @@ returns-clause-kept c =
       apart = taken_apart c.args.from item c.args.line c.args.ruling (doing old.core) one done _
           left c.requires.kept.apart;
       classes = c.leave.ensures.stays.classes
-          ∙ ap (λ (f : Fixed). f.classes) (ap (λ (s : Streamed). s.fixed) c.keep_read.ensures.same
-          ∙ c.rule-ruled.ensures.within.fixed)
+          ∙ ap (λ (s : Streamed). s.classes) c.keep_read.ensures.same
+          ∙ c.rule-ruled.ensures.within.classes
           ∙ c.requires.kept.classes;
     }

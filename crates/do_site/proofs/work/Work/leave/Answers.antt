@@ -1,6 +1,5 @@
 use Rattle.do_site.proofs.work.Work.leave.Goals as goal
 use Rattle.std.proofs.Common.{ap, arith}
-use Rattle.do_streams.specs.Streamed.{Fixed}
 use Rattle.do_site.{specs.declared.told.Told.Told, proofs.PlacesKept.places_fewer}
 
 -- there are places for what is owed still
@@ -16,5 +15,5 @@ returns-clause-places c =
 -- the links read by the same classes
 pub returns-clause-stays : goal.returns-clause-stays
 returns-clause-stays c = record {
-  classes = ap (λ (f : Fixed). f.classes) c.leave.ensures.fixed;
+  classes = c.leave.ensures.classes;
 }

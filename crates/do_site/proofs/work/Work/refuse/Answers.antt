@@ -2,7 +2,7 @@ use Rattle.do_site.proofs.work.Work.refuse.Goals as goal
 use Rattle.std.proofs.Common.{◌≡◌, arith, false, ap, refl, sym, subst, ◌∙◌}
 use Rattle.do_machine.specs.{State.is_open, ends.Closing.closing}
 use Rattle.do_network.specs.Own.{Own}
-use Rattle.do_streams.specs.Streamed.{Fixed, Streamed}
+use Rattle.do_streams.specs.Streamed.{Streamed}
 use Rattle.do_effects.specs.Doing.{Doing, doing}
 use Rattle.do_site.proofs.KeptSteps.{apart_then, closing_apart}
 use Rattle.do_site.proofs.PlacesKept.{closed_place, parted_fewer}
@@ -39,7 +39,7 @@ returns-clause-kept c table k =
           (closing_apart c.args.from mid.core.part.own.node
           (subst (λ (p : Own). is_open p.node p.node.port ≡ false) (sym own) k.apart));
       classes = c.leave.ensures.stays.classes
-          ∙ ap (λ (f : Fixed). f.classes) (c.close.ensures.fixed
-          ∙ ap (λ (s : Streamed). s.fixed) c.keep_read.ensures.same)
+          ∙ c.close.ensures.classes
+          ∙ ap (λ (s : Streamed). s.classes) c.keep_read.ensures.same
           ∙ c.in_ok-make_room_to_close.ensures.stays.classes ∙ k.classes;
     }

@@ -8,7 +8,7 @@ use Rattle.do_export.specs.Counts.{count_of}
 use Rattle.do_frames.specs.declared.frame.Frame.TheVariants.{Release}
 use Rattle.do_machine.specs.{declared.state.Effect.Effect, Objects.object_at, State.is_open}
 use Rattle.do_network.specs.{Counting.given_back, Own.Own, Site.frame_move}
-use Rattle.do_streams.specs.{Reading.{IsReadBy, names_of}, Streamed.{Fixed, Streamed}}
+use Rattle.do_streams.specs.{Reading.{IsReadBy, names_of}, Streamed.Streamed}
 use Rattle.do_effects.specs.{Doing.{Doing, cleared, does, doing, moved}, Tidy.IsTidy}
 use Rattle.do_site.{specs.Steps.with_reading, proofs.PlacesKept.closed_place}
 use Rattle.do_site.proofs.{ReleasedCounts.released_tidy, StepsDone.{shown_does, then_left}}
@@ -109,7 +109,7 @@ returns-clause-kept c table k =
       apart = subst (λ (p : Own). is_open p.node p.node.port ≡ false) (sym left)
           (subst (λ (p : Own). is_open p.node p.node.port ≡ false) own k.apart);
       classes = c.leave.ensures.stays.classes
-          ∙ ap (λ (f : Fixed). f.classes) (c.show.ensures.fixed
-          ∙ ap (λ (s : Streamed). s.fixed) c.keep_read.ensures.same)
+          ∙ c.show.ensures.classes
+          ∙ ap (λ (s : Streamed). s.classes) c.keep_read.ensures.same
           ∙ c.in_ok-make_room_to_close.ensures.stays.classes ∙ k.classes;
     }

@@ -50,7 +50,7 @@ leave-requires-clause-place c =
       stored = omega (arith, heap);
       held = omega (arith, held);
       asked = omega (arith, asked);
-      fixed = refl;
+      classes = refl;
     }) refl refl refl c.has_few.ensures.ends c.has_few.ensures.most
 
 -- what a site keeps true is true then

@@ -29,7 +29,7 @@ returns-clause-same c = λ j. record {
   shown = ap (λ (v : Streamed). v.shown) c.self.view_is j;
   room = ap (λ (v : Streamed). v.room) c.self.view_is j;
   bare = ap (λ (v : Streamed). v.bare) c.self.view_is j;
-  fixed = ap (λ (v : Streamed). v.fixed) c.self.view_is j;
+  classes = ap (λ (v : Streamed). v.classes) c.self.view_is j;
 }
 
 -- a frame that leaves the names leaves the link
