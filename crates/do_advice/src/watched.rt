@@ -2,6 +2,7 @@
 ghost use Rattle.std.specs.Prelude.{◌≡◌};
 
 use do_base::{PutFail, Sink};
+use memchr::memchr;
 
 /// What a line begins with that tells of a start which an exception ended.
 const WORD: &[u8] = b"raise ";
@@ -9,29 +10,33 @@ const WORD: &[u8] = b"raise ";
 /// How many lines begin with the word, of bytes that come piece by piece.
 #[derive(Drop)]
 struct Raises {
-    /// How many letters of the word the last line has; none once it has another.
-    letters: Option<usize>,
+    /// What the last line wants to begin with the word; none once it does or cannot.
+    wanted: Option<&'static [u8]>,
     count: u64,
 }
 
 impl Raises {
-    /// One more byte.
-    fn see(&mut self, byte: u8) {
-        self.letters = match self.letters {
-            _ if byte == b'\n' => Some(0),
-            Some(at) if WORD.get(at) == Some(&byte) => Some(at.saturating_add(1)),
-            _ => None,
+    /// More of the last line.
+    fn see(&mut self, part: &[u8]) {
+        let Some(wanted) = self.wanted else {
+            return;
         };
-        if self.letters == Some(WORD.len()) {
+        self.wanted = wanted.strip_prefix(part);
+        if part.starts_with(wanted) {
+            self.wanted = None;
             self.count = self.count.saturating_add(1);
         }
     }
 
-    /// More bytes.
+    /// More bytes. Only the front of each line is looked at.
     fn see_all(&mut self, bytes: &[u8]) {
-        for byte in bytes {
-            self.see(*byte);
+        let mut rest = bytes;
+        while let Some(end) = memchr(b'\n', rest) {
+            self.see(&rest[..end]);
+            self.wanted = Some(WORD);
+            rest = &rest[end + 1..];
         }
+        self.see(rest);
     }
 }
 
@@ -52,7 +57,7 @@ impl<K> Watched<K> {
         ensures { result.sink ≡ sink }
     {
         let raises = Raises {
-            letters: Some(0),
+            wanted: Some(WORD),
             count: 0,
         };
         Watched {
