@@ -20,7 +20,18 @@ use std::process::ExitCode;
 /// How long a poll of the sockets waits at most, in microseconds.
 const WAIT: u64 = 500;
 
+/// How many bytes are taken once and given back before anything else.
+const LARGE: usize = 8_388_608;
+
+/// Lets the C library keep up to twice `LARGE` bytes that were given back. Else it gives the heap's
+/// end back with each long text, and takes it again for the next.
+fn keep_heap(rt: &HostRuntime) {
+    // Its limit is twice the largest piece that it gave back to the system.
+    let _ = Vec::<u8>::with_capacity(rt.alloc(), LARGE);
+}
+
 fn main(rt: HostRuntime) -> ExitCode {
+    keep_heap(&rt);
     let Ok(words) = read_words(rt.alloc(), &rt) else {
         advice::tell(&rt, &Status::Memory, &[]);
         return ExitCode::from(Status::Memory.number());
