@@ -3,6 +3,7 @@ pub mod Flows
 pub mod Sites
 pub mod Drawn
 pub mod Walk
+pub mod Events
 pub mod Inputs
 pub mod Known
 pub mod Threads

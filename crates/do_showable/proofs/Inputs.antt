@@ -38,7 +38,7 @@ use Rattle.do_showable.proofs.Classes.{item_tells, more_kept, none_kept}
 use Rattle.do_showable.proofs.Frames.{ItemPasses, frame_carried, frame_passes, read_is, took_stands}
 use Rattle.do_showable.proofs.Links.{LinksStand, links_open, links_read, names_stand}
 use Rattle.do_showable.proofs.{Naming.{is_nameable, raised_stands}, Nodes.{IsNamed, opens}}
-use Rattle.do_showable.proofs.Runs.{Stands, run_stands, start_named, time_out_named}
+use Rattle.do_showable.proofs.{Runs.{Stands, run_stands}, Starts.{start_named, time_out_named}}
 use Rattle.do_showable.proofs.Showing.{Shows, end_shows, start_shows, take_shows, time_out_shows}
 use Rattle.do_showable.proofs.Sites.{Came, EffectStands, NodeStands, OwnStands, PartStands, by_both}
 use Rattle.do_showable.proofs.Sites.{judges, moved, moved_if, tested}

@@ -5,6 +5,7 @@ pub mod Nodes
 pub mod Showing
 pub mod Takes
 pub mod Runs
+pub mod Starts
 pub mod Classes
 pub mod Links
 pub mod Sites

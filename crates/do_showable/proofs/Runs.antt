@@ -3,35 +3,30 @@ use Rattle.do_behave.specs.declared.act.Act.TheVariants as acts
 use Rattle.do_behave.specs.declared.invocation.Reason.TheVariants as reasons
 use Rattle.do_machine.specs.declared.item.Item.TheVariants as items
 use Rattle.do_machine.specs.declared.verdict.Request.TheVariants as requests
-use Rattle.std.proofs.Common.{List, [], arith, not, refl, subst, true, ℕ, ◌+◌, ◌==◌, ◌∷◌, ◌≡◌}
+use Rattle.std.proofs.Common.{List, [], arith, not, refl, true, ℕ, ◌+◌, ◌==◌, ◌∷◌, ◌≡◌}
 use Rattle.std.specs.{List.AllByRecursion, Prelude.{None, Option, Some, option_map, slice_set, ◌≤◌}}
 use Rattle.do_base.specs.declared.events.exception.Exc.{Exc, TheVariants.TooLarge}
 use Rattle.do_base.specs.declared.values.value.Value.{Value, TheVariants.{Nil, Obj, Text}}
-use Rattle.do_sig.specs.Calls.{args_fit}
-use Rattle.do_class.specs.{Class.Class, declared.ids.ClassId.ClassId}
+use Rattle.do_class.specs.declared.ids.ClassId.{ClassId}
 use Rattle.do_record.specs.{GoodShown.{IsException, IsNested, IsShown}, Value.deepest}
 use Rattle.do_behave.specs.{Answers.values_of, declared.act.{Act.Act, Write.Write}}
 use Rattle.do_behave.specs.declared.invocation.Answer.{Answer, TheVariants.{Given, Raised}}
 use Rattle.do_behave.specs.declared.invocation.{Handler.Handler, InvState.InvState}
 use Rattle.do_behave.specs.declared.invocation.InvState.TheVariants.{Answered, Below, Running}
-use Rattle.do_behave.specs.declared.invocation.{InvState.TheVariants.Waits, Invocation.Invocation}
-use Rattle.do_behave.specs.declared.invocation.Reason.{Reason}
-use Rattle.do_machine.specs.Context.{Context, RunContext, method_for, own_class}
-use Rattle.do_machine.specs.{Effect.{only, queueing}, Objects.object_at, Packing.packed_for}
-use Rattle.do_machine.specs.{Start.{is_busy, start_effect}, State.{is_open, own, stored}}
+use Rattle.do_behave.specs.declared.invocation.{Invocation.Invocation, Reason.Reason}
+use Rattle.do_machine.specs.{Context.{Context, RunContext}, Effect.{only, queueing}}
+use Rattle.do_machine.specs.{Objects.object_at, Packing.packed_for, State.{is_open, own, stored}}
 use Rattle.do_machine.specs.declared.{node.{Node.Node, Stored.Stored}, state.Effect.Effect}
 use Rattle.do_machine.specs.declared.verdict.{Request.Request, SendAct.SendAct, Verdict.Verdict}
 use Rattle.do_machine.specs.declared.verdict.Verdict.TheVariants.{Asks, Begins, Fails, Goes, Makes}
 use Rattle.do_machine.specs.declared.verdict.Verdict.TheVariants.{Returns, Says, Steps, Tells, Uses}
-use Rattle.do_machine.specs.{declared.verdict.Verdict.TheVariants.Vends, ends.TimeOut.give_up}
-use Rattle.do_machine.specs.{ends.TimeOut.{time_out, time_out_on}, held.Refers.answer_values}
+use Rattle.do_machine.specs.{declared.verdict.Verdict.TheVariants.Vends, held.Refers.answer_values}
 use Rattle.do_machine.specs.{held.Refers.state_values, lend.Lending.posting, run.Acts.act_rule}
 use Rattle.do_machine.specs.run.Answers.{answer_line, answer_placed, exc_name, oneway_answer}
 use Rattle.do_machine.specs.run.{Answers.replying, Changes.{goes_on, goes_to, stands, with_writes}}
 use Rattle.do_machine.specs.run.Delivery.{below_answered, delivery, failing, popped, with_top}
-use Rattle.do_machine.specs.run.Fresh.{blank, fresh, pushed}
-use Rattle.do_machine.specs.run.Run.{Acting, next_act, run_effect, run_on, slots_seen, state_rule}
-use Rattle.do_machine.specs.run.Verdicts.{effect_of, waits_for}
+use Rattle.do_machine.specs.run.{Fresh.blank, Run.{Acting, next_act, run_effect, run_on}}
+use Rattle.do_machine.specs.run.{Run.{slots_seen, state_rule}, Verdicts.{effect_of, waits_for}}
 use Rattle.do_facts.proofs.Chains.{either, found_or}
 use Rattle.do_facts.proofs.EachOfLists.{each_changed, each_set, found_is}
 use Rattle.do_facts.proofs.{RulesOfActs.{by_return, by_root, by_send, by_vend}, walk.Possible.IfAny}
@@ -42,7 +37,7 @@ use Rattle.do_limits.specs.SendableStates.{ObjectIsSendable}
 use Rattle.do_at_hand.proofs.{Acts.{act_named, judged}, Changes.{VerdictIfWithin, VerdictWithin}}
 use Rattle.do_at_hand.proofs.Changes.{answered_below, outs_set, slots_written, went_on}
 use Rattle.do_at_hand.proofs.{Shown.{AllName, Names, nil, one, texts}, Within.InvocationWithin}
-use Rattle.do_at_hand.{proofs.Within.{RootWithin, begins, blank_within}, specs.AtHand.ShowsNames}
+use Rattle.do_at_hand.{proofs.Within.{begins, blank_within}, specs.AtHand.ShowsNames}
 use Rattle.do_showable.proofs.Naming.{exception_stands, is_nameable, named_at, raised_stands}
 use Rattle.do_showable.proofs.{Naming.value_stands, Nodes.{IsNamed, made, restacked}}
 
@@ -314,46 +309,3 @@ run_stands act c keeps names sends ok room = on c.node.stack sends.stack ok.call
     on (i ∷ is) h k =
         stated (record { context = c; top = i; below = is }) ok room k.0 k.1 h.0 sends.heap act
         keeps names i.state k.0.answer h.0.answer
-
--- ---- starts and time-outs
-
--- a start, whose values name nothing
-pub start_named : (table : List Class) (selector : List ℕ) (values : List Value) (n : Node) →
-    AllName is_nameable values → IsNamed n →
-    IfAny (λ e. IsNamed e.node) (start_effect table selector values n)
-start_named table selector values n plain ok =
-    either Starts (is_busy n) None _ (λ _. tt)
-    (λ _. found_or Starts n.root None _ tt
-    (λ root is. found_or Starts (method_for table (own_class n root) selector) None _ tt
-    (λ m found. either Starts (not (args_fit m.signature values)) None
-    (Some (fresh (own n root) m.id reasons.Start values)) (λ _. tt)
-    (λ fit. restacked n _ ok (
-      begins is_nameable (own n root) m.id reasons.Start values (rooted n.root root is ok.roots) plain,
-      ok.calls,
-    )))))
-  where
-    rooted : (r : Option ℕ) (root : ℕ) → r ≡ Some root → RootWithin is_nameable n.port r →
-        is_nameable (own n root) ≡ true
-    rooted None root is h = absurd (cc (is))
-    rooted (Some s) root is h =
-        let same : s ≡ root = cc (is) in
-        subst (λ k. is_nameable (object_at n.port k) ≡ true) same h
-
-    Starts : Option Invocation → Type 0
-    Starts i = IfAny (λ e. IsNamed e.node) (option_map (λ i. only (pushed i n)) i)
-
--- a time-out, by the stack
-time_out_by : (stack : List Invocation) (n : Node) → IsNamed n →
-    AllByRecursion (InvocationWithin is_nameable) stack →
-    IfAny (λ e. IsNamed e.node) (time_out_on stack n)
-time_out_by [] n ok h = tt
-time_out_by (i ∷ below) n ok h = by i.state
-  where
-    by : (state : InvState) → IfAny (λ e. IsNamed e.node) (give_up state i below n)
-    by (Waits call peer what) =
-        restacked n _ ok (record { object = h.0.object; locals = h.0.locals; answer = tt }, h.1)
-    by _ = tt
-
--- a time-out
-pub time_out_named : (n : Node) → IsNamed n → IfAny (λ e. IsNamed e.node) (time_out n)
-time_out_named n ok = time_out_by n.stack n ok ok.calls
