@@ -11,7 +11,7 @@ use Rattle.do_class.specs.declared.packet.{Name.TheVariants.{Lent, Mine, Yours},
 use Rattle.do_class.specs.declared.packet.Part.{List as Parts, Part, the_lemmas}
 use Rattle.do_sched.specs.Good.{IsPort}
 use Rattle.do_packet.specs.Limits.{HasPlaces, places_within}
-use Rattle.do_coder.proofs.values.PartFacts.{fits-Copy, fits-Named, fits-Nil, fits-Num, fits-Text}
+use Rattle.do_coder.proofs.values.PartFacts.{fits-Copy, fits-Named, fits-Num, fits-Text}
 use Rattle.do_coder.specs.{Names.IsName, Packets.{IsCopied, IsPacket, most_copies, sides_of}}
 use Rattle.do_coder.specs.{Packets.{slot_counts, surroundings}, Parts.{IsPart, part_fits}}
 use Rattle.do_machine.specs.Objects.{object_at}

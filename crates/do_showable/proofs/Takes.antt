@@ -1,5 +1,4 @@
 -- A record may have the names of a node after a take, where it may have those of the item.
-use Rattle.do_machine.specs.declared.item.Item.TheVariants as items
 use Rattle.std.proofs.Common.{Bool, List, [], arith, cond, false, length, map, refl, subst, true, ℕ}
 use Rattle.std.proofs.{Common.{◌+◌, ◌<◌, ◌==◌, ◌∷◌, ◌≡◌}, lemmas.Bool.eqb-true}
 use Rattle.std.specs.{List.AllByRecursion, Prelude.{None, Option, Some, option_map, ◌≤◌}}
