@@ -1,3 +1,19 @@
+//! The definition of a behaviour is a function from a class table, an invocation and the slots
+//! of its object to an act. A step of it names all 16 locals. The call `act` answers with the
+//! one change that the act makes (`Change`) in place of the act. That is a local given, an item
+//! pushed, a place, a slot, a handler, several locals and slots at once, or any other act.
+//! `meaning` says which act of the definition a change is, and the contract of `act` is that it
+//! is the definition's. So nothing else is copied, and whoever calls makes the change where the
+//! invocation stands (`make_change`, `act_in_place`). An answer with the whole act cost 300 ns,
+//! most of it for the copy of 16 locals. An act that changed the invocation itself would have
+//! to undo itself if memory ran out, and would not say what changed.
+//!
+//! `act` takes any invocation. One that lacks what its method's code names, 16 locals, the
+//! slots and the classes, raises `Type`, in the definition and in code. So does a method
+//! without code. That an act names only objects that it was shown, and that a step has 16
+//! locals, holds of every act. What keeps the limits, and what is in range, holds of acts of a
+//! program that is made for the table.
+
 ghost use Rattle.std.specs.Prelude.{◌≡◌, List, IfOk};
 ghost use Rattle.do_base.specs.declared.values.value.Value.{Value};
 ghost use Rattle.do_class.specs.Class.{Class};

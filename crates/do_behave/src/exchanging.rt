@@ -1,4 +1,9 @@
 //! A change of an invocation in place, which hands back what it took out.
+//!
+//! A change of an invocation has one body, `exchange`, which hands back what the locals held
+//! and what is left to do in the slots. `make_change` does both, and lets go of what came back;
+//! a site's stack counts it. So a change of several locals takes memory for the values that it
+//! takes out, also where nobody counts them.
 ghost use Rattle.std.specs.Prelude.{◌≡◌, List, false, IfOk, OnOk, OnErr, IsOk};
 ghost use Rattle.do_base.specs.declared.values.value.Value.{Value};
 ghost use Rattle.do_behave.specs.Changes.{IsFitting, meaning, with_set};

@@ -1,4 +1,7 @@
 //! The value of a local, which remembers what it weighs.
+//!
+//! A local remembers the weight of its list, which contracts do not see, so that a push adds to
+//! it and never weighs the list again. A list that nests past the limit already takes no item.
 ghost use Rattle.std.specs.Prelude.{◌≡◌, OnOk, OnErr};
 ghost use Rattle.do_behave.specs.{KnownWeight.IsKnown, LongerList.{FitsIn, longer}};
 

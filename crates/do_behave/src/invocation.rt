@@ -1,3 +1,6 @@
+//! The local that a next answer goes to stands in an invocation also while it runs, and means
+//! nothing then; going on leaves it. Behind its last instruction a method returns nil.
+
 use crate::held::Frame;
 use crate::moving::copied;
 use do_base::{CallId, ExactClone, Exc, Locals, NodeId, Oid, Value, Values};

@@ -4,6 +4,9 @@
 //! It stands on the values of do_base, the class tables of do_class and the method language of
 //! do_script. An act is exact: it is the one that the definition of the behaviour names, for every
 //! invocation. The language and the acts are this project's own.
+//!
+//! A law of a trait can cite only what stands in a crate's specs, so the proofs of the laws of
+//! scripts stand there, in `specs/laws`. `specs` itself holds definitions alone.
 #![tactic(auto)]
 
 mod act;

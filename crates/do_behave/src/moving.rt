@@ -1,4 +1,8 @@
 //! Copies, moves and drops of values, in forms that are fast where acts are done.
+//!
+//! Two forms serve speed alone and are in no clause. What is put nowhere is dropped by a call
+//! of its own, since a value that may be dropped where it is moved is moved in many small
+//! parts. A number or a text is copied without a call.
 ghost use Rattle.std.specs.Prelude.{◌≡◌, [], ◌∷◌, ◌++◌, IfOk, OnOk, OnErr};
 
 use do_base::{Value, Values, copy_value};

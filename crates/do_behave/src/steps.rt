@@ -1,3 +1,10 @@
+//! In the definitions a local or a slot that is not there holds nothing. An instruction that
+//! finds nothing, or no value of its kind, has no act. `or_fault` makes a fault of type of
+//! that, in one place. In code too a local is looked up (`get`), so no function needs to be
+//! told that there are 16 locals or that a local is one of them. A struct or a record with that
+//! premise would say it once, but each function would still name it. The definitions would
+//! still need a value for a local that is not there.
+
 ghost use Rattle.std.specs.Prelude.{◌≡◌, ◌<◌, ◌+◌, ◌^◌};
 ghost use Rattle.do_behave.specs.{Steps.{gives, goes_to, writes, handles}, Changes.Means};
 

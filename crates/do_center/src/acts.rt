@@ -1,4 +1,9 @@
 //! The acts of a centre: what a method does but delivering, and the behaviour as a whole.
+//!
+//! A method's deliveries are kept in a local, and an act of sending reads them there. One that
+//! finds anything else, a list of more than 1,024 or a selector that has not three colons among
+//! it, is a fault of type. Of a truth value only the number is looked at: 1 is yes, any other
+//! no.
 ghost use Rattle.std.specs.Prelude.{◌≡◌, IfOk, Some, map};
 ghost use Rattle.do_base.specs.declared.values.value.Value.{List};
 ghost use Rattle.do_grammar.specs.Words.{◌>>?◌};

@@ -2,6 +2,13 @@
 //!
 //! They are kept in a set of the kit's `indexmap`, which finds an observer without a walk and keeps
 //! the order in which they came.
+//!
+//! The suspended observers are kept in the kit's `indexmap`, which finds one without a walk and
+//! keeps the order in which they were suspended. Registrations have no key, since two of them
+//! may be alike, and both then get what is posted. So they stand in order in a list, and the
+//! first of an observer's is found by a walk. There are at most 256, and each act reads all of
+//! them from their slot first. So a map of first places, made anew with each act, saved
+//! nothing.
 ghost use Rattle.std.specs.Prelude.{◌≡◌, ◌++◌, ◌∷◌, [], IfOk, OnOk, OnErr, false, length};
 ghost use Rattle.do_center.specs.{Observers.{has_object, without_object}, Seats.read_suspended};
 

@@ -1,3 +1,7 @@
+//! The table finds by ordered maps, one for the names of classes and one in each class. Each
+//! selector of a table is a SELECTOR with as many colons as its signature has arguments:
+//! `add_class` asks for that, and `selector` says so.
+
 ghost use Rattle.std.specs.Prelude.{◌≡◌, ◌<◌, ◌≤◌, ◌↔◌, IsTrue, [], ◌∷◌, ◌++◌, ℕ, length, IfOk};
 ghost use Rattle.std.specs.Prelude.{OnOk, OnErr, IsErrOf, IfSome, IsSome, IsNone, Some};
 ghost use Rattle.std.specs.{BTreeMap.{Updates, IsUnchanged}, Cmp.Lexicographic.slice_cmp};

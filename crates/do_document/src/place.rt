@@ -1,4 +1,7 @@
 //! Where something stands in a document, and faults at such a place.
+//!
+//! A path is written as a text when a fault is found, and the place is a value of its own until
+//! then. So a good document takes no memory for paths.
 ghost use Rattle.std.specs.Prelude.{◌≡◌, ◌⊎◌, ◌++◌, IfOk, OnOk};
 ghost use Rattle.do_document.specs.Paths.{front, in_class, numbered, path};
 

@@ -3,6 +3,11 @@
 //! It stands on do_base and on do_sorted, which keeps the entries by peer and serial. It promises
 //! each change of the counts exactly, that no count goes below zero, and that a name counts without
 //! memory where there is room.
+//!
+//! A peer whose end closes is forgotten in one pass (`end_peer`); who wants its entries first
+//! asks for them one by one (`next_entry`).
+//!
+//! `name`, `got`, `refer`, `lend` and `ask` ask for room and answer no error.
 #![tactic(auto)]
 
 ghost use Rattle.std.specs.FinMap as map;

@@ -3,6 +3,10 @@
 //! It stands on the readers of worlds, schedules, starts and plans, and on the shelf as a trait. It
 //! promises for each what is read where the shelf tells its files, why nothing is given, and that
 //! each status has a number of its own.
+//!
+//! What the words of a command give is read in a crate of its own, below the commands, since
+//! replaying, serving and running a plan read alike. A status is declared there, too, with all
+//! its cases; each command says which of them it answers.
 #![tactic(auto)]
 
 mod fetching;

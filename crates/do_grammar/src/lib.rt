@@ -1,6 +1,9 @@
 //! What exact readers of bytes share. What it is to read a grammar exactly stands in specs/ and
 //! proofs/. Numbers, texts, names and lines are read with the first byte at which reading has to
 //! stop.
+//!
+//! A writer that found no memory may have added a part of its text; its caller drops the text.
+//! The limit of a quoted text is a parameter.
 #![tactic(auto)]
 
 mod beside;

@@ -1,4 +1,10 @@
 //! All that a node has of foreign objects: what it received, uses, lends and asks for.
+//!
+//! `Imports` is made of three parts, each exact: `Holdings`, `Lends`, `Asks`. `uses` counts
+//! every reason to keep a foreign object: slots, invocations, lends and asks. `granted` asks
+//! for room, as `got` does, since the object is then received. The counts of lends and asks by
+//! object are shown beside the lends and asks, so that `named` and `class_of` look through
+//! nothing.
 mod asking;
 mod ending;
 mod lending;

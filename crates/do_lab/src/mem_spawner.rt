@@ -1,4 +1,6 @@
 //! A spawner whose children are numbers, and whose faults are listed beforehand.
+//!
+//! The spawner in memory keeps each wait in room that its start took, so that it tells all.
 ghost use Rattle.std.specs.Prelude.{◌≡◌, ◌≢◌, ◌<◌, ◌≤◌, ◌↔◌, ◌++◌, ◌∷◌, [], ℕ, length, Some, Ok};
 ghost use Rattle.std.specs.Prelude.{IfOk, OnOk, OnErr, IsOk, IsErrOf, true, false, slice_get};
 ghost use Rattle.std.specs.Prelude.{slice_set};

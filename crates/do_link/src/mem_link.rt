@@ -1,4 +1,7 @@
 //! A link whose events stand in memory, and whose faults are listed beforehand.
+//!
+//! The link in memory keeps one entry for each call or event, with the number of empty polls
+//! before it, so an empty poll takes no memory.
 ghost use Rattle.std.specs.Prelude.{◌≡◌, ◌<◌, ◌≤◌, ◌++◌, ◌∷◌, [], ◌↔◌, length, Some, IfOk, OnOk};
 ghost use Rattle.std.specs.{Prelude.{IsErrOf, IsOk, ◌+◌}, List.All};
 ghost use Rattle.do_base.specs.outside.{Causes.{next_count, Rose}, InMemory.FailsNext};

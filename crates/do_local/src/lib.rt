@@ -7,6 +7,9 @@
 //! each round in which the node frees objects. It also looks at what the node's peers hold of it.
 //! Of the rest of the state it copies a reference to each node. docs/PERFORMANCE.md has the
 //! figures.
+//!
+//! The plain machine is two crates, since one has about 100 functions at most: do_rules, which
+//! changes no state, and do_local, which has the state.
 #![tactic(auto)]
 
 mod check;

@@ -5,6 +5,12 @@
 //! do_leaks for the search. It promises exactly the objects from which the search starts, those of
 //! roots, invocations, lends, asks and items under way, and the exact text. The form is this
 //! project's own.
+//!
+//! An end that waits before a closed end names nothing, since it is dropped where it is taken.
+//! Every other item names what it names, the objects that an end gives up among them.
+//!
+//! Objects may stand more than once among those that a state names. The search asks only
+//! whether one is there.
 #![tactic(auto)]
 
 mod items;

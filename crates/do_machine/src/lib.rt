@@ -4,6 +4,8 @@
 //! It promises that the rules are one function of a state and an event, by which a machine, the
 //! sites of a network and the network itself are judged. No program that runs them stands here. Of
 //! its laws only the two stand here that programs beside do_facts cite; the others stand there.
+//!
+//! Rules are chains of tests of which the first that applies decides.
 #![tactic(auto)]
 
 mod classes;

@@ -1,3 +1,12 @@
+//! A state counts references to its stations, and a station to its node, its queues and the
+//! classes of its objects. A queue counts those to its items, a node those to its list of
+//! stored objects, and that list those to these. So a step copies lists of references and what
+//! it changes, at the station of the node that acts and the one whose item it takes. It does so
+//! twice: once with what the node did, and once without what it then frees and leaves, which is
+//! judged in between. The list of stored objects is copied by a step alone that writes a slot,
+//! makes an object or frees one. The classes stand in blocks of 256: a step that makes an
+//! object copies the last block.
+
 use crate::classes::Classes;
 use crate::item::Item;
 use crate::node::Node;

@@ -3,6 +3,19 @@
 //!
 //! It stands on the invocations and changes of do_behave. Each call is exact: its change means the
 //! act that its definition names, for every invocation. The acts are this project's own.
+//!
+//! The result of a message that a native method sends goes to local 13, and so does what comes
+//! out of its arguments. So no other local changes. The answer of a method stands in local 14.
+//!
+//! The empty list stands in a slot as nil, and only so, so that a list has one form in slots.
+//!
+//! The types of a pasteboard, of which a service takes and gives some, are tested here for
+//! both. They are at most 64 texts, so that none stands there twice is seen by comparing each
+//! with those behind it, without memory.
+//!
+//! A method that only answers acts alike on each core, so its act stands once, over a trait of
+//! cores (`Core`, `call_act`). A centre keeps deliveries in place of an answer, in a local that
+//! depends on the method. So its first act is its own.
 #![tactic(auto)]
 
 mod answers;

@@ -1,4 +1,11 @@
 //! The sites of a network by their ports.
+//!
+//! Where ports were listed twice, each site would have the behaviour of the first of them; a
+//! world lists none twice.
+//!
+//! Sites stand by rising port and the channels of each by rising peer, which their types keep;
+//! both are found by halves. Where ports were listed twice the first is found, as the
+//! definitions say.
 ghost use Rattle.std.specs.List.Sorted.{IsNonDecreasingBy};
 
 use crate::host::Host;

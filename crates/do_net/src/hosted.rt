@@ -1,4 +1,7 @@
 //! What a network needs of its sites.
+//!
+//! A site is whatever meets the trait `Hosted`, each call an equation of the definitions;
+//! do_net knows no other thing of it.
 ghost use Rattle.std.specs.Prelude.{◌≡◌, IfOk, OnErr};
 ghost use Rattle.do_machine.specs.{State.is_open, take.Take.can_take};
 ghost use Rattle.do_network.specs.{Net.opening_part, Snapshot.part_line};

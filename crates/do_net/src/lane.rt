@@ -1,4 +1,8 @@
 //! What is under way from one node to another, as bytes.
+//!
+//! What a site sends is fetched in the same step, and its bytes are made once: the wire and the
+//! channel share them. A frame that is taken keeps them, and they are copied only where the
+//! wire still shares them. A greeting is known by its first byte, which no frame has.
 ghost use Rattle.std.specs.Prelude.{◌≡◌, ◌==◌, [], IfOk, OnOk, false, if◌then◌else◌, length};
 ghost use Rattle.std.specs.{Prelude.{nat_lt, not, option_map, slice_get}, Option.option_copied};
 ghost use Rattle.do_net.specs.Lanes.{Advances, carried_of, frame_in, greets, laden};

@@ -1,4 +1,13 @@
 //! A network of sites, over its events.
+//!
+//! Once memory ran out each step of the network is an error, since a site may have done its
+//! input without all that it sent being fetched.
+//!
+//! `step` of a network and of its sites, `hand`, and `handle` of a site are
+//! `#[inline(always)]`. Each passes an input on and an outcome back, and is called in one or a
+//! few places. As a call it writes its large result where its caller said, and the caller then
+//! copies that on. Where it is inlined the result is made in its last place; callgrind counts
+//! fewer instructions of a step so.
 mod looking;
 
 ghost use Rattle.std.specs.Prelude.{◌≡◌, ◌++◌, ◌<◌, IfOk, IsErr, OnErr, OnOk, Some, [], false};

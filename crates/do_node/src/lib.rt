@@ -6,6 +6,9 @@
 //! its transcript, what it came to in numbers, or what nothing can reach after it. Other commands
 //! write the schedule that records are woven to, a schedule written anew, the record of a node that
 //! is served, or how the children of a plan ended.
+//!
+//! The top call is a library (`do_node`), so that tests call it; the program (`nukwashe`) is
+//! `main` alone.
 #![tactic(auto)]
 
 mod answering;

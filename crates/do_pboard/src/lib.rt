@@ -6,6 +6,10 @@
 //! owner is asked once data is wanted, and data that belongs to an earlier change count is refused.
 //! What is promised is exact: each call, and what a pasteboard has as the calls made so far tell
 //! it. So is the act of every method, for every invocation and all slots.
+//!
+//! `pasteboardNamed:` sees before it makes a pasteboard whether the slot that will keep it is
+//! within the limits. The own object stands in the new one's place there, which is as heavy. So
+//! no pasteboard is made in vain.
 #![tactic(auto)]
 
 mod acts;

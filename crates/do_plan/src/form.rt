@@ -1,3 +1,8 @@
+//! Both texts are one form, lines between a first line and `end`, whose reader is written and
+//! proved once over a trait of lines (`Form`, `lines_of`). Schedules could join it once each
+//! line counts by a number of its own, and the form stands below do_sched; until then do_sched
+//! has its own.
+
 ghost use Rattle.std.specs.{Prelude.{◌≡◌, ℕ, IfOk, List as Listed}, declared.option.Option.Option};
 ghost use Rattle.do_plan.specs.Form.{Form};
 

@@ -3,6 +3,9 @@
 //! It stands on the kit's `slab`, which gives the cells. It promises that each queue is a list,
 //! that posting and taking use room that was reserved before, and that no queue disturbs another.
 //! The form is this project's own.
+//!
+//! On an error `reserve` promises the same content and no less room, since the kit's `slab`
+//! promises no more. `Cells::post` and `take` ask for a queue that is there.
 #![tactic(auto)]
 
 ghost use Rattle.std.specs.Prelude.{◌≡◌, [], ◌∷◌, ◌++◌, ◌+◌, ◌<◌, ◌≤◌, length, slice_get};

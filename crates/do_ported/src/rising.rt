@@ -1,4 +1,8 @@
 //! What stands by rising port.
+//!
+//! Peers are found by halves where they rise. A site is given its peers in any order, and sees
+//! them in that order for ever. Whether they rise is found once; a network gives them by rising
+//! port, so there a peer is found in at most seven steps. Any other list is walked.
 ghost use Rattle.std.specs.Prelude.{◌≡◌, ◌==◌, ◌<◌, IfSome, length, position, ℕ};
 ghost use Rattle.std.specs.List.Sorted.{IsNonDecreasingBy};
 ghost use Rattle.do_ported.specs.Rising.{IsHalved};

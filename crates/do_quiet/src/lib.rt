@@ -4,6 +4,10 @@
 //! own: each of its functions is a law, of every behaviour. It promises that while all ends are
 //! open a node keeps what it lends. Once nothing is on its way nothing is lent and nothing asked
 //! for, and what is stored is held up by roots, invocations and slots alone.
+//!
+//! Quiet is a property of the state. The laws of quiet states take as premises that all ends
+//! are open and all queues empty, and not that nothing was closed or lost on the way. That the
+//! second gives the first is a law of its own.
 #![tactic(auto)]
 
 mod laws;

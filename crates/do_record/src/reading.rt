@@ -1,4 +1,8 @@
 //! Records, read line by line.
+//!
+//! The grammar speaks of bytes and not of cut lines. That a line has its line feed, that
+//! nothing stands behind the last line, and that a line is at fault are then said by one
+//! equation each. How the text is cut is left to the proof.
 ghost use Rattle.do_record.specs.declared.parts.Record as parts;
 ghost use Rattle.std.specs.Prelude.{◌≡◌, ◌++◌, ◌∷◌, [], ℕ, Err, IfOk, Ok, OnOk};
 ghost use Rattle.do_sched.specs.Answers.{AnswersWith};

@@ -1,4 +1,7 @@
 //! Which lines show something of a node.
+//!
+//! A line that shows something is do_lines' spelling of what a step shows, so a record is read
+//! by the words in which it is written. The crate stands on do_lines for this alone.
 ghost use Rattle.std.specs.Prelude.{◌≡◌};
 ghost use Rattle.do_grammar.specs.Quoted.{slice_view};
 ghost use Rattle.do_record.specs.Shown.{behind_port, is_exception, is_long_took, is_of_port};

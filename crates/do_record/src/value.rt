@@ -1,4 +1,7 @@
 //! Which bytes are an object's name, a text in quotes, or a value.
+//!
+//! A value is walked by one flat loop with a count of open lists. There is no recursion over
+//! what was read, so no text makes the stack deep.
 ghost use Rattle.std.specs.Prelude.{◌≡◌, ◌<◌, ◌≤◌, length};
 ghost use Rattle.do_grammar.specs.Words.{part, word, text_view};
 ghost use Rattle.do_record.specs.Value.{at_value, behind_leaf, behind_value, in_list};

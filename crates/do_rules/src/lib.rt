@@ -6,6 +6,11 @@
 //! It stands on do_machine, whose definitions it computes, and on do_packet for messages. It
 //! promises that each function gives exactly what its definition says, in every state. Its one
 //! error is that memory ran out, or that a number would pass what a machine can count.
+//!
+//! What do_rules and do_local offer gives a value, and the machine takes the new state last of
+//! all. So it is as it was if memory runs out, and no room is made beforehand. Inside do_rules
+//! a step is written into one effect that begins as a copy of the node; where memory runs out
+//! it is dropped.
 #![tactic(auto)]
 
 mod basis;

@@ -1,4 +1,7 @@
 //! How a node is started.
+//!
+//! A start asks nothing of other nodes, so the plain machine judges it by a state with no
+//! stations.
 ghost use Rattle.std.specs.Prelude.{◌≡◌, IfOk};
 ghost use Rattle.do_machine.specs.{Effect.only, Start.{begun, start_effect}, run.Fresh.pushed};
 

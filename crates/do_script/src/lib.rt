@@ -1,5 +1,9 @@
 //! The method language: the instructions of a method's code, and the assembler that reads them
 //! from text.
+//!
+//! Jump targets, slots and classes are counted as `usize`. One word in quotes is a quoted text
+//! in its one spelling; other bytes between quotes are plain words. Where two slots or classes
+//! have one name, the first is meant.
 #![tactic(auto)]
 
 mod assembler;

@@ -5,6 +5,10 @@
 //! meets that is `Runnable`. It promises that the record is that of the turns over what the link
 //! told, that each frame was handed over once and in order, and why it ended. The forms are this
 //! project's own.
+//!
+//! Serving is defined as a function over the list that a link tells, `serve_from`, and the
+//! contract says that there is such a list. Where the link tells one, as a link over sockets
+//! does, it is that list: the record is that of turns over the events that the link gave.
 #![tactic(auto)]
 
 mod entering;

@@ -1,4 +1,9 @@
 //! What the inputs of a node write.
+//!
+//! The line of an act is made once and copied, since most lines of a record are that line.
+//!
+//! A node writes its record in pieces of 64 KiB and what is left when it stops, so a put is no
+//! part of what a call costs.
 ghost use Rattle.std.specs.Prelude.{◌≡◌, ◌++◌, ◌∷◌, [], List, OnOk, IfOk, map};
 ghost use Rattle.do_sched.specs.Spelling.{number_pair};
 ghost use Rattle.do_lines.specs.{Lines.joined, Shown.shown_text};

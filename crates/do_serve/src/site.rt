@@ -1,4 +1,8 @@
 //! A node's own state as its server sees it.
+//!
+//! The node's own state is a trait with its rules as one of its members. So serving is proved
+//! without the parts of a site, and a site without serving. A site that a network runs meets it
+//! by two calls more, whether it can act and whether it is idle (`Runnable`).
 ghost use Rattle.std.specs.Prelude.{◌≡◌, ◌∷◌, ◌++◌, [], List, MatchOption, IfOk, OnErr};
 
 use do_base::{NodeId, Shown, Text};

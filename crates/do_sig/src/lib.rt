@@ -9,6 +9,9 @@
 //! `@encode` of clang and of GNUstep's and Apple's runtimes gives them. The profile is this
 //! project's own, and so is what fits which type. Its limits are eight types open at once, counts
 //! up to 1,024, names up to 64 bytes and eight arguments.
+//!
+//! Whether a text at `*` has a byte 0 is found by the kit's `memchr`, which looks at many bytes
+//! at once. A long text is looked at four times on its way there and back.
 #![tactic(auto)]
 
 mod encoding;

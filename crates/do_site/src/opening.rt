@@ -1,4 +1,6 @@
 //! A site as it opens.
+//!
+//! The ports that a site opens with may have its own among them, which is left out.
 ghost use Rattle.std.specs.Prelude.{◌≡◌, ◌≤◌, ◌==◌, ◌∷◌, [], ℕ, IfOk, IsTrue, OnOk, Some, length};
 ghost use Rattle.std.specs.List.{IsDistinct, list_any};
 ghost use Rattle.do_machine.specs.{World.{opening_node, others}, run.Fresh.{blank, with_objects}};

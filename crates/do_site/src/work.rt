@@ -1,4 +1,9 @@
 //! What the steps of a site change.
+//!
+//! Where a call gives a plan, a ruling or a change, it stands behind `let Ok(x) = .. else`, and
+//! what fails returns `Err(AllocError)`. `?` moves the value that it takes out of the result,
+//! and these are of 100 to 250 bytes. Counted by callgrind, a value of such a size is not moved
+//! where the pattern takes it. There is one error, so nothing is told less.
 mod acting;
 mod answering;
 mod closing;

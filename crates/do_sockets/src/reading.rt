@@ -1,4 +1,11 @@
 //! Reads that do not wait.
+//!
+//! A socket is read only where it was found ready. A read that leaves room in its buffer has
+//! taken all that there was, and the system tells each later change once. So a call and its
+//! reply cost each end a wait, a read and a write, one call of the system more than a program
+//! that blocks in its read. Behind a read that filled its buffer the other sockets are looked
+//! at, so a peer that sends without a pause keeps neither peers nor strangers waiting; so they
+//! are wherever the peer that was read may have more.
 ghost use Rattle.std.specs.Prelude.{◌≡◌, ◌<◌, ◌≤◌, ℕ, length};
 ghost use Rattle.do_sockets.specs.declared.reading.Got.TheVariants.{Bytes};
 

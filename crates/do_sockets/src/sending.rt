@@ -1,4 +1,7 @@
 //! Sends to peers.
+//!
+//! Frames that wait for one peer are written one by one, since the list that a link tells has
+//! for each send whether it failed.
 use crate::outbox::Outbox;
 use crate::peer::Outgoing;
 use crate::streams::Streams;

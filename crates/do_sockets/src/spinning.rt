@@ -1,4 +1,16 @@
 //! When a poll reads on for a while before it sleeps.
+//!
+//! A poll that finds nothing waits for a socket for a bounded time, so that a node with nothing
+//! to do takes no processor. A count of turns is then a clock too: a million turns of silence
+//! last some minutes.
+//!
+//! A poll that finds nothing reads the peer that was heard or sent to last, for 50 µs, before
+//! it waits for all sockets. A waiter that is woken costs 10 to 20 µs, more than a call's
+//! answer takes. It does so only after a wait that ended within 50 µs with something; where it
+//! read on for nothing, after 2, 4 .. 1,024 such waits. So a node to which nothing comes
+//! sleeps, and nodes that share a processor lose little (0.4 to 2.8 µs of 45 in a model in C).
+//! Every eighth time it looks at all sockets first, so that two that call each other keep no
+//! third out.
 ghost use Rattle.std.specs.Prelude.{◌≡◌, ◌<◌, ◌≤◌, false, true};
 
 /// How many quick waits a poll may ask for before it reads on again.

@@ -1,4 +1,13 @@
 //! A list in a balanced tree: an item is found, put in or taken out in steps as the logarithm.
+//!
+//! A balanced tree whose places are made before a key is put in: std's ordered map cannot make
+//! room first, and its hashed one has no order. A side weighs by its items and one more, and
+//! none more than three times the other, as in Hirai and Yamamoto's "Balancing weight-balanced
+//! trees". Room for a key is two boxes and an entry of a vector, which `reserve` makes one by
+//! one. What a key had that was taken out is room again. No clause says that the tree is
+//! balanced, since none counts steps. Rows are told one by one, by their place (`row`), since
+//! no slice has them. A look-up, and a value that is written over another, go down by the key
+//! alone. Only a key that is put in or taken out has its place counted first.
 mod balance;
 mod edits;
 mod keys;

@@ -1,4 +1,14 @@
 //! The stack of a node: what a caller sees of it, and each change.
+//!
+//! Late calls stand in the stack, by rising number, in a map by their numbers, so that an
+//! answer finds its call without a walk. A node gives each call a number of its own; a call
+//! that is given up under the number of a late one takes its place. A change of the top is made
+//! in place but for its writes of slots, which are the store's. The values that it took out
+//! come back with what is left to do, so that nothing is counted twice. The top's answer is
+//! taken out by a call of its own (`take_answer`), in place of lending the top out. Who takes
+//! it sets its values by a `Slots` change, and both say what they add to the uses of each
+//! object. An object counts once for each local or answer that names it. An item pushed to a
+//! list that names the object already adds nothing, and the clause says so.
 mod calls;
 mod ends;
 mod steps;

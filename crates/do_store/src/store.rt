@@ -1,4 +1,12 @@
 //! The store of one node: what a caller sees of it, and each change.
+//!
+//! The count of names in slots counts each occurrence, so that the names of a list add up. It
+//! is 0 exactly where no slot names the object. `sweep` promises no order.
+//!
+//! `create` and `set_slot` ask that each object which the new value names is stored and can be
+//! counted once more. `retain` and `release` ask for a count below the highest, and above 0.
+//! `names` and `holders` tell these counts, so that a caller which knows nothing of them can
+//! test first.
 mod holding;
 mod sweeping;
 mod writing;

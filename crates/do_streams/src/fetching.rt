@@ -1,4 +1,10 @@
 //! What was spelled is fetched, where it has a spelling that its peer can read.
+//!
+//! A frame is spelled when it is fetched, and not when it is sent: so sending takes no memory.
+//! A frame that has no spelling which its peer can read is not fetched. That, as a payload over
+//! the limit of a frame, shows as if memory ran out, and what waits stays as it was. The test
+//! is made on what was spelled, each time that it is fetched, so no promise has to hold from
+//! one call to the next. Meanwhile it stays spelled where there was no memory for its bytes.
 ghost use Rattle.std.specs.Prelude.{◌≡◌, ◌↔◌, ◌++◌, IfOk, IsTrue, OnErr, OnOk};
 ghost use Rattle.do_network.specs.{Links.piece_bytes, Spelled.IsSpelledSending};
 ghost use Rattle.do_streams.specs.Streamed.{sending_of};

@@ -1,4 +1,10 @@
 //! The names that a peer's frames named lately, whose table is handed out to a reader.
+//!
+//! A frame that was read changes the names of its link only when it is kept. A frame that may
+//! name objects is read into the link's own table, which is handed out for it. Meanwhile the
+//! link keeps the names as a flat list, 256 at most. The table comes back with the frame that
+//! is kept, and is made anew of the list only behind a frame that was dropped. One of any other
+//! kind needs neither.
 ghost use Rattle.std.specs.Prelude.{◌≡◌, [], IfOk};
 ghost use Rattle.do_coder.specs.Recent.{IsRecent};
 ghost use Rattle.do_streams.specs.Names.{pairs_of};

@@ -1,4 +1,12 @@
 //! The frames that wait to be fetched and the lines that wait to be shown, in one region of cells.
+//!
+//! The frames that wait for any peer and the lines that wait stand in one region of cells, in
+//! one queue of frames and one of lines. So room for both is one number, which is made at once,
+//! and a frame that waits for one peer takes what a line could have taken. Frames to all peers
+//! share a queue, since they are fetched in the order in which they were sent, whatever peer
+//! they go to. A queue for each link would need an order among the queues. The oldest frame is
+//! taken out of its cell before it is spelled, and waits beside the region until its bytes are
+//! there.
 ghost use Rattle.std.specs.Prelude.{◌≡◌, ◌≤◌, ◌+◌, ◌<◌, ◌++◌, ◌∷◌, [], IfOk, IsTrue, MatchOption};
 ghost use Rattle.std.specs.Prelude.{◌↔◌, None, OnErr, OnOk, Some, slice_get};
 ghost use Rattle.std.specs.Option.{option_copied};

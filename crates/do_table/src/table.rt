@@ -1,3 +1,9 @@
+//! Names are kept in the kit's `indexmap`, which finds a name without a walk and keeps the
+//! order in which names came. Std's ordered map would keep them by their bytes, and a plain
+//! list would be walked at each call. Taking out a name closes the gap, which moves the entries
+//! behind it. To move the last into the gap would be faster, but would change the order that
+//! slots show.
+
 ghost use Rattle.std.specs.Prelude.{◌≡◌, ◌<◌, [], not, is_some, length, slice_get, Some, IfOk};
 ghost use Rattle.std.specs.{Prelude.{OnOk, OnErr, map, take}, Map.keys_of, Option.option_copied};
 ghost use Rattle.do_table.specs.Entries.{added, entry_shown, once, removed, replaced, value_of};

@@ -2,6 +2,9 @@
 //!
 //! It stands on do_net, whose sites these are, and on do_lost for what a node names. It promises a
 //! trait alone, which a site implements. The form is this project's own.
+//!
+//! What a site tells of its names is a trait of its own, beside `Hosted`, so that a network of
+//! other sites need not tell it.
 #![tactic(auto)]
 
 mod traced;

@@ -1,4 +1,10 @@
 //! Texts, which are bytes of any kind.
+//!
+//! A text shares its bytes by a counted pointer (`Rc`) to a vector, so that copying a text
+//! takes no memory. The shared buffers of the crate `bytes` can be cut without a copy as well,
+//! which no value needs. But they cannot grow in place: a text that is built byte by byte would
+//! need a second type. A text whose bytes are shared copies them once before it changes, and
+//! taking over a vector takes memory for the count.
 ghost use Rattle.std.specs.Prelude.{◌≡◌, ◌<◌, [], ◌∷◌, ◌++◌, length, slice_set, ◌↔◌, IsTrue, IfOk};
 ghost use Rattle.std.specs.Prelude.{OnErr, OnOk};
 

@@ -1,4 +1,10 @@
 //! The table of recent names while a message is read or written.
+//!
+//! The table is a log of pairs of which its 256 are the last, so that taking back a refused
+//! message is two assignments and needs no memory. An ordered map finds a pair, with two places
+//! of each: one in what was kept, and one in what is new. An entry counts only where the log
+//! has the pair, so that taking back repairs nothing. When log or map has 4,096 entries both
+//! are made anew; if memory runs out there, they go on as they are.
 ghost use Rattle.std.specs.Prelude.{◌≡◌, ◌∷◌, ◌++◌, [], ◌<◌, length, get_or, None, IfOk, OnOk};
 ghost use Rattle.std.specs.Prelude.{OnErr};
 ghost use Rattle.do_coder.specs.{Recent.{pair, place_in, newest, IsRecent}, NameLog.Tables};

@@ -1,4 +1,7 @@
 //! Reading what the payloads that hold a packet are made of.
+//!
+//! A refused frame leaves the table of recent names by the log of do_coder. The table is taken
+//! out as a log, and put back with or without the pairs of the message.
 ghost use Rattle.std.specs.Prelude.{◌≡◌, ◌≤◌, ◌<◌, ◌^◌, IfOk, OnErr};
 ghost use Rattle.do_grammar.specs.RestAnswers.{Gives};
 ghost use Rattle.do_coder.specs.Packets.{surroundings, after_packet};

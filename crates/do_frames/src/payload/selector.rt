@@ -1,4 +1,8 @@
 //! Reading selectors.
+//!
+//! A selector is read byte by byte, since its length is known before its bytes. The eighth
+//! colon is refused unless it is the last byte, and so is a last byte that is no colon once a
+//! colon stood.
 ghost use Rattle.std.specs.Prelude.{◌≡◌, ◌≤◌, ◌<◌, ◌+◌, ◌^◌, length, take, IfOk};
 ghost use Rattle.do_grammar.specs.RestAnswers.{Gives};
 ghost use Rattle.do_frames.specs.Selectors.{begins_selector, colons_after, follows_selector};

@@ -1,4 +1,8 @@
 //! A stream that comes in pieces, and its frames.
+//!
+//! The payload of a raw frame is a cut of the reader's buffer (`Bytes`), or the text of a whole
+//! frame behind its first five bytes. Neither copies anything. Texts inside it are copied once,
+//! when the frame is read. A `Text` can't be cut in two, as a buffer can.
 ghost use Rattle.std.specs.Prelude.{◌≡◌, ◌++◌, ◌≤◌, ◌<◌, ◌^◌, [], true, false, length, get_or};
 ghost use Rattle.std.specs.Prelude.{None, IfOk, OnOk, OnErr};
 ghost use Rattle.do_frames.specs.Streams.{Stream, fault_of, place_after, TakesFrame, TellsNext};

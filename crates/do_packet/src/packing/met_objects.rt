@@ -1,3 +1,9 @@
+//! The objects that a message has met, copied or named, are found by an ordered map beside
+//! their list. A peer chooses the serials of its own objects, and it may pick those among the
+//! sender's. So it could crowd objects into a few places of a table of hashes with a fixed
+//! seed, as the kit's has one. With the map no choice of objects is slow, and none has to be
+//! timed for it; each object costs the logarithm of how many there are.
+
 ghost use Rattle.std.specs.Prelude.{◌≡◌, ◌<◌, ◌^◌, [], length, OnErr, OnOk, IfOk};
 ghost use Rattle.do_packet.specs.Met.{met_one, place};
 

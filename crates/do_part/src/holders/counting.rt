@@ -1,4 +1,9 @@
 //! Names that stand in no value: those that peers were sent, and those that lends and asks are.
+//!
+//! Counts are by occurrence. A node counts each occurrence of a name, in slots, locals and
+//! answers alike. A push then adds the names of its item alone, the names of lists add up, and
+//! nothing has to remember which objects were met. No observable thing depends on it, since
+//! what is asked of a count is only whether it is 0.
 ghost use Rattle.std.specs.Prelude.{◌≡◌, ◌+◌, ◌<◌};
 ghost use Rattle.do_part.specs.{Holding.{CanCome, HasCome, most_names}, Rooting.root_of};
 

@@ -1,5 +1,8 @@
 //! The own objects of a node that are held up beside the root and slots, as lists; which of them
 //! are in use at a peer.
+//!
+//! Whether a peer has an entry of an object is asked of the list of all that it has. So it is
+//! said once what an item exports and releases. The list is made for each question.
 ghost use Rattle.std.specs.{Prelude.{◌≡◌, ◌++◌, IfOk, OnOk}, List.flat_map, Option.option_copied};
 ghost use Rattle.do_machine.specs.{Entry.has_entry, Lists.some_passes, State.{is_open, node}};
 ghost use Rattle.do_rules.specs.Exporting.{exports_of, releases_of};

@@ -1,4 +1,9 @@
 //! Which own objects a node keeps.
+//!
+//! Whether all objects stay is first asked of the root, of slots and of invocations alone. Only
+//! where one does not stay so, what peers have entries of is put together. The names are put in
+//! order by a sort that finds runs, since slots name objects nearly in the order in which they
+//! are stored. Each is looked for first behind the one found before.
 ghost use Rattle.std.specs.{Prelude.{◌≡◌, ◌||◌, IfOk, filter}, List.list_all};
 ghost use Rattle.do_packet.specs.Met.{has_object};
 ghost use Rattle.do_machine.specs.{State.own, held.Kept.{is_root, kept}};

@@ -1,3 +1,6 @@
+//! `Turn` has no invocations below the one that acts, since no rule of an act looks at them.
+//! Where an answer goes is data for the same reason.
+
 use do_behave::Invocation;
 
 /// The turn of an invocation: what its next act is judged by, and the invocation.

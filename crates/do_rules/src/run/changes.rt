@@ -1,4 +1,7 @@
 //! How an invocation changes.
+//!
+//! A change of an invocation is made by do_behave alone: do_rules makes it on a copy, and reads
+//! the step off that.
 ghost use Rattle.std.specs.Prelude.{◌≡◌, OnOk};
 ghost use Rattle.do_machine.specs.run.Changes.{answered, goes_on, uses, with_outs};
 

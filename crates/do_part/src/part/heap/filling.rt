@@ -1,4 +1,8 @@
 //! Objects that may name each other, created together: blank at first, and then filled.
+//!
+//! Objects that name each other are made blank first. A store wants each own object that a slot
+//! names to be stored. So the copies of a message are created with nil in each slot, and then
+//! written. The nils are the one thing that takes memory, before anything changes.
 ghost use Rattle.std.specs.Prelude.{◌≡◌, ◌<◌, ◌≤◌, ◌+◌, ◌^◌, IfOk, OnOk, OnErr, length, map};
 ghost use Rattle.std.specs.Prelude.{replicate};
 ghost use Rattle.do_base.specs.declared.values.value.Value.TheVariants.{Nil};

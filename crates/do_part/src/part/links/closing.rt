@@ -1,4 +1,7 @@
 //! The end of a peer: all that a part has with it.
+//!
+//! A peer's end takes its entries out one by one. Each costs the logarithm of their number, and
+//! all that a part promises holds after each; no list of them is built.
 ghost use Rattle.std.specs.FinMap as map;
 ghost use Rattle.std.specs.Prelude.{◌≡◌, ◌≤◌, ◌+◌, ◌++◌, ◌∷◌, [], ◌==◌, not, true, filter, length};
 ghost use Rattle.std.specs.Prelude.{ℕ, vec_len, map as each, MatchOption, vec_capacity};

@@ -1,4 +1,8 @@
 //! Answers: to calls that invocations wait for, and to the top invocation.
+//!
+//! The top invocation is taken off and put back to change what it waits for. do_stack gives no
+//! access to the top in place, and in room for one invocation this takes no memory. What holds
+//! objects is told only of names that come or go.
 ghost use Rattle.std.specs.{Prelude.{◌≡◌, ◌<◌, ◌≤◌, ◌+◌}, Bool.beq};
 ghost use Rattle.do_machine.specs.{Lists.some_passes, held.Refers.answer_values};
 ghost use Rattle.do_machine.specs.run.{Changes.answered, Fresh.with_stack};

@@ -1,4 +1,10 @@
 //! Invocations that stand until something comes, and the calls that they wait for.
+//!
+//! Each call has a number of its own. The calls that invocations wait for and those that were
+//! given up are numbered by this node, below the next number and none twice: an invariant of a
+//! part. So the invocation that is found by a call's number is the one that the definitions
+//! answer, which look at what was asked for as well. A call that is given up replaces no late
+//! one.
 ghost use Rattle.std.specs.Prelude.{◌≡◌, ◌-◌, ◌+◌, ◌<◌, ◌≤◌, ◌^◌, [], length, Some, slice_get};
 ghost use Rattle.do_behave.specs.declared.invocation.Invocation.{Invocation};
 ghost use Rattle.do_behave.specs.declared.invocation.InvState.TheVariants.{Below, Waits};

@@ -1,4 +1,7 @@
 //! An item appended to a list of the top invocation.
+//!
+//! A push is the one step that takes memory. The list that it is to may grow. All other changes
+//! of the top invocation, several locals at once included, are made in place.
 ghost use Rattle.std.specs.Prelude.{◌≡◌, ◌<◌, ◌≤◌, ◌+◌, [], ◌∷◌, ◌++◌, Some, length, slice_get};
 ghost use Rattle.std.specs.{Prelude.{IsSomeAnd, OnOk, OnErr, List as Listed}, Option.option_copied};
 ghost use Rattle.do_base.specs.declared.values.value.Value.{Value, List};
