@@ -11,9 +11,10 @@ use Rattle.do_class.specs.declared.packet.{Name.TheVariants.{Lent, Mine, Yours},
 use Rattle.do_grammar.specs.BesideHoles.{IsBeside}
 use Rattle.do_class.specs.declared.packet.Part.{Part, fold-Part, TheOpen.Part-F}
 use Rattle.do_grammar.specs.Num.{zigzag}
-use Rattle.do_coder.specs.Parts.{is_bytes}
+use Rattle.do_coder.specs.{Parts.is_bytes, declared.recent.pair.Pair.Pair}
 use Rattle.do_frames.specs.Exceptions.{IsExc}
 use Rattle.do_packet.specs.Limits.{KeepsLimits}
+use Rattle.do_lengths.specs.Short.{IsShort}
 
 -- one level of a value, where it is known of the values inside whether they can be carried
 abbrev pub carried_step : Value-F (ℕ → Bool) → ℕ → Bool
@@ -78,13 +79,14 @@ pub record CopyIsSendable (table : Listed Class) (c : Copied) : Type 0 where
   pub whole : HasSlots table c.class (length c.slots)
 
 -- A message from one port to another within the limits, whose places are there, and whose names,
--- values and slots can be spelled
+-- values and slots can be spelled in not too many bytes, whatever was named lately
 pub record IsSendablePacket (table : Listed Class) (from to : ℕ) (p : Packet) : Type 0 where
   pub limits : KeepsLimits p
   pub names : AllByRecursion (NameIsSendable table from to) p.names
   pub few : length p.values ≤ 9
   pub values : AreSendableParts p.values
   pub slots : AllByRecursion (CopyIsSendable table) p.copies
+  pub short : (recent : Listed Pair) → IsShort recent p
 
 -- an exception that a message can carry
 abbrev pub IsSendableExc : Exc → Type 0

@@ -1,21 +1,24 @@
 -- What sites send within what frames can spell.
 use Rattle.do_base.specs.declared.events.event.Event.TheVariants as events
 use Rattle.do_network.specs.declared.input.Input.TheVariants as inputs
-use Rattle.std.specs.{Prelude.{List, Some, slice_get, ℕ, ◌≡◌}, List.AllByRecursion}
+use Rattle.std.specs.{Prelude.{List, Some, length, slice_get, ℕ, ◌≡◌, ◌≤◌}, List.AllByRecursion}
 use Rattle.do_base.specs.declared.events.event.Event.{Event}
 use Rattle.do_class.specs.Class.{Class}
 use Rattle.do_coder.specs.Packets.{surroundings}
 use Rattle.do_frames.specs.Frames.{IsFrame}
+use Rattle.do_lengths.specs.Short.{longest_payload}
 use Rattle.do_machine.specs.run.Run.{Acting}
 use Rattle.do_network.specs.declared.input.Input.{Input}
 use Rattle.do_network.specs.{Links.{Framed, Greeting, Part, Piece, Sending}, Net.{Carried, Channel}}
 use Rattle.do_network.specs.Net.{Net, change_place, channel, part_at, with_channel}
 use Rattle.do_network.specs.{Site.{Handled, enabled_input}, Step.{advanced, input_of}}
 
--- a frame from one port to another has a spelling, as the greeting always has
+-- a frame from one port to another has a spelling, whose payload is not too long; the greeting
+-- always has one
 abbrev pub IsSpelledPiece : List Class → ℕ → ℕ → Piece → Type 0
 IsSpelledPiece table from to Greeting = Unit {0}
-IsSpelledPiece table from to (Framed f spelled) = IsFrame (surroundings table from to) f
+IsSpelledPiece table from to (Framed f spelled) =
+    IsFrame (surroundings table from to) f × (length spelled.payload ≤ longest_payload)
 
 -- so has what a port sends to a peer
 abbrev pub IsSpelledSending : List Class → ℕ → Sending → Type 0

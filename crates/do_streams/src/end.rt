@@ -1,4 +1,4 @@
-ghost use Rattle.std.specs.Prelude.{◌≡◌, [], IfOk, OnErr, OnOk, false, true};
+ghost use Rattle.std.specs.Prelude.{◌≡◌, ◌≤◌, [], IfOk, OnErr, OnOk, false, length, true};
 ghost use Rattle.do_frames.specs.{Frames.{after_frame, frame_spelling}, Streams.hello};
 
 use crate::names::Names;
@@ -78,6 +78,7 @@ impl End {
     /// longer than that of a frame may be, the end is unchanged.
     pub fn spell(&mut self, alloc: Global, frame: &Frame) -> Result<Text, AllocError>
         ensures text { IfOk result (λ text. text ≡ frame_spelling self.old.sent frame.now) }
+        ensures short { IfOk result (λ text. length text ≤ 2098181) }
         ensures end { OnOk result
             (self.new ≡ record self.old { sent = after_frame self.old.sent frame.now }) }
         ensures err { OnErr result (self.new ≡ self.old) }

@@ -1,4 +1,4 @@
-ghost use Rattle.std.specs.Prelude.{◌≡◌};
+ghost use Rattle.std.specs.Prelude.{◌≡◌, ◌≤◌, length};
 ghost use Rattle.do_network.specs.Links.{piece_bytes};
 ghost use Rattle.do_streams.specs.Pieces.{piece_in};
 
@@ -12,7 +12,8 @@ pub struct Spelled {
     pub to: NodeId,
     /// The frame that is spelled. None where it is the greeting of a stream.
     pub frame: Option<Frame>,
-    /// The bytes.
+    /// The bytes, which are a header and a payload within its limit at most.
     pub bytes: Text,
     ghost exact: { bytes ≡ piece_bytes (piece_in frame bytes) },
+    ghost short: { length bytes ≤ 2098181 },
 }

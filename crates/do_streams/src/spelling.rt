@@ -58,7 +58,8 @@ fn spell_greeting(alloc: Global, end: &mut End) -> Result<Spelled, AllocError>
 
 /// A frame with its peer, spelled by names that were sent before.
 fn spelled_frame(next: Outgoing, bytes: Text) -> Spelled
-    requires { (names : List Pair) × (bytes ≡ frame_spelling names next.frame) }
+    requires spelled { (names : List Pair) × (bytes ≡ frame_spelling names next.frame) }
+    requires short { length bytes ≤ 2098181 }
     ensures { (names : List Pair) → bytes ≡ frame_spelling names next.frame → sending_of result
         ≡ record { to = next.to; piece = Framed next.frame (raw names next.frame) } }
 {

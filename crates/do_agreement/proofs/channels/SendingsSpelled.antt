@@ -42,8 +42,8 @@ module _ (table : List Class) (from : ℕ) where
           (cond b (Framed x.frame (raw l.sent x.frame) ∷ [])
           (Greeting ∷ Framed x.frame (raw l.sent x.frame) ∷ []))) →
           IsFrame (surroundings table from x.to) x.frame
-      go true all = all.0
-      go false all = all.1.0
+      go true all = all.0.0
+      go false all = all.1.0.0
 
   module _ (to : ℕ) (received : Counts) where
     -- an item has a spelling on its way to the peer

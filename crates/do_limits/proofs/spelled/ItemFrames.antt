@@ -1,4 +1,5 @@
 -- The frame of each item on its way has a spelling, while the numbers are small.
+use Rattle.do_frames.specs.declared.frame.Frame.TheVariants as frames
 use Rattle.do_machine.specs.declared.item.Item.TheVariants as items
 use Rattle.do_limits.proofs.spelled.Calls
 use Rattle.do_limits.proofs.spelled.Tokens
@@ -9,10 +10,12 @@ use Rattle.std.proofs.lemmas.{Bool.Decides.nat_tests, List.length-map}
 use Rattle.std.proofs.lemmas.List.Elements.{recursion_from_All}
 use Rattle.do_base.specs.names.Names.{ObjectName, TokenName}
 use Rattle.do_sched.specs.Good.{IsPort}
-use Rattle.do_frames.specs.Frames.{IsToken}
+use Rattle.do_frames.specs.{Frames.{IsFrame, IsToken}, declared.frame.Frame.Frame}
+use Rattle.do_lengths.specs.Short.{HasShortPacket}
+use Rattle.do_lengths.proofs.Frames.{payload_short}
 use Rattle.do_class.specs.{Class.Class, declared.packet.Name.Name}
 use Rattle.do_class.specs.declared.packet.{Name.TheVariants.{Lent, Mine, Yours}, Packet.Packet}
-use Rattle.do_coder.specs.{Names.IsName, Recent.IsSerial}
+use Rattle.do_coder.specs.{Names.IsName, Recent.IsSerial, declared.recent.pair.Pair.Pair}
 use Rattle.do_frames.specs.Selectors.{IsSelector}
 use Rattle.do_machine.specs.{declared.item.Message.Message, Objects.object_at}
 use Rattle.do_coder.specs.Packets.{IsPacket, sides_of, surroundings}
@@ -23,7 +26,7 @@ use Rattle.do_facts.specs.{View.{net_of, part_seen}, calls.Calls.{calls, atoms a
 use Rattle.do_facts.specs.{Made.{NamedAreMade, was_made}, links.Links.{atoms, links, packet_atoms}}
 use Rattle.do_limits.specs.{Numbers.AllNumbersWithin, Sendable.{IsSendablePacket, NameIsSendable}}
 use Rattle.do_limits.specs.SendableStates.{HasSerial, ItemIsSendable, MessageIsSendable}
-use Rattle.do_limits.specs.{SendableStates.StateIsSendable, Spelled.ItemIsSpelled}
+use Rattle.do_limits.specs.{SendableStates.StateIsSendable, Spelled.{FrameIsSpelled, ItemIsSpelled}}
 use Rattle.do_limits.proofs.spelled.CallMoves.{CallsGiven, ServedGiven}
 use Rattle.do_limits.proofs.spelled.LentTokens.{NameGiven, TokenGiven, names_given}
 use Rattle.do_limits.proofs.spelled.{ServedCalls.AtomGiven, TokenMoves.{TokensGiven, AsksGiven}}
@@ -166,29 +169,49 @@ module _ (table : List Class) (S : State) (ok : StateIsSendable table S) (count 
     NumbersOf item =
         AllByRecursion (AtomGiven (Calls.Given (net_of calls S)) from to) (call_atoms item)
 
+    -- a frame whose packet is short
+    framed : (f : Frame) → IsFrame (surroundings table from to) f →
+        ((recent : List Pair) → HasShortPacket recent f) →
+        FrameIsSpelled (surroundings table from to) f
+    framed f is short =
+        (is, λ recent. payload_short (surroundings table from to) f recent is (short recent))
+
     -- an item
     item_fits : (item : Item) → ItemIsSendable table from to item →
         AreMade (names from to item) → TokensOf item → NumbersOf item →
         ItemIsSpelled (surroundings table from to) item
     item_fits (items.Call number m) h made lent calls =
-        (number_small from number calls.0, message_fits m h made lent.1)
-    item_fits (items.Oneway m) h made lent calls = message_fits m h made lent.1
+        framed (frames.Call number m.target m.selector m.packet)
+        (number_small from number calls.0, message_fits m h made lent.1) h.packet.short
+    item_fits (items.Oneway m) h made lent calls =
+        framed (frames.Oneway m.target m.selector m.packet) (message_fits m h made lent.1)
+        h.packet.short
     item_fits (items.Reply number packet) h made lent calls =
-        (number_small to number calls.0, packet_fits packet h made lent)
-    item_fits (items.Raised number e) h made lent calls = (number_small to number calls.0, h)
-    item_fits (items.RootAsk number) h made lent calls = number_small from number calls.0
+        framed (frames.Reply number packet)
+        (number_small to number calls.0, packet_fits packet h made lent) h.short
+    item_fits (items.Raised number e) h made lent calls =
+        framed (frames.Raised number e) (number_small to number calls.0, h) (λ recent. tt)
+    item_fits (items.RootAsk number) h made lent calls =
+        framed (frames.RootAsk number) (number_small from number calls.0) (λ recent. tt)
     item_fits (items.RootAnswer number packet) h made lent calls =
-        (number_small to number calls.0, packet_fits packet h made lent)
+        framed (frames.RootAnswer number packet)
+        (number_small to number calls.0, packet_fits packet h made lent) h.short
     item_fits (items.Ask serial t) h made lent calls =
-        token_fits (object_at to serial) t h made.0 lent.0
+        framed (frames.Retain serial t) (token_fits (object_at to serial) t h made.0 lent.0)
+        (λ recent. tt)
     item_fits (items.Granted serial t) h made lent calls =
-        token_fits (object_at from serial) t h made.0 lent.0
+        framed (frames.Granted serial t) (token_fits (object_at from serial) t h made.0 lent.0)
+        (λ recent. tt)
     item_fits (items.Gone serial t) h made lent calls =
-        token_fits (object_at from serial) t h made.0 lent.0
+        framed (frames.Gone serial t) (token_fits (object_at from serial) t h made.0 lent.0)
+        (λ recent. tt)
     item_fits (items.Left serial) h made lent calls =
-        λ amount k. ((h, made_small (object_at to serial) made.0), k)
-    item_fits (items.Settled number) h made lent calls = token_small to number lent.0
-    item_fits (items.End serials) h made lent calls = tt
+        λ amount k.
+        framed (frames.Release serial amount)
+        ((h, made_small (object_at to serial) made.0), k) (λ recent. tt)
+    item_fits (items.Settled number) h made lent calls =
+        framed (frames.Settle number) (token_small to number lent.0) (λ recent. tt)
+    item_fits (items.End serials) h made lent calls = framed frames.Shutdown tt (λ recent. tt)
 
     -- items one behind the other
     items_fit : (waiting : List Item) → AllByRecursion (ItemIsSendable table from to) waiting →

@@ -19,7 +19,8 @@ use Rattle.do_packet.specs.{Parts.part_of, Seen.Sender, declared.fault.PackFault
 use Rattle.do_packet.specs.declared.role.Role.{Role, TheVariants.{Absent, Copied, Named}}
 use Rattle.do_limits.specs.Sendable.{AreSendableParts, CopyIsSendable, IsSendable, IsSendablePacket}
 use Rattle.do_limits.specs.Sendable.{NameIsSendable, can_carry, can_spell}
-use Rattle.do_packet.proofs.Keeping.{packed_keeps}
+use Rattle.do_packet.proofs.{Keeping.packed_keeps, Packed.packed_as}
+use Rattle.do_lengths.proofs.Names.{packed_fits}
 use Rattle.do_facts.proofs.links.NamedInMessages.{all_nameable}
 use Rattle.do_limits.proofs.values.Naming.{IsOwn, SenderIsSendable, copies_own, copy_whole}
 use Rattle.do_limits.proofs.values.Naming.{each_named}
@@ -198,4 +199,10 @@ module _ (s : Sender) (to token : ℕ) (values : Listed Placed) where
             (placed_spelled s C N values sent);
         slots = subst (λ (q : Packet). AllByRecursion (CopyIsSendable s.table) q.copies) (sym is)
             (copies_spelled s C N ok C (copies_own s ok values));
+        short = λ recent.
+            omega (
+              arith,
+              packed_fits s to token values recent p e,
+              (packed_as s to token values p e).light,
+            );
       }

@@ -6,12 +6,11 @@ use Rattle.std.proofs.Common.{filter, refl, sym, ap, subst, arith}
 use Rattle.std.{specs.{Prelude.{suc, zero}, List.AllByRecursion}, proofs.lemmas.Bool.eqb-true}
 use Rattle.do_coder.specs.{Packets.Surroundings, Recent.IsSerial}
 use Rattle.do_export.specs.Counts.{Counts, count_of}
-use Rattle.do_frames.specs.Frames.{IsFrame}
 use Rattle.do_packet.specs.Met.{has_object}
 use Rattle.do_machine.specs.{declared.{item.Item.Item, state.Parcel.Parcel}, Objects.object_at}
 use Rattle.do_network.specs.{Frames.{amount_of, frame_of}, fits.Notes.{Note, note_frame}}
 use Rattle.do_facts.specs.{View.posted, links.{Links.{Atom, Links, atoms, links}, Moves.opens}}
-use Rattle.do_limits.specs.Spelled.{ItemIsSpelled}
+use Rattle.do_limits.specs.Spelled.{FrameIsSpelled, ItemIsSpelled}
 use Rattle.do_agreement.specs.Accounted.{Accounted, given, told, worth, worth_of}
 use Rattle.do_agreement.specs.NotesSent.{note_sent, notes_to}
 use Rattle.do_agreement.proofs.{counts.EffectAccounts.either_way, pairs.NotesAsAtoms.items_of}
@@ -105,15 +104,14 @@ module _ (received : Counts) (to : ℕ) where
 module _ (around : Surroundings) where
   -- the frame of an item that has a spelling, with an amount that has one
   note_spelled : (item : Item) (amount : ℕ) → ItemIsSpelled around item →
-      HasAmount item amount → IsFrame around (frame_of amount item)
+      HasAmount item amount → FrameIsSpelled around (frame_of amount item)
   note_spelled (items.Left s) amount h a = h amount a
-  note_spelled (items.End serials) amount h a = tt
   note_spelled _ amount h a = h
 
   -- each frame of what is under way
   pub notes_spelled : (xs : List Note) → AllByRecursion (ItemIsSpelled around) (items_of xs) →
       AllByRecursion NoteHasAmount xs →
-      AllByRecursion (λ x. IsFrame around (note_frame x)) xs
+      AllByRecursion (λ x. FrameIsSpelled around (note_frame x)) xs
   notes_spelled [] h a = tt
   notes_spelled (x ∷ xs) h a =
       (note_spelled x.item x.amount h.0 a.0, notes_spelled xs h.1 a.1)

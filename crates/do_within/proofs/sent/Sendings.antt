@@ -6,11 +6,13 @@ use Rattle.std.proofs.lemmas.Bool.{eqb-true}
 use Rattle.do_class.specs.Class.{Class}
 use Rattle.do_coder.specs.Packets.{surroundings}
 use Rattle.do_export.specs.Counts.{Counts}
-use Rattle.do_frames.specs.Frames.{IsFrame, raw}
+use Rattle.do_frames.specs.Frames.{raw}
+use Rattle.do_limits.specs.Spelled.{FrameIsSpelled}
 use Rattle.do_machine.specs.{Lists.change_first, declared.state.Parcel.Parcel}
 use Rattle.do_network.specs.{Frames.{Posted, all_posted, posted}, Links.{Framed, Greeting, Link}}
 use Rattle.do_network.specs.Links.{Piece, Sending, all_sent, change_link, link_to, sendings}
-use Rattle.do_network.specs.{Spelled.IsSpelledSending, fits.Notes.{Note, note_frame}}
+use Rattle.do_network.specs.Spelled.{IsSpelledPiece, IsSpelledSending}
+use Rattle.do_network.specs.fits.Notes.{Note, note_frame}
 use Rattle.do_agreement.specs.NotesSent.{note_sent, notes_to}
 use Rattle.do_agreement.proofs.channels.{SendingsSpelled.first_sent, SendsCarried.sent_over}
 use Rattle.do_agreement.proofs.places.KeyedLists.{found_changed, found_elsewhere}
@@ -50,7 +52,7 @@ module _ (table : List Class) (from : ℕ) where
   -- what goes to a peer has a spelling
   abbrev pub NotesSpelled : ℕ → List Note → Type 0
   NotesSpelled to xs =
-      AllByRecursion (λ x. IsFrame (surroundings table from to) (note_frame x)) xs
+      AllByRecursion (λ x. FrameIsSpelled (surroundings table from to) (note_frame x)) xs
 
   -- so has what goes to each peer to which there is a link
   abbrev pub GoesSpelled : Counts → List Parcel → List Link → Type 0
@@ -59,27 +61,30 @@ module _ (table : List Class) (from : ℕ) where
 
   -- the pieces of a frame
   pieces_spelled : (x : Posted) (found : Option Link) →
-      (is_some found ≡ true → IsFrame (surroundings table from x.to) x.frame) →
+      (is_some found ≡ true → FrameIsSpelled (surroundings table from x.to) x.frame) →
       AllByRecursion Spelled (sendings x found)
   pieces_spelled x None h = tt
   pieces_spelled x (Some l) h = go l.greeted
     where
+      framed : IsSpelledPiece table from x.to (Framed x.frame (raw l.sent x.frame))
+      framed = let is = h refl in (is.0, is.1 l.sent)
+
       go : (b : Bool) → AllByRecursion Spelled
           (map (λ (piece : Piece). record { to = x.to; piece = piece })
           (cond b (Framed x.frame (raw l.sent x.frame) ∷ [])
           (Greeting ∷ Framed x.frame (raw l.sent x.frame) ∷ [])))
-      go true = (h refl, tt)
-      go false = (tt, (h refl, tt))
+      go true = (framed, tt)
+      go false = (tt, (framed, tt))
 
   module _ (received : Counts) where
     -- the first goes to its peer
     first_goes : (x : Parcel) (ps : List Parcel) → NotesSpelled x.to (notes_to received x.to
-        (x ∷ ps)) → IsFrame (surroundings table from x.to) (posted received x).frame
+        (x ∷ ps)) → FrameIsSpelled (surroundings table from x.to) (posted received x).frame
     first_goes x ps = go (x.to == x.to) (same_number x.to)
       where
         go : (b : Bool) → b ≡ true → NotesSpelled x.to (map (note_sent received) (cond b
             (x ∷ filter (λ y. y.to == x.to) ps) (filter (λ y. y.to == x.to) ps))) →
-            IsFrame (surroundings table from x.to) (posted received x).frame
+            FrameIsSpelled (surroundings table from x.to) (posted received x).frame
         go true e h = h.0
         go false e h = absurd (cc)
 
