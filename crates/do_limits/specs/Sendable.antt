@@ -79,13 +79,17 @@ pub record CopyIsSendable (table : Listed Class) (c : Copied) : Type 0 where
   pub whole : HasSlots table c.class (length c.slots)
 
 -- A message from one port to another within the limits, whose places are there, and whose names,
--- values and slots can be spelled in not too many bytes, whatever was named lately
-pub record IsSendablePacket (table : Listed Class) (from to : ℕ) (p : Packet) : Type 0 where
+-- values and slots can be spelled
+pub record IsReadablePacket (table : Listed Class) (from to : ℕ) (p : Packet) : Type 0 where
   pub limits : KeepsLimits p
   pub names : AllByRecursion (NameIsSendable table from to) p.names
   pub few : length p.values ≤ 9
   pub values : AreSendableParts p.values
   pub slots : AllByRecursion (CopyIsSendable table) p.copies
+
+-- Such a message that takes no more bytes than the heaviest may, whatever was named lately
+pub record IsSendablePacket (table : Listed Class) (from to : ℕ) (p : Packet) : Type 0 where
+  pub read : IsReadablePacket table from to p
   pub short : (recent : Listed Pair) → IsShort recent p
 
 -- an exception that a message can carry

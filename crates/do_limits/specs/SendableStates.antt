@@ -3,7 +3,7 @@ use Rattle.do_machine.specs.declared.item.Item.TheVariants as items
 use Rattle.std.specs.{Prelude.{List, length, ℕ, ◌≡◌, ◌≤◌}, List.AllByRecursion}
 use Rattle.do_sched.specs.Good.{IsPort}
 use Rattle.do_base.specs.names.Names.{ObjectName}
-use Rattle.do_class.specs.Class.{Class}
+use Rattle.do_class.specs.{Class.Class, declared.packet.Packet.Packet}
 use Rattle.do_frames.specs.Selectors.{IsSelector}
 use Rattle.do_behave.specs.declared.invocation.Answer.{Answer, TheVariants.{Given, Raised}}
 use Rattle.do_behave.specs.declared.invocation.{Invocation.Invocation, InvState.InvState}
@@ -12,7 +12,7 @@ use Rattle.do_machine.specs.declared.{item.{Item.Item, Message.Message}, node.No
 use Rattle.do_machine.specs.declared.{node.{Stored.Stored, Wanted.Wanted}, state.Queue.Queue}
 use Rattle.do_machine.specs.declared.state.{Station.Station, State.State}
 use Rattle.do_limits.specs.Sendable.{AreSendable, HasSlots, IsOfTable, IsSendable, IsSendableExc}
-use Rattle.do_limits.specs.Sendable.{IsSendablePacket}
+use Rattle.do_limits.specs.Sendable.{IsReadablePacket, IsSendablePacket}
 
 -- the result, the out values or the exception of an answer
 abbrev pub AnswerIsSendable : Answer → Type 0
@@ -30,25 +30,36 @@ pub record InvocationIsSendable (i : Invocation) : Type 0 where
   pub sixteen : length i.locals ≡ 16
   pub answer : HasSendableAnswer i.state
 
--- A message to an object, by its selector
-pub record MessageIsSendable (table : List Class) (from to : ℕ) (m : Message) : Type 0 where
+-- A message to an object, by its selector, with such a packet
+pub record MessageHas (P : Packet → Type 0) (m : Message) : Type 0 where
   pub target : 1 ≤ m.target
   pub selector : IsSelector m.selector
-  pub packet : IsSendablePacket table from to m.packet
+  pub packet : P m.packet
 
--- the message, the exception or the serial of an item on its way from one port to another
+-- the message with such a packet, the exception or the serial of an item
+abbrev pub ItemHas : (Packet → Type 0) → Item → Type 0
+ItemHas P (items.Call number m) = MessageHas P m
+ItemHas P (items.Oneway m) = MessageHas P m
+ItemHas P (items.Reply number packet) = P packet
+ItemHas P (items.RootAnswer number packet) = P packet
+ItemHas P (items.Raised number e) = IsSendableExc e
+ItemHas P (items.Ask serial token) = 1 ≤ serial
+ItemHas P (items.Granted serial token) = 1 ≤ serial
+ItemHas P (items.Gone serial token) = 1 ≤ serial
+ItemHas P (items.Left serial) = 1 ≤ serial
+ItemHas P _ = Unit {0}
+
+-- a message from one port to another
+abbrev pub MessageIsSendable : List Class → ℕ → ℕ → Message → Type 0
+MessageIsSendable table from to m = MessageHas (IsSendablePacket table from to) m
+
+-- an item on its way from one port to another
 abbrev pub ItemIsSendable : List Class → ℕ → ℕ → Item → Type 0
-ItemIsSendable table from to (items.Call number m) = MessageIsSendable table from to m
-ItemIsSendable table from to (items.Oneway m) = MessageIsSendable table from to m
-ItemIsSendable table from to (items.Reply number packet) = IsSendablePacket table from to packet
-ItemIsSendable table from to (items.RootAnswer number packet) =
-    IsSendablePacket table from to packet
-ItemIsSendable table from to (items.Raised number e) = IsSendableExc e
-ItemIsSendable table from to (items.Ask serial token) = 1 ≤ serial
-ItemIsSendable table from to (items.Granted serial token) = 1 ≤ serial
-ItemIsSendable table from to (items.Gone serial token) = 1 ≤ serial
-ItemIsSendable table from to (items.Left serial) = 1 ≤ serial
-ItemIsSendable table from to _ = Unit {0}
+ItemIsSendable table from to item = ItemHas (IsSendablePacket table from to) item
+
+-- an item that a peer's frame can bring
+abbrev pub ItemIsReadable : List Class → ℕ → ℕ → Item → Type 0
+ItemIsReadable table from to item = ItemHas (IsReadablePacket table from to) item
 
 -- the serial and the slots of an object, which are those of its class
 pub record ObjectIsSendable (table : List Class) (x : Stored) : Type 0 where

@@ -19,8 +19,8 @@ use Rattle.do_facts.proofs.{OpeningAsNet.opened, steps.EachIsStep.step_is}
 use Rattle.do_facts.proofs.steps.OthersStay.{move_leaves_others, move_leaves_own}
 use Rattle.do_limits.specs.Numbers.{AllNumbersWithin, NumbersWithin}
 use Rattle.do_limits.specs.SendableActs.{AllStartSendable, KeepsSendable}
-use Rattle.do_limits.specs.SendableStates.{ItemIsSendable, StateIsSendable}
-use Rattle.do_limits.proofs.Senders.{ContextIsSendable}
+use Rattle.do_limits.specs.SendableStates.{ItemIsReadable, StateIsSendable}
+use Rattle.do_limits.proofs.{takes.Readable.sent_is_readable, Senders.ContextIsSendable}
 use Rattle.do_limits.proofs.numbers.Rises.{Rises, run_rises, same_rises, same_rises_if, take_rises}
 use Rattle.do_limits.proofs.numbers.Same.{closing_same, start_same, time_out_same}
 use Rattle.do_limits.proofs.states.States.{context_sendable, node_sendable, queue_sendable}
@@ -102,7 +102,8 @@ module _ (count : ℕ) where
       let home = (node_sendable table S ok port n here).0.numbers.0 in
       moves port n d U (requeued from port port rest S.stations ∙ here)
       (subst (Rises n) (sym rule.1) (take_rises (context table U n) from item
-      (subst (λ x. ItemIsSendable table from x item) (sym home) w.0)))
+      (subst (λ x. ItemIsReadable table from x item) (sym home)
+      (sent_is_readable table from port item w.0))))
       (λ p k q. all p k (sym (requeued from port p rest S.stations) ∙ q)) other m
       (ap (λ x. node x.state other) (sym e) ∙ h)
   came small acts S event s ok (Loses from to after waiting is waits few e) all other m h =

@@ -17,7 +17,7 @@ use Rattle.do_machine.specs.{lend.Lending.{lend_of, posting}, run.Answers.answer
 use Rattle.do_facts.proofs.{Deliveries.{Delivers, by_delivery, by_failing}, walk.Done.each_done}
 use Rattle.do_facts.proofs.walk.SmallEffects.{by_ask_over, by_granting}
 use Rattle.do_limits.specs.SendableActs.{KeepsSendable}
-use Rattle.do_limits.specs.SendableStates.{InvocationIsSendable, ItemIsSendable}
+use Rattle.do_limits.specs.SendableStates.{InvocationIsSendable, ItemIsReadable}
 use Rattle.do_limits.proofs.runs.{Runs.judged, Verdicts.{RequestIsSendable, VerdictIfSendable}}
 use Rattle.do_limits.proofs.runs.Verdicts.{VerdictIsSendable, message_keeps}
 use Rattle.do_machine.specs.declared.{item.Item.Item, node.Node.Node, state.Effect.Effect}
@@ -108,7 +108,7 @@ module _ (r : RunContext) where
     token = omega (arith, ap (λ x. x.1.1) k);
   }
   request_rises peer (requests.Call method x) m h k =
-      posting_rises n (uses_number m) peer x.packet (items.Call n.next_call x) h.packet.limits
+      posting_rises n (uses_number m) peer x.packet (items.Call n.next_call x) h.packet.read.limits
       (omega (arith, ap (λ x. x.0) k)) (ap (λ x. x.1.0) k) (ap (λ x. x.1.1) k)
 
   -- each verdict
@@ -121,7 +121,7 @@ module _ (r : RunContext) where
       refl
   verdict_rises (Tells peer m into pc) h =
       posting_rises n (with_top r (goes_on into Nil pc r.top)) peer m.packet (items.Oneway m)
-      h.packet.limits (omega arith) refl refl
+      h.packet.read.limits (omega arith) refl refl
   verdict_rises (Returns result outs) h =
       by_delivery (λ reason e. Rises n e) r delivers (Given result outs) r.top.reason
   verdict_rises (Fails e) h = by_failing (λ reason e. Rises n e) r delivers e r.top.handler
@@ -170,7 +170,7 @@ module _ (c : Context) (from : ℕ) where
       }
 
   -- what an item comes to
-  arrival_rises : (item : Item) → ItemIsSendable c.table from c.node.port item → (n : Node) →
+  arrival_rises : (item : Item) → ItemIsReadable c.table from c.node.port item → (n : Node) →
       Rises n (arrival c from item n)
   arrival_rises (items.Call number m) h n =
       let reason = reasons.Call from number in
@@ -197,7 +197,7 @@ module _ (c : Context) (from : ℕ) where
   arrival_rises _ h n = same_rises n _ refl
 
   -- a take
-  pub take_rises : (item : Item) → ItemIsSendable c.table from c.node.port item →
+  pub take_rises : (item : Item) → ItemIsReadable c.table from c.node.port item →
       Rises c.node (take_effect c from item)
   take_rises item h =
       let m = holding (exported from c.node.port item) c.node in

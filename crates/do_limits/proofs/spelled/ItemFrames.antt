@@ -11,8 +11,7 @@ use Rattle.std.proofs.lemmas.List.Elements.{recursion_from_All}
 use Rattle.do_base.specs.names.Names.{ObjectName, TokenName}
 use Rattle.do_sched.specs.Good.{IsPort}
 use Rattle.do_frames.specs.{Frames.{IsFrame, IsToken}, declared.frame.Frame.Frame}
-use Rattle.do_lengths.specs.Short.{HasShortPacket}
-use Rattle.do_lengths.proofs.Frames.{payload_short}
+use Rattle.do_lengths.{specs.Short.HasShortPacket, proofs.Frames.payload_short}
 use Rattle.do_class.specs.{Class.Class, declared.packet.Name.Name}
 use Rattle.do_class.specs.declared.packet.{Name.TheVariants.{Lent, Mine, Yours}, Packet.Packet}
 use Rattle.do_coder.specs.{Names.IsName, Recent.IsSerial, declared.recent.pair.Pair.Pair}
@@ -138,12 +137,12 @@ module _ (table : List Class) (S : State) (ok : StateIsSendable table S) (count 
         AllByRecursion (TokenGiven G from to) (packet_atoms p) →
         IsPacket (surroundings table from to) p
     packet_fits p h made given =
-        let parts = message_spelled table from to p h in
+        let parts = message_spelled table from to p h.read in
         record {
           names = record {
             at_least = omega arith;
-            at_most = h.limits.names;
-            each = names_fit p.names h.names made (names_given G from to p.names given);
+            at_most = h.read.limits.names;
+            each = names_fit p.names h.read.names made (names_given G from to p.names given);
           };
           copies = parts.copies;
           values = parts.values;

@@ -18,14 +18,15 @@ use Rattle.do_facts.specs.steps.IsStep.{Acts, Checks, IsRuleOf, IsStep, Loses, S
 use Rattle.do_facts.proofs.steps.EachIsStep.{step_is}
 use Rattle.do_machine.specs.check.Blocks.{followed, steps}
 use Rattle.do_limits.specs.SendableActs.{AllStartSendable, KeepsSendable, StartsSendable}
-use Rattle.do_limits.specs.SendableStates.{ItemIsSendable, QueueIsSendable, StateIsSendable}
-use Rattle.do_limits.specs.SendableStates.{StationIsSendable}
+use Rattle.do_limits.specs.SendableStates.{ItemIsReadable, ItemIsSendable, QueueIsSendable}
+use Rattle.do_limits.specs.SendableStates.{StateIsSendable, StationIsSendable}
 use Rattle.do_limits.proofs.Effects.{EffectIsSendable, blank_sendable}
 use Rattle.do_facts.proofs.{walk.Done.done_there, EachOfLists.each_inserted}
 use Rattle.do_limits.proofs.{Lists.each_placed, runs.Runs.run_sendable}
 use Rattle.do_limits.proofs.{runs.Starts.{start_sendable, time_out_sendable}, takes.Ends.closes}
-use Rattle.do_limits.proofs.{takes.Takes.take_sendable, states.States.{context_sendable, moves}}
-use Rattle.do_limits.proofs.states.States.{node_sendable, queue_sendable, requeues}
+use Rattle.do_limits.proofs.takes.{Readable.sent_is_readable, Takes.take_sendable}
+use Rattle.do_limits.proofs.states.States.{context_sendable, moves, node_sendable, queue_sendable}
+use Rattle.do_limits.proofs.states.States.{requeues}
 
 -- ---- steps
 
@@ -66,7 +67,8 @@ module _ (table : List Class) (act : Acting) (small : HasMethods table)
       let home = (node_sendable table S ok port n here).0.numbers.0 in
       let c = context_sendable table T after port n still in
       let took = take_sendable (context table T n) from small c item
-      (subst (λ x. ItemIsSendable table from x item) (sym home) w.0) in
+      (subst (λ x. ItemIsReadable table from x item) (sym home)
+      (sent_is_readable table from port item w.0)) in
       subst (λ x. StateIsSendable table x.state) (sym e)
       (moves table port T d
       (subst (EffectIsSendable table port) (sym rule.1)

@@ -8,7 +8,7 @@ use Rattle.do_packet.specs.Met.{has_object}
 use Rattle.do_machine.specs.{declared.item.Item.Item, Items.{Naming, Released, exported}}
 use Rattle.do_machine.specs.Items.{is_exported, name_naming, named_as, names, naming}
 use Rattle.do_machine.specs.{Lists.inserted, Objects.{joined, object_lt}}
-use Rattle.do_limits.specs.{Sendable.NameIsSendable, SendableStates.{HasSerial, ItemIsSendable}}
+use Rattle.do_limits.specs.{Sendable.NameIsSendable, SendableStates.{HasSerial, ItemIsReadable}}
 use Rattle.do_limits.proofs.Lists.{each_placed}
 
 -- objects that join those that are held
@@ -60,7 +60,7 @@ module _ (table : List Class) (from to : ℕ) where
   each_told (s ∷ serials) = ((λ e. absurd (cc (e))), each_told serials)
 
   -- all that an item names
-  item_names : (item : Item) → ItemIsSendable table from to item →
+  item_names : (item : Item) → ItemIsReadable table from to item →
       AllByRecursion IfExported (names from to item)
   item_names (items.Call number m) h =
       ((λ e. absurd (cc (e))), each_name m.packet.names h.packet.names)
@@ -76,6 +76,6 @@ module _ (table : List Class) (from to : ℕ) where
   item_names _ h = tt
 
   -- what an item exports
-  pub exports_made : (item : Item) → ItemIsSendable table from to item →
+  pub exports_made : (item : Item) → ItemIsReadable table from to item →
       AllByRecursion HasSerial (exported from to item)
   exports_made item h = each_exported (names from to item) (item_names item h)

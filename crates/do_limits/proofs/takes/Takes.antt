@@ -15,8 +15,9 @@ use Rattle.do_machine.specs.{run.{Acts.root_value, Fresh.fresh}, take.Awaiting.v
 use Rattle.do_machine.specs.take.Receipt.{arrived, is_entered, is_reachable, reading}
 use Rattle.do_machine.specs.take.Take.{root_packet, take_effect}
 use Rattle.do_facts.proofs.walk.Takes.{Takes, by_take as taken, packet_in}
-use Rattle.do_limits.specs.Sendable.{AreSendable, IsSendablePacket, NameIsSendable}
-use Rattle.do_limits.specs.SendableStates.{ItemIsSendable, NodeIsSendable}
+use Rattle.do_limits.specs.Sendable.{AreSendable, IsReadablePacket, IsSendablePacket}
+use Rattle.do_limits.specs.Sendable.{NameIsSendable}
+use Rattle.do_limits.specs.SendableStates.{ItemIsReadable, ItemIsSendable, NodeIsSendable}
 use Rattle.do_limits.proofs.Effects.{EffectIsSendable, asks_for, begins, holding_more, makes}
 use Rattle.do_limits.proofs.{Effects.{pushes, small}, Lists.each_is_in, runs.ActRules.raised}
 use Rattle.do_limits.proofs.Senders.{ContextIsSendable, sender_sendable}
@@ -26,17 +27,17 @@ use Rattle.do_limits.proofs.values.Unpacking.{copies_come, values_come}
 use Rattle.do_limits.proofs.{runs.Verdicts.root_sendable, takes.Answers.{answered, answers}}
 use Rattle.do_limits.proofs.takes.{Ends.parts, Exports.{exports_made, holds}}
 
--- the message of an item that can be carried can be
-carried : (table : List Class) (from to : ℕ) (item : Item) → ItemIsSendable table from to item →
-    (packet : Packet) → packet_in item ≡ Some packet → IsSendablePacket table from to packet
+-- the message of an item that a frame can bring is one that a frame can bring
+carried : (table : List Class) (from to : ℕ) (item : Item) → ItemIsReadable table from to item →
+    (packet : Packet) → packet_in item ≡ Some packet → IsReadablePacket table from to packet
 carried table from to (items.Call number m) h packet is =
-    let same : m.packet ≡ packet = cc (is) in subst (IsSendablePacket table from to) same h.packet
+    let same : m.packet ≡ packet = cc (is) in subst (IsReadablePacket table from to) same h.packet
 carried table from to (items.Oneway m) h packet is =
-    let same : m.packet ≡ packet = cc (is) in subst (IsSendablePacket table from to) same h.packet
+    let same : m.packet ≡ packet = cc (is) in subst (IsReadablePacket table from to) same h.packet
 carried table from to (items.Reply number p) h packet is =
-    let same : p ≡ packet = cc (is) in subst (IsSendablePacket table from to) same h
+    let same : p ≡ packet = cc (is) in subst (IsReadablePacket table from to) same h
 carried table from to (items.RootAnswer number p) h packet is =
-    let same : p ≡ packet = cc (is) in subst (IsSendablePacket table from to) same h
+    let same : p ≡ packet = cc (is) in subst (IsReadablePacket table from to) same h
 carried table from to _ h packet is = absurd (cc (is))
 
 module _ (c : Context) (from : ℕ) (few : HasMethods c.table) (ok : ContextIsSendable c) where
@@ -55,10 +56,10 @@ module _ (c : Context) (from : ℕ) (few : HasMethods c.table) (ok : ContextIsSe
       (light_packed (packer c) from c.node.next_token (root_value c.node)
       (root_weighs c.node.root))
 
-  module _ (item : Item) (h : ItemIsSendable c.table from c.node.port item) where
+  module _ (item : Item) (h : ItemIsReadable c.table from c.node.port item) where
     -- its message
     message : (packet : Packet) → packet_in item ≡ Some packet →
-        IsSendablePacket c.table from c.node.port packet
+        IsReadablePacket c.table from c.node.port packet
     message = carried c.table from c.node.port item h
 
     -- and the values of this
@@ -77,8 +78,8 @@ module _ (c : Context) (from : ℕ) (few : HasMethods c.table) (ok : ContextIsSe
           let name = each_is_in (NameIsSendable c.table from c.node.port) packet.names
           (Lent o class token) (message packet is).names among in
           (asks_for (wanted o from token) name.1.0 n k, name.1.0);
-      grants = λ serial token is n e k. subst (ItemIsSendable c.table from c.node.port) is h;
-      lacks = λ serial token is n e k. subst (ItemIsSendable c.table from c.node.port) is h;
+      grants = λ serial token is n e k. subst (ItemIsReadable c.table from c.node.port) is h;
+      lacks = λ serial token is n e k. subst (ItemIsReadable c.table from c.node.port) is h;
       makes = λ packet is n k.
           makes (arrived c from packet).copies n
           (copies_come (reading c from packet) (map (is_entered c from) packet.names)
@@ -96,7 +97,7 @@ module _ (c : Context) (from : ℕ) (few : HasMethods c.table) (ok : ContextIsSe
           answered a (values_answer c.table vs) (answers c.table vs (values packet is)) n k;
       fails = λ a number e is n k.
           answered a (λ what. Raised e)
-          (λ what. subst (ItemIsSendable c.table from c.node.port) is h) n k;
+          (λ what. subst (ItemIsReadable c.table from c.node.port) is h) n k;
       gives = λ number. root_sent;
       settles = λ number n k. record { heap = k.heap; stack = k.stack; numbers = k.numbers };
       parts = λ serials is n k. (parts from n k, tt);

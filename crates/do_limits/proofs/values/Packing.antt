@@ -188,17 +188,20 @@ module _ (s : Sender) (to token : ℕ) (values : Listed Placed) where
       let N = names_with s values C in
       let is = packed_is p e in
       record {
-        limits = packed_keeps s to token values p e;
-        names = subst (λ (q : Packet). AllByRecursion (NameIsSendable s.table s.node to) q.names)
-            (sym is)
-            (each_named s ok to N (all_nameable s values C)
-            (record { names = []; token = token }) (tt, first)).0;
-        few = subst (λ (q : Packet). length q.values ≤ 9) (sym is)
-            (omega (arith, few, length-map values (part_at s C N)));
-        values = subst (λ (q : Packet). AreSendableParts q.values) (sym is)
-            (placed_spelled s C N values sent);
-        slots = subst (λ (q : Packet). AllByRecursion (CopyIsSendable s.table) q.copies) (sym is)
-            (copies_spelled s C N ok C (copies_own s ok values));
+        read = record {
+          limits = packed_keeps s to token values p e;
+          names = subst
+              (λ (q : Packet). AllByRecursion (NameIsSendable s.table s.node to) q.names)
+              (sym is)
+              (each_named s ok to N (all_nameable s values C)
+              (record { names = []; token = token }) (tt, first)).0;
+          few = subst (λ (q : Packet). length q.values ≤ 9) (sym is)
+              (omega (arith, few, length-map values (part_at s C N)));
+          values = subst (λ (q : Packet). AreSendableParts q.values) (sym is)
+              (placed_spelled s C N values sent);
+          slots = subst (λ (q : Packet). AllByRecursion (CopyIsSendable s.table) q.copies)
+              (sym is) (copies_spelled s C N ok C (copies_own s ok values));
+        };
         short = λ recent.
             omega (
               arith,

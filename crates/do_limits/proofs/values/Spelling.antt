@@ -10,7 +10,7 @@ use Rattle.do_grammar.specs.OneSpelling.{FitsList}
 use Rattle.do_coder.specs.{Packets.{IsCopied, most_copies, slot_counts}, Parts.{IsPart, part_fits}}
 use Rattle.do_coder.proofs.values.PartFacts.{fits-Copy, fits-Named, fits-Nil, fits-Num, fits-Text}
 use Rattle.do_packet.specs.Limits.{HasPlaces, places_within}
-use Rattle.do_limits.specs.Sendable.{AreSendableParts, CopyIsSendable, IsSendablePacket, can_spell}
+use Rattle.do_limits.specs.Sendable.{AreSendableParts, CopyIsSendable, IsReadablePacket, can_spell}
 use Rattle.do_limits.proofs.values.Packing.{spell-List, spell-Num, spell-Text, tests}
 use Rattle.do_limits.proofs.values.Unpacking.{part_induction}
 
@@ -125,7 +125,7 @@ pub record HasSpelledParts (table : Listed Class) (p : Packet) : Type 0 where
 
 -- a message has a spelling but for its names
 pub message_spelled : (table : Listed Class) (from to : ℕ) (p : Packet) →
-    IsSendablePacket table from to p → HasSpelledParts table p
+    IsReadablePacket table from to p → HasSpelledParts table p
 message_spelled table from to p h = record {
   copies = record {
     at_least = omega arith;

@@ -12,7 +12,7 @@ use Rattle.do_class.specs.declared.packet.Part.{the_lemmas, TheOpen.Part-F}
 use Rattle.do_packet.specs.Unpacking.{copy_at, made_of, name_value, name_values, unpacked, value_of}
 use Rattle.do_packet.specs.declared.receipt.Receipt.{Receipt}
 use Rattle.do_limits.specs.Sendable.{AreSendable, AreSendableParts, CopyIsSendable, HasSlots}
-use Rattle.do_limits.specs.Sendable.{IsSendablePacket, can_carry, can_spell}
+use Rattle.do_limits.specs.Sendable.{IsReadablePacket, can_carry, can_spell}
 use Rattle.do_limits.proofs.values.Packing.{spell-List, spell-Num, spell-Text, tests}
 use Rattle.do_limits.proofs.values.Carried.{carry-List, carry-Nil, carry-Num, carry-Obj, carry-Text}
 
@@ -175,7 +175,7 @@ module _ (r : Receipt) (named : Listed Value) (flat : AllByRecursion IsFlat name
   )
 
 module _ (r : Receipt) (entries open_home : Listed Bool) (p : Packet)
-    (table : Listed Class) (from to : ℕ) (ok : IsSendablePacket table from to p) where
+    (table : Listed Class) (from to : ℕ) (ok : IsReadablePacket table from to p) where
   -- the values of the names
   abbrev named_in : Listed Value
   named_in = name_values r p.names entries open_home

@@ -12,8 +12,7 @@ use Rattle.do_limits.specs.SendableActs.{AllStartSendable, KeepsSendable}
 use Rattle.do_limits.proofs.{Selectors.has_methods, numbers.Reached.reached_numbers}
 use Rattle.do_agreement.proofs.agreement.GoesOn.{Goes}
 use Rattle.do_within.specs.Numbers.{AllNumbersSmall, HasSmallNumbers, NetNumbersWithin}
-use Rattle.do_within.specs.Received.{net_reached}
-use Rattle.do_within.proofs.schedules.Walk.{from_opening}
+use Rattle.do_within.{specs.Received.net_reached, proofs.schedules.Walk.from_opening}
 
 -- a network that agrees with a state has the state's numbers
 shown_within : (table : List Class) (N : Net) (S : State) → Goes table N S → (count : ℕ) →
