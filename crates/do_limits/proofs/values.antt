@@ -4,4 +4,5 @@ pub mod Packing
 pub mod RootMessages
 pub mod Unpacking
 pub mod Spelling
+pub mod Reading
 pub mod Starting

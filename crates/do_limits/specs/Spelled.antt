@@ -22,7 +22,8 @@ ItemIsSpelled s (items.Oneway m) = FrameIsSpelled s (frames.Oneway m.target m.se
 ItemIsSpelled s (items.Reply number packet) = FrameIsSpelled s (frames.Reply number packet)
 ItemIsSpelled s (items.Raised number e) = FrameIsSpelled s (frames.Raised number e)
 ItemIsSpelled s (items.RootAsk number) = FrameIsSpelled s (frames.RootAsk number)
-ItemIsSpelled s (items.RootAnswer number packet) = FrameIsSpelled s (frames.RootAnswer number packet)
+ItemIsSpelled s (items.RootAnswer number packet) =
+    FrameIsSpelled s (frames.RootAnswer number packet)
 ItemIsSpelled s (items.Ask serial token) = FrameIsSpelled s (frames.Retain serial token)
 ItemIsSpelled s (items.Granted serial token) = FrameIsSpelled s (frames.Granted serial token)
 ItemIsSpelled s (items.Gone serial token) = FrameIsSpelled s (frames.Gone serial token)

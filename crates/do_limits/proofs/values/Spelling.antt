@@ -25,21 +25,21 @@ some_class (c ∷ table) (suc k) count e =
 
 module _ (copies names : ℕ) where
   -- a list of parts fits by its items
-  fits-List : (depth : ℕ) (xs : Listed Part) → part_fits copies names (List xs) depth
+  pub fits-List : (depth : ℕ) (xs : Listed Part) → part_fits copies names (List xs) depth
       ≡ (nat_lt 0 depth && (nat_le (length (map (part_fits copies names) xs)) 1024 && list_all
       (λ (f : ℕ → Bool). f (depth - 1)) (map (part_fits copies names) xs)))
   fits-List depth xs = search (rules, the_lemmas)
 
   -- the place of a copy
-  within-Copy : (k : ℕ) → places_within copies names (Copy k) ≡ nat_lt k copies
+  pub within-Copy : (k : ℕ) → places_within copies names (Copy k) ≡ nat_lt k copies
   within-Copy k = search (rules, the_lemmas)
 
   -- the place of a name
-  within-Named : (k : ℕ) → places_within copies names (Named k) ≡ nat_lt k names
+  pub within-Named : (k : ℕ) → places_within copies names (Named k) ≡ nat_lt k names
   within-Named k = search (rules, the_lemmas)
 
   -- the places in a list
-  within-List : (xs : Listed Part) →
+  pub within-List : (xs : Listed Part) →
       places_within copies names (List xs) ≡ list_all (λ b. b) (map (places_within copies names) xs)
   within-List xs = search (rules, the_lemmas)
 
