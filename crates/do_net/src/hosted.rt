@@ -2,11 +2,11 @@
 //!
 //! A site is whatever meets the trait `Hosted`, each call an equation of the definitions;
 //! do_net knows no other thing of it.
-ghost use Rattle.std.specs.Prelude.{◌≡◌, IfOk, OnErr};
+ghost use Rattle.std.specs.Prelude.{[], ◌≡◌, IfOk, IsOk, OnErr};
 ghost use Rattle.do_machine.specs.{State.is_open, take.Take.can_take};
 ghost use Rattle.do_network.specs.{Net.opening_part, Snapshot.part_line};
 ghost use Rattle.do_net.specs.Seen.{Seen, at_rest, site_handled, with_handled, FetchesFrame};
-ghost use Rattle.do_net.specs.Seen.{FetchesShown, FetchesSpelled};
+ghost use Rattle.do_net.specs.Seen.{FetchesShown, FetchesSpelled, GivesBack};
 
 use do_base::{NodeId, Peers, Shown, Text};
 use do_behave::Behaviour;
@@ -41,12 +41,14 @@ pub trait Hosted: Drop + Sized {
     /// Does one input, and keeps what it sends and shows behind what nobody fetched yet.
     ///
     /// The one error is that memory ran out, or that a number would pass what the site can count;
-    /// the site is then as before.
+    /// the site is then as before. No error comes of an input by which something is given back, or
+    /// an end closes, where no line waits to be fetched, however many frames do.
     fn handle(&mut self, input: &Input) -> Result<Done, AllocError>
         ensures done { IfOk result (λ done.
             done ≡ (site_handled (seen self.old) input.now).done) }
         ensures site { IfOk result (λ done. seen self.new
             ≡ with_handled (seen self.old) (site_handled (seen self.old) input.now)) }
+        ensures settles { GivesBack input.now → (seen self.old).shown ≡ [] → IsOk result }
         ensures err { OnErr result (seen self.new ≡ seen self.old) };
 
     /// Takes out the oldest that was sent, a greeting or a frame, appends its bytes, and tells the

@@ -1,12 +1,12 @@
 //! The inputs of a node that is served.
-ghost use Rattle.std.specs.Prelude.{◌≡◌, [], OnOk};
+ghost use Rattle.std.specs.Prelude.{◌++◌, ◌≡◌, [], OnOk};
 ghost use Rattle.do_serve.specs.{Core.{enter, leave_among}, Entering.{core_of, IsEntered}};
 ghost use Rattle.do_serve.specs.Record.{act_line};
 
 use crate::far::Far;
 use crate::log::{Log, push_act_by, push_by, push_waiting};
 use crate::site::Serving;
-use do_base::Text;
+use do_base::{NodeId, Text};
 use do_network::Input;
 use std::alloc::AllocError;
 
@@ -36,7 +36,29 @@ pub fn act<S: Serving>(site: &mut S, log: &mut Log, line: &Text) -> Result<(), A
     push_waiting(site, log)
 }
 
+/// Closes the end towards a peer, and writes its block.
+///
+/// The end closes in any case: an error means that no memory was left for the block.
+fn close<S: Serving>(site: &mut S, log: &mut Log, peer: NodeId) -> Result<(), AllocError>
+    requires { S.shown site.old ≡ [] }
+    ensures ok { OnOk result (IsEntered (enter S.rules log.old.node (Input.Close peer)
+        (core_of (S.part site.old) (S.frames site.old) log.old))
+        (S.part site.new) (S.frames site.new) (S.shown site.new) log.old log.new) }
+    ensures part { S.part site.new ≡ (S.rules.step (S.part site.old) (Input.Close peer)).part }
+    ensures frames { S.frames site.new
+        ≡ S.frames site.old ++ (S.rules.step (S.part site.old) (Input.Close peer)).frames }
+{
+    let input = Input::Close(peer);
+    let Ok(done) = site.handle(&input) else {
+        unreachable!();
+    };
+    push_by(&mut log.text, log.node, input, done)?;
+    push_waiting(site, log)
+}
+
 /// Closes each open end of these over which a frame was sent or taken.
+///
+/// No close finds too little room, though the frames of those before it wait.
 pub(crate) fn leave_among<S: Serving>(
     site: &mut S,
     log: &mut Log,
@@ -52,7 +74,7 @@ pub(crate) fn leave_among<S: Serving>(
     };
     let port = first.port();
     if first.is_used() && site.is_open(port) {
-        enter(site, log, Input::Close(port))?;
+        close(site, log, port)?;
     }
     leave_among(site, log, others)
 }

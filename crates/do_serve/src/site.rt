@@ -3,7 +3,8 @@
 //! The node's own state is a trait with its rules as one of its members. So serving is proved
 //! without the parts of a site, and a site without serving. A site that a network runs meets it
 //! by two calls more, whether it can act and whether it is idle (`Runnable`).
-ghost use Rattle.std.specs.Prelude.{◌≡◌, ◌∷◌, ◌++◌, [], List, MatchOption, IfOk, OnErr};
+ghost use Rattle.std.specs.Prelude.{◌≡◌, ◌∷◌, ◌++◌, [], List, MatchOption, IfOk, IsOk, OnErr};
+ghost use Rattle.do_net.specs.Seen.{GivesBack};
 
 use do_base::{NodeId, Shown, Text};
 use do_network::{Done, Input};
@@ -29,11 +30,13 @@ pub trait Serving {
 
     /// Does the step of an input, and appends what it sends and shows.
     ///
-    /// If memory runs out nothing changed.
+    /// If memory runs out nothing changed. It does not for an input by which something is given
+    /// back, or an end closes, where no line waits to be fetched.
     fn handle(&mut self, input: &Input) -> Result<Done, AllocError>
         ensures ok { IfOk result (λ done. IsAfter (rules.step (part self.old) input.now)
             done (part self.new) (frames self.old) (frames self.new)
             (shown self.old) (shown self.new)) }
+        ensures settles { GivesBack input.now → shown self.old ≡ [] → IsOk result }
         ensures err { OnErr result ((part self.new ≡ part self.old)
             × (frames self.new ≡ frames self.old) × (shown self.new ≡ shown self.old)) };
 

@@ -1,8 +1,7 @@
 -- What a step is to a caller of a site.
 use Rattle.do_network.specs.declared.input.Done.TheVariants as dones
-use Rattle.do_network.specs.declared.input.Input.TheVariants as inputs
 use Rattle.std.specs.Prelude.{Bool, Err, List, None, Ok, Option, Result, Some, [], false}
-use Rattle.std.specs.Prelude.{if◌then◌else◌, true, unwrap_or, ℕ, ◌≡◌, ◌≤◌}
+use Rattle.std.specs.Prelude.{if◌then◌else◌, true, unwrap_or, ℕ, ◌≡◌}
 use Rattle.do_class.specs.Class.{Class}
 use Rattle.do_machine.specs.declared.{state.Effect.Effect, item.Item.{Item, TheVariants.End}}
 use Rattle.do_machine.specs.{declared.node.Node.Node, State.is_open, ends.Closing.closing}
@@ -31,14 +30,6 @@ seen_of table act c = record {
 -- all lines were taken out; frames may wait
 abbrev pub IsTold : Core → Type 0
 IsTold c = c.streams.shown ≡ []
-
--- an input by which something is given back, or an end closes: a frame of kind 10 or more, which is
--- a release, the end of a lend, a shutdown or none, a close, or the end of a connection
-abbrev pub GivesBack : Input → Type 0
-GivesBack (inputs.Frame from raw) = 10 ≤ raw.kind
-GivesBack (inputs.Close peer) = Unit {0}
-GivesBack (inputs.Ended peer) = Unit {0}
-GivesBack input = ⊥
 
 -- nothing but room changed
 abbrev pub IsSame : Core → Core → Type 0

@@ -4,10 +4,11 @@ mod naming;
 ghost use Rattle.std.specs.Prelude.{[], ◌≡◌, ◌==◌, IfOk, IsOk, OnErr, length};
 ghost use Rattle.std.specs.Result.{result_map_both};
 ghost use Rattle.do_machine.specs.{State.is_open, take.Take.can_take};
-ghost use Rattle.do_net.specs.Seen.{FetchesFrame, FetchesShown, FetchesSpelled, at_rest};
+ghost use Rattle.do_net.specs.Seen.{FetchesFrame, FetchesShown, FetchesSpelled, GivesBack};
+ghost use Rattle.do_net.specs.Seen.{at_rest};
 ghost use Rattle.do_net.specs.Turns.{can_act};
 ghost use Rattle.do_network.specs.{Net.opening_part, Site.enabled_input, Snapshot.part_line};
-ghost use Rattle.do_site.specs.Steps.{GivesBack, Handles, done_told, part_of, seen_of};
+ghost use Rattle.do_site.specs.Steps.{Handles, done_told, part_of, seen_of};
 
 use crate::listing::line;
 use crate::opening::opening;
