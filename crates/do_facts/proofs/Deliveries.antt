@@ -8,20 +8,13 @@ use Rattle.do_base.specs.declared.values.value.Value.{Value, TheVariants.Text}
 use Rattle.do_class.specs.declared.packet.Packet.{Packet}
 use Rattle.do_behave.specs.declared.invocation.Answer.{Answer, TheVariants.{Given, Raised}}
 use Rattle.do_behave.specs.declared.invocation.{Handler.Handler, Reason.Reason}
-use Rattle.do_machine.specs.{declared.{node.Node.Node, state.Effect.Effect}, Context.RunContext}
+use Rattle.do_machine.specs.{declared.state.Effect.Effect, Context.RunContext}
 use Rattle.do_machine.specs.{Effect.{only, queueing, showing}, Packing.packed_for, State.is_open}
 use Rattle.do_machine.specs.{lend.Lending.posting, run.Answers.{answer_line, answer_placed}}
 use Rattle.do_machine.specs.run.{Answers.{exc_name, oneway_answer, replying}, Changes.goes_on}
 use Rattle.do_machine.specs.run.Delivery.{below_answered, delivery, failing, popped, with_top}
 use Rattle.do_machine.specs.run.Fresh.{with_stack}
 use Rattle.do_facts.proofs.Chains.{either, found_or, is_closed, not_closed}
-
--- the answer with a packed result, or one that is too large
-abbrev pub packed_answer : Node → ℕ → ℕ → Option Packet → Effect
-packed_answer n peer number found = elim found [
-  | None ↦ queueing peer (items.Raised number TooLarge) n
-  | Some p ↦ posting peer p (items.Reply number p) n
-]
 
 module _ (P : Reason → Effect → Type 0) (r : RunContext) where
   -- What may come of the answer of an invocation that was begun so: the invocation is popped, and

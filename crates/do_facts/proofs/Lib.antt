@@ -8,13 +8,13 @@ pub mod RequeueAsNet
 pub mod OnceInLists
 pub mod EachOfLists
 pub mod steps
+pub mod nodes
 pub mod links
 pub mod Chains
 pub mod RulesOfActs
 pub mod Deliveries
 pub mod walk
 pub mod methods
-pub mod AsksOverOpenEnds
 pub mod Bridge
 pub mod EffectReaches
 pub mod TakeReaches
@@ -25,4 +25,3 @@ pub mod ReachedStates
 pub mod FirstOnWire
 pub mod SumsOfLists
 pub mod calls
-pub mod IsSent

@@ -1,7 +1,7 @@
-pub mod RunIsMoves
-pub mod StartIsMoves
-pub mod CallsLeft
-pub mod TakeIsMoves
+pub mod FramesChanged
+pub mod NodeAtoms
+pub mod NodeMoves
+pub mod RulesAreMoves
 pub mod StacksShaped
 pub mod CallMoves
 pub mod CallsEnd

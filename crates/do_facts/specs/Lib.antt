@@ -7,5 +7,6 @@ pub mod Made
 pub mod StandOnce
 pub mod steps
 pub mod links
+pub mod nodes
 pub mod calls
 pub mod laws

@@ -2,12 +2,11 @@
 use Rattle.std.proofs.Common.{◌≡◌, ◌==◌, ◌∙◌, ℕ, Bool, true, false, cond, not, List, [], ◌∷◌}
 use Rattle.std.{proofs.Common.{filter, refl, ap, sym, arith}, specs.List.list_any}
 use Rattle.std.proofs.lemmas.Bool.{eqb-true, Decides.nat_tests}
-use Rattle.do_facts.specs.{Net.atoms_of, calls.Calls.{Atom, Calls, calls}}
-use Rattle.do_facts.specs.calls.Moves.{AreShaped, Asks, Closes, Gives, Move, Refuses, Replies}
-use Rattle.do_facts.specs.calls.Moves.{call_rules, may, moved, note, opens, posts}
-use Rattle.do_facts.proofs.{Bridge.Bridge, calls.StartIsMoves.{by_start, by_time_out}}
-use Rattle.do_facts.proofs.calls.{RunIsMoves.by_run, StacksShaped.shaped_moved}
-use Rattle.do_facts.proofs.calls.{CallsLeft.{by_closing, by_leaving}, TakeIsMoves.by_take}
+use Rattle.do_facts.specs.{Net.atoms_of, calls.{Calls.{Atom, Calls, calls}, Moves.AreShaped}}
+use Rattle.do_facts.specs.calls.Moves.{Asks, Closes, Gives, Move, Refuses, Replies, call_rules, may}
+use Rattle.do_facts.{specs.calls.Moves.{moved, note, opens, posts}, proofs.Bridge.Bridge}
+use Rattle.do_facts.proofs.calls.{StacksShaped.shaped_moved, RulesAreMoves.{by_closing, by_leaving}}
+use Rattle.do_facts.proofs.calls.RulesAreMoves.{by_run, by_start, by_take, by_time_out}
 
 module _ (p : Calls) (peer : ℕ) (h : opens p peer ≡ false) where
   -- nothing goes to another peer than one over an open end

@@ -12,9 +12,8 @@ use Rattle.do_facts.specs.links.Moves.{Misses, Move, Names, Receives, Refuses, R
 use Rattle.do_facts.specs.links.{Moves.{may, moved, note, opens, posts, telling}, Sound.IsSound}
 use Rattle.do_facts.specs.View.{AreMovesIf}
 use Rattle.do_facts.proofs.{Bridge.Bridge, links.Acts.{act_rules, runs_moves}}
-use Rattle.do_facts.proofs.links.{ClosingIsMoves.by_closing, LeavingIsMoves.by_leaving}
-use Rattle.do_facts.proofs.links.RunIsMoves.{by_run, by_start, by_time_out}
-use Rattle.do_facts.proofs.links.{PartsAreSound.sound_moved, TakeIsMoves.by_take}
+use Rattle.do_facts.proofs.links.{PartsAreSound.sound_moved, RulesAreMoves.{by_closing, by_leaving}}
+use Rattle.do_facts.proofs.links.RulesAreMoves.{by_run, by_start, by_take, by_time_out}
 
 module _ (p : Links) (peer : ℕ) (h : opens p peer ≡ false) where
   -- nothing goes to another peer than one over an open end
@@ -72,9 +71,9 @@ link_bridge = record {
   stays = λ p v ok may. sound_moved p ok v may;
   closed = λ p v peer may h. closed_moved p peer h v may;
   start = λ table selector values n ok.
-      moves_if n (start_effect table selector values n) (by_start table selector values n);
+      moves_if n (start_effect table selector values n) (by_start table selector values n ok);
   run = λ act c ok. moves_if c.node (run_effect act c) (by_run act c ok);
-  gives_up = λ n ok. moves_if n (time_out n) (by_time_out n);
+  gives_up = λ n ok. moves_if n (time_out n) (by_time_out n ok);
   take = λ c from item ends ok. runs_moves (by_take c from ends item ok);
   close = λ n peer ends ok. runs_moves (by_closing peer n ends ok);
   leave = λ entry n ok. by_leaving entry n ok;

@@ -22,11 +22,10 @@ use Rattle.do_facts.proofs.{EffectReaches.{IsLinked, linked_by, net_by, ok_by}, 
 use Rattle.do_facts.proofs.{Nets.part_here, NodeRuns.moves_there, Paths.{reaches_by, stays}}
 use Rattle.do_facts.proofs.TakeReaches.{here_still, linked_here, linked_still, net_then}
 use Rattle.do_facts.proofs.{TakeReaches.{noted_first, wire_here}, links.Acts.act_rules}
-use Rattle.do_facts.proofs.links.{Acts.runs_moves, Bridge.link_bridge, ClosingIsMoves.by_closing}
-use Rattle.do_facts.proofs.links.{LeavingIsMoves.by_dropping, ReachedLinks.step_moves}
-use Rattle.do_facts.proofs.links.{RunIsMoves.{by_run, by_start, by_time_out}, TakeIsMoves.by_take}
-use Rattle.do_facts.proofs.steps.{EachIsStep.step_is, NodesAtHome.AllAtHome}
-use Rattle.do_facts.proofs.steps.OthersStay.{move_leaves_own}
+use Rattle.do_facts.proofs.links.{Acts.runs_moves, Bridge.link_bridge, ReachedLinks.step_moves}
+use Rattle.do_facts.proofs.links.RulesAreMoves.{by_closing, by_dropping, by_run, by_start, by_take}
+use Rattle.do_facts.proofs.{links.RulesAreMoves.by_time_out, steps.EachIsStep.step_is}
+use Rattle.do_facts.proofs.steps.{NodesAtHome.AllAtHome, OthersStay.move_leaves_own}
 
 -- the effect of an event's rule is moves that free nothing
 rule_runs : (table : List Class) (act : Acting) (S : State) (event : Event) (n : Node)
@@ -34,14 +33,14 @@ rule_runs : (table : List Class) (act : Acting) (S : State) (event : Event) (n :
     AreMoves links act_rules n [] e
 rule_runs table act S (Start port selector values) n e ok rule =
     moves_there links act_rules n (start_effect table selector values n) e
-    (by_start table selector values n) rule
+    (by_start table selector values n ok) rule
 rule_runs table act S (Run port) n e ok rule =
     moves_there links act_rules n (run_effect act (context table S n)) e
     (by_run act (context table S n) ok) rule
 rule_runs table act S (Close port peer) n e ok rule =
     subst (λ d. AreMoves links act_rules n [] d) (sym rule.1) (by_closing peer n rule.0 ok)
 rule_runs table act S (Timeout port) n e ok rule =
-    moves_there links act_rules n (time_out n) e (by_time_out n) rule
+    moves_there links act_rules n (time_out n) e (by_time_out n ok) rule
 rule_runs table act S _ n e ok rule = absurd rule
 
 -- the net once the node of a port freed what it does not keep

@@ -1,22 +1,15 @@
 -- The root of a node is named, and lends nothing.
-use Rattle.do_machine.specs.declared.item.Item.TheVariants as items
 use Rattle.std.proofs.Common.{◌≡◌, ◌==◌, ◌++◌, ℕ, Bool, true, false, cond, List, [], ◌∷◌, refl, ap}
-use Rattle.std.proofs.Common.{filter, ◌∙◌, ◌+◌, subst, append-nil, arith, rules}
-use Rattle.std.specs.{Prelude.{None, Option, Some, suc}, List.filter_map}
-use Rattle.std.proofs.lemmas.Bool.Decides.{nat_tests}
+use Rattle.std.{proofs.Common.{filter, ◌∙◌, arith, rules}, specs.Prelude.{None, Option, Some, suc}}
+use Rattle.std.{specs.List.filter_map, proofs.lemmas.Bool.Decides.nat_tests}
 use Rattle.do_base.specs.{names.Names.ObjectName, values.Values.objects_of}
 use Rattle.do_base.specs.declared.values.value.Value.{Value, TheFolds.the_lemmas}
 use Rattle.do_base.specs.declared.values.value.Value.TheVariants.{Nil, Obj}
 use Rattle.do_class.specs.declared.packet.Name.TheVariants.{Lent, Mine, Yours}
 use Rattle.do_packet.specs.{Copies.{Placed, names_with}, Met.{is_named, met, role_of}}
 use Rattle.do_packet.specs.{Packing.{Naming, class_at, names_to}, Seen.Sender}
-use Rattle.do_machine.specs.{declared.node.Lend.Lend, Context.Context, Effect.queueing}
-use Rattle.do_machine.specs.{Objects.object_at, Packing.packer, State.{is_open, own}}
-use Rattle.do_machine.specs.{lend.Lending.{lend_of, lending, lends_of}, run.Acts.root_value}
-use Rattle.do_machine.specs.take.Take.{root_packet}
-use Rattle.do_facts.specs.{Moves.Runs, View.{AreMoves, posted}, links.Links.{links, links_of}}
-use Rattle.do_facts.{specs.links.Moves.is_there, proofs.links.TokensOfMessages.{owned, to_named}}
-use Rattle.do_facts.proofs.links.{SendingIsMoves.sends, Acts.act_rules}
+use Rattle.do_machine.specs.{declared.node.Lend.Lend, Context.Context, Objects.object_at}
+use Rattle.do_machine.specs.{Packing.packer, State.own, lend.Lending.lend_of}
 
 -- no object is in nil
 objects_of-Nil : objects_of Nil ≡ []
@@ -79,7 +72,7 @@ module _ (c : Context) (to : ℕ) where
       (met [] (filter (λ o. is_named (role_of s.seen s.node false o)) os ++ [])))
 
   -- a root is not lent
-  root_not_lent : (root : Option ℕ) →
+  pub root_not_lent : (root : Option ℕ) →
       lends_with (elim root [ None ↦ Nil | Some serial ↦ Obj (own c.node serial) ]) ≡ []
   root_not_lent None = ap lends_of_objects objects_of-Nil
   root_not_lent (Some serial) =
@@ -87,20 +80,3 @@ module _ (c : Context) (to : ℕ) where
       ap lends_of_objects (objects_of-Obj (own c.node serial))
       ∙ named_not_lent s to c.node.next_token serial
       (is_named (role_of s.seen s.node false (own c.node serial)))
-
-  -- the answer to an ask for the root
-  pub by_root_ask : (number : ℕ) → is_open c.node to ≡ true →
-      AreMoves links act_rules c.node []
-      (queueing to (items.RootAnswer number (root_packet c to)) c.node)
-  by_root_ask number ends =
-      let p = root_packet c to in
-      let item = items.RootAnswer number p in
-      let n = c.node in
-      let none : lends_of to p ≡ [] = root_not_lent n.root in
-      subst (λ q. Runs act_rules (links_of n) [] q (posted links (queueing to item n).sent))
-      (ap (λ ls. links_of (lending ls n)) none
-      ∙ ap (λ ls. record (links_of n) { lent = ls; token = n.next_token + 0 }) (append-nil n.lent)
-      ∙ ap (λ k. record (links_of n) { token = k }) (omega arith))
-      (sends n n to refl ends p item refl
-      (to_named (packer c) to (is_there n.heap) (owned c) n.next_token
-      ((false, root_value n) ∷ []) []))
