@@ -1,8 +1,10 @@
 -- What the effects of a node keep: what it stores, and that it is whole.
 use Rattle.std.proofs.Common.{◌≡◌, ◌<◌, ◌≤◌, ◌+◌, ◌==◌, ◌++◌, ℕ, Bool, List, [], length, sym, arith}
-use Rattle.std.{proofs.Common.{refl, subst}, specs.Prelude.{None, Option, Some}}
-use Rattle.std.proofs.lemmas.List.Folds.{find-append}
-use Rattle.do_behave.specs.declared.{act.Write.Write, invocation.Invocation.Invocation}
+use Rattle.std.proofs.Common.{ap, refl, subst, ◌∙◌, ◌∷◌}
+use Rattle.std.{specs.Prelude.{None, Option, Some, slice_set}, proofs.lemmas.List.Folds.find-append}
+use Rattle.do_base.specs.declared.values.value.Value.{Value}
+use Rattle.do_behave.specs.{InPlace.written, declared.act.Write.Write}
+use Rattle.do_behave.specs.declared.invocation.Invocation.{Invocation}
 use Rattle.do_class.specs.declared.ids.ClassId.{ClassId}
 use Rattle.do_packet.specs.declared.receipt.Made.{Made}
 use Rattle.do_machine.specs.{declared.node.{Node.Node, Stored.Stored}, State.stored}
@@ -64,25 +66,29 @@ idle n = record {
 }
 
 -- other invocations, which have their own methods, of a node that kept what a first one stored
-pub restacks : {W : Known} (first n : Stock) (stack : List Invocation) → Keeps W none first n →
-    (IsWhole W first → IsWhole W n → AreOwn W n stack) →
-    Keeps W none first (record n { stack = stack })
+pub restacks : {W : Known} {writes : ℕ → List Write} (first n : Stock) (stack : List Invocation) →
+    Keeps W writes first n → (IsWhole W first → IsWhole W n → AreOwn W n stack) →
+    Keeps W writes first (record n { stack = stack })
 restacks first n stack h own = record {
   heap = record { kept = h.heap.kept; gone = h.heap.gone; next = h.heap.next };
   whole = λ s. record { given = (h.whole s).given; invocations = own s (h.whole s) };
 }
 
--- other invocations of a node
-pub restacked : {W : Known} (n : Stock) (stack : List Invocation) →
-    (IsWhole W n → AreOwn W n stack) → Keeps W none n (record n { stack = stack })
-restacked n stack own = restacks n n stack (idle n) (λ _. own)
+-- writes, and then more, to slots
+written_twice : (slots : List Value) (ws more : List Write) →
+    written slots (ws ++ more) ≡ written (written slots ws) more
+written_twice slots [] more = refl
+written_twice slots (w ∷ ws) more = written_twice (slice_set slots w.slot w.value) ws more
 
 -- one effect after another
-pub then_keeps : {W : Known} (n m l : Stock) → Keeps W none n m → Keeps W none m l →
-    Keeps W none n l
-then_keeps n m l a b = record {
+pub then_keeps : {W : Known} (writes more : ℕ → List Write) (n m l : Stock) → Keeps W writes n m →
+    Keeps W more m l → Keeps W (λ k. writes k ++ more k) n l
+then_keeps writes more n m l a b = record {
   heap = record {
-    kept = λ k x was. b.heap.kept k x (a.heap.kept k x was);
+    kept = λ k x was.
+        b.heap.kept k (with_writes (writes k) x) (a.heap.kept k x was)
+        ∙ ap (λ xs. Some (record x { slots = xs }))
+        (sym (written_twice x.slots (writes k) (more k)));
     gone = λ k new was.
         b.heap.gone k (λ le. new (omega (arith, le, a.heap.next)))
         (a.heap.gone k (λ le. omega (arith, new le, b.heap.next)) was);

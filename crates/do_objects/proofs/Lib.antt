@@ -2,9 +2,7 @@ pub mod Finding
 mod Kept
 mod Known
 pub mod Whole
-pub mod Verdicts
-mod Runs
-mod Taken
+mod MovesKept
 pub mod Steps
 pub mod Sound
 pub mod Able

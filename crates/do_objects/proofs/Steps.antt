@@ -1,22 +1,56 @@
 -- What each event does to a node of the machine.
-use Rattle.std.proofs.Common.{◌≡◌, ◌∙◌, ◌==◌, ℕ, Bool, true, false, List, ap, refl, subst, sym}
-use Rattle.std.{proofs.Common.arith, specs.Prelude.{None, Option, Some}}
+use Rattle.do_facts.specs.nodes.Cause as cause
+use Rattle.do_behave.specs.declared.act.Act.TheVariants as acts
+use Rattle.std.proofs.Common.{◌≡◌, ◌∙◌, ◌==◌, ℕ, Bool, true, false, cond, List, [], ◌∷◌, ap, refl}
+use Rattle.std.{proofs.Common.{append-nil, subst, sym, arith}, specs.Prelude.{None, Option, Some}}
 use Rattle.std.proofs.lemmas.Bool.{eqb-true, Decides.nat_tests}
-use Rattle.do_base.specs.declared.events.event.Event.{Event, TheVariants.{Close, Run, Start}}
-use Rattle.do_base.specs.declared.{events.event.Event.TheVariants.Timeout, values.value.Value.Value}
+use Rattle.do_base.specs.declared.events.{event.Event.Event, shown.Shown.Shown}
+use Rattle.do_base.specs.declared.events.event.Event.TheVariants.{Close, Run, Start, Timeout}
+use Rattle.do_base.specs.declared.values.value.Value.{Value}
 use Rattle.do_class.specs.Class.{Class}
-use Rattle.do_behave.specs.declared.{act.Write.Write, invocation.Invocation.Invocation}
-use Rattle.do_machine.specs.declared.{node.Node.Node, state.{Effect.Effect, State.State}}
-use Rattle.do_machine.specs.{Commit.commit, Context.{Context, around, context}, Objects.object_at}
-use Rattle.do_machine.specs.{State.node, Step.step, held.Leaving.leaving}
-use Rattle.do_machine.specs.run.Run.{Acting, run_effect}
+use Rattle.do_behave.specs.declared.{act.{Act.Act, Write.Write}, invocation.InvState.InvState}
+use Rattle.do_behave.specs.declared.invocation.{InvState.TheVariants.Running, Invocation.Invocation}
+use Rattle.do_machine.specs.declared.{node.Node.Node, state.{Effect.Effect, Parcel.Parcel}}
+use Rattle.do_machine.specs.{declared.state.State.State, Commit.commit}
+use Rattle.do_machine.specs.{Context.{Context, around, context}, Objects.object_at, State.node}
+use Rattle.do_machine.specs.{Step.step, held.Leaving.leaving, run.Run.{Acting, run_effect}}
 use Rattle.do_facts.specs.steps.IsStep.{IsActOf, IsRuleOf, without_oldest}
 use Rattle.do_facts.proofs.steps.NodeSteps.{Acted, NodeStep, Stands, Took, node_step}
 use Rattle.do_facts.proofs.steps.{OthersStay.move_leaves_own, RuleMoves.rule_moves}
-use Rattle.do_objects.{specs.Writes.{run_writes, writes_to}, proofs.{Finding.there, Kept.Became}}
-use Rattle.do_objects.proofs.{Kept.{Keeps, became, none, same_writes, stayed}, Known.HoldsAfter}
-use Rattle.do_objects.proofs.{Known.{HoldsBegun, Known}, Runs.{KeepsIf, by_run, by_start}}
-use Rattle.do_objects.proofs.{Runs.by_time_out, Taken.{by_closing, by_take}, Whole.stock}
+use Rattle.do_facts.specs.{Net.Note, nodes.{Atoms.Atom, Judged.Judge, Moves.Wrote}}
+use Rattle.do_facts.{specs.nodes.Cause.{Cause, frees}, proofs.nodes.Judges.judge_of}
+use Rattle.do_facts.proofs.nodes.EventsDo.{cause_of, judge, rule_does, rule_wrote}
+use Rattle.do_facts.proofs.nodes.{Ruled.{run_wrote, wrote_at, wrote_of}, RunWalks.{IfDoes, by_run}}
+use Rattle.do_facts.proofs.nodes.{TakeWalks.by_take, Walks.Does}
+use Rattle.do_objects.specs.Writes.{act_at, run_writes, writes_in, writes_of, writes_to}
+use Rattle.do_objects.proofs.{Finding.there, Kept.{Became, Keeps, became, none, same_writes}}
+use Rattle.do_objects.proofs.{Kept.stayed, Known.{HoldsAfter, HoldsBegun, Known}}
+use Rattle.do_objects.proofs.{MovesKept.{by_walk, written_to}, Whole.stock}
+
+-- nothing is written, whatever a test says
+nothing : (b : Bool) → ◌≡◌ {A = List Write} (cond b [] []) []
+nothing b = grind (arith)
+
+-- what an act writes is written to the object of its invocation
+act_alike : (i : Invocation) (a : Act) (k : ℕ) →
+    cond (i.object.serial == k) (writes_of a) [] ≡ written_to (wrote_of i a) k
+act_alike i (acts.Step pc locals handler writes) k =
+    sym (append-nil (cond (i.object.serial == k) writes []))
+act_alike i _ k = nothing (i.object.serial == k)
+
+-- so is what a run writes
+written_alike : (j : Judge) (stack : List Invocation) (k : ℕ) →
+    run_writes j.table j.act j.first stack k ≡ written_to (run_wrote j stack) k
+written_alike j [] k = refl
+written_alike j (i ∷ is) k = go i.state
+  where
+    a : Act
+    a = act_at j.table j.act j.first i
+
+    go : (state : InvState) → cond (i.object.serial == k) (writes_in state a) []
+        ≡ written_to (wrote_at i state a) k
+    go Running = act_alike i a k
+    go _ = nothing (i.object.serial == k)
 
 module _ (table : List Class) (act : Acting) (S : State) where
   -- what an event writes at the node of a port
@@ -30,22 +64,40 @@ module _ (table : List Class) (act : Acting) (S : State) where
 
   module _ (W : Known) (begin : HoldsBegun W table)
       (goes : (i : Invocation) (slots : List Value) → HoldsAfter W i (act table i slots)) where
+    -- what moves come to keeps all, with their writes
+    kept : (T : State) (n : Node) (why : Cause) → frees why ≡ false → {taken : List (Note Atom)}
+        {written : List Wrote} {sent : List Parcel} {shown : List Shown} {q : Node} →
+        Does (judge_of act (context table T n) why) n taken written q sent shown →
+        Keeps W (written_to written) (stock n) (stock q)
+    kept T n why none d = by_walk W (judge_of act (context table T n) why) none begin goes d
+
+    -- no rule of an event frees anything
+    frees_none : (event : Event) → frees (cause_of event) ≡ false
+    frees_none (Start actor selector values) = refl
+    frees_none (Close actor peer) = refl
+    frees_none (Timeout actor) = refl
+    frees_none _ = refl
+
+    -- what moves write by a rule is what its event writes
+    rule_alike : (event : Event) (port : ℕ) (n : Node) (e : Effect) → IsActOf port event →
+        node S port ≡ Some n → IsRuleOf table act S event n e → (k : ℕ) →
+        writes_at event port k ≡ written_to (rule_wrote table act S event n) k
+    rule_alike (Run actor) port n e own here rule k =
+        own_writes actor port n own here k
+        ∙ written_alike (judge table act S (Run actor) n) n.stack k
+    rule_alike (Start actor selector values) port n e own here rule k = refl
+    rule_alike (Close actor peer) port n e own here rule k = refl
+    rule_alike (Timeout actor) port n e own here rule k = refl
+    rule_alike _ port n e own here rule k = absurd own
+
     -- what a node does by the rule of an event keeps all, with the writes of the event
     by_rule : (event : Event) (port : ℕ) (n : Node) (e : Effect) → IsActOf port event →
         node S port ≡ Some n → IsRuleOf table act S event n e →
         Keeps W (writes_at event port) (stock n) (stock e.node)
-    by_rule (Start actor selector values) port n e own here r =
-        subst (KeepsIf W none n) r (by_start W table selector values n begin)
-    by_rule (Run actor) port n e own here r =
-        let ran = by_run W act (context table S n) begin goes in
-        same_writes _ _ (run_writes table act n n.stack) (writes_at (Run actor) port)
-        (own_writes actor port n own here)
-        (subst (KeepsIf W (run_writes table act n n.stack) n) r ran)
-    by_rule (Close actor peer) port n e own here r =
-        subst (λ d. Keeps W none (stock n) (stock d.node)) (sym r.1) (by_closing peer n)
-    by_rule (Timeout actor) port n e own here r =
-        subst (KeepsIf W none n) r (by_time_out W n)
-    by_rule _ port n e own here r = absurd own
+    by_rule event port n e own here rule =
+        same_writes _ _ (written_to (rule_wrote table act S event n)) (writes_at event port)
+        (rule_alike event port n e own here rule)
+        (kept S n (cause_of event) (frees_none event) (rule_does table act S event n e rule))
 
     -- the node of a port before an event, of which that made another
     abbrev pub Before : Event → ℕ → Node → Type 0
@@ -81,15 +133,22 @@ module _ (table : List Class) (act : Acting) (S : State) where
         c : Context
         c = context table S m
 
+        j : Judge
+        j = judge table act S (Run actor) m
+
         ran : actor ≡ port → (found : Option Effect) → run_effect act c ≡ found →
-            KeepsIf W (run_writes table act m m.stack) m found → Before (Run actor) port m
-        ran own None is h =
-            (m, here, stayed m _ (λ k. own_writes actor port m own here k ∙ h k))
+            IfDoes j (run_wrote j m.stack) found → Before (Run actor) port m
+        ran own None is h = (
+          m,
+          here,
+          stayed m _ (λ k. own_writes actor port m own here k
+              ∙ written_alike j m.stack k ∙ ap (λ ws. written_to ws k) h),
+        )
         ran own (Some e) is h = acted (Run actor) port m now m e own here is
 
         by : (b : Bool) → (actor == port) ≡ b → Before (Run actor) port m
         by true e =
-            ran (eqb-true actor port e) (run_effect act c) refl (by_run W act c begin goes)
+            ran (eqb-true actor port e) (run_effect act c) refl (by_run j)
         by false e = (m, here, stayed m _ (λ k. grind (arith, e)))
     stood event port m now here = (m, here, stayed m (writes_at event port) (λ k. refl))
 
@@ -103,8 +162,9 @@ module _ (table : List Class) (act : Acting) (S : State) where
         by (Stands same) = stood event port m now (sym same ∙ now)
         by (Acted n e entry own here r left) = acted event port m now n e own here r
         by (Took from n item behind e entry is here waits r left) =
-            let c = context table (without_oldest S from port behind) n in
             had event port m now n e entry here left
             (same_writes _ _ none (writes_at event port) (λ k. ap (λ x. writes_at x port k) is)
             (subst (λ d. Keeps W none (stock n) (stock d.node)) (sym r.1)
-            (by_take W c begin from item)))
+            (kept (without_oldest S from port behind) n (cause.Take from item) refl
+            (by_take (judge_of act (context table (without_oldest S from port behind) n)
+            (cause.Take from item)) from r.0 item refl))))
