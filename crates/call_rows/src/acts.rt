@@ -1,18 +1,25 @@
 //! Acts and handlers as values. The form of the values is this project's own.
 
-use crate::answers::{list_from, text_value, word_with};
+use crate::answers::{list_value, pair_value, text_value, word_with, word_with_two};
 use do_base::{Exc, Locals, Text, Value, Values};
 use do_behave::{Act, Handler};
 use std::alloc::{AllocError, Global};
+use std::test::Fail;
 
 /// What is raised: the name of a fault, or the word of the user's exceptions with the text of one.
-fn exception_value(alloc: Global, exception: Exc) -> Result<Value, AllocError> {
+fn exception_value(alloc: Global, exception: Exc) -> Result<Value, Fail> {
     match exception {
         Exc::TypeFault => text_value(alloc, b"Type"),
         Exc::Range => text_value(alloc, b"Range"),
         Exc::User(text) => word_with(alloc, b"User", Value::Text(text)),
         _ => text_value(alloc, b"another exception"),
     }
+}
+
+/// An exception that a method raises.
+fn raised_value(alloc: Global, exception: Exc) -> Result<Value, Fail> {
+    let exception = exception_value(alloc, exception)?;
+    word_with(alloc, b"raise", exception)
 }
 
 /// The numbers of locals as a list.
@@ -24,18 +31,6 @@ fn locals_value(alloc: Global, locals: &Locals) -> Result<Value, AllocError> {
     Ok(Value::List(values))
 }
 
-/// Adds what a message is sent to, its selector and its arguments.
-fn push_message(
-    values: &mut Values,
-    target: Value,
-    selector: Text,
-    args: Values,
-) -> Result<(), AllocError> {
-    values.push(target)?;
-    values.push(Value::Text(selector))?;
-    values.push(Value::List(args))
-}
-
 /// A message as a list: its target, selector and arguments, the local that takes what it gives,
 /// those that take what comes out, and the place at which the method goes on.
 fn send_value(
@@ -44,52 +39,37 @@ fn send_value(
     selector: Text,
     args: Values,
     into: u8,
-    from: &Locals,
+    from: Locals,
     pc: u32,
-) -> Result<Value, AllocError> {
-    let mut values = list_from(alloc, b"send")?;
-    push_message(&mut values, target, selector, args)?;
-    values.push(Value::Num(i64::from(into)))?;
-    values.push(locals_value(alloc, from)?)?;
-    values.push(Value::Num(i64::from(pc)))?;
-    Ok(Value::List(values))
+) -> Result<Value, Fail> {
+    let word = text_value(alloc, b"send")?;
+    let from = locals_value(alloc, &from)?;
+    let (selector, args) = (Value::Text(selector), Value::List(args));
+    let (into, pc) = (Value::Num(i64::from(into)), Value::Num(i64::from(pc)));
+    Ok(list_value(vec![in alloc; word, target, selector, args, into, from, pc]?))
 }
 
 /// A word, what is made or asked, the local that takes what the act gives, and the place at which
 /// the method goes on.
-fn asked_value(
-    alloc: Global,
-    word: &[u8],
-    what: Value,
-    into: u8,
-    pc: u32,
-) -> Result<Value, AllocError> {
-    let mut values = list_from(alloc, word)?;
-    values.push(what)?;
-    values.push(Value::Num(i64::from(into)))?;
-    values.push(Value::Num(i64::from(pc)))?;
-    Ok(Value::List(values))
-}
-
-/// A word, the value that is offered, and the place at which the method goes on.
-fn offered_value(alloc: Global, word: &[u8], value: Value, pc: u32) -> Result<Value, AllocError> {
-    let mut values = list_from(alloc, word)?;
-    values.push(value)?;
-    values.push(Value::Num(i64::from(pc)))?;
-    Ok(Value::List(values))
+fn asked_value(alloc: Global, word: &[u8], what: Value, into: u8, pc: u32) -> Result<Value, Fail> {
+    let word = text_value(alloc, word)?;
+    let (into, pc) = (Value::Num(i64::from(into)), Value::Num(i64::from(pc)));
+    Ok(list_value(vec![in alloc; word, what, into, pc]?))
 }
 
 /// An act that is no step, as a list.
-fn left_value(alloc: Global, act: Act) -> Result<Value, AllocError> {
+fn left_value(alloc: Global, act: Act) -> Result<Value, Fail> {
     match act {
         Act::Return { value } => word_with(alloc, b"return", value),
-        Act::Raise(exception) => word_with(alloc, b"raise", exception_value(alloc, exception)?),
+        Act::Raise(exception) => raised_value(alloc, exception),
         Act::New { class, into, pc } => {
             asked_value(alloc, b"new", Value::Num(i64::from(class.0)), into, pc)
         }
         Act::Root { port, into, pc } => asked_value(alloc, b"root", port, into, pc),
-        Act::Vend { value, pc } => offered_value(alloc, b"vend", value, pc),
-        Act::Say { value, pc } => offered_value(alloc, b"say", value, pc),
+        Act::Vend { value, pc } => {
+            word_with_two(alloc, b"vend", value, Value::Num(i64::from(pc)))
+        }
+        Act::Say { value, pc } => word_with_two(alloc, b"say", value, Value::Num(i64::from(pc))),
         Act::Send {
             target,
             selector,
@@ -97,13 +77,13 @@ fn left_value(alloc: Global, act: Act) -> Result<Value, AllocError> {
             into,
             from,
             pc,
-        } => send_value(alloc, target, selector, args, into, &from, pc),
+        } => send_value(alloc, target, selector, args, into, from, pc),
         Act::Step { .. } => text_value(alloc, b"a step that is left"),
     }
 }
 
 /// What an act was, as a list; of a step the place at which the method goes on.
-pub fn act_value(alloc: Global, act: Option<Act>, place: u32) -> Result<Value, AllocError> {
+pub fn act_value(alloc: Global, act: Option<Act>, place: u32) -> Result<Value, Fail> {
     match act {
         None => word_with(alloc, b"step", Value::Num(i64::from(place))),
         Some(act) => left_value(alloc, act),
@@ -111,12 +91,10 @@ pub fn act_value(alloc: Global, act: Option<Act>, place: u32) -> Result<Value, A
 }
 
 /// The local and the place of a handler, or nil for none.
-pub fn handler_value(alloc: Global, handler: Option<Handler>) -> Result<Value, AllocError> {
+pub fn handler_value(alloc: Global, handler: Option<Handler>) -> Result<Value, Fail> {
     let Some(handler) = handler else {
         return Ok(Value::Nil);
     };
-    let mut values = Values::new(alloc);
-    values.push(Value::Num(i64::from(handler.into)))?;
-    values.push(Value::Num(i64::from(handler.pc)))?;
-    Ok(Value::List(values))
+    let (into, pc) = (i64::from(handler.into), i64::from(handler.pc));
+    pair_value(alloc, Value::Num(into), Value::Num(pc))
 }

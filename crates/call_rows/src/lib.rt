@@ -17,13 +17,13 @@ mod values;
 
 pub use acts::{act_value, handler_value};
 pub use answers::{
-    count_value, list_from, no_call, number_or_nil, object_or_nil, printed, refused, text_value,
-    word_with,
+    count_value, list_value, no_call, number_or_nil, object_or_nil, pair_value, printed, refused,
+    shown, text_value, triple_value, word_alone, word_with, word_with_two,
 };
 pub use arguments::{
     copy_at, count_at, list_at, local_at, number_at, object_at, port_at, text_at, texts_at,
     value_at,
 };
 pub use invocations::begun;
-pub use rows::{Part, play_file};
+pub use rows::{Part, call_of, play_file};
 pub use values::digits;

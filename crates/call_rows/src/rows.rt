@@ -6,7 +6,7 @@
 
 use crate::reading::values_of;
 use do_base::{Text, Value, Values};
-use do_grammar::{line_of, part_of, push_dec};
+use do_grammar::{is_text, line_of, part_of, push_dec};
 use do_sched::push_value;
 use std::alloc::{AllocError, Global};
 use std::fs;
@@ -16,6 +16,16 @@ use std::test::Fail;
 pub trait Part: Drop {
     /// Makes the call of a word and these arguments, and gives its answer as a value.
     fn call(&mut self, word: &[u8], args: &Values) -> Result<Value, Fail>;
+}
+
+/// What a table has at a word. None exactly where it does not have the word.
+pub fn call_of<C: Copy>(calls: &[(&[u8], C)], word: &[u8]) -> Option<C> {
+    for at in 0..calls.len() {
+        if is_text(calls[at].0, word) {
+            return Some(calls[at].1);
+        }
+    }
+    None
 }
 
 /// The answer that a row names.

@@ -2,7 +2,7 @@
 
 use crate::behaviours::behaviour_of;
 use crate::bench::Bench;
-use call_rows::{Part, count_at};
+use call_rows::Part;
 use do_base::{Value, Values};
 use do_behave::act_in_place;
 use do_class_kinds::Kind;
@@ -42,9 +42,9 @@ impl ActCalls {
     }
 
     /// Does the first act of the method as often, and shows the last.
-    fn repeat(&mut self, count: u16) -> Result<Value, Fail> {
+    fn repeat(&mut self, args: &Values) -> Result<Value, Fail> {
         let mut last = Value::Nil;
-        for _act in 0..count {
+        for _act in 0..count_at(args, 0)? {
             self.bench.inv.pc = 0;
             last = self.act()?;
         }
@@ -58,7 +58,7 @@ impl Part for ActCalls {
             return self.act();
         }
         if is_text(word, b"repeat") {
-            return self.repeat(count_at(args, 0)?);
+            return self.repeat(args);
         }
         self.bench.call(word, args)
     }

@@ -29,36 +29,26 @@ fn denied(alloc: Global, selector: &[u8]) -> Result<Rule, AllocError> {
     })
 }
 
-/// `add:` is allowed and `reset:` is not, whatever a second rule says.
-fn add_rules(rules: &mut Rules, alloc: Global) -> Result<(), AllocError> {
-    rules.push(allowed(alloc, b"add:")?)?;
-    rules.push(denied(alloc, b"reset:")?)?;
-    rules.push(allowed(alloc, b"reset:")?)
-}
-
-/// The rules of one class.
+/// The rules of one class: `add:` is allowed and `reset:` is not, whatever a second rule says.
 fn rule_table(alloc: Global) -> Result<RuleTable, AllocError> {
-    let mut rules = Rules::new(alloc);
-    add_rules(&mut rules, alloc)?;
-    let mut table = RuleTable::new(alloc);
-    table.push(rules)?;
-    Ok(table)
+    let add = allowed(alloc, b"add:")?;
+    let no_reset = denied(alloc, b"reset:")?;
+    let reset = allowed(alloc, b"reset:")?;
+    let rules = Rules::from_vec(vec![in alloc; add, no_reset, reset]?);
+    Ok(RuleTable::from_vec(vec![in alloc; rules]?))
 }
 
 /// A program of one method, which returns its first argument.
 fn program(alloc: Global) -> Result<Program, Fail> {
     let code = assemble(alloc, b"return l0", &Names::new(alloc), &Names::new(alloc))?;
-    let mut of_class = ClassCodes::new(alloc);
-    of_class.push(code)?;
-    let mut codes = Codes::new(alloc);
-    codes.push(of_class)?;
+    let of_class = ClassCodes::from_vec(vec![in alloc; code]?);
+    let codes = Codes::from_vec(vec![in alloc; of_class]?);
     Ok(Program::new(&ClassTable::new(alloc), codes))
 }
 
 /// What decides the acts of one class of this kind.
 pub(crate) fn behaviour_of(alloc: Global, kind: Kind) -> Result<Native, Fail> {
-    let mut kinds = Kinds::new(alloc);
-    kinds.push(kind)?;
+    let kinds = Kinds::from_vec(vec![in alloc; kind]?);
     let rules = rule_table(alloc)?;
     Ok(Native::new(kinds, program(alloc)?, rules))
 }

@@ -2,14 +2,43 @@
 
 use crate::classes::table;
 use call_rows::{
-    act_value, begun, copy_at, count_at, handler_value, list_at, local_at, no_call, text_at,
+    act_value, begun, call_of, copy_at, count_at, handler_value, list_at, local_at, no_call,
+    text_at,
 };
 use do_base::{Value, Values};
 use do_behave::{Act, Invocation};
 use do_class::{ClassId, ClassTable};
-use do_grammar::is_text;
 use std::alloc::Global;
 use std::test::Fail;
+
+/// What a row calls.
+#[derive(Clone, Copy)]
+enum Call {
+    Begin,
+    SetLocal,
+    SetSlots,
+    SetPlace,
+    SetMethod,
+    SetClass,
+    KeepLocals,
+    Slots,
+    Local,
+    Handler,
+}
+
+/// The words of the calls.
+const CALLS: [(&[u8], Call); 10] = [
+    (b"begin", Call::Begin),
+    (b"set_local", Call::SetLocal),
+    (b"set_slots", Call::SetSlots),
+    (b"set_place", Call::SetPlace),
+    (b"set_method", Call::SetMethod),
+    (b"set_class", Call::SetClass),
+    (b"keep_locals", Call::KeepLocals),
+    (b"slots", Call::Slots),
+    (b"local", Call::Local),
+    (b"handler", Call::Handler),
+];
 
 /// An invocation, the slots of its object, and the table of the one method that it runs.
 #[derive(Drop)]
@@ -42,7 +71,7 @@ impl Bench {
 
     /// What an act was, as a list.
     pub(crate) fn shown(&self, act: Option<Act>) -> Result<Value, Fail> {
-        Ok(act_value(self.alloc, act, self.inv.pc)?)
+        act_value(self.alloc, act, self.inv.pc)
     }
 
     /// Begins the method of a selector and types, with the arguments behind them.
@@ -63,53 +92,62 @@ impl Bench {
         Ok(Value::Nil)
     }
 
-    /// Tells a part of the invocation or its slots.
-    fn tell(&self, word: &[u8], args: &Values) -> Result<Value, Fail> {
-        if is_text(word, b"slots") {
-            return Ok(Value::List(self.slots.clone()?));
-        }
-        if is_text(word, b"local") {
-            return Ok(self.inv.copy_local(local_at(args, 0)?)?.ok_or("no local")?);
-        }
-        if is_text(word, b"handler") {
-            return Ok(handler_value(self.alloc, self.inv.handler)?);
-        }
-        no_call()
+    /// Sets the slots of the object.
+    fn set_slots(&mut self, args: &Values) -> Result<Value, Fail> {
+        self.slots = list_at(args, 0)?.clone()?;
+        Ok(Value::Nil)
     }
 
-    /// Sets a count or place, or tells a part.
-    fn set_count(&mut self, word: &[u8], args: &Values) -> Result<Value, Fail> {
-        if is_text(word, b"set_place") {
-            self.inv.pc = u32::from(count_at(args, 0)?);
-            return Ok(Value::Nil);
-        }
-        if is_text(word, b"set_method") {
-            self.inv.method.index = u32::from(count_at(args, 0)?);
-            return Ok(Value::Nil);
-        }
-        if is_text(word, b"set_class") {
-            self.inv.method.class = ClassId(u32::from(count_at(args, 0)?));
-            return Ok(Value::Nil);
-        }
-        if is_text(word, b"keep_locals") {
-            self.inv.locals.truncate(usize::from(count_at(args, 0)?));
-            return Ok(Value::Nil);
-        }
-        self.tell(word, args)
+    /// Sets the place in the method.
+    fn set_place(&mut self, args: &Values) -> Result<Value, Fail> {
+        self.inv.pc = u32::from(count_at(args, 0)?);
+        Ok(Value::Nil)
+    }
+
+    /// Sets the number of the method.
+    fn set_method(&mut self, args: &Values) -> Result<Value, Fail> {
+        self.inv.method.index = u32::from(count_at(args, 0)?);
+        Ok(Value::Nil)
+    }
+
+    /// Sets the class of the method.
+    fn set_class(&mut self, args: &Values) -> Result<Value, Fail> {
+        self.inv.method.class = ClassId(u32::from(count_at(args, 0)?));
+        Ok(Value::Nil)
+    }
+
+    /// Leaves the first locals.
+    fn keep_locals(&mut self, args: &Values) -> Result<Value, Fail> {
+        let few = usize::from(count_at(args, 0)?);
+        self.inv.locals.truncate(few);
+        Ok(Value::Nil)
+    }
+
+    /// The slots of the object.
+    fn slots(&self) -> Result<Value, Fail> {
+        Ok(Value::List(self.slots.clone()?))
+    }
+
+    /// What a local holds.
+    fn local(&self, args: &Values) -> Result<Value, Fail> {
+        let local = local_at(args, 0)?;
+        Ok(self.inv.copy_local(local)?.ok_or("no local")?)
     }
 
     /// Makes a call that sets or tells a part of the invocation or its slots.
     pub(crate) fn call(&mut self, word: &[u8], args: &Values) -> Result<Value, Fail> {
-        if is_text(word, b"begin") {
-            return self.begin(args);
+        match call_of(&CALLS, word) {
+            Some(Call::Begin) => self.begin(args),
+            Some(Call::SetLocal) => self.set_local(args),
+            Some(Call::SetSlots) => self.set_slots(args),
+            Some(Call::SetPlace) => self.set_place(args),
+            Some(Call::SetMethod) => self.set_method(args),
+            Some(Call::SetClass) => self.set_class(args),
+            Some(Call::KeepLocals) => self.keep_locals(args),
+            Some(Call::Slots) => self.slots(),
+            Some(Call::Local) => self.local(args),
+            Some(Call::Handler) => handler_value(self.alloc, self.inv.handler),
+            None => no_call(),
         }
-        if is_text(word, b"set_local") {
-            return self.set_local(args);
-        }
-        if is_text(word, b"set_slots") {
-            self.slots = list_at(args, 0)?.clone()?;
-            return Ok(Value::Nil);
-        }
-        self.set_count(word, args)
     }
 }

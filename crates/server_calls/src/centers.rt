@@ -4,13 +4,45 @@ mod parts;
 mod told;
 
 use crate::centers::parts::{good_note, good_registration, label_at, note_of, numbered_note};
-use call_rows::{Part, count_at, count_value, list_at, number_at, object_at, refused};
+use call_rows::{Part, call_of, count_at, count_value, list_at, number_at, object_at, refused};
 use do_base::{Oid, Value, Values};
 use do_center::{Center, Deliveries};
-use do_grammar::is_text;
 use do_native_acts::{CoreFault, as_number};
 use std::alloc::Global;
 use std::test::Fail;
+
+/// What a row calls.
+#[derive(Clone, Copy)]
+enum Call {
+    Add,
+    Remove,
+    Suspend,
+    Resume,
+    Post,
+    New,
+    Fill,
+    PostNumbers,
+    Read,
+    Slots,
+    KeepSlots,
+    HasKeptSlots,
+}
+
+/// The words of the calls.
+const CALLS: [(&[u8], Call); 12] = [
+    (b"add", Call::Add),
+    (b"remove", Call::Remove),
+    (b"suspend", Call::Suspend),
+    (b"resume", Call::Resume),
+    (b"post", Call::Post),
+    (b"new", Call::New),
+    (b"fill", Call::Fill),
+    (b"post_numbers", Call::PostNumbers),
+    (b"read", Call::Read),
+    (b"slots", Call::Slots),
+    (b"keep_slots", Call::KeepSlots),
+    (b"has_kept_slots", Call::HasKeptSlots),
+];
 
 /// A centre, the deliveries of the last call that had any, and slots that were kept.
 #[derive(Drop)]
@@ -94,7 +126,8 @@ impl CenterCalls {
 
     /// Posts the numbers from the first to one below the second, and tells how many deliveries come
     /// of all.
-    fn post_numbers(&mut self, first: u16, end: u16) -> Result<Value, Fail> {
+    fn post_numbers(&mut self, args: &Values) -> Result<Value, Fail> {
+        let (first, end) = (count_at(args, 0)?, count_at(args, 1)?);
         let mut count: usize = 0;
         for number in first..end {
             count = count.saturating_add(post_number(&mut self.center, self.alloc, number)?);
@@ -103,67 +136,61 @@ impl CenterCalls {
     }
 
     /// Takes the core whose slots these are, and tells whether there is one.
-    fn read(&mut self, slots: &Values) -> Result<Value, Fail> {
-        let Some(center) = Center::from_slots(slots)? else {
+    fn read(&mut self, args: &Values) -> Result<Value, Fail> {
+        let Some(center) = Center::from_slots(list_at(args, 0)?)? else {
             return Ok(as_number(false));
         };
         self.center = center;
         Ok(as_number(true))
     }
 
-    /// Reads slots, keeps them or tells them.
-    fn slots(&mut self, word: &[u8], args: &Values) -> Result<Value, Fail> {
-        if is_text(word, b"read") {
-            return self.read(list_at(args, 0)?);
-        }
-        if is_text(word, b"slots") {
-            return Ok(Value::List(self.center.to_slots()?));
-        }
-        if is_text(word, b"keep_slots") {
-            self.kept = self.center.to_slots()?;
-            return Ok(Value::Nil);
-        }
-        if is_text(word, b"has_kept_slots") {
-            return Ok(as_number(self.center.to_slots()? == self.kept));
-        }
-        self.tell(word, args)
+    /// Begins anew without registrations.
+    fn begin(&mut self) -> Value {
+        self.center = Center::new(self.alloc);
+        Value::Nil
     }
 
-    /// Makes many calls at once, or begins anew.
-    fn call_all(&mut self, word: &[u8], args: &Values) -> Result<Value, Fail> {
-        if is_text(word, b"new") {
-            self.center = Center::new(self.alloc);
-            return Ok(Value::Nil);
-        }
-        if is_text(word, b"fill") {
-            return self.fill(args);
-        }
-        if is_text(word, b"post_numbers") {
-            return self.post_numbers(count_at(args, 0)?, count_at(args, 1)?);
-        }
-        self.slots(word, args)
+    /// Suspends or resumes an observer.
+    fn suspend(&mut self, args: &Values, suspended: bool) -> Result<Value, Fail> {
+        let observer = object_at(args, 0)?;
+        let sent = self.center.suspend(observer, suspended);
+        self.keep(sent)
+    }
+
+    /// The slots that keep the centre.
+    fn slots(&self) -> Result<Value, Fail> {
+        Ok(Value::List(self.center.to_slots()?))
+    }
+
+    /// Keeps these slots.
+    fn keep_slots(&mut self) -> Result<Value, Fail> {
+        self.kept = self.center.to_slots()?;
+        Ok(Value::Nil)
+    }
+
+    /// Whether the slots are those that were kept.
+    fn has_kept_slots(&self) -> Result<Value, Fail> {
+        let slots = self.center.to_slots()?;
+        Ok(as_number(slots == self.kept))
     }
 }
 
 impl Part for CenterCalls {
     fn call(&mut self, word: &[u8], args: &Values) -> Result<Value, Fail> {
-        if is_text(word, b"add") {
-            return self.add(args);
+        match call_of(&CALLS, word) {
+            Some(Call::Add) => self.add(args),
+            Some(Call::Remove) => self.remove(args),
+            Some(Call::Suspend) => self.suspend(args, true),
+            Some(Call::Resume) => self.suspend(args, false),
+            Some(Call::Post) => self.post(args),
+            Some(Call::New) => Ok(self.begin()),
+            Some(Call::Fill) => self.fill(args),
+            Some(Call::PostNumbers) => self.post_numbers(args),
+            Some(Call::Read) => self.read(args),
+            Some(Call::Slots) => self.slots(),
+            Some(Call::KeepSlots) => self.keep_slots(),
+            Some(Call::HasKeptSlots) => self.has_kept_slots(),
+            None => self.tell(word, args),
         }
-        if is_text(word, b"remove") {
-            return self.remove(args);
-        }
-        if is_text(word, b"suspend") {
-            let sent = self.center.suspend(object_at(args, 0)?, true);
-            return self.keep(sent);
-        }
-        if is_text(word, b"resume") {
-            let sent = self.center.suspend(object_at(args, 0)?, false);
-            return self.keep(sent);
-        }
-        if is_text(word, b"post") {
-            return self.post(args);
-        }
-        self.call_all(word, args)
     }
 }

@@ -1,7 +1,7 @@
 //! Calls of a server of names.
 
 use call_rows::{
-    Part, count_at, digits, list_at, no_call, number_or_nil, port_at, refused, text_at,
+    Part, call_of, digits, list_at, no_call, number_or_nil, port_at, refused, text_at,
 };
 use do_base::{Text, Value, Values};
 use do_grammar::is_text;
@@ -9,6 +9,31 @@ use do_names::{Call, Names};
 use do_native_acts::{CoreFault, as_number};
 use std::alloc::Global;
 use std::test::Fail;
+
+/// What a row calls.
+#[derive(Clone, Copy)]
+enum RowCall {
+    New,
+    Register,
+    Unregister,
+    Perform,
+    Fill,
+    Read,
+    Lookup,
+    Slots,
+}
+
+/// The words of the calls.
+const CALLS: [(&[u8], RowCall); 8] = [
+    (b"new", RowCall::New),
+    (b"register", RowCall::Register),
+    (b"unregister", RowCall::Unregister),
+    (b"perform", RowCall::Perform),
+    (b"fill", RowCall::Fill),
+    (b"read", RowCall::Read),
+    (b"lookup", RowCall::Lookup),
+    (b"slots", RowCall::Slots),
+];
 
 /// A server of names.
 #[derive(Drop)]
@@ -69,9 +94,9 @@ impl NameCalls {
     }
 
     /// Gives as many names port 7, and tells how many had it then.
-    fn fill(&mut self, count: u16) -> Result<Value, Fail> {
+    fn fill(&mut self, args: &Values) -> Result<Value, Fail> {
         let mut given: i64 = 0;
-        for number in 0..count {
+        for number in 0..count_at(args, 0)? {
             let name = digits(self.alloc, u64::from(number))?;
             if register(&mut self.names, name, 7)? == Ok(true) {
                 given = given.saturating_add(1);
@@ -81,47 +106,50 @@ impl NameCalls {
     }
 
     /// Takes the core whose slots these are, and tells whether there is one.
-    fn read(&mut self, slots: &Values) -> Result<Value, Fail> {
-        let Some(names) = Names::from_slots(slots)? else {
+    fn read(&mut self, args: &Values) -> Result<Value, Fail> {
+        let Some(names) = Names::from_slots(list_at(args, 0)?)? else {
             return Ok(as_number(false));
         };
         self.names = names;
         Ok(as_number(true))
     }
 
-    /// Makes a call that tells of a name, or of all.
-    fn ask(&mut self, word: &[u8], args: &Values) -> Result<Value, Fail> {
-        if is_text(word, b"lookup") {
-            return Ok(number_or_nil(self.names.lookup(text_at(args, 0)?).map(i64::from)));
-        }
-        if is_text(word, b"slots") {
-            return Ok(Value::List(self.names.to_slots()?));
-        }
-        no_call()
+    /// Begins anew without names.
+    fn begin(&mut self) -> Value {
+        self.names = Names::new(self.alloc);
+        Value::Nil
+    }
+
+    /// Takes a name's port, and tells whether it had one.
+    fn unregister(&mut self, args: &Values) -> Result<Value, Fail> {
+        let name = text_at(args, 0)?;
+        Ok(as_number(self.names.unregister(name)))
+    }
+
+    /// The port of a name, or nil.
+    fn lookup(&self, args: &Values) -> Result<Value, Fail> {
+        let port = self.names.lookup(text_at(args, 0)?);
+        Ok(number_or_nil(port.map(i64::from)))
+    }
+
+    /// The slots that keep the server.
+    fn slots(&self) -> Result<Value, Fail> {
+        Ok(Value::List(self.names.to_slots()?))
     }
 }
 
 impl Part for NameCalls {
     fn call(&mut self, word: &[u8], args: &Values) -> Result<Value, Fail> {
-        if is_text(word, b"new") {
-            self.names = Names::new(self.alloc);
-            return Ok(Value::Nil);
+        match call_of(&CALLS, word) {
+            Some(RowCall::New) => Ok(self.begin()),
+            Some(RowCall::Register) => self.register(args),
+            Some(RowCall::Unregister) => self.unregister(args),
+            Some(RowCall::Perform) => perform(&mut self.names, args),
+            Some(RowCall::Fill) => self.fill(args),
+            Some(RowCall::Read) => self.read(args),
+            Some(RowCall::Lookup) => self.lookup(args),
+            Some(RowCall::Slots) => self.slots(),
+            None => no_call(),
         }
-        if is_text(word, b"register") {
-            return self.register(args);
-        }
-        if is_text(word, b"unregister") {
-            return Ok(as_number(self.names.unregister(text_at(args, 0)?)));
-        }
-        if is_text(word, b"perform") {
-            return perform(&mut self.names, args);
-        }
-        if is_text(word, b"fill") {
-            return self.fill(count_at(args, 0)?);
-        }
-        if is_text(word, b"read") {
-            return self.read(list_at(args, 0)?);
-        }
-        self.ask(word, args)
     }
 }

@@ -3,7 +3,8 @@ ghost use Rattle.std.specs.Prelude.{IfOk, IsTrue};
 ghost use Rattle.do_services.specs.Core.{is_service};
 
 use call_rows::{
-    Part, copy_at, count_at, count_value, digits, list_at, no_call, refused, text_at, texts_at,
+    Part, call_of, copy_at, count_at, count_value, digits, list_at, no_call, refused, text_at,
+    texts_at,
 };
 use do_base::{Text, Texts, Value, Values};
 use do_grammar::is_text;
@@ -11,6 +12,39 @@ use do_native_acts::{Row, as_number, show_list};
 use do_services::{Call, Service, Services, is_message, is_service};
 use std::alloc::Global;
 use std::test::Fail;
+
+/// What a row calls.
+#[derive(Clone, Copy)]
+enum RowCall {
+    IsMessage,
+    IsService,
+    Find,
+    Items,
+    CountItems,
+    Slots,
+    New,
+    Add,
+    Remove,
+    Fill,
+    Perform,
+    Read,
+}
+
+/// The words of the calls.
+const CALLS: [(&[u8], RowCall); 12] = [
+    (b"is_message", RowCall::IsMessage),
+    (b"is_service", RowCall::IsService),
+    (b"find", RowCall::Find),
+    (b"items", RowCall::Items),
+    (b"count_items", RowCall::CountItems),
+    (b"slots", RowCall::Slots),
+    (b"new", RowCall::New),
+    (b"add", RowCall::Add),
+    (b"remove", RowCall::Remove),
+    (b"fill", RowCall::Fill),
+    (b"perform", RowCall::Perform),
+    (b"read", RowCall::Read),
+];
 
 /// A server of services.
 #[derive(Drop)]
@@ -101,8 +135,8 @@ fn perform(services: &mut Services, args: &Values) -> Result<Value, Fail> {
 }
 
 /// The service of an item as a list, or nil.
-fn find(services: &Services, item: &Text) -> Result<Value, Fail> {
-    match services.find(item) {
+fn find(services: &Services, args: &Values) -> Result<Value, Fail> {
+    match services.find(text_at(args, 0)?) {
         Some(service) => Ok(service.shown()?),
         None => Ok(Value::Nil),
     }
@@ -118,8 +152,8 @@ impl ServiceCalls {
     }
 
     /// Adds a service, and tells whether its item is new.
-    fn add(&mut self, parts: &Values) -> Result<Value, Fail> {
-        let service = good_service(parts)?;
+    fn add(&mut self, args: &Values) -> Result<Value, Fail> {
+        let service = good_service(list_at(args, 0)?)?;
         match self.services.add(service) {
             Ok(new) => Ok(as_number(new)),
             Err(fault) => refused(self.alloc, fault),
@@ -127,7 +161,8 @@ impl ServiceCalls {
     }
 
     /// Adds the service of these parts under as many items, and tells how many were new.
-    fn fill(&mut self, count: u16, parts: &Values) -> Result<Value, Fail> {
+    fn fill(&mut self, args: &Values) -> Result<Value, Fail> {
+        let (count, parts) = (count_at(args, 0)?, list_at(args, 1)?);
         let mut new: i64 = 0;
         for number in 0..count {
             let service = numbered_service(self.alloc, parts, number)?;
@@ -139,59 +174,69 @@ impl ServiceCalls {
     }
 
     /// Takes the core whose slots these are, and tells whether there is one.
-    fn read(&mut self, slots: &Values) -> Result<Value, Fail> {
-        let Some(services) = Services::from_slots(slots)? else {
+    fn read(&mut self, args: &Values) -> Result<Value, Fail> {
+        let Some(services) = Services::from_slots(list_at(args, 0)?)? else {
             return Ok(as_number(false));
         };
         self.services = services;
         Ok(as_number(true))
     }
 
-    /// Makes a call that changes the services.
-    fn change(&mut self, word: &[u8], args: &Values) -> Result<Value, Fail> {
-        if is_text(word, b"new") {
-            self.services = Services::new(self.alloc);
-            return Ok(Value::Nil);
-        }
-        if is_text(word, b"add") {
-            return self.add(list_at(args, 0)?);
-        }
-        if is_text(word, b"remove") {
-            return Ok(as_number(self.services.remove(text_at(args, 0)?)));
-        }
-        if is_text(word, b"fill") {
-            return self.fill(count_at(args, 0)?, list_at(args, 1)?);
-        }
-        if is_text(word, b"perform") {
-            return perform(&mut self.services, args);
-        }
-        if is_text(word, b"read") {
-            return self.read(list_at(args, 0)?);
-        }
-        no_call()
+    /// Begins anew without services.
+    fn begin(&mut self) -> Value {
+        self.services = Services::new(self.alloc);
+        Value::Nil
     }
+
+    /// Takes out a service, and tells whether it was there.
+    fn remove(&mut self, args: &Values) -> Result<Value, Fail> {
+        let item = text_at(args, 0)?;
+        Ok(as_number(self.services.remove(item)))
+    }
+
+    /// The items in order.
+    fn items(&self) -> Result<Value, Fail> {
+        Ok(show_list::<Text>(&self.services.items()?)?)
+    }
+
+    /// How many items there are.
+    fn count_items(&self) -> Result<Value, Fail> {
+        count_value(self.services.items()?.len())
+    }
+
+    /// The slots that keep the server.
+    fn slots(&self) -> Result<Value, Fail> {
+        Ok(Value::List(self.services.to_slots()?))
+    }
+}
+
+/// Whether a text is a message.
+fn tells_message(args: &Values) -> Result<Value, Fail> {
+    Ok(as_number(is_message(text_at(args, 0)?)))
+}
+
+/// Whether parts are a service.
+fn tells_service(args: &Values) -> Result<Value, Fail> {
+    let service = service_of(list_at(args, 0)?)?;
+    Ok(as_number(is_service(&service)))
 }
 
 impl Part for ServiceCalls {
     fn call(&mut self, word: &[u8], args: &Values) -> Result<Value, Fail> {
-        if is_text(word, b"is_message") {
-            return Ok(as_number(is_message(text_at(args, 0)?)));
+        match call_of(&CALLS, word) {
+            Some(RowCall::IsMessage) => tells_message(args),
+            Some(RowCall::IsService) => tells_service(args),
+            Some(RowCall::Find) => find(&self.services, args),
+            Some(RowCall::Items) => self.items(),
+            Some(RowCall::CountItems) => self.count_items(),
+            Some(RowCall::Slots) => self.slots(),
+            Some(RowCall::New) => Ok(self.begin()),
+            Some(RowCall::Add) => self.add(args),
+            Some(RowCall::Remove) => self.remove(args),
+            Some(RowCall::Fill) => self.fill(args),
+            Some(RowCall::Perform) => perform(&mut self.services, args),
+            Some(RowCall::Read) => self.read(args),
+            None => no_call(),
         }
-        if is_text(word, b"is_service") {
-            return Ok(as_number(is_service(&service_of(list_at(args, 0)?)?)));
-        }
-        if is_text(word, b"find") {
-            return find(&self.services, text_at(args, 0)?);
-        }
-        if is_text(word, b"items") {
-            return Ok(show_list::<Text>(&self.services.items()?)?);
-        }
-        if is_text(word, b"count_items") {
-            return count_value(self.services.items()?.len());
-        }
-        if is_text(word, b"slots") {
-            return Ok(Value::List(self.services.to_slots()?));
-        }
-        self.change(word, args)
     }
 }

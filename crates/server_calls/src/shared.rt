@@ -3,18 +3,61 @@ ghost use Rattle.do_behave.specs.Changes.{IsFitting};
 
 use crate::bench::Bench;
 use call_rows::{
-    Part, copy_at, count_at, count_value, list_at, local_at, no_call, number_or_nil, text_at,
-    value_at,
+    Part, call_of, copy_at, count_at, count_value, list_at, local_at, no_call, number_or_nil,
+    pair_value, text_at, value_at,
 };
 use do_base::{Items, Oid, Text, Value, Values, copy_value};
 use do_behave::{Change, Handler, LocalSet, LocalSets, Write, Writes, make_change};
-use do_grammar::is_text;
 use do_native_acts::{
     Row, answer, answered, as_number, changes, is_limited, local_number, local_text, port_in,
     read_rows, selector_in, send, show_rows, step,
 };
 use std::alloc::{AllocError, Global};
 use std::test::Fail;
+
+/// What a row calls.
+#[derive(Clone, Copy)]
+enum Call {
+    Step,
+    Answered,
+    Answer,
+    Send,
+    Selector,
+    FirstText,
+    FirstNumber,
+    Changes,
+    Of,
+}
+
+/// The words of the calls.
+const CALLS: [(&[u8], Call); 9] = [
+    (b"step", Call::Step),
+    (b"answered", Call::Answered),
+    (b"answer", Call::Answer),
+    (b"send", Call::Send),
+    (b"selector", Call::Selector),
+    (b"first_text", Call::FirstText),
+    (b"first_number", Call::FirstNumber),
+    (b"changes", Call::Changes),
+    (b"of", Call::Of),
+];
+
+/// What is told of a value by itself.
+#[derive(Clone, Copy)]
+enum Question {
+    IsLimited,
+    Port,
+    Texts,
+    Objects,
+}
+
+/// The words of these questions.
+const QUESTIONS: [(&[u8], Question); 4] = [
+    (b"is_limited", Question::IsLimited),
+    (b"port", Question::Port),
+    (b"texts", Question::Texts),
+    (b"objects", Question::Objects),
+];
 
 /// An invocation and slots on which steps are made.
 #[derive(Drop)]
@@ -38,18 +81,11 @@ fn writes_value(alloc: Global, writes: &Writes) -> Result<Value, Fail> {
     Ok(Value::List(values))
 }
 
-/// Adds how many rows there are, and the rows as they are shown.
-fn push_rows<T: Row>(values: &mut Values, rows: &Items<T>) -> Result<(), Fail> {
-    values.push(count_value(rows.len())?)?;
-    values.push(show_rows(rows)?)?;
-    Ok(())
-}
-
 /// Rows, shown again, behind how many they are.
 fn shown_rows<T: Row>(alloc: Global, rows: &Items<T>) -> Result<Value, Fail> {
-    let mut values = Values::new(alloc);
-    push_rows(&mut values, rows)?;
-    Ok(Value::List(values))
+    let count = count_value(rows.len())?;
+    let rows = show_rows(rows)?;
+    pair_value(alloc, count, rows)
 }
 
 /// Rows that a slot holds, shown again, behind how many they are; nil where it holds none.
@@ -62,16 +98,12 @@ fn rows_value<T: Row>(alloc: Global, slot: &Value) -> Result<Value, Fail> {
 
 /// A value for a local.
 fn one_set(alloc: Global, local: u8, value: Value) -> Result<LocalSets, AllocError> {
-    let mut sets = LocalSets::new(alloc);
-    sets.push(LocalSet { local, value })?;
-    Ok(sets)
+    Ok(LocalSets::from_vec(vec![in alloc; LocalSet { local, value }]?))
 }
 
 /// A value for a slot.
 fn one_write(alloc: Global, slot: usize, value: Value) -> Result<Writes, AllocError> {
-    let mut writes = Writes::new(alloc);
-    writes.push(Write { slot, value })?;
-    Ok(writes)
+    Ok(Writes::from_vec(vec![in alloc; Write { slot, value }]?))
 }
 
 impl SharedCalls {
@@ -144,61 +176,38 @@ impl SharedCalls {
     }
 }
 
-/// What a value is by itself.
-fn told(alloc: Global, word: &[u8], value: &Value) -> Result<Value, Fail> {
-    if is_text(word, b"is_limited") {
-        return Ok(as_number(is_limited(value)));
+/// What is told of a value by itself.
+fn told(alloc: Global, args: &Values) -> Result<Value, Fail> {
+    let word = text_at(args, 0)?;
+    let value = value_at(args, 1)?;
+    match call_of(&QUESTIONS, word.as_slice()) {
+        Some(Question::IsLimited) => Ok(as_number(is_limited(value))),
+        Some(Question::Port) => Ok(number_or_nil(port_in(value).map(i64::from))),
+        Some(Question::Texts) => rows_value::<Text>(alloc, value),
+        Some(Question::Objects) => rows_value::<Oid>(alloc, value),
+        None => no_call(),
     }
-    if is_text(word, b"port") {
-        return Ok(number_or_nil(port_in(value).map(i64::from)));
-    }
-    if is_text(word, b"texts") {
-        return rows_value::<Text>(alloc, value);
-    }
-    if is_text(word, b"objects") {
-        return rows_value::<Oid>(alloc, value);
-    }
-    no_call()
 }
 
-impl SharedCalls {
-    /// Tells what stands in the invocation or in values.
-    fn tell(&mut self, word: &[u8], args: &Values) -> Result<Value, Fail> {
-        if is_text(word, b"selector") {
-            return self.selector();
-        }
-        if is_text(word, b"first_text") {
-            return self.text(0);
-        }
-        if is_text(word, b"first_number") {
-            return Ok(number_or_nil(local_number(&self.bench.inv, 0)));
-        }
-        if is_text(word, b"changes") {
-            let writes = changes(list_at(args, 0)?, list_at(args, 1)?)?;
-            return writes_value(self.bench.alloc, &writes);
-        }
-        if is_text(word, b"of") {
-            let word = text_at(args, 0)?.as_slice();
-            return told(self.bench.alloc, word, value_at(args, 1)?);
-        }
-        self.bench.call(word, args)
-    }
+/// The writes that turn slots into others.
+fn changes_value(alloc: Global, args: &Values) -> Result<Value, Fail> {
+    let writes = changes(list_at(args, 0)?, list_at(args, 1)?)?;
+    writes_value(alloc, &writes)
 }
 
 impl Part for SharedCalls {
     fn call(&mut self, word: &[u8], args: &Values) -> Result<Value, Fail> {
-        if is_text(word, b"step") {
-            return self.step(args);
+        match call_of(&CALLS, word) {
+            Some(Call::Step) => self.step(args),
+            Some(Call::Answered) => self.answered(args),
+            Some(Call::Answer) => self.answer(),
+            Some(Call::Send) => self.send(args),
+            Some(Call::Selector) => self.selector(),
+            Some(Call::FirstText) => self.text(0),
+            Some(Call::FirstNumber) => Ok(number_or_nil(local_number(&self.bench.inv, 0))),
+            Some(Call::Changes) => changes_value(self.bench.alloc, args),
+            Some(Call::Of) => told(self.bench.alloc, args),
+            None => self.bench.call(word, args),
         }
-        if is_text(word, b"answered") {
-            return self.answered(args);
-        }
-        if is_text(word, b"answer") {
-            return self.answer();
-        }
-        if is_text(word, b"send") {
-            return self.send(args);
-        }
-        self.tell(word, args)
     }
 }

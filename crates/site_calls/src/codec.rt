@@ -8,7 +8,6 @@ mod streams;
 
 pub(crate) use crate::codec::loads::empty;
 use crate::codec::messages::MessageCalls;
-pub(crate) use crate::codec::messages::shown;
 use crate::codec::streams::StreamCalls;
 use call_rows::play_file;
 use do_base::Text;

@@ -8,18 +8,36 @@ mod made;
 mod node;
 mod values;
 
-use crate::codec::{empty, shown};
+use crate::codec::empty;
 use crate::packing::made::{Ports, four_ports, item_table, ring};
 use crate::packing::node::Node;
 use crate::packing::values::{flags, objects, objects_of};
-use call_rows::{Part, count_at, count_value, list_at, no_call, printed, value_at};
+use call_rows::{
+    Part, call_of, count_at, count_value, list_at, no_call, printed, shown, triple_value, value_at,
+};
 use do_base::{Flags, Oid, Oids, Value, Values};
 use do_class::{ClassId, Packet};
-use do_grammar::is_text;
 use do_native_acts::read_list;
 use do_packet::{PackFault, pack};
 use std::alloc::{AllocError, Global};
 use std::test::Fail;
+
+/// What a row calls.
+#[derive(Clone, Copy)]
+enum Call {
+    Packet,
+    Pack,
+    Ring,
+    Names,
+}
+
+/// The words of the calls.
+const CALLS: [(&[u8], Call); 4] = [
+    (b"packet", Call::Packet),
+    (b"pack", Call::Pack),
+    (b"ring", Call::Ring),
+    (b"names", Call::Names),
+];
 
 /// What was packed last.
 #[derive(Drop)]
@@ -137,15 +155,22 @@ impl PackCalls {
 
     /// How many copies, names and values the packet has.
     fn counts(&self) -> Result<Value, Fail> {
-        let mut values = Values::new(self.alloc);
-        values.push(count_value(self.packet.copies.len())?)?;
-        values.push(count_value(self.packet.names.len())?)?;
-        values.push(count_value(self.packet.values.len())?)?;
-        Ok(Value::List(values))
+        let copies = count_value(self.packet.copies.len())?;
+        let names = count_value(self.packet.names.len())?;
+        let values = count_value(self.packet.values.len())?;
+        triple_value(self.alloc, copies, names, values)
+    }
+
+    /// Packs the first of a ring of items.
+    fn pack_ring(&mut self, args: &Values) -> Result<Value, Fail> {
+        let count = u64::from(count_at(args, 0)?);
+        let packed = packed_ring(self.alloc, &self.ports, count);
+        self.keep(packed)
     }
 
     /// Packs objects of a third node.
-    fn pack_names(&mut self, count: usize) -> Result<Value, Fail> {
+    fn pack_names(&mut self, args: &Values) -> Result<Value, Fail> {
+        let count = usize::from(count_at(args, 0)?);
         if count > 50_000 {
             return Err(Fail::from("too many objects"));
         }
@@ -168,20 +193,12 @@ impl PackCalls {
 
 impl Part for PackCalls {
     fn call(&mut self, word: &[u8], args: &Values) -> Result<Value, Fail> {
-        if is_text(word, b"packet") {
-            return shown(self.alloc, &self.packet);
+        match call_of(&CALLS, word) {
+            Some(Call::Packet) => shown(self.alloc, &self.packet),
+            Some(Call::Pack) => self.pack(args),
+            Some(Call::Ring) => self.pack_ring(args),
+            Some(Call::Names) => self.pack_names(args),
+            None => no_call(),
         }
-        if is_text(word, b"pack") {
-            return self.pack(args);
-        }
-        let count = count_at(args, 0)?;
-        if is_text(word, b"ring") {
-            let packed = packed_ring(self.alloc, &self.ports, u64::from(count));
-            return self.keep(packed);
-        }
-        if is_text(word, b"names") {
-            return self.pack_names(usize::from(count));
-        }
-        no_call()
     }
 }

@@ -1,10 +1,31 @@
 //! Calls of what a person is told beside the line of a status.
 
-use call_rows::{Part, list_at, no_call, number_at, port_at, texts_at};
+use call_rows::{Part, call_of, list_at, no_call, number_at, port_at, texts_at};
 use do_advice::{Watched, push_nodes, push_raised, push_unheard};
-use do_base::{CallList, MemSink, NodeId, Peers, Text, Texts, Value, Values, write_all};
+use do_base::{CallList, MemSink, NodeId, Peers, Text, Value, Values, write_all};
 use std::alloc::Global;
 use std::test::Fail;
+
+/// What a row calls.
+#[derive(Clone, Copy)]
+enum Call {
+    Record,
+    Transcript,
+    Nodes,
+    Taken,
+    Unheard,
+    Raised,
+}
+
+/// The words of the calls.
+const CALLS: [(&[u8], Call); 6] = [
+    (b"record", Call::Record),
+    (b"transcript", Call::Transcript),
+    (b"nodes", Call::Nodes),
+    (b"taken", Call::Taken),
+    (b"unheard", Call::Unheard),
+    (b"raised", Call::Raised),
+];
 
 /// Lines, of which none is kept.
 #[derive(Drop)]
@@ -33,7 +54,8 @@ impl AdviceCalls {
     }
 
     /// How many exceptions are counted in what comes in these pieces.
-    fn raised(&self, pieces: &Texts, is_record: bool) -> Result<Value, Fail> {
+    fn count_raised(&self, args: &Values, is_record: bool) -> Result<Value, Fail> {
+        let pieces = texts_at(args, 0)?;
         let sink = MemSink::new(self.alloc, CallList::new(self.alloc))?;
         let mut out = Watched::new(sink, is_record);
         for piece in pieces.as_slice() {
@@ -42,29 +64,42 @@ impl AdviceCalls {
         Ok(Value::Num(i64::try_from(out.raised())?))
     }
 
-    /// The line that a word asks for.
-    fn line(&self, word: &[u8], args: &Values) -> Result<Value, Fail> {
+    /// The line of the nodes of a world, where a port is none of theirs.
+    fn nodes(&self, args: &Values) -> Result<Value, Fail> {
+        let own = node_at(args, 0)?;
+        let nodes = nodes_in(list_at(args, 1)?)?;
         let mut line = Text::new(self.alloc);
-        match word {
-            b"nodes" => {
-                let nodes = nodes_in(list_at(args, 1)?)?;
-                push_nodes(&mut line, node_at(args, 0)?, nodes.as_slice())?;
-            }
-            b"taken" => push_unheard(&mut line, node_at(args, 0)?, true)?,
-            b"unheard" => push_unheard(&mut line, node_at(args, 0)?, false)?,
-            b"raised" => push_raised(&mut line, u64::try_from(number_at(args, 0)?)?)?,
-            _ => return no_call(),
-        }
+        push_nodes(&mut line, own, nodes.as_slice())?;
+        Ok(Value::Text(line))
+    }
+
+    /// The line of a port that is taken, or at which nothing can be heard.
+    fn unheard(&self, args: &Values, is_taken: bool) -> Result<Value, Fail> {
+        let node = node_at(args, 0)?;
+        let mut line = Text::new(self.alloc);
+        push_unheard(&mut line, node, is_taken)?;
+        Ok(Value::Text(line))
+    }
+
+    /// The line of how many starts an exception ended.
+    fn raised(&self, args: &Values) -> Result<Value, Fail> {
+        let count = u64::try_from(number_at(args, 0)?)?;
+        let mut line = Text::new(self.alloc);
+        push_raised(&mut line, count)?;
         Ok(Value::Text(line))
     }
 }
 
 impl Part for AdviceCalls {
     fn call(&mut self, word: &[u8], args: &Values) -> Result<Value, Fail> {
-        match word {
-            b"record" => self.raised(&texts_at(args, 0)?, true),
-            b"transcript" => self.raised(&texts_at(args, 0)?, false),
-            _ => self.line(word, args),
+        match call_of(&CALLS, word) {
+            Some(Call::Record) => self.count_raised(args, true),
+            Some(Call::Transcript) => self.count_raised(args, false),
+            Some(Call::Nodes) => self.nodes(args),
+            Some(Call::Taken) => self.unheard(args, true),
+            Some(Call::Unheard) => self.unheard(args, false),
+            Some(Call::Raised) => self.raised(args),
+            None => no_call(),
         }
     }
 }

@@ -1,7 +1,7 @@
 //! Calls of texts that share their bytes, and the failures of shelves and sinks as they are
 //! printed.
 
-use call_rows::{Part, count_at, no_call, number_at, printed, text_at};
+use call_rows::{Part, call_of, count_at, no_call, number_at, pair_value, printed, text_at};
 use do_base::{FetchFail, PutFail, Text, Value, Values};
 use do_grammar::is_text;
 use std::alloc::{AllocError, Global};
@@ -13,6 +13,25 @@ pub(crate) struct BaseCalls {
     alloc: Global,
 }
 
+/// A failure of a shelf or of a sink.
+#[derive(Clone, Copy)]
+enum Failure {
+    Fetch(FetchFail),
+    Put(PutFail),
+}
+
+/// The failures that rows name.
+const FAILURES: [(&[u8], Failure); 5] = [
+    (b"unread", Failure::Fetch(FetchFail::Failed)),
+    (
+        b"long",
+        Failure::Fetch(FetchFail::Long { read: 6, limit: 5 }),
+    ),
+    (b"fetch_memory", Failure::Fetch(FetchFail::Memory)),
+    (b"unwritten", Failure::Put(PutFail::Failed)),
+    (b"put_memory", Failure::Put(PutFail::Memory)),
+];
+
 /// Puts a byte into a text at a place.
 fn put(text: &mut Text, at: usize, byte: u8) -> Result<(), Fail> {
     if at >= text.len() {
@@ -23,7 +42,10 @@ fn put(text: &mut Text, at: usize, byte: u8) -> Result<(), Fail> {
 }
 
 /// A text with another byte at a place, and the text with which it shared its bytes.
-fn changed(shared: &Text, at: usize, byte: u8) -> Result<Value, Fail> {
+fn changed(args: &Values) -> Result<Value, Fail> {
+    let shared = text_at(args, 0)?;
+    let at = usize::from(count_at(args, 1)?);
+    let byte = u8::try_from(number_at(args, 2)?)?;
     let mut text = shared.clone()?;
     put(&mut text, at, byte)?;
     two(text, shared)
@@ -31,10 +53,9 @@ fn changed(shared: &Text, at: usize, byte: u8) -> Result<Value, Fail> {
 
 /// Two texts as a list.
 fn two(first: Text, second: &Text) -> Result<Value, Fail> {
-    let mut values = Values::new(first.allocator());
-    values.push(Value::Text(first))?;
-    values.push(Value::Text(second.clone()?))?;
-    Ok(Value::List(values))
+    let alloc = first.allocator();
+    let second = second.clone()?;
+    pair_value(alloc, Value::Text(first), Value::Text(second))
 }
 
 /// The bytes that a text gives up, as a text again.
@@ -55,30 +76,26 @@ impl BaseCalls {
     }
 
     /// A failure, printed.
-    fn print(&self, word: &[u8]) -> Result<Value, Fail> {
-        match word {
-            b"unread" => printed(self.alloc, FetchFail::Failed),
-            b"long" => printed(self.alloc, FetchFail::Long { read: 6, limit: 5 }),
-            b"fetch_memory" => printed(self.alloc, FetchFail::Memory),
-            b"unwritten" => printed(self.alloc, PutFail::Failed),
-            b"put_memory" => printed(self.alloc, PutFail::Memory),
-            _ => no_call(),
+    fn print(&self, word: &Text) -> Result<Value, Fail> {
+        match call_of(&FAILURES, word.as_slice()) {
+            Some(Failure::Fetch(fail)) => printed(self.alloc, fail),
+            Some(Failure::Put(fail)) => printed(self.alloc, fail),
+            None => no_call(),
         }
     }
 }
 
 impl Part for BaseCalls {
     fn call(&mut self, word: &[u8], args: &Values) -> Result<Value, Fail> {
-        let text = text_at(args, 0)?;
         if is_text(word, b"set") {
-            let byte = u8::try_from(number_at(args, 2)?)?;
-            return changed(text, usize::from(count_at(args, 1)?), byte);
+            return changed(args);
         }
+        let text = text_at(args, 0)?;
         if is_text(word, b"into_vec") {
             return self.give_up(text);
         }
         if is_text(word, b"print") {
-            return self.print(text.as_slice());
+            return self.print(text);
         }
         no_call()
     }

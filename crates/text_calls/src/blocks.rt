@@ -4,16 +4,42 @@ mod listed;
 mod took;
 
 use crate::blocks::listed::{extend, node_at, push_node};
-use crate::blocks::took::push_took;
-use call_rows::{Part, copy_at, object_at, text_at};
+use crate::blocks::took::took_of;
+use call_rows::{Part, call_of, copy_at, object_at, text_at};
 use do_base::{Exc, Items, Shown, Text, Value, Values};
 use do_class::{ClassTable, Methods, Slot, Slots};
-use do_grammar::is_text;
 use do_lines::{check_text, line_text};
 use do_sched::read_schedule;
 use do_trace::{Outcome, Snapshot};
 use std::alloc::Global;
 use std::test::Fail;
+
+/// What a row calls.
+#[derive(Clone, Copy)]
+enum Call {
+    Begin,
+    Skip,
+    Block,
+    Check,
+    Took,
+    Say,
+    Raise,
+    Free,
+    Node,
+}
+
+/// The words of the calls.
+const CALLS: [(&[u8], Call); 9] = [
+    (b"begin", Call::Begin),
+    (b"skip", Call::Skip),
+    (b"block", Call::Block),
+    (b"check", Call::Check),
+    (b"took", Call::Took),
+    (b"say", Call::Say),
+    (b"raise", Call::Raise),
+    (b"free", Call::Free),
+    (b"node", Call::Node),
+];
 
 /// What a step showed so far, and what a check lists.
 #[derive(Drop)]
@@ -25,7 +51,8 @@ pub(crate) struct BlockCalls {
 }
 
 /// The block of the line of a schedule that came to this.
-fn block(alloc: Global, line: &Text, outcome: &Outcome) -> Result<Value, Fail> {
+fn block(alloc: Global, args: &Values, outcome: &Outcome) -> Result<Value, Fail> {
+    let line = text_at(args, 0)?;
     let mut schedule = Text::from_slice(alloc, b"schedule 2\n")?;
     schedule.push_bytes(line.as_slice())?;
     schedule.push_bytes(b"\nend\n")?;
@@ -77,45 +104,57 @@ impl BlockCalls {
         Ok(Value::Text(text))
     }
 
-    /// Makes a call that shows something more.
-    fn show(&mut self, word: &[u8], args: &Values) -> Result<(), Fail> {
-        if is_text(word, b"took") {
-            return push_took(&mut self.outcome.shown, args);
-        }
-        if is_text(word, b"say") {
-            let value = copy_at(args, 0)?;
-            return Ok(self.outcome.shown.push(Shown::Say(value))?);
-        }
-        if is_text(word, b"raise") {
-            return Ok(self.outcome.shown.push(Shown::Raise(Exc::TypeFault))?);
-        }
-        if is_text(word, b"free") {
-            let oid = object_at(args, 0)?;
-            return Ok(self.outcome.shown.push(Shown::Free(oid))?);
-        }
-        if is_text(word, b"node") {
-            return Ok(push_node(&mut self.listed, self.alloc, node_at(args, 0)?)?);
-        }
+    /// Shows something more.
+    fn show(&mut self, shown: Shown) -> Result<Value, Fail> {
+        self.outcome.shown.push(shown)?;
+        Ok(Value::Nil)
+    }
+
+    /// Shows that an item was taken.
+    fn took(&mut self, args: &Values) -> Result<Value, Fail> {
+        let took = took_of(args)?;
+        self.show(Shown::Took(took))
+    }
+
+    /// Shows that a value was said.
+    fn say(&mut self, args: &Values) -> Result<Value, Fail> {
+        let value = copy_at(args, 0)?;
+        self.show(Shown::Say(value))
+    }
+
+    /// Shows that an object was freed.
+    fn free(&mut self, args: &Values) -> Result<Value, Fail> {
+        let oid = object_at(args, 0)?;
+        self.show(Shown::Free(oid))
+    }
+
+    /// Lists one more node.
+    fn node(&mut self, args: &Values) -> Result<Value, Fail> {
+        push_node(&mut self.listed, self.alloc, node_at(args, 0)?)?;
+        Ok(Value::Nil)
+    }
+
+    /// Lists something of the last node.
+    fn extend(&mut self, word: &[u8], args: &Values) -> Result<Value, Fail> {
         let line = self.listed.nodes.last_mut().ok_or("no node")?;
-        extend(line, word, args)
+        extend(line, word, args)?;
+        Ok(Value::Nil)
     }
 }
 
 impl Part for BlockCalls {
     fn call(&mut self, word: &[u8], args: &Values) -> Result<Value, Fail> {
-        if is_text(word, b"begin") {
-            return Ok(self.begin(true));
+        match call_of(&CALLS, word) {
+            Some(Call::Begin) => Ok(self.begin(true)),
+            Some(Call::Skip) => Ok(self.begin(false)),
+            Some(Call::Block) => block(self.alloc, args, &self.outcome),
+            Some(Call::Check) => self.check(),
+            Some(Call::Took) => self.took(args),
+            Some(Call::Say) => self.say(args),
+            Some(Call::Raise) => self.show(Shown::Raise(Exc::TypeFault)),
+            Some(Call::Free) => self.free(args),
+            Some(Call::Node) => self.node(args),
+            None => self.extend(word, args),
         }
-        if is_text(word, b"skip") {
-            return Ok(self.begin(false));
-        }
-        if is_text(word, b"block") {
-            return block(self.alloc, text_at(args, 0)?, &self.outcome);
-        }
-        if is_text(word, b"check") {
-            return self.check();
-        }
-        self.show(word, args)?;
-        Ok(Value::Nil)
     }
 }

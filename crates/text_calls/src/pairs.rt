@@ -5,7 +5,7 @@ ghost use Rattle.std.specs.Prelude.{◌≡◌, ℕ, List, ◌++◌, length};
 ghost use Rattle.do_grammar.specs.{Reader.no_kind, RestAnswers.Gives, PlaceAnswers.{Tells, Finds}};
 ghost use Rattle.text_calls.specs.Pair.{Pair, pair_at};
 
-use call_rows::{Part, count_value, no_call, printed, text_at};
+use call_rows::{Part, count_value, no_call, printed, text_at, triple_value};
 use do_base::{Value, Values};
 use do_grammar::{CodeFault, ReadFault, is_text, num_of};
 use std::alloc::Global;
@@ -42,12 +42,11 @@ pub(crate) struct PairCalls {
 }
 
 /// Two numbers and a length.
-fn pair_value(alloc: Global, pair: (u64, u64), length: usize) -> Result<Value, Fail> {
-    let mut values = Values::new(alloc);
-    values.push(Value::Num(i64::try_from(pair.0)?))?;
-    values.push(Value::Num(i64::try_from(pair.1)?))?;
-    values.push(count_value(length)?)?;
-    Ok(Value::List(values))
+fn pair_found(alloc: Global, pair: (u64, u64), length: usize) -> Result<Value, Fail> {
+    let first = Value::Num(i64::try_from(pair.0)?);
+    let second = Value::Num(i64::try_from(pair.1)?);
+    let length = count_value(length)?;
+    triple_value(alloc, first, second, length)
 }
 
 impl PairCalls {
@@ -63,7 +62,7 @@ impl Part for PairCalls {
             return no_call();
         }
         match read_pair(text_at(args, 0)?.as_slice()) {
-            Ok((pair, length)) => pair_value(self.alloc, pair, length),
+            Ok((pair, length)) => pair_found(self.alloc, pair, length),
             Err(fault) => printed(self.alloc, fault),
         }
     }

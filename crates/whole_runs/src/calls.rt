@@ -3,16 +3,51 @@
 use crate::counts::counts_of;
 use crate::files::{generated_file, replayed_files, stored, stored_files};
 use crate::machine::is_alike;
-use crate::outside::Outside;
+use crate::outside::{Outside, WAYS};
 use crate::told::told;
 use crate::transcripts::{record_of, without_wires};
-use call_rows::{Part, count_at, text_at};
+use call_rows::{Part, call_of, count_at, text_at};
 use do_base::{Text, Value, Values};
-use do_grammar::{is_text, part_of};
+use do_grammar::part_of;
 use do_native_acts::as_number;
 use do_node::Status;
 use std::alloc::AllocError;
 use std::test::Fail;
+
+/// What a row calls.
+#[derive(Clone, Copy)]
+enum Call {
+    Compare(Comparison),
+    Stored,
+    Generated,
+    Writes,
+    Records,
+    Alike,
+    Memory,
+}
+
+/// What is compared with the transcript in a file, or taken from it.
+#[derive(Clone, Copy)]
+enum Comparison {
+    Replays,
+    Shows,
+    Counts,
+    Schedule,
+}
+
+/// The words of the calls.
+const CALLS: [(&[u8], Call); 10] = [
+    (b"replays", Call::Compare(Comparison::Replays)),
+    (b"shows", Call::Compare(Comparison::Shows)),
+    (b"counts", Call::Compare(Comparison::Counts)),
+    (b"schedule", Call::Compare(Comparison::Schedule)),
+    (b"stored", Call::Stored),
+    (b"generated", Call::Generated),
+    (b"writes", Call::Writes),
+    (b"records", Call::Records),
+    (b"alike", Call::Alike),
+    (b"memory", Call::Memory),
+];
 
 /// What commands run over, and the files as they are stored.
 #[derive(Drop)]
@@ -71,7 +106,8 @@ impl RunCalls {
     }
 
     /// Whether the network and the one machine come to the same over the schedule in the file `s`.
-    fn alike(&mut self, world: &Text) -> Result<Value, Fail> {
+    fn alike(&mut self, args: &Values) -> Result<Value, Fail> {
+        let world = text_at(args, 0)?;
         Ok(as_number(is_alike(&mut self.outside, world)?))
     }
 
@@ -80,20 +116,35 @@ impl RunCalls {
         counts_of(&stored(&self.rt, world)?, transcript)
     }
 
-    /// Makes a call that compares with the transcript in a file.
-    fn compare(&mut self, word: &[u8], args: &Values) -> Result<Value, Fail> {
+    /// Compares with the transcript in a file, or takes its schedule.
+    fn compare(&mut self, comparison: Comparison, args: &Values) -> Result<Value, Fail> {
         let world = text_at(args, 0)?;
         let transcript = stored(&self.rt, text_at(args, 1)?)?;
-        if is_text(word, b"replays") {
-            return self.replays(world, &transcript);
+        match comparison {
+            Comparison::Replays => self.replays(world, &transcript),
+            Comparison::Shows => self.shows(world, &transcript),
+            Comparison::Counts => self.counts(world, &transcript),
+            Comparison::Schedule => self.set_replayed(world, &transcript),
         }
-        if is_text(word, b"shows") {
-            return self.shows(world, &transcript);
+    }
+
+    /// What is told where memory ran out.
+    fn told_memory(&self) -> Result<Value, Fail> {
+        Ok(Value::List(told(self.rt.alloc(), &Status::Memory)?))
+    }
+
+    /// Makes a call that runs no line of words.
+    fn call_beside(&mut self, word: &[u8], args: &Values) -> Result<Value, Fail> {
+        match call_of(&CALLS, word) {
+            Some(Call::Compare(comparison)) => self.compare(comparison, args),
+            Some(Call::Stored) => self.set_stored(args),
+            Some(Call::Generated) => self.set_generated(args),
+            Some(Call::Writes) => self.writes(args),
+            Some(Call::Records) => self.records(args),
+            Some(Call::Alike) => self.alike(args),
+            Some(Call::Memory) => self.told_memory(),
+            None => self.outside.call(word, args),
         }
-        if is_text(word, b"counts") {
-            return self.counts(world, &transcript);
-        }
-        self.set_replayed(world, &transcript)
     }
 
     /// Whether this record, in the file `PORT.record`, is that of its node in a transcript.
@@ -125,50 +176,11 @@ impl RunCalls {
     }
 }
 
-/// Whether a word names a way in which a line of words is run.
-fn is_run(word: &[u8]) -> bool {
-    is_text(word, b"run")
-        || is_text(word, b"narrow")
-        || is_text(word, b"size")
-        || is_text(word, b"begins")
-        || is_text(word, b"again")
-        || is_text(word, b"cut")
-}
-
-/// Whether a word names a call that compares with the transcript in a file.
-fn is_comparison(word: &[u8]) -> bool {
-    is_text(word, b"replays")
-        || is_text(word, b"shows")
-        || is_text(word, b"counts")
-        || is_text(word, b"schedule")
-}
-
 impl Part for RunCalls {
     fn call(&mut self, word: &[u8], args: &Values) -> Result<Value, Fail> {
-        if is_run(word) {
-            return self.outside.runs(word, args);
+        match call_of(&WAYS, word) {
+            Some(way) => self.outside.run_by(way, args),
+            None => self.call_beside(word, args),
         }
-        if is_comparison(word) {
-            return self.compare(word, args);
-        }
-        if is_text(word, b"stored") {
-            return self.set_stored(args);
-        }
-        if is_text(word, b"generated") {
-            return self.set_generated(args);
-        }
-        if is_text(word, b"writes") {
-            return self.writes(args);
-        }
-        if is_text(word, b"records") {
-            return self.records(args);
-        }
-        if is_text(word, b"alike") {
-            return self.alike(text_at(args, 0)?);
-        }
-        if is_text(word, b"memory") {
-            return Ok(Value::List(told(self.rt.alloc(), &Status::Memory)?));
-        }
-        self.outside.call(word, args)
     }
 }

@@ -3,6 +3,7 @@
 use crate::counting::Counting;
 use crate::opening::{counters, replay};
 use crate::transcripts::schedule_of;
+use call_rows::pair_value;
 use do_base::{Text, Value, Values};
 use do_behave::Program;
 use do_class::ClassTable;
@@ -10,15 +11,14 @@ use do_machine::{Seats, Shared};
 use do_net::Makers;
 use do_sched::read_schedule;
 use do_world::{World, read_world};
-use std::alloc::{AllocError, Global};
 use std::test::Fail;
 
 /// Adds a port, and how many acts its node was asked for.
 fn push_count(values: &mut Values, port: u16, asked: u64) -> Result<(), Fail> {
-    let mut count = Values::new(values.allocator());
-    count.push(Value::Num(i64::from(port)))?;
-    count.push(Value::Num(i64::try_from(asked)?))?;
-    Ok(values.push(Value::List(count))?)
+    let port = Value::Num(i64::from(port));
+    let asked = Value::Num(i64::try_from(asked)?);
+    let count = pair_value(values.allocator(), port, asked)?;
+    Ok(values.push(count)?)
 }
 
 /// How many acts each node was asked for, by its port.

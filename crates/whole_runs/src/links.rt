@@ -3,14 +3,36 @@
 ghost use Rattle.std.specs.{List.All, Prelude.{IfOk, ◌≤◌, length}};
 ghost use Rattle.do_link.specs.InMemory.{IsPiece};
 
-use crate::words::{calls_of, node_of, peers_of, port_value, push_word};
-use call_rows::{Part, list_at, no_call, number_at, text_at};
+use crate::words::{calls_of, node_of, peers_of, port_value};
+use call_rows::{
+    Part, call_of, list_at, no_call, number_at, text_at, text_value, triple_value, word_alone,
+    word_with, word_with_two,
+};
 use do_base::{CallList, NodeId, Text, Value, Values};
 use do_grammar::is_text;
 use do_link::{Link, LinkEvent, LinkFail, MemLink, ScriptEvent, ScriptList, Sent};
 use do_native_acts::as_number;
 use std::alloc::{AllocError, Global};
 use std::test::Fail;
+
+/// What a row calls.
+#[derive(Clone, Copy)]
+enum Call {
+    Link,
+    Listen,
+    Next,
+    Send,
+    Sent,
+}
+
+/// The words of the calls.
+const CALLS: [(&[u8], Call); 5] = [
+    (b"link", Call::Link),
+    (b"listen", Call::Listen),
+    (b"next", Call::Next),
+    (b"send", Call::Send),
+    (b"sent", Call::Sent),
+];
 
 /// A link in memory.
 #[derive(Drop)]
@@ -74,30 +96,34 @@ fn is_done(done: Result<(), LinkFail>) -> Result<Value, Fail> {
     }
 }
 
-/// What a poll found, at the end of a list: its kind, the peer, and the bytes that came.
-fn push_event(answer: &mut Values, event: LinkEvent, buf: &[u8]) -> Result<(), Fail> {
+/// A word, and the peer that it is about.
+fn of_peer(alloc: Global, word: &[u8], peer: NodeId) -> Result<Value, Fail> {
+    word_with(alloc, word, port_value(peer))
+}
+
+/// Bytes that a peer sent.
+fn bytes_value(alloc: Global, peer: NodeId, bytes: &[u8]) -> Result<Value, Fail> {
+    let bytes = text_value(alloc, bytes)?;
+    word_with_two(alloc, b"bytes", port_value(peer), bytes)
+}
+
+/// What a poll found: its kind, the peer, and the bytes that came.
+fn event_value(alloc: Global, event: LinkEvent, buf: &[u8]) -> Result<Value, Fail> {
     match event {
         LinkEvent::Bytes(peer, count) => {
-            push_word(answer, b"bytes")?;
-            answer.push(port_value(peer))?;
-            push_word(answer, buf.get(..count).ok_or("too many")?)?;
+            let bytes = buf.get(..count).ok_or("too many")?;
+            bytes_value(alloc, peer, bytes)
         }
-        LinkEvent::Ended(peer) => {
-            push_word(answer, b"ended")?;
-            answer.push(port_value(peer))?;
-        }
-        LinkEvent::Quiet => push_word(answer, b"quiet")?,
+        LinkEvent::Ended(peer) => of_peer(alloc, b"ended", peer),
+        LinkEvent::Quiet => word_alone(alloc, b"quiet"),
     }
-    Ok(())
 }
 
 /// A send: the peer, the bytes, and whether it failed.
-fn sent_value(alloc: Global, sent: &Sent) -> Result<Value, AllocError> {
-    let mut parts = Values::new(alloc);
-    parts.push(port_value(sent.to))?;
-    push_word(&mut parts, sent.bytes.as_slice())?;
-    parts.push(as_number(sent.failed))?;
-    Ok(Value::List(parts))
+fn sent_value(alloc: Global, sent: &Sent) -> Result<Value, Fail> {
+    let bytes = text_value(alloc, sent.bytes.as_slice())?;
+    let (peer, failed) = (port_value(sent.to), as_number(sent.failed));
+    triple_value(alloc, peer, bytes, failed)
 }
 
 impl LinkCalls {
@@ -115,24 +141,25 @@ impl LinkCalls {
 
     /// Begins with a link of a script, whose listen fails or not, and whose sends of these numbers
     /// fail.
-    fn begin(&mut self, script: &Values, fails: bool, calls: &Values) -> Result<Value, Fail> {
+    fn begin(&mut self, args: &Values) -> Result<Value, Fail> {
+        let (script, calls) = (list_at(args, 0)?, list_at(args, 2)?);
+        let fails = number_at(args, 1)? != 0;
         self.link = link_of(self.alloc, script, fails, calls)?;
         Ok(Value::Nil)
     }
 
     /// Listens for peers.
-    fn listen(&mut self, port: i64, ports: &Values) -> Result<Value, Fail> {
-        let peers = peers_of(ports)?;
-        is_done(self.link.listen(node_of(port)?, peers.as_slice()))
+    fn listen(&mut self, args: &Values) -> Result<Value, Fail> {
+        let own = node_of(number_at(args, 0)?)?;
+        let peers = peers_of(list_at(args, 1)?)?;
+        is_done(self.link.listen(own, peers.as_slice()))
     }
 
     /// Polls the link.
     fn next(&mut self) -> Result<Value, Fail> {
         let mut buf = vec![in self.alloc; 0u8; 4_096]?;
         let event = self.link.next(buf.as_mut_slice());
-        let mut answer = Values::new(self.alloc);
-        push_event(&mut answer, event, buf.as_slice())?;
-        Ok(Value::List(answer))
+        event_value(self.alloc, event, buf.as_slice())
     }
 
     /// The sends so far: the peer, the bytes, and whether each failed.
@@ -145,29 +172,21 @@ impl LinkCalls {
     }
 
     /// Sends a text to a port.
-    fn send(&mut self, port: i64, bytes: &Text) -> Result<Value, Fail> {
-        is_done(self.link.send(node_of(port)?, bytes.as_slice()))
+    fn send(&mut self, args: &Values) -> Result<Value, Fail> {
+        let peer = node_of(number_at(args, 0)?)?;
+        is_done(self.link.send(peer, text_at(args, 1)?.as_slice()))
     }
 }
 
 impl Part for LinkCalls {
     fn call(&mut self, word: &[u8], args: &Values) -> Result<Value, Fail> {
-        if is_text(word, b"link") {
-            let fails = number_at(args, 1)? != 0;
-            return self.begin(list_at(args, 0)?, fails, list_at(args, 2)?);
+        match call_of(&CALLS, word) {
+            Some(Call::Link) => self.begin(args),
+            Some(Call::Listen) => self.listen(args),
+            Some(Call::Next) => self.next(),
+            Some(Call::Send) => self.send(args),
+            Some(Call::Sent) => self.sent(),
+            None => no_call(),
         }
-        if is_text(word, b"listen") {
-            return self.listen(number_at(args, 0)?, list_at(args, 1)?);
-        }
-        if is_text(word, b"next") {
-            return self.next();
-        }
-        if is_text(word, b"send") {
-            return self.send(number_at(args, 0)?, text_at(args, 1)?);
-        }
-        if is_text(word, b"sent") {
-            return self.sent();
-        }
-        no_call()
     }
 }

@@ -4,6 +4,7 @@ mod changing;
 mod running;
 
 use crate::links::LinkCalls;
+pub(crate) use crate::outside::running::{WAYS, Way};
 use crate::spawners::good_children;
 use crate::words::{line_of_words, words_of};
 use call_rows::Part;

@@ -4,22 +4,22 @@ use call_rows::text_value;
 use do_base::{Value, Values};
 use do_lab::ChildEnd;
 use do_node::Status;
-use do_world::WorldFault;
 use std::alloc::Global;
+use std::fmt;
 use std::test::Fail;
 
-/// The fault of a world as it is printed.
-fn printed_fault(alloc: Global, fault: &WorldFault) -> Result<Value, Fail> {
-    let text = format!(in alloc; "{fault}")?;
-    Ok(text_value(alloc, text.as_bytes())?)
+/// What is printed of something, as a value.
+fn printed_of<D: fmt::Display>(alloc: Global, shown: &D) -> Result<Value, Fail> {
+    let text = format!(in alloc; "{shown}")?;
+    text_value(alloc, text.as_bytes())
 }
 
 /// How a child ended: its status, or what could not be done.
 fn ended(alloc: Global, end: &ChildEnd) -> Result<Value, Fail> {
     match end {
         ChildEnd::Status(status) => Ok(Value::Num(i64::from(*status))),
-        ChildEnd::NotStarted => Ok(text_value(alloc, b"not started")?),
-        ChildEnd::NotWaited => Ok(text_value(alloc, b"not waited for")?),
+        ChildEnd::NotStarted => text_value(alloc, b"not started"),
+        ChildEnd::NotWaited => text_value(alloc, b"not waited for"),
     }
 }
 
@@ -27,26 +27,19 @@ fn ended(alloc: Global, end: &ChildEnd) -> Result<Value, Fail> {
 /// how a child ended.
 fn more(alloc: Global, status: &Status) -> Result<Value, Fail> {
     match status {
-        Status::BadWorld(fault) => printed_fault(alloc, fault),
+        Status::BadWorld(fault) => printed_of(alloc, fault),
         Status::TooLong { read, .. } => Ok(Value::Num(i64::try_from(*read)?)),
         Status::ChildFailed { end, .. } => ended(alloc, end),
         _ => Ok(Value::Nil),
     }
 }
 
-/// A status as it is printed.
-fn printed_status(alloc: Global, status: &Status) -> Result<Value, Fail> {
-    let text = format!(in alloc; "{status}")?;
-    Ok(text_value(alloc, text.as_bytes())?)
-}
-
 /// The number of a status, what it prints, and the rest of it.
 pub(crate) fn told(alloc: Global, status: &Status) -> Result<Values, Fail> {
-    let mut values = Values::new(alloc);
-    values.push(Value::Num(i64::from(status.number())))?;
-    values.push(printed_status(alloc, status)?)?;
-    values.push(more(alloc, status)?)?;
-    Ok(values)
+    let number = Value::Num(i64::from(status.number()));
+    let printed = printed_of(alloc, status)?;
+    let more = more(alloc, status)?;
+    Ok(Values::from_vec(vec![in alloc; number, printed, more]?))
 }
 
 /// A status, and behind it a value.

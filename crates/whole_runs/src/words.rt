@@ -33,12 +33,6 @@ pub(crate) fn peers_of(ports: &Values) -> Result<Peers, Fail> {
     Ok(peers)
 }
 
-/// A word or other bytes as a text, at the end of a list.
-pub(crate) fn push_word(values: &mut Values, word: &[u8]) -> Result<(), AllocError> {
-    let word = Text::from_slice(values.allocator(), word)?;
-    values.push(Value::Text(word))
-}
-
 /// The words of a line, of which spaces stand between each two; an empty line has none.
 pub(crate) fn words_of(alloc: Global, line: &[u8]) -> Result<Texts, AllocError> {
     let mut words = Texts::new(alloc);

@@ -3,14 +3,14 @@ ghost use Rattle.std.specs.Prelude.{IfOk, IsTrue};
 ghost use Rattle.do_native_acts.specs.Types.{are_types};
 
 use call_rows::{
-    count_at, digits, list_at, no_call, number_at, object_at, object_or_nil, refused, text_at,
-    texts_at, value_at,
+    count_at, digits, list_at, no_call, number_at, object_at, object_or_nil, pair_value, refused,
+    text_at, texts_at, value_at,
 };
 use do_base::{Oid, Texts, Value, Values};
 use do_grammar::is_text;
 use do_native_acts::{are_types, as_number, owner_in};
 use do_pboard::{Board, Call};
-use std::alloc::{AllocError, Global};
+use std::alloc::Global;
 use std::test::Fail;
 
 /// The texts at a place, where they can be types.
@@ -31,26 +31,24 @@ fn owner_at(args: &Values, at: usize) -> Result<Option<Oid>, Fail> {
 }
 
 /// A change count and who was the owner before, as a list.
-fn declared_value(alloc: Global, count: i64, former: Option<Oid>) -> Result<Value, AllocError> {
-    let mut values = Values::new(alloc);
-    values.push(Value::Num(count))?;
-    values.push(object_or_nil(former))?;
-    Ok(Value::List(values))
+fn declared_value(alloc: Global, count: i64, former: Option<Oid>) -> Result<Value, Fail> {
+    let former = object_or_nil(former);
+    pair_value(alloc, Value::Num(count), former)
 }
 
 /// Declares types, and answers the change count and who was the owner before.
-fn declare(alloc: Global, board: &mut Board, args: &Values) -> Result<Value, Fail> {
+pub(crate) fn declare(alloc: Global, board: &mut Board, args: &Values) -> Result<Value, Fail> {
     let owner = owner_at(args, 1)?;
     if !board.can_declare() {
         return Err(Fail::from("the last change count"));
     }
     let types = types_at(args, 0)?;
     let (count, former) = board.declare(types, owner)?;
-    Ok(declared_value(alloc, count, former)?)
+    declared_value(alloc, count, former)
 }
 
 /// Adds types, and answers the change count.
-fn add_types(alloc: Global, board: &mut Board, args: &Values) -> Result<Value, Fail> {
+pub(crate) fn add_types(alloc: Global, board: &mut Board, args: &Values) -> Result<Value, Fail> {
     let owner = owner_at(args, 1)?;
     let types = types_at(args, 0)?;
     match board.add_types(types, owner) {
@@ -60,14 +58,14 @@ fn add_types(alloc: Global, board: &mut Board, args: &Values) -> Result<Value, F
 }
 
 /// Keeps data of a type at a change count, and tells whether it did.
-fn set_data(board: &mut Board, args: &Values) -> Result<Value, Fail> {
+pub(crate) fn set_data(board: &mut Board, args: &Values) -> Result<Value, Fail> {
     let count = number_at(args, 2)?;
     let content = text_at(args, 0)?.clone()?;
     Ok(as_number(board.set_data(content, text_at(args, 1)?, count)))
 }
 
 /// Keeps a pasteboard under a name, and answers which one is kept there.
-fn keep(alloc: Global, board: &mut Board, args: &Values) -> Result<Value, Fail> {
+pub(crate) fn keep(alloc: Global, board: &mut Board, args: &Values) -> Result<Value, Fail> {
     let object = object_at(args, 1)?;
     let name = text_at(args, 0)?.clone()?;
     match board.keep(name, object) {
@@ -77,7 +75,7 @@ fn keep(alloc: Global, board: &mut Board, args: &Values) -> Result<Value, Fail> 
 }
 
 /// Keeps an object under as many names, and tells under how many it is kept.
-fn fill(alloc: Global, board: &mut Board, args: &Values) -> Result<Value, Fail> {
+pub(crate) fn fill(alloc: Global, board: &mut Board, args: &Values) -> Result<Value, Fail> {
     let count = count_at(args, 0)?;
     let object = object_at(args, 1)?;
     let mut kept: i64 = 0;
@@ -91,7 +89,7 @@ fn fill(alloc: Global, board: &mut Board, args: &Values) -> Result<Value, Fail> 
 }
 
 /// Makes a call that is one value.
-fn perform(board: &mut Board, args: &Values) -> Result<Value, Fail> {
+pub(crate) fn perform(board: &mut Board, args: &Values) -> Result<Value, Fail> {
     let word = text_at(args, 0)?.as_slice();
     if is_text(word, b"count") {
         return Ok(board.perform(Call::ChangeCount)?);
@@ -107,50 +105,10 @@ fn perform(board: &mut Board, args: &Values) -> Result<Value, Fail> {
 }
 
 /// Takes the core whose slots these are, and tells whether there is one.
-fn read(board: &mut Board, slots: &Values) -> Result<Value, Fail> {
-    let Some(core) = Board::from_slots(slots)? else {
+pub(crate) fn read(board: &mut Board, args: &Values) -> Result<Value, Fail> {
+    let Some(core) = Board::from_slots(list_at(args, 0)?)? else {
         return Ok(as_number(false));
     };
     *board = core;
     Ok(as_number(true))
-}
-
-/// Makes a call that changes names, or the whole pasteboard.
-fn change_all(alloc: Global, board: &mut Board, word: &[u8], args: &Values) -> Result<Value, Fail> {
-    if is_text(word, b"new") {
-        *board = Board::new(alloc);
-        return Ok(Value::Nil);
-    }
-    if is_text(word, b"read") {
-        return read(board, list_at(args, 0)?);
-    }
-    if is_text(word, b"keep") {
-        return keep(alloc, board, args);
-    }
-    if is_text(word, b"fill") {
-        return fill(alloc, board, args);
-    }
-    no_call()
-}
-
-/// Makes a call that changes the pasteboard.
-pub(crate) fn change(
-    alloc: Global,
-    board: &mut Board,
-    word: &[u8],
-    args: &Values,
-) -> Result<Value, Fail> {
-    if is_text(word, b"declare") {
-        return declare(alloc, board, args);
-    }
-    if is_text(word, b"add_types") {
-        return add_types(alloc, board, args);
-    }
-    if is_text(word, b"set_data") {
-        return set_data(board, args);
-    }
-    if is_text(word, b"perform") {
-        return perform(board, args);
-    }
-    change_all(alloc, board, word, args)
 }

@@ -2,7 +2,7 @@
 ghost use Rattle.std.specs.Prelude.{IfOk, IsTrue};
 ghost use Rattle.do_center.specs.{Notes.is_note, Registrations.is_registration};
 
-use call_rows::{copy_at, number_at, text_at, value_at};
+use call_rows::{copy_at, list_value, number_at, text_at, value_at};
 use do_base::{Oid, Text, Value, Values, copy_value};
 use do_center::{Delivery, Note, Registration, Suspension, is_note, is_registration};
 use std::alloc::{AllocError, Global};
@@ -79,18 +79,12 @@ fn label_value(label: &Option<Text>) -> Result<Value, AllocError> {
     }
 }
 
-/// Adds the parts of a delivery: observer, selector, name, object and information.
-fn push_delivery(values: &mut Values, delivery: &Delivery) -> Result<(), AllocError> {
-    values.push(Value::Obj(delivery.observer))?;
-    values.push(Value::Text(delivery.selector.clone()?))?;
-    values.push(Value::Text(delivery.note.name.clone()?))?;
-    values.push(label_value(&delivery.note.object)?)?;
-    values.push(copy_value(&delivery.note.info)?)
-}
-
-/// A delivery as a list of its parts.
+/// A delivery as a list: observer, selector, name, object and information.
 pub(crate) fn delivery_value(alloc: Global, delivery: &Delivery) -> Result<Value, Fail> {
-    let mut values = Values::new(alloc);
-    push_delivery(&mut values, delivery)?;
-    Ok(Value::List(values))
+    let observer = Value::Obj(delivery.observer);
+    let selector = Value::Text(delivery.selector.clone()?);
+    let name = Value::Text(delivery.note.name.clone()?);
+    let object = label_value(&delivery.note.object)?;
+    let info = copy_value(&delivery.note.info)?;
+    Ok(list_value(vec![in alloc; observer, selector, name, object, info]?))
 }

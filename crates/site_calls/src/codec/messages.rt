@@ -4,18 +4,61 @@ use crate::codec::changed::{Payload, Stream, sum_of_changes};
 use crate::codec::loads::{empty, put_object, put_texts};
 use crate::codec::reading::Reading;
 use call_rows::{
-    Part, count_at, count_value, digits, no_call, number_at, text_at, text_value, value_at,
-    word_with,
+    Part, call_of, count_at, count_value, digits, no_call, number_at, pair_value, shown, text_at,
+    text_value, value_at, word_with,
 };
-use do_base::{Text, Value, Values};
+use do_base::{Value, Values};
 use do_class::{self as class, Packet};
 use do_coder::{Recent, encode};
 use do_frames::{Frame, Payload, RawFault, RawFrame, write, write_within};
-use do_grammar::{CodeFault, is_text};
+use do_grammar::CodeFault;
 use do_native_acts::as_number;
 use std::alloc::{AllocError, Global};
+use std::mem;
 use std::test::Fail;
-use std::{fmt, mem};
+
+/// What a row calls.
+#[derive(Clone, Copy)]
+enum Call {
+    Begin,
+    Read,
+    Decode,
+    Write,
+    Encode,
+    Shutdown,
+    Copy,
+    Length,
+    Name,
+    Names,
+    Changes,
+    ChangedStream,
+    Frame,
+    Packet,
+    Clone,
+    Known,
+    Sent,
+}
+
+/// The words of the calls.
+const CALLS: [(&[u8], Call); 17] = [
+    (b"begin", Call::Begin),
+    (b"read", Call::Read),
+    (b"decode", Call::Decode),
+    (b"write", Call::Write),
+    (b"encode", Call::Encode),
+    (b"shutdown", Call::Shutdown),
+    (b"copy", Call::Copy),
+    (b"length", Call::Length),
+    (b"name", Call::Name),
+    (b"names", Call::Names),
+    (b"changes", Call::Changes),
+    (b"changed_stream", Call::ChangedStream),
+    (b"frame", Call::Frame),
+    (b"packet", Call::Packet),
+    (b"clone", Call::Clone),
+    (b"known", Call::Known),
+    (b"sent", Call::Sent),
+];
 
 /// What reads, what was read last, and the objects named lately in what was written.
 #[derive(Drop)]
@@ -25,12 +68,6 @@ pub(crate) struct MessageCalls {
     frame: Frame,
     packet: Packet,
     sent: Recent,
-}
-
-/// What is printed of something.
-pub(crate) fn shown<D: fmt::Debug>(alloc: Global, what: &D) -> Result<Value, Fail> {
-    let printed = format!(in alloc; "{what:?}")?;
-    Ok(text_value(alloc, printed.as_bytes())?)
 }
 
 impl MessageCalls {
@@ -46,9 +83,9 @@ impl MessageCalls {
     }
 
     /// Begins anew, with one class of so many slots, or with none.
-    fn begin(&mut self, slots: Option<i64>) -> Result<Value, Fail> {
+    fn begin(&mut self, args: &Values) -> Result<Value, Fail> {
         self.sent = Recent::new(self.alloc);
-        match slots {
+        match value_at(args, 0)?.number() {
             Some(count) => self.reading.begin_with(u8::try_from(count)?)?,
             None => self.reading.begin(),
         }
@@ -56,8 +93,9 @@ impl MessageCalls {
     }
 
     /// Reads a payload. Nil where it is one, and else the first byte with which none goes on.
-    fn read(&mut self, kind: u8, payload: &Text) -> Result<Value, Fail> {
-        let payload = Payload::behind(payload.clone()?, 0);
+    fn read(&mut self, args: &Values) -> Result<Value, Fail> {
+        let kind = u8::try_from(number_at(args, 0)?)?;
+        let payload = Payload::behind(text_at(args, 1)?.clone()?, 0);
         match self.reading.frame(&RawFrame { kind, payload }) {
             Ok(frame) => {
                 self.frame = frame;
@@ -70,14 +108,14 @@ impl MessageCalls {
 
     /// Reads a packet that begins the bytes, and tells how many it takes: `bad` with the first byte
     /// with which none goes on, or `short`, where there is none.
-    fn decode(&mut self, bytes: &Text) -> Result<Value, Fail> {
-        match self.reading.packet(bytes.as_slice()) {
+    fn decode(&mut self, args: &Values) -> Result<Value, Fail> {
+        match self.reading.packet(text_at(args, 0)?.as_slice()) {
             Ok((packet, length)) => {
                 self.packet = packet;
                 count_value(length)
             }
-            Err(CodeFault::Bad(place)) => Ok(word_with(self.alloc, b"bad", count_value(place)?)?),
-            Err(CodeFault::Short) => Ok(text_value(self.alloc, b"short")?),
+            Err(CodeFault::Bad(place)) => word_with(self.alloc, b"bad", count_value(place)?),
+            Err(CodeFault::Short) => text_value(self.alloc, b"short"),
             Err(CodeFault::Memory) => Err(Fail::from(AllocError)),
         }
     }
@@ -91,7 +129,8 @@ impl MessageCalls {
     }
 
     /// Makes a reply that holds a text so many times.
-    fn hold(&mut self, text: &Text, count: u16) -> Result<(), AllocError> {
+    fn hold(&mut self, args: &Values) -> Result<(), Fail> {
+        let (text, count) = (text_at(args, 0)?, count_at(args, 1)?);
         self.packet = empty(self.alloc);
         put_texts(&mut self.packet, text, count)?;
         let packet = mem::replace(&mut self.packet, empty(self.alloc));
@@ -99,8 +138,10 @@ impl MessageCalls {
         Ok(())
     }
 
-    /// How many bytes the frame takes, or nil where they are too many.
-    fn length(&mut self) -> Result<Value, Fail> {
+    /// How many bytes a reply takes that holds a text so many times, or nil where they are too
+    /// many.
+    fn length(&mut self, args: &Values) -> Result<Value, Fail> {
+        self.hold(args)?;
         match write_within(self.alloc, &self.frame, &mut self.sent)? {
             Some(text) => count_value(text.len()),
             None => Ok(Value::Nil),
@@ -118,16 +159,23 @@ impl MessageCalls {
     }
 
     /// Writes a packet of one object of the sender, by its serial.
-    fn name(&mut self, serial: i64) -> Result<Value, Fail> {
+    fn write_name(&mut self, serial: i64) -> Result<Value, Fail> {
         self.packet = empty(self.alloc);
         put_object(&mut self.packet, u64::try_from(serial)?)?;
         self.encode()
     }
 
+    /// Writes a packet of the object of a serial.
+    fn name(&mut self, args: &Values) -> Result<Value, Fail> {
+        let serial = number_at(args, 0)?;
+        self.write_name(serial)
+    }
+
     /// Writes a packet of one object for each serial from the first on, below the end.
-    fn names(&mut self, first: i64, end: i64) -> Result<Value, Fail> {
+    fn names(&mut self, args: &Values) -> Result<Value, Fail> {
+        let (first, end) = (number_at(args, 0)?, number_at(args, 1)?);
         for serial in first..end {
-            self.name(serial)?;
+            self.write_name(serial)?;
         }
         count_value(self.sent.len())
     }
@@ -139,102 +187,54 @@ impl MessageCalls {
         count_value(self.sent.len())
     }
 
-    /// Makes a call that writes.
-    fn written(&mut self, word: &[u8], args: &Values) -> Result<Value, Fail> {
-        if is_text(word, b"write") {
-            return self.write_within();
-        }
-        if is_text(word, b"encode") {
-            return self.encode();
-        }
-        if is_text(word, b"shutdown") {
-            return self.shutdown();
-        }
-        if is_text(word, b"copy") {
-            return self.copy();
-        }
-        if is_text(word, b"length") {
-            self.hold(text_at(args, 0)?, count_at(args, 1)?)?;
-            return self.length();
-        }
-        if is_text(word, b"name") {
-            return self.name(number_at(args, 0)?);
-        }
-        if is_text(word, b"names") {
-            return self.names(number_at(args, 0)?, number_at(args, 1)?);
-        }
-        no_call()
-    }
-
     /// The answers to a payload that is cut and changed at each byte, summed up.
-    fn changes(&self, kind: u8, payload: &Text) -> Result<Value, Fail> {
+    fn changes(&self, args: &Values) -> Result<Value, Fail> {
+        let kind = u8::try_from(number_at(args, 0)?)?;
+        let payload = text_at(args, 1)?;
         let reading = &self.reading;
         let sum = sum_of_changes(self.alloc, &Payload { reading, kind }, payload.as_slice())?;
         Ok(Value::Text(digits(self.alloc, sum)?))
     }
 
     /// The answers to a stream that is cut and changed at each byte, summed up.
-    fn stream_changes(&self, stream: &Text) -> Result<Value, Fail> {
+    fn stream_changes(&self, args: &Values) -> Result<Value, Fail> {
+        let stream = text_at(args, 0)?;
         let alloc = self.alloc;
         let sum = sum_of_changes(alloc, &Stream { alloc }, stream.as_slice())?;
         Ok(Value::Text(digits(alloc, sum)?))
     }
 
-    /// Makes a call that sums up answers, or tells what is there.
-    fn summed(&mut self, word: &[u8], args: &Values) -> Result<Value, Fail> {
-        if is_text(word, b"changes") {
-            let kind = u8::try_from(number_at(args, 0)?)?;
-            return self.changes(kind, text_at(args, 1)?);
-        }
-        if is_text(word, b"changed_stream") {
-            return self.stream_changes(text_at(args, 0)?);
-        }
-        self.told(word, args)
-    }
-
     /// Whether a clone of the packet is equal to it, and whether it is with nil behind its values.
     fn cloned(&self) -> Result<Value, Fail> {
-        let mut values = Values::new(self.alloc);
         let mut copy = self.packet.clone()?;
-        values.push(as_number(copy == self.packet))?;
+        let same = as_number(copy == self.packet);
         copy.values.push(class::Part::Nil)?;
-        values.push(as_number(copy == self.packet))?;
-        Ok(Value::List(values))
-    }
-
-    /// Makes a call that tells what is there.
-    fn told(&mut self, word: &[u8], args: &Values) -> Result<Value, Fail> {
-        if is_text(word, b"frame") {
-            return shown(self.alloc, &self.frame);
-        }
-        if is_text(word, b"packet") {
-            return shown(self.alloc, &self.packet);
-        }
-        if is_text(word, b"clone") {
-            return self.cloned();
-        }
-        if is_text(word, b"known") {
-            return count_value(self.reading.known());
-        }
-        if is_text(word, b"sent") {
-            return count_value(self.sent.len());
-        }
-        self.written(word, args)
+        let longer = as_number(copy == self.packet);
+        pair_value(self.alloc, same, longer)
     }
 }
 
 impl Part for MessageCalls {
     fn call(&mut self, word: &[u8], args: &Values) -> Result<Value, Fail> {
-        if is_text(word, b"begin") {
-            return self.begin(value_at(args, 0)?.number());
+        match call_of(&CALLS, word) {
+            Some(Call::Begin) => self.begin(args),
+            Some(Call::Read) => self.read(args),
+            Some(Call::Decode) => self.decode(args),
+            Some(Call::Write) => self.write_within(),
+            Some(Call::Encode) => self.encode(),
+            Some(Call::Shutdown) => self.shutdown(),
+            Some(Call::Copy) => self.copy(),
+            Some(Call::Length) => self.length(args),
+            Some(Call::Name) => self.name(args),
+            Some(Call::Names) => self.names(args),
+            Some(Call::Changes) => self.changes(args),
+            Some(Call::ChangedStream) => self.stream_changes(args),
+            Some(Call::Frame) => shown(self.alloc, &self.frame),
+            Some(Call::Packet) => shown(self.alloc, &self.packet),
+            Some(Call::Clone) => self.cloned(),
+            Some(Call::Known) => count_value(self.reading.known()),
+            Some(Call::Sent) => count_value(self.sent.len()),
+            None => no_call(),
         }
-        if is_text(word, b"read") {
-            let kind = u8::try_from(number_at(args, 0)?)?;
-            return self.read(kind, text_at(args, 1)?);
-        }
-        if is_text(word, b"decode") {
-            return self.decode(text_at(args, 0)?);
-        }
-        self.summed(word, args)
     }
 }

@@ -1,11 +1,31 @@
 //! Calls of what takes frames out of a stream that comes in pieces.
 
-use call_rows::{Part, count_at, count_value, no_call, printed, text_at, texts_at};
-use do_base::{Text, Value, Values};
+use call_rows::{
+    Part, call_of, count_at, count_value, no_call, pair_value, printed, text_at, texts_at,
+};
+use do_base::{Value, Values};
 use do_frames::{RawFrame, Reader, StreamFault, frames_of};
-use do_grammar::is_text;
 use std::alloc::Global;
 use std::test::Fail;
+
+/// What a row calls.
+#[derive(Clone, Copy)]
+enum Call {
+    Begin,
+    Feed,
+    Next,
+    Pieces,
+    Frames,
+}
+
+/// The words of the calls.
+const CALLS: [(&[u8], Call); 5] = [
+    (b"begin", Call::Begin),
+    (b"feed", Call::Feed),
+    (b"next", Call::Next),
+    (b"pieces", Call::Pieces),
+    (b"frames", Call::Frames),
+];
 
 /// A stream that is read.
 #[derive(Drop)]
@@ -16,10 +36,9 @@ pub(crate) struct StreamCalls {
 
 /// The kind of a frame and the length of its payload.
 fn frame_value(alloc: Global, frame: &RawFrame) -> Result<Value, Fail> {
-    let mut values = Values::new(alloc);
-    values.push(Value::Num(i64::from(frame.kind)))?;
-    values.push(count_value(frame.payload.as_slice().len())?)?;
-    Ok(Value::List(values))
+    let length = count_value(frame.payload.as_slice().len())?;
+    let kind = Value::Num(i64::from(frame.kind));
+    pair_value(alloc, kind, length)
 }
 
 /// The next frame, nil where there is none yet, or the fault of the stream, printed.
@@ -52,8 +71,22 @@ impl StreamCalls {
         }
     }
 
+    /// Begins anew with a stream of which nothing came.
+    fn begin(&mut self) -> Value {
+        self.reader = Reader::new(self.alloc);
+        Value::Nil
+    }
+
+    /// Feeds a piece of the stream.
+    fn feed(&mut self, args: &Values) -> Result<Value, Fail> {
+        self.reader.feed(text_at(args, 0)?.as_slice())?;
+        Ok(Value::Nil)
+    }
+
     /// The frames that come from a stream in pieces of a length.
-    fn pieces(&mut self, length: usize, stream: &Text) -> Result<Value, Fail> {
+    fn pieces(&mut self, args: &Values) -> Result<Value, Fail> {
+        let length = usize::from(count_at(args, 0)?);
+        let stream = text_at(args, 1)?;
         self.reader = Reader::new(self.alloc);
         let mut frames = Values::new(self.alloc);
         for piece in stream.as_slice().chunks(length.max(1)) {
@@ -74,23 +107,13 @@ impl StreamCalls {
 
 impl Part for StreamCalls {
     fn call(&mut self, word: &[u8], args: &Values) -> Result<Value, Fail> {
-        if is_text(word, b"begin") {
-            self.reader = Reader::new(self.alloc);
-            return Ok(Value::Nil);
+        match call_of(&CALLS, word) {
+            Some(Call::Begin) => Ok(self.begin()),
+            Some(Call::Feed) => self.feed(args),
+            Some(Call::Next) => next(self.alloc, &mut self.reader),
+            Some(Call::Pieces) => self.pieces(args),
+            Some(Call::Frames) => self.frames(args),
+            None => no_call(),
         }
-        if is_text(word, b"feed") {
-            self.reader.feed(text_at(args, 0)?.as_slice())?;
-            return Ok(Value::Nil);
-        }
-        if is_text(word, b"next") {
-            return next(self.alloc, &mut self.reader);
-        }
-        if is_text(word, b"pieces") {
-            return self.pieces(usize::from(count_at(args, 0)?), text_at(args, 1)?);
-        }
-        if is_text(word, b"frames") {
-            return self.frames(args);
-        }
-        no_call()
     }
 }

@@ -51,10 +51,10 @@ pub(crate) fn item_table(alloc: Global) -> Result<ClassTable, AllocError>
 {
     let mut table = ClassTable::new(alloc);
     let name = Text::from_slice(alloc, b"Item")?;
-    let mut slots = Slots::new(alloc);
-    slots.push(slot(alloc, b"next", true)?)?;
-    slots.push(slot(alloc, b"first", true)?)?;
-    slots.push(slot(alloc, b"owner", false)?)?;
+    let next = slot(alloc, b"next", true)?;
+    let first = slot(alloc, b"first", true)?;
+    let owner = slot(alloc, b"owner", false)?;
+    let slots = Slots::from_vec(vec![in alloc; next, first, owner]?);
     match table.add_class(name, slots, Methods::new(alloc)) {
         Ok(_) => Ok(table),
         Err(_) => Err(AllocError),

@@ -1,10 +1,10 @@
 //! Answers as values.
 
-use call_rows::count_value;
-use do_base::{Oid, Token, Value, Values};
+use call_rows::{count_value, pair_value};
+use do_base::{Oid, Token, Value};
 use do_class::ClassId;
 use do_native_acts::as_number;
-use std::alloc::{AllocError, Global};
+use std::alloc::Global;
 use std::test::Fail;
 
 /// A number from 0 on.
@@ -49,25 +49,8 @@ pub(crate) fn token_value(token: Token) -> Value {
     })
 }
 
-/// Two values as a list.
-pub(crate) fn pair_value(alloc: Global, first: Value, second: Value) -> Result<Value, AllocError> {
-    let values = vec![in alloc; first, second]?;
-    Ok(Value::List(Values::from_vec(values)))
-}
-
-/// Three values as a list.
-pub(crate) fn triple_value(
-    alloc: Global,
-    first: Value,
-    second: Value,
-    third: Value,
-) -> Result<Value, AllocError> {
-    let values = vec![in alloc; first, second, third]?;
-    Ok(Value::List(Values::from_vec(values)))
-}
-
 /// The object and the token of an ask, or nil for none.
-pub(crate) fn ask_value(alloc: Global, ask: Option<(Oid, Token)>) -> Result<Value, AllocError> {
+pub(crate) fn ask_value(alloc: Global, ask: Option<(Oid, Token)>) -> Result<Value, Fail> {
     match ask {
         Some((oid, token)) => pair_value(alloc, Value::Obj(oid), token_value(token)),
         None => Ok(Value::Nil),
@@ -79,7 +62,7 @@ pub(crate) fn left_value(alloc: Global, left: Option<(Oid, u64)>) -> Result<Valu
     match left {
         Some((oid, count)) => {
             let count = amount_value(count)?;
-            Ok(pair_value(alloc, Value::Obj(oid), count)?)
+            pair_value(alloc, Value::Obj(oid), count)
         }
         None => Ok(Value::Nil),
     }

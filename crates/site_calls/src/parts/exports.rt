@@ -2,15 +2,49 @@
 //!
 //! An entry is written as an object: the peer's port, and the serial of the own object.
 
-use crate::parts::answers::{amount_or_nil, amount_value, triple_value};
+use crate::parts::answers::{amount_or_nil, amount_value};
 use crate::parts::arguments::{amount_at, node_at};
-use call_rows::{Part, count_at, no_call, object_at, text_value};
+use call_rows::{Part, call_of, count_at, no_call, object_at, word_with_two};
 use do_base::{NodeId, Oid, Value, Values};
 use do_export::{Exports, OverRelease};
-use do_grammar::is_text;
 use do_native_acts::as_number;
 use std::alloc::Global;
 use std::test::Fail;
+
+/// What a row calls.
+#[derive(Clone, Copy)]
+enum Call {
+    New,
+    Reserve,
+    HasRoom,
+    Len,
+    GiveBack,
+    Fill,
+    DropNext,
+    EndPeer,
+    Name,
+    Count,
+    Has,
+    Forget,
+    NextEntry,
+}
+
+/// The words of the calls.
+const CALLS: [(&[u8], Call); 13] = [
+    (b"new", Call::New),
+    (b"reserve", Call::Reserve),
+    (b"has_room", Call::HasRoom),
+    (b"len", Call::Len),
+    (b"give_back", Call::GiveBack),
+    (b"fill", Call::Fill),
+    (b"drop_next", Call::DropNext),
+    (b"end_peer", Call::EndPeer),
+    (b"name", Call::Name),
+    (b"count", Call::Count),
+    (b"has", Call::Has),
+    (b"forget", Call::Forget),
+    (b"next_entry", Call::NextEntry),
+];
 
 /// The counts of the names that peers were sent.
 #[derive(Drop)]
@@ -23,7 +57,7 @@ pub(crate) struct ExportCalls {
 fn over_release(alloc: Global, over: OverRelease) -> Result<Value, Fail> {
     let had = amount_value(over.had)?;
     let asked = amount_value(over.asked)?;
-    Ok(triple_value(alloc, text_value(alloc, b"over")?, had, asked)?)
+    word_with_two(alloc, b"over", had, asked)
 }
 
 impl ExportCalls {
@@ -35,8 +69,26 @@ impl ExportCalls {
         }
     }
 
+    /// Begins anew, without entries.
+    fn begin(&mut self) -> Value {
+        self.exports = Exports::new(self.alloc);
+        Value::Nil
+    }
+
+    /// Makes room for more entries.
+    fn reserve(&mut self, args: &Values) -> Result<Value, Fail> {
+        self.exports.reserve(amount_at(args, 0)?)?;
+        Ok(Value::Nil)
+    }
+
+    /// Whether there is room for more entries.
+    fn has_room(&self, args: &Values) -> Result<Value, Fail> {
+        let more = amount_at(args, 0)?;
+        Ok(as_number(self.exports.spare() >= more))
+    }
+
     /// Counts a name, and tells whether it did: there is room.
-    fn name(&mut self, peer: NodeId, serial: u64) -> bool {
+    fn count_name(&mut self, peer: NodeId, serial: u64) -> bool {
         if self.exports.spare() == 0 || self.exports.count(peer, serial) == u64::MAX {
             return false;
         }
@@ -44,88 +96,98 @@ impl ExportCalls {
         true
     }
 
+    /// Counts a name of an entry.
+    fn name(&mut self, args: &Values) -> Result<Value, Fail> {
+        let Oid { node, serial } = object_at(args, 0)?;
+        Ok(as_number(self.count_name(node, serial)))
+    }
+
     /// Counts a name of as many objects, from serial 1 on, and tells of how many.
-    fn fill(&mut self, peer: NodeId, count: u16) -> i64 {
+    fn count_names(&mut self, peer: NodeId, count: u16) -> i64 {
         let mut named: i64 = 0;
         for serial in 1..=u64::from(count) {
-            if self.name(peer, serial) {
+            if self.count_name(peer, serial) {
                 named = named.saturating_add(1);
             }
         }
         named
     }
 
+    /// Counts a name of as many objects, and tells of how many.
+    fn fill(&mut self, args: &Values) -> Result<Value, Fail> {
+        let (peer, count) = (node_at(args, 0)?, count_at(args, 1)?);
+        Ok(Value::Num(self.count_names(peer, count)))
+    }
+
     /// Takes off what a peer gives back, and tells what is left.
-    fn give_back(&mut self, peer: NodeId, serial: u64, n: u64) -> Result<Value, Fail> {
+    fn give_back(&mut self, args: &Values) -> Result<Value, Fail> {
+        let Oid { node, serial } = object_at(args, 0)?;
+        let n = amount_at(args, 1)?;
         if n == 0 {
             return Err(Fail::from("nothing is given back"));
         }
-        match self.exports.give_back(peer, serial, n) {
+        match self.exports.give_back(node, serial, n) {
             Ok(left) => amount_value(left),
             Err(over) => over_release(self.alloc, over),
         }
     }
 
-    /// Makes a call about an entry.
-    fn call_of_entry(&mut self, word: &[u8], entry: Oid) -> Result<Value, Fail> {
-        let Oid { node, serial } = entry;
-        if is_text(word, b"name") {
-            return Ok(as_number(self.name(node, serial)));
-        }
-        if is_text(word, b"count") {
-            return amount_value(self.exports.count(node, serial));
-        }
-        if is_text(word, b"has") {
-            return Ok(as_number(self.exports.has(node, serial)));
-        }
-        if is_text(word, b"forget") {
-            self.exports.forget(node, serial);
-            return Ok(Value::Nil);
-        }
-        if is_text(word, b"next_entry") {
-            return amount_or_nil(self.exports.next_entry(node, serial));
-        }
-        no_call()
+    /// How often an entry was named.
+    fn count(&self, args: &Values) -> Result<Value, Fail> {
+        let Oid { node, serial } = object_at(args, 0)?;
+        amount_value(self.exports.count(node, serial))
     }
 
-    /// Makes a call about the room, or about all entries.
-    fn call_of_room(&mut self, word: &[u8], args: &Values) -> Result<Value, Fail> {
-        if is_text(word, b"new") {
-            self.exports = Exports::new(self.alloc);
-            return Ok(Value::Nil);
-        }
-        if is_text(word, b"reserve") {
-            self.exports.reserve(amount_at(args, 0)?)?;
-            return Ok(Value::Nil);
-        }
-        if is_text(word, b"has_room") {
-            let more = amount_at(args, 0)?;
-            return Ok(as_number(self.exports.spare() >= more));
-        }
-        if is_text(word, b"len") {
-            return amount_value(self.exports.len());
-        }
-        self.call_of_entry(word, object_at(args, 0)?)
+    /// Whether there is an entry.
+    fn has(&self, args: &Values) -> Result<Value, Fail> {
+        let Oid { node, serial } = object_at(args, 0)?;
+        Ok(as_number(self.exports.has(node, serial)))
+    }
+
+    /// Forgets an entry.
+    fn forget(&mut self, args: &Values) -> Result<Value, Fail> {
+        let Oid { node, serial } = object_at(args, 0)?;
+        self.exports.forget(node, serial);
+        Ok(Value::Nil)
+    }
+
+    /// The serial of the next entry from one on, or nil.
+    fn next_entry(&self, args: &Values) -> Result<Value, Fail> {
+        let Oid { node, serial } = object_at(args, 0)?;
+        amount_or_nil(self.exports.next_entry(node, serial))
+    }
+
+    /// Takes out the lowest entry of a peer, and tells its serial, or nil.
+    fn drop_next(&mut self, args: &Values) -> Result<Value, Fail> {
+        let peer = node_at(args, 0)?;
+        amount_or_nil(self.exports.drop_next(peer))
+    }
+
+    /// Forgets all entries of a peer.
+    fn end_peer(&mut self, args: &Values) -> Result<Value, Fail> {
+        let peer = node_at(args, 0)?;
+        self.exports.end_peer(peer);
+        Ok(Value::Nil)
     }
 }
 
 impl Part for ExportCalls {
     fn call(&mut self, word: &[u8], args: &Values) -> Result<Value, Fail> {
-        if is_text(word, b"give_back") {
-            let Oid { node, serial } = object_at(args, 0)?;
-            return self.give_back(node, serial, amount_at(args, 1)?);
+        match call_of(&CALLS, word) {
+            Some(Call::New) => Ok(self.begin()),
+            Some(Call::Reserve) => self.reserve(args),
+            Some(Call::HasRoom) => self.has_room(args),
+            Some(Call::Len) => amount_value(self.exports.len()),
+            Some(Call::GiveBack) => self.give_back(args),
+            Some(Call::Fill) => self.fill(args),
+            Some(Call::DropNext) => self.drop_next(args),
+            Some(Call::EndPeer) => self.end_peer(args),
+            Some(Call::Name) => self.name(args),
+            Some(Call::Count) => self.count(args),
+            Some(Call::Has) => self.has(args),
+            Some(Call::Forget) => self.forget(args),
+            Some(Call::NextEntry) => self.next_entry(args),
+            None => no_call(),
         }
-        if is_text(word, b"fill") {
-            let count = count_at(args, 1)?;
-            return Ok(Value::Num(self.fill(node_at(args, 0)?, count)));
-        }
-        if is_text(word, b"drop_next") {
-            return amount_or_nil(self.exports.drop_next(node_at(args, 0)?));
-        }
-        if is_text(word, b"end_peer") {
-            self.exports.end_peer(node_at(args, 0)?);
-            return Ok(Value::Nil);
-        }
-        self.call_of_room(word, args)
     }
 }

@@ -2,13 +2,31 @@
 ghost use Rattle.std.specs.Prelude.{◌≡◌, length};
 
 use crate::parts::arguments::amount_at;
-use call_rows::{Part, count_at, no_call, number_at, number_or_nil};
+use call_rows::{Part, call_of, count_at, no_call, number_at, number_or_nil};
 use do_base::{Value, Values};
-use do_grammar::is_text;
 use do_native_acts::as_number;
 use do_pool::Cells;
 use std::alloc::{AllocError, Global};
 use std::test::Fail;
+
+/// What a row calls.
+#[derive(Clone, Copy)]
+enum Call {
+    New,
+    Post,
+    Take,
+    Reserve,
+    HasRoom,
+}
+
+/// The words of the calls.
+const CALLS: [(&[u8], Call); 5] = [
+    (b"new", Call::New),
+    (b"post", Call::Post),
+    (b"take", Call::Take),
+    (b"reserve", Call::Reserve),
+    (b"has_room", Call::HasRoom),
+];
 
 /// Queues of numbers, and how many queues there are.
 #[derive(Drop)]
@@ -47,34 +65,49 @@ impl PoolCalls {
         self.cells.take(queue)
     }
 
-    /// Makes a call about the room.
-    fn call_of_room(&mut self, word: &[u8], more: u64) -> Result<Value, Fail> {
-        if is_text(word, b"reserve") {
-            self.cells.reserve(more)?;
-            return Ok(Value::Nil);
-        }
-        if is_text(word, b"has_room") {
-            return Ok(as_number(self.cells.spare() >= more));
-        }
-        no_call()
+    /// Begins anew with as many queues.
+    fn begin(&mut self, args: &Values) -> Result<Value, Fail> {
+        let queues = usize::from(count_at(args, 0)?);
+        *self = PoolCalls::new(self.alloc, queues)?;
+        Ok(Value::Nil)
+    }
+
+    /// Posts a number to a queue.
+    fn post_at(&mut self, args: &Values) -> Result<Value, Fail> {
+        let queue = usize::from(count_at(args, 0)?);
+        let item = number_at(args, 1)?;
+        Ok(as_number(self.post(queue, item)))
+    }
+
+    /// Takes the oldest of a queue.
+    fn take_at(&mut self, args: &Values) -> Result<Value, Fail> {
+        let queue = usize::from(count_at(args, 0)?);
+        Ok(number_or_nil(self.take(queue)))
+    }
+
+    /// Makes room for more items.
+    fn reserve(&mut self, args: &Values) -> Result<Value, Fail> {
+        let more = amount_at(args, 0)?;
+        self.cells.reserve(more)?;
+        Ok(Value::Nil)
+    }
+
+    /// Whether there is room for more items.
+    fn has_room(&self, args: &Values) -> Result<Value, Fail> {
+        let more = amount_at(args, 0)?;
+        Ok(as_number(self.cells.spare() >= more))
     }
 }
 
 impl Part for PoolCalls {
     fn call(&mut self, word: &[u8], args: &Values) -> Result<Value, Fail> {
-        if is_text(word, b"new") {
-            let queues = usize::from(count_at(args, 0)?);
-            *self = PoolCalls::new(self.alloc, queues)?;
-            return Ok(Value::Nil);
+        match call_of(&CALLS, word) {
+            Some(Call::New) => self.begin(args),
+            Some(Call::Post) => self.post_at(args),
+            Some(Call::Take) => self.take_at(args),
+            Some(Call::Reserve) => self.reserve(args),
+            Some(Call::HasRoom) => self.has_room(args),
+            None => no_call(),
         }
-        if is_text(word, b"post") {
-            let queue = usize::from(count_at(args, 0)?);
-            return Ok(as_number(self.post(queue, number_at(args, 1)?)));
-        }
-        if is_text(word, b"take") {
-            let queue = usize::from(count_at(args, 0)?);
-            return Ok(number_or_nil(self.take(queue)));
-        }
-        self.call_of_room(word, amount_at(args, 0)?)
     }
 }

@@ -8,15 +8,71 @@ mod waiting;
 use crate::parts::arguments::{amount_at, node_at};
 use crate::parts::stack::changes::{Script, act, replace_locals, set_locals};
 use crate::parts::stack::invocations::{invocation_or_nil, local_or_nil};
-use crate::parts::stack::waiting::{abandon, call_of_peer, is_call_word, take_answer};
-use call_rows::{Part, begun, copy_at, count_at, count_value, local_at, no_call, value_at};
+use crate::parts::stack::waiting::{abandon, give, late, raise, take_answer, wait, waiting};
+use call_rows::{
+    Part, begun, call_of, copy_at, count_at, count_value, local_at, no_call, value_at,
+};
 use do_base::{Oid, Value, Values};
 use do_behave::Invocation;
-use do_grammar::is_text;
 use do_native_acts::{as_number, show_list};
 use do_stack::{Stack, objects_named};
 use std::alloc::Global;
 use std::test::Fail;
+
+/// What a row calls.
+#[derive(Clone, Copy)]
+enum Call {
+    New,
+    Reserve,
+    HasRoom,
+    Push,
+    Pop,
+    Fill,
+    Code,
+    Act,
+    SetLocals,
+    ReplaceLocals,
+    Abandon,
+    TakeAnswer,
+    FailPeer,
+    Wait,
+    Waiting,
+    Give,
+    Raise,
+    Late,
+    Depth,
+    Top,
+    At,
+    Local,
+    ObjectsNamed,
+}
+
+/// The words of the calls.
+const CALLS: [(&[u8], Call); 23] = [
+    (b"new", Call::New),
+    (b"reserve", Call::Reserve),
+    (b"has_room", Call::HasRoom),
+    (b"push", Call::Push),
+    (b"pop", Call::Pop),
+    (b"fill", Call::Fill),
+    (b"code", Call::Code),
+    (b"act", Call::Act),
+    (b"set_locals", Call::SetLocals),
+    (b"replace_locals", Call::ReplaceLocals),
+    (b"abandon", Call::Abandon),
+    (b"take_answer", Call::TakeAnswer),
+    (b"fail_peer", Call::FailPeer),
+    (b"wait", Call::Wait),
+    (b"waiting", Call::Waiting),
+    (b"give", Call::Give),
+    (b"raise", Call::Raise),
+    (b"late", Call::Late),
+    (b"depth", Call::Depth),
+    (b"top", Call::Top),
+    (b"at", Call::At),
+    (b"local", Call::Local),
+    (b"objects_named", Call::ObjectsNamed),
+];
 
 /// A stack, and the code that its invocations run.
 #[derive(Drop)]
@@ -38,37 +94,14 @@ fn push(alloc: Global, stack: &mut Stack, first: Value, second: Value) -> Result
 }
 
 /// Puts as many invocations on top, and tells how many it did.
-fn fill(alloc: Global, stack: &mut Stack, count: u16) -> Result<Value, Fail> {
+fn fill(alloc: Global, stack: &mut Stack, args: &Values) -> Result<Value, Fail> {
     let mut pushed: i64 = 0;
-    for number in 0..count {
+    for number in 0..count_at(args, 0)? {
         if push(alloc, stack, Value::Num(i64::from(number)), Value::Nil)? {
             pushed = pushed.saturating_add(1);
         }
     }
     Ok(Value::Num(pushed))
-}
-
-/// Tells what stands on a stack.
-fn told(alloc: Global, stack: &Stack, word: &[u8], args: &Values) -> Result<Value, Fail> {
-    if is_text(word, b"depth") {
-        return count_value(stack.depth());
-    }
-    if is_text(word, b"top") {
-        return invocation_or_nil(alloc, stack.top());
-    }
-    if is_text(word, b"at") {
-        return invocation_or_nil(alloc, stack.at(usize::from(count_at(args, 0)?)));
-    }
-    if is_text(word, b"local") {
-        return local_or_nil(stack.top(), local_at(args, 0)?);
-    }
-    if is_text(word, b"has_room") {
-        return Ok(as_number(stack.spare() >= amount_at(args, 0)?));
-    }
-    if is_text(word, b"objects_named") {
-        return Ok(show_list::<Oid>(&objects_named(alloc, value_at(args, 0)?)?)?);
-    }
-    no_call()
 }
 
 impl StackCalls {
@@ -82,65 +115,97 @@ impl StackCalls {
         })
     }
 
-    /// Makes a call about calls and answers, or tells what stands on the stack.
-    fn call_about_answers(&mut self, word: &[u8], args: &Values) -> Result<Value, Fail> {
-        if is_text(word, b"abandon") {
-            return abandon(&mut self.stack);
-        }
-        if is_text(word, b"take_answer") {
-            return take_answer(self.alloc, &mut self.stack);
-        }
-        if is_text(word, b"fail_peer") {
-            self.stack.fail_peer(node_at(args, 0)?);
-            return Ok(Value::Nil);
-        }
-        if is_call_word(word) {
-            return call_of_peer(self.alloc, &mut self.stack, word, args);
-        }
-        told(self.alloc, &self.stack, word, args)
+    /// Begins anew with an empty stack.
+    fn begin(&mut self) -> Value {
+        self.stack = Stack::new(self.alloc);
+        Value::Nil
     }
 
-    /// Makes a call that changes the top.
-    fn change(&mut self, word: &[u8], args: &Values) -> Result<Value, Fail> {
-        if is_text(word, b"code") {
-            self.script.set(args)?;
-            return Ok(Value::Nil);
-        }
-        if is_text(word, b"act") {
-            return act(self.alloc, &mut self.stack, &self.script);
-        }
-        if is_text(word, b"set_locals") {
-            return set_locals(self.alloc, &mut self.stack, args);
-        }
-        if is_text(word, b"replace_locals") {
-            return replace_locals(self.alloc, &mut self.stack, args);
-        }
-        self.call_about_answers(word, args)
+    /// Makes room for more invocations.
+    fn reserve(&mut self, args: &Values) -> Result<Value, Fail> {
+        self.stack.reserve(amount_at(args, 0)?)?;
+        Ok(Value::Nil)
+    }
+
+    /// Whether there is room for more invocations.
+    fn has_room(&self, args: &Values) -> Result<Value, Fail> {
+        let more = amount_at(args, 0)?;
+        Ok(as_number(self.stack.spare() >= more))
+    }
+
+    /// Puts an invocation with two values on top, and tells whether it did.
+    fn push(&mut self, args: &Values) -> Result<Value, Fail> {
+        let first = copy_at(args, 0)?;
+        let pushed = push(self.alloc, &mut self.stack, first, copy_at(args, 1)?)?;
+        Ok(as_number(pushed))
+    }
+
+    /// Takes the top off, and shows it.
+    fn pop(&mut self) -> Result<Value, Fail> {
+        let top = self.stack.pop();
+        invocation_or_nil(self.alloc, top.as_ref())
+    }
+
+    /// Takes lines for the code of the method that runs.
+    fn set_code(&mut self, args: &Values) -> Result<Value, Fail> {
+        self.script.set(args)?;
+        Ok(Value::Nil)
+    }
+
+    /// Ends all calls to a peer.
+    fn fail_peer(&mut self, args: &Values) -> Result<Value, Fail> {
+        let peer = node_at(args, 0)?;
+        self.stack.fail_peer(peer);
+        Ok(Value::Nil)
+    }
+
+    /// The invocation at a place, or nil.
+    fn at(&self, args: &Values) -> Result<Value, Fail> {
+        let at = usize::from(count_at(args, 0)?);
+        invocation_or_nil(self.alloc, self.stack.at(at))
+    }
+
+    /// A local of the top, or nil.
+    fn local(&self, args: &Values) -> Result<Value, Fail> {
+        let local = local_at(args, 0)?;
+        local_or_nil(self.stack.top(), local)
+    }
+
+    /// The objects that a value names.
+    fn objects_named(&self, args: &Values) -> Result<Value, Fail> {
+        let value = value_at(args, 0)?;
+        Ok(show_list::<Oid>(&objects_named(self.alloc, value)?)?)
     }
 }
 
 impl Part for StackCalls {
     fn call(&mut self, word: &[u8], args: &Values) -> Result<Value, Fail> {
-        if is_text(word, b"new") {
-            self.stack = Stack::new(self.alloc);
-            return Ok(Value::Nil);
+        let (alloc, stack) = (self.alloc, &mut self.stack);
+        match call_of(&CALLS, word) {
+            Some(Call::New) => Ok(self.begin()),
+            Some(Call::Reserve) => self.reserve(args),
+            Some(Call::HasRoom) => self.has_room(args),
+            Some(Call::Push) => self.push(args),
+            Some(Call::Pop) => self.pop(),
+            Some(Call::Fill) => fill(alloc, stack, args),
+            Some(Call::Code) => self.set_code(args),
+            Some(Call::Act) => act(alloc, stack, &self.script),
+            Some(Call::SetLocals) => set_locals(alloc, stack, args),
+            Some(Call::ReplaceLocals) => replace_locals(alloc, stack, args),
+            Some(Call::Abandon) => abandon(stack),
+            Some(Call::TakeAnswer) => take_answer(alloc, stack),
+            Some(Call::FailPeer) => self.fail_peer(args),
+            Some(Call::Wait) => wait(stack, args),
+            Some(Call::Waiting) => waiting(alloc, stack, args),
+            Some(Call::Give) => give(stack, args),
+            Some(Call::Raise) => raise(stack, args),
+            Some(Call::Late) => late(stack, args),
+            Some(Call::Depth) => count_value(stack.depth()),
+            Some(Call::Top) => invocation_or_nil(alloc, stack.top()),
+            Some(Call::At) => self.at(args),
+            Some(Call::Local) => self.local(args),
+            Some(Call::ObjectsNamed) => self.objects_named(args),
+            None => no_call(),
         }
-        if is_text(word, b"reserve") {
-            self.stack.reserve(amount_at(args, 0)?)?;
-            return Ok(Value::Nil);
-        }
-        if is_text(word, b"push") {
-            let first = copy_at(args, 0)?;
-            let pushed = push(self.alloc, &mut self.stack, first, copy_at(args, 1)?)?;
-            return Ok(as_number(pushed));
-        }
-        if is_text(word, b"pop") {
-            let top = self.stack.pop();
-            return invocation_or_nil(self.alloc, top.as_ref());
-        }
-        if is_text(word, b"fill") {
-            return fill(self.alloc, &mut self.stack, count_at(args, 0)?);
-        }
-        self.change(word, args)
     }
 }

@@ -4,17 +4,53 @@ ghost use Rattle.std.specs.Prelude.{◌≡◌};
 mod may;
 mod objects;
 
-use crate::parts::answers::{amount_value, class_value, pair_value, triple_value};
+use crate::parts::answers::{amount_value, class_value};
 use crate::parts::arguments::{amount_at, class_at, node_at};
 use crate::parts::store::objects::{create, hold, let_go, write_slot};
-use call_rows::{Part, copy_at, count_at, no_call, object_at, object_or_nil, text_value};
+use call_rows::{
+    Part, call_of, copy_at, count_at, no_call, object_at, object_or_nil, pair_value, text_value,
+    triple_value,
+};
 use do_base::{NodeId, Oid, Value, Values};
-use do_class::ClassId;
-use do_grammar::is_text;
 use do_native_acts::{as_number, show_list};
 use do_store::{Freed, Store};
 use std::alloc::{AllocError, Global};
 use std::test::Fail;
+
+/// What a row calls.
+#[derive(Clone, Copy)]
+enum Call {
+    New,
+    Create,
+    SetSlot,
+    Sweep,
+    NextSerial,
+    Stored,
+    Reserve,
+    HasRoom,
+    Get,
+    Names,
+    Holders,
+    Retain,
+    Release,
+}
+
+/// The words of the calls.
+const CALLS: [(&[u8], Call); 13] = [
+    (b"new", Call::New),
+    (b"create", Call::Create),
+    (b"set_slot", Call::SetSlot),
+    (b"sweep", Call::Sweep),
+    (b"next_serial", Call::NextSerial),
+    (b"stored", Call::Stored),
+    (b"reserve", Call::Reserve),
+    (b"has_room", Call::HasRoom),
+    (b"get", Call::Get),
+    (b"names", Call::Names),
+    (b"holders", Call::Holders),
+    (b"retain", Call::Retain),
+    (b"release", Call::Release),
+];
 
 /// The stored objects of a node.
 #[derive(Drop)]
@@ -26,7 +62,7 @@ pub(crate) struct StoreCalls {
 }
 
 /// An object that was freed, its class and its slots, or nil for none.
-fn freed_or_nil(alloc: Global, freed: Option<Freed>) -> Result<Value, AllocError> {
+fn freed_or_nil(alloc: Global, freed: Option<Freed>) -> Result<Value, Fail> {
     let Some(Freed { oid, class, slots }) = freed else {
         return Ok(Value::Nil);
     };
@@ -41,8 +77,21 @@ impl StoreCalls {
         Ok(StoreCalls { store, node, alloc })
     }
 
+    /// Begins anew with a node that stores nothing.
+    fn begin(&mut self, args: &Values) -> Result<Value, Fail> {
+        *self = StoreCalls::new(self.alloc, node_at(args, 0)?)?;
+        Ok(Value::Nil)
+    }
+
+    /// Whether there is room for more objects.
+    fn has_room(&self, args: &Values) -> Result<Value, Fail> {
+        let more = amount_at(args, 0)?;
+        Ok(as_number(self.store.spare() >= more))
+    }
+
     /// Makes room, where there are not too many objects.
-    fn reserve(&mut self, more: u64) -> Result<Value, Fail> {
+    fn reserve(&mut self, args: &Values) -> Result<Value, Fail> {
+        let more = amount_at(args, 0)?;
         let next = self.store.next_serial();
         if more > u64::MAX - next {
             return Err(Fail::from("too many objects"));
@@ -53,7 +102,9 @@ impl StoreCalls {
 
     /// Stores an object whose first slot holds a value, and tells its name. Nil where the value
     /// names an object that is not stored.
-    fn create(&mut self, class: ClassId, value: Value) -> Result<Value, Fail> {
+    fn create(&mut self, args: &Values) -> Result<Value, Fail> {
+        let class = class_at(args, 0)?;
+        let value = copy_at(args, 1)?;
         match create(&mut self.store, self.alloc, self.node, class, value) {
             Ok(made) => Ok(object_or_nil(made)),
             Err(error) => Err(Fail::from(error)),
@@ -61,83 +112,77 @@ impl StoreCalls {
     }
 
     /// Writes a slot, and tells what it held. A word where that may not be.
-    fn set_slot(&mut self, oid: Oid, at: usize, value: Value) -> Result<Value, Fail> {
+    fn set_slot(&mut self, args: &Values) -> Result<Value, Fail> {
+        let oid = object_at(args, 0)?;
+        let at = usize::from(count_at(args, 1)?);
+        let value = copy_at(args, 2)?;
         match write_slot(&mut self.store, self.node, oid, at, value) {
             Some(was) => Ok(was),
-            None => Ok(text_value(self.alloc, b"refused")?),
+            None => text_value(self.alloc, b"refused"),
         }
     }
 
     /// The class and the slots of an object, or nil.
-    fn get(&self, oid: Oid) -> Result<Value, Fail> {
+    fn get(&self, args: &Values) -> Result<Value, Fail> {
+        let oid = object_at(args, 0)?;
         let Some((class, slots)) = self.store.get(oid) else {
             return Ok(Value::Nil);
         };
         let slots = Value::List(slots.clone()?);
-        Ok(pair_value(self.alloc, class_value(class), slots)?)
+        pair_value(self.alloc, class_value(class), slots)
     }
 
     /// Takes out an object that nothing holds, and tells which; nil where there is none.
     fn sweep(&mut self) -> Result<Value, Fail> {
         let freed = self.store.sweep();
-        Ok(freed_or_nil(self.alloc, freed)?)
+        freed_or_nil(self.alloc, freed)
     }
 
-    /// Makes a call about an object.
-    fn call_of_object(&mut self, word: &[u8], oid: Oid) -> Result<Value, Fail> {
-        if is_text(word, b"get") {
-            return self.get(oid);
-        }
-        if is_text(word, b"names") {
-            return amount_value(self.store.names(oid));
-        }
-        if is_text(word, b"holders") {
-            return amount_value(self.store.holders(oid));
-        }
-        if is_text(word, b"retain") {
-            return Ok(as_number(hold(&mut self.store, oid)));
-        }
-        if is_text(word, b"release") {
-            return Ok(as_number(let_go(&mut self.store, oid)));
-        }
-        no_call()
+    /// The objects that are stored.
+    fn stored(&self) -> Result<Value, Fail> {
+        Ok(show_list::<Oid>(&self.store.stored()?)?)
     }
 
-    /// Makes a call about the room, or about all objects.
-    fn call_of_room(&mut self, word: &[u8], args: &Values) -> Result<Value, Fail> {
-        if is_text(word, b"next_serial") {
-            return amount_value(self.store.next_serial());
-        }
-        if is_text(word, b"stored") {
-            return Ok(show_list::<Oid>(&self.store.stored()?)?);
-        }
-        if is_text(word, b"reserve") {
-            return self.reserve(amount_at(args, 0)?);
-        }
-        if is_text(word, b"has_room") {
-            let more = amount_at(args, 0)?;
-            return Ok(as_number(self.store.spare() >= more));
-        }
-        self.call_of_object(word, object_at(args, 0)?)
+    /// How many slots name an object.
+    fn names(&self, args: &Values) -> Result<Value, Fail> {
+        amount_value(self.store.names(object_at(args, 0)?))
+    }
+
+    /// How many hold an object.
+    fn holders(&self, args: &Values) -> Result<Value, Fail> {
+        amount_value(self.store.holders(object_at(args, 0)?))
+    }
+
+    /// Counts one holder of an object more.
+    fn retain(&mut self, args: &Values) -> Result<Value, Fail> {
+        let oid = object_at(args, 0)?;
+        Ok(as_number(hold(&mut self.store, oid)))
+    }
+
+    /// Counts one holder of an object less.
+    fn release(&mut self, args: &Values) -> Result<Value, Fail> {
+        let oid = object_at(args, 0)?;
+        Ok(as_number(let_go(&mut self.store, oid)))
     }
 }
 
 impl Part for StoreCalls {
     fn call(&mut self, word: &[u8], args: &Values) -> Result<Value, Fail> {
-        if is_text(word, b"new") {
-            *self = StoreCalls::new(self.alloc, node_at(args, 0)?)?;
-            return Ok(Value::Nil);
+        match call_of(&CALLS, word) {
+            Some(Call::New) => self.begin(args),
+            Some(Call::Create) => self.create(args),
+            Some(Call::SetSlot) => self.set_slot(args),
+            Some(Call::Sweep) => self.sweep(),
+            Some(Call::NextSerial) => amount_value(self.store.next_serial()),
+            Some(Call::Stored) => self.stored(),
+            Some(Call::Reserve) => self.reserve(args),
+            Some(Call::HasRoom) => self.has_room(args),
+            Some(Call::Get) => self.get(args),
+            Some(Call::Names) => self.names(args),
+            Some(Call::Holders) => self.holders(args),
+            Some(Call::Retain) => self.retain(args),
+            Some(Call::Release) => self.release(args),
+            None => no_call(),
         }
-        if is_text(word, b"create") {
-            return self.create(class_at(args, 0)?, copy_at(args, 1)?);
-        }
-        if is_text(word, b"set_slot") {
-            let at = usize::from(count_at(args, 1)?);
-            return self.set_slot(object_at(args, 0)?, at, copy_at(args, 2)?);
-        }
-        if is_text(word, b"sweep") {
-            return self.sweep();
-        }
-        self.call_of_room(word, args)
     }
 }

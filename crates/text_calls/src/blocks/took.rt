@@ -1,72 +1,79 @@
 //! What was taken in a step, as a word and what it is about.
 
-use call_rows::text_at;
-use do_base::{Exc, Items, Oid, Shown, Text, Took, Value, Values};
-use do_grammar::is_text;
+use call_rows::{call_of, object_at, text_at};
+use do_base::{Exc, Text, Took, Values};
 use std::test::Fail;
+
+/// What is taken.
+#[derive(Clone, Copy)]
+enum Item {
+    Reply,
+    RootAsk,
+    RootAnswer,
+    Settled,
+    End,
+    Ask,
+    Granted,
+    Gone,
+    Left,
+    Call,
+    Oneway,
+    Raised,
+}
+
+/// Its words.
+const ITEMS: [(&[u8], Item); 12] = [
+    (b"reply", Item::Reply),
+    (b"rootask", Item::RootAsk),
+    (b"rootanswer", Item::RootAnswer),
+    (b"settled", Item::Settled),
+    (b"end", Item::End),
+    (b"ask", Item::Ask),
+    (b"granted", Item::Granted),
+    (b"gone", Item::Gone),
+    (b"left", Item::Left),
+    (b"call", Item::Call),
+    (b"oneway", Item::Oneway),
+    (b"raised", Item::Raised),
+];
 
 /// The text at the second place.
 fn name_at(args: &Values) -> Result<Text, Fail> {
     Ok(text_at(args, 1)?.clone()?)
 }
 
-/// Shows that an item without a part of its own was taken.
-fn push_plain(shown: &mut Items<Shown>, word: &[u8]) -> Result<(), Fail> {
-    if is_text(word, b"reply") {
-        return Ok(shown.push(Shown::Took(Took::Reply))?);
+/// An item that is about an object.
+fn about_object(item: Item, args: &Values) -> Result<Took, Fail> {
+    let oid = object_at(args, 1)?;
+    match item {
+        Item::Ask => Ok(Took::Ask(oid)),
+        Item::Granted => Ok(Took::Granted(oid)),
+        Item::Gone => Ok(Took::Gone(oid)),
+        _ => Ok(Took::Left(oid)),
     }
-    if is_text(word, b"rootask") {
-        return Ok(shown.push(Shown::Took(Took::RootAsk))?);
-    }
-    if is_text(word, b"rootanswer") {
-        return Ok(shown.push(Shown::Took(Took::RootAnswer))?);
-    }
-    if is_text(word, b"settled") {
-        return Ok(shown.push(Shown::Took(Took::Settled))?);
-    }
-    if is_text(word, b"end") {
-        return Ok(shown.push(Shown::Took(Took::End))?);
-    }
-    Err(Fail::from("no such item"))
 }
 
-/// Shows that an item about an object was taken.
-fn push_about(shown: &mut Items<Shown>, word: &[u8], oid: Oid) -> Result<(), Fail> {
-    if is_text(word, b"ask") {
-        return Ok(shown.push(Shown::Took(Took::Ask(oid)))?);
+/// An item that has a text.
+fn with_name(item: Item, args: &Values) -> Result<Took, Fail> {
+    let name = name_at(args)?;
+    match item {
+        Item::Call => Ok(Took::Call(name)),
+        Item::Oneway => Ok(Took::Oneway(name)),
+        _ => Ok(Took::Raised(Exc::User(name))),
     }
-    if is_text(word, b"granted") {
-        return Ok(shown.push(Shown::Took(Took::Granted(oid)))?);
-    }
-    if is_text(word, b"gone") {
-        return Ok(shown.push(Shown::Took(Took::Gone(oid)))?);
-    }
-    if is_text(word, b"left") {
-        return Ok(shown.push(Shown::Took(Took::Left(oid)))?);
-    }
-    Err(Fail::from("no such item"))
 }
 
-/// Shows that an item with a text was taken.
-fn push_named(shown: &mut Items<Shown>, word: &[u8], text: Text) -> Result<(), Fail> {
-    if is_text(word, b"call") {
-        return Ok(shown.push(Shown::Took(Took::Call(text)))?);
-    }
-    if is_text(word, b"oneway") {
-        return Ok(shown.push(Shown::Took(Took::Oneway(text)))?);
-    }
-    if is_text(word, b"raised") {
-        return Ok(shown.push(Shown::Took(Took::Raised(Exc::User(text))))?);
-    }
-    Err(Fail::from("no such item"))
-}
-
-/// Shows that the item of these arguments was taken: a word, and what it is about.
-pub(crate) fn push_took(shown: &mut Items<Shown>, args: &Values) -> Result<(), Fail> {
-    let word = text_at(args, 0)?.as_slice();
-    match args.get(1) {
-        None => push_plain(shown, word),
-        Some(Value::Obj(oid)) => push_about(shown, word, *oid),
-        Some(_) => push_named(shown, word, name_at(args)?),
+/// The item of these arguments: a word, and what it is about.
+pub(crate) fn took_of(args: &Values) -> Result<Took, Fail> {
+    let word = text_at(args, 0)?;
+    let item = call_of(&ITEMS, word.as_slice()).ok_or("no such item")?;
+    match item {
+        Item::Reply => Ok(Took::Reply),
+        Item::RootAsk => Ok(Took::RootAsk),
+        Item::RootAnswer => Ok(Took::RootAnswer),
+        Item::Settled => Ok(Took::Settled),
+        Item::End => Ok(Took::End),
+        Item::Ask | Item::Granted | Item::Gone | Item::Left => about_object(item, args),
+        Item::Call | Item::Oneway | Item::Raised => with_name(item, args),
     }
 }

@@ -1,7 +1,7 @@
 //! Calls of the reader of plans.
 
-use crate::plans::answers::{fault_value, push_count, push_text, repeated_at};
-use call_rows::{Part, count_value, no_call, text_at};
+use crate::plans::answers::{fault_value, repeated_at};
+use call_rows::{Part, count_value, list_value, no_call, text_at};
 use do_base::{Value, Values};
 use do_grammar::is_text;
 use do_plan::{Plan, PlanLine, read_plan};
@@ -14,19 +14,13 @@ pub(crate) struct PlanCalls {
     alloc: Global,
 }
 
-/// The parts of a line of a plan, at the end of a list.
-fn push_parts(answer: &mut Values, line: &PlanLine) -> Result<(), Fail> {
-    push_count(answer, u64::from(line.port.port()))?;
-    push_text(answer, &line.world)?;
-    push_text(answer, &line.starts)?;
-    push_count(answer, line.turns)
-}
-
-/// A line of a plan.
+/// A line of a plan: its port, its files and its turns.
 fn line_value(alloc: Global, line: &PlanLine) -> Result<Value, Fail> {
-    let mut answer = Values::new(alloc);
-    push_parts(&mut answer, line)?;
-    Ok(Value::List(answer))
+    let port = Value::Num(i64::from(line.port.port()));
+    let turns = Value::Num(i64::try_from(line.turns)?);
+    let world = Value::Text(line.world.clone()?);
+    let starts = Value::Text(line.starts.clone()?);
+    Ok(list_value(vec![in alloc; port, world, starts, turns]?))
 }
 
 /// The lines of a plan, at the end of a list.
@@ -51,16 +45,17 @@ impl PlanCalls {
     }
 
     /// Reads a plan, and gives its lines.
-    fn plan(&self, bytes: &[u8]) -> Result<Value, Fail> {
-        match read_plan(self.alloc, bytes) {
+    fn plan(&self, args: &Values) -> Result<Value, Fail> {
+        match read_plan(self.alloc, text_at(args, 0)?.as_slice()) {
             Ok(plan) => plan_value(self.alloc, &plan),
             Err(fault) => fault_value(self.alloc, fault),
         }
     }
 
     /// Reads a plan, and gives how many lines it has.
-    fn count_plan(&self, bytes: &[u8]) -> Result<Value, Fail> {
-        match read_plan(self.alloc, bytes) {
+    fn count_plan(&self, args: &Values) -> Result<Value, Fail> {
+        let text = repeated_at(args)?;
+        match read_plan(self.alloc, text.as_slice()) {
             Ok(plan) => count_value(plan.len()),
             Err(fault) => fault_value(self.alloc, fault),
         }
@@ -70,10 +65,10 @@ impl PlanCalls {
 impl Part for PlanCalls {
     fn call(&mut self, word: &[u8], args: &Values) -> Result<Value, Fail> {
         if is_text(word, b"plan") {
-            return self.plan(text_at(args, 0)?.as_slice());
+            return self.plan(args);
         }
         if is_text(word, b"many_nodes") {
-            return self.count_plan(repeated_at(args)?.as_slice());
+            return self.count_plan(args);
         }
         no_call()
     }

@@ -1,12 +1,34 @@
 //! Calls of the readers of schedules, and of their printer.
 
 use crate::repeated::repeated;
-use call_rows::{Part, count_value, no_call, number_at, printed, text_at};
+use call_rows::{Part, call_of, count_value, no_call, number_at, pair_value, printed, text_at};
 use do_base::{Text, Value, Values};
-use do_grammar::is_text;
 use do_sched::{Lines, SchedFault, push_line, read_schedule, upgrade};
 use std::alloc::{AllocError, Global};
 use std::test::Fail;
+
+/// What a row calls.
+#[derive(Clone, Copy)]
+enum Call {
+    Lines,
+    Again,
+    Upgrade,
+    Both,
+    Million,
+    Letters,
+    FirstLetters,
+}
+
+/// The words of the calls.
+const CALLS: [(&[u8], Call); 7] = [
+    (b"lines", Call::Lines),
+    (b"again", Call::Again),
+    (b"upgrade", Call::Upgrade),
+    (b"both", Call::Both),
+    (b"million", Call::Million),
+    (b"letters", Call::Letters),
+    (b"first_letters", Call::FirstLetters),
+];
 
 /// The readers of schedules of both versions.
 #[derive(Drop)]
@@ -69,10 +91,9 @@ impl ScheduleCalls {
 
     /// What the readers of both versions say of what stands behind the first line.
     fn both(&self, rest: &Text) -> Result<Value, Fail> {
-        let mut values = Values::new(self.alloc);
-        values.push(self.lines(&behind(self.alloc, b"schedule 2", rest)?)?)?;
-        values.push(self.upgraded(&behind(self.alloc, b"schedule 1", rest)?)?)?;
-        Ok(Value::List(values))
+        let second = self.lines(&behind(self.alloc, b"schedule 2", rest)?)?;
+        let first = self.upgraded(&behind(self.alloc, b"schedule 1", rest)?)?;
+        pair_value(self.alloc, second, first)
     }
 
     /// A thousand runs of a thousand steps, and then these lines.
@@ -83,8 +104,9 @@ impl ScheduleCalls {
     }
 
     /// A start with a text of as many letters, behind a first line.
-    fn started(&self, header: &[u8], letters: i64) -> Result<Text, Fail> {
-        let letters = vec![in self.alloc; b'a'; usize::try_from(letters)?]?;
+    fn started(&self, header: &[u8], args: &Values) -> Result<Text, Fail> {
+        let letters = usize::try_from(number_at(args, 0)?)?;
+        let letters = vec![in self.alloc; b'a'; letters]?;
         let mut text = Text::from_slice(self.alloc, header)?;
         text.push_bytes(b"\nstart 7001 go: \"")?;
         text.push_bytes(&letters)?;
@@ -92,9 +114,15 @@ impl ScheduleCalls {
         Ok(text)
     }
 
+    /// How many lines a schedule with such a start has, or its first fault, printed.
+    fn lines_started(&self, args: &Values) -> Result<Value, Fail> {
+        let text = self.started(b"schedule 2", args)?;
+        self.lines(&text)
+    }
+
     /// The fault of a schedule of the first version with such a start, printed, or nil.
-    fn first_started(&self, letters: i64) -> Result<Value, Fail> {
-        let text = self.started(b"schedule 1", letters)?;
+    fn first_started(&self, args: &Values) -> Result<Value, Fail> {
+        let text = self.started(b"schedule 1", args)?;
         match upgrade(self.alloc, text.as_slice()) {
             Ok(_upgraded) => Ok(Value::Nil),
             Err(fault) => printed(self.alloc, fault),
@@ -104,27 +132,15 @@ impl ScheduleCalls {
 
 impl Part for ScheduleCalls {
     fn call(&mut self, word: &[u8], args: &Values) -> Result<Value, Fail> {
-        if is_text(word, b"lines") {
-            return self.lines(text_at(args, 0)?);
+        match call_of(&CALLS, word) {
+            Some(Call::Lines) => self.lines(text_at(args, 0)?),
+            Some(Call::Again) => self.again(text_at(args, 0)?),
+            Some(Call::Upgrade) => self.upgraded(text_at(args, 0)?),
+            Some(Call::Both) => self.both(text_at(args, 0)?),
+            Some(Call::Million) => self.million(text_at(args, 0)?),
+            Some(Call::Letters) => self.lines_started(args),
+            Some(Call::FirstLetters) => self.first_started(args),
+            None => no_call(),
         }
-        if is_text(word, b"again") {
-            return self.again(text_at(args, 0)?);
-        }
-        if is_text(word, b"upgrade") {
-            return self.upgraded(text_at(args, 0)?);
-        }
-        if is_text(word, b"both") {
-            return self.both(text_at(args, 0)?);
-        }
-        if is_text(word, b"million") {
-            return self.million(text_at(args, 0)?);
-        }
-        if is_text(word, b"letters") {
-            return self.lines(&self.started(b"schedule 2", number_at(args, 0)?)?);
-        }
-        if is_text(word, b"first_letters") {
-            return self.first_started(number_at(args, 0)?);
-        }
-        no_call()
     }
 }

@@ -3,13 +3,45 @@
 use crate::scripts::changes::{add_handler, add_locals, add_slots, sets_of, values_of, writes_of};
 use crate::scripts::frames::{invocation, set_first, slots};
 use crate::scripts::programs::{program_of, text_around, two_classes};
-use call_rows::{Part, act_value, copy_at, count_at, list_at, local_at, no_call, word_with};
+use call_rows::{
+    Part, act_value, call_of, copy_at, count_at, list_at, local_at, no_call, word_with,
+};
 use do_base::{Value, Values};
 use do_behave::{Act, Change, Handler, Held, Invocation, Program, act_in_place, make_change};
 use do_class::ClassTable;
-use do_grammar::is_text;
 use std::alloc::Global;
 use std::test::Fail;
+
+/// What a row calls.
+#[derive(Clone, Copy)]
+enum Call {
+    Act,
+    ActAt,
+    Begin,
+    Next,
+    MakeChange,
+    SetLocal,
+    Locals,
+    Place,
+    KeepLocals,
+    SetClass,
+    SetSlots,
+}
+
+/// The words of the calls.
+const CALLS: [(&[u8], Call); 11] = [
+    (b"act", Call::Act),
+    (b"act_at", Call::ActAt),
+    (b"begin", Call::Begin),
+    (b"next", Call::Next),
+    (b"make_change", Call::MakeChange),
+    (b"set_local", Call::SetLocal),
+    (b"locals", Call::Locals),
+    (b"place", Call::Place),
+    (b"keep_locals", Call::KeepLocals),
+    (b"set_class", Call::SetClass),
+    (b"set_slots", Call::SetSlots),
+];
 
 /// An invocation of a script, the slots of its object, and the program.
 #[derive(Drop)]
@@ -38,7 +70,8 @@ fn rest_of(args: &Values) -> &[Value] {
 }
 
 /// Leaves the first `few` locals, and adds `more` behind them that hold nil.
-fn keep_locals(inv: &mut Invocation, few: u16, more: u16) -> Result<(), Fail> {
+fn keep_locals(inv: &mut Invocation, args: &Values) -> Result<(), Fail> {
+    let (few, more) = (count_at(args, 0)?, count_at(args, 1)?);
     inv.locals.truncate(usize::from(few));
     for _more in 0..more {
         inv.locals.push(Held::new(Value::Nil))?;
@@ -91,13 +124,18 @@ impl ScriptCalls {
         })
     }
 
+    /// Adds what an act changed.
+    fn push_changes(&self, changed: &mut Values, before: &Before) -> Result<(), Fail> {
+        add_locals(changed, &before.locals, &self.inv)?;
+        add_handler(changed, before.handler, self.inv.handler)?;
+        add_slots(changed, &before.slots, &self.slots)
+    }
+
     /// What an act was, and behind it what it changed.
     fn shown(&self, act: Option<Act>, before: &Before) -> Result<Value, Fail> {
-        let mut changed = Values::new(self.alloc);
-        changed.push(act_value(self.alloc, act, self.inv.pc)?)?;
-        add_locals(&mut changed, &before.locals, &self.inv)?;
-        add_handler(&mut changed, before.handler, self.inv.handler)?;
-        add_slots(&mut changed, &before.slots, &self.slots)?;
+        let act = act_value(self.alloc, act, self.inv.pc)?;
+        let mut changed = Values::from_vec(vec![in self.alloc; act]?);
+        self.push_changes(&mut changed, before)?;
         Ok(Value::List(changed))
     }
 
@@ -118,6 +156,11 @@ impl ScriptCalls {
         self.begin(text.as_slice(), pc)?;
         set_first(&mut self.inv, first, second)?;
         self.next()
+    }
+
+    /// Does the act of an instruction at the first place.
+    fn act_behind(&mut self, args: &Values) -> Result<Value, Fail> {
+        self.act_at(count_at(args, 0)?, rest_of(args))
     }
 
     /// Sets locals, takes away the handler, writes slots, and goes on at a place.
@@ -142,53 +185,48 @@ impl ScriptCalls {
         let local = local_at(args, 0)?;
         let pc = u32::from(count_at(args, 2)?);
         let was = self.inv.set_local(local, copy_at(args, 1)?, pc);
-        Ok(word_with(self.alloc, b"was", was)?)
+        word_with(self.alloc, b"was", was)
     }
 
-    /// Makes a call that sets a part of the invocation, or tells one.
-    fn set(&mut self, word: &[u8], args: &Values) -> Result<Value, Fail> {
-        if is_text(word, b"set_local") {
-            return self.set_local(args);
-        }
-        if is_text(word, b"locals") {
-            return Ok(Value::List(values_of(&self.inv)?));
-        }
-        if is_text(word, b"place") {
-            return Ok(Value::Num(i64::from(self.inv.pc)));
-        }
-        if is_text(word, b"keep_locals") {
-            keep_locals(&mut self.inv, count_at(args, 0)?, count_at(args, 1)?)?;
-            return Ok(Value::Nil);
-        }
-        if is_text(word, b"set_class") {
-            self.inv.method.class.0 = u32::from(count_at(args, 0)?);
-            return Ok(Value::Nil);
-        }
-        if is_text(word, b"set_slots") {
-            self.slots = list_at(args, 0)?.clone()?;
-            return Ok(Value::Nil);
-        }
-        no_call()
+    /// The values of the locals.
+    fn locals(&self) -> Result<Value, Fail> {
+        Ok(Value::List(values_of(&self.inv)?))
+    }
+
+    /// Leaves locals, and adds others.
+    fn keep_locals(&mut self, args: &Values) -> Result<Value, Fail> {
+        keep_locals(&mut self.inv, args)?;
+        Ok(Value::Nil)
+    }
+
+    /// Gives the method to another class.
+    fn set_class(&mut self, args: &Values) -> Result<Value, Fail> {
+        self.inv.method.class.0 = u32::from(count_at(args, 0)?);
+        Ok(Value::Nil)
+    }
+
+    /// Sets the slots of the object.
+    fn set_slots(&mut self, args: &Values) -> Result<Value, Fail> {
+        self.slots = list_at(args, 0)?.clone()?;
+        Ok(Value::Nil)
     }
 }
 
 impl Part for ScriptCalls {
     fn call(&mut self, word: &[u8], args: &Values) -> Result<Value, Fail> {
-        if is_text(word, b"act") {
-            return self.act_at(3, args.as_slice());
+        match call_of(&CALLS, word) {
+            Some(Call::Act) => self.act_at(3, args.as_slice()),
+            Some(Call::ActAt) => self.act_behind(args),
+            Some(Call::Begin) => self.begin_text(args),
+            Some(Call::Next) => self.next(),
+            Some(Call::MakeChange) => self.make_change(args),
+            Some(Call::SetLocal) => self.set_local(args),
+            Some(Call::Locals) => self.locals(),
+            Some(Call::Place) => Ok(Value::Num(i64::from(self.inv.pc))),
+            Some(Call::KeepLocals) => self.keep_locals(args),
+            Some(Call::SetClass) => self.set_class(args),
+            Some(Call::SetSlots) => self.set_slots(args),
+            None => no_call(),
         }
-        if is_text(word, b"act_at") {
-            return self.act_at(count_at(args, 0)?, rest_of(args));
-        }
-        if is_text(word, b"begin") {
-            return self.begin_text(args);
-        }
-        if is_text(word, b"next") {
-            return self.next();
-        }
-        if is_text(word, b"make_change") {
-            return self.make_change(args);
-        }
-        self.set(word, args)
     }
 }

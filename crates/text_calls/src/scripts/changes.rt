@@ -1,6 +1,6 @@
 //! What an act changed, as lists.
 
-use call_rows::{copy_at, count_at, count_value, list_from, local_at};
+use call_rows::{copy_at, count_at, count_value, local_at, word_alone, word_with_two};
 use do_base::{Value, Values, copy_value};
 use do_behave::{Handler, Invocation, LocalSet, LocalSets, Write, Writes};
 use std::alloc::{AllocError, Global};
@@ -8,10 +8,9 @@ use std::test::Fail;
 
 /// A word, a place and the value there.
 fn placed(alloc: Global, word: &[u8], at: usize, value: &Value) -> Result<Value, Fail> {
-    let mut values = list_from(alloc, word)?;
-    values.push(count_value(at)?)?;
-    values.push(copy_value(value)?)?;
-    Ok(Value::List(values))
+    let at = count_value(at)?;
+    let value = copy_value(value)?;
+    word_with_two(alloc, word, at, value)
 }
 
 /// Adds the values that are others than before, each with a word and its place.
@@ -54,22 +53,27 @@ pub(crate) fn add_locals(
     add_changed(changed, b"local", before, &values_of(after)?)
 }
 
+/// A handler as a word, its local and its place, or the word alone for none.
+fn handler_words(alloc: Global, handler: Option<Handler>) -> Result<Value, Fail> {
+    let Some(handler) = handler else {
+        return word_alone(alloc, b"handler");
+    };
+    let (into, pc) = (i64::from(handler.into), i64::from(handler.pc));
+    word_with_two(alloc, b"handler", Value::Num(into), Value::Num(pc))
+}
+
 /// Adds the handler, if it is another one than before: its local and its place, or neither for
 /// none.
 pub(crate) fn add_handler(
     changed: &mut Values,
     before: Option<Handler>,
     after: Option<Handler>,
-) -> Result<(), AllocError> {
+) -> Result<(), Fail> {
     if before == after {
         return Ok(());
     }
-    let mut values = list_from(changed.allocator(), b"handler")?;
-    if let Some(handler) = after {
-        values.push(Value::Num(i64::from(handler.into)))?;
-        values.push(Value::Num(i64::from(handler.pc)))?;
-    }
-    changed.push(Value::List(values))
+    let words = handler_words(changed.allocator(), after)?;
+    Ok(changed.push(words)?)
 }
 
 /// The locals to be set that a list of pairs names.

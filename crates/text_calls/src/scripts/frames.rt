@@ -50,10 +50,7 @@ pub(crate) fn set_first(
 }
 
 /// The slots of the object: 900, a text and nil.
-pub(crate) fn slots(alloc: Global) -> Result<Values, AllocError> {
-    let mut slots = Values::new(alloc);
-    slots.push(Value::Num(900))?;
-    slots.push(text_value(alloc, b"slot")?)?;
-    slots.push(Value::Nil)?;
-    Ok(slots)
+pub(crate) fn slots(alloc: Global) -> Result<Values, Fail> {
+    let text = text_value(alloc, b"slot")?;
+    Ok(Values::from_vec(vec![in alloc; Value::Num(900), text, Value::Nil]?))
 }

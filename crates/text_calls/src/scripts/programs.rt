@@ -27,11 +27,9 @@ fn code_of(alloc: Global, text: &[u8]) -> Result<Code, Fail> {
 
 /// A program of one method of the first class.
 pub(crate) fn program_of(alloc: Global, table: &ClassTable, text: &[u8]) -> Result<Program, Fail> {
-    let mut first = ClassCodes::new(alloc);
-    first.push(code_of(alloc, text)?)?;
-    let mut codes = Codes::new(alloc);
-    codes.push(first)?;
-    Ok(Program::new(table, codes))
+    let first = vec![in alloc; code_of(alloc, text)?]?;
+    let codes = vec![in alloc; ClassCodes::from_vec(first)]?;
+    Ok(Program::new(table, Codes::from_vec(codes)))
 }
 
 /// The text of a method with an instruction at place 3 of six; `@back` is place 1, `@on` is 5 and

@@ -1,13 +1,31 @@
 //! Calls of the reader of a command's words, and of the texts of `--help` and `--version`.
 
 use crate::repeated::repeated;
-use call_rows::{Part, count_at, count_value, no_call, printed, text_at, text_value};
+use call_rows::{Part, call_of, count_at, count_value, no_call, printed, shown, text_at};
 use do_base::{Items, Text, Texts, Value, Values};
 use do_cli::{Command, WordFault, push_help, push_version, read_words};
-use do_grammar::is_text;
 use do_native_acts::as_number;
 use std::alloc::{AllocError, Global};
 use std::test::Fail;
+
+/// What a row calls.
+#[derive(Clone, Copy)]
+enum Call {
+    Command,
+    Stuck,
+    Fault,
+    Helps,
+    Version,
+}
+
+/// The words of the calls.
+const CALLS: [(&[u8], Call); 5] = [
+    (b"command", Call::Command),
+    (b"stuck", Call::Stuck),
+    (b"fault", Call::Fault),
+    (b"helps", Call::Helps),
+    (b"version", Call::Version),
+];
 
 /// The reader of words.
 #[derive(Drop)]
@@ -27,18 +45,17 @@ fn words(alloc: Global, line: &[u8]) -> Result<Texts, AllocError> {
     Ok(words)
 }
 
-/// A command, printed.
-fn shown(alloc: Global, command: &Command) -> Result<Value, Fail> {
-    let printed = format!(in alloc; "{command:?}")?;
-    Ok(text_value(alloc, printed.as_bytes())?)
-}
-
 /// The word at which no form goes on.
 fn fault_value(fault: WordFault) -> Result<Value, Fail> {
     match fault {
         WordFault::Usage(word) => count_value(word),
         WordFault::Memory => Err(Fail::from(AllocError)),
     }
+}
+
+/// The characters of a text.
+fn str_of(text: &Text) -> Result<&str, Fail> {
+    Ok(std::str::from_utf8(text.as_slice()).ok().ok_or("no UTF-8")?)
 }
 
 impl CommandCalls {
@@ -48,7 +65,8 @@ impl CommandCalls {
     }
 
     /// The command of a line, printed, or the word at which no form goes on.
-    fn command(&self, line: &Text) -> Result<Value, Fail> {
+    fn command(&self, args: &Values) -> Result<Value, Fail> {
+        let line = text_at(args, 0)?;
         let words = words(self.alloc, line.as_slice())?;
         match read_words(words.as_slice()) {
             Ok(command) => shown(self.alloc, &command),
@@ -58,7 +76,9 @@ impl CommandCalls {
 
     /// The word of a line at which no form goes on, nil where there is none. A piece stands behind
     /// the line so many times.
-    fn stuck(&self, line: &Text, piece: &Text, count: u16) -> Result<Value, Fail> {
+    fn stuck(&self, args: &Values) -> Result<Value, Fail> {
+        let (line, piece) = (text_at(args, 0)?, text_at(args, 1)?);
+        let count = count_at(args, 2)?;
         let line = repeated(self.alloc, line.as_slice(), piece.as_slice(), count)?;
         let words = words(self.alloc, line.as_slice())?;
         match read_words(words.as_slice()) {
@@ -67,18 +87,23 @@ impl CommandCalls {
         }
     }
 
+    /// The word at which no form goes on, printed.
+    fn fault(&self, args: &Values) -> Result<Value, Fail> {
+        let at = usize::from(count_at(args, 0)?);
+        printed(self.alloc, WordFault::Usage(at))
+    }
+
     /// Whether the text of `--help` holds this one.
-    fn helps(&self, part: &Text) -> Result<Value, Fail> {
+    fn helps(&self, args: &Values) -> Result<Value, Fail> {
+        let part = str_of(text_at(args, 0)?)?;
         let mut text = Text::new(self.alloc);
         push_help(&mut text)?;
-        let help = std::str::from_utf8(text.as_slice()).ok().ok_or("no UTF-8")?;
-        let part = std::str::from_utf8(part.as_slice()).ok().ok_or("no UTF-8")?;
-        Ok(as_number(help.contains(part)))
+        Ok(as_number(str_of(&text)?.contains(part)))
     }
 
     /// A text and the version behind it.
-    fn version(&self, before: &Text) -> Result<Value, Fail> {
-        let mut text = before.clone()?;
+    fn version(&self, args: &Values) -> Result<Value, Fail> {
+        let mut text = text_at(args, 0)?.clone()?;
         push_version(&mut text)?;
         Ok(Value::Text(text))
     }
@@ -86,23 +111,13 @@ impl CommandCalls {
 
 impl Part for CommandCalls {
     fn call(&mut self, word: &[u8], args: &Values) -> Result<Value, Fail> {
-        if is_text(word, b"fault") {
-            let at = usize::from(count_at(args, 0)?);
-            return printed(self.alloc, WordFault::Usage(at));
+        match call_of(&CALLS, word) {
+            Some(Call::Command) => self.command(args),
+            Some(Call::Stuck) => self.stuck(args),
+            Some(Call::Fault) => self.fault(args),
+            Some(Call::Helps) => self.helps(args),
+            Some(Call::Version) => self.version(args),
+            None => no_call(),
         }
-        let text = text_at(args, 0)?;
-        if is_text(word, b"command") {
-            return self.command(text);
-        }
-        if is_text(word, b"stuck") {
-            return self.stuck(text, text_at(args, 1)?, count_at(args, 2)?);
-        }
-        if is_text(word, b"helps") {
-            return self.helps(text);
-        }
-        if is_text(word, b"version") {
-            return self.version(text);
-        }
-        no_call()
     }
 }

@@ -1,13 +1,40 @@
 //! Calls of what reads names, quoted texts, lines and words.
 
-use call_rows::{Part, count_at, count_value, no_call, text_at, text_value};
+use call_rows::{
+    Part, call_of, count_at, count_value, no_call, pair_value, text_at, text_value, triple_value,
+};
 use do_base::{Text, Value, Values};
 use do_grammar::{
-    colons_in, is_name, is_selector, is_text, line_of, part_of, push_quoted, quoted_of, word_of,
+    colons_in, is_name, is_selector, line_of, part_of, push_quoted, quoted_of, word_of,
 };
 use do_native_acts::as_number;
-use std::alloc::{AllocError, Global};
+use std::alloc::Global;
 use std::test::Fail;
+
+/// What a row calls.
+#[derive(Clone, Copy)]
+enum Call {
+    IsName,
+    IsSelector,
+    Colons,
+    Quote,
+    Quoted,
+    Line,
+    Word,
+    Part,
+}
+
+/// The words of the calls.
+const CALLS: [(&[u8], Call); 8] = [
+    (b"is_name", Call::IsName),
+    (b"is_selector", Call::IsSelector),
+    (b"colons", Call::Colons),
+    (b"quote", Call::Quote),
+    (b"quoted", Call::Quoted),
+    (b"line", Call::Line),
+    (b"word", Call::Word),
+    (b"part", Call::Part),
+];
 
 /// The readers of names, quoted texts, lines and words.
 #[derive(Drop)]
@@ -16,11 +43,10 @@ pub(crate) struct NameCalls {
 }
 
 /// Two pieces of a text.
-fn pieces(alloc: Global, first: &[u8], rest: &[u8]) -> Result<Values, AllocError> {
-    let mut values = Values::new(alloc);
-    values.push(text_value(alloc, first)?)?;
-    values.push(text_value(alloc, rest)?)?;
-    Ok(values)
+fn pieces(alloc: Global, first: &[u8], rest: &[u8]) -> Result<Value, Fail> {
+    let first = text_value(alloc, first)?;
+    let rest = text_value(alloc, rest)?;
+    pair_value(alloc, first, rest)
 }
 
 impl NameCalls {
@@ -29,33 +55,36 @@ impl NameCalls {
         NameCalls { alloc }
     }
 
+    /// A text in quotes.
+    fn quote(&self, text: &Text) -> Result<Value, Fail> {
+        let mut out = Text::new(self.alloc);
+        push_quoted(&mut out, text.as_slice())?;
+        Ok(Value::Text(out))
+    }
+
     /// The text in quotes of at most as many bytes, and what stands behind it.
-    fn quoted(&self, text: &Text, limit: usize) -> Result<Value, Fail> {
+    fn quoted(&self, text: &Text, args: &Values) -> Result<Value, Fail> {
+        let limit = usize::from(count_at(args, 1)?);
         match quoted_of(self.alloc, text.as_slice(), limit)? {
-            Some((found, rest)) => {
-                let values = pieces(self.alloc, found.as_slice(), rest)?;
-                Ok(Value::List(values))
-            }
+            Some((found, rest)) => pieces(self.alloc, found.as_slice(), rest),
             None => Ok(Value::Nil),
         }
     }
 
     /// The first line, what stands behind it, and whether it has its line feed.
     fn line(&self, text: &Text) -> Result<Value, Fail> {
-        match line_of(text.as_slice()) {
-            Some((line, fed, rest)) => {
-                let mut values = pieces(self.alloc, line, rest)?;
-                values.push(as_number(fed))?;
-                Ok(Value::List(values))
-            }
-            None => Ok(Value::Nil),
-        }
+        let Some((line, fed, rest)) = line_of(text.as_slice()) else {
+            return Ok(Value::Nil);
+        };
+        let line = text_value(self.alloc, line)?;
+        let rest = text_value(self.alloc, rest)?;
+        triple_value(self.alloc, line, rest, as_number(fed))
     }
 
     /// The first word, and what stands behind the space after it.
     fn word(&self, text: &Text) -> Result<Value, Fail> {
         match word_of(text.as_slice(), b' ') {
-            Some((word, rest)) => Ok(Value::List(pieces(self.alloc, word, rest)?)),
+            Some((word, rest)) => pieces(self.alloc, word, rest),
             None => Ok(Value::Nil),
         }
     }
@@ -63,39 +92,23 @@ impl NameCalls {
     /// What stands before the first space, and from it on.
     fn part(&self, text: &Text) -> Result<Value, Fail> {
         let (word, rest) = part_of(text.as_slice(), b' ');
-        Ok(Value::List(pieces(self.alloc, word, rest)?))
+        pieces(self.alloc, word, rest)
     }
 }
 
 impl Part for NameCalls {
     fn call(&mut self, word: &[u8], args: &Values) -> Result<Value, Fail> {
         let text = text_at(args, 0)?;
-        if is_text(word, b"is_name") {
-            return Ok(as_number(is_name(text.as_slice())));
+        match call_of(&CALLS, word) {
+            Some(Call::IsName) => Ok(as_number(is_name(text.as_slice()))),
+            Some(Call::IsSelector) => Ok(as_number(is_selector(text.as_slice()))),
+            Some(Call::Colons) => count_value(colons_in(text.as_slice())),
+            Some(Call::Quote) => self.quote(text),
+            Some(Call::Quoted) => self.quoted(text, args),
+            Some(Call::Line) => self.line(text),
+            Some(Call::Word) => self.word(text),
+            Some(Call::Part) => self.part(text),
+            None => no_call(),
         }
-        if is_text(word, b"is_selector") {
-            return Ok(as_number(is_selector(text.as_slice())));
-        }
-        if is_text(word, b"colons") {
-            return count_value(colons_in(text.as_slice()));
-        }
-        if is_text(word, b"quote") {
-            let mut out = Text::new(self.alloc);
-            push_quoted(&mut out, text.as_slice())?;
-            return Ok(Value::Text(out));
-        }
-        if is_text(word, b"quoted") {
-            return self.quoted(text, usize::from(count_at(args, 1)?));
-        }
-        if is_text(word, b"line") {
-            return self.line(text);
-        }
-        if is_text(word, b"word") {
-            return self.word(text);
-        }
-        if is_text(word, b"part") {
-            return self.part(text);
-        }
-        no_call()
     }
 }

@@ -1,15 +1,56 @@
 //! Calls of what reads and prints numbers, in digits and as bytes.
 
+ghost use Rattle.std.specs.Prelude.{◌≤◌};
+ghost use Rattle.do_grammar.specs.BesideHoles.{next_beside};
+
 use call_rows::{
-    Part, count_value, list_from, no_call, number_at, number_or_nil, printed, text_at,
+    Part, call_of, count_value, no_call, number_at, number_or_nil, pair_value, printed, text_at,
+    word_alone, word_with,
 };
 use do_base::{Text, Value, Values};
 use do_grammar::{
-    CodeFault, ReadFault, dec_of, int_of, is_text, num_beside_of, num_of, push_dec, push_int,
-    push_num, push_signed, push_text, signed_of, text_of,
+    CodeFault, ReadFault, dec_of, int_of, num_beside_of, num_of, push_dec, push_int, push_num,
+    push_signed, push_text, signed_of, text_of,
 };
 use std::alloc::{AllocError, Global};
 use std::test::Fail;
+
+/// What a row calls.
+#[derive(Clone, Copy)]
+enum Call {
+    Int,
+    Dec,
+    Num,
+    NumBeside5,
+    NumBeside256,
+    NumBeside256And257,
+    Signed,
+    Text,
+    PrintInt,
+    PrintNum,
+    PrintSigned,
+    PrintText,
+    PrintBad,
+    PrintShort,
+}
+
+/// The words of the calls.
+const CALLS: [(&[u8], Call); 14] = [
+    (b"int", Call::Int),
+    (b"dec", Call::Dec),
+    (b"num", Call::Num),
+    (b"but_5", Call::NumBeside5),
+    (b"but_256", Call::NumBeside256),
+    (b"but_256_257", Call::NumBeside256And257),
+    (b"signed", Call::Signed),
+    (b"text", Call::Text),
+    (b"print_int", Call::PrintInt),
+    (b"print_num", Call::PrintNum),
+    (b"print_signed", Call::PrintSigned),
+    (b"print_text", Call::PrintText),
+    (b"print_bad", Call::PrintBad),
+    (b"print_short", Call::PrintShort),
+];
 
 /// The readers and printers of numbers.
 #[derive(Drop)]
@@ -31,35 +72,20 @@ fn digits_at(args: &Values, at: usize) -> Result<u64, Fail> {
 
 /// What was read, and how many bytes are left behind it.
 fn found(alloc: Global, value: Value, left: usize) -> Result<Value, Fail> {
-    let mut values = Values::new(alloc);
-    values.push(value)?;
-    values.push(count_value(left)?)?;
-    Ok(Value::List(values))
+    let left = count_value(left)?;
+    pair_value(alloc, value, left)
 }
 
 /// Why the bytes were not read: `bad` with the place of the first byte at fault, or `short`.
 fn refused(alloc: Global, fault: ReadFault, len: usize) -> Result<Value, Fail> {
     match fault {
         ReadFault::Bad(left) => {
-            let mut values = list_from(alloc, b"bad")?;
-            values.push(count_value(len.checked_sub(left).ok_or("no place")?)?)?;
-            Ok(Value::List(values))
+            let place = count_value(len.checked_sub(left).ok_or("no place")?)?;
+            word_with(alloc, b"bad", place)
         }
-        ReadFault::Short => Ok(Value::List(list_from(alloc, b"short")?)),
+        ReadFault::Short => word_alone(alloc, b"short"),
         ReadFault::Memory => Err(Fail::from(AllocError)),
     }
-}
-
-/// Adds what the word says, and tells whether it says what.
-fn push_printed(out: &mut Text, word: &[u8], args: &Values) -> Result<bool, Fail> {
-    match word {
-        b"print_int" => push_int(out, number_at(args, 0)?)?,
-        b"print_num" => push_num(out, digits_at(args, 0)?)?,
-        b"print_signed" => push_signed(out, number_at(args, 0)?)?,
-        b"print_text" => push_text(out, text_at(args, 0)?.as_slice())?,
-        _ => return Ok(false),
-    }
-    Ok(true)
 }
 
 /// A number that was read from bytes.
@@ -74,33 +100,48 @@ fn number_found(
     }
 }
 
+/// A number in digits with its sign, or nil.
+fn int(args: &Values) -> Result<Value, Fail> {
+    Ok(number_or_nil(int_of(text_at(args, 0)?.as_slice())))
+}
+
 impl NumberCalls {
     /// Calls that take memory here.
     pub(crate) fn new(alloc: Global) -> NumberCalls {
         NumberCalls { alloc }
     }
 
+    /// Reads a number in digits, between two bounds.
+    fn dec(&self, args: &Values) -> Result<Value, Fail> {
+        let text = text_at(args, 0)?;
+        match dec_of(text.as_slice(), digits_at(args, 1)?, digits_at(args, 2)?) {
+            Some(n) => Ok(digits(self.alloc, n)?),
+            None => Ok(Value::Nil),
+        }
+    }
+
     /// Reads a number between two bounds as bytes.
-    fn num(&self, bytes: &Text, low: u64, high: u64) -> Result<Value, Fail> {
+    fn num(&self, args: &Values) -> Result<Value, Fail> {
+        let bytes = text_at(args, 0)?;
+        let (low, high) = (digits_at(args, 1)?, digits_at(args, 2)?);
         if low > high {
             return Err(Fail::from("no bounds"));
         }
         number_found(self.alloc, bytes, num_of(bytes.as_slice(), low, high))
     }
 
-    /// Reads a number from 0 to 257 but for those that the word names.
-    fn beside(&self, word: &[u8], bytes: &Text) -> Result<Value, Fail> {
-        let read = match word {
-            b"but_5" => num_beside_of(bytes.as_slice(), 0, 257, &[5]),
-            b"but_256" => num_beside_of(bytes.as_slice(), 0, 257, &[256]),
-            b"but_256_257" => num_beside_of(bytes.as_slice(), 0, 257, &[256, 257]),
-            _ => return no_call(),
-        };
+    /// Reads a number from 0 to 257 but for these.
+    fn num_beside(&self, args: &Values, holes: &[u64]) -> Result<Value, Fail>
+        requires { next_beside holes.now 0 ≤ 257 }
+    {
+        let bytes = text_at(args, 0)?;
+        let read = num_beside_of(bytes.as_slice(), 0, 257, holes);
         number_found(self.alloc, bytes, read)
     }
 
     /// Reads a number with a sign as bytes.
-    fn signed(&self, bytes: &Text) -> Result<Value, Fail> {
+    fn signed(&self, args: &Values) -> Result<Value, Fail> {
+        let bytes = text_at(args, 0)?;
         match signed_of(bytes.as_slice()) {
             Ok((n, rest)) => found(self.alloc, Value::Num(n), rest.len()),
             Err(fault) => refused(self.alloc, fault, bytes.len()),
@@ -108,52 +149,65 @@ impl NumberCalls {
     }
 
     /// Reads a text of at most two bytes behind its length.
-    fn text(&self, bytes: &Text) -> Result<Value, Fail> {
+    fn text(&self, args: &Values) -> Result<Value, Fail> {
+        let bytes = text_at(args, 0)?;
         match text_of(self.alloc, bytes.as_slice(), 2) {
             Ok((text, rest)) => found(self.alloc, Value::Text(text), rest.len()),
             Err(fault) => refused(self.alloc, fault, bytes.len()),
         }
     }
 
-    /// Prints what the word says.
-    fn print(&self, word: &[u8], args: &Values) -> Result<Value, Fail> {
+    /// Prints a number in digits, with its sign.
+    fn print_int(&self, args: &Values) -> Result<Value, Fail> {
+        let n = number_at(args, 0)?;
         let mut out = Text::new(self.alloc);
-        if push_printed(&mut out, word, args)? {
-            return Ok(Value::Text(out));
-        }
-        match word {
-            b"print_bad" => printed(self.alloc, CodeFault::Bad(3)),
-            b"print_short" => printed(self.alloc, ReadFault::Short),
-            _ => self.beside(word, text_at(args, 0)?),
-        }
+        push_int(&mut out, n)?;
+        Ok(Value::Text(out))
+    }
+
+    /// Prints a number without a sign as bytes.
+    fn print_num(&self, args: &Values) -> Result<Value, Fail> {
+        let n = digits_at(args, 0)?;
+        let mut out = Text::new(self.alloc);
+        push_num(&mut out, n)?;
+        Ok(Value::Text(out))
+    }
+
+    /// Prints a number with a sign as bytes.
+    fn print_signed(&self, args: &Values) -> Result<Value, Fail> {
+        let n = number_at(args, 0)?;
+        let mut out = Text::new(self.alloc);
+        push_signed(&mut out, n)?;
+        Ok(Value::Text(out))
+    }
+
+    /// Prints a text as bytes, behind its length.
+    fn print_text(&self, args: &Values) -> Result<Value, Fail> {
+        let text = text_at(args, 0)?;
+        let mut out = Text::new(self.alloc);
+        push_text(&mut out, text.as_slice())?;
+        Ok(Value::Text(out))
     }
 }
 
 impl Part for NumberCalls {
     fn call(&mut self, word: &[u8], args: &Values) -> Result<Value, Fail> {
-        if is_text(word, b"int") {
-            return Ok(number_or_nil(int_of(text_at(args, 0)?.as_slice())));
+        match call_of(&CALLS, word) {
+            Some(Call::Int) => int(args),
+            Some(Call::Dec) => self.dec(args),
+            Some(Call::Num) => self.num(args),
+            Some(Call::NumBeside5) => self.num_beside(args, &[5]),
+            Some(Call::NumBeside256) => self.num_beside(args, &[256]),
+            Some(Call::NumBeside256And257) => self.num_beside(args, &[256, 257]),
+            Some(Call::Signed) => self.signed(args),
+            Some(Call::Text) => self.text(args),
+            Some(Call::PrintInt) => self.print_int(args),
+            Some(Call::PrintNum) => self.print_num(args),
+            Some(Call::PrintSigned) => self.print_signed(args),
+            Some(Call::PrintText) => self.print_text(args),
+            Some(Call::PrintBad) => printed(self.alloc, CodeFault::Bad(3)),
+            Some(Call::PrintShort) => printed(self.alloc, ReadFault::Short),
+            None => no_call(),
         }
-        if is_text(word, b"dec") {
-            let read = dec_of(
-                text_at(args, 0)?.as_slice(),
-                digits_at(args, 1)?,
-                digits_at(args, 2)?,
-            );
-            return match read {
-                Some(n) => Ok(digits(self.alloc, n)?),
-                None => Ok(Value::Nil),
-            };
-        }
-        if is_text(word, b"num") {
-            return self.num(text_at(args, 0)?, digits_at(args, 1)?, digits_at(args, 2)?);
-        }
-        if is_text(word, b"signed") {
-            return self.signed(text_at(args, 0)?);
-        }
-        if is_text(word, b"text") {
-            return self.text(text_at(args, 0)?);
-        }
-        self.print(word, args)
     }
 }

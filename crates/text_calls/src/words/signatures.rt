@@ -1,12 +1,41 @@
 //! Calls of type encodings and signatures.
 
-use call_rows::{Part, count_at, count_value, list_at, no_call, printed, text_at, value_at};
-use do_base::{Text, Value, Values};
-use do_grammar::is_text;
+use call_rows::{
+    Part, call_of, count_at, count_value, list_at, no_call, printed, text_at, triple_value,
+    value_at,
+};
+use do_base::{Value, Values};
 use do_native_acts::as_number;
 use do_sig::{EncFault, Encoding, Scalar, Signature};
 use std::alloc::Global;
 use std::test::Fail;
+
+/// What a row calls.
+#[derive(Clone, Copy)]
+enum Call {
+    Encoding,
+    Signature,
+    ResultFits,
+    Simple,
+    Args,
+    Passing,
+    Result,
+    ArgsFit,
+    InputsFit,
+}
+
+/// The words of the calls.
+const CALLS: [(&[u8], Call); 9] = [
+    (b"encoding", Call::Encoding),
+    (b"signature", Call::Signature),
+    (b"result_fits", Call::ResultFits),
+    (b"simple", Call::Simple),
+    (b"args", Call::Args),
+    (b"passing", Call::Passing),
+    (b"result", Call::Result),
+    (b"args_fit", Call::ArgsFit),
+    (b"inputs_fit", Call::InputsFit),
+];
 
 /// The readers of encodings and signatures, and what a signature tells.
 #[derive(Drop)]
@@ -16,11 +45,8 @@ pub(crate) struct SignatureCalls {
 
 /// Three truth values as numbers.
 fn flags(alloc: Global, first: bool, second: bool, third: bool) -> Result<Value, Fail> {
-    let mut values = Values::new(alloc);
-    values.push(as_number(first))?;
-    values.push(as_number(second))?;
-    values.push(as_number(third))?;
-    Ok(Value::List(values))
+    let (first, second, third) = (as_number(first), as_number(second), as_number(third));
+    triple_value(alloc, first, second, third)
 }
 
 impl SignatureCalls {
@@ -35,7 +61,8 @@ impl SignatureCalls {
     }
 
     /// An encoding printed again, or why there is none, printed.
-    fn encoding(&self, text: &Text) -> Result<Value, Fail> {
+    fn encoding(&self, args: &Values) -> Result<Value, Fail> {
+        let text = text_at(args, 0)?;
         match Encoding::read(self.alloc, text.as_slice()) {
             Ok(encoding) => Ok(Value::Text(encoding.print(self.alloc)?)),
             Err(fault) => printed(self.alloc, fault),
@@ -43,7 +70,8 @@ impl SignatureCalls {
     }
 
     /// A signature printed again, or why there is none, printed.
-    fn printed_again(&self, text: &Text) -> Result<Value, Fail> {
+    fn printed_again(&self, args: &Values) -> Result<Value, Fail> {
+        let text = text_at(args, 0)?;
         match Signature::read(self.alloc, text.as_slice()) {
             Ok(signature) => Ok(Value::Text(signature.print(self.alloc)?)),
             Err(fault) => printed(self.alloc, fault),
@@ -112,42 +140,21 @@ impl SignatureCalls {
         let values = list_at(args, 1)?;
         Ok(as_number(self.signature(args)?.inputs_fit(values)))
     }
-
-    /// Makes a call of a signature.
-    fn of_signature(&self, word: &[u8], args: &Values) -> Result<Value, Fail> {
-        if is_text(word, b"args") {
-            return self.count(args);
-        }
-        if is_text(word, b"passing") {
-            return self.passing(args);
-        }
-        if is_text(word, b"result") {
-            return self.result(args);
-        }
-        if is_text(word, b"args_fit") {
-            return self.args_fit(args);
-        }
-        if is_text(word, b"inputs_fit") {
-            return self.inputs_fit(args);
-        }
-        no_call()
-    }
 }
 
 impl Part for SignatureCalls {
     fn call(&mut self, word: &[u8], args: &Values) -> Result<Value, Fail> {
-        if is_text(word, b"encoding") {
-            return self.encoding(text_at(args, 0)?);
+        match call_of(&CALLS, word) {
+            Some(Call::Encoding) => self.encoding(args),
+            Some(Call::Signature) => self.printed_again(args),
+            Some(Call::ResultFits) => self.result_fits(args),
+            Some(Call::Simple) => self.simple(),
+            Some(Call::Args) => self.count(args),
+            Some(Call::Passing) => self.passing(args),
+            Some(Call::Result) => self.result(args),
+            Some(Call::ArgsFit) => self.args_fit(args),
+            Some(Call::InputsFit) => self.inputs_fit(args),
+            None => no_call(),
         }
-        if is_text(word, b"signature") {
-            return self.printed_again(text_at(args, 0)?);
-        }
-        if is_text(word, b"result_fits") {
-            return self.result_fits(args);
-        }
-        if is_text(word, b"simple") {
-            return self.simple();
-        }
-        self.of_signature(word, args)
     }
 }

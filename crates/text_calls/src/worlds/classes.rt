@@ -3,15 +3,50 @@
 ghost use Rattle.std.specs.Prelude.{IsSome};
 ghost use Rattle.do_class.specs.Table.{method_at};
 
-use call_rows::{count_at, count_value, no_call, number_or_nil, text_at, text_value, word_with};
+use call_rows::{
+    call_of, count_at, count_value, no_call, number_or_nil, shown, text_at, text_value,
+    triple_value, word_with,
+};
 use do_base::{Value, Values};
 use do_check::{Verdict, verdict};
 use do_class::{ClassId, ClassTable, MethodId};
 use do_document::Classes;
-use do_grammar::is_text;
 use do_native_acts::as_number;
 use std::alloc::Global;
 use std::test::Fail;
+
+/// What is listed of classes.
+#[derive(Clone, Copy)]
+enum Listed {
+    Names,
+    Kinds,
+    SlotCounts,
+    RuleCounts,
+    Slots,
+}
+
+/// What is told of classes.
+#[derive(Clone, Copy)]
+enum Call {
+    List(Listed),
+    HasMethod,
+    Find,
+    Verdict,
+    Named,
+}
+
+/// The words of the calls.
+const CALLS: [(&[u8], Call); 9] = [
+    (b"names", Call::List(Listed::Names)),
+    (b"kinds", Call::List(Listed::Kinds)),
+    (b"slot_counts", Call::List(Listed::SlotCounts)),
+    (b"rule_counts", Call::List(Listed::RuleCounts)),
+    (b"slots", Call::List(Listed::Slots)),
+    (b"has_method", Call::HasMethod),
+    (b"find", Call::Find),
+    (b"verdict", Call::Verdict),
+    (b"named", Call::Named),
+];
 
 /// Adds the names of the classes, in order.
 fn push_names(values: &mut Values, classes: &Classes) -> Result<(), Fail> {
@@ -25,8 +60,7 @@ fn push_names(values: &mut Values, classes: &Classes) -> Result<(), Fail> {
 fn push_kinds(values: &mut Values, classes: &Classes) -> Result<(), Fail> {
     let alloc = values.allocator();
     for kind in classes.kinds.as_slice() {
-        let printed = format!(in alloc; "{kind:?}")?;
-        values.push(text_value(alloc, printed.as_bytes())?)?;
+        values.push(shown(alloc, kind)?)?;
     }
     Ok(())
 }
@@ -60,27 +94,27 @@ fn push_slots(values: &mut Values, classes: &Classes, args: &Values) -> Result<(
     Ok(())
 }
 
-/// Adds the list that a word names, and tells whether it names one.
+/// Adds what is listed of classes.
 fn push_list(
     values: &mut Values,
     classes: &Classes,
-    word: &[u8],
+    listed: Listed,
     args: &Values,
-) -> Result<bool, Fail> {
-    if is_text(word, b"names") {
-        push_names(values, classes)?;
-    } else if is_text(word, b"kinds") {
-        push_kinds(values, classes)?;
-    } else if is_text(word, b"slot_counts") {
-        push_slot_counts(values, classes)?;
-    } else if is_text(word, b"rule_counts") {
-        push_rule_counts(values, classes)?;
-    } else if is_text(word, b"slots") {
-        push_slots(values, classes, args)?;
-    } else {
-        return Ok(false);
+) -> Result<(), Fail> {
+    match listed {
+        Listed::Names => push_names(values, classes),
+        Listed::Kinds => push_kinds(values, classes),
+        Listed::SlotCounts => push_slot_counts(values, classes),
+        Listed::RuleCounts => push_rule_counts(values, classes),
+        Listed::Slots => push_slots(values, classes, args),
     }
-    Ok(true)
+}
+
+/// What is listed of classes.
+fn list_of(alloc: Global, classes: &Classes, listed: Listed, args: &Values) -> Result<Value, Fail> {
+    let mut values = Values::new(alloc);
+    push_list(&mut values, classes, listed, args)?;
+    Ok(Value::List(values))
 }
 
 /// Whether a class has a method.
@@ -97,11 +131,10 @@ fn has_method(classes: &Classes, args: &Values) -> Result<Value, Fail> {
 fn method_value(alloc: Global, table: &ClassTable, method: MethodId) -> Result<Value, Fail>
     requires { IsSome (method_at table.now method) }
 {
-    let mut values = Values::new(alloc);
-    values.push(Value::Num(i64::from(method.index)))?;
-    values.push(Value::Text(table.selector(method).clone()?))?;
-    values.push(count_value(table.signature(method).args())?)?;
-    Ok(Value::List(values))
+    let index = Value::Num(i64::from(method.index));
+    let count = count_value(table.signature(method).args())?;
+    let selector = Value::Text(table.selector(method).clone()?);
+    triple_value(alloc, index, selector, count)
 }
 
 /// The method of a class that has a selector, or nil.
@@ -121,28 +154,16 @@ fn class_verdict(alloc: Global, classes: &Classes, args: &Values) -> Result<Valu
     let class = usize::from(count_at(args, 0)?);
     let rules = classes.rules.get(class).ok_or("no class")?;
     match verdict(rules, text_at(args, 1)?)? {
-        Some(Verdict::Forward) => Ok(text_value(alloc, b"forward")?),
-        Some(Verdict::Deny(text)) => Ok(word_with(alloc, b"deny", Value::Text(text))?),
+        Some(Verdict::Forward) => text_value(alloc, b"forward"),
+        Some(Verdict::Deny(text)) => word_with(alloc, b"deny", Value::Text(text)),
         None => Ok(Value::Nil),
     }
 }
 
-/// Tells one thing of a class.
-fn tell_one(alloc: Global, classes: &Classes, word: &[u8], args: &Values) -> Result<Value, Fail> {
-    if is_text(word, b"has_method") {
-        return has_method(classes, args);
-    }
-    if is_text(word, b"find") {
-        return find(alloc, &classes.table, args);
-    }
-    if is_text(word, b"verdict") {
-        return class_verdict(alloc, classes, args);
-    }
-    if is_text(word, b"named") {
-        let found = classes.table.class_named(text_at(args, 0)?);
-        return Ok(number_or_nil(found.map(|class| i64::from(class.0))));
-    }
-    no_call()
+/// The number of the class of a name, or nil.
+fn class_named(classes: &Classes, args: &Values) -> Result<Value, Fail> {
+    let found = classes.table.class_named(text_at(args, 0)?);
+    Ok(number_or_nil(found.map(|class| i64::from(class.0))))
 }
 
 /// Tells what classes have.
@@ -152,9 +173,12 @@ pub(crate) fn tell(
     word: &[u8],
     args: &Values,
 ) -> Result<Value, Fail> {
-    let mut values = Values::new(alloc);
-    if push_list(&mut values, classes, word, args)? {
-        return Ok(Value::List(values));
+    match call_of(&CALLS, word) {
+        Some(Call::List(listed)) => list_of(alloc, classes, listed, args),
+        Some(Call::HasMethod) => has_method(classes, args),
+        Some(Call::Find) => find(alloc, &classes.table, args),
+        Some(Call::Verdict) => class_verdict(alloc, classes, args),
+        Some(Call::Named) => class_named(classes, args),
+        None => no_call(),
     }
-    tell_one(alloc, classes, word, args)
 }

@@ -4,7 +4,7 @@ use crate::worlds::classes::tell;
 use crate::worlds::faults::{fault_value, outcome};
 use crate::worlds::places::{fault_at, key_of, path};
 use crate::worlds::texts::framed;
-use call_rows::{Part, count_at, count_value, text_at, text_value};
+use call_rows::{Part, call_of, count_at, count_value, text_at, text_value};
 use do_base::{Text, Value, Values};
 use do_class::ClassTable;
 use do_class_kinds::{Kinds, RuleTable};
@@ -17,6 +17,35 @@ use do_native_acts::as_number;
 use std::alloc::Global;
 use std::test::Fail;
 use toml::Table;
+
+/// What a row calls.
+#[derive(Clone, Copy)]
+enum Call {
+    Around,
+    Classes,
+    Document,
+    KnownKeys,
+    CheckList,
+    Has,
+    Text,
+    CountTables,
+    Path,
+    FaultAt,
+}
+
+/// The words of the calls.
+const CALLS: [(&[u8], Call); 10] = [
+    (b"around", Call::Around),
+    (b"classes", Call::Classes),
+    (b"document", Call::Document),
+    (b"known_keys", Call::KnownKeys),
+    (b"check_list", Call::CheckList),
+    (b"has", Call::Has),
+    (b"text", Call::Text),
+    (b"count_tables", Call::CountTables),
+    (b"path", Call::Path),
+    (b"fault_at", Call::FaultAt),
+];
 
 /// The last document, the last classes that were read, and what stands around texts.
 #[derive(Drop)]
@@ -85,17 +114,36 @@ impl DocumentCalls {
         match read {
             Ok(classes) => {
                 self.classes = classes;
-                Ok(text_value(self.alloc, b"read")?)
+                text_value(self.alloc, b"read")
             }
             Err(fault) => fault_value(self.alloc, &fault),
         }
     }
 
-    /// Reads the classes of a text, and keeps them.
-    fn classes(&mut self, text: &Text) -> Result<Value, Fail> {
-        let document = document(self.alloc, text)?;
-        let read = read_classes(self.alloc, &document);
+    /// Reads the classes of the text of these pieces.
+    fn classes_in(&self, pieces: &Values) -> Result<Result<Classes, WorldFault>, Fail> {
+        let text = self.framed(pieces)?;
+        let document = document(self.alloc, &text)?;
+        Ok(read_classes(self.alloc, &document))
+    }
+
+    /// Reads the classes of the text of these pieces, and keeps them.
+    fn classes(&mut self, pieces: &Values) -> Result<Value, Fail> {
+        let read = self.classes_in(pieces)?;
         self.keep_classes(read)
+    }
+
+    /// Reads the document of the text of these pieces.
+    fn document(&mut self, pieces: &Values) -> Result<Value, Fail> {
+        let text = self.framed(pieces)?;
+        self.document = document(self.alloc, &text)?;
+        Ok(Value::Nil)
+    }
+
+    /// Keeps what stands around texts.
+    fn set_frame(&mut self, pieces: &Values) -> Result<Value, Fail> {
+        self.frame = pieces.clone()?;
+        Ok(Value::Nil)
     }
 
     /// Whether all keys of the document are among these.
@@ -126,58 +174,42 @@ impl DocumentCalls {
         outcome(self.alloc, b"checked", found)
     }
 
-    /// Tells of a place, or what classes have.
-    fn tell(&self, word: &[u8], args: &Values) -> Result<Value, Fail> {
-        if is_text(word, b"path") {
-            return path(self.alloc, args);
-        }
-        if is_text(word, b"fault_at") {
-            return fault_at(self.alloc, args);
-        }
-        tell(self.alloc, &self.classes, word, args)
+    /// Whether the document has a key.
+    fn has(&self, args: &Values) -> Result<Value, Fail> {
+        let key = key_of(text_at(args, 0)?)?;
+        Ok(as_number(value_at(&self.document, key).is_some()))
     }
 
-    /// Tells what stands at a key of the document.
-    fn look(&self, word: &[u8], args: &Values) -> Result<Value, Fail> {
-        if is_text(word, b"has") {
-            let key = key_of(text_at(args, 0)?)?;
-            return Ok(as_number(value_at(&self.document, key).is_some()));
+    /// The text at a key of the document, or the fault.
+    fn text(&self, args: &Values) -> Result<Value, Fail> {
+        let key = key_of(text_at(args, 0)?)?;
+        match text_there(self.alloc, &self.document, key) {
+            Ok(text) => Ok(Value::Text(text)),
+            Err(fault) => fault_value(self.alloc, &fault),
         }
-        if is_text(word, b"text") {
-            let key = key_of(text_at(args, 0)?)?;
-            return match text_there(self.alloc, &self.document, key) {
-                Ok(text) => Ok(Value::Text(text)),
-                Err(fault) => fault_value(self.alloc, &fault),
-            };
-        }
-        if is_text(word, b"count_tables") {
-            let key = key_of(text_at(args, 0)?)?;
-            return count_value(tables_at(self.alloc, &self.document, key)?.len());
-        }
-        self.tell(word, args)
+    }
+
+    /// How many tables stand at a key of the document.
+    fn count_tables(&self, args: &Values) -> Result<Value, Fail> {
+        let key = key_of(text_at(args, 0)?)?;
+        count_value(tables_at(self.alloc, &self.document, key)?.len())
     }
 }
 
 impl Part for DocumentCalls {
     fn call(&mut self, word: &[u8], args: &Values) -> Result<Value, Fail> {
-        if is_text(word, b"around") {
-            self.frame = args.clone()?;
-            return Ok(Value::Nil);
+        match call_of(&CALLS, word) {
+            Some(Call::Around) => self.set_frame(args),
+            Some(Call::Classes) => self.classes(args),
+            Some(Call::Document) => self.document(args),
+            Some(Call::KnownKeys) => self.known_keys(args),
+            Some(Call::CheckList) => self.check_list(args),
+            Some(Call::Has) => self.has(args),
+            Some(Call::Text) => self.text(args),
+            Some(Call::CountTables) => self.count_tables(args),
+            Some(Call::Path) => path(self.alloc, args),
+            Some(Call::FaultAt) => fault_at(self.alloc, args),
+            None => tell(self.alloc, &self.classes, word, args),
         }
-        if is_text(word, b"classes") {
-            let text = self.framed(args)?;
-            return self.classes(&text);
-        }
-        if is_text(word, b"document") {
-            self.document = document(self.alloc, &self.framed(args)?)?;
-            return Ok(Value::Nil);
-        }
-        if is_text(word, b"known_keys") {
-            return self.known_keys(args);
-        }
-        if is_text(word, b"check_list") {
-            return self.check_list(args);
-        }
-        self.look(word, args)
     }
 }

@@ -9,7 +9,7 @@ use std::test::Fail;
 /// A fault as it is printed.
 pub(crate) fn fault_value(alloc: Global, fault: &WorldFault) -> Result<Value, Fail> {
     let printed = format!(in alloc; "{fault}")?;
-    Ok(text_value(alloc, printed.as_bytes())?)
+    text_value(alloc, printed.as_bytes())
 }
 
 /// A word where there is no fault, or the fault as it is printed.
@@ -19,7 +19,7 @@ pub(crate) fn outcome(
     found: Result<(), WorldFault>,
 ) -> Result<Value, Fail> {
     match found {
-        Ok(()) => Ok(text_value(alloc, word)?),
+        Ok(()) => text_value(alloc, word),
         Err(fault) => fault_value(alloc, &fault),
     }
 }

@@ -1,42 +1,55 @@
 //! Places of documents as rows write them.
 
 use crate::worlds::faults::fault_value;
-use call_rows::{count_at, list_at, text_at};
+use call_rows::{call_of, count_at, list_at, text_at};
 use do_base::{Text, Value, Values};
 use do_document::{Place, WorldFault};
 use do_grammar::is_text;
 use std::alloc::Global;
 use std::test::Fail;
 
-/// The place of a word and one number or two.
-fn place_in_class(word: &[u8], parts: &Values) -> Result<Place, Fail> {
-    let class = usize::from(count_at(parts, 1)?);
-    let member = usize::from(count_at(parts, 2)?);
-    if is_text(word, b"method") {
-        return Ok(Place::Method(class, member));
+/// A place of a document.
+#[derive(Clone, Copy)]
+enum Kind {
+    Top,
+    Class,
+    Node,
+    Method,
+    Allow,
+    Deny,
+}
+
+/// The words of the places.
+const PLACES: [(&[u8], Kind); 6] = [
+    (b"top", Kind::Top),
+    (b"class", Kind::Class),
+    (b"node", Kind::Node),
+    (b"method", Kind::Method),
+    (b"allow", Kind::Allow),
+    (b"deny", Kind::Deny),
+];
+
+/// The number at a place, or 0 where there is none.
+fn number_in(parts: &Values, at: usize) -> Result<usize, Fail> {
+    match parts.get(at) {
+        Some(_) => Ok(usize::from(count_at(parts, at)?)),
+        None => Ok(0),
     }
-    if is_text(word, b"allow") {
-        return Ok(Place::Allowed(class, member));
-    }
-    if is_text(word, b"deny") {
-        return Ok(Place::Denied(class, member));
-    }
-    Err(Fail::from("no place"))
 }
 
 /// The place of a word and numbers.
 fn place_of(parts: &Values) -> Result<Place, Fail> {
-    let word = text_at(parts, 0)?.as_slice();
-    if is_text(word, b"top") {
-        return Ok(Place::Top);
+    let word = text_at(parts, 0)?;
+    let kind = call_of(&PLACES, word.as_slice()).ok_or("no place")?;
+    let (first, second) = (number_in(parts, 1)?, number_in(parts, 2)?);
+    match kind {
+        Kind::Top => Ok(Place::Top),
+        Kind::Class => Ok(Place::Class(first)),
+        Kind::Node => Ok(Place::Node(first)),
+        Kind::Method => Ok(Place::Method(first, second)),
+        Kind::Allow => Ok(Place::Allowed(first, second)),
+        Kind::Deny => Ok(Place::Denied(first, second)),
     }
-    if is_text(word, b"class") {
-        return Ok(Place::Class(usize::from(count_at(parts, 1)?)));
-    }
-    if is_text(word, b"node") {
-        return Ok(Place::Node(usize::from(count_at(parts, 1)?)));
-    }
-    place_in_class(word, parts)
 }
 
 /// The key that a text is.

@@ -3,10 +3,9 @@
 use crate::worlds::classes::tell;
 use crate::worlds::faults::fault_value;
 use crate::worlds::texts::framed;
-use call_rows::{Part, text_at, text_value};
+use call_rows::{Part, call_of, text_at, text_value};
 use do_base::{Text, Value, Values};
 use do_document::Classes;
-use do_grammar::is_text;
 use do_machine::Seats;
 use do_native_acts::as_number;
 use do_world::{World, builtin, counter, read_world};
@@ -23,6 +22,27 @@ struct Kept {
     nodes: Seats,
     printed: Text,
 }
+
+/// What a row calls.
+#[derive(Clone, Copy)]
+enum Call {
+    Around,
+    Read,
+    CountRead,
+    BuiltIn,
+    IsCounter,
+    Nodes,
+}
+
+/// The words of the calls.
+const CALLS: [(&[u8], Call); 6] = [
+    (b"around", Call::Around),
+    (b"read", Call::Read),
+    (b"count_read", Call::CountRead),
+    (b"built_in", Call::BuiltIn),
+    (b"is_counter", Call::IsCounter),
+    (b"nodes", Call::Nodes),
+];
 
 /// The last world, and what stands around texts.
 #[derive(Drop)]
@@ -133,20 +153,33 @@ impl WorldCalls {
         Ok(())
     }
 
-    /// Reads a text, and keeps the world that it says.
-    fn read(&mut self, text: &Text) -> Result<Value, Fail> {
+    /// Keeps what stands around texts.
+    fn set_frame(&mut self, pieces: &Values) -> Result<Value, Fail> {
+        self.frame = pieces.clone()?;
+        Ok(Value::Nil)
+    }
+
+    /// Reads the text of these pieces, and keeps the world that it says.
+    fn read(&mut self, pieces: &Values) -> Result<Value, Fail> {
+        let text = self.framed(pieces)?;
         match read_world(self.alloc, text.as_slice()) {
             Ok(world) => {
                 self.keep(world)?;
-                Ok(text_value(self.alloc, b"read")?)
+                text_value(self.alloc, b"read")
             }
             Err(fault) => fault_value(self.alloc, &fault),
         }
     }
 
+    /// How many changes of one byte leave the text of these pieces a world's.
+    fn count_read(&self, pieces: &Values) -> Result<Value, Fail> {
+        let text = self.framed(pieces)?;
+        Ok(count_all_read(self.alloc, &text)?)
+    }
+
     /// Keeps the built-in world of a name, and tells whether there is one.
-    fn built_in(&mut self, name: &Text) -> Result<Value, Fail> {
-        let Some(world) = builtin(self.alloc, name)? else {
+    fn built_in(&mut self, args: &Values) -> Result<Value, Fail> {
+        let Some(world) = builtin(self.alloc, text_at(args, 0)?)? else {
             return Ok(as_number(false));
         };
         self.keep(world)?;
@@ -162,26 +195,14 @@ impl WorldCalls {
 
 impl Part for WorldCalls {
     fn call(&mut self, word: &[u8], args: &Values) -> Result<Value, Fail> {
-        if is_text(word, b"around") {
-            self.frame = args.clone()?;
-            return Ok(Value::Nil);
+        match call_of(&CALLS, word) {
+            Some(Call::Around) => self.set_frame(args),
+            Some(Call::Read) => self.read(args),
+            Some(Call::CountRead) => self.count_read(args),
+            Some(Call::BuiltIn) => self.built_in(args),
+            Some(Call::IsCounter) => self.is_counter(),
+            Some(Call::Nodes) => Ok(nodes_value(self.alloc, &self.kept.nodes)?),
+            None => tell(self.alloc, &self.kept.classes, word, args),
         }
-        if is_text(word, b"read") {
-            let text = self.framed(args)?;
-            return self.read(&text);
-        }
-        if is_text(word, b"count_read") {
-            return Ok(count_all_read(self.alloc, &self.framed(args)?)?);
-        }
-        if is_text(word, b"built_in") {
-            return self.built_in(text_at(args, 0)?);
-        }
-        if is_text(word, b"is_counter") {
-            return self.is_counter();
-        }
-        if is_text(word, b"nodes") {
-            return Ok(nodes_value(self.alloc, &self.kept.nodes)?);
-        }
-        tell(self.alloc, &self.kept.classes, word, args)
     }
 }

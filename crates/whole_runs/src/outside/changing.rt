@@ -4,12 +4,40 @@ use crate::files::{given_files, long_file, starts_file};
 use crate::outside::Outside;
 use crate::spawners::spawner_of;
 use crate::words::calls_of;
-use call_rows::{Part, count_at, list_at, number_at, text_at};
+use call_rows::{Part, call_of, count_at, list_at, number_at, text_at};
 use do_base::{MemShelf, Value, Values};
-use do_grammar::is_text;
 use std::test::Fail;
 
+/// What a row calls.
+#[derive(Clone, Copy)]
+enum Call {
+    Files,
+    Failing,
+    Long,
+    Starts,
+    Link,
+    Children,
+    Puts,
+}
+
+/// The words of the calls.
+const CALLS: [(&[u8], Call); 7] = [
+    (b"files", Call::Files),
+    (b"failing", Call::Failing),
+    (b"long", Call::Long),
+    (b"starts", Call::Starts),
+    (b"link", Call::Link),
+    (b"children", Call::Children),
+    (b"puts", Call::Puts),
+];
+
 impl Outside {
+    /// Takes files, a name and its bytes each.
+    fn set_given(&mut self, args: &Values) -> Result<Value, Fail> {
+        let files = given_files(args)?;
+        self.set_files(files)
+    }
+
     /// Takes files of which some fetches fail.
     fn set_failing(&mut self, args: &Values) -> Result<Value, Fail> {
         let fetches = calls_of(list_at(args, 0)?)?;
@@ -36,6 +64,12 @@ impl Outside {
         self.links.call(b"link", script)
     }
 
+    /// Takes the numbers of the puts that fail.
+    fn set_puts(&mut self, args: &Values) -> Result<Value, Fail> {
+        self.puts = calls_of(args)?;
+        Ok(Value::Nil)
+    }
+
     /// Takes other children.
     fn set_children(&mut self, args: &Values) -> Result<Value, Fail> {
         self.spawn = spawner_of(list_at(args, 0)?, list_at(args, 1)?, list_at(args, 2)?)?;
@@ -45,28 +79,15 @@ impl Outside {
 
 impl Part for Outside {
     fn call(&mut self, word: &[u8], args: &Values) -> Result<Value, Fail> {
-        if is_text(word, b"files") {
-            return self.set_files(given_files(args)?);
+        match call_of(&CALLS, word) {
+            Some(Call::Files) => self.set_given(args),
+            Some(Call::Failing) => self.set_failing(args),
+            Some(Call::Long) => self.set_long(args),
+            Some(Call::Starts) => self.set_starts(args),
+            Some(Call::Link) => self.set_link(args),
+            Some(Call::Children) => self.set_children(args),
+            Some(Call::Puts) => self.set_puts(args),
+            None => self.links.call(word, args),
         }
-        if is_text(word, b"failing") {
-            return self.set_failing(args);
-        }
-        if is_text(word, b"long") {
-            return self.set_long(args);
-        }
-        if is_text(word, b"starts") {
-            return self.set_starts(args);
-        }
-        if is_text(word, b"link") {
-            return self.set_link(args);
-        }
-        if is_text(word, b"children") {
-            return self.set_children(args);
-        }
-        if is_text(word, b"puts") {
-            self.puts = calls_of(args)?;
-            return Ok(Value::Nil);
-        }
-        self.links.call(word, args)
     }
 }

@@ -5,11 +5,31 @@ use crate::outside::Outside;
 use crate::told::told_with;
 use call_rows::{count_value, text_at};
 use do_base::{Text, Value, Values};
-use do_grammar::is_text;
 use do_native_acts::as_number;
 use do_node::Status;
 use std::alloc::AllocError;
 use std::test::Fail;
+
+/// A way in which a line of words is run.
+#[derive(Clone, Copy)]
+pub(crate) enum Way {
+    Run,
+    Narrow,
+    Size,
+    Begins,
+    Again,
+    Cut,
+}
+
+/// The words of the ways.
+pub(crate) const WAYS: [(&[u8], Way); 6] = [
+    (b"run", Way::Run),
+    (b"narrow", Way::Narrow),
+    (b"size", Way::Size),
+    (b"begins", Way::Begins),
+    (b"again", Way::Again),
+    (b"cut", Way::Cut),
+];
 
 impl Outside {
     /// Runs a line of words over an output that takes so many bytes, one at a time.
@@ -62,33 +82,41 @@ impl Outside {
         Ok(as_number(self.written.is(last.as_slice())))
     }
 
-    /// Whether a line of words writes a text that begins with another.
-    fn begins(&mut self, line: &[u8], front: &Text) -> Result<Value, Fail> {
+    /// Runs a line of words, and tells what it wrote.
+    fn run_whole(&mut self, line: &[u8]) -> Result<Value, Fail> {
+        self.run(line)?;
+        self.told_whole()
+    }
+
+    /// The same over an output that takes a byte at a time.
+    fn run_bytes(&mut self, line: &[u8]) -> Result<Value, Fail> {
+        self.run_narrow(line, u64::MAX)?;
+        self.told_whole()
+    }
+
+    /// Runs a line of words, and tells how many bytes it wrote.
+    fn size(&mut self, line: &[u8]) -> Result<Value, Fail> {
+        self.run(line)?;
+        self.told_number(count_value(self.written.len())?)
+    }
+
+    /// Whether a line of words writes a text that begins with the second.
+    fn begins(&mut self, line: &[u8], args: &Values) -> Result<Value, Fail> {
+        let front = text_at(args, 1)?;
         self.run(line)?;
         Ok(as_number(self.written.as_slice().starts_with(front.as_slice())))
     }
 
-    /// Runs the line of words that a call has, in the way that its word says.
-    pub(crate) fn runs(&mut self, word: &[u8], args: &Values) -> Result<Value, Fail> {
+    /// Runs the line of words that a call has.
+    pub(crate) fn run_by(&mut self, way: Way, args: &Values) -> Result<Value, Fail> {
         let line = text_at(args, 0)?.as_slice();
-        if is_text(word, b"run") {
-            self.run(line)?;
-            return self.told_whole();
+        match way {
+            Way::Run => self.run_whole(line),
+            Way::Narrow => self.run_bytes(line),
+            Way::Size => self.size(line),
+            Way::Begins => self.begins(line, args),
+            Way::Again => self.is_again(line),
+            Way::Cut => self.cut(line),
         }
-        if is_text(word, b"narrow") {
-            self.run_narrow(line, u64::MAX)?;
-            return self.told_whole();
-        }
-        if is_text(word, b"size") {
-            self.run(line)?;
-            return self.told_number(count_value(self.written.len())?);
-        }
-        if is_text(word, b"begins") {
-            return self.begins(line, text_at(args, 1)?);
-        }
-        if is_text(word, b"again") {
-            return self.is_again(line);
-        }
-        self.cut(line)
     }
 }

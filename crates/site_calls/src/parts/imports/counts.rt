@@ -42,7 +42,12 @@ pub(crate) fn lend(imports: &mut Imports, oid: Oid, borrower: NodeId) -> Option<
 }
 
 /// Keeps an ask, and tells whether it is new. None where there is no room.
-pub(crate) fn ask(imports: &mut Imports, oid: Oid, class: ClassId, token: Token) -> Option<bool> {
+pub(crate) fn keep_ask(
+    imports: &mut Imports,
+    oid: Oid,
+    class: ClassId,
+    token: Token,
+) -> Option<bool> {
     if imports.spare() == 0 || imports.uses(oid) == u64::MAX {
         return None;
     }
@@ -53,7 +58,7 @@ pub(crate) fn ask(imports: &mut Imports, oid: Oid, class: ClassId, token: Token)
 }
 
 /// Ends an ask that was granted, and tells whether it was kept. None where there is no room.
-pub(crate) fn granted(imports: &mut Imports, oid: Oid, token: Token) -> Option<bool> {
+pub(crate) fn end_granted(imports: &mut Imports, oid: Oid, token: Token) -> Option<bool> {
     if imports.spare() == 0 || imports.received(oid) == u64::MAX {
         return None;
     }

@@ -1,11 +1,10 @@
 //! What a change of the top of a stack took out of the locals, and what is left to do, as values.
 
-use crate::parts::answers::{pair_value, triple_value};
-use call_rows::{count_value, list_from, text_value, word_with};
+use call_rows::{count_value, pair_value, text_value, word_with, word_with_two};
 use do_base::{Value, Values, copy_value};
 use do_behave::{Act, Frame, Writes};
 use do_stack::{Exchanged, Left, Taken};
-use std::alloc::{AllocError, Global};
+use std::alloc::Global;
 use std::test::Fail;
 
 /// What the first of the locals holds.
@@ -18,15 +17,15 @@ fn first_value(locals: &Frame) -> Result<Value, Fail> {
 fn locals_value(alloc: Global, locals: &Frame) -> Result<Value, Fail> {
     let count = count_value(locals.len())?;
     let first = first_value(locals)?;
-    Ok(triple_value(alloc, text_value(alloc, b"all")?, count, first)?)
+    word_with_two(alloc, b"all", count, first)
 }
 
 /// What was taken out of the locals.
 fn taken_value(alloc: Global, taken: Taken) -> Result<Value, Fail> {
     match taken {
-        Taken::Nothing => Ok(text_value(alloc, b"nothing")?),
-        Taken::One(value) => Ok(word_with(alloc, b"one", value)?),
-        Taken::Many(values) => Ok(word_with(alloc, b"many", Value::List(values))?),
+        Taken::Nothing => text_value(alloc, b"nothing"),
+        Taken::One(value) => word_with(alloc, b"one", value),
+        Taken::Many(values) => word_with(alloc, b"many", Value::List(values)),
         Taken::All(locals) => locals_value(alloc, &locals),
     }
 }
@@ -34,7 +33,7 @@ fn taken_value(alloc: Global, taken: Taken) -> Result<Value, Fail> {
 /// A slot and what is to be written to it.
 fn slot_value(alloc: Global, slot: usize, value: Value) -> Result<Value, Fail> {
     let slot = count_value(slot)?;
-    Ok(triple_value(alloc, text_value(alloc, b"slot")?, slot, value)?)
+    word_with_two(alloc, b"slot", slot, value)
 }
 
 /// Adds each slot, and what is to be written to it.
@@ -48,13 +47,14 @@ fn push_writes(values: &mut Values, writes: &Writes) -> Result<(), Fail> {
 
 /// Each slot, and what is to be written to it.
 fn writes_value(alloc: Global, writes: &Writes) -> Result<Value, Fail> {
-    let mut values = list_from(alloc, b"slots")?;
+    let word = text_value(alloc, b"slots")?;
+    let mut values = Values::from_vec(vec![in alloc; word]?);
     push_writes(&mut values, writes)?;
     Ok(Value::List(values))
 }
 
 /// An act that is no step.
-fn act_value(alloc: Global, act: Act) -> Result<Value, AllocError> {
+fn act_value(alloc: Global, act: Act) -> Result<Value, Fail> {
     match act {
         Act::Return { value } => word_with(alloc, b"return", value),
         Act::Say { value, pc: _ } => word_with(alloc, b"say", value),
@@ -68,7 +68,7 @@ fn left_value(alloc: Global, left: Left) -> Result<Value, Fail> {
         Left::Nothing => Ok(Value::Nil),
         Left::Slot { slot, value } => slot_value(alloc, slot, value),
         Left::Slots(writes) => writes_value(alloc, &writes),
-        Left::Other(act) => Ok(act_value(alloc, act)?),
+        Left::Other(act) => act_value(alloc, act),
     }
 }
 
@@ -79,5 +79,5 @@ pub(crate) fn exchanged_or_nil(alloc: Global, done: Option<Exchanged>) -> Result
     };
     let taken = taken_value(alloc, taken)?;
     let left = left_value(alloc, left)?;
-    Ok(pair_value(alloc, taken, left)?)
+    pair_value(alloc, taken, left)
 }

@@ -1,12 +1,11 @@
 //! Invocations, and what they wait for and have, as values. A call is written as an object: the
 //! caller's port, and its number.
 
-use crate::parts::answers::triple_value;
-use call_rows::{count_at, text_value, value_at, word_with};
+use call_rows::{count_at, list_value, text_value, triple_value, value_at, word_with};
 use do_base::{CallId, Exc, NodeId, Oid, Value, Values, copy_value};
 use do_behave::{Answer, InvState, Invocation, Waited};
 use do_class::{ClassId, MethodId};
-use std::alloc::{AllocError, Global};
+use std::alloc::Global;
 use std::test::Fail;
 
 /// What is asked for at a place: a root where a word stands there, and else the method of a number.
@@ -22,7 +21,7 @@ pub(crate) fn asked_at(args: &Values, at: usize) -> Result<Waited, Fail> {
 }
 
 /// A word for a root, or the number of a method.
-pub(crate) fn asked_value(alloc: Global, what: Waited) -> Result<Value, AllocError> {
+pub(crate) fn asked_value(alloc: Global, what: Waited) -> Result<Value, Fail> {
     match what {
         Waited::Root => text_value(alloc, b"root"),
         Waited::Method(method) => Ok(Value::Num(i64::from(method.index))),
@@ -30,7 +29,7 @@ pub(crate) fn asked_value(alloc: Global, what: Waited) -> Result<Value, AllocErr
 }
 
 /// The name of an exception that a stack raises, or of the one that rows answer with.
-fn exception_name(alloc: Global, exception: &Exc) -> Result<Value, AllocError> {
+fn exception_name(alloc: Global, exception: &Exc) -> Result<Value, Fail> {
     match exception {
         Exc::Deep => text_value(alloc, b"Deep"),
         Exc::ConnectionDied => text_value(alloc, b"ConnectionDied"),
@@ -39,11 +38,17 @@ fn exception_name(alloc: Global, exception: &Exc) -> Result<Value, AllocError> {
     }
 }
 
+/// What was raised.
+fn raised_value(alloc: Global, exception: &Exc) -> Result<Value, Fail> {
+    let name = exception_name(alloc, exception)?;
+    word_with(alloc, b"raised", name)
+}
+
 /// An answer: what was given, or what was raised.
-pub(crate) fn answer_value(alloc: Global, answer: &Answer) -> Result<Value, AllocError> {
+pub(crate) fn answer_value(alloc: Global, answer: &Answer) -> Result<Value, Fail> {
     match answer {
         Answer::Given { result, outs: _ } => word_with(alloc, b"given", copy_value(result)?),
-        Answer::Raised(exc) => word_with(alloc, b"raised", exception_name(alloc, exc)?),
+        Answer::Raised(exc) => raised_value(alloc, exc),
     }
 }
 
@@ -56,21 +61,15 @@ fn call_value(call: CallId) -> Value {
 }
 
 /// The call, the peer and what is asked for behind a word.
-fn waits_value(
-    alloc: Global,
-    call: CallId,
-    peer: NodeId,
-    what: Waited,
-) -> Result<Value, AllocError> {
+fn waits_value(alloc: Global, call: CallId, peer: NodeId, what: Waited) -> Result<Value, Fail> {
     let what = asked_value(alloc, what)?;
     let word = text_value(alloc, b"waits")?;
     let peer = Value::Num(i64::from(peer.port()));
-    let values = vec![in alloc; word, call_value(call), peer, what]?;
-    Ok(Value::List(Values::from_vec(values)))
+    Ok(list_value(vec![in alloc; word, call_value(call), peer, what]?))
 }
 
 /// What an invocation does.
-fn state_value(alloc: Global, state: &InvState) -> Result<Value, AllocError> {
+fn state_value(alloc: Global, state: &InvState) -> Result<Value, Fail> {
     match state {
         InvState::Running => text_value(alloc, b"runs"),
         InvState::Below => text_value(alloc, b"below"),
@@ -84,7 +83,7 @@ fn invocation_value(alloc: Global, inv: &Invocation) -> Result<Value, Fail> {
     let first = inv.copy_local(0)?.ok_or("no local")?;
     let state = state_value(alloc, &inv.state)?;
     let place = Value::Num(i64::from(inv.pc));
-    Ok(triple_value(alloc, first, place, state)?)
+    triple_value(alloc, first, place, state)
 }
 
 /// An invocation, or nil for none.

@@ -4,17 +4,17 @@ ghost use Rattle.do_stack.specs.Late.{top_call};
 
 use crate::parts::arguments::{call_at, node_at};
 use crate::parts::stack::invocations::{answer_value, asked_at, asked_value};
-use call_rows::{copy_at, no_call, number_at};
-use do_base::{CallId, Exc, NodeId, Value, Values};
+use call_rows::{copy_at, number_at};
+use do_base::{Exc, Value, Values};
 use do_behave::{Answer, InvState};
-use do_grammar::is_text;
 use do_native_acts::as_number;
 use do_stack::Stack;
 use std::alloc::Global;
 use std::test::Fail;
 
 /// Lets the top wait for a call to a peer, and tells whether there is a top.
-fn wait(stack: &mut Stack, call: CallId, peer: NodeId, args: &Values) -> Result<Value, Fail> {
+pub(crate) fn wait(stack: &mut Stack, args: &Values) -> Result<Value, Fail> {
+    let (call, peer) = (call_at(args, 0)?, node_at(args, 1)?);
     let what = asked_at(args, 2)?;
     if stack.depth() == 0 {
         return Ok(as_number(false));
@@ -24,57 +24,35 @@ fn wait(stack: &mut Stack, call: CallId, peer: NodeId, args: &Values) -> Result<
 }
 
 /// What the invocation that waits for a call to a peer asked for, or nil.
-fn waiting(alloc: Global, stack: &Stack, call: CallId, peer: NodeId) -> Result<Value, Fail> {
+pub(crate) fn waiting(alloc: Global, stack: &Stack, args: &Values) -> Result<Value, Fail> {
+    let (call, peer) = (call_at(args, 0)?, node_at(args, 1)?);
     match stack.waiting(call, peer) {
-        Some(what) => Ok(asked_value(alloc, what)?),
+        Some(what) => asked_value(alloc, what),
         None => Ok(Value::Nil),
     }
 }
 
 /// Answers the invocation that waits for a call to a peer with a value, and tells whether one did.
-fn give(stack: &mut Stack, call: CallId, peer: NodeId, args: &Values) -> Result<Value, Fail> {
+pub(crate) fn give(stack: &mut Stack, args: &Values) -> Result<Value, Fail> {
+    let (call, peer) = (call_at(args, 0)?, node_at(args, 1)?);
     let result = copy_at(args, 2)?;
     let outs = Values::new(args.allocator());
     let answer = Answer::Given { result, outs };
     Ok(as_number(stack.answer(call, peer, answer)))
 }
 
-/// Whether a word names a call about what is waited for.
-pub(crate) fn is_call_word(word: &[u8]) -> bool {
-    is_text(word, b"wait")
-        || is_text(word, b"waiting")
-        || is_text(word, b"give")
-        || is_text(word, b"raise")
-        || is_text(word, b"late")
+/// Answers the invocation that waits for a call to a peer with an exception, and tells whether one
+/// did.
+pub(crate) fn raise(stack: &mut Stack, args: &Values) -> Result<Value, Fail> {
+    let (call, peer) = (call_at(args, 0)?, node_at(args, 1)?);
+    Ok(as_number(stack.answer(call, peer, Answer::Raised(Exc::Deep))))
 }
 
-/// Makes a call about what is waited for from a peer.
-pub(crate) fn call_of_peer(
-    alloc: Global,
-    stack: &mut Stack,
-    word: &[u8],
-    args: &Values,
-) -> Result<Value, Fail> {
-    let call = call_at(args, 0)?;
-    let peer = node_at(args, 1)?;
-    if is_text(word, b"wait") {
-        return wait(stack, call, peer, args);
-    }
-    if is_text(word, b"waiting") {
-        return waiting(alloc, stack, call, peer);
-    }
-    if is_text(word, b"give") {
-        return give(stack, call, peer, args);
-    }
-    if is_text(word, b"raise") {
-        let answer = Answer::Raised(Exc::Deep);
-        return Ok(as_number(stack.answer(call, peer, answer)));
-    }
-    if is_text(word, b"late") {
-        let root = number_at(args, 2)? == 1;
-        return Ok(as_number(stack.late(call, peer, root)));
-    }
-    no_call()
+/// Whether an answer of a peer to a call, or to an ask for a root, comes late.
+pub(crate) fn late(stack: &mut Stack, args: &Values) -> Result<Value, Fail> {
+    let (call, peer) = (call_at(args, 0)?, node_at(args, 1)?);
+    let root = number_at(args, 2)? == 1;
+    Ok(as_number(stack.late(call, peer, root)))
 }
 
 /// Whether the top waits for a call.
@@ -103,7 +81,7 @@ pub(crate) fn abandon(stack: &mut Stack) -> Result<Value, Fail> {
 /// The answer that the top takes, or nil.
 pub(crate) fn take_answer(alloc: Global, stack: &mut Stack) -> Result<Value, Fail> {
     match stack.take_answer() {
-        Some(answer) => Ok(answer_value(alloc, &answer)?),
+        Some(answer) => answer_value(alloc, &answer),
         None => Ok(Value::Nil),
     }
 }
