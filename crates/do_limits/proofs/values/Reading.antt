@@ -90,9 +90,11 @@ module _ (copies names : ℕ) where
       (spell-Text depth t ∙ sym (fits-Text copies names depth t) ∙ c, within-Text t))
       (λ k depth c.
       (spell-Copy depth k, within-Copy copies names k ∙ sym (fits-Copy copies names depth k) ∙ c))
-      (λ k depth c.
-      (spell-Named depth k, within-Named copies names k
-      ∙ sym (fits-Named copies names depth k) ∙ c))
+      (λ k depth c. (
+        spell-Named depth k,
+        within-Named copies names k
+            ∙ sym (fits-Named copies names depth k) ∙ c,
+      ))
       list_reads
 
   -- parts one behind the other can be spelled

@@ -16,7 +16,7 @@ pub(crate) trait Answers {
 
 /// Payloads of one kind, to which a reader answers.
 #[derive(Clone, Copy)]
-pub(crate) struct Payload<'a> {
+pub(crate) struct Payloads<'a> {
     pub(crate) reading: &'a Reading,
     pub(crate) kind: u8,
 }
@@ -32,7 +32,7 @@ fn with_answer(sum: u64, answer: u64) -> u64 {
     (sum ^ answer).wrapping_mul(1_099_511_628_211)
 }
 
-impl<'a> Answers for Payload<'a> {
+impl<'a> Answers for Payloads<'a> {
     fn added(&self, before: u64, bytes: &[u8]) -> Result<u64, Fail> {
         Ok(with_answer(before, self.reading.answer(self.kind, bytes)?))
     }

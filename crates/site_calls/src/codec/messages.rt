@@ -1,6 +1,6 @@
 //! Calls of what reads and writes packets and frames, by tables of the objects named lately.
 
-use crate::codec::changed::{Payload, Stream, sum_of_changes};
+use crate::codec::changed::{Payloads, Stream, sum_of_changes};
 use crate::codec::loads::{empty, put_object, put_texts};
 use crate::codec::reading::Reading;
 use call_rows::{
@@ -192,7 +192,7 @@ impl MessageCalls {
         let kind = u8::try_from(number_at(args, 0)?)?;
         let payload = text_at(args, 1)?;
         let reading = &self.reading;
-        let sum = sum_of_changes(self.alloc, &Payload { reading, kind }, payload.as_slice())?;
+        let sum = sum_of_changes(self.alloc, &Payloads { reading, kind }, payload.as_slice())?;
         Ok(Value::Text(digits(self.alloc, sum)?))
     }
 
