@@ -1,6 +1,5 @@
 -- What a person is told beside the line of a status.
-use Rattle.std.specs.Prelude.{ℕ, Bool, List, ◌∷◌, [], ◌++◌, decimal, if◌then◌else◌}
-use Rattle.std.specs.List.{flat_map}
+use Rattle.std.specs.{Prelude.{ℕ, Bool, List, ◌∷◌, [], ◌++◌, decimal, if◌then◌else◌}, List.flat_map}
 use Rattle.do_advice.specs.declared.nodes.TheConstants.{LACKING, OTHERS}
 use Rattle.do_advice.specs.declared.ports.TheConstants.{PORT, TAKEN, UNHEARD}
 use Rattle.do_advice.specs.declared.raised.TheConstants.{ENDED, WHERE}

@@ -1,6 +1,5 @@
 -- What a node of a world wrote that served, as a file among those of other records.
-use Rattle.std.specs.Prelude.{Ok, List, ℕ, ◌+◌, ◌≡◌, ◌≤◌}
-use Rattle.std.specs.List.{AllByRecursion}
+use Rattle.std.specs.{Prelude.{Ok, List, ℕ, ◌+◌, ◌≡◌, ◌≤◌}, List.AllByRecursion}
 use Rattle.do_class.specs.Class.{Class}
 use Rattle.do_machine.specs.{declared.state.Seat.Seat, run.Run.Acting}
 use Rattle.do_record.specs.declared.parts.Record.{Record}

@@ -1,4 +1,5 @@
-ghost use Rattle.std.specs.{Prelude.{List, false, map, true, ℕ, ◌<◌, ◌^◌, ◌≡◌}, List.AllByRecursion};
+ghost use Rattle.std.specs.Prelude.{List, false, map, true, ℕ, ◌<◌, ◌^◌, ◌≡◌};
+ghost use Rattle.std.specs.List.{AllByRecursion};
 ghost use Rattle.do_at_hand.specs.AtHand.{ShowsNames};
 ghost use Rattle.do_class.specs.Class.{Class};
 ghost use Rattle.do_limits.specs.SendableActs.{KeepsSendable};

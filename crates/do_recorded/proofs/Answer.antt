@@ -5,8 +5,8 @@ use Rattle.do_at_hand.specs.AtHand.{ShowsNames}
 use Rattle.do_class.specs.Class.{Class}
 use Rattle.do_limits.specs.SendableActs.{KeepsSendable}
 use Rattle.do_link.specs.Told.{Told}
-use Rattle.do_machine.specs.World.{IsSeat, IsWorld, by_port}
-use Rattle.do_machine.specs.{declared.state.Seat.Seat, run.Run.Acting}
+use Rattle.do_machine.specs.{World.{IsSeat, IsWorld, by_port}, declared.state.Seat.Seat}
+use Rattle.do_machine.specs.run.Run.{Acting}
 use Rattle.do_net.specs.Seen.{Seen, at_rest}
 use Rattle.do_network.specs.Net.{opening_part}
 use Rattle.do_serve.specs.{Hosting.site_rules, Serving.{Server, serve_from}}

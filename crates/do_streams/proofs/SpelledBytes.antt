@@ -1,11 +1,11 @@
 -- Bytes that were spelled, read as what they are in a stream.
-use Rattle.std.proofs.Common.{◌≡◌, ◌+◌, ◌≤◌, ℕ, List, Some, ap, arith, length, length-drop, refl}
 use Rattle.do_class.specs.Class.Class
 use Rattle.do_coder.specs.Packets.surroundings
-use Rattle.do_frames.specs.{declared.frame.{Frame.Frame, RawFrame.RawFrame}, Frames.IsFrame}
 use Rattle.do_frames.specs.Frames.raw_spelling
 use Rattle.do_network.specs.Spelled.IsSpelledPiece
 use Rattle.do_streams.specs.Pieces.piece_in
+use Rattle.std.proofs.Common.{◌≡◌, ◌+◌, ◌≤◌, ℕ, List, Some, ap, arith, length, length-drop, refl}
+use Rattle.do_frames.specs.{declared.frame.{Frame.Frame, RawFrame.RawFrame}, Frames.IsFrame}
 
 -- the spelling of a frame has five bytes more than its payload
 pub spelling_short : (bytes : List ℕ) (f : RawFrame) → bytes ≡ raw_spelling f →

@@ -1,5 +1,6 @@
 use Rattle.do_frames.proofs.unread.behind.Goals as goal
-use Rattle.std.proofs.{Common.{◌≡◌, ◌≤◌, [], List, arith, drop, length, sym, ℕ}, lemmas.Grind.common_steps}
+use Rattle.std.proofs.Common.{◌≡◌, ◌≤◌, [], List, arith, drop, length, sym, ℕ}
+use Rattle.std.proofs.lemmas.Grind.{common_steps}
 
 -- behind all of a list there is nothing
 none_behind : {X : Type 0} (n : ℕ) (xs : List X) → length xs ≤ n → drop n xs ≡ []
