@@ -2,7 +2,7 @@
 
 use crate::behaviours::behaviour_of;
 use crate::bench::Bench;
-use call_rows::Part;
+use call_rows::{Part, count_at};
 use do_base::{Value, Values};
 use do_behave::act_in_place;
 use do_class_kinds::Kind;

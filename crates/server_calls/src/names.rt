@@ -1,7 +1,7 @@
 //! Calls of a server of names.
 
 use call_rows::{
-    Part, call_of, digits, list_at, no_call, number_or_nil, port_at, refused, text_at,
+    Part, call_of, count_at, digits, list_at, no_call, number_or_nil, port_at, refused, text_at,
 };
 use do_base::{Text, Value, Values};
 use do_grammar::is_text;
