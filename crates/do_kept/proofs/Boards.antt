@@ -29,9 +29,9 @@ use Rattle.do_limits.specs.{Sendable.{AreSendable, IsSendable}, SendableActs.Kee
 use Rattle.do_limits.proofs.{scripts.Locals.value_at, values.Carried.carry-Obj}
 use Rattle.do_kept.proofs.{Acts.class_there, Limited.{atoms-Nil, atoms-Obj, atoms-Text}}
 use Rattle.do_kept.proofs.{Limited.count_atoms, ReadValues.{AreOfBytes, IsOfBytes, if_any, if_then}}
-use Rattle.do_kept.proofs.{ReadValues.{list_is, text_is, types_are}, boards.Read.{IsBoard, core_is}}
-use Rattle.do_kept.proofs.boards.{Written.slots_atoms, Done.{IsCallOf, IsData, IsDone, data_is}}
-use Rattle.do_kept.proofs.boards.Done.{done_is, kept_is, now_atoms}
+use Rattle.do_kept.proofs.ReadValues.{list_is, text_is, types_are}
+use Rattle.do_kept.proofs.pasteboards.{Read.{IsBoard, core_is}, Written.slots_atoms, Done.IsCallOf}
+use Rattle.do_kept.proofs.pasteboards.Done.{IsData, IsDone, data_is, done_is, kept_is, now_atoms}
 
 module _ (table : Listed Class) (inv : Invocation) (slots : Listed Value)
     (all : AreSendable inv.locals) (sixteen : length inv.locals ≡ 16)

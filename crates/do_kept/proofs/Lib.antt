@@ -5,7 +5,7 @@ pub mod Acts
 pub mod Checkers
 pub mod Names
 pub mod Services
-pub mod boards
+pub mod pasteboards
 pub mod Boards
 pub mod notifications
 pub mod Centers

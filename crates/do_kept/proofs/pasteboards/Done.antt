@@ -21,8 +21,8 @@ use Rattle.do_facts.proofs.EachOfLists.{each_joined, each_mapped, each_weaker}
 use Rattle.do_kept.proofs.Limited.{HasAtoms, atoms-Nil, atoms-Obj, atoms-Text, count_atoms}
 use Rattle.do_kept.proofs.{Limited.{list_atoms, truth_atoms}, ReadValues.{AreOfBytes, IsOfBytes}}
 use Rattle.do_kept.proofs.{ReadValues.if_passed, Tables.{texts_atoms, value_is}}
-use Rattle.do_kept.proofs.boards.Read.{AreDeclared, IsBoard, IsDeclared, IsNamed, below}
-use Rattle.do_kept.proofs.boards.Written.{kinds_are}
+use Rattle.do_kept.proofs.pasteboards.Read.{AreDeclared, IsBoard, IsDeclared, IsNamed, below}
+use Rattle.do_kept.proofs.pasteboards.Written.{kinds_are}
 
 -- a call of texts of bytes
 abbrev pub IsCallOf : Call → Type 0

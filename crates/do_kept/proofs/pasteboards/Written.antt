@@ -10,7 +10,7 @@ use Rattle.do_facts.proofs.EachOfLists.{each_mapped, each_weaker}
 use Rattle.do_kept.proofs.Limited.{AllHaveAtoms, HasAtoms, atoms-Nil, atoms-Obj, atoms-Text}
 use Rattle.do_kept.proofs.Limited.{count_atoms, list_atoms, listed_atoms}
 use Rattle.do_kept.proofs.{ReadValues.{AreOfBytes, IsOfBytes}, Tables.texts_atoms}
-use Rattle.do_kept.proofs.boards.Read.{AreDeclared, IsBoard, IsContent, IsNamed}
+use Rattle.do_kept.proofs.pasteboards.Read.{AreDeclared, IsBoard, IsContent, IsNamed}
 
 -- the names of types
 pub kinds_are : (ts : Listed Declared) → AreDeclared ts → AreOfBytes (keys_of ts)
