@@ -1,6 +1,6 @@
 mod Numbers
 mod Parts
 mod Copies
-mod Names
+pub mod Names
 mod Selectors
-mod Frames
+pub mod Frames
