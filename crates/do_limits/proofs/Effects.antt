@@ -1,7 +1,7 @@
 -- Effects that leave and send only what a message can carry.
 use Rattle.std.proofs.Common.{arith, length-append, ◌≤◌, ap, sym, slice_get, zero, ◌<◌, ◌≡◌, ℕ, not}
-use Rattle.std.proofs.Common.{List, [], ◌∷◌, ◌-◌, length, filter, map, refl}
-use Rattle.std.proofs.lemmas.List.{length-map, length-replicate}
+use Rattle.std.proofs.Common.{List, [], ◌∷◌, ◌-◌, length, filter, map, refl, Bool, true, false}
+use Rattle.std.proofs.{Common.cond, lemmas.List.{length-map, length-replicate}}
 use Rattle.std.specs.{Prelude.{None, Option, Some, option_map, replicate, suc}, List.AllByRecursion}
 use Rattle.do_base.specs.{names.Names.ObjectName, declared.values.value.Value.Value}
 use Rattle.do_base.specs.declared.values.value.Value.TheVariants.{Nil}
@@ -11,12 +11,13 @@ use Rattle.do_packet.specs.declared.receipt.Made.{Made}
 use Rattle.do_behave.specs.declared.invocation.{Invocation.Invocation, Reason.Reason}
 use Rattle.do_machine.specs.declared.{node.{Node.Node, Wanted.Wanted}, state.Effect.Effect}
 use Rattle.do_machine.specs.{declared.state.Parcel.Parcel, Lists.inserted}
-use Rattle.do_machine.specs.lend.Asking.{same_wanted, wanted_lt, with_wanted}
+use Rattle.do_machine.specs.lend.Asking.{same_wanted, wanted_lt, with_wanted, without_wanted}
+use Rattle.do_machine.specs.Objects.{joined, object_lt}
+use Rattle.do_packet.specs.Met.{has_object}
 use Rattle.do_machine.specs.run.Fresh.{blank, fresh, pushed, with_objects, with_serials}
 use Rattle.do_limits.specs.Sendable.{AreSendable, HasSlots, IsOfTable, IsSendable}
 use Rattle.do_limits.specs.SendableStates.{InvocationIsSendable, ItemIsSendable, NodeIsSendable}
 use Rattle.do_limits.specs.SendableStates.{AsksForOne, HasNumbers, HasSerial, ObjectIsSendable}
-use Rattle.do_facts.proofs.walk.{SmallEffects.Small, Done.{Done, DoneIf}}
 use Rattle.do_facts.proofs.EachOfLists.{each_filtered, each_joined, each_replicated}
 use Rattle.do_limits.proofs.{Lists.each_placed, values.Carried.carry-Nil}
 
@@ -24,13 +25,10 @@ use Rattle.do_limits.proofs.{Lists.each_placed, values.Carried.carry-Nil}
 abbrev pub ParcelIsSendable : List Class → ℕ → Parcel → Type 0
 ParcelIsSendable table port p = ItemIsSendable table port p.to p.item
 
--- the node of an effect has such values, and what is sent has
-abbrev pub EffectIsSendable : List Class → ℕ → Effect → Type 0
-EffectIsSendable table port e = Done (NodeIsSendable table port) (ItemIsSendable table port) e
-
--- an effect, where there is one
-abbrev pub IfSendable : List Class → ℕ → Option Effect → Type 0
-IfSendable table port e = DoneIf (NodeIsSendable table port) (ItemIsSendable table port) e
+-- The node of an effect has such values, and what is sent has
+pub record EffectIsSendable (table : List Class) (port : ℕ) (e : Effect) : Type 0 where
+  pub node : NodeIsSendable table port e.node
+  pub sent : AllByRecursion (ParcelIsSendable table port) e.sent
 
 -- ---- asks
 
@@ -54,18 +52,27 @@ asks_for {table} {port} w one n h = record {
       (each_placed AsksForOne wanted_lt w n.asked one h.numbers.1.1.1.1);
 }
 
--- asks that are over, and settled lends
-pub small : {table : List Class} {port : ℕ} →
-    Small (NodeIsSendable table port) (ItemIsSendable table port)
-small {table} {port} = record {
-  over = λ w n h. record {
-    heap = h.heap;
-    stack = h.stack;
-    numbers = asking_more port n h.numbers (filter (λ v. not (same_wanted w v)) n.asked)
-        (each_filtered AsksForOne (λ v. not (same_wanted w v)) n.asked h.numbers.1.1.1.1);
-  };
-  settles = λ w n o h. tt;
+-- an ask that is over
+pub ask_over : {table : List Class} {port : ℕ} → (w : Wanted) → (n : Node) →
+    NodeIsSendable table port n → NodeIsSendable table port (without_wanted w n)
+ask_over {table} {port} w n h = record {
+  heap = h.heap;
+  stack = h.stack;
+  numbers = asking_more port n h.numbers (filter (λ v. not (same_wanted w v)) n.asked)
+      (each_filtered AsksForOne (λ v. not (same_wanted w v)) n.asked h.numbers.1.1.1.1);
 }
+
+-- an object that joins those that are held
+pub joins : (o : ObjectName) (held : List ObjectName) → HasSerial o →
+    AllByRecursion HasSerial held → AllByRecursion HasSerial (joined held o)
+joins o held h k = one (has_object held o)
+  where
+    placed : AllByRecursion HasSerial (inserted object_lt o held)
+    placed = each_placed HasSerial object_lt o held h k
+
+    one : (b : Bool) → AllByRecursion HasSerial (cond b held (inserted object_lt o held))
+    one true = k
+    one false = placed
 
 -- ---- invocations and objects
 

@@ -6,6 +6,7 @@ pub mod Senders
 pub mod values
 pub mod runs
 pub mod takes
+pub mod moves
 pub mod states
 pub mod numbers
 pub mod spelled

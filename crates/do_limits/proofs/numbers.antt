@@ -1,3 +1,3 @@
-pub mod Same
-pub mod Rises
+pub mod MovesRise
 pub mod Reached
+pub mod Few

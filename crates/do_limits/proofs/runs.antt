@@ -1,4 +1,4 @@
 pub mod Verdicts
 pub mod ActRules
-pub mod Runs
-pub mod Starts
+pub mod Invocations
+pub mod Judged

@@ -1,48 +1,34 @@
 -- After so many events the numbers of nodes are within their bounds.
+use Rattle.do_facts.specs.nodes.Cause as cause
 use Rattle.do_machine.specs.declared.item.Item.TheVariants as items
 use Rattle.do_limits.proofs.Signatures.{HasMethods}
 use Rattle.std.proofs.Common.{◌≡◌, ◌==◌, ◌+◌, ℕ, Bool, true, false, List, [], ◌∷◌, length, map}
 use Rattle.std.{proofs.Common.{refl, sym, ap, subst, ◌∙◌, arith}, specs.Prelude.{All, Some, suc}}
 use Rattle.std.{specs.{Prelude.unwrap_or, List.insert}, proofs.lemmas.Bool.eqb-true}
 use Rattle.do_base.specs.declared.events.event.Event.{Event}
-use Rattle.do_base.specs.declared.events.event.Event.TheVariants.{Close, Run, Start, Timeout}
 use Rattle.do_class.specs.Class.{Class}
 use Rattle.do_machine.specs.declared.{node.Node.Node, state.{Effect.Effect, Seat.Seat, State.State}}
 use Rattle.do_machine.specs.{declared.state.Stepped.Stepped, Commit.{commit, moved, skipped}}
-use Rattle.do_machine.specs.{Context.{around, context}, Start.start_effect, State.{change, node}}
-use Rattle.do_machine.specs.{State.with_queue, Step.step, World.{IsSeat, by_port, opening}}
-use Rattle.do_machine.specs.{check.Blocks.{followed, steps}, ends.TimeOut.time_out}
-use Rattle.do_machine.specs.{held.Leaving.leaving, run.Run.{Acting, run_effect}}
+use Rattle.do_machine.specs.{Context.{around, context}, State.{change, node, with_queue}, Step.step}
+use Rattle.do_machine.specs.{World.{IsSeat, by_port, opening}, check.Blocks.{followed, steps}}
+use Rattle.do_machine.specs.{held.Leaving.leaving, run.Run.Acting}
 use Rattle.do_facts.{proofs.machine.follows.States.requeued, specs.Reached.reached}
 use Rattle.do_facts.specs.steps.IsStep.{Acts, Checks, IsRuleOf, IsStep, Loses, Skips, Takes}
 use Rattle.do_facts.proofs.{OpeningAsNet.opened, steps.EachIsStep.step_is}
 use Rattle.do_facts.proofs.steps.OthersStay.{move_leaves_others, move_leaves_own}
 use Rattle.do_limits.specs.Numbers.{AllNumbersWithin, NumbersWithin}
 use Rattle.do_limits.specs.SendableActs.{AllStartSendable, KeepsSendable}
-use Rattle.do_limits.specs.SendableStates.{ItemIsReadable, StateIsSendable}
-use Rattle.do_limits.proofs.{takes.Readable.sent_is_readable, Senders.ContextIsSendable}
-use Rattle.do_limits.proofs.numbers.Rises.{Rises, run_rises, same_rises, same_rises_if, take_rises}
-use Rattle.do_limits.proofs.numbers.Same.{closing_same, start_same, time_out_same}
-use Rattle.do_limits.proofs.states.States.{context_sendable, node_sendable, queue_sendable}
+use Rattle.do_limits.specs.SendableStates.{StateIsSendable}
+use Rattle.do_facts.proofs.nodes.{TakeWalks.by_take, Judges.judge_of, EventsDo.{judge, rule_does}}
+use Rattle.do_limits.proofs.{numbers.MovesRise.{Rises, by_moves}, moves.Atoms.item_comes}
+use Rattle.do_limits.proofs.{takes.Readable.sent_is_readable, states.States.queue_sendable}
 use Rattle.do_limits.proofs.states.Steps.{opening_sendable, step_sendable}
-use Rattle.do_facts.proofs.walk.Possible.{there}
 
 -- the effect of an event's rule
-ruled : (table : List Class) (act : Acting) (S : State) → HasMethods table →
-    KeepsSendable table act → (event : Event) (n : Node) (e : Effect) →
-    ContextIsSendable (context table S n) →
-    IsRuleOf table act S event n e → Rises n e
-ruled table act S small acts (Start port selector values) n e ok q =
-    there (Rises n) (start_effect table selector values n) e
-    (same_rises_if n _ (start_same table selector values n)) q
-ruled table act S small acts (Run port) n e ok q =
-    there (Rises n) (run_effect act (context table S n)) e
-    (run_rises act (context table S n) small acts ok) q
-ruled table act S small acts (Close port peer) n e ok q =
-    subst (Rises n) (sym q.1) (same_rises n _ (closing_same peer n))
-ruled table act S small acts (Timeout port) n e ok q =
-    there (Rises n) (time_out n) e (same_rises_if n _ (time_out_same n)) q
-ruled table act S small acts _ n e ok q = absurd q
+ruled : (table : List Class) (act : Acting) (S : State) (event : Event) (n : Node) (e : Effect) →
+    IsRuleOf table act S event n e → Rises n e.node
+ruled table act S event n e rule =
+    by_moves (judge table act S event n) table n.port tt (rule_does table act S event n e rule)
 
 module _ (count : ℕ) where
   -- one more event
@@ -54,7 +40,7 @@ module _ (count : ℕ) where
   }
 
   -- one that raises numbers
-  raised : (n : Node) (e : Effect) → NumbersWithin count n → Rises n e →
+  raised : (n : Node) (e : Effect) → NumbersWithin count n → Rises n e.node →
       NumbersWithin (suc count) e.node
   raised n e h k = record {
     call = omega (arith, h.call, k.call);
@@ -63,7 +49,7 @@ module _ (count : ℕ) where
   }
 
   -- a node moves
-  moves : (port : ℕ) (n : Node) (e : Effect) (S : State) → node S port ≡ Some n → Rises n e →
+  moves : (port : ℕ) (n : Node) (e : Effect) (S : State) → node S port ≡ Some n → Rises n e.node →
       AllNumbersWithin count S → AllNumbersWithin (suc count) (moved port S e).state
   moves port n e S here up all other m h = go (other == port) refl
     where
@@ -83,34 +69,30 @@ module _ (count : ℕ) where
           })
 
   -- what an event comes to
-  came : {table : List Class} {act : Acting} → HasMethods table → KeepsSendable table act →
-      (S : State) (event : Event) (s : Stepped) → StateIsSendable table S →
-      IsStep table act S event s →
-      AllNumbersWithin count S →
+  came : (table : List Class) (act : Acting) (S : State) (event : Event) (s : Stepped) →
+      StateIsSendable table S → IsStep table act S event s → AllNumbersWithin count S →
       AllNumbersWithin (suc count) s.state
-  came small acts S event s ok (Skips e) all other m h =
+  came table act S event s ok (Skips e) all other m h =
       more m (all other m (ap (λ x. node x.state other) (sym e) ∙ h))
-  came {table} {act} small acts S event s ok (Acts port n d own here rule e) all other m h =
-      moves port n d S here
-      (ruled table act S small acts event n d (context_sendable table S ok port n here) rule) all
-      other m
+  came table act S event s ok (Acts port n d own here rule e) all other m h =
+      moves port n d S here (ruled table act S event n d rule) all other m
       (ap (λ x. node x.state other) (sym e) ∙ h)
-  came {table} {act} small acts S event s ok (Takes port from n item rest d is here rule waits e)
-      all other m h =
+  came table act S event s ok (Takes port from n item rest d is here rule waits e) all other m h =
       let U = change from (with_queue port rest) S in
       let w = queue_sendable table S ok from port (item ∷ rest) waits in
-      let home = (node_sendable table S ok port n here).0.numbers.0 in
+      let j = judge_of act (context table U n) (cause.Take from item) in
       moves port n d U (requeued from port port rest S.stations ∙ here)
-      (subst (Rises n) (sym rule.1) (take_rises (context table U n) from item
-      (subst (λ x. ItemIsReadable table from x item) (sym home)
-      (sent_is_readable table from port item w.0))))
+      (subst (λ d. Rises n d.node) (sym rule.1)
+      (by_moves j table port (item_comes table port from item
+      (sent_is_readable table from port item w.0))
+      (by_take j from rule.0 item refl)))
       (λ p k q. all p k (sym (requeued from port p rest S.stations) ∙ q)) other m
       (ap (λ x. node x.state other) (sym e) ∙ h)
-  came small acts S event s ok (Loses from to after waiting is waits few e) all other m h =
+  came table act S event s ok (Loses from to after waiting is waits few e) all other m h =
       more m (all other m
       (sym (requeued from to other (insert waiting after (items.End [])) S.stations)
       ∙ ap (λ x. node x.state other) (sym e) ∙ h))
-  came small acts S event s ok (Checks is e) all other m h =
+  came table act S event s ok (Checks is e) all other m h =
       more m (all other m (ap (λ x. node x.state other) (sym e) ∙ h))
 
 -- a machine as it opens
@@ -133,7 +115,7 @@ module _ (table : List Class) (act : Acting) (small : HasMethods table)
       subst (λ n. AllNumbersWithin n (steps table act (e ∷ es) s).state) (omega arith)
       (after_events es k.1 (followed s (step table act s.state e))
       (step_sendable table act small acts s.state ok e k.0) (suc count)
-      (came count small acts s.state e (step table act s.state e) ok
+      (came count table act s.state e (step table act s.state e) ok
       (step_is s.state table act e) all))
 
   -- every state that a machine comes to

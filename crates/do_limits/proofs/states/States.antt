@@ -12,14 +12,13 @@ use Rattle.do_machine.specs.Commit.{born, commit, committed, items_to, moved, wi
 use Rattle.do_machine.specs.{Context.{around, context}, State.{change, class_given, class_of}}
 use Rattle.do_machine.specs.State.{is_known, node, queue, queue_to, station, with_items, with_queue}
 use Rattle.do_machine.specs.held.Kept.{kept, struck, struck_by, stays}
-use Rattle.do_machine.specs.held.{Leaving.{dropping, freeing, leaving, left}, Refers.node_objects}
+use Rattle.do_machine.specs.held.{Leaving.{freeing, leaving, left}, Refers.node_objects}
 use Rattle.do_packet.specs.Met.{has_object}
 use Rattle.do_base.specs.names.Names.{ObjectName}
 use Rattle.do_limits.specs.{Sendable.IsOfTable, SendableStates.{ItemIsSendable, NodeIsSendable}}
 use Rattle.do_limits.specs.SendableStates.{StateIsSendable, HasSerial, ObjectIsSendable}
 use Rattle.do_limits.specs.SendableStates.{QueueIsSendable, StationIsSendable}
 use Rattle.do_limits.proofs.Effects.{EffectIsSendable, ParcelIsSendable, holding_more}
-use Rattle.do_facts.proofs.walk.Done.{then_done}
 use Rattle.do_limits.proofs.{Senders.{ContextIsSendable, slots_known}, Signatures.one_at}
 use Rattle.do_facts.proofs.EachOfLists.{each_filtered, each_joined, each_mapped, each_weaker}
 use Rattle.do_limits.proofs.Lists.{each_changed, found_by}
@@ -50,29 +49,20 @@ leaves table port [] h = tt
 leaves table port (o ∷ os) h = (h.0, leaves table port os h.1)
 
 -- what a node frees and leaves
-leaving_sendable : {table : List Class} {port : ℕ} → (entry : ℕ → ℕ → Bool) (n : Node) →
+pub leaving_sendable : {table : List Class} {port : ℕ} → (entry : ℕ → ℕ → Bool) (n : Node) →
     NodeIsSendable table port n → EffectIsSendable table port (leaving entry n)
 leaving_sendable {table} {port} entry n h =
-    then_done (freeing (kept entry n) n) (λ m. dropping (node_objects m) m)
-    (record {
+    let kept_by = has_object (node_objects (freeing (kept entry n) n).node) in
+    record {
       node = record {
         heap = struck_sendable table (length n.heap) entry n n.heap h.heap;
         stack = h.stack;
-        numbers = h.numbers;
+        numbers = holding_more port n h.numbers (filter kept_by n.held)
+            (each_filtered HasSerial kept_by n.held h.numbers.1.1.1.0);
       };
-      sent = tt;
-    })
-    (λ m k. record {
-      node = record {
-        heap = k.heap;
-        stack = k.stack;
-        numbers = holding_more port m k.numbers (filter (has_object (node_objects m)) m.held)
-            (each_filtered HasSerial (has_object (node_objects m)) m.held k.numbers.1.1.1.0);
-      };
-      sent = leaves table port (filter (λ o. not (has_object (node_objects m) o)) m.held)
-          (each_filtered HasSerial (λ o. not (has_object (node_objects m) o)) m.held
-          k.numbers.1.1.1.0);
-    })
+      sent = leaves table port (filter (λ o. not (kept_by o)) n.held)
+          (each_filtered HasSerial (λ o. not (kept_by o)) n.held h.numbers.1.1.1.0);
+    }
 
 -- ---- states
 

@@ -1,18 +1,17 @@
 -- Every state that a machine comes to has only what a message can carry.
 use Rattle.do_machine.specs.declared.item.Item.TheVariants as items
+use Rattle.do_facts.specs.nodes.Cause as cause
 use Rattle.do_limits.proofs.Signatures.{HasMethods}
 use Rattle.std.proofs.Common.{◌≡◌, ℕ, Bool, List, [], ◌∷◌, arith, map, refl, sym, subst, ◌∙◌}
 use Rattle.std.{specs.Prelude.{All, Some}, proofs.lemmas.List.Elements.recursion_from_All}
 use Rattle.std.specs.List.{AllByRecursion, insert}
-use Rattle.do_base.specs.declared.events.event.Event.{Event}
-use Rattle.do_base.specs.declared.events.event.Event.TheVariants.{Close, Run, Start, Timeout}
+use Rattle.do_base.specs.declared.events.event.Event.{Event, TheVariants.Start}
 use Rattle.do_class.specs.Class.{Class}
 use Rattle.do_machine.specs.declared.{node.Node.Node, state.{Effect.Effect, Seat.Seat, State.State}}
 use Rattle.do_machine.specs.{declared.state.Stepped.Stepped, Commit.skipped, Context.context}
-use Rattle.do_machine.specs.{Start.start_effect, Lists.all_inserted, State.{change, node}}
-use Rattle.do_machine.specs.{State.with_queue, Step.step, World.{IsSeat, by_port, is_before}}
-use Rattle.do_machine.specs.{World.{opening, opening_station, others}, take.Take.take_effect}
-use Rattle.do_machine.specs.{ends.TimeOut.time_out, run.Run.{Acting, run_effect}}
+use Rattle.do_machine.specs.{Lists.all_inserted, State.{change, node, with_queue}, Step.step}
+use Rattle.do_machine.specs.World.{IsSeat, by_port, is_before, opening, opening_station, others}
+use Rattle.do_machine.specs.{take.Take.take_effect, run.Run.Acting}
 use Rattle.do_facts.{proofs.machine.follows.States.requeued, specs.Reached.reached}
 use Rattle.do_facts.specs.steps.IsStep.{Acts, Checks, IsRuleOf, IsStep, Loses, Skips, Takes}
 use Rattle.do_facts.proofs.steps.EachIsStep.{step_is}
@@ -20,37 +19,35 @@ use Rattle.do_machine.specs.check.Blocks.{followed, steps}
 use Rattle.do_limits.specs.SendableActs.{AllStartSendable, KeepsSendable, StartsSendable}
 use Rattle.do_limits.specs.SendableStates.{ItemIsReadable, ItemIsSendable, QueueIsSendable}
 use Rattle.do_limits.specs.SendableStates.{StateIsSendable, StationIsSendable}
+use Rattle.do_facts.proofs.{EachOfLists.each_inserted, nodes.EventsDo.{cause_of, judge, rule_does}}
+use Rattle.do_facts.proofs.nodes.{Judges.judge_of, TakeWalks.by_take}
+use Rattle.do_limits.proofs.{Lists.each_placed, moves.{Atoms.item_comes, Effects.does_sendable}}
+use Rattle.do_limits.proofs.{moves.Packets.IsGiven, states.States.{context_sendable, moves}}
+use Rattle.do_limits.proofs.states.States.{node_sendable, queue_sendable, requeues}
 use Rattle.do_limits.proofs.Effects.{EffectIsSendable, blank_sendable}
-use Rattle.do_facts.proofs.{walk.Done.done_there, EachOfLists.each_inserted}
-use Rattle.do_limits.proofs.{Lists.each_placed, runs.Runs.run_sendable}
-use Rattle.do_limits.proofs.{runs.Starts.{start_sendable, time_out_sendable}, takes.Ends.closes}
-use Rattle.do_limits.proofs.takes.{Readable.sent_is_readable, Takes.take_sendable}
-use Rattle.do_limits.proofs.states.States.{context_sendable, moves, node_sendable, queue_sendable}
-use Rattle.do_limits.proofs.states.States.{requeues}
+use Rattle.do_limits.proofs.takes.Readable.{sent_is_readable}
 
 -- ---- steps
 
 module _ (table : List Class) (act : Acting) (small : HasMethods table)
     (acts : KeepsSendable table act) (S : State) (ok : StateIsSendable table S) where
+  -- what an event gives
+  given : (event : Event) (n : Node) (e : Effect) → StartsSendable event →
+      IsRuleOf table act S event n e → IsGiven (cause_of event)
+  given (Start port selector values) n e k rule = k
+  given _ n e k rule = tt
+
   -- the effect of an event's rule
   ruled : (event : Event) → StartsSendable event → (port : ℕ) (n : Node) (e : Effect) →
       node S port ≡ Some n → IsRuleOf table act S event n e → EffectIsSendable table port e
-  ruled (Start at selector values) k port n e here q =
-      done_there (start_effect table selector values n) e
-      (start_sendable table small port selector values n k
-      (node_sendable table S ok port n here).0) q
-  ruled (Run at) k port n e here q =
-      let c = context_sendable table S ok port n here in
+  ruled event k port n e here rule =
       subst (λ x. EffectIsSendable table x e) (node_sendable table S ok port n here).0.numbers.0
-      (done_there (run_effect act (context table S n)) e
-      (run_sendable act (context table S n) small acts c) q)
-  ruled (Close at peer) k port n e here q =
-      subst (EffectIsSendable table port) (sym q.1)
-      (closes peer n (node_sendable table S ok port n here).0)
-  ruled (Timeout at) k port n e here q =
-      done_there (time_out n) e
-      (time_out_sendable n (node_sendable table S ok port n here).0) q
-  ruled _ k port n e here q = absurd q
+      (does_sendable (judge table act S event n) (record {
+        methods = small;
+        acts = acts;
+        context = context_sendable table S ok port n here;
+        given = given event n e k rule;
+      }) e (rule_does table act S event n e rule) tt)
 
   -- what an event comes to
   came : (event : Event) → StartsSendable event → (s : Stepped) →
@@ -65,15 +62,21 @@ module _ (table : List Class) (act : Acting) (small : HasMethods table)
       let after = requeues table from port rest w.1 S ok in
       let still = requeued from port port rest S.stations ∙ here in
       let home = (node_sendable table S ok port n here).0.numbers.0 in
-      let c = context_sendable table T after port n still in
-      let took = take_sendable (context table T n) from small c item
+      let c = context table T n in
+      let j = judge_of act c (cause.Take from item) in
+      let took = does_sendable j (record {
+        methods = small;
+        acts = acts;
+        context = context_sendable table T after port n still;
+        given = tt;
+      }) (take_effect c from item) (by_take j from rule.0 item refl)
+      (item_comes table n.port from item
       (subst (λ x. ItemIsReadable table from x item) (sym home)
-      (sent_is_readable table from port item w.0)) in
+      (sent_is_readable table from port item w.0))) in
       subst (λ x. StateIsSendable table x.state) (sym e)
       (moves table port T d
       (subst (EffectIsSendable table port) (sym rule.1)
-      (subst (λ x. EffectIsSendable table x (take_effect (context table T n) from item)) home
-      took)) after)
+      (subst (λ x. EffectIsSendable table x (take_effect c from item)) home took)) after)
   came event k s (Loses from to after waiting is waits few e) =
       subst (λ x. StateIsSendable table x.state) (sym e)
       (requeues table from to (insert waiting after (items.End []))

@@ -1,15 +1,14 @@
--- An end that closes leaves and sends only what a message can carry.
-use Rattle.std.proofs.Common.{not, List, ◌==◌, ℕ, Bool, true, false, cond, refl}
+-- A node that parts from a peer has only what a message can carry.
+use Rattle.std.proofs.Common.{not, List, ◌==◌, ℕ, Bool, true, false, cond, refl, subst, sym}
 use Rattle.do_base.specs.declared.events.exception.Exc.TheVariants.{ConnectionDied}
 use Rattle.do_class.specs.Class.{Class}
 use Rattle.do_behave.specs.declared.invocation.{Answer.TheVariants.Raised, InvState.InvState}
 use Rattle.do_behave.specs.declared.invocation.InvState.TheVariants.{Answered, Waits}
 use Rattle.do_machine.specs.declared.node.Node.{Node}
-use Rattle.do_machine.specs.ends.Closing.{closing, died, parted, without_answer}
+use Rattle.do_machine.specs.ends.Closing.{died, parted, without_answer, asked_of, closing}
+use Rattle.do_facts.proofs.walk.SmallEffects.{settled_node}
 use Rattle.do_limits.specs.SendableStates.{AsksForOne, HasSendableAnswer, HasSerial}
 use Rattle.do_limits.specs.SendableStates.{InvocationIsSendable, NodeIsSendable}
-use Rattle.do_facts.proofs.walk.SmallEffects.{by_closing}
-use Rattle.do_limits.proofs.Effects.{EffectIsSendable, small}
 use Rattle.do_facts.proofs.EachOfLists.{each_filtered, each_mapped, each_weaker}
 use Rattle.do_limits.proofs.runs.Verdicts.{textless}
 
@@ -53,7 +52,9 @@ parts peer n h = record {
   );
 }
 
--- an end that closes
+-- one that closed its end
 pub closes : {table : List Class} {port : ℕ} → (peer : ℕ) (n : Node) →
-    NodeIsSendable table port n → EffectIsSendable table port (closing peer n)
-closes peer n h = by_closing small peer n (parts peer n h) tt
+    NodeIsSendable table port n → NodeIsSendable table port (closing peer n).node
+closes {table} {port} peer n h =
+    subst (NodeIsSendable table port) (sym (settled_node (asked_of peer n) (parted peer n)))
+    (parts peer n h)

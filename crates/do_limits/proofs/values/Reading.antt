@@ -1,6 +1,6 @@
 -- A message that was read of a frame keeps the limits, and its parts can be spelled.
 use Rattle.do_class.specs.declared.packet.Part.TheVariants as part
-use Rattle.std.proofs.Common.{◌≡◌, ◌-◌, ℕ, ℤ, Bool, true, List as Listed, [], ◌∷◌, ◌&&◌, length}
+use Rattle.std.proofs.Common.{◌≡◌, ◌-◌, ℕ, ℤ, Bool, true, List as Listed, [], ◌∷◌, length}
 use Rattle.std.{proofs.Common.{map, refl, sym, ap, ◌∙◌, rules, arith}, specs.Prelude.{Some, get_or}}
 use Rattle.std.specs.Prelude.{nat_le, nat_lt, option_map, slice_get, suc, zero, ◌<◌, ◌≤◌}
 use Rattle.std.{specs.List.{All, AllByRecursion, list_all}, proofs.lemmas.Bool.and_from}
@@ -12,7 +12,7 @@ use Rattle.do_coder.specs.Packets.{IsCopied, IsPacket, most_copies, sides_of, sl
 use Rattle.do_coder.specs.{Packets.surroundings, Names.IsName, Parts.{IsPart, part_fits}}
 use Rattle.do_coder.proofs.values.PartFacts.{fits-Copy, fits-Named, fits-Num, fits-Text}
 use Rattle.do_packet.specs.Limits.{HasPlaces, places_within}
-use Rattle.do_limits.specs.Sendable.{AreSendableParts, CopyIsSendable, IsOfTable, IsReadablePacket}
+use Rattle.do_limits.specs.Sendable.{AreSendableParts, CopyIsSendable, IsReadablePacket}
 use Rattle.do_limits.{specs.Sendable.{NameIsSendable, can_spell}, proofs.values.Packing.spell-Copy}
 use Rattle.do_limits.proofs.values.Packing.{spell-List, spell-Named, spell-Nil, spell-Num}
 use Rattle.do_limits.proofs.values.{Packing.{spell-Text, tests}, Spelling.{fits-List, within-Copy}}
