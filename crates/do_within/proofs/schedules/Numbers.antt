@@ -1,18 +1,17 @@
 -- The numbers of a network's nodes are those of the machine's.
-use Rattle.std.proofs.Common.{◌≡◌, ◌∙◌, ◌<◌, ℕ, List, ap, arith, length, sym}
-use Rattle.std.specs.Prelude.{Some, option_map}
+use Rattle.std.proofs.Common.{◌∙◌, ◌<◌, ℕ, List, ap, length, sym}
+use Rattle.std.specs.Prelude.{option_map}
 use Rattle.do_base.specs.declared.events.event.Event.{Event}
 use Rattle.do_class.specs.Class.{Class}
-use Rattle.do_machine.specs.declared.{node.Node.Node, state.{Seat.Seat, State.State}}
-use Rattle.do_machine.specs.{World.IsWorld, run.Run.Acting}
+use Rattle.do_machine.specs.{declared.state.{Seat.Seat, State.State}, World.IsWorld, run.Run.Acting}
 use Rattle.do_facts.specs.Reached.{reached}
-use Rattle.do_network.specs.{Links.Part, Net.{Net, part_at}}
-use Rattle.do_limits.specs.Numbers.{AllNumbersWithin, NumbersWithin}
-use Rattle.do_limits.specs.SendableActs.{AllStartSendable, KeepsSendable}
-use Rattle.do_limits.proofs.{Selectors.has_methods, numbers.Reached.reached_numbers}
+use Rattle.do_network.specs.{Links.Part, Net.{Net}}
+use Rattle.do_limits.specs.{Numbers.AllNumbersWithin, SendableActs.AllStartSendable}
+use Rattle.do_limits.{specs.SendableActs.KeepsSendable, proofs.Selectors.has_methods}
+use Rattle.do_limits.proofs.numbers.{Few.few_small, Reached.reached_numbers}
 use Rattle.do_agreement.proofs.agreement.GoesOn.{Goes}
-use Rattle.do_within.specs.Numbers.{AllNumbersSmall, HasSmallNumbers, NetNumbersWithin}
-use Rattle.do_within.{specs.Received.net_reached, proofs.schedules.Walk.from_opening}
+use Rattle.do_within.specs.{Numbers.{AllNumbersSmall, NetNumbersWithin}, Received.net_reached}
+use Rattle.do_within.proofs.schedules.Walk.{from_opening}
 
 -- a network that agrees with a state has the state's numbers
 shown_within : (table : List Class) (N : Net) (S : State) → Goes table N S → (count : ℕ) →
@@ -21,15 +20,6 @@ shown_within table N S goes count all port p here =
     all port p.own.node
     (sym (goes.agrees.tallies.shows.nodes port)
     ∙ ap (option_map (λ (q : Part). q.own.node)) here)
-
--- numbers after few events are small
-few_small : (count : ℕ) (n : Node) → count < 70368744177664 → NumbersWithin count n →
-    HasSmallNumbers n
-few_small count n few h = record {
-  call = omega (arith, few, h.call);
-  serial = omega (arith, few, h.serial);
-  token = omega (arith, few, h.token);
-}
 
 module _ (table : List Class) (act : Acting) (seats : List Seat) (world : IsWorld table seats)
     (acts : KeepsSendable table act) (events : List Event) (starts : AllStartSendable events)

@@ -43,10 +43,12 @@ packet_few from to p h =
 -- an item that is within the limits exports no more objects than a message may name
 exports_few : (table : List Class) (a m from to : ℕ) (item : Item) →
     ItemIsSendable table a m item → length (exported from to item) ≤ most_names
-exports_few table a m from to (items.Call k x) h = packet_few from to x.packet h.packet.limits.names
-exports_few table a m from to (items.Oneway x) h = packet_few from to x.packet h.packet.limits.names
-exports_few table a m from to (items.Reply k p) h = packet_few from to p h.limits.names
-exports_few table a m from to (items.RootAnswer k p) h = packet_few from to p h.limits.names
+exports_few table a m from to (items.Call k x) h =
+    packet_few from to x.packet h.packet.read.limits.names
+exports_few table a m from to (items.Oneway x) h =
+    packet_few from to x.packet h.packet.read.limits.names
+exports_few table a m from to (items.Reply k p) h = packet_few from to p h.read.limits.names
+exports_few table a m from to (items.RootAnswer k p) h = packet_few from to p h.read.limits.names
 exports_few table a m from to (items.End serials) h = none serials
   where
     none : (xs : List ℕ) → length (exported from to (items.End xs)) ≤ most_names
