@@ -13,7 +13,7 @@ use Rattle.do_serve.specs.{Core.enter, Peers.Peer, Record.last_line, Rules.{Outg
 use Rattle.do_serve.specs.Serving.{How, Report, Server, Turn, after_hand, after_turn, ended, ends}
 use Rattle.do_serve.specs.Serving.{goes, hand, hears, polls, sent_all, serve_from, spent, turn}
 use Rattle.do_serve.specs.Serving.{unfinished}
-use Rattle.do_showable.specs.Shows.{makers}
+use Rattle.do_bounds.specs.Bounds.{makers}
 
 -- what stands at the end of a record
 abbrev pub end_text : How → List ℕ

@@ -15,7 +15,7 @@ use Rattle.do_serve.specs.Core.{Core, Entered, enter, leave_among}
 use Rattle.do_serve.specs.Peers.{Found, Peer, closed_among, end_among, take_among}
 use Rattle.do_serve.specs.{Rules.{Outgoing, Rules}, Serving.{Server, Turn, ends, found_turn, goes}}
 use Rattle.do_serve.specs.Serving.{goes_on, idle_turn, line_turn, polls, turn, used_if}
-use Rattle.do_showable.specs.Shows.{makers, may_make}
+use Rattle.do_bounds.specs.Bounds.{makers, may_make}
 
 -- an input makes objects once at most
 makes_once : (i : Input) → may_make i ≤ 1

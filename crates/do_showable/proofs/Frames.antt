@@ -1,45 +1,18 @@
--- A frame that is read is one that a message can carry, and a record may show it.
+-- A record may show what a frame that has a spelling brings.
 use Rattle.do_frames.specs.declared.frame.Frame.TheVariants as frames
 use Rattle.do_machine.specs.declared.item.Item.TheVariants as items
-use Rattle.std.proofs.Common.{Err, List, Ok, ap, length, refl, subst, true, ℕ, ◌≡◌}
-use Rattle.std.specs.{List.AllByRecursion, Prelude.{None, Option, Result, Some}}
-use Rattle.do_grammar.specs.{Grammar.IsBytes, Reader.Stop}
-use Rattle.do_class.specs.{Class.Class, Table.IsTable, declared.packet.Packet.Packet}
+use Rattle.std.{proofs.Common.{List, subst, true, ℕ, ◌≡◌}, specs.Prelude.Some}
+use Rattle.do_class.specs.{Class.Class, declared.packet.Packet.Packet}
 use Rattle.do_sched.specs.Good.{IsPort}
 use Rattle.do_record.specs.GoodShown.{IsTook}
-use Rattle.do_coder.specs.{Packets.surroundings, Recent.{IsKnown, IsRecent}}
-use Rattle.do_coder.specs.declared.recent.pair.Pair.{Pair}
-use Rattle.do_frames.proofs.payloads.WholePayload.{whole_spelled}
-use Rattle.do_frames.specs.{Frames.IsFrame, Kinds.{kind_at, kind_number}}
-use Rattle.do_frames.specs.declared.{frame.{Frame.Frame, RawFrame.RawFrame}, kind.Kind.Kind}
+use Rattle.do_coder.specs.Packets.{surroundings}
+use Rattle.do_frames.specs.{Frames.IsFrame, declared.frame.Frame.Frame}
 use Rattle.do_machine.specs.{Objects.object_at, declared.item.Item.Item, take.Lines.item_line}
 use Rattle.do_facts.proofs.walk.Takes.{packet_in}
-use Rattle.do_network.specs.Frames.{item_of, payload_read, read_frame, read_or_place}
-use Rattle.do_limits.specs.SendableStates.{ItemIsSendable}
+use Rattle.do_network.specs.Frames.{item_of}
+use Rattle.do_limits.specs.SendableStates.{ItemIsReadable}
 use Rattle.do_showable.proofs.Naming.{exception_stands, is_nameable, named_at, object_stands}
-use Rattle.do_showable.proofs.Packets.{PacketPasses, packet_carried, packet_passes}
-
--- what was read was found
-was_read : (payload : List ℕ) (answer : Result Frame (Stop (Unit {0}))) (f : Frame) →
-    read_or_place payload answer ≡ Ok f → answer ≡ Ok f
-was_read payload (Ok g) f e = let same : g ≡ f = cc (e) in ap (λ x. Ok x) same
-was_read payload (Err stop) f e = absurd (cc (e))
-
-module _ (table : List Class) (t : IsTable table) (from to : ℕ) (recent : List Pair)
-    (r : IsRecent recent) (known : AllByRecursion (IsKnown (length table)) recent) where
-  -- what is read of bytes has a spelling
-  pub read_is : (raw : RawFrame) (f : Frame) → IsBytes raw.payload →
-      read_frame table from to recent raw ≡ Ok f → IsFrame (surroundings table from to) f
-  unfolding read_frame
-  read_is raw f small e = by_kind (kind_at raw.kind) e
-    where
-      by_kind : (kind : Option Kind) →
-          payload_read (surroundings table from to) recent raw.payload kind ≡ Ok f →
-          IsFrame (surroundings table from to) f
-      by_kind None k = absurd (cc (k))
-      by_kind (Some kind) k =
-          (whole_spelled table t from to recent r known kind (kind_number kind) refl raw.payload f
-          small (was_read raw.payload _ f k)).fits.1
+use Rattle.do_showable.proofs.Packets.{PacketPasses, packet_passes}
 
 -- a record may name the objects of an item from one port to another
 abbrev pub ItemPasses : ℕ → ℕ → Item → Type 0
@@ -69,33 +42,7 @@ message_passes from to (items.RootAnswer number p) h packet is =
 message_passes from to _ h packet is = absurd (cc (is))
 
 module _ (table : List Class) (from to : ℕ) (at_from : IsPort from) (at_to : IsPort to) where
-  -- a frame that has a spelling can be carried
-  pub frame_carried : (f : Frame) → IsFrame (surroundings table from to) f →
-      ItemIsSendable table from to (item_of f)
-  frame_carried (frames.Call number serial selector packet) h = record {
-    target = h.1.0.0;
-    selector = h.1.1.0;
-    packet = packet_carried table from to at_from at_to packet h.1.1.1;
-  }
-  frame_carried (frames.Oneway serial selector packet) h = record {
-    target = h.0.0;
-    selector = h.1.0;
-    packet = packet_carried table from to at_from at_to packet h.1.1;
-  }
-  frame_carried (frames.Reply number packet) h =
-      packet_carried table from to at_from at_to packet h.1
-  frame_carried (frames.Raised number e) h = h.1
-  frame_carried (frames.RootAsk number) h = tt
-  frame_carried (frames.RootAnswer number packet) h =
-      packet_carried table from to at_from at_to packet h.1
-  frame_carried (frames.Retain serial token) h = h.0.0
-  frame_carried (frames.Granted serial token) h = h.0.0
-  frame_carried (frames.Gone serial token) h = h.0.0
-  frame_carried (frames.Release serial amount) h = h.0.0
-  frame_carried (frames.Settle number) h = tt
-  frame_carried frames.Shutdown h = tt
-
-  -- and a record may name its objects
+  -- a record may name the objects of such a frame
   pub frame_passes : (f : Frame) → IsFrame (surroundings table from to) f →
       ItemPasses from to (item_of f)
   frame_passes (frames.Call number serial selector packet) h =
@@ -116,7 +63,7 @@ module _ (table : List Class) (from to : ℕ) (at_from : IsPort from) (at_to : I
   frame_passes frames.Shutdown h = tt
 
   -- an item that is taken may stand in a record
-  pub took_stands : (item : Item) → ItemIsSendable table from to item → ItemPasses from to item →
+  pub took_stands : (item : Item) → ItemIsReadable table from to item → ItemPasses from to item →
       IsTook (item_line from to item)
   took_stands (items.Call number m) h k = h.selector
   took_stands (items.Oneway m) h k = h.selector

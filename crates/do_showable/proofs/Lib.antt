@@ -6,7 +6,5 @@ pub mod Showing
 pub mod Takes
 pub mod Runs
 pub mod Starts
-pub mod Classes
-pub mod Links
 pub mod Sites
 pub mod Inputs

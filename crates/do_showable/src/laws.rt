@@ -5,7 +5,8 @@ ghost use Rattle.do_machine.specs.run.Run.{Acting};
 ghost use Rattle.do_at_hand.specs.AtHand.{ShowsNames};
 ghost use Rattle.do_limits.specs.SendableActs.{KeepsSendable};
 ghost use Rattle.do_network.specs.{declared.input.Input.Input, Net.opening_part};
-ghost use Rattle.do_showable.specs.Shows.{AllMayStand, MayCome, makers};
+ghost use Rattle.do_bounds.specs.Bounds.{makers};
+ghost use Rattle.do_showable.specs.Shows.{AllMayStand, MayCome};
 
 /// Whatever its peers send, each line that a node shows may stand in a record. Each object has a
 /// port and a serial from 1 to 2^63 - 1, and texts and lists are within the limits of messages.

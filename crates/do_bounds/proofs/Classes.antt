@@ -4,7 +4,7 @@ use Rattle.std.specs.FinMap as map_of
 use Rattle.std.proofs.Common.{Bool, List, [], ap, cond, false, fold, refl, subst, sym, true, ℕ, ◌∙◌}
 use Rattle.std.{proofs.Common.{◌∷◌, ◌≡◌}, specs.FinMap.{get-empty, get-insert, get-retain_keys}}
 use Rattle.std.specs.{List.{AllByRecursion, filter_map}, Ordering.{eq_by_cmp, is_eq}}
-use Rattle.std.specs.{Prelude.{None, Some, ◌≤◌}, declared.cmp.Ordering.Ordering}
+use Rattle.std.specs.{Prelude.{None, Some}, declared.cmp.Ordering.Ordering}
 use Rattle.std.specs.declared.cmp.Ordering.TheVariants.{Equal, Greater, Less}
 use Rattle.do_base.specs.names.Names.{ObjectName}
 use Rattle.do_class.specs.{Class.Class, declared.{ids.ClassId.ClassId, packet.Name.Name}}
@@ -14,11 +14,8 @@ use Rattle.do_export.{proofs.Order.{entry_same, entry_total}, specs.Counts.entry
 use Rattle.do_import.specs.ByObject.{ClassMap, object_of}
 use Rattle.do_machine.specs.{State.is_known, declared.{item.Item.Item, node.Node.Node}}
 use Rattle.do_network.specs.Counting.{Classed, classed_name, item_classes, of_known, with_class}
-use Rattle.do_limits.specs.{Sendable.{IsOfTable, NameIsSendable}, SendableStates.ItemIsSendable}
-
--- a class of the table, of an object with a serial at a port
-abbrev ClassStands : List Class → ObjectName → ClassId → Type 0
-ClassStands table o class = IsOfTable table class × ((1 ≤ o.serial) × IsPort o.node)
+use Rattle.do_limits.specs.{Sendable.NameIsSendable, SendableStates.ItemIsReadable}
+use Rattle.do_bounds.specs.Bounds.{ClassStands}
 
 -- so it is with each class that is kept
 abbrev pub ClassesStand : List Class → ClassMap → Type 0
@@ -103,7 +100,7 @@ module _ (table : List Class) where
         ((h.0.1.1.0, (h.0.1.0, (h.0.0.at_least, h.0.0.at_most))), names_tell xs h.1)
 
     -- an item
-    pub item_tells : (item : Item) → ItemIsSendable table from to item →
+    pub item_tells : (item : Item) → ItemIsReadable table from to item →
         Tells (item_classes from item)
     item_tells (items.Call number m) h = names_tell m.packet.names h.packet.names
     item_tells (items.Oneway m) h = names_tell m.packet.names h.packet.names
