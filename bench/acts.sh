@@ -1,8 +1,8 @@
 #!/bin/sh
 # Prints what an act of a long method costs, in processor time, where a schedule of a million steps
-# is replayed: of counting, of counting beside texts, of moving a text, and of growing a list, over
-# and over, to 16, 128 and 1,024 items. What a schedule of 1,000 steps takes is taken off; each
-# figure is the best of three runs.
+# is replayed. The methods count, count beside texts, move a text, and grow a list over and over, to
+# 16, 128 and 1,024 items. What a schedule of 1,000 steps takes is taken off; each figure is the
+# best of three runs.
 # sh bench/acts.sh [PROGRAM]     the program must be built (./replay builds it)
 set -e
 cd "$(dirname "$0")/.."

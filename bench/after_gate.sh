@@ -1,7 +1,8 @@
 #!/bin/sh
-# The checks after the proofs, which need tools that a machine may lack: sh bench/after_gate.sh
-# The status is 1 where one of them found a fault. One that cannot run here, or does not end in time,
-# says so and counts for nothing.
+# The checks after the proofs, which need tools that a machine may lack.
+# sh bench/after_gate.sh
+# The status is 1 where one of them found a fault. One that cannot run here, or does not end in
+# time, says so and counts for nothing.
 cd "$(dirname "$0")/.." || exit 0
 status=0
 

@@ -1,6 +1,6 @@
 #!/bin/sh
-# Prints what a transcript shows of one node, as the node's record has it: the blocks of its inputs
-# that were enabled, a loss and the take behind it as one end, and no lines `wire ..`.
+# Prints what a transcript shows of one node, as the node's record has it. That is the blocks of its
+# inputs that were enabled, without lines `wire ..`. A loss and the take behind it are one end.
 # sh bench/blocks_of.sh PORT TRANSCRIPT
 set -e
 awk -v port="$1" '

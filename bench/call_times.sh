@@ -1,6 +1,6 @@
 #!/bin/sh
-# Prints the median and the p99 of calls `add:` between two nodes that run as processes, beside round
-# trips in plain C, and the same of 100,000 bytes in C.
+# Prints the median and the p99 of calls `add:` between two nodes that run as processes. Beside them
+# stand round trips in plain C, and those of 100,000 bytes in C.
 # sh bench/call_times.sh [PROGRAM [CALLS]]
 # It is run by root, since it looks at packets, in a network of its own.
 set -e

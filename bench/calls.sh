@@ -1,6 +1,7 @@
 #!/bin/sh
-# Prints the microseconds of a call `add:` and its reply between two nodes that run as processes,
-# beside round trips of 20 bytes in plain C; and of a text of 100,000 bytes there and back.
+# Prints the microseconds of a call `add:` and its reply between two nodes that run as processes.
+# Beside them stand round trips of 20 bytes in plain C. Then it prints those of a text of 100,000
+# bytes there and back.
 # sh bench/calls.sh [PROGRAM [CALLS]]
 # The ports 7301 and 7302 of this machine must be free. The times of a run of no call are taken off.
 set -e

@@ -1,6 +1,6 @@
 // A plain reader of packets, frames and streams in ordinary Rust. It writes the rows of
-// `crates/site_calls/data/changed.rows`: for a payload of each kind, and for a stream, a number
-// that sums up what is answered where it is cut or changed at each byte.
+// `crates/site_calls/data/changed.rows`: one for a payload of each kind, and one for a stream. Its
+// number sums up what is answered where that is cut or changed at each byte.
 // rustc --edition 2021 -O bench/changed_bytes.rs -o changed_bytes && ./changed_bytes
 #![allow(dead_code)]
 

@@ -1,10 +1,11 @@
 #!/bin/sh
-# Draws schedules over `:mesh` with calls, closes and ends without notice, cuts the transcript of
-# each into one record a node, weaves these, replays what is woven, and compares what that shows of
-# each node with its record. Neither the drawing nor the cutting is done by the program.
+# Draws schedules over `:mesh` with calls, closes and ends without notice, and cuts the transcript
+# of each into one record a node. It weaves these, replays what is woven, and compares what that
+# shows of each node with its record. Neither the drawing nor the cutting is done by the program.
 # sh bench/drawn_records.sh [PROGRAM [SETS [NUMBER]]]
-# There are SETS sets (10 if none is given), drawn by the numbers from NUMBER on (1 if none is
-# given). A drawn schedule in which a loss is not taken at once has no records, and is passed over.
+# There are SETS sets (10 if none is given). They are drawn by the numbers from NUMBER on (1 if none
+# is given). A drawn schedule in which a loss is not taken at once has no records, and is passed
+# over.
 set -e
 here=$(cd "$(dirname "$0")" && pwd)
 program=$(realpath "${1:-$here/../crates/nukwashe/out/nukwashe}")

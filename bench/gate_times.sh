@@ -1,10 +1,10 @@
 #!/bin/sh
-# Runs the gate from nothing on a copy of this repository, and prints for each crate the processor
-# seconds of its proof, of its tests' proof and of its must-fail edits, then the sums and the time
-# on the clock. The gate's own last lines come first.
+# Runs the gate from nothing on a copy of this repository. It prints for each crate the processor
+# seconds of its proof, of its tests' proof and of its must-fail edits. Then come the sums and the
+# time on the clock. The gate's own last lines come first.
 # sh bench/gate_times.sh
 #
-# The seconds are read off the running checks and what they waited for twice a second, so up to half
+# The seconds are read off the running checks and what they waited for twice a second. So up to half
 # a second of each check (of each edit: of some 20) is missed.
 set -e
 cd "$(dirname "$0")/.."

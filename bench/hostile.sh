@@ -5,9 +5,9 @@
 #
 # PROGRAM is the proved program; if none is given it is looked for where `./replay` builds it, and
 # where the toolchain keeps what it proved. With words, the cases run whose names have one of them.
-# The status is 3 where the program did what it must not do, as ending, serving an honest peer no
-# more, or taking memory without bound. A case that this machine cannot run is told, and counts for
-# nothing. It takes two minutes at most.
+# The status is 3 where the program did what it must not do. Such is ending, serving an honest peer
+# no more, or taking memory without bound. A case that this machine cannot run is told, and counts
+# for nothing. It takes two minutes at most.
 here=$(cd "$(dirname "$0")" && pwd)
 program=${1:-$here/../crates/nukwashe/out/nukwashe}
 [ $# -eq 0 ] || shift

@@ -1,10 +1,10 @@
 #!/bin/sh
-# Runs two plans as processes, the copy and paste of examples/session and one of 16 nodes, of which
-# each sends 100 calls `add:` to each of the three next to it and answers as many of each of the
-# three before it. It weaves what their nodes recorded into one schedule, replays that, and compares
-# what the transcript shows of each node with the node's record. Prints for each run the seconds of
-# each part and how many lines the records and the transcript have, and stops at the first run that
-# fails, that takes more than two minutes, or that differs.
+# Runs two plans as processes: the copy and paste of examples/session, and one of 16 nodes. Each
+# node of the second sends 100 calls `add:` to each of the three next to it. It answers as many of
+# each of the three before it. The script weaves what their nodes recorded into one schedule,
+# replays that, and compares what the transcript shows of each node with the node's record. Prints
+# for each run the seconds of each part, and how many lines the records and the transcript have. It
+# stops at the first run that fails, that takes more than two minutes, or that differs.
 # sh bench/lab.sh [PROGRAM [PORT [RUNS]]]
 # The 16 ports of this machine from PORT on (7501 if none is given) must be free. There are RUNS
 # runs of each plan (one if none is given).

@@ -1,7 +1,7 @@
 #!/bin/sh
 # Runs a program with words once for each allocation that it makes, with that one refused.
-# Prints how many of the runs wrote what an undisturbed one writes, how many ended in an error since
-# what stands around the calls had no memory, and each that did anything else.
+# Prints how many of the runs wrote what an undisturbed one writes, and each that did anything else.
+# Beside them it prints how many ended in an error since what stands around the calls had no memory.
 # sh bench/memory.sh PROGRAM [WORD ..]    the word is `memory` where there is none; `rt run` in the
 # folder of the program builds it
 set -e

@@ -1,7 +1,7 @@
 #!/bin/sh
-# Replays schedules of up to a million single steps over :mesh, three times each, and prints for
-# each its least processor time and greatest memory, and for the steps that it has more than the
-# one before what a step took, with the ratio to the first.
+# Replays schedules of up to a million single steps over :mesh, three times each. It prints for each
+# its least processor time and greatest memory. For the steps that it has more than the one before
+# it prints what a step took, with the ratio to the first.
 # sh bench/mesh_steps.sh          the table; the program must be built (./replay builds it)
 # sh bench/mesh_steps.sh STEPS    the schedule of so many steps, on standard output
 set -e

@@ -1,7 +1,7 @@
 #!/bin/sh
 # Prints the processor time of a large message and its reply between two nodes that run as
-# processes, in both together: of a ring of objects that is copied, of a list of objects that are
-# named and given back, and of a list of numbers.
+# processes, in both together. The message is a ring of objects that is copied, a list of objects
+# that are named and given back, or a list of numbers.
 # sh bench/messages.sh [PROGRAM [ITEMS]]
 # ITEMS items are sent in all for each figure, 200,000 where no number is given. The ports 7303 and
 # 7304 of this machine must be free. What a run without a message takes is taken off; each figure is

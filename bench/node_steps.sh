@@ -1,6 +1,6 @@
 #!/bin/sh
 # Replays a million single steps over worlds of 2, 8, 32 and 64 nodes, in which each node in turn
-# calls the next one, and prints for each the least processor time of three runs, what a step took,
+# calls the next one. It prints for each the least processor time of three runs, what a step took,
 # and its ratio to that of two nodes.
 # sh bench/node_steps.sh [PROGRAM]     the program must be built (./replay builds it)
 set -e

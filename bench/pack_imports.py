@@ -4,7 +4,7 @@
 
 It is run at the top of the repository, and works on all crates where none is named. The lines
 `use Rattle.low.specs.A.{x}` and `use Rattle.low.specs.b.B.{y, z}`, one below the other, become
-`use Rattle.low.specs.{A.x, b.B.{y, z}}`; so do the lines of `ghost use` in .rt files. Names keep
+`use Rattle.low.specs.{A.x, b.B.{y, z}}`. So do the lines of `ghost use` in .rt files. Names keep
 their order, a line has at most 100 characters, and a line that brings a whole module stays as it
 is, in front. It takes the fewest lines, and a second run changes nothing.
 

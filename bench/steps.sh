@@ -1,8 +1,8 @@
 #!/bin/sh
 # Prints what a single step costs, in processor time, of a node that stores 10 to 40,000 objects,
-# each linked to the one before: how many seconds it took to fill the node, a step that only jumps,
-# and a step of a loop of three, of which one makes an object and one frees it.
-# Each figure is the best of three runs.
+# each linked to the one before. First are the seconds that it took to fill the node. Then come a
+# step that only jumps, and a step of a loop of three, of which one makes an object and one frees
+# it. Each figure is the best of three runs.
 # sh bench/steps.sh          the table; the program must be built (./replay builds it)
 set -e
 cd "$(dirname "$0")/.."

@@ -2,9 +2,11 @@
 # Turns definitions and statements, and shows which laws fall with each. A must-fail edit reaches
 # its own crate alone; a change here may be made to a crate below the laws that must refuse it.
 # sh bench/turned_definitions.sh [NAME..]
-# Each change bench/turned/NAME.edit is made to a copy of this repository, and the crate of laws
-# that its first line names is proved there. A line is printed for each: `NAME refused: LAW ..`, the
-# laws that are proved no longer; `NAME let through`, where all are; or `NAME not tried: ..`.
+#
+# Each change bench/turned/NAME.edit is made to a copy of this repository. The crate of laws that
+# its first line names is proved there. A line is printed for each. It is `NAME refused: LAW ..`,
+# with the laws that are proved no longer, `NAME let through`, where all are, or
+# `NAME not tried: ..`.
 #
 # A change has the form of a must-fail edit, but that its files are named from crates/ on. Libraries
 # that `rt check` kept serve again, and what stands on a changed crate is proved anew: some minutes.
@@ -61,8 +63,8 @@ turn() {
         }' "$1"
 }
 
-# Forgets the libraries of the crates that are changed, which keep what they proved beside a change
-# as for a must-fail edit, and all that was kept of the crates above them.
+# Forgets the libraries of the crates that are changed, and all that was kept of the crates above
+# them. A crate that is changed keeps what it proved beside a change, as for a must-fail edit.
 forget() {
     changed "$1" | while read -r crate; do
         rm -rf "$copy/crates/$crate/out/rlib"

@@ -1,12 +1,12 @@
 #!/bin/sh
-# Tests the Python package: frames that were worked out elsewhere, nodes that are Python programs
-# beside one another, and beside nodes of the program if it was built.
+# Tests the Python package. There are frames that were worked out elsewhere, and nodes that are
+# Python programs beside one another, and beside nodes of the program if it was built.
 #
 #   clients/python/test.sh [PROGRAM]
 #
 # PROGRAM is the proved program; if none is given it is looked for where `./replay` builds it, and
 # where the toolchain keeps what it proved. What is missing is said, and is no failure. Tests that
-# fail are run once more alone, since a machine under load can make any of them late; they have
+# fail are run once more alone, since a machine under load can make any of them late. They have
 # failed where they fail again.
 program=
 if [ $# -gt 0 ]; then program=$(realpath "$1"); fi
