@@ -60,8 +60,8 @@ class Lends:
         return True
 
     def forget(self, peer: int) -> Iterator[Wanted]:
-        """The connection to a peer is closed: its lends are over, and so is each ask of it, which
-        is given so that its lender is told."""
+        """The connection to a peer is closed: its lends are over, and so is each ask of it. The
+        asks are given, so that their lenders are told."""
         for token in [token for token, (_, borrower) in self.lent.items() if borrower == peer]:
             self.settle(peer, token)
         for wanted in sorted(wanted for wanted in self.asked if wanted.oid.port == peer):

@@ -1,7 +1,7 @@
 """A node: one process of a world, whose objects are Python objects.
 
 It has one thread. Messages of peers are taken while it waits for an answer, and in `poll` and
-`run`; so a peer's call may come in while a call of one's own waits.
+`run`. So a peer's call may come in while a call of one's own waits.
 """
 import logging
 import os
@@ -46,11 +46,11 @@ class Node(Site):
         """Listens at a port of a world, with a root for those who ask for it.
 
         `classes` are those of the objects that peers may copy to this node, which are made without
-        a call of `__init__`; for a class of the world that is not among them one without methods
+        a call of `__init__`. For a class of the world that is not among them one without methods
         is made. A peer that does not listen yet is tried for `patience` seconds, and is closed
         then. What the node takes is written to the file `record`.
-        Raises OSError where the port is taken or the file cannot be written, and ValueError where
-        the world has no such node or its file no world.
+        Raises OSError where the port is taken or the file cannot be written. Raises ValueError
+        where the world has no such node or its file no world.
         """
         super().__init__(port, world if isinstance(world, World) else World.read(world), root,
                          classes)
@@ -71,9 +71,9 @@ class Node(Site):
 
             counter = node.root(7002, timeout=5)
 
-        Raises ConnectionDied where the connection is closed or no node of the world has the port,
-        Type where the peer answers with another number of values than one, and TimedOut after so
-        many seconds.
+        Raises ConnectionDied where the connection is closed or no node of the world has the port.
+        Raises Type where the peer answers with another number of values than one, and TimedOut
+        after so many seconds.
         """
         if port == self.port:
             return self.own_root
@@ -94,8 +94,8 @@ class Node(Site):
 
     def send(self, proxy: Proxy, selector: str, values: Sequence[Any],
              timeout: float | None = None) -> Any:
-        """Sends a message to a foreign object, and waits for the answer: the result, or a tuple of
-        the result and each value that comes out. A oneway message gives None at once.
+        """Sends a message to a foreign object, and waits for the answer. That is the result, or a
+        tuple of the result and each value that comes out. A oneway message gives None at once.
 
             node.send(counter, "add:", [5])  # or counter.add_(5)
 

@@ -2,7 +2,7 @@
 
 It has the form of the section "Records" of docs/FORMATS.md. What a program does between its inputs
 has no form there, so its own calls and returns are missing. `nukwashe weave` takes the record of a
-node that nobody sent a message to and that sent none, and else says at which block it cannot go on.
+node that nobody sent a message to and that sent none. Else it says at which block it cannot go on.
 """
 import os
 from typing import IO

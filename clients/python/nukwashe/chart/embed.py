@@ -2,9 +2,9 @@
 
     python3 -m nukwashe.chart.embed [--check] FILE..
 
-Behind a line `<!-- chart WORDS -->`, with the words of nukwashe-chart, it writes the chart, and
-behind one with `--legend` among its words the legend. Names of files are those from the folder in
-which it is run. `--check` changes nothing, and ends with 1 where a file would change.
+Behind a line `<!-- chart WORDS -->`, with the words of nukwashe-chart, it writes the chart. Behind
+one with `--legend` among its words it writes the legend. Names of files are those from the folder
+in which it is run. `--check` changes nothing, and ends with 1 where a file would change.
 """
 import argparse
 import pathlib

@@ -107,7 +107,7 @@ class _Transcript:
 
 def events_of(text: str, world: World | None = None, brief: bool = False,
               lines: range | None = None) -> list[Event]:
-    """The events of a transcript. With its world arrows say the values of its `wire` lines too;
+    """The events of a transcript. With its world arrows say the values of its `wire` lines too.
     `brief` leaves out who holds what, and `lines` all but these lines of the schedule."""
     transcript = _Transcript(world)
     for row in text.splitlines():

@@ -1,8 +1,8 @@
 """The short programs that attach to a session: copy, paste, post and look.
 
 Each ends with 0 where it did what it was asked. It ends with 1 where nothing is there to paste or
-to look up, with 2 where its words are wrong, and with 3 where there is no session or the session
-could not do it; then it writes a sentence to standard error.
+to look up, and with 2 where its words are wrong. It ends with 3 where there is no session or the
+session could not do it. Then it writes a sentence to standard error.
 """
 import argparse
 import socket
